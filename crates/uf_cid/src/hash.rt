@@ -1,0 +1,78 @@
+// The hash that names a block.
+ghost use Rattle.std.specs.Prelude.{◌≡◌, ◌*◌, ◌%◌, ◌<◌, ℕ, List, [], length, slice_index_or, sum};
+ghost use Rattle.sha2.specs.Sha256.{sha256};
+ghost use Rattle.sha2.proofs.Facts256.{length-sha256};
+ghost use Rattle.uf_cid.specs.Bytes.{IsBytes, piece, sha256_is_bytes};
+
+use sha2::{Digest, Sha256};
+
+/// A function from a block to its digest of 32 bytes.
+pub trait BlockHash {
+    // The digest of a block.
+    ghost block32: { List ℕ → List ℕ };
+
+    /// The digest of a block.
+    fn block32(bytes: &[u8]) -> [u8; 32]
+        ensures { result ≡ block32 bytes.now };
+
+    /// Writes the digest of each piece of `size` bytes of a buffer to its place in `out`.
+    fn block32_group(bytes: &[u8], size: usize, out: &mut [[u8; 32]])
+        requires { length bytes.now ≡ length out.old * size }
+        ensures length { length out.new ≡ length out.old }
+        ensures digests { (k : ℕ) → k < length out.old → slice_index_or out.new k [] ≡ block32 (piece bytes.now size k) }
+    {
+        for i in 0..out.len() {
+            out[i] = Self::block32(&bytes[i * size..i * size + size]);
+        }
+    }
+
+    // A digest has 32 bytes.
+    ghost size: { (block : List ℕ) → length (block32 block) ≡ 32 };
+
+    ghost are_bytes: { (block : List ℕ) → IsBytes (block32 block) };
+}
+
+/// SHA-256 (FIPS 180-4), as the crate `sha2` promises it.
+pub struct Sha256Hash;
+
+impl BlockHash for Sha256Hash {
+    ghost block32 = { sha256 };
+
+    ghost size = { length-sha256 };
+
+    ghost are_bytes = { sha256_is_bytes };
+
+    fn block32(bytes: &[u8]) -> [u8; 32] {
+        Sha256::digest(bytes)
+    }
+}
+
+/// The sum of the bytes modulo 256 behind 31 zero bytes. Blocks that clash are easily made with it: it is for tests.
+pub struct Sum8Hash;
+
+impl BlockHash for Sum8Hash {
+    ghost use Rattle.uf_cid.specs.Sums.{sum_digest, length-sum_digest, sum_digest_is_bytes};
+
+    ghost block32 = { sum_digest };
+
+    ghost size = { length-sum_digest };
+
+    ghost are_bytes = { sum_digest_is_bytes };
+
+    fn block32(bytes: &[u8]) -> [u8; 32] {
+        let mut digest = [0u8; 32];
+        digest[31] = sum_of(bytes);
+        digest
+    }
+}
+
+// The sum of the bytes, modulo 256.
+fn sum_of(bytes: &[u8]) -> u8
+    ensures { result ≡ sum bytes.now % 256 }
+{
+    let mut total = 0u8;
+    for byte in bytes {
+        total = total.wrapping_add(*byte);
+    }
+    total
+}

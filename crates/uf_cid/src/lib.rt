@@ -1,0 +1,12 @@
+//! CIDs of blocks, their spelling as text, and the small types that the other crates hand on.
+#![tactic(auto)]
+
+mod bytes;
+mod cid;
+mod hash;
+mod seq;
+
+pub use bytes::{Block, Memory, StrictFault, Text};
+pub use cid::{Cid, Codec};
+pub use hash::{BlockHash, Sha256Hash, Sum8Hash};
+pub use seq::{Cids, Copied, Seq, Sizes, Texts};
