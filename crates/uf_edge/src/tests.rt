@@ -1,0 +1,65 @@
+// Sources and sinks in memory, and the calls that drive them.
+use crate::{Calls, Intake, MemSink, MemSource, Sent, read_all, write_all};
+use std::alloc::Global;
+use uf_cid::{Block, Memory};
+
+const TEXT: &[u8] = b"0123456789";
+
+fn block(alloc: Global, bytes: &[u8]) -> Result<Block, Memory> {
+    let mut block = Block::new(alloc);
+    block.extend(bytes)?;
+    Ok(block)
+}
+
+fn calls(alloc: Global, numbers: &[u64]) -> Result<Calls, Memory> {
+    let mut calls = Calls::new(alloc);
+    for number in numbers {
+        calls.push(*number)?;
+    }
+    Ok(calls)
+}
+
+// Reads ten bytes, at most three in a call, and compares what came.
+fn reads(
+    alloc: Global,
+    limit: u64,
+    fail: &[u64],
+    wanted: Result<&[u8], Intake>,
+) -> Result<bool, Memory> {
+    let mut input = MemSource::new(block(alloc, TEXT)?, 3, calls(alloc, fail)?);
+    Ok(match (read_all(alloc, &mut input, limit), wanted) {
+        (Ok(got), Ok(bytes)) => got.as_slice() == bytes,
+        (Err(got), Err(fault)) => got == fault,
+        _ => false,
+    })
+}
+
+#[test]
+fn all_is_read_or_the_input_is_too_long_or_fails(rt: HostRuntime) -> Result<(), Memory> {
+    let alloc = rt.alloc();
+    assert!(rt; reads(alloc, 10, &[], Ok(TEXT))?);
+    assert!(rt; reads(alloc, 9, &[], Err(Intake::TooLong))?);
+    assert!(rt; reads(alloc, 10, &[0], Err(Intake::Failed))?);
+    assert!(rt; reads(alloc, 10, &[4], Err(Intake::Failed))?);
+    assert!(rt; reads(alloc, 10, &[5], Ok(TEXT))?);
+    Ok(())
+}
+
+// Writes ten bytes twice into a sink with so much room, and compares what it holds.
+fn writes(alloc: Global, room: usize, fail: &[u64], wanted: (Sent, &[u8])) -> Result<bool, Memory> {
+    let mut output = MemSink::new(alloc, room, calls(alloc, fail)?)?;
+    let _ = write_all(&mut output, TEXT);
+    let sent = write_all(&mut output, TEXT);
+    Ok(sent == wanted.0 && output.bytes() == wanted.1)
+}
+
+#[test]
+fn a_sink_takes_what_it_has_room_for(rt: HostRuntime) -> Result<(), Memory> {
+    let alloc = rt.alloc();
+    assert!(rt; writes(alloc, 20, &[], (Sent::Done, b"01234567890123456789"))?);
+    assert!(rt; writes(alloc, 13, &[], (Sent::Failed, b"0123456789012"))?);
+    assert!(rt; writes(alloc, 0, &[], (Sent::Failed, b""))?);
+    assert!(rt; writes(alloc, 20, &[1], (Sent::Failed, TEXT))?);
+    assert!(rt; writes(alloc, 20, &[0], (Sent::Done, TEXT))?);
+    Ok(())
+}
