@@ -1,0 +1,80 @@
+// Calls that the layers above make over any store.
+ghost use Rattle.std.specs.Prelude.{◌≡◌, ◌≤◌, ◌+◌, [], ◌∷◌, length, OnOk, OnErr, IfOk, IfErr};
+ghost use Rattle.uf_store.specs.Seen.{Finds, Keeps};
+ghost use Rattle.uf_store.specs.Faults.{Answers, NoneIsBad};
+ghost use Rattle.uf_store.specs.Keeping.{Holds, KeepsGood, SavesOnly};
+ghost use Rattle.uf_store.specs.Clashes.{IsClashOr, IsLoadFault, IsSaveFault};
+
+use crate::{Load, Save, Steps, Store, StoreFault};
+use std::alloc::Global;
+use std::sync::ledger::Ledger;
+use uf_cid::{Block, Cid, Memory};
+
+/// Loads a block that has to be there. The store then lends it. One touch.
+pub fn need<S: Store, L: Ledger>(
+    store: &mut S,
+    cid: &Cid,
+    touches: &mut Steps<L>,
+) -> Result<(), StoreFault>
+    ensures found { OnOk result (Finds S.X.block32 cid.now (S.seen store.old) (S.seen store.new)) }
+    ensures cause { Answers S.X.block32 NoneIsBad result (S.seen store.old) (S.seen store.new) }
+    ensures fault { IfErr result (IsLoadFault cid.now) }
+    ensures told { (S.seen store.new).told ≡ (S.seen store.old).told }
+    ensures touches { touches.new ≡ touches.old + 1 }
+{
+    match store.load(cid, touches) {
+        Load::Found => Ok(()),
+        Load::Missing => Err(StoreFault::Missing(*cid)),
+        Load::Damaged => Err(StoreFault::Damaged(*cid)),
+        Load::Failed => Err(StoreFault::Failed),
+        Load::Memory => Err(StoreFault::Memory),
+    }
+}
+
+/// Saves a block under its own CID, and hands out both blocks where another one of its digest is there. One touch.
+pub fn save_under<S: Store, L: Ledger>(
+    alloc: Global,
+    store: &mut S,
+    cid: &Cid,
+    bytes: &[u8],
+    touches: &mut Steps<L>,
+) -> Result<(), StoreFault>
+    requires digest { S.X.block32 bytes.now ≡ cid.now.digest }
+    requires size { length bytes.now ≤ 2097152 }
+    ensures kept { OnOk result (Keeps S.X.block32 cid.now bytes.now (S.seen store.old) (S.seen store.new)) }
+    ensures held { OnOk result (Holds (S.seen store.new).told ((cid.now, bytes.now) ∷ [])) }
+    ensures cause { Answers S.X.block32 NoneIsBad result (S.seen store.old) (S.seen store.new) }
+    ensures fault { IfErr result (IsSaveFault cid.now bytes.now) }
+
+    // What was good stays, and nothing but this save was written.
+    ensures err { OnErr result ((S.seen store.new).told ≡ (S.seen store.old).told) }
+    ensures good { KeepsGood S.X.block32 (S.seen store.old).told (S.seen store.new).told }
+    ensures saves { SavesOnly (S.seen store.old).told (S.seen store.new).told }
+    ensures touches { touches.new ≡ touches.old + 1 }
+{
+    match store.save(cid, bytes, touches) {
+        Save::Done => Ok(()),
+        Save::Clash => Err(clash(alloc, cid, store.block(), bytes)),
+        Save::Failed => Err(StoreFault::Failed),
+        Save::Memory => Err(StoreFault::Memory),
+    }
+}
+
+// The fault that shows two blocks of one digest, or that there is no memory to show them.
+fn clash(alloc: Global, cid: &Cid, held: &[u8], bytes: &[u8]) -> StoreFault
+    ensures { IsClashOr cid.now held.now bytes.now result }
+{
+    match (block_of(alloc, held), block_of(alloc, bytes)) {
+        (Ok(first), Ok(second)) => StoreFault::Clash(*cid, first, second),
+        _ => StoreFault::Memory,
+    }
+}
+
+// A block of these bytes.
+pub(crate) fn block_of(alloc: Global, bytes: &[u8]) -> Result<Block, Memory>
+    ensures { IfOk result (λ block. block ≡ bytes.now) }
+{
+    let mut block = Block::new(alloc);
+    block.extend(bytes)?;
+    Ok(block)
+}

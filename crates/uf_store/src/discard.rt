@@ -1,0 +1,73 @@
+// A store that keeps nothing.
+ghost use Rattle.std.specs.Prelude.{◌≡◌, ◌≤◌, ◌+◌, [], None, length};
+ghost use Rattle.uf_store.specs.Seen.{Saves};
+
+use crate::{Load, Note, NoteRead, Save, Steps, Store};
+use std::marker::PhantomData;
+use std::sync::ledger::Ledger;
+use uf_cid::{BlockHash, Cid};
+use uf_edge::Put;
+
+/// Takes every block and keeps none. It has no note, and it tells nothing.
+#[derive(Drop)]
+pub struct Discard<X: BlockHash> {
+    hash: PhantomData<X>,
+    misses: u64,
+}
+
+impl<X: BlockHash> Discard<X> {
+    ghost use Rattle.uf_store.specs.Discarded.{discard_seen, nothing_seen};
+
+    /// A store to which nothing has happened.
+    pub fn new() -> Self
+        ensures { discard_seen result ≡ nothing_seen }
+    {
+        Discard {
+            hash: PhantomData,
+            misses: 0,
+        }
+    }
+}
+
+impl<X: BlockHash> Store for Discard<X> {
+    ghost use Rattle.uf_store.specs.Discarded.{discard_seen};
+
+    type X = X;
+
+    ghost seen = { λ s. discard_seen s };
+
+    fn load<L: Ledger>(&mut self, _cid: &Cid, touches: &mut Steps<L>) -> Load {
+        touches.tick();
+        self.misses = self.misses.saturating_add(1);
+        Load::Missing
+    }
+
+    fn block(&self) -> &[u8] {
+        &[]
+    }
+
+    fn save<L: Ledger>(&mut self, cid: &Cid, bytes: &[u8], touches: &mut Steps<L>) -> Save
+        requires digest { X.block32 bytes.now ≡ cid.now.digest }
+        requires size { length bytes.now ≤ 2097152 }
+        ensures done { result ≡ Save.Done }
+        ensures seen { Saves X.block32 cid.now bytes.now result (discard_seen self.old) (discard_seen self.new) }
+        ensures touch { touches.new ≡ touches.old + 1 }
+    {
+        let _ = cid;
+        let _ = bytes;
+        touches.tick();
+        Save::Done
+    }
+
+    fn sync(&mut self) -> Put {
+        Put::Done
+    }
+
+    fn read_note(&mut self, _which: Note) -> NoteRead {
+        NoteRead::Absent
+    }
+
+    fn write_note(&mut self, _which: Note, _bytes: &[u8]) -> Put {
+        Put::Done
+    }
+}

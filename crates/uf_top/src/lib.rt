@@ -1,0 +1,11 @@
+//! The commands: from words and input to output, error line and status.
+#![tactic(auto)]
+
+mod command;
+mod status;
+
+pub use command::run;
+pub use status::Status;
+
+#[cfg(test)]
+mod tests;
