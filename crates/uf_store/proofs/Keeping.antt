@@ -14,7 +14,7 @@ use Rattle.uf_cid.specs.Cid.{cid_cmp}
 use Rattle.uf_store.specs.declared.store.Write.{Write}
 use Rattle.uf_store.specs.declared.store.Write.TheVariants.{Saved}
 use Rattle.uf_store.specs.Contents.{Contents, HeldMap, Told, changed, held_at, with_save}
-use Rattle.uf_store.specs.Keeping.{Holds, KeepsGood, IsSave, SavesOnly}
+use Rattle.uf_store.specs.Keeping.{AreGood, Holds, IsSave, KeepsGood, SavesOnly}
 use Rattle.uf_store.specs.Seen.{NoOther}
 use Rattle.uf_store.proofs.Holding.{cid_cmp_total, cid_cmp-IsAntisymmetric}
 
@@ -92,10 +92,6 @@ SavesOnly-trans (Some t) (Some u) (Some w) p q = record {
   are_saves = are_saves-append p.saves q.saves p.are_saves q.are_saves;
   same_notes = q.same_notes ∙ p.same_notes;
 }
-
--- each of these blocks has its CID's digest
-abbrev pub AreGood : (List ℕ → List ℕ) → List Held → Type 0
-AreGood hash l = AllByRecursion (λ (b : Held). hash b.1 ≡ b.0.digest) l
 
 holds-kept : (hash : List ℕ → List ℕ) (t u : Contents) (l : List Held) → AreGood hash l → KeepsGood hash (Some t) (Some u)
     → blocks.Holds (held_at t) l → blocks.Holds (held_at u) l

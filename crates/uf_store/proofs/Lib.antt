@@ -1,3 +1,4 @@
 pub mod Causes
 pub mod Holding
 pub mod Keeping
+pub mod Plain

@@ -16,6 +16,10 @@ abbrev pub Agrees : Told → List blocks.Held → Type 0
 Agrees None l = ⊥
 Agrees (Some t) l = blocks.Agrees (held_at t) l
 
+-- each of these blocks has its CID's digest
+abbrev pub AreGood : (List ℕ → List ℕ) → List blocks.Held → Type 0
+AreGood hash l = AllByRecursion (λ (b : blocks.Held). hash b.1 ≡ b.0.digest) l
+
 -- each block that was held and has its CID's digest is held
 abbrev pub KeepsGood : (List ℕ → List ℕ) → Told → Told → Type 0
 KeepsGood hash None None = ⊤

@@ -1,7 +1,9 @@
 pub mod Clashes
 pub mod Contents
 pub mod Discarded
+pub mod Failing
 pub mod Faults
+pub mod InMemory
 pub mod Keeping
 pub mod Seen
 pub mod Stops

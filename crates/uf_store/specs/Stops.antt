@@ -5,7 +5,12 @@ use Rattle.uf_cid.specs.declared.cid.Cid.{Cid}
 use Rattle.uf_store.specs.declared.store.Note.{Note}
 use Rattle.uf_store.specs.declared.store.Write.{Write}
 use Rattle.uf_store.specs.declared.store.Write.TheVariants.{Saved, Synced, Noted}
-use Rattle.uf_store.specs.Contents.{Contents, HeldMap, Notes, Told, no_notes, with_note, with_save, with_sync, with_text}
+use Rattle.uf_edge.specs.declared.host.Put.{Put}
+use Rattle.uf_store.specs.declared.store.Load.{Load}
+use Rattle.uf_store.specs.declared.store.NoteRead.{NoteRead}
+use Rattle.uf_store.specs.declared.store.Save.{Save}
+use Rattle.uf_store.specs.Contents.{Contents, HeldMap, Notes, Told, no_notes, with_note}
+use Rattle.uf_store.specs.Seen.{Loads, ReadsNote, Saves, Seen, Syncs, WritesNote}
 
 -- a map after one write
 abbrev pub held_after : HeldMap → Write → HeldMap
@@ -55,8 +60,10 @@ pub record IsOutcome (ws : List Write) (held : HeldMap) (notes : Notes) : Type 0
 abbrev pub TellsPlain : Told → Type 0
 TellsPlain told = IfSome told IsPlain
 
--- each change of a store keeps that
-pub record KeepsPlain : Type 0 where
-  pub save : (t : Contents) (cid : Cid) (bytes : List ℕ) → IsPlain t → IsPlain (with_save cid bytes t)
-  pub sync : (t : Contents) → IsPlain t → IsPlain (with_sync t)
-  pub note : (t : Contents) (which : Note) (text : List ℕ) → IsPlain t → IsPlain (with_text which text t)
+-- each call of a store that tells so keeps that, whatever it answers
+pub record KeepsPlain (hash : List ℕ → List ℕ) (before now : Seen) : Type 0 where
+  pub load : (cid : Cid) (answer : Load) → Loads hash cid answer before now → TellsPlain before.told → TellsPlain now.told
+  pub save : (cid : Cid) (bytes : List ℕ) (answer : Save) → Saves hash cid bytes answer before now → TellsPlain before.told → TellsPlain now.told
+  pub sync : (answer : Put) → Syncs answer before now → TellsPlain before.told → TellsPlain now.told
+  pub read_note : (which : Note) (answer : NoteRead) → ReadsNote which answer before now → TellsPlain before.told → TellsPlain now.told
+  pub write_note : (which : Note) (text : List ℕ) (answer : Put) → WritesNote which text answer before now → TellsPlain before.told → TellsPlain now.told

@@ -3,10 +3,20 @@
 
 mod callers;
 mod discard;
+mod failing;
+mod laws;
+mod memory;
 mod steps;
 mod store;
+#[cfg(test)]
+mod tests;
 
 pub use callers::{need, save_under};
 pub use discard::Discard;
+pub use failing::CallKind;
+pub use laws::{
+    causes_go_back, good_blocks_stay_held, what_is_left_goes_on, what_is_told_was_written,
+};
+pub use memory::MemStore;
 pub use steps::Steps;
 pub use store::{Load, MOST_BYTES, Note, NoteRead, Role, Save, Store, StoreFault, Write};

@@ -1,0 +1,299 @@
+// A store in memory. It tells, and it can be made to fail, to lose blocks and to hold wrong ones.
+ghost use Rattle.std.specs.Prelude.{◌≡◌, ◌≢◌, ◌≤◌, ◌<◌, ◌+◌, ◌↔◌, ◌⊎◌, ℕ, List, ◌∷◌, [], ◌++◌, length, Some, None, Contains, OnOk, OnErr, IfOk, IsTrue};
+ghost use Rattle.std.specs.FinMap.{from_entries, get, insert, len, remove};
+ghost use Rattle.std.specs.Option.{option_copied};
+ghost use Rattle.uf_cid.specs.Cid.{cid_cmp};
+ghost use Rattle.uf_store.specs.Contents.{changed, held_at};
+ghost use Rattle.uf_store.specs.Failing.{IsDue, failures_with, ticked, with_failure, no_failures};
+ghost use Rattle.uf_store.specs.Seen.{Loads, NoOther, ReadsNote, Saves, Seen, Syncs, WritesNote};
+
+use crate::callers::block_of;
+use crate::failing::Failures;
+use crate::{CallKind, Load, MOST_BYTES, Note, NoteRead, Save, Steps, Store, Write};
+use std::alloc::Global;
+use std::collections::BTreeMap;
+use std::marker::PhantomData;
+use std::sync::ledger::Ledger;
+use uf_cid::{Block, BlockHash, Cid, Memory};
+use uf_edge::Put;
+
+/// Keeps blocks and notes in memory, and the list of what was written.
+#[derive(Drop)]
+pub struct MemStore<X: BlockHash> {
+    alloc: Global,
+    hash: PhantomData<X>,
+    blocks: BTreeMap<Cid, Block>,
+    head: Option<Block>,
+    pins: Option<Block>,
+    writes: Vec<Write>,
+    lent: Block,
+    faults: u64,
+    misses: u64,
+    clashes: u64,
+    failures: Failures,
+}
+
+impl<X: BlockHash> MemStore<X> {
+    ghost use Rattle.uf_store.specs.InMemory.{contents_of, failures_of, memory_seen, new_seen, with_block, without_block};
+
+    /// A store that holds nothing.
+    pub fn new(alloc: Global) -> Self
+        ensures seen { memory_seen result ≡ new_seen }
+        ensures failures { failures_of result ≡ no_failures }
+    {
+        MemStore {
+            alloc,
+            hash: PhantomData,
+            blocks: BTreeMap::new(alloc),
+            head: None,
+            pins: None,
+            writes: Vec::new(alloc),
+            lent: Block::new(alloc),
+            faults: 0,
+            misses: 0,
+            clashes: 0,
+            failures: Failures::new(alloc),
+        }
+    }
+
+    /// Makes one call fail: the one of this kind with this number, counted from 1 from now on.
+    pub fn fail_at(&mut self, what: CallKind, number: u64) -> Result<(), Memory>
+        ensures ok { OnOk result (failures_of self.new ≡ with_failure what number (failures_of self.old)) }
+        ensures err { OnErr result (failures_of self.new ≡ failures_of self.old) }
+        ensures seen { memory_seen self.new ≡ memory_seen self.old }
+    {
+        self.failures.add(what, number)
+    }
+
+    /// Takes the block under a CID away. That is no write.
+    pub fn forget(&mut self, cid: &Cid)
+        ensures seen { memory_seen self.new ≡ record (memory_seen self.old) { told = Some (without_block cid.now (contents_of self.old)) } }
+        ensures failures { failures_of self.new ≡ failures_of self.old }
+    {
+        take_away(&mut self.blocks, cid);
+    }
+
+    /// Puts a block under a CID, unchecked. That is no write.
+    pub fn plant(&mut self, cid: &Cid, bytes: Block) -> Result<(), Memory>
+        ensures ok { OnOk result (memory_seen self.new ≡ record (memory_seen self.old) { told = Some (with_block cid.now bytes (contents_of self.old)) }) }
+        ensures err { OnErr result (memory_seen self.new ≡ memory_seen self.old) }
+        ensures failures { failures_of self.new ≡ failures_of self.old }
+    {
+        put_there(&mut self.blocks, *cid, bytes)
+    }
+
+    /// How many blocks are held.
+    pub fn count(&self) -> usize
+        ensures { result ≡ len (contents_of self.now).held }
+    {
+        count_of(&self.blocks)
+    }
+
+    /// How many writes were made.
+    pub fn writes(&self) -> usize
+        ensures { result ≡ length (contents_of self.now).writes }
+    {
+        self.writes.len()
+    }
+}
+
+// The block that is kept under a CID.
+fn kept<'a>(blocks: &'a BTreeMap<Cid, Block>, cid: &Cid) -> Option<&'a Block>
+    ensures { option_copied result ≡ get (from_entries {R = cid_cmp} blocks.now.entries) cid.now }
+{
+    blocks.get(cid)
+}
+
+// Puts a block under a CID.
+fn put_there(blocks: &mut BTreeMap<Cid, Block>, cid: Cid, block: Block) -> Result<(), Memory>
+    ensures held { OnOk result (from_entries {R = cid_cmp} blocks.new.entries ≡ insert (from_entries blocks.old.entries) cid block) }
+    ensures same { OnErr result (blocks.new.entries ≡ blocks.old.entries) }
+{
+    blocks.insert(cid, block)?;
+    Ok(())
+}
+
+// Takes the block under a CID away.
+fn take_away(blocks: &mut BTreeMap<Cid, Block>, cid: &Cid)
+    ensures { from_entries {R = cid_cmp} blocks.new.entries ≡ remove (from_entries blocks.old.entries) cid.now }
+{
+    let _ = blocks.remove(cid);
+}
+
+// How many blocks there are.
+fn count_of(blocks: &BTreeMap<Cid, Block>) -> usize
+    ensures { result ≡ len (from_entries {R = cid_cmp} blocks.now.entries) }
+{
+    blocks.len()
+}
+
+// Keeps a block, and notes that it was saved.
+fn keep(
+    blocks: &mut BTreeMap<Cid, Block>,
+    writes: &mut Vec<Write>,
+    cid: Cid,
+    block: Block,
+    copy: Block,
+) -> Result<(), Memory>
+    requires { copy ≡ block }
+    ensures held { OnOk result (from_entries {R = cid_cmp} blocks.new.entries ≡ insert (from_entries blocks.old.entries) cid block) }
+    ensures written { OnOk result (writes.new.items ≡ writes.old.items ++ Write.Saved cid block ∷ []) }
+    ensures same_held { OnErr result (blocks.new.entries ≡ blocks.old.entries) }
+    ensures same_written { OnErr result (writes.new.items ≡ writes.old.items) }
+{
+    writes.push(Write::Saved(cid, copy))?;
+    match put_there(blocks, cid, block) {
+        Ok(()) => Ok(()),
+        Err(_) => {
+            let _ = writes.pop();
+            Err(Memory)
+        }
+    }
+}
+
+impl<X: BlockHash> Store for MemStore<X> {
+    ghost use Rattle.uf_store.specs.InMemory.{HoldsDamaged, contents_of, failures_of, memory_seen};
+
+    type X = X;
+
+    ghost seen = { λ s. memory_seen s };
+
+    fn load<L: Ledger>(&mut self, cid: &Cid, touches: &mut Steps<L>) -> Load
+        ensures seen { Loads X.block32 cid.now result (memory_seen self.old) (memory_seen self.new) }
+        ensures touch { touches.new ≡ touches.old + 1 }
+
+        // It fails exactly where it is to fail; else a block that isn't held is missing, and a damaged one is damaged.
+        ensures fails { (result ≡ Load.Failed) ↔ IsDue (failures_of self.old).load }
+        ensures missing { ¬ IsDue (failures_of self.old).load → held_at (contents_of self.old) cid.now ≡ None → result ≡ Load.Missing }
+        ensures damaged { ¬ IsDue (failures_of self.old).load → HoldsDamaged X.block32 cid.now (contents_of self.old) → result ≡ Load.Damaged }
+        ensures only_damaged { result ≡ Load.Damaged → HoldsDamaged X.block32 cid.now (contents_of self.old) }
+        ensures counted { failures_of self.new ≡ failures_with CallKind.Load ticked (failures_of self.old) }
+    {
+        touches.tick();
+        if self.failures.load.tick() {
+            self.faults = self.faults.saturating_add(1);
+            return Load::Failed;
+        }
+        let Some(block) = kept(&self.blocks, cid) else {
+            self.misses = self.misses.saturating_add(1);
+            return Load::Missing;
+        };
+        if block.as_slice().len() > MOST_BYTES || X::block32(block.as_slice()) != cid.digest {
+            self.faults = self.faults.saturating_add(1);
+            return Load::Damaged;
+        }
+        match block.copy() {
+            Ok(copy) => {
+                self.lent = copy;
+                Load::Found
+            }
+            Err(_) => Load::Memory,
+        }
+    }
+
+    fn block(&self) -> &[u8] {
+        self.lent.as_slice()
+    }
+
+    fn save<L: Ledger>(&mut self, cid: &Cid, bytes: &[u8], touches: &mut Steps<L>) -> Save
+        requires digest { X.block32 bytes.now ≡ cid.now.digest }
+        requires size { length bytes.now ≤ 2097152 }
+        ensures seen { Saves X.block32 cid.now bytes.now result (memory_seen self.old) (memory_seen self.new) }
+        ensures touch { touches.new ≡ touches.old + 1 }
+
+        // It fails exactly where it is to fail.
+        ensures fails { (result ≡ Save.Failed) ↔ IsDue (failures_of self.old).save }
+        ensures clash { result ≡ Save.Clash → ¬ NoOther X.block32 cid.now bytes.now (contents_of self.old) }
+        ensures counted { failures_of self.new ≡ failures_with CallKind.Save ticked (failures_of self.old) }
+    {
+        touches.tick();
+        if self.failures.save.tick() {
+            self.faults = self.faults.saturating_add(1);
+            return Save::Failed;
+        }
+        if let Some(held) = kept(&self.blocks, cid) {
+            if held.as_slice() != bytes && X::block32(held.as_slice()) == cid.digest {
+                return match held.copy() {
+                    Ok(copy) => {
+                        self.lent = copy;
+                        self.clashes = self.clashes.saturating_add(1);
+                        Save::Clash
+                    }
+                    Err(_) => Save::Memory,
+                };
+            }
+        }
+        let Ok(block) = block_of(self.alloc, bytes) else {
+            return Save::Memory;
+        };
+        let Ok(copy) = block_of(self.alloc, bytes) else {
+            return Save::Memory;
+        };
+        match keep(&mut self.blocks, &mut self.writes, *cid, block, copy) {
+            Ok(()) => Save::Done,
+            Err(_) => Save::Memory,
+        }
+    }
+
+    fn sync(&mut self) -> Put
+        ensures seen { Syncs result (memory_seen self.old) (memory_seen self.new) }
+        ensures fails { (result ≡ Put.Failed) ↔ IsDue (failures_of self.old).sync }
+        ensures counted { failures_of self.new ≡ failures_with CallKind.Sync ticked (failures_of self.old) }
+    {
+        if self.failures.sync.tick() {
+            self.faults = self.faults.saturating_add(1);
+            return Put::Failed;
+        }
+        match self.writes.push(Write::Synced) {
+            Ok(()) => Put::Done,
+            Err(_) => Put::Memory,
+        }
+    }
+
+    fn read_note(&mut self, which: Note) -> NoteRead
+        ensures seen { ReadsNote which result (memory_seen self.old) (memory_seen self.new) }
+        ensures fails { (result ≡ NoteRead.Failed) ↔ IsDue (failures_of self.old).read_note }
+        ensures counted { failures_of self.new ≡ failures_with CallKind.ReadNote ticked (failures_of self.old) }
+    {
+        if self.failures.read_note.tick() {
+            self.faults = self.faults.saturating_add(1);
+            return NoteRead::Failed;
+        }
+        let note = match which {
+            Note::Head => &self.head,
+            Note::Pins => &self.pins,
+        };
+        match note {
+            Some(text) => match text.copy() {
+                Ok(copy) => NoteRead::Text(copy),
+                Err(_) => NoteRead::Memory,
+            },
+            None => NoteRead::Absent,
+        }
+    }
+
+    fn write_note(&mut self, which: Note, bytes: &[u8]) -> Put
+        ensures seen { WritesNote which bytes.now result (memory_seen self.old) (memory_seen self.new) }
+        ensures fails { (result ≡ Put.Failed) ↔ IsDue (failures_of self.old).write_note }
+        ensures counted { failures_of self.new ≡ failures_with CallKind.WriteNote ticked (failures_of self.old) }
+    {
+        if self.failures.write_note.tick() {
+            self.faults = self.faults.saturating_add(1);
+            return Put::Failed;
+        }
+        let Ok(text) = block_of(self.alloc, bytes) else {
+            return Put::Memory;
+        };
+        let Ok(copy) = block_of(self.alloc, bytes) else {
+            return Put::Memory;
+        };
+        if self.writes.push(Write::Noted(which, copy)).is_err() {
+            return Put::Memory;
+        }
+        match which {
+            Note::Head => self.head = Some(text),
+            Note::Pins => self.pins = Some(text),
+        }
+        Put::Done
+    }
+}
