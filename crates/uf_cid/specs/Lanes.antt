@@ -1,4 +1,5 @@
--- Eight messages side by side: each word of the hash value is a vector, with one lane for each message.
+-- Eight messages side by side (SHA-256, FIPS 180-4 section 6.2): each word of the hash value is a vector, with one lane for
+-- each message.
 use Rattle.std.specs.Prelude.{◌≡◌, ℕ, ◌/◌, ◌%◌, ◌-◌, List, [], ◌∷◌, ◌+◌, ◌*◌, map, take, drop, slice_index, slice_index_or}
 use Rattle.sha2.specs.Sha256.{padded_message}
 
@@ -20,6 +21,6 @@ words j x = map (λ v. slice_index v j) x
 abbrev pub part_of : List ℕ → ℕ → ℕ → ℕ → ℕ → List ℕ
 part_of d size j at n = take n (drop (j * size + at) d)
 
--- t begins with what follows the whole blocks of m, of length n, in its padded message
+-- t begins with what follows the whole blocks of m, of length n, in its padded message (section 5.1.1)
 abbrev pub IsTail : List ℕ → ℕ → List ℕ → Type 0
 IsTail m n t = take (n % 64 + ((119 - n % 64) % 64 + 1) + 8) t ≡ drop (n / 64 * 64) (padded_message m)

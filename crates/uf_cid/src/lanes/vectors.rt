@@ -47,7 +47,7 @@ pub(crate) fn ch(x: u32x8, y: u32x8, z: u32x8) -> u32x8
     z ^ (x & (y ^ z))
 }
 
-// Majority. One round's `x ^ y` is the next round's `y ^ z`, so it is computed once.
+// Majority, by one operation fewer than the standard's form.
 #[inline(always)]
 pub(crate) fn maj(x: u32x8, y: u32x8, z: u32x8) -> u32x8
     ensures { (j : ℕ) → j < 8 → slice_index result j ≡ maj (slice_index x j) (slice_index y j) (slice_index z j) }
