@@ -4,6 +4,7 @@ ghost use Rattle.sha2.specs.Sha256.{sha256};
 ghost use Rattle.sha2.proofs.Facts256.{length-sha256};
 ghost use Rattle.uf_cid.specs.Bytes.{IsBytes, piece, sha256_is_bytes};
 
+use crate::lanes::sha256_pieces;
 use sha2::{Digest, Sha256};
 
 /// A function from a block to its digest of 32 bytes.
@@ -32,7 +33,7 @@ pub trait BlockHash {
     ghost are_bytes: { (block : List ℕ) → IsBytes (block32 block) };
 }
 
-/// SHA-256 (FIPS 180-4), as the crate `sha2` promises it.
+/// SHA-256 (FIPS 180-4), as the crate `sha2` promises it. Pieces of one size are hashed eight at a time, side by side.
 pub struct Sha256Hash;
 
 impl BlockHash for Sha256Hash {
@@ -44,6 +45,10 @@ impl BlockHash for Sha256Hash {
 
     fn block32(bytes: &[u8]) -> [u8; 32] {
         Sha256::digest(bytes)
+    }
+
+    fn block32_group(bytes: &[u8], size: usize, out: &mut [[u8; 32]]) {
+        sha256_pieces(bytes, size, out)
     }
 }
 

@@ -4,6 +4,7 @@
 mod bytes;
 mod cid;
 mod hash;
+mod lanes;
 mod seq;
 
 pub use bytes::{Block, Memory, StrictFault, Text};
