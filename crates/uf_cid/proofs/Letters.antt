@@ -33,9 +33,6 @@ first_of (Some vs) = judged_first (flat_map bits5 vs)
 pub first_letters : (a : ℕ) (letters : List ℕ) → read_on a [] [] letters ≡ option_map (take 37) (unbase32 a letters)
 first_letters a letters = first_of (values_of a letters)
 
-pub stops : (a : ℕ) (front bits letters : List ℕ) (c : ℕ) → value_of a c ≡ None → read_on a front bits (c ∷ letters) ≡ None
-stops a front bits letters c e = rw e refl
-
 with_value : (v : ℕ) (front bits : List ℕ) (o : Option (List ℕ)) → option_and_then (λ vs. judged front (bits ++ flat_map bits5 vs)) (option_map (λ vs. v ∷ vs) o) ≡ option_and_then (λ vs. judged front (bits ++ (bits5 v ++ flat_map bits5 vs))) o
 with_value v front bits None = refl
 with_value v front bits (Some vs) = refl
@@ -242,13 +239,6 @@ next_passed a all bytes at len bits held left v r h e t is full =
       so_far = sym (passes a (take len bytes) (drop (at + 1) all) (get_or all at 0) v left bits e whole few small t)
         ∙ ap (read_on a (take len bytes) (low_bits (left + 3) bits)) (sym (at_letter all at h)) ∙ so_far;
     }
-
--- a letter that is none of the alphabet
-pub next_stops : (a : ℕ) (all bytes : List ℕ) (at len bits held : ℕ) → Reading a all at bytes len bits held → at < length all → value_of a (get_or all at 0) ≡ None
-    → option_map (take 37) (unbase32 a all) ≡ None
-next_stops a all bytes at len bits held r h e =
-    sym (first_letters a all) ∙ sym r.so_far ∙ ap (read_on a (take len bytes) (low_bits held bits)) (at_letter all at h)
-    ∙ stops a (take len bytes) (low_bits held bits) (drop (at + 1) all) (get_or all at 0) e
 
 padding_is : (held bits : ℕ) → held < 8 → bits < 2 ^ held → is_padding (spare (low_bits held bits)) ≡ (nat_lt held 5 && (bits == 0))
 padding_is zero bits h s = grind (arith, nat_tests)

@@ -93,3 +93,7 @@ cid_of_text (p ∷ letters) =
     if p == 98 then cid_spelled (unbase32 97 letters)
     else if p == 66 then cid_spelled (unbase32 65 letters)
     else Err fault.Base
+
+-- a letter of the lower case alphabet in upper case
+abbrev pub raised : ℕ → ℕ
+raised c = if nat_le 97 c then c - 32 else c
