@@ -115,6 +115,11 @@ fn texts_of_no_cid(rt: HostRuntime) {
     }
 }
 
+// The bytes from one place to another.
+fn part(bytes: &[u8], from: usize, to: usize) -> &[u8] {
+    bytes.get(from..to).unwrap_or(&[])
+}
+
 // Bytes, read from left to right.
 #[test]
 fn bytes_of_cids(rt: HostRuntime) {
@@ -124,12 +129,12 @@ fn bytes_of_cids(rt: HostRuntime) {
     more[..36].copy_from_slice(&bytes);
     assert_eq!(rt; Cid::read_binary(&more), Ok((hello, 36)));
     assert_eq!(rt; Cid::read_binary(&bytes), Ok((hello, 36)));
-    assert_eq!(rt; Cid::read_binary(&bytes[..35]), Err(CidFault::Short));
+    assert_eq!(rt; Cid::read_binary(part(&bytes, 0, 35)), Err(CidFault::Short));
     let old = Cid {
         codec: Codec::DagPb,
         digest: hello.digest,
     };
-    assert_eq!(rt; Cid::read_binary(&bytes[2..]), Ok((old, 34)));
+    assert_eq!(rt; Cid::read_binary(part(&bytes, 2, 36)), Ok((old, 34)));
     for (front, fault) in [
         ([].as_slice(), CidFault::Short),
         (&[1], CidFault::Short),
