@@ -1,0 +1,16 @@
+// What holds of the spellings, whoever writes or reads them.
+ghost use Rattle.std.specs.Prelude.{◌≡◌, ◌<◌, ◌^◌, ◌++◌, List, ℕ, length, take};
+ghost use Rattle.uf_varint.specs.Varint.{varint, read_multi_of, read_proto_of};
+ghost use Rattle.uf_varint.specs.declared.varint.Var.TheVariants.{Value};
+
+/// What was written is read again, whatever follows it. Numbers below 2^63 are those whose spelling has at most nine bytes.
+pub fn what_was_written_is_read()
+    ensures proto { (n : ℕ) (rest : List ℕ) → n < 2 ^ 64 → read_proto_of (varint n ++ rest) ≡ Value n (length (varint n)) }
+    ensures multi { (n : ℕ) (rest : List ℕ) → n < 2 ^ 63 → read_multi_of (varint n ++ rest) ≡ Value n (length (varint n)) }
+{}
+
+/// No spelling begins another of a different number: what stands behind a spelling doesn't matter.
+pub fn spellings_end_themselves()
+    ensures proto { (bytes rest : List ℕ) (n used : ℕ) → read_proto_of bytes ≡ Value n used → read_proto_of (take used bytes ++ rest) ≡ Value n used }
+    ensures multi { (bytes rest : List ℕ) (n used : ℕ) → read_multi_of bytes ≡ Value n used → read_multi_of (take used bytes ++ rest) ≡ Value n used }
+{}
