@@ -16,6 +16,7 @@ pub enum CutFault {
 }
 
 /// The number at the front, and the bytes behind it.
+#[tactic(auto, unfolding(crate::specs::Fields::number_at))]
 pub fn read_number(bytes: &[u8]) -> Result<(u64, &[u8]), CutFault>
     ensures exact { MatchResult result (λ x. number_at bytes.now ≡ Ok (x.0, x.1.now)) (λ f. number_at bytes.now ≡ Err f) }
     ensures shorter { IfOk result (λ x. length x.1.now < length bytes.now) }
@@ -28,6 +29,7 @@ pub fn read_number(bytes: &[u8]) -> Result<(u64, &[u8]), CutFault>
 }
 
 /// So many bytes at the front, and the bytes behind them.
+#[tactic(auto, unfolding(crate::specs::Fields::piece_at))]
 pub fn read_piece(count: usize, bytes: &[u8]) -> Result<(&[u8], &[u8]), CutFault>
     ensures exact { MatchResult result (λ x. piece_at count bytes.now ≡ Ok (x.0.now, x.1.now)) (λ f. piece_at count bytes.now ≡ Err f) }
     ensures shorter { IfOk result (λ x. length x.1.now ≤ length bytes.now) }
@@ -39,6 +41,7 @@ pub fn read_piece(count: usize, bytes: &[u8]) -> Result<(&[u8], &[u8]), CutFault
 }
 
 /// The bytes whose number stands in front of them, and the bytes behind them.
+#[tactic(auto, unfolding(crate::specs::Fields::bytes_at))]
 pub fn read_bytes(bytes: &[u8]) -> Result<(&[u8], &[u8]), CutFault>
     ensures exact { MatchResult result (λ x. bytes_at bytes.now ≡ Ok (x.0.now, x.1.now)) (λ f. bytes_at bytes.now ≡ Err f) }
     ensures shorter { IfOk result (λ x. length x.1.now < length bytes.now) }
@@ -51,6 +54,7 @@ pub fn read_bytes(bytes: &[u8]) -> Result<(&[u8], &[u8]), CutFault>
 }
 
 /// The bytes behind the content of a field of a wire type, whatever that content is.
+#[tactic(auto, unfolding(crate::specs::Fields::content_at))]
 pub fn skip_content(wire: u64, bytes: &[u8]) -> Result<&[u8], CutFault>
     ensures exact { MatchResult result (λ x. SkipsTo (content_at wire bytes.now) x.now) (λ f. content_at wire bytes.now ≡ Err f) }
     ensures shorter { IfOk result (λ x. length x.now ≤ length bytes.now) }

@@ -109,7 +109,7 @@ pub fn put(value: u64, out: &mut [u8]) -> usize
             out[i] = rest as u8;
             return i + 1;
         }
-        out[i] = (rest % 128) as u8 + 128;
+        out[i] = 128 + (rest % 128) as u8;
         rest /= 128;
     }
     out[9] = rest as u8;
