@@ -1,5 +1,6 @@
 // What holds of the spellings, whoever writes or reads them.
-ghost use Rattle.std.specs.Prelude.{◌≡◌, ◌<◌, ◌^◌, ◌++◌, List, ℕ, length, take};
+ghost use Rattle.std.specs.Prelude.{◌≡◌, ◌<◌, ◌^◌, ◌%◌, ◌++◌, ◌∷◌, [], List, ℕ, Ok, length, take};
+ghost use Rattle.uf_varint.specs.Fields.{Number, Bytes, Keyed, fields, key_then, number_at, number_field, content_field};
 ghost use Rattle.uf_varint.specs.Varint.{varint, read_multi_of, read_proto_of};
 ghost use Rattle.uf_varint.specs.declared.varint.Var.TheVariants.{Value};
 
@@ -13,4 +14,18 @@ pub fn what_was_written_is_read()
 pub fn spellings_end_themselves()
     ensures proto { (bytes rest : List ℕ) (n used : ℕ) → read_proto_of bytes ≡ Value n used → read_proto_of (take used bytes ++ rest) ≡ Value n used }
     ensures multi { (bytes rest : List ℕ) (n used : ℕ) → read_multi_of bytes ≡ Value n used → read_multi_of (take used bytes ++ rest) ≡ Value n used }
+{}
+
+/// Fields are cut from left to right: each but the last that can be cut is followed by those of the bytes behind it.
+pub fn fields_are_cut_in_order()
+    ensures none { fields [] ≡ [] }
+    ensures next { (b : ℕ) (bytes : List ℕ) → fields (b ∷ bytes) ≡ key_then fields (number_at (b ∷ bytes)) }
+{}
+
+/// A field that was written is cut again, whatever follows it.
+pub fn what_was_written_is_cut()
+    ensures number { (key n : ℕ) (rest : List ℕ) → key < 128 → key % 8 ≡ 0 → n < 2 ^ 64
+        → fields (number_field key n ++ rest) ≡ Keyed key (Ok (Number n)) ∷ fields rest }
+    ensures content { (key : ℕ) (bytes rest : List ℕ) → key < 128 → key % 8 ≡ 2 → length bytes < 2 ^ 64
+        → fields (content_field key bytes ++ rest) ≡ Keyed key (Ok (Bytes bytes)) ∷ fields rest }
 {}

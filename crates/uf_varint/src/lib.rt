@@ -8,6 +8,11 @@ mod spelled;
 mod varint;
 
 pub use fields::{CutFault, read_bytes, read_number, read_piece, skip_content};
-pub use laws::{spellings_end_themselves, what_was_written_is_read};
+pub use laws::{
+    fields_are_cut_in_order, spellings_end_themselves, what_was_written_is_cut, what_was_written_is_read,
+};
 pub use spelled::NumberField;
 pub use varint::{Var, read_multi, read_proto, width, write};
+
+#[cfg(test)]
+mod tests;
