@@ -1,14 +1,14 @@
 -- Fields cut from bytes, one after the other.
-use Rattle.std.proofs.Common.{◌≡◌, ℕ, zero, suc, ◌+◌, ◌-◌, ◌*◌, ◌/◌, ◌%◌, ◌^◌, ◌<◌, ◌≤◌, List, [], ◌∷◌, ◌++◌, length, take, drop, refl, ap, append_assoc, arith, sym, ◌∙◌, Bool, true, false, cond, nat_eq, Ok, Err, Result}
+use Rattle.std.proofs.Common.{◌≡◌, ℕ, zero, suc, ◌%◌, ◌^◌, ◌<◌, ◌≤◌, List, [], ◌∷◌, ◌++◌, length, take, drop, refl, ap, append_assoc, arith, sym, ◌∙◌, false, nat_eq, Ok, Err, Result}
 use Rattle.std.specs.Prelude.{IfOk, nat_lt, nat_le}
-use Rattle.std.proofs.lemmas.Bool.{ltb-false, le-ltb, cond_both}
+use Rattle.std.proofs.lemmas.Bool.{le-ltb, cond_both}
 use Rattle.std.proofs.lemmas.List.{length-append, length-drop, take_at, drop_at}
 use Rattle.uf_varint.specs.declared.varint.Var.{Var}
 use Rattle.uf_varint.specs.declared.varint.Var.TheVariants.{Value, Short, Bad}
 use Rattle.uf_varint.specs.declared.fields.CutFault.{CutFault}
-use Rattle.uf_varint.specs.declared.fields.CutFault.TheVariants.{Truncated, Varint, Wire}
+use Rattle.uf_varint.specs.declared.fields.CutFault.TheVariants.{Truncated}
 use Rattle.uf_varint.specs.Varint.{varint, varint_within, read_proto_of, proto_within, with_low, IsWithin}
-use Rattle.uf_varint.specs.Fields.{◌>>=◌, Content, Number, Bytes, Field, NoKey, Keyed, number_after, number_at, piece_at, bytes_at, as_number, as_bytes, content_at, field_then, key_then, fields_within, fields, number_field, content_field}
+use Rattle.uf_varint.specs.Fields.{◌>>=◌, Content, Number, Bytes, Field, Keyed, number_after, number_at, piece_at, bytes_at, as_number, as_bytes, content_at, field_then, key_then, fields_within, fields, number_field, content_field}
 use Rattle.uf_varint.proofs.Varints.{read_proto_of-varint, below}
 
 with_low_within : (b most : ℕ) (read : Var) → IsWithin read most → IsWithin (with_low b read) (suc most)
@@ -79,9 +79,9 @@ content_leaves wire bytes =
     let several : P (bytes_at bytes >>= as_bytes) = bind_leaves as_bytes (length bytes) (bytes_at bytes) (bytes_leave bytes) (λ b. same_length (length b.1)) in
     let four : P (piece_at 4 bytes >>= as_bytes) = bind_leaves as_bytes (length bytes) (piece_at 4 bytes) (piece_leaves 4 bytes) (λ b. same_length (length b.1)) in
     cond_both (nat_eq wire 0) _ _ P (λ e. number)
-        (λ e. cond_both (nat_eq wire 1) _ _ P (λ e. eight)
-        (λ e. cond_both (nat_eq wire 2) _ _ P (λ e. several)
-        (λ e. cond_both (nat_eq wire 5) _ _ P (λ e. four) (λ e. tt))))
+    (λ e. cond_both (nat_eq wire 1) _ _ P (λ e. eight)
+    (λ e. cond_both (nat_eq wire 2) _ _ P (λ e. several)
+    (λ e. cond_both (nat_eq wire 5) _ _ P (λ e. four) (λ e. tt))))
 
 -- two ways to go on that agree on shorter bytes
 field_same : (f g : List ℕ → List Field) (key most : ℕ) (r : Result (Content × List ℕ) CutFault) → LeavesUpTo most r → ((rest : List ℕ) → length rest ≤ most → f rest ≡ g rest) → field_then key f r ≡ field_then key g r
@@ -134,7 +134,7 @@ pub fields-number_field : (key n : ℕ) (rest : List ℕ) → key < 128 → key 
 unfolding content_at
 fields-number_field key n rest small wire h =
     first_field key (varint n ++ rest) rest (Number n) small
-        (ap (λ w. content_at w (varint n ++ rest)) wire ∙ ap (λ r. r >>= as_number) (number_at-varint n rest h))
+    (ap (λ w. content_at w (varint n ++ rest)) wire ∙ ap (λ r. r >>= as_number) (number_at-varint n rest h))
 
 piece_at_front : (bytes rest : List ℕ) → piece_at (length bytes) (bytes ++ rest) ≡ Ok (bytes, rest)
 unfolding piece_at
@@ -152,4 +152,4 @@ unfolding content_at
 fields-content_field key bytes rest small wire h =
     ap fields (append_assoc (key ∷ varint (length bytes)) bytes rest)
     ∙ first_field key (varint (length bytes) ++ (bytes ++ rest)) rest (Bytes bytes) small
-        (ap (λ w. content_at w (varint (length bytes) ++ (bytes ++ rest))) wire ∙ ap (λ (r : Result (List ℕ × List ℕ) CutFault). r >>= as_bytes) (bytes_at_front bytes rest h))
+    (ap (λ w. content_at w (varint (length bytes) ++ (bytes ++ rest))) wire ∙ ap (λ (r : Result (List ℕ × List ℕ) CutFault). r >>= as_bytes) (bytes_at_front bytes rest h))

@@ -1,14 +1,13 @@
 -- The loops that read and write varints, one byte on.
-use Rattle.std.proofs.Common.{◌≡◌, ℕ, zero, suc, ◌+◌, ◌-◌, ◌*◌, ◌/◌, ◌%◌, ◌^◌, ◌<◌, ◌≤◌, List, [], ◌∷◌, ◌++◌, length, get_or, set, take, drop, refl, ap, append_assoc, arith, sym, subst, nat_eq, ◌∙◌, Bool, true, false, cond, ◌⊎◌, inl, inr}
-use Rattle.std.specs.Prelude.{nat_lt, nat_le, ◌==◌, if◌then◌else◌}
-use Rattle.std.proofs.lemmas.Bool.{cases_lt, le-leb, lt-leb, ne_eqb}
-use Rattle.std.proofs.lemmas.Bool.Decides.{nat_tests}
+use Rattle.std.proofs.Common.{◌≡◌, ℕ, zero, suc, ◌+◌, ◌-◌, ◌*◌, ◌/◌, ◌%◌, ◌^◌, ◌<◌, ◌≤◌, List, [], ◌∷◌, ◌++◌, length, get_or, set, take, drop, refl, ap, append_assoc, arith, sym, subst, nat_eq, ◌∙◌, false, cond, ◌⊎◌, inl, inr}
+use Rattle.std.specs.Prelude.{nat_lt, nat_le}
+use Rattle.std.proofs.lemmas.Bool.{le-leb, lt-leb, ne_eqb}
 use Rattle.std.proofs.lemmas.Grind.{pow_more}
 use Rattle.std.proofs.lemmas.List.{at_drop_more, at_drop_all, drop-drop, set_split, take_more_set, drop-set-lt, length-append, length-take}
 use Rattle.std.proofs.Math.Nat.{pow-le-pow_right, mul-le-mul_left}
 use Rattle.uf_varint.specs.declared.varint.Var.{Var}
 use Rattle.uf_varint.specs.declared.varint.Var.TheVariants.{Value, Short, Bad}
-use Rattle.uf_varint.specs.Varint.{varint, varint_within, read_proto_of, proto_within, read_multi_of, multi_within, with_low}
+use Rattle.uf_varint.specs.Varint.{varint_within, proto_within, read_multi_of, multi_within, with_low}
 use Rattle.uf_varint.proofs.Varints.{below, not_below}
 
 -- what is read behind some bytes with the high bit, whose groups stand for a value
@@ -241,7 +240,7 @@ put_done old out spelled i rest le ge within so_far behind =
     let e : i ≡ 9 = omega arith in
     let last : take i out ++ (rest ∷ []) ≡ spelled = ap (λ (xs : List ℕ). take i out ++ xs) (sym (written_last i rest ge)) ∙ so_far in
     subst (λ (k : ℕ). (set out k rest ≡ spelled ++ drop (k + 1) old) × (k + 1 ≡ length spelled)) e
-        (put_ends old out spelled i rest within last behind, put_len out spelled i rest within last)
+    (put_ends old out spelled i rest within last behind, put_len out spelled i rest within last)
 
 pub last_of : (b i : ℕ) → ((b ≡ 0) × (i ≤ 0)) ⊎ (b ≡ 0 → ⊥) → b ≡ 0 → i ≡ 0
 last_of b i (inl h) e = omega arith

@@ -1,7 +1,7 @@
 -- What is written is read again, and no spelling begins another.
-use Rattle.std.proofs.Common.{◌≡◌, ℕ, zero, suc, ◌+◌, ◌-◌, ◌*◌, ◌/◌, ◌%◌, ◌^◌, ◌<◌, ◌≤◌, List, [], ◌∷◌, ◌++◌, length, take, drop, refl, ap, arith, sym, ◌∙◌, Bool, true, false, cond, ◌⊎◌, inl, inr}
-use Rattle.std.specs.Prelude.{nat_lt, nat_le, ◌==◌, if◌then◌else◌}
-use Rattle.std.proofs.lemmas.Bool.{cases_lt, cases_Bool, ltb-true, ltb-false, lt-ltb, le-ltb}
+use Rattle.std.proofs.Common.{◌≡◌, ℕ, zero, suc, ◌+◌, ◌-◌, ◌*◌, ◌/◌, ◌%◌, ◌^◌, ◌<◌, ◌≤◌, List, [], ◌∷◌, ◌++◌, length, take, refl, ap, arith, sym, ◌∙◌, Bool, true, false, cond, ◌⊎◌, inl, inr}
+use Rattle.std.specs.Prelude.{nat_lt, nat_le, ◌==◌}
+use Rattle.std.proofs.lemmas.Bool.{cases_lt, cases_Bool}
 use Rattle.std.proofs.lemmas.Bool.Decides.{nat_tests}
 use Rattle.uf_varint.specs.declared.varint.Var.{Var}
 use Rattle.uf_varint.specs.declared.varint.Var.TheVariants.{Value, Short, Bad}
@@ -26,13 +26,14 @@ proto-varint (suc room) n rest h = by (cases_lt n 128) (proto-varint room (n / 1
   where
     high : (n p : ℕ) → n < 2 * (p * 128) → n / 128 < 2 * p
     high n p h = omega arith
+
     by : (n < 128) ⊎ (128 ≤ n) → proto_within room (varint_within room (n / 128) ++ rest) ≡ Value (n / 128) (length (varint_within room (n / 128))) → proto_within (suc room) (varint_within (suc room) n ++ rest) ≡ Value n (length (varint_within (suc room) n))
     by (inl low) later = rw (below n 128 low) (ap (λ b. cond b (Value n 1) (with_low n (proto_within room rest))) (below n 128 low))
     by (inr high) later =
         rw (not_below n 128 high)
         (ap (λ b. cond b (Value (128 + n % 128) 1) (with_low (128 + n % 128) (proto_within room (varint_within room (n / 128) ++ rest)))) (not_below (128 + n % 128) 128 (omega arith))
-         ∙ ap (with_low (128 + n % 128)) later
-         ∙ whole n (length (varint_within room (n / 128))))
+        ∙ ap (with_low (128 + n % 128)) later
+        ∙ whole n (length (varint_within room (n / 128))))
 
 not_zero : (n : ℕ) → 0 < n → (n == 0) ≡ false
 not_zero n h = grind (arith, nat_tests)
@@ -46,6 +47,7 @@ multi-varint (suc room) n rest some h = by (cases_lt n 128) (λ high. multi-vari
   where
     smaller : (n p : ℕ) → n < 128 * (p * 128) → n / 128 < 128 * p
     smaller n p h = omega arith
+
     by : (n < 128) ⊎ (128 ≤ n) → (128 ≤ n → multi_within room (varint_within room (n / 128) ++ rest) ≡ Value (n / 128) (length (varint_within room (n / 128)))) → multi_within (suc room) (varint_within (suc room) n ++ rest) ≡ Value n (length (varint_within (suc room) n))
     by (inl low) later =
         rw (below n 128 low)
@@ -53,8 +55,8 @@ multi-varint (suc room) n rest some h = by (cases_lt n 128) (λ high. multi-vari
     by (inr high) later =
         rw (not_below n 128 high)
         (ap (λ b. cond b (cond ((128 + n % 128) == 0) Bad (Value (128 + n % 128) 1)) (with_low (128 + n % 128) (multi_within room (varint_within room (n / 128) ++ rest)))) (not_below (128 + n % 128) 128 (omega arith))
-         ∙ ap (with_low (128 + n % 128)) (later high)
-         ∙ whole n (length (varint_within room (n / 128))))
+        ∙ ap (with_low (128 + n % 128)) (later high)
+        ∙ whole n (length (varint_within room (n / 128))))
 
 -- more room than is needed
 more_room : (room n : ℕ) → n < 128 * 128 ^ room → varint_within (suc room) n ≡ varint_within room n
@@ -71,10 +73,10 @@ unfolding read_proto_of varint
 read_proto_of-varint n rest h = proto-varint 9 n rest h
 
 -- the first byte, and the bytes behind it
-abbrev first_and : ℕ → List ℕ → List ℕ
+abbrev pub first_and : ℕ → List ℕ → List ℕ
 first_and n later = cond (nat_lt n 128) (n ∷ []) ((128 + n % 128) ∷ later)
 
-varint_8 : (n : ℕ) → n < 2 ^ 63 → varint n ≡ first_and n (varint_within 7 (n / 128))
+pub varint_8 : (n : ℕ) → n < 2 ^ 63 → varint n ≡ first_and n (varint_within 7 (n / 128))
 unfolding varint varint_within
 varint_8 n h = more_room 8 n h
 
@@ -87,8 +89,8 @@ read_first n rest later h = by (cases_lt n 128)
     by (inr high) =
         rw (not_below n 128 high)
         (ap (λ b. cond b (Value (128 + n % 128) 1) (with_low (128 + n % 128) (multi_within 7 (later ++ rest)))) (not_below (128 + n % 128) 128 (omega arith))
-         ∙ ap (with_low (128 + n % 128)) (h high)
-         ∙ whole n (length later))
+        ∙ ap (with_low (128 + n % 128)) (h high)
+        ∙ whole n (length later))
 
 pub read_multi_of-varint : (n : ℕ) (rest : List ℕ) → n < 2 ^ 63 → read_multi_of (varint n ++ rest) ≡ Value n (length (varint n))
 read_multi_of-varint n rest h = rw (varint_8 n h) (read_first n rest (varint_within 7 (n / 128)) (λ high. multi-varint 7 (n / 128) rest (omega arith) (omega arith)))
@@ -111,6 +113,7 @@ proto_ends_itself (suc room) (b ∷ bs) rest n used h = by (cases_Bool (nat_lt b
     more (Value high before) e = (high, before, refl, e)
     more Short e = absurd cc
     more Bad e = absurd cc
+
     by : (nat_lt b 128 ≡ true) ⊎ (nat_lt b 128 ≡ false) → ((n used : ℕ) → proto_within room bs ≡ Value n used → proto_within room (take used bs ++ rest) ≡ Value n used) → proto_within (suc room) (take used (b ∷ bs) ++ rest) ≡ Value n used
     by (inl t) again =
         let e : Value b 1 ≡ Value n used = sym (ap (λ x. cond x (Value b 1) (with_low b (proto_within room bs))) t) ∙ h in
@@ -135,7 +138,7 @@ one_of_nine : (x y : Bool) (b n used : ℕ) → cond y (cond x Bad (Value b 1)) 
 one_of_nine x true b n used h = one_byte x b n used h
 one_of_nine x false b n used h = absurd cc
 
-with_low_value : (b n used : ℕ) (read : Var) → with_low b read ≡ Value n used → (high : ℕ) × (before : ℕ) × (read ≡ Value high before) × (used ≡ suc before) × (Value (b - 128 + 128 * high) (before + 1) ≡ Value n used)
+pub with_low_value : (b n used : ℕ) (read : Var) → with_low b read ≡ Value n used → (high : ℕ) × (before : ℕ) × (read ≡ Value high before) × (used ≡ suc before) × (Value (b - 128 + 128 * high) (before + 1) ≡ Value n used)
 with_low_value b n used (Value high before) e = (high, before, refl, (let v : before + 1 ≡ suc before = omega arith in cc), e)
 with_low_value b n used Short e = absurd cc
 with_low_value b n used Bad e = absurd cc

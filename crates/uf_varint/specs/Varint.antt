@@ -1,6 +1,7 @@
 -- Varints (multiformats unsigned-varint; Protocol Buffers, "Encoding", "Base 128 Varints"): seven bits a byte, the least
 -- significant group first, and the high bit set in each byte but the last.
 use Rattle.std.specs.Prelude.{ℕ, zero, suc, ◌+◌, ◌-◌, ◌*◌, ◌/◌, ◌%◌, ◌<◌, ◌≤◌, List, [], ◌∷◌, nat_lt, nat_le, ◌==◌, if◌then◌else◌}
+use Rattle.std.specs.List.{AllByRecursion}
 use Rattle.uf_varint.specs.declared.varint.Var.{Var}
 use Rattle.uf_varint.specs.declared.varint.Var.TheVariants.{Value, Short, Bad}
 
@@ -42,6 +43,10 @@ unfoldable pub read_multi_of : List ℕ → Var
 unfolding multi_within
 read_multi_of [] = Short
 read_multi_of (b ∷ bs) = if nat_lt b 128 then Value b 1 else with_low b (multi_within 7 bs)
+
+-- each byte has the high bit
+abbrev pub AreHigh : List ℕ → Type 0
+AreHigh bytes = AllByRecursion (λ b. 128 ≤ b) bytes
 
 -- a spelling has a byte or more, and at most so many
 abbrev pub IsWithin : Var → ℕ → Type 0

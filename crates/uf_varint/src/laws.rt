@@ -1,8 +1,9 @@
 // What holds of the spellings, whoever writes or reads them.
-ghost use Rattle.std.specs.Prelude.{◌≡◌, ◌<◌, ◌^◌, ◌%◌, ◌++◌, ◌∷◌, [], List, ℕ, Ok, length, take};
+ghost use Rattle.std.specs.List.{AllByRecursion};
+ghost use Rattle.std.specs.Prelude.{◌≡◌, ◌↔◌, ◌<◌, ◌^◌, ◌%◌, ◌++◌, ◌∷◌, [], List, ℕ, Ok, length, take};
 ghost use Rattle.uf_varint.specs.Fields.{Number, Bytes, Keyed, fields, key_then, number_at, number_field, content_field};
-ghost use Rattle.uf_varint.specs.Varint.{varint, read_multi_of, read_proto_of};
-ghost use Rattle.uf_varint.specs.declared.varint.Var.TheVariants.{Value};
+ghost use Rattle.uf_varint.specs.Varint.{varint, read_multi_of, read_proto_of, AreHigh};
+ghost use Rattle.uf_varint.specs.declared.varint.Var.TheVariants.{Value, Short};
 
 /// What was written is read again, whatever follows it. Numbers below 2^63 are those whose spelling has at most nine bytes.
 pub fn what_was_written_is_read()
@@ -14,6 +15,18 @@ pub fn what_was_written_is_read()
 pub fn spellings_end_themselves()
     ensures proto { (bytes rest : List ℕ) (n used : ℕ) → read_proto_of bytes ≡ Value n used → read_proto_of (take used bytes ++ rest) ≡ Value n used }
     ensures multi { (bytes rest : List ℕ) (n used : ℕ) → read_multi_of bytes ≡ Value n used → read_multi_of (take used bytes ++ rest) ≡ Value n used }
+{}
+
+/// `read_multi` takes shortest spellings alone, of at most nine bytes.
+pub fn multi_takes_the_shortest_alone()
+    ensures { (bytes : List ℕ) (n used : ℕ) → AllByRecursion (λ b. b < 256) bytes → read_multi_of bytes ≡ Value n used
+        → (take used bytes ≡ varint n) × (n < 2 ^ 63) }
+{}
+
+/// More bytes are wanted exactly where there are fewer than ten, or nine, and each of them has the high bit.
+pub fn more_bytes_are_wanted()
+    ensures proto { (bytes : List ℕ) → (read_proto_of bytes ≡ Short) ↔ ((length bytes < 10) × AreHigh bytes) }
+    ensures multi { (bytes : List ℕ) → (read_multi_of bytes ≡ Short) ↔ ((length bytes < 9) × AreHigh bytes) }
 {}
 
 /// Fields are cut from left to right: each but the last that can be cut is followed by those of the bytes behind it.

@@ -13,7 +13,6 @@ pub enum Var {
     Bad,
 }
 
-
 /// Reads the number at the front where its spelling is the shortest one and has at most nine bytes (multiformats
 /// unsigned-varint). Bytes may follow it.
 pub fn read_multi(bytes: &[u8]) -> Var
@@ -87,12 +86,12 @@ pub fn write(value: u64, out: &mut [u8; 10]) -> usize
 pub fn width(value: u64) -> usize
     ensures { result ≡ length (varint value) }
 {
-    let mut rest = value;
+    let mut left = value;
     for i in 0..9 {
-        if rest < 128 {
+        if left < 128 {
             return i + 1;
         }
-        rest /= 128;
+        left /= 128;
     }
     10
 }

@@ -27,10 +27,10 @@ pub returns-then-bytes-lt9-clause-exact : goal.returns-then-bytes-lt9-clause-exa
 returns-then-bytes-lt9-clause-exact c = is_short c.loop-i.value c.loop-i.scale 8 _ _ (multi_past c.args.bytes.now 8 (omega arith)) (multi_at_eight c.args.bytes.now c.loop-i.value c.loop-i.scale c.loop-i.i _ (omega arith) c.loop-i-test.false c.loop-i.invariant.read)
 
 pub returns-then-byte-eq0-2-clause-exact : goal.returns-then-byte-eq0-2-clause-exact
-returns-then-byte-eq0-2-clause-exact c = 
+returns-then-byte-eq0-2-clause-exact c =
     is_bad c.loop-i.value c.loop-i.scale 8 _ _
-        (elim c.then-byte-eq0-2.either [ inl e ↦ multi_ninth_zero c.args.bytes.now (omega arith) e | inr e ↦ multi_ninth_high c.args.bytes.now (omega arith) (omega arith) ])
-        (multi_at_eight c.args.bytes.now c.loop-i.value c.loop-i.scale c.loop-i.i _ (omega arith) c.loop-i-test.false c.loop-i.invariant.read)
+    (elim c.then-byte-eq0-2.either [ inl e ↦ multi_ninth_zero c.args.bytes.now (omega arith) e | inr e ↦ multi_ninth_high c.args.bytes.now (omega arith) (omega arith) ])
+    (multi_at_eight c.args.bytes.now c.loop-i.value c.loop-i.scale c.loop-i.i _ (omega arith) c.loop-i-test.false c.loop-i.invariant.read)
 
 pub returns-clause-exact : goal.returns-clause-exact
 returns-clause-exact c = ends c.loop-i.value c.loop-i.scale 8 _ _ _ (multi_ninth_low c.args.bytes.now (omega arith) (omega arith) c.if-byte-ge128.false) (multi_at_eight c.args.bytes.now c.loop-i.value c.loop-i.scale c.loop-i.i _ (omega arith) c.loop-i-test.false c.loop-i.invariant.read)
