@@ -2,7 +2,7 @@
 use Rattle.std.proofs.Common.{◌≡◌, ℕ, zero, suc, ◌+◌, ◌-◌, ◌*◌, ◌/◌, ◌%◌, ◌^◌, ◌<◌, ◌≤◌, List, [], ◌∷◌, length, take, refl, ap, arith, sym, ◌∙◌, Bool, true, false, cond, ◌⊎◌, inl, inr}
 use Rattle.std.specs.Prelude.{nat_lt, nat_le, ◌==◌}
 use Rattle.std.specs.List.{AllByRecursion}
-use Rattle.std.proofs.lemmas.Bool.{cases_Bool, ltb-true, ltb-false, eqb-false}
+use Rattle.std.proofs.lemmas.Bool.{cases_Bool, leb-true, ltb-true, ltb-false, eqb-false}
 use Rattle.uf_varint.specs.declared.varint.Var.{Var}
 use Rattle.uf_varint.specs.declared.varint.Var.TheVariants.{Value, Short, Bad}
 use Rattle.uf_varint.specs.Varint.{varint, varint_within, read_proto_of, proto_within, read_multi_of, multi_within, with_low, AreHigh}
@@ -165,3 +165,38 @@ read_multi_is_short (b ∷ bs) = (by (cases_Bool (nat_lt b 128)), λ h. rw (not_
         let e : with_low b (multi_within 7 bs) ≡ Short = sym (ap (λ x. cond x (Value b 1) (with_low b (multi_within 7 bs))) t) ∙ h in
         let i = multi_short 7 bs (with_low_short b (multi_within 7 bs) e) in
         (omega (arith, i.0), (ltb-false _ _ t, i.1))
+
+-- ---- how large a number is
+
+room_for_first : (room : ℕ) → 128 ≤ 2 * (128 ^ room * 128)
+room_for_first zero = omega arith
+room_for_first (suc room) = let h = room_for_first room in omega arith
+
+high_fits : (b high room : ℕ) → b < 256 → high < 2 * 128 ^ room → b - 128 + 128 * high < 2 * (128 ^ room * 128)
+high_fits b high room fits h = omega arith
+
+proto_fits : (room : ℕ) (bytes : List ℕ) (n used : ℕ) → AllByRecursion (λ b. b < 256) bytes → proto_within room bytes ≡ Value n used → n < 2 * 128 ^ room
+unfolding proto_within
+proto_fits zero [] n used fits h = absurd cc
+proto_fits (suc room) [] n used fits h = absurd cc
+proto_fits zero (b ∷ bs) n used fits h = by (cases_Bool (nat_le b 1))
+  where
+    by : (nat_le b 1 ≡ true) ⊎ (nat_le b 1 ≡ false) → n < 2
+    by (inl t) = let e : Value b 1 ≡ Value n used = sym (ap (λ x. cond x (Value b 1) Bad) t) ∙ h in let v : n ≡ b = cc in omega (arith, v, leb-true b 1 t)
+    by (inr t) = let e : Bad ≡ Value n used = sym (ap (λ x. cond x (Value b 1) Bad) t) ∙ h in absurd cc
+proto_fits (suc room) (b ∷ bs) n used fits h = by (cases_Bool (nat_lt b 128)) (λ n used. proto_fits room bs n used fits.1)
+  where
+    by : (nat_lt b 128 ≡ true) ⊎ (nat_lt b 128 ≡ false) → ((n used : ℕ) → proto_within room bs ≡ Value n used → n < 2 * 128 ^ room) → n < 2 * 128 ^ suc room
+    by (inl t) again =
+        let e : Value b 1 ≡ Value n used = sym (ap (λ x. cond x (Value b 1) (with_low b (proto_within room bs))) t) ∙ h in
+        let v : n ≡ b = cc in
+        omega (arith, v, ltb-true b 128 t, room_for_first room)
+    by (inr t) again =
+        let e : with_low b (proto_within room bs) ≡ Value n used = sym (ap (λ x. cond x (Value b 1) (with_low b (proto_within room bs))) t) ∙ h in
+        let m = with_low_value b n used (proto_within room bs) e in
+        let v : n ≡ b - 128 + 128 * m.0 = cc in
+        omega (arith, v, high_fits b m.0 room fits.0 (again m.0 m.1 m.2))
+
+pub read_proto_fits : (bytes : List ℕ) (n used : ℕ) → AllByRecursion (λ b. b < 256) bytes → read_proto_of bytes ≡ Value n used → n < 2 ^ 64
+unfolding read_proto_of
+read_proto_fits bytes n used fits h = omega (arith, proto_fits 9 bytes n used fits h)

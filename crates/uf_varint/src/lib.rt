@@ -10,7 +10,8 @@ mod varint;
 pub use fields::{CutFault, read_bytes, read_number, read_piece, skip_content};
 pub use laws::{
     fields_are_cut_in_order, more_bytes_are_wanted, multi_takes_the_shortest_alone,
-    spellings_end_themselves, what_was_written_is_cut, what_was_written_is_read,
+    proto_takes_64_bits, spellings_end_themselves, what_was_written_is_cut,
+    what_was_written_is_read,
 };
 pub use spelled::NumberField;
 pub use varint::{Var, read_multi, read_proto, width, write};

@@ -84,7 +84,8 @@ pub fn write(value: u64, out: &mut [u8; 10]) -> usize
 
 /// The length of the shortest spelling of a number.
 pub fn width(value: u64) -> usize
-    ensures { result ≡ length (varint value) }
+    ensures exact { result ≡ length (varint value) }
+    ensures most { result ≤ 10 }
 {
     let mut left = value;
     for i in 0..9 {
