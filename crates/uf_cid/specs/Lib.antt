@@ -3,5 +3,6 @@ pub mod Blocks
 pub mod Bytes
 pub mod Cid
 pub mod Lanes
+pub mod Read
 pub mod Sums
 pub mod Unbase32

@@ -1,5 +1,6 @@
 // Calls that the layers above make over any store.
 ghost use Rattle.std.specs.Prelude.{◌≡◌, ◌≤◌, ◌+◌, [], ◌∷◌, length, OnOk, OnErr, IfOk, IfErr};
+ghost use Rattle.uf_cid.specs.Cid.{cid_of};
 ghost use Rattle.uf_store.specs.Seen.{Finds, Keeps};
 ghost use Rattle.uf_store.specs.Faults.{Answers, NoneIsBad};
 ghost use Rattle.uf_store.specs.Keeping.{Holds, KeepsGood, SavesOnly};
@@ -8,7 +9,7 @@ ghost use Rattle.uf_store.specs.Clashes.{IsClashOr, IsLoadFault, IsSaveFault};
 use crate::{Load, Save, Steps, Store, StoreFault};
 use std::alloc::Global;
 use std::sync::ledger::Ledger;
-use uf_cid::{Block, Cid, Memory};
+use uf_cid::{Block, Cid, Codec, Memory};
 
 /// Loads a block that has to be there. The store then lends it. One touch.
 pub fn need<S: Store, L: Ledger>(
@@ -57,6 +58,31 @@ pub fn save_under<S: Store, L: Ledger>(
         Save::Clash => Err(clash(alloc, cid, store.block(), bytes)),
         Save::Failed => Err(StoreFault::Failed),
         Save::Memory => Err(StoreFault::Memory),
+    }
+}
+
+/// Saves a block under the CID that its bytes have, and answers that CID. One touch.
+pub fn save_block<S: Store, L: Ledger>(
+    alloc: Global,
+    store: &mut S,
+    codec: Codec,
+    bytes: &[u8],
+    touches: &mut Steps<L>,
+) -> Result<Cid, StoreFault>
+    requires size { length bytes.now ≤ 2097152 }
+    ensures cid { IfOk result (λ cid. cid ≡ cid_of S.X.block32 codec bytes.now) }
+    ensures held { OnOk result (Holds (S.seen store.new).told ((cid_of S.X.block32 codec bytes.now, bytes.now) ∷ [])) }
+    ensures cause { Answers S.X.block32 NoneIsBad result (S.seen store.old) (S.seen store.new) }
+    ensures fault { IfErr result (IsSaveFault (cid_of S.X.block32 codec bytes.now) bytes.now) }
+    ensures err { OnErr result ((S.seen store.new).told ≡ (S.seen store.old).told) }
+    ensures good { KeepsGood S.X.block32 (S.seen store.old).told (S.seen store.new).told }
+    ensures saves { SavesOnly (S.seen store.old).told (S.seen store.new).told }
+    ensures touches { touches.new ≡ touches.old + 1 }
+{
+    let cid = Cid::of::<S::X>(codec, bytes);
+    match save_under(alloc, store, &cid, bytes, touches) {
+        Ok(()) => Ok(cid),
+        Err(fault) => Err(fault),
     }
 }
 

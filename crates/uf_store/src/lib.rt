@@ -11,7 +11,7 @@ mod store;
 #[cfg(test)]
 mod tests;
 
-pub use callers::{need, save_under};
+pub use callers::{need, save_block, save_under};
 pub use discard::Discard;
 pub use failing::CallKind;
 pub use laws::{

@@ -1,9 +1,11 @@
 // Rows of the stores.
 ghost use Rattle.std.specs.Prelude.{◌≡◌, ◌<◌};
+ghost use Rattle.uf_cid.specs.Cid.{cid_of};
+ghost use Rattle.uf_cid.specs.declared.cid.Codec.TheVariants.{Raw};
 
 use crate::{
     CallKind, Discard, Load, MemStore, Note, NoteRead, Save, Steps, Store, StoreFault, need,
-    save_under,
+    save_block, save_under,
 };
 use std::alloc::Global;
 use std::marker::Brand;
@@ -17,7 +19,9 @@ fn block(alloc: Global, bytes: &[u8]) -> Result<Block, Memory> {
     Ok(block)
 }
 
-fn raw<X: BlockHash>(bytes: &[u8]) -> Cid {
+fn raw<X: BlockHash>(bytes: &[u8]) -> Cid
+    ensures { result ≡ cid_of X.block32 Raw bytes.now }
+{
     Cid::of::<X>(Codec::Raw, bytes)
 }
 
@@ -84,9 +88,8 @@ fn loses_and_lies<L: Ledger>(alloc: Global, touches: &mut Steps<L>) -> Result<bo
 // Two blocks with one sum clash, and both are shown.
 fn clashes<L: Ledger>(alloc: Global, touches: &mut Steps<L>) -> bool {
     let mut store = MemStore::<Sum8Hash>::new(alloc);
-    let cid = raw::<Sum8Hash>(b"ab");
-    let saved = save_under(alloc, &mut store, &cid, b"ab", touches).is_ok();
-    let shown = match save_under(alloc, &mut store, &cid, b"ba", touches) {
+    let saved = save_block(alloc, &mut store, Codec::Raw, b"ab", touches).is_ok();
+    let shown = match save_block(alloc, &mut store, Codec::Raw, b"ba", touches) {
         Err(StoreFault::Clash(_, held, bytes)) => {
             held.as_slice() == b"ab".as_slice() && bytes.as_slice() == b"ba".as_slice()
         }
