@@ -1,6 +1,6 @@
 // A store that keeps nothing.
 ghost use Rattle.std.specs.Prelude.{◌≡◌, ◌≤◌, ◌+◌, [], None, length};
-ghost use Rattle.uf_store.specs.Seen.{Saves};
+ghost use Rattle.uf_store.specs.Seen.{Loads, ReadsNote, Saves, Syncs, WritesNote};
 
 use crate::{Load, Note, NoteRead, Save, Steps, Store};
 use std::marker::PhantomData;
@@ -36,7 +36,12 @@ impl<X: BlockHash> Store for Discard<X> {
 
     ghost seen = { λ s. discard_seen s };
 
-    fn load<L: Ledger>(&mut self, _cid: &Cid, touches: &mut Steps<L>) -> Load {
+    fn load<L: Ledger>(&mut self, cid: &Cid, touches: &mut Steps<L>) -> Load
+        ensures missing { result ≡ Load.Missing }
+        ensures seen { Loads X.block32 cid.now result (discard_seen self.old) (discard_seen self.new) }
+        ensures touch { touches.new ≡ touches.old + 1 }
+    {
+        let _ = cid;
         touches.tick();
         self.misses = self.misses.saturating_add(1);
         Load::Missing
@@ -59,15 +64,27 @@ impl<X: BlockHash> Store for Discard<X> {
         Save::Done
     }
 
-    fn sync(&mut self) -> Put {
+    fn sync(&mut self) -> Put
+        ensures done { result ≡ Put.Done }
+        ensures seen { Syncs result (discard_seen self.old) (discard_seen self.new) }
+    {
         Put::Done
     }
 
-    fn read_note(&mut self, _which: Note) -> NoteRead {
+    fn read_note(&mut self, which: Note) -> NoteRead
+        ensures absent { result ≡ NoteRead.Absent }
+        ensures seen { ReadsNote which result (discard_seen self.old) (discard_seen self.new) }
+    {
+        let _ = which;
         NoteRead::Absent
     }
 
-    fn write_note(&mut self, _which: Note, _bytes: &[u8]) -> Put {
+    fn write_note(&mut self, which: Note, bytes: &[u8]) -> Put
+        ensures done { result ≡ Put.Done }
+        ensures seen { WritesNote which bytes.now result (discard_seen self.old) (discard_seen self.new) }
+    {
+        let _ = which;
+        let _ = bytes;
         Put::Done
     }
 }

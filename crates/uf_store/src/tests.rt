@@ -110,8 +110,8 @@ fn discards<L: Ledger>(touches: &mut Steps<L>) -> bool {
         && matches!(store.read_note(Note::Head), NoteRead::Absent)
 }
 
-// The number of the first row that is wrong, and 0 where each is right.
-fn first_wrong<L: Ledger>(alloc: Global, blank: Blank) -> Result<u8, Memory>
+// The place of the first row that is wrong.
+fn first_wrong<L: Ledger>(alloc: Global, blank: Blank) -> Result<Option<usize>, Memory>
     requires name { blank.name ≡ L.name }
     requires parts { blank.parts ≡ L.parts }
     requires some { 0 < blank.parts }
@@ -128,22 +128,15 @@ fn first_wrong<L: Ledger>(alloc: Global, blank: Blank) -> Result<u8, Memory>
         clashes(alloc, &mut touches),
         discards(&mut touches),
     ];
-    let mut row = 0;
-    for right in rows {
-        row += 1;
-        if !right {
-            return Ok(row);
-        }
-    }
-    Ok(0)
+    Ok(rows.iter().position(|right| !*right))
 }
 
-fn first_wrong_row(alloc: Global) -> Result<u8, Memory> {
+fn first_wrong_row(alloc: Global) -> Result<Option<usize>, Memory> {
     first_wrong::<Brand>(alloc, Blank::new(1))
 }
 
 #[test]
 fn stores_keep_fail_lose_lie_and_clash(rt: HostRuntime) -> Result<(), Memory> {
-    assert_eq!(rt; first_wrong_row(rt.alloc())?, 0);
+    assert_eq!(rt; first_wrong_row(rt.alloc())?, None);
     Ok(())
 }
