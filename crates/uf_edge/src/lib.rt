@@ -9,4 +9,4 @@ mod tests;
 
 pub use host::{Fetched, Kind, Listing, Put};
 pub use memory::{Calls, MemSink, MemSource};
-pub use streams::{Intake, Read, Sent, Sink, Source, Wrote, read_all, write_all};
+pub use streams::{Filled, Intake, Read, Sent, Sink, Source, Wrote, fill, read_all, write_all};

@@ -1,5 +1,5 @@
 // Sources and sinks in memory, and the calls that drive them.
-use crate::{Calls, Intake, MemSink, MemSource, Sent, read_all, write_all};
+use crate::{Calls, Filled, Intake, MemSink, MemSource, Sent, fill, read_all, write_all};
 use std::alloc::Global;
 use uf_cid::{Block, Memory};
 
@@ -42,6 +42,24 @@ fn all_is_read_or_the_input_is_too_long_or_fails(rt: HostRuntime) -> Result<(), 
     assert!(rt; reads(alloc, 10, &[0], Err(Intake::Failed))?);
     assert!(rt; reads(alloc, 10, &[4], Err(Intake::Failed))?);
     assert!(rt; reads(alloc, 10, &[5], Ok(TEXT))?);
+    Ok(())
+}
+
+// Reads ten bytes, at most three in a call, into a buffer of so many, and compares what came.
+fn fills(alloc: Global, size: usize, fail: &[u64], wanted: Filled) -> Result<bool, Memory> {
+    let mut input = MemSource::new(block(alloc, TEXT)?, 3, calls(alloc, fail)?);
+    let mut buffer = vec![in alloc; 0u8; size]?;
+    let got = fill(&mut input, &mut buffer);
+    Ok(got == wanted && (fail.len() > 0 || TEXT.starts_with(&buffer[..size.min(10)])))
+}
+
+#[test]
+fn a_buffer_is_filled_or_the_source_ends(rt: HostRuntime) -> Result<(), Memory> {
+    let alloc = rt.alloc();
+    assert!(rt; fills(alloc, 10, &[], Filled::Full)?);
+    assert!(rt; fills(alloc, 4, &[], Filled::Full)?);
+    assert!(rt; fills(alloc, 11, &[], Filled::Ended(10))?);
+    assert!(rt; fills(alloc, 10, &[1], Filled::Failed)?);
     Ok(())
 }
 
