@@ -1,0 +1,13 @@
+pub mod DirPlan
+pub mod FilePlan
+pub mod FileSub
+pub mod Heads
+pub mod Names
+pub mod Nodes
+pub mod Profiles
+pub mod Roles
+pub mod ShardPlan
+pub mod Standing
+pub mod Tree
+pub mod TreePlan
+pub mod Validity
