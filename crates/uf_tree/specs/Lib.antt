@@ -1,3 +1,5 @@
+pub mod Changes
+pub mod Cutting
 pub mod DirPlan
 pub mod FilePlan
 pub mod FileSub
@@ -11,3 +13,4 @@ pub mod Standing
 pub mod Tree
 pub mod TreePlan
 pub mod Validity
+pub mod Vectors

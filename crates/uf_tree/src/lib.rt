@@ -2,9 +2,11 @@
 //! files, directories and shards are made of (UnixFS v1 over IPLD DAG-PB).
 #![tactic(auto)]
 
+pub mod laws;
 mod name;
 mod nodes;
 mod profile;
+pub mod vectors;
 
 pub use name::{Name, Names};
 pub use nodes::{Entry, FileNode, Item, Items, Pair, Pairs, Part, Parts, Placed};

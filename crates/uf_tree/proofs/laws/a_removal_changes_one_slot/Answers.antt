@@ -1,0 +1,5 @@
+use Rattle.uf_tree.proofs.ShardLaws.{items-remove}
+use Rattle.uf_tree.proofs.laws.a_removal_changes_one_slot.Goals as goal
+
+pub returns : goal.returns
+returns c = λ X N deeper k name l h. items-remove X N deeper k name l h

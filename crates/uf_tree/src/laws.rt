@@ -1,0 +1,58 @@
+// Laws of the definitions.
+ghost use Rattle.std.specs.Prelude.{◌≡◌, ◌≤◌, ◌==◌, ℕ, List, [], ◌∷◌, ◌++◌, length, IsTrue, if◌then◌else◌};
+ghost use Rattle.std.specs.FinMap.Entries.{is_sorted};
+ghost use Rattle.uf_murmur.specs.Slots.{slot};
+ghost use Rattle.uf_tree.specs.declared.nodes.Entry.{Entry};
+ghost use Rattle.uf_tree.specs.declared.profile.Profile.{Profile};
+ghost use Rattle.uf_tree.specs.Changes.{with_name, without, set_at};
+ghost use Rattle.uf_tree.specs.Cutting.{joined, room_after, glue};
+ghost use Rattle.uf_tree.specs.DirPlan.{own_plan};
+ghost use Rattle.uf_tree.specs.FilePlan.{Plan, split_from, chunks, file_plan};
+ghost use Rattle.uf_tree.specs.FileSub.{span, sub};
+ghost use Rattle.uf_tree.specs.Names.{names_cmp};
+ghost use Rattle.uf_tree.specs.Nodes.{Named};
+ghost use Rattle.uf_tree.specs.ShardPlan.{bucket, shard_items, slot_item};
+ghost use Rattle.uf_tree.specs.Tree.{Tree, Dir, Entries, pairs, entries};
+ghost use Rattle.uf_tree.specs.TreePlan.{entry, named_entries};
+
+/// Nothing of a file is lost or turned round when it is cut.
+pub fn the_pieces_are_the_file()
+    ensures { (p : Profile) (bytes : List ℕ) → joined (chunks p bytes) ≡ bytes }
+{}
+
+/// Cutting goes on where it stopped, so the pieces don't depend on how the bytes came.
+pub fn cutting_goes_on()
+    ensures { (w r : ℕ) (front behind : List ℕ) → split_from w r (front ++ behind)
+        ≡ glue (split_from w r front).0 (split_from w r front).1 (split_from w (room_after w r front) behind) }
+{}
+
+/// A put of a name changes one slot of a shard, to what its pairs then give.
+pub fn a_put_changes_one_slot()
+    ensures { (X : List ℕ → List ℕ) (N : List ℕ → ℕ) (deeper : List Named → Plan) (k : ℕ) (name : List ℕ) (e : Entry) (l : List Named) → IsTrue (is_sorted names_cmp l)
+        → shard_items X N deeper k (with_name name e l)
+            ≡ set_at (slot (N name) k) (slot_item X N deeper (with_name name e (bucket X N k (slot (N name) k) l))) (shard_items X N deeper k l) }
+{}
+
+/// A removal of a name changes one slot of a shard, to what its pairs then give.
+pub fn a_removal_changes_one_slot()
+    ensures { (X : List ℕ → List ℕ) (N : List ℕ → ℕ) (deeper : List Named → Plan) (k : ℕ) (name : List ℕ) (l : List Named) → IsTrue (is_sorted names_cmp l)
+        → shard_items X N deeper k (without name l)
+            ≡ set_at (slot (N name) k) (slot_item X N deeper (without name (bucket X N k (slot (N name) k) l))) (shard_items X N deeper k l) }
+{}
+
+/// A directory's entry is that of its members' names and entries.
+pub fn a_directory_stands_on_its_members()
+    ensures { (X : List ℕ → List ℕ) (N : List ℕ → ℕ) (p : Profile) (es : Entries) → entry X N p (Dir es) ≡ (own_plan X N p (named_entries X N p es)).entry }
+{}
+
+/// A member that is put is one put in the list of names and entries.
+pub fn a_member_put_is_one_put()
+    ensures { (X : List ℕ → List ℕ) (N : List ℕ → ℕ) (p : Profile) (name : List ℕ) (t : Tree) (es : Entries)
+        → named_entries X N p (entries (with_name name t (pairs es))) ≡ with_name name (entry X N p t) (named_entries X N p es) }
+{}
+
+/// A member that is taken away is one removal from the list of names and entries.
+pub fn a_member_removed_is_one_removal()
+    ensures { (X : List ℕ → List ℕ) (N : List ℕ → ℕ) (p : Profile) (name : List ℕ) (es : Entries)
+        → named_entries X N p (entries (without name (pairs es))) ≡ without name (named_entries X N p es) }
+{}
