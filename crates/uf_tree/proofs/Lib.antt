@@ -2,6 +2,8 @@ pub mod Behind
 pub mod Climb
 pub mod Groups
 pub mod Nested
+pub mod Rows
 pub mod ShardLaws
 pub mod Sub
+pub mod Tests
 pub mod TreeLaws

@@ -57,6 +57,18 @@ module _ (X : List ℕ → List ℕ) where
   row p bytes zero = map leaf_part (chunks p bytes)
   row p bytes (suc k) = map node_part (groups p.width (row p bytes k))
 
+  -- the blocks of a row
+  unfoldable pub row_held : Profile → List ℕ → ℕ → List Held
+  unfolding row
+  row_held p bytes zero = map leaf_held (chunks p bytes)
+  row_held p bytes (suc k) = map node_held (groups p.width (row p bytes k))
+
+  -- the blocks of all rows up to one
+  unfoldable pub rows_held : Profile → List ℕ → ℕ → List Held
+  unfolding row_held
+  rows_held p bytes zero = row_held p bytes zero
+  rows_held p bytes (suc k) = rows_held p bytes k ++ row_held p bytes (suc k)
+
   -- the blocks of the rows above this row up to the first that has one part, and that part; rows end before the fuel
   unfoldable pub climb : ℕ → ℕ → Part → List Part → List Held × Part
   climb width zero m ms = ([], m)

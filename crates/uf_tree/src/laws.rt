@@ -8,8 +8,9 @@ ghost use Rattle.uf_tree.specs.Changes.{with_name, without, set_at};
 ghost use Rattle.uf_tree.specs.Cutting.{joined, room_after, glue};
 ghost use Rattle.uf_tree.specs.DirPlan.{own_plan};
 ghost use Rattle.uf_tree.specs.FilePlan.{Plan, split_from, chunks, file_plan};
-ghost use Rattle.uf_tree.specs.FileSub.{span, sub};
+ghost use Rattle.uf_tree.specs.FileSub.{IsTop, IsRooted};
 ghost use Rattle.uf_tree.specs.Names.{names_cmp};
+ghost use Rattle.uf_tree.specs.Profiles.{is_profile};
 ghost use Rattle.uf_tree.specs.Nodes.{Named};
 ghost use Rattle.uf_tree.specs.ShardPlan.{bucket, shard_items, slot_item};
 ghost use Rattle.uf_tree.specs.Tree.{Tree, Dir, Entries, pairs, entries};
@@ -55,4 +56,14 @@ pub fn a_member_put_is_one_put()
 pub fn a_member_removed_is_one_removal()
     ensures { (X : List ℕ → List ℕ) (N : List ℕ → ℕ) (p : Profile) (name : List ℕ) (es : Entries)
         → named_entries X N p (entries (without name (pairs es))) ≡ without name (named_entries X N p es) }
+{}
+
+/// A file read from the root down is the one that the rows give, and its height is the least at which the bytes fit.
+pub fn a_file_from_the_root_down_is_its_plan()
+    ensures { (X : List ℕ → List ℕ) (p : Profile) (bytes : List ℕ) → IsTrue (is_profile p) → (height : ℕ) × IsRooted X p bytes (file_plan X p bytes) height }
+{}
+
+/// A file's plan is the first row that has one part: its entry, and the blocks of all rows up to it.
+pub fn a_file_plan_is_its_first_row_of_one_part()
+    ensures { (X : List ℕ → List ℕ) (p : Profile) (bytes : List ℕ) → IsTrue (is_profile p) → (top : ℕ) × IsTop X p bytes (file_plan X p bytes) top }
 {}
