@@ -7,3 +7,4 @@ pub mod ShardLaws
 pub mod Sub
 pub mod Tests
 pub mod TreeLaws
+pub mod Twins

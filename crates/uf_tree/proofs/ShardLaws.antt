@@ -108,9 +108,9 @@ module _ {K V : Type 0} {R : K → K → Ordering} (o : IsTotalOrder R) (exact :
       cases false q e = only_outer (p q) (out q) _ _ (λ gone. ap p (sym (exact k q (tied _ (turned (eq_by_cmp R k q) gone)))) ∙ e) ∙ sym (find-where_key R p q (alike p q) es)
 
 -- a slot's pairs after a pair is put
-pub bucket-put : (X : List ℕ → List ℕ) (N : List ℕ → ℕ) (k s : ℕ) (name : List ℕ) (e : Entry) (l : List Named) → T (is_sorted names_cmp l)
-    → bucket X N k s (put names_cmp name e l) ≡ cond (slot (N name) k == s) (put names_cmp name e (bucket X N k s l)) (bucket X N k s l)
-bucket-put X N k s name e l h = where_key-put names_total names_exact (λ name. slot (N name) k == s) name e l h
+pub bucket-put : (N : List ℕ → ℕ) (k s : ℕ) (name : List ℕ) (e : Entry) (l : List Named) → T (is_sorted names_cmp l)
+    → bucket N k s (put names_cmp name e l) ≡ cond (slot (N name) k == s) (put names_cmp name e (bucket N k s l)) (bucket N k s l)
+bucket-put N k s name e l h = where_key-put names_total names_exact (λ name. slot (N name) k == s) name e l h
 
 -- orders of numbers as tests
 pub lt_test : (x y : ℕ) → x < y → is_lt (nat_cmp x y) ≡ true
@@ -196,9 +196,9 @@ tabulate-set {A} n s f g h same = same_entries nat_cmp nat_cmp_total nat_cmp-IsA
         ∙ sym (find-set (g s) q ∙ ap (λ b. cond b (g s) (find nat_cmp q (tabulate n 0 f))) (ne_test q s other))
 
 -- a slot's pairs after a name is taken out
-pub bucket-remove : (X : List ℕ → List ℕ) (N : List ℕ → ℕ) (k s : ℕ) (name : List ℕ) (l : List Named) → T (is_sorted names_cmp l)
-    → bucket X N k s (without name l) ≡ cond (slot (N name) k == s) (without name (bucket X N k s l)) (bucket X N k s l)
-bucket-remove X N k s name l h = where_key-remove names_total names_exact (λ name. slot (N name) k == s) name l h
+pub bucket-remove : (N : List ℕ → ℕ) (k s : ℕ) (name : List ℕ) (l : List Named) → T (is_sorted names_cmp l)
+    → bucket N k s (without name l) ≡ cond (slot (N name) k == s) (without name (bucket N k s l)) (bucket N k s l)
+bucket-remove N k s name l h = where_key-remove names_total names_exact (λ name. slot (N name) k == s) name l h
 
 pub eqb_same : (s : ℕ) → (s == s) ≡ true
 eqb_same s = grind (arith, nat_tests)
@@ -209,19 +209,19 @@ eqb_other s q h = grind (arith, nat_tests)
 pub slot-bound : (hash k : ℕ) → slot hash k < 256
 slot-bound hash k = omega arith
 
-module _ (X : List ℕ → List ℕ) (N : List ℕ → ℕ) (deeper : List Named → Plan) (k : ℕ) (name : List ℕ) (l : List Named) (h : T (is_sorted names_cmp l)) where
+module _ (N : List ℕ → ℕ) (deeper : List Named → Plan) (k : ℕ) (name : List ℕ) (l : List Named) (h : T (is_sorted names_cmp l)) where
   -- the items of a shard after a pair is put: one slot changes
-  pub items-put : (e : Entry) → shard_items X N deeper k (put names_cmp name e l)
-      ≡ set_at (slot (N name) k) (slot_item X N deeper (put names_cmp name e (bucket X N k (slot (N name) k) l))) (shard_items X N deeper k l)
-  items-put e = tabulate-set 256 (slot (N name) k) (λ s. slot_item X N deeper (bucket X N k s l)) (λ s. slot_item X N deeper (bucket X N k s (put names_cmp name e l)))
+  pub items-put : (e : Entry) → shard_items N deeper k (put names_cmp name e l)
+      ≡ set_at (slot (N name) k) (slot_item deeper (put names_cmp name e (bucket N k (slot (N name) k) l))) (shard_items N deeper k l)
+  items-put e = tabulate-set 256 (slot (N name) k) (λ s. slot_item deeper (bucket N k s l)) (λ s. slot_item deeper (bucket N k s (put names_cmp name e l)))
       (slot-bound (N name) k)
-      (λ q other. ap (slot_item X N deeper) (bucket-put X N k q name e l h ∙ ap (λ b. cond b (put names_cmp name e (bucket X N k q l)) (bucket X N k q l)) (eqb_other (slot (N name) k) q other)))
-      ∙ ap (λ b. set_at (slot (N name) k) (slot_item X N deeper b) (shard_items X N deeper k l)) (bucket-put X N k (slot (N name) k) name e l h ∙ ap (λ b. cond b (put names_cmp name e (bucket X N k (slot (N name) k) l)) (bucket X N k (slot (N name) k) l)) (eqb_same (slot (N name) k)))
+      (λ q other. ap (slot_item deeper) (bucket-put N k q name e l h ∙ ap (λ b. cond b (put names_cmp name e (bucket N k q l)) (bucket N k q l)) (eqb_other (slot (N name) k) q other)))
+      ∙ ap (λ b. set_at (slot (N name) k) (slot_item deeper b) (shard_items N deeper k l)) (bucket-put N k (slot (N name) k) name e l h ∙ ap (λ b. cond b (put names_cmp name e (bucket N k (slot (N name) k) l)) (bucket N k (slot (N name) k) l)) (eqb_same (slot (N name) k)))
 
-  pub items-remove : shard_items X N deeper k (without name l)
-      ≡ set_at (slot (N name) k) (slot_item X N deeper (without name (bucket X N k (slot (N name) k) l))) (shard_items X N deeper k l)
-  items-remove = tabulate-set 256 (slot (N name) k) (λ s. slot_item X N deeper (bucket X N k s l)) (λ s. slot_item X N deeper (bucket X N k s (without name l)))
+  pub items-remove : shard_items N deeper k (without name l)
+      ≡ set_at (slot (N name) k) (slot_item deeper (without name (bucket N k (slot (N name) k) l))) (shard_items N deeper k l)
+  items-remove = tabulate-set 256 (slot (N name) k) (λ s. slot_item deeper (bucket N k s l)) (λ s. slot_item deeper (bucket N k s (without name l)))
       (slot-bound (N name) k)
-      (λ q other. ap (slot_item X N deeper) (bucket-remove X N k q name l h ∙ ap (λ b. cond b (without name (bucket X N k q l)) (bucket X N k q l)) (eqb_other (slot (N name) k) q other)))
-      ∙ ap (λ b. set_at (slot (N name) k) (slot_item X N deeper b) (shard_items X N deeper k l)) (bucket-remove X N k (slot (N name) k) name l h ∙ ap (λ b. cond b (without name (bucket X N k (slot (N name) k) l)) (bucket X N k (slot (N name) k) l)) (eqb_same (slot (N name) k)))
+      (λ q other. ap (slot_item deeper) (bucket-remove N k q name l h ∙ ap (λ b. cond b (without name (bucket N k q l)) (bucket N k q l)) (eqb_other (slot (N name) k) q other)))
+      ∙ ap (λ b. set_at (slot (N name) k) (slot_item deeper b) (shard_items N deeper k l)) (bucket-remove N k (slot (N name) k) name l h ∙ ap (λ b. cond b (without name (bucket N k (slot (N name) k) l)) (bucket N k (slot (N name) k) l)) (eqb_same (slot (N name) k)))
 

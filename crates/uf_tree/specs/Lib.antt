@@ -9,6 +9,7 @@ pub mod Nodes
 pub mod Profiles
 pub mod Roles
 pub mod ShardPlan
+pub mod Shardable
 pub mod Standing
 pub mod Tree
 pub mod TreePlan

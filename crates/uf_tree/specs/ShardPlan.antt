@@ -31,7 +31,37 @@ unfoldable pub twins : (List ℕ → List ℕ → Bool) → List Named → Optio
 twins same [] = None
 twins same (e ∷ l) = elim (find (λ (f : Named). same e.0 f.0) l) [ None ↦ twins same l | Some f ↦ Some (e.0, f.0) ]
 
+-- what a slot has: nothing of no pair, the entry of one pair, the shard that `deeper` gives of more
+abbrev pub slot_item : (List Named → Plan) → List Named → Option Item
+slot_item deeper [] = None
+slot_item deeper (e ∷ []) = Some (Leaf e.0 e.1)
+slot_item deeper (e ∷ f ∷ l) = Some (Sub (deeper (e ∷ f ∷ l)).entry)
+
+-- the shard blocks below a slot
+abbrev pub slot_blocks : (List Named → Plan) → List Named → List Held
+slot_blocks deeper [] = []
+slot_blocks deeper (e ∷ []) = []
+slot_blocks deeper (e ∷ f ∷ l) = (deeper (e ∷ f ∷ l)).blocks
+
+-- what is shared by more than one pair, and nothing of fewer
+abbrev pub where_shared : List Named → List Held → List Held
+where_shared [] below = []
+where_shared (e ∷ []) below = []
+where_shared (e ∷ f ∷ l) below = below
+
 module _ (N : List ℕ → ℕ) where
+  -- the pairs whose slot at level k is s
+  abbrev pub bucket : ℕ → ℕ → List Named → List Named
+  bucket k s l = where_key names_cmp (λ name. slot (N name) k == s) l
+
+  -- the slots of a shard at level k that have something
+  abbrev pub shard_items : (List Named → Plan) → ℕ → List Named → List InSlot
+  shard_items deeper k l = tabulate 256 0 (λ s. slot_item deeper (bucket k s l))
+
+  -- the shard blocks below a shard at level k, in the order of its slots
+  abbrev pub shard_below : (List Named → Plan) → ℕ → List Named → List Held
+  shard_below deeper k l = flat_tabulate 256 0 (λ s. slot_blocks deeper (bucket k s l))
+
   -- two names have the same slots from the level with so many below it to level 7
   abbrev pub same_slots : ℕ → List ℕ → List ℕ → Bool
   same_slots zero a b = slot (N a) 7 == slot (N b) 7
@@ -41,42 +71,16 @@ module _ (N : List ℕ → ℕ) where
   abbrev pub same_hash : List ℕ → List ℕ → Bool
   same_hash a b = N a == N b
 
--- what is shared by more than one pair, and nothing of fewer
-abbrev pub where_shared : List Named → List Held → List Held
-where_shared [] below = []
-where_shared (e ∷ []) below = []
-where_shared (e ∷ f ∷ l) below = below
-
 module _ (X : List ℕ → List ℕ) (N : List ℕ → ℕ) where
-  -- the pairs whose slot at level k is s
-  abbrev pub bucket : ℕ → ℕ → List Named → List Named
-  bucket k s l = where_key names_cmp (λ name. slot (N name) k == s) l
+  -- the block of a shard with these slots
+  abbrev pub shard_held : List InSlot → Held
+  shard_held items = (cid_of X DagPb (shard_block items), shard_block items)
 
-  -- what a slot has: nothing of no pair, the entry of one pair, the shard that `deeper` gives of more
-  abbrev pub slot_item : (List Named → Plan) → List Named → Option Item
-  slot_item deeper [] = None
-  slot_item deeper (e ∷ []) = Some (Leaf e.0 e.1)
-  slot_item deeper (e ∷ f ∷ l) = Some (Sub (deeper (e ∷ f ∷ l)).entry)
-
-  -- the shard blocks below a slot
-  abbrev pub slot_blocks : (List Named → Plan) → List Named → List Held
-  slot_blocks deeper [] = []
-  slot_blocks deeper (e ∷ []) = []
-  slot_blocks deeper (e ∷ f ∷ l) = (deeper (e ∷ f ∷ l)).blocks
-
-  -- the slots of a shard at level k that have something
-  abbrev pub shard_items : (List Named → Plan) → ℕ → List Named → List InSlot
-  shard_items deeper k l = tabulate 256 0 (λ s. slot_item deeper (bucket k s l))
-
-  -- the plan of a shard with these slots and these blocks below it
-  abbrev pub shard_with : List InSlot → List Held → Plan
-  shard_with items below = record {
-    entry = node_entry X (shard_block items) (map (λ (p : InSlot). item_entry p.1) items);
-    blocks = (cid_of X DagPb (shard_block items), shard_block items) ∷ below }
-
-  -- one shard at level k: its block, and the blocks below it in the order of the slots
+  -- one shard at level k: the entry of its block, its block, and the blocks below it
   abbrev pub shard_at : (List Named → Plan) → ℕ → List Named → Plan
-  shard_at deeper k l = shard_with (shard_items deeper k l) (flat_tabulate 256 0 (λ s. slot_blocks deeper (bucket k s l)))
+  shard_at deeper k l = let items = shard_items N deeper k l in record {
+    entry = node_entry X (shard_block items) (map (λ (p : InSlot). item_entry p.1) items);
+    blocks = shard_held items ∷ shard_below N deeper k l }
 
   -- below level 7 no shard stands; this fills its place where two names share all slots
   abbrev pub no_shard : List Named → Plan
@@ -96,8 +100,7 @@ module _ (X : List ℕ → List ℕ) (N : List ℕ → ℕ) where
   -- the blocks that decide a name in a shard: its own, and those of the shard below in the name's slot, where one stands
   unfoldable pub shard_trail : ℕ → List Named → List ℕ → List Held
   unfolding shard
-  shard_trail zero l name = let own = shard_items no_shard 7 l in (cid_of X DagPb (shard_block own), shard_block own) ∷ []
+  shard_trail zero l name = shard_held (shard_items N no_shard 7 l) ∷ []
   shard_trail (suc left) l name =
-      let own = shard_items (shard left) (6 - left) l in
-      let shared = bucket (6 - left) (slot (N name) (6 - left)) l in
-      (cid_of X DagPb (shard_block own), shard_block own) ∷ where_shared shared (shard_trail left shared name)
+      let shared = bucket N (6 - left) (slot (N name) (6 - left)) l in
+      shard_held (shard_items N (shard left) (6 - left) l) ∷ where_shared shared (shard_trail left shared name)

@@ -1,5 +1,5 @@
 // Laws of the definitions.
-ghost use Rattle.std.specs.Prelude.{◌≡◌, ◌≤◌, ◌==◌, ℕ, List, [], ◌∷◌, ◌++◌, length, IsTrue, if◌then◌else◌};
+ghost use Rattle.std.specs.Prelude.{◌≡◌, ◌≤◌, ◌<◌, ◌^◌, ◌↔◌, ◌==◌, None, ℕ, List, [], ◌∷◌, ◌++◌, length, IsTrue, if◌then◌else◌};
 ghost use Rattle.std.specs.FinMap.Entries.{is_sorted};
 ghost use Rattle.uf_murmur.specs.Slots.{slot};
 ghost use Rattle.uf_tree.specs.declared.nodes.Entry.{Entry};
@@ -12,7 +12,8 @@ ghost use Rattle.uf_tree.specs.FileSub.{IsTop, IsRooted};
 ghost use Rattle.uf_tree.specs.Names.{names_cmp};
 ghost use Rattle.uf_tree.specs.Profiles.{is_profile};
 ghost use Rattle.uf_tree.specs.Nodes.{Named};
-ghost use Rattle.uf_tree.specs.ShardPlan.{bucket, shard_items, slot_item};
+ghost use Rattle.uf_tree.specs.Shardable.{HasShard};
+ghost use Rattle.uf_tree.specs.ShardPlan.{bucket, shard_items, slot_item, twins, same_slots, same_hash};
 ghost use Rattle.uf_tree.specs.Tree.{Tree, Dir, Entries, pairs, entries};
 ghost use Rattle.uf_tree.specs.TreePlan.{entry, named_entries};
 
@@ -29,16 +30,16 @@ pub fn cutting_goes_on()
 
 /// A put of a name changes one slot of a shard, to what its pairs then give.
 pub fn a_put_changes_one_slot()
-    ensures { (X : List ℕ → List ℕ) (N : List ℕ → ℕ) (deeper : List Named → Plan) (k : ℕ) (name : List ℕ) (e : Entry) (l : List Named) → IsTrue (is_sorted names_cmp l)
-        → shard_items X N deeper k (with_name name e l)
-            ≡ set_at (slot (N name) k) (slot_item X N deeper (with_name name e (bucket X N k (slot (N name) k) l))) (shard_items X N deeper k l) }
+    ensures { (N : List ℕ → ℕ) (deeper : List Named → Plan) (k : ℕ) (name : List ℕ) (e : Entry) (l : List Named) → IsTrue (is_sorted names_cmp l)
+        → shard_items N deeper k (with_name name e l)
+            ≡ set_at (slot (N name) k) (slot_item deeper (with_name name e (bucket N k (slot (N name) k) l))) (shard_items N deeper k l) }
 {}
 
 /// A removal of a name changes one slot of a shard, to what its pairs then give.
 pub fn a_removal_changes_one_slot()
-    ensures { (X : List ℕ → List ℕ) (N : List ℕ → ℕ) (deeper : List Named → Plan) (k : ℕ) (name : List ℕ) (l : List Named) → IsTrue (is_sorted names_cmp l)
-        → shard_items X N deeper k (without name l)
-            ≡ set_at (slot (N name) k) (slot_item X N deeper (without name (bucket X N k (slot (N name) k) l))) (shard_items X N deeper k l) }
+    ensures { (N : List ℕ → ℕ) (deeper : List Named → Plan) (k : ℕ) (name : List ℕ) (l : List Named) → IsTrue (is_sorted names_cmp l)
+        → shard_items N deeper k (without name l)
+            ≡ set_at (slot (N name) k) (slot_item deeper (without name (bucket N k (slot (N name) k) l))) (shard_items N deeper k l) }
 {}
 
 /// A directory's entry is that of its members' names and entries.
@@ -66,4 +67,14 @@ pub fn a_file_from_the_root_down_is_its_plan()
 /// A file's plan is the first row that has one part: its entry, and the blocks of all rows up to it.
 pub fn a_file_plan_is_its_first_row_of_one_part()
     ensures { (X : List ℕ → List ℕ) (p : Profile) (bytes : List ℕ) → IsTrue (is_profile p) → (top : ℕ) × IsTop X p bytes (file_plan X p bytes) top }
+{}
+
+/// Level by level a shard has a plan exactly where no two names share all slots from its level on.
+pub fn a_shard_has_a_plan_where_no_names_are_twins()
+    ensures { (N : List ℕ → ℕ) (left : ℕ) (l : List Named) → HasShard N left l ↔ (twins (same_slots N left) l ≡ None) }
+{}
+
+/// From level 0 on two names share all slots exactly where they have one hash.
+pub fn twins_at_level_0_have_one_hash()
+    ensures { (N : List ℕ → ℕ) (l : List Named) → ((name : List ℕ) → N name < 2 ^ 64) → twins (same_slots N 7) l ≡ twins (same_hash N) l }
 {}

@@ -3,4 +3,4 @@ use Rattle.uf_tree.proofs.ShardLaws.{items-remove}
 use Rattle.uf_tree.proofs.laws.a_removal_changes_one_slot.Goals as goal
 
 pub returns : goal.returns
-returns c = λ X N deeper k name l h. items-remove X N deeper k name l (as_T _ h)
+returns c = λ N deeper k name l h. items-remove N deeper k name l (as_T _ h)
