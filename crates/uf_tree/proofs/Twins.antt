@@ -52,10 +52,10 @@ unfolding twins
 Apart-twins same [] h = refl
 Apart-twins same (e ∷ l) h = ap (λ (o : Option Named). elim o [ None ↦ twins same l | Some f ↦ Some (e.0, f.0) ]) (alone_found same e.0 l h.0) ∙ Apart-twins same l h.1
 
-same_key : (a b : ℕ) → a ≡ b → (a == b) ≡ true
+pub same_key : (a b : ℕ) → a ≡ b → (a == b) ≡ true
 same_key a b h = grind (arith, nat_tests)
 
-other_key : (a b : ℕ) → a ≢ b → (a == b) ≡ false
+pub other_key : (a b : ℕ) → a ≢ b → (a == b) ≡ false
 other_key a b h = grind (arith, nat_tests)
 
 -- a test that asks for one key, and then for a further test
@@ -146,7 +146,7 @@ one_more q a b h k = again (a / q) (b / q) (div-div-eq-div-mul a q 256 ∙ h ∙
     again : (x y : ℕ) → x / 256 ≡ y / 256 → x % 256 ≡ y % 256 → x ≡ y
     again x y h k = omega arith
 
-both_true : (a b : Bool) → a && b ≡ true → (a ≡ true) × (b ≡ true)
+pub both_true : (a b : Bool) → a && b ≡ true → (a ≡ true) × (b ≡ true)
 both_true true b h = (refl, h)
 both_true false b h = absurd (no h)
   where

@@ -1,21 +1,24 @@
 // Laws of the definitions.
-ghost use Rattle.std.specs.Prelude.{◌≡◌, ◌≤◌, ◌<◌, ◌^◌, ◌↔◌, ◌==◌, None, ℕ, List, [], ◌∷◌, ◌++◌, length, IsTrue, if◌then◌else◌};
-ghost use Rattle.std.specs.FinMap.Entries.{is_sorted};
+ghost use Rattle.std.specs.Prelude.{◌≡◌, ◌≤◌, ◌<◌, ◌^◌, ◌↔◌, ◌==◌, Option, None, Some, ℕ, List, [], ◌∷◌, ◌+◌, ◌++◌, length, map, IsTrue, if◌then◌else◌};
+ghost use Rattle.std.specs.FinMap.Entries.{is_sorted, find};
+ghost use Rattle.std.specs.List.{AllByRecursion};
+ghost use Rattle.uf_cid.specs.Blocks.{Held, Lookup, Holds, Agrees};
 ghost use Rattle.uf_murmur.specs.Slots.{slot};
 ghost use Rattle.uf_tree.specs.declared.nodes.Entry.{Entry};
 ghost use Rattle.uf_tree.specs.declared.profile.Profile.{Profile};
 ghost use Rattle.uf_tree.specs.Changes.{with_name, without, set_at};
 ghost use Rattle.uf_tree.specs.Cutting.{joined, room_after, glue};
-ghost use Rattle.uf_tree.specs.DirPlan.{own_plan};
-ghost use Rattle.uf_tree.specs.FilePlan.{Plan, split_from, chunks, file_plan};
-ghost use Rattle.uf_tree.specs.FileSub.{IsTop, IsRooted};
+ghost use Rattle.uf_tree.specs.DirPlan.{own_plan, dir_plan, trail, is_sharded};
+ghost use Rattle.uf_tree.specs.FilePlan.{Plan, split_from, chunks, groups, node_over, file_plan};
+ghost use Rattle.uf_tree.specs.FileSub.{IsTop, IsRooted, span, sub};
 ghost use Rattle.uf_tree.specs.Names.{names_cmp};
 ghost use Rattle.uf_tree.specs.Profiles.{is_profile};
 ghost use Rattle.uf_tree.specs.Nodes.{Named};
 ghost use Rattle.uf_tree.specs.Shardable.{HasShard};
 ghost use Rattle.uf_tree.specs.ShardPlan.{bucket, shard_items, slot_item, twins, same_slots, same_hash};
-ghost use Rattle.uf_tree.specs.Tree.{Tree, Dir, Entries, pairs, entries};
-ghost use Rattle.uf_tree.specs.TreePlan.{entry, named_entries};
+ghost use Rattle.uf_tree.specs.Tree.{Tree, Dir, Entries, pairs, entries, is_tree};
+ghost use Rattle.uf_tree.specs.TreePlan.{entry, blocks, named_entries};
+ghost use Rattle.uf_tree.specs.Validity.{IsHash, IsEntry, IsNamed, IsDirectory, IsShard, IsFileNode};
 
 /// Nothing of a file is lost or turned round when it is cut.
 pub fn the_pieces_are_the_file()
@@ -77,4 +80,49 @@ pub fn a_shard_has_a_plan_where_no_names_are_twins()
 /// From level 0 on two names share all slots exactly where they have one hash.
 pub fn twins_at_level_0_have_one_hash()
     ensures { (N : List ℕ → ℕ) (l : List Named) → ((name : List ℕ) → N name < 2 ^ 64) → twins (same_slots N 7) l ≡ twins (same_hash N) l }
+{}
+
+/// A directory's plan depends only on what its names name, and not on how its list came about.
+pub fn a_directory_depends_on_its_names_alone()
+    ensures { (X : List ℕ → List ℕ) (N : List ℕ → ℕ) (p : Profile) (l m : List Named) → IsTrue (is_sorted names_cmp l) → IsTrue (is_sorted names_cmp m)
+        → ((name : List ℕ) → find names_cmp name l ≡ find names_cmp name m) → dir_plan X N p l ≡ dir_plan X N p m }
+{}
+
+/// A directory has a plan unless it is sharded and two of its names have one hash.
+pub fn a_directory_has_a_plan_unless_names_collide()
+    ensures { (X : List ℕ → List ℕ) (N : List ℕ → ℕ) (p : Profile) (l : List Named) → ((name : List ℕ) → N name < 2 ^ 64)
+        → dir_plan X N p l ≡ elim (if is_sharded p l then twins (same_hash N) l else None) [ None ↦ Some (own_plan X N p l) | Some names ↦ None ] }
+{}
+
+/// The blocks that decide a name are blocks of the directory.
+pub fn a_trail_is_among_the_blocks()
+    ensures holds { (X : List ℕ → List ℕ) (N : List ℕ → ℕ) (p : Profile) (l : List Named) (name : List ℕ) (held : Lookup) → Holds held (own_plan X N p l).blocks → Holds held (trail X N p l name) }
+    ensures agrees { (X : List ℕ → List ℕ) (N : List ℕ → ℕ) (p : Profile) (l : List Named) (name : List ℕ) (held : Lookup) → Agrees held (own_plan X N p l).blocks → Agrees held (trail X N p l name) }
+{}
+
+/// Each block of a tree is under the CID of its digest.
+pub fn blocks_are_under_their_digests()
+    ensures { (X : List ℕ → List ℕ) (N : List ℕ → ℕ) (p : Profile) (t : Tree) → AllByRecursion (λ (b : Held). b.0.digest ≡ X b.1) (blocks X N p t) }
+{}
+
+/// The entry of every tree is valid.
+pub fn the_entry_of_a_tree_is_valid()
+    ensures { (X : List ℕ → List ℕ) (N : List ℕ → ℕ) (p : Profile) (t : Tree) → IsHash X → IsTrue (is_profile p) → IsEntry (entry X N p t) }
+{}
+
+/// The names and entries of every directory are valid.
+pub fn the_pairs_of_a_directory_are_valid()
+    ensures { (X : List ℕ → List ℕ) (N : List ℕ → ℕ) (p : Profile) (es : Entries) → IsHash X → IsTrue (is_profile p) → IsTrue (is_tree (Dir es)) → IsDirectory (named_entries X N p es) }
+{}
+
+/// The slots of every shard of valid pairs are valid.
+pub fn the_slots_of_a_shard_are_valid()
+    ensures { (N : List ℕ → ℕ) (deeper : List Named → Plan) (k : ℕ) (l : List Named) → ((m : List Named) → IsEntry (deeper m).entry)
+        → AllByRecursion IsNamed l → 1 ≤ length l → IsShard (shard_items N deeper k l) }
+{}
+
+/// The nodes of every file are valid.
+pub fn the_nodes_of_a_file_are_valid()
+    ensures { (X : List ℕ → List ℕ) (p : Profile) (k : ℕ) (bytes : List ℕ) → IsHash X → IsTrue (is_profile p) → length bytes ≤ span p.chunk p.width (k + 1) → length bytes < 2 ^ 63
+        → IsFileNode (node_over (map (sub X p.chunk p.width k) (groups (span p.chunk p.width k) bytes))) }
 {}
