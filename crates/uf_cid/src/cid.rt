@@ -19,6 +19,23 @@ pub struct Cid {
     pub digest: [u8; 32],
 }
 
+/// Why bytes or a text are no CID.
+#[derive(Clone, Copy, Debug, PartialEq, Eq)]
+pub enum CidFault {
+    /// It ends too early.
+    Short,
+    /// The version is none that is read here.
+    Version,
+    /// The codec is neither `raw` nor `dag-pb`.
+    Codec,
+    /// The multihash is none of sha2-256 with 32 bytes.
+    Hash,
+    /// The text is no base32, or has bits left over.
+    Base,
+    /// More bytes follow the CID.
+    Trailing,
+}
+
 impl Cid {
     ghost use Rattle.uf_cid.specs.Cid.{cid_of, cid_bytes, cid_text};
 

@@ -4,9 +4,18 @@
 mod bytes;
 mod cid;
 mod hash;
+mod laws;
+mod read;
 mod seq;
 
 pub use bytes::{Block, Memory, StrictFault, Text};
-pub use cid::{Cid, Codec};
+pub use cid::{Cid, CidFault, Codec};
 pub use hash::{BlockHash, Sha256Hash, Sum8Hash};
+pub use laws::{
+    binary_is_one, binary_is_read_again, cases_are_one, cids_are_whole, slices_hold_bytes,
+    text_is_read_again,
+};
 pub use seq::{Cids, Copied, Seq, Sizes, Texts};
+
+#[cfg(test)]
+mod tests;

@@ -1,0 +1,4 @@
+pub mod Cutting
+pub mod Loops
+pub mod Tables
+pub mod Varints
