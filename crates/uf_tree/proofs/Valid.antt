@@ -27,7 +27,7 @@ use Rattle.uf_tree.specs.Profiles.{is_profile}
 use Rattle.uf_tree.specs.ShardPlan.{shard, shard_items, slot_item, bucket, tabulate, no_shard}
 use Rattle.uf_tree.specs.Tree.{Tree, File, Dir, Entries, Nothing, With, pairs, is_tree, are_trees, fold}
 use Rattle.uf_tree.specs.TreePlan.{entry, named_entries, planned}
-use Rattle.uf_tree.specs.Validity.{IsHash, IsCid, IsEntry, IsNamed, IsDirectory, IsItem, IsInSlot, IsShard, IsPartLink, IsFileNode}
+use Rattle.uf_tree.specs.Validity.{IsHash, IsEntry, IsNamed, IsDirectory, IsItem, IsInSlot, IsShard, IsPartLink, IsFileNode}
 use Rattle.uf_tree.proofs.Each.{each_filter, each_tabulate, each_map}
 use Rattle.uf_tree.proofs.Groups.{joined-split, length-split, width-split, room-below}
 use Rattle.uf_tree.proofs.Rows.{file_plan-rows}

@@ -1,11 +1,13 @@
 -- The canonical blocks of files, directories and shards: UnixFS v1 messages in DAG-PB nodes (UnixFS v1, "Data Format",
 -- "File", "Directory" and "HAMTDirectory"; IPLD DAG-PB, "Serial Format").
 use Rattle.std.specs.Prelude.{ℕ, ◌+◌, ◌-◌, ◌*◌, ◌/◌, ◌%◌, ◌^◌, List, [], ◌∷◌, ◌++◌, length, map, min, sum, Bool, ◌==◌, nat_lt, if◌then◌else◌}
-use Rattle.std.specs.declared.option.Option.TheVariants.{Some}
-use Rattle.std.specs.List.{flat_map, sum_by, list_any, range_with_len}
+use Rattle.std.specs.declared.option.Option.TheVariants.{None, Some}
+use Rattle.std.specs.List.{sum_by, list_any, range_with_len}
 use Rattle.uf_cid.specs.Cid.{cid_of}
 use Rattle.uf_cid.specs.declared.cid.Codec.TheVariants.{DagPb}
-use Rattle.uf_varint.specs.Fields.{content_field, number_field}
+use Rattle.uf_message.specs.Spelling.{message_bytes}
+use Rattle.uf_message.specs.declared.message.Message.{Message}
+use Rattle.uf_message.specs.declared.message.MsgKind.TheVariants.{Directory, File, Shard}
 use Rattle.uf_dagpb.specs.Spelling.{node_bytes}
 use Rattle.uf_dagpb.specs.declared.node.Link.{Link}
 use Rattle.uf_dagpb.specs.declared.node.Node.{Node}
@@ -34,21 +36,25 @@ node_entry X bytes below = record { cid = cid_of X DagPb bytes; tsize = capped (
 abbrev pub link_of : List ℕ → Entry → Link
 link_of name e = record { cid = e.cid; name = name; tsize = e.tsize }
 
--- the message of a file's node: type File (2), all bytes below it, and the bytes below each link
-unfoldable pub file_message : List ℕ → List ℕ
-file_message sizes = number_field 0x08 2 ++ number_field 0x18 (sum sizes) ++ flat_map (number_field 0x20) sizes
+-- the message of a file's node: all bytes below it, and the bytes below each link
+abbrev pub file_message : List ℕ → Message
+file_message sizes = record {
+  kind = File; content = None; filesize = Some (sum sizes); blocksizes = sizes;
+  hash_type = None; fanout = None; mode = None; mtime = None }
 
 -- the block of a file's node
 unfoldable pub file_block : FileNode → List ℕ
-file_block node = node_bytes (record { links = node.parts; content = Some (file_message node.sizes) })
+file_block node = node_bytes (record { links = node.parts; content = Some (message_bytes (file_message node.sizes)) })
 
--- the message of a basic directory: type Directory (1)
-abbrev pub dir_message : List ℕ
-dir_message = number_field 0x08 1
+-- the message of a basic directory: nothing but its kind
+abbrev pub dir_message : Message
+dir_message = record {
+  kind = Directory; content = None; filesize = None; blocksizes = [];
+  hash_type = None; fanout = None; mode = None; mtime = None }
 
 -- the block of a basic directory: one link for each name
 unfoldable pub dir_block : List Named → List ℕ
-dir_block l = node_bytes (record { links = map (λ (e : Named). link_of e.0 e.1) l; content = Some dir_message })
+dir_block l = node_bytes (record { links = map (λ (e : Named). link_of e.0 e.1) l; content = Some (message_bytes dir_message) })
 
 -- a digit of a slot, in upper case
 abbrev pub hex_digit : ℕ → ℕ
@@ -89,11 +95,12 @@ without_zeros (b ∷ bs) = if b == 0 then without_zeros bs else b ∷ bs
 unfoldable pub bitfield : List ℕ → List ℕ
 bitfield slots = without_zeros (map (λ k. bitfield_byte slots (31 - k)) (range_with_len 0 32))
 
--- the message of a shard: type HAMTShard (5), the bitfield, hash type 0x22 and fanout 256
-unfoldable pub shard_message : List ℕ → List ℕ
-unfolding bitfield
-shard_message slots = number_field 0x08 5 ++ content_field 0x12 (bitfield slots) ++ number_field 0x28 0x22 ++ number_field 0x30 256
+-- the message of a shard: the bitfield, hash type 0x22 and fanout 256
+abbrev pub shard_message : List ℕ → Message
+shard_message slots = record {
+  kind = Shard; content = Some (bitfield slots); filesize = None; blocksizes = [];
+  hash_type = Some 0x22; fanout = Some 256; mode = None; mtime = None }
 
 -- the block of a shard: one link for each slot that has something
 unfoldable pub shard_block : List InSlot → List ℕ
-shard_block items = node_bytes (record { links = map slot_link items; content = Some (shard_message (map (λ (p : InSlot). p.0) items)) })
+shard_block items = node_bytes (record { links = map slot_link items; content = Some (message_bytes (shard_message (map (λ (p : InSlot). p.0) items))) })

@@ -4,7 +4,7 @@ use Rattle.std.specs.List.{AllByRecursion}
 use Rattle.std.specs.Ordering.{nat_cmp}
 use Rattle.std.specs.FinMap.Entries.{is_sorted}
 use Rattle.uf_cid.specs.Bytes.{IsBytes}
-use Rattle.uf_cid.specs.declared.cid.Cid.{Cid}
+use Rattle.uf_cid.specs.Read.{IsCid}
 use Rattle.uf_dagpb.specs.declared.node.Link.{Link}
 use Rattle.uf_tree.specs.declared.nodes.Entry.{Entry}
 use Rattle.uf_tree.specs.declared.nodes.FileNode.{FileNode}
@@ -17,11 +17,6 @@ use Rattle.uf_tree.specs.Nodes.{Named, InSlot}
 pub record IsHash (X : List ℕ → List ℕ) : Type 0 where
   pub size : (block : List ℕ) → length (X block) ≡ 32
   pub are_bytes : (block : List ℕ) → IsBytes (X block)
-
--- a CID whose digest has 32 bytes
-pub record IsCid (c : Cid) : Type 0 where
-  pub size : length c.digest ≡ 32
-  pub bytes : IsBytes c.digest
 
 -- a CID, and a Tsize of 64 bits
 pub record IsEntry (e : Entry) : Type 0 where
