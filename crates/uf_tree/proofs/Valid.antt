@@ -20,7 +20,7 @@ use Rattle.uf_tree.specs.declared.profile.Profile.{Profile}
 use Rattle.uf_tree.specs.Cutting.{joined, room_after}
 use Rattle.uf_tree.specs.DirPlan.{own_plan, basic_dir, is_sharded}
 use Rattle.uf_tree.specs.FilePlan.{Plan, file_plan, groups, split_from, node_over, node_part, leaf_part}
-use Rattle.uf_tree.specs.FileSub.{span, sub, IsHeight}
+use Rattle.uf_tree.specs.FileSub.{span, part_over, IsHeight}
 use Rattle.uf_tree.specs.Names.{names_cmp, is_name}
 use Rattle.uf_tree.specs.Nodes.{Named, InSlot, node_entry}
 use Rattle.uf_tree.specs.Profiles.{is_profile}
@@ -58,8 +58,8 @@ module _ (X : List ℕ → List ℕ) (good : IsHash X) where
     | false ↦ record { cid = record { size = good.size _; bytes = good.are_bytes _ }; tsize = below_cap _ } ]
 
   -- of the part of a height over no more bytes than it can have
-  pub sub-valid : (p : Profile) → IsTrue (is_profile p) → (k : ℕ) (bytes : List ℕ) → length bytes ≤ span p.chunk p.width k → IsEntry (sub X p.chunk p.width k bytes).entry
-  unfolding sub span
+  pub sub-valid : (p : Profile) → IsTrue (is_profile p) → (k : ℕ) (bytes : List ℕ) → length bytes ≤ span p.chunk p.width k → IsEntry (part_over X p.chunk p.width k bytes).entry
+  unfolding part_over span
   sub-valid p ok zero bytes h = leaf-valid bytes (let short : p.chunk ≤ 1048576 = (kept p ok).short in omega arith)
   sub-valid p ok (suc k) bytes h = record { cid = record { size = good.size _; bytes = good.are_bytes _ }; tsize = below_cap _ }
 
@@ -140,7 +140,7 @@ shard_items-valid N deeper good k l h some = record {
 
 module _ (X : List ℕ → List ℕ) (good : IsHash X) (p : Profile) (ok : IsTrue (is_profile p)) where
   -- the sizes of the parts of a height are the numbers of their bytes
-  sum_sizes : (gs : List (List ℕ)) (f : List ℕ → Part) → ((g : List ℕ) → (f g).size ≡ length g) → sum_by (λ (m : Part). m.size) (map f gs) ≡ length (joined gs)
+  pub sum_sizes : (gs : List (List ℕ)) (f : List ℕ → Part) → ((g : List ℕ) → (f g).size ≡ length g) → sum_by (λ (m : Part). m.size) (map f gs) ≡ length (joined gs)
   sum_sizes [] f h = refl
   sum_sizes (g ∷ gs) f h = 
       let front : sum_by (λ (m : Part). m.size) (map f (g ∷ gs)) ≡ (f g).size + sum_by (λ (m : Part). m.size) (map f gs) = sum_by-cons (λ (m : Part). m.size) (f g) (map f gs) in
@@ -149,10 +149,10 @@ module _ (X : List ℕ → List ℕ) (good : IsHash X) (p : Profile) (ok : IsTru
       let rest : sum_by (λ (m : Part). m.size) (map f gs) ≡ length (joined gs) = sum_sizes gs f h in
       omega arith
 
-  pub sub-size : (k : ℕ) (bytes : List ℕ) → (sub X p.chunk p.width k bytes).size ≡ length bytes
-  unfolding sub
+  pub sub-size : (k : ℕ) (bytes : List ℕ) → (part_over X p.chunk p.width k bytes).size ≡ length bytes
+  unfolding part_over
   sub-size zero bytes = refl
-  sub-size (suc k) bytes = sum_sizes (groups (span p.chunk p.width k) bytes) (sub X p.chunk p.width k) (sub-size k) ∙ ap length (joined-split (span p.chunk p.width k) (span p.chunk p.width k) bytes)
+  sub-size (suc k) bytes = sum_sizes (groups (span p.chunk p.width k) bytes) (part_over X p.chunk p.width k) (sub-size k) ∙ ap length (joined-split (span p.chunk p.width k) (span p.chunk p.width k) bytes)
 
   few_groups : (s w : ℕ) → 1 ≤ s → (bytes : List ℕ) → length bytes ≤ w * s → 1 ≤ w → length (groups s bytes) ≤ w
   few_groups s w h [] k j = omega arith
@@ -174,23 +174,23 @@ module _ (X : List ℕ → List ℕ) (good : IsHash X) (p : Profile) (ok : IsTru
 
   -- a node over no more bytes than its height can have
   pub file_node-valid : (k : ℕ) (bytes : List ℕ) → length bytes ≤ span p.chunk p.width (suc k) → length bytes < 2 ^ 63
-      → IsFileNode (node_over (map (sub X p.chunk p.width k) (groups (span p.chunk p.width k) bytes)))
+      → IsFileNode (node_over (map (part_over X p.chunk p.width k) (groups (span p.chunk p.width k) bytes)))
   unfolding span
   file_node-valid k bytes fit small =
       let s = span p.chunk p.width k in
       let pos : 1 ≤ s = span-pos p.chunk p.width k (kept p ok).some (let two : 2 ≤ p.width = (kept p ok).two in omega arith) in
       let gs = groups s bytes in
-      let parts = map (sub X p.chunk p.width k) gs in
+      let parts = map (part_over X p.chunk p.width k) gs in
       let links : length (node_over parts).parts ≡ length parts = length-map parts _ in
       let sizes : length (node_over parts).sizes ≡ length parts = length-map parts _ in
       let count : length parts ≡ length gs = length-map gs _ in
       let few : length gs ≤ p.width = few_groups s p.width pos bytes fit (let two : 2 ≤ p.width = (kept p ok).two in omega arith) in
       let most : p.width ≤ 1024 = (kept p ok).few in
       let widths = width-split s s bytes pos (omega arith) in
-      let total : sum (node_over parts).sizes ≡ length bytes = sum-map (λ (m : Part). m.size) parts ∙ sum_sizes gs (sub X p.chunk p.width k) (sub-size k) ∙ ap length (joined-split s s bytes) in
+      let total : sum (node_over parts).sizes ≡ length bytes = sum-map (λ (m : Part). m.size) parts ∙ sum_sizes gs (part_over X p.chunk p.width k) (sub-size k) ∙ ap length (joined-split s s bytes) in
       record {
         some = omega arith;
         few = omega arith;
         sizes = sizes ∙ sym links;
         total = omega arith;
-        each = links-valid (sub X p.chunk p.width k) gs s (λ g h. sub-valid X good p ok k g h) (widths.0, widths.1) }
+        each = links-valid (part_over X p.chunk p.width k) gs s (λ g h. sub-valid X good p ok k g h) (widths.0, widths.1) }
