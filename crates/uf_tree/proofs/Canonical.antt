@@ -1,33 +1,29 @@
 -- The blocks of plans are canonical in their roles.
-use Rattle.std.proofs.Common.{◌≡◌, ◌≢◌, ℕ, zero, suc, ◌+◌, ◌-◌, ◌*◌, ◌^◌, ◌<◌, ◌≤◌, List, [], ◌∷◌, ◌++◌, length, map, refl, ap, arith, sym, ◌∙◌, subst, ◌⊎◌, inl, inr, Bool, true, false, cond, Option, Some, None, replicate, add-one, mul_assoc}
+use Rattle.std.proofs.Common.{◌≡◌, ℕ, zero, suc, ◌+◌, ◌-◌, ◌*◌, ◌^◌, ◌<◌, ◌≤◌, List, [], ◌∷◌, ◌++◌, length, map, refl, ap, arith, sym, ◌∙◌, subst, ◌⊎◌, inl, inr, Bool, true, false, cond, Some, replicate, add-one, mul_assoc}
 use Rattle.std.proofs.lemmas.Nat.{pow-add}
-use Rattle.std.specs.Prelude.{◌==◌, IsTrue, IfSome, sum, nat_lt}
-use Rattle.std.specs.List.{AllByRecursion, sum_by, range_with_len}
-use Rattle.std.proofs.Math.Nat.{mul-le-mul, mul-le-mul_left}
-use Rattle.std.proofs.lemmas.Bool.{cases_eq, cases_lt}
+use Rattle.std.specs.Prelude.{◌==◌, IsTrue, IfSome, sum}
+use Rattle.std.specs.List.{AllByRecursion, range_with_len}
+use Rattle.std.proofs.Math.Nat.{mul-le-mul}
+use Rattle.std.proofs.lemmas.Bool.{cases_lt}
 use Rattle.std.proofs.lemmas.Bool.Decides.{nat_tests}
 use Rattle.std.proofs.lemmas.List.{length-map, map-append}
 use Rattle.std.proofs.lemmas.List.Sums.{sum-map}
-use Rattle.uf_cid.specs.declared.cid.Codec.TheVariants.{Raw, DagPb}
 use Rattle.uf_dagpb.specs.declared.node.Link.{Link}
 use Rattle.uf_murmur.specs.Slots.{slot}
-use Rattle.uf_tree.specs.declared.nodes.Item.{Item}
-use Rattle.uf_tree.specs.declared.nodes.Item.TheVariants.{Leaf, Sub}
 use Rattle.uf_tree.specs.declared.nodes.Part.{Part}
 use Rattle.uf_tree.specs.declared.profile.Profile.{Profile}
 use Rattle.uf_tree.specs.DirPlan.{is_sharded, weight}
 use Rattle.uf_tree.specs.FilePlan.{Plan, groups, node_over}
 use Rattle.uf_tree.specs.FileSub.{span, part_over, IsHeight}
-use Rattle.uf_tree.specs.Nodes.{Named, InSlot, file_block, dir_block, shard_block}
+use Rattle.uf_tree.specs.Nodes.{Named, file_block, dir_block, shard_block}
 use Rattle.uf_tree.specs.Profiles.{is_profile}
-use Rattle.uf_tree.specs.Roles.{IsCanonicalDirectory, Basic, Sharded, IsCanonicalShard, IsOnWay, IsCanonicalFileNode, FilePlace, Root, Below, IsPlanned, part_sizes, part_codec}
+use Rattle.uf_tree.specs.Roles.{IsCanonicalDirectory, Basic, Sharded, IsCanonicalShard, IsOnWay, IsCanonicalFileNode, Root, Below, part_sizes, part_codec}
 use Rattle.uf_tree.specs.Shardable.{HasShard}
 use Rattle.uf_tree.specs.ShardPlan.{shard, shard_items, slot_item, bucket}
-use Rattle.uf_tree.specs.Validity.{IsHash, IsEntry, IsNamed, IsDirectory, IsShard}
+use Rattle.uf_tree.specs.Validity.{IsHash, IsEntry, IsNamed, IsDirectory}
 use Rattle.uf_tree.proofs.Each.{each_tabulate}
 use Rattle.uf_tree.proofs.Groups.{joined-split}
 use Rattle.uf_tree.proofs.Nested.{groups-map}
-use Rattle.uf_tree.proofs.Tests.{kept}
 use Rattle.uf_tree.proofs.Valid.{shard-valid, shard_items-valid, file_node-valid, sub-size, sum_sizes}
 
 light : (p : Profile) (l : List Named) → is_sharded p l ≡ false → weight l ≤ p.threshold
@@ -96,11 +92,12 @@ module _ (N : List ℕ → ℕ) where
       → AllByRecursion IsNamed l → 1 ≤ length l → AllByRecursion (Along way) l → HasShard N left l
       → IsCanonicalShard N way (shard_block (shard_items N deeper (length way) l))
   shard-canonical deeper good left way l e named some along has = record {
-      items = shard_items N deeper (length way) l;
-      valid = shard_items-valid N deeper good (length way) l named some;
-      on_way = each_tabulate (IsOnWay N way) 256 0 256 (λ s. slot_item deeper (bucket N (length way) s l)) (omega arith)
+    items = shard_items N deeper (length way) l;
+    valid = shard_items-valid N deeper good (length way) l named some;
+    on_way = each_tabulate (IsOnWay N way) 256 0 256 (λ s. slot_item deeper (bucket N (length way) s l)) (omega arith)
         (λ s less. item_on_way deeper way s (bucket N (length way) s l) (along_bucket way s l along) (few_last left way l e has s));
-      is = refl }
+    is = refl;
+  }
 
 abbrev nought : ℕ → ℕ
 nought b = 0
@@ -144,27 +141,30 @@ module _ (X : List ℕ → List ℕ) (good : IsHash X) (p : Profile) (ok : IsTru
       → length bytes ≤ span p.chunk p.width (suc k) → length bytes < 2 ^ 63
       → IsCanonicalFileNode (Some p) (Below above (length bytes) whole) (file_block (node_over (node_at k bytes)))
   node-canonical above k whole bytes height few fit small = record {
-      node = node_over (node_at k bytes);
-      valid = file_node-valid X good p ok k bytes fit small;
-      few = few;
-      declared = total k bytes;
-      planned = record { below = k; height = height; sizes = planned_sizes k bytes; codecs = codecs_are k (groups (span p.chunk p.width k) bytes) };
-      is = refl }
+    node = node_over (node_at k bytes);
+    valid = file_node-valid X good p ok k bytes fit small;
+    few = few;
+    declared = total k bytes;
+    planned = record { below = k; height = height; sizes = planned_sizes k bytes; codecs = codecs_are k (groups (span p.chunk p.width k) bytes) };
+    is = refl;
+  }
 
   -- the root of a file that has a node
   pub root-canonical : (k : ℕ) (bytes : List ℕ) → IsHeight p.chunk p.width (length bytes) (suc k) → length bytes < 2 ^ 63
       → IsCanonicalFileNode (Some p) Root (file_block (node_over (node_at k bytes)))
   root-canonical k bytes height small = record {
-      node = node_over (node_at k bytes);
-      valid = file_node-valid X good p ok k bytes height.fits small;
-      few = omega arith;
-      declared = tt;
-      planned = record {
-        below = k;
-        height = subst (λ n. IsHeight p.chunk p.width n (0 + suc k)) (sym (total k bytes)) (subst (λ h. IsHeight p.chunk p.width (length bytes) h) (let z : suc k ≡ 0 + suc k = omega arith in z) height);
-        sizes = planned_sizes k bytes;
-        codecs = codecs_are k (groups (span p.chunk p.width k) bytes) };
-      is = refl }
+    node = node_over (node_at k bytes);
+    valid = file_node-valid X good p ok k bytes height.fits small;
+    few = omega arith;
+    declared = tt;
+    planned = record {
+      below = k;
+      height = subst (λ n. IsHeight p.chunk p.width n (0 + suc k)) (sym (total k bytes)) (subst (λ h. IsHeight p.chunk p.width (length bytes) h) (let z : suc k ≡ 0 + suc k = omega arith in z) height);
+      sizes = planned_sizes k bytes;
+      codecs = codecs_are k (groups (span p.chunk p.width k) bytes);
+    };
+    is = refl;
+  }
 
 -- each row at least doubles the bytes that a part may have
 doubles : (c w k : ℕ) → 2 ≤ w → c * 2 ^ k ≤ span c w k

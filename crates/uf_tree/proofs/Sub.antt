@@ -1,17 +1,14 @@
 -- A file from the root down.
-use Rattle.std.proofs.Common.{◌≡◌, ℕ, zero, suc, pred, ◌+◌, ◌-◌, ◌*◌, ◌<◌, ◌≤◌, List, [], ◌∷◌, ◌++◌, length, refl, ap, arith, sym, ◌∙◌, map, take, drop, subst}
+use Rattle.std.proofs.Common.{◌≡◌, ℕ, zero, suc, ◌+◌, ◌*◌, ◌<◌, ◌≤◌, List, [], ◌∷◌, ◌++◌, length, refl, ap, arith, sym, ◌∙◌, map, subst}
 use Rattle.std.proofs.Math.Nat.{mul-le-mul, mul-le-mul_left}
-use Rattle.std.proofs.Common.{◌⊎◌, inl, inr, ◌≢◌}
-use Rattle.std.proofs.lemmas.Bool.{cases_eq}
 use Rattle.std.proofs.lemmas.List.{length-map, append-nil}
-use Rattle.uf_tree.specs.FilePlan.{split_from, groups, climb, Plan, node_part, leaf_part, file_plan, node_held}
+use Rattle.uf_tree.specs.FilePlan.{split_from, groups, climb, node_part, leaf_part}
 use Rattle.uf_cid.specs.Blocks.{Held}
 use Rattle.uf_tree.specs.Cutting.{joined, room_after}
 use Rattle.uf_tree.specs.declared.nodes.Part.{Part}
-use Rattle.uf_tree.specs.FileSub.{span, part_over, IsHeight, IsTop}
-use Rattle.uf_tree.specs.declared.profile.Profile.{Profile}
+use Rattle.uf_tree.specs.FileSub.{span, part_over}
 use Rattle.uf_tree.proofs.Groups.{fewer, length-split, width-split, joined-split, room-below}
-use Rattle.uf_tree.proofs.Nested.{groups-product, groups-map, whole, split-map}
+use Rattle.uf_tree.proofs.Nested.{groups-product, groups-map, whole}
 
 pub span-pos : (c w k : ℕ) → 1 ≤ c → 1 ≤ w → 1 ≤ span c w k
 unfolding span

@@ -7,11 +7,10 @@ use Rattle.uf_cid.specs.Read.{IsCid}
 use Rattle.uf_cid.specs.declared.cid.Cid.{Cid}
 use Rattle.uf_cid.specs.declared.cid.Codec.TheVariants.{DagPb}
 use Rattle.uf_tree.specs.declared.profile.Profile.{Profile}
-use Rattle.uf_tree.specs.Tree.{Tree, Dir, Entries, is_tree}
+use Rattle.uf_tree.specs.Tree.{Dir, Entries, is_tree}
 use Rattle.uf_tree.specs.TreePlan.{entry, blocks, refusal}
 use Rattle.uf_tree.specs.Heads.{head_text}
 use Rattle.uf_tree.specs.Profiles.{is_profile}
-
 
 -- the Head is the text of this profile and of the root of the directory of these entries, which has a plan, and all blocks of the plan are held
 pub record StandsFor (X : List ℕ → List ℕ) (N : List ℕ → ℕ) (held : Lookup) (head : Option (List ℕ)) (p : Profile) (es : Entries) : Type 0 where

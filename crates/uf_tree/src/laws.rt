@@ -5,11 +5,12 @@ ghost use Rattle.std.specs.List.{AllByRecursion, range_with_len};
 ghost use Rattle.uf_cid.specs.Blocks.{Held, Lookup, Holds, Agrees};
 ghost use Rattle.uf_murmur.specs.Slots.{slot};
 ghost use Rattle.uf_tree.specs.declared.nodes.Entry.{Entry};
+ghost use Rattle.uf_tree.specs.declared.nodes.Part.{Part};
 ghost use Rattle.uf_tree.specs.declared.profile.Profile.{Profile};
 ghost use Rattle.uf_tree.specs.Changes.{with_name, without, set_at};
 ghost use Rattle.uf_tree.specs.Cutting.{joined, room_after, glue};
 ghost use Rattle.uf_tree.specs.DirPlan.{own_plan, dir_plan, trail, is_sharded};
-ghost use Rattle.uf_tree.specs.FilePlan.{Plan, split_from, chunks, groups, node_over, file_plan};
+ghost use Rattle.uf_tree.specs.FilePlan.{Plan, split_from, chunks, groups, node_over, climb, file_plan};
 ghost use Rattle.uf_tree.specs.FileSub.{IsTop, IsRooted, IsHeight, span, part_over};
 ghost use Rattle.uf_tree.specs.Names.{names_cmp};
 ghost use Rattle.uf_tree.specs.Profiles.{is_profile};
@@ -32,18 +33,24 @@ pub fn cutting_goes_on()
         ≡ glue (split_from w r front).0 (split_from w r front).1 (split_from w (room_after w r front) behind) }
 {}
 
+/// The rows of a file end before the fuel, so the fuel doesn't matter.
+pub fn the_rows_end_before_the_fuel()
+    ensures { (X : List ℕ → List ℕ) (width fuel other : ℕ) (first : Part) (rest : List Part) → 2 ≤ width → length rest ≤ fuel → length rest ≤ other
+        → climb X width fuel first rest ≡ climb X width other first rest }
+{}
+
 /// A put of a name changes one slot of a shard, to what its pairs then give.
 pub fn a_put_changes_one_slot()
     ensures { (N : List ℕ → ℕ) (deeper : List Named → Plan) (k : ℕ) (name : List ℕ) (e : Entry) (l : List Named) → IsTrue (is_sorted names_cmp l)
         → shard_items N deeper k (with_name name e l)
-            ≡ set_at (slot (N name) k) (slot_item deeper (with_name name e (bucket N k (slot (N name) k) l))) (shard_items N deeper k l) }
+        ≡ set_at (slot (N name) k) (slot_item deeper (with_name name e (bucket N k (slot (N name) k) l))) (shard_items N deeper k l) }
 {}
 
 /// A removal of a name changes one slot of a shard, to what its pairs then give.
 pub fn a_removal_changes_one_slot()
     ensures { (N : List ℕ → ℕ) (deeper : List Named → Plan) (k : ℕ) (name : List ℕ) (l : List Named) → IsTrue (is_sorted names_cmp l)
         → shard_items N deeper k (without name l)
-            ≡ set_at (slot (N name) k) (slot_item deeper (without name (bucket N k (slot (N name) k) l))) (shard_items N deeper k l) }
+        ≡ set_at (slot (N name) k) (slot_item deeper (without name (bucket N k (slot (N name) k) l))) (shard_items N deeper k l) }
 {}
 
 /// A directory's entry is that of its members' names and entries.
