@@ -21,8 +21,8 @@ pub record StandsFor (X : List ℕ → List ℕ) (N : List ℕ → ℕ) (held : 
   pub blocks_held : Holds held (blocks X N p (Dir es))
 
 -- the text is that of no profile and no CID of a directory's block
-abbrev pub IsNoHead : List ℕ → Type 0
-IsNoHead text = (p : Profile) (c : Cid) → IsTrue (is_profile p) → IsCid c → c.codec ≡ DagPb → text ≢ head_text p c
+abbrev pub IsRefusedText : List ℕ → Type 0
+IsRefusedText text = (p : Profile) (c : Cid) → IsTrue (is_profile p) → IsCid c → c.codec ≡ DagPb → text ≢ head_text p c
 
 -- there is no Head, or one that isn't read, or a profile and the entries of the root
 pub data Standing : Type 0 where
@@ -32,7 +32,7 @@ pub data Standing : Type 0 where
 -- there is a Head that isn't read
 abbrev pub IsBadHead : Option (List ℕ) → Type 0
 IsBadHead None = ⊥
-IsBadHead (Some text) = IsNoHead text
+IsBadHead (Some text) = IsRefusedText text
 
 -- what is held and the Head stand so
 abbrev pub StandsAs : (List ℕ → List ℕ) → (List ℕ → ℕ) → Lookup → Option (List ℕ) → Standing → Type 0
