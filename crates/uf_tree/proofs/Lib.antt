@@ -4,6 +4,7 @@ pub mod Climb
 pub mod Each
 pub mod Groups
 pub mod Held
+pub mod Least
 pub mod Nested
 pub mod Rows
 pub mod ShardLaws

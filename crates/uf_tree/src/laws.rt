@@ -1,5 +1,5 @@
 // Laws of the definitions.
-ghost use Rattle.std.specs.Prelude.{◌≡◌, true, false, ◌≤◌, ◌<◌, ◌*◌, ◌^◌, ◌↔◌, ◌==◌, Option, None, Some, ℕ, List, [], ◌∷◌, ◌+◌, ◌++◌, length, map, IsTrue, if◌then◌else◌};
+ghost use Rattle.std.specs.Prelude.{◌≡◌, Bool, true, false, ◌≤◌, ◌<◌, ◌*◌, ◌^◌, ◌↔◌, ◌==◌, Option, None, Some, ℕ, List, [], ◌∷◌, ◌+◌, ◌++◌, length, map, IsTrue, if◌then◌else◌};
 ghost use Rattle.std.specs.FinMap.Entries.{is_sorted, find};
 ghost use Rattle.std.specs.List.{AllByRecursion, range_with_len};
 ghost use Rattle.uf_cid.specs.Blocks.{Held, Lookup, Holds, Agrees};
@@ -13,6 +13,7 @@ ghost use Rattle.uf_tree.specs.Cutting.{joined, room_after, glue};
 ghost use Rattle.uf_tree.specs.DirPlan.{own_plan, dir_plan, trail, is_sharded};
 ghost use Rattle.uf_tree.specs.FilePlan.{Plan, split_from, chunks, groups, node_over, climb, file_plan};
 ghost use Rattle.uf_tree.specs.FileSub.{IsTop, IsRooted, IsHeight, span, part_over};
+ghost use Rattle.uf_tree.specs.Least.{Least};
 ghost use Rattle.uf_tree.specs.Names.{names_cmp};
 ghost use Rattle.uf_tree.specs.Profiles.{is_profile};
 ghost use Rattle.uf_tree.specs.Roles.{IsCanonicalDirectory, IsCanonicalShard, IsCanonicalFileNode, Root, Below};
@@ -101,6 +102,11 @@ pub fn a_directory_depends_on_its_names_alone()
 pub fn a_directory_has_a_plan_unless_names_collide()
     ensures { (X : List ℕ → List ℕ) (N : List ℕ → ℕ) (p : Profile) (l : List Named) → ((name : List ℕ) → N name < 2 ^ 64)
         → dir_plan X N p l ≡ elim (if is_sharded p l then twins (same_hash N) l else None) [ None ↦ Some (own_plan X N p l) | Some names ↦ None ] }
+{}
+
+/// In byte order the twins are the least name that has a twin, and the least of its twins.
+pub fn twins_are_the_least()
+    ensures { (same : List ℕ → List ℕ → Bool) (l : List Named) (a b : List ℕ) → IsTrue (is_sorted names_cmp l) → twins same l ≡ Some (a, b) → Least same a b l }
 {}
 
 /// The blocks that decide a name are blocks of the directory.
