@@ -1,25 +1,25 @@
 -- What is written is read again.
-use Rattle.std.proofs.Common.{◌≡◌, ℕ, zero, suc, ◌+◌, ◌/◌, ◌%◌, ◌^◌, ◌<◌, ◌≤◌, Bool, true, false, cond, eqb, List, [], ◌∷◌, ◌++◌, length, refl, ap, sym, ◌∙◌, append_assoc, arith, Option, Some, None, Ok, Err, Result, ℤ, pos, negsuc, ◌⊎◌, inl, inr}
-use Rattle.std.specs.Prelude.{flat_map, nat_lt, IfSome, is_some, ◌&&◌, if◌then◌else◌, FitsSigned}
-use Rattle.std.specs.Int.{w32, w64, to_le_bytes, from_le_bytes, cast_signed, cast_unsigned}
+use Rattle.std.proofs.Common.{◌≡◌, ℕ, zero, suc, ◌+◌, ◌/◌, ◌%◌, ◌^◌, ◌<◌, ◌≤◌, Bool, true, false, eqb, List, [], ◌∷◌, ◌++◌, length, refl, ap, sym, ◌∙◌, append_assoc, arith, Option, Some, None, Ok, Err, Result, ℤ, pos, negsuc, ◌⊎◌, inl, inr}
+use Rattle.std.specs.Prelude.{flat_map, nat_lt, IfSome, ◌&&◌, FitsSigned}
+use Rattle.std.specs.Int.{w32, w64, to_le_bytes, cast_unsigned}
 use Rattle.std.specs.List.{AllByRecursion}
 use Rattle.std.specs.Option.{option_map}
 use lib.Pointwise.{pointwise}
+use Rattle.std.specs.Bool.{MatchBool}
 use Rattle.std.proofs.lemmas.Bool.{cond_both, eqb-true, eq-eqb}
 use Rattle.std.proofs.lemmas.Int.{to_z-of_z}
 use Rattle.std.proofs.lemmas.List.{append-nil, length-append}
 use Rattle.std.proofs.lemmas.Nat.{from_le_bytes-to_le_bytes_4}
 use Rattle.uf_varint.specs.Varint.{varint, varint_within}
-use Rattle.uf_varint.specs.Fields.{Content, Number, Bytes, Field, Keyed, number_field, content_field, optional, number_at, piece_at, content_at, fields, field_then, key_then}
+use Rattle.uf_varint.specs.Fields.{Number, Bytes, Keyed, number_field, content_field, optional, number_at, piece_at, content_at, fields, key_then}
 use Rattle.uf_varint.proofs.Cutting.{fields-cons, fields-number_field, fields-content_field, number_at-varint}
 use Rattle.uf_message.specs.declared.message.Message.{Message}
 use Rattle.uf_message.specs.declared.message.MsgFault.{MsgFault}
 use Rattle.uf_message.specs.declared.message.MsgKind.{MsgKind}
 use Rattle.uf_message.specs.declared.message.MsgKind.TheVariants.{Raw, Directory, File, Metadata, Symlink, Shard}
 use Rattle.uf_message.specs.declared.message.Mtime.{Mtime}
-use Rattle.uf_message.specs.declared.seen.SeenTime.{SeenTime}
 use Rattle.uf_message.specs.Spelling.{kind_number, fixed_field, mtime_bytes, message_bytes, IsMessage}
-use Rattle.uf_message.specs.Reading.{message_field_fault, mtime_field_fault, selected, Selected, kind_of, time_part, message_of, message_reads, mtime_reads}
+use Rattle.uf_message.specs.Reading.{message_field_fault, selected, Selected, kind_of, time_part, message_of, message_reads, mtime_reads}
 use Rattle.uf_message.specs.Steps.{over}
 use Rattle.uf_message.specs.Strict.{GivesValue, strict_fault}
 use Rattle.uf_message.specs.declared.message.MsgFault.TheVariants as fault
@@ -150,7 +150,15 @@ time_short (Some t) = mtime_short t
 
 abbrev seen : ℕ → Option (List ℕ) → Option ℕ → List ℕ → Option ℕ → Option ℕ → Option ℕ → Option (List ℕ) → Selected
 seen k content filesize sizes hash_type fanout mode mtime = record {
-  kind = Some k; content = content; filesize = filesize; sizes = sizes; hash_type = hash_type; fanout = fanout; mode = mode; mtime = mtime }
+  kind = Some k;
+  content = content;
+  filesize = filesize;
+  sizes = sizes;
+  hash_type = hash_type;
+  fanout = fanout;
+  mode = mode;
+  mtime = mtime;
+}
 
 message_given : (m : Message) (h : IsMessage m) → message_of (seen (kind_number m.kind) m.content m.filesize m.blocksizes m.hash_type m.fanout m.mode (option_map mtime_bytes m.mtime)) ≡ Ok m
 message_given m h =
@@ -231,7 +239,7 @@ both_true : (a b : Bool) → (a && b) ≡ true → (a ≡ true) × (b ≡ true)
 both_true true b e = (refl, e)
 both_true false b e = absurd cc
 
-pub same_bytes : (a b : List ℕ) → pointwise eqb a b ≡ true → a ≡ b
+same_bytes : (a b : List ℕ) → pointwise eqb a b ≡ true → a ≡ b
 same_bytes [] [] e = refl
 same_bytes [] (y ∷ ys) e = absurd cc
 same_bytes (x ∷ xs) [] e = absurd cc
@@ -245,7 +253,9 @@ self_bytes : (a : List ℕ) → pointwise eqb a a ≡ true
 self_bytes [] = refl
 self_bytes (x ∷ xs) = rw (eq-eqb x x refl, self_bytes xs) refl
 
-pub other_bytes : (a b : List ℕ) → false ≡ pointwise eqb a b → a ≡ b → ⊥
-other_bytes a b e same =
+pub decides_bytes : (r : Bool) (a b : List ℕ) → r ≡ pointwise eqb a b → MatchBool r (a ≡ b) (a ≡ b → ⊥)
+decides_bytes true a b e = same_bytes a b (sym e)
+decides_bytes false a b e =
+    λ same.
     let told : true ≡ false = sym (self_bytes a) ∙ ap (pointwise eqb a) same ∙ sym e in
     cc

@@ -1,4 +1,5 @@
 // Messages read strictly.
+ghost use Rattle.std.specs.Bool.{MatchBool};
 ghost use Rattle.std.specs.Prelude.{◌≡◌, IfOk};
 ghost use Rattle.uf_message.specs.Spelling.{IsMessage, message_bytes};
 ghost use Rattle.uf_message.specs.Strict.{GivesValue, strict_fault};
@@ -24,7 +25,7 @@ pub fn decode_strict(alloc: Global, bytes: &[u8]) -> Result<Message, StrictFault
     };
     messages_fit(&message);
     let spelled = encode(alloc, &message)?;
-    if spelled.as_slice() == bytes {
+    if are_same(spelled.as_slice(), bytes) {
         Ok(message)
     } else {
         Err(StrictFault::NotCanonical)
@@ -39,4 +40,12 @@ fn refused(why: MsgFault) -> StrictFault
         MsgFault::Memory => StrictFault::Memory,
         _ => StrictFault::NotCanonical,
     }
+}
+
+// Whether two lists of bytes are the same.
+#[tactic(auto, using(crate::proofs::Again::decides_bytes))]
+fn are_same(a: &[u8], b: &[u8]) -> bool
+    ensures { MatchBool result (a.now ≡ b.now) (a.now ≡ b.now → ⊥) }
+{
+    a == b
 }
