@@ -1,7 +1,7 @@
 -- The reading in steps is the judgement of the list of fields, and the selections from it.
 use Rattle.std.proofs.Common.{◌≡◌, ℕ, List, [], ◌∷◌, ◌++◌, refl, ap, append_assoc, subst, sym, ◌∙◌, Bool, true, false, cond, ◌⊎◌, inl, inr, Ok, Err, Result, Option, None, Some}
-use Rattle.std.specs.Prelude.{◌==◌, is_some}
-use Rattle.std.specs.List.{filter_map, list_any}
+use Rattle.std.specs.Prelude.{◌==◌, ◌||◌, is_some}
+use Rattle.std.specs.List.{cons_option, filter_map, list_any}
 use Rattle.std.specs.Option.{option_and_then, unwrap_or}
 use Rattle.std.specs.Str.{is_utf8}
 use Rattle.std.proofs.lemmas.Bool.{cases_Bool, eqb-true}
@@ -121,5 +121,55 @@ abbrev node : List Link → Option (List ℕ) → Node
 node links o = record { links = links; content = o }
 
 
+or-false : (b : Bool) → (b || false) ≡ b
+or-false true = refl
+or-false false = refl
+
+-- a link that was read, or its fault
+one_judged : (fs : List Field) (links : List Link) (o : Option (List ℕ)) (r : Result Link PbFault) (fault : Option PbFault) (link : Option Link) → Agrees r fault link
+    → ((l : Link) → node_from (node (links ++ l ∷ []) o) fs ≡ judged (node_fault (is_some o) fs) (node_with (links ++ l ∷ []) o fs))
+    → ((r >>= λ l. Ok (node (links ++ l ∷ []) o)) >>= λ n. node_from n fs) ≡ judged (first fault (node_fault (is_some o) fs)) (node (links ++ cons_option link (filter_map link_in fs)) (first o (first_of_all (bytes_of 0x0a) fs)))
+one_judged fs links o (Err f) fault link h again = sym (ap (λ x. judged (first x (node_fault (is_some o) fs)) (node (links ++ cons_option link (filter_map link_in fs)) (first o (first_of_all (bytes_of 0x0a) fs)))) h)
+one_judged fs links o (Ok l) fault link h again =
+    let content = first o (first_of_all (bytes_of 0x0a) fs) in
+    again l
+    ∙ ap (λ (ls : List Link). judged (node_fault (is_some o) fs) (node ls content)) (append_assoc links (l ∷ []) (filter_map link_in fs))
+    ∙ sym (ap (λ x. judged (node_fault (is_some o) fs) (node (links ++ cons_option x (filter_map link_in fs)) content)) h.1)
+    ∙ sym (ap (λ x. judged (first x (node_fault (is_some o) fs)) (node (links ++ cons_option link (filter_map link_in fs)) content)) h.0)
+
+link_more_judged : (fs : List Field) (c : Result Content CutFault) (links : List Link) (o : Option (List ℕ))
+    → ((links : List Link) → node_from (node links o) fs ≡ judged (node_fault (is_some o) fs) (node_with links o fs))
+    → (took_link (node links o) c >>= λ n. node_from n fs) ≡ judged (first (content_fault (node_content_fault 0x12) c) (node_fault (is_some o) fs)) (node_with links o (Keyed 0x12 c ∷ fs))
+link_more_judged fs (Err f) links o again = refl
+link_more_judged fs (Ok (Number n)) links o again = refl
+link_more_judged fs (Ok (Bytes b)) links o again = one_judged fs links o (link_reads b) (link_fault [] (fields b)) (link_of (fields b)) (link_reads_judged b) (λ l. again (links ++ l ∷ []))
+
+content_judged : (fs : List Field) (c : Result Content CutFault) (links : List Link) (o : Option (List ℕ))
+    → ((b : List ℕ) → node_from (node links (Some b)) fs ≡ judged (node_fault true fs) (node_with links (Some b) fs))
+    → (took_content (node links o) c >>= λ n. node_from n fs) ≡ judged (cond (is_some o) (Some pb.Twice) (first (content_fault (node_content_fault 0x0a) c) (node_fault (is_some o || true) fs))) (node_with links o (Keyed 0x0a c ∷ fs))
+content_judged fs c links (Some x) again = refl
+content_judged fs (Err f) links None again = refl
+content_judged fs (Ok (Number n)) links None again = refl
+content_judged fs (Ok (Bytes b)) links None again = again b
+
+fields_judged : (fs : List Field) (links : List Link) (o : Option (List ℕ)) → node_from (node links o) fs ≡ judged (node_fault (is_some o) fs) (node_with links o fs)
+unfolding node_from node_fault
+fields_judged [] links o = ap (λ (ls : List Link). Ok (node ls o)) (sym (append-nil links)) ∙ ap (λ (x : Option (List ℕ)). Ok (node (links ++ []) x)) (sym (first-none o))
+fields_judged (NoKey f ∷ fs) links o = refl
+fields_judged (Keyed key c ∷ fs) links o = by (cases_Bool (key == 0x12)) (cases_Bool (key == 0x0a)) (fields_judged fs)
+  where
+    by : ((key == 0x12) ≡ true) ⊎ ((key == 0x12) ≡ false) → ((key == 0x0a) ≡ true) ⊎ ((key == 0x0a) ≡ false)
+        → ((links : List Link) (o : Option (List ℕ)) → node_from (node links o) fs ≡ judged (node_fault (is_some o) fs) (node_with links o fs))
+        → node_from (node links o) (Keyed key c ∷ fs) ≡ judged (node_fault (is_some o) (Keyed key c ∷ fs)) (node_with links o (Keyed key c ∷ fs))
+    by (inl a) b again =
+        subst (λ (k : ℕ). node_from (node links o) (Keyed k c ∷ fs) ≡ judged (node_fault (is_some o) (Keyed k c ∷ fs)) (node_with links o (Keyed k c ∷ fs))) (sym (eqb-true key 0x12 a))
+        (link_more_judged fs c links o (λ ls. again ls o)
+         ∙ sym (ap (λ (x : Bool). judged (first (content_fault (node_content_fault 0x12) c) (node_fault x fs)) (node_with links o (Keyed 0x12 c ∷ fs))) (or-false (is_some o))))
+    by (inr a) (inl b) again =
+        subst (λ (k : ℕ). node_from (node links o) (Keyed k c ∷ fs) ≡ judged (node_fault (is_some o) (Keyed k c ∷ fs)) (node_with links o (Keyed k c ∷ fs))) (sym (eqb-true key 0x0a b))
+        (content_judged fs c links o (λ x. again links (Some x)))
+    by (inr a) (inr b) again = rw (a, b) refl
+
 pub node_judged : (bytes : List ℕ) → node_from no_node (fields bytes) ≡ node_reads bytes
-node_judged bytes = ?
+unfolding node_reads
+node_judged bytes = fields_judged (fields bytes) [] None
