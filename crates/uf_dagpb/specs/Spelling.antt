@@ -35,7 +35,10 @@ pub record IsLink (l : Link) : Type 0 where
   pub name : IsUtf8 l.name
   pub tsize : l.tsize < 2 ^ 64
 
--- a node that has a canonical spelling: its links can be and are sorted
+abbrev pub AreLinks : List Link → Type 0
+AreLinks links = AllByRecursion IsLink links
+
+-- a node that has a canonical spelling: its links can be, and are sorted
 pub record IsNode (n : Node) : Type 0 where
-  pub links : AllByRecursion IsLink n.links
+  pub links : AreLinks n.links
   pub sorted : IsTrue (are_sorted n.links)

@@ -2,13 +2,20 @@
 #![tactic(auto)]
 
 mod fault;
+mod laws;
 mod links;
 mod node;
 mod parts;
 mod reading;
+mod strict;
 mod writing;
 
 pub use fault::PbFault;
+pub use laws::{spellings_are_of_one_node, what_was_written_is_read};
 pub use node::{Link, Links, Node};
 pub use reading::decode_lenient;
-pub use writing::encode;
+pub use strict::{decode_strict, links_are_valid};
+pub use writing::{encode, encoded_len};
+
+#[cfg(test)]
+mod tests;

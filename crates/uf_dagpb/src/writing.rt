@@ -1,6 +1,7 @@
 // Nodes written.
-ghost use Rattle.std.specs.Prelude.{◌≡◌, ◌≤◌, ◌<◌, ◌^◌, ◌++◌, IfOk, OnOk, IsTrue, length};
-ghost use Rattle.uf_varint.specs.Fields.{content_field, number_field, optional};
+ghost use Rattle.std.specs.Prelude.{◌≡◌, ◌+◌, ◌-◌, ◌^◌, ◌++◌, IfOk, OnOk, IsTrue, length, min};
+ghost use Rattle.uf_varint.specs.Varint.{varint};
+ghost use Rattle.uf_varint.specs.Fields.{content_field, optional};
 ghost use Rattle.uf_dagpb.specs.Spelling.{are_sorted, link_bytes, links_bytes, node_bytes};
 
 use crate::{Link, Node};
@@ -25,21 +26,36 @@ pub fn encode(alloc: Global, node: &Node) -> Result<Block, Memory>
     }
 }
 
-// How many bytes the node's spelling has.
-fn encoded_len(node: &Node) -> usize
+/// How many bytes the node's canonical spelling has, or the greatest number where it has more.
+#[tactic(auto, unfolding(crate::specs::Spelling::node_bytes))]
+pub fn encoded_len(node: &Node) -> usize
+    ensures { result ≡ min (length (node_bytes node.now)) (2 ^ 64 - 1) }
 {
-    let mut len = match &node.content {
-        None => 0,
-        Some(content) => field_len(content.as_slice().len()),
-    };
-    for link in node.links.as_slice() {
+    links_len(node.links.as_slice()).saturating_add(content_len(&node.content))
+}
+
+fn links_len(links: &[Link]) -> usize
+    ensures { result ≡ min (length (links_bytes links.now)) (2 ^ 64 - 1) }
+{
+    let mut len = 0usize;
+    for link in links {
         len = len.saturating_add(field_len(link_len(link)));
     }
     len
 }
 
+fn content_len(content: &Option<Block>) -> usize
+    ensures { result ≡ min (length (optional (content_field 0x0a) content.now)) (2 ^ 64 - 1) }
+{
+    match content {
+        None => 0,
+        Some(block) => field_len(block.as_slice().len()),
+    }
+}
+
 // The length of a field with so many bytes.
 fn field_len(len: usize) -> usize
+    ensures { result ≡ min (1 + length (varint len) + len) (2 ^ 64 - 1) }
 {
     len.saturating_add(1 + width(len as u64))
 }
