@@ -1,17 +1,17 @@
 -- What is written as a CID is read again.
 use Rattle.std.proofs.Common.{◌≡◌, ℕ, zero, suc, ◌+◌, ◌-◌, ◌<◌, ◌≤◌, ◌⊎◌, inl, inr, Bool, true, false, List, [], ◌∷◌, ◌++◌, length, get_or, take, drop, map, refl, sym, ap, subst, ◌∙◌, arith, Option, Some, None, Result, Ok, Err, cond}
-use Rattle.std.specs.Prelude.{◌==◌, ◌&&◌, nat_lt, nat_le, if◌then◌else◌, flat_map, replicate}
+use Rattle.std.specs.Prelude.{◌==◌, ◌&&◌, nat_lt, if◌then◌else◌, flat_map, replicate}
 use Rattle.std.specs.List.{AllByRecursion}
 use Rattle.std.specs.Option.{option_and_then, option_map}
 use Rattle.std.proofs.lemmas.List.{take-append-drop, length-append, length-take-le}
 use Rattle.std.proofs.Math.Seq.{take-append_seam}
-use Rattle.std.proofs.lemmas.Bool.{cases_lt, ltb-false, eqb-true}
+use Rattle.std.proofs.lemmas.Bool.{cases_lt, eqb-true}
 use Rattle.std.proofs.lemmas.Bool.Decides.{nat_tests}
-use Rattle.uf_cid.specs.Base32.{bits, five, fives, letter, base32}
+use Rattle.uf_cid.specs.Base32.{bits, fives, letter, base32}
 use Rattle.uf_cid.specs.Bytes.{IsBytes}
 use Rattle.uf_cid.specs.Cid.{codec_byte, cid_bytes, cid_text}
-use Rattle.uf_cid.specs.Unbase32.{AreBits, are_bits, bits5, eights, eight, Padded, bits-fives, eights-bits}
-use Rattle.uf_cid.specs.Read.{IsCid, multihash_at, codec_at, cid_at, alone, whole_cid, value_of, values_of, spare, is_padding, padded_bytes, unbase32, cid_spelled, cid_of_text, raised}
+use Rattle.uf_cid.specs.Unbase32.{AreBits, are_bits, bits5, eights, Padded, bits-fives, eights-bits}
+use Rattle.uf_cid.specs.Read.{IsCid, multihash_at, codec_at, cid_at, alone, value_of, values_of, spare, is_padding, padded_bytes, unbase32, cid_spelled, cid_of_text, raised}
 use Rattle.uf_cid.specs.declared.cid.Cid.{Cid}
 use Rattle.uf_cid.specs.declared.cid.CidFault.{CidFault}
 use Rattle.uf_cid.specs.declared.cid.CidFault.TheVariants as fault
@@ -69,9 +69,9 @@ high_letter n h = rw (is_high n h) refl
 
 value_again : (n : ℕ) → n < 32 → value_of 97 (letter n) ≡ Some n
 value_again n h = elim (cases_lt n 26) [
-      | inl lt ↦ ap (value_of 97) (low_letter n lt) ∙ value_letter 97 (97 + n) (omega arith) (omega arith) ∙ ap (λ (k : ℕ). some k) (let e : 97 + n - 97 ≡ n = omega arith in e)
-      | inr le ↦ ap (value_of 97) (high_letter n le) ∙ value_digit 97 (24 + n) (omega arith) (omega arith) (omega arith) ∙ ap (λ (k : ℕ). some k) (let e : 24 + n - 24 ≡ n = omega arith in e)
-    ]
+  | inl lt ↦ ap (value_of 97) (low_letter n lt) ∙ value_letter 97 (97 + n) (omega arith) (omega arith) ∙ ap (λ (k : ℕ). some k) (let e : 97 + n - 97 ≡ n = omega arith in e)
+  | inr le ↦ ap (value_of 97) (high_letter n le) ∙ value_digit 97 (24 + n) (omega arith) (omega arith) (omega arith) ∙ ap (λ (k : ℕ). some k) (let e : 24 + n - 24 ≡ n = omega arith in e)
+]
 
 values_again : (vs : List ℕ) → AllByRecursion (λ v. v < 32) vs → values_of 97 (map letter vs) ≡ Some vs
 values_again [] h = refl
@@ -191,17 +191,17 @@ multihash_is codec before (a ∷ b ∷ rest) found e =
       | inl p ↦ elim (chosen (nat_lt (length rest) 32) (Err fault.Short) (ok made) (ok found) p.1) [
         | inl q ↦ absurd (no_err fault.Short found q.1)
         | inr q ↦
-          let is : made ≡ found = ok_is made found q.1 in
-          let ends : 32 ≤ length rest = not_room (length rest) q.0 in
-          let a_is : a ≡ 0x12 = eqb-true a 0x12 (both_true (a == 0x12) (b == 0x20) p.0).0 in
-          let b_is : b ≡ 0x20 = eqb-true b 0x20 (both_true (a == 0x12) (b == 0x20) p.0).1 in
-          subst (Hashed codec before (a ∷ b ∷ rest)) is (record {
-            codec_is = refl;
-            used = refl;
-            spelled = (λ i. a_is i ∷ b_is i ∷ rest) ∙ ap (λ (t : List ℕ). 0x12 ∷ 0x20 ∷ t) (sym (take-append-drop 32 rest));
-            whole = λ h. record { size = length-take-le 32 rest ends; bytes = take_bytes 32 rest h.1.1 };
-          })
-        ]
+            let is : made ≡ found = ok_is made found q.1 in
+            let ends : 32 ≤ length rest = not_room (length rest) q.0 in
+            let a_is : a ≡ 0x12 = eqb-true a 0x12 (both_true (a == 0x12) (b == 0x20) p.0).0 in
+            let b_is : b ≡ 0x20 = eqb-true b 0x20 (both_true (a == 0x12) (b == 0x20) p.0).1 in
+            subst (Hashed codec before (a ∷ b ∷ rest)) is (record {
+              codec_is = refl;
+              used = refl;
+              spelled = (λ i. a_is i ∷ b_is i ∷ rest) ∙ ap (λ (t : List ℕ). 0x12 ∷ 0x20 ∷ t) (sym (take-append-drop 32 rest));
+              whole = λ h. record { size = length-take-le 32 rest ends; bytes = take_bytes 32 rest h.1.1 };
+            })
+      ]
     ]
 
 -- a CID is read from its own bytes alone, where it isn't a CIDv0
@@ -211,9 +211,9 @@ record Read (bytes : List ℕ) (found : Cid × ℕ) : Type 0 where
 
 version_is : (a c : ℕ) (codec : Codec) (rest : List ℕ) (found : Cid × ℕ) → a ≡ 1 → c ≡ codec_byte codec → Hashed codec 2 rest found → Read (a ∷ c ∷ rest) found
 version_is a c codec rest found a_is c_is h = record {
-    spelled = λ _. (λ i. a_is i ∷ c_is i ∷ h.spelled i) ∙ ap (λ (k : Codec). 1 ∷ codec_byte k ∷ 0x12 ∷ 0x20 ∷ (found.0.digest ++ drop 34 rest)) (sym h.codec_is);
-    whole = λ fits. h.whole fits.1.1;
-  }
+  spelled = λ _. (λ i. a_is i ∷ c_is i ∷ h.spelled i) ∙ ap (λ (k : Codec). 1 ∷ codec_byte k ∷ 0x12 ∷ 0x20 ∷ (found.0.digest ++ drop 34 rest)) (sym h.codec_is);
+  whole = λ fits. h.whole fits.1.1;
+}
 
 codec_is : (a : ℕ) (rest : List ℕ) (found : Cid × ℕ) → a ≡ 1 → codec_at rest ≡ ok found → Read (a ∷ rest) found
 codec_is a [] found a_is e = absurd (no_err fault.Short found e)
@@ -223,7 +223,7 @@ codec_is a (c ∷ rest) found a_is e =
       | inr p ↦ elim (chosen (c == 0x70) (multihash_at DagPb 2 rest) (Err fault.Codec) (ok found) p.1) [
         | inl q ↦ version_is a c DagPb rest found a_is (eqb-true c 0x70 q.0) (multihash_is DagPb 2 rest found q.1)
         | inr q ↦ absurd (no_err fault.Codec found q.1)
-        ]
+      ]
     ]
 
 cid_is : (bytes : List ℕ) (found : Cid × ℕ) → cid_at bytes ≡ ok found → Read bytes found
@@ -234,10 +234,10 @@ cid_is (a ∷ rest) found e =
       | inl p ↦ codec_is a rest found (eqb-true a 1 p.0) p.1
       | inr p ↦ elim (chosen (a == 0x12) (multihash_at DagPb 0 (a ∷ rest)) (Err fault.Version) (ok found) p.1) [
         | inl q ↦
-          let h : Hashed DagPb 0 (a ∷ rest) found = multihash_is DagPb 0 (a ∷ rest) found q.1 in
-          record { spelled = λ e. absurd (omega (arith, h.used)); whole = h.whole }
+            let h : Hashed DagPb 0 (a ∷ rest) found = multihash_is DagPb 0 (a ∷ rest) found q.1 in
+            record { spelled = λ e. absurd (omega (arith, h.used)); whole = h.whole }
         | inr q ↦ absurd (no_err fault.Version found q.1)
-        ]
+      ]
     ]
 
 pub one_spelling : (c : Cid) (bytes : List ℕ) → cid_at bytes ≡ ok (c, 36) → bytes ≡ cid_bytes c ++ drop 36 bytes
@@ -265,19 +265,19 @@ none_is v e = cc
 
 low_value : (c v : ℕ) → value_of 97 c ≡ some v → value_of 65 (raised c) ≡ some v
 low_value c v e = elim (cases_lt c 50) [
-    | inl p ↦ absurd (none_is v (sym (value_none 97 c (inl (omega arith)) (inl p)) ∙ e))
-    | inr p ↦ elim (cases_lt c 56) [
-      | inl q ↦ ap (value_of 65) (raised_other c (omega arith)) ∙ value_digit 65 c (omega arith) p q ∙ sym (value_digit 97 c (omega arith) p q) ∙ e
-      | inr q ↦ elim (cases_lt c 97) [
-        | inl r ↦ absurd (none_is v (sym (value_none 97 c (inl r) (inr q)) ∙ e))
-        | inr r ↦ elim (cases_lt c 123) [
-          | inl s ↦ ap (value_of 65) (raised_low c r) ∙ value_letter 65 (c - 32) (omega arith) (omega arith)
-              ∙ ap (λ (k : ℕ). some k) (let e : c - 32 - 65 ≡ c - 97 = omega arith in e) ∙ sym (value_letter 97 c r s) ∙ e
-          | inr s ↦ absurd (none_is v (sym (value_none 97 c (inr s) (inr q)) ∙ e))
-          ]
-        ]
+  | inl p ↦ absurd (none_is v (sym (value_none 97 c (inl (omega arith)) (inl p)) ∙ e))
+  | inr p ↦ elim (cases_lt c 56) [
+    | inl q ↦ ap (value_of 65) (raised_other c (omega arith)) ∙ value_digit 65 c (omega arith) p q ∙ sym (value_digit 97 c (omega arith) p q) ∙ e
+    | inr q ↦ elim (cases_lt c 97) [
+      | inl r ↦ absurd (none_is v (sym (value_none 97 c (inl r) (inr q)) ∙ e))
+      | inr r ↦ elim (cases_lt c 123) [
+        | inl s ↦ ap (value_of 65) (raised_low c r) ∙ value_letter 65 (c - 32) (omega arith) (omega arith)
+            ∙ ap (λ (k : ℕ). some k) (let e : c - 32 - 65 ≡ c - 97 = omega arith in e) ∙ sym (value_letter 97 c r s) ∙ e
+        | inr s ↦ absurd (none_is v (sym (value_none 97 c (inr s) (inr q)) ∙ e))
       ]
     ]
+  ]
+]
 
 record Joined (v : ℕ) (o : Option (List ℕ)) (vs : List ℕ) : Type 0 where
   rest : List ℕ

@@ -1,10 +1,10 @@
 -- 37 bytes tell what all of them say.
-use Rattle.std.proofs.Common.{◌≡◌, ℕ, zero, suc, ◌+◌, ◌<◌, ◌≤◌, min, Bool, true, false, List, [], ◌∷◌, length, take, refl, sym, ap, ◌∙◌, arith, Option, Some, None, Result, Ok, Err, cond}
+use Rattle.std.proofs.Common.{◌≡◌, ℕ, zero, suc, ◌+◌, ◌≤◌, min, Bool, true, false, List, [], ◌∷◌, length, take, refl, sym, ap, ◌∙◌, arith, Option, Some, None, Result, Ok, Err, cond}
 use Rattle.std.specs.Prelude.{◌==◌, ◌&&◌, nat_lt, if◌then◌else◌, IfOk}
 use Rattle.std.specs.Option.{option_map}
 use Rattle.std.proofs.lemmas.List.{length-take, take-take}
 use Rattle.std.proofs.lemmas.Bool.Decides.{nat_tests}
-use Rattle.uf_cid.specs.Read.{multihash_at, codec_at, cid_at, alone, whole_cid, cid_spelled}
+use Rattle.uf_cid.specs.Read.{multihash_at, codec_at, cid_at, alone, cid_spelled}
 use Rattle.uf_cid.specs.declared.cid.Cid.{Cid}
 use Rattle.uf_cid.specs.declared.cid.CidFault.{CidFault}
 use Rattle.uf_cid.specs.declared.cid.CidFault.TheVariants as fault
@@ -26,8 +26,8 @@ multihash_front codec before (suc (suc k)) (a ∷ b ∷ rest) h =
     let room : nat_lt (length (take k rest)) 32 ≡ nat_lt (length rest) 32 = same_room k (length rest) (length (take k rest)) (omega arith) (length-take k rest) in
     let digest : take 32 (take k rest) ≡ take 32 rest = take-take 32 k rest (omega arith) in
     λ i. if (a == 0x12) && (b == 0x20)
-      then (if room i then Err fault.Short else Ok (record { codec = codec; digest = digest i }, before + 34))
-      else Err fault.Hash
+    then (if room i then Err fault.Short else Ok (record { codec = codec; digest = digest i }, before + 34))
+    else Err fault.Hash
 
 codec_front : (rest : List ℕ) → codec_at (take 36 rest) ≡ codec_at rest
 codec_front [] = refl
@@ -86,18 +86,3 @@ spelled_front (Some bytes) front r e told =
     let is : front ≡ take 37 bytes = some_is front (take 37 bytes) e in
     let same : r ≡ cid_at bytes = told ∙ ap cid_at is ∙ cid_front bytes in
     sym (alone_front bytes (cid_at bytes) (cid_small bytes)) ∙ ap (λ (n : ℕ). alone n (cid_at bytes)) (ap length (sym is)) ∙ ap (alone (length front)) (sym same)
-
-test_is : (u n : ℕ) → u ≡ n → (u == n) ≡ true
-test_is u n e = grind (arith, nat_tests)
-
-test_not : (u n : ℕ) → (u ≡ n → ⊥) → (u == n) ≡ false
-test_not u n e = grind (arith, nat_tests)
-
-pub alone_old : (all used : ℕ) (cid : Cid) → used ≡ 34 → alone all (Ok (cid, used)) ≡ Err fault.Version
-alone_old all used cid e = rw (test_is used 34 e) refl
-
-pub alone_whole : (all used : ℕ) (cid : Cid) → (used ≡ 34 → ⊥) → used ≡ all → alone all (Ok (cid, used)) ≡ Ok cid
-alone_whole all used cid new e = rw (test_not used 34 new, test_is used all e) refl
-
-pub alone_more : (all used : ℕ) (cid : Cid) → (used ≡ 34 → ⊥) → (used ≡ all → ⊥) → alone all (Ok (cid, used)) ≡ Err fault.Trailing
-alone_more all used cid new e = rw (test_not used 34 new, test_not used all e) refl

@@ -1,7 +1,6 @@
 -- Letters of base32 read one after the other, with the bits that no whole byte has yet.
-use Rattle.std.proofs.Common.{◌≡◌, ℕ, zero, suc, ◌+◌, ◌*◌, ◌/◌, ◌%◌, ◌^◌, ◌-◌, ◌<◌, ◌≤◌, Bool, true, false, List, [], ◌∷◌, ◌++◌, length, take, drop, get_or, refl, sym, ap, ◌∙◌, arith, append_assoc, Option, Some, None, drop-cons, drop_of_length-le, cond, eqb}
-use Rattle.std.specs.Prelude.{◌==◌, ◌&&◌, flat_map, nat_lt, if◌then◌else◌, replicate}
-use Rattle.std.specs.List.{list_all}
+use Rattle.std.proofs.Common.{◌≡◌, ℕ, zero, suc, ◌+◌, ◌*◌, ◌/◌, ◌%◌, ◌^◌, ◌-◌, ◌<◌, ◌≤◌, Bool, true, false, List, [], ◌∷◌, ◌++◌, length, take, drop, get_or, refl, sym, ap, ◌∙◌, arith, append_assoc, Option, Some, None, drop-cons, drop_of_length-le, cond}
+use Rattle.std.specs.Prelude.{◌==◌, ◌&&◌, flat_map, nat_lt, if◌then◌else◌}
 use Rattle.std.specs.Option.{option_and_then, option_map}
 use Rattle.std.proofs.lemmas.List.{append-nil, take-append-le, take_all, take_more_set, length-set, length-take}
 use Rattle.std.proofs.Math.ListN.{set}
@@ -112,7 +111,7 @@ pub goes_on : (a : ℕ) (front letters : List ℕ) (c v held bits : ℕ) → val
 goes_on a front letters c v held bits e h few small =
     takes a front (low_bits held bits) letters c v e
     ∙ same_after (λ vs. judged front (low_bits held bits ++ (bits5 v ++ flat_map bits5 vs))) (λ vs. judged front (low_bits (held + 5) (bits * 32 + v) ++ flat_map bits5 vs))
-        (λ vs. ap (judged front) (short held bits v (flat_map bits5 vs) h few small)) (values_of a letters)
+    (λ vs. ap (judged front) (short held bits v (flat_map bits5 vs) h few small)) (values_of a letters)
 
 with_byte : (front front' bits bits' : List ℕ) → spare bits ≡ spare bits' → take 37 (front ++ eights bits) ≡ take 37 (front' ++ eights bits') → judged front bits ≡ judged front' bits'
 with_byte front front' bits bits' s t = λ i. if is_padding (s i) then Some (t i) else None
@@ -124,9 +123,9 @@ adds a front letters c v held bits e h few small =
     let joined = bits * 32 + v in
     takes a front (low_bits (held + 3) bits) letters c v e
     ∙ same_after (λ vs. judged front (low_bits (held + 3) bits ++ (bits5 v ++ flat_map bits5 vs))) (λ vs. judged (front ++ (joined / 2 ^ held) ∷ []) (low_bits held (joined % 2 ^ held) ++ flat_map bits5 vs))
-        (λ vs. let step = long held bits v (flat_map bits5 vs) h few small in
-          with_byte front (front ++ (joined / 2 ^ held) ∷ []) (low_bits (held + 3) bits ++ (bits5 v ++ flat_map bits5 vs)) (low_bits held (joined % 2 ^ held) ++ flat_map bits5 vs) step.rest
-          (ap (λ (t : List ℕ). take 37 (front ++ t)) step.byte ∙ ap (take 37) (sym (append_assoc front ((joined / 2 ^ held) ∷ []) (eights (low_bits held (joined % 2 ^ held) ++ flat_map bits5 vs)))))) (values_of a letters)
+    (λ vs. let step = long held bits v (flat_map bits5 vs) h few small in
+    with_byte front (front ++ (joined / 2 ^ held) ∷ []) (low_bits (held + 3) bits ++ (bits5 v ++ flat_map bits5 vs)) (low_bits held (joined % 2 ^ held) ++ flat_map bits5 vs) step.rest
+    (ap (λ (t : List ℕ). take 37 (front ++ t)) step.byte ∙ ap (take 37) (sym (append_assoc front ((joined / 2 ^ held) ∷ []) (eights (low_bits held (joined % 2 ^ held) ++ flat_map bits5 vs)))))) (values_of a letters)
 
 -- a letter that makes a byte whole, behind 37 of them
 pub passes : (a : ℕ) (front letters : List ℕ) (c v held bits : ℕ) → value_of a c ≡ Some v → 37 ≤ length front → held < 5 → bits < 2 ^ (held + 3) → v < 32
@@ -135,10 +134,10 @@ passes a front letters c v held bits e full h few small =
     let joined = bits * 32 + v in
     takes a front (low_bits (held + 3) bits) letters c v e
     ∙ same_after (λ vs. judged front (low_bits (held + 3) bits ++ (bits5 v ++ flat_map bits5 vs))) (λ vs. judged front (low_bits held (joined % 2 ^ held) ++ flat_map bits5 vs))
-        (λ vs. let step = long held bits v (flat_map bits5 vs) h few small in
-          with_byte front front (low_bits (held + 3) bits ++ (bits5 v ++ flat_map bits5 vs)) (low_bits held (joined % 2 ^ held) ++ flat_map bits5 vs) step.rest
-          (take-append-le 37 front (eights (low_bits (held + 3) bits ++ (bits5 v ++ flat_map bits5 vs))) full
-          ∙ sym (take-append-le 37 front (eights (low_bits held (joined % 2 ^ held) ++ flat_map bits5 vs)) full))) (values_of a letters)
+    (λ vs. let step = long held bits v (flat_map bits5 vs) h few small in
+    with_byte front front (low_bits (held + 3) bits ++ (bits5 v ++ flat_map bits5 vs)) (low_bits held (joined % 2 ^ held) ++ flat_map bits5 vs) step.rest
+    (take-append-le 37 front (eights (low_bits (held + 3) bits ++ (bits5 v ++ flat_map bits5 vs))) full
+    ∙ sym (take-append-le 37 front (eights (low_bits held (joined % 2 ^ held) ++ flat_map bits5 vs)) full))) (values_of a letters)
 
 -- where the loop stands
 pub record Reading (a : ℕ) (all : List ℕ) (at : ℕ) (bytes : List ℕ) (len bits held : ℕ) : Type 0 where
@@ -196,7 +195,7 @@ next_bits a all bytes at len bits held v r h e t low =
       few = omega arith;
       small = small_then held bits v low r.small t;
       so_far = sym (goes_on a (take len bytes) (drop (at + 1) all) (get_or all at 0) v held bits e low r.small t)
-        ∙ ap (read_on a (take len bytes) (low_bits held bits)) (sym (at_letter all at h)) ∙ r.so_far;
+          ∙ ap (read_on a (take len bytes) (low_bits held bits)) (sym (at_letter all at h)) ∙ r.so_far;
     }
 
 pub two_power : (k : ℕ) → k < 5 → (1 * 2 ^ k) % 65536 ≡ 2 ^ k
@@ -220,8 +219,8 @@ next_byte a all bytes at len bits held left v r h e t is room =
       few = omega arith;
       small = small_rest left (bits * 32 + v) few;
       so_far = ap (λ (front : List ℕ). read_on a front (low_bits left ((bits * 32 + v) % 2 ^ left)) (drop (at + 1) all)) (take_more_set bytes len ((bits * 32 + v) / 2 ^ left) fits)
-        ∙ sym (adds a (take len bytes) (drop (at + 1) all) (get_or all at 0) v left bits e few small t)
-        ∙ ap (read_on a (take len bytes) (low_bits (left + 3) bits)) (sym (at_letter all at h)) ∙ so_far;
+          ∙ sym (adds a (take len bytes) (drop (at + 1) all) (get_or all at 0) v left bits e few small t)
+          ∙ ap (read_on a (take len bytes) (low_bits (left + 3) bits)) (sym (at_letter all at h)) ∙ so_far;
     }
 
 pub next_passed : (a : ℕ) (all bytes : List ℕ) (at len bits held left v : ℕ) → Reading a all at bytes len bits held → at < length all → value_of a (get_or all at 0) ≡ Some v → v < 32 → held ≡ left + 3
@@ -237,7 +236,7 @@ next_passed a all bytes at len bits held left v r h e t is full =
       few = omega arith;
       small = small_rest left (bits * 32 + v) few;
       so_far = sym (passes a (take len bytes) (drop (at + 1) all) (get_or all at 0) v left bits e whole few small t)
-        ∙ ap (read_on a (take len bytes) (low_bits (left + 3) bits)) (sym (at_letter all at h)) ∙ so_far;
+          ∙ ap (read_on a (take len bytes) (low_bits (left + 3) bits)) (sym (at_letter all at h)) ∙ so_far;
     }
 
 padding_is : (held bits : ℕ) → held < 8 → bits < 2 ^ held → is_padding (spare (low_bits held bits)) ≡ (nat_lt held 5 && (bits == 0))
@@ -268,23 +267,14 @@ pub ends : (a : ℕ) (all bytes : List ℕ) (at len bits held : ℕ) (ended : Bo
 ends a all bytes at len bits held ended r h e =
     let none : drop at all ≡ [] = drop_of_length-le all h in
     let left : judged (take len bytes) (low_bits held bits ++ []) ≡ (if nat_lt held 5 && (bits == 0) then Some (take len bytes) else None) =
-      ap (judged (take len bytes)) (append-nil (low_bits held bits))
-      ∙ ap (λ (b : Bool). if b then Some (take 37 (take len bytes ++ eights (low_bits held bits))) else None) (padding_is held bits r.few r.small)
-      ∙ ap (λ (t : List ℕ). if nat_lt held 5 && (bits == 0) then Some (take 37 (take len bytes ++ t)) else None) (no_bytes held bits r.few)
-      ∙ ap (λ (t : List ℕ). if nat_lt held 5 && (bits == 0) then Some (take 37 t) else None) (append-nil (take len bytes))
-      ∙ ap (λ (t : List ℕ). if nat_lt held 5 && (bits == 0) then Some t else None) (take_all 37 (take len bytes) (omega (arith, length-take len bytes, r.size)))
-      in
+    ap (judged (take len bytes)) (append-nil (low_bits held bits))
+    ∙ ap (λ (b : Bool). if b then Some (take 37 (take len bytes ++ eights (low_bits held bits))) else None) (padding_is held bits r.few r.small)
+    ∙ ap (λ (t : List ℕ). if nat_lt held 5 && (bits == 0) then Some (take 37 (take len bytes ++ t)) else None) (no_bytes held bits r.few)
+    ∙ ap (λ (t : List ℕ). if nat_lt held 5 && (bits == 0) then Some (take 37 t) else None) (append-nil (take len bytes))
+    ∙ ap (λ (t : List ℕ). if nat_lt held 5 && (bits == 0) then Some t else None) (take_all 37 (take len bytes) (omega (arith, length-take len bytes, r.size)))
+    in
     sym (first_letters a all) ∙ sym r.so_far ∙ ap (read_on a (take len bytes) (low_bits held bits)) none ∙ left
     ∙ ap (λ (b : Bool). if b then Some (take len bytes) else None) e
-
-pub both : (held bits : ℕ) → held < 5 → bits ≡ 0 → (nat_lt held 5 && (bits == 0)) ≡ true
-both held bits h e = grind (arith, nat_tests)
-
-pub not_few : (held bits : ℕ) → 5 ≤ held → (nat_lt held 5 && (bits == 0)) ≡ false
-not_few held bits h = grind (arith, nat_tests)
-
-pub not_zero : (held bits : ℕ) → held < 5 → (bits ≡ 0 → ⊥) → (nat_lt held 5 && (bits == 0)) ≡ false
-not_zero held bits h e = grind (arith, nat_tests)
 
 pub cast_fits : (held bits v : ℕ) → 3 ≤ held → held < 8 → bits < 2 ^ held → v < 32 → (bits * 32 + v) / 2 ^ (held - 3) < 256
 cast_fits held bits v h few small t =

@@ -1,7 +1,7 @@
 // CIDs read from bytes and from text.
-ghost use Rattle.std.specs.Prelude.{◌≡◌, ◌<◌, ◌≤◌, length, take, IfSome};
+ghost use Rattle.std.specs.Prelude.{◌≡◌, ◌<◌, ◌≤◌, ◌==◌, ◌&&◌, nat_lt, Ok, length, take, IfSome};
 ghost use Rattle.std.specs.Option.{option_map};
-ghost use Rattle.uf_cid.specs.Read.{cid_at, codec_at, multihash_at, cid_of_text, cid_spelled, unbase32, value_of};
+ghost use Rattle.uf_cid.specs.Read.{alone, cid_at, codec_at, multihash_at, cid_of_text, cid_spelled, unbase32, value_of};
 
 use crate::{Cid, CidFault, Codec};
 
@@ -75,14 +75,20 @@ fn spelled(first: u8, letters: &[u8]) -> Result<Cid, CidFault>
     };
     match Cid::read_binary(&front.bytes[..front.len]) {
         Err(why) => Err(why),
-        Ok((_, 34)) => Err(CidFault::Version),
-        Ok((cid, used)) => {
-            if used == front.len {
-                Ok(cid)
-            } else {
-                Err(CidFault::Trailing)
-            }
-        }
+        Ok((cid, used)) => all_of(cid, used, front.len),
+    }
+}
+
+// The CID of `used` bytes where it is all of the bytes, and no CIDv0.
+fn all_of(cid: Cid, used: usize, all: usize) -> Result<Cid, CidFault>
+    ensures { result ≡ alone all (Ok (cid, used)) }
+{
+    if used == 34 {
+        Err(CidFault::Version)
+    } else if used == all {
+        Ok(cid)
+    } else {
+        Err(CidFault::Trailing)
     }
 }
 
@@ -118,11 +124,18 @@ fn front_bytes(first: u8, letters: &[u8]) -> Option<Front>
             }
         }
     }
-    if held < 5 && bits == 0 {
+    if is_padding(held, bits) {
         Some(Front { bytes, len })
     } else {
         None
     }
+}
+
+// Whether so many bits, and this number, fill up the last letter alone.
+fn is_padding(held: u32, bits: u16) -> bool
+    ensures { result ≡ (nat_lt held 5 && (bits == 0)) }
+{
+    held < 5 && bits == 0
 }
 
 // The number of a letter of the alphabet that begins with the letter `first`.

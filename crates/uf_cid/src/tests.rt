@@ -2,7 +2,9 @@ use super::*;
 use std::test::*;
 
 const HELLO: &str = "bafkreifzjut3te2nhyekklss27nh3k72ysco7y32koao5eei66wof36n5e";
+
 const EMPTY: &str = "bafkreihdwdcefgh4dqkjv67uzcmw7ojee6xedzdetojuzjevtenxquvyku";
+
 const FOLDER: &str = "bafybeiczsscdsbs7ffqz55asqdf3smv6klcw3gofszvwlyarci47bgf354";
 
 // Texts that are CIDs, in lower and in upper case.
@@ -35,30 +37,75 @@ fn texts_of_no_cid(rt: HostRuntime) {
         ("b", CidFault::Short),
         ("bae", CidFault::Short),
         ("bafkreihdwdcefgh4dqkjv6y", CidFault::Short),
-        ("QmUNLLsPACCz1vLxQVkXqqLX5R1X345qqfHbsf67hvA3Nn", CidFault::Base),
-        ("zb2rhe5P4gXftAwvA4eXQ5HJwsER2owDyS9sKaQRRVQPn93bA", CidFault::Base),
+        (
+            "QmUNLLsPACCz1vLxQVkXqqLX5R1X345qqfHbsf67hvA3Nn",
+            CidFault::Base,
+        ),
+        (
+            "zb2rhe5P4gXftAwvA4eXQ5HJwsER2owDyS9sKaQRRVQPn93bA",
+            CidFault::Base,
+        ),
         // the bits left over are not zero
-        ("bafkreihdwdcefgh4dqkjv67uzcmw7ojee6xedzdetojuzjevtenxquvykv", CidFault::Base),
+        (
+            "bafkreihdwdcefgh4dqkjv67uzcmw7ojee6xedzdetojuzjevtenxquvykv",
+            CidFault::Base,
+        ),
         ("baf", CidFault::Base),
         // five, seven and six bits are left over
         ("ba", CidFault::Base),
         ("baaa", CidFault::Base),
-        ("bafkreihdwdcefgh4dqkjv67uzcmw7ojee6xedzdetojuzjevtenxquvykua", CidFault::Base),
+        (
+            "bafkreihdwdcefgh4dqkjv67uzcmw7ojee6xedzdetojuzjevtenxquvykua",
+            CidFault::Base,
+        ),
         ("baaaaaa", CidFault::Base),
         // letters of the other case, and no letters of the alphabet
-        ("bafkreihdwdcefgh4dqkjv67uzcmw7ojee6xedzdetojuzjevtenxquvykU", CidFault::Base),
-        ("BAFKREIFZJUT3TE2NHYEKKLSS27NH3K72YSCO7Y32KOAO5EEI66WOF36N5e", CidFault::Base),
-        ("bafkrei1dwdcefgh4dqkjv67uzcmw7ojee6xedzdetojuzjevtenxquvyku", CidFault::Base),
-        ("bafkrei8dwdcefgh4dqkjv67uzcmw7ojee6xedzdetojuzjevtenxquvyku", CidFault::Base),
+        (
+            "bafkreihdwdcefgh4dqkjv67uzcmw7ojee6xedzdetojuzjevtenxquvykU",
+            CidFault::Base,
+        ),
+        (
+            "BAFKREIFZJUT3TE2NHYEKKLSS27NH3K72YSCO7Y32KOAO5EEI66WOF36N5e",
+            CidFault::Base,
+        ),
+        (
+            "bafkrei1dwdcefgh4dqkjv67uzcmw7ojee6xedzdetojuzjevtenxquvyku",
+            CidFault::Base,
+        ),
+        (
+            "bafkrei8dwdcefgh4dqkjv67uzcmw7ojee6xedzdetojuzjevtenxquvyku",
+            CidFault::Base,
+        ),
         ("bae======", CidFault::Base),
         // a CIDv0, with and without more bytes, and version 2 with a codec that isn't read
-        ("bciqohmgeikmpyhautl57jsezn64sij5oihsgjg4tjssjlgi3pbjlqvi", CidFault::Version),
-        ("bciqohmgeikmpyhautl57jsezn64sij5oihsgjg4tjssjlgi3pbjlqvia", CidFault::Version),
-        ("bajyreihdwdcefgh4dqkjv67uzcmw7ojee6xedzdetojuzjevtenxquvyku", CidFault::Version),
-        ("bafyreihdwdcefgh4dqkjv67uzcmw7ojee6xedzdetojuzjevtenxquvyku", CidFault::Codec),
-        ("bafkrcihdwdcefgh4dqkjv67uzcmw7ojee6xedzdetojuzjevtenxquvyku", CidFault::Hash),
-        ("bafkreipdwdcefgh4dqkjv67uzcmw7ojee6xedzdetojuzjevtenxquvyku", CidFault::Hash),
-        ("bafkreihdwdcefgh4dqkjv67uzcmw7ojee6xedzdetojuzjevtenxquvykuaa", CidFault::Trailing),
+        (
+            "bciqohmgeikmpyhautl57jsezn64sij5oihsgjg4tjssjlgi3pbjlqvi",
+            CidFault::Version,
+        ),
+        (
+            "bciqohmgeikmpyhautl57jsezn64sij5oihsgjg4tjssjlgi3pbjlqvia",
+            CidFault::Version,
+        ),
+        (
+            "bajyreihdwdcefgh4dqkjv67uzcmw7ojee6xedzdetojuzjevtenxquvyku",
+            CidFault::Version,
+        ),
+        (
+            "bafyreihdwdcefgh4dqkjv67uzcmw7ojee6xedzdetojuzjevtenxquvyku",
+            CidFault::Codec,
+        ),
+        (
+            "bafkrcihdwdcefgh4dqkjv67uzcmw7ojee6xedzdetojuzjevtenxquvyku",
+            CidFault::Hash,
+        ),
+        (
+            "bafkreipdwdcefgh4dqkjv67uzcmw7ojee6xedzdetojuzjevtenxquvyku",
+            CidFault::Hash,
+        ),
+        (
+            "bafkreihdwdcefgh4dqkjv67uzcmw7ojee6xedzdetojuzjevtenxquvykuaa",
+            CidFault::Trailing,
+        ),
         (
             "bafkreihdwdcefgh4dqkjv67uzcmw7ojee6xedzdetojuzjevtenxquvykudqobyha4dqobyha4dqobyha4dqobyha4dqobyha4dqobyha4dqobyha4dqobyha4",
             CidFault::Trailing,
@@ -68,20 +115,26 @@ fn texts_of_no_cid(rt: HostRuntime) {
     }
 }
 
+// The bytes from one place to another.
+fn part(bytes: &[u8], from: usize, to: usize) -> &[u8] {
+    bytes.get(from..to).unwrap_or(&[])
+}
+
 // Bytes, read from left to right.
 #[test]
 fn bytes_of_cids(rt: HostRuntime) {
     let hello = Cid::of::<Sha256Hash>(Codec::Raw, b"hello world");
-    let mut bytes = [7u8; 40];
-    bytes[..36].copy_from_slice(&hello.to_binary());
+    let bytes = hello.to_binary();
+    let mut more = [7u8; 40];
+    more[..36].copy_from_slice(&bytes);
+    assert_eq!(rt; Cid::read_binary(&more), Ok((hello, 36)));
     assert_eq!(rt; Cid::read_binary(&bytes), Ok((hello, 36)));
-    assert_eq!(rt; Cid::read_binary(&bytes[..36]), Ok((hello, 36)));
-    assert_eq!(rt; Cid::read_binary(&bytes[..35]), Err(CidFault::Short));
+    assert_eq!(rt; Cid::read_binary(part(&bytes, 0, 35)), Err(CidFault::Short));
     let old = Cid {
         codec: Codec::DagPb,
         digest: hello.digest,
     };
-    assert_eq!(rt; Cid::read_binary(&bytes[2..]), Ok((old, 34)));
+    assert_eq!(rt; Cid::read_binary(part(&bytes, 2, 36)), Ok((old, 34)));
     for (front, fault) in [
         ([].as_slice(), CidFault::Short),
         (&[1], CidFault::Short),

@@ -1,9 +1,8 @@
-use Rattle.std.proofs.Common.{◌≡◌, ℕ, ◌<◌, ◌^◌, ◌+◌, ◌-◌, ◌*◌, ◌/◌, ◌&&◌, nat_lt, ◌==◌, true, false, Some, None, get_or, ap, refl, sym, ◌∙◌, arith}
-use Rattle.std.proofs.lemmas.Bool.Decides.{nat_tests}
+use Rattle.std.proofs.Common.{◌≡◌, ℕ, ◌<◌, ◌-◌, true, false, Some, get_or, ap, sym, ◌∙◌, arith}
 use Rattle.uf_cid.specs.Read.{value_of}
-use Rattle.uf_cid.proofs.Letters.{cast_fits, next_bits, next_byte, next_passed, ends, both, not_few, not_zero}
+use Rattle.uf_cid.proofs.Letters.{cast_fits, next_bits, next_byte, next_passed, ends}
 use Rattle.uf_cid.proofs.read.front_bytes.Goals as goal
-use Rattle.uf_cid.proofs.read.front_bytes.Goals.{then-held-lt3, else-held-lt3+then-len-lt37, else-held-lt3+else-len-lt37, else-held-lt5-via-then-held-lt5+else-bits-eq0, else-held-lt5-via-else-held-lt5}
+use Rattle.uf_cid.proofs.read.front_bytes.Goals.{then-held-lt3, else-held-lt3+then-len-lt37, else-held-lt3+else-len-lt37}
 
 pub overflow_cast-bytes-then-len-lt37 : goal.overflow_cast-bytes-then-len-lt37
 overflow_cast-bytes-then-len-lt37 c = record { fits = cast_fits c.loop-letter.held c.loop-letter.bits c.from.result c.if-held-lt3.false c.loop-letter.invariant.few c.loop-letter.invariant.small (omega (arith, c.in_ok-value.ensures.below)) }
@@ -21,16 +20,12 @@ loop-letter-preserved c =
       | else-held-lt3+else-len-lt37 w ↦ rw (w.bytes-is, w.len-is, w.bits-is, w.held-is) (next_passed c.args.first c.args.letters.now at.bytes at.letter-index at.len at.bits at.held (at.held - 3) c.from.result at.invariant c.loop-letter-test.true is small (omega arith) w.if-len-lt37.false)
     ]
 
-pub returns-then-bits-eq0-clause-bytes : goal.returns-then-bits-eq0-clause-bytes
-returns-then-bits-eq0-clause-bytes c =
+pub returns-then-is_padding-clause-bytes : goal.returns-then-is_padding-clause-bytes
+returns-then-is_padding-clause-bytes c =
     let at = c.loop-letter in
-    sym (ends c.args.first c.args.letters.now at.bytes at.letter-index at.len at.bits at.held true at.invariant c.loop-letter-test.false (both at.held at.bits c.if-held-lt5.true c.if-bits-eq0.true))
+    sym (ends c.args.first c.args.letters.now at.bytes at.letter-index at.len at.bits at.held true at.invariant c.loop-letter-test.false (sym c.if-is_padding.ensures))
 
-pub returns-else-held-lt5-clause-bytes : goal.returns-else-held-lt5-clause-bytes
-returns-else-held-lt5-clause-bytes c =
+pub returns-else-is_padding-clause-bytes : goal.returns-else-is_padding-clause-bytes
+returns-else-is_padding-clause-bytes c =
     let at = c.loop-letter in
-    let none : (nat_lt at.held 5 && (at.bits == 0)) ≡ false = elim c.else-held-lt5.branch [
-      | else-held-lt5-via-then-held-lt5+else-bits-eq0 w ↦ not_zero at.held at.bits w.if-held-lt5.true w.if-bits-eq0.false
-      | else-held-lt5-via-else-held-lt5 w ↦ not_few at.held at.bits w.if-held-lt5.false
-    ] in
-    sym (ends c.args.first c.args.letters.now at.bytes at.letter-index at.len at.bits at.held false at.invariant c.loop-letter-test.false none)
+    sym (ends c.args.first c.args.letters.now at.bytes at.letter-index at.len at.bits at.held false at.invariant c.loop-letter-test.false (sym c.if-is_padding.ensures))
