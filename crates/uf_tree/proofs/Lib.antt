@@ -4,9 +4,11 @@ pub mod Climb
 pub mod Each
 pub mod Groups
 pub mod Held
+pub mod Naming
 pub mod Nested
 pub mod Rows
 pub mod ShardLaws
+pub mod Spelt
 pub mod Sub
 pub mod Tests
 pub mod TreeLaws
