@@ -1,5 +1,5 @@
 -- What was written is read again.
-use Rattle.std.proofs.Common.{◌≡◌, ℕ, ◌+◌, ◌^◌, ◌<◌, ◌≤◌, List, [], ◌∷◌, ◌++◌, length, refl, ap, append_assoc, arith, sym, ◌∙◌, true, Ok, Result, Option, None, Some}
+use Rattle.std.proofs.Common.{◌≡◌, ℕ, ◌^◌, ◌<◌, List, [], ◌∷◌, ◌++◌, length, refl, ap, append_assoc, arith, sym, ◌∙◌, true, Ok, Result, Option, None, Some}
 use Rattle.std.specs.Str.{is_utf8}
 use Rattle.std.proofs.lemmas.List.{append-nil, length-append}
 use Rattle.std.proofs.lemmas.Str.{is_utf8-from_IsUtf8}
@@ -15,7 +15,7 @@ use Rattle.uf_dagpb.specs.declared.node.Link.{Link}
 use Rattle.uf_dagpb.specs.declared.node.Node.{Node}
 use Rattle.uf_dagpb.specs.Reading.{hash_of, with_length, node_reads}
 use Rattle.uf_dagpb.specs.Spelling.{link_bytes, links_bytes, node_bytes, AreLinks, IsLink}
-use Rattle.uf_dagpb.specs.Steps.{link_end, link_from, link_reads, no_parts, node_from, took_link}
+use Rattle.uf_dagpb.specs.Steps.{link_end, link_from, link_reads, no_parts, node_from}
 use Rattle.uf_dagpb.proofs.Judging.{node_judged}
 
 hash_again : (c : Cid) → IsCid c → hash_of (cid_bytes c) ≡ Some c
@@ -40,11 +40,11 @@ link_fields l small hash name =
     let b = content_field 0x12 l.name in
     let c = number_field 0x18 l.tsize in
     let last : fields c ≡ Keyed 0x18 (Ok (Number l.tsize)) ∷ [] =
-        ap fields (sym (append-nil c)) ∙ fields-number_field 0x18 l.tsize [] (omega arith) refl small ∙ ap (λ (fs : List Field). Keyed 0x18 (Ok (Number l.tsize)) ∷ fs) none_left in
+    ap fields (sym (append-nil c)) ∙ fields-number_field 0x18 l.tsize [] (omega arith) refl small ∙ ap (λ (fs : List Field). Keyed 0x18 (Ok (Number l.tsize)) ∷ fs) none_left in
     ap fields (append_assoc a b c)
     ∙ fields-content_field 0x0a (cid_bytes l.cid) (b ++ c) (omega arith) refl hash
     ∙ ap (λ (fs : List Field). Keyed 0x0a (Ok (Bytes (cid_bytes l.cid))) ∷ fs)
-        (fields-content_field 0x12 l.name c (omega arith) refl name ∙ ap (λ (fs : List Field). Keyed 0x12 (Ok (Bytes l.name)) ∷ fs) last)
+    (fields-content_field 0x12 l.name c (omega arith) refl name ∙ ap (λ (fs : List Field). Keyed 0x12 (Ok (Bytes l.name)) ∷ fs) last)
 
 abbrev ok_link : Link → Result Link PbFault
 ok_link l = Ok l

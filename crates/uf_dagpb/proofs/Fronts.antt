@@ -1,11 +1,10 @@
 -- Fronts of bytes, one after the other.
-use Rattle.std.proofs.Common.{◌≡◌, ◌≢◌, ℕ, suc, ◌+◌, ◌-◌, ◌<◌, ◌≤◌, List, [], ◌∷◌, ◌++◌, length, take, drop, get_or, refl, ap, append_assoc, arith, sym, subst, ◌∙◌, Bool, true, false, cond, Option, None, Some, IsTrue, Bor, nat_eq}
+use Rattle.std.proofs.Common.{◌≡◌, ◌≢◌, ℕ, ◌+◌, ◌-◌, ◌<◌, ◌≤◌, List, [], ◌∷◌, ◌++◌, length, take, drop, get_or, refl, ap, append_assoc, arith, sym, subst, ◌∙◌, Bool, true, false, Option, None, Some, IsTrue, Bor, nat_eq}
 use Rattle.std.specs.Prelude.{◌&&◌, ◌↔◌, ◌==◌}
 use Rattle.std.specs.Cmp.Lexicographic.{pointwise, slice_cmp}
-use Rattle.std.specs.List.{flat_map}
 use Rattle.std.specs.Ordering.{is_le, nat_cmp}
 use Rattle.std.proofs.lemmas.Bool.{eqb-true, eq-eqb, false≢true}
-use Rattle.std.proofs.lemmas.List.{append-nil, append_cancel_left, take-append-drop, take_all, take_more, drop_more, length-drop, flat_map_more, nil_from_length, length-append, take_at, drop_at}
+use Rattle.std.proofs.lemmas.List.{append-nil, append_cancel_left, take-append-drop, take_all, take_more, drop_more, length-drop, flat_map_more, nil_from_length, length-append, take_at}
 use Rattle.std.proofs.lemmas.Bool.Decides.{Decides-eqb}
 use Rattle.std.proofs.lemmas.Slice.Eq.{slice_eq-Decides}
 use Rattle.std.proofs.lemmas.List.Concat.{flat_map-append}
@@ -72,9 +71,9 @@ links_break links i l bytes rest lt is so_far h after e =
     let later = drop (i + 1) links in
     let parted : links ≡ (before ++ l ∷ []) ++ later = sym (take-append-drop (i + 1) links) ∙ ap (λ (ls : List Link). ls ++ later) (next_link links i l lt is) in
     let whole : links_bytes links ≡ (links_bytes before ++ f) ++ links_bytes later =
-        ap links_bytes parted ∙ flat_map-append (λ (x : Link). content_field 0x12 (link_bytes x)) (before ++ l ∷ []) later ∙ ap (λ (xs : List ℕ). xs ++ links_bytes later) (links_bytes-push before l) in
+    ap links_bytes parted ∙ flat_map-append (λ (x : Link). content_field 0x12 (link_bytes x)) (before ++ l ∷ []) later ∙ ap (λ (xs : List ℕ). xs ++ links_bytes later) (links_bytes-push before l) in
     let regrouped : links_bytes links ++ after ≡ links_bytes before ++ (f ++ (links_bytes later ++ after)) =
-        ap (λ (xs : List ℕ). xs ++ after) whole ∙ append_assoc (links_bytes before ++ f) (links_bytes later) after ∙ append_assoc (links_bytes before) f (links_bytes later ++ after) in
+    ap (λ (xs : List ℕ). xs ++ after) whole ∙ append_assoc (links_bytes before ++ f) (links_bytes later) after ∙ append_assoc (links_bytes before) f (links_bytes later ++ after) in
     h (links_bytes later ++ after) (append_cancel_left (links_bytes before) rest (f ++ (links_bytes later ++ after)) (sym so_far ∙ e ∙ regrouped))
 
 pub links_end : (links : List Link) (i : ℕ) (bytes rest : List ℕ) → length links ≤ i → bytes ≡ links_bytes (take i links) ++ rest → bytes ≡ links_bytes links ++ rest
@@ -90,7 +89,7 @@ pub sorted_more : (links : List Link) (i : ℕ) (a b : Link) → 1 ≤ i → i <
 sorted_more links i a b le lt first second =
     let j : i - 1 + 1 ≡ i = omega arith in
     let one : drop (i - 1) links ≡ a ∷ drop i links =
-        drop_more links (i - 1) a (omega arith) ∙ ap (λ (x : Link). x ∷ drop (i - 1 + 1) links) (sym first) ∙ ap (λ (k : ℕ). a ∷ drop k links) j in
+    drop_more links (i - 1) a (omega arith) ∙ ap (λ (x : Link). x ∷ drop (i - 1 + 1) links) (sym first) ∙ ap (λ (k : ℕ). a ∷ drop k links) j in
     let two : drop i links ≡ b ∷ drop (i + 1) links = drop_more links i b lt ∙ ap (λ (x : Link). x ∷ drop (i + 1) links) (sym second) in
     ap are_sorted (one ∙ ap (λ (ls : List Link). a ∷ ls) two) ∙ ap (λ (ls : List Link). is_le (slice_cmp nat_cmp a.name b.name) && are_sorted ls) (sym two)
 
@@ -118,9 +117,10 @@ sorted_end links i all le so_far = sym (short_sorted (drop (i - 1) links) (omega
 -- ---- nodes
 
 pub content_is : (f bytes rest : List ℕ) (b : Bool) → bytes ≡ f ++ rest → b ≡ (length rest == 0) → IsTrue b ↔ (bytes ≡ f)
-content_is f bytes rest b e is =
-    (λ t. e ∙ ap (λ (xs : List ℕ). f ++ xs) (nil_from_length rest (eqb-true (length rest) 0 (sym is ∙ t))) ∙ append-nil f,
-     λ k. is ∙ eq-eqb (length rest) 0 (omega (arith, ap length (sym e ∙ k), length-append f rest)))
+content_is f bytes rest b e is = (
+  λ t. e ∙ ap (λ (xs : List ℕ). f ++ xs) (nil_from_length rest (eqb-true (length rest) 0 (sym is ∙ t))) ∙ append-nil f,
+  λ k. is ∙ eq-eqb (length rest) 0 (omega (arith, ap length (sym e ∙ k), length-append f rest)),
+)
 
 pub content_is_not : (f bytes : List ℕ) → ((rest : List ℕ) → bytes ≢ f ++ rest) → IsTrue false ↔ (bytes ≡ f)
 content_is_not f bytes h = (λ t. absurd (false≢true t), λ e. absurd (h [] (e ∙ sym (append-nil f))))
@@ -138,9 +138,10 @@ not_fronted node bytes h = (λ t. absurd (false≢true t), λ k. absurd (h (opti
 pub is_fronted : (node : Node) (bytes rest : List ℕ) (b : Bool) → are_sorted node.links ≡ true → AreLinks node.links → bytes ≡ links_bytes node.links ++ rest
     → IsTrue b ↔ (rest ≡ optional (content_field 0x0a) node.content) → IsTrue b ↔ IsCanonical node bytes
 unfolding node_bytes
-is_fronted node bytes rest b sorted links e iff =
-    (λ t. (record { links = links; sorted = sorted }, e ∙ ap (λ (xs : List ℕ). links_bytes node.links ++ xs) (iff.0 t)),
-     λ k. iff.1 (append_cancel_left (links_bytes node.links) rest (optional (content_field 0x0a) node.content) (sym e ∙ k.1)))
+is_fronted node bytes rest b sorted links e iff = (
+  λ t. (record { links = links; sorted = sorted }, e ∙ ap (λ (xs : List ℕ). links_bytes node.links ++ xs) (iff.0 t)),
+  λ k. iff.1 (append_cancel_left (links_bytes node.links) rest (optional (content_field 0x0a) node.content) (sym e ∙ k.1)),
+)
 
 -- ---- as the code asks for them
 
@@ -160,7 +161,7 @@ pub names_front : (l : Link) (hash name bytes mid : List ℕ) (found : Option (B
     → IsFront (content_field 0x0a (cid_bytes l.cid) ++ content_field 0x12 l.name) bytes found
 names_front l hash name bytes mid found h n e k =
     second_front_by (content_field 0x0a hash) (content_field 0x0a (cid_bytes l.cid)) (content_field 0x12 l.name) bytes mid found (ap (content_field 0x0a) h) e
-        (subst (λ (x : List ℕ). IsFront (content_field 0x12 x) mid found) n k)
+    (subst (λ (x : List ℕ). IsFront (content_field 0x12 x) mid found) n k)
 
 pub names_front_none : (l : Link) (hash bytes : List ℕ) → hash ≡ cid_bytes l.cid → ((rest : List ℕ) → bytes ≢ content_field 0x0a hash ++ rest)
     → (rest : List ℕ) → bytes ≢ (content_field 0x0a (cid_bytes l.cid) ++ content_field 0x12 l.name) ++ rest
@@ -170,7 +171,7 @@ pub parts_front : (l : Link) (made slice bytes mid : List ℕ) (found : Option (
     → IsFront (link_bytes l) bytes found
 parts_front l made slice bytes mid found s m e k =
     second_front (content_field 0x0a (cid_bytes l.cid) ++ content_field 0x12 l.name) (number_field 0x18 l.tsize) bytes mid found e
-        (subst (λ (x : List ℕ). IsFront x mid found) (s ∙ m) k)
+    (subst (λ (x : List ℕ). IsFront x mid found) (s ∙ m) k)
 
 pub no_content : (b : List ℕ) (o : Option (List ℕ)) (slice bytes : List ℕ) → o ≡ Some b → slice ≡ b → ((rest : List ℕ) → bytes ≢ content_field 0x0a slice ++ rest) → IsTrue false ↔ (bytes ≡ optional (content_field 0x0a) o)
 no_content b o slice bytes is s h =

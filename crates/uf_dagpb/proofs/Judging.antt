@@ -14,8 +14,8 @@ use Rattle.uf_dagpb.specs.declared.fault.PbFault.TheVariants as pb
 use Rattle.uf_dagpb.specs.declared.node.Link.{Link}
 use Rattle.uf_dagpb.specs.declared.node.Node.{Node}
 use Rattle.uf_dagpb.specs.declared.parts.Parts.{Parts}
-use Rattle.uf_dagpb.specs.Reading.{pb_fault, hash_of, bytes_of, number_of, first, first_of_all, link_content_fault, content_fault, is_link_key, link_fault, link_of, node_content_fault, node_fault, node_of, judged, node_reads}
-use Rattle.uf_dagpb.specs.Steps.{cut, or_fault, text_of, bytes_in, number_in, link_end, took_hash, took_name, took_tsize, took, link_from, link_reads, took_link, took_content, node_from, no_node}
+use Rattle.uf_dagpb.specs.Reading.{hash_of, bytes_of, number_of, first, first_of_all, link_content_fault, content_fault, link_fault, link_of, node_content_fault, node_fault, judged, node_reads}
+use Rattle.uf_dagpb.specs.Steps.{or_fault, link_end, took_hash, took_name, took_tsize, link_from, link_reads, took_link, took_content, node_from, no_node}
 
 -- one answer, said in two ways
 abbrev pub Agrees : Result Link PbFault → Option PbFault → Option Link → Type 0
@@ -120,7 +120,6 @@ node_with links o fs = record { links = links ++ filter_map link_in fs; content 
 abbrev node : List Link → Option (List ℕ) → Node
 node links o = record { links = links; content = o }
 
-
 or-false : (b : Bool) → (b || false) ≡ b
 or-false true = refl
 or-false false = refl
@@ -164,7 +163,7 @@ fields_judged (Keyed key c ∷ fs) links o = by (cases_Bool (key == 0x12)) (case
     by (inl a) b again =
         subst (λ (k : ℕ). node_from (node links o) (Keyed k c ∷ fs) ≡ judged (node_fault (is_some o) (Keyed k c ∷ fs)) (node_with links o (Keyed k c ∷ fs))) (sym (eqb-true key 0x12 a))
         (link_more_judged fs c links o (λ ls. again ls o)
-         ∙ sym (ap (λ (x : Bool). judged (first (content_fault (node_content_fault 0x12) c) (node_fault x fs)) (node_with links o (Keyed 0x12 c ∷ fs))) (or-false (is_some o))))
+        ∙ sym (ap (λ (x : Bool). judged (first (content_fault (node_content_fault 0x12) c) (node_fault x fs)) (node_with links o (Keyed 0x12 c ∷ fs))) (or-false (is_some o))))
     by (inr a) (inl b) again =
         subst (λ (k : ℕ). node_from (node links o) (Keyed k c ∷ fs) ≡ judged (node_fault (is_some o) (Keyed k c ∷ fs)) (node_with links o (Keyed k c ∷ fs))) (sym (eqb-true key 0x0a b))
         (content_judged fs c links o (λ x. again links (Some x)))

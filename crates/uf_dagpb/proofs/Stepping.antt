@@ -1,10 +1,10 @@
 -- The reading goes over the bytes field by field.
-use Rattle.std.proofs.Common.{◌≡◌, ℕ, suc, ◌<◌, ◌%◌, List, [], ◌∷◌, ◌++◌, length, refl, ap, subst, arith, sym, ◌∙◌, Bool, true, false, cond, nat_eq, ◌⊎◌, inl, inr, Ok, Err, Result, Option, None, Some}
+use Rattle.std.proofs.Common.{◌≡◌, ℕ, ◌<◌, ◌%◌, List, [], ◌∷◌, ◌++◌, length, refl, ap, subst, arith, sym, ◌∙◌, Bool, true, false, cond, ◌⊎◌, inl, inr, Ok, Err, Result, Option, None, Some}
 use Rattle.std.specs.Prelude.{◌==◌, is_some}
 use Rattle.std.proofs.lemmas.Bool.{cases_Bool, eqb-true, eqb-false}
 use Rattle.std.proofs.lemmas.List.{nil_from_length}
 use Rattle.uf_varint.specs.declared.fields.CutFault.{CutFault}
-use Rattle.uf_varint.specs.Fields.{◌>>=◌, Content, Number, Bytes, Field, NoKey, Keyed, number_at, bytes_at, as_number, as_bytes, content_at, field_then, key_then, fields, fields_within}
+use Rattle.uf_varint.specs.Fields.{◌>>=◌, Content, number_at, bytes_at, as_number, as_bytes, content_at, field_then, key_then, fields, fields_within}
 use Rattle.uf_varint.proofs.Cutting.{fields-cons}
 use Rattle.uf_cid.specs.declared.cid.Cid.{Cid}
 use Rattle.uf_dagpb.specs.declared.fault.PbFault.{PbFault}
@@ -13,7 +13,7 @@ use Rattle.uf_dagpb.specs.declared.node.Link.{Link}
 use Rattle.uf_dagpb.specs.declared.node.Node.{Node}
 use Rattle.uf_dagpb.specs.declared.parts.Parts.{Parts}
 use Rattle.uf_dagpb.specs.Reading.{pb_fault, hash_of, Fails}
-use Rattle.uf_dagpb.specs.Steps.{cut, or_fault, text_of, hash_next, name_next, tsize_next, keyed_next, link_next, link_end, bytes_in, number_in, took_hash, took_name, took_tsize, took, link_from, link_reads, links_next, content_next, node_next, took_link, took_content, node_from}
+use Rattle.uf_dagpb.specs.Steps.{cut, or_fault, text_of, keyed_next, link_next, link_end, link_from, link_reads, links_next, content_next, node_next, node_from}
 
 -- what is said behind one more field of a link, and of a node
 abbrev pub link_behind : Result (Parts × List ℕ) PbFault → Result Link PbFault

@@ -1,5 +1,5 @@
 -- What the strict reader may say.
-use Rattle.std.proofs.Common.{◌≡◌, ◌≢◌, ℕ, ◌^◌, ◌<◌, List, length, refl, subst, ap, sym, ◌∙◌, ◌⊎◌, inl, inr, Ok, Err, Result, Bool, true, false, IsTrue}
+use Rattle.std.proofs.Common.{◌≡◌, ◌≢◌, ℕ, ◌^◌, ◌<◌, List, length, refl, subst, ap, sym, ◌∙◌, ◌⊎◌, inl, inr, Ok, Err, Result, Bool, false, IsTrue}
 use Rattle.std.specs.Prelude.{◌↔◌}
 use Rattle.std.proofs.lemmas.Bool.{false≢true}
 use Rattle.uf_cid.specs.declared.bytes.StrictFault.{StrictFault}

@@ -1,6 +1,6 @@
 -- What the lenient reader answers (IPLD DAG-PB, "Serial Format"; Protocol Buffers wire format): the bytes are cut into
 -- fields, and these are judged from the left. Fields may stand in any order.
-use Rattle.std.specs.Prelude.{◌≡◌, ℕ, List, [], ◌∷◌, length, Bool, true, false, ◌&&◌, ◌||◌, not, ◌==◌, ◌⊎◌, if◌then◌else◌, is_some}
+use Rattle.std.specs.Prelude.{◌≡◌, ℕ, List, [], ◌∷◌, length, Bool, false, ◌&&◌, ◌||◌, not, ◌==◌, ◌⊎◌, if◌then◌else◌, is_some}
 use Rattle.std.specs.declared.option.Option.{Option}
 use Rattle.std.specs.declared.option.Option.TheVariants.{None, Some}
 use Rattle.std.specs.declared.result.Result.{Result}
@@ -8,7 +8,7 @@ use Rattle.std.specs.declared.result.Result.TheVariants.{Ok, Err}
 use Rattle.std.specs.List.{filter_map, list_any}
 use Rattle.std.specs.Option.{option_and_then, unwrap_or}
 use Rattle.std.specs.Str.{is_utf8}
-use Rattle.uf_varint.specs.Fields.{Content, Number, Bytes, Field, NoKey, Keyed, fields, fields_within}
+use Rattle.uf_varint.specs.Fields.{Content, Number, Bytes, Field, NoKey, Keyed, fields}
 use Rattle.uf_varint.specs.declared.fields.CutFault.{CutFault}
 use Rattle.uf_varint.specs.declared.fields.CutFault.TheVariants.{Truncated, Varint, Wire}
 use Rattle.uf_cid.specs.Read.{cid_at}
@@ -83,7 +83,10 @@ link_fault seen (Keyed key c ∷ fs) =
 -- the link that fields without a fault stand for: a missing name is empty, and a missing Tsize is 0
 abbrev pub link_of : List Field → Option Link
 link_of fs = option_and_then (λ c. Some (record {
-    cid = c; name = unwrap_or (first_of_all (bytes_of 0x12) fs) []; tsize = unwrap_or (first_of_all (number_of 0x18) fs) 0 }))
+  cid = c;
+  name = unwrap_or (first_of_all (bytes_of 0x12) fs) [];
+  tsize = unwrap_or (first_of_all (number_of 0x18) fs) 0;
+}))
     (option_and_then hash_of (first_of_all (bytes_of 0x0a) fs))
 
 -- what is wrong with the content of a node's field: a link has a fault, or it is of another kind
@@ -104,7 +107,8 @@ node_fault seen (Keyed key c ∷ fs) =
 abbrev pub node_of : List Field → Node
 node_of fs = record {
   links = filter_map (λ f. option_and_then (λ b. link_of (fields b)) (bytes_of 0x12 f)) fs;
-  content = first_of_all (bytes_of 0x0a) fs }
+  content = first_of_all (bytes_of 0x0a) fs;
+}
 
 -- a value, where nothing is wrong
 abbrev pub judged : {A : Type 0} → Option PbFault → A → Result A PbFault

@@ -1,11 +1,10 @@
 -- The one canonical spelling of a DAG-PB node (IPLD DAG-PB, "Serial Format" and "Link Sorting"; Protocol Buffers wire format).
-use Rattle.std.specs.Prelude.{ℕ, ◌<◌, ◌^◌, Bool, true, ◌&&◌, IfSome, IsTrue, List, [], ◌∷◌, ◌++◌, length}
+use Rattle.std.specs.Prelude.{ℕ, ◌<◌, ◌^◌, Bool, true, ◌&&◌, IsTrue, List, [], ◌∷◌, ◌++◌}
 use Rattle.std.specs.Cmp.Lexicographic.{slice_cmp}
 use Rattle.std.specs.List.{flat_map, AllByRecursion}
 use Rattle.std.specs.Ordering.{is_le, nat_cmp}
 use Rattle.std.specs.Str.{IsUtf8}
 use Rattle.uf_varint.specs.Fields.{content_field, number_field, optional}
-use Rattle.uf_cid.specs.Bytes.{IsBytes}
 use Rattle.uf_cid.specs.Cid.{cid_bytes}
 use Rattle.uf_cid.specs.Read.{IsCid}
 use Rattle.uf_dagpb.specs.declared.node.Link.{Link}

@@ -1,5 +1,5 @@
 -- The same reading in steps, one field on: what the code keeps of the fields behind it.
-use Rattle.std.specs.Prelude.{ℕ, List, [], ◌∷◌, ◌++◌, length, Bool, true, false, ◌==◌, if◌then◌else◌, is_some}
+use Rattle.std.specs.Prelude.{ℕ, List, [], ◌∷◌, ◌++◌, ◌==◌, if◌then◌else◌, is_some}
 use Rattle.std.specs.declared.option.Option.{Option}
 use Rattle.std.specs.declared.option.Option.TheVariants.{None, Some}
 use Rattle.std.specs.declared.result.Result.{Result}
@@ -8,7 +8,6 @@ use Rattle.std.specs.Option.{unwrap_or}
 use Rattle.std.specs.Str.{is_utf8}
 use Rattle.uf_varint.specs.Fields.{◌>>=◌, Content, Number, Bytes, Field, NoKey, Keyed, fields, number_at, bytes_at}
 use Rattle.uf_varint.specs.declared.fields.CutFault.{CutFault}
-use Rattle.uf_cid.specs.declared.cid.Cid.{Cid}
 use Rattle.uf_dagpb.specs.declared.fault.PbFault.{PbFault}
 use Rattle.uf_dagpb.specs.declared.fault.PbFault.TheVariants as pb
 use Rattle.uf_dagpb.specs.declared.node.Link.{Link}

@@ -15,13 +15,7 @@ fn hash_in(bytes: &[u8]) -> Option<Cid>
     ensures { result ≡ hash_of bytes.now }
 {
     match Cid::read_binary(bytes) {
-        Ok((cid, used)) => {
-            if used == bytes.len() {
-                Some(cid)
-            } else {
-                None
-            }
-        }
+        Ok((cid, used)) => { if used == bytes.len() { Some(cid) } else { None } }
         Err(_) => None,
     }
 }
@@ -54,8 +48,19 @@ fn hash_field(parts: Parts, bytes: &[u8]) -> Result<(Parts, &[u8]), PbFault>
         Ok((hash, rest)) => match hash_in(hash) {
             None => Err(PbFault::BadCid),
             Some(cid) => {
-                let Parts { cid: _, name, tsize } = parts;
-                Ok((Parts { cid: Some(cid), name, tsize }, rest))
+                let Parts {
+                    cid: _,
+                    name,
+                    tsize,
+                } = parts;
+                Ok((
+                    Parts {
+                        cid: Some(cid),
+                        name,
+                        tsize,
+                    },
+                    rest,
+                ))
             }
         },
     }
@@ -73,8 +78,19 @@ fn name_field(alloc: Global, parts: Parts, bytes: &[u8]) -> Result<(Parts, &[u8]
         Ok((name, rest)) => match text_in(alloc, name) {
             Err(fault) => Err(fault),
             Ok(text) => {
-                let Parts { cid, name: _, tsize } = parts;
-                Ok((Parts { cid, name: Some(text), tsize }, rest))
+                let Parts {
+                    cid,
+                    name: _,
+                    tsize,
+                } = parts;
+                Ok((
+                    Parts {
+                        cid,
+                        name: Some(text),
+                        tsize,
+                    },
+                    rest,
+                ))
             }
         },
     }
@@ -90,13 +106,29 @@ fn tsize_field(parts: Parts, bytes: &[u8]) -> Result<(Parts, &[u8]), PbFault>
     match read_number(bytes) {
         Err(fault) => Err(PbFault::from(fault)),
         Ok((number, rest)) => {
-            let Parts { cid, name, tsize: _ } = parts;
-            Ok((Parts { cid, name, tsize: Some(number) }, rest))
+            let Parts {
+                cid,
+                name,
+                tsize: _,
+            } = parts;
+            Ok((
+                Parts {
+                    cid,
+                    name,
+                    tsize: Some(number),
+                },
+                rest,
+            ))
         }
     }
 }
 
-fn keyed_field(alloc: Global, parts: Parts, key: u64, bytes: &[u8]) -> Result<(Parts, &[u8]), PbFault>
+fn keyed_field(
+    alloc: Global,
+    parts: Parts,
+    key: u64,
+    bytes: &[u8],
+) -> Result<(Parts, &[u8]), PbFault>
     ensures exact { Gives (λ x. (x.0, x.1.now)) result (keyed_next parts key bytes.now) }
     ensures shorter { IfOk result (λ x. length x.1.now < length bytes.now) }
 {

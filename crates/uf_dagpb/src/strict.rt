@@ -116,7 +116,10 @@ fn behind_link<'a>(link: &Link, bytes: &'a [u8]) -> Option<&'a [u8]>
     ensures front { IsFront (content_field 0x12 (link_bytes link.now)) bytes.now result }
 {
     links_are_valid(link);
-    match behind(NumberField::new(0x12, link_len(link) as u64).as_slice(), bytes) {
+    match behind(
+        NumberField::new(0x12, link_len(link) as u64).as_slice(),
+        bytes,
+    ) {
         None => None,
         Some(rest) => behind_parts(link, rest),
     }
@@ -144,7 +147,10 @@ fn behind_names<'a>(link: &Link, bytes: &'a [u8]) -> Option<&'a [u8]>
 fn behind_field<'a>(key: u8, content: &[u8], bytes: &'a [u8]) -> Option<&'a [u8]>
     ensures { IsFront (content_field key content.now) bytes.now result }
 {
-    match behind(NumberField::new(key, content.len() as u64).as_slice(), bytes) {
+    match behind(
+        NumberField::new(key, content.len() as u64).as_slice(),
+        bytes,
+    ) {
         None => None,
         Some(rest) => behind(content, rest),
     }

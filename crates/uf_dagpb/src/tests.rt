@@ -63,9 +63,27 @@ fn again(rt: &HostRuntime, bytes: &[u8]) -> Result<bool, StrictFault> {
 #[test]
 fn blocks_are_read_and_written(rt: HostRuntime) -> Result<(), Fail> {
     let rows: [(&[u8], usize, Cid, u64, &[u8]); 3] = [
-        (&P, 2, Cid::of::<Sha256Hash>(Codec::Raw, b"b"), 1, &[8, 2, 0x18, 2, 0x20, 1, 0x20, 1]),
-        (&Q, 1, Cid::of::<Sha256Hash>(Codec::Raw, b"c"), 1, &[8, 2, 0x18, 1, 0x20, 1]),
-        (&R, 2, Cid::of::<Sha256Hash>(Codec::DagPb, &Q), 0x35, &[8, 2, 0x18, 3, 0x20, 2, 0x20, 1]),
+        (
+            &P,
+            2,
+            Cid::of::<Sha256Hash>(Codec::Raw, b"b"),
+            1,
+            &[8, 2, 0x18, 2, 0x20, 1, 0x20, 1],
+        ),
+        (
+            &Q,
+            1,
+            Cid::of::<Sha256Hash>(Codec::Raw, b"c"),
+            1,
+            &[8, 2, 0x18, 1, 0x20, 1],
+        ),
+        (
+            &R,
+            2,
+            Cid::of::<Sha256Hash>(Codec::DagPb, &Q),
+            0x35,
+            &[8, 2, 0x18, 3, 0x20, 2, 0x20, 1],
+        ),
     ];
     for (bytes, count, cid, tsize, content) in rows {
         assert_eq!(rt; again(&rt, bytes), Ok(true));
@@ -93,8 +111,16 @@ fn faults_are_the_first(rt: HostRuntime) {
         (&[0x1a, 0], PbFault::Field),
         (&[0x1a], PbFault::Field),
         (&[0x08, 0], PbFault::Field),
-        (&[0x0a, 0xff, 0xff, 0xff, 0xff, 0xff, 0xff, 0xff, 0xff, 0xff, 2], PbFault::Varint),
-        (&[0xff, 0xff, 0xff, 0xff, 0xff, 0xff, 0xff, 0xff, 0xff, 2], PbFault::Varint),
+        (
+            &[
+                0x0a, 0xff, 0xff, 0xff, 0xff, 0xff, 0xff, 0xff, 0xff, 0xff, 2,
+            ],
+            PbFault::Varint,
+        ),
+        (
+            &[0xff, 0xff, 0xff, 0xff, 0xff, 0xff, 0xff, 0xff, 0xff, 2],
+            PbFault::Varint,
+        ),
         (&[0x12, 0], PbFault::NoHash),
         (&[0x12, 2, 0x12, 0], PbFault::NoHash),
         (&[0x12, 2, 0x0a, 0], PbFault::BadCid),

@@ -1,5 +1,5 @@
 -- Numbers that stand one behind the other.
-use Rattle.std.proofs.Common.{◌≡◌, ◌⊎◌, inl, inr, ℕ, zero, suc, ◌<◌, ◌≤◌, Bool, true, false, eqb, List, [], ◌∷◌, ◌++◌, length, refl, ap, sym, ◌∙◌, append_assoc, arith, Ok, Err, Result}
+use Rattle.std.proofs.Common.{◌≡◌, ◌⊎◌, inl, inr, ℕ, zero, suc, ◌<◌, ◌≤◌, true, false, eqb, List, [], ◌∷◌, ◌++◌, length, refl, ap, sym, ◌∙◌, append_assoc, arith, Ok, Err, Result}
 use Rattle.std.specs.Prelude.{IfOk}
 use Rattle.std.proofs.lemmas.Bool.{eqb-true}
 use Rattle.std.proofs.lemmas.List.{append-nil}
@@ -9,7 +9,7 @@ use Rattle.uf_varint.proofs.Cutting.{number_leaves}
 use Rattle.uf_message.specs.declared.message.MsgFault.{MsgFault}
 use Rattle.uf_message.specs.declared.message.MsgFault.TheVariants as fault
 use Rattle.uf_message.specs.Reading.{msg_fault, run, run_within}
-use Rattle.uf_message.specs.Steps.{Gives, added, cut_of}
+use Rattle.uf_message.specs.Steps.{added, cut_of}
 
 abbrev all : List ℕ → Result (List ℕ) MsgFault
 all ns = Ok ns

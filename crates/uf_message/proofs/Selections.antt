@@ -1,11 +1,11 @@
 -- Fields taken one after the other are the fields taken at once.
-use Rattle.std.proofs.Common.{◌≡◌, ◌⊎◌, inl, inr, ℕ, zero, suc, ◌%◌, Bool, true, false, eqb, List, [], ◌∷◌, ◌++◌, length, refl, ap, sym, subst, ◌∙◌, append_assoc, arith, Option, Some, None, Ok, Err, Result, cond}
+use Rattle.std.proofs.Common.{◌≡◌, ◌⊎◌, inl, inr, ℕ, ◌%◌, Bool, true, false, eqb, List, [], ◌∷◌, ◌++◌, length, refl, ap, sym, subst, ◌∙◌, append_assoc, arith, Option, Some, None, Ok, Err, Result, cond}
 use Rattle.std.specs.Prelude.{flat_map}
 use Rattle.std.specs.Option.{option_or}
 use Rattle.std.proofs.lemmas.Bool.{eqb-true}
 use Rattle.std.proofs.lemmas.List.{append-nil}
 use Rattle.uf_varint.specs.declared.fields.CutFault.{CutFault}
-use Rattle.uf_varint.specs.Fields.{Content, Field, NoKey, Keyed, number_at, content_at, fields, field_then, key_then, fields_within}
+use Rattle.uf_varint.specs.Fields.{Content, Field, Keyed, number_at, content_at, fields, field_then, key_then, fields_within}
 use Rattle.uf_varint.proofs.Cutting.{fields-cons}
 use Rattle.uf_message.specs.declared.message.Message.{Message}
 use Rattle.uf_message.specs.declared.message.MsgFault.{MsgFault}
@@ -35,7 +35,7 @@ over_cons x fs s =
     let mode = or_assoc (last_of (number_of 0x38) fs) (number_of 0x38 x) s.mode in
     let mtime = or_assoc (last_of (bytes_of 0x42) fs) (bytes_of 0x42 x) s.mtime in
     let sizes : s.sizes ++ (sizes_of x ++ flat_map sizes_of fs) ≡ (s.sizes ++ (sizes_of x ++ [])) ++ flat_map sizes_of fs =
-      sym (append_assoc s.sizes (sizes_of x) (flat_map sizes_of fs)) ∙ ap (λ (t : List ℕ). (s.sizes ++ t) ++ flat_map sizes_of fs) (sym (append-nil (sizes_of x))) in
+    sym (append_assoc s.sizes (sizes_of x) (flat_map sizes_of fs)) ∙ ap (λ (t : List ℕ). (s.sizes ++ t) ++ flat_map sizes_of fs) (sym (append-nil (sizes_of x))) in
     λ i. record { kind = kind i; content = content i; filesize = filesize i; sizes = sizes i; hash_type = hash_type i; fanout = fanout i; mode = mode i; mtime = mtime i }
 
 over_nothing : (s : Selected) → over s (selected []) ≡ s
@@ -49,7 +49,7 @@ over_nothing s =
     let mtime = or_none s.mtime in
     λ i. record { kind = kind i; content = content i; filesize = filesize i; sizes = s.sizes; hash_type = hash_type i; fanout = fanout i; mode = mode i; mtime = mtime i }
 
-nothing_over : (s : Selected) → over (selected []) s ≡ s
+pub nothing_over : (s : Selected) → over (selected []) s ≡ s
 nothing_over s = let sizes = append-nil s.sizes in λ i. record s { sizes = sizes i }
 
 pub starts : (bytes : List ℕ) → reads_on (selected []) (fields bytes) ≡ message_reads bytes

@@ -1,16 +1,16 @@
 -- The fields of a time taken one after the other are the fields taken at once.
 use Rattle.std.proofs.Common.{◌≡◌, ℕ, ◌%◌, Bool, true, false, eqb, List, [], ◌∷◌, length, refl, ap, sym, ◌∙◌, arith, Option, Some, None, Ok, Err, Result, cond}
 use Rattle.std.specs.Prelude.{is_some, if◌then◌else◌}
-use Rattle.std.specs.Option.{option_or, option_map}
+use Rattle.std.specs.Option.{option_or}
 use Rattle.std.proofs.lemmas.Bool.{eqb-true}
 use Rattle.uf_varint.specs.declared.fields.CutFault.{CutFault}
-use Rattle.uf_varint.specs.Fields.{Content, Field, NoKey, Keyed, number_at, content_at, fields, field_then, key_then, fields_within}
+use Rattle.uf_varint.specs.Fields.{Content, Field, Keyed, number_at, content_at, fields, field_then, key_then, fields_within}
 use Rattle.uf_varint.proofs.Cutting.{fields-cons}
 use Rattle.uf_message.specs.declared.message.MsgFault.{MsgFault}
 use Rattle.uf_message.specs.declared.message.MsgFault.TheVariants as fault
 use Rattle.uf_message.specs.declared.message.Mtime.{Mtime}
 use Rattle.uf_message.specs.declared.seen.SeenTime.{SeenTime}
-use Rattle.uf_message.specs.Reading.{msg_fault, first_of, last_of, number_of, nanos_of, is_misplaced, mtime_field_fault, time_of, mtime_of, mtime_reads}
+use Rattle.uf_message.specs.Reading.{msg_fault, first_of, last_of, number_of, nanos_of, is_misplaced, mtime_field_fault, time_of, mtime_reads}
 use Rattle.uf_message.specs.Times.{time_took}
 use Rattle.uf_message.proofs.Selections.{or_assoc, or_none}
 

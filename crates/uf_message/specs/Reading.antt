@@ -1,6 +1,6 @@
 -- What the lenient reader answers (UnixFS v1, "Data Format"; Protocol Buffers, "Encoding", "Message Structure"): the bytes
 -- are cut into fields, these are judged from the left, and then values are selected by key, the last of each.
-use Rattle.std.specs.Prelude.{◌==◌, ◌&&◌, not, Bool, ℕ, zero, suc, ◌%◌, ◌^◌, List, [], ◌∷◌, ◌++◌, length, flat_map, nat_lt, if◌then◌else◌, is_some}
+use Rattle.std.specs.Prelude.{◌==◌, ◌&&◌, not, Bool, ℕ, zero, suc, ◌%◌, ◌^◌, List, [], ◌∷◌, length, flat_map, nat_lt, if◌then◌else◌, is_some}
 use Rattle.std.specs.Int.{w32, w64, from_le_bytes, cast_signed}
 use Rattle.std.specs.List.{list_any}
 use Rattle.std.specs.Option.{option_map, option_or, ok_or}
@@ -128,7 +128,8 @@ selected fs = record {
   hash_type = last_of (number_of 0x28) fs;
   fanout = last_of (number_of 0x30) fs;
   mode = last_of (number_of 0x38) fs;
-  mtime = last_of (bytes_of 0x42) fs }
+  mtime = last_of (bytes_of 0x42) fs;
+}
 
 -- the kind of a number
 abbrev pub kind_of : ℕ → Option MsgKind
@@ -146,8 +147,16 @@ message_of s =
     ok_or s.kind fault.NoType >>= λ n.
     ok_or (kind_of n) fault.UnknownType >>= λ kind.
     time_part s.mtime >>= λ mtime.
-    Ok (record { kind = kind; content = s.content; filesize = s.filesize; blocksizes = s.sizes; hash_type = s.hash_type;
-      fanout = s.fanout; mode = option_map (λ n. n % 2 ^ 32) s.mode; mtime = mtime })
+    Ok (record {
+      kind = kind;
+      content = s.content;
+      filesize = s.filesize;
+      blocksizes = s.sizes;
+      hash_type = s.hash_type;
+      fanout = s.fanout;
+      mode = option_map (λ n. n % 2 ^ 32) s.mode;
+      mtime = mtime;
+    })
 
 abbrev pub judged : {A : Type 0} → Option MsgFault → Result A MsgFault → Result A MsgFault
 judged None r = r

@@ -1,11 +1,11 @@
 -- Fields taken one after the other, as a reader goes.
-use Rattle.std.specs.Prelude.{◌≡◌, ◌⊎◌, ℕ, List, [], ◌∷◌, ◌++◌, if◌then◌else◌}
+use Rattle.std.specs.Prelude.{◌≡◌, ◌⊎◌, ℕ, List, [], ◌∷◌, ◌++◌}
 use Rattle.std.specs.Option.{option_map, option_or}
 use Rattle.std.specs.declared.result.Result.{Result}
 use Rattle.std.specs.declared.result.Result.TheVariants.{Ok, Err}
 use Rattle.uf_varint.specs.declared.fields.CutFault.{CutFault}
-use Rattle.uf_varint.specs.Fields.{Content, Field, Keyed}
-use Rattle.uf_message.specs.Reading.{msg_fault, is_misplaced, message_field_fault, judged, selected, Selected}
+use Rattle.uf_varint.specs.Fields.{Content, Keyed}
+use Rattle.uf_message.specs.Reading.{msg_fault, message_field_fault, judged, selected, Selected}
 use Rattle.uf_message.specs.declared.message.MsgFault.{MsgFault}
 use Rattle.uf_message.specs.declared.message.MsgFault.TheVariants as fault
 use Rattle.uf_message.specs.declared.seen.Seen.{Seen}
@@ -35,7 +35,8 @@ selection s = record {
   hash_type = s.hash_type;
   fanout = s.fanout;
   mode = s.mode;
-  mtime = option_map (λ b. b.now) s.mtime }
+  mtime = option_map (λ b. b.now) s.mtime;
+}
 
 -- later fields behind earlier ones
 abbrev pub over : Selected → Selected → Selected
@@ -47,7 +48,8 @@ over later earlier = record {
   hash_type = option_or later.hash_type earlier.hash_type;
   fanout = option_or later.fanout earlier.fanout;
   mode = option_or later.mode earlier.mode;
-  mtime = option_or later.mtime earlier.mtime }
+  mtime = option_or later.mtime earlier.mtime;
+}
 
 -- a field taken behind what was seen, and the bytes that follow it
 abbrev pub took : ℕ → Selected → Result (Content × List ℕ) CutFault → Result (Selected × List ℕ) MsgFault

@@ -1,12 +1,19 @@
 //! UnixFS messages: their canonical bytes, read strictly, and any spelling of them, read leniently (UnixFS v1, "Data Format").
 #![tactic(auto)]
 
-mod writing;
+mod laws;
 mod message;
 mod reading;
 mod seen;
+mod strict;
 mod times;
+mod writing;
 
-pub use reading::decode_lenient;
-pub use writing::encode;
+pub use laws::{messages_are_read_again, messages_fit, spellings_are_one};
 pub use message::{Message, MsgFault, MsgKind, Mtime};
+pub use reading::decode_lenient;
+pub use strict::decode_strict;
+pub use writing::encode;
+
+#[cfg(test)]
+mod tests;

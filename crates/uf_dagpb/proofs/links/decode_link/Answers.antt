@@ -19,5 +19,5 @@ loop-rest-preserved c = link_goes_on c.loop-rest.parts c.in-Ok.next c.loop-rest.
 pub returns : goal.returns
 returns c =
     subst (λ (said : Result Link PbFault). Gives (λ l. l) c.whole.result said)
-        (link_ends c.loop-rest.parts c.loop-rest.rest.now _ (none_left _ _ c.is_empty.ensures c.loop-rest-test.false) c.loop-rest.invariant)
-        c.whole.ensures
+    (link_ends c.loop-rest.parts c.loop-rest.rest.now _ (none_left _ _ c.is_empty.ensures c.loop-rest-test.false) c.loop-rest.invariant)
+    c.whole.ensures

@@ -1,4 +1,4 @@
-use Rattle.std.proofs.Common.{ap, sym, ◌∙◌, None, List}
+use Rattle.std.proofs.Common.{ap, ◌∙◌, None, List}
 use Rattle.uf_varint.specs.Fields.{fields}
 use Rattle.uf_dagpb.specs.declared.node.Link.{Link}
 use Rattle.uf_dagpb.specs.Steps.{node_from}

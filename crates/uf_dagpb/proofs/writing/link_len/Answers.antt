@@ -1,4 +1,4 @@
-use Rattle.std.proofs.Common.{arith, ap, length, ℕ, ◌≡◌}
+use Rattle.std.proofs.Common.{arith, ap, length, ◌≡◌}
 use Rattle.uf_varint.specs.Varint.{varint}
 use Rattle.uf_cid.specs.Cid.{cid_bytes}
 use Rattle.uf_dagpb.proofs.Lengths.{length-link_bytes}

@@ -1,4 +1,4 @@
-use Rattle.std.proofs.Common.{◌≡◌, sym, ap, ◌∙◌}
+use Rattle.std.proofs.Common.{sym, ap, ◌∙◌}
 use Rattle.uf_varint.specs.Fields.{fields}
 use Rattle.uf_message.specs.Reading.{Selected, message_reads}
 use Rattle.uf_message.specs.Steps.{selection}

@@ -1,4 +1,4 @@
-use Rattle.std.proofs.Common.{◌≡◌, sym, ap, ◌∙◌, ◌++◌, ◌∷◌, []}
+use Rattle.std.proofs.Common.{sym}
 use Rattle.uf_message.specs.Steps.{added}
 use Rattle.uf_message.specs.Reading.{run}
 use Rattle.uf_message.proofs.Runs.{goes_on, stops, is_done}

@@ -1,4 +1,4 @@
-use Rattle.std.proofs.Common.{sym, ap, ◌∙◌}
+use Rattle.std.proofs.Common.{sym, ◌∙◌}
 use Rattle.uf_message.specs.Reading.{mtime_reads}
 use Rattle.uf_message.proofs.TimeSteps.{starts, goes_on, key_fails, field_fails, is_done}
 use Rattle.uf_message.proofs.times.time.Goals as goal
