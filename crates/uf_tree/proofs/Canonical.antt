@@ -1,5 +1,5 @@
 -- The blocks of plans are canonical in their roles.
-use Rattle.std.proofs.Common.{◌≡◌, ℕ, zero, suc, ◌+◌, ◌-◌, ◌*◌, ◌^◌, ◌<◌, ◌≤◌, List, [], ◌∷◌, ◌++◌, length, map, refl, ap, arith, sym, ◌∙◌, subst, ◌⊎◌, inl, inr, Bool, true, false, cond, Some, replicate, add-one, mul_assoc}
+use Rattle.std.proofs.Common.{◌≡◌, ℕ, zero, suc, ◌+◌, ◌*◌, ◌^◌, ◌<◌, ◌≤◌, List, [], ◌∷◌, ◌++◌, length, map, refl, ap, arith, sym, ◌∙◌, subst, ◌⊎◌, inl, inr, Bool, true, false, cond, Some, replicate, add-one, mul_assoc}
 use Rattle.std.proofs.lemmas.Nat.{pow-add}
 use Rattle.std.specs.Prelude.{◌==◌, IsTrue, IfSome, sum}
 use Rattle.std.specs.List.{AllByRecursion, range_with_len}
@@ -26,7 +26,7 @@ use Rattle.uf_tree.proofs.Groups.{joined-split}
 use Rattle.uf_tree.proofs.Nested.{groups-map}
 use Rattle.uf_tree.proofs.Valid.{shard-valid, shard_items-valid, file_node-valid, sub-size, sum_sizes}
 
-light : (p : Profile) (l : List Named) → is_sharded p l ≡ false → weight l ≤ p.threshold
+pub light : (p : Profile) (l : List Named) → is_sharded p l ≡ false → weight l ≤ p.threshold
 light p l h = grind (arith, nat_tests)
 
 pub heavy : (p : Profile) (l : List Named) → is_sharded p l ≡ true → 1 ≤ length l
@@ -62,7 +62,7 @@ module _ (N : List ℕ → ℕ) where
   tested : (a b : ℕ) → (a == b) ≡ true → a ≡ b
   tested a b h = grind (arith, nat_tests)
 
-  along_bucket : (way : List ℕ) (s : ℕ) (l : List Named) → AllByRecursion (Along way) l → AllByRecursion (λ e. map (slot (N e.0)) (range_with_len 0 (length way + 1)) ≡ way ++ s ∷ []) (bucket N (length way) s l)
+  pub along_bucket : (way : List ℕ) (s : ℕ) (l : List Named) → AllByRecursion (Along way) l → AllByRecursion (λ e. map (slot (N e.0)) (range_with_len 0 (length way + 1)) ≡ way ++ s ∷ []) (bucket N (length way) s l)
   along_bucket way s [] h = tt
   along_bucket way s (e ∷ l) h = by (slot (N e.0) (length way) == s) refl (along_bucket way s l h.1)
     where
@@ -80,10 +80,7 @@ module _ (N : List ℕ → ℕ) where
       no : (n : ℕ) → suc (suc n) ≤ 1 → ⊥
       no n h = omega arith
 
-  level : ℕ → ℕ
-  level left = 7 - left
-
-  few_last : (left : ℕ) (way : List ℕ) (l : List Named) → length way + left ≡ 7 → HasShard N left l → (s : ℕ) → length way ≡ 7 → length (bucket N (length way) s l) ≤ 1
+  pub few_last : (left : ℕ) (way : List ℕ) (l : List Named) → length way + left ≡ 7 → HasShard N left l → (s : ℕ) → length way ≡ 7 → length (bucket N (length way) s l) ≤ 1
   unfolding HasShard
   few_last zero way l e h s seven = subst (λ k. length (bucket N k s l) ≤ 1) (sym seven) (h s)
   few_last (suc left) way l e h s seven = absurd (omega arith)

@@ -20,7 +20,7 @@ abbrev pub Apart : (List ℕ → List ℕ → Bool) → List Named → Type 0
 Apart same [] = Unit {0}
 Apart same (e ∷ l) = Alone same e.0 l × Apart same l
 
-not_found : (same : List ℕ → List ℕ → Bool) (name : List ℕ) (l : List Named) → find (λ (f : Named). same name f.0) l ≡ None → Alone same name l
+pub not_found : (same : List ℕ → List ℕ → Bool) (name : List ℕ) (l : List Named) → find (λ (f : Named). same name f.0) l ≡ None → Alone same name l
 not_found same name [] h = tt
 not_found same name (f ∷ l) h = by (same name f.0) refl (λ k. not_found same name l k)
   where

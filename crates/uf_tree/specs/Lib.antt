@@ -5,6 +5,7 @@ pub mod DirPlan
 pub mod FilePlan
 pub mod FileSub
 pub mod Heads
+pub mod Least
 pub mod Names
 pub mod Nodes
 pub mod Profiles

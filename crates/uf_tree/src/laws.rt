@@ -1,10 +1,11 @@
 // Laws of the definitions.
-ghost use Rattle.std.specs.Prelude.{◌≡◌, true, false, ◌≤◌, ◌<◌, ◌*◌, ◌^◌, ◌↔◌, ◌==◌, Option, None, Some, ℕ, List, [], ◌∷◌, ◌+◌, ◌++◌, length, map, IsTrue, if◌then◌else◌};
+ghost use Rattle.std.specs.Prelude.{◌≡◌, Bool, true, false, ◌≤◌, ◌<◌, ◌*◌, ◌^◌, ◌↔◌, ◌==◌, Option, None, Some, ℕ, List, [], ◌∷◌, ◌+◌, ◌++◌, length, map, IsTrue, if◌then◌else◌};
 ghost use Rattle.std.specs.FinMap.Entries.{is_sorted, find};
 ghost use Rattle.std.specs.List.{AllByRecursion, range_with_len};
 ghost use Rattle.uf_cid.specs.Blocks.{Held, Lookup, Holds, Agrees};
 ghost use Rattle.uf_murmur.specs.Slots.{slot};
 ghost use Rattle.uf_tree.specs.declared.nodes.Entry.{Entry};
+ghost use Rattle.uf_tree.specs.declared.nodes.FileNode.{FileNode};
 ghost use Rattle.uf_tree.specs.declared.nodes.Part.{Part};
 ghost use Rattle.uf_tree.specs.declared.profile.Profile.{Profile};
 ghost use Rattle.uf_tree.specs.Changes.{with_name, without, set_at};
@@ -12,10 +13,11 @@ ghost use Rattle.uf_tree.specs.Cutting.{joined, room_after, glue};
 ghost use Rattle.uf_tree.specs.DirPlan.{own_plan, dir_plan, trail, is_sharded};
 ghost use Rattle.uf_tree.specs.FilePlan.{Plan, split_from, chunks, groups, node_over, climb, file_plan};
 ghost use Rattle.uf_tree.specs.FileSub.{IsTop, IsRooted, IsHeight, span, part_over};
+ghost use Rattle.uf_tree.specs.Least.{Least};
 ghost use Rattle.uf_tree.specs.Names.{names_cmp};
 ghost use Rattle.uf_tree.specs.Profiles.{is_profile};
 ghost use Rattle.uf_tree.specs.Roles.{IsCanonicalDirectory, IsCanonicalShard, IsCanonicalFileNode, Root, Below};
-ghost use Rattle.uf_tree.specs.Nodes.{Named, file_block, dir_block, shard_block};
+ghost use Rattle.uf_tree.specs.Nodes.{Named, InSlot, file_block, dir_block, shard_block};
 ghost use Rattle.uf_tree.specs.Shardable.{HasShard};
 ghost use Rattle.uf_tree.specs.ShardPlan.{shard, bucket, shard_items, slot_item, twins, same_slots, same_hash};
 ghost use Rattle.uf_tree.specs.Tree.{Tree, Dir, Entries, pairs, entries, is_tree};
@@ -102,6 +104,11 @@ pub fn a_directory_has_a_plan_unless_names_collide()
         → dir_plan X N p l ≡ elim (if is_sharded p l then twins (same_hash N) l else None) [ None ↦ Some (own_plan X N p l) | Some names ↦ None ] }
 {}
 
+/// In byte order the twins are the least name that has a twin, and the least of its twins.
+pub fn twins_are_the_least()
+    ensures { (same : List ℕ → List ℕ → Bool) (l : List Named) (a b : List ℕ) → IsTrue (is_sorted names_cmp l) → twins same l ≡ Some (a, b) → Least same a b l }
+{}
+
 /// The blocks that decide a name are blocks of the directory.
 pub fn a_trail_is_among_the_blocks()
     ensures holds { (X : List ℕ → List ℕ) (N : List ℕ → ℕ) (p : Profile) (l : List Named) (name : List ℕ) (held : Lookup) → Holds held (own_plan X N p l).blocks → Holds held (trail X N p l name) }
@@ -165,4 +172,11 @@ pub fn the_nodes_of_a_file_are_canonical()
 /// A file that stands has at most 22 rows of nodes.
 pub fn a_file_has_few_rows()
     ensures { (p : Profile) (n height : ℕ) → IsTrue (is_profile p) → n ≤ p.chunk * 4194304 → IsHeight p.chunk p.width n height → height ≤ 22 }
+{}
+
+/// No canonical block has more than 2097152 bytes.
+pub fn canonical_blocks_are_short()
+    ensures directory { (p : Profile) (l : List Named) → IsTrue (is_profile p) → AllByRecursion IsNamed l → is_sharded p l ≡ false → length (dir_block l) ≤ 2097152 }
+    ensures shard { (items : List InSlot) → IsShard items → length (shard_block items) ≤ 2097152 }
+    ensures file { (node : FileNode) → IsFileNode node → length (file_block node) ≤ 2097152 }
 {}
