@@ -5,10 +5,12 @@ pub mod Each
 pub mod Groups
 pub mod Held
 pub mod Least
+pub mod Naming
 pub mod Nested
 pub mod Rows
 pub mod ShardLaws
 pub mod Sizes
+pub mod Spelt
 pub mod Sub
 pub mod Tests
 pub mod TreeLaws

@@ -1,4 +1,5 @@
 pub mod Changes
+pub mod Codecs
 pub mod Cutting
 pub mod DirPlan
 pub mod FilePlan

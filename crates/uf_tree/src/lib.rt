@@ -2,12 +2,17 @@
 //! files, directories and shards are made of (UnixFS v1 over IPLD DAG-PB).
 #![tactic(auto)]
 
+mod file_codec;
 pub mod laws;
+mod limits;
 mod name;
 mod nodes;
 mod profile;
+mod spelling;
 pub mod vectors;
 
-pub use name::{Name, Names};
+pub use file_codec::file_node;
+pub use limits::BadProfile;
+pub use name::{Name, NameFault, Names};
 pub use nodes::{Entry, FileNode, Item, Items, Pair, Pairs, Part, Parts, Placed};
 pub use profile::{Head, Profile};

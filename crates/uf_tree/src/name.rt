@@ -1,6 +1,12 @@
 // The name of a member of a directory.
+ghost use Rattle.std.specs.Prelude.{◌≡◌, ◌⊎◌, ◌==◌, ◌||◌, false, IfOk, IsTrue, MatchResult};
+ghost use Rattle.std.specs.List.{list_any};
+ghost use Rattle.uf_tree.specs.Names.{is_dots, is_good, is_name};
+ghost use Rattle.uf_tree.specs.declared.name.NameFault.TheVariants as name_faults;
+
+use std::alloc::Global;
 use std::marker::Model;
-use uf_cid::{Seq, Text};
+use uf_cid::{Copied, Memory, Seq, Text};
 
 /// A good name: 1 to 255 bytes of UTF-8 without `/` and NUL, and neither `.` nor `..`. Contracts see its bytes.
 #[derive(Drop)]
@@ -21,3 +27,79 @@ impl Model for Name {
 
 /// A list of names.
 pub type Names = Seq<Name>;
+
+/// Why a text is no name.
+#[derive(Clone, Copy, Debug, PartialEq, Eq)]
+pub enum NameFault {
+    /// It is empty or longer than 255 bytes, has a `/` or a NUL, or is `.` or `..`.
+    Bad,
+    Memory,
+}
+
+impl Name {
+    /// The name that a text is.
+    pub fn parse(alloc: Global, text: &str) -> Result<Name, NameFault>
+        ensures { MatchResult result
+            (λ n. (n ≡ text.now) × IsTrue (is_name text.now))
+            (λ f. (f ≡ name_faults.Memory) ⊎ ((f ≡ name_faults.Bad) × (is_name text.now ≡ false))) }
+    {
+        if !is_good_text(text.as_bytes()) {
+            return Err(NameFault::Bad);
+        }
+        let mut own = Text::new(alloc);
+        match own.push_str(text) {
+            Ok(()) => Ok(Name { text: own }),
+            Err(_) => Err(NameFault::Memory),
+        }
+    }
+
+    /// The text of the name.
+    pub fn as_str(&self) -> &str
+        ensures value { result.now ≡ self.now }
+        ensures good { IsTrue (is_name self.now) }
+    {
+        self.text.as_str()
+    }
+
+    /// The same name again.
+    pub fn copy(&self) -> Result<Self, Memory>
+        ensures { IfOk result (λ n. n ≡ self.now) }
+    {
+        let text = self.text.copy()?;
+        Ok(Name { text })
+    }
+}
+
+impl Copied for Name {
+    fn copied(&self) -> Result<Self, Memory> {
+        self.copy()
+    }
+}
+
+// Whether the bytes are a good name.
+fn is_good_text(bytes: &[u8]) -> bool
+    ensures { result ≡ is_good bytes.now }
+{
+    if bytes.is_empty() || bytes.len() > 255 {
+        return false;
+    }
+    !has_separator(bytes) && !is_dots_text(bytes)
+}
+
+// Whether a byte is `/` or NUL.
+fn has_separator(bytes: &[u8]) -> bool
+    ensures { result ≡ list_any (λ b. (b == 47) || (b == 0)) bytes.now }
+{
+    bytes.iter().any(|byte| *byte == b'/' || *byte == 0)
+}
+
+// Whether the bytes are `.` or `..`.
+fn is_dots_text(bytes: &[u8]) -> bool
+    ensures { result ≡ is_dots bytes.now }
+{
+    match bytes {
+        [a] => *a == b'.',
+        [a, b] => *a == b'.' && *b == b'.',
+        _ => false,
+    }
+}
