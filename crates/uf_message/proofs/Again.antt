@@ -1,12 +1,10 @@
 -- What is written is read again.
-use Rattle.std.proofs.Common.{◌≡◌, ℕ, zero, suc, ◌+◌, ◌/◌, ◌%◌, ◌^◌, ◌<◌, ◌≤◌, Bool, true, false, eqb, List, [], ◌∷◌, ◌++◌, length, refl, ap, sym, ◌∙◌, append_assoc, arith, Option, Some, None, Ok, Err, Result, ℤ, pos, negsuc, ◌⊎◌, inl, inr}
-use Rattle.std.specs.Prelude.{flat_map, nat_lt, IfSome, ◌&&◌, FitsSigned}
+use Rattle.std.proofs.Common.{◌≡◌, ℕ, zero, suc, ◌+◌, ◌/◌, ◌%◌, ◌^◌, ◌<◌, ◌≤◌, List, [], ◌∷◌, ◌++◌, length, refl, ap, sym, ◌∙◌, append_assoc, arith, Option, Some, None, Ok, Err, Result, ℤ, pos, negsuc, ◌⊎◌, inl, inr}
+use Rattle.std.specs.Prelude.{flat_map, nat_lt, IfSome, FitsSigned}
 use Rattle.std.specs.Int.{w32, w64, to_le_bytes, cast_unsigned}
 use Rattle.std.specs.List.{AllByRecursion}
 use Rattle.std.specs.Option.{option_map}
-use lib.Pointwise.{pointwise}
-use Rattle.std.specs.Bool.{MatchBool}
-use Rattle.std.proofs.lemmas.Bool.{cond_both, eqb-true, eq-eqb}
+use Rattle.std.proofs.lemmas.Bool.{cond_both}
 use Rattle.std.proofs.lemmas.Int.{to_z-of_z}
 use Rattle.std.proofs.lemmas.List.{append-nil, length-append}
 use Rattle.std.proofs.lemmas.Nat.{from_le_bytes-to_le_bytes_4}
@@ -232,30 +230,3 @@ told why bytes m read (inr e) = inr (sym read ∙ e)
 -- a fault of the lenient reader is none of a spelling
 pub refuses : (why : MsgFault) (bytes : List ℕ) (m : Message) → (why ≡ fault.Memory) ⊎ (message_reads bytes ≡ err why) → IsMessage m → bytes ≡ message_bytes m → GivesValue (Err (strict_fault why)) m
 refuses why bytes m e h is = no_fault why m (told why bytes m (ap message_reads is ∙ message_again m h) e)
-
--- ---- bytes compared
-
-both_true : (a b : Bool) → (a && b) ≡ true → (a ≡ true) × (b ≡ true)
-both_true true b e = (refl, e)
-both_true false b e = absurd cc
-
-same_bytes : (a b : List ℕ) → pointwise eqb a b ≡ true → a ≡ b
-same_bytes [] [] e = refl
-same_bytes [] (y ∷ ys) e = absurd cc
-same_bytes (x ∷ xs) [] e = absurd cc
-same_bytes (x ∷ xs) (y ∷ ys) e =
-    let t = both_true (eqb x y) (pointwise eqb xs ys) e in
-    let first : x ≡ y = eqb-true x y t.0 in
-    let rest : xs ≡ ys = same_bytes xs ys t.1 in
-    λ i. first i ∷ rest i
-
-self_bytes : (a : List ℕ) → pointwise eqb a a ≡ true
-self_bytes [] = refl
-self_bytes (x ∷ xs) = rw (eq-eqb x x refl, self_bytes xs) refl
-
-pub decides_bytes : (r : Bool) (a b : List ℕ) → r ≡ pointwise eqb a b → MatchBool r (a ≡ b) (a ≡ b → ⊥)
-decides_bytes true a b e = same_bytes a b (sym e)
-decides_bytes false a b e =
-    λ same.
-    let told : true ≡ false = sym (self_bytes a) ∙ ap (pointwise eqb a) same ∙ sym e in
-    cc

@@ -1,4 +1,5 @@
 pub mod Again
+pub mod Fronts
 pub mod Runs
 pub mod Selections
 pub mod TimeSteps

@@ -64,6 +64,15 @@ fn take_run(sizes: &mut Sizes, bytes: &[u8]) -> Result<(), MsgFault>
     Ok(())
 }
 
+// Keeps what was read as the last of its field, and gives the bytes that follow it.
+macro_rules! last {
+    ($field:expr, $read:expr) => {{
+        let (value, after) = $read?;
+        $field = Some(value);
+        Ok(after)
+    }};
+}
+
 impl<'a> Seen<'a> {
     // Nothing was seen.
     fn new(alloc: Global) -> Self
@@ -88,21 +97,9 @@ impl<'a> Seen<'a> {
         ensures shorter { IfOk result (λ after. length after.now ≤ length rest.now) }
     {
         match key {
-            0x08 => {
-                let (kind, after) = number(rest)?;
-                self.kind = Some(kind);
-                Ok(after)
-            }
-            0x12 => {
-                let (content, after) = piece(rest)?;
-                self.content = Some(content);
-                Ok(after)
-            }
-            0x18 => {
-                let (filesize, after) = number(rest)?;
-                self.filesize = Some(filesize);
-                Ok(after)
-            }
+            0x08 => last!(self.kind, number(rest)),
+            0x12 => last!(self.content, piece(rest)),
+            0x18 => last!(self.filesize, number(rest)),
             0x20 => {
                 let (size, after) = number(rest)?;
                 self.sizes.push(size)?;
@@ -113,26 +110,10 @@ impl<'a> Seen<'a> {
                 take_run(&mut self.sizes, sizes)?;
                 Ok(after)
             }
-            0x28 => {
-                let (hash_type, after) = number(rest)?;
-                self.hash_type = Some(hash_type);
-                Ok(after)
-            }
-            0x30 => {
-                let (fanout, after) = number(rest)?;
-                self.fanout = Some(fanout);
-                Ok(after)
-            }
-            0x38 => {
-                let (mode, after) = number(rest)?;
-                self.mode = Some(mode);
-                Ok(after)
-            }
-            0x42 => {
-                let (mtime, after) = piece(rest)?;
-                self.mtime = Some(mtime);
-                Ok(after)
-            }
+            0x28 => last!(self.hash_type, number(rest)),
+            0x30 => last!(self.fanout, number(rest)),
+            0x38 => last!(self.mode, number(rest)),
+            0x42 => last!(self.mtime, piece(rest)),
             0..=71 => Err(MsgFault::Wire),
             _ => match skip_content(key % 8, rest) {
                 Ok(after) => Ok(after),

@@ -1,5 +1,6 @@
 // Messages written.
 ghost use Rattle.std.specs.Prelude.{◌≡◌, ◌++◌, ◌≤◌, IfOk, OnOk, length};
+ghost use Rattle.std.specs.Int.{w64, cast_unsigned};
 ghost use Rattle.std.specs.List.{flat_map};
 ghost use Rattle.uf_varint.specs.Fields.{number_field, content_field, optional};
 ghost use Rattle.uf_message.specs.Spelling.{message_bytes, mtime_bytes, fixed_field, kind_number};
@@ -27,7 +28,7 @@ pub fn encode(alloc: Global, message: &Message) -> Result<Block, Memory>
 }
 
 // The number of a kind.
-fn number_of(kind: MsgKind) -> u64
+pub fn number_of(kind: MsgKind) -> u64
     ensures { result ≡ kind_number kind }
 {
     match kind {
@@ -92,13 +93,20 @@ fn put_mtime(out: &mut Block, mtime: Option<Mtime>) -> Result<(), Memory>
     match mtime {
         None => Ok(()),
         Some(mtime) => {
-            let seconds = NumberField::new(0x08, mtime.seconds.cast_unsigned());
+            let seconds = seconds_field(mtime);
             let len = seconds.as_slice().len() + nanos_len(mtime.nanos);
             out.extend(NumberField::new(0x42, len as u64).as_slice())?;
             out.extend(seconds.as_slice())?;
             put_nanos(out, mtime.nanos)
         }
     }
+}
+
+// The seconds with their key.
+pub fn seconds_field(mtime: Mtime) -> NumberField
+    ensures { result ≡ number_field 0x08 (cast_unsigned w64 mtime.seconds) }
+{
+    NumberField::new(0x08, mtime.seconds.cast_unsigned())
 }
 
 // Puts the nanoseconds behind what is there.
@@ -115,7 +123,7 @@ fn put_nanos(out: &mut Block, nanos: Option<u32>) -> Result<(), Memory>
 }
 
 // The length of the nanoseconds with their key.
-fn nanos_len(nanos: Option<u32>) -> usize
+pub fn nanos_len(nanos: Option<u32>) -> usize
     ensures { result ≡ length (optional (fixed_field 0x15) nanos) }
 {
     match nanos {

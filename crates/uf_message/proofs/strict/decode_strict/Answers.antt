@@ -8,12 +8,9 @@ use Rattle.uf_message.proofs.strict.decode_strict.Goals as goal
 pub returns-in-Err-clause-only : goal.returns-in-Err-clause-only
 returns-in-Err-clause-only c = λ m h e. subst (λ (why : StrictFault). GivesValue (Err why) m) (sym c.refused.ensures) (refuses c.in-Err.why c.args.bytes.now m c.in-Err.ensures h e)
 
-pub returns-then-are_same-clause-found : goal.returns-then-are_same-clause-found
-returns-then-are_same-clause-found c = (c.messages_fit.ensures, sym c.if-are_same.ensures ∙ c.as_slice.ensures ∙ c.in_ok-spelled.ensures)
+pub returns-then-is_canonical-clause-only : goal.returns-then-is_canonical-clause-only
+returns-then-is_canonical-clause-only c = λ m h e. read_is c.args.bytes.now c.in-Ok.message m c.in-Ok.ensures h e
 
-pub returns-then-are_same-clause-only : goal.returns-then-are_same-clause-only
-returns-then-are_same-clause-only c = λ m h e. read_is c.args.bytes.now c.in-Ok.message m c.in-Ok.ensures h e
-
-pub returns-else-are_same-clause-only : goal.returns-else-are_same-clause-only
-returns-else-are_same-clause-only c =
-    λ m h e. c.if-are_same.ensures (c.as_slice.ensures ∙ c.in_ok-spelled.ensures ∙ ap message_bytes (read_is c.args.bytes.now c.in-Ok.message m c.in-Ok.ensures h e) ∙ sym e)
+pub returns-else-is_canonical-clause-only : goal.returns-else-is_canonical-clause-only
+returns-else-is_canonical-clause-only c =
+    λ m h e. c.if-is_canonical.ensures (e ∙ ap message_bytes (sym (read_is c.args.bytes.now c.in-Ok.message m c.in-Ok.ensures h e)))
