@@ -1,12 +1,16 @@
 pub mod Behind
 pub mod Canonical
+pub mod Checked
 pub mod Climb
+pub mod Directories
 pub mod Each
 pub mod Groups
 pub mod Held
 pub mod Least
 pub mod Naming
 pub mod Nested
+pub mod Reading
+pub mod Rises
 pub mod Rows
 pub mod ShardLaws
 pub mod Sizes

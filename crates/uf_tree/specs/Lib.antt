@@ -9,6 +9,7 @@ pub mod Least
 pub mod Names
 pub mod Nodes
 pub mod Profiles
+pub mod Rising
 pub mod Roles
 pub mod ShardPlan
 pub mod Shardable

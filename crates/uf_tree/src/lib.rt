@@ -2,6 +2,8 @@
 //! files, directories and shards are made of (UnixFS v1 over IPLD DAG-PB).
 #![tactic(auto)]
 
+mod checks;
+mod dir_codec;
 mod file_codec;
 pub mod laws;
 mod limits;
@@ -11,7 +13,9 @@ mod profile;
 mod spelling;
 pub mod vectors;
 
-pub use file_codec::file_node;
+pub use checks::{is_directory, is_file_node, is_shard};
+pub use dir_codec::{dir_node, read_dir_node};
+pub use file_codec::{file_node, read_file_node};
 pub use limits::BadProfile;
 pub use name::{Name, NameFault, Names};
 pub use nodes::{Entry, FileNode, Item, Items, Pair, Pairs, Part, Parts, Placed};
