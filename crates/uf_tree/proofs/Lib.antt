@@ -1,9 +1,11 @@
 pub mod Behind
+pub mod Bitfields
 pub mod Canonical
 pub mod Checked
 pub mod Climb
 pub mod Directories
 pub mod Each
+pub mod Files
 pub mod Groups
 pub mod Held
 pub mod Least
@@ -13,6 +15,7 @@ pub mod Reading
 pub mod Rises
 pub mod Rows
 pub mod ShardLaws
+pub mod Shards
 pub mod Sizes
 pub mod Spelt
 pub mod Sub

@@ -29,9 +29,12 @@ pair_link e = link_of e.0 e.1
 abbrev pub dir_dag : List Named → Node
 dir_dag l = record { links = map pair_link l; content = Some (message_bytes dir_message) }
 
--- the node of a shard
+-- the message of a shard of these items, and its node
+abbrev pub shard_spelling : List InSlot → List ℕ
+shard_spelling items = message_bytes (shard_message (map (λ (p : InSlot). p.0) items))
+
 abbrev pub shard_dag : List InSlot → Node
-shard_dag items = record { links = map slot_link items; content = Some (message_bytes (shard_message (map (λ (p : InSlot). p.0) items))) }
+shard_dag items = record { links = map slot_link items; content = Some (shard_spelling items) }
 
 -- a reader gives the valid value that was written to something; it refuses exactly where there is none, unless memory runs out
 abbrev pub Reads : {V W : Type 0} → (V → Type 0) → (V → W) → W → Result V StrictFault → Type 0

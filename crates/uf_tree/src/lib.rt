@@ -2,6 +2,7 @@
 //! files, directories and shards are made of (UnixFS v1 over IPLD DAG-PB).
 #![tactic(auto)]
 
+mod bits;
 mod checks;
 mod dir_codec;
 mod file_codec;
@@ -10,6 +11,8 @@ mod limits;
 mod name;
 mod nodes;
 mod profile;
+mod shard_codec;
+mod shard_read;
 mod spelling;
 pub mod vectors;
 
@@ -20,3 +23,5 @@ pub use limits::BadProfile;
 pub use name::{Name, NameFault, Names};
 pub use nodes::{Entry, FileNode, Item, Items, Pair, Pairs, Part, Parts, Placed};
 pub use profile::{Head, Profile};
+pub use shard_codec::shard_node;
+pub use shard_read::read_shard_node;
