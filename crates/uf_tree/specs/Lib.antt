@@ -5,6 +5,7 @@ pub mod Cutting
 pub mod DirPlan
 pub mod FilePlan
 pub mod FileSub
+pub mod HeadReading
 pub mod Heads
 pub mod Least
 pub mod Names

@@ -6,6 +6,8 @@ mod bits;
 mod checks;
 mod dir_codec;
 mod file_codec;
+mod head_fault;
+mod heads;
 pub mod laws;
 mod limits;
 mod name;
@@ -19,9 +21,14 @@ pub mod vectors;
 pub use checks::{is_directory, is_file_node, is_shard};
 pub use dir_codec::{dir_node, read_dir_node};
 pub use file_codec::{file_node, read_file_node};
+pub use head_fault::HeadFault;
+pub use heads::{head_text, read_head};
 pub use limits::BadProfile;
 pub use name::{Name, NameFault, Names};
 pub use nodes::{Entry, FileNode, Item, Items, Pair, Pairs, Part, Parts, Placed};
 pub use profile::{Head, Profile};
 pub use shard_codec::shard_node;
 pub use shard_read::read_shard_node;
+
+#[cfg(test)]
+mod tests;
