@@ -157,7 +157,7 @@ pub root_no_text : (text : List ℕ) → (IsUtf8 text → ⊥) → None ≡ root
 unfolding root_in
 root_no_text text bad = sym (ap (λ b. cond b (node_of text (cid_of_text text)) None) (false_from_ne_true (is_utf8 text) (λ t. bad (IsUtf8-from_is_utf8 text t))))
 
-root_read : (text : List ℕ) (r : Result Cid CidFault) → IsUtf8 text → cid_of_text text ≡ r → root_in text ≡ node_of text r
+pub root_read : (text : List ℕ) (r : Result Cid CidFault) → IsUtf8 text → cid_of_text text ≡ r → root_in text ≡ node_of text r
 unfolding root_in
 root_read text r u e = ap (λ b. cond b (node_of text (cid_of_text text)) None) (is_utf8-from_IsUtf8 text u) ∙ ap (node_of text) e
 

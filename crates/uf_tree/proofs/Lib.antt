@@ -7,6 +7,7 @@ pub mod Directories
 pub mod Each
 pub mod Files
 pub mod Groups
+pub mod HeadAgain
 pub mod HeadLines
 pub mod Held
 pub mod Least
