@@ -1,37 +1,33 @@
 -- A Head's text is read as the Head, and no other text is.
-use Rattle.std.proofs.Common.{◌≡◌, ◌≢◌, ℕ, zero, suc, ◌+◌, ◌*◌, ◌/◌, ◌%◌, ◌^◌, ◌<◌, ◌≤◌, List, [], ◌∷◌, ◌++◌, length, get_or, map, refl, ap, append_assoc, arith, subst, sym, ◌∙◌, ◌⊎◌, inl, inr, Ok, Err, Result, Bool, true, false, cond, Option, None, Some, nat_lt}
+use Rattle.std.proofs.Common.{◌≡◌, ℕ, zero, suc, ◌+◌, ◌%◌, ◌^◌, ◌<◌, ◌≤◌, List, [], ◌∷◌, ◌++◌, get_or, map, refl, ap, append_assoc, arith, ◌∙◌, ◌⊎◌, inl, inr, Ok, true, false, cond, Option, None, Some, nat_lt}
 use Rattle.std.specs.Prelude.{◌&&◌, ◌==◌, codes, flat_map, nat_le, IsTrue}
 use Rattle.std.specs.Fmt.{decimal}
 use Rattle.std.specs.List.{AllByRecursion}
 use Rattle.std.specs.Option.{option_and_then, option_map, ok_or}
-use Rattle.std.specs.Str.{bytes_eq, is_utf8, IsUtf8}
-use Rattle.std.specs.Str.Parse.{digits_value}
+use Rattle.std.specs.Str.{bytes_eq, IsUtf8}
 use Rattle.std.proofs.lemmas.Bool.{cases_lt, le-ltb, lt-ltb}
 use Rattle.std.proofs.lemmas.Bool.Decides.{nat_tests}
 use Rattle.std.proofs.lemmas.Fmt.{decimal_by_steps}
-use Rattle.std.proofs.lemmas.List.{append-nil, nil_from_length}
+use Rattle.std.proofs.lemmas.List.{append-nil}
 use Rattle.std.proofs.lemmas.Slice.Eq.{bytes_eq-Decides}
 use Rattle.std.proofs.lemmas.Str.{IsUtf8-from_ascii}
 use Rattle.uf_varint.specs.Fields.{◌>>=◌}
 use Rattle.uf_cid.specs.Base32.{base32, bits, fives, five, letter}
 use Rattle.uf_cid.specs.Cid.{cid_bytes, cid_text}
-use Rattle.uf_cid.specs.Read.{cid_of_text, IsCid}
+use Rattle.uf_cid.specs.Read.{IsCid}
 use Rattle.uf_cid.specs.declared.cid.Cid.{Cid}
-use Rattle.uf_cid.specs.declared.cid.CidFault.{CidFault}
-use Rattle.uf_cid.specs.declared.cid.Codec.{Codec}
-use Rattle.uf_cid.specs.declared.cid.Codec.TheVariants.{Raw, DagPb}
+use Rattle.uf_cid.specs.declared.cid.Codec.TheVariants.{DagPb}
 use Rattle.uf_cid.proofs.Again.{text_again}
-use Rattle.uf_tree.specs.declared.head_fault.HeadFault.{HeadFault}
 use Rattle.uf_tree.specs.declared.head_fault.HeadFault.TheVariants as heads
 use Rattle.uf_tree.specs.declared.profile.Head.{Head}
 use Rattle.uf_tree.specs.declared.profile.Profile.{Profile}
-use Rattle.uf_tree.specs.HeadReading.{GivesHead, behind, first_line, head_reads, is_node, line_at, node_of, number_in, number_line, root_in, root_line, worded_at}
+use Rattle.uf_tree.specs.HeadReading.{behind, first_line, head_reads, is_node, line_at, number_in, number_line, root_in, root_line, worded_at}
 use Rattle.uf_tree.specs.Heads.{head_text, line}
 use Rattle.uf_tree.specs.Profiles.{is_profile}
 use Rattle.uf_tree.proofs.Each.{both}
 use Rattle.uf_tree.proofs.HeadLines.{behind-front, number_some, root_read}
 use Rattle.uf_tree.proofs.Told.{kept}
-use Rattle.uf_tree.proofs.Twins.{both_true, other_key}
+use Rattle.uf_tree.proofs.Twins.{other_key}
 
 -- ---- texts without a line feed
 
@@ -164,8 +160,8 @@ head_again p c ok h node =
     let s = line (codes "chunk ") (decimal p.chunk) in
     ap head_reads (behind_one_another (line (codes "unixfs-head ") (codes "1")) s w d (line (codes "root ") (cid_text c)))
     ∙ in_turn (line (codes "unixfs-head ") (codes "1") ++ (s ++ (w ++ (d ++ e)))) (s ++ (w ++ (d ++ e))) (w ++ (d ++ e)) (d ++ e) e p.chunk p.width p.threshold c
-        (first_again (s ++ (w ++ (d ++ e))))
-        (number_again 2 1 1048576 p.chunk (codes "chunk ") (w ++ (d ++ e)) (refl, (refl, (refl, (refl, (refl, (refl, tt)))))) (omega arith) k.some chunk)
-        (number_again 3 2 1024 p.width (codes "width ") (d ++ e) (refl, (refl, (refl, (refl, (refl, (refl, tt)))))) (omega arith) k.two width)
-        (number_again 4 0 1048576 p.threshold (codes "threshold ") e (refl, (refl, (refl, (refl, (refl, (refl, (refl, (refl, (refl, (refl, tt)))))))))) (omega arith) (omega arith) threshold)
-        (root_again c [] h node)
+    (first_again (s ++ (w ++ (d ++ e))))
+    (number_again 2 1 1048576 p.chunk (codes "chunk ") (w ++ (d ++ e)) (refl, (refl, (refl, (refl, (refl, (refl, tt)))))) (omega arith) k.some chunk)
+    (number_again 3 2 1024 p.width (codes "width ") (d ++ e) (refl, (refl, (refl, (refl, (refl, (refl, tt)))))) (omega arith) k.two width)
+    (number_again 4 0 1048576 p.threshold (codes "threshold ") e (refl, (refl, (refl, (refl, (refl, (refl, (refl, (refl, (refl, (refl, tt)))))))))) (omega arith) (omega arith) threshold)
+    (root_again c [] h node)

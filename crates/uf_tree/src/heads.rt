@@ -101,7 +101,14 @@ fn first_line(bytes: &[u8]) -> Result<&[u8], HeadFault>
 
 // The number of a line, and what stands behind the line.
 #[tactic(auto, unfolding(crate::specs::HeadReading::number_line))]
-fn number_line<'a>(alloc: Global, n: u8, word: &[u8], low: u32, high: u32, bytes: &'a [u8]) -> Result<(u32, &'a [u8]), HeadFault>
+fn number_line<'a>(
+    alloc: Global,
+    n: u8,
+    word: &[u8],
+    low: u32,
+    high: u32,
+    bytes: &'a [u8],
+) -> Result<(u32, &'a [u8]), HeadFault>
     ensures { GivesHead (λ x. (x.0, x.1.now)) result (number_line_of n word.now low high bytes.now) }
 {
     match worded(word, bytes) {
