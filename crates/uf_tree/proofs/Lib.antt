@@ -1,0 +1,13 @@
+pub mod Behind
+pub mod Climb
+pub mod Each
+pub mod Groups
+pub mod Held
+pub mod Nested
+pub mod Rows
+pub mod ShardLaws
+pub mod Sub
+pub mod Tests
+pub mod TreeLaws
+pub mod Twins
+pub mod Valid

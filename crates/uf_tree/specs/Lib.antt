@@ -1,0 +1,17 @@
+pub mod Changes
+pub mod Cutting
+pub mod DirPlan
+pub mod FilePlan
+pub mod FileSub
+pub mod Heads
+pub mod Names
+pub mod Nodes
+pub mod Profiles
+pub mod Roles
+pub mod ShardPlan
+pub mod Shardable
+pub mod Standing
+pub mod Tree
+pub mod TreePlan
+pub mod Validity
+pub mod Vectors
