@@ -84,11 +84,14 @@ field_fault keys limit inside (Keyed key c) = if is_misplaced keys limit key the
 abbrev pub mtime_field_fault : Field → Option MsgFault
 mtime_field_fault f = field_fault (0x08 ∷ 0x15 ∷ []) 24 (λ key c. None) f
 
-abbrev pub time_of : Option ℕ → Option (List ℕ) → Option Mtime
-time_of seconds nanos = option_map (λ n. record { seconds = cast_signed w64 n; nanos = option_map (from_le_bytes w32) nanos }) seconds
+abbrev pub nanos_of : Field → Option ℕ
+nanos_of f = option_map (from_le_bytes w32) (bytes_of 0x15 f)
+
+abbrev pub time_of : Option ℕ → Option ℕ → Option Mtime
+time_of seconds nanos = option_map (λ n. record { seconds = cast_signed w64 n; nanos = nanos }) seconds
 
 abbrev pub mtime_of : List Field → Option Mtime
-mtime_of fs = if is_some (first_of mtime_field_fault fs) then None else time_of (last_of (number_of 0x08) fs) (last_of (bytes_of 0x15) fs)
+mtime_of fs = if is_some (first_of mtime_field_fault fs) then None else time_of (last_of (number_of 0x08) fs) (last_of nanos_of fs)
 
 -- the time that bytes stand for, where they have no fault, and seconds
 unfoldable pub mtime_reads : List ℕ → Option Mtime
@@ -99,8 +102,11 @@ packed_fault key (Number n) = None
 packed_fault key (Bytes b) = if key == 0x22 then fault_of (run b) else None
 
 -- a message has fields 1 to 8; the sizes of blocks, field 4, may be packed
+abbrev pub message_keys : List ℕ
+message_keys = 0x08 ∷ 0x12 ∷ 0x18 ∷ 0x20 ∷ 0x22 ∷ 0x28 ∷ 0x30 ∷ 0x38 ∷ 0x42 ∷ []
+
 abbrev pub message_field_fault : Field → Option MsgFault
-message_field_fault f = field_fault (0x08 ∷ 0x12 ∷ 0x18 ∷ 0x20 ∷ 0x22 ∷ 0x28 ∷ 0x30 ∷ 0x38 ∷ 0x42 ∷ []) 72 packed_fault f
+message_field_fault f = field_fault message_keys 72 packed_fault f
 
 -- what fields have under the keys of a message
 pub record Selected : Type 0 where

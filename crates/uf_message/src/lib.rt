@@ -3,6 +3,10 @@
 
 mod writing;
 mod message;
+mod reading;
+mod seen;
+mod times;
 
+pub use reading::decode_lenient;
 pub use writing::encode;
 pub use message::{Message, MsgFault, MsgKind, Mtime};

@@ -1,5 +1,5 @@
 -- Groups behind a full one.
-use Rattle.std.proofs.Common.{◌≡◌, ℕ, zero, suc, pred, ◌+◌, ◌-◌, ◌<◌, ◌≤◌, List, [], ◌∷◌, ◌++◌, length, refl, ap, arith, sym, ◌∙◌}
+use Rattle.std.proofs.Common.{◌≡◌, ℕ, zero, suc, ◌≤◌, List, [], ◌∷◌, ◌++◌, length, refl, ap, arith}
 use Rattle.uf_tree.specs.FilePlan.{split_from, groups}
 
 pub split-short : {A : Type 0} (v r : ℕ) (h : List A) → length h ≤ r → split_from v r h ≡ (h, [])

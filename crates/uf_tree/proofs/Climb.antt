@@ -1,7 +1,7 @@
 -- The rows of a file don't depend on the fuel.
-use Rattle.std.proofs.Common.{◌≡◌, ℕ, zero, suc, ◌+◌, ◌-◌, ◌*◌, ◌<◌, ◌≤◌, List, [], ◌∷◌, ◌++◌, length, refl, ap, arith, sym, ◌∙◌, map, take, drop}
+use Rattle.std.proofs.Common.{◌≡◌, ℕ, zero, suc, ◌≤◌, List, [], ◌∷◌, ◌++◌, length, refl, ap, arith, map}
 use Rattle.std.proofs.lemmas.List.{length-map}
-use Rattle.uf_tree.specs.FilePlan.{split_from, groups, climb, node_part, node_held}
+use Rattle.uf_tree.specs.FilePlan.{split_from, climb, node_part, node_held}
 use Rattle.uf_cid.specs.Blocks.{Held}
 use Rattle.uf_tree.specs.declared.nodes.Part.{Part}
 use Rattle.uf_tree.proofs.Groups.{fewer}

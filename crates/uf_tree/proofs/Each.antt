@@ -1,8 +1,8 @@
 -- What holds of each element of a list.
-use Rattle.std.proofs.Common.{◌≡◌, ℕ, zero, suc, ◌+◌, ◌<◌, ◌≤◌, List, [], ◌∷◌, ◌++◌, map, refl, ap, arith, sym, ◌∙◌, subst, ◌⊎◌, inl, inr, ◌≢◌, Bool, true, false, cond, Option, Some, None, Ordering}
+use Rattle.std.proofs.Common.{◌≡◌, ℕ, zero, suc, ◌+◌, ◌<◌, ◌≤◌, List, [], ◌∷◌, ◌++◌, map, arith, sym, subst, ◌⊎◌, inl, inr, ◌≢◌, Bool, true, false, cond, Option, Some, None}
 use Rattle.std.proofs.lemmas.Bool.{cases_eq}
 use Rattle.std.specs.Prelude.{IfSome}
-use Rattle.std.specs.List.{AllByRecursion, flat_map, filter, cons_option}
+use Rattle.std.specs.List.{AllByRecursion, filter, cons_option}
 use Rattle.std.specs.Option.{option_map}
 use Rattle.uf_tree.specs.ShardPlan.{tabulate, flat_tabulate}
 
@@ -23,7 +23,8 @@ module _ {A : Type 0} (P : A → Type 0) where
   each_filter test [] a = tt
   each_filter test (x ∷ xs) a = elim (test x) as (λ b. AllByRecursion P (cond b (x ∷ filter test xs) (filter test xs))) [
     | true ↦ (a.0, each_filter test xs a.1)
-    | false ↦ each_filter test xs a.1 ]
+    | false ↦ each_filter test xs a.1
+  ]
 
   pub each_flat_tabulate : (n a : ℕ) (f : ℕ → List A) → ((s : ℕ) → AllByRecursion P (f s)) → AllByRecursion P (flat_tabulate n a f)
   unfolding flat_tabulate

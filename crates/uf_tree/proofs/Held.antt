@@ -1,20 +1,19 @@
 -- The blocks of plans.
-use Rattle.std.proofs.Common.{◌≡◌, ◌≢◌, ℕ, zero, suc, ◌+◌, ◌-◌, ◌^◌, ◌<◌, ◌≤◌, List, [], ◌∷◌, ◌++◌, length, map, refl, ap, arith, sym, ◌∙◌, subst, Bool, true, false, cond, Option, Some, None}
-use Rattle.std.specs.Prelude.{nat_lt, if◌then◌else◌}
+use Rattle.std.proofs.Common.{◌≡◌, ℕ, zero, suc, ◌-◌, ◌^◌, ◌<◌, List, [], ◌∷◌, length, map, refl, ap, arith, Bool, true, false, cond, Option, Some, None}
+use Rattle.std.specs.Prelude.{if◌then◌else◌}
 use Rattle.std.specs.List.{AllByRecursion, flat_map}
-use Rattle.std.specs.FinMap.Entries.{is_sorted, find, same_entries}
 use Rattle.std.proofs.lemmas.Bool.Decides.{nat_tests}
 use Rattle.uf_cid.specs.Blocks.{Held}
 use Rattle.uf_murmur.specs.Slots.{slot}
 use Rattle.uf_tree.specs.declared.nodes.Part.{Part}
 use Rattle.uf_tree.specs.declared.profile.Profile.{Profile}
-use Rattle.uf_tree.specs.DirPlan.{own_plan, basic_dir, dir_plan, trail, is_sharded, weight}
+use Rattle.uf_tree.specs.DirPlan.{own_plan, basic_dir, dir_plan, trail, is_sharded}
 use Rattle.uf_tree.specs.FilePlan.{Plan, file_plan, climb, split_from, leaf_part, leaf_held, node_part, node_held}
 use Rattle.uf_tree.specs.Nodes.{Named}
-use Rattle.uf_tree.specs.ShardPlan.{shard, shard_plan, shard_items, shard_below, shard_trail, slot_blocks, bucket, no_shard, where_shared, twins, same_slots, same_hash}
+use Rattle.uf_tree.specs.ShardPlan.{shard, shard_plan, shard_trail, slot_blocks, bucket, no_shard, where_shared, twins, same_slots, same_hash}
 use Rattle.uf_tree.specs.Tree.{Tree, File, Dir, Entries, Nothing, With, fold, fold_each}
 use Rattle.uf_tree.specs.TreePlan.{Planned, planned, planned_file, planned_dir, members, blocks}
-use Rattle.uf_tree.proofs.Each.{both, front, each_map, each_flat_tabulate, at_flat_tabulate}
+use Rattle.uf_tree.proofs.Each.{both, each_map, each_flat_tabulate, at_flat_tabulate}
 use Rattle.uf_tree.proofs.ShardLaws.{slot-bound}
 use Rattle.uf_tree.proofs.Twins.{twins-same, same_slots-hash}
 
@@ -50,10 +49,12 @@ module _ (X : List ℕ → List ℕ) (N : List ℕ → ℕ) where
   pub own-digested : (p : Profile) (l : List Named) → AllByRecursion Digested (own_plan X N p l).blocks
   own-digested p l = elim (is_sharded p l) as (λ b. AllByRecursion Digested (cond b (shard X N 7 l) (basic_dir X N l)).blocks) [
     | true ↦ shard-digested 7 l
-    | false ↦ (refl, tt) ]
+    | false ↦ (refl, tt)
+  ]
 
   mutual
     unfolding planned fold
+
     pub tree-digested : (p : Profile) (t : Tree) → AllByRecursion Digested (blocks X N p t)
     tree-digested p (File bytes) = file-digested p bytes
     tree-digested p (Dir es) = both Digested (flat_map (λ (m : List ℕ × Planned). m.1.plan.blocks) (fold_each (planned_file X N p) (planned_dir X N p) es)) _ (trees-digested p es) (own-digested p (members X N p (fold_each (planned_file X N p) (planned_dir X N p) es)))
@@ -74,14 +75,17 @@ module _ (X : List ℕ → List ℕ) (N : List ℕ → ℕ) where
     shard_trail-among zero l name h = (h.0, tt)
     shard_trail-among (suc left) l name h =
         let s = slot (N name) (6 - left) in
-        let shared = bucket N (6 - left) s l in
-        (h.0, shared-trail (shard X N left) shared (shard_trail X N left shared name) (shard_trail-among left shared name)
-          (at_flat_tabulate P 256 0 (λ s. slot_blocks (shard X N left) (bucket N (6 - left) s l)) s (omega arith) (let bound : s < 256 = slot-bound (N name) (6 - left) in omega arith) h.1))
+        let shared = bucket N (6 - left) s l in (
+          h.0,
+          shared-trail (shard X N left) shared (shard_trail X N left shared name) (shard_trail-among left shared name)
+              (at_flat_tabulate P 256 0 (λ s. slot_blocks (shard X N left) (bucket N (6 - left) s l)) s (omega arith) (let bound : s < 256 = slot-bound (N name) (6 - left) in omega arith) h.1),
+        )
 
     pub trail-among : (p : Profile) (l : List Named) (name : List ℕ) → AllByRecursion P (own_plan X N p l).blocks → AllByRecursion P (trail X N p l name)
     trail-among p l name = elim (is_sharded p l) as (λ b. AllByRecursion P (cond b (shard X N 7 l) (basic_dir X N l)).blocks → AllByRecursion P (cond b (shard_trail X N 7 l name) (basic_dir X N l).blocks)) [
       | true ↦ shard_trail-among 7 l name
-      | false ↦ λ h. h ]
+      | false ↦ λ h. h
+    ]
 
   not_light : (p : Profile) → is_sharded p [] ≡ true → ⊥
   not_light p h = grind (arith, nat_tests)
@@ -99,4 +103,5 @@ module _ (X : List ℕ → List ℕ) (N : List ℕ → ℕ) where
       by false e = refl
   dir_plan-own fits p (e ∷ l) = elim (is_sharded p (e ∷ l)) as (λ b. cond b (shard_plan X N 0 (e ∷ l)) (Some (basic_dir X N (e ∷ l))) ≡ unless (cond b (twins (same_hash N) (e ∷ l)) None) (cond b (shard X N 7 (e ∷ l)) (basic_dir X N (e ∷ l)))) [
     | true ↦ ap (λ o. unless o (shard X N 7 (e ∷ l))) (twins-same (same_slots N 7) (same_hash N) (λ a b. same_slots-hash N fits a b) (e ∷ l))
-    | false ↦ refl ]
+    | false ↦ refl
+  ]

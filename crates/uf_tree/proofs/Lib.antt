@@ -1,4 +1,5 @@
 pub mod Behind
+pub mod Canonical
 pub mod Climb
 pub mod Each
 pub mod Groups

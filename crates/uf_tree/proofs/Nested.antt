@@ -1,5 +1,5 @@
 -- Groups of groups are groups of the product.
-use Rattle.std.proofs.Common.{◌≡◌, ℕ, zero, suc, pred, ◌+◌, ◌-◌, ◌*◌, ◌<◌, ◌≤◌, List, [], ◌∷◌, ◌++◌, length, refl, ap, arith, sym, ◌∙◌, map, take, drop}
+use Rattle.std.proofs.Common.{◌≡◌, ℕ, zero, suc, pred, ◌+◌, ◌*◌, ◌≤◌, List, [], ◌∷◌, refl, ap, arith, map}
 use Rattle.uf_tree.specs.FilePlan.{split_from, groups}
 
 -- a split as a list
@@ -13,7 +13,7 @@ front_more x (g ∷ gs) = (x ∷ g) ∷ gs
 -- the members of the first outer group after the open inner one, and the other outer groups
 pub split-nested : {A : Type 0} (w m W : ℕ) → W ≡ suc w * suc m → (R r q : ℕ) → q ≡ R * suc m + r → (xs : List A)
     → split_from (suc w) (suc R) (whole (split_from (suc m) r xs))
-      ≡ (whole (split_from (suc m) r (split_from W q xs).0), map (groups (suc m)) (split_from W q xs).1)
+    ≡ (whole (split_from (suc m) r (split_from W q xs).0), map (groups (suc m)) (split_from W q xs).1)
 split-nested w m W h R r q e [] = refl
 split-nested w m W h R (suc r) zero e (x ∷ xs) = absurd (omega arith)
 split-nested {A} w m W h R (suc r) (suc q) e (x ∷ xs) =

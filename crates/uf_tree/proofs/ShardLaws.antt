@@ -1,10 +1,10 @@
 -- What a change of one name does to a shard.
-use Rattle.std.proofs.Common.{◌≡◌, ℕ, zero, suc, ◌+◌, ◌-◌, ◌*◌, ◌<◌, ◌≤◌, ◌≢◌, List, [], ◌∷◌, ◌++◌, length, refl, ap, arith, sym, ◌∙◌, subst, Bool, true, false, cond, T, Option, Some, None, eqb, Ordering}
-use Rattle.std.specs.Prelude.{◌==◌, ◌&&◌, is_some, not, nat_lt}
+use Rattle.std.proofs.Common.{◌≡◌, ℕ, zero, suc, ◌+◌, ◌<◌, ◌≤◌, ◌≢◌, List, refl, ap, arith, sym, ◌∙◌, Bool, true, false, cond, T, Option, Some, None, Ordering}
+use Rattle.std.specs.Prelude.{◌==◌, ◌&&◌, not}
 use Rattle.std.specs.declared.cmp.Ordering.TheVariants.{Less, Equal, Greater}
 use Rattle.std.specs.Ordering.{nat_cmp, eq_by_cmp, is_lt, is_eq}
 use Rattle.std.specs.Cmp.{IsTotalOrder, nat_cmp_total}
-use Rattle.std.specs.Cmp.Lexicographic.{slice_cmp, nat_list_cmp_total}
+use Rattle.std.specs.Cmp.Lexicographic.{nat_list_cmp_total}
 use Rattle.std.specs.FinMap.{IsAntisymmetric, nat_cmp-IsAntisymmetric, slice_cmp-IsAntisymmetric}
 use Rattle.std.specs.FinMap.Entries.{find, put, is_sorted, where_key, below_all, find-put, find-where_key, is_sorted-put, is_sorted-where_key, same_entries}
 use Rattle.std.specs.List.{cons_option}
@@ -19,7 +19,6 @@ use Rattle.uf_tree.specs.ShardPlan.{bucket, tabulate, shard_items, slot_item}
 use Rattle.uf_tree.specs.Changes.{without, set_at}
 use Rattle.uf_tree.specs.FilePlan.{Plan}
 use Rattle.uf_tree.specs.declared.nodes.Entry.{Entry}
-use Rattle.uf_tree.specs.declared.profile.Profile.{Profile}
 
 -- names that compare alike are one
 pub names_exact : IsAntisymmetric names_cmp
@@ -78,11 +77,14 @@ module _ {K V : Type 0} {R : K → K → Ordering} (o : IsTotalOrder R) (exact :
     where
       alike : (q x : K) → R q x ≡ Equal → p x ≡ p q
       alike q x e = ap p (sym (exact q x e))
+
       sorted : (b : Bool) → T (is_sorted R (cond b (put R k v (where_key R p es)) (where_key R p es)))
       sorted true = is_sorted-put R o k v (where_key R p es) (is_sorted-where_key R p es h)
       sorted false = is_sorted-where_key R p es h
+
       same_test : (q : K) (b : Bool) → p k ≡ b → eq_by_cmp R q k ≡ true → p q ≡ b
       same_test q b e t = ap p (exact q k (tied (R q k) t)) ∙ e
+
       cases : (b : Bool) (q : K) → p k ≡ b → cond (p q) (cond (eq_by_cmp R q k) (Some v) (find R q es)) None ≡ find R q (cond b (put R k v (where_key R p es)) (where_key R p es))
       cases true q e = inner_first (p q) (eq_by_cmp R q k) _ _ _ (same_test q true e)
           ∙ sym (find-put R o q k v (where_key R p es) ∙ ap (cond (eq_by_cmp R q k) (Some v)) (find-where_key R p q (alike q) es))
@@ -98,11 +100,14 @@ module _ {K V : Type 0} {R : K → K → Ordering} (o : IsTotalOrder R) (exact :
     where
       out : K → Bool
       out x = not (eq_by_cmp R k x)
+
       alike : (r : K → Bool) (q x : K) → R q x ≡ Equal → r x ≡ r q
       alike r q x e = ap r (sym (exact q x e))
+
       sorted : (b : Bool) → T (is_sorted R (cond b (where_key R out (where_key R p es)) (where_key R p es)))
       sorted true = is_sorted-where_key R out (where_key R p es) (is_sorted-where_key R p es h)
       sorted false = is_sorted-where_key R p es h
+
       cases : (b : Bool) (q : K) → p k ≡ b → cond (p q) (cond (out q) (find R q es) None) None ≡ find R q (cond b (where_key R out (where_key R p es)) (where_key R p es))
       cases true q e = either_way (p q) (out q) _ _ ∙ sym (find-where_key R out q (alike out q) (where_key R p es) ∙ ap (λ x. cond (out q) x None) (find-where_key R p q (alike p q) es))
       cases false q e = only_outer (p q) (out q) _ _ (λ gone. ap p (sym (exact k q (tied _ (turned (eq_by_cmp R k q) gone)))) ∙ e) ∙ sym (find-where_key R p q (alike p q) es)
@@ -135,14 +140,16 @@ unfolding tabulate
 below-tabulate x zero a f h = tt
 below-tabulate x (suc n) a f h = elim (f a) as (λ o. T (below_all nat_cmp x (cons_option (option_map (λ y. (a, y)) o) (tabulate n (suc a) f)))) [
   | None ↦ below-tabulate x n (suc a) f (omega arith)
-  | Some y ↦ holds_both _ _ (lt_test x a h) (below-tabulate x n (suc a) f (omega arith)) ]
+  | Some y ↦ holds_both _ _ (lt_test x a h) (below-tabulate x n (suc a) f (omega arith))
+]
 
 pub sorted-tabulate : {A : Type 0} (n a : ℕ) (f : ℕ → Option A) → T (is_sorted nat_cmp (tabulate n a f))
 unfolding tabulate
 sorted-tabulate zero a f = tt
 sorted-tabulate (suc n) a f = elim (f a) as (λ o. T (is_sorted nat_cmp (cons_option (option_map (λ y. (a, y)) o) (tabulate n (suc a) f)))) [
   | None ↦ sorted-tabulate n (suc a) f
-  | Some y ↦ and_holds _ _ (below-tabulate a n (suc a) f (omega arith)) (sorted-tabulate n (suc a) f) ]
+  | Some y ↦ and_holds _ _ (below-tabulate a n (suc a) f (omega arith)) (sorted-tabulate n (suc a) f)
+]
   where
     and_holds : (a b : Bool) → T a → T b → T (a && b)
     and_holds true b p q = q
@@ -153,14 +160,16 @@ unfolding tabulate
 nothing_below zero a f q h = refl
 nothing_below (suc n) a f q h = elim (f a) as (λ o. find nat_cmp q (cons_option (option_map (λ y. (a, y)) o) (tabulate n (suc a) f)) ≡ None) [
   | None ↦ nothing_below n (suc a) f q (omega arith)
-  | Some y ↦ ap (λ b. cond b (Some y) (find nat_cmp q (tabulate n (suc a) f))) (ne_test q a (omega arith)) ∙ nothing_below n (suc a) f q (omega arith) ]
+  | Some y ↦ ap (λ b. cond b (Some y) (find nat_cmp q (tabulate n (suc a) f))) (ne_test q a (omega arith)) ∙ nothing_below n (suc a) f q (omega arith)
+]
 
 pub nothing_above : {A : Type 0} (n a : ℕ) (f : ℕ → Option A) (q : ℕ) → a + n ≤ q → find nat_cmp q (tabulate n a f) ≡ None
 unfolding tabulate
 nothing_above zero a f q h = refl
 nothing_above (suc n) a f q h = elim (f a) as (λ o. find nat_cmp q (cons_option (option_map (λ y. (a, y)) o) (tabulate n (suc a) f)) ≡ None) [
   | None ↦ nothing_above n (suc a) f q (omega arith)
-  | Some y ↦ ap (λ b. cond b (Some y) (find nat_cmp q (tabulate n (suc a) f))) (ne_test q a (omega arith)) ∙ nothing_above n (suc a) f q (omega arith) ]
+  | Some y ↦ ap (λ b. cond b (Some y) (find nat_cmp q (tabulate n (suc a) f))) (ne_test q a (omega arith)) ∙ nothing_above n (suc a) f q (omega arith)
+]
 
 pub find-tabulate : {A : Type 0} (n a : ℕ) (f : ℕ → Option A) (q : ℕ) → a ≤ q → q < a + n → find nat_cmp q (tabulate n a f) ≡ f q
 unfolding tabulate
@@ -180,6 +189,7 @@ tabulate-set {A} n s f g h same = same_entries nat_cmp nat_cmp_total nat_cmp-IsA
     sorted : (o : Option A) → T (is_sorted nat_cmp (set_at s o (tabulate n 0 f)))
     sorted None = is_sorted-where_key nat_cmp (λ k. not (k == s)) (tabulate n 0 f) (sorted-tabulate n 0 f)
     sorted (Some y) = is_sorted-put nat_cmp nat_cmp_total s y (tabulate n 0 f) (sorted-tabulate n 0 f)
+
     find-set : (o : Option A) (q : ℕ) → find nat_cmp q (set_at s o (tabulate n 0 f)) ≡ cond (eq_by_cmp nat_cmp q s) o (find nat_cmp q (tabulate n 0 f))
     find-set None q = find-where_key nat_cmp (λ k. not (k == s)) q (λ x e. ap (λ k. not (k == s)) (sym (nat_cmp-IsAntisymmetric q x e))) (tabulate n 0 f) ∙ turn (cases_eq q s)
       where
@@ -187,6 +197,7 @@ tabulate-set {A} n s f g h same = same_entries nat_cmp nat_cmp_total nat_cmp-IsA
         turn (inl at) = grind (arith, nat_tests)
         turn (inr other) = grind (arith, nat_tests)
     find-set (Some y) q = find-put nat_cmp nat_cmp_total q s y (tabulate n 0 f)
+
     each : (q : ℕ) → (q < n) ⊎ (n ≤ q) → (q ≡ s) ⊎ (q ≢ s) → find nat_cmp q (tabulate n 0 g) ≡ find nat_cmp q (set_at s (g s) (tabulate n 0 f))
     each q (inl below) (inl at) = find-tabulate n 0 g q (omega arith) (omega arith) ∙ ap g at ∙ sym (find-set (g s) q ∙ ap (λ b. cond b (g s) (find nat_cmp q (tabulate n 0 f))) (ap (eq_by_cmp nat_cmp q) (sym at) ∙ eq_test q))
     each q (inl below) (inr other) = find-tabulate n 0 g q (omega arith) (omega arith) ∙ same q other ∙ sym (find-tabulate n 0 f q (omega arith) (omega arith))
@@ -224,4 +235,3 @@ module _ (N : List ℕ → ℕ) (deeper : List Named → Plan) (k : ℕ) (name :
       (slot-bound (N name) k)
       (λ q other. ap (slot_item deeper) (bucket-remove N k q name l h ∙ ap (λ b. cond b (without name (bucket N k q l)) (bucket N k q l)) (eqb_other (slot (N name) k) q other)))
       ∙ ap (λ b. set_at (slot (N name) k) (slot_item deeper b) (shard_items N deeper k l)) (bucket-remove N k (slot (N name) k) name l h ∙ ap (λ b. cond b (without name (bucket N k (slot (N name) k) l)) (bucket N k (slot (N name) k) l)) (eqb_same (slot (N name) k)))
-

@@ -1,17 +1,14 @@
 -- A file from the root down.
-use Rattle.std.proofs.Common.{◌≡◌, ℕ, zero, suc, pred, ◌+◌, ◌-◌, ◌*◌, ◌<◌, ◌≤◌, List, [], ◌∷◌, ◌++◌, length, refl, ap, arith, sym, ◌∙◌, map, take, drop, subst}
+use Rattle.std.proofs.Common.{◌≡◌, ℕ, zero, suc, ◌+◌, ◌*◌, ◌<◌, ◌≤◌, List, [], ◌∷◌, ◌++◌, length, refl, ap, arith, sym, ◌∙◌, map, subst}
 use Rattle.std.proofs.Math.Nat.{mul-le-mul, mul-le-mul_left}
-use Rattle.std.proofs.Common.{◌⊎◌, inl, inr, ◌≢◌}
-use Rattle.std.proofs.lemmas.Bool.{cases_eq}
 use Rattle.std.proofs.lemmas.List.{length-map, append-nil}
-use Rattle.uf_tree.specs.FilePlan.{split_from, groups, climb, Plan, node_part, leaf_part, file_plan, node_held}
+use Rattle.uf_tree.specs.FilePlan.{split_from, groups, climb, node_part, leaf_part}
 use Rattle.uf_cid.specs.Blocks.{Held}
 use Rattle.uf_tree.specs.Cutting.{joined, room_after}
 use Rattle.uf_tree.specs.declared.nodes.Part.{Part}
-use Rattle.uf_tree.specs.FileSub.{span, sub, IsHeight, IsTop}
-use Rattle.uf_tree.specs.declared.profile.Profile.{Profile}
+use Rattle.uf_tree.specs.FileSub.{span, part_over}
 use Rattle.uf_tree.proofs.Groups.{fewer, length-split, width-split, joined-split, room-below}
-use Rattle.uf_tree.proofs.Nested.{groups-product, groups-map, whole, split-map}
+use Rattle.uf_tree.proofs.Nested.{groups-product, groups-map, whole}
 
 pub span-pos : (c w k : ℕ) → 1 ≤ c → 1 ≤ w → 1 ≤ span c w k
 unfolding span
@@ -19,16 +16,16 @@ span-pos c w zero h j = h
 span-pos c w (suc k) h j = let more : 1 * 1 ≤ w * span c w k = mul-le-mul j (span-pos c w k h j) in omega (arith, more)
 
 module _ (X : List ℕ → List ℕ) (c w : ℕ) (pos : 1 ≤ c) (two : 2 ≤ w) where
-  fuse : (k : ℕ) (gs : List (List ℕ)) → map (node_part X) (map (map (sub X c w k)) (map (groups (span c w k)) gs)) ≡ map (sub X c w (suc k)) gs
-  unfolding sub
+  fuse : (k : ℕ) (gs : List (List ℕ)) → map (node_part X) (map (map (part_over X c w k)) (map (groups (span c w k)) gs)) ≡ map (part_over X c w (suc k)) gs
+  unfolding part_over
   fuse k [] = refl
-  fuse k (g ∷ gs) = ap (λ ms. sub X c w (suc k) g ∷ ms) (fuse k gs)
+  fuse k (g ∷ gs) = ap (λ ms. part_over X c w (suc k) g ∷ ms) (fuse k gs)
 
   -- one row up, from the root down
-  pub row-up : (k : ℕ) (b : List ℕ) → map (node_part X) (groups w (map (sub X c w k) (groups (span c w k) b))) ≡ map (sub X c w (suc k)) (groups (span c w (suc k)) b)
+  pub row-up : (k : ℕ) (b : List ℕ) → map (node_part X) (groups w (map (part_over X c w k) (groups (span c w k) b))) ≡ map (part_over X c w (suc k)) (groups (span c w (suc k)) b)
   unfolding span
   row-up k b =
-      ap (map (node_part X)) (groups-map (sub X c w k) w (groups (span c w k) b) ∙ ap (map (map (sub X c w k))) (groups-product w (span c w k) (omega arith) (span-pos c w k pos (omega arith)) b))
+      ap (map (node_part X)) (groups-map (part_over X c w k) w (groups (span c w k) b) ∙ ap (map (map (part_over X c w k))) (groups-product w (span c w k) (omega arith) (span-pos c w k pos (omega arith)) b))
       ∙ fuse k (groups (span c w (suc k)) b)
 
   abbrev pub climb_list : ℕ → List Part → List Held × Part
@@ -36,11 +33,11 @@ module _ (X : List ℕ → List ℕ) (c w : ℕ) (pos : 1 ≤ c) (two : 2 ≤ w)
   climb_list fuel (m ∷ ms) = climb X w fuel m ms
 
   pub same_length : (fuel k : ℕ) (a g : List ℕ) (rest : List (List ℕ)) (us : List ℕ × List (List ℕ)) → length rest ≤ fuel
-      → map (node_part X) (groups w (map (sub X c w k) (a ∷ g ∷ rest))) ≡ map (sub X c w (suc k)) (whole us) → length us.1 ≤ fuel
+      → map (node_part X) (groups w (map (part_over X c w k) (a ∷ g ∷ rest))) ≡ map (part_over X c w (suc k)) (whole us) → length us.1 ≤ fuel
   same_length fuel k a g rest us few e =
-      let counts = sym (length-map (groups w (map (sub X c w k) (a ∷ g ∷ rest))) (node_part X)) ∙ ap length e ∙ length-map (whole us) (sub X c w (suc k)) in
-      let less = fewer w (sub X c w k a) (sub X c w k g) (map (sub X c w k) rest) two in
-      omega (arith, counts, less, length-map rest (sub X c w k))
+      let counts = sym (length-map (groups w (map (part_over X c w k) (a ∷ g ∷ rest))) (node_part X)) ∙ ap length e ∙ length-map (whole us) (part_over X c w (suc k)) in
+      let less = fewer w (part_over X c w k a) (part_over X c w k g) (map (part_over X c w k) rest) two in
+      omega (arith, counts, less, length-map rest (part_over X c w k))
 
   pub all : (k : ℕ) (b a : List ℕ) → split_from (span c w k) (span c w k) b ≡ (a, []) → a ≡ b
   all k b a e = sym (append-nil a) ∙ ap (λ (s : List ℕ × List (List ℕ)). s.0 ++ joined s.1) (sym e) ∙ joined-split (span c w k) (span c w k) b

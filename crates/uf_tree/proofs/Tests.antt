@@ -1,6 +1,6 @@
 -- Tests that hold, as facts.
-use Rattle.std.proofs.Common.{◌≡◌, ℕ, ◌≤◌, Bool, true, false, T, arith}
-use Rattle.std.specs.Prelude.{◌&&◌, nat_le, nat_lt, IsTrue}
+use Rattle.std.proofs.Common.{◌≡◌, ◌≤◌, Bool, true, false, T, arith}
+use Rattle.std.specs.Prelude.{IsTrue}
 use Rattle.std.proofs.lemmas.Bool.Decides.{nat_tests}
 use Rattle.uf_tree.specs.declared.profile.Profile.{Profile}
 use Rattle.uf_tree.specs.Profiles.{is_profile}
@@ -30,4 +30,5 @@ kept p h = record {
   short = grind (arith, nat_tests);
   two = grind (arith, nat_tests);
   few = grind (arith, nat_tests);
-  threshold = grind (arith, nat_tests) }
+  threshold = grind (arith, nat_tests);
+}

@@ -1,16 +1,14 @@
 -- The plan of a directory after a member changes.
-use Rattle.std.proofs.Common.{◌≡◌, ℕ, List, [], ◌∷◌, ◌++◌, refl, ap, sym, ◌∙◌, subst, Bool, true, false, cond, Option, Some, None, Ordering, map}
-use Rattle.std.specs.Prelude.{not}
+use Rattle.std.proofs.Common.{◌≡◌, ℕ, List, [], ◌∷◌, refl, ap, ◌∙◌, Bool, true, false, cond, Some, Ordering, map}
 use Rattle.std.specs.declared.cmp.Ordering.TheVariants.{Less, Equal, Greater}
 use Rattle.std.specs.Option.{option_map}
 use Rattle.std.specs.Ordering.{eq_by_cmp}
 use Rattle.std.specs.FinMap.Entries.{find, put, where_key, by_order}
-use Rattle.uf_tree.specs.Tree.{Tree, File, Dir, Entries, Nothing, With, pairs, entries, fold, fold_each}
+use Rattle.uf_tree.specs.Tree.{Tree, Dir, Entries, Nothing, With, pairs, entries, fold, fold_each}
 use Rattle.uf_tree.specs.Changes.{with_name, without}
 use Rattle.uf_tree.specs.DirPlan.{own_plan}
 use Rattle.uf_tree.specs.Names.{names_cmp}
 use Rattle.uf_tree.specs.TreePlan.{planned, planned_file, planned_dir, members, entry, named_entries}
-use Rattle.uf_tree.specs.declared.nodes.Entry.{Entry}
 use Rattle.uf_tree.specs.declared.profile.Profile.{Profile}
 
 -- entries and pairs undo each other
@@ -38,13 +36,15 @@ module _ {K A B : Type 0} (R : K → K → Ordering) (f : A → B) where
   map-put k v (e ∷ l) = elim (R k e.0) as (λ r. map over (by_order r ((k, v) ∷ e ∷ l) ((e.0, v) ∷ l) (e ∷ put R k v l)) ≡ by_order r ((k, f v) ∷ map over (e ∷ l)) ((e.0, f v) ∷ map over l) (over e ∷ put R k (f v) (map over l))) [
     | Less ↦ refl
     | Equal ↦ refl
-    | Greater ↦ ap (λ l. over e ∷ l) (map-put k v l) ]
+    | Greater ↦ ap (λ l. over e ∷ l) (map-put k v l)
+  ]
 
   pub map-where_key : (p : K → Bool) (l : List (K × A)) → map over (where_key R p l) ≡ where_key R p (map over l)
   map-where_key p [] = refl
   map-where_key p (e ∷ l) = elim (p e.0) as (λ b. map over (cond b (e ∷ where_key R p l) (where_key R p l)) ≡ cond b (over e ∷ where_key R p (map over l)) (where_key R p (map over l))) [
     | true ↦ ap (λ l. over e ∷ l) (map-where_key p l)
-    | false ↦ map-where_key p l ]
+    | false ↦ map-where_key p l
+  ]
 
   pub find-map : (q : K) (l : List (K × A)) → find R q (map over l) ≡ option_map f (find R q l)
   find-map q [] = refl

@@ -1,9 +1,9 @@
 -- Names that share their slots.
-use Rattle.std.proofs.Common.{◌≡◌, ◌≢◌, ℕ, zero, suc, ◌+◌, ◌-◌, ◌*◌, ◌/◌, ◌%◌, ◌^◌, ◌<◌, ◌≤◌, List, [], ◌∷◌, length, refl, ap, arith, sym, ◌∙◌, subst, ◌⊎◌, inl, inr, Bool, true, false, cond, Option, Some, None, eqb}
+use Rattle.std.proofs.Common.{◌≡◌, ◌≢◌, ℕ, zero, suc, ◌-◌, ◌*◌, ◌/◌, ◌%◌, ◌^◌, ◌<◌, ◌≤◌, List, [], ◌∷◌, length, refl, ap, arith, sym, ◌∙◌, subst, ◌⊎◌, inl, inr, Bool, true, false, cond, Option, Some, None}
 use Rattle.std.specs.Prelude.{◌==◌, ◌&&◌}
 use Rattle.std.specs.List.{AllByRecursion, find}
 use Rattle.std.specs.FinMap.Entries.{where_key}
-use Rattle.std.proofs.lemmas.Bool.{cases_eq, eq-eqb}
+use Rattle.std.proofs.lemmas.Bool.{cases_eq}
 use Rattle.std.proofs.lemmas.Bool.Decides.{nat_tests}
 use Rattle.std.proofs.Math.Nat.{div-div-eq-div-mul}
 use Rattle.uf_murmur.specs.Slots.{slot}
@@ -88,9 +88,10 @@ module _ (key : List ℕ → ℕ) (same further : List ℕ → List ℕ → Bool
       by (inl at) later =
           let both = subst (λ b. Alone further e.0 (cond b (f ∷ part (key e.0) l) (part (key e.0) l))) (same_key _ _ at) h in
           (parts e.0 f.0 ∙ ap (λ b. b && further e.0 f.0) (same_key (key e.0) (key f.0) (sym at)) ∙ both.0, later both.1)
-      by (inr off) later =
-          (parts e.0 f.0 ∙ ap (λ b. b && further e.0 f.0) (other_key (key e.0) (key f.0) (λ at. off (sym at))),
-           later (subst (λ b. Alone further e.0 (cond b (f ∷ part (key e.0) l) (part (key e.0) l))) (other_key _ _ off) h))
+      by (inr off) later = (
+        parts e.0 f.0 ∙ ap (λ b. b && further e.0 f.0) (other_key (key e.0) (key f.0) (λ at. off (sym at))),
+        later (subst (λ b. Alone further e.0 (cond b (f ∷ part (key e.0) l) (part (key e.0) l))) (other_key _ _ off) h),
+      )
 
   pub part-Apart : (l : List Named) → ((s : ℕ) → Apart further (part s l)) → Apart same l
   part-Apart [] h = tt
@@ -204,11 +205,13 @@ same_slots-hash N fits a b = same_test _ _ forth back
         at a0 a1 a2 a3 a4 a5 a6 a7 (suc (suc (suc (suc (suc (suc zero)))))) h = tested _ _ a6
         at a0 a1 a2 a3 a4 a5 a6 a7 (suc (suc (suc (suc (suc (suc (suc zero))))))) h = tested _ _ a7
         at a0 a1 a2 a3 a4 a5 a6 a7 (suc (suc (suc (suc (suc (suc (suc (suc k)))))))) h = absurd (omega arith)
+
     back : same_hash N a b ≡ true → same_slots N 7 a b ≡ true
     back h = all 7
       where
         one : (k : ℕ) → (slot (N a) k == slot (N b) k) ≡ true
         one k = same_key _ _ (ap (λ n. slot n k) (tested _ _ h))
+
         all : (left : ℕ) → same_slots N left a b ≡ true
         all zero = one 7
         all (suc left) = ap (λ x. x && same_slots N left a b) (one (6 - left)) ∙ all left

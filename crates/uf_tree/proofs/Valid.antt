@@ -1,16 +1,13 @@
 -- What plans give is valid.
-use Rattle.std.proofs.Common.{◌≡◌, ◌≢◌, ℕ, zero, suc, ◌+◌, ◌-◌, ◌*◌, ◌^◌, ◌<◌, ◌≤◌, List, [], ◌∷◌, ◌++◌, length, map, refl, ap, arith, sym, ◌∙◌, subst, ◌⊎◌, inl, inr, Bool, true, false, cond, T, Option, Some, None, Ordering, min, length-append, mul_comm}
+use Rattle.std.proofs.Common.{◌≡◌, ℕ, zero, suc, ◌+◌, ◌-◌, ◌*◌, ◌^◌, ◌<◌, ◌≤◌, List, [], ◌∷◌, length, map, refl, ap, arith, sym, ◌∙◌, subst, ◌⊎◌, inl, inr, true, false, cond, Option, Some, None, Ordering, min, length-append, mul_comm}
 use Rattle.std.specs.Prelude.{◌&&◌, ◌==◌, IsTrue, IfSome, sum}
 use Rattle.std.specs.List.{AllByRecursion, sum_by}
 use Rattle.std.specs.Ordering.{nat_cmp, is_lt}
 use Rattle.std.specs.FinMap.Entries.{is_sorted, below_all, find}
 use Rattle.std.proofs.Math.Nat.{min-le_right, mul-le-mul_left}
-use Rattle.std.proofs.lemmas.Bool.Decides.{nat_tests}
 use Rattle.std.proofs.lemmas.List.{length-map}
 use Rattle.std.proofs.lemmas.Bool.{cases_lt}
 use Rattle.std.proofs.lemmas.List.Sums.{sum-map, sum_by-cons}
-use Rattle.uf_cid.specs.declared.cid.Codec.TheVariants.{Raw, DagPb}
-use Rattle.uf_dagpb.specs.declared.node.Link.{Link}
 use Rattle.uf_murmur.specs.Slots.{slot}
 use Rattle.uf_tree.specs.declared.nodes.Entry.{Entry}
 use Rattle.uf_tree.specs.declared.nodes.Item.{Item}
@@ -19,21 +16,21 @@ use Rattle.uf_tree.specs.declared.nodes.Part.{Part}
 use Rattle.uf_tree.specs.declared.profile.Profile.{Profile}
 use Rattle.uf_tree.specs.Cutting.{joined, room_after}
 use Rattle.uf_tree.specs.DirPlan.{own_plan, basic_dir, is_sharded}
-use Rattle.uf_tree.specs.FilePlan.{Plan, file_plan, groups, split_from, node_over, node_part, leaf_part}
-use Rattle.uf_tree.specs.FileSub.{span, sub, IsHeight}
-use Rattle.uf_tree.specs.Names.{names_cmp, is_name}
+use Rattle.uf_tree.specs.FilePlan.{Plan, file_plan, groups, split_from, node_over, leaf_part}
+use Rattle.uf_tree.specs.FileSub.{span, part_over}
+use Rattle.uf_tree.specs.Names.{names_cmp}
 use Rattle.uf_tree.specs.Nodes.{Named, InSlot, node_entry}
 use Rattle.uf_tree.specs.Profiles.{is_profile}
-use Rattle.uf_tree.specs.ShardPlan.{shard, shard_items, slot_item, bucket, tabulate, no_shard}
+use Rattle.uf_tree.specs.ShardPlan.{shard, shard_items, slot_item, bucket}
 use Rattle.uf_tree.specs.Tree.{Tree, File, Dir, Entries, Nothing, With, pairs, is_tree, are_trees, fold}
 use Rattle.uf_tree.specs.TreePlan.{entry, named_entries, planned}
 use Rattle.uf_tree.specs.Validity.{IsHash, IsEntry, IsNamed, IsDirectory, IsItem, IsInSlot, IsShard, IsPartLink, IsFileNode}
-use Rattle.uf_tree.proofs.Each.{each_filter, each_tabulate, each_map}
+use Rattle.uf_tree.proofs.Each.{each_filter, each_tabulate}
 use Rattle.uf_tree.proofs.Groups.{joined-split, length-split, width-split, room-below}
 use Rattle.uf_tree.proofs.Rows.{file_plan-rows}
 use Rattle.uf_tree.proofs.ShardLaws.{slot-bound, sorted-tabulate, find-tabulate}
 use Rattle.uf_tree.proofs.Sub.{span-pos}
-use Rattle.uf_tree.proofs.Tests.{as_T, as_true, kept}
+use Rattle.uf_tree.proofs.Tests.{as_true, kept}
 use Rattle.uf_tree.proofs.TreeLaws.{entry-dir}
 use Rattle.uf_tree.proofs.Twins.{both_true, same_key}
 
@@ -55,11 +52,12 @@ module _ (X : List ℕ → List ℕ) (good : IsHash X) where
   pub own_plan-valid : (N : List ℕ → ℕ) (p : Profile) (l : List Named) → IsEntry (own_plan X N p l).entry
   own_plan-valid N p l = elim (is_sharded p l) as (λ b. IsEntry (cond b (shard X N 7 l) (basic_dir X N l)).entry) [
     | true ↦ shard-valid N 7 l
-    | false ↦ record { cid = record { size = good.size _; bytes = good.are_bytes _ }; tsize = below_cap _ } ]
+    | false ↦ record { cid = record { size = good.size _; bytes = good.are_bytes _ }; tsize = below_cap _ }
+  ]
 
   -- of the part of a height over no more bytes than it can have
-  pub sub-valid : (p : Profile) → IsTrue (is_profile p) → (k : ℕ) (bytes : List ℕ) → length bytes ≤ span p.chunk p.width k → IsEntry (sub X p.chunk p.width k bytes).entry
-  unfolding sub span
+  pub sub-valid : (p : Profile) → IsTrue (is_profile p) → (k : ℕ) (bytes : List ℕ) → length bytes ≤ span p.chunk p.width k → IsEntry (part_over X p.chunk p.width k bytes).entry
+  unfolding part_over span
   sub-valid p ok zero bytes h = leaf-valid bytes (let short : p.chunk ≤ 1048576 = (kept p ok).short in omega arith)
   sub-valid p ok (suc k) bytes h = record { cid = record { size = good.size _; bytes = good.are_bytes _ }; tsize = below_cap _ }
 
@@ -127,32 +125,33 @@ some_slot N deeper k (e ∷ l) h =
     let item = some_item deeper e (bucket N k s l) in
     let there : bucket N k s (e ∷ l) ≡ e ∷ bucket N k s l = ap (λ b. cond b (e ∷ bucket N k s l) (bucket N k s l)) (same_key s s refl) in
     not_empty s (shard_items N deeper k (e ∷ l)) item.0
-      (find-tabulate 256 0 (λ s. slot_item deeper (bucket N k s (e ∷ l))) s (omega arith) (let bound : s < 256 = slot-bound (N e.0) k in omega arith)
-       ∙ ap (slot_item deeper) there ∙ item.1)
+    (find-tabulate 256 0 (λ s. slot_item deeper (bucket N k s (e ∷ l))) s (omega arith) (let bound : s < 256 = slot-bound (N e.0) k in omega arith)
+    ∙ ap (slot_item deeper) there ∙ item.1)
 
 -- the slots of a shard of valid pairs
 pub shard_items-valid : (N : List ℕ → ℕ) (deeper : List Named → Plan) → ((l : List Named) → IsEntry (deeper l).entry) → (k : ℕ) (l : List Named) → AllByRecursion IsNamed l → 1 ≤ length l → IsShard (shard_items N deeper k l)
 shard_items-valid N deeper good k l h some = record {
-    some = some_slot N deeper k l some;
-    sorted = as_true _ (sorted-tabulate 256 0 (λ s. slot_item deeper (bucket N k s l)));
-    each = each_tabulate IsInSlot 256 0 256 (λ s. slot_item deeper (bucket N k s l)) (omega arith)
-      (λ s less. in_slot s less _ (item-valid deeper good (bucket N k s l) (each_filter IsNamed (λ e. slot (N e.0) k == s) l h))) }
+  some = some_slot N deeper k l some;
+  sorted = as_true _ (sorted-tabulate 256 0 (λ s. slot_item deeper (bucket N k s l)));
+  each = each_tabulate IsInSlot 256 0 256 (λ s. slot_item deeper (bucket N k s l)) (omega arith)
+      (λ s less. in_slot s less _ (item-valid deeper good (bucket N k s l) (each_filter IsNamed (λ e. slot (N e.0) k == s) l h)));
+}
 
 module _ (X : List ℕ → List ℕ) (good : IsHash X) (p : Profile) (ok : IsTrue (is_profile p)) where
   -- the sizes of the parts of a height are the numbers of their bytes
-  sum_sizes : (gs : List (List ℕ)) (f : List ℕ → Part) → ((g : List ℕ) → (f g).size ≡ length g) → sum_by (λ (m : Part). m.size) (map f gs) ≡ length (joined gs)
+  pub sum_sizes : (gs : List (List ℕ)) (f : List ℕ → Part) → ((g : List ℕ) → (f g).size ≡ length g) → sum_by (λ (m : Part). m.size) (map f gs) ≡ length (joined gs)
   sum_sizes [] f h = refl
-  sum_sizes (g ∷ gs) f h = 
+  sum_sizes (g ∷ gs) f h =
       let front : sum_by (λ (m : Part). m.size) (map f (g ∷ gs)) ≡ (f g).size + sum_by (λ (m : Part). m.size) (map f gs) = sum_by-cons (λ (m : Part). m.size) (f g) (map f gs) in
       let all : length (joined (g ∷ gs)) ≡ length g + length (joined gs) = length-append g (joined gs) in
       let one : (f g).size ≡ length g = h g in
       let rest : sum_by (λ (m : Part). m.size) (map f gs) ≡ length (joined gs) = sum_sizes gs f h in
       omega arith
 
-  pub sub-size : (k : ℕ) (bytes : List ℕ) → (sub X p.chunk p.width k bytes).size ≡ length bytes
-  unfolding sub
+  pub sub-size : (k : ℕ) (bytes : List ℕ) → (part_over X p.chunk p.width k bytes).size ≡ length bytes
+  unfolding part_over
   sub-size zero bytes = refl
-  sub-size (suc k) bytes = sum_sizes (groups (span p.chunk p.width k) bytes) (sub X p.chunk p.width k) (sub-size k) ∙ ap length (joined-split (span p.chunk p.width k) (span p.chunk p.width k) bytes)
+  sub-size (suc k) bytes = sum_sizes (groups (span p.chunk p.width k) bytes) (part_over X p.chunk p.width k) (sub-size k) ∙ ap length (joined-split (span p.chunk p.width k) (span p.chunk p.width k) bytes)
 
   few_groups : (s w : ℕ) → 1 ≤ s → (bytes : List ℕ) → length bytes ≤ w * s → 1 ≤ w → length (groups s bytes) ≤ w
   few_groups s w h [] k j = omega arith
@@ -174,23 +173,24 @@ module _ (X : List ℕ → List ℕ) (good : IsHash X) (p : Profile) (ok : IsTru
 
   -- a node over no more bytes than its height can have
   pub file_node-valid : (k : ℕ) (bytes : List ℕ) → length bytes ≤ span p.chunk p.width (suc k) → length bytes < 2 ^ 63
-      → IsFileNode (node_over (map (sub X p.chunk p.width k) (groups (span p.chunk p.width k) bytes)))
+      → IsFileNode (node_over (map (part_over X p.chunk p.width k) (groups (span p.chunk p.width k) bytes)))
   unfolding span
   file_node-valid k bytes fit small =
       let s = span p.chunk p.width k in
       let pos : 1 ≤ s = span-pos p.chunk p.width k (kept p ok).some (let two : 2 ≤ p.width = (kept p ok).two in omega arith) in
       let gs = groups s bytes in
-      let parts = map (sub X p.chunk p.width k) gs in
+      let parts = map (part_over X p.chunk p.width k) gs in
       let links : length (node_over parts).parts ≡ length parts = length-map parts _ in
       let sizes : length (node_over parts).sizes ≡ length parts = length-map parts _ in
       let count : length parts ≡ length gs = length-map gs _ in
       let few : length gs ≤ p.width = few_groups s p.width pos bytes fit (let two : 2 ≤ p.width = (kept p ok).two in omega arith) in
       let most : p.width ≤ 1024 = (kept p ok).few in
       let widths = width-split s s bytes pos (omega arith) in
-      let total : sum (node_over parts).sizes ≡ length bytes = sum-map (λ (m : Part). m.size) parts ∙ sum_sizes gs (sub X p.chunk p.width k) (sub-size k) ∙ ap length (joined-split s s bytes) in
+      let total : sum (node_over parts).sizes ≡ length bytes = sum-map (λ (m : Part). m.size) parts ∙ sum_sizes gs (part_over X p.chunk p.width k) (sub-size k) ∙ ap length (joined-split s s bytes) in
       record {
         some = omega arith;
         few = omega arith;
         sizes = sizes ∙ sym links;
         total = omega arith;
-        each = links-valid (sub X p.chunk p.width k) gs s (λ g h. sub-valid X good p ok k g h) (widths.0, widths.1) }
+        each = links-valid (part_over X p.chunk p.width k) gs s (λ g h. sub-valid X good p ok k g h) (widths.0, widths.1);
+      }

@@ -46,7 +46,8 @@ module _ (X : List ℕ → List ℕ) where
   abbrev pub node_part : List Part → Part
   node_part parts = record {
     entry = node_entry X (file_block (node_over parts)) (map (λ m. m.entry) parts);
-    size = sum_by (λ m. m.size) parts }
+    size = sum_by (λ m. m.size) parts;
+  }
 
   -- the block of the node over a group
   abbrev pub node_held : List Part → Held

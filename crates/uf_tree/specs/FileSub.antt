@@ -17,16 +17,16 @@ pub record IsHeight (c w n height : ℕ) : Type 0 where
   pub least : (k : ℕ) → k < height → span c w k < n
 
 -- the part of this height over these bytes
-unfoldable pub sub : (List ℕ → List ℕ) → ℕ → ℕ → ℕ → List ℕ → Part
-sub X c w zero bytes = leaf_part X bytes
-sub X c w (suc k) bytes = node_part X (map (sub X c w k) (groups (span c w k) bytes))
+unfoldable pub part_over : (List ℕ → List ℕ) → ℕ → ℕ → ℕ → List ℕ → Part
+part_over X c w zero bytes = leaf_part X bytes
+part_over X c w (suc k) bytes = node_part X (map (part_over X c w k) (groups (span c w k) bytes))
 
 -- its own block, and then those below it from left to right
-unfoldable pub sub_blocks : (List ℕ → List ℕ) → ℕ → ℕ → ℕ → List ℕ → List Held
-unfolding sub
-sub_blocks X c w zero bytes = leaf_held X bytes ∷ []
-sub_blocks X c w (suc k) bytes =
-    node_held X (map (sub X c w k) (groups (span c w k) bytes)) ∷ flat_map (sub_blocks X c w k) (groups (span c w k) bytes)
+unfoldable pub blocks_over : (List ℕ → List ℕ) → ℕ → ℕ → ℕ → List ℕ → List Held
+unfolding part_over
+blocks_over X c w zero bytes = leaf_held X bytes ∷ []
+blocks_over X c w (suc k) bytes =
+    node_held X (map (part_over X c w k) (groups (span c w k) bytes)) ∷ flat_map (blocks_over X c w k) (groups (span c w k) bytes)
 
 -- a row of the file is the first that has one part
 pub record IsTop (X : List ℕ → List ℕ) (p : Profile) (bytes : List ℕ) (plan : Plan) (top : ℕ) : Type 0 where
@@ -39,6 +39,6 @@ pub record IsTop (X : List ℕ → List ℕ) (p : Profile) (bytes : List ℕ) (p
 -- the plan is that of the part of this height over the whole file
 pub record IsRooted (X : List ℕ → List ℕ) (p : Profile) (bytes : List ℕ) (plan : Plan) (height : ℕ) : Type 0 where
   pub least : IsHeight p.chunk p.width (length bytes) height
-  pub entry : plan.entry ≡ (sub X p.chunk p.width height bytes).entry
-  pub holds : (held : Lookup) → Holds held plan.blocks ↔ Holds held (sub_blocks X p.chunk p.width height bytes)
-  pub agrees : (held : Lookup) → Agrees held plan.blocks ↔ Agrees held (sub_blocks X p.chunk p.width height bytes)
+  pub entry : plan.entry ≡ (part_over X p.chunk p.width height bytes).entry
+  pub holds : (held : Lookup) → Holds held plan.blocks ↔ Holds held (blocks_over X p.chunk p.width height bytes)
+  pub agrees : (held : Lookup) → Agrees held plan.blocks ↔ Agrees held (blocks_over X p.chunk p.width height bytes)

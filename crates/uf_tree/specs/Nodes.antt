@@ -1,6 +1,6 @@
 -- The canonical blocks of files, directories and shards: UnixFS v1 messages in DAG-PB nodes (UnixFS v1, "Data Format",
 -- "File", "Directory" and "HAMTDirectory"; IPLD DAG-PB, "Serial Format").
-use Rattle.std.specs.Prelude.{ℕ, ◌+◌, ◌-◌, ◌*◌, ◌/◌, ◌%◌, ◌^◌, List, [], ◌∷◌, ◌++◌, length, map, min, sum, Bool, ◌==◌, nat_lt, if◌then◌else◌}
+use Rattle.std.specs.Prelude.{ℕ, ◌+◌, ◌-◌, ◌*◌, ◌/◌, ◌%◌, ◌^◌, List, [], ◌∷◌, ◌++◌, length, map, min, sum, ◌==◌, nat_lt, if◌then◌else◌}
 use Rattle.std.specs.declared.option.Option.TheVariants.{None, Some}
 use Rattle.std.specs.List.{sum_by, list_any, range_with_len}
 use Rattle.uf_cid.specs.Cid.{cid_of}
@@ -10,7 +10,6 @@ use Rattle.uf_message.specs.declared.message.Message.{Message}
 use Rattle.uf_message.specs.declared.message.MsgKind.TheVariants.{Directory, File, Shard}
 use Rattle.uf_dagpb.specs.Spelling.{node_bytes}
 use Rattle.uf_dagpb.specs.declared.node.Link.{Link}
-use Rattle.uf_dagpb.specs.declared.node.Node.{Node}
 use Rattle.uf_tree.specs.declared.nodes.Entry.{Entry}
 use Rattle.uf_tree.specs.declared.nodes.FileNode.{FileNode}
 use Rattle.uf_tree.specs.declared.nodes.Item.{Item}
@@ -39,8 +38,15 @@ link_of name e = record { cid = e.cid; name = name; tsize = e.tsize }
 -- the message of a file's node: all bytes below it, and the bytes below each link
 abbrev pub file_message : List ℕ → Message
 file_message sizes = record {
-  kind = File; content = None; filesize = Some (sum sizes); blocksizes = sizes;
-  hash_type = None; fanout = None; mode = None; mtime = None }
+  kind = File;
+  content = None;
+  filesize = Some (sum sizes);
+  blocksizes = sizes;
+  hash_type = None;
+  fanout = None;
+  mode = None;
+  mtime = None;
+}
 
 -- the block of a file's node
 unfoldable pub file_block : FileNode → List ℕ
@@ -49,8 +55,15 @@ file_block node = node_bytes (record { links = node.parts; content = Some (messa
 -- the message of a basic directory: nothing but its kind
 abbrev pub dir_message : Message
 dir_message = record {
-  kind = Directory; content = None; filesize = None; blocksizes = [];
-  hash_type = None; fanout = None; mode = None; mtime = None }
+  kind = Directory;
+  content = None;
+  filesize = None;
+  blocksizes = [];
+  hash_type = None;
+  fanout = None;
+  mode = None;
+  mtime = None;
+}
 
 -- the block of a basic directory: one link for each name
 unfoldable pub dir_block : List Named → List ℕ
@@ -98,8 +111,15 @@ bitfield slots = without_zeros (map (λ k. bitfield_byte slots (31 - k)) (range_
 -- the message of a shard: the bitfield, hash type 0x22 and fanout 256
 abbrev pub shard_message : List ℕ → Message
 shard_message slots = record {
-  kind = Shard; content = Some (bitfield slots); filesize = None; blocksizes = [];
-  hash_type = Some 0x22; fanout = Some 256; mode = None; mtime = None }
+  kind = Shard;
+  content = Some (bitfield slots);
+  filesize = None;
+  blocksizes = [];
+  hash_type = Some 0x22;
+  fanout = Some 256;
+  mode = None;
+  mtime = None;
+}
 
 -- the block of a shard: one link for each slot that has something
 unfoldable pub shard_block : List InSlot → List ℕ

@@ -1,5 +1,5 @@
 -- When a block is canonical in the role in which it is read.
-use Rattle.std.specs.Prelude.{◌≡◌, ◌≢◌, ℕ, zero, suc, ◌+◌, ◌<◌, ◌≤◌, List, [], ◌∷◌, ◌++◌, length, map, sum, replicate, Bool, true, false, ◌⊎◌}
+use Rattle.std.specs.Prelude.{◌≡◌, ◌≢◌, ℕ, zero, suc, ◌+◌, ◌<◌, ◌≤◌, List, [], ◌∷◌, ◌++◌, length, map, sum, replicate, Bool, false}
 use Rattle.std.specs.declared.option.Option.{Option}
 use Rattle.std.specs.declared.option.Option.TheVariants.{None, Some}
 use Rattle.std.specs.List.{AllByRecursion, range_with_len}
@@ -50,7 +50,8 @@ pub data IsCanonicalDirectory (profile : Option Profile) (required : Bool) (byte
 abbrev pub IsOnWay : (List ℕ → ℕ) → List ℕ → InSlot → Type 0
 IsOnWay N way p = elim p.1 [
   | Leaf name e ↦ map (slot (N name)) (range_with_len 0 (length way + 1)) ≡ way ++ p.0 ∷ []
-  | Sub e ↦ length way ≢ 7 ]
+  | Sub e ↦ length way ≢ 7
+]
 
 -- a block where a shard is looked for, behind a slot for each level above it
 pub record IsCanonicalShard (N : List ℕ → ℕ) (way : List ℕ) (bytes : List ℕ) : Type 0 where

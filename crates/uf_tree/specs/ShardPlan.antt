@@ -9,7 +9,6 @@ use Rattle.uf_cid.specs.Blocks.{Held}
 use Rattle.uf_cid.specs.Cid.{cid_of}
 use Rattle.uf_cid.specs.declared.cid.Codec.TheVariants.{DagPb}
 use Rattle.uf_murmur.specs.Slots.{slot}
-use Rattle.uf_tree.specs.declared.nodes.Entry.{Entry}
 use Rattle.uf_tree.specs.declared.nodes.Item.{Item}
 use Rattle.uf_tree.specs.declared.nodes.Item.TheVariants.{Leaf, Sub}
 use Rattle.uf_tree.specs.FilePlan.{Plan}
@@ -80,7 +79,8 @@ module _ (X : List ℕ → List ℕ) (N : List ℕ → ℕ) where
   abbrev pub shard_at : (List Named → Plan) → ℕ → List Named → Plan
   shard_at deeper k l = let items = shard_items N deeper k l in record {
     entry = node_entry X (shard_block items) (map (λ (p : InSlot). item_entry p.1) items);
-    blocks = shard_held items ∷ shard_below N deeper k l }
+    blocks = shard_held items ∷ shard_below N deeper k l;
+  }
 
   -- below level 7 no shard stands; this fills its place where two names share all slots
   abbrev pub no_shard : List Named → Plan

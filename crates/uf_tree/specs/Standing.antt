@@ -7,11 +7,10 @@ use Rattle.uf_cid.specs.Read.{IsCid}
 use Rattle.uf_cid.specs.declared.cid.Cid.{Cid}
 use Rattle.uf_cid.specs.declared.cid.Codec.TheVariants.{DagPb}
 use Rattle.uf_tree.specs.declared.profile.Profile.{Profile}
-use Rattle.uf_tree.specs.Tree.{Tree, Dir, Entries, is_tree}
+use Rattle.uf_tree.specs.Tree.{Dir, Entries, is_tree}
 use Rattle.uf_tree.specs.TreePlan.{entry, blocks, refusal}
 use Rattle.uf_tree.specs.Heads.{head_text}
 use Rattle.uf_tree.specs.Profiles.{is_profile}
-
 
 -- the Head is the text of this profile and of the root of the directory of these entries, which has a plan, and all blocks of the plan are held
 pub record StandsFor (X : List ℕ → List ℕ) (N : List ℕ → ℕ) (held : Lookup) (head : Option (List ℕ)) (p : Profile) (es : Entries) : Type 0 where
@@ -22,8 +21,8 @@ pub record StandsFor (X : List ℕ → List ℕ) (N : List ℕ → ℕ) (held : 
   pub blocks_held : Holds held (blocks X N p (Dir es))
 
 -- the text is that of no profile and no CID of a directory's block
-abbrev pub IsNoHead : List ℕ → Type 0
-IsNoHead text = (p : Profile) (c : Cid) → IsTrue (is_profile p) → IsCid c → c.codec ≡ DagPb → text ≢ head_text p c
+abbrev pub IsRefusedText : List ℕ → Type 0
+IsRefusedText text = (p : Profile) (c : Cid) → IsTrue (is_profile p) → IsCid c → c.codec ≡ DagPb → text ≢ head_text p c
 
 -- there is no Head, or one that isn't read, or a profile and the entries of the root
 pub data Standing : Type 0 where
@@ -33,7 +32,7 @@ pub data Standing : Type 0 where
 -- there is a Head that isn't read
 abbrev pub IsBadHead : Option (List ℕ) → Type 0
 IsBadHead None = ⊥
-IsBadHead (Some text) = IsNoHead text
+IsBadHead (Some text) = IsRefusedText text
 
 -- what is held and the Head stand so
 abbrev pub StandsAs : (List ℕ → List ℕ) → (List ℕ → ℕ) → Lookup → Option (List ℕ) → Standing → Type 0

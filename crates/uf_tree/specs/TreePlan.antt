@@ -62,7 +62,8 @@ module _ (X : List ℕ → List ℕ) (N : List ℕ → ℕ) (p : Profile) where
   abbrev pub planned_dir : List (List ℕ × Planned) → Planned
   planned_dir ms = let own = own_plan X N p (members ms) in record {
     plan = record { entry = own.entry; blocks = flat_map (λ (m : List ℕ × Planned). m.1.plan.blocks) ms ++ own.blocks };
-    refusal = or_else (first_refusal ms) (dir_refusal (members ms)) }
+    refusal = or_else (first_refusal ms) (dir_refusal (members ms));
+  }
 
   -- of a tree, from its leaves up
   unfoldable pub planned : Tree → Planned

@@ -1,21 +1,23 @@
 // Laws of the definitions.
-ghost use Rattle.std.specs.Prelude.{◌≡◌, ◌≤◌, ◌<◌, ◌^◌, ◌↔◌, ◌==◌, Option, None, Some, ℕ, List, [], ◌∷◌, ◌+◌, ◌++◌, length, map, IsTrue, if◌then◌else◌};
+ghost use Rattle.std.specs.Prelude.{◌≡◌, true, false, ◌≤◌, ◌<◌, ◌*◌, ◌^◌, ◌↔◌, ◌==◌, Option, None, Some, ℕ, List, [], ◌∷◌, ◌+◌, ◌++◌, length, map, IsTrue, if◌then◌else◌};
 ghost use Rattle.std.specs.FinMap.Entries.{is_sorted, find};
-ghost use Rattle.std.specs.List.{AllByRecursion};
+ghost use Rattle.std.specs.List.{AllByRecursion, range_with_len};
 ghost use Rattle.uf_cid.specs.Blocks.{Held, Lookup, Holds, Agrees};
 ghost use Rattle.uf_murmur.specs.Slots.{slot};
 ghost use Rattle.uf_tree.specs.declared.nodes.Entry.{Entry};
+ghost use Rattle.uf_tree.specs.declared.nodes.Part.{Part};
 ghost use Rattle.uf_tree.specs.declared.profile.Profile.{Profile};
 ghost use Rattle.uf_tree.specs.Changes.{with_name, without, set_at};
 ghost use Rattle.uf_tree.specs.Cutting.{joined, room_after, glue};
 ghost use Rattle.uf_tree.specs.DirPlan.{own_plan, dir_plan, trail, is_sharded};
-ghost use Rattle.uf_tree.specs.FilePlan.{Plan, split_from, chunks, groups, node_over, file_plan};
-ghost use Rattle.uf_tree.specs.FileSub.{IsTop, IsRooted, span, sub};
+ghost use Rattle.uf_tree.specs.FilePlan.{Plan, split_from, chunks, groups, node_over, climb, file_plan};
+ghost use Rattle.uf_tree.specs.FileSub.{IsTop, IsRooted, IsHeight, span, part_over};
 ghost use Rattle.uf_tree.specs.Names.{names_cmp};
 ghost use Rattle.uf_tree.specs.Profiles.{is_profile};
-ghost use Rattle.uf_tree.specs.Nodes.{Named};
+ghost use Rattle.uf_tree.specs.Roles.{IsCanonicalDirectory, IsCanonicalShard, IsCanonicalFileNode, Root, Below};
+ghost use Rattle.uf_tree.specs.Nodes.{Named, file_block, dir_block, shard_block};
 ghost use Rattle.uf_tree.specs.Shardable.{HasShard};
-ghost use Rattle.uf_tree.specs.ShardPlan.{bucket, shard_items, slot_item, twins, same_slots, same_hash};
+ghost use Rattle.uf_tree.specs.ShardPlan.{shard, bucket, shard_items, slot_item, twins, same_slots, same_hash};
 ghost use Rattle.uf_tree.specs.Tree.{Tree, Dir, Entries, pairs, entries, is_tree};
 ghost use Rattle.uf_tree.specs.TreePlan.{entry, blocks, named_entries};
 ghost use Rattle.uf_tree.specs.Validity.{IsHash, IsEntry, IsNamed, IsDirectory, IsShard, IsFileNode};
@@ -31,18 +33,24 @@ pub fn cutting_goes_on()
         ≡ glue (split_from w r front).0 (split_from w r front).1 (split_from w (room_after w r front) behind) }
 {}
 
+/// The rows of a file end before the fuel, so the fuel doesn't matter.
+pub fn the_rows_end_before_the_fuel()
+    ensures { (X : List ℕ → List ℕ) (width fuel other : ℕ) (first : Part) (rest : List Part) → 2 ≤ width → length rest ≤ fuel → length rest ≤ other
+        → climb X width fuel first rest ≡ climb X width other first rest }
+{}
+
 /// A put of a name changes one slot of a shard, to what its pairs then give.
 pub fn a_put_changes_one_slot()
     ensures { (N : List ℕ → ℕ) (deeper : List Named → Plan) (k : ℕ) (name : List ℕ) (e : Entry) (l : List Named) → IsTrue (is_sorted names_cmp l)
         → shard_items N deeper k (with_name name e l)
-            ≡ set_at (slot (N name) k) (slot_item deeper (with_name name e (bucket N k (slot (N name) k) l))) (shard_items N deeper k l) }
+        ≡ set_at (slot (N name) k) (slot_item deeper (with_name name e (bucket N k (slot (N name) k) l))) (shard_items N deeper k l) }
 {}
 
 /// A removal of a name changes one slot of a shard, to what its pairs then give.
 pub fn a_removal_changes_one_slot()
     ensures { (N : List ℕ → ℕ) (deeper : List Named → Plan) (k : ℕ) (name : List ℕ) (l : List Named) → IsTrue (is_sorted names_cmp l)
         → shard_items N deeper k (without name l)
-            ≡ set_at (slot (N name) k) (slot_item deeper (without name (bucket N k (slot (N name) k) l))) (shard_items N deeper k l) }
+        ≡ set_at (slot (N name) k) (slot_item deeper (without name (bucket N k (slot (N name) k) l))) (shard_items N deeper k l) }
 {}
 
 /// A directory's entry is that of its members' names and entries.
@@ -124,5 +132,37 @@ pub fn the_slots_of_a_shard_are_valid()
 /// The nodes of every file are valid.
 pub fn the_nodes_of_a_file_are_valid()
     ensures { (X : List ℕ → List ℕ) (p : Profile) (k : ℕ) (bytes : List ℕ) → IsHash X → IsTrue (is_profile p) → length bytes ≤ span p.chunk p.width (k + 1) → length bytes < 2 ^ 63
-        → IsFileNode (node_over (map (sub X p.chunk p.width k) (groups (span p.chunk p.width k) bytes))) }
+        → IsFileNode (node_over (map (part_over X p.chunk p.width k) (groups (span p.chunk p.width k) bytes))) }
+{}
+
+/// The one block of a basic directory is canonical where a directory is looked for, also with its profile.
+pub fn a_basic_block_is_canonical()
+    ensures { (p : Profile) (l : List Named) → IsDirectory l → is_sharded p l ≡ false → IsCanonicalDirectory (Some p) true (dir_block l) }
+{}
+
+/// The root of a sharded directory is canonical where a directory is looked for.
+pub fn a_root_shard_is_canonical()
+    ensures { (X : List ℕ → List ℕ) (N : List ℕ → ℕ) (p : Profile) (l : List Named) → IsHash X → IsDirectory l → is_sharded p l ≡ true
+        → IsCanonicalDirectory (Some p) true (shard_block (shard_items N (shard X N 6) 0 l)) }
+{}
+
+/// The block of a shard is canonical behind the slots that its names share.
+pub fn a_shard_is_canonical()
+    ensures { (N : List ℕ → ℕ) (deeper : List Named → Plan) (left : ℕ) (way : List ℕ) (l : List Named) → ((m : List Named) → IsEntry (deeper m).entry) → length way + left ≡ 7
+        → AllByRecursion IsNamed l → 1 ≤ length l → AllByRecursion (λ (e : Named). map (slot (N e.0)) (range_with_len 0 (length way)) ≡ way) l → HasShard N left l
+        → IsCanonicalShard N way (shard_block (shard_items N deeper (length way) l)) }
+{}
+
+/// The nodes of a file's plan are canonical at their places.
+pub fn the_nodes_of_a_file_are_canonical()
+    ensures root { (X : List ℕ → List ℕ) (p : Profile) (k : ℕ) (bytes : List ℕ) → IsHash X → IsTrue (is_profile p) → IsHeight p.chunk p.width (length bytes) (k + 1) → length bytes < 2 ^ 63
+        → IsCanonicalFileNode (Some p) Root (file_block (node_over (map (part_over X p.chunk p.width k) (groups (span p.chunk p.width k) bytes)))) }
+    ensures below { (X : List ℕ → List ℕ) (p : Profile) (above k whole : ℕ) (bytes : List ℕ) → IsHash X → IsTrue (is_profile p) → IsHeight p.chunk p.width whole (above + (k + 1)) → above < 22
+        → length bytes ≤ span p.chunk p.width (k + 1) → length bytes < 2 ^ 63
+        → IsCanonicalFileNode (Some p) (Below above (length bytes) whole) (file_block (node_over (map (part_over X p.chunk p.width k) (groups (span p.chunk p.width k) bytes)))) }
+{}
+
+/// A file that stands has at most 22 rows of nodes.
+pub fn a_file_has_few_rows()
+    ensures { (p : Profile) (n height : ℕ) → IsTrue (is_profile p) → n ≤ p.chunk * 4194304 → IsHeight p.chunk p.width n height → height ≤ 22 }
 {}

@@ -1,4 +1,4 @@
-use Rattle.std.proofs.Common.{subst, ap, ◌≤◌, length, add-one}
+use Rattle.std.proofs.Common.{subst, ◌≤◌, length, add-one}
 use Rattle.uf_tree.specs.FileSub.{span}
 use Rattle.uf_tree.proofs.Valid.{file_node-valid}
 use Rattle.uf_tree.proofs.laws.the_nodes_of_a_file_are_valid.Goals as goal

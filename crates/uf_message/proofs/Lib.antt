@@ -1,0 +1,3 @@
+pub mod Runs
+pub mod Selections
+pub mod TimeSteps

@@ -1,0 +1,231 @@
+// Messages read leniently.
+ghost use Rattle.std.specs.Prelude.{◌≡◌, [], ◌%◌, ◌^◌, ◌≤◌, ◌<◌, IfOk, length, Ok};
+ghost use Rattle.std.specs.Option.{option_map};
+ghost use Rattle.uf_varint.specs.Fields.{number_at, bytes_at, content_at, fields};
+ghost use Rattle.uf_message.specs.Reading.{run, selected, message_reads, message_of, kind_of};
+ghost use Rattle.uf_message.specs.Steps.{Gives, added, cut_of, selection, took};
+
+use crate::seen::Seen;
+use crate::times::time;
+use crate::{Message, MsgFault, MsgKind};
+use std::alloc::Global;
+use uf_cid::{Block, Memory, Sizes};
+use uf_varint::{CutFault, read_bytes, read_number, skip_content};
+
+impl From<CutFault> for MsgFault {
+    ghost use Rattle.uf_message.specs.Reading.{msg_fault as as_msg_fault};
+
+    ghost from_gives = { λ cut fault. fault ≡ as_msg_fault cut };
+
+    fn from(cut: CutFault) -> Self {
+        match cut {
+            CutFault::Truncated => MsgFault::Truncated,
+            CutFault::Varint => MsgFault::Varint,
+            CutFault::Wire => MsgFault::Wire,
+        }
+    }
+}
+
+// The number at the front, and the bytes behind it.
+fn number(bytes: &[u8]) -> Result<(u64, &[u8]), MsgFault>
+    ensures exact { Gives (λ x. (x.0, x.1.now)) result (cut_of (number_at bytes.now)) }
+    ensures shorter { IfOk result (λ x. length x.1.now < length bytes.now) }
+{
+    match read_number(bytes) {
+        Ok(found) => Ok(found),
+        Err(cut) => Err(MsgFault::from(cut)),
+    }
+}
+
+// The bytes at the front whose number stands before them, and the bytes behind them.
+fn piece(bytes: &[u8]) -> Result<(&[u8], &[u8]), MsgFault>
+    ensures exact { Gives (λ x. (x.0.now, x.1.now)) result (cut_of (bytes_at bytes.now)) }
+    ensures shorter { IfOk result (λ x. length x.1.now < length bytes.now) }
+{
+    match read_bytes(bytes) {
+        Ok(found) => Ok(found),
+        Err(cut) => Err(MsgFault::from(cut)),
+    }
+}
+
+// Puts the numbers that stand one behind the other to the sizes of blocks.
+fn take_run(sizes: &mut Sizes, bytes: &[u8]) -> Result<(), MsgFault>
+    ensures { Gives (λ _. sizes.new) result (added sizes.old (run bytes.now)) }
+{
+    let mut rest = bytes;
+    while !rest.is_empty() {
+        let (size, after) = match number(rest) {
+            Ok(found) => found,
+            Err(why) => return Err(why),
+        };
+        sizes.push(size)?;
+        rest = after;
+    }
+    Ok(())
+}
+
+impl<'a> Seen<'a> {
+    // Nothing was seen.
+    fn new(alloc: Global) -> Self
+        ensures { selection result ≡ selected [] }
+    {
+        Seen {
+            kind: None,
+            content: None,
+            filesize: None,
+            sizes: Sizes::new(alloc),
+            hash_type: None,
+            fanout: None,
+            mode: None,
+            mtime: None,
+        }
+    }
+
+    // Takes a field behind its key, and answers the bytes that follow it.
+    #[tactic(auto, unfolding(uf_varint::specs::Fields::content_at))]
+    fn take(&mut self, key: u64, rest: &'a [u8]) -> Result<&'a [u8], MsgFault>
+        ensures exact { Gives (λ after. (selection self.new, after.now)) result (took key (selection self.old) (content_at (key % 8) rest.now)) }
+        ensures shorter { IfOk result (λ after. length after.now ≤ length rest.now) }
+    {
+        match key {
+            0x08 => {
+                let (kind, after) = number(rest)?;
+                self.kind = Some(kind);
+                Ok(after)
+            }
+            0x12 => {
+                let (content, after) = piece(rest)?;
+                self.content = Some(content);
+                Ok(after)
+            }
+            0x18 => {
+                let (filesize, after) = number(rest)?;
+                self.filesize = Some(filesize);
+                Ok(after)
+            }
+            0x20 => {
+                let (size, after) = number(rest)?;
+                self.sizes.push(size)?;
+                Ok(after)
+            }
+            0x22 => {
+                let (sizes, after) = piece(rest)?;
+                take_run(&mut self.sizes, sizes)?;
+                Ok(after)
+            }
+            0x28 => {
+                let (hash_type, after) = number(rest)?;
+                self.hash_type = Some(hash_type);
+                Ok(after)
+            }
+            0x30 => {
+                let (fanout, after) = number(rest)?;
+                self.fanout = Some(fanout);
+                Ok(after)
+            }
+            0x38 => {
+                let (mode, after) = number(rest)?;
+                self.mode = Some(mode);
+                Ok(after)
+            }
+            0x42 => {
+                let (mtime, after) = piece(rest)?;
+                self.mtime = Some(mtime);
+                Ok(after)
+            }
+            0..=71 => Err(MsgFault::Wire),
+            _ => match skip_content(key % 8, rest) {
+                Ok(after) => Ok(after),
+                Err(cut) => Err(MsgFault::from(cut)),
+            },
+        }
+    }
+
+    // The message of what was seen.
+    fn finish(self, alloc: Global) -> Result<Message, MsgFault>
+        ensures { Gives (λ m. m) result (message_of (selection self.entry)) }
+    {
+        let Some(number) = self.kind else {
+            return Err(MsgFault::NoType);
+        };
+        let Some(kind) = kind_from(number) else {
+            return Err(MsgFault::UnknownType);
+        };
+        let mtime = match self.mtime {
+            None => None,
+            Some(bytes) => match time(bytes) {
+                None => return Err(MsgFault::BadTime),
+                Some(mtime) => Some(mtime),
+            },
+        };
+        let content = match self.content {
+            None => None,
+            Some(bytes) => Some(copied(alloc, bytes)?),
+        };
+        Ok(Message {
+            kind,
+            content,
+            filesize: self.filesize,
+            blocksizes: self.sizes,
+            hash_type: self.hash_type,
+            fanout: self.fanout,
+            mode: low_bits(self.mode),
+            mtime,
+        })
+    }
+}
+
+// The low 32 bits.
+fn low_bits(mode: Option<u64>) -> Option<u32>
+    ensures { result ≡ option_map (λ n. n % 2 ^ 32) mode }
+{
+    match mode {
+        None => None,
+        Some(mode) => Some((mode % (1 << 32)) as u32),
+    }
+}
+
+// The bytes in memory of their own.
+fn copied(alloc: Global, bytes: &[u8]) -> Result<Block, Memory>
+    ensures { IfOk result (λ b. b ≡ bytes.now) }
+{
+    let mut block = Block::with_capacity(alloc, bytes.len())?;
+    block.extend(bytes)?;
+    Ok(block)
+}
+
+// The kind of a number.
+fn kind_from(number: u64) -> Option<MsgKind>
+    ensures { result ≡ kind_of number }
+{
+    match number {
+        0 => Some(MsgKind::Raw),
+        1 => Some(MsgKind::Directory),
+        2 => Some(MsgKind::File),
+        3 => Some(MsgKind::Metadata),
+        4 => Some(MsgKind::Symlink),
+        5 => Some(MsgKind::Shard),
+        _ => None,
+    }
+}
+
+/// The message that bytes spell in any way: fields in any order, the last of a repeated one, packed sizes of blocks beside
+/// plain ones, and unknown fields passed over (UnixFS v1, "Data Format"; Protocol Buffers, "Encoding"). The fault is the
+/// first one from the left.
+pub fn decode_lenient(alloc: Global, bytes: &[u8]) -> Result<Message, MsgFault>
+    ensures { Gives (λ m. m) result (message_reads bytes.now) }
+{
+    let mut seen = Seen::new(alloc);
+    let mut rest = bytes;
+    while !rest.is_empty() {
+        let (key, after) = match number(rest) {
+            Ok(found) => found,
+            Err(why) => return Err(why),
+        };
+        rest = match seen.take(key, after) {
+            Ok(after) => after,
+            Err(why) => return Err(why),
+        };
+    }
+    seen.finish(alloc)
+}
