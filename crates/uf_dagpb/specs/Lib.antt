@@ -1,1 +1,4 @@
+pub mod Fronts
+pub mod Reading
 pub mod Spelling
+pub mod Steps

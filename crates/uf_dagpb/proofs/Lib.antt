@@ -1,0 +1,6 @@
+pub mod Again
+pub mod Fronts
+pub mod Judging
+pub mod Lengths
+pub mod Stepping
+pub mod Strictly
