@@ -1,0 +1,70 @@
+-- The open groups of a file's rows, the lowest row first: behind the full groups of each row, whose nodes are saved.
+use Rattle.std.specs.Prelude.{◌≡◌, ℕ, zero, suc, ◌+◌, ◌<◌, ◌≤◌, List, [], ◌∷◌, ◌++◌, length, map, nat_lt, if◌then◌else◌}
+use Rattle.std.specs.List.{AllByRecursion}
+use Rattle.uf_cid.specs.Blocks.{Held}
+use Rattle.uf_tree.specs.Cutting.{joined}
+use Rattle.uf_tree.specs.FilePlan.{node_part, node_held}
+use Rattle.uf_tree.specs.declared.nodes.Part.{Part}
+
+module _ (X : List ℕ → List ℕ) (w : ℕ) where
+  -- the open groups after one more part of the lowest row: a group that becomes full goes up as a node
+  abbrev pub push_row : Part → List (List Part) → List (List Part)
+  push_row m [] = (m ∷ []) ∷ []
+  push_row m (g ∷ gs) = if nat_lt (length g + 1) w then (g ++ m ∷ []) ∷ gs else [] ∷ push_row (node_part X (g ++ m ∷ [])) gs
+
+  -- the nodes of the groups that it fills
+  abbrev pub push_held : Part → List (List Part) → List Held
+  push_held m [] = []
+  push_held m (g ∷ gs) = if nat_lt (length g + 1) w then [] else node_held X (g ++ m ∷ []) ∷ push_held (node_part X (g ++ m ∷ [])) gs
+
+  -- the same from a row on
+  abbrev pub push_up : ℕ → Part → List (List Part) → List (List Part)
+  push_up zero m rows = push_row m rows
+  push_up (suc k) m [] = []
+  push_up (suc k) m (g ∷ gs) = g ∷ push_up k m gs
+
+  abbrev pub held_up : ℕ → Part → List (List Part) → List Held
+  held_up zero m rows = push_held m rows
+  held_up (suc k) m [] = []
+  held_up (suc k) m (g ∷ gs) = held_up k m gs
+
+  -- what a row that ends hands up: nothing of an empty group, the single part of the topmost row, and else its node
+  abbrev pub carry : List Part → List (List Part) → List Part
+  carry [] gs = []
+  carry (m ∷ []) [] = m ∷ []
+  carry (m ∷ []) (g ∷ gs) = node_part X (m ∷ []) ∷ []
+  carry (m ∷ n ∷ ms) gs = node_part X (m ∷ n ∷ ms) ∷ []
+
+  abbrev pub carry_held : List Part → List (List Part) → List Held
+  carry_held [] gs = []
+  carry_held (m ∷ []) [] = []
+  carry_held (m ∷ []) (g ∷ gs) = node_held X (m ∷ []) ∷ []
+  carry_held (m ∷ n ∷ ms) gs = node_held X (m ∷ n ∷ ms) ∷ []
+
+  -- the part that stands over all rows, where these were handed into the lowest one
+  abbrev pub close : List (List Part) → List Part → List Part
+  close [] c = c
+  close (g ∷ gs) c = close gs (carry (g ++ c) gs)
+
+  abbrev pub close_held : List (List Part) → List Part → List Held
+  close_held [] c = []
+  close_held (g ∷ gs) c = carry_held (g ++ c) gs ++ close_held gs (carry (g ++ c) gs)
+
+  -- the same from a row on
+  abbrev pub close_up : ℕ → List (List Part) → List Part → List Part
+  close_up zero rows c = close rows c
+  close_up (suc k) [] c = c
+  close_up (suc k) (g ∷ gs) c = close_up k gs c
+
+  abbrev pub close_held_up : ℕ → List (List Part) → List Part → List Held
+  close_held_up zero rows c = close_held rows c
+  close_held_up (suc k) [] c = []
+  close_held_up (suc k) (g ∷ gs) c = close_held_up k gs c
+
+  -- the open groups of a row and of those above it: each stands behind full groups, of whose nodes P holds and which are
+  -- the row above
+  abbrev pub AreRows : (Held → Type 0) → List Part → List (List Part) → Type 0
+  AreRows P row [] = row ≡ []
+  AreRows P row (g ∷ gs) =
+      (full : List (List Part)) × (row ≡ joined full ++ g) × AllByRecursion (λ f. length f ≡ w) full × (length g < w) × (1 ≤ length row)
+      × AllByRecursion P (map (node_held X) full) × AreRows P (map (node_part X) full) gs
