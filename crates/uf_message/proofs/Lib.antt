@@ -1,3 +1,4 @@
+pub mod Again
 pub mod Runs
 pub mod Selections
 pub mod TimeSteps

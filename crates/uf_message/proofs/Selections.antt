@@ -49,7 +49,7 @@ over_nothing s =
     let mtime = or_none s.mtime in
     λ i. record { kind = kind i; content = content i; filesize = filesize i; sizes = s.sizes; hash_type = hash_type i; fanout = fanout i; mode = mode i; mtime = mtime i }
 
-nothing_over : (s : Selected) → over (selected []) s ≡ s
+pub nothing_over : (s : Selected) → over (selected []) s ≡ s
 nothing_over s = let sizes = append-nil s.sizes in λ i. record s { sizes = sizes i }
 
 pub starts : (bytes : List ℕ) → reads_on (selected []) (fields bytes) ≡ message_reads bytes

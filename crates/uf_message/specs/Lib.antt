@@ -1,4 +1,5 @@
 pub mod Reading
 pub mod Spelling
 pub mod Steps
+pub mod Strict
 pub mod Times

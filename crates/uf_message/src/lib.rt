@@ -2,11 +2,15 @@
 #![tactic(auto)]
 
 mod writing;
+mod laws;
 mod message;
 mod reading;
 mod seen;
+mod strict;
 mod times;
 
 pub use reading::decode_lenient;
+pub use strict::decode_strict;
 pub use writing::encode;
+pub use laws::{messages_are_read_again, messages_fit, spellings_are_one};
 pub use message::{Message, MsgFault, MsgKind, Mtime};

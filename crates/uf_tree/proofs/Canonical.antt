@@ -26,7 +26,7 @@ use Rattle.uf_tree.proofs.Groups.{joined-split}
 use Rattle.uf_tree.proofs.Nested.{groups-map}
 use Rattle.uf_tree.proofs.Valid.{shard-valid, shard_items-valid, file_node-valid, sub-size, sum_sizes}
 
-light : (p : Profile) (l : List Named) → is_sharded p l ≡ false → weight l ≤ p.threshold
+pub light : (p : Profile) (l : List Named) → is_sharded p l ≡ false → weight l ≤ p.threshold
 light p l h = grind (arith, nat_tests)
 
 pub heavy : (p : Profile) (l : List Named) → is_sharded p l ≡ true → 1 ≤ length l

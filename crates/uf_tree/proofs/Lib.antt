@@ -7,6 +7,7 @@ pub mod Held
 pub mod Nested
 pub mod Rows
 pub mod ShardLaws
+pub mod Sizes
 pub mod Sub
 pub mod Tests
 pub mod TreeLaws

@@ -5,6 +5,7 @@ ghost use Rattle.std.specs.List.{AllByRecursion, range_with_len};
 ghost use Rattle.uf_cid.specs.Blocks.{Held, Lookup, Holds, Agrees};
 ghost use Rattle.uf_murmur.specs.Slots.{slot};
 ghost use Rattle.uf_tree.specs.declared.nodes.Entry.{Entry};
+ghost use Rattle.uf_tree.specs.declared.nodes.FileNode.{FileNode};
 ghost use Rattle.uf_tree.specs.declared.nodes.Part.{Part};
 ghost use Rattle.uf_tree.specs.declared.profile.Profile.{Profile};
 ghost use Rattle.uf_tree.specs.Changes.{with_name, without, set_at};
@@ -15,7 +16,7 @@ ghost use Rattle.uf_tree.specs.FileSub.{IsTop, IsRooted, IsHeight, span, part_ov
 ghost use Rattle.uf_tree.specs.Names.{names_cmp};
 ghost use Rattle.uf_tree.specs.Profiles.{is_profile};
 ghost use Rattle.uf_tree.specs.Roles.{IsCanonicalDirectory, IsCanonicalShard, IsCanonicalFileNode, Root, Below};
-ghost use Rattle.uf_tree.specs.Nodes.{Named, file_block, dir_block, shard_block};
+ghost use Rattle.uf_tree.specs.Nodes.{Named, InSlot, file_block, dir_block, shard_block};
 ghost use Rattle.uf_tree.specs.Shardable.{HasShard};
 ghost use Rattle.uf_tree.specs.ShardPlan.{shard, bucket, shard_items, slot_item, twins, same_slots, same_hash};
 ghost use Rattle.uf_tree.specs.Tree.{Tree, Dir, Entries, pairs, entries, is_tree};
@@ -165,4 +166,11 @@ pub fn the_nodes_of_a_file_are_canonical()
 /// A file that stands has at most 22 rows of nodes.
 pub fn a_file_has_few_rows()
     ensures { (p : Profile) (n height : ℕ) → IsTrue (is_profile p) → n ≤ p.chunk * 4194304 → IsHeight p.chunk p.width n height → height ≤ 22 }
+{}
+
+/// No canonical block has more than 2097152 bytes.
+pub fn canonical_blocks_are_short()
+    ensures directory { (p : Profile) (l : List Named) → IsTrue (is_profile p) → AllByRecursion IsNamed l → is_sharded p l ≡ false → length (dir_block l) ≤ 2097152 }
+    ensures shard { (items : List InSlot) → IsShard items → length (shard_block items) ≤ 2097152 }
+    ensures file { (node : FileNode) → IsFileNode node → length (file_block node) ≤ 2097152 }
 {}
