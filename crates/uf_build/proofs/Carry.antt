@@ -13,7 +13,7 @@ use Rattle.uf_tree.proofs.Behind.{split-short, groups-behind}
 use Rattle.uf_tree.proofs.Climb.{climb-fuel}
 use Rattle.uf_tree.proofs.Each.{both, front, back}
 use Rattle.uf_tree.proofs.Groups.{fewer}
-use Rattle.uf_build.specs.Rows.{push_row, push_held, carry, carry_held, close, close_held, AreRows}
+use Rattle.uf_build.specs.Rows.{push_row, push_held, carry, carry_held, close, close_held, is_none, AreRows}
 
 pub is_below : (n m : ℕ) → n < m → nat_lt n m ≡ true
 is_below n m h = grind (arith, nat_tests)
@@ -152,9 +152,9 @@ module _ (X : List ℕ → List ℕ) (w : ℕ) (two : 2 ≤ w) where
             subst (λ r. Stands r top) (sym whole)
             (Stands-above (joined full ++ o) (full ++ o ∷ []) top (over-full full o h.2 some fits many) (Each-push full o h.5 held)
               (subst (λ r. Stands r top) (sym (map-append (node_part X) full (o ∷ []))) stands))
-        by : (o : List Part) (rest : List (List Part)) → g ++ c ≡ o → gs ≡ rest → Each (carry_held X w o rest ++ close_held X w gs (carry X w o rest))
+        by : (o : List Part) (rest : List (List Part)) → g ++ c ≡ o → gs ≡ rest → Each (carry_held X (is_none rest) o ++ close_held X w gs (carry X (is_none rest) o))
             → ((d : List Part) → length d ≤ 1 → 1 ≤ length (map (node_part X) full) + length d → Each (close_held X w gs d) → Stands (map (node_part X) full ++ d) (close X w gs d))
-            → Stands (row ++ c) (close X w gs (carry X w o rest))
+            → Stands (row ++ c) (close X w gs (carry X (is_none rest) o))
         by [] rest e f now later =
             let whole : row ++ c ≡ joined full = again ∙ ap (λ o. joined full ++ o) e ∙ append-nil (joined full) in
             let some : 1 ≤ length (joined full) = omega (arith, ap length whole, length-append row c, j) in

@@ -1,10 +1,47 @@
 -- The open groups of a file's rows, the lowest row first: behind the full groups of each row, whose nodes are saved.
-use Rattle.std.specs.Prelude.{◌≡◌, ℕ, zero, suc, ◌+◌, ◌<◌, ◌≤◌, List, [], ◌∷◌, ◌++◌, length, map, nat_lt, if◌then◌else◌}
-use Rattle.std.specs.List.{AllByRecursion}
+use Rattle.std.specs.Prelude.{◌≡◌, ℕ, zero, suc, ◌+◌, ◌<◌, ◌≤◌, List, [], ◌∷◌, ◌++◌, length, map, nat_lt, Bool, true, false, if◌then◌else◌}
+use Rattle.std.specs.List.{AllByRecursion, sum_by}
 use Rattle.uf_cid.specs.Blocks.{Held}
 use Rattle.uf_tree.specs.Cutting.{joined}
 use Rattle.uf_tree.specs.FilePlan.{node_part, node_held}
 use Rattle.uf_tree.specs.declared.nodes.Part.{Part}
+
+-- no rows
+abbrev pub is_none : List (List Part) → Bool
+is_none [] = true
+is_none (g ∷ gs) = false
+
+-- each group has room for one more part
+abbrev pub AreShort : ℕ → List (List Part) → Type 0
+AreShort w rows = AllByRecursion (λ g. length g < w) rows
+
+-- how many bytes of the file are below a group
+abbrev pub size_of : List Part → ℕ
+size_of g = sum_by (λ m. m.size) g
+
+-- how many are below the groups of all rows
+abbrev pub sizes_of : List (List Part) → ℕ
+sizes_of rows = sum_by size_of rows
+
+-- how many links a node of a file may have
+pub record IsWidth (w : ℕ) : Type 0 where
+  pub two : 2 ≤ w
+  pub few : w ≤ 1024
+
+module _ (X : List ℕ → List ℕ) where
+  -- what a row that ends hands up: nothing of an empty group, the single part of the topmost row, and else its node
+  abbrev pub carry : Bool → List Part → List Part
+  carry is_top [] = []
+  carry true (m ∷ []) = m ∷ []
+  carry false (m ∷ []) = node_part X (m ∷ []) ∷ []
+  carry is_top (m ∷ n ∷ ms) = node_part X (m ∷ n ∷ ms) ∷ []
+
+  -- the node that it saves for that
+  abbrev pub carry_held : Bool → List Part → List Held
+  carry_held is_top [] = []
+  carry_held true (m ∷ []) = []
+  carry_held false (m ∷ []) = node_held X (m ∷ []) ∷ []
+  carry_held is_top (m ∷ n ∷ ms) = node_held X (m ∷ n ∷ ms) ∷ []
 
 module _ (X : List ℕ → List ℕ) (w : ℕ) where
   -- the open groups after one more part of the lowest row: a group that becomes full goes up as a node
@@ -28,27 +65,15 @@ module _ (X : List ℕ → List ℕ) (w : ℕ) where
   held_up (suc k) m [] = []
   held_up (suc k) m (g ∷ gs) = held_up k m gs
 
-  -- what a row that ends hands up: nothing of an empty group, the single part of the topmost row, and else its node
-  abbrev pub carry : List Part → List (List Part) → List Part
-  carry [] gs = []
-  carry (m ∷ []) [] = m ∷ []
-  carry (m ∷ []) (g ∷ gs) = node_part X (m ∷ []) ∷ []
-  carry (m ∷ n ∷ ms) gs = node_part X (m ∷ n ∷ ms) ∷ []
-
-  abbrev pub carry_held : List Part → List (List Part) → List Held
-  carry_held [] gs = []
-  carry_held (m ∷ []) [] = []
-  carry_held (m ∷ []) (g ∷ gs) = node_held X (m ∷ []) ∷ []
-  carry_held (m ∷ n ∷ ms) gs = node_held X (m ∷ n ∷ ms) ∷ []
-
   -- the part that stands over all rows, where these were handed into the lowest one
   abbrev pub close : List (List Part) → List Part → List Part
   close [] c = c
-  close (g ∷ gs) c = close gs (carry (g ++ c) gs)
+  close (g ∷ gs) c = close gs (carry X (is_none gs) (g ++ c))
 
+  -- the nodes that are saved for that
   abbrev pub close_held : List (List Part) → List Part → List Held
   close_held [] c = []
-  close_held (g ∷ gs) c = carry_held (g ++ c) gs ++ close_held gs (carry (g ++ c) gs)
+  close_held (g ∷ gs) c = carry_held X (is_none gs) (g ++ c) ++ close_held gs (carry X (is_none gs) (g ++ c))
 
   -- the same from a row on
   abbrev pub close_up : ℕ → List (List Part) → List Part → List Part
