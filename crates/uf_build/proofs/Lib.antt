@@ -1,1 +1,3 @@
 pub mod Carry
+pub mod Sorted
+pub mod Up

@@ -4,14 +4,14 @@ ghost use Rattle.std.specs.List.{AllByRecursion, sum_by};
 ghost use Rattle.uf_store.specs.Faults.{Answers, NoneIsBad};
 ghost use Rattle.uf_store.specs.Keeping.{Holds, KeepsGood, SavesOnly};
 ghost use Rattle.uf_tree.specs.FilePlan.{node_over, node_part, node_held};
-ghost use Rattle.uf_tree.specs.Nodes.{capped};
+ghost use Rattle.uf_tree.specs.Nodes.{capped, link_of};
 ghost use Rattle.uf_tree.specs.Validity.{IsPartLink};
 ghost use Rattle.uf_build.specs.Answers.{IsSaving};
 
 use crate::stand_in::file_node;
 use std::alloc::Global;
 use std::sync::ledger::Ledger;
-use uf_cid::{Codec, Memory, Seq, Text, cids_are_whole};
+use uf_cid::{Cid, Codec, Memory, Seq, Text, cids_are_whole};
 use uf_dagpb::Link;
 use uf_store::{Steps, Store, StoreFault, save_block};
 use uf_tree::laws::canonical_blocks_are_short;
@@ -38,7 +38,7 @@ pub fn save_node<S: Store, L: Ledger>(
     let Ok(node) = node_of(alloc, parts) else {
         return Err(StoreFault::Memory);
     };
-    let Ok(block) = file_node(alloc, &node) else {
+    let Ok(block) = file_node(alloc, node) else {
         return Err(StoreFault::Memory);
     };
     canonical_blocks_are_short();
@@ -63,17 +63,23 @@ fn node_of(alloc: Global, parts: &[Part]) -> Result<FileNode, Memory>
     let mut links = Seq::new(alloc);
     let mut sizes = Seq::new(alloc);
     for part in parts {
-        let cid = part.entry.cid;
-        cids_are_whole(&cid);
-        let name = Text::new(alloc);
-        let tsize = part.entry.tsize;
-        links.push(Link { cid, name, tsize })?;
+        links.push(link_to(alloc, part.entry.cid, part.entry.tsize))?;
         sizes.push(part.size)?;
     }
     Ok(FileNode {
         parts: links,
         sizes,
     })
+}
+
+// The link to a part: it has no name.
+fn link_to(alloc: Global, cid: Cid, tsize: u64) -> Link
+    ensures link { result ≡ link_of [] (record { cid = cid; tsize = tsize }) }
+    ensures valid { IsPartLink result }
+{
+    cids_are_whole(&cid);
+    let name = Text::new(alloc);
+    Link { cid, name, tsize }
 }
 
 // The length of a node's block and the Tsizes of its links; a greater number counts as the greatest.
