@@ -1,3 +1,4 @@
 pub mod Carry
+pub mod Holding
 pub mod Sorted
 pub mod Up

@@ -44,8 +44,9 @@ pub fn push<S: Store, L: Ledger>(
         };
     }
     let row = &mut rows[level];
-    if row.push(part).is_err() {
-        return Err(StoreFault::Memory);
+    match row.push(part) {
+        Ok(()) => {}
+        Err(Memory) => return Err(StoreFault::Memory),
     }
     if row.len() < width {
         return Ok(());
@@ -114,13 +115,13 @@ fn close_row<S: Store, L: Ledger>(
 ) -> Result<Option<Part>, StoreFault>
     requires few { length row < 1024 }
     requires size { size_of row + size_of (option_to_list carried) < 2 ^ 63 }
-    ensures part { IfOk result (λ part. option_to_list part ≡ carry S.X.block32 is_top (row.entry ++ option_to_list carried)) }
-    ensures held { OnOk result (Holds (S.seen store.new).told (carry_held S.X.block32 is_top (row.entry ++ option_to_list carried))) }
+    ensures part { IfOk result (λ part. option_to_list part ≡ carry S.X.block32 is_top (row ++ option_to_list carried)) }
+    ensures held { OnOk result (Holds (S.seen store.new).told (carry_held S.X.block32 is_top (row ++ option_to_list carried))) }
     ensures cause { Answers S.X.block32 NoneIsBad result (S.seen store.old) (S.seen store.new) }
     ensures fault { IfErr result IsSaving }
     ensures good { KeepsGood S.X.block32 (S.seen store.old).told (S.seen store.new).told }
     ensures saves { SavesOnly (S.seen store.old).told (S.seen store.new).told }
-    ensures touches { touches.new ≤ touches.old + length (carry_held S.X.block32 is_top (row.entry ++ option_to_list carried)) }
+    ensures touches { touches.new ≤ touches.old + length (carry_held S.X.block32 is_top (row ++ option_to_list carried)) }
 {
     if let Some(part) = carried {
         if row.push(part).is_err() {
