@@ -1,6 +1,8 @@
 -- What is held where calls of a builder follow each other.
 use Rattle.std.proofs.Common.{◌≡◌, ℕ, List, [], ◌∷◌, ◌++◌, refl, ap, sym, subst}
-use Rattle.std.specs.Prelude.{Some, None}
+use Rattle.std.specs.Prelude.{Some, None, OnOk}
+use Rattle.std.specs.declared.result.Result.{Result}
+use Rattle.std.specs.declared.result.Result.TheVariants.{Ok, Err}
 use Rattle.std.specs.List.{AllByRecursion}
 use Rattle.uf_cid.specs.Blocks.{Held}
 use Rattle.uf_store.specs.Contents.{Contents, Told, held_at}
@@ -26,3 +28,7 @@ pub held-each : (a : Told) (l : List Held) → AllByRecursion (IsHeld a) l → H
 held-each a [] h = Holds-nil a
 held-each None (b ∷ l) h = tt
 held-each (Some t) (b ∷ l) h = (h.0.0, held-each (Some t) l h.1)
+
+pub on_ok_both : {T E P Q R : Type 0} (r : Result T E) → (P → Q → R) → OnOk r P → OnOk r Q → OnOk r R
+on_ok_both (Ok x) f p q = f p q
+on_ok_both (Err e) f p q = tt

@@ -1,4 +1,5 @@
 pub mod Carry
+pub mod Feeding
 pub mod Holding
 pub mod Sorted
 pub mod Up
