@@ -66,7 +66,7 @@ module _ (X : List ℕ → List ℕ) (p : Profile) (two : 2 ≤ p.width) where
     rows_are = subst (λ r. AreRows X p.width P r (push_row X p.width (leaf_part X piece) rows)) (sym (map-append (leaf_part X) pieces (piece ∷ [])))
       (rows-push X p.width two P rows (map (leaf_part X) pieces) (leaf_part X piece) nodes h.rows_are) }
 
-  any : (l : List Held) → AllByRecursion Any l
+  pub any : (l : List Held) → AllByRecursion Any l
   any [] = tt
   any (b ∷ l) = (tt, any l)
 

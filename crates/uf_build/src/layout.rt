@@ -149,7 +149,10 @@ impl Layout {
         ensures good { KeepsGood S.X.block32 (S.seen store.old).told (S.seen store.new).told }
         ensures saves { SavesOnly (S.seen store.old).told (S.seen store.new).told }
     {
-        if self.begun.is_empty() && !self.rows.is_empty() {
+        if self.rows.is_empty() {
+            return self.end_piece(store, touches);
+        }
+        if self.begun.is_empty() {
             return Ok(());
         }
         self.end_piece(store, touches)
