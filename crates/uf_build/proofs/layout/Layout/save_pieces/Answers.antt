@@ -41,6 +41,6 @@ pub returns-clause-took : goal.returns-clause-took
 returns-clause-took g c =
     let took = c.loop-left.invariant.took in
     let zero : c.loop-left.left ≡ 0 = omega arith in
-    let none : length c.loop-left.rest ≡ 0 = grind (arith, c.loop-left.invariant.left) in
-    let is : c.args.bytes.now ≡ took.0 = took.1 ∙ ap (λ (l : List ℕ). took.0 ++ l) (no-length c.loop-left.rest none) ∙ append-nil took.0 in
+    let none : length c.loop-left.rest.now ≡ 0 = grind (arith, c.loop-left.invariant.left) in
+    let is : c.args.bytes.now ≡ took.0 = took.1 ∙ ap (λ (l : List ℕ). took.0 ++ l) (no-length c.loop-left.rest.now none) ∙ append-nil took.0 in
     subst (λ (l : List ℕ). Takes g.S.X.BlockHash.block32 l c.args.self.now c.loop-left.self (g.S.Store.seen c.args.store.now).told (g.S.Store.seen c.loop-left.store).told) (sym is) took.2
