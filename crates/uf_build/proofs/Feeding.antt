@@ -125,3 +125,8 @@ module _ (X : List ℕ → List ℕ) (p : Profile) (two : 2 ≤ p.width) where
     sizes = omega (arith, first.sizes, then.sizes, length-append a b);
     fed = λ front h. subst (λ l. Builds X Any p l begun_now rows_now) (append_assoc front a b) (then.fed (front ++ a) (first.fed front h));
     held = λ front h. subst (λ l. Builds X (IsHeld told_now) p l begun_now rows_now) (append_assoc front a b) (then.held (front ++ a) (first.held front h)) }
+
+-- at first
+pub builds-new : (X : List ℕ → List ℕ) (P : Held → Type 0) (p : Profile) (begun : List ℕ) (rows : List (List Part)) → begun ≡ [] → rows ≡ [] → Builds X P p [] begun rows
+builds-new X P p begun rows none no_rows = record {
+    pieces = []; cut = sym none; whole = tt; are_pieces = record { held = tt; rows_are = subst (λ rows. AreRows X p.width P [] rows) (sym no_rows) refl } }
