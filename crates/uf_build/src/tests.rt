@@ -96,23 +96,120 @@ fn is_row(alloc: Global, row: &Row, by: usize) -> bool {
 #[test]
 fn files_of_few_pieces(rt: HostRuntime) {
     let rows = [
-        Row { chunk: 1, width: 2, length: 0, text: b"bafkreihdwdcefgh4dqkjv67uzcmw7ojee6xedzdetojuzjevtenxquvyku", tsize: 0, blocks: 1 },
-        Row { chunk: 1, width: 2, length: 1, text: b"bafkreiaij7wqrolyv5gx2glkordkq22yacpgg23bdwyweenwlknk37zjyu", tsize: 1, blocks: 1 },
-        Row { chunk: 1, width: 2, length: 2, text: b"bafybeidr6znhecnrwet55wcgvxbj5jazghky4muwlvhcfwvwg5gvfsgc5e", tsize: 100, blocks: 3 },
-        Row { chunk: 1, width: 2, length: 3, text: b"bafybeifkf6oj7fx26wyedyadgdp75yhnpecvkp3yt4eje4epbjadcd2j5y", tsize: 251, blocks: 6 },
-        Row { chunk: 1, width: 2, length: 4, text: b"bafybeiahdfewxmgews57hdfdb2j75tiyb4ptnurtutrqqujcxcrvla4nem", tsize: 298, blocks: 7 },
-        Row { chunk: 1, width: 2, length: 5, text: b"bafybeidkzkaezgyjbuypvrtwud2lz3qnon5g5koyqtv3lqb5hamsr2pyya", tsize: 502, blocks: 11 },
-        Row { chunk: 2, width: 3, length: 0, text: b"bafkreihdwdcefgh4dqkjv67uzcmw7ojee6xedzdetojuzjevtenxquvyku", tsize: 0, blocks: 1 },
-        Row { chunk: 2, width: 3, length: 2, text: b"bafkreibshnzq7b5u47gassbvdiobdn2xwmbgzwthqquck5tvppfcd4jeqm", tsize: 2, blocks: 1 },
-        Row { chunk: 2, width: 3, length: 6, text: b"bafybeih7a6p5krhxwkthuu76lxavyxtt7wbf7zaipxpildj3gzofdfkvhm", tsize: 150, blocks: 4 },
-        Row { chunk: 2, width: 3, length: 8, text: b"bafybeifnjhmwecekg7yth6l65paoypzbwoa36kevgdan7mbkfnqtwh5hne", tsize: 303, blocks: 7 },
-        Row { chunk: 2, width: 3, length: 18, text: b"bafybeid4dqdjghwykxvidggk3bswlf3lgyjuc4jhv6cgra5k2zyrilhjoe", tsize: 597, blocks: 13 },
-        Row { chunk: 2, width: 3, length: 20, text: b"bafybeicv4kdhi7olazewfkcivdv5ssm7n5f3ract266vc7s3ikefgw43ty", tsize: 802, blocks: 17 },
-        Row { chunk: 2, width: 3, length: 19, text: b"bafybeiean735talzl2druqpvab4eg6kjjyj6se5qmplvvzfcdotdw7ix4y", tsize: 801, blocks: 17 },
+        Row {
+            chunk: 1,
+            width: 2,
+            length: 0,
+            text: b"bafkreihdwdcefgh4dqkjv67uzcmw7ojee6xedzdetojuzjevtenxquvyku",
+            tsize: 0,
+            blocks: 1,
+        },
+        Row {
+            chunk: 1,
+            width: 2,
+            length: 1,
+            text: b"bafkreiaij7wqrolyv5gx2glkordkq22yacpgg23bdwyweenwlknk37zjyu",
+            tsize: 1,
+            blocks: 1,
+        },
+        Row {
+            chunk: 1,
+            width: 2,
+            length: 2,
+            text: b"bafybeidr6znhecnrwet55wcgvxbj5jazghky4muwlvhcfwvwg5gvfsgc5e",
+            tsize: 100,
+            blocks: 3,
+        },
+        Row {
+            chunk: 1,
+            width: 2,
+            length: 3,
+            text: b"bafybeifkf6oj7fx26wyedyadgdp75yhnpecvkp3yt4eje4epbjadcd2j5y",
+            tsize: 251,
+            blocks: 6,
+        },
+        Row {
+            chunk: 1,
+            width: 2,
+            length: 4,
+            text: b"bafybeiahdfewxmgews57hdfdb2j75tiyb4ptnurtutrqqujcxcrvla4nem",
+            tsize: 298,
+            blocks: 7,
+        },
+        Row {
+            chunk: 1,
+            width: 2,
+            length: 5,
+            text: b"bafybeidkzkaezgyjbuypvrtwud2lz3qnon5g5koyqtv3lqb5hamsr2pyya",
+            tsize: 502,
+            blocks: 11,
+        },
+        Row {
+            chunk: 2,
+            width: 3,
+            length: 0,
+            text: b"bafkreihdwdcefgh4dqkjv67uzcmw7ojee6xedzdetojuzjevtenxquvyku",
+            tsize: 0,
+            blocks: 1,
+        },
+        Row {
+            chunk: 2,
+            width: 3,
+            length: 2,
+            text: b"bafkreibshnzq7b5u47gassbvdiobdn2xwmbgzwthqquck5tvppfcd4jeqm",
+            tsize: 2,
+            blocks: 1,
+        },
+        Row {
+            chunk: 2,
+            width: 3,
+            length: 6,
+            text: b"bafybeih7a6p5krhxwkthuu76lxavyxtt7wbf7zaipxpildj3gzofdfkvhm",
+            tsize: 150,
+            blocks: 4,
+        },
+        Row {
+            chunk: 2,
+            width: 3,
+            length: 8,
+            text: b"bafybeifnjhmwecekg7yth6l65paoypzbwoa36kevgdan7mbkfnqtwh5hne",
+            tsize: 303,
+            blocks: 7,
+        },
+        Row {
+            chunk: 2,
+            width: 3,
+            length: 18,
+            text: b"bafybeid4dqdjghwykxvidggk3bswlf3lgyjuc4jhv6cgra5k2zyrilhjoe",
+            tsize: 597,
+            blocks: 13,
+        },
+        Row {
+            chunk: 2,
+            width: 3,
+            length: 20,
+            text: b"bafybeicv4kdhi7olazewfkcivdv5ssm7n5f3ract266vc7s3ikefgw43ty",
+            tsize: 802,
+            blocks: 17,
+        },
+        Row {
+            chunk: 2,
+            width: 3,
+            length: 19,
+            text: b"bafybeiean735talzl2druqpvab4eg6kjjyj6se5qmplvvzfcdotdw7ix4y",
+            tsize: 801,
+            blocks: 17,
+        },
     ];
     for row in rows {
         for by in [1, 2, 3, 5, 7, 20] {
-            assert!(rt; is_row(rt.alloc(), &row, by), "{} {} {}", row.width, row.length, by);
+            assert!(rt;
+                is_row(rt.alloc(), &row, by),
+                "{} {} {}",
+                row.width,
+                row.length,
+                by
+            );
         }
     }
 }
