@@ -49,7 +49,7 @@ module _ (X : List ℕ → List ℕ) (w : ℕ) (two : 2 ≤ w) where
   over-two (m ∷ []) h = absurd (omega arith)
   over-two (m ∷ n ∷ ms) h = let s = split_from w w (m ∷ n ∷ ms) in
       ap (λ (z : List Held × Part). (map (node_held X) (s.0 ∷ s.1) ++ z.0, z.1)) (climb-fuel X w (length ms) (length (map (node_part X) s.1)) (node_part X s.0) (map (node_part X) s.1) two
-        (omega (arith, length-map s.1 (node_part X), fewer w m n ms two)) (omega arith))
+      (omega (arith, length-map s.1 (node_part X), fewer w m n ms two)) (omega arith))
 
   over-one : (m : Part) → over X w (m ∷ []) ≡ ([], m)
   unfolding climb
@@ -108,18 +108,25 @@ module _ (X : List ℕ → List ℕ) (w : ℕ) (two : 2 ≤ w) where
       where
         again : row ++ m ∷ [] ≡ joined h.0 ++ (g ++ m ∷ [])
         again = ap (λ r. r ++ m ∷ []) h.1 ∙ append_assoc (joined h.0) g (m ∷ [])
+
         node : Part
         node = node_part X (g ++ m ∷ [])
+
         by : (length g + 1 < w) ⊎ (w ≤ length g + 1) → Each (push_held X w m (g ∷ gs))
             → (Each (push_held X w node gs) → AreRows X w P (map (node_part X) h.0 ++ node ∷ []) (push_row X w node gs)) → AreRows X w P (row ++ m ∷ []) (push_row X w m (g ∷ gs))
         by (inl short) now later = subst (λ b. AreRows X w P (row ++ m ∷ []) (cond b ((g ++ m ∷ []) ∷ gs) ([] ∷ push_row X w node gs))) (sym (is_below _ w short))
             (h.0, again, h.2, omega (arith, length-push g m), omega (arith, length-push row m), h.5, h.6)
         by (inr long) now later =
             let held = subst (λ b. Each (cond b [] (node_held X (g ++ m ∷ []) ∷ push_held X w node gs))) (not_below _ w long) now in
-            subst (λ b. AreRows X w P (row ++ m ∷ []) (cond b ((g ++ m ∷ []) ∷ gs) ([] ∷ push_row X w node gs))) (sym (not_below _ w long))
-            (h.0 ++ (g ++ m ∷ []) ∷ [], again ∙ sym (joined-push h.0 (g ++ m ∷ [])) ∙ sym (append-nil _), All-push h.0 (g ++ m ∷ []) h.2 (omega (arith, length-push g m, h.3)),
-             omega arith, omega (arith, length-push row m), Each-push h.0 (g ++ m ∷ []) h.5 held.0,
-             subst (λ r. AreRows X w P r (push_row X w node gs)) (sym (map-append (node_part X) h.0 ((g ++ m ∷ []) ∷ []))) (later held.1))
+            subst (λ b. AreRows X w P (row ++ m ∷ []) (cond b ((g ++ m ∷ []) ∷ gs) ([] ∷ push_row X w node gs))) (sym (not_below _ w long)) (
+              h.0 ++ (g ++ m ∷ []) ∷ [],
+              again ∙ sym (joined-push h.0 (g ++ m ∷ [])) ∙ sym (append-nil _),
+              All-push h.0 (g ++ m ∷ []) h.2 (omega (arith, length-push g m, h.3)),
+              omega arith,
+              omega (arith, length-push row m),
+              Each-push h.0 (g ++ m ∷ []) h.5 held.0,
+              subst (λ r. AreRows X w P r (push_row X w node gs)) (sym (map-append (node_part X) h.0 ((g ++ m ∷ []) ∷ []))) (later held.1),
+            )
 
     -- the part that stands over a row, and P of the nodes above it
     abbrev Stands : List Part → List Part → Type 0
@@ -139,10 +146,13 @@ module _ (X : List ℕ → List ℕ) (w : ℕ) (two : 2 ≤ w) where
       where
         full : List (List Part)
         full = h.0
+
         again : row ++ c ≡ joined full ++ (g ++ c)
         again = ap (λ r. r ++ c) h.1 ∙ append_assoc (joined full) g c
+
         size : length (g ++ c) ≤ w
         size = omega (arith, length-append g c, h.3)
+
         -- a last group goes up as a node
         goes_up : (o : List Part) (top : List Part) → g ++ c ≡ o → 1 ≤ length o → 2 ≤ length (joined full ++ o) → P (node_held X o)
             → Stands (map (node_part X) full ++ node_part X o ∷ []) top → Stands (row ++ c) top
@@ -151,7 +161,8 @@ module _ (X : List ℕ → List ℕ) (w : ℕ) (two : 2 ≤ w) where
             let fits : length o ≤ w = omega (arith, ap length e, size) in
             subst (λ r. Stands r top) (sym whole)
             (Stands-above (joined full ++ o) (full ++ o ∷ []) top (over-full full o h.2 some fits many) (Each-push full o h.5 held)
-              (subst (λ r. Stands r top) (sym (map-append (node_part X) full (o ∷ []))) stands))
+            (subst (λ r. Stands r top) (sym (map-append (node_part X) full (o ∷ []))) stands))
+
         by : (o : List Part) (rest : List (List Part)) → g ++ c ≡ o → gs ≡ rest → Each (carry_held X (is_none rest) o ++ close_held X w gs (carry X (is_none rest) o))
             → ((d : List Part) → length d ≤ 1 → 1 ≤ length (map (node_part X) full) + length d → Each (close_held X w gs d) → Stands (map (node_part X) full ++ d) (close X w gs d))
             → Stands (row ++ c) (close X w gs (carry X (is_none rest) o))

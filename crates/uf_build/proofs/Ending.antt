@@ -57,9 +57,11 @@ module _ (X : List ℕ → List ℕ) (p : Profile) (pos : 1 ≤ p.chunk) (two : 
   pub Ends-saved : (begun : List ℕ) (rows rows_now : List (List Part)) (told told_now : Told) → (1 ≤ length begun) ⊎ (rows ≡ []) → length begun < p.chunk
       → Adds X p begun rows rows_now told told_now → Ends X p begun rows rows_now told told_now
   Ends-saved begun rows rows_now told told_now last short adds = record {
-    short = adds.short; sizes = adds.sizes;
+    short = adds.short;
+    sizes = adds.sizes;
     fed = λ bytes h. subst (λ pieces. ArePieces X Any p pieces rows_now) (cut-last Any begun rows bytes last short h) (adds.fed h.pieces h.are_pieces);
-    held = λ bytes h. subst (λ pieces. ArePieces X (IsHeld told_now) p pieces rows_now) (cut-last (IsHeld told) begun rows bytes last short h) (adds.held h.pieces h.are_pieces) }
+    held = λ bytes h. subst (λ pieces. ArePieces X (IsHeld told_now) p pieces rows_now) (cut-last (IsHeld told) begun rows bytes last short h) (adds.held h.pieces h.are_pieces);
+  }
 
   -- the pieces of a file where none was begun
   cut-whole : (P : Held → Type 0) (g : List Part) (gs : List (List Part)) (bytes : List ℕ) → (h : Builds X P p bytes [] (g ∷ gs)) → h.pieces ≡ chunks p bytes
@@ -72,20 +74,26 @@ module _ (X : List ℕ → List ℕ) (p : Profile) (pos : 1 ≤ p.chunk) (two : 
   pub Ends-whole : (begun : List ℕ) (rows : List (List Part)) (told : Told) → begun ≡ [] → 1 ≤ length rows → AreShort p.width rows → Ends X p begun rows rows told told
   Ends-whole [] [] told none some short = absurd (omega arith)
   Ends-whole [] (g ∷ gs) told none some short = record {
-    short = short; sizes = omega arith;
+    short = short;
+    sizes = omega arith;
     fed = λ bytes h. subst (λ pieces. ArePieces X Any p pieces (g ∷ gs)) (cut-whole Any g gs bytes h) h.are_pieces;
-    held = λ bytes h. subst (λ pieces. ArePieces X (IsHeld told) p pieces (g ∷ gs)) (cut-whole (IsHeld told) g gs bytes h) h.are_pieces }
+    held = λ bytes h. subst (λ pieces. ArePieces X (IsHeld told) p pieces (g ∷ gs)) (cut-whole (IsHeld told) g gs bytes h) h.are_pieces;
+  }
   Ends-whole (b ∷ begun) rows told none some short = absurd (no none)
     where
       no : b ∷ begun ≡ [] → ⊥
       no e = cc
 
-  plan-over : (bytes : List ℕ) → (record { entry = (over X p.width (map (leaf_part X) (chunks p bytes))).1.entry;
-      blocks = map (leaf_held X) (chunks p bytes) ++ (over X p.width (map (leaf_part X) (chunks p bytes))).0 }) ≡ file_plan X p bytes
+  plan-over : (bytes : List ℕ) → (record {
+    entry = (over X p.width (map (leaf_part X) (chunks p bytes))).1.entry;
+    blocks = map (leaf_held X) (chunks p bytes) ++ (over X p.width (map (leaf_part X) (chunks p bytes))).0;
+  }) ≡ file_plan X p bytes
   unfolding file_plan
   plan-over bytes = let s = split_from p.chunk p.chunk bytes in
-      ap (λ n. record { entry = (climb X p.width n (leaf_part X s.0) (map (leaf_part X) s.1)).1.entry;
-        blocks = map (leaf_held X) (s.0 ∷ s.1) ++ (climb X p.width n (leaf_part X s.0) (map (leaf_part X) s.1)).0 }) (length-map s.1 (leaf_part X))
+      ap (λ n. record {
+        entry = (climb X p.width n (leaf_part X s.0) (map (leaf_part X) s.1)).1.entry;
+        blocks = map (leaf_held X) (s.0 ∷ s.1) ++ (climb X p.width n (leaf_part X s.0) (map (leaf_part X) s.1)).0;
+      }) (length-map s.1 (leaf_part X))
 
   stands : (P : Held → Type 0) (bytes : List ℕ) (rows : List (List Part)) (part : Part) → ArePieces X P p (chunks p bytes) rows → AllByRecursion P (close_held X p.width rows [])
       → part ∷ [] ≡ close X p.width rows [] → (part.entry ≡ (file_plan X p bytes).entry) × AllByRecursion P (file_plan X p bytes).blocks
@@ -94,10 +102,11 @@ module _ (X : List ℕ → List ℕ) (p : Profile) (pos : 1 ≤ p.chunk) (two : 
       let top = close-over X p.width two P rows row [] pieces.rows_are (omega arith) (omega (arith, length-map (chunks p bytes) (leaf_part X))) nodes in
       let whole : row ++ [] ≡ row = append-nil row in
       let parts : part ∷ [] ≡ (over X p.width row).1 ∷ [] = is ∙ top.0 ∙ ap (λ row. (over X p.width row).1 ∷ []) whole in
-      let part_is : part ≡ (over X p.width row).1 = cc in
-      (ap (λ (m : Part). m.entry) part_is ∙ ap (λ plan. plan.entry) (plan-over bytes),
-       subst (λ plan. AllByRecursion P plan.blocks) (plan-over bytes) (both P (map (leaf_held X) (chunks p bytes)) (over X p.width row).0 pieces.held
-         (subst (λ row. AllByRecursion P (over X p.width row).0) whole top.1)))
+      let part_is : part ≡ (over X p.width row).1 = cc in (
+        ap (λ (m : Part). m.entry) part_is ∙ ap (λ plan. plan.entry) (plan-over bytes),
+        subst (λ plan. AllByRecursion P plan.blocks) (plan-over bytes) (both P (map (leaf_held X) (chunks p bytes)) (over X p.width row).0 pieces.held
+            (subst (λ row. AllByRecursion P (over X p.width row).0) whole top.1)),
+      )
 
   pub entry-is : (begun : List ℕ) (rows rows_now : List (List Part)) (told told_mid : Told) (part : Part) → Ends X p begun rows rows_now told told_mid
       → part ∷ [] ≡ close X p.width rows_now [] → (bytes : List ℕ) → Builds X Any p bytes begun rows → part.entry ≡ (file_plan X p bytes).entry
@@ -109,5 +118,5 @@ module _ (X : List ℕ → List ℕ) (p : Profile) (pos : 1 ≤ p.chunk) (two : 
   blocks-held begun rows rows_now told told_mid told_now part ends keeps nodes is bytes h =
       held-each told_now (file_plan X p bytes).blocks
       (stands (IsHeld told_now) bytes rows_now part
-        (pieces-mono X p two (IsHeld told_mid) (IsHeld told_now) (held-mono X p two told_mid told_now keeps) (chunks p bytes) rows_now (ends.held bytes h))
-        (each-held told_now _ nodes) is).1
+      (pieces-mono X p (IsHeld told_mid) (IsHeld told_now) (held-mono X p told_mid told_now keeps) (chunks p bytes) rows_now (ends.held bytes h))
+      (each-held told_now _ nodes) is).1

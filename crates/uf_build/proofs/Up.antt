@@ -46,6 +46,7 @@ module _ (X : List ℕ → List ℕ) (w : ℕ) where
     where
       next : (n : ℕ) → n + 1 ≡ suc n
       next n = omega arith
+
       by : (level : ℕ) (rows : List (List Part)) → level < length rows → g ≡ get_or rows level g → push_up X w (suc level) (node_part X (g ++ m ∷ [])) (set rows level []) ≡ push_up X w level m rows
       by zero [] h e = absurd (omega arith)
       by zero (f ∷ gs) h e =
@@ -60,6 +61,7 @@ module _ (X : List ℕ → List ℕ) (w : ℕ) where
     where
       next : (n : ℕ) → n + 1 ≡ suc n
       next n = omega arith
+
       by : (level : ℕ) (rows : List (List Part)) → level < length rows → g ≡ get_or rows level g
           → node_held X (g ++ m ∷ []) ∷ held_up X w (suc level) (node_part X (g ++ m ∷ [])) (set rows level []) ≡ held_up X w level m rows
       by zero [] h e = absurd (omega arith)
@@ -94,6 +96,7 @@ module _ (X : List ℕ → List ℕ) (w : ℕ) where
     where
       next : (n : ℕ) → n + 1 ≡ suc n
       next n = omega arith
+
       by : (level : ℕ) (rows : List (List Part)) → level < length rows → g ≡ get_or rows level g
           → ((is_top ≡ true) × (level + 1 ≡ length rows)) ⊎ ((is_top ≡ false) × (level + 1 < length rows))
           → close_up X w (suc level) (set rows level []) (carry X is_top (g ++ c)) ≡ close_up X w level rows c
@@ -111,6 +114,7 @@ module _ (X : List ℕ → List ℕ) (w : ℕ) where
     where
       next : (n : ℕ) → n + 1 ≡ suc n
       next n = omega arith
+
       by : (level : ℕ) (rows : List (List Part)) → level < length rows → g ≡ get_or rows level g
           → ((is_top ≡ true) × (level + 1 ≡ length rows)) ⊎ ((is_top ≡ false) × (level + 1 < length rows))
           → carry_held X is_top (g ++ c) ++ close_held_up X w (suc level) (set rows level []) (carry X is_top (g ++ c)) ≡ close_held_up X w level rows c
@@ -158,15 +162,16 @@ module _ (X : List ℕ → List ℕ) (w : ℕ) where
   pub push-node : (level : ℕ) (m node : Part) (rows : List (List Part)) (g h empty : List Part) → level < length rows → g ≡ get_or rows level g → h ≡ g ++ m ∷ [] → w ≤ length h
       → node ≡ node_part X h → empty ≡ []
       → (push_up X w (level + 1) node (set rows level empty) ≡ push_up X w level m rows)
-        × (node_held X h ∷ held_up X w (level + 1) node (set rows level empty) ≡ held_up X w level m rows)
+      × (node_held X h ∷ held_up X w (level + 1) node (set rows level empty) ≡ held_up X w level m rows)
   push-node level m node rows g h empty lt at is full made none =
       let long : w ≤ length g + 1 = omega (arith, ap length is, length-push g m) in
-      let same : node ≡ node_part X (g ++ m ∷ []) = made ∙ ap (node_part X) is in
-      (ap (λ n. push_up X w (level + 1) n (set rows level empty)) same ∙ ap (λ e. push_up X w (level + 1) (node_part X (g ++ m ∷ [])) (set rows level e)) none ∙ push-full X w level m rows g lt at long,
-       ap (λ h. node_held X h ∷ held_up X w (level + 1) node (set rows level empty)) is
-       ∙ ap (λ n. node_held X (g ++ m ∷ []) ∷ held_up X w (level + 1) n (set rows level empty)) same
-       ∙ ap (λ e. node_held X (g ++ m ∷ []) ∷ held_up X w (level + 1) (node_part X (g ++ m ∷ [])) (set rows level e)) none
-       ∙ held-full X w level m rows g lt at long)
+      let same : node ≡ node_part X (g ++ m ∷ []) = made ∙ ap (node_part X) is in (
+        ap (λ n. push_up X w (level + 1) n (set rows level empty)) same ∙ ap (λ e. push_up X w (level + 1) (node_part X (g ++ m ∷ [])) (set rows level e)) none ∙ push-full X w level m rows g lt at long,
+        ap (λ h. node_held X h ∷ held_up X w (level + 1) node (set rows level empty)) is
+            ∙ ap (λ n. node_held X (g ++ m ∷ []) ∷ held_up X w (level + 1) n (set rows level empty)) same
+            ∙ ap (λ e. node_held X (g ++ m ∷ []) ∷ held_up X w (level + 1) (node_part X (g ++ m ∷ [])) (set rows level e)) none
+            ∙ held-full X w level m rows g lt at long,
+      )
 
   pub one-held : (level : ℕ) (m : Part) (rows : List (List Part)) (g h : List Part) → level < length rows → g ≡ get_or rows level g → h ≡ g ++ m ∷ [] → w ≤ length h
       → 1 ≤ length (held_up X w level m rows)
@@ -184,17 +189,18 @@ module _ (X : List ℕ → List ℕ) (w : ℕ) where
   pub close-next : (level n : ℕ) (c up : List Part) (rows : List (List Part)) (g row empty : List Part) → level < length rows → g ≡ get_or rows level g → row ≡ g → n ≡ length rows
       → up ≡ carry X (nat_eq (level + 1) n) (row ++ c) → empty ≡ []
       → (close_up X w (level + 1) (set rows level empty) up ≡ close_up X w level rows c)
-        × (carry_held X (nat_eq (level + 1) n) (row ++ c) ++ close_held_up X w (level + 1) (set rows level empty) up ≡ close_held_up X w level rows c)
+      × (carry_held X (nat_eq (level + 1) n) (row ++ c) ++ close_held_up X w (level + 1) (set rows level empty) up ≡ close_held_up X w level rows c)
   close-next level n c up rows g row empty lt at is count made none =
       let top = tops (level + 1) (length rows) (omega arith) in
-      let same : up ≡ carry X (nat_eq (level + 1) (length rows)) (g ++ c) = made ∙ ap (λ n. carry X (nat_eq (level + 1) n) (row ++ c)) count ∙ ap (λ g. carry X (nat_eq (level + 1) (length rows)) (g ++ c)) is in
-      (ap (λ e. close_up X w (level + 1) (set rows level e) up) none ∙ ap (close_up X w (level + 1) (set rows level [])) same
-       ∙ close-step X w level (nat_eq (level + 1) (length rows)) c rows g lt at top,
-       ap (λ n. carry_held X (nat_eq (level + 1) n) (row ++ c) ++ close_held_up X w (level + 1) (set rows level empty) up) count
-       ∙ ap (λ g. carry_held X (nat_eq (level + 1) (length rows)) (g ++ c) ++ close_held_up X w (level + 1) (set rows level empty) up) is
-       ∙ ap (λ e. carry_held X (nat_eq (level + 1) (length rows)) (g ++ c) ++ close_held_up X w (level + 1) (set rows level e) up) none
-       ∙ ap (λ up. carry_held X (nat_eq (level + 1) (length rows)) (g ++ c) ++ close_held_up X w (level + 1) (set rows level []) up) same
-       ∙ close_held-step X w level (nat_eq (level + 1) (length rows)) c rows g lt at top)
+      let same : up ≡ carry X (nat_eq (level + 1) (length rows)) (g ++ c) = made ∙ ap (λ n. carry X (nat_eq (level + 1) n) (row ++ c)) count ∙ ap (λ g. carry X (nat_eq (level + 1) (length rows)) (g ++ c)) is in (
+        ap (λ e. close_up X w (level + 1) (set rows level e) up) none ∙ ap (close_up X w (level + 1) (set rows level [])) same
+            ∙ close-step X w level (nat_eq (level + 1) (length rows)) c rows g lt at top,
+        ap (λ n. carry_held X (nat_eq (level + 1) n) (row ++ c) ++ close_held_up X w (level + 1) (set rows level empty) up) count
+            ∙ ap (λ g. carry_held X (nat_eq (level + 1) (length rows)) (g ++ c) ++ close_held_up X w (level + 1) (set rows level empty) up) is
+            ∙ ap (λ e. carry_held X (nat_eq (level + 1) (length rows)) (g ++ c) ++ close_held_up X w (level + 1) (set rows level e) up) none
+            ∙ ap (λ up. carry_held X (nat_eq (level + 1) (length rows)) (g ++ c) ++ close_held_up X w (level + 1) (set rows level []) up) same
+            ∙ close_held-step X w level (nat_eq (level + 1) (length rows)) c rows g lt at top,
+      )
 
   -- the bytes of a group go up with its node
   pub sizes-up : (level : ℕ) (m node : Part) (rows : List (List Part)) (g h empty : List Part) → level < length rows → g ≡ get_or rows level g → h ≡ g ++ m ∷ [] → node ≡ node_part X h → empty ≡ []

@@ -255,7 +255,15 @@ impl Layout {
                 digest: digests[i],
             };
             let piece = &bytes[i * chunk..i * chunk + chunk];
-            match save_leaf(self.alloc, self.profile, &mut self.rows, cid, piece, store, touches) {
+            match save_leaf(
+                self.alloc,
+                self.profile,
+                &mut self.rows,
+                cid,
+                piece,
+                store,
+                touches,
+            ) {
                 Ok(()) => {}
                 Err(fault) => return Err(fault),
             }

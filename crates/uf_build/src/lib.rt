@@ -4,6 +4,7 @@
 
 mod builder;
 mod fault;
+mod laws;
 mod layout;
 mod nodes;
 mod rows;
@@ -13,3 +14,4 @@ mod tests;
 
 pub use builder::Builder;
 pub use fault::BuildFault;
+pub use laws::what_was_saved_stays_held;

@@ -9,8 +9,8 @@ ghost use Rattle.uf_build.specs.Rows.{push_up, held_up, close_up, close_held_up,
 
 use crate::nodes::save_node;
 use std::alloc::Global;
-use std::sync::ledger::Ledger;
 use std::mem;
+use std::sync::ledger::Ledger;
 use uf_cid::{Memory, Seq};
 use uf_store::{Steps, Store, StoreFault};
 use uf_tree::{Part, Parts};

@@ -38,10 +38,28 @@ close-requires g t c κs within =
     let none : c.replace-row.new.dest ≡ [] = c.replace-row.ensures.after ∙ c.new.ensures in
     let size = sizes-closed hash c.args.width c.args.level (nat_eq (c.args.level + 1) c.len-2.result) (option_to_list c.args.carried) (option_to_list c.in-Ok.up) c.args.rows.now.items
     c.index_mut.result.now c.replace-row.result c.replace-row.new.dest lt c.index_mut.ensures.value c.replace-row.ensures.value c.in-Ok.ensures.part none in
-    let less = falls c.args.level c.args.rows.now.items c.replace-row.new.dest lt in
-    (search rules, (within.0, (within.1.0, (within.1.1, (c.requires.width, (next-level c.args.level c.args.rows.now.items c.replace-row.new.dest lt,
-    (short-up hash c.args.width c.args.level c.args.rows.now.items c.replace-row.new.dest (omega (arith, c.requires.width.two)) none c.requires.short,
-     omega (arith, size, c.requires.size))))))))
+    let less = falls c.args.level c.args.rows.now.items c.replace-row.new.dest lt in (
+      search rules,
+      (
+        within.0,
+        (
+          within.1.0,
+          (
+            within.1.1,
+            (
+              c.requires.width,
+              (
+                next-level c.args.level c.args.rows.now.items c.replace-row.new.dest lt,
+                (
+                  short-up hash c.args.width c.args.level c.args.rows.now.items c.replace-row.new.dest (omega (arith, c.requires.width.two)) none c.requires.short,
+                  omega (arith, size, c.requires.size),
+                ),
+              ),
+            ),
+          ),
+        ),
+      ),
+    )
 
 pub returns-clause-part : goal.returns-clause-part
 returns-clause-part g t c =
@@ -63,7 +81,7 @@ returns-clause-held g t c =
     c.replace-row.new.dest lt c.index_mut.ensures.value c.replace-row.ensures.value count c.in-Ok.ensures.part none in
     on_ok_weaker c.close.result (λ held. subst (λ (l : List Held). Holds (g.S.Store.seen c.close.new.store).told l) same.1
     (Holds-append _ (carry_held hash (nat_eq (c.args.level + 1) c.len-2.result) (c.replace-row.result ++ option_to_list c.args.carried)) _
-      (Holds-kept hash _ _ _ (carry-good hash (nat_eq (c.args.level + 1) c.len-2.result) (c.replace-row.result ++ option_to_list c.args.carried)) c.close.ensures.good c.in-Ok.ensures.held) held)) c.close.ensures.held
+    (Holds-kept hash _ _ _ (carry-good hash (nat_eq (c.args.level + 1) c.len-2.result) (c.replace-row.result ++ option_to_list c.args.carried)) c.close.ensures.good c.in-Ok.ensures.held) held)) c.close.ensures.held
 
 pub returns-clause-good : goal.returns-clause-good
 returns-clause-good g t c = KeepsGood-trans _ _ _ _ c.close_row.ensures.good c.close.ensures.good
@@ -76,5 +94,10 @@ returns-clause-touches g t c =
     let none : c.replace-row.new.dest ≡ [] = c.replace-row.ensures.after ∙ c.new.ensures in
     let same = close-next hash c.args.width c.args.level c.len-2.result (option_to_list c.args.carried) (option_to_list c.in-Ok.up) c.args.rows.now.items c.index_mut.result.now c.replace-row.result
     c.replace-row.new.dest lt c.index_mut.ensures.value c.replace-row.ensures.value count c.in-Ok.ensures.part none in
-    omega (arith, ap length same.1, length-append (carry_held hash (nat_eq (c.args.level + 1) c.len-2.result) (c.replace-row.result ++ option_to_list c.args.carried)),
-      c.close_row.ensures.touches, c.close.ensures.touches)
+    omega (
+      arith,
+      ap length same.1,
+      length-append (carry_held hash (nat_eq (c.args.level + 1) c.len-2.result) (c.replace-row.result ++ option_to_list c.args.carried)),
+      c.close_row.ensures.touches,
+      c.close.ensures.touches,
+    )

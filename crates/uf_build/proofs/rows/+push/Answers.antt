@@ -48,10 +48,28 @@ push-requires-2 g t c κs within =
     let made : c.in-Ok-save_node.node ≡ node_part g.S.X.BlockHash.block32 c.push.new.self = c.in-Ok-save_node.ensures.part ∙ ap (node_part g.S.X.BlockHash.block32) c.as_slice.ensures in
     let size = sizes-up g.S.X.BlockHash.block32 c.args.width c.args.level c.args.part c.in-Ok-save_node.node c.args.rows.now.items c.index_mut-row.result.now c.push.new.self c.new.result lt
     c.index_mut-row.ensures.value c.in-Ok-push.ensures.ok made c.new.ensures in
-    let less = falls c.args.level c.args.rows.now.items c.new.result lt in
-    (search rules, (within.0, (within.1.0, (within.1.1, (c.requires.width, (next-level c.args.level c.args.rows.now.items c.new.result lt,
-    (short-up g.S.X.BlockHash.block32 c.args.width c.args.level c.args.rows.now.items c.new.result (omega (arith, c.requires.width.two)) c.new.ensures c.requires.short,
-     omega (arith, size, c.requires.size))))))))
+    let less = falls c.args.level c.args.rows.now.items c.new.result lt in (
+      search rules,
+      (
+        within.0,
+        (
+          within.1.0,
+          (
+            within.1.1,
+            (
+              c.requires.width,
+              (
+                next-level c.args.level c.args.rows.now.items c.new.result lt,
+                (
+                  short-up g.S.X.BlockHash.block32 c.args.width c.args.level c.args.rows.now.items c.new.result (omega (arith, c.requires.width.two)) c.new.ensures c.requires.short,
+                  omega (arith, size, c.requires.size),
+                ),
+              ),
+            ),
+          ),
+        ),
+      ),
+    )
 
 pub returns-clause-rows : goal.returns-clause-rows
 returns-clause-rows g t c =

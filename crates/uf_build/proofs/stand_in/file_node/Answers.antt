@@ -16,5 +16,12 @@ returns c =
     subst (λ (x : List ℕ). IfOk c.encode-2.result (λ b. b ≡ x))
     (ap (λ (content : List ℕ). node_bytes (record { links = c.args.node.parts; content = Some content }))
     (c.in_ok-content.ensures ∙ ap (λ (n : ℕ). message_bytes (record {
-      kind = File; content = None; filesize = Some n; blocksizes = c.args.node.sizes;
-      hash_type = None; fanout = None; mode = None; mtime = None })) (c.total_of-total.ensures ∙ ap sum c.as_slice.ensures))) c.encode-2.ensures
+      kind = File;
+      content = None;
+      filesize = Some n;
+      blocksizes = c.args.node.sizes;
+      hash_type = None;
+      fanout = None;
+      mode = None;
+      mtime = None;
+    })) (c.total_of-total.ensures ∙ ap sum c.as_slice.ensures))) c.encode-2.ensures

@@ -11,5 +11,6 @@ returns-in-Ok-end_piece-clause-took g c =
     record {
       same_profile = c.end_piece.ensures.profile;
       feeds = Feeds-piece g.S.X.BlockHash.block32 c.args.self.now.profile p.two (take c.min-front.result c.args.bytes.now) c.args.self.now.begun.items c.end_piece.new.self.begun.items
-        c.extend_from_slice.new.self.items c.args.self.now.rows.items c.end_piece.new.self.rows.items _ _
-        is (let size = ap length is in grind (arith, common_steps)) c.in-Ok-end_piece.ensures.begun c.in-Ok-end_piece.ensures.adds }
+          c.extend_from_slice.new.self.items c.args.self.now.rows.items c.end_piece.new.self.rows.items _ _
+          is (let size = ap length is in grind (arith, common_steps)) c.in-Ok-end_piece.ensures.begun c.in-Ok-end_piece.ensures.adds;
+    }

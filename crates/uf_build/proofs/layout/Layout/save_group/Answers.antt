@@ -29,16 +29,18 @@ loop-i-preserved g c =
       took = record {
         same_profile = c.loop-i.invariant.profile;
         feeds = subst (λ (l : List ℕ). Feeds hash p l c.args.self.now.begun.items c.loop-i.self.begun.items c.args.self.now.rows.items c.save_leaf.new.rows.items before now)
-          (sym (more bytes i p.chunk))
-          (Feeds-trans hash p two (take (i * p.chunk) bytes) piece c.args.self.now.begun.items c.loop-i.self.begun.items c.loop-i.self.begun.items
+            (sym (more bytes i p.chunk))
+            (Feeds-trans hash p two (take (i * p.chunk) bytes) piece c.args.self.now.begun.items c.loop-i.self.begun.items c.loop-i.self.begun.items
             c.args.self.now.rows.items c.loop-i.self.rows.items c.save_leaf.new.rows.items before mid now c.loop-i.invariant.took.feeds
             (Feeds-piece hash p two piece c.loop-i.self.begun.items c.loop-i.self.begun.items piece c.loop-i.self.rows.items c.save_leaf.new.rows.items mid now
-              (ap (λ (l : List ℕ). l ++ piece) c.loop-i.invariant.begun) size c.loop-i.invariant.begun adds)) };
+            (ap (λ (l : List ℕ). l ++ piece) c.loop-i.invariant.begun) size c.loop-i.invariant.begun adds));
+      };
       profile = c.loop-i.invariant.profile;
       begun = c.loop-i.invariant.begun;
       calm = StaysCalm-trans _ _ _ c.loop-i.invariant.calm c.in-Ok.ensures.cause;
       good = KeepsGood-trans _ _ _ _ c.loop-i.invariant.good c.save_leaf.ensures.good;
-      saves = SavesOnly-trans _ _ _ c.loop-i.invariant.saves c.save_leaf.ensures.saves }
+      saves = SavesOnly-trans _ _ _ c.loop-i.invariant.saves c.save_leaf.ensures.saves;
+    }
 
 pub returns-clause-took : goal.returns-clause-took
 returns-clause-took g c =

@@ -24,18 +24,24 @@ loop-left-preserved g c =
     let now = (g.S.Store.seen c.save_group.new.store).told in
     let took = c.loop-left.invariant.took in
     let group = subst (λ (q : Profile). Feeds hash q c.split_at.result.0.now c.loop-left.self.begun.items c.save_group.new.self.begun.items c.loop-left.self.rows.items c.save_group.new.self.rows.items mid now)
-        c.loop-left.invariant.profile c.in-Ok.ensures.took.feeds in
+    c.loop-left.invariant.profile c.in-Ok.ensures.took.feeds in
     record {
-      took = (took.0 ++ c.split_at.result.0.now, goes-on _ _ _ _ _ _ took.1 c.split_at.ensures.front c.split_at.ensures.back, record {
-        same_profile = c.save_group.ensures.profile ∙ c.loop-left.invariant.profile;
-        feeds = Feeds-trans hash p two took.0 c.split_at.result.0.now c.args.self.now.begun.items c.loop-left.self.begun.items c.save_group.new.self.begun.items
-          c.args.self.now.rows.items c.loop-left.self.rows.items c.save_group.new.self.rows.items before mid now took.2.feeds group });
+      took = (
+        took.0 ++ c.split_at.result.0.now,
+        goes-on _ _ _ _ _ _ took.1 c.split_at.ensures.front c.split_at.ensures.back,
+        record {
+          same_profile = c.save_group.ensures.profile ∙ c.loop-left.invariant.profile;
+          feeds = Feeds-trans hash p two took.0 c.split_at.result.0.now c.args.self.now.begun.items c.loop-left.self.begun.items c.save_group.new.self.begun.items
+              c.args.self.now.rows.items c.loop-left.self.rows.items c.save_group.new.self.rows.items before mid now took.2.feeds group;
+        },
+      );
       profile = c.save_group.ensures.profile ∙ c.loop-left.invariant.profile;
       begun = grind (arith, common_steps, c.in-Ok.ensures.begun);
       left = grind (arith, common_steps, c.split_at.ensures.back_len);
       calm = StaysCalm-trans _ _ _ c.loop-left.invariant.calm c.in-Ok.ensures.cause;
       good = KeepsGood-trans _ _ _ _ c.loop-left.invariant.good c.save_group.ensures.good;
-      saves = SavesOnly-trans _ _ _ c.loop-left.invariant.saves c.save_group.ensures.saves }
+      saves = SavesOnly-trans _ _ _ c.loop-left.invariant.saves c.save_group.ensures.saves;
+    }
 
 pub returns-clause-took : goal.returns-clause-took
 returns-clause-took g c =

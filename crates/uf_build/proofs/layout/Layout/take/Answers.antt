@@ -27,14 +27,15 @@ returns-in-Ok-extend_from_slice-clause-took g c =
     let group : List ℕ = c.split_at.result.0.now in
     let behind : List ℕ = c.split_at.result.1.now in
     let pieces = subst (λ (q : Profile). Feeds hash q group c.fill.new.self.begun.items c.save_pieces.new.self.begun.items c.fill.new.self.rows.items c.save_pieces.new.self.rows.items mid now)
-        c.fill.ensures.profile c.in-Ok-save_pieces.ensures.took.feeds in
+    c.fill.ensures.profile c.in-Ok-save_pieces.ensures.took.feeds in
     let first = Feeds-trans hash p two (take c.in-Ok.front c.args.bytes.now) group c.args.self.now.begun.items c.fill.new.self.begun.items c.save_pieces.new.self.begun.items
-        c.args.self.now.rows.items c.fill.new.self.rows.items c.save_pieces.new.self.rows.items before mid now c.in-Ok.ensures.took.feeds pieces in
+    c.args.self.now.rows.items c.fill.new.self.rows.items c.save_pieces.new.self.rows.items before mid now c.in-Ok.ensures.took.feeds pieces in
     let then = subst (λ (b : List ℕ). Feeds hash p behind c.save_pieces.new.self.begun.items b c.save_pieces.new.self.rows.items c.save_pieces.new.self.rows.items now now)
-        (sym c.in-Ok-extend_from_slice.ensures.items) (Feeds-begun hash p two behind c.save_pieces.new.self.begun.items c.save_pieces.new.self.rows.items now first.short) in
+    (sym c.in-Ok-extend_from_slice.ensures.items) (Feeds-begun hash p two behind c.save_pieces.new.self.begun.items c.save_pieces.new.self.rows.items now first.short) in
     record {
       same_profile = c.save_pieces.ensures.profile ∙ c.fill.ensures.profile;
       feeds = subst (λ (l : List ℕ). Feeds hash p l c.args.self.now.begun.items c.extend_from_slice.new.self.items c.args.self.now.rows.items c.save_pieces.new.self.rows.items before now)
-        (sym (splits c.args.bytes.now group behind c.in-Ok.front _ c.in-Ok.ensures.front c.split_at.ensures.front c.split_at.ensures.back))
-        (Feeds-trans hash p two (take c.in-Ok.front c.args.bytes.now ++ group) behind c.args.self.now.begun.items c.save_pieces.new.self.begun.items c.extend_from_slice.new.self.items
-          c.args.self.now.rows.items c.save_pieces.new.self.rows.items c.save_pieces.new.self.rows.items before now now first then) }
+          (sym (splits c.args.bytes.now group behind c.in-Ok.front _ c.in-Ok.ensures.front c.split_at.ensures.front c.split_at.ensures.back))
+          (Feeds-trans hash p two (take c.in-Ok.front c.args.bytes.now ++ group) behind c.args.self.now.begun.items c.save_pieces.new.self.begun.items c.extend_from_slice.new.self.items
+          c.args.self.now.rows.items c.save_pieces.new.self.rows.items c.save_pieces.new.self.rows.items before now now first then);
+    }
