@@ -1,11 +1,14 @@
 -- What a source gives and a builder is fed, one reading after another.
-use Rattle.std.proofs.Common.{◌≡◌, ℕ, ◌+◌, ◌<◌, ◌≤◌, List, [], ◌++◌, length, refl, sym, ap, subst, ◌∙◌, arith, append-nil, append_assoc}
-use Rattle.std.proofs.lemmas.List.{length-append}
+use Rattle.std.proofs.Common.{◌≡◌, ℕ, ◌<◌, Bool, true, false, List, [], ◌++◌, length, refl, sym, ap, subst, ◌∙◌, append-nil, append_assoc}
 use Rattle.std.specs.Prelude.{Some, None}
-use Rattle.uf_edge.specs.Streams.{Told, before, IsAtEnd}
+use Rattle.std.specs.declared.result.Result.{Result}
+use Rattle.std.specs.declared.result.Result.TheVariants.{Ok, Err}
+use Rattle.uf_edge.specs.Streams.{Told, before}
 use Rattle.uf_edge.proofs.Appending.{before-before}
 use Rattle.uf_build.specs.Building.{Building}
-use Rattle.uf_top.specs.Intake.{FeedsFrom, FeedsPart, FeedsLast, PassesLimit, IsFedBy, most_input}
+use Rattle.uf_top.specs.declared.intake.NoFile.{NoFile}
+use Rattle.uf_top.specs.declared.intake.NoFile.TheVariants.{TooLong, Failed, Memory}
+use Rattle.uf_top.specs.Intake.{FeedsFrom, FeedsNext, FeedsPart, FeedsLast, FeedsRest, PassesLimit, IsFedBy, most_input}
 
 before-nil : (t : Told) → before [] t ≡ t
 before-nil None = refl
@@ -44,3 +47,24 @@ PassesLimit-after hash a b l m n p q = record {
   many = λ front fed.
       subst (λ (zs : List ℕ). most_input < length zs) (append_assoc front p.bytes q.bytes) (q.many (front ++ p.bytes) (p.feeds.fed front fed));
 }
+
+-- the readings go on behind what was fed before
+pub FeedsRest-after : (hash : List ℕ → List ℕ) (answer : Result (Unit {0}) NoFile) (a b c : Building) (l m n : Told) → FeedsPart hash a b l m → FeedsRest hash answer b c m n → FeedsRest hash answer a c l n
+FeedsRest-after hash (Ok done) a b c l m n p q = FeedsLast-after hash a b c l m n p q
+FeedsRest-after hash (Err TooLong) a b c l m n p q = PassesLimit-after hash a b l m n p q
+FeedsRest-after hash (Err Failed) a b c l m n p q = tt
+FeedsRest-after hash (Err Memory) a b c l m n p q = tt
+
+-- one that gives no file behind what was fed before gives none
+pub FeedsRest-ended : (hash : List ℕ → List ℕ) (why : NoFile) (a b c : Building) (l m n : Told) → FeedsPart hash a b l m → FeedsNext hash (Err why) b c m n → FeedsRest hash (Err why) a c l n
+FeedsRest-ended hash TooLong a b c l m n p q = PassesLimit-after hash a b l m n p q
+FeedsRest-ended hash Failed a b c l m n p q = tt
+FeedsRest-ended hash Memory a b c l m n p q = tt
+
+pub part_of : (hash : List ℕ → List ℕ) (more : Bool) (b c : Building) (m n : Told) → more ≡ true → FeedsNext hash (Ok more) b c m n → FeedsPart hash b c m n
+part_of hash true b c m n e q = q
+part_of hash false b c m n e q = absurd cc
+
+pub last_of : (hash : List ℕ → List ℕ) (more : Bool) (b c : Building) (m n : Told) → more ≡ false → FeedsNext hash (Ok more) b c m n → FeedsLast hash b c m n
+last_of hash false b c m n e q = q
+last_of hash true b c m n e q = absurd cc

@@ -72,6 +72,7 @@ fn dispatch<X: BlockHash, I: Source, O: Sink, L: Ledger>(
     ensures write { result ≡ Status.WriteFault → Rose (O.faults output.old) (O.faults output.new) }
     ensures read_told { I.faults input.old < I.faults input.new → result ≡ Status.ReadFault }
     ensures write_told { O.faults output.old < O.faults output.new → result ≡ Status.WriteFault }
+    ensures reads { result ≡ Status.Usage → input.new ≡ input.old }
 {
     if are_add_only_hash(words) {
         add_only_hash::<X, I, O, L>(alloc, input, output, touches)

@@ -83,7 +83,7 @@ fn feed_rest<X: BlockHash, I: Source, L: Ledger>(
     ensures feeds { FeedsRest X.block32 result builder.old builder.new (I.left input.old) (I.left input.new) }
     ensures counts { Counts (is_failed result) (I.faults input.old) (I.faults input.new) }
 {
-    loop {
+    'pieces: loop {
         match feed_next(builder, store, input, buffer, touches) {
             Ok(true) => {}
             Ok(false) => return Ok(()),
