@@ -1,0 +1,7 @@
+pub mod Carry
+pub mod Cutting
+pub mod Ending
+pub mod Feeding
+pub mod Holding
+pub mod Sorted
+pub mod Up
