@@ -80,10 +80,12 @@ dag_path_reads text =
     else if names_a_dag text then dag_at 6 (drop 6 text)
     else dag_at 0 text
 
+-- the target in a DAG by this path
 abbrev pub dag_target : Result DagPath PathFault → Result Target PathFault
 dag_target (Ok path) = Ok (target.Dag path)
 dag_target (Err why) = Err why
 
+-- the target in the tree by this path
 abbrev pub tree_target : Result Path PathFault → Result Target PathFault
 tree_target (Ok path) = Ok (target.Tree path)
 tree_target (Err why) = Err why

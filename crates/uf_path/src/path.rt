@@ -2,8 +2,8 @@
 use uf_cid::Cid;
 use uf_tree::Names;
 
-/// A path in the tree: the names from the root down, and whether the text ends with `/`, which asks that what it names is
-/// a directory.
+/// A path in the tree: the names from the root down, and whether the text ends with `/`, as the path of a destination does
+/// that leads into a directory.
 #[derive(Drop)]
 pub struct Path {
     pub names: Names,

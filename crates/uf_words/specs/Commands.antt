@@ -37,6 +37,7 @@ init_words words =
     (number_in (codes "--width") 174 chunk.1))
     (number_in (codes "--chunk") 262144 words)
 
+-- `add` of the input, where no word is left
 abbrev pub add_of : Bool → List (List ℕ) → Option Cmd
 add_of only_hash [] = Some (cmd.Add false only_hash None None)
 add_of only_hash (word ∷ rest) = None
