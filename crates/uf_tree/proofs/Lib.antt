@@ -7,6 +7,7 @@ pub mod Directories
 pub mod Each
 pub mod Files
 pub mod Groups
+pub mod HeadAgain
 pub mod HeadLines
 pub mod Held
 pub mod Least
@@ -20,7 +21,7 @@ pub mod Shards
 pub mod Sizes
 pub mod Spelt
 pub mod Sub
-pub mod Tests
+pub mod Told
 pub mod TreeLaws
 pub mod Twins
 pub mod Valid
