@@ -3,5 +3,4 @@ pub mod Cutting
 pub mod Ending
 pub mod Feeding
 pub mod Holding
-pub mod Sorted
 pub mod Up

@@ -8,7 +8,6 @@ mod laws;
 mod layout;
 mod nodes;
 mod rows;
-mod stand_in;
 #[cfg(test)]
 mod tests;
 

@@ -8,14 +8,12 @@ ghost use Rattle.uf_tree.specs.Nodes.{capped, link_of};
 ghost use Rattle.uf_tree.specs.Validity.{IsPartLink};
 ghost use Rattle.uf_build.specs.Answers.{IsSaving};
 
-use crate::stand_in::file_node;
 use std::alloc::Global;
 use std::sync::ledger::Ledger;
 use uf_cid::{Cid, Codec, Memory, Seq, Text, cids_are_whole};
 use uf_dagpb::Link;
 use uf_store::{Steps, Store, StoreFault, save_block};
-use uf_tree::laws::canonical_blocks_are_short;
-use uf_tree::{Entry, FileNode, Part};
+use uf_tree::{Entry, FileNode, Part, file_node};
 
 // Saves the node over a group, and answers it as a part of the row above. At most one touch.
 pub fn save_node<S: Store, L: Ledger>(
@@ -38,10 +36,9 @@ pub fn save_node<S: Store, L: Ledger>(
     let Ok(node) = node_of(alloc, parts) else {
         return Err(StoreFault::Memory);
     };
-    let Ok(block) = file_node(alloc, node) else {
+    let Ok(block) = file_node(alloc, &node) else {
         return Err(StoreFault::Memory);
     };
-    canonical_blocks_are_short();
     let bytes = block.as_slice();
     match save_block(alloc, store, Codec::DagPb, bytes, touches) {
         Ok(cid) => Ok(Part {
