@@ -2,7 +2,7 @@ use Rattle.std.proofs.Common.{◌≡◌, List, [], ◌∷◌, length, ap, subst}
 use Rattle.uf_cid.specs.declared.cid.Cid.{Cid}
 use Rattle.uf_store.specs.Keeping.{Holds}
 use Rattle.uf_tree.specs.declared.nodes.Part.{Part}
-use Rattle.uf_tree.proofs.Tests.{kept}
+use Rattle.uf_tree.proofs.Told.{kept}
 use Rattle.uf_build.proofs.Feeding.{Adds-push}
 use Rattle.uf_build.proofs.Holding.{on_ok_both}
 use Rattle.uf_build.proofs.layout.save_leaf.Goals as goal

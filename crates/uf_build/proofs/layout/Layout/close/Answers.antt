@@ -3,7 +3,7 @@ use Rattle.std.specs.Option.{option_to_list}
 use Rattle.uf_store.proofs.Keeping.{KeepsGood-trans}
 use Rattle.uf_tree.specs.declared.profile.Profile.{Profile}
 use Rattle.uf_tree.specs.declared.nodes.Part.{Part}
-use Rattle.uf_tree.proofs.Tests.{kept}
+use Rattle.uf_tree.proofs.Told.{kept}
 use Rattle.uf_build.specs.Rows.{close, close_held}
 use Rattle.uf_build.proofs.Ending.{entry-is, blocks-held}
 use Rattle.uf_build.proofs.layout.Layout.close.Goals as goal

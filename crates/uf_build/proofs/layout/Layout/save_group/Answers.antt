@@ -2,7 +2,7 @@ use Rattle.std.proofs.Common.{◌≡◌, ℕ, ◌+◌, ◌-◌, ◌*◌, ◌<◌
 use Rattle.uf_store.proofs.Keeping.{KeepsGood-trans, SavesOnly-trans}
 use Rattle.uf_store.proofs.Causes.{StaysCalm-trans}
 use Rattle.uf_tree.specs.declared.profile.Profile.{Profile}
-use Rattle.uf_tree.proofs.Tests.{kept}
+use Rattle.uf_tree.proofs.Told.{kept}
 use Rattle.uf_build.specs.Building.{Adds, Feeds}
 use Rattle.uf_build.specs.Layouts.{Takes}
 use Rattle.uf_build.proofs.Cutting.{more, piece-size, whole}

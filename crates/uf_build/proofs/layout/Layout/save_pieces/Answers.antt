@@ -4,7 +4,7 @@ use Rattle.std.proofs.lemmas.Grind.{common_steps}
 use Rattle.uf_store.proofs.Keeping.{KeepsGood-trans, SavesOnly-trans}
 use Rattle.uf_store.proofs.Causes.{StaysCalm-trans}
 use Rattle.uf_tree.specs.declared.profile.Profile.{Profile}
-use Rattle.uf_tree.proofs.Tests.{kept}
+use Rattle.uf_tree.proofs.Told.{kept}
 use Rattle.uf_build.specs.Building.{Feeds}
 use Rattle.uf_build.specs.Layouts.{Takes}
 use Rattle.uf_build.proofs.Cutting.{goes-on, no-length}
