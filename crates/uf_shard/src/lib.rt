@@ -1,0 +1,9 @@
+//! Directories as trees of shards (UnixFS v1, "HAMTDirectory", with a fanout of 256): looked up, listed, weighed and built.
+#![tactic(auto)]
+
+mod lookup;
+mod reading;
+mod spot;
+mod stand_in;
+
+pub use lookup::find;
