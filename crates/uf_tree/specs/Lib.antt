@@ -1,14 +1,17 @@
+pub mod Bits
 pub mod Changes
 pub mod Codecs
 pub mod Cutting
 pub mod DirPlan
 pub mod FilePlan
 pub mod FileSub
+pub mod HeadReading
 pub mod Heads
 pub mod Least
 pub mod Names
 pub mod Nodes
 pub mod Profiles
+pub mod Rising
 pub mod Roles
 pub mod ShardPlan
 pub mod Shardable

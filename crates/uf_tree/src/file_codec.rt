@@ -1,18 +1,21 @@
 // Nodes of files, written and read.
-ghost use Rattle.std.specs.Prelude.{◌≡◌, ◌<◌, ◌≤◌, ◌^◌, ◌++◌, ◌↔◌, ◌*◌, ◌+◌, Some, IfOk, IsTrue, MatchOption, OnOk, length, sum};
+ghost use Rattle.std.specs.Prelude.{◌≡◌, ◌<◌, ◌≤◌, ◌^◌, ◌++◌, ◌↔◌, ◌*◌, ◌+◌, Some, IfOk, IsTrue, MatchOption, MatchResult, OnOk, length, sum};
+ghost use Rattle.uf_cid.specs.declared.bytes.StrictFault.TheVariants as strict;
 ghost use Rattle.std.specs.List.{AllByRecursion};
 ghost use Rattle.uf_dagpb.specs.Spelling.{link_bytes, links_bytes, node_bytes};
 ghost use Rattle.uf_message.specs.Spelling.{message_bytes};
+ghost use Rattle.uf_tree.specs.Codecs.{FitSizes, Reads, file_dag, file_spelling};
 ghost use Rattle.uf_tree.specs.Nodes.{file_block, file_message};
 ghost use Rattle.uf_tree.specs.Validity.{IsFileNode, IsPartLink};
 ghost use Rattle.uf_varint.specs.Fields.{content_field};
 
 use crate::spelling::{put_bytes, put_link};
 use crate::{Entry, FileNode};
+use crate::checks::{is_file_node, total};
 use std::alloc::Global;
-use uf_cid::{Block, Memory, Sizes};
-use uf_dagpb::Link;
-use uf_message::{Message, MsgKind, encode};
+use uf_cid::{Block, Memory, Sizes, StrictFault};
+use uf_dagpb::{Link, Node, decode_strict};
+use uf_message::{Message, MsgKind, decode_strict as decode_message, encode};
 
 /// The block of a file's node (UnixFS v1, "File"). Its condition is that the node is one, which `is_file_node` tests.
 #[tactic(auto, unfolding(crate::specs::Nodes::file_block))]
@@ -78,4 +81,88 @@ fn put_part(out: &mut Block, link: &Link) -> Result<(), Memory>
         tsize: link.tsize,
     };
     put_link(out, &[], link.name.as_str().as_bytes(), &entry)
+}
+
+/// The node of which the bytes are the block.
+pub fn read_file_node(alloc: Global, bytes: &[u8]) -> Result<FileNode, StrictFault>
+    ensures { Reads IsFileNode file_block bytes.now result }
+{
+    match decode_strict(alloc, bytes) {
+        Err(fault) => Err(fault),
+        Ok(node) => file_node_of(alloc, node),
+    }
+}
+
+// The file's node of which this is the node.
+fn file_node_of(alloc: Global, node: Node) -> Result<FileNode, StrictFault>
+    ensures { Reads IsFileNode file_dag node result }
+{
+    let Node { links, content } = node;
+    match content {
+        None => Err(StrictFault::NotCanonical),
+        Some(content) => match sizes_of(alloc, content.as_slice()) {
+            Err(fault) => Err(fault),
+            Ok(sizes) => whole(FileNode {
+                parts: links,
+                sizes,
+            }),
+        },
+    }
+}
+
+// The node, where it is one.
+fn whole(node: FileNode) -> Result<FileNode, StrictFault>
+    ensures { MatchResult result (λ v. (v ≡ node) × IsFileNode node) (λ f. (f ≡ strict.NotCanonical) × (IsFileNode node → ⊥)) }
+{
+    if is_file_node(&node) {
+        Ok(node)
+    } else {
+        Err(StrictFault::NotCanonical)
+    }
+}
+
+// The sizes of which the bytes are the message of a file's node.
+fn sizes_of(alloc: Global, content: &[u8]) -> Result<Sizes, StrictFault>
+    ensures { Reads FitSizes file_spelling content.now result }
+{
+    match decode_message(alloc, content) {
+        Err(fault) => Err(fault),
+        Ok(message) => {
+            if is_file_message(&message) {
+                let Message { blocksizes, .. } = message;
+                Ok(blocksizes)
+            } else {
+                Err(StrictFault::NotCanonical)
+            }
+        }
+    }
+}
+
+// Whether the message is that of a file's node.
+fn is_file_message(message: &Message) -> bool
+    ensures { IsTrue result ↔ ((message.now ≡ file_message message.now.blocksizes) × FitSizes message.now.blocksizes) }
+{
+    is_bare_file(message) && is_total(message.filesize, message.blocksizes.as_slice())
+}
+
+// Whether the message is a file's, and has no part that a file's node hasn't.
+fn is_bare_file(message: &Message) -> bool
+    ensures { IsTrue result ↔ (message.now ≡ record (file_message message.now.blocksizes) { filesize = message.now.filesize }) }
+{
+    message.kind == MsgKind::File
+        && message.content.is_none()
+        && message.hash_type.is_none()
+        && message.fanout.is_none()
+        && message.mode.is_none()
+        && message.mtime.is_none()
+}
+
+// Whether the number is the sum of the sizes, and below 2 ^ 63.
+fn is_total(number: Option<u64>, sizes: &[u64]) -> bool
+    ensures { IsTrue result ↔ ((number ≡ Some (sum sizes.now)) × FitSizes sizes.now) }
+{
+    match total(sizes) {
+        None => false,
+        Some(total) => number == Some(total),
+    }
 }

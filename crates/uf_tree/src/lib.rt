@@ -2,17 +2,33 @@
 //! files, directories and shards are made of (UnixFS v1 over IPLD DAG-PB).
 #![tactic(auto)]
 
+mod bits;
+mod checks;
+mod dir_codec;
 mod file_codec;
+mod head_fault;
+mod heads;
 pub mod laws;
 mod limits;
 mod name;
 mod nodes;
 mod profile;
+mod shard_codec;
+mod shard_read;
 mod spelling;
 pub mod vectors;
 
-pub use file_codec::file_node;
+pub use checks::{is_directory, is_file_node, is_shard};
+pub use dir_codec::{dir_node, read_dir_node};
+pub use file_codec::{file_node, read_file_node};
+pub use head_fault::HeadFault;
+pub use heads::{head_text, read_head};
 pub use limits::BadProfile;
 pub use name::{Name, NameFault, Names};
 pub use nodes::{Entry, FileNode, Item, Items, Pair, Pairs, Part, Parts, Placed};
 pub use profile::{Head, Profile};
+pub use shard_codec::shard_node;
+pub use shard_read::read_shard_node;
+
+#[cfg(test)]
+mod tests;

@@ -1,0 +1,99 @@
+-- Blocks of files' nodes.
+use Rattle.std.proofs.Common.{◌≡◌, ◌≢◌, ℕ, ◌+◌, ◌^◌, ◌<◌, ◌≤◌, List, [], ◌∷◌, ◌++◌, length, sum, refl, ap, arith, subst, sym, ◌∙◌, ◌⊎◌, inl, inr, Ok, Err, Result, Bool, true, false, Option, None, Some, IsTrue}
+use Rattle.std.specs.Prelude.{◌↔◌, ◌&&◌, MatchResult}
+use Rattle.std.specs.List.{AllByRecursion}
+use Rattle.std.specs.Cmp.Lexicographic.{slice_cmp}
+use Rattle.std.specs.Ordering.{is_le, nat_cmp}
+use Rattle.std.proofs.lemmas.Bool.{false≢true}
+use Rattle.std.proofs.lemmas.List.Sums.{sum_by-cons}
+use Rattle.std.proofs.lemmas.Str.{IsUtf8-nil}
+use Rattle.std.specs.Str.{IsUtf8}
+use Rattle.uf_cid.specs.declared.bytes.StrictFault.{StrictFault}
+use Rattle.uf_cid.specs.declared.bytes.StrictFault.TheVariants as strict
+use Rattle.uf_dagpb.specs.declared.node.Link.{Link}
+use Rattle.uf_dagpb.specs.declared.node.Node.{Node}
+use Rattle.uf_dagpb.specs.Spelling.{node_bytes, are_sorted, AreLinks, IsLink, IsNode}
+use Rattle.uf_message.specs.Spelling.{message_bytes, IsMessage}
+use Rattle.uf_message.specs.Strict.{GivesValue}
+use Rattle.uf_message.specs.declared.message.Message.{Message}
+use Rattle.uf_message.proofs.Again.{one_message}
+use Rattle.uf_tree.specs.declared.nodes.FileNode.{FileNode}
+use Rattle.uf_tree.specs.Codecs.{FitSizes, Reads, file_dag, file_spelling}
+use Rattle.uf_tree.specs.Nodes.{file_block, file_message}
+use Rattle.uf_tree.specs.Validity.{IsFileNode, IsPartLink}
+use Rattle.uf_tree.proofs.Reading.{node_refused, node_read}
+
+-- ---- the message of the sizes
+
+each_fits : (sizes : List ℕ) → sum sizes < 2 ^ 63 → AllByRecursion (λ n. n < 2 ^ 64) sizes
+each_fits [] h = tt
+each_fits (n ∷ sizes) h = let e : sum (n ∷ sizes) ≡ n + sum sizes = sum_by-cons (λ (x : ℕ). x) n sizes in (omega arith, each_fits sizes (omega arith))
+
+fits : (sizes : List ℕ) → FitSizes sizes → IsMessage (file_message sizes)
+fits sizes h = record { content = tt; filesize = omega arith; blocksizes = each_fits sizes h; hash_type = tt; fanout = tt; mode = tt; seconds = tt; nanos = tt }
+
+pub sizes_refused : (content : List ℕ) (f : StrictFault) → ((m : Message) → IsMessage m → content ≡ message_bytes m → GivesValue (Err f) m) → Reads FitSizes file_spelling content (Err f)
+sizes_refused content strict.Memory only = inl refl
+sizes_refused content strict.NotCanonical only = inr (λ v h e. only (file_message v) (fits v h) e)
+
+abbrev pub IsFileMessage : Message → Type 0
+IsFileMessage m = (m ≡ file_message m.blocksizes) × FitSizes m.blocksizes
+
+pub no_sizes : (content : List ℕ) (m : Message) (b : Bool) → ((n : Message) → IsMessage n → content ≡ message_bytes n → GivesValue (Ok m) n) → IsTrue b ↔ IsFileMessage m → b ≡ false
+    → Reads FitSizes file_spelling content (Err strict.NotCanonical)
+no_sizes content m b only iff fails = inr (λ v h e. by v h (only (file_message v) (fits v h) e))
+  where
+    by : (v : List ℕ) → FitSizes v → m ≡ file_message v → ⊥
+    by v h e =
+        let same : m.blocksizes ≡ v = ap (λ (n : Message). n.blocksizes) e in
+        absurd (false≢true (sym fails ∙ iff.1 (e ∙ ap file_message (sym same), subst FitSizes (sym same) h)))
+
+-- ---- the node is one
+
+part_link : (l : Link) → IsPartLink l → IsLink l
+part_link l h = record { cid = h.cid; name = subst IsUtf8 (sym h.name) IsUtf8-nil; tsize = h.tsize }
+
+part_links : (ls : List Link) → AllByRecursion IsPartLink ls → AreLinks ls
+part_links [] h = tt
+part_links (l ∷ ls) h = (part_link l h.0, part_links ls h.1)
+
+unnamed_sorted : (ls : List Link) → AllByRecursion IsPartLink ls → are_sorted ls ≡ true
+unnamed_sorted [] h = refl
+unnamed_sorted (a ∷ []) h = refl
+unnamed_sorted (a ∷ b ∷ ls) h =
+    let again = unnamed_sorted (b ∷ ls) h.1 in
+    let both : is_le (slice_cmp nat_cmp a.name b.name) ≡ true = ap (λ (x : List ℕ). is_le (slice_cmp nat_cmp x b.name)) h.0.name ∙ ap (λ (x : List ℕ). is_le (slice_cmp nat_cmp [] x)) h.1.0.name in
+    ap (λ (x : Bool). x && are_sorted (b ∷ ls)) both ∙ again
+
+pub file_dag-node : (node : FileNode) → IsFileNode node → IsNode (file_dag node)
+file_dag-node node h = record { links = part_links node.parts h.each; sorted = unnamed_sorted node.parts h.each }
+
+-- ---- read
+
+pub file_refused : (bytes : List ℕ) (f : StrictFault) → (f ≡ strict.Memory) ⊎ ((n : Node) → IsNode n → bytes ≢ node_bytes n) → Reads IsFileNode file_block bytes (Err f)
+unfolding file_block
+file_refused bytes f h = node_refused IsFileNode file_dag file_dag-node bytes f h
+
+pub file_read : (bytes : List ℕ) (node : Node) (r : Result FileNode StrictFault) → length bytes < 2 ^ 64 → IsNode node × (bytes ≡ node_bytes node) → Reads IsFileNode file_dag node r → Reads IsFileNode file_block bytes r
+unfolding file_block
+file_read bytes node r small h k = node_read IsFileNode file_dag file_dag-node bytes node small h.0 h.1 r k
+
+abbrev of_parts : Node → List ℕ → FileNode
+of_parts node sizes = record { parts = node.links; sizes = sizes }
+
+pub file_of_parts : (node : Node) (content slice sizes : List ℕ) (r : Result FileNode StrictFault) → node.content ≡ Some content → slice ≡ content → FitSizes sizes × (slice ≡ file_spelling sizes)
+    → MatchResult r (λ v. (v ≡ of_parts node sizes) × IsFileNode (of_parts node sizes)) (λ f. (f ≡ strict.NotCanonical) × (IsFileNode (of_parts node sizes) → ⊥)) → Reads IsFileNode file_dag node r
+file_of_parts node content slice sizes (Ok v) c s h k =
+    let whole : node.content ≡ Some (file_spelling sizes) = c ∙ ap (λ (x : List ℕ). Some x) (sym s ∙ h.1) in
+    let built : node ≡ file_dag (of_parts node sizes) = λ i. record { links = node.links; content = whole i } in
+    (subst IsFileNode (sym k.0) k.1, built ∙ ap file_dag (sym k.0))
+file_of_parts node content slice sizes (Err f) c s h k = inr (λ v j e. k.1 (subst IsFileNode (same v j e) j))
+  where
+    same : (v : FileNode) → IsFileNode v → node ≡ file_dag v → v ≡ of_parts node sizes
+    same v j e =
+        let links : v.parts ≡ node.links = sym (ap (λ (n : Node). n.links) e) in
+        let spelt : file_spelling v.sizes ≡ file_spelling sizes =
+            (let some : Some (file_spelling v.sizes) ≡ Some content = sym (ap (λ (n : Node). n.content) e) ∙ c in let one : file_spelling v.sizes ≡ content = cc in one) ∙ sym s ∙ h.1 in
+        let message : file_message v.sizes ≡ file_message sizes = one_message (file_message v.sizes) (file_message sizes) (fits v.sizes j.total) (fits sizes h.0) spelt in
+        let all : v.sizes ≡ sizes = ap (λ (m : Message). m.blocksizes) message in
+        λ i. record { parts = links i; sizes = all i }

@@ -1,0 +1,226 @@
+// The note Head, version 1, written and read (this project's own format).
+ghost use Rattle.std.specs.Prelude.{◌≡◌, ◌<◌, ◌≤◌, ◌^◌, ◌++◌, ◌↔◌, ◌&&◌, IfOk, IsTrue, OnOk, codes, length, nat_le, if◌then◌else◌};
+ghost use Rattle.std.specs.Fmt.{decimal};
+ghost use Rattle.std.specs.Option.{option_copied, option_map};
+ghost use Rattle.uf_cid.specs.declared.cid.Codec.TheVariants.{DagPb as NodeCodec};
+ghost use Rattle.uf_tree.specs.HeadReading.{GivesHead, behind as behind_word, first_line as first_line_of, head_reads, is_node as is_node_codec, line_at, number_in, number_line as number_line_of, root_in, root_line as root_line_of, worded_at};
+ghost use Rattle.uf_tree.specs.Heads.{head_text as text_of_head, line as the_line};
+ghost use Rattle.uf_tree.specs.Profiles.{is_profile};
+
+use crate::{Head, HeadFault, Profile};
+use std::alloc::Global;
+use uf_cid::{Block, Cid, Codec, Memory};
+
+/// The text of a Head: five lines, each ended by a line feed.
+#[tactic(auto, unfolding(crate::specs::Heads::head_text))]
+pub fn head_text(alloc: Global, head: &Head) -> Result<Block, Memory>
+    requires profile { IsTrue (is_profile head.now.profile) }
+    requires root { head.now.root.codec ≡ NodeCodec }
+    ensures { IfOk result (λ b. b ≡ text_of_head head.now.profile head.now.root) }
+{
+    let mut out = Block::with_capacity(alloc, 144)?;
+    put_line(&mut out, b"unixfs-head ", b"1")?;
+    put_number(alloc, &mut out, b"chunk ", head.profile.chunk)?;
+    put_number(alloc, &mut out, b"width ", head.profile.width)?;
+    put_number(alloc, &mut out, b"threshold ", head.profile.threshold)?;
+    put_line(&mut out, b"root ", &head.root.text())?;
+    Ok(out)
+}
+
+// A line with a number.
+fn put_number(alloc: Global, out: &mut Block, word: &[u8], number: u32) -> Result<(), Memory>
+    ensures { OnOk result (out.new ≡ out.old ++ the_line word.now (decimal number)) }
+{
+    let digits = format!(in alloc; "{number}")?;
+    put_line(out, word, digits.as_bytes())?;
+    Ok(())
+}
+
+// A line: a word, what stands behind it, and a line feed.
+fn put_line(out: &mut Block, word: &[u8], rest: &[u8]) -> Result<(), Memory>
+    ensures { OnOk result (out.new ≡ out.old ++ the_line word.now rest.now) }
+{
+    out.extend(word)?;
+    out.extend(rest)?;
+    out.extend(b"\n")?;
+    Ok(())
+}
+
+/// The Head that a text spells, or its first fault from left to right.
+#[tactic(auto, unfolding(crate::specs::HeadReading::head_reads))]
+pub fn read_head(alloc: Global, bytes: &[u8]) -> Result<Head, HeadFault>
+    ensures { GivesHead (λ h. h) result (head_reads bytes.now) }
+{
+    let rest = match first_line(bytes) {
+        Err(fault) => return Err(fault),
+        Ok(rest) => rest,
+    };
+    let (chunk, rest) = match number_line(alloc, 2, b"chunk ", 1, 1048576, rest) {
+        Err(fault) => return Err(fault),
+        Ok(found) => found,
+    };
+    let (width, rest) = match number_line(alloc, 3, b"width ", 2, 1024, rest) {
+        Err(fault) => return Err(fault),
+        Ok(found) => found,
+    };
+    let (threshold, rest) = match number_line(alloc, 4, b"threshold ", 0, 1048576, rest) {
+        Err(fault) => return Err(fault),
+        Ok(found) => found,
+    };
+    let (root, rest) = match root_line(rest) {
+        Err(fault) => return Err(fault),
+        Ok(found) => found,
+    };
+    if rest.is_empty() {
+        Ok(Head {
+            profile: Profile {
+                chunk,
+                width,
+                threshold,
+            },
+            root,
+        })
+    } else {
+        Err(HeadFault::Line(6))
+    }
+}
+
+// What stands behind the first line.
+#[tactic(auto, unfolding(crate::specs::HeadReading::first_line))]
+fn first_line(bytes: &[u8]) -> Result<&[u8], HeadFault>
+    ensures { GivesHead (λ x. x.now) result (first_line_of bytes.now) }
+{
+    match behind(b"unixfs-head 1\n", bytes) {
+        None => Err(HeadFault::Version),
+        Some(rest) => Ok(rest),
+    }
+}
+
+// The number of a line, and what stands behind the line.
+#[tactic(auto, unfolding(crate::specs::HeadReading::number_line))]
+fn number_line<'a>(alloc: Global, n: u8, word: &[u8], low: u32, high: u32, bytes: &'a [u8]) -> Result<(u32, &'a [u8]), HeadFault>
+    ensures { GivesHead (λ x. (x.0, x.1.now)) result (number_line_of n word.now low high bytes.now) }
+{
+    match worded(word, bytes) {
+        None => Err(HeadFault::Line(n)),
+        Some((text, rest)) => match number(alloc, low, high, text) {
+            Err(_) => Err(HeadFault::Memory),
+            Ok(None) => Err(HeadFault::Number(n)),
+            Ok(Some(number)) => Ok((number, rest)),
+        },
+    }
+}
+
+// The root of line 5, and what stands behind the line.
+#[tactic(auto, unfolding(crate::specs::HeadReading::root_line))]
+fn root_line(bytes: &[u8]) -> Result<(Cid, &[u8]), HeadFault>
+    ensures { GivesHead (λ x. (x.0, x.1.now)) result (root_line_of bytes.now) }
+{
+    match worded(b"root ", bytes) {
+        None => Err(HeadFault::Line(5)),
+        Some((text, rest)) => match root(text) {
+            None => Err(HeadFault::Root),
+            Some(root) => Ok((root, rest)),
+        },
+    }
+}
+
+// What stands behind the word of a line, and behind the line.
+fn worded<'a>(word: &[u8], bytes: &'a [u8]) -> Option<(&'a [u8], &'a [u8])>
+    ensures { option_map (λ x. (x.0.now, x.1.now)) result ≡ worded_at word.now bytes.now }
+{
+    match line(bytes) {
+        None => None,
+        Some((text, rest)) => match behind(word, text) {
+            None => None,
+            Some(found) => Some((found, rest)),
+        },
+    }
+}
+
+// The bytes up to the first line feed, and those behind it.
+fn line(bytes: &[u8]) -> Option<(&[u8], &[u8])>
+    ensures { option_map (λ x. (x.0.now, x.1.now)) result ≡ line_at bytes.now }
+{
+    for i in 0..bytes.len() {
+        if bytes[i] == b'\n' {
+            return Some((bytes.split_at(i).0, bytes.split_at(i + 1).1));
+        }
+    }
+    None
+}
+
+// What stands behind a word in front.
+fn behind<'a>(word: &[u8], bytes: &'a [u8]) -> Option<&'a [u8]>
+    ensures { option_copied result ≡ behind_word word.now bytes.now }
+{
+    if bytes.len() < word.len() {
+        return None;
+    }
+    let (front, rest) = bytes.split_at(word.len());
+    if front == word { Some(rest) } else { None }
+}
+
+// The number of which the text is the decimal spelling, where it is in its range.
+fn number(alloc: Global, low: u32, high: u32, text: &[u8]) -> Result<Option<u32>, Memory>
+    ensures { IfOk result (λ n. n ≡ number_in low high text.now) }
+{
+    match str::from_utf8(text) {
+        Err(_) => Ok(None),
+        Ok(spelled) => match spelled.parse::<u32>() {
+            Err(_) => Ok(None),
+            Ok(number) => {
+                let again = format!(in alloc; "{number}")?;
+                if again.as_bytes() == text {
+                    Ok(in_range(low, high, number))
+                } else {
+                    Ok(None)
+                }
+            }
+        },
+    }
+}
+
+// The number, where it is in its range.
+fn in_range(low: u32, high: u32, number: u32) -> Option<u32>
+    ensures { result ≡ (if nat_le low number && nat_le number high then Some number else None) }
+{
+    if low <= number && number <= high {
+        Some(number)
+    } else {
+        None
+    }
+}
+
+// The CID of a node of which the text is the spelling.
+#[tactic(auto, unfolding(crate::specs::HeadReading::root_in))]
+fn root(text: &[u8]) -> Option<Cid>
+    ensures { result ≡ root_in text.now }
+{
+    match str::from_utf8(text) {
+        Err(_) => None,
+        Ok(spelled) => match Cid::parse(spelled) {
+            Err(_) => None,
+            Ok(cid) => {
+                if !is_node(cid.codec) {
+                    return None;
+                }
+                if cid.text().as_slice() == text {
+                    Some(cid)
+                } else {
+                    None
+                }
+            }
+        },
+    }
+}
+
+// Whether the codec is that of nodes.
+fn is_node(codec: Codec) -> bool
+    ensures { result ≡ is_node_codec codec }
+{
+    match codec {
+        Codec::Raw => false,
+        Codec::DagPb => true,
+    }
+}

@@ -1,0 +1,148 @@
+// Shards read.
+ghost use Rattle.std.specs.Prelude.{◌≡◌, ◌≢◌, ◌⊎◌, ◌↔◌, ◌<◌, ◌∷◌, [], IfOk, IsTrue, MatchOption, MatchResult, Some, ℕ, length, map};
+ghost use Rattle.std.specs.List.{AllByRecursion};
+ghost use Rattle.uf_cid.specs.declared.bytes.StrictFault.TheVariants as strict;
+ghost use Rattle.uf_tree.specs.Codecs.{Reads, shard_dag, shard_spelling};
+ghost use Rattle.uf_tree.specs.Nodes.{hex_digit, item_entry, item_name, shard_block, slot_digits, slot_link};
+ghost use Rattle.uf_tree.specs.Validity.{IsEntry, IsInSlot, IsItem, IsShard};
+ghost use Rattle.uf_tree.specs.declared.nodes.Item.{Item as TheItem};
+
+use crate::checks::is_shard;
+use crate::shard_codec::shard_content;
+use crate::{Entry, Item, Items, Name, NameFault, Placed};
+use std::alloc::Global;
+use uf_cid::{Block, Memory, StrictFault};
+use uf_dagpb::{Link, Node, decode_strict, links_are_valid};
+
+/// The items of which the bytes are the shard's block.
+pub fn read_shard_node(alloc: Global, bytes: &[u8]) -> Result<Items, StrictFault>
+    ensures { Reads IsShard shard_block bytes.now result }
+{
+    match decode_strict(alloc, bytes) {
+        Err(fault) => Err(fault),
+        Ok(node) => items_of(alloc, &node),
+    }
+}
+
+// The items of which this is the shard's node.
+fn items_of(alloc: Global, node: &Node) -> Result<Items, StrictFault>
+    ensures { Reads IsShard shard_dag node.now result }
+{
+    match items_of_links(alloc, node.links.as_slice()) {
+        Err(fault) => Err(fault),
+        Ok(items) => with_content(alloc, items, &node.content),
+    }
+}
+
+// The items, where they are a shard's and this is its content.
+fn with_content(alloc: Global, items: Items, content: &Option<Block>) -> Result<Items, StrictFault>
+    ensures { MatchResult result
+        (λ v. (v ≡ items) × IsShard items × (content.now ≡ Some (shard_spelling items)))
+        (λ f. (f ≡ strict.Memory) ⊎ (IsShard items → content.now ≢ Some (shard_spelling items))) }
+{
+    if !is_shard(&items) {
+        return Err(StrictFault::NotCanonical);
+    }
+    match is_shard_content(alloc, items.as_slice(), content) {
+        Err(_) => Err(StrictFault::Memory),
+        Ok(false) => Err(StrictFault::NotCanonical),
+        Ok(true) => Ok(items),
+    }
+}
+
+// Whether the content is the message of a shard of these items.
+fn is_shard_content(alloc: Global, items: &[Placed], content: &Option<Block>) -> Result<bool, Memory>
+    ensures { IfOk result (λ b. IsTrue b ↔ (content.now ≡ Some (shard_spelling items.now))) }
+{
+    match content {
+        None => Ok(false),
+        Some(block) => match shard_content(alloc, items) {
+            Err(fault) => Err(fault),
+            Ok(spelled) => Ok(block.as_slice() == spelled.as_slice()),
+        },
+    }
+}
+
+// The items whose links these are.
+fn items_of_links(alloc: Global, links: &[Link]) -> Result<Items, StrictFault>
+    ensures { Reads (AllByRecursion IsInSlot) (map slot_link) links.now result }
+{
+    let mut items = Items::new(alloc);
+    for link in links {
+        match placed_of(alloc, link) {
+            Err(fault) => return Err(fault),
+            Ok(placed) => match items.push(placed) {
+                Err(_) => return Err(StrictFault::Memory),
+                Ok(()) => {}
+            },
+        }
+    }
+    Ok(items)
+}
+
+// The slot and its item whose link this is.
+fn placed_of(alloc: Global, link: &Link) -> Result<Placed, StrictFault>
+    ensures { Reads IsInSlot slot_link link.now result }
+{
+    links_are_valid(link);
+    let entry = Entry {
+        cid: link.cid,
+        tsize: link.tsize,
+    };
+    match link.name.as_str().as_bytes() {
+        [a, b, rest @ ..] => match slot_of(*a, *b) {
+            None => Err(StrictFault::NotCanonical),
+            Some(slot) => match item_of(alloc, rest, entry) {
+                Err(fault) => Err(fault),
+                Ok(item) => Ok(Placed { slot, item }),
+            },
+        },
+        _ => Err(StrictFault::NotCanonical),
+    }
+}
+
+// What stands in a slot under a name: without a name a shard below.
+fn item_of(alloc: Global, name: &[u8], entry: Entry) -> Result<Item, StrictFault>
+    requires { IsEntry entry }
+    ensures { MatchResult result
+        (λ item. IsItem item × (item_name item ≡ name.now) × (item_entry item ≡ entry))
+        (λ f. (f ≡ strict.Memory) ⊎ ((item : TheItem) → IsItem item → item_name item ≢ name.now)) }
+{
+    if name.is_empty() {
+        return Ok(Item::Sub(entry));
+    }
+    match str::from_utf8(name) {
+        Err(_) => Err(StrictFault::NotCanonical),
+        Ok(text) => match Name::parse(alloc, text) {
+            Err(NameFault::Memory) => Err(StrictFault::Memory),
+            Err(NameFault::Bad) => Err(StrictFault::NotCanonical),
+            Ok(name) => Ok(Item::Leaf(name, entry)),
+        },
+    }
+}
+
+// The slot of two digits.
+fn slot_of(a: u8, b: u8) -> Option<u8>
+    ensures { MatchOption result
+        ((s : ℕ) → s < 256 → slot_digits s ≢ a ∷ b ∷ [])
+        (λ s. (s < 256) × (slot_digits s ≡ a ∷ b ∷ [])) }
+{
+    match value_of(a) {
+        None => None,
+        Some(high) => match value_of(b) {
+            None => None,
+            Some(low) => Some(16 * high + low),
+        },
+    }
+}
+
+// The number of a digit in upper case.
+fn value_of(digit: u8) -> Option<u8>
+    ensures { MatchOption result ((n : ℕ) → n < 16 → hex_digit n ≢ digit) (λ n. (n < 16) × (hex_digit n ≡ digit)) }
+{
+    match digit {
+        b'0'..=b'9' => Some(digit - b'0'),
+        b'A'..=b'F' => Some(digit - b'A' + 10),
+        _ => None,
+    }
+}
