@@ -17,7 +17,7 @@ use Rattle.uf_dagpb.specs.declared.node.Link.{Link}
 use Rattle.uf_dagpb.specs.declared.node.Node.{Node}
 use Rattle.uf_dagpb.specs.Spelling.{links_bytes, node_bytes, are_sorted, AreLinks, IsLink, IsNode}
 use Rattle.uf_message.specs.Spelling.{message_bytes}
-use Rattle.uf_message.proofs.Again.{decides_bytes}
+use Rattle.uf_tree.proofs.SameBytes.{decides_bytes}
 use Rattle.uf_tree.specs.declared.profile.Profile.{Profile}
 use Rattle.uf_tree.specs.Codecs.{Reads, dir_dag, pair_link}
 use Rattle.uf_tree.specs.DirPlan.{weight, is_sharded}

@@ -18,7 +18,7 @@ use Rattle.uf_cid.specs.Read.{cid_of_text}
 use Rattle.uf_cid.specs.declared.cid.Cid.{Cid}
 use Rattle.uf_cid.specs.declared.cid.CidFault.{CidFault}
 use Rattle.uf_dagpb.proofs.Fronts.{too_short, cut_front, other_bytes}
-use Rattle.uf_message.proofs.Again.{decides_bytes}
+use Rattle.uf_tree.proofs.SameBytes.{decides_bytes}
 use Rattle.uf_tree.specs.HeadReading.{behind, is_node, line_at, node_of, number_in, root_in}
 use Rattle.uf_tree.proofs.Twins.{both_true}
 

@@ -15,6 +15,7 @@ pub mod Nested
 pub mod Reading
 pub mod Rises
 pub mod Rows
+pub mod SameBytes
 pub mod ShardLaws
 pub mod Shards
 pub mod Sizes

@@ -13,7 +13,7 @@ use Rattle.std.specs.Str.{IsUtf8}
 use Rattle.uf_cid.specs.declared.bytes.Memory.{Memory}
 use Rattle.uf_cid.specs.declared.bytes.StrictFault.{StrictFault}
 use Rattle.uf_cid.specs.declared.bytes.StrictFault.TheVariants as strict
-use Rattle.uf_message.proofs.Again.{decides_bytes}
+use Rattle.uf_tree.proofs.SameBytes.{decides_bytes}
 use Rattle.uf_dagpb.specs.declared.node.Link.{Link}
 use Rattle.uf_dagpb.specs.declared.node.Node.{Node}
 use Rattle.uf_dagpb.specs.Spelling.{node_bytes, are_sorted, AreLinks, IsLink, IsNode}
