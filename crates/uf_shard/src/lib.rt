@@ -4,6 +4,5 @@
 mod lookup;
 mod reading;
 mod spot;
-mod stand_in;
 
 pub use lookup::find;

@@ -11,12 +11,11 @@ ghost use Rattle.uf_shard.specs.Placed.{IsPlaced, way};
 ghost use Rattle.uf_shard.specs.Spots.{spot_of};
 
 use crate::spot::Spot;
-use crate::stand_in::read_shard_node;
 use std::alloc::Global;
 use std::cmp::Ordering;
 use uf_cid::StrictFault;
 use uf_murmur::{NameHash, slot};
-use uf_tree::{Entry, Item, Items, Name, Placed};
+use uf_tree::{Entry, Item, Items, Name, Placed, read_shard_node};
 
 // The slots of a shard at a level on the way of a hash.
 pub fn read_shard<N: NameHash>(
