@@ -21,7 +21,7 @@ pub mod Shards
 pub mod Sizes
 pub mod Spelt
 pub mod Sub
-pub mod Tests
+pub mod Told
 pub mod TreeLaws
 pub mod Twins
 pub mod Valid

@@ -26,7 +26,7 @@ use Rattle.uf_tree.specs.Nodes.{Named, InSlot, link_of, slot_link, slot_digits, 
 use Rattle.uf_tree.specs.Profiles.{is_profile}
 use Rattle.uf_tree.specs.Validity.{IsNamed, IsItem, IsInSlot, IsShard, IsPartLink, IsFileNode}
 use Rattle.uf_tree.proofs.Canonical.{light}
-use Rattle.uf_tree.proofs.Tests.{kept}
+use Rattle.uf_tree.proofs.Told.{kept}
 
 -- varints
 one_byte : (room n : ℕ) → n < 128 → length (varint_within room n) ≡ 1

@@ -30,7 +30,7 @@ use Rattle.uf_tree.proofs.Groups.{joined-split, length-split, width-split, room-
 use Rattle.uf_tree.proofs.Rows.{file_plan-rows}
 use Rattle.uf_tree.proofs.ShardLaws.{slot-bound, sorted-tabulate, find-tabulate}
 use Rattle.uf_tree.proofs.Sub.{span-pos}
-use Rattle.uf_tree.proofs.Tests.{as_true, kept}
+use Rattle.uf_tree.proofs.Told.{as_true, kept}
 use Rattle.uf_tree.proofs.TreeLaws.{entry-dir}
 use Rattle.uf_tree.proofs.Twins.{both_true, same_key}
 

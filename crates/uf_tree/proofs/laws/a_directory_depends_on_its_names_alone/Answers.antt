@@ -3,7 +3,7 @@ use Rattle.std.specs.FinMap.Entries.{same_entries}
 use Rattle.uf_tree.specs.DirPlan.{dir_plan}
 use Rattle.uf_tree.specs.Names.{names_cmp}
 use Rattle.uf_tree.proofs.ShardLaws.{names_total, names_exact}
-use Rattle.uf_tree.proofs.Tests.{as_T}
+use Rattle.uf_tree.proofs.Told.{as_T}
 use Rattle.uf_tree.proofs.laws.a_directory_depends_on_its_names_alone.Goals as goal
 
 pub returns : goal.returns

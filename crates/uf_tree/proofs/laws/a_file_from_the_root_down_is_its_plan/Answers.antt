@@ -1,7 +1,7 @@
 use Rattle.std.proofs.Common.{◌≡◌}
 use Rattle.std.specs.Prelude.{IfSome, Some}
 use Rattle.uf_tree.proofs.Rows.{file_plan-rows, plan-sub, sub-plan}
-use Rattle.uf_tree.proofs.Tests.{kept}
+use Rattle.uf_tree.proofs.Told.{kept}
 use Rattle.uf_tree.proofs.laws.a_file_from_the_root_down_is_its_plan.Goals as goal
 
 pub returns : goal.returns

@@ -1,5 +1,5 @@
 use Rattle.uf_tree.proofs.Canonical.{few_rows}
-use Rattle.uf_tree.proofs.Tests.{kept}
+use Rattle.uf_tree.proofs.Told.{kept}
 use Rattle.uf_tree.proofs.laws.a_file_has_few_rows.Goals as goal
 
 pub returns : goal.returns

@@ -1,5 +1,5 @@
 use Rattle.uf_tree.proofs.Rows.{file_plan-top}
-use Rattle.uf_tree.proofs.Tests.{kept}
+use Rattle.uf_tree.proofs.Told.{kept}
 use Rattle.uf_tree.proofs.laws.a_file_plan_is_its_first_row_of_one_part.Goals as goal
 
 pub returns : goal.returns

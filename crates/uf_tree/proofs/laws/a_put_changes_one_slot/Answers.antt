@@ -1,4 +1,4 @@
-use Rattle.uf_tree.proofs.Tests.{as_T}
+use Rattle.uf_tree.proofs.Told.{as_T}
 use Rattle.uf_tree.proofs.ShardLaws.{items-put}
 use Rattle.uf_tree.proofs.laws.a_put_changes_one_slot.Goals as goal
 
