@@ -6,3 +6,6 @@ mod reading;
 mod spot;
 
 pub use lookup::find;
+
+#[cfg(test)]
+mod tests;
