@@ -49,6 +49,7 @@ one_list (p ∷ l) (q ∷ m) h k e =
   where
     heads : (a b : Link) (x y : List Link) → a ∷ x ≡ b ∷ y → a ≡ b
     heads a b x y e = cc
+
     tails : (a b : Link) (x y : List Link) → a ∷ x ≡ b ∷ y → x ≡ y
     tails a b x y e = cc
 

@@ -112,6 +112,7 @@ module _ (X : List ℕ → List ℕ) (N : List ℕ → ℕ) where
         where
           first : Agrees (Some t) (shard_held X N (items_of left l) ∷ trail_below left l name) → IfSome (held_at t (shard_held X N (items_of left l)).0) (λ bytes. bytes ≡ shard_block (items_of left l))
           first a = a.0
+
           by : (o : Option (List ℕ)) → o ≡ Some lent → IfSome o (λ bytes. bytes ≡ shard_block (items_of left l)) → lent ≡ shard_block (items_of left l)
           by None e h = absurd (let no : None ≡ Some lent = e in cc)
           by (Some b) e h = (let same : b ≡ lent = cc in sym same) ∙ h
@@ -164,6 +165,7 @@ module _ (X : List ℕ → List ℕ) (N : List ℕ → ℕ) where
     where
       one : (n : ℕ) → 1 ≤ suc n
       one n = omega arith
+
       two : (n : ℕ) → suc (suc n) ≤ 1 → ⊥
       two n h = omega arith
 
@@ -205,6 +207,7 @@ module _ (X : List ℕ → List ℕ) (N : List ℕ → ℕ) where
         ends : (left : ℕ) (d : List Named → Plan) → Here e ≡ spot_of name (slot_item d (slot_of (N name) left l)) → trail_below left l name ≡ []
         ends zero d h = refl
         ends (suc left) d h = (here_value d name (slot_of (N name) (suc left) l) (shard_trail X N left (slot_of (N name) (suc left) l) name) e h).1
+
         all : (told : Told) → Agrees told (shard_trail X N left l name) → IfSome told (λ t. held_at t root ≡ Some now.lent) → Holds told (head_of left l ∷ trail_below left l name)
         all None a h = absurd a
         all (Some t) a h = subst (λ (path : List Held). Holds (Some t) (head_of left l ∷ path)) (sym (ends left (deeper_of left) (it_says good (N name) left root l low is name before now (Here e) agrees says))) (head-held left root l low is t now.lent a h, tt)
@@ -217,6 +220,7 @@ module _ (X : List ℕ → List ℕ) (N : List ℕ → ℕ) where
       where
         here : (k : ℕ) → k ≡ 7 - suc left → k + 1 ≡ 7 - left → slot (N e.0) k ≡ slot (N name) k → way (N e.0) (7 - left) ≡ way (N name) (7 - left)
         here k a b s = subst (λ (n : ℕ). way (N e.0) n ≡ way (N name) n) b (further (N e.0) (N name) k (subst (λ (n : ℕ). way (N e.0) n ≡ way (N name) n) (sym a) h.0) s)
+
         by : (b : Bool) → (slot (N e.0) (6 - left) == slot (N name) (6 - left)) ≡ b → AllByRecursion (λ (e : Named). way (N e.0) (7 - left) ≡ way (N name) (7 - left)) (slot_of (N name) (suc left) m)
             → AllByRecursion (λ (e : Named). way (N e.0) (7 - left) ≡ way (N name) (7 - left)) (cond b (e ∷ slot_of (N name) (suc left) m) (slot_of (N name) (suc left) m))
         by true k later = (here (6 - left) (omega arith) (omega arith) (tested _ _ k), later)
@@ -228,12 +232,12 @@ module _ (X : List ℕ → List ℕ) (N : List ℕ → ℕ) where
     reached_below left root c l path low is goes = record {
       valid = record {
         sorted = from_T _ (is_sorted-where_key names_cmp (λ n. slot (N n) (6 - left) == slot (N name) (6 - left)) l (as_T _ is.valid.sorted));
-        each = each_filter IsNamed (λ (e : Named). slot (N e.0) (6 - left) == slot (N name) (6 - left)) l is.valid.each
+        each = each_filter IsNamed (λ (e : Named). slot (N e.0) (6 - left) == slot (N name) (6 - left)) l is.valid.each;
       };
       some = goes.some;
       apart = by (is.apart (slot (N name) (6 - left)));
       along = along_slot left l (omega arith) is.along;
-      cid = goes.cid
+      cid = goes.cid;
     }
       where
         by : (length (slot_of (N name) (suc left) l) ≤ 1) ⊎ HasShard N left (slot_of (N name) (suc left) l) → HasShard N left (slot_of (N name) (suc left) l)
@@ -268,20 +272,25 @@ module _ (X : List ℕ → List ℕ) (N : List ℕ → ℕ) where
         (subst (λ (v : Option Entry). FindsOver before.told path v r) (sym (find-slot (6 - left) name l))
         (subst (λ (told : Told). FindsOver told path (find names_cmp name b) r) same
         (subst (λ (n : ℕ). Deeper n c mid now r) less deeper b (reached_below left root c l path low is goes)
-          (subst (λ (told : Told). Agrees told path) (sym same) (rest before.told (subst (Agrees before.told) (trail-is (suc left) l name ∙ ap (λ (path : List Held). head_of (suc left) l ∷ path) goes.shared) agrees)))
-          (subst (λ (n : ℕ). Stood n now.faults) (sym calm) stood)))))
+        (subst (λ (told : Told). Agrees told path) (sym same) (rest before.told (subst (Agrees before.told) (trail-is (suc left) l name ∙ ap (λ (path : List Held). head_of (suc left) l ∷ path) goes.shared) agrees)))
+        (subst (λ (n : ℕ). Stood n now.faults) (sym calm) stood)))))
       where
         b : List Named
         b = slot_of (N name) (suc left) l
+
         path : List Held
         path = shard_trail X N left b name
+
         less : suc left - 1 ≡ left
         less = omega arith
+
         goes : Goes (shard X N left) c b path
         goes = below_goes (shard X N left) name b path c (it_says good (N name) (suc left) root l low is name before mid (Below c) agrees says)
+
         first : (told : Told) → Agrees told (shard_trail X N (suc left) l name) → IfSome told (λ t. held_at t root ≡ Some mid.lent) → Holds told (head_of (suc left) l ∷ [])
         first None a h = absurd a
         first (Some t) a h = (head-held (suc left) root l low is t mid.lent a h, tt)
+
         rest : (told : Told) → Agrees told (head_of (suc left) l ∷ path) → Agrees told path
         rest None a = a
         rest (Some t) a = a.1
@@ -300,13 +309,14 @@ module _ (X : List ℕ → List ℕ) (N : List ℕ → ℕ) where
       where
         some : (n : ℕ) → 1 ≤ suc n
         some n = omega arith
+
         by : (o : Option (List ℕ × List ℕ)) → twins (same_slots N 7) (e ∷ l) ≡ o → elim o [ None ↦ Some (shard X N 7 (e ∷ l)) | Some names ↦ None ] ≡ Some is.plan → IsReached X N (N name) 7 root (e ∷ l)
         by None t h = record {
           valid = is.valid;
           some = some (length l);
           apart = Apart-HasShard N 7 (e ∷ l) (twins-Apart (same_slots N 7) (e ∷ l) t);
           along = along_none (e ∷ l);
-          cid = is.cid ∙ ap (λ (p : Plan). p.entry.cid) (let same : shard X N 7 (e ∷ l) ≡ is.plan = cc in sym same)
+          cid = is.cid ∙ ap (λ (p : Plan). p.entry.cid) (let same : shard X N 7 (e ∷ l) ≡ is.plan = cc in sym same);
         }
         by (Some names) t h = absurd (let no : None ≡ Some is.plan = h in cc)
 

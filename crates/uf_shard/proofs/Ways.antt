@@ -98,14 +98,16 @@ module _ (N : List ℕ → ℕ) (hash level : ℕ) where
   pub leaf-then : (s sl other : ℕ) (shares : Bool) (name : List ℕ) (e : Entry) (p : InSlot) → p ≡ (s, Leaf name e) → other ≡ N name → IsTrue shares ↔ (way other level ≡ way hash level) → shares ≡ true
       → sl ≡ slot other level → IsTrue (nat_eq sl s) ↔ IsOnWay N (way hash level) p
   leaf-then s sl other shares name e p is same iff holds at = subst (λ (p : InSlot). IsTrue (nat_eq sl s) ↔ IsOnWay N (way hash level) p) (sym is) (
-      λ t. subst (λ (h : ℕ). way h (length (way hash level) + 1) ≡ way hash level ++ s ∷ []) same (on_way other hash level s (iff.0 holds) (sym at ∙ tested sl s t)),
-      λ k. tests sl s (at ∙ (from_way other hash level s (subst (λ (h : ℕ). way h (length (way hash level) + 1) ≡ way hash level ++ s ∷ []) (sym same) k)).1))
+    λ t. subst (λ (h : ℕ). way h (length (way hash level) + 1) ≡ way hash level ++ s ∷ []) same (on_way other hash level s (iff.0 holds) (sym at ∙ tested sl s t)),
+    λ k. tests sl s (at ∙ (from_way other hash level s (subst (λ (h : ℕ). way h (length (way hash level) + 1) ≡ way hash level ++ s ∷ []) (sym same) k)).1),
+  )
 
   pub leaf-else : (s other : ℕ) (shares : Bool) (name : List ℕ) (e : Entry) (p : InSlot) → p ≡ (s, Leaf name e) → other ≡ N name → IsTrue shares ↔ (way other level ≡ way hash level) → shares ≡ false
       → IsTrue shares ↔ IsOnWay N (way hash level) p
   leaf-else s other shares name e p is same iff fails = subst (λ (p : InSlot). IsTrue shares ↔ IsOnWay N (way hash level) p) (sym is) (
-      λ t. absurd (false≢true (sym fails ∙ t)),
-      λ k. iff.1 (from_way other hash level s (subst (λ (h : ℕ). way h (length (way hash level) + 1) ≡ way hash level ++ s ∷ []) (sym same) k)).0)
+    λ t. absurd (false≢true (sym fails ∙ t)),
+    λ k. iff.1 (from_way other hash level s (subst (λ (h : ℕ). way h (length (way hash level) + 1) ≡ way hash level ++ s ∷ []) (sym same) k)).0,
+  )
 
   low_test : nat_lt level 7 ≡ true → level < 7
   low_test h = grind (arith, nat_tests)
@@ -116,8 +118,9 @@ module _ (N : List ℕ → ℕ) (hash level : ℕ) where
   -- a shard stands below a level less than 7
   pub sub-there : (s : ℕ) (e : Entry) (p : InSlot) → p ≡ (s, Sub e) → level < 8 → IsTrue (nat_lt level 7) ↔ IsOnWay N (way hash level) p
   sub-there s e p is small = subst (λ (p : InSlot). IsTrue (nat_lt level 7) ↔ IsOnWay N (way hash level) p) (sym is) (
-      λ t seven. let low : level < 7 = low_test t in absurd (omega (arith, seven, way-length hash level)),
-      λ k. low_tests (let no : level ≢ 7 = (λ seven. k (way-length hash level ∙ seven)) in omega (arith, no)))
+    λ t seven. let low : level < 7 = low_test t in absurd (omega (arith, seven, way-length hash level)),
+    λ k. low_tests (let no : level ≢ 7 = (λ seven. k (way-length hash level ∙ seven)) in omega (arith, no)),
+  )
 
   -- no shard stands below level 7
   pub room : (s : ℕ) (name : List ℕ) (items : List InSlot) → level < 8 → AllByRecursion (IsOnWay N (way hash level)) items → HasRoom level (spot_of name (find nat_cmp s items))

@@ -112,7 +112,12 @@ fn finds_below_eight<L: Ledger>(alloc: Global, touches: &mut Steps<L>) -> Option
     let root = save_above(alloc, &mut store, b"gfedcba", lowest, touches)?;
     let wanted = Cid::parse("bafybeiebkftuyely6co7jdi3vgdmtaqfjvqkspruabz7malta6ivjrlvny").ok()?;
     let mut right = root.cid == wanted && root.tsize == 628;
-    for (name, answer) in [("abcdefgX", 0), ("abcdefgY", 0), ("abcdefgZ", 1), ("abcd", 1)] {
+    for (name, answer) in [
+        ("abcdefgX", 0),
+        ("abcdefgY", 0),
+        ("abcdefgZ", 1),
+        ("abcd", 1),
+    ] {
         right = right && found(alloc, &mut store, &wanted, name, &wanted, touches) == answer;
     }
     store.forget(&lowest.cid);
