@@ -1,9 +1,8 @@
 -- Two shards with one block have one list of items.
-use Rattle.std.proofs.Common.{◌≡◌, ℕ, ◌/◌, ◌%◌, ◌^◌, ◌<◌, ◌≤◌, List, [], ◌∷◌, length, map, ap, arith, refl}
+use Rattle.std.proofs.Common.{◌≡◌, ℕ, ◌/◌, ◌%◌, ◌≤◌, List, [], ◌∷◌, length, map, ap, arith, refl}
 use Rattle.std.specs.List.{AllByRecursion}
 use Rattle.uf_dagpb.specs.declared.node.Link.{Link}
 use Rattle.uf_dagpb.specs.declared.node.Node.{Node}
-use Rattle.uf_dagpb.specs.Spelling.{node_bytes}
 use Rattle.uf_dagpb.proofs.Strictly.{one_spelling}
 use Rattle.uf_tree.specs.Codecs.{shard_dag}
 use Rattle.uf_tree.specs.Nodes.{InSlot, hex_digit, item_entry, item_name, shard_block, slot_link}

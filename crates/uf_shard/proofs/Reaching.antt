@@ -1,8 +1,8 @@
 -- Shards on the way of a name.
-use Rattle.std.proofs.Common.{◌≡◌, ◌≢◌, ℕ, zero, suc, ◌+◌, ◌-◌, ◌<◌, ◌≤◌, ◌^◌, List, [], ◌∷◌, ◌++◌, length, min, refl, ap, arith, sym, ◌∙◌, subst, Bool, true, false, cond, Option, None, Some, Ordering, ◌⊎◌, inl, inr, Result, Ok, Err, T}
-use Rattle.std.specs.Prelude.{◌==◌, IfSome, IsTrue}
-use Rattle.std.specs.FinMap.Entries.{find, is_sorted, is_sorted-where_key, find-where_key}
-use Rattle.std.specs.List.{AllByRecursion, filter}
+use Rattle.std.proofs.Common.{◌≡◌, ℕ, zero, suc, ◌+◌, ◌-◌, ◌<◌, ◌≤◌, List, [], ◌∷◌, length, refl, ap, arith, sym, ◌∙◌, subst, Bool, true, false, cond, Option, None, Some, ◌⊎◌, inl, inr, Result, Ok, Err, T}
+use Rattle.std.specs.Prelude.{◌==◌, IfSome}
+use Rattle.std.specs.FinMap.Entries.{find, is_sorted-where_key, find-where_key}
+use Rattle.std.specs.List.{AllByRecursion}
 use Rattle.std.specs.Ordering.{nat_cmp, eq_by_cmp}
 use Rattle.std.proofs.lemmas.Bool.Decides.{nat_tests}
 use Rattle.uf_cid.specs.declared.cid.Cid.{Cid}
@@ -16,21 +16,20 @@ use Rattle.uf_store.specs.Seen.{Seen}
 use Rattle.uf_store.specs.declared.store.StoreFault.{StoreFault}
 use Rattle.uf_store.specs.declared.store.StoreFault.TheVariants.{Failed, Damaged, Missing, BadBlock, Clash, Memory}
 use Rattle.uf_tree.specs.declared.nodes.Entry.{Entry}
-use Rattle.uf_tree.specs.declared.nodes.Item.{Item}
 use Rattle.uf_tree.specs.FilePlan.{Plan}
 use Rattle.uf_tree.specs.Names.{names_cmp}
 use Rattle.uf_tree.specs.Nodes.{InSlot, Named, shard_block}
 use Rattle.uf_tree.specs.Roles.{IsCanonicalShard}
 use Rattle.uf_tree.specs.Shardable.{HasShard}
-use Rattle.uf_tree.specs.ShardPlan.{bucket, no_shard, shard, shard_at, shard_held, shard_items, shard_plan, shard_trail, slot_item, where_shared, twins, same_slots}
-use Rattle.uf_tree.specs.Validity.{IsDirectory, IsHash, IsEntry, IsNamed, IsShard}
+use Rattle.uf_tree.specs.ShardPlan.{bucket, no_shard, shard, shard_at, shard_held, shard_items, shard_trail, slot_item, where_shared, twins, same_slots}
+use Rattle.uf_tree.specs.Validity.{IsHash, IsEntry, IsNamed, IsShard}
 use Rattle.uf_tree.proofs.Canonical.{shard-canonical}
 use Rattle.uf_tree.proofs.Each.{each_filter}
 use Rattle.uf_tree.proofs.ShardLaws.{find-tabulate, names_exact, slot-bound, eqb_same}
 use Rattle.uf_tree.proofs.Twins.{Apart-HasShard, twins-Apart}
 use Rattle.uf_tree.proofs.Valid.{node_entry-valid, shard-valid, shard_items-valid}
 use Rattle.uf_shard.specs.Answers.{FindsOver}
-use Rattle.uf_shard.specs.Placed.{IsBadOnWay, IsPlaced, way}
+use Rattle.uf_shard.specs.Placed.{IsBadOnWay, way}
 use Rattle.uf_shard.specs.Planned.{IsPlanned}
 use Rattle.uf_shard.specs.Reached.{IsReached, LooksAt, SaysOf}
 use Rattle.uf_shard.specs.Spots.{HasRoom, spot_of}

@@ -1,15 +1,15 @@
 -- Shards read where they stand.
-use Rattle.std.proofs.Common.{◌≡◌, ◌≢◌, ℕ, ◌<◌, List, [], ◌∷◌, ◌⊎◌, inl, inr, sym, ◌∙◌, subst, Bool, true, false, Result, Ok, Err}
+use Rattle.std.proofs.Common.{◌≡◌, ◌≢◌, ℕ, List, inl, inr, sym, ◌∙◌, subst, Bool, true, false, Ok, Err}
 use Rattle.std.specs.Prelude.{IsTrue, ◌↔◌}
 use Rattle.std.specs.List.{AllByRecursion}
 use Rattle.std.proofs.lemmas.Bool.{false≢true}
 use Rattle.uf_cid.specs.declared.bytes.StrictFault.{StrictFault}
-use Rattle.uf_cid.specs.declared.bytes.StrictFault.TheVariants.{NotCanonical, Memory}
+use Rattle.uf_cid.specs.declared.bytes.StrictFault.TheVariants.{NotCanonical}
 use Rattle.uf_tree.specs.Codecs.{Reads}
 use Rattle.uf_tree.specs.Nodes.{InSlot, shard_block}
 use Rattle.uf_tree.specs.Roles.{IsCanonicalShard, IsOnWay}
 use Rattle.uf_tree.specs.Validity.{IsShard}
-use Rattle.uf_shard.specs.Placed.{IsPlaced, way}
+use Rattle.uf_shard.specs.Placed.{IsPlaced}
 use Rattle.uf_shard.proofs.One.{one_shard}
 
 module _ (N : List ℕ → ℕ) (above : List ℕ) (bytes : List ℕ) where

@@ -1,5 +1,5 @@
 -- What a shard says of a name.
-use Rattle.std.specs.Prelude.{◌<◌, ◌≤◌, ℕ, List, cond, ⊤}
+use Rattle.std.specs.Prelude.{◌<◌, ℕ, List, cond, ⊤}
 use Rattle.std.specs.declared.option.Option.{Option}
 use Rattle.std.specs.declared.option.Option.TheVariants.{None, Some}
 use Rattle.std.specs.Ordering.{eq_by_cmp}

@@ -1,4 +1,4 @@
-//! Directories as trees of shards (UnixFS v1, "HAMTDirectory", with a fanout of 256): looked up, listed, weighed and built.
+//! Directories as trees of shards (UnixFS v1, "HAMTDirectory", with a fanout of 256): a name looked up.
 #![tactic(auto)]
 
 mod lookup;

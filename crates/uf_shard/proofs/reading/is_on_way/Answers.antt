@@ -1,4 +1,4 @@
-use Rattle.std.proofs.Common.{◌≡◌, ◌∙◌, sym, ap, arith}
+use Rattle.std.proofs.Common.{◌∙◌, sym, ap}
 use Rattle.uf_tree.specs.declared.nodes.Item.{Item}
 use Rattle.uf_shard.proofs.Ways.{leaf-then, leaf-else, sub-there}
 use Rattle.uf_shard.proofs.reading.is_on_way.Goals as goal

@@ -1,4 +1,3 @@
-use Rattle.std.proofs.Common.{◌≡◌, ◌∙◌, sym, ap, arith}
 use Rattle.uf_shard.proofs.Ways.{apart, further, same_slots}
 use Rattle.uf_shard.proofs.reading.shares_way.Goals as goal
 
