@@ -16,13 +16,21 @@ head -c "$((mib * 1048576))" /dev/urandom > "$folder/input"
 # Prints user seconds and peak memory in KiB of a command over the input.
 measure() {
     taskset -c "$core" python3 - "$folder/input" "$@" <<'PYTHON'
-import os, subprocess, sys
+import os, re, subprocess, sys, time
+peak = 0
 with open(sys.argv[1], "rb") as source:
-    child = subprocess.Popen(sys.argv[2:], stdin=source, stdout=subprocess.DEVNULL)
-    _, status, usage = os.wait4(child.pid, 0)
-if status:
-    sys.exit(f"{sys.argv[2]}: status {status}")
-print(f"{usage.ru_utime:.2f} {usage.ru_maxrss}")
+    child = subprocess.Popen(sys.argv[2:], stdin=source, stdout=subprocess.DEVNULL, stderr=subprocess.DEVNULL)
+    while True:
+        with open(f"/proc/{child.pid}/status", encoding="ascii") as status:
+            found = re.search(r"VmHWM:\s+(\d+)", status.read())
+        peak = max(peak, int(found.group(1)) if found else 0)
+        pid, code, usage = os.wait4(child.pid, os.WNOHANG)
+        if pid:
+            break
+        time.sleep(0.02)
+if code:
+    sys.exit(f"{sys.argv[2]}: status {code}")
+print(f"{usage.ru_utime:.2f} {peak}")
 PYTHON
 }
 

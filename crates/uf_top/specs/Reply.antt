@@ -2,11 +2,11 @@
 use Rattle.std.specs.Prelude.{◌≡◌, ℕ, ◌⊎◌, List, [], ◌∷◌, ◌++◌, length, Bool, false, ◌&&◌, Some, None, IfSome, codes, nat_eq, nat_le, if◌then◌else◌}
 use Rattle.std.specs.Cmp.Lexicographic.{pointwise}
 use Rattle.uf_cid.specs.declared.cid.Cid.{Cid}
-use Rattle.uf_cid.specs.declared.cid.Codec.TheVariants.{Raw}
-use Rattle.uf_cid.specs.Cid.{cid_of, cid_text}
+use Rattle.uf_cid.specs.Cid.{cid_text}
 use Rattle.uf_edge.specs.declared.streams.Sent.{Sent}
 use Rattle.uf_edge.specs.Counts.{Counts}
 use Rattle.uf_edge.specs.Streams.{Told, after, AppendsPrefix, Sends, is_unsent}
+use Rattle.uf_top.specs.Intake.{file_cid, most_input}
 use Rattle.uf_top.specs.declared.status.Status.{Status}
 use Rattle.uf_top.specs.declared.status.Status.TheVariants.{Ok, Rule, Usage, StoreFault, Missing, BadBlock, ReadFault, WriteFault, Clash, Memory, NotReady}
 
@@ -22,7 +22,7 @@ added_line c = codes "added " ++ cid_text c ++ 32 ∷ cid_text c ++ 10 ∷ []
 -- the line that goes to `errors`; nothing at Ok, nor for what no command answers yet
 abbrev pub error_line : Status → List ℕ
 error_line Ok = []
-error_line Rule = codes "error: rule InputTooLong\n"
+error_line Rule = codes "error: rule FileTooLong\n"
 error_line Usage = codes "error: usage\n"
 error_line StoreFault = []
 error_line Missing = []
@@ -52,10 +52,10 @@ pub record Reply : Type 0 where
   pub status : Status
   pub output : List ℕ
 
--- the reply to `add -n` with these bytes as the input: the row of one raw block, or that the input is too long
+-- the reply to `add -n` with these bytes as the input: the row of the file, or that the file would be too long
 abbrev pub add_reply : (List ℕ → List ℕ) → List ℕ → Reply
 add_reply hash bytes =
-    if nat_le (length bytes) 262144 then record { status = Ok; output = added_line (cid_of hash Raw bytes) }
+    if nat_le (length bytes) most_input then record { status = Ok; output = added_line (file_cid hash bytes) }
     else record { status = Rule; output = [] }
 
 -- the answer is the reply, and what is printed is its output
@@ -78,13 +78,13 @@ AreLeft left bytes = IfSome left (λ b. b ≡ bytes)
 pub record PrintsRow (hash : List ℕ → List ℕ) (left held held_now : Told) : Type 0 where
   pub bytes : List ℕ
   pub are_left : AreLeft left bytes
-  pub printed : held_now ≡ after held (added_line (cid_of hash Raw bytes))
+  pub printed : held_now ≡ after held (added_line (file_cid hash bytes))
 
 -- a part of the row of some input was printed
 pub record PrintsPart (hash : List ℕ → List ℕ) (left held held_now : Told) : Type 0 where
   pub bytes : List ℕ
   pub are_left : AreLeft left bytes
-  pub part : AppendsPrefix (added_line (cid_of hash Raw bytes)) held held_now
+  pub part : AppendsPrefix (added_line (file_cid hash bytes)) held held_now
 
 -- an answer prints the input's row at Ok, a part of it at WriteFault, and else nothing
 abbrev pub Prints : (List ℕ → List ℕ) → Status → Told → Told → Told → Type 0

@@ -2,6 +2,7 @@
 #![tactic(auto)]
 
 mod command;
+mod intake;
 mod status;
 
 pub use command::run;

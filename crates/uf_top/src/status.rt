@@ -32,7 +32,7 @@ impl Status {
         ensures { result.now ≡ error_line self.now }
     {
         match self {
-            Status::Rule => b"error: rule InputTooLong\n",
+            Status::Rule => b"error: rule FileTooLong\n",
             Status::Usage => b"error: usage\n",
             Status::ReadFault => b"error: read\n",
             Status::WriteFault => b"error: write\n",

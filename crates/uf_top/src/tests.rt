@@ -57,7 +57,7 @@ fn run_counted<L: Ledger>(alloc: Global, case: Case, blank: Blank) -> Result<Out
 {
     let mut touches = Steps::<L>::new(blank);
     let mut store = Discard::<Sha256Hash>::new();
-    let mut input = MemSource::new(case.input, 1000, case.input_fails);
+    let mut input = MemSource::new(case.input, 65536, case.input_fails);
     let mut output = MemSink::new(alloc, case.room, case.output_fails)?;
     let mut errors = MemSink::new(alloc, 1000, Calls::new(alloc))?;
     let status = run(
@@ -119,14 +119,51 @@ fn inputs_have_their_rows(rt: HostRuntime) -> Result<(), Memory> {
     let alloc = rt.alloc();
     assert!(rt; adds(alloc, b"", Status::Ok, EMPTY, b"")?);
     assert!(rt; adds(alloc, b"hello world", Status::Ok, HELLO, b"")?);
-    let zeros = vec![in alloc; 0u8; 262145]?;
+    Ok(())
+}
+
+// Whether `add -n` of so many zero bytes prints this CID.
+fn adds_zeros(alloc: Global, count: usize, cid: &str) -> Result<bool, Memory> {
+    let zeros = vec![in alloc; 0u8; count]?;
+    let mut row = Block::new(alloc);
+    row.extend(b"added ")?;
+    row.extend(cid.as_bytes())?;
+    row.extend(b" ")?;
+    row.extend(cid.as_bytes())?;
+    row.extend(b"\n")?;
+    adds(alloc, &zeros, Status::Ok, row.as_slice(), b"")
+}
+
+// The CIDs are those of another program: of one piece, of two, of three, and of two rows of nodes.
+#[test]
+fn longer_inputs_are_cut_into_pieces(rt: HostRuntime) -> Result<(), Memory> {
+    let alloc = rt.alloc();
     assert!(rt;
-        adds(
+        adds_zeros(
             alloc,
-            &zeros,
-            Status::Rule,
-            b"",
-            b"error: rule InputTooLong\n"
+            262144,
+            "bafkreiekhhjkxu4ztk3tyng3er3ijhg56mb44oe3gwbgquhzu4afrg2ksa"
+        )?
+    );
+    assert!(rt;
+        adds_zeros(
+            alloc,
+            262145,
+            "bafybeigllfqgfpqydppr6cmv56g7ax4wyhruzswvcefv6j5kj77nzttfki"
+        )?
+    );
+    assert!(rt;
+        adds_zeros(
+            alloc,
+            600000,
+            "bafybeib7pcuusxw7atqqc4apxvkezssdjbqkkhymjpo5x7bsj5sytn2ph4"
+        )?
+    );
+    assert!(rt;
+        adds_zeros(
+            alloc,
+            45613057,
+            "bafybeihqwzd3o6q6v3pmwhzjy22vokhr767burokmqemg63hptx2nqd7ym"
         )?
     );
     Ok(())

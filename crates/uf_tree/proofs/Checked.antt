@@ -1,5 +1,5 @@
 -- What the tests of pairs and items say.
-use Rattle.std.proofs.Common.{◌≡◌, ℕ, ◌<◌, ◌≤◌, List, [], ◌∷◌, length, refl, ap, arith, subst, sym, ◌∙◌, Bool, true, false}
+use Rattle.std.proofs.Common.{◌≡◌, ◌≤◌, List, [], ◌∷◌, length, ap, arith, subst, sym, ◌∙◌, Bool, true, false}
 use Rattle.std.specs.Prelude.{IsTrue, ◌==◌}
 use Rattle.std.specs.Cmp.{nat_cmp_total}
 use Rattle.std.specs.List.{AllByRecursion}
@@ -27,6 +27,7 @@ shard_iff l slice empty b e all is fails rising = (
   λ t. record {
     some = subst (λ (x : List InSlot). 1 ≤ length x) e (some_of slice empty is fails);
     sorted = sym (rises-sorted nat_cmp_total l) ∙ ap (rises nat_cmp) (sym e) ∙ sym rising ∙ t;
-    each = subst (λ (x : List InSlot). AllByRecursion IsInSlot x) e all },
+    each = subst (λ (x : List InSlot). AllByRecursion IsInSlot x) e all;
+  },
   λ h. rising ∙ ap (rises nat_cmp) e ∙ rises-sorted nat_cmp_total l ∙ h.sorted,
 )

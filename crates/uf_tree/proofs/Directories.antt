@@ -1,9 +1,8 @@
 -- Blocks of basic directories.
-use Rattle.std.proofs.Common.{◌≡◌, ◌≢◌, ℕ, ◌^◌, ◌<◌, ◌≤◌, List, [], ◌∷◌, ◌++◌, length, map, refl, ap, arith, subst, sym, ◌∙◌, ◌⊎◌, inl, inr, Ok, Err, Result, Bool, true, false, Option, None, Some, Ordering, Less, Equal, Greater, nat_eq, nat_lt}
+use Rattle.std.proofs.Common.{◌≡◌, ◌≢◌, ℕ, ◌^◌, ◌<◌, ◌≤◌, List, [], ◌∷◌, ◌++◌, length, map, refl, ap, arith, subst, sym, ◌∙◌, ◌⊎◌, inl, inr, Ok, Err, Result, Bool, true, false, Option, Some, Ordering, Less, Equal, Greater, nat_eq}
 use Rattle.std.specs.Prelude.{IfOk, IsTrue, ◌↔◌, ◌&&◌}
 use Rattle.std.specs.Bool.{MatchBool}
 use Rattle.std.specs.Cmp.Lexicographic.{pointwise}
-use Rattle.std.specs.FinMap.Entries.{is_sorted}
 use Rattle.std.specs.List.{AllByRecursion}
 use Rattle.std.specs.Ordering.{is_lt, is_le}
 use Rattle.std.proofs.lemmas.Bool.{le-ltb, false≢true}
@@ -17,11 +16,11 @@ use Rattle.uf_dagpb.specs.declared.node.Link.{Link}
 use Rattle.uf_dagpb.specs.declared.node.Node.{Node}
 use Rattle.uf_dagpb.specs.Spelling.{links_bytes, node_bytes, are_sorted, AreLinks, IsLink, IsNode}
 use Rattle.uf_message.specs.Spelling.{message_bytes}
-use Rattle.uf_tree.proofs.SameBytes.{decides_bytes}
+use Rattle.uf_tree.proofs.Alike.{decides_bytes}
 use Rattle.uf_tree.specs.declared.profile.Profile.{Profile}
 use Rattle.uf_tree.specs.Codecs.{Reads, dir_dag, pair_link}
-use Rattle.uf_tree.specs.DirPlan.{weight, is_sharded}
-use Rattle.uf_tree.specs.Names.{names_cmp, is_good, is_name}
+use Rattle.uf_tree.specs.DirPlan.{weight}
+use Rattle.uf_tree.specs.Names.{names_cmp}
 use Rattle.uf_tree.specs.Nodes.{Named, dir_block, dir_message}
 use Rattle.uf_tree.specs.Rising.{rises}
 use Rattle.uf_tree.specs.Validity.{IsDirectory, IsNamed}

@@ -1,5 +1,5 @@
 -- Blocks of files' nodes.
-use Rattle.std.proofs.Common.{◌≡◌, ◌≢◌, ℕ, ◌+◌, ◌^◌, ◌<◌, ◌≤◌, List, [], ◌∷◌, ◌++◌, length, sum, refl, ap, arith, subst, sym, ◌∙◌, ◌⊎◌, inl, inr, Ok, Err, Result, Bool, true, false, Option, None, Some, IsTrue}
+use Rattle.std.proofs.Common.{◌≡◌, ◌≢◌, ℕ, ◌+◌, ◌^◌, ◌<◌, List, [], ◌∷◌, length, sum, refl, ap, arith, subst, sym, ◌∙◌, ◌⊎◌, inl, inr, Ok, Err, Result, Bool, true, false, Some, IsTrue}
 use Rattle.std.specs.Prelude.{◌↔◌, ◌&&◌, MatchResult}
 use Rattle.std.specs.List.{AllByRecursion}
 use Rattle.std.specs.Cmp.Lexicographic.{slice_cmp}
@@ -93,7 +93,7 @@ file_of_parts node content slice sizes (Err f) c s h k = inr (λ v j e. k.1 (sub
     same v j e =
         let links : v.parts ≡ node.links = sym (ap (λ (n : Node). n.links) e) in
         let spelt : file_spelling v.sizes ≡ file_spelling sizes =
-            (let some : Some (file_spelling v.sizes) ≡ Some content = sym (ap (λ (n : Node). n.content) e) ∙ c in let one : file_spelling v.sizes ≡ content = cc in one) ∙ sym s ∙ h.1 in
+        (let some : Some (file_spelling v.sizes) ≡ Some content = sym (ap (λ (n : Node). n.content) e) ∙ c in let one : file_spelling v.sizes ≡ content = cc in one) ∙ sym s ∙ h.1 in
         let message : file_message v.sizes ≡ file_message sizes = one_message (file_message v.sizes) (file_message sizes) (fits v.sizes j.total) (fits sizes h.0) spelt in
         let all : v.sizes ≡ sizes = ap (λ (m : Message). m.blocksizes) message in
         λ i. record { parts = links i; sizes = all i }

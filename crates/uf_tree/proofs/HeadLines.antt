@@ -1,5 +1,5 @@
 -- The lines of a Head, one after the other.
-use Rattle.std.proofs.Common.{◌≡◌, ◌≢◌, ℕ, zero, suc, ◌+◌, ◌^◌, ◌<◌, ◌≤◌, List, [], ◌∷◌, ◌++◌, length, get_or, take, drop, refl, ap, append_assoc, arith, subst, sym, ◌∙◌, ◌⊎◌, inl, inr, Ok, Err, Result, Bool, true, false, cond, Option, None, Some, nat_eq}
+use Rattle.std.proofs.Common.{◌≡◌, ◌≢◌, ℕ, ◌+◌, ◌^◌, ◌<◌, ◌≤◌, List, [], ◌∷◌, ◌++◌, length, get_or, take, drop, refl, ap, append_assoc, arith, subst, sym, ◌∙◌, ◌⊎◌, inl, inr, Ok, Err, Result, Bool, true, false, cond, Option, None, Some, nat_eq}
 use Rattle.std.specs.Prelude.{◌&&◌, ◌==◌, nat_le}
 use Rattle.std.specs.Bool.{MatchBool}
 use Rattle.std.specs.Cmp.Lexicographic.{pointwise}
@@ -18,7 +18,7 @@ use Rattle.uf_cid.specs.Read.{cid_of_text}
 use Rattle.uf_cid.specs.declared.cid.Cid.{Cid}
 use Rattle.uf_cid.specs.declared.cid.CidFault.{CidFault}
 use Rattle.uf_dagpb.proofs.Fronts.{too_short, cut_front, other_bytes}
-use Rattle.uf_tree.proofs.SameBytes.{decides_bytes}
+use Rattle.uf_tree.proofs.Alike.{decides_bytes}
 use Rattle.uf_tree.specs.HeadReading.{behind, is_node, line_at, node_of, number_in, root_in}
 use Rattle.uf_tree.proofs.Twins.{both_true}
 
@@ -106,6 +106,7 @@ number_none low high text small h = by (cases_Bool test)
   where
     test : Bool
     test = is_utf8 text && bytes_eq (decimal (digits_value 10 text)) text && nat_le low (digits_value 10 text) && nat_le (digits_value 10 text) high
+
     by : (test ≡ true) ⊎ (test ≡ false) → None ≡ cond test (Some (digits_value 10 text)) None
     by (inl t) =
         let v = digits_value 10 text in
@@ -126,9 +127,9 @@ number_unread {E} low high text spelled e small s parsed =
 pub number_other : {E : Type 0} (low high n : ℕ) (text spelled again : List ℕ) (r : Result ℕ E) (b : Bool) → high < 2 ^ 32 → spelled ≡ text → ParsesUnsigned 32 10 spelled r → r ≡ Ok n → again ≡ decimal n → b ≡ pointwise nat_eq again text → b ≡ false → None ≡ number_in low high text
 number_other {E} low high n text spelled again r b small s parsed ok a is fails =
     number_none low high text small (λ v lt e.
-      let read : r ≡ Ok v = parse-decimal 32 v spelled r lt (omega arith) (s ∙ e) parsed in
-      let one : v ≡ n = same_ok r v n read ok in
-      by b (decides_bytes b again text is) fails (a ∙ ap decimal (sym one) ∙ sym e))
+    let read : r ≡ Ok v = parse-decimal 32 v spelled r lt (omega arith) (s ∙ e) parsed in
+    let one : v ≡ n = same_ok r v n read ok in
+    by b (decides_bytes b again text is) fails (a ∙ ap decimal (sym one) ∙ sym e))
   where
     by : (b : Bool) → MatchBool b (again ≡ text) (again ≡ text → ⊥) → b ≡ false → again ≡ text → ⊥
     by true h t e = false≢true (sym t)
@@ -157,7 +158,7 @@ pub root_no_text : (text : List ℕ) → (IsUtf8 text → ⊥) → None ≡ root
 unfolding root_in
 root_no_text text bad = sym (ap (λ b. cond b (node_of text (cid_of_text text)) None) (false_from_ne_true (is_utf8 text) (λ t. bad (IsUtf8-from_is_utf8 text t))))
 
-root_read : (text : List ℕ) (r : Result Cid CidFault) → IsUtf8 text → cid_of_text text ≡ r → root_in text ≡ node_of text r
+pub root_read : (text : List ℕ) (r : Result Cid CidFault) → IsUtf8 text → cid_of_text text ≡ r → root_in text ≡ node_of text r
 unfolding root_in
 root_read text r u e = ap (λ b. cond b (node_of text (cid_of_text text)) None) (is_utf8-from_IsUtf8 text u) ∙ ap (node_of text) e
 

@@ -1,3 +1,4 @@
+pub mod Alike
 pub mod Behind
 pub mod Bitfields
 pub mod Canonical
@@ -7,6 +8,7 @@ pub mod Directories
 pub mod Each
 pub mod Files
 pub mod Groups
+pub mod HeadAgain
 pub mod HeadLines
 pub mod Held
 pub mod Least
@@ -15,7 +17,6 @@ pub mod Nested
 pub mod Reading
 pub mod Rises
 pub mod Rows
-pub mod SameBytes
 pub mod ShardLaws
 pub mod Shards
 pub mod Sizes

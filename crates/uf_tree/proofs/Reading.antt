@@ -1,5 +1,5 @@
 -- What readers answer, from the reader of nodes and the parts of a node.
-use Rattle.std.proofs.Common.{◌≡◌, ◌≢◌, ℕ, zero, suc, ◌+◌, ◌^◌, ◌<◌, ◌≤◌, List, [], ◌∷◌, ◌++◌, length, get_or, map, take, refl, ap, arith, subst, sym, ◌∙◌, ◌⊎◌, inl, inr, Ok, Err, Result, Bool, true, false}
+use Rattle.std.proofs.Common.{◌≡◌, ◌≢◌, ℕ, zero, suc, ◌^◌, ◌<◌, ◌≤◌, List, [], ◌∷◌, length, get_or, map, take, refl, ap, arith, subst, sym, ◌∙◌, ◌⊎◌, inl, inr, Ok, Err, Result}
 use Rattle.std.specs.List.{AllByRecursion}
 use Rattle.std.proofs.lemmas.List.{length-map, take_all}
 use Rattle.uf_cid.specs.declared.bytes.StrictFault.{StrictFault}

@@ -19,7 +19,6 @@ first_decides true true s h = refl
 first_decides true false true h = sym (h refl refl)
 first_decides true false false h = refl
 
-
 module _ {K X : Type 0} {R : K → K → Ordering} (o : IsTotalOrder R) where
   below_further : (a b : K) (l : List (K × X)) → R a b ≡ Less → below_all R b l ≡ true → below_all R a l ≡ true
   below_further a b [] lt h = refl
@@ -35,7 +34,7 @@ module _ {K X : Type 0} {R : K → K → Ordering} (o : IsTotalOrder R) where
       let again = rises-sorted (b ∷ l) in
       ap (λ (s : Bool). is_lt (R a.0 b.0) && s) again
       ∙ first_decides (is_lt (R a.0 b.0)) (below_all R a.0 l) (is_sorted R (b ∷ l))
-          (λ lt s. below_further a.0 b.0 l (less_is (R a.0 b.0) lt) (both_true (below_all R b.0 l) (is_sorted R l) s).0)
+      (λ lt s. below_further a.0 b.0 l (less_is (R a.0 b.0) lt) (both_true (below_all R b.0 l) (is_sorted R l) s).0)
 
 module _ {K X : Type 0} (R : K → K → Ordering) where
   rises_more : (l : List (K × X)) (i : ℕ) (a b : K × X) → 1 ≤ i → i < length l → a ≡ get_or l (i - 1) a → b ≡ get_or l i b
@@ -43,7 +42,7 @@ module _ {K X : Type 0} (R : K → K → Ordering) where
   rises_more l i a b le lt first second =
       let j : i - 1 + 1 ≡ i = omega arith in
       let one : drop (i - 1) l ≡ a ∷ drop i l =
-          drop_more l (i - 1) a (omega arith) ∙ ap (λ (x : K × X). x ∷ drop (i - 1 + 1) l) (sym first) ∙ ap (λ (k : ℕ). a ∷ drop k l) j in
+      drop_more l (i - 1) a (omega arith) ∙ ap (λ (x : K × X). x ∷ drop (i - 1 + 1) l) (sym first) ∙ ap (λ (k : ℕ). a ∷ drop k l) j in
       let two : drop i l ≡ b ∷ drop (i + 1) l = drop_more l i b lt ∙ ap (λ (x : K × X). x ∷ drop (i + 1) l) (sym second) in
       ap (rises R) (one ∙ ap (λ (ls : List (K × X)). a ∷ ls) two) ∙ ap (λ (ls : List (K × X)). is_lt (R a.0 b.0) && rises R ls) (sym two)
 

@@ -1,31 +1,26 @@
 -- Blocks of shards.
-use Rattle.std.proofs.Common.{◌≡◌, ◌≢◌, ℕ, zero, suc, get_or, ◌+◌, ◌*◌, ◌/◌, ◌%◌, ◌^◌, ◌<◌, ◌≤◌, List, [], ◌∷◌, ◌++◌, length, map, refl, ap, arith, subst, sym, ◌∙◌, ◌⊎◌, inl, inr, Ok, Err, Result, Bool, true, false, cond, Option, None, Some, IsTrue, nat_eq, nat_lt, Ordering, Less, Equal, Greater}
-use Rattle.std.specs.Prelude.{◌↔◌, ◌&&◌, IfOk, MatchResult, MatchOption}
-use Rattle.std.specs.Bool.{MatchBool}
+use Rattle.std.proofs.Common.{◌≡◌, ◌≢◌, ℕ, zero, suc, get_or, ◌+◌, ◌/◌, ◌%◌, ◌^◌, ◌<◌, ◌≤◌, List, [], ◌∷◌, ◌++◌, length, map, refl, ap, arith, subst, sym, ◌∙◌, ◌⊎◌, inl, inr, Ok, Err, Result, Bool, true, cond, Some, nat_eq, Less, Equal, Greater}
+use Rattle.std.specs.Prelude.{◌&&◌, IfOk, MatchResult}
 use Rattle.std.specs.Cmp.{nat_cmp_total}
-use Rattle.std.specs.Cmp.Lexicographic.{pointwise, slice_cmp}
+use Rattle.std.specs.Cmp.Lexicographic.{slice_cmp}
 use Rattle.std.specs.List.{AllByRecursion}
 use Rattle.std.specs.Ordering.{is_lt, is_le, nat_cmp, ordering_then}
-use Rattle.std.proofs.lemmas.Bool.{false≢true, le-ltb, lt-ltb, eq-eqb, cases_lt}
+use Rattle.std.proofs.lemmas.Bool.{le-ltb, lt-ltb, eq-eqb, cases_lt}
 use Rattle.std.proofs.lemmas.Bool.Decides.{nat_tests}
-use Rattle.std.proofs.lemmas.Str.{IsUtf8-from_is_utf8, is_utf8-from_IsUtf8, IsUtf8-append, IsUtf8-from_ascii, IsUtf8-nil}
+use Rattle.std.proofs.lemmas.Str.{IsUtf8-from_is_utf8, IsUtf8-append, IsUtf8-from_ascii, IsUtf8-nil}
 use Rattle.std.specs.Str.{IsUtf8}
 use Rattle.uf_cid.specs.declared.bytes.Memory.{Memory}
 use Rattle.uf_cid.specs.declared.bytes.StrictFault.{StrictFault}
 use Rattle.uf_cid.specs.declared.bytes.StrictFault.TheVariants as strict
-use Rattle.uf_tree.proofs.SameBytes.{decides_bytes}
 use Rattle.uf_dagpb.specs.declared.node.Link.{Link}
 use Rattle.uf_dagpb.specs.declared.node.Node.{Node}
 use Rattle.uf_dagpb.specs.Spelling.{node_bytes, are_sorted, AreLinks, IsLink, IsNode}
 use Rattle.uf_tree.specs.Codecs.{Reads, shard_dag, shard_spelling}
 use Rattle.uf_tree.specs.Nodes.{InSlot, hex_digit, item_entry, item_name, shard_block, slot_digits, slot_link}
 use Rattle.uf_tree.specs.Rising.{rises}
-use Rattle.uf_tree.specs.Validity.{IsEntry, IsInSlot, IsItem, IsNamed, IsShard}
-use Rattle.uf_tree.specs.declared.nodes.Entry.{Entry}
+use Rattle.uf_tree.specs.Validity.{IsEntry, IsInSlot, IsItem, IsShard}
 use Rattle.uf_tree.specs.declared.nodes.Item.{Item}
 use Rattle.uf_tree.specs.declared.nodes.Item.TheVariants.{Leaf, Sub}
-use Rattle.uf_tree.specs.Names.{is_good, is_name}
-use Rattle.uf_tree.proofs.Directories.{lt-le}
 use Rattle.uf_tree.proofs.Reading.{node_refused, node_read}
 use Rattle.uf_tree.proofs.Rises.{rises-sorted}
 use Rattle.uf_tree.proofs.Sizes.{shard_length, name_length}
@@ -202,6 +197,7 @@ one_shard (p ∷ l) (q ∷ m) h k e =
   where
     heads : (a b : Link) (x y : List Link) → a ∷ x ≡ b ∷ y → a ≡ b
     heads a b x y e = cc
+
     tails : (a b : Link) (x y : List Link) → a ∷ x ≡ b ∷ y → x ≡ y
     tails a b x y e = cc
 

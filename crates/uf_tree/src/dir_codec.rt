@@ -40,7 +40,9 @@ fn node_of_pairs(alloc: Global, pairs: &[Pair]) -> Result<Block, Memory>
 fn room(pairs: &[Pair]) -> usize {
     let mut room = 4usize;
     for pair in pairs {
-        room = room.saturating_add(pair.name.as_str().len()).saturating_add(55);
+        room = room
+            .saturating_add(pair.name.as_str().len())
+            .saturating_add(55);
     }
     room
 }

@@ -9,9 +9,9 @@ ghost use Rattle.uf_tree.specs.Nodes.{file_block, file_message};
 ghost use Rattle.uf_tree.specs.Validity.{IsFileNode, IsPartLink};
 ghost use Rattle.uf_varint.specs.Fields.{content_field};
 
+use crate::checks::{is_file_node, total};
 use crate::spelling::{put_bytes, put_link};
 use crate::{Entry, FileNode};
-use crate::checks::{is_file_node, total};
 use std::alloc::Global;
 use uf_cid::{Block, Memory, Sizes, StrictFault};
 use uf_dagpb::{Link, Node, decode_strict};

@@ -2,10 +2,13 @@
 ghost use Rattle.std.specs.Prelude.{◌≡◌, ◌<◌, ◌≤◌, ◌^◌, ◌++◌, ◌↔◌, ◌&&◌, IfOk, IsTrue, OnOk, codes, length, nat_le, if◌then◌else◌};
 ghost use Rattle.std.specs.Fmt.{decimal};
 ghost use Rattle.std.specs.Option.{option_copied, option_map};
+ghost use Rattle.uf_cid.specs.Read.{IsCid};
+ghost use Rattle.uf_cid.specs.declared.cid.Cid.{Cid as TheCid};
 ghost use Rattle.uf_cid.specs.declared.cid.Codec.TheVariants.{DagPb as NodeCodec};
 ghost use Rattle.uf_tree.specs.HeadReading.{GivesHead, behind as behind_word, first_line as first_line_of, head_reads, is_node as is_node_codec, line_at, number_in, number_line as number_line_of, root_in, root_line as root_line_of, worded_at};
 ghost use Rattle.uf_tree.specs.Heads.{head_text as text_of_head, line as the_line};
 ghost use Rattle.uf_tree.specs.Profiles.{is_profile};
+ghost use Rattle.uf_tree.specs.declared.profile.Profile.{Profile as TheProfile};
 
 use crate::{Head, HeadFault, Profile};
 use std::alloc::Global;
@@ -98,7 +101,14 @@ fn first_line(bytes: &[u8]) -> Result<&[u8], HeadFault>
 
 // The number of a line, and what stands behind the line.
 #[tactic(auto, unfolding(crate::specs::HeadReading::number_line))]
-fn number_line<'a>(alloc: Global, n: u8, word: &[u8], low: u32, high: u32, bytes: &'a [u8]) -> Result<(u32, &'a [u8]), HeadFault>
+fn number_line<'a>(
+    alloc: Global,
+    n: u8,
+    word: &[u8],
+    low: u32,
+    high: u32,
+    bytes: &'a [u8],
+) -> Result<(u32, &'a [u8]), HeadFault>
     ensures { GivesHead (λ x. (x.0, x.1.now)) result (number_line_of n word.now low high bytes.now) }
 {
     match worded(word, bytes) {
@@ -224,3 +234,8 @@ fn is_node(codec: Codec) -> bool
         Codec::DagPb => true,
     }
 }
+
+/// The text of a Head is read as that Head.
+pub fn heads_are_read_again()
+    ensures { (p : TheProfile) (c : TheCid) → IsTrue (is_profile p) → IsCid c → c.codec ≡ NodeCodec → head_reads (text_of_head p c) ≡ Ok (record { profile = p; root = c }) }
+{}

@@ -22,7 +22,7 @@ pub use checks::{is_directory, is_file_node, is_shard};
 pub use dir_codec::{dir_node, read_dir_node};
 pub use file_codec::{file_node, read_file_node};
 pub use head_fault::HeadFault;
-pub use heads::{head_text, read_head};
+pub use heads::{head_text, heads_are_read_again, read_head};
 pub use limits::BadProfile;
 pub use name::{Name, NameFault, Names};
 pub use nodes::{Entry, FileNode, Item, Items, Pair, Pairs, Part, Parts, Placed};

@@ -13,8 +13,7 @@ impl Profile {
     /// The profile of a greatest piece of 1 to 1048576 bytes, of 2 to 1024 links of a node and of a threshold of at most
     /// 1048576.
     pub fn new(chunk: u32, width: u32, threshold: u32) -> Result<Profile, BadProfile>
-        ensures {
-            let asked : TheProfile = record { chunk = chunk; width = width; threshold = threshold } in
+        ensures { let asked : TheProfile = record { chunk = chunk; width = width; threshold = threshold } in
             MatchResult result (λ p. (p ≡ asked) × IsTrue (is_profile asked)) (λ _. is_profile asked ≡ false) }
     {
         let profile = Profile {

@@ -51,7 +51,11 @@ fn with_content(alloc: Global, items: Items, content: &Option<Block>) -> Result<
 }
 
 // Whether the content is the message of a shard of these items.
-fn is_shard_content(alloc: Global, items: &[Placed], content: &Option<Block>) -> Result<bool, Memory>
+fn is_shard_content(
+    alloc: Global,
+    items: &[Placed],
+    content: &Option<Block>,
+) -> Result<bool, Memory>
     ensures { IfOk result (λ b. IsTrue b ↔ (content.now ≡ Some (shard_spelling items.now))) }
 {
     match content {

@@ -104,9 +104,7 @@ const SIZES: [u8; 98] = [
     0x20, 0x02,
 ];
 
-const BARE: [u8; 6] = [
-    0x0a, 0x04, 0x08, 0x02, 0x18, 0x00,
-];
+const BARE: [u8; 6] = [0x0a, 0x04, 0x08, 0x02, 0x18, 0x00];
 
 const TWICE: [u8; 94] = [
     0x12, 0x2b, 0x0a, 0x24, 0x01, 0x55, 0x12, 0x20, 0xe3, 0xb0, 0xc4, 0x42, 0x98, 0xfc, 0x1c, 0x14,
@@ -249,7 +247,8 @@ fn heads_are_read_and_written(rt: HostRuntime) -> Result<(), Fail> {
         profile: Profile::usual(),
         root: Cid::of::<Sha256Hash>(Codec::DagPb, &EMPTY),
     };
-    let text = b"unixfs-head 1\nchunk 262144\nwidth 174\nthreshold 262144\nroot bafybeiczsscdsbs7ffqz55asqdf3smv6klcw3gofszvwlyarci47bgf354\n";
+    let text =
+        b"unixfs-head 1\nchunk 262144\nwidth 174\nthreshold 262144\nroot bafybeiczsscdsbs7ffqz55asqdf3smv6klcw3gofszvwlyarci47bgf354\n";
     assert_eq!(rt; head_text(rt.alloc(), &head)?.as_slice(), text.as_slice());
     assert_eq!(rt; read_head(rt.alloc(), text), Ok(head));
     let rows: [(&[u8], HeadFault); 18] = [
@@ -266,11 +265,23 @@ fn heads_are_read_and_written(rt: HostRuntime) -> Result<(), Fail> {
         (b"unixfs-head 1\nchunk \n", HeadFault::Number(2)),
         (b"unixfs-head 1\nchunk 1\nthreshold 2\n", HeadFault::Line(3)),
         (b"unixfs-head 1\nchunk 1\nwidth 1\n", HeadFault::Number(3)),
-        (b"unixfs-head 1\nchunk 1\nwidth 1025\n", HeadFault::Number(3)),
+        (
+            b"unixfs-head 1\nchunk 1\nwidth 1025\n",
+            HeadFault::Number(3),
+        ),
         (b"unixfs-head 1\nchunk 1\nwidth 2\n", HeadFault::Line(4)),
-        (b"unixfs-head 1\nchunk 1\nwidth 2\nthreshold -1\n", HeadFault::Number(4)),
-        (b"unixfs-head 1\nchunk 1\nwidth 2\nthreshold 0\n", HeadFault::Line(5)),
-        (b"unixfs-head 1\nchunk 1\nwidth 2\nthreshold 0\nroot \n", HeadFault::Root),
+        (
+            b"unixfs-head 1\nchunk 1\nwidth 2\nthreshold -1\n",
+            HeadFault::Number(4),
+        ),
+        (
+            b"unixfs-head 1\nchunk 1\nwidth 2\nthreshold 0\n",
+            HeadFault::Line(5),
+        ),
+        (
+            b"unixfs-head 1\nchunk 1\nwidth 2\nthreshold 0\nroot \n",
+            HeadFault::Root,
+        ),
     ];
     for (bytes, fault) in rows {
         assert_eq!(rt; read_head(rt.alloc(), bytes), Err(fault));

@@ -1,6 +1,5 @@
 use Rattle.std.proofs.Common.{◌≡◌, ◌-◌, drop}
 use Rattle.std.specs.Ordering.{nat_cmp}
-use Rattle.uf_tree.specs.Names.{names_cmp}
 use Rattle.uf_tree.specs.Rising.{rises}
 use Rattle.uf_tree.proofs.checks.slots_rise.Given as goal
 

@@ -1,4 +1,4 @@
-use Rattle.std.proofs.Common.{◌≡◌, ◌∙◌, true, false, arith, rules}
+use Rattle.std.proofs.Common.{◌∙◌, arith}
 use Rattle.uf_tree.proofs.HeadLines.{number_no_text, number_unread, number_other, number_same}
 use Rattle.uf_tree.proofs.heads.number.Goals as goal
 

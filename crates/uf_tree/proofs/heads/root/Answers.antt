@@ -10,4 +10,4 @@ returns-then-eq c =
     let node : c.is_node.result ≡ true = search rules in
     sym (ap (λ (t : Bool). cond t (Some c.in-Ok-parse.cid) None) c.if-eq.true)
     ∙ root_judged c.args.text.now c.in-Ok.spelled.now c.text.result c.as_slice.result.now c.in-Ok-parse.cid c.is_node.result c.eq.result c.in-Ok.ensures.cases.1 c.in-Ok.ensures.cases.0 c.in-Ok-parse.ensures
-        c.is_node.ensures node c.text.ensures c.as_slice.ensures c.eq.ensures
+    c.is_node.ensures node c.text.ensures c.as_slice.ensures c.eq.ensures

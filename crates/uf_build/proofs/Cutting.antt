@@ -1,0 +1,34 @@
+-- Bytes that are taken from the front.
+use Rattle.std.proofs.Common.{◌≡◌, ℕ, ◌+◌, ◌-◌, ◌*◌, ◌<◌, ◌≤◌, List, [], ◌∷◌, ◌++◌, length, refl, ap, arith, sym, ◌∙◌, take, drop, append_assoc, length-take, length-drop}
+use Rattle.std.proofs.Math.Seq.{take-add}
+use Rattle.std.proofs.Math.Nat.{mul-le-mul_right}
+use Rattle.std.proofs.lemmas.List.{take-append-drop, take_all}
+
+pub more : (bytes : List ℕ) (i c : ℕ) → take ((i + 1) * c) bytes ≡ take (i * c) bytes ++ take (i * c + c - i * c) (drop (i * c) bytes)
+more bytes i c =
+    let sum : (i + 1) * c ≡ i * c + c = omega arith in
+    let one : c ≡ i * c + c - i * c = omega arith in
+    ap (λ n. take n bytes) sum ∙ take-add (i * c) c bytes ∙ ap (λ n. take (i * c) bytes ++ take n (drop (i * c) bytes)) one
+
+pub piece-size : (bytes : List ℕ) (i c count : ℕ) → i < count → length bytes ≡ count * c → length (take (i * c + c - i * c) (drop (i * c) bytes)) ≡ c
+piece-size bytes i c count lt all =
+    let fits : (i + 1) * c ≤ count * c = mul-le-mul_right c (omega arith) in
+    omega (arith, length-take (i * c + c - i * c) (drop (i * c) bytes), length-drop (i * c) bytes)
+
+pub whole : (bytes : List ℕ) (i c count : ℕ) → i ≡ count → length bytes ≡ count * c → take (i * c) bytes ≡ bytes
+whole bytes i c count is all = ap (λ n. take (n * c) bytes) is ∙ ap (λ n. take n bytes) (sym all) ∙ take_all (length bytes) bytes (omega arith)
+
+pub goes-on : (bytes done rest group behind : List ℕ) (n : ℕ) → bytes ≡ done ++ rest → group ≡ take n rest → behind ≡ drop n rest → bytes ≡ (done ++ group) ++ behind
+goes-on bytes done rest group behind n is front back =
+    is ∙ ap (λ l. done ++ l) (sym (take-append-drop n rest)) ∙ sym (append_assoc done (take n rest) (drop n rest))
+    ∙ ap (λ l. (done ++ l) ++ drop n rest) (sym front) ∙ ap (λ l. (done ++ group) ++ l) (sym back)
+
+pub splits : (bytes group behind : List ℕ) (front n : ℕ) → front ≤ length bytes → group ≡ take n (take (length bytes - front) (drop front bytes)) → behind ≡ drop n (take (length bytes - front) (drop front bytes))
+    → bytes ≡ (take front bytes ++ group) ++ behind
+splits bytes group behind front n fits is back =
+    let rest : take (length bytes - front) (drop front bytes) ≡ drop front bytes = take_all (length bytes - front) (drop front bytes) (omega (arith, length-drop front bytes)) in
+    goes-on bytes (take front bytes) (drop front bytes) group behind n (sym (take-append-drop front bytes)) (is ∙ ap (take n) rest) (back ∙ ap (drop n) rest)
+
+pub no-length : {A : Type 0} (xs : List A) → length xs ≡ 0 → xs ≡ []
+no-length [] h = refl
+no-length (x ∷ xs) h = absurd (omega arith)

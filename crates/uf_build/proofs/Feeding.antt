@@ -1,0 +1,151 @@
+-- What a builder keeps as it takes bytes.
+use Rattle.std.proofs.Common.{◌≡◌, ℕ, suc, ◌+◌, ◌<◌, ◌≤◌, List, [], ◌∷◌, ◌++◌, length, refl, ap, arith, sym, ◌∙◌, map, subst, cond, ◌⊎◌, inl, inr, append_assoc, length-append}
+use Rattle.std.specs.List.{AllByRecursion}
+use Rattle.std.proofs.lemmas.List.{append-nil, map-append}
+use Rattle.std.proofs.lemmas.Bool.{cases_lt}
+use Rattle.std.proofs.lemmas.List.Sums.{sum_by-cons}
+use Rattle.uf_cid.specs.Blocks.{Held}
+use Rattle.uf_store.specs.Contents.{Told}
+use Rattle.uf_store.specs.Keeping.{Holds, KeepsGood}
+use Rattle.uf_store.proofs.Keeping.{Holds-kept, KeepsGood-trans}
+use Rattle.uf_tree.specs.Cutting.{joined}
+use Rattle.uf_tree.specs.FilePlan.{node_part, node_held, leaf_part, leaf_held}
+use Rattle.uf_tree.specs.declared.nodes.Part.{Part}
+use Rattle.uf_tree.specs.declared.profile.Profile.{Profile}
+use Rattle.uf_tree.proofs.Each.{both, each_map}
+use Rattle.uf_build.specs.Building.{ArePieces, Builds, Any, IsHeld, Adds, Feeds}
+use Rattle.uf_build.specs.Rows.{AreRows, AreShort, size_of, sizes_of, push_row, push_held, push_up, held_up}
+use Rattle.uf_build.proofs.Carry.{rows-push, joined-push, length-push, is_below, not_below}
+use Rattle.uf_build.proofs.Holding.{each-held}
+use Rattle.uf_build.proofs.Up.{size-push}
+
+module _ (X : List ℕ → List ℕ) (w : ℕ) (two : 2 ≤ w) where
+  pub short-push : (rows : List (List Part)) (m : Part) → AreShort w rows → AreShort w (push_row X w m rows)
+  short-push [] m h = (omega arith, tt)
+  short-push (g ∷ gs) m h = by (cases_lt (length g + 1) w) (short-push gs (node_part X (g ++ m ∷ [])) h.1)
+    where
+      by : (length g + 1 < w) ⊎ (w ≤ length g + 1) → AreShort w (push_row X w (node_part X (g ++ m ∷ [])) gs) → AreShort w (push_row X w m (g ∷ gs))
+      by (inl short) later = subst (λ b. AreShort w (cond b ((g ++ m ∷ []) ∷ gs) ([] ∷ push_row X w (node_part X (g ++ m ∷ [])) gs))) (sym (is_below _ w short)) (omega (arith, length-push g m), h.1)
+      by (inr long) later = subst (λ b. AreShort w (cond b ((g ++ m ∷ []) ∷ gs) ([] ∷ push_row X w (node_part X (g ++ m ∷ [])) gs))) (sym (not_below _ w long)) (omega arith, later)
+
+  pub sizes-push : (rows : List (List Part)) (m : Part) → sizes_of (push_row X w m rows) ≡ sizes_of rows + m.size
+  sizes-push [] m = omega (arith, sum_by-cons size_of (m ∷ []) [], sum_by-cons (λ (m : Part). m.size) m [])
+  sizes-push (g ∷ gs) m = by (cases_lt (length g + 1) w) (sizes-push gs (node_part X (g ++ m ∷ [])))
+    where
+      by : (length g + 1 < w) ⊎ (w ≤ length g + 1) → sizes_of (push_row X w (node_part X (g ++ m ∷ [])) gs) ≡ sizes_of gs + size_of (g ++ m ∷ []) → sizes_of (push_row X w m (g ∷ gs)) ≡ sizes_of (g ∷ gs) + m.size
+      by (inl short) later =
+          ap (λ b. sizes_of (cond b ((g ++ m ∷ []) ∷ gs) ([] ∷ push_row X w (node_part X (g ++ m ∷ [])) gs))) (is_below _ w short)
+          ∙ omega (arith, sum_by-cons size_of (g ++ m ∷ []) gs, sum_by-cons size_of g gs, size-push g m)
+      by (inr long) later =
+          ap (λ b. sizes_of (cond b ((g ++ m ∷ []) ∷ gs) ([] ∷ push_row X w (node_part X (g ++ m ∷ [])) gs))) (not_below _ w long)
+          ∙ omega (arith, later, sum_by-cons size_of [] (push_row X w (node_part X (g ++ m ∷ [])) gs), sum_by-cons size_of g gs, size-push g m)
+
+module _ (X : List ℕ → List ℕ) (w : ℕ) (P Q : Held → Type 0) (up : (b : Held) → X b.1 ≡ b.0.digest → P b → Q b) where
+  nodes-mono : (full : List (List Part)) → AllByRecursion P (map (node_held X) full) → AllByRecursion Q (map (node_held X) full)
+  nodes-mono [] h = tt
+  nodes-mono (f ∷ full) h = (up (node_held X f) refl h.0, nodes-mono full h.1)
+
+  leaves-mono : (pieces : List (List ℕ)) → AllByRecursion P (map (leaf_held X) pieces) → AllByRecursion Q (map (leaf_held X) pieces)
+  leaves-mono [] h = tt
+  leaves-mono (f ∷ pieces) h = (up (leaf_held X f) refl h.0, leaves-mono pieces h.1)
+
+  rows-mono : (rows : List (List Part)) (row : List Part) → AreRows X w P row rows → AreRows X w Q row rows
+  rows-mono [] row h = h
+  rows-mono (g ∷ gs) row h = (h.0, h.1, h.2, h.3, h.4, nodes-mono h.0 h.5, rows-mono gs (map (node_part X) h.0) h.6)
+
+module _ (X : List ℕ → List ℕ) (p : Profile) where
+  pub pieces-mono : (P Q : Held → Type 0) → ((b : Held) → X b.1 ≡ b.0.digest → P b → Q b) → (pieces : List (List ℕ)) (rows : List (List Part))
+      → ArePieces X P p pieces rows → ArePieces X Q p pieces rows
+  pieces-mono P Q up pieces rows h = record { held = leaves-mono X p.width P Q up pieces h.held; rows_are = rows-mono X p.width P Q up rows (map (leaf_part X) pieces) h.rows_are }
+
+  pub builds-mono : (P Q : Held → Type 0) → ((b : Held) → X b.1 ≡ b.0.digest → P b → Q b) → (bytes begun : List ℕ) (rows : List (List Part)) → Builds X P p bytes begun rows → Builds X Q p bytes begun rows
+  builds-mono P Q up bytes begun rows h = record { pieces = h.pieces; cut = h.cut; whole = h.whole; are_pieces = pieces-mono P Q up h.pieces rows h.are_pieces }
+
+  pub held-mono : (told told_now : Told) → KeepsGood X told told_now → (b : Held) → X b.1 ≡ b.0.digest → IsHeld told b → IsHeld told_now b
+  held-mono told told_now keeps b good held = Holds-kept X told told_now (b ∷ []) (good, tt) keeps held
+
+module _ (X : List ℕ → List ℕ) (p : Profile) (two : 2 ≤ p.width) where
+  -- one piece more
+  pieces-push : (P : Held → Type 0) (pieces : List (List ℕ)) (piece : List ℕ) (rows : List (List Part)) → P (leaf_held X piece) → AllByRecursion P (push_held X p.width (leaf_part X piece) rows)
+      → ArePieces X P p pieces rows → ArePieces X P p (pieces ++ piece ∷ []) (push_row X p.width (leaf_part X piece) rows)
+  pieces-push P pieces piece rows leaf nodes h = record {
+    held = subst (AllByRecursion P) (sym (map-append (leaf_held X) pieces (piece ∷ []))) (both P (map (leaf_held X) pieces) (leaf_held X piece ∷ []) h.held (leaf, tt));
+    rows_are = subst (λ r. AreRows X p.width P r (push_row X p.width (leaf_part X piece) rows)) (sym (map-append (leaf_part X) pieces (piece ∷ [])))
+        (rows-push X p.width two P rows (map (leaf_part X) pieces) (leaf_part X piece) nodes h.rows_are);
+  }
+
+  pub any : (l : List Held) → AllByRecursion Any l
+  any [] = tt
+  any (b ∷ l) = (tt, any l)
+
+  pub Adds-push : (piece : List ℕ) (part : Part) (rows rows_now : List (List Part)) (told told_mid told_now : Told) → AreShort p.width rows → part ≡ leaf_part X piece
+      → rows_now ≡ push_up X p.width 0 part rows → KeepsGood X told told_mid → KeepsGood X told_mid told_now → Holds told_mid (leaf_held X piece ∷ []) → Holds told_now (held_up X p.width 0 part rows)
+      → Adds X p piece rows rows_now told told_now
+  Adds-push piece part rows rows_now told told_mid told_now short made pushed first then leaf nodes =
+      let now : rows_now ≡ push_row X p.width (leaf_part X piece) rows = pushed ∙ ap (λ m. push_row X p.width m rows) made in
+      let held = subst (λ m. Holds told_now (push_held X p.width m rows)) made nodes in
+      record {
+        short = subst (AreShort p.width) (sym now) (short-push X p.width two rows (leaf_part X piece) short);
+        sizes = ap sizes_of now ∙ sizes-push X p.width two rows (leaf_part X piece);
+        fed = λ pieces h. subst (ArePieces X Any p (pieces ++ piece ∷ [])) (sym now) (pieces-push Any pieces piece rows tt (any _) h);
+        held = λ pieces h. subst (ArePieces X (IsHeld told_now) p (pieces ++ piece ∷ [])) (sym now)
+            (pieces-push (IsHeld told_now) pieces piece rows (held-mono X p told_mid told_now then (leaf_held X piece) refl leaf) (each-held told_now _ held)
+            (pieces-mono X p (IsHeld told) (IsHeld told_now) (held-mono X p told told_now (KeepsGood-trans X told told_mid told_now first then)) pieces rows h));
+      }
+
+  -- nothing, more bytes of the piece that was begun, a whole piece, and one behind the other
+  builds-begun : (P : Held → Type 0) (front bytes begun : List ℕ) (rows : List (List Part)) → Builds X P p front begun rows → Builds X P p (front ++ bytes) (begun ++ bytes) rows
+  builds-begun P front bytes begun rows h = record {
+    pieces = h.pieces;
+    cut = ap (λ l. l ++ bytes) h.cut ∙ append_assoc (joined h.pieces) begun bytes;
+    whole = h.whole;
+    are_pieces = h.are_pieces;
+  }
+
+  pub Feeds-begun : (bytes begun : List ℕ) (rows : List (List Part)) (told : Told) → AreShort p.width rows → Feeds X p bytes begun (begun ++ bytes) rows rows told told
+  Feeds-begun bytes begun rows told short = record {
+    short = short;
+    sizes = omega (arith, length-append begun bytes);
+    fed = λ front h. builds-begun Any front bytes begun rows h;
+    held = λ front h. builds-begun (IsHeld told) front bytes begun rows h;
+  }
+
+  pub Feeds-nothing : (begun : List ℕ) (rows : List (List Part)) (told : Told) → AreShort p.width rows → Feeds X p [] begun begun rows rows told told
+  Feeds-nothing begun rows told short = subst (λ b. Feeds X p [] begun b rows rows told told) (append-nil begun) (Feeds-begun [] begun rows told short)
+
+  builds-piece : (P Q : Held → Type 0) (front bytes begun piece : List ℕ) (rows rows_now : List (List Part)) → begun ++ bytes ≡ piece → length piece ≡ p.chunk
+      → ((pieces : List (List ℕ)) → ArePieces X P p pieces rows → ArePieces X Q p (pieces ++ piece ∷ []) rows_now)
+      → Builds X P p front begun rows → Builds X Q p (front ++ bytes) [] rows_now
+  builds-piece P Q front bytes begun piece rows rows_now is whole adds h = record {
+    pieces = h.pieces ++ piece ∷ [];
+    cut = ap (λ l. l ++ bytes) h.cut ∙ append_assoc (joined h.pieces) begun bytes ∙ ap (λ l. joined h.pieces ++ l) is ∙ sym (joined-push h.pieces piece) ∙ sym (append-nil _);
+    whole = both (λ (piece : List ℕ). length piece ≡ p.chunk) h.pieces (piece ∷ []) h.whole (whole, tt);
+    are_pieces = adds h.pieces h.are_pieces;
+  }
+
+  pub Feeds-piece : (bytes begun begun_now piece : List ℕ) (rows rows_now : List (List Part)) (told told_now : Told) → begun ++ bytes ≡ piece → length piece ≡ p.chunk → begun_now ≡ []
+      → Adds X p piece rows rows_now told told_now → Feeds X p bytes begun begun_now rows rows_now told told_now
+  Feeds-piece bytes begun begun_now piece rows rows_now told told_now is whole none adds = record {
+    short = adds.short;
+    sizes = omega (arith, adds.sizes, ap length is, length-append begun bytes, ap length none);
+    fed = λ front h. subst (λ b. Builds X Any p (front ++ bytes) b rows_now) (sym none) (builds-piece Any Any front bytes begun piece rows rows_now is whole adds.fed h);
+    held = λ front h. subst (λ b. Builds X (IsHeld told_now) p (front ++ bytes) b rows_now) (sym none) (builds-piece (IsHeld told) (IsHeld told_now) front bytes begun piece rows rows_now is whole adds.held h);
+  }
+
+  pub Feeds-trans : (a b begun begun_mid begun_now : List ℕ) (rows rows_mid rows_now : List (List Part)) (told told_mid told_now : Told)
+      → Feeds X p a begun begun_mid rows rows_mid told told_mid → Feeds X p b begun_mid begun_now rows_mid rows_now told_mid told_now → Feeds X p (a ++ b) begun begun_now rows rows_now told told_now
+  Feeds-trans a b begun begun_mid begun_now rows rows_mid rows_now told told_mid told_now first then = record {
+    short = then.short;
+    sizes = omega (arith, first.sizes, then.sizes, length-append a b);
+    fed = λ front h. subst (λ l. Builds X Any p l begun_now rows_now) (append_assoc front a b) (then.fed (front ++ a) (first.fed front h));
+    held = λ front h. subst (λ l. Builds X (IsHeld told_now) p l begun_now rows_now) (append_assoc front a b) (then.held (front ++ a) (first.held front h));
+  }
+
+-- at first
+pub builds-new : (X : List ℕ → List ℕ) (P : Held → Type 0) (p : Profile) (begun : List ℕ) (rows : List (List Part)) → begun ≡ [] → rows ≡ [] → Builds X P p [] begun rows
+builds-new X P p begun rows none no_rows = record {
+  pieces = [];
+  cut = sym none;
+  whole = tt;
+  are_pieces = record { held = tt; rows_are = subst (λ rows. AreRows X p.width P [] rows) (sym no_rows) refl };
+}

@@ -1,0 +1,6 @@
+pub mod Carry
+pub mod Cutting
+pub mod Ending
+pub mod Feeding
+pub mod Holding
+pub mod Up

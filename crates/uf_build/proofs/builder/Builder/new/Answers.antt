@@ -1,0 +1,11 @@
+use Rattle.uf_build.specs.Building.{Any, IsHeld, HasFed, HoldsFed}
+use Rattle.uf_build.proofs.Feeding.{builds-new}
+use Rattle.uf_build.proofs.builder.Builder.new.Goals as goal
+
+pub returns-clause-fed : goal.returns-clause-fed
+unfolding HasFed
+returns-clause-fed c = λ X. builds-new X Any c.args.p c.new.result.items c.new-2.result.items c.new.ensures.items c.new-2.ensures.items
+
+pub returns-clause-held : goal.returns-clause-held
+unfolding HoldsFed
+returns-clause-held c = λ X told. builds-new X (IsHeld told) c.args.p c.new.result.items c.new-2.result.items c.new.ensures.items c.new-2.ensures.items

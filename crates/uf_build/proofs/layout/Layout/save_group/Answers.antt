@@ -1,0 +1,49 @@
+use Rattle.std.proofs.Common.{◌≡◌, ℕ, ◌+◌, ◌-◌, ◌*◌, ◌<◌, ◌≤◌, List, [], ◌∷◌, ◌++◌, length, take, drop, arith, ap, sym, ◌∙◌, subst}
+use Rattle.uf_store.proofs.Keeping.{KeepsGood-trans, SavesOnly-trans}
+use Rattle.uf_store.proofs.Causes.{StaysCalm-trans}
+use Rattle.uf_tree.specs.declared.profile.Profile.{Profile}
+use Rattle.uf_tree.proofs.Told.{kept}
+use Rattle.uf_build.specs.Building.{Adds, Feeds}
+use Rattle.uf_build.specs.Layouts.{Takes}
+use Rattle.uf_build.proofs.Cutting.{more, piece-size, whole}
+use Rattle.uf_build.proofs.Feeding.{Feeds-piece, Feeds-trans}
+use Rattle.uf_build.proofs.layout.Layout.save_group.Goals as goal
+
+pub returns-in-Err-clause-good : goal.returns-in-Err-clause-good
+returns-in-Err-clause-good g c = KeepsGood-trans _ _ _ _ c.loop-i.invariant.good c.save_leaf.ensures.good
+
+pub loop-i-preserved : goal.loop-i-preserved
+loop-i-preserved g c =
+    let hash : List ℕ → List ℕ = g.S.X.BlockHash.block32 in
+    let p = c.args.self.now.profile in
+    let two = (kept c.args.self.now.profile c.requires.can.profile).two in
+    let i = c.loop-i.i in
+    let bytes = c.args.bytes.now in
+    let before = (g.S.Store.seen c.args.store.now).told in
+    let mid = (g.S.Store.seen c.loop-i.store).told in
+    let now = (g.S.Store.seen c.save_leaf.new.store).told in
+    let piece : List ℕ = take (i * p.chunk + p.chunk - i * p.chunk) (drop (i * p.chunk) bytes) in
+    let size : length piece ≡ p.chunk = piece-size bytes i p.chunk c.args.count (omega arith) c.requires.count in
+    let adds = subst (λ (q : Profile). Adds hash q piece c.loop-i.self.rows.items c.save_leaf.new.rows.items mid now) c.loop-i.invariant.profile c.in-Ok.ensures.adds in
+    record {
+      took = record {
+        same_profile = c.loop-i.invariant.profile;
+        feeds = subst (λ (l : List ℕ). Feeds hash p l c.args.self.now.begun.items c.loop-i.self.begun.items c.args.self.now.rows.items c.save_leaf.new.rows.items before now)
+            (sym (more bytes i p.chunk))
+            (Feeds-trans hash p two (take (i * p.chunk) bytes) piece c.args.self.now.begun.items c.loop-i.self.begun.items c.loop-i.self.begun.items
+            c.args.self.now.rows.items c.loop-i.self.rows.items c.save_leaf.new.rows.items before mid now c.loop-i.invariant.took.feeds
+            (Feeds-piece hash p two piece c.loop-i.self.begun.items c.loop-i.self.begun.items piece c.loop-i.self.rows.items c.save_leaf.new.rows.items mid now
+            (ap (λ (l : List ℕ). l ++ piece) c.loop-i.invariant.begun) size c.loop-i.invariant.begun adds));
+      };
+      profile = c.loop-i.invariant.profile;
+      begun = c.loop-i.invariant.begun;
+      calm = StaysCalm-trans _ _ _ c.loop-i.invariant.calm c.in-Ok.ensures.cause;
+      good = KeepsGood-trans _ _ _ _ c.loop-i.invariant.good c.save_leaf.ensures.good;
+      saves = SavesOnly-trans _ _ _ c.loop-i.invariant.saves c.save_leaf.ensures.saves;
+    }
+
+pub returns-clause-took : goal.returns-clause-took
+returns-clause-took g c =
+    let is : c.loop-i.i ≡ c.args.count = omega (arith, c.loop-i.auto.i-end) in
+    subst (λ (l : List ℕ). Takes g.S.X.BlockHash.block32 l c.args.self.now c.loop-i.self (g.S.Store.seen c.args.store.now).told (g.S.Store.seen c.loop-i.store).told)
+    (whole c.args.bytes.now c.loop-i.i c.args.self.now.profile.chunk c.args.count is c.requires.count) c.loop-i.invariant.took

@@ -1,0 +1,19 @@
+use Rattle.std.proofs.Common.{◌≡◌, ℕ, ◌*◌, List, ◌++◌, length}
+use Rattle.uf_store.specs.Faults.{StaysCalm}
+use Rattle.uf_store.specs.Keeping.{KeepsGood, SavesOnly}
+use Rattle.uf_build.specs.Layouts.{Takes}
+use Rattle.uf_build.proofs.layout.Layout.save_pieces.Given as goal
+
+abbrev pub invariant-loop-left : goal.invariant-loop-left
+invariant-loop-left g l = record {
+  took : (done : List ℕ) × (l.bytes ≡ done ++ l.rest) × Takes g.S.X.BlockHash.block32 done l.initial.self l.self (g.S.Store.seen l.initial.store).told (g.S.Store.seen l.store).told;
+  profile : l.self.profile ≡ l.initial.self.profile;
+  begun : l.self.begun.items ≡ l.initial.self.begun.items;
+  left : length l.rest ≡ l.left * l.chunk;
+  calm : StaysCalm (g.S.Store.seen l.initial.store) (g.S.Store.seen l.store);
+  good : KeepsGood g.S.X.BlockHash.block32 (g.S.Store.seen l.initial.store).told (g.S.Store.seen l.store).told;
+  saves : SavesOnly (g.S.Store.seen l.initial.store).told (g.S.Store.seen l.store).told;
+}
+
+abbrev pub decreases-loop-left : goal.decreases-loop-left
+decreases-loop-left g l = l.left

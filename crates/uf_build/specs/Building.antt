@@ -1,0 +1,80 @@
+-- What contracts see of a builder of a file.
+use Rattle.std.specs.Prelude.{◌≡◌, ℕ, ◌+◌, ◌*◌, ◌<◌, ◌≤◌, List, [], ◌∷◌, ◌++◌, length, map, Bool, IsTrue, ⊤}
+use Rattle.std.specs.List.{AllByRecursion}
+use Rattle.uf_cid.specs.Blocks.{Held}
+use Rattle.uf_store.specs.Contents.{Told}
+use Rattle.uf_store.specs.Keeping.{Holds}
+use Rattle.uf_tree.specs.Cutting.{joined}
+use Rattle.uf_tree.specs.FilePlan.{chunks, leaf_part, leaf_held}
+use Rattle.uf_tree.specs.Profiles.{is_profile}
+use Rattle.uf_tree.specs.declared.nodes.Part.{Part}
+use Rattle.uf_tree.specs.declared.profile.Profile.{Profile}
+use Rattle.uf_build.specs.Rows.{AreRows, AreShort, sizes_of}
+
+-- a builder: its profile, how many bytes it was fed, whether it gave up, the piece that it has begun, and its open groups
+pub record Building : Type 0 where
+  pub profile : Profile
+  pub fed : ℕ
+  pub is_spent : Bool
+  pub begun : List ℕ
+  pub rows : List (List Part)
+
+-- the most bytes of a file
+abbrev pub most_bytes : Profile → ℕ
+most_bytes p = p.chunk * 4194304
+
+-- pieces of a file and the open groups over them, of whose saved blocks P holds
+pub record ArePieces (X : List ℕ → List ℕ) (P : Held → Type 0) (p : Profile) (pieces : List (List ℕ)) (rows : List (List Part)) : Type 0 where
+  pub held : AllByRecursion P (map (leaf_held X) pieces)
+  pub rows_are : AreRows X p.width P (map (leaf_part X) pieces) rows
+
+-- these bytes are whole pieces, and the piece that was begun
+pub record Builds (X : List ℕ → List ℕ) (P : Held → Type 0) (p : Profile) (bytes begun : List ℕ) (rows : List (List Part)) : Type 0 where
+  pub pieces : List (List ℕ)
+  pub cut : bytes ≡ joined pieces ++ begun
+  pub whole : AllByRecursion (λ piece. length piece ≡ p.chunk) pieces
+  pub are_pieces : ArePieces X P p pieces rows
+
+-- any block
+abbrev pub Any : Held → Type 0
+Any block = ⊤
+
+-- a block that is held where the store tells
+abbrev pub IsHeld : Told → Held → Type 0
+IsHeld told block = Holds told (block ∷ [])
+
+-- the builder was fed these bytes
+unfoldable pub HasFed : (List ℕ → List ℕ) → List ℕ → Building → Type 0
+HasFed X bytes b = Builds X Any b.profile bytes b.begun b.rows
+
+-- the builder was fed these bytes, and what it has saved of their plan is held where the store tells
+unfoldable pub HoldsFed : (List ℕ → List ℕ) → List ℕ → Told → Building → Type 0
+HoldsFed X bytes told b = Builds X (IsHeld told) b.profile bytes b.begun b.rows
+
+-- what every builder keeps that has not given up: room in its piece and in its groups, and no more bytes than it was fed
+pub record IsReady (p : Profile) (fed : ℕ) (begun : List ℕ) (rows : List (List Part)) : Type 0 where
+  pub room : length begun < p.chunk
+  pub short : AreShort p.width rows
+  pub sizes : sizes_of rows + length begun ≡ fed
+  pub most : fed ≤ most_bytes p
+
+-- the open groups after one more piece, of which nothing is lost
+pub record Adds (X : List ℕ → List ℕ) (p : Profile) (piece : List ℕ) (rows rows_now : List (List Part)) (told told_now : Told) : Type 0 where
+  pub short : AreShort p.width rows_now
+  pub sizes : sizes_of rows_now ≡ sizes_of rows + length piece
+  pub fed : (pieces : List (List ℕ)) → ArePieces X Any p pieces rows → ArePieces X Any p (pieces ++ piece ∷ []) rows_now
+  pub held : (pieces : List (List ℕ)) → ArePieces X (IsHeld told) p pieces rows → ArePieces X (IsHeld told_now) p (pieces ++ piece ∷ []) rows_now
+
+-- the piece that was begun and the open groups after more bytes, of which nothing is lost
+pub record Feeds (X : List ℕ → List ℕ) (p : Profile) (bytes begun begun_now : List ℕ) (rows rows_now : List (List Part)) (told told_now : Told) : Type 0 where
+  pub short : AreShort p.width rows_now
+  pub sizes : sizes_of rows_now + length begun_now ≡ sizes_of rows + length begun + length bytes
+  pub fed : (front : List ℕ) → Builds X Any p front begun rows → Builds X Any p (front ++ bytes) begun_now rows_now
+  pub held : (front : List ℕ) → Builds X (IsHeld told) p front begun rows → Builds X (IsHeld told_now) p (front ++ bytes) begun_now rows_now
+
+-- the open groups over all pieces of a file, the last of which was begun
+pub record Ends (X : List ℕ → List ℕ) (p : Profile) (begun : List ℕ) (rows rows_now : List (List Part)) (told told_now : Told) : Type 0 where
+  pub short : AreShort p.width rows_now
+  pub sizes : sizes_of rows_now ≡ sizes_of rows + length begun
+  pub fed : (bytes : List ℕ) → Builds X Any p bytes begun rows → ArePieces X Any p (chunks p bytes) rows_now
+  pub held : (bytes : List ℕ) → Builds X (IsHeld told) p bytes begun rows → ArePieces X (IsHeld told_now) p (chunks p bytes) rows_now

@@ -1,0 +1,132 @@
+// The builder of a file.
+ghost use Rattle.std.specs.Prelude.{◌≡◌, ◌+◌, ◌<◌, ◌≤◌, ◌++◌, List, ℕ, [], length, false, IfOk, OnOk, IfErr, IsTrue};
+ghost use Rattle.uf_store.specs.Contents.{Told};
+ghost use Rattle.uf_store.specs.Keeping.{Holds, KeepsGood, SavesOnly};
+ghost use Rattle.uf_tree.specs.FilePlan.{file_plan};
+ghost use Rattle.uf_tree.specs.Profiles.{is_profile};
+ghost use Rattle.uf_build.specs.Answers.{Shown, IsFeedAnswer, IsFinishAnswer};
+ghost use Rattle.uf_build.specs.Building.{HasFed, HoldsFed};
+
+use crate::BuildFault;
+use crate::layout::Layout;
+use std::alloc::Global;
+use std::marker::Model;
+use std::sync::ledger::Ledger;
+use uf_store::{Steps, Store};
+use uf_tree::{Entry, Profile};
+
+// How many pieces a file may have.
+const MOST_PIECES: u64 = 4194304;
+
+/// Builds a file of the bytes that it is fed, in pieces of any sizes. It keeps one piece of the file and one group of links
+/// for each row, however long the file is. Contracts see its profile, how many bytes it was fed, and whether it gave up.
+#[derive(Drop)]
+pub struct Builder {
+    layout: Layout,
+    fed: u64,
+    is_spent: bool,
+}
+
+impl Model for Builder {
+    ghost use Rattle.uf_build.specs.Building.{Building};
+
+    ghost Value = { Building };
+
+    ghost use Rattle.uf_build.specs.Inside.{building_of, IsSound};
+
+    ghost view = { building_of };
+
+    ghost invariant = { IsSound };
+}
+
+impl Builder {
+    /// A builder that was fed nothing.
+    pub fn new(alloc: Global, p: Profile) -> Builder
+        requires { IsTrue (is_profile p) }
+        ensures profile { result.profile ≡ p }
+        ensures count { result.fed ≡ 0 }
+        ensures spent { result.is_spent ≡ false }
+        ensures fed { (X : List ℕ → List ℕ) → HasFed X [] result }
+        ensures held { (X : List ℕ → List ℕ) (told : Told) → HoldsFed X [] told result }
+    {
+        let layout = Layout {
+            alloc,
+            profile: p,
+            begun: Vec::new(alloc),
+            rows: Vec::new(alloc),
+        };
+        Builder {
+            layout,
+            fed: 0,
+            is_spent: false,
+        }
+    }
+
+    /// Takes the next bytes of the file, and saves the blocks that they make whole. After a fault every call of this
+    /// builder answers `Spent`.
+    pub fn feed<S: Store, L: Ledger>(
+        &mut self,
+        store: &mut S,
+        piece: &[u8],
+        touches: &mut Steps<L>,
+    ) -> Result<(), BuildFault>
+        ensures answer { IsFeedAnswer self.old (length piece.now) self.new result }
+        ensures profile { self.new.profile ≡ self.old.profile }
+        ensures fed { OnOk result ((bytes : List ℕ) → HasFed S.X.block32 bytes self.old → HasFed S.X.block32 (bytes ++ piece.now) self.new) }
+        ensures held { OnOk result ((bytes : List ℕ) → HoldsFed S.X.block32 bytes (S.seen store.old).told self.old
+            → HoldsFed S.X.block32 (bytes ++ piece.now) (S.seen store.new).told self.new) }
+
+        // No fault was passed over, what was good stays, and nothing but blocks was written.
+        ensures cause { Shown S.X.block32 result (S.seen store.old) (S.seen store.new) }
+        ensures good { KeepsGood S.X.block32 (S.seen store.old).told (S.seen store.new).told }
+        ensures saves { SavesOnly (S.seen store.old).told (S.seen store.new).told }
+    {
+        if self.is_spent {
+            return Err(BuildFault::Spent);
+        }
+        let most = u64::from(self.layout.profile.chunk) * MOST_PIECES;
+        let more = piece.len() as u64;
+        if more > most - self.fed {
+            self.is_spent = true;
+            return Err(BuildFault::FileTooLong);
+        }
+        match self.layout.take(store, piece, touches) {
+            Ok(()) => {
+                self.fed += more;
+                Ok(())
+            }
+            Err(fault) => {
+                self.is_spent = true;
+                Err(BuildFault::Store(fault))
+            }
+        }
+    }
+
+    /// Saves what is left of the file's blocks, and answers its entry.
+    pub fn finish<S: Store, L: Ledger>(
+        self,
+        store: &mut S,
+        touches: &mut Steps<L>,
+    ) -> Result<Entry, BuildFault>
+        ensures answer { IsFinishAnswer self result }
+        ensures entry { IfOk result (λ e. (bytes : List ℕ) → HasFed S.X.block32 bytes self → e ≡ (file_plan S.X.block32 self.profile bytes).entry) }
+        ensures held { OnOk result ((bytes : List ℕ) → HoldsFed S.X.block32 bytes (S.seen store.old).told self
+            → Holds (S.seen store.new).told (file_plan S.X.block32 self.profile bytes).blocks) }
+        ensures cause { Shown S.X.block32 result (S.seen store.old) (S.seen store.new) }
+        ensures good { KeepsGood S.X.block32 (S.seen store.old).told (S.seen store.new).told }
+        ensures saves { SavesOnly (S.seen store.old).told (S.seen store.new).told }
+    {
+        let Builder {
+            layout,
+            fed: _,
+            is_spent,
+        } = self;
+        if is_spent {
+            return Err(BuildFault::Spent);
+        }
+        match layout.close(store, touches) {
+            Ok(entry) => Ok(entry),
+            Err(fault) => Err(BuildFault::Store(fault)),
+        }
+    }
+}

@@ -1,0 +1,99 @@
+// The node over a group of parts.
+ghost use Rattle.std.specs.Prelude.{◌≡◌, ◌+◌, ◌<◌, ◌≤◌, ◌^◌, ◌∷◌, [], length, IfOk, OnOk, IfErr};
+ghost use Rattle.std.specs.List.{AllByRecursion, sum_by};
+ghost use Rattle.uf_store.specs.Faults.{Answers, NoneIsBad};
+ghost use Rattle.uf_store.specs.Keeping.{Holds, KeepsGood, SavesOnly};
+ghost use Rattle.uf_tree.specs.FilePlan.{node_over, node_part, node_held};
+ghost use Rattle.uf_tree.specs.Nodes.{capped, link_of};
+ghost use Rattle.uf_tree.specs.Validity.{IsPartLink};
+ghost use Rattle.uf_build.specs.Answers.{IsSaving};
+
+use std::alloc::Global;
+use std::sync::ledger::Ledger;
+use uf_cid::{Cid, Codec, Memory, Seq, Text, cids_are_whole};
+use uf_dagpb::Link;
+use uf_store::{Steps, Store, StoreFault, save_block};
+use uf_tree::{Entry, FileNode, Part, file_node};
+
+// Saves the node over a group, and answers it as a part of the row above. At most one touch.
+pub fn save_node<S: Store, L: Ledger>(
+    alloc: Global,
+    store: &mut S,
+    parts: &[Part],
+    touches: &mut Steps<L>,
+) -> Result<Part, StoreFault>
+    requires some { 1 ≤ length parts.now }
+    requires few { length parts.now ≤ 1024 }
+    requires size { sum_by (λ m. m.size) parts.now < 2 ^ 63 }
+    ensures part { IfOk result (λ part. part ≡ node_part S.X.block32 parts.now) }
+    ensures held { OnOk result (Holds (S.seen store.new).told (node_held S.X.block32 parts.now ∷ [])) }
+    ensures cause { Answers S.X.block32 NoneIsBad result (S.seen store.old) (S.seen store.new) }
+    ensures fault { IfErr result IsSaving }
+    ensures good { KeepsGood S.X.block32 (S.seen store.old).told (S.seen store.new).told }
+    ensures saves { SavesOnly (S.seen store.old).told (S.seen store.new).told }
+    ensures touches { touches.new ≤ touches.old + 1 }
+{
+    let Ok(node) = node_of(alloc, parts) else {
+        return Err(StoreFault::Memory);
+    };
+    let Ok(block) = file_node(alloc, &node) else {
+        return Err(StoreFault::Memory);
+    };
+    let bytes = block.as_slice();
+    match save_block(alloc, store, Codec::DagPb, bytes, touches) {
+        Ok(cid) => Ok(Part {
+            entry: Entry {
+                cid,
+                tsize: tsize_over(bytes, parts),
+            },
+            size: size_over(parts),
+        }),
+        Err(fault) => Err(fault),
+    }
+}
+
+// The links of a group's node, and the sizes.
+fn node_of(alloc: Global, parts: &[Part]) -> Result<FileNode, Memory>
+    ensures node { IfOk result (λ node. node ≡ node_over parts.now) }
+    ensures valid { IfOk result (λ node. AllByRecursion IsPartLink node.parts) }
+{
+    let mut links = Seq::new(alloc);
+    let mut sizes = Seq::new(alloc);
+    for part in parts {
+        links.push(link_to(alloc, part.entry.cid, part.entry.tsize))?;
+        sizes.push(part.size)?;
+    }
+    Ok(FileNode {
+        parts: links,
+        sizes,
+    })
+}
+
+// The link to a part: it has no name.
+fn link_to(alloc: Global, cid: Cid, tsize: u64) -> Link
+    ensures link { result ≡ link_of [] (record { cid = cid; tsize = tsize }) }
+    ensures valid { IsPartLink result }
+{
+    cids_are_whole(&cid);
+    let name = Text::new(alloc);
+    Link { cid, name, tsize }
+}
+
+// The length of a node's block and the Tsizes of its links; a greater number counts as the greatest.
+fn tsize_over(bytes: &[u8], parts: &[Part]) -> u64
+    ensures { result ≡ capped (length bytes.now + sum_by (λ m. m.entry.tsize) parts.now) }
+{
+    let mut total = bytes.len() as u64;
+    for part in parts {
+        total = total.saturating_add(part.entry.tsize);
+    }
+    total
+}
+
+// How many bytes of the file are below a group.
+fn size_over(parts: &[Part]) -> u64
+    requires { sum_by (λ m. m.size) parts.now < 2 ^ 63 }
+    ensures { result ≡ sum_by (λ m. m.size) parts.now }
+{
+    parts.iter().map(|part| part.size).sum()
+}

@@ -1,0 +1,11 @@
+use Rattle.std.proofs.Common.{length}
+use denote.Text.{Utf8}
+use denote.Shadow.{shadow}
+use Rattle.uf_path.proofs.Parts.{Reading}
+use Rattle.uf_path.proofs.reading.read_names.Given as goal
+
+abbrev pub invariant-loop-part : goal.invariant-loop-part
+invariant-loop-part l = shadow (Utf8 l.rest) × Reading l.start l.text l.names l.at l.rest
+
+abbrev pub decreases-loop-part : goal.decreases-loop-part
+decreases-loop-part l = length l.rest

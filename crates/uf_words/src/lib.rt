@@ -1,0 +1,14 @@
+//! The words of a command line, and names as they are printed.
+#![tactic(auto)]
+
+mod command;
+mod options;
+mod printing;
+mod reading;
+
+pub use command::{Cmd, WordFault};
+pub use printing::{shown, shown_text_is_read_again};
+pub use reading::read_words;
+
+#[cfg(test)]
+mod tests;
