@@ -1,0 +1,4 @@
+pub mod Ways
+pub mod Readings
+pub mod One
+pub mod Reaching

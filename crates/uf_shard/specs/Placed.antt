@@ -1,0 +1,25 @@
+-- The items of a shard where it is read.
+use Rattle.std.specs.Prelude.{◌<◌, ℕ, List, map}
+use Rattle.std.specs.List.{AllByRecursion, range_with_len}
+use Rattle.uf_murmur.specs.Slots.{slot}
+use Rattle.uf_store.specs.declared.store.Role.{Role}
+use Rattle.uf_store.specs.declared.store.Role.TheVariants.{Directory, Shard, FileNode, Leaf}
+use Rattle.uf_tree.specs.Nodes.{InSlot}
+use Rattle.uf_tree.specs.Roles.{IsCanonicalShard, IsOnWay}
+use Rattle.uf_tree.specs.Validity.{IsShard}
+
+-- the slots of a hash at the levels above one (UnixFS v1, "HAMTDirectory")
+abbrev pub way : ℕ → ℕ → List ℕ
+way hash level = map (slot hash) (range_with_len 0 level)
+
+-- the slots of a shard behind the slots on the way to it
+pub record IsPlaced (N : List ℕ → ℕ) (above : List ℕ) (items : List InSlot) : Type 0 where
+  pub valid : IsShard items
+  pub on_way : AllByRecursion (IsOnWay N above) items
+
+-- a block that isn't canonical as the shard of its level on the way of a hash
+abbrev pub IsBadOnWay : (List ℕ → ℕ) → ℕ → Role → List ℕ → Type 0
+IsBadOnWay N hash Directory bytes = ⊥
+IsBadOnWay N hash (Shard level) bytes = (level < 8) × (IsCanonicalShard N (way hash level) bytes → ⊥)
+IsBadOnWay N hash FileNode bytes = ⊥
+IsBadOnWay N hash Leaf bytes = ⊥

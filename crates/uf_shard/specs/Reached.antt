@@ -1,0 +1,55 @@
+-- Shards on the way of a name.
+use Rattle.std.specs.Prelude.{◌≡◌, ◌≤◌, ◌-◌, ℕ, List, length, ⊤, Some, None, IfSome}
+use Rattle.std.specs.declared.result.Result.{Result}
+use Rattle.std.specs.declared.result.Result.TheVariants.{Ok, Err}
+use Rattle.std.specs.FinMap.Entries.{find}
+use Rattle.std.specs.List.{AllByRecursion}
+use Rattle.std.specs.Ordering.{nat_cmp}
+use Rattle.uf_cid.specs.declared.cid.Cid.{Cid}
+use Rattle.uf_murmur.specs.Slots.{slot}
+use Rattle.uf_store.specs.Contents.{held_at}
+use Rattle.uf_store.specs.Seen.{Seen}
+use Rattle.uf_store.specs.declared.store.StoreFault.{StoreFault}
+use Rattle.uf_store.specs.declared.store.StoreFault.TheVariants.{Failed, Damaged, Missing, BadBlock, Clash, Memory}
+use Rattle.uf_store.specs.declared.store.Role.{Role}
+use Rattle.uf_store.specs.declared.store.Role.TheVariants.{Shard}
+use Rattle.uf_tree.specs.Nodes.{InSlot, Named, shard_block}
+use Rattle.uf_tree.specs.Roles.{IsCanonicalShard}
+use Rattle.uf_tree.specs.ShardPlan.{shard}
+use Rattle.uf_tree.specs.Shardable.{HasShard}
+use Rattle.uf_tree.specs.Validity.{IsDirectory}
+use Rattle.uf_shard.specs.Placed.{IsPlaced, way}
+use Rattle.uf_shard.specs.Spots.{spot_of}
+use Rattle.uf_shard.specs.declared.spot.Spot.{Spot}
+
+-- the CID is that of the shard of these pairs, which is reached on the way of a hash with so many levels left
+pub record IsReached (X : List ℕ → List ℕ) (N : List ℕ → ℕ) (hash left : ℕ) (root : Cid) (l : List Named) : Type 0 where
+  pub valid : IsDirectory l
+  pub some : 1 ≤ length l
+  pub apart : HasShard N left l
+  pub along : AllByRecursion (λ (e : Named). way (N e.0) (7 - left) ≡ way hash (7 - left)) l
+  pub cid : root ≡ (shard X N left l).entry.cid
+
+-- the block was found, and is a shard that says this of a name
+pub record SaysOf (N : List ℕ → ℕ) (hash level : ℕ) (cid : Cid) (name : List ℕ) (before now : Seen) (spot : Spot) : Type 0 where
+  pub items : List InSlot
+  pub placed : IsPlaced N (way hash level) items
+  pub is : now.lent ≡ shard_block items
+  pub held : IfSome before.told (λ t. held_at t cid ≡ Some now.lent)
+  pub says : spot ≡ spot_of name (find nat_cmp (slot hash level) items)
+
+-- the block was found, and isn't canonical as the shard of this level
+pub record IsBadThere (N : List ℕ → ℕ) (hash level : ℕ) (cid : Cid) (r : Role) (before now : Seen) : Type 0 where
+  pub role : r ≡ Shard level
+  pub held : IfSome before.told (λ t. held_at t cid ≡ Some now.lent)
+  pub bad : IsCanonicalShard N (way hash level) now.lent → ⊥
+
+-- a shard was looked at, or its block is lost or bad, or the store failed
+abbrev pub LooksAt : (List ℕ → ℕ) → ℕ → ℕ → Cid → List ℕ → Seen → Seen → Result Spot StoreFault → Type 0
+LooksAt N hash level cid name before now (Ok spot) = SaysOf N hash level cid name before now spot
+LooksAt N hash level cid name before now (Err Failed) = ⊤
+LooksAt N hash level cid name before now (Err (Damaged c)) = ⊤
+LooksAt N hash level cid name before now (Err (Missing c)) = (c ≡ cid) × IfSome before.told (λ t. held_at t cid ≡ None)
+LooksAt N hash level cid name before now (Err (BadBlock c role)) = IsBadThere N hash level cid role before now
+LooksAt N hash level cid name before now (Err (Clash c held bytes)) = ⊥
+LooksAt N hash level cid name before now (Err Memory) = ⊤
