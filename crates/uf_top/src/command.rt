@@ -46,22 +46,22 @@ pub fn run<S: Store, I: Source, O: Sink, E: Sink, L: Ledger>(
     // Words that are refused read nothing.
     ensures reads { result ≡ Status.Usage → input.new ≡ input.old }
 
-    // A line goes to `errors`, and the store is left alone.
+    // A line goes to `errors`; the store and its touches are left alone.
     ensures errors { IsSent (error_line result) (E.holds errors.old) (E.holds errors.new) (E.faults errors.old) (E.faults errors.new) }
     ensures store { store.new ≡ store.old }
+    ensures touches { touches.new ≡ touches.old }
 {
-    let status = dispatch::<S::X, I, O, L>(alloc, words, input, output, touches);
+    let status = dispatch::<S::X, I, O>(alloc, words, input, output);
     let _ = write_all(errors, status.error_line());
     status
 }
 
 // The command that the words say.
-fn dispatch<X: BlockHash, I: Source, O: Sink, L: Ledger>(
+fn dispatch<X: BlockHash, I: Source, O: Sink>(
     alloc: Global,
     words: &[String],
     input: &mut I,
     output: &mut O,
-    touches: &mut Steps<L>,
 ) -> Status
     ensures answers { is_add_only_hash (map string_bytes words.now) ≡ true → Stood (I.faults input.old) (I.faults input.new) → Stood (O.faults output.old) (O.faults output.new)
         → Answers (add_reply X.block32) result (I.left input.old) (O.holds output.old) (O.holds output.new) }
@@ -75,18 +75,17 @@ fn dispatch<X: BlockHash, I: Source, O: Sink, L: Ledger>(
     ensures reads { result ≡ Status.Usage → input.new ≡ input.old }
 {
     if are_add_only_hash(words) {
-        add_only_hash::<X, I, O, L>(alloc, input, output, touches)
+        add_only_hash::<X, I, O>(alloc, input, output)
     } else {
         Status::Usage
     }
 }
 
 // Reads the input and prints its row.
-fn add_only_hash<X: BlockHash, I: Source, O: Sink, L: Ledger>(
+fn add_only_hash<X: BlockHash, I: Source, O: Sink>(
     alloc: Global,
     input: &mut I,
     output: &mut O,
-    touches: &mut Steps<L>,
 ) -> Status
     ensures answers { Stood (I.faults input.old) (I.faults input.new) → Stood (O.faults output.old) (O.faults output.new)
         → Answers (add_reply X.block32) result (I.left input.old) (O.holds output.old) (O.holds output.new) }
@@ -98,7 +97,7 @@ fn add_only_hash<X: BlockHash, I: Source, O: Sink, L: Ledger>(
     ensures read_told { I.faults input.old < I.faults input.new → result ≡ Status.ReadFault }
     ensures write_told { O.faults output.old < O.faults output.new → result ≡ Status.WriteFault }
 {
-    let entry = match file_of::<X, I, L>(alloc, input, touches) {
+    let entry = match file_of::<X, I>(alloc, input) {
         Ok(entry) => entry,
         Err(NoFile::Failed) => return Status::ReadFault,
         Err(NoFile::TooLong) => return Status::Rule,

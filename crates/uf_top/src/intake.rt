@@ -4,7 +4,8 @@ ghost use Rattle.uf_edge.specs.Counts.{Counts};
 ghost use Rattle.uf_top.specs.Intake.{FeedsNext, FeedsPiece, FeedsRest, GrowsBy, IsFileOf, is_failed};
 
 use std::alloc::{AllocError, Global};
-use std::sync::ledger::Ledger;
+use std::marker::Brand;
+use std::sync::ledger::{Blank, Ledger};
 use uf_build::{BuildFault, Builder};
 use uf_cid::BlockHash;
 use uf_edge::{Filled, Source, fill};
@@ -25,8 +26,32 @@ pub enum NoFile {
     Memory,
 }
 
-/// The entry of the file that the input has, by the usual profile. Nothing is kept.
-pub fn file_of<X: BlockHash, I: Source, L: Ledger>(
+/// The entry of the file that the input has, by the usual profile. Nothing is kept, and no touch is counted.
+pub fn file_of<X: BlockHash, I: Source>(alloc: Global, input: &mut I) -> Result<Entry, NoFile>
+    ensures file { IsFileOf X.block32 result (I.left input.old) (I.left input.new) }
+    ensures counts { Counts (is_failed result) (I.faults input.old) (I.faults input.new) }
+{
+    counted_file_of::<X, I, Brand>(alloc, input, Blank::new(1))
+}
+
+// The same, with a count of its own for the touches of the store that keeps nothing.
+fn counted_file_of<X: BlockHash, I: Source, L: Ledger>(
+    alloc: Global,
+    input: &mut I,
+    blank: Blank,
+) -> Result<Entry, NoFile>
+    requires name { blank.name ≡ L.name }
+    requires parts { blank.parts ≡ L.parts }
+    requires some { 0 < blank.parts }
+    ensures file { IsFileOf X.block32 result (I.left input.old) (I.left input.new) }
+    ensures counts { Counts (is_failed result) (I.faults input.old) (I.faults input.new) }
+{
+    let mut touches = Steps::<L>::new(blank);
+    built_file_of::<X, I, L>(alloc, input, &mut touches)
+}
+
+// The same, with the touches that a builder over a store that keeps nothing makes.
+fn built_file_of<X: BlockHash, I: Source, L: Ledger>(
     alloc: Global,
     input: &mut I,
     touches: &mut Steps<L>,
