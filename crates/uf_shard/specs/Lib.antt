@@ -1,4 +1,5 @@
 pub mod Answers
+pub mod Listing
 pub mod Placed
 pub mod Planned
 pub mod Reached

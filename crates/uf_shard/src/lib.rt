@@ -1,10 +1,16 @@
 //! Directories as trees of shards (UnixFS v1, "HAMTDirectory", with a fanout of 256): a name looked up.
 #![tactic(auto)]
 
+mod building;
+mod fault;
+mod listing;
 mod lookup;
 mod reading;
 mod spot;
 
+pub use building::build;
+pub use fault::DirFault;
+pub use listing::{entries, weight_over};
 pub use lookup::find;
 
 #[cfg(test)]

@@ -13,6 +13,7 @@ pub mod Nodes
 pub mod Profiles
 pub mod Rising
 pub mod Roles
+pub mod Roots
 pub mod ShardPlan
 pub mod Shardable
 pub mod Standing

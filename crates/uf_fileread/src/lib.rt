@@ -1,0 +1,6 @@
+//! Files read (UnixFS v1, "File"): how long one is.
+#![tactic(auto)]
+
+mod measure;
+
+pub use measure::length;

@@ -1,0 +1,56 @@
+// Shard trees read whole.
+ghost use Rattle.std.specs.Prelude.{◌≡◌, ℕ, List, IfOk, IfSome, nat_lt};
+ghost use Rattle.uf_edge.specs.Counts.{Stood};
+ghost use Rattle.uf_store.specs.Contents.{held_at};
+ghost use Rattle.uf_store.specs.Faults.{Answers};
+ghost use Rattle.uf_store.specs.Keeping.{Agrees};
+ghost use Rattle.uf_store.specs.Lost.{ReadsOver};
+ghost use Rattle.uf_tree.specs.DirPlan.{weight};
+ghost use Rattle.uf_tree.specs.Nodes.{Named};
+ghost use Rattle.uf_tree.specs.ShardPlan.{shard};
+ghost use Rattle.uf_tree.specs.Validity.{IsDirectory};
+ghost use Rattle.uf_shard.specs.Listing.{AreRows, IsBadShard, in_order};
+ghost use Rattle.uf_shard.specs.Planned.{IsPlanned};
+
+use std::alloc::Global;
+use std::sync::ledger::Ledger;
+use uf_cid::Cid;
+use uf_store::{Steps, Store, StoreFault};
+use uf_tree::Pairs;
+
+/// The names and entries of the directory whose shard tree has this root, in byte order (UnixFS v1, "HAMTDirectory"). Of a
+/// name that comes twice, which no plan gives, the first in the order of the slots. One touch for each shard.
+pub fn entries<S: Store, L: Ledger>(
+    alloc: Global,
+    store: &mut S,
+    root: &Cid,
+    touches: &mut Steps<L>,
+) -> Result<Pairs, StoreFault>
+    ensures value { (N : List ℕ → ℕ) (l : List Named) → IsPlanned S.X.block32 N root.now l → Agrees (S.seen store.old).told (shard S.X.block32 N 7 l).blocks
+        → Stood (S.seen store.old).faults (S.seen store.new).faults
+        → ReadsOver (S.seen store.old).told (shard S.X.block32 N 7 l).blocks l result }
+    ensures listed { IfSome (S.seen store.old).told (λ t. IfOk result (λ l. (rows : List Named) × AreRows (held_at t) 7 root.now rows × (l ≡ in_order rows))) }
+    ensures valid { IfOk result IsDirectory }
+    ensures cause { Answers S.X.block32 IsBadShard result (S.seen store.old) (S.seen store.new) }
+    ensures told { (S.seen store.new).told ≡ (S.seen store.old).told }
+{
+    Err(StoreFault::Memory)
+}
+
+/// Whether the names of the directory whose shard tree has this root weigh more than a limit, each its length and 36. It
+/// stops as soon as it knows.
+pub fn weight_over<S: Store, L: Ledger>(
+    alloc: Global,
+    store: &mut S,
+    root: &Cid,
+    limit: u64,
+    touches: &mut Steps<L>,
+) -> Result<bool, StoreFault>
+    ensures value { (N : List ℕ → ℕ) (l : List Named) → IsPlanned S.X.block32 N root.now l → Agrees (S.seen store.old).told (shard S.X.block32 N 7 l).blocks
+        → Stood (S.seen store.old).faults (S.seen store.new).faults
+        → ReadsOver (S.seen store.old).told (shard S.X.block32 N 7 l).blocks (nat_lt limit (weight l)) result }
+    ensures cause { Answers S.X.block32 IsBadShard result (S.seen store.old) (S.seen store.new) }
+    ensures told { (S.seen store.new).told ≡ (S.seen store.old).told }
+{
+    Err(StoreFault::Memory)
+}
