@@ -9,6 +9,7 @@ pub mod Each
 pub mod Files
 pub mod Groups
 pub mod HeadAgain
+pub mod HeadIs
 pub mod HeadLines
 pub mod Held
 pub mod Least
