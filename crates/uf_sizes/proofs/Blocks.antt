@@ -1,5 +1,5 @@
 -- How long the blocks of directories are, and what their links have, link for link.
-use Rattle.std.proofs.Common.{◌≡◌, ℕ, zero, suc, ◌+◌, ◌-◌, ◌<◌, ◌≤◌, List, [], ◌∷◌, ◌++◌, length, map, Bool, true, false, cond, Option, Some, None, refl, ap, arith, sym, ◌∙◌, flat_map, length-append}
+use Rattle.std.proofs.Common.{◌≡◌, ℕ, suc, ◌+◌, ◌-◌, ◌≤◌, List, [], ◌∷◌, ◌++◌, length, map, true, false, cond, refl, ap, arith, length-append}
 use Rattle.std.specs.Prelude.{◌==◌, IfSome}
 use Rattle.std.specs.List.{AllByRecursion, sum_by, range_with_len}
 use Rattle.std.proofs.lemmas.List.Sums.{sum_by-cons}
@@ -13,11 +13,9 @@ use Rattle.uf_dagpb.proofs.Lengths.{length-content_field}
 use Rattle.uf_message.specs.Spelling.{message_bytes}
 use Rattle.uf_tree.specs.declared.nodes.Entry.{Entry}
 use Rattle.uf_tree.specs.declared.nodes.Item.{Item}
-use Rattle.uf_tree.specs.declared.nodes.Item.TheVariants.{Leaf, Sub}
 use Rattle.uf_tree.specs.FilePlan.{Plan}
-use Rattle.uf_tree.specs.Names.{names_cmp}
 use Rattle.uf_tree.specs.Nodes.{Named, InSlot, link_of, slot_link, slot_digits, item_name, item_entry, without_zeros, bitfield, bitfield_byte, shard_message, dir_message, dir_block, shard_block}
-use Rattle.uf_tree.specs.ShardPlan.{bucket, shard_items, slot_item, tabulate}
+use Rattle.uf_tree.specs.ShardPlan.{bucket, shard_items, slot_item}
 use Rattle.uf_tree.specs.Validity.{IsNamed}
 use Rattle.uf_tree.proofs.Directories.{dir_content}
 use Rattle.uf_tree.proofs.Each.{each_filter, each_tabulate}
@@ -168,7 +166,7 @@ slot-cid deeper good [] h = tt
 slot-cid deeper good (e ∷ []) h = h.0.entry.cid
 slot-cid deeper good (e ∷ f ∷ l) h = good (e ∷ f ∷ l)
 
--- the pairs of a slot, as a shard at level k finds them
+-- the shard at level k over the shards of `deeper`
 module _ (N : List ℕ → ℕ) (deeper : List Named → Plan) (k : ℕ) where
   -- the Tsize of the shard at level k over shards below it, before it is capped
   abbrev pub shard_size : List Named → ℕ
@@ -185,7 +183,7 @@ module _ (N : List ℕ → ℕ) (deeper : List Named → Plan) (k : ℕ) where
   pub shard-size : HaveCids deeper → (l : List Named) → AllByRecursion IsNamed l → shard_size l ≡ 11 + bits l + slots_cost l
   shard-size good l h =
       let cids : AllByRecursion HasCid (shard_items N deeper k l) = each_tabulate HasCid 256 0 256 (λ s. slot_item deeper (bucket N k s l)) (omega arith)
-          (λ s less. slot-cid deeper good (bucket N k s l) (each_filter IsNamed _ l h)) in
+      (λ s less. slot-cid deeper good (bucket N k s l) (each_filter IsNamed _ l h)) in
       let sum : adds (λ (p : InSlot). item_cost p.1) (shard_items N deeper k l) ≡ total 256 0 (λ s. of_option item_cost (slot_item deeper (bucket N k s l))) = adds-tabulate item_cost 256 0 (λ s. slot_item deeper (bucket N k s l)) in
       let costs : total 256 0 (λ s. of_option item_cost (slot_item deeper (bucket N k s l))) ≡ slots_cost l = λ i. total 256 0 (λ s. cost_of_slot deeper (bucket N k s l) i) in
       omega (arith, items-size (shard_items N deeper k l) cids, sum, costs)

@@ -1,11 +1,10 @@
 -- A shard is at least as large as its pairs, link for link.
-use Rattle.std.proofs.Common.{◌≡◌, ℕ, zero, suc, ◌+◌, ◌-◌, ◌^◌, ◌<◌, ◌≤◌, List, [], ◌∷◌, length, refl, ap, arith, sym, ◌∙◌, ◌⊎◌, inl, inr}
+use Rattle.std.proofs.Common.{◌≡◌, ℕ, zero, suc, ◌+◌, ◌-◌, ◌^◌, ◌<◌, ◌≤◌, List, [], ◌∷◌, length, refl, arith, ◌∙◌, ◌⊎◌, inl, inr}
 use Rattle.std.specs.Prelude.{◌==◌}
 use Rattle.std.specs.List.{AllByRecursion}
 use Rattle.uf_murmur.specs.Slots.{slot}
-use Rattle.uf_cid.specs.Read.{IsCid}
 use Rattle.uf_tree.specs.FilePlan.{Plan}
-use Rattle.uf_tree.specs.Nodes.{Named, node_entry, capped}
+use Rattle.uf_tree.specs.Nodes.{Named, capped}
 use Rattle.uf_tree.specs.ShardPlan.{bucket, shard, no_shard}
 use Rattle.uf_tree.specs.Shardable.{HasShard}
 use Rattle.uf_tree.specs.Validity.{IsHash, IsNamed}

@@ -3,3 +3,7 @@ pub mod Totals
 pub mod Blocks
 pub mod Levels
 pub mod Removal
+pub mod Reasons
+pub mod Removed
+pub mod Under
+pub mod Replaced

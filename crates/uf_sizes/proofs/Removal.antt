@@ -1,9 +1,9 @@
 -- A shard after a name is taken away.
-use Rattle.std.proofs.Common.{◌≡◌, ◌≢◌, ℕ, zero, suc, ◌+◌, ◌-◌, ◌^◌, ◌<◌, ◌≤◌, List, [], ◌∷◌, length, Bool, true, false, cond, T, Some, None, refl, ap, arith, sym, ◌∙◌, ◌⊎◌, inl, inr, subst, Equal}
+use Rattle.std.proofs.Common.{◌≡◌, ◌≢◌, ℕ, zero, suc, ◌+◌, ◌^◌, ◌<◌, ◌≤◌, List, [], ◌∷◌, length, Bool, true, false, cond, T, Some, None, refl, ap, arith, sym, ◌∙◌, ◌⊎◌, inl, inr, subst}
 use Rattle.std.specs.Prelude.{◌==◌, not}
 use Rattle.std.specs.List.{AllByRecursion}
 use Rattle.std.specs.Ordering.{eq_by_cmp}
-use Rattle.std.specs.FinMap.Entries.{find, is_sorted, where_key, find-where_key, is_sorted-where_key}
+use Rattle.std.specs.FinMap.Entries.{find, is_sorted, find-where_key, is_sorted-where_key}
 use Rattle.std.proofs.lemmas.Bool.{cases_eq, cases_lt}
 use Rattle.uf_murmur.specs.Slots.{slot}
 use Rattle.uf_tree.specs.FilePlan.{Plan}
@@ -17,7 +17,7 @@ use Rattle.uf_tree.specs.Validity.{IsHash, IsNamed}
 use Rattle.uf_tree.proofs.Each.{each_filter}
 use Rattle.uf_tree.proofs.ShardLaws.{slot-bound, bucket-remove, eqb_same, eqb_other, names_exact}
 use Rattle.uf_sizes.proofs.Blocks.{slot_cost, bits, slots_cost, bitfield-short, slots_of}
-use Rattle.uf_sizes.proofs.Totals.{total, total-less, adds, adds-without, there, tabulate-keys}
+use Rattle.uf_sizes.proofs.Totals.{total-less, adds, adds-without, there, tabulate-keys}
 use Rattle.uf_sizes.proofs.Widths.{cost, cost-least, cost-less}
 use Rattle.uf_sizes.proofs.Levels.{below, level, size, size-is, pairs_of, pairs-named, leaf_cost, slot-few, slot-deeper, slot-holds, deeper-small, shard-tsize, cap-less}
 
@@ -101,7 +101,7 @@ module _ (X : List ℕ → List ℕ) (N : List ℕ → ℕ) (good : IsHash X) (n
       let fall : (shard X N left after).entry.tsize < (shard X N left b).entry.tsize = omega (arith, cap-less (size X N left after) (size X N left b) less fits.0, shard-tsize X N left after, shard-tsize X N left b) in
       let links : cost 2 (shard X N left after).entry.tsize < cost 2 (shard X N left b).entry.tsize = cost-less 2 _ _ fall in
       let all : slots_cost N (shard X N left) (level X N (suc left)) (without name l) + 1 ≤ slots_cost N (shard X N left) (level X N (suc left)) l =
-          falls (suc left) 1 l sorted (omega (arith, links, slot-deeper (shard X N left) after two, slot-deeper (shard X N left) b both)) in
+      falls (suc left) 1 l sorted (omega (arith, links, slot-deeper (shard X N left) after two, slot-deeper (shard X N left) b both)) in
       omega (arith, all, size-is X N good (suc left) l h, size-is X N good (suc left) (without name l) (each_filter IsNamed _ l h), bits-stay (suc left) l sorted (omega (arith, two)))
 
   -- a shard falls

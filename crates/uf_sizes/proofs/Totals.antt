@@ -1,5 +1,5 @@
 -- Sums over slots, and over the pairs of a list.
-use Rattle.std.proofs.Common.{◌≡◌, ◌≢◌, ℕ, zero, suc, ◌+◌, ◌<◌, ◌≤◌, List, [], ◌∷◌, length, map, Bool, true, false, cond, Option, Some, None, refl, ap, sym, arith, ◌∙◌, ◌⊎◌, inl, inr, subst}
+use Rattle.std.proofs.Common.{◌≡◌, ◌≢◌, ℕ, zero, suc, ◌+◌, ◌<◌, ◌≤◌, List, [], ◌∷◌, map, Bool, true, false, cond, Option, Some, None, refl, ap, sym, arith, ◌∙◌, ◌⊎◌, inl, inr, subst}
 use Rattle.std.specs.Prelude.{◌==◌, not}
 use Rattle.std.specs.List.{cons_option}
 use Rattle.std.specs.Option.{option_map}
@@ -99,7 +99,7 @@ adds-parts c key n less (e ∷ l) =
     let rest : adds c l ≤ total n 0 (λ s. adds c (part s l)) = adds-parts c key n less l in
     let here : key e.0 < n = less e.0 in
     let more : total n 0 (λ s. adds c (part s l)) + c e ≤ total n 0 (λ s. adds c (part s (e ∷ l))) =
-        total-less n 0 (key e.0) (c e) (λ s. adds c (part s l)) (λ s. adds c (part s (e ∷ l))) (omega arith) (omega arith) (λ q other. grows q) at in
+    total-less n 0 (key e.0) (c e) (λ s. adds c (part s l)) (λ s. adds c (part s (e ∷ l))) (omega arith) (omega arith) (λ q other. grows q) at in
     omega arith
   where
     part : ℕ → List Named → List Named
