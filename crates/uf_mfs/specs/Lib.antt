@@ -1,0 +1,5 @@
+pub mod Answers
+pub mod Bad
+pub mod Plain
+pub mod Replies
+pub mod Standing

@@ -1,0 +1,9 @@
+//! The mutable tree: a profile and a root, whose edits make new roots, and the Head that names one of them.
+#![tactic(auto)]
+
+mod changing;
+mod opening;
+mod reading;
+mod types;
+
+pub use types::{Change, Mfs, MfsFault, Ready, Refused, Row, Rows, Rule, Stat, Stop};
