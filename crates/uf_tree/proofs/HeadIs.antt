@@ -274,30 +274,33 @@ after_chunk chunk = number_line 3 (codes "width ") 2 1024 chunk.1 >>= after_widt
 abbrev after_first : List ℕ → Result Head HeadFault
 after_first one = number_line 2 (codes "chunk ") 1 1048576 one >>= after_chunk
 
+in_turn : (bytes one two three four rest : List ℕ) (chunk width threshold : ℕ) (root : Cid) (head : Head) → first_line bytes ≡ Ok one → number_line 2 (codes "chunk ") 1 1048576 one ≡ Ok (chunk, two)
+    → number_line 3 (codes "width ") 2 1024 two ≡ Ok (width, three) → number_line 4 (codes "threshold ") 0 1048576 three ≡ Ok (threshold, four) → root_line four ≡ Ok (root, rest)
+    → after_root chunk width threshold (root, rest) ≡ Ok head → IsHeadOf bytes head
+unfolding head_text
+in_turn bytes one two three four rest chunk width threshold root head first second third fourth fifth last =
+    let ended = end_is chunk width threshold root rest head last in
+    let c = number_line_is 2 1 1048576 (codes "chunk ") one (chunk, two) second in
+    let w = number_line_is 3 2 1024 (codes "width ") two (width, three) third in
+    let t = number_line_is 4 0 1048576 (codes "threshold ") three (threshold, four) fourth in
+    let r = root_line_is four (root, rest) fifth in
+    subst (IsHeadOf bytes) ended.1 (record {
+      profile = accepted chunk width threshold c.1 w.1 t.1;
+      root = r.1.whole;
+      node = r.1.node;
+      text = behind_one_another bytes (line (codes "unixfs-head ") (codes "1")) one (line (codes "chunk ") (decimal chunk)) two (line (codes "width ") (decimal width)) three
+          (line (codes "threshold ") (decimal threshold)) four (line (codes "root ") (cid_text root)) rest (first_line_is bytes one first) c.0 w.0 t.0 r.0 ended.0;
+    })
+
 pub head_is : (bytes : List ℕ) (head : Head) → head_reads bytes ≡ Ok head → IsHeadOf bytes head
-unfolding head_reads head_text
+unfolding head_reads
 head_is bytes head e =
     let a = stepped (first_line bytes) after_first head e in
     let b = stepped (number_line 2 (codes "chunk ") 1 1048576 a.0) after_chunk head a.2 in
     let c = stepped (number_line 3 (codes "width ") 2 1024 b.0.1) (after_width b.0.0) head b.2 in
     let d = stepped (number_line 4 (codes "threshold ") 0 1048576 c.0.1) (after_threshold b.0.0 c.0.0) head c.2 in
     let f = stepped (root_line d.0.1) (after_root b.0.0 c.0.0 d.0.0) head d.2 in
-    let ended = end_is b.0.0 c.0.0 d.0.0 f.0.0 f.0.1 head f.2 in
-    let chunk = number_line_is 2 1 1048576 (codes "chunk ") a.0 b.0 b.1 in
-    let width = number_line_is 3 2 1024 (codes "width ") b.0.1 c.0 c.1 in
-    let threshold = number_line_is 4 0 1048576 (codes "threshold ") c.0.1 d.0 d.1 in
-    let root = root_line_is d.0.1 f.0 f.1 in
-    let one = line (codes "unixfs-head ") (codes "1") in
-    let two = line (codes "chunk ") (decimal b.0.0) in
-    let three = line (codes "width ") (decimal c.0.0) in
-    let four = line (codes "threshold ") (decimal d.0.0) in
-    let five = line (codes "root ") (cid_text f.0.0) in
-    subst (IsHeadOf bytes) ended.1 (record {
-      profile = accepted b.0.0 c.0.0 d.0.0 chunk.1 width.1 threshold.1;
-      root = root.1.whole;
-      node = root.1.node;
-      text = behind_one_another bytes one a.0 two b.0.1 three c.0.1 four d.0.1 five f.0.1 (first_line_is bytes a.0 a.1) chunk.0 width.0 threshold.0 root.0 ended.0;
-    })
+    in_turn bytes a.0 b.0.1 c.0.1 d.0.1 f.0.1 b.0.0 c.0.0 d.0.0 f.0.0 head a.1 b.1 c.1 d.1 f.1 f.2
 
 -- a text that isn't read is none of a Head
 pub head_is_not : (bytes : List ℕ) (fault : HeadFault) → head_reads bytes ≡ Err fault → IsRefusedText bytes
