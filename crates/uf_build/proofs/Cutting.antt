@@ -32,3 +32,10 @@ splits bytes group behind front n fits is back =
 pub no-length : {A : Type 0} (xs : List A) → length xs ≡ 0 → xs ≡ []
 no-length [] h = refl
 no-length (x ∷ xs) h = absurd (omega arith)
+
+-- what is left behind some of so many pieces
+pub left-behind : (left few c rest behind : ℕ) → few ≤ left → rest ≡ left * c → behind ≡ rest - few * c → behind ≡ (left - few) * c
+left-behind left few c rest behind h is back = by (left - few) (omega (arith, h))
+  where
+    by : (k : ℕ) → left ≡ few + k → behind ≡ k * c
+    by k e = let whole : rest ≡ (few + k) * c = is ∙ ap (λ n. n * c) e in omega (arith, whole, back)
