@@ -9,10 +9,10 @@ use Rattle.uf_cid.specs.Blocks.{Held}
 use Rattle.uf_tree.specs.Cutting.{joined}
 use Rattle.uf_tree.specs.FilePlan.{split_from, groups, climb, node_part, node_held, leaf_part}
 use Rattle.uf_tree.specs.declared.nodes.Part.{Part}
-use Rattle.uf_tree.proofs.Behind.{split-short, groups-behind}
 use Rattle.uf_tree.proofs.Climb.{climb-fuel}
 use Rattle.uf_tree.proofs.Each.{both, front, back}
 use Rattle.uf_tree.proofs.Groups.{fewer}
+use Rattle.uf_build.proofs.Cutting.{groups-full, groups-exact}
 use Rattle.uf_build.specs.Rows.{push_row, push_held, carry, carry_held, close, close_held, is_none, members, saved_over, AreRows}
 
 pub is_below : (n m : ℕ) → n < m → nat_lt n m ≡ true
@@ -55,18 +55,6 @@ module _ (X : List ℕ → List ℕ) (w : ℕ) (two : 2 ≤ w) where
   unfolding climb
   over-one m = refl
 
-  groups-full : (full : List (List Part)) (h : List Part) → AllByRecursion IsFull full → 1 ≤ length h → length h ≤ w → groups w (joined full ++ h) ≡ full ++ h ∷ []
-  groups-full [] h all j k = ap (λ (s : List Part × List (List Part)). s.0 ∷ s.1) (split-short w w h k)
-  groups-full (f ∷ full) h all j k =
-      ap (groups w) (append_assoc f (joined full) h)
-      ∙ groups-behind w (omega arith) f (joined full ++ h) all.0 (omega (arith, length-append (joined full) h))
-      ∙ ap (λ gs. f ∷ gs) (groups-full full h all.1 j k)
-
-  groups-exact : (f : List Part) (full : List (List Part)) → AllByRecursion IsFull (f ∷ full) → groups w (joined (f ∷ full)) ≡ f ∷ full
-  groups-exact f [] all = ap (groups w) (append-nil f) ∙ ap (λ (s : List Part × List (List Part)). s.0 ∷ s.1) (split-short w w f (omega (arith, all.0)))
-  groups-exact f (g ∷ full) all =
-      groups-behind w (omega arith) f (joined (g ∷ full)) all.0 (omega (arith, length-append g (joined full), all.1.0)) ∙ ap (λ gs. f ∷ gs) (groups-exact g full all.1)
-
   many-joined : (full : List (List Part)) → AllByRecursion IsFull full → 2 * length full ≤ length (joined full)
   many-joined [] h = omega arith
   many-joined (f ∷ full) h = omega (arith, many-joined full h.1, length-append f (joined full), h.0)
@@ -77,11 +65,11 @@ module _ (X : List ℕ → List ℕ) (w : ℕ) (two : 2 ≤ w) where
 
   over-exact : (full : List (List Part)) → AllByRecursion IsFull full → 1 ≤ length (joined full) → over X w (joined full) ≡ above full
   over-exact [] h j = absurd (omega arith)
-  over-exact (f ∷ full) h j = over-two (joined (f ∷ full)) (omega (arith, many-joined (f ∷ full) h)) ∙ ap above (groups-exact f full h)
+  over-exact (f ∷ full) h j = over-two (joined (f ∷ full)) (omega (arith, many-joined (f ∷ full) h)) ∙ ap above (groups-exact w (omega arith) f full h)
 
   over-full : (full : List (List Part)) (o : List Part) → AllByRecursion IsFull full → 1 ≤ length o → length o ≤ w → 2 ≤ length (joined full ++ o)
       → over X w (joined full ++ o) ≡ above (full ++ o ∷ [])
-  over-full full o h j k l = over-two (joined full ++ o) l ∙ ap above (groups-full full o h j k)
+  over-full full o h j k l = over-two (joined full ++ o) l ∙ ap above (groups-full w (omega arith) full o h j k)
 
   length-full : (full : List (List Part)) → AllByRecursion IsFull full → length (joined full) ≡ w * length full
   length-full [] h = omega arith

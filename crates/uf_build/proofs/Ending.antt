@@ -9,32 +9,14 @@ use Rattle.uf_tree.specs.Cutting.{joined}
 use Rattle.uf_tree.specs.FilePlan.{chunks, groups, climb, file_plan, leaf_part, leaf_held, split_from}
 use Rattle.uf_tree.specs.declared.nodes.Part.{Part}
 use Rattle.uf_tree.specs.declared.profile.Profile.{Profile}
-use Rattle.uf_tree.proofs.Behind.{split-short, groups-behind}
 use Rattle.uf_tree.proofs.Each.{both}
 use Rattle.uf_build.specs.Building.{ArePieces, Builds, Any, IsHeld, Adds, Ends, Feeds, Building, HasFed, SavesUpTo, saved_by}
 use Rattle.uf_build.specs.Rows.{AreRows, AreOpen, members, saved_over, sizes_of, close, close_held, push_row}
 use Rattle.uf_build.proofs.Carry.{over, close-over, row-members, saved_above, saved-split}
 use Rattle.uf_build.proofs.Counting.{more-blocks}
+use Rattle.uf_build.proofs.Cutting.{groups-full, groups-exact}
 use Rattle.uf_build.proofs.Feeding.{pieces-mono, held-mono, any, builds-piece, pieces-push}
 use Rattle.uf_build.proofs.Holding.{each-held, held-each}
-
-module _ (c : ℕ) (pos : 1 ≤ c) where
-  abbrev IsWhole : List ℕ → Type 0
-  IsWhole piece = length piece ≡ c
-
-  -- whole pieces and a shorter one behind them
-  pieces-short : (full : List (List ℕ)) (h : List ℕ) → AllByRecursion IsWhole full → 1 ≤ length h → length h ≤ c → groups c (joined full ++ h) ≡ full ++ h ∷ []
-  pieces-short [] h all j k = ap (λ (s : List ℕ × List (List ℕ)). s.0 ∷ s.1) (split-short c c h k)
-  pieces-short (f ∷ full) h all j k =
-      ap (groups c) (append_assoc f (joined full) h)
-      ∙ groups-behind c pos f (joined full ++ h) all.0 (omega (arith, length-append (joined full) h))
-      ∙ ap (λ gs. f ∷ gs) (pieces-short full h all.1 j k)
-
-  -- whole pieces alone
-  pieces-whole : (f : List ℕ) (full : List (List ℕ)) → AllByRecursion IsWhole (f ∷ full) → groups c (joined (f ∷ full)) ≡ f ∷ full
-  pieces-whole f [] all = ap (groups c) (append-nil f) ∙ ap (λ (s : List ℕ × List (List ℕ)). s.0 ∷ s.1) (split-short c c f (omega (arith, all.0)))
-  pieces-whole f (g ∷ full) all =
-      groups-behind c pos f (joined (g ∷ full)) all.0 (omega (arith, length-append g (joined full), all.1.0)) ∙ ap (λ gs. f ∷ gs) (pieces-whole g full all.1)
 
 module _ (X : List ℕ → List ℕ) (p : Profile) (pos : 1 ≤ p.chunk) (two : 2 ≤ p.width) where
   no-pieces : (pieces : List (List ℕ)) → map (leaf_part X) pieces ≡ [] → pieces ≡ []
@@ -47,13 +29,13 @@ module _ (X : List ℕ → List ℕ) (p : Profile) (pos : 1 ≤ p.chunk) (two : 
   -- the pieces of a file where the last was begun, or where there is no other
   cut-last : (P : Held → Type 0) (begun : List ℕ) (rows : List (List Part)) (bytes : List ℕ) → (1 ≤ length begun) ⊎ (rows ≡ []) → length begun < p.chunk
       → (h : Builds X P p bytes begun rows) → h.pieces ++ begun ∷ [] ≡ chunks p bytes
-  cut-last P begun rows bytes (inl some) short h = sym (ap (groups p.chunk) h.cut ∙ pieces-short p.chunk pos h.pieces begun h.whole some (omega arith))
+  cut-last P begun rows bytes (inl some) short h = sym (ap (groups p.chunk) h.cut ∙ groups-full p.chunk pos h.pieces begun h.whole some (omega arith))
   cut-last P [] rows bytes (inr none) short h =
       let row : map (leaf_part X) h.pieces ≡ [] = subst (λ rows. AreRows X p.width P (map (leaf_part X) h.pieces) rows) none h.are_pieces.rows_are in
       let empty : h.pieces ≡ [] = no-pieces h.pieces row in
       let nothing : bytes ≡ [] = h.cut ∙ ap (λ pieces. joined pieces ++ []) empty in
       ap (λ pieces. pieces ++ [] ∷ []) empty ∙ sym (ap (groups p.chunk) nothing)
-  cut-last P (b ∷ begun) rows bytes (inr none) short h = sym (ap (groups p.chunk) h.cut ∙ pieces-short p.chunk pos h.pieces (b ∷ begun) h.whole (omega arith) (omega arith))
+  cut-last P (b ∷ begun) rows bytes (inr none) short h = sym (ap (groups p.chunk) h.cut ∙ groups-full p.chunk pos h.pieces (b ∷ begun) h.whole (omega arith) (omega arith))
 
   pub Ends-saved : (begun : List ℕ) (rows rows_now : List (List Part)) (told told_now : Told) (touches touches_now : ℕ) → (1 ≤ length begun) ⊎ (rows ≡ []) → length begun < p.chunk
       → Adds X p begun rows rows_now told told_now touches touches_now → Ends X p begun rows rows_now told told_now touches touches_now
@@ -72,7 +54,7 @@ module _ (X : List ℕ → List ℕ) (p : Profile) (pos : 1 ≤ p.chunk) (two : 
     where
       by : (pieces : List (List ℕ)) → bytes ≡ joined pieces ++ [] → AllByRecursion (λ piece. length piece ≡ p.chunk) pieces → 1 ≤ length (map (leaf_part X) pieces) → pieces ≡ chunks p bytes
       by [] cut whole some = absurd (omega arith)
-      by (f ∷ pieces) cut whole some = sym (ap (groups p.chunk) (cut ∙ append-nil _) ∙ pieces-whole p.chunk pos f pieces whole)
+      by (f ∷ pieces) cut whole some = sym (ap (groups p.chunk) (cut ∙ append-nil _) ∙ groups-exact p.chunk pos f pieces whole)
 
   pub Ends-whole : (begun : List ℕ) (rows : List (List Part)) (told : Told) (touches : ℕ) → begun ≡ [] → 1 ≤ length rows → AreOpen p.width rows → Ends X p begun rows rows told told touches touches
   Ends-whole [] [] told touches none some are_open = absurd (omega arith)
@@ -139,7 +121,7 @@ module _ (X : List ℕ → List ℕ) (p : Profile) (pos : 1 ≤ p.chunk) (two : 
           → saved_over p.width (g ∷ gs) ≤ length (file_plan X p bytes).blocks
       by [] cut whole pieces = absurd (omega (arith, pieces.rows_are.4))
       by (f ∷ pieces) cut whole are =
-          let count = count-is (joined (f ∷ pieces)) (g ∷ gs) (subst (λ l. ArePieces X Any p l (g ∷ gs)) (sym (pieces-whole p.chunk pos f pieces whole)) are) in
+          let count = count-is (joined (f ∷ pieces)) (g ∷ gs) (subst (λ l. ArePieces X Any p l (g ∷ gs)) (sym (groups-exact p.chunk pos f pieces whole)) are) in
           omega (arith, count, more-blocks X p (joined (f ∷ pieces)) begun, ap (λ l. length (file_plan X p l).blocks) cut)
 
   -- a call that touched nothing, one that gave up at a whole piece, and one that gave up before it took all or behind what it took
