@@ -14,5 +14,5 @@ pub fn what_was_saved_stays_held()
 
 /// A file of more bytes has no fewer blocks: what bounds the saves for a part of a file bounds them for the whole.
 pub fn more_bytes_have_no_fewer_blocks()
-    ensures blocks { (X : List ℕ → List ℕ) (p : Profile) (bytes more : List ℕ) → length (file_plan X p bytes).blocks ≤ length (file_plan X p (bytes ++ more)).blocks }
+    ensures { (X : List ℕ → List ℕ) (p : Profile) (bytes more : List ℕ) → length (file_plan X p bytes).blocks ≤ length (file_plan X p (bytes ++ more)).blocks }
 {}
