@@ -99,3 +99,23 @@ returns-clause-touches g t c =
     let same = push-node g.S.X.BlockHash.block32 c.args.width c.args.level c.args.part c.in-Ok-save_node.node c.args.rows.now.items c.index_mut-row.result.now c.push.new.self c.new.result lt
     c.index_mut-row.ensures.value c.in-Ok-push.ensures.ok (omega (arith, c.len-2.ensures)) made c.new.ensures in
     omega (arith, ap length same.1, c.save_node.ensures.touches, c.push-2.ensures.touches)
+
+pub returns-in-Ok-clause-count : goal.returns-in-Ok-clause-count
+returns-in-Ok-clause-count g t c =
+    let top : c.args.level ≡ length c.args.rows.now.items = grind (arith, common_steps) in
+    omega (arith, ap length (held-first g.S.X.BlockHash.block32 c.args.width c.args.level c.args.part c.args.rows.now.items top))
+
+pub returns-then-len-width-clause-count : goal.returns-then-len-width-clause-count
+returns-then-len-width-clause-count g t c =
+    let lt : c.args.level < length c.args.rows.now.items = grind (arith, common_steps) in
+    let none = (push-room g.S.X.BlockHash.block32 c.args.width c.args.level c.args.part c.args.rows.now.items c.index_mut-row.result.now c.push.new.self lt
+    c.index_mut-row.ensures.value c.in-Ok-push.ensures.ok (omega (arith, c.len-2.ensures))).1 in
+    omega (arith, ap length none)
+
+pub returns-clause-count : goal.returns-clause-count
+returns-clause-count g t c =
+    let lt : c.args.level < length c.args.rows.now.items = grind (arith, common_steps) in
+    let made : c.in-Ok-save_node.node ≡ node_part g.S.X.BlockHash.block32 c.push.new.self = c.in-Ok-save_node.ensures.part ∙ ap (node_part g.S.X.BlockHash.block32) c.as_slice.ensures in
+    let same = push-node g.S.X.BlockHash.block32 c.args.width c.args.level c.args.part c.in-Ok-save_node.node c.args.rows.now.items c.index_mut-row.result.now c.push.new.self c.new.result lt
+    c.index_mut-row.ensures.value c.in-Ok-push.ensures.ok (omega (arith, c.len-2.ensures)) made c.new.ensures in
+    on_ok_weaker c.push-2.result (λ count. omega (arith, ap length same.1, c.in-Ok-save_node.ensures.touch, count)) c.push-2.ensures.count
