@@ -2,3 +2,5 @@ pub mod Ways
 pub mod Readings
 pub mod One
 pub mod Reaching
+pub mod Walks
+pub mod Rows

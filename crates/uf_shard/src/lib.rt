@@ -3,10 +3,12 @@
 
 mod building;
 mod fault;
+mod gathering;
 mod listing;
 mod lookup;
 mod reading;
 mod spot;
+mod walking;
 
 pub use building::build;
 pub use fault::DirFault;
