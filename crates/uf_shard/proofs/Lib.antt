@@ -4,3 +4,4 @@ pub mod One
 pub mod Reaching
 pub mod Walks
 pub mod Rows
+pub mod Weights

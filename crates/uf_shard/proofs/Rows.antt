@@ -183,7 +183,8 @@ module _ (X : List ℕ → List ℕ) (N : List ℕ → ℕ) where
     found_rows (suc left) root l rows is agrees are = found_items (suc left) root l is agrees (λ e front m below over held. found_rows left e.cid m front over held below) are.items rows are.valid are.is_held are.listed
 
   -- the rows of a plan in order are its pairs
-  pub listed-planned : IsHash X → (told : Told) (root : Cid) (l rows pairs : List Named) → IsRoot X N 7 root l → Agrees told (shard X N 7 l).blocks → IfSome told (λ t. AddsShard (held_at t) 7 root [] rows) → pairs ≡ in_order rows → pairs ≡ l
-  listed-planned good None root l rows pairs is agrees adds ordered = absurd agrees
-  listed-planned good (Some t) root l rows pairs is agrees adds ordered =
-      ordered ∙ ap in_order adds.added ∙ one_order adds.rows l (subst T (sym is.valid.sorted) tt) (λ q. found_rows good t q 7 root l adds.rows is agrees adds.are)
+  pub listed-planned : IsHash X → (told : Told) (root : Cid) (l before rows pairs : List Named) → IsRoot X N 7 root l → Agrees told (shard X N 7 l).blocks → before ≡ [] → IfSome told (λ t. AddsShard (held_at t) 7 root before rows)
+      → pairs ≡ in_order rows → pairs ≡ l
+  listed-planned good None root l before rows pairs is agrees none adds ordered = absurd agrees
+  listed-planned good (Some t) root l before rows pairs is agrees none adds ordered =
+      ordered ∙ ap in_order (adds.added ∙ ap (λ (b : List Named). b ++ adds.rows) none) ∙ one_order adds.rows l (subst T (sym is.valid.sorted) tt) (λ q. found_rows good t q 7 root l adds.rows is agrees adds.are)

@@ -1,7 +1,10 @@
+use Rattle.uf_shard.proofs.Rows.{listed-planned}
+use Rattle.uf_shard.proofs.Walks.{root-planned}
 use Rattle.uf_shard.proofs.listing.entries.Goals as goal
 
 pub returns-in-Err-clause-value : goal.returns-in-Err-clause-value
-returns-in-Err-clause-value g c = ?
+returns-in-Err-clause-value g c = λ N l is agrees stood. c.in-Err.ensures.lost N l (root-planned g.S.X.BlockHash.block32 N c.args.root.now l is) agrees stood
 
 pub returns-in-Ok-ordered-clause-value : goal.returns-in-Ok-ordered-clause-value
-returns-in-Ok-ordered-clause-value g c = ?
+returns-in-Ok-ordered-clause-value g c = λ N l is agrees stood. listed-planned g.S.X.BlockHash.block32 N (record { size = g.met.S.X.BlockHash.size; are_bytes = g.met.S.X.BlockHash.are_bytes }) _ c.args.root.now l _ _ _
+    (root-planned g.S.X.BlockHash.block32 N c.args.root.now l is) agrees c.new-rows.ensures.items c.in-Ok.ensures.adds c.in-Ok-ordered.ensures.order
