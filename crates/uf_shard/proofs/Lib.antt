@@ -5,3 +5,4 @@ pub mod Reaching
 pub mod Walks
 pub mod Rows
 pub mod Weights
+pub mod Sorts
