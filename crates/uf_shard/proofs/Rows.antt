@@ -164,7 +164,7 @@ module _ (X : List ℕ → List ℕ) (N : List ℕ → ℕ) where
   found_listed held left over q deeper ((s, Sub e) ∷ items) rows listed is agrees =
       ap (find names_cmp q) listed.2 ∙ found_append q listed.0 listed.1
       ∙ (λ i. option_or (deeper e listed.0 (over s) listed.3 is.0 (agrees_front held (blocks_over X N left (Sub e) (over s)) (all_blocks X N left over items) agrees) i)
-        (found_listed held left over q deeper items listed.1 listed.4 is.1 (agrees_back held (blocks_over X N left (Sub e) (over s)) (all_blocks X N left over items) agrees) i))
+      (found_listed held left over q deeper items listed.1 listed.4 is.1 (agrees_back held (blocks_over X N left (Sub e) (over s)) (all_blocks X N left over items) agrees) i))
       ∙ sym (found_append q (over s) (all_pairs over items))
 
   module _ (good : IsHash X) (t : Contents) (q : List ℕ) where
@@ -174,7 +174,7 @@ module _ (X : List ℕ → List ℕ) (N : List ℕ → ℕ) where
     found_items left root l is agrees deeper items rows valid held listed =
         let same = held_items X N good left root l is t items valid agrees held in
         found_listed (held_at t) left (pairs_of X N left l) q deeper (items_of X N left l) rows (subst (λ (i : List InSlot). AreListed (AreRowsBelow (held_at t) left) i rows) same listed)
-          (over_items X N good left root l is (items_of X N left l) refl) (Agrees_below X N good left root l is (Some t) agrees)
+        (over_items X N good left root l is (items_of X N left l) refl) (Agrees_below X N good left root l is (Some t) agrees)
         ∙ found_slots left q l
 
     -- a name is found among the rows of a planned shard as among its pairs

@@ -16,4 +16,6 @@ pub use listing::{entries, weight_over};
 pub use lookup::find;
 
 #[cfg(test)]
+mod list_tests;
+#[cfg(test)]
 mod tests;

@@ -17,8 +17,8 @@ decreases-weigh_slot g l = 3 * l.left
 abbrev pub invariant-weigh_slots-loop-placed : goal.invariant-weigh_slots-loop-placed
 invariant-weigh_slots-loop-placed g l = record {
   weighs : (N : List ℕ → ℕ) (over : ℕ → List Named) → AreOver g.S.X.BlockHash.block32 N l.left over l.items
-    → Agrees (g.S.Store.seen l.initial.store).told (all_blocks g.S.X.BlockHash.block32 N l.left over l.items)
-    → room_after l.room (weight_over_slots over (take l.placed-index l.items)) ≡ Some l.rest;
+      → Agrees (g.S.Store.seen l.initial.store).told (all_blocks g.S.X.BlockHash.block32 N l.left over l.items)
+      → room_after l.room (weight_over_slots over (take l.placed-index l.items)) ≡ Some l.rest;
   calm : StaysCalm (g.S.Store.seen l.initial.store) (g.S.Store.seen l.store);
   told : (g.S.Store.seen l.store).told ≡ (g.S.Store.seen l.initial.store).told;
 }
