@@ -6,3 +6,4 @@ pub mod Walks
 pub mod Rows
 pub mod Weights
 pub mod Sorts
+pub mod Touches

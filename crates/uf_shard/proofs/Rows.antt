@@ -1,12 +1,11 @@
 -- The names of a shard tree in the order of its slots.
-use Rattle.std.proofs.Common.{◌≡◌, ◌≢◌, ℕ, zero, suc, get_or, take, ◌+◌, ◌-◌, ◌<◌, ◌≤◌, List, [], ◌∷◌, ◌++◌, length, refl, ap, arith, sym, ◌∙◌, subst, Bool, true, false, cond, T, Option, Some, None, ◌⊎◌, inl, inr, Result, Ok, Err}
+use Rattle.std.proofs.Common.{◌≡◌, ◌≢◌, ℕ, zero, suc, get_or, take, ◌+◌, ◌<◌, ◌≤◌, List, [], ◌∷◌, ◌++◌, length, refl, ap, arith, sym, ◌∙◌, subst, Bool, true, false, cond, T, Option, Some, None, ◌⊎◌, inl, inr, Result, Ok, Err}
 use Rattle.std.specs.Prelude.{◌==◌, IfSome, OnOk}
-use Rattle.std.specs.Cmp.{eq_by_cmp_equiv}
-use Rattle.std.specs.FinMap.Entries.{find, find-put, find-where_key, is_sorted, is_sorted-put, put, same_entries}
-use Rattle.std.specs.List.{AllByRecursion, cons_option, flat_map}
+use Rattle.std.specs.FinMap.Entries.{find, find-put, find-where_key, is_sorted, is_sorted-put, same_entries}
+use Rattle.std.specs.List.{cons_option, flat_map}
 use Rattle.std.specs.Option.{option_map, option_or}
 use Rattle.std.specs.Ordering.{eq_by_cmp}
-use Rattle.std.proofs.lemmas.Bool.{cases_eq, cases_lt}
+use Rattle.std.proofs.lemmas.Bool.{cases_eq}
 use Rattle.std.proofs.lemmas.Bool.Decides.{nat_tests}
 use Rattle.std.proofs.lemmas.List.{append-nil, append_assoc, take_more}
 use Rattle.uf_cid.specs.declared.cid.Cid.{Cid}
@@ -23,10 +22,10 @@ use Rattle.uf_tree.specs.FilePlan.{Plan}
 use Rattle.uf_tree.specs.Names.{names_cmp}
 use Rattle.uf_tree.specs.Nodes.{InSlot, Named, shard_block}
 use Rattle.uf_tree.specs.ShardPlan.{bucket, flat_tabulate, shard, slot_item, tabulate}
-use Rattle.uf_tree.specs.Validity.{IsDirectory, IsHash, IsShard}
+use Rattle.uf_tree.specs.Validity.{IsHash, IsShard}
 use Rattle.uf_tree.proofs.ShardLaws.{eqb_same, names_exact, names_total, slot-bound}
-use Rattle.uf_shard.specs.Listing.{AddsShard, AddsSlot, AddsSlots, AreListed, AreRows, AreRowsBelow, IsListed, Lists, NoneBelow, in_order}
-use Rattle.uf_shard.specs.Walked.{AreOver, HasItems, IsOver, IsRoot, all_blocks, blocks_over}
+use Rattle.uf_shard.specs.Listing.{AddsShard, AddsSlot, AddsSlots, AreListed, AreRows, AreRowsBelow, IsListed, in_order}
+use Rattle.uf_shard.specs.Walked.{AreOver, IsOver, IsRoot, all_blocks, blocks_over}
 use Rattle.uf_shard.proofs.Reaching.{deeper_of, items_of, level_of}
 use Rattle.uf_shard.proofs.Walks.{Agrees_below, agrees_back, agrees_front, held_items, over_items, pairs_of}
 

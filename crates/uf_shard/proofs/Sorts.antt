@@ -1,5 +1,5 @@
 -- Pairs sorted by name.
-use Rattle.std.proofs.Common.{◌≡◌, ℕ, zero, suc, get_or, ◌+◌, ◌-◌, ◌<◌, ◌≤◌, List, [], ◌∷◌, ◌++◌, length, refl, ap, arith, sym, ◌∙◌, subst, Bool, true, false, cond, T, Option, None, Ordering, Less, Equal, Greater, Result, Ok, Err, filter}
+use Rattle.std.proofs.Common.{◌≡◌, ℕ, suc, get_or, ◌+◌, ◌-◌, ◌<◌, ◌≤◌, List, [], ◌∷◌, ◌++◌, length, refl, ap, arith, sym, ◌∙◌, subst, Bool, true, false, cond, T, None, Ordering, Less, Equal, Greater, Result, Ok, Err}
 use Rattle.std.specs.Prelude.{◌&&◌, not, fold, IfOk}
 use Rattle.std.specs.Cmp.{eq_by_cmp_equiv}
 use Rattle.std.specs.FinMap.Entries.{by_order, find, find-where_key, is_sorted, put, where_key}

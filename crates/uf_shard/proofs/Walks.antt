@@ -1,5 +1,5 @@
 -- The shards of a plan loaded one by one.
-use Rattle.std.proofs.Common.{◌≡◌, ◌≢◌, ℕ, zero, suc, get_or, ◌+◌, ◌-◌, ◌<◌, ◌≤◌, List, [], ◌∷◌, ◌++◌, length, refl, ap, arith, sym, ◌∙◌, subst, Bool, true, false, T, Option, Some, None, ◌⊎◌, inl, inr, Result, Ok, Err}
+use Rattle.std.proofs.Common.{◌≡◌, ◌≢◌, ℕ, zero, suc, get_or, ◌-◌, ◌<◌, ◌≤◌, List, [], ◌∷◌, ◌++◌, length, refl, ap, arith, sym, ◌∙◌, subst, Bool, true, false, T, Option, Some, None, ◌⊎◌, inl, inr, Result, Ok, Err}
 use Rattle.std.specs.Prelude.{◌==◌, ◌↔◌, IfSome, IfErr, IsTrue}
 use Rattle.std.specs.FinMap.Entries.{is_sorted-where_key}
 use Rattle.std.specs.List.{AllByRecursion, flat_map, cons_option}
@@ -27,7 +27,7 @@ use Rattle.uf_tree.specs.Names.{names_cmp}
 use Rattle.uf_tree.specs.Nodes.{InSlot, Named, shard_block}
 use Rattle.uf_tree.specs.Roles.{IsOnWay}
 use Rattle.uf_tree.specs.Shardable.{HasShard}
-use Rattle.uf_tree.specs.ShardPlan.{bucket, flat_tabulate, no_shard, same_slots, shard, shard_below, shard_held, shard_items, slot_blocks, slot_item, tabulate, twins}
+use Rattle.uf_tree.specs.ShardPlan.{bucket, flat_tabulate, same_slots, shard, shard_held, slot_blocks, slot_item, tabulate, twins}
 use Rattle.uf_tree.specs.Validity.{IsDirectory, IsEntry, IsHash, IsNamed, IsShard}
 use Rattle.uf_tree.proofs.Each.{each_filter, each_tabulate}
 use Rattle.uf_tree.proofs.Twins.{Apart-HasShard, twins-Apart}

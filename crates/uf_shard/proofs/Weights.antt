@@ -1,7 +1,7 @@
 -- The weight of a shard tree, slot by slot.
-use Rattle.std.proofs.Common.{◌≡◌, ◌≢◌, ℕ, zero, suc, get_or, take, ◌+◌, ◌-◌, ◌<◌, ◌≤◌, List, [], ◌∷◌, ◌++◌, length, refl, ap, arith, sym, ◌∙◌, subst, Bool, true, false, cond, Option, Some, None, ◌⊎◌, inl, inr, Result, Ok, Err, nat_lt}
-use Rattle.std.specs.Prelude.{◌==◌, not, IfOk}
-use Rattle.std.specs.List.{flat_map, sum_by}
+use Rattle.std.proofs.Common.{◌≡◌, ◌≢◌, ℕ, zero, suc, get_or, take, ◌+◌, ◌-◌, ◌<◌, ◌≤◌, List, [], ◌∷◌, length, refl, ap, arith, sym, ◌∙◌, subst, Bool, true, false, cond, Option, Some, None, ◌⊎◌, inl, inr, Result, nat_lt}
+use Rattle.std.specs.Prelude.{not, IfOk}
+use Rattle.std.specs.List.{sum_by}
 use Rattle.std.specs.Option.{is_some}
 use Rattle.std.proofs.lemmas.Bool.{cases_eq, cases_lt, le-ltb, lt-ltb}
 use Rattle.std.proofs.lemmas.List.Sums.{sum_by-append, sum_by-cons, sum_by_more, sum_by_more_le}
@@ -30,11 +30,11 @@ fits room w h = ap (λ b. cond b None (Some (room - w))) (le-ltb room w h)
 beyond : (room w : ℕ) → room < w → room_after room w ≡ None
 beyond room w h = ap (λ b. cond b None (Some (room - w))) (lt-ltb room w h)
 
-record Left (room w rest : ℕ) : Type 0 where
-  within : w ≤ room
-  is : rest ≡ room - w
+pub record Left (room w rest : ℕ) : Type 0 where
+  pub within : w ≤ room
+  pub is : rest ≡ room - w
 
-left_is : (room w rest : ℕ) → room_after room w ≡ Some rest → Left room w rest
+pub left_is : (room w rest : ℕ) → room_after room w ≡ Some rest → Left room w rest
 left_is room w rest e = by (cases_lt room w)
   where
     by : (room < w) ⊎ (w ≤ room) → Left room w rest
@@ -72,7 +72,7 @@ all-weight over [] = refl
 all-weight over (p ∷ items) = sum_by-cons (λ (p : InSlot). weight (over p.0)) p items ∙ ap (λ n. weight (over p.0) + n) (all-weight over items) ∙ sym (sum_by-append (λ (e : Named). length e.0 + 36) (over p.0) (all_pairs over items))
 
 module _ (N : List ℕ → ℕ) (k : ℕ) where
-  abbrev slots : ℕ → ℕ → List Named → List Named
+  abbrev pub slots : ℕ → ℕ → List Named → List Named
   slots n a l = flat_tabulate n a (λ s. bucket N k s l)
 
   no_slots : (n a : ℕ) → slots n a [] ≡ []
@@ -80,52 +80,50 @@ module _ (N : List ℕ → ℕ) (k : ℕ) where
   no_slots zero a = refl
   no_slots (suc n) a = no_slots n (suc a)
 
-  empty : (a : ℕ) (l : List Named) → weight (slots zero a l) ≡ 0
-  unfolding flat_tabulate
-  empty a l = refl
+  module _ (f : Named → ℕ) where
+    empty : (a : ℕ) (l : List Named) → sum_by f (slots zero a l) ≡ 0
+    unfolding flat_tabulate
+    empty a l = refl
 
-  split : (n a : ℕ) (l : List Named) → weight (slots (suc n) a l) ≡ weight (bucket N k a l) + weight (slots n (suc a) l)
-  unfolding flat_tabulate
-  split n a l = sum_by-append (λ (e : Named). length e.0 + 36) (bucket N k a l) (slots n (suc a) l)
+    split : (n a : ℕ) (l : List Named) → sum_by f (slots (suc n) a l) ≡ sum_by f (bucket N k a l) + sum_by f (slots n (suc a) l)
+    unfolding flat_tabulate
+    split n a l = sum_by-append f (bucket N k a l) (slots n (suc a) l)
 
-  heavier : (e : Named) (l : List Named) → weight (e ∷ l) ≡ length e.0 + 36 + weight l
-  heavier e l = sum_by-cons (λ (e : Named). length e.0 + 36) e l
+    in_bucket : (s : ℕ) (e : Named) (l : List Named) → slot (N e.0) k ≡ s → sum_by f (bucket N k s (e ∷ l)) ≡ f e + sum_by f (bucket N k s l)
+    in_bucket s e l at = ap (λ b. sum_by f (cond b (e ∷ bucket N k s l) (bucket N k s l))) (same_key (slot (N e.0) k) s at) ∙ sum_by-cons f e (bucket N k s l)
 
-  in_bucket : (s : ℕ) (e : Named) (l : List Named) → slot (N e.0) k ≡ s → weight (bucket N k s (e ∷ l)) ≡ length e.0 + 36 + weight (bucket N k s l)
-  in_bucket s e l at = ap (λ b. weight (cond b (e ∷ bucket N k s l) (bucket N k s l))) (same_key (slot (N e.0) k) s at) ∙ heavier e (bucket N k s l)
+    off_bucket : (s : ℕ) (e : Named) (l : List Named) → slot (N e.0) k ≢ s → sum_by f (bucket N k s (e ∷ l)) ≡ sum_by f (bucket N k s l)
+    off_bucket s e l off = ap (λ b. sum_by f (cond b (e ∷ bucket N k s l) (bucket N k s l))) (other_key (slot (N e.0) k) s off)
 
-  off_bucket : (s : ℕ) (e : Named) (l : List Named) → slot (N e.0) k ≢ s → weight (bucket N k s (e ∷ l)) ≡ weight (bucket N k s l)
-  off_bucket s e l off = ap (λ b. weight (cond b (e ∷ bucket N k s l) (bucket N k s l))) (other_key (slot (N e.0) k) s off)
+    past : (n a : ℕ) (e : Named) (l : List Named) → slot (N e.0) k < a → sum_by f (slots n a (e ∷ l)) ≡ sum_by f (slots n a l)
+    past zero a e l low = empty a (e ∷ l) ∙ sym (empty a l)
+    past (suc n) a e l low =
+        split n a (e ∷ l) ∙ (λ i. off_bucket a e l (omega arith) i + past n (suc a) e l (omega arith) i) ∙ sym (split n a l)
 
-  past : (n a : ℕ) (e : Named) (l : List Named) → slot (N e.0) k < a → weight (slots n a (e ∷ l)) ≡ weight (slots n a l)
-  past zero a e l low = empty a (e ∷ l) ∙ sym (empty a l)
-  past (suc n) a e l low =
-      split n a (e ∷ l) ∙ (λ i. off_bucket a e l (omega arith) i + past n (suc a) e l (omega arith) i) ∙ sym (split n a l)
+    within : (n a : ℕ) (e : Named) (l : List Named) → a ≤ slot (N e.0) k → slot (N e.0) k < a + n → sum_by f (slots n a (e ∷ l)) ≡ f e + sum_by f (slots n a l)
+    within zero a e l low high = absurd (omega arith)
+    within (suc n) a e l low high = by (cases_eq (slot (N e.0) k) a) (λ less. within n (suc a) e l less (omega arith))
+      where
+        by : (slot (N e.0) k ≡ a) ⊎ (slot (N e.0) k ≢ a) → (suc a ≤ slot (N e.0) k → sum_by f (slots n (suc a) (e ∷ l)) ≡ f e + sum_by f (slots n (suc a) l))
+            → sum_by f (slots (suc n) a (e ∷ l)) ≡ f e + sum_by f (slots (suc n) a l)
+        by (inl at) later =
+            let one = in_bucket a e l at in let rest = past n (suc a) e l (omega arith) in
+            let all = split n a (e ∷ l) in let before = split n a l in omega (arith, one, rest, all, before)
+        by (inr off) later =
+            let one = off_bucket a e l off in let rest = later (omega arith) in
+            let all = split n a (e ∷ l) in let before = split n a l in omega (arith, one, rest, all, before)
 
-  within : (n a : ℕ) (e : Named) (l : List Named) → a ≤ slot (N e.0) k → slot (N e.0) k < a + n → weight (slots n a (e ∷ l)) ≡ length e.0 + 36 + weight (slots n a l)
-  within zero a e l low high = absurd (omega arith)
-  within (suc n) a e l low high = by (cases_eq (slot (N e.0) k) a) (λ less. within n (suc a) e l less (omega arith))
-    where
-      by : (slot (N e.0) k ≡ a) ⊎ (slot (N e.0) k ≢ a) → (suc a ≤ slot (N e.0) k → weight (slots n (suc a) (e ∷ l)) ≡ length e.0 + 36 + weight (slots n (suc a) l))
-          → weight (slots (suc n) a (e ∷ l)) ≡ length e.0 + 36 + weight (slots (suc n) a l)
-      by (inl at) later =
-          let one = in_bucket a e l at in let rest = past n (suc a) e l (omega arith) in
-          let all = split n a (e ∷ l) in let before = split n a l in omega (arith, one, rest, all, before)
-      by (inr off) later =
-          let one = off_bucket a e l off in let rest = later (omega arith) in
-          let all = split n a (e ∷ l) in let before = split n a l in omega (arith, one, rest, all, before)
-
-  -- the pairs of all slots weigh what all pairs weigh
-  slots-weight : (l : List Named) → weight (slots 256 0 l) ≡ weight l
-  slots-weight [] = ap weight (no_slots 256 0)
-  slots-weight (e ∷ l) = within 256 0 e l (omega arith) (let b : slot (N e.0) k < 256 = slot-bound (N e.0) k in omega arith) ∙ ap (λ n. length e.0 + 36 + n) (slots-weight l) ∙ sym (heavier e l)
+    -- what the pairs of all slots come to is what all pairs come to
+    pub slots-sum : (l : List Named) → sum_by f (slots 256 0 l) ≡ sum_by f l
+    slots-sum [] = ap (sum_by f) (no_slots 256 0)
+    slots-sum (e ∷ l) = within 256 0 e l (omega arith) (let b : slot (N e.0) k < 256 = slot-bound (N e.0) k in omega arith) ∙ ap (λ n. f e + n) (slots-sum l) ∙ sym (sum_by-cons f e l)
 
 module _ (X : List ℕ → List ℕ) (N : List ℕ → ℕ) where
   planned-weight : (left : ℕ) (l : List Named) → weight_over_slots (pairs_of X N left l) (items_of X N left l) ≡ weight l
   planned-weight left l =
       all-weight (pairs_of X N left l) (items_of X N left l)
       ∙ ap weight (pairs-tabulated (deeper_of X N left) (pairs_of X N left l) 256 0)
-      ∙ slots-weight N (level_of left) l
+      ∙ slots-sum N (level_of left) (λ (e : Named). length e.0 + 36) l
 
   -- the room behind a shard is that behind its slots
   pub weighs-all : IsHash X → (left : ℕ) (root : Cid) (l : List Named) → IsRoot X N left root l → (items slice : List InSlot) (before mid : Seen) (room : ℕ) (r : Result (Option ℕ) StoreFault) → mid.told ≡ before.told → slice ≡ items

@@ -1,5 +1,5 @@
 -- Shards loaded one by one, and what the shards of a plan have below them.
-use Rattle.std.specs.Prelude.{◌≡◌, ◌≢◌, ◌≤◌, ◌-◌, ℕ, zero, suc, List, [], ◌∷◌, length, ⊤, Some, None, IfSome, nat_lt, if◌then◌else◌}
+use Rattle.std.specs.Prelude.{◌≡◌, ◌≢◌, ◌≤◌, ◌+◌, ◌-◌, ◌*◌, ℕ, zero, suc, List, [], ◌∷◌, length, ⊤, Some, None, IfSome, nat_lt, if◌then◌else◌}
 use Rattle.std.specs.declared.option.Option.{Option}
 use Rattle.std.specs.declared.result.Result.{Result}
 use Rattle.std.specs.declared.result.Result.TheVariants.{Ok, Err}
@@ -50,6 +50,12 @@ LoadsItems left cid before now (Err Memory) = ⊤
 -- what is left of a room, or nothing where the weight is more than the room
 abbrev pub room_after : ℕ → ℕ → Option ℕ
 room_after room weight = if nat_lt room weight then None else Some (room - weight)
+
+-- few shards were loaded: four for 37 that were weighed, and so many more on the way to where the weighing stopped
+abbrev pub IsFew : ℕ → ℕ → ℕ → ℕ → Result (Option ℕ) StoreFault → Type 0
+IsFew more before now room (Ok (Some rest)) = 37 * now + 4 * rest ≤ 37 * before + 4 * room
+IsFew more before now room (Ok None) = 37 * now ≤ 37 * before + 4 * room + 37 * more
+IsFew more before now room (Err fault) = 37 * now ≤ 37 * before + 4 * room + 37 * more
 
 -- the weight of all slots, where each slot has the pairs that `over` gives
 abbrev pub weight_over_slots : (ℕ → List Named) → List InSlot → ℕ

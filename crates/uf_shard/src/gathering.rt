@@ -1,5 +1,5 @@
 // The names of a shard tree gathered in the order of its slots, and put in byte order.
-ghost use Rattle.std.specs.Prelude.{◌≡◌, ◌≤◌, ◌∷◌, ◌++◌, [], List, ℕ, IfErr, IfOk, IfSome, OnOk};
+ghost use Rattle.std.specs.Prelude.{◌≡◌, ◌≤◌, ◌+◌, ◌∷◌, ◌++◌, [], List, ℕ, IfErr, IfOk, IfSome, OnOk, length};
 ghost use Rattle.std.specs.List.{AllByRecursion};
 ghost use Rattle.std.specs.Ordering.{eq_by_cmp};
 ghost use Rattle.uf_edge.specs.Counts.{Stood};
@@ -38,6 +38,8 @@ pub fn gather<S: Store, L: Ledger>(
     ensures lost { (N : List ℕ → ℕ) (l : List Named) → IsRoot S.X.block32 N left cid.now l → Agrees (S.seen store.old).told (shard S.X.block32 N left l).blocks
         → Stood (S.seen store.old).faults (S.seen store.new).faults
         → IfErr result (IsLossOf (S.seen store.old).told (shard S.X.block32 N left l).blocks) }
+    ensures touches { (N : List ℕ → ℕ) (l : List Named) → IsRoot S.X.block32 N left cid.now l → Agrees (S.seen store.old).told (shard S.X.block32 N left l).blocks
+        → touches.new ≤ touches.old + length (shard S.X.block32 N left l).blocks }
     ensures cause { Answers S.X.block32 IsBadShard result (S.seen store.old) (S.seen store.new) }
     ensures told { (S.seen store.new).told ≡ (S.seen store.old).told }
 {
@@ -63,6 +65,8 @@ fn gather_slots<S: Store, L: Ledger>(
     ensures lost { (N : List ℕ → ℕ) (over : ℕ → List Named) → AreOver S.X.block32 N left over items.now → Agrees (S.seen store.old).told (all_blocks S.X.block32 N left over items.now)
         → Stood (S.seen store.old).faults (S.seen store.new).faults
         → IfErr result (IsLossOf (S.seen store.old).told (all_blocks S.X.block32 N left over items.now)) }
+    ensures touches { (N : List ℕ → ℕ) (over : ℕ → List Named) → AreOver S.X.block32 N left over items.now → Agrees (S.seen store.old).told (all_blocks S.X.block32 N left over items.now)
+        → touches.new ≤ touches.old + length (all_blocks S.X.block32 N left over items.now) }
     ensures cause { Answers S.X.block32 IsBadShard result (S.seen store.old) (S.seen store.new) }
     ensures told { (S.seen store.new).told ≡ (S.seen store.old).told }
 {
@@ -91,6 +95,8 @@ fn gather_slot<S: Store, L: Ledger>(
     ensures lost { (N : List ℕ → ℕ) (l : List Named) → IsOver S.X.block32 N left placed.now.1 l → Agrees (S.seen store.old).told (blocks_over S.X.block32 N left placed.now.1 l)
         → Stood (S.seen store.old).faults (S.seen store.new).faults
         → IfErr result (IsLossOf (S.seen store.old).told (blocks_over S.X.block32 N left placed.now.1 l)) }
+    ensures touches { (N : List ℕ → ℕ) (l : List Named) → IsOver S.X.block32 N left placed.now.1 l → Agrees (S.seen store.old).told (blocks_over S.X.block32 N left placed.now.1 l)
+        → touches.new ≤ touches.old + length (blocks_over S.X.block32 N left placed.now.1 l) }
     ensures cause { Answers S.X.block32 IsBadShard result (S.seen store.old) (S.seen store.new) }
     ensures told { (S.seen store.new).told ≡ (S.seen store.old).told }
 {

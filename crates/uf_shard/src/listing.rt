@@ -1,5 +1,5 @@
 // Shard trees read whole.
-ghost use Rattle.std.specs.Prelude.{◌≡◌, ◌≤◌, ◌+◌, ℕ, List, IfErr, IfOk, IfSome, length, nat_lt};
+ghost use Rattle.std.specs.Prelude.{◌≡◌, ◌≤◌, ◌+◌, ◌*◌, ◌/◌, ℕ, List, IfErr, IfOk, IfSome, length, min, nat_lt};
 ghost use Rattle.std.specs.List.{AllByRecursion};
 ghost use Rattle.uf_edge.specs.Counts.{Stood};
 ghost use Rattle.uf_store.specs.Contents.{held_at};
@@ -12,7 +12,7 @@ ghost use Rattle.uf_tree.specs.ShardPlan.{shard};
 ghost use Rattle.uf_tree.specs.Validity.{IsDirectory};
 ghost use Rattle.uf_shard.specs.Listing.{AreRows, IsBadShard, in_order};
 ghost use Rattle.uf_shard.specs.Planned.{IsPlanned};
-ghost use Rattle.uf_shard.specs.Walked.{AreOver, HasLevel, IsOver, IsRoot, all_blocks, blocks_over, room_after, weight_over_slots};
+ghost use Rattle.uf_shard.specs.Walked.{AreOver, HasLevel, IsFew, IsOver, IsRoot, all_blocks, blocks_over, room_after, weight_over_slots};
 
 use crate::gathering::{gather, ordered};
 use crate::walking::load_items;
@@ -37,6 +37,8 @@ pub fn entries<S: Store, L: Ledger>(
     ensures valid { IfOk result IsDirectory }
     ensures cause { Answers S.X.block32 IsBadShard result (S.seen store.old) (S.seen store.new) }
     ensures told { (S.seen store.new).told ≡ (S.seen store.old).told }
+    ensures touches { (N : List ℕ → ℕ) (l : List Named) → IsPlanned S.X.block32 N root.now l → Agrees (S.seen store.old).told (shard S.X.block32 N 7 l).blocks
+        → touches.new ≤ touches.old + length (shard S.X.block32 N 7 l).blocks }
 {
     let mut rows = Vec::new(alloc);
     match gather(alloc, store, 7, root, &mut rows, touches) {
@@ -49,7 +51,7 @@ pub fn entries<S: Store, L: Ledger>(
 }
 
 /// Whether the names of the directory whose shard tree has this root weigh more than a limit, each its length and 36. It
-/// stops as soon as it knows.
+/// stops as soon as it knows. One touch for each shard that it loads.
 pub fn weight_over<S: Store, L: Ledger>(
     alloc: Global,
     store: &mut S,
@@ -62,6 +64,8 @@ pub fn weight_over<S: Store, L: Ledger>(
         → ReadsOver (S.seen store.old).told (shard S.X.block32 N 7 l).blocks (nat_lt limit (weight l)) result }
     ensures cause { Answers S.X.block32 IsBadShard result (S.seen store.old) (S.seen store.new) }
     ensures told { (S.seen store.new).told ≡ (S.seen store.old).told }
+    ensures touches { (N : List ℕ → ℕ) (l : List Named) → IsPlanned S.X.block32 N root.now l → Agrees (S.seen store.old).told (shard S.X.block32 N 7 l).blocks
+        → touches.new ≤ touches.old + min (length (shard S.X.block32 N 7 l).blocks) (4 * (limit / 37 + 1) + 8) }
 {
     match weigh(alloc, store, 7, root, limit, touches) {
         Err(fault) => Err(fault),
@@ -86,6 +90,10 @@ fn weigh<S: Store, L: Ledger>(
     ensures lost { (N : List ℕ → ℕ) (l : List Named) → IsRoot S.X.block32 N left cid.now l → Agrees (S.seen store.old).told (shard S.X.block32 N left l).blocks
         → Stood (S.seen store.old).faults (S.seen store.new).faults
         → IfErr result (IsLossOf (S.seen store.old).told (shard S.X.block32 N left l).blocks) }
+    ensures touches { (N : List ℕ → ℕ) (l : List Named) → IsRoot S.X.block32 N left cid.now l → Agrees (S.seen store.old).told (shard S.X.block32 N left l).blocks
+        → touches.new ≤ touches.old + length (shard S.X.block32 N left l).blocks }
+    ensures few { (N : List ℕ → ℕ) (l : List Named) → IsRoot S.X.block32 N left cid.now l → Agrees (S.seen store.old).told (shard S.X.block32 N left l).blocks
+        → IsFew (left + 1) touches.old touches.new room result }
     ensures cause { Answers S.X.block32 IsBadShard result (S.seen store.old) (S.seen store.new) }
     ensures told { (S.seen store.new).told ≡ (S.seen store.old).told }
 {
@@ -112,6 +120,10 @@ fn weigh_slots<S: Store, L: Ledger>(
     ensures lost { (N : List ℕ → ℕ) (over : ℕ → List Named) → AreOver S.X.block32 N left over items.now → Agrees (S.seen store.old).told (all_blocks S.X.block32 N left over items.now)
         → Stood (S.seen store.old).faults (S.seen store.new).faults
         → IfErr result (IsLossOf (S.seen store.old).told (all_blocks S.X.block32 N left over items.now)) }
+    ensures touches { (N : List ℕ → ℕ) (over : ℕ → List Named) → AreOver S.X.block32 N left over items.now → Agrees (S.seen store.old).told (all_blocks S.X.block32 N left over items.now)
+        → touches.new ≤ touches.old + length (all_blocks S.X.block32 N left over items.now) }
+    ensures few { (N : List ℕ → ℕ) (over : ℕ → List Named) → AreOver S.X.block32 N left over items.now → Agrees (S.seen store.old).told (all_blocks S.X.block32 N left over items.now)
+        → IsFew left touches.old touches.new room result }
     ensures cause { Answers S.X.block32 IsBadShard result (S.seen store.old) (S.seen store.new) }
     ensures told { (S.seen store.new).told ≡ (S.seen store.old).told }
 {
@@ -143,6 +155,10 @@ fn weigh_slot<S: Store, L: Ledger>(
     ensures lost { (N : List ℕ → ℕ) (l : List Named) → IsOver S.X.block32 N left placed.now.1 l → Agrees (S.seen store.old).told (blocks_over S.X.block32 N left placed.now.1 l)
         → Stood (S.seen store.old).faults (S.seen store.new).faults
         → IfErr result (IsLossOf (S.seen store.old).told (blocks_over S.X.block32 N left placed.now.1 l)) }
+    ensures touches { (N : List ℕ → ℕ) (l : List Named) → IsOver S.X.block32 N left placed.now.1 l → Agrees (S.seen store.old).told (blocks_over S.X.block32 N left placed.now.1 l)
+        → touches.new ≤ touches.old + length (blocks_over S.X.block32 N left placed.now.1 l) }
+    ensures few { (N : List ℕ → ℕ) (l : List Named) → IsOver S.X.block32 N left placed.now.1 l → Agrees (S.seen store.old).told (blocks_over S.X.block32 N left placed.now.1 l)
+        → IsFew left touches.old touches.new room result }
     ensures cause { Answers S.X.block32 IsBadShard result (S.seen store.old) (S.seen store.new) }
     ensures told { (S.seen store.new).told ≡ (S.seen store.old).told }
 {

@@ -1,4 +1,4 @@
-use Rattle.std.proofs.Common.{◌≡◌, ℕ, ◌+◌, ◌*◌, List, Some, take}
+use Rattle.std.proofs.Common.{◌≡◌, ◌≤◌, ℕ, ◌+◌, ◌*◌, List, Some, length, take}
 use Rattle.uf_store.specs.Faults.{StaysCalm}
 use Rattle.uf_store.specs.Keeping.{Agrees}
 use Rattle.uf_tree.specs.Nodes.{Named}
@@ -19,6 +19,12 @@ invariant-weigh_slots-loop-placed g l = record {
   weighs : (N : List ℕ → ℕ) (over : ℕ → List Named) → AreOver g.S.X.BlockHash.block32 N l.left over l.items
       → Agrees (g.S.Store.seen l.initial.store).told (all_blocks g.S.X.BlockHash.block32 N l.left over l.items)
       → room_after l.room (weight_over_slots over (take l.placed-index l.items)) ≡ Some l.rest;
+  touches : (N : List ℕ → ℕ) (over : ℕ → List Named) → AreOver g.S.X.BlockHash.block32 N l.left over l.items
+      → Agrees (g.S.Store.seen l.initial.store).told (all_blocks g.S.X.BlockHash.block32 N l.left over l.items)
+      → l.touches ≤ l.initial.touches + length (all_blocks g.S.X.BlockHash.block32 N l.left over (take l.placed-index l.items));
+  few : (N : List ℕ → ℕ) (over : ℕ → List Named) → AreOver g.S.X.BlockHash.block32 N l.left over l.items
+      → Agrees (g.S.Store.seen l.initial.store).told (all_blocks g.S.X.BlockHash.block32 N l.left over l.items)
+      → 37 * l.touches + 4 * l.rest ≤ 37 * l.initial.touches + 4 * l.room;
   calm : StaysCalm (g.S.Store.seen l.initial.store) (g.S.Store.seen l.store);
   told : (g.S.Store.seen l.store).told ≡ (g.S.Store.seen l.initial.store).told;
 }
