@@ -4,6 +4,7 @@ use Rattle.uf_cid.specs.declared.cid.Cid.{Cid}
 use Rattle.uf_cid.specs.Blocks.{Lookup}
 use Rattle.uf_store.specs.declared.store.Role.{Role}
 use Rattle.uf_store.specs.declared.store.Role.TheVariants.{Directory, Shard, FileNode, Leaf as LeafRole}
+use Rattle.uf_tree.specs.declared.nodes.Item.{Item}
 use Rattle.uf_tree.specs.declared.nodes.Item.TheVariants.{Leaf, Sub}
 use Rattle.uf_tree.specs.Changes.{with_name}
 use Rattle.uf_tree.specs.Nodes.{InSlot, Named, shard_block}
@@ -31,6 +32,32 @@ NoneBelow cid rows = ⊥
 abbrev pub AreRows : Lookup → ℕ → Cid → List Named → Type 0
 AreRows held zero cid rows = Lists NoneBelow held cid rows
 AreRows held (suc left) cid rows = Lists (AreRows held left) held cid rows
+
+-- the names of a shard that stands below one with so many levels below it
+abbrev pub AreRowsBelow : Lookup → ℕ → Cid → List Named → Type 0
+AreRowsBelow held zero cid rows = ⊥
+AreRowsBelow held (suc left) cid rows = AreRows held left cid rows
+
+-- the names of one slot
+abbrev pub IsListed : (Cid → List Named → Type 0) → Item → List Named → Type 0
+IsListed Below (Leaf name e) rows = rows ≡ (name, e) ∷ []
+IsListed Below (Sub e) rows = Below e.cid rows
+
+-- names were put behind others: those of the shard under a CID, of some slots, or of one
+pub record AddsShard (held : Lookup) (left : ℕ) (cid : Cid) (before now : List Named) : Type 0 where
+  pub rows : List Named
+  pub are : AreRows held left cid rows
+  pub added : now ≡ before ++ rows
+
+pub record AddsSlots (held : Lookup) (left : ℕ) (items : List InSlot) (before now : List Named) : Type 0 where
+  pub rows : List Named
+  pub are : AreListed (AreRowsBelow held left) items rows
+  pub added : now ≡ before ++ rows
+
+pub record AddsSlot (held : Lookup) (left : ℕ) (item : Item) (before now : List Named) : Type 0 where
+  pub rows : List Named
+  pub are : IsListed (AreRowsBelow held left) item rows
+  pub added : now ≡ before ++ rows
 
 -- the names in byte order; of a name that comes twice the first
 abbrev pub in_order : List Named → List Named
