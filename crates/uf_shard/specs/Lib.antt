@@ -1,6 +1,8 @@
 pub mod Answers
+pub mod Buckets
 pub mod Listing
 pub mod Placed
 pub mod Planned
 pub mod Reached
+pub mod Saving
 pub mod Spots

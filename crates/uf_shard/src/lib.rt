@@ -1,17 +1,23 @@
 //! Directories as trees of shards (UnixFS v1, "HAMTDirectory", with a fanout of 256): a name looked up.
 #![tactic(auto)]
 
+mod buckets;
 mod building;
 mod fault;
+mod hashed;
 mod listing;
 mod lookup;
+mod nodes;
 mod reading;
 mod spot;
+mod twins;
 
 pub use building::build;
 pub use fault::DirFault;
 pub use listing::{entries, weight_over};
 pub use lookup::find;
 
+#[cfg(test)]
+mod build_tests;
 #[cfg(test)]
 mod tests;
