@@ -1,3 +1,5 @@
+pub mod BucketRows
+pub mod Collisions
 pub mod Ways
 pub mod Readings
 pub mod One
