@@ -1,2 +1,4 @@
 pub mod Bad
+pub mod Places
 pub mod Planned
+pub mod Roots

@@ -4,7 +4,10 @@
 
 mod building;
 mod editing;
+mod looking;
+mod pairs;
 mod reading;
+mod root;
 
 pub use building::{build, empty};
 pub use editing::{put, remove};
