@@ -1,5 +1,7 @@
 pub mod Apart
+pub mod Asked
 pub mod Causes
+pub mod Edited
 pub mod Listing
 pub mod Looked
 pub mod Planning

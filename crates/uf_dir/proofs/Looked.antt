@@ -1,6 +1,6 @@
 -- What a look at the root of a planned directory or file finds.
 use Rattle.std.proofs.Common.{◌≡◌, ℕ, List, [], ◌∷◌, ap, arith, sym, ◌∙◌, subst, inl, inr, Option, Some, None, Bool, true, false}
-use Rattle.std.specs.Prelude.{IfSome}
+use Rattle.std.specs.Prelude.{IfOk, IfSome}
 use Rattle.std.specs.FinMap.Entries.{find}
 use Rattle.std.specs.declared.result.Result.{Result}
 use Rattle.std.specs.declared.result.Result.TheVariants.{Ok, Err}
@@ -14,24 +14,26 @@ use Rattle.uf_store.specs.declared.store.StoreFault.TheVariants.{Failed, Damaged
 use Rattle.uf_store.specs.Contents.{Told, held_at}
 use Rattle.uf_store.specs.Faults.{Shows}
 use Rattle.uf_store.specs.Keeping.{Agrees, Holds}
-use Rattle.uf_store.specs.Lost.{FindsOver, IsFirstLost, IsLossOf, IsLost, LosesFirst}
+use Rattle.uf_store.specs.Lost.{FindsOver, IsFirstLost, IsLossOf, IsLost, LosesFirst, ReadsOver}
 use Rattle.uf_store.specs.Seen.{Seen}
 use Rattle.uf_tree.specs.declared.nodes.Entry.{Entry}
 use Rattle.uf_tree.specs.declared.profile.Profile.{Profile}
 use Rattle.uf_tree.specs.DirPlan.{is_sharded, trail}
 use Rattle.uf_tree.specs.Names.{names_cmp}
 use Rattle.uf_tree.specs.Nodes.{Named}
-use Rattle.uf_tree.specs.Roles.{IsCanonicalDirectory}
+use Rattle.uf_tree.specs.Roles.{IsCanonicalDirectory, WithSome}
 use Rattle.uf_tree.specs.Roots.{dir_root}
-use Rattle.uf_tree.specs.ShardPlan.{shard_trail}
+use Rattle.uf_tree.specs.ShardPlan.{shard, shard_trail}
 use Rattle.uf_tree.specs.Validity.{IsHash}
+use Rattle.uf_shard.specs.Listing.{AreRows, in_order}
 use Rattle.uf_shard.specs.Planned as shards
-use Rattle.uf_dir.specs.Planned.{IsPlanned}
+use Rattle.uf_dir.specs.Planned.{IsPlanned, own_blocks}
 use Rattle.uf_dir.specs.Roots.{IsRootOf, IsThere, IsUnread}
 use Rattle.uf_dir.specs.declared.root.Root.{Root}
 use Rattle.uf_dir.specs.declared.root.Root.TheVariants as root
 use Rattle.uf_dir.proofs.Apart.{one_basic, shard-basic}
-use Rattle.uf_dir.proofs.Planning.{InOne, InShards, RootForm, planned-cid, planned-sharded, root-canonical, root-form, trail-basic, trail-from_root, trail-sharded}
+use Rattle.uf_dir.proofs.Rows.{rows-planned}
+use Rattle.uf_dir.proofs.Planning.{InOne, InShards, RootForm, blocks-from_root, blocks-sharded, planned-cid, planned-sharded, root-canonical, root-form, trail-basic, trail-from_root, trail-sharded}
 
 -- ---- the first of some blocks, of which the CID is known
 
@@ -141,3 +143,54 @@ module _ (X : List ℕ → List ℕ) (good : IsHash X) (N : List ℕ → ℕ) (p
         (subst (λ (told : Told). FindsOver told (shard_trail X N 7 l name) (find names_cmp name l) r) same
         (deeper l (planned-sharded X N p l cid is sharded) (subst (λ (told : Told). Agrees told (shard_trail X N 7 l name)) (sym same) (subst (Agrees before.told) path agrees))
         (subst (λ (n : ℕ). Stood n now.faults) (sym calm) stood)))
+
+  -- ---- a directory that is read whole
+
+  pub entries-unread : {A : Type 0} (IsBad : Role → List ℕ → Type 0) (profile : Option Profile) (before now : Seen) (fault : StoreFault) (value : A) → WithSome profile (λ known. known ≡ p)
+      → IsUnread profile true cid before now fault → Shows X IsBad fault before now → Agrees before.told (own_blocks X N p l) → Stood before.faults now.faults → ReadsOver before.told (own_blocks X N p l) value (Err fault)
+  entries-unread IsBad profile before now fault value known unread_is shows agrees stood =
+      let from = blocks-from_root X N p l in
+      loss-from_finds before.told (own_blocks X N p l) value fault
+      (subst (λ (path : List Held). FindsOver before.told path value (Err fault)) (sym from.1)
+      (unread cid (dir_root X N p l) from.0 (planned-cid X N p l cid is) X IsBad profile true before now fault value (root-canonical X N p l good is.valid profile known) unread_is shows
+      (subst (Agrees before.told) from.1 agrees) stood))
+
+  pub entries-basic : (before now : Seen) (found : Root) (pairs : List Named) → found ≡ root.Basic pairs → IsThere cid before now × IsRootOf now.lent found → Agrees before.told (own_blocks X N p l) → pairs ≡ l
+  entries-basic before now found pairs at looks agrees =
+      let from = blocks-from_root X N p l in
+      (read-basic from.0 before now pairs (subst (Agrees before.told) from.1 agrees) looks.0 (subst (IsRootOf now.lent) at looks.1)).1
+
+  -- the root was read as a shard
+  module _ (before mid : Seen) (found : Root) (at : found ≡ root.Sharded) (looks : IsThere cid before mid × IsRootOf mid.lent found) (same : mid.told ≡ before.told) (agrees : Agrees before.told (own_blocks X N p l)) where
+    sharded_is : is_sharded p l ≡ true
+    sharded_is =
+        let from = blocks-from_root X N p l in
+        read-sharded from.0 before mid (subst (Agrees before.told) from.1 agrees) looks.0 (subst (IsRootOf mid.lent) at looks.1)
+
+    agrees_mid : Agrees mid.told (shard X N 7 l).blocks
+    agrees_mid = subst (λ (told : Told). Agrees told (shard X N 7 l).blocks) (sym same) (subst (Agrees before.told) (blocks-sharded X N p l sharded_is) agrees)
+
+    -- what the shards answer where they are read
+    abbrev pub ReadBelow : Seen → Result (List Named) StoreFault → Type 0
+    ReadBelow now r = (M : List ℕ → ℕ) (k : List Named) → shards.IsPlanned X M cid k → Agrees mid.told (shard X M 7 k).blocks → Stood mid.faults now.faults → ReadsOver mid.told (shard X M 7 k).blocks k r
+
+    pub entries-sharded : (now : Seen) (r : Result (List Named) StoreFault) → mid.faults ≡ before.faults → ReadBelow now r → Stood before.faults now.faults → ReadsOver before.told (own_blocks X N p l) l r
+    entries-sharded now r calm below stood =
+        subst (λ (path : List Held). ReadsOver before.told path l r) (sym (blocks-sharded X N p l sharded_is))
+        (subst (λ (told : Told). ReadsOver told (shard X N 7 l).blocks l r) same
+        (below N l (planned-sharded X N p l cid is sharded_is) agrees_mid (subst (λ (n : ℕ). Stood n now.faults) (sym calm) stood)))
+
+    -- what was listed is what was planned, also where the count of faults stands at its last value
+    pub entries-listed : (pairs : List Named) → IfSome mid.told (λ t. (rows : List Named) × AreRows (held_at t) 7 cid rows × (pairs ≡ in_order rows)) → pairs ≡ l
+    entries-listed pairs listed = by mid.told listed agrees_mid
+      where
+        by : (told : Told) → IfSome told (λ t. (rows : List Named) × AreRows (held_at t) 7 cid rows × (pairs ≡ in_order rows)) → Agrees told (shard X N 7 l).blocks → pairs ≡ l
+        by None h a = absurd a
+        by (Some t) h a = h.2 ∙ rows-planned X good N (held_at t) cid l (planned-sharded X N p l cid is sharded_is) a h.0 h.1
+
+-- the same of each plan
+pub entries-listed_all : (X : List ℕ → List ℕ) → IsHash X → (cid : Cid) (before mid : Seen) (found : Root) → found ≡ root.Sharded → IsThere cid before mid × IsRootOf mid.lent found → mid.told ≡ before.told
+    → (r : Result (List Named) StoreFault) → IfSome mid.told (λ t. IfOk r (λ pairs. (rows : List Named) × AreRows (held_at t) 7 cid rows × (pairs ≡ in_order rows)))
+    → IfOk r (λ pairs. (N : List ℕ → ℕ) (p : Profile) (l : List Named) → IsPlanned X N p cid l → Agrees before.told (own_blocks X N p l) → pairs ≡ l)
+entries-listed_all X good cid before mid found at looks same (Ok pairs) listed = λ N p l is agrees. entries-listed X good N p cid l is before mid found at looks same agrees pairs listed
+entries-listed_all X good cid before mid found at looks same (Err fault) listed = tt

@@ -88,13 +88,13 @@ module _ (N : List ℕ → ℕ) (k : ℕ) (l : List Named) where
       where
         by : (b : List Named) → in_slot s ≡ b → AreListed Below (cons_option (option_map (λ x. (s, x)) (slot_item deeper b)) items) rows → Split s items rows
         by [] is listed = record { front = []; rest = rows; both = refl; here = λ name. ap (find names_cmp name) (sym is); later = listed }
-        by (e ∷ []) is listed = record { front = (e.0, e.1) ∷ []; rest = listed.0; both = listed.1.0; here = λ name. ap (find names_cmp name) (sym is); later = listed.1.1 }
+        by (e ∷ []) is listed = record { front = (e.0, e.1) ∷ []; rest = listed.0; both = listed.1; here = λ name. ap (find names_cmp name) (sym is); later = listed.2 }
         by (e ∷ f ∷ m) is listed = record {
           front = listed.0;
-          rest = listed.1.0;
-          both = listed.1.1.0;
-          here = λ name. below s small e f m is (deeper (e ∷ f ∷ m)).entry.cid listed.0 refl listed.1.1.1.0 name ∙ ap (find names_cmp name) (sym is);
-          later = listed.1.1.1.1;
+          rest = listed.1;
+          both = listed.2;
+          here = λ name. below s small e f m is (deeper (e ∷ f ∷ m)).entry.cid listed.0 refl listed.3 name ∙ ap (find names_cmp name) (sym is);
+          later = listed.4;
         }
 
     outside : AreBelow → (n a : ℕ) (rows : List Named) (name : List ℕ) → a + n ≤ 256 → AreListed Below (tabulate n a (λ s. slot_item deeper (in_slot s))) rows → slot (N name) k < a → find names_cmp name rows ≡ None
@@ -111,23 +111,23 @@ module _ (N : List ℕ → ℕ) (k : ℕ) (l : List Named) where
         → find names_cmp name rows ≡ find names_cmp name l
     unfolding tabulate
     inside below zero a rows name fit listed low high = absurd (omega arith)
-    inside below (suc n) a rows name fit listed low high = by (cases_eq (slot (N name) k) a)
+    inside below (suc n) a rows name fit listed low high = by (cases_eq (slot (N name) k) a) (λ off. inside below n (suc a) parts.rest name (omega arith) parts.later (omega (arith, off)) (omega arith))
       where
-        s : Split a (tabulate n (suc a) (λ s. slot_item deeper (in_slot s))) rows
-        s = split below a (omega arith) (tabulate n (suc a) (λ s. slot_item deeper (in_slot s))) rows listed
+        parts : Split a (tabulate n (suc a) (λ s. slot_item deeper (in_slot s))) rows
+        parts = split below a (omega arith) (tabulate n (suc a) (λ s. slot_item deeper (in_slot s))) rows listed
 
-        whole : find names_cmp name rows ≡ first_of (find names_cmp name s.front) (find names_cmp name s.rest)
-        whole = ap (find names_cmp name) s.both ∙ find-both name s.front s.rest
+        whole : find names_cmp name rows ≡ first_of (find names_cmp name parts.front) (find names_cmp name parts.rest)
+        whole = ap (find names_cmp name) parts.both ∙ find-both name parts.front parts.rest
 
         none_behind : (o : Option Entry) → first_of o None ≡ o
         none_behind None = refl
         none_behind (Some e) = refl
 
-        by : (slot (N name) k ≡ a) ⊎ (slot (N name) k ≢ a) → find names_cmp name rows ≡ find names_cmp name l
-        by (inl at) = whole ∙ ap (first_of (find names_cmp name s.front)) (outside below n (suc a) s.rest name (omega arith) s.later (omega (arith, at))) ∙ none_behind (find names_cmp name s.front)
-            ∙ s.here name ∙ ap (λ (t : ℕ). find names_cmp name (in_slot t)) (sym at) ∙ find-own_slot name
-        by (inr off) = whole ∙ ap (λ o. first_of o (find names_cmp name s.rest)) (s.here name ∙ find-other_slot a name off)
-            ∙ inside below n (suc a) s.rest name (omega arith) s.later (omega (arith, off)) (omega arith)
+        by : (slot (N name) k ≡ a) ⊎ (slot (N name) k ≢ a) → (slot (N name) k ≢ a → find names_cmp name parts.rest ≡ find names_cmp name l) → find names_cmp name rows ≡ find names_cmp name l
+        by (inl at) later =
+            whole ∙ ap (first_of (find names_cmp name parts.front)) (outside below n (suc a) parts.rest name (omega arith) parts.later (omega (arith, at))) ∙ none_behind (find names_cmp name parts.front)
+            ∙ parts.here name ∙ ap (λ (t : ℕ). find names_cmp name (in_slot t)) (sym at) ∙ find-own_slot name
+        by (inr off) later = whole ∙ ap (λ o. first_of o (find names_cmp name parts.rest)) (parts.here name ∙ find-other_slot a name off) ∙ later off
 
     -- the names of all slots
     names-are : AreBelow → (rows : List Named) → AreListed Below (shard_items N deeper k l) rows → (name : List ℕ) → find names_cmp name rows ≡ find names_cmp name l
@@ -163,7 +163,7 @@ module _ (X : List ℕ → List ℕ) (good : IsHash X) (N : List ℕ → ℕ) (h
       names-are N 7 l (no_shard X N) NoneBelow (λ s small e f m is c front same none name. absurd none) rows
       (subst (λ (items : List InSlot). AreListed NoneBelow items rows) (items-are (no_shard X N) (λ m. node_entry-valid X good [] []) 7 NoneBelow root l valid some cid agrees.0 rows lists) lists.listed)
   names-at (suc left) root l valid some apart cid agrees rows lists =
-      names-are N (6 - left) l (shard X N left) (AreRows held left) below rows
+      names-are N (6 - left) l (shard X N left) (AreRows held left) (below (λ m. names-at left m)) rows
       (subst (λ (items : List InSlot). AreListed (AreRows held left) items rows) (items-are (shard X N left) (shard-valid X good N left) (6 - left) (AreRows held left) root l valid some cid agrees.0 rows lists) lists.listed)
     where
       two : (n : ℕ) → suc (suc n) ≤ 1 → ⊥
@@ -173,10 +173,12 @@ module _ (X : List ℕ → List ℕ) (good : IsHash X) (N : List ℕ → ℕ) (h
       deeper e f m (inl few) = absurd (two (length m) few)
       deeper e f m (inr has) = has
 
-      below : (s : ℕ) → s < 256 → (e f : Named) (m : List Named) → bucket N (6 - left) s l ≡ e ∷ f ∷ m → (c : Cid) (front : List Named) → c ≡ (shard X N left (e ∷ f ∷ m)).entry.cid → AreRows held left c front
+      below : ((c : Cid) (m : List Named) → IsDirectory m → 1 ≤ length m → HasShard N left m → c ≡ (shard X N left m).entry.cid → Agrees held (shard X N left m).blocks
+          → (front : List Named) → AreRows held left c front → (name : List ℕ) → find names_cmp name front ≡ find names_cmp name m)
+          → (s : ℕ) → s < 256 → (e f : Named) (m : List Named) → bucket N (6 - left) s l ≡ e ∷ f ∷ m → (c : Cid) (front : List Named) → c ≡ (shard X N left (e ∷ f ∷ m)).entry.cid → AreRows held left c front
           → (name : List ℕ) → find names_cmp name front ≡ find names_cmp name (e ∷ f ∷ m)
-      below s small e f m is c front same rows_below name =
-          names-at left c (e ∷ f ∷ m) (subst IsDirectory is (bucket-valid (6 - left) s l valid)) (omega arith)
+      below again s small e f m is c front same rows_below name =
+          again c (e ∷ f ∷ m) (subst IsDirectory is (bucket-valid (6 - left) s l valid)) (omega arith)
           (deeper e f m (subst (λ (b : List Named). (length b ≤ 1) ⊎ HasShard N left b) is (apart s))) same
           (subst (λ (b : List Named). Agreed (slot_blocks (shard X N left) b)) is (at_flat_tabulate (λ (b : Held). IfSome (held b.0) (λ bytes. bytes ≡ b.1)) 256 0 (λ s. slot_blocks (shard X N left) (bucket N (6 - left) s l)) s (omega arith) (omega arith) agrees.1))
           front rows_below name
