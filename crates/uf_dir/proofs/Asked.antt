@@ -1,24 +1,23 @@
 -- Whether a block is the root of a planned directory or of a planned file.
-use Rattle.std.proofs.Common.{◌≡◌, ℕ, zero, suc, ◌*◌, ◌^◌, ◌<◌, ◌≤◌, List, [], ◌∷◌, length, map, refl, ap, arith, sym, ◌∙◌, subst, Some, None, Bool, true, false, cond}
+use Rattle.std.proofs.Common.{◌≡◌, ℕ, zero, suc, ◌*◌, ◌^◌, ◌<◌, ◌≤◌, List, [], ◌∷◌, length, map, refl, ap, arith, sym, ◌∙◌, None, Bool, true, false, cond}
 use Rattle.std.specs.declared.result.Result.{Result}
 use Rattle.std.specs.declared.result.Result.TheVariants.{Ok, Err}
 use Rattle.std.proofs.lemmas.Bool.{false≢true}
 use Rattle.uf_cid.specs.Blocks.{Held}
 use Rattle.uf_cid.specs.Cid.{cid_of}
 use Rattle.uf_cid.specs.declared.cid.Cid.{Cid}
-use Rattle.uf_cid.specs.declared.cid.Codec.{Codec}
 use Rattle.uf_cid.specs.declared.cid.Codec.TheVariants.{Raw, DagPb}
 use Rattle.uf_edge.specs.Counts.{Stood}
 use Rattle.uf_store.specs.declared.store.Role.{Role}
 use Rattle.uf_store.specs.declared.store.StoreFault.{StoreFault}
 use Rattle.uf_store.specs.Faults.{Answers}
-use Rattle.uf_store.specs.Keeping.{Agrees, Holds}
+use Rattle.uf_store.specs.Keeping.{Agrees}
 use Rattle.uf_store.specs.Lost.{FindsOver}
 use Rattle.uf_store.specs.Seen.{Seen}
 use Rattle.uf_tree.specs.declared.nodes.FileNode.{FileNode}
 use Rattle.uf_tree.specs.declared.profile.Profile.{Profile}
 use Rattle.uf_tree.specs.DirPlan.{is_sharded}
-use Rattle.uf_tree.specs.FilePlan.{file_plan, groups, node_over}
+use Rattle.uf_tree.specs.FilePlan.{groups, node_over}
 use Rattle.uf_tree.specs.FileSub.{part_over, span}
 use Rattle.uf_tree.specs.Nodes.{Named, dir_block, file_block}
 use Rattle.uf_tree.specs.Roles.{Basic, FileRoot, IsCanonicalDirectory, IsNodeBlock, Sharded}

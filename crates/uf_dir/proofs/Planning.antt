@@ -13,7 +13,7 @@ use Rattle.uf_tree.specs.declared.nodes.Entry.{Entry}
 use Rattle.uf_tree.specs.declared.profile.Profile.{Profile}
 use Rattle.uf_tree.specs.DirPlan.{basic_dir, dir_plan, is_sharded, own_plan, trail}
 use Rattle.uf_tree.specs.FilePlan.{Plan}
-use Rattle.uf_tree.specs.Nodes.{Named, dir_block}
+use Rattle.uf_tree.specs.Nodes.{Named, dir_block, node_entry}
 use Rattle.uf_tree.specs.Roles.{Basic, IsCanonicalDirectory, IsShardBlock, Sharded, WithSome}
 use Rattle.uf_tree.specs.Roots.{dir_root}
 use Rattle.uf_tree.specs.ShardPlan.{same_slots, shard, shard_below, shard_held, shard_items, shard_plan, shard_trail, twins}
@@ -24,6 +24,7 @@ use Rattle.uf_tree.proofs.Valid.{shard-valid, shard_items-valid}
 use Rattle.uf_shard.specs.Answers.{Gives, shard_refusal}
 use Rattle.uf_shard.specs.Planned as shards
 use Rattle.uf_shard.specs.declared.fault.DirFault.{DirFault}
+use Rattle.uf_dir.proofs.Apart.{basic-ends, basic_end}
 use Rattle.uf_dir.specs.Planned.{IsPlanned, dir_entry, own_blocks}
 
 module _ (X : List ℕ → List ℕ) (N : List ℕ → ℕ) (p : Profile) (l : List Named) where
@@ -124,3 +125,13 @@ module _ (X : List ℕ → List ℕ) (N : List ℕ → ℕ) (p : Profile) (l : L
 -- the empty directory is in one block
 pub empty-light : (p : Profile) → is_sharded p [] ≡ false
 empty-light p = grind (arith, nat_tests)
+
+-- its entry and its block
+module _ (X : List ℕ → List ℕ) (N : List ℕ → ℕ) (p : Profile) where
+  pub empty-entry : (cid : Cid) → cid ≡ cid_of X DagPb basic_end → ◌≡◌ {A = Entry} (record { cid = cid; tsize = 4 }) (dir_entry X N p [])
+  empty-entry cid is = subst (λ (b : Bool). ◌≡◌ {A = Entry} (record { cid = cid; tsize = 4 }) (cond b (shard X N 7 []) (basic_dir X N [])).entry) (sym (empty-light p))
+      (subst (λ (bytes : List ℕ). ◌≡◌ {A = Entry} (record { cid = cid; tsize = 4 }) (node_entry X bytes [])) (sym (basic-ends [])) (λ i. record { cid = is i; tsize = 4 }))
+
+  pub empty-held : (told : Told) → Holds told ((cid_of X DagPb basic_end, basic_end) ∷ []) → Holds told (own_blocks X N p [])
+  empty-held told h = subst (λ (b : Bool). Holds told (cond b (shard X N 7 []) (basic_dir X N [])).blocks) (sym (empty-light p))
+      (subst (λ (bytes : List ℕ). Holds told ((cid_of X DagPb bytes, bytes) ∷ [])) (sym (basic-ends [])) h)

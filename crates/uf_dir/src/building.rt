@@ -1,9 +1,12 @@
 // Directories built from lists.
-ghost use Rattle.std.specs.Prelude.{◌≡◌, ◌≤◌, ◌+◌, ℕ, List, [], length, IfErr, IfOk, IsTrue, OnOk};
+ghost use Rattle.std.specs.Prelude.{◌≡◌, ◌≤◌, ◌+◌, ℕ, List, [], ◌∷◌, length, IfErr, IfOk, IsTrue, OnOk};
+ghost use Rattle.uf_cid.specs.Cid.{cid_of};
+ghost use Rattle.uf_cid.specs.declared.cid.Codec.TheVariants.{DagPb};
 ghost use Rattle.uf_store.specs.Clashes.{IsSaving};
 ghost use Rattle.uf_store.specs.Faults.{Answers, NoneIsBad};
 ghost use Rattle.uf_store.specs.Keeping.{Holds, KeepsGood, SavesOnly};
-ghost use Rattle.uf_tree.specs.declared.profile.Profile.{Profile};
+ghost use Rattle.uf_tree.specs.declared.profile.Profile.{Profile as TheProfile};
+ghost use Rattle.uf_tree.specs.Nodes.{dir_block};
 ghost use Rattle.uf_tree.specs.Profiles.{is_profile};
 ghost use Rattle.uf_tree.specs.DirPlan.{basic_dir, weight};
 ghost use Rattle.uf_tree.specs.TreePlan.{dir_refusal, too_big};
@@ -32,9 +35,9 @@ pub fn empty<S: Store, L: Ledger>(
     store: &mut S,
     touches: &mut Steps<L>,
 ) -> Result<Entry, StoreFault>
-    ensures entry { IfOk result (λ e. (N : List ℕ → ℕ) (p : Profile) → e ≡ dir_entry S.X.block32 N p []) }
+    ensures entry { IfOk result (λ e. (N : List ℕ → ℕ) (p : TheProfile) → e ≡ dir_entry S.X.block32 N p []) }
     ensures fault { IfErr result IsSaving }
-    ensures held { OnOk result ((N : List ℕ → ℕ) (p : Profile) → Holds (S.seen store.new).told (own_blocks S.X.block32 N p [])) }
+    ensures held { OnOk result ((N : List ℕ → ℕ) (p : TheProfile) → Holds (S.seen store.new).told (own_blocks S.X.block32 N p [])) }
     ensures cause { Answers S.X.block32 NoneIsBad result (S.seen store.old) (S.seen store.new) }
     ensures good { KeepsGood S.X.block32 (S.seen store.old).told (S.seen store.new).told }
     ensures saves { SavesOnly (S.seen store.old).told (S.seen store.new).told }
@@ -84,7 +87,7 @@ fn build_basic<S: Store, L: Ledger>(
     requires directory { IsDirectory pairs.now }
     requires light { weight pairs.now ≤ 1048576 }
     ensures answer { (N : List ℕ → ℕ) → Gives (too_big (basic_dir S.X.block32 N pairs.now).entry.tsize) (basic_dir S.X.block32 N pairs.now).entry result }
-    ensures held { OnOk result ((N : List ℕ → ℕ) → Holds (S.seen store.new).told (basic_dir S.X.block32 N pairs.now).blocks) }
+    ensures held { OnOk result (Holds (S.seen store.new).told ((cid_of S.X.block32 DagPb (dir_block pairs.now), dir_block pairs.now) ∷ [])) }
     ensures cause { Shown S.X.block32 NoneIsBad result (S.seen store.old) (S.seen store.new) }
     ensures good { KeepsGood S.X.block32 (S.seen store.old).told (S.seen store.new).told }
     ensures saves { SavesOnly (S.seen store.old).told (S.seen store.new).told }
