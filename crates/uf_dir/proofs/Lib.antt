@@ -5,5 +5,6 @@ pub mod Edited
 pub mod Listing
 pub mod Looked
 pub mod Planning
+pub mod Refusals
 pub mod Roots
 pub mod Rows

@@ -122,8 +122,7 @@ module _ (X : List ℕ → List ℕ) (good : IsHash X) (N : List ℕ → ℕ) (p
     find-basic before now found pairs value at looks value_is agrees =
         let from = trail-from_root X N p l name in
         let begins : Agrees before.told (dir_root X N p l ∷ from.0) = subst (Agrees before.told) from.1 agrees in
-        let read = read-basic from.0 before now pairs begins looks.0 (subst (IsRootOf now.lent) at looks.1) in
-        (
+        let read = read-basic from.0 before now pairs begins looks.0 (subst (IsRootOf now.lent) at looks.1) in (
           value_is ∙ ap (find names_cmp name) read.1,
           subst (Holds before.told) (sym (trail-basic X N p l name read.0)) (the_held cid (dir_root X N p l) from.0 (planned-cid X N p l cid is) before.told now.lent begins looks.0.held),
         )

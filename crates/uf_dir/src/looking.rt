@@ -82,11 +82,7 @@ fn is_root(alloc: Global, bytes: &[u8]) -> Result<bool, StrictFault>
 }
 
 // The root of a directory of which the bytes are the block.
-fn read_root(
-    alloc: Global,
-    profile: Option<Profile>,
-    bytes: &[u8],
-) -> Result<Root, StrictFault>
+fn read_root(alloc: Global, profile: Option<Profile>, bytes: &[u8]) -> Result<Root, StrictFault>
     ensures { ReadsRoot profile bytes.now result }
 {
     match read_basic(alloc, bytes) {

@@ -73,12 +73,7 @@ fn is_below(pair: &Pair, name: &Name) -> bool
 }
 
 // The pairs with an entry put under a name, in the place of an older one of that name.
-pub fn with_pair(
-    alloc: Global,
-    pairs: &Pairs,
-    name: &Name,
-    entry: &Entry,
-) -> Result<Pairs, Memory>
+pub fn with_pair(alloc: Global, pairs: &Pairs, name: &Name, entry: &Entry) -> Result<Pairs, Memory>
     requires { IsDirectory pairs.now }
     ensures pairs { IfOk result (λ l. l ≡ with_name name.now entry.now pairs.now) }
     ensures directory { IfOk result IsDirectory }
