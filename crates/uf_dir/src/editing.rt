@@ -1,5 +1,5 @@
 // Directories changed by one name.
-ghost use Rattle.std.specs.Prelude.{◌≡◌, ◌≤◌, ◌^◌, List, IfOk, IsTrue, None, OnOk, Some};
+ghost use Rattle.std.specs.Prelude.{◌≡◌, ◌≤◌, ◌^◌, List, IfOk, IfSome, IsTrue, None, OnOk, Some};
 ghost use Rattle.uf_edge.specs.Counts.{Stood};
 ghost use Rattle.uf_store.specs.Faults.{Answers};
 ghost use Rattle.uf_store.specs.Keeping.{Agrees, KeepsGood, SavesOnly};
@@ -8,17 +8,22 @@ ghost use Rattle.uf_tree.specs.Changes.{with_name, without};
 ghost use Rattle.uf_tree.specs.Nodes.{Named};
 ghost use Rattle.uf_tree.specs.Profiles.{is_profile};
 ghost use Rattle.uf_tree.specs.TreePlan.{dir_refusal};
+ghost use Rattle.uf_tree.specs.Validity.{IsDirectory};
 ghost use Rattle.uf_shard.specs.Answers.{GivesOver, Shown};
 ghost use Rattle.uf_dir.specs.Bad.{IsBad};
+ghost use Rattle.uf_dir.specs.Left.{IsLeft, pairs_left};
 ghost use Rattle.uf_dir.specs.Planned.{IsPlanned, dir_entry, entry_without, own_blocks};
 
+use crate::building::build;
+use crate::pairs::{entry_of, with_pair, without_name};
+use crate::reading::entries_under;
 use std::alloc::Global;
 use std::sync::ledger::Ledger;
-use uf_cid::Cid;
+use uf_cid::{Cid, Memory};
 use uf_murmur::NameHash;
 use uf_shard::DirFault;
 use uf_store::{Steps, Store, StoreFault};
-use uf_tree::{Entry, Name, Profile};
+use uf_tree::{Entry, Name, Pairs, Profile};
 
 /// Saves the directory with this root and with an entry put under a name, in the place of an older one of that name, and
 /// answers its entry.
@@ -43,7 +48,13 @@ pub fn put<S: Store, N: NameHash, L: Ledger>(
     ensures good { KeepsGood S.X.block32 (S.seen store.old).told (S.seen store.new).told }
     ensures saves { SavesOnly (S.seen store.old).told (S.seen store.new).told }
 {
-    Err(DirFault::Store(StoreFault::Memory))
+    match entries_under(alloc, store, Some(*p), root, touches) {
+        Err(fault) => Err(DirFault::Store(fault)),
+        Ok(pairs) => match with_pair(alloc, &pairs, name, entry) {
+            Err(_) => Err(DirFault::Store(StoreFault::Memory)),
+            Ok(changed) => build::<S, N, L>(alloc, store, p, &changed, touches),
+        },
+    }
 }
 
 /// Saves the directory with this root without a name, and answers its entry; `None`, and nothing is saved, where the name
@@ -70,5 +81,41 @@ pub fn remove<S: Store, N: NameHash, L: Ledger>(
     ensures good { KeepsGood S.X.block32 (S.seen store.old).told (S.seen store.new).told }
     ensures saves { SavesOnly (S.seen store.old).told (S.seen store.new).told }
 {
-    Err(StoreFault::Memory)
+    match entries_under(alloc, store, Some(*p), root, touches) {
+        Err(fault) => Err(fault),
+        Ok(pairs) => match pairs_without(alloc, &pairs, name) {
+            Err(_) => Err(StoreFault::Memory),
+            Ok(None) => Ok(None),
+            Ok(Some(left)) => left_of(build::<S, N, L>(alloc, store, p, &left, touches)),
+        },
+    }
+}
+
+// The pairs without a name, where the name is there.
+fn pairs_without(alloc: Global, pairs: &Pairs, name: &Name) -> Result<Option<Pairs>, Memory>
+    requires { IsDirectory pairs.now }
+    ensures pairs { IfOk result (λ left. left ≡ pairs_left name.now pairs.now) }
+    ensures directory { IfOk result (λ left. IfSome left IsDirectory) }
+{
+    if entry_of(pairs.as_slice(), name).is_none() {
+        return Ok(None);
+    }
+    match without_name(alloc, pairs, name) {
+        Err(fault) => Err(fault),
+        Ok(left) => Ok(Some(left)),
+    }
+}
+
+// What a removal answers for the directory that is left. A directory that has a plan leaves one that has a plan too: no
+// other two of its names have one hash, and its Tsize is less. So the two refusals come only over a shard tree that no plan
+// gives, where no block needs to be bad and the store hasn't failed. Want of memory is the answer that claims nothing.
+fn left_of(built: Result<Entry, DirFault>) -> Result<Option<Entry>, StoreFault>
+    ensures { IsLeft built result }
+{
+    match built {
+        Ok(entry) => Ok(Some(entry)),
+        Err(DirFault::Store(fault)) => Err(fault),
+        Err(DirFault::Collision(_, _)) => Err(StoreFault::Memory),
+        Err(DirFault::TooBig) => Err(StoreFault::Memory),
+    }
 }

@@ -4,9 +4,16 @@
 
 mod building;
 mod editing;
+pub mod laws;
+mod looking;
+mod pairs;
 mod reading;
+mod root;
 
 pub use building::{build, empty};
 pub use editing::{put, remove};
 pub use reading::{entries, find, is_dir};
 pub use uf_shard::DirFault;
+
+#[cfg(test)]
+mod tests;
