@@ -82,7 +82,7 @@ impl Builder {
         ensures good { KeepsGood S.X.block32 (S.seen store.old).told (S.seen store.new).told }
         ensures saves { SavesOnly (S.seen store.old).told (S.seen store.new).told }
 
-        // Each touch is one save of a block of the plan, and none is saved twice.
+        // One touch for each block that is saved, and whatever came, no more than the plan of all bytes has blocks.
         ensures saved { OnOk result (touches.new + saved_by self.old ≡ touches.old + saved_by self.new) }
         ensures most { (bytes : List ℕ) → HasFed S.X.block32 bytes self.old
             → touches.new + saved_by self.old ≤ touches.old + length (file_plan S.X.block32 self.old.profile (bytes ++ piece.now)).blocks }
