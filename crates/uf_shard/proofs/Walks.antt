@@ -1,5 +1,5 @@
 -- The shards of a plan loaded one by one.
-use Rattle.std.proofs.Common.{◌≡◌, ◌≢◌, ℕ, zero, suc, get_or, ◌-◌, ◌<◌, ◌≤◌, List, [], ◌∷◌, ◌++◌, length, refl, ap, arith, sym, ◌∙◌, subst, Bool, true, false, T, Option, Some, None, ◌⊎◌, inl, inr, Result, Ok, Err}
+use Rattle.std.proofs.Common.{◌≡◌, ℕ, zero, suc, get_or, ◌<◌, ◌≤◌, List, [], ◌∷◌, ◌++◌, length, refl, ap, arith, sym, ◌∙◌, subst, Bool, true, false, T, Option, Some, None, ◌⊎◌, inl, inr, Result, Ok, Err}
 use Rattle.std.specs.Prelude.{◌==◌, ◌↔◌, IfSome, IfErr, IsTrue}
 use Rattle.std.specs.FinMap.Entries.{is_sorted-where_key}
 use Rattle.std.specs.List.{AllByRecursion, flat_map, cons_option}
@@ -16,16 +16,12 @@ use Rattle.uf_store.specs.Faults.{Answers, StaysCalm}
 use Rattle.uf_store.specs.Keeping.{Agrees}
 use Rattle.uf_store.specs.Lost.{IsLossOf, IsLost, LosesOne}
 use Rattle.uf_store.specs.Seen.{Seen}
-use Rattle.uf_store.specs.declared.store.Role.TheVariants.{Shard}
 use Rattle.uf_store.specs.declared.store.StoreFault.{StoreFault}
 use Rattle.uf_store.specs.declared.store.StoreFault.TheVariants.{Failed, Damaged, Missing, BadBlock, Clash, Memory}
-use Rattle.uf_tree.specs.declared.nodes.Item.{Item}
-use Rattle.uf_tree.specs.declared.nodes.Item.TheVariants.{Leaf, Sub}
 use Rattle.uf_tree.specs.Codecs.{Reads}
 use Rattle.uf_tree.specs.FilePlan.{Plan}
 use Rattle.uf_tree.specs.Names.{names_cmp}
 use Rattle.uf_tree.specs.Nodes.{InSlot, Named, shard_block}
-use Rattle.uf_tree.specs.Roles.{IsOnWay}
 use Rattle.uf_tree.specs.Shardable.{HasShard}
 use Rattle.uf_tree.specs.ShardPlan.{bucket, flat_tabulate, same_slots, shard, shard_held, slot_blocks, slot_item, tabulate, twins}
 use Rattle.uf_tree.specs.Validity.{IsDirectory, IsEntry, IsHash, IsNamed, IsShard}
@@ -283,15 +279,3 @@ pub above-elsewhere : (left : ℕ) (bytes : List ℕ) (items slice : List InSlot
     → Reads (IsAbove left) shard_block bytes (Err NotCanonical)
 above-elsewhere left bytes items slice b read same iff fails =
     inr (λ v k e. false≢true (sym fails ∙ iff.1 (subst (AllByRecursion (HasLevel left)) (one_shard v items k.valid read.0 (sym e ∙ read.1) ∙ sym same) k.levels)))
-
--- no block that isn't one is canonical at its level
-levels_of : (N : List ℕ → ℕ) (way : List ℕ) (left : ℕ) (items : List InSlot) → length way ≡ 7 - left → left ≤ 7 → AllByRecursion (IsOnWay N way) items → AllByRecursion (HasLevel left) items
-levels_of N way left [] e low h = tt
-levels_of N way left (p ∷ items) e low h = (by p.1 h.0, levels_of N way left items e low h.1)
-  where
-    by : (x : Item) → IsOnWay N way (p.0, x) → HasLevel left (p.0, x)
-    by (Leaf name f) k = tt
-    by (Sub f) k = let no : length way ≢ 7 = k in omega (arith, e, no)
-
-pub no_shard-bad : (left : ℕ) (bytes : List ℕ) → left ≤ 7 → ((v : List InSlot) → IsAbove left v → bytes ≢ shard_block v) → IsBadShard (Shard (7 - left)) bytes
-no_shard-bad left bytes low none = (omega arith, λ N way e c. none c.items (record { valid = c.valid; levels = levels_of N way left c.items e low c.on_way }) c.is)
