@@ -1,5 +1,5 @@
 -- A builder that keeps one open group for each row answers the rows.
-use Rattle.std.proofs.Common.{◌≡◌, ℕ, zero, suc, ◌+◌, ◌*◌, ◌<◌, ◌≤◌, List, [], ◌∷◌, ◌++◌, length, refl, ap, arith, sym, ◌∙◌, map, subst, true, false, cond, ◌⊎◌, inl, inr, append_assoc, length-append}
+use Rattle.std.proofs.Common.{◌≡◌, ℕ, suc, ◌+◌, ◌*◌, ◌<◌, ◌≤◌, List, [], ◌∷◌, ◌++◌, length, refl, ap, arith, sym, ◌∙◌, map, subst, true, false, cond, ◌⊎◌, inl, inr, append_assoc, length-append}
 use Rattle.std.specs.Prelude.{nat_lt}
 use Rattle.std.specs.List.{AllByRecursion}
 use Rattle.std.proofs.lemmas.List.{length-map, append-nil, map-append}
@@ -10,7 +10,7 @@ use Rattle.uf_tree.specs.Cutting.{joined}
 use Rattle.uf_tree.specs.FilePlan.{split_from, groups, climb, node_part, node_held, leaf_part}
 use Rattle.uf_tree.specs.declared.nodes.Part.{Part}
 use Rattle.uf_tree.proofs.Climb.{climb-fuel}
-use Rattle.uf_tree.proofs.Each.{both, front, back}
+use Rattle.uf_tree.proofs.Each.{both}
 use Rattle.uf_tree.proofs.Groups.{fewer}
 use Rattle.uf_build.proofs.Cutting.{groups-full, groups-exact}
 use Rattle.uf_build.specs.Rows.{push_row, push_held, carry, carry_held, close, close_held, is_none, members, saved_over, AreRows}

@@ -1,12 +1,11 @@
 -- How many blocks a builder has saved, and how many there are in a plan.
-use Rattle.std.proofs.Common.{◌≡◌, ℕ, zero, suc, pred, ◌+◌, ◌*◌, ◌<◌, ◌≤◌, List, [], ◌∷◌, ◌++◌, length, refl, ap, arith, sym, ◌∙◌, map, subst, Bool, true, false, cond, ◌⊎◌, inl, inr, append_assoc, length-append}
-use Rattle.std.specs.List.{AllByRecursion}
+use Rattle.std.proofs.Common.{◌≡◌, ℕ, zero, suc, pred, ◌+◌, ◌*◌, ◌<◌, ◌≤◌, List, [], ◌∷◌, ◌++◌, length, ap, arith, sym, map, subst, Bool, true, false, cond, ◌⊎◌, inl, inr, length-append}
 use Rattle.std.proofs.lemmas.List.{length-map}
 use Rattle.std.proofs.lemmas.Bool.{cases_lt}
 use Rattle.uf_tree.specs.FilePlan.{split_from, climb, file_plan, node_part, node_held, leaf_part, leaf_held}
 use Rattle.uf_tree.specs.declared.nodes.Part.{Part}
 use Rattle.uf_tree.specs.declared.profile.Profile.{Profile}
-use Rattle.uf_build.specs.Rows.{push_row, push_held, carry, close, is_none, members, saved_over, AreShort, AreOpen}
+use Rattle.uf_build.specs.Rows.{push_row, push_held, carry, close, is_none, members, saved_over, AreShort}
 use Rattle.uf_build.proofs.Carry.{is_below, not_below, length-push}
 
 module _ (X : List ℕ → List ℕ) (w : ℕ) where

@@ -1,5 +1,5 @@
 -- The entry that a builder answers is that of the plan.
-use Rattle.std.proofs.Common.{◌≡◌, ℕ, suc, ◌+◌, ◌<◌, ◌≤◌, List, [], ◌∷◌, ◌++◌, length, refl, ap, arith, sym, ◌∙◌, map, subst, ◌⊎◌, inl, inr, append_assoc, length-append}
+use Rattle.std.proofs.Common.{◌≡◌, ℕ, ◌+◌, ◌<◌, ◌≤◌, List, [], ◌∷◌, ◌++◌, length, refl, ap, arith, sym, ◌∙◌, map, subst, ◌⊎◌, inl, inr, append_assoc, length-append}
 use Rattle.std.specs.List.{AllByRecursion}
 use Rattle.std.proofs.lemmas.List.{append-nil, length-map}
 use Rattle.uf_cid.specs.Blocks.{Held}
@@ -11,8 +11,8 @@ use Rattle.uf_tree.specs.declared.nodes.Part.{Part}
 use Rattle.uf_tree.specs.declared.profile.Profile.{Profile}
 use Rattle.uf_tree.proofs.Each.{both}
 use Rattle.uf_build.specs.Building.{ArePieces, Builds, Any, IsHeld, Adds, Ends, Feeds, Building, HasFed, SavesUpTo, saved_by}
-use Rattle.uf_build.specs.Rows.{AreRows, AreOpen, members, saved_over, sizes_of, close, close_held, push_row}
-use Rattle.uf_build.proofs.Carry.{over, close-over, row-members, saved_above, saved-split}
+use Rattle.uf_build.specs.Rows.{AreRows, AreOpen, saved_over, close, close_held, push_row}
+use Rattle.uf_build.proofs.Carry.{over, close-over, row-members, saved-split}
 use Rattle.uf_build.proofs.Counting.{more-blocks}
 use Rattle.uf_build.proofs.Cutting.{groups-full, groups-exact}
 use Rattle.uf_build.proofs.Feeding.{pieces-mono, held-mono, any, builds-piece, pieces-push}

@@ -1,5 +1,5 @@
 -- What a builder keeps as it takes bytes.
-use Rattle.std.proofs.Common.{◌≡◌, ℕ, suc, ◌+◌, ◌<◌, ◌≤◌, List, [], ◌∷◌, ◌++◌, length, refl, ap, arith, sym, ◌∙◌, map, subst, cond, ◌⊎◌, inl, inr, append_assoc, length-append}
+use Rattle.std.proofs.Common.{◌≡◌, ℕ, ◌+◌, ◌<◌, ◌≤◌, List, [], ◌∷◌, ◌++◌, length, refl, ap, arith, sym, ◌∙◌, map, subst, cond, ◌⊎◌, inl, inr, append_assoc, length-append}
 use Rattle.std.specs.List.{AllByRecursion}
 use Rattle.std.proofs.lemmas.List.{append-nil, map-append}
 use Rattle.std.proofs.lemmas.Bool.{cases_lt}
@@ -12,7 +12,7 @@ use Rattle.uf_tree.specs.Cutting.{joined}
 use Rattle.uf_tree.specs.FilePlan.{node_part, node_held, leaf_part, leaf_held}
 use Rattle.uf_tree.specs.declared.nodes.Part.{Part}
 use Rattle.uf_tree.specs.declared.profile.Profile.{Profile}
-use Rattle.uf_tree.proofs.Each.{both, each_map}
+use Rattle.uf_tree.proofs.Each.{both}
 use Rattle.uf_build.specs.Building.{ArePieces, Builds, Any, IsHeld, Adds, Feeds}
 use Rattle.uf_build.specs.Rows.{AreRows, AreShort, AreOpen, members, saved_over, size_of, sizes_of, push_row, push_held, push_up, held_up}
 use Rattle.uf_build.proofs.Carry.{rows-push, joined-push, length-push, is_below, not_below}

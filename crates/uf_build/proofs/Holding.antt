@@ -1,11 +1,11 @@
 -- What is held where calls of a builder follow each other.
-use Rattle.std.proofs.Common.{◌≡◌, ℕ, List, [], ◌∷◌, ◌++◌, refl, ap, sym, subst}
+use Rattle.std.proofs.Common.{◌≡◌, ℕ, List, [], ◌∷◌}
 use Rattle.std.specs.Prelude.{Some, None, OnOk, OnErr}
 use Rattle.std.specs.declared.result.Result.{Result}
 use Rattle.std.specs.declared.result.Result.TheVariants.{Ok, Err}
 use Rattle.std.specs.List.{AllByRecursion}
 use Rattle.uf_cid.specs.Blocks.{Held}
-use Rattle.uf_store.specs.Contents.{Contents, Told, held_at}
+use Rattle.uf_store.specs.Contents.{Told}
 use Rattle.uf_store.specs.Keeping.{Holds, KeepsGood}
 use Rattle.uf_store.proofs.Keeping.{Holds-kept, Holds-append}
 use Rattle.uf_build.specs.Building.{IsHeld}

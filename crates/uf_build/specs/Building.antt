@@ -1,12 +1,11 @@
 -- What contracts see of a builder of a file.
-use Rattle.std.specs.Prelude.{◌≡◌, ℕ, ◌+◌, ◌*◌, ◌<◌, ◌≤◌, List, [], ◌∷◌, ◌++◌, length, map, Bool, IsTrue, ⊤}
+use Rattle.std.specs.Prelude.{◌≡◌, ℕ, ◌+◌, ◌*◌, ◌<◌, ◌≤◌, List, [], ◌∷◌, ◌++◌, length, map, Bool, ⊤}
 use Rattle.std.specs.List.{AllByRecursion}
 use Rattle.uf_cid.specs.Blocks.{Held}
 use Rattle.uf_store.specs.Contents.{Told}
 use Rattle.uf_store.specs.Keeping.{Holds}
 use Rattle.uf_tree.specs.Cutting.{joined}
 use Rattle.uf_tree.specs.FilePlan.{chunks, file_plan, leaf_part, leaf_held}
-use Rattle.uf_tree.specs.Profiles.{is_profile}
 use Rattle.uf_tree.specs.declared.nodes.Part.{Part}
 use Rattle.uf_tree.specs.declared.profile.Profile.{Profile}
 use Rattle.uf_build.specs.Rows.{AreRows, AreOpen, members, saved_over, sizes_of}

@@ -17,7 +17,7 @@ use Rattle.uf_store.specs.Contents.{Told}
 use Rattle.uf_store.specs.Keeping.{AreGood, Holds, KeepsGood}
 use Rattle.uf_store.proofs.Keeping.{Holds-append, Holds-kept}
 use Rattle.uf_tree.proofs.Each.{each_filter, each_flat_tabulate}
-use Rattle.uf_tree.proofs.Held.{shard-digested}
+use Rattle.uf_shard.proofs.Digests.{shard-digested}
 use Rattle.uf_tree.proofs.Valid.{node_entry-valid, shard-valid, shard_items-valid}
 use Rattle.uf_shard.specs.declared.hashed.Hashed.{Hashed}
 use Rattle.uf_shard.specs.Buckets.{AreForShard, AreForSlot, AreHashed, FitsSlot, blocks_at, deeper, item_at, pairs_of, rows_at}

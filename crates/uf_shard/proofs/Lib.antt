@@ -9,3 +9,4 @@ pub mod Rows
 pub mod Weights
 pub mod Sorts
 pub mod Touches
+pub mod Digests

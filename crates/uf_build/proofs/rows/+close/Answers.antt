@@ -1,12 +1,11 @@
-use Rattle.std.proofs.Common.{◌≡◌, ℕ, ◌+◌, ◌-◌, ◌<◌, ◌≤◌, List, [], ◌∷◌, ◌++◌, length, refl, arith, rules, ap, sym, ◌∙◌, subst, get_or, nat_eq, length-append}
+use Rattle.std.proofs.Common.{◌≡◌, ℕ, ◌+◌, ◌<◌, List, [], ◌++◌, length, refl, arith, rules, ap, ◌∙◌, subst, nat_eq, length-append}
 use Rattle.std.specs.Option.{option_to_list}
 use Rattle.std.proofs.lemmas.Grind.{common_steps}
 use Rattle.std.proofs.lemmas.Result.{on_ok_weaker, IfOk-weaker}
 use Rattle.uf_cid.specs.Blocks.{Held}
 use Rattle.uf_store.specs.Keeping.{Holds}
 use Rattle.uf_store.proofs.Keeping.{KeepsGood-trans, SavesOnly-trans, Holds-append, Holds-kept}
-use Rattle.uf_tree.specs.declared.nodes.Part.{Part}
-use Rattle.uf_build.specs.Rows.{close_up, close_held_up, carry, carry_held}
+use Rattle.uf_build.specs.Rows.{carry_held}
 use Rattle.uf_build.proofs.Holding.{Holds-nil}
 use Rattle.uf_build.proofs.Up.{close-past, close_held-past, close-next, sizes-closed, short-up, falls, next-level, carry-good}
 use Rattle.uf_build.proofs.rows.+close.Goals as goal

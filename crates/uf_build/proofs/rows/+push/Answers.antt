@@ -1,12 +1,11 @@
-use Rattle.std.proofs.Common.{◌≡◌, ℕ, ◌+◌, ◌-◌, ◌<◌, ◌≤◌, List, [], ◌∷◌, ◌++◌, length, refl, arith, rules, ap, sym, ◌∙◌, subst, get_or}
+use Rattle.std.proofs.Common.{◌≡◌, ◌<◌, List, [], ◌∷◌, length, refl, arith, rules, ap, ◌∙◌, subst}
 use Rattle.std.proofs.lemmas.Grind.{common_steps}
 use Rattle.std.proofs.lemmas.Result.{on_ok_weaker}
 use Rattle.uf_cid.specs.Blocks.{Held}
 use Rattle.uf_store.specs.Keeping.{Holds}
-use Rattle.uf_store.proofs.Keeping.{KeepsGood-trans, SavesOnly-trans}
+use Rattle.uf_store.proofs.Keeping.{SavesOnly-trans}
 use Rattle.uf_tree.specs.FilePlan.{node_part, node_held}
 use Rattle.uf_tree.specs.declared.nodes.Part.{Part}
-use Rattle.uf_build.specs.Rows.{held_up}
 use Rattle.uf_build.proofs.Holding.{Holds-nil, Holds-more}
 use Rattle.uf_build.proofs.Up.{push-first, held-first, push-room, push-node, one-held, sizes-up, short-up, falls, next-level}
 use Rattle.uf_build.proofs.rows.+push.Goals as goal

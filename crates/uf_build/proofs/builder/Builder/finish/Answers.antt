@@ -1,4 +1,4 @@
-use Rattle.std.proofs.Common.{◌≡◌, ◌+◌, ◌≤◌, ℕ, List, length, sym, subst, arith}
+use Rattle.std.proofs.Common.{◌≡◌, ◌+◌, ◌≤◌, ℕ, List, length, subst, arith}
 use Rattle.uf_store.specs.Keeping.{Holds}
 use Rattle.uf_tree.specs.FilePlan.{file_plan}
 use Rattle.uf_tree.proofs.Told.{kept}

@@ -1,4 +1,4 @@
-use Rattle.std.proofs.Common.{◌≡◌, ap}
+use Rattle.std.proofs.Common.{ap}
 use Rattle.uf_build.specs.Building.{Any, IsHeld, HasFed, HoldsFed, saved_by}
 use Rattle.uf_build.specs.Rows.{saved_over}
 use Rattle.uf_build.proofs.Feeding.{builds-new}

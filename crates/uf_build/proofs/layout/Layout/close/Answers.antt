@@ -1,10 +1,8 @@
-use Rattle.std.proofs.Common.{◌≡◌, ◌≤◌, ℕ, List, [], ◌∷◌, length, ap, sym, ◌∙◌, subst, arith}
+use Rattle.std.proofs.Common.{◌≡◌, ◌≤◌, ℕ, List, [], length, ap, sym, ◌∙◌, arith}
 use Rattle.std.specs.Option.{option_to_list}
 use Rattle.uf_store.proofs.Keeping.{KeepsGood-trans}
-use Rattle.uf_tree.specs.declared.profile.Profile.{Profile}
-use Rattle.uf_tree.specs.declared.nodes.Part.{Part}
 use Rattle.uf_tree.proofs.Told.{kept}
-use Rattle.uf_build.specs.Rows.{close, close_held}
+use Rattle.uf_build.specs.Rows.{close}
 use Rattle.uf_build.proofs.Counting.{close-some}
 use Rattle.uf_build.proofs.Ending.{entry-is, blocks-held, closed-all, closed-most}
 use Rattle.uf_build.proofs.layout.Layout.close.Goals as goal
