@@ -148,24 +148,72 @@ fn builds_blocks<L: Ledger>(alloc: Global, touches: &mut Steps<L>) -> Option<boo
     Some(right && store.count() == 4)
 }
 
+// One change of a directory: `+` puts an empty file under a name, `!` a file of two bytes, and `-` removes the name.
+fn step<L: Ledger>(
+    alloc: Global,
+    store: &mut Held,
+    threshold: u32,
+    root: &Cid,
+    how: u8,
+    text: &str,
+    touches: &mut Steps<L>,
+) -> Option<Entry> {
+    match how {
+        b'+' => after_put(alloc, store, threshold, root, text, &file(b""), touches),
+        b'!' => after_put(alloc, store, threshold, root, text, &file(b"hi"), touches),
+        _ => after_removal(alloc, store, threshold, root, text, touches)?,
+    }
+}
+
+// A change, and the CID and the Tsize of the directory after it.
+type Change = (u8, &'static str, &'static str, u64);
+
 // Directories in one block, changed by one name.
-fn edits_blocks<L: Ledger>(alloc: Global, touches: &mut Steps<L>) -> Option<bool> {
+const IN_BLOCKS: [Change; 6] = [
+    (b'+', "b", JUST_B, 49),
+    (b'+', "a", A_AND_B, 94),
+    (b'!', "a", HI_AND_B, 96),
+    (b'+', "a", A_AND_B, 94),
+    (b'-', "a", JUST_B, 49),
+    (b'-', "b", EMPTY, 4),
+];
+
+// A directory that becomes shards when it is too heavy, and one block again.
+const ACROSS: [Change; 4] = [
+    (b'+', "a", JUST_A, 49),
+    (b'+', "b", A_AND_B, 94),
+    (b'+', "c", THREE, 165),
+    (b'-', "c", A_AND_B, 94),
+];
+
+// The same where every directory with a name is in shards.
+const FROM_NOTHING: [Change; 2] = [(b'+', "a", ONE, 71), (b'-', "a", EMPTY, 4)];
+
+// Whether an empty directory changes so.
+fn changes_so<L: Ledger>(
+    alloc: Global,
+    threshold: u32,
+    changes: &[Change],
+    touches: &mut Steps<L>,
+) -> Option<bool> {
     let mut store = Held::new(alloc);
-    let none = built(alloc, &mut store, 74, &[], touches)?.cid;
-    let b = after_put(alloc, &mut store, 74, &none, "b", &file(b""), touches)?;
-    let both = after_put(alloc, &mut store, 74, &b.cid, "a", &file(b""), touches)?;
-    let other = after_put(alloc, &mut store, 74, &both.cid, "a", &file(b"hi"), touches)?;
-    let back = after_put(alloc, &mut store, 74, &other.cid, "a", &file(b""), touches)?;
-    let mut right = is_entry(&b, JUST_B, 49)
-        && is_entry(&both, A_AND_B, 94)
-        && is_entry(&other, HI_AND_B, 96)
-        && back == both;
-    let left = after_removal(alloc, &mut store, 74, &both.cid, "a", touches)??;
-    let last = after_removal(alloc, &mut store, 74, &left.cid, "b", touches)??;
-    right = right && left == b && is_entry(&last, EMPTY, 4);
+    let mut root = empty(alloc, &mut store, touches).ok()?.cid;
+    let mut right = true;
+    for (how, text, wanted, tsize) in changes {
+        let entry = step(alloc, &mut store, threshold, &root, *how, text, touches)?;
+        right = right && is_entry(&entry, wanted, *tsize);
+        root = entry.cid;
+    }
+    Some(right)
+}
+
+// A name that isn't there is not removed, and nothing is saved.
+fn leaves_absent_names<L: Ledger>(alloc: Global, touches: &mut Steps<L>) -> Option<bool> {
+    let mut store = Held::new(alloc);
+    let root = built(alloc, &mut store, 74, &["b"], touches)?.cid;
     let writes = store.writes();
-    let absent = after_removal(alloc, &mut store, 74, &left.cid, "a", touches)?;
-    Some(right && absent.is_none() && store.writes() == writes)
+    let absent = after_removal(alloc, &mut store, 74, &root, "a", touches)?;
+    Some(absent.is_none() && store.writes() == writes)
 }
 
 // The node of a file of the one byte `c`.
@@ -237,23 +285,13 @@ fn refuses_roots<L: Ledger>(alloc: Global, touches: &mut Steps<L>) -> Option<boo
     )
 }
 
-// Directories that become shards when they are too heavy, and one block again.
-fn crosses_the_threshold<L: Ledger>(alloc: Global, touches: &mut Steps<L>) -> Option<bool> {
+// A directory in shards that is built at once.
+fn builds_shards<L: Ledger>(alloc: Global, touches: &mut Steps<L>) -> Option<bool> {
     let mut store = Held::new(alloc);
-    let both = built(alloc, &mut store, 74, &["a", "b"], touches)?;
-    let three = after_put(alloc, &mut store, 74, &both.cid, "c", &file(b""), touches)?;
-    let built = built(alloc, &mut store, 74, &["a", "b", "c"], touches)?;
     let names = ["a", "b", "c"];
-    let mut right = is_entry(&three, THREE, 165)
-        && built == three
-        && has_names(alloc, &mut store, &three.cid, &names, touches)?
-        && kind(alloc, &mut store, &three.cid, touches) == 1;
-    let left = after_removal(alloc, &mut store, 74, &three.cid, "c", touches)??;
-    right = right && left == both;
-    let none = empty(alloc, &mut store, touches).ok()?;
-    let one = after_put(alloc, &mut store, 0, &none.cid, "a", &file(b""), touches)?;
-    let last = after_removal(alloc, &mut store, 0, &one.cid, "a", touches)??;
-    Some(right && is_entry(&one, ONE, 71) && last == none)
+    let root = built(alloc, &mut store, 74, &names, touches)?;
+    let right = is_entry(&root, THREE, 165) && kind(alloc, &mut store, &root.cid, touches) == 1;
+    Some(right && has_names(alloc, &mut store, &root.cid, &names, touches)?)
 }
 
 // Two names of one hash, which collide once the directory is sharded.
@@ -287,7 +325,8 @@ fn first_wrong<L: Ledger>(alloc: Global, blank: Blank) -> Option<usize>
     let mut touches = Steps::<L>::new(blank);
     let rows = [
         builds_blocks(alloc, &mut touches),
-        edits_blocks(alloc, &mut touches),
+        changes_so(alloc, 74, &IN_BLOCKS, &mut touches),
+        leaves_absent_names(alloc, &mut touches),
         tells_kinds(alloc, &mut touches),
         refuses_roots(alloc, &mut touches),
     ];
@@ -311,7 +350,9 @@ fn first_wrong_of_shards<L: Ledger>(alloc: Global, blank: Blank) -> Option<usize
 {
     let mut touches = Steps::<L>::new(blank);
     let rows = [
-        crosses_the_threshold(alloc, &mut touches),
+        builds_shards(alloc, &mut touches),
+        changes_so(alloc, 74, &ACROSS, &mut touches),
+        changes_so(alloc, 0, &FROM_NOTHING, &mut touches),
         names_collide(alloc, &mut touches),
     ];
     rows.iter().position(|right| *right != Some(true))
