@@ -193,7 +193,7 @@ struct Many {
     blocks: usize,
 }
 
-const MANY: [Many; 5] = [
+const MANY: [Many; 4] = [
     Many {
         count: 1,
         text: b"bafybeic2tvfibfbilacxtadz7wdhqybinapv3qlvgu4e52yi52nlz7ftli",
@@ -218,13 +218,14 @@ const MANY: [Many; 5] = [
         tsize: 18607,
         blocks: 65,
     },
-    Many {
-        count: 10000,
-        text: b"bafybeifmsc5jtzr4cw3w6yqdlgannp7hzckeihvshlz54lkkal2ztki6c4",
-        tsize: 602097,
-        blocks: 995,
-    },
 ];
+
+const TEN_THOUSAND: Many = Many {
+    count: 10000,
+    text: b"bafybeifmsc5jtzr4cw3w6yqdlgannp7hzckeihvshlz54lkkal2ztki6c4",
+    tsize: 602097,
+    blocks: 995,
+};
 
 fn are_many(alloc: Global, row: &Many) -> bool {
     let Some(pairs) = numbered(alloc, row.count) else {
@@ -319,6 +320,11 @@ fn names_that_are_their_slots(rt: HostRuntime) {
 fn many_names(rt: HostRuntime) {
     let alloc = rt.alloc();
     assert_eq!(rt; MANY.iter().position(|row| !are_many(alloc, row)), None);
+}
+
+#[test]
+fn ten_thousand_names(rt: HostRuntime) {
+    assert!(rt; are_many(rt.alloc(), &TEN_THOUSAND));
 }
 
 #[test]
