@@ -16,11 +16,13 @@ use Rattle.uf_tree.specs.declared.profile.Profile.{Profile}
 use Rattle.uf_tree.specs.HeadReading.{head_reads}
 use Rattle.uf_tree.specs.Profiles.{is_profile}
 use Rattle.uf_tree.specs.Standing.{Standing, NoHead, BadHead, Stands, StandsAs}
-use Rattle.uf_tree.specs.Tree.{Tree, Dir, Entries, Nothing, is_tree}
+use Rattle.uf_tree.specs.Tree.{Tree, File, Dir, Entries, Nothing, is_tree}
 use Rattle.uf_tree.specs.TreePlan.{entry, blocks as blocks_of, refusal}
 use Rattle.uf_mfs.specs.declared.types.Mfs.{Mfs}
 use Rattle.uf_mfs.specs.declared.types.MfsFault.{MfsFault}
 use Rattle.uf_mfs.specs.declared.types.MfsFault.TheVariants.{Rule, Ready, Sink, Store}
+use Rattle.uf_mfs.specs.declared.types.Thing.{Thing}
+use Rattle.uf_mfs.specs.declared.types.Thing.TheVariants.{File as FileAt, Folder as FolderAt}
 use Rattle.uf_mfs.specs.declared.types.Ready.TheVariants.{NoHead as NoHeadYet, HeadThere, BadHead as HeadRefused}
 
 -- the store tells, and holds each of these blocks
@@ -60,6 +62,20 @@ module _ (X : List ℕ → List ℕ) (N : List ℕ → ℕ) (told : Told) where
     pub planned : refusal X N p t ≡ None
     pub is : e ≡ entry X N p t
     pub held : TellsHeld told (blocks_of X N p t)
+
+  -- a file or a folder, by its entry
+  abbrev pub IsThing : Profile → Tree → Thing → Type 0
+  IsThing p (File bytes) (FileAt e) = IsEntry p e (File bytes)
+  IsThing p (File bytes) (FolderAt e) = ⊥
+  IsThing p (Dir es) (FileAt e) = ⊥
+  IsThing p (Dir es) (FolderAt e) = IsEntry p e (Dir es)
+
+  -- what is under a name
+  abbrev pub IsMember : Profile → Option Tree → Option Thing → Type 0
+  IsMember p None None = ⊤
+  IsMember p None (Some thing) = ⊥
+  IsMember p (Some t) None = ⊥
+  IsMember p (Some t) (Some thing) = IsThing p t thing
 
   -- the tree in memory is the directory of these entries by this profile, and its blocks are held
   pub record StandsAt (mfs : Mfs) (p : Profile) (es : Entries) : Type 0 where

@@ -2,8 +2,10 @@
 #![tactic(auto)]
 
 mod changing;
+mod looking;
 mod opening;
 mod reading;
+mod telling;
 mod types;
 
-pub use types::{Change, Mfs, MfsFault, Ready, Refused, Row, Rows, Rule, Stat, Stop};
+pub use types::{Change, Mfs, MfsFault, Ready, Refused, Row, Rows, Rule, Stat, Stop, Thing};
