@@ -55,6 +55,15 @@ module _ (hash : List ℕ → List ℕ) (Bad : Role → List ℕ → Type 0) whe
   told-shows A B names (stop.Refused why) (fault.Store f) a b t h = subst (λ f. Shows hash Bad f a b) (sym t) (calm-rises a b h)
   told-shows A B names (stop.Store f) given a b t h = subst (λ g. Shown hash Bad {A = B} (Err g) a b) (sym t) h
 
+-- what is bad by one judge and another
+pub shows-by : (hash : List ℕ → List ℕ) (Bad Other : Role → List ℕ → Type 0) (f : StoreFault) (a b : Seen) → ((role : Role) (bytes : List ℕ) → Bad role bytes → Other role bytes) → Shows hash Bad f a b → Shows hash Other f a b
+shows-by hash Bad Other Failed a b more h = h
+shows-by hash Bad Other (Damaged c) a b more h = h
+shows-by hash Bad Other (Missing c) a b more h = h
+shows-by hash Bad Other (BadBlock c role) a b more h = record { digest = h.digest; bad = more role b.lent h.bad; calm = h.calm }
+shows-by hash Bad Other (Clash c held bytes) a b more h = h
+shows-by hash Bad Other Memory a b more h = h
+
 -- what is bad without a profile is bad with one
 with_profile : (p : Profile) (bytes : List ℕ) → IsCanonicalDirectory (Some p) true bytes → IsCanonicalDirectory None true bytes
 with_profile p bytes (Basic b) = Basic (record { pairs = b.pairs; valid = b.valid; light = tt; is = b.is })
@@ -68,12 +77,7 @@ bad-more N p FileNode bytes bad = bad
 bad-more N p Leaf bytes bad = bad
 
 pub shows-more : (hash : List ℕ → List ℕ) (N : List ℕ → ℕ) (p : Profile) (f : StoreFault) (a b : Seen) → Shows hash (IsBad N None) f a b → Shows hash (IsBad N (Some p)) f a b
-shows-more hash N p Failed a b h = h
-shows-more hash N p (Damaged c) a b h = h
-shows-more hash N p (Missing c) a b h = h
-shows-more hash N p (BadBlock c role) a b h = record { digest = h.digest; bad = bad-more N p role b.lent h.bad; calm = h.calm }
-shows-more hash N p (Clash c held bytes) a b h = h
-shows-more hash N p Memory a b h = h
+shows-more hash N p f a b h = shows-by hash (IsBad N None) (IsBad N (Some p)) f a b (bad-more N p) h
 
 pub stop-more : {A : Type 0} (hash : List ℕ → List ℕ) (N : List ℕ → ℕ) (p : Profile) (r : Result A Stop) (a b : Seen) → ShownStop hash (IsBad N None) r a b → ShownStop hash (IsBad N (Some p)) r a b
 stop-more hash N p (Ok x) a b h = h

@@ -1,7 +1,9 @@
+pub mod Answering
 pub mod Counting
 pub mod Files
 pub mod Hinge
 pub mod Holding
 pub mod Meeting
 pub mod Planning
+pub mod Rooting
 pub mod Seeing

@@ -26,7 +26,7 @@ use Rattle.uf_mfs.specs.declared.types.Stop.{Stop}
 use Rattle.uf_mfs.specs.declared.types.Stop.TheVariants as stop
 use Rattle.uf_mfs.specs.declared.types.Thing.{Thing}
 use Rattle.uf_mfs.specs.declared.types.Thing.TheVariants.{File as FileAt, Folder as FolderAt}
-use Rattle.uf_mfs.specs.Answers.{Meets}
+use Rattle.uf_mfs.specs.Answers.{Meets, Says}
 use Rattle.uf_mfs.specs.Plain.{and_then, at, child}
 use Rattle.uf_mfs.specs.Replies.{is_folder}
 use Rattle.uf_mfs.specs.Standing.{IsEntry, IsMember, IsThing, TellsHeld}
@@ -35,11 +35,6 @@ use Rattle.uf_mfs.proofs.Hinge.{child-entry, entry-is, find-child}
 use Rattle.uf_mfs.proofs.Holding.{finds-fault, loss-fault, tells-agrees}
 use Rattle.uf_mfs.proofs.Meeting.{meets-err, meets-then, value-err}
 use Rattle.uf_mfs.proofs.Planning.{is-planned, own-told, root-told, trail-told}
-
--- the value, or want of memory
-abbrev pub Says : {A : Type 0} → A → Result A StoreFault → Type 0
-Says v (Ok a) = a ≡ v
-Says v (Err f) = f ≡ Memory
 
 pub finds-says : {A : Type 0} (a : Told) (l : List Held) (v : A) (r : Result A StoreFault) → TellsHeld a l → FindsOver a l v r → Says v r
 finds-says a l v (Ok x) h k = k.0

@@ -6,6 +6,7 @@ use Rattle.std.specs.declared.result.Result.{Result}
 use Rattle.std.specs.declared.result.Result.TheVariants.{Ok, Err}
 use Rattle.std.specs.List.{flat_map}
 use Rattle.uf_store.specs.declared.store.Role.{Role}
+use Rattle.uf_store.specs.declared.store.StoreFault.{StoreFault}
 use Rattle.uf_store.specs.declared.store.StoreFault.TheVariants.{Memory}
 use Rattle.uf_store.specs.Contents.{Told}
 use Rattle.uf_store.specs.Faults.{Shows, StaysCalm}
@@ -87,6 +88,11 @@ Tells names (stop.Refused why) (fault.Ready ready) = ⊥
 Tells names (stop.Refused why) fault.Sink = ⊥
 Tells names (stop.Refused why) (fault.Store f) = f ≡ Memory
 Tells names (stop.Store f) given = given ≡ fault.Store f
+
+-- a call over the store that gives this value, or wants memory
+abbrev pub Says : {A : Type 0} → A → Result A StoreFault → Type 0
+Says v (Ok a) = a ≡ v
+Says v (Err f) = f ≡ Memory
 
 module _ (X : List ℕ → List ℕ) (N : List ℕ → ℕ) (told : Told) (p : Profile) where
   -- an edit of a folder, a lookup

@@ -2,7 +2,9 @@
 #![tactic(auto)]
 
 mod changing;
+mod listing;
 mod looking;
+mod measuring;
 mod opening;
 mod reading;
 mod telling;
