@@ -4,3 +4,6 @@
 mod measure;
 
 pub use measure::length;
+
+#[cfg(test)]
+mod tests;

@@ -7,7 +7,6 @@ pub mod FilePlan
 pub mod FileSub
 pub mod HeadReading
 pub mod Heads
-pub mod Least
 pub mod Names
 pub mod Nodes
 pub mod Profiles
@@ -20,4 +19,3 @@ pub mod Standing
 pub mod Tree
 pub mod TreePlan
 pub mod Validity
-pub mod Vectors
