@@ -18,7 +18,7 @@ use Rattle.uf_tree.specs.Nodes.{Named}
 use Rattle.uf_tree.specs.Profiles.{is_profile}
 use Rattle.uf_tree.specs.Tree.{Tree, Dir, Entries, Nothing, With, pairs, entries, is_tree, are_trees, fold}
 use Rattle.uf_tree.specs.TreePlan.{Refusal, Planned, planned, planned_file, planned_dir, members, first_refusal, or_else, dir_refusal, entry, blocks, refusal, named_entries}
-use Rattle.uf_tree.proofs.Held.{tree-digested}
+use Rattle.uf_laws.proofs.Held.{tree-digested}
 use Rattle.uf_tree.proofs.TreeLaws.{pairs-entries, fold_each-pairs, find-map, map-put, map-where_key}
 use Rattle.uf_tree.proofs.Twins.{both_true}
 use Rattle.uf_tree.proofs.Valid.{sorted-map}

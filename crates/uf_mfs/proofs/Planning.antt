@@ -18,7 +18,7 @@ use Rattle.uf_tree.specs.ShardPlan.{shard, shard_held, shard_items, twins, same_
 use Rattle.uf_tree.specs.Tree.{Dir, Entries}
 use Rattle.uf_tree.specs.TreePlan.{Refusal, Collision, TooBig, collision, dir_refusal, named_entries, or_else, too_big}
 use Rattle.uf_tree.specs.Validity.{IsHash}
-use Rattle.uf_tree.proofs.Held.{dir_plan-own, trail-among}
+use Rattle.uf_laws.proofs.Held.{dir_plan-own, trail-among}
 use Rattle.uf_tree.proofs.Valid.{directory-valid}
 use Rattle.uf_dir.specs.Planned.{IsPlanned}
 use Rattle.uf_mfs.specs.Standing.{IsEntry, TellsHeld}
