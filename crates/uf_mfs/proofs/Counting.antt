@@ -65,7 +65,7 @@ shows-by hash Bad Other (Clash c held bytes) a b more h = h
 shows-by hash Bad Other Memory a b more h = h
 
 -- what is bad without a profile is bad with one
-with_profile : (p : Profile) (bytes : List ℕ) → IsCanonicalDirectory (Some p) true bytes → IsCanonicalDirectory None true bytes
+pub with_profile : (p : Profile) (bytes : List ℕ) → IsCanonicalDirectory (Some p) true bytes → IsCanonicalDirectory None true bytes
 with_profile p bytes (Basic b) = Basic (record { pairs = b.pairs; valid = b.valid; light = tt; is = b.is })
 with_profile p bytes (Sharded s) = Sharded s
 with_profile p bytes (FileRoot e n) = FileRoot e n

@@ -7,3 +7,4 @@ pub mod Meeting
 pub mod Planning
 pub mod Rooting
 pub mod Seeing
+pub mod Starting

@@ -50,7 +50,7 @@ module _ (X : List ℕ → List ℕ) (N : List ℕ → ℕ) where
   shard-codec ℕ.zero l = refl
   shard-codec (ℕ.suc left) l = refl
 
-  own-codec : (p : Profile) (l : List Named) → (own_plan X N p l).entry.cid.codec ≡ DagPb
+  pub own-codec : (p : Profile) (l : List Named) → (own_plan X N p l).entry.cid.codec ≡ DagPb
   own-codec p l = elim (is_sharded p l) as (λ b. (cond b (shard X N 7 l) (basic_dir X N l)).entry.cid.codec ≡ DagPb) [ true ↦ shard-codec 7 l | false ↦ refl ]
 
   -- a folder's entry is a node's
