@@ -34,7 +34,7 @@ use Rattle.uf_tree.specs.Profiles.{is_profile}
 use Rattle.uf_tree.specs.Roots.{dir_root}
 use Rattle.uf_tree.specs.ShardPlan.{shard, shard_held, shard_items, twins}
 use Rattle.uf_tree.specs.Standing.{IsRefusedText, NoHead, BadHead, Standing, Stands, StandsFor}
-use Rattle.uf_tree.specs.Tree.{Dir, Entries, Nothing, is_tree}
+use Rattle.uf_tree.specs.Tree.{Tree, Dir, Entries, Nothing, is_tree}
 use Rattle.uf_tree.specs.TreePlan.{TooBig, Refusal, collision, dir_refusal, entry, named_entries, or_else, too_big}
 use Rattle.uf_tree.specs.Validity.{IsDirectory, IsHash, IsShard}
 use Rattle.uf_tree.proofs.Directories.{dir_dag-node}
@@ -234,3 +234,8 @@ module _ (X : List ℕ → List ℕ) (N : List ℕ → ℕ) (hash : IsHash X) wh
       let one : head ≡ record { profile = p; root = root } = head_one _ _ (sym reads ∙ ap head_reads is ∙ again) in
       let s = stands-entry u p es stands in
       stood-at c p es head r (ap (λ (h : Head). h.profile) one) (subst (λ t. IsEntry X N t p (entry X N p (Dir es)) (Dir es)) (sym same) s) (says p es s (ap (λ (h : Head). h.root) one))
+
+-- the empty directory beside an entry that stands
+pub empty-told : (X : List ℕ → List ℕ) (N : List ℕ → ℕ) (p : Profile) (a b : Told) (root other : Entry) (t : Tree) → IsEntry X N a p other t → SavesOnly a b → root ≡ dir_entry X N p [] → Holds b (own_blocks X N p []) → IsEntry X N b p root (Dir Nothing)
+empty-told X N p None b root other t s saves is held = absurd s.held
+empty-told X N p (Some u) b root other t s saves is held = empty-stands X N p b root s.profile is (tells-held X N p u b (own_blocks X N p []) saves held)

@@ -71,11 +71,21 @@ put_free t led name es = and_then (as_free led (child name es)) (λ free. Ok (wi
 abbrev pub taken : Bool → ℕ → List ℕ → Entries → Result Entries Refused
 taken recursive led name es = and_then (as_removable recursive led (child name es)) (λ may. Ok (without_child name es))
 
--- what an edit does in a folder; a put entry stands for this tree
+-- what an edit asks of the member of its name
+abbrev pub may_be : Change → ℕ → Option Tree → Result Unit Refused
+may_be Make led o = as_free led o
+may_be (Put e) led o = as_free led o
+may_be (Remove recursive) led o = as_removable recursive led o
+
+-- what it then does; a put entry stands for this tree
+abbrev pub done : Change → Tree → List ℕ → Entries → Entries
+done Make t name es = with_child name (Dir Nothing) es
+done (Put e) t name es = with_child name t es
+done (Remove recursive) t name es = without_child name es
+
+-- what an edit does in a folder
 abbrev pub change : Change → Tree → ℕ → List ℕ → Entries → Result Entries Refused
-change Make t led name es = put_free (Dir Nothing) led name es
-change (Put e) t led name es = put_free t led name es
-change (Remove recursive) t led name es = taken recursive led name es
+change what t led name es = and_then (may_be what led (child name es)) (λ may. Ok (done what t name es))
 
 -- every missing folder along the names
 abbrev pub made_all : ℕ → List (List ℕ) → Entries → Result Entries Refused

@@ -18,6 +18,8 @@ use Rattle.uf_tree.specs.Profiles.{is_profile}
 use Rattle.uf_tree.specs.Standing.{Standing, NoHead, BadHead, Stands, StandsAs}
 use Rattle.uf_tree.specs.Tree.{Tree, File, Dir, Entries, Nothing, is_tree}
 use Rattle.uf_tree.specs.TreePlan.{entry, blocks as blocks_of, refusal}
+use Rattle.uf_mfs.specs.declared.types.Change.{Change}
+use Rattle.uf_mfs.specs.declared.types.Change.TheVariants.{Make, Put, Remove}
 use Rattle.uf_mfs.specs.declared.types.Mfs.{Mfs}
 use Rattle.uf_mfs.specs.declared.types.MfsFault.{MfsFault}
 use Rattle.uf_mfs.specs.declared.types.MfsFault.TheVariants.{Rule, Ready, Sink, Store}
@@ -76,6 +78,12 @@ module _ (X : List ℕ → List ℕ) (N : List ℕ → ℕ) (told : Told) where
   IsMember p None (Some thing) = ⊥
   IsMember p (Some t) None = ⊥
   IsMember p (Some t) (Some thing) = IsThing p t thing
+
+  -- a put entry stands for this tree
+  abbrev pub IsMeant : Profile → Change → Tree → Type 0
+  IsMeant p Make t = ⊤
+  IsMeant p (Put e) t = IsEntry p e t
+  IsMeant p (Remove recursive) t = ⊤
 
   -- the tree in memory is the directory of these entries by this profile, and its blocks are held
   pub record StandsAt (mfs : Mfs) (p : Profile) (es : Entries) : Type 0 where

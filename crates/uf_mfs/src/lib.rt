@@ -2,6 +2,7 @@
 #![tactic(auto)]
 
 mod changing;
+mod editing;
 mod listing;
 mod looking;
 mod measuring;
