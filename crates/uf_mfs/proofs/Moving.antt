@@ -1,10 +1,11 @@
 -- Folders whose members change.
-use Rattle.std.proofs.Common.{◌≡◌, ◌≢◌, ℕ, ◌<◌, ◌≤◌, ◌^◌, ◌+◌, List, [], ◌∷◌, refl, ap, sym, ◌∙◌, subst, arith, Bool, true, false, cond, Option, Some, None, Result, Ok, Err, map}
+use Rattle.std.proofs.Common.{◌≡◌, ◌≢◌, ℕ, ◌<◌, ◌≤◌, ◌^◌, ◌+◌, List, [], ◌∷◌, refl, ap, sym, ◌∙◌, subst, arith, Bool, true, false, cond, Option, Some, None, Result, Ok, Err, map, T}
 use Rattle.std.specs.Prelude.{◌&&◌, not, IsTrue}
 use Rattle.std.specs.declared.cmp.Ordering.TheVariants.{Less, Equal, Greater}
 use Rattle.std.specs.Option.{option_map}
+use Rattle.std.specs.List.{AllByRecursion}
 use Rattle.std.specs.Ordering.{eq_by_cmp}
-use Rattle.std.specs.FinMap.Entries.{find, put, where_key, by_order, is_sorted, is_sorted-put, is_sorted-where_key}
+use Rattle.std.specs.FinMap.Entries.{find, put, where_key, by_order, is_sorted, find-put, is_sorted-put, is_sorted-where_key, same_entries}
 use Rattle.uf_cid.specs.Blocks.{Held}
 use Rattle.uf_edge.specs.Counts.{Stood}
 use Rattle.uf_shard.specs.declared.fault.DirFault.{DirFault}
@@ -26,9 +27,9 @@ use Rattle.uf_tree.specs.Profiles.{is_profile}
 use Rattle.uf_tree.specs.Tree.{Tree, File, Dir, Entries, Nothing, With, pairs, entries, is_tree, are_trees}
 use Rattle.uf_tree.specs.TreePlan.{Refusal, dir_refusal, entry, named_entries, refusal}
 use Rattle.uf_tree.specs.Validity.{IsHash}
-use Rattle.uf_tree.proofs.ShardLaws.{names_total}
+use Rattle.uf_tree.proofs.ShardLaws.{names_exact, names_total}
 use Rattle.uf_tree.proofs.Told.{as_T, as_true}
-use Rattle.uf_tree.proofs.TreeLaws.{pairs-entries, named_entries-with, named_entries-without}
+use Rattle.uf_tree.proofs.TreeLaws.{entries-pairs, pairs-entries, named_entries-with, named_entries-without}
 use Rattle.uf_tree.proofs.Twins.{both_true}
 use Rattle.uf_tree.proofs.Valid.{directory-valid}
 use Rattle.uf_sizes.proofs.Removed.{removed-plan}
@@ -41,10 +42,11 @@ use Rattle.uf_mfs.specs.declared.types.Stop.{Stop}
 use Rattle.uf_mfs.specs.declared.types.Stop.TheVariants as stop
 use Rattle.uf_mfs.specs.declared.types.Thing.{Thing}
 use Rattle.uf_mfs.specs.Answers.{Calm, Decides, Edits, Meets, Says, allowed, refused_by, stop_of, unless}
-use Rattle.uf_mfs.specs.Plain.{and_then, as_folder, as_removable, change, child, done, edited, may_be, with_child, with_folder, without_child}
+use Rattle.uf_mfs.specs.Plain.{and_then, as_folder, as_removable, at, change, child, done, edited, is_folder_at, made, made_all, may_be, or_new, with_child, with_folder, without_child}
 use Rattle.uf_mfs.specs.Standing.{IsEntry, IsMeant, IsMember, TellsHeld}
-use Rattle.uf_mfs.proofs.Hinge.{AllSound, IsDir, IsSound, all-later, as-dir, each-put, each-where, entry-later, find-child, from-dir, members-sound, own-refusal, refused-above}
+use Rattle.uf_mfs.proofs.Hinge.{AllSound, IsDir, IsSound, all-later, as-dir, each-find, each-put, each-where, entry-later, find-child, from-dir, members-sound, own-refusal, refused-above}
 use Rattle.uf_mfs.proofs.Holding.{loss-fault, tells-after, tells-agrees}
+use Rattle.uf_mfs.proofs.Rooting.{equal_of}
 use Rattle.uf_mfs.proofs.Meeting.{meets-memory, value-err}
 use Rattle.uf_mfs.proofs.Planning.{is-planned, not-big, own-told}
 use Rattle.uf_mfs.proofs.Seeing.{reads-says, some-child}
@@ -287,3 +289,68 @@ module _ (X : List ℕ → List ℕ) (N : List ℕ → ℕ) (p : Profile) where
   meant-later a b Make t keeps h = tt
   meant-later a b (Put e) t keeps h = entry-later X N p a b e t keeps h
   meant-later a b (Remove recursive) t keeps h = tt
+
+  -- ---- missing folders
+
+  pub meets-decides : {A B : Type 0} (P : A → B → Type 0) (w : Result A Refused) (b : B) → Meets P w (Ok b) → Decides P w (Ok b)
+  meets-decides P (Ok a) b h = h
+  meets-decides P (Err given) b h = absurd h
+
+  pub new-none : (a b : Told) (led : ℕ) (o : Option Tree) (r q : Result (Option Thing) Stop) (new : Entry) → r ≡ q → q ≡ Ok None → Meets (λ o x. IsMember X N a p o x) (Ok o) r → IsEntry X N b p new (Dir Nothing) → Edits X N b p (or_new led o) (Ok new)
+  new-none a b led o r q new is none h s = by o (subst (λ r. Meets (λ o x. IsMember X N a p o x) (Ok o) r) (is ∙ none) h)
+    where
+      by : (o : Option Tree) → IsMember X N a p o None → Edits X N b p (or_new led o) (Ok new)
+      by None h = s
+      by (Some t) h = absurd h
+
+  folders-err : (told : Told) (name : List ℕ) (es : Entries) (w : Result Entries Refused) (go : Entries → Result Entries Refused) (s : Stop) → Edits X N told p w (Err s) → Edits X N told p (allowed X N p (with_folder name es (and_then w go))) (Err s)
+  folders-err told name es (Ok x) go s h = value-err (Is told) (Is told) x (allowed X N p (with_folder name es (go x))) s h
+  folders-err told name es (Err given) go (stop.Refused other) h = h
+  folders-err told name es (Err given) go (stop.Store f) h = h
+
+  -- the root as it was
+  pub same-root : (told : Told) (e : Entry) (es : Entries) (w : Result Entries Refused) → w ≡ Ok es → IsEntry X N told p e (Dir es) → Edits X N told p (allowed X N p w) (Ok e)
+  same-root told e es w is s = subst (λ w. Edits X N told p (allowed X N p w) (Ok e)) (sym is) (unless-ok told es e _ s.planned s)
+
+-- ---- folders that are there
+
+put-same : (name : List ℕ) (t : Tree) (l : List Row) → T (is_sorted names_cmp l) → find names_cmp name l ≡ Some t → put names_cmp name t l ≡ l
+put-same name t l sorted h = same_entries names_cmp names_total names_exact (put names_cmp name t l) l (is_sorted-put names_cmp names_total name t l sorted) sorted
+    (λ q. find-put names_cmp names_total q name t l ∙ by q (eq_by_cmp names_cmp q name) refl)
+  where
+    by : (q : List ℕ) (b : Bool) → eq_by_cmp names_cmp q name ≡ b → cond b (Some t) (find names_cmp q l) ≡ find names_cmp q l
+    by q true e = sym h ∙ ap (λ k. find names_cmp k l) (sym (names_exact q name (equal_of (names_cmp q name) e)))
+    by q false e = refl
+
+trees-each : (es : Entries) → are_trees es ≡ true → AllByRecursion (λ (m : Row). is_tree m.1 ≡ true) (pairs es)
+unfolding is_tree
+trees-each Nothing h = tt
+trees-each (With name t es) h = (let parts = both_true _ _ h in ((both_true _ _ parts.0).1, trees-each es parts.1))
+
+child-tree : (name : List ℕ) (t : Tree) (es : Entries) → is_tree (Dir es) ≡ true → child name es ≡ Some t → is_tree t ≡ true
+unfolding is_tree
+child-tree name t es h e = each-find (λ t. is_tree t ≡ true) name t (pairs es) (trees-each es (both_true _ _ h).1) e
+
+with-same : (name : List ℕ) (t : Tree) (es : Entries) → is_tree (Dir es) ≡ true → child name es ≡ Some t → with_child name t es ≡ es
+unfolding is_tree
+with-same name t es h e = ap entries (put-same name t (pairs es) (as_T _ (both_true _ _ h).0) e) ∙ entries-pairs es
+
+pub all-there : (led : ℕ) (names : List (List ℕ)) (es : Entries) → IsTrue (is_tree (Dir es)) → true ≡ is_folder_at (at led names (Dir es)) → made_all led names es ≡ Ok es
+all-there led [] es tree h = refl
+all-there led (name ∷ names) es tree h = by (λ fs deeper found. all-there (led + 1) names fs deeper found) (child name es) refl h
+  where
+    by : ((fs : Entries) → IsTrue (is_tree (Dir fs)) → true ≡ is_folder_at (at (led + 1) names (Dir fs)) → made_all (led + 1) names fs ≡ Ok fs) → (o : Option Tree) → child name es ≡ o → true ≡ is_folder_at (elim o as (λ o. Result Tree Refused) [ None ↦ Err (why.NotFound (led + 1)) | Some t ↦ at (led + 1) names t ])
+        → with_folder name es (and_then (or_new (led + 1) o) (λ below. made_all (led + 1) names below)) ≡ Ok es
+    by rec None e h = absurd cc
+    by rec (Some (File bytes)) e h = absurd (file names h)
+      where
+        file : (names : List (List ℕ)) → true ≡ is_folder_at (at (led + 1) names (File bytes)) → ⊥
+        file [] h = cc
+        file (next ∷ names) h = cc
+    by rec (Some (Dir fs)) e h =
+        ap (with_folder name es) (rec fs (child-tree name (Dir fs) es tree e) h)
+        ∙ ap (λ (es : Entries). Ok es) (with-same name (Dir fs) es tree e)
+
+pub made-true : (names : List (List ℕ)) (es : Entries) → made true names es ≡ made_all 0 names es
+made-true [] es = refl
+made-true (name ∷ names) es = refl

@@ -46,8 +46,11 @@ small false o n h = not_big n h
 -- the root block of a directory is one of its own
 pub root-among : (X : List ℕ → List ℕ) (N : List ℕ → ℕ) (p : Profile) (l : List Named) (P : Held → Type 0) → AllByRecursion P (own_plan X N p l).blocks → AllByRecursion P (dir_root X N p l ∷ [])
 unfolding shard
-root-among X N p l P h = (elim (is_sharded p l) as (λ b. AllByRecursion P (cond b (shard X N 7 l) (basic_dir X N l)).blocks
-    → P (cond b (shard_held X N (shard_items N (shard X N 6) 0 l)) (cid_of X DagPb (dir_block l), dir_block l))) [ true ↦ λ h. h.0 | false ↦ λ h. h.0 ] h, tt)
+root-among X N p l P h = (
+  elim (is_sharded p l) as (λ b. AllByRecursion P (cond b (shard X N 7 l) (basic_dir X N l)).blocks
+      → P (cond b (shard_held X N (shard_items N (shard X N 6) 0 l)) (cid_of X DagPb (dir_block l), dir_block l))) [ true ↦ λ h. h.0 | false ↦ λ h. h.0 ] h,
+  tt,
+)
 
 module _ (X : List ℕ → List ℕ) (N : List ℕ → ℕ) (p : Profile) (told : Told) (e : Entry) (es : Entries) (s : IsEntry X N told p e (Dir es)) where
   abbrev l : List Named

@@ -76,7 +76,7 @@ file_node-read profile bytes b small = moved bytes (file_block b.node) b.is smal
 
 -- ---- the root block is found among the blocks
 
-equal_of : (r : Ordering) → is_eq r ≡ true → r ≡ Equal
+pub equal_of : (r : Ordering) → is_eq r ≡ true → r ≡ Equal
 equal_of Less e = cc
 equal_of Equal e = refl
 equal_of Greater e = cc

@@ -142,6 +142,7 @@ module _ (X : List ℕ → List ℕ) (N : List ℕ → ℕ) (hash : IsHash X) wh
     where
       items : List InSlot
       items = shard_items N (shard X N 6) 0 l
+
       by : (b : Bool) → is_sharded p l ≡ b → IsSizeOf (cond b (shard_held X N (shard_items N (shard X N 6) 0 l)) (cid_of X DagPb (dir_block l), dir_block l)).1 (cond b (shard X N 7 l) (basic_dir X N l)).entry.tsize
       by true e = Sharded (shard_items N (shard X N 6) 0 l) (shard_items-valid N (shard X N 6) (shard-valid X hash N 6) 0 l valid.each (heavy p l e)) refl
           (ap (λ n. capped (length (shard_block (shard_items N (shard X N 6) 0 l)) + n)) (sum-map (λ (e : Entry). e.tsize) (λ (i : InSlot). item_entry i.1) (shard_items N (shard X N 6) 0 l)))
@@ -151,7 +152,7 @@ module _ (X : List ℕ → List ℕ) (N : List ℕ → ℕ) (hash : IsHash X) wh
   lent-is : (told : Told) (p : Profile) (es : Entries) (cid : Cid) (lent : List ℕ) (s : IsEntry X N told p (entry X N p (Dir es)) (Dir es)) → cid ≡ (entry X N p (Dir es)).cid
       → IfSome told (λ u. held_at u cid ≡ Some lent) → (dir_root X N p (named_entries X N p es)).1 ≡ lent
   lent-is None p es cid lent s is held = absurd s.held
-  lent-is (Some u) p es cid lent s is held = 
+  lent-is (Some u) p es cid lent s is held =
       let r = dir-root X N hash (Some u) p (entry X N p (Dir es)) es s in
       (let same : Some (dir_root X N p (named_entries X N p es)).1 ≡ Some lent = sym (r.among (λ b. held_at u b.0 ≡ Some b.1) s.held) ∙ ap (held_at u) (r.cid ∙ sym is) ∙ held in cc)
 
@@ -164,7 +165,7 @@ module _ (X : List ℕ → List ℕ) (N : List ℕ → ℕ) (hash : IsHash X) wh
       → IfSome told (λ u. held_at u cid ≡ Some lent) → length lent ≤ 2097152 → IsSizeOf lent tsize → tsize ≡ (entry X N p (Dir es)).tsize
   root-sized told p es cid lent tsize s is held short size =
       one-size lent tsize (own_plan X N p (named_entries X N p es)).entry.tsize (omega (arith, short)) size
-          (subst (λ b. IsSizeOf b (own_plan X N p (named_entries X N p es)).entry.tsize) (lent-is told p es cid lent s is held) (dir-size p _ (directory-valid X hash N p s.profile es s.tree)))
+      (subst (λ b. IsSizeOf b (own_plan X N p (named_entries X N p es)).entry.tsize) (lent-is told p es cid lent s is held) (dir-size p _ (directory-valid X hash N p s.profile es s.tree)))
       ∙ ap (λ (e : Entry). e.tsize) (sym (entry-is X N p es))
 
   -- ---- the Head

@@ -9,7 +9,7 @@ ghost use Rattle.uf_tree.specs.Profiles.{is_profile};
 ghost use Rattle.uf_tree.specs.Tree.{Dir, Entries, Nothing, Tree};
 ghost use Rattle.uf_mfs.specs.Answers.{Calm, Decides, Edits, ShownStop, allowed, stop_of as the_stop};
 ghost use Rattle.uf_mfs.specs.Bad.{IsBad};
-ghost use Rattle.uf_mfs.specs.Plain.{as_folder, as_free, as_removable, change, child, done, edited, may_be, with_child, without_child};
+ghost use Rattle.uf_mfs.specs.Plain.{as_folder, as_free, as_removable, change, child, done, edited, made_all, may_be, or_new, with_child, without_child};
 ghost use Rattle.uf_mfs.specs.Standing.{IsEntry, IsMeant, IsMember};
 
 use crate::looking::member;
@@ -72,17 +72,84 @@ pub(crate) fn edit<S: Store, N: NameHash, L: Ledger>(
                 ) {
                     Err(stop) => Err(stop),
                     Ok(entry) => put_in::<S, N, L>(
-                        alloc,
-                        store,
-                        profile,
-                        folder,
-                        name,
-                        &entry,
-                        touches,
+                        alloc, store, profile, folder, name, &entry, touches,
                     ),
                 },
             },
         },
+    }
+}
+
+/// Makes each folder that is missing along the names from this folder, and answers the entry of this folder then.
+pub(crate) fn fill<S: Store, N: NameHash, L: Ledger>(
+    alloc: Global,
+    store: &mut S,
+    profile: &Profile,
+    led: usize,
+    names: &[Name],
+    folder: &Entry,
+    touches: &mut Steps<L>,
+) -> Result<Entry, Stop>
+    requires profile { IsTrue (is_profile profile.now) }
+    requires few { led + length names.now < 2 ^ 64 }
+    ensures edits { (es : Entries) → IsEntry S.X.block32 N.name64 (S.seen store.old).told profile.now folder.now (Dir es) → Calm (S.seen store.old) (S.seen store.new)
+        → Edits S.X.block32 N.name64 (S.seen store.new).told profile.now (allowed S.X.block32 N.name64 profile.now (made_all led names.now es)) result }
+    ensures cause { ShownStop S.X.block32 (IsBad N.name64 (Some profile.now)) result (S.seen store.old) (S.seen store.new) }
+    ensures good { KeepsGood S.X.block32 (S.seen store.old).told (S.seen store.new).told }
+    ensures saves { SavesOnly (S.seen store.old).told (S.seen store.new).told }
+{
+    match names {
+        [] => Ok(*folder),
+        [name, rest @ ..] => match open_or_make::<S, N, L>(
+            alloc,
+            store,
+            led + 1,
+            name,
+            folder,
+            touches,
+        ) {
+            Err(stop) => Err(stop),
+            Ok(start) => match fill::<S, N, L>(
+                alloc,
+                store,
+                profile,
+                led + 1,
+                rest,
+                &start,
+                touches,
+            ) {
+                Err(stop) => Err(stop),
+                Ok(below) => put_in::<S, N, L>(
+                    alloc, store, profile, folder, name, &below, touches,
+                ),
+            },
+        },
+    }
+}
+
+// The folder of a name, and a new one where the name isn't there.
+fn open_or_make<S: Store, N: NameHash, L: Ledger>(
+    alloc: Global,
+    store: &mut S,
+    led: usize,
+    name: &Name,
+    folder: &Entry,
+    touches: &mut Steps<L>,
+) -> Result<Entry, Stop>
+    ensures opens { (p : TheProfile) (es : Entries) → IsEntry S.X.block32 N.name64 (S.seen store.old).told p folder.now (Dir es) → Calm (S.seen store.old) (S.seen store.new)
+        → Edits S.X.block32 N.name64 (S.seen store.new).told p (or_new led (child name.now es)) result }
+    ensures cause { ShownStop S.X.block32 (IsBad N.name64 None) result (S.seen store.old) (S.seen store.new) }
+    ensures good { KeepsGood S.X.block32 (S.seen store.old).told (S.seen store.new).told }
+    ensures saves { SavesOnly (S.seen store.old).told (S.seen store.new).told }
+{
+    match member::<S, N, L>(alloc, store, folder, name, touches) {
+        Err(stop) => Err(stop),
+        Ok(None) => match empty(alloc, store, touches) {
+            Err(fault) => Err(Stop::Store(fault)),
+            Ok(new) => Ok(new),
+        },
+        Ok(Some(Thing::File(_))) => Err(Stop::Refused(Refused::NotADirectory(led))),
+        Ok(Some(Thing::Folder(entry))) => Ok(entry),
     }
 }
 
@@ -122,7 +189,9 @@ fn edit_here<S: Store, N: NameHash, L: Ledger>(
         Err(why) => Err(Stop::Refused(why)),
         Ok(()) => match what {
             Change::Make => make_in::<S, N, L>(alloc, store, profile, folder, name, touches),
-            Change::Put(new) => put_in::<S, N, L>(alloc, store, profile, folder, name, &new, touches),
+            Change::Put(new) => put_in::<S, N, L>(
+                alloc, store, profile, folder, name, &new, touches,
+            ),
             Change::Remove(_) => {
                 take_out::<S, N, L>(alloc, store, profile, led, folder, name, touches)
             }

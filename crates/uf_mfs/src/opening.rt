@@ -254,11 +254,7 @@ fn tsize_of(item: &Item) -> u64
 }
 
 // Writes the Head, where its text isn't this one already.
-fn put_head<S: Store>(
-    store: &mut S,
-    old: &Option<Block>,
-    text: &Block,
-) -> Result<(), StoreFault>
+fn put_head<S: Store>(store: &mut S, old: &Option<Block>, text: &Block) -> Result<(), StoreFault>
     ensures commits { OnOk result (IfSome (S.seen store.old).told (λ t. t.notes.head ≡ old.now) → Commits text.now (S.seen store.old).told (S.seen store.new).told) }
     ensures leaves { OnErr result (LeavesHead (S.seen store.old).told (S.seen store.new).told) }
     ensures fault { IfErr result IsNoteFault }

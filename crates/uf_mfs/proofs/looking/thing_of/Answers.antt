@@ -16,13 +16,13 @@ returns-in-Err-clause-thing g c = λ p t s stood.
 pub returns-in-Ok-true-clause-thing : goal.returns-in-Ok-true-clause-thing
 returns-in-Ok-true-clause-thing g c = λ p t s stood.
     let is = dir-says g.S.X.BlockHash.block32 g.N.NameHash.name64 (record { size = g.met.S.X.BlockHash.size; are_bytes = g.met.S.X.BlockHash.are_bytes }) g.met.N.NameHash.fits _ p c.args.entry.now t c.is_dir.result (Ok true) (c.in-Ok-true.is ∙ ap Ok c.in-Ok-true.field-0-test) s c.in-DagPb.is
-        (λ M p l i a. c.is_dir.ensures.folder M p l i a stood) (λ p bytes root i node a. c.is_dir.ensures.file p bytes root i node a stood) in
+    (λ M p l i a. c.is_dir.ensures.folder M p l i a stood) (λ p bytes root i node a. c.is_dir.ensures.file p bytes root i node a stood) in
     subst (λ told. IsThing g.S.X.BlockHash.block32 g.N.NameHash.name64 told p t (FolderAt c.args.entry.now)) (sym c.is_dir.ensures.told)
     (thing-yes g.S.X.BlockHash.block32 g.N.NameHash.name64 _ p c.args.entry.now t s is)
 
 pub returns-in-Ok-false-clause-thing : goal.returns-in-Ok-false-clause-thing
 returns-in-Ok-false-clause-thing g c = λ p t s stood.
     let is = dir-says g.S.X.BlockHash.block32 g.N.NameHash.name64 (record { size = g.met.S.X.BlockHash.size; are_bytes = g.met.S.X.BlockHash.are_bytes }) g.met.N.NameHash.fits _ p c.args.entry.now t c.is_dir.result (Ok false) (c.in-Ok-false.is ∙ ap Ok c.in-Ok-false.field-0-test) s c.in-DagPb.is
-        (λ M p l i a. c.is_dir.ensures.folder M p l i a stood) (λ p bytes root i node a. c.is_dir.ensures.file p bytes root i node a stood) in
+    (λ M p l i a. c.is_dir.ensures.folder M p l i a stood) (λ p bytes root i node a. c.is_dir.ensures.file p bytes root i node a stood) in
     subst (λ told. IsThing g.S.X.BlockHash.block32 g.N.NameHash.name64 told p t (FileAt c.args.entry.now)) (sym c.is_dir.ensures.told)
     (thing-no g.S.X.BlockHash.block32 g.N.NameHash.name64 _ p c.args.entry.now t s is)

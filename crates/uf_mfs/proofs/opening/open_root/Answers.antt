@@ -25,5 +25,5 @@ pub returns-in-Ok-root_size-clause-opens : goal.returns-in-Ok-root_size-clause-o
 returns-in-Ok-root_size-clause-opens g c = λ p es s is stood.
     let X = g.S.X.BlockHash.block32 in let N = g.N.NameHash.name64 in
     let size : c.in-Ok-root_size.tsize ≡ (entry X N p (Dir es)).tsize = root-sized X N (record { size = g.met.S.X.BlockHash.size; are_bytes = g.met.S.X.BlockHash.are_bytes }) (g.S.Store.seen c.args.store.now).told p es c.args.head.root (g.S.Store.seen c.need.new.store).lent c.in-Ok-root_size.tsize s is
-        c.in-Ok.ensures.found.is_held c.in-Ok.ensures.found.size (subst (λ bytes. IsSizeOf bytes c.in-Ok-root_size.tsize) c.block.ensures c.in-Ok-root_size.ensures) in
+    c.in-Ok.ensures.found.is_held c.in-Ok.ensures.found.size (subst (λ bytes. IsSizeOf bytes c.in-Ok-root_size.tsize) c.block.ensures c.in-Ok-root_size.ensures) in
     λ i. record { profile = c.args.head.profile; root = record { cid = is i; tsize = size i } }
