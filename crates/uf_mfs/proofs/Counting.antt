@@ -5,7 +5,7 @@ use Rattle.uf_store.specs.declared.store.Role.{Role}
 use Rattle.uf_store.specs.declared.store.Role.TheVariants.{Directory, Shard, FileNode, Leaf}
 use Rattle.uf_store.specs.declared.store.StoreFault.{StoreFault}
 use Rattle.uf_store.specs.declared.store.StoreFault.TheVariants.{Failed, Damaged, Missing, BadBlock, Clash, Memory}
-use Rattle.uf_store.specs.Faults.{Rises, Shows, StaysCalm}
+use Rattle.uf_store.specs.Faults.{Answers, Rises, Shows, StaysCalm}
 use Rattle.uf_store.specs.Seen.{Seen}
 use Rattle.uf_store.proofs.Causes.{Shows-after, StaysCalm-trans}
 use Rattle.uf_tree.specs.declared.profile.Profile.{Profile}
@@ -35,6 +35,10 @@ module _ (hash : List ℕ → List ℕ) (Bad : Role → List ℕ → Type 0) whe
   shows-rises (BadBlock c role) a b h = calm-rises a b h.calm
   shows-rises (Clash c held bytes) a b h = h.rises
   shows-rises Memory a b h = h
+
+  pub answers-rises : {A : Type 0} (r : Result A StoreFault) (a b : Seen) → Answers hash Bad r a b → Rises a b
+  answers-rises (Ok x) a b h = calm-rises a b h
+  answers-rises (Err f) a b h = shows-rises f a b h
 
   pub stop-rises : {A : Type 0} (r : Result A Stop) (a b : Seen) → ShownStop hash Bad r a b → Rises a b
   stop-rises (Ok x) a b h = calm-rises a b h

@@ -112,11 +112,11 @@ module _ (X : List ℕ → List ℕ) (N : List ℕ → ℕ) where
   pub found-entry : (a b : Told) (p : Profile) (folder : Entry) (es : Entries) (name : List ℕ) (t : Tree) (e : Entry) → b ≡ a → IsEntry X N a p folder (Dir es) → child name es ≡ Some t → e ≡ entry X N p t → IsEntry X N b p e t
   found-entry a b p folder es name t e same s h is = subst (λ a. IsEntry X N a p e t) (sym same) (subst (λ e. IsEntry X N a p e t) (sym is) (child-entry X N p a folder es name t s h))
 
-  pub member-err : (a b : Told) (p : Profile) (folder : Entry) (es : Entries) (name : List ℕ) (e : Entry) (c : Told) (s : Stop) → b ≡ a → IsEntry X N a p folder (Dir es) → Some e ≡ option_map (entry X N p) (child name es)
-      → ((t : Tree) → IsEntry X N b p e t → Meets (λ t thing. IsThing X N c p t thing) (Ok t) (Err s)) → Meets (λ o m. IsMember X N c p o m) (Ok (child name es)) (Err s)
-  member-err a b p folder es name e c s same i h thing =
+  pub member-err : (a b : Told) (p : Profile) (folder : Entry) (es : Entries) (name : List ℕ) (e : Entry) (c : Told) (f : StoreFault) → b ≡ a → IsEntry X N a p folder (Dir es) → Some e ≡ option_map (entry X N p) (child name es)
+      → ((t : Tree) → IsEntry X N b p e t → f ≡ Memory) → f ≡ Memory
+  member-err a b p folder es name e c f same i h thing =
       let m = some-child p (child name es) e h in
-      value-err (λ t thing. IsThing X N c p t thing) (λ o m. IsMember X N c p o m) m.0 (Ok (child name es)) s (thing m.0 (found-entry a b p folder es name m.0 e same i m.1.0 m.1.1))
+      thing m.0 (found-entry a b p folder es name m.0 e same i m.1.0 m.1.1)
 
   pub member-some : (a b : Told) (p : Profile) (folder : Entry) (es : Entries) (name : List ℕ) (e : Entry) (c : Told) (x : Thing) → b ≡ a → IsEntry X N a p folder (Dir es) → Some e ≡ option_map (entry X N p) (child name es)
       → ((t : Tree) → IsEntry X N b p e t → IsThing X N c p t x) → IsMember X N c p (child name es) (Some x)

@@ -1,5 +1,5 @@
 -- What an entry, a tree in memory and a store stand for.
-use Rattle.std.specs.Prelude.{◌≡◌, ◌≢◌, ℕ, List, ⊤, IsTrue}
+use Rattle.std.specs.Prelude.{◌≡◌, ◌≢◌, ℕ, List, [], ◌∷◌, ⊤, IsTrue}
 use Rattle.std.specs.declared.option.Option.{Option}
 use Rattle.std.specs.declared.option.Option.TheVariants.{None, Some}
 use Rattle.std.specs.declared.result.Result.{Result}
@@ -8,12 +8,14 @@ use Rattle.uf_cid.specs.Blocks.{Held}
 use Rattle.uf_cid.specs.Blocks as blocks
 use Rattle.uf_cid.specs.declared.cid.Codec.TheVariants.{DagPb}
 use Rattle.uf_store.specs.declared.store.Note.TheVariants.{Head}
+use Rattle.uf_store.specs.declared.store.StoreFault.{StoreFault}
 use Rattle.uf_store.specs.declared.store.StoreFault.TheVariants.{Memory}
 use Rattle.uf_store.specs.Contents.{Told, changed, held_at, with_sync, with_text}
 use Rattle.uf_tree.specs.declared.head_fault.HeadFault.{HeadFault}
 use Rattle.uf_tree.specs.declared.nodes.Entry.{Entry}
 use Rattle.uf_tree.specs.declared.profile.Profile.{Profile}
 use Rattle.uf_tree.specs.HeadReading.{head_reads}
+use Rattle.uf_tree.specs.Nodes.{Named}
 use Rattle.uf_tree.specs.Profiles.{is_profile}
 use Rattle.uf_tree.specs.Standing.{Standing, NoHead, BadHead, Stands, StandsAs}
 use Rattle.uf_tree.specs.Tree.{Tree, File, Dir, Entries, Nothing, is_tree}
@@ -72,12 +74,24 @@ module _ (X : List ℕ → List ℕ) (N : List ℕ → ℕ) (told : Told) where
   IsThing p (Dir es) (FileAt e) = ⊥
   IsThing p (Dir es) (FolderAt e) = IsEntry p e (Dir es)
 
+  -- a call over the store that tells what stands there, or wants memory
+  abbrev pub SaysThing : Profile → Tree → Result Thing StoreFault → Type 0
+  SaysThing p t (Ok thing) = IsThing p t thing
+  SaysThing p t (Err fault) = fault ≡ Memory
+
   -- what is under a name
   abbrev pub IsMember : Profile → Option Tree → Option Thing → Type 0
   IsMember p None None = ⊤
   IsMember p None (Some thing) = ⊥
   IsMember p (Some t) None = ⊥
   IsMember p (Some t) (Some thing) = IsThing p t thing
+
+  -- the names and entries are those of these members
+  abbrev pub AreMembers : Profile → List Named → List (List ℕ × Tree) → Type 0
+  AreMembers p [] [] = ⊤
+  AreMembers p [] (m ∷ l) = ⊥
+  AreMembers p (e ∷ es) [] = ⊥
+  AreMembers p (e ∷ es) (m ∷ l) = (e.0 ≡ m.0) × IsEntry p e.1 m.1 × AreMembers p es l
 
   -- a put entry stands for this tree
   abbrev pub IsMeant : Profile → Change → Tree → Type 0
