@@ -1,20 +1,18 @@
 -- What calls that read a tree answer.
-use Rattle.std.proofs.Common.{◌≡◌, ◌≢◌, ℕ, ◌<◌, ◌≤◌, ◌^◌, ◌+◌, ◌-◌, List, [], ◌∷◌, length, map, replicate, refl, ap, sym, ◌∙◌, subst, arith, Bool, true, false, Option, Some, None, Result, Ok, Err, ◌⊎◌, inl, inr}
+use Rattle.std.proofs.Common.{◌≡◌, ◌≢◌, ℕ, ◌<◌, ◌≤◌, ◌^◌, List, [], ◌∷◌, length, map, replicate, refl, ap, sym, ◌∙◌, subst, arith, true, Some, None, Result, Ok, Err, ◌⊎◌, inl, inr}
 use Rattle.std.specs.Prelude.{IfSome}
 use Rattle.uf_cid.specs.Blocks.{Held}
 use Rattle.uf_cid.specs.declared.cid.Cid.{Cid}
-use Rattle.uf_cid.specs.declared.cid.Codec.TheVariants.{Raw, DagPb}
 use Rattle.uf_dagpb.specs.Reading.{Fails, node_reads}
 use Rattle.uf_dagpb.specs.declared.fault.PbFault.TheVariants as pb
 use Rattle.uf_dagpb.specs.declared.fault.PbFault.{PbFault}
-use Rattle.uf_dagpb.specs.declared.node.Node.{Node}
 use Rattle.uf_edge.specs.Counts.{Stood}
 use Rattle.uf_store.specs.declared.store.Role.{Role}
 use Rattle.uf_store.specs.declared.store.Role.TheVariants.{Directory, Shard, FileNode, Leaf}
 use Rattle.uf_store.specs.declared.store.StoreFault.{StoreFault}
 use Rattle.uf_store.specs.declared.store.StoreFault.TheVariants.{Failed, Damaged, Missing, BadBlock, Clash, Memory}
 use Rattle.uf_store.specs.Clashes.{IsLoadFault}
-use Rattle.uf_store.specs.Contents.{Contents, Told, held_at}
+use Rattle.uf_store.specs.Contents.{Told, held_at}
 use Rattle.uf_store.specs.Faults.{NoneIsBad, Shows, StaysCalm}
 use Rattle.uf_store.specs.Keeping.{Agrees}
 use Rattle.uf_store.specs.Lost.{FindsOver, ReadsOver}
@@ -37,13 +35,13 @@ use Rattle.uf_mfs.specs.declared.types.Stop.TheVariants as stop
 use Rattle.uf_mfs.specs.declared.types.Thing.TheVariants.{File as FileAt}
 use Rattle.uf_mfs.specs.Answers.{Answers, Meets, Says, Tells, rule_of}
 use Rattle.uf_mfs.specs.Bad.{IsBad}
-use Rattle.uf_mfs.specs.Replies.{children, size}
+use Rattle.uf_mfs.specs.Replies.{size}
 use Rattle.uf_mfs.specs.Standing.{IsEntry, IsThing}
 use Rattle.uf_mfs.proofs.Counting.{calm-rises, shows-by}
 use Rattle.uf_mfs.proofs.Files as files
 use Rattle.uf_mfs.proofs.Holding.{tells-agrees}
 use Rattle.uf_mfs.proofs.Planning.{is-planned, own-told}
-use Rattle.uf_mfs.proofs.Rooting.{IsRead, directory-read, file_node-read, root-held, root-of, root-read}
+use Rattle.uf_mfs.proofs.Rooting.{IsRead, directory-read, file_node-read, root-held, root-of}
 use Rattle.uf_mfs.proofs.Seeing.{finds-says, reads-says}
 
 length-replicate : (n : ℕ) → length {A = ℕ} (replicate n 0) ≡ n

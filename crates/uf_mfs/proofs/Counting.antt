@@ -1,5 +1,5 @@
 -- How the counts move over calls in a row, and what their faults show then.
-use Rattle.std.proofs.Common.{◌≡◌, ℕ, ◌≤◌, ◌<◌, ◌+◌, ◌-◌, ◌^◌, List, arith, refl, sym, subst, Option, Some, None, Result, Ok, Err, true, false}
+use Rattle.std.proofs.Common.{◌≡◌, ℕ, ◌≤◌, List, arith, sym, subst, Some, None, Result, Ok, Err, true}
 use Rattle.uf_edge.specs.Counts.{Stood}
 use Rattle.uf_store.specs.declared.store.Role.{Role}
 use Rattle.uf_store.specs.declared.store.Role.TheVariants.{Directory, Shard, FileNode, Leaf}

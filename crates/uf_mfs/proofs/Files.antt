@@ -1,6 +1,6 @@
 -- A file with a plan, as its root block is seen.
-use Rattle.std.proofs.Common.{◌≡◌, ℕ, zero, suc, ◌<◌, ◌≤◌, ◌*◌, List, [], ◌∷◌, length, refl, ap, sym, ◌∙◌, subst, arith, Bool, true, false, cond, Option, Some, None}
-use Rattle.std.specs.Prelude.{◌&&◌, IfSome, IsTrue, nat_lt}
+use Rattle.std.proofs.Common.{◌≡◌, ℕ, zero, suc, ◌≤◌, ◌*◌, List, [], ◌∷◌, length, refl, ap, ◌∙◌, arith, Bool, true, false, cond, Some, None}
+use Rattle.std.specs.Prelude.{IfSome, IsTrue, nat_lt}
 use Rattle.std.specs.List.{AllByRecursion, list_all}
 use Rattle.std.proofs.lemmas.Bool.Decides.{nat_tests}
 use Rattle.uf_cid.specs.Blocks.{Held}
@@ -9,11 +9,11 @@ use Rattle.uf_store.specs.Contents.{Told}
 use Rattle.uf_tree.specs.declared.nodes.Entry.{Entry}
 use Rattle.uf_tree.specs.declared.profile.Profile.{Profile}
 use Rattle.uf_tree.specs.FilePlan.{file_plan}
-use Rattle.uf_tree.specs.FileSub.{IsRooted, blocks_over, part_over, span}
+use Rattle.uf_tree.specs.FileSub.{IsRooted, blocks_over}
 use Rattle.uf_tree.specs.Profiles.{is_profile}
 use Rattle.uf_tree.specs.Roots.{IsFileRoot, root_over}
 use Rattle.uf_tree.specs.Tree.{File, fold, is_tree}
-use Rattle.uf_tree.specs.TreePlan.{FileTooLong, Refusal, blocks, entry, planned, refusal, too_long}
+use Rattle.uf_tree.specs.TreePlan.{FileTooLong, entry, planned}
 use Rattle.uf_tree.proofs.Rows.{file_plan-rows, plan-sub, sub-plan}
 use Rattle.uf_tree.proofs.Told.{kept}
 use Rattle.uf_tree.proofs.Twins.{both_true}

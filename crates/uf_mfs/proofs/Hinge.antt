@@ -1,28 +1,26 @@
 -- A folder stands for its tree where each member does, and the directory of their names and entries is held.
-use Rattle.std.proofs.Common.{◌≡◌, ℕ, List, [], ◌∷◌, ◌++◌, refl, ap, sym, ◌∙◌, subst, Bool, true, false, cond, Option, Some, None, Result, Ok, map}
-use Rattle.std.specs.Prelude.{◌&&◌, not, IsTrue}
+use Rattle.std.proofs.Common.{◌≡◌, ℕ, List, [], ◌∷◌, ◌++◌, refl, ap, sym, ◌∙◌, subst, Bool, true, false, cond, Option, Some, None, map}
+use Rattle.std.specs.Prelude.{◌&&◌, IsTrue}
 use Rattle.std.specs.declared.cmp.Ordering.TheVariants.{Less, Equal, Greater}
 use Rattle.std.specs.List.{AllByRecursion, flat_map}
 use Rattle.std.specs.Option.{option_map}
 use Rattle.std.specs.Ordering.{eq_by_cmp}
-use Rattle.std.specs.FinMap.Entries.{find, put, where_key, by_order, is_sorted}
+use Rattle.std.specs.FinMap.Entries.{find, put, where_key, by_order}
 use Rattle.uf_cid.specs.Blocks.{Held}
 use Rattle.uf_store.specs.Contents.{Told}
 use Rattle.uf_store.specs.Keeping.{AreGood, KeepsGood}
 use Rattle.uf_tree.specs.declared.nodes.Entry.{Entry}
 use Rattle.uf_tree.specs.declared.profile.Profile.{Profile}
-use Rattle.uf_tree.specs.Changes.{with_name, without}
 use Rattle.uf_tree.specs.DirPlan.{own_plan}
-use Rattle.uf_tree.specs.Names.{names_cmp, is_name}
+use Rattle.uf_tree.specs.Names.{names_cmp}
 use Rattle.uf_tree.specs.Nodes.{Named}
 use Rattle.uf_tree.specs.Profiles.{is_profile}
-use Rattle.uf_tree.specs.Tree.{Tree, Dir, Entries, Nothing, With, pairs, entries, is_tree, are_trees, fold}
+use Rattle.uf_tree.specs.Tree.{Tree, Dir, Entries, Nothing, With, pairs, is_tree, are_trees, fold}
 use Rattle.uf_tree.specs.TreePlan.{Refusal, Planned, planned, planned_file, planned_dir, members, first_refusal, or_else, dir_refusal, entry, blocks, refusal, named_entries}
 use Rattle.uf_laws.proofs.Held.{tree-digested}
-use Rattle.uf_tree.proofs.TreeLaws.{pairs-entries, fold_each-pairs, find-map, map-put, map-where_key}
+use Rattle.uf_tree.proofs.TreeLaws.{pairs-entries, fold_each-pairs, find-map}
 use Rattle.uf_tree.proofs.Twins.{both_true}
-use Rattle.uf_tree.proofs.Valid.{sorted-map}
-use Rattle.uf_mfs.specs.Plain.{child, with_child, without_child}
+use Rattle.uf_mfs.specs.Plain.{child, with_child}
 use Rattle.uf_mfs.specs.Standing.{IsEntry, TellsHeld}
 use Rattle.uf_mfs.proofs.Holding.{tells-append, tells-back, tells-front, tells-kept, tells-none}
 

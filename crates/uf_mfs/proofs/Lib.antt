@@ -4,6 +4,7 @@ pub mod Files
 pub mod Hinge
 pub mod Holding
 pub mod Meeting
+pub mod Membering
 pub mod Moving
 pub mod Planning
 pub mod Rooting

@@ -1,12 +1,11 @@
 -- Folders whose members change.
-use Rattle.std.proofs.Common.{◌≡◌, ◌≢◌, ℕ, ◌<◌, ◌≤◌, ◌^◌, ◌+◌, List, [], ◌∷◌, refl, ap, sym, ◌∙◌, subst, arith, Bool, true, false, cond, Option, Some, None, Result, Ok, Err, map, T}
-use Rattle.std.specs.Prelude.{◌&&◌, not, IsTrue}
+use Rattle.std.proofs.Common.{◌≡◌, ◌≢◌, ℕ, ◌<◌, ◌≤◌, ◌^◌, ◌+◌, List, [], ◌∷◌, refl, ap, sym, ◌∙◌, subst, arith, Bool, true, false, cond, Option, Some, None, Result, Ok, Err, T}
+use Rattle.std.specs.Prelude.{◌&&◌, IsTrue}
 use Rattle.std.specs.declared.cmp.Ordering.TheVariants.{Less, Equal, Greater}
 use Rattle.std.specs.Option.{option_map}
 use Rattle.std.specs.List.{AllByRecursion}
 use Rattle.std.specs.Ordering.{eq_by_cmp}
 use Rattle.std.specs.FinMap.Entries.{find, put, where_key, by_order, is_sorted, find-put, is_sorted-put, is_sorted-where_key, same_entries}
-use Rattle.uf_cid.specs.Blocks.{Held}
 use Rattle.uf_cid.specs.declared.cid.Codec.TheVariants.{DagPb}
 use Rattle.uf_edge.specs.Counts.{Stood}
 use Rattle.uf_shard.specs.declared.fault.DirFault.{DirFault}
@@ -14,9 +13,9 @@ use Rattle.uf_shard.specs.declared.fault.DirFault.TheVariants as dir
 use Rattle.uf_shard.specs.Answers.{GivesOver}
 use Rattle.uf_store.specs.declared.store.StoreFault.{StoreFault}
 use Rattle.uf_store.specs.declared.store.StoreFault.TheVariants.{Memory}
-use Rattle.uf_store.specs.Contents.{Contents, Told}
+use Rattle.uf_store.specs.Contents.{Told}
 use Rattle.uf_store.specs.Faults.{Rises, StaysCalm}
-use Rattle.uf_store.specs.Keeping.{Agrees, Holds, KeepsGood, SavesOnly}
+use Rattle.uf_store.specs.Keeping.{Agrees, KeepsGood}
 use Rattle.uf_store.specs.Lost.{AgreesAfter, ReadsOver}
 use Rattle.uf_store.specs.Seen.{Seen}
 use Rattle.uf_tree.specs.declared.nodes.Entry.{Entry}
@@ -24,7 +23,6 @@ use Rattle.uf_tree.specs.declared.profile.Profile.{Profile}
 use Rattle.uf_tree.specs.Changes.{with_name, without}
 use Rattle.uf_tree.specs.Names.{names_cmp, is_name}
 use Rattle.uf_tree.specs.Nodes.{Named}
-use Rattle.uf_tree.specs.Profiles.{is_profile}
 use Rattle.uf_tree.specs.Tree.{Tree, File, Dir, Entries, Nothing, With, pairs, entries, is_tree, are_trees}
 use Rattle.uf_tree.specs.TreePlan.{Refusal, dir_refusal, entry, named_entries, refusal}
 use Rattle.uf_tree.specs.Validity.{IsHash}
@@ -32,7 +30,6 @@ use Rattle.uf_tree.proofs.ShardLaws.{names_exact, names_total}
 use Rattle.uf_tree.proofs.Told.{as_T, as_true}
 use Rattle.uf_tree.proofs.TreeLaws.{entries-pairs, pairs-entries, named_entries-with, named_entries-without}
 use Rattle.uf_tree.proofs.Twins.{both_true}
-use Rattle.uf_tree.proofs.Valid.{directory-valid}
 use Rattle.uf_sizes.proofs.Removed.{removed-plan}
 use Rattle.uf_dir.specs.Planned.{IsPlanned, dir_entry, entry_without, own_blocks}
 use Rattle.uf_mfs.specs.declared.types.Change.{Change}
@@ -44,7 +41,7 @@ use Rattle.uf_mfs.specs.declared.types.Stop.{Stop}
 use Rattle.uf_mfs.specs.declared.types.Stop.TheVariants as stop
 use Rattle.uf_mfs.specs.declared.types.Thing.{Thing}
 use Rattle.uf_mfs.specs.Answers.{Answers, Calm, Decides, Edits, Meets, Moves, Says, allowed, refused_by, stop_of, unless}
-use Rattle.uf_mfs.specs.Plain.{and_then, as_folder, as_removable, at, change, child, done, edited, is_folder_at, made, made_all, may_be, or_new, with_child, with_folder, without_child}
+use Rattle.uf_mfs.specs.Plain.{and_then, as_removable, at, change, child, done, is_folder_at, made, made_all, may_be, or_new, with_child, with_folder, without_child}
 use Rattle.uf_mfs.specs.Standing.{IsEntry, IsMeant, IsMember, StandsAt, TellsHeld}
 use Rattle.uf_mfs.proofs.Hinge.{AllSound, IsDir, IsSound, all-later, as-dir, each-find, each-put, each-where, entry-later, find-child, from-dir, members-sound, own-refusal, refused-above}
 use Rattle.uf_mfs.proofs.Holding.{loss-fault, tells-after, tells-agrees}

@@ -1,5 +1,5 @@
 -- The root block of a tree, where the blocks of its plan are held.
-use Rattle.std.proofs.Common.{◌≡◌, ℕ, zero, suc, ◌<◌, ◌≤◌, ◌^◌, ◌*◌, List, [], ◌∷◌, ◌++◌, length, map, refl, ap, sym, ◌∙◌, subst, arith, Bool, true, false, cond, Option, Some, None, Result, Ok, Err, ◌⊎◌, inl, inr}
+use Rattle.std.proofs.Common.{◌≡◌, ℕ, zero, suc, ◌<◌, ◌≤◌, ◌^◌, List, [], ◌∷◌, ◌++◌, length, refl, ap, sym, ◌∙◌, subst, arith, Bool, true, false, cond, Option, Some, None, Result, Ok, Err, ◌⊎◌, inl, inr}
 use Rattle.std.specs.Prelude.{IfSome, IsTrue}
 use Rattle.std.specs.Cmp.{eq_by_cmp_equiv}
 use Rattle.std.specs.List.{AllByRecursion}
@@ -23,8 +23,7 @@ use Rattle.uf_tree.specs.declared.nodes.Entry.{Entry}
 use Rattle.uf_tree.specs.declared.profile.Profile.{Profile}
 use Rattle.uf_tree.specs.Codecs.{dir_dag, file_dag, shard_dag}
 use Rattle.uf_tree.specs.DirPlan.{basic_dir, is_sharded, own_plan}
-use Rattle.uf_tree.specs.FilePlan.{file_plan}
-use Rattle.uf_tree.specs.FileSub.{IsHeight, IsRooted, part_over}
+use Rattle.uf_tree.specs.FileSub.{IsHeight, part_over}
 use Rattle.uf_tree.specs.Nodes.{Named, dir_block, file_block, shard_block}
 use Rattle.uf_tree.specs.Profiles.{is_profile}
 use Rattle.uf_tree.specs.Roles.{IsCanonicalDirectory, IsCanonicalFileNode, Basic, Sharded, FileRoot, Root}
@@ -40,7 +39,7 @@ use Rattle.uf_tree.proofs.Shards.{shard_dag-node}
 use Rattle.uf_tree.proofs.Told.{kept}
 use Rattle.uf_tree.proofs.Valid.{directory-valid}
 use Rattle.uf_mfs.specs.Replies.{children, links_in}
-use Rattle.uf_mfs.specs.Standing.{IsEntry, TellsHeld}
+use Rattle.uf_mfs.specs.Standing.{IsEntry}
 use Rattle.uf_mfs.proofs.Files as files
 use Rattle.uf_mfs.proofs.Hinge.{blocks-is, entry-is}
 use Rattle.uf_mfs.proofs.Planning.{root-among}

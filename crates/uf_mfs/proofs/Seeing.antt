@@ -22,19 +22,16 @@ use Rattle.uf_tree.specs.Validity.{IsHash}
 use Rattle.uf_dir.specs.Planned.{IsPlanned}
 use Rattle.uf_mfs.specs.declared.types.Refused.{Refused}
 use Rattle.uf_mfs.specs.declared.types.Refused.TheVariants.{NotFound}
-use Rattle.uf_mfs.specs.declared.types.Stop.{Stop}
-use Rattle.uf_mfs.specs.declared.types.Stop.TheVariants as stop
 use Rattle.uf_mfs.specs.declared.types.Thing.{Thing}
 use Rattle.uf_mfs.specs.declared.types.Thing.TheVariants.{File as FileAt, Folder as FolderAt}
-use Rattle.uf_mfs.specs.Answers.{Meets, Says}
-use Rattle.uf_mfs.specs.Plain.{and_then, at, child}
+use Rattle.uf_mfs.specs.Answers.{Says}
+use Rattle.uf_mfs.specs.Plain.{at, child}
 use Rattle.uf_mfs.specs.Replies.{is_folder}
 use Rattle.uf_mfs.specs.Standing.{IsEntry, IsMember, IsThing, TellsHeld}
 use Rattle.uf_mfs.proofs.Files as files
 use Rattle.uf_mfs.proofs.Hinge.{child-entry, entry-is, find-child}
 use Rattle.uf_mfs.proofs.Holding.{finds-fault, loss-fault, tells-agrees}
-use Rattle.uf_mfs.proofs.Meeting.{meets-err, meets-then, value-err}
-use Rattle.uf_mfs.proofs.Planning.{is-planned, own-told, root-told, trail-told}
+use Rattle.uf_mfs.proofs.Planning.{is-planned, root-told, trail-told}
 
 pub finds-says : {A : Type 0} (a : Told) (l : List Held) (v : A) (r : Result A StoreFault) → TellsHeld a l → FindsOver a l v r → Says v r
 finds-says a l v (Ok x) h k = k.0

@@ -1,6 +1,6 @@
 -- Stores made ready and opened.
 use Rattle.std.proofs.Common.{◌≡◌, ◌≢◌, ℕ, ◌<◌, ◌≤◌, ◌^◌, ◌+◌, List, [], ◌∷◌, length, map, refl, ap, sym, ◌∙◌, subst, arith, Bool, true, false, cond, Option, Some, None, Result, Ok, Err, ◌⊎◌, inl, inr}
-use Rattle.std.specs.Prelude.{IfSome, IsTrue, nat_lt}
+use Rattle.std.specs.Prelude.{IfSome, IsTrue}
 use Rattle.std.specs.List.{sum_by}
 use Rattle.std.proofs.lemmas.Bool.Decides.{nat_tests}
 use Rattle.std.proofs.lemmas.List.Sums.{sum_by-cons}
@@ -32,10 +32,10 @@ use Rattle.uf_tree.specs.Heads.{IsHeadOf, head_text}
 use Rattle.uf_tree.specs.Nodes.{InSlot, Named, capped, dir_block, item_entry, shard_block, slot_link}
 use Rattle.uf_tree.specs.Profiles.{is_profile}
 use Rattle.uf_tree.specs.Roots.{dir_root}
-use Rattle.uf_tree.specs.ShardPlan.{shard, shard_held, shard_items, twins}
+use Rattle.uf_tree.specs.ShardPlan.{shard, shard_held, shard_items}
 use Rattle.uf_tree.specs.Standing.{IsRefusedText, NoHead, BadHead, Standing, Stands, StandsFor}
 use Rattle.uf_tree.specs.Tree.{Tree, Dir, Entries, Nothing, is_tree}
-use Rattle.uf_tree.specs.TreePlan.{TooBig, Refusal, collision, dir_refusal, entry, named_entries, or_else, too_big}
+use Rattle.uf_tree.specs.TreePlan.{collision, dir_refusal, entry, named_entries, or_else, too_big}
 use Rattle.uf_tree.specs.Validity.{IsDirectory, IsHash, IsShard}
 use Rattle.uf_tree.proofs.Directories.{dir_dag-node}
 use Rattle.uf_tree.proofs.HeadAgain.{head_again}
@@ -50,7 +50,7 @@ use Rattle.uf_mfs.specs.declared.types.Ready.TheVariants as ready
 use Rattle.uf_mfs.specs.Answers.{Says}
 use Rattle.uf_mfs.specs.Opening.{Basic, IsHeadFault, IsSizeOf, Sharded}
 use Rattle.uf_mfs.specs.Standing.{IsEntry, Opens, StandsAt, TellsAs, TellsHeld}
-use Rattle.uf_mfs.proofs.Hinge.{IsDir, entry-is, from-dir}
+use Rattle.uf_mfs.proofs.Hinge.{entry-is, from-dir}
 use Rattle.uf_mfs.proofs.Rooting.{dir-canonical, dir-root}
 use Rattle.uf_mfs.proofs.Seeing.{dir-codec}
 

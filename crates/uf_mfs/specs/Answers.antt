@@ -1,5 +1,5 @@
 -- What calls answer where the plain tree gives this, and what each fault shows.
-use Rattle.std.specs.Prelude.{◌≡◌, ℕ, List, [], ◌∷◌, take}
+use Rattle.std.specs.Prelude.{◌≡◌, ℕ, List, [], ◌∷◌, ◌++◌, take}
 use Rattle.std.specs.declared.option.Option.{Option}
 use Rattle.std.specs.declared.option.Option.TheVariants.{None, Some}
 use Rattle.std.specs.declared.result.Result.{Result}
@@ -105,6 +105,11 @@ Tells names (stop.Refused why) (fault.Ready ready) = ⊥
 Tells names (stop.Refused why) fault.Sink = ⊥
 Tells names (stop.Refused why) (fault.Store f) = f ≡ Memory
 Tells names (stop.Store f) given = given ≡ fault.Store f
+
+-- this value is put at the end, or memory is wanting
+abbrev pub Pushes : {A : Type 0} → List A → List A → A → Result Unit StoreFault → Type 0
+Pushes before now a (Ok done) = now ≡ before ++ a ∷ []
+Pushes before now a (Err f) = f ≡ Memory
 
 -- a call over the store that gives this value, or wants memory
 abbrev pub Says : {A : Type 0} → A → Result A StoreFault → Type 0

@@ -5,7 +5,7 @@ ghost use Rattle.uf_store.specs.Faults.{Answers};
 ghost use Rattle.uf_tree.specs.declared.profile.Profile.{Profile};
 ghost use Rattle.uf_tree.specs.Nodes.{Named};
 ghost use Rattle.uf_tree.specs.Tree.{Dir, Entries, Tree, pairs as pairs_in};
-ghost use Rattle.uf_mfs.specs.Answers.{Says};
+ghost use Rattle.uf_mfs.specs.Answers.{Pushes, Says};
 ghost use Rattle.uf_mfs.specs.Bad.{IsBad};
 ghost use Rattle.uf_mfs.specs.Replies.{last_name, names_at, row_of as row_at, rows_at, size as size_at};
 ghost use Rattle.uf_mfs.specs.Standing.{AreMembers, IsEntry, IsThing};
@@ -157,15 +157,34 @@ fn rows_from<S: Store, N: NameHash, L: Ledger>(
 {
     let mut rows = Rows::new(alloc);
     for pair in pairs {
-        match row_of::<S, N, L>(alloc, store, pair, touches) {
+        match push_row::<S, N, L>(alloc, store, &mut rows, pair, touches) {
+            Ok(()) => {}
             Err(fault) => return Err(fault),
-            Ok(row) => match rows.push(row) {
-                Err(_) => return Err(StoreFault::Memory),
-                Ok(()) => (),
-            },
         }
     }
     Ok(rows)
+}
+
+// Puts the row of a pair at the end.
+fn push_row<S: Store, N: NameHash, L: Ledger>(
+    alloc: Global,
+    store: &mut S,
+    rows: &mut Rows,
+    pair: &Pair,
+    touches: &mut Steps<L>,
+) -> Result<(), StoreFault>
+    ensures pushed { (p : Profile) (t : Tree) → IsEntry S.X.block32 N.name64 (S.seen store.old).told p pair.now.1 t → Stood (S.seen store.old).faults (S.seen store.new).faults
+        → Pushes rows.old rows.new (row_at S.X.block32 N.name64 p pair.now.0 t) result }
+    ensures cause { Answers S.X.block32 (IsBad N.name64 None) result (S.seen store.old) (S.seen store.new) }
+    ensures told { (S.seen store.new).told ≡ (S.seen store.old).told }
+{
+    match row_of::<S, N, L>(alloc, store, pair, touches) {
+        Err(fault) => Err(fault),
+        Ok(row) => match rows.push(row) {
+            Err(_) => Err(StoreFault::Memory),
+            Ok(()) => Ok(()),
+        },
+    }
 }
 
 // The row of a pair.

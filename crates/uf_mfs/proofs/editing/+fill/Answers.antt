@@ -1,4 +1,4 @@
-use Rattle.std.proofs.Common.{◌≡◌, ◌+◌, ◌-◌, ◌∷◌, Err, Some, drop, length, subst, sym, take}
+use Rattle.std.proofs.Common.{◌≡◌, ◌+◌, ◌-◌, ◌∷◌, Err, Some, drop, length, subst, take}
 use Rattle.std.specs.declared.result.Result.{Result}
 use Rattle.uf_store.proofs.Causes.{StaysCalm-trans}
 use Rattle.uf_store.proofs.Keeping.{KeepsGood-trans}

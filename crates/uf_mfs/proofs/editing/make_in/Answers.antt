@@ -1,8 +1,5 @@
 use Rattle.uf_tree.specs.Tree.{Dir, Nothing}
-use Rattle.uf_mfs.specs.Bad.{IsBad}
-use Rattle.std.proofs.Common.{Some, [], subst}
 use Rattle.uf_store.proofs.Keeping.{KeepsGood-trans}
-use Rattle.uf_mfs.proofs.Counting.{stop-rises}
 use Rattle.uf_mfs.proofs.Hinge.{entry-later}
 use Rattle.uf_mfs.proofs.Moving.{calm-back}
 use Rattle.uf_mfs.proofs.Starting.{empty-told}

@@ -1,5 +1,4 @@
-use Rattle.std.proofs.Common.{None, Ok, Some, ap, refl, subst, sym, ◌∙◌}
-use Rattle.uf_store.specs.Keeping.{SavesOnly}
+use Rattle.std.proofs.Common.{None, Ok, ap, refl, subst, sym, ◌∙◌}
 use Rattle.uf_tree.specs.Tree.{Dir}
 use Rattle.uf_mfs.specs.Plain.{child}
 use Rattle.uf_mfs.specs.Standing.{IsEntry}

@@ -1,4 +1,4 @@
-use Rattle.std.proofs.Common.{◌∙◌, ap, Ok, Err, None, Some}
+use Rattle.std.proofs.Common.{◌∙◌, ap, Ok, None, Some}
 use Rattle.uf_mfs.specs.Answers.{allowed}
 use Rattle.uf_mfs.specs.Plain.{without_child}
 use Rattle.uf_mfs.proofs.Moving.{wanting, take-done, take-says, taken-not}

@@ -1,6 +1,5 @@
-use Rattle.std.proofs.Common.{None, Some, Ok, Err, ap, ◌∙◌, sym, subst}
+use Rattle.std.proofs.Common.{None, Some, Ok, ap, ◌∙◌}
 use Rattle.uf_mfs.specs.Plain.{child}
-use Rattle.uf_mfs.specs.Standing.{IsMember}
 use Rattle.uf_mfs.proofs.Counting.{answers-rises, stood-back, stood-front}
 use Rattle.uf_mfs.proofs.Seeing.{find-says, member-err, member-none, member-some}
 use Rattle.uf_mfs.specs.Bad.{IsBad}
