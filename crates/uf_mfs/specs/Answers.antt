@@ -1,12 +1,16 @@
 -- What calls answer where the plain tree gives this, and what each fault shows.
-use Rattle.std.specs.Prelude.{◌≡◌, ℕ, List, [], ◌∷◌, take}
+use Rattle.std.specs.Prelude.{◌≡◌, ℕ, List, [], ◌∷◌, ◌++◌, take}
 use Rattle.std.specs.declared.option.Option.{Option}
 use Rattle.std.specs.declared.option.Option.TheVariants.{None, Some}
 use Rattle.std.specs.declared.result.Result.{Result}
 use Rattle.std.specs.declared.result.Result.TheVariants.{Ok, Err}
 use Rattle.std.specs.List.{flat_map}
 use Rattle.uf_store.specs.declared.store.Role.{Role}
+use Rattle.uf_store.specs.declared.store.StoreFault.{StoreFault}
 use Rattle.uf_store.specs.declared.store.StoreFault.TheVariants.{Memory}
+use Rattle.uf_edge.specs.Counts.{Stood}
+use Rattle.uf_shard.specs.declared.fault.DirFault.{DirFault}
+use Rattle.uf_shard.specs.declared.fault.DirFault.TheVariants as dir
 use Rattle.uf_store.specs.Contents.{Told}
 use Rattle.uf_store.specs.Faults.{Shows, StaysCalm}
 use Rattle.uf_store.specs.Seen.{Seen}
@@ -76,9 +80,23 @@ Meets P (Ok a) (Err (stop.Refused given)) = ⊥
 Meets P (Err why) (Err (stop.Refused given)) = given ≡ why
 Meets P w (Err (stop.Store f)) = f ≡ Memory
 
--- a step that tells no more than that it may go on
-abbrev pub Ends : Result Unit Refused → Result Unit Stop → Type 0
-Ends w result = Meets (λ a b. Unit {0}) w result
+-- the same of a step that calls no store, and so always has its answer
+abbrev pub Decides : {A B : Type 0} → (A → B → Type 0) → Result A Refused → Result B Refused → Type 0
+Decides P (Ok a) (Ok b) = P a b
+Decides P (Err why) (Ok b) = ⊥
+Decides P (Ok a) (Err given) = ⊥
+Decides P (Err why) (Err given) = given ≡ why
+
+-- no count of faults rose, and no clash was met
+pub record Calm (before now : Seen) : Type 0 where
+  pub faults : Stood before.faults now.faults
+  pub clashes : Stood before.clashes now.clashes
+
+-- the fault of an edited directory as that of a step
+abbrev pub stop_of : DirFault → Stop
+stop_of (dir.Collision first second) = stop.Refused (why.Collision first second)
+stop_of dir.TooBig = stop.Refused why.TooBig
+stop_of (dir.Store f) = stop.Store f
 
 -- the fault of a step as that of a command with this path
 abbrev pub Tells : List (List ℕ) → Stop → MfsFault → Type 0
@@ -87,6 +105,16 @@ Tells names (stop.Refused why) (fault.Ready ready) = ⊥
 Tells names (stop.Refused why) fault.Sink = ⊥
 Tells names (stop.Refused why) (fault.Store f) = f ≡ Memory
 Tells names (stop.Store f) given = given ≡ fault.Store f
+
+-- this value is put at the end, or memory is wanting
+abbrev pub Pushes : {A : Type 0} → List A → List A → A → Result Unit StoreFault → Type 0
+Pushes before now a (Ok done) = now ≡ before ++ a ∷ []
+Pushes before now a (Err f) = f ≡ Memory
+
+-- a call over the store that gives this value, or wants memory
+abbrev pub Says : {A : Type 0} → A → Result A StoreFault → Type 0
+Says v (Ok a) = a ≡ v
+Says v (Err f) = f ≡ Memory
 
 module _ (X : List ℕ → List ℕ) (N : List ℕ → ℕ) (told : Told) (p : Profile) where
   -- an edit of a folder, a lookup

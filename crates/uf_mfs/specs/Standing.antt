@@ -1,5 +1,5 @@
 -- What an entry, a tree in memory and a store stand for.
-use Rattle.std.specs.Prelude.{◌≡◌, ◌≢◌, ℕ, List, ⊤, IsTrue}
+use Rattle.std.specs.Prelude.{◌≡◌, ◌≢◌, ℕ, List, [], ◌∷◌, ⊤, IsTrue}
 use Rattle.std.specs.declared.option.Option.{Option}
 use Rattle.std.specs.declared.option.Option.TheVariants.{None, Some}
 use Rattle.std.specs.declared.result.Result.{Result}
@@ -8,19 +8,25 @@ use Rattle.uf_cid.specs.Blocks.{Held}
 use Rattle.uf_cid.specs.Blocks as blocks
 use Rattle.uf_cid.specs.declared.cid.Codec.TheVariants.{DagPb}
 use Rattle.uf_store.specs.declared.store.Note.TheVariants.{Head}
+use Rattle.uf_store.specs.declared.store.StoreFault.{StoreFault}
 use Rattle.uf_store.specs.declared.store.StoreFault.TheVariants.{Memory}
 use Rattle.uf_store.specs.Contents.{Told, changed, held_at, with_sync, with_text}
 use Rattle.uf_tree.specs.declared.head_fault.HeadFault.{HeadFault}
 use Rattle.uf_tree.specs.declared.nodes.Entry.{Entry}
 use Rattle.uf_tree.specs.declared.profile.Profile.{Profile}
 use Rattle.uf_tree.specs.HeadReading.{head_reads}
+use Rattle.uf_tree.specs.Nodes.{Named}
 use Rattle.uf_tree.specs.Profiles.{is_profile}
 use Rattle.uf_tree.specs.Standing.{Standing, NoHead, BadHead, Stands, StandsAs}
-use Rattle.uf_tree.specs.Tree.{Tree, Dir, Entries, Nothing, is_tree}
+use Rattle.uf_tree.specs.Tree.{Tree, File, Dir, Entries, Nothing, is_tree}
 use Rattle.uf_tree.specs.TreePlan.{entry, blocks as blocks_of, refusal}
+use Rattle.uf_mfs.specs.declared.types.Change.{Change}
+use Rattle.uf_mfs.specs.declared.types.Change.TheVariants.{Make, Put, Remove}
 use Rattle.uf_mfs.specs.declared.types.Mfs.{Mfs}
 use Rattle.uf_mfs.specs.declared.types.MfsFault.{MfsFault}
 use Rattle.uf_mfs.specs.declared.types.MfsFault.TheVariants.{Rule, Ready, Sink, Store}
+use Rattle.uf_mfs.specs.declared.types.Thing.{Thing}
+use Rattle.uf_mfs.specs.declared.types.Thing.TheVariants.{File as FileAt, Folder as FolderAt}
 use Rattle.uf_mfs.specs.declared.types.Ready.TheVariants.{NoHead as NoHeadYet, HeadThere, BadHead as HeadRefused}
 
 -- the store tells, and holds each of these blocks
@@ -60,6 +66,38 @@ module _ (X : List ℕ → List ℕ) (N : List ℕ → ℕ) (told : Told) where
     pub planned : refusal X N p t ≡ None
     pub is : e ≡ entry X N p t
     pub held : TellsHeld told (blocks_of X N p t)
+
+  -- a file or a folder, by its entry
+  abbrev pub IsThing : Profile → Tree → Thing → Type 0
+  IsThing p (File bytes) (FileAt e) = IsEntry p e (File bytes)
+  IsThing p (File bytes) (FolderAt e) = ⊥
+  IsThing p (Dir es) (FileAt e) = ⊥
+  IsThing p (Dir es) (FolderAt e) = IsEntry p e (Dir es)
+
+  -- a call over the store that tells what stands there, or wants memory
+  abbrev pub SaysThing : Profile → Tree → Result Thing StoreFault → Type 0
+  SaysThing p t (Ok thing) = IsThing p t thing
+  SaysThing p t (Err fault) = fault ≡ Memory
+
+  -- what is under a name
+  abbrev pub IsMember : Profile → Option Tree → Option Thing → Type 0
+  IsMember p None None = ⊤
+  IsMember p None (Some thing) = ⊥
+  IsMember p (Some t) None = ⊥
+  IsMember p (Some t) (Some thing) = IsThing p t thing
+
+  -- the names and entries are those of these members
+  abbrev pub AreMembers : Profile → List Named → List (List ℕ × Tree) → Type 0
+  AreMembers p [] [] = ⊤
+  AreMembers p [] (m ∷ l) = ⊥
+  AreMembers p (e ∷ es) [] = ⊥
+  AreMembers p (e ∷ es) (m ∷ l) = (e.0 ≡ m.0) × IsEntry p e.1 m.1 × AreMembers p es l
+
+  -- a put entry stands for this tree
+  abbrev pub IsMeant : Profile → Change → Tree → Type 0
+  IsMeant p Make t = ⊤
+  IsMeant p (Put e) t = IsEntry p e t
+  IsMeant p (Remove recursive) t = ⊤
 
   -- the tree in memory is the directory of these entries by this profile, and its blocks are held
   pub record StandsAt (mfs : Mfs) (p : Profile) (es : Entries) : Type 0 where

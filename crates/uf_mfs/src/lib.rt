@@ -2,8 +2,13 @@
 #![tactic(auto)]
 
 mod changing;
+mod editing;
+mod listing;
+mod looking;
+mod measuring;
 mod opening;
 mod reading;
+mod telling;
 mod types;
 
-pub use types::{Change, Mfs, MfsFault, Ready, Refused, Row, Rows, Rule, Stat, Stop};
+pub use types::{Change, Mfs, MfsFault, Ready, Refused, Row, Rows, Rule, Stat, Stop, Thing};

@@ -6,15 +6,19 @@ ghost use Rattle.uf_tree.specs.Tree.{Dir, Entries};
 ghost use Rattle.uf_mfs.specs.Answers.{Answers, Shown};
 ghost use Rattle.uf_mfs.specs.Bad.{IsBad};
 ghost use Rattle.uf_mfs.specs.Plain.{at};
-ghost use Rattle.uf_mfs.specs.Replies.{names_at, rows_at, stat_of};
+ghost use Rattle.uf_mfs.specs.Replies.{names_at, rows_at, stat_of as stat_at};
 ghost use Rattle.uf_mfs.specs.Standing.{StandsAt};
 
+use crate::listing::{names_of, rows_of};
+use crate::looking::look;
+use crate::measuring::stat_of;
+use crate::telling::fault_of;
 use crate::{Mfs, MfsFault, Rows, Stat};
 use std::alloc::Global;
 use std::sync::ledger::Ledger;
 use uf_murmur::NameHash;
 use uf_path::Path;
-use uf_store::{Steps, Store, StoreFault};
+use uf_store::{Steps, Store};
 use uf_tree::Names;
 
 impl Mfs {
@@ -31,7 +35,14 @@ impl Mfs {
         ensures cause { Shown S.X.block32 (IsBad N.name64 None) result (S.seen store.old) (S.seen store.new) }
         ensures told { (S.seen store.new).told ≡ (S.seen store.old).told }
     {
-        Err(MfsFault::Store(StoreFault::Memory))
+        let names = path.names.as_slice();
+        match look::<S, N, L>(alloc, store, 0, names, &self.root, touches) {
+            Err(stop) => Err(fault_of(alloc, names, stop)),
+            Ok(thing) => match rows_of::<S, N, L>(alloc, store, names, thing, touches) {
+                Err(fault) => Err(MfsFault::Store(fault)),
+                Ok(rows) => Ok(rows),
+            },
+        }
     }
 
     /// The names of a directory in byte order, or a file's own. No member is loaded.
@@ -47,7 +58,14 @@ impl Mfs {
         ensures cause { Shown S.X.block32 (IsBad N.name64 None) result (S.seen store.old) (S.seen store.new) }
         ensures told { (S.seen store.new).told ≡ (S.seen store.old).told }
     {
-        Err(MfsFault::Store(StoreFault::Memory))
+        let names = path.names.as_slice();
+        match look::<S, N, L>(alloc, store, 0, names, &self.root, touches) {
+            Err(stop) => Err(fault_of(alloc, names, stop)),
+            Ok(thing) => match names_of::<S, N, L>(alloc, store, names, thing, touches) {
+                Err(fault) => Err(MfsFault::Store(fault)),
+                Ok(found) => Ok(found),
+            },
+        }
     }
 
     /// What is said of the file or the directory at a path.
@@ -59,10 +77,17 @@ impl Mfs {
         touches: &mut Steps<L>,
     ) -> Result<Stat, MfsFault>
         ensures answer { (p : Profile) (es : Entries) → StandsAt S.X.block32 N.name64 (S.seen store.old).told self.now p es → Stood (S.seen store.old).faults (S.seen store.new).faults
-            → Answers (λ t stat. stat ≡ stat_of S.X.block32 N.name64 p t) path.now.names (at 0 path.now.names (Dir es)) result }
+            → Answers (λ t stat. stat ≡ stat_at S.X.block32 N.name64 p t) path.now.names (at 0 path.now.names (Dir es)) result }
         ensures cause { Shown S.X.block32 (IsBad N.name64 None) result (S.seen store.old) (S.seen store.new) }
         ensures told { (S.seen store.new).told ≡ (S.seen store.old).told }
     {
-        Err(MfsFault::Store(StoreFault::Memory))
+        let names = path.names.as_slice();
+        match look::<S, N, L>(alloc, store, 0, names, &self.root, touches) {
+            Err(stop) => Err(fault_of(alloc, names, stop)),
+            Ok(thing) => match stat_of::<S, N, L>(alloc, store, thing, touches) {
+                Err(fault) => Err(MfsFault::Store(fault)),
+                Ok(stat) => Ok(stat),
+            },
+        }
     }
 }
