@@ -1,19 +1,22 @@
 -- What a source gives and a builder is fed, one reading after another.
-use Rattle.std.proofs.Common.{◌≡◌, ℕ, ◌<◌, Bool, true, false, List, [], ◌++◌, length, refl, sym, ap, subst, ◌∙◌, append-nil, append_assoc}
+use Rattle.std.proofs.Common.{◌≡◌, ℕ, ◌<◌, Bool, true, false, List, [], ◌++◌, length, refl, sym, ap, subst, ◌∙◌, arith, append-nil, append_assoc}
 use Rattle.std.specs.Prelude.{Some, None}
 use Rattle.std.specs.declared.result.Result.{Result}
 use Rattle.std.specs.declared.result.Result.TheVariants.{Ok, Err}
 use Rattle.uf_edge.specs.Streams.{Told, before}
 use Rattle.uf_edge.proofs.Appending.{before-before}
-use Rattle.uf_build.specs.Building.{Building}
+use Rattle.uf_build.specs.Building.{Building, HasFed, HoldsFed}
 use Rattle.uf_store.specs.Contents as store
 use Rattle.uf_store.specs.Seen.{Seen}
 use Rattle.uf_store.specs.Faults.{NoneIsBad, StaysCalm}
 use Rattle.uf_store.proofs.Causes.{Shows-after, StaysCalm-trans}
+use Rattle.uf_store.specs.Keeping.{Holds}
+use Rattle.uf_tree.specs.FilePlan.{file_plan}
+use Rattle.uf_tree.specs.declared.nodes.Entry.{Entry}
 use Rattle.uf_tree.specs.declared.profile.Profile.{Profile}
 use Rattle.uf_top.specs.declared.types.Refusal.{Refusal}
 use Rattle.uf_top.specs.declared.types.Refusal.TheVariants as refusal
-use Rattle.uf_top.specs.Intake.{FeedsFrom, FeedsNext, FeedsPart, FeedsLast, FeedsRest, PassesLimit, IsFedBy, IsStopped, ShownIn}
+use Rattle.uf_top.specs.Intake.{Closes, FeedsFrom, FeedsNext, FeedsPart, FeedsLast, FeedsRest, PassesLimit, PassesMost, IsFedBy, IsFileOf, IsStopped, ShownIn, ShownWhy}
 use Rattle.uf_top.specs.Reply.{most_input}
 
 before-nil : (t : Told) → before [] t ≡ t
@@ -31,15 +34,18 @@ stopped-more A B refusal.Write more h = h
 stopped-more A B (refusal.Store fault) more h = h
 
 -- what is shown behind calls in which the store has stayed calm
-pub ShownIn-after : {A : Type 0} (hash : List ℕ → List ℕ) (r : Result A Refusal) (a b c : Seen) → StaysCalm a b → ShownIn hash r b c → ShownIn hash r a c
-ShownIn-after hash (Ok x) a b c p q = StaysCalm-trans a b c p q
-ShownIn-after hash (Err (refusal.Rule rule)) a b c p q = StaysCalm-trans a b c p q
-ShownIn-after hash (Err (refusal.BadPath why)) a b c p q = StaysCalm-trans a b c p q
-ShownIn-after hash (Err refusal.Usage) a b c p q = StaysCalm-trans a b c p q
-ShownIn-after hash (Err (refusal.Ready why)) a b c p q = StaysCalm-trans a b c p q
-ShownIn-after hash (Err refusal.Read) a b c p q = StaysCalm-trans a b c p q
-ShownIn-after hash (Err refusal.Write) a b c p q = StaysCalm-trans a b c p q
-ShownIn-after hash (Err (refusal.Store fault)) a b c p q = Shows-after hash NoneIsBad fault a b c p q
+why-after : (hash : List ℕ → List ℕ) (why : Refusal) (a b c : Seen) → StaysCalm a b → ShownWhy hash why b c → ShownWhy hash why a c
+why-after hash (refusal.Rule rule) a b c p q = StaysCalm-trans a b c p q
+why-after hash (refusal.BadPath why) a b c p q = StaysCalm-trans a b c p q
+why-after hash refusal.Usage a b c p q = StaysCalm-trans a b c p q
+why-after hash (refusal.Ready why) a b c p q = StaysCalm-trans a b c p q
+why-after hash refusal.Read a b c p q = StaysCalm-trans a b c p q
+why-after hash refusal.Write a b c p q = StaysCalm-trans a b c p q
+why-after hash (refusal.Store fault) a b c p q = Shows-after hash NoneIsBad fault a b c p q
+
+pub ShownIn-after : (A : Type 0) (hash : List ℕ → List ℕ) (r : Result A Refusal) (a b c : Seen) → StaysCalm a b → ShownIn hash r b c → ShownIn hash r a c
+ShownIn-after A hash (Ok x) a b c p q = StaysCalm-trans a b c p q
+ShownIn-after A hash (Err why) a b c p q = why-after hash why a b c p q
 
 module _ (hash : List ℕ → List ℕ) (p : Profile) where
   -- nothing was read yet
@@ -93,3 +99,28 @@ module _ (hash : List ℕ → List ℕ) (p : Profile) where
   pub last_of : (more : Bool) (t u : store.Told) (b c : Building) (m n : Told) → more ≡ false → FeedsNext hash p (Ok more) t u b c m n → FeedsLast hash p t u b c m n
   last_of false t u b c m n e g = g
   last_of true t u b c m n e g = absurd cc
+
+  -- ---- the whole file
+
+  pub new-fed : (t : store.Told) (b : Building) → HasFed hash [] b → HoldsFed hash [] t b → b.fed ≡ 0 → b.profile ≡ p → b.is_spent ≡ false → IsFedBy hash p t [] b
+  new-fed t b fed held count profile spent = record { fed = fed; held = held; count = count; few = omega arith; profile = profile; not_spent = spent }
+
+  -- the file of all that was fed
+  pub file-of : (r : Result Entry Refusal) (t u v : store.Told) (a b : Building) (l m : Told) → FeedsLast hash p t u a b l m → IsFedBy hash p t [] a → Closes hash r u v b → IsFileOf hash p v r l m
+  file-of (Ok entry) t u v a b l m fed new closes =
+      let whole = fed.feeds.fed [] new in
+      let entry_is = closes.entry_is fed.bytes whole.fed in
+      let held = closes.held fed.bytes whole.held in
+      record {
+        bytes = fed.bytes;
+        taken = fed.feeds.taken;
+        nothing_left = fed.nothing_left;
+        few = whole.few;
+        is = subst (λ (p : Profile). entry ≡ (file_plan hash p fed.bytes).entry) whole.profile entry_is;
+        held = subst (λ (p : Profile). Holds v (file_plan hash p fed.bytes).blocks) whole.profile held;
+      }
+  file-of (Err why) t u v a b l m fed new closes = stopped-more ⊥ _ why (λ no. absurd no) closes
+
+  -- no file of an input that is too long
+  pub no-file : (why : Refusal) (t v : store.Told) (a : Building) (l m : Told) → IsFedBy hash p t [] a → IsStopped (PassesLimit hash p t a l m) why → IsFileOf hash p v (Err why) l m
+  no-file why t v a l m new h = stopped-more _ _ why (λ (x : PassesLimit hash p t a l m). record { bytes = x.bytes; taken = x.taken; many = x.many [] new }) h

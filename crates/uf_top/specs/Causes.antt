@@ -6,7 +6,7 @@ use Rattle.std.specs.declared.result.Result.{Result}
 use Rattle.std.specs.declared.result.Result.TheVariants.{Ok, Err}
 use Rattle.uf_cid.specs.declared.cid.Cid.{Cid}
 use Rattle.uf_edge.specs.declared.streams.Sent.{Sent}
-use Rattle.uf_edge.specs.Counts.{Counts}
+use Rattle.uf_edge.specs.Counts.{Counts, Stood}
 use Rattle.uf_edge.specs.Streams.{after, before, AppendsPrefix, Sends, is_unsent}
 use Rattle.uf_edge.specs.Streams as streams
 use Rattle.uf_mfs.specs.Bad.{IsBad}
@@ -41,12 +41,19 @@ use Rattle.uf_top.specs.Lines.{added_line}
 use Rattle.uf_top.specs.Statuses.{no_memory}
 use Rattle.uf_top.specs.Reply.{file_cid, most_input, usual}
 
--- the fault of a call on the tree as a refusal
-abbrev pub refusal_of : MfsFault → Refusal
-refusal_of (mfs.Rule rule) = refusal.Rule rule
-refusal_of (mfs.Ready why) = refusal.Ready why
-refusal_of mfs.Sink = refusal.Write
-refusal_of (mfs.Store fault) = refusal.Store fault
+-- the fault of a call that opens a tree as a refusal; no rule refuses that, and nothing is printed there
+abbrev pub refused_opening : MfsFault → Refusal
+refused_opening (mfs.Rule rule) = no_memory
+refused_opening (mfs.Ready why) = refusal.Ready why
+refused_opening mfs.Sink = no_memory
+refused_opening (mfs.Store fault) = refusal.Store fault
+
+-- the fault of a call on an opened tree as a refusal; such a tree is ready, and nothing is printed there
+abbrev pub refused_in_tree : MfsFault → Refusal
+refused_in_tree (mfs.Rule rule) = refusal.Rule rule
+refused_in_tree (mfs.Ready why) = no_memory
+refused_in_tree mfs.Sink = no_memory
+refused_in_tree (mfs.Store fault) = refusal.Store fault
 
 -- the Head says this profile
 abbrev pub HeadSays : Option (List ℕ) → Profile → Type 0
@@ -77,10 +84,15 @@ IsReason (Add true) why head = ⊥
 IsReason (Add false) why head = IsReasonInTree why head
 IsReason (At ask path) why head = IsReasonInTree why head
 
--- the reason, where the store tells
-abbrev pub IsReady : Told → Command → Result (List ℕ) Refusal → Type 0
-IsReady told command (Err (refusal.Ready why)) = IfSome told (λ t. IsReason command why t.notes.head)
-IsReady told command ends = ⊤
+-- the reason, where the store tells; of `init`, where no count rose
+abbrev pub Reasons : Seen → Seen → Command → Ready → Type 0
+Reasons before now (Init p) why = Stood before.faults now.faults → Stood before.clashes now.clashes → IfSome before.told (λ t. IsReason (Init p) why t.notes.head)
+Reasons before now (Add only_hash) why = IfSome before.told (λ t. IsReason (Add only_hash) why t.notes.head)
+Reasons before now (At ask path) why = IfSome before.told (λ t. IsReason (At ask path) why t.notes.head)
+
+abbrev pub IsReady : Seen → Seen → Command → Result (List ℕ) Refusal → Type 0
+IsReady before now command (Err (refusal.Ready why)) = Reasons before now command why
+IsReady before now command ends = ⊤
 
 -- the block isn't canonical in its role, where no profile or that of the Head is required
 abbrev pub IsBadIn : (List ℕ → ℕ) → Told → Role → List ℕ → Type 0
@@ -105,25 +117,31 @@ HeadStays (Ok (b ∷ text)) before now = head_in now ≡ head_in before
 HeadStays (Err why) before now = head_in now ≡ head_in before
 
 -- the reading failed, the writing failed
+abbrev pub is_reading : Refusal → Bool
+is_reading (refusal.Rule rule) = false
+is_reading (refusal.BadPath why) = false
+is_reading refusal.Usage = false
+is_reading (refusal.Ready why) = false
+is_reading refusal.Read = true
+is_reading refusal.Write = false
+is_reading (refusal.Store fault) = false
+
+abbrev pub is_writing : Refusal → Bool
+is_writing (refusal.Rule rule) = false
+is_writing (refusal.BadPath why) = false
+is_writing refusal.Usage = false
+is_writing (refusal.Ready why) = false
+is_writing refusal.Read = false
+is_writing refusal.Write = true
+is_writing (refusal.Store fault) = false
+
 abbrev pub is_read : {A : Type 0} → Result A Refusal → Bool
 is_read (Ok a) = false
-is_read (Err (refusal.Rule rule)) = false
-is_read (Err (refusal.BadPath why)) = false
-is_read (Err refusal.Usage) = false
-is_read (Err (refusal.Ready why)) = false
-is_read (Err refusal.Read) = true
-is_read (Err refusal.Write) = false
-is_read (Err (refusal.Store fault)) = false
+is_read (Err why) = is_reading why
 
 abbrev pub is_write : {A : Type 0} → Result A Refusal → Bool
 is_write (Ok a) = false
-is_write (Err (refusal.Rule rule)) = false
-is_write (Err (refusal.BadPath why)) = false
-is_write (Err refusal.Usage) = false
-is_write (Err (refusal.Ready why)) = false
-is_write (Err refusal.Read) = false
-is_write (Err refusal.Write) = true
-is_write (Err (refusal.Store fault)) = false
+is_write (Err why) = is_writing why
 
 -- the refusals that a command may have whose words are read: none of words, paths or the output
 abbrev pub IsOfWork : {A : Type 0} → Result A Refusal → Type 0
@@ -136,6 +154,28 @@ IsOfWork (Err refusal.Read) = ⊤
 IsOfWork (Err refusal.Write) = ⊥
 IsOfWork (Err (refusal.Store fault)) = ⊤
 
+-- the refusals that a command at a path may have
+abbrev pub IsOfAt : {A : Type 0} → Result A Refusal → Type 0
+IsOfAt (Ok a) = ⊤
+IsOfAt (Err (refusal.Rule rule)) = ⊤
+IsOfAt (Err (refusal.BadPath why)) = ⊥
+IsOfAt (Err refusal.Usage) = ⊥
+IsOfAt (Err (refusal.Ready why)) = ⊤
+IsOfAt (Err refusal.Read) = ⊥
+IsOfAt (Err refusal.Write) = ⊥
+IsOfAt (Err (refusal.Store fault)) = ⊤
+
+-- the refusals that `init` may have
+abbrev pub IsOfInit : {A : Type 0} → Result A Refusal → Type 0
+IsOfInit (Ok a) = ⊤
+IsOfInit (Err (refusal.Rule rule)) = ⊥
+IsOfInit (Err (refusal.BadPath why)) = ⊥
+IsOfInit (Err refusal.Usage) = ⊥
+IsOfInit (Err (refusal.Ready why)) = ⊤
+IsOfInit (Err refusal.Read) = ⊥
+IsOfInit (Err refusal.Write) = ⊥
+IsOfInit (Err (refusal.Store fault)) = ⊤
+
 -- the refusals that a command on the tree may have once the tree is opened
 abbrev pub IsOfTree : {A : Type 0} → Result A Refusal → Type 0
 IsOfTree (Ok a) = ⊤
@@ -146,6 +186,12 @@ IsOfTree (Err (refusal.Ready why)) = ⊥
 IsOfTree (Err refusal.Read) = ⊥
 IsOfTree (Err refusal.Write) = ⊥
 IsOfTree (Err (refusal.Store fault)) = ⊤
+
+-- the refusals that a command may have whose words are read: `init` has no rule, and only `add` reads the input
+abbrev pub IsOfCommand : Command → Result (List ℕ) Refusal → Type 0
+IsOfCommand (Init p) ends = IsOfInit ends
+IsOfCommand (Add only_hash) ends = IsOfWork ends
+IsOfCommand (At ask path) ends = IsOfAt ends
 
 -- where the input tells, these are the bytes that it had left
 abbrev pub AreLeft : streams.Told → List ℕ → Type 0

@@ -1,5 +1,5 @@
 -- What words ask for, once their paths are read.
-use Rattle.std.specs.Prelude.{◌≡◌, ◌⊎◌, ℕ, List, Bool, true, false, IsTrue}
+use Rattle.std.specs.Prelude.{◌≡◌, ◌⊎◌, ℕ, List, Bool, true, false, IsTrue, ⊤}
 use Rattle.std.specs.declared.option.Option.{Option}
 use Rattle.std.specs.declared.option.Option.TheVariants.{None, Some}
 use Rattle.std.specs.declared.result.Result.{Result}
@@ -8,6 +8,7 @@ use Rattle.uf_path.specs.Paths.{path_reads}
 use Rattle.uf_path.specs.declared.faults.PathFault.{PathFault}
 use Rattle.uf_path.specs.declared.faults.PathFault.TheVariants as path
 use Rattle.uf_path.specs.declared.path.Path.{Path}
+use Rattle.uf_store.specs.declared.store.StoreFault.TheVariants.{Memory}
 use Rattle.uf_tree.specs.Profiles.{is_profile}
 use Rattle.uf_words.specs.Commands.{command_of}
 use Rattle.uf_words.specs.declared.command.Cmd.{Cmd}
@@ -98,3 +99,14 @@ only_hashes (At ask path) = false
 abbrev pub of_command : (Command → Bool) → Bool → Result Command Refusal → Bool
 of_command test else_this (Ok command) = test command
 of_command test else_this (Err why) = else_this
+
+-- the refusals of words: they are no command, a text is no path, or memory was wanting
+abbrev pub IsOfWords : Result Command Refusal → Type 0
+IsOfWords (Ok command) = ⊤
+IsOfWords (Err (refusal.Rule rule)) = ⊥
+IsOfWords (Err (refusal.BadPath why)) = ⊤
+IsOfWords (Err refusal.Usage) = ⊤
+IsOfWords (Err (refusal.Ready why)) = ⊥
+IsOfWords (Err refusal.Read) = ⊥
+IsOfWords (Err refusal.Write) = ⊥
+IsOfWords (Err (refusal.Store fault)) = fault ≡ Memory

@@ -1,5 +1,5 @@
 -- How a command ends: its status, its error line, and what it has printed.
-use Rattle.std.specs.Prelude.{◌≡◌, ◌≢◌, ◌⊎◌, ℕ, List, [], Bool, true, false, IfSome, ⊤}
+use Rattle.std.specs.Prelude.{◌≡◌, ◌≢◌, ◌⊎◌, ℕ, List, [], Bool, true, false, ⊤}
 use Rattle.std.specs.declared.result.Result.{Result}
 use Rattle.std.specs.declared.result.Result.TheVariants.{Ok, Err}
 use Rattle.uf_edge.specs.Streams.{after, AppendsPrefix}
@@ -9,6 +9,7 @@ use Rattle.uf_mfs.specs.declared.types.Ready.{Ready}
 use Rattle.uf_mfs.specs.declared.types.Rule.{Rule}
 use Rattle.uf_mfs.specs.declared.types.Rule.TheVariants.{FileTooLong}
 use Rattle.uf_store.specs.Contents.{Told}
+use Rattle.uf_store.specs.Seen.{Seen}
 use Rattle.uf_tree.specs.Standing.{Standing}
 use Rattle.uf_top.specs.declared.status.Status.{Status}
 use Rattle.uf_top.specs.declared.status.Status.TheVariants as status
@@ -16,7 +17,7 @@ use Rattle.uf_top.specs.declared.types.Command.{Command}
 use Rattle.uf_top.specs.declared.types.Command.TheVariants.{Init, Add, At}
 use Rattle.uf_top.specs.declared.types.Refusal.{Refusal}
 use Rattle.uf_top.specs.declared.types.Refusal.TheVariants as refusal
-use Rattle.uf_top.specs.Causes.{Adds, IsReason, IsReady, IsRow, IsSynced, IsTooLong}
+use Rattle.uf_top.specs.Causes.{Adds, IsOfCommand, IsReady, IsRow, IsSynced, IsTooLong, Reasons}
 use Rattle.uf_top.specs.Lines.{line_of, ready_line, said}
 use Rattle.uf_top.specs.Reply.{Reply}
 use Rattle.uf_top.specs.Statuses.{ended, no_memory, plain_line, status_of}
@@ -62,21 +63,19 @@ SyncsFor command (Ok text) told = IsSyncedFor command told
 SyncsFor command (Err why) told = ⊤
 
 -- the reason for which the store isn't ready is one of this command's
-abbrev pub IsReadyFor : Told → Result Command Refusal → Result (List ℕ) Refusal → Type 0
-IsReadyFor told (Ok command) ends = IsReady told command ends
-IsReadyFor told (Err why) ends = ⊤
+abbrev pub IsReadyFor : Seen → Seen → Result Command Refusal → Result (List ℕ) Refusal → Type 0
+IsReadyFor before now (Ok command) ends = IsReady before now command ends
+IsReadyFor before now (Err why) ends = ⊤
+
+-- the refusals that a command may have whose words are read; now the output may have failed
+abbrev pub IsOfServed : Command → Result (List ℕ) Refusal → Type 0
+IsOfServed command (Err refusal.Write) = ⊤
+IsOfServed command ends = IsOfCommand command ends
 
 -- words that are refused stay refused, and no other words are refused as such; want of memory is free
 abbrev pub KeepsRefusal : Result Command Refusal → Result (List ℕ) Refusal → Type 0
 KeepsRefusal (Err why) ends = (ends ≡ Err why) ⊎ (ends ≡ Err no_memory)
-KeepsRefusal (Ok command) (Ok text) = ⊤
-KeepsRefusal (Ok command) (Err (refusal.Rule rule)) = ⊤
-KeepsRefusal (Ok command) (Err (refusal.BadPath why)) = ⊥
-KeepsRefusal (Ok command) (Err refusal.Usage) = ⊥
-KeepsRefusal (Ok command) (Err (refusal.Ready why)) = ⊤
-KeepsRefusal (Ok command) (Err refusal.Read) = ⊤
-KeepsRefusal (Ok command) (Err refusal.Write) = ⊤
-KeepsRefusal (Ok command) (Err (refusal.Store fault)) = ⊤
+KeepsRefusal (Ok command) ends = IsOfServed command ends
 
 -- the text was printed, or where there is one, a part of it
 abbrev pub IsPrinted : List ℕ → Result (List ℕ) Refusal → streams.Told → streams.Told → Type 0
@@ -118,7 +117,7 @@ module _ (Says : List ℕ → Type 0) where
   -- why a rule refuses: a text that is no path, an input of `add` that is too long, or a rule of the tree
   abbrev pub RuleOf : Result Command Refusal → Refusal → Told → streams.Told → streams.Told → Type 0
   RuleOf (Err asked) why told left left_now = why ≡ asked
-  RuleOf (Ok (Init p)) why told left left_now = (rule : Rule) × (why ≡ refusal.Rule rule)
+  RuleOf (Ok (Init p)) why told left left_now = ⊥
   RuleOf (Ok (Add only_hash)) why told left left_now = (why ≡ refusal.Rule FileTooLong) × IsTooLong told only_hash left left_now
   RuleOf (Ok (At ask path)) why told left left_now = (rule : Rule) × (why ≡ refusal.Rule rule)
 
@@ -126,12 +125,12 @@ module _ (Says : List ℕ → Type 0) where
   IsRule command told left left_now = (why : Refusal) × (status_of why ≡ status.Rule) × Says (line_of why) × RuleOf command why told left left_now
 
   -- the reason for which the Head doesn't do for a command
-  abbrev pub ReasonFor : Result Command Refusal → Ready → Told → Type 0
-  ReasonFor (Ok command) why told = IfSome told (λ t. IsReason command why t.notes.head)
-  ReasonFor (Err asked) why told = ⊥
+  abbrev pub ReasonFor : Result Command Refusal → Ready → Seen → Seen → Type 0
+  ReasonFor (Ok command) why before now = Reasons before now command why
+  ReasonFor (Err asked) why before now = ⊥
 
-  abbrev pub IsNotReady : Result Command Refusal → Told → Type 0
-  IsNotReady command told = (why : Ready) × Says (ready_line why) × ReasonFor command why told
+  abbrev pub IsNotReady : Result Command Refusal → Seen → Seen → Type 0
+  IsNotReady command before now = (why : Ready) × Says (ready_line why) × ReasonFor command why before now
 
   module _ (X : List ℕ → List ℕ) (N : List ℕ → ℕ) where
     -- there was no memory, nothing is printed, and what stood stands

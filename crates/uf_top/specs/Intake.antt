@@ -18,16 +18,20 @@ use Rattle.uf_top.specs.declared.types.Refusal.TheVariants as refusal
 use Rattle.uf_top.specs.Lines.{added_line}
 use Rattle.uf_top.specs.Reply.{file_cid, most_input}
 
--- no fault was passed over: a fault of the store shows its cause, and before any other answer the store has stayed calm
+-- what a refusal shows: a fault of the store its cause, and before any other refusal the store has stayed calm
+abbrev pub ShownWhy : (List ℕ → List ℕ) → Refusal → Seen → Seen → Type 0
+ShownWhy hash (refusal.Rule rule) before now = StaysCalm before now
+ShownWhy hash (refusal.BadPath why) before now = StaysCalm before now
+ShownWhy hash refusal.Usage before now = StaysCalm before now
+ShownWhy hash (refusal.Ready why) before now = StaysCalm before now
+ShownWhy hash refusal.Read before now = StaysCalm before now
+ShownWhy hash refusal.Write before now = StaysCalm before now
+ShownWhy hash (refusal.Store fault) before now = Shows hash NoneIsBad fault before now
+
+-- no fault was passed over
 abbrev pub ShownIn : {A : Type 0} → (List ℕ → List ℕ) → Result A Refusal → Seen → Seen → Type 0
 ShownIn hash (Ok a) before now = StaysCalm before now
-ShownIn hash (Err (refusal.Rule rule)) before now = StaysCalm before now
-ShownIn hash (Err (refusal.BadPath why)) before now = StaysCalm before now
-ShownIn hash (Err refusal.Usage) before now = StaysCalm before now
-ShownIn hash (Err (refusal.Ready why)) before now = StaysCalm before now
-ShownIn hash (Err refusal.Read) before now = StaysCalm before now
-ShownIn hash (Err refusal.Write) before now = StaysCalm before now
-ShownIn hash (Err (refusal.Store fault)) before now = Shows hash NoneIsBad fault before now
+ShownIn hash (Err why) before now = ShownWhy hash why before now
 
 -- more bytes were given than a file of this profile may have
 pub record PassesMost (p : Profile) (left left_now : Told) : Type 0 where

@@ -1,5 +1,5 @@
 // An input that is read as a file.
-ghost use Rattle.std.specs.Prelude.{◌≡◌, ◌<◌, length, true, IfOk, IsTrue, Ok, OnOk, vec_len};
+ghost use Rattle.std.specs.Prelude.{◌≡◌, ◌<◌, length, false, true, IfOk, IsTrue, Ok, OnOk, vec_len};
 ghost use Rattle.uf_edge.specs.Counts.{Counts};
 ghost use Rattle.uf_store.specs.Keeping.{KeepsGood, SavesOnly};
 ghost use Rattle.uf_top.specs.Causes.{is_read};
@@ -51,6 +51,7 @@ fn closed<S: Store, L: Ledger>(
     touches: &mut Steps<L>,
 ) -> Result<Entry, Refusal>
     ensures closes { Closes S.X.block32 result (S.seen store.old).told (S.seen store.new).told builder }
+    ensures reads { is_read result ≡ false }
     ensures cause { ShownIn S.X.block32 result (S.seen store.old) (S.seen store.new) }
     ensures good { KeepsGood S.X.block32 (S.seen store.old).told (S.seen store.new).told }
     ensures saves { SavesOnly (S.seen store.old).told (S.seen store.new).told }
@@ -154,6 +155,7 @@ fn feed_piece<S: Store, L: Ledger>(
 ) -> Result<(), Refusal>
     ensures feeds { (p : TheProfile) → FeedsPiece S.X.block32 p piece.now result (S.seen store.old).told (S.seen store.new).told builder.old builder.new }
     ensures count { OnOk result (GrowsBy (length piece.now) builder.old builder.new) }
+    ensures reads { is_read result ≡ false }
     ensures cause { ShownIn S.X.block32 result (S.seen store.old) (S.seen store.new) }
     ensures good { KeepsGood S.X.block32 (S.seen store.old).told (S.seen store.new).told }
     ensures saves { SavesOnly (S.seen store.old).told (S.seen store.new).told }

@@ -9,7 +9,7 @@ ghost use Rattle.uf_tree.specs.Profiles.{is_profile};
 ghost use Rattle.uf_tree.specs.Standing.{Standing, Stands};
 ghost use Rattle.uf_tree.specs.Tree.{Entries};
 ghost use Rattle.uf_tree.specs.declared.profile.Profile.{Profile as TheProfile};
-ghost use Rattle.uf_top.specs.Causes.{CommitsTo, HeadStays, IsBadIn, IsMade, IsOfTree, IsOfWork, IsReady, Shown, refusal_of};
+ghost use Rattle.uf_top.specs.Causes.{CommitsTo, HeadStays, IsBadIn, IsMade, IsOfAt, IsOfInit, IsOfTree, IsReady, Shown, refused_in_tree, refused_opening};
 ghost use Rattle.uf_top.specs.Commands.{only_looks};
 ghost use Rattle.uf_top.specs.Intake.{ShownIn};
 ghost use Rattle.uf_top.specs.Reply.{Answers, edited_by, in_tree as in_the_tree, init_reply, tree_reply};
@@ -39,15 +39,18 @@ pub fn init<S: Store, N: NameHash, L: Ledger>(
         → Stood (S.seen store.old).faults (S.seen store.new).faults → Stood (S.seen store.old).clashes (S.seen store.new).clashes
         → Answers S.X.block32 N.name64 standing (init_reply S.X.block32 N.name64 profile standing) result (S.seen store.new).told }
     ensures nothing { IfOk result (λ text. text ≡ []) }
-    ensures ready { IsReady (S.seen store.old).told (commands.Init profile) result }
-    ensures work { IsOfWork result }
+    ensures ready { IsReady (S.seen store.old) (S.seen store.new) (commands.Init profile) result }
+    ensures work { IsOfInit result }
     ensures cause { ShownIn S.X.block32 result (S.seen store.old) (S.seen store.new) }
     ensures good { KeepsGood S.X.block32 (S.seen store.old).told (S.seen store.new).told }
     ensures head { HeadStays result (S.seen store.old).told (S.seen store.new).told }
 {
     match Mfs::init::<S, N, L>(alloc, store, profile, touches) {
-        Err(fault) => Err(refusal(fault)),
-        Ok(_) => Ok(Block::new(alloc)),
+        Err(fault) => Err(opening(fault)),
+        Ok(tree) => {
+            let _ = tree;
+            Ok(Block::new(alloc))
+        }
     }
 }
 
@@ -62,15 +65,15 @@ pub fn at<S: Store, N: NameHash, L: Ledger>(
     ensures answers { (standing : Standing) → TellsAs S.X.block32 N.name64 (S.seen store.old).told standing
         → Stood (S.seen store.old).faults (S.seen store.new).faults → Stood (S.seen store.old).clashes (S.seen store.new).clashes
         → Answers S.X.block32 N.name64 standing (in_the_tree (tree_reply S.X.block32 N.name64 ask path.now.names) standing) result (S.seen store.new).told }
-    ensures ready { IsReady (S.seen store.old).told (commands.At ask path.now) result }
-    ensures work { IsOfWork result }
+    ensures ready { IsReady (S.seen store.old) (S.seen store.new) (commands.At ask path.now) result }
+    ensures work { IsOfAt result }
     ensures cause { Shown S.X.block32 (IsBadIn N.name64 (S.seen store.old).told) result (S.seen store.old) (S.seen store.new) }
     ensures good { KeepsGood S.X.block32 (S.seen store.old).told (S.seen store.new).told }
     ensures head { HeadStays result (S.seen store.old).told (S.seen store.new).told }
-    ensures told { IsTrue (only_looks ask) → (S.seen store.new).told ≡ (S.seen store.old).told }
+    ensures told { only_looks ask ≡ true → (S.seen store.new).told ≡ (S.seen store.old).told }
 {
     match Mfs::from_store::<S, N, L>(alloc, store, touches) {
-        Err(fault) => Err(refusal(fault)),
+        Err(fault) => Err(opening(fault)),
         Ok(tree) => in_tree::<S, N, L>(alloc, tree, ask, path, store, touches),
     }
 }
@@ -92,7 +95,7 @@ fn in_tree<S: Store, N: NameHash, L: Ledger>(
     ensures cause { Shown S.X.block32 (IsBad N.name64 (Some tree.profile)) result (S.seen store.old) (S.seen store.new) }
     ensures good { KeepsGood S.X.block32 (S.seen store.old).told (S.seen store.new).told }
     ensures head { HeadStays result (S.seen store.old).told (S.seen store.new).told }
-    ensures told { IsTrue (only_looks ask) → (S.seen store.new).told ≡ (S.seen store.old).told }
+    ensures told { only_looks ask ≡ true → (S.seen store.new).told ≡ (S.seen store.old).told }
 {
     match ask {
         Ask::Ls { long: false } => names_at::<S, N, L>(alloc, &tree, path, store, touches),
@@ -114,7 +117,9 @@ fn names_at<S: Store, N: NameHash, L: Ledger>(
         → Stood (S.seen store.old).faults (S.seen store.new).faults
         → Answers S.X.block32 N.name64 (Stands p es) (tree_reply S.X.block32 N.name64 (asks.Ls false) path.now.names p es) result (S.seen store.new).told }
     ensures work { IsOfTree result }
-    ensures cause { Shown S.X.block32 (IsBad N.name64 None) result (S.seen store.old) (S.seen store.new) }
+    ensures cause { Shown S.X.block32 (IsBad N.name64 (Some tree.now.profile)) result (S.seen store.old) (S.seen store.new) }
+    ensures good { KeepsGood S.X.block32 (S.seen store.old).told (S.seen store.new).told }
+    ensures head { HeadStays result (S.seen store.old).told (S.seen store.new).told }
     ensures told { (S.seen store.new).told ≡ (S.seen store.old).told }
 {
     match tree.names::<S, N, L>(alloc, store, path, touches) {
@@ -135,7 +140,9 @@ fn rows_at<S: Store, N: NameHash, L: Ledger>(
         → Stood (S.seen store.old).faults (S.seen store.new).faults
         → Answers S.X.block32 N.name64 (Stands p es) (tree_reply S.X.block32 N.name64 (asks.Ls true) path.now.names p es) result (S.seen store.new).told }
     ensures work { IsOfTree result }
-    ensures cause { Shown S.X.block32 (IsBad N.name64 None) result (S.seen store.old) (S.seen store.new) }
+    ensures cause { Shown S.X.block32 (IsBad N.name64 (Some tree.now.profile)) result (S.seen store.old) (S.seen store.new) }
+    ensures good { KeepsGood S.X.block32 (S.seen store.old).told (S.seen store.new).told }
+    ensures head { HeadStays result (S.seen store.old).told (S.seen store.new).told }
     ensures told { (S.seen store.new).told ≡ (S.seen store.old).told }
 {
     match tree.ls::<S, N, L>(alloc, store, path, touches) {
@@ -156,7 +163,9 @@ fn stat_at<S: Store, N: NameHash, L: Ledger>(
         → Stood (S.seen store.old).faults (S.seen store.new).faults
         → Answers S.X.block32 N.name64 (Stands p es) (tree_reply S.X.block32 N.name64 asks.Stat path.now.names p es) result (S.seen store.new).told }
     ensures work { IsOfTree result }
-    ensures cause { Shown S.X.block32 (IsBad N.name64 None) result (S.seen store.old) (S.seen store.new) }
+    ensures cause { Shown S.X.block32 (IsBad N.name64 (Some tree.now.profile)) result (S.seen store.old) (S.seen store.new) }
+    ensures good { KeepsGood S.X.block32 (S.seen store.old).told (S.seen store.new).told }
+    ensures head { HeadStays result (S.seen store.old).told (S.seen store.new).told }
     ensures told { (S.seen store.new).told ≡ (S.seen store.old).told }
 {
     match tree.stat::<S, N, L>(alloc, store, path, touches) {
@@ -238,15 +247,25 @@ fn committed<S: Store, N: NameHash, L: Ledger>(
     }
 }
 
-// The fault of a call on the tree as a refusal.
+// The fault of a call that opens a tree as a refusal. No rule refuses that, and nothing is printed there.
+fn opening(fault: MfsFault) -> Refusal
+    ensures { result ≡ refused_opening fault }
+{
+    match fault {
+        MfsFault::Ready(why) => Refusal::Ready(why),
+        MfsFault::Store(fault) => Refusal::Store(fault),
+        MfsFault::Rule(_) | MfsFault::Sink => Refusal::Store(StoreFault::Memory),
+    }
+}
+
+// The fault of a call on an opened tree as a refusal. Such a tree is ready, and nothing is printed there.
 fn refusal(fault: MfsFault) -> Refusal
-    ensures { result ≡ refusal_of fault }
+    ensures { result ≡ refused_in_tree fault }
 {
     match fault {
         MfsFault::Rule(rule) => Refusal::Rule(rule),
-        MfsFault::Ready(why) => Refusal::Ready(why),
-        MfsFault::Sink => Refusal::Write,
         MfsFault::Store(fault) => Refusal::Store(fault),
+        MfsFault::Ready(_) | MfsFault::Sink => Refusal::Store(StoreFault::Memory),
     }
 }
 

@@ -18,3 +18,9 @@ returns-in-Ok-false-clause-feeds g c = λ p. FeedsLast-after _ p _ _ _ _ _ _ _ _
 
 pub returns-in-Err-clause-feeds : goal.returns-in-Err-clause-feeds
 returns-in-Err-clause-feeds g c = λ p. stopped-after _ p _ _ _ _ _ _ _ _ (c.pieces.invariant.feeds p) (c.in-Err.ensures.feeds p)
+
+pub returns-in-Ok-false-clause-good : goal.returns-in-Ok-false-clause-good
+returns-in-Ok-false-clause-good g c = KeepsGood-trans _ _ _ _ c.pieces.invariant.good c.in-Ok-false.ensures.good
+
+pub returns-in-Err-clause-good : goal.returns-in-Err-clause-good
+returns-in-Err-clause-good g c = KeepsGood-trans _ _ _ _ c.pieces.invariant.good c.in-Err.ensures.good
