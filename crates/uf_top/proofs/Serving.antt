@@ -31,7 +31,7 @@ counts-still i = record { later = omega arith; rose = λ e. absurd cc; still = �
 
 pub words-keep : (told : Result Command Refusal) (why : Refusal) → IsAsked (Err why) told → KeepsRefusal told (Err why)
 words-keep (Err asked) why (inl memory) = inr (ap (λ (w : Refusal). Err w) memory)
-words-keep (Err asked) why (inr same) = inl (sym same)
+words-keep (Err asked) why (inr same) = (let e : asked ≡ why = cc in inl (ap (λ (w : Refusal). Err w) (sym e)))
 words-keep (Ok command) why (inl memory) = subst (λ w. KeepsRefusal (Ok command) (Err w)) (sym memory) (by command)
   where
     by : (command : Command) → KeepsRefusal (Ok command) (Err no_memory)

@@ -108,6 +108,7 @@ module _ (X : List ℕ → List ℕ) (N : List ℕ → ℕ) where
   profile_in p (Err why) = p
 
   says : (head : Option (List ℕ)) (text : List ℕ) (p q : Profile) (root : Cid) → head ≡ Some text → head_reads text ≡ Ok (record { profile = p; root = root }) → HeadSays head q → p ≡ q
+  unfolding profile_in
   says None text p q root e r h = absurd h
   says (Some given) text p q root e r h = (let same : given ≡ text = cc in ap (profile_in p) (sym (ap head_reads same ∙ r) ∙ h.1))
 

@@ -47,7 +47,7 @@ module _ (Says : List ℕ → Type 0) where
   plain-of (refusal.Store (fault.Damaged cid)) e = refl
   plain-of (refusal.Store (fault.Missing cid)) e = absurd cc
   plain-of (refusal.Store (fault.BadBlock cid role)) e = absurd cc
-  plain-of (refusal.Store (fault.Clash cid held bytes)) e = absurd cc
+  plain-of (refusal.Store (fault.Clash cid first second)) e = absurd cc
   plain-of (refusal.Store fault.Memory) e = refl
 
   pub says-plain : (r : Result (List ℕ) Refusal) (given : Status) → Tells Says r given → SaysPlain Says given
@@ -81,7 +81,7 @@ module _ (Says : List ℕ → Type 0) where
   rule-in hash (Init p) (refusal.Store (fault.Damaged cid)) told l m e keeps adds = absurd cc
   rule-in hash (Init p) (refusal.Store (fault.Missing cid)) told l m e keeps adds = absurd cc
   rule-in hash (Init p) (refusal.Store (fault.BadBlock cid role)) told l m e keeps adds = absurd cc
-  rule-in hash (Init p) (refusal.Store (fault.Clash cid held bytes)) told l m e keeps adds = absurd cc
+  rule-in hash (Init p) (refusal.Store (fault.Clash cid first second)) told l m e keeps adds = absurd cc
   rule-in hash (Init p) (refusal.Store fault.Memory) told l m e keeps adds = absurd cc
   rule-in hash (Add only_hash) (refusal.Rule rule) told l m e keeps adds = (ap refusal.Rule adds.0, adds.1)
   rule-in hash (Add only_hash) (refusal.BadPath path) told l m e keeps adds = absurd keeps
@@ -93,7 +93,7 @@ module _ (Says : List ℕ → Type 0) where
   rule-in hash (Add only_hash) (refusal.Store (fault.Damaged cid)) told l m e keeps adds = absurd cc
   rule-in hash (Add only_hash) (refusal.Store (fault.Missing cid)) told l m e keeps adds = absurd cc
   rule-in hash (Add only_hash) (refusal.Store (fault.BadBlock cid role)) told l m e keeps adds = absurd cc
-  rule-in hash (Add only_hash) (refusal.Store (fault.Clash cid held bytes)) told l m e keeps adds = absurd cc
+  rule-in hash (Add only_hash) (refusal.Store (fault.Clash cid first second)) told l m e keeps adds = absurd cc
   rule-in hash (Add only_hash) (refusal.Store fault.Memory) told l m e keeps adds = absurd cc
   rule-in hash (At ask path) (refusal.Rule rule) told l m e keeps adds = (rule, refl)
   rule-in hash (At ask path) (refusal.BadPath reason2) told l m e keeps adds = absurd keeps
@@ -105,7 +105,7 @@ module _ (Says : List ℕ → Type 0) where
   rule-in hash (At ask path) (refusal.Store (fault.Damaged cid)) told l m e keeps adds = absurd cc
   rule-in hash (At ask path) (refusal.Store (fault.Missing cid)) told l m e keeps adds = absurd cc
   rule-in hash (At ask path) (refusal.Store (fault.BadBlock cid role)) told l m e keeps adds = absurd cc
-  rule-in hash (At ask path) (refusal.Store (fault.Clash cid held bytes)) told l m e keeps adds = absurd cc
+  rule-in hash (At ask path) (refusal.Store (fault.Clash cid first second)) told l m e keeps adds = absurd cc
   rule-in hash (At ask path) (refusal.Store fault.Memory) told l m e keeps adds = absurd cc
 
   pub rule-told : (hash : List ℕ → List ℕ) (command : Result Command Refusal) (r : Result (List ℕ) Refusal) (given : Status) (told : Told) (l m : streams.Told) → Tells Says r given → KeepsRefusal command r → AddsFor hash told command r l m → given ≡ status.Rule
@@ -130,7 +130,7 @@ module _ (Says : List ℕ → Type 0) where
   usage-of (refusal.Store (fault.Damaged cid)) e = absurd cc
   usage-of (refusal.Store (fault.Missing cid)) e = absurd cc
   usage-of (refusal.Store (fault.BadBlock cid role)) e = absurd cc
-  usage-of (refusal.Store (fault.Clash cid held bytes)) e = absurd cc
+  usage-of (refusal.Store (fault.Clash cid first second)) e = absurd cc
   usage-of (refusal.Store fault.Memory) e = absurd cc
 
   not-usage : (command : Command) → KeepsRefusal (Ok command) (Err refusal.Usage) → ⊥
@@ -145,7 +145,7 @@ module _ (Says : List ℕ → Type 0) where
     where
       by : (command : Result Command Refusal) → KeepsRefusal command (Err refusal.Usage) → command ≡ Err refusal.Usage
       by (Ok command) h = absurd (not-usage command h)
-      by (Err asked) (inl same) = sym same
+      by (Err asked) (inl same) = (let e : refusal.Usage ≡ asked = cc in ap (λ (w : Refusal). Err w) (sym e))
       by (Err asked) (inr same) = absurd cc
 
   module _ (hash : List ℕ → List ℕ) (P : Role → List ℕ → Type 0) (a b : Seen) where
@@ -160,7 +160,7 @@ module _ (Says : List ℕ → Type 0) where
     failure-of (refusal.Store (fault.Damaged cid)) e h = h
     failure-of (refusal.Store (fault.Missing cid)) e h = absurd cc
     failure-of (refusal.Store (fault.BadBlock cid role)) e h = absurd cc
-    failure-of (refusal.Store (fault.Clash cid held bytes)) e h = absurd cc
+    failure-of (refusal.Store (fault.Clash cid first second)) e h = absurd cc
     failure-of (refusal.Store fault.Memory) e h = absurd cc
 
     pub failure-told : (r : Result (List ℕ) Refusal) (given : Status) → Tells Says r given → Shown hash P r a b → given ≡ status.StoreFault → ShowsFailure a b
@@ -179,7 +179,7 @@ module _ (Says : List ℕ → Type 0) where
     missing-of (refusal.Store (fault.Damaged cid)) e h s = absurd cc
     missing-of (refusal.Store (fault.Missing cid)) e h s = (cid, h, s)
     missing-of (refusal.Store (fault.BadBlock cid role)) e h s = absurd cc
-    missing-of (refusal.Store (fault.Clash cid held bytes)) e h s = absurd cc
+    missing-of (refusal.Store (fault.Clash cid first second)) e h s = absurd cc
     missing-of (refusal.Store fault.Memory) e h s = absurd cc
 
     pub missing-told : (r : Result (List ℕ) Refusal) (given : Status) → Tells Says r given → Shown hash P r a b → given ≡ status.Missing → (cid : Cid) × ShowsMissing cid a b × Says (missing_line cid)
@@ -198,7 +198,7 @@ module _ (Says : List ℕ → Type 0) where
     bad-of (refusal.Store (fault.Damaged cid)) e h s = absurd cc
     bad-of (refusal.Store (fault.Missing cid)) e h s = absurd cc
     bad-of (refusal.Store (fault.BadBlock cid role)) e h s = (cid, role, h, s)
-    bad-of (refusal.Store (fault.Clash cid held bytes)) e h s = absurd cc
+    bad-of (refusal.Store (fault.Clash cid first second)) e h s = absurd cc
     bad-of (refusal.Store fault.Memory) e h s = absurd cc
 
     pub bad-told : (r : Result (List ℕ) Refusal) (given : Status) → Tells Says r given → Shown hash P r a b → given ≡ status.BadBlock → (cid : Cid) × (role : Role) × ShowsBadBlock hash P cid role a b × Says (bad_block_line cid role)
@@ -217,7 +217,7 @@ module _ (Says : List ℕ → Type 0) where
     clash-of (refusal.Store (fault.Damaged cid)) e h s = absurd cc
     clash-of (refusal.Store (fault.Missing cid)) e h s = absurd cc
     clash-of (refusal.Store (fault.BadBlock cid role)) e h s = absurd cc
-    clash-of (refusal.Store (fault.Clash cid held bytes)) e h s = (cid, held, bytes, h, s)
+    clash-of (refusal.Store (fault.Clash cid first second)) e h s = (cid, first, second, h, s)
     clash-of (refusal.Store fault.Memory) e h s = absurd cc
 
     pub clash-told : (r : Result (List ℕ) Refusal) (given : Status) → Tells Says r given → Shown hash P r a b → given ≡ status.Clash → (cid : Cid) × (held : List ℕ) × (bytes : List ℕ) × ShowsClash hash cid held bytes a b × Says (clash_line cid held bytes)
@@ -238,7 +238,7 @@ module _ (Says : List ℕ → Type 0) where
     ready-of command (refusal.Store (fault.Damaged cid)) e ready keeps words s = absurd cc
     ready-of command (refusal.Store (fault.Missing cid)) e ready keeps words s = absurd cc
     ready-of command (refusal.Store (fault.BadBlock cid role)) e ready keeps words s = absurd cc
-    ready-of command (refusal.Store (fault.Clash cid held bytes)) e ready keeps words s = absurd cc
+    ready-of command (refusal.Store (fault.Clash cid first second)) e ready keeps words s = absurd cc
     ready-of command (refusal.Store fault.Memory) e ready keeps words s = absurd cc
 
     pub ready-told : (command : Result Command Refusal) (r : Result (List ℕ) Refusal) (given : Status) → Tells Says r given → IsReadyFor a b command r → KeepsRefusal command r → IsOfWords command → given ≡ status.NotReady → IsNotReady Says command a b
@@ -261,7 +261,7 @@ module _ (Says : List ℕ → Type 0) where
     faults-told (Err (refusal.Store (fault.Damaged cid))) given (inr t) h more = inr t.1
     faults-told (Err (refusal.Store (fault.Missing cid))) given t h more = (let e = h.calm.faults in absurd (omega (arith, e, more)))
     faults-told (Err (refusal.Store (fault.BadBlock cid role))) given t h more = (let e = h.calm.faults in absurd (omega (arith, e, more)))
-    faults-told (Err (refusal.Store (fault.Clash cid held bytes))) given t h more = (let e = h.faults in absurd (omega (arith, e, more)))
+    faults-told (Err (refusal.Store (fault.Clash cid first second))) given t h more = (let e = h.faults in absurd (omega (arith, e, more)))
     faults-told (Err (refusal.Store fault.Memory)) given (inl t) h more = inr t.0
     faults-told (Err (refusal.Store fault.Memory)) given (inr t) h more = inr t.1
 
@@ -277,8 +277,8 @@ module _ (Says : List ℕ → Type 0) where
     clashes-told (Err (refusal.Store (fault.Damaged cid))) given t h more = (let e = h.clashes in absurd (omega (arith, e, more)))
     clashes-told (Err (refusal.Store (fault.Missing cid))) given t h more = (let e = h.calm.clashes in absurd (omega (arith, e, more)))
     clashes-told (Err (refusal.Store (fault.BadBlock cid role))) given t h more = (let e = h.calm.clashes in absurd (omega (arith, e, more)))
-    clashes-told (Err (refusal.Store (fault.Clash cid held bytes))) given (inl t) h more = inl t.0
-    clashes-told (Err (refusal.Store (fault.Clash cid held bytes))) given (inr t) h more = inr t.1
+    clashes-told (Err (refusal.Store (fault.Clash cid first second))) given (inl t) h more = inl t.0
+    clashes-told (Err (refusal.Store (fault.Clash cid first second))) given (inr t) h more = inr t.1
     clashes-told (Err (refusal.Store fault.Memory)) given (inl t) h more = inr t.0
     clashes-told (Err (refusal.Store fault.Memory)) given (inr t) h more = inr t.1
 
@@ -293,7 +293,7 @@ module _ (Says : List ℕ → Type 0) where
   read-of (refusal.Store (fault.Damaged cid)) e = absurd cc
   read-of (refusal.Store (fault.Missing cid)) e = absurd cc
   read-of (refusal.Store (fault.BadBlock cid role)) e = absurd cc
-  read-of (refusal.Store (fault.Clash cid held bytes)) e = absurd cc
+  read-of (refusal.Store (fault.Clash cid first second)) e = absurd cc
   read-of (refusal.Store fault.Memory) e = absurd cc
 
   pub read-rose : (r : Result (List ℕ) Refusal) (given : Status) (i j : ℕ) → Tells Says r given → Counts (is_read r) i j → given ≡ status.ReadFault → Rose i j
@@ -323,7 +323,7 @@ module _ (Says : List ℕ → Type 0) where
   write-of (refusal.Store (fault.Damaged cid)) e = absurd cc
   write-of (refusal.Store (fault.Missing cid)) e = absurd cc
   write-of (refusal.Store (fault.BadBlock cid role)) e = absurd cc
-  write-of (refusal.Store (fault.Clash cid held bytes)) e = absurd cc
+  write-of (refusal.Store (fault.Clash cid first second)) e = absurd cc
   write-of (refusal.Store fault.Memory) e = absurd cc
 
   pub write-rose : (r : Result (List ℕ) Refusal) (given : Status) (i j : ℕ) → Tells Says r given → Counts (is_write r) i j → given ≡ status.WriteFault → Rose i j
@@ -354,7 +354,7 @@ module _ (Says : List ℕ → Type 0) where
   others IsText (refusal.Store (fault.Damaged cid)) held now other h = h
   others IsText (refusal.Store (fault.Missing cid)) held now other h = h
   others IsText (refusal.Store (fault.BadBlock cid role)) held now other h = h
-  others IsText (refusal.Store (fault.Clash cid held bytes)) held now other h = h
+  others IsText (refusal.Store (fault.Clash cid first second)) held now other h = h
   others IsText (refusal.Store fault.Memory) held now other h = h
 
   prints-other : (IsText : List ℕ → Type 0) (why : Refusal) (given : Status) (held now : streams.Told) → (why ≢ refusal.Write) → Tells Says (Err why) given → now ≡ held → PrintsAt IsText given held now
@@ -387,7 +387,7 @@ module _ (Says : List ℕ → Type 0) where
       not-ok (refusal.Store (fault.Damaged cid)) e = absurd cc
       not-ok (refusal.Store (fault.Missing cid)) e = absurd cc
       not-ok (refusal.Store (fault.BadBlock cid role)) e = absurd cc
-      not-ok (refusal.Store (fault.Clash cid held bytes)) e = absurd cc
+      not-ok (refusal.Store (fault.Clash cid first second)) e = absurd cc
       not-ok (refusal.Store fault.Memory) e = absurd cc
   synced-told command (Err why) given now (inr t) h is = absurd (let e : status.Memory ≡ status.Ok = sym t.1 ∙ is in cc)
 

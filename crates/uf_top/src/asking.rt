@@ -37,8 +37,20 @@ fn read_path(alloc: Global, cmd: Cmd) -> Result<Command, Refusal>
             to_files,
             host_path,
         } => read_add(recursive, only_hash, to_files, host_path),
-        Cmd::Mkdir { parents, path } => ask_at(alloc, Ask::Edit { edit: Edit::Mkdir { parents } }, &path),
-        Cmd::Rm { recursive, path } => ask_at(alloc, Ask::Edit { edit: Edit::Rm { recursive } }, &path),
+        Cmd::Mkdir { parents, path } => ask_at(
+            alloc,
+            Ask::Edit {
+                edit: Edit::Mkdir { parents },
+            },
+            &path,
+        ),
+        Cmd::Rm { recursive, path } => ask_at(
+            alloc,
+            Ask::Edit {
+                edit: Edit::Rm { recursive },
+            },
+            &path,
+        ),
         Cmd::Ls { long, path } => ask_at(alloc, Ask::Ls { long }, &path),
         Cmd::Stat { path } => ask_at(alloc, Ask::Stat, &path),
         _ => Err(Refusal::Usage),

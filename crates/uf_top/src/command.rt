@@ -50,7 +50,7 @@ pub fn run<S: Store, N: NameHash, I: Source, O: Sink, E: Sink, L: Ledger>(
         → Stood (S.seen store.old).faults (S.seen store.new).faults → Stood (S.seen store.old).clashes (S.seen store.new).clashes
         → Stood (I.faults input.old) (I.faults input.new) → Stood (O.faults output.old) (O.faults output.new)
         → EndsAs (λ line. IsSent line (E.holds errors.old) (E.holds errors.new) (E.faults errors.old) (E.faults errors.new))
-            S.X.block32 N.name64 standing (reply_to S.X.block32 N.name64 (command_in (map string_bytes words.now)) standing bytes) result (O.holds output.old) (O.holds output.new) (S.seen store.new).told }
+        S.X.block32 N.name64 standing (reply_to S.X.block32 N.name64 (command_in (map string_bytes words.now)) standing bytes) result (O.holds output.old) (O.holds output.new) (S.seen store.new).told }
 
     // Words that are no command, and texts that are no paths, are refused, and then nothing is done.
     ensures words { (why : TheRefusal) → command_in (map string_bytes words.now) ≡ Err why
@@ -126,10 +126,41 @@ fn serve<S: Store, N: NameHash, I: Source, O: Sink, L: Ledger>(
 {
     match read_command(alloc, words) {
         Err(why) => Err(why),
-        Ok(command) => match work::<S, N, I, L>(alloc, &command, store, input, touches) {
-            Err(why) => Err(why),
-            Ok(text) => print(output, text),
-        },
+        Ok(command) => { served::<S, N, I, O, L>(alloc, &command, store, input, output, touches) }
+    }
+}
+
+// Does a command, and prints what it says.
+fn served<S: Store, N: NameHash, I: Source, O: Sink, L: Ledger>(
+    alloc: Global,
+    command: &Command,
+    store: &mut S,
+    input: &mut I,
+    output: &mut O,
+    touches: &mut Steps<L>,
+) -> Result<Block, Refusal>
+    requires { IsAccepted command.now }
+    ensures answers { (standing : Standing) (bytes : List ℕ) → TellsAs S.X.block32 N.name64 (S.seen store.old).told standing → I.left input.old ≡ Some bytes
+        → Stood (S.seen store.old).faults (S.seen store.new).faults → Stood (S.seen store.old).clashes (S.seen store.new).clashes
+        → Stood (I.faults input.old) (I.faults input.new) → Stood (O.faults output.old) (O.faults output.new)
+        → Answers S.X.block32 N.name64 standing (reply_to S.X.block32 N.name64 (Ok command.now) standing bytes) result (S.seen store.new).told }
+    ensures words { KeepsRefusal (Ok command.now) result }
+    ensures ready { IsReadyFor (S.seen store.old) (S.seen store.new) (Ok command.now) result }
+    ensures adds { AddsFor S.X.block32 (S.seen store.old).told (Ok command.now) result (I.left input.old) (I.left input.new) }
+    ensures prints { Prints (IsTextOf S.X.block32 (S.seen store.old).told (Ok command.now) (I.left input.old)) result (O.holds output.old) (O.holds output.new) }
+    ensures synced { SyncsFor (Ok command.now) result (S.seen store.new).told }
+    ensures cause { Shown S.X.block32 (IsBadIn N.name64 (S.seen store.old).told) result (S.seen store.old) (S.seen store.new) }
+    ensures reads { Counts (is_read result) (I.faults input.old) (I.faults input.new) }
+    ensures writes { Counts (is_write result) (O.faults output.old) (O.faults output.new) }
+    ensures good { KeepsGood S.X.block32 (S.seen store.old).told (S.seen store.new).told }
+    ensures head { HeadStays result (S.seen store.old).told (S.seen store.new).told }
+    ensures told { only_reads command.now ≡ true → (S.seen store.new).told ≡ (S.seen store.old).told }
+    ensures input { reads_input command.now ≡ false → input.new ≡ input.old }
+    ensures touches { only_hashes command.now ≡ true → touches.new ≡ touches.old }
+{
+    match work::<S, N, I, L>(alloc, command, store, input, touches) {
+        Err(why) => Err(why),
+        Ok(text) => print(output, text),
     }
 }
 

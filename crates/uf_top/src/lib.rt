@@ -14,4 +14,3 @@ mod types;
 pub use command::run;
 pub use status::Status;
 pub use types::{Ask, Command, Edit, Refusal};
-

@@ -218,9 +218,7 @@ fn edited<S: Store, N: NameHash, L: Ledger>(
     ensures saves { SavesOnly (S.seen store.old).told (S.seen store.new).told }
 {
     match edit {
-        Edit::Mkdir { parents } => {
-            tree.mkdir::<S, N, L>(alloc, store, path, parents, touches)
-        }
+        Edit::Mkdir { parents } => { tree.mkdir::<S, N, L>(alloc, store, path, parents, touches) }
         Edit::Rm { recursive } => tree.rm::<S, N, L>(alloc, store, path, recursive, touches),
     }
 }

@@ -40,7 +40,7 @@ returns-in-Ok-Some-clause-answers g c = λ N s bytes stands left faults clashes 
     let now = stands-kept X N m.told b.told s e.good e.head mid in
     add-answers X (record { size = g.met.S.X.BlockHash.size; are_bytes = g.met.S.X.BlockHash.are_bytes }) N s p bytes c.add_by.result a.told b.told stands (subst (λ found. IfSome a.told (λ t. IsProfileIn found t.notes.head)) c.in-Ok-Some.field-0-is c.in-Ok-Some.ensures.read)
     (added-answers X N s (plan_blocks X p) p bytes c.add_by.result b.told m b (g.I.Source.left c.args.input.now) (g.I.Source.left c.add_by.new.input) (g.I.Source.faults c.args.input.now) (g.I.Source.faults c.add_by.new.input) now (λ bs h. tells-held X N b.told s _ now h) e.row left e.cause
-      (stood-back a.faults m.faults b.faults c.in-Ok-Some.ensures.cause.faults faults) (stood-back a.clashes m.clashes b.clashes c.in-Ok-Some.ensures.cause.clashes clashes) e.counts read)
+    (stood-back a.faults m.faults b.faults c.in-Ok-Some.ensures.cause.faults faults) (stood-back a.clashes m.clashes b.clashes c.in-Ok-Some.ensures.cause.clashes clashes) e.counts read)
 
 pub returns-in-Ok-Some-clause-adds : goal.returns-in-Ok-Some-clause-adds
 returns-in-Ok-Some-clause-adds g c =

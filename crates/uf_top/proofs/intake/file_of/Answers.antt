@@ -7,7 +7,7 @@ use Rattle.uf_top.proofs.intake.file_of.Goals as goal
 pub returns-in-Ok-clause-file : goal.returns-in-Ok-clause-file
 returns-in-Ok-clause-file g c =
     let X = g.S.X.BlockHash.block32 in let p = c.args.profile in let told = (g.S.Store.seen c.args.store.now).told in
-    let n = c.new.ensures in
+    let n = c.new-builder.ensures in
     file-of X p c.closed.result told _ _ _ _ _ _ (c.in-Ok.ensures.feeds p) (new-fed X p told _ (n.fed X) (n.held X told) n.count n.profile n.spent) c.closed.ensures.closes
 
 pub returns-in-Ok-clause-counts : goal.returns-in-Ok-clause-counts
@@ -19,5 +19,5 @@ returns-in-Ok-clause-good g c = KeepsGood-trans _ _ _ _ c.in-Ok.ensures.good c.c
 pub returns-in-Err-clause-file : goal.returns-in-Err-clause-file
 returns-in-Err-clause-file g c =
     let X = g.S.X.BlockHash.block32 in let p = c.args.profile in let told = (g.S.Store.seen c.args.store.now).told in
-    let n = c.new.ensures in
+    let n = c.new-builder.ensures in
     no-file X p c.in-Err.why told _ _ _ _ (new-fed X p told _ (n.fed X) (n.held X told) n.count n.profile n.spent) (c.in-Err.ensures.feeds p)

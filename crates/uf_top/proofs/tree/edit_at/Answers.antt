@@ -19,7 +19,7 @@ returns-in-Err-clause-answers g c = λ p es at_tree stands faults clashes.
     let a = g.S.Store.seen c.args.store.now in let m = g.S.Store.seen c.edited.new.store in
     subst (λ w. Answers X N (Stands p es) (tree_reply X N (Edits edit) names p es) (Err w) m.told) (sym c.refusal.ensures)
     (fault-answers X N Entries (Unit {0}) (λ es done. StandsAt X N m.told c.edited.new.tree p es) (Stands p es) names (allowed X N p (edited_by edit names es)) (moved X N p es names) c.in-Err.fault m.told
-      (λ why. refl) (c.in-Err.ensures.answer p es at_tree faults clashes) (stands-kept X N a.told m.told (Stands p es) c.in-Err.ensures.good (saves-head a.told m.told c.in-Err.ensures.saves) stands))
+    (λ why. refl) (c.in-Err.ensures.answer p es at_tree faults clashes) (stands-kept X N a.told m.told (Stands p es) c.in-Err.ensures.good (saves-head a.told m.told c.in-Err.ensures.saves) stands))
 
 pub returns-in-Err-clause-work : goal.returns-in-Err-clause-work
 returns-in-Err-clause-work g c = subst (λ w. IsOfTree {A = List ℕ} (Err w)) (sym c.refusal.ensures) (in-tree-work (List ℕ) c.in-Err.fault)

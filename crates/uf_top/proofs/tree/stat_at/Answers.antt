@@ -23,7 +23,7 @@ returns-in-Err-clause-answers g c = λ p es at_tree stands faults.
     let a = g.S.Store.seen c.args.store.now in let b = g.S.Store.seen c.stat.new.store in
     subst (λ w. Answers X N (Stands p es) (tree_reply X N Stat names p es) (Err w) b.told) (sym c.refusal.ensures)
     (fault-answers X N Tree TheStat (λ t found. found ≡ stat_of X N p t) (Stands p es) names (at 0 names (Dir es)) (looked (Stands p es) names (λ t. stat_text (stat_of X N p t))) c.in-Err.fault b.told
-      (λ why. refl) (c.in-Err.ensures.answer p es at_tree faults) (stands-same X N a.told b.told (Stands p es) c.in-Err.ensures.told stands))
+    (λ why. refl) (c.in-Err.ensures.answer p es at_tree faults) (stands-same X N a.told b.told (Stands p es) c.in-Err.ensures.told stands))
 
 pub returns-in-Err-clause-work : goal.returns-in-Err-clause-work
 returns-in-Err-clause-work g c = subst (λ w. IsOfTree {A = List ℕ} (Err w)) (sym c.refusal.ensures) (in-tree-work (List ℕ) c.in-Err.fault)
