@@ -1,11 +1,12 @@
 // The commands that add the input as a file.
-ghost use Rattle.std.specs.Prelude.{◌≡◌, ◌<◌, List, ℕ, false, true, None, Some, IfOk, IfSome, IsTrue, OnOk};
+ghost use Rattle.std.specs.Prelude.{◌≡◌, ◌<◌, List, ℕ, Ok, false, true, None, Some, IfOk, IfSome, IsTrue, OnOk};
 ghost use Rattle.uf_edge.specs.Counts.{Counts, Stood};
 ghost use Rattle.uf_mfs.specs.Standing.{LeavesHead, TellsAs, head_in};
 ghost use Rattle.uf_store.specs.Keeping.{KeepsGood};
 ghost use Rattle.uf_tree.specs.Profiles.{is_profile};
 ghost use Rattle.uf_tree.specs.Standing.{Standing};
 ghost use Rattle.uf_top.specs.Causes.{Adds, IsOfWork, IsProfileRead, IsReady, IsSynced, OnlyWants, ReadsProfile, Stops, is_read, or_usual as usual_or};
+ghost use Rattle.uf_top.specs.Endings.{SyncsFor};
 ghost use Rattle.uf_top.specs.Intake.{IsRowOf, ShownIn};
 ghost use Rattle.uf_top.specs.Reply.{Answers, add_reply};
 ghost use Rattle.uf_top.specs.declared.types.Command.TheVariants as commands;
@@ -22,8 +23,37 @@ use uf_mfs::Ready;
 use uf_store::{Discard, Note, NoteRead, Steps, Store, StoreFault};
 use uf_tree::{HeadFault, Profile, read_head};
 
+// Adds the input, or only makes its row.
+pub fn adds<S: Store, I: Source, L: Ledger>(
+    alloc: Global,
+    only_hash: bool,
+    store: &mut S,
+    input: &mut I,
+    touches: &mut Steps<L>,
+) -> Result<Block, Refusal>
+    ensures answers { (N : List ℕ → ℕ) (standing : Standing) (bytes : List ℕ) → TellsAs S.X.block32 N (S.seen store.old).told standing → I.left input.old ≡ Some bytes
+        → Stood (S.seen store.old).faults (S.seen store.new).faults → Stood (S.seen store.old).clashes (S.seen store.new).clashes → Stood (I.faults input.old) (I.faults input.new)
+        → Answers S.X.block32 N standing (add_reply S.X.block32 only_hash standing bytes) result (S.seen store.new).told }
+    ensures adds { Adds S.X.block32 (S.seen store.old).told only_hash result (I.left input.old) (I.left input.new) }
+    ensures synced { SyncsFor (Ok (commands.Add only_hash)) result (S.seen store.new).told }
+    ensures ready { IsReady (S.seen store.old) (S.seen store.new) (commands.Add only_hash) result }
+    ensures work { IsOfWork result }
+    ensures counts { Counts (is_read result) (I.faults input.old) (I.faults input.new) }
+    ensures cause { ShownIn S.X.block32 result (S.seen store.old) (S.seen store.new) }
+    ensures good { KeepsGood S.X.block32 (S.seen store.old).told (S.seen store.new).told }
+    ensures head { head_in (S.seen store.new).told ≡ head_in (S.seen store.old).told }
+    ensures told { only_hash ≡ true → (S.seen store.new).told ≡ (S.seen store.old).told }
+    ensures touches { only_hash ≡ true → touches.new ≡ touches.old }
+{
+    if only_hash {
+        add_only_hash(alloc, store, input)
+    } else {
+        add(alloc, store, input, touches)
+    }
+}
+
 // Adds the input, and makes its blocks outlive a stop.
-pub fn add<S: Store, I: Source, L: Ledger>(
+fn add<S: Store, I: Source, L: Ledger>(
     alloc: Global,
     store: &mut S,
     input: &mut I,
@@ -49,7 +79,7 @@ pub fn add<S: Store, I: Source, L: Ledger>(
 }
 
 // The row of the input as a file, with nothing kept and no touch counted.
-pub fn add_only_hash<S: Store, I: Source>(
+fn add_only_hash<S: Store, I: Source>(
     alloc: Global,
     store: &mut S,
     input: &mut I,

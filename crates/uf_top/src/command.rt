@@ -16,7 +16,7 @@ ghost use Rattle.uf_top.specs.Reply.{Answers, reply, reply_to};
 ghost use Rattle.uf_top.specs.declared.types.Refusal.{Refusal as TheRefusal};
 ghost use Rattle.uf_top.specs.declared.types.Refusal.TheVariants as refusals;
 
-use crate::adding::{add, add_only_hash};
+use crate::adding::adds;
 use crate::asking::read_command;
 use crate::lines::{line, status};
 use crate::tree::{at, init};
@@ -190,8 +190,7 @@ fn work<S: Store, N: NameHash, I: Source, L: Ledger>(
 {
     match command {
         Command::Init { profile } => init::<S, N, L>(alloc, *profile, store, touches),
-        Command::Add { only_hash: true } => add_only_hash(alloc, store, input),
-        Command::Add { only_hash: false } => add(alloc, store, input, touches),
+        Command::Add { only_hash } => adds(alloc, *only_hash, store, input, touches),
         Command::At { ask, path } => at::<S, N, L>(alloc, *ask, path, store, touches),
     }
 }

@@ -16,75 +16,75 @@ returns-clause-replies g c = λ s bytes stands left faults clashes read write.
     let X = g.S.X.BlockHash.block32 in let N = g.N.NameHash.name64 in
     let asked = command_in (map string_bytes c.args.words.now) in let r = c.serve-ends.result in let e = c.serve-ends.ensures in
     let a = g.S.Store.seen c.args.store.now in let b = g.S.Store.seen c.serve-ends.new.store in
-    ends-told _ X N (IsTextOf X a.told asked (g.I.Source.left c.args.input.now)) s (reply_to X N asked s bytes) r c.told.result _ _ b.told _ _
+    ends-told (λ line. IsSent line (g.E.Sink.holds c.args.errors.now) (g.E.Sink.holds c.told.new.errors) (g.E.Sink.faults c.args.errors.now) (g.E.Sink.faults c.told.new.errors)) X N (IsTextOf X a.told asked (g.I.Source.left c.args.input.now)) s (reply_to X N asked s bytes) r c.told.result (g.O.Sink.holds c.args.output.now) (g.O.Sink.holds c.serve-ends.new.output) b.told (g.O.Sink.faults c.args.output.now) (g.O.Sink.faults c.serve-ends.new.output)
     c.told.ensures (e.answers s bytes stands left faults clashes read write) e.prints e.writes write
     (λ why is. stands-kept X N a.told b.told s e.good (subst (λ r. HeadStays r a.told b.told) is e.head) stands)
 
 pub returns-clause-words : goal.returns-clause-words
-returns-clause-words g c = λ why is. is-refused _ c.serve-ends.result c.told.result why c.told.ensures (subst (λ asked. KeepsRefusal asked c.serve-ends.result) is c.serve-ends.ensures.words)
+returns-clause-words g c = λ why is. is-refused (λ line. IsSent line (g.E.Sink.holds c.args.errors.now) (g.E.Sink.holds c.told.new.errors) (g.E.Sink.faults c.args.errors.now) (g.E.Sink.faults c.told.new.errors)) c.serve-ends.result c.told.result why c.told.ensures (subst (λ asked. KeepsRefusal asked c.serve-ends.result) is c.serve-ends.ensures.words)
 
 pub returns-clause-lines : goal.returns-clause-lines
-returns-clause-lines g c = says-plain _ c.serve-ends.result c.told.result c.told.ensures
+returns-clause-lines g c = says-plain (λ line. IsSent line (g.E.Sink.holds c.args.errors.now) (g.E.Sink.holds c.told.new.errors) (g.E.Sink.faults c.args.errors.now) (g.E.Sink.faults c.told.new.errors)) c.serve-ends.result c.told.result c.told.ensures
 
 pub returns-clause-rule : goal.returns-clause-rule
 returns-clause-rule g c = λ is.
-    rule-told _ g.S.X.BlockHash.block32 (command_in (map string_bytes c.args.words.now)) c.serve-ends.result c.told.result _ _ _ c.told.ensures c.serve-ends.ensures.words c.serve-ends.ensures.adds is
+    rule-told (λ line. IsSent line (g.E.Sink.holds c.args.errors.now) (g.E.Sink.holds c.told.new.errors) (g.E.Sink.faults c.args.errors.now) (g.E.Sink.faults c.told.new.errors)) g.S.X.BlockHash.block32 (command_in (map string_bytes c.args.words.now)) c.serve-ends.result c.told.result (g.S.Store.seen c.args.store.now).told (g.I.Source.left c.args.input.now) (g.I.Source.left c.serve-ends.new.input) c.told.ensures c.serve-ends.ensures.words c.serve-ends.ensures.adds is
 
 pub returns-clause-usage : goal.returns-clause-usage
-returns-clause-usage g c = λ is. usage-told _ (command_in (map string_bytes c.args.words.now)) c.serve-ends.result c.told.result c.told.ensures c.serve-ends.ensures.words is
+returns-clause-usage g c = λ is. usage-told (λ line. IsSent line (g.E.Sink.holds c.args.errors.now) (g.E.Sink.holds c.told.new.errors) (g.E.Sink.faults c.args.errors.now) (g.E.Sink.faults c.told.new.errors)) (command_in (map string_bytes c.args.words.now)) c.serve-ends.result c.told.result c.told.ensures c.serve-ends.ensures.words is
 
 pub returns-clause-store_fault : goal.returns-clause-store_fault
 returns-clause-store_fault g c = λ is.
     let X = g.S.X.BlockHash.block32 in let a = g.S.Store.seen c.args.store.now in let b = g.S.Store.seen c.serve-ends.new.store in
-    failure-told _ X (IsBadIn g.N.NameHash.name64 a.told) a b c.serve-ends.result c.told.result c.told.ensures c.serve-ends.ensures.cause is
+    failure-told (λ line. IsSent line (g.E.Sink.holds c.args.errors.now) (g.E.Sink.holds c.told.new.errors) (g.E.Sink.faults c.args.errors.now) (g.E.Sink.faults c.told.new.errors)) X (IsBadIn g.N.NameHash.name64 a.told) a b c.serve-ends.result c.told.result c.told.ensures c.serve-ends.ensures.cause is
 
 pub returns-clause-missing : goal.returns-clause-missing
 returns-clause-missing g c = λ is.
     let X = g.S.X.BlockHash.block32 in let a = g.S.Store.seen c.args.store.now in let b = g.S.Store.seen c.serve-ends.new.store in
-    missing-told _ X (IsBadIn g.N.NameHash.name64 a.told) a b c.serve-ends.result c.told.result c.told.ensures c.serve-ends.ensures.cause is
+    missing-told (λ line. IsSent line (g.E.Sink.holds c.args.errors.now) (g.E.Sink.holds c.told.new.errors) (g.E.Sink.faults c.args.errors.now) (g.E.Sink.faults c.told.new.errors)) X (IsBadIn g.N.NameHash.name64 a.told) a b c.serve-ends.result c.told.result c.told.ensures c.serve-ends.ensures.cause is
 
 pub returns-clause-bad_block : goal.returns-clause-bad_block
 returns-clause-bad_block g c = λ is.
     let X = g.S.X.BlockHash.block32 in let a = g.S.Store.seen c.args.store.now in let b = g.S.Store.seen c.serve-ends.new.store in
-    bad-told _ X (IsBadIn g.N.NameHash.name64 a.told) a b c.serve-ends.result c.told.result c.told.ensures c.serve-ends.ensures.cause is
+    bad-told (λ line. IsSent line (g.E.Sink.holds c.args.errors.now) (g.E.Sink.holds c.told.new.errors) (g.E.Sink.faults c.args.errors.now) (g.E.Sink.faults c.told.new.errors)) X (IsBadIn g.N.NameHash.name64 a.told) a b c.serve-ends.result c.told.result c.told.ensures c.serve-ends.ensures.cause is
 
 pub returns-clause-clash : goal.returns-clause-clash
 returns-clause-clash g c = λ is.
     let X = g.S.X.BlockHash.block32 in let a = g.S.Store.seen c.args.store.now in let b = g.S.Store.seen c.serve-ends.new.store in
-    clash-told _ X (IsBadIn g.N.NameHash.name64 a.told) a b c.serve-ends.result c.told.result c.told.ensures c.serve-ends.ensures.cause is
+    clash-told (λ line. IsSent line (g.E.Sink.holds c.args.errors.now) (g.E.Sink.holds c.told.new.errors) (g.E.Sink.faults c.args.errors.now) (g.E.Sink.faults c.told.new.errors)) X (IsBadIn g.N.NameHash.name64 a.told) a b c.serve-ends.result c.told.result c.told.ensures c.serve-ends.ensures.cause is
 
 pub returns-clause-read : goal.returns-clause-read
-returns-clause-read g c = λ is. read-rose _ c.serve-ends.result c.told.result _ _ c.told.ensures c.serve-ends.ensures.reads is
+returns-clause-read g c = λ is. read-rose (λ line. IsSent line (g.E.Sink.holds c.args.errors.now) (g.E.Sink.holds c.told.new.errors) (g.E.Sink.faults c.args.errors.now) (g.E.Sink.faults c.told.new.errors)) c.serve-ends.result c.told.result (g.I.Source.faults c.args.input.now) (g.I.Source.faults c.serve-ends.new.input) c.told.ensures c.serve-ends.ensures.reads is
 
 pub returns-clause-write : goal.returns-clause-write
-returns-clause-write g c = λ is. write-rose _ c.serve-ends.result c.told.result _ _ c.told.ensures c.serve-ends.ensures.writes is
+returns-clause-write g c = λ is. write-rose (λ line. IsSent line (g.E.Sink.holds c.args.errors.now) (g.E.Sink.holds c.told.new.errors) (g.E.Sink.faults c.args.errors.now) (g.E.Sink.faults c.told.new.errors)) c.serve-ends.result c.told.result (g.O.Sink.faults c.args.output.now) (g.O.Sink.faults c.serve-ends.new.output) c.told.ensures c.serve-ends.ensures.writes is
 
 pub returns-clause-not_ready : goal.returns-clause-not_ready
 returns-clause-not_ready g c = λ is.
     let X = g.S.X.BlockHash.block32 in let a = g.S.Store.seen c.args.store.now in let b = g.S.Store.seen c.serve-ends.new.store in
-    ready-told _ X (IsBadIn g.N.NameHash.name64 a.told) a b (command_in (map string_bytes c.args.words.now)) c.serve-ends.result c.told.result c.told.ensures c.serve-ends.ensures.ready c.serve-ends.ensures.words (words-only (command_of (map string_bytes c.args.words.now))) is
+    ready-told (λ line. IsSent line (g.E.Sink.holds c.args.errors.now) (g.E.Sink.holds c.told.new.errors) (g.E.Sink.faults c.args.errors.now) (g.E.Sink.faults c.told.new.errors)) X (IsBadIn g.N.NameHash.name64 a.told) a b (command_in (map string_bytes c.args.words.now)) c.serve-ends.result c.told.result c.told.ensures c.serve-ends.ensures.ready c.serve-ends.ensures.words (words-only (command_of (map string_bytes c.args.words.now))) is
 
 pub returns-clause-faults_told : goal.returns-clause-faults_told
 returns-clause-faults_told g c = λ more.
     let X = g.S.X.BlockHash.block32 in let a = g.S.Store.seen c.args.store.now in let b = g.S.Store.seen c.serve-ends.new.store in
-    faults-told _ X (IsBadIn g.N.NameHash.name64 a.told) a b c.serve-ends.result c.told.result c.told.ensures c.serve-ends.ensures.cause more
+    faults-told (λ line. IsSent line (g.E.Sink.holds c.args.errors.now) (g.E.Sink.holds c.told.new.errors) (g.E.Sink.faults c.args.errors.now) (g.E.Sink.faults c.told.new.errors)) X (IsBadIn g.N.NameHash.name64 a.told) a b c.serve-ends.result c.told.result c.told.ensures c.serve-ends.ensures.cause more
 
 pub returns-clause-clashes_told : goal.returns-clause-clashes_told
 returns-clause-clashes_told g c = λ more.
     let X = g.S.X.BlockHash.block32 in let a = g.S.Store.seen c.args.store.now in let b = g.S.Store.seen c.serve-ends.new.store in
-    clashes-told _ X (IsBadIn g.N.NameHash.name64 a.told) a b c.serve-ends.result c.told.result c.told.ensures c.serve-ends.ensures.cause more
+    clashes-told (λ line. IsSent line (g.E.Sink.holds c.args.errors.now) (g.E.Sink.holds c.told.new.errors) (g.E.Sink.faults c.args.errors.now) (g.E.Sink.faults c.told.new.errors)) X (IsBadIn g.N.NameHash.name64 a.told) a b c.serve-ends.result c.told.result c.told.ensures c.serve-ends.ensures.cause more
 
 pub returns-clause-read_told : goal.returns-clause-read_told
-returns-clause-read_told g c = λ more. read-told _ c.serve-ends.result c.told.result _ _ c.told.ensures c.serve-ends.ensures.reads more
+returns-clause-read_told g c = λ more. read-told (λ line. IsSent line (g.E.Sink.holds c.args.errors.now) (g.E.Sink.holds c.told.new.errors) (g.E.Sink.faults c.args.errors.now) (g.E.Sink.faults c.told.new.errors)) c.serve-ends.result c.told.result (g.I.Source.faults c.args.input.now) (g.I.Source.faults c.serve-ends.new.input) c.told.ensures c.serve-ends.ensures.reads more
 
 pub returns-clause-write_told : goal.returns-clause-write_told
-returns-clause-write_told g c = λ more. write-told _ c.serve-ends.result c.told.result _ _ c.told.ensures c.serve-ends.ensures.writes more
+returns-clause-write_told g c = λ more. write-told (λ line. IsSent line (g.E.Sink.holds c.args.errors.now) (g.E.Sink.holds c.told.new.errors) (g.E.Sink.faults c.args.errors.now) (g.E.Sink.faults c.told.new.errors)) c.serve-ends.result c.told.result (g.O.Sink.faults c.args.output.now) (g.O.Sink.faults c.serve-ends.new.output) c.told.ensures c.serve-ends.ensures.writes more
 
 pub returns-clause-prints : goal.returns-clause-prints
-returns-clause-prints g c = prints-told _ _ c.serve-ends.result c.told.result _ _ c.told.ensures c.serve-ends.ensures.prints
+returns-clause-prints g c = prints-told (λ line. IsSent line (g.E.Sink.holds c.args.errors.now) (g.E.Sink.holds c.told.new.errors) (g.E.Sink.faults c.args.errors.now) (g.E.Sink.faults c.told.new.errors)) (IsTextOf g.S.X.BlockHash.block32 (g.S.Store.seen c.args.store.now).told (command_in (map string_bytes c.args.words.now)) (g.I.Source.left c.args.input.now)) c.serve-ends.result c.told.result (g.O.Sink.holds c.args.output.now) (g.O.Sink.holds c.serve-ends.new.output) c.told.ensures c.serve-ends.ensures.prints
 
 pub returns-clause-synced : goal.returns-clause-synced
-returns-clause-synced g c = λ is. synced-told _ (command_in (map string_bytes c.args.words.now)) c.serve-ends.result c.told.result _ c.told.ensures c.serve-ends.ensures.synced is
+returns-clause-synced g c = λ is. synced-told (λ line. IsSent line (g.E.Sink.holds c.args.errors.now) (g.E.Sink.holds c.told.new.errors) (g.E.Sink.faults c.args.errors.now) (g.E.Sink.faults c.told.new.errors)) (command_in (map string_bytes c.args.words.now)) c.serve-ends.result c.told.result (g.S.Store.seen c.serve-ends.new.store).told c.told.ensures c.serve-ends.ensures.synced is
 
 pub returns-clause-head : goal.returns-clause-head
-returns-clause-head g c = λ not. head-told _ c.serve-ends.result c.told.result _ _ c.told.ensures c.serve-ends.ensures.head not
+returns-clause-head g c = λ not. head-told (λ line. IsSent line (g.E.Sink.holds c.args.errors.now) (g.E.Sink.holds c.told.new.errors) (g.E.Sink.faults c.args.errors.now) (g.E.Sink.faults c.told.new.errors)) c.serve-ends.result c.told.result (g.S.Store.seen c.args.store.now).told (g.S.Store.seen c.serve-ends.new.store).told c.told.ensures c.serve-ends.ensures.head not

@@ -20,4 +20,4 @@ pub returns-in-Err-clause-file : goal.returns-in-Err-clause-file
 returns-in-Err-clause-file g c =
     let X = g.S.X.BlockHash.block32 in let p = c.args.profile in let told = (g.S.Store.seen c.args.store.now).told in
     let n = c.new-builder.ensures in
-    no-file X p c.in-Err.why told _ _ _ _ (new-fed X p told _ (n.fed X) (n.held X told) n.count n.profile n.spent) (c.in-Err.ensures.feeds p)
+    no-file X p c.in-Err.why told (g.S.Store.seen c.feed_all.new.store).told c.new-builder.result (g.I.Source.left c.args.input.now) (g.I.Source.left c.feed_all.new.input) (new-fed X p told c.new-builder.result (n.fed X) (n.held X told) n.count n.profile n.spent) (c.in-Err.ensures.feeds p)
