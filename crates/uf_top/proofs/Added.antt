@@ -1,10 +1,9 @@
 -- What is made of an input that is added as a file.
-use Rattle.std.proofs.Common.{◌≡◌, ℕ, ◌<◌, ◌≤◌, ◌+◌, List, [], ◌∷◌, ◌++◌, length, Bool, true, false, cond, arith, refl, sym, ap, subst, ◌∙◌, inl, inr, append-nil, length-append, Option, Some, None, Result, Ok, Err}
-use Rattle.std.specs.Prelude.{IfOk, IfSome, nat_le, if◌then◌else◌}
+use Rattle.std.proofs.Common.{◌≡◌, ℕ, ◌<◌, ◌≤◌, ◌+◌, List, [], ◌++◌, length, Bool, true, false, arith, refl, sym, ap, subst, ◌∙◌, inl, inr, append-nil, length-append, Option, Some, None, Result, Ok, Err}
+use Rattle.std.specs.Prelude.{IfOk, IfSome, if◌then◌else◌}
 use Rattle.std.proofs.lemmas.Bool.{le-leb, lt-leb}
 use Rattle.uf_cid.specs.Blocks.{Held}
-use Rattle.uf_build.specs.Answers.{IsSaving}
-use Rattle.uf_edge.specs.Counts.{Counts, Rose, Stood}
+use Rattle.uf_edge.specs.Counts.{Counts, Stood}
 use Rattle.uf_edge.specs.Streams.{before, IsAtEnd}
 use Rattle.uf_edge.specs.Streams as streams
 use Rattle.uf_mfs.specs.Standing.{LeavesHead, TellsAs, TellsHeld}
@@ -13,21 +12,19 @@ use Rattle.uf_mfs.specs.declared.types.Ready.TheVariants as ready
 use Rattle.uf_mfs.specs.declared.types.Rule.{Rule}
 use Rattle.uf_mfs.specs.declared.types.Rule.TheVariants.{FileTooLong}
 use Rattle.uf_store.specs.declared.store.StoreFault.{StoreFault}
-use Rattle.uf_store.specs.declared.store.StoreFault.TheVariants.{Failed, Damaged, Missing, BadBlock, Clash, Memory}
 use Rattle.uf_store.specs.Contents.{Told}
-use Rattle.uf_store.specs.Faults.{NoneIsBad, StaysCalm}
+use Rattle.uf_store.specs.Faults.{NoneIsBad}
 use Rattle.uf_store.specs.Keeping.{Holds}
 use Rattle.uf_store.specs.Seen.{Seen}
 use Rattle.uf_tree.specs.FilePlan.{file_plan}
-use Rattle.uf_tree.specs.Standing.{Standing, NoHead, BadHead, Stands}
+use Rattle.uf_tree.specs.Standing.{Standing, NoHead, BadHead}
 use Rattle.uf_tree.specs.Validity.{IsHash}
 use Rattle.uf_tree.specs.declared.nodes.Entry.{Entry}
 use Rattle.uf_tree.specs.declared.profile.Profile.{Profile}
 use Rattle.uf_top.specs.Causes.{Adds, AddsBy, HeadSays, IsOfWork, IsProfileIn, IsProfileOf, IsProfileRead, IsReady, IsReason, IsUnread, Stops, is_read, or_usual}
-use Rattle.uf_top.specs.Intake.{IsFileOf, IsRowOf, IsStopped, IsWholeRow, PassesMost, ShownIn}
+use Rattle.uf_top.specs.Intake.{IsFileOf, IsRowOf, ShownIn}
 use Rattle.uf_top.specs.Lines.{added_line}
-use Rattle.uf_top.specs.Reply.{Answers, Reply, add_reply, added, file_cid, hash_reply, most_input, unchanged, usual}
-use Rattle.uf_top.specs.Statuses.{no_memory}
+use Rattle.uf_top.specs.Reply.{Answers, Reply, add_reply, added, file_cid, most_input, unchanged, usual}
 use Rattle.uf_top.specs.declared.types.Command.TheVariants.{Add}
 use Rattle.uf_top.specs.declared.types.Refusal.{Refusal}
 use Rattle.uf_top.specs.declared.types.Refusal.TheVariants as refusal

@@ -1,6 +1,5 @@
 -- Why words are refused.
-use Rattle.std.proofs.Common.{◌≡◌, ◌⊎◌, ℕ, List, Bool, true, false, refl, sym, subst, inl, inr, Option, Some, None, Result, Ok, Err}
-use Rattle.std.proofs.Common.{ap}
+use Rattle.std.proofs.Common.{ℕ, List, Bool, true, false, refl, sym, subst, inl, inr, Option, Some, None, Result, Ok, Err}
 use Rattle.uf_path.specs.Paths.{path_reads}
 use Rattle.uf_path.specs.declared.faults.PathFault.{PathFault}
 use Rattle.uf_path.specs.declared.faults.PathFault.TheVariants as path
@@ -8,10 +7,8 @@ use Rattle.uf_path.specs.declared.path.Path.{Path}
 use Rattle.uf_words.specs.declared.command.Cmd.{Cmd}
 use Rattle.uf_words.specs.declared.command.Cmd.TheVariants as cmd
 use Rattle.uf_top.specs.declared.types.Ask.{Ask}
-use Rattle.uf_top.specs.declared.types.Command.{Command}
 use Rattle.uf_top.specs.declared.types.Refusal.{Refusal}
 use Rattle.uf_top.specs.Commands.{IsAsked, IsOfWords, add_asked, asked, asked_of, at_path}
-use Rattle.uf_top.specs.Statuses.{no_memory}
 
 at-only : (ask : Ask) (r : Result Path PathFault) → IsOfWords (at_path ask r)
 at-only ask (Ok path) = tt

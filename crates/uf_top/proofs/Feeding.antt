@@ -16,7 +16,7 @@ use Rattle.uf_tree.specs.declared.nodes.Entry.{Entry}
 use Rattle.uf_tree.specs.declared.profile.Profile.{Profile}
 use Rattle.uf_top.specs.declared.types.Refusal.{Refusal}
 use Rattle.uf_top.specs.declared.types.Refusal.TheVariants as refusal
-use Rattle.uf_top.specs.Intake.{Closes, FeedsFrom, FeedsNext, FeedsPart, FeedsLast, FeedsRest, PassesLimit, PassesMost, IsFedBy, IsFileOf, IsStopped, ShownIn, ShownWhy}
+use Rattle.uf_top.specs.Intake.{Closes, FeedsFrom, FeedsNext, FeedsPart, FeedsLast, FeedsRest, PassesLimit, IsFedBy, IsFileOf, IsStopped, ShownIn, ShownWhy}
 use Rattle.uf_top.specs.Reply.{most_input}
 
 before-nil : (t : Told) → before [] t ≡ t

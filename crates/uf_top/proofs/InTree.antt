@@ -1,10 +1,10 @@
 -- From calls on the tree to replies.
-use Rattle.std.proofs.Common.{◌≡◌, ℕ, List, [], ◌∷◌, Bool, true, false, refl, sym, ap, subst, ◌∙◌, inl, inr, Option, Some, None, Result, Ok, Err}
+use Rattle.std.proofs.Common.{◌≡◌, ℕ, List, [], ◌∷◌, refl, sym, ap, subst, ◌∙◌, inl, inr, Option, Some, None, Result, Ok, Err}
 use Rattle.std.specs.Prelude.{IfOk, IfSome}
 use Rattle.uf_edge.specs.Counts.{Stood}
 use Rattle.uf_mfs.specs.Answers.{rule_of}
 use Rattle.uf_mfs.specs.Answers as tree
-use Rattle.uf_mfs.specs.Standing.{Inits, IsUnready, IsWanting, Opens, ReadsHead, StandsAt, TellsAs, TellsHeld, head_in}
+use Rattle.uf_mfs.specs.Standing.{Inits, IsUnready, IsWanting, Opens, ReadsHead, StandsAt, TellsAs, head_in}
 use Rattle.uf_mfs.specs.declared.types.Mfs.{Mfs}
 use Rattle.uf_mfs.specs.declared.types.MfsFault.{MfsFault}
 use Rattle.uf_mfs.specs.declared.types.MfsFault.TheVariants as mfs
@@ -12,17 +12,15 @@ use Rattle.uf_mfs.specs.declared.types.Ready.{Ready}
 use Rattle.uf_mfs.specs.declared.types.Ready.TheVariants as ready
 use Rattle.uf_mfs.specs.declared.types.Refused.{Refused}
 use Rattle.uf_mfs.specs.declared.types.Rule.{Rule}
-use Rattle.uf_store.specs.declared.store.StoreFault.{StoreFault}
 use Rattle.uf_store.specs.Contents.{Contents, Told}
 use Rattle.uf_store.specs.Seen.{Seen}
 use Rattle.uf_tree.specs.HeadReading.{head_reads}
 use Rattle.uf_tree.specs.Standing.{Standing, NoHead, BadHead, Stands, IsBadHead}
-use Rattle.uf_tree.specs.Tree.{Tree, Dir, Entries, Nothing}
-use Rattle.uf_tree.specs.TreePlan.{blocks}
+use Rattle.uf_tree.specs.Tree.{Tree, Entries}
 use Rattle.uf_tree.specs.declared.profile.Profile.{Profile}
 use Rattle.uf_path.specs.declared.path.Path.{Path}
 use Rattle.uf_top.specs.Causes.{CommitsTo, HeadSays, HeadStays, IsMade, IsProfileOf, IsReady, IsReason, refused_in_tree, refused_opening}
-use Rattle.uf_top.specs.Reply.{Answers, Reply, in_tree, init_reply, looked, moved, not_ready, refused, unchanged}
+use Rattle.uf_top.specs.Reply.{Answers, Reply, in_tree, init_reply, looked, moved, not_ready, refused}
 use Rattle.uf_top.specs.Statuses.{no_memory}
 use Rattle.uf_top.specs.declared.types.Ask.{Ask}
 use Rattle.uf_top.specs.declared.types.Command.TheVariants.{Init, At}

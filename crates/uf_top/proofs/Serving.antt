@@ -1,13 +1,12 @@
 -- From commands to how they are served.
-use Rattle.std.proofs.Common.{◌≡◌, ◌≢◌, ◌⊎◌, ℕ, ◌<◌, ◌≤◌, ◌+◌, ◌-◌, ◌^◌, List, [], ◌∷◌, Bool, true, false, arith, refl, sym, ap, subst, ◌∙◌, inl, inr, Option, Some, None, Result, Ok, Err}
-use Rattle.uf_edge.specs.Counts.{Counts, Rose, Stood}
+use Rattle.std.proofs.Common.{◌≡◌, ◌≢◌, ℕ, List, [], ◌∷◌, false, arith, refl, sym, ap, subst, ◌∙◌, inl, inr, Result, Ok, Err}
+use Rattle.uf_edge.specs.Counts.{Counts, Stood}
 use Rattle.uf_edge.specs.Streams.{after, AppendsPrefix}
 use Rattle.uf_edge.specs.Streams as streams
 use Rattle.uf_mfs.specs.Standing.{TellsAs, head_in}
 use Rattle.uf_store.specs.declared.store.Role.{Role}
-use Rattle.uf_store.specs.declared.store.StoreFault.TheVariants.{Memory}
 use Rattle.uf_store.specs.Contents.{Told}
-use Rattle.uf_store.specs.Faults.{Rises, Shows, StaysCalm}
+use Rattle.uf_store.specs.Faults.{Shows, StaysCalm}
 use Rattle.uf_store.specs.Seen.{Seen}
 use Rattle.uf_store.proofs.Causes.{StaysCalm-refl}
 use Rattle.uf_tree.specs.Standing.{Standing}
@@ -17,8 +16,8 @@ use Rattle.uf_top.specs.declared.types.Refusal.{Refusal}
 use Rattle.uf_top.specs.declared.types.Refusal.TheVariants as refusal
 use Rattle.uf_top.specs.Causes.{HeadStays, IsOfCommand, IsReady, Prints, Shown, is_read, is_write}
 use Rattle.uf_top.specs.Commands.{IsAsked, IsOfWords}
-use Rattle.uf_top.specs.Endings.{AddsFor, IsOfServed, IsPrinted, IsReadyFor, IsTextOf, KeepsRefusal, SyncsFor}
-use Rattle.uf_top.specs.Reply.{Answers, IsReply, Reply, reply_to}
+use Rattle.uf_top.specs.Endings.{AddsFor, IsPrinted, IsReadyFor, IsTextOf, KeepsRefusal, SyncsFor}
+use Rattle.uf_top.specs.Reply.{Answers, Reply, reply_to}
 use Rattle.uf_top.specs.Statuses.{no_memory}
 use Rattle.uf_top.proofs.Shows.{calm-rises}
 use Rattle.uf_top.proofs.Standings.{tells-none}

@@ -1,8 +1,7 @@
 -- What the answers of calls in a row show.
-use Rattle.std.proofs.Common.{◌≡◌, ℕ, ◌<◌, ◌≤◌, ◌+◌, ◌-◌, ◌^◌, List, [], ◌∷◌, Bool, true, false, arith, refl, sym, ap, subst, ◌∙◌, inl, inr, Option, Some, None, Result, Ok, Err}
-use Rattle.std.specs.Prelude.{IfSome}
+use Rattle.std.proofs.Common.{◌≡◌, ℕ, ◌≤◌, List, true, arith, refl, sym, ap, subst, inl, inr, Some, None, Result, Ok, Err}
 use Rattle.uf_build.specs.Answers.{IsSaving}
-use Rattle.uf_edge.specs.Counts.{Counts, Rose, Stood}
+use Rattle.uf_edge.specs.Counts.{Rose, Stood}
 use Rattle.uf_mfs.specs.Answers.{Shown as ShownByTree}
 use Rattle.uf_mfs.specs.Bad.{IsBad}
 use Rattle.uf_mfs.specs.declared.types.MfsFault.{MfsFault}

@@ -1,6 +1,6 @@
 -- What a store stands for, from one moment to the next and by its Head.
-use Rattle.std.proofs.Common.{◌≡◌, ℕ, List, [], ◌∷◌, Bool, true, false, cond, refl, sym, ap, subst, ◌∙◌, Option, Some, None, Result, Ok, Err}
-use Rattle.std.specs.Prelude.{IfSome, IsTrue}
+use Rattle.std.proofs.Common.{◌≡◌, ℕ, List, [], ◌∷◌, true, false, cond, refl, sym, ap, subst, ◌∙◌, Option, Some, None, Result, Ok, Err}
+use Rattle.std.specs.Prelude.{IfSome}
 use Rattle.std.specs.List.{AllByRecursion}
 use Rattle.uf_cid.specs.Blocks.{Held}
 use Rattle.uf_cid.specs.declared.cid.Cid.{Cid}
@@ -13,8 +13,8 @@ use Rattle.uf_tree.specs.HeadReading.{head_reads}
 use Rattle.uf_tree.specs.Heads.{head_text}
 use Rattle.uf_tree.specs.Nodes.{Named}
 use Rattle.uf_tree.specs.ShardPlan.{shard}
-use Rattle.uf_tree.specs.Standing.{Standing, NoHead, BadHead, Stands, StandsFor, IsBadHead}
-use Rattle.uf_tree.specs.Tree.{Tree, Dir, Entries}
+use Rattle.uf_tree.specs.Standing.{Standing, NoHead, BadHead, Stands, IsBadHead}
+use Rattle.uf_tree.specs.Tree.{Dir, Entries}
 use Rattle.uf_tree.specs.TreePlan.{blocks, entry, named_entries}
 use Rattle.uf_tree.specs.Validity.{IsHash}
 use Rattle.uf_tree.specs.declared.head_fault.HeadFault.{HeadFault}

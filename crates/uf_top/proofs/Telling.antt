@@ -1,14 +1,11 @@
 -- From how a command was served to what is told of it.
-use Rattle.std.proofs.Common.{◌≡◌, ◌≢◌, ◌⊎◌, ℕ, ◌<◌, ◌≤◌, ◌+◌, ◌-◌, ◌^◌, List, [], ◌∷◌, Bool, true, false, arith, refl, sym, ap, subst, ◌∙◌, inl, inr, Option, Some, None, Result, Ok, Err}
+use Rattle.std.proofs.Common.{◌≡◌, ◌≢◌, ◌⊎◌, ℕ, ◌<◌, List, false, arith, refl, sym, ap, subst, ◌∙◌, inl, inr, Result, Ok, Err}
 use Rattle.uf_cid.specs.declared.cid.Cid.{Cid}
 use Rattle.uf_edge.specs.Counts.{Counts, Rose, Stood}
 use Rattle.uf_edge.specs.Streams.{after, AppendsPrefix}
 use Rattle.uf_edge.specs.Streams as streams
-use Rattle.uf_mfs.specs.Standing.{TellsAs, TellsHeld, head_in}
-use Rattle.uf_mfs.specs.declared.types.Ready.{Ready}
-use Rattle.uf_mfs.specs.declared.types.Rule.{Rule}
+use Rattle.uf_mfs.specs.Standing.{TellsAs, head_in}
 use Rattle.uf_store.specs.declared.store.Role.{Role}
-use Rattle.uf_store.specs.declared.store.StoreFault.{StoreFault}
 use Rattle.uf_store.specs.declared.store.StoreFault.TheVariants as fault
 use Rattle.uf_store.specs.Contents.{Told}
 use Rattle.uf_store.specs.Faults.{ShowsBadBlock, ShowsClash, ShowsFailure, ShowsMissing}
@@ -20,9 +17,9 @@ use Rattle.uf_top.specs.declared.types.Command.{Command}
 use Rattle.uf_top.specs.declared.types.Command.TheVariants.{Init, Add, At}
 use Rattle.uf_top.specs.declared.types.Refusal.{Refusal}
 use Rattle.uf_top.specs.declared.types.Refusal.TheVariants as refusal
-use Rattle.uf_top.specs.Causes.{Adds, HeadStays, IsOfCommand, Prints, Shown, is_read, is_write}
+use Rattle.uf_top.specs.Causes.{HeadStays, Prints, Shown, is_read, is_write}
 use Rattle.uf_top.specs.Commands.{IsOfWords}
-use Rattle.uf_top.specs.Endings.{AddsFor, EndsAs, IsNotReady, IsReadyFor, IsRefusedBy, IsRule, IsSyncedFor, KeepsRefusal, PrintsAll, PrintsAt, RepliesAs, RuleOf, SaysPlain, SyncsFor, Tells, WantsAs, has_details}
+use Rattle.uf_top.specs.Endings.{AddsFor, EndsAs, IsNotReady, IsReadyFor, IsRefusedBy, IsRule, IsSyncedFor, KeepsRefusal, PrintsAll, PrintsAt, RuleOf, SaysPlain, SyncsFor, Tells, has_details}
 use Rattle.uf_top.specs.Lines.{bad_block_line, clash_line, line_of, missing_line, said}
 use Rattle.uf_top.specs.Reply.{Answers, Reply}
 use Rattle.uf_top.specs.Statuses.{ended, no_memory, plain_line, status_of}

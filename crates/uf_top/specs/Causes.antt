@@ -15,7 +15,6 @@ use Rattle.uf_mfs.specs.declared.types.MfsFault.{MfsFault}
 use Rattle.uf_mfs.specs.declared.types.MfsFault.TheVariants as mfs
 use Rattle.uf_mfs.specs.declared.types.Ready.{Ready}
 use Rattle.uf_mfs.specs.declared.types.Ready.TheVariants as ready
-use Rattle.uf_mfs.specs.declared.types.Rule.{Rule}
 use Rattle.uf_mfs.specs.declared.types.Rule.TheVariants.{FileTooLong}
 use Rattle.uf_store.specs.declared.store.Role.{Role}
 use Rattle.uf_build.specs.Answers.{IsSaving}
@@ -23,7 +22,7 @@ use Rattle.uf_store.specs.declared.store.StoreFault.TheVariants.{Memory}
 use Rattle.uf_store.specs.declared.store.Write.{Write}
 use Rattle.uf_store.specs.declared.store.Write.TheVariants.{Synced}
 use Rattle.uf_store.specs.Contents.{Told}
-use Rattle.uf_store.specs.Faults.{ShowsBadBlock, ShowsClash, ShowsMissing, Shows, StaysCalm}
+use Rattle.uf_store.specs.Faults.{Shows, StaysCalm}
 use Rattle.uf_store.specs.Seen.{Seen}
 use Rattle.uf_tree.specs.HeadReading.{head_reads}
 use Rattle.uf_tree.specs.Standing.{Stands}
@@ -31,8 +30,6 @@ use Rattle.uf_tree.specs.Tree.{Dir, Entries}
 use Rattle.uf_tree.specs.TreePlan.{blocks}
 use Rattle.uf_tree.specs.declared.head_fault.HeadFault.{HeadFault}
 use Rattle.uf_tree.specs.declared.profile.Profile.{Profile}
-use Rattle.uf_top.specs.declared.status.Status.{Status}
-use Rattle.uf_top.specs.declared.status.Status.TheVariants as status
 use Rattle.uf_top.specs.declared.types.Command.{Command}
 use Rattle.uf_top.specs.declared.types.Command.TheVariants.{Init, Add, At}
 use Rattle.uf_top.specs.declared.types.Refusal.{Refusal}

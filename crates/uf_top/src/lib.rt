@@ -14,3 +14,6 @@ mod types;
 pub use command::run;
 pub use status::Status;
 pub use types::{Ask, Command, Edit, Refusal};
+
+#[cfg(test)]
+mod tests;

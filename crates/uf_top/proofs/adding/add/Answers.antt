@@ -1,6 +1,5 @@
-use Rattle.std.proofs.Common.{false, refl, sym, subst, ap, ◌∙◌, None, Some, Ok, Err}
+use Rattle.std.proofs.Common.{false, subst}
 use Rattle.std.specs.Prelude.{IfSome, List, ℕ}
-use Rattle.uf_mfs.specs.Standing.{TellsAs, head_in}
 use Rattle.uf_top.proofs.Added.{add-answers, added-answers, plan_blocks, adds-of, adds-read, by-told, head-absent, head-refused, read-ready, read-work, row-ready, row-work}
 use Rattle.uf_top.proofs.Feeding.{ShownIn-after}
 use Rattle.uf_top.proofs.Shows.{stood-back}

@@ -1,4 +1,3 @@
-use Rattle.std.proofs.Common.{◌∙◌}
 use Rattle.uf_top.proofs.Added.{synced-row}
 use Rattle.uf_top.proofs.adding.add_by.Goals as goal
 

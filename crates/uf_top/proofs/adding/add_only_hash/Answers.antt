@@ -1,10 +1,10 @@
-use Rattle.std.proofs.Common.{◌≡◌, true, [], refl, sym, subst, ap, ◌∙◌, None, Some, Ok, Err}
+use Rattle.std.proofs.Common.{true, [], sym, subst, None}
 use Rattle.std.specs.Prelude.{IfSome}
 use Rattle.uf_top.proofs.Added.{added-answers, adds-of, adds-read, by-found, hash-answers, head-refused, read-ready, read-work, row-ready, row-work}
 use Rattle.uf_top.proofs.Shows.{wants-shown}
 use Rattle.uf_top.proofs.Standings.{stands-same, tells-none}
 use Rattle.uf_top.specs.Causes.{or_usual, AddsBy}
-use Rattle.uf_top.specs.Intake.{IsRowOf, ShownIn}
+use Rattle.uf_top.specs.Intake.{IsRowOf}
 use Rattle.uf_top.proofs.adding.add_only_hash.Goals as goal
 
 pub returns-in-Err-clause-answers : goal.returns-in-Err-clause-answers

@@ -1,6 +1,5 @@
-use Rattle.std.proofs.Common.{◌≡◌, List, ℕ, refl, sym, subst, ap, ◌∙◌, Ok, Err}
+use Rattle.std.proofs.Common.{subst}
 use Rattle.std.specs.Prelude.{map, string_bytes}
-use Rattle.uf_edge.specs.Counts.{Counts}
 use Rattle.uf_top.specs.Causes.{HeadStays, IsBadIn, IsSent}
 use Rattle.uf_top.specs.Commands.{command_in}
 use Rattle.uf_top.specs.Endings.{IsTextOf, KeepsRefusal}

@@ -1,4 +1,4 @@
-use Rattle.std.proofs.Common.{◌≡◌, List, ℕ, false, true, refl, sym, subst, ap, ◌∙◌, Ok, Err}
+use Rattle.std.proofs.Common.{◌≡◌, false, true, refl, sym, subst, ap, ◌∙◌, Ok, Err}
 use Rattle.std.specs.Prelude.{map, string_bytes}
 use Rattle.uf_words.specs.Commands.{command_of}
 use Rattle.uf_top.specs.Causes.{IsBadIn, Prints}

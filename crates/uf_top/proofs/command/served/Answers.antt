@@ -1,4 +1,4 @@
-use Rattle.std.proofs.Common.{◌≡◌, List, ℕ, Ok, Err}
+use Rattle.std.proofs.Common.{Ok, Err}
 use Rattle.uf_top.specs.Causes.{IsBadIn}
 use Rattle.uf_top.specs.Endings.{IsTextOf}
 use Rattle.uf_top.specs.Reply.{reply}

@@ -1,6 +1,5 @@
-use Rattle.std.proofs.Common.{◌≡◌, Bool, sym, subst, take}
+use Rattle.std.proofs.Common.{sym, subst, take}
 use Rattle.uf_edge.specs.Counts.{Counts}
-use Rattle.uf_top.specs.Intake.{PassesLimit}
 use Rattle.uf_top.proofs.Feeding.{stopped-more}
 use Rattle.uf_top.proofs.intake.feed_next.Goals as goal
 

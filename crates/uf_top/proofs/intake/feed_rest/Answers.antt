@@ -1,7 +1,7 @@
 use Rattle.std.proofs.Common.{refl, ◌∙◌}
 use Rattle.uf_store.proofs.Causes.{StaysCalm-trans}
 use Rattle.uf_store.proofs.Keeping.{KeepsGood-trans, SavesOnly-trans}
-use Rattle.uf_top.proofs.Feeding.{FeedsPart-after, FeedsPart-refl, FeedsLast-after, last_of, part_of, stopped-after}
+use Rattle.uf_top.proofs.Feeding.{FeedsPart-after, FeedsLast-after, last_of, part_of, stopped-after}
 use Rattle.uf_top.proofs.intake.feed_rest.Goals as goal
 
 pub pieces-preserved : goal.pieces-preserved

@@ -1,4 +1,4 @@
-use Rattle.std.proofs.Common.{List, ℕ, [], sym, subst, ap, None, Some, Ok, Err}
+use Rattle.std.proofs.Common.{List, ℕ, sym, subst, ap, None, Some, Err}
 use Rattle.uf_mfs.specs.Bad.{IsBad}
 use Rattle.uf_mfs.specs.Standing.{head_in}
 use Rattle.uf_mfs.specs.declared.types.Mfs.{Mfs}

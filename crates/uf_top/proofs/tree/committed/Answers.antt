@@ -1,4 +1,4 @@
-use Rattle.std.proofs.Common.{List, ℕ, sym, subst, Ok, Err}
+use Rattle.std.proofs.Common.{List, ℕ, sym, subst, Err}
 use Rattle.uf_top.specs.Causes.{CommitsTo, IsOfTree}
 use Rattle.uf_top.specs.Intake.{ShownIn}
 use Rattle.uf_top.proofs.Shows.{ShownIn-tree, in-tree-work}

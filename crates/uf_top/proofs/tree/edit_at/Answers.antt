@@ -1,7 +1,7 @@
-use Rattle.std.proofs.Common.{◌≡◌, List, ℕ, [], refl, sym, subst, ap, None, Some, Ok, Err}
+use Rattle.std.proofs.Common.{List, ℕ, refl, sym, subst, None, Some, Err}
 use Rattle.uf_mfs.specs.Answers.{allowed}
 use Rattle.uf_mfs.specs.Bad.{IsBad}
-use Rattle.uf_mfs.specs.Standing.{StandsAt, head_in}
+use Rattle.uf_mfs.specs.Standing.{StandsAt}
 use Rattle.uf_store.proofs.Keeping.{KeepsGood-trans}
 use Rattle.uf_tree.specs.Standing.{Stands}
 use Rattle.uf_tree.specs.Tree.{Entries}

@@ -1,4 +1,4 @@
-use Rattle.std.proofs.Common.{List, ℕ, [], sym, subst, Ok, Err}
+use Rattle.std.proofs.Common.{List, ℕ, sym, subst, Err}
 use Rattle.uf_mfs.specs.declared.types.Mfs.{Mfs}
 use Rattle.uf_top.specs.Causes.{IsOfInit, IsReady}
 use Rattle.uf_top.specs.Intake.{ShownIn}

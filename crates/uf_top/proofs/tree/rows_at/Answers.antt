@@ -1,4 +1,4 @@
-use Rattle.std.proofs.Common.{◌≡◌, true, false, List, ℕ, [], refl, sym, subst, ap, None, Some, Ok, Err}
+use Rattle.std.proofs.Common.{◌≡◌, true, List, ℕ, refl, sym, subst, ap, None, Some, Err}
 use Rattle.std.specs.Prelude.{IfOk}
 use Rattle.uf_cid.specs.declared.bytes.Memory.{Memory}
 use Rattle.uf_mfs.specs.Bad.{IsBad}
