@@ -12,3 +12,6 @@ mod telling;
 mod types;
 
 pub use types::{Change, Mfs, MfsFault, Ready, Refused, Row, Rows, Rule, Stat, Stop, Thing};
+
+#[cfg(test)]
+mod tests;
