@@ -23,8 +23,8 @@ fn are_pairs(pairs: &[Pair], wanted: &[(&str, Entry)]) -> bool {
     if pairs.len() != wanted.len() {
         return false;
     }
-    for i in 0..pairs.len() {
-        if pairs[i].name.as_str() != wanted[i].0 || pairs[i].entry != wanted[i].1 {
+    for (pair, other) in pairs.iter().zip(wanted) {
+        if pair.name.as_str() != other.0 || pair.entry != other.1 {
             return false;
         }
     }
