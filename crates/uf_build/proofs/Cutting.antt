@@ -1,8 +1,12 @@
--- Bytes that are taken from the front.
-use Rattle.std.proofs.Common.{◌≡◌, ℕ, ◌+◌, ◌-◌, ◌*◌, ◌<◌, ◌≤◌, List, [], ◌∷◌, ◌++◌, length, refl, ap, arith, sym, ◌∙◌, take, drop, append_assoc, length-take, length-drop}
+-- Bytes that are taken from the front, and lists that are cut into groups.
+use Rattle.std.proofs.Common.{◌≡◌, ℕ, ◌+◌, ◌-◌, ◌*◌, ◌<◌, ◌≤◌, List, [], ◌∷◌, ◌++◌, length, refl, ap, arith, sym, ◌∙◌, take, drop, append_assoc, length-append, length-take, length-drop}
 use Rattle.std.proofs.Math.Seq.{take-add}
 use Rattle.std.proofs.Math.Nat.{mul-le-mul_right}
-use Rattle.std.proofs.lemmas.List.{take-append-drop, take_all}
+use Rattle.std.specs.List.{AllByRecursion}
+use Rattle.std.proofs.lemmas.List.{append-nil, take-append-drop, take_all}
+use Rattle.uf_tree.specs.Cutting.{joined}
+use Rattle.uf_tree.specs.FilePlan.{groups}
+use Rattle.uf_tree.proofs.Behind.{split-short, groups-behind}
 
 pub more : (bytes : List ℕ) (i c : ℕ) → take ((i + 1) * c) bytes ≡ take (i * c) bytes ++ take (i * c + c - i * c) (drop (i * c) bytes)
 more bytes i c =
@@ -32,3 +36,28 @@ splits bytes group behind front n fits is back =
 pub no-length : {A : Type 0} (xs : List A) → length xs ≡ 0 → xs ≡ []
 no-length [] h = refl
 no-length (x ∷ xs) h = absurd (omega arith)
+
+-- what is left behind some of so many pieces
+pub left-behind : (left few c rest behind : ℕ) → few ≤ left → rest ≡ left * c → behind ≡ rest - few * c → behind ≡ (left - few) * c
+left-behind left few c rest behind h is back = by (left - few) (omega (arith, h))
+  where
+    by : (k : ℕ) → left ≡ few + k → behind ≡ k * c
+    by k e = let whole : rest ≡ (few + k) * c = is ∙ ap (λ n. n * c) e in omega (arith, whole, back)
+
+module _ {A : Type 0} (w : ℕ) (pos : 1 ≤ w) where
+  abbrev IsFull : List A → Type 0
+  IsFull f = length f ≡ w
+
+  -- full groups and a shorter one behind them
+  pub groups-full : (full : List (List A)) (h : List A) → AllByRecursion IsFull full → 1 ≤ length h → length h ≤ w → groups w (joined full ++ h) ≡ full ++ h ∷ []
+  groups-full [] h all j k = ap (λ (s : List A × List (List A)). s.0 ∷ s.1) (split-short w w h k)
+  groups-full (f ∷ full) h all j k =
+      ap (groups w) (append_assoc f (joined full) h)
+      ∙ groups-behind w pos f (joined full ++ h) all.0 (omega (arith, length-append (joined full) h))
+      ∙ ap (λ gs. f ∷ gs) (groups-full full h all.1 j k)
+
+  -- full groups alone
+  pub groups-exact : (f : List A) (full : List (List A)) → AllByRecursion IsFull (f ∷ full) → groups w (joined (f ∷ full)) ≡ f ∷ full
+  groups-exact f [] all = ap (groups w) (append-nil f) ∙ ap (λ (s : List A × List (List A)). s.0 ∷ s.1) (split-short w w f (omega (arith, all.0)))
+  groups-exact f (g ∷ full) all =
+      groups-behind w pos f (joined (g ∷ full)) all.0 (omega (arith, length-append g (joined full), all.1.0)) ∙ ap (λ gs. f ∷ gs) (groups-exact g full all.1)

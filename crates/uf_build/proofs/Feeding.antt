@@ -1,5 +1,5 @@
 -- What a builder keeps as it takes bytes.
-use Rattle.std.proofs.Common.{◌≡◌, ℕ, suc, ◌+◌, ◌<◌, ◌≤◌, List, [], ◌∷◌, ◌++◌, length, refl, ap, arith, sym, ◌∙◌, map, subst, cond, ◌⊎◌, inl, inr, append_assoc, length-append}
+use Rattle.std.proofs.Common.{◌≡◌, ℕ, ◌+◌, ◌<◌, ◌≤◌, List, [], ◌∷◌, ◌++◌, length, refl, ap, arith, sym, ◌∙◌, map, subst, cond, ◌⊎◌, inl, inr, append_assoc, length-append}
 use Rattle.std.specs.List.{AllByRecursion}
 use Rattle.std.proofs.lemmas.List.{append-nil, map-append}
 use Rattle.std.proofs.lemmas.Bool.{cases_lt}
@@ -12,10 +12,11 @@ use Rattle.uf_tree.specs.Cutting.{joined}
 use Rattle.uf_tree.specs.FilePlan.{node_part, node_held, leaf_part, leaf_held}
 use Rattle.uf_tree.specs.declared.nodes.Part.{Part}
 use Rattle.uf_tree.specs.declared.profile.Profile.{Profile}
-use Rattle.uf_tree.proofs.Each.{both, each_map}
+use Rattle.uf_tree.proofs.Each.{both}
 use Rattle.uf_build.specs.Building.{ArePieces, Builds, Any, IsHeld, Adds, Feeds}
-use Rattle.uf_build.specs.Rows.{AreRows, AreShort, size_of, sizes_of, push_row, push_held, push_up, held_up}
+use Rattle.uf_build.specs.Rows.{AreRows, AreShort, AreOpen, members, saved_over, size_of, sizes_of, push_row, push_held, push_up, held_up}
 use Rattle.uf_build.proofs.Carry.{rows-push, joined-push, length-push, is_below, not_below}
+use Rattle.uf_build.proofs.Counting.{members-push, saved-push}
 use Rattle.uf_build.proofs.Holding.{each-held}
 use Rattle.uf_build.proofs.Up.{size-push}
 
@@ -66,7 +67,7 @@ module _ (X : List ℕ → List ℕ) (p : Profile) where
 
 module _ (X : List ℕ → List ℕ) (p : Profile) (two : 2 ≤ p.width) where
   -- one piece more
-  pieces-push : (P : Held → Type 0) (pieces : List (List ℕ)) (piece : List ℕ) (rows : List (List Part)) → P (leaf_held X piece) → AllByRecursion P (push_held X p.width (leaf_part X piece) rows)
+  pub pieces-push : (P : Held → Type 0) (pieces : List (List ℕ)) (piece : List ℕ) (rows : List (List Part)) → P (leaf_held X piece) → AllByRecursion P (push_held X p.width (leaf_part X piece) rows)
       → ArePieces X P p pieces rows → ArePieces X P p (pieces ++ piece ∷ []) (push_row X p.width (leaf_part X piece) rows)
   pieces-push P pieces piece rows leaf nodes h = record {
     held = subst (AllByRecursion P) (sym (map-append (leaf_held X) pieces (piece ∷ []))) (both P (map (leaf_held X) pieces) (leaf_held X piece ∷ []) h.held (leaf, tt));
@@ -78,14 +79,24 @@ module _ (X : List ℕ → List ℕ) (p : Profile) (two : 2 ≤ p.width) where
   any [] = tt
   any (b ∷ l) = (tt, any l)
 
-  pub Adds-push : (piece : List ℕ) (part : Part) (rows rows_now : List (List Part)) (told told_mid told_now : Told) → AreShort p.width rows → part ≡ leaf_part X piece
+  pub Adds-push : (piece : List ℕ) (part : Part) (rows rows_now : List (List Part)) (told told_mid told_now : Told) (touches touches_now : ℕ) → AreOpen p.width rows → part ≡ leaf_part X piece
       → rows_now ≡ push_up X p.width 0 part rows → KeepsGood X told told_mid → KeepsGood X told_mid told_now → Holds told_mid (leaf_held X piece ∷ []) → Holds told_now (held_up X p.width 0 part rows)
-      → Adds X p piece rows rows_now told told_now
-  Adds-push piece part rows rows_now told told_mid told_now short made pushed first then leaf nodes =
+      → touches_now ≡ touches + 1 + length (held_up X p.width 0 part rows) → Adds X p piece rows rows_now told told_now touches touches_now
+  Adds-push piece part rows rows_now told told_mid told_now touches touches_now are_open made pushed first then leaf nodes count =
       let now : rows_now ≡ push_row X p.width (leaf_part X piece) rows = pushed ∙ ap (λ m. push_row X p.width m rows) made in
       let held = subst (λ m. Holds told_now (push_held X p.width m rows)) made nodes in
+      let more = members-push X p.width rows (leaf_part X piece) are_open.short in
+      let count_now : touches_now ≡ touches + 1 + length (push_held X p.width (leaf_part X piece) rows) = subst (λ m. touches_now ≡ touches + 1 + length (push_held X p.width m rows)) made count in
+      let some : length (push_row X p.width (leaf_part X piece) rows) ≤ members p.width (push_row X p.width (leaf_part X piece) rows) = omega (arith, more.0, more.1, are_open.some) in
       record {
-        short = subst (AreShort p.width) (sym now) (short-push X p.width two rows (leaf_part X piece) short);
+        are_open = subst (AreOpen p.width) (sym now) (record { short = short-push X p.width two rows (leaf_part X piece) are_open.short; some = some });
+        saves = omega (
+          arith,
+          count_now,
+          ap (saved_over p.width) now,
+          saved-push X p.width rows (leaf_part X piece) are_open.short,
+        );
+        some = omega (arith, ap (members p.width) now, more.0);
         sizes = ap sizes_of now ∙ sizes-push X p.width two rows (leaf_part X piece);
         fed = λ pieces h. subst (ArePieces X Any p (pieces ++ piece ∷ [])) (sym now) (pieces-push Any pieces piece rows tt (any _) h);
         held = λ pieces h. subst (ArePieces X (IsHeld told_now) p (pieces ++ piece ∷ [])) (sym now)
@@ -102,18 +113,19 @@ module _ (X : List ℕ → List ℕ) (p : Profile) (two : 2 ≤ p.width) where
     are_pieces = h.are_pieces;
   }
 
-  pub Feeds-begun : (bytes begun : List ℕ) (rows : List (List Part)) (told : Told) → AreShort p.width rows → Feeds X p bytes begun (begun ++ bytes) rows rows told told
-  Feeds-begun bytes begun rows told short = record {
-    short = short;
+  pub Feeds-begun : (bytes begun : List ℕ) (rows : List (List Part)) (told : Told) (touches : ℕ) → AreOpen p.width rows → Feeds X p bytes begun (begun ++ bytes) rows rows told told touches touches
+  Feeds-begun bytes begun rows told touches are_open = record {
+    are_open = are_open;
     sizes = omega (arith, length-append begun bytes);
+    saves = refl;
     fed = λ front h. builds-begun Any front bytes begun rows h;
     held = λ front h. builds-begun (IsHeld told) front bytes begun rows h;
   }
 
-  pub Feeds-nothing : (begun : List ℕ) (rows : List (List Part)) (told : Told) → AreShort p.width rows → Feeds X p [] begun begun rows rows told told
-  Feeds-nothing begun rows told short = subst (λ b. Feeds X p [] begun b rows rows told told) (append-nil begun) (Feeds-begun [] begun rows told short)
+  pub Feeds-nothing : (begun : List ℕ) (rows : List (List Part)) (told : Told) (touches : ℕ) → AreOpen p.width rows → Feeds X p [] begun begun rows rows told told touches touches
+  Feeds-nothing begun rows told touches are_open = subst (λ b. Feeds X p [] begun b rows rows told told touches touches) (append-nil begun) (Feeds-begun [] begun rows told touches are_open)
 
-  builds-piece : (P Q : Held → Type 0) (front bytes begun piece : List ℕ) (rows rows_now : List (List Part)) → begun ++ bytes ≡ piece → length piece ≡ p.chunk
+  pub builds-piece : (P Q : Held → Type 0) (front bytes begun piece : List ℕ) (rows rows_now : List (List Part)) → begun ++ bytes ≡ piece → length piece ≡ p.chunk
       → ((pieces : List (List ℕ)) → ArePieces X P p pieces rows → ArePieces X Q p (pieces ++ piece ∷ []) rows_now)
       → Builds X P p front begun rows → Builds X Q p (front ++ bytes) [] rows_now
   builds-piece P Q front bytes begun piece rows rows_now is whole adds h = record {
@@ -123,19 +135,22 @@ module _ (X : List ℕ → List ℕ) (p : Profile) (two : 2 ≤ p.width) where
     are_pieces = adds h.pieces h.are_pieces;
   }
 
-  pub Feeds-piece : (bytes begun begun_now piece : List ℕ) (rows rows_now : List (List Part)) (told told_now : Told) → begun ++ bytes ≡ piece → length piece ≡ p.chunk → begun_now ≡ []
-      → Adds X p piece rows rows_now told told_now → Feeds X p bytes begun begun_now rows rows_now told told_now
-  Feeds-piece bytes begun begun_now piece rows rows_now told told_now is whole none adds = record {
-    short = adds.short;
+  pub Feeds-piece : (bytes begun begun_now piece : List ℕ) (rows rows_now : List (List Part)) (told told_now : Told) (touches touches_now : ℕ) → begun ++ bytes ≡ piece → length piece ≡ p.chunk → begun_now ≡ []
+      → Adds X p piece rows rows_now told told_now touches touches_now → Feeds X p bytes begun begun_now rows rows_now told told_now touches touches_now
+  Feeds-piece bytes begun begun_now piece rows rows_now told told_now touches touches_now is whole none adds = record {
+    are_open = adds.are_open;
+    saves = adds.saves;
     sizes = omega (arith, adds.sizes, ap length is, length-append begun bytes, ap length none);
     fed = λ front h. subst (λ b. Builds X Any p (front ++ bytes) b rows_now) (sym none) (builds-piece Any Any front bytes begun piece rows rows_now is whole adds.fed h);
     held = λ front h. subst (λ b. Builds X (IsHeld told_now) p (front ++ bytes) b rows_now) (sym none) (builds-piece (IsHeld told) (IsHeld told_now) front bytes begun piece rows rows_now is whole adds.held h);
   }
 
-  pub Feeds-trans : (a b begun begun_mid begun_now : List ℕ) (rows rows_mid rows_now : List (List Part)) (told told_mid told_now : Told)
-      → Feeds X p a begun begun_mid rows rows_mid told told_mid → Feeds X p b begun_mid begun_now rows_mid rows_now told_mid told_now → Feeds X p (a ++ b) begun begun_now rows rows_now told told_now
-  Feeds-trans a b begun begun_mid begun_now rows rows_mid rows_now told told_mid told_now first then = record {
-    short = then.short;
+  pub Feeds-trans : (a b begun begun_mid begun_now : List ℕ) (rows rows_mid rows_now : List (List Part)) (told told_mid told_now : Told) (touches touches_mid touches_now : ℕ)
+      → Feeds X p a begun begun_mid rows rows_mid told told_mid touches touches_mid → Feeds X p b begun_mid begun_now rows_mid rows_now told_mid told_now touches_mid touches_now
+      → Feeds X p (a ++ b) begun begun_now rows rows_now told told_now touches touches_now
+  Feeds-trans a b begun begun_mid begun_now rows rows_mid rows_now told told_mid told_now touches touches_mid touches_now first then = record {
+    are_open = then.are_open;
+    saves = omega (arith, first.saves, then.saves);
     sizes = omega (arith, first.sizes, then.sizes, length-append a b);
     fed = λ front h. subst (λ l. Builds X Any p l begun_now rows_now) (append_assoc front a b) (then.fed (front ++ a) (first.fed front h));
     held = λ front h. subst (λ l. Builds X (IsHeld told_now) p l begun_now rows_now) (append_assoc front a b) (then.held (front ++ a) (first.held front h));

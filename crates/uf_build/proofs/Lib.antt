@@ -1,4 +1,5 @@
 pub mod Carry
+pub mod Counting
 pub mod Cutting
 pub mod Ending
 pub mod Feeding

@@ -42,3 +42,10 @@ IsFinishAnswer b (Ok e) = b.is_spent ≡ false
 IsFinishAnswer b (Err FileTooLong) = ⊥
 IsFinishAnswer b (Err Spent) = b.is_spent ≡ true
 IsFinishAnswer b (Err (Store fault)) = (b.is_spent ≡ false) × IsSaving fault
+
+-- a call that was refused without a look at the store touched nothing
+abbrev pub LeavesAlone : {A : Type 0} → Result A BuildFault → ℕ → ℕ → Type 0
+LeavesAlone (Ok a) touches now = ⊤
+LeavesAlone (Err FileTooLong) touches now = now ≡ touches
+LeavesAlone (Err Spent) touches now = now ≡ touches
+LeavesAlone (Err (Store fault)) touches now = ⊤

@@ -1,15 +1,14 @@
 -- What contracts see of a builder of a file.
-use Rattle.std.specs.Prelude.{◌≡◌, ℕ, ◌+◌, ◌*◌, ◌<◌, ◌≤◌, List, [], ◌∷◌, ◌++◌, length, map, Bool, IsTrue, ⊤}
+use Rattle.std.specs.Prelude.{◌≡◌, ℕ, ◌+◌, ◌*◌, ◌<◌, ◌≤◌, List, [], ◌∷◌, ◌++◌, length, map, Bool, ⊤}
 use Rattle.std.specs.List.{AllByRecursion}
 use Rattle.uf_cid.specs.Blocks.{Held}
 use Rattle.uf_store.specs.Contents.{Told}
 use Rattle.uf_store.specs.Keeping.{Holds}
 use Rattle.uf_tree.specs.Cutting.{joined}
-use Rattle.uf_tree.specs.FilePlan.{chunks, leaf_part, leaf_held}
-use Rattle.uf_tree.specs.Profiles.{is_profile}
+use Rattle.uf_tree.specs.FilePlan.{chunks, file_plan, leaf_part, leaf_held}
 use Rattle.uf_tree.specs.declared.nodes.Part.{Part}
 use Rattle.uf_tree.specs.declared.profile.Profile.{Profile}
-use Rattle.uf_build.specs.Rows.{AreRows, AreShort, sizes_of}
+use Rattle.uf_build.specs.Rows.{AreRows, AreOpen, members, saved_over, sizes_of}
 
 -- a builder: its profile, how many bytes it was fed, whether it gave up, the piece that it has begun, and its open groups
 pub record Building : Type 0 where
@@ -51,30 +50,44 @@ HasFed X bytes b = Builds X Any b.profile bytes b.begun b.rows
 unfoldable pub HoldsFed : (List ℕ → List ℕ) → List ℕ → Told → Building → Type 0
 HoldsFed X bytes told b = Builds X (IsHeld told) b.profile bytes b.begun b.rows
 
+-- how many blocks a builder that didn't give up has saved: a part of each row is one
+unfoldable pub saved_by : Building → ℕ
+saved_by b = saved_over b.profile.width b.rows
+
+-- a call that takes these bytes touches the store no more often than the plan of all bytes has blocks, with what was saved
+abbrev pub SavesUpTo : (List ℕ → List ℕ) → Profile → List ℕ → List ℕ → List (List Part) → ℕ → ℕ → Type 0
+SavesUpTo X p bytes begun rows touches touches_now =
+    (front : List ℕ) → Builds X Any p front begun rows → touches_now + saved_over p.width rows ≤ touches + length (file_plan X p (front ++ bytes)).blocks
+
 -- what every builder keeps that has not given up: room in its piece and in its groups, and no more bytes than it was fed
 pub record IsReady (p : Profile) (fed : ℕ) (begun : List ℕ) (rows : List (List Part)) : Type 0 where
   pub room : length begun < p.chunk
-  pub short : AreShort p.width rows
+  pub are_open : AreOpen p.width rows
   pub sizes : sizes_of rows + length begun ≡ fed
   pub most : fed ≤ most_bytes p
 
 -- the open groups after one more piece, of which nothing is lost
-pub record Adds (X : List ℕ → List ℕ) (p : Profile) (piece : List ℕ) (rows rows_now : List (List Part)) (told told_now : Told) : Type 0 where
-  pub short : AreShort p.width rows_now
+pub record Adds (X : List ℕ → List ℕ) (p : Profile) (piece : List ℕ) (rows rows_now : List (List Part)) (told told_now : Told) (touches touches_now : ℕ) : Type 0 where
+  pub are_open : AreOpen p.width rows_now
   pub sizes : sizes_of rows_now ≡ sizes_of rows + length piece
+  pub saves : touches_now + saved_over p.width rows ≡ touches + saved_over p.width rows_now
+  pub some : 1 ≤ members p.width rows_now
   pub fed : (pieces : List (List ℕ)) → ArePieces X Any p pieces rows → ArePieces X Any p (pieces ++ piece ∷ []) rows_now
   pub held : (pieces : List (List ℕ)) → ArePieces X (IsHeld told) p pieces rows → ArePieces X (IsHeld told_now) p (pieces ++ piece ∷ []) rows_now
 
 -- the piece that was begun and the open groups after more bytes, of which nothing is lost
-pub record Feeds (X : List ℕ → List ℕ) (p : Profile) (bytes begun begun_now : List ℕ) (rows rows_now : List (List Part)) (told told_now : Told) : Type 0 where
-  pub short : AreShort p.width rows_now
+pub record Feeds (X : List ℕ → List ℕ) (p : Profile) (bytes begun begun_now : List ℕ) (rows rows_now : List (List Part)) (told told_now : Told) (touches touches_now : ℕ) : Type 0 where
+  pub are_open : AreOpen p.width rows_now
   pub sizes : sizes_of rows_now + length begun_now ≡ sizes_of rows + length begun + length bytes
+  pub saves : touches_now + saved_over p.width rows ≡ touches + saved_over p.width rows_now
   pub fed : (front : List ℕ) → Builds X Any p front begun rows → Builds X Any p (front ++ bytes) begun_now rows_now
   pub held : (front : List ℕ) → Builds X (IsHeld told) p front begun rows → Builds X (IsHeld told_now) p (front ++ bytes) begun_now rows_now
 
 -- the open groups over all pieces of a file, the last of which was begun
-pub record Ends (X : List ℕ → List ℕ) (p : Profile) (begun : List ℕ) (rows rows_now : List (List Part)) (told told_now : Told) : Type 0 where
-  pub short : AreShort p.width rows_now
+pub record Ends (X : List ℕ → List ℕ) (p : Profile) (begun : List ℕ) (rows rows_now : List (List Part)) (told told_now : Told) (touches touches_now : ℕ) : Type 0 where
+  pub are_open : AreOpen p.width rows_now
   pub sizes : sizes_of rows_now ≡ sizes_of rows + length begun
+  pub saves : touches_now + saved_over p.width rows ≡ touches + saved_over p.width rows_now
+  pub some : 1 ≤ members p.width rows_now
   pub fed : (bytes : List ℕ) → Builds X Any p bytes begun rows → ArePieces X Any p (chunks p bytes) rows_now
   pub held : (bytes : List ℕ) → Builds X (IsHeld told) p bytes begun rows → ArePieces X (IsHeld told_now) p (chunks p bytes) rows_now

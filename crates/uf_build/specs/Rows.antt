@@ -1,5 +1,5 @@
 -- The open groups of a file's rows, the lowest row first: behind the full groups of each row, whose nodes are saved.
-use Rattle.std.specs.Prelude.{◌≡◌, ℕ, zero, suc, ◌+◌, ◌<◌, ◌≤◌, List, [], ◌∷◌, ◌++◌, length, map, nat_lt, Bool, true, false, if◌then◌else◌}
+use Rattle.std.specs.Prelude.{◌≡◌, ℕ, zero, suc, ◌+◌, ◌*◌, ◌<◌, ◌≤◌, List, [], ◌∷◌, ◌++◌, length, map, nat_lt, Bool, true, false, if◌then◌else◌}
 use Rattle.std.specs.List.{AllByRecursion, sum_by}
 use Rattle.uf_cid.specs.Blocks.{Held}
 use Rattle.uf_tree.specs.Cutting.{joined}
@@ -22,6 +22,22 @@ size_of g = sum_by (λ m. m.size) g
 -- how many are below the groups of all rows
 abbrev pub sizes_of : List (List Part) → ℕ
 sizes_of rows = sum_by size_of rows
+
+module _ (w : ℕ) where
+  -- how many parts came into the lowest row: each part of the row above stands for a full group of it
+  abbrev pub members : List (List Part) → ℕ
+  members [] = 0
+  members (g ∷ gs) = length g + w * members gs
+
+  -- how many parts came into all rows: each of them is a block
+  abbrev pub saved_over : List (List Part) → ℕ
+  saved_over [] = 0
+  saved_over (g ∷ gs) = members (g ∷ gs) + saved_over gs
+
+-- open groups: each has room for one more part, and no more rows are there than parts came
+pub record AreOpen (w : ℕ) (rows : List (List Part)) : Type 0 where
+  pub short : AreShort w rows
+  pub some : length rows ≤ members w rows
 
 -- how many links a node of a file may have
 pub record IsWidth (w : ℕ) : Type 0 where

@@ -4,8 +4,8 @@ ghost use Rattle.uf_store.specs.Contents.{Told};
 ghost use Rattle.uf_store.specs.Keeping.{Holds, KeepsGood, SavesOnly};
 ghost use Rattle.uf_tree.specs.FilePlan.{file_plan};
 ghost use Rattle.uf_tree.specs.Profiles.{is_profile};
-ghost use Rattle.uf_build.specs.Answers.{Shown, IsFeedAnswer, IsFinishAnswer};
-ghost use Rattle.uf_build.specs.Building.{HasFed, HoldsFed};
+ghost use Rattle.uf_build.specs.Answers.{Shown, IsFeedAnswer, IsFinishAnswer, LeavesAlone};
+ghost use Rattle.uf_build.specs.Building.{HasFed, HoldsFed, saved_by};
 
 use crate::BuildFault;
 use crate::layout::Layout;
@@ -48,6 +48,7 @@ impl Builder {
         ensures spent { result.is_spent ≡ false }
         ensures fed { (X : List ℕ → List ℕ) → HasFed X [] result }
         ensures held { (X : List ℕ → List ℕ) (told : Told) → HoldsFed X [] told result }
+        ensures saved { saved_by result ≡ 0 }
     {
         let layout = Layout {
             alloc,
@@ -80,6 +81,12 @@ impl Builder {
         ensures cause { Shown S.X.block32 result (S.seen store.old) (S.seen store.new) }
         ensures good { KeepsGood S.X.block32 (S.seen store.old).told (S.seen store.new).told }
         ensures saves { SavesOnly (S.seen store.old).told (S.seen store.new).told }
+
+        // One touch for each block that is saved, and whatever came, no more than the plan of all bytes has blocks.
+        ensures saved { OnOk result (touches.new + saved_by self.old ≡ touches.old + saved_by self.new) }
+        ensures most { (bytes : List ℕ) → HasFed S.X.block32 bytes self.old
+            → touches.new + saved_by self.old ≤ touches.old + length (file_plan S.X.block32 self.old.profile (bytes ++ piece.now)).blocks }
+        ensures alone { LeavesAlone result touches.old touches.new }
     {
         if self.is_spent {
             return Err(BuildFault::Spent);
@@ -115,6 +122,11 @@ impl Builder {
         ensures cause { Shown S.X.block32 result (S.seen store.old) (S.seen store.new) }
         ensures good { KeepsGood S.X.block32 (S.seen store.old).told (S.seen store.new).told }
         ensures saves { SavesOnly (S.seen store.old).told (S.seen store.new).told }
+        ensures saved { OnOk result ((bytes : List ℕ) → HasFed S.X.block32 bytes self
+            → touches.new + saved_by self ≡ touches.old + length (file_plan S.X.block32 self.profile bytes).blocks) }
+        ensures most { (bytes : List ℕ) → HasFed S.X.block32 bytes self
+            → touches.new + saved_by self ≤ touches.old + length (file_plan S.X.block32 self.profile bytes).blocks }
+        ensures alone { LeavesAlone result touches.old touches.new }
     {
         let Builder {
             layout,

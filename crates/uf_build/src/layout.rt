@@ -1,15 +1,15 @@
 // Pieces of a file, and the open groups over them.
-ghost use Rattle.std.specs.Prelude.{◌≡◌, ◌+◌, ◌<◌, ◌≤◌, ◌*◌, ◌^◌, ◌++◌, ◌∷◌, ◌⊎◌, List, ℕ, [], length, IfOk, OnOk, IfErr, IsTrue, take, slice_index_or};
+ghost use Rattle.std.specs.Prelude.{◌≡◌, ◌+◌, ◌<◌, ◌≤◌, ◌*◌, ◌^◌, ◌++◌, ◌∷◌, ◌⊎◌, List, ℕ, [], length, IfOk, OnOk, IfErr, OnErr, IsTrue, take, slice_index_or};
 ghost use Rattle.uf_cid.specs.Bytes.{piece};
 ghost use Rattle.uf_cid.specs.Cid.{cid_of};
 ghost use Rattle.uf_cid.specs.declared.cid.Codec.TheVariants.{Raw};
 ghost use Rattle.uf_store.specs.Faults.{Answers, NoneIsBad};
 ghost use Rattle.uf_store.specs.Keeping.{Holds, KeepsGood, SavesOnly};
-ghost use Rattle.uf_tree.specs.FilePlan.{file_plan};
+ghost use Rattle.uf_tree.specs.FilePlan.{file_plan, leaf_part};
 ghost use Rattle.uf_tree.specs.Profiles.{is_profile};
 ghost use Rattle.uf_build.specs.Answers.{IsSaving};
-ghost use Rattle.uf_build.specs.Building.{Adds, Any, Builds, Ends, IsHeld};
-ghost use Rattle.uf_build.specs.Rows.{AreShort, sizes_of};
+ghost use Rattle.uf_build.specs.Building.{Adds, Any, Builds, Ends, IsHeld, SavesUpTo};
+ghost use Rattle.uf_build.specs.Rows.{AreOpen, push_row, saved_over, sizes_of};
 
 use crate::rows;
 use std::alloc::Global;
@@ -42,13 +42,14 @@ impl Layout {
     ) -> Result<(), StoreFault>
         requires can { CanTake (length bytes.now) self.old }
         requires room { length self.old.begun.items < self.old.profile.chunk }
-        ensures took { OnOk result (Takes S.X.block32 bytes.now self.old self.new (S.seen store.old).told (S.seen store.new).told) }
+        ensures took { OnOk result (Takes S.X.block32 bytes.now self.old self.new (S.seen store.old).told (S.seen store.new).told touches.old touches.new) }
         ensures room { OnOk result (length self.new.begun.items < self.old.profile.chunk) }
         ensures profile { self.new.profile ≡ self.old.profile }
         ensures cause { Answers S.X.block32 NoneIsBad result (S.seen store.old) (S.seen store.new) }
         ensures fault { IfErr result IsSaving }
         ensures good { KeepsGood S.X.block32 (S.seen store.old).told (S.seen store.new).told }
         ensures saves { SavesOnly (S.seen store.old).told (S.seen store.new).told }
+        ensures most { OnErr result (SavesUpTo S.X.block32 self.old.profile bytes.now self.old.begun.items self.old.rows.items touches.old touches.new) }
     {
         let chunk = self.profile.chunk as usize;
         let front = match self.fill(store, bytes, touches) {
@@ -78,7 +79,7 @@ impl Layout {
     ) -> Result<usize, StoreFault>
         requires can { CanTake (length bytes.now) self.old }
         requires room { length self.old.begun.items < self.old.profile.chunk }
-        ensures took { IfOk result (λ front. Takes S.X.block32 (take front bytes.now) self.old self.new (S.seen store.old).told (S.seen store.new).told) }
+        ensures took { IfOk result (λ front. Takes S.X.block32 (take front bytes.now) self.old self.new (S.seen store.old).told (S.seen store.new).told touches.old touches.new) }
         ensures front { IfOk result (λ front. front ≤ length bytes.now) }
         ensures all { IfOk result (λ front. (front ≡ length bytes.now) ⊎ (self.new.begun.items ≡ [])) }
         ensures room { OnOk result (length self.new.begun.items < self.old.profile.chunk) }
@@ -87,6 +88,7 @@ impl Layout {
         ensures fault { IfErr result IsSaving }
         ensures good { KeepsGood S.X.block32 (S.seen store.old).told (S.seen store.new).told }
         ensures saves { SavesOnly (S.seen store.old).told (S.seen store.new).told }
+        ensures most { OnErr result (SavesUpTo S.X.block32 self.old.profile bytes.now self.old.begun.items self.old.rows.items touches.old touches.new) }
     {
         if self.begun.is_empty() {
             return Ok(0);
@@ -121,6 +123,10 @@ impl Layout {
         ensures fault { IfErr result IsSaving }
         ensures good { KeepsGood S.X.block32 (S.seen store.old).told (S.seen store.new).told }
         ensures saves { SavesOnly (S.seen store.old).told (S.seen store.new).told }
+        ensures all { OnOk result ((bytes : List ℕ) → Builds S.X.block32 Any self.profile bytes self.begun.items self.rows.items
+            → touches.new + saved_over self.profile.width self.rows.items ≡ touches.old + length (file_plan S.X.block32 self.profile bytes).blocks) }
+        ensures most { (bytes : List ℕ) → Builds S.X.block32 Any self.profile bytes self.begun.items self.rows.items
+            → touches.new + saved_over self.profile.width self.rows.items ≤ touches.old + length (file_plan S.X.block32 self.profile bytes).blocks }
     {
         let width = self.profile.width as usize;
         match self.end_last(store, touches) {
@@ -129,7 +135,7 @@ impl Layout {
         }
         match rows::close(self.alloc, width, &mut self.rows, 0, None, store, touches) {
             Ok(Some(part)) => Ok(part.entry),
-            Ok(None) => Err(StoreFault::Memory),
+            Ok(None) => unreachable!(),
             Err(fault) => Err(fault),
         }
     }
@@ -142,12 +148,14 @@ impl Layout {
     ) -> Result<(), StoreFault>
         requires can { CanTake 0 self.old }
         requires room { length self.old.begun.items < self.old.profile.chunk }
-        ensures ends { OnOk result (Ends S.X.block32 self.old.profile self.old.begun.items self.old.rows.items self.new.rows.items (S.seen store.old).told (S.seen store.new).told) }
+        ensures ends { OnOk result (Ends S.X.block32 self.old.profile self.old.begun.items self.old.rows.items self.new.rows.items (S.seen store.old).told (S.seen store.new).told touches.old touches.new) }
         ensures profile { self.new.profile ≡ self.old.profile }
         ensures cause { Answers S.X.block32 NoneIsBad result (S.seen store.old) (S.seen store.new) }
         ensures fault { IfErr result IsSaving }
         ensures good { KeepsGood S.X.block32 (S.seen store.old).told (S.seen store.new).told }
         ensures saves { SavesOnly (S.seen store.old).told (S.seen store.new).told }
+        ensures most { OnErr result ((bytes : List ℕ) → Builds S.X.block32 Any self.old.profile bytes self.old.begun.items self.old.rows.items
+            → touches.new + saved_over self.old.profile.width self.old.rows.items ≤ touches.old + length (file_plan S.X.block32 self.old.profile bytes).blocks) }
     {
         if self.rows.is_empty() {
             return self.end_piece(store, touches);
@@ -166,13 +174,15 @@ impl Layout {
     ) -> Result<(), StoreFault>
         requires can { CanTake 0 self.old }
         requires size { length self.old.begun.items ≤ self.old.profile.chunk }
-        ensures adds { OnOk result (Adds S.X.block32 self.old.profile self.old.begun.items self.old.rows.items self.new.rows.items (S.seen store.old).told (S.seen store.new).told) }
+        ensures adds { OnOk result (Adds S.X.block32 self.old.profile self.old.begun.items self.old.rows.items self.new.rows.items (S.seen store.old).told (S.seen store.new).told touches.old touches.new) }
         ensures begun { OnOk result (self.new.begun.items ≡ []) }
         ensures profile { self.new.profile ≡ self.old.profile }
         ensures cause { Answers S.X.block32 NoneIsBad result (S.seen store.old) (S.seen store.new) }
         ensures fault { IfErr result IsSaving }
         ensures good { KeepsGood S.X.block32 (S.seen store.old).told (S.seen store.new).told }
         ensures saves { SavesOnly (S.seen store.old).told (S.seen store.new).told }
+        ensures most { touches.new + saved_over self.old.profile.width self.old.rows.items
+            ≤ touches.old + saved_over self.old.profile.width (push_row S.X.block32 self.old.profile.width (leaf_part S.X.block32 self.old.begun.items) self.old.rows.items) }
     {
         let cid = Cid::of::<S::X>(Codec::Raw, self.begun.as_slice());
         match save_leaf(
@@ -203,13 +213,14 @@ impl Layout {
         requires can { CanTake (length bytes.now) self.old }
         requires begun { (length bytes.now ≡ 0) ⊎ (self.old.begun.items ≡ []) }
         requires count { length bytes.now ≡ count * self.old.profile.chunk }
-        ensures took { OnOk result (Takes S.X.block32 bytes.now self.old self.new (S.seen store.old).told (S.seen store.new).told) }
+        ensures took { OnOk result (Takes S.X.block32 bytes.now self.old self.new (S.seen store.old).told (S.seen store.new).told touches.old touches.new) }
         ensures begun { OnOk result (self.new.begun.items ≡ self.old.begun.items) }
         ensures profile { self.new.profile ≡ self.old.profile }
         ensures cause { Answers S.X.block32 NoneIsBad result (S.seen store.old) (S.seen store.new) }
         ensures fault { IfErr result IsSaving }
         ensures good { KeepsGood S.X.block32 (S.seen store.old).told (S.seen store.new).told }
         ensures saves { SavesOnly (S.seen store.old).told (S.seen store.new).told }
+        ensures most { OnErr result (SavesUpTo S.X.block32 self.old.profile bytes.now self.old.begun.items self.old.rows.items touches.old touches.new) }
     {
         let chunk = self.profile.chunk as usize;
         let mut rest = bytes;
@@ -239,13 +250,14 @@ impl Layout {
         requires begun { self.old.begun.items ≡ [] }
         requires count { length bytes.now ≡ count * self.old.profile.chunk }
         requires few { count ≤ 8 }
-        ensures took { OnOk result (Takes S.X.block32 bytes.now self.old self.new (S.seen store.old).told (S.seen store.new).told) }
+        ensures took { OnOk result (Takes S.X.block32 bytes.now self.old self.new (S.seen store.old).told (S.seen store.new).told touches.old touches.new) }
         ensures begun { OnOk result (self.new.begun.items ≡ []) }
         ensures profile { self.new.profile ≡ self.old.profile }
         ensures cause { Answers S.X.block32 NoneIsBad result (S.seen store.old) (S.seen store.new) }
         ensures fault { IfErr result IsSaving }
         ensures good { KeepsGood S.X.block32 (S.seen store.old).told (S.seen store.new).told }
         ensures saves { SavesOnly (S.seen store.old).told (S.seen store.new).told }
+        ensures most { OnErr result (SavesUpTo S.X.block32 self.old.profile bytes.now self.old.begun.items self.old.rows.items touches.old touches.new) }
     {
         let chunk = self.profile.chunk as usize;
         let digests = digests_of::<S::X>(bytes, chunk, count);
@@ -297,13 +309,14 @@ fn save_leaf<S: Store, L: Ledger>(
     requires profile { IsTrue (is_profile profile) }
     requires cid { cid ≡ cid_of S.X.block32 Raw piece.now }
     requires size { length piece.now ≤ profile.chunk }
-    requires short { AreShort profile.width rows.old.items }
+    requires rows { AreOpen profile.width rows.old.items }
     requires most { sizes_of rows.old.items + length piece.now < 2 ^ 63 }
-    ensures adds { OnOk result (Adds S.X.block32 profile piece.now rows.old.items rows.new.items (S.seen store.old).told (S.seen store.new).told) }
+    ensures adds { OnOk result (Adds S.X.block32 profile piece.now rows.old.items rows.new.items (S.seen store.old).told (S.seen store.new).told touches.old touches.new) }
     ensures cause { Answers S.X.block32 NoneIsBad result (S.seen store.old) (S.seen store.new) }
     ensures fault { IfErr result IsSaving }
     ensures good { KeepsGood S.X.block32 (S.seen store.old).told (S.seen store.new).told }
     ensures saves { SavesOnly (S.seen store.old).told (S.seen store.new).told }
+    ensures most { touches.new + saved_over profile.width rows.old.items ≤ touches.old + saved_over profile.width (push_row S.X.block32 profile.width (leaf_part S.X.block32 piece.now) rows.old.items) }
 {
     match save_under(alloc, store, &cid, piece, touches) {
         Ok(()) => {}

@@ -13,4 +13,4 @@ mod tests;
 
 pub use builder::Builder;
 pub use fault::BuildFault;
-pub use laws::what_was_saved_stays_held;
+pub use laws::{more_bytes_have_no_fewer_blocks, what_was_saved_stays_held};

@@ -32,6 +32,7 @@ pub fn save_node<S: Store, L: Ledger>(
     ensures good { KeepsGood S.X.block32 (S.seen store.old).told (S.seen store.new).told }
     ensures saves { SavesOnly (S.seen store.old).told (S.seen store.new).told }
     ensures touches { touches.new ≤ touches.old + 1 }
+    ensures touch { OnOk result (touches.new ≡ touches.old + 1) }
 {
     let Ok(node) = node_of(alloc, parts) else {
         return Err(StoreFault::Memory);

@@ -36,6 +36,7 @@ pub fn push<S: Store, L: Ledger>(
     ensures good { KeepsGood S.X.block32 (S.seen store.old).told (S.seen store.new).told }
     ensures saves { SavesOnly (S.seen store.old).told (S.seen store.new).told }
     ensures touches { touches.new ≤ touches.old + length (held_up S.X.block32 width level part rows.old.items) }
+    ensures count { OnOk result (touches.new ≡ touches.old + length (held_up S.X.block32 width level part rows.old.items)) }
 {
     if level == rows.len() {
         return match push_first(alloc, rows, part) {
@@ -91,6 +92,7 @@ pub fn close<S: Store, L: Ledger>(
     ensures good { KeepsGood S.X.block32 (S.seen store.old).told (S.seen store.new).told }
     ensures saves { SavesOnly (S.seen store.old).told (S.seen store.new).told }
     ensures touches { touches.new ≤ touches.old + length (close_held_up S.X.block32 width level rows.old.items (option_to_list carried)) }
+    ensures count { OnOk result (touches.new ≡ touches.old + length (close_held_up S.X.block32 width level rows.old.items (option_to_list carried))) }
 {
     if level == rows.len() {
         return Ok(carried);
@@ -122,6 +124,7 @@ fn close_row<S: Store, L: Ledger>(
     ensures good { KeepsGood S.X.block32 (S.seen store.old).told (S.seen store.new).told }
     ensures saves { SavesOnly (S.seen store.old).told (S.seen store.new).told }
     ensures touches { touches.new ≤ touches.old + length (carry_held S.X.block32 is_top (row ++ option_to_list carried)) }
+    ensures count { OnOk result (touches.new ≡ touches.old + length (carry_held S.X.block32 is_top (row ++ option_to_list carried))) }
 {
     if let Some(part) = carried {
         if row.push(part).is_err() {

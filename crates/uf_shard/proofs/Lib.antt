@@ -1,4 +1,12 @@
+pub mod BucketRows
+pub mod Collisions
 pub mod Ways
 pub mod Readings
 pub mod One
 pub mod Reaching
+pub mod Walks
+pub mod Rows
+pub mod Weights
+pub mod Sorts
+pub mod Touches
+pub mod Digests

@@ -28,7 +28,7 @@ use Rattle.uf_tree.proofs.Each.{each_filter}
 use Rattle.uf_tree.proofs.ShardLaws.{find-tabulate, names_exact, slot-bound, eqb_same}
 use Rattle.uf_tree.proofs.Twins.{Apart-HasShard, twins-Apart}
 use Rattle.uf_tree.proofs.Valid.{node_entry-valid, shard-valid, shard_items-valid}
-use Rattle.uf_shard.specs.Answers.{FindsOver}
+use Rattle.uf_store.specs.Lost.{FindsOver}
 use Rattle.uf_shard.specs.Placed.{IsBadOnWay, way}
 use Rattle.uf_shard.specs.Planned.{IsPlanned}
 use Rattle.uf_shard.specs.Reached.{IsReached, LooksAt, SaysOf}

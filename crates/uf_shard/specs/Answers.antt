@@ -1,29 +1,43 @@
--- Answers that rest on blocks of which some may be lost.
-use Rattle.std.specs.Prelude.{◌≡◌, ◌⊎◌, List, [], ◌∷◌, IfSome, Some, None, ⊤}
+-- What calls that build or change a directory answer.
+use Rattle.std.specs.Prelude.{◌≡◌, ℕ, List, Some, None}
+use Rattle.std.specs.declared.option.Option.{Option}
 use Rattle.std.specs.declared.result.Result.{Result}
 use Rattle.std.specs.declared.result.Result.TheVariants.{Ok, Err}
-use Rattle.uf_cid.specs.declared.cid.Cid.{Cid}
-use Rattle.uf_cid.specs.Blocks.{Held, Lookup}
-use Rattle.uf_store.specs.declared.store.StoreFault.{StoreFault}
-use Rattle.uf_store.specs.declared.store.StoreFault.TheVariants.{Failed, Damaged, Missing, BadBlock, Clash, Memory}
-use Rattle.uf_store.specs.Contents.{Told, held_at}
-use Rattle.uf_store.specs.Keeping.{Holds}
+use Rattle.uf_cid.specs.Blocks.{Held}
+use Rattle.uf_store.specs.declared.store.Role.{Role}
+use Rattle.uf_store.specs.Clashes.{IsSaving}
+use Rattle.uf_store.specs.Contents.{Told}
+use Rattle.uf_store.specs.Faults.{Shows, StaysCalm}
+use Rattle.uf_store.specs.Lost.{IsLossOf}
+use Rattle.uf_store.specs.Seen.{Seen}
+use Rattle.uf_tree.specs.declared.nodes.Entry.{Entry}
+use Rattle.uf_tree.specs.Nodes.{Named}
+use Rattle.uf_tree.specs.ShardPlan.{shard}
+use Rattle.uf_tree.specs.TreePlan.{Refusal, Collision as Collides, TooBig as IsTooBig, collision, or_else, too_big}
+use Rattle.uf_shard.specs.declared.fault.DirFault.{DirFault}
+use Rattle.uf_shard.specs.declared.fault.DirFault.TheVariants.{Collision, TooBig, Store}
 
--- the CID is that of the first of these blocks that isn't held
-abbrev pub IsFirstLost : Lookup → Cid → List Held → Type 0
-IsFirstLost held cid [] = ⊥
-IsFirstLost held cid (b ∷ l) = ((cid ≡ b.0) × (held b.0 ≡ None)) ⊎ ((held b.0 ≡ Some b.1) × IsFirstLost held cid l)
+-- why a directory in shards has no plan: two names of one hash, else its size
+abbrev pub shard_refusal : (List ℕ → List ℕ) → (List ℕ → ℕ) → List Named → Option Refusal
+shard_refusal X N l = or_else (collision N l) (too_big (shard X N 7 l).entry.tsize)
 
--- where the store tells, the CID is that of the first of these blocks that it doesn't hold
-abbrev pub LosesFirst : Told → Cid → List Held → Type 0
-LosesFirst told cid l = IfSome told (λ t. IsFirstLost (held_at t) cid l)
+-- the entry is this one where nothing refuses it, and a refusal is this one; else a save failed
+abbrev pub Gives : Option Refusal → Entry → Result Entry DirFault → Type 0
+Gives refusal entry (Ok e) = (refusal ≡ None) × (e ≡ entry)
+Gives refusal entry (Err (Collision first second)) = refusal ≡ Some (Collides first second)
+Gives refusal entry (Err TooBig) = refusal ≡ Some IsTooBig
+Gives refusal entry (Err (Store fault)) = IsSaving fault
 
--- where these blocks are held the answer is this value, else the first of them that isn't held is missing; want of memory is free
-abbrev pub FindsOver : {A : Type 0} → Told → List Held → A → Result A StoreFault → Type 0
-FindsOver told l value (Ok a) = (a ≡ value) × Holds told l
-FindsOver told l value (Err Failed) = ⊥
-FindsOver told l value (Err (Damaged cid)) = ⊥
-FindsOver told l value (Err (Missing cid)) = LosesFirst told cid l
-FindsOver told l value (Err (BadBlock cid role)) = ⊥
-FindsOver told l value (Err (Clash cid held bytes)) = ⊥
-FindsOver told l value (Err Memory) = ⊤
+-- the same where blocks are read, of which some may be lost
+abbrev pub GivesOver : Told → List Held → Option Refusal → Entry → Result Entry DirFault → Type 0
+GivesOver told old refusal entry (Ok e) = (refusal ≡ None) × (e ≡ entry)
+GivesOver told old refusal entry (Err (Collision first second)) = refusal ≡ Some (Collides first second)
+GivesOver told old refusal entry (Err TooBig) = refusal ≡ Some IsTooBig
+GivesOver told old refusal entry (Err (Store fault)) = IsLossOf told old fault
+
+-- no fault was passed over: a fault of the store shows its cause, and before any other answer the store has stayed calm
+abbrev pub Shown : {A : Type 0} → (List ℕ → List ℕ) → (Role → List ℕ → Type 0) → Result A DirFault → Seen → Seen → Type 0
+Shown hash IsBad (Ok a) before now = StaysCalm before now
+Shown hash IsBad (Err (Collision first second)) before now = StaysCalm before now
+Shown hash IsBad (Err TooBig) before now = StaysCalm before now
+Shown hash IsBad (Err (Store fault)) before now = Shows hash IsBad fault before now

@@ -1,5 +1,10 @@
 pub mod Answers
+pub mod Buckets
+pub mod Listing
 pub mod Placed
 pub mod Planned
 pub mod Reached
+pub mod Saving
+pub mod Sorting
 pub mod Spots
+pub mod Walked

@@ -11,7 +11,7 @@ use uf_store::{MemStore, Role, Steps, StoreFault, save_block};
 use uf_tree::{Entry, Item, Items, Name, Placed, is_shard, shard_node};
 
 // The entry of an empty file.
-fn empty_file() -> Entry {
+pub fn empty_file() -> Entry {
     Entry {
         cid: Cid::of::<Sha256Hash>(Codec::Raw, b""),
         tsize: 0,
@@ -19,7 +19,7 @@ fn empty_file() -> Entry {
 }
 
 // A shard saved, with the Tsizes of its links.
-fn save_items<L: Ledger>(
+pub fn save_items<L: Ledger>(
     alloc: Global,
     store: &mut MemStore<Sha256Hash>,
     items: &Items,
@@ -37,7 +37,7 @@ fn save_items<L: Ledger>(
 }
 
 // The shard of empty files under these names.
-fn save_files<L: Ledger>(
+pub fn save_files<L: Ledger>(
     alloc: Global,
     store: &mut MemStore<Sha256Hash>,
     files: &[(u8, &str)],
@@ -53,7 +53,7 @@ fn save_files<L: Ledger>(
 }
 
 // Shards of one shard each, above one.
-fn save_above<L: Ledger>(
+pub fn save_above<L: Ledger>(
     alloc: Global,
     store: &mut MemStore<Sha256Hash>,
     slots: &[u8],

@@ -5,7 +5,7 @@ use Rattle.std.specs.Cmp.{eq_by_cmp_equiv}
 use Rattle.std.specs.Ordering.{is_eq, eq_by_cmp}
 use Rattle.std.specs.declared.cmp.Ordering.{Ordering}
 use Rattle.std.specs.declared.cmp.Ordering.TheVariants.{Less, Equal, Greater}
-use Rattle.std.specs.FinMap.{get, insert, get-insert}
+use Rattle.std.specs.FinMap.{get, get-insert}
 use Rattle.std.specs.List.{AllByRecursion}
 use Rattle.uf_cid.specs.declared.cid.Cid.{Cid}
 use Rattle.uf_cid.specs.Blocks.{Held}

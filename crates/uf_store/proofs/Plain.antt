@@ -12,11 +12,10 @@ use Rattle.uf_store.specs.declared.store.Save.TheVariants.{Done as SaveDone, Cla
 use Rattle.uf_store.specs.declared.store.Note.{Note}
 use Rattle.uf_store.specs.declared.store.NoteRead.{NoteRead}
 use Rattle.uf_store.specs.declared.store.NoteRead.TheVariants.{Text, Absent, Failed as NoteFailed, Memory as NoteMemory}
-use Rattle.uf_store.specs.declared.store.Write.{Write}
 use Rattle.uf_store.specs.declared.store.Write.TheVariants.{Saved, Synced, Noted}
 use Rattle.uf_store.specs.Contents.{Contents, HeldMap, Notes, Told, changed, no_notes, with_note, with_save, with_sync, with_text}
-use Rattle.uf_store.specs.Seen.{Loads, Saves, Syncs, ReadsNote, WritesNote, Writes, Seen}
-use Rattle.uf_store.specs.Stops.{IsPlain, KeepsPlain, TellsPlain, held_after, held_by, notes_after, notes_by}
+use Rattle.uf_store.specs.Seen.{Loads, Saves, ReadsNote, Writes, Seen}
+use Rattle.uf_store.specs.Stops.{IsPlain, KeepsPlain, TellsPlain, held_after, notes_after}
 
 fold-append : {A B : Type 0} (f : B → A → B) (b : B) (xs : List A) (x : A) → fold f b (xs ++ x ∷ []) ≡ f (fold f b xs) x
 fold-append f b [] x = refl

@@ -1,4 +1,4 @@
--- The faults that a save alone may answer.
+-- The faults that loads alone and saves alone may answer.
 use Rattle.std.specs.Prelude.{◌≡◌, ℕ, List, ⊤}
 use Rattle.uf_cid.specs.declared.cid.Cid.{Cid}
 use Rattle.uf_store.specs.declared.store.StoreFault.{StoreFault}
@@ -30,3 +30,12 @@ IsLoadFault cid (Missing c) = c ≡ cid
 IsLoadFault cid (BadBlock c role) = ⊥
 IsLoadFault cid (Clash c first second) = ⊥
 IsLoadFault cid Memory = ⊤
+
+-- a fault that saves alone can have: nothing is looked for
+abbrev pub IsSaving : StoreFault → Type 0
+IsSaving Failed = ⊤
+IsSaving (Damaged cid) = ⊥
+IsSaving (Missing cid) = ⊥
+IsSaving (BadBlock cid role) = ⊥
+IsSaving (Clash cid held bytes) = ⊤
+IsSaving Memory = ⊤

@@ -1,5 +1,5 @@
 -- What a store holds and what was written to it.
-use Rattle.std.specs.Prelude.{◌≡◌, ℕ, List, [], ◌∷◌, ◌++◌, Some, None}
+use Rattle.std.specs.Prelude.{ℕ, List, [], ◌∷◌, ◌++◌, Some, None}
 use Rattle.std.specs.declared.option.Option.{Option}
 use Rattle.std.specs.FinMap.{FinMap, get, insert}
 use Rattle.uf_cid.specs.declared.cid.Cid.{Cid}

@@ -1,5 +1,5 @@
 -- Which calls of a store in memory are to fail.
-use Rattle.std.specs.Prelude.{◌≡◌, ℕ, ◌+◌, ◌-◌, ◌^◌, min, List, [], ◌∷◌, ◌++◌, Contains}
+use Rattle.std.specs.Prelude.{ℕ, ◌+◌, ◌-◌, ◌^◌, min, [], ◌∷◌, ◌++◌, Contains}
 use Rattle.uf_store.specs.declared.failing.CallKind.{CallKind}
 use Rattle.uf_store.specs.declared.failing.CallKind.TheVariants.{Load, Save, Sync, ReadNote, WriteNote}
 use Rattle.uf_store.specs.declared.failing.Failing.{Failing}

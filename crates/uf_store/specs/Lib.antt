@@ -5,5 +5,6 @@ pub mod Failing
 pub mod Faults
 pub mod InMemory
 pub mod Keeping
+pub mod Lost
 pub mod Seen
 pub mod Stops

@@ -1,5 +1,5 @@
 -- What a stop leaves of the writes of a store.
-use Rattle.std.specs.Prelude.{◌≡◌, ℕ, List, fold, Some, None, IfSome}
+use Rattle.std.specs.Prelude.{◌≡◌, ℕ, List, fold, Some, IfSome}
 use Rattle.std.specs.FinMap.{get, insert, empty}
 use Rattle.uf_cid.specs.declared.cid.Cid.{Cid}
 use Rattle.uf_store.specs.declared.store.Note.{Note}

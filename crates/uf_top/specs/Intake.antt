@@ -1,93 +1,104 @@
 -- What becomes of an input that is read as a file.
-use Rattle.std.specs.Prelude.{◌≡◌, ℕ, ◌+◌, ◌*◌, ◌<◌, ◌≤◌, List, ◌++◌, length, Bool, true, false, ⊤}
+use Rattle.std.specs.Prelude.{◌≡◌, ℕ, ◌+◌, ◌<◌, ◌≤◌, List, ◌++◌, length, Bool, true, false, ⊤}
 use Rattle.std.specs.declared.result.Result.{Result}
 use Rattle.std.specs.declared.result.Result.TheVariants.{Ok, Err}
-use Rattle.uf_cid.specs.declared.cid.Cid.{Cid}
+use Rattle.uf_build.specs.Answers.{IsSaving}
+use Rattle.uf_build.specs.Building.{Building, HasFed, HoldsFed, most_bytes}
 use Rattle.uf_edge.specs.Streams.{Told, before, IsAtEnd}
-use Rattle.uf_build.specs.Building.{Building, HasFed, most_bytes}
+use Rattle.uf_mfs.specs.declared.types.Rule.TheVariants.{FileTooLong}
+use Rattle.uf_store.specs.Contents as store
+use Rattle.uf_store.specs.Faults.{NoneIsBad, Shows, StaysCalm}
+use Rattle.uf_store.specs.Keeping.{Holds}
+use Rattle.uf_store.specs.Seen.{Seen}
 use Rattle.uf_tree.specs.FilePlan.{file_plan}
 use Rattle.uf_tree.specs.declared.nodes.Entry.{Entry}
 use Rattle.uf_tree.specs.declared.profile.Profile.{Profile}
-use Rattle.uf_top.specs.declared.intake.NoFile.{NoFile}
-use Rattle.uf_top.specs.declared.intake.NoFile.TheVariants.{TooLong, Failed, Memory}
+use Rattle.uf_top.specs.declared.types.Refusal.{Refusal}
+use Rattle.uf_top.specs.declared.types.Refusal.TheVariants as refusal
+use Rattle.uf_top.specs.Lines.{added_line}
+use Rattle.uf_top.specs.Reply.{file_cid, most_input}
 
--- Kubo's default numbers
-abbrev pub usual : Profile
-usual = record { chunk = 262144; width = 174; threshold = 262144 }
+-- what a refusal shows: a fault of the store its cause, and before any other refusal the store has stayed calm
+abbrev pub ShownWhy : (List ℕ → List ℕ) → Refusal → Seen → Seen → Type 0
+ShownWhy hash (refusal.Rule rule) before now = StaysCalm before now
+ShownWhy hash (refusal.BadPath why) before now = StaysCalm before now
+ShownWhy hash refusal.Usage before now = StaysCalm before now
+ShownWhy hash (refusal.Ready why) before now = StaysCalm before now
+ShownWhy hash refusal.Read before now = StaysCalm before now
+ShownWhy hash refusal.Write before now = StaysCalm before now
+ShownWhy hash (refusal.Store fault) before now = Shows hash NoneIsBad fault before now
 
--- the most bytes of a file by them: 4194304 pieces
-abbrev pub most_input : ℕ
-most_input = 262144 * 4194304
+-- no fault was passed over
+abbrev pub ShownIn : {A : Type 0} → (List ℕ → List ℕ) → Result A Refusal → Seen → Seen → Type 0
+ShownIn hash (Ok a) before now = StaysCalm before now
+ShownIn hash (Err why) before now = ShownWhy hash why before now
 
--- the CID of the file of these bytes
-abbrev pub file_cid : (List ℕ → List ℕ) → List ℕ → Cid
-file_cid hash bytes = (file_plan hash usual bytes).entry.cid
-
--- more bytes were given than a file may have
-pub record IsTooLong (left left_now : Told) : Type 0 where
+-- more bytes were given than a file of this profile may have
+pub record PassesMost (p : Profile) (left left_now : Told) : Type 0 where
   pub bytes : List ℕ
   pub taken : left ≡ before bytes left_now
-  pub many : most_input < length bytes
+  pub many : most_input p < length bytes
 
--- these are all bytes of the input, no more than a file may have, and this is their file's CID
-pub record IsWholeFile (hash : List ℕ → List ℕ) (entry : Entry) (left left_now : Told) : Type 0 where
+-- these are all bytes of the input, no more than a file may have, and this is their file's entry, whose blocks are held
+pub record IsWholeFile (hash : List ℕ → List ℕ) (p : Profile) (told_now : store.Told) (entry : Entry) (left left_now : Told) : Type 0 where
   pub bytes : List ℕ
   pub taken : left ≡ before bytes left_now
   pub nothing_left : IsAtEnd left_now
-  pub few : length bytes ≤ most_input
-  pub cid : entry.cid ≡ file_cid hash bytes
+  pub few : length bytes ≤ most_input p
+  pub is : entry ≡ (file_plan hash p bytes).entry
+  pub held : Holds told_now (file_plan hash p bytes).blocks
+
+-- the refusals that the reading of an input can have: too many bytes, a failed reading, and what saves alone can have
+abbrev pub IsStopped : (refuses_long : Type 0) → Refusal → Type 0
+IsStopped long (refusal.Rule rule) = (rule ≡ FileTooLong) × long
+IsStopped long (refusal.BadPath why) = ⊥
+IsStopped long refusal.Usage = ⊥
+IsStopped long (refusal.Ready why) = ⊥
+IsStopped long refusal.Read = ⊤
+IsStopped long refusal.Write = ⊥
+IsStopped long (refusal.Store fault) = IsSaving fault
 
 -- the file of an input, or why there is none
-abbrev pub IsFileOf : (List ℕ → List ℕ) → Result Entry NoFile → Told → Told → Type 0
-IsFileOf hash (Ok entry) left left_now = IsWholeFile hash entry left left_now
-IsFileOf hash (Err TooLong) left left_now = IsTooLong left left_now
-IsFileOf hash (Err Failed) left left_now = ⊤
-IsFileOf hash (Err Memory) left left_now = ⊤
+abbrev pub IsFileOf : (List ℕ → List ℕ) → Profile → store.Told → Result Entry Refusal → Told → Told → Type 0
+IsFileOf hash p told_now (Ok entry) left left_now = IsWholeFile hash p told_now entry left left_now
+IsFileOf hash p told_now (Err why) left left_now = IsStopped (PassesMost p left left_now) why
 
--- the reading failed
-abbrev pub is_failed : {A : Type 0} → Result A NoFile → Bool
-is_failed (Ok a) = false
-is_failed (Err TooLong) = false
-is_failed (Err Failed) = true
-is_failed (Err Memory) = false
-
--- a builder by the usual numbers that has not given up was fed these bytes
-pub record IsFedBy (hash : List ℕ → List ℕ) (bytes : List ℕ) (b : Building) : Type 0 where
+-- a builder by this profile that has not given up was fed these bytes, and what it saved of their plan is held
+pub record IsFedBy (hash : List ℕ → List ℕ) (p : Profile) (told : store.Told) (bytes : List ℕ) (b : Building) : Type 0 where
   pub fed : HasFed hash bytes b
+  pub held : HoldsFed hash bytes told b
   pub count : b.fed ≡ length bytes
-  pub few : length bytes ≤ most_input
-  pub profile : b.profile ≡ usual
+  pub few : length bytes ≤ most_input p
+  pub profile : b.profile ≡ p
   pub not_spent : b.is_spent ≡ false
 
 -- the builder was fed these bytes, which the source gave, behind what it was fed before
-pub record FeedsFrom (hash : List ℕ → List ℕ) (bytes : List ℕ) (b now : Building) (left left_now : Told) : Type 0 where
+pub record FeedsFrom (hash : List ℕ → List ℕ) (p : Profile) (bytes : List ℕ) (told told_now : store.Told) (b now : Building) (left left_now : Told) : Type 0 where
   pub taken : left ≡ before bytes left_now
-  pub fed : (front : List ℕ) → IsFedBy hash front b → IsFedBy hash (front ++ bytes) now
+  pub fed : (front : List ℕ) → IsFedBy hash p told front b → IsFedBy hash p told_now (front ++ bytes) now
 
 -- the source gave bytes with which the file would be too long
-pub record PassesLimit (hash : List ℕ → List ℕ) (b : Building) (left left_now : Told) : Type 0 where
+pub record PassesLimit (hash : List ℕ → List ℕ) (p : Profile) (told : store.Told) (b : Building) (left left_now : Told) : Type 0 where
   pub bytes : List ℕ
   pub taken : left ≡ before bytes left_now
-  pub many : (front : List ℕ) → IsFedBy hash front b → most_input < length (front ++ bytes)
+  pub many : (front : List ℕ) → IsFedBy hash p told front b → most_input p < length (front ++ bytes)
 
 -- more may follow what was fed
-pub record FeedsPart (hash : List ℕ → List ℕ) (b now : Building) (left left_now : Told) : Type 0 where
+pub record FeedsPart (hash : List ℕ → List ℕ) (p : Profile) (told told_now : store.Told) (b now : Building) (left left_now : Told) : Type 0 where
   pub bytes : List ℕ
-  pub feeds : FeedsFrom hash bytes b now left left_now
+  pub feeds : FeedsFrom hash p bytes told told_now b now left left_now
 
 -- nothing follows what was fed
-pub record FeedsLast (hash : List ℕ → List ℕ) (b now : Building) (left left_now : Told) : Type 0 where
+pub record FeedsLast (hash : List ℕ → List ℕ) (p : Profile) (told told_now : store.Told) (b now : Building) (left left_now : Told) : Type 0 where
   pub bytes : List ℕ
-  pub feeds : FeedsFrom hash bytes b now left left_now
+  pub feeds : FeedsFrom hash p bytes told told_now b now left left_now
   pub nothing_left : IsAtEnd left_now
 
 -- the answer of one reading: whether more may follow
-abbrev pub FeedsNext : (List ℕ → List ℕ) → Result Bool NoFile → Building → Building → Told → Told → Type 0
-FeedsNext hash (Ok true) b now left left_now = FeedsPart hash b now left left_now
-FeedsNext hash (Ok false) b now left left_now = FeedsLast hash b now left left_now
-FeedsNext hash (Err TooLong) b now left left_now = PassesLimit hash b left left_now
-FeedsNext hash (Err Failed) b now left left_now = ⊤
-FeedsNext hash (Err Memory) b now left left_now = ⊤
+abbrev pub FeedsNext : (List ℕ → List ℕ) → Profile → Result Bool Refusal → store.Told → store.Told → Building → Building → Told → Told → Type 0
+FeedsNext hash p (Ok true) told told_now b now left left_now = FeedsPart hash p told told_now b now left left_now
+FeedsNext hash p (Ok false) told told_now b now left left_now = FeedsLast hash p told told_now b now left left_now
+FeedsNext hash p (Err why) told told_now b now left left_now = IsStopped (PassesLimit hash p told b left left_now) why
 
 -- the builder was fed so many bytes more, and not too many
 pub record GrowsBy (more : ℕ) (b now : Building) : Type 0 where
@@ -96,15 +107,35 @@ pub record GrowsBy (more : ℕ) (b now : Building) : Type 0 where
   pub profile : now.profile ≡ b.profile
 
 -- the answer where one piece is fed
-abbrev pub FeedsPiece : (List ℕ → List ℕ) → List ℕ → Result (Unit {0}) NoFile → Building → Building → Type 0
-FeedsPiece hash piece (Ok done) b now = (front : List ℕ) → IsFedBy hash front b → IsFedBy hash (front ++ piece) now
-FeedsPiece hash piece (Err TooLong) b now = (front : List ℕ) → IsFedBy hash front b → most_input < length (front ++ piece)
-FeedsPiece hash piece (Err Failed) b now = ⊥
-FeedsPiece hash piece (Err Memory) b now = ⊤
+abbrev pub FeedsPiece : (List ℕ → List ℕ) → Profile → List ℕ → Result (Unit {0}) Refusal → store.Told → store.Told → Building → Building → Type 0
+FeedsPiece hash p piece (Ok done) told told_now b now = (front : List ℕ) → IsFedBy hash p told front b → IsFedBy hash p told_now (front ++ piece) now
+FeedsPiece hash p piece (Err why) told told_now b now = IsStopped ((front : List ℕ) → IsFedBy hash p told front b → most_input p < length (front ++ piece)) why
 
 -- the answer of the readings up to the end
-abbrev pub FeedsRest : (List ℕ → List ℕ) → Result (Unit {0}) NoFile → Building → Building → Told → Told → Type 0
-FeedsRest hash (Ok done) b now left left_now = FeedsLast hash b now left left_now
-FeedsRest hash (Err TooLong) b now left left_now = PassesLimit hash b left left_now
-FeedsRest hash (Err Failed) b now left left_now = ⊤
-FeedsRest hash (Err Memory) b now left left_now = ⊤
+abbrev pub FeedsRest : (List ℕ → List ℕ) → Profile → Result (Unit {0}) Refusal → store.Told → store.Told → Building → Building → Told → Told → Type 0
+FeedsRest hash p (Ok done) told told_now b now left left_now = FeedsLast hash p told told_now b now left left_now
+FeedsRest hash p (Err why) told told_now b now left left_now = IsStopped (PassesLimit hash p told b left left_now) why
+
+-- the file of what the builder was fed is its plan's, whose blocks are held
+pub record IsClosed (hash : List ℕ → List ℕ) (entry : Entry) (told told_now : store.Told) (b : Building) : Type 0 where
+  pub entry_is : (bytes : List ℕ) → HasFed hash bytes b → entry ≡ (file_plan hash b.profile bytes).entry
+  pub held : (bytes : List ℕ) → HoldsFed hash bytes told b → Holds told_now (file_plan hash b.profile bytes).blocks
+
+-- the answer where a builder is closed
+abbrev pub Closes : (List ℕ → List ℕ) → Result Entry Refusal → store.Told → store.Told → Building → Type 0
+Closes hash (Ok entry) told told_now b = IsClosed hash entry told told_now b
+Closes hash (Err why) told told_now b = IsStopped ⊥ why
+
+-- the row of all bytes of the input as a file, whose blocks are held
+pub record IsWholeRow (hash : List ℕ → List ℕ) (p : Profile) (told_now : store.Told) (text : List ℕ) (left left_now : Told) : Type 0 where
+  pub bytes : List ℕ
+  pub taken : left ≡ before bytes left_now
+  pub nothing_left : IsAtEnd left_now
+  pub few : length bytes ≤ most_input p
+  pub is : text ≡ added_line (file_cid hash p bytes)
+  pub held : Holds told_now (file_plan hash p bytes).blocks
+
+-- the row of an input, or why there is none
+abbrev pub IsRowOf : (List ℕ → List ℕ) → Profile → store.Told → Result (List ℕ) Refusal → Told → Told → Type 0
+IsRowOf hash p told_now (Ok text) left left_now = IsWholeRow hash p told_now text left left_now
+IsRowOf hash p told_now (Err why) left left_now = IsStopped (PassesMost p left left_now) why

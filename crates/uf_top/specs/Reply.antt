@@ -1,99 +1,143 @@
--- What the program answers.
-use Rattle.std.specs.Prelude.{◌≡◌, ℕ, ◌⊎◌, List, [], ◌∷◌, ◌++◌, length, Bool, false, ◌&&◌, Some, None, IfSome, codes, nat_eq, nat_le, if◌then◌else◌}
-use Rattle.std.specs.Cmp.Lexicographic.{pointwise}
+-- The reply to a command, by what the store stands for and the input.
+use Rattle.std.specs.Prelude.{◌≡◌, ◌⊎◌, ℕ, ◌*◌, List, [], length, Bool, true, false, nat_le, if◌then◌else◌}
+use Rattle.std.specs.declared.result.Result.{Result}
+use Rattle.std.specs.declared.result.Result.TheVariants.{Ok, Err}
+use Rattle.std.specs.List.{flat_map}
+use Rattle.uf_cid.specs.Blocks.{Held}
 use Rattle.uf_cid.specs.declared.cid.Cid.{Cid}
-use Rattle.uf_cid.specs.Cid.{cid_text}
-use Rattle.uf_edge.specs.declared.streams.Sent.{Sent}
-use Rattle.uf_edge.specs.Counts.{Counts}
-use Rattle.uf_edge.specs.Streams.{Told, after, AppendsPrefix, Sends, is_unsent}
-use Rattle.uf_top.specs.Intake.{file_cid, most_input}
-use Rattle.uf_top.specs.declared.status.Status.{Status}
-use Rattle.uf_top.specs.declared.status.Status.TheVariants.{Ok, Rule, Usage, StoreFault, Missing, BadBlock, ReadFault, WriteFault, Clash, Memory, NotReady}
+use Rattle.uf_mfs.specs.Answers.{allowed, rule_of}
+use Rattle.uf_mfs.specs.Plain.{at, made, removed}
+use Rattle.uf_mfs.specs.Replies.{names_at, rows_at, stat_of}
+use Rattle.uf_mfs.specs.Standing.{TellsAs, TellsHeld}
+use Rattle.uf_mfs.specs.declared.types.Ready.{Ready}
+use Rattle.uf_mfs.specs.declared.types.Ready.TheVariants as ready
+use Rattle.uf_mfs.specs.declared.types.Refused.{Refused}
+use Rattle.uf_mfs.specs.declared.types.Rule.TheVariants.{FileTooLong}
+use Rattle.uf_store.specs.Contents.{Told}
+use Rattle.uf_tree.specs.FilePlan.{file_plan}
+use Rattle.uf_tree.specs.Standing.{Standing, NoHead, BadHead, Stands}
+use Rattle.uf_tree.specs.Tree.{Tree, Dir, Entries, Nothing}
+use Rattle.uf_tree.specs.TreePlan.{blocks}
+use Rattle.uf_tree.specs.declared.profile.Profile.{Profile}
+use Rattle.uf_top.specs.declared.types.Ask.{Ask}
+use Rattle.uf_top.specs.declared.types.Ask.TheVariants.{Ls, Stat, Edit as Edits}
+use Rattle.uf_top.specs.declared.types.Command.{Command}
+use Rattle.uf_top.specs.declared.types.Command.TheVariants.{Init, Add, At}
+use Rattle.uf_top.specs.declared.types.Edit.{Edit}
+use Rattle.uf_top.specs.declared.types.Edit.TheVariants.{Mkdir, Rm}
+use Rattle.uf_top.specs.declared.types.Refusal.{Refusal}
+use Rattle.uf_top.specs.declared.types.Refusal.TheVariants as refusal
+use Rattle.uf_top.specs.Lines.{added_line, name_line, row_line, stat_text}
+use Rattle.uf_top.specs.Statuses.{no_memory}
 
--- the words are `add` and `-n`
-abbrev pub is_add_only_hash : List (List ℕ) → Bool
-is_add_only_hash (first ∷ second ∷ []) = pointwise nat_eq first (codes "add") && pointwise nat_eq second (codes "-n")
-is_add_only_hash words = false
-
--- the row of a file that was added from the input
-abbrev pub added_line : Cid → List ℕ
-added_line c = codes "added " ++ cid_text c ++ 32 ∷ cid_text c ++ 10 ∷ []
-
--- the line that goes to `errors`; nothing at Ok, nor for what no command answers yet
-abbrev pub error_line : Status → List ℕ
-error_line Ok = []
-error_line Rule = codes "error: rule FileTooLong\n"
-error_line Usage = codes "error: usage\n"
-error_line StoreFault = []
-error_line Missing = []
-error_line BadBlock = []
-error_line ReadFault = codes "error: read\n"
-error_line WriteFault = codes "error: write\n"
-error_line Clash = []
-error_line Memory = codes "error: memory\n"
-error_line NotReady = []
-
--- the exit status of the process
-abbrev pub status_number : Status → ℕ
-status_number Ok = 0
-status_number Rule = 1
-status_number Usage = 2
-status_number StoreFault = 3
-status_number Missing = 4
-status_number BadBlock = 5
-status_number ReadFault = 6
-status_number WriteFault = 7
-status_number Clash = 8
-status_number Memory = 9
-status_number NotReady = 10
-
--- what a command answers and prints
+-- what a command prints or why it is refused, what the store stands for then, and the blocks that it holds then
 pub record Reply : Type 0 where
-  pub status : Status
-  pub output : List ℕ
+  pub ends : Result (List ℕ) Refusal
+  pub next : Standing
+  pub held : List Held
 
--- the reply to `add -n` with these bytes as the input: the row of the file, or that the file would be too long
-abbrev pub add_reply : (List ℕ → List ℕ) → List ℕ → Reply
-add_reply hash bytes =
-    if nat_le (length bytes) most_input then record { status = Ok; output = added_line (file_cid hash bytes) }
-    else record { status = Rule; output = [] }
+-- nothing changes: this is printed, or the command is refused
+abbrev pub unchanged : Standing → Result (List ℕ) Refusal → Reply
+unchanged standing ends = record { ends = ends; next = standing; held = [] }
 
--- the answer is the reply, and what is printed is its output
-pub record IsReply (reply : Reply) (status : Status) (held held_now : List ℕ) : Type 0 where
-  pub status_is : status ≡ reply.status
-  pub printed : held_now ≡ held ++ reply.output
+-- the refusal of a store that isn't ready
+abbrev pub not_ready : Standing → Ready → Reply
+not_ready standing why = unchanged standing (Err (refusal.Ready why))
 
--- where input and output tell and no count rose, the answer is the reply, or want of memory
-abbrev pub Answers : (List ℕ → Reply) → Status → Told → Told → Told → Type 0
-Answers reply status (Some bytes) (Some held) (Some held_now) = (status ≡ Memory) ⊎ IsReply (reply bytes) status held held_now
-Answers reply status (Some bytes) (Some held) None = ⊥
-Answers reply status (Some bytes) None told = Unit {0}
-Answers reply status None told told_now = Unit {0}
+-- the refusal by a rule with this path
+abbrev pub refused : Standing → List (List ℕ) → Refused → Reply
+refused standing names why = unchanged standing (Err (refusal.Rule (rule_of names why)))
 
--- where the input tells, these are the bytes that it had left
-abbrev pub AreLeft : Told → List ℕ → Type 0
-AreLeft left bytes = IfSome left (λ b. b ≡ bytes)
+-- the reply of a command that needs the Head
+abbrev pub in_tree : (Profile → Entries → Reply) → Standing → Reply
+in_tree say NoHead = not_ready NoHead ready.NoHead
+in_tree say BadHead = not_ready BadHead ready.BadHead
+in_tree say (Stands p es) = say p es
 
--- the row of some input was printed whole
-pub record PrintsRow (hash : List ℕ → List ℕ) (left held held_now : Told) : Type 0 where
-  pub bytes : List ℕ
-  pub are_left : AreLeft left bytes
-  pub printed : held_now ≡ after held (added_line (file_cid hash bytes))
+-- what is said of what a lookup gives
+abbrev pub looked : Standing → List (List ℕ) → (Tree → List ℕ) → Result Tree Refused → Reply
+looked standing names say (Ok t) = unchanged standing (Ok (say t))
+looked standing names say (Err why) = refused standing names why
 
--- a part of the row of some input was printed
-pub record PrintsPart (hash : List ℕ → List ℕ) (left held held_now : Told) : Type 0 where
-  pub bytes : List ℕ
-  pub are_left : AreLeft left bytes
-  pub part : AppendsPrefix (added_line (file_cid hash bytes)) held held_now
+-- the folder after an edit, before its plan is looked at
+abbrev pub edited_by : Edit → List (List ℕ) → Entries → Result Entries Refused
+edited_by (Mkdir parents) names es = made parents names es
+edited_by (Rm recursive) names es = removed recursive names es
 
--- an answer prints the input's row at Ok, a part of it at WriteFault, and else nothing
-abbrev pub Prints : (List ℕ → List ℕ) → Status → Told → Told → Told → Type 0
-Prints hash Ok left held held_now = PrintsRow hash left held held_now
-Prints hash WriteFault left held held_now = PrintsPart hash left held held_now
-Prints hash status left held held_now = held_now ≡ held
+-- Kubo's default numbers
+abbrev pub usual : Profile
+usual = record { chunk = 262144; width = 174; threshold = 262144 }
 
--- a line was written, or a part of it where the count rose
-pub record IsSent (line : List ℕ) (held held_now : Told) (faults faults_now : ℕ) : Type 0 where
-  pub sent : Sent
-  pub bytes : Sends sent line held held_now
-  pub counts : Counts (is_unsent sent) faults faults_now
+-- the most bytes of a file by a profile: 4194304 pieces
+abbrev pub most_input : Profile → ℕ
+most_input p = p.chunk * 4194304
+
+module _ (X : List ℕ → List ℕ) where
+  -- the CID of the file of these bytes
+  abbrev pub file_cid : Profile → List ℕ → Cid
+  file_cid p bytes = (file_plan X p bytes).entry.cid
+
+  -- the row of the input as a file, unless it would be too long; these blocks are held then
+  abbrev pub added : Standing → (List ℕ → List Held) → Profile → List ℕ → Reply
+  added standing blocks p bytes =
+      if nat_le (length bytes) (most_input p) then record { ends = Ok (added_line (file_cid p bytes)); next = standing; held = blocks bytes }
+      else unchanged standing (Err (refusal.Rule FileTooLong))
+
+  -- `add -n` takes the profile of the Head, where there is one
+  abbrev pub hash_reply : Standing → List ℕ → Reply
+  hash_reply NoHead bytes = added NoHead (λ bytes. []) usual bytes
+  hash_reply BadHead bytes = not_ready BadHead ready.BadHead
+  hash_reply (Stands p es) bytes = added (Stands p es) (λ bytes. []) p bytes
+
+  abbrev pub add_reply : Bool → Standing → List ℕ → Reply
+  add_reply true standing bytes = hash_reply standing bytes
+  add_reply false standing bytes = in_tree (λ p es. added (Stands p es) (λ bytes. (file_plan X p bytes).blocks) p bytes) standing
+
+module _ (X : List ℕ → List ℕ) (N : List ℕ → ℕ) where
+  -- the empty directory, where there was no Head
+  abbrev pub init_reply : Profile → Standing → Reply
+  init_reply p NoHead = record { ends = Ok []; next = Stands p Nothing; held = blocks X N p (Dir Nothing) }
+  init_reply p BadHead = not_ready BadHead ready.HeadThere
+  init_reply p (Stands q es) = not_ready (Stands q es) ready.HeadThere
+
+  -- the names of what is at a path, or its rows
+  abbrev pub listed : Bool → Profile → List (List ℕ) → Tree → List ℕ
+  listed false p names t = flat_map name_line (names_at names t)
+  listed true p names t = flat_map row_line (rows_at X N p names t)
+
+  -- after an edit
+  abbrev pub moved : Profile → Entries → List (List ℕ) → Result Entries Refused → Reply
+  moved p es names (Ok next) = record { ends = Ok []; next = Stands p next; held = blocks X N p (Dir next) }
+  moved p es names (Err why) = refused (Stands p es) names why
+
+  -- the reply of a tree to what is asked at these names
+  abbrev pub tree_reply : Ask → List (List ℕ) → Profile → Entries → Reply
+  tree_reply (Ls long) names p es = looked (Stands p es) names (listed long p names) (at 0 names (Dir es))
+  tree_reply Stat names p es = looked (Stands p es) names (λ t. stat_text (stat_of X N p t)) (at 0 names (Dir es))
+  tree_reply (Edits edit) names p es = moved p es names (allowed X N p (edited_by edit names es))
+
+  -- the reply to a command
+  abbrev pub reply : Command → Standing → List ℕ → Reply
+  reply (Init p) standing bytes = init_reply p standing
+  reply (Add only_hash) standing bytes = add_reply X only_hash standing bytes
+  reply (At ask path) standing bytes = in_tree (tree_reply ask path.names) standing
+
+  -- the reply to words
+  abbrev pub reply_to : Result Command Refusal → Standing → List ℕ → Reply
+  reply_to (Ok command) standing bytes = reply command standing bytes
+  reply_to (Err why) standing bytes = unchanged standing (Err why)
+
+  -- there was no memory, and what stood stands
+  pub record IsWanting (standing : Standing) (ends : Result (List ℕ) Refusal) (now : Told) : Type 0 where
+    pub ends_are : ends ≡ Err no_memory
+    pub stands : TellsAs X N now standing
+
+  -- the command ends as the reply says, and what it says stands and is held
+  pub record IsReply (given : Reply) (ends : Result (List ℕ) Refusal) (now : Told) : Type 0 where
+    pub ends_are : ends ≡ given.ends
+    pub stands : TellsAs X N now given.next
+    pub held : TellsHeld now given.held
+
+  -- the answer is the reply, or want of memory
+  abbrev pub Answers : Standing → Reply → Result (List ℕ) Refusal → Told → Type 0
+  Answers standing given ends now = IsWanting standing ends now ⊎ IsReply given ends now

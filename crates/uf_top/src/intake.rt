@@ -1,15 +1,19 @@
 // An input that is read as a file.
-ghost use Rattle.std.specs.Prelude.{◌≡◌, ◌<◌, length, true, IfOk, Ok, OnOk, vec_len};
+ghost use Rattle.std.specs.Prelude.{◌≡◌, ◌<◌, length, false, true, IfOk, IsTrue, Ok, OnOk, vec_len};
 ghost use Rattle.uf_edge.specs.Counts.{Counts};
-ghost use Rattle.uf_top.specs.Intake.{FeedsNext, FeedsPiece, FeedsRest, GrowsBy, IsFileOf, is_failed};
+ghost use Rattle.uf_store.specs.Keeping.{KeepsGood, SavesOnly};
+ghost use Rattle.uf_top.specs.Causes.{is_read};
+ghost use Rattle.uf_top.specs.Intake.{Closes, FeedsNext, FeedsPiece, FeedsRest, GrowsBy, IsFileOf, ShownIn};
+ghost use Rattle.uf_tree.specs.Profiles.{is_profile};
+ghost use Rattle.uf_tree.specs.declared.profile.Profile.{Profile as TheProfile};
 
+use crate::Refusal;
 use std::alloc::{AllocError, Global};
-use std::marker::Brand;
-use std::sync::ledger::{Blank, Ledger};
+use std::sync::ledger::Ledger;
 use uf_build::{BuildFault, Builder};
-use uf_cid::BlockHash;
 use uf_edge::{Filled, Source, fill};
-use uf_store::{Discard, Steps};
+use uf_mfs::Rule;
+use uf_store::{Steps, Store, StoreFault};
 use uf_tree::{Entry, Profile};
 
 // The bytes of a piece of a file by the usual profile.
@@ -18,72 +22,65 @@ const PIECE: usize = 262144;
 // How many pieces are read at once: as many as are hashed side by side.
 const GROUP: usize = 8;
 
-/// Why an input gives no file.
-#[derive(Clone, Copy, Debug, PartialEq, Eq)]
-pub enum NoFile {
-    TooLong,
-    Failed,
-    Memory,
-}
-
-/// The entry of the file that the input has, by the usual profile. Nothing is kept, and no touch is counted.
-pub fn file_of<X: BlockHash, I: Source>(alloc: Global, input: &mut I) -> Result<Entry, NoFile>
-    ensures file { IsFileOf X.block32 result (I.left input.old) (I.left input.new) }
-    ensures counts { Counts (is_failed result) (I.faults input.old) (I.faults input.new) }
-{
-    counted_file_of::<X, I, Brand>(alloc, input, Blank::new(1))
-}
-
-// The same, with a count of its own for the touches of the store that keeps nothing.
-fn counted_file_of<X: BlockHash, I: Source, L: Ledger>(
+// The entry of the file that the input has, whose blocks are saved.
+pub fn file_of<S: Store, I: Source, L: Ledger>(
     alloc: Global,
-    input: &mut I,
-    blank: Blank,
-) -> Result<Entry, NoFile>
-    requires name { blank.name ≡ L.name }
-    requires parts { blank.parts ≡ L.parts }
-    requires some { 0 < blank.parts }
-    ensures file { IsFileOf X.block32 result (I.left input.old) (I.left input.new) }
-    ensures counts { Counts (is_failed result) (I.faults input.old) (I.faults input.new) }
-{
-    let mut touches = Steps::<L>::new(blank);
-    built_file_of::<X, I, L>(alloc, input, &mut touches)
-}
-
-// The same, with the touches that a builder over a store that keeps nothing makes.
-fn built_file_of<X: BlockHash, I: Source, L: Ledger>(
-    alloc: Global,
+    profile: Profile,
+    store: &mut S,
     input: &mut I,
     touches: &mut Steps<L>,
-) -> Result<Entry, NoFile>
-    ensures file { IsFileOf X.block32 result (I.left input.old) (I.left input.new) }
-    ensures counts { Counts (is_failed result) (I.faults input.old) (I.faults input.new) }
+) -> Result<Entry, Refusal>
+    requires { IsTrue (is_profile profile) }
+    ensures file { IsFileOf S.X.block32 profile (S.seen store.new).told result (I.left input.old) (I.left input.new) }
+    ensures counts { Counts (is_read result) (I.faults input.old) (I.faults input.new) }
+    ensures cause { ShownIn S.X.block32 result (S.seen store.old) (S.seen store.new) }
+    ensures good { KeepsGood S.X.block32 (S.seen store.old).told (S.seen store.new).told }
+    ensures saves { SavesOnly (S.seen store.old).told (S.seen store.new).told }
 {
-    let mut store = Discard::<X>::new();
-    let mut builder = Builder::new(alloc, Profile::usual());
-    match feed_all(alloc, &mut builder, &mut store, input, touches) {
-        Ok(()) => {}
-        Err(why) => return Err(why),
+    let mut builder = Builder::new(alloc, profile);
+    match feed_all(alloc, &mut builder, store, input, touches) {
+        Ok(()) => closed(builder, store, touches),
+        Err(why) => Err(why),
     }
-    match builder.finish(&mut store, touches) {
+}
+
+// The entry of what a builder was fed.
+fn closed<S: Store, L: Ledger>(
+    builder: Builder,
+    store: &mut S,
+    touches: &mut Steps<L>,
+) -> Result<Entry, Refusal>
+    ensures closes { Closes S.X.block32 result (S.seen store.old).told (S.seen store.new).told builder }
+    ensures reads { is_read result ≡ false }
+    ensures cause { ShownIn S.X.block32 result (S.seen store.old) (S.seen store.new) }
+    ensures good { KeepsGood S.X.block32 (S.seen store.old).told (S.seen store.new).told }
+    ensures saves { SavesOnly (S.seen store.old).told (S.seen store.new).told }
+{
+    match builder.finish(store, touches) {
         Ok(entry) => Ok(entry),
-        Err(_) => Err(NoFile::Memory),
+        Err(BuildFault::Store(fault)) => Err(Refusal::Store(fault)),
+        Err(BuildFault::FileTooLong | BuildFault::Spent) => {
+            Err(Refusal::Store(StoreFault::Memory))
+        }
     }
 }
 
 // Feeds the builder all that is left: one piece, so that a short input costs no more than that, and then groups of pieces.
-fn feed_all<X: BlockHash, I: Source, L: Ledger>(
+fn feed_all<S: Store, I: Source, L: Ledger>(
     alloc: Global,
     builder: &mut Builder,
-    store: &mut Discard<X>,
+    store: &mut S,
     input: &mut I,
     touches: &mut Steps<L>,
-) -> Result<(), NoFile>
-    ensures feeds { FeedsRest X.block32 result builder.old builder.new (I.left input.old) (I.left input.new) }
-    ensures counts { Counts (is_failed result) (I.faults input.old) (I.faults input.new) }
+) -> Result<(), Refusal>
+    ensures feeds { (p : TheProfile) → FeedsRest S.X.block32 p result (S.seen store.old).told (S.seen store.new).told builder.old builder.new (I.left input.old) (I.left input.new) }
+    ensures counts { Counts (is_read result) (I.faults input.old) (I.faults input.new) }
+    ensures cause { ShownIn S.X.block32 result (S.seen store.old) (S.seen store.new) }
+    ensures good { KeepsGood S.X.block32 (S.seen store.old).told (S.seen store.new).told }
+    ensures saves { SavesOnly (S.seen store.old).told (S.seen store.new).told }
 {
     let Ok(mut piece) = zeros(alloc, PIECE) else {
-        return Err(NoFile::Memory);
+        return Err(Refusal::Store(StoreFault::Memory));
     };
     match feed_next(builder, store, input, &mut piece, touches) {
         Ok(true) => {}
@@ -91,22 +88,25 @@ fn feed_all<X: BlockHash, I: Source, L: Ledger>(
         Err(why) => return Err(why),
     }
     let Ok(mut pieces) = zeros(alloc, GROUP * PIECE) else {
-        return Err(NoFile::Memory);
+        return Err(Refusal::Store(StoreFault::Memory));
     };
     feed_rest(builder, store, input, &mut pieces, touches)
 }
 
 // Feeds the builder all that is left, as much at once as the buffer has room for.
-fn feed_rest<X: BlockHash, I: Source, L: Ledger>(
+fn feed_rest<S: Store, I: Source, L: Ledger>(
     builder: &mut Builder,
-    store: &mut Discard<X>,
+    store: &mut S,
     input: &mut I,
     buffer: &mut [u8],
     touches: &mut Steps<L>,
-) -> Result<(), NoFile>
+) -> Result<(), Refusal>
     requires { 0 < length buffer.old }
-    ensures feeds { FeedsRest X.block32 result builder.old builder.new (I.left input.old) (I.left input.new) }
-    ensures counts { Counts (is_failed result) (I.faults input.old) (I.faults input.new) }
+    ensures feeds { (p : TheProfile) → FeedsRest S.X.block32 p result (S.seen store.old).told (S.seen store.new).told builder.old builder.new (I.left input.old) (I.left input.new) }
+    ensures counts { Counts (is_read result) (I.faults input.old) (I.faults input.new) }
+    ensures cause { ShownIn S.X.block32 result (S.seen store.old) (S.seen store.new) }
+    ensures good { KeepsGood S.X.block32 (S.seen store.old).told (S.seen store.new).told }
+    ensures saves { SavesOnly (S.seen store.old).told (S.seen store.new).told }
 {
     'pieces: loop {
         match feed_next(builder, store, input, buffer, touches) {
@@ -118,17 +118,20 @@ fn feed_rest<X: BlockHash, I: Source, L: Ledger>(
 }
 
 // Fills the buffer and feeds the builder what it has then: whether more may follow.
-fn feed_next<X: BlockHash, I: Source, L: Ledger>(
+fn feed_next<S: Store, I: Source, L: Ledger>(
     builder: &mut Builder,
-    store: &mut Discard<X>,
+    store: &mut S,
     input: &mut I,
     buffer: &mut [u8],
     touches: &mut Steps<L>,
-) -> Result<bool, NoFile>
+) -> Result<bool, Refusal>
     requires { 0 < length buffer.old }
-    ensures feeds { FeedsNext X.block32 result builder.old builder.new (I.left input.old) (I.left input.new) }
-    ensures counts { Counts (is_failed result) (I.faults input.old) (I.faults input.new) }
+    ensures feeds { (p : TheProfile) → FeedsNext S.X.block32 p result (S.seen store.old).told (S.seen store.new).told builder.old builder.new (I.left input.old) (I.left input.new) }
+    ensures counts { Counts (is_read result) (I.faults input.old) (I.faults input.new) }
     ensures grows { result ≡ Ok true → GrowsBy (length buffer.new) builder.old builder.new }
+    ensures cause { ShownIn S.X.block32 result (S.seen store.old) (S.seen store.new) }
+    ensures good { KeepsGood S.X.block32 (S.seen store.old).told (S.seen store.new).told }
+    ensures saves { SavesOnly (S.seen store.old).told (S.seen store.new).told }
 {
     match fill(input, buffer) {
         Filled::Full => match feed_piece(builder, store, buffer, touches) {
@@ -139,24 +142,29 @@ fn feed_next<X: BlockHash, I: Source, L: Ledger>(
             Ok(()) => Ok(false),
             Err(why) => Err(why),
         },
-        Filled::Failed => Err(NoFile::Failed),
+        Filled::Failed => Err(Refusal::Read),
     }
 }
 
-// Feeds the builder a piece. A store that keeps nothing refuses no block, so that what is left of its faults is want of memory.
-fn feed_piece<X: BlockHash, L: Ledger>(
+// Feeds the builder a piece.
+fn feed_piece<S: Store, L: Ledger>(
     builder: &mut Builder,
-    store: &mut Discard<X>,
+    store: &mut S,
     piece: &[u8],
     touches: &mut Steps<L>,
-) -> Result<(), NoFile>
-    ensures feeds { FeedsPiece X.block32 piece.now result builder.old builder.new }
+) -> Result<(), Refusal>
+    ensures feeds { (p : TheProfile) → FeedsPiece S.X.block32 p piece.now result (S.seen store.old).told (S.seen store.new).told builder.old builder.new }
     ensures count { OnOk result (GrowsBy (length piece.now) builder.old builder.new) }
+    ensures reads { is_read result ≡ false }
+    ensures cause { ShownIn S.X.block32 result (S.seen store.old) (S.seen store.new) }
+    ensures good { KeepsGood S.X.block32 (S.seen store.old).told (S.seen store.new).told }
+    ensures saves { SavesOnly (S.seen store.old).told (S.seen store.new).told }
 {
     match builder.feed(store, piece, touches) {
         Ok(()) => Ok(()),
-        Err(BuildFault::FileTooLong) => Err(NoFile::TooLong),
-        Err(BuildFault::Spent | BuildFault::Store(_)) => Err(NoFile::Memory),
+        Err(BuildFault::FileTooLong) => Err(Refusal::Rule(Rule::FileTooLong)),
+        Err(BuildFault::Spent) => Err(Refusal::Store(StoreFault::Memory)),
+        Err(BuildFault::Store(fault)) => Err(Refusal::Store(fault)),
     }
 }
 

@@ -1,4 +1,4 @@
-// The answers of a command.
+// How a command ends.
 ghost use Rattle.std.specs.Prelude.{◌≡◌};
 
 /// How a command ended.
@@ -18,7 +18,7 @@ pub enum Status {
 }
 
 impl Status {
-    ghost use Rattle.uf_top.specs.Reply.{error_line, status_number};
+    ghost use Rattle.uf_top.specs.Statuses.{plain_line, status_number};
 
     /// The exit status of the process, 0 to 10 in the order of the variants.
     pub fn number(&self) -> u8
@@ -27,18 +27,19 @@ impl Status {
         *self as u8
     }
 
-    /// The line that goes to `errors`, with its end. There is none at `Ok`, nor for what no command answers yet.
-    pub fn error_line(&self) -> &'static [u8]
-        ensures { result.now ≡ error_line self.now }
+    /// The line that goes to `errors`, with its end, where the status alone says it; nothing where there is none, or where
+    /// it has details.
+    pub fn plain_line(&self) -> &'static [u8]
+        ensures { result.now ≡ plain_line self.now }
     {
         match self {
-            Status::Rule => b"error: rule FileTooLong\n",
             Status::Usage => b"error: usage\n",
+            Status::StoreFault => b"error: store\n",
             Status::ReadFault => b"error: read\n",
             Status::WriteFault => b"error: write\n",
             Status::Memory => b"error: memory\n",
             Status::Ok
-            | Status::StoreFault
+            | Status::Rule
             | Status::Missing
             | Status::BadBlock
             | Status::Clash

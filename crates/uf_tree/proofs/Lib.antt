@@ -9,9 +9,8 @@ pub mod Each
 pub mod Files
 pub mod Groups
 pub mod HeadAgain
+pub mod HeadIs
 pub mod HeadLines
-pub mod Held
-pub mod Least
 pub mod Naming
 pub mod Nested
 pub mod Reading

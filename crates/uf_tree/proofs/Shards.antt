@@ -183,7 +183,7 @@ one_slot p q h k e =
     let item : p.1 ≡ q.1 = same_item p.1 q.1 h.item k.item names.rest entry in
     λ i. (slot i, item i)
 
-one_shard : (l m : List InSlot) → AllByRecursion IsInSlot l → AllByRecursion IsInSlot m → map slot_link l ≡ map slot_link m → l ≡ m
+pub one_shard : (l m : List InSlot) → AllByRecursion IsInSlot l → AllByRecursion IsInSlot m → map slot_link l ≡ map slot_link m → l ≡ m
 one_shard [] [] h k e = refl
 one_shard [] (q ∷ m) h k e = absurd cc
 one_shard (p ∷ l) [] h k e = absurd cc

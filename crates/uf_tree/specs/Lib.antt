@@ -7,16 +7,15 @@ pub mod FilePlan
 pub mod FileSub
 pub mod HeadReading
 pub mod Heads
-pub mod Least
 pub mod Names
 pub mod Nodes
 pub mod Profiles
 pub mod Rising
 pub mod Roles
+pub mod Roots
 pub mod ShardPlan
 pub mod Shardable
 pub mod Standing
 pub mod Tree
 pub mod TreePlan
 pub mod Validity
-pub mod Vectors

@@ -1,13 +1,17 @@
 // The note Head, version 1, written and read (this project's own format).
-ghost use Rattle.std.specs.Prelude.{◌≡◌, ◌<◌, ◌≤◌, ◌^◌, ◌++◌, ◌↔◌, ◌&&◌, IfOk, IsTrue, OnOk, codes, length, nat_le, if◌then◌else◌};
+ghost use Rattle.std.specs.Prelude.{◌≡◌, ℕ, List, ◌<◌, ◌≤◌, ◌^◌, ◌++◌, ◌↔◌, ◌&&◌, ◌⊎◌, IfErr, IfOk, IsTrue, OnOk, codes, length, nat_le, if◌then◌else◌};
 ghost use Rattle.std.specs.Fmt.{decimal};
 ghost use Rattle.std.specs.Option.{option_copied, option_map};
 ghost use Rattle.uf_cid.specs.Read.{IsCid};
 ghost use Rattle.uf_cid.specs.declared.cid.Cid.{Cid as TheCid};
 ghost use Rattle.uf_cid.specs.declared.cid.Codec.TheVariants.{DagPb as NodeCodec};
 ghost use Rattle.uf_tree.specs.HeadReading.{GivesHead, behind as behind_word, first_line as first_line_of, head_reads, is_node as is_node_codec, line_at, number_in, number_line as number_line_of, root_in, root_line as root_line_of, worded_at};
-ghost use Rattle.uf_tree.specs.Heads.{head_text as text_of_head, line as the_line};
+ghost use Rattle.uf_tree.specs.Heads.{head_text as text_of_head, line as the_line, IsHeadOf};
 ghost use Rattle.uf_tree.specs.Profiles.{is_profile};
+ghost use Rattle.uf_tree.specs.Standing.{IsRefusedText};
+ghost use Rattle.uf_tree.specs.declared.head_fault.HeadFault.{HeadFault as TheFault};
+ghost use Rattle.uf_tree.specs.declared.head_fault.HeadFault.TheVariants as head_faults;
+ghost use Rattle.uf_tree.specs.declared.profile.Head.{Head as TheHead};
 ghost use Rattle.uf_tree.specs.declared.profile.Profile.{Profile as TheProfile};
 
 use crate::{Head, HeadFault, Profile};
@@ -49,10 +53,13 @@ fn put_line(out: &mut Block, word: &[u8], rest: &[u8]) -> Result<(), Memory>
     Ok(())
 }
 
-/// The Head that a text spells, or its first fault from left to right.
+/// The Head that a text spells, or its first fault from left to right. The texts that are read are those that `head_text`
+/// writes, and no other.
 #[tactic(auto, unfolding(crate::specs::HeadReading::head_reads))]
 pub fn read_head(alloc: Global, bytes: &[u8]) -> Result<Head, HeadFault>
-    ensures { GivesHead (λ h. h) result (head_reads bytes.now) }
+    ensures read { GivesHead (λ h. h) result (head_reads bytes.now) }
+    ensures written { IfOk result (λ head. IsHeadOf bytes.now head) }
+    ensures refused { IfErr result (λ fault. (fault ≡ head_faults.Memory) ⊎ IsRefusedText bytes.now) }
 {
     let rest = match first_line(bytes) {
         Err(fault) => return Err(fault),
@@ -238,4 +245,10 @@ fn is_node(codec: Codec) -> bool
 /// The text of a Head is read as that Head.
 pub fn heads_are_read_again()
     ensures { (p : TheProfile) (c : TheCid) → IsTrue (is_profile p) → IsCid c → c.codec ≡ NodeCodec → head_reads (text_of_head p c) ≡ Ok (record { profile = p; root = c }) }
+{}
+
+/// A text that is read as a Head is the text of that Head, and a text that isn't read is that of none.
+pub fn heads_are_their_texts()
+    ensures read { (bytes : List ℕ) (head : TheHead) → head_reads bytes ≡ Ok head → IsHeadOf bytes head }
+    ensures refused { (bytes : List ℕ) (fault : TheFault) → head_reads bytes ≡ Err fault → IsRefusedText bytes }
 {}

@@ -4,11 +4,11 @@
 
 mod bits;
 mod checks;
+mod copies;
 mod dir_codec;
 mod file_codec;
 mod head_fault;
 mod heads;
-pub mod laws;
 mod limits;
 mod name;
 mod nodes;
@@ -16,13 +16,12 @@ mod profile;
 mod shard_codec;
 mod shard_read;
 mod spelling;
-pub mod vectors;
 
 pub use checks::{is_directory, is_file_node, is_shard};
 pub use dir_codec::{dir_node, read_dir_node};
 pub use file_codec::{file_node, read_file_node};
 pub use head_fault::HeadFault;
-pub use heads::{head_text, heads_are_read_again, read_head};
+pub use heads::{head_text, heads_are_read_again, heads_are_their_texts, read_head};
 pub use limits::BadProfile;
 pub use name::{Name, NameFault, Names};
 pub use nodes::{Entry, FileNode, Item, Items, Pair, Pairs, Part, Parts, Placed};

@@ -152,12 +152,12 @@ fn file_again(rt: &HostRuntime, bytes: &[u8]) -> Result<bool, StrictFault> {
 
 fn dir_again(rt: &HostRuntime, bytes: &[u8]) -> Result<bool, StrictFault> {
     let pairs = read_dir_node(rt.alloc(), bytes)?;
-    Ok(dir_node(rt.alloc(), &pairs)?.as_slice() == bytes)
+    Ok(dir_node(rt.alloc(), &pairs.copy()?)?.as_slice() == bytes)
 }
 
 fn shard_again(rt: &HostRuntime, bytes: &[u8]) -> Result<bool, StrictFault> {
     let items = read_shard_node(rt.alloc(), bytes)?;
-    Ok(shard_node(rt.alloc(), &items)?.as_slice() == bytes)
+    Ok(shard_node(rt.alloc(), &items.copy()?)?.as_slice() == bytes)
 }
 
 #[test]

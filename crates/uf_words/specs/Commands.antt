@@ -1,6 +1,6 @@
 -- Which command a list of words is: the first words, then the options of the command in the order of its usage line, each
 -- at most once, then its arguments.
-use Rattle.std.specs.Prelude.{◌≡◌, ℕ, Bool, false, List, [], ◌∷◌, codes, if◌then◌else◌}
+use Rattle.std.specs.Prelude.{◌≡◌, ℕ, Bool, false, List, [], ◌∷◌, codes, if◌then◌else◌, IsTrue}
 use Rattle.std.specs.Str.{bytes_eq}
 use Rattle.std.specs.Option.{option_map, option_and_then}
 use Rattle.std.specs.declared.option.Option.{Option}
@@ -91,3 +91,8 @@ command_of (first ∷ rest) =
     else if bytes_eq first (codes "add") then add_words rest
     else if bytes_eq first (codes "files") then files_words rest
     else None
+
+-- the profile of an `init` is accepted; no other command has one
+abbrev pub HasAcceptedProfile : Cmd → Type 0
+HasAcceptedProfile (cmd.Init profile) = IsTrue (is_profile profile)
+HasAcceptedProfile other = Unit {0}

@@ -1,6 +1,6 @@
 // Commands read from words.
-ghost use Rattle.std.specs.Prelude.{◌≡◌, [], map, string_bytes, MatchResult};
-ghost use Rattle.uf_words.specs.Commands.{ReadsWords, add_words, command_of, files_words, init_of, init_words, ls_words, mkdir_words, rm_words, stat_words};
+ghost use Rattle.std.specs.Prelude.{◌≡◌, [], map, string_bytes, IfOk, MatchResult};
+ghost use Rattle.uf_words.specs.Commands.{HasAcceptedProfile, ReadsWords, add_words, command_of, files_words, init_of, init_words, ls_words, mkdir_words, rm_words, stat_words};
 ghost use Rattle.uf_words.specs.declared.command.WordFault.TheVariants as faults;
 
 use crate::options::{argument, flag, number_option};
@@ -13,7 +13,8 @@ use uf_tree::Profile;
 /// its short spelling where it has one, then its arguments, none of which begins with `-`.
 #[tactic(auto, unfolding(crate::specs::Commands::command_of))]
 pub fn read_words(alloc: Global, words: &[String]) -> Result<Cmd, WordFault>
-    ensures { ReadsWords result (command_of (map string_bytes words.now)) }
+    ensures exact { ReadsWords result (command_of (map string_bytes words.now)) }
+    ensures profile { IfOk result HasAcceptedProfile }
 {
     let [first, rest @ ..] = words else {
         return Err(WordFault::Usage);
@@ -53,7 +54,8 @@ fn read_files(alloc: Global, words: &[String]) -> Result<Cmd, WordFault>
 
 // `init [--chunk N] [--width N] [--threshold N]`
 fn read_init(words: &[String]) -> Result<Cmd, WordFault>
-    ensures { ReadsWords result (init_words (map string_bytes words.now)) }
+    ensures exact { ReadsWords result (init_words (map string_bytes words.now)) }
+    ensures profile { IfOk result HasAcceptedProfile }
 {
     let Some((chunk, words)) = number_option(words, "--chunk", 262144) else {
         return Err(WordFault::Usage);
@@ -73,7 +75,8 @@ fn read_init(words: &[String]) -> Result<Cmd, WordFault>
 
 // `init` with these numbers, where they are a profile.
 fn init(chunk: u64, width: u64, threshold: u64) -> Result<Cmd, WordFault>
-    ensures { ReadsWords result (init_of (record { chunk = chunk; width = width; threshold = threshold }) []) }
+    ensures exact { ReadsWords result (init_of (record { chunk = chunk; width = width; threshold = threshold }) []) }
+    ensures profile { IfOk result HasAcceptedProfile }
 {
     let (Ok(chunk), Ok(width), Ok(threshold)) = (
         u32::try_from(chunk),

@@ -1,4 +1,4 @@
-use Rattle.std.proofs.Common.{◌≡◌, ◌<◌, ◌^◌, arith}
+use Rattle.std.proofs.Common.{◌<◌, ◌^◌, arith}
 use Rattle.uf_build.proofs.nodes.link_to.Goals as goal
 
 pub returns-clause-valid : goal.returns-clause-valid

@@ -1,12 +1,11 @@
-use Rattle.std.proofs.Common.{◌≡◌, ℕ, ◌+◌, ◌-◌, ◌<◌, ◌≤◌, List, [], ◌∷◌, ◌++◌, length, refl, arith, rules, ap, sym, ◌∙◌, subst, get_or, nat_eq, length-append}
+use Rattle.std.proofs.Common.{◌≡◌, ℕ, ◌+◌, ◌<◌, List, [], ◌++◌, length, refl, arith, rules, ap, ◌∙◌, subst, nat_eq, length-append}
 use Rattle.std.specs.Option.{option_to_list}
 use Rattle.std.proofs.lemmas.Grind.{common_steps}
 use Rattle.std.proofs.lemmas.Result.{on_ok_weaker, IfOk-weaker}
 use Rattle.uf_cid.specs.Blocks.{Held}
 use Rattle.uf_store.specs.Keeping.{Holds}
 use Rattle.uf_store.proofs.Keeping.{KeepsGood-trans, SavesOnly-trans, Holds-append, Holds-kept}
-use Rattle.uf_tree.specs.declared.nodes.Part.{Part}
-use Rattle.uf_build.specs.Rows.{close_up, close_held_up, carry, carry_held}
+use Rattle.uf_build.specs.Rows.{carry_held}
 use Rattle.uf_build.proofs.Holding.{Holds-nil}
 use Rattle.uf_build.proofs.Up.{close-past, close_held-past, close-next, sizes-closed, short-up, falls, next-level, carry-good}
 use Rattle.uf_build.proofs.rows.+close.Goals as goal
@@ -101,3 +100,23 @@ returns-clause-touches g t c =
       c.close_row.ensures.touches,
       c.close.ensures.touches,
     )
+
+pub returns-then-level-len-clause-count : goal.returns-then-level-len-clause-count
+returns-then-level-len-clause-count g t c =
+    let top : c.args.level ≡ length c.args.rows.now.items = grind (arith, common_steps) in
+    omega (arith, ap length (close_held-past g.S.X.BlockHash.block32 c.args.width c.args.level (option_to_list c.args.carried) c.args.rows.now.items top))
+
+pub returns-clause-saves : goal.returns-clause-saves
+returns-clause-saves g t c = SavesOnly-trans _ _ _ c.close_row.ensures.saves c.close.ensures.saves
+
+pub returns-clause-count : goal.returns-clause-count
+returns-clause-count g t c =
+    let lt : c.args.level < length c.args.rows.now.items = grind (arith, common_steps) in
+    let count : c.len-2.result ≡ length c.args.rows.now.items = grind (arith, common_steps) in
+    let hash : List ℕ → List ℕ = g.S.X.BlockHash.block32 in
+    let none : c.replace-row.new.dest ≡ [] = c.replace-row.ensures.after ∙ c.new.ensures in
+    let same = close-next hash c.args.width c.args.level c.len-2.result (option_to_list c.args.carried) (option_to_list c.in-Ok.up) c.args.rows.now.items c.index_mut.result.now c.replace-row.result
+    c.replace-row.new.dest lt c.index_mut.ensures.value c.replace-row.ensures.value count c.in-Ok.ensures.part none in
+    on_ok_weaker c.close.result
+    (λ nodes. omega (arith, ap length same.1, length-append (carry_held hash (nat_eq (c.args.level + 1) c.len-2.result) (c.replace-row.result ++ option_to_list c.args.carried)), c.in-Ok.ensures.count, nodes))
+    c.close.ensures.count

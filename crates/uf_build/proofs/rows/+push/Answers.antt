@@ -1,12 +1,11 @@
-use Rattle.std.proofs.Common.{◌≡◌, ℕ, ◌+◌, ◌-◌, ◌<◌, ◌≤◌, List, [], ◌∷◌, ◌++◌, length, refl, arith, rules, ap, sym, ◌∙◌, subst, get_or}
+use Rattle.std.proofs.Common.{◌≡◌, ◌<◌, List, [], ◌∷◌, length, refl, arith, rules, ap, ◌∙◌, subst}
 use Rattle.std.proofs.lemmas.Grind.{common_steps}
 use Rattle.std.proofs.lemmas.Result.{on_ok_weaker}
 use Rattle.uf_cid.specs.Blocks.{Held}
 use Rattle.uf_store.specs.Keeping.{Holds}
-use Rattle.uf_store.proofs.Keeping.{KeepsGood-trans, SavesOnly-trans}
+use Rattle.uf_store.proofs.Keeping.{SavesOnly-trans}
 use Rattle.uf_tree.specs.FilePlan.{node_part, node_held}
 use Rattle.uf_tree.specs.declared.nodes.Part.{Part}
-use Rattle.uf_build.specs.Rows.{held_up}
 use Rattle.uf_build.proofs.Holding.{Holds-nil, Holds-more}
 use Rattle.uf_build.proofs.Up.{push-first, held-first, push-room, push-node, one-held, sizes-up, short-up, falls, next-level}
 use Rattle.uf_build.proofs.rows.+push.Goals as goal
@@ -99,3 +98,23 @@ returns-clause-touches g t c =
     let same = push-node g.S.X.BlockHash.block32 c.args.width c.args.level c.args.part c.in-Ok-save_node.node c.args.rows.now.items c.index_mut-row.result.now c.push.new.self c.new.result lt
     c.index_mut-row.ensures.value c.in-Ok-push.ensures.ok (omega (arith, c.len-2.ensures)) made c.new.ensures in
     omega (arith, ap length same.1, c.save_node.ensures.touches, c.push-2.ensures.touches)
+
+pub returns-in-Ok-clause-count : goal.returns-in-Ok-clause-count
+returns-in-Ok-clause-count g t c =
+    let top : c.args.level ≡ length c.args.rows.now.items = grind (arith, common_steps) in
+    omega (arith, ap length (held-first g.S.X.BlockHash.block32 c.args.width c.args.level c.args.part c.args.rows.now.items top))
+
+pub returns-then-len-width-clause-count : goal.returns-then-len-width-clause-count
+returns-then-len-width-clause-count g t c =
+    let lt : c.args.level < length c.args.rows.now.items = grind (arith, common_steps) in
+    let none = (push-room g.S.X.BlockHash.block32 c.args.width c.args.level c.args.part c.args.rows.now.items c.index_mut-row.result.now c.push.new.self lt
+    c.index_mut-row.ensures.value c.in-Ok-push.ensures.ok (omega (arith, c.len-2.ensures))).1 in
+    omega (arith, ap length none)
+
+pub returns-clause-count : goal.returns-clause-count
+returns-clause-count g t c =
+    let lt : c.args.level < length c.args.rows.now.items = grind (arith, common_steps) in
+    let made : c.in-Ok-save_node.node ≡ node_part g.S.X.BlockHash.block32 c.push.new.self = c.in-Ok-save_node.ensures.part ∙ ap (node_part g.S.X.BlockHash.block32) c.as_slice.ensures in
+    let same = push-node g.S.X.BlockHash.block32 c.args.width c.args.level c.args.part c.in-Ok-save_node.node c.args.rows.now.items c.index_mut-row.result.now c.push.new.self c.new.result lt
+    c.index_mut-row.ensures.value c.in-Ok-push.ensures.ok (omega (arith, c.len-2.ensures)) made c.new.ensures in
+    on_ok_weaker c.push-2.result (λ count. omega (arith, ap length same.1, c.in-Ok-save_node.ensures.touch, count)) c.push-2.ensures.count

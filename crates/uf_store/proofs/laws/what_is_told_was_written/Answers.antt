@@ -1,4 +1,3 @@
-use Rattle.std.proofs.Common.{refl}
 use Rattle.uf_store.proofs.Plain.{stays_plain}
 use Rattle.uf_store.proofs.laws.what_is_told_was_written.Goals as goal
 

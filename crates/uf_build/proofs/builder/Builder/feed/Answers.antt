@@ -1,6 +1,9 @@
-use Rattle.std.proofs.Common.{◌≡◌, ℕ, List, ◌++◌, sym, subst}
+use Rattle.std.proofs.Common.{◌≡◌, ◌+◌, ℕ, List, ◌++◌, sym, subst}
 use Rattle.uf_tree.specs.declared.profile.Profile.{Profile}
-use Rattle.uf_build.specs.Building.{Any, Building, Builds, IsHeld, HasFed, HoldsFed}
+use Rattle.uf_tree.proofs.Told.{kept}
+use Rattle.uf_build.specs.Building.{Any, Building, Builds, IsHeld, HasFed, HoldsFed, SavesUpTo, saved_by}
+use Rattle.uf_build.specs.Rows.{saved_over}
+use Rattle.uf_build.proofs.Ending.{up-to-none, up-to-done, most-by}
 use Rattle.uf_build.proofs.builder.Builder.feed.Goals as goal
 
 pub returns-in-Ok-clause-fed : goal.returns-in-Ok-clause-fed
@@ -20,3 +23,40 @@ returns-in-Ok-clause-held g c = λ bytes h.
     let before = subst (λ (b : Building). Builds hash (IsHeld told) b.profile bytes b.begun b.rows) (sym c.self.view_is) h in
     subst (λ (p : Profile). Builds hash (IsHeld told_now) p (bytes ++ c.args.piece.now) c.take.new.self.begun.items c.take.new.self.rows.items) (sym c.take.ensures.profile)
     (c.in-Ok.ensures.took.feeds.held bytes before)
+
+pub returns-in-Ok-clause-saved : goal.returns-in-Ok-clause-saved
+unfolding saved_by
+returns-in-Ok-clause-saved g c =
+    subst (λ (b : Building). c.take.new.touches + saved_over b.profile.width b.rows ≡ c.args.touches.now + saved_over c.take.new.self.profile.width c.take.new.self.rows.items) c.self.view_is
+    (subst (λ (p : Profile). c.take.new.touches + saved_over c.self.inside.layout.profile.width c.self.inside.layout.rows.items ≡ c.args.touches.now + saved_over p.width c.take.new.self.rows.items)
+    (sym c.take.ensures.profile) c.in-Ok.ensures.took.feeds.saves)
+
+pub returns-then-self-clause-most : goal.returns-then-self-clause-most
+returns-then-self-clause-most g c =
+    let l = c.self.inside.layout in
+    let p = kept l.profile c.self.invariant.profile in
+    most-by g.S.X.BlockHash.block32 c.args.self.now c.args.piece.now c.args.touches.now c.args.touches.now
+    (subst (λ (b : Building). SavesUpTo g.S.X.BlockHash.block32 b.profile c.args.piece.now b.begun b.rows c.args.touches.now c.args.touches.now) c.self.view_is
+    (up-to-none g.S.X.BlockHash.block32 l.profile p.some p.two c.args.piece.now l.begun.items l.rows.items c.args.touches.now))
+
+pub returns-then-more-most-clause-most : goal.returns-then-more-most-clause-most
+returns-then-more-most-clause-most g c =
+    let l = c.self.inside.layout in
+    let p = kept l.profile c.self.invariant.profile in
+    most-by g.S.X.BlockHash.block32 c.args.self.now c.args.piece.now c.args.touches.now c.args.touches.now
+    (subst (λ (b : Building). SavesUpTo g.S.X.BlockHash.block32 b.profile c.args.piece.now b.begun b.rows c.args.touches.now c.args.touches.now) c.self.view_is
+    (up-to-none g.S.X.BlockHash.block32 l.profile p.some p.two c.args.piece.now l.begun.items l.rows.items c.args.touches.now))
+
+pub returns-in-Ok-clause-most : goal.returns-in-Ok-clause-most
+returns-in-Ok-clause-most g c =
+    let l = c.self.inside.layout in
+    let p = kept l.profile c.self.invariant.profile in
+    most-by g.S.X.BlockHash.block32 c.args.self.now c.args.piece.now c.args.touches.now c.take.new.touches
+    (subst (λ (b : Building). SavesUpTo g.S.X.BlockHash.block32 b.profile c.args.piece.now b.begun b.rows c.args.touches.now c.take.new.touches) c.self.view_is
+    (up-to-done g.S.X.BlockHash.block32 l.profile p.some p.two c.args.piece.now l.begun.items c.take.new.self.begun.items l.rows.items c.take.new.self.rows.items _ _ c.args.touches.now c.take.new.touches
+    c.in-Ok.ensures.took.feeds))
+
+pub returns-in-Err-clause-most : goal.returns-in-Err-clause-most
+returns-in-Err-clause-most g c =
+    most-by g.S.X.BlockHash.block32 c.args.self.now c.args.piece.now c.args.touches.now c.take.new.touches
+    (subst (λ (b : Building). SavesUpTo g.S.X.BlockHash.block32 b.profile c.args.piece.now b.begun b.rows c.args.touches.now c.take.new.touches) c.self.view_is c.in-Err.ensures.most)

@@ -1,7 +1,10 @@
-use Rattle.std.proofs.Common.{◌≡◌, ℕ, List, sym, subst}
+use Rattle.std.proofs.Common.{◌≡◌, ◌+◌, ◌≤◌, ℕ, List, length, subst, arith}
 use Rattle.uf_store.specs.Keeping.{Holds}
 use Rattle.uf_tree.specs.FilePlan.{file_plan}
-use Rattle.uf_build.specs.Building.{Any, Building, Builds, IsHeld, HasFed, HoldsFed}
+use Rattle.uf_tree.proofs.Told.{kept}
+use Rattle.uf_build.specs.Building.{Any, Building, Builds, IsHeld, HasFed, HoldsFed, saved_by}
+use Rattle.uf_build.specs.Rows.{saved_over}
+use Rattle.uf_build.proofs.Ending.{saved-most}
 use Rattle.uf_build.proofs.builder.Builder.finish.Goals as goal
 
 pub returns-in-Ok-clause-entry : goal.returns-in-Ok-clause-entry
@@ -16,3 +19,31 @@ returns-in-Ok-clause-held g c = λ bytes.
     let hash : List ℕ → List ℕ = g.S.X.BlockHash.block32 in
     subst (λ (b : Building). Builds hash (IsHeld (g.S.Store.seen c.args.store.now).told) b.profile bytes b.begun b.rows → Holds (g.S.Store.seen c.close.new.store).told (file_plan hash b.profile bytes).blocks)
     c.self.view_is (c.in-Ok.ensures.held bytes)
+
+pub returns-then-is_spent-clause-most : goal.returns-then-is_spent-clause-most
+unfolding HasFed saved_by
+returns-then-is_spent-clause-most g c = λ bytes.
+    let hash : List ℕ → List ℕ = g.S.X.BlockHash.block32 in
+    subst (λ (b : Building). Builds hash Any b.profile bytes b.begun b.rows → c.args.touches.now + saved_over b.profile.width b.rows ≤ c.args.touches.now + length (file_plan hash b.profile bytes).blocks)
+    c.self.view_is (let p = kept c.self.inside.layout.profile c.self.invariant.profile in λ h. omega (arith, saved-most hash c.self.inside.layout.profile p.some p.two bytes _ _ h))
+
+pub returns-in-Ok-clause-saved : goal.returns-in-Ok-clause-saved
+unfolding HasFed saved_by
+returns-in-Ok-clause-saved g c = λ bytes.
+    let hash : List ℕ → List ℕ = g.S.X.BlockHash.block32 in
+    subst (λ (b : Building). Builds hash Any b.profile bytes b.begun b.rows → c.close.new.touches + saved_over b.profile.width b.rows ≡ c.args.touches.now + length (file_plan hash b.profile bytes).blocks)
+    c.self.view_is (c.in-Ok.ensures.all bytes)
+
+pub returns-in-Ok-clause-most : goal.returns-in-Ok-clause-most
+unfolding HasFed saved_by
+returns-in-Ok-clause-most g c = λ bytes.
+    let hash : List ℕ → List ℕ = g.S.X.BlockHash.block32 in
+    subst (λ (b : Building). Builds hash Any b.profile bytes b.begun b.rows → c.close.new.touches + saved_over b.profile.width b.rows ≤ c.args.touches.now + length (file_plan hash b.profile bytes).blocks)
+    c.self.view_is (c.close.ensures.most bytes)
+
+pub returns-in-Err-clause-most : goal.returns-in-Err-clause-most
+unfolding HasFed saved_by
+returns-in-Err-clause-most g c = λ bytes.
+    let hash : List ℕ → List ℕ = g.S.X.BlockHash.block32 in
+    subst (λ (b : Building). Builds hash Any b.profile bytes b.begun b.rows → c.close.new.touches + saved_over b.profile.width b.rows ≤ c.args.touches.now + length (file_plan hash b.profile bytes).blocks)
+    c.self.view_is (c.close.ensures.most bytes)

@@ -1,4 +1,6 @@
-use Rattle.uf_build.specs.Building.{Any, IsHeld, HasFed, HoldsFed}
+use Rattle.std.proofs.Common.{ap}
+use Rattle.uf_build.specs.Building.{Any, IsHeld, HasFed, HoldsFed, saved_by}
+use Rattle.uf_build.specs.Rows.{saved_over}
 use Rattle.uf_build.proofs.Feeding.{builds-new}
 use Rattle.uf_build.proofs.builder.Builder.new.Goals as goal
 
@@ -9,3 +11,7 @@ returns-clause-fed c = λ X. builds-new X Any c.args.p c.new.result.items c.new-
 pub returns-clause-held : goal.returns-clause-held
 unfolding HoldsFed
 returns-clause-held c = λ X told. builds-new X (IsHeld told) c.args.p c.new.result.items c.new-2.result.items c.new.ensures.items c.new-2.ensures.items
+
+pub returns-clause-saved : goal.returns-clause-saved
+unfolding saved_by
+returns-clause-saved c = ap (saved_over c.args.p.width) c.new-2.ensures.items

@@ -1,11 +1,15 @@
-use Rattle.std.proofs.Common.{◌≡◌, ℕ, ◌+◌, ◌-◌, ◌*◌, ◌<◌, ◌≤◌, List, [], ◌∷◌, ◌++◌, length, take, drop, arith, ap, sym, ◌∙◌, subst}
+use Rattle.std.proofs.Common.{◌≡◌, ℕ, ◌+◌, ◌-◌, ◌*◌, ◌≤◌, List, ◌++◌, length, take, drop, arith, ap, sym, ◌∙◌, subst}
+use Rattle.std.proofs.lemmas.List.{take-append-drop}
 use Rattle.uf_store.proofs.Keeping.{KeepsGood-trans, SavesOnly-trans}
 use Rattle.uf_store.proofs.Causes.{StaysCalm-trans}
 use Rattle.uf_tree.specs.declared.profile.Profile.{Profile}
+use Rattle.uf_tree.specs.FilePlan.{leaf_part}
 use Rattle.uf_tree.proofs.Told.{kept}
-use Rattle.uf_build.specs.Building.{Adds, Feeds}
+use Rattle.uf_build.specs.Building.{Adds, Feeds, SavesUpTo}
 use Rattle.uf_build.specs.Layouts.{Takes}
+use Rattle.uf_build.specs.Rows.{push_row, saved_over}
 use Rattle.uf_build.proofs.Cutting.{more, piece-size, whole}
+use Rattle.uf_build.proofs.Ending.{up-to-behind, up-to-front, up-to-piece}
 use Rattle.uf_build.proofs.Feeding.{Feeds-piece, Feeds-trans}
 use Rattle.uf_build.proofs.layout.Layout.save_group.Goals as goal
 
@@ -24,15 +28,15 @@ loop-i-preserved g c =
     let now = (g.S.Store.seen c.save_leaf.new.store).told in
     let piece : List ℕ = take (i * p.chunk + p.chunk - i * p.chunk) (drop (i * p.chunk) bytes) in
     let size : length piece ≡ p.chunk = piece-size bytes i p.chunk c.args.count (omega arith) c.requires.count in
-    let adds = subst (λ (q : Profile). Adds hash q piece c.loop-i.self.rows.items c.save_leaf.new.rows.items mid now) c.loop-i.invariant.profile c.in-Ok.ensures.adds in
+    let adds = subst (λ (q : Profile). Adds hash q piece c.loop-i.self.rows.items c.save_leaf.new.rows.items mid now c.loop-i.touches c.save_leaf.new.touches) c.loop-i.invariant.profile c.in-Ok.ensures.adds in
     record {
       took = record {
         same_profile = c.loop-i.invariant.profile;
-        feeds = subst (λ (l : List ℕ). Feeds hash p l c.args.self.now.begun.items c.loop-i.self.begun.items c.args.self.now.rows.items c.save_leaf.new.rows.items before now)
+        feeds = subst (λ (l : List ℕ). Feeds hash p l c.args.self.now.begun.items c.loop-i.self.begun.items c.args.self.now.rows.items c.save_leaf.new.rows.items before now c.args.touches.now c.save_leaf.new.touches)
             (sym (more bytes i p.chunk))
             (Feeds-trans hash p two (take (i * p.chunk) bytes) piece c.args.self.now.begun.items c.loop-i.self.begun.items c.loop-i.self.begun.items
-            c.args.self.now.rows.items c.loop-i.self.rows.items c.save_leaf.new.rows.items before mid now c.loop-i.invariant.took.feeds
-            (Feeds-piece hash p two piece c.loop-i.self.begun.items c.loop-i.self.begun.items piece c.loop-i.self.rows.items c.save_leaf.new.rows.items mid now
+            c.args.self.now.rows.items c.loop-i.self.rows.items c.save_leaf.new.rows.items before mid now c.args.touches.now c.loop-i.touches c.save_leaf.new.touches c.loop-i.invariant.took.feeds
+            (Feeds-piece hash p two piece c.loop-i.self.begun.items c.loop-i.self.begun.items piece c.loop-i.self.rows.items c.save_leaf.new.rows.items mid now c.loop-i.touches c.save_leaf.new.touches
             (ap (λ (l : List ℕ). l ++ piece) c.loop-i.invariant.begun) size c.loop-i.invariant.begun adds));
       };
       profile = c.loop-i.invariant.profile;
@@ -45,5 +49,29 @@ loop-i-preserved g c =
 pub returns-clause-took : goal.returns-clause-took
 returns-clause-took g c =
     let is : c.loop-i.i ≡ c.args.count = omega (arith, c.loop-i.auto.i-end) in
-    subst (λ (l : List ℕ). Takes g.S.X.BlockHash.block32 l c.args.self.now c.loop-i.self (g.S.Store.seen c.args.store.now).told (g.S.Store.seen c.loop-i.store).told)
+    subst (λ (l : List ℕ). Takes g.S.X.BlockHash.block32 l c.args.self.now c.loop-i.self (g.S.Store.seen c.args.store.now).told (g.S.Store.seen c.loop-i.store).told c.args.touches.now c.loop-i.touches)
     (whole c.args.bytes.now c.loop-i.i c.args.self.now.profile.chunk c.args.count is c.requires.count) c.loop-i.invariant.took
+
+pub returns-in-Err-clause-most : goal.returns-in-Err-clause-most
+returns-in-Err-clause-most g c =
+    let hash : List ℕ → List ℕ = g.S.X.BlockHash.block32 in
+    let p = c.args.self.now.profile in
+    let is_kept = kept c.args.self.now.profile c.requires.can.profile in
+    let i = c.loop-i.i in
+    let bytes = c.args.bytes.now in
+    let before = (g.S.Store.seen c.args.store.now).told in
+    let mid = (g.S.Store.seen c.loop-i.store).told in
+    let piece : List ℕ = take (i * p.chunk + p.chunk - i * p.chunk) (drop (i * p.chunk) bytes) in
+    let size : length piece ≡ p.chunk = piece-size bytes i p.chunk c.args.count (omega arith) c.requires.count in
+    let one = subst (λ (q : Profile). c.save_leaf.new.touches + saved_over q.width c.loop-i.self.rows.items ≤ c.loop-i.touches + saved_over q.width (push_row hash q.width (leaf_part hash piece) c.loop-i.self.rows.items))
+    c.loop-i.invariant.profile c.save_leaf.ensures.most in
+    let next = up-to-piece hash p is_kept.some is_kept.two piece c.loop-i.self.begun.items piece c.loop-i.self.rows.items c.loop-i.touches c.save_leaf.new.touches
+    (ap (λ (l : List ℕ). l ++ piece) c.loop-i.invariant.begun) size one in
+    let most = up-to-behind hash p is_kept.some is_kept.two (take (i * p.chunk) bytes) piece c.args.self.now.begun.items c.loop-i.self.begun.items c.args.self.now.rows.items c.loop-i.self.rows.items before mid
+    c.args.touches.now c.loop-i.touches c.save_leaf.new.touches c.loop-i.invariant.took.feeds next in
+    subst (λ (l : List ℕ). SavesUpTo hash p l c.args.self.now.begun.items c.args.self.now.rows.items c.args.touches.now c.save_leaf.new.touches)
+    (ap (λ (l : List ℕ). l ++ drop ((i + 1) * p.chunk) bytes) (sym (more bytes i p.chunk)) ∙ take-append-drop ((i + 1) * p.chunk) bytes)
+    (up-to-front hash p is_kept.some is_kept.two (take (i * p.chunk) bytes ++ piece) (drop ((i + 1) * p.chunk) bytes) c.args.self.now.begun.items c.args.self.now.rows.items c.args.touches.now c.save_leaf.new.touches most)
+
+pub returns-in-Err-clause-saves : goal.returns-in-Err-clause-saves
+returns-in-Err-clause-saves g c = SavesOnly-trans _ _ _ c.loop-i.invariant.saves c.save_leaf.ensures.saves

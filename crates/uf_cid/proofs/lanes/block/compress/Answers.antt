@@ -1,7 +1,7 @@
 use Rattle.std.proofs.Common.{◌≡◌, ◌*◌, ◌∙◌, ap, arith, refl, sym, ◌+◌, slice_index}
 use Rattle.std.proofs.lemmas.List.{length-map}
 use Rattle.sha2.specs.Sha256.{add_state, compress, rounds, word_at}
-use Rattle.sha2.proofs.Schedule256.{IsWindow_first}
+use Rattle.sha2.proofs.Schedule256.{IsRoundsAt_at, IsWindow_first}
 use Rattle.uf_cid.specs.Lanes.{lane, part_of, words}
 use Rattle.uf_cid.proofs.LaneLemmas.{word_at-part, word_in}
 use Rattle.uf_cid.proofs.lanes.block.compress.Goals as goal
@@ -19,7 +19,10 @@ first-init c = λ j lt.
     )
 
 pub places-preserved : goal.places-preserved
-places-preserved c = λ j lt. c.step-v.ensures j lt _ _ (c.places.invariant j lt)
+places-preserved c = λ j lt.
+    let one = c.step-v.ensures j lt _ _ (c.places.invariant j lt) in
+    IsRoundsAt_at _ _ _ _ (16 * c.turns.turn + (2 * c.places.pair + 1 + 1)) _ (omega arith)
+    (c.step-v-in-places.ensures j lt _ _ one)
 
 pub returns : goal.returns
 unfolding compress

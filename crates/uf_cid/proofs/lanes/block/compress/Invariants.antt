@@ -9,7 +9,7 @@ invariant-load l = (length l.w ≡ 16)
 
 abbrev pub invariant-first : goal.invariant-first
 invariant-first l = (j : ℕ) → j < 8 → IsWindow (words j l.w) (schedule (part_of l.bytes l.size j l.at 64) 48) 16
-    × (lane j l.v ≡ rounds (lane j l.state) (schedule (part_of l.bytes l.size j l.at 64) 48) l.t)
+    × (lane j l.v ≡ rounds (lane j l.state) (schedule (part_of l.bytes l.size j l.at 64) 48) (2 * l.pair))
 
 abbrev pub invariant-turns : goal.invariant-turns
 invariant-turns l = (j : ℕ) → j < 8
@@ -17,4 +17,4 @@ invariant-turns l = (j : ℕ) → j < 8
 
 abbrev pub invariant-places : goal.invariant-places
 invariant-places l = (j : ℕ) → j < 8
-    → IsRoundsAt (part_of l.bytes l.size j l.at 64) (lane j l.state) (words j l.w) (lane j l.v) (16 * l.turn + l.place)
+    → IsRoundsAt (part_of l.bytes l.size j l.at 64) (lane j l.state) (words j l.w) (lane j l.v) (16 * l.turn + 2 * l.pair)

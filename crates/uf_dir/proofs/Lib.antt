@@ -1,0 +1,10 @@
+pub mod Apart
+pub mod Asked
+pub mod Causes
+pub mod Edited
+pub mod Listing
+pub mod Looked
+pub mod Planning
+pub mod Refusals
+pub mod Roots
+pub mod Rows

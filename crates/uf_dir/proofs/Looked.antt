@@ -1,0 +1,195 @@
+-- What a look at the root of a planned directory or file finds.
+use Rattle.std.proofs.Common.{◌≡◌, ℕ, List, [], ◌∷◌, ap, arith, sym, ◌∙◌, subst, inl, inr, Option, Some, None, Bool, true, false}
+use Rattle.std.specs.Prelude.{IfOk, IfSome}
+use Rattle.std.specs.FinMap.Entries.{find}
+use Rattle.std.specs.declared.result.Result.{Result}
+use Rattle.std.specs.declared.result.Result.TheVariants.{Ok, Err}
+use Rattle.uf_cid.specs.Blocks as blocks
+use Rattle.uf_cid.specs.Blocks.{Held}
+use Rattle.uf_cid.specs.declared.cid.Cid.{Cid}
+use Rattle.uf_edge.specs.Counts.{Stood}
+use Rattle.uf_store.specs.declared.store.Role.{Role}
+use Rattle.uf_store.specs.declared.store.StoreFault.{StoreFault}
+use Rattle.uf_store.specs.declared.store.StoreFault.TheVariants.{Failed, Damaged, Missing, BadBlock, Clash, Memory}
+use Rattle.uf_store.specs.Contents.{Told, held_at}
+use Rattle.uf_store.specs.Faults.{Shows}
+use Rattle.uf_store.specs.Keeping.{Agrees, Holds}
+use Rattle.uf_store.specs.Lost.{FindsOver, IsFirstLost, IsLossOf, IsLost, LosesFirst, ReadsOver}
+use Rattle.uf_store.specs.Seen.{Seen}
+use Rattle.uf_tree.specs.declared.nodes.Entry.{Entry}
+use Rattle.uf_tree.specs.declared.profile.Profile.{Profile}
+use Rattle.uf_tree.specs.DirPlan.{is_sharded, trail}
+use Rattle.uf_tree.specs.Names.{names_cmp}
+use Rattle.uf_tree.specs.Nodes.{Named}
+use Rattle.uf_tree.specs.Roles.{IsCanonicalDirectory, WithSome}
+use Rattle.uf_tree.specs.Roots.{dir_root}
+use Rattle.uf_tree.specs.ShardPlan.{shard, shard_trail}
+use Rattle.uf_tree.specs.Validity.{IsHash}
+use Rattle.uf_shard.specs.Listing.{AreRows, in_order}
+use Rattle.uf_shard.specs.Planned as shards
+use Rattle.uf_dir.specs.Planned.{IsPlanned, own_blocks}
+use Rattle.uf_dir.specs.Roots.{IsRootOf, IsThere, IsUnread}
+use Rattle.uf_dir.specs.declared.root.Root.{Root}
+use Rattle.uf_dir.specs.declared.root.Root.TheVariants as root
+use Rattle.uf_dir.proofs.Apart.{one_basic, shard-basic}
+use Rattle.uf_dir.proofs.Rows.{rows-planned}
+use Rattle.uf_dir.proofs.Planning.{InOne, InShards, RootForm, blocks-from_root, blocks-sharded, planned-cid, planned-sharded, root-canonical, root-form, trail-basic, trail-from_root, trail-sharded}
+
+-- ---- the first of some blocks, of which the CID is known
+
+module _ (cid : Cid) (b : Held) (rest : List Held) (same : cid ≡ b.0) where
+  -- what is held under the CID is that block
+  pub the_block : (told : Told) (lent : List ℕ) → Agrees told (b ∷ rest) → IfSome told (λ t. held_at t cid ≡ Some lent) → lent ≡ b.1
+  the_block None lent agrees held = absurd agrees
+  the_block (Some t) lent agrees held = by (held_at t cid) held (subst (λ (c : Cid). IfSome (held_at t c) (λ bytes. bytes ≡ b.1)) (sym same) agrees.0)
+    where
+      by : (o : Option (List ℕ)) → o ≡ Some lent → IfSome o (λ bytes. bytes ≡ b.1) → lent ≡ b.1
+      by None e h = absurd (let none : None ≡ Some lent = e in cc)
+      by (Some found) e h = (let one : found ≡ lent = cc in sym one) ∙ h
+
+  pub the_held : (told : Told) (lent : List ℕ) → Agrees told (b ∷ rest) → IfSome told (λ t. held_at t cid ≡ Some lent) → Holds told (b ∷ [])
+  the_held None lent agrees held = tt
+  the_held (Some t) lent agrees held = (ap (held_at t) (sym same) ∙ held ∙ ap (λ (x : List ℕ). Some x) (the_block (Some t) lent agrees held), tt)
+
+  pub the_lost : (told : Told) (c : Cid) → c ≡ cid → IfSome told (λ t. held_at t cid ≡ None) → LosesFirst told c (b ∷ rest)
+  the_lost None c is h = tt
+  the_lost (Some t) c is h = inl (is ∙ same, ap (held_at t) (sym same) ∙ h)
+
+  -- a block that wasn't read is lost, where it would have been canonical and the store hasn't failed
+  pub unread : {A : Type 0} (X : List ℕ → List ℕ) (IsBad : Role → List ℕ → Type 0) (profile : Option Profile) (required : Bool) (before now : Seen) (fault : StoreFault) (value : A)
+      → IsCanonicalDirectory profile required b.1 → IsUnread profile required cid before now fault → Shows X IsBad fault before now
+      → Agrees before.told (b ∷ rest) → Stood before.faults now.faults → FindsOver before.told (b ∷ rest) value (Err fault)
+  unread X IsBad profile required before now Failed value canonical is shows agrees stood = let r = shows.rose in omega (arith, r, stood)
+  unread X IsBad profile required before now (Damaged c) value canonical is shows agrees stood = let r = shows.rose in omega (arith, r, stood)
+  unread X IsBad profile required before now (Missing c) value canonical is shows agrees stood = the_lost before.told c is.0 is.1
+  unread X IsBad profile required before now (BadBlock c role) value canonical is shows agrees stood =
+      is.bad (subst (IsCanonicalDirectory profile required) (sym (the_block before.told now.lent agrees is.there.held)) canonical)
+  unread X IsBad profile required before now (Clash c first second) value canonical is shows agrees stood = is
+  unread X IsBad profile required before now Memory value canonical is shows agrees stood = tt
+
+-- the first that is lost is one that is lost
+pub one_lost : (held : blocks.Lookup) (c : Cid) (l : List Held) → IsFirstLost held c l → IsLost held c l
+one_lost held c [] h = h
+one_lost held c (b ∷ l) (inl h) = inl h
+one_lost held c (b ∷ l) (inr h) = inr (one_lost held c l h.1)
+
+pub loss-from_finds : {A : Type 0} (told : Told) (l : List Held) (value : A) (fault : StoreFault) → FindsOver told l value (Err fault) → IsLossOf told l fault
+loss-from_finds told l value Failed h = h
+loss-from_finds told l value (Damaged c) h = h
+loss-from_finds None l value (Missing c) h = tt
+loss-from_finds (Some t) l value (Missing c) h = one_lost (held_at t) c l h
+loss-from_finds told l value (BadBlock c role) h = h
+loss-from_finds told l value (Clash c first second) h = h
+loss-from_finds told l value Memory h = tt
+
+module _ (X : List ℕ → List ℕ) (good : IsHash X) (N : List ℕ → ℕ) (p : Profile) (cid : Cid) (l : List Named) (is : IsPlanned X N p cid l) where
+  -- ---- the root that was read is that of the plan
+
+  pub read-basic : (rest : List Held) (before now : Seen) (pairs : List Named) → Agrees before.told (dir_root X N p l ∷ rest) → IsThere cid before now → IsRootOf now.lent (root.Basic pairs)
+      → (is_sharded p l ≡ false) × (pairs ≡ l)
+  read-basic rest before now pairs agrees there read = by (root-form X N p l good is.valid)
+    where
+      block : now.lent ≡ (dir_root X N p l).1
+      block = the_block cid (dir_root X N p l) rest (planned-cid X N p l cid is) before.told now.lent agrees there.held
+
+      by : RootForm X N p l → (is_sharded p l ≡ false) × (pairs ≡ l)
+      by (InOne e root) = (e, one_basic now.lent pairs l (omega (arith, there.size)) read.0 is.valid read.1 (block ∙ root))
+      by (InShards e root) = absurd (shard-basic root.items pairs root.valid read.0 (sym root.is ∙ sym block ∙ read.1))
+
+  pub read-sharded : (rest : List Held) (before now : Seen) → Agrees before.told (dir_root X N p l ∷ rest) → IsThere cid before now → IsRootOf now.lent root.Sharded → is_sharded p l ≡ true
+  read-sharded rest before now agrees there read = by (root-form X N p l good is.valid)
+    where
+      block : now.lent ≡ (dir_root X N p l).1
+      block = the_block cid (dir_root X N p l) rest (planned-cid X N p l cid is) before.told now.lent agrees there.held
+
+      by : RootForm X N p l → is_sharded p l ≡ true
+      by (InOne e root) = absurd (shard-basic read.items l read.valid is.valid (sym read.is ∙ block ∙ root))
+      by (InShards e root) = e
+
+  -- ---- a name that is looked up
+
+  module _ (name : List ℕ) where
+    pub find-unread : (IsBad : Role → List ℕ → Type 0) (before now : Seen) (fault : StoreFault) (value : Option Entry) → IsUnread None true cid before now fault → Shows X IsBad fault before now
+        → Agrees before.told (trail X N p l name) → Stood before.faults now.faults → FindsOver before.told (trail X N p l name) value (Err fault)
+    find-unread IsBad before now fault value unread_is shows agrees stood =
+        let from = trail-from_root X N p l name in
+        subst (λ (path : List Held). FindsOver before.told path value (Err fault)) (sym from.1)
+        (unread cid (dir_root X N p l) from.0 (planned-cid X N p l cid is) X IsBad None true before now fault value (root-canonical X N p l good is.valid None tt) unread_is shows
+        (subst (Agrees before.told) from.1 agrees) stood)
+
+    pub find-basic : (before now : Seen) (found : Root) (pairs : List Named) (value : Option Entry) → found ≡ root.Basic pairs → IsThere cid before now × IsRootOf now.lent found → value ≡ find names_cmp name pairs
+        → Agrees before.told (trail X N p l name) → FindsOver before.told (trail X N p l name) (find names_cmp name l) (Ok value)
+    find-basic before now found pairs value at looks value_is agrees =
+        let from = trail-from_root X N p l name in
+        let begins : Agrees before.told (dir_root X N p l ∷ from.0) = subst (Agrees before.told) from.1 agrees in
+        let read = read-basic from.0 before now pairs begins looks.0 (subst (IsRootOf now.lent) at looks.1) in (
+          value_is ∙ ap (find names_cmp name) read.1,
+          subst (Holds before.told) (sym (trail-basic X N p l name read.0)) (the_held cid (dir_root X N p l) from.0 (planned-cid X N p l cid is) before.told now.lent begins looks.0.held),
+        )
+
+    -- the answer of a search in the shards
+    abbrev pub Deeper : Seen → Seen → Result (Option Entry) StoreFault → Type 0
+    Deeper mid now r = (k : List Named) → shards.IsPlanned X N cid k → Agrees mid.told (shard_trail X N 7 k name) → Stood mid.faults now.faults
+        → FindsOver mid.told (shard_trail X N 7 k name) (find names_cmp name k) r
+
+    pub find-sharded : (before mid now : Seen) (found : Root) (r : Result (Option Entry) StoreFault) → found ≡ root.Sharded → IsThere cid before mid × IsRootOf mid.lent found → mid.told ≡ before.told → mid.faults ≡ before.faults
+        → Deeper mid now r → Agrees before.told (trail X N p l name) → Stood before.faults now.faults → FindsOver before.told (trail X N p l name) (find names_cmp name l) r
+    find-sharded before mid now found r at looks same calm deeper agrees stood =
+        let from = trail-from_root X N p l name in
+        let sharded : is_sharded p l ≡ true = read-sharded from.0 before mid (subst (Agrees before.told) from.1 agrees) looks.0 (subst (IsRootOf mid.lent) at looks.1) in
+        let path = trail-sharded X N p l name sharded in
+        subst (λ (t : List Held). FindsOver before.told t (find names_cmp name l) r) (sym path)
+        (subst (λ (told : Told). FindsOver told (shard_trail X N 7 l name) (find names_cmp name l) r) same
+        (deeper l (planned-sharded X N p l cid is sharded) (subst (λ (told : Told). Agrees told (shard_trail X N 7 l name)) (sym same) (subst (Agrees before.told) path agrees))
+        (subst (λ (n : ℕ). Stood n now.faults) (sym calm) stood)))
+
+  -- ---- a directory that is read whole
+
+  pub entries-unread : {A : Type 0} (IsBad : Role → List ℕ → Type 0) (profile : Option Profile) (before now : Seen) (fault : StoreFault) (value : A) → WithSome profile (λ known. known ≡ p)
+      → IsUnread profile true cid before now fault → Shows X IsBad fault before now → Agrees before.told (own_blocks X N p l) → Stood before.faults now.faults → ReadsOver before.told (own_blocks X N p l) value (Err fault)
+  entries-unread IsBad profile before now fault value known unread_is shows agrees stood =
+      let from = blocks-from_root X N p l in
+      loss-from_finds before.told (own_blocks X N p l) value fault
+      (subst (λ (path : List Held). FindsOver before.told path value (Err fault)) (sym from.1)
+      (unread cid (dir_root X N p l) from.0 (planned-cid X N p l cid is) X IsBad profile true before now fault value (root-canonical X N p l good is.valid profile known) unread_is shows
+      (subst (Agrees before.told) from.1 agrees) stood))
+
+  pub entries-basic : (before now : Seen) (found : Root) (pairs : List Named) → found ≡ root.Basic pairs → IsThere cid before now × IsRootOf now.lent found → Agrees before.told (own_blocks X N p l) → pairs ≡ l
+  entries-basic before now found pairs at looks agrees =
+      let from = blocks-from_root X N p l in
+      (read-basic from.0 before now pairs (subst (Agrees before.told) from.1 agrees) looks.0 (subst (IsRootOf now.lent) at looks.1)).1
+
+  -- the root was read as a shard
+  module _ (before mid : Seen) (found : Root) (at : found ≡ root.Sharded) (looks : IsThere cid before mid × IsRootOf mid.lent found) (same : mid.told ≡ before.told) (agrees : Agrees before.told (own_blocks X N p l)) where
+    sharded_is : is_sharded p l ≡ true
+    sharded_is =
+        let from = blocks-from_root X N p l in
+        read-sharded from.0 before mid (subst (Agrees before.told) from.1 agrees) looks.0 (subst (IsRootOf mid.lent) at looks.1)
+
+    agrees_mid : Agrees mid.told (shard X N 7 l).blocks
+    agrees_mid = subst (λ (told : Told). Agrees told (shard X N 7 l).blocks) (sym same) (subst (Agrees before.told) (blocks-sharded X N p l sharded_is) agrees)
+
+    -- what the shards answer where they are read
+    abbrev pub ReadBelow : Seen → Result (List Named) StoreFault → Type 0
+    ReadBelow now r = (M : List ℕ → ℕ) (k : List Named) → shards.IsPlanned X M cid k → Agrees mid.told (shard X M 7 k).blocks → Stood mid.faults now.faults → ReadsOver mid.told (shard X M 7 k).blocks k r
+
+    pub entries-sharded : (now : Seen) (r : Result (List Named) StoreFault) → mid.faults ≡ before.faults → ReadBelow now r → Stood before.faults now.faults → ReadsOver before.told (own_blocks X N p l) l r
+    entries-sharded now r calm below stood =
+        subst (λ (path : List Held). ReadsOver before.told path l r) (sym (blocks-sharded X N p l sharded_is))
+        (subst (λ (told : Told). ReadsOver told (shard X N 7 l).blocks l r) same
+        (below N l (planned-sharded X N p l cid is sharded_is) agrees_mid (subst (λ (n : ℕ). Stood n now.faults) (sym calm) stood)))
+
+    -- what was listed is what was planned, also where the count of faults stands at its last value
+    pub entries-listed : (pairs : List Named) → IfSome mid.told (λ t. (rows : List Named) × AreRows (held_at t) 7 cid rows × (pairs ≡ in_order rows)) → pairs ≡ l
+    entries-listed pairs listed = by mid.told listed agrees_mid
+      where
+        by : (told : Told) → IfSome told (λ t. (rows : List Named) × AreRows (held_at t) 7 cid rows × (pairs ≡ in_order rows)) → Agrees told (shard X N 7 l).blocks → pairs ≡ l
+        by None h a = absurd a
+        by (Some t) h a = h.2 ∙ rows-planned X good N (held_at t) cid l (planned-sharded X N p l cid is sharded_is) a h.0 h.1
+
+-- the same of each plan
+pub entries-listed_all : (X : List ℕ → List ℕ) → IsHash X → (cid : Cid) (before mid : Seen) (found : Root) → found ≡ root.Sharded → IsThere cid before mid × IsRootOf mid.lent found → mid.told ≡ before.told
+    → (r : Result (List Named) StoreFault) → IfSome mid.told (λ t. IfOk r (λ pairs. (rows : List Named) × AreRows (held_at t) 7 cid rows × (pairs ≡ in_order rows)))
+    → IfOk r (λ pairs. (N : List ℕ → ℕ) (p : Profile) (l : List Named) → IsPlanned X N p cid l → Agrees before.told (own_blocks X N p l) → pairs ≡ l)
+entries-listed_all X good cid before mid found at looks same (Ok pairs) listed = λ N p l is agrees. entries-listed X good N p cid l is before mid found at looks same agrees pairs listed
+entries-listed_all X good cid before mid found at looks same (Err fault) listed = tt

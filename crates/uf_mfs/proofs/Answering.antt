@@ -1,0 +1,140 @@
+-- What calls that read a tree answer.
+use Rattle.std.proofs.Common.{◌≡◌, ◌≢◌, ℕ, ◌<◌, ◌≤◌, ◌^◌, List, [], ◌∷◌, length, map, replicate, refl, ap, sym, ◌∙◌, subst, arith, true, Some, None, Result, Ok, Err, ◌⊎◌, inl, inr}
+use Rattle.std.specs.Prelude.{IfSome}
+use Rattle.uf_cid.specs.Blocks.{Held}
+use Rattle.uf_cid.specs.declared.cid.Cid.{Cid}
+use Rattle.uf_dagpb.specs.Reading.{Fails, node_reads}
+use Rattle.uf_dagpb.specs.declared.fault.PbFault.TheVariants as pb
+use Rattle.uf_dagpb.specs.declared.fault.PbFault.{PbFault}
+use Rattle.uf_edge.specs.Counts.{Stood}
+use Rattle.uf_store.specs.declared.store.Role.{Role}
+use Rattle.uf_store.specs.declared.store.Role.TheVariants.{Directory, Shard, FileNode, Leaf}
+use Rattle.uf_store.specs.declared.store.StoreFault.{StoreFault}
+use Rattle.uf_store.specs.declared.store.StoreFault.TheVariants.{Failed, Damaged, Missing, BadBlock, Clash, Memory}
+use Rattle.uf_store.specs.Clashes.{IsLoadFault}
+use Rattle.uf_store.specs.Contents.{Told, held_at}
+use Rattle.uf_store.specs.Faults.{NoneIsBad, Shows, StaysCalm}
+use Rattle.uf_store.specs.Keeping.{Agrees}
+use Rattle.uf_store.specs.Lost.{FindsOver, ReadsOver}
+use Rattle.uf_store.specs.Seen.{Finds, Seen}
+use Rattle.uf_tree.specs.declared.nodes.Entry.{Entry}
+use Rattle.uf_tree.specs.declared.profile.Profile.{Profile}
+use Rattle.uf_tree.specs.DirPlan.{own_plan}
+use Rattle.uf_tree.specs.Nodes.{Named}
+use Rattle.uf_tree.specs.Roots.{IsFileRoot}
+use Rattle.uf_tree.specs.Tree.{Tree, File, Dir, Entries, pairs}
+use Rattle.uf_tree.specs.TreePlan.{entry, named_entries}
+use Rattle.uf_tree.specs.Validity.{IsHash}
+use Rattle.uf_dir.specs.Bad.{IsBadListed}
+use Rattle.uf_dir.specs.Planned.{IsPlanned}
+use Rattle.uf_mfs.specs.declared.types.MfsFault.{MfsFault}
+use Rattle.uf_mfs.specs.declared.types.MfsFault.TheVariants as fault
+use Rattle.uf_mfs.specs.declared.types.Refused.{Refused}
+use Rattle.uf_mfs.specs.declared.types.Stop.{Stop}
+use Rattle.uf_mfs.specs.declared.types.Stop.TheVariants as stop
+use Rattle.uf_mfs.specs.declared.types.Thing.TheVariants.{File as FileAt}
+use Rattle.uf_mfs.specs.Answers.{Answers, Meets, Says, Tells, rule_of}
+use Rattle.uf_mfs.specs.Bad.{IsBad}
+use Rattle.uf_mfs.specs.Replies.{size}
+use Rattle.uf_mfs.specs.Standing.{IsEntry, IsThing}
+use Rattle.uf_mfs.proofs.Counting.{calm-rises, shows-by}
+use Rattle.uf_mfs.proofs.Files as files
+use Rattle.uf_mfs.proofs.Holding.{tells-agrees}
+use Rattle.uf_mfs.proofs.Planning.{is-planned, own-told}
+use Rattle.uf_mfs.proofs.Rooting.{IsRead, directory-read, file_node-read, root-held, root-of}
+use Rattle.uf_mfs.proofs.Seeing.{finds-says, reads-says}
+
+length-replicate : (n : ℕ) → length {A = ℕ} (replicate n 0) ≡ n
+length-replicate ℕ.zero = refl
+length-replicate (ℕ.suc n) = ap ℕ.suc (length-replicate n)
+
+-- a block that is bad where it is listed is bad
+pub listed-bad : (N : List ℕ → ℕ) (role : Role) (bytes : List ℕ) → IsBadListed role bytes → IsBad N None role bytes
+listed-bad N Directory bytes bad = bad
+listed-bad N (Shard level) bytes bad = record { way = replicate level 0; at_level = length-replicate level; below = bad.0; bad = bad.1 N (replicate level 0) (length-replicate level) }
+listed-bad N FileNode bytes bad = absurd bad
+listed-bad N Leaf bytes bad = absurd bad
+
+pub listed-shows : (hash : List ℕ → List ℕ) (N : List ℕ → ℕ) (f : StoreFault) (a b : Seen) → Shows hash IsBadListed f a b → Shows hash (IsBad N None) f a b
+listed-shows hash N f a b h = shows-by hash IsBadListed (IsBad N None) f a b (listed-bad N) h
+
+-- what is listed of a folder
+pub entries-says : (X : List ℕ → List ℕ) (N : List ℕ → ℕ) → IsHash X → ((name : List ℕ) → N name < 2 ^ 64) → (told : Told) (p : Profile) (e : Entry) (es : Entries) (r q : Result (List Named) StoreFault) → r ≡ q → IsEntry X N told p e (Dir es)
+    → ((M : List ℕ → ℕ) (p : Profile) (l : List Named) → IsPlanned X M p e.cid l → Agrees told (own_plan X M p l).blocks → ReadsOver told (own_plan X M p l).blocks l r)
+    → Says (named_entries X N p es) q
+entries-says X N hash fits told p e es r q is s reads =
+    let held = own-told X N p told e es s in
+    subst (Says (named_entries X N p es)) is (reads-says told _ _ r held (reads N p _ (is-planned X N p told e es s hash fits) (tells-agrees told _ held)))
+
+map-names : (X : List ℕ → List ℕ) (N : List ℕ → ℕ) (p : Profile) (l : List (List ℕ × Tree)) → map (λ (m : Named). m.0) (map (λ (e : List ℕ × Tree). (e.0, entry X N p e.1)) l) ≡ map (λ (m : List ℕ × Tree). m.0) l
+map-names X N p [] = refl
+map-names X N p (m ∷ l) = ap (λ k. m.0 ∷ k) (map-names X N p l)
+
+pub names-listed : (X : List ℕ → List ℕ) (N : List ℕ → ℕ) (p : Profile) (es : Entries) (l : List Named) (names : List (List ℕ)) → l ≡ named_entries X N p es → names ≡ map (λ (m : Named). m.0) l → names ≡ map (λ (m : List ℕ × Tree). m.0) (pairs es)
+names-listed X N p es l names is h = h ∙ ap (map (λ (m : Named). m.0)) is ∙ map-names X N p (pairs es)
+
+-- a command that is refused by a lookup, and one that goes on from it
+pub answer-err : {A B D : Type 0} (P : A → B → Type 0) (Q : A → D → Type 0) (names : List (List ℕ)) (w : Result A Refused) (s : Stop) (f : MfsFault)
+    → Tells names s f → Meets P w (Err s) → Answers Q names w (Err f)
+answer-err P Q names (Ok a) (stop.Refused why) f t h = absurd h
+answer-err P Q names (Err why) (stop.Refused given) (fault.Rule rule) t h = t ∙ ap (rule_of names) h
+answer-err P Q names w (stop.Refused given) (fault.Ready ready) t h = absurd t
+answer-err P Q names w (stop.Refused given) fault.Sink t h = absurd t
+answer-err P Q names (Err why) (stop.Refused given) (fault.Store f) t h = t
+answer-err P Q names (Ok a) (stop.Store g) f t h = subst (λ f. Answers Q names (Ok a) (Err f)) (sym t) h
+answer-err P Q names (Err why) (stop.Store g) f t h = subst (λ f. Answers Q names (Err why) (Err f)) (sym t) h
+
+pub answer-then : {A B D : Type 0} (P : A → B → Type 0) (Q : A → D → Type 0) (names : List (List ℕ)) (w : Result A Refused) (b : B) (r : Result D MfsFault)
+    → Meets P w (Ok b) → ((a : A) → P a b → Answers Q names (Ok a) r) → Answers Q names w r
+answer-then P Q names (Ok a) b r h more = more a h
+answer-then P Q names (Err why) b r h more = absurd h
+
+-- ---- the root block
+
+-- a block that isn't read as a node is bad in either role
+pub unread-bad : (N : List ℕ → ℕ) (role : Role) (bytes : List ℕ) (f : PbFault) → (role ≡ Directory) ⊎ (role ≡ FileNode) → length bytes ≤ 2097152 → node_reads bytes ≡ Err f → IsBad N None role bytes
+unread-bad N role bytes f (inl is) size unread = subst (λ r. IsBad N None r bytes) (sym is) (λ c. clash (directory-read None true bytes c (omega (arith, size))))
+  where
+    clash : IsRead bytes → ⊥
+    clash r = (let e : Ok r.0 ≡ Err f = sym r.1 ∙ unread in cc)
+unread-bad N role bytes f (inr is) size unread = subst (λ r. IsBad N None r bytes) (sym is) (λ c. clash (file_node-read None bytes c (omega (arith, size))))
+  where
+    clash : IsRead bytes → ⊥
+    clash r = (let e : Ok r.0 ≡ Err f = sym r.1 ∙ unread in cc)
+
+-- a load of a root block that is held can only want memory
+pub need-fault : (X : List ℕ → List ℕ) (N : List ℕ → ℕ) → IsHash X → (p : Profile) (e : Entry) (t : Tree) (f : StoreFault) (a b : Seen) → IsEntry X N a.told p e t → Stood a.faults b.faults
+    → b.told ≡ a.told → IsLoadFault e.cid f → Shows X NoneIsBad f a b → f ≡ Memory
+need-fault X N hash p e t Failed a b s stood same load h = absurd (omega (arith, stood, h.rose))
+need-fault X N hash p e t (Damaged c) a b s stood same load h = absurd (omega (arith, stood, h.rose))
+need-fault X N hash p e t (Missing c) a b s stood same load h = absurd (by a.told s (subst (λ told. IfSome told (λ u. held_at u c ≡ None)) same h.not_held))
+  where
+    by : (told : Told) → IsEntry X N told p e t → IfSome told (λ u. held_at u c ≡ None) → ⊥
+    by None s lost = s.held
+    by (Some u) s lost =
+        let held = root-held X N hash u p e t s in
+        let no : held_at u e.cid ≡ None = subst (λ c. held_at u c ≡ None) load lost in
+        (let clash : None ≡ Some (root-of X N hash (Some u) p e t s).0.1 = sym no ∙ held in cc)
+need-fault X N hash p e t (BadBlock c role) a b s stood same load h = absurd load
+need-fault X N hash p e t (Clash c held bytes) a b s stood same load h = absurd load
+need-fault X N hash p e t Memory a b s stood same load h = refl
+
+pub unread-says : (lent : List ℕ) (cid : Cid) (role : Role) (f : StoreFault) (fault : PbFault) → (f ≡ Memory) ⊎ ((fault ≢ pb.Memory) × (f ≡ BadBlock cid role)) → Fails fault (node_reads lent) → IsRead lent → f ≡ Memory
+unread-says lent cid role f fault (inl is) why read = is
+unread-says lent cid role f fault (inr bad) (inl none) read = absurd (bad.0 none)
+unread-says lent cid role f fault (inr bad) (inr unread) read = absurd (let e : Ok read.0 ≡ Err fault = sym read.1 ∙ unread in cc)
+
+pub unread-shows : (X : List ℕ → List ℕ) (N : List ℕ → ℕ) (cid : Cid) (role : Role) (f : StoreFault) (fault : PbFault) (a b : Seen) → (role ≡ Directory) ⊎ (role ≡ FileNode)
+    → (f ≡ Memory) ⊎ ((fault ≢ pb.Memory) × (f ≡ BadBlock cid role)) → Fails fault (node_reads b.lent) → Finds X cid a b → StaysCalm a b → Shows X (IsBad N None) f a b
+unread-shows X N cid role f fault a b either (inl is) why finds calm = subst (λ f. Shows X (IsBad N None) f a b) (sym is) (calm-rises a b calm)
+unread-shows X N cid role f fault a b either (inr bad) (inl none) finds calm = absurd (bad.0 none)
+unread-shows X N cid role f fault a b either (inr bad) (inr unread) finds calm =
+    subst (λ f. Shows X (IsBad N None) f a b) (sym bad.1) (record { digest = finds.digest; bad = unread-bad N role b.lent fault either finds.size unread; calm = calm })
+
+-- the size of a file is that of its root block
+pub length-says : (X : List ℕ → List ℕ) (N : List ℕ → ℕ) (told : Told) (p : Profile) (t : Tree) (e : Entry) (r : Result ℕ StoreFault) → IsThing X N told p t (FileAt e)
+    → ((p : Profile) (bytes : List ℕ) (root : Held) → IsFileRoot X p bytes e.cid root → Agrees told (root ∷ []) → FindsOver told (root ∷ []) (length bytes) r) → Says (size t) r
+length-says X N told p (File bytes) e r s says =
+    let held = files.root-told X N p told e bytes s in
+    finds-says told _ _ r held (says p bytes (files.root X N p told e bytes s) (files.is-file-root X N p told e bytes s) (tells-agrees told _ held))
+length-says X N told p (Dir es) e r s says = absurd s

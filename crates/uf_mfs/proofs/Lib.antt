@@ -1,0 +1,12 @@
+pub mod Answering
+pub mod Counting
+pub mod Files
+pub mod Hinge
+pub mod Holding
+pub mod Meeting
+pub mod Membering
+pub mod Moving
+pub mod Planning
+pub mod Rooting
+pub mod Seeing
+pub mod Starting

@@ -1,0 +1,258 @@
+// Edits of the tree.
+ghost use Rattle.std.specs.Prelude.{◌≡◌, IsTrue, None, OnErr, Ok, Some, false, true};
+ghost use Rattle.uf_cid.specs.declared.cid.Codec.TheVariants.{DagPb};
+ghost use Rattle.uf_edge.specs.Counts.{Stood};
+ghost use Rattle.uf_store.specs.Faults.{Answers};
+ghost use Rattle.uf_store.specs.Keeping.{KeepsGood, SavesOnly};
+ghost use Rattle.uf_tree.specs.declared.profile.Profile.{Profile as TheProfile};
+ghost use Rattle.uf_tree.specs.Profiles.{is_profile};
+ghost use Rattle.uf_tree.specs.Tree.{Dir, Entries};
+ghost use Rattle.uf_mfs.specs.Answers.{Calm, Edits, Moves, Says, Shown, ShownStop, allowed};
+ghost use Rattle.uf_mfs.specs.Bad.{IsBad};
+ghost use Rattle.uf_mfs.specs.Plain.{at, is_folder_at, made, removed};
+ghost use Rattle.uf_mfs.specs.Standing.{IsEntry, IsMfs, StandsAt};
+
+use crate::editing::{edit, fill};
+use crate::looking::look;
+use crate::telling::fault_of;
+use crate::{Change, Mfs, MfsFault, Refused, Stop, Thing};
+use std::alloc::Global;
+use std::sync::ledger::Ledger;
+use uf_cid::{Cid, Codec};
+use uf_murmur::NameHash;
+use uf_path::Path;
+use uf_store::{Steps, Store, StoreFault};
+use uf_tree::{Entry, Name, Profile};
+
+impl Mfs {
+    /// Makes an empty directory: at the last name of the path, or with `parents` at each name that is missing.
+    pub fn mkdir<S: Store, N: NameHash, L: Ledger>(
+        &mut self,
+        alloc: Global,
+        store: &mut S,
+        path: &Path,
+        parents: bool,
+        touches: &mut Steps<L>,
+    ) -> Result<(), MfsFault>
+        requires mfs { IsMfs self.old }
+        ensures answer { (p : TheProfile) (es : Entries) → StandsAt S.X.block32 N.name64 (S.seen store.old).told self.old p es
+            → Stood (S.seen store.old).faults (S.seen store.new).faults → Stood (S.seen store.old).clashes (S.seen store.new).clashes
+            → Moves S.X.block32 N.name64 (S.seen store.new).told p path.now.names self.new (made parents path.now.names es) result }
+        ensures there { (p : TheProfile) (es below : Entries) → StandsAt S.X.block32 N.name64 (S.seen store.old).told self.old p es → Stood (S.seen store.old).faults (S.seen store.new).faults
+            → IsTrue parents → at 0 path.now.names (Dir es) ≡ Ok (Dir below) → (S.seen store.new).told ≡ (S.seen store.old).told }
+        ensures refused { OnErr result (self.new ≡ self.old) }
+        ensures mfs { IsMfs self.new }
+        ensures profile { self.new.profile ≡ self.old.profile }
+        ensures cause { Shown S.X.block32 (IsBad N.name64 (Some self.old.profile)) result (S.seen store.old) (S.seen store.new) }
+        ensures good { KeepsGood S.X.block32 (S.seen store.old).told (S.seen store.new).told }
+        ensures saves { SavesOnly (S.seen store.old).told (S.seen store.new).told }
+    {
+        let names = path.names.as_slice();
+        match made_root::<S, N, L>(
+            alloc,
+            store,
+            &self.profile,
+            &self.root,
+            names,
+            parents,
+            touches,
+        ) {
+            Err(stop) => Err(fault_of(alloc, names, stop)),
+            Ok(root) => {
+                self.root = as_node(root);
+                Ok(())
+            }
+        }
+    }
+
+    /// Takes away what the path leads to; a directory only where that is recursive.
+    pub fn rm<S: Store, N: NameHash, L: Ledger>(
+        &mut self,
+        alloc: Global,
+        store: &mut S,
+        path: &Path,
+        recursive: bool,
+        touches: &mut Steps<L>,
+    ) -> Result<(), MfsFault>
+        requires mfs { IsMfs self.old }
+        ensures answer { (p : TheProfile) (es : Entries) → StandsAt S.X.block32 N.name64 (S.seen store.old).told self.old p es
+            → Stood (S.seen store.old).faults (S.seen store.new).faults → Stood (S.seen store.old).clashes (S.seen store.new).clashes
+            → Moves S.X.block32 N.name64 (S.seen store.new).told p path.now.names self.new (removed recursive path.now.names es) result }
+        ensures refused { OnErr result (self.new ≡ self.old) }
+        ensures mfs { IsMfs self.new }
+        ensures profile { self.new.profile ≡ self.old.profile }
+        ensures cause { Shown S.X.block32 (IsBad N.name64 (Some self.old.profile)) result (S.seen store.old) (S.seen store.new) }
+        ensures good { KeepsGood S.X.block32 (S.seen store.old).told (S.seen store.new).told }
+        ensures saves { SavesOnly (S.seen store.old).told (S.seen store.new).told }
+    {
+        let names = path.names.as_slice();
+        match removed_root::<S, N, L>(
+            alloc,
+            store,
+            &self.profile,
+            &self.root,
+            names,
+            recursive,
+            touches,
+        ) {
+            Err(stop) => Err(fault_of(alloc, names, stop)),
+            Ok(root) => {
+                self.root = as_node(root);
+                Ok(())
+            }
+        }
+    }
+}
+
+// The root without what the names lead to.
+fn removed_root<S: Store, N: NameHash, L: Ledger>(
+    alloc: Global,
+    store: &mut S,
+    profile: &Profile,
+    root: &Entry,
+    names: &[Name],
+    recursive: bool,
+    touches: &mut Steps<L>,
+) -> Result<Entry, Stop>
+    requires profile { IsTrue (is_profile profile.now) }
+    ensures edits { (es : Entries) → IsEntry S.X.block32 N.name64 (S.seen store.old).told profile.now root.now (Dir es) → Calm (S.seen store.old) (S.seen store.new)
+        → Edits S.X.block32 N.name64 (S.seen store.new).told profile.now (allowed S.X.block32 N.name64 profile.now (removed recursive names.now es)) result }
+    ensures cause { ShownStop S.X.block32 (IsBad N.name64 (Some profile.now)) result (S.seen store.old) (S.seen store.new) }
+    ensures good { KeepsGood S.X.block32 (S.seen store.old).told (S.seen store.new).told }
+    ensures saves { SavesOnly (S.seen store.old).told (S.seen store.new).told }
+{
+    match names {
+        [] => Err(Stop::Refused(Refused::RootRefused)),
+        [name, rest @ ..] => edit::<S, N, L>(
+            alloc,
+            store,
+            profile,
+            Change::Remove(recursive),
+            0,
+            name,
+            rest,
+            root,
+            touches,
+        ),
+    }
+}
+
+// The root with an empty folder at the names.
+fn made_root<S: Store, N: NameHash, L: Ledger>(
+    alloc: Global,
+    store: &mut S,
+    profile: &Profile,
+    root: &Entry,
+    names: &[Name],
+    parents: bool,
+    touches: &mut Steps<L>,
+) -> Result<Entry, Stop>
+    requires profile { IsTrue (is_profile profile.now) }
+    ensures edits { (es : Entries) → IsEntry S.X.block32 N.name64 (S.seen store.old).told profile.now root.now (Dir es) → Calm (S.seen store.old) (S.seen store.new)
+        → Edits S.X.block32 N.name64 (S.seen store.new).told profile.now (allowed S.X.block32 N.name64 profile.now (made parents names.now es)) result }
+    ensures there { (es below : Entries) → IsEntry S.X.block32 N.name64 (S.seen store.old).told profile.now root.now (Dir es) → Stood (S.seen store.old).faults (S.seen store.new).faults
+        → IsTrue parents → at 0 names.now (Dir es) ≡ Ok (Dir below) → (S.seen store.new).told ≡ (S.seen store.old).told }
+    ensures cause { ShownStop S.X.block32 (IsBad N.name64 (Some profile.now)) result (S.seen store.old) (S.seen store.new) }
+    ensures good { KeepsGood S.X.block32 (S.seen store.old).told (S.seen store.new).told }
+    ensures saves { SavesOnly (S.seen store.old).told (S.seen store.new).told }
+{
+    if parents {
+        all_made::<S, N, L>(alloc, store, profile, root, names, touches)
+    } else {
+        one_made::<S, N, L>(alloc, store, profile, root, names, touches)
+    }
+}
+
+// The root with an empty folder at the last of the names.
+fn one_made<S: Store, N: NameHash, L: Ledger>(
+    alloc: Global,
+    store: &mut S,
+    profile: &Profile,
+    root: &Entry,
+    names: &[Name],
+    touches: &mut Steps<L>,
+) -> Result<Entry, Stop>
+    requires profile { IsTrue (is_profile profile.now) }
+    ensures edits { (es : Entries) → IsEntry S.X.block32 N.name64 (S.seen store.old).told profile.now root.now (Dir es) → Calm (S.seen store.old) (S.seen store.new)
+        → Edits S.X.block32 N.name64 (S.seen store.new).told profile.now (allowed S.X.block32 N.name64 profile.now (made false names.now es)) result }
+    ensures cause { ShownStop S.X.block32 (IsBad N.name64 (Some profile.now)) result (S.seen store.old) (S.seen store.new) }
+    ensures good { KeepsGood S.X.block32 (S.seen store.old).told (S.seen store.new).told }
+    ensures saves { SavesOnly (S.seen store.old).told (S.seen store.new).told }
+{
+    match names {
+        [] => Err(Stop::Refused(Refused::Exists(0))),
+        [name, rest @ ..] => edit::<S, N, L>(
+            alloc,
+            store,
+            profile,
+            Change::Make,
+            0,
+            name,
+            rest,
+            root,
+            touches,
+        ),
+    }
+}
+
+// The root with a folder at each of the names; it is the same where the last is there already.
+fn all_made<S: Store, N: NameHash, L: Ledger>(
+    alloc: Global,
+    store: &mut S,
+    profile: &Profile,
+    root: &Entry,
+    names: &[Name],
+    touches: &mut Steps<L>,
+) -> Result<Entry, Stop>
+    requires profile { IsTrue (is_profile profile.now) }
+    ensures edits { (es : Entries) → IsEntry S.X.block32 N.name64 (S.seen store.old).told profile.now root.now (Dir es) → Calm (S.seen store.old) (S.seen store.new)
+        → Edits S.X.block32 N.name64 (S.seen store.new).told profile.now (allowed S.X.block32 N.name64 profile.now (made true names.now es)) result }
+    ensures there { (es below : Entries) → IsEntry S.X.block32 N.name64 (S.seen store.old).told profile.now root.now (Dir es) → Stood (S.seen store.old).faults (S.seen store.new).faults
+        → at 0 names.now (Dir es) ≡ Ok (Dir below) → (S.seen store.new).told ≡ (S.seen store.old).told }
+    ensures cause { ShownStop S.X.block32 (IsBad N.name64 (Some profile.now)) result (S.seen store.old) (S.seen store.new) }
+    ensures good { KeepsGood S.X.block32 (S.seen store.old).told (S.seen store.new).told }
+    ensures saves { SavesOnly (S.seen store.old).told (S.seen store.new).told }
+{
+    match is_there::<S, N, L>(alloc, store, root, names, touches) {
+        Err(fault) => Err(Stop::Store(fault)),
+        Ok(true) => Ok(*root),
+        Ok(false) => fill::<S, N, L>(alloc, store, profile, 0, names, root, touches),
+    }
+}
+
+// Whether the names lead to a folder.
+fn is_there<S: Store, N: NameHash, L: Ledger>(
+    alloc: Global,
+    store: &mut S,
+    root: &Entry,
+    names: &[Name],
+    touches: &mut Steps<L>,
+) -> Result<bool, StoreFault>
+    ensures there { (p : TheProfile) (es : Entries) → IsEntry S.X.block32 N.name64 (S.seen store.old).told p root.now (Dir es) → Stood (S.seen store.old).faults (S.seen store.new).faults
+        → Says (is_folder_at (at 0 names.now (Dir es))) result }
+    ensures cause { Answers S.X.block32 (IsBad N.name64 None) result (S.seen store.old) (S.seen store.new) }
+    ensures told { (S.seen store.new).told ≡ (S.seen store.old).told }
+{
+    match look::<S, N, L>(alloc, store, 0, names, root, touches) {
+        Err(Stop::Store(fault)) => Err(fault),
+        Err(Stop::Refused(_)) => Ok(false),
+        Ok(Thing::File(_)) => Ok(false),
+        Ok(Thing::Folder(_)) => Ok(true),
+    }
+}
+
+// The entry of a directory, which is that of a node.
+fn as_node(entry: Entry) -> Entry
+    ensures node { result.cid.codec ≡ DagPb }
+    ensures same { entry.cid.codec ≡ DagPb → result ≡ entry }
+{
+    let digest = entry.cid.digest;
+    let cid = Cid {
+        codec: Codec::DagPb,
+        digest,
+    };
+    Entry {
+        cid,
+        tsize: entry.tsize,
+    }
+}

@@ -1,0 +1,330 @@
+// An edit along a path: each folder on it gets the new entry of the one below.
+ghost use Rattle.std.specs.Prelude.{◌≡◌, ◌≢◌, ◌+◌, ◌<◌, ◌^◌, List, ℕ, IsTrue, None, Ok, Some, length};
+ghost use Rattle.std.specs.declared.option.Option.{Option as TheOption};
+ghost use Rattle.uf_store.specs.Contents.{Told};
+ghost use Rattle.uf_store.specs.Keeping.{KeepsGood, SavesOnly};
+ghost use Rattle.uf_tree.specs.declared.profile.Profile.{Profile as TheProfile};
+ghost use Rattle.uf_tree.specs.Names.{is_name};
+ghost use Rattle.uf_tree.specs.Profiles.{is_profile};
+ghost use Rattle.uf_tree.specs.Tree.{Dir, Entries, Nothing, Tree};
+ghost use Rattle.uf_mfs.specs.Answers.{Calm, Decides, Edits, ShownStop, allowed, stop_of as the_stop};
+ghost use Rattle.uf_mfs.specs.Bad.{IsBad};
+ghost use Rattle.uf_mfs.specs.Plain.{as_folder, as_free, as_removable, change, child, done, edited, made_all, may_be, or_new, with_child, without_child};
+ghost use Rattle.uf_mfs.specs.Standing.{IsEntry, IsMeant, IsMember};
+
+use crate::looking::member;
+use crate::{Change, Refused, Stop, Thing};
+use std::alloc::Global;
+use std::sync::ledger::Ledger;
+use uf_dir::{DirFault, empty, put, remove};
+use uf_murmur::NameHash;
+use uf_store::{Steps, Store};
+use uf_tree::{Entry, Name, Profile};
+
+/// Edits the folder that all names but the last lead to from this one, to which so many names led, and answers the entry of
+/// this folder then.
+pub(crate) fn edit<S: Store, N: NameHash, L: Ledger>(
+    alloc: Global,
+    store: &mut S,
+    profile: &Profile,
+    what: Change,
+    led: usize,
+    name: &Name,
+    rest: &[Name],
+    folder: &Entry,
+    touches: &mut Steps<L>,
+) -> Result<Entry, Stop>
+    requires profile { IsTrue (is_profile profile.now) }
+    requires few { led + length rest.now + 1 < 2 ^ 64 }
+    ensures edits { (t : Tree) (es : Entries) → IsMeant S.X.block32 N.name64 (S.seen store.old).told profile.now what t → IsEntry S.X.block32 N.name64 (S.seen store.old).told profile.now folder.now (Dir es)
+        → Calm (S.seen store.old) (S.seen store.new)
+        → Edits S.X.block32 N.name64 (S.seen store.new).told profile.now (allowed S.X.block32 N.name64 profile.now (edited (change what t) led name.now rest.now es)) result }
+    ensures cause { ShownStop S.X.block32 (IsBad N.name64 (Some profile.now)) result (S.seen store.old) (S.seen store.new) }
+    ensures good { KeepsGood S.X.block32 (S.seen store.old).told (S.seen store.new).told }
+    ensures saves { SavesOnly (S.seen store.old).told (S.seen store.new).told }
+{
+    match member::<S, N, L>(alloc, store, folder, name, touches) {
+        Err(stop) => Err(stop),
+        Ok(found) => match rest {
+            [] => edit_here::<S, N, L>(
+                alloc,
+                store,
+                profile,
+                what,
+                led + 1,
+                name,
+                folder,
+                found,
+                touches,
+            ),
+            [next, more @ ..] => match folder_of(led + 1, found) {
+                Err(why) => Err(Stop::Refused(why)),
+                Ok(below) => match edit::<S, N, L>(
+                    alloc,
+                    store,
+                    profile,
+                    what,
+                    led + 1,
+                    next,
+                    more,
+                    &below,
+                    touches,
+                ) {
+                    Err(stop) => Err(stop),
+                    Ok(entry) => put_in::<S, N, L>(
+                        alloc, store, profile, folder, name, &entry, touches,
+                    ),
+                },
+            },
+        },
+    }
+}
+
+/// Makes each folder that is missing along the names from this folder, and answers the entry of this folder then.
+pub(crate) fn fill<S: Store, N: NameHash, L: Ledger>(
+    alloc: Global,
+    store: &mut S,
+    profile: &Profile,
+    led: usize,
+    names: &[Name],
+    folder: &Entry,
+    touches: &mut Steps<L>,
+) -> Result<Entry, Stop>
+    requires profile { IsTrue (is_profile profile.now) }
+    requires few { led + length names.now < 2 ^ 64 }
+    ensures edits { (es : Entries) → IsEntry S.X.block32 N.name64 (S.seen store.old).told profile.now folder.now (Dir es) → Calm (S.seen store.old) (S.seen store.new)
+        → Edits S.X.block32 N.name64 (S.seen store.new).told profile.now (allowed S.X.block32 N.name64 profile.now (made_all led names.now es)) result }
+    ensures cause { ShownStop S.X.block32 (IsBad N.name64 (Some profile.now)) result (S.seen store.old) (S.seen store.new) }
+    ensures good { KeepsGood S.X.block32 (S.seen store.old).told (S.seen store.new).told }
+    ensures saves { SavesOnly (S.seen store.old).told (S.seen store.new).told }
+{
+    match names {
+        [] => Ok(*folder),
+        [name, rest @ ..] => match open_or_make::<S, N, L>(
+            alloc,
+            store,
+            led + 1,
+            name,
+            folder,
+            touches,
+        ) {
+            Err(stop) => Err(stop),
+            Ok(start) => match fill::<S, N, L>(
+                alloc,
+                store,
+                profile,
+                led + 1,
+                rest,
+                &start,
+                touches,
+            ) {
+                Err(stop) => Err(stop),
+                Ok(below) => put_in::<S, N, L>(
+                    alloc, store, profile, folder, name, &below, touches,
+                ),
+            },
+        },
+    }
+}
+
+// The folder of a name, and a new one where the name isn't there.
+fn open_or_make<S: Store, N: NameHash, L: Ledger>(
+    alloc: Global,
+    store: &mut S,
+    led: usize,
+    name: &Name,
+    folder: &Entry,
+    touches: &mut Steps<L>,
+) -> Result<Entry, Stop>
+    ensures opens { (p : TheProfile) (es : Entries) → IsEntry S.X.block32 N.name64 (S.seen store.old).told p folder.now (Dir es) → Calm (S.seen store.old) (S.seen store.new)
+        → Edits S.X.block32 N.name64 (S.seen store.new).told p (or_new led (child name.now es)) result }
+    ensures cause { ShownStop S.X.block32 (IsBad N.name64 None) result (S.seen store.old) (S.seen store.new) }
+    ensures good { KeepsGood S.X.block32 (S.seen store.old).told (S.seen store.new).told }
+    ensures saves { SavesOnly (S.seen store.old).told (S.seen store.new).told }
+{
+    match member::<S, N, L>(alloc, store, folder, name, touches) {
+        Err(stop) => Err(stop),
+        Ok(None) => match empty(alloc, store, touches) {
+            Err(fault) => Err(Stop::Store(fault)),
+            Ok(new) => Ok(new),
+        },
+        Ok(Some(Thing::File(_))) => Err(Stop::Refused(Refused::NotADirectory(led))),
+        Ok(Some(Thing::Folder(entry))) => Ok(entry),
+    }
+}
+
+// The entry of a member that has to be a folder.
+fn folder_of(led: usize, found: Option<Thing>) -> Result<Entry, Refused>
+    ensures { (X : List ℕ → List ℕ) (N : List ℕ → ℕ) (told : Told) (p : TheProfile) (o : TheOption Tree) → IsMember X N told p o found
+        → Decides (λ es e. IsEntry X N told p e (Dir es)) (as_folder led o) result }
+{
+    match found {
+        None => Err(Refused::NotFound(led)),
+        Some(Thing::File(_)) => Err(Refused::NotADirectory(led)),
+        Some(Thing::Folder(entry)) => Ok(entry),
+    }
+}
+
+// Edits this folder, whose member of the name was found.
+fn edit_here<S: Store, N: NameHash, L: Ledger>(
+    alloc: Global,
+    store: &mut S,
+    profile: &Profile,
+    what: Change,
+    led: usize,
+    name: &Name,
+    folder: &Entry,
+    found: Option<Thing>,
+    touches: &mut Steps<L>,
+) -> Result<Entry, Stop>
+    requires profile { IsTrue (is_profile profile.now) }
+    ensures edits { (t : Tree) (es : Entries) → IsMeant S.X.block32 N.name64 (S.seen store.old).told profile.now what t → IsEntry S.X.block32 N.name64 (S.seen store.old).told profile.now folder.now (Dir es)
+        → IsMember S.X.block32 N.name64 (S.seen store.old).told profile.now (child name.now es) found → Calm (S.seen store.old) (S.seen store.new)
+        → Edits S.X.block32 N.name64 (S.seen store.new).told profile.now (allowed S.X.block32 N.name64 profile.now (change what t led name.now es)) result }
+    ensures cause { ShownStop S.X.block32 (IsBad N.name64 (Some profile.now)) result (S.seen store.old) (S.seen store.new) }
+    ensures good { KeepsGood S.X.block32 (S.seen store.old).told (S.seen store.new).told }
+    ensures saves { SavesOnly (S.seen store.old).told (S.seen store.new).told }
+{
+    match may(what, led, found) {
+        Err(why) => Err(Stop::Refused(why)),
+        Ok(()) => match what {
+            Change::Make => make_in::<S, N, L>(alloc, store, profile, folder, name, touches),
+            Change::Put(new) => put_in::<S, N, L>(
+                alloc, store, profile, folder, name, &new, touches,
+            ),
+            Change::Remove(_) => {
+                take_out::<S, N, L>(alloc, store, profile, led, folder, name, touches)
+            }
+        },
+    }
+}
+
+// Whether an edit may be done, by what was found under its name.
+fn may(what: Change, led: usize, found: Option<Thing>) -> Result<(), Refused>
+    ensures { (X : List ℕ → List ℕ) (N : List ℕ → ℕ) (told : Told) (p : TheProfile) (o : TheOption Tree) → IsMember X N told p o found
+        → Decides (λ a b. Unit {0}) (may_be what led o) result }
+{
+    match what {
+        Change::Make => may_put(led, found),
+        Change::Put(_) => may_put(led, found),
+        Change::Remove(recursive) => may_take(recursive, led, found),
+    }
+}
+
+// Whether a name is free.
+fn may_put(led: usize, found: Option<Thing>) -> Result<(), Refused>
+    ensures { (X : List ℕ → List ℕ) (N : List ℕ → ℕ) (told : Told) (p : TheProfile) (o : TheOption Tree) → IsMember X N told p o found
+        → Decides (λ a b. Unit {0}) (as_free led o) result }
+{
+    match found {
+        None => Ok(()),
+        Some(_) => Err(Refused::Exists(led)),
+    }
+}
+
+// Whether a member may be taken away.
+fn may_take(recursive: bool, led: usize, found: Option<Thing>) -> Result<(), Refused>
+    ensures { (X : List ℕ → List ℕ) (N : List ℕ → ℕ) (told : Told) (p : TheProfile) (o : TheOption Tree) → IsMember X N told p o found
+        → Decides (λ a b. Unit {0}) (as_removable recursive led o) result }
+{
+    match found {
+        None => Err(Refused::NotFound(led)),
+        Some(Thing::File(_)) => Ok(()),
+        Some(Thing::Folder(_)) => {
+            if recursive {
+                Ok(())
+            } else {
+                Err(Refused::NeedsRecursive(led))
+            }
+        }
+    }
+}
+
+// Makes an empty folder in this one.
+fn make_in<S: Store, N: NameHash, L: Ledger>(
+    alloc: Global,
+    store: &mut S,
+    profile: &Profile,
+    folder: &Entry,
+    name: &Name,
+    touches: &mut Steps<L>,
+) -> Result<Entry, Stop>
+    requires profile { IsTrue (is_profile profile.now) }
+    ensures edits { (es : Entries) → IsEntry S.X.block32 N.name64 (S.seen store.old).told profile.now folder.now (Dir es) → Calm (S.seen store.old) (S.seen store.new)
+        → Edits S.X.block32 N.name64 (S.seen store.new).told profile.now (allowed S.X.block32 N.name64 profile.now (Ok (with_child name.now (Dir Nothing) es))) result }
+    ensures cause { ShownStop S.X.block32 (IsBad N.name64 (Some profile.now)) result (S.seen store.old) (S.seen store.new) }
+    ensures good { KeepsGood S.X.block32 (S.seen store.old).told (S.seen store.new).told }
+    ensures saves { SavesOnly (S.seen store.old).told (S.seen store.new).told }
+{
+    match empty(alloc, store, touches) {
+        Err(fault) => Err(Stop::Store(fault)),
+        Ok(new) => put_in::<S, N, L>(alloc, store, profile, folder, name, &new, touches),
+    }
+}
+
+/// Puts an entry into this folder.
+pub(crate) fn put_in<S: Store, N: NameHash, L: Ledger>(
+    alloc: Global,
+    store: &mut S,
+    profile: &Profile,
+    folder: &Entry,
+    name: &Name,
+    entry: &Entry,
+    touches: &mut Steps<L>,
+) -> Result<Entry, Stop>
+    requires profile { IsTrue (is_profile profile.now) }
+    ensures edits { (t : Tree) (es : Entries) → IsEntry S.X.block32 N.name64 (S.seen store.old).told profile.now folder.now (Dir es) → IsEntry S.X.block32 N.name64 (S.seen store.old).told profile.now entry.now t
+        → Calm (S.seen store.old) (S.seen store.new)
+        → Edits S.X.block32 N.name64 (S.seen store.new).told profile.now (allowed S.X.block32 N.name64 profile.now (Ok (with_child name.now t es))) result }
+    ensures cause { ShownStop S.X.block32 (IsBad N.name64 (Some profile.now)) result (S.seen store.old) (S.seen store.new) }
+    ensures good { KeepsGood S.X.block32 (S.seen store.old).told (S.seen store.new).told }
+    ensures saves { SavesOnly (S.seen store.old).told (S.seen store.new).told }
+{
+    names_are_good(name);
+    match put::<S, N, L>(alloc, store, profile, &folder.cid, name, entry, touches) {
+        Err(fault) => Err(stop_of(fault)),
+        Ok(new) => Ok(new),
+    }
+}
+
+// Takes a member out of this folder.
+fn take_out<S: Store, N: NameHash, L: Ledger>(
+    alloc: Global,
+    store: &mut S,
+    profile: &Profile,
+    led: usize,
+    folder: &Entry,
+    name: &Name,
+    touches: &mut Steps<L>,
+) -> Result<Entry, Stop>
+    requires profile { IsTrue (is_profile profile.now) }
+    ensures edits { (es : Entries) → IsEntry S.X.block32 N.name64 (S.seen store.old).told profile.now folder.now (Dir es) → child name.now es ≢ None → Calm (S.seen store.old) (S.seen store.new)
+        → Edits S.X.block32 N.name64 (S.seen store.new).told profile.now (allowed S.X.block32 N.name64 profile.now (Ok (without_child name.now es))) result }
+    ensures cause { ShownStop S.X.block32 (IsBad N.name64 (Some profile.now)) result (S.seen store.old) (S.seen store.new) }
+    ensures good { KeepsGood S.X.block32 (S.seen store.old).told (S.seen store.new).told }
+    ensures saves { SavesOnly (S.seen store.old).told (S.seen store.new).told }
+{
+    match remove::<S, N, L>(alloc, store, profile, &folder.cid, name, touches) {
+        Err(fault) => Err(Stop::Store(fault)),
+        Ok(None) => Err(Stop::Refused(Refused::NotFound(led))),
+        Ok(Some(new)) => Ok(new),
+    }
+}
+
+// The fault of an edited directory as that of a step.
+fn stop_of(fault: DirFault) -> Stop
+    ensures { result ≡ the_stop fault }
+{
+    match fault {
+        DirFault::Collision(first, second) => Stop::Refused(Refused::Collision(first, second)),
+        DirFault::TooBig => Stop::Refused(Refused::TooBig),
+        DirFault::Store(fault) => Stop::Store(fault),
+    }
+}
+
+// A name is good, and text.
+fn names_are_good(name: &Name)
+    ensures { IsTrue (is_name name.now) }
+{
+    name.as_str();
+}

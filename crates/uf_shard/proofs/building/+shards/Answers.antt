@@ -1,0 +1,121 @@
+use Rattle.std.proofs.Common.{◌≡◌, ℕ, ◌-◌, ◌<◌, List, [], length, get_or, refl, arith, rules, ap, sym, ◌∙◌, subst, length-append}
+use Rattle.std.proofs.lemmas.List.{get_or_read}
+use Rattle.std.proofs.lemmas.Result.{on_ok_weaker, IfOk-weaker}
+use Rattle.uf_store.proofs.Causes.{StaysCalm-refl, StaysCalm-trans}
+use Rattle.uf_store.proofs.Keeping.{KeepsGood-refl, KeepsGood-trans, SavesOnly-refl, SavesOnly-trans}
+use Rattle.uf_tree.specs.ShardPlan.{flat_tabulate, slot_blocks, slot_item, tabulate}
+use Rattle.uf_shard.specs.Buckets.{blocks_at, deeper, item_at, pairs_of}
+use Rattle.uf_shard.specs.Saving.{PutsItem}
+use Rattle.uf_shard.specs.declared.hashed.Hashed.{Hashed}
+use Rattle.uf_shard.proofs.BucketRows.{AreSlots, Holds-nil, Holds-over, Holds-step, flat_tabulate-at, flat_tabulate-step, for-slot, tabulate-step, whole-blocks, whole-entry, whole-valid}
+use Rattle.uf_shard.proofs.building.+shards.Goals as goal
+
+pub save_shard-save_slots-requires : goal.save_shard-save_slots-requires
+save_shard-save_slots-requires g t c κs within =
+    let hash : List ℕ → List ℕ = g.S.X.BlockHash.block32 in
+    let name : List ℕ → ℕ = g.N.NameHash.name64 in
+    let each = subst (AreSlots hash name (7 - c.args.left) c.args.rows.now) (sym c.as_slice.ensures.value) c.in-Ok.ensures.rows in (
+      search rules,
+      (
+        within.0,
+        (
+          within.1.0,
+          (
+            within.1.1.0,
+            (
+              within.1.1.1,
+              (
+                c.requires.left,
+                (
+                  ap length c.as_slice.ensures.value ∙ c.in-Ok.ensures.count,
+                  λ s low. for-slot name c.args.left (7 - c.args.left) s c.args.rows.now _ refl c.requires.rows (each s low),
+                ),
+              ),
+            ),
+          ),
+        ),
+      ),
+    )
+
+pub save_shard-returns-in-Err-save_slots-clause-touches : goal.save_shard-returns-in-Err-save_slots-clause-touches
+save_shard-returns-in-Err-save_slots-clause-touches g t c =
+    let hash : List ℕ → List ℕ = g.S.X.BlockHash.block32 in
+    let name : List ℕ → ℕ = g.N.NameHash.name64 in
+    let each = subst (AreSlots hash name (7 - c.args.left) c.args.rows.now) (sym c.as_slice.ensures.value) c.in-Ok.ensures.rows in
+    let blocks = whole-blocks hash name c.args.left (7 - c.args.left) c.args.rows.now c.as_slice.result.now refl c.requires.rows each (tabulate 256 0 (item_at hash name c.args.left c.as_slice.result.now)) refl in
+    omega (arith, ap length blocks, c.save_slots.ensures.touches)
+
+pub save_shard-save_node-requires : goal.save_shard-save_node-requires
+save_shard-save_node-requires g t c =
+    let hash : List ℕ → List ℕ = g.S.X.BlockHash.block32 in
+    let name : List ℕ → ℕ = g.N.NameHash.name64 in
+    let each = subst (AreSlots hash name (7 - c.args.left) c.args.rows.now) (sym c.as_slice.ensures.value) c.in-Ok.ensures.rows in
+    whole-valid hash name c.args.left (7 - c.args.left) c.args.rows.now c.as_slice.result.now refl c.requires.rows each
+    (record { size = g.met.S.X.BlockHash.size; are_bytes = g.met.S.X.BlockHash.are_bytes }) c.in-Ok-save_slots.items c.in-Ok-save_slots.ensures.items
+
+pub save_shard-returns-clause-entry : goal.save_shard-returns-clause-entry
+save_shard-returns-clause-entry g t c =
+    let hash : List ℕ → List ℕ = g.S.X.BlockHash.block32 in
+    let name : List ℕ → ℕ = g.N.NameHash.name64 in
+    let each = subst (AreSlots hash name (7 - c.args.left) c.args.rows.now) (sym c.as_slice.ensures.value) c.in-Ok.ensures.rows in
+    IfOk-weaker c.save_node.result _ _ (λ e is. is ∙ whole-entry hash name c.args.left (7 - c.args.left) c.args.rows.now c.as_slice.result.now refl c.requires.rows each c.in-Ok-save_slots.items c.in-Ok-save_slots.ensures.items) c.save_node.ensures.entry
+
+pub save_shard-returns-clause-held : goal.save_shard-returns-clause-held
+save_shard-returns-clause-held g t c =
+    let hash : List ℕ → List ℕ = g.S.X.BlockHash.block32 in
+    let name : List ℕ → ℕ = g.N.NameHash.name64 in
+    let each = subst (AreSlots hash name (7 - c.args.left) c.args.rows.now) (sym c.as_slice.ensures.value) c.in-Ok.ensures.rows in
+    let blocks = whole-blocks hash name c.args.left (7 - c.args.left) c.args.rows.now c.as_slice.result.now refl c.requires.rows each c.in-Ok-save_slots.items c.in-Ok-save_slots.ensures.items in
+    on_ok_weaker c.save_node.result (λ held. Holds-over hash name c.args.left c.as_slice.result.now _ _ _ _ blocks c.save_node.ensures.good c.in-Ok-save_slots.ensures.held held) c.save_node.ensures.held
+
+pub save_shard-returns-clause-touches : goal.save_shard-returns-clause-touches
+save_shard-returns-clause-touches g t c =
+    let hash : List ℕ → List ℕ = g.S.X.BlockHash.block32 in
+    let name : List ℕ → ℕ = g.N.NameHash.name64 in
+    let each = subst (AreSlots hash name (7 - c.args.left) c.args.rows.now) (sym c.as_slice.ensures.value) c.in-Ok.ensures.rows in
+    let blocks = whole-blocks hash name c.args.left (7 - c.args.left) c.args.rows.now c.as_slice.result.now refl c.requires.rows each c.in-Ok-save_slots.items c.in-Ok-save_slots.ensures.items in
+    omega (arith, ap length blocks, c.save_slots.ensures.touches, c.save_node.ensures.touches)
+
+pub save_slots-loop-at-init : goal.save_slots-loop-at-init
+unfolding tabulate flat_tabulate
+save_slots-loop-at-init g t c = record {
+  items = c.new-items.ensures;
+  held = Holds-nil (g.S.Store.seen c.args.store.now).told;
+  calm = StaysCalm-refl (g.S.Store.seen c.args.store.now);
+  good = KeepsGood-refl g.S.X.BlockHash.block32 (g.S.Store.seen c.args.store.now).told;
+  saves = SavesOnly-refl (g.S.Store.seen c.args.store.now).told;
+  touches = omega arith;
+}
+
+pub save_slots-returns-in-Err-clause-good : goal.save_slots-returns-in-Err-clause-good
+save_slots-returns-in-Err-clause-good g t c = KeepsGood-trans _ _ _ _ c.loop-at.invariant.good c.save_slot.ensures.good
+
+pub save_slots-returns-in-Err-clause-touches : goal.save_slots-returns-in-Err-clause-touches
+save_slots-returns-in-Err-clause-touches g t c =
+    let hash : List ℕ → List ℕ = g.S.X.BlockHash.block32 in
+    let name : List ℕ → ℕ = g.N.NameHash.name64 in
+    let low : c.loop-at.at < length c.args.slots.now = omega arith in
+    let here : c.as_slice.result.now ≡ get_or c.args.slots.now c.loop-at.at [] = c.as_slice.ensures ∙ get_or_read c.args.slots.now c.loop-at.at c.index-slots-at.result low c.index-slots-at.is [] in
+    let one = ap (λ (l : List Hashed). length (slot_blocks (deeper hash name c.args.left) (pairs_of l))) here in
+    let most = flat_tabulate-at c.loop-at.at 256 (blocks_at hash name c.args.left c.args.slots.now) (omega (arith, c.requires.count)) in
+    omega (arith, one, most, c.loop-at.invariant.touches, c.save_slot.ensures.touches)
+
+pub save_slots-loop-at-preserved : goal.save_slots-loop-at-preserved
+save_slots-loop-at-preserved g t c =
+    let hash : List ℕ → List ℕ = g.S.X.BlockHash.block32 in
+    let name : List ℕ → ℕ = g.N.NameHash.name64 in
+    let low : c.loop-at.at < length c.args.slots.now = omega arith in
+    let here : c.as_slice.result.now ≡ get_or c.args.slots.now c.loop-at.at [] = c.as_slice.ensures ∙ get_or_read c.args.slots.now c.loop-at.at c.index-slots-at.result low c.index-slots-at.is [] in
+    let one = ap (λ (l : List Hashed). length (slot_blocks (deeper hash name c.args.left) (pairs_of l))) here in
+    let step = ap length (flat_tabulate-step c.loop-at.at (blocks_at hash name c.args.left c.args.slots.now)) in
+    let both = length-append (flat_tabulate c.loop-at.at 0 (blocks_at hash name c.args.left c.args.slots.now)) (blocks_at hash name c.args.left c.args.slots.now c.loop-at.at) in
+    record {
+      items = tabulate-step c.loop-at.at (item_at hash name c.args.left c.args.slots.now) c.loop-at.items c.save_slot.new.items c.loop-at.invariant.items
+          (subst (λ (l : List Hashed). PutsItem c.loop-at.at (slot_item (deeper hash name c.args.left) (pairs_of l)) c.loop-at.items c.save_slot.new.items) here c.in-Ok.ensures.item);
+      held = Holds-step hash name c.loop-at.at c.args.left c.args.slots.now c.as_slice.result.now (g.S.Store.seen c.loop-at.store).told (g.S.Store.seen c.save_slot.new.store).told here
+          c.save_slot.ensures.good c.loop-at.invariant.held c.in-Ok.ensures.held;
+      calm = StaysCalm-trans _ _ _ c.loop-at.invariant.calm c.in-Ok.ensures.cause;
+      good = KeepsGood-trans _ _ _ _ c.loop-at.invariant.good c.save_slot.ensures.good;
+      saves = SavesOnly-trans _ _ _ c.loop-at.invariant.saves c.save_slot.ensures.saves;
+      touches = omega (arith, one, step, both, c.loop-at.invariant.touches, c.save_slot.ensures.touches);
+    }

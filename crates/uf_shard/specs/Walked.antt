@@ -1,0 +1,89 @@
+-- Shards loaded one by one, and what the shards of a plan have below them.
+use Rattle.std.specs.Prelude.{◌≡◌, ◌≢◌, ◌≤◌, ◌+◌, ◌-◌, ◌*◌, ℕ, zero, suc, List, [], ◌∷◌, length, ⊤, Some, None, IfSome, nat_lt, if◌then◌else◌}
+use Rattle.std.specs.declared.option.Option.{Option}
+use Rattle.std.specs.declared.result.Result.{Result}
+use Rattle.std.specs.declared.result.Result.TheVariants.{Ok, Err}
+use Rattle.std.specs.List.{AllByRecursion, flat_map, sum_by}
+use Rattle.uf_cid.specs.declared.cid.Cid.{Cid}
+use Rattle.uf_cid.specs.Blocks.{Held}
+use Rattle.uf_store.specs.Contents.{held_at}
+use Rattle.uf_store.specs.Seen.{Seen}
+use Rattle.uf_store.specs.declared.store.StoreFault.{StoreFault}
+use Rattle.uf_store.specs.declared.store.StoreFault.TheVariants.{Failed, Damaged, Missing, BadBlock, Clash, Memory}
+use Rattle.uf_tree.specs.declared.nodes.Item.{Item}
+use Rattle.uf_tree.specs.declared.nodes.Item.TheVariants.{Leaf, Sub}
+use Rattle.uf_tree.specs.DirPlan.{weight}
+use Rattle.uf_tree.specs.Nodes.{InSlot, Named, shard_block}
+use Rattle.uf_tree.specs.ShardPlan.{shard}
+use Rattle.uf_tree.specs.Shardable.{HasShard}
+use Rattle.uf_tree.specs.Validity.{IsDirectory, IsShard}
+
+-- a shard stands only where a level is left for it
+abbrev pub HasLevel : ℕ → InSlot → Type 0
+HasLevel left p = elim p.1 [ Leaf name e ↦ ⊤ | Sub e ↦ 1 ≤ left ]
+
+-- the slots of a shard with so many levels below it
+pub record IsAbove (left : ℕ) (items : List InSlot) : Type 0 where
+  pub valid : IsShard items
+  pub levels : AllByRecursion (HasLevel left) items
+
+-- the block was found, and it is that of these slots
+pub record HasItems (left : ℕ) (cid : Cid) (before : Seen) (items : List InSlot) : Type 0 where
+  pub above : IsAbove left items
+  pub is_held : IfSome before.told (λ t. held_at t cid ≡ Some (shard_block items))
+
+-- the block was found, and it is no shard with so many levels below it
+pub record IsNoShard (left : ℕ) (cid : Cid) (before now : Seen) : Type 0 where
+  pub is_held : IfSome before.told (λ t. held_at t cid ≡ Some now.lent)
+  pub none : (items : List InSlot) → IsAbove left items → now.lent ≢ shard_block items
+
+-- a shard was loaded, or its block is lost or bad, or the store failed
+abbrev pub LoadsItems : ℕ → Cid → Seen → Seen → Result (List InSlot) StoreFault → Type 0
+LoadsItems left cid before now (Ok items) = HasItems left cid before items
+LoadsItems left cid before now (Err Failed) = ⊤
+LoadsItems left cid before now (Err (Damaged c)) = ⊤
+LoadsItems left cid before now (Err (Missing c)) = (c ≡ cid) × IfSome before.told (λ t. held_at t cid ≡ None)
+LoadsItems left cid before now (Err (BadBlock c role)) = IsNoShard left cid before now
+LoadsItems left cid before now (Err (Clash c held bytes)) = ⊥
+LoadsItems left cid before now (Err Memory) = ⊤
+
+-- what is left of a room, or nothing where the weight is more than the room
+abbrev pub room_after : ℕ → ℕ → Option ℕ
+room_after room weight = if nat_lt room weight then None else Some (room - weight)
+
+-- few shards were loaded: four for 37 that were weighed, and so many more on the way to where the weighing stopped
+abbrev pub IsFew : ℕ → ℕ → ℕ → ℕ → Result (Option ℕ) StoreFault → Type 0
+IsFew more before now room (Ok (Some rest)) = 37 * now + 4 * rest ≤ 37 * before + 4 * room
+IsFew more before now room (Ok None) = 37 * now ≤ 37 * before + 4 * room + 37 * more
+IsFew more before now room (Err fault) = 37 * now ≤ 37 * before + 4 * room + 37 * more
+
+-- the weight of all slots, where each slot has the pairs that `over` gives
+abbrev pub weight_over_slots : (ℕ → List Named) → List InSlot → ℕ
+weight_over_slots over items = sum_by (λ (p : InSlot). weight (over p.0)) items
+
+module _ (X : List ℕ → List ℕ) (N : List ℕ → ℕ) where
+  -- the CID is that of the shard of these pairs with so many levels below it
+  pub record IsRoot (left : ℕ) (root : Cid) (l : List Named) : Type 0 where
+    pub valid : IsDirectory l
+    pub some : 1 ≤ length l
+    pub apart : HasShard N left l
+    pub cid : root ≡ (shard X N left l).entry.cid
+
+  -- a slot of a shard with so many levels below it has these pairs
+  abbrev pub IsOver : ℕ → Item → List Named → Type 0
+  IsOver left (Leaf name e) l = l ≡ (name, e) ∷ []
+  IsOver zero (Sub e) l = ⊥
+  IsOver (suc left) (Sub e) l = IsRoot left e.cid l
+
+  -- the shard blocks below a slot that has these pairs
+  abbrev pub blocks_over : ℕ → Item → List Named → List Held
+  blocks_over left (Leaf name e) l = []
+  blocks_over zero (Sub e) l = []
+  blocks_over (suc left) (Sub e) l = (shard X N left l).blocks
+
+  -- the same for the slots of a shard, where each slot has the pairs that `over` gives
+  abbrev pub AreOver : ℕ → (ℕ → List Named) → List InSlot → Type 0
+  AreOver left over items = AllByRecursion (λ (p : InSlot). IsOver left p.1 (over p.0)) items
+
+  abbrev pub all_blocks : ℕ → (ℕ → List Named) → List InSlot → List Held
+  all_blocks left over items = flat_map (λ (p : InSlot). blocks_over left p.1 (over p.0)) items

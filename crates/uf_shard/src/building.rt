@@ -1,0 +1,201 @@
+// Shard trees built from lists.
+ghost use Rattle.std.specs.Prelude.{◌≡◌, ◌≤◌, ◌<◌, ◌+◌, ℕ, [], length, slice_index_or, IfOk, IfErr, OnOk};
+ghost use Rattle.uf_store.specs.Clashes.{IsSaving};
+ghost use Rattle.uf_store.specs.Faults.{Answers, NoneIsBad};
+ghost use Rattle.uf_store.specs.Keeping.{Holds, KeepsGood, SavesOnly};
+ghost use Rattle.uf_tree.specs.ShardPlan.{flat_tabulate, shard, slot_blocks, slot_item, tabulate};
+ghost use Rattle.uf_tree.specs.Validity.{IsDirectory};
+ghost use Rattle.uf_shard.specs.Answers.{Gives, Shown, shard_refusal};
+ghost use Rattle.uf_shard.specs.Buckets.{AreForShard, AreForSlot, blocks_at, deeper, item_at, pairs_of};
+ghost use Rattle.uf_shard.specs.Saving.{IsCollisionOr, IsMemory, IsWithin, PutsItem, leaf_of, names_of};
+
+use crate::DirFault;
+use crate::buckets::{hash_all, in_slots};
+use crate::hashed::Hashed;
+use crate::nodes::save_node;
+use crate::twins::first_twins;
+use std::alloc::Global;
+use std::sync::ledger::Ledger;
+use uf_cid::{Memory, Seq};
+use uf_murmur::NameHash;
+use uf_store::{Steps, Store, StoreFault};
+use uf_tree::{Entry, Item, Items, Pairs, Placed};
+
+// The greatest Tsize of a directory.
+const MOST_TSIZE: u64 = 1 << 62;
+
+/// Saves the shard tree of these pairs, at least one, and answers its entry (UnixFS v1, "HAMTDirectory"). Two names of one
+/// 64-bit hash are found before anything is saved. One touch for each shard.
+pub fn build<S: Store, N: NameHash, L: Ledger>(
+    alloc: Global,
+    store: &mut S,
+    pairs: &Pairs,
+    touches: &mut Steps<L>,
+) -> Result<Entry, DirFault>
+    requires directory { IsDirectory pairs.now }
+    requires some { 1 ≤ length pairs.now }
+    ensures answer { Gives (shard_refusal S.X.block32 N.name64 pairs.now) (shard S.X.block32 N.name64 7 pairs.now).entry result }
+    ensures held { OnOk result (Holds (S.seen store.new).told (shard S.X.block32 N.name64 7 pairs.now).blocks) }
+    ensures cause { Shown S.X.block32 NoneIsBad result (S.seen store.old) (S.seen store.new) }
+    ensures good { KeepsGood S.X.block32 (S.seen store.old).told (S.seen store.new).told }
+    ensures saves { SavesOnly (S.seen store.old).told (S.seen store.new).told }
+    ensures touches { touches.new ≤ touches.old + length (shard S.X.block32 N.name64 7 pairs.now).blocks }
+{
+    let rows = match hash_all::<N>(alloc, pairs.as_slice()) {
+        Ok(rows) => rows,
+        Err(Memory) => return Err(DirFault::Store(StoreFault::Memory)),
+    };
+    match first_twins(alloc, rows.as_slice()) {
+        Ok(None) => {}
+        Ok(Some(twins)) => return Err(collision(twins)),
+        Err(Memory) => return Err(DirFault::Store(StoreFault::Memory)),
+    }
+    match save_shard::<S, N, L>(alloc, store, 7, rows.as_slice(), touches) {
+        Ok(entry) => within(entry),
+        Err(fault) => Err(DirFault::Store(fault)),
+    }
+}
+
+// The fault that shows the names of two rows, or that there is no memory to show them.
+fn collision(twins: (Hashed, Hashed)) -> DirFault
+    ensures { IsCollisionOr (names_of twins.entry) result }
+{
+    let (first, second) = (twins.0.pair, twins.1.pair);
+    match (first.name.copy(), second.name.copy()) {
+        (Ok(first), Ok(second)) => DirFault::Collision(first, second),
+        _ => DirFault::Store(StoreFault::Memory),
+    }
+}
+
+// The entry, unless its Tsize is too big.
+fn within(entry: Entry) -> Result<Entry, DirFault>
+    ensures { IsWithin entry result }
+{
+    if entry.tsize > MOST_TSIZE {
+        return Err(DirFault::TooBig);
+    }
+    Ok(entry)
+}
+
+// Saves the shards of these rows, of which the highest has so many levels below it, and answers its entry.
+#[cycle(shards)]
+fn save_shard<S: Store, N: NameHash, L: Ledger>(
+    alloc: Global,
+    store: &mut S,
+    left: u8,
+    rows: &[Hashed],
+    touches: &mut Steps<L>,
+) -> Result<Entry, StoreFault>
+    requires left { left ≤ 7 }
+    requires rows { AreForShard N.name64 left rows.now }
+    ensures entry { IfOk result (λ e. e ≡ (shard S.X.block32 N.name64 left (pairs_of rows.now)).entry) }
+    ensures held { OnOk result (Holds (S.seen store.new).told (shard S.X.block32 N.name64 left (pairs_of rows.now)).blocks) }
+    ensures cause { Answers S.X.block32 NoneIsBad result (S.seen store.old) (S.seen store.new) }
+    ensures fault { IfErr result IsSaving }
+    ensures good { KeepsGood S.X.block32 (S.seen store.old).told (S.seen store.new).told }
+    ensures saves { SavesOnly (S.seen store.old).told (S.seen store.new).told }
+    ensures touches { touches.new ≤ touches.old + length (shard S.X.block32 N.name64 left (pairs_of rows.now)).blocks }
+{
+    let slots = match in_slots(alloc, rows, 7 - left) {
+        Ok(slots) => slots,
+        Err(Memory) => return Err(StoreFault::Memory),
+    };
+    let items = match save_slots::<S, N, L>(alloc, store, left, slots.as_slice(), touches) {
+        Ok(items) => items,
+        Err(fault) => return Err(fault),
+    };
+    save_node::<S, N, L>(alloc, store, &items, touches)
+}
+
+// Saves the shards below each slot of a shard, and answers what the slots have.
+#[cycle(shards)]
+fn save_slots<S: Store, N: NameHash, L: Ledger>(
+    alloc: Global,
+    store: &mut S,
+    left: u8,
+    slots: &[Seq<Hashed>],
+    touches: &mut Steps<L>,
+) -> Result<Items, StoreFault>
+    requires left { left ≤ 7 }
+    requires count { length slots.now ≡ 256 }
+    requires rows { (s : ℕ) → s < 256 → AreForSlot N.name64 left (slice_index_or slots.now s []) }
+    ensures items { IfOk result (λ items. items ≡ tabulate 256 0 (item_at S.X.block32 N.name64 left slots.now)) }
+    ensures held { OnOk result (Holds (S.seen store.new).told (flat_tabulate 256 0 (blocks_at S.X.block32 N.name64 left slots.now))) }
+    ensures cause { Answers S.X.block32 NoneIsBad result (S.seen store.old) (S.seen store.new) }
+    ensures fault { IfErr result IsSaving }
+    ensures good { KeepsGood S.X.block32 (S.seen store.old).told (S.seen store.new).told }
+    ensures saves { SavesOnly (S.seen store.old).told (S.seen store.new).told }
+    ensures touches { touches.new ≤ touches.old + length (flat_tabulate 256 0 (blocks_at S.X.block32 N.name64 left slots.now)) }
+{
+    let mut items = Items::new(alloc);
+    for (at, rows) in slots.iter().enumerate() {
+        let slot = at as u8;
+        match save_slot::<S, N, L>(
+            alloc,
+            store,
+            left,
+            slot,
+            rows.as_slice(),
+            &mut items,
+            touches,
+        ) {
+            Ok(()) => {}
+            Err(fault) => return Err(fault),
+        }
+    }
+    Ok(items)
+}
+
+// Saves the shards below a slot, and puts what the slot has behind the other slots.
+#[cycle(shards)]
+fn save_slot<S: Store, N: NameHash, L: Ledger>(
+    alloc: Global,
+    store: &mut S,
+    left: u8,
+    slot: u8,
+    rows: &[Hashed],
+    items: &mut Items,
+    touches: &mut Steps<L>,
+) -> Result<(), StoreFault>
+    requires left { left ≤ 7 }
+    requires rows { AreForSlot N.name64 left rows.now }
+    ensures item { OnOk result (PutsItem slot (slot_item (deeper S.X.block32 N.name64 left) (pairs_of rows.now)) items.old items.new) }
+    ensures held { OnOk result (Holds (S.seen store.new).told (slot_blocks (deeper S.X.block32 N.name64 left) (pairs_of rows.now))) }
+    ensures cause { Answers S.X.block32 NoneIsBad result (S.seen store.old) (S.seen store.new) }
+    ensures fault { IfErr result IsSaving }
+    ensures good { KeepsGood S.X.block32 (S.seen store.old).told (S.seen store.new).told }
+    ensures saves { SavesOnly (S.seen store.old).told (S.seen store.new).told }
+    ensures touches { touches.new ≤ touches.old + length (slot_blocks (deeper S.X.block32 N.name64 left) (pairs_of rows.now)) }
+{
+    match rows {
+        [] => Ok(()),
+        [row] => put_leaf(items, slot, row),
+        _ => match save_shard::<S, N, L>(alloc, store, left - 1, rows, touches) {
+            Ok(entry) => put_item(items, slot, Item::Sub(entry)),
+            Err(fault) => Err(fault),
+        },
+    }
+}
+
+// Puts the entry of a row into a slot behind the others.
+fn put_leaf(items: &mut Items, slot: u8, row: &Hashed) -> Result<(), StoreFault>
+    ensures item { OnOk result (PutsItem slot (Some (leaf_of row.now)) items.old items.new) }
+    ensures fault { IfErr result IsMemory }
+{
+    let pair = row.pair;
+    match pair.name.copy() {
+        Ok(name) => put_item(items, slot, Item::Leaf(name, pair.entry)),
+        Err(Memory) => Err(StoreFault::Memory),
+    }
+}
+
+// Puts a slot behind the others.
+fn put_item(items: &mut Items, slot: u8, item: Item) -> Result<(), StoreFault>
+    ensures item { OnOk result (PutsItem slot (Some item) items.old items.new) }
+    ensures fault { IfErr result IsMemory }
+{
+    match items.push(Placed { slot, item }) {
+        Ok(()) => Ok(()),
+        Err(Memory) => Err(StoreFault::Memory),
+    }
+}

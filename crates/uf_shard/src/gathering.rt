@@ -1,0 +1,192 @@
+// The names of a shard tree gathered in the order of its slots, and put in byte order.
+ghost use Rattle.std.specs.Prelude.{◌≡◌, ◌≤◌, ◌+◌, ◌∷◌, ◌++◌, [], List, ℕ, IfErr, IfOk, IfSome, OnOk, length};
+ghost use Rattle.std.specs.List.{AllByRecursion};
+ghost use Rattle.std.specs.Ordering.{eq_by_cmp};
+ghost use Rattle.uf_edge.specs.Counts.{Stood};
+ghost use Rattle.uf_store.specs.Contents.{held_at};
+ghost use Rattle.uf_store.specs.Faults.{Answers};
+ghost use Rattle.uf_store.specs.Keeping.{Agrees};
+ghost use Rattle.uf_store.specs.Lost.{IsLossOf};
+ghost use Rattle.uf_tree.specs.Names.{names_cmp};
+ghost use Rattle.uf_tree.specs.Nodes.{Named};
+ghost use Rattle.uf_tree.specs.ShardPlan.{shard};
+ghost use Rattle.uf_tree.specs.Validity.{IsDirectory, IsNamed};
+ghost use Rattle.uf_shard.specs.Listing.{AddsShard, AddsSlot, AddsSlots, IsBadShard, in_order};
+ghost use Rattle.uf_shard.specs.Sorting.{ends_with, with_other, without_repeats};
+ghost use Rattle.uf_shard.specs.Walked.{AreOver, HasLevel, IsOver, IsRoot, all_blocks, blocks_over};
+
+use crate::walking::load_items;
+use std::alloc::Global;
+use std::cmp::Ordering;
+use std::sync::ledger::Ledger;
+use uf_cid::{Cid, Memory, cids_are_whole};
+use uf_store::{Steps, Store, StoreFault};
+use uf_tree::{Entry, Item, Name, Pair, Pairs, Placed};
+
+// Puts the names of the shard under a CID, which has so many levels below it, behind the rows.
+#[cycle(gathering)]
+pub fn gather<S: Store, L: Ledger>(
+    alloc: Global,
+    store: &mut S,
+    left: u8,
+    cid: &Cid,
+    rows: &mut Vec<Pair>,
+    touches: &mut Steps<L>,
+) -> Result<(), StoreFault>
+    requires left { left ≤ 7 }
+    ensures adds { OnOk result (IfSome (S.seen store.old).told (λ t. AddsShard (held_at t) left cid.now rows.old.items rows.new.items)) }
+    ensures lost { (N : List ℕ → ℕ) (l : List Named) → IsRoot S.X.block32 N left cid.now l → Agrees (S.seen store.old).told (shard S.X.block32 N left l).blocks
+        → Stood (S.seen store.old).faults (S.seen store.new).faults
+        → IfErr result (IsLossOf (S.seen store.old).told (shard S.X.block32 N left l).blocks) }
+    ensures touches { (N : List ℕ → ℕ) (l : List Named) → IsRoot S.X.block32 N left cid.now l → Agrees (S.seen store.old).told (shard S.X.block32 N left l).blocks
+        → touches.new ≤ touches.old + length (shard S.X.block32 N left l).blocks }
+    ensures cause { Answers S.X.block32 IsBadShard result (S.seen store.old) (S.seen store.new) }
+    ensures told { (S.seen store.new).told ≡ (S.seen store.old).told }
+{
+    match load_items(alloc, store, left, cid, touches) {
+        Err(fault) => Err(fault),
+        Ok(items) => gather_slots(alloc, store, left, items.as_slice(), rows, touches),
+    }
+}
+
+// Puts the names of slots behind the rows.
+#[cycle(gathering)]
+fn gather_slots<S: Store, L: Ledger>(
+    alloc: Global,
+    store: &mut S,
+    left: u8,
+    items: &[Placed],
+    rows: &mut Vec<Pair>,
+    touches: &mut Steps<L>,
+) -> Result<(), StoreFault>
+    requires left { left ≤ 7 }
+    requires levels { AllByRecursion (HasLevel left) items.now }
+    ensures adds { OnOk result (IfSome (S.seen store.old).told (λ t. AddsSlots (held_at t) left items.now rows.old.items rows.new.items)) }
+    ensures lost { (N : List ℕ → ℕ) (over : ℕ → List Named) → AreOver S.X.block32 N left over items.now → Agrees (S.seen store.old).told (all_blocks S.X.block32 N left over items.now)
+        → Stood (S.seen store.old).faults (S.seen store.new).faults
+        → IfErr result (IsLossOf (S.seen store.old).told (all_blocks S.X.block32 N left over items.now)) }
+    ensures touches { (N : List ℕ → ℕ) (over : ℕ → List Named) → AreOver S.X.block32 N left over items.now → Agrees (S.seen store.old).told (all_blocks S.X.block32 N left over items.now)
+        → touches.new ≤ touches.old + length (all_blocks S.X.block32 N left over items.now) }
+    ensures cause { Answers S.X.block32 IsBadShard result (S.seen store.old) (S.seen store.new) }
+    ensures told { (S.seen store.new).told ≡ (S.seen store.old).told }
+{
+    for placed in items {
+        match gather_slot(alloc, store, left, placed, rows, touches) {
+            Ok(()) => {}
+            Err(fault) => return Err(fault),
+        }
+    }
+    Ok(())
+}
+
+// Puts the names of one slot behind the rows.
+#[cycle(gathering)]
+fn gather_slot<S: Store, L: Ledger>(
+    alloc: Global,
+    store: &mut S,
+    left: u8,
+    placed: &Placed,
+    rows: &mut Vec<Pair>,
+    touches: &mut Steps<L>,
+) -> Result<(), StoreFault>
+    requires left { left ≤ 7 }
+    requires level { HasLevel left placed.now }
+    ensures adds { OnOk result (IfSome (S.seen store.old).told (λ t. AddsSlot (held_at t) left placed.now.1 rows.old.items rows.new.items)) }
+    ensures lost { (N : List ℕ → ℕ) (l : List Named) → IsOver S.X.block32 N left placed.now.1 l → Agrees (S.seen store.old).told (blocks_over S.X.block32 N left placed.now.1 l)
+        → Stood (S.seen store.old).faults (S.seen store.new).faults
+        → IfErr result (IsLossOf (S.seen store.old).told (blocks_over S.X.block32 N left placed.now.1 l)) }
+    ensures touches { (N : List ℕ → ℕ) (l : List Named) → IsOver S.X.block32 N left placed.now.1 l → Agrees (S.seen store.old).told (blocks_over S.X.block32 N left placed.now.1 l)
+        → touches.new ≤ touches.old + length (blocks_over S.X.block32 N left placed.now.1 l) }
+    ensures cause { Answers S.X.block32 IsBadShard result (S.seen store.old) (S.seen store.new) }
+    ensures told { (S.seen store.new).told ≡ (S.seen store.old).told }
+{
+    match &placed.item {
+        Item::Leaf(name, entry) => match add_row(rows, name, entry) {
+            Ok(()) => Ok(()),
+            Err(Memory) => Err(StoreFault::Memory),
+        },
+        Item::Sub(entry) => gather(alloc, store, left - 1, &entry.cid, rows, touches),
+    }
+}
+
+// Puts a name and its entry behind the rows.
+fn add_row(rows: &mut Vec<Pair>, name: &Name, entry: &Entry) -> Result<(), Memory>
+    ensures { OnOk result (rows.new.items ≡ rows.old.items ++ (name.now, entry.now) ∷ []) }
+{
+    let name = name.copy()?;
+    rows.push(Pair {
+        name,
+        entry: *entry,
+    })?;
+    Ok(())
+}
+
+// The rows in byte order, and of a name that comes twice the first row.
+pub fn ordered(alloc: Global, mut rows: Vec<Pair>) -> Result<Pairs, Memory>
+    ensures order { IfOk result (λ l. l ≡ in_order rows.items) }
+    ensures valid { IfOk result IsDirectory }
+{
+    rows.sort_by(by_name)?;
+    first_of_each(alloc, rows)
+}
+
+// How two pairs stand in byte order of their names.
+fn by_name(a: &Pair, b: &Pair) -> Ordering
+    ensures { result ≡ names_cmp a.now.0 b.now.0 }
+{
+    a.name.as_str().as_bytes().cmp(b.name.as_str().as_bytes())
+}
+
+// Of pairs of one name that stand side by side the first one.
+fn first_of_each(alloc: Global, rows: Vec<Pair>) -> Result<Pairs, Memory>
+    ensures pairs { IfOk result (λ l. l ≡ without_repeats rows.items) }
+    ensures named { IfOk result (AllByRecursion IsNamed) }
+{
+    let mut pairs = Pairs::new(alloc);
+    for pair in rows {
+        add_new(&mut pairs, pair)?;
+    }
+    Ok(pairs)
+}
+
+// Puts a pair behind others, unless the last of them has its name.
+fn add_new(pairs: &mut Pairs, pair: Pair) -> Result<(), Memory>
+    ensures pairs { OnOk result (pairs.new ≡ with_other pairs.old pair) }
+    ensures named { AllByRecursion IsNamed pairs.old → OnOk result (AllByRecursion IsNamed pairs.new) }
+{
+    if is_last(pairs.as_slice(), &pair.name) {
+        return Ok(());
+    }
+    pair_is_named(&pair);
+    pairs.push(pair)
+}
+
+// Whether the last pair has this name.
+fn is_last(pairs: &[Pair], name: &Name) -> bool
+    ensures { result ≡ ends_with name.now pairs.now }
+{
+    match pairs {
+        [] => false,
+        [.., last] => is_same(&last.name, name),
+    }
+}
+
+// Whether two names are one.
+fn is_same(a: &Name, b: &Name) -> bool
+    ensures { result ≡ eq_by_cmp names_cmp a.now b.now }
+{
+    match a.as_str().as_bytes().cmp(b.as_str().as_bytes()) {
+        Ordering::Less => false,
+        Ordering::Equal => true,
+        Ordering::Greater => false,
+    }
+}
+
+// A pair has a good name and an entry.
+fn pair_is_named(pair: &Pair)
+    ensures { IsNamed pair.now }
+{
+    let _name = pair.name.as_str();
+    let _tsize = pair.entry.tsize;
+    cids_are_whole(&pair.entry.cid);
+}

@@ -1,0 +1,67 @@
+// Shards saved.
+ghost use Rattle.std.specs.Prelude.{◌≡◌, ◌+◌, ◌≤◌, ◌∷◌, [], length, map, IfOk, OnOk, IfErr};
+ghost use Rattle.std.specs.List.{sum_by};
+ghost use Rattle.uf_store.specs.Clashes.{IsSaving};
+ghost use Rattle.uf_store.specs.Faults.{Answers, NoneIsBad};
+ghost use Rattle.uf_store.specs.Keeping.{Holds, KeepsGood, SavesOnly};
+ghost use Rattle.uf_tree.specs.Nodes.{InSlot, capped, item_entry, node_entry, shard_block};
+ghost use Rattle.uf_tree.specs.ShardPlan.{shard_held};
+ghost use Rattle.uf_tree.specs.Validity.{IsShard};
+
+use std::alloc::Global;
+use std::sync::ledger::Ledger;
+use uf_cid::{Codec, Memory};
+use uf_murmur::NameHash;
+use uf_store::{Steps, Store, StoreFault, save_block};
+use uf_tree::{Entry, Item, Items, Placed, shard_node};
+
+// Saves the shard of these slots, and answers its entry. At most one touch.
+pub fn save_node<S: Store, N: NameHash, L: Ledger>(
+    alloc: Global,
+    store: &mut S,
+    items: &Items,
+    touches: &mut Steps<L>,
+) -> Result<Entry, StoreFault>
+    requires { IsShard items.now }
+    ensures entry { IfOk result (λ e. e ≡ node_entry S.X.block32 (shard_block items.now) (map (λ (p : InSlot). item_entry p.1) items.now)) }
+    ensures held { OnOk result (Holds (S.seen store.new).told (shard_held S.X.block32 N.name64 items.now ∷ [])) }
+    ensures cause { Answers S.X.block32 NoneIsBad result (S.seen store.old) (S.seen store.new) }
+    ensures fault { IfErr result IsSaving }
+    ensures good { KeepsGood S.X.block32 (S.seen store.old).told (S.seen store.new).told }
+    ensures saves { SavesOnly (S.seen store.old).told (S.seen store.new).told }
+    ensures touches { touches.new ≤ touches.old + 1 }
+{
+    let block = match shard_node(alloc, items) {
+        Ok(block) => block,
+        Err(Memory) => return Err(StoreFault::Memory),
+    };
+    let bytes = block.as_slice();
+    match save_block(alloc, store, Codec::DagPb, bytes, touches) {
+        Ok(cid) => Ok(Entry {
+            cid,
+            tsize: tsize_over(bytes, items.as_slice()),
+        }),
+        Err(fault) => Err(fault),
+    }
+}
+
+// The length of a shard's block and the Tsizes of its links; a greater number counts as the greatest.
+fn tsize_over(bytes: &[u8], items: &[Placed]) -> u64
+    ensures { result ≡ capped (length bytes.now + sum_by (λ (p : InSlot). (item_entry p.1).tsize) items.now) }
+{
+    let mut total = bytes.len() as u64;
+    for placed in items {
+        total = total.saturating_add(tsize_of(&placed.item));
+    }
+    total
+}
+
+// The Tsize of what a slot links.
+fn tsize_of(item: &Item) -> u64
+    ensures { result ≡ (item_entry item.now).tsize }
+{
+    match item {
+        Item::Leaf(_, entry) => entry.tsize,
+        Item::Sub(entry) => entry.tsize,
+    }
+}

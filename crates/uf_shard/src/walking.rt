@@ -1,0 +1,76 @@
+// Shards loaded one by one, whatever names are below them.
+ghost use Rattle.std.specs.Prelude.{◌≡◌, ◌≤◌, ◌+◌, ◌↔◌, IsTrue};
+ghost use Rattle.std.specs.List.{AllByRecursion};
+ghost use Rattle.uf_store.specs.Faults.{Answers};
+ghost use Rattle.uf_tree.specs.Codecs.{Reads};
+ghost use Rattle.uf_tree.specs.Nodes.{shard_block};
+ghost use Rattle.uf_shard.specs.Listing.{IsBadShard};
+ghost use Rattle.uf_shard.specs.Walked.{HasLevel, IsAbove, LoadsItems};
+
+use std::alloc::Global;
+use std::sync::ledger::Ledger;
+use uf_cid::{Cid, StrictFault};
+use uf_store::{Role, Steps, Store, StoreFault, need};
+use uf_tree::{Item, Items, Placed, read_shard_node};
+
+// The slots of the shard under a CID, which has so many levels below it.
+pub fn load_items<S: Store, L: Ledger>(
+    alloc: Global,
+    store: &mut S,
+    left: u8,
+    cid: &Cid,
+    touches: &mut Steps<L>,
+) -> Result<Items, StoreFault>
+    requires { left ≤ 7 }
+    ensures loads { LoadsItems left cid.now (S.seen store.old) (S.seen store.new) result }
+    ensures cause { Answers S.X.block32 IsBadShard result (S.seen store.old) (S.seen store.new) }
+    ensures told { (S.seen store.new).told ≡ (S.seen store.old).told }
+    ensures touches { touches.new ≡ touches.old + 1 }
+{
+    if let Err(fault) = need(store, cid, touches) {
+        return Err(fault);
+    }
+    match read_items(alloc, store.block(), left) {
+        Ok(items) => Ok(items),
+        Err(StrictFault::NotCanonical) => Err(StoreFault::BadBlock(*cid, Role::Shard(7 - left))),
+        Err(StrictFault::Memory) => Err(StoreFault::Memory),
+    }
+}
+
+// The slots of a shard with so many levels below it.
+fn read_items(alloc: Global, bytes: &[u8], left: u8) -> Result<Items, StrictFault>
+    ensures { Reads (IsAbove left) shard_block bytes.now result }
+{
+    match read_shard_node(alloc, bytes) {
+        Err(fault) => Err(fault),
+        Ok(items) => {
+            if have_levels(items.as_slice(), left) {
+                Ok(items)
+            } else {
+                Err(StrictFault::NotCanonical)
+            }
+        }
+    }
+}
+
+// Whether a level is left for each shard among the items.
+fn have_levels(items: &[Placed], left: u8) -> bool
+    ensures { IsTrue result ↔ AllByRecursion (HasLevel left) items.now }
+{
+    for placed in items {
+        if !has_level(placed, left) {
+            return false;
+        }
+    }
+    true
+}
+
+// Whether a level is left for the shard, where the item is one.
+fn has_level(placed: &Placed, left: u8) -> bool
+    ensures { IsTrue result ↔ HasLevel left placed.now }
+{
+    match &placed.item {
+        Item::Leaf(_, _) => true,
+        Item::Sub(_) => left > 0,
+    }
+}

@@ -1,0 +1,223 @@
+-- What the answers of calls in a row show.
+use Rattle.std.proofs.Common.{◌≡◌, ℕ, ◌≤◌, List, true, arith, refl, sym, ap, subst, inl, inr, Some, None, Result, Ok, Err}
+use Rattle.uf_build.specs.Answers.{IsSaving}
+use Rattle.uf_edge.specs.Counts.{Rose, Stood}
+use Rattle.uf_mfs.specs.Answers.{Shown as ShownByTree}
+use Rattle.uf_mfs.specs.Bad.{IsBad}
+use Rattle.uf_mfs.specs.declared.types.MfsFault.{MfsFault}
+use Rattle.uf_mfs.specs.declared.types.MfsFault.TheVariants as mfs
+use Rattle.uf_store.specs.declared.store.Role.{Role}
+use Rattle.uf_store.specs.declared.store.Role.TheVariants.{Directory, Shard, FileNode, Leaf}
+use Rattle.uf_store.specs.declared.store.StoreFault.{StoreFault}
+use Rattle.uf_store.specs.declared.store.StoreFault.TheVariants.{Failed, Damaged, Missing, BadBlock, Clash, Memory}
+use Rattle.uf_store.specs.Contents.{Notes, Told}
+use Rattle.uf_store.specs.Keeping.{KeepsGood, SavesOnly}
+use Rattle.uf_store.proofs.Keeping.{KeepsGood-refl}
+use Rattle.uf_tree.specs.Roles.{IsCanonicalDirectory, Basic, Sharded, FileRoot}
+use Rattle.uf_mfs.specs.Standing.{head_in}
+use Rattle.uf_top.specs.declared.types.Command.{Command}
+use Rattle.uf_store.specs.Faults.{NoneIsBad, Rises, Shows, StaysCalm}
+use Rattle.uf_store.specs.Seen.{Seen}
+use Rattle.uf_store.proofs.Causes.{Shows-after, StaysCalm-trans}
+use Rattle.uf_tree.specs.declared.profile.Profile.{Profile}
+use Rattle.uf_top.specs.Causes.{IsBadIn, IsMade, IsOfAt, IsOfInit, IsOfTree, IsProfileOf, IsReady, OnlyWants, Shown, refused_in_tree, refused_opening}
+use Rattle.uf_top.specs.Intake.{ShownIn, ShownWhy}
+use Rattle.uf_top.specs.declared.types.Refusal.{Refusal}
+use Rattle.uf_top.specs.declared.types.Refusal.TheVariants as refusal
+
+pub calm-rises : (a b : Seen) → StaysCalm a b → Rises a b
+calm-rises a b h = record { faults = omega (arith, h.faults); misses = h.misses; clashes = omega (arith, h.clashes) }
+
+pub stood-back : (a b c : ℕ) → b ≡ a → Stood a c → Stood b c
+stood-back a b c same h = subst (λ x. Stood x c) (sym same) h
+
+pub stood-front : (a b c : ℕ) → b ≡ a → b ≤ c → Stood a c → Stood a b
+stood-front a b c same later h = omega (arith, same, later, h)
+
+-- other blocks are bad
+pub Shows-more : (hash : List ℕ → List ℕ) (P Q : Role → List ℕ → Type 0) (f : StoreFault) (a b : Seen) → ((role : Role) (bytes : List ℕ) → P role bytes → Q role bytes) → Shows hash P f a b → Shows hash Q f a b
+Shows-more hash P Q Failed a b more h = h
+Shows-more hash P Q (Damaged cid) a b more h = h
+Shows-more hash P Q (Missing cid) a b more h = h
+Shows-more hash P Q (BadBlock cid role) a b more h = record { digest = h.digest; bad = more role b.lent h.bad; calm = h.calm }
+Shows-more hash P Q (Clash cid held bytes) a b more h = h
+Shows-more hash P Q Memory a b more h = h
+
+pub Shown-more : (hash : List ℕ → List ℕ) (P Q : Role → List ℕ → Type 0) (r : Result (List ℕ) Refusal) (a b : Seen) → ((role : Role) (bytes : List ℕ) → P role bytes → Q role bytes) → Shown hash P r a b → Shown hash Q r a b
+Shown-more hash P Q (Ok text) a b more h = h
+Shown-more hash P Q (Err (refusal.Rule rule)) a b more h = h
+Shown-more hash P Q (Err (refusal.BadPath why)) a b more h = h
+Shown-more hash P Q (Err refusal.Usage) a b more h = h
+Shown-more hash P Q (Err (refusal.Ready why)) a b more h = h
+Shown-more hash P Q (Err refusal.Read) a b more h = h
+Shown-more hash P Q (Err refusal.Write) a b more h = h
+Shown-more hash P Q (Err (refusal.Store f)) a b more h = Shows-more hash P Q f a b more h
+
+pub Shown-after : (hash : List ℕ → List ℕ) (P : Role → List ℕ → Type 0) (r : Result (List ℕ) Refusal) (a b c : Seen) → StaysCalm a b → Shown hash P r b c → Shown hash P r a c
+Shown-after hash P (Ok text) a b c p q = StaysCalm-trans a b c p q
+Shown-after hash P (Err (refusal.Rule rule)) a b c p q = StaysCalm-trans a b c p q
+Shown-after hash P (Err (refusal.BadPath why)) a b c p q = StaysCalm-trans a b c p q
+Shown-after hash P (Err refusal.Usage) a b c p q = StaysCalm-trans a b c p q
+Shown-after hash P (Err (refusal.Ready why)) a b c p q = StaysCalm-trans a b c p q
+Shown-after hash P (Err refusal.Read) a b c p q = StaysCalm-trans a b c p q
+Shown-after hash P (Err refusal.Write) a b c p q = StaysCalm-trans a b c p q
+Shown-after hash P (Err (refusal.Store f)) a b c p q = Shows-after hash P f a b c p q
+
+-- a command that reads no block's content
+pub Shown-of : (hash : List ℕ → List ℕ) (Q : Role → List ℕ → Type 0) (r : Result (List ℕ) Refusal) (a b : Seen) → ShownIn hash r a b → Shown hash Q r a b
+Shown-of hash Q (Ok text) a b h = h
+Shown-of hash Q (Err (refusal.Rule rule)) a b h = h
+Shown-of hash Q (Err (refusal.BadPath why)) a b h = h
+Shown-of hash Q (Err refusal.Usage) a b h = h
+Shown-of hash Q (Err (refusal.Ready why)) a b h = h
+Shown-of hash Q (Err refusal.Read) a b h = h
+Shown-of hash Q (Err refusal.Write) a b h = h
+Shown-of hash Q (Err (refusal.Store f)) a b h = Shows-more hash NoneIsBad Q f a b (λ role bytes bad. absurd bad) h
+
+-- the faults of calls on the tree
+module _ (A : Type 0) (hash : List ℕ → List ℕ) (P Q : Role → List ℕ → Type 0) (more : (role : Role) (bytes : List ℕ) → P role bytes → Q role bytes) where
+  pub Shown-opening : (f : MfsFault) (a b : Seen) → ShownByTree hash P {A = A} (Err f) a b → Shown hash Q (Err (refused_opening f)) a b
+  Shown-opening (mfs.Rule rule) a b h = calm-rises a b h
+  Shown-opening (mfs.Ready why) a b h = h
+  Shown-opening mfs.Sink a b h = absurd h
+  Shown-opening (mfs.Store f) a b h = Shows-more hash P Q f a b more h
+
+  pub Shown-tree : (f : MfsFault) (a b : Seen) → ShownByTree hash P {A = A} (Err f) a b → Shown hash Q (Err (refused_in_tree f)) a b
+  Shown-tree (mfs.Rule rule) a b h = h
+  Shown-tree (mfs.Ready why) a b h = calm-rises a b h
+  Shown-tree mfs.Sink a b h = absurd h
+  Shown-tree (mfs.Store f) a b h = Shows-more hash P Q f a b more h
+
+module _ (A B : Type 0) (hash : List ℕ → List ℕ) where
+  pub ShownIn-opening : (f : MfsFault) (a b : Seen) → ShownByTree hash NoneIsBad {A = A} (Err f) a b → ShownIn {A = B} hash (Err (refused_opening f)) a b
+  ShownIn-opening (mfs.Rule rule) a b h = calm-rises a b h
+  ShownIn-opening (mfs.Ready why) a b h = h
+  ShownIn-opening mfs.Sink a b h = absurd h
+  ShownIn-opening (mfs.Store f) a b h = h
+
+  pub ShownIn-tree : (f : MfsFault) (a b : Seen) → ShownByTree hash NoneIsBad {A = A} (Err f) a b → ShownIn {A = B} hash (Err (refused_in_tree f)) a b
+  ShownIn-tree (mfs.Rule rule) a b h = h
+  ShownIn-tree (mfs.Ready why) a b h = calm-rises a b h
+  ShownIn-tree mfs.Sink a b h = absurd h
+  ShownIn-tree (mfs.Store f) a b h = h
+
+pub init-work : (A : Type 0) (f : MfsFault) → IsOfInit {A = A} (Err (refused_opening f))
+init-work A (mfs.Rule rule) = tt
+init-work A (mfs.Ready why) = tt
+init-work A mfs.Sink = tt
+init-work A (mfs.Store f) = tt
+
+pub opening-work : (A : Type 0) (f : MfsFault) → IsOfAt {A = A} (Err (refused_opening f))
+opening-work A (mfs.Rule rule) = tt
+opening-work A (mfs.Ready why) = tt
+opening-work A mfs.Sink = tt
+opening-work A (mfs.Store f) = tt
+
+pub in-tree-work : (A : Type 0) (f : MfsFault) → IsOfTree {A = A} (Err (refused_in_tree f))
+in-tree-work A (mfs.Rule rule) = tt
+in-tree-work A (mfs.Ready why) = tt
+in-tree-work A mfs.Sink = tt
+in-tree-work A (mfs.Store f) = tt
+
+pub tree-work : {A : Type 0} (r : Result A Refusal) → IsOfTree r → IsOfAt r
+tree-work (Ok x) h = tt
+tree-work (Err (refusal.Rule rule)) h = tt
+tree-work (Err (refusal.BadPath why)) h = absurd h
+tree-work (Err refusal.Usage) h = absurd h
+tree-work (Err (refusal.Ready why)) h = absurd h
+tree-work (Err refusal.Read) h = absurd h
+tree-work (Err refusal.Write) h = absurd h
+tree-work (Err (refusal.Store f)) h = tt
+
+-- blocks that aren't canonical where the tree is read are so in what a command shows
+pub bad-of-none : (N : List ℕ → ℕ) (told : Told) (role : Role) (bytes : List ℕ) → IsBad N None role bytes → IsBadIn N told role bytes
+bad-of-none N told role bytes h = inl h
+
+pub bad-of-head : (N : List ℕ → ℕ) (told : Told) (p : Profile) → IsProfileOf told p → (role : Role) (bytes : List ℕ) → IsBad N (Some p) role bytes → IsBadIn N told role bytes
+bad-of-head N told p is role bytes h = inr (p, is, h)
+
+-- with no count risen, a fault that saves alone can have is want of memory
+pub saving-wants : (hash : List ℕ → List ℕ) (P : Role → List ℕ → Type 0) (f : StoreFault) (a b : Seen) → IsSaving f → Shows hash P f a b → Stood a.faults b.faults → Stood a.clashes b.clashes → f ≡ Memory
+saving-wants hash P Failed a b s h f c = (let rose = h.rose in absurd (omega (arith, rose, f)))
+saving-wants hash P (Damaged cid) a b s h f c = absurd s
+saving-wants hash P (Missing cid) a b s h f c = absurd s
+saving-wants hash P (BadBlock cid role) a b s h f c = absurd s
+saving-wants hash P (Clash cid held bytes) a b s h f c = (let rose = h.rose in absurd (omega (arith, rose, c)))
+saving-wants hash P Memory a b s h f c = refl
+
+pub not-rose : (before now : ℕ) → Rose before now → Stood before now → ⊥
+not-rose before now r s = omega (arith, r, s)
+
+-- only memory was wanting, and the store has stayed calm
+wants-why : (hash : List ℕ → List ℕ) (why : Refusal) (a b : Seen) → OnlyWants {A = List ℕ} (Err why) → StaysCalm a b → ShownWhy hash why a b
+wants-why hash (refusal.Rule rule) a b w h = h
+wants-why hash (refusal.BadPath why) a b w h = h
+wants-why hash refusal.Usage a b w h = h
+wants-why hash (refusal.Ready why) a b w h = h
+wants-why hash refusal.Read a b w h = h
+wants-why hash refusal.Write a b w h = h
+wants-why hash (refusal.Store f) a b w h = subst (λ f. Shows hash NoneIsBad f a b) (sym w) (calm-rises a b h)
+
+pub wants-shown : (hash : List ℕ → List ℕ) (r : Result (List ℕ) Refusal) (a b : Seen) → OnlyWants r → StaysCalm a b → ShownIn hash r a b
+wants-shown hash (Ok x) a b w h = h
+wants-shown hash (Err why) a b w h = wants-why hash why a b w h
+
+-- what is bad without a profile is bad with one
+with_profile : (p : Profile) (bytes : List ℕ) → IsCanonicalDirectory (Some p) true bytes → IsCanonicalDirectory None true bytes
+with_profile p bytes (Basic b) = Basic (record { pairs = b.pairs; valid = b.valid; light = tt; is = b.is })
+with_profile p bytes (Sharded s) = Sharded s
+with_profile p bytes (FileRoot e n) = FileRoot e n
+
+pub bad-more : (N : List ℕ → ℕ) (p : Profile) (role : Role) (bytes : List ℕ) → IsBad N None role bytes → IsBad N (Some p) role bytes
+bad-more N p Directory bytes bad = λ c. bad (with_profile p bytes c)
+bad-more N p (Shard level) bytes bad = bad
+bad-more N p FileNode bytes bad = bad
+bad-more N p Leaf bytes bad = bad
+
+pub shows-rises : (hash : List ℕ → List ℕ) (P : Role → List ℕ → Type 0) (f : StoreFault) (a b : Seen) → Shows hash P f a b → Rises a b
+shows-rises hash P Failed a b h = h.rises
+shows-rises hash P (Damaged c) a b h = h.rises
+shows-rises hash P (Missing c) a b h = calm-rises a b h.calm
+shows-rises hash P (BadBlock c role) a b h = calm-rises a b h.calm
+shows-rises hash P (Clash c held bytes) a b h = h.rises
+shows-rises hash P Memory a b h = h
+
+pub shown-rises : (hash : List ℕ → List ℕ) (P : Role → List ℕ → Type 0) (r : Result (List ℕ) Refusal) (a b : Seen) → Shown hash P r a b → Rises a b
+shown-rises hash P (Ok text) a b h = calm-rises a b h
+shown-rises hash P (Err (refusal.Rule rule)) a b h = calm-rises a b h
+shown-rises hash P (Err (refusal.BadPath why)) a b h = calm-rises a b h
+shown-rises hash P (Err refusal.Usage) a b h = calm-rises a b h
+shown-rises hash P (Err (refusal.Ready why)) a b h = calm-rises a b h
+shown-rises hash P (Err refusal.Read) a b h = calm-rises a b h
+shown-rises hash P (Err refusal.Write) a b h = calm-rises a b h
+shown-rises hash P (Err (refusal.Store f)) a b h = shows-rises hash P f a b h
+
+-- a text that was made, or want of memory, after which the store is as calm as before
+pub made-shown : (M : Type 0) (hash : List ℕ → List ℕ) (P : Role → List ℕ → Type 0) (text : Result (List ℕ) M) (r : Result (List ℕ) Refusal) (a b : Seen) → IsMade text r → StaysCalm a b → Shown hash P r a b
+made-shown M hash P (Ok x) r a b made h = subst (λ r. Shown hash P r a b) (sym made) h
+made-shown M hash P (Err m) r a b made h = subst (λ r. Shown hash P r a b) (sym made) (calm-rises a b h)
+
+pub made-work : (M : Type 0) (text : Result (List ℕ) M) (r : Result (List ℕ) Refusal) → IsMade text r → IsOfTree r
+made-work M (Ok x) r made = subst (λ (r : Result (List ℕ) Refusal). IsOfTree r) (sym made) tt
+made-work M (Err m) r made = subst (λ (r : Result (List ℕ) Refusal). IsOfTree r) (sym made) tt
+
+-- saves alone leave the Head
+pub saves-head : (a b : Told) → SavesOnly a b → head_in b ≡ head_in a
+saves-head None None h = refl
+saves-head None (Some b) h = absurd h
+saves-head (Some a) None h = absurd h
+saves-head (Some a) (Some b) h = ap (λ (n : Notes). n.head) h.same_notes
+
+pub same-good : (hash : List ℕ → List ℕ) (a b : Told) → b ≡ a → KeepsGood hash a b
+same-good hash a b e = subst (KeepsGood hash a) (sym e) (KeepsGood-refl hash a)
+
+-- a command on an opened tree is ready
+pub tree-ready : (a b : Seen) (command : Command) (r : Result (List ℕ) Refusal) → IsOfTree r → IsReady a b command r
+tree-ready a b command (Ok x) h = tt
+tree-ready a b command (Err (refusal.Rule rule)) h = tt
+tree-ready a b command (Err (refusal.BadPath why)) h = tt
+tree-ready a b command (Err refusal.Usage) h = tt
+tree-ready a b command (Err (refusal.Ready why)) h = absurd h
+tree-ready a b command (Err refusal.Read) h = tt
+tree-ready a b command (Err refusal.Write) h = tt
+tree-ready a b command (Err (refusal.Store f)) h = tt

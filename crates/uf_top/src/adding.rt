@@ -1,0 +1,234 @@
+// The commands that add the input as a file.
+ghost use Rattle.std.specs.Prelude.{◌≡◌, ◌<◌, List, ℕ, Ok, false, true, None, Some, IfOk, IfSome, IsTrue, OnOk};
+ghost use Rattle.uf_edge.specs.Counts.{Counts, Stood};
+ghost use Rattle.uf_mfs.specs.Standing.{LeavesHead, TellsAs, head_in};
+ghost use Rattle.uf_store.specs.Keeping.{KeepsGood};
+ghost use Rattle.uf_tree.specs.Profiles.{is_profile};
+ghost use Rattle.uf_tree.specs.Standing.{Standing};
+ghost use Rattle.uf_top.specs.Causes.{Adds, IsOfWork, IsProfileRead, IsReady, IsSynced, OnlyWants, ReadsProfile, Stops, is_read, or_usual as usual_or};
+ghost use Rattle.uf_top.specs.Endings.{SyncsFor};
+ghost use Rattle.uf_top.specs.Intake.{IsRowOf, ShownIn};
+ghost use Rattle.uf_top.specs.Reply.{Answers, add_reply};
+ghost use Rattle.uf_top.specs.declared.types.Command.TheVariants as commands;
+
+use crate::Refusal;
+use crate::intake::file_of;
+use crate::rows::added_row;
+use std::alloc::Global;
+use std::marker::Brand;
+use std::sync::ledger::{Blank, Ledger};
+use uf_cid::{Block, BlockHash};
+use uf_edge::{Put, Source};
+use uf_mfs::Ready;
+use uf_store::{Discard, Note, NoteRead, Steps, Store, StoreFault};
+use uf_tree::{HeadFault, Profile, read_head};
+
+// Adds the input, or only makes its row.
+pub fn adds<S: Store, I: Source, L: Ledger>(
+    alloc: Global,
+    only_hash: bool,
+    store: &mut S,
+    input: &mut I,
+    touches: &mut Steps<L>,
+) -> Result<Block, Refusal>
+    ensures answers { (N : List ℕ → ℕ) (standing : Standing) (bytes : List ℕ) → TellsAs S.X.block32 N (S.seen store.old).told standing → I.left input.old ≡ Some bytes
+        → Stood (S.seen store.old).faults (S.seen store.new).faults → Stood (S.seen store.old).clashes (S.seen store.new).clashes → Stood (I.faults input.old) (I.faults input.new)
+        → Answers S.X.block32 N standing (add_reply S.X.block32 only_hash standing bytes) result (S.seen store.new).told }
+    ensures adds { Adds S.X.block32 (S.seen store.old).told only_hash result (I.left input.old) (I.left input.new) }
+    ensures synced { SyncsFor (Ok (commands.Add only_hash)) result (S.seen store.new).told }
+    ensures ready { IsReady (S.seen store.old) (S.seen store.new) (commands.Add only_hash) result }
+    ensures work { IsOfWork result }
+    ensures counts { Counts (is_read result) (I.faults input.old) (I.faults input.new) }
+    ensures cause { ShownIn S.X.block32 result (S.seen store.old) (S.seen store.new) }
+    ensures good { KeepsGood S.X.block32 (S.seen store.old).told (S.seen store.new).told }
+    ensures head { head_in (S.seen store.new).told ≡ head_in (S.seen store.old).told }
+    ensures told { only_hash ≡ true → (S.seen store.new).told ≡ (S.seen store.old).told }
+    ensures touches { only_hash ≡ true → touches.new ≡ touches.old }
+{
+    if only_hash {
+        add_only_hash(alloc, store, input)
+    } else {
+        add(alloc, store, input, touches)
+    }
+}
+
+// Adds the input, and makes its blocks outlive a stop.
+fn add<S: Store, I: Source, L: Ledger>(
+    alloc: Global,
+    store: &mut S,
+    input: &mut I,
+    touches: &mut Steps<L>,
+) -> Result<Block, Refusal>
+    ensures answers { (N : List ℕ → ℕ) (standing : Standing) (bytes : List ℕ) → TellsAs S.X.block32 N (S.seen store.old).told standing → I.left input.old ≡ Some bytes
+        → Stood (S.seen store.old).faults (S.seen store.new).faults → Stood (S.seen store.old).clashes (S.seen store.new).clashes → Stood (I.faults input.old) (I.faults input.new)
+        → Answers S.X.block32 N standing (add_reply S.X.block32 false standing bytes) result (S.seen store.new).told }
+    ensures adds { Adds S.X.block32 (S.seen store.old).told false result (I.left input.old) (I.left input.new) }
+    ensures synced { OnOk result (IsSynced (S.seen store.new).told) }
+    ensures ready { IsReady (S.seen store.old) (S.seen store.new) (commands.Add false) result }
+    ensures work { IsOfWork result }
+    ensures counts { Counts (is_read result) (I.faults input.old) (I.faults input.new) }
+    ensures cause { ShownIn S.X.block32 result (S.seen store.old) (S.seen store.new) }
+    ensures good { KeepsGood S.X.block32 (S.seen store.old).told (S.seen store.new).told }
+    ensures head { head_in (S.seen store.new).told ≡ head_in (S.seen store.old).told }
+{
+    match head_profile(alloc, store) {
+        Err(why) => Err(why),
+        Ok(None) => Err(Refusal::Ready(Ready::NoHead)),
+        Ok(Some(profile)) => add_by(alloc, profile, store, input, touches),
+    }
+}
+
+// The row of the input as a file, with nothing kept and no touch counted.
+fn add_only_hash<S: Store, I: Source>(
+    alloc: Global,
+    store: &mut S,
+    input: &mut I,
+) -> Result<Block, Refusal>
+    ensures answers { (N : List ℕ → ℕ) (standing : Standing) (bytes : List ℕ) → TellsAs S.X.block32 N (S.seen store.old).told standing → I.left input.old ≡ Some bytes
+        → Stood (S.seen store.old).faults (S.seen store.new).faults → Stood (S.seen store.old).clashes (S.seen store.new).clashes → Stood (I.faults input.old) (I.faults input.new)
+        → Answers S.X.block32 N standing (add_reply S.X.block32 true standing bytes) result (S.seen store.new).told }
+    ensures adds { Adds S.X.block32 (S.seen store.old).told true result (I.left input.old) (I.left input.new) }
+    ensures ready { IsReady (S.seen store.old) (S.seen store.new) (commands.Add true) result }
+    ensures work { IsOfWork result }
+    ensures counts { Counts (is_read result) (I.faults input.old) (I.faults input.new) }
+    ensures cause { ShownIn S.X.block32 result (S.seen store.old) (S.seen store.new) }
+    ensures told { (S.seen store.new).told ≡ (S.seen store.old).told }
+{
+    match head_profile(alloc, store) {
+        Err(why) => Err(why),
+        Ok(found) => hash_by::<S::X, I>(alloc, or_usual(found), input),
+    }
+}
+
+// The profile that the Head says; none where there is no Head.
+fn head_profile<S: Store>(alloc: Global, store: &mut S) -> Result<Option<Profile>, Refusal>
+    ensures read { IsProfileRead result (S.seen store.old).told }
+    ensures accepted { IfOk result (λ found. IfSome found (λ p. IsTrue (is_profile p))) }
+    ensures cause { ShownIn S.X.block32 result (S.seen store.old) (S.seen store.new) }
+    ensures told { (S.seen store.new).told ≡ (S.seen store.old).told }
+{
+    match store.read_note(Note::Head) {
+        NoteRead::Text(text) => profile_of(alloc, text.as_slice()),
+        NoteRead::Absent => Ok(None),
+        NoteRead::Failed => Err(Refusal::Store(StoreFault::Failed)),
+        NoteRead::Memory => Err(Refusal::Store(StoreFault::Memory)),
+    }
+}
+
+// The profile that the text of a Head says.
+fn profile_of(alloc: Global, text: &[u8]) -> Result<Option<Profile>, Refusal>
+    ensures read { ReadsProfile result text.now }
+    ensures accepted { IfOk result (λ found. IfSome found (λ p. IsTrue (is_profile p))) }
+{
+    match read_head(alloc, text) {
+        Ok(head) => Ok(Some(head.profile)),
+        Err(HeadFault::Memory) => Err(Refusal::Store(StoreFault::Memory)),
+        Err(_) => Err(Refusal::Ready(Ready::BadHead)),
+    }
+}
+
+// The profile that was found, or the usual one.
+fn or_usual(found: Option<Profile>) -> Profile
+    ensures { result ≡ usual_or found }
+{
+    match found {
+        Some(profile) => profile,
+        None => Profile::usual(),
+    }
+}
+
+// Adds the input by a profile.
+fn add_by<S: Store, I: Source, L: Ledger>(
+    alloc: Global,
+    profile: Profile,
+    store: &mut S,
+    input: &mut I,
+    touches: &mut Steps<L>,
+) -> Result<Block, Refusal>
+    requires { IsTrue (is_profile profile) }
+    ensures row { IsRowOf S.X.block32 profile (S.seen store.new).told result (I.left input.old) (I.left input.new) }
+    ensures synced { OnOk result (IsSynced (S.seen store.new).told) }
+    ensures counts { Counts (is_read result) (I.faults input.old) (I.faults input.new) }
+    ensures cause { ShownIn S.X.block32 result (S.seen store.old) (S.seen store.new) }
+    ensures good { KeepsGood S.X.block32 (S.seen store.old).told (S.seen store.new).told }
+    ensures head { head_in (S.seen store.new).told ≡ head_in (S.seen store.old).told }
+{
+    match file_of(alloc, profile, store, input, touches) {
+        Err(why) => Err(why),
+        Ok(entry) => match added_row(alloc, &entry.cid) {
+            Err(_) => Err(Refusal::Store(StoreFault::Memory)),
+            Ok(row) => synced(store, row),
+        },
+    }
+}
+
+// The row, once all that was saved is made to outlive a stop.
+fn synced<S: Store>(store: &mut S, row: Block) -> Result<Block, Refusal>
+    ensures row { IfOk result (λ text. text ≡ row) }
+    ensures stopped { Stops result }
+    ensures synced { OnOk result (IsSynced (S.seen store.new).told) }
+    ensures cause { ShownIn S.X.block32 result (S.seen store.old) (S.seen store.new) }
+    ensures leaves { LeavesHead (S.seen store.old).told (S.seen store.new).told }
+{
+    match store.sync() {
+        Put::Done => Ok(row),
+        Put::Failed => Err(Refusal::Store(StoreFault::Failed)),
+        Put::Memory => Err(Refusal::Store(StoreFault::Memory)),
+    }
+}
+
+// The row of the input as a file by a profile, with nothing kept.
+fn hash_by<X: BlockHash, I: Source>(
+    alloc: Global,
+    profile: Profile,
+    input: &mut I,
+) -> Result<Block, Refusal>
+    requires { IsTrue (is_profile profile) }
+    ensures row { IsRowOf X.block32 profile None result (I.left input.old) (I.left input.new) }
+    ensures wants { OnlyWants result }
+    ensures counts { Counts (is_read result) (I.faults input.old) (I.faults input.new) }
+{
+    counted_hash_by::<X, I, Brand>(alloc, profile, input, Blank::new(1))
+}
+
+// The same, with a count of its own for the touches of the store that keeps nothing.
+fn counted_hash_by<X: BlockHash, I: Source, L: Ledger>(
+    alloc: Global,
+    profile: Profile,
+    input: &mut I,
+    blank: Blank,
+) -> Result<Block, Refusal>
+    requires profile { IsTrue (is_profile profile) }
+    requires name { blank.name ≡ L.name }
+    requires parts { blank.parts ≡ L.parts }
+    requires some { 0 < blank.parts }
+    ensures row { IsRowOf X.block32 profile None result (I.left input.old) (I.left input.new) }
+    ensures wants { OnlyWants result }
+    ensures counts { Counts (is_read result) (I.faults input.old) (I.faults input.new) }
+{
+    let mut touches = Steps::<L>::new(blank);
+    hash_over::<X, I, L>(alloc, profile, input, &mut touches)
+}
+
+// The same, with the touches that a builder over a store that keeps nothing makes.
+fn hash_over<X: BlockHash, I: Source, L: Ledger>(
+    alloc: Global,
+    profile: Profile,
+    input: &mut I,
+    touches: &mut Steps<L>,
+) -> Result<Block, Refusal>
+    requires { IsTrue (is_profile profile) }
+    ensures row { IsRowOf X.block32 profile None result (I.left input.old) (I.left input.new) }
+    ensures wants { OnlyWants result }
+    ensures counts { Counts (is_read result) (I.faults input.old) (I.faults input.new) }
+{
+    let mut store = Discard::<X>::new();
+    match file_of(alloc, profile, &mut store, input, touches) {
+        Err(Refusal::Store(_)) => Err(Refusal::Store(StoreFault::Memory)),
+        Err(why) => Err(why),
+        Ok(entry) => match added_row(alloc, &entry.cid) {
+            Err(_) => Err(Refusal::Store(StoreFault::Memory)),
+            Ok(row) => Ok(row),
+        },
+    }
+}

@@ -1,0 +1,278 @@
+// The commands on the tree that the Head names.
+ghost use Rattle.std.specs.Prelude.{◌≡◌, [], false, true, IfOk, IsTrue, Some, None};
+ghost use Rattle.uf_edge.specs.Counts.{Stood};
+ghost use Rattle.uf_mfs.specs.Answers.{Moves, Shown as ShownByTree};
+ghost use Rattle.uf_mfs.specs.Bad.{IsBad};
+ghost use Rattle.uf_mfs.specs.Standing.{IsMfs, StandsAt, TellsAs};
+ghost use Rattle.uf_store.specs.Keeping.{KeepsGood, SavesOnly};
+ghost use Rattle.uf_tree.specs.Profiles.{is_profile};
+ghost use Rattle.uf_tree.specs.Standing.{Standing, Stands};
+ghost use Rattle.uf_tree.specs.Tree.{Entries};
+ghost use Rattle.uf_tree.specs.declared.profile.Profile.{Profile as TheProfile};
+ghost use Rattle.uf_top.specs.Causes.{CommitsTo, HeadStays, IsBadIn, IsMade, IsOfAt, IsOfInit, IsOfTree, IsReady, Shown, refused_in_tree, refused_opening};
+ghost use Rattle.uf_top.specs.Commands.{only_looks};
+ghost use Rattle.uf_top.specs.Intake.{ShownIn};
+ghost use Rattle.uf_top.specs.Reply.{Answers, edited_by, in_tree as in_the_tree, init_reply, tree_reply};
+ghost use Rattle.uf_top.specs.declared.types.Ask.TheVariants as asks;
+ghost use Rattle.uf_top.specs.declared.types.Command.TheVariants as commands;
+
+use crate::rows::{name_lines, row_lines, stat_text};
+use crate::{Ask, Edit, Refusal};
+use std::alloc::Global;
+use std::sync::ledger::Ledger;
+use uf_cid::{Block, Memory};
+use uf_mfs::{Mfs, MfsFault};
+use uf_murmur::NameHash;
+use uf_path::Path;
+use uf_store::{Steps, Store, StoreFault};
+use uf_tree::Profile;
+
+// Makes the store ready.
+pub fn init<S: Store, N: NameHash, L: Ledger>(
+    alloc: Global,
+    profile: Profile,
+    store: &mut S,
+    touches: &mut Steps<L>,
+) -> Result<Block, Refusal>
+    requires { IsTrue (is_profile profile) }
+    ensures answers { (standing : Standing) → TellsAs S.X.block32 N.name64 (S.seen store.old).told standing
+        → Stood (S.seen store.old).faults (S.seen store.new).faults → Stood (S.seen store.old).clashes (S.seen store.new).clashes
+        → Answers S.X.block32 N.name64 standing (init_reply S.X.block32 N.name64 profile standing) result (S.seen store.new).told }
+    ensures nothing { IfOk result (λ text. text ≡ []) }
+    ensures ready { IsReady (S.seen store.old) (S.seen store.new) (commands.Init profile) result }
+    ensures work { IsOfInit result }
+    ensures cause { ShownIn S.X.block32 result (S.seen store.old) (S.seen store.new) }
+    ensures good { KeepsGood S.X.block32 (S.seen store.old).told (S.seen store.new).told }
+    ensures head { HeadStays result (S.seen store.old).told (S.seen store.new).told }
+{
+    match Mfs::init::<S, N, L>(alloc, store, profile, touches) {
+        Err(fault) => Err(opening(fault)),
+        Ok(tree) => {
+            let _ = tree;
+            Ok(Block::new(alloc))
+        }
+    }
+}
+
+// Does what is asked at a path of the tree that the Head names.
+pub fn at<S: Store, N: NameHash, L: Ledger>(
+    alloc: Global,
+    ask: Ask,
+    path: &Path,
+    store: &mut S,
+    touches: &mut Steps<L>,
+) -> Result<Block, Refusal>
+    ensures answers { (standing : Standing) → TellsAs S.X.block32 N.name64 (S.seen store.old).told standing
+        → Stood (S.seen store.old).faults (S.seen store.new).faults → Stood (S.seen store.old).clashes (S.seen store.new).clashes
+        → Answers S.X.block32 N.name64 standing (in_the_tree (tree_reply S.X.block32 N.name64 ask path.now.names) standing) result (S.seen store.new).told }
+    ensures ready { IsReady (S.seen store.old) (S.seen store.new) (commands.At ask path.now) result }
+    ensures work { IsOfAt result }
+    ensures cause { Shown S.X.block32 (IsBadIn N.name64 (S.seen store.old).told) result (S.seen store.old) (S.seen store.new) }
+    ensures good { KeepsGood S.X.block32 (S.seen store.old).told (S.seen store.new).told }
+    ensures head { HeadStays result (S.seen store.old).told (S.seen store.new).told }
+    ensures told { only_looks ask ≡ true → (S.seen store.new).told ≡ (S.seen store.old).told }
+{
+    match Mfs::from_store::<S, N, L>(alloc, store, touches) {
+        Err(fault) => Err(opening(fault)),
+        Ok(tree) => in_tree::<S, N, L>(alloc, tree, ask, path, store, touches),
+    }
+}
+
+// Does what is asked at a path of an opened tree.
+fn in_tree<S: Store, N: NameHash, L: Ledger>(
+    alloc: Global,
+    tree: Mfs,
+    ask: Ask,
+    path: &Path,
+    store: &mut S,
+    touches: &mut Steps<L>,
+) -> Result<Block, Refusal>
+    requires { IsMfs tree }
+    ensures answers { (p : TheProfile) (es : Entries) → StandsAt S.X.block32 N.name64 (S.seen store.old).told tree p es → TellsAs S.X.block32 N.name64 (S.seen store.old).told (Stands p es)
+        → Stood (S.seen store.old).faults (S.seen store.new).faults → Stood (S.seen store.old).clashes (S.seen store.new).clashes
+        → Answers S.X.block32 N.name64 (Stands p es) (tree_reply S.X.block32 N.name64 ask path.now.names p es) result (S.seen store.new).told }
+    ensures work { IsOfTree result }
+    ensures cause { Shown S.X.block32 (IsBad N.name64 (Some tree.profile)) result (S.seen store.old) (S.seen store.new) }
+    ensures good { KeepsGood S.X.block32 (S.seen store.old).told (S.seen store.new).told }
+    ensures head { HeadStays result (S.seen store.old).told (S.seen store.new).told }
+    ensures told { only_looks ask ≡ true → (S.seen store.new).told ≡ (S.seen store.old).told }
+{
+    match ask {
+        Ask::Ls { long: false } => names_at::<S, N, L>(alloc, &tree, path, store, touches),
+        Ask::Ls { long: true } => rows_at::<S, N, L>(alloc, &tree, path, store, touches),
+        Ask::Stat => stat_at::<S, N, L>(alloc, &tree, path, store, touches),
+        Ask::Edit { edit } => edit_at::<S, N, L>(alloc, tree, edit, path, store, touches),
+    }
+}
+
+// The names of what is at a path.
+fn names_at<S: Store, N: NameHash, L: Ledger>(
+    alloc: Global,
+    tree: &Mfs,
+    path: &Path,
+    store: &mut S,
+    touches: &mut Steps<L>,
+) -> Result<Block, Refusal>
+    ensures answers { (p : TheProfile) (es : Entries) → StandsAt S.X.block32 N.name64 (S.seen store.old).told tree.now p es → TellsAs S.X.block32 N.name64 (S.seen store.old).told (Stands p es)
+        → Stood (S.seen store.old).faults (S.seen store.new).faults
+        → Answers S.X.block32 N.name64 (Stands p es) (tree_reply S.X.block32 N.name64 (asks.Ls false) path.now.names p es) result (S.seen store.new).told }
+    ensures work { IsOfTree result }
+    ensures cause { Shown S.X.block32 (IsBad N.name64 (Some tree.now.profile)) result (S.seen store.old) (S.seen store.new) }
+    ensures good { KeepsGood S.X.block32 (S.seen store.old).told (S.seen store.new).told }
+    ensures head { HeadStays result (S.seen store.old).told (S.seen store.new).told }
+    ensures told { (S.seen store.new).told ≡ (S.seen store.old).told }
+{
+    match tree.names::<S, N, L>(alloc, store, path, touches) {
+        Err(fault) => Err(refusal(fault)),
+        Ok(names) => made(name_lines(alloc, &names)),
+    }
+}
+
+// The rows of what is at a path.
+fn rows_at<S: Store, N: NameHash, L: Ledger>(
+    alloc: Global,
+    tree: &Mfs,
+    path: &Path,
+    store: &mut S,
+    touches: &mut Steps<L>,
+) -> Result<Block, Refusal>
+    ensures answers { (p : TheProfile) (es : Entries) → StandsAt S.X.block32 N.name64 (S.seen store.old).told tree.now p es → TellsAs S.X.block32 N.name64 (S.seen store.old).told (Stands p es)
+        → Stood (S.seen store.old).faults (S.seen store.new).faults
+        → Answers S.X.block32 N.name64 (Stands p es) (tree_reply S.X.block32 N.name64 (asks.Ls true) path.now.names p es) result (S.seen store.new).told }
+    ensures work { IsOfTree result }
+    ensures cause { Shown S.X.block32 (IsBad N.name64 (Some tree.now.profile)) result (S.seen store.old) (S.seen store.new) }
+    ensures good { KeepsGood S.X.block32 (S.seen store.old).told (S.seen store.new).told }
+    ensures head { HeadStays result (S.seen store.old).told (S.seen store.new).told }
+    ensures told { (S.seen store.new).told ≡ (S.seen store.old).told }
+{
+    match tree.ls::<S, N, L>(alloc, store, path, touches) {
+        Err(fault) => Err(refusal(fault)),
+        Ok(rows) => made(row_lines(alloc, &rows)),
+    }
+}
+
+// What is said of what is at a path.
+fn stat_at<S: Store, N: NameHash, L: Ledger>(
+    alloc: Global,
+    tree: &Mfs,
+    path: &Path,
+    store: &mut S,
+    touches: &mut Steps<L>,
+) -> Result<Block, Refusal>
+    ensures answers { (p : TheProfile) (es : Entries) → StandsAt S.X.block32 N.name64 (S.seen store.old).told tree.now p es → TellsAs S.X.block32 N.name64 (S.seen store.old).told (Stands p es)
+        → Stood (S.seen store.old).faults (S.seen store.new).faults
+        → Answers S.X.block32 N.name64 (Stands p es) (tree_reply S.X.block32 N.name64 asks.Stat path.now.names p es) result (S.seen store.new).told }
+    ensures work { IsOfTree result }
+    ensures cause { Shown S.X.block32 (IsBad N.name64 (Some tree.now.profile)) result (S.seen store.old) (S.seen store.new) }
+    ensures good { KeepsGood S.X.block32 (S.seen store.old).told (S.seen store.new).told }
+    ensures head { HeadStays result (S.seen store.old).told (S.seen store.new).told }
+    ensures told { (S.seen store.new).told ≡ (S.seen store.old).told }
+{
+    match tree.stat::<S, N, L>(alloc, store, path, touches) {
+        Err(fault) => Err(refusal(fault)),
+        Ok(stat) => made(stat_text(alloc, &stat)),
+    }
+}
+
+// Edits the tree at a path, and writes its Head.
+fn edit_at<S: Store, N: NameHash, L: Ledger>(
+    alloc: Global,
+    tree: Mfs,
+    edit: Edit,
+    path: &Path,
+    store: &mut S,
+    touches: &mut Steps<L>,
+) -> Result<Block, Refusal>
+    requires { IsMfs tree }
+    ensures answers { (p : TheProfile) (es : Entries) → StandsAt S.X.block32 N.name64 (S.seen store.old).told tree p es → TellsAs S.X.block32 N.name64 (S.seen store.old).told (Stands p es)
+        → Stood (S.seen store.old).faults (S.seen store.new).faults → Stood (S.seen store.old).clashes (S.seen store.new).clashes
+        → Answers S.X.block32 N.name64 (Stands p es) (tree_reply S.X.block32 N.name64 (asks.Edit edit) path.now.names p es) result (S.seen store.new).told }
+    ensures work { IsOfTree result }
+    ensures cause { Shown S.X.block32 (IsBad N.name64 (Some tree.profile)) result (S.seen store.old) (S.seen store.new) }
+    ensures good { KeepsGood S.X.block32 (S.seen store.old).told (S.seen store.new).told }
+    ensures head { HeadStays result (S.seen store.old).told (S.seen store.new).told }
+{
+    let mut tree = tree;
+    match edited::<S, N, L>(alloc, &mut tree, edit, path, store, touches) {
+        Err(fault) => Err(refusal(fault)),
+        Ok(()) => committed::<S, N, L>(alloc, tree, store, touches),
+    }
+}
+
+// Edits the tree at a path, in memory.
+fn edited<S: Store, N: NameHash, L: Ledger>(
+    alloc: Global,
+    tree: &mut Mfs,
+    edit: Edit,
+    path: &Path,
+    store: &mut S,
+    touches: &mut Steps<L>,
+) -> Result<(), MfsFault>
+    requires { IsMfs tree.old }
+    ensures answer { (p : TheProfile) (es : Entries) → StandsAt S.X.block32 N.name64 (S.seen store.old).told tree.old p es
+        → Stood (S.seen store.old).faults (S.seen store.new).faults → Stood (S.seen store.old).clashes (S.seen store.new).clashes
+        → Moves S.X.block32 N.name64 (S.seen store.new).told p path.now.names tree.new (edited_by edit path.now.names es) result }
+    ensures mfs { IsMfs tree.new }
+    ensures cause { ShownByTree S.X.block32 (IsBad N.name64 (Some tree.old.profile)) result (S.seen store.old) (S.seen store.new) }
+    ensures good { KeepsGood S.X.block32 (S.seen store.old).told (S.seen store.new).told }
+    ensures saves { SavesOnly (S.seen store.old).told (S.seen store.new).told }
+{
+    match edit {
+        Edit::Mkdir { parents } => { tree.mkdir::<S, N, L>(alloc, store, path, parents, touches) }
+        Edit::Rm { recursive } => tree.rm::<S, N, L>(alloc, store, path, recursive, touches),
+    }
+}
+
+// Writes the Head of a tree. Nothing is printed.
+fn committed<S: Store, N: NameHash, L: Ledger>(
+    alloc: Global,
+    tree: Mfs,
+    store: &mut S,
+    touches: &mut Steps<L>,
+) -> Result<Block, Refusal>
+    requires { IsMfs tree }
+    ensures stands { (p : TheProfile) (es : Entries) → StandsAt S.X.block32 N.name64 (S.seen store.old).told tree p es → Stood (S.seen store.old).faults (S.seen store.new).faults
+        → CommitsTo S.X.block32 N.name64 p es result (S.seen store.new).told }
+    ensures work { IsOfTree result }
+    ensures cause { ShownIn S.X.block32 result (S.seen store.old) (S.seen store.new) }
+    ensures good { KeepsGood S.X.block32 (S.seen store.old).told (S.seen store.new).told }
+    ensures head { HeadStays result (S.seen store.old).told (S.seen store.new).told }
+{
+    let mut tree = tree;
+    match tree.commit::<S, N, L>(alloc, store, touches) {
+        Err(fault) => Err(refusal(fault)),
+        Ok(()) => Ok(Block::new(alloc)),
+    }
+}
+
+// The fault of a call that opens a tree as a refusal. No rule refuses that, and nothing is printed there.
+fn opening(fault: MfsFault) -> Refusal
+    ensures { result ≡ refused_opening fault }
+{
+    match fault {
+        MfsFault::Ready(why) => Refusal::Ready(why),
+        MfsFault::Store(fault) => Refusal::Store(fault),
+        MfsFault::Rule(_) | MfsFault::Sink => Refusal::Store(StoreFault::Memory),
+    }
+}
+
+// The fault of a call on an opened tree as a refusal. Such a tree is ready, and nothing is printed there.
+fn refusal(fault: MfsFault) -> Refusal
+    ensures { result ≡ refused_in_tree fault }
+{
+    match fault {
+        MfsFault::Rule(rule) => Refusal::Rule(rule),
+        MfsFault::Store(fault) => Refusal::Store(fault),
+        MfsFault::Ready(_) | MfsFault::Sink => Refusal::Store(StoreFault::Memory),
+    }
+}
+
+// What was made to be printed, or want of memory.
+fn made(text: Result<Block, Memory>) -> Result<Block, Refusal>
+    ensures { IsMade text result }
+{
+    match text {
+        Ok(text) => Ok(text),
+        Err(_) => Err(Refusal::Store(StoreFault::Memory)),
+    }
+}

@@ -1,6 +1,0 @@
-use Rattle.uf_tree.proofs.Told.{as_T}
-use Rattle.uf_tree.proofs.ShardLaws.{items-remove}
-use Rattle.uf_tree.proofs.laws.a_removal_changes_one_slot.Goals as goal
-
-pub returns : goal.returns
-returns c = λ N deeper k name l h. items-remove N deeper k name l (as_T _ h)

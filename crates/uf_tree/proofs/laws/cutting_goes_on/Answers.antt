@@ -1,5 +1,0 @@
-use Rattle.uf_tree.proofs.Groups.{split-append}
-use Rattle.uf_tree.proofs.laws.cutting_goes_on.Goals as goal
-
-pub returns : goal.returns
-returns c = λ w r front behind. split-append w r front behind

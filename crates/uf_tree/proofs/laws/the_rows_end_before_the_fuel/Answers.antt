@@ -1,5 +1,0 @@
-use Rattle.uf_tree.proofs.Climb.{climb-fuel}
-use Rattle.uf_tree.proofs.laws.the_rows_end_before_the_fuel.Goals as goal
-
-pub returns : goal.returns
-returns c = λ X width fuel other first rest two p q. climb-fuel X width fuel other first rest two p q
