@@ -1,0 +1,5 @@
+pub mod Files
+pub mod Heads
+pub mod Shards
+pub mod Trees
+pub mod Unique
