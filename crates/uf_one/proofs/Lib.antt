@@ -1,3 +1,4 @@
+pub mod Clashing
 pub mod Files
 pub mod Heads
 pub mod Shards
