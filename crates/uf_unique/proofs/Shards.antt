@@ -16,7 +16,7 @@ use Rattle.uf_tree.specs.Validity.{IsHash, IsEntry, IsNamed, IsShard}
 use Rattle.uf_tree.proofs.Each.{at_flat_tabulate, each_filter}
 use Rattle.uf_tree.proofs.ShardLaws.{eqb_same, find-tabulate, names_exact, names_total, slot-bound}
 use Rattle.uf_tree.proofs.Valid.{node_entry-valid, shard-valid, shard_items-valid}
-use Rattle.uf_one.proofs.Unique.{one_block, one_shard_block}
+use Rattle.uf_unique.proofs.Unique.{one_block, one_shard_block}
 
 module _ (N : List ℕ → ℕ) (k : ℕ) where
   -- a name is looked up in its slot's pairs

@@ -1,5 +1,5 @@
-use Rattle.uf_one.proofs.Heads.{one_tree, one_standing}
-use Rattle.uf_one.proofs.laws.a_store_stands_for_one_tree.Goals as goal
+use Rattle.uf_unique.proofs.Heads.{one_tree, one_standing}
+use Rattle.uf_unique.proofs.laws.a_store_stands_for_one_tree.Goals as goal
 
 pub returns : goal.returns
 returns c = record {

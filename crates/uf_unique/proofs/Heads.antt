@@ -19,7 +19,7 @@ use Rattle.uf_tree.specs.Validity.{IsHash}
 use Rattle.uf_tree.proofs.HeadAgain.{head_again}
 use Rattle.uf_tree.proofs.TreeLaws.{entry-dir}
 use Rattle.uf_tree.proofs.Valid.{entry-valid}
-use Rattle.uf_one.proofs.Trees.{own_codec, same_tree}
+use Rattle.uf_unique.proofs.Trees.{own_codec, same_tree}
 
 abbrev read : Profile → Cid → Result Head HeadFault
 read p c = Ok (record { profile = p; root = c })

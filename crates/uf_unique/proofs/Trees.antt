@@ -22,9 +22,9 @@ use Rattle.uf_tree.proofs.Each.{front, back}
 use Rattle.uf_tree.proofs.Told.{as_T}
 use Rattle.uf_tree.proofs.Twins.{Apart-HasShard, both_true, same_slots-hash, twins-Apart, twins-same}
 use Rattle.uf_tree.proofs.Valid.{directory-valid}
-use Rattle.uf_one.proofs.Files.{Stood, Rooted, part, root_node, file_rooted, root_valid as file_valid, same_bytes}
-use Rattle.uf_one.proofs.Unique.{file_or_dir, file_or_shard, one_basic, one_block, shard_or_dir}
-use Rattle.uf_one.proofs.Shards.{Sharded, root_held, root_items, root_valid, same_shard}
+use Rattle.uf_unique.proofs.Files.{Stood, Rooted, part, root_node, file_rooted, root_valid as file_valid, same_bytes}
+use Rattle.uf_unique.proofs.Unique.{file_or_dir, file_or_shard, one_basic, one_block, shard_or_dir}
+use Rattle.uf_unique.proofs.Shards.{Sharded, root_held, root_items, root_valid, same_shard}
 
 both_none : (a b : Option Refusal) → or_else a b ≡ None → (a ≡ None) × (b ≡ None)
 both_none None b h = (refl, h)

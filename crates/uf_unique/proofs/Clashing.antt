@@ -18,8 +18,8 @@ use Rattle.uf_tree.specs.TreePlan.{entry, blocks, refusal}
 use Rattle.uf_tree.specs.Validity.{IsHash}
 use Rattle.uf_tree.proofs.Each.{both, front, back}
 use Rattle.uf_laws.proofs.Held.{tree-digested}
-use Rattle.uf_one.specs.Clashes.{HasClash}
-use Rattle.uf_one.proofs.Trees.{same_tree}
+use Rattle.uf_unique.specs.Clashes.{HasClash}
+use Rattle.uf_unique.proofs.Trees.{same_tree}
 
 abbrev same : Cid → Cid → Bool
 same c d = bytes_eq (cid_bytes c) (cid_bytes d)

@@ -1,5 +1,5 @@
-use Rattle.uf_one.proofs.Trees.{same_tree}
-use Rattle.uf_one.proofs.laws.equal_roots_mean_equal_trees.Goals as goal
+use Rattle.uf_unique.proofs.Trees.{same_tree}
+use Rattle.uf_unique.proofs.laws.equal_roots_mean_equal_trees.Goals as goal
 
 pub returns : goal.returns
 returns c = λ X N p q held t u good small ok oq tree other planned also all each e.

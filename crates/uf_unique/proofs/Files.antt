@@ -21,7 +21,7 @@ use Rattle.uf_tree.proofs.Rows.{file_plan-rows, plan-sub}
 use Rattle.uf_tree.proofs.Sub.{span-pos}
 use Rattle.uf_tree.proofs.Told.{kept}
 use Rattle.uf_tree.proofs.Valid.{file_node-valid}
-use Rattle.uf_one.proofs.Unique.{one_block, one_file_node}
+use Rattle.uf_unique.proofs.Unique.{one_block, one_file_node}
 
 module _ (X : List ℕ → List ℕ) (good : IsHash X) (held : Lookup) where
   abbrev pub part : Profile → ℕ → List ℕ → Part

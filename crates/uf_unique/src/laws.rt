@@ -1,7 +1,7 @@
 // Laws by which equal roots mean equal trees.
 ghost use Rattle.std.specs.Prelude.{◌≡◌, ◌<◌, ◌^◌, ◌++◌, ◌⊎◌, ℕ, List, Option, None, IsTrue};
 ghost use Rattle.uf_cid.specs.Blocks.{Lookup, Holds};
-ghost use Rattle.uf_one.specs.Clashes.{HasClash};
+ghost use Rattle.uf_unique.specs.Clashes.{HasClash};
 ghost use Rattle.uf_tree.specs.declared.profile.Profile.{Profile};
 ghost use Rattle.uf_tree.specs.Profiles.{is_profile};
 ghost use Rattle.uf_tree.specs.Standing.{Standing, StandsFor, StandsAs};
