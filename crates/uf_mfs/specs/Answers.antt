@@ -124,9 +124,13 @@ module _ (X : List ℕ → List ℕ) (N : List ℕ → ℕ) (told : Told) (p : P
   abbrev pub Looks : Result Tree Refused → Result Entry Stop → Type 0
   Looks found result = Meets (λ t e. IsEntry X N told p e t) found result
 
-  -- an edit of the tree in memory
+  -- an edit of the tree in memory, which becomes this or is refused
+  abbrev pub MovesTo : List (List ℕ) → Mfs → Result Entries Refused → Result Unit MfsFault → Type 0
+  MovesTo names now next result = Answers (λ es done. StandsAt X N told now p es) names next result
+
+  -- the same where what it would become may have no plan
   abbrev pub Moves : List (List ℕ) → Mfs → Result Entries Refused → Result Unit MfsFault → Type 0
-  Moves names now edited result = Answers (λ es done. StandsAt X N told now p es) names (allowed X N p edited) result
+  Moves names now edited result = MovesTo names now (allowed X N p edited) result
 
 module _ (hash : List ℕ → List ℕ) (IsBad : Role → List ℕ → Type 0) where
   -- no fault was passed over: a fault of the store shows its cause, and before any other answer the store has stayed calm

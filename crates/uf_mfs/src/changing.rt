@@ -7,7 +7,7 @@ ghost use Rattle.uf_store.specs.Keeping.{KeepsGood, SavesOnly};
 ghost use Rattle.uf_tree.specs.declared.profile.Profile.{Profile as TheProfile};
 ghost use Rattle.uf_tree.specs.Profiles.{is_profile};
 ghost use Rattle.uf_tree.specs.Tree.{Dir, Entries};
-ghost use Rattle.uf_mfs.specs.Answers.{Calm, Edits, Moves, Says, Shown, ShownStop, allowed};
+ghost use Rattle.uf_mfs.specs.Answers.{Calm, Edits, Moves, MovesTo, Says, Shown, ShownStop, allowed};
 ghost use Rattle.uf_mfs.specs.Bad.{IsBad};
 ghost use Rattle.uf_mfs.specs.Plain.{at, is_folder_at, made, removed};
 ghost use Rattle.uf_mfs.specs.Standing.{IsEntry, IsMfs, StandsAt};
@@ -77,7 +77,7 @@ impl Mfs {
         requires mfs { IsMfs self.old }
         ensures answer { (p : TheProfile) (es : Entries) → StandsAt S.X.block32 N.name64 (S.seen store.old).told self.old p es
             → Stood (S.seen store.old).faults (S.seen store.new).faults → Stood (S.seen store.old).clashes (S.seen store.new).clashes
-            → Moves S.X.block32 N.name64 (S.seen store.new).told p path.now.names self.new (removed recursive path.now.names es) result }
+            → MovesTo S.X.block32 N.name64 (S.seen store.new).told p path.now.names self.new (removed recursive path.now.names es) result }
         ensures refused { OnErr result (self.new ≡ self.old) }
         ensures mfs { IsMfs self.new }
         ensures profile { self.new.profile ≡ self.old.profile }
@@ -116,7 +116,7 @@ fn removed_root<S: Store, N: NameHash, L: Ledger>(
 ) -> Result<Entry, Stop>
     requires profile { IsTrue (is_profile profile.now) }
     ensures edits { (es : Entries) → IsEntry S.X.block32 N.name64 (S.seen store.old).told profile.now root.now (Dir es) → Calm (S.seen store.old) (S.seen store.new)
-        → Edits S.X.block32 N.name64 (S.seen store.new).told profile.now (allowed S.X.block32 N.name64 profile.now (removed recursive names.now es)) result }
+        → Edits S.X.block32 N.name64 (S.seen store.new).told profile.now (removed recursive names.now es) result }
     ensures cause { ShownStop S.X.block32 (IsBad N.name64 (Some profile.now)) result (S.seen store.old) (S.seen store.new) }
     ensures good { KeepsGood S.X.block32 (S.seen store.old).told (S.seen store.new).told }
     ensures saves { SavesOnly (S.seen store.old).told (S.seen store.new).told }

@@ -1,7 +1,7 @@
 // The commands on the tree that the Head names.
 ghost use Rattle.std.specs.Prelude.{◌≡◌, [], false, true, IfOk, IsTrue, Some, None};
 ghost use Rattle.uf_edge.specs.Counts.{Stood};
-ghost use Rattle.uf_mfs.specs.Answers.{Moves, Shown as ShownByTree};
+ghost use Rattle.uf_mfs.specs.Answers.{MovesTo, Shown as ShownByTree};
 ghost use Rattle.uf_mfs.specs.Bad.{IsBad};
 ghost use Rattle.uf_mfs.specs.Standing.{IsMfs, StandsAt, TellsAs};
 ghost use Rattle.uf_store.specs.Keeping.{KeepsGood, SavesOnly};
@@ -211,7 +211,7 @@ fn edited<S: Store, N: NameHash, L: Ledger>(
     requires { IsMfs tree.old }
     ensures answer { (p : TheProfile) (es : Entries) → StandsAt S.X.block32 N.name64 (S.seen store.old).told tree.old p es
         → Stood (S.seen store.old).faults (S.seen store.new).faults → Stood (S.seen store.old).clashes (S.seen store.new).clashes
-        → Moves S.X.block32 N.name64 (S.seen store.new).told p path.now.names tree.new (edited_by edit path.now.names es) result }
+        → MovesTo S.X.block32 N.name64 (S.seen store.new).told p path.now.names tree.new (edited_by S.X.block32 N.name64 edit path.now.names p es) result }
     ensures mfs { IsMfs tree.new }
     ensures cause { ShownByTree S.X.block32 (IsBad N.name64 (Some tree.old.profile)) result (S.seen store.old) (S.seen store.new) }
     ensures good { KeepsGood S.X.block32 (S.seen store.old).told (S.seen store.new).told }

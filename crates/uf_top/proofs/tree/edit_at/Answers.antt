@@ -1,5 +1,4 @@
 use Rattle.std.proofs.Common.{List, ℕ, refl, sym, subst, None, Some, Err}
-use Rattle.uf_mfs.specs.Answers.{allowed}
 use Rattle.uf_mfs.specs.Bad.{IsBad}
 use Rattle.uf_mfs.specs.Standing.{StandsAt}
 use Rattle.uf_store.proofs.Keeping.{KeepsGood-trans}
@@ -18,7 +17,7 @@ returns-in-Err-clause-answers g c = λ p es at_tree stands faults clashes.
     let X = g.S.X.BlockHash.block32 in let N = g.N.NameHash.name64 in let names = c.args.path.now.names in let edit = c.args.edit in
     let a = g.S.Store.seen c.args.store.now in let m = g.S.Store.seen c.edited.new.store in
     subst (λ w. Answers X N (Stands p es) (tree_reply X N (Edits edit) names p es) (Err w) m.told) (sym c.refusal.ensures)
-    (fault-answers X N Entries (Unit {0}) (λ es done. StandsAt X N m.told c.edited.new.tree p es) (Stands p es) names (allowed X N p (edited_by edit names es)) (moved X N p es names) c.in-Err.fault m.told
+    (fault-answers X N Entries (Unit {0}) (λ es done. StandsAt X N m.told c.edited.new.tree p es) (Stands p es) names (edited_by X N edit names p es) (moved X N p es names) c.in-Err.fault m.told
     (λ why. refl) (c.in-Err.ensures.answer p es at_tree faults clashes) (stands-kept X N a.told m.told (Stands p es) c.in-Err.ensures.good (saves-head a.told m.told c.in-Err.ensures.saves) stands))
 
 pub returns-in-Err-clause-work : goal.returns-in-Err-clause-work
@@ -41,7 +40,7 @@ returns-in-Ok-clause-answers g c = λ p es at_tree stands faults clashes.
     let calm = c.in-Ok.ensures.cause in let r = c.committed.result in
     let rises = shown-rises X (IsBad N None) r m b (Shown-of X (IsBad N None) r m b c.committed.ensures.cause) in
     let mid = stands-kept X N a.told m.told (Stands p es) c.in-Ok.ensures.good (saves-head a.told m.told c.in-Ok.ensures.saves) stands in
-    move-answers X N p es names (allowed X N p (edited_by edit names es)) c.edited.new.tree m.told b.told r
+    move-answers X N p es names (edited_by X N edit names p es) c.edited.new.tree m.told b.told r
     (c.in-Ok.ensures.answer p es at_tree (stood-front a.faults m.faults b.faults calm.faults rises.faults faults) (stood-front a.clashes m.clashes b.clashes calm.clashes rises.clashes clashes))
     (λ next at_next. c.committed.ensures.stands p next at_next (stood-back a.faults m.faults b.faults calm.faults faults))
     (λ why is. stands-kept X N m.told b.told (Stands p es) c.committed.ensures.good (subst (λ r. HeadStays r m.told b.told) is c.committed.ensures.head) mid)
