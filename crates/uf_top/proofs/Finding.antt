@@ -1,5 +1,5 @@
 -- Stores that stand: no block is missing or bad, and what changes nothing writes nothing.
-use Rattle.std.proofs.Common.{◌≡◌, ℕ, List, true, false, refl, sym, ap, subst, ◌∙◌, inl, inr, Option, Some, None, Result, Ok, Err}
+use Rattle.std.proofs.Common.{◌≡◌, ℕ, List, true, false, refl, sym, ap, subst, ◌∙◌, inl, inr, Some, None, Result, Ok, Err}
 use Rattle.uf_edge.specs.Streams as streams
 use Rattle.uf_mfs.specs.Plain.{at, is_folder_at}
 use Rattle.uf_mfs.specs.Standing.{StandsAt, TellsAs, head_in}
@@ -28,7 +28,7 @@ use Rattle.uf_top.specs.Causes.{IsOfWork}
 use Rattle.uf_top.specs.Commands.{IsOfWords, is_idle}
 use Rattle.uf_top.specs.Endings.{FindsAll, IsPrinted, Tells}
 use Rattle.uf_top.specs.Reply.{Answers, Reply, in_tree, init_reply, looked, moved, tree_reply}
-use Rattle.uf_top.specs.Statuses.{ended, status_of}
+use Rattle.uf_top.specs.Statuses.{ended}
 
 -- ---- no block is missing or bad
 
