@@ -1,5 +1,5 @@
 // Edits of the tree.
-ghost use Rattle.std.specs.Prelude.{◌≡◌, IsTrue, None, OnErr, Ok, Some, false, true};
+ghost use Rattle.std.specs.Prelude.{◌≡◌, IfOk, IsTrue, None, OnErr, Ok, Some, false, true};
 ghost use Rattle.uf_cid.specs.declared.cid.Codec.TheVariants.{DagPb};
 ghost use Rattle.uf_edge.specs.Counts.{Stood};
 ghost use Rattle.uf_store.specs.Faults.{Answers};
@@ -39,7 +39,7 @@ impl Mfs {
             → Stood (S.seen store.old).faults (S.seen store.new).faults → Stood (S.seen store.old).clashes (S.seen store.new).clashes
             → Moves S.X.block32 N.name64 (S.seen store.new).told p path.now.names self.new (made parents path.now.names es) result }
         ensures there { (p : TheProfile) (es below : Entries) → StandsAt S.X.block32 N.name64 (S.seen store.old).told self.old p es → Stood (S.seen store.old).faults (S.seen store.new).faults
-            → IsTrue parents → at 0 path.now.names (Dir es) ≡ Ok (Dir below) → (S.seen store.new).told ≡ (S.seen store.old).told }
+            → IsTrue parents → at 0 path.now.names (Dir es) ≡ Ok (Dir below) → ((S.seen store.new).told ≡ (S.seen store.old).told) × (self.new ≡ self.old) }
         ensures refused { OnErr result (self.new ≡ self.old) }
         ensures mfs { IsMfs self.new }
         ensures profile { self.new.profile ≡ self.old.profile }
@@ -151,7 +151,7 @@ fn made_root<S: Store, N: NameHash, L: Ledger>(
     ensures edits { (es : Entries) → IsEntry S.X.block32 N.name64 (S.seen store.old).told profile.now root.now (Dir es) → Calm (S.seen store.old) (S.seen store.new)
         → Edits S.X.block32 N.name64 (S.seen store.new).told profile.now (allowed S.X.block32 N.name64 profile.now (made parents names.now es)) result }
     ensures there { (es below : Entries) → IsEntry S.X.block32 N.name64 (S.seen store.old).told profile.now root.now (Dir es) → Stood (S.seen store.old).faults (S.seen store.new).faults
-        → IsTrue parents → at 0 names.now (Dir es) ≡ Ok (Dir below) → (S.seen store.new).told ≡ (S.seen store.old).told }
+        → IsTrue parents → at 0 names.now (Dir es) ≡ Ok (Dir below) → ((S.seen store.new).told ≡ (S.seen store.old).told) × IfOk result (λ e. e ≡ root.now) }
     ensures cause { ShownStop S.X.block32 (IsBad N.name64 (Some profile.now)) result (S.seen store.old) (S.seen store.new) }
     ensures good { KeepsGood S.X.block32 (S.seen store.old).told (S.seen store.new).told }
     ensures saves { SavesOnly (S.seen store.old).told (S.seen store.new).told }
@@ -208,7 +208,7 @@ fn all_made<S: Store, N: NameHash, L: Ledger>(
     ensures edits { (es : Entries) → IsEntry S.X.block32 N.name64 (S.seen store.old).told profile.now root.now (Dir es) → Calm (S.seen store.old) (S.seen store.new)
         → Edits S.X.block32 N.name64 (S.seen store.new).told profile.now (allowed S.X.block32 N.name64 profile.now (made true names.now es)) result }
     ensures there { (es below : Entries) → IsEntry S.X.block32 N.name64 (S.seen store.old).told profile.now root.now (Dir es) → Stood (S.seen store.old).faults (S.seen store.new).faults
-        → at 0 names.now (Dir es) ≡ Ok (Dir below) → (S.seen store.new).told ≡ (S.seen store.old).told }
+        → at 0 names.now (Dir es) ≡ Ok (Dir below) → ((S.seen store.new).told ≡ (S.seen store.old).told) × IfOk result (λ e. e ≡ root.now) }
     ensures cause { ShownStop S.X.block32 (IsBad N.name64 (Some profile.now)) result (S.seen store.old) (S.seen store.new) }
     ensures good { KeepsGood S.X.block32 (S.seen store.old).told (S.seen store.new).told }
     ensures saves { SavesOnly (S.seen store.old).told (S.seen store.new).told }

@@ -1,5 +1,5 @@
 // The tree of a store: made, opened and committed.
-ghost use Rattle.std.specs.Prelude.{◌≡◌, ◌+◌, IfErr, IfOk, IfSome, IsTrue, None, OnErr, OnOk, length};
+ghost use Rattle.std.specs.Prelude.{◌≡◌, ◌+◌, IfErr, IfOk, IfSome, IsTrue, None, OnErr, OnOk, Some, length};
 ghost use Rattle.uf_edge.specs.Counts.{Stood};
 ghost use Rattle.std.specs.List.{sum_by};
 ghost use Rattle.uf_store.specs.declared.store.Note.TheVariants as notes;
@@ -94,6 +94,7 @@ impl Mfs {
         requires mfs { IsMfs self.old }
         ensures answer { Stood (S.seen store.old).faults (S.seen store.new).faults → IfErr result IsWanting }
         ensures commits { OnOk result (Commits (text_of_head self.old.profile self.old.root.cid) (S.seen store.old).told (S.seen store.new).told) }
+        ensures idle { head_in (S.seen store.old).told ≡ Some (text_of_head self.old.profile self.old.root.cid) → (S.seen store.new).told ≡ (S.seen store.old).told }
         ensures stands { OnOk result ((p : TheProfile) (es : Entries) → StandsAt S.X.block32 N.name64 (S.seen store.old).told self.old p es
             → StandsAt S.X.block32 N.name64 (S.seen store.new).told self.new p es × TellsAs S.X.block32 N.name64 (S.seen store.new).told (Stands p es)) }
         ensures leaves { OnErr result (LeavesHead (S.seen store.old).told (S.seen store.new).told) }
@@ -256,6 +257,7 @@ fn tsize_of(item: &Item) -> u64
 // Writes the Head, where its text isn't this one already.
 fn put_head<S: Store>(store: &mut S, old: &Option<Block>, text: &Block) -> Result<(), StoreFault>
     ensures commits { OnOk result (IfSome (S.seen store.old).told (λ t. t.notes.head ≡ old.now) → Commits text.now (S.seen store.old).told (S.seen store.new).told) }
+    ensures idle { old.now ≡ Some text.now → (S.seen store.new).told ≡ (S.seen store.old).told }
     ensures leaves { OnErr result (LeavesHead (S.seen store.old).told (S.seen store.new).told) }
     ensures fault { IfErr result IsNoteFault }
     ensures cause { Answers S.X.block32 NoneIsBad result (S.seen store.old) (S.seen store.new) }

@@ -191,7 +191,7 @@ module _ (X : List ℕ → List ℕ) where
   row-work held p (Err (refusal.Ready why)) l m row = tt
   row-work held p (Err refusal.Read) l m row = tt
   row-work held p (Err refusal.Write) l m row = absurd row
-  row-work held p (Err (refusal.Store fault)) l m row = tt
+  row-work held p (Err (refusal.Store fault)) l m row = row
 
   pub row-ready : (only_hash : Bool) (a b : Seen) (held : Told) (p : Profile) (r : Result (List ℕ) Refusal) (l m : streams.Told) → IsRowOf X p held r l m → IsReady a b (Add only_hash) r
   row-ready only_hash a b held p (Ok text) l m row = tt
@@ -245,7 +245,7 @@ read-work refusal.Usage told read = absurd read
 read-work (refusal.Ready why) told read = tt
 read-work refusal.Read told read = tt
 read-work refusal.Write told read = absurd read
-read-work (refusal.Store fault) told read = tt
+read-work (refusal.Store fault) told read = read
 
 -- the row of a file, once its blocks were made to outlive a stop
 pub synced-row : (X : List ℕ → List ℕ) (p : Profile) (a b : Told) (entry : Entry) (row : List ℕ) (r : Result (List ℕ) Refusal) (l m : streams.Told) → LeavesHead a b

@@ -140,7 +140,7 @@ abbrev pub is_write : {A : Type 0} → Result A Refusal → Bool
 is_write (Ok a) = false
 is_write (Err why) = is_writing why
 
--- the refusals that a command may have whose words are read: none of words, paths or the output
+-- the refusals that `add` may have once its words are read: none of words, paths or the output, and of the store only what saves alone can have
 abbrev pub IsOfWork : {A : Type 0} → Result A Refusal → Type 0
 IsOfWork (Ok a) = ⊤
 IsOfWork (Err (refusal.Rule rule)) = ⊤
@@ -149,7 +149,7 @@ IsOfWork (Err refusal.Usage) = ⊥
 IsOfWork (Err (refusal.Ready why)) = ⊤
 IsOfWork (Err refusal.Read) = ⊤
 IsOfWork (Err refusal.Write) = ⊥
-IsOfWork (Err (refusal.Store fault)) = ⊤
+IsOfWork (Err (refusal.Store fault)) = IsSaving fault
 
 -- the refusals that a command at a path may have
 abbrev pub IsOfAt : {A : Type 0} → Result A Refusal → Type 0

@@ -88,6 +88,10 @@ IsPrinted text (Err refusal.Read) held held_now = ⊥
 IsPrinted text (Err refusal.Write) held held_now = (text ≢ []) × AppendsPrefix text held held_now
 IsPrinted text (Err (refusal.Store fault)) held held_now = ⊥
 
+-- no block was missing, and none wasn't canonical in its role
+abbrev pub FindsAll : Status → Type 0
+FindsAll given = (given ≢ status.Missing) × (given ≢ status.BadBlock)
+
 -- what a command of this status has printed: a whole text, a part of one where the output failed, and else nothing
 abbrev pub PrintsAt : (List ℕ → Type 0) → Status → streams.Told → streams.Told → Type 0
 PrintsAt IsText status.Ok held held_now = (text : List ℕ) × IsText text × (held_now ≡ after held text)

@@ -1,8 +1,9 @@
-use Rattle.std.proofs.Common.{List, ℕ, sym, subst, ap, None, Some, Err}
+use Rattle.std.proofs.Common.{List, ℕ, sym, subst, ap, ◌∙◌, None, Some, Err}
 use Rattle.uf_mfs.specs.Bad.{IsBad}
 use Rattle.uf_mfs.specs.Standing.{head_in}
 use Rattle.uf_mfs.specs.declared.types.Mfs.{Mfs}
 use Rattle.uf_store.proofs.Keeping.{KeepsGood-trans}
+use Rattle.uf_tree.specs.Standing.{Stands}
 use Rattle.uf_top.specs.Causes.{IsBadIn, IsOfAt, IsReady, Shown}
 use Rattle.uf_top.specs.Reply.{Answers, in_tree, tree_reply}
 use Rattle.uf_top.specs.declared.types.Command.TheVariants.{At}
@@ -68,3 +69,12 @@ returns-in-Ok-clause-good g c = KeepsGood-trans g.S.X.BlockHash.block32 _ _ _ (s
 
 pub returns-in-Ok-clause-head : goal.returns-in-Ok-clause-head
 returns-in-Ok-clause-head g c = stays-after c.in_tree.result _ _ _ (ap head_in c.in-Ok.ensures.told) c.in_tree.ensures.head
+
+pub returns-in-Ok-clause-idle : goal.returns-in-Ok-clause-idle
+returns-in-Ok-clause-idle g c = λ p es stands faults is.
+    let X = g.S.X.BlockHash.block32 in let N = g.N.NameHash.name64 in
+    let a = g.S.Store.seen c.args.store.now in let m = g.S.Store.seen c.from_store.new.store in let b = g.S.Store.seen c.in_tree.new.store in
+    let calm = c.in-Ok.ensures.cause in
+    let rises = shown-rises X (IsBad N (Some c.in-Ok.tree.profile)) c.in_tree.result m b c.in_tree.ensures.cause in
+    c.in_tree.ensures.idle p es (c.in-Ok.ensures.opens (Stands p es) stands (stood-front a.faults m.faults b.faults calm.faults rises.faults faults))
+    (stands-same X N a.told m.told (Stands p es) c.in-Ok.ensures.told stands) (stood-back a.faults m.faults b.faults calm.faults faults) is ∙ c.in-Ok.ensures.told

@@ -1,4 +1,4 @@
-use Rattle.std.proofs.Common.{List, ℕ, refl, sym, subst, None, Some, Err}
+use Rattle.std.proofs.Common.{List, ℕ, refl, sym, subst, ◌∙◌, None, Some, Err}
 use Rattle.uf_mfs.specs.Bad.{IsBad}
 use Rattle.uf_mfs.specs.Standing.{StandsAt}
 use Rattle.uf_store.proofs.Keeping.{KeepsGood-trans}
@@ -9,6 +9,7 @@ use Rattle.uf_top.specs.Reply.{Answers, edited_by, moved, tree_reply}
 use Rattle.uf_top.specs.declared.types.Ask.TheVariants.{Edit as Edits}
 use Rattle.uf_top.proofs.Shows.{Shown-after, Shown-of, Shown-tree, in-tree-work, saves-head, shown-rises, stood-back, stood-front}
 use Rattle.uf_top.proofs.Standings.{stands-kept}
+use Rattle.uf_top.proofs.Finding.{idle-head, idle-there}
 use Rattle.uf_top.proofs.InTree.{fault-answers, move-answers, stays-after}
 use Rattle.uf_top.proofs.tree.edit_at.Goals as goal
 
@@ -56,3 +57,17 @@ returns-in-Ok-clause-good g c = KeepsGood-trans g.S.X.BlockHash.block32 _ _ _ c.
 
 pub returns-in-Ok-clause-head : goal.returns-in-Ok-clause-head
 returns-in-Ok-clause-head g c = stays-after c.committed.result _ _ _ (saves-head _ _ c.in-Ok.ensures.saves) c.committed.ensures.head
+
+pub returns-in-Err-clause-idle : goal.returns-in-Err-clause-idle
+returns-in-Err-clause-idle g c = λ p es at_tree stands faults is.
+    let i = idle-there es c.args.edit c.args.path.now is in
+    (c.in-Err.ensures.there p es i.0 at_tree faults i.1 i.2).0
+
+pub returns-in-Ok-clause-idle : goal.returns-in-Ok-clause-idle
+returns-in-Ok-clause-idle g c = λ p es at_tree stands faults is.
+    let X = g.S.X.BlockHash.block32 in let N = g.N.NameHash.name64 in
+    let a = g.S.Store.seen c.args.store.now in let m = g.S.Store.seen c.edited.new.store in let b = g.S.Store.seen c.committed.new.store in
+    let rises = shown-rises X (IsBad N None) c.committed.result m b (Shown-of X (IsBad N None) c.committed.result m b c.committed.ensures.cause) in
+    let i = idle-there es c.args.edit c.args.path.now is in
+    let same = c.in-Ok.ensures.there p es i.0 at_tree (stood-front a.faults m.faults b.faults c.in-Ok.ensures.cause.faults rises.faults faults) i.1 i.2 in
+    c.committed.ensures.idle (idle-head X N a.told m.told c.args.tree c.edited.new.tree p es at_tree stands same.0 same.1) ∙ same.0
