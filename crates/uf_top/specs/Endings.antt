@@ -9,7 +9,6 @@ use Rattle.uf_mfs.specs.declared.types.Ready.{Ready}
 use Rattle.uf_mfs.specs.declared.types.Rule.{Rule}
 use Rattle.uf_mfs.specs.declared.types.Rule.TheVariants.{FileTooLong}
 use Rattle.uf_store.specs.Contents.{Told}
-use Rattle.uf_store.specs.Seen.{Seen}
 use Rattle.uf_tree.specs.Standing.{Standing}
 use Rattle.uf_top.specs.declared.status.Status.{Status}
 use Rattle.uf_top.specs.declared.status.Status.TheVariants as status
@@ -17,7 +16,7 @@ use Rattle.uf_top.specs.declared.types.Command.{Command}
 use Rattle.uf_top.specs.declared.types.Command.TheVariants.{Init, Add, At}
 use Rattle.uf_top.specs.declared.types.Refusal.{Refusal}
 use Rattle.uf_top.specs.declared.types.Refusal.TheVariants as refusal
-use Rattle.uf_top.specs.Causes.{Adds, IsOfCommand, IsReady, IsRow, IsSynced, IsTooLong, Reasons}
+use Rattle.uf_top.specs.Causes.{Adds, IsOfCommand, IsReady, IsReason, IsRow, IsSynced, IsTooLong}
 use Rattle.uf_top.specs.Lines.{line_of, ready_line, said}
 use Rattle.uf_top.specs.Reply.{Reply}
 use Rattle.uf_top.specs.Statuses.{ended, no_memory, plain_line, status_of}
@@ -63,9 +62,9 @@ SyncsFor command (Ok text) told = IsSyncedFor command told
 SyncsFor command (Err why) told = ⊤
 
 -- the reason for which the store isn't ready is one of this command's
-abbrev pub IsReadyFor : Seen → Seen → Result Command Refusal → Result (List ℕ) Refusal → Type 0
-IsReadyFor before now (Ok command) ends = IsReady before now command ends
-IsReadyFor before now (Err why) ends = ⊤
+abbrev pub IsReadyFor : Told → Result Command Refusal → Result (List ℕ) Refusal → Type 0
+IsReadyFor told (Ok command) ends = IsReady told command ends
+IsReadyFor told (Err why) ends = ⊤
 
 -- the refusals that a command may have whose words are read; now the output may have failed
 abbrev pub IsOfServed : Command → Result (List ℕ) Refusal → Type 0
@@ -125,12 +124,12 @@ module _ (Says : List ℕ → Type 0) where
   IsRule command told left left_now = (why : Refusal) × (status_of why ≡ status.Rule) × Says (line_of why) × RuleOf command why told left left_now
 
   -- the reason for which the Head doesn't do for a command
-  abbrev pub ReasonFor : Result Command Refusal → Ready → Seen → Seen → Type 0
-  ReasonFor (Ok command) why before now = Reasons before now command why
-  ReasonFor (Err asked) why before now = ⊥
+  abbrev pub ReasonFor : Result Command Refusal → Ready → Told → Type 0
+  ReasonFor (Ok command) why told = IsReason command why told
+  ReasonFor (Err asked) why told = ⊥
 
-  abbrev pub IsNotReady : Result Command Refusal → Seen → Seen → Type 0
-  IsNotReady command before now = (why : Ready) × Says (ready_line why) × ReasonFor command why before now
+  abbrev pub IsNotReady : Result Command Refusal → Told → Type 0
+  IsNotReady command told = (why : Ready) × Says (ready_line why) × ReasonFor command why told
 
   module _ (X : List ℕ → List ℕ) (N : List ℕ → ℕ) where
     -- there was no memory, nothing is printed, and what stood stands
