@@ -10,11 +10,9 @@ use Rattle.uf_store.specs.Seen.{Seen}
 use Rattle.uf_store.proofs.Causes.{Shows-after, StaysCalm-trans}
 use Rattle.uf_tree.specs.declared.profile.Profile.{Profile}
 use Rattle.uf_tree.specs.Roles.{IsCanonicalDirectory, Basic, Sharded, FileRoot}
-use Rattle.uf_mfs.specs.declared.types.MfsFault.{MfsFault}
-use Rattle.uf_mfs.specs.declared.types.MfsFault.TheVariants as fault
 use Rattle.uf_mfs.specs.declared.types.Stop.{Stop}
 use Rattle.uf_mfs.specs.declared.types.Stop.TheVariants as stop
-use Rattle.uf_mfs.specs.Answers.{Shown, ShownStop, Tells}
+use Rattle.uf_mfs.specs.Answers.{ShownStop}
 use Rattle.uf_mfs.specs.Bad.{IsBad}
 
 -- a count that didn't rise over two calls didn't rise in either, where the first left it
@@ -50,14 +48,6 @@ module _ (hash : List ℕ → List ℕ) (Bad : Role → List ℕ → Type 0) whe
   stop-after (Ok x) a b c p q = StaysCalm-trans a b c p q
   stop-after (Err (stop.Refused why)) a b c p q = StaysCalm-trans a b c p q
   stop-after (Err (stop.Store f)) a b c p q = Shows-after hash Bad f a b c p q
-
-  -- a command shows what its step shows
-  pub told-shows : (A B : Type 0) (names : List (List ℕ)) (s : Stop) (f : MfsFault) (a b : Seen) → Tells names s f → ShownStop hash Bad {A = A} (Err s) a b → Shown hash Bad {A = B} (Err f) a b
-  told-shows A B names (stop.Refused why) (fault.Rule rule) a b t h = h
-  told-shows A B names (stop.Refused why) (fault.Ready ready) a b t h = absurd t
-  told-shows A B names (stop.Refused why) fault.Sink a b t h = absurd t
-  told-shows A B names (stop.Refused why) (fault.Store f) a b t h = subst (λ f. Shows hash Bad f a b) (sym t) (calm-rises a b h)
-  told-shows A B names (stop.Store f) given a b t h = subst (λ g. Shown hash Bad {A = B} (Err g) a b) (sym t) h
 
 -- what is bad by one judge and another
 pub shows-by : (hash : List ℕ → List ℕ) (Bad Other : Role → List ℕ → Type 0) (f : StoreFault) (a b : Seen) → ((role : Role) (bytes : List ℕ) → Bad role bytes → Other role bytes) → Shows hash Bad f a b → Shows hash Other f a b

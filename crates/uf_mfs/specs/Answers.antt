@@ -133,13 +133,21 @@ module _ (X : List ℕ → List ℕ) (N : List ℕ → ℕ) (told : Told) (p : P
   Moves names now edited result = MovesTo names now (allowed X N p edited) result
 
 module _ (hash : List ℕ → List ℕ) (IsBad : Role → List ℕ → Type 0) where
-  -- no fault was passed over: a fault of the store shows its cause, and before any other answer the store has stayed calm
-  abbrev pub Shown : {A : Type 0} → Result A MfsFault → Seen → Seen → Type 0
-  Shown (Ok a) before now = StaysCalm before now
-  Shown (Err (fault.Rule rule)) before now = StaysCalm before now
-  Shown (Err (fault.Ready ready)) before now = StaysCalm before now
-  Shown (Err fault.Sink) before now = ⊥
-  Shown (Err (fault.Store f)) before now = Shows hash IsBad f before now
+  -- no fault of a call that opens a tree was passed over: a fault of the store shows its cause, and before any other answer the store has stayed calm; no rule refuses it, and it writes to no sink
+  abbrev pub ShownOpening : {A : Type 0} → Result A MfsFault → Seen → Seen → Type 0
+  ShownOpening (Ok a) before now = StaysCalm before now
+  ShownOpening (Err (fault.Rule rule)) before now = ⊥
+  ShownOpening (Err (fault.Ready ready)) before now = StaysCalm before now
+  ShownOpening (Err fault.Sink) before now = ⊥
+  ShownOpening (Err (fault.Store f)) before now = Shows hash IsBad f before now
+
+  -- the same of a call on an opened tree: such a tree is ready, and it writes to no sink
+  abbrev pub ShownInTree : {A : Type 0} → Result A MfsFault → Seen → Seen → Type 0
+  ShownInTree (Ok a) before now = StaysCalm before now
+  ShownInTree (Err (fault.Rule rule)) before now = StaysCalm before now
+  ShownInTree (Err (fault.Ready ready)) before now = ⊥
+  ShownInTree (Err fault.Sink) before now = ⊥
+  ShownInTree (Err (fault.Store f)) before now = Shows hash IsBad f before now
 
   -- the same of a step below a command
   abbrev pub ShownStop : {A : Type 0} → Result A Stop → Seen → Seen → Type 0

@@ -27,6 +27,13 @@ IsNoteFault (BadBlock cid role) = ⊥
 IsNoteFault (Clash cid held bytes) = ⊥
 IsNoteFault Memory = ⊤
 
+-- the fault of a call that writes the Head: a call of notes or a sync failed, or wanted memory
+abbrev pub IsOfNotes : MfsFault → Type 0
+IsOfNotes (fault.Rule rule) = ⊥
+IsOfNotes (fault.Ready why) = ⊥
+IsOfNotes fault.Sink = ⊥
+IsOfNotes (fault.Store f) = IsNoteFault f
+
 -- the answer of a write
 abbrev pub IsDone : Put → Result Unit StoreFault → Type 0
 IsDone puts.Done result = result ≡ Ok tt

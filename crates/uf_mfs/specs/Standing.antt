@@ -1,5 +1,5 @@
 -- What an entry, a tree in memory and a store stand for.
-use Rattle.std.specs.Prelude.{◌≡◌, ◌≢◌, ℕ, List, [], ◌∷◌, ⊤, IsTrue}
+use Rattle.std.specs.Prelude.{◌≡◌, ◌≢◌, ℕ, List, [], ◌∷◌, ⊤, IsTrue, IfSome}
 use Rattle.std.specs.declared.option.Option.{Option}
 use Rattle.std.specs.declared.option.Option.TheVariants.{None, Some}
 use Rattle.std.specs.declared.result.Result.{Result}
@@ -124,15 +124,25 @@ module _ (X : List ℕ → List ℕ) (N : List ℕ → ℕ) (told : Told) where
   Inits p (Some text) (Ok mfs) = ⊥
   Inits p (Some text) (Err fault) = IsUnready (Ready HeadThere) fault
 
--- what is said of the text of the Head: that there is none, that it isn't read, or what it says
-abbrev pub ReadsHead : Option (List ℕ) → Result Mfs MfsFault → Type 0
-ReadsHead head (Ok mfs) = (text : List ℕ) × (head ≡ Some text) × (head_reads text ≡ Ok (record { profile = mfs.profile; root = mfs.root.cid }))
-ReadsHead head (Err (Rule rule)) = ⊥
-ReadsHead head (Err (Ready NoHeadYet)) = head ≡ None
-ReadsHead head (Err (Ready HeadThere)) = ⊥
-ReadsHead head (Err (Ready HeadRefused)) = (text : List ℕ) × (why : HeadFault) × (head ≡ Some text) × (head_reads text ≡ Err why)
-ReadsHead head (Err Sink) = ⊥
-ReadsHead head (Err (Store fault)) = ⊤
+-- what is said of the Head, where the store tells: that there is none, that it isn't read, or what it says; never that one is there
+abbrev pub ReadsHead : Told → Result Mfs MfsFault → Type 0
+ReadsHead told (Ok mfs) = IfSome told (λ t. (text : List ℕ) × (t.notes.head ≡ Some text) × (head_reads text ≡ Ok (record { profile = mfs.profile; root = mfs.root.cid })))
+ReadsHead told (Err (Rule rule)) = ⊥
+ReadsHead told (Err (Ready NoHeadYet)) = IfSome told (λ t. t.notes.head ≡ None)
+ReadsHead told (Err (Ready HeadThere)) = ⊥
+ReadsHead told (Err (Ready HeadRefused)) = IfSome told (λ t. (text : List ℕ) × (why : HeadFault) × (t.notes.head ≡ Some text) × (head_reads text ≡ Err why))
+ReadsHead told (Err Sink) = ⊥
+ReadsHead told (Err (Store fault)) = ⊤
+
+-- what `init` says of the Head, where the store tells: that there was none, or that one is there; it is refused for nothing else of the Head
+abbrev pub FindsHead : Told → Result Mfs MfsFault → Type 0
+FindsHead told (Ok mfs) = IfSome told (λ t. t.notes.head ≡ None)
+FindsHead told (Err (Rule rule)) = ⊥
+FindsHead told (Err (Ready NoHeadYet)) = ⊥
+FindsHead told (Err (Ready HeadThere)) = IfSome told (λ t. (text : List ℕ) × (t.notes.head ≡ Some text))
+FindsHead told (Err (Ready HeadRefused)) = ⊥
+FindsHead told (Err Sink) = ⊥
+FindsHead told (Err (Store fault)) = ⊤
 
 -- the Head has become this text: it was so and nothing is written, or the blocks were made to outlive a stop and then it was written
 pub data Commits (text : List ℕ) (before now : Told) : Type 0 where

@@ -7,7 +7,7 @@ ghost use Rattle.uf_store.specs.Keeping.{KeepsGood, SavesOnly};
 ghost use Rattle.uf_tree.specs.declared.profile.Profile.{Profile as TheProfile};
 ghost use Rattle.uf_tree.specs.Profiles.{is_profile};
 ghost use Rattle.uf_tree.specs.Tree.{Dir, Entries};
-ghost use Rattle.uf_mfs.specs.Answers.{Calm, Edits, Moves, MovesTo, Says, Shown, ShownStop, allowed};
+ghost use Rattle.uf_mfs.specs.Answers.{Calm, Edits, Moves, MovesTo, Says, ShownInTree, ShownStop, allowed};
 ghost use Rattle.uf_mfs.specs.Bad.{IsBad};
 ghost use Rattle.uf_mfs.specs.Plain.{at, is_folder_at, made, removed};
 ghost use Rattle.uf_mfs.specs.Standing.{IsEntry, IsMfs, StandsAt};
@@ -43,7 +43,7 @@ impl Mfs {
         ensures refused { OnErr result (self.new ≡ self.old) }
         ensures mfs { IsMfs self.new }
         ensures profile { self.new.profile ≡ self.old.profile }
-        ensures cause { Shown S.X.block32 (IsBad N.name64 (Some self.old.profile)) result (S.seen store.old) (S.seen store.new) }
+        ensures cause { ShownInTree S.X.block32 (IsBad N.name64 (Some self.old.profile)) result (S.seen store.old) (S.seen store.new) }
         ensures good { KeepsGood S.X.block32 (S.seen store.old).told (S.seen store.new).told }
         ensures saves { SavesOnly (S.seen store.old).told (S.seen store.new).told }
     {
@@ -81,7 +81,7 @@ impl Mfs {
         ensures refused { OnErr result (self.new ≡ self.old) }
         ensures mfs { IsMfs self.new }
         ensures profile { self.new.profile ≡ self.old.profile }
-        ensures cause { Shown S.X.block32 (IsBad N.name64 (Some self.old.profile)) result (S.seen store.old) (S.seen store.new) }
+        ensures cause { ShownInTree S.X.block32 (IsBad N.name64 (Some self.old.profile)) result (S.seen store.old) (S.seen store.new) }
         ensures good { KeepsGood S.X.block32 (S.seen store.old).told (S.seen store.new).told }
         ensures saves { SavesOnly (S.seen store.old).told (S.seen store.new).told }
     {

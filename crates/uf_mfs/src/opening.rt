@@ -13,10 +13,10 @@ ghost use Rattle.uf_tree.specs.Standing.{Standing, Stands};
 ghost use Rattle.uf_tree.specs.Nodes.{InSlot, Named, capped, item_entry};
 ghost use Rattle.uf_tree.specs.Tree.{Dir, Entries};
 ghost use Rattle.uf_tree.specs.TreePlan.{entry};
-ghost use Rattle.uf_mfs.specs.Answers.{Says, Shown};
+ghost use Rattle.uf_mfs.specs.Answers.{Says, ShownInTree, ShownOpening};
 ghost use Rattle.uf_mfs.specs.Bad.{IsBad};
-ghost use Rattle.uf_mfs.specs.Opening.{IsDone, IsHeadFault, IsNoteFault, IsRootSize};
-ghost use Rattle.uf_mfs.specs.Standing.{IsEntry, Commits, Inits, IsMfs, IsWanting, LeavesHead, Opens, ReadsHead, StandsAt, TellsAs, head_in};
+ghost use Rattle.uf_mfs.specs.Opening.{IsDone, IsHeadFault, IsNoteFault, IsOfNotes, IsRootSize};
+ghost use Rattle.uf_mfs.specs.Standing.{IsEntry, Commits, FindsHead, Inits, IsMfs, IsWanting, LeavesHead, Opens, ReadsHead, StandsAt, TellsAs, head_in};
 
 use crate::{Mfs, MfsFault, Ready};
 use std::alloc::Global;
@@ -43,10 +43,11 @@ impl Mfs {
         requires profile { IsTrue (is_profile p) }
         ensures answer { IfSome (S.seen store.old).told (λ t. Stood (S.seen store.old).faults (S.seen store.new).faults → Stood (S.seen store.old).clashes (S.seen store.new).clashes
             → Inits S.X.block32 N.name64 (S.seen store.new).told p t.notes.head result) }
+        ensures finds { FindsHead (S.seen store.old).told result }
         ensures mfs { IfOk result IsMfs }
         ensures profile { IfOk result (λ mfs. mfs.profile ≡ p) }
         ensures head { OnErr result (head_in (S.seen store.new).told ≡ head_in (S.seen store.old).told) }
-        ensures cause { Shown S.X.block32 NoneIsBad result (S.seen store.old) (S.seen store.new) }
+        ensures cause { ShownOpening S.X.block32 NoneIsBad result (S.seen store.old) (S.seen store.new) }
         ensures good { KeepsGood S.X.block32 (S.seen store.old).told (S.seen store.new).told }
     {
         match head_note(store) {
@@ -65,9 +66,9 @@ impl Mfs {
     ) -> Result<Mfs, MfsFault>
         ensures opens { (standing : Standing) → TellsAs S.X.block32 N.name64 (S.seen store.old).told standing → Stood (S.seen store.old).faults (S.seen store.new).faults
             → Opens S.X.block32 N.name64 (S.seen store.new).told standing result }
-        ensures head { IfSome (S.seen store.old).told (λ t. ReadsHead t.notes.head result) }
+        ensures head { ReadsHead (S.seen store.old).told result }
         ensures mfs { IfOk result IsMfs }
-        ensures cause { Shown S.X.block32 (IsBad N.name64 None) result (S.seen store.old) (S.seen store.new) }
+        ensures cause { ShownOpening S.X.block32 (IsBad N.name64 None) result (S.seen store.old) (S.seen store.new) }
         ensures told { (S.seen store.new).told ≡ (S.seen store.old).told }
     {
         match head_note(store) {
@@ -99,7 +100,8 @@ impl Mfs {
             → StandsAt S.X.block32 N.name64 (S.seen store.new).told self.new p es × TellsAs S.X.block32 N.name64 (S.seen store.new).told (Stands p es)) }
         ensures leaves { OnErr result (LeavesHead (S.seen store.old).told (S.seen store.new).told) }
         ensures same { self.new ≡ self.old }
-        ensures cause { Shown S.X.block32 NoneIsBad result (S.seen store.old) (S.seen store.new) }
+        ensures fault { IfErr result IsOfNotes }
+        ensures cause { ShownInTree S.X.block32 NoneIsBad result (S.seen store.old) (S.seen store.new) }
         ensures good { KeepsGood S.X.block32 (S.seen store.old).told (S.seen store.new).told }
         ensures touches { touches.new ≡ touches.old }
     {
@@ -134,10 +136,11 @@ fn start<S: Store, N: NameHash, L: Ledger>(
     requires profile { IsTrue (is_profile p) }
     ensures answer { IfSome (S.seen store.old).told (λ t. Stood (S.seen store.old).faults (S.seen store.new).faults → Stood (S.seen store.old).clashes (S.seen store.new).clashes
         → Inits S.X.block32 N.name64 (S.seen store.new).told p None result) }
+    ensures finds { IfSome (S.seen store.old).told (λ t. t.notes.head ≡ None) → FindsHead (S.seen store.old).told result }
     ensures mfs { IfOk result IsMfs }
     ensures profile { IfOk result (λ mfs. mfs.profile ≡ p) }
     ensures head { OnErr result (head_in (S.seen store.new).told ≡ head_in (S.seen store.old).told) }
-    ensures cause { Shown S.X.block32 NoneIsBad result (S.seen store.old) (S.seen store.new) }
+    ensures cause { ShownOpening S.X.block32 NoneIsBad result (S.seen store.old) (S.seen store.new) }
     ensures good { KeepsGood S.X.block32 (S.seen store.old).told (S.seen store.new).told }
 {
     match empty(alloc, store, touches) {

@@ -77,7 +77,7 @@ pub fn run<S: Store, N: NameHash, I: Source, O: Sink, E: Sink, L: Ledger>(
     ensures read { result ≡ Status.ReadFault → Rose (I.faults input.old) (I.faults input.new) }
     ensures write { result ≡ Status.WriteFault → Rose (O.faults output.old) (O.faults output.new) }
     ensures not_ready { result ≡ Status.NotReady → IsNotReady (λ line. IsSent line (E.holds errors.old) (E.holds errors.new) (E.faults errors.old) (E.faults errors.new))
-        (command_in (map string_bytes words.now)) (S.seen store.old) (S.seen store.new) }
+        (command_in (map string_bytes words.now)) (S.seen store.old).told }
 
     // No fault is passed over.
     ensures faults_told { (S.seen store.old).faults < (S.seen store.new).faults → (result ≡ Status.StoreFault) ⊎ (result ≡ Status.Memory) }
@@ -121,7 +121,7 @@ fn serve<S: Store, N: NameHash, I: Source, O: Sink, L: Ledger>(
         → Stood (S.seen store.old).faults (S.seen store.new).faults → Stood (S.seen store.old).clashes (S.seen store.new).clashes → FindsAll (ended result) }
     ensures words { KeepsRefusal (command_in (map string_bytes words.now)) result }
     ensures left { (why : TheRefusal) → command_in (map string_bytes words.now) ≡ Err why → store.new ≡ store.old }
-    ensures ready { IsReadyFor (S.seen store.old) (S.seen store.new) (command_in (map string_bytes words.now)) result }
+    ensures ready { IsReadyFor (S.seen store.old).told (command_in (map string_bytes words.now)) result }
     ensures adds { AddsFor S.X.block32 (S.seen store.old).told (command_in (map string_bytes words.now)) result (I.left input.old) (I.left input.new) }
     ensures prints { Prints (IsTextOf S.X.block32 (S.seen store.old).told (command_in (map string_bytes words.now)) (I.left input.old)) result (O.holds output.old) (O.holds output.new) }
     ensures synced { SyncsFor (command_in (map string_bytes words.now)) result (S.seen store.new).told }
@@ -159,7 +159,7 @@ fn served<S: Store, N: NameHash, I: Source, O: Sink, L: Ledger>(
     ensures whole { (standing : Standing) → TellsAs S.X.block32 N.name64 (S.seen store.old).told standing
         → Stood (S.seen store.old).faults (S.seen store.new).faults → Stood (S.seen store.old).clashes (S.seen store.new).clashes → FindsAll (ended result) }
     ensures words { KeepsRefusal (Ok command.now) result }
-    ensures ready { IsReadyFor (S.seen store.old) (S.seen store.new) (Ok command.now) result }
+    ensures ready { IsReadyFor (S.seen store.old).told (Ok command.now) result }
     ensures adds { AddsFor S.X.block32 (S.seen store.old).told (Ok command.now) result (I.left input.old) (I.left input.new) }
     ensures prints { Prints (IsTextOf S.X.block32 (S.seen store.old).told (Ok command.now) (I.left input.old)) result (O.holds output.old) (O.holds output.new) }
     ensures synced { SyncsFor (Ok command.now) result (S.seen store.new).told }
@@ -195,7 +195,7 @@ fn work<S: Store, N: NameHash, I: Source, L: Ledger>(
         → Answers S.X.block32 N.name64 standing (reply S.X.block32 N.name64 command.now standing bytes) result (S.seen store.new).told }
     ensures whole { (standing : Standing) → TellsAs S.X.block32 N.name64 (S.seen store.old).told standing
         → Stood (S.seen store.old).faults (S.seen store.new).faults → Stood (S.seen store.old).clashes (S.seen store.new).clashes → FindsAll (ended result) }
-    ensures ready { IsReady (S.seen store.old) (S.seen store.new) command.now result }
+    ensures ready { IsReady (S.seen store.old).told command.now result }
     ensures work { IsOfCommand command.now result }
     ensures adds { AddsFor S.X.block32 (S.seen store.old).told (Ok command.now) result (I.left input.old) (I.left input.new) }
     ensures synced { SyncsFor (Ok command.now) result (S.seen store.new).told }

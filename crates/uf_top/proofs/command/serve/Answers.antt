@@ -21,7 +21,7 @@ pub returns-in-Err-clause-words : goal.returns-in-Err-clause-words
 returns-in-Err-clause-words g c = words-keep (command_in (map string_bytes c.args.words.now)) c.in-Err.why c.in-Err.ensures.asked
 
 pub returns-in-Err-clause-ready : goal.returns-in-Err-clause-ready
-returns-in-Err-clause-ready g c = words-ready (g.S.Store.seen c.args.store.now) (g.S.Store.seen c.args.store.now) (command_in (map string_bytes c.args.words.now)) c.in-Err.why (asked-only (command_of (map string_bytes c.args.words.now)) c.in-Err.why c.in-Err.ensures.asked)
+returns-in-Err-clause-ready g c = words-ready (g.S.Store.seen c.args.store.now).told (command_in (map string_bytes c.args.words.now)) c.in-Err.why (asked-only (command_of (map string_bytes c.args.words.now)) c.in-Err.why c.in-Err.ensures.asked)
 
 pub returns-in-Err-clause-adds : goal.returns-in-Err-clause-adds
 returns-in-Err-clause-adds g c = words-add g.S.X.BlockHash.block32 (g.S.Store.seen c.args.store.now).told (command_in (map string_bytes c.args.words.now)) c.in-Err.why (g.I.Source.left c.args.input.now) (g.I.Source.left c.args.input.now) (asked-only (command_of (map string_bytes c.args.words.now)) c.in-Err.why c.in-Err.ensures.asked)
@@ -48,7 +48,7 @@ pub returns-in-Ok-clause-words : goal.returns-in-Ok-clause-words
 returns-in-Ok-clause-words g c = subst (λ asked. KeepsRefusal asked c.served.result) (sym c.in-Ok.ensures.asked) c.served.ensures.words
 
 pub returns-in-Ok-clause-ready : goal.returns-in-Ok-clause-ready
-returns-in-Ok-clause-ready g c = subst (λ asked. IsReadyFor (g.S.Store.seen c.args.store.now) (g.S.Store.seen c.served.new.store) asked c.served.result) (sym c.in-Ok.ensures.asked) c.served.ensures.ready
+returns-in-Ok-clause-ready g c = subst (λ asked. IsReadyFor (g.S.Store.seen c.args.store.now).told asked c.served.result) (sym c.in-Ok.ensures.asked) c.served.ensures.ready
 
 pub returns-in-Ok-clause-adds : goal.returns-in-Ok-clause-adds
 returns-in-Ok-clause-adds g c = subst (λ asked. AddsFor g.S.X.BlockHash.block32 (g.S.Store.seen c.args.store.now).told asked c.served.result (g.I.Source.left c.args.input.now) (g.I.Source.left c.served.new.input)) (sym c.in-Ok.ensures.asked) c.served.ensures.adds

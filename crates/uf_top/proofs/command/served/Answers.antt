@@ -26,7 +26,7 @@ pub returns-in-Ok-clause-words : goal.returns-in-Ok-clause-words
 returns-in-Ok-clause-words g c = printed-keep c.args.command.now c.in-Ok.text c.print.result (g.O.Sink.holds c.args.output.now) (g.O.Sink.holds c.print.new.output) c.print.ensures.prints
 
 pub returns-in-Ok-clause-ready : goal.returns-in-Ok-clause-ready
-returns-in-Ok-clause-ready g c = printed-ready (g.S.Store.seen c.args.store.now) (g.S.Store.seen c.work.new.store) c.args.command.now c.in-Ok.text c.print.result (g.O.Sink.holds c.args.output.now) (g.O.Sink.holds c.print.new.output) c.print.ensures.prints
+returns-in-Ok-clause-ready g c = printed-ready (g.S.Store.seen c.args.store.now).told c.args.command.now c.in-Ok.text c.print.result (g.O.Sink.holds c.args.output.now) (g.O.Sink.holds c.print.new.output) c.print.ensures.prints
 
 pub returns-in-Ok-clause-adds : goal.returns-in-Ok-clause-adds
 returns-in-Ok-clause-adds g c = printed-adds g.S.X.BlockHash.block32 (g.S.Store.seen c.args.store.now).told (Ok c.args.command.now) c.in-Ok.text c.print.result (g.I.Source.left c.args.input.now) (g.I.Source.left c.work.new.input) (g.O.Sink.holds c.args.output.now) (g.O.Sink.holds c.print.new.output) c.print.ensures.prints c.in-Ok.ensures.adds
