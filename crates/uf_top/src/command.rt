@@ -57,6 +57,9 @@ pub fn run<S: Store, N: NameHash, I: Source, O: Sink, E: Sink, L: Ledger>(
     ensures whole { (standing : Standing) → TellsAs S.X.block32 N.name64 (S.seen store.old).told standing
         → Stood (S.seen store.old).faults (S.seen store.new).faults → Stood (S.seen store.old).clashes (S.seen store.new).clashes → FindsAll result }
 
+    // Equal roots mean equal trees: what the store tells stands for one tree at most.
+    ensures one { (standing other : Standing) → TellsAs S.X.block32 N.name64 (S.seen store.new).told standing → TellsAs S.X.block32 N.name64 (S.seen store.new).told other → standing ≡ other }
+
     // Words that are no command, and texts that are no paths, are refused, and then nothing is done.
     ensures words { (why : TheRefusal) → command_in (map string_bytes words.now) ≡ Err why
         → IsRefusedBy (λ line. IsSent line (E.holds errors.old) (E.holds errors.new) (E.faults errors.old) (E.faults errors.new)) why result }

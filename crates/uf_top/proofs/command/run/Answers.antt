@@ -7,7 +7,7 @@ use Rattle.uf_top.specs.Reply.{reply_to}
 use Rattle.uf_words.specs.Commands.{command_of}
 use Rattle.uf_top.proofs.Asked.{words-only}
 use Rattle.uf_top.proofs.Finding.{whole-told}
-use Rattle.uf_top.proofs.Standings.{stands-kept}
+use Rattle.uf_top.proofs.Standings.{stands-kept, stands-one}
 use Rattle.uf_top.proofs.Telling.{bad-told, clash-told, clashes-told, ends-told, failure-told, faults-told, head-told, is-refused, missing-told, prints-told, read-rose, read-told, ready-told, rule-told, says-plain, synced-told, usage-told, write-rose, write-told}
 use Rattle.uf_top.proofs.command.run.Goals as goal
 
@@ -22,6 +22,10 @@ returns-clause-replies g c = λ s bytes stands input faults clashes write.
 
 pub returns-clause-whole : goal.returns-clause-whole
 returns-clause-whole g c = λ s stands faults clashes. whole-told (λ line. IsSent line (g.E.Sink.holds c.args.errors.now) (g.E.Sink.holds c.told.new.errors) (g.E.Sink.faults c.args.errors.now) (g.E.Sink.faults c.told.new.errors)) c.serve-ends.result c.told.result c.told.ensures (c.serve-ends.ensures.whole s stands faults clashes)
+
+pub returns-clause-one : goal.returns-clause-one
+returns-clause-one g c = λ s r stands other.
+    stands-one g.S.X.BlockHash.block32 g.N.NameHash.name64 (record { size = g.met.S.X.BlockHash.size; are_bytes = g.met.S.X.BlockHash.are_bytes }) g.met.N.NameHash.fits (g.S.Store.seen c.serve-ends.new.store).told s r stands other
 
 pub returns-clause-words : goal.returns-clause-words
 returns-clause-words g c = λ why is. is-refused (λ line. IsSent line (g.E.Sink.holds c.args.errors.now) (g.E.Sink.holds c.told.new.errors) (g.E.Sink.faults c.args.errors.now) (g.E.Sink.faults c.told.new.errors)) c.serve-ends.result c.told.result why c.told.ensures (subst (λ asked. KeepsRefusal asked c.serve-ends.result) is c.serve-ends.ensures.words)
