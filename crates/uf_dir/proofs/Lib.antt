@@ -4,6 +4,7 @@ pub mod Causes
 pub mod Edited
 pub mod Listing
 pub mod Looked
+pub mod Nodes
 pub mod Planning
 pub mod Refusals
 pub mod Roots

@@ -1,5 +1,6 @@
 // Directories changed by one name.
 ghost use Rattle.std.specs.Prelude.{◌≡◌, ◌≤◌, ◌^◌, List, IfOk, IfSome, IsTrue, None, OnOk, Some};
+ghost use Rattle.uf_cid.specs.declared.cid.Codec.TheVariants.{DagPb};
 ghost use Rattle.uf_edge.specs.Counts.{Stood};
 ghost use Rattle.uf_store.specs.Faults.{Answers};
 ghost use Rattle.uf_store.specs.Keeping.{Agrees, KeepsGood, SavesOnly};
@@ -41,6 +42,7 @@ pub fn put<S: Store, N: NameHash, L: Ledger>(
         → Stood (S.seen store.old).faults (S.seen store.new).faults → Stood (S.seen store.old).clashes (S.seen store.new).clashes
         → GivesOver (S.seen store.old).told (own_blocks S.X.block32 N.name64 p.now l)
         (dir_refusal S.X.block32 N.name64 p.now (with_name name.now entry.now l)) (dir_entry S.X.block32 N.name64 p.now (with_name name.now entry.now l)) result }
+    ensures node { IfOk result (λ e. e.cid.codec ≡ DagPb) }
     ensures after { OnOk result ((l : List Named) → IsPlanned S.X.block32 N.name64 p.now root.now l → Agrees (S.seen store.old).told (own_blocks S.X.block32 N.name64 p.now l)
         → AgreesAfter (S.seen store.old).told (S.seen store.new).told (own_blocks S.X.block32 N.name64 p.now l)
         (own_blocks S.X.block32 N.name64 p.now (with_name name.now entry.now l))) }
@@ -72,6 +74,7 @@ pub fn remove<S: Store, N: NameHash, L: Ledger>(
         → Agrees (S.seen store.old).told (own_blocks S.X.block32 N.name64 p.now l)
         → Stood (S.seen store.old).faults (S.seen store.new).faults → Stood (S.seen store.old).clashes (S.seen store.new).clashes
         → ReadsOver (S.seen store.old).told (own_blocks S.X.block32 N.name64 p.now l) (entry_without S.X.block32 N.name64 p.now name.now l) result }
+    ensures node { IfOk result (λ left. IfSome left (λ e. e.cid.codec ≡ DagPb)) }
     ensures none { IfOk result (λ left. left ≡ None → (S.seen store.new).told ≡ (S.seen store.old).told) }
     ensures after { OnOk result ((l : List Named) → IsPlanned S.X.block32 N.name64 p.now root.now l → (dir_entry S.X.block32 N.name64 p.now l).tsize ≤ 2 ^ 62
         → Agrees (S.seen store.old).told (own_blocks S.X.block32 N.name64 p.now l)

@@ -78,7 +78,7 @@ pub fn with_pair(alloc: Global, pairs: &Pairs, name: &Name, entry: &Entry) -> Re
     ensures pairs { IfOk result (λ l. l ≡ with_name name.now entry.now pairs.now) }
     ensures directory { IfOk result IsDirectory }
 {
-    is_named(name, entry);
+    stays_directory(pairs, name, entry);
     let old = pairs.as_slice();
     let at = place_of(old, name);
     let behind = place_behind(old, at, name);
@@ -105,6 +105,15 @@ pub fn without_name(alloc: Global, pairs: &Pairs, name: &Name) -> Result<Pairs, 
         }
     }
     Ok(left)
+}
+
+// A directory with an entry put under a name is one again.
+fn stays_directory(pairs: &Pairs, name: &Name, entry: &Entry)
+    requires { IsDirectory pairs.now }
+    ensures { IsDirectory (with_name name.now entry.now pairs.now) }
+{
+    let _pairs = pairs;
+    is_named(name, entry);
 }
 
 // A good name and an entry are a directory's pair.

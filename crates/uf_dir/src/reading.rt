@@ -1,5 +1,5 @@
 // Directories read.
-ghost use Rattle.std.specs.Prelude.{◌≡◌, ◌≤◌, ◌+◌, ℕ, List, [], ◌∷◌, IfOk, true, false, None};
+ghost use Rattle.std.specs.Prelude.{◌≡◌, ◌≤◌, ◌+◌, ℕ, List, [], ◌∷◌, IfOk, Ok, true, false, None};
 ghost use Rattle.std.specs.FinMap.Entries.{find as value_of};
 ghost use Rattle.uf_cid.specs.Blocks.{Held};
 ghost use Rattle.uf_cid.specs.declared.cid.Codec.TheVariants.{Raw, DagPb};
@@ -35,7 +35,7 @@ pub fn is_dir<S: Store, L: Ledger>(
     entry: &Entry,
     touches: &mut Steps<L>,
 ) -> Result<bool, StoreFault>
-    ensures raw { entry.now.cid.codec ≡ Raw → IfOk result (λ answer. answer ≡ false) × (S.seen store.new ≡ S.seen store.old) }
+    ensures raw { entry.now.cid.codec ≡ Raw → (result ≡ Ok false) × (S.seen store.new ≡ S.seen store.old) }
     ensures folder { (N : List ℕ → ℕ) (p : TheProfile) (l : List Named) → IsPlanned S.X.block32 N p entry.now.cid l
         → Agrees (S.seen store.old).told (dir_root S.X.block32 N p l ∷ []) → Stood (S.seen store.old).faults (S.seen store.new).faults
         → FindsOver (S.seen store.old).told (dir_root S.X.block32 N p l ∷ []) true result }

@@ -6,13 +6,10 @@ use crate::{DirFault, build, empty, entries, find, is_dir, put, remove};
 use std::alloc::Global;
 use std::marker::Brand;
 use std::sync::ledger::{Blank, Ledger};
-use uf_cid::{Cid, Codec, Seq, Sha256Hash, Text};
-use uf_dagpb::Link;
+use uf_cid::{Block, Cid, Codec, Sha256Hash};
 use uf_murmur::FirstEight;
 use uf_store::{MemStore, Role, Steps, StoreFault, save_block};
-use uf_tree::{Entry, FileNode, Name, Pair, Pairs, Profile, file_node, is_directory, is_file_node};
-
-type Held = MemStore<Sha256Hash>;
+use uf_tree::{Entry, Name, Pair, Pairs, Profile, is_directory};
 
 const EMPTY: &str = "bafybeiczsscdsbs7ffqz55asqdf3smv6klcw3gofszvwlyarci47bgf354";
 
@@ -29,6 +26,66 @@ const ALIKE: &str = "bafybeibwdsi276xxzsjkngh7hqq34vqqq2l7zsd6xmcspzqgezdqfvbt5u
 const THREE: &str = "bafybeifh47sgh7jevtsuzroog5oow4y736vejdvyiyo3rjcjl7bg5pu2la";
 
 const ONE: &str = "bafybeifswz4b4hcdbsc4q7wk56ar2e4jxcfcsvfymohst6mbzqkij7rmwa";
+
+// The raw block of no bytes.
+const NOTHING: &str = "bafkreihdwdcefgh4dqkjv67uzcmw7ojee6xedzdetojuzjevtenxquvyku";
+
+// The node of a file of the one byte `c`, and its block.
+const NODE: &str = "bafybeibur2e6yyjtsynha7fswazghh5op52abd6w4szltfnxkhnl5qre6a";
+
+const NODE_BLOCK: &[u8] =
+    b"\x12\x2a\x0a\x24\x01\x55\x12\x20\x2e\x7d\x2c\x03\xa9\x50\x7a\xe2\x65\xec\xf5\xb5\x35\x68\x85\xa5\x33\x93\xa2\x02\x9d\x24\x13\x94\x99\x72\x65\xa1\xa2\x5a\xef\xc6\x12\x00\x18\x01\x0a\x06\x08\x02\x18\x01\x20\x01";
+
+// A block that is no node, with its bytes.
+const BAD: &str = "bafybeid3fcs2c4lyh3qa3w6qwebhoplreojfw4r2wwl64u7egdzwjnegxy";
+
+const BAD_BLOCK: &[u8] = b"\x0a\x02\x08\x01 ";
+
+type Kept = MemStore<Sha256Hash>;
+
+// What a call is to answer: an entry with this CID and this Tsize, none, a directory, a file, all names that were given, that
+// the root is missing or bad, or two names of one hash.
+#[derive(Clone, Copy)]
+enum Wanted {
+    Entry(&'static str, u64),
+    Nothing,
+    Folder,
+    File,
+    Listed,
+    Missing,
+    Bad,
+    Twins(&'static str, &'static str),
+}
+
+// A call, its threshold, its root, its names, and what it is to answer. The call is `0` for the empty directory, `=` for one of
+// empty files, `+` and `!` for a file of nothing and of two bytes that is put, `-` for a name that is removed, `?` for one
+// that is looked up, `l` for the list of names, `k` for what the root is, and `n` and `x` for a block that is saved.
+type Row = (u8, u32, &'static str, &'static str, Wanted);
+
+// A call with what it takes beside the root.
+#[derive(Drop)]
+enum Call {
+    Empty,
+    Build(Pairs),
+    Put(Name, Entry),
+    Remove(Name),
+    Find(Name),
+    List,
+    Kind,
+    Save(Block),
+}
+
+// What a call answered.
+#[derive(Drop)]
+enum Answer {
+    Entry(Entry),
+    Nothing,
+    Kind(bool),
+    List(Pairs),
+    Twins(Name, Name),
+    TooBig,
+    Fault(StoreFault),
+}
 
 // A profile of this threshold.
 fn profile(threshold: u32) -> Profile
@@ -49,320 +106,333 @@ fn file(bytes: &[u8]) -> Entry {
     }
 }
 
-// Whether an entry has this CID and this Tsize.
-fn is_entry(entry: &Entry, text: &str, tsize: u64) -> bool {
-    entry.cid.text().as_slice() == text.as_bytes() && entry.tsize == tsize
-}
-
 // The pairs of empty files under these names.
-fn empty_files(alloc: Global, names: &[&str]) -> Option<Pairs> {
+fn empty_files(alloc: Global, names: &str) -> Option<Pairs> {
     let mut pairs = Pairs::new(alloc);
-    for text in names {
-        let name = Name::parse(alloc, text).ok()?;
+    for word in names.split_whitespace() {
+        let name = Name::parse(alloc, word).ok()?;
         let entry = file(b"");
         pairs.push(Pair { name, entry }).ok()?;
     }
     Some(pairs)
 }
 
-// The directory of empty files under these names.
+fn block(alloc: Global, bytes: &[u8]) -> Option<Block> {
+    let mut block = Block::new(alloc);
+    block.extend(bytes).ok()?;
+    Some(block)
+}
+
+// The call of a row.
+fn call_of(alloc: Global, how: u8, names: &str) -> Option<Call> {
+    match how {
+        b'0' => Some(Call::Empty),
+        b'=' => Some(Call::Build(empty_files(alloc, names)?)),
+        b'+' => Some(Call::Put(Name::parse(alloc, names).ok()?, file(b""))),
+        b'!' => Some(Call::Put(Name::parse(alloc, names).ok()?, file(b"hi"))),
+        b'-' => Some(Call::Remove(Name::parse(alloc, names).ok()?)),
+        b'?' => Some(Call::Find(Name::parse(alloc, names).ok()?)),
+        b'l' => Some(Call::List),
+        b'k' => Some(Call::Kind),
+        b'n' => Some(Call::Save(block(alloc, NODE_BLOCK)?)),
+        _ => Some(Call::Save(block(alloc, BAD_BLOCK)?)),
+    }
+}
+
+fn of_change(answer: Result<Entry, DirFault>) -> Answer {
+    match answer {
+        Ok(entry) => Answer::Entry(entry),
+        Err(DirFault::Collision(first, second)) => Answer::Twins(first, second),
+        Err(DirFault::TooBig) => Answer::TooBig,
+        Err(DirFault::Store(fault)) => Answer::Fault(fault),
+    }
+}
+
+fn of_search(answer: Result<Option<Entry>, StoreFault>) -> Answer {
+    match answer {
+        Ok(Some(entry)) => Answer::Entry(entry),
+        Ok(None) => Answer::Nothing,
+        Err(fault) => Answer::Fault(fault),
+    }
+}
+
 fn built<L: Ledger>(
     alloc: Global,
-    store: &mut Held,
-    threshold: u32,
-    names: &[&str],
+    store: &mut Kept,
+    p: &Profile,
+    pairs: &Pairs,
     touches: &mut Steps<L>,
-) -> Option<Entry> {
-    let pairs = empty_files(alloc, names)?;
-    if !is_directory(&pairs) {
-        return None;
+) -> Answer
+    requires { IsTrue (is_profile p.now) }
+{
+    if !is_directory(pairs) {
+        return Answer::Nothing;
     }
-    let p = profile(threshold);
-    build::<Held, FirstEight, L>(alloc, store, &p, &pairs, touches).ok()
+    of_change(build::<Kept, FirstEight, L>(alloc, store, p, pairs, touches))
 }
 
-// A directory after an entry is put under a name.
-fn after_put<L: Ledger>(
+fn emptied<L: Ledger>(alloc: Global, store: &mut Kept, touches: &mut Steps<L>) -> Answer {
+    match empty(alloc, store, touches) {
+        Ok(entry) => Answer::Entry(entry),
+        Err(fault) => Answer::Fault(fault),
+    }
+}
+
+fn listed<L: Ledger>(
     alloc: Global,
-    store: &mut Held,
-    threshold: u32,
+    store: &mut Kept,
     root: &Cid,
-    text: &str,
-    entry: &Entry,
     touches: &mut Steps<L>,
-) -> Option<Entry> {
-    let p = profile(threshold);
-    let name = Name::parse(alloc, text).ok()?;
-    put::<Held, FirstEight, L>(alloc, store, &p, root, &name, entry, touches).ok()
-}
-
-// A directory after a name is removed, or none where the name isn't there.
-fn after_removal<L: Ledger>(
-    alloc: Global,
-    store: &mut Held,
-    threshold: u32,
-    root: &Cid,
-    text: &str,
-    touches: &mut Steps<L>,
-) -> Option<Option<Entry>> {
-    let p = profile(threshold);
-    let name = Name::parse(alloc, text).ok()?;
-    remove::<Held, FirstEight, L>(alloc, store, &p, root, &name, touches).ok()
-}
-
-// Whether a directory lists exactly these names, each of an empty file, and finds each, and no other name.
-fn has_names<L: Ledger>(
-    alloc: Global,
-    store: &mut Held,
-    root: &Cid,
-    names: &[&str],
-    touches: &mut Steps<L>,
-) -> Option<bool> {
-    let listed = entries(alloc, store, root, touches).ok()?;
-    let mut right = listed.len() == names.len();
-    for (pair, text) in listed.as_slice().iter().zip(names) {
-        let found = find::<Held, FirstEight, L>(alloc, store, root, &pair.name, touches).ok()?;
-        right = right && pair.name.as_str() == *text && found == Some(file(b""));
-    }
-    let other = Name::parse(alloc, "other").ok()?;
-    let none = find::<Held, FirstEight, L>(alloc, store, root, &other, touches).ok()?;
-    Some(right && none.is_none())
-}
-
-// Directories in one block.
-fn builds_blocks<L: Ledger>(alloc: Global, touches: &mut Steps<L>) -> Option<bool> {
-    let mut store = Held::new(alloc);
-    let none = empty(alloc, &mut store, touches).ok()?;
-    let mut right = is_entry(&none, EMPTY, 4) && store.count() == 1;
-    for (threshold, names, text, tsize) in [
-        (0, [].as_slice(), EMPTY, 4),
-        (74, ["a"].as_slice(), JUST_A, 49),
-        (74, ["a", "b"].as_slice(), A_AND_B, 94),
-        (100, ["abcdefgh1", "abcdefgh2"].as_slice(), ALIKE, 110),
-    ] {
-        let root = built(alloc, &mut store, threshold, names, touches)?;
-        right = right
-            && is_entry(&root, text, tsize)
-            && has_names(alloc, &mut store, &root.cid, names, touches)?;
-    }
-    Some(right && store.count() == 4)
-}
-
-// One change of a directory: `+` puts an empty file under a name, `!` a file of two bytes, and `-` removes the name.
-fn step<L: Ledger>(
-    alloc: Global,
-    store: &mut Held,
-    threshold: u32,
-    root: &Cid,
-    how: u8,
-    text: &str,
-    touches: &mut Steps<L>,
-) -> Option<Entry> {
-    match how {
-        b'+' => after_put(alloc, store, threshold, root, text, &file(b""), touches),
-        b'!' => after_put(alloc, store, threshold, root, text, &file(b"hi"), touches),
-        _ => after_removal(alloc, store, threshold, root, text, touches)?,
+) -> Answer {
+    match entries(alloc, store, root, touches) {
+        Ok(pairs) => Answer::List(pairs),
+        Err(fault) => Answer::Fault(fault),
     }
 }
 
-// A change, and the CID and the Tsize of the directory after it.
-type Change = (u8, &'static str, &'static str, u64);
-
-// Directories in one block, changed by one name.
-const IN_BLOCKS: [Change; 6] = [
-    (b'+', "b", JUST_B, 49),
-    (b'+', "a", A_AND_B, 94),
-    (b'!', "a", HI_AND_B, 96),
-    (b'+', "a", A_AND_B, 94),
-    (b'-', "a", JUST_B, 49),
-    (b'-', "b", EMPTY, 4),
-];
-
-// A directory that becomes shards when it is too heavy, and one block again.
-const ACROSS: [Change; 4] = [
-    (b'+', "a", JUST_A, 49),
-    (b'+', "b", A_AND_B, 94),
-    (b'+', "c", THREE, 165),
-    (b'-', "c", A_AND_B, 94),
-];
-
-// The same where every directory with a name is in shards.
-const FROM_NOTHING: [Change; 2] = [(b'+', "a", ONE, 71), (b'-', "a", EMPTY, 4)];
-
-// Whether an empty directory changes so.
-fn changes_so<L: Ledger>(
-    alloc: Global,
-    threshold: u32,
-    changes: &[Change],
-    touches: &mut Steps<L>,
-) -> Option<bool> {
-    let mut store = Held::new(alloc);
-    let mut root = empty(alloc, &mut store, touches).ok()?.cid;
-    let mut right = true;
-    for (how, text, wanted, tsize) in changes {
-        let entry = step(alloc, &mut store, threshold, &root, *how, text, touches)?;
-        right = right && is_entry(&entry, wanted, *tsize);
-        root = entry.cid;
-    }
-    Some(right)
-}
-
-// A name that isn't there is not removed, and nothing is saved.
-fn leaves_absent_names<L: Ledger>(alloc: Global, touches: &mut Steps<L>) -> Option<bool> {
-    let mut store = Held::new(alloc);
-    let root = built(alloc, &mut store, 74, &["b"], touches)?.cid;
-    let writes = store.writes();
-    let absent = after_removal(alloc, &mut store, 74, &root, "a", touches)?;
-    Some(absent.is_none() && store.writes() == writes)
-}
-
-// The node of a file of the one byte `c`.
-fn save_node<L: Ledger>(alloc: Global, store: &mut Held, touches: &mut Steps<L>) -> Option<Cid> {
-    let mut parts = Seq::new(alloc);
-    let mut sizes = Seq::new(alloc);
-    let Entry { cid, tsize } = file(b"c");
-    let name = Text::new(alloc);
-    parts.push(Link { cid, name, tsize }).ok()?;
-    sizes.push(1u64).ok()?;
-    let node = FileNode { parts, sizes };
-    if !is_file_node(&node) {
-        return None;
-    }
-    let block = file_node(alloc, &node).ok()?;
-    save_block(alloc, store, Codec::DagPb, block.as_slice(), touches).ok()
-}
-
-// What a block is asked to be: 0 for no directory, 1 for one, 2 for a missing block, 3 for a bad one, 4 for anything else.
-fn kind<L: Ledger>(alloc: Global, store: &mut Held, cid: &Cid, touches: &mut Steps<L>) -> u8 {
+fn asked<L: Ledger>(alloc: Global, store: &mut Kept, root: &Cid, touches: &mut Steps<L>) -> Answer {
     let entry = Entry {
-        cid: *cid,
+        cid: *root,
         tsize: 0,
     };
     match is_dir(alloc, store, &entry, touches) {
-        Ok(false) => 0,
-        Ok(true) => 1,
-        Err(StoreFault::Missing(about)) if about == *cid => 2,
-        Err(StoreFault::BadBlock(about, Role::Directory)) if about == *cid => 3,
-        Err(_) => 4,
+        Ok(answer) => Answer::Kind(answer),
+        Err(fault) => Answer::Fault(fault),
     }
 }
 
-// Blocks that are directories, and blocks that aren't.
-fn tells_kinds<L: Ledger>(alloc: Global, touches: &mut Steps<L>) -> Option<bool> {
-    let mut store = Held::new(alloc);
-    let root = built(alloc, &mut store, 74, &["a", "b"], touches)?.cid;
-    let node = save_node(alloc, &mut store, touches)?;
-    let bad = save_block(
-        alloc,
-        &mut store,
-        Codec::DagPb,
-        b"\x0a\x02\x08\x01 ",
-        touches,
-    )
-    .ok()?;
-    let raw = file(b"").cid;
-    let lost = built(alloc, &mut store, 74, &[], touches)?.cid;
-    store.forget(&lost);
-    let mut right = true;
-    for (cid, answer) in [(root, 1), (node, 0), (raw, 0), (lost, 2), (bad, 3)] {
-        right = right && kind(alloc, &mut store, &cid, touches) == answer;
+fn saved<L: Ledger>(
+    alloc: Global,
+    store: &mut Kept,
+    block: &Block,
+    touches: &mut Steps<L>,
+) -> Answer {
+    let bytes = block.as_slice();
+    if bytes.len() > 100 {
+        return Answer::Nothing;
     }
-    Some(right)
+    match save_block(alloc, store, Codec::DagPb, bytes, touches) {
+        Ok(cid) => Answer::Entry(Entry { cid, tsize: 0 }),
+        Err(fault) => Answer::Fault(fault),
+    }
 }
 
-// A block that is too heavy for the profile, and a root that is a file's node.
-fn refuses_roots<L: Ledger>(alloc: Global, touches: &mut Steps<L>) -> Option<bool> {
-    let mut store = Held::new(alloc);
-    let root = built(alloc, &mut store, 74, &["a", "b"], touches)?.cid;
-    let node = save_node(alloc, &mut store, touches)?;
-    let name = Name::parse(alloc, "a").ok()?;
-    let p = profile(73);
-    let heavy = remove::<Held, FirstEight, L>(alloc, &mut store, &p, &root, &name, touches);
-    let file = find::<Held, FirstEight, L>(alloc, &mut store, &node, &name, touches);
-    Some(
-        matches!(&heavy, Err(StoreFault::BadBlock(cid, Role::Directory)) if *cid == root)
-            && matches!(&file, Err(StoreFault::BadBlock(cid, Role::Directory)) if *cid == node),
-    )
-}
-
-// A directory in shards that is built at once.
-fn builds_shards<L: Ledger>(alloc: Global, touches: &mut Steps<L>) -> Option<bool> {
-    let mut store = Held::new(alloc);
-    let names = ["a", "b", "c"];
-    let root = built(alloc, &mut store, 74, &names, touches)?;
-    let right = is_entry(&root, THREE, 165) && kind(alloc, &mut store, &root.cid, touches) == 1;
-    Some(right && has_names(alloc, &mut store, &root.cid, &names, touches)?)
-}
-
-// Two names of one hash, which collide once the directory is sharded.
-fn names_collide<L: Ledger>(alloc: Global, touches: &mut Steps<L>) -> Option<bool> {
-    let mut store = Held::new(alloc);
-    let alike = ["abcdefgh1", "abcdefgh2"];
-    let root = built(alloc, &mut store, 100, &alike, touches)?.cid;
-    let name = Name::parse(alloc, "c").ok()?;
-    let p = profile(100);
-    let fault = put::<Held, FirstEight, L>(
-        alloc,
-        &mut store,
-        &p,
-        &root,
-        &name,
-        &file(b""),
-        touches,
-    );
-    let Err(DirFault::Collision(first, second)) = fault else {
-        return Some(false);
-    };
-    Some(first.as_str() == alike[0] && second.as_str() == alike[1])
-}
-
-// The place of the first row that is wrong.
-fn first_wrong<L: Ledger>(alloc: Global, blank: Blank) -> Option<usize>
+// One call over a store.
+fn counted<L: Ledger>(
+    alloc: Global,
+    store: &mut Kept,
+    threshold: u32,
+    root: &Cid,
+    call: Call,
+    blank: Blank,
+) -> Answer
     requires name { blank.name ≡ L.name }
     requires parts { blank.parts ≡ L.parts }
     requires some { 0 < blank.parts }
 {
     let mut touches = Steps::<L>::new(blank);
-    let rows = [
-        builds_blocks(alloc, &mut touches),
-        changes_so(alloc, 74, &IN_BLOCKS, &mut touches),
-        leaves_absent_names(alloc, &mut touches),
-        tells_kinds(alloc, &mut touches),
-        refuses_roots(alloc, &mut touches),
-    ];
-    rows.iter().position(|right| *right != Some(true))
+    let p = profile(threshold);
+    match call {
+        Call::Empty => emptied(alloc, store, &mut touches),
+        Call::Build(pairs) => built(alloc, store, &p, &pairs, &mut touches),
+        Call::Put(name, entry) => of_change(put::<Kept, FirstEight, L>(
+            alloc,
+            store,
+            &p,
+            root,
+            &name,
+            &entry,
+            &mut touches,
+        )),
+        Call::Remove(name) => of_search(remove::<Kept, FirstEight, L>(
+            alloc,
+            store,
+            &p,
+            root,
+            &name,
+            &mut touches,
+        )),
+        Call::Find(name) => of_search(find::<Kept, FirstEight, L>(
+            alloc,
+            store,
+            root,
+            &name,
+            &mut touches,
+        )),
+        Call::List => listed(alloc, store, root, &mut touches),
+        Call::Kind => asked(alloc, store, root, &mut touches),
+        Call::Save(block) => saved(alloc, store, &block, &mut touches),
+    }
 }
 
-fn first_wrong_row(alloc: Global) -> Option<usize> {
-    first_wrong::<Brand>(alloc, Blank::new(1))
+// The same, with no count of touches.
+fn done(alloc: Global, store: &mut Kept, threshold: u32, root: &Cid, call: Call) -> Answer {
+    counted::<Brand>(alloc, store, threshold, root, call, Blank::new(1))
+}
+
+// Whether the pairs are empty files under these names.
+fn are_files(pairs: &[Pair], names: &str) -> bool {
+    let mut count = 0usize;
+    for (pair, word) in pairs.iter().zip(names.split_whitespace()) {
+        if pair.name.as_str() != word || pair.entry != file(b"") {
+            return false;
+        }
+        count = count.saturating_add(1);
+    }
+    count == pairs.len() && count == names.split_whitespace().count()
+}
+
+// Whether a call answered what it is to answer.
+fn is_wanted(answer: &Answer, root: &Cid, names: &str, wanted: Wanted) -> bool {
+    match (answer, wanted) {
+        (Answer::Entry(entry), Wanted::Entry(text, tsize)) => {
+            entry.cid.text().as_slice() == text.as_bytes() && entry.tsize == tsize
+        }
+        (Answer::Nothing, Wanted::Nothing) => true,
+        (Answer::Kind(is_folder), Wanted::Folder) => *is_folder,
+        (Answer::Kind(is_folder), Wanted::File) => !*is_folder,
+        (Answer::List(pairs), Wanted::Listed) => are_files(pairs.as_slice(), names),
+        (Answer::Twins(first, second), Wanted::Twins(one, other)) => {
+            first.as_str() == one && second.as_str() == other
+        }
+        (Answer::Fault(StoreFault::Missing(cid)), Wanted::Missing) => cid == root,
+        (Answer::Fault(StoreFault::BadBlock(cid, Role::Directory)), Wanted::Bad) => cid == root,
+        _ => false,
+    }
+}
+
+// Whether a row comes out so; a call that answers none saves nothing.
+fn is_right(
+    alloc: Global,
+    store: &mut Kept,
+    how: u8,
+    threshold: u32,
+    root: &str,
+    names: &str,
+    wanted: Wanted,
+) -> Option<bool> {
+    let root = Cid::parse(root).ok()?;
+    let call = call_of(alloc, how, names)?;
+    let writes = store.writes();
+    let answer = done(alloc, store, threshold, &root, call);
+    let saved = store.writes() != writes;
+    Some(is_wanted(&answer, &root, names, wanted) && !(saved && matches!(answer, Answer::Nothing)))
+}
+
+// The number of the first row that comes out otherwise, each over the store that the last one left.
+fn first_wrong(alloc: Global, store: &mut Kept, rows: &[Row]) -> Option<usize> {
+    for i in 0..rows.len() {
+        let (how, threshold, root, names, wanted) = &rows[i];
+        if is_right(alloc, store, *how, *threshold, *root, *names, *wanted) != Some(true) {
+            return Some(i);
+        }
+    }
+    None
 }
 
 #[test]
 fn directories_in_one_block(rt: HostRuntime) {
-    assert_eq!(rt; first_wrong_row(rt.alloc()), None);
-}
-
-// The same of the rows that need shards.
-fn first_wrong_of_shards<L: Ledger>(alloc: Global, blank: Blank) -> Option<usize>
-    requires name { blank.name ≡ L.name }
-    requires parts { blank.parts ≡ L.parts }
-    requires some { 0 < blank.parts }
-{
-    let mut touches = Steps::<L>::new(blank);
-    let rows = [
-        builds_shards(alloc, &mut touches),
-        changes_so(alloc, 74, &ACROSS, &mut touches),
-        changes_so(alloc, 0, &FROM_NOTHING, &mut touches),
-        names_collide(alloc, &mut touches),
+    let mut store = Kept::new(rt.alloc());
+    let rows: [Row; 18] = [
+        (b'0', 0, EMPTY, "", Wanted::Entry(EMPTY, 4)),
+        (b'=', 0, EMPTY, "", Wanted::Entry(EMPTY, 4)),
+        (b'l', 0, EMPTY, "", Wanted::Listed),
+        (b'?', 0, EMPTY, "other", Wanted::Nothing),
+        (b'=', 74, EMPTY, "a", Wanted::Entry(JUST_A, 49)),
+        (b'l', 0, JUST_A, "a", Wanted::Listed),
+        (b'?', 0, JUST_A, "a", Wanted::Entry(NOTHING, 0)),
+        (b'?', 0, JUST_A, "other", Wanted::Nothing),
+        (b'=', 74, EMPTY, "a b", Wanted::Entry(A_AND_B, 94)),
+        (b'l', 0, A_AND_B, "a b", Wanted::Listed),
+        (b'?', 0, A_AND_B, "a", Wanted::Entry(NOTHING, 0)),
+        (b'?', 0, A_AND_B, "b", Wanted::Entry(NOTHING, 0)),
+        (b'?', 0, A_AND_B, "other", Wanted::Nothing),
+        (
+            b'=',
+            100,
+            EMPTY,
+            "abcdefgh1 abcdefgh2",
+            Wanted::Entry(ALIKE, 110),
+        ),
+        (b'l', 0, ALIKE, "abcdefgh1 abcdefgh2", Wanted::Listed),
+        (b'?', 0, ALIKE, "abcdefgh1", Wanted::Entry(NOTHING, 0)),
+        (b'?', 0, ALIKE, "abcdefgh2", Wanted::Entry(NOTHING, 0)),
+        (b'?', 0, ALIKE, "other", Wanted::Nothing),
     ];
-    rows.iter().position(|right| *right != Some(true))
+    assert_eq!(rt; first_wrong(rt.alloc(), &mut store, &rows), None);
+    assert_eq!(rt; store.count(), 4);
 }
 
-fn first_wrong_shard(alloc: Global) -> Option<usize> {
-    first_wrong_of_shards::<Brand>(alloc, Blank::new(1))
+// Changes by one name.
+#[test]
+fn directories_in_one_block_change(rt: HostRuntime) {
+    let mut store = Kept::new(rt.alloc());
+    let rows: [Row; 8] = [
+        (b'0', 74, EMPTY, "", Wanted::Entry(EMPTY, 4)),
+        (b'+', 74, EMPTY, "b", Wanted::Entry(JUST_B, 49)),
+        (b'+', 74, JUST_B, "a", Wanted::Entry(A_AND_B, 94)),
+        (b'!', 74, A_AND_B, "a", Wanted::Entry(HI_AND_B, 96)),
+        (b'+', 74, HI_AND_B, "a", Wanted::Entry(A_AND_B, 94)),
+        (b'-', 74, A_AND_B, "a", Wanted::Entry(JUST_B, 49)),
+        (b'-', 74, JUST_B, "a", Wanted::Nothing),
+        (b'-', 74, JUST_B, "b", Wanted::Entry(EMPTY, 4)),
+    ];
+    assert_eq!(rt; first_wrong(rt.alloc(), &mut store, &rows), None);
 }
 
+// A directory becomes shards when it is too heavy, and one block again; where two of its names have one hash it doesn't.
 #[test]
 fn directories_in_shards(rt: HostRuntime) {
-    assert_eq!(rt; first_wrong_shard(rt.alloc()), None);
+    let mut store = Kept::new(rt.alloc());
+    let rows: [Row; 17] = [
+        (b'=', 74, EMPTY, "a b c", Wanted::Entry(THREE, 165)),
+        (b'k', 0, THREE, "", Wanted::Folder),
+        (b'l', 0, THREE, "a b c", Wanted::Listed),
+        (b'?', 0, THREE, "a", Wanted::Entry(NOTHING, 0)),
+        (b'?', 0, THREE, "b", Wanted::Entry(NOTHING, 0)),
+        (b'?', 0, THREE, "c", Wanted::Entry(NOTHING, 0)),
+        (b'?', 0, THREE, "other", Wanted::Nothing),
+        (b'0', 74, EMPTY, "", Wanted::Entry(EMPTY, 4)),
+        (b'+', 74, EMPTY, "a", Wanted::Entry(JUST_A, 49)),
+        (b'+', 74, JUST_A, "b", Wanted::Entry(A_AND_B, 94)),
+        (b'+', 74, A_AND_B, "c", Wanted::Entry(THREE, 165)),
+        (b'-', 74, THREE, "c", Wanted::Entry(A_AND_B, 94)),
+        (b'-', 74, THREE, "d", Wanted::Nothing),
+        (b'+', 0, EMPTY, "a", Wanted::Entry(ONE, 71)),
+        (b'-', 0, ONE, "a", Wanted::Entry(EMPTY, 4)),
+        (
+            b'=',
+            100,
+            EMPTY,
+            "abcdefgh1 abcdefgh2",
+            Wanted::Entry(ALIKE, 110),
+        ),
+        (
+            b'+',
+            100,
+            ALIKE,
+            "c",
+            Wanted::Twins("abcdefgh1", "abcdefgh2"),
+        ),
+    ];
+    assert_eq!(rt; first_wrong(rt.alloc(), &mut store, &rows), None);
+}
+
+// Blocks that are directories, and blocks that aren't; of the last two one is too heavy for its profile.
+#[test]
+fn blocks_that_are_no_directories(rt: HostRuntime) {
+    let mut store = Kept::new(rt.alloc());
+    let rows: [Row; 10] = [
+        (b'=', 74, EMPTY, "a b", Wanted::Entry(A_AND_B, 94)),
+        (b'n', 0, EMPTY, "", Wanted::Entry(NODE, 0)),
+        (b'x', 0, EMPTY, "", Wanted::Entry(BAD, 0)),
+        (b'k', 0, A_AND_B, "", Wanted::Folder),
+        (b'k', 0, NODE, "", Wanted::File),
+        (b'k', 0, NOTHING, "", Wanted::File),
+        (b'k', 0, EMPTY, "", Wanted::Missing),
+        (b'k', 0, BAD, "", Wanted::Bad),
+        (b'?', 0, NODE, "a", Wanted::Bad),
+        (b'-', 73, A_AND_B, "a", Wanted::Bad),
+    ];
+    assert_eq!(rt; first_wrong(rt.alloc(), &mut store, &rows), None);
 }

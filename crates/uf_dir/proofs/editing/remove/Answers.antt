@@ -4,6 +4,7 @@ use Rattle.uf_dir.specs.Planned.{dir_entry}
 use Rattle.uf_dir.specs.Roots.{IsBadUnder}
 use Rattle.uf_dir.proofs.Causes.{Shows-wider, under-bad}
 use Rattle.uf_dir.proofs.Edited.{absent-after, left-after}
+use Rattle.uf_dir.proofs.Nodes.{gives-node, left-node}
 use Rattle.uf_dir.proofs.editing.remove.Goals as goal
 
 pub returns-in-Err-clause-value : goal.returns-in-Err-clause-value
@@ -20,3 +21,7 @@ pub returns-clause-after : goal.returns-clause-after
 returns-clause-after g c = left-after g.S.X.BlockHash.block32 g.N.NameHash.name64 c.args.p.now c.args.root.now (g.S.Store.seen c.args.store.now).told (g.S.Store.seen c.entries_under.new.store).told (g.S.Store.seen c.build.new.store).told c.in-Ok.pairs
     (λ l is agrees. c.in-Ok.ensures.ok g.N.NameHash.name64 c.args.p.now l is agrees) c.args.name.now c.in-Ok-Some.left c.in-Ok-Some.field-0 c.build.result c.left_of.result
     (λ l. (dir_entry g.S.X.BlockHash.block32 g.N.NameHash.name64 c.args.p.now l).tsize ≤ 2 ^ 62) c.in-Ok-Some.field-0-is c.in-Ok-Some.ensures.pairs c.left_of.ensures c.in-Ok.ensures.told c.build.ensures.saves c.build.ensures.held
+
+pub returns-clause-node : goal.returns-clause-node
+returns-clause-node g c = left-node c.build.result c.left_of.result c.left_of.ensures
+    (gives-node g.S.X.BlockHash.block32 g.N.NameHash.name64 c.args.p.now c.in-Ok-Some.left _ c.build.result c.build.ensures.answer)
