@@ -2,7 +2,7 @@
 ghost use Rattle.std.specs.Prelude.{◌≡◌, ◌<◌, IsTrue};
 ghost use Rattle.uf_tree.specs.Profiles.{is_profile};
 
-use crate::{DirFault, build, empty, entries, find, is_dir, put, remove};
+use crate::{DirFault, build, empty, entries, find, is_dir, put, remove, root_entry};
 use std::alloc::Global;
 use std::marker::Brand;
 use std::sync::ledger::{Blank, Ledger};
@@ -59,7 +59,8 @@ enum Wanted {
 
 // A call, its threshold, its root, its names, and what it is to answer. The call is `0` for the empty directory, `=` for one of
 // empty files, `+` and `!` for a file of nothing and of two bytes that is put, `-` for a name that is removed, `?` for one
-// that is looked up, `l` for the list of names, `k` for what the root is, and `n` and `x` for a block that is saved.
+// that is looked up, `l` for the list of names, `k` for what the root is, `e` for its entry, and `n` and `x` for a block
+// that is saved.
 type Row = (u8, u32, &'static str, &'static str, Wanted);
 
 // A call with what it takes beside the root.
@@ -72,6 +73,7 @@ enum Call {
     Find(Name),
     List,
     Kind,
+    Root,
     Save(Block),
 }
 
@@ -134,6 +136,7 @@ fn call_of(alloc: Global, how: u8, names: &str) -> Option<Call> {
         b'?' => Some(Call::Find(Name::parse(alloc, names).ok()?)),
         b'l' => Some(Call::List),
         b'k' => Some(Call::Kind),
+        b'e' => Some(Call::Root),
         b'n' => Some(Call::Save(block(alloc, NODE_BLOCK)?)),
         _ => Some(Call::Save(block(alloc, BAD_BLOCK)?)),
     }
@@ -171,8 +174,8 @@ fn built<L: Ledger>(
     of_change(build::<Kept, FirstEight, L>(alloc, store, p, pairs, touches))
 }
 
-fn emptied<L: Ledger>(alloc: Global, store: &mut Kept, touches: &mut Steps<L>) -> Answer {
-    match empty(alloc, store, touches) {
+fn of_entry(answer: Result<Entry, StoreFault>) -> Answer {
+    match answer {
         Ok(entry) => Answer::Entry(entry),
         Err(fault) => Answer::Fault(fault),
     }
@@ -233,7 +236,7 @@ fn counted<L: Ledger>(
     let mut touches = Steps::<L>::new(blank);
     let p = profile(threshold);
     match call {
-        Call::Empty => emptied(alloc, store, &mut touches),
+        Call::Empty => of_entry(empty(alloc, store, &mut touches)),
         Call::Build(pairs) => built(alloc, store, &p, &pairs, &mut touches),
         Call::Put(name, entry) => of_change(put::<Kept, FirstEight, L>(
             alloc,
@@ -261,6 +264,7 @@ fn counted<L: Ledger>(
         )),
         Call::List => listed(alloc, store, root, &mut touches),
         Call::Kind => asked(alloc, store, root, &mut touches),
+        Call::Root => of_entry(root_entry(alloc, store, root, &mut touches)),
         Call::Save(block) => saved(alloc, store, &block, &mut touches),
     }
 }
@@ -333,7 +337,7 @@ fn first_wrong(alloc: Global, store: &mut Kept, rows: &[Row]) -> Option<usize> {
 #[test]
 fn directories_in_one_block(rt: HostRuntime) {
     let mut store = Kept::new(rt.alloc());
-    let rows: [Row; 18] = [
+    let rows: [Row; 19] = [
         (b'0', 0, EMPTY, "", Wanted::Entry(EMPTY, 4)),
         (b'=', 0, EMPTY, "", Wanted::Entry(EMPTY, 4)),
         (b'l', 0, EMPTY, "", Wanted::Listed),
@@ -344,6 +348,7 @@ fn directories_in_one_block(rt: HostRuntime) {
         (b'?', 0, JUST_A, "other", Wanted::Nothing),
         (b'=', 74, EMPTY, "a b", Wanted::Entry(A_AND_B, 94)),
         (b'l', 0, A_AND_B, "a b", Wanted::Listed),
+        (b'e', 0, A_AND_B, "", Wanted::Entry(A_AND_B, 94)),
         (b'?', 0, A_AND_B, "a", Wanted::Entry(NOTHING, 0)),
         (b'?', 0, A_AND_B, "b", Wanted::Entry(NOTHING, 0)),
         (b'?', 0, A_AND_B, "other", Wanted::Nothing),
@@ -384,9 +389,10 @@ fn directories_in_one_block_change(rt: HostRuntime) {
 #[test]
 fn directories_in_shards(rt: HostRuntime) {
     let mut store = Kept::new(rt.alloc());
-    let rows: [Row; 17] = [
+    let rows: [Row; 18] = [
         (b'=', 74, EMPTY, "a b c", Wanted::Entry(THREE, 165)),
         (b'k', 0, THREE, "", Wanted::Folder),
+        (b'e', 0, THREE, "", Wanted::Entry(THREE, 165)),
         (b'l', 0, THREE, "a b c", Wanted::Listed),
         (b'?', 0, THREE, "a", Wanted::Entry(NOTHING, 0)),
         (b'?', 0, THREE, "b", Wanted::Entry(NOTHING, 0)),
