@@ -43,24 +43,11 @@ const BAD_BLOCK: &[u8] = b"\x0a\x02\x08\x01 ";
 
 type Kept = MemStore<Sha256Hash>;
 
-// What a call is to answer: an entry with this CID and this Tsize, none, a directory, a file, all names that were given, that
-// the root is missing or bad, or two names of one hash.
-#[derive(Clone, Copy)]
-enum Wanted {
-    Entry(&'static str, u64),
-    Nothing,
-    Folder,
-    File,
-    Listed,
-    Missing,
-    Bad,
-    Twins(&'static str, &'static str),
-}
-
-// A call, its threshold, its root, its names, and what it is to answer. The call is `0` for the empty directory, `=` for one of
-// empty files, `+` and `!` for a file of nothing and of two bytes that is put, `-` for a name that is removed, `?` for one
-// that is looked up, `l` for the list of names, `k` for what the root is, and `n` and `x` for a block that is saved.
-type Row = (u8, u32, &'static str, &'static str, Wanted);
+// A call, its threshold, its root, its names, and the answer: a CID and a Tsize, or a word. The call is `0` for the empty
+// directory, `=` for one of empty files, `+` and `!` for a file of nothing and of two bytes that is put, `-` for a name that
+// is removed, `?` for one that is looked up, `l` for the list of names, `k` for what the root is, and `n` and `x` for a block
+// that is saved.
+type Row<'a> = (u8, u32, &'a str, &'a str, &'a str, u64);
 
 // A call with what it takes beside the root.
 #[derive(Drop)]
@@ -91,10 +78,9 @@ enum Answer {
 fn profile(threshold: u32) -> Profile
     ensures { IsTrue (is_profile result) }
 {
-    Profile {
-        chunk: 1,
-        width: 2,
-        threshold: threshold.min(1048576),
+    match Profile::new(1, 2, threshold) {
+        Ok(p) => p,
+        Err(_) => Profile::usual(),
     }
 }
 
@@ -106,13 +92,19 @@ fn file(bytes: &[u8]) -> Entry {
     }
 }
 
+// An empty file under a name.
+fn empty_file(alloc: Global, name: &str) -> Option<Pair> {
+    let name = Name::parse(alloc, name).ok()?;
+    let entry = file(b"");
+    Some(Pair { name, entry })
+}
+
 // The pairs of empty files under these names.
 fn empty_files(alloc: Global, names: &str) -> Option<Pairs> {
     let mut pairs = Pairs::new(alloc);
     for word in names.split_whitespace() {
-        let name = Name::parse(alloc, word).ok()?;
-        let entry = file(b"");
-        pairs.push(Pair { name, entry }).ok()?;
+        let pair = empty_file(alloc, word)?;
+        pairs.push(pair).ok()?;
     }
     Some(pairs)
 }
@@ -282,21 +274,29 @@ fn are_files(pairs: &[Pair], names: &str) -> bool {
     count == pairs.len() && count == names.split_whitespace().count()
 }
 
-// Whether a call answered what it is to answer.
-fn is_wanted(answer: &Answer, root: &Cid, names: &str, wanted: Wanted) -> bool {
-    match (answer, wanted) {
-        (Answer::Entry(entry), Wanted::Entry(text, tsize)) => {
-            entry.cid.text().as_slice() == text.as_bytes() && entry.tsize == tsize
+// Whether a call answered so.
+fn is_answer(answer: &Answer, root: &Cid, names: &str, wanted: &str, tsize: u64) -> bool {
+    match answer {
+        Answer::Entry(entry) => {
+            entry.cid.text().as_slice() == wanted.as_bytes() && entry.tsize == tsize
         }
-        (Answer::Nothing, Wanted::Nothing) => true,
-        (Answer::Kind(is_folder), Wanted::Folder) => *is_folder,
-        (Answer::Kind(is_folder), Wanted::File) => !*is_folder,
-        (Answer::List(pairs), Wanted::Listed) => are_files(pairs.as_slice(), names),
-        (Answer::Twins(first, second), Wanted::Twins(one, other)) => {
-            first.as_str() == one && second.as_str() == other
+        Answer::Nothing => wanted == "none",
+        Answer::Kind(true) => wanted == "folder",
+        Answer::Kind(false) => wanted == "file",
+        Answer::List(pairs) => wanted == "listed" && are_files(pairs.as_slice(), names),
+        Answer::Twins(first, second) => {
+            wanted.split_once(' ') == Some((first.as_str(), second.as_str()))
         }
-        (Answer::Fault(StoreFault::Missing(cid)), Wanted::Missing) => cid == root,
-        (Answer::Fault(StoreFault::BadBlock(cid, Role::Directory)), Wanted::Bad) => cid == root,
+        Answer::TooBig => false,
+        Answer::Fault(fault) => is_fault(fault, root, wanted),
+    }
+}
+
+// Whether the root is missing or bad.
+fn is_fault(fault: &StoreFault, root: &Cid, wanted: &str) -> bool {
+    match fault {
+        StoreFault::Missing(cid) => wanted == "missing" && cid == root,
+        StoreFault::BadBlock(cid, Role::Directory) => wanted == "bad" && cid == root,
         _ => false,
     }
 }
@@ -309,130 +309,124 @@ fn is_right(
     threshold: u32,
     root: &str,
     names: &str,
-    wanted: Wanted,
+    wanted: &str,
+    tsize: u64,
 ) -> Option<bool> {
     let root = Cid::parse(root).ok()?;
     let call = call_of(alloc, how, names)?;
     let writes = store.writes();
     let answer = done(alloc, store, threshold, &root, call);
     let saved = store.writes() != writes;
-    Some(is_wanted(&answer, &root, names, wanted) && !(saved && matches!(answer, Answer::Nothing)))
+    Some(
+        is_answer(&answer, &root, names, wanted, tsize)
+            && !(saved && matches!(answer, Answer::Nothing)),
+    )
 }
 
-// The number of the first row that comes out otherwise, each over the store that the last one left.
-fn first_wrong(alloc: Global, store: &mut Kept, rows: &[Row]) -> Option<usize> {
+// The number of the first row that comes out otherwise, each over the store that the last one left, which has so many blocks
+// at the end.
+fn first_wrong(alloc: Global, rows: &[Row], blocks: usize) -> Option<usize> {
+    let mut store = Kept::new(alloc);
     for i in 0..rows.len() {
-        let (how, threshold, root, names, wanted) = &rows[i];
-        if is_right(alloc, store, *how, *threshold, *root, *names, *wanted) != Some(true) {
+        let (how, threshold, root, names, wanted, tsize) = &rows[i];
+        let right = is_right(
+            alloc, &mut store, *how, *threshold, *root, *names, *wanted, *tsize,
+        );
+        if right != Some(true) {
             return Some(i);
         }
     }
-    None
+    if store.count() == blocks {
+        None
+    } else {
+        Some(rows.len())
+    }
 }
+
+const IN_ONE_BLOCK: [Row; 18] = [
+    (b'0', 0, EMPTY, "", EMPTY, 4),
+    (b'=', 0, EMPTY, "", EMPTY, 4),
+    (b'l', 0, EMPTY, "", "listed", 0),
+    (b'?', 0, EMPTY, "other", "none", 0),
+    (b'=', 74, EMPTY, "a", JUST_A, 49),
+    (b'l', 0, JUST_A, "a", "listed", 0),
+    (b'?', 0, JUST_A, "a", NOTHING, 0),
+    (b'?', 0, JUST_A, "other", "none", 0),
+    (b'=', 74, EMPTY, "a b", A_AND_B, 94),
+    (b'l', 0, A_AND_B, "a b", "listed", 0),
+    (b'?', 0, A_AND_B, "a", NOTHING, 0),
+    (b'?', 0, A_AND_B, "b", NOTHING, 0),
+    (b'?', 0, A_AND_B, "other", "none", 0),
+    (b'=', 100, EMPTY, "abcdefgh1 abcdefgh2", ALIKE, 110),
+    (b'l', 0, ALIKE, "abcdefgh1 abcdefgh2", "listed", 0),
+    (b'?', 0, ALIKE, "abcdefgh1", NOTHING, 0),
+    (b'?', 0, ALIKE, "abcdefgh2", NOTHING, 0),
+    (b'?', 0, ALIKE, "other", "none", 0),
+];
+
+const CHANGED: [Row; 8] = [
+    (b'0', 74, EMPTY, "", EMPTY, 4),
+    (b'+', 74, EMPTY, "b", JUST_B, 49),
+    (b'+', 74, JUST_B, "a", A_AND_B, 94),
+    (b'!', 74, A_AND_B, "a", HI_AND_B, 96),
+    (b'+', 74, HI_AND_B, "a", A_AND_B, 94),
+    (b'-', 74, A_AND_B, "a", JUST_B, 49),
+    (b'-', 74, JUST_B, "a", "none", 0),
+    (b'-', 74, JUST_B, "b", EMPTY, 4),
+];
+
+const IN_SHARDS: [Row; 17] = [
+    (b'=', 74, EMPTY, "a b c", THREE, 165),
+    (b'k', 0, THREE, "", "folder", 0),
+    (b'l', 0, THREE, "a b c", "listed", 0),
+    (b'?', 0, THREE, "a", NOTHING, 0),
+    (b'?', 0, THREE, "b", NOTHING, 0),
+    (b'?', 0, THREE, "c", NOTHING, 0),
+    (b'?', 0, THREE, "other", "none", 0),
+    (b'0', 74, EMPTY, "", EMPTY, 4),
+    (b'+', 74, EMPTY, "a", JUST_A, 49),
+    (b'+', 74, JUST_A, "b", A_AND_B, 94),
+    (b'+', 74, A_AND_B, "c", THREE, 165),
+    (b'-', 74, THREE, "c", A_AND_B, 94),
+    (b'-', 74, THREE, "d", "none", 0),
+    (b'+', 0, EMPTY, "a", ONE, 71),
+    (b'-', 0, ONE, "a", EMPTY, 4),
+    (b'=', 100, EMPTY, "abcdefgh1 abcdefgh2", ALIKE, 110),
+    (b'+', 100, ALIKE, "c", "abcdefgh1 abcdefgh2", 0),
+];
+
+const NO_DIRECTORIES: [Row; 10] = [
+    (b'=', 74, EMPTY, "a b", A_AND_B, 94),
+    (b'n', 0, EMPTY, "", NODE, 0),
+    (b'x', 0, EMPTY, "", BAD, 0),
+    (b'k', 0, A_AND_B, "", "folder", 0),
+    (b'k', 0, NODE, "", "file", 0),
+    (b'k', 0, NOTHING, "", "file", 0),
+    (b'k', 0, EMPTY, "", "missing", 0),
+    (b'k', 0, BAD, "", "bad", 0),
+    (b'?', 0, NODE, "a", "bad", 0),
+    (b'-', 73, A_AND_B, "a", "bad", 0),
+];
 
 #[test]
 fn directories_in_one_block(rt: HostRuntime) {
-    let mut store = Kept::new(rt.alloc());
-    let rows: [Row; 18] = [
-        (b'0', 0, EMPTY, "", Wanted::Entry(EMPTY, 4)),
-        (b'=', 0, EMPTY, "", Wanted::Entry(EMPTY, 4)),
-        (b'l', 0, EMPTY, "", Wanted::Listed),
-        (b'?', 0, EMPTY, "other", Wanted::Nothing),
-        (b'=', 74, EMPTY, "a", Wanted::Entry(JUST_A, 49)),
-        (b'l', 0, JUST_A, "a", Wanted::Listed),
-        (b'?', 0, JUST_A, "a", Wanted::Entry(NOTHING, 0)),
-        (b'?', 0, JUST_A, "other", Wanted::Nothing),
-        (b'=', 74, EMPTY, "a b", Wanted::Entry(A_AND_B, 94)),
-        (b'l', 0, A_AND_B, "a b", Wanted::Listed),
-        (b'?', 0, A_AND_B, "a", Wanted::Entry(NOTHING, 0)),
-        (b'?', 0, A_AND_B, "b", Wanted::Entry(NOTHING, 0)),
-        (b'?', 0, A_AND_B, "other", Wanted::Nothing),
-        (
-            b'=',
-            100,
-            EMPTY,
-            "abcdefgh1 abcdefgh2",
-            Wanted::Entry(ALIKE, 110),
-        ),
-        (b'l', 0, ALIKE, "abcdefgh1 abcdefgh2", Wanted::Listed),
-        (b'?', 0, ALIKE, "abcdefgh1", Wanted::Entry(NOTHING, 0)),
-        (b'?', 0, ALIKE, "abcdefgh2", Wanted::Entry(NOTHING, 0)),
-        (b'?', 0, ALIKE, "other", Wanted::Nothing),
-    ];
-    assert_eq!(rt; first_wrong(rt.alloc(), &mut store, &rows), None);
-    assert_eq!(rt; store.count(), 4);
+    assert_eq!(rt; first_wrong(rt.alloc(), &IN_ONE_BLOCK, 4), None);
 }
 
 // Changes by one name.
 #[test]
 fn directories_in_one_block_change(rt: HostRuntime) {
-    let mut store = Kept::new(rt.alloc());
-    let rows: [Row; 8] = [
-        (b'0', 74, EMPTY, "", Wanted::Entry(EMPTY, 4)),
-        (b'+', 74, EMPTY, "b", Wanted::Entry(JUST_B, 49)),
-        (b'+', 74, JUST_B, "a", Wanted::Entry(A_AND_B, 94)),
-        (b'!', 74, A_AND_B, "a", Wanted::Entry(HI_AND_B, 96)),
-        (b'+', 74, HI_AND_B, "a", Wanted::Entry(A_AND_B, 94)),
-        (b'-', 74, A_AND_B, "a", Wanted::Entry(JUST_B, 49)),
-        (b'-', 74, JUST_B, "a", Wanted::Nothing),
-        (b'-', 74, JUST_B, "b", Wanted::Entry(EMPTY, 4)),
-    ];
-    assert_eq!(rt; first_wrong(rt.alloc(), &mut store, &rows), None);
+    assert_eq!(rt; first_wrong(rt.alloc(), &CHANGED, 4), None);
 }
 
 // A directory becomes shards when it is too heavy, and one block again; where two of its names have one hash it doesn't.
 #[test]
 fn directories_in_shards(rt: HostRuntime) {
-    let mut store = Kept::new(rt.alloc());
-    let rows: [Row; 17] = [
-        (b'=', 74, EMPTY, "a b c", Wanted::Entry(THREE, 165)),
-        (b'k', 0, THREE, "", Wanted::Folder),
-        (b'l', 0, THREE, "a b c", Wanted::Listed),
-        (b'?', 0, THREE, "a", Wanted::Entry(NOTHING, 0)),
-        (b'?', 0, THREE, "b", Wanted::Entry(NOTHING, 0)),
-        (b'?', 0, THREE, "c", Wanted::Entry(NOTHING, 0)),
-        (b'?', 0, THREE, "other", Wanted::Nothing),
-        (b'0', 74, EMPTY, "", Wanted::Entry(EMPTY, 4)),
-        (b'+', 74, EMPTY, "a", Wanted::Entry(JUST_A, 49)),
-        (b'+', 74, JUST_A, "b", Wanted::Entry(A_AND_B, 94)),
-        (b'+', 74, A_AND_B, "c", Wanted::Entry(THREE, 165)),
-        (b'-', 74, THREE, "c", Wanted::Entry(A_AND_B, 94)),
-        (b'-', 74, THREE, "d", Wanted::Nothing),
-        (b'+', 0, EMPTY, "a", Wanted::Entry(ONE, 71)),
-        (b'-', 0, ONE, "a", Wanted::Entry(EMPTY, 4)),
-        (
-            b'=',
-            100,
-            EMPTY,
-            "abcdefgh1 abcdefgh2",
-            Wanted::Entry(ALIKE, 110),
-        ),
-        (
-            b'+',
-            100,
-            ALIKE,
-            "c",
-            Wanted::Twins("abcdefgh1", "abcdefgh2"),
-        ),
-    ];
-    assert_eq!(rt; first_wrong(rt.alloc(), &mut store, &rows), None);
+    assert_eq!(rt; first_wrong(rt.alloc(), &IN_SHARDS, 6), None);
 }
 
 // Blocks that are directories, and blocks that aren't; of the last two one is too heavy for its profile.
 #[test]
 fn blocks_that_are_no_directories(rt: HostRuntime) {
-    let mut store = Kept::new(rt.alloc());
-    let rows: [Row; 10] = [
-        (b'=', 74, EMPTY, "a b", Wanted::Entry(A_AND_B, 94)),
-        (b'n', 0, EMPTY, "", Wanted::Entry(NODE, 0)),
-        (b'x', 0, EMPTY, "", Wanted::Entry(BAD, 0)),
-        (b'k', 0, A_AND_B, "", Wanted::Folder),
-        (b'k', 0, NODE, "", Wanted::File),
-        (b'k', 0, NOTHING, "", Wanted::File),
-        (b'k', 0, EMPTY, "", Wanted::Missing),
-        (b'k', 0, BAD, "", Wanted::Bad),
-        (b'?', 0, NODE, "a", Wanted::Bad),
-        (b'-', 73, A_AND_B, "a", Wanted::Bad),
-    ];
-    assert_eq!(rt; first_wrong(rt.alloc(), &mut store, &rows), None);
+    assert_eq!(rt; first_wrong(rt.alloc(), &NO_DIRECTORIES, 3), None);
 }
