@@ -7,5 +7,6 @@ pub mod Looked
 pub mod Nodes
 pub mod Planning
 pub mod Refusals
+pub mod Rooted
 pub mod Roots
 pub mod Rows

@@ -20,13 +20,14 @@ use Rattle.uf_tree.specs.declared.nodes.Entry.{Entry}
 use Rattle.uf_tree.specs.declared.profile.Profile.{Profile}
 use Rattle.uf_tree.specs.DirPlan.{is_sharded, trail}
 use Rattle.uf_tree.specs.Names.{names_cmp}
-use Rattle.uf_tree.specs.Nodes.{Named}
+use Rattle.uf_tree.specs.Nodes.{InSlot, Named}
 use Rattle.uf_tree.specs.Roles.{IsCanonicalDirectory, WithSome}
 use Rattle.uf_tree.specs.Roots.{dir_root}
-use Rattle.uf_tree.specs.ShardPlan.{shard, shard_trail}
+use Rattle.uf_tree.specs.ShardPlan.{shard, shard_items, shard_trail}
 use Rattle.uf_tree.specs.Validity.{IsHash}
 use Rattle.uf_shard.specs.Listing.{AreRows, in_order}
 use Rattle.uf_shard.specs.Planned as shards
+use Rattle.uf_shard.proofs.One.{one_shard}
 use Rattle.uf_dir.specs.Planned.{IsPlanned, own_blocks}
 use Rattle.uf_dir.specs.Roots.{IsRootOf, IsThere, IsUnread}
 use Rattle.uf_dir.specs.declared.root.Root.{Root}
@@ -94,17 +95,18 @@ module _ (X : List ℕ → List ℕ) (good : IsHash X) (N : List ℕ → ℕ) (p
 
       by : RootForm X N p l → (is_sharded p l ≡ false) × (pairs ≡ l)
       by (InOne e root) = (e, one_basic now.lent pairs l (omega (arith, there.size)) read.0 is.valid read.1 (block ∙ root))
-      by (InShards e root) = absurd (shard-basic root.items pairs root.valid read.0 (sym root.is ∙ sym block ∙ read.1))
+      by (InShards e root) = absurd (shard-basic _ pairs root.0 read.0 (sym root.1 ∙ sym block ∙ read.1))
 
-  pub read-sharded : (rest : List Held) (before now : Seen) → Agrees before.told (dir_root X N p l ∷ rest) → IsThere cid before now → IsRootOf now.lent root.Sharded → is_sharded p l ≡ true
-  read-sharded rest before now agrees there read = by (root-form X N p l good is.valid)
+  pub read-sharded : (rest : List Held) (before now : Seen) (items : List InSlot) → Agrees before.told (dir_root X N p l ∷ rest) → IsThere cid before now → IsRootOf now.lent (root.Sharded items)
+      → (is_sharded p l ≡ true) × (items ≡ shard_items N (shard X N 6) 0 l)
+  read-sharded rest before now items agrees there read = by (root-form X N p l good is.valid)
     where
       block : now.lent ≡ (dir_root X N p l).1
       block = the_block cid (dir_root X N p l) rest (planned-cid X N p l cid is) before.told now.lent agrees there.held
 
-      by : RootForm X N p l → is_sharded p l ≡ true
-      by (InOne e root) = absurd (shard-basic read.items l read.valid is.valid (sym read.is ∙ block ∙ root))
-      by (InShards e root) = e
+      by : RootForm X N p l → (is_sharded p l ≡ true) × (items ≡ shard_items N (shard X N 6) 0 l)
+      by (InOne e root) = absurd (shard-basic items l read.0 is.valid (sym read.1 ∙ block ∙ root))
+      by (InShards e root) = (e, one_shard items (shard_items N (shard X N 6) 0 l) read.0 root.0 (sym read.1 ∙ block ∙ root.1))
 
   -- ---- a name that is looked up
 
@@ -132,11 +134,11 @@ module _ (X : List ℕ → List ℕ) (good : IsHash X) (N : List ℕ → ℕ) (p
     Deeper mid now r = (k : List Named) → shards.IsPlanned X N cid k → Agrees mid.told (shard_trail X N 7 k name) → Stood mid.faults now.faults
         → FindsOver mid.told (shard_trail X N 7 k name) (find names_cmp name k) r
 
-    pub find-sharded : (before mid now : Seen) (found : Root) (r : Result (Option Entry) StoreFault) → found ≡ root.Sharded → IsThere cid before mid × IsRootOf mid.lent found → mid.told ≡ before.told → mid.faults ≡ before.faults
+    pub find-sharded : (before mid now : Seen) (found : Root) (items : List InSlot) (r : Result (Option Entry) StoreFault) → found ≡ root.Sharded items → IsThere cid before mid × IsRootOf mid.lent found → mid.told ≡ before.told → mid.faults ≡ before.faults
         → Deeper mid now r → Agrees before.told (trail X N p l name) → Stood before.faults now.faults → FindsOver before.told (trail X N p l name) (find names_cmp name l) r
-    find-sharded before mid now found r at looks same calm deeper agrees stood =
+    find-sharded before mid now found items r at looks same calm deeper agrees stood =
         let from = trail-from_root X N p l name in
-        let sharded : is_sharded p l ≡ true = read-sharded from.0 before mid (subst (Agrees before.told) from.1 agrees) looks.0 (subst (IsRootOf mid.lent) at looks.1) in
+        let sharded : is_sharded p l ≡ true = (read-sharded from.0 before mid items (subst (Agrees before.told) from.1 agrees) looks.0 (subst (IsRootOf mid.lent) at looks.1)).0 in
         let path = trail-sharded X N p l name sharded in
         subst (λ (t : List Held). FindsOver before.told t (find names_cmp name l) r) (sym path)
         (subst (λ (told : Told). FindsOver told (shard_trail X N 7 l name) (find names_cmp name l) r) same
@@ -160,11 +162,11 @@ module _ (X : List ℕ → List ℕ) (good : IsHash X) (N : List ℕ → ℕ) (p
       (read-basic from.0 before now pairs (subst (Agrees before.told) from.1 agrees) looks.0 (subst (IsRootOf now.lent) at looks.1)).1
 
   -- the root was read as a shard
-  module _ (before mid : Seen) (found : Root) (at : found ≡ root.Sharded) (looks : IsThere cid before mid × IsRootOf mid.lent found) (same : mid.told ≡ before.told) (agrees : Agrees before.told (own_blocks X N p l)) where
+  module _ (before mid : Seen) (found : Root) (items : List InSlot) (at : found ≡ root.Sharded items) (looks : IsThere cid before mid × IsRootOf mid.lent found) (same : mid.told ≡ before.told) (agrees : Agrees before.told (own_blocks X N p l)) where
     sharded_is : is_sharded p l ≡ true
     sharded_is =
         let from = blocks-from_root X N p l in
-        read-sharded from.0 before mid (subst (Agrees before.told) from.1 agrees) looks.0 (subst (IsRootOf mid.lent) at looks.1)
+        (read-sharded from.0 before mid items (subst (Agrees before.told) from.1 agrees) looks.0 (subst (IsRootOf mid.lent) at looks.1)).0
 
     agrees_mid : Agrees mid.told (shard X N 7 l).blocks
     agrees_mid = subst (λ (told : Told). Agrees told (shard X N 7 l).blocks) (sym same) (subst (Agrees before.told) (blocks-sharded X N p l sharded_is) agrees)
@@ -188,8 +190,8 @@ module _ (X : List ℕ → List ℕ) (good : IsHash X) (N : List ℕ → ℕ) (p
         by (Some t) h a = h.2 ∙ rows-planned X good N (held_at t) cid l (planned-sharded X N p l cid is sharded_is) a h.0 h.1
 
 -- the same of each plan
-pub entries-listed_all : (X : List ℕ → List ℕ) → IsHash X → (cid : Cid) (before mid : Seen) (found : Root) → found ≡ root.Sharded → IsThere cid before mid × IsRootOf mid.lent found → mid.told ≡ before.told
+pub entries-listed_all : (X : List ℕ → List ℕ) → IsHash X → (cid : Cid) (before mid : Seen) (found : Root) (items : List InSlot) → found ≡ root.Sharded items → IsThere cid before mid × IsRootOf mid.lent found → mid.told ≡ before.told
     → (r : Result (List Named) StoreFault) → IfSome mid.told (λ t. IfOk r (λ pairs. (rows : List Named) × AreRows (held_at t) 7 cid rows × (pairs ≡ in_order rows)))
     → IfOk r (λ pairs. (N : List ℕ → ℕ) (p : Profile) (l : List Named) → IsPlanned X N p cid l → Agrees before.told (own_blocks X N p l) → pairs ≡ l)
-entries-listed_all X good cid before mid found at looks same (Ok pairs) listed = λ N p l is agrees. entries-listed X good N p cid l is before mid found at looks same agrees pairs listed
-entries-listed_all X good cid before mid found at looks same (Err fault) listed = tt
+entries-listed_all X good cid before mid found items at looks same (Ok pairs) listed = λ N p l is agrees. entries-listed X good N p cid l is before mid found items at looks same agrees pairs listed
+entries-listed_all X good cid before mid found items at looks same (Err fault) listed = tt

@@ -7,6 +7,7 @@ pub mod Meeting
 pub mod Membering
 pub mod Moving
 pub mod Planning
+pub mod Removing
 pub mod Rooting
 pub mod Seeing
 pub mod Starting

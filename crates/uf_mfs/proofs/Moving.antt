@@ -40,7 +40,7 @@ use Rattle.uf_mfs.specs.declared.types.Refused.TheVariants as why
 use Rattle.uf_mfs.specs.declared.types.Stop.{Stop}
 use Rattle.uf_mfs.specs.declared.types.Stop.TheVariants as stop
 use Rattle.uf_mfs.specs.declared.types.Thing.{Thing}
-use Rattle.uf_mfs.specs.Answers.{Answers, Calm, Decides, Edits, Meets, Moves, Says, allowed, refused_by, stop_of, unless}
+use Rattle.uf_mfs.specs.Answers.{Answers, Calm, Decides, Edits, Meets, MovesTo, Says, allowed, refused_by, stop_of, unless}
 use Rattle.uf_mfs.specs.Plain.{and_then, as_removable, at, change, child, done, is_folder_at, made, made_all, may_be, or_new, with_child, with_folder, without_child}
 use Rattle.uf_mfs.specs.Standing.{IsEntry, IsMeant, IsMember, StandsAt, TellsHeld}
 use Rattle.uf_mfs.proofs.Hinge.{AllSound, IsDir, IsSound, all-later, as-dir, each-find, each-put, each-where, entry-later, find-child, from-dir, members-sound, own-refusal, refused-above}
@@ -326,7 +326,7 @@ unfolding is_tree
 trees-each Nothing h = tt
 trees-each (With name t es) h = (let parts = both_true _ _ h in ((both_true _ _ parts.0).1, trees-each es parts.1))
 
-child-tree : (name : List ℕ) (t : Tree) (es : Entries) → is_tree (Dir es) ≡ true → child name es ≡ Some t → is_tree t ≡ true
+pub child-tree : (name : List ℕ) (t : Tree) (es : Entries) → is_tree (Dir es) ≡ true → child name es ≡ Some t → is_tree t ≡ true
 unfolding is_tree
 child-tree name t es h e = each-find (λ t. is_tree t ≡ true) name t (pairs es) (trees-each es (both_true _ _ h).1) e
 
@@ -357,10 +357,10 @@ made-true (name ∷ names) es = refl
 -- ---- the tree in memory
 
 -- it moves to the edited root
-pub moves-ok : (X : List ℕ → List ℕ) (N : List ℕ → ℕ) (b : Told) (profile p : Profile) (given new : Entry) (names path : List (List ℕ)) (step : List (List ℕ) → Result Entries Refused) → profile ≡ p → names ≡ path
-    → Edits X N b profile (allowed X N profile (step names)) (Ok given) → (given.cid.codec ≡ DagPb → new ≡ given) → Moves X N b p path (record { profile = profile; root = new }) (step path) (Ok (tt {0}))
+pub moves-ok : (X : List ℕ → List ℕ) (N : List ℕ → ℕ) (b : Told) (profile p : Profile) (given new : Entry) (names path : List (List ℕ)) (step : Profile → List (List ℕ) → Result Entries Refused) → profile ≡ p → names ≡ path
+    → Edits X N b profile (step profile names) (Ok given) → (given.cid.codec ≡ DagPb → new ≡ given) → MovesTo X N b p path (record { profile = profile; root = new }) (step p path) (Ok (tt {0}))
 moves-ok X N b profile p given new names path step same list edits node =
-    by (allowed X N p (step path)) (subst (λ l. Edits X N b p (allowed X N p (step l)) (Ok given)) list (subst (λ q. Edits X N b q (allowed X N q (step names)) (Ok given)) same edits))
+    by (step p path) (subst (λ l. Edits X N b p (step p l) (Ok given)) list (subst (λ q. Edits X N b q (step q names) (Ok given)) same edits))
   where
     by : (w : Result Entries Refused) → Edits X N b p w (Ok given) → Answers {A = Entries} {B = Unit {0}} (λ es done. StandsAt X N b (record { profile = profile; root = new }) p es) path w (Ok (tt {0}))
     by (Ok es) s = record { profile_is = same; root = subst (λ e. IsEntry X N b p e (Dir es)) (sym (node (root-codec X N b p given es s))) s }

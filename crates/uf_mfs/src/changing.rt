@@ -1,5 +1,5 @@
 // Edits of the tree.
-ghost use Rattle.std.specs.Prelude.{◌≡◌, IsTrue, None, OnErr, Ok, Some, false, true};
+ghost use Rattle.std.specs.Prelude.{◌≡◌, IfOk, IsTrue, None, OnErr, Ok, Some, false, true};
 ghost use Rattle.uf_cid.specs.declared.cid.Codec.TheVariants.{DagPb};
 ghost use Rattle.uf_edge.specs.Counts.{Stood};
 ghost use Rattle.uf_store.specs.Faults.{Answers};
@@ -7,7 +7,7 @@ ghost use Rattle.uf_store.specs.Keeping.{KeepsGood, SavesOnly};
 ghost use Rattle.uf_tree.specs.declared.profile.Profile.{Profile as TheProfile};
 ghost use Rattle.uf_tree.specs.Profiles.{is_profile};
 ghost use Rattle.uf_tree.specs.Tree.{Dir, Entries};
-ghost use Rattle.uf_mfs.specs.Answers.{Calm, Edits, Moves, Says, Shown, ShownStop, allowed};
+ghost use Rattle.uf_mfs.specs.Answers.{Calm, Edits, Moves, MovesTo, Says, ShownInTree, ShownStop, allowed};
 ghost use Rattle.uf_mfs.specs.Bad.{IsBad};
 ghost use Rattle.uf_mfs.specs.Plain.{at, is_folder_at, made, removed};
 ghost use Rattle.uf_mfs.specs.Standing.{IsEntry, IsMfs, StandsAt};
@@ -39,11 +39,11 @@ impl Mfs {
             → Stood (S.seen store.old).faults (S.seen store.new).faults → Stood (S.seen store.old).clashes (S.seen store.new).clashes
             → Moves S.X.block32 N.name64 (S.seen store.new).told p path.now.names self.new (made parents path.now.names es) result }
         ensures there { (p : TheProfile) (es below : Entries) → StandsAt S.X.block32 N.name64 (S.seen store.old).told self.old p es → Stood (S.seen store.old).faults (S.seen store.new).faults
-            → IsTrue parents → at 0 path.now.names (Dir es) ≡ Ok (Dir below) → (S.seen store.new).told ≡ (S.seen store.old).told }
+            → IsTrue parents → at 0 path.now.names (Dir es) ≡ Ok (Dir below) → ((S.seen store.new).told ≡ (S.seen store.old).told) × (self.new ≡ self.old) }
         ensures refused { OnErr result (self.new ≡ self.old) }
         ensures mfs { IsMfs self.new }
         ensures profile { self.new.profile ≡ self.old.profile }
-        ensures cause { Shown S.X.block32 (IsBad N.name64 (Some self.old.profile)) result (S.seen store.old) (S.seen store.new) }
+        ensures cause { ShownInTree S.X.block32 (IsBad N.name64 (Some self.old.profile)) result (S.seen store.old) (S.seen store.new) }
         ensures good { KeepsGood S.X.block32 (S.seen store.old).told (S.seen store.new).told }
         ensures saves { SavesOnly (S.seen store.old).told (S.seen store.new).told }
     {
@@ -77,11 +77,11 @@ impl Mfs {
         requires mfs { IsMfs self.old }
         ensures answer { (p : TheProfile) (es : Entries) → StandsAt S.X.block32 N.name64 (S.seen store.old).told self.old p es
             → Stood (S.seen store.old).faults (S.seen store.new).faults → Stood (S.seen store.old).clashes (S.seen store.new).clashes
-            → Moves S.X.block32 N.name64 (S.seen store.new).told p path.now.names self.new (removed recursive path.now.names es) result }
+            → MovesTo S.X.block32 N.name64 (S.seen store.new).told p path.now.names self.new (removed recursive path.now.names es) result }
         ensures refused { OnErr result (self.new ≡ self.old) }
         ensures mfs { IsMfs self.new }
         ensures profile { self.new.profile ≡ self.old.profile }
-        ensures cause { Shown S.X.block32 (IsBad N.name64 (Some self.old.profile)) result (S.seen store.old) (S.seen store.new) }
+        ensures cause { ShownInTree S.X.block32 (IsBad N.name64 (Some self.old.profile)) result (S.seen store.old) (S.seen store.new) }
         ensures good { KeepsGood S.X.block32 (S.seen store.old).told (S.seen store.new).told }
         ensures saves { SavesOnly (S.seen store.old).told (S.seen store.new).told }
     {
@@ -116,7 +116,7 @@ fn removed_root<S: Store, N: NameHash, L: Ledger>(
 ) -> Result<Entry, Stop>
     requires profile { IsTrue (is_profile profile.now) }
     ensures edits { (es : Entries) → IsEntry S.X.block32 N.name64 (S.seen store.old).told profile.now root.now (Dir es) → Calm (S.seen store.old) (S.seen store.new)
-        → Edits S.X.block32 N.name64 (S.seen store.new).told profile.now (allowed S.X.block32 N.name64 profile.now (removed recursive names.now es)) result }
+        → Edits S.X.block32 N.name64 (S.seen store.new).told profile.now (removed recursive names.now es) result }
     ensures cause { ShownStop S.X.block32 (IsBad N.name64 (Some profile.now)) result (S.seen store.old) (S.seen store.new) }
     ensures good { KeepsGood S.X.block32 (S.seen store.old).told (S.seen store.new).told }
     ensures saves { SavesOnly (S.seen store.old).told (S.seen store.new).told }
@@ -151,7 +151,7 @@ fn made_root<S: Store, N: NameHash, L: Ledger>(
     ensures edits { (es : Entries) → IsEntry S.X.block32 N.name64 (S.seen store.old).told profile.now root.now (Dir es) → Calm (S.seen store.old) (S.seen store.new)
         → Edits S.X.block32 N.name64 (S.seen store.new).told profile.now (allowed S.X.block32 N.name64 profile.now (made parents names.now es)) result }
     ensures there { (es below : Entries) → IsEntry S.X.block32 N.name64 (S.seen store.old).told profile.now root.now (Dir es) → Stood (S.seen store.old).faults (S.seen store.new).faults
-        → IsTrue parents → at 0 names.now (Dir es) ≡ Ok (Dir below) → (S.seen store.new).told ≡ (S.seen store.old).told }
+        → IsTrue parents → at 0 names.now (Dir es) ≡ Ok (Dir below) → ((S.seen store.new).told ≡ (S.seen store.old).told) × IfOk result (λ e. e ≡ root.now) }
     ensures cause { ShownStop S.X.block32 (IsBad N.name64 (Some profile.now)) result (S.seen store.old) (S.seen store.new) }
     ensures good { KeepsGood S.X.block32 (S.seen store.old).told (S.seen store.new).told }
     ensures saves { SavesOnly (S.seen store.old).told (S.seen store.new).told }
@@ -208,7 +208,7 @@ fn all_made<S: Store, N: NameHash, L: Ledger>(
     ensures edits { (es : Entries) → IsEntry S.X.block32 N.name64 (S.seen store.old).told profile.now root.now (Dir es) → Calm (S.seen store.old) (S.seen store.new)
         → Edits S.X.block32 N.name64 (S.seen store.new).told profile.now (allowed S.X.block32 N.name64 profile.now (made true names.now es)) result }
     ensures there { (es below : Entries) → IsEntry S.X.block32 N.name64 (S.seen store.old).told profile.now root.now (Dir es) → Stood (S.seen store.old).faults (S.seen store.new).faults
-        → at 0 names.now (Dir es) ≡ Ok (Dir below) → (S.seen store.new).told ≡ (S.seen store.old).told }
+        → at 0 names.now (Dir es) ≡ Ok (Dir below) → ((S.seen store.new).told ≡ (S.seen store.old).told) × IfOk result (λ e. e ≡ root.now) }
     ensures cause { ShownStop S.X.block32 (IsBad N.name64 (Some profile.now)) result (S.seen store.old) (S.seen store.new) }
     ensures good { KeepsGood S.X.block32 (S.seen store.old).told (S.seen store.new).told }
     ensures saves { SavesOnly (S.seen store.old).told (S.seen store.new).told }

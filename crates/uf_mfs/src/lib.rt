@@ -3,6 +3,7 @@
 
 mod changing;
 mod editing;
+pub mod laws;
 mod listing;
 mod looking;
 mod measuring;

@@ -3,7 +3,7 @@ ghost use Rattle.std.specs.Prelude.{◌≡◌, None};
 ghost use Rattle.uf_edge.specs.Counts.{Stood};
 ghost use Rattle.uf_tree.specs.declared.profile.Profile.{Profile};
 ghost use Rattle.uf_tree.specs.Tree.{Dir, Entries};
-ghost use Rattle.uf_mfs.specs.Answers.{Answers, Shown};
+ghost use Rattle.uf_mfs.specs.Answers.{Answers, ShownInTree};
 ghost use Rattle.uf_mfs.specs.Bad.{IsBad};
 ghost use Rattle.uf_mfs.specs.Plain.{at};
 ghost use Rattle.uf_mfs.specs.Replies.{names_at, rows_at, stat_of as stat_at};
@@ -32,7 +32,7 @@ impl Mfs {
     ) -> Result<Rows, MfsFault>
         ensures answer { (p : Profile) (es : Entries) → StandsAt S.X.block32 N.name64 (S.seen store.old).told self.now p es → Stood (S.seen store.old).faults (S.seen store.new).faults
             → Answers (λ t rows. rows ≡ rows_at S.X.block32 N.name64 p path.now.names t) path.now.names (at 0 path.now.names (Dir es)) result }
-        ensures cause { Shown S.X.block32 (IsBad N.name64 None) result (S.seen store.old) (S.seen store.new) }
+        ensures cause { ShownInTree S.X.block32 (IsBad N.name64 None) result (S.seen store.old) (S.seen store.new) }
         ensures told { (S.seen store.new).told ≡ (S.seen store.old).told }
     {
         let names = path.names.as_slice();
@@ -55,7 +55,7 @@ impl Mfs {
     ) -> Result<Names, MfsFault>
         ensures answer { (p : Profile) (es : Entries) → StandsAt S.X.block32 N.name64 (S.seen store.old).told self.now p es → Stood (S.seen store.old).faults (S.seen store.new).faults
             → Answers (λ t names. names ≡ names_at path.now.names t) path.now.names (at 0 path.now.names (Dir es)) result }
-        ensures cause { Shown S.X.block32 (IsBad N.name64 None) result (S.seen store.old) (S.seen store.new) }
+        ensures cause { ShownInTree S.X.block32 (IsBad N.name64 None) result (S.seen store.old) (S.seen store.new) }
         ensures told { (S.seen store.new).told ≡ (S.seen store.old).told }
     {
         let names = path.names.as_slice();
@@ -78,7 +78,7 @@ impl Mfs {
     ) -> Result<Stat, MfsFault>
         ensures answer { (p : Profile) (es : Entries) → StandsAt S.X.block32 N.name64 (S.seen store.old).told self.now p es → Stood (S.seen store.old).faults (S.seen store.new).faults
             → Answers (λ t stat. stat ≡ stat_at S.X.block32 N.name64 p t) path.now.names (at 0 path.now.names (Dir es)) result }
-        ensures cause { Shown S.X.block32 (IsBad N.name64 None) result (S.seen store.old) (S.seen store.new) }
+        ensures cause { ShownInTree S.X.block32 (IsBad N.name64 None) result (S.seen store.old) (S.seen store.new) }
         ensures told { (S.seen store.new).told ≡ (S.seen store.old).told }
     {
         let names = path.names.as_slice();

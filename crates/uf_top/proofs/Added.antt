@@ -7,7 +7,6 @@ use Rattle.uf_edge.specs.Counts.{Counts, Stood}
 use Rattle.uf_edge.specs.Streams.{before, IsAtEnd}
 use Rattle.uf_edge.specs.Streams as streams
 use Rattle.uf_mfs.specs.Standing.{LeavesHead, TellsAs, TellsHeld}
-use Rattle.uf_mfs.specs.declared.types.Ready.{Ready}
 use Rattle.uf_mfs.specs.declared.types.Ready.TheVariants as ready
 use Rattle.uf_mfs.specs.declared.types.Rule.{Rule}
 use Rattle.uf_mfs.specs.declared.types.Rule.TheVariants.{FileTooLong}
@@ -191,17 +190,17 @@ module _ (X : List ℕ → List ℕ) where
   row-work held p (Err (refusal.Ready why)) l m row = tt
   row-work held p (Err refusal.Read) l m row = tt
   row-work held p (Err refusal.Write) l m row = absurd row
-  row-work held p (Err (refusal.Store fault)) l m row = tt
+  row-work held p (Err (refusal.Store fault)) l m row = row
 
-  pub row-ready : (only_hash : Bool) (a b : Seen) (held : Told) (p : Profile) (r : Result (List ℕ) Refusal) (l m : streams.Told) → IsRowOf X p held r l m → IsReady a b (Add only_hash) r
-  row-ready only_hash a b held p (Ok text) l m row = tt
-  row-ready only_hash a b held p (Err (refusal.Rule rule)) l m row = tt
-  row-ready only_hash a b held p (Err (refusal.BadPath why)) l m row = tt
-  row-ready only_hash a b held p (Err refusal.Usage) l m row = tt
-  row-ready only_hash a b held p (Err (refusal.Ready why)) l m row = absurd row
-  row-ready only_hash a b held p (Err refusal.Read) l m row = tt
-  row-ready only_hash a b held p (Err refusal.Write) l m row = tt
-  row-ready only_hash a b held p (Err (refusal.Store fault)) l m row = tt
+  pub row-ready : (only_hash : Bool) (told held : Told) (p : Profile) (r : Result (List ℕ) Refusal) (l m : streams.Told) → IsRowOf X p held r l m → IsReady told (Add only_hash) r
+  row-ready only_hash told held p (Ok text) l m row = tt
+  row-ready only_hash told held p (Err (refusal.Rule rule)) l m row = tt
+  row-ready only_hash told held p (Err (refusal.BadPath why)) l m row = tt
+  row-ready only_hash told held p (Err refusal.Usage) l m row = tt
+  row-ready only_hash told held p (Err (refusal.Ready why)) l m row = absurd row
+  row-ready only_hash told held p (Err refusal.Read) l m row = tt
+  row-ready only_hash told held p (Err refusal.Write) l m row = tt
+  row-ready only_hash told held p (Err (refusal.Store fault)) l m row = tt
 
 by-head : (head : Option (List ℕ)) (only_hash : Bool) (p : Profile) → HeadSays head p → AddsBy only_hash head p
 by-head None only_hash p h = absurd h
@@ -221,22 +220,18 @@ by-found None found h = tt
 by-found (Some t) None h = usual-by t.notes.head h
 by-found (Some t) (Some p) h = by-head t.notes.head true p h
 
-unread-reason : (head : Option (List ℕ)) (only_hash : Bool) → IsUnread head → IsReason (Add only_hash) ready.BadHead head
-unread-reason head true h = h
-unread-reason head false h = h
+unread-reason : (told : Told) (only_hash : Bool) → IfSome told (λ t. IsUnread t.notes.head) → IsReason (Add only_hash) ready.BadHead told
+unread-reason told true h = h
+unread-reason told false h = h
 
-unread-told : (told : Told) (only_hash : Bool) (why : Ready) → why ≡ ready.BadHead → IfSome told (λ t. IsUnread t.notes.head) → IfSome told (λ t. IsReason (Add only_hash) why t.notes.head)
-unread-told None only_hash why is h = tt
-unread-told (Some t) only_hash why is h = subst (λ why. IsReason (Add only_hash) why t.notes.head) (sym is) (unread-reason t.notes.head only_hash h)
-
-pub read-ready : (only_hash : Bool) (a b : Seen) (why : Refusal) → IsProfileRead (Err why) a.told → IsReady a b (Add only_hash) (Err why)
-read-ready only_hash a b (refusal.Rule rule) read = tt
-read-ready only_hash a b (refusal.BadPath why) read = tt
-read-ready only_hash a b refusal.Usage read = tt
-read-ready only_hash a b (refusal.Ready why) read = unread-told a.told only_hash why read.0 read.1
-read-ready only_hash a b refusal.Read read = tt
-read-ready only_hash a b refusal.Write read = tt
-read-ready only_hash a b (refusal.Store fault) read = tt
+pub read-ready : (only_hash : Bool) (told : Told) (why : Refusal) → IsProfileRead (Err why) told → IsReady told (Add only_hash) (Err why)
+read-ready only_hash told (refusal.Rule rule) read = tt
+read-ready only_hash told (refusal.BadPath why) read = tt
+read-ready only_hash told refusal.Usage read = tt
+read-ready only_hash told (refusal.Ready why) read = subst (λ why. IsReason (Add only_hash) why told) (sym read.0) (unread-reason told only_hash read.1)
+read-ready only_hash told refusal.Read read = tt
+read-ready only_hash told refusal.Write read = tt
+read-ready only_hash told (refusal.Store fault) read = tt
 
 pub read-work : (why : Refusal) (told : Told) → IsProfileRead (Err why) told → IsOfWork {A = List ℕ} (Err why)
 read-work (refusal.Rule rule) told read = tt
@@ -245,7 +240,7 @@ read-work refusal.Usage told read = absurd read
 read-work (refusal.Ready why) told read = tt
 read-work refusal.Read told read = tt
 read-work refusal.Write told read = absurd read
-read-work (refusal.Store fault) told read = tt
+read-work (refusal.Store fault) told read = read
 
 -- the row of a file, once its blocks were made to outlive a stop
 pub synced-row : (X : List ℕ → List ℕ) (p : Profile) (a b : Told) (entry : Entry) (row : List ℕ) (r : Result (List ℕ) Refusal) (l m : streams.Told) → LeavesHead a b

@@ -1,25 +1,23 @@
 -- From calls on the tree to replies.
 use Rattle.std.proofs.Common.{◌≡◌, ℕ, List, [], ◌∷◌, refl, sym, ap, subst, ◌∙◌, inl, inr, Option, Some, None, Result, Ok, Err}
 use Rattle.std.specs.Prelude.{IfOk, IfSome}
-use Rattle.uf_edge.specs.Counts.{Stood}
 use Rattle.uf_mfs.specs.Answers.{rule_of}
 use Rattle.uf_mfs.specs.Answers as tree
-use Rattle.uf_mfs.specs.Standing.{Inits, IsUnready, IsWanting, Opens, ReadsHead, StandsAt, TellsAs, head_in}
+use Rattle.uf_mfs.specs.Standing.{FindsHead, Inits, IsUnready, IsWanting, Opens, ReadsHead, StandsAt, TellsAs, head_in}
 use Rattle.uf_mfs.specs.declared.types.Mfs.{Mfs}
 use Rattle.uf_mfs.specs.declared.types.MfsFault.{MfsFault}
 use Rattle.uf_mfs.specs.declared.types.MfsFault.TheVariants as mfs
 use Rattle.uf_mfs.specs.declared.types.Ready.{Ready}
 use Rattle.uf_mfs.specs.declared.types.Ready.TheVariants as ready
 use Rattle.uf_mfs.specs.declared.types.Refused.{Refused}
-use Rattle.uf_mfs.specs.declared.types.Rule.{Rule}
 use Rattle.uf_store.specs.Contents.{Contents, Told}
-use Rattle.uf_store.specs.Seen.{Seen}
 use Rattle.uf_tree.specs.HeadReading.{head_reads}
 use Rattle.uf_tree.specs.Standing.{Standing, NoHead, BadHead, Stands, IsBadHead}
 use Rattle.uf_tree.specs.Tree.{Tree, Entries}
+use Rattle.uf_tree.specs.declared.head_fault.HeadFault.{HeadFault}
 use Rattle.uf_tree.specs.declared.profile.Profile.{Profile}
 use Rattle.uf_path.specs.declared.path.Path.{Path}
-use Rattle.uf_top.specs.Causes.{CommitsTo, HeadSays, HeadStays, IsMade, IsProfileOf, IsReady, IsReason, refused_in_tree, refused_opening}
+use Rattle.uf_top.specs.Causes.{CommitsTo, HeadSays, HeadStays, IsMade, IsProfileOf, IsReady, IsReason, IsUnread, RefusesInTree, RefusesOpening}
 use Rattle.uf_top.specs.Reply.{Answers, Reply, in_tree, init_reply, looked, moved, not_ready, refused}
 use Rattle.uf_top.specs.Statuses.{no_memory}
 use Rattle.uf_top.specs.declared.types.Ask.{Ask}
@@ -29,17 +27,17 @@ use Rattle.uf_top.specs.declared.types.Refusal.TheVariants as refusal
 use Rattle.uf_top.proofs.Standings.{tells-none}
 
 -- want of memory, as a refusal
-opening-wants : (f : MfsFault) → IsWanting f → refused_opening f ≡ no_memory
-opening-wants (mfs.Rule rule) w = absurd w
-opening-wants (mfs.Ready why) w = absurd w
-opening-wants mfs.Sink w = absurd w
-opening-wants (mfs.Store f) w = ap refusal.Store w
+opening-wants : (f : MfsFault) (w : Refusal) → RefusesOpening f w → IsWanting f → w ≡ no_memory
+opening-wants (mfs.Rule rule) w is h = absurd h
+opening-wants (mfs.Ready why) w is h = absurd h
+opening-wants mfs.Sink w is h = absurd h
+opening-wants (mfs.Store f) w is h = is ∙ ap refusal.Store h
 
-pub tree-wants : (f : MfsFault) → IsWanting f → refused_in_tree f ≡ no_memory
-tree-wants (mfs.Rule rule) w = absurd w
-tree-wants (mfs.Ready why) w = absurd w
-tree-wants mfs.Sink w = absurd w
-tree-wants (mfs.Store f) w = ap refusal.Store w
+pub tree-wants : (f : MfsFault) (w : Refusal) → RefusesInTree f w → IsWanting f → w ≡ no_memory
+tree-wants (mfs.Rule rule) w is h = absurd h
+tree-wants (mfs.Ready why) w is h = absurd h
+tree-wants mfs.Sink w is h = absurd h
+tree-wants (mfs.Store f) w is h = is ∙ ap refusal.Store h
 
 bad-there : (head : Option (List ℕ)) → IsBadHead head → (text : List ℕ) × (head ≡ Some text)
 bad-there None b = absurd b
@@ -50,19 +48,19 @@ module _ (X : List ℕ → List ℕ) (N : List ℕ → ℕ) where
   wants s reply why told is stands = inl (record { ends_are = ap (λ (w : Refusal). Err w) is; stands = stands })
 
   -- the store isn't ready, or memory is wanting
-  unready : (s : Standing) (why : Ready) (f : MfsFault) (told : Told) → IsUnready (mfs.Ready why) f → TellsAs X N told s → Answers X N s (not_ready s why) (Err (refused_opening f)) told
-  unready s why (mfs.Rule rule) told w stands = absurd w
-  unready s why (mfs.Ready given) told w stands =
+  unready : (s : Standing) (why : Ready) (f : MfsFault) (w : Refusal) (told : Told) → RefusesOpening f w → IsUnready (mfs.Ready why) f → TellsAs X N told s → Answers X N s (not_ready s why) (Err w) told
+  unready s why (mfs.Rule rule) w told is h stands = absurd h
+  unready s why (mfs.Ready given) w told is h stands =
       let same : given ≡ why = cc in
-      inr (record { ends_are = ap (λ (r : Ready). Err (refusal.Ready r)) same; stands = stands; held = tells-none X N told s stands })
-  unready s why mfs.Sink told w stands = absurd w
-  unready s why (mfs.Store f) told w stands = wants s (not_ready s why) (refusal.Store f) told (ap refusal.Store w) stands
+      inr (record { ends_are = ap (λ (w : Refusal). Err w) (is ∙ ap refusal.Ready same); stands = stands; held = tells-none X N told s stands })
+  unready s why mfs.Sink w told is h stands = absurd h
+  unready s why (mfs.Store f) w told is h stands = wants s (not_ready s why) w told (is ∙ ap refusal.Store h) stands
 
   -- the tree isn't opened
-  pub not-opened : (s : Standing) (say : Profile → Entries → Reply) (f : MfsFault) (told : Told) → Opens X N told s (Err f) → TellsAs X N told s → Answers X N s (in_tree say s) (Err (refused_opening f)) told
-  not-opened NoHead say f told h stands = unready NoHead ready.NoHead f told h stands
-  not-opened BadHead say f told h stands = unready BadHead ready.BadHead f told h stands
-  not-opened (Stands p es) say f told h stands = wants (Stands p es) (say p es) (refused_opening f) told (opening-wants f h) stands
+  pub not-opened : (s : Standing) (say : Profile → Entries → Reply) (f : MfsFault) (w : Refusal) (told : Told) → RefusesOpening f w → Opens X N told s (Err f) → TellsAs X N told s → Answers X N s (in_tree say s) (Err w) told
+  not-opened NoHead say f w told is h stands = unready NoHead ready.NoHead f w told is h stands
+  not-opened BadHead say f w told is h stands = unready BadHead ready.BadHead f w told is h stands
+  not-opened (Stands p es) say f w told is h stands = wants (Stands p es) (say p es) w told (opening-wants f w is h) stands
 
   -- the tree is opened
   pub opened : (s : Standing) (say : Profile → Entries → Reply) (m : Mfs) (mid now : Told) (r : Result (List ℕ) Refusal) → Opens X N mid s (Ok m) → TellsAs X N mid s
@@ -73,15 +71,15 @@ module _ (X : List ℕ → List ℕ) (N : List ℕ → ℕ) where
   opened (Stands p es) say m mid now r h stands go = go p es h stands
 
   -- the store isn't made ready
-  init-err : (s : Standing) (p : Profile) (a : Contents) (f : MfsFault) (b : Told) → TellsAs X N (Some a) s → Inits X N b p a.notes.head (Err f) → TellsAs X N b s → Answers X N s (init_reply X N p s) (Err (refused_opening f)) b
-  init-err NoHead p a f b stands h now = wants NoHead (init_reply X N p NoHead) (refused_opening f) b (opening-wants f (subst (λ head. Inits X N b p head (Err f)) stands h)) now
-  init-err BadHead p a f b stands h now = (let t = bad-there a.notes.head stands in unready BadHead ready.HeadThere f b (subst (λ head. Inits X N b p head (Err f)) t.1 h) now)
-  init-err (Stands q es) p a f b stands h now = unready (Stands q es) ready.HeadThere f b (subst (λ head. Inits X N b p head (Err f)) stands.head_is h) now
+  init-err : (s : Standing) (p : Profile) (a : Contents) (f : MfsFault) (w : Refusal) (b : Told) → RefusesOpening f w → TellsAs X N (Some a) s → Inits X N b p a.notes.head (Err f) → TellsAs X N b s → Answers X N s (init_reply X N p s) (Err w) b
+  init-err NoHead p a f w b is stands h now = wants NoHead (init_reply X N p NoHead) w b (opening-wants f w is (subst (λ head. Inits X N b p head (Err f)) stands h)) now
+  init-err BadHead p a f w b is stands h now = (let t = bad-there a.notes.head stands in unready BadHead ready.HeadThere f w b is (subst (λ head. Inits X N b p head (Err f)) t.1 h) now)
+  init-err (Stands q es) p a f w b is stands h now = unready (Stands q es) ready.HeadThere f w b is (subst (λ head. Inits X N b p head (Err f)) stands.head_is h) now
 
-  pub inits-err : (A B : Type 0) (s : Standing) (p : Profile) (a : Told) (f : MfsFault) (b : Told) → A → B → TellsAs X N a s → IfSome a (λ t. A → B → Inits X N b p t.notes.head (Err f)) → TellsAs X N b s
-      → Answers X N s (init_reply X N p s) (Err (refused_opening f)) b
-  inits-err A B s p None f b x y stands h now = absurd stands
-  inits-err A B s p (Some a) f b x y stands h now = init-err s p a f b stands (h x y) now
+  pub inits-err : (A B : Type 0) (s : Standing) (p : Profile) (a : Told) (f : MfsFault) (w : Refusal) (b : Told) → RefusesOpening f w → A → B → TellsAs X N a s → IfSome a (λ t. A → B → Inits X N b p t.notes.head (Err f)) → TellsAs X N b s
+      → Answers X N s (init_reply X N p s) (Err w) b
+  inits-err A B s p None f w b is x y stands h now = absurd stands
+  inits-err A B s p (Some a) f w b is x y stands h now = init-err s p a f w b is stands (h x y) now
 
   -- the store is made ready
   init-ok : (s : Standing) (p : Profile) (a : Contents) (m : Mfs) (b : Told) → TellsAs X N (Some a) s → Inits X N b p a.notes.head (Ok m) → Answers X N s (init_reply X N p s) (Ok []) b
@@ -97,18 +95,18 @@ module _ (X : List ℕ → List ℕ) (N : List ℕ → ℕ) where
   -- ---- on an opened tree
 
   -- what a rule of the tree refuses is refused by the reply
-  pub fault-answers : (A B : Type 0) (P : A → B → Type 0) (s : Standing) (names : List (List ℕ)) (w : Result A Refused) (reply : Result A Refused → Reply) (f : MfsFault) (told : Told)
-      → ((why : Refused) → reply (Err why) ≡ refused s names why) → tree.Answers P names w (Err f) → TellsAs X N told s → Answers X N s (reply w) (Err (refused_in_tree f)) told
-  fault-answers A B P s names (Ok x) reply (mfs.Rule rule) told is h stands = absurd h
-  fault-answers A B P s names (Err why) reply (mfs.Rule rule) told is h stands =
-      subst (λ r. Answers X N s r (Err (refusal.Rule rule)) told) (sym (is why))
-      (inr (record { ends_are = ap (λ (r : Rule). Err (refusal.Rule r)) h; stands = stands; held = tells-none X N told s stands }))
-  fault-answers A B P s names (Ok x) reply (mfs.Ready why) told is h stands = absurd h
-  fault-answers A B P s names (Err x) reply (mfs.Ready why) told is h stands = absurd h
-  fault-answers A B P s names (Ok x) reply mfs.Sink told is h stands = absurd h
-  fault-answers A B P s names (Err x) reply mfs.Sink told is h stands = absurd h
-  fault-answers A B P s names (Ok x) reply (mfs.Store f) told is h stands = wants s (reply (Ok x)) (refusal.Store f) told (ap refusal.Store h) stands
-  fault-answers A B P s names (Err x) reply (mfs.Store f) told is h stands = wants s (reply (Err x)) (refusal.Store f) told (ap refusal.Store h) stands
+  pub fault-answers : (A B : Type 0) (P : A → B → Type 0) (s : Standing) (names : List (List ℕ)) (found : Result A Refused) (reply : Result A Refused → Reply) (f : MfsFault) (w : Refusal) (told : Told)
+      → ((why : Refused) → reply (Err why) ≡ refused s names why) → RefusesInTree f w → tree.Answers P names found (Err f) → TellsAs X N told s → Answers X N s (reply found) (Err w) told
+  fault-answers A B P s names (Ok x) reply (mfs.Rule rule) w told refuses is h stands = absurd h
+  fault-answers A B P s names (Err why) reply (mfs.Rule rule) w told refuses is h stands =
+      subst (λ r. Answers X N s r (Err w) told) (sym (refuses why))
+      (inr (record { ends_are = ap (λ (w : Refusal). Err w) (is ∙ ap refusal.Rule h); stands = stands; held = tells-none X N told s stands }))
+  fault-answers A B P s names (Ok x) reply (mfs.Ready why) w told refuses is h stands = absurd h
+  fault-answers A B P s names (Err x) reply (mfs.Ready why) w told refuses is h stands = absurd h
+  fault-answers A B P s names (Ok x) reply mfs.Sink w told refuses is h stands = absurd h
+  fault-answers A B P s names (Err x) reply mfs.Sink w told refuses is h stands = absurd h
+  fault-answers A B P s names (Ok x) reply (mfs.Store f) w told refuses is h stands = wants s (reply (Ok x)) w told (is ∙ ap refusal.Store h) stands
+  fault-answers A B P s names (Err x) reply (mfs.Store f) w told refuses is h stands = wants s (reply (Err x)) w told (is ∙ ap refusal.Store h) stands
 
   -- what a lookup gives is printed
   pub look-answers : (B M : Type 0) (P : Tree → B → Type 0) (s : Standing) (names : List (List ℕ)) (say : Tree → List ℕ) (w : Result Tree Refused) (b : B) (text : Result (List ℕ) M) (r : Result (List ℕ) Refusal) (told : Told)
@@ -133,47 +131,40 @@ module _ (X : List ℕ → List ℕ) (N : List ℕ → ℕ) where
 -- ---- over every store
 
 -- what the Head said of an opened tree
-says-of : (head : Option (List ℕ)) (m : Mfs) → ReadsHead head (Ok m) → HeadSays head m.profile
-says-of None m h = (let e : None ≡ Some h.0 = h.1 in absurd cc)
-says-of (Some text) m h = (let e : Some text ≡ Some h.0 = h.1 in let same : text ≡ h.0 = cc in (m.root.cid, subst (λ t. head_reads t ≡ Ok (record { profile = m.profile; root = m.root.cid })) (sym same) h.2))
+says-of : (head : Option (List ℕ)) (m : Mfs) (text : List ℕ) → head ≡ Some text → head_reads text ≡ Ok (record { profile = m.profile; root = m.root.cid }) → HeadSays head m.profile
+says-of None m text is reads = absurd cc
+says-of (Some given) m text is reads = (m.root.cid, (let same : given ≡ text = cc in ap head_reads same ∙ reads))
 
-pub opened-says : (told : Told) (m : Mfs) → IfSome told (λ t. ReadsHead t.notes.head (Ok m)) → IsProfileOf told m.profile
+pub opened-says : (told : Told) (m : Mfs) → ReadsHead told (Ok m) → IsProfileOf told m.profile
 opened-says None m h = tt
-opened-says (Some t) m h = says-of t.notes.head m h
+opened-says (Some t) m h = says-of t.notes.head m h.0 h.1 h.2
 
-opening-reason : (head : Option (List ℕ)) (ask : Ask) (path : Path) (why : Ready) → ReadsHead head (Err (mfs.Ready why)) → IsReason (At ask path) why head
-opening-reason head ask path ready.NoHead h = h
-opening-reason head ask path ready.HeadThere h = h
-opening-reason None ask path ready.BadHead h = (let e : None ≡ Some h.0 = h.2 in absurd cc)
-opening-reason (Some text) ask path ready.BadHead h = (h.1, (let e : Some text ≡ Some h.0 = h.2 in let same : text ≡ h.0 = cc in subst (λ t. head_reads t ≡ Err h.1) (sym same) h.3))
+unread-of : (head : Option (List ℕ)) (text : List ℕ) (why : HeadFault) → head ≡ Some text → head_reads text ≡ Err why → IsUnread head
+unread-of None text why is unread = absurd cc
+unread-of (Some given) text why is unread = (why, (let same : given ≡ text = cc in ap head_reads same ∙ unread))
 
-pub opening-ready : (a b : Seen) (ask : Ask) (path : Path) (f : MfsFault) → IfSome a.told (λ t. ReadsHead t.notes.head (Err f)) → IsReady a b (At ask path) (Err (refused_opening f))
-opening-ready a b ask path (mfs.Rule rule) h = tt
-opening-ready a b ask path (mfs.Ready why) h = by a.told h
-  where
-    by : (told : Told) → IfSome told (λ t. ReadsHead t.notes.head (Err (mfs.Ready why))) → IfSome told (λ t. IsReason (At ask path) why t.notes.head)
-    by None h = tt
-    by (Some t) h = opening-reason t.notes.head ask path why h
-opening-ready a b ask path mfs.Sink h = tt
-opening-ready a b ask path (mfs.Store f) h = tt
+opening-reason : (told : Told) (ask : Ask) (path : Path) (why : Ready) → ReadsHead told (Err (mfs.Ready why)) → IsReason (At ask path) why told
+opening-reason told ask path ready.NoHead h = h
+opening-reason told ask path ready.HeadThere h = h
+opening-reason None ask path ready.BadHead h = tt
+opening-reason (Some t) ask path ready.BadHead h = unread-of t.notes.head h.0 h.1 h.2 h.3
 
-init-reason : (X : List ℕ → List ℕ) (N : List ℕ → ℕ) (b : Told) (p : Profile) (head : Option (List ℕ)) (why : Ready) → Inits X N b p head (Err (mfs.Ready why)) → IsReason (Init p) why head
-init-reason X N b p None why h = absurd h
-init-reason X N b p (Some text) ready.HeadThere h = (text, refl)
-init-reason X N b p (Some text) ready.NoHead h = absurd cc
-init-reason X N b p (Some text) ready.BadHead h = absurd cc
+pub opening-ready : (told : Told) (ask : Ask) (path : Path) (f : MfsFault) (w : Refusal) → RefusesOpening f w → ReadsHead told (Err f) → IsReady told (At ask path) (Err w)
+opening-ready told ask path (mfs.Rule rule) w is h = absurd is
+opening-ready told ask path (mfs.Ready why) w is h = subst (λ w. IsReady told (At ask path) (Err w)) (sym is) (opening-reason told ask path why h)
+opening-ready told ask path mfs.Sink w is h = absurd is
+opening-ready told ask path (mfs.Store f) w is h = subst (λ w. IsReady told (At ask path) (Err w)) (sym is) tt
 
-pub init-ready : (X : List ℕ → List ℕ) (N : List ℕ → ℕ) (a b : Seen) (p : Profile) (f : MfsFault)
-    → IfSome a.told (λ t. Stood a.faults b.faults → Stood a.clashes b.clashes → Inits X N b.told p t.notes.head (Err f)) → IsReady a b (Init p) (Err (refused_opening f))
-init-ready X N a b p (mfs.Rule rule) h = tt
-init-ready X N a b p (mfs.Ready why) h = λ faults clashes. by a.told faults clashes h
-  where
-    by : (told : Told) → Stood a.faults b.faults → Stood a.clashes b.clashes → IfSome told (λ t. Stood a.faults b.faults → Stood a.clashes b.clashes → Inits X N b.told p t.notes.head (Err (mfs.Ready why)))
-        → IfSome told (λ t. IsReason (Init p) why t.notes.head)
-    by None f c h = tt
-    by (Some t) f c h = init-reason X N b.told p t.notes.head why (h f c)
-init-ready X N a b p mfs.Sink h = tt
-init-ready X N a b p (mfs.Store f) h = tt
+init-reason : (told : Told) (p : Profile) (why : Ready) → FindsHead told (Err (mfs.Ready why)) → IsReason (Init p) why told
+init-reason told p ready.NoHead h = h
+init-reason told p ready.HeadThere h = h
+init-reason told p ready.BadHead h = h
+
+pub init-ready : (told : Told) (p : Profile) (f : MfsFault) (w : Refusal) → RefusesOpening f w → FindsHead told (Err f) → IsReady told (Init p) (Err w)
+init-ready told p (mfs.Rule rule) w is h = absurd is
+init-ready told p (mfs.Ready why) w is h = subst (λ w. IsReady told (Init p) (Err w)) (sym is) (init-reason told p why h)
+init-ready told p mfs.Sink w is h = absurd is
+init-ready told p (mfs.Store f) w is h = subst (λ w. IsReady told (Init p) (Err w)) (sym is) tt
 
 -- the Head stays where a fault refuses
 pub stays-same : (r : Result (List ℕ) Refusal) (a b : Told) → head_in b ≡ head_in a → HeadStays r a b

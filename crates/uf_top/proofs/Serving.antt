@@ -39,20 +39,20 @@ words-keep (Ok command) why (inl memory) = subst (λ w. KeepsRefusal (Ok command
     by (At ask path) = tt
 words-keep (Ok command) why (inr same) = absurd cc
 
-pub words-ready : (a b : Seen) (told : Result Command Refusal) (why : Refusal) → IsOfWords (Err why) → IsReadyFor a b told (Err why)
-words-ready a b (Ok command) (refusal.Rule rule) k = tt
-words-ready a b (Err asked) (refusal.Rule rule) k = tt
-words-ready a b (Ok command) (refusal.BadPath path) k = tt
-words-ready a b (Err asked) (refusal.BadPath path) k = tt
-words-ready a b (Ok command) refusal.Usage k = tt
-words-ready a b (Err asked) refusal.Usage k = tt
-words-ready a b told (refusal.Ready reason) k = absurd k
-words-ready a b (Ok command) refusal.Read k = tt
-words-ready a b (Err asked) refusal.Read k = tt
-words-ready a b (Ok command) refusal.Write k = tt
-words-ready a b (Err asked) refusal.Write k = tt
-words-ready a b (Ok command) (refusal.Store f) k = tt
-words-ready a b (Err asked) (refusal.Store f) k = tt
+pub words-ready : (told : Told) (asked : Result Command Refusal) (why : Refusal) → IsOfWords (Err why) → IsReadyFor told asked (Err why)
+words-ready told (Ok command) (refusal.Rule rule) k = tt
+words-ready told (Err asked) (refusal.Rule rule) k = tt
+words-ready told (Ok command) (refusal.BadPath path) k = tt
+words-ready told (Err asked) (refusal.BadPath path) k = tt
+words-ready told (Ok command) refusal.Usage k = tt
+words-ready told (Err asked) refusal.Usage k = tt
+words-ready told asked (refusal.Ready reason) k = absurd k
+words-ready told (Ok command) refusal.Read k = tt
+words-ready told (Err asked) refusal.Read k = tt
+words-ready told (Ok command) refusal.Write k = tt
+words-ready told (Err asked) refusal.Write k = tt
+words-ready told (Ok command) (refusal.Store f) k = tt
+words-ready told (Err asked) (refusal.Store f) k = tt
 
 pub words-add : (hash : List ℕ → List ℕ) (told : Told) (asked : Result Command Refusal) (why : Refusal) (l m : streams.Told) → IsOfWords (Err why) → AddsFor hash told asked (Err why) l m
 words-add hash told (Ok (Init p)) why l m k = tt
@@ -171,15 +171,15 @@ printed-keep command text (Err refusal.Read) held now h = absurd h
 printed-keep command text (Err refusal.Write) held now h = tt
 printed-keep command text (Err (refusal.Store f)) held now h = absurd h
 
-pub printed-ready : (a b : Seen) (command : Command) (text : List ℕ) (r : Result (List ℕ) Refusal) (held now : streams.Told) → IsPrinted text r held now → IsReady a b command r
-printed-ready a b command text (Ok printed) held now h = tt
-printed-ready a b command text (Err (refusal.Rule rule)) held now h = absurd h
-printed-ready a b command text (Err (refusal.BadPath path)) held now h = absurd h
-printed-ready a b command text (Err refusal.Usage) held now h = absurd h
-printed-ready a b command text (Err (refusal.Ready reason)) held now h = absurd h
-printed-ready a b command text (Err refusal.Read) held now h = absurd h
-printed-ready a b command text (Err refusal.Write) held now h = tt
-printed-ready a b command text (Err (refusal.Store f)) held now h = absurd h
+pub printed-ready : (told : Told) (command : Command) (text : List ℕ) (r : Result (List ℕ) Refusal) (held now : streams.Told) → IsPrinted text r held now → IsReady told command r
+printed-ready told command text (Ok printed) held now h = tt
+printed-ready told command text (Err (refusal.Rule rule)) held now h = absurd h
+printed-ready told command text (Err (refusal.BadPath path)) held now h = absurd h
+printed-ready told command text (Err refusal.Usage) held now h = absurd h
+printed-ready told command text (Err (refusal.Ready reason)) held now h = absurd h
+printed-ready told command text (Err refusal.Read) held now h = absurd h
+printed-ready told command text (Err refusal.Write) held now h = tt
+printed-ready told command text (Err (refusal.Store f)) held now h = absurd h
 
 ok-adds : (hash : List ℕ → List ℕ) (told : Told) (asked : Result Command Refusal) (text printed : List ℕ) (l m : streams.Told) → printed ≡ text → AddsFor hash told asked (Ok text) l m → AddsFor hash told asked (Ok printed) l m
 ok-adds hash told asked text printed l m e h = subst (λ x. AddsFor hash told asked (Ok x) l m) (sym e) h

@@ -2,7 +2,7 @@
 use Rattle.std.proofs.Common.{◌≡◌, ℕ, ◌≤◌, List, true, arith, refl, sym, ap, subst, inl, inr, Some, None, Result, Ok, Err}
 use Rattle.uf_build.specs.Answers.{IsSaving}
 use Rattle.uf_edge.specs.Counts.{Rose, Stood}
-use Rattle.uf_mfs.specs.Answers.{Shown as ShownByTree}
+use Rattle.uf_mfs.specs.Answers.{ShownInTree, ShownOpening}
 use Rattle.uf_mfs.specs.Bad.{IsBad}
 use Rattle.uf_mfs.specs.declared.types.MfsFault.{MfsFault}
 use Rattle.uf_mfs.specs.declared.types.MfsFault.TheVariants as mfs
@@ -20,7 +20,7 @@ use Rattle.uf_store.specs.Faults.{NoneIsBad, Rises, Shows, StaysCalm}
 use Rattle.uf_store.specs.Seen.{Seen}
 use Rattle.uf_store.proofs.Causes.{Shows-after, StaysCalm-trans}
 use Rattle.uf_tree.specs.declared.profile.Profile.{Profile}
-use Rattle.uf_top.specs.Causes.{IsBadIn, IsMade, IsOfAt, IsOfInit, IsOfTree, IsProfileOf, IsReady, OnlyWants, Shown, refused_in_tree, refused_opening}
+use Rattle.uf_top.specs.Causes.{IsBadIn, IsMade, IsOfAt, IsOfInit, IsOfTree, IsOpeningFault, IsProfileOf, IsReady, IsTreeFault, OnlyWants, RefusesInTree, RefusesOpening, Shown}
 use Rattle.uf_top.specs.Intake.{ShownIn, ShownWhy}
 use Rattle.uf_top.specs.declared.types.Refusal.{Refusal}
 use Rattle.uf_top.specs.declared.types.Refusal.TheVariants as refusal
@@ -75,49 +75,62 @@ Shown-of hash Q (Err refusal.Write) a b h = h
 Shown-of hash Q (Err (refusal.Store f)) a b h = Shows-more hash NoneIsBad Q f a b (λ role bytes bad. absurd bad) h
 
 -- the faults of calls on the tree
-module _ (A : Type 0) (hash : List ℕ → List ℕ) (P Q : Role → List ℕ → Type 0) (more : (role : Role) (bytes : List ℕ) → P role bytes → Q role bytes) where
-  pub Shown-opening : (f : MfsFault) (a b : Seen) → ShownByTree hash P {A = A} (Err f) a b → Shown hash Q (Err (refused_opening f)) a b
-  Shown-opening (mfs.Rule rule) a b h = calm-rises a b h
-  Shown-opening (mfs.Ready why) a b h = h
-  Shown-opening mfs.Sink a b h = absurd h
-  Shown-opening (mfs.Store f) a b h = Shows-more hash P Q f a b more h
+module _ (A : Type 0) (hash : List ℕ → List ℕ) (P : Role → List ℕ → Type 0) where
+  pub opening-fault : (f : MfsFault) (a b : Seen) → ShownOpening hash P {A = A} (Err f) a b → IsOpeningFault f
+  opening-fault (mfs.Rule rule) a b h = h
+  opening-fault (mfs.Ready why) a b h = tt
+  opening-fault mfs.Sink a b h = h
+  opening-fault (mfs.Store f) a b h = tt
 
-  pub Shown-tree : (f : MfsFault) (a b : Seen) → ShownByTree hash P {A = A} (Err f) a b → Shown hash Q (Err (refused_in_tree f)) a b
-  Shown-tree (mfs.Rule rule) a b h = h
-  Shown-tree (mfs.Ready why) a b h = calm-rises a b h
-  Shown-tree mfs.Sink a b h = absurd h
-  Shown-tree (mfs.Store f) a b h = Shows-more hash P Q f a b more h
+  pub tree-fault : (f : MfsFault) (a b : Seen) → ShownInTree hash P {A = A} (Err f) a b → IsTreeFault f
+  tree-fault (mfs.Rule rule) a b h = tt
+  tree-fault (mfs.Ready why) a b h = h
+  tree-fault mfs.Sink a b h = h
+  tree-fault (mfs.Store f) a b h = tt
+
+  module _ (Q : Role → List ℕ → Type 0) (more : (role : Role) (bytes : List ℕ) → P role bytes → Q role bytes) where
+    pub Shown-opening : (f : MfsFault) (w : Refusal) (a b : Seen) → RefusesOpening f w → ShownOpening hash P {A = A} (Err f) a b → Shown hash Q (Err w) a b
+    Shown-opening (mfs.Rule rule) w a b is h = absurd is
+    Shown-opening (mfs.Ready why) w a b is h = subst (λ w. Shown hash Q (Err w) a b) (sym is) h
+    Shown-opening mfs.Sink w a b is h = absurd is
+    Shown-opening (mfs.Store f) w a b is h = subst (λ w. Shown hash Q (Err w) a b) (sym is) (Shows-more hash P Q f a b more h)
+
+    pub Shown-tree : (f : MfsFault) (w : Refusal) (a b : Seen) → RefusesInTree f w → ShownInTree hash P {A = A} (Err f) a b → Shown hash Q (Err w) a b
+    Shown-tree (mfs.Rule rule) w a b is h = subst (λ w. Shown hash Q (Err w) a b) (sym is) h
+    Shown-tree (mfs.Ready why) w a b is h = absurd is
+    Shown-tree mfs.Sink w a b is h = absurd is
+    Shown-tree (mfs.Store f) w a b is h = subst (λ w. Shown hash Q (Err w) a b) (sym is) (Shows-more hash P Q f a b more h)
 
 module _ (A B : Type 0) (hash : List ℕ → List ℕ) where
-  pub ShownIn-opening : (f : MfsFault) (a b : Seen) → ShownByTree hash NoneIsBad {A = A} (Err f) a b → ShownIn {A = B} hash (Err (refused_opening f)) a b
-  ShownIn-opening (mfs.Rule rule) a b h = calm-rises a b h
-  ShownIn-opening (mfs.Ready why) a b h = h
-  ShownIn-opening mfs.Sink a b h = absurd h
-  ShownIn-opening (mfs.Store f) a b h = h
+  pub ShownIn-opening : (f : MfsFault) (w : Refusal) (a b : Seen) → RefusesOpening f w → ShownOpening hash NoneIsBad {A = A} (Err f) a b → ShownIn {A = B} hash (Err w) a b
+  ShownIn-opening (mfs.Rule rule) w a b is h = absurd is
+  ShownIn-opening (mfs.Ready why) w a b is h = subst (λ w. ShownIn {A = B} hash (Err w) a b) (sym is) h
+  ShownIn-opening mfs.Sink w a b is h = absurd is
+  ShownIn-opening (mfs.Store f) w a b is h = subst (λ w. ShownIn {A = B} hash (Err w) a b) (sym is) h
 
-  pub ShownIn-tree : (f : MfsFault) (a b : Seen) → ShownByTree hash NoneIsBad {A = A} (Err f) a b → ShownIn {A = B} hash (Err (refused_in_tree f)) a b
-  ShownIn-tree (mfs.Rule rule) a b h = h
-  ShownIn-tree (mfs.Ready why) a b h = calm-rises a b h
-  ShownIn-tree mfs.Sink a b h = absurd h
-  ShownIn-tree (mfs.Store f) a b h = h
+  pub ShownIn-tree : (f : MfsFault) (w : Refusal) (a b : Seen) → RefusesInTree f w → ShownInTree hash NoneIsBad {A = A} (Err f) a b → ShownIn {A = B} hash (Err w) a b
+  ShownIn-tree (mfs.Rule rule) w a b is h = subst (λ w. ShownIn {A = B} hash (Err w) a b) (sym is) h
+  ShownIn-tree (mfs.Ready why) w a b is h = absurd is
+  ShownIn-tree mfs.Sink w a b is h = absurd is
+  ShownIn-tree (mfs.Store f) w a b is h = subst (λ w. ShownIn {A = B} hash (Err w) a b) (sym is) h
 
-pub init-work : (A : Type 0) (f : MfsFault) → IsOfInit {A = A} (Err (refused_opening f))
-init-work A (mfs.Rule rule) = tt
-init-work A (mfs.Ready why) = tt
-init-work A mfs.Sink = tt
-init-work A (mfs.Store f) = tt
+pub init-work : (A : Type 0) (f : MfsFault) (w : Refusal) → RefusesOpening f w → IsOfInit {A = A} (Err w)
+init-work A (mfs.Rule rule) w is = absurd is
+init-work A (mfs.Ready why) w is = subst (λ w. IsOfInit {A = A} (Err w)) (sym is) tt
+init-work A mfs.Sink w is = absurd is
+init-work A (mfs.Store f) w is = subst (λ w. IsOfInit {A = A} (Err w)) (sym is) tt
 
-pub opening-work : (A : Type 0) (f : MfsFault) → IsOfAt {A = A} (Err (refused_opening f))
-opening-work A (mfs.Rule rule) = tt
-opening-work A (mfs.Ready why) = tt
-opening-work A mfs.Sink = tt
-opening-work A (mfs.Store f) = tt
+pub opening-work : (A : Type 0) (f : MfsFault) (w : Refusal) → RefusesOpening f w → IsOfAt {A = A} (Err w)
+opening-work A (mfs.Rule rule) w is = absurd is
+opening-work A (mfs.Ready why) w is = subst (λ w. IsOfAt {A = A} (Err w)) (sym is) tt
+opening-work A mfs.Sink w is = absurd is
+opening-work A (mfs.Store f) w is = subst (λ w. IsOfAt {A = A} (Err w)) (sym is) tt
 
-pub in-tree-work : (A : Type 0) (f : MfsFault) → IsOfTree {A = A} (Err (refused_in_tree f))
-in-tree-work A (mfs.Rule rule) = tt
-in-tree-work A (mfs.Ready why) = tt
-in-tree-work A mfs.Sink = tt
-in-tree-work A (mfs.Store f) = tt
+pub in-tree-work : (A : Type 0) (f : MfsFault) (w : Refusal) → RefusesInTree f w → IsOfTree {A = A} (Err w)
+in-tree-work A (mfs.Rule rule) w is = subst (λ w. IsOfTree {A = A} (Err w)) (sym is) tt
+in-tree-work A (mfs.Ready why) w is = absurd is
+in-tree-work A mfs.Sink w is = absurd is
+in-tree-work A (mfs.Store f) w is = subst (λ w. IsOfTree {A = A} (Err w)) (sym is) tt
 
 pub tree-work : {A : Type 0} (r : Result A Refusal) → IsOfTree r → IsOfAt r
 tree-work (Ok x) h = tt
@@ -212,12 +225,12 @@ pub same-good : (hash : List ℕ → List ℕ) (a b : Told) → b ≡ a → Keep
 same-good hash a b e = subst (KeepsGood hash a) (sym e) (KeepsGood-refl hash a)
 
 -- a command on an opened tree is ready
-pub tree-ready : (a b : Seen) (command : Command) (r : Result (List ℕ) Refusal) → IsOfTree r → IsReady a b command r
-tree-ready a b command (Ok x) h = tt
-tree-ready a b command (Err (refusal.Rule rule)) h = tt
-tree-ready a b command (Err (refusal.BadPath why)) h = tt
-tree-ready a b command (Err refusal.Usage) h = tt
-tree-ready a b command (Err (refusal.Ready why)) h = absurd h
-tree-ready a b command (Err refusal.Read) h = tt
-tree-ready a b command (Err refusal.Write) h = tt
-tree-ready a b command (Err (refusal.Store f)) h = tt
+pub tree-ready : (told : Told) (command : Command) (r : Result (List ℕ) Refusal) → IsOfTree r → IsReady told command r
+tree-ready told command (Ok x) h = tt
+tree-ready told command (Err (refusal.Rule rule)) h = tt
+tree-ready told command (Err (refusal.BadPath why)) h = tt
+tree-ready told command (Err refusal.Usage) h = tt
+tree-ready told command (Err (refusal.Ready why)) h = absurd h
+tree-ready told command (Err refusal.Read) h = tt
+tree-ready told command (Err refusal.Write) h = tt
+tree-ready told command (Err (refusal.Store f)) h = tt

@@ -1,11 +1,11 @@
 -- What a store stands for, from one moment to the next and by its Head.
-use Rattle.std.proofs.Common.{◌≡◌, ℕ, List, [], ◌∷◌, true, false, cond, refl, sym, ap, subst, ◌∙◌, Option, Some, None, Result, Ok, Err}
+use Rattle.std.proofs.Common.{◌≡◌, ℕ, ◌<◌, ◌^◌, List, [], ◌∷◌, true, false, cond, refl, sym, ap, subst, ◌∙◌, Option, Some, None, Result, Ok, Err}
 use Rattle.std.specs.Prelude.{IfSome}
 use Rattle.std.specs.List.{AllByRecursion}
 use Rattle.uf_cid.specs.Blocks.{Held}
 use Rattle.uf_cid.specs.declared.cid.Cid.{Cid}
 use Rattle.uf_cid.specs.declared.cid.Codec.TheVariants.{DagPb}
-use Rattle.uf_store.specs.Contents.{Contents, Told, changed, with_sync}
+use Rattle.uf_store.specs.Contents.{Contents, Told, changed, held_at, with_sync}
 use Rattle.uf_store.specs.Keeping.{AreGood, Holds, KeepsGood}
 use Rattle.uf_store.proofs.Keeping.{Holds-kept, KeepsGood-refl}
 use Rattle.uf_tree.specs.DirPlan.{basic_dir, is_sharded, own_plan}
@@ -26,6 +26,7 @@ use Rattle.uf_tree.proofs.HeadIs.{head_is}
 use Rattle.uf_tree.proofs.TreeLaws.{entry-dir}
 use Rattle.uf_tree.proofs.Valid.{entry-valid}
 use Rattle.uf_laws.proofs.Held.{tree-digested}
+use Rattle.uf_unique.proofs.Heads.{one_standing}
 use Rattle.uf_mfs.specs.Standing.{LeavesHead, Same, OnlySynced, TellsAs, TellsHeld, head_in}
 use Rattle.uf_top.specs.Causes.{HeadSays, IsProfileOf, IsUnread}
 
@@ -152,3 +153,8 @@ module _ (X : List ℕ → List ℕ) (N : List ℕ → ℕ) where
   standing-says good (Some c) NoHead p t h = absurd (not-none c.notes.head p t h)
   standing-says good (Some c) BadHead p t h = absurd (bad-says c.notes.head p t h)
   standing-says good (Some c) (Stands q es) p t h = (let r = stands-reads good c q es t in (es, ap (λ (x : Profile). Stands x es) (says c.notes.head _ q p _ r.0 r.1 h)))
+
+-- what is told stands for one tree at most
+pub stands-one : (X : List ℕ → List ℕ) (N : List ℕ → ℕ) → IsHash X → ((name : List ℕ) → N name < 2 ^ 64) → (told : Told) (s r : Standing) → TellsAs X N told s → TellsAs X N told r → s ≡ r
+stands-one X N hash fits None s r h k = absurd h
+stands-one X N hash fits (Some t) s r h k = one_standing X N hash fits (held_at t) t.notes.head s r h k

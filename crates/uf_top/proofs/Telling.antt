@@ -222,7 +222,7 @@ module _ (Says : List ℕ → Type 0) where
         let f = refused-as r given status.Clash t is (λ e. absurd cc) (λ e. absurd cc) in
         clash-of f.0 f.2 (subst (λ r. Shown hash P r a b) f.1 h) f.3
 
-    ready-of : (command : Result Command Refusal) (why : Refusal) → status_of why ≡ status.NotReady → IsReadyFor a b command (Err why) → KeepsRefusal command (Err why) → IsOfWords command → Says (line_of why) → IsNotReady Says command a b
+    ready-of : (command : Result Command Refusal) (why : Refusal) → status_of why ≡ status.NotReady → IsReadyFor a.told command (Err why) → KeepsRefusal command (Err why) → IsOfWords command → Says (line_of why) → IsNotReady Says command a.told
     ready-of command (refusal.Rule rule) e ready keeps words s = absurd cc
     ready-of command (refusal.BadPath path) e ready keeps words s = absurd cc
     ready-of command refusal.Usage e ready keeps words s = absurd cc
@@ -238,10 +238,10 @@ module _ (Says : List ℕ → Type 0) where
     ready-of command (refusal.Store (fault.Clash cid first second)) e ready keeps words s = absurd cc
     ready-of command (refusal.Store fault.Memory) e ready keeps words s = absurd cc
 
-    pub ready-told : (command : Result Command Refusal) (r : Result (List ℕ) Refusal) (given : Status) → Tells Says r given → IsReadyFor a b command r → KeepsRefusal command r → IsOfWords command → given ≡ status.NotReady → IsNotReady Says command a b
+    pub ready-told : (command : Result Command Refusal) (r : Result (List ℕ) Refusal) (given : Status) → Tells Says r given → IsReadyFor a.told command r → KeepsRefusal command r → IsOfWords command → given ≡ status.NotReady → IsNotReady Says command a.told
     ready-told command r given t ready keeps words is =
         let f = refused-as r given status.NotReady t is (λ e. absurd cc) (λ e. absurd cc) in
-        ready-of command f.0 f.2 (subst (IsReadyFor a b command) f.1 ready) (subst (KeepsRefusal command) f.1 keeps) words f.3
+        ready-of command f.0 f.2 (subst (IsReadyFor a.told command) f.1 ready) (subst (KeepsRefusal command) f.1 keeps) words f.3
 
     -- no fault of the store is passed over
     pub faults-told : (r : Result (List ℕ) Refusal) (given : Status) → Tells Says r given → Shown hash P r a b → a.faults < b.faults → (given ≡ status.StoreFault) ⊎ (given ≡ status.Memory)

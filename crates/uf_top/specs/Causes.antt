@@ -6,7 +6,7 @@ use Rattle.std.specs.declared.result.Result.{Result}
 use Rattle.std.specs.declared.result.Result.TheVariants.{Ok, Err}
 use Rattle.uf_cid.specs.declared.cid.Cid.{Cid}
 use Rattle.uf_edge.specs.declared.streams.Sent.{Sent}
-use Rattle.uf_edge.specs.Counts.{Counts, Stood}
+use Rattle.uf_edge.specs.Counts.{Counts}
 use Rattle.uf_edge.specs.Streams.{after, before, AppendsPrefix, Sends, is_unsent}
 use Rattle.uf_edge.specs.Streams as streams
 use Rattle.uf_mfs.specs.Bad.{IsBad}
@@ -38,19 +38,33 @@ use Rattle.uf_top.specs.Lines.{added_line}
 use Rattle.uf_top.specs.Statuses.{no_memory}
 use Rattle.uf_top.specs.Reply.{file_cid, most_input, usual}
 
--- the fault of a call that opens a tree as a refusal; no rule refuses that, and nothing is printed there
-abbrev pub refused_opening : MfsFault → Refusal
-refused_opening (mfs.Rule rule) = no_memory
-refused_opening (mfs.Ready why) = refusal.Ready why
-refused_opening mfs.Sink = no_memory
-refused_opening (mfs.Store fault) = refusal.Store fault
+-- the faults of calls that open a tree: no rule refuses that, and nothing is printed there
+abbrev pub IsOpeningFault : MfsFault → Type 0
+IsOpeningFault (mfs.Rule rule) = ⊥
+IsOpeningFault (mfs.Ready why) = ⊤
+IsOpeningFault mfs.Sink = ⊥
+IsOpeningFault (mfs.Store fault) = ⊤
 
--- the fault of a call on an opened tree as a refusal; such a tree is ready, and nothing is printed there
-abbrev pub refused_in_tree : MfsFault → Refusal
-refused_in_tree (mfs.Rule rule) = refusal.Rule rule
-refused_in_tree (mfs.Ready why) = no_memory
-refused_in_tree mfs.Sink = no_memory
-refused_in_tree (mfs.Store fault) = refusal.Store fault
+-- the faults of calls on an opened tree: such a tree is ready, and nothing is printed there
+abbrev pub IsTreeFault : MfsFault → Type 0
+IsTreeFault (mfs.Rule rule) = ⊤
+IsTreeFault (mfs.Ready why) = ⊥
+IsTreeFault mfs.Sink = ⊥
+IsTreeFault (mfs.Store fault) = ⊤
+
+-- the fault of a call that opens a tree, and the refusal by it
+abbrev pub RefusesOpening : MfsFault → Refusal → Type 0
+RefusesOpening (mfs.Rule rule) given = ⊥
+RefusesOpening (mfs.Ready why) given = given ≡ refusal.Ready why
+RefusesOpening mfs.Sink given = ⊥
+RefusesOpening (mfs.Store fault) given = given ≡ refusal.Store fault
+
+-- the fault of a call on an opened tree, and the refusal by it
+abbrev pub RefusesInTree : MfsFault → Refusal → Type 0
+RefusesInTree (mfs.Rule rule) given = given ≡ refusal.Rule rule
+RefusesInTree (mfs.Ready why) given = ⊥
+RefusesInTree mfs.Sink given = ⊥
+RefusesInTree (mfs.Store fault) given = given ≡ refusal.Store fault
 
 -- the Head says this profile
 abbrev pub HeadSays : Option (List ℕ) → Profile → Type 0
@@ -66,30 +80,25 @@ abbrev pub IsUnread : Option (List ℕ) → Type 0
 IsUnread None = ⊥
 IsUnread (Some text) = (why : HeadFault) × (head_reads text ≡ Err why)
 
--- for this reason the Head doesn't do for a command that needs it: there is none, or it isn't read
-abbrev pub IsReasonInTree : Ready → Option (List ℕ) → Type 0
-IsReasonInTree ready.NoHead head = head ≡ None
-IsReasonInTree ready.HeadThere head = ⊥
-IsReasonInTree ready.BadHead head = IsUnread head
+-- for this reason the Head doesn't do for a command that needs it, where the store tells: there is none, or it isn't read
+abbrev pub IsReasonInTree : Ready → Told → Type 0
+IsReasonInTree ready.NoHead told = IfSome told (λ t. t.notes.head ≡ None)
+IsReasonInTree ready.HeadThere told = ⊥
+IsReasonInTree ready.BadHead told = IfSome told (λ t. IsUnread t.notes.head)
 
--- for this reason the Head doesn't do for a command: it is there at `init`, isn't read, or isn't there where one is needed
-abbrev pub IsReason : Command → Ready → Option (List ℕ) → Type 0
-IsReason (Init p) ready.HeadThere head = (text : List ℕ) × (head ≡ Some text)
-IsReason (Init p) why head = ⊥
-IsReason (Add true) ready.BadHead head = IsUnread head
-IsReason (Add true) why head = ⊥
-IsReason (Add false) why head = IsReasonInTree why head
-IsReason (At ask path) why head = IsReasonInTree why head
+-- for this reason the Head doesn't do for a command, where the store tells: it is there at `init`, isn't read, or isn't there where one is needed
+abbrev pub IsReason : Command → Ready → Told → Type 0
+IsReason (Init p) ready.HeadThere told = IfSome told (λ t. (text : List ℕ) × (t.notes.head ≡ Some text))
+IsReason (Init p) why told = ⊥
+IsReason (Add true) ready.BadHead told = IfSome told (λ t. IsUnread t.notes.head)
+IsReason (Add true) why told = ⊥
+IsReason (Add false) why told = IsReasonInTree why told
+IsReason (At ask path) why told = IsReasonInTree why told
 
--- the reason, where the store tells; of `init`, where no count rose
-abbrev pub Reasons : Seen → Seen → Command → Ready → Type 0
-Reasons before now (Init p) why = Stood before.faults now.faults → Stood before.clashes now.clashes → IfSome before.told (λ t. IsReason (Init p) why t.notes.head)
-Reasons before now (Add only_hash) why = IfSome before.told (λ t. IsReason (Add only_hash) why t.notes.head)
-Reasons before now (At ask path) why = IfSome before.told (λ t. IsReason (At ask path) why t.notes.head)
-
-abbrev pub IsReady : Seen → Seen → Command → Result (List ℕ) Refusal → Type 0
-IsReady before now command (Err (refusal.Ready why)) = Reasons before now command why
-IsReady before now command ends = ⊤
+-- the answer that the store isn't ready has its reason in the Head
+abbrev pub IsReady : Told → Command → Result (List ℕ) Refusal → Type 0
+IsReady told command (Err (refusal.Ready why)) = IsReason command why told
+IsReady told command ends = ⊤
 
 -- the block isn't canonical in its role, where no profile or that of the Head is required
 abbrev pub IsBadIn : (List ℕ → ℕ) → Told → Role → List ℕ → Type 0
@@ -140,7 +149,7 @@ abbrev pub is_write : {A : Type 0} → Result A Refusal → Bool
 is_write (Ok a) = false
 is_write (Err why) = is_writing why
 
--- the refusals that a command may have whose words are read: none of words, paths or the output
+-- the refusals that `add` may have once its words are read: none of words, paths or the output, and of the store only what saves alone can have
 abbrev pub IsOfWork : {A : Type 0} → Result A Refusal → Type 0
 IsOfWork (Ok a) = ⊤
 IsOfWork (Err (refusal.Rule rule)) = ⊤
@@ -149,7 +158,7 @@ IsOfWork (Err refusal.Usage) = ⊥
 IsOfWork (Err (refusal.Ready why)) = ⊤
 IsOfWork (Err refusal.Read) = ⊤
 IsOfWork (Err refusal.Write) = ⊥
-IsOfWork (Err (refusal.Store fault)) = ⊤
+IsOfWork (Err (refusal.Store fault)) = IsSaving fault
 
 -- the refusals that a command at a path may have
 abbrev pub IsOfAt : {A : Type 0} → Result A Refusal → Type 0

@@ -36,7 +36,7 @@ pub fn adds<S: Store, I: Source, L: Ledger>(
         → Answers S.X.block32 N standing (add_reply S.X.block32 only_hash standing bytes) result (S.seen store.new).told }
     ensures adds { Adds S.X.block32 (S.seen store.old).told only_hash result (I.left input.old) (I.left input.new) }
     ensures synced { SyncsFor (Ok (commands.Add only_hash)) result (S.seen store.new).told }
-    ensures ready { IsReady (S.seen store.old) (S.seen store.new) (commands.Add only_hash) result }
+    ensures ready { IsReady (S.seen store.old).told (commands.Add only_hash) result }
     ensures work { IsOfWork result }
     ensures counts { Counts (is_read result) (I.faults input.old) (I.faults input.new) }
     ensures cause { ShownIn S.X.block32 result (S.seen store.old) (S.seen store.new) }
@@ -64,7 +64,7 @@ fn add<S: Store, I: Source, L: Ledger>(
         → Answers S.X.block32 N standing (add_reply S.X.block32 false standing bytes) result (S.seen store.new).told }
     ensures adds { Adds S.X.block32 (S.seen store.old).told false result (I.left input.old) (I.left input.new) }
     ensures synced { OnOk result (IsSynced (S.seen store.new).told) }
-    ensures ready { IsReady (S.seen store.old) (S.seen store.new) (commands.Add false) result }
+    ensures ready { IsReady (S.seen store.old).told (commands.Add false) result }
     ensures work { IsOfWork result }
     ensures counts { Counts (is_read result) (I.faults input.old) (I.faults input.new) }
     ensures cause { ShownIn S.X.block32 result (S.seen store.old) (S.seen store.new) }
@@ -88,7 +88,7 @@ fn add_only_hash<S: Store, I: Source>(
         → Stood (S.seen store.old).faults (S.seen store.new).faults → Stood (S.seen store.old).clashes (S.seen store.new).clashes → Stood (I.faults input.old) (I.faults input.new)
         → Answers S.X.block32 N standing (add_reply S.X.block32 true standing bytes) result (S.seen store.new).told }
     ensures adds { Adds S.X.block32 (S.seen store.old).told true result (I.left input.old) (I.left input.new) }
-    ensures ready { IsReady (S.seen store.old) (S.seen store.new) (commands.Add true) result }
+    ensures ready { IsReady (S.seen store.old).told (commands.Add true) result }
     ensures work { IsOfWork result }
     ensures counts { Counts (is_read result) (I.faults input.old) (I.faults input.new) }
     ensures cause { ShownIn S.X.block32 result (S.seen store.old) (S.seen store.new) }

@@ -1,5 +1,5 @@
 // One command.
-ghost use Rattle.std.specs.Prelude.{◌≡◌, ◌≢◌, ◌⊎◌, ◌<◌, List, ℕ, true, false, Err, Ok, Some, IfSome, map, string_bytes};
+ghost use Rattle.std.specs.Prelude.{◌≡◌, ◌≢◌, ◌⊎◌, ◌<◌, List, ℕ, true, false, Err, Ok, IfSome, map, string_bytes};
 ghost use Rattle.uf_cid.specs.declared.cid.Cid.{Cid as TheCid};
 ghost use Rattle.uf_edge.specs.Counts.{Counts, Rose, Stood};
 ghost use Rattle.uf_mfs.specs.Standing.{TellsAs, head_in};
@@ -7,12 +7,15 @@ ghost use Rattle.uf_mfs.specs.declared.types.Ready.{Ready as TheReason};
 ghost use Rattle.uf_store.specs.Faults.{ShowsBadBlock, ShowsClash, ShowsFailure, ShowsMissing};
 ghost use Rattle.uf_store.specs.Keeping.{KeepsGood};
 ghost use Rattle.uf_store.specs.declared.store.Role.{Role as TheRole};
-ghost use Rattle.uf_tree.specs.Standing.{Standing};
+ghost use Rattle.uf_tree.specs.Standing.{Standing, Stands};
+ghost use Rattle.uf_tree.specs.Tree.{Entries};
+ghost use Rattle.uf_tree.specs.declared.profile.Profile.{Profile as TheProfile};
 ghost use Rattle.uf_top.specs.Causes.{HeadStays, IsBadIn, IsOfCommand, IsReady, IsSent, Prints, Shown, is_read, is_write};
-ghost use Rattle.uf_top.specs.Commands.{IsAccepted, command_in, of_command, only_hashes, only_reads, reads_input};
-ghost use Rattle.uf_top.specs.Endings.{AddsFor, EndsAs, IsNotReady, IsPrinted, IsReadyFor, IsRefusedBy, IsRule, IsSyncedFor, IsTextOf, KeepsRefusal, PrintsAt, SaysPlain, SyncsFor, Tells, has_details};
+ghost use Rattle.uf_top.specs.Commands.{HasInput, IsAccepted, command_in, is_idle, of_command, only_hashes, only_reads, reads_input};
+ghost use Rattle.uf_top.specs.Endings.{AddsFor, EndsAs, FindsAll, IsNotReady, IsPrinted, IsReadyFor, IsRefusedBy, IsRule, IsSyncedFor, IsTextOf, KeepsRefusal, PrintsAt, SaysPlain, SyncsFor, Tells, has_details};
 ghost use Rattle.uf_top.specs.Lines.{bad_block_line, clash_line, missing_line};
 ghost use Rattle.uf_top.specs.Reply.{Answers, reply, reply_to};
+ghost use Rattle.uf_top.specs.Statuses.{ended};
 ghost use Rattle.uf_top.specs.declared.types.Refusal.{Refusal as TheRefusal};
 ghost use Rattle.uf_top.specs.declared.types.Refusal.TheVariants as refusals;
 
@@ -44,13 +47,18 @@ pub fn run<S: Store, N: NameHash, I: Source, O: Sink, E: Sink, L: Ledger>(
     errors: &mut E,
     touches: &mut Steps<L>,
 ) -> Status
-    // Over a store that stands for a tree and an input that tells, with no count risen and no clash met, the answer is the
-    // reply, or want of memory.
-    ensures replies { (standing : Standing) (bytes : List ℕ) → TellsAs S.X.block32 N.name64 (S.seen store.old).told standing → I.left input.old ≡ Some bytes
-        → Stood (S.seen store.old).faults (S.seen store.new).faults → Stood (S.seen store.old).clashes (S.seen store.new).clashes
-        → Stood (I.faults input.old) (I.faults input.new) → Stood (O.faults output.old) (O.faults output.new)
+    // Over a store that stands for a tree and, where the command reads it, an input that tells, with no count risen and no
+    // clash met, the answer is the reply, or want of memory; whatever the input and the output do, no block is missing or bad.
+    ensures replies { (standing : Standing) (bytes : List ℕ) → TellsAs S.X.block32 N.name64 (S.seen store.old).told standing
+        → HasInput (command_in (map string_bytes words.now)) (I.left input.old) bytes (I.faults input.old) (I.faults input.new)
+        → Stood (S.seen store.old).faults (S.seen store.new).faults → Stood (S.seen store.old).clashes (S.seen store.new).clashes → Stood (O.faults output.old) (O.faults output.new)
         → EndsAs (λ line. IsSent line (E.holds errors.old) (E.holds errors.new) (E.faults errors.old) (E.faults errors.new))
         S.X.block32 N.name64 standing (reply_to S.X.block32 N.name64 (command_in (map string_bytes words.now)) standing bytes) result (O.holds output.old) (O.holds output.new) (S.seen store.new).told }
+    ensures whole { (standing : Standing) → TellsAs S.X.block32 N.name64 (S.seen store.old).told standing
+        → Stood (S.seen store.old).faults (S.seen store.new).faults → Stood (S.seen store.old).clashes (S.seen store.new).clashes → FindsAll result }
+
+    // Equal roots mean equal trees: what the store tells stands for one tree at most.
+    ensures one { (standing other : Standing) → TellsAs S.X.block32 N.name64 (S.seen store.new).told standing → TellsAs S.X.block32 N.name64 (S.seen store.new).told other → standing ≡ other }
 
     // Words that are no command, and texts that are no paths, are refused, and then nothing is done.
     ensures words { (why : TheRefusal) → command_in (map string_bytes words.now) ≡ Err why
@@ -72,7 +80,7 @@ pub fn run<S: Store, N: NameHash, I: Source, O: Sink, E: Sink, L: Ledger>(
     ensures read { result ≡ Status.ReadFault → Rose (I.faults input.old) (I.faults input.new) }
     ensures write { result ≡ Status.WriteFault → Rose (O.faults output.old) (O.faults output.new) }
     ensures not_ready { result ≡ Status.NotReady → IsNotReady (λ line. IsSent line (E.holds errors.old) (E.holds errors.new) (E.faults errors.old) (E.faults errors.new))
-        (command_in (map string_bytes words.now)) (S.seen store.old) (S.seen store.new) }
+        (command_in (map string_bytes words.now)) (S.seen store.old).told }
 
     // No fault is passed over.
     ensures faults_told { (S.seen store.old).faults < (S.seen store.new).faults → (result ≡ Status.StoreFault) ⊎ (result ≡ Status.Memory) }
@@ -85,10 +93,13 @@ pub fn run<S: Store, N: NameHash, I: Source, O: Sink, E: Sink, L: Ledger>(
     ensures prints { PrintsAt (IsTextOf S.X.block32 (S.seen store.old).told (command_in (map string_bytes words.now)) (I.left input.old)) result (O.holds output.old) (O.holds output.new) }
     ensures synced { result ≡ Status.Ok → IsSyncedFor (command_in (map string_bytes words.now)) (S.seen store.new).told }
 
-    // What is good stays, only a command that is done moves the Head, and some commands leave all as it was.
+    // What is good stays, only a command that is done moves the Head, and some commands leave all as it was; so does
+    // `files mkdir -p` of a directory that is there.
     ensures good { KeepsGood S.X.block32 (S.seen store.old).told (S.seen store.new).told }
     ensures head { result ≢ Status.Ok → head_in (S.seen store.new).told ≡ head_in (S.seen store.old).told }
     ensures told { of_command only_reads true (command_in (map string_bytes words.now)) ≡ true → (S.seen store.new).told ≡ (S.seen store.old).told }
+    ensures idle { (p : TheProfile) (es : Entries) → TellsAs S.X.block32 N.name64 (S.seen store.old).told (Stands p es) → Stood (S.seen store.old).faults (S.seen store.new).faults
+        → of_command (is_idle es) false (command_in (map string_bytes words.now)) ≡ true → (S.seen store.new).told ≡ (S.seen store.old).told }
     ensures input { of_command reads_input false (command_in (map string_bytes words.now)) ≡ false → input.new ≡ input.old }
     ensures touches { of_command only_hashes true (command_in (map string_bytes words.now)) ≡ true → touches.new ≡ touches.old }
 {
@@ -105,13 +116,15 @@ fn serve<S: Store, N: NameHash, I: Source, O: Sink, L: Ledger>(
     output: &mut O,
     touches: &mut Steps<L>,
 ) -> Result<Block, Refusal>
-    ensures answers { (standing : Standing) (bytes : List ℕ) → TellsAs S.X.block32 N.name64 (S.seen store.old).told standing → I.left input.old ≡ Some bytes
-        → Stood (S.seen store.old).faults (S.seen store.new).faults → Stood (S.seen store.old).clashes (S.seen store.new).clashes
-        → Stood (I.faults input.old) (I.faults input.new) → Stood (O.faults output.old) (O.faults output.new)
+    ensures answers { (standing : Standing) (bytes : List ℕ) → TellsAs S.X.block32 N.name64 (S.seen store.old).told standing
+        → HasInput (command_in (map string_bytes words.now)) (I.left input.old) bytes (I.faults input.old) (I.faults input.new)
+        → Stood (S.seen store.old).faults (S.seen store.new).faults → Stood (S.seen store.old).clashes (S.seen store.new).clashes → Stood (O.faults output.old) (O.faults output.new)
         → Answers S.X.block32 N.name64 standing (reply_to S.X.block32 N.name64 (command_in (map string_bytes words.now)) standing bytes) result (S.seen store.new).told }
+    ensures whole { (standing : Standing) → TellsAs S.X.block32 N.name64 (S.seen store.old).told standing
+        → Stood (S.seen store.old).faults (S.seen store.new).faults → Stood (S.seen store.old).clashes (S.seen store.new).clashes → FindsAll (ended result) }
     ensures words { KeepsRefusal (command_in (map string_bytes words.now)) result }
     ensures left { (why : TheRefusal) → command_in (map string_bytes words.now) ≡ Err why → store.new ≡ store.old }
-    ensures ready { IsReadyFor (S.seen store.old) (S.seen store.new) (command_in (map string_bytes words.now)) result }
+    ensures ready { IsReadyFor (S.seen store.old).told (command_in (map string_bytes words.now)) result }
     ensures adds { AddsFor S.X.block32 (S.seen store.old).told (command_in (map string_bytes words.now)) result (I.left input.old) (I.left input.new) }
     ensures prints { Prints (IsTextOf S.X.block32 (S.seen store.old).told (command_in (map string_bytes words.now)) (I.left input.old)) result (O.holds output.old) (O.holds output.new) }
     ensures synced { SyncsFor (command_in (map string_bytes words.now)) result (S.seen store.new).told }
@@ -121,6 +134,8 @@ fn serve<S: Store, N: NameHash, I: Source, O: Sink, L: Ledger>(
     ensures good { KeepsGood S.X.block32 (S.seen store.old).told (S.seen store.new).told }
     ensures head { HeadStays result (S.seen store.old).told (S.seen store.new).told }
     ensures told { of_command only_reads true (command_in (map string_bytes words.now)) ≡ true → (S.seen store.new).told ≡ (S.seen store.old).told }
+    ensures idle { (p : TheProfile) (es : Entries) → TellsAs S.X.block32 N.name64 (S.seen store.old).told (Stands p es) → Stood (S.seen store.old).faults (S.seen store.new).faults
+        → of_command (is_idle es) false (command_in (map string_bytes words.now)) ≡ true → (S.seen store.new).told ≡ (S.seen store.old).told }
     ensures input { of_command reads_input false (command_in (map string_bytes words.now)) ≡ false → input.new ≡ input.old }
     ensures touches { of_command only_hashes true (command_in (map string_bytes words.now)) ≡ true → touches.new ≡ touches.old }
 {
@@ -140,12 +155,14 @@ fn served<S: Store, N: NameHash, I: Source, O: Sink, L: Ledger>(
     touches: &mut Steps<L>,
 ) -> Result<Block, Refusal>
     requires { IsAccepted command.now }
-    ensures answers { (standing : Standing) (bytes : List ℕ) → TellsAs S.X.block32 N.name64 (S.seen store.old).told standing → I.left input.old ≡ Some bytes
-        → Stood (S.seen store.old).faults (S.seen store.new).faults → Stood (S.seen store.old).clashes (S.seen store.new).clashes
-        → Stood (I.faults input.old) (I.faults input.new) → Stood (O.faults output.old) (O.faults output.new)
+    ensures answers { (standing : Standing) (bytes : List ℕ) → TellsAs S.X.block32 N.name64 (S.seen store.old).told standing
+        → HasInput (Ok command.now) (I.left input.old) bytes (I.faults input.old) (I.faults input.new)
+        → Stood (S.seen store.old).faults (S.seen store.new).faults → Stood (S.seen store.old).clashes (S.seen store.new).clashes → Stood (O.faults output.old) (O.faults output.new)
         → Answers S.X.block32 N.name64 standing (reply_to S.X.block32 N.name64 (Ok command.now) standing bytes) result (S.seen store.new).told }
+    ensures whole { (standing : Standing) → TellsAs S.X.block32 N.name64 (S.seen store.old).told standing
+        → Stood (S.seen store.old).faults (S.seen store.new).faults → Stood (S.seen store.old).clashes (S.seen store.new).clashes → FindsAll (ended result) }
     ensures words { KeepsRefusal (Ok command.now) result }
-    ensures ready { IsReadyFor (S.seen store.old) (S.seen store.new) (Ok command.now) result }
+    ensures ready { IsReadyFor (S.seen store.old).told (Ok command.now) result }
     ensures adds { AddsFor S.X.block32 (S.seen store.old).told (Ok command.now) result (I.left input.old) (I.left input.new) }
     ensures prints { Prints (IsTextOf S.X.block32 (S.seen store.old).told (Ok command.now) (I.left input.old)) result (O.holds output.old) (O.holds output.new) }
     ensures synced { SyncsFor (Ok command.now) result (S.seen store.new).told }
@@ -155,6 +172,8 @@ fn served<S: Store, N: NameHash, I: Source, O: Sink, L: Ledger>(
     ensures good { KeepsGood S.X.block32 (S.seen store.old).told (S.seen store.new).told }
     ensures head { HeadStays result (S.seen store.old).told (S.seen store.new).told }
     ensures told { only_reads command.now ≡ true → (S.seen store.new).told ≡ (S.seen store.old).told }
+    ensures idle { (p : TheProfile) (es : Entries) → TellsAs S.X.block32 N.name64 (S.seen store.old).told (Stands p es) → Stood (S.seen store.old).faults (S.seen store.new).faults
+        → is_idle es command.now ≡ true → (S.seen store.new).told ≡ (S.seen store.old).told }
     ensures input { reads_input command.now ≡ false → input.new ≡ input.old }
     ensures touches { only_hashes command.now ≡ true → touches.new ≡ touches.old }
 {
@@ -173,10 +192,13 @@ fn work<S: Store, N: NameHash, I: Source, L: Ledger>(
     touches: &mut Steps<L>,
 ) -> Result<Block, Refusal>
     requires { IsAccepted command.now }
-    ensures answers { (standing : Standing) (bytes : List ℕ) → TellsAs S.X.block32 N.name64 (S.seen store.old).told standing → I.left input.old ≡ Some bytes
-        → Stood (S.seen store.old).faults (S.seen store.new).faults → Stood (S.seen store.old).clashes (S.seen store.new).clashes → Stood (I.faults input.old) (I.faults input.new)
+    ensures answers { (standing : Standing) (bytes : List ℕ) → TellsAs S.X.block32 N.name64 (S.seen store.old).told standing
+        → HasInput (Ok command.now) (I.left input.old) bytes (I.faults input.old) (I.faults input.new)
+        → Stood (S.seen store.old).faults (S.seen store.new).faults → Stood (S.seen store.old).clashes (S.seen store.new).clashes
         → Answers S.X.block32 N.name64 standing (reply S.X.block32 N.name64 command.now standing bytes) result (S.seen store.new).told }
-    ensures ready { IsReady (S.seen store.old) (S.seen store.new) command.now result }
+    ensures whole { (standing : Standing) → TellsAs S.X.block32 N.name64 (S.seen store.old).told standing
+        → Stood (S.seen store.old).faults (S.seen store.new).faults → Stood (S.seen store.old).clashes (S.seen store.new).clashes → FindsAll (ended result) }
+    ensures ready { IsReady (S.seen store.old).told command.now result }
     ensures work { IsOfCommand command.now result }
     ensures adds { AddsFor S.X.block32 (S.seen store.old).told (Ok command.now) result (I.left input.old) (I.left input.new) }
     ensures synced { SyncsFor (Ok command.now) result (S.seen store.new).told }
@@ -185,6 +207,8 @@ fn work<S: Store, N: NameHash, I: Source, L: Ledger>(
     ensures good { KeepsGood S.X.block32 (S.seen store.old).told (S.seen store.new).told }
     ensures head { HeadStays result (S.seen store.old).told (S.seen store.new).told }
     ensures told { only_reads command.now ≡ true → (S.seen store.new).told ≡ (S.seen store.old).told }
+    ensures idle { (p : TheProfile) (es : Entries) → TellsAs S.X.block32 N.name64 (S.seen store.old).told (Stands p es) → Stood (S.seen store.old).faults (S.seen store.new).faults
+        → is_idle es command.now ≡ true → (S.seen store.new).told ≡ (S.seen store.old).told }
     ensures input { reads_input command.now ≡ false → input.new ≡ input.old }
     ensures touches { only_hashes command.now ≡ true → touches.new ≡ touches.old }
 {

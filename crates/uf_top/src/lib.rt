@@ -17,3 +17,5 @@ pub use types::{Ask, Command, Edit, Refusal};
 
 #[cfg(test)]
 mod tests;
+#[cfg(test)]
+mod tree_tests;

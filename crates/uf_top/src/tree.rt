@@ -1,20 +1,23 @@
 // The commands on the tree that the Head names.
-ghost use Rattle.std.specs.Prelude.{◌≡◌, [], false, true, IfOk, IsTrue, Some, None};
+ghost use Rattle.std.specs.Prelude.{◌≡◌, [], false, true, IfOk, IsTrue, Ok, Some, None};
 ghost use Rattle.uf_edge.specs.Counts.{Stood};
-ghost use Rattle.uf_mfs.specs.Answers.{Moves, Shown as ShownByTree};
+ghost use Rattle.uf_mfs.specs.Answers.{MovesTo, ShownInTree};
 ghost use Rattle.uf_mfs.specs.Bad.{IsBad};
-ghost use Rattle.uf_mfs.specs.Standing.{IsMfs, StandsAt, TellsAs};
+ghost use Rattle.uf_mfs.specs.Plain.{at as at_names};
+ghost use Rattle.uf_mfs.specs.Standing.{IsMfs, StandsAt, TellsAs, head_in};
 ghost use Rattle.uf_store.specs.Keeping.{KeepsGood, SavesOnly};
+ghost use Rattle.uf_tree.specs.Heads.{head_text};
 ghost use Rattle.uf_tree.specs.Profiles.{is_profile};
 ghost use Rattle.uf_tree.specs.Standing.{Standing, Stands};
-ghost use Rattle.uf_tree.specs.Tree.{Entries};
+ghost use Rattle.uf_tree.specs.Tree.{Dir, Entries};
 ghost use Rattle.uf_tree.specs.declared.profile.Profile.{Profile as TheProfile};
-ghost use Rattle.uf_top.specs.Causes.{CommitsTo, HeadStays, IsBadIn, IsMade, IsOfAt, IsOfInit, IsOfTree, IsReady, Shown, refused_in_tree, refused_opening};
-ghost use Rattle.uf_top.specs.Commands.{only_looks};
+ghost use Rattle.uf_top.specs.Causes.{CommitsTo, HeadStays, IsBadIn, IsMade, IsOfAt, IsOfInit, IsOfTree, IsOpeningFault, IsReady, IsTreeFault, RefusesInTree, RefusesOpening, Shown};
+ghost use Rattle.uf_top.specs.Commands.{is_idle, only_looks};
 ghost use Rattle.uf_top.specs.Intake.{ShownIn};
 ghost use Rattle.uf_top.specs.Reply.{Answers, edited_by, in_tree as in_the_tree, init_reply, tree_reply};
 ghost use Rattle.uf_top.specs.declared.types.Ask.TheVariants as asks;
 ghost use Rattle.uf_top.specs.declared.types.Command.TheVariants as commands;
+ghost use Rattle.uf_top.specs.declared.types.Edit.TheVariants as edits;
 
 use crate::rows::{name_lines, row_lines, stat_text};
 use crate::{Ask, Edit, Refusal};
@@ -39,7 +42,7 @@ pub fn init<S: Store, N: NameHash, L: Ledger>(
         → Stood (S.seen store.old).faults (S.seen store.new).faults → Stood (S.seen store.old).clashes (S.seen store.new).clashes
         → Answers S.X.block32 N.name64 standing (init_reply S.X.block32 N.name64 profile standing) result (S.seen store.new).told }
     ensures nothing { IfOk result (λ text. text ≡ []) }
-    ensures ready { IsReady (S.seen store.old) (S.seen store.new) (commands.Init profile) result }
+    ensures ready { IsReady (S.seen store.old).told (commands.Init profile) result }
     ensures work { IsOfInit result }
     ensures cause { ShownIn S.X.block32 result (S.seen store.old) (S.seen store.new) }
     ensures good { KeepsGood S.X.block32 (S.seen store.old).told (S.seen store.new).told }
@@ -65,12 +68,14 @@ pub fn at<S: Store, N: NameHash, L: Ledger>(
     ensures answers { (standing : Standing) → TellsAs S.X.block32 N.name64 (S.seen store.old).told standing
         → Stood (S.seen store.old).faults (S.seen store.new).faults → Stood (S.seen store.old).clashes (S.seen store.new).clashes
         → Answers S.X.block32 N.name64 standing (in_the_tree (tree_reply S.X.block32 N.name64 ask path.now.names) standing) result (S.seen store.new).told }
-    ensures ready { IsReady (S.seen store.old) (S.seen store.new) (commands.At ask path.now) result }
+    ensures ready { IsReady (S.seen store.old).told (commands.At ask path.now) result }
     ensures work { IsOfAt result }
     ensures cause { Shown S.X.block32 (IsBadIn N.name64 (S.seen store.old).told) result (S.seen store.old) (S.seen store.new) }
     ensures good { KeepsGood S.X.block32 (S.seen store.old).told (S.seen store.new).told }
     ensures head { HeadStays result (S.seen store.old).told (S.seen store.new).told }
     ensures told { only_looks ask ≡ true → (S.seen store.new).told ≡ (S.seen store.old).told }
+    ensures idle { (p : TheProfile) (es : Entries) → TellsAs S.X.block32 N.name64 (S.seen store.old).told (Stands p es) → Stood (S.seen store.old).faults (S.seen store.new).faults
+        → is_idle es (commands.At ask path.now) ≡ true → (S.seen store.new).told ≡ (S.seen store.old).told }
 {
     match Mfs::from_store::<S, N, L>(alloc, store, touches) {
         Err(fault) => Err(opening(fault)),
@@ -96,6 +101,8 @@ fn in_tree<S: Store, N: NameHash, L: Ledger>(
     ensures good { KeepsGood S.X.block32 (S.seen store.old).told (S.seen store.new).told }
     ensures head { HeadStays result (S.seen store.old).told (S.seen store.new).told }
     ensures told { only_looks ask ≡ true → (S.seen store.new).told ≡ (S.seen store.old).told }
+    ensures idle { (p : TheProfile) (es : Entries) → StandsAt S.X.block32 N.name64 (S.seen store.old).told tree p es → TellsAs S.X.block32 N.name64 (S.seen store.old).told (Stands p es)
+        → Stood (S.seen store.old).faults (S.seen store.new).faults → is_idle es (commands.At ask path.now) ≡ true → (S.seen store.new).told ≡ (S.seen store.old).told }
 {
     match ask {
         Ask::Ls { long: false } => names_at::<S, N, L>(alloc, &tree, path, store, touches),
@@ -191,6 +198,8 @@ fn edit_at<S: Store, N: NameHash, L: Ledger>(
     ensures cause { Shown S.X.block32 (IsBad N.name64 (Some tree.profile)) result (S.seen store.old) (S.seen store.new) }
     ensures good { KeepsGood S.X.block32 (S.seen store.old).told (S.seen store.new).told }
     ensures head { HeadStays result (S.seen store.old).told (S.seen store.new).told }
+    ensures idle { (p : TheProfile) (es : Entries) → StandsAt S.X.block32 N.name64 (S.seen store.old).told tree p es → TellsAs S.X.block32 N.name64 (S.seen store.old).told (Stands p es)
+        → Stood (S.seen store.old).faults (S.seen store.new).faults → is_idle es (commands.At (asks.Edit edit) path.now) ≡ true → (S.seen store.new).told ≡ (S.seen store.old).told }
 {
     let mut tree = tree;
     match edited::<S, N, L>(alloc, &mut tree, edit, path, store, touches) {
@@ -211,9 +220,11 @@ fn edited<S: Store, N: NameHash, L: Ledger>(
     requires { IsMfs tree.old }
     ensures answer { (p : TheProfile) (es : Entries) → StandsAt S.X.block32 N.name64 (S.seen store.old).told tree.old p es
         → Stood (S.seen store.old).faults (S.seen store.new).faults → Stood (S.seen store.old).clashes (S.seen store.new).clashes
-        → Moves S.X.block32 N.name64 (S.seen store.new).told p path.now.names tree.new (edited_by edit path.now.names es) result }
+        → MovesTo S.X.block32 N.name64 (S.seen store.new).told p path.now.names tree.new (edited_by S.X.block32 N.name64 edit path.now.names p es) result }
+    ensures there { (p : TheProfile) (es below : Entries) → StandsAt S.X.block32 N.name64 (S.seen store.old).told tree.old p es → Stood (S.seen store.old).faults (S.seen store.new).faults
+        → edit ≡ edits.Mkdir true → at_names 0 path.now.names (Dir es) ≡ Ok (Dir below) → ((S.seen store.new).told ≡ (S.seen store.old).told) × (tree.new ≡ tree.old) }
     ensures mfs { IsMfs tree.new }
-    ensures cause { ShownByTree S.X.block32 (IsBad N.name64 (Some tree.old.profile)) result (S.seen store.old) (S.seen store.new) }
+    ensures cause { ShownInTree S.X.block32 (IsBad N.name64 (Some tree.old.profile)) result (S.seen store.old) (S.seen store.new) }
     ensures good { KeepsGood S.X.block32 (S.seen store.old).told (S.seen store.new).told }
     ensures saves { SavesOnly (S.seen store.old).told (S.seen store.new).told }
 {
@@ -237,6 +248,7 @@ fn committed<S: Store, N: NameHash, L: Ledger>(
     ensures cause { ShownIn S.X.block32 result (S.seen store.old) (S.seen store.new) }
     ensures good { KeepsGood S.X.block32 (S.seen store.old).told (S.seen store.new).told }
     ensures head { HeadStays result (S.seen store.old).told (S.seen store.new).told }
+    ensures idle { head_in (S.seen store.old).told ≡ Some (head_text tree.profile tree.root.cid) → (S.seen store.new).told ≡ (S.seen store.old).told }
 {
     let mut tree = tree;
     match tree.commit::<S, N, L>(alloc, store, touches) {
@@ -247,23 +259,25 @@ fn committed<S: Store, N: NameHash, L: Ledger>(
 
 // The fault of a call that opens a tree as a refusal. No rule refuses that, and nothing is printed there.
 fn opening(fault: MfsFault) -> Refusal
-    ensures { result ≡ refused_opening fault }
+    requires { IsOpeningFault fault }
+    ensures { RefusesOpening fault result }
 {
     match fault {
         MfsFault::Ready(why) => Refusal::Ready(why),
         MfsFault::Store(fault) => Refusal::Store(fault),
-        MfsFault::Rule(_) | MfsFault::Sink => Refusal::Store(StoreFault::Memory),
+        MfsFault::Rule(_) | MfsFault::Sink => unreachable!(),
     }
 }
 
 // The fault of a call on an opened tree as a refusal. Such a tree is ready, and nothing is printed there.
 fn refusal(fault: MfsFault) -> Refusal
-    ensures { result ≡ refused_in_tree fault }
+    requires { IsTreeFault fault }
+    ensures { RefusesInTree fault result }
 {
     match fault {
         MfsFault::Rule(rule) => Refusal::Rule(rule),
         MfsFault::Store(fault) => Refusal::Store(fault),
-        MfsFault::Ready(_) | MfsFault::Sink => Refusal::Store(StoreFault::Memory),
+        MfsFault::Ready(_) | MfsFault::Sink => unreachable!(),
     }
 }
 

@@ -18,7 +18,7 @@ pub returns-in-Err-clause-adds : goal.returns-in-Err-clause-adds
 returns-in-Err-clause-adds g c = adds-read g.S.X.BlockHash.block32 false (g.S.Store.seen c.args.store.now).told c.in-Err.why (g.I.Source.left c.args.input.now) (g.I.Source.left c.args.input.now) c.in-Err.ensures.read
 
 pub returns-in-Err-clause-ready : goal.returns-in-Err-clause-ready
-returns-in-Err-clause-ready g c = read-ready false (g.S.Store.seen c.args.store.now) (g.S.Store.seen c.head_profile.new.store) c.in-Err.why c.in-Err.ensures.read
+returns-in-Err-clause-ready g c = read-ready false (g.S.Store.seen c.args.store.now).told c.in-Err.why c.in-Err.ensures.read
 
 pub returns-in-Err-clause-work : goal.returns-in-Err-clause-work
 returns-in-Err-clause-work g c = read-work c.in-Err.why (g.S.Store.seen c.args.store.now).told c.in-Err.ensures.read
@@ -46,7 +46,7 @@ returns-in-Ok-Some-clause-adds g c =
     adds-of g.S.X.BlockHash.block32 false (g.S.Store.seen c.args.store.now).told (g.S.Store.seen c.add_by.new.store).told c.in-Ok-Some.profile c.add_by.result (g.I.Source.left c.args.input.now) (g.I.Source.left c.add_by.new.input) (by-told (g.S.Store.seen c.args.store.now).told false c.in-Ok-Some.profile (subst (λ found. IfSome (g.S.Store.seen c.args.store.now).told (λ t. IsProfileIn found t.notes.head)) c.in-Ok-Some.field-0-is c.in-Ok-Some.ensures.read)) c.add_by.ensures.row
 
 pub returns-in-Ok-Some-clause-ready : goal.returns-in-Ok-Some-clause-ready
-returns-in-Ok-Some-clause-ready g c = row-ready g.S.X.BlockHash.block32 false (g.S.Store.seen c.args.store.now) (g.S.Store.seen c.add_by.new.store) (g.S.Store.seen c.add_by.new.store).told c.in-Ok-Some.profile c.add_by.result (g.I.Source.left c.args.input.now) (g.I.Source.left c.add_by.new.input) c.add_by.ensures.row
+returns-in-Ok-Some-clause-ready g c = row-ready g.S.X.BlockHash.block32 false (g.S.Store.seen c.args.store.now).told (g.S.Store.seen c.add_by.new.store).told c.in-Ok-Some.profile c.add_by.result (g.I.Source.left c.args.input.now) (g.I.Source.left c.add_by.new.input) c.add_by.ensures.row
 
 pub returns-in-Ok-Some-clause-work : goal.returns-in-Ok-Some-clause-work
 returns-in-Ok-Some-clause-work g c = row-work g.S.X.BlockHash.block32 (g.S.Store.seen c.add_by.new.store).told c.in-Ok-Some.profile c.add_by.result (g.I.Source.left c.args.input.now) (g.I.Source.left c.add_by.new.input) c.add_by.ensures.row

@@ -18,7 +18,7 @@ pub returns-in-Err-clause-adds : goal.returns-in-Err-clause-adds
 returns-in-Err-clause-adds g c = adds-read g.S.X.BlockHash.block32 true (g.S.Store.seen c.args.store.now).told c.in-Err.why (g.I.Source.left c.args.input.now) (g.I.Source.left c.args.input.now) c.in-Err.ensures.read
 
 pub returns-in-Err-clause-ready : goal.returns-in-Err-clause-ready
-returns-in-Err-clause-ready g c = read-ready true (g.S.Store.seen c.args.store.now) (g.S.Store.seen c.head_profile.new.store) c.in-Err.why c.in-Err.ensures.read
+returns-in-Err-clause-ready g c = read-ready true (g.S.Store.seen c.args.store.now).told c.in-Err.why c.in-Err.ensures.read
 
 pub returns-in-Err-clause-work : goal.returns-in-Err-clause-work
 returns-in-Err-clause-work g c = read-work c.in-Err.why (g.S.Store.seen c.args.store.now).told c.in-Err.ensures.read
@@ -40,7 +40,7 @@ returns-in-Ok-clause-adds g c =
     (subst (λ p. IfSome told (λ t. AddsBy true t.notes.head p)) (sym c.or_usual.ensures) (by-found told c.in-Ok.found c.in-Ok.ensures.read)) c.hash_by.ensures.row
 
 pub returns-in-Ok-clause-ready : goal.returns-in-Ok-clause-ready
-returns-in-Ok-clause-ready g c = row-ready g.S.X.BlockHash.block32 true (g.S.Store.seen c.args.store.now) (g.S.Store.seen c.head_profile.new.store) None c.or_usual.result c.hash_by.result (g.I.Source.left c.args.input.now) (g.I.Source.left c.hash_by.new.input) c.hash_by.ensures.row
+returns-in-Ok-clause-ready g c = row-ready g.S.X.BlockHash.block32 true (g.S.Store.seen c.args.store.now).told None c.or_usual.result c.hash_by.result (g.I.Source.left c.args.input.now) (g.I.Source.left c.hash_by.new.input) c.hash_by.ensures.row
 
 pub returns-in-Ok-clause-work : goal.returns-in-Ok-clause-work
 returns-in-Ok-clause-work g c = row-work g.S.X.BlockHash.block32 None c.or_usual.result c.hash_by.result (g.I.Source.left c.args.input.now) (g.I.Source.left c.hash_by.new.input) c.hash_by.ensures.row

@@ -6,18 +6,26 @@ use Rattle.uf_top.specs.Endings.{IsTextOf, KeepsRefusal}
 use Rattle.uf_top.specs.Reply.{reply_to}
 use Rattle.uf_words.specs.Commands.{command_of}
 use Rattle.uf_top.proofs.Asked.{words-only}
-use Rattle.uf_top.proofs.Standings.{stands-kept}
+use Rattle.uf_top.proofs.Finding.{whole-told}
+use Rattle.uf_top.proofs.Standings.{stands-kept, stands-one}
 use Rattle.uf_top.proofs.Telling.{bad-told, clash-told, clashes-told, ends-told, failure-told, faults-told, head-told, is-refused, missing-told, prints-told, read-rose, read-told, ready-told, rule-told, says-plain, synced-told, usage-told, write-rose, write-told}
 use Rattle.uf_top.proofs.command.run.Goals as goal
 
 pub returns-clause-replies : goal.returns-clause-replies
-returns-clause-replies g c = λ s bytes stands left faults clashes read write.
+returns-clause-replies g c = λ s bytes stands input faults clashes write.
     let X = g.S.X.BlockHash.block32 in let N = g.N.NameHash.name64 in
     let asked = command_in (map string_bytes c.args.words.now) in let r = c.serve-ends.result in let e = c.serve-ends.ensures in
     let a = g.S.Store.seen c.args.store.now in let b = g.S.Store.seen c.serve-ends.new.store in
     ends-told (λ line. IsSent line (g.E.Sink.holds c.args.errors.now) (g.E.Sink.holds c.told.new.errors) (g.E.Sink.faults c.args.errors.now) (g.E.Sink.faults c.told.new.errors)) X N (IsTextOf X a.told asked (g.I.Source.left c.args.input.now)) s (reply_to X N asked s bytes) r c.told.result (g.O.Sink.holds c.args.output.now) (g.O.Sink.holds c.serve-ends.new.output) b.told (g.O.Sink.faults c.args.output.now) (g.O.Sink.faults c.serve-ends.new.output)
-    c.told.ensures (e.answers s bytes stands left faults clashes read write) e.prints e.writes write
+    c.told.ensures (e.answers s bytes stands input faults clashes write) e.prints e.writes write
     (λ why is. stands-kept X N a.told b.told s e.good (subst (λ r. HeadStays r a.told b.told) is e.head) stands)
+
+pub returns-clause-whole : goal.returns-clause-whole
+returns-clause-whole g c = λ s stands faults clashes. whole-told (λ line. IsSent line (g.E.Sink.holds c.args.errors.now) (g.E.Sink.holds c.told.new.errors) (g.E.Sink.faults c.args.errors.now) (g.E.Sink.faults c.told.new.errors)) c.serve-ends.result c.told.result c.told.ensures (c.serve-ends.ensures.whole s stands faults clashes)
+
+pub returns-clause-one : goal.returns-clause-one
+returns-clause-one g c = λ s r stands other.
+    stands-one g.S.X.BlockHash.block32 g.N.NameHash.name64 (record { size = g.met.S.X.BlockHash.size; are_bytes = g.met.S.X.BlockHash.are_bytes }) g.met.N.NameHash.fits (g.S.Store.seen c.serve-ends.new.store).told s r stands other
 
 pub returns-clause-words : goal.returns-clause-words
 returns-clause-words g c = λ why is. is-refused (λ line. IsSent line (g.E.Sink.holds c.args.errors.now) (g.E.Sink.holds c.told.new.errors) (g.E.Sink.faults c.args.errors.now) (g.E.Sink.faults c.told.new.errors)) c.serve-ends.result c.told.result why c.told.ensures (subst (λ asked. KeepsRefusal asked c.serve-ends.result) is c.serve-ends.ensures.words)

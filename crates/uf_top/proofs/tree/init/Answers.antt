@@ -1,35 +1,31 @@
-use Rattle.std.proofs.Common.{List, ℕ, sym, subst, Err}
+use Rattle.std.proofs.Common.{List, ℕ}
 use Rattle.uf_mfs.specs.declared.types.Mfs.{Mfs}
-use Rattle.uf_top.specs.Causes.{IsOfInit, IsReady}
-use Rattle.uf_top.specs.Intake.{ShownIn}
-use Rattle.uf_top.specs.Reply.{Answers, init_reply}
-use Rattle.uf_top.specs.declared.types.Command.TheVariants.{Init}
-use Rattle.uf_top.proofs.Shows.{ShownIn-opening, init-work}
+use Rattle.uf_store.specs.Faults.{NoneIsBad}
+use Rattle.uf_top.proofs.Shows.{ShownIn-opening, init-work, opening-fault}
 use Rattle.uf_top.proofs.Standings.{stands-kept}
 use Rattle.uf_top.proofs.InTree.{init-ready, inits-err, inits-ok, stays-nothing}
 use Rattle.uf_top.proofs.tree.init.Goals as goal
+
+pub opening-requires : goal.opening-requires
+opening-requires g c = opening-fault Mfs g.S.X.BlockHash.block32 NoneIsBad c.in-Err.fault (g.S.Store.seen c.args.store.now) (g.S.Store.seen c.init.new.store) c.in-Err.ensures.cause
 
 pub returns-in-Err-clause-answers : goal.returns-in-Err-clause-answers
 returns-in-Err-clause-answers g c = λ s stands faults clashes.
     let X = g.S.X.BlockHash.block32 in let N = g.N.NameHash.name64 in let p = c.args.profile in
     let a = g.S.Store.seen c.args.store.now in let b = g.S.Store.seen c.init.new.store in
-    subst (λ w. Answers X N s (init_reply X N p s) (Err w) b.told) (sym c.opening.ensures)
-    (inits-err X N _ _ s p a.told c.in-Err.fault b.told faults clashes stands c.in-Err.ensures.answer (stands-kept X N a.told b.told s c.in-Err.ensures.good c.in-Err.ensures.head stands))
+    inits-err X N _ _ s p a.told c.in-Err.fault c.opening.result b.told c.opening.ensures faults clashes stands c.in-Err.ensures.answer (stands-kept X N a.told b.told s c.in-Err.ensures.good c.in-Err.ensures.head stands)
 
 pub returns-in-Err-clause-ready : goal.returns-in-Err-clause-ready
-returns-in-Err-clause-ready g c =
-    let a = g.S.Store.seen c.args.store.now in let b = g.S.Store.seen c.init.new.store in
-    subst (λ w. IsReady a b (Init c.args.profile) (Err w)) (sym c.opening.ensures)
-    (init-ready g.S.X.BlockHash.block32 g.N.NameHash.name64 a b c.args.profile c.in-Err.fault c.in-Err.ensures.answer)
+returns-in-Err-clause-ready g c = init-ready (g.S.Store.seen c.args.store.now).told c.args.profile c.in-Err.fault c.opening.result c.opening.ensures c.in-Err.ensures.finds
 
 pub returns-in-Err-clause-work : goal.returns-in-Err-clause-work
-returns-in-Err-clause-work g c = subst (λ w. IsOfInit {A = List ℕ} (Err w)) (sym c.opening.ensures) (init-work (List ℕ) c.in-Err.fault)
+returns-in-Err-clause-work g c = init-work (List ℕ) c.in-Err.fault c.opening.result c.opening.ensures
 
 pub returns-in-Err-clause-cause : goal.returns-in-Err-clause-cause
 returns-in-Err-clause-cause g c =
     let X = g.S.X.BlockHash.block32 in
     let a = g.S.Store.seen c.args.store.now in let b = g.S.Store.seen c.init.new.store in
-    subst (λ w. ShownIn {A = List ℕ} X (Err w) a b) (sym c.opening.ensures) (ShownIn-opening Mfs (List ℕ) X c.in-Err.fault a b c.in-Err.ensures.cause)
+    ShownIn-opening Mfs (List ℕ) X c.in-Err.fault c.opening.result a b c.opening.ensures c.in-Err.ensures.cause
 
 pub returns-in-Ok-clause-answers : goal.returns-in-Ok-clause-answers
 returns-in-Ok-clause-answers g c = λ s stands faults clashes.

@@ -1,4 +1,4 @@
-use Rattle.std.proofs.Common.{◌≡◌, true, List, ℕ, refl, sym, subst, ap, None, Some, Err}
+use Rattle.std.proofs.Common.{◌≡◌, true, List, ℕ, refl, subst, ap, None, Some}
 use Rattle.std.specs.Prelude.{IfOk}
 use Rattle.uf_cid.specs.declared.bytes.Memory.{Memory}
 use Rattle.uf_mfs.specs.Bad.{IsBad}
@@ -8,33 +8,32 @@ use Rattle.std.specs.List.{flat_map}
 use Rattle.uf_mfs.specs.Replies.{rows_at}
 use Rattle.uf_mfs.specs.declared.types.Row.{Row}
 use Rattle.uf_top.specs.Lines.{row_line}
-use Rattle.uf_top.specs.Reply.{Answers, listed, looked, tree_reply}
-use Rattle.uf_top.specs.declared.types.Ask.TheVariants.{Ls}
+use Rattle.uf_top.specs.Reply.{listed, looked}
 use Rattle.uf_tree.specs.Standing.{Stands}
 use Rattle.uf_tree.specs.Tree.{Tree, Dir}
-use Rattle.uf_top.specs.Causes.{IsOfTree, Shown}
-use Rattle.uf_top.proofs.Shows.{Shown-tree, bad-more, in-tree-work, made-shown, made-work, same-good}
+use Rattle.uf_top.proofs.Shows.{Shown-tree, bad-more, in-tree-work, made-shown, made-work, same-good, tree-fault}
 use Rattle.uf_top.proofs.Standings.{stands-same}
 use Rattle.uf_top.proofs.InTree.{fault-answers, look-answers, stays-same}
 use Rattle.uf_top.proofs.tree.rows_at.Goals as goal
+
+pub refusal-requires : goal.refusal-requires
+refusal-requires g c = tree-fault (List Row) g.S.X.BlockHash.block32 (IsBad g.N.NameHash.name64 None) c.in-Err.fault (g.S.Store.seen c.args.store.now) (g.S.Store.seen c.ls.new.store) c.in-Err.ensures.cause
 
 pub returns-in-Err-clause-answers : goal.returns-in-Err-clause-answers
 returns-in-Err-clause-answers g c = λ p es at_tree stands faults.
     let X = g.S.X.BlockHash.block32 in let N = g.N.NameHash.name64 in let names = c.args.path.now.names in
     let a = g.S.Store.seen c.args.store.now in let b = g.S.Store.seen c.ls.new.store in
-    subst (λ w. Answers X N (Stands p es) (tree_reply X N (Ls true) names p es) (Err w) b.told) (sym c.refusal.ensures)
-    (fault-answers X N Tree (List Row) (λ t found. found ≡ rows_at X N p names t) (Stands p es) names (at 0 names (Dir es)) (looked (Stands p es) names (listed X N true p names)) c.in-Err.fault b.told
-    (λ why. refl) (c.in-Err.ensures.answer p es at_tree faults) (stands-same X N a.told b.told (Stands p es) c.in-Err.ensures.told stands))
+    fault-answers X N Tree (List Row) (λ t found. found ≡ rows_at X N p names t) (Stands p es) names (at 0 names (Dir es)) (looked (Stands p es) names (listed X N true p names)) c.in-Err.fault c.refusal.result b.told
+    (λ why. refl) c.refusal.ensures (c.in-Err.ensures.answer p es at_tree faults) (stands-same X N a.told b.told (Stands p es) c.in-Err.ensures.told stands)
 
 pub returns-in-Err-clause-work : goal.returns-in-Err-clause-work
-returns-in-Err-clause-work g c = subst (λ w. IsOfTree {A = List ℕ} (Err w)) (sym c.refusal.ensures) (in-tree-work (List ℕ) c.in-Err.fault)
+returns-in-Err-clause-work g c = in-tree-work (List ℕ) c.in-Err.fault c.refusal.result c.refusal.ensures
 
 pub returns-in-Err-clause-cause : goal.returns-in-Err-clause-cause
 returns-in-Err-clause-cause g c =
     let X = g.S.X.BlockHash.block32 in let N = g.N.NameHash.name64 in let p = c.args.tree.now.profile in
     let a = g.S.Store.seen c.args.store.now in let b = g.S.Store.seen c.ls.new.store in
-    subst (λ w. Shown X (IsBad N (Some p)) (Err w) a b) (sym c.refusal.ensures)
-    (Shown-tree (List Row) X (IsBad N None) (IsBad N (Some p)) (bad-more N p) c.in-Err.fault a b c.in-Err.ensures.cause)
+    Shown-tree (List Row) X (IsBad N None) (IsBad N (Some p)) (bad-more N p) c.in-Err.fault c.refusal.result a b c.refusal.ensures c.in-Err.ensures.cause
 
 pub returns-in-Err-clause-good : goal.returns-in-Err-clause-good
 returns-in-Err-clause-good g c = same-good g.S.X.BlockHash.block32 _ _ c.in-Err.ensures.told
