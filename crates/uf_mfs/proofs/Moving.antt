@@ -6,7 +6,6 @@ use Rattle.std.specs.Option.{option_map}
 use Rattle.std.specs.List.{AllByRecursion}
 use Rattle.std.specs.Ordering.{eq_by_cmp}
 use Rattle.std.specs.FinMap.Entries.{find, put, where_key, by_order, is_sorted, find-put, is_sorted-put, is_sorted-where_key, same_entries}
-use Rattle.uf_cid.specs.declared.cid.Codec.TheVariants.{DagPb}
 use Rattle.uf_edge.specs.Counts.{Stood}
 use Rattle.uf_shard.specs.declared.fault.DirFault.{DirFault}
 use Rattle.uf_shard.specs.declared.fault.DirFault.TheVariants as dir
@@ -34,21 +33,20 @@ use Rattle.uf_sizes.proofs.Removed.{removed-plan}
 use Rattle.uf_dir.specs.Planned.{IsPlanned, dir_entry, entry_without, own_blocks}
 use Rattle.uf_mfs.specs.declared.types.Change.{Change}
 use Rattle.uf_mfs.specs.declared.types.Change.TheVariants.{Make, Put, Remove}
-use Rattle.uf_mfs.specs.declared.types.Mfs.{Mfs}
 use Rattle.uf_mfs.specs.declared.types.Refused.{Refused}
 use Rattle.uf_mfs.specs.declared.types.Refused.TheVariants as why
 use Rattle.uf_mfs.specs.declared.types.Stop.{Stop}
 use Rattle.uf_mfs.specs.declared.types.Stop.TheVariants as stop
 use Rattle.uf_mfs.specs.declared.types.Thing.{Thing}
-use Rattle.uf_mfs.specs.Answers.{Answers, Calm, Decides, Edits, Meets, MovesTo, Says, allowed, refused_by, stop_of, unless}
+use Rattle.uf_mfs.specs.Answers.{Calm, Decides, Edits, Meets, Says, allowed, refused_by, stop_of, unless}
 use Rattle.uf_mfs.specs.Plain.{and_then, as_removable, at, change, child, done, is_folder_at, made, made_all, may_be, or_new, with_child, with_folder, without_child}
-use Rattle.uf_mfs.specs.Standing.{IsEntry, IsMeant, IsMember, StandsAt, TellsHeld}
+use Rattle.uf_mfs.specs.Standing.{IsEntry, IsMeant, IsMember, TellsHeld}
 use Rattle.uf_mfs.proofs.Hinge.{AllSound, IsDir, IsSound, all-later, as-dir, each-find, each-put, each-where, entry-later, find-child, from-dir, members-sound, own-refusal, refused-above}
 use Rattle.uf_mfs.proofs.Holding.{loss-fault, tells-after, tells-agrees}
 use Rattle.uf_mfs.proofs.Rooting.{equal_of}
 use Rattle.uf_mfs.proofs.Meeting.{meets-memory, value-err}
 use Rattle.uf_mfs.proofs.Planning.{is-planned, not-big, own-told}
-use Rattle.uf_mfs.proofs.Seeing.{reads-says, root-codec}
+use Rattle.uf_mfs.proofs.Seeing.{reads-says}
 
 -- ---- counts
 
@@ -353,19 +351,3 @@ all-there led (name ∷ names) es tree h = by (λ fs deeper found. all-there (le
 pub made-true : (names : List (List ℕ)) (es : Entries) → made true names es ≡ made_all 0 names es
 made-true [] es = refl
 made-true (name ∷ names) es = refl
-
--- ---- the tree in memory
-
--- it moves to the edited root
-pub moves-ok : (X : List ℕ → List ℕ) (N : List ℕ → ℕ) (b : Told) (profile p : Profile) (given new : Entry) (names path : List (List ℕ)) (step : Profile → List (List ℕ) → Result Entries Refused) → profile ≡ p → names ≡ path
-    → Edits X N b profile (step profile names) (Ok given) → (given.cid.codec ≡ DagPb → new ≡ given) → MovesTo X N b p path (record { profile = profile; root = new }) (step p path) (Ok (tt {0}))
-moves-ok X N b profile p given new names path step same list edits node =
-    by (step p path) (subst (λ l. Edits X N b p (step p l) (Ok given)) list (subst (λ q. Edits X N b q (step q names) (Ok given)) same edits))
-  where
-    by : (w : Result Entries Refused) → Edits X N b p w (Ok given) → Answers {A = Entries} {B = Unit {0}} (λ es done. StandsAt X N b (record { profile = profile; root = new }) p es) path w (Ok (tt {0}))
-    by (Ok es) s = record { profile_is = same; root = subst (λ e. IsEntry X N b p e (Dir es)) (sym (node (root-codec X N b p given es s))) s }
-    by (Err given) h = absurd h
-
--- what stands in memory stands by its own profile
-pub own-root : (X : List ℕ → List ℕ) (N : List ℕ → ℕ) (a : Told) (mfs : Mfs) (p : Profile) (es : Entries) → StandsAt X N a mfs p es → IsEntry X N a mfs.profile mfs.root (Dir es)
-own-root X N a mfs p es s = subst (λ q. IsEntry X N a q mfs.root (Dir es)) (sym s.profile_is) s.root

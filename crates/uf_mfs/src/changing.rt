@@ -7,7 +7,7 @@ ghost use Rattle.uf_store.specs.Keeping.{KeepsGood, SavesOnly};
 ghost use Rattle.uf_tree.specs.declared.profile.Profile.{Profile as TheProfile};
 ghost use Rattle.uf_tree.specs.Profiles.{is_profile};
 ghost use Rattle.uf_tree.specs.Tree.{Dir, Entries};
-ghost use Rattle.uf_mfs.specs.Answers.{Calm, Edits, Moves, MovesTo, Says, ShownInTree, ShownStop, allowed};
+ghost use Rattle.uf_mfs.specs.Answers.{Calm, Edits, Moves, MovesTo, Says, Settles, ShownInTree, ShownStop, allowed};
 ghost use Rattle.uf_mfs.specs.Bad.{IsBad};
 ghost use Rattle.uf_mfs.specs.Plain.{at, is_folder_at, made, removed};
 ghost use Rattle.uf_mfs.specs.Standing.{IsEntry, IsMfs, StandsAt};
@@ -18,7 +18,6 @@ use crate::telling::fault_of;
 use crate::{Change, Mfs, MfsFault, Refused, Stop, Thing};
 use std::alloc::Global;
 use std::sync::ledger::Ledger;
-use uf_cid::{Cid, Codec};
 use uf_murmur::NameHash;
 use uf_path::Path;
 use uf_store::{Steps, Store, StoreFault};
@@ -48,7 +47,7 @@ impl Mfs {
         ensures saves { SavesOnly (S.seen store.old).told (S.seen store.new).told }
     {
         let names = path.names.as_slice();
-        match made_root::<S, N, L>(
+        let edited = made_root::<S, N, L>(
             alloc,
             store,
             &self.profile,
@@ -56,13 +55,8 @@ impl Mfs {
             names,
             parents,
             touches,
-        ) {
-            Err(stop) => Err(fault_of(alloc, names, stop)),
-            Ok(root) => {
-                self.root = as_node(root);
-                Ok(())
-            }
-        }
+        );
+        self.settled(alloc, names, edited)
     }
 
     /// Takes away what the path leads to; a directory only where that is recursive.
@@ -86,7 +80,7 @@ impl Mfs {
         ensures saves { SavesOnly (S.seen store.old).told (S.seen store.new).told }
     {
         let names = path.names.as_slice();
-        match removed_root::<S, N, L>(
+        let edited = removed_root::<S, N, L>(
             alloc,
             store,
             &self.profile,
@@ -94,10 +88,28 @@ impl Mfs {
             names,
             recursive,
             touches,
-        ) {
+        );
+        self.settled(alloc, names, edited)
+    }
+
+    // Moves the root to what an edit answers; where it stopped, the root stays, and the fault is told with these names.
+    fn settled(
+        &mut self,
+        alloc: Global,
+        names: &[Name],
+        edited: Result<Entry, Stop>,
+    ) -> Result<(), MfsFault>
+        requires mfs { IsMfs self.old }
+        requires node { IfOk edited (λ e. e.cid.codec ≡ DagPb) }
+        ensures settles { Settles names.now edited self.old self.new result }
+        ensures refused { OnErr result (self.new ≡ self.old) }
+        ensures mfs { IsMfs self.new }
+        ensures profile { self.new.profile ≡ self.old.profile }
+    {
+        match edited {
             Err(stop) => Err(fault_of(alloc, names, stop)),
             Ok(root) => {
-                self.root = as_node(root);
+                self.root = root;
                 Ok(())
             }
         }
@@ -117,6 +129,7 @@ fn removed_root<S: Store, N: NameHash, L: Ledger>(
     requires profile { IsTrue (is_profile profile.now) }
     ensures edits { (es : Entries) → IsEntry S.X.block32 N.name64 (S.seen store.old).told profile.now root.now (Dir es) → Calm (S.seen store.old) (S.seen store.new)
         → Edits S.X.block32 N.name64 (S.seen store.new).told profile.now (removed recursive names.now es) result }
+    ensures node { IfOk result (λ e. e.cid.codec ≡ DagPb) }
     ensures cause { ShownStop S.X.block32 (IsBad N.name64 (Some profile.now)) result (S.seen store.old) (S.seen store.new) }
     ensures good { KeepsGood S.X.block32 (S.seen store.old).told (S.seen store.new).told }
     ensures saves { SavesOnly (S.seen store.old).told (S.seen store.new).told }
@@ -148,10 +161,12 @@ fn made_root<S: Store, N: NameHash, L: Ledger>(
     touches: &mut Steps<L>,
 ) -> Result<Entry, Stop>
     requires profile { IsTrue (is_profile profile.now) }
+    requires node { root.now.cid.codec ≡ DagPb }
     ensures edits { (es : Entries) → IsEntry S.X.block32 N.name64 (S.seen store.old).told profile.now root.now (Dir es) → Calm (S.seen store.old) (S.seen store.new)
         → Edits S.X.block32 N.name64 (S.seen store.new).told profile.now (allowed S.X.block32 N.name64 profile.now (made parents names.now es)) result }
     ensures there { (es below : Entries) → IsEntry S.X.block32 N.name64 (S.seen store.old).told profile.now root.now (Dir es) → Stood (S.seen store.old).faults (S.seen store.new).faults
         → IsTrue parents → at 0 names.now (Dir es) ≡ Ok (Dir below) → ((S.seen store.new).told ≡ (S.seen store.old).told) × IfOk result (λ e. e ≡ root.now) }
+    ensures node { IfOk result (λ e. e.cid.codec ≡ DagPb) }
     ensures cause { ShownStop S.X.block32 (IsBad N.name64 (Some profile.now)) result (S.seen store.old) (S.seen store.new) }
     ensures good { KeepsGood S.X.block32 (S.seen store.old).told (S.seen store.new).told }
     ensures saves { SavesOnly (S.seen store.old).told (S.seen store.new).told }
@@ -175,6 +190,7 @@ fn one_made<S: Store, N: NameHash, L: Ledger>(
     requires profile { IsTrue (is_profile profile.now) }
     ensures edits { (es : Entries) → IsEntry S.X.block32 N.name64 (S.seen store.old).told profile.now root.now (Dir es) → Calm (S.seen store.old) (S.seen store.new)
         → Edits S.X.block32 N.name64 (S.seen store.new).told profile.now (allowed S.X.block32 N.name64 profile.now (made false names.now es)) result }
+    ensures node { IfOk result (λ e. e.cid.codec ≡ DagPb) }
     ensures cause { ShownStop S.X.block32 (IsBad N.name64 (Some profile.now)) result (S.seen store.old) (S.seen store.new) }
     ensures good { KeepsGood S.X.block32 (S.seen store.old).told (S.seen store.new).told }
     ensures saves { SavesOnly (S.seen store.old).told (S.seen store.new).told }
@@ -205,10 +221,12 @@ fn all_made<S: Store, N: NameHash, L: Ledger>(
     touches: &mut Steps<L>,
 ) -> Result<Entry, Stop>
     requires profile { IsTrue (is_profile profile.now) }
+    requires node { root.now.cid.codec ≡ DagPb }
     ensures edits { (es : Entries) → IsEntry S.X.block32 N.name64 (S.seen store.old).told profile.now root.now (Dir es) → Calm (S.seen store.old) (S.seen store.new)
         → Edits S.X.block32 N.name64 (S.seen store.new).told profile.now (allowed S.X.block32 N.name64 profile.now (made true names.now es)) result }
     ensures there { (es below : Entries) → IsEntry S.X.block32 N.name64 (S.seen store.old).told profile.now root.now (Dir es) → Stood (S.seen store.old).faults (S.seen store.new).faults
         → at 0 names.now (Dir es) ≡ Ok (Dir below) → ((S.seen store.new).told ≡ (S.seen store.old).told) × IfOk result (λ e. e ≡ root.now) }
+    ensures node { IfOk result (λ e. e.cid.codec ≡ DagPb) }
     ensures cause { ShownStop S.X.block32 (IsBad N.name64 (Some profile.now)) result (S.seen store.old) (S.seen store.new) }
     ensures good { KeepsGood S.X.block32 (S.seen store.old).told (S.seen store.new).told }
     ensures saves { SavesOnly (S.seen store.old).told (S.seen store.new).told }
@@ -238,21 +256,5 @@ fn is_there<S: Store, N: NameHash, L: Ledger>(
         Err(Stop::Refused(_)) => Ok(false),
         Ok(Thing::File(_)) => Ok(false),
         Ok(Thing::Folder(_)) => Ok(true),
-    }
-}
-
-// The entry of a directory, which is that of a node.
-fn as_node(entry: Entry) -> Entry
-    ensures node { result.cid.codec ≡ DagPb }
-    ensures same { entry.cid.codec ≡ DagPb → result ≡ entry }
-{
-    let digest = entry.cid.digest;
-    let cid = Cid {
-        codec: Codec::DagPb,
-        digest,
-    };
-    Entry {
-        cid,
-        tsize: entry.tsize,
     }
 }

@@ -1,6 +1,7 @@
 // An edit along a path: each folder on it gets the new entry of the one below.
-ghost use Rattle.std.specs.Prelude.{◌≡◌, ◌≢◌, ◌+◌, ◌<◌, ◌^◌, List, ℕ, IsTrue, None, Ok, Some, length};
+ghost use Rattle.std.specs.Prelude.{◌≡◌, ◌≢◌, ◌+◌, ◌<◌, ◌^◌, List, ℕ, IfOk, IsTrue, None, Ok, Some, length};
 ghost use Rattle.std.specs.declared.option.Option.{Option as TheOption};
+ghost use Rattle.uf_cid.specs.declared.cid.Codec.TheVariants.{DagPb};
 ghost use Rattle.uf_store.specs.Contents.{Told};
 ghost use Rattle.uf_store.specs.Keeping.{KeepsGood, SavesOnly};
 ghost use Rattle.uf_tree.specs.declared.profile.Profile.{Profile as TheProfile};
@@ -39,6 +40,7 @@ pub(crate) fn edit<S: Store, N: NameHash, L: Ledger>(
     ensures edits { (t : Tree) (es : Entries) → IsMeant S.X.block32 N.name64 (S.seen store.old).told profile.now what t → IsEntry S.X.block32 N.name64 (S.seen store.old).told profile.now folder.now (Dir es)
         → Calm (S.seen store.old) (S.seen store.new)
         → Edits S.X.block32 N.name64 (S.seen store.new).told profile.now (allowed S.X.block32 N.name64 profile.now (edited (change what t) led name.now rest.now es)) result }
+    ensures node { IfOk result (λ e. e.cid.codec ≡ DagPb) }
     ensures cause { ShownStop S.X.block32 (IsBad N.name64 (Some profile.now)) result (S.seen store.old) (S.seen store.new) }
     ensures good { KeepsGood S.X.block32 (S.seen store.old).told (S.seen store.new).told }
     ensures saves { SavesOnly (S.seen store.old).told (S.seen store.new).told }
@@ -92,8 +94,10 @@ pub(crate) fn fill<S: Store, N: NameHash, L: Ledger>(
 ) -> Result<Entry, Stop>
     requires profile { IsTrue (is_profile profile.now) }
     requires few { led + length names.now < 2 ^ 64 }
+    requires node { folder.now.cid.codec ≡ DagPb }
     ensures edits { (es : Entries) → IsEntry S.X.block32 N.name64 (S.seen store.old).told profile.now folder.now (Dir es) → Calm (S.seen store.old) (S.seen store.new)
         → Edits S.X.block32 N.name64 (S.seen store.new).told profile.now (allowed S.X.block32 N.name64 profile.now (made_all led names.now es)) result }
+    ensures node { IfOk result (λ e. e.cid.codec ≡ DagPb) }
     ensures cause { ShownStop S.X.block32 (IsBad N.name64 (Some profile.now)) result (S.seen store.old) (S.seen store.new) }
     ensures good { KeepsGood S.X.block32 (S.seen store.old).told (S.seen store.new).told }
     ensures saves { SavesOnly (S.seen store.old).told (S.seen store.new).told }
@@ -138,6 +142,7 @@ fn open_or_make<S: Store, N: NameHash, L: Ledger>(
 ) -> Result<Entry, Stop>
     ensures opens { (p : TheProfile) (es : Entries) → IsEntry S.X.block32 N.name64 (S.seen store.old).told p folder.now (Dir es) → Calm (S.seen store.old) (S.seen store.new)
         → Edits S.X.block32 N.name64 (S.seen store.new).told p (or_new led (child name.now es)) result }
+    ensures node { IfOk result (λ e. e.cid.codec ≡ DagPb) }
     ensures cause { ShownStop S.X.block32 (IsBad N.name64 None) result (S.seen store.old) (S.seen store.new) }
     ensures good { KeepsGood S.X.block32 (S.seen store.old).told (S.seen store.new).told }
     ensures saves { SavesOnly (S.seen store.old).told (S.seen store.new).told }
@@ -181,6 +186,7 @@ fn edit_here<S: Store, N: NameHash, L: Ledger>(
     ensures edits { (t : Tree) (es : Entries) → IsMeant S.X.block32 N.name64 (S.seen store.old).told profile.now what t → IsEntry S.X.block32 N.name64 (S.seen store.old).told profile.now folder.now (Dir es)
         → IsMember S.X.block32 N.name64 (S.seen store.old).told profile.now (child name.now es) found → Calm (S.seen store.old) (S.seen store.new)
         → Edits S.X.block32 N.name64 (S.seen store.new).told profile.now (allowed S.X.block32 N.name64 profile.now (change what t led name.now es)) result }
+    ensures node { IfOk result (λ e. e.cid.codec ≡ DagPb) }
     ensures cause { ShownStop S.X.block32 (IsBad N.name64 (Some profile.now)) result (S.seen store.old) (S.seen store.new) }
     ensures good { KeepsGood S.X.block32 (S.seen store.old).told (S.seen store.new).told }
     ensures saves { SavesOnly (S.seen store.old).told (S.seen store.new).told }
@@ -252,6 +258,7 @@ fn make_in<S: Store, N: NameHash, L: Ledger>(
     requires profile { IsTrue (is_profile profile.now) }
     ensures edits { (es : Entries) → IsEntry S.X.block32 N.name64 (S.seen store.old).told profile.now folder.now (Dir es) → Calm (S.seen store.old) (S.seen store.new)
         → Edits S.X.block32 N.name64 (S.seen store.new).told profile.now (allowed S.X.block32 N.name64 profile.now (Ok (with_child name.now (Dir Nothing) es))) result }
+    ensures node { IfOk result (λ e. e.cid.codec ≡ DagPb) }
     ensures cause { ShownStop S.X.block32 (IsBad N.name64 (Some profile.now)) result (S.seen store.old) (S.seen store.new) }
     ensures good { KeepsGood S.X.block32 (S.seen store.old).told (S.seen store.new).told }
     ensures saves { SavesOnly (S.seen store.old).told (S.seen store.new).told }
@@ -276,6 +283,7 @@ pub(crate) fn put_in<S: Store, N: NameHash, L: Ledger>(
     ensures edits { (t : Tree) (es : Entries) → IsEntry S.X.block32 N.name64 (S.seen store.old).told profile.now folder.now (Dir es) → IsEntry S.X.block32 N.name64 (S.seen store.old).told profile.now entry.now t
         → Calm (S.seen store.old) (S.seen store.new)
         → Edits S.X.block32 N.name64 (S.seen store.new).told profile.now (allowed S.X.block32 N.name64 profile.now (Ok (with_child name.now t es))) result }
+    ensures node { IfOk result (λ e. e.cid.codec ≡ DagPb) }
     ensures cause { ShownStop S.X.block32 (IsBad N.name64 (Some profile.now)) result (S.seen store.old) (S.seen store.new) }
     ensures good { KeepsGood S.X.block32 (S.seen store.old).told (S.seen store.new).told }
     ensures saves { SavesOnly (S.seen store.old).told (S.seen store.new).told }
@@ -300,6 +308,7 @@ fn take_out<S: Store, N: NameHash, L: Ledger>(
     requires profile { IsTrue (is_profile profile.now) }
     ensures edits { (es : Entries) → IsEntry S.X.block32 N.name64 (S.seen store.old).told profile.now folder.now (Dir es) → child name.now es ≢ None → Calm (S.seen store.old) (S.seen store.new)
         → Edits S.X.block32 N.name64 (S.seen store.new).told profile.now (allowed S.X.block32 N.name64 profile.now (Ok (without_child name.now es))) result }
+    ensures node { IfOk result (λ e. e.cid.codec ≡ DagPb) }
     ensures cause { ShownStop S.X.block32 (IsBad N.name64 (Some profile.now)) result (S.seen store.old) (S.seen store.new) }
     ensures good { KeepsGood S.X.block32 (S.seen store.old).told (S.seen store.new).told }
     ensures saves { SavesOnly (S.seen store.old).told (S.seen store.new).told }

@@ -1,5 +1,5 @@
 // What is at a path, looked up from its root.
-ghost use Rattle.std.specs.Prelude.{◌≡◌, ◌+◌, ◌<◌, ◌^◌, None, Ok, length};
+ghost use Rattle.std.specs.Prelude.{◌≡◌, ◌+◌, ◌<◌, ◌^◌, IfOk, IfSome, None, Ok, length};
 ghost use Rattle.uf_edge.specs.Counts.{Stood};
 ghost use Rattle.uf_store.specs.Faults.{Answers};
 ghost use Rattle.uf_tree.specs.declared.profile.Profile.{Profile};
@@ -7,7 +7,7 @@ ghost use Rattle.uf_tree.specs.Tree.{Dir, Entries, Tree};
 ghost use Rattle.uf_mfs.specs.Answers.{Meets, ShownStop};
 ghost use Rattle.uf_mfs.specs.Bad.{IsBad};
 ghost use Rattle.uf_mfs.specs.Plain.{at, child};
-ghost use Rattle.uf_mfs.specs.Standing.{IsEntry, IsMember, IsThing, SaysThing};
+ghost use Rattle.uf_mfs.specs.Standing.{IsEntry, IsMember, IsNodeFolder, IsThing, SaysThing};
 
 use crate::{Refused, Stop, Thing};
 use std::alloc::Global;
@@ -59,6 +59,7 @@ pub(crate) fn member<S: Store, N: NameHash, L: Ledger>(
 ) -> Result<Option<Thing>, Stop>
     ensures member { (p : Profile) (es : Entries) → IsEntry S.X.block32 N.name64 (S.seen store.old).told p folder.now (Dir es) → Stood (S.seen store.old).faults (S.seen store.new).faults
         → Meets (λ t thing. IsMember S.X.block32 N.name64 (S.seen store.new).told p t thing) (Ok (child name.now es)) result }
+    ensures node { IfOk result (λ found. IfSome found IsNodeFolder) }
     ensures cause { ShownStop S.X.block32 (IsBad N.name64 None) result (S.seen store.old) (S.seen store.new) }
     ensures told { (S.seen store.new).told ≡ (S.seen store.old).told }
 {
@@ -81,6 +82,7 @@ pub(crate) fn thing_of<S: Store, N: NameHash, L: Ledger>(
 ) -> Result<Thing, StoreFault>
     ensures thing { (p : Profile) (t : Tree) → IsEntry S.X.block32 N.name64 (S.seen store.old).told p entry.now t → Stood (S.seen store.old).faults (S.seen store.new).faults
         → SaysThing S.X.block32 N.name64 (S.seen store.new).told p t result }
+    ensures node { IfOk result IsNodeFolder }
     ensures cause { Answers S.X.block32 (IsBad N.name64 None) result (S.seen store.old) (S.seen store.new) }
     ensures told { (S.seen store.new).told ≡ (S.seen store.old).told }
 {
