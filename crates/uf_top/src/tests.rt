@@ -5,14 +5,14 @@ use crate::run;
 use std::alloc::Global;
 use std::marker::Brand;
 use std::sync::ledger::{Blank, Ledger};
-use uf_cid::{Block, Cid, Memory, Sha256Hash};
+use uf_cid::{Block, Cid, Codec, Memory, Sha256Hash};
 use uf_edge::{Calls, MemSink, MemSource, Put};
 use uf_murmur::Murmur3;
 use uf_store::{CallKind, MemStore, Note, Steps, Store};
 
 type Kept = MemStore<Sha256Hash>;
 
-// A command over one store, one after the other, or what is done with the store between them.
+// What is done with one store, and what is to come of it.
 pub enum Step {
     // Another store, which holds nothing.
     Anew,
@@ -20,10 +20,10 @@ pub enum Step {
     Breaks(CallKind, u64),
     // This is written as the Head.
     Head(&'static [u8]),
-    // The block under this CID is taken away.
-    Loses(&'static str),
-    // The block under this CID is one of other bytes.
-    Spoils(&'static str),
+    // The node of these bytes is taken away.
+    Loses(&'static [u8]),
+    // Other bytes are put in the place of this node's.
+    Spoils(&'static [u8]),
     // So many blocks are held.
     Holds(usize),
     // A command that is done: it writes to the store, and prints nothing.
@@ -42,18 +42,20 @@ pub enum Step {
     AddsCut,
 }
 
-// The room of an output, and the calls of an input and of an output that are to fail.
+// The room of an output, and the calls that are to fail.
 #[derive(Clone, Copy)]
 pub struct Streams {
     room: usize,
     input_fails: Option<u64>,
     output_fails: Option<u64>,
+    errors_fail: Option<u64>,
 }
 
 const FINE: Streams = Streams {
     room: 1000,
     input_fails: None,
     output_fails: None,
+    errors_fail: None,
 };
 
 // A command: its words and its input, and what is to come of it.
@@ -65,6 +67,22 @@ struct Row<'a> {
     output: &'a [u8],
     errors: &'a [u8],
 }
+
+const DONE: Row<'static> = Row {
+    words: "",
+    input: b"",
+    status: 0,
+    output: b"",
+    errors: b"",
+};
+
+const HELLO_ADDED: Row<'static> = Row {
+    words: "add -n",
+    input: b"hello world",
+    status: 0,
+    output: b"",
+    errors: b"",
+};
 
 fn split(alloc: Global, line: &str) -> Result<Vec<String>, Memory> {
     let mut words = Vec::new(alloc);
@@ -107,7 +125,7 @@ fn ends<L: Ledger>(
     let words = split(alloc, row.words)?;
     let mut input = source(alloc, row.input, streams.input_fails)?;
     let mut output = sink(alloc, streams.room, streams.output_fails)?;
-    let mut errors = sink(alloc, 1000, None)?;
+    let mut errors = sink(alloc, 1000, streams.errors_fail)?;
     let status = run::<Kept, Murmur3, MemSource, MemSink, MemSink, L>(
         alloc,
         &words,
@@ -126,21 +144,35 @@ fn ends<L: Ledger>(
 
 // The row of a command, and nothing of another step.
 fn row_of(step: &Step) -> Option<Row<'static>> {
-    let (words, input, status, output, errors): (&str, &[u8], u8, &[u8], &[u8]) = match step {
-        Step::Does(words) => (*words, b"", 0, b"", b""),
-        Step::Prints(words, output) => (*words, b"", 0, *output, b""),
-        Step::Adds(words, input, output) => (*words, *input, 0, *output, b""),
-        Step::Refuses(words, status, errors) => (*words, b"", *status, b"", *errors),
-        Step::AddsOver(_, status, errors) => ("add -n", b"hello world", *status, b"", *errors),
-        _ => return None,
-    };
-    Some(Row {
-        words,
-        input,
-        status,
-        output,
-        errors,
-    })
+    match step {
+        Step::Does(words) => Some(Row {
+            words: *words,
+            ..DONE
+        }),
+        Step::Prints(words, output) => Some(Row {
+            words: *words,
+            output: *output,
+            ..DONE
+        }),
+        Step::Adds(words, input, output) => Some(Row {
+            words: *words,
+            input: *input,
+            output: *output,
+            ..DONE
+        }),
+        Step::Refuses(words, status, errors) => Some(Row {
+            words: *words,
+            status: *status,
+            errors: *errors,
+            ..DONE
+        }),
+        Step::AddsOver(_, status, errors) => Some(Row {
+            status: *status,
+            errors: *errors,
+            ..HELLO_ADDED
+        }),
+        _ => None,
+    }
 }
 
 // The row of `add -n` over an output with so much room.
@@ -151,11 +183,10 @@ fn cut_row(room: usize) -> Row<'static> {
         (0, b"")
     };
     Row {
-        words: "add -n",
-        input: b"hello world",
         status,
         output: &HELLO[..room.min(126)],
         errors,
+        ..HELLO_ADDED
     }
 }
 
@@ -191,27 +222,25 @@ fn adds_zeros<L: Ledger>(
     ends(alloc, &row, &FINE, store, touches)
 }
 
-// Takes the block under a CID away, or puts one of other bytes there.
-fn takes(alloc: Global, store: &mut Kept, text: &str, spoiled: bool) -> Result<bool, Memory> {
-    let Ok(cid) = Cid::parse(text) else {
-        return Ok(false);
-    };
-    if spoiled {
-        store.plant(&cid, block(alloc, b"other")?)?;
-    } else {
-        store.forget(&cid);
-    }
-    Ok(true)
+// The CID of a node.
+fn cid(bytes: &[u8]) -> Cid {
+    Cid::of::<Sha256Hash>(Codec::DagPb, bytes)
 }
 
-// Does what is done with the store.
+// Puts other bytes in the place of a node's.
+fn spoils(alloc: Global, store: &mut Kept, bytes: &[u8]) -> Result<(), Memory> {
+    let other = block(alloc, b"other")?;
+    store.plant(&cid(bytes), other)
+}
+
+// Does what is done with the store but by commands.
 fn sets(alloc: Global, step: &Step, store: &mut Kept) -> Result<bool, Memory> {
     match step {
         Step::Anew => *store = Kept::new(alloc),
         Step::Breaks(kind, number) => store.fail_at(*kind, *number)?,
         Step::Head(text) => return Ok(store.write_note(Note::Head, *text) == Put::Done),
-        Step::Loses(cid) => return takes(alloc, store, *cid, false),
-        Step::Spoils(cid) => return takes(alloc, store, *cid, true),
+        Step::Loses(bytes) => store.forget(&cid(*bytes)),
+        Step::Spoils(bytes) => spoils(alloc, store, *bytes)?,
         Step::Holds(count) => return Ok(store.count() == *count),
         _ => return Ok(false),
     }
@@ -314,33 +343,40 @@ fn longer_inputs_are_cut_into_pieces(rt: HostRuntime) {
     assert_eq!(rt; first_wrong(rt.alloc(), &LONG_INPUTS), None);
 }
 
-const STREAMS: [Step; 4] = [
+// The input fails, before and behind its bytes; then the output; and then the error line is lost, which changes no status.
+const STREAMS: [Step; 5] = [
     Step::AddsOver(
         Streams {
-            room: 1000,
             input_fails: Some(0),
-            output_fails: None,
+            ..FINE
         },
         6,
         b"error: read\n",
     ),
     Step::AddsOver(
         Streams {
-            room: 1000,
             input_fails: Some(1),
-            output_fails: None,
+            ..FINE
         },
         6,
         b"error: read\n",
     ),
     Step::AddsOver(
         Streams {
-            room: 1000,
-            input_fails: None,
             output_fails: Some(0),
+            ..FINE
         },
         7,
         b"error: write\n",
+    ),
+    Step::AddsOver(
+        Streams {
+            output_fails: Some(0),
+            errors_fail: Some(0),
+            ..FINE
+        },
+        7,
+        b"",
     ),
     Step::AddsCut,
 ];

@@ -2,8 +2,8 @@
 use crate::tests::{HELLO, Step, first_wrong};
 use uf_store::CallKind;
 
-// The CID of the empty directory.
-const NOTHING: &str = "bafybeiczsscdsbs7ffqz55asqdf3smv6klcw3gofszvwlyarci47bgf354";
+// The block of the empty directory.
+const NOTHING: &[u8] = b"\x0a\x02\x08\x01";
 
 const STAT_NOTHING: &[u8] =
     b"bafybeiczsscdsbs7ffqz55asqdf3smv6klcw3gofszvwlyarci47bgf354\nSize: 0\nCumulativeSize: 4\nChildBlocks: 0\nType: directory\n";
@@ -21,7 +21,7 @@ const STAT_SHARD: &[u8] =
     b"bafybeicbslqq6awahd2m2nhb72v6lrqwpyja6ii64ner6hyd3dem46os3q\nSize: 0\nCumulativeSize: 130\nChildBlocks: 2\nType: directory\n";
 
 // A store is made ready once, and an `add` moves no root.
-const READY: [Step; 11] = [
+const READY: [Step; 13] = [
     Step::Refuses("files ls", 10, b"error: not ready 1\n"),
     Step::Does("init"),
     Step::Refuses("init", 10, b"error: not ready 2\n"),
@@ -33,6 +33,8 @@ const READY: [Step; 11] = [
     Step::Prints("files stat /", STAT_NOTHING),
     Step::Anew,
     Step::Refuses("add", 10, b"error: not ready 1\n"),
+    Step::Refuses("files ls", 10, b"error: not ready 1\n"),
+    Step::Holds(0),
 ];
 
 #[test]
