@@ -1,191 +1,185 @@
-// Rows of shard trees read whole, with CIDs and weights that were computed outside of this program.
+// Rows of shard trees read whole, with weights that were computed outside of this program.
 ghost use Rattle.std.specs.Prelude.{◌≡◌, ◌<◌};
 
-use crate::tests::{empty_file, save_above, save_files, save_items};
+use crate::tests::{
+    Ask, EIGHT, Kept, Made, NONE, Planted, Row, THREE, What, empty_file, first_wrong, other_file,
+};
 use crate::{entries, weight_over};
 use std::alloc::Global;
 use std::marker::Brand;
 use std::sync::ledger::{Blank, Ledger};
-use uf_cid::{Cid, Codec, Sha256Hash};
-use uf_store::{MemStore, Role, Steps, StoreFault, save_block};
-use uf_tree::{Entry, Item, Items, Name, Pair, Placed};
+use uf_cid::Cid;
+use uf_store::{Role, Steps, StoreFault};
+use uf_tree::{Entry, Pair, Pairs};
 
-// An entry that isn't that of an empty file.
-fn other_file() -> Entry {
-    Entry {
-        cid: Cid::of::<Sha256Hash>(Codec::Raw, b"other"),
-        tsize: 5,
+// What a listing answers: these names, or that a block is missing or no shard of this level.
+pub enum Listing {
+    Names(&'static [What]),
+    Missing,
+    Bad(u8),
+}
+
+fn entries_counted<L: Ledger>(
+    alloc: Global,
+    store: &mut Kept,
+    root: &Cid,
+    blank: Blank,
+) -> Result<Pairs, StoreFault>
+    requires name { blank.name ≡ L.name }
+    requires parts { blank.parts ≡ L.parts }
+    requires some { 0 < blank.parts }
+{
+    let mut touches = Steps::<L>::new(blank);
+    entries::<Kept, L>(alloc, store, root, &mut touches)
+}
+
+// The names and entries of a tree, with no count of touches.
+fn listed(alloc: Global, store: &mut Kept, root: &Cid) -> Result<Pairs, StoreFault> {
+    entries_counted::<Brand>(alloc, store, root, Blank::new(1))
+}
+
+fn is_file(pair: &Pair, text: &str, entry: Entry) -> bool {
+    pair.name.as_str() == text && pair.entry == entry
+}
+
+fn is_pair(pair: &Pair, wanted: &What) -> bool {
+    match wanted {
+        What::Empty(text) => is_file(pair, *text, empty_file()),
+        What::Other(text) => is_file(pair, *text, other_file()),
+        What::Below => false,
     }
 }
 
-// Whether the pairs are these.
-fn are_pairs(pairs: &[Pair], wanted: &[(&str, Entry)]) -> bool {
+fn are_pairs(pairs: &[Pair], wanted: &[What]) -> bool {
     if pairs.len() != wanted.len() {
         return false;
     }
-    for (pair, other) in pairs.iter().zip(wanted) {
-        if pair.name.as_str() != other.0 || pair.entry != other.1 {
+    for i in 0..wanted.len() {
+        if !is_pair(&pairs[i], &wanted[i]) {
             return false;
         }
     }
     true
 }
 
-// Whether the names and entries of a shard tree are these.
-fn lists<L: Ledger>(
-    alloc: Global,
-    store: &mut MemStore<Sha256Hash>,
-    root: &Cid,
-    wanted: &[(&str, Entry)],
-    touches: &mut Steps<L>,
-) -> bool {
-    match entries::<MemStore<Sha256Hash>, L>(alloc, store, root, touches) {
-        Ok(pairs) => are_pairs(pairs.as_slice(), wanted),
-        Err(_) => false,
-    }
-}
-
-// What stops a listing: 0 for nothing, 1 for this missing block, 2 + level for this bad block, 10 for anything else.
-fn stops<L: Ledger>(
-    alloc: Global,
-    store: &mut MemStore<Sha256Hash>,
-    root: &Cid,
-    about: &Cid,
-    touches: &mut Steps<L>,
-) -> u8 {
-    match entries::<MemStore<Sha256Hash>, L>(alloc, store, root, touches) {
-        Ok(_) => 0,
-        Err(StoreFault::Missing(cid)) if cid == *about => 1,
-        Err(StoreFault::BadBlock(cid, Role::Shard(level))) if cid == *about && level < 8 => {
-            2 + level
+fn is_listing(listed: &Result<Pairs, StoreFault>, about: &Cid, wanted: &Listing) -> bool {
+    match (listed, wanted) {
+        (Ok(pairs), Listing::Names(names)) => are_pairs(pairs.as_slice(), *names),
+        (Err(StoreFault::Missing(cid)), Listing::Missing) => cid == about,
+        (Err(StoreFault::BadBlock(cid, Role::Shard(level))), Listing::Bad(bad)) => {
+            cid == about && level == bad
         }
-        Err(_) => 10,
+        _ => false,
     }
 }
 
-// Whether a shard tree weighs more than a limit, where that can be said.
-fn weighs<L: Ledger>(
+// Whether a tree lists so.
+pub fn lists(alloc: Global, store: &mut Kept, planted: &Planted, wanted: &Listing) -> bool {
+    let listed = listed(alloc, store, &planted.root.cid);
+    is_listing(&listed, &planted.about, wanted)
+}
+
+fn weight_counted<L: Ledger>(
     alloc: Global,
-    store: &mut MemStore<Sha256Hash>,
+    store: &mut Kept,
     root: &Cid,
     limit: u64,
-    touches: &mut Steps<L>,
-) -> Option<bool> {
-    weight_over::<MemStore<Sha256Hash>, L>(alloc, store, root, limit, touches).ok()
-}
-
-// The shard of three names.
-fn lists_three<L: Ledger>(alloc: Global, touches: &mut Steps<L>) -> Option<bool> {
-    let mut store = MemStore::<Sha256Hash>::new(alloc);
-    let files = [(b'a', "a"), (b'b', "b"), (b'c', "c")];
-    let root = save_files(alloc, &mut store, &files, touches)?.cid;
-    let wanted = [
-        ("a", empty_file()),
-        ("b", empty_file()),
-        ("c", empty_file()),
-    ];
-    let mut right = lists(alloc, &mut store, &root, &wanted, touches);
-    for (limit, over) in [(0, true), (110, true), (111, false), (112, false)] {
-        right = right && weighs(alloc, &mut store, &root, limit, touches) == Some(over);
-    }
-    Some(right)
-}
-
-// Eight shards above two names, of which the lowest is lost in the end.
-fn lists_below_eight<L: Ledger>(alloc: Global, touches: &mut Steps<L>) -> Option<bool> {
-    let mut store = MemStore::<Sha256Hash>::new(alloc);
-    let files = [(b'X', "abcdefgX"), (b'Y', "abcdefgY")];
-    let lowest = save_files(alloc, &mut store, &files, touches)?;
-    let root = save_above(alloc, &mut store, b"gfedcba", lowest, touches)?.cid;
-    let wanted = [("abcdefgX", empty_file()), ("abcdefgY", empty_file())];
-    let mut right = lists(alloc, &mut store, &root, &wanted, touches)
-        && weighs(alloc, &mut store, &root, 87, touches) == Some(true)
-        && weighs(alloc, &mut store, &root, 88, touches) == Some(false);
-    store.forget(&lowest.cid);
-    right = right
-        && stops(alloc, &mut store, &root, &lowest.cid, touches) == 1
-        && weighs(alloc, &mut store, &root, 0, touches).is_none();
-    Some(right)
-}
-
-// A tree of three slots: the name `a`, a shard below, and the name `b` with an entry of its own.
-fn save_repeated<L: Ledger>(
-    alloc: Global,
-    store: &mut MemStore<Sha256Hash>,
-    below: Entry,
-    touches: &mut Steps<L>,
-) -> Option<Cid> {
-    let mut items = Items::new(alloc);
-    let a = Item::Leaf(Name::parse(alloc, "a").ok()?, empty_file());
-    let b = Item::Leaf(Name::parse(alloc, "b").ok()?, other_file());
-    items.push(Placed { slot: 1, item: a }).ok()?;
-    items
-        .push(Placed {
-            slot: 2,
-            item: Item::Sub(below),
-        })
-        .ok()?;
-    items.push(Placed { slot: 3, item: b }).ok()?;
-    let root = save_items(alloc, store, &items, below.tsize, touches)?;
-    Some(root.cid)
-}
-
-// A name that comes twice, which no plan gives: the first in the order of the slots is listed. That the names in front of a lost
-// shard weigh too much is said without it.
-fn lists_the_first<L: Ledger>(alloc: Global, touches: &mut Steps<L>) -> Option<bool> {
-    let mut store = MemStore::<Sha256Hash>::new(alloc);
-    let below = save_files(alloc, &mut store, &[(7, "b")], touches)?;
-    let root = save_repeated(alloc, &mut store, below, touches)?;
-    let wanted = [("a", empty_file()), ("b", empty_file())];
-    let right = lists(alloc, &mut store, &root, &wanted, touches);
-    store.forget(&below.cid);
-    Some(
-        right
-            && weighs(alloc, &mut store, &root, 36, touches) == Some(true)
-            && weighs(alloc, &mut store, &root, 37, touches).is_none(),
-    )
-}
-
-// Blocks that are no shards, at levels 0 and 1, and a shard below level 7.
-fn refuses_bad_blocks<L: Ledger>(alloc: Global, touches: &mut Steps<L>) -> Option<bool> {
-    let mut store = MemStore::<Sha256Hash>::new(alloc);
-    let none = save_block(alloc, &mut store, Codec::DagPb, b"none", touches).ok()?;
-    let entry = Entry {
-        cid: none,
-        tsize: 4,
-    };
-    let above = save_above(alloc, &mut store, b"a", entry, touches)?.cid;
-    let lowest = save_files(alloc, &mut store, &[(b'a', "a")], touches)?;
-    let level_7 = save_above(alloc, &mut store, b"h", lowest, touches)?;
-    let root = save_above(alloc, &mut store, b"gfedcba", level_7, touches)?.cid;
-    Some(
-        stops(alloc, &mut store, &none, &none, touches) == 2
-            && stops(alloc, &mut store, &above, &none, touches) == 3
-            && stops(alloc, &mut store, &root, &level_7.cid, touches) == 9,
-    )
-}
-
-// The place of the first row that is wrong.
-fn first_wrong<L: Ledger>(alloc: Global, blank: Blank) -> Option<usize>
+    blank: Blank,
+) -> Result<bool, StoreFault>
     requires name { blank.name ≡ L.name }
     requires parts { blank.parts ≡ L.parts }
     requires some { 0 < blank.parts }
 {
     let mut touches = Steps::<L>::new(blank);
-    let rows = [
-        lists_three(alloc, &mut touches),
-        lists_below_eight(alloc, &mut touches),
-        lists_the_first(alloc, &mut touches),
-        refuses_bad_blocks(alloc, &mut touches),
-    ];
-    rows.iter().position(|right| *right != Some(true))
+    weight_over::<Kept, L>(alloc, store, root, limit, &mut touches)
 }
 
-fn first_wrong_row(alloc: Global) -> Option<usize> {
-    first_wrong::<Brand>(alloc, Blank::new(1))
+// Whether a tree weighs more than a limit, where that can be said, with no count of touches.
+fn weighed(alloc: Global, store: &mut Kept, root: &Cid, limit: u64) -> Option<bool> {
+    weight_counted::<Brand>(alloc, store, root, limit, Blank::new(1)).ok()
 }
+
+// Whether a tree weighs so.
+pub fn weighs(
+    alloc: Global,
+    store: &mut Kept,
+    root: &Cid,
+    limit: u64,
+    wanted: Option<bool>,
+) -> bool {
+    weighed(alloc, store, root, limit) == wanted
+}
+
+// A name that comes twice, which no plan gives: `a`, a shard below with a `b`, and a `b` with an entry of its own.
+const REPEATED: [Made; 2] = [
+    Made::Slots(&[(7, What::Empty("b"))]),
+    Made::Slots(&[
+        (1, What::Empty("a")),
+        (2, What::Below),
+        (3, What::Other("b")),
+    ]),
+];
+
+// A block that is no shard, below one.
+const BELOW_ONE: [Made; 2] = [Made::Bytes(b"none"), Made::Slots(&[(b'a', What::Below)])];
+
+// Nine shards, of which the second stands at level 7.
+const NINE: [Made; 9] = [
+    Made::Slots(&[(b'a', What::Empty("a"))]),
+    Made::Slots(&[(b'h', What::Below)]),
+    Made::Slots(&[(b'g', What::Below)]),
+    Made::Slots(&[(b'f', What::Below)]),
+    Made::Slots(&[(b'e', What::Below)]),
+    Made::Slots(&[(b'd', What::Below)]),
+    Made::Slots(&[(b'c', What::Below)]),
+    Made::Slots(&[(b'b', What::Below)]),
+    Made::Slots(&[(b'a', What::Below)]),
+];
+
+static LISTED: [Row; 7] = [
+    (
+        &THREE,
+        0,
+        false,
+        Ask::List(Listing::Names(&[What::Empty("a"), What::Empty("b"), What::Empty("c")])),
+    ),
+    (
+        &EIGHT,
+        0,
+        false,
+        Ask::List(Listing::Names(&[What::Empty("abcdefgX"), What::Empty("abcdefgY")])),
+    ),
+    (
+        &REPEATED,
+        0,
+        false,
+        Ask::List(Listing::Names(&[What::Empty("a"), What::Empty("b")])),
+    ),
+    (&EIGHT, 0, true, Ask::List(Listing::Missing)),
+    (&NONE, 0, false, Ask::List(Listing::Bad(0))),
+    (&BELOW_ONE, 0, false, Ask::List(Listing::Bad(1))),
+    (&NINE, 1, false, Ask::List(Listing::Bad(7))),
+];
+
+// That the names in front of a lost shard weigh too much is said without it.
+static WEIGHED: [Row; 9] = [
+    (&THREE, 0, false, Ask::Weigh(0, Some(true))),
+    (&THREE, 0, false, Ask::Weigh(110, Some(true))),
+    (&THREE, 0, false, Ask::Weigh(111, Some(false))),
+    (&THREE, 0, false, Ask::Weigh(112, Some(false))),
+    (&EIGHT, 0, false, Ask::Weigh(87, Some(true))),
+    (&EIGHT, 0, false, Ask::Weigh(88, Some(false))),
+    (&EIGHT, 0, true, Ask::Weigh(0, None)),
+    (&REPEATED, 0, true, Ask::Weigh(36, Some(true))),
+    (&REPEATED, 0, true, Ask::Weigh(37, None)),
+];
 
 #[test]
 fn shard_trees_are_read_whole(rt: HostRuntime) {
-    assert_eq!(rt; first_wrong_row(rt.alloc()), None);
+    assert_eq!(rt; first_wrong(rt.alloc(), &LISTED), None);
+}
+
+#[test]
+fn shard_trees_are_weighed(rt: HostRuntime) {
+    assert_eq!(rt; first_wrong(rt.alloc(), &WEIGHED), None);
 }

@@ -1,16 +1,85 @@
-// Rows of directories in shards, with CIDs and sizes that were computed outside of this program.
+// Trees of shards that are planted in a store, and rows of what they answer. CIDs and sizes were computed outside of this
+// program.
 ghost use Rattle.std.specs.Prelude.{◌≡◌, ◌<◌};
 
 use crate::find;
+use crate::list_tests::{Listing, lists, weighs};
 use std::alloc::Global;
 use std::marker::Brand;
 use std::sync::ledger::{Blank, Ledger};
-use uf_cid::{Cid, Codec, Sha256Hash};
-use uf_murmur::FirstEight;
-use uf_store::{MemStore, Role, Steps, StoreFault, save_block};
+use uf_cid::{Block, Cid, Codec, Sha256Hash};
+use uf_murmur::{FirstEight, NameHash};
+use uf_store::{MemStore, Role, Steps, StoreFault};
 use uf_tree::{Entry, Item, Items, Name, Placed, is_shard, shard_node};
 
-// The entry of an empty file.
+pub type Kept = MemStore<Sha256Hash>;
+
+// What a slot has: a name with the entry of an empty file, one with that of another file, or the block before its shard.
+pub enum What {
+    Empty(&'static str),
+    Other(&'static str),
+    Below,
+}
+
+// A block of a tree: the slots of a shard, or bytes that are no shard.
+pub enum Made {
+    Slots(&'static [(u8, What)]),
+    Bytes(&'static [u8]),
+}
+
+// What a search answers: the entry of an empty file, none, or that a block is missing or no shard of level 0.
+#[derive(Clone, Copy, PartialEq, Eq)]
+pub enum Answer {
+    Found,
+    Absent,
+    Missing,
+    Bad,
+    Other,
+}
+
+// What a tree is asked, and what it answers.
+pub enum Ask {
+    // The CID and the Tsize of its root.
+    Root(&'static [u8], u64),
+    // An entry by its name.
+    Find(&'static str, Answer),
+    // All names and entries.
+    List(Listing),
+    // Whether it weighs more than a limit, where that can be said.
+    Weigh(u64, Option<bool>),
+}
+
+// The blocks of a tree, the lowest first; which of them the row is about; whether that is lost; and what is asked.
+pub type Row = (&'static [Made], usize, bool, Ask);
+
+// Three names in one block.
+pub const THREE: [Made; 1] = [Made::Slots(&[
+    (b'a', What::Empty("a")),
+    (b'b', What::Empty("b")),
+    (b'c', What::Empty("c")),
+])];
+
+// Two names below eight shards.
+pub const EIGHT: [Made; 8] = [
+    Made::Slots(&[
+        (b'X', What::Empty("abcdefgX")),
+        (b'Y', What::Empty("abcdefgY")),
+    ]),
+    Made::Slots(&[(b'g', What::Below)]),
+    Made::Slots(&[(b'f', What::Below)]),
+    Made::Slots(&[(b'e', What::Below)]),
+    Made::Slots(&[(b'd', What::Below)]),
+    Made::Slots(&[(b'c', What::Below)]),
+    Made::Slots(&[(b'b', What::Below)]),
+    Made::Slots(&[(b'a', What::Below)]),
+];
+
+// A block that is no shard.
+pub const NONE: [Made; 1] = [Made::Bytes(b"none")];
+
+// A name that stands in the slot of another.
+const TURNED: [Made; 1] = [Made::Slots(&[(b'b', What::Empty("a"))])];
+
 pub fn empty_file() -> Entry {
     Entry {
         cid: Cid::of::<Sha256Hash>(Codec::Raw, b""),
@@ -18,147 +87,231 @@ pub fn empty_file() -> Entry {
     }
 }
 
-// A shard saved, with the Tsizes of its links.
-pub fn save_items<L: Ledger>(
-    alloc: Global,
-    store: &mut MemStore<Sha256Hash>,
-    items: &Items,
-    below: u64,
-    touches: &mut Steps<L>,
-) -> Option<Entry> {
-    if !is_shard(items) {
-        return None;
+pub fn other_file() -> Entry {
+    Entry {
+        cid: Cid::of::<Sha256Hash>(Codec::Raw, b"other"),
+        tsize: 5,
     }
-    let block = shard_node(alloc, items).ok()?;
-    let bytes = block.as_slice();
-    let cid = save_block(alloc, store, Codec::DagPb, bytes, touches).ok()?;
-    let tsize = below.saturating_add(bytes.len() as u64);
-    Some(Entry { cid, tsize })
 }
 
-// The shard of empty files under these names.
-pub fn save_files<L: Ledger>(
-    alloc: Global,
-    store: &mut MemStore<Sha256Hash>,
-    files: &[(u8, &str)],
-    touches: &mut Steps<L>,
-) -> Option<Entry> {
+fn leaf(alloc: Global, text: &str, entry: Entry) -> Option<Item> {
+    match Name::parse(alloc, text) {
+        Ok(name) => Some(Item::Leaf(name, entry)),
+        Err(_) => None,
+    }
+}
+
+fn item(alloc: Global, what: &What, below: Entry) -> Option<Item> {
+    match what {
+        What::Empty(text) => leaf(alloc, *text, empty_file()),
+        What::Other(text) => leaf(alloc, *text, other_file()),
+        What::Below => Some(Item::Sub(below)),
+    }
+}
+
+fn add(alloc: Global, items: &mut Items, slot: u8, what: &What, below: Entry) -> bool {
+    match item(alloc, what, below) {
+        Some(item) => items.push(Placed { slot, item }).is_ok(),
+        None => false,
+    }
+}
+
+fn fill(alloc: Global, items: &mut Items, slots: &[(u8, What)], below: Entry) -> bool {
+    for i in 0..slots.len() {
+        let (slot, what) = &slots[i];
+        if !add(alloc, items, *slot, what, below) {
+            return false;
+        }
+    }
+    true
+}
+
+fn shard(alloc: Global, slots: &[(u8, What)], below: Entry) -> Option<Block> {
     let mut items = Items::new(alloc);
-    for (slot, text) in files {
-        let name = Name::parse(alloc, text).ok()?;
-        let item = Item::Leaf(name, empty_file());
-        items.push(Placed { slot: *slot, item }).ok()?;
+    if fill(alloc, &mut items, slots, below) && is_shard(&items) {
+        shard_node(alloc, &items).ok()
+    } else {
+        None
     }
-    save_items(alloc, store, &items, 0, touches)
 }
 
-// Shards of one shard each, above one.
-pub fn save_above<L: Ledger>(
-    alloc: Global,
-    store: &mut MemStore<Sha256Hash>,
-    slots: &[u8],
-    lowest: Entry,
-    touches: &mut Steps<L>,
-) -> Option<Entry> {
-    let mut entry = lowest;
-    for slot in slots {
-        let mut items = Items::new(alloc);
-        let item = Item::Sub(entry);
-        items.push(Placed { slot: *slot, item }).ok()?;
-        entry = save_items(alloc, store, &items, entry.tsize, touches)?;
+fn copied(alloc: Global, bytes: &[u8]) -> Option<Block> {
+    let mut block = Block::new(alloc);
+    match block.extend(bytes) {
+        Ok(()) => Some(block),
+        Err(_) => None,
     }
-    Some(entry)
 }
 
-// What a search for a name answers: 0 for its entry, 1 for none, 2 for a missing block, 3 for a bad one, 4 for anything else.
-fn found<L: Ledger>(
+fn block(alloc: Global, made: &Made, below: Entry) -> Option<Block> {
+    match made {
+        Made::Slots(slots) => shard(alloc, *slots, below),
+        Made::Bytes(bytes) => copied(alloc, *bytes),
+    }
+}
+
+// Puts a block into a store, and answers its entry, with the Tsize of what is below it.
+fn keep(store: &mut Kept, block: Block, below: u64) -> Option<Entry> {
+    let bytes = block.as_slice();
+    let cid = Cid::of::<Sha256Hash>(Codec::DagPb, bytes);
+    let tsize = below.saturating_add(bytes.len() as u64);
+    match store.plant(&cid, block) {
+        Ok(()) => Some(Entry { cid, tsize }),
+        Err(_) => None,
+    }
+}
+
+fn plant(alloc: Global, store: &mut Kept, made: &Made, below: Entry) -> Option<Entry> {
+    match block(alloc, made, below) {
+        Some(block) => keep(store, block, below.tsize),
+        None => None,
+    }
+}
+
+// The root of a tree, and the CID of the block that a row is about.
+#[derive(Clone, Copy)]
+pub struct Planted {
+    pub root: Entry,
+    pub about: Cid,
+}
+
+fn plant_tree(alloc: Global, store: &mut Kept, tree: &[Made], about: usize) -> Option<Planted> {
+    let mut root = empty_file();
+    let mut named = root.cid;
+    for i in 0..tree.len() {
+        root = plant(alloc, store, &tree[i], root)?;
+        if i == about {
+            named = root.cid;
+        }
+    }
+    Some(Planted { root, about: named })
+}
+
+fn find_counted<N: NameHash, L: Ledger>(
     alloc: Global,
-    store: &mut MemStore<Sha256Hash>,
+    store: &mut Kept,
     root: &Cid,
-    text: &str,
-    about: &Cid,
-    touches: &mut Steps<L>,
-) -> u8 {
-    let Ok(name) = Name::parse(alloc, text) else {
-        return 4;
-    };
-    match find::<MemStore<Sha256Hash>, FirstEight, L>(alloc, store, root, &name, touches) {
-        Ok(Some(entry)) if entry == empty_file() => 0,
-        Ok(None) => 1,
-        Err(StoreFault::Missing(cid)) if cid == *about => 2,
-        Err(StoreFault::BadBlock(cid, Role::Shard(0))) if cid == *about => 3,
-        _ => 4,
-    }
-}
-
-// The shard of three names, of one block.
-fn finds_among_three<L: Ledger>(alloc: Global, touches: &mut Steps<L>) -> Option<bool> {
-    let mut store = MemStore::<Sha256Hash>::new(alloc);
-    let files = [(b'a', "a"), (b'b', "b"), (b'c', "c")];
-    let root = save_files(alloc, &mut store, &files, touches)?;
-    let wanted = Cid::parse("bafybeifh47sgh7jevtsuzroog5oow4y736vejdvyiyo3rjcjl7bg5pu2la").ok()?;
-    let mut right = root.cid == wanted && root.tsize == 165;
-    for (name, answer) in [("a", 0), ("b", 0), ("c", 0), ("d", 1), ("ab", 1)] {
-        right = right && found(alloc, &mut store, &wanted, name, &wanted, touches) == answer;
-    }
-    Some(right)
-}
-
-// Eight shards above two names, of which the lowest is lost in the end.
-fn finds_below_eight<L: Ledger>(alloc: Global, touches: &mut Steps<L>) -> Option<bool> {
-    let mut store = MemStore::<Sha256Hash>::new(alloc);
-    let files = [(b'X', "abcdefgX"), (b'Y', "abcdefgY")];
-    let lowest = save_files(alloc, &mut store, &files, touches)?;
-    let root = save_above(alloc, &mut store, b"gfedcba", lowest, touches)?;
-    let wanted = Cid::parse("bafybeiebkftuyely6co7jdi3vgdmtaqfjvqkspruabz7malta6ivjrlvny").ok()?;
-    let mut right = root.cid == wanted && root.tsize == 628;
-    for (name, answer) in [
-        ("abcdefgX", 0),
-        ("abcdefgY", 0),
-        ("abcdefgZ", 1),
-        ("abcd", 1),
-    ] {
-        right = right && found(alloc, &mut store, &wanted, name, &wanted, touches) == answer;
-    }
-    store.forget(&lowest.cid);
-    for (name, answer) in [("abcdefgX", 2), ("abcdefgZ", 2), ("abcd", 1)] {
-        right = right && found(alloc, &mut store, &wanted, name, &lowest.cid, touches) == answer;
-    }
-    Some(right)
-}
-
-// Blocks that are no shards, and a name that stands in the slot of another.
-fn refuses_bad_blocks<L: Ledger>(alloc: Global, touches: &mut Steps<L>) -> Option<bool> {
-    let mut store = MemStore::<Sha256Hash>::new(alloc);
-    let none = save_block(alloc, &mut store, Codec::DagPb, b"none", touches).ok()?;
-    let other = save_files(alloc, &mut store, &[(b'b', "a")], touches)?.cid;
-    Some(
-        found(alloc, &mut store, &none, "a", &none, touches) == 3
-            && found(alloc, &mut store, &other, "a", &other, touches) == 3
-            && found(alloc, &mut store, &other, "c", &other, touches) == 3,
-    )
-}
-
-// The place of the first row that is wrong.
-fn first_wrong<L: Ledger>(alloc: Global, blank: Blank) -> Option<usize>
+    name: &Name,
+    blank: Blank,
+) -> Result<Option<Entry>, StoreFault>
     requires name { blank.name ≡ L.name }
     requires parts { blank.parts ≡ L.parts }
     requires some { 0 < blank.parts }
 {
     let mut touches = Steps::<L>::new(blank);
-    let rows = [
-        finds_among_three(alloc, &mut touches),
-        finds_below_eight(alloc, &mut touches),
-        refuses_bad_blocks(alloc, &mut touches),
-    ];
-    rows.iter().position(|right| *right != Some(true))
+    find::<Kept, N, L>(alloc, store, root, name, &mut touches)
 }
 
-fn first_wrong_row(alloc: Global) -> Option<usize> {
-    first_wrong::<Brand>(alloc, Blank::new(1))
+// The entry of a name, with no count of touches.
+pub fn found<N: NameHash>(
+    alloc: Global,
+    store: &mut Kept,
+    root: &Cid,
+    name: &Name,
+) -> Result<Option<Entry>, StoreFault> {
+    find_counted::<N, Brand>(alloc, store, root, name, Blank::new(1))
 }
+
+fn answer_of(found: &Result<Option<Entry>, StoreFault>, about: &Cid) -> Answer {
+    match found {
+        Ok(Some(entry)) if *entry == empty_file() => Answer::Found,
+        Ok(None) => Answer::Absent,
+        Err(StoreFault::Missing(cid)) if cid == about => Answer::Missing,
+        Err(StoreFault::BadBlock(cid, Role::Shard(0))) if cid == about => Answer::Bad,
+        _ => Answer::Other,
+    }
+}
+
+fn sought(alloc: Global, store: &mut Kept, planted: &Planted, name: &Name) -> Answer {
+    let found = found::<FirstEight>(alloc, store, &planted.root.cid, name);
+    answer_of(&found, &planted.about)
+}
+
+fn finds(alloc: Global, store: &mut Kept, planted: &Planted, text: &str, wanted: Answer) -> bool {
+    match Name::parse(alloc, text) {
+        Ok(name) => sought(alloc, store, planted, &name) == wanted,
+        Err(_) => false,
+    }
+}
+
+fn is_root(root: &Entry, text: &[u8], tsize: u64) -> bool {
+    root.cid.text().as_slice() == text && root.tsize == tsize
+}
+
+fn answers(alloc: Global, store: &mut Kept, planted: &Planted, ask: &Ask) -> bool {
+    match ask {
+        Ask::Root(text, tsize) => is_root(&planted.root, *text, *tsize),
+        Ask::Find(text, wanted) => finds(alloc, store, planted, *text, *wanted),
+        Ask::List(wanted) => lists(alloc, store, planted, wanted),
+        Ask::Weigh(limit, wanted) => weighs(alloc, store, &planted.root.cid, *limit, *wanted),
+    }
+}
+
+fn is_right(alloc: Global, store: &mut Kept, row: &Row) -> bool {
+    let (tree, about, is_lost, ask) = row;
+    match plant_tree(alloc, store, *tree, *about) {
+        Some(planted) => {
+            if *is_lost {
+                store.forget(&planted.about);
+            }
+            answers(alloc, store, &planted, ask)
+        }
+        None => false,
+    }
+}
+
+fn is_row(alloc: Global, row: &Row) -> bool {
+    let mut store = Kept::new(alloc);
+    is_right(alloc, &mut store, row)
+}
+
+// The number of the first row that is wrong.
+pub fn first_wrong(alloc: Global, rows: &[Row]) -> Option<usize> {
+    for i in 0..rows.len() {
+        if !is_row(alloc, &rows[i]) {
+            return Some(i);
+        }
+    }
+    None
+}
+
+static ROWS: [Row; 17] = [
+    (
+        &THREE,
+        0,
+        false,
+        Ask::Root(
+            b"bafybeifh47sgh7jevtsuzroog5oow4y736vejdvyiyo3rjcjl7bg5pu2la",
+            165,
+        ),
+    ),
+    (&THREE, 0, false, Ask::Find("a", Answer::Found)),
+    (&THREE, 0, false, Ask::Find("b", Answer::Found)),
+    (&THREE, 0, false, Ask::Find("c", Answer::Found)),
+    (&THREE, 0, false, Ask::Find("d", Answer::Absent)),
+    (&THREE, 0, false, Ask::Find("ab", Answer::Absent)),
+    (
+        &EIGHT,
+        0,
+        false,
+        Ask::Root(
+            b"bafybeiebkftuyely6co7jdi3vgdmtaqfjvqkspruabz7malta6ivjrlvny",
+            628,
+        ),
+    ),
+    (&EIGHT, 0, false, Ask::Find("abcdefgX", Answer::Found)),
+    (&EIGHT, 0, false, Ask::Find("abcdefgY", Answer::Found)),
+    (&EIGHT, 0, false, Ask::Find("abcdefgZ", Answer::Absent)),
+    (&EIGHT, 0, false, Ask::Find("abcd", Answer::Absent)),
+    (&EIGHT, 0, true, Ask::Find("abcdefgX", Answer::Missing)),
+    (&EIGHT, 0, true, Ask::Find("abcdefgZ", Answer::Missing)),
+    (&EIGHT, 0, true, Ask::Find("abcd", Answer::Absent)),
+    (&NONE, 0, false, Ask::Find("a", Answer::Bad)),
+    (&TURNED, 0, false, Ask::Find("a", Answer::Bad)),
+    (&TURNED, 0, false, Ask::Find("c", Answer::Bad)),
+];
 
 #[test]
 fn names_are_found(rt: HostRuntime) {
-    assert_eq!(rt; first_wrong_row(rt.alloc()), None);
+    assert_eq!(rt; first_wrong(rt.alloc(), &ROWS), None);
 }
