@@ -2,6 +2,7 @@
 use Rattle.std.specs.Prelude.{◌≡◌, ℕ, ◌+◌, ◌<◌, ◌≤◌, List, true, false, ⊤}
 use Rattle.std.specs.declared.result.Result.{Result}
 use Rattle.std.specs.declared.result.Result.TheVariants.{Ok, Err}
+use Rattle.uf_tree.specs.Profiles.{most_bytes}
 use Rattle.uf_build.specs.declared.fault.BuildFault.{BuildFault}
 use Rattle.uf_build.specs.declared.fault.BuildFault.TheVariants.{FileTooLong, Spent, Store}
 use Rattle.uf_store.specs.declared.store.StoreFault.{StoreFault}
@@ -9,7 +10,7 @@ use Rattle.uf_store.specs.declared.store.StoreFault.TheVariants.{Failed, Damaged
 use Rattle.uf_store.specs.Faults.{NoneIsBad, Shows, StaysCalm}
 use Rattle.uf_store.specs.Seen.{Seen}
 use Rattle.uf_tree.specs.declared.nodes.Entry.{Entry}
-use Rattle.uf_build.specs.Building.{Building, most_bytes}
+use Rattle.uf_build.specs.Building.{Building}
 
 -- a fault that saves alone can have: nothing is looked for
 abbrev pub IsSaving : StoreFault → Type 0

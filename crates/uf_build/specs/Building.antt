@@ -1,6 +1,7 @@
 -- What contracts see of a builder of a file.
 use Rattle.std.specs.Prelude.{◌≡◌, ℕ, ◌+◌, ◌*◌, ◌<◌, ◌≤◌, List, [], ◌∷◌, ◌++◌, length, map, Bool, ⊤}
 use Rattle.std.specs.List.{AllByRecursion}
+use Rattle.uf_tree.specs.Profiles.{most_bytes}
 use Rattle.uf_cid.specs.Blocks.{Held}
 use Rattle.uf_store.specs.Contents.{Told}
 use Rattle.uf_store.specs.Keeping.{Holds}
@@ -17,10 +18,6 @@ pub record Building : Type 0 where
   pub is_spent : Bool
   pub begun : List ℕ
   pub rows : List (List Part)
-
--- the most bytes of a file
-abbrev pub most_bytes : Profile → ℕ
-most_bytes p = p.chunk * 4194304
 
 -- pieces of a file and the open groups over them, of whose saved blocks P holds
 pub record ArePieces (X : List ℕ → List ℕ) (P : Held → Type 0) (p : Profile) (pieces : List (List ℕ)) (rows : List (List Part)) : Type 0 where

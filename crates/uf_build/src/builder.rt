@@ -1,7 +1,8 @@
 // The builder of a file.
 ghost use Rattle.std.specs.Prelude.{◌≡◌, ◌+◌, ◌<◌, ◌≤◌, ◌++◌, List, ℕ, [], length, false, IfOk, OnOk, IfErr, IsTrue};
 ghost use Rattle.uf_store.specs.Contents.{Told};
-ghost use Rattle.uf_store.specs.Keeping.{Holds, KeepsGood, SavesOnly};
+ghost use Rattle.uf_store.specs.Keeping.{Holds, KeepsGood};
+ghost use Rattle.uf_store.specs.Writing.{SavesOnly};
 ghost use Rattle.uf_tree.specs.FilePlan.{file_plan};
 ghost use Rattle.uf_tree.specs.Profiles.{is_profile};
 ghost use Rattle.uf_build.specs.Answers.{Shown, IsFeedAnswer, IsFinishAnswer, LeavesAlone};
@@ -14,9 +15,6 @@ use std::marker::Model;
 use std::sync::ledger::Ledger;
 use uf_store::{Steps, Store};
 use uf_tree::{Entry, Profile};
-
-// How many pieces a file may have.
-const MOST_PIECES: u64 = 4194304;
 
 /// Builds a file of the bytes that it is fed, in pieces of any sizes. It keeps one piece of the file and one group of links
 /// for each row, however long the file is. Contracts see its profile, how many bytes it was fed, and whether it gave up.
@@ -80,7 +78,7 @@ impl Builder {
         // No fault was passed over, what was good stays, and nothing but blocks was written.
         ensures cause { Shown S.X.block32 result (S.seen store.old) (S.seen store.new) }
         ensures good { KeepsGood S.X.block32 (S.seen store.old).told (S.seen store.new).told }
-        ensures saves { SavesOnly (S.seen store.old).told (S.seen store.new).told }
+        ensures saves { SavesOnly S.X.block32 (S.seen store.old).told (S.seen store.new).told }
 
         // One touch for each block that is saved, and whatever came, no more than the plan of all bytes has blocks.
         ensures saved { OnOk result (touches.new + saved_by self.old ≡ touches.old + saved_by self.new) }
@@ -91,7 +89,7 @@ impl Builder {
         if self.is_spent {
             return Err(BuildFault::Spent);
         }
-        let most = u64::from(self.layout.profile.chunk) * MOST_PIECES;
+        let most = self.layout.profile.most_bytes();
         let more = piece.len() as u64;
         if more > most - self.fed {
             self.is_spent = true;
@@ -121,7 +119,7 @@ impl Builder {
             → Holds (S.seen store.new).told (file_plan S.X.block32 self.profile bytes).blocks) }
         ensures cause { Shown S.X.block32 result (S.seen store.old) (S.seen store.new) }
         ensures good { KeepsGood S.X.block32 (S.seen store.old).told (S.seen store.new).told }
-        ensures saves { SavesOnly (S.seen store.old).told (S.seen store.new).told }
+        ensures saves { SavesOnly S.X.block32 (S.seen store.old).told (S.seen store.new).told }
         ensures saved { OnOk result ((bytes : List ℕ) → HasFed S.X.block32 bytes self
             → touches.new + saved_by self ≡ touches.old + length (file_plan S.X.block32 self.profile bytes).blocks) }
         ensures most { (bytes : List ℕ) → HasFed S.X.block32 bytes self

@@ -4,7 +4,8 @@ ghost use Rattle.uf_cid.specs.Bytes.{piece};
 ghost use Rattle.uf_cid.specs.Cid.{cid_of};
 ghost use Rattle.uf_cid.specs.declared.cid.Codec.TheVariants.{Raw};
 ghost use Rattle.uf_store.specs.Faults.{Answers, NoneIsBad};
-ghost use Rattle.uf_store.specs.Keeping.{Holds, KeepsGood, SavesOnly};
+ghost use Rattle.uf_store.specs.Keeping.{Holds, KeepsGood};
+ghost use Rattle.uf_store.specs.Writing.{SavesOnly};
 ghost use Rattle.uf_tree.specs.FilePlan.{file_plan, leaf_part};
 ghost use Rattle.uf_tree.specs.Profiles.{is_profile};
 ghost use Rattle.uf_build.specs.Answers.{IsSaving};
@@ -48,7 +49,7 @@ impl Layout {
         ensures cause { Answers S.X.block32 NoneIsBad result (S.seen store.old) (S.seen store.new) }
         ensures fault { IfErr result IsSaving }
         ensures good { KeepsGood S.X.block32 (S.seen store.old).told (S.seen store.new).told }
-        ensures saves { SavesOnly (S.seen store.old).told (S.seen store.new).told }
+        ensures saves { SavesOnly S.X.block32 (S.seen store.old).told (S.seen store.new).told }
         ensures most { OnErr result (SavesUpTo S.X.block32 self.old.profile bytes.now self.old.begun.items self.old.rows.items touches.old touches.new) }
     {
         let chunk = self.profile.chunk as usize;
@@ -87,7 +88,7 @@ impl Layout {
         ensures cause { Answers S.X.block32 NoneIsBad result (S.seen store.old) (S.seen store.new) }
         ensures fault { IfErr result IsSaving }
         ensures good { KeepsGood S.X.block32 (S.seen store.old).told (S.seen store.new).told }
-        ensures saves { SavesOnly (S.seen store.old).told (S.seen store.new).told }
+        ensures saves { SavesOnly S.X.block32 (S.seen store.old).told (S.seen store.new).told }
         ensures most { OnErr result (SavesUpTo S.X.block32 self.old.profile bytes.now self.old.begun.items self.old.rows.items touches.old touches.new) }
     {
         if self.begun.is_empty() {
@@ -122,7 +123,7 @@ impl Layout {
         ensures cause { Answers S.X.block32 NoneIsBad result (S.seen store.old) (S.seen store.new) }
         ensures fault { IfErr result IsSaving }
         ensures good { KeepsGood S.X.block32 (S.seen store.old).told (S.seen store.new).told }
-        ensures saves { SavesOnly (S.seen store.old).told (S.seen store.new).told }
+        ensures saves { SavesOnly S.X.block32 (S.seen store.old).told (S.seen store.new).told }
         ensures all { OnOk result ((bytes : List ℕ) → Builds S.X.block32 Any self.profile bytes self.begun.items self.rows.items
             → touches.new + saved_over self.profile.width self.rows.items ≡ touches.old + length (file_plan S.X.block32 self.profile bytes).blocks) }
         ensures most { (bytes : List ℕ) → Builds S.X.block32 Any self.profile bytes self.begun.items self.rows.items
@@ -153,7 +154,7 @@ impl Layout {
         ensures cause { Answers S.X.block32 NoneIsBad result (S.seen store.old) (S.seen store.new) }
         ensures fault { IfErr result IsSaving }
         ensures good { KeepsGood S.X.block32 (S.seen store.old).told (S.seen store.new).told }
-        ensures saves { SavesOnly (S.seen store.old).told (S.seen store.new).told }
+        ensures saves { SavesOnly S.X.block32 (S.seen store.old).told (S.seen store.new).told }
         ensures most { OnErr result ((bytes : List ℕ) → Builds S.X.block32 Any self.old.profile bytes self.old.begun.items self.old.rows.items
             → touches.new + saved_over self.old.profile.width self.old.rows.items ≤ touches.old + length (file_plan S.X.block32 self.old.profile bytes).blocks) }
     {
@@ -180,7 +181,7 @@ impl Layout {
         ensures cause { Answers S.X.block32 NoneIsBad result (S.seen store.old) (S.seen store.new) }
         ensures fault { IfErr result IsSaving }
         ensures good { KeepsGood S.X.block32 (S.seen store.old).told (S.seen store.new).told }
-        ensures saves { SavesOnly (S.seen store.old).told (S.seen store.new).told }
+        ensures saves { SavesOnly S.X.block32 (S.seen store.old).told (S.seen store.new).told }
         ensures most { touches.new + saved_over self.old.profile.width self.old.rows.items
             ≤ touches.old + saved_over self.old.profile.width (push_row S.X.block32 self.old.profile.width (leaf_part S.X.block32 self.old.begun.items) self.old.rows.items) }
     {
@@ -219,7 +220,7 @@ impl Layout {
         ensures cause { Answers S.X.block32 NoneIsBad result (S.seen store.old) (S.seen store.new) }
         ensures fault { IfErr result IsSaving }
         ensures good { KeepsGood S.X.block32 (S.seen store.old).told (S.seen store.new).told }
-        ensures saves { SavesOnly (S.seen store.old).told (S.seen store.new).told }
+        ensures saves { SavesOnly S.X.block32 (S.seen store.old).told (S.seen store.new).told }
         ensures most { OnErr result (SavesUpTo S.X.block32 self.old.profile bytes.now self.old.begun.items self.old.rows.items touches.old touches.new) }
     {
         let chunk = self.profile.chunk as usize;
@@ -256,7 +257,7 @@ impl Layout {
         ensures cause { Answers S.X.block32 NoneIsBad result (S.seen store.old) (S.seen store.new) }
         ensures fault { IfErr result IsSaving }
         ensures good { KeepsGood S.X.block32 (S.seen store.old).told (S.seen store.new).told }
-        ensures saves { SavesOnly (S.seen store.old).told (S.seen store.new).told }
+        ensures saves { SavesOnly S.X.block32 (S.seen store.old).told (S.seen store.new).told }
         ensures most { OnErr result (SavesUpTo S.X.block32 self.old.profile bytes.now self.old.begun.items self.old.rows.items touches.old touches.new) }
     {
         let chunk = self.profile.chunk as usize;
@@ -315,7 +316,7 @@ fn save_leaf<S: Store, L: Ledger>(
     ensures cause { Answers S.X.block32 NoneIsBad result (S.seen store.old) (S.seen store.new) }
     ensures fault { IfErr result IsSaving }
     ensures good { KeepsGood S.X.block32 (S.seen store.old).told (S.seen store.new).told }
-    ensures saves { SavesOnly (S.seen store.old).told (S.seen store.new).told }
+    ensures saves { SavesOnly S.X.block32 (S.seen store.old).told (S.seen store.new).told }
     ensures most { touches.new + saved_over profile.width rows.old.items ≤ touches.old + saved_over profile.width (push_row S.X.block32 profile.width (leaf_part S.X.block32 piece.now) rows.old.items) }
 {
     match save_under(alloc, store, &cid, piece, touches) {

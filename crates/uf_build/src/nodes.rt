@@ -1,8 +1,10 @@
 // The node over a group of parts.
-ghost use Rattle.std.specs.Prelude.{◌≡◌, ◌+◌, ◌<◌, ◌≤◌, ◌^◌, ◌∷◌, [], length, IfOk, OnOk, IfErr};
+ghost use Rattle.std.specs.Prelude.{◌≡◌, ◌+◌, ◌<◌, ◌≤◌, ◌^◌, ◌∷◌, [], length, IfOk, OnOk, IfErr, OnErr};
 ghost use Rattle.std.specs.List.{AllByRecursion, sum_by};
 ghost use Rattle.uf_store.specs.Faults.{Answers, NoneIsBad};
-ghost use Rattle.uf_store.specs.Keeping.{Holds, KeepsGood, SavesOnly};
+ghost use Rattle.uf_store.specs.Seen.{KeepsHeld};
+ghost use Rattle.uf_store.specs.Keeping.{Holds, KeepsGood};
+ghost use Rattle.uf_store.specs.Writing.{SavesOnly};
 ghost use Rattle.uf_tree.specs.FilePlan.{node_over, node_part, node_held};
 ghost use Rattle.uf_tree.specs.Nodes.{capped, link_of};
 ghost use Rattle.uf_tree.specs.Validity.{IsPartLink};
@@ -12,10 +14,10 @@ use std::alloc::Global;
 use std::sync::ledger::Ledger;
 use uf_cid::{Cid, Codec, Memory, Seq, Text, cids_are_whole};
 use uf_dagpb::Link;
-use uf_store::{Steps, Store, StoreFault, save_block};
+use uf_store::{Steps, Store, StoreFault, save_under};
 use uf_tree::{Entry, FileNode, Part, file_node};
 
-// Saves the node over a group, and answers it as a part of the row above. At most one touch.
+/// Saves the node over a group of parts, and answers it as a part of the row above. At most one touch.
 pub fn save_node<S: Store, L: Ledger>(
     alloc: Global,
     store: &mut S,
@@ -26,31 +28,28 @@ pub fn save_node<S: Store, L: Ledger>(
     requires few { length parts.now ≤ 1024 }
     requires size { sum_by (λ m. m.size) parts.now < 2 ^ 63 }
     ensures part { IfOk result (λ part. part ≡ node_part S.X.block32 parts.now) }
+    ensures kept { OnOk result (KeepsHeld S.X.block32 (node_held S.X.block32 parts.now) (S.seen store.old) (S.seen store.new)) }
     ensures held { OnOk result (Holds (S.seen store.new).told (node_held S.X.block32 parts.now ∷ [])) }
     ensures cause { Answers S.X.block32 NoneIsBad result (S.seen store.old) (S.seen store.new) }
     ensures fault { IfErr result IsSaving }
+    ensures err { OnErr result ((S.seen store.new).told ≡ (S.seen store.old).told) }
     ensures good { KeepsGood S.X.block32 (S.seen store.old).told (S.seen store.new).told }
-    ensures saves { SavesOnly (S.seen store.old).told (S.seen store.new).told }
+    ensures saves { SavesOnly S.X.block32 (S.seen store.old).told (S.seen store.new).told }
     ensures touches { touches.new ≤ touches.old + 1 }
     ensures touch { OnOk result (touches.new ≡ touches.old + 1) }
 {
-    let Ok(node) = node_of(alloc, parts) else {
-        return Err(StoreFault::Memory);
-    };
-    let Ok(block) = file_node(alloc, &node) else {
-        return Err(StoreFault::Memory);
-    };
+    let node = node_of(alloc, parts)?;
+    let block = file_node(alloc, &node)?;
     let bytes = block.as_slice();
-    match save_block(alloc, store, Codec::DagPb, bytes, touches) {
-        Ok(cid) => Ok(Part {
-            entry: Entry {
-                cid,
-                tsize: tsize_over(bytes, parts),
-            },
-            size: size_over(parts),
-        }),
-        Err(fault) => Err(fault),
-    }
+    let cid = Cid::of::<S::X>(Codec::DagPb, bytes);
+    save_under(alloc, store, &cid, bytes, touches)?;
+    Ok(Part {
+        entry: Entry {
+            cid,
+            tsize: tsize_over(bytes, parts),
+        },
+        size: size_over(parts),
+    })
 }
 
 // The links of a group's node, and the sizes.

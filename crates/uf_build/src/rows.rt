@@ -3,7 +3,8 @@ ghost use Rattle.std.specs.Prelude.{◌≡◌, ◌+◌, ◌<◌, ◌≤◌, ◌^
 ghost use Rattle.std.specs.List.{AllByRecursion};
 ghost use Rattle.std.specs.Option.{option_to_list};
 ghost use Rattle.uf_store.specs.Faults.{Answers, NoneIsBad};
-ghost use Rattle.uf_store.specs.Keeping.{Holds, KeepsGood, SavesOnly};
+ghost use Rattle.uf_store.specs.Keeping.{Holds, KeepsGood};
+ghost use Rattle.uf_store.specs.Writing.{SavesOnly};
 ghost use Rattle.uf_build.specs.Answers.{IsSaving};
 ghost use Rattle.uf_build.specs.Rows.{push_up, held_up, close_up, close_held_up, carry, carry_held, size_of, sizes_of, IsWidth, AreShort};
 
@@ -34,7 +35,7 @@ pub fn push<S: Store, L: Ledger>(
     ensures cause { Answers S.X.block32 NoneIsBad result (S.seen store.old) (S.seen store.new) }
     ensures fault { IfErr result IsSaving }
     ensures good { KeepsGood S.X.block32 (S.seen store.old).told (S.seen store.new).told }
-    ensures saves { SavesOnly (S.seen store.old).told (S.seen store.new).told }
+    ensures saves { SavesOnly S.X.block32 (S.seen store.old).told (S.seen store.new).told }
     ensures touches { touches.new ≤ touches.old + length (held_up S.X.block32 width level part rows.old.items) }
     ensures count { OnOk result (touches.new ≡ touches.old + length (held_up S.X.block32 width level part rows.old.items)) }
 {
@@ -90,7 +91,7 @@ pub fn close<S: Store, L: Ledger>(
     ensures cause { Answers S.X.block32 NoneIsBad result (S.seen store.old) (S.seen store.new) }
     ensures fault { IfErr result IsSaving }
     ensures good { KeepsGood S.X.block32 (S.seen store.old).told (S.seen store.new).told }
-    ensures saves { SavesOnly (S.seen store.old).told (S.seen store.new).told }
+    ensures saves { SavesOnly S.X.block32 (S.seen store.old).told (S.seen store.new).told }
     ensures touches { touches.new ≤ touches.old + length (close_held_up S.X.block32 width level rows.old.items (option_to_list carried)) }
     ensures count { OnOk result (touches.new ≡ touches.old + length (close_held_up S.X.block32 width level rows.old.items (option_to_list carried))) }
 {
@@ -122,7 +123,7 @@ fn close_row<S: Store, L: Ledger>(
     ensures cause { Answers S.X.block32 NoneIsBad result (S.seen store.old) (S.seen store.new) }
     ensures fault { IfErr result IsSaving }
     ensures good { KeepsGood S.X.block32 (S.seen store.old).told (S.seen store.new).told }
-    ensures saves { SavesOnly (S.seen store.old).told (S.seen store.new).told }
+    ensures saves { SavesOnly S.X.block32 (S.seen store.old).told (S.seen store.new).told }
     ensures touches { touches.new ≤ touches.old + length (carry_held S.X.block32 is_top (row ++ option_to_list carried)) }
     ensures count { OnOk result (touches.new ≡ touches.old + length (carry_held S.X.block32 is_top (row ++ option_to_list carried))) }
 {

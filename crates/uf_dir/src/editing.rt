@@ -3,7 +3,8 @@ ghost use Rattle.std.specs.Prelude.{◌≡◌, ◌≤◌, ◌^◌, List, IfOk, I
 ghost use Rattle.uf_cid.specs.declared.cid.Codec.TheVariants.{DagPb};
 ghost use Rattle.uf_edge.specs.Counts.{Stood};
 ghost use Rattle.uf_store.specs.Faults.{Answers};
-ghost use Rattle.uf_store.specs.Keeping.{Agrees, KeepsGood, SavesOnly};
+ghost use Rattle.uf_store.specs.Keeping.{Agrees, KeepsGood};
+ghost use Rattle.uf_store.specs.Writing.{SavesOnly};
 ghost use Rattle.uf_store.specs.Lost.{AgreesAfter, ReadsOver};
 ghost use Rattle.uf_tree.specs.Changes.{with_name, without};
 ghost use Rattle.uf_tree.specs.Nodes.{Named};
@@ -48,7 +49,7 @@ pub fn put<S: Store, N: NameHash, L: Ledger>(
         (own_blocks S.X.block32 N.name64 p.now (with_name name.now entry.now l))) }
     ensures cause { Shown S.X.block32 (IsBad N.name64 (Some p.now)) result (S.seen store.old) (S.seen store.new) }
     ensures good { KeepsGood S.X.block32 (S.seen store.old).told (S.seen store.new).told }
-    ensures saves { SavesOnly (S.seen store.old).told (S.seen store.new).told }
+    ensures saves { SavesOnly S.X.block32 (S.seen store.old).told (S.seen store.new).told }
 {
     match entries_under(alloc, store, Some(*p), root, touches) {
         Err(fault) => Err(DirFault::Store(fault)),
@@ -82,7 +83,7 @@ pub fn remove<S: Store, N: NameHash, L: Ledger>(
         (own_blocks S.X.block32 N.name64 p.now (without name.now l))) }
     ensures cause { Answers S.X.block32 (IsBad N.name64 (Some p.now)) result (S.seen store.old) (S.seen store.new) }
     ensures good { KeepsGood S.X.block32 (S.seen store.old).told (S.seen store.new).told }
-    ensures saves { SavesOnly (S.seen store.old).told (S.seen store.new).told }
+    ensures saves { SavesOnly S.X.block32 (S.seen store.old).told (S.seen store.new).told }
 {
     match entries_under(alloc, store, Some(*p), root, touches) {
         Err(fault) => Err(fault),

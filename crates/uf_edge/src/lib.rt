@@ -2,11 +2,16 @@
 #![tactic(auto)]
 
 mod host;
+mod meeting;
+mod mem_host;
 mod memory;
+mod places;
 mod streams;
 #[cfg(test)]
 mod tests;
 
-pub use host::{Fetched, Kind, Listing, Put};
+pub use host::{Fetched, Host, Kind, Listing, Place, Put};
+pub use meeting::{Met, meet};
+pub use mem_host::MemHost;
 pub use memory::{Calls, MemSink, MemSource};
 pub use streams::{Filled, Intake, Read, Sent, Sink, Source, Wrote, fill, read_all, write_all};

@@ -1,5 +1,11 @@
-// Sources and sinks in memory, and the calls that drive them.
-use crate::{Calls, Filled, Intake, MemSink, MemSource, Sent, fill, read_all, write_all};
+// Sources, sinks and hosts in memory, and the calls that drive them.
+ghost use Rattle.std.specs.Prelude.{◌≡◌, ◌++◌, IsTrue};
+ghost use Rattle.uf_edge.specs.Host.{front, is_member_name};
+
+use crate::{
+    Calls, Fetched, Filled, Host, Intake, Kind, MemHost, MemSink, MemSource, Met, Put, Sent, fill,
+    meet, read_all, write_all,
+};
 use std::alloc::Global;
 use uf_cid::{Block, Memory};
 
@@ -79,5 +85,74 @@ fn a_sink_takes_what_it_has_room_for(rt: HostRuntime) -> Result<(), Memory> {
     assert!(rt; writes(alloc, 0, &[], (Sent::Failed, b""))?);
     assert!(rt; writes(alloc, 20, &[1], (Sent::Failed, TEXT))?);
     assert!(rt; writes(alloc, 20, &[0], (Sent::Done, TEXT))?);
+    Ok(())
+}
+
+// Puts a piece behind the bytes of a file in a folder.
+fn grow(host: &mut MemHost, folder: &str, name: &str, path: &str, piece: &[u8]) -> Option<Put>
+    requires path { path.now ≡ front folder.now ++ name.now }
+    requires name { IsTrue (is_member_name name.now) }
+{
+    match (host.kind(folder), host.kind(path)) {
+        (Kind::Folder, Kind::Absent) => Some(host.append(path, piece)),
+        (Kind::Folder, Kind::File) => Some(host.append(path, piece)),
+        _ => None,
+    }
+}
+
+// Makes a folder in the working folder.
+fn make(host: &mut MemHost, name: &str) -> Option<Put>
+    requires { IsTrue (is_member_name name.now) }
+{
+    match host.kind(name) {
+        Kind::Absent => Some(host.make_folder(name)),
+        _ => None,
+    }
+}
+
+// Reads at most four bytes of a file.
+fn reads_at(host: &mut MemHost, path: &str, offset: u64, wanted: &[u8]) -> bool {
+    let mut buf = [0u8; 4];
+    match host.kind(path) {
+        Kind::File => match host.read_at(path, offset, &mut buf) {
+            Fetched::Got(count) => &buf[..count] == wanted,
+            Fetched::End => wanted.is_empty(),
+            _ => false,
+        },
+        _ => false,
+    }
+}
+
+// Compares the names in a folder.
+fn lists(host: &mut MemHost, path: &str, wanted: &[&str]) -> bool {
+    match meet(host, path) {
+        Met::Folder(names) => {
+            names.len() == wanted.len()
+                && names
+                    .as_slice()
+                    .iter()
+                    .zip(wanted)
+                    .all(|(name, text)| name.as_str() == *text)
+        }
+        _ => false,
+    }
+}
+
+#[test]
+fn a_host_makes_grows_lists_reads_and_fails(rt: HostRuntime) -> Result<(), Memory> {
+    let alloc = rt.alloc();
+    let mut host = MemHost::new(alloc, calls(alloc, &[9])?);
+    assert_eq!(rt; make(&mut host, "d"), Some(Put::Done));
+    assert_eq!(rt; grow(&mut host, "d", "f", "d/f", b"0123"), Some(Put::Done));
+    assert_eq!(rt; grow(&mut host, "d", "f", "d/f", b"45"), Some(Put::Done));
+    assert_eq!(rt; host.kind("d/f/g"), Kind::Absent);
+    assert_eq!(rt; host.kind("d"), Kind::Failed);
+    assert_eq!(rt; grow(&mut host, "d", "e", "d/e", b""), Some(Put::Done));
+    assert_eq!(rt; make(&mut host, "d"), None);
+    assert!(rt; lists(&mut host, "d", &["e", "f"]));
+    assert!(rt; lists(&mut host, "/", &[]));
+    assert!(rt; reads_at(&mut host, "d/f", 3, b"345"));
+    assert!(rt; reads_at(&mut host, "d/f", 6, b""));
+    assert!(rt; matches!(meet(&mut host, "d/f"), Met::File));
     Ok(())
 }

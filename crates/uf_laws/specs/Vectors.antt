@@ -7,10 +7,6 @@ use Rattle.uf_tree.specs.declared.profile.Profile.{Profile}
 use Rattle.uf_tree.specs.FilePlan.{Plan}
 use Rattle.uf_tree.specs.Tree.{Tree, File, Dir, entries}
 
--- the profile that is Kubo's long-standing one
-abbrev pub usual : Profile
-usual = record { chunk = 262144; width = 174; threshold = 262144 }
-
 -- pieces of one byte and nodes of two links
 abbrev pub narrow : Profile
 narrow = record { chunk = 1; width = 2; threshold = 262144 }

@@ -15,8 +15,8 @@ ghost use Rattle.uf_tree.specs.FilePlan.{Plan, split_from, chunks, groups, node_
 ghost use Rattle.uf_tree.specs.FileSub.{IsTop, IsRooted, IsHeight, span, part_over};
 ghost use Rattle.uf_laws.specs.Least.{Least};
 ghost use Rattle.uf_tree.specs.Names.{names_cmp};
-ghost use Rattle.uf_tree.specs.Profiles.{is_profile};
-ghost use Rattle.uf_tree.specs.Roles.{IsCanonicalDirectory, IsCanonicalShard, IsCanonicalFileNode, Root, Below};
+ghost use Rattle.uf_tree.specs.Profiles.{is_profile, most_bytes};
+ghost use Rattle.uf_tree.specs.Roles.{IsCanonicalDirectory, IsCanonicalShard, IsCanonicalFileNode, IsSpanned, Root, Below};
 ghost use Rattle.uf_tree.specs.Nodes.{Named, InSlot, file_block, dir_block, shard_block};
 ghost use Rattle.uf_tree.specs.Shardable.{HasShard};
 ghost use Rattle.uf_tree.specs.ShardPlan.{shard, bucket, shard_items, slot_item, twins, same_slots, same_hash};
@@ -165,13 +165,13 @@ pub fn the_nodes_of_a_file_are_canonical()
     ensures root { (X : List ℕ → List ℕ) (p : Profile) (k : ℕ) (bytes : List ℕ) → IsHash X → IsTrue (is_profile p) → IsHeight p.chunk p.width (length bytes) (k + 1) → length bytes < 2 ^ 63
         → IsCanonicalFileNode (Some p) Root (file_block (node_over (map (part_over X p.chunk p.width k) (groups (span p.chunk p.width k) bytes)))) }
     ensures below { (X : List ℕ → List ℕ) (p : Profile) (above k whole : ℕ) (bytes : List ℕ) → IsHash X → IsTrue (is_profile p) → IsHeight p.chunk p.width whole (above + (k + 1)) → above < 22
-        → length bytes ≤ span p.chunk p.width (k + 1) → length bytes < 2 ^ 63
+        → IsSpanned p (k + 1) whole (length bytes) → length bytes < 2 ^ 63
         → IsCanonicalFileNode (Some p) (Below above (length bytes) whole) (file_block (node_over (map (part_over X p.chunk p.width k) (groups (span p.chunk p.width k) bytes)))) }
 {}
 
 /// A file that stands has at most 22 rows of nodes.
 pub fn a_file_has_few_rows()
-    ensures { (p : Profile) (n height : ℕ) → IsTrue (is_profile p) → n ≤ p.chunk * 4194304 → IsHeight p.chunk p.width n height → height ≤ 22 }
+    ensures { (p : Profile) (n height : ℕ) → IsTrue (is_profile p) → n ≤ most_bytes p → IsHeight p.chunk p.width n height → height ≤ 22 }
 {}
 
 /// No canonical block has more than 2097152 bytes.

@@ -8,7 +8,8 @@ ghost use Rattle.uf_murmur.specs.Slots.{first_eight};
 ghost use Rattle.uf_tree.specs.Heads.{head_text};
 ghost use Rattle.uf_tree.specs.Tree.{File, Dir, Nothing, With};
 ghost use Rattle.uf_tree.specs.TreePlan.{Collision, entry, plan, refusal};
-ghost use Rattle.uf_laws.specs.Vectors.{usual, narrow, sharding_above, empty_files, generated, raw_cid, node_cid, raw_plan, node_plan, empty_block, abc_plan, chain_plan, block_p, block_hello, block_basic, block_three, block_one, block_left, digest_nothing, digest_a, digest_b, digest_p, digest_hello_world, digest_empty_dir, digest_hello_dir, digest_basic, digest_shard_of_three, digest_shard_of_one, digest_shard_left};
+ghost use Rattle.uf_tree.specs.Profiles.{usual};
+ghost use Rattle.uf_laws.specs.Vectors.{narrow, sharding_above, empty_files, generated, raw_cid, node_cid, raw_plan, node_plan, empty_block, abc_plan, chain_plan, block_p, block_hello, block_basic, block_three, block_one, block_left, digest_nothing, digest_a, digest_b, digest_p, digest_hello_world, digest_empty_dir, digest_hello_dir, digest_basic, digest_shard_of_three, digest_shard_of_one, digest_shard_left};
 
 /// The CID and the Tsize of an empty file.
 pub fn the_empty_file()

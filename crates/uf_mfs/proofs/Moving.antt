@@ -10,6 +10,7 @@ use Rattle.uf_edge.specs.Counts.{Stood}
 use Rattle.uf_shard.specs.declared.fault.DirFault.{DirFault}
 use Rattle.uf_shard.specs.declared.fault.DirFault.TheVariants as dir
 use Rattle.uf_shard.specs.Answers.{GivesOver}
+use Rattle.uf_store.specs.Calls.{Calm}
 use Rattle.uf_store.specs.declared.store.StoreFault.{StoreFault}
 use Rattle.uf_store.specs.declared.store.StoreFault.TheVariants.{Memory}
 use Rattle.uf_store.specs.Contents.{Told}
@@ -38,7 +39,7 @@ use Rattle.uf_mfs.specs.declared.types.Refused.TheVariants as why
 use Rattle.uf_mfs.specs.declared.types.Stop.{Stop}
 use Rattle.uf_mfs.specs.declared.types.Stop.TheVariants as stop
 use Rattle.uf_mfs.specs.declared.types.Thing.{Thing}
-use Rattle.uf_mfs.specs.Answers.{Calm, Decides, Edits, Meets, Says, allowed, refused_by, stop_of, unless}
+use Rattle.uf_mfs.specs.Answers.{Decides, Edits, Meets, Says, allowed, refused_by, stop_of, unless}
 use Rattle.uf_mfs.specs.Plain.{and_then, as_removable, at, change, child, done, is_folder_at, made, made_all, may_be, or_new, with_child, with_folder, without_child}
 use Rattle.uf_mfs.specs.Standing.{IsEntry, IsMeant, IsMember, TellsHeld}
 use Rattle.uf_mfs.proofs.Hinge.{AllSound, IsDir, IsSound, all-later, as-dir, each-find, each-put, each-where, entry-later, find-child, from-dir, members-sound, own-refusal, refused-above}

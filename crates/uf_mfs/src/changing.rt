@@ -2,12 +2,14 @@
 ghost use Rattle.std.specs.Prelude.{◌≡◌, IfOk, IsTrue, None, OnErr, Ok, Some, false, true};
 ghost use Rattle.uf_cid.specs.declared.cid.Codec.TheVariants.{DagPb};
 ghost use Rattle.uf_edge.specs.Counts.{Stood};
+ghost use Rattle.uf_store.specs.Calls.{Calm};
 ghost use Rattle.uf_store.specs.Faults.{Answers};
-ghost use Rattle.uf_store.specs.Keeping.{KeepsGood, SavesOnly};
+ghost use Rattle.uf_store.specs.Keeping.{KeepsGood};
+ghost use Rattle.uf_store.specs.Writing.{SavesOnly};
 ghost use Rattle.uf_tree.specs.declared.profile.Profile.{Profile as TheProfile};
 ghost use Rattle.uf_tree.specs.Profiles.{is_profile};
 ghost use Rattle.uf_tree.specs.Tree.{Dir, Entries};
-ghost use Rattle.uf_mfs.specs.Answers.{Calm, Edits, Moves, MovesTo, Says, Settles, ShownInTree, ShownStop, allowed};
+ghost use Rattle.uf_mfs.specs.Answers.{Edits, Moves, MovesTo, Says, Settles, ShownInTree, ShownStop, allowed};
 ghost use Rattle.uf_mfs.specs.Bad.{IsBad};
 ghost use Rattle.uf_mfs.specs.Plain.{at, is_folder_at, made, removed};
 ghost use Rattle.uf_mfs.specs.Standing.{IsEntry, IsMfs, StandsAt};
@@ -44,7 +46,7 @@ impl Mfs {
         ensures profile { self.new.profile ≡ self.old.profile }
         ensures cause { ShownInTree S.X.block32 (IsBad N.name64 (Some self.old.profile)) result (S.seen store.old) (S.seen store.new) }
         ensures good { KeepsGood S.X.block32 (S.seen store.old).told (S.seen store.new).told }
-        ensures saves { SavesOnly (S.seen store.old).told (S.seen store.new).told }
+        ensures saves { SavesOnly S.X.block32 (S.seen store.old).told (S.seen store.new).told }
     {
         let names = path.names.as_slice();
         let edited = made_root::<S, N, L>(
@@ -77,7 +79,7 @@ impl Mfs {
         ensures profile { self.new.profile ≡ self.old.profile }
         ensures cause { ShownInTree S.X.block32 (IsBad N.name64 (Some self.old.profile)) result (S.seen store.old) (S.seen store.new) }
         ensures good { KeepsGood S.X.block32 (S.seen store.old).told (S.seen store.new).told }
-        ensures saves { SavesOnly (S.seen store.old).told (S.seen store.new).told }
+        ensures saves { SavesOnly S.X.block32 (S.seen store.old).told (S.seen store.new).told }
     {
         let names = path.names.as_slice();
         let edited = removed_root::<S, N, L>(
@@ -132,7 +134,7 @@ fn removed_root<S: Store, N: NameHash, L: Ledger>(
     ensures node { IfOk result (λ e. e.cid.codec ≡ DagPb) }
     ensures cause { ShownStop S.X.block32 (IsBad N.name64 (Some profile.now)) result (S.seen store.old) (S.seen store.new) }
     ensures good { KeepsGood S.X.block32 (S.seen store.old).told (S.seen store.new).told }
-    ensures saves { SavesOnly (S.seen store.old).told (S.seen store.new).told }
+    ensures saves { SavesOnly S.X.block32 (S.seen store.old).told (S.seen store.new).told }
 {
     match names {
         [] => Err(Stop::Refused(Refused::RootRefused)),
@@ -169,7 +171,7 @@ fn made_root<S: Store, N: NameHash, L: Ledger>(
     ensures node { IfOk result (λ e. e.cid.codec ≡ DagPb) }
     ensures cause { ShownStop S.X.block32 (IsBad N.name64 (Some profile.now)) result (S.seen store.old) (S.seen store.new) }
     ensures good { KeepsGood S.X.block32 (S.seen store.old).told (S.seen store.new).told }
-    ensures saves { SavesOnly (S.seen store.old).told (S.seen store.new).told }
+    ensures saves { SavesOnly S.X.block32 (S.seen store.old).told (S.seen store.new).told }
 {
     if parents {
         all_made::<S, N, L>(alloc, store, profile, root, names, touches)
@@ -193,7 +195,7 @@ fn one_made<S: Store, N: NameHash, L: Ledger>(
     ensures node { IfOk result (λ e. e.cid.codec ≡ DagPb) }
     ensures cause { ShownStop S.X.block32 (IsBad N.name64 (Some profile.now)) result (S.seen store.old) (S.seen store.new) }
     ensures good { KeepsGood S.X.block32 (S.seen store.old).told (S.seen store.new).told }
-    ensures saves { SavesOnly (S.seen store.old).told (S.seen store.new).told }
+    ensures saves { SavesOnly S.X.block32 (S.seen store.old).told (S.seen store.new).told }
 {
     match names {
         [] => Err(Stop::Refused(Refused::Exists(0))),
@@ -229,7 +231,7 @@ fn all_made<S: Store, N: NameHash, L: Ledger>(
     ensures node { IfOk result (λ e. e.cid.codec ≡ DagPb) }
     ensures cause { ShownStop S.X.block32 (IsBad N.name64 (Some profile.now)) result (S.seen store.old) (S.seen store.new) }
     ensures good { KeepsGood S.X.block32 (S.seen store.old).told (S.seen store.new).told }
-    ensures saves { SavesOnly (S.seen store.old).told (S.seen store.new).told }
+    ensures saves { SavesOnly S.X.block32 (S.seen store.old).told (S.seen store.new).told }
 {
     match is_there::<S, N, L>(alloc, store, root, names, touches) {
         Err(fault) => Err(Stop::Store(fault)),

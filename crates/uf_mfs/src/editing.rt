@@ -2,13 +2,15 @@
 ghost use Rattle.std.specs.Prelude.{◌≡◌, ◌≢◌, ◌+◌, ◌<◌, ◌^◌, List, ℕ, IfOk, IsTrue, None, Ok, Some, length};
 ghost use Rattle.std.specs.declared.option.Option.{Option as TheOption};
 ghost use Rattle.uf_cid.specs.declared.cid.Codec.TheVariants.{DagPb};
+ghost use Rattle.uf_store.specs.Calls.{Calm};
 ghost use Rattle.uf_store.specs.Contents.{Told};
-ghost use Rattle.uf_store.specs.Keeping.{KeepsGood, SavesOnly};
+ghost use Rattle.uf_store.specs.Keeping.{KeepsGood};
+ghost use Rattle.uf_store.specs.Writing.{SavesOnly};
 ghost use Rattle.uf_tree.specs.declared.profile.Profile.{Profile as TheProfile};
 ghost use Rattle.uf_tree.specs.Names.{is_name};
 ghost use Rattle.uf_tree.specs.Profiles.{is_profile};
 ghost use Rattle.uf_tree.specs.Tree.{Dir, Entries, Nothing, Tree};
-ghost use Rattle.uf_mfs.specs.Answers.{Calm, Decides, Edits, ShownStop, allowed, stop_of as the_stop};
+ghost use Rattle.uf_mfs.specs.Answers.{Decides, Edits, ShownStop, allowed, stop_of as the_stop};
 ghost use Rattle.uf_mfs.specs.Bad.{IsBad};
 ghost use Rattle.uf_mfs.specs.Plain.{as_folder, as_free, as_removable, change, child, done, edited, made_all, may_be, or_new, with_child, without_child};
 ghost use Rattle.uf_mfs.specs.Standing.{IsEntry, IsMeant, IsMember};
@@ -43,7 +45,7 @@ pub(crate) fn edit<S: Store, N: NameHash, L: Ledger>(
     ensures node { IfOk result (λ e. e.cid.codec ≡ DagPb) }
     ensures cause { ShownStop S.X.block32 (IsBad N.name64 (Some profile.now)) result (S.seen store.old) (S.seen store.new) }
     ensures good { KeepsGood S.X.block32 (S.seen store.old).told (S.seen store.new).told }
-    ensures saves { SavesOnly (S.seen store.old).told (S.seen store.new).told }
+    ensures saves { SavesOnly S.X.block32 (S.seen store.old).told (S.seen store.new).told }
 {
     match member::<S, N, L>(alloc, store, folder, name, touches) {
         Err(stop) => Err(stop),
@@ -100,7 +102,7 @@ pub(crate) fn fill<S: Store, N: NameHash, L: Ledger>(
     ensures node { IfOk result (λ e. e.cid.codec ≡ DagPb) }
     ensures cause { ShownStop S.X.block32 (IsBad N.name64 (Some profile.now)) result (S.seen store.old) (S.seen store.new) }
     ensures good { KeepsGood S.X.block32 (S.seen store.old).told (S.seen store.new).told }
-    ensures saves { SavesOnly (S.seen store.old).told (S.seen store.new).told }
+    ensures saves { SavesOnly S.X.block32 (S.seen store.old).told (S.seen store.new).told }
 {
     match names {
         [] => Ok(*folder),
@@ -145,7 +147,7 @@ fn open_or_make<S: Store, N: NameHash, L: Ledger>(
     ensures node { IfOk result (λ e. e.cid.codec ≡ DagPb) }
     ensures cause { ShownStop S.X.block32 (IsBad N.name64 None) result (S.seen store.old) (S.seen store.new) }
     ensures good { KeepsGood S.X.block32 (S.seen store.old).told (S.seen store.new).told }
-    ensures saves { SavesOnly (S.seen store.old).told (S.seen store.new).told }
+    ensures saves { SavesOnly S.X.block32 (S.seen store.old).told (S.seen store.new).told }
 {
     match member::<S, N, L>(alloc, store, folder, name, touches) {
         Err(stop) => Err(stop),
@@ -189,7 +191,7 @@ fn edit_here<S: Store, N: NameHash, L: Ledger>(
     ensures node { IfOk result (λ e. e.cid.codec ≡ DagPb) }
     ensures cause { ShownStop S.X.block32 (IsBad N.name64 (Some profile.now)) result (S.seen store.old) (S.seen store.new) }
     ensures good { KeepsGood S.X.block32 (S.seen store.old).told (S.seen store.new).told }
-    ensures saves { SavesOnly (S.seen store.old).told (S.seen store.new).told }
+    ensures saves { SavesOnly S.X.block32 (S.seen store.old).told (S.seen store.new).told }
 {
     match may(what, led, found) {
         Err(why) => Err(Stop::Refused(why)),
@@ -261,7 +263,7 @@ fn make_in<S: Store, N: NameHash, L: Ledger>(
     ensures node { IfOk result (λ e. e.cid.codec ≡ DagPb) }
     ensures cause { ShownStop S.X.block32 (IsBad N.name64 (Some profile.now)) result (S.seen store.old) (S.seen store.new) }
     ensures good { KeepsGood S.X.block32 (S.seen store.old).told (S.seen store.new).told }
-    ensures saves { SavesOnly (S.seen store.old).told (S.seen store.new).told }
+    ensures saves { SavesOnly S.X.block32 (S.seen store.old).told (S.seen store.new).told }
 {
     match empty(alloc, store, touches) {
         Err(fault) => Err(Stop::Store(fault)),
@@ -286,7 +288,7 @@ pub(crate) fn put_in<S: Store, N: NameHash, L: Ledger>(
     ensures node { IfOk result (λ e. e.cid.codec ≡ DagPb) }
     ensures cause { ShownStop S.X.block32 (IsBad N.name64 (Some profile.now)) result (S.seen store.old) (S.seen store.new) }
     ensures good { KeepsGood S.X.block32 (S.seen store.old).told (S.seen store.new).told }
-    ensures saves { SavesOnly (S.seen store.old).told (S.seen store.new).told }
+    ensures saves { SavesOnly S.X.block32 (S.seen store.old).told (S.seen store.new).told }
 {
     names_are_good(name);
     match put::<S, N, L>(alloc, store, profile, &folder.cid, name, entry, touches) {
@@ -311,7 +313,7 @@ fn take_out<S: Store, N: NameHash, L: Ledger>(
     ensures node { IfOk result (λ e. e.cid.codec ≡ DagPb) }
     ensures cause { ShownStop S.X.block32 (IsBad N.name64 (Some profile.now)) result (S.seen store.old) (S.seen store.new) }
     ensures good { KeepsGood S.X.block32 (S.seen store.old).told (S.seen store.new).told }
-    ensures saves { SavesOnly (S.seen store.old).told (S.seen store.new).told }
+    ensures saves { SavesOnly S.X.block32 (S.seen store.old).told (S.seen store.new).told }
 {
     match remove::<S, N, L>(alloc, store, profile, &folder.cid, name, touches) {
         Err(fault) => Err(Stop::Store(fault)),

@@ -2,7 +2,8 @@
 ghost use Rattle.std.specs.Prelude.{◌≡◌, ◌≤◌, ◌<◌, ◌+◌, ℕ, [], length, slice_index_or, IfOk, IfErr, OnOk};
 ghost use Rattle.uf_store.specs.Clashes.{IsSaving};
 ghost use Rattle.uf_store.specs.Faults.{Answers, NoneIsBad};
-ghost use Rattle.uf_store.specs.Keeping.{Holds, KeepsGood, SavesOnly};
+ghost use Rattle.uf_store.specs.Keeping.{Holds, KeepsGood};
+ghost use Rattle.uf_store.specs.Writing.{SavesOnly};
 ghost use Rattle.uf_tree.specs.ShardPlan.{flat_tabulate, shard, slot_blocks, slot_item, tabulate};
 ghost use Rattle.uf_tree.specs.Validity.{IsDirectory};
 ghost use Rattle.uf_shard.specs.Answers.{Gives, Shown, shard_refusal};
@@ -38,7 +39,7 @@ pub fn build<S: Store, N: NameHash, L: Ledger>(
     ensures held { OnOk result (Holds (S.seen store.new).told (shard S.X.block32 N.name64 7 pairs.now).blocks) }
     ensures cause { Shown S.X.block32 NoneIsBad result (S.seen store.old) (S.seen store.new) }
     ensures good { KeepsGood S.X.block32 (S.seen store.old).told (S.seen store.new).told }
-    ensures saves { SavesOnly (S.seen store.old).told (S.seen store.new).told }
+    ensures saves { SavesOnly S.X.block32 (S.seen store.old).told (S.seen store.new).told }
     ensures touches { touches.new ≤ touches.old + length (shard S.X.block32 N.name64 7 pairs.now).blocks }
 {
     let rows = match hash_all::<N>(alloc, pairs.as_slice()) {
@@ -93,7 +94,7 @@ fn save_shard<S: Store, N: NameHash, L: Ledger>(
     ensures cause { Answers S.X.block32 NoneIsBad result (S.seen store.old) (S.seen store.new) }
     ensures fault { IfErr result IsSaving }
     ensures good { KeepsGood S.X.block32 (S.seen store.old).told (S.seen store.new).told }
-    ensures saves { SavesOnly (S.seen store.old).told (S.seen store.new).told }
+    ensures saves { SavesOnly S.X.block32 (S.seen store.old).told (S.seen store.new).told }
     ensures touches { touches.new ≤ touches.old + length (shard S.X.block32 N.name64 left (pairs_of rows.now)).blocks }
 {
     let slots = match in_slots(alloc, rows, 7 - left) {
@@ -124,7 +125,7 @@ fn save_slots<S: Store, N: NameHash, L: Ledger>(
     ensures cause { Answers S.X.block32 NoneIsBad result (S.seen store.old) (S.seen store.new) }
     ensures fault { IfErr result IsSaving }
     ensures good { KeepsGood S.X.block32 (S.seen store.old).told (S.seen store.new).told }
-    ensures saves { SavesOnly (S.seen store.old).told (S.seen store.new).told }
+    ensures saves { SavesOnly S.X.block32 (S.seen store.old).told (S.seen store.new).told }
     ensures touches { touches.new ≤ touches.old + length (flat_tabulate 256 0 (blocks_at S.X.block32 N.name64 left slots.now)) }
 {
     let mut items = Items::new(alloc);
@@ -164,7 +165,7 @@ fn save_slot<S: Store, N: NameHash, L: Ledger>(
     ensures cause { Answers S.X.block32 NoneIsBad result (S.seen store.old) (S.seen store.new) }
     ensures fault { IfErr result IsSaving }
     ensures good { KeepsGood S.X.block32 (S.seen store.old).told (S.seen store.new).told }
-    ensures saves { SavesOnly (S.seen store.old).told (S.seen store.new).told }
+    ensures saves { SavesOnly S.X.block32 (S.seen store.old).told (S.seen store.new).told }
     ensures touches { touches.new ≤ touches.old + length (slot_blocks (deeper S.X.block32 N.name64 left) (pairs_of rows.now)) }
 {
     match rows {

@@ -11,11 +11,8 @@ use Rattle.uf_cid.specs.declared.cid.Cid.{Cid}
 use Rattle.uf_cid.specs.Blocks.{Held}
 use Rattle.uf_cid.specs.Blocks as blocks
 use Rattle.uf_cid.specs.Cid.{cid_cmp}
-use Rattle.uf_store.specs.declared.store.Write.{Write}
-use Rattle.uf_store.specs.declared.store.Write.TheVariants.{Saved}
 use Rattle.uf_store.specs.Contents.{Contents, HeldMap, Told, changed, held_at, with_save}
-use Rattle.uf_store.specs.Keeping.{AreGood, Holds, IsSave, KeepsGood, SavesOnly}
-use Rattle.uf_store.specs.Seen.{NoOther}
+use Rattle.uf_store.specs.Keeping.{AreGood, Holds, HoldsOne, KeepsGood}
 use Rattle.uf_store.proofs.Holding.{cid_cmp_total, cid_cmp-IsAntisymmetric}
 
 equal_of : (r : Ordering) → is_eq r ≡ true → r ≡ Equal
@@ -23,21 +20,19 @@ equal_of Less e = cc
 equal_of Equal e = refl
 equal_of Greater e = cc
 
+-- CIDs that tie are one
+pub same_of : (c cid : Cid) → eq_by_cmp cid_cmp c cid ≡ true → c ≡ cid
+same_of c cid tie = cid_cmp-IsAntisymmetric c cid (equal_of (cid_cmp c cid) tie)
+
 -- a block that isn't the saved one stays, and the saved one is the same
-get_kept : (held : HeldMap) (hash : List ℕ → List ℕ) (cid c : Cid) (bytes b : List ℕ) (tied : Bool) → eq_by_cmp cid_cmp c cid ≡ tied
+pub get_kept : (held : HeldMap) (hash : List ℕ → List ℕ) (cid c : Cid) (bytes b : List ℕ) (tied : Bool) → eq_by_cmp cid_cmp c cid ≡ tied
     → ((other : List ℕ) → get held cid ≡ Some other → hash other ≡ cid.digest → other ≡ bytes)
     → get held c ≡ Some b → hash b ≡ c.digest → cond tied (Some bytes) (get held c) ≡ Some b
 get_kept held hash cid c bytes b true tie no_other is digest =
-    let same : c ≡ cid = cid_cmp-IsAntisymmetric c cid (equal_of (cid_cmp c cid) tie) in
+    let same : c ≡ cid = same_of c cid tie in
     let found : get held cid ≡ Some b = ap (get held) (sym same) ∙ is in
     ap Some (sym (no_other b found (digest ∙ ap (λ (d : Cid). d.digest) same)))
 get_kept held hash cid c bytes b false tie no_other is digest = is
-
--- a good block stays at a save that meets no other block
-pub held-save : (t : Contents) (hash : List ℕ → List ℕ) (cid c : Cid) (bytes b : List ℕ) → NoOther hash cid bytes t
-    → held_at t c ≡ Some b → hash b ≡ c.digest → held_at (with_save cid bytes t) c ≡ Some b
-held-save t hash cid c bytes b no_other is digest =
-    get-insert cid_cmp_total t.held cid bytes c ∙ get_kept t.held hash cid c bytes b (eq_by_cmp cid_cmp c cid) refl no_other is digest
 
 -- the saved block is held
 pub held-saved : (t : Contents) (cid : Cid) (bytes : List ℕ) → held_at (with_save cid bytes t) cid ≡ Some bytes
@@ -49,61 +44,29 @@ pub Holds-saved : (told told_now : Told) (cid : Cid) (bytes : List ℕ) → told
 Holds-saved None told_now cid bytes is = subst (λ (x : Told). Holds x ((cid, bytes) ∷ [])) (sym is) tt
 Holds-saved (Some t) told_now cid bytes is = subst (λ (x : Told). Holds x ((cid, bytes) ∷ [])) (sym is) (held-saved t cid bytes, tt)
 
-pub KeepsGood-saved : (hash : List ℕ → List ℕ) (cid : Cid) (bytes : List ℕ) (told told_now : Told) → told_now ≡ changed (with_save cid bytes) told
-    → IfSome told (NoOther hash cid bytes) → KeepsGood hash told told_now
-KeepsGood-saved hash cid bytes None told_now kept no_other = subst (KeepsGood hash None) (sym kept) tt
-KeepsGood-saved hash cid bytes (Some t) told_now kept no_other =
-    subst (KeepsGood hash (Some t)) (sym kept) (λ c b is digest. held-save t hash cid c bytes b no_other is digest)
-
 pub KeepsGood-refl : (hash : List ℕ → List ℕ) (a : Told) → KeepsGood hash a a
-KeepsGood-refl hash None = tt
-KeepsGood-refl hash (Some t) = λ c b is digest. is
+KeepsGood-refl hash a = λ c b is digest. is
 
 pub KeepsGood-trans : (hash : List ℕ → List ℕ) (a b c : Told) → KeepsGood hash a b → KeepsGood hash b c → KeepsGood hash a c
-KeepsGood-trans hash None None None p q = tt
-KeepsGood-trans hash None None (Some w) p q = q
-KeepsGood-trans hash None (Some u) c p q = absurd p
-KeepsGood-trans hash (Some t) None c p q = absurd p
-KeepsGood-trans hash (Some t) (Some u) None p q = q
-KeepsGood-trans hash (Some t) (Some u) (Some w) p q = λ x b is digest. q x b (p x b is digest) digest
+KeepsGood-trans hash a b c p q = λ x bytes is digest. q x bytes (p x bytes is digest) digest
 
-pub SavesOnly-saved : (cid : Cid) (bytes : List ℕ) (told told_now : Told) → told_now ≡ changed (with_save cid bytes) told → SavesOnly told told_now
-SavesOnly-saved cid bytes None told_now kept = subst (SavesOnly None) (sym kept) tt
-SavesOnly-saved cid bytes (Some t) told_now kept =
-    subst (SavesOnly (Some t)) (sym kept) (record { saves = Saved cid bytes ∷ []; added = refl; are_saves = (tt, tt); same_notes = refl })
+pub KeepsGood-same : (hash : List ℕ → List ℕ) (a b : Told) → b ≡ a → KeepsGood hash a b
+KeepsGood-same hash a b is = subst (KeepsGood hash a) (sym is) (KeepsGood-refl hash a)
 
-pub SavesOnly-refl : (a : Told) → SavesOnly a a
-SavesOnly-refl None = tt
-SavesOnly-refl (Some t) = record { saves = []; added = sym (append-nil t.writes); are_saves = tt; same_notes = refl }
+holds-each : (hash : List ℕ → List ℕ) (a : Told) (u : Contents) (l : List Held) → AreGood hash l → KeepsGood hash a (Some u)
+    → AllByRecursion (λ (b : Held). HoldsOne a b.0 b.1) l → blocks.Holds (held_at u) l
+holds-each hash a u [] good keeps held = tt
+holds-each hash a u (b ∷ l) good keeps held = (keeps b.0 b.1 held.0 good.0, holds-each hash a u l good.1 keeps held.1)
 
-are_saves-append : (xs ys : List Write) → AllByRecursion IsSave xs → AllByRecursion IsSave ys → AllByRecursion IsSave (xs ++ ys)
-are_saves-append [] ys p q = q
-are_saves-append (x ∷ xs) ys p q = (p.0, are_saves-append xs ys p.1 q)
-
-pub SavesOnly-trans : (a b c : Told) → SavesOnly a b → SavesOnly b c → SavesOnly a c
-SavesOnly-trans None None None p q = tt
-SavesOnly-trans None None (Some w) p q = q
-SavesOnly-trans None (Some u) c p q = absurd p
-SavesOnly-trans (Some t) None c p q = absurd p
-SavesOnly-trans (Some t) (Some u) None p q = q
-SavesOnly-trans (Some t) (Some u) (Some w) p q = record {
-  saves = p.saves ++ q.saves;
-  added = q.added ∙ ap (λ (ws : List Write). ws ++ q.saves) p.added ∙ append_assoc t.writes p.saves q.saves;
-  are_saves = are_saves-append p.saves q.saves p.are_saves q.are_saves;
-  same_notes = q.same_notes ∙ p.same_notes;
-}
-
-holds-kept : (hash : List ℕ → List ℕ) (t u : Contents) (l : List Held) → AreGood hash l → KeepsGood hash (Some t) (Some u)
-    → blocks.Holds (held_at t) l → blocks.Holds (held_at u) l
-holds-kept hash t u [] good keeps held = tt
-holds-kept hash t u (b ∷ l) good keeps held = (keeps b.0 b.1 held.0 good.0, holds-kept hash t u l good.1 keeps held.1)
+nothing-told : (l : List Held) → AllByRecursion (λ (b : Held). HoldsOne None b.0 b.1) l
+nothing-told [] = tt
+nothing-told (b ∷ l) = (tt, nothing-told l)
 
 -- good blocks that are held stay held
 pub Holds-kept : (hash : List ℕ → List ℕ) (a b : Told) (l : List Held) → AreGood hash l → KeepsGood hash a b → Holds a l → Holds b l
-Holds-kept hash None None l good keeps held = tt
-Holds-kept hash None (Some u) l good keeps held = absurd keeps
-Holds-kept hash (Some t) None l good keeps held = absurd keeps
-Holds-kept hash (Some t) (Some u) l good keeps held = holds-kept hash t u l good keeps held
+Holds-kept hash a None l good keeps held = tt
+Holds-kept hash None (Some u) l good keeps held = holds-each hash None u l good keeps (nothing-told l)
+Holds-kept hash (Some t) (Some u) l good keeps held = holds-each hash (Some t) u l good keeps held
 
 holds-append : (t : Contents) (l m : List Held) → blocks.Holds (held_at t) l → blocks.Holds (held_at t) m → blocks.Holds (held_at t) (l ++ m)
 holds-append t [] m p q = q

@@ -1,4 +1,7 @@
+pub mod Calls
 pub mod Causes
 pub mod Holding
 pub mod Keeping
 pub mod Plain
+pub mod Stopping
+pub mod Writing

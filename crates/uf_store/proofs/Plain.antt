@@ -1,7 +1,7 @@
--- What is told stays what was written.
-use Rattle.std.proofs.Common.{◌≡◌, ℕ, List, [], ◌∷◌, ◌++◌, refl, sym, ap, subst, ◌∙◌}
+-- A store that tells what was written goes on to, whatever calls are made; what each call writes.
+use Rattle.std.proofs.Common.{◌≡◌, ℕ, List, [], ◌++◌, refl, sym, ap, ◌∙◌}
 use Rattle.std.specs.Prelude.{fold, Some, None}
-use Rattle.std.specs.FinMap.{insert, empty}
+use Rattle.std.specs.FinMap.{empty}
 use Rattle.uf_cid.specs.declared.cid.Cid.{Cid}
 use Rattle.uf_edge.specs.declared.host.Put.{Put}
 use Rattle.uf_edge.specs.declared.host.Put.TheVariants.{Done as PutDone, Failed as PutFailed, Memory as PutMemory}
@@ -12,69 +12,57 @@ use Rattle.uf_store.specs.declared.store.Save.TheVariants.{Done as SaveDone, Cla
 use Rattle.uf_store.specs.declared.store.Note.{Note}
 use Rattle.uf_store.specs.declared.store.NoteRead.{NoteRead}
 use Rattle.uf_store.specs.declared.store.NoteRead.TheVariants.{Text, Absent, Failed as NoteFailed, Memory as NoteMemory}
-use Rattle.uf_store.specs.declared.store.Write.TheVariants.{Saved, Synced, Noted}
-use Rattle.uf_store.specs.Contents.{Contents, HeldMap, Notes, Told, changed, no_notes, with_note, with_save, with_sync, with_text}
-use Rattle.uf_store.specs.Seen.{Loads, Saves, ReadsNote, Writes, Seen}
-use Rattle.uf_store.specs.Stops.{IsPlain, KeepsPlain, TellsPlain, held_after, notes_after}
+use Rattle.uf_store.specs.declared.store.Write.{Write}
+use Rattle.uf_store.specs.CallsWrite.{CallsWrite}
+use Rattle.uf_store.specs.Contents.{Contents, HeldMap, Notes, Told, changed, held_after, no_notes, notes_after}
+use Rattle.uf_store.specs.Seen.{Loads, ReadsNote, Saves, Seen, Syncs, WritesNote}
+use Rattle.uf_store.specs.Stops.{IsPlain, TellsPlain}
+use Rattle.uf_store.specs.Writing.{Appends, IsAny, IsSave, SavesOnly, WritesOnly, Wrote}
+use Rattle.uf_store.proofs.Writing.{SavesOnly-saved, WritesOnly-noted, WritesOnly-synced, Wrote-same, fold-append}
 
-fold-append : {A B : Type 0} (f : B → A → B) (b : B) (xs : List A) (x : A) → fold f b (xs ++ x ∷ []) ≡ f (fold f b xs) x
-fold-append f b [] x = refl
-fold-append f b (y ∷ xs) x = fold-append f (f b y) xs x
-
-keeps-save : (cid : Cid) (bytes : List ℕ) (t : Contents) → IsPlain t → IsPlain (with_save cid bytes t)
-keeps-save cid bytes t p = record {
-  held = ap (λ (m : HeldMap). insert m cid bytes) p.held ∙ sym (fold-append held_after empty t.writes (Saved cid bytes));
-  notes = p.notes ∙ sym (fold-append notes_after no_notes t.writes (Saved cid bytes));
+plain-after : (hash : List ℕ → List ℕ) (IsOne : Write → Type 0) (t u : Contents) → IsPlain t → Appends hash IsOne t u → IsPlain u
+plain-after hash IsOne t u p h = record {
+  held = h.held ∙ ap (λ (m : HeldMap). fold held_after m h.added) p.held ∙ sym (fold-append held_after empty t.writes h.added)
+      ∙ ap (fold held_after empty) (sym h.writes);
+  notes = h.notes ∙ ap (λ (n : Notes). fold notes_after n h.added) p.notes ∙ sym (fold-append notes_after no_notes t.writes h.added)
+      ∙ ap (fold notes_after no_notes) (sym h.writes);
 }
 
-keeps-sync : (t : Contents) → IsPlain t → IsPlain (with_sync t)
-keeps-sync t p = record {
-  held = p.held ∙ sym (fold-append held_after empty t.writes Synced);
-  notes = p.notes ∙ sym (fold-append notes_after no_notes t.writes Synced);
-}
+pub stays_plain : (hash : List ℕ → List ℕ) (IsOne : Write → Type 0) (a b : Told) → TellsPlain a → Wrote hash IsOne a b → TellsPlain b
+stays_plain hash IsOne None None p h = tt
+stays_plain hash IsOne None (Some u) p h = absurd h
+stays_plain hash IsOne (Some t) None p h = tt
+stays_plain hash IsOne (Some t) (Some u) p h = plain-after hash IsOne t u p h
 
-keeps-text : (which : Note) (text : List ℕ) (t : Contents) → IsPlain t → IsPlain (with_text which text t)
-keeps-text which text t p = record {
-  held = p.held ∙ sym (fold-append held_after empty t.writes (Noted which text));
-  notes = ap (λ (n : Notes). with_note n which text) p.notes ∙ sym (fold-append notes_after no_notes t.writes (Noted which text));
-}
+module _ (hash : List ℕ → List ℕ) (before now : Seen) where
+  load : (cid : Cid) (answer : Load) → Loads hash cid answer before now → now.told ≡ before.told
+  load cid Found a = a.same_told
+  load cid Missing a = a.stays.same_told
+  load cid Damaged a = a.stays.same_told
+  load cid LoadFailed a = a.stays.same_told
+  load cid LoadMemory a = a.stays.same_told
 
-same : (told told_now : Told) → told_now ≡ told → TellsPlain told → TellsPlain told_now
-same told told_now is p = subst TellsPlain (sym is) p
+  save : (cid : Cid) (bytes : List ℕ) (answer : Save) → hash bytes ≡ cid.digest → Saves hash cid bytes answer before now → SavesOnly hash before.told now.told
+  save cid bytes SaveDone digest a = SavesOnly-saved hash cid bytes before.told now.told digest a.no_other a.kept
+  save cid bytes Clash digest a = Wrote-same hash IsSave before.told now.told a.same_told
+  save cid bytes SaveFailed digest a = Wrote-same hash IsSave before.told now.told a.stays.same_told
+  save cid bytes SaveMemory digest a = Wrote-same hash IsSave before.told now.told a.stays.same_told
 
-after : (f : Contents → Contents) → ((t : Contents) → IsPlain t → IsPlain (f t)) → (told told_now : Told) → told_now ≡ changed f told → TellsPlain told → TellsPlain told_now
-after f keeps None told_now is p = subst TellsPlain (sym is) p
-after f keeps (Some t) told_now is p = subst TellsPlain (sym is) (keeps t p)
+  sync : (answer : Put) → Syncs answer before now → WritesOnly hash before.told now.told
+  sync PutDone a = WritesOnly-synced hash before.told now.told a.told_now
+  sync PutFailed a = Wrote-same hash IsAny before.told now.told a.stays.same_told
+  sync PutMemory a = Wrote-same hash IsAny before.told now.told a.stays.same_told
 
-load : (hash : List ℕ → List ℕ) (before now : Seen) (cid : Cid) (answer : Load) → Loads hash cid answer before now → TellsPlain before.told → TellsPlain now.told
-load hash before now cid Found a p = same before.told now.told a.same_told p
-load hash before now cid Missing a p = same before.told now.told a.stays.same_told p
-load hash before now cid Damaged a p = same before.told now.told a.stays.same_told p
-load hash before now cid LoadFailed a p = same before.told now.told a.stays.same_told p
-load hash before now cid LoadMemory a p = same before.told now.told a.stays.same_told p
+  read : (which : Note) (answer : NoteRead) → ReadsNote which answer before now → now.told ≡ before.told
+  read which (Text text) a = a.stays.same_told
+  read which Absent a = a.stays.same_told
+  read which NoteFailed a = a.stays.same_told
+  read which NoteMemory a = a.stays.same_told
 
-save : (hash : List ℕ → List ℕ) (before now : Seen) (cid : Cid) (bytes : List ℕ) (answer : Save) → Saves hash cid bytes answer before now → TellsPlain before.told → TellsPlain now.told
-save hash before now cid bytes SaveDone a p = after (with_save cid bytes) (keeps-save cid bytes) before.told now.told a.kept p
-save hash before now cid bytes Clash a p = same before.told now.told a.same_told p
-save hash before now cid bytes SaveFailed a p = same before.told now.told a.stays.same_told p
-save hash before now cid bytes SaveMemory a p = same before.told now.told a.stays.same_told p
+  write : (which : Note) (text : List ℕ) (answer : Put) → WritesNote which text answer before now → WritesOnly hash before.told now.told
+  write which text PutDone a = WritesOnly-noted hash which text before.told now.told a.told_now
+  write which text PutFailed a = Wrote-same hash IsAny before.told now.told a.stays.same_told
+  write which text PutMemory a = Wrote-same hash IsAny before.told now.told a.stays.same_told
 
-write : (f : Contents → Contents) → ((t : Contents) → IsPlain t → IsPlain (f t)) → (before now : Seen) (answer : Put) → Writes f answer before now → TellsPlain before.told → TellsPlain now.told
-write f keeps before now PutDone a p = after f keeps before.told now.told a.told_now p
-write f keeps before now PutFailed a p = same before.told now.told a.stays.same_told p
-write f keeps before now PutMemory a p = same before.told now.told a.stays.same_told p
-
-read : (before now : Seen) (which : Note) (answer : NoteRead) → ReadsNote which answer before now → TellsPlain before.told → TellsPlain now.told
-read before now which (Text text) a p = same before.told now.told a.stays.same_told p
-read before now which Absent a p = same before.told now.told a.stays.same_told p
-read before now which NoteFailed a p = same before.told now.told a.stays.same_told p
-read before now which NoteMemory a p = same before.told now.told a.stays.same_told p
-
-pub stays_plain : (hash : List ℕ → List ℕ) (before now : Seen) → KeepsPlain hash before now
-stays_plain hash before now = record {
-  load = load hash before now;
-  save = save hash before now;
-  sync = write with_sync keeps-sync before now;
-  read_note = read before now;
-  write_note = λ which text. write (with_text which text) (keeps-text which text) before now;
-}
+  pub calls_write : CallsWrite hash before now
+  calls_write = record { load = load; save = save; sync = sync; read_note = read; write_note = write }

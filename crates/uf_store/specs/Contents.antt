@@ -33,6 +33,18 @@ with_note notes Pins text = record { head = notes.head; pins = Some text }
 abbrev pub no_notes : Notes
 no_notes = record { head = None; pins = None }
 
+-- a map after one write
+abbrev pub held_after : HeldMap → Write → HeldMap
+held_after m (Saved cid bytes) = insert m cid bytes
+held_after m Synced = m
+held_after m (Noted which text) = m
+
+-- the notes after one write
+abbrev pub notes_after : Notes → Write → Notes
+notes_after n (Saved cid bytes) = n
+notes_after n Synced = n
+notes_after n (Noted which text) = with_note n which text
+
 -- the blocks, the notes, and the list of past writes
 pub record Contents : Type 0 where
   pub held : HeldMap

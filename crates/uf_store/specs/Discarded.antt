@@ -5,8 +5,8 @@ use Rattle.uf_store.specs.Seen.{Seen}
 
 -- it tells nothing, lends nothing, and misses each block
 abbrev pub discard_seen : {X : Type 0} → Discard X → Seen
-discard_seen s = record { told = None; lent = []; faults = 0; misses = s.misses; clashes = 0 }
+discard_seen s = record { told = None; lent = []; finds = 0; misses = s.misses; faults = 0; clashes = 0 }
 
 -- nothing has happened to a store that tells nothing
 abbrev pub nothing_seen : Seen
-nothing_seen = record { told = None; lent = []; faults = 0; misses = 0; clashes = 0 }
+nothing_seen = record { told = None; lent = []; finds = 0; misses = 0; faults = 0; clashes = 0 }

@@ -13,7 +13,7 @@ contents_of s = record { held = from_entries s.blocks.entries; notes = record { 
 
 -- what a contract sees: it tells
 abbrev pub memory_seen : {X : Type 0} → MemStore X → Seen
-memory_seen s = record { told = Some (contents_of s); lent = s.lent; faults = s.faults; misses = s.misses; clashes = s.clashes }
+memory_seen s = record { told = Some (contents_of s); lent = s.lent; finds = s.finds; misses = s.misses; faults = s.faults; clashes = s.clashes }
 
 -- the calls that were made and those that are to fail
 abbrev pub failures_of : {X : Type 0} → MemStore X → Failures
@@ -25,7 +25,7 @@ no_contents = record { held = empty; notes = no_notes; writes = [] }
 
 -- what is seen of a new store
 abbrev pub new_seen : Seen
-new_seen = record { told = Some no_contents; lent = []; faults = 0; misses = 0; clashes = 0 }
+new_seen = record { told = Some no_contents; lent = []; finds = 0; misses = 0; faults = 0; clashes = 0 }
 
 -- a block was taken away, or put there unchecked; that is no write
 abbrev pub without_block : Cid → Contents → Contents

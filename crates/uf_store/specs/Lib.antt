@@ -1,3 +1,5 @@
+pub mod Calls
+pub mod CallsWrite
 pub mod Clashes
 pub mod Contents
 pub mod Discarded
@@ -8,3 +10,4 @@ pub mod Keeping
 pub mod Lost
 pub mod Seen
 pub mod Stops
+pub mod Writing

@@ -1,28 +1,12 @@
 -- What a stop leaves of the writes of a store.
-use Rattle.std.specs.Prelude.{◌≡◌, ℕ, List, fold, Some, IfSome}
+use Rattle.std.specs.Prelude.{◌≡◌, ℕ, ◌+◌, List, [], ◌∷◌, ◌++◌, Bool, true, false, ◌==◌, ◌||◌, not, nat_lt, max, fold, Some, IfSome, if◌then◌else◌}
+use Rattle.std.specs.List.{list_any}
 use Rattle.std.specs.FinMap.{get, insert, empty}
 use Rattle.uf_cid.specs.declared.cid.Cid.{Cid}
-use Rattle.uf_store.specs.declared.store.Note.{Note}
+use Rattle.uf_cid.specs.Blocks.{Held, Holds}
 use Rattle.uf_store.specs.declared.store.Write.{Write}
 use Rattle.uf_store.specs.declared.store.Write.TheVariants.{Saved, Synced, Noted}
-use Rattle.uf_edge.specs.declared.host.Put.{Put}
-use Rattle.uf_store.specs.declared.store.Load.{Load}
-use Rattle.uf_store.specs.declared.store.NoteRead.{NoteRead}
-use Rattle.uf_store.specs.declared.store.Save.{Save}
-use Rattle.uf_store.specs.Contents.{Contents, HeldMap, Notes, Told, no_notes, with_note}
-use Rattle.uf_store.specs.Seen.{Loads, ReadsNote, Saves, Seen, Syncs, WritesNote}
-
--- a map after one write
-abbrev pub held_after : HeldMap → Write → HeldMap
-held_after m (Saved cid bytes) = insert m cid bytes
-held_after m Synced = m
-held_after m (Noted which text) = m
-
--- the notes after one write
-abbrev pub notes_after : Notes → Write → Notes
-notes_after n (Saved cid bytes) = n
-notes_after n Synced = n
-notes_after n (Noted which text) = with_note n which text
+use Rattle.uf_store.specs.Contents.{Contents, HeldMap, Notes, Told, held_after, held_at, no_notes, notes_after}
 
 -- the map of all saves
 abbrev pub held_by : List Write → HeldMap
@@ -60,10 +44,47 @@ pub record IsOutcome (ws : List Write) (held : HeldMap) (notes : Notes) : Type 0
 abbrev pub TellsPlain : Told → Type 0
 TellsPlain told = IfSome told IsPlain
 
--- each call of a store that tells so keeps that, whatever it answers
-pub record KeepsPlain (hash : List ℕ → List ℕ) (before now : Seen) : Type 0 where
-  pub load : (cid : Cid) (answer : Load) → Loads hash cid answer before now → TellsPlain before.told → TellsPlain now.told
-  pub save : (cid : Cid) (bytes : List ℕ) (answer : Save) → Saves hash cid bytes answer before now → TellsPlain before.told → TellsPlain now.told
-  pub sync : (answer : Put) → Syncs answer before now → TellsPlain before.told → TellsPlain now.told
-  pub read_note : (which : Note) (answer : NoteRead) → ReadsNote which answer before now → TellsPlain before.told → TellsPlain now.told
-  pub write_note : (which : Note) (text : List ℕ) (answer : Put) → WritesNote which text answer before now → TellsPlain before.told → TellsPlain now.told
+-- what is told is what was written, the note Head has this text, and each of these blocks was saved before the last sync: no
+-- stop takes any of that away
+pub record IsSafe (t : Contents) (head : List ℕ) (blocks : List Held) : Type 0 where
+  pub plain : IsPlain t
+  pub head_is : t.notes.head ≡ Some head
+  pub held : Holds (held_at t) blocks
+  pub firm_too : Holds (λ cid. get (firm t.writes) cid) blocks
+
+-- the contents after one write more
+abbrev pub with_write : Write → Contents → Contents
+with_write w t = record { held = held_after t.held w; notes = notes_after t.notes w; writes = t.writes ++ w ∷ [] }
+
+-- the contents after these writes, from nothing on
+abbrev pub written : List Write → Contents
+written ws = record { held = held_by ws; notes = notes_by ws; writes = ws }
+
+-- the place behind the last sync, 0 where there is none; n is the place of the first of these writes
+abbrev pub behind_sync : ℕ → List Write → ℕ
+behind_sync n [] = 0
+behind_sync n (Saved cid bytes ∷ ws) = behind_sync (n + 1) ws
+behind_sync n (Synced ∷ ws) = max (n + 1) (behind_sync (n + 1) ws)
+behind_sync n (Noted which text ∷ ws) = behind_sync (n + 1) ws
+
+-- the same with one write more, which is at this place
+abbrev pub behind_with : ℕ → ℕ → Write → ℕ
+behind_with behind place (Saved cid bytes) = behind
+behind_with behind place Synced = place + 1
+behind_with behind place (Noted which text) = behind
+
+-- a write survives: a note, and a save that stands before the last sync or whose place isn't lost
+abbrev pub survives : List ℕ → ℕ → ℕ → Write → Bool
+survives lost firm place (Saved cid bytes) = nat_lt place firm || not (list_any (λ n. n == place) lost)
+survives lost firm place Synced = false
+survives lost firm place (Noted which text) = true
+
+-- those of the writes from a place on that survive
+abbrev pub survivors : List ℕ → ℕ → ℕ → List Write → List Write
+survivors lost firm place [] = []
+survivors lost firm place (w ∷ ws) =
+    if survives lost firm place w then w ∷ survivors lost firm (place + 1) ws else survivors lost firm (place + 1) ws
+
+-- the writes of a store after a stop: the surviving ones of these writes, and one sync
+abbrev pub after_stop : List ℕ → List Write → List Write
+after_stop lost ws = survivors lost (behind_sync 0 ws) 0 ws ++ Synced ∷ []

@@ -3,7 +3,8 @@ ghost use Rattle.std.specs.Prelude.{◌≡◌, ◌≤◌, ◌+◌, [], ◌∷◌
 ghost use Rattle.uf_cid.specs.Cid.{cid_of};
 ghost use Rattle.uf_store.specs.Seen.{Finds, Keeps};
 ghost use Rattle.uf_store.specs.Faults.{Answers, NoneIsBad};
-ghost use Rattle.uf_store.specs.Keeping.{Holds, KeepsGood, SavesOnly};
+ghost use Rattle.uf_store.specs.Keeping.{Holds, KeepsGood};
+ghost use Rattle.uf_store.specs.Writing.{SavesOnly};
 ghost use Rattle.uf_store.specs.Clashes.{IsClashOr, IsLoadFault, IsSaveFault};
 
 use crate::{Load, Save, Steps, Store, StoreFault};
@@ -50,7 +51,7 @@ pub fn save_under<S: Store, L: Ledger>(
     // What was good stays, and nothing but this save was written.
     ensures err { OnErr result ((S.seen store.new).told ≡ (S.seen store.old).told) }
     ensures good { KeepsGood S.X.block32 (S.seen store.old).told (S.seen store.new).told }
-    ensures saves { SavesOnly (S.seen store.old).told (S.seen store.new).told }
+    ensures saves { SavesOnly S.X.block32 (S.seen store.old).told (S.seen store.new).told }
     ensures touches { touches.new ≡ touches.old + 1 }
 {
     match store.save(cid, bytes, touches) {
@@ -71,19 +72,18 @@ pub fn save_block<S: Store, L: Ledger>(
 ) -> Result<Cid, StoreFault>
     requires size { length bytes.now ≤ 2097152 }
     ensures cid { IfOk result (λ cid. cid ≡ cid_of S.X.block32 codec bytes.now) }
+    ensures kept { OnOk result (Keeps S.X.block32 (cid_of S.X.block32 codec bytes.now) bytes.now (S.seen store.old) (S.seen store.new)) }
     ensures held { OnOk result (Holds (S.seen store.new).told ((cid_of S.X.block32 codec bytes.now, bytes.now) ∷ [])) }
     ensures cause { Answers S.X.block32 NoneIsBad result (S.seen store.old) (S.seen store.new) }
     ensures fault { IfErr result (IsSaveFault (cid_of S.X.block32 codec bytes.now) bytes.now) }
     ensures err { OnErr result ((S.seen store.new).told ≡ (S.seen store.old).told) }
     ensures good { KeepsGood S.X.block32 (S.seen store.old).told (S.seen store.new).told }
-    ensures saves { SavesOnly (S.seen store.old).told (S.seen store.new).told }
+    ensures saves { SavesOnly S.X.block32 (S.seen store.old).told (S.seen store.new).told }
     ensures touches { touches.new ≡ touches.old + 1 }
 {
     let cid = Cid::of::<S::X>(codec, bytes);
-    match save_under(alloc, store, &cid, bytes, touches) {
-        Ok(()) => Ok(cid),
-        Err(fault) => Err(fault),
-    }
+    save_under(alloc, store, &cid, bytes, touches)?;
+    Ok(cid)
 }
 
 // The fault that shows two blocks of one digest, or that there is no memory to show them.

@@ -15,7 +15,8 @@ pub use callers::{need, save_block, save_under};
 pub use discard::Discard;
 pub use failing::CallKind;
 pub use laws::{
-    causes_go_back, good_blocks_stay_held, what_is_left_goes_on, what_is_told_was_written,
+    agreement_lasts, calls_write_what_they_say, causes_go_back, good_blocks_stay_held,
+    what_is_told_was_written, what_is_written_goes_on,
 };
 pub use memory::MemStore;
 pub use steps::Steps;

@@ -1,9 +1,11 @@
 // A store in memory. It tells, and it can be made to fail, to lose blocks and to hold wrong ones.
-ghost use Rattle.std.specs.Prelude.{◌≡◌, ◌≢◌, ◌≤◌, ◌<◌, ◌+◌, ◌↔◌, ◌⊎◌, ℕ, List, ◌∷◌, [], ◌++◌, length, Some, None, Contains, OnOk, OnErr, IfOk, IsTrue};
+ghost use Rattle.std.specs.Prelude.{◌≡◌, ◌≢◌, ◌≤◌, ◌<◌, ◌+◌, ◌^◌, ◌==◌, ◌↔◌, ◌⊎◌, ℕ, List, ◌∷◌, [], ◌++◌, length, take, Some, None, Contains, OnOk, OnErr, IfOk, IsTrue};
+ghost use Rattle.std.specs.List.{list_any};
 ghost use Rattle.std.specs.FinMap.{from_entries, get, insert, len, remove};
 ghost use Rattle.std.specs.Option.{option_copied};
 ghost use Rattle.uf_cid.specs.Cid.{cid_cmp};
 ghost use Rattle.uf_store.specs.Contents.{changed, held_at};
+ghost use Rattle.uf_store.specs.Stops.{behind_sync as place_behind_sync, behind_with as place_behind, survives as write_survives};
 ghost use Rattle.uf_store.specs.Failing.{IsDue, failures_with, ticked, with_failure, no_failures};
 ghost use Rattle.uf_store.specs.Seen.{Loads, NoOther, ReadsNote, Saves, Seen, Syncs, WritesNote};
 
@@ -15,7 +17,7 @@ use std::collections::BTreeMap;
 use std::marker::PhantomData;
 use std::sync::ledger::Ledger;
 use uf_cid::{Block, BlockHash, Cid, Memory};
-use uf_edge::Put;
+use uf_edge::{Calls, Put};
 
 /// Keeps blocks and notes in memory, and the list of what was written.
 #[derive(Drop)]
@@ -27,14 +29,16 @@ pub struct MemStore<X: BlockHash> {
     pins: Option<Block>,
     writes: Vec<Write>,
     lent: Block,
-    faults: u64,
+    finds: u64,
     misses: u64,
+    faults: u64,
     clashes: u64,
     failures: Failures,
 }
 
 impl<X: BlockHash> MemStore<X> {
     ghost use Rattle.uf_store.specs.InMemory.{contents_of, failures_of, memory_seen, new_seen, with_block, without_block};
+    ghost use Rattle.uf_store.specs.Stops.{IsPlain, after_stop, with_write, written};
 
     /// A store that holds nothing.
     pub fn new(alloc: Global) -> Self
@@ -49,8 +53,9 @@ impl<X: BlockHash> MemStore<X> {
             pins: None,
             writes: Vec::new(alloc),
             lent: Block::new(alloc),
-            faults: 0,
+            finds: 0,
             misses: 0,
+            faults: 0,
             clashes: 0,
             failures: Failures::new(alloc),
         }
@@ -80,6 +85,55 @@ impl<X: BlockHash> MemStore<X> {
         ensures failures { failures_of self.new ≡ failures_of self.old }
     {
         put_there(&mut self.blocks, *cid, bytes)
+    }
+
+    /// What a stop after the first `at` writes leaves, where the saves at the places in `lost` didn't outlive it. Places are
+    /// those in the list of writes, counted from 0; a save in front of the last sync is there whatever `lost` says. The new
+    /// store's past writes are the notes and the saves that are left, in their order, and one sync.
+    pub fn after_stop(&self, at: usize, lost: &Calls) -> Result<MemStore<X>, Memory>
+        requires { at ≤ length (contents_of self.now).writes }
+        ensures seen { IfOk result (λ s. memory_seen s ≡ record new_seen { told = Some (written (after_stop lost.now (take at (contents_of self.now).writes))) }) }
+        ensures plain { IfOk result (λ s. IsPlain (contents_of s)) }
+        ensures failures { IfOk result (λ s. failures_of s ≡ no_failures) }
+    {
+        let writes = &self.writes[..at];
+        let firm = behind_sync(writes);
+        let mut store = MemStore::new(self.alloc);
+        for (place, write) in writes.iter().enumerate() {
+            if survives(lost, firm, place, write) {
+                store.redo(write)?;
+            }
+        }
+        store.redo(&Write::Synced)?;
+        Ok(store)
+    }
+
+    // Makes a past write again.
+    fn redo(&mut self, write: &Write) -> Result<(), Memory>
+        ensures ok { OnOk result (memory_seen self.new ≡ record (memory_seen self.old) { told = Some (with_write write.now (contents_of self.old)) }) }
+        ensures failures { failures_of self.new ≡ failures_of self.old }
+    {
+        match write {
+            Write::Saved(cid, block) => {
+                let kept = block.copy()?;
+                let copy = block.copy()?;
+                keep(&mut self.blocks, &mut self.writes, *cid, kept, copy)
+            }
+            Write::Synced => {
+                self.writes.push(Write::Synced)?;
+                Ok(())
+            }
+            Write::Noted(which, text) => {
+                let noted = text.copy()?;
+                let copy = text.copy()?;
+                self.writes.push(Write::Noted(*which, copy))?;
+                match which {
+                    Note::Head => self.head = Some(noted),
+                    Note::Pins => self.pins = Some(noted),
+                }
+                Ok(())
+            }
+        }
     }
 
     /// How many blocks are held.
@@ -125,6 +179,46 @@ fn count_of(blocks: &BTreeMap<Cid, Block>) -> usize
     ensures { result ≡ len (from_entries {R = cid_cmp} blocks.now.entries) }
 {
     blocks.len()
+}
+
+// The place behind the last sync.
+fn behind_sync(writes: &[Write]) -> usize
+    ensures { result ≡ place_behind_sync 0 writes.now }
+{
+    let mut behind = 0;
+    for (place, write) in writes.iter().enumerate() {
+        behind = behind_with(behind, place, write);
+    }
+    behind
+}
+
+// The place behind the last sync, with one write more at this place.
+fn behind_with(behind: usize, place: usize, write: &Write) -> usize
+    requires { place + 1 < 2 ^ 64 }
+    ensures { result ≡ place_behind behind place write.now }
+{
+    match write {
+        Write::Synced => place + 1,
+        _ => behind,
+    }
+}
+
+// Whether a write at a place survives a stop.
+fn survives(lost: &Calls, firm: usize, place: usize, write: &Write) -> bool
+    ensures { result ≡ write_survives lost.now firm place write.now }
+{
+    match write {
+        Write::Saved(_, _) => place < firm || !is_among(lost, place),
+        Write::Synced => false,
+        Write::Noted(_, _) => true,
+    }
+}
+
+// Whether a place is one of these.
+fn is_among(places: &Calls, place: usize) -> bool
+    ensures { result ≡ list_any (λ n. n == place) places.now }
+{
+    places.as_slice().iter().any(|n| *n == place as u64)
 }
 
 // Keeps a block, and notes that it was saved.
@@ -185,6 +279,7 @@ impl<X: BlockHash> Store for MemStore<X> {
         match block.copy() {
             Ok(copy) => {
                 self.lent = copy;
+                self.finds = self.finds.saturating_add(1);
                 Load::Found
             }
             Err(_) => Load::Memory,

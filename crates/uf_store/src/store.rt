@@ -4,7 +4,7 @@ ghost use Rattle.uf_store.specs.Seen.{Seen, Loads, Saves, Syncs, ReadsNote, Writ
 
 use crate::Steps;
 use std::sync::ledger::Ledger;
-use uf_cid::{Block, BlockHash, Cid};
+use uf_cid::{Block, BlockHash, Cid, Memory};
 use uf_edge::Put;
 
 /// The answer of a load.
@@ -70,13 +70,24 @@ pub enum StoreFault {
     Memory,
 }
 
+impl From<Memory> for StoreFault {
+    ghost use Rattle.std.specs.Prelude.{◌≡◌};
+    ghost use Rattle.uf_store.specs.declared.store.StoreFault.TheVariants as faults;
+
+    ghost from_gives = { λ memory fault. fault ≡ faults.Memory };
+
+    fn from(_memory: Memory) -> Self {
+        StoreFault::Memory
+    }
+}
+
 /// The most bytes of a block.
 pub const MOST_BYTES: usize = 2097152;
 
 /// Blocks under their CIDs, and two notes. A store may tell what it holds; whether it does never changes.
 ///
-/// It counts what goes wrong: failures and damaged blocks, blocks that were missing, and saves that met other bytes
-/// under their CID. A count never falls, and stands still at 2^64 - 1.
+/// It counts the blocks that it found and those that were missing, failures and damaged blocks, and saves that met other
+/// bytes under their CID. A count never falls, and stands still at 2^64 - 1.
 pub trait Store {
     /// The hash that names the blocks.
     type X: BlockHash;

@@ -11,7 +11,7 @@ use std::alloc::Global;
 use std::marker::Brand;
 use std::sync::ledger::{Blank, Ledger};
 use uf_cid::{Block, BlockHash, Cid, Codec, Memory, Sha256Hash, Sum8Hash};
-use uf_edge::Put;
+use uf_edge::{Calls, Put};
 
 fn block(alloc: Global, bytes: &[u8]) -> Result<Block, Memory> {
     let mut block = Block::new(alloc);
@@ -98,6 +98,33 @@ fn clashes<L: Ledger>(alloc: Global, touches: &mut Steps<L>) -> bool {
     saved && shown && store.writes() == 1
 }
 
+// What a stop after so many of these five writes leaves, where the last save is lost: the save of `a`, a sync, the Head, the
+// save of `b`, the Pins. How many blocks and writes are there, and which notes.
+fn stops<L: Ledger>(
+    alloc: Global,
+    at: usize,
+    wanted: (usize, usize, bool, bool),
+    touches: &mut Steps<L>,
+) -> Result<bool, Memory> {
+    let mut store = MemStore::<Sha256Hash>::new(alloc);
+    let first = store.save(&raw::<Sha256Hash>(b"a"), b"a", touches) == Save::Done;
+    let synced = store.sync() == Put::Done;
+    let noted = store.write_note(Note::Head, b"text") == Put::Done;
+    let second = store.save(&raw::<Sha256Hash>(b"b"), b"b", touches) == Save::Done;
+    let pinned = store.write_note(Note::Pins, b"pins") == Put::Done;
+    let mut lost = Calls::new(alloc);
+    lost.push(0)?;
+    lost.push(3)?;
+    if at > store.writes() {
+        return Ok(false);
+    }
+    let mut after = store.after_stop(at, &lost)?;
+    let head = is_text(after.read_note(Note::Head), b"text");
+    let pins = is_text(after.read_note(Note::Pins), b"pins");
+    let found = (after.count(), after.writes(), head, pins);
+    Ok(first && synced && noted && second && pinned && found == wanted)
+}
+
 // A store that keeps nothing takes everything.
 fn discards<L: Ledger>(touches: &mut Steps<L>) -> bool {
     let mut store = Discard::<Sha256Hash>::new();
@@ -127,6 +154,11 @@ fn first_wrong<L: Ledger>(alloc: Global, blank: Blank) -> Result<Option<usize>, 
         loses_and_lies(alloc, &mut touches)?,
         clashes(alloc, &mut touches),
         discards(&mut touches),
+        stops(alloc, 0, (0, 1, false, false), &mut touches)?,
+        stops(alloc, 1, (0, 1, false, false), &mut touches)?,
+        stops(alloc, 2, (1, 2, false, false), &mut touches)?,
+        stops(alloc, 4, (1, 3, true, false), &mut touches)?,
+        stops(alloc, 5, (1, 4, true, true), &mut touches)?,
     ];
     Ok(rows.iter().position(|right| !*right))
 }

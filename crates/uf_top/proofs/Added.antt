@@ -2,6 +2,7 @@
 use Rattle.std.proofs.Common.{◌≡◌, ℕ, ◌<◌, ◌≤◌, ◌+◌, List, [], ◌++◌, length, Bool, true, false, arith, refl, sym, ap, subst, ◌∙◌, inl, inr, append-nil, length-append, Option, Some, None, Result, Ok, Err}
 use Rattle.std.specs.Prelude.{IfOk, IfSome, if◌then◌else◌}
 use Rattle.std.proofs.lemmas.Bool.{le-leb, lt-leb}
+use Rattle.uf_tree.specs.Profiles.{most_bytes, usual}
 use Rattle.uf_cid.specs.Blocks.{Held}
 use Rattle.uf_edge.specs.Counts.{Counts, Stood}
 use Rattle.uf_edge.specs.Streams.{before, IsAtEnd}
@@ -23,7 +24,7 @@ use Rattle.uf_tree.specs.declared.profile.Profile.{Profile}
 use Rattle.uf_top.specs.Causes.{Adds, AddsBy, HeadSays, IsOfWork, IsProfileIn, IsProfileOf, IsProfileRead, IsReady, IsReason, IsUnread, Stops, is_read, or_usual}
 use Rattle.uf_top.specs.Intake.{IsFileOf, IsRowOf, ShownIn}
 use Rattle.uf_top.specs.Lines.{added_line}
-use Rattle.uf_top.specs.Reply.{Answers, Reply, add_reply, added, file_cid, most_input, unchanged, usual}
+use Rattle.uf_top.specs.Reply.{Answers, Reply, add_reply, added, file_cid, unchanged}
 use Rattle.uf_top.specs.declared.types.Command.TheVariants.{Add}
 use Rattle.uf_top.specs.declared.types.Refusal.{Refusal}
 use Rattle.uf_top.specs.declared.types.Refusal.TheVariants as refusal
@@ -66,19 +67,19 @@ abbrev pub plan_blocks : (List ℕ → List ℕ) → Profile → List ℕ → Li
 plan_blocks X p bytes = (file_plan X p bytes).blocks
 
 module _ (X : List ℕ → List ℕ) where
-  short : (s : Standing) (blocks : List ℕ → List Held) (p : Profile) (bytes : List ℕ) → length bytes ≤ most_input p
+  short : (s : Standing) (blocks : List ℕ → List Held) (p : Profile) (bytes : List ℕ) → length bytes ≤ most_bytes p
       → added X s blocks p bytes ≡ record { ends = Ok (added_line (file_cid X p bytes)); next = s; held = blocks bytes }
   short s blocks p bytes h =
       let row : Reply = record { ends = Ok (added_line (file_cid X p bytes)); next = s; held = blocks bytes } in
       let other : Reply = unchanged s (Err (refusal.Rule FileTooLong)) in
-      ap (λ (b : Bool). if b then row else other) (le-leb (length bytes) (most_input p) h)
+      ap (λ (b : Bool). if b then row else other) (le-leb (length bytes) (most_bytes p) h)
 
-  long : (s : Standing) (blocks : List ℕ → List Held) (p : Profile) (bytes : List ℕ) → most_input p < length bytes
+  long : (s : Standing) (blocks : List ℕ → List Held) (p : Profile) (bytes : List ℕ) → most_bytes p < length bytes
       → added X s blocks p bytes ≡ unchanged s (Err (refusal.Rule FileTooLong))
   long s blocks p bytes h =
       let row : Reply = record { ends = Ok (added_line (file_cid X p bytes)); next = s; held = blocks bytes } in
       let other : Reply = unchanged s (Err (refusal.Rule FileTooLong)) in
-      ap (λ (b : Bool). if b then row else other) (lt-leb (length bytes) (most_input p) h)
+      ap (λ (b : Bool). if b then row else other) (lt-leb (length bytes) (most_bytes p) h)
 
   -- the row of an input, or why there is none, is what the reply says of its bytes
   pub added-answers : (N : List ℕ → ℕ) (s : Standing) (blocks : List ℕ → List Held) (p : Profile) (bytes : List ℕ) (r : Result (List ℕ) Refusal) (held : Told) (a b : Seen) (l m : streams.Told) (i j : ℕ)
@@ -87,7 +88,7 @@ module _ (X : List ℕ → List ℕ) where
       → Answers X N s (added X s blocks p bytes) r b.told
   added-answers N s blocks p bytes (Ok text) held a b l m i j stands stays row e shown f c counts read =
       let same : bytes ≡ row.bytes = all_given bytes row.bytes l m e row.taken row.nothing_left in
-      let few : length bytes ≤ most_input p = subst (λ (xs : List ℕ). length xs ≤ most_input p) (sym same) row.few in
+      let few : length bytes ≤ most_bytes p = subst (λ (xs : List ℕ). length xs ≤ most_bytes p) (sym same) row.few in
       let reply = short s blocks p bytes few in
       inr (record {
         ends_are = ap Ok (row.is ∙ ap (λ (xs : List ℕ). added_line (file_cid X p xs)) (sym same)) ∙ ap (λ (r : Reply). r.ends) (sym reply);

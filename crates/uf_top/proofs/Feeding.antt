@@ -3,6 +3,7 @@ use Rattle.std.proofs.Common.{◌≡◌, ℕ, ◌<◌, Bool, true, false, List, 
 use Rattle.std.specs.Prelude.{Some, None}
 use Rattle.std.specs.declared.result.Result.{Result}
 use Rattle.std.specs.declared.result.Result.TheVariants.{Ok, Err}
+use Rattle.uf_tree.specs.Profiles.{most_bytes}
 use Rattle.uf_edge.specs.Streams.{Told, before}
 use Rattle.uf_edge.proofs.Appending.{before-before}
 use Rattle.uf_build.specs.Building.{Building, HasFed, HoldsFed}
@@ -17,7 +18,6 @@ use Rattle.uf_tree.specs.declared.profile.Profile.{Profile}
 use Rattle.uf_top.specs.declared.types.Refusal.{Refusal}
 use Rattle.uf_top.specs.declared.types.Refusal.TheVariants as refusal
 use Rattle.uf_top.specs.Intake.{Closes, FeedsFrom, FeedsNext, FeedsPart, FeedsLast, FeedsRest, PassesLimit, IsFedBy, IsFileOf, IsStopped, ShownIn, ShownWhy}
-use Rattle.uf_top.specs.Reply.{most_input}
 
 before-nil : (t : Told) → before [] t ≡ t
 before-nil None = refl
@@ -79,7 +79,7 @@ module _ (hash : List ℕ → List ℕ) (p : Profile) where
     bytes = f.bytes ++ g.bytes;
     taken = f.feeds.taken ∙ ap (before f.bytes) g.taken ∙ before-before n f.bytes g.bytes;
     many = λ front fed.
-        subst (λ (zs : List ℕ). most_input p < length zs) (append_assoc front f.bytes g.bytes) (g.many (front ++ f.bytes) (f.feeds.fed front fed));
+        subst (λ (zs : List ℕ). most_bytes p < length zs) (append_assoc front f.bytes g.bytes) (g.many (front ++ f.bytes) (f.feeds.fed front fed));
   }
 
   -- a stop behind what was fed before is one from the start

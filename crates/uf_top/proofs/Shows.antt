@@ -11,7 +11,8 @@ use Rattle.uf_store.specs.declared.store.Role.TheVariants.{Directory, Shard, Fil
 use Rattle.uf_store.specs.declared.store.StoreFault.{StoreFault}
 use Rattle.uf_store.specs.declared.store.StoreFault.TheVariants.{Failed, Damaged, Missing, BadBlock, Clash, Memory}
 use Rattle.uf_store.specs.Contents.{Notes, Told}
-use Rattle.uf_store.specs.Keeping.{KeepsGood, SavesOnly}
+use Rattle.uf_store.specs.Keeping.{KeepsGood}
+use Rattle.uf_store.specs.Writing.{SavesOnly}
 use Rattle.uf_store.proofs.Keeping.{KeepsGood-refl}
 use Rattle.uf_tree.specs.Roles.{IsCanonicalDirectory, Basic, Sharded, FileRoot}
 use Rattle.uf_mfs.specs.Standing.{head_in}
@@ -19,6 +20,7 @@ use Rattle.uf_top.specs.declared.types.Command.{Command}
 use Rattle.uf_store.specs.Faults.{NoneIsBad, Rises, Shows, StaysCalm}
 use Rattle.uf_store.specs.Seen.{Seen}
 use Rattle.uf_store.proofs.Causes.{Shows-after, StaysCalm-trans}
+use Rattle.uf_store.proofs.Writing.{saves-notes}
 use Rattle.uf_tree.specs.declared.profile.Profile.{Profile}
 use Rattle.uf_top.specs.Causes.{IsBadIn, IsMade, IsOfAt, IsOfInit, IsOfTree, IsOpeningFault, IsProfileOf, IsReady, IsTreeFault, OnlyWants, RefusesInTree, RefusesOpening, Shown}
 use Rattle.uf_top.specs.Intake.{ShownIn, ShownWhy}
@@ -26,7 +28,7 @@ use Rattle.uf_top.specs.declared.types.Refusal.{Refusal}
 use Rattle.uf_top.specs.declared.types.Refusal.TheVariants as refusal
 
 pub calm-rises : (a b : Seen) → StaysCalm a b → Rises a b
-calm-rises a b h = record { faults = omega (arith, h.faults); misses = h.misses; clashes = omega (arith, h.clashes) }
+calm-rises a b h = record { finds = h.finds; misses = h.misses; faults = omega (arith, h.faults); clashes = omega (arith, h.clashes) }
 
 pub stood-back : (a b c : ℕ) → b ≡ a → Stood a c → Stood b c
 stood-back a b c same h = subst (λ x. Stood x c) (sym same) h
@@ -39,7 +41,7 @@ pub Shows-more : (hash : List ℕ → List ℕ) (P Q : Role → List ℕ → Typ
 Shows-more hash P Q Failed a b more h = h
 Shows-more hash P Q (Damaged cid) a b more h = h
 Shows-more hash P Q (Missing cid) a b more h = h
-Shows-more hash P Q (BadBlock cid role) a b more h = record { digest = h.digest; bad = more role b.lent h.bad; calm = h.calm }
+Shows-more hash P Q (BadBlock cid role) a b more h = record { rose = h.rose; digest = h.digest; is_held = h.is_held; bad = more role b.lent h.bad; calm = h.calm }
 Shows-more hash P Q (Clash cid held bytes) a b more h = h
 Shows-more hash P Q Memory a b more h = h
 
@@ -215,11 +217,11 @@ made-work M (Ok x) r made = subst (λ (r : Result (List ℕ) Refusal). IsOfTree 
 made-work M (Err m) r made = subst (λ (r : Result (List ℕ) Refusal). IsOfTree r) (sym made) tt
 
 -- saves alone leave the Head
-pub saves-head : (a b : Told) → SavesOnly a b → head_in b ≡ head_in a
-saves-head None None h = refl
-saves-head None (Some b) h = absurd h
-saves-head (Some a) None h = absurd h
-saves-head (Some a) (Some b) h = ap (λ (n : Notes). n.head) h.same_notes
+pub saves-head : (hash : List ℕ → List ℕ) (a b : Told) → SavesOnly hash a b → head_in b ≡ head_in a
+saves-head hash None None h = refl
+saves-head hash None (Some b) h = absurd h
+saves-head hash (Some a) None h = absurd h
+saves-head hash (Some a) (Some b) h = ap (λ (n : Notes). n.head) (saves-notes hash a b h)
 
 pub same-good : (hash : List ℕ → List ℕ) (a b : Told) → b ≡ a → KeepsGood hash a b
 same-good hash a b e = subst (KeepsGood hash a) (sym e) (KeepsGood-refl hash a)

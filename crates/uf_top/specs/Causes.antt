@@ -4,6 +4,7 @@ use Rattle.std.specs.declared.option.Option.{Option}
 use Rattle.std.specs.declared.option.Option.TheVariants.{None, Some}
 use Rattle.std.specs.declared.result.Result.{Result}
 use Rattle.std.specs.declared.result.Result.TheVariants.{Ok, Err}
+use Rattle.uf_tree.specs.Profiles.{most_bytes, usual}
 use Rattle.uf_cid.specs.declared.cid.Cid.{Cid}
 use Rattle.uf_edge.specs.declared.streams.Sent.{Sent}
 use Rattle.uf_edge.specs.Counts.{Counts}
@@ -36,7 +37,7 @@ use Rattle.uf_top.specs.declared.types.Refusal.{Refusal}
 use Rattle.uf_top.specs.declared.types.Refusal.TheVariants as refusal
 use Rattle.uf_top.specs.Lines.{added_line}
 use Rattle.uf_top.specs.Statuses.{no_memory}
-use Rattle.uf_top.specs.Reply.{file_cid, most_input, usual}
+use Rattle.uf_top.specs.Reply.{file_cid}
 
 -- the faults of calls that open a tree: no rule refuses that, and nothing is printed there
 abbrev pub IsOpeningFault : MfsFault → Type 0
@@ -223,7 +224,7 @@ pub record IsTooLong (told : Told) (only_hash : Bool) (left left_now : streams.T
   pub adds_by : IfSome told (λ t. AddsBy only_hash t.notes.head profile)
   pub bytes : List ℕ
   pub taken : left ≡ before bytes left_now
-  pub many : most_input profile < length bytes
+  pub many : most_bytes profile < length bytes
 
 -- what `add` makes of the input: its row, or that it is too long
 abbrev pub Adds : (List ℕ → List ℕ) → Told → Bool → Result (List ℕ) Refusal → streams.Told → streams.Told → Type 0

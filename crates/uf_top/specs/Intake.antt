@@ -2,8 +2,9 @@
 use Rattle.std.specs.Prelude.{◌≡◌, ℕ, ◌+◌, ◌<◌, ◌≤◌, List, ◌++◌, length, Bool, true, false, ⊤}
 use Rattle.std.specs.declared.result.Result.{Result}
 use Rattle.std.specs.declared.result.Result.TheVariants.{Ok, Err}
+use Rattle.uf_tree.specs.Profiles.{most_bytes}
 use Rattle.uf_build.specs.Answers.{IsSaving}
-use Rattle.uf_build.specs.Building.{Building, HasFed, HoldsFed, most_bytes}
+use Rattle.uf_build.specs.Building.{Building, HasFed, HoldsFed}
 use Rattle.uf_edge.specs.Streams.{Told, before, IsAtEnd}
 use Rattle.uf_mfs.specs.declared.types.Rule.TheVariants.{FileTooLong}
 use Rattle.uf_store.specs.Contents as store
@@ -16,7 +17,7 @@ use Rattle.uf_tree.specs.declared.profile.Profile.{Profile}
 use Rattle.uf_top.specs.declared.types.Refusal.{Refusal}
 use Rattle.uf_top.specs.declared.types.Refusal.TheVariants as refusal
 use Rattle.uf_top.specs.Lines.{added_line}
-use Rattle.uf_top.specs.Reply.{file_cid, most_input}
+use Rattle.uf_top.specs.Reply.{file_cid}
 
 -- what a refusal shows: a fault of the store its cause, and before any other refusal the store has stayed calm
 abbrev pub ShownWhy : (List ℕ → List ℕ) → Refusal → Seen → Seen → Type 0
@@ -37,14 +38,14 @@ ShownIn hash (Err why) before now = ShownWhy hash why before now
 pub record PassesMost (p : Profile) (left left_now : Told) : Type 0 where
   pub bytes : List ℕ
   pub taken : left ≡ before bytes left_now
-  pub many : most_input p < length bytes
+  pub many : most_bytes p < length bytes
 
 -- these are all bytes of the input, no more than a file may have, and this is their file's entry, whose blocks are held
 pub record IsWholeFile (hash : List ℕ → List ℕ) (p : Profile) (told_now : store.Told) (entry : Entry) (left left_now : Told) : Type 0 where
   pub bytes : List ℕ
   pub taken : left ≡ before bytes left_now
   pub nothing_left : IsAtEnd left_now
-  pub few : length bytes ≤ most_input p
+  pub few : length bytes ≤ most_bytes p
   pub is : entry ≡ (file_plan hash p bytes).entry
   pub held : Holds told_now (file_plan hash p bytes).blocks
 
@@ -68,7 +69,7 @@ pub record IsFedBy (hash : List ℕ → List ℕ) (p : Profile) (told : store.To
   pub fed : HasFed hash bytes b
   pub held : HoldsFed hash bytes told b
   pub count : b.fed ≡ length bytes
-  pub few : length bytes ≤ most_input p
+  pub few : length bytes ≤ most_bytes p
   pub profile : b.profile ≡ p
   pub not_spent : b.is_spent ≡ false
 
@@ -81,7 +82,7 @@ pub record FeedsFrom (hash : List ℕ → List ℕ) (p : Profile) (bytes : List 
 pub record PassesLimit (hash : List ℕ → List ℕ) (p : Profile) (told : store.Told) (b : Building) (left left_now : Told) : Type 0 where
   pub bytes : List ℕ
   pub taken : left ≡ before bytes left_now
-  pub many : (front : List ℕ) → IsFedBy hash p told front b → most_input p < length (front ++ bytes)
+  pub many : (front : List ℕ) → IsFedBy hash p told front b → most_bytes p < length (front ++ bytes)
 
 -- more may follow what was fed
 pub record FeedsPart (hash : List ℕ → List ℕ) (p : Profile) (told told_now : store.Told) (b now : Building) (left left_now : Told) : Type 0 where
@@ -109,7 +110,7 @@ pub record GrowsBy (more : ℕ) (b now : Building) : Type 0 where
 -- the answer where one piece is fed
 abbrev pub FeedsPiece : (List ℕ → List ℕ) → Profile → List ℕ → Result (Unit {0}) Refusal → store.Told → store.Told → Building → Building → Type 0
 FeedsPiece hash p piece (Ok done) told told_now b now = (front : List ℕ) → IsFedBy hash p told front b → IsFedBy hash p told_now (front ++ piece) now
-FeedsPiece hash p piece (Err why) told told_now b now = IsStopped ((front : List ℕ) → IsFedBy hash p told front b → most_input p < length (front ++ piece)) why
+FeedsPiece hash p piece (Err why) told told_now b now = IsStopped ((front : List ℕ) → IsFedBy hash p told front b → most_bytes p < length (front ++ piece)) why
 
 -- the answer of the readings up to the end
 abbrev pub FeedsRest : (List ℕ → List ℕ) → Profile → Result (Unit {0}) Refusal → store.Told → store.Told → Building → Building → Told → Told → Type 0
@@ -131,7 +132,7 @@ pub record IsWholeRow (hash : List ℕ → List ℕ) (p : Profile) (told_now : s
   pub bytes : List ℕ
   pub taken : left ≡ before bytes left_now
   pub nothing_left : IsAtEnd left_now
-  pub few : length bytes ≤ most_input p
+  pub few : length bytes ≤ most_bytes p
   pub is : text ≡ added_line (file_cid hash p bytes)
   pub held : Holds told_now (file_plan hash p bytes).blocks
 

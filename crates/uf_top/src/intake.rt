@@ -1,7 +1,8 @@
 // An input that is read as a file.
 ghost use Rattle.std.specs.Prelude.{◌≡◌, ◌<◌, length, false, true, IfOk, IsTrue, Ok, OnOk, vec_len};
 ghost use Rattle.uf_edge.specs.Counts.{Counts};
-ghost use Rattle.uf_store.specs.Keeping.{KeepsGood, SavesOnly};
+ghost use Rattle.uf_store.specs.Keeping.{KeepsGood};
+ghost use Rattle.uf_store.specs.Writing.{SavesOnly};
 ghost use Rattle.uf_top.specs.Causes.{is_read};
 ghost use Rattle.uf_top.specs.Intake.{Closes, FeedsNext, FeedsPiece, FeedsRest, GrowsBy, IsFileOf, ShownIn};
 ghost use Rattle.uf_tree.specs.Profiles.{is_profile};
@@ -35,7 +36,7 @@ pub fn file_of<S: Store, I: Source, L: Ledger>(
     ensures counts { Counts (is_read result) (I.faults input.old) (I.faults input.new) }
     ensures cause { ShownIn S.X.block32 result (S.seen store.old) (S.seen store.new) }
     ensures good { KeepsGood S.X.block32 (S.seen store.old).told (S.seen store.new).told }
-    ensures saves { SavesOnly (S.seen store.old).told (S.seen store.new).told }
+    ensures saves { SavesOnly S.X.block32 (S.seen store.old).told (S.seen store.new).told }
 {
     let mut builder = Builder::new(alloc, profile);
     match feed_all(alloc, &mut builder, store, input, touches) {
@@ -54,7 +55,7 @@ fn closed<S: Store, L: Ledger>(
     ensures reads { is_read result ≡ false }
     ensures cause { ShownIn S.X.block32 result (S.seen store.old) (S.seen store.new) }
     ensures good { KeepsGood S.X.block32 (S.seen store.old).told (S.seen store.new).told }
-    ensures saves { SavesOnly (S.seen store.old).told (S.seen store.new).told }
+    ensures saves { SavesOnly S.X.block32 (S.seen store.old).told (S.seen store.new).told }
 {
     match builder.finish(store, touches) {
         Ok(entry) => Ok(entry),
@@ -77,7 +78,7 @@ fn feed_all<S: Store, I: Source, L: Ledger>(
     ensures counts { Counts (is_read result) (I.faults input.old) (I.faults input.new) }
     ensures cause { ShownIn S.X.block32 result (S.seen store.old) (S.seen store.new) }
     ensures good { KeepsGood S.X.block32 (S.seen store.old).told (S.seen store.new).told }
-    ensures saves { SavesOnly (S.seen store.old).told (S.seen store.new).told }
+    ensures saves { SavesOnly S.X.block32 (S.seen store.old).told (S.seen store.new).told }
 {
     let Ok(mut piece) = zeros(alloc, PIECE) else {
         return Err(Refusal::Store(StoreFault::Memory));
@@ -106,7 +107,7 @@ fn feed_rest<S: Store, I: Source, L: Ledger>(
     ensures counts { Counts (is_read result) (I.faults input.old) (I.faults input.new) }
     ensures cause { ShownIn S.X.block32 result (S.seen store.old) (S.seen store.new) }
     ensures good { KeepsGood S.X.block32 (S.seen store.old).told (S.seen store.new).told }
-    ensures saves { SavesOnly (S.seen store.old).told (S.seen store.new).told }
+    ensures saves { SavesOnly S.X.block32 (S.seen store.old).told (S.seen store.new).told }
 {
     'pieces: loop {
         match feed_next(builder, store, input, buffer, touches) {
@@ -131,7 +132,7 @@ fn feed_next<S: Store, I: Source, L: Ledger>(
     ensures grows { result ≡ Ok true → GrowsBy (length buffer.new) builder.old builder.new }
     ensures cause { ShownIn S.X.block32 result (S.seen store.old) (S.seen store.new) }
     ensures good { KeepsGood S.X.block32 (S.seen store.old).told (S.seen store.new).told }
-    ensures saves { SavesOnly (S.seen store.old).told (S.seen store.new).told }
+    ensures saves { SavesOnly S.X.block32 (S.seen store.old).told (S.seen store.new).told }
 {
     match fill(input, buffer) {
         Filled::Full => match feed_piece(builder, store, buffer, touches) {
@@ -158,7 +159,7 @@ fn feed_piece<S: Store, L: Ledger>(
     ensures reads { is_read result ≡ false }
     ensures cause { ShownIn S.X.block32 result (S.seen store.old) (S.seen store.new) }
     ensures good { KeepsGood S.X.block32 (S.seen store.old).told (S.seen store.new).told }
-    ensures saves { SavesOnly (S.seen store.old).told (S.seen store.new).told }
+    ensures saves { SavesOnly S.X.block32 (S.seen store.old).told (S.seen store.new).told }
 {
     match builder.feed(store, piece, touches) {
         Ok(()) => Ok(()),

@@ -5,7 +5,8 @@ ghost use Rattle.uf_mfs.specs.Answers.{MovesTo, ShownInTree};
 ghost use Rattle.uf_mfs.specs.Bad.{IsBad};
 ghost use Rattle.uf_mfs.specs.Plain.{at as at_names};
 ghost use Rattle.uf_mfs.specs.Standing.{IsMfs, StandsAt, TellsAs, head_in};
-ghost use Rattle.uf_store.specs.Keeping.{KeepsGood, SavesOnly};
+ghost use Rattle.uf_store.specs.Keeping.{KeepsGood};
+ghost use Rattle.uf_store.specs.Writing.{SavesOnly};
 ghost use Rattle.uf_tree.specs.Heads.{head_text};
 ghost use Rattle.uf_tree.specs.Profiles.{is_profile};
 ghost use Rattle.uf_tree.specs.Standing.{Standing, Stands};
@@ -226,7 +227,7 @@ fn edited<S: Store, N: NameHash, L: Ledger>(
     ensures mfs { IsMfs tree.new }
     ensures cause { ShownInTree S.X.block32 (IsBad N.name64 (Some tree.old.profile)) result (S.seen store.old) (S.seen store.new) }
     ensures good { KeepsGood S.X.block32 (S.seen store.old).told (S.seen store.new).told }
-    ensures saves { SavesOnly (S.seen store.old).told (S.seen store.new).told }
+    ensures saves { SavesOnly S.X.block32 (S.seen store.old).told (S.seen store.new).told }
 {
     match edit {
         Edit::Mkdir { parents } => { tree.mkdir::<S, N, L>(alloc, store, path, parents, touches) }

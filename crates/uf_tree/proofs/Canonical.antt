@@ -17,7 +17,7 @@ use Rattle.uf_tree.specs.FilePlan.{Plan, groups, node_over}
 use Rattle.uf_tree.specs.FileSub.{span, part_over, IsHeight}
 use Rattle.uf_tree.specs.Nodes.{Named, file_block, dir_block, shard_block}
 use Rattle.uf_tree.specs.Profiles.{is_profile}
-use Rattle.uf_tree.specs.Roles.{IsCanonicalDirectory, Basic, Sharded, IsCanonicalShard, IsOnWay, IsCanonicalFileNode, Root, Below, part_sizes, part_codec}
+use Rattle.uf_tree.specs.Roles.{IsCanonicalDirectory, Basic, Sharded, IsCanonicalShard, IsOnWay, IsCanonicalFileNode, IsSpanned, Root, Below, part_sizes, part_codec}
 use Rattle.uf_tree.specs.Shardable.{HasShard}
 use Rattle.uf_tree.specs.ShardPlan.{shard, shard_items, slot_item, bucket}
 use Rattle.uf_tree.specs.Validity.{IsHash, IsEntry, IsNamed, IsDirectory}
@@ -135,14 +135,14 @@ module _ (X : List ℕ → List ℕ) (good : IsHash X) (p : Profile) (ok : IsTru
 
   -- a node of a file at its place
   pub node-canonical : (above k whole : ℕ) (bytes : List ℕ) → IsHeight p.chunk p.width whole (above + suc k) → above < 22
-      → length bytes ≤ span p.chunk p.width (suc k) → length bytes < 2 ^ 63
+      → IsSpanned p (suc k) whole (length bytes) → length bytes < 2 ^ 63
       → IsCanonicalFileNode (Some p) (Below above (length bytes) whole) (file_block (node_over (node_at k bytes)))
-  node-canonical above k whole bytes height few fit small = record {
+  node-canonical above k whole bytes height few place small = let fit : length bytes ≤ span p.chunk p.width (suc k) = omega (arith, place.is) in record {
     node = node_over (node_at k bytes);
     valid = file_node-valid X good p ok k bytes fit small;
     few = few;
     declared = total k bytes;
-    planned = record { below = k; height = height; sizes = planned_sizes k bytes; codecs = codecs_are k (groups (span p.chunk p.width k) bytes) };
+    planned = record { below = k; height = height; has_place = place; sizes = planned_sizes k bytes; codecs = codecs_are k (groups (span p.chunk p.width k) bytes) };
     is = refl;
   }
 
@@ -157,6 +157,7 @@ module _ (X : List ℕ → List ℕ) (good : IsHash X) (p : Profile) (ok : IsTru
     planned = record {
       below = k;
       height = subst (λ n. IsHeight p.chunk p.width n (0 + suc k)) (sym (total k bytes)) (subst (λ h. IsHeight p.chunk p.width (length bytes) h) (let z : suc k ≡ 0 + suc k = omega arith in z) height);
+      has_place = tt;
       sizes = planned_sizes k bytes;
       codecs = codecs_are k (groups (span p.chunk p.width k) bytes);
     };

@@ -1,5 +1,5 @@
 -- When a block is canonical in the role in which it is read.
-use Rattle.std.specs.Prelude.{◌≡◌, ◌≢◌, ℕ, zero, suc, ◌+◌, ◌<◌, ◌≤◌, List, [], ◌∷◌, ◌++◌, length, map, sum, replicate, Bool, false}
+use Rattle.std.specs.Prelude.{◌≡◌, ◌≢◌, ℕ, zero, suc, ◌+◌, ◌-◌, ◌*◌, ◌<◌, ◌≤◌, min, List, [], ◌∷◌, ◌++◌, length, map, sum, replicate, Bool, false}
 use Rattle.std.specs.declared.option.Option.{Option}
 use Rattle.std.specs.declared.option.Option.TheVariants.{None, Some}
 use Rattle.std.specs.List.{AllByRecursion, range_with_len}
@@ -89,10 +89,23 @@ abbrev pub part_codec : ℕ → Codec
 part_codec zero = Raw
 part_codec (suc height) = DagPb
 
--- the node has the sizes and the codecs that the balanced layout gives at its place
+-- what the balanced layout gives to a part of this height in a file of so many bytes: behind whole parts, as much as fits, or at
+-- the end of the file what is left
+pub record IsSpanned (p : Profile) (height whole size : ℕ) : Type 0 where
+  pub before : ℕ
+  pub inside : before * span p.chunk p.width height < whole
+  pub is : size ≡ min (span p.chunk p.width height) (whole - before * span p.chunk p.width height)
+
+-- a node over parts of this height has its place among the nodes of its row
+abbrev pub HasPlace : Profile → ℕ → FilePlace → Type 0
+HasPlace p below Root = Unit {0}
+HasPlace p below (Below above declared whole) = IsSpanned p (suc below) whole declared
+
+-- the node has the size, the parts' sizes and the codecs that the balanced layout gives at its place
 pub record IsPlanned (place : FilePlace) (node : FileNode) (p : Profile) : Type 0 where
   pub below : ℕ
   pub height : IsHeight p.chunk p.width (whole_size place (sum node.sizes)) (nodes_above place + suc below)
+  pub has_place : HasPlace p below place
   pub sizes : node.sizes ≡ part_sizes p below (sum node.sizes)
   pub codecs : AllByRecursion (λ (l : Link). l.cid.codec ≡ part_codec below) node.parts
 

@@ -1,5 +1,5 @@
 -- The root blocks of files and of directories.
-use Rattle.std.specs.Prelude.{◌≡◌, ◌≤◌, ◌*◌, ℕ, zero, suc, List, length, map, IsTrue, if◌then◌else◌}
+use Rattle.std.specs.Prelude.{◌≡◌, ◌≤◌, ℕ, zero, suc, List, length, map, IsTrue, if◌then◌else◌}
 use Rattle.uf_cid.specs.Blocks.{Held}
 use Rattle.uf_cid.specs.Bytes.{IsBytes}
 use Rattle.uf_cid.specs.Cid.{cid_of}
@@ -10,7 +10,7 @@ use Rattle.uf_tree.specs.DirPlan.{is_sharded}
 use Rattle.uf_tree.specs.FilePlan.{file_plan, groups, leaf_held, node_held}
 use Rattle.uf_tree.specs.FileSub.{IsRooted, part_over, span}
 use Rattle.uf_tree.specs.Nodes.{Named, dir_block}
-use Rattle.uf_tree.specs.Profiles.{is_profile}
+use Rattle.uf_tree.specs.Profiles.{is_profile, most_bytes}
 use Rattle.uf_tree.specs.ShardPlan.{shard, shard_held, shard_items}
 
 -- the block of the part of this height over these bytes
@@ -22,7 +22,7 @@ root_over X c w (suc k) bytes = node_held X (map (part_over X c w k) (groups (sp
 pub record IsFileRoot (X : List ℕ → List ℕ) (p : Profile) (bytes : List ℕ) (cid : Cid) (root : Held) : Type 0 where
   pub profile : IsTrue (is_profile p)
   pub are_bytes : IsBytes bytes
-  pub few : length bytes ≤ p.chunk * 4194304
+  pub few : length bytes ≤ most_bytes p
   pub height : ℕ
   pub rooted : IsRooted X p bytes (file_plan X p bytes) height
   pub cid_is : cid ≡ (file_plan X p bytes).entry.cid

@@ -1,5 +1,5 @@
 -- The plan of a tree: its entry, its blocks, and the first reason for which it has none.
-use Rattle.std.specs.Prelude.{ℕ, ◌*◌, ◌^◌, List, [], ◌∷◌, ◌++◌, length, map, nat_lt, if◌then◌else◌}
+use Rattle.std.specs.Prelude.{ℕ, ◌^◌, List, [], ◌∷◌, ◌++◌, length, map, nat_lt, if◌then◌else◌}
 use Rattle.std.specs.declared.option.Option.{Option}
 use Rattle.std.specs.declared.option.Option.TheVariants.{None, Some}
 use Rattle.std.specs.List.{flat_map}
@@ -9,6 +9,7 @@ use Rattle.uf_tree.specs.declared.profile.Profile.{Profile}
 use Rattle.uf_tree.specs.Tree.{Tree, Entries, fold, pairs}
 use Rattle.uf_tree.specs.FilePlan.{Plan, file_plan}
 use Rattle.uf_tree.specs.Nodes.{Named}
+use Rattle.uf_tree.specs.Profiles.{most_bytes}
 use Rattle.uf_tree.specs.ShardPlan.{twins, same_hash}
 use Rattle.uf_tree.specs.DirPlan.{own_plan, is_sharded}
 
@@ -33,9 +34,9 @@ abbrev pub first_refusal : List (List ℕ × Planned) → Option Refusal
 first_refusal [] = None
 first_refusal (m ∷ ms) = or_else m.1.refusal (first_refusal ms)
 
--- a file has at most 4194304 times the profile's piece of bytes
+-- a file with more bytes than its profile allows is refused
 abbrev pub too_long : Profile → List ℕ → Option Refusal
-too_long p bytes = if nat_lt (p.chunk * 4194304) (length bytes) then Some FileTooLong else None
+too_long p bytes = if nat_lt (most_bytes p) (length bytes) then Some FileTooLong else None
 
 -- a directory's Tsize is at most 2 ^ 62
 abbrev pub too_big : ℕ → Option Refusal

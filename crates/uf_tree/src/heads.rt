@@ -21,8 +21,7 @@ use uf_cid::{Block, Cid, Codec, Memory};
 /// The text of a Head: five lines, each ended by a line feed.
 #[tactic(auto, unfolding(crate::specs::Heads::head_text))]
 pub fn head_text(alloc: Global, head: &Head) -> Result<Block, Memory>
-    requires profile { IsTrue (is_profile head.now.profile) }
-    requires root { head.now.root.codec ≡ NodeCodec }
+    requires { IsTrue (is_profile head.now.profile) }
     ensures { IfOk result (λ b. b ≡ text_of_head head.now.profile head.now.root) }
 {
     let mut out = Block::with_capacity(alloc, 144)?;

@@ -1,7 +1,7 @@
 // Profiles that are accepted.
 ghost use Rattle.std.specs.Prelude.{◌≡◌, false, IsTrue, MatchResult};
 ghost use Rattle.uf_tree.specs.declared.profile.Profile.{Profile as TheProfile};
-ghost use Rattle.uf_tree.specs.Profiles.{is_profile};
+ghost use Rattle.uf_tree.specs.Profiles.{is_profile, most_bytes as most_bytes_of, usual};
 
 use crate::Profile;
 
@@ -30,7 +30,7 @@ impl Profile {
 
     /// The profile of Kubo's defaults: pieces of 262144 bytes, nodes of 174 links, and a threshold of 262144.
     pub fn usual() -> Profile
-        ensures numbers { result ≡ record { chunk = 262144; width = 174; threshold = 262144 } }
+        ensures numbers { result ≡ usual }
         ensures accepted { IsTrue (is_profile result) }
     {
         Profile {
@@ -38,6 +38,13 @@ impl Profile {
             width: 174,
             threshold: 262144,
         }
+    }
+
+    /// How many bytes a file has at most: 4194304 pieces.
+    pub fn most_bytes(&self) -> u64
+        ensures { result ≡ most_bytes_of self.now }
+    {
+        u64::from(self.chunk) * 4194304
     }
 
     /// Whether each number is in its range.

@@ -4,7 +4,8 @@ use Rattle.std.proofs.lemmas.Grind.{common_steps}
 use Rattle.std.proofs.lemmas.Result.{on_ok_weaker, IfOk-weaker}
 use Rattle.uf_cid.specs.Blocks.{Held}
 use Rattle.uf_store.specs.Keeping.{Holds}
-use Rattle.uf_store.proofs.Keeping.{KeepsGood-trans, SavesOnly-trans, Holds-append, Holds-kept}
+use Rattle.uf_store.proofs.Keeping.{KeepsGood-trans, Holds-append, Holds-kept}
+use Rattle.uf_store.proofs.Writing.{SavesOnly-trans}
 use Rattle.uf_build.specs.Rows.{carry_held}
 use Rattle.uf_build.proofs.Holding.{Holds-nil}
 use Rattle.uf_build.proofs.Up.{close-past, close_held-past, close-next, sizes-closed, short-up, falls, next-level, carry-good}
@@ -107,7 +108,7 @@ returns-then-level-len-clause-count g t c =
     omega (arith, ap length (close_held-past g.S.X.BlockHash.block32 c.args.width c.args.level (option_to_list c.args.carried) c.args.rows.now.items top))
 
 pub returns-clause-saves : goal.returns-clause-saves
-returns-clause-saves g t c = SavesOnly-trans _ _ _ c.close_row.ensures.saves c.close.ensures.saves
+returns-clause-saves g t c = SavesOnly-trans _ _ _ _ c.close_row.ensures.saves c.close.ensures.saves
 
 pub returns-clause-count : goal.returns-clause-count
 returns-clause-count g t c =

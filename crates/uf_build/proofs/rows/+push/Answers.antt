@@ -3,7 +3,7 @@ use Rattle.std.proofs.lemmas.Grind.{common_steps}
 use Rattle.std.proofs.lemmas.Result.{on_ok_weaker}
 use Rattle.uf_cid.specs.Blocks.{Held}
 use Rattle.uf_store.specs.Keeping.{Holds}
-use Rattle.uf_store.proofs.Keeping.{SavesOnly-trans}
+use Rattle.uf_store.proofs.Writing.{SavesOnly-trans}
 use Rattle.uf_tree.specs.FilePlan.{node_part, node_held}
 use Rattle.uf_tree.specs.declared.nodes.Part.{Part}
 use Rattle.uf_build.proofs.Holding.{Holds-nil, Holds-more}
@@ -89,7 +89,7 @@ returns-clause-held g t c =
     (Holds-more g.S.X.BlockHash.block32 _ _ _ _ refl c.push-2.ensures.good saved held)) c.push-2.ensures.held
 
 pub returns-clause-saves : goal.returns-clause-saves
-returns-clause-saves g t c = SavesOnly-trans _ _ _ c.save_node.ensures.saves c.push-2.ensures.saves
+returns-clause-saves g t c = SavesOnly-trans _ _ _ _ c.save_node.ensures.saves c.push-2.ensures.saves
 
 pub returns-clause-touches : goal.returns-clause-touches
 returns-clause-touches g t c =

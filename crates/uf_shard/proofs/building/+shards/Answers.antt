@@ -2,7 +2,8 @@ use Rattle.std.proofs.Common.{◌≡◌, ℕ, ◌-◌, ◌<◌, List, [], length
 use Rattle.std.proofs.lemmas.List.{get_or_read}
 use Rattle.std.proofs.lemmas.Result.{on_ok_weaker, IfOk-weaker}
 use Rattle.uf_store.proofs.Causes.{StaysCalm-refl, StaysCalm-trans}
-use Rattle.uf_store.proofs.Keeping.{KeepsGood-refl, KeepsGood-trans, SavesOnly-refl, SavesOnly-trans}
+use Rattle.uf_store.proofs.Keeping.{KeepsGood-refl, KeepsGood-trans}
+use Rattle.uf_store.proofs.Writing.{SavesOnly-refl, SavesOnly-trans}
 use Rattle.uf_tree.specs.ShardPlan.{flat_tabulate, slot_blocks, slot_item, tabulate}
 use Rattle.uf_shard.specs.Buckets.{blocks_at, deeper, item_at, pairs_of}
 use Rattle.uf_shard.specs.Saving.{PutsItem}
@@ -83,7 +84,7 @@ save_slots-loop-at-init g t c = record {
   held = Holds-nil (g.S.Store.seen c.args.store.now).told;
   calm = StaysCalm-refl (g.S.Store.seen c.args.store.now);
   good = KeepsGood-refl g.S.X.BlockHash.block32 (g.S.Store.seen c.args.store.now).told;
-  saves = SavesOnly-refl (g.S.Store.seen c.args.store.now).told;
+  saves = SavesOnly-refl _ (g.S.Store.seen c.args.store.now).told;
   touches = omega arith;
 }
 
@@ -116,6 +117,6 @@ save_slots-loop-at-preserved g t c =
           c.save_slot.ensures.good c.loop-at.invariant.held c.in-Ok.ensures.held;
       calm = StaysCalm-trans _ _ _ c.loop-at.invariant.calm c.in-Ok.ensures.cause;
       good = KeepsGood-trans _ _ _ _ c.loop-at.invariant.good c.save_slot.ensures.good;
-      saves = SavesOnly-trans _ _ _ c.loop-at.invariant.saves c.save_slot.ensures.saves;
+      saves = SavesOnly-trans _ _ _ _ c.loop-at.invariant.saves c.save_slot.ensures.saves;
       touches = omega (arith, one, step, both, c.loop-at.invariant.touches, c.save_slot.ensures.touches);
     }

@@ -1,6 +1,7 @@
 use Rattle.std.proofs.Common.{◌≡◌, ◌+◌, ◌*◌, ◌≤◌, length}
 use Rattle.uf_store.specs.Faults.{StaysCalm}
-use Rattle.uf_store.specs.Keeping.{Holds, KeepsGood, SavesOnly}
+use Rattle.uf_store.specs.Keeping.{Holds, KeepsGood}
+use Rattle.uf_store.specs.Writing.{SavesOnly}
 use Rattle.uf_tree.specs.ShardPlan.{flat_tabulate, tabulate}
 use Rattle.uf_shard.specs.Buckets.{blocks_at, item_at}
 use Rattle.uf_shard.proofs.building.+shards.Given as goal
@@ -20,6 +21,6 @@ invariant-save_slots-loop-at g l = record {
   held : Holds (g.S.Store.seen l.store).told (flat_tabulate l.at 0 (blocks_at g.S.X.BlockHash.block32 g.N.NameHash.name64 l.left l.slots));
   calm : StaysCalm (g.S.Store.seen l.initial.store) (g.S.Store.seen l.store);
   good : KeepsGood g.S.X.BlockHash.block32 (g.S.Store.seen l.initial.store).told (g.S.Store.seen l.store).told;
-  saves : SavesOnly (g.S.Store.seen l.initial.store).told (g.S.Store.seen l.store).told;
+  saves : SavesOnly g.S.X.BlockHash.block32 (g.S.Store.seen l.initial.store).told (g.S.Store.seen l.store).told;
   touches : l.touches ≤ l.initial.touches + length (flat_tabulate l.at 0 (blocks_at g.S.X.BlockHash.block32 g.N.NameHash.name64 l.left l.slots));
 }

@@ -1,6 +1,7 @@
 use Rattle.std.proofs.Common.{refl, ◌∙◌}
 use Rattle.uf_store.proofs.Causes.{StaysCalm-trans}
-use Rattle.uf_store.proofs.Keeping.{KeepsGood-trans, SavesOnly-trans}
+use Rattle.uf_store.proofs.Keeping.{KeepsGood-trans}
+use Rattle.uf_store.proofs.Writing.{SavesOnly-trans}
 use Rattle.uf_top.proofs.Feeding.{FeedsPart-after, FeedsLast-after, last_of, part_of, stopped-after}
 use Rattle.uf_top.proofs.intake.feed_rest.Goals as goal
 
@@ -10,7 +11,7 @@ pieces-preserved g c = record {
   counted = c.in-Ok-true.ensures.counts.still refl ∙ c.pieces.invariant.counted;
   calm = StaysCalm-trans _ _ _ c.pieces.invariant.calm c.in-Ok-true.ensures.cause;
   good = KeepsGood-trans _ _ _ _ c.pieces.invariant.good c.in-Ok-true.ensures.good;
-  saves = SavesOnly-trans _ _ _ c.pieces.invariant.saves c.in-Ok-true.ensures.saves;
+  saves = SavesOnly-trans _ _ _ _ c.pieces.invariant.saves c.in-Ok-true.ensures.saves;
 }
 
 pub returns-in-Ok-false-clause-feeds : goal.returns-in-Ok-false-clause-feeds

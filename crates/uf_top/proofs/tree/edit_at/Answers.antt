@@ -20,7 +20,7 @@ returns-in-Err-clause-answers g c = λ p es at_tree stands faults clashes.
     let X = g.S.X.BlockHash.block32 in let N = g.N.NameHash.name64 in let names = c.args.path.now.names in let edit = c.args.edit in
     let a = g.S.Store.seen c.args.store.now in let m = g.S.Store.seen c.edited.new.store in
     fault-answers X N Entries (Unit {0}) (λ es done. StandsAt X N m.told c.edited.new.tree p es) (Stands p es) names (edited_by X N edit names p es) (moved X N p es names) c.in-Err.fault c.refusal.result m.told
-    (λ why. refl) c.refusal.ensures (c.in-Err.ensures.answer p es at_tree faults clashes) (stands-kept X N a.told m.told (Stands p es) c.in-Err.ensures.good (saves-head a.told m.told c.in-Err.ensures.saves) stands)
+    (λ why. refl) c.refusal.ensures (c.in-Err.ensures.answer p es at_tree faults clashes) (stands-kept X N a.told m.told (Stands p es) c.in-Err.ensures.good (saves-head X a.told m.told c.in-Err.ensures.saves) stands)
 
 pub returns-in-Err-clause-work : goal.returns-in-Err-clause-work
 returns-in-Err-clause-work g c = in-tree-work (List ℕ) c.in-Err.fault c.refusal.result c.refusal.ensures
@@ -32,7 +32,7 @@ returns-in-Err-clause-cause g c =
     Shown-tree (Unit {0}) X (IsBad N (Some p)) (IsBad N (Some p)) (λ role bytes h. h) c.in-Err.fault c.refusal.result a m c.refusal.ensures c.in-Err.ensures.cause
 
 pub returns-in-Err-clause-head : goal.returns-in-Err-clause-head
-returns-in-Err-clause-head g c = saves-head _ _ c.in-Err.ensures.saves
+returns-in-Err-clause-head g c = saves-head _ _ _ c.in-Err.ensures.saves
 
 pub returns-in-Ok-clause-answers : goal.returns-in-Ok-clause-answers
 returns-in-Ok-clause-answers g c = λ p es at_tree stands faults clashes.
@@ -40,7 +40,7 @@ returns-in-Ok-clause-answers g c = λ p es at_tree stands faults clashes.
     let a = g.S.Store.seen c.args.store.now in let m = g.S.Store.seen c.edited.new.store in let b = g.S.Store.seen c.committed.new.store in
     let calm = c.in-Ok.ensures.cause in let r = c.committed.result in
     let rises = shown-rises X (IsBad N None) r m b (Shown-of X (IsBad N None) r m b c.committed.ensures.cause) in
-    let mid = stands-kept X N a.told m.told (Stands p es) c.in-Ok.ensures.good (saves-head a.told m.told c.in-Ok.ensures.saves) stands in
+    let mid = stands-kept X N a.told m.told (Stands p es) c.in-Ok.ensures.good (saves-head X a.told m.told c.in-Ok.ensures.saves) stands in
     move-answers X N p es names (edited_by X N edit names p es) c.edited.new.tree m.told b.told r
     (c.in-Ok.ensures.answer p es at_tree (stood-front a.faults m.faults b.faults calm.faults rises.faults faults) (stood-front a.clashes m.clashes b.clashes calm.clashes rises.clashes clashes))
     (λ next at_next. c.committed.ensures.stands p next at_next (stood-back a.faults m.faults b.faults calm.faults faults))
@@ -56,7 +56,7 @@ pub returns-in-Ok-clause-good : goal.returns-in-Ok-clause-good
 returns-in-Ok-clause-good g c = KeepsGood-trans g.S.X.BlockHash.block32 _ _ _ c.in-Ok.ensures.good c.committed.ensures.good
 
 pub returns-in-Ok-clause-head : goal.returns-in-Ok-clause-head
-returns-in-Ok-clause-head g c = stays-after c.committed.result _ _ _ (saves-head _ _ c.in-Ok.ensures.saves) c.committed.ensures.head
+returns-in-Ok-clause-head g c = stays-after c.committed.result _ _ _ (saves-head _ _ _ c.in-Ok.ensures.saves) c.committed.ensures.head
 
 pub returns-in-Err-clause-idle : goal.returns-in-Err-clause-idle
 returns-in-Err-clause-idle g c = λ p es at_tree stands faults is.

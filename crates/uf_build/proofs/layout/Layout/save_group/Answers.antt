@@ -1,6 +1,7 @@
 use Rattle.std.proofs.Common.{◌≡◌, ℕ, ◌+◌, ◌-◌, ◌*◌, ◌≤◌, List, ◌++◌, length, take, drop, arith, ap, sym, ◌∙◌, subst}
 use Rattle.std.proofs.lemmas.List.{take-append-drop}
-use Rattle.uf_store.proofs.Keeping.{KeepsGood-trans, SavesOnly-trans}
+use Rattle.uf_store.proofs.Keeping.{KeepsGood-trans}
+use Rattle.uf_store.proofs.Writing.{SavesOnly-trans}
 use Rattle.uf_store.proofs.Causes.{StaysCalm-trans}
 use Rattle.uf_tree.specs.declared.profile.Profile.{Profile}
 use Rattle.uf_tree.specs.FilePlan.{leaf_part}
@@ -43,7 +44,7 @@ loop-i-preserved g c =
       begun = c.loop-i.invariant.begun;
       calm = StaysCalm-trans _ _ _ c.loop-i.invariant.calm c.in-Ok.ensures.cause;
       good = KeepsGood-trans _ _ _ _ c.loop-i.invariant.good c.save_leaf.ensures.good;
-      saves = SavesOnly-trans _ _ _ c.loop-i.invariant.saves c.save_leaf.ensures.saves;
+      saves = SavesOnly-trans _ _ _ _ c.loop-i.invariant.saves c.save_leaf.ensures.saves;
     }
 
 pub returns-clause-took : goal.returns-clause-took
@@ -74,4 +75,4 @@ returns-in-Err-clause-most g c =
     (up-to-front hash p is_kept.some is_kept.two (take (i * p.chunk) bytes ++ piece) (drop ((i + 1) * p.chunk) bytes) c.args.self.now.begun.items c.args.self.now.rows.items c.args.touches.now c.save_leaf.new.touches most)
 
 pub returns-in-Err-clause-saves : goal.returns-in-Err-clause-saves
-returns-in-Err-clause-saves g c = SavesOnly-trans _ _ _ c.loop-i.invariant.saves c.save_leaf.ensures.saves
+returns-in-Err-clause-saves g c = SavesOnly-trans _ _ _ _ c.loop-i.invariant.saves c.save_leaf.ensures.saves

@@ -1,6 +1,7 @@
 use Rattle.std.proofs.Common.{◌≡◌, ◌*◌, [], take}
 use Rattle.uf_store.specs.Faults.{StaysCalm}
-use Rattle.uf_store.specs.Keeping.{KeepsGood, SavesOnly}
+use Rattle.uf_store.specs.Keeping.{KeepsGood}
+use Rattle.uf_store.specs.Writing.{SavesOnly}
 use Rattle.uf_build.specs.Layouts.{Takes}
 use Rattle.uf_build.proofs.layout.Layout.save_group.Given as goal
 
@@ -11,5 +12,5 @@ invariant-loop-i g l = record {
   begun : l.self.begun.items ≡ [];
   calm : StaysCalm (g.S.Store.seen l.initial.store) (g.S.Store.seen l.store);
   good : KeepsGood g.S.X.BlockHash.block32 (g.S.Store.seen l.initial.store).told (g.S.Store.seen l.store).told;
-  saves : SavesOnly (g.S.Store.seen l.initial.store).told (g.S.Store.seen l.store).told;
+  saves : SavesOnly g.S.X.BlockHash.block32 (g.S.Store.seen l.initial.store).told (g.S.Store.seen l.store).told;
 }

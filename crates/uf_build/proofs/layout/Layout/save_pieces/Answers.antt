@@ -1,7 +1,8 @@
 use Rattle.std.proofs.Common.{◌≡◌, ℕ, List, ◌++◌, length, arith, ap, sym, ◌∙◌, subst}
 use Rattle.std.proofs.lemmas.List.{append-nil}
 use Rattle.std.proofs.lemmas.Grind.{common_steps}
-use Rattle.uf_store.proofs.Keeping.{KeepsGood-trans, SavesOnly-trans}
+use Rattle.uf_store.proofs.Keeping.{KeepsGood-trans}
+use Rattle.uf_store.proofs.Writing.{SavesOnly-trans}
 use Rattle.uf_store.proofs.Causes.{StaysCalm-trans}
 use Rattle.uf_tree.specs.declared.profile.Profile.{Profile}
 use Rattle.uf_tree.proofs.Told.{kept}
@@ -41,7 +42,7 @@ loop-left-preserved g c =
       left = left-behind c.loop-left.left c.min-few.result p.chunk _ _ (omega arith) c.loop-left.invariant.left (omega (arith, c.split_at.ensures.back_len));
       calm = StaysCalm-trans _ _ _ c.loop-left.invariant.calm c.in-Ok.ensures.cause;
       good = KeepsGood-trans _ _ _ _ c.loop-left.invariant.good c.save_group.ensures.good;
-      saves = SavesOnly-trans _ _ _ c.loop-left.invariant.saves c.save_group.ensures.saves;
+      saves = SavesOnly-trans _ _ _ _ c.loop-left.invariant.saves c.save_group.ensures.saves;
     }
 
 pub returns-clause-took : goal.returns-clause-took

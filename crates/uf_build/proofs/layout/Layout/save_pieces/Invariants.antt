@@ -1,6 +1,7 @@
 use Rattle.std.proofs.Common.{◌≡◌, ℕ, ◌*◌, List, ◌++◌, length}
 use Rattle.uf_store.specs.Faults.{StaysCalm}
-use Rattle.uf_store.specs.Keeping.{KeepsGood, SavesOnly}
+use Rattle.uf_store.specs.Keeping.{KeepsGood}
+use Rattle.uf_store.specs.Writing.{SavesOnly}
 use Rattle.uf_build.specs.Layouts.{Takes}
 use Rattle.uf_build.proofs.layout.Layout.save_pieces.Given as goal
 
@@ -12,7 +13,7 @@ invariant-loop-left g l = record {
   left : length l.rest ≡ l.left * l.chunk;
   calm : StaysCalm (g.S.Store.seen l.initial.store) (g.S.Store.seen l.store);
   good : KeepsGood g.S.X.BlockHash.block32 (g.S.Store.seen l.initial.store).told (g.S.Store.seen l.store).told;
-  saves : SavesOnly (g.S.Store.seen l.initial.store).told (g.S.Store.seen l.store).told;
+  saves : SavesOnly g.S.X.BlockHash.block32 (g.S.Store.seen l.initial.store).told (g.S.Store.seen l.store).told;
 }
 
 abbrev pub decreases-loop-left : goal.decreases-loop-left
