@@ -1,6 +1,7 @@
 use Rattle.std.proofs.Common.{◌≡◌, ◌≤◌, ℕ, List, [], length, ap, sym, ◌∙◌, arith}
 use Rattle.std.specs.Option.{option_to_list}
 use Rattle.uf_store.proofs.Keeping.{KeepsGood-trans}
+use Rattle.uf_store.proofs.Writing.{SavesOnly-trans}
 use Rattle.uf_tree.proofs.Told.{kept}
 use Rattle.uf_build.specs.Rows.{close}
 use Rattle.uf_build.proofs.Counting.{close-some}
@@ -53,3 +54,9 @@ unreachable-requires g c =
     let some : 1 ≤ length (close hash w rows []) = close-some hash w rows [] (omega (arith, c.in-Ok.ensures.ends.some)) in
     let none : [] ≡ close hash w rows [] = ap option_to_list (sym c.in-Ok-None.field-0-is) ∙ c.in-Ok-None.ensures.part in
     omega (arith, some, ap length none)
+
+pub returns-in-Ok-Some-clause-saves : goal.returns-in-Ok-Some-clause-saves
+returns-in-Ok-Some-clause-saves g c = SavesOnly-trans _ _ _ _ c.end_last.ensures.saves c.close.ensures.saves
+
+pub returns-clause-saves : goal.returns-clause-saves
+returns-clause-saves g c = SavesOnly-trans _ _ _ _ c.end_last.ensures.saves c.close.ensures.saves

@@ -70,3 +70,6 @@ returns-in-Err-clause-most g c =
     subst (λ (l : List ℕ). SavesUpTo hash p l c.args.self.now.begun.items c.args.self.now.rows.items c.args.touches.now c.save_group.new.touches)
     (sym (goes-on _ _ _ _ _ _ took.1 c.split_at.ensures.front c.split_at.ensures.back))
     (up-to-front hash p is_kept.some is_kept.two (took.0 ++ group) behind c.args.self.now.begun.items c.args.self.now.rows.items c.args.touches.now c.save_group.new.touches most)
+
+pub returns-in-Err-clause-saves : goal.returns-in-Err-clause-saves
+returns-in-Err-clause-saves g c = SavesOnly-trans _ _ _ _ c.loop-left.invariant.saves c.save_group.ensures.saves

@@ -1,5 +1,6 @@
 use Rattle.std.proofs.Common.{ℕ, List, ◌++◌, take, sym, ◌∙◌, subst}
 use Rattle.uf_store.proofs.Keeping.{KeepsGood-trans}
+use Rattle.uf_store.proofs.Writing.{SavesOnly-trans}
 use Rattle.uf_tree.specs.declared.profile.Profile.{Profile}
 use Rattle.uf_tree.proofs.Told.{kept}
 use Rattle.uf_build.specs.Building.{Feeds, SavesUpTo}
@@ -79,3 +80,12 @@ returns-in-Err-extend_from_slice-clause-most g c =
     subst (λ (l : List ℕ). SavesUpTo hash p l c.args.self.now.begun.items c.args.self.now.rows.items c.args.touches.now c.save_pieces.new.touches)
     (sym (splits c.args.bytes.now group behind c.in-Ok.front _ c.in-Ok.ensures.front c.split_at.ensures.front c.split_at.ensures.back))
     (up-to-front hash p is_kept.some is_kept.two (front ++ group) behind c.args.self.now.begun.items c.args.self.now.rows.items c.args.touches.now c.save_pieces.new.touches most)
+
+pub returns-in-Err-save_pieces-clause-saves : goal.returns-in-Err-save_pieces-clause-saves
+returns-in-Err-save_pieces-clause-saves g c = SavesOnly-trans _ _ _ _ c.fill.ensures.saves c.save_pieces.ensures.saves
+
+pub returns-in-Ok-extend_from_slice-clause-saves : goal.returns-in-Ok-extend_from_slice-clause-saves
+returns-in-Ok-extend_from_slice-clause-saves g c = SavesOnly-trans _ _ _ _ c.fill.ensures.saves c.save_pieces.ensures.saves
+
+pub returns-in-Err-extend_from_slice-clause-saves : goal.returns-in-Err-extend_from_slice-clause-saves
+returns-in-Err-extend_from_slice-clause-saves g c = SavesOnly-trans _ _ _ _ c.fill.ensures.saves c.save_pieces.ensures.saves
