@@ -1,9 +1,19 @@
-//! Files read (UnixFS v1, "File"): how long one is.
+//! Files read (UnixFS v1, "File"): how long one is, and ranges of its bytes.
 #![tactic(auto)]
 
-mod measure;
+mod fault;
+mod lengths;
+mod parts;
+mod ranges;
+mod size;
 
-pub use measure::length;
+pub use fault::RangeFault;
+pub use lengths::{length, measure};
+pub use parts::read_parts;
+pub use ranges::read_range;
+pub use size::FileSize;
 
+#[cfg(test)]
+mod range_tests;
 #[cfg(test)]
 mod tests;
