@@ -1,12 +1,10 @@
 -- How what calls over a store show and leave composes: calls in a row, and a call of another kind.
-use Rattle.std.proofs.Common.{◌≡◌, ℕ, ◌≤◌, List, arith, refl, sym, subst, ◌∙◌, Option, Some, None}
+use Rattle.std.proofs.Common.{◌≡◌, ℕ, ◌≤◌, List, arith, sym, subst, ◌∙◌, Option, Some, None}
 use Rattle.uf_edge.specs.Counts.{Stood}
 use Rattle.uf_store.specs.declared.store.Role.{Role}
 use Rattle.uf_store.specs.declared.store.StoreFault.{StoreFault}
-use Rattle.uf_store.specs.Contents.{Told}
 use Rattle.uf_store.specs.Calls.{Calm, OnlyReads, OnlySaves}
-use Rattle.uf_store.specs.Faults.{Rises, Shown, Shows, StaysCalm}
-use Rattle.uf_store.specs.Keeping.{KeepsGood}
+use Rattle.uf_store.specs.Faults.{Rises, Shown, StaysCalm}
 use Rattle.uf_store.specs.Seen.{Seen}
 use Rattle.uf_store.proofs.Causes.{Shows-after, Shows-by, Shows-rises, StaysCalm-trans, calm-rises}
 use Rattle.uf_store.proofs.Keeping.{KeepsGood-same, KeepsGood-trans}

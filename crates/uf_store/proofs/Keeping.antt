@@ -1,6 +1,6 @@
 -- What stays where a save keeps another block, and how what calls leave composes.
-use Rattle.std.proofs.Common.{◌≡◌, ℕ, List, [], ◌∷◌, ◌++◌, Bool, true, false, cond, refl, sym, ap, subst, ◌∙◌, append_assoc, append-nil}
-use Rattle.std.specs.Prelude.{Some, None, IfSome}
+use Rattle.std.proofs.Common.{◌≡◌, ℕ, List, [], ◌∷◌, ◌++◌, Bool, true, false, cond, refl, sym, ap, subst, ◌∙◌}
+use Rattle.std.specs.Prelude.{Some, None}
 use Rattle.std.specs.Cmp.{eq_by_cmp_equiv}
 use Rattle.std.specs.Ordering.{is_eq, eq_by_cmp}
 use Rattle.std.specs.declared.cmp.Ordering.{Ordering}
@@ -45,10 +45,10 @@ Holds-saved None told_now cid bytes is = subst (λ (x : Told). Holds x ((cid, by
 Holds-saved (Some t) told_now cid bytes is = subst (λ (x : Told). Holds x ((cid, bytes) ∷ [])) (sym is) (held-saved t cid bytes, tt)
 
 pub KeepsGood-refl : (hash : List ℕ → List ℕ) (a : Told) → KeepsGood hash a a
-KeepsGood-refl hash a = λ c b is digest. is
+KeepsGood-refl hash a = record { alike = refl; stays = λ c b is digest. is }
 
 pub KeepsGood-trans : (hash : List ℕ → List ℕ) (a b c : Told) → KeepsGood hash a b → KeepsGood hash b c → KeepsGood hash a c
-KeepsGood-trans hash a b c p q = λ x bytes is digest. q x bytes (p x bytes is digest) digest
+KeepsGood-trans hash a b c p q = record { alike = q.alike ∙ p.alike; stays = λ x bytes is digest. q.stays x bytes (p.stays x bytes is digest) digest }
 
 pub KeepsGood-same : (hash : List ℕ → List ℕ) (a b : Told) → b ≡ a → KeepsGood hash a b
 KeepsGood-same hash a b is = subst (KeepsGood hash a) (sym is) (KeepsGood-refl hash a)
@@ -56,7 +56,7 @@ KeepsGood-same hash a b is = subst (KeepsGood hash a) (sym is) (KeepsGood-refl h
 holds-each : (hash : List ℕ → List ℕ) (a : Told) (u : Contents) (l : List Held) → AreGood hash l → KeepsGood hash a (Some u)
     → AllByRecursion (λ (b : Held). HoldsOne a b.0 b.1) l → blocks.Holds (held_at u) l
 holds-each hash a u [] good keeps held = tt
-holds-each hash a u (b ∷ l) good keeps held = (keeps b.0 b.1 held.0 good.0, holds-each hash a u l good.1 keeps held.1)
+holds-each hash a u (b ∷ l) good keeps held = (keeps.stays b.0 b.1 held.0 good.0, holds-each hash a u l good.1 keeps held.1)
 
 nothing-told : (l : List Held) → AllByRecursion (λ (b : Held). HoldsOne None b.0 b.1) l
 nothing-told [] = tt

@@ -1,5 +1,5 @@
 -- A store that tells what was written goes on to, whatever calls are made; what each call writes.
-use Rattle.std.proofs.Common.{◌≡◌, ℕ, List, [], ◌++◌, refl, sym, ap, ◌∙◌}
+use Rattle.std.proofs.Common.{◌≡◌, ℕ, List, sym, ap, ◌∙◌}
 use Rattle.std.specs.Prelude.{fold, Some, None}
 use Rattle.std.specs.FinMap.{empty}
 use Rattle.uf_cid.specs.declared.cid.Cid.{Cid}
@@ -14,7 +14,7 @@ use Rattle.uf_store.specs.declared.store.NoteRead.{NoteRead}
 use Rattle.uf_store.specs.declared.store.NoteRead.TheVariants.{Text, Absent, Failed as NoteFailed, Memory as NoteMemory}
 use Rattle.uf_store.specs.declared.store.Write.{Write}
 use Rattle.uf_store.specs.CallsWrite.{CallsWrite}
-use Rattle.uf_store.specs.Contents.{Contents, HeldMap, Notes, Told, changed, held_after, no_notes, notes_after}
+use Rattle.uf_store.specs.Contents.{Contents, HeldMap, Notes, Told, held_after, no_notes, notes_after}
 use Rattle.uf_store.specs.Seen.{Loads, ReadsNote, Saves, Seen, Syncs, WritesNote}
 use Rattle.uf_store.specs.Stops.{IsPlain, TellsPlain}
 use Rattle.uf_store.specs.Writing.{Appends, IsAny, IsSave, SavesOnly, WritesOnly, Wrote}

@@ -1,12 +1,12 @@
 -- What a stop leaves of a list of writes, one write after another.
 use Rattle.std.proofs.Common.{◌≡◌, ℕ, suc, ◌+◌, ◌<◌, List, [], ◌∷◌, ◌++◌, Bool, true, false, cond, length, take, refl, sym, ap, ◌∙◌, arith, append-nil, add-one, get_or, ◌≤◌}
-use Rattle.std.specs.Prelude.{fold, max}
+use Rattle.std.specs.Prelude.{max}
 use Rattle.std.proofs.lemmas.List.{length-take-le}
 use Rattle.std.proofs.Math.Seq.{take-length, take-suc}
 use Rattle.std.specs.FinMap.{empty}
 use Rattle.uf_store.specs.declared.store.Write.{Write}
 use Rattle.uf_store.specs.declared.store.Write.TheVariants.{Saved, Synced, Noted}
-use Rattle.uf_store.specs.Contents.{Contents, held_after, no_notes, notes_after}
+use Rattle.uf_store.specs.Contents.{held_after, no_notes, notes_after}
 use Rattle.uf_store.specs.Stops.{after_stop, behind_sync, behind_with, survives, survivors, with_write, written}
 use Rattle.uf_store.proofs.Writing.{fold-append}
 

@@ -13,10 +13,10 @@ use Rattle.uf_store.specs.declared.store.Note.{Note}
 use Rattle.uf_store.specs.declared.store.Write.{Write}
 use Rattle.uf_store.specs.declared.store.Write.TheVariants.{Saved, Synced, Noted}
 use Rattle.uf_store.specs.Contents.{Contents, HeldMap, Notes, Told, changed, held_after, held_at, notes_after, with_save, with_sync, with_text}
-use Rattle.uf_store.specs.Keeping.{Agrees, HoldsOne, KeepsGood, StaysAgreed}
+use Rattle.uf_store.specs.Keeping.{Agrees, KeepsGood, StaysAgreed}
 use Rattle.uf_store.specs.Writing.{Appends, IsAny, IsSave, MeetsNoOther, ReplaceNone, SavesOnly, WritesOnly, Wrote}
 use Rattle.uf_store.proofs.Holding.{cid_cmp_total}
-use Rattle.uf_store.proofs.Keeping.{get_kept, same_of}
+use Rattle.uf_store.proofs.Keeping.{KeepsGood-refl, get_kept, same_of}
 
 -- ---- lists of writes
 
@@ -148,11 +148,13 @@ module _ (hash : List ℕ → List ℕ) where
 
   -- no save replaced a block of its CID's digest, so such blocks are still held
   pub Wrote-good : (IsOne : Write → Type 0) (a b : Told) → Wrote hash IsOne a b → KeepsGood hash a b
-  Wrote-good IsOne None None h c bytes is digest = tt
-  Wrote-good IsOne None (Some u) h c bytes is digest = absurd h
-  Wrote-good IsOne (Some t) None h c bytes is digest = absurd h
-  Wrote-good IsOne (Some t) (Some u) h c bytes is digest =
-      subst (λ (m : HeldMap). get m c ≡ Some bytes) (sym h.held) (stays c bytes h.added t.held h.replace_none is digest)
+  Wrote-good IsOne None None h = KeepsGood-refl hash None
+  Wrote-good IsOne None (Some u) h = absurd h
+  Wrote-good IsOne (Some t) None h = absurd h
+  Wrote-good IsOne (Some t) (Some u) h = record {
+    alike = refl;
+    stays = λ c bytes is digest. subst (λ (m : HeldMap). get m c ≡ Some bytes) (sym h.held) (stays c bytes h.added t.held h.replace_none is digest);
+  }
 
   -- what is held was held before, or has its CID's digest
   pub Wrote-came : (IsOne : Write → Type 0) (t u : Contents) → Appends hash IsOne t u → (c : Cid) (bytes : List ℕ) → held_at u c ≡ Some bytes
@@ -168,7 +170,7 @@ module _ (hash : List ℕ → List ℕ) where
     where
       by : (held_at t c ≡ Some x) ⊎ (hash x ≡ c.digest) → x ≡ bytes
       by (inl there) = subst (λ (o : Option (List ℕ)). IfSome o (λ x. x ≡ bytes)) there first
-      by (inr digest) = subst (λ (o : Option (List ℕ)). IfSome o (λ x. x ≡ bytes)) (keeps c x is digest) last
+      by (inr digest) = subst (λ (o : Option (List ℕ)). IfSome o (λ x. x ≡ bytes)) (keeps.stays c x is digest) last
 
   agrees-all : (IsOne : Write → Type 0) (t u v : Contents) (l : List Held) → Appends hash IsOne t u → KeepsGood hash (Some u) (Some v)
       → blocks.Agrees (held_at t) l → blocks.Agrees (held_at v) l → blocks.Agrees (held_at u) l

@@ -1,5 +1,5 @@
 -- What calls over a store leave of what is told.
-use Rattle.std.specs.Prelude.{◌≡◌, ℕ, List, Some, None, IfSome}
+use Rattle.std.specs.Prelude.{◌≡◌, ℕ, List, Bool, true, false, Some, None, IfSome}
 use Rattle.std.specs.List.{AllByRecursion}
 use Rattle.uf_cid.specs.declared.cid.Cid.{Cid}
 use Rattle.uf_cid.specs.Blocks as blocks
@@ -27,6 +27,12 @@ pub record StaysAgreed (before now : Told) (l : List blocks.Held) : Type 0 where
 abbrev pub AreGood : (List ℕ → List ℕ) → List blocks.Held → Type 0
 AreGood hash l = AllByRecursion (λ (b : blocks.Held). hash b.1 ≡ b.0.digest) l
 
--- each block that was held and has its CID's digest is held
-abbrev pub KeepsGood : (List ℕ → List ℕ) → Told → Told → Type 0
-KeepsGood hash before now = (c : Cid) (b : List ℕ) → HoldsOne before c b → hash b ≡ c.digest → HoldsOne now c b
+-- the store tells
+abbrev pub tells : Told → Bool
+tells None = false
+tells (Some t) = true
+
+-- the store tells or doesn't, as before, and each block that was held and has its CID's digest is held
+pub record KeepsGood (hash : List ℕ → List ℕ) (before now : Told) : Type 0 where
+  pub alike : tells now ≡ tells before
+  pub stays : (c : Cid) (b : List ℕ) → HoldsOne before c b → hash b ≡ c.digest → HoldsOne now c b

@@ -1,4 +1,4 @@
-use Rattle.std.proofs.Common.{◌∙◌, ap, sym, subst, refl, take, Some, ◌≡◌}
+use Rattle.std.proofs.Common.{◌∙◌, ap, sym, subst, refl, take, Some}
 use Rattle.uf_store.specs.declared.store.Write.{Write}
 use Rattle.uf_store.specs.declared.store.Write.TheVariants.{Synced}
 use Rattle.uf_store.specs.Contents.{Contents, changed}
