@@ -1,7 +1,11 @@
 -- The open groups of a file's rows, the lowest row first: behind the full groups of each row, whose nodes are saved.
 use Rattle.std.specs.Prelude.{◌≡◌, ℕ, zero, suc, ◌+◌, ◌*◌, ◌<◌, ◌≤◌, List, [], ◌∷◌, ◌++◌, length, map, nat_lt, Bool, true, false, if◌then◌else◌}
 use Rattle.std.specs.List.{AllByRecursion, sum_by}
+use Rattle.std.specs.Option.{option_to_list}
+use Rattle.std.specs.declared.option.Option.{Option}
 use Rattle.uf_cid.specs.Blocks.{Held}
+use Rattle.uf_store.specs.Contents.{Told}
+use Rattle.uf_store.specs.Keeping.{Holds}
 use Rattle.uf_tree.specs.Cutting.{joined}
 use Rattle.uf_tree.specs.FilePlan.{node_part, node_held}
 use Rattle.uf_tree.specs.declared.nodes.Part.{Part}
@@ -109,3 +113,21 @@ module _ (X : List ℕ → List ℕ) (w : ℕ) where
   AreRows P row (g ∷ gs) =
       (full : List (List Part)) × (row ≡ joined full ++ g) × AllByRecursion (λ f. length f ≡ w) full × (length g < w) × (1 ≤ length row)
       × AllByRecursion P (map (node_held X) full) × AreRows P (map (node_part X) full) gs
+
+-- a part came into a row: the nodes of the groups that this filled are held, and each was one touch
+pub record PushesPart (X : List ℕ → List ℕ) (w level : ℕ) (m : Part) (rows rows_now : List (List Part)) (told_now : Told) (touches touches_now : ℕ) : Type 0 where
+  pub pushed : rows_now ≡ push_up X w level m rows
+  pub held : Holds told_now (held_up X w level m rows)
+  pub count : touches_now ≡ touches + length (held_up X w level m rows)
+
+-- the rows from one on were closed: this part stands over them, the nodes that were saved are held, and each was one touch
+pub record ClosesRows (X : List ℕ → List ℕ) (w level : ℕ) (rows : List (List Part)) (carried part : Option Part) (told_now : Told) (touches touches_now : ℕ) : Type 0 where
+  pub stands : option_to_list part ≡ close_up X w level rows (option_to_list carried)
+  pub held : Holds told_now (close_held_up X w level rows (option_to_list carried))
+  pub count : touches_now ≡ touches + length (close_held_up X w level rows (option_to_list carried))
+
+-- a row that ends hands this up: the node that was saved is held, and was one touch
+pub record EndsRow (X : List ℕ → List ℕ) (is_top : Bool) (row : List Part) (up : Option Part) (told_now : Told) (touches touches_now : ℕ) : Type 0 where
+  pub goes_up : option_to_list up ≡ carry X is_top row
+  pub held : Holds told_now (carry_held X is_top row)
+  pub count : touches_now ≡ touches + length (carry_held X is_top row)

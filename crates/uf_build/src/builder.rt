@@ -1,11 +1,13 @@
 // The builder of a file.
-ghost use Rattle.std.specs.Prelude.{◌≡◌, ◌+◌, ◌<◌, ◌≤◌, ◌++◌, List, ℕ, [], length, false, IfOk, OnOk, IfErr, IsTrue};
+ghost use Rattle.std.specs.Prelude.{◌≡◌, ◌+◌, ◌≤◌, ◌++◌, List, ℕ, [], length, false, IfOk, OnOk, IsTrue};
+ghost use Rattle.uf_store.specs.Calls.{LoadsNothing};
 ghost use Rattle.uf_store.specs.Contents.{Told};
+ghost use Rattle.uf_store.specs.Faults.{NoneIsBad, Shown};
 ghost use Rattle.uf_store.specs.Keeping.{Holds, KeepsGood};
 ghost use Rattle.uf_store.specs.Writing.{SavesOnly};
 ghost use Rattle.uf_tree.specs.FilePlan.{file_plan};
 ghost use Rattle.uf_tree.specs.Profiles.{is_profile};
-ghost use Rattle.uf_build.specs.Answers.{Shown, IsFeedAnswer, IsFinishAnswer, LeavesAlone};
+ghost use Rattle.uf_build.specs.Answers.{IsFeedAnswer, IsFinishAnswer, LeavesAlone, build_fault};
 ghost use Rattle.uf_build.specs.Building.{HasFed, HoldsFed, saved_by};
 
 use crate::BuildFault;
@@ -75,36 +77,31 @@ impl Builder {
         ensures held { OnOk result ((bytes : List ℕ) → HoldsFed S.X.block32 bytes (S.seen store.old).told self.old
             → HoldsFed S.X.block32 (bytes ++ piece.now) (S.seen store.new).told self.new) }
 
-        // No fault was passed over, what was good stays, and nothing but blocks was written.
-        ensures cause { Shown S.X.block32 result (S.seen store.old) (S.seen store.new) }
+        // No fault was passed over, what was good stays, nothing but blocks was written, and nothing was loaded.
+        ensures cause { Shown S.X.block32 NoneIsBad (build_fault result) (S.seen store.old) (S.seen store.new) }
         ensures good { KeepsGood S.X.block32 (S.seen store.old).told (S.seen store.new).told }
         ensures saves { SavesOnly S.X.block32 (S.seen store.old).told (S.seen store.new).told }
+        ensures unread { LoadsNothing (build_fault result) (S.seen store.old) (S.seen store.new) }
 
         // One touch for each block that is saved, and whatever came, no more than the plan of all bytes has blocks.
         ensures saved { OnOk result (touches.new + saved_by self.old ≡ touches.old + saved_by self.new) }
         ensures most { (bytes : List ℕ) → HasFed S.X.block32 bytes self.old
             → touches.new + saved_by self.old ≤ touches.old + length (file_plan S.X.block32 self.old.profile (bytes ++ piece.now)).blocks }
-        ensures alone { LeavesAlone result touches.old touches.new }
+        ensures alone { LeavesAlone result (S.seen store.old) (S.seen store.new) touches.old touches.new }
     {
         if self.is_spent {
             return Err(BuildFault::Spent);
         }
         let most = self.layout.profile.most_bytes();
         let more = piece.len() as u64;
+        self.is_spent = true;
         if more > most - self.fed {
-            self.is_spent = true;
             return Err(BuildFault::FileTooLong);
         }
-        match self.layout.take(store, piece, touches) {
-            Ok(()) => {
-                self.fed += more;
-                Ok(())
-            }
-            Err(fault) => {
-                self.is_spent = true;
-                Err(BuildFault::Store(fault))
-            }
-        }
+        self.layout.take(store, piece, touches)?;
+        self.fed += more;
+        self.is_spent = false;
+        Ok(())
     }
 
     /// Saves what is left of the file's blocks, and answers its entry.
@@ -117,14 +114,15 @@ impl Builder {
         ensures entry { IfOk result (λ e. (bytes : List ℕ) → HasFed S.X.block32 bytes self → e ≡ (file_plan S.X.block32 self.profile bytes).entry) }
         ensures held { OnOk result ((bytes : List ℕ) → HoldsFed S.X.block32 bytes (S.seen store.old).told self
             → Holds (S.seen store.new).told (file_plan S.X.block32 self.profile bytes).blocks) }
-        ensures cause { Shown S.X.block32 result (S.seen store.old) (S.seen store.new) }
+        ensures cause { Shown S.X.block32 NoneIsBad (build_fault result) (S.seen store.old) (S.seen store.new) }
         ensures good { KeepsGood S.X.block32 (S.seen store.old).told (S.seen store.new).told }
         ensures saves { SavesOnly S.X.block32 (S.seen store.old).told (S.seen store.new).told }
+        ensures unread { LoadsNothing (build_fault result) (S.seen store.old) (S.seen store.new) }
         ensures saved { OnOk result ((bytes : List ℕ) → HasFed S.X.block32 bytes self
             → touches.new + saved_by self ≡ touches.old + length (file_plan S.X.block32 self.profile bytes).blocks) }
         ensures most { (bytes : List ℕ) → HasFed S.X.block32 bytes self
             → touches.new + saved_by self ≤ touches.old + length (file_plan S.X.block32 self.profile bytes).blocks }
-        ensures alone { LeavesAlone result touches.old touches.new }
+        ensures alone { LeavesAlone result (S.seen store.old) (S.seen store.new) touches.old touches.new }
     {
         let Builder {
             layout,
@@ -134,9 +132,7 @@ impl Builder {
         if is_spent {
             return Err(BuildFault::Spent);
         }
-        match layout.close(store, touches) {
-            Ok(entry) => Ok(entry),
-            Err(fault) => Err(BuildFault::Store(fault)),
-        }
+        let entry = layout.close(store, touches)?;
+        Ok(entry)
     }
 }

@@ -11,3 +11,14 @@ pub enum BuildFault {
     /// The store gave up, or there was no memory.
     Store(StoreFault),
 }
+
+impl From<StoreFault> for BuildFault {
+    ghost use Rattle.std.specs.Prelude.{◌≡◌};
+    ghost use Rattle.uf_build.specs.declared.fault.BuildFault.TheVariants as faults;
+
+    ghost from_gives = { λ fault given. given ≡ faults.Store fault };
+
+    fn from(fault: StoreFault) -> Self {
+        BuildFault::Store(fault)
+    }
+}

@@ -1,21 +1,19 @@
 // Pieces of a file, and the open groups over them.
-ghost use Rattle.std.specs.Prelude.{◌≡◌, ◌+◌, ◌<◌, ◌≤◌, ◌*◌, ◌^◌, ◌++◌, ◌∷◌, ◌⊎◌, List, ℕ, [], length, IfOk, OnOk, IfErr, OnErr, IsTrue, take, slice_index_or};
+ghost use Rattle.std.specs.Prelude.{◌≡◌, ◌+◌, ◌<◌, ◌≤◌, ◌*◌, ◌^◌, ◌++◌, ◌⊎◌, ℕ, [], length, IfOk, OnOk, OnErr, IsTrue, slice_index_or};
 ghost use Rattle.uf_cid.specs.Bytes.{piece};
 ghost use Rattle.uf_cid.specs.Cid.{cid_of};
 ghost use Rattle.uf_cid.specs.declared.cid.Codec.TheVariants.{Raw};
-ghost use Rattle.uf_store.specs.Faults.{Answers, NoneIsBad};
-ghost use Rattle.uf_store.specs.Keeping.{Holds, KeepsGood};
-ghost use Rattle.uf_store.specs.Writing.{SavesOnly};
-ghost use Rattle.uf_tree.specs.FilePlan.{file_plan, leaf_part};
+ghost use Rattle.uf_store.specs.Faults.{fault_in};
+ghost use Rattle.uf_tree.specs.FilePlan.{leaf_part};
 ghost use Rattle.uf_tree.specs.Profiles.{is_profile};
-ghost use Rattle.uf_build.specs.Answers.{IsSaving};
-ghost use Rattle.uf_build.specs.Building.{Adds, Any, Builds, Ends, IsHeld, SavesUpTo};
+ghost use Rattle.uf_build.specs.Answers.{OnlyBuilds};
+ghost use Rattle.uf_build.specs.Building.{Adds};
 ghost use Rattle.uf_build.specs.Rows.{AreOpen, push_row, saved_over, sizes_of};
 
 use crate::rows;
 use std::alloc::Global;
 use std::sync::ledger::Ledger;
-use uf_cid::{BlockHash, Cid, Codec};
+use uf_cid::{BlockHash, Cid, Codec, Memory};
 use uf_store::{Steps, Store, StoreFault, save_under};
 use uf_tree::{Entry, Part, Parts, Profile};
 
@@ -32,7 +30,7 @@ pub struct Layout {
 }
 
 impl Layout {
-    ghost use Rattle.uf_build.specs.Layouts.{CanTake, Takes};
+    ghost use Rattle.uf_build.specs.Layouts.{CanEnd, CanTake, ClosesFile, EndsLast, EndsPiece, EndsUpTo, StaysWithin, StopsTaking, Takes, TakesFront, TakesPieces};
 
     // Takes bytes behind those that it took before.
     pub fn take<S: Store, L: Ledger>(
@@ -42,32 +40,19 @@ impl Layout {
         touches: &mut Steps<L>,
     ) -> Result<(), StoreFault>
         requires can { CanTake (length bytes.now) self.old }
-        requires room { length self.old.begun.items < self.old.profile.chunk }
-        ensures took { OnOk result (Takes S.X.block32 bytes.now self.old self.new (S.seen store.old).told (S.seen store.new).told touches.old touches.new) }
-        ensures room { OnOk result (length self.new.begun.items < self.old.profile.chunk) }
-        ensures profile { self.new.profile ≡ self.old.profile }
-        ensures cause { Answers S.X.block32 NoneIsBad result (S.seen store.old) (S.seen store.new) }
-        ensures fault { IfErr result IsSaving }
-        ensures good { KeepsGood S.X.block32 (S.seen store.old).told (S.seen store.new).told }
-        ensures saves { SavesOnly S.X.block32 (S.seen store.old).told (S.seen store.new).told }
-        ensures most { OnErr result (SavesUpTo S.X.block32 self.old.profile bytes.now self.old.begun.items self.old.rows.items touches.old touches.new) }
+        ensures took { OnOk result (Takes S.X.block32 bytes.now self.old self.new
+            (S.seen store.old).told (S.seen store.new).told touches.old touches.new) }
+        ensures stops { OnErr result (StopsTaking S.X.block32 bytes.now self.old self.new touches.old touches.new) }
+        ensures builds { OnlyBuilds S.X.block32 (fault_in result) (S.seen store.old) (S.seen store.new) }
     {
         let chunk = self.profile.chunk as usize;
-        let front = match self.fill(store, bytes, touches) {
-            Ok(front) => front,
-            Err(fault) => return Err(fault),
-        };
+        let front = self.fill(store, bytes, touches)?;
         let rest = &bytes[front..];
         let count = rest.len() / chunk;
         let (whole, behind) = rest.split_at(count * chunk);
-        match self.save_pieces(store, count, whole, touches) {
-            Ok(()) => {}
-            Err(fault) => return Err(fault),
-        }
-        match self.begun.extend_from_slice(behind) {
-            Ok(()) => Ok(()),
-            Err(_) => Err(StoreFault::Memory),
-        }
+        self.save_pieces(store, count, whole, touches)?;
+        append(&mut self.begun, behind)?;
+        Ok(())
     }
 
     // Fills the piece that was begun, where one was, from the front of some bytes, and answers how many it took. Either
@@ -79,34 +64,21 @@ impl Layout {
         touches: &mut Steps<L>,
     ) -> Result<usize, StoreFault>
         requires can { CanTake (length bytes.now) self.old }
-        requires room { length self.old.begun.items < self.old.profile.chunk }
-        ensures took { IfOk result (λ front. Takes S.X.block32 (take front bytes.now) self.old self.new (S.seen store.old).told (S.seen store.new).told touches.old touches.new) }
-        ensures front { IfOk result (λ front. front ≤ length bytes.now) }
-        ensures all { IfOk result (λ front. (front ≡ length bytes.now) ⊎ (self.new.begun.items ≡ [])) }
-        ensures room { OnOk result (length self.new.begun.items < self.old.profile.chunk) }
-        ensures profile { self.new.profile ≡ self.old.profile }
-        ensures cause { Answers S.X.block32 NoneIsBad result (S.seen store.old) (S.seen store.new) }
-        ensures fault { IfErr result IsSaving }
-        ensures good { KeepsGood S.X.block32 (S.seen store.old).told (S.seen store.new).told }
-        ensures saves { SavesOnly S.X.block32 (S.seen store.old).told (S.seen store.new).told }
-        ensures most { OnErr result (SavesUpTo S.X.block32 self.old.profile bytes.now self.old.begun.items self.old.rows.items touches.old touches.new) }
+        ensures took { IfOk result (λ front. TakesFront S.X.block32 bytes.now front self.old self.new
+            (S.seen store.old).told (S.seen store.new).told touches.old touches.new) }
+        ensures stops { OnErr result (StopsTaking S.X.block32 bytes.now self.old self.new touches.old touches.new) }
+        ensures builds { OnlyBuilds S.X.block32 (fault_in result) (S.seen store.old) (S.seen store.new) }
     {
         if self.begun.is_empty() {
             return Ok(0);
         }
         let chunk = self.profile.chunk as usize;
         let front = bytes.len().min(chunk - self.begun.len());
-        match self.begun.extend_from_slice(&bytes[..front]) {
-            Ok(()) => {}
-            Err(_) => return Err(StoreFault::Memory),
+        append(&mut self.begun, &bytes[..front])?;
+        if self.begun.len() == chunk {
+            self.end_piece(store, touches)?;
         }
-        if self.begun.len() < chunk {
-            return Ok(front);
-        }
-        match self.end_piece(store, touches) {
-            Ok(()) => Ok(front),
-            Err(fault) => Err(fault),
-        }
+        Ok(front)
     }
 
     // Saves the last piece, which an empty file has too, and closes the rows. Answers the file's entry.
@@ -116,28 +88,16 @@ impl Layout {
         touches: &mut Steps<L>,
     ) -> Result<Entry, StoreFault>
         requires can { CanTake 0 self }
-        requires room { length self.begun.items < self.profile.chunk }
-        ensures entry { IfOk result (λ e. (bytes : List ℕ) → Builds S.X.block32 Any self.profile bytes self.begun.items self.rows.items → e ≡ (file_plan S.X.block32 self.profile bytes).entry) }
-        ensures held { OnOk result ((bytes : List ℕ) → Builds S.X.block32 (IsHeld (S.seen store.old).told) self.profile bytes self.begun.items self.rows.items
-            → Holds (S.seen store.new).told (file_plan S.X.block32 self.profile bytes).blocks) }
-        ensures cause { Answers S.X.block32 NoneIsBad result (S.seen store.old) (S.seen store.new) }
-        ensures fault { IfErr result IsSaving }
-        ensures good { KeepsGood S.X.block32 (S.seen store.old).told (S.seen store.new).told }
-        ensures saves { SavesOnly S.X.block32 (S.seen store.old).told (S.seen store.new).told }
-        ensures all { OnOk result ((bytes : List ℕ) → Builds S.X.block32 Any self.profile bytes self.begun.items self.rows.items
-            → touches.new + saved_over self.profile.width self.rows.items ≡ touches.old + length (file_plan S.X.block32 self.profile bytes).blocks) }
-        ensures most { (bytes : List ℕ) → Builds S.X.block32 Any self.profile bytes self.begun.items self.rows.items
-            → touches.new + saved_over self.profile.width self.rows.items ≤ touches.old + length (file_plan S.X.block32 self.profile bytes).blocks }
+        ensures closed { IfOk result (λ e. ClosesFile S.X.block32 self e
+            (S.seen store.old).told (S.seen store.new).told touches.old touches.new) }
+        ensures most { EndsUpTo S.X.block32 self touches.old touches.new }
+        ensures builds { OnlyBuilds S.X.block32 (fault_in result) (S.seen store.old) (S.seen store.new) }
     {
         let width = self.profile.width as usize;
-        match self.end_last(store, touches) {
-            Ok(()) => {}
-            Err(fault) => return Err(fault),
-        }
-        match rows::close(self.alloc, width, &mut self.rows, 0, None, store, touches) {
-            Ok(Some(part)) => Ok(part.entry),
-            Ok(None) => unreachable!(),
-            Err(fault) => Err(fault),
+        self.end_last(store, touches)?;
+        match rows::close(self.alloc, width, &mut self.rows, 0, None, store, touches)? {
+            Some(part) => Ok(part.entry),
+            None => unreachable!(),
         }
     }
 
@@ -148,15 +108,10 @@ impl Layout {
         touches: &mut Steps<L>,
     ) -> Result<(), StoreFault>
         requires can { CanTake 0 self.old }
-        requires room { length self.old.begun.items < self.old.profile.chunk }
-        ensures ends { OnOk result (Ends S.X.block32 self.old.profile self.old.begun.items self.old.rows.items self.new.rows.items (S.seen store.old).told (S.seen store.new).told touches.old touches.new) }
-        ensures profile { self.new.profile ≡ self.old.profile }
-        ensures cause { Answers S.X.block32 NoneIsBad result (S.seen store.old) (S.seen store.new) }
-        ensures fault { IfErr result IsSaving }
-        ensures good { KeepsGood S.X.block32 (S.seen store.old).told (S.seen store.new).told }
-        ensures saves { SavesOnly S.X.block32 (S.seen store.old).told (S.seen store.new).told }
-        ensures most { OnErr result ((bytes : List ℕ) → Builds S.X.block32 Any self.old.profile bytes self.old.begun.items self.old.rows.items
-            → touches.new + saved_over self.old.profile.width self.old.rows.items ≤ touches.old + length (file_plan S.X.block32 self.old.profile bytes).blocks) }
+        ensures ends { OnOk result (EndsLast S.X.block32 self.old self.new
+            (S.seen store.old).told (S.seen store.new).told touches.old touches.new) }
+        ensures most { OnErr result (EndsUpTo S.X.block32 self.old touches.old touches.new) }
+        ensures builds { OnlyBuilds S.X.block32 (fault_in result) (S.seen store.old) (S.seen store.new) }
     {
         if self.rows.is_empty() {
             return self.end_piece(store, touches);
@@ -173,20 +128,14 @@ impl Layout {
         store: &mut S,
         touches: &mut Steps<L>,
     ) -> Result<(), StoreFault>
-        requires can { CanTake 0 self.old }
-        requires size { length self.old.begun.items ≤ self.old.profile.chunk }
-        ensures adds { OnOk result (Adds S.X.block32 self.old.profile self.old.begun.items self.old.rows.items self.new.rows.items (S.seen store.old).told (S.seen store.new).told touches.old touches.new) }
-        ensures begun { OnOk result (self.new.begun.items ≡ []) }
-        ensures profile { self.new.profile ≡ self.old.profile }
-        ensures cause { Answers S.X.block32 NoneIsBad result (S.seen store.old) (S.seen store.new) }
-        ensures fault { IfErr result IsSaving }
-        ensures good { KeepsGood S.X.block32 (S.seen store.old).told (S.seen store.new).told }
-        ensures saves { SavesOnly S.X.block32 (S.seen store.old).told (S.seen store.new).told }
-        ensures most { touches.new + saved_over self.old.profile.width self.old.rows.items
-            ≤ touches.old + saved_over self.old.profile.width (push_row S.X.block32 self.old.profile.width (leaf_part S.X.block32 self.old.begun.items) self.old.rows.items) }
+        requires can { CanEnd self.old }
+        ensures ends { OnOk result (EndsPiece S.X.block32 self.old self.new
+            (S.seen store.old).told (S.seen store.new).told touches.old touches.new) }
+        ensures within { StaysWithin S.X.block32 self.old self.new touches.old touches.new }
+        ensures builds { OnlyBuilds S.X.block32 (fault_in result) (S.seen store.old) (S.seen store.new) }
     {
         let cid = Cid::of::<S::X>(Codec::Raw, self.begun.as_slice());
-        match save_leaf(
+        save_leaf(
             self.alloc,
             self.profile,
             &mut self.rows,
@@ -194,13 +143,9 @@ impl Layout {
             self.begun.as_slice(),
             store,
             touches,
-        ) {
-            Ok(()) => {
-                self.begun.clear();
-                Ok(())
-            }
-            Err(fault) => Err(fault),
-        }
+        )?;
+        self.begun.clear();
+        Ok(())
     }
 
     // Saves so many whole pieces, of which some are hashed side by side.
@@ -214,14 +159,10 @@ impl Layout {
         requires can { CanTake (length bytes.now) self.old }
         requires begun { (length bytes.now ≡ 0) ⊎ (self.old.begun.items ≡ []) }
         requires count { length bytes.now ≡ count * self.old.profile.chunk }
-        ensures took { OnOk result (Takes S.X.block32 bytes.now self.old self.new (S.seen store.old).told (S.seen store.new).told touches.old touches.new) }
-        ensures begun { OnOk result (self.new.begun.items ≡ self.old.begun.items) }
-        ensures profile { self.new.profile ≡ self.old.profile }
-        ensures cause { Answers S.X.block32 NoneIsBad result (S.seen store.old) (S.seen store.new) }
-        ensures fault { IfErr result IsSaving }
-        ensures good { KeepsGood S.X.block32 (S.seen store.old).told (S.seen store.new).told }
-        ensures saves { SavesOnly S.X.block32 (S.seen store.old).told (S.seen store.new).told }
-        ensures most { OnErr result (SavesUpTo S.X.block32 self.old.profile bytes.now self.old.begun.items self.old.rows.items touches.old touches.new) }
+        ensures took { OnOk result (TakesPieces S.X.block32 bytes.now self.old self.new
+            (S.seen store.old).told (S.seen store.new).told touches.old touches.new) }
+        ensures stops { OnErr result (StopsTaking S.X.block32 bytes.now self.old self.new touches.old touches.new) }
+        ensures builds { OnlyBuilds S.X.block32 (fault_in result) (S.seen store.old) (S.seen store.new) }
     {
         let chunk = self.profile.chunk as usize;
         let mut rest = bytes;
@@ -229,10 +170,7 @@ impl Layout {
         while left > 0 {
             let few = left.min(GROUP);
             let (group, behind) = rest.split_at(few * chunk);
-            match self.save_group(store, few, group, touches) {
-                Ok(()) => {}
-                Err(fault) => return Err(fault),
-            }
+            self.save_group(store, few, group, touches)?;
             rest = behind;
             left -= few;
         }
@@ -251,14 +189,10 @@ impl Layout {
         requires begun { self.old.begun.items ≡ [] }
         requires count { length bytes.now ≡ count * self.old.profile.chunk }
         requires few { count ≤ 8 }
-        ensures took { OnOk result (Takes S.X.block32 bytes.now self.old self.new (S.seen store.old).told (S.seen store.new).told touches.old touches.new) }
-        ensures begun { OnOk result (self.new.begun.items ≡ []) }
-        ensures profile { self.new.profile ≡ self.old.profile }
-        ensures cause { Answers S.X.block32 NoneIsBad result (S.seen store.old) (S.seen store.new) }
-        ensures fault { IfErr result IsSaving }
-        ensures good { KeepsGood S.X.block32 (S.seen store.old).told (S.seen store.new).told }
-        ensures saves { SavesOnly S.X.block32 (S.seen store.old).told (S.seen store.new).told }
-        ensures most { OnErr result (SavesUpTo S.X.block32 self.old.profile bytes.now self.old.begun.items self.old.rows.items touches.old touches.new) }
+        ensures took { OnOk result (TakesPieces S.X.block32 bytes.now self.old self.new
+            (S.seen store.old).told (S.seen store.new).told touches.old touches.new) }
+        ensures stops { OnErr result (StopsTaking S.X.block32 bytes.now self.old self.new touches.old touches.new) }
+        ensures builds { OnlyBuilds S.X.block32 (fault_in result) (S.seen store.old) (S.seen store.new) }
     {
         let chunk = self.profile.chunk as usize;
         let digests = digests_of::<S::X>(bytes, chunk, count);
@@ -268,7 +202,7 @@ impl Layout {
                 digest: digests[i],
             };
             let piece = &bytes[i * chunk..i * chunk + chunk];
-            match save_leaf(
+            save_leaf(
                 self.alloc,
                 self.profile,
                 &mut self.rows,
@@ -276,13 +210,18 @@ impl Layout {
                 piece,
                 store,
                 touches,
-            ) {
-                Ok(()) => {}
-                Err(fault) => return Err(fault),
-            }
+            )?;
         }
         Ok(())
     }
+}
+
+// Appends bytes to the piece that was begun.
+fn append(begun: &mut Vec<u8>, bytes: &[u8]) -> Result<(), Memory>
+    ensures { OnOk result (begun.new.items ≡ begun.old.items ++ bytes.now) }
+{
+    begun.extend_from_slice(bytes)?;
+    Ok(())
 }
 
 // The digests of so many pieces of one size.
@@ -312,17 +251,13 @@ fn save_leaf<S: Store, L: Ledger>(
     requires size { length piece.now ≤ profile.chunk }
     requires rows { AreOpen profile.width rows.old.items }
     requires most { sizes_of rows.old.items + length piece.now < 2 ^ 63 }
-    ensures adds { OnOk result (Adds S.X.block32 profile piece.now rows.old.items rows.new.items (S.seen store.old).told (S.seen store.new).told touches.old touches.new) }
-    ensures cause { Answers S.X.block32 NoneIsBad result (S.seen store.old) (S.seen store.new) }
-    ensures fault { IfErr result IsSaving }
-    ensures good { KeepsGood S.X.block32 (S.seen store.old).told (S.seen store.new).told }
-    ensures saves { SavesOnly S.X.block32 (S.seen store.old).told (S.seen store.new).told }
-    ensures most { touches.new + saved_over profile.width rows.old.items ≤ touches.old + saved_over profile.width (push_row S.X.block32 profile.width (leaf_part S.X.block32 piece.now) rows.old.items) }
+    ensures adds { OnOk result (Adds S.X.block32 profile piece.now rows.old.items rows.new.items
+        (S.seen store.old).told (S.seen store.new).told touches.old touches.new) }
+    ensures most { touches.new + saved_over profile.width rows.old.items ≤ touches.old + saved_over profile.width
+        (push_row S.X.block32 profile.width (leaf_part S.X.block32 piece.now) rows.old.items) }
+    ensures builds { OnlyBuilds S.X.block32 (fault_in result) (S.seen store.old) (S.seen store.new) }
 {
-    match save_under(alloc, store, &cid, piece, touches) {
-        Ok(()) => {}
-        Err(fault) => return Err(fault),
-    }
+    save_under(alloc, store, &cid, piece, touches)?;
     let size = piece.len() as u64;
     let part = Part {
         entry: Entry { cid, tsize: size },

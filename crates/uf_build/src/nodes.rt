@@ -1,14 +1,15 @@
 // The node over a group of parts.
 ghost use Rattle.std.specs.Prelude.{◌≡◌, ◌+◌, ◌<◌, ◌≤◌, ◌^◌, ◌∷◌, [], length, IfOk, OnOk, IfErr, OnErr};
 ghost use Rattle.std.specs.List.{AllByRecursion, sum_by};
-ghost use Rattle.uf_store.specs.Faults.{Answers, NoneIsBad};
+ghost use Rattle.uf_store.specs.Calls.{LoadsNothing};
+ghost use Rattle.uf_store.specs.Clashes.{IsSaving};
+ghost use Rattle.uf_store.specs.Faults.{Answers, NoneIsBad, fault_in};
 ghost use Rattle.uf_store.specs.Seen.{KeepsHeld};
 ghost use Rattle.uf_store.specs.Keeping.{Holds, KeepsGood};
 ghost use Rattle.uf_store.specs.Writing.{SavesOnly};
 ghost use Rattle.uf_tree.specs.FilePlan.{node_over, node_part, node_held};
 ghost use Rattle.uf_tree.specs.Nodes.{capped, link_of};
 ghost use Rattle.uf_tree.specs.Validity.{IsPartLink};
-ghost use Rattle.uf_build.specs.Answers.{IsSaving};
 
 use std::alloc::Global;
 use std::sync::ledger::Ledger;
@@ -35,6 +36,7 @@ pub fn save_node<S: Store, L: Ledger>(
     ensures err { OnErr result ((S.seen store.new).told ≡ (S.seen store.old).told) }
     ensures good { KeepsGood S.X.block32 (S.seen store.old).told (S.seen store.new).told }
     ensures saves { SavesOnly S.X.block32 (S.seen store.old).told (S.seen store.new).told }
+    ensures unread { LoadsNothing (fault_in result) (S.seen store.old) (S.seen store.new) }
     ensures touches { touches.new ≤ touches.old + 1 }
     ensures touch { OnOk result (touches.new ≡ touches.old + 1) }
 {

@@ -2,7 +2,8 @@
 ghost use Rattle.std.specs.Prelude.{◌≡◌, ◌≤◌, ◌+◌, [], ◌∷◌, length, OnOk, OnErr, IfOk, IfErr};
 ghost use Rattle.uf_cid.specs.Cid.{cid_of};
 ghost use Rattle.uf_store.specs.Seen.{Finds, Keeps};
-ghost use Rattle.uf_store.specs.Faults.{Answers, NoneIsBad};
+ghost use Rattle.uf_store.specs.Calls.{LoadsNothing};
+ghost use Rattle.uf_store.specs.Faults.{Answers, NoneIsBad, fault_in};
 ghost use Rattle.uf_store.specs.Keeping.{Holds, KeepsGood};
 ghost use Rattle.uf_store.specs.Writing.{SavesOnly};
 ghost use Rattle.uf_store.specs.Clashes.{IsClashOr, IsLoadFault, IsSaveFault};
@@ -48,10 +49,11 @@ pub fn save_under<S: Store, L: Ledger>(
     ensures cause { Answers S.X.block32 NoneIsBad result (S.seen store.old) (S.seen store.new) }
     ensures fault { IfErr result (IsSaveFault cid.now bytes.now) }
 
-    // What was good stays, and nothing but this save was written.
+    // What was good stays, nothing but this save was written, and nothing was loaded.
     ensures err { OnErr result ((S.seen store.new).told ≡ (S.seen store.old).told) }
     ensures good { KeepsGood S.X.block32 (S.seen store.old).told (S.seen store.new).told }
     ensures saves { SavesOnly S.X.block32 (S.seen store.old).told (S.seen store.new).told }
+    ensures unread { LoadsNothing (fault_in result) (S.seen store.old) (S.seen store.new) }
     ensures touches { touches.new ≡ touches.old + 1 }
 {
     match store.save(cid, bytes, touches) {
@@ -79,6 +81,7 @@ pub fn save_block<S: Store, L: Ledger>(
     ensures err { OnErr result ((S.seen store.new).told ≡ (S.seen store.old).told) }
     ensures good { KeepsGood S.X.block32 (S.seen store.old).told (S.seen store.new).told }
     ensures saves { SavesOnly S.X.block32 (S.seen store.old).told (S.seen store.new).told }
+    ensures unread { LoadsNothing (fault_in result) (S.seen store.old) (S.seen store.new) }
     ensures touches { touches.new ≡ touches.old + 1 }
 {
     let cid = Cid::of::<S::X>(codec, bytes);

@@ -1,7 +1,5 @@
-use Rattle.std.proofs.Common.{◌≡◌, ◌*◌, [], take}
-use Rattle.uf_store.specs.Faults.{StaysCalm}
-use Rattle.uf_store.specs.Keeping.{KeepsGood}
-use Rattle.uf_store.specs.Writing.{SavesOnly}
+use Rattle.std.proofs.Common.{None, ◌≡◌, ◌*◌, [], take}
+use Rattle.uf_build.specs.Answers.{OnlyBuilds}
 use Rattle.uf_build.specs.Layouts.{Takes}
 use Rattle.uf_build.proofs.layout.Layout.save_group.Given as goal
 
@@ -10,7 +8,5 @@ invariant-loop-i g l = record {
   took : Takes g.S.X.BlockHash.block32 (take (l.i * l.chunk) l.bytes) l.initial.self l.self (g.S.Store.seen l.initial.store).told (g.S.Store.seen l.store).told l.initial.touches l.touches;
   profile : l.self.profile ≡ l.initial.self.profile;
   begun : l.self.begun.items ≡ [];
-  calm : StaysCalm (g.S.Store.seen l.initial.store) (g.S.Store.seen l.store);
-  good : KeepsGood g.S.X.BlockHash.block32 (g.S.Store.seen l.initial.store).told (g.S.Store.seen l.store).told;
-  saves : SavesOnly g.S.X.BlockHash.block32 (g.S.Store.seen l.initial.store).told (g.S.Store.seen l.store).told;
+  builds : OnlyBuilds g.S.X.BlockHash.block32 None (g.S.Store.seen l.initial.store) (g.S.Store.seen l.store);
 }

@@ -1,7 +1,5 @@
-use Rattle.std.proofs.Common.{◌≡◌, ℕ, ◌*◌, List, ◌++◌, length}
-use Rattle.uf_store.specs.Faults.{StaysCalm}
-use Rattle.uf_store.specs.Keeping.{KeepsGood}
-use Rattle.uf_store.specs.Writing.{SavesOnly}
+use Rattle.std.proofs.Common.{None, ◌≡◌, ℕ, ◌*◌, List, ◌++◌, length}
+use Rattle.uf_build.specs.Answers.{OnlyBuilds}
 use Rattle.uf_build.specs.Layouts.{Takes}
 use Rattle.uf_build.proofs.layout.Layout.save_pieces.Given as goal
 
@@ -11,9 +9,7 @@ invariant-loop-left g l = record {
   profile : l.self.profile ≡ l.initial.self.profile;
   begun : l.self.begun.items ≡ l.initial.self.begun.items;
   left : length l.rest ≡ l.left * l.chunk;
-  calm : StaysCalm (g.S.Store.seen l.initial.store) (g.S.Store.seen l.store);
-  good : KeepsGood g.S.X.BlockHash.block32 (g.S.Store.seen l.initial.store).told (g.S.Store.seen l.store).told;
-  saves : SavesOnly g.S.X.BlockHash.block32 (g.S.Store.seen l.initial.store).told (g.S.Store.seen l.store).told;
+  builds : OnlyBuilds g.S.X.BlockHash.block32 None (g.S.Store.seen l.initial.store) (g.S.Store.seen l.store);
 }
 
 abbrev pub decreases-loop-left : goal.decreases-loop-left
