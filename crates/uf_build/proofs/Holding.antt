@@ -1,6 +1,6 @@
 -- What is held where calls of a builder follow each other.
 use Rattle.std.proofs.Common.{◌≡◌, ℕ, List, [], ◌∷◌}
-use Rattle.std.specs.Prelude.{Some, None, OnOk, OnErr}
+use Rattle.std.specs.Prelude.{Some, None, OnErr}
 use Rattle.std.specs.declared.result.Result.{Result}
 use Rattle.std.specs.declared.result.Result.TheVariants.{Ok, Err}
 use Rattle.std.specs.List.{AllByRecursion}
@@ -28,10 +28,6 @@ pub held-each : (a : Told) (l : List Held) → AllByRecursion (IsHeld a) l → H
 held-each a [] h = Holds-nil a
 held-each None (b ∷ l) h = tt
 held-each (Some t) (b ∷ l) h = (h.0.0, held-each (Some t) l h.1)
-
-pub on_ok_three : {T E P Q R S : Type 0} (r : Result T E) → (P → Q → R → S) → OnOk r P → OnOk r Q → OnOk r R → OnOk r S
-on_ok_three (Ok x) f p q s = f p q s
-on_ok_three (Err e) f p q s = tt
 
 pub on_err_given : {T E Q : Type 0} (r : Result T E) → Q → OnErr r Q
 on_err_given (Ok x) q = tt

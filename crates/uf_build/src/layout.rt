@@ -75,9 +75,10 @@ impl Layout {
         let chunk = self.profile.chunk as usize;
         let front = bytes.len().min(chunk - self.begun.len());
         append(&mut self.begun, &bytes[..front])?;
-        if self.begun.len() == chunk {
-            self.end_piece(store, touches)?;
+        if self.begun.len() < chunk {
+            return Ok(front);
         }
+        self.end_piece(store, touches)?;
         Ok(front)
     }
 

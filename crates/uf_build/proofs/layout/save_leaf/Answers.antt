@@ -1,4 +1,5 @@
 use Rattle.std.proofs.Common.{◌+◌, ◌≤◌, List, ℕ, [], ◌∷◌, length, ap, subst, arith}
+use Rattle.std.proofs.lemmas.Result.{on_ok_weaker}
 use Rattle.uf_cid.specs.declared.cid.Cid.{Cid}
 use Rattle.uf_store.specs.Keeping.{Holds}
 use Rattle.uf_tree.specs.FilePlan.{leaf_part}
@@ -7,22 +8,19 @@ use Rattle.uf_tree.proofs.Told.{kept}
 use Rattle.uf_build.specs.Rows.{push_held}
 use Rattle.uf_build.proofs.Counting.{saved-push}
 use Rattle.uf_build.proofs.Feeding.{Adds-push}
-use Rattle.uf_build.proofs.Holding.{on_ok_three}
 use Rattle.uf_build.proofs.layout.save_leaf.Goals as goal
 
 pub returns-clause-adds : goal.returns-clause-adds
 returns-clause-adds g c =
-    on_ok_three c.push.result
-    (λ pushed held count. Adds-push g.S.X.BlockHash.block32 c.args.profile (kept c.args.profile c.requires.profile).two c.args.piece.now _ c.args.rows.now.items c.push.new.rows.items
+    on_ok_weaker c.push.result (λ h. Adds-push g.S.X.BlockHash.block32 c.args.profile (kept c.args.profile c.requires.profile).two c.args.piece.now _ c.args.rows.now.items c.push.new.rows.items
     (g.S.Store.seen c.args.store.now).told (g.S.Store.seen c.save_under.new.store).told (g.S.Store.seen c.push.new.store).told c.args.touches.now c.push.new.touches c.requires.rows
     (ap (λ (cid : Cid). record { entry = record { cid = cid; tsize = length c.args.piece.now }; size = length c.args.piece.now }) c.requires.cid)
-    pushed c.save_under.ensures.good c.push.ensures.good
-    (subst (λ (cid : Cid). Holds (g.S.Store.seen c.save_under.new.store).told ((cid, c.args.piece.now) ∷ [])) c.requires.cid c.in-Ok.ensures.held)
-    held (omega (arith, count, c.save_under.ensures.touches)))
-    c.push.ensures.rows c.push.ensures.held c.push.ensures.count
+    h.pushed c.save_under.ensures.good c.push.ensures.builds.good
+    (subst (λ (cid : Cid). Holds (g.S.Store.seen c.save_under.new.store).told ((cid, c.args.piece.now) ∷ [])) c.requires.cid c.in_ok-save_under.ensures.held)
+    h.held (omega (arith, h.count, c.save_under.ensures.touches))) c.push.ensures.pushed
 
-pub returns-in-Err-clause-most : goal.returns-in-Err-clause-most
-returns-in-Err-clause-most g c =
+pub returns-in_err-save_under-clause-most : goal.returns-in_err-save_under-clause-most
+returns-in_err-save_under-clause-most g c =
     let hash : List ℕ → List ℕ = g.S.X.BlockHash.block32 in
     let more = saved-push hash c.args.profile.width c.args.rows.now.items (leaf_part hash c.args.piece.now) c.requires.rows.short in
     omega (arith, more, c.save_under.ensures.touches)

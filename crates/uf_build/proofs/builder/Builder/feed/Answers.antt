@@ -6,30 +6,30 @@ use Rattle.uf_build.specs.Rows.{saved_over}
 use Rattle.uf_build.proofs.Ending.{up-to-none, up-to-done, most-by}
 use Rattle.uf_build.proofs.builder.Builder.feed.Goals as goal
 
-pub returns-in-Ok-clause-fed : goal.returns-in-Ok-clause-fed
+pub returns-clause-fed : goal.returns-clause-fed
 unfolding HasFed
-returns-in-Ok-clause-fed g c = λ bytes h.
+returns-clause-fed g c = λ bytes h.
     let hash : List ℕ → List ℕ = g.S.X.BlockHash.block32 in
     let before = subst (λ (b : Building). Builds hash Any b.profile bytes b.begun b.rows) (sym c.self.view_is) h in
-    subst (λ (p : Profile). Builds hash Any p (bytes ++ c.args.piece.now) c.take.new.self.begun.items c.take.new.self.rows.items) (sym c.take.ensures.profile)
-    (c.in-Ok.ensures.took.feeds.fed bytes before)
+    subst (λ (p : Profile). Builds hash Any p (bytes ++ c.args.piece.now) c.take.new.self.begun.items c.take.new.self.rows.items) (sym c.in_ok-take.ensures.took.same_profile)
+    (c.in_ok-take.ensures.took.feeds.fed bytes before)
 
-pub returns-in-Ok-clause-held : goal.returns-in-Ok-clause-held
+pub returns-clause-held : goal.returns-clause-held
 unfolding HoldsFed
-returns-in-Ok-clause-held g c = λ bytes h.
+returns-clause-held g c = λ bytes h.
     let hash : List ℕ → List ℕ = g.S.X.BlockHash.block32 in
     let told = (g.S.Store.seen c.args.store.now).told in
     let told_now = (g.S.Store.seen c.take.new.store).told in
     let before = subst (λ (b : Building). Builds hash (IsHeld told) b.profile bytes b.begun b.rows) (sym c.self.view_is) h in
-    subst (λ (p : Profile). Builds hash (IsHeld told_now) p (bytes ++ c.args.piece.now) c.take.new.self.begun.items c.take.new.self.rows.items) (sym c.take.ensures.profile)
-    (c.in-Ok.ensures.took.feeds.held bytes before)
+    subst (λ (p : Profile). Builds hash (IsHeld told_now) p (bytes ++ c.args.piece.now) c.take.new.self.begun.items c.take.new.self.rows.items) (sym c.in_ok-take.ensures.took.same_profile)
+    (c.in_ok-take.ensures.took.feeds.held bytes before)
 
-pub returns-in-Ok-clause-saved : goal.returns-in-Ok-clause-saved
+pub returns-clause-saved : goal.returns-clause-saved
 unfolding saved_by
-returns-in-Ok-clause-saved g c =
+returns-clause-saved g c =
     subst (λ (b : Building). c.take.new.touches + saved_over b.profile.width b.rows ≡ c.args.touches.now + saved_over c.take.new.self.profile.width c.take.new.self.rows.items) c.self.view_is
     (subst (λ (p : Profile). c.take.new.touches + saved_over c.self.inside.layout.profile.width c.self.inside.layout.rows.items ≡ c.args.touches.now + saved_over p.width c.take.new.self.rows.items)
-    (sym c.take.ensures.profile) c.in-Ok.ensures.took.feeds.saves)
+    (sym c.in_ok-take.ensures.took.same_profile) c.in_ok-take.ensures.took.feeds.saves)
 
 pub returns-then-self-clause-most : goal.returns-then-self-clause-most
 returns-then-self-clause-most g c =
@@ -47,16 +47,16 @@ returns-then-more-most-clause-most g c =
     (subst (λ (b : Building). SavesUpTo g.S.X.BlockHash.block32 b.profile c.args.piece.now b.begun b.rows c.args.touches.now c.args.touches.now) c.self.view_is
     (up-to-none g.S.X.BlockHash.block32 l.profile p.some p.two c.args.piece.now l.begun.items l.rows.items c.args.touches.now))
 
-pub returns-in-Ok-clause-most : goal.returns-in-Ok-clause-most
-returns-in-Ok-clause-most g c =
+pub returns-clause-most : goal.returns-clause-most
+returns-clause-most g c =
     let l = c.self.inside.layout in
     let p = kept l.profile c.self.invariant.profile in
     most-by g.S.X.BlockHash.block32 c.args.self.now c.args.piece.now c.args.touches.now c.take.new.touches
     (subst (λ (b : Building). SavesUpTo g.S.X.BlockHash.block32 b.profile c.args.piece.now b.begun b.rows c.args.touches.now c.take.new.touches) c.self.view_is
     (up-to-done g.S.X.BlockHash.block32 l.profile p.some p.two c.args.piece.now l.begun.items c.take.new.self.begun.items l.rows.items c.take.new.self.rows.items _ _ c.args.touches.now c.take.new.touches
-    c.in-Ok.ensures.took.feeds))
+    c.in_ok-take.ensures.took.feeds))
 
-pub returns-in-Err-clause-most : goal.returns-in-Err-clause-most
-returns-in-Err-clause-most g c =
+pub returns-in_err-take-clause-most : goal.returns-in_err-take-clause-most
+returns-in_err-take-clause-most g c =
     most-by g.S.X.BlockHash.block32 c.args.self.now c.args.piece.now c.args.touches.now c.take.new.touches
-    (subst (λ (b : Building). SavesUpTo g.S.X.BlockHash.block32 b.profile c.args.piece.now b.begun b.rows c.args.touches.now c.take.new.touches) c.self.view_is c.in-Err.ensures.most)
+    (subst (λ (b : Building). SavesUpTo g.S.X.BlockHash.block32 b.profile c.args.piece.now b.begun b.rows c.args.touches.now c.take.new.touches) c.self.view_is c.in_err-take.ensures.stops.most)

@@ -7,18 +7,18 @@ use Rattle.uf_build.specs.Rows.{saved_over}
 use Rattle.uf_build.proofs.Ending.{saved-most}
 use Rattle.uf_build.proofs.builder.Builder.finish.Goals as goal
 
-pub returns-in-Ok-clause-entry : goal.returns-in-Ok-clause-entry
+pub returns-clause-entry : goal.returns-clause-entry
 unfolding HasFed
-returns-in-Ok-clause-entry g c = λ bytes.
+returns-clause-entry g c = λ bytes.
     let hash : List ℕ → List ℕ = g.S.X.BlockHash.block32 in
-    subst (λ (b : Building). Builds hash Any b.profile bytes b.begun b.rows → c.in-Ok.entry ≡ (file_plan hash b.profile bytes).entry) c.self.view_is (c.in-Ok.ensures.entry bytes)
+    subst (λ (b : Building). Builds hash Any b.profile bytes b.begun b.rows → c.in_ok-entry.entry ≡ (file_plan hash b.profile bytes).entry) c.self.view_is (c.in_ok-entry.ensures.closed.entry_is bytes)
 
-pub returns-in-Ok-clause-held : goal.returns-in-Ok-clause-held
+pub returns-clause-held : goal.returns-clause-held
 unfolding HoldsFed
-returns-in-Ok-clause-held g c = λ bytes.
+returns-clause-held g c = λ bytes.
     let hash : List ℕ → List ℕ = g.S.X.BlockHash.block32 in
     subst (λ (b : Building). Builds hash (IsHeld (g.S.Store.seen c.args.store.now).told) b.profile bytes b.begun b.rows → Holds (g.S.Store.seen c.close.new.store).told (file_plan hash b.profile bytes).blocks)
-    c.self.view_is (c.in-Ok.ensures.held bytes)
+    c.self.view_is (c.in_ok-entry.ensures.closed.held bytes)
 
 pub returns-then-is_spent-clause-most : goal.returns-then-is_spent-clause-most
 unfolding HasFed saved_by
@@ -27,23 +27,23 @@ returns-then-is_spent-clause-most g c = λ bytes.
     subst (λ (b : Building). Builds hash Any b.profile bytes b.begun b.rows → c.args.touches.now + saved_over b.profile.width b.rows ≤ c.args.touches.now + length (file_plan hash b.profile bytes).blocks)
     c.self.view_is (let p = kept c.self.inside.layout.profile c.self.invariant.profile in λ h. omega (arith, saved-most hash c.self.inside.layout.profile p.some p.two bytes _ _ h))
 
-pub returns-in-Ok-clause-saved : goal.returns-in-Ok-clause-saved
+pub returns-clause-saved : goal.returns-clause-saved
 unfolding HasFed saved_by
-returns-in-Ok-clause-saved g c = λ bytes.
+returns-clause-saved g c = λ bytes.
     let hash : List ℕ → List ℕ = g.S.X.BlockHash.block32 in
     subst (λ (b : Building). Builds hash Any b.profile bytes b.begun b.rows → c.close.new.touches + saved_over b.profile.width b.rows ≡ c.args.touches.now + length (file_plan hash b.profile bytes).blocks)
-    c.self.view_is (c.in-Ok.ensures.all bytes)
+    c.self.view_is (c.in_ok-entry.ensures.closed.saved bytes)
 
-pub returns-in-Ok-clause-most : goal.returns-in-Ok-clause-most
+pub returns-clause-most : goal.returns-clause-most
 unfolding HasFed saved_by
-returns-in-Ok-clause-most g c = λ bytes.
+returns-clause-most g c = λ bytes.
     let hash : List ℕ → List ℕ = g.S.X.BlockHash.block32 in
     subst (λ (b : Building). Builds hash Any b.profile bytes b.begun b.rows → c.close.new.touches + saved_over b.profile.width b.rows ≤ c.args.touches.now + length (file_plan hash b.profile bytes).blocks)
     c.self.view_is (c.close.ensures.most bytes)
 
-pub returns-in-Err-clause-most : goal.returns-in-Err-clause-most
+pub returns-in_err-entry-clause-most : goal.returns-in_err-entry-clause-most
 unfolding HasFed saved_by
-returns-in-Err-clause-most g c = λ bytes.
+returns-in_err-entry-clause-most g c = λ bytes.
     let hash : List ℕ → List ℕ = g.S.X.BlockHash.block32 in
     subst (λ (b : Building). Builds hash Any b.profile bytes b.begun b.rows → c.close.new.touches + saved_over b.profile.width b.rows ≤ c.args.touches.now + length (file_plan hash b.profile bytes).blocks)
     c.self.view_is (c.close.ensures.most bytes)

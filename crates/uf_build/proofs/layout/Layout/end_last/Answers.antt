@@ -12,7 +12,7 @@ pub returns-then-is_empty-clause-ends : goal.returns-then-is_empty-clause-ends
 returns-then-is_empty-clause-ends g c =
     let p = kept c.args.self.now.profile c.requires.can.profile in
     let none : length c.args.self.now.rows.items ≡ 0 = grind (arith, nat_tests, common_steps) in
-    on_ok_weaker c.end_piece.result (λ adds. Ends-saved g.S.X.BlockHash.block32 c.args.self.now.profile p.some p.two _ _ _ _ _ _ _ (inr (no-length _ none)) c.requires.room adds) c.end_piece.ensures.adds
+    on_ok_weaker c.end_piece.result (λ h. Ends-saved g.S.X.BlockHash.block32 c.args.self.now.profile p.some p.two _ _ _ _ _ _ _ (inr (no-length _ none)) c.requires.can.room h.adds) c.end_piece.ensures.ends
 
 pub returns-then-is_empty-2-clause-ends : goal.returns-then-is_empty-2-clause-ends
 returns-then-is_empty-2-clause-ends g c =
@@ -25,7 +25,7 @@ pub returns-clause-ends : goal.returns-clause-ends
 returns-clause-ends g c =
     let p = kept c.args.self.now.profile c.requires.can.profile in
     let some : 1 ≤ length c.args.self.now.begun.items = grind (arith, nat_tests, common_steps) in
-    on_ok_weaker c.end_piece-2.result (λ adds. Ends-saved g.S.X.BlockHash.block32 c.args.self.now.profile p.some p.two _ _ _ _ _ _ _ (inl some) c.requires.room adds) c.end_piece-2.ensures.adds
+    on_ok_weaker c.end_piece-2.result (λ h. Ends-saved g.S.X.BlockHash.block32 c.args.self.now.profile p.some p.two _ _ _ _ _ _ _ (inl some) c.requires.can.room h.adds) c.end_piece-2.ensures.ends
 
 pub returns-then-is_empty-clause-most : goal.returns-then-is_empty-clause-most
 returns-then-is_empty-clause-most g c =
@@ -33,7 +33,7 @@ returns-then-is_empty-clause-most g c =
     let none : length c.args.self.now.rows.items ≡ 0 = grind (arith, nat_tests, common_steps) in
     on_err_given c.end_piece.result
     (last-most g.S.X.BlockHash.block32 c.args.self.now.profile p.some p.two c.args.self.now.begun.items c.args.self.now.rows.items c.args.touches.now c.end_piece.new.touches
-    (inr (no-length _ none)) c.requires.room c.end_piece.ensures.most)
+    (inr (no-length _ none)) c.requires.can.room c.end_piece.ensures.within.most)
 
 pub returns-clause-most : goal.returns-clause-most
 returns-clause-most g c =
@@ -41,4 +41,4 @@ returns-clause-most g c =
     let some : 1 ≤ length c.args.self.now.begun.items = grind (arith, nat_tests, common_steps) in
     on_err_given c.end_piece-2.result
     (last-most g.S.X.BlockHash.block32 c.args.self.now.profile p.some p.two c.args.self.now.begun.items c.args.self.now.rows.items c.args.touches.now c.end_piece-2.new.touches
-    (inl some) c.requires.room c.end_piece-2.ensures.most)
+    (inl some) c.requires.can.room c.end_piece-2.ensures.within.most)

@@ -1,27 +1,30 @@
 use Rattle.std.proofs.Common.{◌≡◌, ℕ, ◌+◌, ◌-◌, ◌*◌, ◌≤◌, List, ◌++◌, length, take, drop, arith, ap, sym, ◌∙◌, subst}
 use Rattle.std.proofs.lemmas.List.{take-append-drop}
-use Rattle.uf_store.proofs.Keeping.{KeepsGood-trans}
-use Rattle.uf_store.proofs.Writing.{SavesOnly-trans}
-use Rattle.uf_store.proofs.Causes.{StaysCalm-trans}
+use Rattle.std.proofs.lemmas.Result.{err_from_is_err_and}
 use Rattle.uf_tree.specs.declared.profile.Profile.{Profile}
 use Rattle.uf_tree.specs.FilePlan.{leaf_part}
 use Rattle.uf_tree.proofs.Told.{kept}
 use Rattle.uf_build.specs.Building.{Adds, Feeds, SavesUpTo}
 use Rattle.uf_build.specs.Layouts.{Takes}
 use Rattle.uf_build.specs.Rows.{push_row, saved_over}
+use Rattle.uf_build.proofs.Calls.{builds-builds}
 use Rattle.uf_build.proofs.Cutting.{more, piece-size, whole}
 use Rattle.uf_build.proofs.Ending.{up-to-behind, up-to-front, up-to-piece}
 use Rattle.uf_build.proofs.Feeding.{Feeds-piece, Feeds-trans}
+use Rattle.uf_build.proofs.Holding.{on_err_given}
 use Rattle.uf_build.proofs.layout.Layout.save_group.Goals as goal
 
-pub returns-in-Err-clause-good : goal.returns-in-Err-clause-good
-returns-in-Err-clause-good g c = KeepsGood-trans _ _ _ _ c.loop-i.invariant.good c.save_leaf.ensures.good
+pub returns-in_err-save_leaf-clause-builds : goal.returns-in_err-save_leaf-clause-builds
+returns-in_err-save_leaf-clause-builds g c =
+    let out = err_from_is_err_and c.from_residual.result c.from_residual.ensures.1 in
+    rw (out.1, out.2) (builds-builds c.loop-i.invariant.builds c.in_err-save_leaf.ensures.builds)
 
 pub loop-i-preserved : goal.loop-i-preserved
 loop-i-preserved g c =
     let hash : List ℕ → List ℕ = g.S.X.BlockHash.block32 in
     let p = c.args.self.now.profile in
-    let two = (kept c.args.self.now.profile c.requires.can.profile).two in
+    let is_kept = kept c.args.self.now.profile c.requires.can.profile in
+    let two = is_kept.two in
     let i = c.loop-i.i in
     let bytes = c.args.bytes.now in
     let before = (g.S.Store.seen c.args.store.now).told in
@@ -29,10 +32,11 @@ loop-i-preserved g c =
     let now = (g.S.Store.seen c.save_leaf.new.store).told in
     let piece : List ℕ = take (i * p.chunk + p.chunk - i * p.chunk) (drop (i * p.chunk) bytes) in
     let size : length piece ≡ p.chunk = piece-size bytes i p.chunk c.args.count (omega arith) c.requires.count in
-    let adds = subst (λ (q : Profile). Adds hash q piece c.loop-i.self.rows.items c.save_leaf.new.rows.items mid now c.loop-i.touches c.save_leaf.new.touches) c.loop-i.invariant.profile c.in-Ok.ensures.adds in
+    let adds = subst (λ (q : Profile). Adds hash q piece c.loop-i.self.rows.items c.save_leaf.new.rows.items mid now c.loop-i.touches c.save_leaf.new.touches) c.loop-i.invariant.profile c.in_ok-save_leaf.ensures.adds in
     record {
       took = record {
         same_profile = c.loop-i.invariant.profile;
+        room = omega (arith, ap length c.loop-i.invariant.begun, is_kept.some);
         feeds = subst (λ (l : List ℕ). Feeds hash p l c.args.self.now.begun.items c.loop-i.self.begun.items c.args.self.now.rows.items c.save_leaf.new.rows.items before now c.args.touches.now c.save_leaf.new.touches)
             (sym (more bytes i p.chunk))
             (Feeds-trans hash p two (take (i * p.chunk) bytes) piece c.args.self.now.begun.items c.loop-i.self.begun.items c.loop-i.self.begun.items
@@ -42,19 +46,20 @@ loop-i-preserved g c =
       };
       profile = c.loop-i.invariant.profile;
       begun = c.loop-i.invariant.begun;
-      calm = StaysCalm-trans _ _ _ c.loop-i.invariant.calm c.in-Ok.ensures.cause;
-      good = KeepsGood-trans _ _ _ _ c.loop-i.invariant.good c.save_leaf.ensures.good;
-      saves = SavesOnly-trans _ _ _ _ c.loop-i.invariant.saves c.save_leaf.ensures.saves;
+      builds = builds-builds c.loop-i.invariant.builds c.in_ok-save_leaf.ensures.builds;
     }
 
 pub returns-clause-took : goal.returns-clause-took
 returns-clause-took g c =
     let is : c.loop-i.i ≡ c.args.count = omega (arith, c.loop-i.auto.i-end) in
-    subst (λ (l : List ℕ). Takes g.S.X.BlockHash.block32 l c.args.self.now c.loop-i.self (g.S.Store.seen c.args.store.now).told (g.S.Store.seen c.loop-i.store).told c.args.touches.now c.loop-i.touches)
-    (whole c.args.bytes.now c.loop-i.i c.args.self.now.profile.chunk c.args.count is c.requires.count) c.loop-i.invariant.took
+    record {
+      takes = subst (λ (l : List ℕ). Takes g.S.X.BlockHash.block32 l c.args.self.now c.loop-i.self (g.S.Store.seen c.args.store.now).told (g.S.Store.seen c.loop-i.store).told c.args.touches.now c.loop-i.touches)
+          (whole c.args.bytes.now c.loop-i.i c.args.self.now.profile.chunk c.args.count is c.requires.count) c.loop-i.invariant.took;
+      begun = c.loop-i.invariant.begun ∙ sym c.requires.begun;
+    }
 
-pub returns-in-Err-clause-most : goal.returns-in-Err-clause-most
-returns-in-Err-clause-most g c =
+pub returns-in_err-save_leaf-clause-stops : goal.returns-in_err-save_leaf-clause-stops
+returns-in_err-save_leaf-clause-stops g c =
     let hash : List ℕ → List ℕ = g.S.X.BlockHash.block32 in
     let p = c.args.self.now.profile in
     let is_kept = kept c.args.self.now.profile c.requires.can.profile in
@@ -70,9 +75,9 @@ returns-in-Err-clause-most g c =
     (ap (λ (l : List ℕ). l ++ piece) c.loop-i.invariant.begun) size one in
     let most = up-to-behind hash p is_kept.some is_kept.two (take (i * p.chunk) bytes) piece c.args.self.now.begun.items c.loop-i.self.begun.items c.args.self.now.rows.items c.loop-i.self.rows.items before mid
     c.args.touches.now c.loop-i.touches c.save_leaf.new.touches c.loop-i.invariant.took.feeds next in
-    subst (λ (l : List ℕ). SavesUpTo hash p l c.args.self.now.begun.items c.args.self.now.rows.items c.args.touches.now c.save_leaf.new.touches)
-    (ap (λ (l : List ℕ). l ++ drop ((i + 1) * p.chunk) bytes) (sym (more bytes i p.chunk)) ∙ take-append-drop ((i + 1) * p.chunk) bytes)
-    (up-to-front hash p is_kept.some is_kept.two (take (i * p.chunk) bytes ++ piece) (drop ((i + 1) * p.chunk) bytes) c.args.self.now.begun.items c.args.self.now.rows.items c.args.touches.now c.save_leaf.new.touches most)
-
-pub returns-in-Err-clause-saves : goal.returns-in-Err-clause-saves
-returns-in-Err-clause-saves g c = SavesOnly-trans _ _ _ _ c.loop-i.invariant.saves c.save_leaf.ensures.saves
+    on_err_given c.from_residual.result (record {
+      same_profile = c.loop-i.invariant.profile;
+      most = subst (λ (l : List ℕ). SavesUpTo hash p l c.args.self.now.begun.items c.args.self.now.rows.items c.args.touches.now c.save_leaf.new.touches)
+          (ap (λ (l : List ℕ). l ++ drop ((i + 1) * p.chunk) bytes) (sym (more bytes i p.chunk)) ∙ take-append-drop ((i + 1) * p.chunk) bytes)
+          (up-to-front hash p is_kept.some is_kept.two (take (i * p.chunk) bytes ++ piece) (drop ((i + 1) * p.chunk) bytes) c.args.self.now.begun.items c.args.self.now.rows.items c.args.touches.now c.save_leaf.new.touches most);
+    })
