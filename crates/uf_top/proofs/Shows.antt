@@ -1,6 +1,6 @@
 -- What the answers of calls in a row show.
 use Rattle.std.proofs.Common.{◌≡◌, ℕ, ◌≤◌, List, true, arith, refl, sym, ap, subst, inl, inr, Some, None, Result, Ok, Err}
-use Rattle.uf_build.specs.Answers.{IsSaving}
+use Rattle.uf_store.specs.Clashes.{IsSaving}
 use Rattle.uf_edge.specs.Counts.{Rose, Stood}
 use Rattle.uf_mfs.specs.Answers.{ShownInTree, ShownOpening}
 use Rattle.uf_mfs.specs.Bad.{IsBad}

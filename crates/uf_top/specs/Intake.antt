@@ -3,7 +3,7 @@ use Rattle.std.specs.Prelude.{◌≡◌, ℕ, ◌+◌, ◌<◌, ◌≤◌, List,
 use Rattle.std.specs.declared.result.Result.{Result}
 use Rattle.std.specs.declared.result.Result.TheVariants.{Ok, Err}
 use Rattle.uf_tree.specs.Profiles.{most_bytes}
-use Rattle.uf_build.specs.Answers.{IsSaving}
+use Rattle.uf_store.specs.Clashes.{IsSaving}
 use Rattle.uf_build.specs.Building.{Building, HasFed, HoldsFed}
 use Rattle.uf_edge.specs.Streams.{Told, before, IsAtEnd}
 use Rattle.uf_mfs.specs.declared.types.Rule.TheVariants.{FileTooLong}
