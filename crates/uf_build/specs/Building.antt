@@ -1,5 +1,5 @@
 -- What contracts see of a builder of a file.
-use Rattle.std.specs.Prelude.{◌≡◌, ℕ, ◌+◌, ◌*◌, ◌<◌, ◌≤◌, List, [], ◌∷◌, ◌++◌, length, map, Bool, ⊤}
+use Rattle.std.specs.Prelude.{◌≡◌, ℕ, ◌+◌, ◌<◌, ◌≤◌, List, [], ◌∷◌, ◌++◌, length, map, Bool, ⊤}
 use Rattle.std.specs.List.{AllByRecursion}
 use Rattle.uf_tree.specs.Profiles.{most_bytes}
 use Rattle.uf_cid.specs.Blocks.{Held}
