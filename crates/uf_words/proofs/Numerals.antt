@@ -23,17 +23,19 @@ has_bytes : (word : List ℕ) → is_numeral word ≡ true → 0 < length word
 has_bytes word h = grind (arith, nat_tests)
 
 small_enough : (word : List ℕ) → is_numeral word ≡ true → decimal_from 0 word < 2 ^ 64 → number_of word ≡ Some (decimal_from 0 word)
+unfolding number_of
 small_enough word h small = grind (arith, nat_tests)
 
 too_great : (word : List ℕ) → is_numeral word ≡ true → ¬ (decimal_from 0 word < 2 ^ 64) → number_of word ≡ None
+unfolding number_of
 too_great word h great = grind (arith, nat_tests)
 
-pub number_read : (E : Type 0) (word : List ℕ) (value : ℕ) → is_numeral word ≡ true → ParsesUnsigned {E = E} 64 10 word (Ok value) → Some value ≡ number_of word
+pub number_read : (E : Type 0) (word : List ℕ) (value : ℕ) → is_numeral word ≡ true → ParsesUnsigned {E = E} 64 10 word (Ok value) → number_of word ≡ Some value
 number_read E word value h parsed =
     let told = parse_digits own {E = E} 64 word (Ok value) parsed (all_digits word h) in
-    ap (λ (n : ℕ). Some n) told.1 ∙ sym (small_enough word h told.0.1)
+    small_enough word h told.0.1 ∙ ap (λ (n : ℕ). Some n) (sym told.1)
 
-pub number_refused : (E : Type 0) (word : List ℕ) (e : E) → is_numeral word ≡ true → ParsesUnsigned {E = E} 64 10 word (Err e) → None ≡ number_of word
+pub number_refused : (E : Type 0) (word : List ℕ) (e : E) → is_numeral word ≡ true → ParsesUnsigned {E = E} 64 10 word (Err e) → number_of word ≡ None
 number_refused E word e h parsed =
     let told = parse_digits own {E = E} 64 word (Err e) parsed (all_digits word h) in
-    sym (too_great word h (λ small. told (has_bytes word h, small)))
+    too_great word h (λ small. told (has_bytes word h, small))

@@ -5,6 +5,7 @@ mod command;
 mod options;
 mod printing;
 mod reading;
+mod table;
 
 pub use command::{Cmd, WordFault};
 pub use printing::{shown, shown_text_is_read_again};
