@@ -69,7 +69,7 @@ unfoldable pub add_words : List (List ℕ) → Option Cmd
 add_words words = do
   found ← found_by add_options words
   add_of (is_flagged (codes "recursive") found) (is_flagged (codes "only-hash") found)
-    (first_of (codes "to-files") found) (first_of (codes "HOSTPATH") found)
+      (first_of (codes "to-files") found) (first_of (codes "HOSTPATH") found)
 
 -- a command of one argument
 unfoldable pub one_argument : List ℕ → List (List ℕ) → Option (List ℕ)

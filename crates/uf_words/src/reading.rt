@@ -155,7 +155,12 @@ fn read_add(alloc: Global, words: &[String]) -> Result<Cmd, WordFault>
     let found = find(add_command(alloc)?, words)?;
     let to_files = text_or_none(alloc, &found, "to-files")?;
     let host_path = text_or_none(alloc, &found, "HOSTPATH")?;
-    add(is_given(&found, "recursive"), is_given(&found, "only-hash"), to_files, host_path)
+    add(
+        is_given(&found, "recursive"),
+        is_given(&found, "only-hash"),
+        to_files,
+        host_path,
+    )
 }
 
 // `add` with these options, where they go together.
@@ -194,7 +199,7 @@ fn is_placed_well(only_hash: bool, to_files: &Option<Text>, is_named: bool) -> b
 fn ends_in_slash(text: &str) -> bool
     ensures { result ≡ ends_with_slash text.now }
 {
-    matches!(text.as_bytes().last(), Some(b'/'))
+    matches!(text.as_bytes(), [.., b'/'])
 }
 
 // `files ls [-l] [PATH]`

@@ -61,7 +61,10 @@ pub fn write_command<'a>(alloc: Global) -> Result<Command<'a>, AllocError>
     ensures made { IfOk result (λ command. app_of command ≡ write_options) }
     ensures simple { IfOk result (λ command. is_simple_and_free (app_of command) ≡ true) }
 {
-    let command = with(write_place_command(alloc)?, valued_short_arg(alloc, "hex", 'x'))?;
+    let command = with(
+        write_place_command(alloc)?,
+        valued_short_arg(alloc, "hex", 'x'),
+    )?;
     with(command, argument_arg(alloc, "PATH"))
 }
 
