@@ -1,5 +1,5 @@
 // Commands, and why words are none.
-use std::alloc::AllocError;
+use std::alloc::{AllocError, AllocFailed};
 use uf_cid::{Block, Memory, Text};
 use uf_tree::Profile;
 
@@ -29,6 +29,17 @@ impl From<AllocError> for WordFault {
     ghost from_gives = { λ _ fault. fault ≡ faults.Memory };
 
     fn from(_: AllocError) -> Self {
+        WordFault::Memory
+    }
+}
+
+impl<T: Drop> From<AllocFailed<T>> for WordFault {
+    ghost use Rattle.std.specs.Prelude.{◌≡◌};
+    ghost use Rattle.uf_words.specs.declared.command.WordFault.TheVariants as faults;
+
+    ghost from_gives = { λ _ fault. fault ≡ faults.Memory };
+
+    fn from(_: AllocFailed<T>) -> Self {
         WordFault::Memory
     }
 }
