@@ -17,16 +17,3 @@ shown_byte b = if is_plain b then b ∷ [] else 37 ∷ hex_digit (b / 16) ∷ he
 abbrev pub shown_bytes : List ℕ → List ℕ
 shown_bytes [] = []
 shown_bytes (b ∷ rest) = shown_byte b ++ shown_bytes rest
-
--- the number of an upper case hexadecimal digit
-abbrev pub hex_value : ℕ → ℕ
-hex_value c = if nat_lt c 58 then c - 48 else c - 55
-
--- the bytes that printed bytes stand for: `%` and two digits for one byte, each other byte for itself
-abbrev pub read_again : List ℕ → List ℕ
-read_again [] = []
-read_again (b ∷ []) = b ∷ []
-read_again (b ∷ high ∷ []) = b ∷ high ∷ []
-read_again (b ∷ high ∷ low ∷ rest) =
-    if b == 37 then (hex_value high * 16 + hex_value low) ∷ read_again rest
-    else b ∷ read_again (high ∷ low ∷ rest)
