@@ -1,19 +1,19 @@
 -- Which command a list of words is: the first words are compared exactly, and behind them stand the options and arguments of
 -- the command, as `clap` reads them.
-use Rattle.std.specs.Prelude.{◌≡◌, ◌&&◌, ◌||◌, ◌==◌, ℕ, Bool, true, false, not, List, [], ◌∷◌, ◌++◌, codes, nat_le, if◌then◌else◌, IsTrue, is_some, unwrap_or, slice_index, length, ◌-◌}
+use Rattle.std.specs.Prelude.{◌≡◌, ◌&&◌, ◌||◌, ℕ, Bool, true, not, List, [], ◌∷◌, ◌++◌, codes, nat_le, if◌then◌else◌, IsTrue, is_some, unwrap_or, slice_index, length, ◌-◌}
 use Rattle.std.specs.Str.{bytes_eq}
 use Rattle.std.specs.Option.{option_map, option_and_then}
 use Rattle.std.specs.declared.option.Option.{Option}
 use Rattle.std.specs.declared.option.Option.TheVariants.{None, Some}
 use Rattle.std.specs.declared.result.Result.{Result}
 use Rattle.std.specs.declared.result.Result.TheVariants.{Ok, Err}
-use Rattle.clap.specs.Walk.{Row, Rule, first_of}
+use Rattle.clap.specs.Walk.{Rule, first_of}
 use Rattle.clap.specs.Simple.{App}
 use Rattle.hex.specs.Hex.{decode_of}
 use Rattle.uf_path.specs.Paths.{is_slash}
 use Rattle.uf_tree.specs.Profiles.{is_profile}
 use Rattle.uf_tree.specs.declared.profile.Profile.{Profile}
-use Rattle.uf_words.specs.Options.{argument, flag, found_by, found_in, is_flagged, simple_command, number_at, number_of, number_or, optional, valued, valued_short}
+use Rattle.uf_words.specs.Options.{argument, flag, found_by, found_in, is_flagged, simple_command, number_of, number_or, optional, valued, valued_short}
 use Rattle.uf_words.specs.declared.command.Cmd.{Cmd}
 use Rattle.uf_words.specs.declared.command.Cmd.TheVariants as cmd
 use Rattle.uf_words.specs.declared.command.WordFault.{WordFault}

@@ -1,5 +1,5 @@
 -- The words of a line (percent-encoding, RFC 3986 section 2.1).
-use Rattle.std.specs.Prelude.{◌≡◌, ◌==◌, ℕ, Bool, List, [], ◌∷◌, map}
+use Rattle.std.specs.Prelude.{◌==◌, ℕ, Bool, List, [], ◌∷◌}
 use Rattle.std.specs.List.{flat_map, slice_split}
 use Rattle.percent_encoding.specs.Percent.{percent_decode}
 

@@ -1,5 +1,5 @@
 -- Texts as they are printed (percent-encoding, RFC 3986 section 2.1).
-use Rattle.std.specs.Prelude.{ℕ, ◌+◌, ◌-◌, ◌*◌, ◌/◌, ◌%◌, ◌==◌, ◌&&◌, not, Bool, List, [], ◌∷◌, ◌++◌, nat_lt, if◌then◌else◌}
+use Rattle.std.specs.Prelude.{ℕ, ◌+◌, ◌/◌, ◌%◌, ◌==◌, ◌&&◌, not, Bool, List, [], ◌∷◌, ◌++◌, nat_lt, if◌then◌else◌}
 
 -- the byte is printed as it is: it stands for a character of ASCII that has ink, and isn't `%`
 abbrev pub is_plain : ℕ → Bool

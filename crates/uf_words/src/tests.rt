@@ -5,7 +5,9 @@ use uf_cid::{Block, Text};
 
 mod rows;
 
-use rows::{REFUSED, ROWS};
+use rows::{
+    ADD_FLAGS, ADD_HOSTS, ADD_PLACES, LINES, READ_COUNTS, READ_OFFSETS, READ_PATHS, REFUSED, ROWS,
+};
 
 // The words of a line, cut at each space.
 fn words_of(alloc: Global, line: &str) -> Result<Vec<String>, AllocError> {
@@ -136,6 +138,120 @@ fn words_of_no_command(rt: HostRuntime) -> Result<(), Fail> {
     for line in REFUSED {
         assert_eq!(rt; answer(rt.alloc(), line)?.as_str(), "usage", "at {line}");
     }
+    Ok(())
+}
+
+// The words that `files read` and these three parts make, in one order or the other.
+fn reading_line(alloc: Global, n: usize) -> Result<String, AllocError> {
+    let offset = READ_OFFSETS[n % 10].0;
+    let count = READ_COUNTS[n / 10 % 5].0;
+    let path = READ_PATHS[n / 50 % 5].0;
+    if n / 250 % 2 == 0 {
+        format!(in alloc; "files read{offset}{count}{path}")
+    } else {
+        format!(in alloc; "files read{path}{count}{offset}")
+    }
+}
+
+// What they are: refused where a part is, or where options stand behind `--`.
+fn reading_told(alloc: Global, n: usize) -> Result<String, AllocError> {
+    let (offset_words, offset) = READ_OFFSETS[n % 10];
+    let (count_words, count) = READ_COUNTS[n / 10 % 5];
+    let (path_words, path) = READ_PATHS[n / 50 % 5];
+    let is_behind = n / 250 % 2 == 1
+        && path_words.starts_with(" --")
+        && !(offset_words.is_empty() && count_words.is_empty());
+    if offset == "!" || count == "!" || path == "!" || is_behind {
+        format!(in alloc; "usage")
+    } else {
+        format!(in alloc; "read|{offset}|{count}|{path}")
+    }
+}
+
+// Five hundred lists of words of one command, each with what it is by the table of its parts.
+#[test]
+fn reading_lists(rt: HostRuntime) -> Result<(), Fail> {
+    for n in 0..500 {
+        let line = reading_line(rt.alloc(), n)?;
+        assert_eq!(rt;
+            answer(rt.alloc(), &line)?,
+            reading_told(rt.alloc(), n)?,
+            "at {line}"
+        );
+    }
+    Ok(())
+}
+
+// The words that `add` and these three parts make, in one order or the other.
+fn adding_line(alloc: Global, n: usize) -> Result<String, AllocError> {
+    let flags = ADD_FLAGS[n % 10].0;
+    let place = ADD_PLACES[n / 10 % 5].0;
+    let host = ADD_HOSTS[n / 50 % 5].0;
+    if n / 250 % 2 == 0 {
+        format!(in alloc; "add{flags}{place}{host}")
+    } else {
+        format!(in alloc; "add{host}{place}{flags}")
+    }
+}
+
+// What they are: refused where a part is, where options stand behind `--`, and where the options don't go together.
+fn adding_told(alloc: Global, n: usize) -> Result<String, AllocError> {
+    let (flag_words, flags) = ADD_FLAGS[n % 10];
+    let (place_words, place) = ADD_PLACES[n / 10 % 5];
+    let (host_words, host) = ADD_HOSTS[n / 50 % 5];
+    let is_behind = n / 250 % 2 == 1
+        && host_words.starts_with(" --")
+        && !(flag_words.is_empty() && place_words.is_empty());
+    let is_lost = place != "." && (flags.ends_with("true") || place.ends_with("/") && host == ".");
+    if flags == "!" || place == "!" || host == "!" || is_behind || is_lost {
+        format!(in alloc; "usage")
+    } else {
+        format!(in alloc; "add|{flags}|{place}|{host}")
+    }
+}
+
+// Five hundred more.
+#[test]
+fn adding_lists(rt: HostRuntime) -> Result<(), Fail> {
+    for n in 0..500 {
+        let line = adding_line(rt.alloc(), n)?;
+        assert_eq!(rt;
+            answer(rt.alloc(), &line)?,
+            adding_told(rt.alloc(), n)?,
+            "at {line}"
+        );
+    }
+    Ok(())
+}
+
+// The words of a line, each behind `|`, or `usage`.
+fn told_of_line(alloc: Global, line: &str) -> Result<String, AllocError> {
+    let words = match split_line(alloc, line.as_bytes()) {
+        Ok(words) => words,
+        Err(_) => return format!(in alloc; "usage"),
+    };
+    let mut told = String::new(alloc);
+    for word in &words {
+        told.push('|')?;
+        told.push_str(word)?;
+    }
+    Ok(told)
+}
+
+// Lines and their words.
+#[test]
+fn lines(rt: HostRuntime) -> Result<(), Fail> {
+    for (line, expected) in LINES {
+        assert_eq!(rt;
+            told_of_line(rt.alloc(), line)?.as_str(),
+            expected,
+            "at {line}"
+        );
+    }
+    assert_eq!(rt;
+        split_line(rt.alloc(), b"a \xff").err(),
+        Some(WordFault::Usage)
+    );
     Ok(())
 }
 

@@ -283,3 +283,93 @@ pub const REFUSED: [&str; 146] = [
     "unixfs init",
     " init",
 ];
+
+// Words of an offset and the number that they are; `!` where they are refused.
+pub const READ_OFFSETS: [(&str, &str); 10] = [
+    ("", "0"),
+    (" -o 5", "5"),
+    (" -o5", "5"),
+    (" --offset=6", "6"),
+    (" --offset 18446744073709551615", "18446744073709551615"),
+    (" -o 18446744073709551616", "!"),
+    (" --offset=000000000000000000001", "!"),
+    (" -o=7", "7"),
+    (" -o ", "!"),
+    (" -o=", "!"),
+];
+
+// Words of a count.
+pub const READ_COUNTS: [(&str, &str); 5] = [
+    ("", "18446744073709551615"),
+    (" -n 3", "3"),
+    (" --count=0", "0"),
+    (" -n 1 --count 1", "!"),
+    (" -n", "!"),
+];
+
+// Words of a path.
+pub const READ_PATHS: [(&str, &str); 5] = [
+    (" /f", "/f"),
+    (" a=b", "a=b"),
+    (" ", ""),
+    (" -- -f", "-f"),
+    ("", "!"),
+];
+
+// Flags of `add`: whether recursive, and whether only hashed.
+pub const ADD_FLAGS: [(&str, &str); 10] = [
+    ("", "false|false"),
+    (" -r", "true|false"),
+    (" -n", "false|true"),
+    (" -nr", "true|true"),
+    (" -r --only-hash", "true|true"),
+    (" --recursive", "true|false"),
+    (" --only-hash", "false|true"),
+    (" -nn", "!"),
+    (" -r --recursive", "!"),
+    (" -x", "!"),
+];
+
+// Where `add` puts what it reads.
+pub const ADD_PLACES: [(&str, &str); 5] = [
+    ("", "."),
+    (" --to-files /a", "/a"),
+    (" --to-files=/a/", "/a/"),
+    (" --to-files=a=b", "a=b"),
+    (" --to-files /a --to-files=/a", "!"),
+];
+
+// What `add` reads.
+pub const ADD_HOSTS: [(&str, &str); 5] = [
+    ("", "."),
+    (" f", "f"),
+    (" ", ""),
+    (" -- -f", "-f"),
+    (" f g", "!"),
+];
+
+// Lines and their words, each behind `|`.
+pub const LINES: [(&str, &str); 22] = [
+    ("", ""),
+    ("   ", ""),
+    ("a", "|a"),
+    ("a b", "|a|b"),
+    ("  a   b  ", "|a|b"),
+    ("a\tb", "|a\tb"),
+    ("a+b", "|a+b"),
+    ("a%20b c", "|a b|c"),
+    ("%", "|%"),
+    ("%4", "|%4"),
+    ("%zz", "|%zz"),
+    ("%41%62", "|Ab"),
+    ("%2f%2F", "|//"),
+    ("%25", "|%"),
+    ("%2520", "|%20"),
+    ("ä", "|ä"),
+    ("%c3%a4", "|ä"),
+    ("%c3", "usage"),
+    ("a %ff b", "usage"),
+    ("%e2%82", "usage"),
+    ("%00", "|\0"),
+    ("a\n", "|a\n"),
+];

@@ -1,4 +1,4 @@
-use Rattle.std.proofs.Common.{map, ◌∙◌, sym, subst}
+use Rattle.std.proofs.Common.{map, ◌∙◌}
 use Rattle.std.specs.Prelude.{string_bytes}
 use Rattle.clap.specs.Simple.{app_of}
 use Rattle.clap.specs.Faults.{fault_of}

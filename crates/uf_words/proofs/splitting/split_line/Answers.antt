@@ -1,4 +1,4 @@
-use Rattle.std.proofs.Common.{◌≡◌, Err, map, ℕ, List, [], sym, ◌∙◌, ap, subst, arith, length, get_or, Bor}
+use Rattle.std.proofs.Common.{◌≡◌, map, ℕ, List, [], ◌∙◌, ap, subst, arith, get_or, Bor}
 use Rattle.std.specs.Prelude.{string_bytes, All, IsUtf8}
 use Rattle.std.proofs.lemmas.Result.{err_from_is_err_and}
 use Rattle.uf_words.specs.declared.command.WordFault.TheVariants.{Usage}
