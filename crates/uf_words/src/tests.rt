@@ -5,9 +5,7 @@ use uf_cid::{Block, Text};
 
 mod rows;
 
-use rows::{
-    ADD_FLAGS, ADD_HOSTS, ADD_PLACES, LINES, READ_COUNTS, READ_OFFSETS, READ_PATHS, REFUSED, ROWS,
-};
+use rows::{FRONT_PATHS, LINES, READ_COUNTS, READ_OFFSETS, READ_PATHS, REFUSED, ROWS};
 
 // The words of a line, cut at each space.
 fn words_of(alloc: Global, line: &str) -> Result<Vec<String>, AllocError> {
@@ -141,85 +139,65 @@ fn words_of_no_command(rt: HostRuntime) -> Result<(), Fail> {
     Ok(())
 }
 
-// The words that `files read` and these three parts make, in one order or the other.
-fn reading_line(alloc: Global, n: usize) -> Result<String, AllocError> {
-    let offset = READ_OFFSETS[n % 10].0;
-    let count = READ_COUNTS[n / 10 % 5].0;
-    let path = READ_PATHS[n / 50 % 5].0;
-    if n / 250 % 2 == 0 {
-        format!(in alloc; "files read{offset}{count}{path}")
-    } else {
-        format!(in alloc; "files read{path}{count}{offset}")
-    }
+// Whether one part is refused.
+fn is_refused(one: &str, other: &str, third: &str) -> bool {
+    one == "!" || other == "!" || third == "!"
 }
 
-// What they are: refused where a part is, or where options stand behind `--`.
-fn reading_told(alloc: Global, n: usize) -> Result<String, AllocError> {
-    let (offset_words, offset) = READ_OFFSETS[n % 10];
-    let (count_words, count) = READ_COUNTS[n / 10 % 5];
-    let (path_words, path) = READ_PATHS[n / 50 % 5];
-    let is_behind = n / 250 % 2 == 1
-        && path_words.starts_with(" --")
-        && !(offset_words.is_empty() && count_words.is_empty());
-    if offset == "!" || count == "!" || path == "!" || is_behind {
+// What an offset, a count and a path say.
+fn reading_told(
+    alloc: Global,
+    offset: &str,
+    count: &str,
+    path: &str,
+) -> Result<String, AllocError> {
+    if is_refused(offset, count, path) {
         format!(in alloc; "usage")
     } else {
         format!(in alloc; "read|{offset}|{count}|{path}")
     }
 }
 
-// Five hundred lists of words of one command, each with what it is by the table of its parts.
+// Whether words of an offset, of a count and of each path are read as the tables say.
+fn are_read(alloc: Global, offset: (&str, &str), count: (&str, &str)) -> Result<bool, AllocError> {
+    let mut all = true;
+    for (path_words, path) in READ_PATHS {
+        let (offset_words, count_words) = (offset.0, count.0);
+        let line = format!(in alloc; "files read{offset_words}{count_words}{path_words}")?;
+        all &= answer(alloc, &line)? == reading_told(alloc, offset.1, count.1, path)?;
+    }
+    Ok(all)
+}
+
+// The same of each count, in front of the offset too.
+fn offset_is_read(alloc: Global, offset: (&str, &str)) -> Result<bool, AllocError> {
+    let mut all = true;
+    for count in READ_COUNTS {
+        all &= are_read(alloc, offset, count)? && are_read_turned(alloc, offset, count)?;
+    }
+    Ok(all)
+}
+
+// The same with the path in front, where no `--` ends the options.
+fn are_read_turned(
+    alloc: Global,
+    offset: (&str, &str),
+    count: (&str, &str),
+) -> Result<bool, AllocError> {
+    let mut all = true;
+    for (path_words, path) in FRONT_PATHS {
+        let (offset_words, count_words) = (offset.0, count.0);
+        let line = format!(in alloc; "files read{path_words}{count_words}{offset_words}")?;
+        all &= answer(alloc, &line)? == reading_told(alloc, offset.1, count.1, path)?;
+    }
+    Ok(all)
+}
+
+// Lists of words that are made of parts, each with what it is by the tables of its parts: 550 of them.
 #[test]
-fn reading_lists(rt: HostRuntime) -> Result<(), Fail> {
-    for n in 0..500 {
-        let line = reading_line(rt.alloc(), n)?;
-        assert_eq!(rt;
-            answer(rt.alloc(), &line)?,
-            reading_told(rt.alloc(), n)?,
-            "at {line}"
-        );
-    }
-    Ok(())
-}
-
-// The words that `add` and these three parts make, in one order or the other.
-fn adding_line(alloc: Global, n: usize) -> Result<String, AllocError> {
-    let flags = ADD_FLAGS[n % 10].0;
-    let place = ADD_PLACES[n / 10 % 5].0;
-    let host = ADD_HOSTS[n / 50 % 5].0;
-    if n / 250 % 2 == 0 {
-        format!(in alloc; "add{flags}{place}{host}")
-    } else {
-        format!(in alloc; "add{host}{place}{flags}")
-    }
-}
-
-// What they are: refused where a part is, where options stand behind `--`, and where the options don't go together.
-fn adding_told(alloc: Global, n: usize) -> Result<String, AllocError> {
-    let (flag_words, flags) = ADD_FLAGS[n % 10];
-    let (place_words, place) = ADD_PLACES[n / 10 % 5];
-    let (host_words, host) = ADD_HOSTS[n / 50 % 5];
-    let is_behind = n / 250 % 2 == 1
-        && host_words.starts_with(" --")
-        && !(flag_words.is_empty() && place_words.is_empty());
-    let is_lost = place != "." && (flags.ends_with("true") || place.ends_with("/") && host == ".");
-    if flags == "!" || place == "!" || host == "!" || is_behind || is_lost {
-        format!(in alloc; "usage")
-    } else {
-        format!(in alloc; "add|{flags}|{place}|{host}")
-    }
-}
-
-// Five hundred more.
-#[test]
-fn adding_lists(rt: HostRuntime) -> Result<(), Fail> {
-    for n in 0..500 {
-        let line = adding_line(rt.alloc(), n)?;
-        assert_eq!(rt;
-            answer(rt.alloc(), &line)?,
-            adding_told(rt.alloc(), n)?,
-            "at {line}"
-        );
+fn lists_of_parts(rt: HostRuntime) -> Result<(), Fail> {
+    for offset in READ_OFFSETS {
+        assert!(rt; offset_is_read(rt.alloc(), offset)?, "at {offset:?}");
     }
     Ok(())
 }

@@ -316,36 +316,14 @@ pub const READ_PATHS: [(&str, &str); 5] = [
     ("", "!"),
 ];
 
-// Flags of `add`: whether recursive, and whether only hashed.
-pub const ADD_FLAGS: [(&str, &str); 10] = [
-    ("", "false|false"),
-    (" -r", "true|false"),
-    (" -n", "false|true"),
-    (" -nr", "true|true"),
-    (" -r --only-hash", "true|true"),
-    (" --recursive", "true|false"),
-    (" --only-hash", "false|true"),
-    (" -nn", "!"),
-    (" -r --recursive", "!"),
-    (" -x", "!"),
-];
-
-// Where `add` puts what it reads.
-pub const ADD_PLACES: [(&str, &str); 5] = [
-    ("", "."),
-    (" --to-files /a", "/a"),
-    (" --to-files=/a/", "/a/"),
-    (" --to-files=a=b", "a=b"),
-    (" --to-files /a --to-files=/a", "!"),
-];
-
-// What `add` reads.
-pub const ADD_HOSTS: [(&str, &str); 5] = [
-    ("", "."),
-    (" f", "f"),
+// Words of a path that may stand in front.
+pub const FRONT_PATHS: [(&str, &str); 6] = [
+    (" /f", "/f"),
+    (" a=b", "a=b"),
     (" ", ""),
-    (" -- -f", "-f"),
-    (" f g", "!"),
+    (" -", "-"),
+    ("", "!"),
+    (" /f /g", "!"),
 ];
 
 // Lines and their words, each behind `|`.
