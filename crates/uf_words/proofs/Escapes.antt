@@ -12,7 +12,7 @@ use Rattle.std.specs.List.{flat_map, slice_split}
 use Rattle.std.proofs.lemmas.List.Elements.{All-cons, All-nil}
 use Rattle.std.proofs.lemmas.List.Splits.{slice_split_none}
 use Rattle.uf_words.specs.Lines.{is_space, line_words, word_in}
-use Rattle.uf_words.specs.Shown.{is_plain, hex_digit, shown_bytes}
+use Rattle.uf_words.specs.Shown.{is_plain, upper_hex, shown_bytes}
 use Rattle.uf_words.specs.declared.printing.TheConstants.{ESCAPED}
 
 both : (a b : Bool) → (a && b) ≡ true → (a ≡ true) × (b ≡ true)
@@ -58,19 +58,19 @@ kept b h =
     let e = in_the_set b below in
     grind (arith, nat_tests)
 
-two_digits : (b : ℕ) → b < 256 → percent_encode_byte b ≡ 37 ∷ hex_digit (b / 16) ∷ hex_digit (b % 16) ∷ []
+two_digits : (b : ℕ) → b < 256 → percent_encode_byte b ≡ 37 ∷ upper_hex (b / 16) ∷ upper_hex (b % 16) ∷ []
 unfolding percent_encode_byte
 two_digits b small =
     let e : b / 16 % 16 ≡ b / 16 = omega arith in
-    ap (λ (n : ℕ). 37 ∷ hex_digit n ∷ hex_digit (b % 16) ∷ []) e
+    ap (λ (n : ℕ). 37 ∷ upper_hex n ∷ upper_hex (b % 16) ∷ []) e
 
 pub shown_encoded : (bytes : List ℕ) → IsBytes bytes → percent_encode ESCAPED bytes ≡ shown_bytes bytes
 shown_encoded [] h = percent_encode-nil ESCAPED
 shown_encoded (b ∷ bytes) h =
     let rest = shown_encoded bytes h.1 in
     ⊎_elim
-    (λ (e : is_plain b ≡ true). percent_encode_kept ESCAPED b bytes (kept b e) ∙ ap (λ (bs : List ℕ). b ∷ bs) rest ∙ ap (λ (bs : List ℕ). bs ++ shown_bytes bytes) (sym (cond-true (is_plain b) (b ∷ []) (37 ∷ hex_digit (b / 16) ∷ hex_digit (b % 16) ∷ []) e)))
-    (λ (e : is_plain b ≡ false). percent_encode_escaped ESCAPED b bytes (escaped b e) ∙ ap (λ (bs : List ℕ). bs ++ percent_encode ESCAPED bytes) (two_digits b h.0) ∙ ap (λ (bs : List ℕ). (37 ∷ hex_digit (b / 16) ∷ hex_digit (b % 16) ∷ []) ++ bs) rest ∙ ap (λ (bs : List ℕ). bs ++ shown_bytes bytes) (sym (cond-false (is_plain b) (b ∷ []) (37 ∷ hex_digit (b / 16) ∷ hex_digit (b % 16) ∷ []) e)))
+    (λ (e : is_plain b ≡ true). percent_encode_kept ESCAPED b bytes (kept b e) ∙ ap (λ (bs : List ℕ). b ∷ bs) rest ∙ ap (λ (bs : List ℕ). bs ++ shown_bytes bytes) (sym (cond-true (is_plain b) (b ∷ []) (37 ∷ upper_hex (b / 16) ∷ upper_hex (b % 16) ∷ []) e)))
+    (λ (e : is_plain b ≡ false). percent_encode_escaped ESCAPED b bytes (escaped b e) ∙ ap (λ (bs : List ℕ). bs ++ percent_encode ESCAPED bytes) (two_digits b h.0) ∙ ap (λ (bs : List ℕ). (37 ∷ upper_hex (b / 16) ∷ upper_hex (b % 16) ∷ []) ++ bs) rest ∙ ap (λ (bs : List ℕ). bs ++ shown_bytes bytes) (sym (cond-false (is_plain b) (b ∷ []) (37 ∷ upper_hex (b / 16) ∷ upper_hex (b % 16) ∷ []) e)))
     (cases_Bool (is_plain b))
 
 -- what the indices of a list say, by its recursion

@@ -13,7 +13,7 @@ use Rattle.hex.specs.Hex.{decode_of}
 use Rattle.uf_path.specs.Paths.{is_slash}
 use Rattle.uf_tree.specs.Profiles.{is_profile}
 use Rattle.uf_tree.specs.declared.profile.Profile.{Profile}
-use Rattle.uf_words.specs.Options.{argument, flag, found_by, found_in, is_flagged, simple_command, number_of, number_or, optional, valued, valued_short}
+use Rattle.uf_words.specs.Options.{argument, flag, found_by, found_in, is_flagged, simple_command, numeral_value, number_or, optional_argument, valued, valued_short}
 use Rattle.uf_words.specs.declared.command.Cmd.{Cmd}
 use Rattle.uf_words.specs.declared.command.Cmd.TheVariants as cmd
 use Rattle.uf_words.specs.declared.command.WordFault.{WordFault}
@@ -50,7 +50,7 @@ init_words words = do
 
 -- `add`: no block of what is only hashed is placed, and the input has no name of its own
 unfoldable pub add_options : App
-add_options = simple_command (flag (codes "recursive") 114 ∷ flag (codes "only-hash") 110 ∷ valued (codes "to-files") ∷ optional (codes "HOSTPATH") ∷ [])
+add_options = simple_command (flag (codes "recursive") 114 ∷ flag (codes "only-hash") 110 ∷ valued (codes "to-files") ∷ optional_argument (codes "HOSTPATH") ∷ [])
 
 -- the text ends with `/`
 abbrev pub ends_with_slash : List ℕ → Bool
@@ -92,7 +92,7 @@ flag_and_argument name letter argument_name words = do
 
 -- `files ls`: the root stands for an absent path
 unfoldable pub ls_options : App
-ls_options = simple_command (flag (codes "long") 108 ∷ optional (codes "PATH") ∷ [])
+ls_options = simple_command (flag (codes "long") 108 ∷ optional_argument (codes "PATH") ∷ [])
 
 unfoldable pub ls_words : List (List ℕ) → Option Cmd
 ls_words words = do
@@ -137,15 +137,15 @@ write_words_of words = do
 unfoldable pub truncate_words : List (List ℕ) → Option Cmd
 truncate_words words = do
   given ← two_arguments (codes "PATH") (codes "LENGTH") words
-  length ← number_of given.1
+  length ← numeral_value given.1
   Some (cmd.Truncate given.0 length)
 
 -- `gen N SEED`: N is at most 20000
 unfoldable pub gen_words : List (List ℕ) → Option Cmd
 gen_words words = do
   given ← two_arguments (codes "N") (codes "SEED") words
-  n ← number_of given.0
-  seed ← number_of given.1
+  n ← numeral_value given.0
+  seed ← numeral_value given.1
   only_where (nat_le n 20000) (cmd.Gen n seed)
 
 -- no options and no arguments

@@ -3,7 +3,7 @@ use Rattle.std.specs.Prelude.{◌≡◌, ℕ, ◌-◌, ◌*◌, ◌+◌, ◌^◌
 use Rattle.std.specs.List.{list_all}
 use Rattle.std.specs.Str.{bytes_eq}
 use Rattle.std.specs.Char.{is_ascii_digit}
-use Rattle.std.specs.Option.{option_and_then, option_map_or}
+use Rattle.std.specs.Option.{option_map_or}
 use Rattle.std.specs.declared.option.Option.{Option}
 use Rattle.std.specs.declared.option.Option.TheVariants.{None, Some}
 use Rattle.clap.specs.declared.builder.action.ArgAction.TheVariants.{Set, SetTrue}
@@ -34,8 +34,8 @@ abbrev pub argument : List ℕ → Rule
 argument name = record (new_rule name) { required = true; action = Some Set }
 
 -- an argument that may be absent
-abbrev pub optional : List ℕ → Rule
-optional name = record (new_rule name) { action = Some Set }
+abbrev pub optional_argument : List ℕ → Rule
+optional_argument name = record (new_rule name) { action = Some Set }
 
 -- the command of `clap` that has these options and arguments, and no flag for help
 abbrev pub simple_command : List Rule → App
@@ -72,14 +72,10 @@ abbrev pub is_numeral : List ℕ → Bool
 is_numeral word = nat_le 1 (length word) && nat_le (length word) 20 && list_all is_ascii_digit word
 
 -- the number of a word of 1 to 20 decimal digits, which is at most 2 ^ 64 - 1
-unfoldable pub number_of : List ℕ → Option ℕ
-number_of word = if is_numeral word && nat_lt (decimal_from 0 word) (2 ^ 64) then Some (decimal_from 0 word) else None
-
--- the number of the option or argument, which has to be there
-abbrev pub number_at : List ℕ → List Row → Option ℕ
-number_at name found = option_and_then number_of (first_of name found)
+unfoldable pub numeral_value : List ℕ → Option ℕ
+numeral_value word = if is_numeral word && nat_lt (decimal_from 0 word) (2 ^ 64) then Some (decimal_from 0 word) else None
 
 -- the number of a value, or the one that stands for none
 abbrev pub number_or : ℕ → Option (List ℕ) → Option ℕ
 number_or absent None = Some absent
-number_or absent (Some word) = number_of word
+number_or absent (Some word) = numeral_value word

@@ -6,12 +6,12 @@ abbrev pub is_plain : ℕ → Bool
 is_plain b = nat_lt 32 b && nat_lt b 127 && not (b == 37)
 
 -- the upper case hexadecimal digit of a number below 16
-abbrev pub hex_digit : ℕ → ℕ
-hex_digit n = if nat_lt n 10 then 48 + n else 55 + n
+abbrev pub upper_hex : ℕ → ℕ
+upper_hex n = if nat_lt n 10 then 48 + n else 55 + n
 
 -- a plain byte itself, and for another byte `%` and its two digits
 abbrev pub shown_byte : ℕ → List ℕ
-shown_byte b = if is_plain b then b ∷ [] else 37 ∷ hex_digit (b / 16) ∷ hex_digit (b % 16) ∷ []
+shown_byte b = if is_plain b then b ∷ [] else 37 ∷ upper_hex (b / 16) ∷ upper_hex (b % 16) ∷ []
 
 -- the bytes of a text as they are printed
 abbrev pub shown_bytes : List ℕ → List ℕ

@@ -8,7 +8,7 @@ ghost use Rattle.clap.specs.Matches.{found_of};
 ghost use Rattle.clap.specs.Simple.{app_of, with_rule};
 ghost use Rattle.clap.specs.Faults.{is_simple_and_free};
 ghost use Rattle.uf_words.specs.Commands.{ReadsWords};
-ghost use Rattle.uf_words.specs.Options.{FindsIn, argument, flag, found_by, is_flagged, is_numeral, number_of, number_or, optional, simple_command, valued, valued_short};
+ghost use Rattle.uf_words.specs.Options.{FindsIn, argument, flag, found_by, is_flagged, is_numeral, numeral_value, number_or, optional_argument, simple_command, valued, valued_short};
 
 use crate::WordFault;
 use clap::error::ErrorKind;
@@ -70,7 +70,7 @@ pub fn argument_arg<'a>(alloc: Global, name: &'a str) -> Arg<'a>
 
 // An argument that may be absent.
 pub fn optional_arg<'a>(alloc: Global, name: &'a str) -> Arg<'a>
-    ensures rule { rule_of result ≡ optional name.entry.now }
+    ensures rule { rule_of result ≡ optional_argument name.entry.now }
     ensures own { result.global ≡ false }
 {
     Arg::new(alloc, name).action(ArgAction::Set)
@@ -151,9 +151,9 @@ pub fn number_in(found: &ArgMatches<'_>, name: &str, absent: u64) -> Result<u64,
 }
 
 // The number of a word of 1 to 20 decimal digits.
-#[tactic(auto, unfolding(crate::specs::Options::number_of))]
+#[tactic(auto, unfolding(crate::specs::Options::numeral_value))]
 pub fn number(word: &str) -> Result<u64, WordFault>
-    ensures { ReadsWords result (number_of word.now) }
+    ensures { ReadsWords result (numeral_value word.now) }
 {
     if !is_numeral_text(word) {
         return Err(WordFault::Usage);
