@@ -27,7 +27,14 @@ pub fn split_line(alloc: Global, line: &[u8]) -> Result<Vec<String>, WordFault>
 fn pieces(alloc: Global, line: &[u8]) -> Result<Vec<&[u8]>, AllocError>
     ensures { IfOk result (λ pieces. map (λ piece. piece.now) pieces.items ≡ slice_split is_space line.now) }
 {
-    line.split(|byte| *byte == b' ').collect(alloc)
+    line.split(|byte| is_space_byte(*byte)).collect(alloc)
+}
+
+// Whether the byte is a space.
+fn is_space_byte(byte: u8) -> bool
+    ensures { result ≡ is_space byte }
+{
+    byte == b' '
 }
 
 // Puts the word that a piece of a line is behind the words before it; an empty piece is none.
