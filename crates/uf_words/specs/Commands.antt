@@ -1,5 +1,5 @@
--- Which command a list of words is: the first words are compared exactly, and behind them stand the options and arguments of
--- the command, as `clap` reads them.
+-- Which command a list of words is: the first words are compared exactly, and behind them stand the options and
+-- arguments of the command, as `clap` reads them.
 use Rattle.std.specs.Prelude.{◌≡◌, ◌&&◌, ◌||◌, ℕ, Bool, true, not, List, [], ◌∷◌, ◌++◌, codes, nat_le, if◌then◌else◌, IsTrue, is_some, unwrap_or, slice_index, length, ◌-◌}
 use Rattle.std.specs.Str.{bytes_eq}
 use Rattle.std.specs.Option.{option_map, option_and_then}
@@ -50,7 +50,8 @@ init_words words = do
 
 -- `add`: no block of what is only hashed is placed, and the input has no name of its own
 unfoldable pub add_options : App
-add_options = simple_command (flag (codes "recursive") 114 ∷ flag (codes "only-hash") 110 ∷ valued (codes "to-files") ∷ optional_argument (codes "HOSTPATH") ∷ [])
+add_options = simple_command (flag (codes "recursive") 114 ∷ flag (codes "only-hash") 110
+    ∷ valued (codes "to-files") ∷ optional_argument (codes "HOSTPATH") ∷ [])
 
 -- the text ends with `/`
 abbrev pub ends_with_slash : List ℕ → Bool
@@ -156,15 +157,19 @@ bare words = option_map (λ found. tt) (found_in [] words)
 unfoldable pub files_words : List (List ℕ) → Option Cmd
 files_words [] = None
 files_words (name ∷ rest) =
-    if bytes_eq name (codes "mkdir") then option_map (λ given. cmd.Mkdir given.0 given.1) (flag_and_argument (codes "parents") 112 (codes "PATH") rest)
+    if bytes_eq name (codes "mkdir") then
+    option_map (λ given. cmd.Mkdir given.0 given.1) (flag_and_argument (codes "parents") 112 (codes "PATH") rest)
     else if bytes_eq name (codes "ls") then ls_words rest
     else if bytes_eq name (codes "stat") then option_map (λ path. cmd.Stat path) (one_argument (codes "PATH") rest)
     else if bytes_eq name (codes "read") then read_words_of rest
     else if bytes_eq name (codes "write") then write_words_of rest
     else if bytes_eq name (codes "truncate") then truncate_words rest
-    else if bytes_eq name (codes "cp") then option_map (λ given. cmd.Cp given.0 given.1) (two_arguments (codes "SOURCE") (codes "DEST") rest)
-    else if bytes_eq name (codes "mv") then option_map (λ given. cmd.Mv given.0 given.1) (two_arguments (codes "SOURCE") (codes "DEST") rest)
-    else if bytes_eq name (codes "rm") then option_map (λ given. cmd.Rm given.0 given.1) (flag_and_argument (codes "recursive") 114 (codes "PATH") rest)
+    else if bytes_eq name (codes "cp") then
+    option_map (λ given. cmd.Cp given.0 given.1) (two_arguments (codes "SOURCE") (codes "DEST") rest)
+    else if bytes_eq name (codes "mv") then
+    option_map (λ given. cmd.Mv given.0 given.1) (two_arguments (codes "SOURCE") (codes "DEST") rest)
+    else if bytes_eq name (codes "rm") then
+    option_map (λ given. cmd.Rm given.0 given.1) (flag_and_argument (codes "recursive") 114 (codes "PATH") rest)
     else None
 
 -- the commands of the group `dag`
@@ -183,7 +188,8 @@ command_of (name ∷ rest) =
     if bytes_eq name (codes "init") then init_words rest
     else if bytes_eq name (codes "add") then add_words rest
     else if bytes_eq name (codes "cat") then option_map (λ target. cmd.Cat target) (one_argument (codes "TARGET") rest)
-    else if bytes_eq name (codes "get") then option_map (λ given. cmd.Get given.0 given.1) (two_arguments (codes "TARGET") (codes "HOSTPATH") rest)
+    else if bytes_eq name (codes "get") then
+    option_map (λ given. cmd.Get given.0 given.1) (two_arguments (codes "TARGET") (codes "HOSTPATH") rest)
     else if bytes_eq name (codes "files") then files_words rest
     else if bytes_eq name (codes "dag") then dag_words rest
     else if bytes_eq name (codes "batch") then option_map (λ nothing. cmd.Batch) (bare rest)

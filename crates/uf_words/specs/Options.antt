@@ -73,7 +73,8 @@ is_numeral word = nat_le 1 (length word) && nat_le (length word) 20 && list_all 
 
 -- the number of a word of 1 to 20 decimal digits, which is at most 2 ^ 64 - 1
 unfoldable pub numeral_value : List ℕ → Option ℕ
-numeral_value word = if is_numeral word && nat_lt (decimal_from 0 word) (2 ^ 64) then Some (decimal_from 0 word) else None
+numeral_value word =
+    if is_numeral word && nat_lt (decimal_from 0 word) (2 ^ 64) then Some (decimal_from 0 word) else None
 
 -- the number of a value, or the one that stands for none
 abbrev pub number_or : ℕ → Option (List ℕ) → Option ℕ

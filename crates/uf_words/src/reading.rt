@@ -19,7 +19,8 @@ use std::alloc::Global;
 use uf_cid::{Block, Text};
 use uf_tree::Profile;
 
-/// The command that words are: the first words are compared exactly, and `clap` reads the options and arguments behind them.
+/// The command that words are: the first words are compared exactly, and `clap` reads the options and arguments behind
+/// them.
 #[tactic(auto, unfolding(crate::specs::Commands::command_of))]
 pub fn read_words(alloc: Global, words: &[String]) -> Result<Cmd, WordFault>
     ensures exact { ReadsWords result (command_of (map string_bytes words.now)) }

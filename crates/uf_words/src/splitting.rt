@@ -8,8 +8,8 @@ use crate::WordFault;
 use percent_encoding::{DecodeError, percent_decode};
 use std::alloc::{AllocError, Global};
 
-/// The words of a line: it is split at runs of spaces, and each word is decoded (percent-encoding, RFC 3986 section 2.1). Usage
-/// comes where the bytes of a word aren't UTF-8.
+/// The words of a line: it is split at runs of spaces, and each word is decoded (percent-encoding, RFC 3986 section 2.1).
+/// Usage comes where the bytes of a word aren't UTF-8.
 pub fn split_line(alloc: Global, line: &[u8]) -> Result<Vec<String>, WordFault>
     ensures words { IfOk result (λ words. map string_bytes words.items ≡ line_words line.now) }
     ensures text { OnOk result (All IsUtf8 (line_words line.now)) }
@@ -40,7 +40,8 @@ fn is_space_byte(byte: u8) -> bool
 // Puts the word that a piece of a line is behind the words before it; an empty piece is none.
 fn put_word(alloc: Global, words: &mut Vec<String>, piece: &[u8]) -> Result<(), WordFault>
     ensures { MatchResult result
-        (λ _. (map string_bytes words.new.items ≡ map string_bytes words.old.items ++ word_in piece.now) × All IsUtf8 (word_in piece.now))
+        (λ _. (map string_bytes words.new.items ≡ map string_bytes words.old.items ++ word_in piece.now)
+        × All IsUtf8 (word_in piece.now))
         (λ fault. fault ≡ faults.Usage → ¬ All IsUtf8 (word_in piece.now)) }
 {
     if piece.is_empty() {

@@ -91,7 +91,8 @@ pub fn two_arguments_command<'a>(
     first: &'a str,
     second: &'a str,
 ) -> Result<Command<'a>, AllocError>
-    ensures made { IfOk result (λ command. app_of command ≡ simple_command (argument first.entry.now ∷ argument second.entry.now ∷ [])) }
+    ensures made { IfOk result (λ command. app_of command
+        ≡ simple_command (argument first.entry.now ∷ argument second.entry.now ∷ [])) }
     ensures simple { IfOk result (λ command. is_simple_and_free (app_of command) ≡ true) }
 {
     let command = with(bare_command(alloc), argument_arg(alloc, first))?;
@@ -105,7 +106,8 @@ pub fn flagged_command<'a>(
     letter: char,
     value: &'a str,
 ) -> Result<Command<'a>, AllocError>
-    ensures made { IfOk result (λ command. app_of command ≡ simple_command (flag name.entry.now letter ∷ argument value.entry.now ∷ [])) }
+    ensures made { IfOk result (λ command. app_of command
+        ≡ simple_command (flag name.entry.now letter ∷ argument value.entry.now ∷ [])) }
     ensures simple { IfOk result (λ command. is_simple_and_free (app_of command) ≡ true) }
 {
     let command = with(bare_command(alloc), flag_arg(alloc, name, letter))?;

@@ -121,21 +121,28 @@ fn answer(alloc: Global, line: &str) -> Result<String, AllocError> {
     }
 }
 
+// The first row of a table whose words are not what it says.
+fn first_wrong<'a>(alloc: Global, rows: &'a str) -> Result<Option<&'a str>, AllocError> {
+    for row in rows.lines() {
+        let (line, expected) = row.split_once(" => ").unwrap_or((row, ""));
+        if answer(alloc, line)?.as_str() != expected {
+            return Ok(Some(row));
+        }
+    }
+    Ok(None)
+}
+
 // Each command, each option in both spellings, alone, together and in another order.
 #[test]
 fn commands(rt: HostRuntime) -> Result<(), Fail> {
-    for (line, expected) in ROWS {
-        assert_eq!(rt; answer(rt.alloc(), line)?.as_str(), expected, "at {line}");
-    }
+    assert_eq!(rt; first_wrong(rt.alloc(), ROWS)?, None);
     Ok(())
 }
 
 // Words that are no command.
 #[test]
 fn words_of_no_command(rt: HostRuntime) -> Result<(), Fail> {
-    for line in REFUSED {
-        assert_eq!(rt; answer(rt.alloc(), line)?.as_str(), "usage", "at {line}");
-    }
+    assert_eq!(rt; first_wrong(rt.alloc(), REFUSED)?, None);
     Ok(())
 }
 
@@ -216,16 +223,21 @@ fn told_of_line(alloc: Global, line: &str) -> Result<String, AllocError> {
     Ok(told)
 }
 
+// The first row of lines whose words are not what it says.
+fn first_wrong_line<'a>(alloc: Global, rows: &'a str) -> Result<Option<&'a str>, AllocError> {
+    for row in rows.lines() {
+        let (line, expected) = row.split_once(" => ").unwrap_or((row, ""));
+        if told_of_line(alloc, line)?.as_str() != expected {
+            return Ok(Some(row));
+        }
+    }
+    Ok(None)
+}
+
 // Lines and their words.
 #[test]
 fn lines(rt: HostRuntime) -> Result<(), Fail> {
-    for (line, expected) in LINES {
-        assert_eq!(rt;
-            told_of_line(rt.alloc(), line)?.as_str(),
-            expected,
-            "at {line}"
-        );
-    }
+    assert_eq!(rt; first_wrong_line(rt.alloc(), LINES)?, None);
     assert_eq!(rt;
         split_line(rt.alloc(), b"a \xff").err(),
         Some(WordFault::Usage)
