@@ -309,11 +309,13 @@ const EMPTY: &[u8] =
 pub const HELLO: &[u8] =
     b"added bafkreifzjut3te2nhyekklss27nh3k72ysco7y32koao5eei66wof36n5e bafkreifzjut3te2nhyekklss27nh3k72ysco7y32koao5eei66wof36n5e\n";
 
-const INPUTS: [Step; 5] = [
+const INPUTS: [Step; 7] = [
     Step::Adds("add -n", b"", EMPTY),
     Step::Adds("add -n", b"hello world", HELLO),
+    Step::Adds("add --only-hash", b"hello world", HELLO),
     Step::Refuses("add", 10, b"error: not ready 1\n"),
     Step::Refuses("add x", 2, b"error: usage\n"),
+    Step::Refuses("cat x", 2, b"error: usage\n"),
     Step::Holds(0),
 ];
 

@@ -1,41 +1,19 @@
--- What is printed of bytes is what the crate `percent_encoding` writes, and is read again.
-use Rattle.std.proofs.Common.{◌≡◌, ◌≢◌, ℕ, zero, suc, ◌+◌, ◌*◌, ◌/◌, ◌%◌, ◌<◌, ◌≤◌, ◌&&◌, ⊎_elim, Bool, true, false, not, List, [], ◌∷◌, ◌++◌, length, get_or, refl, sym, ap, ◌∙◌, arith}
+-- What is printed of bytes is what the crate `percent_encoding` writes, and is read again as one word of a line.
+use Rattle.std.proofs.Common.{◌≡◌, ◌≢◌, ℕ, zero, suc, ◌/◌, ◌%◌, ◌<◌, ◌≤◌, ◌&&◌, ⊎_elim, Bool, true, false, not, List, [], ◌∷◌, ◌++◌, length, get_or, refl, sym, ap, ◌∙◌, append-nil, arith}
 use Rattle.std.proofs.lemmas.Bool.{cases_Bool, cases_eq, cases_lt, cond-true, cond-false}
 use Rattle.std.proofs.lemmas.Bool.Decides.{nat_tests}
 use Rattle.uf_cid.specs.Bytes.{IsBytes}
 use Rattle.percent_encoding.specs.AsciiSet.{contains, should_percent_encode}
 use Rattle.percent_encoding.specs.Percent.{percent_encode, percent_encode_byte}
-use Rattle.percent_encoding.proofs.PercentLemmas.{percent_encode-nil, percent_encode_escaped, percent_encode_kept}
-use Rattle.uf_words.specs.Shown.{is_plain, hex_digit, hex_value, shown_byte, shown_bytes, read_again}
+use Rattle.percent_encoding.proofs.PercentLemmas.{percent_encode-nil, percent_encode_escaped, percent_encode_kept, All-percent_encode, IsByte, IsEscapeByte, percent_decode-nil, percent_encode-nil, round_trip}
+use Rattle.percent_encoding.specs.Percent.{percent_decode}
+use Rattle.std.specs.Prelude.{All}
+use Rattle.std.specs.List.{flat_map, slice_split}
+use Rattle.std.proofs.lemmas.List.Elements.{All-cons, All-nil}
+use Rattle.std.proofs.lemmas.List.Splits.{slice_split_none}
+use Rattle.uf_words.specs.Lines.{is_space, line_words, word_in}
+use Rattle.uf_words.specs.Shown.{is_plain, upper_hex, shown_bytes}
 use Rattle.uf_words.specs.declared.printing.TheConstants.{ESCAPED}
-
-hex_again : (n : ℕ) → n < 16 → hex_value (hex_digit n) ≡ n
-hex_again n small = grind (arith, nat_tests)
-
--- a byte that is no `%` is read as itself
-plain_again : (b : ℕ) (rest : List ℕ) → b ≢ 37 → read_again (b ∷ rest) ≡ b ∷ read_again rest
-plain_again b [] h = refl
-plain_again b (c ∷ []) h = refl
-plain_again b (c ∷ d ∷ rest) h = grind (arith, nat_tests)
-
-escape_again : (b : ℕ) (rest : List ℕ) → b < 256 → read_again (37 ∷ hex_digit (b / 16) ∷ hex_digit (b % 16) ∷ rest) ≡ b ∷ read_again rest
-escape_again b rest small =
-    let value : hex_value (hex_digit (b / 16)) * 16 + hex_value (hex_digit (b % 16)) ≡ b = rw (hex_again (b / 16) (omega arith), hex_again (b % 16) (omega arith)) (omega arith) in
-    ap (λ (n : ℕ). n ∷ read_again rest) value
-
-is_no_percent : (b : ℕ) → is_plain b ≡ true → b ≢ 37
-is_no_percent b h = grind (arith, nat_tests)
-
-byte_again : (b : ℕ) (rest : List ℕ) → b < 256 → read_again (shown_byte b ++ rest) ≡ b ∷ read_again rest
-byte_again b rest small =
-    ⊎_elim
-    (λ (e : is_plain b ≡ true). ap (λ (bs : List ℕ). read_again (bs ++ rest)) (cond-true (is_plain b) (b ∷ []) (37 ∷ hex_digit (b / 16) ∷ hex_digit (b % 16) ∷ []) e) ∙ plain_again b rest (is_no_percent b e))
-    (λ (e : is_plain b ≡ false). ap (λ (bs : List ℕ). read_again (bs ++ rest)) (cond-false (is_plain b) (b ∷ []) (37 ∷ hex_digit (b / 16) ∷ hex_digit (b % 16) ∷ []) e) ∙ escape_again b rest small)
-    (cases_Bool (is_plain b))
-
-pub shown_again : (bytes : List ℕ) → IsBytes bytes → read_again (shown_bytes bytes) ≡ bytes
-shown_again [] h = refl
-shown_again (b ∷ bytes) h = byte_again b (shown_bytes bytes) h.0 ∙ ap (λ (rest : List ℕ). b ∷ rest) (shown_again bytes h.1)
 
 both : (a b : Bool) → (a && b) ≡ true → (a ≡ true) × (b ≡ true)
 both true b h = (refl, h)
@@ -80,22 +58,56 @@ kept b h =
     let e = in_the_set b below in
     grind (arith, nat_tests)
 
-two_digits : (b : ℕ) → b < 256 → percent_encode_byte b ≡ 37 ∷ hex_digit (b / 16) ∷ hex_digit (b % 16) ∷ []
+two_digits : (b : ℕ) → b < 256 → percent_encode_byte b ≡ 37 ∷ upper_hex (b / 16) ∷ upper_hex (b % 16) ∷ []
 unfolding percent_encode_byte
 two_digits b small =
     let e : b / 16 % 16 ≡ b / 16 = omega arith in
-    ap (λ (n : ℕ). 37 ∷ hex_digit n ∷ hex_digit (b % 16) ∷ []) e
+    ap (λ (n : ℕ). 37 ∷ upper_hex n ∷ upper_hex (b % 16) ∷ []) e
 
 pub shown_encoded : (bytes : List ℕ) → IsBytes bytes → percent_encode ESCAPED bytes ≡ shown_bytes bytes
 shown_encoded [] h = percent_encode-nil ESCAPED
 shown_encoded (b ∷ bytes) h =
     let rest = shown_encoded bytes h.1 in
     ⊎_elim
-    (λ (e : is_plain b ≡ true). percent_encode_kept ESCAPED b bytes (kept b e) ∙ ap (λ (bs : List ℕ). b ∷ bs) rest ∙ ap (λ (bs : List ℕ). bs ++ shown_bytes bytes) (sym (cond-true (is_plain b) (b ∷ []) (37 ∷ hex_digit (b / 16) ∷ hex_digit (b % 16) ∷ []) e)))
-    (λ (e : is_plain b ≡ false). percent_encode_escaped ESCAPED b bytes (escaped b e) ∙ ap (λ (bs : List ℕ). bs ++ percent_encode ESCAPED bytes) (two_digits b h.0) ∙ ap (λ (bs : List ℕ). (37 ∷ hex_digit (b / 16) ∷ hex_digit (b % 16) ∷ []) ++ bs) rest ∙ ap (λ (bs : List ℕ). bs ++ shown_bytes bytes) (sym (cond-false (is_plain b) (b ∷ []) (37 ∷ hex_digit (b / 16) ∷ hex_digit (b % 16) ∷ []) e)))
+    (λ (e : is_plain b ≡ true). percent_encode_kept ESCAPED b bytes (kept b e) ∙ ap (λ (bs : List ℕ). b ∷ bs) rest ∙ ap (λ (bs : List ℕ). bs ++ shown_bytes bytes) (sym (cond-true (is_plain b) (b ∷ []) (37 ∷ upper_hex (b / 16) ∷ upper_hex (b % 16) ∷ []) e)))
+    (λ (e : is_plain b ≡ false). percent_encode_escaped ESCAPED b bytes (escaped b e) ∙ ap (λ (bs : List ℕ). bs ++ percent_encode ESCAPED bytes) (two_digits b h.0) ∙ ap (λ (bs : List ℕ). (37 ∷ upper_hex (b / 16) ∷ upper_hex (b % 16) ∷ []) ++ bs) rest ∙ ap (λ (bs : List ℕ). bs ++ shown_bytes bytes) (sym (cond-false (is_plain b) (b ∷ []) (37 ∷ upper_hex (b / 16) ∷ upper_hex (b % 16) ∷ []) e)))
     (cases_Bool (is_plain b))
 
 -- what the indices of a list say, by its recursion
 pub bytes_from : (bytes : List ℕ) → ((i : ℕ) → i < length bytes → get_or bytes i 0 < 256) → IsBytes bytes
 bytes_from [] h = tt
 bytes_from (b ∷ bytes) h = (h 0 (omega arith), bytes_from bytes (λ i within. h (suc i) (omega arith)))
+
+not_space : (b : ℕ) → is_plain b ≡ true → is_space b ≡ false
+not_space b h = grind (arith, nat_tests)
+
+kept_is_plain : (b : ℕ) → should_percent_encode ESCAPED b ≡ false → is_plain b ≡ true
+kept_is_plain b h =
+    ⊎_elim
+    (λ (e : is_plain b ≡ true). e)
+    (λ (e : is_plain b ≡ false). let no = escaped b e in cc)
+    (cases_Bool (is_plain b))
+
+digit_is_no_space : (b : ℕ) → IsEscapeByte b → is_space b ≡ false
+digit_is_no_space b h = grind (arith, nat_tests)
+
+all_bytes : (bytes : List ℕ) → IsBytes bytes → All IsByte bytes
+all_bytes [] h = All-nil IsByte
+all_bytes (b ∷ bytes) h = All-cons IsByte b bytes h.0 (all_bytes bytes h.1)
+
+one_word : (shown bytes : List ℕ) → percent_decode shown ≡ bytes → 0 < length bytes → word_in shown ≡ bytes ∷ []
+one_word [] bytes is some = absurd (let none : [] ≡ bytes = sym percent_decode-nil ∙ is in let empty : length bytes ≡ 0 = ap length (sym none) in omega arith)
+one_word (b ∷ shown) bytes is some = ap (λ (bs : List ℕ). bs ∷ []) is
+
+-- a line that is what is printed of a text that isn't empty has the text as its one word
+pub shown_is_one_word : (bytes : List ℕ) → IsBytes bytes → 0 < length bytes → line_words (shown_bytes bytes) ≡ bytes ∷ []
+unfolding line_words
+shown_is_one_word bytes small some =
+    let same = shown_encoded bytes small in
+    let spaceless = All-percent_encode (λ b. is_space b ≡ false) ESCAPED bytes (λ b kept. not_space b (kept_is_plain b kept)) digit_is_no_space in
+    let whole = slice_split_none is_space (percent_encode ESCAPED bytes) spaceless in
+    let again = round_trip ESCAPED bytes refl (all_bytes bytes small) in
+    ap (λ (line : List ℕ). flat_map word_in (slice_split is_space line)) (sym same)
+    ∙ ap (flat_map word_in) whole
+    ∙ append-nil (word_in (percent_encode ESCAPED bytes))
+    ∙ one_word (percent_encode ESCAPED bytes) bytes again some

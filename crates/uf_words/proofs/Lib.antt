@@ -1,2 +1,4 @@
 pub mod Numerals
 pub mod Escapes
+pub mod Finding
+pub mod LinePieces

@@ -1,15 +1,19 @@
--- Which command a list of words is: the first words, then the options of the command in the order of its usage line, each
--- at most once, then its arguments.
-use Rattle.std.specs.Prelude.{◌≡◌, ℕ, Bool, false, List, [], ◌∷◌, codes, if◌then◌else◌, IsTrue}
+-- Which command a list of words is: the first words are compared exactly, and behind them stand the options and
+-- arguments of the command, as `clap` reads them.
+use Rattle.std.specs.Prelude.{◌≡◌, ◌&&◌, ◌||◌, ℕ, Bool, true, not, List, [], ◌∷◌, ◌++◌, codes, nat_le, if◌then◌else◌, IsTrue, is_some, unwrap_or, slice_index, length, ◌-◌}
 use Rattle.std.specs.Str.{bytes_eq}
 use Rattle.std.specs.Option.{option_map, option_and_then}
 use Rattle.std.specs.declared.option.Option.{Option}
 use Rattle.std.specs.declared.option.Option.TheVariants.{None, Some}
 use Rattle.std.specs.declared.result.Result.{Result}
 use Rattle.std.specs.declared.result.Result.TheVariants.{Ok, Err}
+use Rattle.clap.specs.Walk.{Rule, first_of}
+use Rattle.clap.specs.Simple.{App}
+use Rattle.hex.specs.Hex.{decode_of}
+use Rattle.uf_path.specs.Paths.{is_slash}
 use Rattle.uf_tree.specs.Profiles.{is_profile}
 use Rattle.uf_tree.specs.declared.profile.Profile.{Profile}
-use Rattle.uf_words.specs.Options.{flag_in, number_in, argument_in}
+use Rattle.uf_words.specs.Options.{argument, flag, found_by, found_in, is_flagged, simple_command, numeral_value, number_or, optional_argument, valued, valued_short}
 use Rattle.uf_words.specs.declared.command.Cmd.{Cmd}
 use Rattle.uf_words.specs.declared.command.Cmd.TheVariants as cmd
 use Rattle.uf_words.specs.declared.command.WordFault.{WordFault}
@@ -21,75 +25,175 @@ ReadsWords (Ok value) told = told ≡ Some value
 ReadsWords (Err fault.Usage) told = told ≡ None
 ReadsWords (Err fault.Memory) told = Unit {0}
 
--- the profile of these numbers, where no word is left and it is one
-abbrev pub init_of : Profile → List (List ℕ) → Option Cmd
-init_of profile [] = if is_profile profile then Some (cmd.Init profile) else None
-init_of profile (word ∷ rest) = None
+infixl 10 ◌>>=◌
+abbrev pub ◌>>=◌ : {A B : Type 0} → Option A → (A → Option B) → Option B
+o >>= f = option_and_then f o
 
--- `init [--chunk N] [--width N] [--threshold N]`
-abbrev pub init_words : List (List ℕ) → Option Cmd
-init_words words =
-    option_and_then (λ chunk.
-    option_and_then (λ width.
-    option_and_then (λ threshold.
-    init_of (record { chunk = chunk.0; width = width.0; threshold = threshold.0 }) threshold.1)
-    (number_in (codes "--threshold") 262144 width.1))
-    (number_in (codes "--width") 174 chunk.1))
-    (number_in (codes "--chunk") 262144 words)
+-- the command, where this holds
+abbrev pub only_where : Bool → Cmd → Option Cmd
+only_where holds command = if holds then Some command else None
 
--- `add` of the input, where no word is left
-abbrev pub add_of : Bool → List (List ℕ) → Option Cmd
-add_of only_hash [] = Some (cmd.Add false only_hash None None)
-add_of only_hash (word ∷ rest) = None
+-- `init`: the usual numbers stand for those that are absent, and they are a profile
+unfoldable pub init_options : App
+init_options = simple_command (valued (codes "chunk") ∷ valued (codes "width") ∷ valued (codes "threshold") ∷ [])
 
--- `add [-n]`, of the input
-abbrev pub add_words : List (List ℕ) → Option Cmd
-add_words words = let hashed = flag_in (codes "-n") words in add_of hashed.0 hashed.1
+abbrev pub init_of : Profile → Option Cmd
+init_of profile = only_where (is_profile profile) (cmd.Init profile)
 
--- `files mkdir [-p] PATH`
-abbrev pub mkdir_words : List (List ℕ) → Option Cmd
-mkdir_words words =
-    let parents = flag_in (codes "-p") words in
-    option_map (λ path. cmd.Mkdir parents.0 path) (argument_in parents.1)
+unfoldable pub init_words : List (List ℕ) → Option Cmd
+init_words words = do
+  found ← found_by init_options words
+  chunk ← number_or 262144 (first_of (codes "chunk") found)
+  width ← number_or 174 (first_of (codes "width") found)
+  threshold ← number_or 262144 (first_of (codes "threshold") found)
+  init_of (record { chunk = chunk; width = width; threshold = threshold })
 
--- the one argument, or `/` where no word is left
-abbrev pub argument_or_root : List (List ℕ) → Option (List ℕ)
-argument_or_root [] = Some (codes "/")
-argument_or_root (word ∷ rest) = argument_in (word ∷ rest)
+-- `add`: no block of what is only hashed is placed, and the input has no name of its own
+unfoldable pub add_options : App
+add_options = simple_command (flag (codes "recursive") 114 ∷ flag (codes "only-hash") 110
+    ∷ valued (codes "to-files") ∷ optional_argument (codes "HOSTPATH") ∷ [])
 
--- `files ls [-l] [PATH]`
-abbrev pub ls_words : List (List ℕ) → Option Cmd
-ls_words words =
-    let long = flag_in (codes "-l") words in
-    option_map (λ path. cmd.Ls long.0 path) (argument_or_root long.1)
+-- the text ends with `/`
+abbrev pub ends_with_slash : List ℕ → Bool
+ends_with_slash text = is_slash (slice_index text (length text - 1))
 
--- `files stat PATH`
-abbrev pub stat_words : List (List ℕ) → Option Cmd
-stat_words words = option_map (λ path. cmd.Stat path) (argument_in words)
+-- what is added has a place in the tree, where one is asked for
+abbrev pub places_well : Bool → Option (List ℕ) → Bool → Bool
+places_well only_hash None is_named = true
+places_well only_hash (Some dest) is_named = not only_hash && (is_named || not (ends_with_slash dest))
 
--- `files rm [-r] PATH`
-abbrev pub rm_words : List (List ℕ) → Option Cmd
-rm_words words =
-    let recursive = flag_in (codes "-r") words in
-    option_map (λ path. cmd.Rm recursive.0 path) (argument_in recursive.1)
+abbrev pub add_of : Bool → Bool → Option (List ℕ) → Option (List ℕ) → Option Cmd
+add_of recursive only_hash dest host_path =
+    only_where (places_well only_hash dest (is_some host_path)) (cmd.Add recursive only_hash dest host_path)
+
+unfoldable pub add_words : List (List ℕ) → Option Cmd
+add_words words = do
+  found ← found_by add_options words
+  add_of (is_flagged (codes "recursive") found) (is_flagged (codes "only-hash") found)
+      (first_of (codes "to-files") found) (first_of (codes "HOSTPATH") found)
+
+-- a command of one argument
+unfoldable pub one_argument : List ℕ → List (List ℕ) → Option (List ℕ)
+one_argument name words = found_in (argument name ∷ []) words >>= first_of name
+
+-- a command of two arguments
+unfoldable pub two_arguments : List ℕ → List ℕ → List (List ℕ) → Option (List ℕ × List ℕ)
+two_arguments first second words = do
+  found ← found_in (argument first ∷ argument second ∷ []) words
+  one ← first_of first found
+  other ← first_of second found
+  Some (one, other)
+
+-- a command of a flag and one argument
+unfoldable pub flag_and_argument : List ℕ → ℕ → List ℕ → List (List ℕ) → Option (Bool × List ℕ)
+flag_and_argument name letter argument_name words = do
+  found ← found_in (flag name letter ∷ argument argument_name ∷ []) words
+  value ← first_of argument_name found
+  Some (is_flagged name found, value)
+
+-- `files ls`: the root stands for an absent path
+unfoldable pub ls_options : App
+ls_options = simple_command (flag (codes "long") 108 ∷ optional_argument (codes "PATH") ∷ [])
+
+unfoldable pub ls_words : List (List ℕ) → Option Cmd
+ls_words words = do
+  found ← found_by ls_options words
+  Some (cmd.Ls (is_flagged (codes "long") found) (unwrap_or (first_of (codes "PATH") found) (codes "/")))
+
+-- `files read`: from the start to the end, where no numbers are given
+unfoldable pub read_options : App
+read_options = simple_command (valued_short (codes "offset") 111 ∷ valued_short (codes "count") 110 ∷ argument (codes "PATH") ∷ [])
+
+unfoldable pub read_words_of : List (List ℕ) → Option Cmd
+read_words_of words = do
+  found ← found_by read_options words
+  offset ← number_or 0 (first_of (codes "offset") found)
+  count ← number_or 18446744073709551615 (first_of (codes "count") found)
+  path ← first_of (codes "PATH") found
+  Some (cmd.Read offset count path)
+
+-- `files write`: the bytes may be given as hexadecimal digits
+abbrev pub write_place : List Rule
+write_place = valued_short (codes "offset") 111 ∷ flag (codes "create") 101 ∷ flag (codes "truncate") 116 ∷ []
+
+unfoldable pub write_options : App
+write_options = simple_command (write_place ++ valued_short (codes "hex") 120 ∷ argument (codes "PATH") ∷ [])
+
+abbrev pub decoded_hex : List ℕ → Option (List ℕ)
+decoded_hex text = elim (decode_of text) [ Ok bytes ↦ Some bytes | Err why ↦ None ]
+
+abbrev pub bytes_or_none : Option (List ℕ) → Option (Option (List ℕ))
+bytes_or_none None = Some None
+bytes_or_none (Some text) = option_map (λ bytes. Some bytes) (decoded_hex text)
+
+unfoldable pub write_words_of : List (List ℕ) → Option Cmd
+write_words_of words = do
+  found ← found_by write_options words
+  offset ← number_or 0 (first_of (codes "offset") found)
+  bytes ← bytes_or_none (first_of (codes "hex") found)
+  path ← first_of (codes "PATH") found
+  Some (cmd.Write offset (is_flagged (codes "create") found) (is_flagged (codes "truncate") found) bytes path)
+
+-- `files truncate PATH LENGTH`
+unfoldable pub truncate_words : List (List ℕ) → Option Cmd
+truncate_words words = do
+  given ← two_arguments (codes "PATH") (codes "LENGTH") words
+  length ← numeral_value given.1
+  Some (cmd.Truncate given.0 length)
+
+-- `gen N SEED`: N is at most 20000
+unfoldable pub gen_words : List (List ℕ) → Option Cmd
+gen_words words = do
+  given ← two_arguments (codes "N") (codes "SEED") words
+  n ← numeral_value given.0
+  seed ← numeral_value given.1
+  only_where (nat_le n 20000) (cmd.Gen n seed)
+
+-- no options and no arguments
+unfoldable pub bare : List (List ℕ) → Option (Unit {0})
+bare words = option_map (λ found. tt) (found_in [] words)
 
 -- the commands of the group `files`
-abbrev pub files_words : List (List ℕ) → Option Cmd
+unfoldable pub files_words : List (List ℕ) → Option Cmd
 files_words [] = None
-files_words (first ∷ rest) =
-    if bytes_eq first (codes "mkdir") then mkdir_words rest
-    else if bytes_eq first (codes "ls") then ls_words rest
-    else if bytes_eq first (codes "stat") then stat_words rest
-    else if bytes_eq first (codes "rm") then rm_words rest
+files_words (name ∷ rest) =
+    if bytes_eq name (codes "mkdir") then
+    option_map (λ given. cmd.Mkdir given.0 given.1) (flag_and_argument (codes "parents") 112 (codes "PATH") rest)
+    else if bytes_eq name (codes "ls") then ls_words rest
+    else if bytes_eq name (codes "stat") then option_map (λ path. cmd.Stat path) (one_argument (codes "PATH") rest)
+    else if bytes_eq name (codes "read") then read_words_of rest
+    else if bytes_eq name (codes "write") then write_words_of rest
+    else if bytes_eq name (codes "truncate") then truncate_words rest
+    else if bytes_eq name (codes "cp") then
+    option_map (λ given. cmd.Cp given.0 given.1) (two_arguments (codes "SOURCE") (codes "DEST") rest)
+    else if bytes_eq name (codes "mv") then
+    option_map (λ given. cmd.Mv given.0 given.1) (two_arguments (codes "SOURCE") (codes "DEST") rest)
+    else if bytes_eq name (codes "rm") then
+    option_map (λ given. cmd.Rm given.0 given.1) (flag_and_argument (codes "recursive") 114 (codes "PATH") rest)
+    else None
+
+-- the commands of the group `dag`
+unfoldable pub dag_words : List (List ℕ) → Option Cmd
+dag_words [] = None
+dag_words (name ∷ rest) =
+    if bytes_eq name (codes "export") then option_map (λ cid. cmd.Export cid) (one_argument (codes "CID") rest)
+    else if bytes_eq name (codes "import") then option_map (λ nothing. cmd.Import) (bare rest)
+    else if bytes_eq name (codes "same") then option_map (λ cid. cmd.Same cid) (one_argument (codes "CID") rest)
     else None
 
 -- the command that the words are
 unfoldable pub command_of : List (List ℕ) → Option Cmd
 command_of [] = None
-command_of (first ∷ rest) =
-    if bytes_eq first (codes "init") then init_words rest
-    else if bytes_eq first (codes "add") then add_words rest
-    else if bytes_eq first (codes "files") then files_words rest
+command_of (name ∷ rest) =
+    if bytes_eq name (codes "init") then init_words rest
+    else if bytes_eq name (codes "add") then add_words rest
+    else if bytes_eq name (codes "cat") then option_map (λ target. cmd.Cat target) (one_argument (codes "TARGET") rest)
+    else if bytes_eq name (codes "get") then
+    option_map (λ given. cmd.Get given.0 given.1) (two_arguments (codes "TARGET") (codes "HOSTPATH") rest)
+    else if bytes_eq name (codes "files") then files_words rest
+    else if bytes_eq name (codes "dag") then dag_words rest
+    else if bytes_eq name (codes "batch") then option_map (λ nothing. cmd.Batch) (bare rest)
+    else if bytes_eq name (codes "gen") then gen_words rest
     else None
 
 -- the profile of an `init` is accepted; no other command has one

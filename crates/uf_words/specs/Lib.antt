@@ -1,3 +1,4 @@
 pub mod Commands
 pub mod Options
 pub mod Shown
+pub mod Lines

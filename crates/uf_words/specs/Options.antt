@@ -1,11 +1,66 @@
--- Options and arguments in the words of a command.
-use Rattle.std.specs.Prelude.{ℕ, ◌-◌, ◌*◌, ◌+◌, ◌^◌, ◌==◌, ◌&&◌, Bool, true, false, List, [], ◌∷◌, length, nat_le, nat_lt, slice_index, if◌then◌else◌}
-use Rattle.std.specs.Str.{bytes_eq}
+-- Options, arguments and numbers in the words of a command, by what the crate `clap` says it reads.
+use Rattle.std.specs.Prelude.{◌≡◌, ℕ, ◌-◌, ◌*◌, ◌+◌, ◌^◌, ◌&&◌, Bool, true, false, List, [], ◌∷◌, length, codes, nat_le, nat_lt, if◌then◌else◌}
 use Rattle.std.specs.List.{list_all}
+use Rattle.std.specs.Str.{bytes_eq}
 use Rattle.std.specs.Char.{is_ascii_digit}
-use Rattle.std.specs.Option.{option_map}
+use Rattle.std.specs.Option.{option_map_or}
 use Rattle.std.specs.declared.option.Option.{Option}
 use Rattle.std.specs.declared.option.Option.TheVariants.{None, Some}
+use Rattle.clap.specs.declared.builder.action.ArgAction.TheVariants.{Set, SetTrue}
+use Rattle.clap.specs.Walk.{Row, Rule, first_of, is_empty, rows_of}
+use Rattle.clap.specs.Matches.{found_of}
+use Rattle.clap.specs.declared.parser.matches.ArgMatches.{ArgMatches}
+use Rattle.std.specs.declared.result.Result.{Result}
+use Rattle.std.specs.declared.result.Result.TheVariants.{Ok, Err}
+use Rattle.uf_words.specs.declared.command.WordFault.{WordFault}
+use Rattle.uf_words.specs.declared.command.WordFault.TheVariants as fault
+use Rattle.clap.specs.Simple.{App, matches_of, new_rule, new_shape}
+use Rattle.clap.specs.Faults.{fault_of}
+
+-- a flag, by its name or by one letter
+abbrev pub flag : List ℕ → ℕ → Rule
+flag name letter = record (new_rule name) { long = Some name; short = Some letter; action = Some SetTrue }
+
+-- an option with a value, by its name alone
+abbrev pub valued : List ℕ → Rule
+valued name = record (new_rule name) { long = Some name; action = Some Set }
+
+-- an option with a value, by its name or by one letter
+abbrev pub valued_short : List ℕ → ℕ → Rule
+valued_short name letter = record (valued name) { short = Some letter }
+
+-- an argument that has to be there
+abbrev pub argument : List ℕ → Rule
+argument name = record (new_rule name) { required = true; action = Some Set }
+
+-- an argument that may be absent
+abbrev pub optional_argument : List ℕ → Rule
+optional_argument name = record (new_rule name) { action = Some Set }
+
+-- the command of `clap` that has these options and arguments, and no flag for help
+abbrev pub simple_command : List Rule → App
+simple_command rules = record {
+  top = record (new_shape (codes "unixfs")) { rules = rules; no_binary_name = true; disable_help_flag = true };
+  subs = [];
+}
+
+-- what a command of `clap` finds in the words, where it refuses none of them
+unfoldable pub found_by : App → List (List ℕ) → Option (List Row)
+found_by app words = if is_empty (fault_of app words) then Some (matches_of app words) else None
+
+-- what is found in the words by these options and arguments
+abbrev pub found_in : List Rule → List (List ℕ) → Option (List Row)
+found_in rules words = found_by (simple_command rules) words
+
+-- the call finds this in the words, or refuses them, or wants memory
+abbrev pub FindsIn : Result ArgMatches WordFault → Option (List Row) → Type 0
+FindsIn (Ok matches) told = told ≡ Some (rows_of (found_of matches))
+FindsIn (Err fault.Usage) told = told ≡ None
+FindsIn (Err fault.Memory) told = Unit {0}
+
+-- the flag is given
+abbrev pub is_flagged : List ℕ → List Row → Bool
+is_flagged name found = option_map_or (λ value. bytes_eq value (codes "true")) (first_of name found) false
 
 -- the number that decimal digits stand for, behind the number `n` of the digits before them
 abbrev pub decimal_from : ℕ → List ℕ → ℕ
@@ -17,26 +72,11 @@ abbrev pub is_numeral : List ℕ → Bool
 is_numeral word = nat_le 1 (length word) && nat_le (length word) 20 && list_all is_ascii_digit word
 
 -- the number of a word of 1 to 20 decimal digits, which is at most 2 ^ 64 - 1
-abbrev pub number_of : List ℕ → Option ℕ
-number_of word = if is_numeral word && nat_lt (decimal_from 0 word) (2 ^ 64) then Some (decimal_from 0 word) else None
+unfoldable pub numeral_value : List ℕ → Option ℕ
+numeral_value word =
+    if is_numeral word && nat_lt (decimal_from 0 word) (2 ^ 64) then Some (decimal_from 0 word) else None
 
--- whether the words begin with this flag, and the words behind it
-abbrev pub flag_in : List ℕ → List (List ℕ) → Bool × List (List ℕ)
-flag_in flag [] = (false, [])
-flag_in flag (word ∷ rest) = if bytes_eq word flag then (true, rest) else (false, word ∷ rest)
-
--- the number that the words begin with, and the words behind it
-abbrev pub numbered : List (List ℕ) → Option (ℕ × List (List ℕ))
-numbered [] = None
-numbered (word ∷ rest) = option_map (λ n. (n, rest)) (number_of word)
-
--- the number of this option where the words begin with it, or the number that stands for it, and the words behind
-abbrev pub number_in : List ℕ → ℕ → List (List ℕ) → Option (ℕ × List (List ℕ))
-number_in option absent [] = Some (absent, [])
-number_in option absent (word ∷ rest) = if bytes_eq word option then numbered rest else Some (absent, word ∷ rest)
-
--- the one word that is left as an argument: it doesn't begin with `-`
-abbrev pub argument_in : List (List ℕ) → Option (List ℕ)
-argument_in [] = None
-argument_in (word ∷ []) = if slice_index word 0 == 45 then None else Some word
-argument_in (word ∷ another ∷ rest) = None
+-- the number of a value, or the one that stands for none
+abbrev pub number_or : ℕ → Option (List ℕ) → Option ℕ
+number_or absent None = Some absent
+number_or absent (Some word) = numeral_value word

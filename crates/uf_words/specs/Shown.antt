@@ -1,32 +1,19 @@
 -- Texts as they are printed (percent-encoding, RFC 3986 section 2.1).
-use Rattle.std.specs.Prelude.{ℕ, ◌+◌, ◌-◌, ◌*◌, ◌/◌, ◌%◌, ◌==◌, ◌&&◌, not, Bool, List, [], ◌∷◌, ◌++◌, nat_lt, if◌then◌else◌}
+use Rattle.std.specs.Prelude.{ℕ, ◌+◌, ◌/◌, ◌%◌, ◌==◌, ◌&&◌, not, Bool, List, [], ◌∷◌, ◌++◌, nat_lt, if◌then◌else◌}
 
 -- the byte is printed as it is: it stands for a character of ASCII that has ink, and isn't `%`
 abbrev pub is_plain : ℕ → Bool
 is_plain b = nat_lt 32 b && nat_lt b 127 && not (b == 37)
 
 -- the upper case hexadecimal digit of a number below 16
-abbrev pub hex_digit : ℕ → ℕ
-hex_digit n = if nat_lt n 10 then 48 + n else 55 + n
+abbrev pub upper_hex : ℕ → ℕ
+upper_hex n = if nat_lt n 10 then 48 + n else 55 + n
 
 -- a plain byte itself, and for another byte `%` and its two digits
 abbrev pub shown_byte : ℕ → List ℕ
-shown_byte b = if is_plain b then b ∷ [] else 37 ∷ hex_digit (b / 16) ∷ hex_digit (b % 16) ∷ []
+shown_byte b = if is_plain b then b ∷ [] else 37 ∷ upper_hex (b / 16) ∷ upper_hex (b % 16) ∷ []
 
 -- the bytes of a text as they are printed
 abbrev pub shown_bytes : List ℕ → List ℕ
 shown_bytes [] = []
 shown_bytes (b ∷ rest) = shown_byte b ++ shown_bytes rest
-
--- the number of an upper case hexadecimal digit
-abbrev pub hex_value : ℕ → ℕ
-hex_value c = if nat_lt c 58 then c - 48 else c - 55
-
--- the bytes that printed bytes stand for: `%` and two digits for one byte, each other byte for itself
-abbrev pub read_again : List ℕ → List ℕ
-read_again [] = []
-read_again (b ∷ []) = b ∷ []
-read_again (b ∷ high ∷ []) = b ∷ high ∷ []
-read_again (b ∷ high ∷ low ∷ rest) =
-    if b == 37 then (hex_value high * 16 + hex_value low) ∷ read_again rest
-    else b ∷ read_again (high ∷ low ∷ rest)

@@ -1,4 +1,5 @@
 // Commands, and why words are none.
+use std::alloc::{AllocError, AllocFailed};
 use uf_cid::{Block, Memory, Text};
 use uf_tree::Profile;
 
@@ -17,6 +18,28 @@ impl From<Memory> for WordFault {
     ghost from_gives = { λ _ fault. fault ≡ faults.Memory };
 
     fn from(_: Memory) -> Self {
+        WordFault::Memory
+    }
+}
+
+impl From<AllocError> for WordFault {
+    ghost use Rattle.std.specs.Prelude.{◌≡◌};
+    ghost use Rattle.uf_words.specs.declared.command.WordFault.TheVariants as faults;
+
+    ghost from_gives = { λ _ fault. fault ≡ faults.Memory };
+
+    fn from(_: AllocError) -> Self {
+        WordFault::Memory
+    }
+}
+
+impl<T: Drop> From<AllocFailed<T>> for WordFault {
+    ghost use Rattle.std.specs.Prelude.{◌≡◌};
+    ghost use Rattle.uf_words.specs.declared.command.WordFault.TheVariants as faults;
+
+    ghost from_gives = { λ _ fault. fault ≡ faults.Memory };
+
+    fn from(_: AllocFailed<T>) -> Self {
         WordFault::Memory
     }
 }

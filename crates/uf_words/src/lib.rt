@@ -5,10 +5,13 @@ mod command;
 mod options;
 mod printing;
 mod reading;
+mod splitting;
+mod table;
 
 pub use command::{Cmd, WordFault};
-pub use printing::{shown, shown_text_is_read_again};
+pub use printing::{a_shown_text_is_one_word, shown};
 pub use reading::read_words;
+pub use splitting::split_line;
 
 #[cfg(test)]
 mod tests;

@@ -1,57 +1,166 @@
-// Options and arguments, taken from the front of words.
-ghost use Rattle.std.specs.Prelude.{◌≡◌, ◌==◌, map, slice_index, string_bytes};
-ghost use Rattle.std.specs.Option.{option_copied, option_map};
+// Options, arguments and numbers in the words of a command, read by the crate `clap`.
+ghost use Rattle.std.specs.Prelude.{◌≡◌, [], true, false, map, string_bytes, IfOk};
+ghost use Rattle.std.specs.Option.{option_map};
 ghost use Rattle.std.specs.List.{list_all};
 ghost use Rattle.std.specs.Char.{is_ascii_digit};
-ghost use Rattle.uf_words.specs.Options.{argument_in, flag_in, is_numeral, number_in, number_of, numbered};
+ghost use Rattle.clap.specs.Walk.{first_of, rows_of, rule_of};
+ghost use Rattle.clap.specs.Matches.{found_of};
+ghost use Rattle.clap.specs.Simple.{app_of, with_rule};
+ghost use Rattle.clap.specs.Faults.{is_simple_and_free};
+ghost use Rattle.uf_words.specs.Commands.{ReadsWords};
+ghost use Rattle.uf_words.specs.Options.{FindsIn, argument, flag, found_by, is_flagged, is_numeral, numeral_value, number_or, optional_argument, simple_command, valued, valued_short};
 
-// Whether the words begin with the flag, and the words behind it.
-pub fn flag<'a>(words: &'a [String], spelled: &str) -> (bool, &'a [String])
-    ensures { (result.0, map string_bytes result.1.now) ≡ flag_in spelled.now (map string_bytes words.entry.now) }
+use crate::WordFault;
+use clap::error::ErrorKind;
+use clap::{Arg, ArgAction, ArgMatches, Command};
+use std::alloc::{AllocError, Global};
+use uf_cid::{Memory, Text};
+
+// A command of `clap` with no options and no arguments yet.
+pub fn bare_command<'a>(alloc: Global) -> Command<'a>
+    ensures { app_of result ≡ simple_command [] }
 {
-    match words {
-        [first, rest @ ..] if first.as_str() == spelled => (true, rest),
-        _ => (false, words),
-    }
+    Command::new(alloc, "unixfs")
+        .no_binary_name(true)
+        .disable_help_flag(true)
 }
 
-// The number of the option where the words begin with it, or the number that stands for it, and the words behind it.
-pub fn number_option<'a>(
-    words: &'a [String],
-    spelled: &str,
-    absent: u64,
-) -> Option<(u64, &'a [String])>
-    ensures { option_map (λ x. (x.0, map string_bytes x.1.now)) result ≡ number_in spelled.now absent (map string_bytes words.entry.now) }
+// The command with one more option or argument.
+pub fn with<'a>(command: Command<'a>, arg: Arg<'a>) -> Result<Command<'a>, AllocError>
+    requires { arg.global ≡ false }
+    ensures { IfOk result (λ more. app_of more ≡ with_rule (app_of command.entry) (rule_of arg.entry)) }
 {
-    match words {
-        [first, rest @ ..] if first.as_str() == spelled => number_in_front(rest),
-        _ => Some((absent, words)),
-    }
+    command.arg(arg)
 }
 
-// The number that the words begin with, and the words behind it.
-fn number_in_front(words: &[String]) -> Option<(u64, &[String])>
-    ensures { option_map (λ x. (x.0, map string_bytes x.1.now)) result ≡ numbered (map string_bytes words.entry.now) }
+// A flag, by its name or by one letter.
+pub fn flag_arg<'a>(alloc: Global, name: &'a str, letter: char) -> Arg<'a>
+    ensures rule { rule_of result ≡ flag name.entry.now letter }
+    ensures own { result.global ≡ false }
 {
-    match words {
-        [first, rest @ ..] => match number(first.as_str()) {
-            Some(value) => Some((value, rest)),
-            None => None,
+    Arg::new(alloc, name)
+        .long(name)
+        .short(letter)
+        .action(ArgAction::SetTrue)
+}
+
+// An option with a value, by its name alone.
+pub fn valued_arg<'a>(alloc: Global, name: &'a str) -> Arg<'a>
+    ensures rule { rule_of result ≡ valued name.entry.now }
+    ensures own { result.global ≡ false }
+{
+    Arg::new(alloc, name).long(name).action(ArgAction::Set)
+}
+
+// An option with a value, by its name or by one letter.
+pub fn valued_short_arg<'a>(alloc: Global, name: &'a str, letter: char) -> Arg<'a>
+    ensures rule { rule_of result ≡ valued_short name.entry.now letter }
+    ensures own { result.global ≡ false }
+{
+    valued_arg(alloc, name).short(letter)
+}
+
+// An argument that has to be there.
+pub fn argument_arg<'a>(alloc: Global, name: &'a str) -> Arg<'a>
+    ensures rule { rule_of result ≡ argument name.entry.now }
+    ensures own { result.global ≡ false }
+{
+    Arg::new(alloc, name).required(true).action(ArgAction::Set)
+}
+
+// An argument that may be absent.
+pub fn optional_arg<'a>(alloc: Global, name: &'a str) -> Arg<'a>
+    ensures rule { rule_of result ≡ optional_argument name.entry.now }
+    ensures own { result.global ≡ false }
+{
+    Arg::new(alloc, name).action(ArgAction::Set)
+}
+
+// What the command finds in the words.
+pub fn find<'a>(command: Command<'a>, words: &'a [String]) -> Result<ArgMatches<'a>, WordFault>
+    requires { is_simple_and_free (app_of command) ≡ true }
+    ensures { FindsIn result (found_by (app_of command.entry) (map string_bytes words.entry.now)) }
+{
+    match command.try_get_matches_from(words) {
+        Ok(found) => Ok(found),
+        Err(why) => match why.kind() {
+            ErrorKind::OutOfMemory => Err(WordFault::Memory),
+            _ => Err(WordFault::Usage),
         },
-        [] => None,
+    }
+}
+
+// The value of an option or an argument.
+pub fn value_of<'a>(found: &ArgMatches<'a>, name: &str) -> Option<&'a str>
+    ensures { option_map (λ value. value.now) result ≡ first_of name.now (rows_of (found_of found.now)) }
+{
+    found.get_str(name)
+}
+
+// Whether the flag is given: its value is `true` then, and `false` else.
+pub fn is_given(found: &ArgMatches<'_>, name: &str) -> bool
+    ensures { result ≡ is_flagged name.now (rows_of (found_of found.now)) }
+{
+    match value_of(found, name) {
+        Some(value) => value == "true",
+        None => false,
+    }
+}
+
+// The value as a text of its own.
+pub fn text_of(alloc: Global, found: &ArgMatches<'_>, name: &str) -> Result<Text, WordFault>
+    ensures { ReadsWords result (first_of name.now (rows_of (found_of found.now))) }
+{
+    match value_of(found, name) {
+        Some(value) => Ok(owned(alloc, value)?),
+        None => Err(WordFault::Usage),
+    }
+}
+
+// The value as a text of its own, where there is one.
+pub fn text_or_none(
+    alloc: Global,
+    found: &ArgMatches<'_>,
+    name: &str,
+) -> Result<Option<Text>, Memory>
+    ensures { IfOk result (λ text. text ≡ first_of name.now (rows_of (found_of found.now))) }
+{
+    match value_of(found, name) {
+        Some(value) => Ok(Some(owned(alloc, value)?)),
+        None => Ok(None),
+    }
+}
+
+// A text of its own.
+pub fn owned(alloc: Global, text: &str) -> Result<Text, Memory>
+    ensures { IfOk result (λ own. own ≡ text.now) }
+{
+    let mut own = Text::new(alloc);
+    own.push_str(text)?;
+    Ok(own)
+}
+
+// The number of the value, or the one that stands for none.
+pub fn number_in(found: &ArgMatches<'_>, name: &str, absent: u64) -> Result<u64, WordFault>
+    ensures { ReadsWords result (number_or absent (first_of name.now (rows_of (found_of found.now)))) }
+{
+    match value_of(found, name) {
+        Some(value) => number(value),
+        None => Ok(absent),
     }
 }
 
 // The number of a word of 1 to 20 decimal digits.
-fn number(word: &str) -> Option<u64>
-    ensures { result ≡ number_of word.now }
+#[tactic(auto, unfolding(crate::specs::Options::numeral_value))]
+pub fn number(word: &str) -> Result<u64, WordFault>
+    ensures { ReadsWords result (numeral_value word.now) }
 {
     if !is_numeral_text(word) {
-        return None;
+        return Err(WordFault::Usage);
     }
     match word.parse::<u64>() {
-        Ok(value) => Some(value),
-        Err(_) => None,
+        Ok(value) => Ok(value),
+        Err(_) => Err(WordFault::Usage),
     }
 }
 
@@ -67,21 +176,4 @@ fn is_digits(bytes: &[u8]) -> bool
     ensures { result ≡ list_all is_ascii_digit bytes.now }
 {
     bytes.iter().all(|byte| byte.is_ascii_digit())
-}
-
-// The one word, which is an argument.
-pub fn argument(words: &[String]) -> Option<&str>
-    ensures { option_copied result ≡ argument_in (map string_bytes words.entry.now) }
-{
-    match words {
-        [word] if !is_option(word.as_str()) => Some(word.as_str()),
-        _ => None,
-    }
-}
-
-// Whether the word begins with `-`.
-fn is_option(word: &str) -> bool
-    ensures { result ≡ (slice_index word.now 0 == 45) }
-{
-    matches!(word.as_bytes(), [b'-', ..])
 }

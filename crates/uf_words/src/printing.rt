@@ -1,7 +1,8 @@
 // Names and paths as they are printed.
-ghost use Rattle.std.specs.Prelude.{◌≡◌, List, ℕ, IfOk};
+ghost use Rattle.std.specs.Prelude.{◌≡◌, ◌≢◌, [], ◌∷◌, List, ℕ, IfOk};
 ghost use Rattle.uf_cid.specs.Bytes.{IsBytes};
-ghost use Rattle.uf_words.specs.Shown.{read_again, shown_bytes};
+ghost use Rattle.uf_words.specs.Lines.{line_words};
+ghost use Rattle.uf_words.specs.Shown.{shown_bytes};
 
 use percent_encoding::{AsciiSet, CONTROLS, ascii_set, utf8_percent_encode};
 use std::alloc::Global;
@@ -21,7 +22,7 @@ pub fn shown(alloc: Global, text: &str) -> Result<Text, Memory>
     Ok(own)
 }
 
-/// What is printed of a text can be read again.
-pub fn shown_text_is_read_again()
-    ensures { (bytes : List ℕ) → IsBytes bytes → read_again (shown_bytes bytes) ≡ bytes }
+/// What is printed of a text that isn't empty is one word of a line: `split_line` gives the text back.
+pub fn a_shown_text_is_one_word()
+    ensures { (bytes : List ℕ) → IsBytes bytes → bytes ≢ [] → line_words (shown_bytes bytes) ≡ bytes ∷ [] }
 {}

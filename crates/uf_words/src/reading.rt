@@ -1,16 +1,26 @@
 // Commands read from words.
-ghost use Rattle.std.specs.Prelude.{◌≡◌, [], map, string_bytes, IfOk, MatchResult};
-ghost use Rattle.uf_words.specs.Commands.{HasAcceptedProfile, ReadsWords, add_words, command_of, files_words, init_of, init_words, ls_words, mkdir_words, rm_words, stat_words};
-ghost use Rattle.uf_words.specs.declared.command.WordFault.TheVariants as faults;
+ghost use Rattle.std.specs.Prelude.{◌≡◌, [], map, string_bytes, IfOk};
+ghost use Rattle.clap.specs.Matches.{found_of};
+ghost use Rattle.clap.specs.Walk.{rows_of, first_of};
+ghost use Rattle.uf_words.specs.Commands.{HasAcceptedProfile, ReadsWords, add_of, add_words, bare, bytes_or_none, command_of, dag_words, decoded_hex, ends_with_slash, files_words, flag_and_argument, gen_words, init_of, init_words, ls_words, one_argument, places_well, read_words_of, truncate_words, two_arguments, write_words_of};
+ghost use Rattle.uf_words.specs.Options.{found_in};
 
-use crate::options::{argument, flag, number_option};
+use crate::options::{
+    bare_command, find, is_given, number, number_in, owned, text_of, text_or_none, value_of,
+};
+use crate::table::{
+    add_command, flagged_command, init_command, ls_command, one_argument_command, read_command,
+    two_arguments_command, write_command,
+};
 use crate::{Cmd, WordFault};
+use clap::ArgMatches;
+use hex::{FromHexError, decode};
 use std::alloc::Global;
-use uf_cid::Text;
+use uf_cid::{Block, Text};
 use uf_tree::Profile;
 
-/// The command that words are: its first words, then its options in the order of its usage line, each at most once and in
-/// its short spelling where it has one, then its arguments, none of which begins with `-`.
+/// The command that words are: the first words are compared exactly, and `clap` reads the options and arguments behind
+/// them.
 #[tactic(auto, unfolding(crate::specs::Commands::command_of))]
 pub fn read_words(alloc: Global, words: &[String]) -> Result<Cmd, WordFault>
     ensures exact { ReadsWords result (command_of (map string_bytes words.now)) }
@@ -21,61 +31,107 @@ pub fn read_words(alloc: Global, words: &[String]) -> Result<Cmd, WordFault>
     };
     let name = first.as_str();
     if name == "init" {
-        read_init(rest)
+        read_init(alloc, rest)
     } else if name == "add" {
-        read_add(rest)
+        read_add(alloc, rest)
+    } else if name == "cat" {
+        let target = read_argument(alloc, "TARGET", rest)?;
+        Ok(Cmd::Cat { target })
+    } else if name == "get" {
+        let (target, host_path) = read_arguments(alloc, "TARGET", "HOSTPATH", rest)?;
+        Ok(Cmd::Get { target, host_path })
     } else if name == "files" {
         read_files(alloc, rest)
+    } else if name == "dag" {
+        read_dag(alloc, rest)
+    } else if name == "batch" {
+        read_bare(alloc, rest)?;
+        Ok(Cmd::Batch)
+    } else if name == "gen" {
+        read_gen(alloc, rest)
     } else {
         Err(WordFault::Usage)
     }
 }
 
 // A command of the group `files`.
+#[tactic(auto, unfolding(crate::specs::Commands::files_words))]
 fn read_files(alloc: Global, words: &[String]) -> Result<Cmd, WordFault>
-    ensures { ReadsWords result (files_words (map string_bytes words.now)) }
+    ensures exact { ReadsWords result (files_words (map string_bytes words.now)) }
+    ensures profile { IfOk result HasAcceptedProfile }
 {
     let [first, rest @ ..] = words else {
         return Err(WordFault::Usage);
     };
     let name = first.as_str();
     if name == "mkdir" {
-        read_mkdir(alloc, rest)
+        let (parents, path) = read_flagged(alloc, "parents", 'p', "PATH", rest)?;
+        Ok(Cmd::Mkdir { parents, path })
     } else if name == "ls" {
         read_ls(alloc, rest)
     } else if name == "stat" {
-        read_stat(alloc, rest)
+        let path = read_argument(alloc, "PATH", rest)?;
+        Ok(Cmd::Stat { path })
+    } else if name == "read" {
+        read_read(alloc, rest)
+    } else if name == "write" {
+        read_write(alloc, rest)
+    } else if name == "truncate" {
+        read_truncate(alloc, rest)
+    } else if name == "cp" {
+        let (source, dest) = read_arguments(alloc, "SOURCE", "DEST", rest)?;
+        Ok(Cmd::Cp { source, dest })
+    } else if name == "mv" {
+        let (source, dest) = read_arguments(alloc, "SOURCE", "DEST", rest)?;
+        Ok(Cmd::Mv { source, dest })
     } else if name == "rm" {
-        read_rm(alloc, rest)
+        let (recursive, path) = read_flagged(alloc, "recursive", 'r', "PATH", rest)?;
+        Ok(Cmd::Rm { recursive, path })
+    } else {
+        Err(WordFault::Usage)
+    }
+}
+
+// A command of the group `dag`.
+#[tactic(auto, unfolding(crate::specs::Commands::dag_words))]
+fn read_dag(alloc: Global, words: &[String]) -> Result<Cmd, WordFault>
+    ensures exact { ReadsWords result (dag_words (map string_bytes words.now)) }
+    ensures profile { IfOk result HasAcceptedProfile }
+{
+    let [first, rest @ ..] = words else {
+        return Err(WordFault::Usage);
+    };
+    let name = first.as_str();
+    if name == "export" {
+        let cid = read_argument(alloc, "CID", rest)?;
+        Ok(Cmd::Export { cid })
+    } else if name == "import" {
+        read_bare(alloc, rest)?;
+        Ok(Cmd::Import)
+    } else if name == "same" {
+        let cid = read_argument(alloc, "CID", rest)?;
+        Ok(Cmd::Same { cid })
     } else {
         Err(WordFault::Usage)
     }
 }
 
 // `init [--chunk N] [--width N] [--threshold N]`
-fn read_init(words: &[String]) -> Result<Cmd, WordFault>
+#[tactic(auto, unfolding(crate::specs::Commands::init_words))]
+fn read_init(alloc: Global, words: &[String]) -> Result<Cmd, WordFault>
     ensures exact { ReadsWords result (init_words (map string_bytes words.now)) }
     ensures profile { IfOk result HasAcceptedProfile }
 {
-    let Some((chunk, words)) = number_option(words, "--chunk", 262144) else {
-        return Err(WordFault::Usage);
-    };
-    let Some((width, words)) = number_option(words, "--width", 174) else {
-        return Err(WordFault::Usage);
-    };
-    let Some((threshold, words)) = number_option(words, "--threshold", 262144) else {
-        return Err(WordFault::Usage);
-    };
-    if words.is_empty() {
-        init(chunk, width, threshold)
-    } else {
-        Err(WordFault::Usage)
-    }
+    let found = find(init_command(alloc)?, words)?;
+    let chunk = number_in(&found, "chunk", 262144)?;
+    let width = number_in(&found, "width", 174)?;
+    let threshold = number_in(&found, "threshold", 262144)?;
+    init(chunk, width, threshold)
 }
 
 // `init` with these numbers, where they are a profile.
 fn init(chunk: u64, width: u64, threshold: u64) -> Result<Cmd, WordFault>
-    ensures exact { ReadsWords result (init_of (record { chunk = chunk; width = width; threshold = threshold }) []) }
+    ensures exact { ReadsWords result (init_of (record { chunk = chunk; width = width; threshold = threshold })) }
     ensures profile { IfOk result HasAcceptedProfile }
 {
     let (Ok(chunk), Ok(width), Ok(threshold)) = (
@@ -91,89 +147,209 @@ fn init(chunk: u64, width: u64, threshold: u64) -> Result<Cmd, WordFault>
     }
 }
 
-// `add [-n]`
-fn read_add(words: &[String]) -> Result<Cmd, WordFault>
-    ensures { ReadsWords result (add_words (map string_bytes words.now)) }
+// `add [-r] [-n] [--to-files PATH] [HOSTPATH]`
+#[tactic(auto, unfolding(crate::specs::Commands::add_words))]
+fn read_add(alloc: Global, words: &[String]) -> Result<Cmd, WordFault>
+    ensures exact { ReadsWords result (add_words (map string_bytes words.now)) }
+    ensures profile { IfOk result HasAcceptedProfile }
 {
-    let (only_hash, rest) = flag(words, "-n");
-    if !rest.is_empty() {
-        return Err(WordFault::Usage);
-    }
-    Ok(Cmd::Add {
-        recursive: false,
-        only_hash,
-        to_files: None,
-        host_path: None,
-    })
+    let found = find(add_command(alloc)?, words)?;
+    let to_files = text_or_none(alloc, &found, "to-files")?;
+    let host_path = text_or_none(alloc, &found, "HOSTPATH")?;
+    add(
+        is_given(&found, "recursive"),
+        is_given(&found, "only-hash"),
+        to_files,
+        host_path,
+    )
 }
 
-// `files mkdir [-p] PATH`
-fn read_mkdir(alloc: Global, words: &[String]) -> Result<Cmd, WordFault>
-    ensures { ReadsWords result (mkdir_words (map string_bytes words.now)) }
+// `add` with these options, where they go together.
+fn add(
+    recursive: bool,
+    only_hash: bool,
+    to_files: Option<Text>,
+    host_path: Option<Text>,
+) -> Result<Cmd, WordFault>
+    ensures exact { ReadsWords result (add_of recursive only_hash to_files host_path) }
+    ensures profile { IfOk result HasAcceptedProfile }
 {
-    let (parents, rest) = flag(words, "-p");
-    match argument(rest) {
-        Some(path) => match owned(alloc, path) {
-            Ok(path) => Ok(Cmd::Mkdir { parents, path }),
-            Err(fault) => Err(fault),
-        },
-        None => Err(WordFault::Usage),
+    if is_placed_well(only_hash, &to_files, host_path.is_some()) {
+        Ok(Cmd::Add {
+            recursive,
+            only_hash,
+            to_files,
+            host_path,
+        })
+    } else {
+        Err(WordFault::Usage)
     }
+}
+
+// Whether there is a place in the tree for what is added, where one is asked for.
+fn is_placed_well(only_hash: bool, to_files: &Option<Text>, is_named: bool) -> bool
+    ensures { result ≡ places_well only_hash to_files.now is_named }
+{
+    match to_files {
+        None => true,
+        Some(dest) => !only_hash && (is_named || !ends_in_slash(dest.as_str())),
+    }
+}
+
+// Whether the last byte is a slash.
+fn ends_in_slash(text: &str) -> bool
+    ensures { result ≡ ends_with_slash text.now }
+{
+    matches!(text.as_bytes(), [.., b'/'])
 }
 
 // `files ls [-l] [PATH]`
+#[tactic(auto, unfolding(crate::specs::Commands::ls_words))]
 fn read_ls(alloc: Global, words: &[String]) -> Result<Cmd, WordFault>
-    ensures { ReadsWords result (ls_words (map string_bytes words.now)) }
+    ensures exact { ReadsWords result (ls_words (map string_bytes words.now)) }
+    ensures profile { IfOk result HasAcceptedProfile }
 {
-    let (long, rest) = flag(words, "-l");
-    let path = if rest.is_empty() {
-        Some("/")
-    } else {
-        argument(rest)
-    };
-    match path {
-        Some(path) => match owned(alloc, path) {
-            Ok(path) => Ok(Cmd::Ls { long, path }),
-            Err(fault) => Err(fault),
-        },
-        None => Err(WordFault::Usage),
+    let found = find(ls_command(alloc)?, words)?;
+    let path = owned(alloc, value_of(&found, "PATH").unwrap_or("/"))?;
+    Ok(Cmd::Ls {
+        long: is_given(&found, "long"),
+        path,
+    })
+}
+
+// `files read [-o N] [-n N] PATH`
+#[tactic(auto, unfolding(crate::specs::Commands::read_words_of))]
+fn read_read(alloc: Global, words: &[String]) -> Result<Cmd, WordFault>
+    ensures exact { ReadsWords result (read_words_of (map string_bytes words.now)) }
+    ensures profile { IfOk result HasAcceptedProfile }
+{
+    let found = find(read_command(alloc)?, words)?;
+    let offset = number_in(&found, "offset", 0)?;
+    let count = number_in(&found, "count", u64::MAX)?;
+    let path = text_of(alloc, &found, "PATH")?;
+    Ok(Cmd::Read {
+        offset,
+        count,
+        path,
+    })
+}
+
+// `files write [-o N] [-e] [-t] [-x HEX] PATH`
+#[tactic(auto, unfolding(crate::specs::Commands::write_words_of))]
+fn read_write(alloc: Global, words: &[String]) -> Result<Cmd, WordFault>
+    ensures exact { ReadsWords result (write_words_of (map string_bytes words.now)) }
+    ensures profile { IfOk result HasAcceptedProfile }
+{
+    let found = find(write_command(alloc)?, words)?;
+    let offset = number_in(&found, "offset", 0)?;
+    let hex = bytes_in(alloc, &found, "hex")?;
+    let path = text_of(alloc, &found, "PATH")?;
+    Ok(Cmd::Write {
+        offset,
+        create: is_given(&found, "create"),
+        cut: is_given(&found, "truncate"),
+        hex,
+        path,
+    })
+}
+
+// The bytes of hexadecimal digits, where the option is given.
+fn bytes_in(alloc: Global, found: &ArgMatches<'_>, name: &str) -> Result<Option<Block>, WordFault>
+    ensures { ReadsWords result (bytes_or_none (first_of name.now (rows_of (found_of found.now)))) }
+{
+    match value_of(found, name) {
+        Some(digits) => Ok(Some(bytes_of(alloc, digits)?)),
+        None => Ok(None),
     }
 }
 
-// `files stat PATH`
-fn read_stat(alloc: Global, words: &[String]) -> Result<Cmd, WordFault>
-    ensures { ReadsWords result (stat_words (map string_bytes words.now)) }
+// The bytes of hexadecimal digits, two for each.
+fn bytes_of(alloc: Global, digits: &str) -> Result<Block, WordFault>
+    ensures { ReadsWords result (decoded_hex digits.now) }
 {
-    match argument(words) {
-        Some(path) => match owned(alloc, path) {
-            Ok(path) => Ok(Cmd::Stat { path }),
-            Err(fault) => Err(fault),
-        },
-        None => Err(WordFault::Usage),
+    match decode(alloc, digits.as_bytes()) {
+        Ok(bytes) => {
+            let mut own = Block::new(alloc);
+            own.extend(&bytes)?;
+            Ok(own)
+        }
+        Err(FromHexError::OutOfMemory) => Err(WordFault::Memory),
+        Err(_) => Err(WordFault::Usage),
     }
 }
 
-// `files rm [-r] PATH`
-fn read_rm(alloc: Global, words: &[String]) -> Result<Cmd, WordFault>
-    ensures { ReadsWords result (rm_words (map string_bytes words.now)) }
+// `files truncate PATH LENGTH`
+#[tactic(auto, unfolding(crate::specs::Commands::truncate_words))]
+fn read_truncate(alloc: Global, words: &[String]) -> Result<Cmd, WordFault>
+    ensures exact { ReadsWords result (truncate_words (map string_bytes words.now)) }
+    ensures profile { IfOk result HasAcceptedProfile }
 {
-    let (recursive, rest) = flag(words, "-r");
-    match argument(rest) {
-        Some(path) => match owned(alloc, path) {
-            Ok(path) => Ok(Cmd::Rm { recursive, path }),
-            Err(fault) => Err(fault),
-        },
-        None => Err(WordFault::Usage),
-    }
+    let (path, length) = read_arguments(alloc, "PATH", "LENGTH", words)?;
+    let length = number(length.as_str())?;
+    Ok(Cmd::Truncate { path, length })
 }
 
-// A text of its own.
-fn owned(alloc: Global, text: &str) -> Result<Text, WordFault>
-    ensures { MatchResult result (λ t. t ≡ text.now) (λ fault. fault ≡ faults.Memory) }
+// `gen N SEED`
+#[tactic(auto, unfolding(crate::specs::Commands::gen_words))]
+fn read_gen(alloc: Global, words: &[String]) -> Result<Cmd, WordFault>
+    ensures exact { ReadsWords result (gen_words (map string_bytes words.now)) }
+    ensures profile { IfOk result HasAcceptedProfile }
 {
-    let mut own = Text::new(alloc);
-    match own.push_str(text) {
-        Ok(()) => Ok(own),
-        Err(_) => Err(WordFault::Memory),
+    let (n, seed) = read_arguments(alloc, "N", "SEED", words)?;
+    let n = number(n.as_str())?;
+    let seed = number(seed.as_str())?;
+    if n > 20000 {
+        return Err(WordFault::Usage);
     }
+    Ok(Cmd::Gen { n, seed })
+}
+
+// No options and no arguments.
+#[tactic(auto, unfolding(crate::specs::Commands::bare))]
+fn read_bare(alloc: Global, words: &[String]) -> Result<(), WordFault>
+    ensures { ReadsWords result (bare (map string_bytes words.now)) }
+{
+    find(bare_command(alloc), words)?;
+    Ok(())
+}
+
+// One argument.
+#[tactic(auto, unfolding(crate::specs::Commands::one_argument))]
+fn read_argument(alloc: Global, name: &str, words: &[String]) -> Result<Text, WordFault>
+    ensures { ReadsWords result (one_argument name.now (map string_bytes words.now)) }
+{
+    let found = find(one_argument_command(alloc, name)?, words)?;
+    text_of(alloc, &found, name)
+}
+
+// Two arguments.
+#[tactic(auto, unfolding(crate::specs::Commands::two_arguments))]
+fn read_arguments(
+    alloc: Global,
+    first: &str,
+    second: &str,
+    words: &[String],
+) -> Result<(Text, Text), WordFault>
+    ensures { ReadsWords result (two_arguments first.now second.now (map string_bytes words.now)) }
+{
+    let found = find(two_arguments_command(alloc, first, second)?, words)?;
+    let one = text_of(alloc, &found, first)?;
+    let other = text_of(alloc, &found, second)?;
+    Ok((one, other))
+}
+
+// A flag and one argument.
+#[tactic(auto, unfolding(crate::specs::Commands::flag_and_argument))]
+fn read_flagged(
+    alloc: Global,
+    name: &str,
+    letter: char,
+    value: &str,
+    words: &[String],
+) -> Result<(bool, Text), WordFault>
+    ensures { ReadsWords result (flag_and_argument name.now letter value.now (map string_bytes words.now)) }
+{
+    let found = find(flagged_command(alloc, name, letter, value)?, words)?;
+    let text = text_of(alloc, &found, value)?;
+    Ok((is_given(&found, name), text))
 }

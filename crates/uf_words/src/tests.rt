@@ -1,7 +1,11 @@
 use super::*;
 use std::alloc::{AllocError, Global};
 use std::test::*;
-use uf_cid::Text;
+use uf_cid::{Block, Text};
+
+mod rows;
+
+use rows::{FRONT_PATHS, LINES, READ_COUNTS, READ_OFFSETS, READ_PATHS, REFUSED, ROWS};
 
 // The words of a line, cut at each space.
 fn words_of(alloc: Global, line: &str) -> Result<Vec<String>, AllocError> {
@@ -12,128 +16,232 @@ fn words_of(alloc: Global, line: &str) -> Result<Vec<String>, AllocError> {
     Ok(words)
 }
 
-// What an answer says.
-fn told(alloc: Global, answer: &Result<Cmd, WordFault>) -> Result<String, AllocError> {
-    match answer {
-        Err(WordFault::Usage) => format!(in alloc; "usage"),
-        Err(WordFault::Memory) => format!(in alloc; "memory"),
-        Ok(Cmd::Init { profile }) => {
+// What a text says, or `.` where there is none.
+fn or_dot(text: &Option<Text>) -> &str {
+    match text {
+        Some(text) => text.as_str(),
+        None => ".",
+    }
+}
+
+// How many bytes are given, or `.` where none are.
+fn size(alloc: Global, bytes: &Option<Block>) -> Result<String, AllocError> {
+    match bytes {
+        Some(bytes) => hex::encode(alloc, bytes.as_slice()),
+        None => format!(in alloc; "."),
+    }
+}
+
+// A command with its options and arguments, each behind one `|`.
+fn spelled(alloc: Global, cmd: &Cmd) -> Result<String, AllocError> {
+    match cmd {
+        Cmd::Init { profile } => {
             let (chunk, width, threshold) = (profile.chunk, profile.width, profile.threshold);
-            format!(in alloc; "init {chunk} {width} {threshold}")
+            format!(in alloc; "init|{chunk}|{width}|{threshold}")
         }
-        Ok(
-            Cmd::Add {
-                recursive,
-                only_hash,
-                to_files,
-                host_path,
-            },
-        ) => {
-            let named = to_files.is_some() || host_path.is_some();
-            format!(in alloc; "add {recursive} {only_hash} {named}")
+        Cmd::Add {
+            recursive,
+            only_hash,
+            to_files,
+            host_path,
+        } => {
+            let (dest, path) = (or_dot(to_files), or_dot(host_path));
+            format!(in alloc; "add|{recursive}|{only_hash}|{dest}|{path}")
         }
-        Ok(Cmd::Mkdir { parents, path }) => with_path(alloc, "mkdir", *parents, path),
-        Ok(Cmd::Ls { long, path }) => with_path(alloc, "ls", *long, path),
-        Ok(Cmd::Stat { path }) => with_path(alloc, "stat", false, path),
-        Ok(Cmd::Rm { recursive, path }) => with_path(alloc, "rm", *recursive, path),
+        Cmd::Cat { target } => with_text(alloc, "cat", target),
+        Cmd::Get { target, host_path } => with_texts(alloc, "get", target, host_path),
+        Cmd::Import => format!(in alloc; "import"),
+        Cmd::Batch => format!(in alloc; "batch"),
+        Cmd::Gen { n, seed } => format!(in alloc; "gen|{n}|{seed}"),
+        Cmd::Export { cid } => with_text(alloc, "export", cid),
+        Cmd::Same { cid } => with_text(alloc, "same", cid),
+        cmd => spelled_of_files(alloc, cmd),
+    }
+}
+
+// The same of a command of the group `files`.
+fn spelled_of_files(alloc: Global, cmd: &Cmd) -> Result<String, AllocError> {
+    match cmd {
+        Cmd::Mkdir { parents, path } => with_flag(alloc, "mkdir", *parents, path),
+        Cmd::Ls { long, path } => with_flag(alloc, "ls", *long, path),
+        Cmd::Stat { path } => with_text(alloc, "stat", path),
+        Cmd::Read {
+            offset,
+            count,
+            path,
+        } => {
+            let path = path.as_str();
+            format!(in alloc; "read|{offset}|{count}|{path}")
+        }
+        Cmd::Write {
+            offset,
+            create,
+            cut,
+            hex,
+            path,
+        } => {
+            let (bytes, path) = (size(alloc, hex)?, path.as_str());
+            format!(in alloc; "write|{offset}|{create}|{cut}|{bytes}|{path}")
+        }
+        Cmd::Truncate { path, length } => {
+            let path = path.as_str();
+            format!(in alloc; "truncate|{path}|{length}")
+        }
+        Cmd::Cp { source, dest } => with_texts(alloc, "cp", source, dest),
+        Cmd::Mv { source, dest } => with_texts(alloc, "mv", source, dest),
+        Cmd::Rm { recursive, path } => with_flag(alloc, "rm", *recursive, path),
         _ => format!(in alloc; "another"),
     }
 }
 
-// A command with one flag and one path.
-fn with_path(alloc: Global, name: &str, flag: bool, path: &Text) -> Result<String, AllocError> {
-    let path = path.as_str();
-    format!(in alloc; "{name} {flag} {path}")
+// A command with one text.
+fn with_text(alloc: Global, name: &str, text: &Text) -> Result<String, AllocError> {
+    let text = text.as_str();
+    format!(in alloc; "{name}|{text}")
 }
 
-// The words of each command that is read, and words that are none.
+// A command with two texts.
+fn with_texts(alloc: Global, name: &str, one: &Text, other: &Text) -> Result<String, AllocError> {
+    let (one, other) = (one.as_str(), other.as_str());
+    format!(in alloc; "{name}|{one}|{other}")
+}
+
+// A command with one flag and one text.
+fn with_flag(alloc: Global, name: &str, flag: bool, text: &Text) -> Result<String, AllocError> {
+    let text = text.as_str();
+    format!(in alloc; "{name}|{flag}|{text}")
+}
+
+// What reading the words of a line says.
+fn answer(alloc: Global, line: &str) -> Result<String, AllocError> {
+    match read_words(alloc, &words_of(alloc, line)?) {
+        Ok(cmd) => spelled(alloc, &cmd),
+        Err(WordFault::Usage) => format!(in alloc; "usage"),
+        Err(WordFault::Memory) => format!(in alloc; "memory"),
+    }
+}
+
+// The first row of a table whose words are not what it says.
+fn first_wrong<'a>(alloc: Global, rows: &'a str) -> Result<Option<&'a str>, AllocError> {
+    for row in rows.lines() {
+        let (line, expected) = row.split_once(" => ").unwrap_or((row, ""));
+        if answer(alloc, line)?.as_str() != expected {
+            return Ok(Some(row));
+        }
+    }
+    Ok(None)
+}
+
+// Each command, each option in both spellings, alone, together and in another order.
 #[test]
 fn commands(rt: HostRuntime) -> Result<(), Fail> {
-    for (line, expected) in [
-        ("init", "init 262144 174 262144"),
-        ("init --chunk 1 --width 2", "init 1 2 262144"),
-        ("init --threshold 0", "init 262144 174 0"),
-        (
-            "init --chunk 1048576 --width 1024 --threshold 1048576",
-            "init 1048576 1024 1048576",
-        ),
-        ("init --chunk 00000000000000000001", "init 1 174 262144"),
-        ("add", "add false false false"),
-        ("add -n", "add false true false"),
-        ("files mkdir /d", "mkdir false /d"),
-        ("files mkdir -p /a/b/c", "mkdir true /a/b/c"),
-        ("files ls", "ls false /"),
-        ("files ls -l", "ls true /"),
-        ("files ls a", "ls false a"),
-        ("files ls -l /a/../b", "ls true /a/../b"),
-        ("files ls ", "ls false "),
-        ("files stat /", "stat false /"),
-        ("files rm /d", "rm false /d"),
-        ("files rm -r /d", "rm true /d"),
-    ] {
-        let answer = read_words(rt.alloc(), &words_of(rt.alloc(), line)?);
-        assert_eq!(rt; told(rt.alloc(), &answer)?.as_str(), expected, "at {line}");
-    }
+    assert_eq!(rt; first_wrong(rt.alloc(), ROWS)?, None);
     Ok(())
 }
 
 // Words that are no command.
 #[test]
 fn words_of_no_command(rt: HostRuntime) -> Result<(), Fail> {
-    for line in [
-        "",
-        "nonsense",
-        "INIT",
-        "-n",
-        "-n add",
-        "init x",
-        "init --chunk",
-        "init --chunk x",
-        "init --chunk=1",
-        "init --chunk ",
-        "init --chunk +1",
-        "init --chunk -1",
-        "init --chunk 0",
-        "init --chunk 1048577",
-        "init --width 1",
-        "init --width 1025",
-        "init --threshold 1048577",
-        "init --threshold 4294967296",
-        "init --threshold 18446744073709551616",
-        "init --chunk 000000000000000000001",
-        "init --chunk 1 --chunk 1",
-        "init --width 2 --chunk 1",
-        "add -n -n",
-        "add --only-hash",
-        "add file",
-        "add -r file",
-        "add --to-files /a",
-        "files",
-        "files nonsense",
-        "files mkdir",
-        "files mkdir -p",
-        "files mkdir -p -p /a",
-        "files mkdir /a -p",
-        "files mkdir /a /b",
-        "files mkdir --parents /a",
-        "files mkdir -- /a",
-        "files ls -l -l",
-        "files ls /a -l",
-        "files ls /a /b",
-        "files stat",
-        "files stat -x",
-        "files rm",
-        "files rm /d -r",
-        "files rm -rf /d",
-        "files read",
-        "files cp / /n01",
-        "cat x",
-        "gen 0 1",
-    ] {
-        let answer = read_words(rt.alloc(), &words_of(rt.alloc(), line)?);
-        assert_eq!(rt; answer.err(), Some(WordFault::Usage), "at {line}");
+    assert_eq!(rt; first_wrong(rt.alloc(), REFUSED)?, None);
+    Ok(())
+}
+
+// Whether one part is refused.
+fn is_refused(one: &str, other: &str, third: &str) -> bool {
+    one == "!" || other == "!" || third == "!"
+}
+
+// What an offset, a count and a path say.
+fn reading_told(
+    alloc: Global,
+    offset: &str,
+    count: &str,
+    path: &str,
+) -> Result<String, AllocError> {
+    if is_refused(offset, count, path) {
+        format!(in alloc; "usage")
+    } else {
+        format!(in alloc; "read|{offset}|{count}|{path}")
     }
-    assert_eq!(rt; read_words(rt.alloc(), &[]).err(), Some(WordFault::Usage));
+}
+
+// Whether words of an offset, of a count and of each path are read as the tables say.
+fn are_read(alloc: Global, offset: (&str, &str), count: (&str, &str)) -> Result<bool, AllocError> {
+    let mut all = true;
+    for (path_words, path) in READ_PATHS {
+        let (offset_words, count_words) = (offset.0, count.0);
+        let line = format!(in alloc; "files read{offset_words}{count_words}{path_words}")?;
+        all &= answer(alloc, &line)? == reading_told(alloc, offset.1, count.1, path)?;
+    }
+    Ok(all)
+}
+
+// The same of each count, in front of the offset too.
+fn offset_is_read(alloc: Global, offset: (&str, &str)) -> Result<bool, AllocError> {
+    let mut all = true;
+    for count in READ_COUNTS {
+        all &= are_read(alloc, offset, count)? && are_read_turned(alloc, offset, count)?;
+    }
+    Ok(all)
+}
+
+// The same with the path in front, where no `--` ends the options.
+fn are_read_turned(
+    alloc: Global,
+    offset: (&str, &str),
+    count: (&str, &str),
+) -> Result<bool, AllocError> {
+    let mut all = true;
+    for (path_words, path) in FRONT_PATHS {
+        let (offset_words, count_words) = (offset.0, count.0);
+        let line = format!(in alloc; "files read{path_words}{count_words}{offset_words}")?;
+        all &= answer(alloc, &line)? == reading_told(alloc, offset.1, count.1, path)?;
+    }
+    Ok(all)
+}
+
+// Lists of words that are made of parts, each with what it is by the tables of its parts: 550 of them.
+#[test]
+fn lists_of_parts(rt: HostRuntime) -> Result<(), Fail> {
+    for offset in READ_OFFSETS {
+        assert!(rt; offset_is_read(rt.alloc(), offset)?, "at {offset:?}");
+    }
+    Ok(())
+}
+
+// The words of a line, each behind `|`, or `usage`.
+fn told_of_line(alloc: Global, line: &str) -> Result<String, AllocError> {
+    let words = match split_line(alloc, line.as_bytes()) {
+        Ok(words) => words,
+        Err(_) => return format!(in alloc; "usage"),
+    };
+    let mut told = String::new(alloc);
+    for word in &words {
+        told.push('|')?;
+        told.push_str(word)?;
+    }
+    Ok(told)
+}
+
+// The first row of lines whose words are not what it says.
+fn first_wrong_line<'a>(alloc: Global, rows: &'a str) -> Result<Option<&'a str>, AllocError> {
+    for row in rows.lines() {
+        let (line, expected) = row.split_once(" => ").unwrap_or((row, ""));
+        if told_of_line(alloc, line)?.as_str() != expected {
+            return Ok(Some(row));
+        }
+    }
+    Ok(None)
+}
+
+// Lines and their words.
+#[test]
+fn lines(rt: HostRuntime) -> Result<(), Fail> {
+    assert_eq!(rt; first_wrong_line(rt.alloc(), LINES)?, None);
+    assert_eq!(rt;
+        split_line(rt.alloc(), b"a \xff").err(),
+        Some(WordFault::Usage)
+    );
     Ok(())
 }
 

@@ -1,0 +1,115 @@
+// The options and arguments of each command, as commands of `clap`.
+ghost use Rattle.std.specs.Prelude.{◌≡◌, [], ◌∷◌, true, IfOk};
+ghost use Rattle.clap.specs.Faults.{is_simple_and_free};
+ghost use Rattle.clap.specs.Simple.{app_of};
+ghost use Rattle.uf_words.specs.Commands.{add_options, init_options, ls_options, read_options, write_options, write_place};
+ghost use Rattle.uf_words.specs.Options.{argument, flag, simple_command};
+
+use crate::options::{
+    argument_arg, bare_command, flag_arg, optional_arg, valued_arg, valued_short_arg, with,
+};
+use clap::Command;
+use std::alloc::{AllocError, Global};
+
+// The options of `init`.
+#[tactic(auto, unfolding(crate::specs::Commands::init_options))]
+pub fn init_command<'a>(alloc: Global) -> Result<Command<'a>, AllocError>
+    ensures made { IfOk result (λ command. app_of command ≡ init_options) }
+    ensures simple { IfOk result (λ command. is_simple_and_free (app_of command) ≡ true) }
+{
+    let command = with(bare_command(alloc), valued_arg(alloc, "chunk"))?;
+    let command = with(command, valued_arg(alloc, "width"))?;
+    with(command, valued_arg(alloc, "threshold"))
+}
+
+// The options and the argument of `add`.
+#[tactic(auto, unfolding(crate::specs::Commands::add_options))]
+pub fn add_command<'a>(alloc: Global) -> Result<Command<'a>, AllocError>
+    ensures made { IfOk result (λ command. app_of command ≡ add_options) }
+    ensures simple { IfOk result (λ command. is_simple_and_free (app_of command) ≡ true) }
+{
+    let command = with(bare_command(alloc), flag_arg(alloc, "recursive", 'r'))?;
+    let command = with(command, flag_arg(alloc, "only-hash", 'n'))?;
+    let command = with(command, valued_arg(alloc, "to-files"))?;
+    with(command, optional_arg(alloc, "HOSTPATH"))
+}
+
+// The flag and the argument of `files ls`.
+#[tactic(auto, unfolding(crate::specs::Commands::ls_options))]
+pub fn ls_command<'a>(alloc: Global) -> Result<Command<'a>, AllocError>
+    ensures made { IfOk result (λ command. app_of command ≡ ls_options) }
+    ensures simple { IfOk result (λ command. is_simple_and_free (app_of command) ≡ true) }
+{
+    let command = with(bare_command(alloc), flag_arg(alloc, "long", 'l'))?;
+    with(command, optional_arg(alloc, "PATH"))
+}
+
+// The options and the argument of `files read`.
+#[tactic(auto, unfolding(crate::specs::Commands::read_options))]
+pub fn read_command<'a>(alloc: Global) -> Result<Command<'a>, AllocError>
+    ensures made { IfOk result (λ command. app_of command ≡ read_options) }
+    ensures simple { IfOk result (λ command. is_simple_and_free (app_of command) ≡ true) }
+{
+    let command = with(bare_command(alloc), valued_short_arg(alloc, "offset", 'o'))?;
+    let command = with(command, valued_short_arg(alloc, "count", 'n'))?;
+    with(command, argument_arg(alloc, "PATH"))
+}
+
+// The options and the argument of `files write`.
+#[tactic(auto, unfolding(crate::specs::Commands::write_options))]
+pub fn write_command<'a>(alloc: Global) -> Result<Command<'a>, AllocError>
+    ensures made { IfOk result (λ command. app_of command ≡ write_options) }
+    ensures simple { IfOk result (λ command. is_simple_and_free (app_of command) ≡ true) }
+{
+    let command = with(
+        write_place_command(alloc)?,
+        valued_short_arg(alloc, "hex", 'x'),
+    )?;
+    with(command, argument_arg(alloc, "PATH"))
+}
+
+// Where and how `files write` writes.
+fn write_place_command<'a>(alloc: Global) -> Result<Command<'a>, AllocError>
+    ensures { IfOk result (λ command. app_of command ≡ simple_command write_place) }
+{
+    let command = with(bare_command(alloc), valued_short_arg(alloc, "offset", 'o'))?;
+    let command = with(command, flag_arg(alloc, "create", 'e'))?;
+    with(command, flag_arg(alloc, "truncate", 't'))
+}
+
+// One argument.
+pub fn one_argument_command<'a>(alloc: Global, name: &'a str) -> Result<Command<'a>, AllocError>
+    ensures made { IfOk result (λ command. app_of command ≡ simple_command (argument name.entry.now ∷ [])) }
+    ensures simple { IfOk result (λ command. is_simple_and_free (app_of command) ≡ true) }
+{
+    with(bare_command(alloc), argument_arg(alloc, name))
+}
+
+// Two arguments.
+pub fn two_arguments_command<'a>(
+    alloc: Global,
+    first: &'a str,
+    second: &'a str,
+) -> Result<Command<'a>, AllocError>
+    ensures made { IfOk result (λ command. app_of command
+        ≡ simple_command (argument first.entry.now ∷ argument second.entry.now ∷ [])) }
+    ensures simple { IfOk result (λ command. is_simple_and_free (app_of command) ≡ true) }
+{
+    let command = with(bare_command(alloc), argument_arg(alloc, first))?;
+    with(command, argument_arg(alloc, second))
+}
+
+// A flag and one argument.
+pub fn flagged_command<'a>(
+    alloc: Global,
+    name: &'a str,
+    letter: char,
+    value: &'a str,
+) -> Result<Command<'a>, AllocError>
+    ensures made { IfOk result (λ command. app_of command
+        ≡ simple_command (flag name.entry.now letter ∷ argument value.entry.now ∷ [])) }
+    ensures simple { IfOk result (λ command. is_simple_and_free (app_of command) ≡ true) }
+{
+    let command = with(bare_command(alloc), flag_arg(alloc, name, letter))?;
+    with(command, argument_arg(alloc, value))
+}
