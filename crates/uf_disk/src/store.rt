@@ -1,5 +1,5 @@
 // A store of blocks and notes in files.
-ghost use Rattle.std.specs.Prelude.{◌≡◌, ◌≤◌, ◌+◌, length};
+ghost use Rattle.std.specs.Prelude.{◌≡◌, ◌≤◌, ◌+◌, length, IfOk, OnErr};
 ghost use Rattle.uf_store.specs.Contents.{Contents};
 ghost use Rattle.uf_store.specs.Seen.{Loads, ReadsNote, Saves, Syncs, Writes, WritesNote};
 
@@ -77,6 +77,24 @@ impl<X: BlockHash, R> DiskStore<X, R> {
 impl<X: BlockHash, R: Files + RandomSource> DiskStore<X, R> {
     ghost use Rattle.uf_disk.specs.Disk.{disk_seen};
 
+    // Keeps a block, or lends another one of its digest that is there.
+    fn keep(&mut self, cid: &Cid, bytes: &[u8]) -> Result<Save, Trouble>
+        ensures ok { IfOk result (λ answer.
+            Saves X.block32 cid.now bytes.now answer (disk_seen self.old) (disk_seen self.new)) }
+        ensures err { OnErr result (disk_seen self.new ≡ disk_seen self.old) }
+    {
+        match self.folder.read_block(cid, &mut self.read)? {
+            Held::Bytes if self.read.as_slice() == bytes => self.folder.keep_block(cid),
+            Held::Bytes if X::block32(&self.read) == cid.digest => {
+                mem::swap(&mut self.lent, &mut self.read);
+                self.clashes = self.clashes.saturating_add(1);
+                return Ok(Save::Clash);
+            }
+            _ => self.folder.put_block(cid, bytes)?,
+        }
+        Ok(Save::Done)
+    }
+
     // The text of a note, if it is there.
     fn text_of(&mut self, which: Note) -> Result<Option<Block>, Trouble>
         ensures { disk_seen self.new ≡ disk_seen self.old }
@@ -127,21 +145,8 @@ impl<X: BlockHash, R: Files + RandomSource> Store for DiskStore<X, R> {
 
     fn save<L: Ledger>(&mut self, cid: &Cid, bytes: &[u8], touches: &mut Steps<L>) -> Save {
         touches.tick();
-        let kept = match self.folder.read_block(cid, &mut self.read) {
-            Ok(Held::Bytes) if self.read.as_slice() == bytes => {
-                self.folder.keep_block(cid);
-                Ok(())
-            }
-            Ok(Held::Bytes) if X::block32(&self.read) == cid.digest => {
-                mem::swap(&mut self.lent, &mut self.read);
-                self.clashes = self.clashes.saturating_add(1);
-                return Save::Clash;
-            }
-            Ok(_) => self.folder.put_block(cid, bytes),
-            Err(trouble) => Err(trouble),
-        };
-        match kept {
-            Ok(()) => Save::Done,
+        match self.keep(cid, bytes) {
+            Ok(answer) => answer,
             Err(Trouble::Failed) => {
                 self.faults = self.faults.saturating_add(1);
                 Save::Failed
