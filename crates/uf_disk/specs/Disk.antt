@@ -5,4 +5,5 @@ use Rattle.uf_store.specs.Seen.{Seen}
 
 -- it tells nothing
 abbrev pub disk_seen : {X R : Type 0} → DiskStore X R → Seen
-disk_seen s = record { told = None; lent = s.lent.items; faults = s.faults; misses = s.misses; clashes = s.clashes }
+disk_seen s =
+    record { told = None; lent = s.lent.items; finds = s.finds; misses = s.misses; faults = s.faults; clashes = s.clashes }

@@ -28,10 +28,10 @@ pub struct DiskStore<X: BlockHash, R> {
     alloc: Global,
     lent: Vec<u8>,
     read: Vec<u8>,
-    faults: u64,
-    misses: u64,
-    clashes: u64,
     finds: u64,
+    misses: u64,
+    faults: u64,
+    clashes: u64,
 }
 
 impl<X: BlockHash, R> DiskStore<X, R> {
@@ -48,10 +48,10 @@ impl<X: BlockHash, R> DiskStore<X, R> {
             alloc,
             lent: Vec::new(alloc),
             read: Vec::new(alloc),
-            faults: 0,
-            misses: 0,
-            clashes: 0,
             finds: 0,
+            misses: 0,
+            faults: 0,
+            clashes: 0,
         }
     }
 }
