@@ -253,16 +253,18 @@ class Checks:
         shutil.rmtree(store.folder)
 
     def killed_mkdir(self, most):
-        """A loop of `files mkdir` that is killed at a random moment, with the command that runs then."""
+        """A loop of `files mkdir` whose command at a random moment is killed."""
         store = self.anew()
         moment = random.uniform(0, most)
-        done = os.path.join(self.folder, "done")
-        put(done, b"")
-        script = 'while "$0" files mkdir "/d/$((1000 + n))"; do echo >> "$1"; n=$((n + 1)); done'
-        with subprocess.Popen(["sh", "-c", script, self.program, done], cwd=store.folder, start_new_session=True) as child:
-            time.sleep(moment)
-            os.killpg(child.pid, signal.SIGKILL)
-        count = os.path.getsize(done)
+        end = time.monotonic() + moment
+        count = 0
+        while time.monotonic() < end:
+            with subprocess.Popen([self.program, "files", "mkdir", f"/d/{1000 + count}"], cwd=store.folder) as child:
+                try:
+                    self.expect("mkdir", child.wait(max(end - time.monotonic(), 0)), 0)
+                    count += 1
+                except subprocess.TimeoutExpired:
+                    child.kill()
         trees = [(0, "".join(f"{1000 + n}\n" for n in range(more)) + "e\n") for more in (count, count + 1)]
         self.survives(f"mkdir {count}, killed after {moment:.4f} s", store, trees)
         shutil.rmtree(store.folder)
