@@ -152,7 +152,7 @@ class Checks:
         self.count = self.wrong = 0
         self.first = Store(program, os.path.join(folder, "first"))
         os.mkdir(self.first.folder)
-        self.expect("init", self.first.run("init"), DONE)
+        self.expect("init", self.first.run("init --chunk 5200"), DONE)
         self.expect("mkdir", self.first.run("files mkdir -p /d/e"), DONE)
 
     def expect(self, name, got, wanted):
@@ -221,7 +221,7 @@ class Checks:
         """No room for more than so many bytes in a file: the block, and then the Head, isn't written."""
         store = self.anew()
         before = store.files()
-        for words, data, room in (("add", bytes(300000), 100000), ("files mkdir /z", b"", 10)):
+        for words, data, room in (("add", bytes(30000), 5000), ("files mkdir /z", b"", 10)):
             how = {"restore_signals": False, "preexec_fn": lambda room=room: bounded(room)}
             self.expect(f"no room: {words}", store.run(words, data, **how), FAILED)
             self.expect("no room: nothing is left", store.leftovers(), [])
@@ -240,7 +240,7 @@ class Checks:
         self.expect(f"{name}: tree", store.run("files ls /d"), listed)
 
     def killed_add(self, long, most):
-        """An `add` that is killed at a random moment."""
+        """An `add` of many blocks that is killed at a random moment."""
         store = self.anew()
         before = store.run("files stat /"), store.run("files ls /d")
         moment = random.uniform(0, most)
@@ -272,7 +272,7 @@ class Checks:
     def killed(self, moments):
         """So many commands of each kind that are killed."""
         long = os.path.join(self.folder, "long")
-        put(long, os.urandom(20000000))
+        put(long, os.urandom(3000000))
         start = time.monotonic()
         with open(long, "rb") as data:
             subprocess.run([self.program, "add"], cwd=self.anew().folder, stdin=data, stdout=subprocess.DEVNULL, check=True)
