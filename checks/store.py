@@ -1,0 +1,321 @@
+"""Trouble with the files of a store, and commands that are killed.
+
+The word says how many commands of each kind are killed, at random moments: fifty where it isn't given.
+"""
+
+import base64
+import hashlib
+import os
+import random
+import resource
+import shutil
+import signal
+import stat
+import subprocess
+import sys
+import tempfile
+import time
+
+EMPTY = "bafybeiczsscdsbs7ffqz55asqdf3smv6klcw3gofszvwlyarci47bgf354"
+FAILED = (3, "error: store\n")
+NOT_READY = (10, "error: not ready 1\n")
+DONE = (0, "")
+
+
+class Store:
+    """The program in a folder with a store."""
+
+    def __init__(self, program, folder):
+        self.program = program
+        self.folder = folder
+
+    def run(self, words, data=b"", **how):
+        """The status of a command, and what it prints on standard output and standard error together."""
+        done = subprocess.run(
+            [self.program, *words.split()], cwd=self.folder, input=data, stdout=subprocess.PIPE,
+            stderr=subprocess.STDOUT, timeout=60, check=False, **how)
+        return done.returncode, done.stdout.decode()
+
+    def path(self, *names):
+        """The path of a file of the store."""
+        return os.path.join(self.folder, ".unixfs", *names)
+
+    def block(self, cid):
+        """The path of a block's file."""
+        return self.path("blocks", cid[-2:], cid)
+
+    def root(self):
+        """The path of the root's block."""
+        return self.block(self.run("files stat /")[1].split()[0])
+
+    def files(self):
+        """The bytes of each file of the store, by its path."""
+        found = {}
+        for folder, _, names in os.walk(self.path()):
+            for name in names:
+                path = os.path.join(folder, name)
+                if stat.S_ISREG(os.lstat(path).st_mode):
+                    with open(path, "rb") as file:
+                        found[path] = file.read()
+        return found
+
+    def leftovers(self):
+        """The names in the store's folder that no store has."""
+        return sorted(set(os.listdir(self.path())) - {"blocks", "head", "pins"})
+
+    def torn(self):
+        """The files of blocks that haven't the bytes of their CIDs, or lie in the wrong folder."""
+        return [path for path, block in self.files().items()
+                if path.startswith(self.path("blocks")) and not is_whole(path, block)]
+
+
+def is_whole(path, block):
+    """Whether a file has the bytes of the CID that names it, and lies in the folder of that CID."""
+    folder, name = os.path.split(path)
+    text = name[1:].upper()
+    digest = base64.b32decode(text + "=" * (-len(text) % 8))[4:]
+    return hashlib.sha256(block).digest() == digest and os.path.basename(folder) == name[-2:]
+
+
+def put(path, data):
+    """Puts a file in the place of what is there."""
+    if os.path.isdir(path):
+        shutil.rmtree(path)
+    elif os.path.lexists(path):
+        os.remove(path)
+    with open(path, "wb") as file:
+        file.write(data)
+
+
+def replace(make):
+    """A change that takes a file or a folder away and makes another thing in its place."""
+    def change(path):
+        if os.path.isdir(path):
+            shutil.rmtree(path)
+        else:
+            os.remove(path)
+        make(path)
+    return change
+
+
+def shorten(path):
+    """Takes the last byte of a file away."""
+    os.truncate(path, os.path.getsize(path) - 1)
+
+
+def dangle(path):
+    """Makes a link that leads nowhere."""
+    os.symlink("nowhere", path)
+
+
+def loop(path):
+    """Makes a link that leads to itself."""
+    os.symlink(os.path.basename(path), path)
+
+
+def long_file(path):
+    """Makes a file that is one byte too long for a block."""
+    with open(path, "wb") as file:
+        file.truncate(2097153)
+
+
+# What is done with the store's folder, the folder of blocks, the folder of the root's block, that block and the Head, and
+# what `files ls` and then `files mkdir` answer; MISSING stands for the missing root.
+MISSING = (4, "error: missing ROOT\n")
+TROUBLES = [
+    ("the store is a file", "store", replace(lambda path: put(path, b"x")), FAILED, FAILED),
+    ("the store is a dangling link", "store", replace(dangle), NOT_READY, NOT_READY),
+    ("the store is a looping link", "store", replace(loop), FAILED, FAILED),
+    ("blocks is a file", "blocks", replace(lambda path: put(path, b"x")), FAILED, FAILED),
+    ("a folder of blocks is a file", "folder", replace(lambda path: put(path, b"x")), FAILED, FAILED),
+    ("a block is a folder", "root", replace(os.mkdir), FAILED, FAILED),
+    ("a block is a pipe", "root", replace(os.mkfifo), FAILED, FAILED),
+    ("a block is a dangling link", "root", replace(dangle), MISSING, MISSING),
+    ("a block is a looping link", "root", replace(loop), FAILED, FAILED),
+    ("a block isn't there", "root", os.remove, MISSING, MISSING),
+    ("a block is too long", "root", replace(long_file), FAILED, FAILED),
+    ("a block is truncated", "root", shorten, FAILED, FAILED),
+    ("a block has other bytes", "root", lambda path: put(path, b"x"), FAILED, FAILED),
+    ("the Head is a folder", "head", replace(os.mkdir), FAILED, FAILED),
+    ("the Head is a pipe", "head", replace(os.mkfifo), FAILED, FAILED),
+    ("the Head is a looping link", "head", replace(loop), FAILED, FAILED),
+    ("the Head is truncated", "head", shorten, (10, "error: not ready 3\n"), (10, "error: not ready 3\n")),
+]
+
+
+class Checks:
+    """The checks, each over a store of its own that has one directory."""
+
+    def __init__(self, program, folder):
+        self.program = program
+        self.folder = folder
+        self.count = self.wrong = 0
+        self.first = Store(program, os.path.join(folder, "first"))
+        os.mkdir(self.first.folder)
+        self.expect("init", self.first.run("init --chunk 5200"), DONE)
+        self.expect("mkdir", self.first.run("files mkdir -p /d/e"), DONE)
+
+    def expect(self, name, got, wanted):
+        """Compares what came with what is wanted."""
+        self.count += 1
+        if got != wanted:
+            self.wrong += 1
+            print(f"store: {name}\n  wanted: {wanted!r}\n  got:    {got!r}")
+
+    def anew(self):
+        """A copy of the first store."""
+        folder = tempfile.mkdtemp(dir=self.folder)
+        shutil.copytree(self.first.folder, folder, dirs_exist_ok=True)
+        os.chmod(folder, 0o755)
+        return Store(self.program, folder)
+
+    def trouble(self, name, where, change, listed, made):
+        """One trouble: both answers are clear, no other file is lost, and the tree is there once the trouble is over."""
+        store = self.anew()
+        root = store.root()
+        path = {"store": store.path(), "blocks": store.path("blocks"), "folder": os.path.dirname(root),
+                "root": root, "head": store.path("head")}[where]
+        kept = os.path.join(self.folder, "kept")
+        shutil.copytree(store.path(), kept)
+        change(path)
+        before = store.files()
+        for words, (status, line) in (("files ls", listed), ("files mkdir /z", made)):
+            self.expect(f"{name}: {words}", store.run(words), (status, line.replace("ROOT", os.path.basename(root))))
+        after = store.files()
+        self.expect(f"{name}: kept", {path: after.get(path) for path in before}, before)
+        replace(lambda path: None)(store.path())
+        os.rename(kept, store.path())
+        self.expect(f"{name}: over", store.run("files ls"), (0, "d\n"))
+
+    def mended(self):
+        """A saved block takes the place of one that isn't its CID's, and of a link that leads nowhere."""
+        for name, change in (("other bytes", lambda path: put(path, b"x")), ("too long", replace(long_file)),
+                             ("dangling", replace(dangle))):
+            store = self.anew()
+            change(store.block(EMPTY))
+            self.expect(f"{name}: mkdir", store.run("files mkdir /z"), DONE)
+            self.expect(f"{name}: mended", (store.run("files ls /z"), store.torn()), (DONE, []))
+
+    def forbidden(self):
+        """No right to write, and then none to read."""
+        store = self.anew()
+        how = other_user(store)
+        if how is None:
+            print("store: rights were not tried, since the superuser has them all and no command can run as another here")
+            return
+        folders = [folder for folder, _, _ in os.walk(store.path())]
+        for folder in folders:
+            os.chmod(folder, 0o555)
+        self.expect("no right to write: mkdir", store.run("files mkdir /z", **how), FAILED)
+        self.expect("no right to write: ls", store.run("files ls", **how), (0, "d\n"))
+        for folder in folders:
+            os.chmod(folder, 0o755)
+        for name, path in (("block", store.root()), ("Head", store.path("head"))):
+            mode = os.stat(path).st_mode
+            os.chmod(path, 0)
+            self.expect(f"no right to read: {name}", store.run("files ls", **how), FAILED)
+            os.chmod(path, mode)
+        self.expect("no right: over", store.run("files ls"), (0, "d\n"))
+
+    def full(self):
+        """No room for more than so many bytes in a file: the block, and then the Head, isn't written."""
+        store = self.anew()
+        before = store.files()
+        for words, data, room in (("add", bytes(30000), 5000), ("files mkdir /z", b"", 10)):
+            how = {"restore_signals": False, "preexec_fn": lambda room=room: bounded(room)}
+            self.expect(f"no room: {words}", store.run(words, data, **how), FAILED)
+            self.expect("no room: nothing is left", store.leftovers(), [])
+        after = store.files()
+        self.expect("no room: kept", {path: after.get(path) for path in before}, before)
+        self.expect("no room: over", (store.run("files ls"), store.torn()), ((0, "d\n"), []))
+
+    def survives(self, name, store, before):
+        """After a kill the tree is one of these, no block is torn, and the next command that writes clears what is left."""
+        listed = store.run("files ls /d")
+        self.expect(f"{name}: ls", listed in before, True)
+        self.expect(f"{name}: torn", store.torn(), [])
+        self.expect(f"{name}: left", len(store.leftovers()) <= 1, True)
+        self.expect(f"{name}: mkdir", store.run("files mkdir /next"), DONE)
+        self.expect(f"{name}: cleared", (store.leftovers(), store.torn()), ([], []))
+        self.expect(f"{name}: tree", store.run("files ls /d"), listed)
+
+    def killed_add(self, long, most):
+        """An `add` of many blocks that is killed at a random moment."""
+        store = self.anew()
+        before = store.run("files stat /"), store.run("files ls /d")
+        moment = random.uniform(0, most)
+        with open(long, "rb") as data:
+            with subprocess.Popen([self.program, "add"], cwd=store.folder, stdin=data, stdout=subprocess.DEVNULL) as child:
+                time.sleep(moment)
+                child.kill()
+        self.expect(f"add, killed after {moment:.4f} s: stat", store.run("files stat /"), before[0])
+        self.survives(f"add, killed after {moment:.4f} s", store, [before[1]])
+        shutil.rmtree(store.folder)
+
+    def killed_mkdir(self, most):
+        """A loop of `files mkdir` whose command at a random moment is killed."""
+        store = self.anew()
+        moment = random.uniform(0, most)
+        end = time.monotonic() + moment
+        count = 0
+        while time.monotonic() < end:
+            with subprocess.Popen([self.program, "files", "mkdir", f"/d/{1000 + count}"], cwd=store.folder) as child:
+                try:
+                    self.expect("mkdir", child.wait(max(end - time.monotonic(), 0)), 0)
+                    count += 1
+                except subprocess.TimeoutExpired:
+                    child.kill()
+        trees = [(0, "".join(f"{1000 + n}\n" for n in range(more)) + "e\n") for more in (count, count + 1)]
+        self.survives(f"mkdir {count}, killed after {moment:.4f} s", store, trees)
+        shutil.rmtree(store.folder)
+
+    def killed(self, moments):
+        """So many commands of each kind that are killed."""
+        long = os.path.join(self.folder, "long")
+        put(long, os.urandom(3000000))
+        start = time.monotonic()
+        with open(long, "rb") as data:
+            subprocess.run([self.program, "add"], cwd=self.anew().folder, stdin=data, stdout=subprocess.DEVNULL, check=True)
+        most = time.monotonic() - start
+        for _ in range(moments):
+            self.killed_add(long, most)
+            self.killed_mkdir(0.5)
+
+
+def other_user(store):
+    """How a command runs as a user whose rights are checked; None where it can't."""
+    if os.getuid() != 0:
+        return {}
+    how = {"user": 65534, "group": 65534, "extra_groups": []}
+    try:
+        return how if store.run("files ls", **how) == (0, "d\n") else None
+    except (OSError, subprocess.SubprocessError):
+        return None
+
+
+def bounded(room):
+    """Lets a process write files of so many bytes at most, and get an error for more."""
+    signal.signal(signal.SIGXFSZ, signal.SIG_IGN)
+    resource.setrlimit(resource.RLIMIT_FSIZE, (room, room))
+
+
+def main():
+    """Runs the checks with a copy of the built program, which another user may run."""
+    top = os.path.dirname(os.path.dirname(os.path.abspath(__file__)))
+    subprocess.run([os.path.join(top, "unixfs"), "add", "-n"], stdin=subprocess.DEVNULL, stdout=subprocess.DEVNULL, check=True)
+    with tempfile.TemporaryDirectory() as folder:
+        os.chmod(folder, 0o755)
+        program = shutil.copy(os.path.join(top, "crates", "uf_tool", "out", "uf_tool"), folder)
+        os.chmod(program, 0o755)
+        checks = Checks(program, folder)
+        for row in TROUBLES:
+            checks.trouble(*row)
+        checks.mended()
+        checks.forbidden()
+        checks.full()
+        checks.killed(int(sys.argv[1]) if len(sys.argv) > 1 else 50)
+        print(f"store: {checks.count - checks.wrong} passed, {checks.wrong} failed")
+    sys.exit(1 if checks.wrong else 0)
+
+
+main()

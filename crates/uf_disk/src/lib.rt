@@ -1,0 +1,17 @@
+//! The machine's own files and streams: a store in the folder `.unixfs`, the host's files and folders, and the standard
+//! streams. They count what fails, and tell nothing of what they hold.
+#![tactic(auto)]
+
+#[cfg(test)]
+mod failing;
+mod files;
+mod folder;
+mod host;
+mod store;
+mod streams;
+#[cfg(test)]
+mod tests;
+
+pub use host::DiskHost;
+pub use store::DiskStore;
+pub use streams::{StdSink, StdSource};

@@ -1,0 +1,378 @@
+// Rows of a store and of a host, in the folder that the test runs in.
+ghost use Rattle.std.specs.Prelude.{◌≡◌, ◌<◌};
+ghost use Rattle.uf_cid.specs.Cid.{cid_of};
+ghost use Rattle.uf_cid.specs.declared.cid.Codec.TheVariants.{Raw};
+
+use crate::failing::Failing;
+use crate::folder::block_path;
+use crate::{DiskHost, DiskStore};
+use std::alloc::Global;
+use std::fs::{Files, OpenFile};
+use std::marker::Brand;
+use std::random::RandomSource;
+use std::sync::ledger::{Blank, Ledger};
+use std::{fs, io};
+use uf_cid::{BlockHash, Cid, Codec, Sha256Hash, Sum8Hash};
+use uf_edge::{Fetched, Host, Kind, Listing, Put};
+use uf_store::{Load, Note, NoteRead, Save, Steps, Store};
+
+// What is done with a store or with its files, and what is to come of it.
+#[derive(Clone, Copy)]
+enum Step {
+    // A store anew, over the same files.
+    Anew,
+    Loads(&'static [u8], Load),
+    Lends(&'static [u8]),
+    Saves(&'static [u8], Save),
+    Syncs(Put),
+    Reads(Note, Text),
+    Writes(Put),
+    // A text is put in the place of the file of the block `a`, or the file is made too long, or a folder stands there.
+    Spoils,
+    Lengthens,
+    Blocks,
+    Frees,
+    // A file that a killed run left half written, and that there is none.
+    Leaves,
+    IsClean,
+    // A file stands in the place of the store's folder.
+    Closes,
+    Opens,
+}
+
+// What a note answered: its text, that it is absent, or neither.
+#[derive(Clone, Copy, Debug, PartialEq, Eq)]
+enum Text {
+    Whole,
+    Absent,
+    Unread,
+}
+
+const HALF_WRITTEN: &str = ".unixfs/new-0";
+
+// What is saved and noted is there again, for another store too.
+const KEEPS: [Step; 12] = [
+    Step::Loads(b"a", Load::Missing),
+    Step::Reads(Note::Head, Text::Absent),
+    Step::Saves(b"a", Save::Done),
+    Step::Loads(b"a", Load::Found),
+    Step::Lends(b"a"),
+    Step::Saves(b"a", Save::Done),
+    Step::Syncs(Put::Done),
+    Step::Writes(Put::Done),
+    Step::Anew,
+    Step::Loads(b"a", Load::Found),
+    Step::Reads(Note::Head, Text::Whole),
+    Step::Reads(Note::Pins, Text::Absent),
+];
+
+// A file that isn't its CID's is damaged until the block is saved again; what isn't a file can't be used.
+const MENDS: [Step; 12] = [
+    Step::Spoils,
+    Step::Loads(b"a", Load::Damaged),
+    Step::Saves(b"a", Save::Done),
+    Step::Loads(b"a", Load::Found),
+    Step::Lengthens,
+    Step::Loads(b"a", Load::Damaged),
+    Step::Saves(b"a", Save::Done),
+    Step::Loads(b"a", Load::Found),
+    Step::Blocks,
+    Step::Loads(b"a", Load::Failed),
+    Step::Saves(b"a", Save::Failed),
+    Step::Frees,
+];
+
+// What a killed run left is taken away at the first write.
+const CLEARS: [Step; 4] = [
+    Step::Leaves,
+    Step::Anew,
+    Step::Saves(b"b", Save::Done),
+    Step::IsClean,
+];
+
+// Another block of the same digest is met and lent.
+const CLASHES: [Step; 3] = [
+    Step::Saves(b"ab", Save::Done),
+    Step::Saves(b"ba", Save::Clash),
+    Step::Lends(b"ab"),
+];
+
+// A file in the place of the folder leaves no store.
+const REFUSES: [Step; 6] = [
+    Step::Closes,
+    Step::Loads(b"a", Load::Failed),
+    Step::Saves(b"a", Save::Failed),
+    Step::Reads(Note::Head, Text::Unread),
+    Step::Writes(Put::Failed),
+    Step::Opens,
+];
+
+// Three writes, of which one fails where a call of the machine does.
+const WRITES: [Step; 3] = [
+    Step::Saves(b"a", Save::Done),
+    Step::Syncs(Put::Done),
+    Step::Writes(Put::Done),
+];
+
+// What none of them may leave.
+const TORN: [Step; 3] = [
+    Step::Loads(b"a", Load::Damaged),
+    Step::Loads(b"a", Load::Failed),
+    Step::Reads(Note::Head, Text::Unread),
+];
+
+// They can be done again, and nothing that was begun is left.
+const AGAIN: [Step; 6] = [
+    Step::Saves(b"a", Save::Done),
+    Step::Syncs(Put::Done),
+    Step::Writes(Put::Done),
+    Step::Anew,
+    Step::Loads(b"a", Load::Found),
+    Step::Reads(Note::Head, Text::Whole),
+];
+
+fn cid_of_raw<X: BlockHash>(bytes: &[u8]) -> Cid
+    ensures { result ≡ cid_of X.block32 Raw bytes.now }
+{
+    Cid::of::<X>(Codec::Raw, bytes)
+}
+
+fn text_of(note: NoteRead) -> Text {
+    match note {
+        NoteRead::Text(block) if block.as_slice() == b"text".as_slice() => Text::Whole,
+        NoteRead::Absent => Text::Absent,
+        _ => Text::Unread,
+    }
+}
+
+// The path of the file of the block `a`.
+fn path_of_a(alloc: Global) -> io::Result<String> {
+    match block_path(alloc, &cid_of_raw::<Sha256Hash>(b"a")) {
+        Ok(path) => Ok(path),
+        Err(_) => Err(io::Error::from(io::ErrorKind::OutOfMemory)),
+    }
+}
+
+// Does what is done with the files.
+fn sets<R: Files>(alloc: Global, files: &R, step: &Step) -> io::Result<bool> {
+    let path = path_of_a(alloc)?;
+    let path = path.as_str();
+    match step {
+        Step::Spoils => fs::write(files, path, "b")?,
+        Step::Lengthens => fs::create(files, path)?.set_len(2097153)?,
+        Step::Blocks => {
+            fs::remove_file(files, path)?;
+            fs::create_dir(files, path)?;
+        }
+        Step::Frees => fs::remove_dir(files, path)?,
+        Step::Leaves => fs::write(files, HALF_WRITTEN, "half")?,
+        Step::IsClean => return Ok(!fs::exists(files, HALF_WRITTEN)?),
+        Step::Closes => {
+            fs::remove_dir_all(&(files, alloc), ".unixfs")?;
+            fs::write(files, ".unixfs", "text")?;
+        }
+        Step::Opens => fs::remove_file(files, ".unixfs")?,
+        _ => return Ok(false),
+    }
+    Ok(true)
+}
+
+fn saves<X: BlockHash, L: Ledger, R: Files + RandomSource>(
+    store: &mut DiskStore<X, &R>,
+    bytes: &[u8],
+    touches: &mut Steps<L>,
+) -> Save {
+    if bytes.len() > 2 {
+        return Save::Failed;
+    }
+    store.save(&cid_of_raw::<X>(bytes), bytes, touches)
+}
+
+// Whether a step goes so.
+fn goes<'a, X: BlockHash, L: Ledger, R: Files + RandomSource>(
+    alloc: Global,
+    files: &'a R,
+    store: &mut DiskStore<X, &'a R>,
+    step: &Step,
+    touches: &mut Steps<L>,
+) -> io::Result<bool> {
+    match step {
+        Step::Anew => *store = DiskStore::new(alloc, files),
+        Step::Loads(bytes, answer) => {
+            return Ok(store.load(&cid_of_raw::<X>(*bytes), touches) == *answer);
+        }
+        Step::Lends(bytes) => return Ok(store.block() == *bytes),
+        Step::Saves(bytes, answer) => return Ok(saves(store, *bytes, touches) == *answer),
+        Step::Syncs(answer) => return Ok(store.sync() == *answer),
+        Step::Reads(which, text) => return Ok(text_of(store.read_note(*which)) == *text),
+        Step::Writes(answer) => return Ok(store.write_note(Note::Head, b"text") == *answer),
+        _ => return sets(alloc, files, step),
+    }
+    Ok(true)
+}
+
+// How many of the steps go as they should.
+fn count_right<X: BlockHash, L: Ledger, R: Files + RandomSource>(
+    alloc: Global,
+    files: &R,
+    steps: &[Step],
+    touches: &mut Steps<L>,
+) -> io::Result<usize> {
+    let mut store = DiskStore::<X, &R>::new(alloc, files);
+    let mut count = 0usize;
+    for step in steps {
+        if goes(alloc, files, &mut store, step, touches)? {
+            count = count.saturating_add(1);
+        }
+    }
+    Ok(count)
+}
+
+fn are_right<X: BlockHash, L: Ledger, R: Files + RandomSource>(
+    alloc: Global,
+    files: &R,
+    steps: &[Step],
+    touches: &mut Steps<L>,
+) -> io::Result<bool> {
+    Ok(count_right::<X, L, R>(alloc, files, steps, touches)? == steps.len())
+}
+
+// Where the call of the machine with this number fails, one of three writes fails, no file is torn, and the writes can be
+// done again. Where there are fewer calls, none does.
+fn survives<L: Ledger, R: Files + RandomSource>(
+    alloc: Global,
+    files: &R,
+    number: u64,
+    touches: &mut Steps<L>,
+) -> io::Result<bool> {
+    fs::remove_dir_all(&(files, alloc), ".unixfs")?;
+    let failing = Failing::new(files, number);
+    let count = count_right::<Sha256Hash, L, Failing<'_, R>>(alloc, &failing, &WRITES, touches)?;
+    let wanted = if failing.has_failed() { 2 } else { 3 };
+    let torn = count_right::<Sha256Hash, L, R>(alloc, files, &TORN, touches)?;
+    let again = are_right::<Sha256Hash, L, R>(alloc, files, &AGAIN, touches)?;
+    Ok(count == wanted && torn == 0 && again)
+}
+
+// The first call of the machine whose failure isn't survived.
+fn first_lost<L: Ledger, R: Files + RandomSource>(
+    alloc: Global,
+    files: &R,
+    touches: &mut Steps<L>,
+) -> io::Result<Option<u64>> {
+    for number in 0..30 {
+        if !survives(alloc, files, number, touches)? {
+            return Ok(Some(number));
+        }
+    }
+    Ok(None)
+}
+
+// Which tables are right, and the first call of the machine whose failure isn't survived.
+fn outcome_by<L: Ledger, R: Files + RandomSource>(
+    alloc: Global,
+    files: &R,
+    blank: Blank,
+) -> io::Result<([bool; 5], Option<u64>)>
+    requires name { blank.name ≡ L.name }
+    requires parts { blank.parts ≡ L.parts }
+    requires some { 0 < blank.parts }
+{
+    let mut touches = Steps::<L>::new(blank);
+    let keeps = are_right::<Sha256Hash, L, R>(alloc, files, &KEEPS, &mut touches)?;
+    let mends = are_right::<Sha256Hash, L, R>(alloc, files, &MENDS, &mut touches)?;
+    let clears = are_right::<Sha256Hash, L, R>(alloc, files, &CLEARS, &mut touches)?;
+    let clashes = are_right::<Sum8Hash, L, R>(alloc, files, &CLASHES, &mut touches)?;
+    let lost = first_lost(alloc, files, &mut touches)?;
+    let refuses = are_right::<Sha256Hash, L, R>(alloc, files, &REFUSES, &mut touches)?;
+    Ok(([keeps, mends, clears, clashes, refuses], lost))
+}
+
+fn outcome<R: Files + RandomSource>(
+    alloc: Global,
+    files: &R,
+) -> io::Result<([bool; 5], Option<u64>)> {
+    outcome_by::<Brand, R>(alloc, files, Blank::new(1))
+}
+
+#[test]
+fn a_store_keeps_mends_clears_clashes_refuses_and_survives(rt: HostRuntime) -> io::Result<()> {
+    assert_eq!(rt; outcome(rt.alloc(), &rt)?, ([true; 5], None));
+    Ok(())
+}
+
+// A call of a host, and what is to come of it.
+#[derive(Clone, Copy)]
+enum HostStep {
+    Is(&'static str, Kind),
+    Makes(&'static str, Put),
+    Appends(&'static str, &'static [u8], Put),
+    Reads(&'static str, u64, Fetched),
+    // The buffer begins with these bytes.
+    Gives(&'static [u8]),
+    Lists(&'static str, &'static [&'static str]),
+}
+
+// A host makes, grows, lists and reads files.
+const HOSTS: [HostStep; 18] = [
+    HostStep::Is("host", Kind::Absent),
+    HostStep::Makes("host", Put::Done),
+    HostStep::Makes("host", Put::Failed),
+    HostStep::Is("host", Kind::Folder),
+    HostStep::Appends("host/b", b"0123456789", Put::Done),
+    HostStep::Appends("host/a", b"", Put::Done),
+    HostStep::Appends("host/b", b"x", Put::Done),
+    HostStep::Appends("host", b"x", Put::Failed),
+    HostStep::Is("host/b", Kind::File),
+    HostStep::Is("host/b/c", Kind::Absent),
+    HostStep::Reads("host/b", 0, Fetched::Got(8)),
+    HostStep::Reads("host/b", 8, Fetched::Got(3)),
+    HostStep::Gives(b"89x"),
+    HostStep::Reads("host/b", 11, Fetched::End),
+    HostStep::Reads("host/b", 5, Fetched::Got(6)),
+    HostStep::Reads("host/a", 0, Fetched::End),
+    HostStep::Reads("host/none", 0, Fetched::Failed),
+    HostStep::Lists("host", &["a", "b"]),
+];
+
+fn lists(listing: Listing, wanted: &[&str]) -> bool {
+    match listing {
+        Listing::Names(names) => {
+            names.len() == wanted.len()
+                && names
+                    .as_slice()
+                    .iter()
+                    .zip(wanted)
+                    .all(|(name, text)| name.as_str() == *text)
+        }
+        _ => false,
+    }
+}
+
+// Whether a call of a host goes so.
+fn host_goes<R: Files>(host: &mut DiskHost<R>, buffer: &mut [u8; 8], step: &HostStep) -> bool {
+    match step {
+        HostStep::Is(path, kind) => host.kind(*path) == *kind,
+        HostStep::Makes(path, answer) => host.make_folder(*path) == *answer,
+        HostStep::Appends(path, piece, answer) => host.append(*path, *piece) == *answer,
+        HostStep::Reads(path, offset, answer) => host.read_at(*path, *offset, buffer) == *answer,
+        HostStep::Gives(bytes) => buffer.starts_with(*bytes),
+        HostStep::Lists(path, names) => lists(host.list(*path), *names),
+    }
+}
+
+fn first_wrong_call<R: Files>(alloc: Global, files: &R) -> Option<usize> {
+    let mut host = DiskHost::<&R>::new(alloc, files);
+    let mut buffer = [0u8; 8];
+    for at in 0..HOSTS.len() {
+        if !host_goes(&mut host, &mut buffer, &HOSTS[at]) {
+            return Some(at);
+        }
+    }
+    None
+}
+
+#[test]
+fn a_host_makes_grows_lists_and_reads_files(rt: HostRuntime) {
+    assert_eq!(rt; first_wrong_call(rt.alloc(), &rt), None);
+}
