@@ -1,6 +1,7 @@
 pub mod Apart
 pub mod Asked
 pub mod Causes
+pub mod Changing
 pub mod Edited
 pub mod Listing
 pub mod Looked
@@ -9,4 +10,4 @@ pub mod Planning
 pub mod Refusals
 pub mod Rooted
 pub mod Roots
-pub mod Rows
+pub mod Touching

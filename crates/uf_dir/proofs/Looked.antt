@@ -1,6 +1,6 @@
 -- What a look at the root of a planned directory or file finds.
 use Rattle.std.proofs.Common.{◌≡◌, ℕ, List, [], ◌∷◌, ap, arith, sym, ◌∙◌, subst, inl, inr, Option, Some, None, Bool, true, false}
-use Rattle.std.specs.Prelude.{IfOk, IfSome}
+use Rattle.std.specs.Prelude.{◌≤◌, IfOk, IfSome, OnOk, ⊤}
 use Rattle.std.specs.FinMap.Entries.{find}
 use Rattle.std.specs.declared.result.Result.{Result}
 use Rattle.std.specs.declared.result.Result.TheVariants.{Ok, Err}
@@ -18,22 +18,21 @@ use Rattle.uf_store.specs.Lost.{FindsOver, IsFirstLost, IsLossOf, IsLost, LosesF
 use Rattle.uf_store.specs.Seen.{Seen}
 use Rattle.uf_tree.specs.declared.nodes.Entry.{Entry}
 use Rattle.uf_tree.specs.declared.profile.Profile.{Profile}
-use Rattle.uf_tree.specs.DirPlan.{is_sharded, trail}
+use Rattle.uf_tree.specs.DirPlan.{is_sharded, trail, weight}
 use Rattle.uf_tree.specs.Names.{names_cmp}
-use Rattle.uf_tree.specs.Nodes.{InSlot, Named}
+use Rattle.uf_tree.specs.Nodes.{InSlot, Named, dir_block}
 use Rattle.uf_tree.specs.Roles.{IsCanonicalDirectory, WithSome}
 use Rattle.uf_tree.specs.Roots.{dir_root}
 use Rattle.uf_tree.specs.ShardPlan.{shard, shard_items, shard_trail}
-use Rattle.uf_tree.specs.Validity.{IsHash}
+use Rattle.uf_tree.specs.Validity.{IsDirectory, IsHash}
 use Rattle.uf_shard.specs.Listing.{AreRows, in_order}
 use Rattle.uf_shard.specs.Planned as shards
 use Rattle.uf_shard.proofs.One.{one_shard}
-use Rattle.uf_dir.specs.Planned.{IsPlanned, own_blocks}
-use Rattle.uf_dir.specs.Roots.{IsRootOf, IsThere, IsUnread}
+use Rattle.uf_dir.specs.Planned.{IsFitting, IsPlanned, own_blocks}
+use Rattle.uf_dir.specs.Roots.{IsLight, IsListed, IsRootOf, IsThere, IsUnread}
 use Rattle.uf_dir.specs.declared.root.Root.{Root}
 use Rattle.uf_dir.specs.declared.root.Root.TheVariants as root
 use Rattle.uf_dir.proofs.Apart.{one_basic, shard-basic}
-use Rattle.uf_dir.proofs.Rows.{rows-planned}
 use Rattle.uf_dir.proofs.Planning.{InOne, InShards, RootForm, blocks-from_root, blocks-sharded, planned-cid, planned-sharded, root-canonical, root-form, trail-basic, trail-from_root, trail-sharded}
 
 -- ---- the first of some blocks, of which the CID is known
@@ -161,14 +160,20 @@ module _ (X : List ℕ → List ℕ) (good : IsHash X) (N : List ℕ → ℕ) (p
       let from = blocks-from_root X N p l in
       (read-basic from.0 before now pairs (subst (Agrees before.told) from.1 agrees) looks.0 (subst (IsRootOf now.lent) at looks.1)).1
 
+  -- a directory that is read in one block is light
+  pub basic-light : (before now : Seen) (found : Root) (pairs : List Named) → found ≡ root.Basic pairs → IsThere cid before now × IsRootOf now.lent found → Agrees before.told (own_blocks X N p l) → is_sharded p l ≡ false
+  basic-light before now found pairs at looks agrees =
+      let from = blocks-from_root X N p l in
+      (read-basic from.0 before now pairs (subst (Agrees before.told) from.1 agrees) looks.0 (subst (IsRootOf now.lent) at looks.1)).0
+
   -- the root was read as a shard
   module _ (before mid : Seen) (found : Root) (items : List InSlot) (at : found ≡ root.Sharded items) (looks : IsThere cid before mid × IsRootOf mid.lent found) (same : mid.told ≡ before.told) (agrees : Agrees before.told (own_blocks X N p l)) where
-    sharded_is : is_sharded p l ≡ true
+    pub sharded_is : is_sharded p l ≡ true
     sharded_is =
         let from = blocks-from_root X N p l in
         (read-sharded from.0 before mid items (subst (Agrees before.told) from.1 agrees) looks.0 (subst (IsRootOf mid.lent) at looks.1)).0
 
-    agrees_mid : Agrees mid.told (shard X N 7 l).blocks
+    pub agrees_mid : Agrees mid.told (shard X N 7 l).blocks
     agrees_mid = subst (λ (told : Told). Agrees told (shard X N 7 l).blocks) (sym same) (subst (Agrees before.told) (blocks-sharded X N p l sharded_is) agrees)
 
     -- what the shards answer where they are read
@@ -181,17 +186,40 @@ module _ (X : List ℕ → List ℕ) (good : IsHash X) (N : List ℕ → ℕ) (p
         (subst (λ (told : Told). ReadsOver told (shard X N 7 l).blocks l r) same
         (below N l (planned-sharded X N p l cid is sharded_is) agrees_mid (subst (λ (n : ℕ). Stood n now.faults) (sym calm) stood)))
 
-    -- what was listed is what was planned, also where the count of faults stands at its last value
-    pub entries-listed : (pairs : List Named) → IfSome mid.told (λ t. (rows : List Named) × AreRows (held_at t) 7 cid rows × (pairs ≡ in_order rows)) → pairs ≡ l
-    entries-listed pairs listed = by mid.told listed agrees_mid
-      where
-        by : (told : Told) → IfSome told (λ t. (rows : List Named) × AreRows (held_at t) 7 cid rows × (pairs ≡ in_order rows)) → Agrees told (shard X N 7 l).blocks → pairs ≡ l
-        by None h a = absurd a
-        by (Some t) h a = h.2 ∙ rows-planned X good N (held_at t) cid l (planned-sharded X N p l cid is sharded_is) a h.0 h.1
+-- ---- what is listed of any tree
 
--- the same of each plan
-pub entries-listed_all : (X : List ℕ → List ℕ) → IsHash X → (cid : Cid) (before mid : Seen) (found : Root) (items : List InSlot) → found ≡ root.Sharded items → IsThere cid before mid × IsRootOf mid.lent found → mid.told ≡ before.told
-    → (r : Result (List Named) StoreFault) → IfSome mid.told (λ t. IfOk r (λ pairs. (rows : List Named) × AreRows (held_at t) 7 cid rows × (pairs ≡ in_order rows)))
-    → IfOk r (λ pairs. (N : List ℕ → ℕ) (p : Profile) (l : List Named) → IsPlanned X N p cid l → Agrees before.told (own_blocks X N p l) → pairs ≡ l)
-entries-listed_all X good cid before mid found items at looks same (Ok pairs) listed = λ N p l is agrees. entries-listed X good N p cid l is before mid found items at looks same agrees pairs listed
-entries-listed_all X good cid before mid found items at looks same (Err fault) listed = tt
+pub listed-none : (told : Told) → IfSome told (λ t. ⊤)
+listed-none None = tt
+listed-none (Some t) = tt
+
+pub listed-basic : (cid : Cid) (before now : Seen) (found : Root) (pairs : List Named) → found ≡ root.Basic pairs → IsThere cid before now × IsRootOf now.lent found → IfSome before.told (λ t. IsListed (held_at t) cid pairs)
+listed-basic cid before now found pairs at looks = by before.told looks.0.held
+  where
+    by : (told : Told) → IfSome told (λ t. held_at t cid ≡ Some now.lent) → IfSome told (λ t. IsListed (held_at t) cid pairs)
+    by None held = tt
+    by (Some t) held = let is = subst (IsRootOf now.lent) at looks.1 in inl (held ∙ ap (λ (b : List ℕ). Some b) is.1)
+
+pub listed-sharded : (cid : Cid) (told mid : Told) (r : Result (List Named) StoreFault) → mid ≡ told → IfSome mid (λ t. IfOk r (λ l. (rows : List Named) × AreRows (held_at t) 7 cid rows × (l ≡ in_order rows)))
+    → IfSome told (λ t. IfOk r (IsListed (held_at t) cid))
+listed-sharded cid told mid r same listed = by told r (subst (λ (x : Told). IfSome x (λ t. IfOk r (λ l. (rows : List Named) × AreRows (held_at t) 7 cid rows × (l ≡ in_order rows)))) same listed)
+  where
+    by : (told : Told) (r : Result (List Named) StoreFault) → IfSome told (λ t. IfOk r (λ l. (rows : List Named) × AreRows (held_at t) 7 cid rows × (l ≡ in_order rows))) → IfSome told (λ t. IfOk r (IsListed (held_at t) cid))
+    by None r h = tt
+    by (Some t) (Ok l) h = inr h
+    by (Some t) (Err fault) h = tt
+
+-- a directory in one block that is held isn't too heavy, where its root was read
+pub fitting : (p : Profile) (cid : Cid) (before now : Seen) (found : Root) → IsThere cid before now × IsRootOf now.lent found → IsLight (Some p) found → IsFitting p cid before.told
+fitting p cid before now found looks light = by before.told looks.0.held
+  where
+    heavy : (r : Root) → IsRootOf now.lent r → IsLight (Some p) r → (l : List Named) → IsDirectory l → now.lent ≡ dir_block l → weight l ≤ p.threshold
+    heavy (root.Basic pairs) is light l valid same = subst (λ (m : List Named). weight m ≤ p.threshold) (one_basic now.lent pairs l (omega (arith, looks.0.size)) is.0 valid is.1 same) light
+    heavy (root.Sharded items) is light l valid same = absurd (shard-basic items l is.0 valid (sym is.1 ∙ same))
+
+    by : (told : Told) → IfSome told (λ t. held_at t cid ≡ Some now.lent) → IsFitting p cid told
+    by None held = tt
+    by (Some t) held = λ l valid there. heavy found looks.1 light l valid (let same : Some now.lent ≡ Some (dir_block l) = sym held ∙ there in cc)
+
+pub fitting-at : {A E : Type 0} (r : Result A E) (p : Profile) (cid : Cid) (before now : Seen) (found : Root) → IsThere cid before now × IsRootOf now.lent found → IsLight (Some p) found → OnOk r (IsFitting p cid before.told)
+fitting-at (Ok x) p cid before now found looks light = fitting p cid before now found looks light
+fitting-at (Err e) p cid before now found looks light = tt

@@ -1,34 +1,40 @@
 // Directories changed by one name.
-ghost use Rattle.std.specs.Prelude.{◌≡◌, ◌≤◌, ◌^◌, List, IfOk, IfSome, IsTrue, None, OnOk, Some};
+ghost use Rattle.std.specs.Prelude.{◌≡◌, ◌≤◌, ◌+◌, ℕ, List, IfOk, IfSome, IsSome, IsTrue, None, OnOk, Some, length};
 ghost use Rattle.uf_cid.specs.declared.cid.Codec.TheVariants.{DagPb};
 ghost use Rattle.uf_edge.specs.Counts.{Stood};
-ghost use Rattle.uf_store.specs.Faults.{Answers};
-ghost use Rattle.uf_store.specs.Keeping.{Agrees, KeepsGood};
+ghost use Rattle.uf_store.specs.Faults.{Answers, NoneIsBad};
+ghost use Rattle.uf_store.specs.Keeping.{Agrees, Holds, KeepsGood, StaysAgreed};
 ghost use Rattle.uf_store.specs.Writing.{SavesOnly};
 ghost use Rattle.uf_store.specs.Lost.{AgreesAfter, ReadsOver};
 ghost use Rattle.uf_tree.specs.Changes.{with_name, without};
+ghost use Rattle.uf_tree.specs.DirPlan.{weight};
 ghost use Rattle.uf_tree.specs.Nodes.{Named};
 ghost use Rattle.uf_tree.specs.Profiles.{is_profile};
+ghost use Rattle.uf_tree.specs.ShardPlan.{shard};
 ghost use Rattle.uf_tree.specs.TreePlan.{dir_refusal};
 ghost use Rattle.uf_tree.specs.Validity.{IsDirectory};
-ghost use Rattle.uf_shard.specs.Answers.{GivesOver, Shown};
-ghost use Rattle.uf_dir.specs.Bad.{IsBad};
-ghost use Rattle.uf_dir.specs.Left.{IsLeft, pairs_left};
-ghost use Rattle.uf_dir.specs.Planned.{IsPlanned, dir_entry, entry_without, own_blocks};
+ghost use Rattle.uf_shard.specs.Answers.{Gives, GivesOver, Shown};
+ghost use Rattle.uf_shard.specs.Listing.{IsBadShard};
+ghost use Rattle.uf_shard.specs.Planned.{IsPlanned as IsShardPlan};
+ghost use Rattle.uf_dir.specs.Bad.{IsBad, IsBadWeighed};
+ghost use Rattle.uf_dir.specs.Bounds.{IsFree, crossing, gathering, shard_count, weighing};
+ghost use Rattle.uf_dir.specs.Left.{Fits, Settles, TakesBasic, pairs_left};
+ghost use Rattle.uf_dir.specs.Planned.{IsFitting, IsPlanned, dir_entry, entry_without, own_blocks};
 
-use crate::building::build;
+use crate::building::{build, empty, needs_shards, save_basic};
+use crate::looking::look_at_root;
 use crate::pairs::{entry_of, with_pair, without_name};
-use crate::reading::entries_under;
+use crate::root::Root;
 use std::alloc::Global;
 use std::sync::ledger::Ledger;
 use uf_cid::{Cid, Memory};
 use uf_murmur::NameHash;
-use uf_shard::DirFault;
+use uf_shard::{DirFault, Removed, entries, weight_over};
 use uf_store::{Steps, Store, StoreFault};
 use uf_tree::{Entry, Name, Pairs, Profile};
 
 /// Saves the directory with this root and with an entry put under a name, in the place of an older one of that name, and
-/// answers its entry.
+/// answers its entry. A directory in shards is changed in place; one in one block goes into shards where it gets too heavy.
 pub fn put<S: Store, N: NameHash, L: Ledger>(
     alloc: Global,
     store: &mut S,
@@ -39,29 +45,66 @@ pub fn put<S: Store, N: NameHash, L: Ledger>(
     touches: &mut Steps<L>,
 ) -> Result<Entry, DirFault>
     requires profile { IsTrue (is_profile p.now) }
-    ensures value { (l : List Named) → IsPlanned S.X.block32 N.name64 p.now root.now l → Agrees (S.seen store.old).told (own_blocks S.X.block32 N.name64 p.now l)
+    ensures value { (l : List Named) → IsPlanned S.X.block32 N.name64 p.now root.now l
+        → Agrees (S.seen store.old).told (own_blocks S.X.block32 N.name64 p.now l)
         → Stood (S.seen store.old).faults (S.seen store.new).faults → Stood (S.seen store.old).clashes (S.seen store.new).clashes
         → GivesOver (S.seen store.old).told (own_blocks S.X.block32 N.name64 p.now l)
-        (dir_refusal S.X.block32 N.name64 p.now (with_name name.now entry.now l)) (dir_entry S.X.block32 N.name64 p.now (with_name name.now entry.now l)) result }
+        (dir_refusal S.X.block32 N.name64 p.now (with_name name.now entry.now l))
+        (dir_entry S.X.block32 N.name64 p.now (with_name name.now entry.now l)) result }
     ensures node { IfOk result (λ e. e.cid.codec ≡ DagPb) }
-    ensures after { OnOk result ((l : List Named) → IsPlanned S.X.block32 N.name64 p.now root.now l → Agrees (S.seen store.old).told (own_blocks S.X.block32 N.name64 p.now l)
+    ensures fitting { OnOk result (IsFitting p.now root.now (S.seen store.old).told) }
+    ensures after { OnOk result ((l : List Named) → IsPlanned S.X.block32 N.name64 p.now root.now l
+        → StaysAgreed (S.seen store.old).told (S.seen store.new).told (own_blocks S.X.block32 N.name64 p.now l)
         → AgreesAfter (S.seen store.old).told (S.seen store.new).told (own_blocks S.X.block32 N.name64 p.now l)
         (own_blocks S.X.block32 N.name64 p.now (with_name name.now entry.now l))) }
-    ensures cause { Shown S.X.block32 (IsBad N.name64 (Some p.now)) result (S.seen store.old) (S.seen store.new) }
+    ensures cause { Shown S.X.block32 (IsBad N.name64 (N.name64 name.now) (Some p.now)) result (S.seen store.old) (S.seen store.new) }
     ensures good { KeepsGood S.X.block32 (S.seen store.old).told (S.seen store.new).told }
     ensures saves { SavesOnly S.X.block32 (S.seen store.old).told (S.seen store.new).told }
+    ensures touches { (l : List Named) → IsPlanned S.X.block32 N.name64 p.now root.now l
+        → Agrees (S.seen store.old).told (own_blocks S.X.block32 N.name64 p.now l)
+        → touches.new ≤ touches.old + (17 + crossing S.X.block32 N.name64 p.now l (with_name name.now entry.now l)) }
 {
-    match entries_under(alloc, store, Some(*p), root, touches) {
+    match look_at_root(alloc, store, Some(*p), root, touches) {
         Err(fault) => Err(DirFault::Store(fault)),
-        Ok(pairs) => match with_pair(alloc, &pairs, name, entry) {
-            Err(_) => Err(DirFault::Store(StoreFault::Memory)),
-            Ok(changed) => build::<S, N, L>(alloc, store, p, &changed, touches),
-        },
+        Ok(Root::Basic(pairs)) => {
+            put_basic::<S, N, L>(alloc, store, p, &pairs, name, entry, touches)
+        }
+        Ok(Root::Sharded(_)) => {
+            uf_shard::put::<S, N, L>(alloc, store, root, name, entry, touches)
+        }
+    }
+}
+
+// Saves the directory of these pairs and of an entry under a name.
+fn put_basic<S: Store, N: NameHash, L: Ledger>(
+    alloc: Global,
+    store: &mut S,
+    p: &Profile,
+    pairs: &Pairs,
+    name: &Name,
+    entry: &Entry,
+    touches: &mut Steps<L>,
+) -> Result<Entry, DirFault>
+    requires profile { IsTrue (is_profile p.now) }
+    requires directory { IsDirectory pairs.now }
+    ensures answer { Gives (dir_refusal S.X.block32 N.name64 p.now (with_name name.now entry.now pairs.now))
+        (dir_entry S.X.block32 N.name64 p.now (with_name name.now entry.now pairs.now)) result }
+    ensures held { OnOk result (Holds (S.seen store.new).told
+        (own_blocks S.X.block32 N.name64 p.now (with_name name.now entry.now pairs.now))) }
+    ensures cause { Shown S.X.block32 NoneIsBad result (S.seen store.old) (S.seen store.new) }
+    ensures good { KeepsGood S.X.block32 (S.seen store.old).told (S.seen store.new).told }
+    ensures saves { SavesOnly S.X.block32 (S.seen store.old).told (S.seen store.new).told }
+    ensures touches { touches.new ≤ touches.old + length (own_blocks S.X.block32 N.name64 p.now (with_name name.now entry.now pairs.now)) }
+    ensures early { IsFree N.name64 p.now (with_name name.now entry.now pairs.now) touches.old touches.new }
+{
+    match with_pair(alloc, pairs, name, entry) {
+        Err(_) => Err(DirFault::Store(StoreFault::Memory)),
+        Ok(changed) => build::<S, N, L>(alloc, store, p, &changed, touches),
     }
 }
 
 /// Saves the directory with this root without a name, and answers its entry; `None`, and nothing is saved, where the name
-/// isn't there.
+/// isn't there. A directory in shards is changed in place, and goes into one block where it isn't too heavy any more.
 pub fn remove<S: Store, N: NameHash, L: Ledger>(
     alloc: Global,
     store: &mut S,
@@ -71,27 +114,199 @@ pub fn remove<S: Store, N: NameHash, L: Ledger>(
     touches: &mut Steps<L>,
 ) -> Result<Option<Entry>, StoreFault>
     requires profile { IsTrue (is_profile p.now) }
-    ensures value { (l : List Named) → IsPlanned S.X.block32 N.name64 p.now root.now l → (dir_entry S.X.block32 N.name64 p.now l).tsize ≤ 2 ^ 62
-        → Agrees (S.seen store.old).told (own_blocks S.X.block32 N.name64 p.now l)
+    ensures value { (l : List Named) → IsPlanned S.X.block32 N.name64 p.now root.now l
+        → StaysAgreed (S.seen store.old).told (S.seen store.new).told (own_blocks S.X.block32 N.name64 p.now l)
         → Stood (S.seen store.old).faults (S.seen store.new).faults → Stood (S.seen store.old).clashes (S.seen store.new).clashes
-        → ReadsOver (S.seen store.old).told (own_blocks S.X.block32 N.name64 p.now l) (entry_without S.X.block32 N.name64 p.now name.now l) result }
+        → ReadsOver (S.seen store.old).told (own_blocks S.X.block32 N.name64 p.now l)
+        (entry_without S.X.block32 N.name64 p.now name.now l) result }
     ensures node { IfOk result (λ left. IfSome left (λ e. e.cid.codec ≡ DagPb)) }
+    ensures fitting { OnOk result (IsFitting p.now root.now (S.seen store.old).told) }
     ensures none { IfOk result (λ left. left ≡ None → (S.seen store.new).told ≡ (S.seen store.old).told) }
-    ensures after { OnOk result ((l : List Named) → IsPlanned S.X.block32 N.name64 p.now root.now l → (dir_entry S.X.block32 N.name64 p.now l).tsize ≤ 2 ^ 62
-        → Agrees (S.seen store.old).told (own_blocks S.X.block32 N.name64 p.now l)
+    ensures after { OnOk result ((l : List Named) → IsPlanned S.X.block32 N.name64 p.now root.now l
+        → StaysAgreed (S.seen store.old).told (S.seen store.new).told (own_blocks S.X.block32 N.name64 p.now l)
+        → Stood (S.seen store.old).faults (S.seen store.new).faults → Stood (S.seen store.old).clashes (S.seen store.new).clashes
         → AgreesAfter (S.seen store.old).told (S.seen store.new).told (own_blocks S.X.block32 N.name64 p.now l)
         (own_blocks S.X.block32 N.name64 p.now (without name.now l))) }
-    ensures cause { Answers S.X.block32 (IsBad N.name64 (Some p.now)) result (S.seen store.old) (S.seen store.new) }
+    ensures cause { Answers S.X.block32 (IsBadWeighed N.name64 (N.name64 name.now) (Some p.now)) result (S.seen store.old) (S.seen store.new) }
     ensures good { KeepsGood S.X.block32 (S.seen store.old).told (S.seen store.new).told }
     ensures saves { SavesOnly S.X.block32 (S.seen store.old).told (S.seen store.new).told }
+    ensures touches { (l : List Named) → IsPlanned S.X.block32 N.name64 p.now root.now l
+        → StaysAgreed (S.seen store.old).told (S.seen store.new).told (own_blocks S.X.block32 N.name64 p.now l)
+        → Stood (S.seen store.old).faults (S.seen store.new).faults → Stood (S.seen store.old).clashes (S.seen store.new).clashes
+        → touches.new ≤ touches.old + (18 + weighing p.now (shard_count S.X.block32 N.name64 l)
+        + crossing S.X.block32 N.name64 p.now l (without name.now l)) }
 {
-    match entries_under(alloc, store, Some(*p), root, touches) {
+    match look_at_root(alloc, store, Some(*p), root, touches) {
         Err(fault) => Err(fault),
-        Ok(pairs) => match pairs_without(alloc, &pairs, name) {
-            Err(_) => Err(StoreFault::Memory),
-            Ok(None) => Ok(None),
-            Ok(Some(left)) => left_of(build::<S, N, L>(alloc, store, p, &left, touches)),
+        Ok(Root::Basic(pairs)) => remove_basic::<S, N, L>(alloc, store, p, &pairs, name, touches),
+        Ok(Root::Sharded(_)) => remove_sharded::<S, N, L>(alloc, store, p, root, name, touches),
+    }
+}
+
+// Saves the directory of these pairs, which aren't too heavy for one block, without a name, where the name is there.
+fn remove_basic<S: Store, N: NameHash, L: Ledger>(
+    alloc: Global,
+    store: &mut S,
+    p: &Profile,
+    pairs: &Pairs,
+    name: &Name,
+    touches: &mut Steps<L>,
+) -> Result<Option<Entry>, StoreFault>
+    requires profile { IsTrue (is_profile p.now) }
+    requires directory { IsDirectory pairs.now }
+    requires light { weight pairs.now ≤ p.now.threshold }
+    ensures takes { TakesBasic S.X.block32 N.name64 p.now name.now pairs.now (S.seen store.old).told (S.seen store.new).told result }
+    ensures cause { Answers S.X.block32 NoneIsBad result (S.seen store.old) (S.seen store.new) }
+    ensures good { KeepsGood S.X.block32 (S.seen store.old).told (S.seen store.new).told }
+    ensures saves { SavesOnly S.X.block32 (S.seen store.old).told (S.seen store.new).told }
+    ensures touches { touches.new ≤ touches.old + 1 }
+{
+    match pairs_without(alloc, pairs, name) {
+        Err(Memory) => Err(StoreFault::Memory),
+        Ok(None) => Ok(None),
+        Ok(Some(left)) => match save_basic(alloc, store, &left, touches) {
+            Ok(entry) => Ok(Some(entry)),
+            Err(fault) => Err(fault),
         },
+    }
+}
+
+// Takes a name out of the directory whose shard tree has this root, and answers the entry of what is left.
+fn remove_sharded<S: Store, N: NameHash, L: Ledger>(
+    alloc: Global,
+    store: &mut S,
+    p: &Profile,
+    root: &Cid,
+    name: &Name,
+    touches: &mut Steps<L>,
+) -> Result<Option<Entry>, StoreFault>
+    requires profile { IsTrue (is_profile p.now) }
+    ensures value { (l : List Named) → IsShardPlan S.X.block32 N.name64 root.now l
+        → StaysAgreed (S.seen store.old).told (S.seen store.new).told (shard S.X.block32 N.name64 7 l).blocks
+        → Stood (S.seen store.old).faults (S.seen store.new).faults → Stood (S.seen store.old).clashes (S.seen store.new).clashes
+        → ReadsOver (S.seen store.old).told (shard S.X.block32 N.name64 7 l).blocks
+        (entry_without S.X.block32 N.name64 p.now name.now l) result }
+    ensures node { IfOk result (λ left. IfSome left (λ e. e.cid.codec ≡ DagPb)) }
+    ensures none { IfOk result (λ left. left ≡ None → (S.seen store.new).told ≡ (S.seen store.old).told) }
+    ensures after { IfOk result (λ left. (l : List Named) → IsShardPlan S.X.block32 N.name64 root.now l
+        → StaysAgreed (S.seen store.old).told (S.seen store.new).told (shard S.X.block32 N.name64 7 l).blocks
+        → Stood (S.seen store.old).faults (S.seen store.new).faults → Stood (S.seen store.old).clashes (S.seen store.new).clashes
+        → IfSome left (λ e. AgreesAfter (S.seen store.old).told (S.seen store.new).told
+        (shard S.X.block32 N.name64 7 l).blocks (own_blocks S.X.block32 N.name64 p.now (without name.now l)))) }
+    ensures cause { Answers S.X.block32 (IsBadWeighed N.name64 (N.name64 name.now) (Some p.now)) result (S.seen store.old) (S.seen store.new) }
+    ensures good { KeepsGood S.X.block32 (S.seen store.old).told (S.seen store.new).told }
+    ensures saves { SavesOnly S.X.block32 (S.seen store.old).told (S.seen store.new).told }
+    ensures touches { (l : List Named) → IsShardPlan S.X.block32 N.name64 root.now l
+        → StaysAgreed (S.seen store.old).told (S.seen store.new).told (shard S.X.block32 N.name64 7 l).blocks
+        → Stood (S.seen store.old).faults (S.seen store.new).faults → Stood (S.seen store.old).clashes (S.seen store.new).clashes
+        → touches.new ≤ touches.old + (17 + weighing p.now (shard_count S.X.block32 N.name64 l)
+        + gathering p.now (shard_count S.X.block32 N.name64 l) (without name.now l)) }
+{
+    match uf_shard::remove::<S, N, L>(alloc, store, root, name, touches) {
+        Err(fault) => Err(fault),
+        Ok(Removed::Absent) => Ok(None),
+        Ok(Removed::Empty) => match empty(alloc, store, touches) {
+            Ok(entry) => Ok(Some(entry)),
+            Err(fault) => Err(fault),
+        },
+        Ok(Removed::Left(entry)) => settled(alloc, store, p, entry, touches),
+    }
+}
+
+// The entry of a directory in shards, or of the same in one block, which is saved, where it isn't too heavy for that.
+fn settled<S: Store, L: Ledger>(
+    alloc: Global,
+    store: &mut S,
+    p: &Profile,
+    entry: Entry,
+    touches: &mut Steps<L>,
+) -> Result<Option<Entry>, StoreFault>
+    requires profile { IsTrue (is_profile p.now) }
+    requires node { entry.cid.codec ≡ DagPb }
+    ensures value { (N : List ℕ → ℕ) (l : List Named) → IsShardPlan S.X.block32 N entry.cid l → entry ≡ (shard S.X.block32 N 7 l).entry
+        → Agrees (S.seen store.old).told (shard S.X.block32 N 7 l).blocks
+        → Stood (S.seen store.old).faults (S.seen store.new).faults → Stood (S.seen store.old).clashes (S.seen store.new).clashes
+        → ReadsOver (S.seen store.old).told (shard S.X.block32 N 7 l).blocks (Some (dir_entry S.X.block32 N p.now l)) result }
+    ensures node { IfOk result (λ left. IfSome left (λ e. e.cid.codec ≡ DagPb)) }
+    ensures some { IfOk result IsSome }
+    ensures after { OnOk result ((N : List ℕ → ℕ) (l : List Named) → IsShardPlan S.X.block32 N entry.cid l
+        → Agrees (S.seen store.old).told (shard S.X.block32 N 7 l).blocks
+        → Stood (S.seen store.old).faults (S.seen store.new).faults → Stood (S.seen store.old).clashes (S.seen store.new).clashes
+        → Settles S.X.block32 N p.now l (S.seen store.old).told (S.seen store.new).told) }
+    ensures cause { Answers S.X.block32 IsBadShard result (S.seen store.old) (S.seen store.new) }
+    ensures good { KeepsGood S.X.block32 (S.seen store.old).told (S.seen store.new).told }
+    ensures saves { SavesOnly S.X.block32 (S.seen store.old).told (S.seen store.new).told }
+    ensures touches { (N : List ℕ → ℕ) (l : List Named) → IsShardPlan S.X.block32 N entry.cid l
+        → Agrees (S.seen store.old).told (shard S.X.block32 N 7 l).blocks
+        → Stood (S.seen store.old).faults (S.seen store.new).faults → Stood (S.seen store.old).clashes (S.seen store.new).clashes
+        → touches.new ≤ touches.old + (weighing p.now (shard_count S.X.block32 N l)
+        + gathering p.now (shard_count S.X.block32 N l) l) }
+{
+    match weight_over(alloc, store, &entry.cid, u64::from(p.threshold), touches) {
+        Err(fault) => Err(fault),
+        Ok(true) => Ok(Some(entry)),
+        Ok(false) => in_one_block(alloc, store, p, entry, touches),
+    }
+}
+
+// The entry of a directory in shards that were weighed, or of the same in one block, which is saved.
+fn in_one_block<S: Store, L: Ledger>(
+    alloc: Global,
+    store: &mut S,
+    p: &Profile,
+    entry: Entry,
+    touches: &mut Steps<L>,
+) -> Result<Option<Entry>, StoreFault>
+    requires profile { IsTrue (is_profile p.now) }
+    requires node { entry.cid.codec ≡ DagPb }
+    ensures value { (N : List ℕ → ℕ) (l : List Named) → IsShardPlan S.X.block32 N entry.cid l → entry ≡ (shard S.X.block32 N 7 l).entry
+        → Agrees (S.seen store.old).told (shard S.X.block32 N 7 l).blocks
+        → Stood (S.seen store.old).faults (S.seen store.new).faults → Stood (S.seen store.old).clashes (S.seen store.new).clashes
+        → ReadsOver (S.seen store.old).told (shard S.X.block32 N 7 l).blocks (Some (dir_entry S.X.block32 N p.now l)) result }
+    ensures node { IfOk result (λ left. IfSome left (λ e. e.cid.codec ≡ DagPb)) }
+    ensures some { IfOk result IsSome }
+    ensures after { OnOk result ((N : List ℕ → ℕ) (l : List Named) → IsShardPlan S.X.block32 N entry.cid l
+        → Agrees (S.seen store.old).told (shard S.X.block32 N 7 l).blocks
+        → Stood (S.seen store.old).faults (S.seen store.new).faults → Stood (S.seen store.old).clashes (S.seen store.new).clashes
+        → Settles S.X.block32 N p.now l (S.seen store.old).told (S.seen store.new).told) }
+    ensures cause { Answers S.X.block32 IsBadShard result (S.seen store.old) (S.seen store.new) }
+    ensures good { KeepsGood S.X.block32 (S.seen store.old).told (S.seen store.new).told }
+    ensures saves { SavesOnly S.X.block32 (S.seen store.old).told (S.seen store.new).told }
+    ensures touches { (N : List ℕ → ℕ) (l : List Named) → IsShardPlan S.X.block32 N entry.cid l
+        → Agrees (S.seen store.old).told (shard S.X.block32 N 7 l).blocks
+        → touches.new ≤ touches.old + (shard_count S.X.block32 N l + 1) }
+{
+    match entries(alloc, store, &entry.cid, touches) {
+        Err(fault) => Err(fault),
+        Ok(pairs) => fitted(alloc, store, p, entry, &pairs, touches),
+    }
+}
+
+// Saves these pairs in one block, unless they are too heavy for it: then the entry of their shards.
+fn fitted<S: Store, L: Ledger>(
+    alloc: Global,
+    store: &mut S,
+    p: &Profile,
+    entry: Entry,
+    pairs: &Pairs,
+    touches: &mut Steps<L>,
+) -> Result<Option<Entry>, StoreFault>
+    requires profile { IsTrue (is_profile p.now) }
+    requires directory { IsDirectory pairs.now }
+    requires node { entry.cid.codec ≡ DagPb }
+    ensures fits { (N : List ℕ → ℕ) → Fits S.X.block32 N p.now entry pairs.now (S.seen store.old).told (S.seen store.new).told result }
+    ensures node { IfOk result (λ left. IfSome left (λ e. e.cid.codec ≡ DagPb)) }
+    ensures cause { Answers S.X.block32 NoneIsBad result (S.seen store.old) (S.seen store.new) }
+    ensures good { KeepsGood S.X.block32 (S.seen store.old).told (S.seen store.new).told }
+    ensures saves { SavesOnly S.X.block32 (S.seen store.old).told (S.seen store.new).told }
+    ensures touches { touches.new ≤ touches.old + 1 }
+{
+    if needs_shards(p, pairs.as_slice()) {
+        return Ok(Some(entry));
+    }
+    match save_basic(alloc, store, pairs, touches) {
+        Ok(entry) => Ok(Some(entry)),
+        Err(fault) => Err(fault),
     }
 }
 
@@ -104,22 +319,5 @@ fn pairs_without(alloc: Global, pairs: &Pairs, name: &Name) -> Result<Option<Pai
     if entry_of(pairs.as_slice(), name).is_none() {
         return Ok(None);
     }
-    match without_name(alloc, pairs, name) {
-        Err(fault) => Err(fault),
-        Ok(left) => Ok(Some(left)),
-    }
-}
-
-// What a removal answers for the directory that is left. A directory that has a plan leaves one that has a plan too: no
-// other two of its names have one hash, and its Tsize is less. So the two refusals come only over a shard tree that no plan
-// gives, where no block needs to be bad and the store hasn't failed. Want of memory is the answer that claims nothing.
-fn left_of(built: Result<Entry, DirFault>) -> Result<Option<Entry>, StoreFault>
-    ensures { IsLeft built result }
-{
-    match built {
-        Ok(entry) => Ok(Some(entry)),
-        Err(DirFault::Store(fault)) => Err(fault),
-        Err(DirFault::Collision(_, _)) => Err(StoreFault::Memory),
-        Err(DirFault::TooBig) => Err(StoreFault::Memory),
-    }
+    Ok(Some(without_name(alloc, pairs, name)?))
 }

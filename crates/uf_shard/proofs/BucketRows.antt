@@ -1,10 +1,16 @@
 -- The slots that take the pairs of a directory, and the shards over them.
 use Rattle.std.proofs.Common.{◌≡◌, ℕ, zero, suc, ◌+◌, ◌-◌, ◌<◌, ◌≤◌, List, [], ◌∷◌, ◌++◌, length, map, get_or, refl, ap, arith, sym, ◌∙◌, subst, inl, inr, Bool, true, false, cond, Option, Some, None, append_assoc, length-append}
-use Rattle.std.specs.Prelude.{◌==◌}
+use Rattle.std.specs.Prelude.{◌==◌, IfOk, OnOk}
+use Rattle.std.specs.declared.result.Result.{Result}
+use Rattle.std.specs.declared.result.Result.TheVariants.{Ok, Err}
 use Rattle.std.specs.List.{AllByRecursion, cons_option}
 use Rattle.std.specs.Option.{option_map}
 use Rattle.std.proofs.lemmas.List.{append-nil, length-map}
+use Rattle.uf_cid.specs.declared.cid.Codec.TheVariants.{DagPb}
 use Rattle.uf_cid.specs.Blocks.{Held}
+use Rattle.uf_cid.specs.Cid.{cid_of}
+use Rattle.uf_store.specs.declared.store.StoreFault.{StoreFault}
+use Rattle.uf_tree.specs.declared.nodes.Entry.{Entry}
 use Rattle.uf_murmur.specs.Slots.{slot}
 use Rattle.uf_tree.specs.declared.nodes.Item.{Item}
 use Rattle.uf_tree.specs.declared.nodes.Item.TheVariants.{Sub}
@@ -247,3 +253,9 @@ module _ (X : List ℕ → List ℕ) (N : List ℕ → ℕ) where
       subst (Holds b) is
       (Holds-append b (held ∷ []) (flat_tabulate 256 0 (blocks_at X N left slots)) now
       (Holds-kept X a b (flat_tabulate 256 0 (blocks_at X N left slots)) (blocks-good 256 left slots) keeps below))
+
+-- a block that is held under the CID of its entry is held under its own
+pub held-own : (X : List ℕ → List ℕ) (block : List ℕ) (entries : List Entry) (told : Told) (r : Result Entry StoreFault) → IfOk r (λ e. e ≡ node_entry X block entries) → IfOk r (λ e. Holds told ((e.cid, block) ∷ []))
+    → OnOk r (Holds told ((cid_of X DagPb block, block) ∷ []))
+held-own X block entries told (Ok e) is held = subst (λ (x : Entry). Holds told ((x.cid, block) ∷ [])) is held
+held-own X block entries told (Err fault) is held = tt

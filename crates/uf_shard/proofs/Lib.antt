@@ -10,3 +10,12 @@ pub mod Weights
 pub mod Sorts
 pub mod Touches
 pub mod Digests
+pub mod Alone
+pub mod Ends
+pub mod Knowing
+pub mod Pairing
+pub mod Placing
+pub mod Puts
+pub mod Setting
+pub mod Slotted
+pub mod Takes

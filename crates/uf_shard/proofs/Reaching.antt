@@ -121,10 +121,10 @@ module _ (X : List ℕ → List ℕ) (N : List ℕ → ℕ) where
       not_bad told name lent agrees held bad = bad (subst (IsCanonicalShard N (way hash (7 - left))) (sym (the_block told name lent agrees held)) canonical)
 
       -- what it says is what its slot has
-      pub it_says : (name : List ℕ) (before now : Seen) (spot : Spot) → Agrees before.told (shard_trail X N left l name) → SaysOf N hash (7 - left) root name before now spot
+      pub it_says : (name : List ℕ) (before : Seen) (spot : Spot) → Agrees before.told (shard_trail X N left l name) → SaysOf N hash (7 - left) root name before spot
           → spot ≡ spot_of name (slot_item (deeper_of left) (slot_of hash left l))
-      it_says name before now spot agrees says =
-          let same : says.items ≡ items_of left l = one_shard says.items (items_of left l) says.placed.valid items-valid (sym says.is ∙ the_block before.told name now.lent agrees says.held) in
+      it_says name before spot agrees says =
+          let same : says.items ≡ items_of left l = one_shard says.items (items_of left l) says.has.placed.valid items-valid (the_block before.told name (shard_block says.items) agrees says.has.is_held) in
           says.says
           ∙ ap (λ (k : ℕ). spot_of name (find nat_cmp (slot hash k) says.items)) (sym (level-is left low))
           ∙ ap (λ (i : List InSlot). spot_of name (find nat_cmp (slot hash (level_of left)) i)) same
@@ -197,19 +197,19 @@ module _ (X : List ℕ → List ℕ) (N : List ℕ → ℕ) where
     find-err left root l low before now Memory value looks cause is agrees stood = tt
 
     -- the name is decided here
-    pub find-here : (left : ℕ) (root : Cid) (l : List Named) → left ≤ 7 → (before now : Seen) (e : Option Entry) → SaysOf N (N name) (7 - left) root name before now (Here e)
+    pub find-here : (left : ℕ) (root : Cid) (l : List Named) → left ≤ 7 → (before : Seen) (e : Option Entry) → SaysOf N (N name) (7 - left) root name before (Here e)
         → IsReached X N (N name) left root l → Agrees before.told (shard_trail X N left l name) → (e ≡ find names_cmp name l) × Holds before.told (shard_trail X N left l name)
-    find-here left root l low before now e says is agrees =
-        let said = it_says good (N name) left root l low is name before now (Here e) agrees says in
-        ((here_value (deeper_of left) name (slot_of (N name) left l) [] e said).0 ∙ sym (find-slot (level_of left) name l), subst (Holds before.told) (sym (trail-is left l name)) (all before.told agrees says.held))
+    find-here left root l low before e says is agrees =
+        let said = it_says good (N name) left root l low is name before (Here e) agrees says in
+        ((here_value (deeper_of left) name (slot_of (N name) left l) [] e said).0 ∙ sym (find-slot (level_of left) name l), subst (Holds before.told) (sym (trail-is left l name)) (all before.told agrees says.has.is_held))
       where
         ends : (left : ℕ) (d : List Named → Plan) → Here e ≡ spot_of name (slot_item d (slot_of (N name) left l)) → trail_below left l name ≡ []
         ends zero d h = refl
         ends (suc left) d h = (here_value d name (slot_of (N name) (suc left) l) (shard_trail X N left (slot_of (N name) (suc left) l) name) e h).1
 
-        all : (told : Told) → Agrees told (shard_trail X N left l name) → IfSome told (λ t. held_at t root ≡ Some now.lent) → Holds told (head_of left l ∷ trail_below left l name)
+        all : (told : Told) → Agrees told (shard_trail X N left l name) → IfSome told (λ t. held_at t root ≡ Some (shard_block says.items)) → Holds told (head_of left l ∷ trail_below left l name)
         all None a h = absurd a
-        all (Some t) a h = subst (λ (path : List Held). Holds (Some t) (head_of left l ∷ path)) (sym (ends left (deeper_of left) (it_says good (N name) left root l low is name before now (Here e) agrees says))) (head-held left root l low is t now.lent a h, tt)
+        all (Some t) a h = subst (λ (path : List Held). Holds (Some t) (head_of left l ∷ path)) (sym (ends left (deeper_of left) (it_says good (N name) left root l low is name before (Here e) agrees says))) (head-held left root l low is t (shard_block says.items) a h, tt)
 
     -- the names of a slot share one slot more
     along_slot : (left : ℕ) (m : List Named) → left ≤ 6 → AllByRecursion (λ (e : Named). way (N e.0) (7 - suc left) ≡ way (N name) (7 - suc left)) m
@@ -261,13 +261,13 @@ module _ (X : List ℕ → List ℕ) (N : List ℕ → ℕ) where
         → FindsOver mid.told (shard_trail X N left k name) (find names_cmp name k) r
 
     pub find-below : (left : ℕ) (root c : Cid) (l : List Named) → left ≤ 7 → 7 - left < 7 → (before mid now : Seen) (r : Result (Option Entry) StoreFault)
-        → SaysOf N (N name) (7 - left) root name before mid (Below c) → mid.told ≡ before.told → mid.faults ≡ before.faults → Deeper (left - 1) c mid now r
+        → SaysOf N (N name) (7 - left) root name before (Below c) → mid.told ≡ before.told → mid.faults ≡ before.faults → Deeper (left - 1) c mid now r
         → IsReached X N (N name) left root l → Agrees before.told (shard_trail X N left l name) → Stood before.faults now.faults
         → FindsOver before.told (shard_trail X N left l name) (find names_cmp name l) r
     find-below zero root c l low room before mid now r says same calm deeper is agrees stood = absurd (omega arith)
     find-below (suc left) root c l low room before mid now r says same calm deeper is agrees stood =
         subst (λ (path : List Held). FindsOver before.told path (find names_cmp name l) r) (sym (trail-is (suc left) l name ∙ ap (λ (path : List Held). head_of (suc left) l ∷ path) goes.shared))
-        (over_more before.told (head_of (suc left) l) path (find names_cmp name l) r (first before.told agrees says.held)
+        (over_more before.told (head_of (suc left) l) path (find names_cmp name l) r (first before.told agrees says.has.is_held)
         (subst (λ (v : Option Entry). FindsOver before.told path v r) (sym (find-slot (6 - left) name l))
         (subst (λ (told : Told). FindsOver told path (find names_cmp name b) r) same
         (subst (λ (n : ℕ). Deeper n c mid now r) less deeper b (reached_below left root c l path low is goes)
@@ -284,11 +284,11 @@ module _ (X : List ℕ → List ℕ) (N : List ℕ → ℕ) where
         less = omega arith
 
         goes : Goes (shard X N left) c b path
-        goes = below_goes (shard X N left) name b path c (it_says good (N name) (suc left) root l low is name before mid (Below c) agrees says)
+        goes = below_goes (shard X N left) name b path c (it_says good (N name) (suc left) root l low is name before (Below c) agrees says)
 
-        first : (told : Told) → Agrees told (shard_trail X N (suc left) l name) → IfSome told (λ t. held_at t root ≡ Some mid.lent) → Holds told (head_of (suc left) l ∷ [])
+        first : (told : Told) → Agrees told (shard_trail X N (suc left) l name) → IfSome told (λ t. held_at t root ≡ Some (shard_block says.items)) → Holds told (head_of (suc left) l ∷ [])
         first None a h = absurd a
-        first (Some t) a h = (head-held (suc left) root l low is t mid.lent a h, tt)
+        first (Some t) a h = (head-held (suc left) root l low is t (shard_block says.items) a h, tt)
 
         rest : (told : Told) → Agrees told (head_of (suc left) l ∷ path) → Agrees told path
         rest None a = a
@@ -319,14 +319,14 @@ module _ (X : List ℕ → List ℕ) (N : List ℕ → ℕ) where
         }
         by (Some names) t h = absurd (let no : None ≡ Some is.plan = h in cc)
 
-    pub find-here-at : (left : ℕ) (root : Cid) (l : List Named) → left ≤ 7 → (before now : Seen) (spot : Spot) (e : Option Entry) → spot ≡ Here e → SaysOf N (N name) (7 - left) root name before now spot
+    pub find-here-at : (left : ℕ) (root : Cid) (l : List Named) → left ≤ 7 → (before : Seen) (spot : Spot) (e : Option Entry) → spot ≡ Here e → SaysOf N (N name) (7 - left) root name before spot
         → IsReached X N (N name) left root l → Agrees before.told (shard_trail X N left l name) → (e ≡ find names_cmp name l) × Holds before.told (shard_trail X N left l name)
-    find-here-at left root l low before now spot e at says is agrees =
-        find-here left root l low before now e (subst (λ (s : Spot). SaysOf N (N name) (7 - left) root name before now s) at says) is agrees
+    find-here-at left root l low before spot e at says is agrees =
+        find-here left root l low before e (subst (λ (s : Spot). SaysOf N (N name) (7 - left) root name before s) at says) is agrees
 
     pub find-below-at : (left : ℕ) (root c : Cid) (l : List Named) → left ≤ 7 → (before mid now : Seen) (r : Result (Option Entry) StoreFault) (spot : Spot) → spot ≡ Below c → HasRoom (7 - left) spot
-        → SaysOf N (N name) (7 - left) root name before mid spot → mid.told ≡ before.told → mid.faults ≡ before.faults → Deeper (left - 1) c mid now r
+        → SaysOf N (N name) (7 - left) root name before spot → mid.told ≡ before.told → mid.faults ≡ before.faults → Deeper (left - 1) c mid now r
         → IsReached X N (N name) left root l → Agrees before.told (shard_trail X N left l name) → Stood before.faults now.faults
         → FindsOver before.told (shard_trail X N left l name) (find names_cmp name l) r
     find-below-at left root c l low before mid now r spot at room says same calm deeper is agrees stood =
-        find-below left root c l low (subst (HasRoom (7 - left)) at room) before mid now r (subst (λ (s : Spot). SaysOf N (N name) (7 - left) root name before mid s) at says) same calm deeper is agrees stood
+        find-below left root c l low (subst (HasRoom (7 - left)) at room) before mid now r (subst (λ (s : Spot). SaysOf N (N name) (7 - left) root name before s) at says) same calm deeper is agrees stood

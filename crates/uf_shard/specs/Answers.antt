@@ -1,5 +1,5 @@
 -- What calls that build or change a directory answer.
-use Rattle.std.specs.Prelude.{◌≡◌, ℕ, List, Some, None}
+use Rattle.std.specs.Prelude.{◌≡◌, ℕ, List, Some, None, ⊤}
 use Rattle.std.specs.declared.option.Option.{Option}
 use Rattle.std.specs.declared.result.Result.{Result}
 use Rattle.std.specs.declared.result.Result.TheVariants.{Ok, Err}
@@ -34,6 +34,13 @@ GivesOver told old refusal entry (Ok e) = (refusal ≡ None) × (e ≡ entry)
 GivesOver told old refusal entry (Err (Collision first second)) = refusal ≡ Some (Collides first second)
 GivesOver told old refusal entry (Err TooBig) = refusal ≡ Some IsTooBig
 GivesOver told old refusal entry (Err (Store fault)) = IsLossOf told old fault
+
+-- what holds where two names of one hash were found
+abbrev pub AtCollision : {A : Type 0} → Result A DirFault → Type 0 → Type 0
+AtCollision (Ok a) P = ⊤
+AtCollision (Err (Collision first second)) P = P
+AtCollision (Err TooBig) P = ⊤
+AtCollision (Err (Store fault)) P = ⊤
 
 -- no fault was passed over: a fault of the store shows its cause, and before any other answer the store has stayed calm
 abbrev pub Shown : {A : Type 0} → (List ℕ → List ℕ) → (Role → List ℕ → Type 0) → Result A DirFault → Seen → Seen → Type 0

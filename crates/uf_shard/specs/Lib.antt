@@ -1,5 +1,7 @@
 pub mod Answers
 pub mod Buckets
+pub mod Changed
+pub mod Known
 pub mod Listing
 pub mod Placed
 pub mod Planned
@@ -7,4 +9,5 @@ pub mod Reached
 pub mod Saving
 pub mod Sorting
 pub mod Spots
+pub mod Taken
 pub mod Walked

@@ -30,13 +30,10 @@ pub record IsReached (X : List ℕ → List ℕ) (N : List ℕ → ℕ) (hash le
   pub along : AllByRecursion (λ (e : Named). way (N e.0) (7 - left) ≡ way hash (7 - left)) l
   pub cid : root ≡ (shard X N left l).entry.cid
 
--- the block was found, and is a shard that says this of a name
-pub record SaysOf (N : List ℕ → ℕ) (hash level : ℕ) (cid : Cid) (name : List ℕ) (before now : Seen) (spot : Spot) : Type 0 where
-  pub items : List InSlot
+-- the block was found, and it is the shard of these slots on the way of a hash
+pub record HasPlaced (N : List ℕ → ℕ) (hash level : ℕ) (cid : Cid) (before : Seen) (items : List InSlot) : Type 0 where
   pub placed : IsPlaced N (way hash level) items
-  pub is : now.lent ≡ shard_block items
-  pub held : IfSome before.told (λ t. held_at t cid ≡ Some now.lent)
-  pub says : spot ≡ spot_of name (find nat_cmp (slot hash level) items)
+  pub is_held : IfSome before.told (λ t. held_at t cid ≡ Some (shard_block items))
 
 -- the block was found, and isn't canonical as the shard of this level
 pub record IsBadThere (N : List ℕ → ℕ) (hash level : ℕ) (cid : Cid) (r : Role) (before now : Seen) : Type 0 where
@@ -44,12 +41,23 @@ pub record IsBadThere (N : List ℕ → ℕ) (hash level : ℕ) (cid : Cid) (r :
   pub held : IfSome before.told (λ t. held_at t cid ≡ Some now.lent)
   pub bad : IsCanonicalShard N (way hash level) now.lent → ⊥
 
--- a shard was looked at, or its block is lost or bad, or the store failed
+-- a shard was loaded, or its block is lost or bad, or the store failed
+abbrev pub LoadsPlaced : (List ℕ → ℕ) → ℕ → ℕ → Cid → Seen → Seen → Result (List InSlot) StoreFault → Type 0
+LoadsPlaced N hash level cid before now (Ok items) = HasPlaced N hash level cid before items
+LoadsPlaced N hash level cid before now (Err Failed) = ⊤
+LoadsPlaced N hash level cid before now (Err (Damaged c)) = ⊤
+LoadsPlaced N hash level cid before now (Err (Missing c)) = (c ≡ cid) × IfSome before.told (λ t. held_at t cid ≡ None)
+LoadsPlaced N hash level cid before now (Err (BadBlock c role)) = IsBadThere N hash level cid role before now
+LoadsPlaced N hash level cid before now (Err (Clash c held bytes)) = ⊥
+LoadsPlaced N hash level cid before now (Err Memory) = ⊤
+
+-- the block was found, and is a shard that says this of a name
+pub record SaysOf (N : List ℕ → ℕ) (hash level : ℕ) (cid : Cid) (name : List ℕ) (before : Seen) (spot : Spot) : Type 0 where
+  pub items : List InSlot
+  pub has : HasPlaced N hash level cid before items
+  pub says : spot ≡ spot_of name (find nat_cmp (slot hash level) items)
+
+-- the same of a load after which the shard says what it has of a name
 abbrev pub LooksAt : (List ℕ → ℕ) → ℕ → ℕ → Cid → List ℕ → Seen → Seen → Result Spot StoreFault → Type 0
-LooksAt N hash level cid name before now (Ok spot) = SaysOf N hash level cid name before now spot
-LooksAt N hash level cid name before now (Err Failed) = ⊤
-LooksAt N hash level cid name before now (Err (Damaged c)) = ⊤
-LooksAt N hash level cid name before now (Err (Missing c)) = (c ≡ cid) × IfSome before.told (λ t. held_at t cid ≡ None)
-LooksAt N hash level cid name before now (Err (BadBlock c role)) = IsBadThere N hash level cid role before now
-LooksAt N hash level cid name before now (Err (Clash c held bytes)) = ⊥
-LooksAt N hash level cid name before now (Err Memory) = ⊤
+LooksAt N hash level cid name before now (Ok spot) = SaysOf N hash level cid name before spot
+LooksAt N hash level cid name before now (Err fault) = LoadsPlaced N hash level cid before now (Err fault)

@@ -1,10 +1,11 @@
 // Shard trees built from lists.
-ghost use Rattle.std.specs.Prelude.{◌≡◌, ◌≤◌, ◌<◌, ◌+◌, ℕ, [], length, slice_index_or, IfOk, IfErr, OnOk};
+ghost use Rattle.std.specs.Prelude.{◌≡◌, ◌≢◌, ◌≤◌, ◌<◌, ◌+◌, ℕ, [], length, slice_index_or, None, Some, IfOk, IfErr, OnOk};
 ghost use Rattle.uf_store.specs.Clashes.{IsSaving};
 ghost use Rattle.uf_store.specs.Faults.{Answers, NoneIsBad};
 ghost use Rattle.uf_store.specs.Keeping.{Holds, KeepsGood};
 ghost use Rattle.uf_store.specs.Writing.{SavesOnly};
 ghost use Rattle.uf_tree.specs.ShardPlan.{flat_tabulate, shard, slot_blocks, slot_item, tabulate};
+ghost use Rattle.uf_tree.specs.TreePlan.{collision as collision_of};
 ghost use Rattle.uf_tree.specs.Validity.{IsDirectory};
 ghost use Rattle.uf_shard.specs.Answers.{Gives, Shown, shard_refusal};
 ghost use Rattle.uf_shard.specs.Buckets.{AreForShard, AreForSlot, blocks_at, deeper, item_at, pairs_of};
@@ -26,7 +27,7 @@ use uf_tree::{Entry, Item, Items, Pairs, Placed};
 const MOST_TSIZE: u64 = 1 << 62;
 
 /// Saves the shard tree of these pairs, at least one, and answers its entry (UnixFS v1, "HAMTDirectory"). Two names of one
-/// 64-bit hash are found before anything is saved. One touch for each shard.
+/// 64-bit hash are found before anything is saved or touched. One touch for each shard.
 pub fn build<S: Store, N: NameHash, L: Ledger>(
     alloc: Global,
     store: &mut S,
@@ -37,6 +38,7 @@ pub fn build<S: Store, N: NameHash, L: Ledger>(
     requires some { 1 ≤ length pairs.now }
     ensures answer { Gives (shard_refusal S.X.block32 N.name64 pairs.now) (shard S.X.block32 N.name64 7 pairs.now).entry result }
     ensures held { OnOk result (Holds (S.seen store.new).told (shard S.X.block32 N.name64 7 pairs.now).blocks) }
+    ensures early { collision_of N.name64 pairs.now ≢ None → (S.seen store.new ≡ S.seen store.old) × (touches.new ≡ touches.old) }
     ensures cause { Shown S.X.block32 NoneIsBad result (S.seen store.old) (S.seen store.new) }
     ensures good { KeepsGood S.X.block32 (S.seen store.old).told (S.seen store.new).told }
     ensures saves { SavesOnly S.X.block32 (S.seen store.old).told (S.seen store.new).told }
@@ -69,7 +71,7 @@ fn collision(twins: (Hashed, Hashed)) -> DirFault
 }
 
 // The entry, unless its Tsize is too big.
-fn within(entry: Entry) -> Result<Entry, DirFault>
+pub fn within(entry: Entry) -> Result<Entry, DirFault>
     ensures { IsWithin entry result }
 {
     if entry.tsize > MOST_TSIZE {
@@ -105,7 +107,7 @@ fn save_shard<S: Store, N: NameHash, L: Ledger>(
         Ok(items) => items,
         Err(fault) => return Err(fault),
     };
-    save_node::<S, N, L>(alloc, store, &items, touches)
+    save_node(alloc, store, &items, touches)
 }
 
 // Saves the shards below each slot of a shard, and answers what the slots have.

@@ -1,4 +1,4 @@
-//! Directories as trees of shards (UnixFS v1, "HAMTDirectory", with a fanout of 256): built, listed, weighed, and a name looked up.
+//! Directories as trees of shards (UnixFS v1, "HAMTDirectory", with a fanout of 256): built, listed, weighed, a name looked up, put and taken out in place.
 #![tactic(auto)]
 
 mod buckets;
@@ -7,9 +7,15 @@ mod fault;
 mod gathering;
 mod hashed;
 mod listing;
+mod loading;
 mod lookup;
 mod nodes;
+mod putting;
 mod reading;
+mod removed;
+mod removing;
+mod rest;
+mod slots;
 mod spot;
 mod twins;
 mod walking;
@@ -18,9 +24,14 @@ pub use building::build;
 pub use fault::DirFault;
 pub use listing::{entries, weight_over};
 pub use lookup::find;
+pub use putting::put;
+pub use removed::Removed;
+pub use removing::remove;
 
 #[cfg(test)]
 mod build_tests;
+#[cfg(test)]
+mod edit_tests;
 #[cfg(test)]
 mod list_tests;
 #[cfg(test)]

@@ -15,13 +15,14 @@ ghost use Rattle.uf_shard.specs.Planned.{IsPlanned};
 ghost use Rattle.uf_shard.specs.Reached.{IsReached, LooksAt};
 ghost use Rattle.uf_shard.specs.Spots.{HasRoom};
 
-use crate::reading::{read_shard, spot_in};
+use crate::loading::{load_shard, slot_at};
+use crate::reading::spot_in;
 use crate::spot::Spot;
 use std::alloc::Global;
 use std::sync::ledger::Ledger;
-use uf_cid::{Cid, StrictFault};
-use uf_murmur::{NameHash, slot};
-use uf_store::{Role, Steps, Store, StoreFault, need};
+use uf_cid::Cid;
+use uf_murmur::NameHash;
+use uf_store::{Steps, Store, StoreFault};
 use uf_tree::{Entry, Name};
 
 /// The entry of a name in the directory whose shard tree has this root (UnixFS v1, "HAMTDirectory"), or `None` where the
@@ -85,13 +86,8 @@ fn look<S: Store, N: NameHash, L: Ledger>(
     ensures told { (S.seen store.new).told ≡ (S.seen store.old).told }
     ensures touches { touches.new ≡ touches.old + 1 }
 {
-    let hash = N::name64(name.as_str().as_bytes());
-    if let Err(fault) = need(store, cid, touches) {
-        return Err(fault);
-    }
-    match read_shard::<N>(alloc, store.block(), hash, level) {
-        Ok(items) => Ok(spot_in(items.as_slice(), slot(hash, level), name)),
-        Err(StrictFault::NotCanonical) => Err(StoreFault::BadBlock(*cid, Role::Shard(level))),
-        Err(StrictFault::Memory) => Err(StoreFault::Memory),
+    match load_shard::<S, N, L>(alloc, store, level, cid, name, touches) {
+        Ok(items) => Ok(spot_in(items.as_slice(), slot_at::<N>(name, level), name)),
+        Err(fault) => Err(fault),
     }
 }

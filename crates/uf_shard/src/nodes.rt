@@ -1,23 +1,21 @@
 // Shards saved.
-ghost use Rattle.std.specs.Prelude.{◌≡◌, ◌+◌, ◌≤◌, ◌∷◌, [], length, map, IfOk, OnOk, IfErr};
+ghost use Rattle.std.specs.Prelude.{◌≡◌, ◌+◌, ◌≤◌, ◌∷◌, [], length, map, IfErr, IfOk};
 ghost use Rattle.std.specs.List.{sum_by};
 ghost use Rattle.uf_store.specs.Clashes.{IsSaving};
 ghost use Rattle.uf_store.specs.Faults.{Answers, NoneIsBad};
 ghost use Rattle.uf_store.specs.Keeping.{Holds, KeepsGood};
 ghost use Rattle.uf_store.specs.Writing.{SavesOnly};
 ghost use Rattle.uf_tree.specs.Nodes.{InSlot, capped, item_entry, node_entry, shard_block};
-ghost use Rattle.uf_tree.specs.ShardPlan.{shard_held};
-ghost use Rattle.uf_tree.specs.Validity.{IsShard};
+ghost use Rattle.uf_tree.specs.Validity.{IsEntry, IsShard};
 
 use std::alloc::Global;
 use std::sync::ledger::Ledger;
 use uf_cid::{Codec, Memory};
-use uf_murmur::NameHash;
 use uf_store::{Steps, Store, StoreFault, save_block};
 use uf_tree::{Entry, Item, Items, Placed, shard_node};
 
 // Saves the shard of these slots, and answers its entry. At most one touch.
-pub fn save_node<S: Store, N: NameHash, L: Ledger>(
+pub fn save_node<S: Store, L: Ledger>(
     alloc: Global,
     store: &mut S,
     items: &Items,
@@ -25,7 +23,8 @@ pub fn save_node<S: Store, N: NameHash, L: Ledger>(
 ) -> Result<Entry, StoreFault>
     requires { IsShard items.now }
     ensures entry { IfOk result (λ e. e ≡ node_entry S.X.block32 (shard_block items.now) (map (λ (p : InSlot). item_entry p.1) items.now)) }
-    ensures held { OnOk result (Holds (S.seen store.new).told (shard_held S.X.block32 N.name64 items.now ∷ [])) }
+    ensures valid { IfOk result IsEntry }
+    ensures held { IfOk result (λ e. Holds (S.seen store.new).told ((e.cid, shard_block items.now) ∷ [])) }
     ensures cause { Answers S.X.block32 NoneIsBad result (S.seen store.old) (S.seen store.new) }
     ensures fault { IfErr result IsSaving }
     ensures good { KeepsGood S.X.block32 (S.seen store.old).told (S.seen store.new).told }

@@ -1,27 +1,51 @@
-use Rattle.std.proofs.Common.{◌^◌, ◌≤◌, refl, Some}
-use Rattle.uf_dir.specs.Bad.{IsBad}
-use Rattle.uf_dir.specs.Planned.{dir_entry}
-use Rattle.uf_dir.specs.Roots.{IsBadUnder}
-use Rattle.uf_dir.proofs.Causes.{Shows-wider, under-bad}
-use Rattle.uf_dir.proofs.Edited.{absent-after, left-after}
-use Rattle.uf_dir.proofs.Nodes.{gives-node, left-node}
+use Rattle.std.proofs.Common.{Some, refl}
+use Rattle.std.proofs.lemmas.Result.{IfOk-weaker}
+use Rattle.uf_store.specs.Faults.{NoneIsBad}
+use Rattle.uf_dir.specs.Planned.{entry_without}
+use Rattle.uf_dir.proofs.Changing.{basic-node, basic-ok, basic-value, in_shards, saves-same, take-asked, take-sharded, take-sharded-ok}
+use Rattle.uf_dir.proofs.Looked.{entries-basic, entries-unread, fitting-at}
+use Rattle.uf_dir.proofs.Refusals.{sharded-apart}
+use Rattle.uf_dir.proofs.Touching.{basic-takes, sharded-takes}
+use Rattle.uf_tree.specs.Changes.{without}
 use Rattle.uf_dir.proofs.editing.remove.Goals as goal
 
 pub returns-in-Err-clause-value : goal.returns-in-Err-clause-value
-returns-in-Err-clause-value g c = λ l is small agrees stood clashes. c.in-Err.ensures.value g.N.NameHash.name64 c.args.p.now l is refl agrees stood
+returns-in-Err-clause-value g c = λ l is stays faults clashes. entries-unread g.S.X.BlockHash.block32 (record { size = g.met.S.X.BlockHash.size; are_bytes = g.met.S.X.BlockHash.are_bytes }) g.N.NameHash.name64 c.args.p.now c.args.root.now l is _ (Some c.args.p.now) _ _ _ (entry_without g.S.X.BlockHash.block32 g.N.NameHash.name64 c.args.p.now c.args.name.now l) refl c.in-Err.ensures.looks c.in-Err.ensures.cause stays.first faults
 
-pub returns-in-Err-clause-cause : goal.returns-in-Err-clause-cause
-returns-in-Err-clause-cause g c = Shows-wider g.S.X.BlockHash.block32 (IsBadUnder (Some c.args.p.now)) (IsBad g.N.NameHash.name64 (Some c.args.p.now)) (under-bad g.N.NameHash.name64 (Some c.args.p.now)) _ _ _ c.in-Err.ensures.cause
+pub returns-in-Err-clause-saves : goal.returns-in-Err-clause-saves
+returns-in-Err-clause-saves g c = saves-same _ _ _ c.look_at_root.ensures.told
 
-pub returns-in-Ok-None-clause-after : goal.returns-in-Ok-None-clause-after
-returns-in-Ok-None-clause-after g c = λ l is small agrees. absent-after g.S.X.BlockHash.block32 g.N.NameHash.name64 c.args.p.now c.args.root.now (g.S.Store.seen c.args.store.now).told (g.S.Store.seen c.args.store.now).told (g.S.Store.seen c.entries_under.new.store).told c.in-Ok.pairs
-    (λ l is agrees. c.in-Ok.ensures.ok g.N.NameHash.name64 c.args.p.now l is agrees) c.args.name.now c.in-Ok-None.field-0 c.in-Ok-None.field-0-is c.in-Ok-None.ensures.pairs c.in-Ok.ensures.told l is agrees
+pub returns-in-Ok-Basic-clause-value : goal.returns-in-Ok-Basic-clause-value
+returns-in-Ok-Basic-clause-value g c = λ l is stays faults clashes. basic-value g.S.X.BlockHash.block32 g.N.NameHash.name64 c.args.p.now c.args.name.now c.in-Ok-Basic.pairs l (g.S.Store.seen c.args.store.now).told _ _ _ c.remove_basic.result (g.S.Store.seen c.args.store.now) (g.S.Store.seen c.look_at_root.new.store) (g.S.Store.seen c.remove_basic.new.store)
+    (entries-basic g.S.X.BlockHash.block32 (record { size = g.met.S.X.BlockHash.size; are_bytes = g.met.S.X.BlockHash.are_bytes }) g.N.NameHash.name64 c.args.p.now c.args.root.now l is _ _ _ _ c.in-Ok-Basic.field-0-is c.in-Ok-Basic.ensures.looks stays.first) c.remove_basic.ensures.takes c.in-Ok-Basic.ensures.cause c.remove_basic.ensures.cause faults clashes
+
+pub returns-in-Ok-Basic-clause-node : goal.returns-in-Ok-Basic-clause-node
+returns-in-Ok-Basic-clause-node g c = basic-node g.S.X.BlockHash.block32 g.N.NameHash.name64 c.args.p.now c.args.name.now c.in-Ok-Basic.pairs _ _ c.remove_basic.result c.remove_basic.ensures.takes
+
+pub returns-in-Ok-Basic-clause-after : goal.returns-in-Ok-Basic-clause-after
+returns-in-Ok-Basic-clause-after g c = basic-ok g.S.X.BlockHash.block32 g.N.NameHash.name64 c.args.p.now c.args.root.now c.args.name.now c.in-Ok-Basic.pairs (g.S.Store.seen c.args.store.now).told (g.S.Store.seen c.look_at_root.new.store).told (g.S.Store.seen c.remove_basic.new.store).told c.remove_basic.result _ _
+    (λ l is agrees. entries-basic g.S.X.BlockHash.block32 (record { size = g.met.S.X.BlockHash.size; are_bytes = g.met.S.X.BlockHash.are_bytes }) g.N.NameHash.name64 c.args.p.now c.args.root.now l is _ _ _ _ c.in-Ok-Basic.field-0-is c.in-Ok-Basic.ensures.looks agrees) c.look_at_root.ensures.told c.remove_basic.ensures.saves c.remove_basic.ensures.takes
+
+pub returns-clause-value : goal.returns-clause-value
+returns-clause-value g c = λ l is stays faults clashes. take-sharded g.S.X.BlockHash.block32 (record { size = g.met.S.X.BlockHash.size; are_bytes = g.met.S.X.BlockHash.are_bytes }) g.N.NameHash.name64 c.args.p.now c.args.root.now l is (g.S.Store.seen c.args.store.now) (g.S.Store.seen c.look_at_root.new.store) _ _ c.in-Ok-Sharded.field-0-is c.in-Ok-Sharded.ensures.looks c.look_at_root.ensures.told stays.first
+    c.args.name.now (g.S.Store.seen c.remove_sharded.new.store) c.remove_sharded.result c.in-Ok-Sharded.ensures.cause c.remove_sharded.ensures.value stays.last faults clashes
 
 pub returns-clause-after : goal.returns-clause-after
-returns-clause-after g c = left-after g.S.X.BlockHash.block32 g.N.NameHash.name64 c.args.p.now c.args.root.now (g.S.Store.seen c.args.store.now).told (g.S.Store.seen c.entries_under.new.store).told (g.S.Store.seen c.build.new.store).told c.in-Ok.pairs
-    (λ l is agrees. c.in-Ok.ensures.ok g.N.NameHash.name64 c.args.p.now l is agrees) c.args.name.now c.in-Ok-Some.left c.in-Ok-Some.field-0 c.build.result c.left_of.result
-    (λ l. (dir_entry g.S.X.BlockHash.block32 g.N.NameHash.name64 c.args.p.now l).tsize ≤ 2 ^ 62) c.in-Ok-Some.field-0-is c.in-Ok-Some.ensures.pairs c.left_of.ensures c.in-Ok.ensures.told c.build.ensures.saves c.build.ensures.held
+returns-clause-after g c = take-sharded-ok g.S.X.BlockHash.block32 (record { size = g.met.S.X.BlockHash.size; are_bytes = g.met.S.X.BlockHash.are_bytes }) g.N.NameHash.name64 c.args.p.now c.args.root.now (g.S.Store.seen c.args.store.now) (g.S.Store.seen c.look_at_root.new.store) _ _ c.in-Ok-Sharded.field-0-is c.in-Ok-Sharded.ensures.looks c.look_at_root.ensures.told
+    c.args.name.now (g.S.Store.seen c.remove_sharded.new.store) c.in-Ok-Sharded.ensures.cause c.remove_sharded.result c.remove_sharded.ensures.none c.remove_sharded.ensures.value c.remove_sharded.ensures.after
 
-pub returns-clause-node : goal.returns-clause-node
-returns-clause-node g c = left-node c.build.result c.left_of.result c.left_of.ensures
-    (gives-node g.S.X.BlockHash.block32 g.N.NameHash.name64 c.args.p.now c.in-Ok-Some.left _ c.build.result c.build.ensures.answer)
+pub returns-in-Ok-Basic-clause-touches : goal.returns-in-Ok-Basic-clause-touches
+returns-in-Ok-Basic-clause-touches g c = λ l is stays faults clashes. basic-takes g.S.X.BlockHash.block32 g.N.NameHash.name64 c.args.p.now l (without c.args.name.now l) c.args.touches.now c.look_at_root.new.touches _ c.look_at_root.ensures.touches c.remove_basic.ensures.touches
+
+pub returns-in-Ok-Basic-clause-fitting : goal.returns-in-Ok-Basic-clause-fitting
+returns-in-Ok-Basic-clause-fitting g c = fitting-at c.remove_basic.result c.args.p.now c.args.root.now (g.S.Store.seen c.args.store.now) (g.S.Store.seen c.look_at_root.new.store) _ c.in-Ok-Basic.ensures.looks c.in-Ok-Basic.ensures.light
+
+pub returns-clause-fitting : goal.returns-clause-fitting
+returns-clause-fitting g c = fitting-at c.remove_sharded.result c.args.p.now c.args.root.now (g.S.Store.seen c.args.store.now) (g.S.Store.seen c.look_at_root.new.store) _ c.in-Ok-Sharded.ensures.looks c.in-Ok-Sharded.ensures.light
+
+pub returns-clause-touches : goal.returns-clause-touches
+returns-clause-touches g c = λ l is stays faults clashes.
+    let heavy = in_shards g.S.X.BlockHash.block32 (record { size = g.met.S.X.BlockHash.size; are_bytes = g.met.S.X.BlockHash.are_bytes }) g.N.NameHash.name64 c.args.p.now c.args.root.now l is (g.S.Store.seen c.args.store.now) (g.S.Store.seen c.look_at_root.new.store) _ _ c.in-Ok-Sharded.field-0-is c.in-Ok-Sharded.ensures.looks c.look_at_root.ensures.told stays.first in
+    sharded-takes g.S.X.BlockHash.block32 g.N.NameHash.name64 c.args.p.now l (without c.args.name.now l) c.args.touches.now c.look_at_root.new.touches _ heavy (sharded-apart g.S.X.BlockHash.block32 g.N.NameHash.name64 g.met.N.NameHash.fits c.args.p.now l c.args.root.now is heavy) c.look_at_root.ensures.touches
+    (take-asked g.S.X.BlockHash.block32 (record { size = g.met.S.X.BlockHash.size; are_bytes = g.met.S.X.BlockHash.are_bytes }) g.N.NameHash.name64 c.args.p.now c.args.root.now l is (g.S.Store.seen c.args.store.now) (g.S.Store.seen c.look_at_root.new.store) _ _ c.in-Ok-Sharded.field-0-is c.in-Ok-Sharded.ensures.looks c.look_at_root.ensures.told stays.first
+    (g.S.Store.seen c.remove_sharded.new.store) _ c.in-Ok-Sharded.ensures.cause c.remove_sharded.ensures.touches stays.last faults clashes)

@@ -1,14 +1,15 @@
-use Rattle.std.proofs.Common.{◌≡◌, ℕ, ◌-◌, ◌<◌, List, [], length, get_or, refl, arith, rules, ap, sym, ◌∙◌, subst, length-append}
+use Rattle.std.proofs.Common.{◌≡◌, ℕ, ◌-◌, ◌<◌, List, [], length, map, get_or, refl, arith, rules, ap, sym, ◌∙◌, subst, length-append}
 use Rattle.std.proofs.lemmas.List.{get_or_read}
 use Rattle.std.proofs.lemmas.Result.{on_ok_weaker, IfOk-weaker}
 use Rattle.uf_store.proofs.Causes.{StaysCalm-refl, StaysCalm-trans}
 use Rattle.uf_store.proofs.Keeping.{KeepsGood-refl, KeepsGood-trans}
 use Rattle.uf_store.proofs.Writing.{SavesOnly-refl, SavesOnly-trans}
+use Rattle.uf_tree.specs.Nodes.{InSlot, item_entry}
 use Rattle.uf_tree.specs.ShardPlan.{flat_tabulate, slot_blocks, slot_item, tabulate}
 use Rattle.uf_shard.specs.Buckets.{blocks_at, deeper, item_at, pairs_of}
 use Rattle.uf_shard.specs.Saving.{PutsItem}
 use Rattle.uf_shard.specs.declared.hashed.Hashed.{Hashed}
-use Rattle.uf_shard.proofs.BucketRows.{AreSlots, Holds-nil, Holds-over, Holds-step, flat_tabulate-at, flat_tabulate-step, for-slot, tabulate-step, whole-blocks, whole-entry, whole-valid}
+use Rattle.uf_shard.proofs.BucketRows.{AreSlots, held-own, Holds-nil, Holds-over, Holds-step, flat_tabulate-at, flat_tabulate-step, for-slot, tabulate-step, whole-blocks, whole-entry, whole-valid}
 use Rattle.uf_shard.proofs.building.+shards.Goals as goal
 
 pub save_shard-save_slots-requires : goal.save_shard-save_slots-requires
@@ -67,7 +68,10 @@ save_shard-returns-clause-held g t c =
     let name : List ℕ → ℕ = g.N.NameHash.name64 in
     let each = subst (AreSlots hash name (7 - c.args.left) c.args.rows.now) (sym c.as_slice.ensures.value) c.in-Ok.ensures.rows in
     let blocks = whole-blocks hash name c.args.left (7 - c.args.left) c.args.rows.now c.as_slice.result.now refl c.requires.rows each c.in-Ok-save_slots.items c.in-Ok-save_slots.ensures.items in
-    on_ok_weaker c.save_node.result (λ held. Holds-over hash name c.args.left c.as_slice.result.now _ _ _ _ blocks c.save_node.ensures.good c.in-Ok-save_slots.ensures.held held) c.save_node.ensures.held
+    on_ok_weaker c.save_node.result (λ held. Holds-over hash name c.args.left c.as_slice.result.now _ _ _ _ blocks c.save_node.ensures.good c.in-Ok-save_slots.ensures.held held) (held-own hash _ (map (λ (p : InSlot). item_entry p.1) c.in-Ok-save_slots.items) _ c.save_node.result c.save_node.ensures.entry c.save_node.ensures.held)
+
+pub save_shard-returns-clause-saves : goal.save_shard-returns-clause-saves
+save_shard-returns-clause-saves g t c = SavesOnly-trans _ _ _ _ c.save_slots.ensures.saves c.save_node.ensures.saves
 
 pub save_shard-returns-clause-touches : goal.save_shard-returns-clause-touches
 save_shard-returns-clause-touches g t c =
@@ -90,6 +94,9 @@ save_slots-loop-at-init g t c = record {
 
 pub save_slots-returns-in-Err-clause-good : goal.save_slots-returns-in-Err-clause-good
 save_slots-returns-in-Err-clause-good g t c = KeepsGood-trans _ _ _ _ c.loop-at.invariant.good c.save_slot.ensures.good
+
+pub save_slots-returns-in-Err-clause-saves : goal.save_slots-returns-in-Err-clause-saves
+save_slots-returns-in-Err-clause-saves g t c = SavesOnly-trans _ _ _ _ c.loop-at.invariant.saves c.save_slot.ensures.saves
 
 pub save_slots-returns-in-Err-clause-touches : goal.save_slots-returns-in-Err-clause-touches
 save_slots-returns-in-Err-clause-touches g t c =

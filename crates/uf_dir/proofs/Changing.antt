@@ -1,0 +1,518 @@
+-- Directories changed in place, in one block or in shards.
+use Rattle.std.proofs.Common.{rules, ◌≡◌, ◌≢◌, ℕ, suc, ◌+◌, ◌^◌, ◌<◌, ◌≤◌, List, [], ◌∷◌, ◌++◌, length, min, refl, ap, arith, sym, ◌∙◌, subst, ◌⊎◌, inl, inr, Option, Some, None, Ordering, Bool, true, false, cond, T}
+use Rattle.std.specs.Prelude.{IfErr, IfOk, IfSome, IsSome, OnOk, nat_lt, not}
+use Rattle.std.specs.declared.cmp.Ordering.TheVariants.{Less, Equal, Greater}
+use Rattle.std.specs.declared.result.Result.{Result}
+use Rattle.std.specs.declared.result.Result.TheVariants.{Ok, Err}
+use Rattle.std.specs.FinMap.Entries.{by_order, find, is_sorted-where_key, put, where_key}
+use Rattle.std.specs.List.{AllByRecursion, sum_by}
+use Rattle.std.specs.Ordering.{eq_by_cmp}
+use Rattle.std.proofs.lemmas.Bool.Decides.{nat_tests}
+use Rattle.std.proofs.lemmas.List.Sums.{sum_by-cons}
+use Rattle.uf_cid.specs.Blocks as blocks
+use Rattle.uf_cid.specs.Blocks.{Held}
+use Rattle.uf_cid.specs.declared.cid.Cid.{Cid}
+use Rattle.uf_edge.specs.Counts.{Rose, Stood}
+use Rattle.uf_store.specs.Clashes.{IsSaving}
+use Rattle.uf_store.specs.Contents.{Contents, Told, held_at}
+use Rattle.uf_store.specs.Faults.{Answers, NoneIsBad, Shows, StaysCalm}
+use Rattle.uf_store.specs.Keeping.{Agrees, Holds, StaysAgreed}
+use Rattle.uf_store.specs.Writing.{IsSave, SavesOnly}
+use Rattle.uf_store.proofs.Writing.{agrees-between}
+use Rattle.uf_store.specs.Lost.{AgreesAfter, IsLossOf, IsLost, LosesOne, ReadsOver}
+use Rattle.uf_store.specs.Seen.{Seen}
+use Rattle.uf_store.specs.declared.store.Role.{Role}
+use Rattle.uf_store.specs.declared.store.Role.TheVariants.{Directory, Shard, FileNode, Leaf}
+use Rattle.uf_store.specs.declared.store.StoreFault.{StoreFault}
+use Rattle.uf_store.specs.declared.store.StoreFault.TheVariants.{Failed, Damaged, Missing, BadBlock, Clash, Memory}
+use Rattle.uf_store.proofs.Causes.{StaysCalm-trans, Shows-after}
+use Rattle.uf_tree.specs.declared.nodes.Entry.{Entry}
+use Rattle.uf_tree.specs.declared.profile.Profile.{Profile}
+use Rattle.uf_tree.specs.Changes.{with_name, without}
+use Rattle.uf_tree.specs.DirPlan.{basic_dir, is_sharded, weight}
+use Rattle.uf_tree.specs.Names.{names_cmp}
+use Rattle.uf_tree.specs.Nodes.{InSlot, Named}
+use Rattle.uf_tree.specs.ShardPlan.{same_slots, shard, shard_plan, twins}
+use Rattle.uf_tree.specs.TreePlan.{Refusal, collision, dir_refusal, or_else, too_big}
+use Rattle.uf_tree.specs.Validity.{IsDirectory, IsHash}
+use Rattle.uf_tree.proofs.ShardLaws.{names_exact}
+use Rattle.uf_shard.specs.declared.fault.DirFault.{DirFault}
+use Rattle.uf_shard.specs.declared.fault.DirFault.TheVariants.{Collision, TooBig, Store}
+use Rattle.uf_shard.specs.Answers.{Gives, GivesOver, Shown, shard_refusal}
+use Rattle.uf_shard.specs.Planned as shards
+use Rattle.uf_tree.proofs.Each.{each_filter}
+use Rattle.uf_dir.specs.Planned.{IsPlanned, dir_entry, entry_without, own_blocks}
+use Rattle.uf_dir.specs.Roots.{IsRootOf, IsThere}
+use Rattle.uf_dir.specs.declared.root.Root.{Root}
+use Rattle.uf_dir.specs.declared.root.Root.TheVariants as root
+use Rattle.uf_dir.proofs.Causes.{Shows-wider}
+use Rattle.uf_dir.proofs.Looked.{agrees_mid, sharded_is}
+use Rattle.uf_dir.proofs.Planning.{blocks-sharded, light-entry, light-held, planned-sharded}
+use Rattle.uf_dir.proofs.Edited.{after-held, after-same, left-some, without-absent}
+use Rattle.uf_dir.proofs.Listing.{directory-without}
+use Rattle.uf_dir.proofs.Nodes.{planned-node}
+use Rattle.uf_cid.specs.declared.cid.Codec.TheVariants.{DagPb}
+use Rattle.uf_store.proofs.Writing.{SavesOnly-refl}
+use Rattle.uf_dir.specs.Left.{Fits, Settles, TakesBasic, pairs_left}
+use Rattle.uf_shard.specs.declared.removed.Removed.TheVariants.{Absent, Empty, Left}
+use Rattle.uf_shard.specs.Taken.{left_of, left_without}
+use Rattle.uf_tree.specs.FilePlan.{Plan}
+use Rattle.uf_tree.proofs.Twins.{Alone, Apart, Apart-twins, twins-Apart}
+
+-- ---- causes
+
+pub Shown-wider : {A : Type 0} (hash : List ℕ → List ℕ) (P Q : Role → List ℕ → Type 0) → ((role : Role) (bytes : List ℕ) → P role bytes → Q role bytes) → (r : Result A DirFault) (a b c : Seen) → StaysCalm a b → Shown hash P r b c → Shown hash Q r a c
+Shown-wider hash P Q wider (Ok x) a b c p q = StaysCalm-trans a b c p q
+Shown-wider hash P Q wider (Err (Collision first second)) a b c p q = StaysCalm-trans a b c p q
+Shown-wider hash P Q wider (Err TooBig) a b c p q = StaysCalm-trans a b c p q
+Shown-wider hash P Q wider (Err (Store fault)) a b c p q = Shows-after hash Q fault a b c p (Shows-wider hash P Q wider fault b c q)
+
+pub Answers-wider-after : {A : Type 0} (hash : List ℕ → List ℕ) (P Q : Role → List ℕ → Type 0) → ((role : Role) (bytes : List ℕ) → P role bytes → Q role bytes) → (r : Result A StoreFault) (a b c : Seen) → StaysCalm a b → Answers hash P r b c → Answers hash Q r a c
+Answers-wider-after hash P Q wider (Ok x) a b c p q = StaysCalm-trans a b c p q
+Answers-wider-after hash P Q wider (Err fault) a b c p q = Shows-after hash Q fault a b c p (Shows-wider hash P Q wider fault b c q)
+
+pub none-bad : (Q : Role → List ℕ → Type 0) (role : Role) (bytes : List ℕ) → NoneIsBad role bytes → Q role bytes
+none-bad Q role bytes h = absurd h
+
+-- a fault of a save where no count rose is want of memory
+pub saving-loss : (hash : List ℕ → List ℕ) (P : Role → List ℕ → Type 0) (told : Told) (l : List Held) (fault : StoreFault) (before now : Seen) → IsSaving fault → Shows hash P fault before now → Stood before.faults now.faults → Stood before.clashes now.clashes → IsLossOf told l fault
+saving-loss hash P told l Failed before now h shows faults clashes = let r = shows.rose in absurd (omega (arith, r, faults))
+saving-loss hash P told l (Damaged c) before now h shows faults clashes = absurd h
+saving-loss hash P told l (Missing c) before now h shows faults clashes = absurd h
+saving-loss hash P told l (BadBlock c role) before now h shows faults clashes = absurd h
+saving-loss hash P told l (Clash c x y) before now h shows faults clashes = let r = shows.rose in absurd (omega (arith, r, clashes))
+saving-loss hash P told l Memory before now h shows faults clashes = tt
+
+stood-mid : (before mid now : Seen) → StaysCalm before mid → Stood before.faults now.faults → Stood mid.faults now.faults
+stood-mid before mid now calm stood = subst (λ (n : ℕ). Stood n now.faults) (sym calm.faults) stood
+
+stood-clash : (before mid now : Seen) → StaysCalm before mid → Stood before.clashes now.clashes → Stood mid.clashes now.clashes
+stood-clash before mid now calm stood = subst (λ (n : ℕ). Stood n now.clashes) (sym calm.clashes) stood
+
+-- ---- weights
+
+heavier_one : (name : List ℕ) (e : Entry) (l : List Named) → weight l ≤ weight (with_name name e l)
+heavier_one name e [] = omega arith
+heavier_one name e (x ∷ l) = by (names_cmp name x.0) refl (heavier_one name e l)
+  where
+    whole : weight (x ∷ l) ≡ length x.0 + 36 + weight l
+    whole = sum_by-cons (λ (e : Named). length e.0 + 36) x l
+
+    by : (r : Ordering) → names_cmp name x.0 ≡ r → weight l ≤ weight (with_name name e l) → weight (x ∷ l) ≤ weight (by_order r ((name, e) ∷ x ∷ l) ((x.0, e) ∷ l) (x ∷ put names_cmp name e l))
+    by Less is later = let more : weight ((name, e) ∷ x ∷ l) ≡ length name + 36 + weight (x ∷ l) = sum_by-cons (λ (e : Named). length e.0 + 36) (name, e) (x ∷ l) in let goal : weight (x ∷ l) ≤ weight ((name, e) ∷ x ∷ l) = omega (arith, more) in goal
+    by Equal is later = let same : weight ((x.0, e) ∷ l) ≡ length x.0 + 36 + weight l = sum_by-cons (λ (e : Named). length e.0 + 36) (x.0, e) l in let goal : weight (x ∷ l) ≤ weight ((x.0, e) ∷ l) = omega (arith, same, whole) in goal
+    by Greater is later = let more : weight (x ∷ put names_cmp name e l) ≡ length x.0 + 36 + weight (put names_cmp name e l) = sum_by-cons (λ (e : Named). length e.0 + 36) x (put names_cmp name e l) in let goal : weight (x ∷ l) ≤ weight (x ∷ put names_cmp name e l) = omega (arith, more, whole, later) in goal
+
+above : (t a b : ℕ) → a ≤ b → nat_lt t a ≡ true → nat_lt t b ≡ true
+above t a b le h = grind (arith, nat_tests)
+
+-- a directory in shards stays in shards where an entry is put
+pub heavier : (p : Profile) (name : List ℕ) (e : Entry) (l : List Named) → is_sharded p l ≡ true → is_sharded p (with_name name e l) ≡ true
+heavier p name e l h = above p.threshold (weight l) (weight (with_name name e l)) (heavier_one name e l) h
+
+-- ---- a put
+
+-- what was built, where blocks were read before
+pub gives-over : (hash : List ℕ → List ℕ) (told : Told) (old : List Held) (refusal : Option Refusal) (entry : Entry) (r : Result Entry DirFault) (before mid now : Seen) → Gives refusal entry r → StaysCalm before mid → Shown hash NoneIsBad r mid now
+    → Stood before.faults now.faults → Stood before.clashes now.clashes → GivesOver told old refusal entry r
+gives-over hash told old refusal entry (Ok e) before mid now gives calm shown faults clashes = gives
+gives-over hash told old refusal entry (Err (Collision a b)) before mid now gives calm shown faults clashes = gives
+gives-over hash told old refusal entry (Err TooBig) before mid now gives calm shown faults clashes = gives
+gives-over hash told old refusal entry (Err (Store fault)) before mid now gives calm shown faults clashes = saving-loss hash NoneIsBad told old fault mid now gives shown (stood-mid before mid now calm faults) (stood-clash before mid now calm clashes)
+
+module _ (X : List ℕ → List ℕ) (good : IsHash X) (N : List ℕ → ℕ) (p : Profile) (cid : Cid) (l : List Named) (is : IsPlanned X N p cid l)
+    (before mid : Seen) (found : Root) (items : List InSlot) (at : found ≡ root.Sharded items) (looks : IsThere cid before mid × IsRootOf mid.lent found) (same : mid.told ≡ before.told) (agrees : Agrees before.told (own_blocks X N p l)) where
+  pub in_shards : is_sharded p l ≡ true
+  in_shards = sharded_is X good N p cid l is before mid found items at looks same agrees
+
+  pub plan_there : shards.IsPlanned X N cid l
+  plan_there = planned-sharded X N p l cid is in_shards
+
+  pub agrees_there : Agrees mid.told (shard X N 7 l).blocks
+  agrees_there = agrees_mid X good N p cid l is before mid found items at looks same agrees
+
+  over_as : (b : Bool) (m : List Named) (r : Result Entry DirFault) → is_sharded p m ≡ b → b ≡ true → GivesOver before.told (own_blocks X N p l) (shard_refusal X N m) (shard X N 7 m).entry r → GivesOver before.told (own_blocks X N p l) (dir_refusal X N p m) (dir_entry X N p m) r
+  over_as b m r is holds h = subst (λ (b : Bool). GivesOver before.told (own_blocks X N p l) (or_else (cond b (collision N m) None) (too_big (cond b (shard X N 7 m) (basic_dir X N m)).entry.tsize)) (cond b (shard X N 7 m) (basic_dir X N m)).entry r) (sym (is ∙ holds)) h
+
+  pub put-sharded : (name : List ℕ) (e : Entry) (now : Seen) (r : Result Entry DirFault) → StaysCalm before mid
+      → ((k : List Named) → shards.IsPlanned X N cid k → Agrees mid.told (shard X N 7 k).blocks → Stood mid.faults now.faults → Stood mid.clashes now.clashes
+      → GivesOver mid.told (shard X N 7 k).blocks (shard_refusal X N (with_name name e k)) (shard X N 7 (with_name name e k)).entry r)
+      → Stood before.faults now.faults → Stood before.clashes now.clashes → GivesOver before.told (own_blocks X N p l) (dir_refusal X N p (with_name name e l)) (dir_entry X N p (with_name name e l)) r
+  put-sharded name e now r calm value faults clashes =
+      over_as true (with_name name e l) r (heavier p name e l in_shards) refl
+      (subst (λ (old : List Held). GivesOver before.told old (shard_refusal X N (with_name name e l)) (shard X N 7 (with_name name e l)).entry r) (sym (blocks-sharded X N p l in_shards))
+      (subst (λ (told : Told). GivesOver told (shard X N 7 l).blocks (shard_refusal X N (with_name name e l)) (shard X N 7 (with_name name e l)).entry r) same
+      (value l plan_there agrees_there (stood-mid before mid now calm faults) (stood-clash before mid now calm clashes))))
+
+  pub stays_there : (now : Told) → Agrees now (own_blocks X N p l) → StaysAgreed mid.told now (shard X N 7 l).blocks
+  stays_there now agrees_now = record { first = agrees_there; last = subst (Agrees now) (blocks-sharded X N p l in_shards) agrees_now }
+
+  pub put-sharded-after : (name : List ℕ) (e : Entry) (now : Told)
+      → ((k : List Named) → shards.IsPlanned X N cid k → StaysAgreed mid.told now (shard X N 7 k).blocks → AgreesAfter mid.told now (shard X N 7 k).blocks (shard X N 7 (with_name name e k)).blocks)
+      → Agrees now (own_blocks X N p l) → AgreesAfter before.told now (own_blocks X N p l) (own_blocks X N p (with_name name e l))
+  put-sharded-after name e now after safe =
+      subst (AgreesAfter before.told now (own_blocks X N p l)) (sym (blocks-sharded X N p (with_name name e l) (heavier p name e l in_shards)))
+      (subst (λ (old : List Held). AgreesAfter before.told now old (shard X N 7 (with_name name e l)).blocks) (sym (blocks-sharded X N p l in_shards))
+      (subst (λ (told : Told). AgreesAfter told now (shard X N 7 l).blocks (shard X N 7 (with_name name e l)).blocks) same (after l plan_there (stays_there now safe))))
+
+  -- ---- a removal
+
+  pub take-sharded : (name : List ℕ) (now : Seen) (r : Result (Option Entry) StoreFault) → StaysCalm before mid
+      → ((k : List Named) → shards.IsPlanned X N cid k → StaysAgreed mid.told now.told (shard X N 7 k).blocks → Stood mid.faults now.faults → Stood mid.clashes now.clashes
+      → ReadsOver mid.told (shard X N 7 k).blocks (entry_without X N p name k) r)
+      → Agrees now.told (own_blocks X N p l) → Stood before.faults now.faults → Stood before.clashes now.clashes → ReadsOver before.told (own_blocks X N p l) (entry_without X N p name l) r
+  take-sharded name now r calm value safe faults clashes =
+      subst (λ (old : List Held). ReadsOver before.told old (entry_without X N p name l) r) (sym (blocks-sharded X N p l in_shards))
+      (subst (λ (told : Told). ReadsOver told (shard X N 7 l).blocks (entry_without X N p name l) r) same
+      (value l plan_there (stays_there now.told safe) (stood-mid before mid now calm faults) (stood-clash before mid now calm clashes)))
+
+  -- what is asked of the shards may be asked
+  pub take-asked : (now : Seen) (Q : List Named → Type 0) → StaysCalm before mid
+      → ((k : List Named) → shards.IsPlanned X N cid k → StaysAgreed mid.told now.told (shard X N 7 k).blocks → Stood mid.faults now.faults → Stood mid.clashes now.clashes → Q k)
+      → Agrees now.told (own_blocks X N p l) → Stood before.faults now.faults → Stood before.clashes now.clashes → Q l
+  take-asked now Q calm asks safe faults clashes = asks l plan_there (stays_there now.told safe) (stood-mid before mid now calm faults) (stood-clash before mid now calm clashes)
+
+-- ---- what is left of a directory in shards
+
+-- no count fell in a call
+rises-of : {A : Type 0} (hash : List ℕ → List ℕ) (P : Role → List ℕ → Type 0) (r : Result A StoreFault) (a b : Seen) → Answers hash P r a b → (a.faults ≤ b.faults) × (a.clashes ≤ b.clashes)
+rises-of hash P (Ok x) a b h = (omega (arith, h.faults), omega (arith, h.clashes))
+rises-of hash P (Err Failed) a b h = (h.rises.faults, h.rises.clashes)
+rises-of hash P (Err (Damaged c)) a b h = (h.rises.faults, h.rises.clashes)
+rises-of hash P (Err (Missing c)) a b h = (omega (arith, h.calm.faults), omega (arith, h.calm.clashes))
+rises-of hash P (Err (BadBlock c role)) a b h = (omega (arith, h.calm.faults), omega (arith, h.calm.clashes))
+rises-of hash P (Err (Clash c x y)) a b h = (h.rises.faults, h.rises.clashes)
+rises-of hash P (Err Memory) a b h = (h.faults, h.clashes)
+
+-- the counts of the first of two calls
+pub stood-first : {A : Type 0} (hash : List ℕ → List ℕ) (P : Role → List ℕ → Type 0) (r : Result A StoreFault) (a b c : Seen) → StaysCalm a b → Answers hash P r b c → Stood a.faults c.faults → Stood a.clashes c.clashes → Stood a.faults b.faults × Stood a.clashes b.clashes
+stood-first hash P r a b c calm answers faults clashes =
+    let rises = rises-of hash P r b c answers in
+    (omega (arith, calm.faults, rises.0, faults), omega (arith, calm.clashes, rises.1, clashes))
+
+module _ (X : List ℕ → List ℕ) (N : List ℕ → ℕ) (p : Profile) (name : List ℕ) (l : List Named) where
+  pub absent-none : Absent ≡ left_without X N name l → None ≡ entry_without X N p name l
+  absent-none h = by (find names_cmp name l) h
+    where
+      left : (m : List Named) → Absent ≡ left_of X N m → ⊥
+      left [] h = let no : Absent ≡ Empty = h in cc
+      left (e ∷ m) h = let no : Absent ≡ Left (shard X N 7 (e ∷ m)).entry = h in cc
+
+      by : (o : Option Entry) → Absent ≡ elim o [ None ↦ Absent | Some old ↦ left_of X N (without name l) ] → ◌≡◌ {A = Option Entry} None (elim o [ None ↦ None | Some old ↦ Some (dir_entry X N p (without name l)) ])
+      by None h = refl
+      by (Some old) h = absurd (left (without name l) h)
+
+  -- something is left, or nothing
+  pub record IsEmptied : Type 0 where
+    pub nothing : without name l ≡ []
+    pub entry : entry_without X N p name l ≡ Some (dir_entry X N p (without name l))
+
+  pub emptied : Empty ≡ left_without X N name l → IsEmptied
+  emptied h = by (find names_cmp name l) refl h
+    where
+      none : (m : List Named) → Empty ≡ left_of X N m → m ≡ []
+      none [] h = refl
+      none (e ∷ m) h = absurd (let no : Empty ≡ Left (shard X N 7 (e ∷ m)).entry = h in cc)
+
+      by : (o : Option Entry) → find names_cmp name l ≡ o → Empty ≡ elim o [ None ↦ Absent | Some old ↦ left_of X N (without name l) ] → IsEmptied
+      by None is h = absurd (let no : Empty ≡ Absent = h in cc)
+      by (Some old) is h = record { nothing = none (without name l) h; entry = ap (λ (o : Option Entry). elim o [ None ↦ None | Some old ↦ Some (dir_entry X N p (without name l)) ]) is }
+
+  pub emptied-value : (e : Entry) → e ≡ dir_entry X N p [] → Empty ≡ left_without X N name l → Some e ≡ entry_without X N p name l
+  emptied-value e is h = let empty = emptied h in ap (λ (x : Entry). Some x) (is ∙ ap (dir_entry X N p) (sym empty.nothing)) ∙ sym empty.entry
+
+  pub record IsShortened (e : Entry) : Type 0 where
+    pub some : 1 ≤ length (without name l)
+    pub shards : e ≡ (shard X N 7 (without name l)).entry
+    pub entry : entry_without X N p name l ≡ Some (dir_entry X N p (without name l))
+
+  pub shortened : (e : Entry) → Left e ≡ left_without X N name l → IsShortened e
+  shortened e h = by (find names_cmp name l) refl h
+    where
+      some : (m : List Named) → Left e ≡ left_of X N m → (1 ≤ length m) × (e ≡ (shard X N 7 m).entry)
+      some [] h = absurd (let no : Left e ≡ Empty = h in cc)
+      some (x ∷ m) h = (let one : 1 ≤ suc (length m) = omega arith in one, let same : Left e ≡ Left (shard X N 7 (x ∷ m)).entry = h in cc)
+
+      by : (o : Option Entry) → find names_cmp name l ≡ o → Left e ≡ elim o [ None ↦ Absent | Some old ↦ left_of X N (without name l) ] → IsShortened e
+      by None is h = absurd (let no : Left e ≡ Absent = h in cc)
+      by (Some old) is h =
+          let parts = some (without name l) h in
+          record { some = parts.0; shards = parts.1; entry = ap (λ (o : Option Entry). elim o [ None ↦ None | Some old ↦ Some (dir_entry X N p (without name l)) ]) is }
+
+  -- what is left has a plan
+  alone_kept : (same : List ℕ → List ℕ → Bool) (a : List ℕ) (test : List ℕ → Bool) (m : List Named) → Alone same a m → Alone same a (where_key names_cmp test m)
+  alone_kept same a test m h = each_filter (λ (f : Named). same a f.0 ≡ false) (λ (f : Named). test f.0) m h
+
+  apart_kept : (same : List ℕ → List ℕ → Bool) (test : List ℕ → Bool) (m : List Named) → Apart same m → Apart same (where_key names_cmp test m)
+  apart_kept same test [] h = tt
+  apart_kept same test (x ∷ m) h = elim (test x.0) as (λ (b : Bool). Apart same (cond b (x ∷ where_key names_cmp test m) (where_key names_cmp test m))) [
+    | true ↦ (alone_kept same x.0 test m h.0, apart_kept same test m h.1)
+    | false ↦ apart_kept same test m h.1
+  ]
+
+  plan_some : (m : List Named) → 1 ≤ length m → twins (same_slots N 7) m ≡ None → shard_plan X N 0 m ≡ Some (shard X N 7 m)
+  plan_some [] some h = absurd (omega arith)
+  plan_some (e ∷ m) some h = ap (λ (o : Option (List ℕ × List ℕ)). elim o [ None ↦ Some (shard X N 7 (e ∷ m)) | Some names ↦ None ]) h
+
+  plan_apart : (m : List Named) (plan : Plan) → shard_plan X N 0 m ≡ Some plan → twins (same_slots N 7) m ≡ None
+  plan_apart [] plan h = absurd (let no : None ≡ Some plan = h in cc)
+  plan_apart (e ∷ m) plan h = by (twins (same_slots N 7) (e ∷ m)) h
+    where
+      by : (o : Option (List ℕ × List ℕ)) → elim o [ None ↦ Some (shard X N 7 (e ∷ m)) | Some names ↦ None ] ≡ Some plan → o ≡ None
+      by None h = refl
+      by (Some names) h = absurd (let no : None ≡ Some plan = h in cc)
+
+  pub shortened-plan : (cid : Cid) (e : Entry) → shards.IsPlanned X N cid l → IsShortened e → shards.IsPlanned X N e.cid (without name l)
+  shortened-plan cid e is h = record {
+    valid = directory-without name l is.valid;
+    plan = shard X N 7 (without name l);
+    is_plan = plan_some (without name l) h.some (Apart-twins (same_slots N 7) (without name l) (apart_kept (same_slots N 7) (λ other. not (eq_by_cmp names_cmp name other)) l (twins-Apart (same_slots N 7) l (plan_apart l is.plan is.is_plan))));
+    cid = ap (λ (x : Entry). x.cid) h.shards;
+  }
+
+-- a block that is lost afterwards was lost before
+back_lost : (u : Contents) (before : Told) (old new : List Held) (c : Cid) → AllByRecursion (λ (b : Held). held_at u b.0 ≡ None → LosesOne before b.0 old) new → IsLost (held_at u) c new → LosesOne before c old
+back_lost u before old [] c all h = absurd h
+back_lost u before old (b ∷ new) c all (inl h) = subst (λ (x : Cid). LosesOne before x old) (sym h.0) (all.0 h.1)
+back_lost u before old (b ∷ new) c all (inr h) = back_lost u before old new c all.1 h
+
+pub loss-back : (before mid : Told) (old new : List Held) (fault : StoreFault) → AgreesAfter before mid old new → IsLossOf mid new fault → IsLossOf before old fault
+loss-back before mid old new Failed after h = h
+loss-back before mid old new (Damaged c) after h = h
+loss-back before None old new (Missing c) after h = absurd after
+loss-back before (Some u) old new (Missing c) after h = back_lost u before old new c after.1 h
+loss-back before mid old new (BadBlock c role) after h = h
+loss-back before mid old new (Clash c x y) after h = h
+loss-back before mid old new Memory after h = tt
+
+pub reads-back : {A : Type 0} (before mid : Told) (old new : List Held) (value : A) (r : Result A StoreFault) → AgreesAfter before mid old new → ReadsOver mid new value r → ReadsOver before old value r
+reads-back before mid old new value (Ok a) after h = h
+reads-back before mid old new value (Err fault) after h = loss-back before mid old new fault after h
+
+pub agrees-of : (before mid : Told) (old new : List Held) → AgreesAfter before mid old new → Agrees mid new
+agrees-of before None old new after = absurd after
+agrees-of before (Some u) old new after = after.0
+
+-- where what is left stays as it was saved, or is held in another form
+pub settled-after : (X : List ℕ → List ℕ) (N : List ℕ → ℕ) (p : Profile) (m : List Named) (before mid now : Told) (old : List Held) → Agrees before old → SavesOnly X before now → AgreesAfter before mid old (shard X N 7 m).blocks
+    → Settles X N p m mid now → AgreesAfter before now old (own_blocks X N p m)
+settled-after X N p m before mid now old agrees saves after (inl stays) =
+    subst (AgreesAfter before now old) (sym (blocks-sharded X N p m stays.0)) (subst (λ (told : Told). AgreesAfter before told old (shard X N 7 m).blocks) (sym stays.1) after)
+settled-after X N p m before mid now old agrees saves after (inr held) = after-held X before now old (own_blocks X N p m) agrees saves held
+
+-- ---- the form that what is left has
+
+pub stays-sharded : (X : List ℕ → List ℕ) (N : List ℕ → ℕ) (p : Profile) (m : List Named) (e : Entry) → true ≡ nat_lt p.threshold (weight m) → e ≡ (shard X N 7 m).entry → Some e ≡ Some (dir_entry X N p m)
+stays-sharded X N p m e heavy is = ap (λ (x : Entry). Some x) (is ∙ ap (λ (b : Bool). (cond b (shard X N 7 m) (basic_dir X N m)).entry) heavy)
+
+-- the pairs that were listed, saved in one block where they aren't too heavy
+pub fits-value : (X : List ℕ → List ℕ) (N : List ℕ → ℕ) (p : Profile) (pairs l : List Named) (e : Entry) (told : Told) (old : List Held) (r : Result (Option Entry) StoreFault) (mid now : Told) (before between after : Seen) → pairs ≡ l → e ≡ (shard X N 7 l).entry → Fits X N p e pairs mid now r
+    → StaysCalm before between → Answers X NoneIsBad r between after → Stood before.faults after.faults → Stood before.clashes after.clashes → ReadsOver told old (Some (dir_entry X N p l)) r
+fits-value X N p pairs l e told old (Ok None) mid now before between after same is fits calm answers faults clashes = absurd fits
+fits-value X N p pairs l e told old (Ok (Some x)) mid now before between after same is (inl heavy) calm answers faults clashes =
+    ap (λ (x : Entry). Some x) (heavy.2 ∙ is ∙ ap (λ (b : Bool). (cond b (shard X N 7 l) (basic_dir X N l)).entry) (sym heavy.0 ∙ ap (is_sharded p) same))
+fits-value X N p pairs l e told old (Ok (Some x)) mid now before between after same is (inr light) calm answers faults clashes =
+    ap (λ (x : Entry). Some x) (light.0 ∙ ap (dir_entry X N p) same)
+fits-value X N p pairs l e told old (Err fault) mid now before between after same is fits calm answers faults clashes =
+    saving-loss X NoneIsBad told old fault between after fits answers (stood-mid before between after calm faults) (stood-clash before between after calm clashes)
+
+pub fits-settles : (X : List ℕ → List ℕ) (N : List ℕ → ℕ) (p : Profile) (pairs l : List Named) (e : Entry) (r : Result (Option Entry) StoreFault) (before mid now : Told) → pairs ≡ l → mid ≡ before → Fits X N p e pairs mid now r → OnOk r (Settles X N p l before now)
+fits-settles X N p pairs l e (Ok None) before mid now same calm fits = absurd fits
+fits-settles X N p pairs l e (Ok (Some x)) before mid now same calm (inl heavy) = inl (ap (is_sharded p) (sym same) ∙ heavy.0, heavy.1 ∙ calm)
+fits-settles X N p pairs l e (Ok (Some x)) before mid now same calm (inr light) = inr (subst (λ (m : List Named). Holds now (own_blocks X N p m)) same light.1)
+fits-settles X N p pairs l e (Err fault) before mid now same calm fits = tt
+
+pub fits-some : (X : List ℕ → List ℕ) (N : List ℕ → ℕ) (p : Profile) (pairs : List Named) (e : Entry) (r : Result (Option Entry) StoreFault) (mid now : Told) → Fits X N p e pairs mid now r → IfOk r IsSome
+fits-some X N p pairs e (Ok None) mid now fits = absurd fits
+fits-some X N p pairs e (Ok (Some x)) mid now fits = search rules
+fits-some X N p pairs e (Err fault) mid now fits = tt
+
+pub fits-after : (X : List ℕ → List ℕ) (p : Profile) (pairs : List Named) (e : Entry) (r : Result (Option Entry) StoreFault) (before mid now : Seen) → mid.told ≡ before.told → ((N : List ℕ → ℕ) → Fits X N p e pairs mid.told now.told r)
+    → ((N : List ℕ → ℕ) (l : List Named) → shards.IsPlanned X N e.cid l → Agrees before.told (shard X N 7 l).blocks → Stood before.faults now.faults → Stood before.clashes now.clashes → pairs ≡ l)
+    → OnOk r ((N : List ℕ → ℕ) (l : List Named) → shards.IsPlanned X N e.cid l → Agrees before.told (shard X N 7 l).blocks → Stood before.faults now.faults → Stood before.clashes now.clashes → Settles X N p l before.told now.told)
+fits-after X p pairs e (Ok x) before mid now calm fits same = λ N l is agrees faults clashes. fits-settles X N p pairs l e (Ok x) before.told mid.told now.told (same N l is agrees faults clashes) calm (fits N)
+fits-after X p pairs e (Err fault) before mid now calm fits same = tt
+
+-- the weight of fewer pairs
+lighter : (name : List ℕ) (l : List Named) → weight (without name l) ≤ weight l
+lighter name [] = omega arith
+lighter name (x ∷ l) = by (not (eq_by_cmp names_cmp name x.0)) (lighter name l)
+  where
+    whole : (m : List Named) → weight (x ∷ m) ≡ length x.0 + 36 + weight m
+    whole m = sum_by-cons (λ (e : Named). length e.0 + 36) x m
+
+    by : (b : Bool) → weight (without name l) ≤ weight l → weight (cond b (x ∷ without name l) (without name l)) ≤ weight (x ∷ l)
+    by true later = omega (arith, whole (without name l), whole l, later)
+    by false later = omega (arith, whole l, later)
+
+light_bound : (t n : ℕ) → n ≤ t → nat_lt t n ≡ false
+light_bound t n h = grind (arith, nat_tests)
+
+-- the pairs that are left of one block fit one block too
+module _ (name : List ℕ) (pairs m : List Named) (left : Option (List Named)) (some : left ≡ Some m) (is : left ≡ pairs_left name pairs) where
+  pub left-light : (most : ℕ) → weight pairs ≤ most → weight m ≤ most
+  left-light most light = let rest : weight m ≤ weight pairs = subst (λ (k : List Named). weight k ≤ weight pairs) (sym (left-some name pairs m left some is)) (lighter name pairs) in omega (arith, rest, light)
+
+  pub left-basic : (X : List ℕ → List ℕ) (N : List ℕ → ℕ) (p : Profile) (e : Entry) (now : Told) → weight pairs ≤ p.threshold → e ≡ (basic_dir X N m).entry → Holds now (basic_dir X N m).blocks
+      → (entry_without X N p name pairs ≡ Some e) × Holds now (own_blocks X N p (without name pairs))
+  left-basic X N p e now light entry held = (
+    there (find names_cmp name pairs) (sym some ∙ is) ∙ ap (λ (k : List Named). Some (dir_entry X N p k)) (sym whole) ∙ ap (λ (x : Entry). Some x) (sym (entry ∙ light-entry X N p m one)),
+    subst (λ (k : List Named). Holds now (own_blocks X N p k)) whole (light-held X N p m now one held),
+  )
+    where
+      whole : m ≡ without name pairs
+      whole = left-some name pairs m left some is
+
+      one : is_sharded p m ≡ false
+      one = light_bound p.threshold (weight m) (left-light p.threshold light)
+
+      there : (o : Option Entry) → ◌≡◌ {A = Option (List Named)} (Some m) (elim o [ None ↦ None | Some old ↦ Some (without name pairs) ])
+          → elim o [ None ↦ None | Some old ↦ Some (dir_entry X N p (without name pairs)) ] ≡ Some (dir_entry X N p (without name pairs))
+      there None e = absurd (let no : Some m ≡ None = e in cc)
+      there (Some old) e = refl
+
+-- what a removal from one block answers
+pub basic-value : (X : List ℕ → List ℕ) (N : List ℕ → ℕ) (p : Profile) (name : List ℕ) (pairs l : List Named) (told : Told) (old : List Held) (mid now : Told) (r : Result (Option Entry) StoreFault) (before between after : Seen) → pairs ≡ l → TakesBasic X N p name pairs mid now r
+    → StaysCalm before between → Answers X NoneIsBad r between after → Stood before.faults after.faults → Stood before.clashes after.clashes → ReadsOver told old (entry_without X N p name l) r
+basic-value X N p name pairs l told old mid now (Ok None) before between after same takes calm answers faults clashes =
+    sym (ap (λ (m : List Named). entry_without X N p name m) (sym same) ∙ ap (λ (o : Option Entry). elim o [ None ↦ None | Some old ↦ Some (dir_entry X N p (without name pairs)) ]) takes.0)
+basic-value X N p name pairs l told old mid now (Ok (Some e)) before between after same takes calm answers faults clashes = sym takes.0 ∙ ap (λ (m : List Named). entry_without X N p name m) same
+basic-value X N p name pairs l told old mid now (Err fault) before between after same takes calm answers faults clashes = saving-loss X NoneIsBad told old fault between after takes answers (stood-mid before between after calm faults) (stood-clash before between after calm clashes)
+
+pub basic-after : (X : List ℕ → List ℕ) (N : List ℕ → ℕ) (p : Profile) (name : List ℕ) (pairs l : List Named) (before mid now : Told) (r : Result (Option Entry) StoreFault) → pairs ≡ l → mid ≡ before → TakesBasic X N p name pairs mid now r → SavesOnly X before now
+    → Agrees before (own_blocks X N p l) → OnOk r (AgreesAfter before now (own_blocks X N p l) (own_blocks X N p (without name l)))
+basic-after X N p name pairs l before mid now (Ok None) same calm takes saves agrees =
+    subst (λ (m : List Named). AgreesAfter before now (own_blocks X N p l) (own_blocks X N p m)) (sym (without-absent name l (ap (find names_cmp name) (sym same) ∙ takes.0))) (after-same before now (own_blocks X N p l) agrees (takes.1 ∙ calm))
+basic-after X N p name pairs l before mid now (Ok (Some e)) same calm takes saves agrees =
+    after-held X before now (own_blocks X N p l) (own_blocks X N p (without name l)) agrees saves (subst (λ (m : List Named). Holds now (own_blocks X N p (without name m))) same takes.1)
+basic-after X N p name pairs l before mid now (Err fault) same calm takes saves agrees = tt
+
+-- ---- what a removal from shards leaves
+
+module _ (X : List ℕ → List ℕ) (N : List ℕ → ℕ) (p : Profile) (name : List ℕ) (l : List Named) where
+  pub emptied-after : (before now : Told) → Agrees before (shard X N 7 l).blocks → SavesOnly X before now → Empty ≡ left_without X N name l → Holds now (own_blocks X N p [])
+      → AgreesAfter before now (shard X N 7 l).blocks (own_blocks X N p (without name l))
+  emptied-after before now agrees saves is held =
+      let empty = emptied X N p name l is in
+      after-held X before now (shard X N 7 l).blocks (own_blocks X N p (without name l)) agrees saves (subst (λ (m : List Named). Holds now (own_blocks X N p m)) (sym empty.nothing) held)
+
+  module _ (cid : Cid) (is : shards.IsPlanned X N cid l) (e : Entry) (before mid now : Seen) (r : Result (Option Entry) StoreFault) (agrees : Agrees before.told (shard X N 7 l).blocks) (calm : StaysCalm before mid)
+      (safe : Agrees now.told (shard X N 7 l).blocks) (second : SavesOnly X mid.told now.told) (first : SavesOnly X before.told mid.told) (left : Left e ≡ left_without X N name l)
+      (after : StaysAgreed before.told mid.told (shard X N 7 l).blocks → AgreesAfter before.told mid.told (shard X N 7 l).blocks (shard X N 7 (without name l)).blocks) where
+    after_mid : AgreesAfter before.told mid.told (shard X N 7 l).blocks (shard X N 7 (without name l)).blocks
+    after_mid = after (record { first = agrees; last = agrees-between X IsSave before.told mid.told now.told (shard X N 7 l).blocks first second (record { first = agrees; last = safe }) })
+
+    pub left-value : ((m : List Named) → shards.IsPlanned X N e.cid m → e ≡ (shard X N 7 m).entry → Agrees mid.told (shard X N 7 m).blocks → Stood mid.faults now.faults → Stood mid.clashes now.clashes
+        → ReadsOver mid.told (shard X N 7 m).blocks (Some (dir_entry X N p m)) r)
+        → Stood before.faults now.faults → Stood before.clashes now.clashes → ReadsOver before.told (shard X N 7 l).blocks (entry_without X N p name l) r
+    left-value value faults clashes =
+        let short = shortened X N p name l e left in
+        reads-back before.told mid.told (shard X N 7 l).blocks (shard X N 7 (without name l)).blocks (entry_without X N p name l) r after_mid
+        (subst (λ (o : Option Entry). ReadsOver mid.told (shard X N 7 (without name l)).blocks o r) (sym short.entry)
+        (value (without name l) (shortened-plan X N p name l cid e is short) short.shards (agrees-of before.told mid.told (shard X N 7 l).blocks (shard X N 7 (without name l)).blocks after_mid)
+        (stood-mid before mid now calm faults) (stood-clash before mid now calm clashes)))
+
+    -- what is asked of the shards that are left may be asked
+    pub left-asked : (Q : List Named → Type 0) → ((m : List Named) → shards.IsPlanned X N e.cid m → Agrees mid.told (shard X N 7 m).blocks → Stood mid.faults now.faults → Stood mid.clashes now.clashes → Q m)
+        → Stood before.faults now.faults → Stood before.clashes now.clashes → Q (without name l)
+    left-asked Q asks faults clashes =
+        asks (without name l) (shortened-plan X N p name l cid e is (shortened X N p name l e left)) (agrees-of before.told mid.told (shard X N 7 l).blocks (shard X N 7 (without name l)).blocks after_mid)
+        (stood-mid before mid now calm faults) (stood-clash before mid now calm clashes)
+
+    pub left-after : ((m : List Named) → shards.IsPlanned X N e.cid m → Agrees mid.told (shard X N 7 m).blocks → Stood mid.faults now.faults → Stood mid.clashes now.clashes → Settles X N p m mid.told now.told)
+        → SavesOnly X before.told now.told → Stood before.faults now.faults → Stood before.clashes now.clashes → AgreesAfter before.told now.told (shard X N 7 l).blocks (own_blocks X N p (without name l))
+    left-after settles saves faults clashes =
+        let short = shortened X N p name l e left in
+        settled-after X N p (without name l) before.told mid.told now.told (shard X N 7 l).blocks agrees saves after_mid
+        (settles (without name l) (shortened-plan X N p name l cid e is short) (agrees-of before.told mid.told (shard X N 7 l).blocks (shard X N 7 (without name l)).blocks after_mid)
+        (stood-mid before mid now calm faults) (stood-clash before mid now calm clashes))
+
+-- a fact after Ok, of what the answer is
+pub on-if : {A : Type 0} (S : Type 0) (r : Result A StoreFault) → OnOk r S → IfOk r (λ x. S)
+on-if S (Ok x) h = h
+on-if S (Err fault) h = tt
+
+pub to-some : {A : Type 0} (o : Option A) (Q : Type 0) → Q → IfSome o (λ x. Q)
+to-some None Q h = tt
+to-some (Some x) Q h = h
+
+pub saves-same : (X : List ℕ → List ℕ) (a b : Told) → b ≡ a → SavesOnly X a b
+saves-same X a b same = subst (SavesOnly X a) (sym same) (SavesOnly-refl X a)
+
+-- ---- the two calls, where the root is one block
+
+module _ (X : List ℕ → List ℕ) (N : List ℕ → ℕ) (p : Profile) where
+  pub put-basic : (name : List ℕ) (e : Entry) (pairs l : List Named) (told : Told) (old : List Held) (r : Result Entry DirFault) (before mid now : Seen) → pairs ≡ l → Gives (dir_refusal X N p (with_name name e pairs)) (dir_entry X N p (with_name name e pairs)) r
+      → StaysCalm before mid → Shown X NoneIsBad r mid now → Stood before.faults now.faults → Stood before.clashes now.clashes → GivesOver told old (dir_refusal X N p (with_name name e l)) (dir_entry X N p (with_name name e l)) r
+  put-basic name e pairs l told old r before mid now same gives calm shown faults clashes =
+      subst (λ (m : List Named). GivesOver told old (dir_refusal X N p (with_name name e m)) (dir_entry X N p (with_name name e m)) r) same (gives-over X told old _ _ r before mid now gives calm shown faults clashes)
+
+  pub put-basic-after : (root : Cid) (name : List ℕ) (e : Entry) (pairs : List Named) (before mid now : Told) (r : Result Entry DirFault) → ((l : List Named) → IsPlanned X N p root l → Agrees before (own_blocks X N p l) → pairs ≡ l) → mid ≡ before → SavesOnly X mid now
+      → OnOk r (Holds now (own_blocks X N p (with_name name e pairs)))
+      → OnOk r ((l : List Named) → IsPlanned X N p root l → StaysAgreed before now (own_blocks X N p l) → AgreesAfter before now (own_blocks X N p l) (own_blocks X N p (with_name name e l)))
+  put-basic-after root name e pairs before mid now (Ok x) ok same saves held = λ l is stays.
+      after-held X before now (own_blocks X N p l) (own_blocks X N p (with_name name e l)) stays.first (subst (λ (told : Told). SavesOnly X told now) same saves)
+      (subst (λ (m : List Named). Holds now (own_blocks X N p (with_name name e m))) (ok l is stays.first) held)
+  put-basic-after root name e pairs before mid now (Err fault) ok same saves held = tt
+
+  entry-some : (name : List ℕ) (l : List Named) (e : Entry) → entry_without X N p name l ≡ Some e → e.cid.codec ≡ DagPb
+  entry-some name l e h = by (find names_cmp name l) h
+    where
+      by : (o : Option Entry) → elim o [ None ↦ None | Some old ↦ Some (dir_entry X N p (without name l)) ] ≡ Some e → e.cid.codec ≡ DagPb
+      by None h = absurd (let no : None ≡ Some e = h in cc)
+      by (Some old) h = (let same : dir_entry X N p (without name l) ≡ e = (let some : Some (dir_entry X N p (without name l)) ≡ Some e = h in cc) in ap (λ (x : Entry). x.cid.codec) (sym same) ∙ planned-node X N p (without name l))
+
+  pub basic-node : (name : List ℕ) (pairs : List Named) (mid now : Told) (r : Result (Option Entry) StoreFault) → TakesBasic X N p name pairs mid now r → IfOk r (λ left. IfSome left (λ e. e.cid.codec ≡ DagPb))
+  basic-node name pairs mid now (Ok None) h = tt
+  basic-node name pairs mid now (Ok (Some e)) h = entry-some name pairs e h.0
+  basic-node name pairs mid now (Err fault) h = tt
+
+  pub basic-ok : (root : Cid) (name : List ℕ) (pairs : List Named) (before mid now : Told) (r : Result (Option Entry) StoreFault) (B C : List Named → Type 0) → ((l : List Named) → IsPlanned X N p root l → Agrees before (own_blocks X N p l) → pairs ≡ l) → mid ≡ before
+      → SavesOnly X mid now → TakesBasic X N p name pairs mid now r
+      → OnOk r ((l : List Named) → IsPlanned X N p root l → StaysAgreed before now (own_blocks X N p l) → B l → C l → AgreesAfter before now (own_blocks X N p l) (own_blocks X N p (without name l)))
+  basic-ok root name pairs before mid now r B C ok same saves takes = by r takes
+    where
+      by : (r : Result (Option Entry) StoreFault) → TakesBasic X N p name pairs mid now r
+          → OnOk r ((l : List Named) → IsPlanned X N p root l → StaysAgreed before now (own_blocks X N p l) → B l → C l → AgreesAfter before now (own_blocks X N p l) (own_blocks X N p (without name l)))
+      by (Ok None) takes = λ l is stays b c. basic-after X N p name pairs l before mid now (Ok None) (ok l is stays.first) same takes (subst (λ (told : Told). SavesOnly X told now) same saves) stays.first
+      by (Ok (Some e)) takes = λ l is stays b c. basic-after X N p name pairs l before mid now (Ok (Some e)) (ok l is stays.first) same takes (subst (λ (told : Told). SavesOnly X told now) same saves) stays.first
+      by (Err fault) takes = tt
+
+-- ---- and where it is a shard
+
+module _ (X : List ℕ → List ℕ) (good : IsHash X) (N : List ℕ → ℕ) (p : Profile) (cid : Cid)
+    (before mid : Seen) (found : Root) (items : List InSlot) (at : found ≡ root.Sharded items) (looks : IsThere cid before mid × IsRootOf mid.lent found) (same : mid.told ≡ before.told) where
+  pub put-sharded-ok : (name : List ℕ) (e : Entry) (now : Told) (r : Result Entry DirFault)
+      → OnOk r ((k : List Named) → shards.IsPlanned X N cid k → StaysAgreed mid.told now (shard X N 7 k).blocks → AgreesAfter mid.told now (shard X N 7 k).blocks (shard X N 7 (with_name name e k)).blocks)
+      → OnOk r ((l : List Named) → IsPlanned X N p cid l → StaysAgreed before.told now (own_blocks X N p l) → AgreesAfter before.told now (own_blocks X N p l) (own_blocks X N p (with_name name e l)))
+  put-sharded-ok name e now (Ok x) after = λ l is stays. put-sharded-after X good N p cid l is before mid found items at looks same stays.first name e now after stays.last
+  put-sharded-ok name e now (Err fault) after = tt
+
+  module _ (name : List ℕ) (now : Seen) (calm : StaysCalm before mid) where
+    abbrev Value : Result (Option Entry) StoreFault → Type 0
+    Value r = (k : List Named) → shards.IsPlanned X N cid k → StaysAgreed mid.told now.told (shard X N 7 k).blocks → Stood mid.faults now.faults → Stood mid.clashes now.clashes
+        → ReadsOver mid.told (shard X N 7 k).blocks (entry_without X N p name k) r
+
+    abbrev After : Option Entry → Type 0
+    After left = (k : List Named) → shards.IsPlanned X N cid k → StaysAgreed mid.told now.told (shard X N 7 k).blocks → Stood mid.faults now.faults → Stood mid.clashes now.clashes
+        → IfSome left (λ e. AgreesAfter mid.told now.told (shard X N 7 k).blocks (own_blocks X N p (without name k)))
+
+    pub take-sharded-ok : (r : Result (Option Entry) StoreFault) → IfOk r (λ left. left ≡ None → now.told ≡ mid.told) → Value r → IfOk r After
+        → OnOk r ((l : List Named) → IsPlanned X N p cid l → StaysAgreed before.told now.told (own_blocks X N p l) → Stood before.faults now.faults → Stood before.clashes now.clashes
+        → AgreesAfter before.told now.told (own_blocks X N p l) (own_blocks X N p (without name l)))
+    take-sharded-ok (Ok None) none value after = λ l is stays faults clashes.
+        let absent : None ≡ entry_without X N p name l = take-sharded X good N p cid l is before mid found items at looks same stays.first name now (Ok None) calm value stays.last faults clashes in
+        subst (λ (m : List Named). AgreesAfter before.told now.told (own_blocks X N p l) (own_blocks X N p m)) (sym (without-absent name l (not-there l absent))) (after-same before.told now.told (own_blocks X N p l) stays.first (none refl ∙ same))
+      where
+        not-there : (l : List Named) → None ≡ entry_without X N p name l → find names_cmp name l ≡ None
+        not-there l h = by (find names_cmp name l) h
+          where
+            by : (o : Option Entry) → ◌≡◌ {A = Option Entry} None (elim o [ None ↦ None | Some old ↦ Some (dir_entry X N p (without name l)) ]) → o ≡ None
+            by None h = refl
+            by (Some old) h = absurd (let no : None ≡ Some (dir_entry X N p (without name l)) = h in cc)
+    take-sharded-ok (Ok (Some e)) none value after = λ l is stays faults clashes.
+        subst (λ (old : List Held). AgreesAfter before.told now.told old (own_blocks X N p (without name l))) (sym (blocks-sharded X N p l (in_shards X good N p cid l is before mid found items at looks same stays.first)))
+        (subst (λ (told : Told). AgreesAfter told now.told (shard X N 7 l).blocks (own_blocks X N p (without name l))) same
+        (after l (plan_there X good N p cid l is before mid found items at looks same stays.first) (stays_there X good N p cid l is before mid found items at looks same stays.first now.told stays.last)
+        (stood-mid before mid now calm faults) (stood-clash before mid now calm clashes)))
+    take-sharded-ok (Err fault) none value after = tt

@@ -1,0 +1,12 @@
+use Rattle.std.proofs.Common.{◌≤◌, arith}
+use Rattle.uf_tree.proofs.Told.{kept}
+use Rattle.uf_dir.proofs.Changing.{left-basic, left-light}
+use Rattle.uf_dir.proofs.editing.remove_basic.Goals as goal
+
+pub save_basic-requires-clause-light : goal.save_basic-requires-clause-light
+save_basic-requires-clause-light g c = let most : c.args.p.now.threshold ≤ 1048576 = (kept c.args.p.now c.requires.profile).threshold in
+    left-light c.args.name.now c.args.pairs.now c.in-Ok-Some.left _ c.in-Ok-Some.field-0-is c.in-Ok-Some.ensures.pairs 1048576 (omega (arith, most, c.requires.light))
+
+pub returns-in-Ok-clause-takes : goal.returns-in-Ok-clause-takes
+returns-in-Ok-clause-takes g c = left-basic c.args.name.now c.args.pairs.now c.in-Ok-Some.left _ c.in-Ok-Some.field-0-is c.in-Ok-Some.ensures.pairs g.S.X.BlockHash.block32 g.N.NameHash.name64 c.args.p.now c.in-Ok.entry (g.S.Store.seen c.save_basic.new.store).told
+    c.requires.light (c.in-Ok.ensures.entry g.N.NameHash.name64) c.in-Ok.ensures.held

@@ -1,0 +1,250 @@
+// A name taken out.
+ghost use Rattle.std.specs.Prelude.{◌≡◌, ◌<◌, ◌≤◌, ◌+◌, ◌*◌, ◌-◌, ℕ, List, [], ◌∷◌, IfErr, IfOk, IfSome};
+ghost use Rattle.std.specs.Ordering.{eq_by_cmp};
+ghost use Rattle.uf_cid.specs.declared.cid.Codec.TheVariants.{DagPb};
+ghost use Rattle.uf_edge.specs.Counts.{Stood};
+ghost use Rattle.uf_murmur.specs.Slots.{slot as slot_of};
+ghost use Rattle.uf_store.specs.Clashes.{IsSaving};
+ghost use Rattle.uf_store.specs.Faults.{Answers, NoneIsBad};
+ghost use Rattle.uf_store.specs.Keeping.{Agrees, KeepsGood, StaysAgreed};
+ghost use Rattle.uf_store.specs.Writing.{SavesOnly};
+ghost use Rattle.uf_store.specs.Lost.{ReadsOver};
+ghost use Rattle.uf_tree.specs.Names.{names_cmp};
+ghost use Rattle.uf_tree.specs.Nodes.{Named};
+ghost use Rattle.uf_tree.specs.ShardPlan.{shard};
+ghost use Rattle.uf_shard.specs.Placed.{IsBadOnWay, IsPlaced, way};
+ghost use Rattle.uf_shard.specs.Planned.{IsPlanned};
+ghost use Rattle.uf_shard.specs.Reached.{IsReached};
+ghost use Rattle.uf_shard.specs.Changed.{AreItems, IsItemAt, IsSlot, below, blocks_of};
+ghost use Rattle.uf_shard.specs.Taken.{AgreesLeft, AreInSlots, IsLeftOf, LeavesNode, IsValidRest, LeafWithout, LeavesBelow, SavesNothing, TakesSlot, TakesSlots, UnsavedBelow, UnsavedItems, UnsavedRest, collapsed, left_without};
+
+use crate::loading::{load_shard, slot_at};
+use crate::nodes::save_node;
+use crate::removed::Removed;
+use crate::rest::Rest;
+use crate::slots::{is_same, item_in, with_slot};
+use std::alloc::Global;
+use std::sync::ledger::Ledger;
+use uf_cid::{Cid, Memory};
+use uf_murmur::NameHash;
+use uf_store::{Steps, Store, StoreFault};
+use uf_tree::{Item, Items, Name, Placed};
+
+/// Takes a name out of the directory whose shard tree has this root, and answers what is left (UnixFS v1, "HAMTDirectory"). A
+/// shard below the root that is left with one entry gives way to that entry, level by level. Only the shards on the name's
+/// way are loaded and saved: at most 16 touches. Nothing is saved where the name isn't there or is the only one.
+pub fn remove<S: Store, N: NameHash, L: Ledger>(
+    alloc: Global,
+    store: &mut S,
+    root: &Cid,
+    name: &Name,
+    touches: &mut Steps<L>,
+) -> Result<Removed, StoreFault>
+    ensures value { (l : List Named) → IsPlanned S.X.block32 N.name64 root.now l
+        → Agrees (S.seen store.old).told (shard S.X.block32 N.name64 7 l).blocks
+        → Stood (S.seen store.old).faults (S.seen store.new).faults
+        → Stood (S.seen store.old).clashes (S.seen store.new).clashes
+        → ReadsOver (S.seen store.old).told (shard S.X.block32 N.name64 7 l).blocks (left_without S.X.block32 N.name64 name.now l) result }
+    ensures node { IfOk result LeavesNode }
+    ensures nothing { IfOk result (λ left. SavesNothing left (S.seen store.old).told (S.seen store.new).told) }
+    ensures after { IfOk result (λ left. (l : List Named) → IsPlanned S.X.block32 N.name64 root.now l
+        → StaysAgreed (S.seen store.old).told (S.seen store.new).told (shard S.X.block32 N.name64 7 l).blocks
+        → AgreesLeft S.X.block32 N.name64 (S.seen store.old).told (S.seen store.new).told (shard S.X.block32 N.name64 7 l).blocks name.now l left) }
+    ensures cause { Answers S.X.block32 (IsBadOnWay N.name64 (N.name64 name.now)) result (S.seen store.old) (S.seen store.new) }
+    ensures good { KeepsGood S.X.block32 (S.seen store.old).told (S.seen store.new).told }
+    ensures saves { SavesOnly S.X.block32 (S.seen store.old).told (S.seen store.new).told }
+    ensures touches { touches.new ≤ touches.old + 16 }
+{
+    match items_without::<S, N, L>(alloc, store, 7, root, name, touches) {
+        Err(fault) => Err(fault),
+        Ok(None) => Ok(Removed::Absent),
+        Ok(Some(items)) => left_of(alloc, store, &items, touches),
+    }
+}
+
+// Saves the root of what is left, where something is.
+fn left_of<S: Store, L: Ledger>(
+    alloc: Global,
+    store: &mut S,
+    items: &Items,
+    touches: &mut Steps<L>,
+) -> Result<Removed, StoreFault>
+    requires { AreInSlots items.now }
+    ensures left { IfOk result (IsLeftOf S.X.block32 (S.seen store.old).told (S.seen store.new).told items.now) }
+    ensures node { IfOk result LeavesNode }
+    ensures nothing { IfOk result (λ left. SavesNothing left (S.seen store.old).told (S.seen store.new).told) }
+    ensures cause { Answers S.X.block32 NoneIsBad result (S.seen store.old) (S.seen store.new) }
+    ensures fault { IfErr result IsSaving }
+    ensures good { KeepsGood S.X.block32 (S.seen store.old).told (S.seen store.new).told }
+    ensures saves { SavesOnly S.X.block32 (S.seen store.old).told (S.seen store.new).told }
+    ensures touches { touches.new ≤ touches.old + 1 }
+{
+    if items.len() == 0 {
+        return Ok(Removed::Empty);
+    }
+    match save_node(alloc, store, items, touches) {
+        Ok(entry) => Ok(Removed::Left(entry)),
+        Err(fault) => Err(fault),
+    }
+}
+
+// The slots of the shard under a CID, which has so many levels below it, without a name, where that is there.
+#[cycle(takes)]
+fn items_without<S: Store, N: NameHash, L: Ledger>(
+    alloc: Global,
+    store: &mut S,
+    left: u8,
+    cid: &Cid,
+    name: &Name,
+    touches: &mut Steps<L>,
+) -> Result<Option<Items>, StoreFault>
+    requires { left ≤ 7 }
+    ensures takes { (l : List Named) → IsReached S.X.block32 N.name64 (N.name64 name.now) left cid.now l
+        → Agrees (S.seen store.old).told (shard S.X.block32 N.name64 left l).blocks
+        → TakesSlots S.X.block32 N.name64 (S.seen store.old).told (S.seen store.new).told (shard S.X.block32 N.name64 left l).blocks left name.now l result }
+    ensures valid { IfOk result (λ rest. IfSome rest AreInSlots) }
+    ensures unsaved { IfOk result (λ rest. UnsavedItems rest (S.seen store.old).told (S.seen store.new).told) }
+    ensures cause { Answers S.X.block32 (IsBadOnWay N.name64 (N.name64 name.now)) result (S.seen store.old) (S.seen store.new) }
+    ensures good { KeepsGood S.X.block32 (S.seen store.old).told (S.seen store.new).told }
+    ensures saves { SavesOnly S.X.block32 (S.seen store.old).told (S.seen store.new).told }
+    ensures touches { touches.new ≤ touches.old + (2 * left + 1) }
+{
+    match load_shard::<S, N, L>(alloc, store, 7 - left, cid, name, touches) {
+        Err(fault) => Err(fault),
+        Ok(items) => take_from::<S, N, L>(alloc, store, left, &items, name, touches),
+    }
+}
+
+// These slots without a name, where that is there. The shards below them are saved.
+#[cycle(takes)]
+fn take_from<S: Store, N: NameHash, L: Ledger>(
+    alloc: Global,
+    store: &mut S,
+    left: u8,
+    items: &Items,
+    name: &Name,
+    touches: &mut Steps<L>,
+) -> Result<Option<Items>, StoreFault>
+    requires left { left ≤ 7 }
+    requires placed { IsPlaced N.name64 (way (N.name64 name.now) (7 - left)) items.now }
+    ensures takes { (l : List Named)
+        → AreItems S.X.block32 N.name64 (N.name64 name.now) left (S.seen store.old).told items.now l
+        → TakesSlots S.X.block32 N.name64 (S.seen store.old).told (S.seen store.new).told (below S.X.block32 N.name64 left l) left name.now l result }
+    ensures valid { IfOk result (λ rest. IfSome rest AreInSlots) }
+    ensures unsaved { IfOk result (λ rest. UnsavedItems rest (S.seen store.old).told (S.seen store.new).told) }
+    ensures cause { Answers S.X.block32 (IsBadOnWay N.name64 (N.name64 name.now)) result (S.seen store.old) (S.seen store.new) }
+    ensures good { KeepsGood S.X.block32 (S.seen store.old).told (S.seen store.new).told }
+    ensures saves { SavesOnly S.X.block32 (S.seen store.old).told (S.seen store.new).told }
+    ensures touches { touches.new ≤ touches.old + 2 * left }
+{
+    let slot = slot_at::<N>(name, 7 - left);
+    let Ok(found) = item_in(items.as_slice(), slot) else {
+        return Err(StoreFault::Memory);
+    };
+    match item_without::<S, N, L>(alloc, store, left, found, name, touches) {
+        Err(fault) => Err(fault),
+        Ok(Rest::Same) => Ok(None),
+        Ok(Rest::Of(item)) => match with_slot(alloc, items.as_slice(), slot, item) {
+            Ok(changed) => Ok(Some(changed)),
+            Err(Memory) => Err(StoreFault::Memory),
+        },
+    }
+}
+
+// What a slot of a shard with so many levels below it has without a name.
+#[cycle(takes)]
+fn item_without<S: Store, N: NameHash, L: Ledger>(
+    alloc: Global,
+    store: &mut S,
+    left: u8,
+    found: Option<Item>,
+    name: &Name,
+    touches: &mut Steps<L>,
+) -> Result<Rest, StoreFault>
+    requires left { left ≤ 7 }
+    requires found { IfSome found (IsItemAt N.name64 (way (N.name64 name.now) (7 - left)) (slot_of (N.name64 name.now) (7 - left))) }
+    ensures takes { (l : List Named)
+        → IsSlot S.X.block32 N.name64 (N.name64 name.now) left (S.seen store.old).told found l
+        → TakesSlot S.X.block32 N.name64 (S.seen store.old).told (S.seen store.new).told (blocks_of S.X.block32 N.name64 left l) left name.now l result }
+    ensures valid { IfOk result IsValidRest }
+    ensures unsaved { IfOk result (λ rest. UnsavedRest rest (S.seen store.old).told (S.seen store.new).told) }
+    ensures cause { Answers S.X.block32 (IsBadOnWay N.name64 (N.name64 name.now)) result (S.seen store.old) (S.seen store.new) }
+    ensures good { KeepsGood S.X.block32 (S.seen store.old).told (S.seen store.new).told }
+    ensures saves { SavesOnly S.X.block32 (S.seen store.old).told (S.seen store.new).told }
+    ensures touches { touches.new ≤ touches.old + 2 * left }
+{
+    match found {
+        None => Ok(Rest::Same),
+        Some(Item::Leaf(other, _)) => Ok(leaf_without(&other, name)),
+        Some(Item::Sub(below)) => {
+            match items_without::<S, N, L>(alloc, store, left - 1, &below.cid, name, touches) {
+                Err(fault) => Err(fault),
+                Ok(None) => Ok(Rest::Same),
+                Ok(Some(items)) => rest_of(alloc, store, &items, touches),
+            }
+        }
+    }
+}
+
+// What the slot of an entry has without a name.
+fn leaf_without(other: &Name, name: &Name) -> Rest
+    ensures { LeafWithout (eq_by_cmp names_cmp name.now other.now) result }
+{
+    if is_same(name, other) {
+        Rest::Of(None)
+    } else {
+        Rest::Same
+    }
+}
+
+// What a slot has of these slots of the shard below it: nothing of none, a lone entry itself, and else the shard, which is
+// saved.
+fn rest_of<S: Store, L: Ledger>(
+    alloc: Global,
+    store: &mut S,
+    items: &Items,
+    touches: &mut Steps<L>,
+) -> Result<Rest, StoreFault>
+    requires { AreInSlots items.now }
+    ensures unsaved { IfOk result (λ rest. UnsavedBelow items.now rest (S.seen store.old).told (S.seen store.new).told) }
+    ensures leaves { (N : List ℕ → ℕ)
+        → LeavesBelow S.X.block32 N (S.seen store.old).told (S.seen store.new).told items.now result }
+    ensures valid { IfOk result IsValidRest }
+    ensures cause { Answers S.X.block32 NoneIsBad result (S.seen store.old) (S.seen store.new) }
+    ensures good { KeepsGood S.X.block32 (S.seen store.old).told (S.seen store.new).told }
+    ensures saves { SavesOnly S.X.block32 (S.seen store.old).told (S.seen store.new).told }
+    ensures touches { touches.new ≤ touches.old + 1 }
+{
+    match without_shard(items.as_slice()) {
+        Ok(Rest::Of(item)) => Ok(Rest::Of(item)),
+        Ok(Rest::Same) => match save_node(alloc, store, items, touches) {
+            Ok(entry) => Ok(Rest::Of(Some(Item::Sub(entry)))),
+            Err(fault) => Err(fault),
+        },
+        Err(Memory) => Err(StoreFault::Memory),
+    }
+}
+
+// What a slot has of these slots of the shard below it, where that needn't stand: nothing, or a lone entry.
+fn without_shard(items: &[Placed]) -> Result<Rest, Memory>
+    ensures { IfOk result (λ rest. rest ≡ collapsed items.now) }
+{
+    match items {
+        [] => Ok(Rest::Of(None)),
+        [placed] => lone(&placed.item),
+        _ => Ok(Rest::Same),
+    }
+}
+
+// A lone entry under its name, and not a shard.
+fn lone(item: &Item) -> Result<Rest, Memory>
+    ensures { IfOk result (λ rest. (s : ℕ) → rest ≡ collapsed ((s, item.now) ∷ [])) }
+{
+    match item {
+        Item::Leaf(name, entry) => {
+            let name = name.copy()?;
+            Ok(Rest::Of(Some(Item::Leaf(name, *entry))))
+        }
+        Item::Sub(_) => Ok(Rest::Same),
+    }
+}
