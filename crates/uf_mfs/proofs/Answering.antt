@@ -14,7 +14,7 @@ use Rattle.uf_store.specs.declared.store.StoreFault.TheVariants.{Failed, Damaged
 use Rattle.uf_store.specs.Clashes.{IsLoadFault}
 use Rattle.uf_store.specs.Contents.{Told, held_at}
 use Rattle.uf_store.specs.Faults.{NoneIsBad, Shows, StaysCalm}
-use Rattle.uf_store.specs.Keeping.{Agrees}
+use Rattle.uf_store.specs.Keeping.{Agrees, HoldsOne}
 use Rattle.uf_store.specs.Lost.{FindsOver, ReadsOver}
 use Rattle.uf_store.specs.Seen.{Finds, Seen}
 use Rattle.uf_tree.specs.declared.nodes.Entry.{Entry}
@@ -129,7 +129,13 @@ pub unread-shows : (X : List ℕ → List ℕ) (N : List ℕ → ℕ) (cid : Cid
 unread-shows X N cid role f fault a b either (inl is) why finds calm = subst (λ f. Shows X (IsBad N None) f a b) (sym is) (calm-rises a b calm)
 unread-shows X N cid role f fault a b either (inr bad) (inl none) finds calm = absurd (bad.0 none)
 unread-shows X N cid role f fault a b either (inr bad) (inr unread) finds calm =
-    subst (λ f. Shows X (IsBad N None) f a b) (sym bad.1) (record { digest = finds.digest; bad = unread-bad N role b.lent fault either finds.size unread; calm = calm })
+    subst (λ f. Shows X (IsBad N None) f a b) (sym bad.1) (record {
+      rose = omega (arith, finds.counted.finds.rose refl);
+      digest = finds.digest;
+      is_held = subst (λ told. HoldsOne told cid b.lent) (sym finds.same_told) finds.is_held;
+      bad = unread-bad N role b.lent fault either finds.size unread;
+      calm = calm;
+    })
 
 -- the size of a file is that of its root block
 pub length-says : (X : List ℕ → List ℕ) (N : List ℕ → ℕ) (told : Told) (p : Profile) (t : Tree) (e : Entry) (r : Result ℕ StoreFault) → IsThing X N told p t (FileAt e)

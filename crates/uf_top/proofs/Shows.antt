@@ -20,7 +20,6 @@ use Rattle.uf_top.specs.declared.types.Command.{Command}
 use Rattle.uf_store.specs.Faults.{NoneIsBad, Rises, Shows, StaysCalm}
 use Rattle.uf_store.specs.Seen.{Seen}
 use Rattle.uf_store.proofs.Causes.{Shows-after, StaysCalm-trans}
-use Rattle.uf_store.proofs.Writing.{saves-notes}
 use Rattle.uf_tree.specs.declared.profile.Profile.{Profile}
 use Rattle.uf_top.specs.Causes.{IsBadIn, IsMade, IsOfAt, IsOfInit, IsOfTree, IsOpeningFault, IsProfileOf, IsReady, IsTreeFault, OnlyWants, RefusesInTree, RefusesOpening, Shown}
 use Rattle.uf_top.specs.Intake.{ShownIn, ShownWhy}
@@ -215,13 +214,6 @@ made-shown M hash P (Err m) r a b made h = subst (λ r. Shown hash P r a b) (sym
 pub made-work : (M : Type 0) (text : Result (List ℕ) M) (r : Result (List ℕ) Refusal) → IsMade text r → IsOfTree r
 made-work M (Ok x) r made = subst (λ (r : Result (List ℕ) Refusal). IsOfTree r) (sym made) tt
 made-work M (Err m) r made = subst (λ (r : Result (List ℕ) Refusal). IsOfTree r) (sym made) tt
-
--- saves alone leave the Head
-pub saves-head : (hash : List ℕ → List ℕ) (a b : Told) → SavesOnly hash a b → head_in b ≡ head_in a
-saves-head hash None None h = refl
-saves-head hash None (Some b) h = absurd h
-saves-head hash (Some a) None h = absurd h
-saves-head hash (Some a) (Some b) h = ap (λ (n : Notes). n.head) (saves-notes hash a b h)
 
 pub same-good : (hash : List ℕ → List ℕ) (a b : Told) → b ≡ a → KeepsGood hash a b
 same-good hash a b e = subst (KeepsGood hash a) (sym e) (KeepsGood-refl hash a)

@@ -27,6 +27,7 @@ use Rattle.uf_tree.proofs.TreeLaws.{entry-dir}
 use Rattle.uf_tree.proofs.Valid.{entry-valid}
 use Rattle.uf_laws.proofs.Held.{tree-digested}
 use Rattle.uf_unique.proofs.Heads.{one_standing}
+use Rattle.uf_mfs.proofs.Starting.{leaves-head}
 use Rattle.uf_mfs.specs.Standing.{LeavesHead, Same, OnlySynced, TellsAs, TellsHeld, head_in}
 use Rattle.uf_top.specs.Causes.{HeadSays, IsProfileOf, IsUnread}
 
@@ -36,17 +37,9 @@ flip X (b ∷ l) h = (sym h.0, flip X l h.1)
 
 -- at most a sync was written
 
-sync-head : (a : Told) → head_in (changed with_sync a) ≡ head_in a
-sync-head None = refl
-sync-head (Some t) = refl
-
-pub leaves-head : (a b : Told) → LeavesHead a b → head_in b ≡ head_in a
-leaves-head a b (Same e) = ap head_in e
-leaves-head a b (OnlySynced e) = ap head_in e ∙ sync-head a
-
 sync-good : (X : List ℕ → List ℕ) (a : Told) → KeepsGood X a (changed with_sync a)
-sync-good X None = tt
-sync-good X (Some t) = λ c b is d. is
+sync-good X None = KeepsGood-refl X None
+sync-good X (Some t) = record { alike = refl; stays = λ c b is d. is }
 
 pub leaves-good : (X : List ℕ → List ℕ) (a b : Told) → LeavesHead a b → KeepsGood X a b
 leaves-good X a b (Same e) = subst (KeepsGood X a) (sym e) (KeepsGood-refl X a)
@@ -64,7 +57,7 @@ module _ (X : List ℕ → List ℕ) (N : List ℕ → ℕ) where
   -- what stands stays where the Head is as before and good blocks are kept
   pub stands-kept : (a b : Told) (s : Standing) → KeepsGood X a b → head_in b ≡ head_in a → TellsAs X N a s → TellsAs X N b s
   stands-kept None b s k h t = absurd t
-  stands-kept (Some a) None s k h t = absurd k
+  stands-kept (Some a) None s k h t = absurd (let e : false ≡ true = k.alike in cc)
   stands-kept (Some a) (Some b) NoHead k h t = h ∙ t
   stands-kept (Some a) (Some b) BadHead k h t = subst IsBadHead (sym h) t
   stands-kept (Some a) (Some b) (Stands p es) k h t = record {

@@ -1,5 +1,7 @@
 use Rattle.std.proofs.Common.{◌≡◌, ◌+◌, ◌-◌, ◌∷◌, Err, Some, drop, length, subst, sym, take}
 use Rattle.std.specs.declared.result.Result.{Result}
+use Rattle.uf_store.proofs.Writing.{SavesOnly-trans}
+use Rattle.uf_store.specs.Writing.{SavesOnly}
 use Rattle.uf_store.proofs.Causes.{StaysCalm-trans}
 use Rattle.uf_store.proofs.Keeping.{KeepsGood-trans}
 use Rattle.uf_store.specs.Keeping.{KeepsGood}
@@ -57,3 +59,8 @@ pub returns-in-Ok-edit-clause-good : goal.returns-in-Ok-edit-clause-good
 returns-in-Ok-edit-clause-good g t c =
     let X = g.S.X.BlockHash.block32 in
     subst (λ told. KeepsGood X told (g.S.Store.seen c.put_in.new.store).told) c.in-Ok.ensures.told (KeepsGood-trans X _ _ _ c.in-Ok-edit.ensures.good c.put_in.ensures.good)
+
+pub returns-in-Ok-edit-clause-saves : goal.returns-in-Ok-edit-clause-saves
+returns-in-Ok-edit-clause-saves g t c =
+    let X = g.S.X.BlockHash.block32 in
+    subst (λ told. SavesOnly X told (g.S.Store.seen c.put_in.new.store).told) c.in-Ok.ensures.told (SavesOnly-trans X _ _ _ c.in-Ok-edit.ensures.saves c.put_in.ensures.saves)

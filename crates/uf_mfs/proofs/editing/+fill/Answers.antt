@@ -1,5 +1,6 @@
 use Rattle.std.proofs.Common.{◌≡◌, ◌+◌, ◌-◌, ◌∷◌, Err, Some, drop, length, subst, take}
 use Rattle.std.specs.declared.result.Result.{Result}
+use Rattle.uf_store.proofs.Writing.{SavesOnly-trans}
 use Rattle.uf_store.proofs.Causes.{StaysCalm-trans}
 use Rattle.uf_store.proofs.Keeping.{KeepsGood-trans}
 use Rattle.uf_tree.specs.Tree.{Dir, Entries}
@@ -54,3 +55,9 @@ returns-in-Ok-fill-clause-edits g t c = λ es i calm.
 
 pub returns-in-Ok-fill-clause-good : goal.returns-in-Ok-fill-clause-good
 returns-in-Ok-fill-clause-good g t c = KeepsGood-trans _ _ _ _ (KeepsGood-trans _ _ _ _ c.in-Ok.ensures.good c.in-Ok-fill.ensures.good) c.put_in.ensures.good
+
+pub returns-in-Err-fill-clause-saves : goal.returns-in-Err-fill-clause-saves
+returns-in-Err-fill-clause-saves g t c = SavesOnly-trans _ _ _ _ c.in-Ok.ensures.saves c.in-Err-fill.ensures.saves
+
+pub returns-in-Ok-fill-clause-saves : goal.returns-in-Ok-fill-clause-saves
+returns-in-Ok-fill-clause-saves g t c = SavesOnly-trans _ _ _ _ (SavesOnly-trans _ _ _ _ c.in-Ok.ensures.saves c.in-Ok-fill.ensures.saves) c.put_in.ensures.saves

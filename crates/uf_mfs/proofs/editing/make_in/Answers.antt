@@ -1,4 +1,5 @@
 use Rattle.uf_tree.specs.Tree.{Dir, Nothing}
+use Rattle.uf_store.proofs.Writing.{SavesOnly-trans}
 use Rattle.uf_store.proofs.Keeping.{KeepsGood-trans}
 use Rattle.uf_mfs.proofs.Hinge.{entry-later}
 use Rattle.uf_mfs.proofs.Moving.{calm-back}
@@ -16,3 +17,6 @@ returns-in-Ok-clause-edits g c = λ es i calm.
 
 pub returns-in-Ok-clause-good : goal.returns-in-Ok-clause-good
 returns-in-Ok-clause-good g c = KeepsGood-trans _ _ _ _ c.in-Ok.ensures.good c.put_in.ensures.good
+
+pub returns-in-Ok-clause-saves : goal.returns-in-Ok-clause-saves
+returns-in-Ok-clause-saves g c = SavesOnly-trans _ _ _ _ c.in-Ok.ensures.saves c.put_in.ensures.saves

@@ -1,7 +1,7 @@
 use Rattle.std.proofs.Common.{List, ℕ}
 use Rattle.uf_store.specs.Faults.{NoneIsBad}
 use Rattle.uf_top.proofs.Shows.{ShownIn-tree, in-tree-work, tree-fault}
-use Rattle.uf_top.proofs.Standings.{leaves-head}
+use Rattle.uf_mfs.proofs.Starting.{leaves-head}
 use Rattle.uf_top.proofs.InTree.{stays-nothing, tree-wants}
 use Rattle.uf_top.proofs.tree.committed.Goals as goal
 

@@ -1,4 +1,5 @@
 use Rattle.std.proofs.Common.{List, ℕ, refl, subst, ◌∙◌, None, Some}
+use Rattle.uf_mfs.proofs.Starting.{saves-head}
 use Rattle.uf_mfs.specs.Bad.{IsBad}
 use Rattle.uf_mfs.specs.Standing.{StandsAt}
 use Rattle.uf_store.proofs.Keeping.{KeepsGood-trans}
@@ -6,7 +7,7 @@ use Rattle.uf_tree.specs.Standing.{Stands}
 use Rattle.uf_tree.specs.Tree.{Entries}
 use Rattle.uf_top.specs.Causes.{HeadStays}
 use Rattle.uf_top.specs.Reply.{edited_by, moved}
-use Rattle.uf_top.proofs.Shows.{Shown-after, Shown-of, Shown-tree, in-tree-work, saves-head, shown-rises, stood-back, stood-front, tree-fault}
+use Rattle.uf_top.proofs.Shows.{Shown-after, Shown-of, Shown-tree, in-tree-work, shown-rises, stood-back, stood-front, tree-fault}
 use Rattle.uf_top.proofs.Standings.{stands-kept}
 use Rattle.uf_top.proofs.Finding.{idle-head, idle-there}
 use Rattle.uf_top.proofs.InTree.{fault-answers, move-answers, stays-after}
