@@ -15,7 +15,7 @@ use Rattle.uf_store.specs.declared.store.StoreFault.{StoreFault}
 use Rattle.uf_store.specs.declared.store.StoreFault.TheVariants.{Memory}
 use Rattle.uf_store.specs.Contents.{Told}
 use Rattle.uf_store.specs.Faults.{Rises, StaysCalm}
-use Rattle.uf_store.specs.Keeping.{Agrees, KeepsGood}
+use Rattle.uf_store.specs.Keeping.{Agrees, KeepsGood, StaysAgreed}
 use Rattle.uf_store.specs.Lost.{AgreesAfter, ReadsOver}
 use Rattle.uf_store.specs.Seen.{Seen}
 use Rattle.uf_tree.specs.declared.nodes.Entry.{Entry}
@@ -129,6 +129,13 @@ module _ (X : List ℕ → List ℕ) (N : List ℕ → ℕ) (p : Profile) where
   unless-stop : (told : Told) (es : Entries) (o : Option Refusal) (x : Refusal) → o ≡ Some x → Meets (Is told) (unless es o) (Err (stop.Refused (refused_by x)))
   unless-stop told es o x some = subst (λ o. Meets (Is told) (unless es o) (Err (stop.Refused (refused_by x)))) (sym some) refl
 
+  -- a call that keeps good blocks leaves a folder's own blocks as they agree
+  stays-agreed : (a b : Told) (folder : Entry) (es : Entries) → KeepsGood X a b → IsEntry X N a p folder (Dir es) → StaysAgreed a b (own_blocks X N p (named_entries X N p es))
+  stays-agreed a b folder es keeps i = record {
+    first = tells-agrees a _ (own-told X N p a folder es i);
+    last = tells-agrees b _ (own-told X N p b folder es (entry-later X N p a b folder (Dir es) keeps i));
+  }
+
   module _ (hash : IsHash X) (fits : (name : List ℕ) → N name < 2 ^ 64) where
     -- a put is refused as the edited folder is
     pub put-err : (a b : Told) (folder e : Entry) (es : Entries) (name : List ℕ) (u : Tree) (f : DirFault) (s : Stop) → s ≡ stop_of f → KeepsGood X a b → IsEntry X N a p folder (Dir es) → IsEntry X N a p e u
@@ -151,7 +158,7 @@ module _ (X : List ℕ → List ℕ) (N : List ℕ → ℕ) (p : Profile) where
     -- a put is done where the edited folder has a plan
     pub put-done : (a b : Told) (folder e new : Entry) (es : Entries) (name : List ℕ) (u : Tree) → IsTrue (is_name name) → KeepsGood X a b → IsEntry X N a p folder (Dir es) → IsEntry X N a p e u
         → ((l : List Named) → IsPlanned X N p folder.cid l → Agrees a (own_blocks X N p l) → GivesOver a (own_blocks X N p l) (dir_refusal X N p (with_name name e l)) (dir_entry X N p (with_name name e l)) (Ok new))
-        → ((l : List Named) → IsPlanned X N p folder.cid l → Agrees a (own_blocks X N p l) → AgreesAfter a b (own_blocks X N p l) (own_blocks X N p (with_name name e l)))
+        → ((l : List Named) → IsPlanned X N p folder.cid l → StaysAgreed a b (own_blocks X N p l) → AgreesAfter a b (own_blocks X N p l) (own_blocks X N p (with_name name e l)))
         → Edits X N b p (allowed X N p (Ok (with_child name u es))) (Ok new)
     put-done a b folder e new es name u good keeps i j puts after =
         let l = named_entries X N p es in
@@ -161,18 +168,18 @@ module _ (X : List ℕ → List ℕ) (N : List ℕ → ℕ) (p : Profile) where
         let gives = puts l planned agrees in
         let same = list-with name u e es j.is in
         let all = all-with a b folder e es name u keeps i j in
-        let list : IsDir X N p b new (with_name name e l) = record { is = gives.1; held = tells-after a b _ _ held (after l planned agrees); planned = gives.0 } in
+        let list : IsDir X N p b new (with_name name e l) = record { is = gives.1; held = tells-after a b _ _ held (after l planned (stays-agreed a b folder es keeps i)); planned = gives.0 } in
         let stands = from-dir X N p b i.profile new (with_child name u es) (tree-with name u es good j.tree i.tree) all (subst (IsDir X N p b new) same list) in
         unless-ok b (with_child name u es) new _ stands.planned stands
 
     -- a removal of a name that is there
-    pub take-says : (a : Told) (folder : Entry) (es : Entries) (name : List ℕ) (r q : Result (Option Entry) StoreFault) → r ≡ q → IsEntry X N a p folder (Dir es)
-        → ((l : List Named) → IsPlanned X N p folder.cid l → (dir_entry X N p l).tsize ≤ 2 ^ 62 → Agrees a (own_blocks X N p l) → ReadsOver a (own_blocks X N p l) (entry_without X N p name l) r)
+    pub take-says : (a b : Told) (folder : Entry) (es : Entries) (name : List ℕ) (r q : Result (Option Entry) StoreFault) → r ≡ q → KeepsGood X a b → IsEntry X N a p folder (Dir es)
+        → ((l : List Named) → IsPlanned X N p folder.cid l → StaysAgreed a b (own_blocks X N p l) → ReadsOver a (own_blocks X N p l) (entry_without X N p name l) r)
         → Says (entry_without X N p name (named_entries X N p es)) q
-    take-says a folder es name r q is i takes =
+    take-says a b folder es name r q is keeps i takes =
         let held = own-told X N p a folder es i in
         subst (Says (entry_without X N p name (named_entries X N p es))) is
-        (reads-says a _ _ r held (takes _ (is-planned X N p a folder es i hash fits) (not-big X N p a folder es i) (tells-agrees a _ held)))
+        (reads-says a _ _ r held (takes _ (is-planned X N p a folder es i hash fits) (stays-agreed a b folder es keeps i)))
 
     there : (o : Option Tree) → o ≢ None → (t : Tree) × (o ≡ Some t)
     there None h = absurd (h refl)
@@ -191,7 +198,7 @@ module _ (X : List ℕ → List ℕ) (N : List ℕ → ℕ) (p : Profile) where
 
     pub take-done : (a b : Told) (folder new : Entry) (es : Entries) (name : List ℕ) → KeepsGood X a b → IsEntry X N a p folder (Dir es) → child name es ≢ None
         → Some new ≡ entry_without X N p name (named_entries X N p es)
-        → ((l : List Named) → IsPlanned X N p folder.cid l → (dir_entry X N p l).tsize ≤ 2 ^ 62 → Agrees a (own_blocks X N p l) → AgreesAfter a b (own_blocks X N p l) (own_blocks X N p (without name l)))
+        → ((l : List Named) → IsPlanned X N p folder.cid l → StaysAgreed a b (own_blocks X N p l) → AgreesAfter a b (own_blocks X N p l) (own_blocks X N p (without name l)))
         → Edits X N b p (allowed X N p (Ok (without_child name es))) (Ok new)
     take-done a b folder new es name keeps i h is after =
         let l = named_entries X N p es in
@@ -202,7 +209,7 @@ module _ (X : List ℕ → List ℕ) (N : List ℕ → ℕ) (p : Profile) where
         let new_is : new ≡ dir_entry X N p (without name l) = cc in
         let list : IsDir X N p b new (without name l) = record {
           is = new_is;
-          held = tells-after a b _ _ held (after l planned (not-big X N p a folder es i) (tells-agrees a _ held));
+          held = tells-after a b _ _ held (after l planned (stays-agreed a b folder es keeps i));
           planned = removed-plan X N name old.0 l hash fits planned.valid old.1 p (as-dir X N p a folder es i).planned;
         } in
         let stands = from-dir X N p b i.profile new (without_child name es) (tree-without name es i.tree) (all-without a b folder es name keeps i) (subst (IsDir X N p b new) (sym (named_entries-without X N p name es)) list) in
