@@ -25,7 +25,13 @@ use Rattle.uf_tree.specs.Roots.{IsFileRoot}
 use Rattle.uf_tree.specs.Tree.{Tree, File, Dir, Entries, pairs}
 use Rattle.uf_tree.specs.TreePlan.{entry, named_entries}
 use Rattle.uf_tree.specs.Validity.{IsHash}
+use Rattle.std.specs.declared.option.Option.{Option}
+use Rattle.uf_shard.specs.declared.fault.DirFault.{DirFault}
+use Rattle.uf_shard.specs.declared.fault.DirFault.TheVariants as dir
+use Rattle.uf_shard.specs.Answers.{Shown}
 use Rattle.uf_dir.specs.Bad.{IsBadListed}
+use Rattle.uf_dir.specs.Bad as dirs
+use Rattle.uf_dir.proofs.Causes.{shard-off, way-off}
 use Rattle.uf_dir.specs.Planned.{IsPlanned}
 use Rattle.uf_mfs.specs.declared.types.MfsFault.{MfsFault}
 use Rattle.uf_mfs.specs.declared.types.MfsFault.TheVariants as fault
@@ -33,7 +39,7 @@ use Rattle.uf_mfs.specs.declared.types.Refused.{Refused}
 use Rattle.uf_mfs.specs.declared.types.Stop.{Stop}
 use Rattle.uf_mfs.specs.declared.types.Stop.TheVariants as stop
 use Rattle.uf_mfs.specs.declared.types.Thing.TheVariants.{File as FileAt}
-use Rattle.uf_mfs.specs.Answers.{Answers, Meets, Says, Tells, rule_of}
+use Rattle.uf_mfs.specs.Answers.{Answers, Meets, Says, ShownStop, Tells, rule_of, stop_of}
 use Rattle.uf_mfs.specs.Bad.{IsBad}
 use Rattle.uf_mfs.specs.Replies.{size}
 use Rattle.uf_mfs.specs.Standing.{IsEntry, IsThing}
@@ -57,6 +63,35 @@ listed-bad N Leaf bytes bad = absurd bad
 
 pub listed-shows : (hash : List ℕ → List ℕ) (N : List ℕ → ℕ) (f : StoreFault) (a b : Seen) → Shows hash IsBadListed f a b → Shows hash (IsBad N None) f a b
 listed-shows hash N f a b h = shows-by hash IsBadListed (IsBad N None) f a b (listed-bad N) h
+
+-- a block that is bad where a name is looked up, put or taken out is bad
+way-bad : (N : List ℕ → ℕ) (h : ℕ) (profile : Option Profile) (role : Role) (bytes : List ℕ) → dirs.IsBad N h profile role bytes → IsBad N profile role bytes
+way-bad N h profile Directory bytes bad = bad
+way-bad N h profile (Shard level) bytes bad = way-off N h level bytes bad
+way-bad N h profile FileNode bytes bad = absurd bad
+way-bad N h profile Leaf bytes bad = absurd bad
+
+weighed-bad : (N : List ℕ → ℕ) (h : ℕ) (profile : Option Profile) (role : Role) (bytes : List ℕ) → dirs.IsBadWeighed N h profile role bytes → IsBad N profile role bytes
+weighed-bad N h profile Directory bytes bad = bad
+weighed-bad N h profile (Shard level) bytes (inl bad) = way-off N h level bytes bad
+weighed-bad N h profile (Shard level) bytes (inr bad) = shard-off N level bytes bad
+weighed-bad N h profile FileNode bytes bad = absurd bad
+weighed-bad N h profile Leaf bytes bad = absurd bad
+
+pub way-shows : (hash : List ℕ → List ℕ) (N : List ℕ → ℕ) (h : ℕ) (profile : Option Profile) (f : StoreFault) (a b : Seen) → Shows hash (dirs.IsBad N h profile) f a b → Shows hash (IsBad N profile) f a b
+way-shows hash N h profile f a b shows = shows-by hash (dirs.IsBad N h profile) (IsBad N profile) f a b (way-bad N h profile) shows
+
+pub weighed-shows : (hash : List ℕ → List ℕ) (N : List ℕ → ℕ) (h : ℕ) (profile : Option Profile) (f : StoreFault) (a b : Seen) → Shows hash (dirs.IsBadWeighed N h profile) f a b → Shows hash (IsBad N profile) f a b
+weighed-shows hash N h profile f a b shows = shows-by hash (dirs.IsBadWeighed N h profile) (IsBad N profile) f a b (weighed-bad N h profile) shows
+
+-- the fault of an edited directory as that of a step
+pub stop-shows : (hash : List ℕ → List ℕ) (N : List ℕ → ℕ) (h : ℕ) (profile : Option Profile) (f : DirFault) (s : Stop) (a b : Seen) → s ≡ stop_of f → Shown {A = Entry} hash (dirs.IsBad N h profile) (Err f) a b → ShownStop hash (IsBad N profile) {A = Entry} (Err s) a b
+stop-shows hash N h profile f s a b is shown = subst (λ (s : Stop). ShownStop hash (IsBad N profile) {A = Entry} (Err s) a b) (sym is) (by f shown)
+  where
+    by : (f : DirFault) → Shown {A = Entry} hash (dirs.IsBad N h profile) (Err f) a b → ShownStop hash (IsBad N profile) {A = Entry} (Err (stop_of f)) a b
+    by (dir.Collision first second) shown = shown
+    by dir.TooBig shown = shown
+    by (dir.Store g) shown = way-shows hash N h profile g a b shown
 
 -- what is listed of a folder
 pub entries-says : (X : List ℕ → List ℕ) (N : List ℕ → ℕ) → IsHash X → ((name : List ℕ) → N name < 2 ^ 64) → (told : Told) (p : Profile) (e : Entry) (es : Entries) (r q : Result (List Named) StoreFault) → r ≡ q → IsEntry X N told p e (Dir es)

@@ -1,4 +1,5 @@
 use Rattle.std.proofs.Common.{None, Some, Ok, ap, ◌∙◌}
+use Rattle.uf_mfs.proofs.Answering.{way-shows}
 use Rattle.uf_mfs.specs.Plain.{child}
 use Rattle.uf_mfs.proofs.Counting.{answers-rises, stood-back, stood-front}
 use Rattle.uf_mfs.proofs.Seeing.{find-says, member-err, member-none, member-some}
@@ -39,3 +40,6 @@ returns-in-Ok-clause-member g c = λ p es s stood.
     (λ p l i k. c.find.ensures.value p l i k front) in
     member-some X N a.told b.told p c.args.folder.now es c.args.name.now c.in-Ok-Some.entry d.told c.in-Ok.thing c.in-Ok-Some.ensures.told s is
     (λ t i. c.in-Ok.ensures.thing p t i back)
+
+pub returns-in-Err-clause-cause : goal.returns-in-Err-clause-cause
+returns-in-Err-clause-cause g c = way-shows g.S.X.BlockHash.block32 g.N.NameHash.name64 (g.N.NameHash.name64 c.args.name.now) None c.in-Err.fault _ _ c.in-Err.ensures.cause
