@@ -1,0 +1,399 @@
+-- The old parts of a file.
+use Rattle.std.proofs.Common.{◌≡◌, ◌≢◌, ℕ, zero, suc, pred, ◌+◌, ◌-◌, ◌*◌, ◌^◌, ◌<◌, ◌≤◌, List, [], ◌∷◌, ◌++◌, length, sum, map, take, drop, get_or, min, refl, ap, arith, sym, ◌∙◌, subst, append-nil, length-append, add-one, Bool, true, false, Option, None, Some, ◌⊎◌, inl, inr, Result, Ok, Err, IsTrue}
+use Rattle.std.specs.Prelude.{◌&&◌, ◌==◌, IfErr, IfOk, IfSome, nat_lt}
+use Rattle.std.specs.List.{AllByRecursion, flat_map}
+use Rattle.std.proofs.lemmas.Bool.{cases_lt}
+use Rattle.std.proofs.lemmas.Bool.Decides.{nat_tests}
+use Rattle.std.proofs.lemmas.List.{take-take, take_all}
+use Rattle.std.proofs.lemmas.Bool.{false≢true}
+use Rattle.std.proofs.lemmas.List.Sums.{sum-map}
+use Rattle.uf_cid.specs.declared.bytes.StrictFault.TheVariants.{NotCanonical, Memory as StrictMemory}
+use Rattle.uf_cid.specs.declared.cid.Codec.{Codec}
+use Rattle.uf_fileread.specs.Ranges.{IsFile}
+use Rattle.uf_fileread.proofs.Sending.{root-agrees}
+use Rattle.uf_store.specs.declared.store.Role.{Role}
+use Rattle.uf_store.specs.declared.store.Role.TheVariants.{FileNode as FileRole, Leaf}
+use Rattle.uf_tree.specs.declared.nodes.Entry.{Entry}
+use Rattle.uf_tree.specs.Nodes.{file_block}
+use Rattle.uf_tree.specs.Roles.{Below, FilePlace, IsCanonicalFileNode, IsCanonicalLeaf, Root, WithSome}
+use Rattle.uf_tree.specs.Roots.{root_over}
+use Rattle.uf_fileedit.specs.Bad.{IsBadEdited}
+use Rattle.uf_cid.specs.Blocks.{Held}
+use Rattle.uf_cid.specs.declared.cid.Cid.{Cid}
+use Rattle.uf_cid.specs.declared.cid.Codec.TheVariants.{Raw, DagPb}
+use Rattle.uf_fileread.specs.Parts.{AreParts, parts_block}
+use Rattle.uf_fileread.proofs.Nodes.{node-parts, same_parts, zipped}
+use Rattle.uf_fileread.proofs.Sending.{the_block}
+use Rattle.uf_edge.specs.Counts.{Stood}
+use Rattle.uf_store.specs.declared.store.StoreFault.{StoreFault}
+use Rattle.uf_store.specs.declared.store.StoreFault.TheVariants.{Failed, Damaged, Missing, BadBlock, Clash, Memory}
+use Rattle.uf_store.specs.Clashes.{IsLoadFault}
+use Rattle.uf_store.specs.Contents.{Contents, Told, held_at}
+use Rattle.uf_store.specs.Faults.{NoneIsBad, Shows, ShowsBadBlock, StaysCalm}
+use Rattle.uf_store.specs.Keeping.{Agrees, Holds, HoldsOne}
+use Rattle.uf_store.specs.Lost.{IsLossOf, LosesOne}
+use Rattle.uf_store.specs.Seen.{Finds, Seen}
+use Rattle.uf_tree.specs.declared.nodes.Part.{Part}
+use Rattle.uf_tree.specs.declared.profile.Profile.{Profile}
+use Rattle.uf_tree.specs.Cutting.{joined}
+use Rattle.uf_tree.specs.FilePlan.{file_plan, groups, leaf_held, node_held, node_over, split_from}
+use Rattle.uf_tree.specs.FileSub.{IsHeight, blocks_over, part_over, span}
+use Rattle.uf_tree.specs.Profiles.{is_profile}
+use Rattle.uf_tree.specs.Validity.{IsFileNode, IsHash}
+use Rattle.uf_tree.proofs.Groups.{joined-split}
+use Rattle.uf_tree.proofs.Sub.{span-pos}
+use Rattle.uf_tree.proofs.Told.{kept}
+use Rattle.uf_tree.proofs.Valid.{file_node-valid, sub-size, sum_sizes}
+use Rattle.uf_fileedit.specs.Changes.{AreCut, AreOld, FitsOld, IsBelow, IsFrontPart, IsIn, IsOld, IsOldPart, blocks_of_all, old_blocks}
+use Rattle.uf_fileedit.specs.Planned.{IsNodeOver, IsPlannedNode, IsSize, SaysFileSize, are_planned, is_of_height, role_at}
+use Rattle.uf_fileedit.proofs.Kept.{agrees-among, in-back, in-either, in-front, loss-among}
+use Rattle.uf_fileedit.proofs.Numbers.{span-rises}
+
+-- a load that fails while the store stays calm has lost one of the blocks
+pub missing_one : (told : Told) (b : Held) (l : List Held) (cid : Cid) → cid ≡ b.0 → IfSome told (λ t. held_at t cid ≡ None) → LosesOne told cid (b ∷ l)
+missing_one None b l cid is none = tt
+missing_one (Some t) b l cid is none = inl (is, ap (held_at t) (sym is) ∙ none)
+
+pub need_lost : (X : List ℕ → List ℕ) (before now : Seen) (b : Held) (l : List Held) (cid : Cid) (fault : StoreFault) → cid ≡ b.0 → Shows X NoneIsBad fault before now → IsLoadFault cid fault → now.told ≡ before.told → Stood before.faults now.faults
+    → IsLossOf before.told (b ∷ l) fault
+need_lost X before now b l cid Failed is shows load same stood = let r = shows.rose in omega (arith, r, stood)
+need_lost X before now b l cid (Damaged c) is shows load same stood = let r = shows.rose in omega (arith, r, stood)
+need_lost X before now b l cid (Missing c) is shows load same stood =
+    missing_one before.told b l c (load ∙ is) (subst (λ (t : Told). IfSome t (λ t. held_at t c ≡ None)) same shows.not_held)
+need_lost X before now b l cid (BadBlock c role) is shows load same stood = load
+need_lost X before now b l cid (Clash c x y) is shows load same stood = load
+need_lost X before now b l cid Memory is shows load same stood = tt
+
+-- ---- groups
+
+-- a split whose first group has room for r
+abbrev AreSplit : ℕ → ℕ → List ℕ → List (List ℕ) → Type 0
+AreSplit s r a [] = length a ≤ r
+AreSplit s r a (g ∷ gs) = (length a ≡ r) × AreCut s (g ∷ gs) × AllByRecursion (λ (h : List ℕ). 1 ≤ length h) (g ∷ gs)
+
+more_split : (s r x : ℕ) (a : List ℕ) (gs : List (List ℕ)) → AreSplit s r a gs → AreSplit s (suc r) (x ∷ a) gs
+more_split s r x a [] h = omega arith
+more_split s r x a (g ∷ gs) h = (ap suc h.0, h.1, h.2)
+
+new_group : (s x : ℕ) (a : List ℕ) (gs : List (List ℕ)) → 1 ≤ s → AreSplit s (pred s) a gs → AreCut s ((x ∷ a) ∷ gs) × AllByRecursion (λ (h : List ℕ). 1 ≤ length h) ((x ∷ a) ∷ gs)
+new_group s x a [] pos h = (omega arith, (omega arith, tt))
+new_group s x a (g ∷ gs) pos h = ((omega (arith, h.0), h.1), (omega arith, h.2))
+
+split_are : (s r : ℕ) (b : List ℕ) → 1 ≤ s → r ≤ s → AreSplit s r (split_from s r b).0 (split_from s r b).1
+split_are s r [] pos h = omega arith
+split_are s zero (x ∷ b) pos h = let n = new_group s x _ _ pos (split_are s (pred s) b pos (omega arith)) in (refl, n.0, n.1)
+split_are s (suc r) (x ∷ b) pos h = more_split s r x _ _ (split_are s r b pos (omega arith))
+
+cut_split : (s : ℕ) (a : List ℕ) (gs : List (List ℕ)) → AreSplit s s a gs → AreCut s (a ∷ gs)
+cut_split s a [] h = h
+cut_split s a (g ∷ gs) h = (h.0, h.1)
+
+pub groups-cut : (s : ℕ) (b : List ℕ) → 1 ≤ s → AreCut s (groups s b)
+groups-cut s b pos = cut_split s (split_from s s b).0 (split_from s s b).1 (split_are s s b pos (omega arith))
+
+some_split : (s : ℕ) (b a : List ℕ) (gs : List (List ℕ)) → 1 ≤ s → 1 ≤ length b → a ++ joined gs ≡ b → AreSplit s s a gs → AllByRecursion (λ (h : List ℕ). 1 ≤ length h) (a ∷ gs)
+some_split s b a [] pos some whole h = (omega (arith, ap length whole, length-append a []), tt)
+some_split s b a (g ∷ gs) pos some whole h = (omega (arith, h.0), h.2)
+
+pub groups-some : (s : ℕ) (b : List ℕ) → 1 ≤ s → 1 ≤ length b → AllByRecursion (λ (h : List ℕ). 1 ≤ length h) (groups s b)
+groups-some s b pos some = some_split s b (split_from s s b).0 (split_from s s b).1 pos some (joined-split s s b) (split_are s s b pos (omega arith))
+
+-- each group is bytes that a part may have
+each_fits : (p : Profile) (k : ℕ) (gs : List (List ℕ)) → AreCut (span p.chunk p.width k) gs → AllByRecursion (λ (h : List ℕ). 1 ≤ length h) gs → length (joined gs) < 2 ^ 63 → AllByRecursion (FitsOld p k) gs
+each_fits p k [] cut some small = tt
+each_fits p k (g ∷ []) cut some small = (record { few = cut; small = omega (arith, length-append g []); some = λ h. some.0 }, tt)
+each_fits p k (g ∷ h ∷ gs) cut some small =
+    let all : length (g ++ joined (h ∷ gs)) ≡ length g + length (joined (h ∷ gs)) = length-append g (joined (h ∷ gs)) in
+    (record { few = omega (arith, cut.0); small = omega arith; some = λ _. some.0 }, each_fits p k (h ∷ gs) cut.1 some.1 (omega arith))
+
+pub groups-fit : (p : Profile) (k : ℕ) (b : List ℕ) → IsTrue (is_profile p) → 1 ≤ length b → length b < 2 ^ 63 → AllByRecursion (FitsOld p k) (groups (span p.chunk p.width k) b)
+groups-fit p k b ok some small =
+    let pos : 1 ≤ span p.chunk p.width k = span-pos p.chunk p.width k (kept p ok).some (let two : 2 ≤ p.width = (kept p ok).two in omega arith) in
+    each_fits p k (groups (span p.chunk p.width k) b) (groups-cut (span p.chunk p.width k) b pos) (groups-some (span p.chunk p.width k) b pos some)
+    (subst (λ (l : List ℕ). length l < 2 ^ 63) (sym (joined-split (span p.chunk p.width k) (span p.chunk p.width k) b)) small)
+
+-- ---- the parts of a planned node
+
+codec_of : (X : List ℕ → List ℕ) (c w k : ℕ) (g : List ℕ) → is_of_height k (part_over X c w k g).entry.cid.codec ≡ true
+unfolding part_over
+codec_of X c w zero g = refl
+codec_of X c w (suc k) g = refl
+
+both : (a b c d : Bool) → a ≡ true → b ≡ true → c ≡ true → d ≡ true → (a && b && c && d) ≡ true
+both a b c d p q r s = ap (λ x. x && b && c && d) p ∙ ap (λ x. true && x && c && d) q ∙ ap (λ x. true && true && x && d) r ∙ s
+
+some_test : (n : ℕ) → 1 ≤ n → nat_lt 0 n ≡ true
+some_test n h = grind (arith, nat_tests)
+
+same_test : (a b : ℕ) → a ≡ b → (a == b) ≡ true
+same_test a b h = grind (arith, nat_tests)
+
+module _ (X : List ℕ → List ℕ) (good : IsHash X) (p : Profile) (ok : IsTrue (is_profile p)) where
+  wide : 1 ≤ p.width
+  wide = let two : 2 ≤ p.width = (kept p ok).two in omega arith
+
+  pub pos : (k : ℕ) → 1 ≤ span p.chunk p.width k
+  pos k = span-pos p.chunk p.width k (kept p ok).some wide
+
+  planned-are : (k : ℕ) (gs : List (List ℕ)) → AreCut (span p.chunk p.width k) gs → AllByRecursion (λ (h : List ℕ). 1 ≤ length h) gs
+      → are_planned (span p.chunk p.width k) k (length (joined gs)) (map (part_over X p.chunk p.width k) gs) ≡ true
+  planned-are k [] cut some = refl
+  planned-are k (g ∷ gs) cut some =
+      let s = span p.chunk p.width k in
+      let size : (part_over X p.chunk p.width k g).size ≡ length g = sub-size X good p ok k g in
+      let all : length (g ++ joined gs) ≡ length g + length (joined gs) = length-append g (joined gs) in
+      let left : length (g ++ joined gs) - (part_over X p.chunk p.width k g).size ≡ length (joined gs) = omega arith in
+      let here : length g ≡ min (length (g ++ joined gs)) s = one s g gs cut in
+      both _ _ _ _ (some_test (part_over X p.chunk p.width k g).size (omega (arith, some.0)))
+      (same_test (part_over X p.chunk p.width k g).size (min (length (g ++ joined gs)) s) (size ∙ here))
+      (codec_of X p.chunk p.width k g)
+      (ap (λ n. are_planned s k n (map (part_over X p.chunk p.width k) gs)) left ∙ planned-are k gs (behind s g gs cut) some.1)
+    where
+      one : (s : ℕ) (g : List ℕ) (gs : List (List ℕ)) → AreCut s (g ∷ gs) → length g ≡ min (length (g ++ joined gs)) s
+      one s g [] h = omega (arith, length-append g [])
+      one s g (x ∷ gs) h = omega (arith, length-append g (joined (x ∷ gs)), h.0)
+
+      behind : (s : ℕ) (g : List ℕ) (gs : List (List ℕ)) → AreCut s (g ∷ gs) → AreCut s gs
+      behind s g [] h = tt
+      behind s g (x ∷ gs) h = h.1
+
+  abbrev at_parts : ℕ → List ℕ → List Part
+  at_parts k b = map (part_over X p.chunk p.width k) (groups (span p.chunk p.width k) b)
+
+  module _ (k : ℕ) (part : Part) (b : List ℕ) (is : IsOldPart X p (suc k) part b) where
+    own : Held
+    own = node_held X (at_parts k b)
+
+    some_bytes : 1 ≤ length b
+    some_bytes = is.fits.some (omega arith)
+
+    size_is : part.size ≡ length b
+    size_is = ap (λ (m : Part). m.size) is.same ∙ sub-size X good p ok (suc k) b
+
+    planned : IsPlannedNode p k part.size (at_parts k b)
+    planned = record {
+      valid = file_node-valid X good p ok k b is.fits.few is.fits.small;
+      planned = ap (λ n. are_planned (span p.chunk p.width k) k n (at_parts k b)) (size_is ∙ sym (ap length (joined-split (span p.chunk p.width k) (span p.chunk p.width k) b)))
+          ∙ planned-are k (groups (span p.chunk p.width k) b) (groups-cut (span p.chunk p.width k) b (pos k)) (groups-some (span p.chunk p.width k) b (pos k) some_bytes);
+    }
+
+    cid_is : part.entry.cid ≡ (node_held X (at_parts k b)).0
+    unfolding part_over
+    cid_is = ap (λ (m : Part). m.entry.cid) is.same
+
+    pub below-in : (x : Held) → IsIn x (blocks_of_all X p k (groups (span p.chunk p.width k) b)) → IsIn x (blocks_over X p.chunk p.width (suc k) b)
+    unfolding blocks_over
+    below-in x h = inr h
+
+    agrees_own : (told : Told) → Agrees told (blocks_over X p.chunk p.width (suc k) b) → Agrees told (node_held X (at_parts k b) ∷ blocks_of_all X p k (groups (span p.chunk p.width k) b))
+    unfolding blocks_over
+    agrees_own told h = h
+
+    lost_own : (told : Told) (fault : StoreFault) → IsLossOf told (node_held X (at_parts k b) ∷ blocks_of_all X p k (groups (span p.chunk p.width k) b)) fault → IsLossOf told (blocks_over X p.chunk p.width (suc k) b) fault
+    unfolding blocks_over
+    lost_own told fault h = h
+
+    pub are-old : AreOld X p (span p.chunk p.width k) k (at_parts k b) (groups (span p.chunk p.width k) b)
+    are-old = record {
+      same = refl;
+      fits = groups-fit p k b ok some_bytes is.fits.small;
+      cut = groups-cut (span p.chunk p.width k) b (pos k);
+    }
+
+    pub loaded : (told : Told) (lent : List ℕ) (parts : List Part) → Agrees told (blocks_over X p.chunk p.width (suc k) b) → IfSome told (λ t. held_at t part.entry.cid ≡ Some lent) → IsPlannedNode p k part.size parts → lent ≡ parts_block parts
+        → AreOld X p (span p.chunk p.width k) k parts (groups (span p.chunk p.width k) b)
+    loaded told lent parts agrees held read is_block =
+        let block = the_block told (node_held X (at_parts k b)) (blocks_of_all X p k (groups (span p.chunk p.width k) b)) part.entry.cid lent cid_is (agrees_own told agrees) held in
+        let same : parts ≡ at_parts k b = same_parts parts (at_parts k b) read.valid planned.valid (sym is_block ∙ block.0) in
+        subst (λ (l : List Part). AreOld X p (span p.chunk p.width k) k l (groups (span p.chunk p.width k) b)) (sym same) are-old
+
+    pub no_bad : (told : Told) (lent : List ℕ) → Agrees told (blocks_over X p.chunk p.width (suc k) b) → IfSome told (λ t. held_at t part.entry.cid ≡ Some lent) → ((parts : List Part) → IsPlannedNode p k part.size parts → lent ≢ parts_block parts) → ⊥
+    no_bad told lent agrees held none = none (at_parts k b) planned (the_block told (node_held X (at_parts k b)) (blocks_of_all X p k (groups (span p.chunk p.width k) b)) part.entry.cid lent cid_is (agrees_own told agrees) held).0
+
+    pub need-lost : (before now : Seen) (fault : StoreFault) → Shows X NoneIsBad fault before now → IsLoadFault part.entry.cid fault → now.told ≡ before.told → Stood before.faults now.faults → IsLossOf before.told (blocks_over X p.chunk p.width (suc k) b) fault
+    need-lost before now fault shows load same stood = lost_own before.told fault (need_lost X before now (node_held X (at_parts k b)) (blocks_of_all X p k (groups (span p.chunk p.width k) b)) part.entry.cid fault cid_is shows load same stood)
+
+-- a node that isn't as the layout has it
+pub planned-elsewhere : (p : Profile) (k size : ℕ) (bytes : List ℕ) (parts slice : List Part) (b : Bool) → AreParts parts × (bytes ≡ parts_block parts) → slice ≡ parts → b ≡ are_planned (span p.chunk p.width k) k size slice → b ≡ false
+    → (NotCanonical ≡ StrictMemory) ⊎ ((v : List Part) → IsPlannedNode p k size v → bytes ≢ parts_block v)
+planned-elsewhere p k size bytes parts slice b read same is fails =
+    inr (λ v h e. false≢true (sym fails ∙ is ∙ ap (are_planned (span p.chunk p.width k) k size) (same ∙ same_parts parts v read.0 h.valid (sym read.1 ∙ e)) ∙ h.planned))
+
+-- ---- the parts below an old part
+
+module _ (X : List ℕ → List ℕ) (good : IsHash X) (p : Profile) (ok : IsTrue (is_profile p)) where
+  module _ (k : ℕ) (part : Part) (b : List ℕ) (is : IsOldPart X p (k + 1) part b) where
+    at_suc : IsOldPart X p (suc k) part b
+    at_suc = subst (λ n. IsOldPart X p n part b) (add-one k) is
+
+    agrees_suc : (told : Told) → Agrees told (blocks_over X p.chunk p.width (k + 1) b) → Agrees told (blocks_over X p.chunk p.width (suc k) b)
+    agrees_suc told h = subst (λ n. Agrees told (blocks_over X p.chunk p.width n b)) (add-one k) h
+
+    pub load-gives : (told : Told) (lent : List ℕ) (parts : List Part) → Agrees told (blocks_over X p.chunk p.width (k + 1) b) → IfSome told (λ t. held_at t part.entry.cid ≡ Some lent) → IsPlannedNode p k part.size parts × (lent ≡ parts_block parts)
+        → AreOld X p (span p.chunk p.width k) k parts (groups (span p.chunk p.width k) b)
+    load-gives told lent parts agrees held read = loaded X good p ok k part b at_suc told lent parts (agrees_suc told agrees) held read.0 read.1
+
+    pub load-no_bad : (told : Told) (lent : List ℕ) → Agrees told (blocks_over X p.chunk p.width (k + 1) b) → IfSome told (λ t. held_at t part.entry.cid ≡ Some lent)
+        → (NotCanonical ≡ StrictMemory) ⊎ ((parts : List Part) → IsPlannedNode p k part.size parts → lent ≢ parts_block parts) → ⊥
+    load-no_bad told lent agrees held (inl e) = absurd (differ e)
+      where
+        differ : NotCanonical ≡ StrictMemory → ⊥
+        differ e = cc
+    load-no_bad told lent agrees held (inr none) = no_bad X good p ok k part b at_suc told lent (agrees_suc told agrees) held none
+
+    pub load-lost : (before now : Seen) (fault : StoreFault) → Shows X NoneIsBad fault before now → IsLoadFault part.entry.cid fault → now.told ≡ before.told → Stood before.faults now.faults → IsLossOf before.told (blocks_over X p.chunk p.width (k + 1) b) fault
+    load-lost before now fault shows load same stood = subst (λ n. IsLossOf before.told (blocks_over X p.chunk p.width n b) fault) (sym (add-one k)) (need-lost X good p ok k part b at_suc before now fault shows load same stood)
+
+    pub in-suc : (x : Held) → IsIn x (blocks_of_all X p k (groups (span p.chunk p.width k) b)) → IsIn x (blocks_over X p.chunk p.width (k + 1) b)
+    in-suc x h = subst (λ n. IsIn x (blocks_over X p.chunk p.width n b)) (sym (add-one k)) (below-in X good p ok k part b at_suc x h)
+
+  module _ (told : Told) (top k : ℕ) (old : Option Part) (part : Part) (b : List ℕ) (some : old ≡ Some part) where
+    part_at : (j : ℕ) → min top (k + 1) ≡ j → IsOld X p (min top (k + 1)) old b → IsOldPart X p j part b
+    part_at j e is = subst (λ n. IsOldPart X p n part b) e (subst (λ (o : Option Part). IsOld X p (min top (k + 1)) o b) some is)
+
+    blocks_at : (j : ℕ) → min top (k + 1) ≡ j → old_blocks X p (min top (k + 1)) old b ≡ blocks_over X p.chunk p.width j b
+    blocks_at j e = ap (λ (o : Option Part). old_blocks X p (min top (k + 1)) o b) some ∙ ap (λ n. blocks_over X p.chunk p.width n b) e
+
+    pub below-loaded : (r : Result (List Part) StoreFault) → k < top
+        → ((b : List ℕ) → IsOldPart X p (k + 1) part b → Agrees told (blocks_over X p.chunk p.width (k + 1) b) → IfOk r (λ parts. AreOld X p (span p.chunk p.width k) k parts (groups (span p.chunk p.width k) b)))
+        → IsOld X p (min top (k + 1)) old b → Agrees told (old_blocks X p (min top (k + 1)) old b)
+        → IfOk r (λ parts. IsBelow X p top k (old_blocks X p (min top (k + 1)) old b) parts b)
+    below-loaded (Ok parts) low load is agrees =
+        let high : min top (k + 1) ≡ k + 1 = omega arith in
+        let here : k ≡ min top k = omega arith in
+        let part_is = part_at (k + 1) high is in
+        let are = load b part_is (subst (Agrees told) (blocks_at (k + 1) high) agrees) in
+        record {
+          gs = groups (span p.chunk p.width k) b;
+          are = subst (λ n. AreOld X p (span p.chunk p.width k) n parts (groups (span p.chunk p.width k) b)) here are;
+          whole = joined-split (span p.chunk p.width k) (span p.chunk p.width k) b;
+          among = λ x h. subst (IsIn x) (sym (blocks_at (k + 1) high)) (in-suc k part b part_is x (subst (λ n. IsIn x (blocks_of_all X p n (groups (span p.chunk p.width k) b))) (sym here) h));
+        }
+    below-loaded (Err fault) low load is agrees = tt
+
+    pub below-just : (parts : List Part) → top ≤ k → parts ≡ part ∷ [] → IsOld X p (min top (k + 1)) old b → IsBelow X p top k (old_blocks X p (min top (k + 1)) old b) parts b
+    below-just parts high one is =
+        let up : min top (k + 1) ≡ top = omega arith in
+        let here : top ≡ min top k = omega arith in
+        let part_is = part_at top up is in
+        let wide : 1 ≤ p.width = (let two : 2 ≤ p.width = (kept p ok).two in omega arith) in
+        let rises : span p.chunk p.width top ≤ span p.chunk p.width k = span-rises p.chunk p.width top k wide high in
+        record {
+          gs = b ∷ [];
+          are = subst (λ n. AreOld X p (span p.chunk p.width k) n parts (b ∷ [])) here (record { same = one ∙ ap (λ (m : Part). m ∷ []) part_is.same; fits = (part_is.fits, tt); cut = omega (arith, part_is.fits.few) });
+          whole = append-nil b;
+          among = λ x h. subst (IsIn x) (append-nil (blocks_over X p.chunk p.width top b) ∙ sym (blocks_at top up)) (subst (λ n. IsIn x (blocks_of_all X p n (b ∷ []))) (sym here) h);
+        }
+
+-- ---- the root
+
+module _ (X : List ℕ → List ℕ) (good : IsHash X) (p : Profile) (b : List ℕ) (cid : Cid) where
+  abbrev behind_root : ℕ → List Held
+  behind_root zero = []
+  behind_root (suc k) = flat_map (blocks_over X p.chunk p.width k) (groups (span p.chunk p.width k) b)
+
+  root_first : (height : ℕ) → blocks_over X p.chunk p.width height b ≡ root_over X p.chunk p.width height b ∷ behind_root height
+  unfolding blocks_over
+  root_first zero = refl
+  root_first (suc k) = refl
+
+  root_under : (height : ℕ) → (part_over X p.chunk p.width height b).entry.cid ≡ (root_over X p.chunk p.width height b).0
+  unfolding part_over
+  root_under zero = refl
+  root_under (suc k) = refl
+
+  module _ (height : ℕ) (is : IsFile X p b cid height) where
+    root_cid : cid ≡ (root_over X p.chunk p.width height b).0
+    root_cid = is.cid_is ∙ ap (λ (e : Entry). e.cid) is.rooted.entry ∙ root_under height
+
+    root_agrees : (told : Told) → Agrees told (file_plan X p b).blocks → Agrees told (root_over X p.chunk p.width height b ∷ behind_root height)
+    root_agrees told h = subst (Agrees told) (root_first height) (root-agrees X good p cid b height told is h)
+
+    small : length b < 2 ^ 63
+    small = few_bytes p.chunk (length b) is.few (kept p is.profile).short
+      where
+        few_bytes : (c n : ℕ) → n ≤ c * 4194304 → c ≤ 1048576 → n < 2 ^ 63
+        few_bytes c n a b = omega arith
+
+    valid : (k : ℕ) → IsHeight p.chunk p.width (length b) (suc k) → AreParts (map (part_over X p.chunk p.width k) (groups (span p.chunk p.width k) b))
+    valid k height = file_node-valid X good p is.profile k b height.fits small
+
+    total : (k : ℕ) → sum (node_over (map (part_over X p.chunk p.width k) (groups (span p.chunk p.width k) b))).sizes ≡ length b
+    total k = sum-map (λ (m : Part). m.size) (map (part_over X p.chunk p.width k) (groups (span p.chunk p.width k) b)) ∙ sum_sizes X good p is.profile (groups (span p.chunk p.width k) b) (part_over X p.chunk p.width k) (sub-size X good p is.profile k)
+        ∙ ap length (joined-split (span p.chunk p.width k) (span p.chunk p.width k) b)
+
+    size_at : (h : ℕ) (lent : List ℕ) (size : ℕ) → IsHeight p.chunk p.width (length b) h → lent ≡ (root_over X p.chunk p.width h b).1 → IsSize p (root_over X p.chunk p.width h b).0.codec lent size → size ≡ length b
+    size_at zero lent size height e says = says.0 ∙ ap length e
+    size_at (suc k) lent size height e says =
+        says.total ∙ ap (λ (l : List Part). sum (node_over l).sizes) (same_parts says.parts (map (part_over X p.chunk p.width k) (groups (span p.chunk p.width k) b)) says.valid (valid k height) (sym says.is ∙ e)) ∙ total k
+
+    has_size : (h : ℕ) (lent : List ℕ) → IsHeight p.chunk p.width (length b) h → lent ≡ (root_over X p.chunk p.width h b).1 → IsSize p (root_over X p.chunk p.width h b).0.codec lent (length b)
+    unfolding span
+    has_size zero lent height e = (sym (ap length e), omega (arith, ap length e, height.fits))
+    has_size (suc k) lent height e = record {
+      parts = map (part_over X p.chunk p.width k) (groups (span p.chunk p.width k) b);
+      valid = valid k height;
+      is = e;
+      total = sym (total k);
+      many = height.least 0 (omega arith);
+    }
+
+    found_root : (told : Told) (lent : List ℕ) → Agrees told (file_plan X p b).blocks → IfSome told (λ t. held_at t cid ≡ Some lent) → lent ≡ (root_over X p.chunk p.width height b).1
+    found_root told lent agrees held = (the_block told (root_over X p.chunk p.width height b) (behind_root height) cid lent root_cid (root_agrees told agrees) held).0
+
+    pub root-size : (told : Told) (lent : List ℕ) (size : ℕ) → Agrees told (file_plan X p b).blocks → IfSome told (λ t. held_at t cid ≡ Some lent) → IsSize p cid.codec lent size → size ≡ length b
+    root-size told lent size agrees held says = size_at height lent size is.rooted.least (found_root told lent agrees held) (subst (λ (c : Cid). IsSize p c.codec lent size) root_cid says)
+
+    pub root-no_bad : (told : Told) (lent : List ℕ) → Agrees told (file_plan X p b).blocks → IfSome told (λ t. held_at t cid ≡ Some lent) → ((size : ℕ) → IsSize p cid.codec lent size → ⊥) → ⊥
+    root-no_bad told lent agrees held none = none (length b) (subst (λ (c : Cid). IsSize p c.codec lent (length b)) (sym root_cid) (has_size height lent is.rooted.least (found_root told lent agrees held)))
+
+    pub root-lost : (before now : Seen) (fault : StoreFault) → Shows X NoneIsBad fault before now → IsLoadFault cid fault → now.told ≡ before.told → Stood before.faults now.faults → IsLossOf before.told (blocks_over X p.chunk p.width height b) fault
+    root-lost before now fault shows load same stood =
+        subst (λ (l : List Held). IsLossOf before.told l fault) (sym (root_first height)) (need_lost X before now (root_over X p.chunk p.width height b) (behind_root height) cid fault root_cid shows load same stood)
+
+-- ---- bad blocks
+
+bad_root : (p : Profile) (codec : Codec) (lent : List ℕ) → ((size : ℕ) → IsSize p codec lent size → ⊥) → IsBadEdited p (role_at codec) lent
+unfolding span
+bad_root p Raw lent none = (None, λ canonical. none (length lent) (refl, canonical.short))
+bad_root p DagPb lent none = (
+  Root,
+  λ canonical.
+      let same = node-parts canonical.node canonical.valid in
+      none (sum canonical.node.sizes) (record {
+        parts = zipped canonical.node.parts canonical.node.sizes;
+        valid = subst IsFileNode (sym same) canonical.valid;
+        is = canonical.is ∙ ap file_block (sym same);
+        total = ap (λ m. sum m.sizes) (sym same);
+        many = canonical.planned.height.least 0 (omega arith);
+      }),
+)
+
+pub root-bad : (hash : List ℕ → List ℕ) (p : Profile) (cid : Cid) (role : Role) (lent : List ℕ) (before now : Seen) → role ≡ role_at cid.codec → Finds hash cid before now → StaysCalm before now → lent ≡ now.lent
+    → ((size : ℕ) → IsSize p cid.codec lent size → ⊥) → ShowsBadBlock hash (IsBadEdited p) cid role before now
+root-bad hash p cid role lent before now is found calm same none = record {
+  rose = found.counted.finds.rose refl;
+  digest = found.digest;
+  is_held = subst (λ (t : Told). HoldsOne t cid now.lent) (sym found.same_told) found.is_held;
+  bad = subst (λ (r : Role). IsBadEdited p r now.lent) (sym is) (subst (IsBadEdited p (role_at cid.codec)) same (bad_root p cid.codec lent none));
+  calm = calm;
+}
+
+pub load-bad : (hash : List ℕ → List ℕ) (p : Profile) (cid : Cid) (before now : Seen) → Finds hash cid before now → StaysCalm before now → ShowsBadBlock hash (IsBadEdited p) cid FileRole before now
+load-bad hash p cid before now found calm = record {
+  rose = found.counted.finds.rose refl;
+  digest = found.digest;
+  is_held = subst (λ (t : Told). HoldsOne t cid now.lent) (sym found.same_told) found.is_held;
+  bad = (Below 22 0 0, λ canonical. (let few : 22 < 22 = canonical.few in absurd (omega arith)));
+  calm = calm;
+}
+
+pub not_many : (p : Profile) (codec : Codec) (bytes : List ℕ) (parts slice : List Part) (size sum_is chunk : ℕ) → codec ≡ DagPb → IsSize p codec bytes size → AreParts parts × (bytes ≡ parts_block parts) → slice ≡ parts → sum_is ≡ sum (node_over slice).sizes
+    → sum_is ≤ chunk → chunk ≡ p.chunk → ⊥
+not_many p Raw bytes parts slice size sum_is chunk is says read same total few chunk_is = absurd (let no : Raw ≡ DagPb = is in cc)
+not_many p DagPb bytes parts slice size sum_is chunk is says read same total few chunk_is =
+    let one : parts ≡ says.parts = same_parts parts says.parts read.0 says.valid (sym read.1 ∙ says.is) in
+    let same_sum : sum_is ≡ sum (node_over says.parts).sizes = total ∙ ap (λ (l : List Part). sum (node_over l).sizes) (same ∙ one) in
+    let many : p.chunk < size = says.many in
+    let total_is : size ≡ sum (node_over says.parts).sizes = says.total in
+    omega arith

@@ -1,0 +1,20 @@
+use Rattle.std.proofs.Common.{◌∙◌, sym, subst}
+use Rattle.uf_store.specs.Contents.{Told}
+use Rattle.uf_store.specs.Keeping.{Agrees}
+use Rattle.uf_fileedit.specs.Bad.{IsBadEdited}
+use Rattle.uf_fileedit.specs.Changes.{overlaid, old_blocks}
+use Rattle.uf_fileedit.proofs.Steps.{leaf-saved, saved-lost, saved-shows}
+use Rattle.uf_fileedit.proofs.leaves.change_leaf.Goals as goal
+
+pub returns-clause-gives : goal.returns-clause-gives
+returns-clause-gives g c = λ p b is before now.
+    leaf-saved g.S.X.BlockHash.block32 p (g.S.Store.seen c.save_leaf.new.store).told (old_blocks g.S.X.BlockHash.block32 p 0 c.args.old b) c.as_slice.result.now (overlaid c.args.size b c.args.offset c.args.piece.now) c.save_leaf.result
+    c.save_leaf.ensures.part c.save_leaf.ensures.held
+    (c.as_slice.ensures.value ∙ c.in-Ok.ensures.bytes p b is before (subst (λ (t : Told). Agrees t (old_blocks g.S.X.BlockHash.block32 p 0 c.args.old b)) (sym c.in-Ok.ensures.told) before))
+
+pub returns-clause-lost : goal.returns-clause-lost
+returns-clause-lost g c = λ p b is before now stood clash.
+    saved-lost g.S.X.BlockHash.block32 (g.S.Store.seen c.args.store.now) (g.S.Store.seen c.leaf_bytes.new.store) (g.S.Store.seen c.save_leaf.new.store) (c.in-Ok.ensures.cause p) (old_blocks g.S.X.BlockHash.block32 p 0 c.args.old b) c.save_leaf.result c.save_leaf.ensures.cause c.save_leaf.ensures.fault stood clash
+
+pub returns-clause-cause : goal.returns-clause-cause
+returns-clause-cause g c = λ p. saved-shows g.S.X.BlockHash.block32 (g.S.Store.seen c.args.store.now) (g.S.Store.seen c.leaf_bytes.new.store) (g.S.Store.seen c.save_leaf.new.store) (c.in-Ok.ensures.cause p) (IsBadEdited p) c.save_leaf.result c.save_leaf.ensures.cause

@@ -1,0 +1,187 @@
+// Files written into and cut.
+ghost use Rattle.std.specs.Prelude.{◌≡◌, ◌+◌, ◌<◌, ◌≤◌, ◌^◌, ◌*◌, ◌&&◌, ℕ, List, [], length, nat_lt, IfErr, IfOk, IfSome, IsTrue, OnOk, Ok};
+ghost use Rattle.uf_edge.specs.Counts.{Stood};
+ghost use Rattle.uf_fileread.specs.Ranges.{IsFile};
+ghost use Rattle.uf_store.specs.Faults.{Answers};
+ghost use Rattle.uf_store.specs.Keeping.{Agrees, Holds, KeepsGood, StaysAgreed};
+ghost use Rattle.uf_store.specs.Writing.{SavesOnly};
+ghost use Rattle.uf_store.specs.Lost.{AgreesAfter, IsLossOf};
+ghost use Rattle.uf_tree.specs.FilePlan.{file_plan};
+ghost use Rattle.uf_tree.specs.Profiles.{is_profile, most_bytes};
+ghost use Rattle.uf_fileedit.specs.Answers.{EditsOver, RefusesTooLong, ShownEdit};
+ghost use Rattle.uf_fileedit.specs.Bad.{IsBadEdited};
+ghost use Rattle.uf_fileedit.specs.Changes.{GivesFile, LiesWithin, overlaid, size_after as after_size};
+ghost use Rattle.uf_fileedit.specs.Edits.{cut_to, laid};
+
+use crate::changing::{change, front_of};
+use crate::layout::height_of;
+use crate::nodes::root_of;
+use std::alloc::Global;
+use std::sync::ledger::Ledger;
+use uf_build::BuildFault;
+use uf_store::{Steps, Store, StoreFault};
+use uf_tree::{Entry, Profile};
+
+// How many pieces a file may have.
+const MOST_PIECES: u64 = 4194304;
+
+/// Lays a piece over the bytes of a file from `offset` on, and answers the entry of the new file. Zeros stand between the
+/// end of the old bytes and an offset behind it. With an empty piece the entry is as it was, and nothing is saved.
+pub fn write_at<S: Store, L: Ledger>(
+    alloc: Global,
+    store: &mut S,
+    p: &Profile,
+    entry: &Entry,
+    offset: u64,
+    piece: &[u8],
+    touches: &mut Steps<L>,
+) -> Result<Entry, BuildFault>
+    requires profile { IsTrue (is_profile p.now) }
+    ensures long { RefusesTooLong (nat_lt 0 (length piece.now) && nat_lt (most_bytes p.now)
+        (offset + length piece.now)) result }
+    ensures value { (b : List ℕ) (height : ℕ) → IsFile S.X.block32 p.now b entry.now.cid height
+        → entry.now ≡ (file_plan S.X.block32 p.now b).entry
+        → StaysAgreed (S.seen store.old).told (S.seen store.new).told (file_plan S.X.block32 p.now b).blocks
+        → Stood (S.seen store.old).faults (S.seen store.new).faults
+        → Stood (S.seen store.old).clashes (S.seen store.new).clashes
+        → EditsOver (S.seen store.old).told (file_plan S.X.block32 p.now b).blocks
+        (file_plan S.X.block32 p.now (laid b offset piece.now)).entry result }
+    ensures after { (b : List ℕ) (height : ℕ) → IsFile S.X.block32 p.now b entry.now.cid height
+        → entry.now ≡ (file_plan S.X.block32 p.now b).entry
+        → StaysAgreed (S.seen store.old).told (S.seen store.new).told (file_plan S.X.block32 p.now b).blocks
+        → OnOk result (AgreesAfter (S.seen store.old).told (S.seen store.new).told
+        (file_plan S.X.block32 p.now b).blocks (file_plan S.X.block32 p.now (laid b offset piece.now)).blocks) }
+    ensures held { (b : List ℕ) (height : ℕ) → IsFile S.X.block32 p.now b entry.now.cid height
+        → entry.now ≡ (file_plan S.X.block32 p.now b).entry → Agrees (S.seen store.old).told
+        (file_plan S.X.block32 p.now b).blocks → Holds (S.seen store.old).told (file_plan S.X.block32 p.now b).blocks
+        → OnOk result (Holds (S.seen store.new).told (file_plan S.X.block32 p.now (laid b offset piece.now)).blocks) }
+    ensures cause { ShownEdit S.X.block32 (IsBadEdited p.now) result (S.seen store.old) (S.seen store.new) }
+    ensures good { KeepsGood S.X.block32 (S.seen store.old).told (S.seen store.new).told }
+    ensures saves { SavesOnly S.X.block32 (S.seen store.old).told (S.seen store.new).told }
+    ensures empty { piece.now ≡ [] → (result ≡ Ok entry.now) × (S.seen store.new ≡ S.seen store.old)
+        × (touches.new ≡ touches.old) }
+{
+    if piece.is_empty() {
+        return Ok(*entry);
+    }
+    let most = u64::from(p.chunk) * MOST_PIECES;
+    let more = piece.len() as u64;
+    if more > most || offset > most - more {
+        return Err(BuildFault::FileTooLong);
+    }
+    match edit(alloc, store, p, entry, None, offset, piece, touches) {
+        Ok(entry) => Ok(entry),
+        Err(fault) => Err(BuildFault::Store(fault)),
+    }
+}
+
+/// Cuts a file to a length, or fills it with zeros up to it, and answers the entry of the new file.
+pub fn truncate<S: Store, L: Ledger>(
+    alloc: Global,
+    store: &mut S,
+    p: &Profile,
+    entry: &Entry,
+    size: u64,
+    touches: &mut Steps<L>,
+) -> Result<Entry, BuildFault>
+    requires profile { IsTrue (is_profile p.now) }
+    ensures long { RefusesTooLong (nat_lt (most_bytes p.now) size) result }
+    ensures value { (b : List ℕ) (height : ℕ) → IsFile S.X.block32 p.now b entry.now.cid height
+        → entry.now ≡ (file_plan S.X.block32 p.now b).entry
+        → StaysAgreed (S.seen store.old).told (S.seen store.new).told (file_plan S.X.block32 p.now b).blocks
+        → Stood (S.seen store.old).faults (S.seen store.new).faults
+        → Stood (S.seen store.old).clashes (S.seen store.new).clashes
+        → EditsOver (S.seen store.old).told (file_plan S.X.block32 p.now b).blocks
+        (file_plan S.X.block32 p.now (cut_to b size)).entry result }
+    ensures after { (b : List ℕ) (height : ℕ) → IsFile S.X.block32 p.now b entry.now.cid height
+        → entry.now ≡ (file_plan S.X.block32 p.now b).entry
+        → StaysAgreed (S.seen store.old).told (S.seen store.new).told (file_plan S.X.block32 p.now b).blocks
+        → OnOk result (AgreesAfter (S.seen store.old).told (S.seen store.new).told
+        (file_plan S.X.block32 p.now b).blocks (file_plan S.X.block32 p.now (cut_to b size)).blocks) }
+    ensures held { (b : List ℕ) (height : ℕ) → IsFile S.X.block32 p.now b entry.now.cid height
+        → entry.now ≡ (file_plan S.X.block32 p.now b).entry → Agrees (S.seen store.old).told
+        (file_plan S.X.block32 p.now b).blocks → Holds (S.seen store.old).told (file_plan S.X.block32 p.now b).blocks
+        → OnOk result (Holds (S.seen store.new).told (file_plan S.X.block32 p.now (cut_to b size)).blocks) }
+    ensures cause { ShownEdit S.X.block32 (IsBadEdited p.now) result (S.seen store.old) (S.seen store.new) }
+    ensures good { KeepsGood S.X.block32 (S.seen store.old).told (S.seen store.new).told }
+    ensures saves { SavesOnly S.X.block32 (S.seen store.old).told (S.seen store.new).told }
+{
+    let most = u64::from(p.chunk) * MOST_PIECES;
+    if size > most {
+        return Err(BuildFault::FileTooLong);
+    }
+    match edit(alloc, store, p, entry, Some(size), 0, &[], touches) {
+        Ok(entry) => Ok(entry),
+        Err(fault) => Err(BuildFault::Store(fault)),
+    }
+}
+
+// Cuts or fills a file to a length, or else to no less than the end of a piece, and lays the piece over it.
+fn edit<S: Store, L: Ledger>(
+    alloc: Global,
+    store: &mut S,
+    p: &Profile,
+    entry: &Entry,
+    wanted: Option<u64>,
+    offset: u64,
+    piece: &[u8],
+    touches: &mut Steps<L>,
+) -> Result<Entry, StoreFault>
+    requires profile { IsTrue (is_profile p.now) }
+    requires within { IfSome wanted (λ n. LiesWithin n offset piece.now) }
+    requires small { IfSome wanted (λ n. n < 2 ^ 63) }
+    requires end { offset + length piece.now < 2 ^ 63 }
+    ensures gives { (b : List ℕ) (height : ℕ) → IsFile S.X.block32 p.now b entry.now.cid height
+        → entry.now ≡ (file_plan S.X.block32 p.now b).entry → Agrees (S.seen store.old).told
+        (file_plan S.X.block32 p.now b).blocks → Agrees (S.seen store.new).told (file_plan S.X.block32 p.now b).blocks
+        → IfOk result (λ e. GivesFile S.X.block32 p.now (S.seen store.new).told (file_plan S.X.block32 p.now b).blocks
+        e (overlaid (after_size (length b) wanted offset (length piece.now)) b offset piece.now)) }
+    ensures lost { (b : List ℕ) (height : ℕ) → IsFile S.X.block32 p.now b entry.now.cid height
+        → entry.now ≡ (file_plan S.X.block32 p.now b).entry → Agrees (S.seen store.old).told
+        (file_plan S.X.block32 p.now b).blocks → Agrees (S.seen store.new).told (file_plan S.X.block32 p.now b).blocks
+        → Stood (S.seen store.old).faults (S.seen store.new).faults
+        → Stood (S.seen store.old).clashes (S.seen store.new).clashes
+        → IfErr result (IsLossOf (S.seen store.new).told (file_plan S.X.block32 p.now b).blocks) }
+    ensures cause { Answers S.X.block32 (IsBadEdited p.now) result (S.seen store.old) (S.seen store.new) }
+    ensures good { KeepsGood S.X.block32 (S.seen store.old).told (S.seen store.new).told }
+    ensures saves { SavesOnly S.X.block32 (S.seen store.old).told (S.seen store.new).told }
+{
+    let root = match root_of(alloc, store, p, entry, touches) {
+        Ok(root) => root,
+        Err(fault) => return Err(fault),
+    };
+    let size = size_after(root.size, wanted, offset, piece.len() as u64);
+    let top = height_of(p, root.size);
+    let height = height_of(p, size);
+    let front = match front_of(alloc, store, p, top, height, root, touches) {
+        Ok(part) => part,
+        Err(fault) => return Err(fault),
+    };
+    let low = top.min(height);
+    match change(
+        alloc,
+        store,
+        p,
+        low,
+        height,
+        Some(front),
+        size,
+        offset,
+        piece,
+        touches,
+    ) {
+        Ok(part) => Ok(part.entry),
+        Err(fault) => Err(fault),
+    }
+}
+
+// How many bytes a file of `old` bytes has afterwards.
+fn size_after(old: u64, wanted: Option<u64>, offset: u64, more: u64) -> u64
+    requires { offset + more < 2 ^ 63 }
+    ensures { result ≡ after_size old wanted offset more }
+{
+    match wanted {
+        Some(size) => size,
+        None => old.max(offset + more),
+    }
+}

@@ -1,0 +1,208 @@
+// Old nodes of a file.
+ghost use Rattle.std.specs.Prelude.{◌≡◌, ◌+◌, ◌<◌, ◌≤◌, ◌^◌, ℕ, List, [], ◌∷◌, length, min, sum, IfErr, IfOk, IsTrue, Some};
+ghost use Rattle.uf_edge.specs.Counts.{Stood};
+ghost use Rattle.uf_fileread.specs.Parts.{parts_block};
+ghost use Rattle.uf_fileread.specs.Ranges.{IsFile};
+ghost use Rattle.uf_store.specs.Faults.{Answers};
+ghost use Rattle.uf_store.specs.Keeping.{Agrees};
+ghost use Rattle.uf_store.specs.Lost.{IsLossOf};
+ghost use Rattle.uf_tree.specs.Codecs.{Reads};
+ghost use Rattle.uf_tree.specs.FilePlan.{file_plan, groups, node_over};
+ghost use Rattle.uf_tree.specs.FileSub.{blocks_over, span};
+ghost use Rattle.uf_tree.specs.Profiles.{is_profile};
+ghost use Rattle.uf_fileedit.specs.Bad.{IsBadEdited};
+ghost use Rattle.uf_fileedit.specs.Changes.{AreOld, IsBelow, IsOld, IsOldPart, old_blocks};
+ghost use Rattle.uf_fileedit.specs.Planned.{IsPlannedNode, SaysFileSize, role_at};
+
+use crate::layout::are_planned;
+use std::alloc::Global;
+use std::sync::ledger::Ledger;
+use uf_cid::{Codec, Memory, StrictFault};
+use uf_fileread::read_parts;
+use uf_store::{Role, Steps, Store, StoreFault, need};
+use uf_tree::{Entry, Part, Parts, Profile};
+
+// Loads the parts, each of this height, of a node of a file. One touch.
+pub fn load_parts<S: Store, L: Ledger>(
+    alloc: Global,
+    store: &mut S,
+    p: &Profile,
+    height: u8,
+    part: &Part,
+    touches: &mut Steps<L>,
+) -> Result<Parts, StoreFault>
+    requires profile { IsTrue (is_profile p.now) }
+    ensures some { IfOk result (λ parts. 1 ≤ length parts) }
+    ensures gives { (b : List ℕ) → IsOldPart S.X.block32 p.now (height + 1) part.now b
+        → Agrees (S.seen store.old).told (blocks_over S.X.block32 p.now.chunk p.now.width (height + 1) b)
+        → IfOk result (λ parts. AreOld S.X.block32 p.now (span p.now.chunk p.now.width height) height parts
+        (groups (span p.now.chunk p.now.width height) b)) }
+    ensures lost { (b : List ℕ) → IsOldPart S.X.block32 p.now (height + 1) part.now b
+        → Agrees (S.seen store.old).told (blocks_over S.X.block32 p.now.chunk p.now.width (height + 1) b)
+        → Stood (S.seen store.old).faults (S.seen store.new).faults
+        → IfErr result (IsLossOf (S.seen store.old).told (blocks_over S.X.block32 p.now.chunk p.now.width (height + 1)
+        b)) }
+    ensures cause { Answers S.X.block32 (IsBadEdited p.now) result (S.seen store.old) (S.seen store.new) }
+    ensures told { (S.seen store.new).told ≡ (S.seen store.old).told }
+    ensures touches { touches.new ≡ touches.old + 1 }
+{
+    let cid = part.entry.cid;
+    if let Err(fault) = need(store, &cid, touches) {
+        return Err(fault);
+    }
+    match read_planned(alloc, store.block(), p, height, part.size) {
+        Ok(parts) => Ok(parts),
+        Err(StrictFault::NotCanonical) => Err(StoreFault::BadBlock(cid, Role::FileNode)),
+        Err(StrictFault::Memory) => Err(StoreFault::Memory),
+    }
+}
+
+// The parts of a node over so many bytes.
+fn read_planned(
+    alloc: Global,
+    bytes: &[u8],
+    p: &Profile,
+    height: u8,
+    size: u64,
+) -> Result<Parts, StrictFault>
+    requires profile { IsTrue (is_profile p.now) }
+    ensures { Reads (IsPlannedNode p.now height size) parts_block bytes.now result }
+{
+    match read_parts(alloc, bytes) {
+        Err(fault) => Err(fault),
+        Ok(parts) => {
+            if are_planned(p, height, size, parts.as_slice()) {
+                Ok(parts)
+            } else {
+                Err(StrictFault::NotCanonical)
+            }
+        }
+    }
+}
+
+// The parts, each of this height, below an old part, or none where there is no old part. A part that is no higher itself is the
+// only one. At most one touch.
+pub fn parts_below<S: Store, L: Ledger>(
+    alloc: Global,
+    store: &mut S,
+    p: &Profile,
+    top: u8,
+    height: u8,
+    old: Option<Part>,
+    touches: &mut Steps<L>,
+) -> Result<Parts, StoreFault>
+    requires profile { IsTrue (is_profile p.now) }
+    ensures gives { (b : List ℕ) → IsOld S.X.block32 p.now (min top (height + 1)) old b
+        → Agrees (S.seen store.old).told (old_blocks S.X.block32 p.now (min top (height + 1)) old b)
+        → IfOk result (λ parts. IsBelow S.X.block32 p.now top height
+        (old_blocks S.X.block32 p.now (min top (height + 1)) old b) parts b) }
+    ensures lost { (b : List ℕ) → IsOld S.X.block32 p.now (min top (height + 1)) old b
+        → Agrees (S.seen store.old).told (old_blocks S.X.block32 p.now (min top (height + 1)) old b)
+        → Stood (S.seen store.old).faults (S.seen store.new).faults
+        → IfErr result (IsLossOf (S.seen store.old).told (old_blocks S.X.block32 p.now (min top (height + 1)) old b)) }
+    ensures cause { Answers S.X.block32 (IsBadEdited p.now) result (S.seen store.old) (S.seen store.new) }
+    ensures told { (S.seen store.new).told ≡ (S.seen store.old).told }
+    ensures touches { touches.new ≤ touches.old + 1 }
+{
+    match old {
+        None => Ok(Parts::new(alloc)),
+        Some(part) => {
+            if height < top {
+                load_parts(alloc, store, p, height, &part, touches)
+            } else {
+                match just(alloc, part) {
+                    Ok(parts) => Ok(parts),
+                    Err(Memory) => Err(StoreFault::Memory),
+                }
+            }
+        }
+    }
+}
+
+// A list of one part.
+fn just(alloc: Global, part: Part) -> Result<Parts, Memory>
+    ensures { IfOk result (λ parts. parts ≡ part ∷ []) }
+{
+    let mut parts = Parts::new(alloc);
+    parts.push(part)?;
+    Ok(parts)
+}
+
+// The root of a file as a part. One touch.
+pub fn root_of<S: Store, L: Ledger>(
+    alloc: Global,
+    store: &mut S,
+    p: &Profile,
+    entry: &Entry,
+    touches: &mut Steps<L>,
+) -> Result<Part, StoreFault>
+    ensures entry { IfOk result (λ m. m.entry ≡ entry.now) }
+    ensures size { (b : List ℕ) (height : ℕ) → IsFile S.X.block32 p.now b entry.now.cid height
+        → Agrees (S.seen store.old).told (file_plan S.X.block32 p.now b).blocks
+        → IfOk result (λ m. m.size ≡ length b) }
+    ensures small { IfOk result (λ m. m.size < 2 ^ 63) }
+    ensures lost { (b : List ℕ) (height : ℕ) → IsFile S.X.block32 p.now b entry.now.cid height
+        → Agrees (S.seen store.old).told (file_plan S.X.block32 p.now b).blocks
+        → Stood (S.seen store.old).faults (S.seen store.new).faults
+        → IfErr result (IsLossOf (S.seen store.old).told (blocks_over S.X.block32 p.now.chunk p.now.width height b)) }
+    ensures cause { Answers S.X.block32 (IsBadEdited p.now) result (S.seen store.old) (S.seen store.new) }
+    ensures told { (S.seen store.new).told ≡ (S.seen store.old).told }
+    ensures touches { touches.new ≡ touches.old + 1 }
+{
+    let cid = entry.cid;
+    if let Err(fault) = need(store, &cid, touches) {
+        return Err(fault);
+    }
+    match root_size(alloc, store.block(), p, cid.codec) {
+        Ok(size) => Ok(Part {
+            entry: *entry,
+            size,
+        }),
+        Err(StrictFault::NotCanonical) => Err(StoreFault::BadBlock(cid, role_of(cid.codec))),
+        Err(StrictFault::Memory) => Err(StoreFault::Memory),
+    }
+}
+
+// How many bytes a file has whose root has these bytes: a leaf of at most one piece, or a node over more.
+fn root_size(alloc: Global, bytes: &[u8], p: &Profile, codec: Codec) -> Result<u64, StrictFault>
+    ensures { SaysFileSize p.now codec bytes.now result }
+{
+    match codec {
+        Codec::Raw => {
+            if bytes.len() as u64 <= u64::from(p.chunk) {
+                Ok(bytes.len() as u64)
+            } else {
+                Err(StrictFault::NotCanonical)
+            }
+        }
+        Codec::DagPb => match read_parts(alloc, bytes) {
+            Err(fault) => Err(fault),
+            Ok(parts) => {
+                let size = size_over(parts.as_slice());
+                if size > u64::from(p.chunk) {
+                    Ok(size)
+                } else {
+                    Err(StrictFault::NotCanonical)
+                }
+            }
+        },
+    }
+}
+
+// How many bytes are below these parts.
+fn size_over(parts: &[Part]) -> u64
+    requires { sum (node_over parts.now).sizes < 2 ^ 63 }
+    ensures { result ≡ sum (node_over parts.now).sizes }
+{
+    parts.iter().map(|part| part.size).sum()
+}
+
+// What a block of this codec is in a file.
+fn role_of(codec: Codec) -> Role
+    ensures { result ≡ role_at codec }
+{
+    match codec {
+        Codec::Raw => Role::Leaf,
+        Codec::DagPb => Role::FileNode,
+    }
+}
