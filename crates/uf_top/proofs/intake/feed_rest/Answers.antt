@@ -25,3 +25,9 @@ returns-in-Ok-false-clause-good g c = KeepsGood-trans _ _ _ _ c.pieces.invariant
 
 pub returns-in-Err-clause-good : goal.returns-in-Err-clause-good
 returns-in-Err-clause-good g c = KeepsGood-trans _ _ _ _ c.pieces.invariant.good c.in-Err.ensures.good
+
+pub returns-in-Ok-false-clause-saves : goal.returns-in-Ok-false-clause-saves
+returns-in-Ok-false-clause-saves g c = SavesOnly-trans _ _ _ _ c.pieces.invariant.saves c.in-Ok-false.ensures.saves
+
+pub returns-in-Err-clause-saves : goal.returns-in-Err-clause-saves
+returns-in-Err-clause-saves g c = SavesOnly-trans _ _ _ _ c.pieces.invariant.saves c.in-Err.ensures.saves
