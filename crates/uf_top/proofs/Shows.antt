@@ -1,5 +1,5 @@
 -- What the answers of calls in a row show.
-use Rattle.std.proofs.Common.{◌≡◌, ℕ, ◌≤◌, List, true, arith, refl, sym, ap, subst, inl, inr, Some, None, Result, Ok, Err}
+use Rattle.std.proofs.Common.{◌≡◌, ℕ, ◌≤◌, List, true, arith, refl, sym, subst, inl, inr, Some, None, Result, Ok, Err}
 use Rattle.uf_store.specs.Clashes.{IsSaving}
 use Rattle.uf_edge.specs.Counts.{Rose, Stood}
 use Rattle.uf_mfs.specs.Answers.{ShownInTree, ShownOpening}
@@ -10,12 +10,10 @@ use Rattle.uf_store.specs.declared.store.Role.{Role}
 use Rattle.uf_store.specs.declared.store.Role.TheVariants.{Directory, Shard, FileNode, Leaf}
 use Rattle.uf_store.specs.declared.store.StoreFault.{StoreFault}
 use Rattle.uf_store.specs.declared.store.StoreFault.TheVariants.{Failed, Damaged, Missing, BadBlock, Clash, Memory}
-use Rattle.uf_store.specs.Contents.{Notes, Told}
+use Rattle.uf_store.specs.Contents.{Told}
 use Rattle.uf_store.specs.Keeping.{KeepsGood}
-use Rattle.uf_store.specs.Writing.{SavesOnly}
 use Rattle.uf_store.proofs.Keeping.{KeepsGood-refl}
 use Rattle.uf_tree.specs.Roles.{IsCanonicalDirectory, Basic, Sharded, FileRoot}
-use Rattle.uf_mfs.specs.Standing.{head_in}
 use Rattle.uf_top.specs.declared.types.Command.{Command}
 use Rattle.uf_store.specs.Faults.{NoneIsBad, Rises, Shows, StaysCalm}
 use Rattle.uf_store.specs.Seen.{Seen}

@@ -27,7 +27,6 @@ use Rattle.uf_tree.proofs.TreeLaws.{entry-dir}
 use Rattle.uf_tree.proofs.Valid.{entry-valid}
 use Rattle.uf_laws.proofs.Held.{tree-digested}
 use Rattle.uf_unique.proofs.Heads.{one_standing}
-use Rattle.uf_mfs.proofs.Starting.{leaves-head}
 use Rattle.uf_mfs.specs.Standing.{LeavesHead, Same, OnlySynced, TellsAs, TellsHeld, head_in}
 use Rattle.uf_top.specs.Causes.{HeadSays, IsProfileOf, IsUnread}
 

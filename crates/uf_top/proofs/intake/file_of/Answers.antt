@@ -1,6 +1,7 @@
 use Rattle.std.proofs.Common.{sym, subst}
 use Rattle.uf_edge.specs.Counts.{Counts}
 use Rattle.uf_store.proofs.Keeping.{KeepsGood-trans}
+use Rattle.uf_store.proofs.Writing.{SavesOnly-trans}
 use Rattle.uf_top.proofs.Feeding.{file-of, new-fed, no-file}
 use Rattle.uf_top.proofs.intake.file_of.Goals as goal
 
@@ -21,3 +22,6 @@ returns-in-Err-clause-file g c =
     let X = g.S.X.BlockHash.block32 in let p = c.args.profile in let told = (g.S.Store.seen c.args.store.now).told in
     let n = c.new-builder.ensures in
     no-file X p c.in-Err.why told (g.S.Store.seen c.feed_all.new.store).told c.new-builder.result (g.I.Source.left c.args.input.now) (g.I.Source.left c.feed_all.new.input) (new-fed X p told c.new-builder.result (n.fed X) (n.held X told) n.count n.profile n.spent) (c.in-Err.ensures.feeds p)
+
+pub returns-in-Ok-clause-saves : goal.returns-in-Ok-clause-saves
+returns-in-Ok-clause-saves g c = SavesOnly-trans _ _ _ _ c.in-Ok.ensures.saves c.closed.ensures.saves
