@@ -10,7 +10,7 @@ top=$(cd "$(dirname "$0")/.." && pwd)
 mib=${MIB:-1024}
 core=${CORE:-$(($(nproc) - 1))}
 "$top/unixfs" add -n < /dev/null > /dev/null
-export program=$top/crates/uf_tool/out/uf_tool
+export UNIXFS=$top/crates/uf_tool/out/uf_tool
 folder=$(mktemp -d -p "${FOLDER:-${TMPDIR:-/tmp}}")
 trap 'rm -rf "$folder"' EXIT
 cd "$folder"
@@ -31,8 +31,8 @@ ready() {
     rm -rf work
     mkdir work
     case $1 in
-    blocks) (cd work && "$program" init --chunk 5200) ;;
-    large | mkdir) (cd work && "$program" init && "$program" files mkdir -p /a/b/c) ;;
+    blocks) (cd work && "$UNIXFS" init --chunk 5200) ;;
+    large | mkdir) (cd work && "$UNIXFS" init && "$UNIXFS" files mkdir -p /a/b/c) ;;
     git)
         git -C work init -q
         git -C work config core.compression 0
@@ -56,14 +56,14 @@ PYTHON
 }
 
 for turn in 1 2 3; do
-    measure blocks:unixfs blocks '"$program" add < ../small'
+    measure blocks:unixfs blocks '"$UNIXFS" add < ../small'
     measure blocks:git git 'git add files'
     measure blocks:cp cp 'cp -r ../files copy && sync -f .'
-    measure large:unixfs large '"$program" add < ../large'
+    measure large:unixfs large '"$UNIXFS" add < ../large'
     measure large:sha256sum sha256sum 'sha256sum ../large'
     measure large:cp cp 'cp ../large copy && sync -f .'
-    measure mkdir:unixfs mkdir '"$program" files mkdir /a/b/c/d'
-    measure start:unixfs start 'for n in 0 1 2 3 4 5 6 7 8 9; do "$program" || true; done'
+    measure mkdir:unixfs mkdir '"$UNIXFS" files mkdir /a/b/c/d'
+    measure start:unixfs start 'for n in 0 1 2 3 4 5 6 7 8 9; do "$UNIXFS" || true; done'
     measure start:true start 'for n in 0 1 2 3 4 5 6 7 8 9; do /bin/true; done'
 done
 python3 - "$mib" <<'PYTHON'
@@ -79,7 +79,7 @@ PYTHON
 
 if command -v strace > /dev/null; then
     ready blocks
-    (cd work && strace -f -c -U calls,name -o ../calls "$program" add < ../small > /dev/null)
+    (cd work && strace -f -c -U calls,name -o ../calls "$UNIXFS" add < ../small > /dev/null)
     awk -v blocks="$(find work/.unixfs/blocks -type f | wc -l)" \
         '$2 == "total" { printf "%d blocks, %d system calls, %.2f for each block\n", blocks, $1, $1 / blocks }' calls
     sed -n '3,9p' calls
