@@ -22,9 +22,6 @@ use uf_build::BuildFault;
 use uf_store::{Steps, Store, StoreFault};
 use uf_tree::{Entry, Profile};
 
-// How many pieces a file may have.
-const MOST_PIECES: u64 = 4194304;
-
 /// Lays a piece over the bytes of a file from `offset` on, and answers the entry of the new file. Zeros stand between the
 /// end of the old bytes and an offset behind it. With an empty piece the entry is as it was, and nothing is saved.
 pub fn write_at<S: Store, L: Ledger>(
@@ -64,7 +61,7 @@ pub fn write_at<S: Store, L: Ledger>(
     if piece.is_empty() {
         return Ok(*entry);
     }
-    let most = u64::from(p.chunk) * MOST_PIECES;
+    let most = p.most_bytes();
     let more = piece.len() as u64;
     if more > most || offset > most - more {
         return Err(BuildFault::FileTooLong);
@@ -106,7 +103,7 @@ pub fn truncate<S: Store, L: Ledger>(
     ensures good { KeepsGood S.X.block32 (S.seen store.old).told (S.seen store.new).told }
     ensures saves { SavesOnly S.X.block32 (S.seen store.old).told (S.seen store.new).told }
 {
-    let most = u64::from(p.chunk) * MOST_PIECES;
+    let most = p.most_bytes();
     if size > most {
         return Err(BuildFault::FileTooLong);
     }

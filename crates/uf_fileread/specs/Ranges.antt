@@ -19,7 +19,7 @@ use Rattle.uf_store.specs.declared.store.StoreFault.TheVariants.{Failed, Damaged
 use Rattle.uf_tree.specs.declared.profile.Profile.{Profile}
 use Rattle.uf_tree.specs.FilePlan.{file_plan, groups, leaf_held, node_held}
 use Rattle.uf_tree.specs.FileSub.{IsRooted, part_over, span}
-use Rattle.uf_tree.specs.Profiles.{is_profile}
+use Rattle.uf_tree.specs.Profiles.{is_profile, most_bytes}
 
 -- the bytes from a place on, at most so many
 abbrev pub range_of : ℕ → ℕ → List ℕ → List ℕ
@@ -34,6 +34,15 @@ abbrev pub blocks_met : (ℕ → ℕ → List ℕ → List Held) → ℕ → ℕ
 blocks_met of offset count [] = []
 blocks_met of offset count (g ∷ gs) = (if meets offset count g then of offset count g else []) ++ blocks_met of (offset - length g) (count - (length g - offset)) gs
 
+-- how many of some consecutive groups a range meets
+abbrev pub met_among : ℕ → ℕ → List (List ℕ) → ℕ
+met_among offset count [] = 0
+met_among offset count (g ∷ gs) = (if meets offset count g then 1 else 0) + met_among (offset - length g) (count - (length g - offset)) gs
+
+-- how many pieces of some bytes a range meets
+abbrev pub pieces_met : ℕ → ℕ → ℕ → List ℕ → ℕ
+pieces_met c offset count bytes = met_among offset count (groups c bytes)
+
 -- the blocks that are needed to read a range of the part of this height over these bytes: its own, and below it those that the
 -- range meets, each node before its links and the links from left to right
 unfoldable pub blocks_read : (List ℕ → List ℕ) → ℕ → ℕ → ℕ → ℕ → ℕ → List ℕ → List Held
@@ -41,10 +50,14 @@ blocks_read X c w zero offset count bytes = leaf_held X bytes ∷ []
 blocks_read X c w (suc k) offset count bytes =
     node_held X (map (part_over X c w k) (groups (span c w k) bytes)) ∷ blocks_met (λ o n g. blocks_read X c w k o n g) offset count (groups (span c w k) bytes)
 
+-- for each piece that a range meets one block in each row is needed, and the root
+abbrev pub FewAreRead : (List ℕ → List ℕ) → ℕ → ℕ → ℕ → ℕ → ℕ → List ℕ → Type 0
+FewAreRead X c w height offset count bytes = length (blocks_read X c w height offset count bytes) ≤ 1 + pieces_met c offset count bytes * height
+
 -- the CID is that of the plan of these bytes, which a file of this profile may have, and the plan has this height
 pub record IsFile (X : List ℕ → List ℕ) (p : Profile) (bytes : List ℕ) (cid : Cid) (height : ℕ) : Type 0 where
   pub profile : IsTrue (is_profile p)
-  pub few : length bytes ≤ p.chunk * 4194304
+  pub few : length bytes ≤ most_bytes p
   pub cid_is : cid ≡ (file_plan X p bytes).entry.cid
   pub rooted : IsRooted X p bytes (file_plan X p bytes) height
 

@@ -2,12 +2,14 @@
 #![tactic(auto)]
 
 mod fault;
+mod laws;
 mod lengths;
 mod parts;
 mod ranges;
 mod size;
 
 pub use fault::RangeFault;
+pub use laws::a_range_needs_few_blocks;
 pub use lengths::{length, measure};
 pub use parts::read_parts;
 pub use ranges::read_range;

@@ -269,6 +269,7 @@ fn send_leaf<S: Store, O: Sink, L: Ledger>(
     ensures sends { SendsAtMost reach.count (O.holds out.old) (O.holds out.new) result }
     ensures cause { (above : ℕ) → ShowsRange S.X.block32 (IsBadBelow (S.seen store.old).told above declared cid.now)
         result (S.seen store.old) (S.seen store.new) (O.faults out.old) (O.faults out.new) }
+    ensures declared { IfOk result (λ _. WithSome declared (λ n. length (S.seen store.new).lent ≡ n)) }
     ensures told { (S.seen store.new).told ≡ (S.seen store.old).told }
 {
     need(store, cid, touches)?;
