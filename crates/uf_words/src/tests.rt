@@ -3,9 +3,11 @@ use std::alloc::{AllocError, Global};
 use std::test::*;
 use uf_cid::{Block, Text};
 
+mod generated;
 mod rows;
 
-use rows::{FRONT_PATHS, LINES, READ_COUNTS, READ_OFFSETS, READ_PATHS, REFUSED, ROWS};
+use generated::GENERATED;
+use rows::{LINES, REFUSED, ROWS};
 
 // The words of a line, cut at each space.
 fn words_of(alloc: Global, line: &str) -> Result<Vec<String>, AllocError> {
@@ -146,66 +148,10 @@ fn words_of_no_command(rt: HostRuntime) -> Result<(), Fail> {
     Ok(())
 }
 
-// Whether one part is refused.
-fn is_refused(one: &str, other: &str, third: &str) -> bool {
-    one == "!" || other == "!" || third == "!"
-}
-
-// What an offset, a count and a path say.
-fn reading_told(
-    alloc: Global,
-    offset: &str,
-    count: &str,
-    path: &str,
-) -> Result<String, AllocError> {
-    if is_refused(offset, count, path) {
-        format!(in alloc; "usage")
-    } else {
-        format!(in alloc; "read|{offset}|{count}|{path}")
-    }
-}
-
-// Whether words of an offset, of a count and of each path are read as the tables say.
-fn are_read(alloc: Global, offset: (&str, &str), count: (&str, &str)) -> Result<bool, AllocError> {
-    let mut all = true;
-    for (path_words, path) in READ_PATHS {
-        let (offset_words, count_words) = (offset.0, count.0);
-        let line = format!(in alloc; "files read{offset_words}{count_words}{path_words}")?;
-        all &= answer(alloc, &line)? == reading_told(alloc, offset.1, count.1, path)?;
-    }
-    Ok(all)
-}
-
-// The same of each count, in front of the offset too.
-fn offset_is_read(alloc: Global, offset: (&str, &str)) -> Result<bool, AllocError> {
-    let mut all = true;
-    for count in READ_COUNTS {
-        all &= are_read(alloc, offset, count)? && are_read_turned(alloc, offset, count)?;
-    }
-    Ok(all)
-}
-
-// The same with the path in front, where no `--` ends the options.
-fn are_read_turned(
-    alloc: Global,
-    offset: (&str, &str),
-    count: (&str, &str),
-) -> Result<bool, AllocError> {
-    let mut all = true;
-    for (path_words, path) in FRONT_PATHS {
-        let (offset_words, count_words) = (offset.0, count.0);
-        let line = format!(in alloc; "files read{path_words}{count_words}{offset_words}")?;
-        all &= answer(alloc, &line)? == reading_told(alloc, offset.1, count.1, path)?;
-    }
-    Ok(all)
-}
-
-// Lists of words that are made of parts, each with what it is by the tables of its parts: 550 of them.
+// Word lists made at random, with what they are by a model of the table of commands.
 #[test]
-fn lists_of_parts(rt: HostRuntime) -> Result<(), Fail> {
-    for offset in READ_OFFSETS {
-        assert!(rt; offset_is_read(rt.alloc(), offset)?, "at {offset:?}");
-    }
+fn generated_word_lists(rt: HostRuntime) -> Result<(), Fail> {
+    assert_eq!(rt; first_wrong(rt.alloc(), GENERATED)?, None);
     Ok(())
 }
 

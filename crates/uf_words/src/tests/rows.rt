@@ -1,4 +1,4 @@
-// Rows of words and lines, and parts of words.
+// Rows of words and lines.
 
 // Words, each of which ends at one space, and the command that they are.
 pub const ROWS: &str = "\
@@ -268,48 +268,6 @@ gen  1 => usage\n\
 unixfs init => usage\n\
 \x20init => usage\n\
 ";
-
-// Words of an offset and the number that they are; `!` where they are refused.
-pub const READ_OFFSETS: [(&str, &str); 10] = [
-    ("", "0"),
-    (" -o 5", "5"),
-    (" -o5", "5"),
-    (" --offset=6", "6"),
-    (" --offset 18446744073709551615", "18446744073709551615"),
-    (" -o 18446744073709551616", "!"),
-    (" --offset=000000000000000000001", "!"),
-    (" -o=7", "7"),
-    (" -o ", "!"),
-    (" -o=", "!"),
-];
-
-// Words of a count.
-pub const READ_COUNTS: [(&str, &str); 5] = [
-    ("", "18446744073709551615"),
-    (" -n 3", "3"),
-    (" --count=0", "0"),
-    (" -n 1 --count 1", "!"),
-    (" -n", "!"),
-];
-
-// Words of a path.
-pub const READ_PATHS: [(&str, &str); 5] = [
-    (" /f", "/f"),
-    (" a=b", "a=b"),
-    (" ", ""),
-    (" -- -f", "-f"),
-    ("", "!"),
-];
-
-// Words of a path that may stand in front.
-pub const FRONT_PATHS: [(&str, &str); 6] = [
-    (" /f", "/f"),
-    (" a=b", "a=b"),
-    (" ", ""),
-    (" -", "-"),
-    ("", "!"),
-    (" /f /g", "!"),
-];
 
 // Lines and their words, each behind `|`.
 pub const LINES: &str = "\
