@@ -1,0 +1,93 @@
+// Directories of many names, edited in place and built anew.
+use std::alloc::Global;
+use std::sync::ledger::Ledger;
+use uf_cid::{Cid, Codec, Sha256Hash};
+use uf_dir::{build, put, remove};
+use uf_murmur::Murmur3;
+use uf_store::{MemStore, Steps};
+use uf_tree::{Entry, Name, Pair, Pairs, Profile, is_directory};
+
+// The entry of the empty file.
+fn empty_file() -> Entry {
+    Entry {
+        cid: Cid::of::<Sha256Hash>(Codec::Raw, b""),
+        tsize: 0,
+    }
+}
+
+// The pairs of empty files under so many names, in order.
+fn empty_files(alloc: Global, names: u64) -> Option<Pairs> {
+    let mut pairs = Pairs::new(alloc);
+    for n in 0..names {
+        let text = format!(in alloc; "n{n:08}").ok()?;
+        let name = Name::parse(alloc, &text).ok()?;
+        let entry = empty_file();
+        pairs.push(Pair { name, entry }).ok()?;
+    }
+    Some(pairs)
+}
+
+// The entry of the directory of these pairs.
+fn built<L: Ledger>(
+    alloc: Global,
+    store: &mut MemStore<Sha256Hash>,
+    pairs: &Pairs,
+    touches: &mut Steps<L>,
+) -> Option<Entry> {
+    if !is_directory(pairs) {
+        return None;
+    }
+    build::<_, Murmur3, L>(alloc, store, &Profile::usual(), pairs, touches).ok()
+}
+
+/// The root of a directory of so many names after so many edits: each even one puts a name, each odd one takes it out again.
+pub fn edited<L: Ledger>(
+    alloc: Global,
+    names: u64,
+    edits: u64,
+    touches: &mut Steps<L>,
+) -> Option<Cid> {
+    let mut store = MemStore::<Sha256Hash>::new(alloc);
+    let mut root = built(alloc, &mut store, &empty_files(alloc, names)?, touches)?;
+    for n in 0..edits {
+        let text = format!(in alloc; "x{}", n / 2).ok()?;
+        let name = Name::parse(alloc, &text).ok()?;
+        root = one_edit(alloc, &mut store, &root, &name, n % 2 == 0, touches)?;
+    }
+    Some(root.cid)
+}
+
+// The entry of a directory with an empty file more under a name, or without the name.
+fn one_edit<L: Ledger>(
+    alloc: Global,
+    store: &mut MemStore<Sha256Hash>,
+    root: &Entry,
+    name: &Name,
+    is_put: bool,
+    touches: &mut Steps<L>,
+) -> Option<Entry> {
+    let p = Profile::usual();
+    if is_put {
+        put::<_, Murmur3, L>(alloc, store, &p, &root.cid, name, &empty_file(), touches).ok()
+    } else {
+        remove::<_, Murmur3, L>(alloc, store, &p, &root.cid, name, touches).ok()?
+    }
+}
+
+/// The same, each time by building the directory of all its names anew.
+pub fn built_anew<L: Ledger>(
+    alloc: Global,
+    names: u64,
+    edits: u64,
+    touches: &mut Steps<L>,
+) -> Option<Cid> {
+    let mut store = MemStore::<Sha256Hash>::new(alloc);
+    let pairs = empty_files(alloc, names)?;
+    let more = empty_files(alloc, names.saturating_add(1))?;
+    let mut root = built(alloc, &mut store, &pairs, touches)?;
+    for n in 0..edits {
+        let list = if n % 2 == 0 { &more } else { &pairs };
+        root = built(alloc, &mut store, list, touches)?;
+    }
+    Some(root.cid)
+}

@@ -1,0 +1,70 @@
+// Large files, edited in place and read.
+use std::alloc::Global;
+use std::sync::ledger::Ledger;
+use uf_build::Builder;
+use uf_cid::{Cid, Sha256Hash};
+use uf_edge::Sink;
+use uf_fileedit::write_at;
+use uf_fileread::read_range;
+use uf_store::{MemStore, Steps, Store};
+use uf_tree::{Entry, Profile};
+
+// How many zeros follow the number of a piece: with it they are a quarter of a MiB.
+const ZEROS: usize = 262136;
+
+// So many zeros.
+fn zeros(alloc: Global, count: usize) -> Option<Vec<u8>> {
+    vec![in alloc; 0u8; count].ok()
+}
+
+// The entry of a file of so many MiB, in which no two pieces are equal.
+fn built<L: Ledger>(
+    alloc: Global,
+    store: &mut MemStore<Sha256Hash>,
+    mib: u64,
+    touches: &mut Steps<L>,
+) -> Option<Entry> {
+    let mut builder = Builder::new(alloc, Profile::usual());
+    let rest = zeros(alloc, ZEROS)?;
+    for n in 0..mib.saturating_mul(4) {
+        builder.feed(store, &n.to_le_bytes(), touches).ok()?;
+        builder.feed(store, rest.as_slice(), touches).ok()?;
+    }
+    builder.finish(store, touches).ok()
+}
+
+/// The root of a file of so many MiB after so many bytes were written into it, each at another place.
+pub fn edited<L: Ledger>(
+    alloc: Global,
+    mib: u64,
+    edits: u64,
+    touches: &mut Steps<L>,
+) -> Option<Cid> {
+    let mut store = MemStore::<Sha256Hash>::new(alloc);
+    let mut root = built(alloc, &mut store, mib, touches)?;
+    let p = Profile::usual();
+    let length = mib.saturating_mul(1048576).max(1);
+    for n in 0..edits {
+        let place = n.wrapping_mul(40503 * 65537) % length;
+        root = write_at(alloc, &mut store, &p, &root, place, b"x", touches).ok()?;
+    }
+    Some(root.cid)
+}
+
+/// Writes all bytes of the file under a CID to the output.
+pub fn written<S: Store, O: Sink, L: Ledger>(
+    alloc: Global,
+    store: &mut S,
+    cid: &Cid,
+    output: &mut O,
+    touches: &mut Steps<L>,
+) -> Option<()> {
+    let entry = Entry {
+        cid: *cid,
+        tsize: 0,
+    };
+    match read_range(alloc, store, &entry, 0, u64::MAX, output, touches) {
+        Ok(_) => Some(()),
+        Err(_) => None,
+    }
+}
