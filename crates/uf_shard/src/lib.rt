@@ -1,4 +1,5 @@
-//! Directories as trees of shards (UnixFS v1, "HAMTDirectory", with a fanout of 256): built, listed, weighed, a name looked up, put and taken out in place.
+//! Directories as trees of shards (UnixFS v1, "HAMTDirectory", with a fanout of 256): built, listed, weighed, a name
+//! looked up, put and taken out in place.
 #![tactic(auto)]
 
 mod buckets;
