@@ -25,6 +25,7 @@ pub use building::build;
 pub use fault::DirFault;
 pub use listing::{entries, weight_over};
 pub use lookup::find;
+pub use nodes::tsize_over_slots;
 pub use putting::put;
 pub use removed::Removed;
 pub use removing::remove;

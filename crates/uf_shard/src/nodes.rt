@@ -1,5 +1,5 @@
 // Shards saved.
-ghost use Rattle.std.specs.Prelude.{◌≡◌, ◌+◌, ◌≤◌, ◌∷◌, [], length, map, IfErr, IfOk};
+ghost use Rattle.std.specs.Prelude.{◌≡◌, ◌+◌, ◌≤◌, ◌∷◌, [], map, IfErr, IfOk};
 ghost use Rattle.std.specs.List.{sum_by};
 ghost use Rattle.uf_store.specs.Clashes.{IsSaving};
 ghost use Rattle.uf_store.specs.Calls.{OnlySaves};
@@ -35,15 +35,15 @@ pub fn save_node<S: Store, L: Ledger>(
     let cid = save_block(alloc, store, Codec::DagPb, bytes, touches)?;
     Ok(Entry {
         cid,
-        tsize: tsize_over(bytes, items.as_slice()),
+        tsize: tsize_over_slots(bytes.len(), items.as_slice()),
     })
 }
 
-// The length of a shard's block and the Tsizes of its links; a greater number counts as the greatest.
-fn tsize_over(bytes: &[u8], items: &[Placed]) -> u64
-    ensures { result ≡ capped (length bytes.now + sum_by (λ (p : InSlot). (item_entry p.1).tsize) items.now) }
+/// So many bytes, as a shard's block has, and the Tsizes of its slots; a number past 2^64 - 1 counts as that.
+pub fn tsize_over_slots(bytes: usize, items: &[Placed]) -> u64
+    ensures { result ≡ capped (bytes + sum_by (λ (p : InSlot). (item_entry p.1).tsize) items.now) }
 {
-    let mut total = bytes.len() as u64;
+    let mut total = bytes as u64;
     for placed in items {
         total = total.saturating_add(tsize_of(&placed.item));
     }
