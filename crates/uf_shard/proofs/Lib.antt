@@ -19,3 +19,4 @@ pub mod Puts
 pub mod Setting
 pub mod Slotted
 pub mod Takes
+pub mod Saves

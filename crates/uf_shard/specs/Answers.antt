@@ -7,7 +7,8 @@ use Rattle.uf_cid.specs.Blocks.{Held}
 use Rattle.uf_store.specs.declared.store.Role.{Role}
 use Rattle.uf_store.specs.Clashes.{IsSaving}
 use Rattle.uf_store.specs.Contents.{Told}
-use Rattle.uf_store.specs.Faults.{Shows, StaysCalm}
+use Rattle.uf_store.specs.declared.store.StoreFault.{StoreFault}
+use Rattle.uf_store.specs.Faults.{Shown as ShownOf}
 use Rattle.uf_store.specs.Lost.{IsLossOf}
 use Rattle.uf_store.specs.Seen.{Seen}
 use Rattle.uf_tree.specs.declared.nodes.Entry.{Entry}
@@ -42,9 +43,14 @@ AtCollision (Err (Collision first second)) P = P
 AtCollision (Err TooBig) P = ⊤
 AtCollision (Err (Store fault)) P = ⊤
 
+-- the store's fault in an answer
+abbrev pub dir_fault : {A : Type 0} → Result A DirFault → Option StoreFault
+dir_fault (Ok a) = None
+dir_fault (Err (Collision first second)) = None
+dir_fault (Err TooBig) = None
+dir_fault (Err (Store fault)) = Some fault
+
 -- no fault was passed over: a fault of the store shows its cause, and before any other answer the store has stayed calm
-abbrev pub Shown : {A : Type 0} → (List ℕ → List ℕ) → (Role → List ℕ → Type 0) → Result A DirFault → Seen → Seen → Type 0
-Shown hash IsBad (Ok a) before now = StaysCalm before now
-Shown hash IsBad (Err (Collision first second)) before now = StaysCalm before now
-Shown hash IsBad (Err TooBig) before now = StaysCalm before now
-Shown hash IsBad (Err (Store fault)) before now = Shows hash IsBad fault before now
+abbrev pub Shown : {A : Type 0} → (List ℕ → List ℕ) → (Role → List ℕ → Type 0) → Result A DirFault
+    → Seen → Seen → Type 0
+Shown hash IsBad result before now = ShownOf hash IsBad (dir_fault result) before now

@@ -39,8 +39,8 @@ pub record IsItemAt (N : List ℕ → ℕ) (above : List ℕ) (s : ℕ) (item : 
   pub valid : IsItem item
   pub on_way : IsOnWay N above (s, item)
 
--- a fault that may come where these blocks agree with what is told: one of them is lost, the store failed or met a clash, or
--- there was no memory
+-- a fault that may come where these blocks agree with what is told: one of them is lost, the store failed or met a
+-- clash, or there was no memory
 abbrev pub MayLose : Told → List Held → StoreFault → Type 0
 MayLose told l Failed = ⊤
 MayLose told l (Damaged cid) = ⊤
@@ -100,7 +100,7 @@ module _ (X : List ℕ → List ℕ) (N : List ℕ → ℕ) where
   abbrev pub blocks_of : ℕ → List Named → List Held
   blocks_of left l = slot_blocks (deeper X N left) l
 
-  -- the slots are those of the shard of these pairs on the way of a hash, and what is told agrees with the blocks below it
+  -- the slots are those of the shard of these pairs on the way of a hash, and what is told agrees with the blocks below
   pub record AreItems (hash left : ℕ) (told : Told) (items : List InSlot) (l : List Named) : Type 0 where
     pub valid : IsDirectory l
     pub apart : HasShard N left l
@@ -127,22 +127,27 @@ module _ (X : List ℕ → List ℕ) (N : List ℕ → ℕ) where
     pub known : AreKnown told old (blocks_of left l)
 
   -- what the put of an entry under a name gives in the slots of a shard of these pairs
-  abbrev pub PutsSlots : (before now : Told) → List Held → ℕ → List ℕ → Entry → List Named → Result (List InSlot) DirFault → Type 0
-  PutsSlots before now old left name e l (Ok items) = HasNoTwin N name l × GivesItems now old left items (with_name name e l)
+  abbrev pub PutsSlots : (before now : Told) → List Held → ℕ → List ℕ → Entry → List Named
+      → Result (List InSlot) DirFault → Type 0
+  PutsSlots before now old left name e l (Ok items) =
+      HasNoTwin N name l × GivesItems now old left items (with_name name e l)
   PutsSlots before now old left name e l (Err (Collision first second)) = AreTwins N name l first second
   PutsSlots before now old left name e l (Err TooBig) = ⊥
   PutsSlots before now old left name e l (Err (Store fault)) = MayLose before old fault
 
   -- the same in one slot of it
-  abbrev pub PutsSlot : (before now : Told) → List Held → ℕ → List ℕ → Entry → List Named → Result Item DirFault → Type 0
-  PutsSlot before now old left name e l (Ok item) = HasNoTwin N name l × GivesItem now old left (Some item) (with_name name e l)
+  abbrev pub PutsSlot : (before now : Told) → List Held → ℕ → List ℕ → Entry → List Named
+      → Result Item DirFault → Type 0
+  PutsSlot before now old left name e l (Ok item) =
+      HasNoTwin N name l × GivesItem now old left (Some item) (with_name name e l)
   PutsSlot before now old left name e l (Err (Collision first second)) = AreTwins N name l first second
   PutsSlot before now old left name e l (Err TooBig) = ⊥
   PutsSlot before now old left name e l (Err (Store fault)) = MayLose before old fault
 
   -- what a slot has, after the shard below it was saved of slots that those of these pairs are, or a save failed
   abbrev pub SavesBelow : (before now : Told) → List InSlot → Result Item DirFault → Type 0
-  SavesBelow before now items (Ok item) = (old : List Held) (left : ℕ) (l : List Named) → 2 ≤ length l → GivesItems before old left items l → GivesItem now old (suc left) (Some item) l
+  SavesBelow before now items (Ok item) = (old : List Held) (left : ℕ) (l : List Named) → 2 ≤ length l
+      → GivesItems before old left items l → GivesItem now old (suc left) (Some item) l
   SavesBelow before now items (Err (Collision first second)) = ⊥
   SavesBelow before now items (Err TooBig) = ⊥
   SavesBelow before now items (Err (Store fault)) = IsSaving fault

@@ -14,8 +14,10 @@ use Rattle.uf_tree.specs.Validity.{IsShard}
 -- the names of these slots in their order, a shard below in its slot's place
 abbrev pub AreListed : (Cid → List Named → Type 0) → List InSlot → List Named → Type 0
 AreListed Below [] rows = rows ≡ []
-AreListed Below ((s, Leaf name e) ∷ items) rows = (rest : List Named) × (rows ≡ (name, e) ∷ rest) × AreListed Below items rest
-AreListed Below ((s, Sub e) ∷ items) rows = (front rest : List Named) × (rows ≡ front ++ rest) × Below e.cid front × AreListed Below items rest
+AreListed Below ((s, Leaf name e) ∷ items) rows =
+    (rest : List Named) × (rows ≡ (name, e) ∷ rest) × AreListed Below items rest
+AreListed Below ((s, Sub e) ∷ items) rows =
+    (front rest : List Named) × (rows ≡ front ++ rest) × Below e.cid front × AreListed Below items rest
 
 -- the shard under a CID is held, and these are its names in the order of the slots
 pub record Lists (Below : Cid → List Named → Type 0) (held : Lookup) (cid : Cid) (rows : List Named) : Type 0 where
@@ -67,6 +69,7 @@ in_order (e ∷ l) = with_name e.0 e.1 (in_order l)
 -- a block that isn't canonical as a shard of its level, whatever hash gives the slots
 abbrev pub IsBadShard : Role → List ℕ → Type 0
 IsBadShard Directory bytes = ⊥
-IsBadShard (Shard level) bytes = (level < 8) × ((N : List ℕ → ℕ) (way : List ℕ) → length way ≡ level → IsCanonicalShard N way bytes → ⊥)
+IsBadShard (Shard level) bytes = (level < 8)
+    × ((N : List ℕ → ℕ) (way : List ℕ) → length way ≡ level → IsCanonicalShard N way bytes → ⊥)
 IsBadShard FileNode bytes = ⊥
 IsBadShard LeafRole bytes = ⊥

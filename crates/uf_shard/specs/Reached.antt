@@ -52,7 +52,8 @@ LoadsPlaced N hash level cid before now (Err (Clash c held bytes)) = ⊥
 LoadsPlaced N hash level cid before now (Err Memory) = ⊤
 
 -- the block was found, and is a shard that says this of a name
-pub record SaysOf (N : List ℕ → ℕ) (hash level : ℕ) (cid : Cid) (name : List ℕ) (before : Seen) (spot : Spot) : Type 0 where
+pub record SaysOf (N : List ℕ → ℕ) (hash level : ℕ) (cid : Cid) (name : List ℕ) (before : Seen) (spot : Spot)
+    : Type 0 where
   pub items : List InSlot
   pub has : HasPlaced N hash level cid before items
   pub says : spot ≡ spot_of name (find nat_cmp (slot hash level) items)

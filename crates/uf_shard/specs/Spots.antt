@@ -9,7 +9,8 @@ use Rattle.uf_tree.specs.Names.{names_cmp}
 use Rattle.uf_shard.specs.declared.spot.Spot.{Spot}
 use Rattle.uf_shard.specs.declared.spot.Spot.TheVariants.{Here, Below}
 
--- what a slot says of a name: its entry where the slot has it, no entry where it has another name or nothing, or the shard below
+-- what a slot says of a name: its entry where the slot has it, no entry where it has another name or nothing, or the
+-- shard below
 abbrev pub spot_of : List ℕ → Option Item → Spot
 spot_of name None = Here None
 spot_of name (Some (Leaf other e)) = Here (cond (eq_by_cmp names_cmp name other) (Some e) None)

@@ -83,7 +83,9 @@ collapsed (a ∷ b ∷ items) = Same
 abbrev pub IsLeftOf : (List ℕ → List ℕ) → (before now : Told) → List InSlot → Removed → Type 0
 IsLeftOf X before now items Absent = ⊥
 IsLeftOf X before now items Empty = items ≡ []
-IsLeftOf X before now items (Left e) = (1 ≤ length items) × (e ≡ node_entry X (shard_block items) (map (λ (p : InSlot). item_entry p.1) items)) × Holds now ((e.cid, shard_block items) ∷ [])
+IsLeftOf X before now items (Left e) = (1 ≤ length items)
+    × (e ≡ node_entry X (shard_block items) (map (λ (p : InSlot). item_entry p.1) items))
+    × Holds now ((e.cid, shard_block items) ∷ [])
 
 -- the list has the name
 abbrev pub HasName : List ℕ → List Named → Type 0
@@ -99,26 +101,32 @@ module _ (X : List ℕ → List ℕ) (N : List ℕ → ℕ) where
   abbrev pub left_without : List ℕ → List Named → Removed
   left_without name l = elim (find names_cmp name l) [ None ↦ Absent | Some old ↦ left_of (without name l) ]
 
-  -- where something is left, what is told agrees with its blocks, and those that aren't held are old ones that weren't held before
+  -- where something is left, what is told agrees with its blocks, and those that aren't held are old ones that weren't
+  -- held before
   abbrev pub AgreesLeft : (before now : Told) → List Held → List ℕ → List Named → Removed → Type 0
   AgreesLeft before now old name l Absent = ⊤
   AgreesLeft before now old name l Empty = ⊤
   AgreesLeft before now old name l (Left e) = AgreesAfter before now old (shard X N 7 (without name l)).blocks
 
   -- what the removal of a name gives in the slots of a shard of these pairs: nothing where the name isn't there
-  abbrev pub TakesSlots : (before now : Told) → List Held → ℕ → List ℕ → List Named → Result (Option (List InSlot)) StoreFault → Type 0
+  abbrev pub TakesSlots : (before now : Told) → List Held → ℕ → List ℕ → List Named
+      → Result (Option (List InSlot)) StoreFault → Type 0
   TakesSlots before now old left name l (Ok None) = find names_cmp name l ≡ None
-  TakesSlots before now old left name l (Ok (Some items)) = HasName name l × GivesItems X N now old left items (without name l)
+  TakesSlots before now old left name l (Ok (Some items)) =
+      HasName name l × GivesItems X N now old left items (without name l)
   TakesSlots before now old left name l (Err fault) = MayLose before old fault
 
   -- the same in one slot of it
   abbrev pub TakesSlot : (before now : Told) → List Held → ℕ → List ℕ → List Named → Result Rest StoreFault → Type 0
   TakesSlot before now old left name l (Ok Same) = find names_cmp name l ≡ None
-  TakesSlot before now old left name l (Ok (Of item)) = HasName name l × GivesItem X N now old left item (without name l)
+  TakesSlot before now old left name l (Ok (Of item)) =
+      HasName name l × GivesItem X N now old left item (without name l)
   TakesSlot before now old left name l (Err fault) = MayLose before old fault
 
   -- what a slot has of the slots of the shard below it, those of these pairs, or a save failed
   abbrev pub LeavesBelow : (before now : Told) → List InSlot → Result Rest StoreFault → Type 0
   LeavesBelow before now items (Ok Same) = ⊥
-  LeavesBelow before now items (Ok (Of item)) = (old : List Held) (left : ℕ) (l : List Named) → IsTrue (is_sorted names_cmp l) → GivesItems X N before old left items l → GivesItem X N now old (suc left) item l
+  LeavesBelow before now items (Ok (Of item)) = (old : List Held) (left : ℕ) (l : List Named)
+      → IsTrue (is_sorted names_cmp l) → GivesItems X N before old left items l
+      → GivesItem X N now old (suc left) item l
   LeavesBelow before now items (Err fault) = IsSaving fault

@@ -1,12 +1,16 @@
 -- Shards loaded one by one, and what the shards of a plan have below them.
-use Rattle.std.specs.Prelude.{◌≡◌, ◌≢◌, ◌≤◌, ◌+◌, ◌-◌, ◌*◌, ℕ, zero, suc, List, [], ◌∷◌, length, ⊤, Some, None, IfSome, nat_lt, if◌then◌else◌}
+use Rattle.std.specs.Prelude.{◌≡◌, ◌≢◌, ◌≤◌, ◌+◌, ◌-◌, ◌*◌, ℕ, zero, suc, List, [], ◌∷◌, length, ⊤, Some, None}
+use Rattle.std.specs.Prelude.{IfErr, IfSome, nat_lt, if◌then◌else◌}
 use Rattle.std.specs.declared.option.Option.{Option}
 use Rattle.std.specs.declared.result.Result.{Result}
 use Rattle.std.specs.declared.result.Result.TheVariants.{Ok, Err}
 use Rattle.std.specs.List.{AllByRecursion, flat_map, sum_by}
 use Rattle.uf_cid.specs.declared.cid.Cid.{Cid}
 use Rattle.uf_cid.specs.Blocks.{Held}
-use Rattle.uf_store.specs.Contents.{held_at}
+use Rattle.uf_edge.specs.Counts.{Stood}
+use Rattle.uf_store.specs.Contents.{Told, held_at}
+use Rattle.uf_store.specs.Keeping.{Agrees}
+use Rattle.uf_store.specs.Lost.{IsLossOf}
 use Rattle.uf_store.specs.Seen.{Seen}
 use Rattle.uf_store.specs.declared.store.StoreFault.{StoreFault}
 use Rattle.uf_store.specs.declared.store.StoreFault.TheVariants.{Failed, Damaged, Missing, BadBlock, Clash, Memory}
@@ -87,3 +91,24 @@ module _ (X : List ℕ → List ℕ) (N : List ℕ → ℕ) where
 
   abbrev pub all_blocks : ℕ → (ℕ → List Named) → List InSlot → List Held
   all_blocks left over items = flat_map (λ (p : InSlot). blocks_over left p.1 (over p.0)) items
+
+-- where the store didn't fail, a fault is that one of these blocks is lost, or want of memory
+abbrev pub LosesOnly : {A : Type 0} → List Held → Result A StoreFault → Seen → Seen → Type 0
+LosesOnly blocks result before now =
+    Stood before.faults now.faults → IfErr result (IsLossOf before.told blocks)
+
+module _ (X : List ℕ → List ℕ) (told : Told) where
+  -- what holds of the pairs and blocks of each plan of the shard under a CID, where what is told agrees with the blocks
+  abbrev pub OverShard : ℕ → Cid → (List Named → List Held → Type 0) → Type 0
+  OverShard left cid P = (N : List ℕ → ℕ) (l : List Named) → IsRoot X N left cid l
+      → Agrees told (shard X N left l).blocks → P l (shard X N left l).blocks
+
+  -- the same of some slots
+  abbrev pub OverSlots : ℕ → List InSlot → ((ℕ → List Named) → List Held → Type 0) → Type 0
+  OverSlots left items P = (N : List ℕ → ℕ) (over : ℕ → List Named) → AreOver X N left over items
+      → Agrees told (all_blocks X N left over items) → P over (all_blocks X N left over items)
+
+  -- the same of one slot
+  abbrev pub OverSlot : ℕ → Item → (List Named → List Held → Type 0) → Type 0
+  OverSlot left item P = (N : List ℕ → ℕ) (l : List Named) → IsOver X N left item l
+      → Agrees told (blocks_over X N left item l) → P l (blocks_over X N left item l)

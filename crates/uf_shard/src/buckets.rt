@@ -35,7 +35,8 @@ pub fn in_slots<'a>(
 ) -> Result<Vec<Seq<Hashed<'a>>>, Memory>
     requires { level < 8 }
     ensures count { IfOk result (λ slots. length slots.items ≡ 256) }
-    ensures rows { IfOk result (λ slots. (s : ℕ) → s < 256 → slice_index_or slots.items s [] ≡ rows_at level s rows.now) }
+    ensures rows { IfOk result (λ slots. (s : ℕ) → s < 256
+        → slice_index_or slots.items s [] ≡ rows_at level s rows.now) }
 {
     let mut slots = empty_slots(alloc)?;
     for row in rows {
@@ -59,7 +60,8 @@ fn empty_slots<'a>(alloc: Global) -> Result<Vec<Seq<Hashed<'a>>>, Memory>
 // Puts a row behind the others of its slot.
 fn put<'a>(slots: &mut Vec<Seq<Hashed<'a>>>, slot: u8, row: Hashed<'a>) -> Result<(), Memory>
     requires { length slots.old.items ≡ 256 }
-    ensures { OnOk result (slots.new.items ≡ slice_set slots.old.items slot (slice_index_or slots.old.items slot [] ++ row.entry ∷ [])) }
+    ensures { OnOk result (slots.new.items
+        ≡ slice_set slots.old.items slot (slice_index_or slots.old.items slot [] ++ row.entry ∷ [])) }
 {
     let here = &mut slots[usize::from(slot)];
     here.push(row)

@@ -1,7 +1,9 @@
 // Shard trees built from lists.
-ghost use Rattle.std.specs.Prelude.{◌≡◌, ◌≢◌, ◌≤◌, ◌<◌, ◌+◌, ℕ, [], length, slice_index_or, None, Some, IfOk, IfErr, OnOk};
+ghost use Rattle.std.specs.Prelude.{◌≡◌, ◌≢◌, ◌≤◌, ◌<◌, ◌+◌, ℕ, [], None, Some};
+ghost use Rattle.std.specs.Prelude.{IfErr, IfOk, OnOk, length, slice_index_or};
 ghost use Rattle.uf_store.specs.Clashes.{IsSaving};
-ghost use Rattle.uf_store.specs.Faults.{Answers, NoneIsBad};
+ghost use Rattle.uf_store.specs.Calls.{OnlySaves};
+ghost use Rattle.uf_store.specs.Faults.{NoneIsBad, fault_in};
 ghost use Rattle.uf_store.specs.Keeping.{Holds, KeepsGood};
 ghost use Rattle.uf_store.specs.Writing.{SavesOnly};
 ghost use Rattle.uf_tree.specs.ShardPlan.{flat_tabulate, shard, slot_blocks, slot_item, tabulate};
@@ -18,7 +20,7 @@ use crate::nodes::save_node;
 use crate::twins::first_twins;
 use std::alloc::Global;
 use std::sync::ledger::Ledger;
-use uf_cid::{Memory, Seq};
+use uf_cid::Seq;
 use uf_murmur::NameHash;
 use uf_store::{Steps, Store, StoreFault};
 use uf_tree::{Entry, Item, Items, Pairs, Placed};
@@ -26,8 +28,8 @@ use uf_tree::{Entry, Item, Items, Pairs, Placed};
 // The greatest Tsize of a directory.
 const MOST_TSIZE: u64 = 1 << 62;
 
-/// Saves the shard tree of these pairs, at least one, and answers its entry (UnixFS v1, "HAMTDirectory"). Two names of one
-/// 64-bit hash are found before anything is saved or touched. One touch for each shard.
+/// Saves the shard tree of these pairs, at least one, and answers its entry (UnixFS v1, "HAMTDirectory"). Two names of
+/// one 64-bit hash are found before anything is saved or touched. One touch for each shard.
 pub fn build<S: Store, N: NameHash, L: Ledger>(
     alloc: Global,
     store: &mut S,
@@ -36,27 +38,24 @@ pub fn build<S: Store, N: NameHash, L: Ledger>(
 ) -> Result<Entry, DirFault>
     requires directory { IsDirectory pairs.now }
     requires some { 1 ≤ length pairs.now }
-    ensures answer { Gives (shard_refusal S.X.block32 N.name64 pairs.now) (shard S.X.block32 N.name64 7 pairs.now).entry result }
+    ensures answer { Gives (shard_refusal S.X.block32 N.name64 pairs.now)
+        (shard S.X.block32 N.name64 7 pairs.now).entry result }
     ensures held { OnOk result (Holds (S.seen store.new).told (shard S.X.block32 N.name64 7 pairs.now).blocks) }
-    ensures early { collision_of N.name64 pairs.now ≢ None → (S.seen store.new ≡ S.seen store.old) × (touches.new ≡ touches.old) }
+    ensures early { collision_of N.name64 pairs.now ≢ None
+        → (S.seen store.new ≡ S.seen store.old) × (touches.new ≡ touches.old) }
     ensures cause { Shown S.X.block32 NoneIsBad result (S.seen store.old) (S.seen store.new) }
     ensures good { KeepsGood S.X.block32 (S.seen store.old).told (S.seen store.new).told }
     ensures saves { SavesOnly S.X.block32 (S.seen store.old).told (S.seen store.new).told }
     ensures touches { touches.new ≤ touches.old + length (shard S.X.block32 N.name64 7 pairs.now).blocks }
 {
-    let rows = match hash_all::<N>(alloc, pairs.as_slice()) {
-        Ok(rows) => rows,
-        Err(Memory) => return Err(DirFault::Store(StoreFault::Memory)),
-    };
-    match first_twins(alloc, rows.as_slice()) {
-        Ok(None) => {}
-        Ok(Some(twins)) => return Err(collision(twins)),
-        Err(Memory) => return Err(DirFault::Store(StoreFault::Memory)),
+    let rows = hash_all::<N>(alloc, pairs.as_slice())?;
+    let twins = first_twins(alloc, rows.as_slice())?;
+    match twins {
+        None => {}
+        Some(twins) => return Err(collision(twins)),
     }
-    match save_shard::<S, N, L>(alloc, store, 7, rows.as_slice(), touches) {
-        Ok(entry) => within(entry),
-        Err(fault) => Err(DirFault::Store(fault)),
-    }
+    let entry = save_shard::<S, N, L>(alloc, store, 7, rows.as_slice(), touches)?;
+    within(entry)
 }
 
 // The fault that shows the names of two rows, or that there is no memory to show them.
@@ -92,21 +91,14 @@ fn save_shard<S: Store, N: NameHash, L: Ledger>(
     requires left { left ≤ 7 }
     requires rows { AreForShard N.name64 left rows.now }
     ensures entry { IfOk result (λ e. e ≡ (shard S.X.block32 N.name64 left (pairs_of rows.now)).entry) }
-    ensures held { OnOk result (Holds (S.seen store.new).told (shard S.X.block32 N.name64 left (pairs_of rows.now)).blocks) }
-    ensures cause { Answers S.X.block32 NoneIsBad result (S.seen store.old) (S.seen store.new) }
+    ensures held { OnOk result (Holds (S.seen store.new).told
+        (shard S.X.block32 N.name64 left (pairs_of rows.now)).blocks) }
     ensures fault { IfErr result IsSaving }
-    ensures good { KeepsGood S.X.block32 (S.seen store.old).told (S.seen store.new).told }
-    ensures saves { SavesOnly S.X.block32 (S.seen store.old).told (S.seen store.new).told }
+    ensures saves { OnlySaves S.X.block32 NoneIsBad (fault_in result) (S.seen store.old) (S.seen store.new) }
     ensures touches { touches.new ≤ touches.old + length (shard S.X.block32 N.name64 left (pairs_of rows.now)).blocks }
 {
-    let slots = match in_slots(alloc, rows, 7 - left) {
-        Ok(slots) => slots,
-        Err(Memory) => return Err(StoreFault::Memory),
-    };
-    let items = match save_slots::<S, N, L>(alloc, store, left, slots.as_slice(), touches) {
-        Ok(items) => items,
-        Err(fault) => return Err(fault),
-    };
+    let slots = in_slots(alloc, rows, 7 - left)?;
+    let items = save_slots::<S, N, L>(alloc, store, left, slots.as_slice(), touches)?;
     save_node(alloc, store, &items, touches)
 }
 
@@ -123,17 +115,17 @@ fn save_slots<S: Store, N: NameHash, L: Ledger>(
     requires count { length slots.now ≡ 256 }
     requires rows { (s : ℕ) → s < 256 → AreForSlot N.name64 left (slice_index_or slots.now s []) }
     ensures items { IfOk result (λ items. items ≡ tabulate 256 0 (item_at S.X.block32 N.name64 left slots.now)) }
-    ensures held { OnOk result (Holds (S.seen store.new).told (flat_tabulate 256 0 (blocks_at S.X.block32 N.name64 left slots.now))) }
-    ensures cause { Answers S.X.block32 NoneIsBad result (S.seen store.old) (S.seen store.new) }
+    ensures held { OnOk result (Holds (S.seen store.new).told
+        (flat_tabulate 256 0 (blocks_at S.X.block32 N.name64 left slots.now))) }
     ensures fault { IfErr result IsSaving }
-    ensures good { KeepsGood S.X.block32 (S.seen store.old).told (S.seen store.new).told }
-    ensures saves { SavesOnly S.X.block32 (S.seen store.old).told (S.seen store.new).told }
-    ensures touches { touches.new ≤ touches.old + length (flat_tabulate 256 0 (blocks_at S.X.block32 N.name64 left slots.now)) }
+    ensures saves { OnlySaves S.X.block32 NoneIsBad (fault_in result) (S.seen store.old) (S.seen store.new) }
+    ensures touches { touches.new ≤ touches.old
+        + length (flat_tabulate 256 0 (blocks_at S.X.block32 N.name64 left slots.now)) }
 {
     let mut items = Items::new(alloc);
     for (at, rows) in slots.iter().enumerate() {
         let slot = at as u8;
-        match save_slot::<S, N, L>(
+        save_slot::<S, N, L>(
             alloc,
             store,
             left,
@@ -141,10 +133,7 @@ fn save_slots<S: Store, N: NameHash, L: Ledger>(
             rows.as_slice(),
             &mut items,
             touches,
-        ) {
-            Ok(()) => {}
-            Err(fault) => return Err(fault),
-        }
+        )?;
     }
     Ok(items)
 }
@@ -162,21 +151,22 @@ fn save_slot<S: Store, N: NameHash, L: Ledger>(
 ) -> Result<(), StoreFault>
     requires left { left ≤ 7 }
     requires rows { AreForSlot N.name64 left rows.now }
-    ensures item { OnOk result (PutsItem slot (slot_item (deeper S.X.block32 N.name64 left) (pairs_of rows.now)) items.old items.new) }
-    ensures held { OnOk result (Holds (S.seen store.new).told (slot_blocks (deeper S.X.block32 N.name64 left) (pairs_of rows.now))) }
-    ensures cause { Answers S.X.block32 NoneIsBad result (S.seen store.old) (S.seen store.new) }
+    ensures item { OnOk result (PutsItem slot (slot_item (deeper S.X.block32 N.name64 left) (pairs_of rows.now))
+        items.old items.new) }
+    ensures held { OnOk result (Holds (S.seen store.new).told
+        (slot_blocks (deeper S.X.block32 N.name64 left) (pairs_of rows.now))) }
     ensures fault { IfErr result IsSaving }
-    ensures good { KeepsGood S.X.block32 (S.seen store.old).told (S.seen store.new).told }
-    ensures saves { SavesOnly S.X.block32 (S.seen store.old).told (S.seen store.new).told }
-    ensures touches { touches.new ≤ touches.old + length (slot_blocks (deeper S.X.block32 N.name64 left) (pairs_of rows.now)) }
+    ensures saves { OnlySaves S.X.block32 NoneIsBad (fault_in result) (S.seen store.old) (S.seen store.new) }
+    ensures touches { touches.new ≤ touches.old
+        + length (slot_blocks (deeper S.X.block32 N.name64 left) (pairs_of rows.now)) }
 {
     match rows {
         [] => Ok(()),
         [row] => put_leaf(items, slot, row),
-        _ => match save_shard::<S, N, L>(alloc, store, left - 1, rows, touches) {
-            Ok(entry) => put_item(items, slot, Item::Sub(entry)),
-            Err(fault) => Err(fault),
-        },
+        _ => {
+            let entry = save_shard::<S, N, L>(alloc, store, left - 1, rows, touches)?;
+            put_item(items, slot, Item::Sub(entry))
+        }
     }
 }
 
@@ -186,10 +176,8 @@ fn put_leaf(items: &mut Items, slot: u8, row: &Hashed) -> Result<(), StoreFault>
     ensures fault { IfErr result IsMemory }
 {
     let pair = row.pair;
-    match pair.name.copy() {
-        Ok(name) => put_item(items, slot, Item::Leaf(name, pair.entry)),
-        Err(Memory) => Err(StoreFault::Memory),
-    }
+    let name = pair.name.copy()?;
+    put_item(items, slot, Item::Leaf(name, pair.entry))
 }
 
 // Puts a slot behind the others.
@@ -197,8 +185,6 @@ fn put_item(items: &mut Items, slot: u8, item: Item) -> Result<(), StoreFault>
     ensures item { OnOk result (PutsItem slot (Some item) items.old items.new) }
     ensures fault { IfErr result IsMemory }
 {
-    match items.push(Placed { slot, item }) {
-        Ok(()) => Ok(()),
-        Err(Memory) => Err(StoreFault::Memory),
-    }
+    items.push(Placed { slot, item })?;
+    Ok(())
 }

@@ -1,20 +1,16 @@
 // The names of a shard tree gathered in the order of its slots, and put in byte order.
-ghost use Rattle.std.specs.Prelude.{◌≡◌, ◌≤◌, ◌+◌, ◌∷◌, ◌++◌, [], List, ℕ, IfErr, IfOk, IfSome, OnOk, length};
+ghost use Rattle.std.specs.Prelude.{◌≡◌, ◌≤◌, ◌+◌, ◌∷◌, ◌++◌, [], IfOk, IfSome, OnOk, length};
 ghost use Rattle.std.specs.List.{AllByRecursion};
-ghost use Rattle.std.specs.Ordering.{eq_by_cmp};
-ghost use Rattle.uf_edge.specs.Counts.{Stood};
+ghost use Rattle.uf_store.specs.Calls.{OnlyReads};
 ghost use Rattle.uf_store.specs.Contents.{held_at};
-ghost use Rattle.uf_store.specs.Faults.{Answers};
-ghost use Rattle.uf_store.specs.Keeping.{Agrees};
-ghost use Rattle.uf_store.specs.Lost.{IsLossOf};
+ghost use Rattle.uf_store.specs.Faults.{fault_in};
 ghost use Rattle.uf_tree.specs.Names.{names_cmp};
-ghost use Rattle.uf_tree.specs.Nodes.{Named};
-ghost use Rattle.uf_tree.specs.ShardPlan.{shard};
 ghost use Rattle.uf_tree.specs.Validity.{IsDirectory, IsNamed};
 ghost use Rattle.uf_shard.specs.Listing.{AddsShard, AddsSlot, AddsSlots, IsBadShard, in_order};
 ghost use Rattle.uf_shard.specs.Sorting.{ends_with, with_other, without_repeats};
-ghost use Rattle.uf_shard.specs.Walked.{AreOver, HasLevel, IsOver, IsRoot, all_blocks, blocks_over};
+ghost use Rattle.uf_shard.specs.Walked.{HasLevel, LosesOnly, OverShard, OverSlot, OverSlots};
 
+use crate::slots::is_same;
 use crate::walking::load_items;
 use std::alloc::Global;
 use std::cmp::Ordering;
@@ -34,19 +30,16 @@ pub fn gather<S: Store, L: Ledger>(
     touches: &mut Steps<L>,
 ) -> Result<(), StoreFault>
     requires left { left ≤ 7 }
-    ensures adds { OnOk result (IfSome (S.seen store.old).told (λ t. AddsShard (held_at t) left cid.now rows.old.items rows.new.items)) }
-    ensures lost { (N : List ℕ → ℕ) (l : List Named) → IsRoot S.X.block32 N left cid.now l → Agrees (S.seen store.old).told (shard S.X.block32 N left l).blocks
-        → Stood (S.seen store.old).faults (S.seen store.new).faults
-        → IfErr result (IsLossOf (S.seen store.old).told (shard S.X.block32 N left l).blocks) }
-    ensures touches { (N : List ℕ → ℕ) (l : List Named) → IsRoot S.X.block32 N left cid.now l → Agrees (S.seen store.old).told (shard S.X.block32 N left l).blocks
-        → touches.new ≤ touches.old + length (shard S.X.block32 N left l).blocks }
-    ensures cause { Answers S.X.block32 IsBadShard result (S.seen store.old) (S.seen store.new) }
-    ensures told { (S.seen store.new).told ≡ (S.seen store.old).told }
+    ensures adds { OnOk result (IfSome (S.seen store.old).told
+        (λ t. AddsShard (held_at t) left cid.now rows.old.items rows.new.items)) }
+    ensures lost { OverShard S.X.block32 (S.seen store.old).told left cid.now (λ l blocks.
+        LosesOnly blocks result (S.seen store.old) (S.seen store.new)) }
+    ensures touches { OverShard S.X.block32 (S.seen store.old).told left cid.now (λ l blocks.
+        touches.new ≤ touches.old + length blocks) }
+    ensures reads { OnlyReads S.X.block32 IsBadShard (fault_in result) (S.seen store.old) (S.seen store.new) }
 {
-    match load_items(alloc, store, left, cid, touches) {
-        Err(fault) => Err(fault),
-        Ok(items) => gather_slots(alloc, store, left, items.as_slice(), rows, touches),
-    }
+    let items = load_items(alloc, store, left, cid, touches)?;
+    gather_slots(alloc, store, left, items.as_slice(), rows, touches)
 }
 
 // Puts the names of slots behind the rows.
@@ -61,20 +54,16 @@ fn gather_slots<S: Store, L: Ledger>(
 ) -> Result<(), StoreFault>
     requires left { left ≤ 7 }
     requires levels { AllByRecursion (HasLevel left) items.now }
-    ensures adds { OnOk result (IfSome (S.seen store.old).told (λ t. AddsSlots (held_at t) left items.now rows.old.items rows.new.items)) }
-    ensures lost { (N : List ℕ → ℕ) (over : ℕ → List Named) → AreOver S.X.block32 N left over items.now → Agrees (S.seen store.old).told (all_blocks S.X.block32 N left over items.now)
-        → Stood (S.seen store.old).faults (S.seen store.new).faults
-        → IfErr result (IsLossOf (S.seen store.old).told (all_blocks S.X.block32 N left over items.now)) }
-    ensures touches { (N : List ℕ → ℕ) (over : ℕ → List Named) → AreOver S.X.block32 N left over items.now → Agrees (S.seen store.old).told (all_blocks S.X.block32 N left over items.now)
-        → touches.new ≤ touches.old + length (all_blocks S.X.block32 N left over items.now) }
-    ensures cause { Answers S.X.block32 IsBadShard result (S.seen store.old) (S.seen store.new) }
-    ensures told { (S.seen store.new).told ≡ (S.seen store.old).told }
+    ensures adds { OnOk result (IfSome (S.seen store.old).told
+        (λ t. AddsSlots (held_at t) left items.now rows.old.items rows.new.items)) }
+    ensures lost { OverSlots S.X.block32 (S.seen store.old).told left items.now (λ over blocks.
+        LosesOnly blocks result (S.seen store.old) (S.seen store.new)) }
+    ensures touches { OverSlots S.X.block32 (S.seen store.old).told left items.now (λ over blocks.
+        touches.new ≤ touches.old + length blocks) }
+    ensures reads { OnlyReads S.X.block32 IsBadShard (fault_in result) (S.seen store.old) (S.seen store.new) }
 {
     for placed in items {
-        match gather_slot(alloc, store, left, placed, rows, touches) {
-            Ok(()) => {}
-            Err(fault) => return Err(fault),
-        }
+        gather_slot(alloc, store, left, placed, rows, touches)?;
     }
     Ok(())
 }
@@ -91,20 +80,19 @@ fn gather_slot<S: Store, L: Ledger>(
 ) -> Result<(), StoreFault>
     requires left { left ≤ 7 }
     requires level { HasLevel left placed.now }
-    ensures adds { OnOk result (IfSome (S.seen store.old).told (λ t. AddsSlot (held_at t) left placed.now.1 rows.old.items rows.new.items)) }
-    ensures lost { (N : List ℕ → ℕ) (l : List Named) → IsOver S.X.block32 N left placed.now.1 l → Agrees (S.seen store.old).told (blocks_over S.X.block32 N left placed.now.1 l)
-        → Stood (S.seen store.old).faults (S.seen store.new).faults
-        → IfErr result (IsLossOf (S.seen store.old).told (blocks_over S.X.block32 N left placed.now.1 l)) }
-    ensures touches { (N : List ℕ → ℕ) (l : List Named) → IsOver S.X.block32 N left placed.now.1 l → Agrees (S.seen store.old).told (blocks_over S.X.block32 N left placed.now.1 l)
-        → touches.new ≤ touches.old + length (blocks_over S.X.block32 N left placed.now.1 l) }
-    ensures cause { Answers S.X.block32 IsBadShard result (S.seen store.old) (S.seen store.new) }
-    ensures told { (S.seen store.new).told ≡ (S.seen store.old).told }
+    ensures adds { OnOk result (IfSome (S.seen store.old).told
+        (λ t. AddsSlot (held_at t) left placed.now.1 rows.old.items rows.new.items)) }
+    ensures lost { OverSlot S.X.block32 (S.seen store.old).told left placed.now.1 (λ l blocks.
+        LosesOnly blocks result (S.seen store.old) (S.seen store.new)) }
+    ensures touches { OverSlot S.X.block32 (S.seen store.old).told left placed.now.1 (λ l blocks.
+        touches.new ≤ touches.old + length blocks) }
+    ensures reads { OnlyReads S.X.block32 IsBadShard (fault_in result) (S.seen store.old) (S.seen store.new) }
 {
     match &placed.item {
-        Item::Leaf(name, entry) => match add_row(rows, name, entry) {
-            Ok(()) => Ok(()),
-            Err(Memory) => Err(StoreFault::Memory),
-        },
+        Item::Leaf(name, entry) => {
+            add_row(rows, name, entry)?;
+            Ok(())
+        }
         Item::Sub(entry) => gather(alloc, store, left - 1, &entry.cid, rows, touches),
     }
 }
@@ -168,17 +156,6 @@ fn is_last(pairs: &[Pair], name: &Name) -> bool
     match pairs {
         [] => false,
         [.., last] => is_same(&last.name, name),
-    }
-}
-
-// Whether two names are one.
-fn is_same(a: &Name, b: &Name) -> bool
-    ensures { result ≡ eq_by_cmp names_cmp a.now b.now }
-{
-    match a.as_str().as_bytes().cmp(b.as_str().as_bytes()) {
-        Ordering::Less => false,
-        Ordering::Equal => true,
-        Ordering::Greater => false,
     }
 }
 

@@ -1,4 +1,5 @@
-//! Directories as trees of shards (UnixFS v1, "HAMTDirectory", with a fanout of 256): built, listed, weighed, a name looked up, put and taken out in place.
+//! Directories as trees of shards (UnixFS v1, "HAMTDirectory", with a fanout of 256): built, listed, weighed, a name
+//! looked up, put and taken out in place.
 #![tactic(auto)]
 
 mod buckets;
@@ -24,6 +25,7 @@ pub use building::build;
 pub use fault::DirFault;
 pub use listing::{entries, weight_over};
 pub use lookup::find;
+pub use nodes::tsize_over_slots;
 pub use putting::put;
 pub use removed::Removed;
 pub use removing::remove;

@@ -1,57 +1,58 @@
 // Shard trees read whole.
-ghost use Rattle.std.specs.Prelude.{◌≡◌, ◌≤◌, ◌+◌, ◌*◌, ◌/◌, ℕ, List, IfErr, IfOk, IfSome, length, min, nat_lt};
+ghost use Rattle.std.specs.Prelude.{◌≡◌, ◌≤◌, ◌+◌, ◌*◌, ◌/◌, ℕ, List, IfOk, IfSome, length, min, nat_lt};
 ghost use Rattle.std.specs.List.{AllByRecursion};
 ghost use Rattle.uf_edge.specs.Counts.{Stood};
+ghost use Rattle.uf_store.specs.Calls.{OnlyReads};
 ghost use Rattle.uf_store.specs.Contents.{held_at};
-ghost use Rattle.uf_store.specs.Faults.{Answers};
+ghost use Rattle.uf_store.specs.Faults.{Answers, fault_in};
 ghost use Rattle.uf_store.specs.Keeping.{Agrees};
-ghost use Rattle.uf_store.specs.Lost.{IsLossOf, ReadsOver};
+ghost use Rattle.uf_store.specs.Lost.{ReadsOver};
 ghost use Rattle.uf_tree.specs.DirPlan.{weight};
 ghost use Rattle.uf_tree.specs.Nodes.{Named};
 ghost use Rattle.uf_tree.specs.ShardPlan.{shard};
 ghost use Rattle.uf_tree.specs.Validity.{IsDirectory};
 ghost use Rattle.uf_shard.specs.Listing.{AreRows, IsBadShard, in_order};
 ghost use Rattle.uf_shard.specs.Planned.{IsPlanned};
-ghost use Rattle.uf_shard.specs.Walked.{AreOver, HasLevel, IsFew, IsOver, IsRoot, all_blocks, blocks_over, room_after, weight_over_slots};
+ghost use Rattle.uf_shard.specs.Walked.{HasLevel, IsFew, LosesOnly, OverShard, OverSlot, OverSlots};
+ghost use Rattle.uf_shard.specs.Walked.{room_after, weight_over_slots};
 
 use crate::gathering::{gather, ordered};
 use crate::walking::load_items;
 use std::alloc::Global;
 use std::sync::ledger::Ledger;
-use uf_cid::{Cid, Memory};
+use uf_cid::Cid;
 use uf_store::{Steps, Store, StoreFault};
 use uf_tree::{Item, Name, Pairs, Placed};
 
-/// The names and entries of the directory whose shard tree has this root, in byte order (UnixFS v1, "HAMTDirectory"). Of a
-/// name that comes twice, which no plan gives, the first in the order of the slots. One touch for each shard.
+/// The names and entries of the directory whose shard tree has this root, in byte order (UnixFS v1, "HAMTDirectory").
+/// Of a name that comes twice, which no plan gives, the first in the order of the slots. One touch for each shard.
 pub fn entries<S: Store, L: Ledger>(
     alloc: Global,
     store: &mut S,
     root: &Cid,
     touches: &mut Steps<L>,
 ) -> Result<Pairs, StoreFault>
-    ensures value { (N : List ℕ → ℕ) (l : List Named) → IsPlanned S.X.block32 N root.now l → Agrees (S.seen store.old).told (shard S.X.block32 N 7 l).blocks
+    ensures value { (N : List ℕ → ℕ) (l : List Named) → IsPlanned S.X.block32 N root.now l
+        → Agrees (S.seen store.old).told (shard S.X.block32 N 7 l).blocks
         → Stood (S.seen store.old).faults (S.seen store.new).faults
         → ReadsOver (S.seen store.old).told (shard S.X.block32 N 7 l).blocks l result }
-    ensures listed { IfSome (S.seen store.old).told (λ t. IfOk result (λ l. (rows : List Named) × AreRows (held_at t) 7 root.now rows × (l ≡ in_order rows))) }
+    ensures listed { IfSome (S.seen store.old).told (λ t. IfOk result (λ l. (rows : List Named)
+        × AreRows (held_at t) 7 root.now rows × (l ≡ in_order rows))) }
     ensures valid { IfOk result IsDirectory }
     ensures cause { Answers S.X.block32 IsBadShard result (S.seen store.old) (S.seen store.new) }
     ensures told { (S.seen store.new).told ≡ (S.seen store.old).told }
-    ensures touches { (N : List ℕ → ℕ) (l : List Named) → IsPlanned S.X.block32 N root.now l → Agrees (S.seen store.old).told (shard S.X.block32 N 7 l).blocks
+    ensures touches { (N : List ℕ → ℕ) (l : List Named) → IsPlanned S.X.block32 N root.now l
+        → Agrees (S.seen store.old).told (shard S.X.block32 N 7 l).blocks
         → touches.new ≤ touches.old + length (shard S.X.block32 N 7 l).blocks }
 {
     let mut rows = Vec::new(alloc);
-    match gather(alloc, store, 7, root, &mut rows, touches) {
-        Err(fault) => Err(fault),
-        Ok(()) => match ordered(alloc, rows) {
-            Ok(pairs) => Ok(pairs),
-            Err(Memory) => Err(StoreFault::Memory),
-        },
-    }
+    gather(alloc, store, 7, root, &mut rows, touches)?;
+    let pairs = ordered(alloc, rows)?;
+    Ok(pairs)
 }
 
-/// Whether the names of the directory whose shard tree has this root weigh more than a limit, each its length and 36. It
-/// stops as soon as it knows. One touch for each shard that it loads.
+/// Whether the names of the directory whose shard tree has this root weigh more than a limit, each its length and 36.
+/// It stops as soon as it knows. One touch for each shard that it loads.
 pub fn weight_over<S: Store, L: Ledger>(
     alloc: Global,
     store: &mut S,
@@ -59,22 +60,22 @@ pub fn weight_over<S: Store, L: Ledger>(
     limit: u64,
     touches: &mut Steps<L>,
 ) -> Result<bool, StoreFault>
-    ensures value { (N : List ℕ → ℕ) (l : List Named) → IsPlanned S.X.block32 N root.now l → Agrees (S.seen store.old).told (shard S.X.block32 N 7 l).blocks
+    ensures value { (N : List ℕ → ℕ) (l : List Named) → IsPlanned S.X.block32 N root.now l
+        → Agrees (S.seen store.old).told (shard S.X.block32 N 7 l).blocks
         → Stood (S.seen store.old).faults (S.seen store.new).faults
         → ReadsOver (S.seen store.old).told (shard S.X.block32 N 7 l).blocks (nat_lt limit (weight l)) result }
     ensures cause { Answers S.X.block32 IsBadShard result (S.seen store.old) (S.seen store.new) }
     ensures told { (S.seen store.new).told ≡ (S.seen store.old).told }
-    ensures touches { (N : List ℕ → ℕ) (l : List Named) → IsPlanned S.X.block32 N root.now l → Agrees (S.seen store.old).told (shard S.X.block32 N 7 l).blocks
+    ensures touches { (N : List ℕ → ℕ) (l : List Named) → IsPlanned S.X.block32 N root.now l
+        → Agrees (S.seen store.old).told (shard S.X.block32 N 7 l).blocks
         → touches.new ≤ touches.old + min (length (shard S.X.block32 N 7 l).blocks) (4 * (limit / 37 + 1) + 8) }
 {
-    match weigh(alloc, store, 7, root, limit, touches) {
-        Err(fault) => Err(fault),
-        Ok(room) => Ok(room.is_none()),
-    }
+    let room = weigh(alloc, store, 7, root, limit, touches)?;
+    Ok(room.is_none())
 }
 
-// What is left of a room behind the names of the shard under a CID, which has so many levels below it, or `None` where they
-// weigh more.
+// What is left of a room behind the names of the shard under a CID, which has so many levels below it, or `None` where
+// they weigh more.
 #[cycle(weighing)]
 fn weigh<S: Store, L: Ledger>(
     alloc: Global,
@@ -85,22 +86,18 @@ fn weigh<S: Store, L: Ledger>(
     touches: &mut Steps<L>,
 ) -> Result<Option<u64>, StoreFault>
     requires left { left ≤ 7 }
-    ensures weighs { (N : List ℕ → ℕ) (l : List Named) → IsRoot S.X.block32 N left cid.now l → Agrees (S.seen store.old).told (shard S.X.block32 N left l).blocks
-        → IfOk result (λ rest. rest ≡ room_after room (weight l)) }
-    ensures lost { (N : List ℕ → ℕ) (l : List Named) → IsRoot S.X.block32 N left cid.now l → Agrees (S.seen store.old).told (shard S.X.block32 N left l).blocks
-        → Stood (S.seen store.old).faults (S.seen store.new).faults
-        → IfErr result (IsLossOf (S.seen store.old).told (shard S.X.block32 N left l).blocks) }
-    ensures touches { (N : List ℕ → ℕ) (l : List Named) → IsRoot S.X.block32 N left cid.now l → Agrees (S.seen store.old).told (shard S.X.block32 N left l).blocks
-        → touches.new ≤ touches.old + length (shard S.X.block32 N left l).blocks }
-    ensures few { (N : List ℕ → ℕ) (l : List Named) → IsRoot S.X.block32 N left cid.now l → Agrees (S.seen store.old).told (shard S.X.block32 N left l).blocks
-        → IsFew (left + 1) touches.old touches.new room result }
-    ensures cause { Answers S.X.block32 IsBadShard result (S.seen store.old) (S.seen store.new) }
-    ensures told { (S.seen store.new).told ≡ (S.seen store.old).told }
+    ensures weighs { OverShard S.X.block32 (S.seen store.old).told left cid.now (λ l blocks.
+        IfOk result (λ rest. rest ≡ room_after room (weight l))) }
+    ensures lost { OverShard S.X.block32 (S.seen store.old).told left cid.now (λ l blocks.
+        LosesOnly blocks result (S.seen store.old) (S.seen store.new)) }
+    ensures touches { OverShard S.X.block32 (S.seen store.old).told left cid.now (λ l blocks.
+        touches.new ≤ touches.old + length blocks) }
+    ensures few { OverShard S.X.block32 (S.seen store.old).told left cid.now (λ l blocks.
+        IsFew (left + 1) touches.old touches.new room result) }
+    ensures reads { OnlyReads S.X.block32 IsBadShard (fault_in result) (S.seen store.old) (S.seen store.new) }
 {
-    match load_items(alloc, store, left, cid, touches) {
-        Err(fault) => Err(fault),
-        Ok(items) => weigh_slots(alloc, store, left, items.as_slice(), room, touches),
-    }
+    let items = load_items(alloc, store, left, cid, touches)?;
+    weigh_slots(alloc, store, left, items.as_slice(), room, touches)
 }
 
 // The same behind the names of slots.
@@ -115,24 +112,22 @@ fn weigh_slots<S: Store, L: Ledger>(
 ) -> Result<Option<u64>, StoreFault>
     requires left { left ≤ 7 }
     requires levels { AllByRecursion (HasLevel left) items.now }
-    ensures weighs { (N : List ℕ → ℕ) (over : ℕ → List Named) → AreOver S.X.block32 N left over items.now → Agrees (S.seen store.old).told (all_blocks S.X.block32 N left over items.now)
-        → IfOk result (λ rest. rest ≡ room_after room (weight_over_slots over items.now)) }
-    ensures lost { (N : List ℕ → ℕ) (over : ℕ → List Named) → AreOver S.X.block32 N left over items.now → Agrees (S.seen store.old).told (all_blocks S.X.block32 N left over items.now)
-        → Stood (S.seen store.old).faults (S.seen store.new).faults
-        → IfErr result (IsLossOf (S.seen store.old).told (all_blocks S.X.block32 N left over items.now)) }
-    ensures touches { (N : List ℕ → ℕ) (over : ℕ → List Named) → AreOver S.X.block32 N left over items.now → Agrees (S.seen store.old).told (all_blocks S.X.block32 N left over items.now)
-        → touches.new ≤ touches.old + length (all_blocks S.X.block32 N left over items.now) }
-    ensures few { (N : List ℕ → ℕ) (over : ℕ → List Named) → AreOver S.X.block32 N left over items.now → Agrees (S.seen store.old).told (all_blocks S.X.block32 N left over items.now)
-        → IsFew left touches.old touches.new room result }
-    ensures cause { Answers S.X.block32 IsBadShard result (S.seen store.old) (S.seen store.new) }
-    ensures told { (S.seen store.new).told ≡ (S.seen store.old).told }
+    ensures weighs { OverSlots S.X.block32 (S.seen store.old).told left items.now (λ over blocks.
+        IfOk result (λ rest. rest ≡ room_after room (weight_over_slots over items.now))) }
+    ensures lost { OverSlots S.X.block32 (S.seen store.old).told left items.now (λ over blocks.
+        LosesOnly blocks result (S.seen store.old) (S.seen store.new)) }
+    ensures touches { OverSlots S.X.block32 (S.seen store.old).told left items.now (λ over blocks.
+        touches.new ≤ touches.old + length blocks) }
+    ensures few { OverSlots S.X.block32 (S.seen store.old).told left items.now (λ over blocks.
+        IsFew left touches.old touches.new room result) }
+    ensures reads { OnlyReads S.X.block32 IsBadShard (fault_in result) (S.seen store.old) (S.seen store.new) }
 {
     let mut rest = room;
     for placed in items {
-        match weigh_slot(alloc, store, left, placed, rest, touches) {
-            Ok(Some(room)) => rest = room,
-            Ok(None) => return Ok(None),
-            Err(fault) => return Err(fault),
+        let behind = weigh_slot(alloc, store, left, placed, rest, touches)?;
+        match behind {
+            Some(room) => rest = room,
+            None => return Ok(None),
         }
     }
     Ok(Some(rest))
@@ -150,17 +145,15 @@ fn weigh_slot<S: Store, L: Ledger>(
 ) -> Result<Option<u64>, StoreFault>
     requires left { left ≤ 7 }
     requires level { HasLevel left placed.now }
-    ensures weighs { (N : List ℕ → ℕ) (l : List Named) → IsOver S.X.block32 N left placed.now.1 l → Agrees (S.seen store.old).told (blocks_over S.X.block32 N left placed.now.1 l)
-        → IfOk result (λ rest. rest ≡ room_after room (weight l)) }
-    ensures lost { (N : List ℕ → ℕ) (l : List Named) → IsOver S.X.block32 N left placed.now.1 l → Agrees (S.seen store.old).told (blocks_over S.X.block32 N left placed.now.1 l)
-        → Stood (S.seen store.old).faults (S.seen store.new).faults
-        → IfErr result (IsLossOf (S.seen store.old).told (blocks_over S.X.block32 N left placed.now.1 l)) }
-    ensures touches { (N : List ℕ → ℕ) (l : List Named) → IsOver S.X.block32 N left placed.now.1 l → Agrees (S.seen store.old).told (blocks_over S.X.block32 N left placed.now.1 l)
-        → touches.new ≤ touches.old + length (blocks_over S.X.block32 N left placed.now.1 l) }
-    ensures few { (N : List ℕ → ℕ) (l : List Named) → IsOver S.X.block32 N left placed.now.1 l → Agrees (S.seen store.old).told (blocks_over S.X.block32 N left placed.now.1 l)
-        → IsFew left touches.old touches.new room result }
-    ensures cause { Answers S.X.block32 IsBadShard result (S.seen store.old) (S.seen store.new) }
-    ensures told { (S.seen store.new).told ≡ (S.seen store.old).told }
+    ensures weighs { OverSlot S.X.block32 (S.seen store.old).told left placed.now.1 (λ l blocks.
+        IfOk result (λ rest. rest ≡ room_after room (weight l))) }
+    ensures lost { OverSlot S.X.block32 (S.seen store.old).told left placed.now.1 (λ l blocks.
+        LosesOnly blocks result (S.seen store.old) (S.seen store.new)) }
+    ensures touches { OverSlot S.X.block32 (S.seen store.old).told left placed.now.1 (λ l blocks.
+        touches.new ≤ touches.old + length blocks) }
+    ensures few { OverSlot S.X.block32 (S.seen store.old).told left placed.now.1 (λ l blocks.
+        IsFew left touches.old touches.new room result) }
+    ensures reads { OnlyReads S.X.block32 IsBadShard (fault_in result) (S.seen store.old) (S.seen store.new) }
 {
     match &placed.item {
         Item::Leaf(name, _) => Ok(room_behind(room, name)),

@@ -1,7 +1,8 @@
 // Shards loaded on the way of a name.
 ghost use Rattle.std.specs.Prelude.{◌≡◌, ◌<◌, ◌+◌};
 ghost use Rattle.uf_murmur.specs.Slots.{slot as slot_of};
-ghost use Rattle.uf_store.specs.Faults.{Answers};
+ghost use Rattle.uf_store.specs.Calls.{OnlyReads};
+ghost use Rattle.uf_store.specs.Faults.{fault_in};
 ghost use Rattle.uf_shard.specs.Placed.{IsBadOnWay};
 ghost use Rattle.uf_shard.specs.Reached.{LoadsPlaced};
 
@@ -23,14 +24,13 @@ pub fn load_shard<S: Store, N: NameHash, L: Ledger>(
     touches: &mut Steps<L>,
 ) -> Result<Items, StoreFault>
     requires { level < 8 }
-    ensures loads { LoadsPlaced N.name64 (N.name64 name.now) level cid.now (S.seen store.old) (S.seen store.new) result }
-    ensures cause { Answers S.X.block32 (IsBadOnWay N.name64 (N.name64 name.now)) result (S.seen store.old) (S.seen store.new) }
-    ensures told { (S.seen store.new).told ≡ (S.seen store.old).told }
+    ensures loads { LoadsPlaced N.name64 (N.name64 name.now) level cid.now
+        (S.seen store.old) (S.seen store.new) result }
+    ensures reads { OnlyReads S.X.block32 (IsBadOnWay N.name64 (N.name64 name.now)) (fault_in result)
+        (S.seen store.old) (S.seen store.new) }
     ensures touches { touches.new ≡ touches.old + 1 }
 {
-    if let Err(fault) = need(store, cid, touches) {
-        return Err(fault);
-    }
+    need(store, cid, touches)?;
     let hash = hash_of::<N>(name);
     match read_shard::<N>(alloc, store.block(), hash, level) {
         Ok(items) => Ok(items),

@@ -1,16 +1,16 @@
 // Shards saved.
-ghost use Rattle.std.specs.Prelude.{◌≡◌, ◌+◌, ◌≤◌, ◌∷◌, [], length, map, IfErr, IfOk};
+ghost use Rattle.std.specs.Prelude.{◌≡◌, ◌+◌, ◌≤◌, ◌∷◌, [], map, IfErr, IfOk};
 ghost use Rattle.std.specs.List.{sum_by};
 ghost use Rattle.uf_store.specs.Clashes.{IsSaving};
-ghost use Rattle.uf_store.specs.Faults.{Answers, NoneIsBad};
-ghost use Rattle.uf_store.specs.Keeping.{Holds, KeepsGood};
-ghost use Rattle.uf_store.specs.Writing.{SavesOnly};
+ghost use Rattle.uf_store.specs.Calls.{OnlySaves};
+ghost use Rattle.uf_store.specs.Faults.{NoneIsBad, fault_in};
+ghost use Rattle.uf_store.specs.Keeping.{Holds};
 ghost use Rattle.uf_tree.specs.Nodes.{InSlot, capped, item_entry, node_entry, shard_block};
 ghost use Rattle.uf_tree.specs.Validity.{IsEntry, IsShard};
 
 use std::alloc::Global;
 use std::sync::ledger::Ledger;
-use uf_cid::{Codec, Memory};
+use uf_cid::Codec;
 use uf_store::{Steps, Store, StoreFault, save_block};
 use uf_tree::{Entry, Item, Items, Placed, shard_node};
 
@@ -22,34 +22,28 @@ pub fn save_node<S: Store, L: Ledger>(
     touches: &mut Steps<L>,
 ) -> Result<Entry, StoreFault>
     requires { IsShard items.now }
-    ensures entry { IfOk result (λ e. e ≡ node_entry S.X.block32 (shard_block items.now) (map (λ (p : InSlot). item_entry p.1) items.now)) }
+    ensures entry { IfOk result (λ e. e ≡ node_entry S.X.block32 (shard_block items.now)
+        (map (λ (p : InSlot). item_entry p.1) items.now)) }
     ensures valid { IfOk result IsEntry }
     ensures held { IfOk result (λ e. Holds (S.seen store.new).told ((e.cid, shard_block items.now) ∷ [])) }
-    ensures cause { Answers S.X.block32 NoneIsBad result (S.seen store.old) (S.seen store.new) }
     ensures fault { IfErr result IsSaving }
-    ensures good { KeepsGood S.X.block32 (S.seen store.old).told (S.seen store.new).told }
-    ensures saves { SavesOnly S.X.block32 (S.seen store.old).told (S.seen store.new).told }
+    ensures saves { OnlySaves S.X.block32 NoneIsBad (fault_in result) (S.seen store.old) (S.seen store.new) }
     ensures touches { touches.new ≤ touches.old + 1 }
 {
-    let block = match shard_node(alloc, items) {
-        Ok(block) => block,
-        Err(Memory) => return Err(StoreFault::Memory),
-    };
+    let block = shard_node(alloc, items)?;
     let bytes = block.as_slice();
-    match save_block(alloc, store, Codec::DagPb, bytes, touches) {
-        Ok(cid) => Ok(Entry {
-            cid,
-            tsize: tsize_over(bytes, items.as_slice()),
-        }),
-        Err(fault) => Err(fault),
-    }
+    let cid = save_block(alloc, store, Codec::DagPb, bytes, touches)?;
+    Ok(Entry {
+        cid,
+        tsize: tsize_over_slots(bytes.len(), items.as_slice()),
+    })
 }
 
-// The length of a shard's block and the Tsizes of its links; a greater number counts as the greatest.
-fn tsize_over(bytes: &[u8], items: &[Placed]) -> u64
-    ensures { result ≡ capped (length bytes.now + sum_by (λ (p : InSlot). (item_entry p.1).tsize) items.now) }
+/// So many bytes, as a shard's block has, and the Tsizes of its slots; a number past 2^64 - 1 counts as that.
+pub fn tsize_over_slots(bytes: usize, items: &[Placed]) -> u64
+    ensures { result ≡ capped (bytes + sum_by (λ (p : InSlot). (item_entry p.1).tsize) items.now) }
 {
-    let mut total = bytes.len() as u64;
+    let mut total = bytes as u64;
     for placed in items {
         total = total.saturating_add(tsize_of(&placed.item));
     }

@@ -1,9 +1,11 @@
 // An entry put under a name.
-ghost use Rattle.std.specs.Prelude.{◌≡◌, ◌≢◌, ◌<◌, ◌≤◌, ◌+◌, ◌*◌, ◌-◌, ℕ, List, [], ◌∷◌, IfOk, IfSome, OnOk, Some, false};
+ghost use Rattle.std.specs.Prelude.{◌≡◌, ◌≢◌, ◌<◌, ◌≤◌, ◌+◌, ◌*◌, ◌-◌, ℕ, List, [], ◌∷◌};
+ghost use Rattle.std.specs.Prelude.{IfOk, IfSome, OnOk, Some, false};
 ghost use Rattle.std.specs.Ordering.{eq_by_cmp};
 ghost use Rattle.uf_cid.specs.declared.cid.Codec.TheVariants.{DagPb};
 ghost use Rattle.uf_edge.specs.Counts.{Stood};
 ghost use Rattle.uf_murmur.specs.Slots.{slot as slot_of};
+ghost use Rattle.uf_store.specs.Calls.{OnlySaves};
 ghost use Rattle.uf_store.specs.Faults.{NoneIsBad};
 ghost use Rattle.uf_store.specs.Keeping.{Agrees, KeepsGood, StaysAgreed};
 ghost use Rattle.uf_store.specs.Writing.{SavesOnly};
@@ -14,12 +16,13 @@ ghost use Rattle.uf_tree.specs.Names.{names_cmp};
 ghost use Rattle.uf_tree.specs.Nodes.{Named};
 ghost use Rattle.uf_tree.specs.ShardPlan.{shard};
 ghost use Rattle.uf_tree.specs.Validity.{IsItem, IsNamed, IsShard};
-ghost use Rattle.uf_shard.specs.Answers.{AtCollision, GivesOver, Shown, shard_refusal};
+ghost use Rattle.uf_shard.specs.Answers.{AtCollision, GivesOver, Shown, dir_fault, shard_refusal};
 ghost use Rattle.uf_shard.specs.Placed.{IsBadOnWay, IsPlaced, way};
 ghost use Rattle.uf_shard.specs.Planned.{IsPlanned};
 ghost use Rattle.uf_shard.specs.Reached.{IsReached};
 ghost use Rattle.uf_shard.specs.Saving.{IsCollisionOr};
-ghost use Rattle.uf_shard.specs.Changed.{AreItems, IsItemAt, IsOrderedOr, IsSlot, LeafOr, PutsSlot, PutsSlots, SavesBelow, below, blocks_of};
+ghost use Rattle.uf_shard.specs.Changed.{AreItems, IsItemAt, IsOrderedOr, IsSlot, LeafOr, PutsSlot, PutsSlots};
+ghost use Rattle.uf_shard.specs.Changed.{SavesBelow, below, blocks_of};
 
 use crate::DirFault;
 use crate::building::within;
@@ -34,9 +37,9 @@ use uf_murmur::NameHash;
 use uf_store::{Steps, Store, StoreFault};
 use uf_tree::{Entry, Item, Items, Name, Placed};
 
-/// Puts an entry under a name into the directory whose shard tree has this root, in the place of an older one of that name,
-/// and answers the entry of what it is then (UnixFS v1, "HAMTDirectory"). Another name of its 64-bit hash is found before
-/// anything is saved. Only the shards on the name's way are loaded and saved: at most 16 touches.
+/// Puts an entry under a name into the directory whose shard tree has this root, in the place of an older one of that
+/// name, and answers the entry of what it is then (UnixFS v1, "HAMTDirectory"). Another name of its 64-bit hash is
+/// found before anything is saved. Only the shards on the name's way are loaded and saved: at most 16 touches.
 pub fn put<S: Store, N: NameHash, L: Ledger>(
     alloc: Global,
     store: &mut S,
@@ -50,24 +53,23 @@ pub fn put<S: Store, N: NameHash, L: Ledger>(
         → Stood (S.seen store.old).faults (S.seen store.new).faults
         → Stood (S.seen store.old).clashes (S.seen store.new).clashes
         → GivesOver (S.seen store.old).told (shard S.X.block32 N.name64 7 l).blocks
-        (shard_refusal S.X.block32 N.name64 (with_name name.now entry.now l)) (shard S.X.block32 N.name64 7 (with_name name.now entry.now l)).entry result }
+        (shard_refusal S.X.block32 N.name64 (with_name name.now entry.now l))
+        (shard S.X.block32 N.name64 7 (with_name name.now entry.now l)).entry result }
     ensures node { IfOk result (λ e. e.cid.codec ≡ DagPb) }
     ensures after { OnOk result ((l : List Named) → IsPlanned S.X.block32 N.name64 root.now l
         → StaysAgreed (S.seen store.old).told (S.seen store.new).told (shard S.X.block32 N.name64 7 l).blocks
-        → AgreesAfter (S.seen store.old).told (S.seen store.new).told (shard S.X.block32 N.name64 7 l).blocks (shard S.X.block32 N.name64 7 (with_name name.now entry.now l)).blocks) }
+        → AgreesAfter (S.seen store.old).told (S.seen store.new).told (shard S.X.block32 N.name64 7 l).blocks
+        (shard S.X.block32 N.name64 7 (with_name name.now entry.now l)).blocks) }
     ensures early { AtCollision result ((S.seen store.new).told ≡ (S.seen store.old).told) }
-    ensures cause { Shown S.X.block32 (IsBadOnWay N.name64 (N.name64 name.now)) result (S.seen store.old) (S.seen store.new) }
+    ensures cause { Shown S.X.block32 (IsBadOnWay N.name64 (N.name64 name.now)) result
+        (S.seen store.old) (S.seen store.new) }
     ensures good { KeepsGood S.X.block32 (S.seen store.old).told (S.seen store.new).told }
     ensures saves { SavesOnly S.X.block32 (S.seen store.old).told (S.seen store.new).told }
     ensures touches { touches.new ≤ touches.old + 16 }
 {
-    match items_with::<S, N, L>(alloc, store, 7, root, name, entry, touches) {
-        Err(fault) => Err(fault),
-        Ok(items) => match save_node(alloc, store, &items, touches) {
-            Ok(entry) => within(entry),
-            Err(fault) => Err(DirFault::Store(fault)),
-        },
-    }
+    let items = items_with::<S, N, L>(alloc, store, 7, root, name, entry, touches)?;
+    let entry = save_node(alloc, store, &items, touches)?;
+    within(entry)
 }
 
 // The slots of the shard under a CID, which has so many levels below it, after an entry is put under a name.
@@ -84,18 +86,16 @@ fn items_with<S: Store, N: NameHash, L: Ledger>(
     requires { left ≤ 7 }
     ensures puts { (l : List Named) → IsReached S.X.block32 N.name64 (N.name64 name.now) left cid.now l
         → Agrees (S.seen store.old).told (shard S.X.block32 N.name64 left l).blocks
-        → PutsSlots S.X.block32 N.name64 (S.seen store.old).told (S.seen store.new).told (shard S.X.block32 N.name64 left l).blocks left name.now entry.now l result }
+        → PutsSlots S.X.block32 N.name64 (S.seen store.old).told (S.seen store.new).told
+        (shard S.X.block32 N.name64 left l).blocks left name.now entry.now l result }
     ensures valid { IfOk result IsShard }
     ensures early { AtCollision result ((S.seen store.new).told ≡ (S.seen store.old).told) }
-    ensures cause { Shown S.X.block32 (IsBadOnWay N.name64 (N.name64 name.now)) result (S.seen store.old) (S.seen store.new) }
-    ensures good { KeepsGood S.X.block32 (S.seen store.old).told (S.seen store.new).told }
-    ensures saves { SavesOnly S.X.block32 (S.seen store.old).told (S.seen store.new).told }
+    ensures saves { OnlySaves S.X.block32 (IsBadOnWay N.name64 (N.name64 name.now)) (dir_fault result)
+        (S.seen store.old) (S.seen store.new) }
     ensures touches { touches.new ≤ touches.old + (2 * left + 1) }
 {
-    match load_shard::<S, N, L>(alloc, store, 7 - left, cid, name, touches) {
-        Err(fault) => Err(DirFault::Store(fault)),
-        Ok(items) => put_into::<S, N, L>(alloc, store, left, &items, name, entry, touches),
-    }
+    let items = load_shard::<S, N, L>(alloc, store, 7 - left, cid, name, touches)?;
+    put_into::<S, N, L>(alloc, store, left, &items, name, entry, touches)
 }
 
 // These slots after an entry is put under a name. The shards below them are saved.
@@ -113,25 +113,19 @@ fn put_into<S: Store, N: NameHash, L: Ledger>(
     requires placed { IsPlaced N.name64 (way (N.name64 name.now) (7 - left)) items.now }
     ensures puts { (l : List Named)
         → AreItems S.X.block32 N.name64 (N.name64 name.now) left (S.seen store.old).told items.now l
-        → PutsSlots S.X.block32 N.name64 (S.seen store.old).told (S.seen store.new).told (below S.X.block32 N.name64 left l) left name.now entry.now l result }
+        → PutsSlots S.X.block32 N.name64 (S.seen store.old).told (S.seen store.new).told
+        (below S.X.block32 N.name64 left l) left name.now entry.now l result }
     ensures valid { IfOk result IsShard }
     ensures early { AtCollision result ((S.seen store.new).told ≡ (S.seen store.old).told) }
-    ensures cause { Shown S.X.block32 (IsBadOnWay N.name64 (N.name64 name.now)) result (S.seen store.old) (S.seen store.new) }
-    ensures good { KeepsGood S.X.block32 (S.seen store.old).told (S.seen store.new).told }
-    ensures saves { SavesOnly S.X.block32 (S.seen store.old).told (S.seen store.new).told }
+    ensures saves { OnlySaves S.X.block32 (IsBadOnWay N.name64 (N.name64 name.now)) (dir_fault result)
+        (S.seen store.old) (S.seen store.new) }
     ensures touches { touches.new ≤ touches.old + 2 * left }
 {
     let slot = slot_at::<N>(name, 7 - left);
-    let Ok(found) = item_in(items.as_slice(), slot) else {
-        return Err(DirFault::Store(StoreFault::Memory));
-    };
-    match item_with::<S, N, L>(alloc, store, left, found, name, entry, touches) {
-        Err(fault) => Err(fault),
-        Ok(item) => match with_slot(alloc, items.as_slice(), slot, Some(item)) {
-            Ok(changed) => Ok(changed),
-            Err(Memory) => Err(DirFault::Store(StoreFault::Memory)),
-        },
-    }
+    let found = item_in(items.as_slice(), slot)?;
+    let item = item_with::<S, N, L>(alloc, store, left, found, name, entry, touches)?;
+    let changed = with_slot(alloc, items.as_slice(), slot, Some(item))?;
+    Ok(changed)
 }
 
 // What a slot of a shard with so many levels below it has, after an entry is put under a name.
@@ -146,15 +140,16 @@ fn item_with<S: Store, N: NameHash, L: Ledger>(
     touches: &mut Steps<L>,
 ) -> Result<Item, DirFault>
     requires left { left ≤ 7 }
-    requires found { IfSome found (IsItemAt N.name64 (way (N.name64 name.now) (7 - left)) (slot_of (N.name64 name.now) (7 - left))) }
+    requires found { IfSome found (IsItemAt N.name64 (way (N.name64 name.now) (7 - left))
+        (slot_of (N.name64 name.now) (7 - left))) }
     ensures puts { (l : List Named)
         → IsSlot S.X.block32 N.name64 (N.name64 name.now) left (S.seen store.old).told found l
-        → PutsSlot S.X.block32 N.name64 (S.seen store.old).told (S.seen store.new).told (blocks_of S.X.block32 N.name64 left l) left name.now entry.now l result }
+        → PutsSlot S.X.block32 N.name64 (S.seen store.old).told (S.seen store.new).told
+        (blocks_of S.X.block32 N.name64 left l) left name.now entry.now l result }
     ensures valid { IfOk result IsItem }
     ensures early { AtCollision result ((S.seen store.new).told ≡ (S.seen store.old).told) }
-    ensures cause { Shown S.X.block32 (IsBadOnWay N.name64 (N.name64 name.now)) result (S.seen store.old) (S.seen store.new) }
-    ensures good { KeepsGood S.X.block32 (S.seen store.old).told (S.seen store.new).told }
-    ensures saves { SavesOnly S.X.block32 (S.seen store.old).told (S.seen store.new).told }
+    ensures saves { OnlySaves S.X.block32 (IsBadOnWay N.name64 (N.name64 name.now)) (dir_fault result)
+        (S.seen store.old) (S.seen store.new) }
     ensures touches { touches.new ≤ touches.old + 2 * left }
 {
     match found {
@@ -164,16 +159,22 @@ fn item_with<S: Store, N: NameHash, L: Ledger>(
             item_beside::<S, N, L>(alloc, store, left, old, name, entry, touches)
         }
         Some(Item::Sub(below)) => {
-            match items_with::<S, N, L>(alloc, store, left - 1, &below.cid, name, entry, touches) {
-                Err(fault) => Err(fault),
-                Ok(items) => save_below(alloc, store, &items, touches),
-            }
+            let items = items_with::<S, N, L>(
+                alloc,
+                store,
+                left - 1,
+                &below.cid,
+                name,
+                entry,
+                touches,
+            )?;
+            save_below(alloc, store, &items, touches)
         }
     }
 }
 
-// What the slot of an entry has, after another is put under a name: that one, where the names are the same, or the shard
-// of both.
+// What the slot of an entry has, after another is put under a name: that one, where the names are the same, or the
+// shard of both.
 #[cycle(puts)]
 fn item_beside<S: Store, N: NameHash, L: Ledger>(
     alloc: Global,
@@ -185,15 +186,16 @@ fn item_beside<S: Store, N: NameHash, L: Ledger>(
     touches: &mut Steps<L>,
 ) -> Result<Item, DirFault>
     requires left { left ≤ 7 }
-    requires found { IsItemAt N.name64 (way (N.name64 name.now) (7 - left)) (slot_of (N.name64 name.now) (7 - left)) (Leaf old.0 old.1) }
+    requires found { IsItemAt N.name64 (way (N.name64 name.now) (7 - left)) (slot_of (N.name64 name.now) (7 - left))
+        (Leaf old.0 old.1) }
     ensures puts { (l : List Named)
         → IsSlot S.X.block32 N.name64 (N.name64 name.now) left (S.seen store.old).told (Some (Leaf old.0 old.1)) l
-        → PutsSlot S.X.block32 N.name64 (S.seen store.old).told (S.seen store.new).told (blocks_of S.X.block32 N.name64 left l) left name.now entry.now l result }
+        → PutsSlot S.X.block32 N.name64 (S.seen store.old).told (S.seen store.new).told
+        (blocks_of S.X.block32 N.name64 left l) left name.now entry.now l result }
     ensures valid { IfOk result IsItem }
     ensures early { AtCollision result ((S.seen store.new).told ≡ (S.seen store.old).told) }
-    ensures cause { Shown S.X.block32 (IsBadOnWay N.name64 (N.name64 name.now)) result (S.seen store.old) (S.seen store.new) }
-    ensures good { KeepsGood S.X.block32 (S.seen store.old).told (S.seen store.new).told }
-    ensures saves { SavesOnly S.X.block32 (S.seen store.old).told (S.seen store.new).told }
+    ensures saves { OnlySaves S.X.block32 (IsBadOnWay N.name64 (N.name64 name.now)) (dir_fault result)
+        (S.seen store.old) (S.seen store.new) }
     ensures touches { touches.new ≤ touches.old + 2 * left }
 {
     if is_same(name, &old.0) {
@@ -203,13 +205,9 @@ fn item_beside<S: Store, N: NameHash, L: Ledger>(
         return Err(collision(name, &old.0));
     }
     let slot = slot_at::<N>(&old.0, 8 - left);
-    let Ok(alone) = alone_in(alloc, slot, old.0, old.1) else {
-        return Err(DirFault::Store(StoreFault::Memory));
-    };
-    match put_into::<S, N, L>(alloc, store, left - 1, &alone, name, entry, touches) {
-        Err(fault) => Err(fault),
-        Ok(items) => save_below(alloc, store, &items, touches),
-    }
+    let alone = alone_in(alloc, slot, old.0, old.1)?;
+    let items = put_into::<S, N, L>(alloc, store, left - 1, &alone, name, entry, touches)?;
+    save_below(alloc, store, &items, touches)
 }
 
 // The fault that shows two names of one hash in byte order, or that there is no memory to show them.
@@ -240,10 +238,8 @@ fn leaf(name: &Name, entry: &Entry) -> Result<Item, DirFault>
     ensures valid { IfOk result IsItem }
 {
     is_named(name, entry);
-    match name.copy() {
-        Ok(name) => Ok(Item::Leaf(name, *entry)),
-        Err(Memory) => Err(DirFault::Store(StoreFault::Memory)),
-    }
+    let name = name.copy()?;
+    Ok(Item::Leaf(name, *entry))
 }
 
 // The slots of a shard that has one entry.
@@ -269,15 +265,11 @@ fn save_below<S: Store, L: Ledger>(
     ensures gives { (N : List ℕ → ℕ)
         → SavesBelow S.X.block32 N (S.seen store.old).told (S.seen store.new).told items.now result }
     ensures valid { IfOk result IsItem }
-    ensures cause { Shown S.X.block32 NoneIsBad result (S.seen store.old) (S.seen store.new) }
-    ensures good { KeepsGood S.X.block32 (S.seen store.old).told (S.seen store.new).told }
-    ensures saves { SavesOnly S.X.block32 (S.seen store.old).told (S.seen store.new).told }
+    ensures saves { OnlySaves S.X.block32 NoneIsBad (dir_fault result) (S.seen store.old) (S.seen store.new) }
     ensures touches { touches.new ≤ touches.old + 1 }
 {
-    match save_node(alloc, store, items, touches) {
-        Ok(entry) => Ok(Item::Sub(entry)),
-        Err(fault) => Err(DirFault::Store(fault)),
-    }
+    let entry = save_node(alloc, store, items, touches)?;
+    Ok(Item::Sub(entry))
 }
 
 // A good name and an entry are a directory's pair.

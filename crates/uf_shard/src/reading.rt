@@ -27,15 +27,11 @@ pub fn read_shard<N: NameHash>(
     requires { level < 8 }
     ensures { Reads (IsPlaced N.name64 (way hash level)) shard_block bytes.now result }
 {
-    match read_shard_node(alloc, bytes) {
-        Err(fault) => Err(fault),
-        Ok(items) => {
-            if are_on_way::<N>(items.as_slice(), hash, level) {
-                Ok(items)
-            } else {
-                Err(StrictFault::NotCanonical)
-            }
-        }
+    let items = read_shard_node(alloc, bytes)?;
+    if are_on_way::<N>(items.as_slice(), hash, level) {
+        Ok(items)
+    } else {
+        Err(StrictFault::NotCanonical)
     }
 }
 
@@ -52,7 +48,8 @@ fn are_on_way<N: NameHash>(items: &[Placed], hash: u64, level: u8) -> bool
     true
 }
 
-// Whether the item's name has the slots of the hash above this level and its own slot there, or a shard may stand below.
+// Whether the item's name has the slots of the hash above this level and its own slot there, or a shard may stand
+// below.
 fn is_on_way<N: NameHash>(placed: &Placed, hash: u64, level: u8) -> bool
     requires { level < 8 }
     ensures { IsTrue result ↔ IsOnWay N.name64 (way hash level) placed.now }

@@ -5,7 +5,8 @@ ghost use Rattle.uf_cid.specs.declared.cid.Codec.TheVariants.{DagPb};
 ghost use Rattle.uf_edge.specs.Counts.{Stood};
 ghost use Rattle.uf_murmur.specs.Slots.{slot as slot_of};
 ghost use Rattle.uf_store.specs.Clashes.{IsSaving};
-ghost use Rattle.uf_store.specs.Faults.{Answers, NoneIsBad};
+ghost use Rattle.uf_store.specs.Calls.{OnlySaves};
+ghost use Rattle.uf_store.specs.Faults.{Answers, NoneIsBad, fault_in};
 ghost use Rattle.uf_store.specs.Keeping.{Agrees, KeepsGood, StaysAgreed};
 ghost use Rattle.uf_store.specs.Writing.{SavesOnly};
 ghost use Rattle.uf_store.specs.Lost.{ReadsOver};
@@ -16,7 +17,9 @@ ghost use Rattle.uf_shard.specs.Placed.{IsBadOnWay, IsPlaced, way};
 ghost use Rattle.uf_shard.specs.Planned.{IsPlanned};
 ghost use Rattle.uf_shard.specs.Reached.{IsReached};
 ghost use Rattle.uf_shard.specs.Changed.{AreItems, IsItemAt, IsSlot, below, blocks_of};
-ghost use Rattle.uf_shard.specs.Taken.{AgreesLeft, AreInSlots, IsLeftOf, LeavesNode, IsValidRest, LeafWithout, LeavesBelow, SavesNothing, TakesSlot, TakesSlots, UnsavedBelow, UnsavedItems, UnsavedRest, collapsed, left_without};
+ghost use Rattle.uf_shard.specs.Taken.{AgreesLeft, AreInSlots, IsLeftOf, IsValidRest, LeafWithout, LeavesBelow};
+ghost use Rattle.uf_shard.specs.Taken.{LeavesNode, SavesNothing, TakesSlot, TakesSlots, UnsavedBelow, UnsavedItems};
+ghost use Rattle.uf_shard.specs.Taken.{UnsavedRest, collapsed, left_without};
 
 use crate::loading::{load_shard, slot_at};
 use crate::nodes::save_node;
@@ -30,9 +33,10 @@ use uf_murmur::NameHash;
 use uf_store::{Steps, Store, StoreFault};
 use uf_tree::{Item, Items, Name, Placed};
 
-/// Takes a name out of the directory whose shard tree has this root, and answers what is left (UnixFS v1, "HAMTDirectory"). A
-/// shard below the root that is left with one entry gives way to that entry, level by level. Only the shards on the name's
-/// way are loaded and saved: at most 16 touches. Nothing is saved where the name isn't there or is the only one.
+/// Takes a name out of the directory whose shard tree has this root, and answers what is left (UnixFS v1,
+/// "HAMTDirectory"). A shard below the root that is left with one entry gives way to that entry, level by level. Only
+/// the shards on the name's way are loaded and saved: at most 16 touches. Nothing is saved where the name isn't there
+/// or is the only one.
 pub fn remove<S: Store, N: NameHash, L: Ledger>(
     alloc: Global,
     store: &mut S,
@@ -44,21 +48,24 @@ pub fn remove<S: Store, N: NameHash, L: Ledger>(
         → Agrees (S.seen store.old).told (shard S.X.block32 N.name64 7 l).blocks
         → Stood (S.seen store.old).faults (S.seen store.new).faults
         → Stood (S.seen store.old).clashes (S.seen store.new).clashes
-        → ReadsOver (S.seen store.old).told (shard S.X.block32 N.name64 7 l).blocks (left_without S.X.block32 N.name64 name.now l) result }
+        → ReadsOver (S.seen store.old).told (shard S.X.block32 N.name64 7 l).blocks
+        (left_without S.X.block32 N.name64 name.now l) result }
     ensures node { IfOk result LeavesNode }
     ensures nothing { IfOk result (λ left. SavesNothing left (S.seen store.old).told (S.seen store.new).told) }
     ensures after { IfOk result (λ left. (l : List Named) → IsPlanned S.X.block32 N.name64 root.now l
         → StaysAgreed (S.seen store.old).told (S.seen store.new).told (shard S.X.block32 N.name64 7 l).blocks
-        → AgreesLeft S.X.block32 N.name64 (S.seen store.old).told (S.seen store.new).told (shard S.X.block32 N.name64 7 l).blocks name.now l left) }
-    ensures cause { Answers S.X.block32 (IsBadOnWay N.name64 (N.name64 name.now)) result (S.seen store.old) (S.seen store.new) }
+        → AgreesLeft S.X.block32 N.name64 (S.seen store.old).told (S.seen store.new).told
+        (shard S.X.block32 N.name64 7 l).blocks name.now l left) }
+    ensures cause { Answers S.X.block32 (IsBadOnWay N.name64 (N.name64 name.now)) result
+        (S.seen store.old) (S.seen store.new) }
     ensures good { KeepsGood S.X.block32 (S.seen store.old).told (S.seen store.new).told }
     ensures saves { SavesOnly S.X.block32 (S.seen store.old).told (S.seen store.new).told }
     ensures touches { touches.new ≤ touches.old + 16 }
 {
-    match items_without::<S, N, L>(alloc, store, 7, root, name, touches) {
-        Err(fault) => Err(fault),
-        Ok(None) => Ok(Removed::Absent),
-        Ok(Some(items)) => left_of(alloc, store, &items, touches),
+    let left = items_without::<S, N, L>(alloc, store, 7, root, name, touches)?;
+    match left {
+        None => Ok(Removed::Absent),
+        Some(items) => left_of(alloc, store, &items, touches),
     }
 }
 
@@ -73,19 +80,15 @@ fn left_of<S: Store, L: Ledger>(
     ensures left { IfOk result (IsLeftOf S.X.block32 (S.seen store.old).told (S.seen store.new).told items.now) }
     ensures node { IfOk result LeavesNode }
     ensures nothing { IfOk result (λ left. SavesNothing left (S.seen store.old).told (S.seen store.new).told) }
-    ensures cause { Answers S.X.block32 NoneIsBad result (S.seen store.old) (S.seen store.new) }
     ensures fault { IfErr result IsSaving }
-    ensures good { KeepsGood S.X.block32 (S.seen store.old).told (S.seen store.new).told }
-    ensures saves { SavesOnly S.X.block32 (S.seen store.old).told (S.seen store.new).told }
+    ensures saves { OnlySaves S.X.block32 NoneIsBad (fault_in result) (S.seen store.old) (S.seen store.new) }
     ensures touches { touches.new ≤ touches.old + 1 }
 {
     if items.len() == 0 {
         return Ok(Removed::Empty);
     }
-    match save_node(alloc, store, items, touches) {
-        Ok(entry) => Ok(Removed::Left(entry)),
-        Err(fault) => Err(fault),
-    }
+    let entry = save_node(alloc, store, items, touches)?;
+    Ok(Removed::Left(entry))
 }
 
 // The slots of the shard under a CID, which has so many levels below it, without a name, where that is there.
@@ -101,18 +104,16 @@ fn items_without<S: Store, N: NameHash, L: Ledger>(
     requires { left ≤ 7 }
     ensures takes { (l : List Named) → IsReached S.X.block32 N.name64 (N.name64 name.now) left cid.now l
         → Agrees (S.seen store.old).told (shard S.X.block32 N.name64 left l).blocks
-        → TakesSlots S.X.block32 N.name64 (S.seen store.old).told (S.seen store.new).told (shard S.X.block32 N.name64 left l).blocks left name.now l result }
+        → TakesSlots S.X.block32 N.name64 (S.seen store.old).told (S.seen store.new).told
+        (shard S.X.block32 N.name64 left l).blocks left name.now l result }
     ensures valid { IfOk result (λ rest. IfSome rest AreInSlots) }
     ensures unsaved { IfOk result (λ rest. UnsavedItems rest (S.seen store.old).told (S.seen store.new).told) }
-    ensures cause { Answers S.X.block32 (IsBadOnWay N.name64 (N.name64 name.now)) result (S.seen store.old) (S.seen store.new) }
-    ensures good { KeepsGood S.X.block32 (S.seen store.old).told (S.seen store.new).told }
-    ensures saves { SavesOnly S.X.block32 (S.seen store.old).told (S.seen store.new).told }
+    ensures saves { OnlySaves S.X.block32 (IsBadOnWay N.name64 (N.name64 name.now)) (fault_in result)
+        (S.seen store.old) (S.seen store.new) }
     ensures touches { touches.new ≤ touches.old + (2 * left + 1) }
 {
-    match load_shard::<S, N, L>(alloc, store, 7 - left, cid, name, touches) {
-        Err(fault) => Err(fault),
-        Ok(items) => take_from::<S, N, L>(alloc, store, left, &items, name, touches),
-    }
+    let items = load_shard::<S, N, L>(alloc, store, 7 - left, cid, name, touches)?;
+    take_from::<S, N, L>(alloc, store, left, &items, name, touches)
 }
 
 // These slots without a name, where that is there. The shards below them are saved.
@@ -129,25 +130,23 @@ fn take_from<S: Store, N: NameHash, L: Ledger>(
     requires placed { IsPlaced N.name64 (way (N.name64 name.now) (7 - left)) items.now }
     ensures takes { (l : List Named)
         → AreItems S.X.block32 N.name64 (N.name64 name.now) left (S.seen store.old).told items.now l
-        → TakesSlots S.X.block32 N.name64 (S.seen store.old).told (S.seen store.new).told (below S.X.block32 N.name64 left l) left name.now l result }
+        → TakesSlots S.X.block32 N.name64 (S.seen store.old).told (S.seen store.new).told
+        (below S.X.block32 N.name64 left l) left name.now l result }
     ensures valid { IfOk result (λ rest. IfSome rest AreInSlots) }
     ensures unsaved { IfOk result (λ rest. UnsavedItems rest (S.seen store.old).told (S.seen store.new).told) }
-    ensures cause { Answers S.X.block32 (IsBadOnWay N.name64 (N.name64 name.now)) result (S.seen store.old) (S.seen store.new) }
-    ensures good { KeepsGood S.X.block32 (S.seen store.old).told (S.seen store.new).told }
-    ensures saves { SavesOnly S.X.block32 (S.seen store.old).told (S.seen store.new).told }
+    ensures saves { OnlySaves S.X.block32 (IsBadOnWay N.name64 (N.name64 name.now)) (fault_in result)
+        (S.seen store.old) (S.seen store.new) }
     ensures touches { touches.new ≤ touches.old + 2 * left }
 {
     let slot = slot_at::<N>(name, 7 - left);
-    let Ok(found) = item_in(items.as_slice(), slot) else {
-        return Err(StoreFault::Memory);
-    };
-    match item_without::<S, N, L>(alloc, store, left, found, name, touches) {
-        Err(fault) => Err(fault),
-        Ok(Rest::Same) => Ok(None),
-        Ok(Rest::Of(item)) => match with_slot(alloc, items.as_slice(), slot, item) {
-            Ok(changed) => Ok(Some(changed)),
-            Err(Memory) => Err(StoreFault::Memory),
-        },
+    let found = item_in(items.as_slice(), slot)?;
+    let rest = item_without::<S, N, L>(alloc, store, left, found, name, touches)?;
+    match rest {
+        Rest::Same => Ok(None),
+        Rest::Of(item) => {
+            let changed = with_slot(alloc, items.as_slice(), slot, item)?;
+            Ok(Some(changed))
+        }
     }
 }
 
@@ -162,25 +161,26 @@ fn item_without<S: Store, N: NameHash, L: Ledger>(
     touches: &mut Steps<L>,
 ) -> Result<Rest, StoreFault>
     requires left { left ≤ 7 }
-    requires found { IfSome found (IsItemAt N.name64 (way (N.name64 name.now) (7 - left)) (slot_of (N.name64 name.now) (7 - left))) }
+    requires found { IfSome found (IsItemAt N.name64 (way (N.name64 name.now) (7 - left))
+        (slot_of (N.name64 name.now) (7 - left))) }
     ensures takes { (l : List Named)
         → IsSlot S.X.block32 N.name64 (N.name64 name.now) left (S.seen store.old).told found l
-        → TakesSlot S.X.block32 N.name64 (S.seen store.old).told (S.seen store.new).told (blocks_of S.X.block32 N.name64 left l) left name.now l result }
+        → TakesSlot S.X.block32 N.name64 (S.seen store.old).told (S.seen store.new).told
+        (blocks_of S.X.block32 N.name64 left l) left name.now l result }
     ensures valid { IfOk result IsValidRest }
     ensures unsaved { IfOk result (λ rest. UnsavedRest rest (S.seen store.old).told (S.seen store.new).told) }
-    ensures cause { Answers S.X.block32 (IsBadOnWay N.name64 (N.name64 name.now)) result (S.seen store.old) (S.seen store.new) }
-    ensures good { KeepsGood S.X.block32 (S.seen store.old).told (S.seen store.new).told }
-    ensures saves { SavesOnly S.X.block32 (S.seen store.old).told (S.seen store.new).told }
+    ensures saves { OnlySaves S.X.block32 (IsBadOnWay N.name64 (N.name64 name.now)) (fault_in result)
+        (S.seen store.old) (S.seen store.new) }
     ensures touches { touches.new ≤ touches.old + 2 * left }
 {
     match found {
         None => Ok(Rest::Same),
         Some(Item::Leaf(other, _)) => Ok(leaf_without(&other, name)),
         Some(Item::Sub(below)) => {
-            match items_without::<S, N, L>(alloc, store, left - 1, &below.cid, name, touches) {
-                Err(fault) => Err(fault),
-                Ok(None) => Ok(Rest::Same),
-                Ok(Some(items)) => rest_of(alloc, store, &items, touches),
+            let rest = items_without::<S, N, L>(alloc, store, left - 1, &below.cid, name, touches)?;
+            match rest {
+                None => Ok(Rest::Same),
+                Some(items) => rest_of(alloc, store, &items, touches),
             }
         }
     }
@@ -197,8 +197,8 @@ fn leaf_without(other: &Name, name: &Name) -> Rest
     }
 }
 
-// What a slot has of these slots of the shard below it: nothing of none, a lone entry itself, and else the shard, which is
-// saved.
+// What a slot has of these slots of the shard below it: nothing of none, a lone entry itself, and else the shard, which
+// is saved.
 fn rest_of<S: Store, L: Ledger>(
     alloc: Global,
     store: &mut S,
@@ -206,22 +206,21 @@ fn rest_of<S: Store, L: Ledger>(
     touches: &mut Steps<L>,
 ) -> Result<Rest, StoreFault>
     requires { AreInSlots items.now }
-    ensures unsaved { IfOk result (λ rest. UnsavedBelow items.now rest (S.seen store.old).told (S.seen store.new).told) }
+    ensures unsaved { IfOk result (λ rest. UnsavedBelow items.now rest
+        (S.seen store.old).told (S.seen store.new).told) }
     ensures leaves { (N : List ℕ → ℕ)
         → LeavesBelow S.X.block32 N (S.seen store.old).told (S.seen store.new).told items.now result }
     ensures valid { IfOk result IsValidRest }
-    ensures cause { Answers S.X.block32 NoneIsBad result (S.seen store.old) (S.seen store.new) }
-    ensures good { KeepsGood S.X.block32 (S.seen store.old).told (S.seen store.new).told }
-    ensures saves { SavesOnly S.X.block32 (S.seen store.old).told (S.seen store.new).told }
+    ensures saves { OnlySaves S.X.block32 NoneIsBad (fault_in result) (S.seen store.old) (S.seen store.new) }
     ensures touches { touches.new ≤ touches.old + 1 }
 {
-    match without_shard(items.as_slice()) {
-        Ok(Rest::Of(item)) => Ok(Rest::Of(item)),
-        Ok(Rest::Same) => match save_node(alloc, store, items, touches) {
-            Ok(entry) => Ok(Rest::Of(Some(Item::Sub(entry)))),
-            Err(fault) => Err(fault),
-        },
-        Err(Memory) => Err(StoreFault::Memory),
+    let rest = without_shard(items.as_slice())?;
+    match rest {
+        Rest::Of(item) => Ok(Rest::Of(item)),
+        Rest::Same => {
+            let entry = save_node(alloc, store, items, touches)?;
+            Ok(Rest::Of(Some(Item::Sub(entry))))
+        }
     }
 }
 

@@ -1,5 +1,5 @@
-// Trees of shards that are planted in a store, and rows of what they answer. CIDs and sizes were computed outside of this
-// program.
+// Trees of shards that are planted in a store, and rows of what they answer. CIDs and sizes were computed outside of
+// this program.
 ghost use Rattle.std.specs.Prelude.{◌≡◌, ◌<◌};
 
 use crate::find;
@@ -14,7 +14,8 @@ use uf_tree::{Entry, Item, Items, Name, Placed, is_shard, shard_node};
 
 pub type Kept = MemStore<Sha256Hash>;
 
-// What a slot has: a name with the entry of an empty file, one with that of another file, or the block before its shard.
+// What a slot has: a name with the entry of an empty file, one with that of another file, or the block before its
+// shard.
 pub enum What {
     Empty(&'static str),
     Other(&'static str),

@@ -1,7 +1,8 @@
 // Shards loaded one by one, whatever names are below them.
 ghost use Rattle.std.specs.Prelude.{◌≡◌, ◌≤◌, ◌+◌, ◌↔◌, IsTrue};
 ghost use Rattle.std.specs.List.{AllByRecursion};
-ghost use Rattle.uf_store.specs.Faults.{Answers};
+ghost use Rattle.uf_store.specs.Calls.{OnlyReads};
+ghost use Rattle.uf_store.specs.Faults.{fault_in};
 ghost use Rattle.uf_tree.specs.Codecs.{Reads};
 ghost use Rattle.uf_tree.specs.Nodes.{shard_block};
 ghost use Rattle.uf_shard.specs.Listing.{IsBadShard};
@@ -23,13 +24,10 @@ pub fn load_items<S: Store, L: Ledger>(
 ) -> Result<Items, StoreFault>
     requires { left ≤ 7 }
     ensures loads { LoadsItems left cid.now (S.seen store.old) (S.seen store.new) result }
-    ensures cause { Answers S.X.block32 IsBadShard result (S.seen store.old) (S.seen store.new) }
-    ensures told { (S.seen store.new).told ≡ (S.seen store.old).told }
+    ensures reads { OnlyReads S.X.block32 IsBadShard (fault_in result) (S.seen store.old) (S.seen store.new) }
     ensures touches { touches.new ≡ touches.old + 1 }
 {
-    if let Err(fault) = need(store, cid, touches) {
-        return Err(fault);
-    }
+    need(store, cid, touches)?;
     match read_items(alloc, store.block(), left) {
         Ok(items) => Ok(items),
         Err(StrictFault::NotCanonical) => Err(StoreFault::BadBlock(*cid, Role::Shard(7 - left))),
@@ -41,15 +39,11 @@ pub fn load_items<S: Store, L: Ledger>(
 fn read_items(alloc: Global, bytes: &[u8], left: u8) -> Result<Items, StrictFault>
     ensures { Reads (IsAbove left) shard_block bytes.now result }
 {
-    match read_shard_node(alloc, bytes) {
-        Err(fault) => Err(fault),
-        Ok(items) => {
-            if have_levels(items.as_slice(), left) {
-                Ok(items)
-            } else {
-                Err(StrictFault::NotCanonical)
-            }
-        }
+    let items = read_shard_node(alloc, bytes)?;
+    if have_levels(items.as_slice(), left) {
+        Ok(items)
+    } else {
+        Err(StrictFault::NotCanonical)
     }
 }
 

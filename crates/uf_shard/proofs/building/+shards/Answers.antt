@@ -1,14 +1,14 @@
 use Rattle.std.proofs.Common.{◌≡◌, ℕ, ◌-◌, ◌<◌, List, [], length, map, get_or, refl, arith, rules, ap, sym, ◌∙◌, subst, length-append}
 use Rattle.std.proofs.lemmas.List.{get_or_read}
 use Rattle.std.proofs.lemmas.Result.{on_ok_weaker, IfOk-weaker}
-use Rattle.uf_store.proofs.Causes.{StaysCalm-refl, StaysCalm-trans}
-use Rattle.uf_store.proofs.Keeping.{KeepsGood-refl, KeepsGood-trans}
-use Rattle.uf_store.proofs.Writing.{SavesOnly-refl, SavesOnly-trans}
 use Rattle.uf_tree.specs.Nodes.{InSlot, item_entry}
 use Rattle.uf_tree.specs.ShardPlan.{flat_tabulate, slot_blocks, slot_item, tabulate}
 use Rattle.uf_shard.specs.Buckets.{blocks_at, deeper, item_at, pairs_of}
 use Rattle.uf_shard.specs.Saving.{PutsItem}
 use Rattle.uf_shard.specs.declared.hashed.Hashed.{Hashed}
+use Rattle.std.proofs.lemmas.Result.{err_from_is_err_and}
+use Rattle.uf_store.proofs.Calls.{saves-saves}
+use Rattle.uf_shard.proofs.Saves.{saves-none}
 use Rattle.uf_shard.proofs.BucketRows.{AreSlots, held-own, Holds-nil, Holds-over, Holds-step, flat_tabulate-at, flat_tabulate-step, for-slot, tabulate-step, whole-blocks, whole-entry, whole-valid}
 use Rattle.uf_shard.proofs.building.+shards.Goals as goal
 
@@ -16,7 +16,7 @@ pub save_shard-save_slots-requires : goal.save_shard-save_slots-requires
 save_shard-save_slots-requires g t c κs within =
     let hash : List ℕ → List ℕ = g.S.X.BlockHash.block32 in
     let name : List ℕ → ℕ = g.N.NameHash.name64 in
-    let each = subst (AreSlots hash name (7 - c.args.left) c.args.rows.now) (sym c.as_slice.ensures.value) c.in-Ok.ensures.rows in (
+    let each = subst (AreSlots hash name (7 - c.args.left) c.args.rows.now) (sym c.as_slice.ensures.value) c.in_ok-slots.ensures.rows in (
       search rules,
       (
         within.0,
@@ -29,7 +29,7 @@ save_shard-save_slots-requires g t c κs within =
               (
                 c.requires.left,
                 (
-                  ap length c.as_slice.ensures.value ∙ c.in-Ok.ensures.count,
+                  ap length c.as_slice.ensures.value ∙ c.in_ok-slots.ensures.count,
                   λ s low. for-slot name c.args.left (7 - c.args.left) s c.args.rows.now _ refl c.requires.rows (each s low),
                 ),
               ),
@@ -39,11 +39,11 @@ save_shard-save_slots-requires g t c κs within =
       ),
     )
 
-pub save_shard-returns-in-Err-save_slots-clause-touches : goal.save_shard-returns-in-Err-save_slots-clause-touches
-save_shard-returns-in-Err-save_slots-clause-touches g t c =
+pub save_shard-returns-in_err-items-clause-touches : goal.save_shard-returns-in_err-items-clause-touches
+save_shard-returns-in_err-items-clause-touches g t c =
     let hash : List ℕ → List ℕ = g.S.X.BlockHash.block32 in
     let name : List ℕ → ℕ = g.N.NameHash.name64 in
-    let each = subst (AreSlots hash name (7 - c.args.left) c.args.rows.now) (sym c.as_slice.ensures.value) c.in-Ok.ensures.rows in
+    let each = subst (AreSlots hash name (7 - c.args.left) c.args.rows.now) (sym c.as_slice.ensures.value) c.in_ok-slots.ensures.rows in
     let blocks = whole-blocks hash name c.args.left (7 - c.args.left) c.args.rows.now c.as_slice.result.now refl c.requires.rows each (tabulate 256 0 (item_at hash name c.args.left c.as_slice.result.now)) refl in
     omega (arith, ap length blocks, c.save_slots.ensures.touches)
 
@@ -51,34 +51,31 @@ pub save_shard-save_node-requires : goal.save_shard-save_node-requires
 save_shard-save_node-requires g t c =
     let hash : List ℕ → List ℕ = g.S.X.BlockHash.block32 in
     let name : List ℕ → ℕ = g.N.NameHash.name64 in
-    let each = subst (AreSlots hash name (7 - c.args.left) c.args.rows.now) (sym c.as_slice.ensures.value) c.in-Ok.ensures.rows in
+    let each = subst (AreSlots hash name (7 - c.args.left) c.args.rows.now) (sym c.as_slice.ensures.value) c.in_ok-slots.ensures.rows in
     whole-valid hash name c.args.left (7 - c.args.left) c.args.rows.now c.as_slice.result.now refl c.requires.rows each
-    (record { size = g.met.S.X.BlockHash.size; are_bytes = g.met.S.X.BlockHash.are_bytes }) c.in-Ok-save_slots.items c.in-Ok-save_slots.ensures.items
+    (record { size = g.met.S.X.BlockHash.size; are_bytes = g.met.S.X.BlockHash.are_bytes }) c.in_ok-items.items c.in_ok-items.ensures.items
 
 pub save_shard-returns-clause-entry : goal.save_shard-returns-clause-entry
 save_shard-returns-clause-entry g t c =
     let hash : List ℕ → List ℕ = g.S.X.BlockHash.block32 in
     let name : List ℕ → ℕ = g.N.NameHash.name64 in
-    let each = subst (AreSlots hash name (7 - c.args.left) c.args.rows.now) (sym c.as_slice.ensures.value) c.in-Ok.ensures.rows in
-    IfOk-weaker c.save_node.result _ _ (λ e is. is ∙ whole-entry hash name c.args.left (7 - c.args.left) c.args.rows.now c.as_slice.result.now refl c.requires.rows each c.in-Ok-save_slots.items c.in-Ok-save_slots.ensures.items) c.save_node.ensures.entry
+    let each = subst (AreSlots hash name (7 - c.args.left) c.args.rows.now) (sym c.as_slice.ensures.value) c.in_ok-slots.ensures.rows in
+    IfOk-weaker c.save_node.result _ _ (λ e is. is ∙ whole-entry hash name c.args.left (7 - c.args.left) c.args.rows.now c.as_slice.result.now refl c.requires.rows each c.in_ok-items.items c.in_ok-items.ensures.items) c.save_node.ensures.entry
 
 pub save_shard-returns-clause-held : goal.save_shard-returns-clause-held
 save_shard-returns-clause-held g t c =
     let hash : List ℕ → List ℕ = g.S.X.BlockHash.block32 in
     let name : List ℕ → ℕ = g.N.NameHash.name64 in
-    let each = subst (AreSlots hash name (7 - c.args.left) c.args.rows.now) (sym c.as_slice.ensures.value) c.in-Ok.ensures.rows in
-    let blocks = whole-blocks hash name c.args.left (7 - c.args.left) c.args.rows.now c.as_slice.result.now refl c.requires.rows each c.in-Ok-save_slots.items c.in-Ok-save_slots.ensures.items in
-    on_ok_weaker c.save_node.result (λ held. Holds-over hash name c.args.left c.as_slice.result.now _ _ _ _ blocks c.save_node.ensures.good c.in-Ok-save_slots.ensures.held held) (held-own hash _ (map (λ (p : InSlot). item_entry p.1) c.in-Ok-save_slots.items) _ c.save_node.result c.save_node.ensures.entry c.save_node.ensures.held)
-
-pub save_shard-returns-clause-saves : goal.save_shard-returns-clause-saves
-save_shard-returns-clause-saves g t c = SavesOnly-trans _ _ _ _ c.save_slots.ensures.saves c.save_node.ensures.saves
+    let each = subst (AreSlots hash name (7 - c.args.left) c.args.rows.now) (sym c.as_slice.ensures.value) c.in_ok-slots.ensures.rows in
+    let blocks = whole-blocks hash name c.args.left (7 - c.args.left) c.args.rows.now c.as_slice.result.now refl c.requires.rows each c.in_ok-items.items c.in_ok-items.ensures.items in
+    on_ok_weaker c.save_node.result (λ held. Holds-over hash name c.args.left c.as_slice.result.now _ _ _ _ blocks c.save_node.ensures.saves.good c.in_ok-items.ensures.held held) (held-own hash _ (map (λ (p : InSlot). item_entry p.1) c.in_ok-items.items) _ c.save_node.result c.save_node.ensures.entry c.save_node.ensures.held)
 
 pub save_shard-returns-clause-touches : goal.save_shard-returns-clause-touches
 save_shard-returns-clause-touches g t c =
     let hash : List ℕ → List ℕ = g.S.X.BlockHash.block32 in
     let name : List ℕ → ℕ = g.N.NameHash.name64 in
-    let each = subst (AreSlots hash name (7 - c.args.left) c.args.rows.now) (sym c.as_slice.ensures.value) c.in-Ok.ensures.rows in
-    let blocks = whole-blocks hash name c.args.left (7 - c.args.left) c.args.rows.now c.as_slice.result.now refl c.requires.rows each c.in-Ok-save_slots.items c.in-Ok-save_slots.ensures.items in
+    let each = subst (AreSlots hash name (7 - c.args.left) c.args.rows.now) (sym c.as_slice.ensures.value) c.in_ok-slots.ensures.rows in
+    let blocks = whole-blocks hash name c.args.left (7 - c.args.left) c.args.rows.now c.as_slice.result.now refl c.requires.rows each c.in_ok-items.items c.in_ok-items.ensures.items in
     omega (arith, ap length blocks, c.save_slots.ensures.touches, c.save_node.ensures.touches)
 
 pub save_slots-loop-at-init : goal.save_slots-loop-at-init
@@ -86,20 +83,19 @@ unfolding tabulate flat_tabulate
 save_slots-loop-at-init g t c = record {
   items = c.new-items.ensures;
   held = Holds-nil (g.S.Store.seen c.args.store.now).told;
-  calm = StaysCalm-refl (g.S.Store.seen c.args.store.now);
-  good = KeepsGood-refl g.S.X.BlockHash.block32 (g.S.Store.seen c.args.store.now).told;
-  saves = SavesOnly-refl _ (g.S.Store.seen c.args.store.now).told;
+  saves = saves-none (g.S.Store.seen c.args.store.now);
   touches = omega arith;
 }
 
-pub save_slots-returns-in-Err-clause-good : goal.save_slots-returns-in-Err-clause-good
-save_slots-returns-in-Err-clause-good g t c = KeepsGood-trans _ _ _ _ c.loop-at.invariant.good c.save_slot.ensures.good
+pub save_shard-returns-clause-saves : goal.save_shard-returns-clause-saves
+save_shard-returns-clause-saves g t c = saves-saves c.in_ok-items.ensures.saves c.save_node.ensures.saves
 
-pub save_slots-returns-in-Err-clause-saves : goal.save_slots-returns-in-Err-clause-saves
-save_slots-returns-in-Err-clause-saves g t c = SavesOnly-trans _ _ _ _ c.loop-at.invariant.saves c.save_slot.ensures.saves
+pub save_slots-returns-in_err-save_slot-clause-saves : goal.save_slots-returns-in_err-save_slot-clause-saves
+save_slots-returns-in_err-save_slot-clause-saves g t c =
+    let out = err_from_is_err_and c.from_residual.result c.from_residual.ensures.1 in rw (out.1, out.2) (saves-saves c.loop-at.invariant.saves c.in_err-save_slot.ensures.saves)
 
-pub save_slots-returns-in-Err-clause-touches : goal.save_slots-returns-in-Err-clause-touches
-save_slots-returns-in-Err-clause-touches g t c =
+pub save_slots-returns-in_err-save_slot-clause-touches : goal.save_slots-returns-in_err-save_slot-clause-touches
+save_slots-returns-in_err-save_slot-clause-touches g t c =
     let hash : List ℕ → List ℕ = g.S.X.BlockHash.block32 in
     let name : List ℕ → ℕ = g.N.NameHash.name64 in
     let low : c.loop-at.at < length c.args.slots.now = omega arith in
@@ -119,11 +115,9 @@ save_slots-loop-at-preserved g t c =
     let both = length-append (flat_tabulate c.loop-at.at 0 (blocks_at hash name c.args.left c.args.slots.now)) (blocks_at hash name c.args.left c.args.slots.now c.loop-at.at) in
     record {
       items = tabulate-step c.loop-at.at (item_at hash name c.args.left c.args.slots.now) c.loop-at.items c.save_slot.new.items c.loop-at.invariant.items
-          (subst (λ (l : List Hashed). PutsItem c.loop-at.at (slot_item (deeper hash name c.args.left) (pairs_of l)) c.loop-at.items c.save_slot.new.items) here c.in-Ok.ensures.item);
+          (subst (λ (l : List Hashed). PutsItem c.loop-at.at (slot_item (deeper hash name c.args.left) (pairs_of l)) c.loop-at.items c.save_slot.new.items) here c.in_ok-save_slot.ensures.item);
       held = Holds-step hash name c.loop-at.at c.args.left c.args.slots.now c.as_slice.result.now (g.S.Store.seen c.loop-at.store).told (g.S.Store.seen c.save_slot.new.store).told here
-          c.save_slot.ensures.good c.loop-at.invariant.held c.in-Ok.ensures.held;
-      calm = StaysCalm-trans _ _ _ c.loop-at.invariant.calm c.in-Ok.ensures.cause;
-      good = KeepsGood-trans _ _ _ _ c.loop-at.invariant.good c.save_slot.ensures.good;
-      saves = SavesOnly-trans _ _ _ _ c.loop-at.invariant.saves c.save_slot.ensures.saves;
+          c.save_slot.ensures.saves.good c.loop-at.invariant.held c.in_ok-save_slot.ensures.held;
+      saves = saves-saves c.loop-at.invariant.saves c.in_ok-save_slot.ensures.saves;
       touches = omega (arith, one, step, both, c.loop-at.invariant.touches, c.save_slot.ensures.touches);
     }

@@ -1,7 +1,7 @@
-use Rattle.std.proofs.Common.{◌≡◌, ◌+◌, ◌*◌, ◌≤◌, length}
-use Rattle.uf_store.specs.Faults.{StaysCalm}
-use Rattle.uf_store.specs.Keeping.{Holds, KeepsGood}
-use Rattle.uf_store.specs.Writing.{SavesOnly}
+use Rattle.std.proofs.Common.{◌≡◌, ◌+◌, ◌*◌, ◌≤◌, length, None}
+use Rattle.uf_store.specs.Calls.{OnlySaves}
+use Rattle.uf_store.specs.Faults.{NoneIsBad}
+use Rattle.uf_store.specs.Keeping.{Holds}
 use Rattle.uf_tree.specs.ShardPlan.{flat_tabulate, tabulate}
 use Rattle.uf_shard.specs.Buckets.{blocks_at, item_at}
 use Rattle.uf_shard.proofs.building.+shards.Given as goal
@@ -19,8 +19,6 @@ abbrev pub invariant-save_slots-loop-at : goal.invariant-save_slots-loop-at
 invariant-save_slots-loop-at g l = record {
   items : l.items ≡ tabulate l.at 0 (item_at g.S.X.BlockHash.block32 g.N.NameHash.name64 l.left l.slots);
   held : Holds (g.S.Store.seen l.store).told (flat_tabulate l.at 0 (blocks_at g.S.X.BlockHash.block32 g.N.NameHash.name64 l.left l.slots));
-  calm : StaysCalm (g.S.Store.seen l.initial.store) (g.S.Store.seen l.store);
-  good : KeepsGood g.S.X.BlockHash.block32 (g.S.Store.seen l.initial.store).told (g.S.Store.seen l.store).told;
-  saves : SavesOnly g.S.X.BlockHash.block32 (g.S.Store.seen l.initial.store).told (g.S.Store.seen l.store).told;
+  saves : OnlySaves g.S.X.BlockHash.block32 NoneIsBad None (g.S.Store.seen l.initial.store) (g.S.Store.seen l.store);
   touches : l.touches ≤ l.initial.touches + length (flat_tabulate l.at 0 (blocks_at g.S.X.BlockHash.block32 g.N.NameHash.name64 l.left l.slots));
 }
