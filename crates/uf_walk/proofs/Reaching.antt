@@ -222,6 +222,13 @@ handed_first follow w list e = by w.due e
     by None is = visit-extends follow (room w) w.handed list w.ahead is
     by (Some c) is = links c (follow c) is
 
+-- each CID of a whole walk was followed
+pub whole_followed : (follow : Follow) (most : ℕ) (roots list : List Cid) → visit follow most [] roots ≡ Whole list → (c : Cid) → Contains list c → (links : List Cid) × (follow c ≡ Some links)
+whole_followed follow most roots list e c here =
+    let m = meets follow most [] list roots e in
+    let closed = m.closed c (subst (λ (l : List Cid). Contains l c) m.extends here) in
+    (closed.0, closed.1)
+
 -- each CID of an order is held
 pub order_held : (held : Lookup) (most : ℕ) (root : Cid) (list : List Cid) → order held most root ≡ Ok list → (c : Cid) → Contains list c → held c ≡ None → ⊥
 order_held held most root list e c here none =

@@ -88,3 +88,31 @@ module _ (follow : Follow) where
       along total more met ys e
       (λ c rest. visit-append total more (met ++ c ∷ []) rest ys (let size : length (met ++ c ∷ []) ≡ length met + 1 = length-append met (c ∷ []) in omega (arith, size)))
       xs
+
+-- a walk that comes to its end goes the same way wherever its links are followed as they were
+module _ (f g : Follow) (by_both : (c : Cid) (links : List Cid) → f c ≡ Some links → g c ≡ Some links) where
+  module _ (more : ℕ) (met list : List Cid) (below : (c : Cid) (ahead : List Cid) → visit f more (met ++ c ∷ []) ahead ≡ Whole list → visit g more (met ++ c ∷ []) ahead ≡ Whole list) where
+    same-links : (c : Cid) (ahead : List Cid) (r : Option (List Cid)) → f c ≡ r → then_follow (λ next. visit f more (met ++ c ∷ []) next) c ahead r ≡ Whole list
+        → then_follow (λ next. visit g more (met ++ c ∷ []) next) c ahead (g c) ≡ Whole list
+    same-links c ahead None is e = absurd (let no : StopsAt c ≡ Whole list = e in cc)
+    same-links c ahead (Some links) is e = ap (then_follow (λ next. visit g more (met ++ c ∷ []) next) c ahead) (by_both c links is) ∙ below c (links ++ ahead) e
+
+    same-along : (ahead : List Cid) → visit f (suc more) met ahead ≡ Whole list → visit g (suc more) met ahead ≡ Whole list
+    same-along [] e = visit-end g (suc more) met ∙ sym (visit-end f (suc more) met) ∙ e
+    same-along (c ∷ ahead) e = by (is_met met c) refl (same-along ahead)
+      where
+        by : (b : Bool) → is_met met c ≡ b → (visit f (suc more) met ahead ≡ Whole list → visit g (suc more) met ahead ≡ Whole list) → visit g (suc more) met (c ∷ ahead) ≡ Whole list
+        by true is then = visit-passed g (suc more) met (c ∷ []) ahead (is, tt) ∙ then (sym (visit-passed f (suc more) met (c ∷ []) ahead (is, tt)) ∙ e)
+        by false is then = visit-new g more met c ahead is ∙ same-links c ahead (f c) refl (sym (visit-new f more met c ahead is) ∙ e)
+
+  same-full : (met list ahead : List Cid) → visit f 0 met ahead ≡ Whole list → visit g 0 met ahead ≡ Whole list
+  same-full met list [] e = visit-end g 0 met ∙ sym (visit-end f 0 met) ∙ e
+  same-full met list (c ∷ ahead) e = by (is_met met c) refl (same-full met list ahead)
+    where
+      by : (b : Bool) → is_met met c ≡ b → (visit f 0 met ahead ≡ Whole list → visit g 0 met ahead ≡ Whole list) → visit g 0 met (c ∷ ahead) ≡ Whole list
+      by true is then = visit-passed g 0 met (c ∷ []) ahead (is, tt) ∙ then (sym (visit-passed f 0 met (c ∷ []) ahead (is, tt)) ∙ e)
+      by false is then = absurd (let no : TooMany ≡ Whole list = sym (visit-full f met c ahead is) ∙ e in cc)
+
+  pub visit-by : (more : ℕ) (met list ahead : List Cid) → visit f more met ahead ≡ Whole list → visit g more met ahead ≡ Whole list
+  visit-by zero met list ahead e = same-full met list ahead e
+  visit-by (suc more) met list ahead e = same-along more met list (λ c next. visit-by more (met ++ c ∷ []) list next) ahead e

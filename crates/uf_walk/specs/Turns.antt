@@ -55,6 +55,12 @@ AdvancesWalk (Ok turn.End) before now = EndsWalk before now
 AdvancesWalk (Ok turn.TooMany) before now = IsFull before now
 AdvancesWalk (Err memory) before now = now ≡ before
 
+-- the block that was due was taken, and nothing was handed out
+pub record HasTaken (before now : Walked) : Type 0 where
+  pub due : now.due ≡ None
+  pub same_most : now.most ≡ before.most
+  pub same_handed : now.handed ≡ before.handed
+
 -- the block of a CID was taken: its links are ahead of all others
 pub record Follows (c : Cid) (bytes : List ℕ) (before now : Walked) : Type 0 where
   pub stays : StaysAt before now
