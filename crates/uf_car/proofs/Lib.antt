@@ -1,0 +1,9 @@
+pub mod Aheads
+pub mod Cars
+pub mod Exports
+pub mod Openings
+pub mod Roots
+pub mod Sections
+pub mod Stops
+pub mod Texts
+pub mod Windows

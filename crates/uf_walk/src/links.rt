@@ -1,0 +1,93 @@
+// The links of a block, put in front of what is still ahead.
+ghost use Rattle.uf_cid.specs.declared.cid.Codec.TheVariants.{DagPb};
+ghost use Rattle.uf_dagpb.specs.Reading.{node_reads};
+ghost use Rattle.std.specs.Prelude.{◌≡◌, ◌++◌, map, OnOk, OnErr};
+ghost use Rattle.uf_walk.specs.Order.{is_met, linked, block_links, pb_number};
+ghost use Rattle.uf_walk.specs.Ahead.{LinksAhead, PassesOver};
+
+use crate::WalkFault;
+use crate::key::Key;
+use indexmap::IndexSet;
+use std::alloc::Global;
+use std::collections::VecDeque;
+use uf_cid::{Cid, Codec, Memory};
+use uf_dagpb::{Link, PbFault, decode_lenient};
+
+// Puts the CIDs of links in front, the first link first.
+pub fn put_in_front(ahead: &mut VecDeque<Cid>, links: &[Link]) -> Result<(), Memory>
+    ensures ok { OnOk result (ahead.new.items ≡ map (λ l. l.cid) links.now ++ ahead.old.items) }
+    ensures err { OnErr result (ahead.new.items ≡ ahead.old.items) }
+{
+    ahead.reserve(links.len())?;
+    for i in 0..links.len() {
+        let at = links.len() - 1 - i;
+        ahead.push_front_reserved(links[at].cid);
+    }
+    Ok(())
+}
+
+// The number of a fault of the lenient reading, from 1.
+pub fn number_of(fault: PbFault) -> u8
+    ensures { result ≡ pb_number fault }
+{
+    match fault {
+        PbFault::Truncated => 1,
+        PbFault::Varint => 2,
+        PbFault::Field => 3,
+        PbFault::Twice => 4,
+        PbFault::NoHash => 5,
+        PbFault::BadCid => 6,
+        PbFault::NotText => 7,
+        PbFault::Memory => 8,
+    }
+}
+
+// Puts the links of a block in front: none where it is raw.
+pub fn links_ahead(
+    alloc: Global,
+    cid: &Cid,
+    bytes: &[u8],
+    ahead: &mut VecDeque<Cid>,
+) -> Result<(), WalkFault>
+    ensures { LinksAhead cid.now (block_links cid.now.codec bytes.now) result ahead.old.items ahead.new.items }
+{
+    match cid.codec {
+        Codec::Raw => Ok(()),
+        Codec::DagPb => node_ahead(alloc, cid, bytes, ahead),
+    }
+}
+
+// Puts the links of a node in front.
+fn node_ahead(
+    alloc: Global,
+    cid: &Cid,
+    bytes: &[u8],
+    ahead: &mut VecDeque<Cid>,
+) -> Result<(), WalkFault>
+    ensures { LinksAhead cid.now (linked (node_reads bytes.now)) result ahead.old.items ahead.new.items }
+{
+    match decode_lenient(alloc, bytes) {
+        Ok(node) => Ok(put_in_front(ahead, node.links.as_slice())?),
+        Err(PbFault::Memory) => Err(WalkFault::Memory),
+        Err(fault) => Err(WalkFault::NotDagPb(*cid, number_of(fault))),
+    }
+}
+
+// Whether a CID was met.
+pub fn has(met: &IndexSet<Key>, cid: &Cid) -> bool
+    ensures { result ≡ is_met (map (λ k. k.cid) met.now.keys) cid.now }
+{
+    met.contains(&Key { cid: *cid })
+}
+
+// Takes away what was met, up to the first CID that wasn't.
+pub fn pass_over(met: &IndexSet<Key>, ahead: &mut VecDeque<Cid>)
+    ensures { PassesOver (map (λ k. k.cid) met.now.keys) ahead.old.items ahead.new.items }
+{
+    while let Some(next) = ahead.front() {
+        if !has(met, next) {
+            return;
+        }
+        let _ = ahead.pop_front();
+    }
+}
