@@ -1,8 +1,9 @@
 #!/usr/bin/env bash
 # Measures the engine by the program uf_bench, on one core: a name put into a directory and taken out again, in place and by
 # building the directory anew, over directories of several sizes in memory; one byte written into files of 1 and 1024 MiB in
-# memory; and a file of 1 GiB read from the store on the disk, beside sha256sum of the same bytes. Prints microseconds for an
-# edit, and user and system seconds of a reading, each the median of three.
+# memory; the CAR of a large file written and read in memory, beside hashing and copying its pieces; and a file read from the
+# store on the disk, beside sha256sum of the same bytes. Prints microseconds for an edit, and user and system seconds of the
+# rest, each the median of three.
 # CORE says which core (the last one if unset), MIB how large the file is (1024 if unset).
 set -eu
 top=$(cd "$(dirname "$0")/.." && pwd)
@@ -48,6 +49,8 @@ for size in ["1000", "10000", "100000"]:
           f"{edit('dir-anew', size, 20):.0f} us built anew")
 for size in ["1", MIB]:
     print(f"file of {size} MiB: {edit('file', size, 500):.0f} us for a byte written")
+once = {task: median([task, MIB, "1"]) - median([task, MIB, "0"]) for task in ["hash", "export", "import"]}
+print(f"{MIB} MiB: {once['hash']:.2f} s to hash and copy; CAR written {once['export']:.2f} s, read {once['import']:.2f} s")
 time, memory = seconds(["read", ROOT])
 print(f"reading {MIB} MiB: {median(['read', ROOT]):.2f} s, peak {memory:.1f} MiB; "
       f"sha256sum {median(['input'], 'sha256sum'):.2f} s")

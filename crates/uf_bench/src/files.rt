@@ -12,13 +12,13 @@ use uf_tree::{Entry, Profile};
 // How many zeros follow the number of a piece: with it they are a quarter of a MiB.
 const ZEROS: usize = 262136;
 
-// So many zeros.
-fn zeros(alloc: Global, count: usize) -> Option<Vec<u8>> {
+/// So many zeros.
+pub fn zeros(alloc: Global, count: usize) -> Option<Vec<u8>> {
     vec![in alloc; 0u8; count].ok()
 }
 
-// The entry of a file of so many MiB, in which no two pieces are equal.
-fn built<L: Ledger>(
+/// The entry of a file of so many MiB, in which no two pieces are equal.
+pub fn built<L: Ledger>(
     alloc: Global,
     store: &mut MemStore<Sha256Hash>,
     mib: u64,

@@ -4,6 +4,7 @@
 
 ghost use Rattle.std.specs.Prelude.{◌≡◌, ◌<◌};
 
+mod cars;
 mod dirs;
 mod files;
 
@@ -29,6 +30,12 @@ enum Task {
     DirectoryAnew(u64, u64),
     // `file MIB EDITS`: single bytes written into a file of so many MiB.
     File(u64, u64),
+    // `export MIB TIMES`: the CAR of a file of so many MiB written, so many times.
+    Export(u64, u64),
+    // `import MIB TIMES`: such a CAR written, and read into a new store where TIMES isn't 0.
+    Import(u64, u64),
+    // `hash MIB TIMES`: the pieces of such a file hashed and copied, beside which the two stand.
+    Hash(u64, u64),
     // `read CID`: a whole file written to the output.
     Read(Cid),
 }
@@ -59,6 +66,9 @@ fn asked<R: Env + AllocGlobal>(rt: &R) -> Option<Task> {
         "dir" => Some(Task::Directory(size, edits)),
         "dir-anew" => Some(Task::DirectoryAnew(size, edits)),
         "file" => Some(Task::File(size, edits)),
+        "export" => Some(Task::Export(size, edits)),
+        "import" => Some(Task::Import(size, edits)),
+        "hash" => Some(Task::Hash(size, edits)),
         _ => None,
     }
 }
@@ -81,6 +91,9 @@ fn done<L: Ledger, R: Files + RandomSource, O: Sink>(
         Task::Directory(names, edits) => dirs::edited(alloc, *names, *edits, t)?,
         Task::DirectoryAnew(names, edits) => dirs::built_anew(alloc, *names, *edits, t)?,
         Task::File(mib, edits) => files::edited(alloc, *mib, *edits, t)?,
+        Task::Export(mib, times) => cars::exported(alloc, *mib, *times, t)?,
+        Task::Import(mib, times) => cars::imported(alloc, *mib, *times > 0, t)?,
+        Task::Hash(mib, times) => cars::hashed(alloc, *mib, *times)?,
         Task::Read(cid) => return files::written(alloc, store, cid, output, t),
     };
     print_line(output, &root)
