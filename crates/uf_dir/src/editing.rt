@@ -2,7 +2,8 @@
 ghost use Rattle.std.specs.Prelude.{◌≡◌, ◌≤◌, ◌+◌, ℕ, List, IfOk, IfSome, IsSome, IsTrue, None, OnOk, Some, length};
 ghost use Rattle.uf_cid.specs.declared.cid.Codec.TheVariants.{DagPb};
 ghost use Rattle.uf_edge.specs.Counts.{Stood};
-ghost use Rattle.uf_store.specs.Faults.{Answers, NoneIsBad};
+ghost use Rattle.uf_store.specs.Calls.{OnlySaves};
+ghost use Rattle.uf_store.specs.Faults.{Answers, NoneIsBad, fault_in};
 ghost use Rattle.uf_store.specs.Keeping.{Agrees, Holds, KeepsGood, StaysAgreed};
 ghost use Rattle.uf_store.specs.Writing.{SavesOnly};
 ghost use Rattle.uf_store.specs.Lost.{AgreesAfter, ReadsOver};
@@ -13,7 +14,7 @@ ghost use Rattle.uf_tree.specs.Profiles.{is_profile};
 ghost use Rattle.uf_tree.specs.ShardPlan.{shard};
 ghost use Rattle.uf_tree.specs.TreePlan.{dir_refusal};
 ghost use Rattle.uf_tree.specs.Validity.{IsDirectory};
-ghost use Rattle.uf_shard.specs.Answers.{Gives, GivesOver, Shown};
+ghost use Rattle.uf_shard.specs.Answers.{Gives, GivesOver, Shown, dir_fault};
 ghost use Rattle.uf_shard.specs.Listing.{IsBadShard};
 ghost use Rattle.uf_shard.specs.Planned.{IsPlanned as IsShardPlan};
 ghost use Rattle.uf_dir.specs.Bad.{IsBad, IsBadWeighed};
@@ -33,8 +34,9 @@ use uf_shard::{DirFault, Removed, entries, weight_over};
 use uf_store::{Steps, Store, StoreFault};
 use uf_tree::{Entry, Name, Pairs, Profile};
 
-/// Saves the directory with this root and with an entry put under a name, in the place of an older one of that name, and
-/// answers its entry. A directory in shards is changed in place; one in one block goes into shards where it gets too heavy.
+/// Saves the directory with this root and with an entry put under a name, in the place of an older one of that name,
+/// and answers its entry. A directory in shards is changed in place; one in one block goes into shards where it gets
+/// too heavy.
 pub fn put<S: Store, N: NameHash, L: Ledger>(
     alloc: Global,
     store: &mut S,
@@ -47,7 +49,8 @@ pub fn put<S: Store, N: NameHash, L: Ledger>(
     requires profile { IsTrue (is_profile p.now) }
     ensures value { (l : List Named) → IsPlanned S.X.block32 N.name64 p.now root.now l
         → Agrees (S.seen store.old).told (own_blocks S.X.block32 N.name64 p.now l)
-        → Stood (S.seen store.old).faults (S.seen store.new).faults → Stood (S.seen store.old).clashes (S.seen store.new).clashes
+        → Stood (S.seen store.old).faults (S.seen store.new).faults
+        → Stood (S.seen store.old).clashes (S.seen store.new).clashes
         → GivesOver (S.seen store.old).told (own_blocks S.X.block32 N.name64 p.now l)
         (dir_refusal S.X.block32 N.name64 p.now (with_name name.now entry.now l))
         (dir_entry S.X.block32 N.name64 p.now (with_name name.now entry.now l)) result }
@@ -57,21 +60,18 @@ pub fn put<S: Store, N: NameHash, L: Ledger>(
         → StaysAgreed (S.seen store.old).told (S.seen store.new).told (own_blocks S.X.block32 N.name64 p.now l)
         → AgreesAfter (S.seen store.old).told (S.seen store.new).told (own_blocks S.X.block32 N.name64 p.now l)
         (own_blocks S.X.block32 N.name64 p.now (with_name name.now entry.now l))) }
-    ensures cause { Shown S.X.block32 (IsBad N.name64 (N.name64 name.now) (Some p.now)) result (S.seen store.old) (S.seen store.new) }
+    ensures cause { Shown S.X.block32 (IsBad N.name64 (N.name64 name.now) (Some p.now)) result
+        (S.seen store.old) (S.seen store.new) }
     ensures good { KeepsGood S.X.block32 (S.seen store.old).told (S.seen store.new).told }
     ensures saves { SavesOnly S.X.block32 (S.seen store.old).told (S.seen store.new).told }
     ensures touches { (l : List Named) → IsPlanned S.X.block32 N.name64 p.now root.now l
         → Agrees (S.seen store.old).told (own_blocks S.X.block32 N.name64 p.now l)
         → touches.new ≤ touches.old + (17 + crossing S.X.block32 N.name64 p.now l (with_name name.now entry.now l)) }
 {
-    match look_at_root(alloc, store, Some(*p), root, touches) {
-        Err(fault) => Err(DirFault::Store(fault)),
-        Ok(Root::Basic(pairs)) => {
-            put_basic::<S, N, L>(alloc, store, p, &pairs, name, entry, touches)
-        }
-        Ok(Root::Sharded(_)) => {
-            uf_shard::put::<S, N, L>(alloc, store, root, name, entry, touches)
-        }
+    let found = look_at_root(alloc, store, Some(*p), root, touches)?;
+    match found {
+        Root::Basic(pairs) => put_basic::<S, N, L>(alloc, store, p, &pairs, name, entry, touches),
+        Root::Sharded(_) => uf_shard::put::<S, N, L>(alloc, store, root, name, entry, touches),
     }
 }
 
@@ -91,20 +91,18 @@ fn put_basic<S: Store, N: NameHash, L: Ledger>(
         (dir_entry S.X.block32 N.name64 p.now (with_name name.now entry.now pairs.now)) result }
     ensures held { OnOk result (Holds (S.seen store.new).told
         (own_blocks S.X.block32 N.name64 p.now (with_name name.now entry.now pairs.now))) }
-    ensures cause { Shown S.X.block32 NoneIsBad result (S.seen store.old) (S.seen store.new) }
-    ensures good { KeepsGood S.X.block32 (S.seen store.old).told (S.seen store.new).told }
-    ensures saves { SavesOnly S.X.block32 (S.seen store.old).told (S.seen store.new).told }
-    ensures touches { touches.new ≤ touches.old + length (own_blocks S.X.block32 N.name64 p.now (with_name name.now entry.now pairs.now)) }
+    ensures saves { OnlySaves S.X.block32 NoneIsBad (dir_fault result) (S.seen store.old) (S.seen store.new) }
+    ensures touches { touches.new ≤ touches.old
+        + length (own_blocks S.X.block32 N.name64 p.now (with_name name.now entry.now pairs.now)) }
     ensures early { IsFree N.name64 p.now (with_name name.now entry.now pairs.now) touches.old touches.new }
 {
-    match with_pair(alloc, pairs, name, entry) {
-        Err(_) => Err(DirFault::Store(StoreFault::Memory)),
-        Ok(changed) => build::<S, N, L>(alloc, store, p, &changed, touches),
-    }
+    let changed = with_pair(alloc, pairs, name, entry)?;
+    build::<S, N, L>(alloc, store, p, &changed, touches)
 }
 
-/// Saves the directory with this root without a name, and answers its entry; `None`, and nothing is saved, where the name
-/// isn't there. A directory in shards is changed in place, and goes into one block where it isn't too heavy any more.
+/// Saves the directory with this root without a name, and answers its entry; `None`, and nothing is saved, where the
+/// name isn't there. A directory in shards is changed in place, and goes into one block where it isn't too heavy any
+/// more.
 pub fn remove<S: Store, N: NameHash, L: Ledger>(
     alloc: Global,
     store: &mut S,
@@ -116,7 +114,8 @@ pub fn remove<S: Store, N: NameHash, L: Ledger>(
     requires profile { IsTrue (is_profile p.now) }
     ensures value { (l : List Named) → IsPlanned S.X.block32 N.name64 p.now root.now l
         → StaysAgreed (S.seen store.old).told (S.seen store.new).told (own_blocks S.X.block32 N.name64 p.now l)
-        → Stood (S.seen store.old).faults (S.seen store.new).faults → Stood (S.seen store.old).clashes (S.seen store.new).clashes
+        → Stood (S.seen store.old).faults (S.seen store.new).faults
+        → Stood (S.seen store.old).clashes (S.seen store.new).clashes
         → ReadsOver (S.seen store.old).told (own_blocks S.X.block32 N.name64 p.now l)
         (entry_without S.X.block32 N.name64 p.now name.now l) result }
     ensures node { IfOk result (λ left. IfSome left (λ e. e.cid.codec ≡ DagPb)) }
@@ -124,22 +123,25 @@ pub fn remove<S: Store, N: NameHash, L: Ledger>(
     ensures none { IfOk result (λ left. left ≡ None → (S.seen store.new).told ≡ (S.seen store.old).told) }
     ensures after { OnOk result ((l : List Named) → IsPlanned S.X.block32 N.name64 p.now root.now l
         → StaysAgreed (S.seen store.old).told (S.seen store.new).told (own_blocks S.X.block32 N.name64 p.now l)
-        → Stood (S.seen store.old).faults (S.seen store.new).faults → Stood (S.seen store.old).clashes (S.seen store.new).clashes
+        → Stood (S.seen store.old).faults (S.seen store.new).faults
+        → Stood (S.seen store.old).clashes (S.seen store.new).clashes
         → AgreesAfter (S.seen store.old).told (S.seen store.new).told (own_blocks S.X.block32 N.name64 p.now l)
         (own_blocks S.X.block32 N.name64 p.now (without name.now l))) }
-    ensures cause { Answers S.X.block32 (IsBadWeighed N.name64 (N.name64 name.now) (Some p.now)) result (S.seen store.old) (S.seen store.new) }
+    ensures cause { Answers S.X.block32 (IsBadWeighed N.name64 (N.name64 name.now) (Some p.now)) result
+        (S.seen store.old) (S.seen store.new) }
     ensures good { KeepsGood S.X.block32 (S.seen store.old).told (S.seen store.new).told }
     ensures saves { SavesOnly S.X.block32 (S.seen store.old).told (S.seen store.new).told }
     ensures touches { (l : List Named) → IsPlanned S.X.block32 N.name64 p.now root.now l
         → StaysAgreed (S.seen store.old).told (S.seen store.new).told (own_blocks S.X.block32 N.name64 p.now l)
-        → Stood (S.seen store.old).faults (S.seen store.new).faults → Stood (S.seen store.old).clashes (S.seen store.new).clashes
+        → Stood (S.seen store.old).faults (S.seen store.new).faults
+        → Stood (S.seen store.old).clashes (S.seen store.new).clashes
         → touches.new ≤ touches.old + (18 + weighing p.now (shard_count S.X.block32 N.name64 l)
         + crossing S.X.block32 N.name64 p.now l (without name.now l)) }
 {
-    match look_at_root(alloc, store, Some(*p), root, touches) {
-        Err(fault) => Err(fault),
-        Ok(Root::Basic(pairs)) => remove_basic::<S, N, L>(alloc, store, p, &pairs, name, touches),
-        Ok(Root::Sharded(_)) => remove_sharded::<S, N, L>(alloc, store, p, root, name, touches),
+    let found = look_at_root(alloc, store, Some(*p), root, touches)?;
+    match found {
+        Root::Basic(pairs) => remove_basic::<S, N, L>(alloc, store, p, &pairs, name, touches),
+        Root::Sharded(_) => remove_sharded::<S, N, L>(alloc, store, p, root, name, touches),
     }
 }
 
@@ -155,19 +157,18 @@ fn remove_basic<S: Store, N: NameHash, L: Ledger>(
     requires profile { IsTrue (is_profile p.now) }
     requires directory { IsDirectory pairs.now }
     requires light { weight pairs.now ≤ p.now.threshold }
-    ensures takes { TakesBasic S.X.block32 N.name64 p.now name.now pairs.now (S.seen store.old).told (S.seen store.new).told result }
-    ensures cause { Answers S.X.block32 NoneIsBad result (S.seen store.old) (S.seen store.new) }
-    ensures good { KeepsGood S.X.block32 (S.seen store.old).told (S.seen store.new).told }
-    ensures saves { SavesOnly S.X.block32 (S.seen store.old).told (S.seen store.new).told }
+    ensures takes { TakesBasic S.X.block32 N.name64 p.now name.now pairs.now
+        (S.seen store.old).told (S.seen store.new).told result }
+    ensures saves { OnlySaves S.X.block32 NoneIsBad (fault_in result) (S.seen store.old) (S.seen store.new) }
     ensures touches { touches.new ≤ touches.old + 1 }
 {
-    match pairs_without(alloc, pairs, name) {
-        Err(Memory) => Err(StoreFault::Memory),
-        Ok(None) => Ok(None),
-        Ok(Some(left)) => match save_basic(alloc, store, &left, touches) {
-            Ok(entry) => Ok(Some(entry)),
-            Err(fault) => Err(fault),
-        },
+    let rest = pairs_without(alloc, pairs, name)?;
+    match rest {
+        None => Ok(None),
+        Some(left) => {
+            let entry = save_basic(alloc, store, &left, touches)?;
+            Ok(Some(entry))
+        }
     }
 }
 
@@ -183,33 +184,35 @@ fn remove_sharded<S: Store, N: NameHash, L: Ledger>(
     requires profile { IsTrue (is_profile p.now) }
     ensures value { (l : List Named) → IsShardPlan S.X.block32 N.name64 root.now l
         → StaysAgreed (S.seen store.old).told (S.seen store.new).told (shard S.X.block32 N.name64 7 l).blocks
-        → Stood (S.seen store.old).faults (S.seen store.new).faults → Stood (S.seen store.old).clashes (S.seen store.new).clashes
+        → Stood (S.seen store.old).faults (S.seen store.new).faults
+        → Stood (S.seen store.old).clashes (S.seen store.new).clashes
         → ReadsOver (S.seen store.old).told (shard S.X.block32 N.name64 7 l).blocks
         (entry_without S.X.block32 N.name64 p.now name.now l) result }
     ensures node { IfOk result (λ left. IfSome left (λ e. e.cid.codec ≡ DagPb)) }
     ensures none { IfOk result (λ left. left ≡ None → (S.seen store.new).told ≡ (S.seen store.old).told) }
     ensures after { IfOk result (λ left. (l : List Named) → IsShardPlan S.X.block32 N.name64 root.now l
         → StaysAgreed (S.seen store.old).told (S.seen store.new).told (shard S.X.block32 N.name64 7 l).blocks
-        → Stood (S.seen store.old).faults (S.seen store.new).faults → Stood (S.seen store.old).clashes (S.seen store.new).clashes
+        → Stood (S.seen store.old).faults (S.seen store.new).faults
+        → Stood (S.seen store.old).clashes (S.seen store.new).clashes
         → IfSome left (λ e. AgreesAfter (S.seen store.old).told (S.seen store.new).told
         (shard S.X.block32 N.name64 7 l).blocks (own_blocks S.X.block32 N.name64 p.now (without name.now l)))) }
-    ensures cause { Answers S.X.block32 (IsBadWeighed N.name64 (N.name64 name.now) (Some p.now)) result (S.seen store.old) (S.seen store.new) }
-    ensures good { KeepsGood S.X.block32 (S.seen store.old).told (S.seen store.new).told }
-    ensures saves { SavesOnly S.X.block32 (S.seen store.old).told (S.seen store.new).told }
+    ensures saves { OnlySaves S.X.block32 (IsBadWeighed N.name64 (N.name64 name.now) (Some p.now)) (fault_in result)
+        (S.seen store.old) (S.seen store.new) }
     ensures touches { (l : List Named) → IsShardPlan S.X.block32 N.name64 root.now l
         → StaysAgreed (S.seen store.old).told (S.seen store.new).told (shard S.X.block32 N.name64 7 l).blocks
-        → Stood (S.seen store.old).faults (S.seen store.new).faults → Stood (S.seen store.old).clashes (S.seen store.new).clashes
+        → Stood (S.seen store.old).faults (S.seen store.new).faults
+        → Stood (S.seen store.old).clashes (S.seen store.new).clashes
         → touches.new ≤ touches.old + (17 + weighing p.now (shard_count S.X.block32 N.name64 l)
         + gathering p.now (shard_count S.X.block32 N.name64 l) (without name.now l)) }
 {
-    match uf_shard::remove::<S, N, L>(alloc, store, root, name, touches) {
-        Err(fault) => Err(fault),
-        Ok(Removed::Absent) => Ok(None),
-        Ok(Removed::Empty) => match empty(alloc, store, touches) {
-            Ok(entry) => Ok(Some(entry)),
-            Err(fault) => Err(fault),
-        },
-        Ok(Removed::Left(entry)) => settled(alloc, store, p, entry, touches),
+    let removed = uf_shard::remove::<S, N, L>(alloc, store, root, name, touches)?;
+    match removed {
+        Removed::Absent => Ok(None),
+        Removed::Empty => {
+            let entry = empty(alloc, store, touches)?;
+            Ok(Some(entry))
+        }
+        Removed::Left(entry) => settled(alloc, store, p, entry, touches),
     }
 }
 
@@ -223,30 +226,33 @@ fn settled<S: Store, L: Ledger>(
 ) -> Result<Option<Entry>, StoreFault>
     requires profile { IsTrue (is_profile p.now) }
     requires node { entry.cid.codec ≡ DagPb }
-    ensures value { (N : List ℕ → ℕ) (l : List Named) → IsShardPlan S.X.block32 N entry.cid l → entry ≡ (shard S.X.block32 N 7 l).entry
+    ensures value { (N : List ℕ → ℕ) (l : List Named) → IsShardPlan S.X.block32 N entry.cid l
+        → entry ≡ (shard S.X.block32 N 7 l).entry
         → Agrees (S.seen store.old).told (shard S.X.block32 N 7 l).blocks
-        → Stood (S.seen store.old).faults (S.seen store.new).faults → Stood (S.seen store.old).clashes (S.seen store.new).clashes
-        → ReadsOver (S.seen store.old).told (shard S.X.block32 N 7 l).blocks (Some (dir_entry S.X.block32 N p.now l)) result }
+        → Stood (S.seen store.old).faults (S.seen store.new).faults
+        → Stood (S.seen store.old).clashes (S.seen store.new).clashes
+        → ReadsOver (S.seen store.old).told (shard S.X.block32 N 7 l).blocks
+        (Some (dir_entry S.X.block32 N p.now l)) result }
     ensures node { IfOk result (λ left. IfSome left (λ e. e.cid.codec ≡ DagPb)) }
     ensures some { IfOk result IsSome }
     ensures after { OnOk result ((N : List ℕ → ℕ) (l : List Named) → IsShardPlan S.X.block32 N entry.cid l
         → Agrees (S.seen store.old).told (shard S.X.block32 N 7 l).blocks
-        → Stood (S.seen store.old).faults (S.seen store.new).faults → Stood (S.seen store.old).clashes (S.seen store.new).clashes
+        → Stood (S.seen store.old).faults (S.seen store.new).faults
+        → Stood (S.seen store.old).clashes (S.seen store.new).clashes
         → Settles S.X.block32 N p.now l (S.seen store.old).told (S.seen store.new).told) }
-    ensures cause { Answers S.X.block32 IsBadShard result (S.seen store.old) (S.seen store.new) }
-    ensures good { KeepsGood S.X.block32 (S.seen store.old).told (S.seen store.new).told }
-    ensures saves { SavesOnly S.X.block32 (S.seen store.old).told (S.seen store.new).told }
+    ensures saves { OnlySaves S.X.block32 IsBadShard (fault_in result) (S.seen store.old) (S.seen store.new) }
     ensures touches { (N : List ℕ → ℕ) (l : List Named) → IsShardPlan S.X.block32 N entry.cid l
         → Agrees (S.seen store.old).told (shard S.X.block32 N 7 l).blocks
-        → Stood (S.seen store.old).faults (S.seen store.new).faults → Stood (S.seen store.old).clashes (S.seen store.new).clashes
+        → Stood (S.seen store.old).faults (S.seen store.new).faults
+        → Stood (S.seen store.old).clashes (S.seen store.new).clashes
         → touches.new ≤ touches.old + (weighing p.now (shard_count S.X.block32 N l)
         + gathering p.now (shard_count S.X.block32 N l) l) }
 {
-    match weight_over(alloc, store, &entry.cid, u64::from(p.threshold), touches) {
-        Err(fault) => Err(fault),
-        Ok(true) => Ok(Some(entry)),
-        Ok(false) => in_one_block(alloc, store, p, entry, touches),
+    let is_heavy = weight_over(alloc, store, &entry.cid, u64::from(p.threshold), touches)?;
+    if is_heavy {
+        return Ok(Some(entry));
     }
+    in_one_block(alloc, store, p, entry, touches)
 }
 
 // The entry of a directory in shards that were weighed, or of the same in one block, which is saved.
@@ -259,27 +265,27 @@ fn in_one_block<S: Store, L: Ledger>(
 ) -> Result<Option<Entry>, StoreFault>
     requires profile { IsTrue (is_profile p.now) }
     requires node { entry.cid.codec ≡ DagPb }
-    ensures value { (N : List ℕ → ℕ) (l : List Named) → IsShardPlan S.X.block32 N entry.cid l → entry ≡ (shard S.X.block32 N 7 l).entry
+    ensures value { (N : List ℕ → ℕ) (l : List Named) → IsShardPlan S.X.block32 N entry.cid l
+        → entry ≡ (shard S.X.block32 N 7 l).entry
         → Agrees (S.seen store.old).told (shard S.X.block32 N 7 l).blocks
-        → Stood (S.seen store.old).faults (S.seen store.new).faults → Stood (S.seen store.old).clashes (S.seen store.new).clashes
-        → ReadsOver (S.seen store.old).told (shard S.X.block32 N 7 l).blocks (Some (dir_entry S.X.block32 N p.now l)) result }
+        → Stood (S.seen store.old).faults (S.seen store.new).faults
+        → Stood (S.seen store.old).clashes (S.seen store.new).clashes
+        → ReadsOver (S.seen store.old).told (shard S.X.block32 N 7 l).blocks
+        (Some (dir_entry S.X.block32 N p.now l)) result }
     ensures node { IfOk result (λ left. IfSome left (λ e. e.cid.codec ≡ DagPb)) }
     ensures some { IfOk result IsSome }
     ensures after { OnOk result ((N : List ℕ → ℕ) (l : List Named) → IsShardPlan S.X.block32 N entry.cid l
         → Agrees (S.seen store.old).told (shard S.X.block32 N 7 l).blocks
-        → Stood (S.seen store.old).faults (S.seen store.new).faults → Stood (S.seen store.old).clashes (S.seen store.new).clashes
+        → Stood (S.seen store.old).faults (S.seen store.new).faults
+        → Stood (S.seen store.old).clashes (S.seen store.new).clashes
         → Settles S.X.block32 N p.now l (S.seen store.old).told (S.seen store.new).told) }
-    ensures cause { Answers S.X.block32 IsBadShard result (S.seen store.old) (S.seen store.new) }
-    ensures good { KeepsGood S.X.block32 (S.seen store.old).told (S.seen store.new).told }
-    ensures saves { SavesOnly S.X.block32 (S.seen store.old).told (S.seen store.new).told }
+    ensures saves { OnlySaves S.X.block32 IsBadShard (fault_in result) (S.seen store.old) (S.seen store.new) }
     ensures touches { (N : List ℕ → ℕ) (l : List Named) → IsShardPlan S.X.block32 N entry.cid l
         → Agrees (S.seen store.old).told (shard S.X.block32 N 7 l).blocks
         → touches.new ≤ touches.old + (shard_count S.X.block32 N l + 1) }
 {
-    match entries(alloc, store, &entry.cid, touches) {
-        Err(fault) => Err(fault),
-        Ok(pairs) => fitted(alloc, store, p, entry, &pairs, touches),
-    }
+    let pairs = entries(alloc, store, &entry.cid, touches)?;
+    fitted(alloc, store, p, entry, &pairs, touches)
 }
 
 // Saves these pairs in one block, unless they are too heavy for it: then the entry of their shards.
@@ -294,20 +300,17 @@ fn fitted<S: Store, L: Ledger>(
     requires profile { IsTrue (is_profile p.now) }
     requires directory { IsDirectory pairs.now }
     requires node { entry.cid.codec ≡ DagPb }
-    ensures fits { (N : List ℕ → ℕ) → Fits S.X.block32 N p.now entry pairs.now (S.seen store.old).told (S.seen store.new).told result }
+    ensures fits { (N : List ℕ → ℕ) → Fits S.X.block32 N p.now entry pairs.now
+        (S.seen store.old).told (S.seen store.new).told result }
     ensures node { IfOk result (λ left. IfSome left (λ e. e.cid.codec ≡ DagPb)) }
-    ensures cause { Answers S.X.block32 NoneIsBad result (S.seen store.old) (S.seen store.new) }
-    ensures good { KeepsGood S.X.block32 (S.seen store.old).told (S.seen store.new).told }
-    ensures saves { SavesOnly S.X.block32 (S.seen store.old).told (S.seen store.new).told }
+    ensures saves { OnlySaves S.X.block32 NoneIsBad (fault_in result) (S.seen store.old) (S.seen store.new) }
     ensures touches { touches.new ≤ touches.old + 1 }
 {
     if needs_shards(p, pairs.as_slice()) {
         return Ok(Some(entry));
     }
-    match save_basic(alloc, store, pairs, touches) {
-        Ok(entry) => Ok(Some(entry)),
-        Err(fault) => Err(fault),
-    }
+    let entry = save_basic(alloc, store, pairs, touches)?;
+    Ok(Some(entry))
 }
 
 // The pairs without a name, where the name is there.

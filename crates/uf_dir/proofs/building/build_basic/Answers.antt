@@ -17,8 +17,8 @@ is-big n m same h = ap (λ b. cond b (Some TooBig) None) (more m (subst (λ (x :
 is-small : (n m : ℕ) → n ≡ m → n ≤ 2 ^ 62 → too_big m ≡ None
 is-small n m same h = ap (λ b. cond b (Some TooBig) None) (less m (subst (λ (x : ℕ). x ≤ 2 ^ 62) same h))
 
-pub returns-in-Ok-clause-answer : goal.returns-in-Ok-clause-answer
-returns-in-Ok-clause-answer g c = λ N. is-big c.in-Ok.entry.tsize _ (ap (λ (e : Entry). e.tsize) (c.in-Ok.ensures.entry N)) c.if-entry-gt-MOST_TSIZE.true
+pub returns-then-entry-gt-MOST_TSIZE-clause-answer : goal.returns-then-entry-gt-MOST_TSIZE-clause-answer
+returns-then-entry-gt-MOST_TSIZE-clause-answer g c = λ N. is-big c.in_ok-entry.entry.tsize _ (ap (λ (e : Entry). e.tsize) (c.in_ok-entry.ensures.entry N)) c.if-entry-gt-MOST_TSIZE.true
 
-pub returns-in-Ok-2-clause-answer : goal.returns-in-Ok-2-clause-answer
-returns-in-Ok-2-clause-answer g c = λ N. (is-small c.in-Ok.entry.tsize _ (ap (λ (e : Entry). e.tsize) (c.in-Ok.ensures.entry N)) c.if-entry-gt-MOST_TSIZE.false, c.in-Ok.ensures.entry N)
+pub returns-clause-answer : goal.returns-clause-answer
+returns-clause-answer g c = λ N. (is-small c.in_ok-entry.entry.tsize _ (ap (λ (e : Entry). e.tsize) (c.in_ok-entry.ensures.entry N)) c.if-entry-gt-MOST_TSIZE.false, c.in_ok-entry.ensures.entry N)

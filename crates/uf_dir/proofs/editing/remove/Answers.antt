@@ -2,6 +2,7 @@ use Rattle.std.proofs.Common.{Some, refl}
 use Rattle.std.proofs.lemmas.Result.{IfOk-weaker}
 use Rattle.uf_store.specs.Faults.{NoneIsBad}
 use Rattle.uf_dir.specs.Planned.{entry_without}
+use Rattle.std.proofs.lemmas.Result.{err_from_is_err_and}
 use Rattle.uf_dir.proofs.Changing.{basic-node, basic-ok, basic-value, in_shards, saves-same, take-asked, take-sharded, take-sharded-ok}
 use Rattle.uf_dir.proofs.Looked.{entries-basic, entries-unread, fitting-at}
 use Rattle.uf_dir.proofs.Refusals.{sharded-apart}
@@ -9,43 +10,44 @@ use Rattle.uf_dir.proofs.Touching.{basic-takes, sharded-takes}
 use Rattle.uf_tree.specs.Changes.{without}
 use Rattle.uf_dir.proofs.editing.remove.Goals as goal
 
-pub returns-in-Err-clause-value : goal.returns-in-Err-clause-value
-returns-in-Err-clause-value g c = λ l is stays faults clashes. entries-unread g.S.X.BlockHash.block32 (record { size = g.met.S.X.BlockHash.size; are_bytes = g.met.S.X.BlockHash.are_bytes }) g.N.NameHash.name64 c.args.p.now c.args.root.now l is _ (Some c.args.p.now) _ _ _ (entry_without g.S.X.BlockHash.block32 g.N.NameHash.name64 c.args.p.now c.args.name.now l) refl c.in-Err.ensures.looks c.in-Err.ensures.cause stays.first faults
+pub returns-in_err-found-clause-value : goal.returns-in_err-found-clause-value
+returns-in_err-found-clause-value g c = λ l is stays faults clashes.
+    let out = err_from_is_err_and c.from_residual.result c.from_residual.ensures.1 in rw (out.1, out.2) (entries-unread g.S.X.BlockHash.block32 (record { size = g.met.S.X.BlockHash.size; are_bytes = g.met.S.X.BlockHash.are_bytes }) g.N.NameHash.name64 c.args.p.now c.args.root.now l is _ (Some c.args.p.now) _ _ _ (entry_without g.S.X.BlockHash.block32 g.N.NameHash.name64 c.args.p.now c.args.name.now l) refl c.in_err-found.ensures.looks c.in_err-found.ensures.reads.cause stays.first faults)
 
-pub returns-in-Err-clause-saves : goal.returns-in-Err-clause-saves
-returns-in-Err-clause-saves g c = saves-same _ _ _ c.look_at_root.ensures.told
+pub returns-in_err-found-clause-saves : goal.returns-in_err-found-clause-saves
+returns-in_err-found-clause-saves g c = saves-same _ _ _ c.look_at_root.ensures.reads.told
 
-pub returns-in-Ok-Basic-clause-value : goal.returns-in-Ok-Basic-clause-value
-returns-in-Ok-Basic-clause-value g c = λ l is stays faults clashes. basic-value g.S.X.BlockHash.block32 g.N.NameHash.name64 c.args.p.now c.args.name.now c.in-Ok-Basic.pairs l (g.S.Store.seen c.args.store.now).told _ _ _ c.remove_basic.result (g.S.Store.seen c.args.store.now) (g.S.Store.seen c.look_at_root.new.store) (g.S.Store.seen c.remove_basic.new.store)
-    (entries-basic g.S.X.BlockHash.block32 (record { size = g.met.S.X.BlockHash.size; are_bytes = g.met.S.X.BlockHash.are_bytes }) g.N.NameHash.name64 c.args.p.now c.args.root.now l is _ _ _ _ c.in-Ok-Basic.field-0-is c.in-Ok-Basic.ensures.looks stays.first) c.remove_basic.ensures.takes c.in-Ok-Basic.ensures.cause c.remove_basic.ensures.cause faults clashes
+pub returns-in-Basic-clause-value : goal.returns-in-Basic-clause-value
+returns-in-Basic-clause-value g c = λ l is stays faults clashes. basic-value g.S.X.BlockHash.block32 g.N.NameHash.name64 c.args.p.now c.args.name.now c.in-Basic.pairs l (g.S.Store.seen c.args.store.now).told _ _ _ c.remove_basic.result (g.S.Store.seen c.args.store.now) (g.S.Store.seen c.look_at_root.new.store) (g.S.Store.seen c.remove_basic.new.store)
+    (entries-basic g.S.X.BlockHash.block32 (record { size = g.met.S.X.BlockHash.size; are_bytes = g.met.S.X.BlockHash.are_bytes }) g.N.NameHash.name64 c.args.p.now c.args.root.now l is _ _ _ _ c.in-Basic.is c.in_ok-found.ensures.looks stays.first) c.remove_basic.ensures.takes c.in_ok-found.ensures.reads.cause c.remove_basic.ensures.saves.cause faults clashes
 
-pub returns-in-Ok-Basic-clause-node : goal.returns-in-Ok-Basic-clause-node
-returns-in-Ok-Basic-clause-node g c = basic-node g.S.X.BlockHash.block32 g.N.NameHash.name64 c.args.p.now c.args.name.now c.in-Ok-Basic.pairs _ _ c.remove_basic.result c.remove_basic.ensures.takes
+pub returns-in-Basic-clause-node : goal.returns-in-Basic-clause-node
+returns-in-Basic-clause-node g c = basic-node g.S.X.BlockHash.block32 g.N.NameHash.name64 c.args.p.now c.args.name.now c.in-Basic.pairs _ _ c.remove_basic.result c.remove_basic.ensures.takes
 
-pub returns-in-Ok-Basic-clause-after : goal.returns-in-Ok-Basic-clause-after
-returns-in-Ok-Basic-clause-after g c = basic-ok g.S.X.BlockHash.block32 g.N.NameHash.name64 c.args.p.now c.args.root.now c.args.name.now c.in-Ok-Basic.pairs (g.S.Store.seen c.args.store.now).told (g.S.Store.seen c.look_at_root.new.store).told (g.S.Store.seen c.remove_basic.new.store).told c.remove_basic.result _ _
-    (λ l is agrees. entries-basic g.S.X.BlockHash.block32 (record { size = g.met.S.X.BlockHash.size; are_bytes = g.met.S.X.BlockHash.are_bytes }) g.N.NameHash.name64 c.args.p.now c.args.root.now l is _ _ _ _ c.in-Ok-Basic.field-0-is c.in-Ok-Basic.ensures.looks agrees) c.look_at_root.ensures.told c.remove_basic.ensures.saves c.remove_basic.ensures.takes
+pub returns-in-Basic-clause-after : goal.returns-in-Basic-clause-after
+returns-in-Basic-clause-after g c = basic-ok g.S.X.BlockHash.block32 g.N.NameHash.name64 c.args.p.now c.args.root.now c.args.name.now c.in-Basic.pairs (g.S.Store.seen c.args.store.now).told (g.S.Store.seen c.look_at_root.new.store).told (g.S.Store.seen c.remove_basic.new.store).told c.remove_basic.result _ _
+    (λ l is agrees. entries-basic g.S.X.BlockHash.block32 (record { size = g.met.S.X.BlockHash.size; are_bytes = g.met.S.X.BlockHash.are_bytes }) g.N.NameHash.name64 c.args.p.now c.args.root.now l is _ _ _ _ c.in-Basic.is c.in_ok-found.ensures.looks agrees) c.look_at_root.ensures.reads.told c.remove_basic.ensures.saves.saves c.remove_basic.ensures.takes
 
 pub returns-clause-value : goal.returns-clause-value
-returns-clause-value g c = λ l is stays faults clashes. take-sharded g.S.X.BlockHash.block32 (record { size = g.met.S.X.BlockHash.size; are_bytes = g.met.S.X.BlockHash.are_bytes }) g.N.NameHash.name64 c.args.p.now c.args.root.now l is (g.S.Store.seen c.args.store.now) (g.S.Store.seen c.look_at_root.new.store) _ _ c.in-Ok-Sharded.field-0-is c.in-Ok-Sharded.ensures.looks c.look_at_root.ensures.told stays.first
-    c.args.name.now (g.S.Store.seen c.remove_sharded.new.store) c.remove_sharded.result c.in-Ok-Sharded.ensures.cause c.remove_sharded.ensures.value stays.last faults clashes
+returns-clause-value g c = λ l is stays faults clashes. take-sharded g.S.X.BlockHash.block32 (record { size = g.met.S.X.BlockHash.size; are_bytes = g.met.S.X.BlockHash.are_bytes }) g.N.NameHash.name64 c.args.p.now c.args.root.now l is (g.S.Store.seen c.args.store.now) (g.S.Store.seen c.look_at_root.new.store) _ _ c.in-Sharded.is c.in_ok-found.ensures.looks c.look_at_root.ensures.reads.told stays.first
+    c.args.name.now (g.S.Store.seen c.remove_sharded.new.store) c.remove_sharded.result c.in_ok-found.ensures.reads.cause c.remove_sharded.ensures.value stays.last faults clashes
 
 pub returns-clause-after : goal.returns-clause-after
-returns-clause-after g c = take-sharded-ok g.S.X.BlockHash.block32 (record { size = g.met.S.X.BlockHash.size; are_bytes = g.met.S.X.BlockHash.are_bytes }) g.N.NameHash.name64 c.args.p.now c.args.root.now (g.S.Store.seen c.args.store.now) (g.S.Store.seen c.look_at_root.new.store) _ _ c.in-Ok-Sharded.field-0-is c.in-Ok-Sharded.ensures.looks c.look_at_root.ensures.told
-    c.args.name.now (g.S.Store.seen c.remove_sharded.new.store) c.in-Ok-Sharded.ensures.cause c.remove_sharded.result c.remove_sharded.ensures.none c.remove_sharded.ensures.value c.remove_sharded.ensures.after
+returns-clause-after g c = take-sharded-ok g.S.X.BlockHash.block32 (record { size = g.met.S.X.BlockHash.size; are_bytes = g.met.S.X.BlockHash.are_bytes }) g.N.NameHash.name64 c.args.p.now c.args.root.now (g.S.Store.seen c.args.store.now) (g.S.Store.seen c.look_at_root.new.store) _ _ c.in-Sharded.is c.in_ok-found.ensures.looks c.look_at_root.ensures.reads.told
+    c.args.name.now (g.S.Store.seen c.remove_sharded.new.store) c.in_ok-found.ensures.reads.cause c.remove_sharded.result c.remove_sharded.ensures.none c.remove_sharded.ensures.value c.remove_sharded.ensures.after
 
-pub returns-in-Ok-Basic-clause-touches : goal.returns-in-Ok-Basic-clause-touches
-returns-in-Ok-Basic-clause-touches g c = λ l is stays faults clashes. basic-takes g.S.X.BlockHash.block32 g.N.NameHash.name64 c.args.p.now l (without c.args.name.now l) c.args.touches.now c.look_at_root.new.touches _ c.look_at_root.ensures.touches c.remove_basic.ensures.touches
+pub returns-in-Basic-clause-touches : goal.returns-in-Basic-clause-touches
+returns-in-Basic-clause-touches g c = λ l is stays faults clashes. basic-takes g.S.X.BlockHash.block32 g.N.NameHash.name64 c.args.p.now l (without c.args.name.now l) c.args.touches.now c.look_at_root.new.touches _ c.look_at_root.ensures.touches c.remove_basic.ensures.touches
 
-pub returns-in-Ok-Basic-clause-fitting : goal.returns-in-Ok-Basic-clause-fitting
-returns-in-Ok-Basic-clause-fitting g c = fitting-at c.remove_basic.result c.args.p.now c.args.root.now (g.S.Store.seen c.args.store.now) (g.S.Store.seen c.look_at_root.new.store) _ c.in-Ok-Basic.ensures.looks c.in-Ok-Basic.ensures.light
+pub returns-in-Basic-clause-fitting : goal.returns-in-Basic-clause-fitting
+returns-in-Basic-clause-fitting g c = fitting-at c.remove_basic.result c.args.p.now c.args.root.now (g.S.Store.seen c.args.store.now) (g.S.Store.seen c.look_at_root.new.store) _ c.in_ok-found.ensures.looks c.in_ok-found.ensures.light
 
 pub returns-clause-fitting : goal.returns-clause-fitting
-returns-clause-fitting g c = fitting-at c.remove_sharded.result c.args.p.now c.args.root.now (g.S.Store.seen c.args.store.now) (g.S.Store.seen c.look_at_root.new.store) _ c.in-Ok-Sharded.ensures.looks c.in-Ok-Sharded.ensures.light
+returns-clause-fitting g c = fitting-at c.remove_sharded.result c.args.p.now c.args.root.now (g.S.Store.seen c.args.store.now) (g.S.Store.seen c.look_at_root.new.store) _ c.in_ok-found.ensures.looks c.in_ok-found.ensures.light
 
 pub returns-clause-touches : goal.returns-clause-touches
 returns-clause-touches g c = λ l is stays faults clashes.
-    let heavy = in_shards g.S.X.BlockHash.block32 (record { size = g.met.S.X.BlockHash.size; are_bytes = g.met.S.X.BlockHash.are_bytes }) g.N.NameHash.name64 c.args.p.now c.args.root.now l is (g.S.Store.seen c.args.store.now) (g.S.Store.seen c.look_at_root.new.store) _ _ c.in-Ok-Sharded.field-0-is c.in-Ok-Sharded.ensures.looks c.look_at_root.ensures.told stays.first in
+    let heavy = in_shards g.S.X.BlockHash.block32 (record { size = g.met.S.X.BlockHash.size; are_bytes = g.met.S.X.BlockHash.are_bytes }) g.N.NameHash.name64 c.args.p.now c.args.root.now l is (g.S.Store.seen c.args.store.now) (g.S.Store.seen c.look_at_root.new.store) _ _ c.in-Sharded.is c.in_ok-found.ensures.looks c.look_at_root.ensures.reads.told stays.first in
     sharded-takes g.S.X.BlockHash.block32 g.N.NameHash.name64 c.args.p.now l (without c.args.name.now l) c.args.touches.now c.look_at_root.new.touches _ heavy (sharded-apart g.S.X.BlockHash.block32 g.N.NameHash.name64 g.met.N.NameHash.fits c.args.p.now l c.args.root.now is heavy) c.look_at_root.ensures.touches
-    (take-asked g.S.X.BlockHash.block32 (record { size = g.met.S.X.BlockHash.size; are_bytes = g.met.S.X.BlockHash.are_bytes }) g.N.NameHash.name64 c.args.p.now c.args.root.now l is (g.S.Store.seen c.args.store.now) (g.S.Store.seen c.look_at_root.new.store) _ _ c.in-Ok-Sharded.field-0-is c.in-Ok-Sharded.ensures.looks c.look_at_root.ensures.told stays.first
-    (g.S.Store.seen c.remove_sharded.new.store) _ c.in-Ok-Sharded.ensures.cause c.remove_sharded.ensures.touches stays.last faults clashes)
+    (take-asked g.S.X.BlockHash.block32 (record { size = g.met.S.X.BlockHash.size; are_bytes = g.met.S.X.BlockHash.are_bytes }) g.N.NameHash.name64 c.args.p.now c.args.root.now l is (g.S.Store.seen c.args.store.now) (g.S.Store.seen c.look_at_root.new.store) _ _ c.in-Sharded.is c.in_ok-found.ensures.looks c.look_at_root.ensures.reads.told stays.first
+    (g.S.Store.seen c.remove_sharded.new.store) _ c.in_ok-found.ensures.reads.cause c.remove_sharded.ensures.touches stays.last faults clashes)
