@@ -1,14 +1,14 @@
 -- What is ahead of a window, and what its bytes say of that.
-use Rattle.std.proofs.Common.{◌≡◌, ℕ, zero, suc, ◌+◌, ◌-◌, ◌≤◌, ◌<◌, List, [], ◌∷◌, ◌++◌, length, take, drop, Bool, true, false, refl, sym, ap, subst, ◌∙◌, arith, append-nil, length-append, length-drop, length-take-le, Ok, Err, Result, ◌⊎◌, inl, inr, true≢false}
+use Rattle.std.proofs.Common.{◌≡◌, ℕ, ◌+◌, ◌-◌, ◌≤◌, ◌<◌, List, [], ◌∷◌, ◌++◌, length, take, drop, Bool, true, false, refl, sym, ap, ◌∙◌, arith, append-nil, length-append, length-drop, Ok, Err, Result, ◌⊎◌, inl, inr, true≢false}
 use Rattle.std.proofs.lemmas.List.{drop-append-le, take-append-le}
-use Rattle.std.specs.Prelude.{nat_lt, Some, None, Option, ◌==◌, ◌||◌, if◌then◌else◌, nat_eq}
+use Rattle.std.specs.Prelude.{nat_lt, Some, None, ◌==◌, ◌||◌, if◌then◌else◌, nat_eq}
 use Rattle.uf_cid.specs.Blocks.{Held}
 use Rattle.uf_cid.specs.declared.cid.Cid.{Cid}
 use Rattle.uf_edge.specs.Streams.{IsAtEnd, Told}
-use Rattle.uf_varint.proofs.Varints.{below, not_below}
+use Rattle.uf_varint.proofs.Varints.{not_below}
 use Rattle.uf_varint.specs.Varint.{read_multi_of}
 use Rattle.uf_varint.specs.declared.varint.Var.{Var}
-use Rattle.uf_varint.specs.declared.varint.Var.TheVariants.{Value, Short, Bad}
+use Rattle.uf_varint.specs.declared.varint.Var.TheVariants.{Value, Short}
 use Rattle.uf_car.specs.declared.fault.CarFault.{CarFault}
 use Rattle.uf_car.specs.declared.fault.CarFault.TheVariants as fault
 use Rattle.uf_car.specs.declared.section.Opening.{Opening}
@@ -23,7 +23,7 @@ use Rattle.std.proofs.lemmas.Bool.Decides.{nat_tests}
 use Rattle.uf_car.specs.Headers.{header_of}
 use Rattle.uf_car.specs.Reading.{EndsInside, Has, IsWrong, Section, checked, ended_over, header_at, header_with, opening_of, section_of, sized_roots, with_opening}
 use Rattle.uf_car.specs.Windows.{Ahead, ComesTo, NoMoreComes, HasEnough, ahead, ahead_of, ahead_with, window_bytes, is_over_at}
-use Rattle.uf_car.proofs.Openings.{length_stable, length_used, long_enough, opening_empty, opening_none, opening_end, opening_some, opening_stable, opening_long}
+use Rattle.uf_car.proofs.Openings.{length_stable, long_enough, opening_none, opening_end, opening_stable, opening_long}
 
 -- ---- what is ahead
 

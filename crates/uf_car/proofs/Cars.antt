@@ -1,16 +1,15 @@
 -- A CAR: its header and its sections.
-use Rattle.std.proofs.Common.{◌≡◌, ℕ, ◌+◌, ◌≤◌, List, [], ◌∷◌, ◌++◌, length, take, drop, Bool, true, false, refl, sym, ap, subst, ◌∙◌, arith, Ok, Err, Result}
-use Rattle.std.specs.Prelude.{nat_lt, Some, None, Option}
-use Rattle.uf_cid.specs.Blocks.{Held}
+use Rattle.std.proofs.Common.{◌≡◌, ℕ, List, [], length, take, drop, Bool, false, sym, ap, subst, arith, Ok, Err, Result}
+use Rattle.std.specs.Prelude.{nat_lt, Some}
 use Rattle.uf_cid.specs.declared.cid.Cid.{Cid}
 use Rattle.uf_edge.specs.Streams as streams
-use Rattle.uf_store.specs.Contents.{Told, changed}
+use Rattle.uf_store.specs.Contents.{Told}
 use Rattle.uf_car.specs.declared.fault.CarFault.{CarFault}
 use Rattle.uf_car.specs.declared.window.Supply.TheVariants.{Open}
 use Rattle.uf_car.specs.declared.window.Window.{Window}
-use Rattle.uf_car.specs.Importing.{KeepsAll, KeepsSome, RefusesCar, stops, with_saves}
+use Rattle.uf_car.specs.Importing.{KeepsAll, RefusesCar, stops}
 use Rattle.uf_car.specs.Reading.{Read, behind_header, header_at, read_over, rooted, sections_of}
-use Rattle.uf_car.specs.Windows.{Ahead, ahead, ahead_of, window_bytes}
+use Rattle.uf_car.specs.Windows.{ahead, ahead_of, window_bytes}
 use Rattle.uf_car.proofs.Sections.{saved_none}
 
 -- nothing was read yet

@@ -1,18 +1,16 @@
 -- What an export has written.
-use Rattle.std.proofs.Common.{◌≡◌, ℕ, zero, suc, ◌+◌, ◌≤◌, ◌<◌, List, [], ◌∷◌, ◌++◌, length, take, drop, refl, sym, ap, subst, ◌∙◌, arith, Contains, inl, inr, Ok, Err}
+use Rattle.std.proofs.Common.{◌≡◌, ℕ, zero, suc, ◌≤◌, List, [], ◌∷◌, length, take, drop, sym, ap, subst, ◌∙◌, arith, Contains, Err}
 use Rattle.std.proofs.lemmas.List.Elements.{Contains-append_left, Contains-append_right, Contains-push}
 use Rattle.std.proofs.lemmas.List.{take_all}
-use Rattle.std.specs.Prelude.{Some, None, Option, slice_get, IfSome}
-use Rattle.uf_cid.specs.Blocks.{Held, Lookup}
+use Rattle.std.specs.Prelude.{Some, None, slice_get, IfSome}
+use Rattle.uf_cid.specs.Blocks.{Lookup}
 use Rattle.uf_cid.specs.declared.cid.Cid.{Cid}
 use Rattle.uf_edge.specs.Streams.{Told}
 use Rattle.uf_store.specs.Contents.{Contents, held_at}
 use Rattle.uf_store.specs.Contents as contents
 use Rattle.uf_store.specs.Faults.{NoneIsBad, Shown}
 use Rattle.uf_store.specs.Seen.{Seen}
-use Rattle.uf_store.specs.declared.store.StoreFault.{StoreFault}
 use Rattle.uf_store.specs.declared.store.StoreFault.TheVariants as store
-use Rattle.uf_walk.specs.Order.{order}
 use Rattle.uf_walk.proofs.Reaching.{order_few, order_held}
 use Rattle.uf_car.specs.declared.fault.ExportFault.{ExportFault}
 use Rattle.uf_car.specs.declared.fault.ExportFault.TheVariants as fault

@@ -1,19 +1,15 @@
 -- The sections of a CAR, one after another.
-use Rattle.std.proofs.Common.{◌≡◌, ℕ, zero, suc, ◌+◌, ◌-◌, ◌≤◌, ◌<◌, List, [], ◌∷◌, ◌++◌, length, take, drop, Bool, true, false, refl, sym, ap, subst, ◌∙◌, arith, append_assoc, append-nil, length-append, length-drop, Ok, Err, Result, true≢false}
-use Rattle.std.proofs.lemmas.List.{take_at, take_all}
+use Rattle.std.proofs.Common.{◌≡◌, ℕ, zero, suc, ◌+◌, ◌-◌, ◌≤◌, ◌<◌, List, [], ◌∷◌, ◌++◌, length, take, drop, Bool, true, false, refl, sym, ap, ◌∙◌, arith, append_assoc, append-nil, length-append, length-drop, Ok, Err}
+use Rattle.std.proofs.lemmas.List.{take_at}
 use Rattle.std.specs.Prelude.{nat_lt, nat_eq, Some, None, Option, if◌then◌else◌}
 use Rattle.std.specs.Cmp.Lexicographic.{pointwise}
 use Rattle.uf_cid.specs.Blocks.{Held}
-use Rattle.uf_cid.specs.declared.cid.Cid.{Cid}
 use Rattle.uf_store.specs.Contents.{Contents, Told, changed, with_save}
-use Rattle.uf_store.specs.Faults.{NoneIsBad, Shows, StaysCalm}
-use Rattle.uf_store.specs.Seen.{Seen}
-use Rattle.uf_store.proofs.Causes.{Shows-after, StaysCalm-trans}
 use Rattle.uf_car.specs.declared.fault.CarFault.{CarFault}
 use Rattle.uf_car.specs.declared.fault.CarFault.TheVariants as fault
 use Rattle.uf_car.specs.declared.section.Opening.{Opening}
 use Rattle.uf_car.specs.declared.section.Opening.TheVariants.{End, Cut, Wrong, Found}
-use Rattle.uf_car.specs.Importing.{GoesOn, ImportsSections, IsAtLast, KeepsAll, KeepsSection, KeepsSome, RefusesCar, RefusesSection, cut_fault, behind_done, section_said, no_more, stops, with_saves}
+use Rattle.uf_car.specs.Importing.{GoesOn, IsAtLast, KeepsAll, KeepsSection, RefusesCar, RefusesSection, cut_fault, behind_done, section_said, no_more, stops, with_saves}
 use Rattle.uf_car.specs.Reading.{NothingLeft, EndsInside, Has, IsWrong, Read, Section, and_section, checked, ended_over, opening_of, read_on, section_of, sections_of, sections_within, with_opening, within_section}
 use Rattle.uf_car.specs.Windows.{Ahead}
 use Rattle.uf_car.proofs.Openings.{opening_none, opening_within}

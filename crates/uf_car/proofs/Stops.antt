@@ -1,8 +1,7 @@
 -- What calls that keep blocks, and calls that ask no store, leave of it.
-use Rattle.std.proofs.Common.{◌≡◌, ℕ, List, Bool, true, false, refl, sym, ap, subst, ◌∙◌, arith}
-use Rattle.std.specs.Prelude.{Some, None, Option, IfSome}
-use Rattle.uf_store.specs.Clashes.{IsSaving}
-use Rattle.uf_store.specs.Faults.{NoneIsBad, Shown}
+use Rattle.std.proofs.Common.{ℕ, List, sym, subst}
+use Rattle.std.specs.Prelude.{Some, None, Option}
+use Rattle.uf_store.specs.Faults.{NoneIsBad}
 use Rattle.uf_store.specs.Seen.{Seen}
 use Rattle.uf_store.specs.declared.store.StoreFault.{StoreFault}
 use Rattle.uf_store.specs.declared.store.StoreFault.TheVariants.{Memory}

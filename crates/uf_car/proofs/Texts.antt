@@ -1,5 +1,5 @@
 -- The text of a CAR.
-use Rattle.std.proofs.Common.{◌≡◌, ℕ, zero, suc, ◌+◌, ◌-◌, ◌≤◌, ◌<◌, List, [], ◌∷◌, ◌++◌, length, take, drop, refl, sym, ap, subst, ◌∙◌, arith, append_assoc, append-nil, length-append}
+use Rattle.std.proofs.Common.{◌≡◌, ℕ, zero, suc, ◌+◌, List, [], ◌∷◌, ◌++◌, length, take, drop, refl, sym, ap, ◌∙◌, arith, append_assoc, append-nil, length-append}
 use Rattle.std.proofs.lemmas.List.{take-append-drop, take_all, take_at}
 use Rattle.std.specs.Prelude.{Some, None, Option, slice_get}
 use Rattle.uf_car.specs.Exporting.{WritesAll}
@@ -14,7 +14,7 @@ use Rattle.uf_edge.specs.declared.streams.Sent.TheVariants.{Done, Failed}
 use Rattle.uf_edge.proofs.Appending.{after-after}
 use Rattle.std.proofs.Math.Seq.{take-append-add}
 use Rattle.std.proofs.lemmas.List.{take-append-le}
-use Rattle.uf_car.specs.Text.{blocks_at, car_bytes, car_text, framed, header_bytes, link_key, roots_key, section_bytes, sections_bytes, version_key, with_held}
+use Rattle.uf_car.specs.Text.{blocks_at, car_text, framed, header_bytes, link_key, roots_key, section_bytes, sections_bytes, version_key, with_held}
 
 -- ---- the header
 

@@ -1,15 +1,15 @@
 -- What a window shows behind each step.
-use Rattle.std.proofs.Common.{◌≡◌, ℕ, zero, suc, ◌+◌, ◌-◌, ◌≤◌, ◌<◌, List, [], ◌∷◌, ◌++◌, length, take, drop, Bool, true, false, refl, sym, ap, subst, ◌∙◌, arith, append_assoc, append-nil, length-append, length-drop, length-take, length-take-le}
+use Rattle.std.proofs.Common.{◌≡◌, ℕ, zero, suc, ◌+◌, ◌-◌, ◌≤◌, ◌<◌, List, [], ◌++◌, length, take, drop, Bool, true, false, refl, sym, ap, ◌∙◌, arith, append_assoc, append-nil, length-append, length-take, length-take-le}
 use Rattle.std.proofs.Math.Seq.{take-add, take-append-add}
-use Rattle.std.proofs.lemmas.List.{drop-append-le, drop-drop, drop-take, take-append-le, take-take, take_all}
+use Rattle.std.proofs.lemmas.List.{drop-append-le, drop-drop, drop-take, take-append-le, take-take}
 use Rattle.std.proofs.lemmas.Bool.Decides.{nat_tests}
-use Rattle.std.specs.Prelude.{nat_lt, min, Some, None, Option}
+use Rattle.std.specs.Prelude.{nat_lt, min, Some, None}
 use Rattle.uf_edge.specs.Streams.{Gives, IsAtEnd, Told, before as in_front}
 use Rattle.uf_varint.proofs.Varints.{below, not_below}
 use Rattle.uf_car.specs.declared.window.Supply.{Supply}
 use Rattle.uf_car.specs.declared.window.Supply.TheVariants.{Open, Ended, Over}
 use Rattle.uf_car.specs.declared.window.Window.{Window}
-use Rattle.uf_car.specs.Windows.{Ahead, KeepsAhead, TakesIn, ahead, ahead_of, ahead_with, window_bytes}
+use Rattle.uf_car.specs.Windows.{KeepsAhead, ahead_of, ahead_with, window_bytes}
 
 nat_lt-true : (n m : ℕ) → nat_lt n m ≡ true → n < m
 nat_lt-true n m e = grind (arith, nat_tests)

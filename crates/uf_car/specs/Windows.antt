@@ -1,5 +1,5 @@
 -- What a window on a source shows.
-use Rattle.std.specs.Prelude.{◌≡◌, ℕ, ◌+◌, ◌-◌, ◌<◌, ◌≤◌, ◌⊎◌, nat_lt, Bool, true, false, List, [], ◌++◌, length, take, drop, None, Some, min}
+use Rattle.std.specs.Prelude.{◌≡◌, ℕ, ◌+◌, ◌-◌, ◌<◌, ◌≤◌, ◌⊎◌, nat_lt, Bool, true, false, List, ◌++◌, length, take, drop, None, Some, min}
 use Rattle.std.specs.declared.option.Option.{Option}
 use Rattle.uf_edge.specs.Streams.{IsAtEnd, Told}
 use Rattle.uf_car.specs.declared.window.Fill.{Fill}

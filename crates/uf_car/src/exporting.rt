@@ -50,7 +50,8 @@ fn walk_from<S: Store, L: Ledger>(
     most: u32,
     touches: &mut Steps<L>,
 ) -> Result<Walk, ExportFault>
-    ensures walked { (t : Contents) → (S.seen store.old).told ≡ Some t → WalksAll (order (held_at t) most root.now) result }
+    ensures walked { (t : Contents) → (S.seen store.old).told ≡ Some t
+        → WalksAll (order (held_at t) most root.now) result }
     ensures reads { OnlyReads S.X.block32 NoneIsBad (export_fault result) (S.seen store.old) (S.seen store.new) }
     ensures no_sink { is_sink_fault result ≡ false }
 {
@@ -73,7 +74,8 @@ fn take_block<S: Store, L: Ledger>(
     touches: &mut Steps<L>,
 ) -> Result<(), ExportFault>
     requires { walk.old.due ≡ Some cid.now }
-    ensures order { (t : Contents) → (S.seen store.old).told ≡ Some t → FollowsOrder (held_at t) result walk.old walk.new }
+    ensures order { (t : Contents) → (S.seen store.old).told ≡ Some t
+        → FollowsOrder (held_at t) result walk.old walk.new }
     ensures taken { OnOk result (HasTaken walk.old walk.new) }
     ensures reads { OnlyReads S.X.block32 NoneIsBad (export_fault result) (S.seen store.old) (S.seen store.new) }
     ensures no_sink { is_sink_fault result ≡ false }
@@ -123,7 +125,8 @@ fn write_block<S: Store, O: Sink, L: Ledger>(
     out: &mut O,
     touches: &mut Steps<L>,
 ) -> Result<u64, ExportFault>
-    ensures block { WritesBlock cid.now result (S.seen store.old) (S.seen store.new) (O.holds out.old) (O.holds out.new) }
+    ensures block { WritesBlock cid.now result (S.seen store.old) (S.seen store.new)
+        (O.holds out.old) (O.holds out.new) }
     ensures few { IfOk result (λ n. n ≤ 2097198) }
     ensures reads { OnlyReads S.X.block32 NoneIsBad (export_fault result) (S.seen store.old) (S.seen store.new) }
     ensures counts { Counts (is_sink_fault result) (O.faults out.old) (O.faults out.new) }

@@ -2,7 +2,8 @@
 ghost use Rattle.std.specs.Prelude.{◌≡◌, ◌∷◌, [], IfErr};
 ghost use Rattle.std.specs.Option.{option_map};
 ghost use Rattle.uf_cid.specs.Read.{cid_at};
-ghost use Rattle.uf_car.specs.Headers.{IsOfBytes, HeaderSays, HeaderSaysOrMemory, past_front, roots_counted, few_roots, first_version, header_of, mark_of, root_of, root_with, roots_from, versioned};
+ghost use Rattle.uf_car.specs.Headers.{HeaderSays, HeaderSaysOrMemory, IsOfBytes, few_roots, first_version, header_of};
+ghost use Rattle.uf_car.specs.Headers.{mark_of, past_front, root_of, root_with, roots_counted, roots_from, versioned};
 ghost use Rattle.uf_car.specs.Text.{version_key};
 
 use crate::CarFault;

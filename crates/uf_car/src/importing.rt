@@ -28,9 +28,9 @@ use uf_edge::Source;
 use uf_store::{Steps, Store, save_under};
 use uf_varint::{Var, read_multi};
 
-/// Reads a CAR of at most `limit` bytes, and keeps the block of each section. After a refusal the blocks of the sections
-/// in front of it are kept. Ok says that the source was read to its end, and not that all below a root is there (CARv1).
-/// One touch for each block.
+/// Reads a CAR of at most `limit` bytes, and keeps the block of each section. After a refusal the blocks of the
+/// sections in front of it are kept. Ok says that the source was read to its end, and not that all below a root is
+/// there (CARv1). One touch for each block.
 pub fn import<S: Store, I: Source, L: Ledger>(
     alloc: Global,
     store: &mut S,
@@ -63,8 +63,8 @@ fn import_all<S: Store, I: Source, L: Ledger>(
 ) -> Result<Imported, CarFault>
     requires ended { ComesTo window.old.supply (I.left input.old) }
     requires few { length (window_bytes window.old) + window.old.room < 2 ^ 64 }
-    ensures reads { (a : Ahead) → ahead window.old (I.left input.old) ≡ Some a → ImportsCar (read_over S.X.block32 a.1 a.0)
-        result (S.seen store.old).told (S.seen store.new).told }
+    ensures reads { (a : Ahead) → ahead window.old (I.left input.old) ≡ Some a
+        → ImportsCar (read_over S.X.block32 a.1 a.0) result (S.seen store.old).told (S.seen store.new).told }
     ensures last { OnOk result (IsAtEnd (I.left input.new)) }
     ensures imports { OnlyImports S.X.block32 (car_fault result) (S.seen store.old) (S.seen store.new) }
     ensures counts { Counts (is_source_fault result) (I.faults input.old) (I.faults input.new) }
@@ -143,7 +143,8 @@ fn import_sections<S: Store, I: Source, L: Ledger>(
     requires ended { ComesTo window.old.supply (I.left input.old) }
     requires place { place + (length (window_bytes window.old) + window.old.room) < 2 ^ 64 }
     ensures reads { (a : Ahead) → ahead window.old (I.left input.old) ≡ Some a
-        → ImportsSections (sections_of S.X.block32 a.1 place a.0) result (S.seen store.old).told (S.seen store.new).told }
+        → ImportsSections (sections_of S.X.block32 a.1 place a.0) result
+        (S.seen store.old).told (S.seen store.new).told }
     ensures last { OnOk result (IsAtEnd (I.left input.new)) }
     ensures imports { OnlyImports S.X.block32 (car_fault result) (S.seen store.old) (S.seen store.new) }
     ensures counts { Counts (is_source_fault result) (I.faults input.old) (I.faults input.new) }

@@ -62,7 +62,13 @@ fn block_of(alloc: Global, pieces: &[&[u8]]) -> Block {
 }
 
 // What an import of some bytes answers, and how many blocks are held then, in readings of so many, of at most `limit`.
-fn reads<L: Ledger>(alloc: Global, car: Block, step: usize, limit: u64, touches: &mut Steps<L>) -> (Said, usize)
+fn reads<L: Ledger>(
+    alloc: Global,
+    car: Block,
+    step: usize,
+    limit: u64,
+    touches: &mut Steps<L>,
+) -> (Said, usize)
     requires { 0 < step }
 {
     let mut store = MemStore::<Sha256Hash>::new(alloc);
@@ -152,7 +158,13 @@ fn first_misread<L: Ledger>(alloc: Global, t: &mut Steps<L>) -> Option<usize> {
         reads(alloc, changed(alloc, 58, 2), 5, 1000, t) == (Said::Fault(3, 2), 0),
         reads(alloc, changed(alloc, 58, 24), 5, 1000, t) == (Said::Fault(2, 0), 0),
         reads(alloc, changed(alloc, 60, 2), 5, 1000, t) == (Said::Fault(4, 59), 0),
-        reads(alloc, block_of(alloc, &[b"\x0a\xa1\x67version\x02"]), 5, 1000, t) == (Said::Fault(3, 2), 0),
+        reads(
+            alloc,
+            block_of(alloc, &[b"\x0a\xa1\x67version\x02"]),
+            5,
+            1000,
+            t,
+        ) == (Said::Fault(3, 2), 0),
         reads(alloc, block_of(alloc, &[b"\x80\x00"]), 5, 1000, t) == (Said::Fault(8, 0), 0),
         reads(alloc, block_of(alloc, &[b"\x80\x80\x01"]), 5, 1000, t) == (Said::Fault(1, 0), 0),
         reads(alloc, block_of(alloc, &[b"\x81\x80\x01"]), 5, 1000, t) == (Said::Fault(2, 0), 0),
@@ -215,8 +227,7 @@ fn tower<L: Ledger>(
     block: &[u8],
     height: u8,
     touches: &mut Steps<L>,
-) -> Result<Cid, StoreFault>
-{
+) -> Result<Cid, StoreFault> {
     if block.len() > 100 {
         return Err(StoreFault::Failed);
     }
@@ -258,8 +269,10 @@ fn first_miswritten<L: Ledger>(alloc: Global, t: &mut Steps<L>) -> Option<usize>
         writes(alloc, Codec::Raw, hello, 0, 1, 106, t) == (Told::Fault(1), 106, true),
         writes(alloc, Codec::Raw, hello, 0, 1, 58, t) == (Told::Fault(1), 58, true),
         writes(alloc, Codec::Raw, hello, 1, 2, 1000, t) == (Told::Bytes(239), 239, false),
-        writes(alloc, Codec::DagPb, b"\x0a\x02\x08\x01", 39, 40, 9999, t) == (Told::Bytes(5248), 5248, false),
-        writes(alloc, Codec::DagPb, b"\x0a\x02\x08\x01", 39, 39, 9999, t) == (Told::Fault(2), 0, true),
+        writes(alloc, Codec::DagPb, b"\x0a\x02\x08\x01", 39, 40, 9999, t)
+            == (Told::Bytes(5248), 5248, false),
+        writes(alloc, Codec::DagPb, b"\x0a\x02\x08\x01", 39, 39, 9999, t)
+            == (Told::Fault(2), 0, true),
         writes(alloc, Codec::DagPb, b"\x0a\x02\x08", 2, 9, 9999, t) == (Told::Fault(11), 0, true),
     ];
     rows.iter().position(|right| !*right)

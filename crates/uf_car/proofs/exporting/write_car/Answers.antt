@@ -1,4 +1,4 @@
-use Rattle.std.proofs.Common.{◌≡◌, ◌≤◌, ◌+◌, ◌*◌, subst, refl, sym, arith, take, ◌∙◌}
+use Rattle.std.proofs.Common.{subst, refl, sym, arith, take, ◌∙◌}
 use Rattle.std.proofs.lemmas.Result.{err_from_is_err_and}
 use Rattle.uf_store.specs.Contents.{held_at}
 use Rattle.uf_store.proofs.Calls.{reads-reads}

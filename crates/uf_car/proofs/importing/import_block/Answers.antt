@@ -1,4 +1,4 @@
-use Rattle.std.proofs.Common.{sym, ap, ◌∙◌, refl, Err, subst, ◌-◌, ◌+◌, take, drop}
+use Rattle.std.proofs.Common.{ap, ◌∙◌, ◌-◌, ◌+◌, take, drop}
 use Rattle.std.proofs.lemmas.Result.{err_from_is_err_and}
 use Rattle.uf_car.specs.Importing.{RefusesSection}
 use Rattle.uf_car.proofs.Aheads.{accepted, refused, used_ahead}

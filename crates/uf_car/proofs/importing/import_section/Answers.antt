@@ -1,4 +1,4 @@
-use Rattle.std.proofs.Common.{sym, ap, ◌∙◌, refl, Ok}
+use Rattle.std.proofs.Common.{ap, ◌∙◌, refl, Ok}
 use Rattle.uf_car.proofs.Aheads.{begun_none}
 use Rattle.uf_car.proofs.importing.import_section.Goals as goal
 

@@ -1,7 +1,6 @@
-use Rattle.std.proofs.Common.{◌≡◌, ◌≤◌, ◌<◌, ◌+◌, ◌^◌, ℕ, subst, refl, sym, arith, length, Ok, ◌∙◌}
+use Rattle.std.proofs.Common.{refl, arith, ◌∙◌}
 use Rattle.std.proofs.lemmas.Result.{err_from_is_err_and}
 use Rattle.std.specs.Prelude.{None}
-use Rattle.uf_car.specs.Importing.{EndsAt, ImportsSection, Uses, UsesUp}
 use Rattle.uf_car.proofs.Stops.{imports_on, nothing_asked}
 use Rattle.uf_car.proofs.Sections.{goes_first, goes_last, goes_more, goes_wrong}
 use Rattle.uf_car.proofs.importing.import_sections.Goals as goal

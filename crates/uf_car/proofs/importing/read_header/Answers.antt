@@ -1,4 +1,4 @@
-use Rattle.std.proofs.Common.{sym, ap, ◌∙◌, refl, subst, Err, inl, inr}
+use Rattle.std.proofs.Common.{sym, ap, ◌∙◌, subst, Err, inl, inr}
 use Rattle.uf_car.specs.Importing.{SaysUnlessStopped}
 use Rattle.uf_varint.specs.Varint.{read_multi_of}
 use Rattle.uf_car.proofs.Aheads.{header_read, header_short, header_wrong}

@@ -1,0 +1,4 @@
+pub mod Alike
+pub mod Comparing
+pub mod Stopped
+pub mod Verdict

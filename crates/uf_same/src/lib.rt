@@ -1,0 +1,12 @@
+//! Two stores compared below one CID: each block that links lead to.
+#![tactic(auto)]
+
+mod answer;
+mod comparing;
+mod laws;
+#[cfg(test)]
+mod tests;
+
+pub use answer::{Compared, SameFault};
+pub use comparing::same;
+pub use laws::equal_means_the_same_blocks;
