@@ -306,7 +306,7 @@ module _ (N : List ℕ → ℕ) (held : Lookup) (k : ℕ) (l : List Named) (deep
           → (2 ≤ length bs → (met : Ways) (n : ℕ) → T (is_sorted names_cmp met) → Fresh bs met → Adds (wanted bs) met (sub_ways held left (deeper bs).entry.cid met n))
           → ((now : Ways) (j : ℕ) → Added (wanted (slots_at a)) met now → Adds (slots_wanted N k l n (suc a)) now (shard_ways (sub_ways held left) parent left (rest_of n (suc a)) now j))
           → Adds (λ q. option_or (slots_wanted N k l n (suc a) q) (wanted (slots_at a) q)) met
-            (shard_ways (sub_ways held left) parent left (map slot_link (cons_option (option_map (λ x. (a, x)) (slot_item deeper bs)) (tabulate n (suc a) (λ s. slot_item deeper (slots_at s))))) met m)
+          (shard_ways (sub_ways held left) parent left (map slot_link (cons_option (option_map (λ x. (a, x)) (slot_item deeper bs)) (tabulate n (suc a) (λ s. slot_item deeper (slots_at s))))) met m)
       one [] is good free below rest =
           let nothing = added_same (λ q. None) (wanted (slots_at a)) met met (λ q. ap (λ b. wanted b q) is) (added_none met sorted) in
           adds_after (wanted (slots_at a)) (slots_wanted N k l n (suc a)) met met _ nothing (rest met m nothing)

@@ -16,7 +16,7 @@ ghost use Rattle.uf_lenient.specs.declared.unixfs.Unixfs.TheVariants.{Directory,
 ghost use Rattle.uf_lenient.specs.Reading.{denotes, file_of, resolve_from, shallow_of};
 ghost use Rattle.uf_lenient.specs.Steps.{Rest, to_come};
 ghost use Rattle.uf_lenient.specs.Unixfs.{unixfs_of};
-ghost use Rattle.uf_lenient.specs.Within.{GivesSame, GivesWithinLimits, HoldsAllOf};
+ghost use Rattle.uf_lenient.specs.Within.{AnswersSame, GivesWithinLimits, HoldsAllOf};
 
 /// The canonical blocks of files, directories and shards are what they were written as: a file's node has no bytes of
 /// its own.
@@ -38,17 +38,18 @@ pub fn a_plan_denotes_its_tree()
         → GivesWithinLimits t (denotes held limits (entry X N p t).cid) }
 {}
 
-/// What is read of a map of blocks is read of each map that holds all of them and more.
+/// What is read of a map of blocks, value or fault, is read of each map that holds all of them and more, but that a block
+/// that was missing may be there.
 pub fn a_reading_stays_in_a_greater_map()
     ensures tree { (held more : Held) (limits : Limits) (c : Cid) → HoldsAllOf held more
-        → GivesSame (denotes held limits c) (denotes more limits c) }
+        → AnswersSame more (denotes held limits c) (denotes more limits c) }
     ensures shape { (held more : Held) (limits : Limits) (c : Cid) → HoldsAllOf held more
-        → GivesSame (shallow_of held limits c) (shallow_of more limits c) }
+        → AnswersSame more (shallow_of held limits c) (shallow_of more limits c) }
     ensures file { (held more : Held) (limits : Limits) (c : Cid) → HoldsAllOf held more
-        → GivesSame (file_of held limits c) (file_of more limits c) }
+        → AnswersSame more (file_of held limits c) (file_of more limits c) }
     ensures rest { (held more : Held) (rest : Rest) → HoldsAllOf held more
-        → GivesSame (to_come held rest) (to_come more rest) }
+        → AnswersSame more (to_come held rest) (to_come more rest) }
     ensures path { (held more : Held) (limits : Limits) (place : ℕ) (names : List (List ℕ)) (c : Cid)
         → HoldsAllOf held more
-        → GivesSame (resolve_from held limits place names c) (resolve_from more limits place names c) }
+        → AnswersSame more (resolve_from held limits place names c) (resolve_from more limits place names c) }
 {}

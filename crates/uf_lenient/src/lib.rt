@@ -23,7 +23,9 @@ mod unixfs;
 mod visiting;
 
 pub use fault::{DagFault, StreamFault};
-pub use laws::{a_plan_denotes_its_tree, a_reading_stays_in_a_greater_map, canonical_nodes_are_read};
+pub use laws::{
+    a_plan_denotes_its_tree, a_reading_stays_in_a_greater_map, canonical_nodes_are_read,
+};
 pub use looking::shallow;
 pub use pieces::Pieces;
 pub use resolving::resolve;

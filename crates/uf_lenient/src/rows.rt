@@ -2,8 +2,8 @@
 ghost use Rattle.std.specs.Prelude.{◌≡◌, [], ◌∷◌, Ok, Err, codes};
 ghost use Rattle.uf_store.specs.declared.store.StoreFault.TheVariants.{Missing};
 ghost use Rattle.uf_tree.specs.Tree.{File, Dir, Nothing, With};
-ghost use Rattle.uf_lenient.specs.declared.fault.DagFault.TheVariants.{NotUnixfs, DuplicateName, BadName, Unsupported};
-ghost use Rattle.uf_lenient.specs.declared.fault.DagFault.TheVariants.{TooDeep, TooMany, NotFound, NotADirectory, Store};
+ghost use Rattle.uf_lenient.specs.declared.fault.DagFault.TheVariants.{BadName, DuplicateName, NotADirectory, NotFound};
+ghost use Rattle.uf_lenient.specs.declared.fault.DagFault.TheVariants.{NotUnixfs, Store, TooDeep, TooMany, Unsupported};
 ghost use Rattle.uf_lenient.specs.declared.shapes.Shape.TheVariants.{File as FileShape, Folder};
 ghost use Rattle.uf_lenient.specs.Reading.{denotes, file_of, resolve_from, shallow_of};
 ghost use Rattle.uf_lenient.specs.Rows.{directory_chain, doubled_chain, nth_node};
@@ -45,8 +45,11 @@ pub fn names_come_first()
 /// A shard that a shard links is read in its place, one link deeper, and its entries one deeper still.
 pub fn shards_are_read_in_place()
     ensures names { shallow_of some_blocks usual_limits (nth_node 17)
-        ≡ Ok (Folder ((codes "a", nth_raw 3) ∷ (codes "x", nth_raw 3) ∷ (codes "y", nth_node 1) ∷ (codes "z", nth_raw
-        3) ∷ [])) }
+        ≡ Ok (Folder ((codes "a", nth_raw 3) ∷ (codes "x", nth_raw 3) ∷ (codes "y", nth_node 1) ∷ (
+          codes "z",
+          nth_raw
+              3,
+        ) ∷ [])) }
     ensures tree { denotes some_blocks (with_limits 2 6) (nth_node 17)
         ≡ Ok (Dir (With (codes "a") (File (codes "ab")) (With (codes "x") (File (codes "ab")) (With (codes "y") (File
         (codes "hi")) (With (codes "z") (File (codes "ab")) Nothing))))) }

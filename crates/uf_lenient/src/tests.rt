@@ -336,7 +336,12 @@ fn directories<L: Ledger>(alloc: Global, touches: &mut Steps<L>) -> Result<bool,
     let a = put(alloc, s, Codec::Raw, b"a")?;
     let lost = raw(b"lost");
     let link = put_node(alloc, s, &[], &[8, 4])?;
-    let hi = put(alloc, s, Codec::DagPb, &[0x0a, 6, 8, 2, 0x12, 2, 0x68, 0x69])?;
+    let hi = put(
+        alloc,
+        s,
+        Codec::DagPb,
+        &[0x0a, 6, 8, 2, 0x12, 2, 0x68, 0x69],
+    )?;
     let old = over_old(alloc, &hi)?;
     let old = put(alloc, s, Codec::DagPb, old.as_slice())?;
     let two = put_node(alloc, s, &[(a, b"y"), (a, b"x")], &DIRECTORY)?;

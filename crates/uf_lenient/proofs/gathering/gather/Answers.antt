@@ -18,7 +18,7 @@ pub returns-in-File-clause-says : goal.returns-in-File-clause-says
 returns-in-File-clause-says g c = on (g.S.Store.seen c.args.store.now).told (λ t says. gathered-says (held_at t) c.args.left c.args.cid.now c.args.visits.now _ (File c.in-File.bytes c.in-File.links) c.visit.new.visits c.visit.new.visits (Ok (IsFile c.in-File.bytes c.in-File.links)) c.in-File.is says refl) c.in_ok-bytes.ensures.says
 
 pub returns-in-Directory-clause-says : goal.returns-in-Directory-clause-says
-returns-in-Directory-clause-says g c = on (g.S.Store.seen c.args.store.now).told (λ t says. gathered-says (held_at t) c.args.left c.args.cid.now c.args.visits.now _ (Directory c.in-Directory.links) c.visit.new.visits c.visit.new.visits c.gather_block.result c.in-Directory.is says 
+returns-in-Directory-clause-says g c = on (g.S.Store.seen c.args.store.now).told (λ t says. gathered-says (held_at t) c.args.left c.args.cid.now c.args.visits.now _ (Directory c.in-Directory.links) c.visit.new.visits c.visit.new.visits c.gather_block.result c.in-Directory.is says
     (folder_still c.visit.new.visits (meet_all c.args.cid.now _ c.in-Directory.links []) c.gather_block.result c.gather_block.ensures.says)) c.in_ok-bytes.ensures.says
 
 pub returns-in-Shard-clause-says : goal.returns-in-Shard-clause-says
