@@ -1,0 +1,14 @@
+pub mod Saying
+pub mod Bounds
+pub mod Ends
+pub mod Frames
+pub mod Meetings
+pub mod Paths
+pub mod Coming
+pub mod Sending
+pub mod Rereading
+pub mod Within
+pub mod FilesAgain
+pub mod ShardsAgain
+pub mod TreesAgain
+pub mod Greater

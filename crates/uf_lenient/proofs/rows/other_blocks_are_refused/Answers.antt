@@ -1,0 +1,36 @@
+use Rattle.std.proofs.Common.{refl}
+use Rattle.std.specs.Str.{chars, is_utf8}
+use Rattle.std.specs.Str.Lossy.{utf8_valid_len}
+use lib.Utf8.{encode}
+use Rattle.uf_cid.specs.Read.{cid_at}
+use Rattle.uf_dagpb.specs.Reading.{link_fault, node_fault, node_reads}
+use Rattle.uf_message.specs.Reading.{message_reads, mtime_reads, run, run_within}
+use Rattle.uf_varint.specs.Fields.{bytes_at, content_at, fields, fields_within, number_at, piece_at}
+use Rattle.uf_varint.specs.Varint.{proto_within, read_proto_of}
+use Rattle.uf_lenient.specs.Reading.{file_under, gathered, part_bytes, sub_ways, tree_within}
+use Rattle.uf_lenient.specs.Unixfs.{unixfs_of}
+use Rattle.uf_lenient.proofs.rows.other_blocks_are_refused.Goals as goal
+
+pub returns-clause-symlink : goal.returns-clause-symlink
+unfolding tree_within file_under gathered sub_ways part_bytes unixfs_of node_reads node_fault link_fault message_reads run run_within mtime_reads fields fields_within content_at bytes_at piece_at number_at read_proto_of proto_within cid_at is_utf8 chars utf8_valid_len encode
+returns-clause-symlink c = refl
+
+pub returns-clause-fanout : goal.returns-clause-fanout
+unfolding tree_within file_under gathered sub_ways part_bytes unixfs_of node_reads node_fault link_fault message_reads run run_within mtime_reads fields fields_within content_at bytes_at piece_at number_at read_proto_of proto_within cid_at is_utf8 chars utf8_valid_len encode
+returns-clause-fanout c = refl
+
+pub returns-clause-content : goal.returns-clause-content
+unfolding tree_within file_under gathered sub_ways part_bytes unixfs_of node_reads node_fault link_fault message_reads run run_within mtime_reads fields fields_within content_at bytes_at piece_at number_at read_proto_of proto_within cid_at is_utf8 chars utf8_valid_len encode
+returns-clause-content c = refl
+
+pub returns-clause-kind : goal.returns-clause-kind
+unfolding tree_within file_under gathered sub_ways part_bytes unixfs_of node_reads node_fault link_fault message_reads run run_within mtime_reads fields fields_within content_at bytes_at piece_at number_at read_proto_of proto_within cid_at is_utf8 chars utf8_valid_len encode
+returns-clause-kind c = refl
+
+pub returns-clause-field : goal.returns-clause-field
+unfolding tree_within file_under gathered sub_ways part_bytes unixfs_of node_reads node_fault link_fault message_reads run run_within mtime_reads fields fields_within content_at bytes_at piece_at number_at read_proto_of proto_within cid_at is_utf8 chars utf8_valid_len encode
+returns-clause-field c = refl
+
+pub returns-clause-lost : goal.returns-clause-lost
+unfolding tree_within file_under gathered sub_ways part_bytes unixfs_of node_reads node_fault link_fault message_reads run run_within mtime_reads fields fields_within content_at bytes_at piece_at number_at read_proto_of proto_within cid_at is_utf8 chars utf8_valid_len encode
+returns-clause-lost c = refl

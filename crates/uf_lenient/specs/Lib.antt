@@ -1,0 +1,9 @@
+pub mod Answers
+pub mod Keyed
+pub mod Pending
+pub mod Reading
+pub mod Rows
+pub mod Steps
+pub mod Streams
+pub mod Unixfs
+pub mod Within

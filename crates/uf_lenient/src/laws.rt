@@ -1,0 +1,55 @@
+// What holds of readings.
+ghost use Rattle.std.specs.Prelude.{◌≡◌, ◌<◌, ◌^◌, ℕ, List, [], IsTrue, None, Ok, length, map};
+ghost use Rattle.std.specs.List.{AllByRecursion};
+ghost use Rattle.uf_cid.specs.Blocks.{Holds, Lookup as Held};
+ghost use Rattle.uf_cid.specs.declared.cid.Cid.{Cid};
+ghost use Rattle.uf_cid.specs.declared.cid.Codec.TheVariants.{DagPb};
+ghost use Rattle.uf_tree.specs.declared.nodes.FileNode.{FileNode};
+ghost use Rattle.uf_tree.specs.declared.profile.Profile.{Profile};
+ghost use Rattle.uf_tree.specs.Nodes.{InSlot, Named, dir_block, file_block, link_of, shard_block, slot_link};
+ghost use Rattle.uf_tree.specs.Profiles.{is_profile};
+ghost use Rattle.uf_tree.specs.Tree.{Tree, is_tree};
+ghost use Rattle.uf_tree.specs.TreePlan.{blocks, entry, refusal};
+ghost use Rattle.uf_tree.specs.Validity.{IsFileNode, IsHash, IsNamed, IsShard};
+ghost use Rattle.uf_lenient.specs.declared.shapes.Limits.{Limits};
+ghost use Rattle.uf_lenient.specs.declared.unixfs.Unixfs.TheVariants.{Directory, File, Shard};
+ghost use Rattle.uf_lenient.specs.Reading.{denotes, file_of, resolve_from, shallow_of};
+ghost use Rattle.uf_lenient.specs.Steps.{Rest, to_come};
+ghost use Rattle.uf_lenient.specs.Unixfs.{unixfs_of};
+ghost use Rattle.uf_lenient.specs.Within.{AnswersSame, GivesWithinLimits, HoldsAllOf};
+
+/// The canonical blocks of files, directories and shards are what they were written as: a file's node has no bytes of
+/// its own.
+pub fn canonical_nodes_are_read()
+    ensures file { (digest : List ℕ) (node : FileNode) → IsFileNode node
+        → unixfs_of (record { codec = DagPb; digest = digest }) (file_block node) ≡ Ok (File [] node.parts) }
+    ensures directory { (digest : List ℕ) (l : List Named) → AllByRecursion IsNamed l → length (dir_block l) < 2 ^ 64
+        → unixfs_of (record { codec = DagPb; digest = digest }) (dir_block l)
+        ≡ Ok (Directory (map (λ (e : Named). link_of e.0 e.1) l)) }
+    ensures shard { (digest : List ℕ) (items : List InSlot) → IsShard items
+        → unixfs_of (record { codec = DagPb; digest = digest }) (shard_block items) ≡ Ok (Shard (map slot_link items)) }
+{}
+
+/// Where the blocks of a tree's plan are held, its root denotes the tree, unless a limit ends the reading.
+pub fn a_plan_denotes_its_tree()
+    ensures denotes { (X : List ℕ → List ℕ) (N : List ℕ → ℕ) (p : Profile) (t : Tree) (held : Held) (limits : Limits)
+        → IsHash X → ((name : List ℕ) → N name < 2 ^ 64) → IsTrue (is_profile p) → IsTrue (is_tree t)
+        → refusal X N p t ≡ None → Holds held (blocks X N p t)
+        → GivesWithinLimits t (denotes held limits (entry X N p t).cid) }
+{}
+
+/// What is read of a map of blocks, value or fault, is read of each map that holds all of them and more, but that a block
+/// that was missing may be there.
+pub fn a_reading_stays_in_a_greater_map()
+    ensures tree { (held more : Held) (limits : Limits) (c : Cid) → HoldsAllOf held more
+        → AnswersSame more (denotes held limits c) (denotes more limits c) }
+    ensures shape { (held more : Held) (limits : Limits) (c : Cid) → HoldsAllOf held more
+        → AnswersSame more (shallow_of held limits c) (shallow_of more limits c) }
+    ensures file { (held more : Held) (limits : Limits) (c : Cid) → HoldsAllOf held more
+        → AnswersSame more (file_of held limits c) (file_of more limits c) }
+    ensures rest { (held more : Held) (rest : Rest) → HoldsAllOf held more
+        → AnswersSame more (to_come held rest) (to_come more rest) }
+    ensures path { (held more : Held) (limits : Limits) (place : ℕ) (names : List (List ℕ)) (c : Cid)
+        → HoldsAllOf held more
+        → AnswersSame more (resolve_from held limits place names c) (resolve_from more limits place names c) }
+{}

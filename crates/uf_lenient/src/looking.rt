@@ -1,0 +1,49 @@
+// One directory read.
+ghost use Rattle.std.specs.Prelude.{◌≡◌, ◌≤◌, ◌+◌, IfErr, IfOk, IfSome, Ok};
+ghost use Rattle.uf_store.specs.Contents.{held_at};
+ghost use Rattle.uf_store.specs.Faults.{NoneIsBad, Shown};
+ghost use Rattle.uf_lenient.specs.Answers.{FollowsReading, IsBare, dag_fault};
+ghost use Rattle.uf_lenient.specs.Reading.{shallow_of, shape_of as shape_is};
+ghost use Rattle.uf_lenient.specs.Steps.{IsInOrder};
+
+use crate::gathered::Gathered;
+use crate::gathering::gather;
+use crate::{DagFault, Limits, Shape};
+use std::alloc::Global;
+use std::sync::ledger::Ledger;
+use uf_cid::{Cid, Memory};
+use uf_store::{Steps, Store};
+
+/// What a CID names: a file, of which the first node is read, or a directory, which is read with its sub-shards. Depth
+/// and visits are counted from this CID on. One touch for each visit.
+pub fn shallow<S: Store, L: Ledger>(
+    alloc: Global,
+    store: &mut S,
+    cid: &Cid,
+    limits: &Limits,
+    touches: &mut Steps<L>,
+) -> Result<Shape, DagFault>
+    ensures says { IfSome (S.seen store.old).told (λ t. FollowsReading (λ s. s)
+        (shallow_of (held_at t) limits.now cid.now) result) }
+    ensures order { IfOk result IsInOrder }
+    ensures cause { Shown S.X.block32 NoneIsBad (dag_fault result) (S.seen store.old) (S.seen store.new) }
+    ensures told { (S.seen store.new).told ≡ (S.seen store.old).told }
+    ensures touches { touches.new ≤ touches.old + limits.now.visits }
+{
+    let mut visits = limits.visits;
+    let left = u64::from(limits.depth) + 1;
+    let gathered = gather(alloc, store, cid, left, &mut visits, touches)?;
+    let shape = shape_of(alloc, &gathered)?;
+    Ok(shape)
+}
+
+/// The shape of what was gathered.
+pub fn shape_of(alloc: Global, gathered: &Gathered) -> Result<Shape, Memory>
+    ensures shape { IfOk result (λ s. s ≡ shape_is gathered.now) }
+    ensures order { IfOk result IsInOrder }
+{
+    match gathered {
+        Gathered::File(_, _) => Ok(Shape::File),
+        Gathered::Folder(met) => Ok(Shape::Folder(met.ways(alloc)?)),
+    }
+}

@@ -1,0 +1,173 @@
+// Blocks read leniently.
+ghost use Rattle.std.specs.Prelude.{◌≡◌, [], IfErr, IfOk};
+ghost use Rattle.std.specs.Option.{unwrap_or};
+ghost use Rattle.uf_message.specs.Reading.{message_reads};
+ghost use Rattle.uf_lenient.specs.declared.unixfs.Unixfs.TheVariants.{File};
+ghost use Rattle.uf_lenient.specs.Answers.{FollowsReading, IsBare};
+ghost use Rattle.uf_lenient.specs.Unixfs.{as_file, as_part, as_shard, content_says, is_hamt, message_says, msg_refusal};
+ghost use Rattle.uf_lenient.specs.Unixfs.{of_kind, pb_refusal, unixfs_of};
+
+use crate::DagFault;
+use crate::unixfs::Unixfs;
+use std::alloc::Global;
+use uf_cid::{Block, Cid, Codec, Memory};
+use uf_dagpb::{Links, Node, PbFault};
+use uf_message::{Message, MsgFault, MsgKind};
+use uf_store::StoreFault;
+
+/// What the block under a CID is, in any spelling (UnixFS v1, "Data Format").
+#[tactic(auto, unfolding(crate::specs::Unixfs::unixfs_of))]
+pub fn read_unixfs(alloc: Global, cid: &Cid, bytes: &[u8]) -> Result<Unixfs, DagFault>
+    ensures says { FollowsReading (λ u. u) (unixfs_of cid.now bytes.now) result }
+    ensures bare { IfErr result IsBare }
+{
+    match cid.codec {
+        Codec::Raw => Ok(read_raw(alloc, bytes)?),
+        Codec::DagPb => match uf_dagpb::decode_lenient(alloc, bytes) {
+            Err(fault) => Err(node_refusal(cid, fault)),
+            Ok(node) => read_content(alloc, cid, node),
+        },
+    }
+}
+
+// A raw block: a file of its bytes.
+fn read_raw(alloc: Global, bytes: &[u8]) -> Result<Unixfs, Memory>
+    ensures { IfOk result (λ u. u ≡ File bytes.now []) }
+{
+    Ok(Unixfs::File(block_of(alloc, bytes)?, Links::new(alloc)))
+}
+
+// What a node is by its content.
+fn read_content(alloc: Global, cid: &Cid, node: Node) -> Result<Unixfs, DagFault>
+    ensures says { FollowsReading (λ u. u) (content_says cid.now node.links node.content) result }
+    ensures bare { IfErr result IsBare }
+{
+    let Node { links, content } = node;
+    match content {
+        None => Err(DagFault::NotUnixfs(*cid, 9)),
+        Some(block) => read_message(alloc, cid, links, block.as_slice()),
+    }
+}
+
+// What a node is by the bytes of its content.
+fn read_message(alloc: Global, cid: &Cid, links: Links, bytes: &[u8]) -> Result<Unixfs, DagFault>
+    ensures says { FollowsReading (λ u. u) (message_says cid.now links (message_reads bytes.now)) result }
+    ensures bare { IfErr result IsBare }
+{
+    match uf_message::decode_lenient(alloc, bytes) {
+        Err(fault) => Err(message_refusal(cid, fault)),
+        Ok(message) => Ok(kind_of(alloc, message, links)),
+    }
+}
+
+// What a node is by its message.
+fn kind_of(alloc: Global, message: Message, links: Links) -> Unixfs
+    ensures { result ≡ of_kind message.kind message links }
+{
+    match message.kind {
+        MsgKind::Raw => file_of(alloc, message, links),
+        MsgKind::File => file_of(alloc, message, links),
+        MsgKind::Directory => Unixfs::Directory(links),
+        MsgKind::Shard => {
+            if is_murmur_shard(&message) {
+                Unixfs::Shard(links)
+            } else {
+                Unixfs::OtherShard
+            }
+        }
+        MsgKind::Metadata => Unixfs::Other,
+        MsgKind::Symlink => Unixfs::Other,
+    }
+}
+
+// A file of a message's own bytes.
+fn file_of(alloc: Global, message: Message, links: Links) -> Unixfs
+    ensures { result ≡ File (unwrap_or message.content []) links }
+{
+    let bytes = message.content.unwrap_or(Block::new(alloc));
+    Unixfs::File(bytes, links)
+}
+
+// Whether a shard has 256 slots that MurmurHash3 gives.
+fn is_murmur_shard(message: &Message) -> bool
+    ensures { result ≡ is_hamt message.now }
+{
+    message.fanout == Some(256) && message.hash_type == Some(0x22)
+}
+
+fn node_refusal(cid: &Cid, fault: PbFault) -> DagFault
+    ensures says { result ≡ pb_refusal cid.now fault }
+    ensures bare { IsBare result }
+{
+    match fault {
+        PbFault::Truncated => DagFault::NotUnixfs(*cid, 1),
+        PbFault::Varint => DagFault::NotUnixfs(*cid, 2),
+        PbFault::Field => DagFault::NotUnixfs(*cid, 3),
+        PbFault::Twice => DagFault::NotUnixfs(*cid, 4),
+        PbFault::NoHash => DagFault::NotUnixfs(*cid, 5),
+        PbFault::BadCid => DagFault::NotUnixfs(*cid, 6),
+        PbFault::NotText => DagFault::NotUnixfs(*cid, 7),
+        PbFault::Memory => DagFault::Store(StoreFault::Memory),
+    }
+}
+
+fn message_refusal(cid: &Cid, fault: MsgFault) -> DagFault
+    ensures says { result ≡ msg_refusal cid.now fault }
+    ensures bare { IsBare result }
+{
+    match fault {
+        MsgFault::Truncated => DagFault::NotUnixfs(*cid, 11),
+        MsgFault::Varint => DagFault::NotUnixfs(*cid, 12),
+        MsgFault::Wire => DagFault::NotUnixfs(*cid, 13),
+        MsgFault::NoType => DagFault::NotUnixfs(*cid, 14),
+        MsgFault::UnknownType => DagFault::NotUnixfs(*cid, 15),
+        MsgFault::BadTime => DagFault::NotUnixfs(*cid, 16),
+        MsgFault::Memory => DagFault::Store(StoreFault::Memory),
+    }
+}
+
+/// The own bytes and the links of a node that a file links.
+pub fn part_of(cid: &Cid, node: Unixfs) -> Result<(Block, Links), DagFault>
+    ensures says { FollowsReading (λ x. x) (as_part cid.now node) result }
+    ensures bare { IfErr result IsBare }
+{
+    match node {
+        Unixfs::File(bytes, links) => Ok((bytes, links)),
+        _ => Err(DagFault::NotUnixfs(*cid, 20)),
+    }
+}
+
+/// The same of the node with which a file begins.
+pub fn first_of(cid: &Cid, node: Unixfs) -> Result<(Block, Links), DagFault>
+    ensures says { FollowsReading (λ x. x) (as_file cid.now node) result }
+    ensures bare { IfErr result IsBare }
+{
+    match node {
+        Unixfs::File(bytes, links) => Ok((bytes, links)),
+        Unixfs::Directory(_) => Err(DagFault::NotUnixfs(*cid, 20)),
+        Unixfs::Shard(_) => Err(DagFault::NotUnixfs(*cid, 20)),
+        Unixfs::OtherShard => Err(DagFault::NotUnixfs(*cid, 20)),
+        Unixfs::Other => Err(DagFault::Unsupported(*cid)),
+    }
+}
+
+/// The links of a shard that a shard links.
+pub fn shard_of(cid: &Cid, node: Unixfs) -> Result<Links, DagFault>
+    ensures says { FollowsReading (λ x. x) (as_shard cid.now node) result }
+    ensures bare { IfErr result IsBare }
+{
+    match node {
+        Unixfs::Shard(links) => Ok(links),
+        Unixfs::OtherShard => Err(DagFault::Unsupported(*cid)),
+        _ => Err(DagFault::NotUnixfs(*cid, 20)),
+    }
+}
+
+// A block of these bytes.
+fn block_of(alloc: Global, bytes: &[u8]) -> Result<Block, Memory>
+    ensures { IfOk result (λ b. b ≡ bytes.now) }
+{
+    let mut block = Block::with_capacity(alloc, bytes.len())?;
+    block.extend(bytes)?;
+    Ok(block)
+}

@@ -1,0 +1,120 @@
+// A file read node by node.
+ghost use Rattle.std.specs.Prelude.{◌≡◌, ◌≤◌, ◌+◌, ◌↔◌, [], ◌++◌, drop, length, IfOk, IfSome, IsSome, Ok, OnErr, OnOk};
+ghost use Rattle.std.specs.Prelude.{None, Some, slice_get};
+ghost use Rattle.uf_cid.specs.Blocks.{Lookup as Held};
+ghost use Rattle.uf_store.specs.Calls.{OnlyReads};
+ghost use Rattle.uf_store.specs.Contents.{held_at};
+ghost use Rattle.uf_store.specs.Faults.{NoneIsBad, Shown};
+ghost use Rattle.uf_lenient.specs.Answers.{dag_fault};
+ghost use Rattle.uf_lenient.specs.Pending.{parts_due};
+ghost use Rattle.uf_lenient.specs.Reading.{file_of};
+ghost use Rattle.uf_lenient.specs.Steps.{IsNextPiece, IsPiece, start_of, to_come};
+
+use crate::due::{Due, Visited};
+use crate::parts::{put_parts, read_node};
+use crate::pile::Pile;
+use crate::{DagFault, Limits};
+use std::alloc::Global;
+use std::marker::Model;
+use std::sync::ledger::Ledger;
+use uf_cid::{Block, Cid, Memory};
+use uf_dagpb::Links;
+use uf_store::{Steps, Store};
+
+/// The bytes of one file, node by node (UnixFS v1, "File"). Contracts see the nodes that are still to be visited, the
+/// next one first, and how many visits are left.
+#[derive(Drop)]
+pub struct Pieces {
+    alloc: Global,
+    due: Pile<Due>,
+    visits: u32,
+}
+
+impl Model for Pieces {
+    ghost use Rattle.std.specs.Prelude.{List, ℕ};
+    ghost use Rattle.uf_lenient.specs.declared.due.Due.{Due};
+
+    ghost Value = { List Due × ℕ };
+
+    ghost view = { λ p. (p.due, p.visits) };
+}
+
+impl Pieces {
+    /// Before the first visit. Depth and visits are counted from here on, over all calls.
+    pub fn new(alloc: Global, cid: &Cid, limits: &Limits) -> Result<Pieces, Memory>
+        ensures start { IfOk result (λ p. p ≡ start_of limits.now cid.now) }
+        ensures bytes { (held : Held) → IfOk result (λ p. to_come held p ≡ file_of held limits.now cid.now) }
+    {
+        let mut due = Pile::new(alloc);
+        due.push(Due {
+            cid: *cid,
+            left: u64::from(limits.depth) + 1,
+            visited: Visited::File,
+        })?;
+        Ok(Pieces {
+            alloc,
+            due,
+            visits: limits.visits,
+        })
+    }
+
+    /// Visits the next node and answers its own bytes, which may be none; `None` where every visit was made. After a
+    /// fault all is as before. One touch for the visit.
+    pub fn next<S: Store, L: Ledger>(
+        &mut self,
+        store: &mut S,
+        touches: &mut Steps<L>,
+    ) -> Result<Option<Block>, DagFault>
+        ensures says { IfSome (S.seen store.old).told (λ t. IsNextPiece (held_at t) self.old self.new result) }
+        ensures none { (result ≡ Ok None) ↔ (self.old.0 ≡ []) }
+        ensures still { (result ≡ Ok None) → self.new ≡ self.old }
+        ensures same { OnErr result (self.new ≡ self.old) }
+        ensures fewer { IfOk result (λ piece. IfSome piece (λ _. self.new.1 + 1 ≡ self.old.1)) }
+        ensures cause { Shown S.X.block32 NoneIsBad (dag_fault result) (S.seen store.old) (S.seen store.new) }
+        ensures told { (S.seen store.new).told ≡ (S.seen store.old).told }
+        ensures touches { touches.new ≤ touches.old + 1 }
+        ensures within { touches.new ≤ touches.old + self.old.1 }
+    {
+        match self.due.top() {
+            None => Ok(None),
+            Some(next) => {
+                let next = *next;
+                Ok(Some(self.read(store, &next, touches)?))
+            }
+        }
+    }
+
+    // Visits the block on top of the pile, and puts the parts that it links in its place.
+    fn read<S: Store, L: Ledger>(
+        &mut self,
+        store: &mut S,
+        next: &Due,
+        touches: &mut Steps<L>,
+    ) -> Result<Block, DagFault>
+        requires top { slice_get self.old.0 0 ≡ Some next.now }
+        ensures says { IfSome (S.seen store.old).told (λ t. IsPiece (held_at t) self.old self.new result) }
+        ensures same { OnErr result (self.new ≡ self.old) }
+        ensures fewer { OnOk result (self.new.1 + 1 ≡ self.old.1) }
+        ensures reads { OnlyReads S.X.block32 NoneIsBad (dag_fault result) (S.seen store.old) (S.seen store.new) }
+        ensures touches { touches.new ≤ touches.old + 1 }
+        ensures within { touches.new ≤ touches.old + self.old.1 }
+    {
+        let mut visits = self.visits;
+        let (bytes, links) = read_node(self.alloc, store, next, &mut visits, touches)?;
+        self.replace(&links, next.left - 1)?;
+        self.visits = visits;
+        Ok(bytes)
+    }
+
+    // Puts the parts that the node on top links in its place.
+    fn replace(&mut self, links: &Links, left: u64) -> Result<(), Memory>
+        requires { 1 ≤ length self.old.0 }
+        ensures ok { OnOk result (self.new.0 ≡ parts_due left links.now ++ drop 1 self.old.0) }
+        ensures visits { self.new.1 ≡ self.old.1 }
+        ensures err { OnErr result (self.new ≡ self.old) }
+    {
+        let mut below = Pile::new(self.alloc);
+        put_parts(&mut below, links.as_slice(), left)?;
+        self.due.replace_top(&below)
+    }
+}

@@ -1,0 +1,89 @@
+// Paths in a DAG followed.
+ghost use Rattle.std.specs.Prelude.{◌≡◌, ◌≤◌, ◌<◌, ◌+◌, ◌*◌, ◌^◌, IfSome, length};
+ghost use Rattle.std.specs.FinMap.Entries.{find};
+ghost use Rattle.std.specs.Ordering.{eq_by_cmp};
+ghost use Rattle.uf_store.specs.Calls.{OnlyReads};
+ghost use Rattle.uf_store.specs.Contents.{held_at};
+ghost use Rattle.uf_store.specs.Faults.{NoneIsBad, Shown};
+ghost use Rattle.uf_tree.specs.Names.{names_cmp};
+ghost use Rattle.uf_lenient.specs.Answers.{FollowsReading, dag_fault};
+ghost use Rattle.uf_lenient.specs.Reading.{resolve_from, step_of};
+
+use crate::{DagFault, Limits, Shape, Way, shallow};
+use std::alloc::Global;
+use std::cmp::Ordering;
+use std::sync::ledger::Ledger;
+use uf_cid::Cid;
+use uf_path::DagPath;
+use uf_store::{Steps, Store};
+use uf_tree::Name;
+
+/// The CID to which a path leads. Each directory on it is read by `shallow`, with its own count of visits.
+pub fn resolve<S: Store, L: Ledger>(
+    alloc: Global,
+    store: &mut S,
+    path: &DagPath,
+    limits: &Limits,
+    touches: &mut Steps<L>,
+) -> Result<Cid, DagFault>
+    requires few { length path.now.names < 2 ^ 32 }
+    ensures says { IfSome (S.seen store.old).told (λ t. FollowsReading (λ c. c)
+        (resolve_from (held_at t) limits.now 0 path.now.names path.now.cid) result) }
+    ensures cause { Shown S.X.block32 NoneIsBad (dag_fault result) (S.seen store.old) (S.seen store.new) }
+    ensures told { (S.seen store.new).told ≡ (S.seen store.old).told }
+    ensures touches { touches.new ≤ touches.old + length path.now.names * limits.now.visits }
+{
+    let mut cid = path.cid;
+    let names = path.names.as_slice();
+    for at in 0..names.len() {
+        cid = step(alloc, store, &cid, &names[at], at as u32, limits, touches)?;
+    }
+    Ok(cid)
+}
+
+// Where a name, which has this place in its path, leads from a directory.
+fn step<S: Store, L: Ledger>(
+    alloc: Global,
+    store: &mut S,
+    cid: &Cid,
+    name: &Name,
+    place: u32,
+    limits: &Limits,
+    touches: &mut Steps<L>,
+) -> Result<Cid, DagFault>
+    ensures says { IfSome (S.seen store.old).told (λ t. FollowsReading (λ c. c)
+        (step_of (held_at t) limits.now place name.now cid.now) result) }
+    ensures reads { OnlyReads S.X.block32 NoneIsBad (dag_fault result) (S.seen store.old) (S.seen store.new) }
+    ensures touches { touches.new ≤ touches.old + limits.now.visits }
+{
+    match shallow(alloc, store, cid, limits, touches)? {
+        Shape::File => Err(DagFault::NotADirectory(place)),
+        Shape::Folder(ways) => match way_of(ways.as_slice(), name) {
+            None => Err(DagFault::NotFound(place)),
+            Some(cid) => Ok(cid),
+        },
+    }
+}
+
+// Where a name leads.
+fn way_of(ways: &[Way], name: &Name) -> Option<Cid>
+    ensures { result ≡ find names_cmp name.now ways.now }
+{
+    for way in ways {
+        if is_same(name, &way.name) {
+            return Some(way.cid);
+        }
+    }
+    None
+}
+
+// Whether two names are one.
+fn is_same(a: &Name, b: &Name) -> bool
+    ensures { result ≡ eq_by_cmp names_cmp a.now b.now }
+{
+    match a.as_str().as_bytes().cmp(b.as_str().as_bytes()) {
+        Ordering::Less => false,
+        Ordering::Equal => true,
+        Ordering::Greater => false,
+    }
+}

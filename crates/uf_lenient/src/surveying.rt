@@ -1,0 +1,176 @@
+// Everything below a CID read.
+ghost use Rattle.std.specs.Prelude.{◌≡◌, ◌≢◌, ◌≤◌, ◌<◌, ◌+◌, ◌∷◌, ◌++◌, IfOk, IfSome, OnOk, map};
+ghost use Rattle.uf_lenient.specs.declared.due.Visited.TheVariants.{Whole};
+ghost use Rattle.uf_store.specs.Calls.{OnlyReads};
+ghost use Rattle.uf_store.specs.Contents.{held_at};
+ghost use Rattle.uf_store.specs.Faults.{NoneIsBad, Shown};
+ghost use Rattle.uf_lenient.specs.Answers.{FollowsReading, dag_fault};
+ghost use Rattle.uf_lenient.specs.Pending.{all_end, gathered_due, way_due};
+ghost use Rattle.uf_lenient.specs.Reading.{shape_of as shape_is};
+ghost use Rattle.uf_lenient.specs.Steps.{IsInOrder, StepsTo, Surveys};
+
+use crate::due::{Due, Visited};
+use crate::gathered::Gathered;
+use crate::gathering::gather;
+use crate::looking::shape_of;
+use crate::met::Met;
+use crate::parts::{put_parts, read_node};
+use crate::pile::Pile;
+use crate::visiting::enter;
+use crate::{DagFault, Limits, Shape};
+use std::alloc::Global;
+use std::sync::ledger::Ledger;
+use uf_cid::{Cid, Codec, Memory};
+use uf_store::{Steps, Store};
+
+/// Reads everything below a CID without keeping it: after `Ok` the CID denotes a tree, whose root has this shape. One
+/// touch for each visit.
+pub fn survey<S: Store, L: Ledger>(
+    alloc: Global,
+    store: &mut S,
+    cid: &Cid,
+    limits: &Limits,
+    touches: &mut Steps<L>,
+) -> Result<Shape, DagFault>
+    ensures says { IfSome (S.seen store.old).told (λ t. Surveys (held_at t) limits.now cid.now result) }
+    ensures order { IfOk result IsInOrder }
+    ensures cause { Shown S.X.block32 NoneIsBad (dag_fault result) (S.seen store.old) (S.seen store.new) }
+    ensures told { (S.seen store.new).told ≡ (S.seen store.old).told }
+    ensures touches { touches.new ≤ touches.old + limits.now.visits }
+{
+    let mut visits = limits.visits;
+    let left = u64::from(limits.depth) + 1;
+    let gathered = gather(alloc, store, cid, left, &mut visits, touches)?;
+    complete(alloc, store, gathered, left - 1, &mut visits, touches)
+}
+
+// The shape of what was gathered, after everything below it was read.
+fn complete<S: Store, L: Ledger>(
+    alloc: Global,
+    store: &mut S,
+    gathered: Gathered,
+    left: u64,
+    visits: &mut u32,
+    touches: &mut Steps<L>,
+) -> Result<Shape, DagFault>
+    ensures says { IfSome (S.seen store.old).told (λ t. FollowsReading (λ _. visits.new)
+        (all_end (held_at t) (gathered_due left gathered) visits.old) result) }
+    ensures reads { OnlyReads S.X.block32 NoneIsBad (dag_fault result) (S.seen store.old) (S.seen store.new) }
+    ensures shape { IfOk result (λ s. s ≡ shape_is gathered) }
+    ensures order { IfOk result IsInOrder }
+    ensures touches { touches.new + visits.new ≡ touches.old + visits.old }
+{
+    let shape = shape_of(alloc, &gathered)?;
+    let mut due = Pile::new(alloc);
+    put_gathered(&mut due, gathered, left)?;
+    read_due(alloc, store, &mut due, visits, touches)?;
+    Ok(shape)
+}
+
+// Reads what is in a pile, from its top down, and everything below it.
+fn read_due<S: Store, L: Ledger>(
+    alloc: Global,
+    store: &mut S,
+    due: &mut Pile<Due>,
+    visits: &mut u32,
+    touches: &mut Steps<L>,
+) -> Result<(), DagFault>
+    ensures says { IfSome (S.seen store.old).told (λ t. FollowsReading (λ _. visits.new)
+        (all_end (held_at t) due.old visits.old) result) }
+    ensures reads { OnlyReads S.X.block32 NoneIsBad (dag_fault result) (S.seen store.old) (S.seen store.new) }
+    ensures touches { touches.new + visits.new ≡ touches.old + visits.old }
+{
+    while let Some(next) = due.pop() {
+        read_one(alloc, store, &next, due, visits, touches)?;
+    }
+    Ok(())
+}
+
+// Visits one block, and puts what is below it on the pile.
+fn read_one<S: Store, L: Ledger>(
+    alloc: Global,
+    store: &mut S,
+    next: &Due,
+    due: &mut Pile<Due>,
+    visits: &mut u32,
+    touches: &mut Steps<L>,
+) -> Result<(), DagFault>
+    ensures says { IfSome (S.seen store.old).told (λ t. StepsTo (all_end (held_at t) (next.now ∷ due.old) visits.old)
+        (all_end (held_at t) due.new visits.new) result) }
+    ensures reads { OnlyReads S.X.block32 NoneIsBad (dag_fault result) (S.seen store.old) (S.seen store.new) }
+    ensures fewer { OnOk result (visits.new < visits.old) }
+    ensures touches { touches.new + visits.new ≡ touches.old + visits.old }
+{
+    match next.cid.codec {
+        Codec::Raw => enter(store, &next.cid, next.left, visits, touches),
+        Codec::DagPb => match next.visited {
+            Visited::Whole => read_whole(alloc, store, next, due, visits, touches),
+            Visited::File => read_part(alloc, store, next, due, visits, touches),
+            Visited::Part => read_part(alloc, store, next, due, visits, touches),
+        },
+    }
+}
+
+// Visits a member of a directory, and puts what is below it on the pile.
+fn read_whole<S: Store, L: Ledger>(
+    alloc: Global,
+    store: &mut S,
+    next: &Due,
+    due: &mut Pile<Due>,
+    visits: &mut u32,
+    touches: &mut Steps<L>,
+) -> Result<(), DagFault>
+    ensures says { next.now.visited ≡ Whole → IfSome (S.seen store.old).told (λ t. StepsTo
+        (all_end (held_at t) (next.now ∷ due.old) visits.old) (all_end (held_at t) due.new visits.new) result) }
+    ensures reads { OnlyReads S.X.block32 NoneIsBad (dag_fault result) (S.seen store.old) (S.seen store.new) }
+    ensures fewer { OnOk result (visits.new < visits.old) }
+    ensures touches { touches.new + visits.new ≡ touches.old + visits.old }
+{
+    let gathered = gather(alloc, store, &next.cid, next.left, visits, touches)?;
+    put_gathered(due, gathered, next.left - 1)?;
+    Ok(())
+}
+
+// Visits a part of a file, and puts the parts that it links on the pile.
+fn read_part<S: Store, L: Ledger>(
+    alloc: Global,
+    store: &mut S,
+    next: &Due,
+    due: &mut Pile<Due>,
+    visits: &mut u32,
+    touches: &mut Steps<L>,
+) -> Result<(), DagFault>
+    ensures says { next.now.visited ≢ Whole → IfSome (S.seen store.old).told (λ t. StepsTo
+        (all_end (held_at t) (next.now ∷ due.old) visits.old) (all_end (held_at t) due.new visits.new) result) }
+    ensures reads { OnlyReads S.X.block32 NoneIsBad (dag_fault result) (S.seen store.old) (S.seen store.new) }
+    ensures fewer { OnOk result (visits.new < visits.old) }
+    ensures touches { touches.new + visits.new ≡ touches.old + visits.old }
+{
+    let (_, links) = read_node(alloc, store, next, visits, touches)?;
+    put_parts(due, links.as_slice(), next.left - 1)?;
+    Ok(())
+}
+
+// Puts what is below the first node of a file, or the members of a directory, on the pile.
+fn put_gathered(due: &mut Pile<Due>, gathered: Gathered, left: u64) -> Result<(), Memory>
+    ensures { OnOk result (due.new ≡ gathered_due left gathered ++ due.old) }
+{
+    match gathered {
+        Gathered::File(_, links) => put_parts(due, links.as_slice(), left),
+        Gathered::Folder(met) => put_members(due, met),
+    }
+}
+
+// Puts the members of a directory on the pile, the first one on top.
+fn put_members(due: &mut Pile<Due>, mut met: Met) -> Result<(), Memory>
+    ensures { OnOk result (due.new ≡ map way_due met ++ due.old) }
+{
+    while let Some(found) = met.pop_last() {
+        due.push(Due {
+            cid: found.cid,
+            left: found.left,
+            visited: Visited::Whole,
+        })?;
+    }
+    Ok(())
+}
