@@ -1,9 +1,7 @@
 // A name looked up.
-ghost use Rattle.std.specs.Prelude.{◌≡◌, ◌<◌, ◌≤◌, ◌+◌, ◌-◌, List, IfOk, IfErr, OnOk};
+ghost use Rattle.std.specs.Prelude.{◌≡◌, ◌<◌, ◌≤◌, ◌+◌, ◌-◌, List, IfOk};
 ghost use Rattle.std.specs.FinMap.Entries.{find as value_of};
-ghost use Rattle.std.specs.Ordering.{nat_cmp};
 ghost use Rattle.uf_edge.specs.Counts.{Stood};
-ghost use Rattle.uf_murmur.specs.Slots.{slot as slot_of};
 ghost use Rattle.uf_store.specs.Calls.{OnlyReads};
 ghost use Rattle.uf_store.specs.Faults.{Answers, fault_in};
 ghost use Rattle.uf_store.specs.Keeping.{Agrees};

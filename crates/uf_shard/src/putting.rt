@@ -1,5 +1,5 @@
 // An entry put under a name.
-ghost use Rattle.std.specs.Prelude.{◌≡◌, ◌≢◌, ◌<◌, ◌≤◌, ◌+◌, ◌*◌, ◌-◌, ℕ, List, [], ◌∷◌};
+ghost use Rattle.std.specs.Prelude.{◌≡◌, ◌<◌, ◌≤◌, ◌+◌, ◌*◌, ◌-◌, ℕ, List, [], ◌∷◌};
 ghost use Rattle.std.specs.Prelude.{IfOk, IfSome, OnOk, Some, false};
 ghost use Rattle.std.specs.Ordering.{eq_by_cmp};
 ghost use Rattle.uf_cid.specs.declared.cid.Codec.TheVariants.{DagPb};

@@ -1,8 +1,8 @@
-use Rattle.std.proofs.Common.{◌≡◌, ℕ, ◌<◌, ◌≤◌, ◌^◌, ap, subst, arith, true, false, cond, Option, Some, None}
+use Rattle.std.proofs.Common.{◌≡◌, ℕ, ◌<◌, ◌≤◌, ◌^◌, ap, subst, arith, true, false, cond, Some, None}
 use Rattle.std.specs.Prelude.{nat_lt}
 use Rattle.std.proofs.lemmas.Bool.Decides.{nat_tests}
 use Rattle.uf_tree.specs.declared.nodes.Entry.{Entry}
-use Rattle.uf_tree.specs.TreePlan.{Refusal, TooBig, too_big}
+use Rattle.uf_tree.specs.TreePlan.{TooBig, too_big}
 use Rattle.uf_dir.proofs.building.build_basic.Goals as goal
 
 more : (n : ℕ) → 2 ^ 62 < n → nat_lt (2 ^ 62) n ≡ true

@@ -1,6 +1,4 @@
 use Rattle.std.proofs.Common.{Some, refl}
-use Rattle.uf_store.specs.Faults.{NoneIsBad}
-use Rattle.uf_store.proofs.Writing.{SavesOnly-refl}
 use Rattle.uf_tree.specs.Changes.{with_name}
 use Rattle.uf_shard.specs.Placed.{IsBadOnWay}
 use Rattle.uf_dir.specs.Bad.{IsBad}

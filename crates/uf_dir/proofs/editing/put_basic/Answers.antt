@@ -1,4 +1,4 @@
-use Rattle.std.proofs.Common.{ℕ, List, subst}
+use Rattle.std.proofs.Common.{List, subst}
 use Rattle.uf_tree.specs.Nodes.{Named}
 use Rattle.uf_dir.specs.Bounds.{IsFree}
 use Rattle.uf_dir.proofs.editing.put_basic.Goals as goal

@@ -1,6 +1,4 @@
 use Rattle.std.proofs.Common.{Some, refl}
-use Rattle.std.proofs.lemmas.Result.{IfOk-weaker}
-use Rattle.uf_store.specs.Faults.{NoneIsBad}
 use Rattle.uf_dir.specs.Planned.{entry_without}
 use Rattle.std.proofs.lemmas.Result.{err_from_is_err_and}
 use Rattle.uf_dir.proofs.Changing.{basic-node, basic-ok, basic-value, in_shards, saves-same, take-asked, take-sharded, take-sharded-ok}

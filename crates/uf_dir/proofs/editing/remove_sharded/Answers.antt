@@ -1,9 +1,8 @@
-use Rattle.std.proofs.Common.{Some, ap, sym, subst}
+use Rattle.std.proofs.Common.{Some}
 use Rattle.std.proofs.lemmas.Result.{IfOk-weaker}
 use Rattle.uf_store.specs.Faults.{NoneIsBad}
 use Rattle.uf_store.proofs.Calls.{saves-by, saves-saves}
 use Rattle.uf_store.proofs.Writing.{SavesOnly-trans}
-use Rattle.uf_shard.specs.Placed.{IsBadOnWay}
 use Rattle.uf_shard.specs.Listing.{IsBadShard}
 use Rattle.uf_dir.specs.Bad.{IsBadWeighed}
 use Rattle.std.proofs.lemmas.Result.{err_from_is_err_and}

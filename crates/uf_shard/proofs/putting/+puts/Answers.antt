@@ -1,5 +1,4 @@
-use Rattle.std.proofs.Common.{rules, ◌≡◌, ◌<◌, ◌≤◌, ◌-◌, ◌^◌, ℕ, List, refl, ap, arith, sym, ◌∙◌, subst}
-use Rattle.uf_store.specs.Contents.{Told}
+use Rattle.std.proofs.Common.{◌≤◌, ◌-◌, List, refl, ap, arith, sym, ◌∙◌, subst}
 use Rattle.uf_murmur.specs.Slots.{slot}
 use Rattle.uf_tree.specs.Nodes.{InSlot}
 use Rattle.uf_tree.proofs.ShardLaws.{slot-bound}

@@ -1,4 +1,3 @@
-use Rattle.std.proofs.Common.{ap, sym, ◌∙◌}
 use Rattle.uf_tree.specs.Validity.{IsHash}
 use Rattle.uf_shard.specs.Placed.{IsBadOnWay}
 use Rattle.std.proofs.lemmas.Result.{err_from_is_err_and}

@@ -1,4 +1,4 @@
-use Rattle.std.proofs.Common.{rules, ◌≡◌, ◌<◌, ◌≤◌, ◌-◌, List, refl, ap, arith, sym, ◌∙◌, subst, Option, Some}
+use Rattle.std.proofs.Common.{◌≤◌, ◌-◌, List, refl, ap, arith, sym, ◌∙◌, subst, Option, Some}
 use Rattle.std.specs.FinMap.Entries.{find}
 use Rattle.std.specs.Ordering.{nat_cmp}
 use Rattle.uf_murmur.specs.Slots.{slot}

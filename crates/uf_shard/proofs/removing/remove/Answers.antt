@@ -1,4 +1,3 @@
-use Rattle.std.proofs.Common.{ap, sym, ◌∙◌}
 use Rattle.std.proofs.lemmas.Result.{IfOk-weaker}
 use Rattle.uf_store.proofs.Causes.{Answers-after}
 use Rattle.uf_store.specs.Faults.{NoneIsBad}
