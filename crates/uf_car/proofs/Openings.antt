@@ -2,7 +2,7 @@
 use Rattle.std.proofs.Common.{◌≡◌, ℕ, zero, suc, ◌+◌, ◌-◌, ◌≤◌, ◌<◌, List, [], ◌∷◌, ◌++◌, length, take, drop, Bool, true, false, ◌&&◌, refl, sym, ap, subst, ◌∙◌, arith, length-append, length-drop, Ok, Err, Result, ◌⊎◌, inl, inr, true≢false}
 use Rattle.std.proofs.lemmas.List.{take-append-le, drop-append-le}
 use Rattle.std.proofs.lemmas.Bool.Decides.{nat_tests}
-use Rattle.std.specs.Prelude.{nat_lt, ◌==◌, if◌then◌else◌, min}
+use Rattle.std.specs.Prelude.{nat_lt, ◌==◌, if◌then◌else◌, min, IfOk}
 use Rattle.uf_varint.specs.declared.varint.Var.{Var}
 use Rattle.uf_varint.specs.declared.varint.Var.TheVariants.{Value, Short, Bad}
 use Rattle.uf_varint.specs.Varint.{multi_within, read_multi_of, with_low}
@@ -128,6 +128,10 @@ cid_used (a ∷ rest) c used e = by (a == 1) (a == 0x12) e
     by true y is = let m = codec_used rest c used is in (omega (arith, m.0), omega (arith, m.0), omega (arith, m.0, m.1))
     by false true is = let m = multihash_used DagPb 0 (a ∷ rest) c used is in (omega (arith, m.0), omega (arith, m.0), omega (arith, m.0, m.1))
     by false false is = cc
+
+pub cid_fits : (bytes : List ℕ) (r : Result (Cid × ℕ) CidFault) → r ≡ cid_at bytes → IfOk r (λ (x : Cid × ℕ). (0 < x.1) × (x.1 ≤ 36) × (x.1 ≤ length bytes))
+cid_fits bytes (Ok x) e = cid_used bytes x.0 x.1 (sym e)
+cid_fits bytes (Err why) e = tt
 
 -- ---- an opening
 

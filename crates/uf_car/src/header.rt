@@ -10,7 +10,6 @@ use crate::CarFault;
 use crate::section::cid_in;
 use std::alloc::Global;
 use uf_cid::{Cid, Cids};
-use uf_store::StoreFault;
 
 // The roots that a header names.
 #[tactic(auto, unfolding(crate::specs::Headers::header_of))]
@@ -42,16 +41,12 @@ fn unmarked(alloc: Global, bytes: &[u8]) -> Result<Cids, CarFault>
     ensures says { HeaderSaysOrMemory (λ x. x) result (first_version bytes.now) }
     ensures of_bytes { IfErr result IsOfBytes }
 {
-    match rest_behind(b"\xa2\x65roots", bytes) {
-        None => Err(CarFault::Header),
-        Some(array) => match count_in(array) {
-            Err(fault) => Err(fault),
-            Ok((count, rest)) => match roots_behind(alloc, count, rest) {
-                Err(fault) => Err(fault),
-                Ok((roots, rest)) => version_behind(roots, rest),
-            },
-        },
-    }
+    let Some(array) = rest_behind(b"\xa2\x65roots", bytes) else {
+        return Err(CarFault::Header);
+    };
+    let (count, rest) = count_in(array)?;
+    let (roots, rest) = roots_behind(alloc, count, rest)?;
+    version_behind(roots, rest)
 }
 
 // How many roots there are, from the head of their array.
@@ -100,15 +95,9 @@ fn roots_behind(alloc: Global, count: usize, bytes: &[u8]) -> Result<(Cids, &[u8
     let mut left = count;
     while left > 0 {
         left -= 1;
-        match root_in(rest) {
-            Err(fault) => return Err(fault),
-            Ok((root, after)) => {
-                match roots.push(root) {
-                    Ok(()) => rest = after,
-                    Err(_) => return Err(CarFault::Store(StoreFault::Memory)),
-                }
-            }
-        }
+        let (root, after) = root_in(rest)?;
+        roots.push(root)?;
+        rest = after;
     }
     Ok((roots, rest))
 }
