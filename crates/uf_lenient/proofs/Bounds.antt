@@ -1,8 +1,9 @@
 -- What is gathered of a directory has less depth left than the directory.
-use Rattle.std.proofs.Common.{◌≡◌, ℕ, zero, suc, pred, ◌≤◌, List, [], ◌∷◌, refl, sym, ap, subst, ◌∙◌, arith, Bool, true, false, cond, Ordering, Less, Equal, Greater, Result, Ok, Err}
+use Rattle.std.proofs.Common.{◌≡◌, ℕ, zero, suc, pred, ◌≤◌, List, [], ◌∷◌, refl, ap, ◌∙◌, arith, Bool, true, false, Ordering, Less, Equal, Greater, Result, Ok, Err}
 use Rattle.std.specs.Prelude.{Some, None, Option, ⊤, IfOk, is_some, if◌then◌else◌}
 use Rattle.std.specs.List.{AllByRecursion}
 use Rattle.std.specs.FinMap.Entries.{by_order, find, put}
+use Rattle.uf_varint.specs.Fields.{◌>>=◌}
 use Rattle.uf_cid.specs.Blocks.{Lookup}
 use Rattle.uf_cid.specs.declared.cid.Cid.{Cid}
 use Rattle.uf_dagpb.specs.declared.node.Link.{Link}
@@ -15,7 +16,7 @@ use Rattle.uf_lenient.specs.declared.gathered.Gathered.{Gathered}
 use Rattle.uf_lenient.specs.declared.gathered.Gathered.TheVariants.{File as IsFile, Folder as IsFolder}
 use Rattle.uf_lenient.specs.declared.unixfs.Unixfs.{Unixfs}
 use Rattle.uf_lenient.specs.declared.unixfs.Unixfs.TheVariants.{File, Directory, Shard, OtherShard, Other}
-use Rattle.uf_lenient.specs.Reading.{◌>>◌, ◌>>=◌, Visits, Ways, behind_slot, completed, gathered, gathers, meet, meet_all, meet_name, member_trees, shard_ways, slot_ways, still, sub_ways, tree_under, tree_within, visit_of}
+use Rattle.uf_lenient.specs.Reading.{◌>>◌, Visits, Ways, behind_slot, completed, gathered, gathers, meet, meet_all, meet_name, member_trees, shard_ways, slot_ways, unvisited, sub_ways, tree_under, tree_within, visit_of}
 use Rattle.uf_lenient.specs.Unixfs.{as_shard}
 
 abbrev Below : ℕ → Ways → Type 0
@@ -59,7 +60,7 @@ behind_ok : {A B : Type 0} (P : A → Type 0) (Q : B → Type 0) (r : Visits A) 
 behind_ok P Q (Ok x) f p q = q x.0 x.1 p
 behind_ok P Q (Err e) f p q = tt
 
-still_ok : {A : Type 0} (P : A → Type 0) (n : ℕ) (r : Result A DagFault) → IfOk r P → IfOk (still n r) (λ x. P x.0)
+still_ok : {A : Type 0} (P : A → Type 0) (n : ℕ) (r : Result A DagFault) → IfOk r P → IfOk (unvisited n r) (λ x. P x.0)
 still_ok P n (Ok a) p = p
 still_ok P n (Err e) p = tt
 
@@ -87,14 +88,14 @@ module _ (held : Lookup) where
   unfolding sub_ways
   sub_below b zero c ways n p q = tt
   sub_below b (suc left) c ways n p q =
-      behind_ok (λ u. ⊤) (Below b) (visit_of held (suc left) c n) (λ u m. still m (as_shard c u) >> λ links k. shard_ways (sub_ways held left) c left links ways k) (ok_always (visit_of held (suc left) c n))
-      (λ u m _. behind_ok (λ links. ⊤) (Below b) (still m (as_shard c u)) (λ links k. shard_ways (sub_ways held left) c left links ways k) (ok_always (still m (as_shard c u)))
+      behind_ok (λ u. ⊤) (Below b) (visit_of held (suc left) c n) (λ u m. unvisited m (as_shard c u) >> λ links k. shard_ways (sub_ways held left) c left links ways k) (ok_always (visit_of held (suc left) c n))
+      (λ u m _. behind_ok (λ links. ⊤) (Below b) (unvisited m (as_shard c u)) (λ links k. shard_ways (sub_ways held left) c left links ways k) (ok_always (unvisited m (as_shard c u)))
       (λ links k _. slots_below b (sub_ways held left) (λ d more j r. sub_below b left d more j (omega arith) r) c left links ways k (omega arith) q))
 
   gathers_below : (left : ℕ) (c : Cid) (u : Unixfs) (n : ℕ) → IfOk (gathers held left c u n) (λ x. IsBelow left x.0)
   gathers_below left c (File bytes links) n = tt
   gathers_below left c (Directory links) n =
-      behind_ok (Below left) (IsBelow left) (still n (meet_all c left links [])) (λ ways m. Ok (IsFolder ways, m)) (still_ok (Below left) n (meet_all c left links []) (all_below left c left links [] (omega arith) tt)) (λ ways m r. r)
+      behind_ok (Below left) (IsBelow left) (unvisited n (meet_all c left links [])) (λ ways m. Ok (IsFolder ways, m)) (still_ok (Below left) n (meet_all c left links []) (all_below left c left links [] (omega arith) tt)) (λ ways m r. r)
   gathers_below left c (Shard links) n =
       behind_ok (Below left) (IsBelow left) (shard_ways (sub_ways held left) c left links [] n) (λ ways m. Ok (IsFolder ways, m))
       (slots_below left (sub_ways held left) (λ d more j r. sub_below left left d more j (omega arith) r) c left links [] n (omega arith) tt) (λ ways m r. r)

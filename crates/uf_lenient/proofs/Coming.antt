@@ -1,20 +1,17 @@
 -- Files read node by node.
-use Rattle.std.proofs.Common.{◌≡◌, ◌⊎◌, inl, inr, ℕ, zero, suc, pred, ◌+◌, ◌-◌, ◌≤◌, List, [], ◌∷◌, ◌++◌, drop, get_or, length, map, take, reverse, refl, sym, ap, subst, ◌∙◌, arith, Result, Ok, Err, append_assoc, length-append, set}
+use Rattle.std.proofs.Common.{◌≡◌, inl, inr, ℕ, suc, pred, ◌+◌, ◌-◌, ◌≤◌, List, [], ◌∷◌, ◌++◌, drop, get_or, length, take, reverse, refl, sym, ap, subst, ◌∙◌, arith, Result, Ok, Err, append_assoc, length-append, set}
 use Rattle.std.proofs.lemmas.List.{length-reverse, reverse-append, set_at, take_rest}
 use Rattle.std.specs.Prelude.{Option, Some, None, OnOk, slice_get}
 use Rattle.uf_cid.specs.declared.bytes.Memory.{Memory}
 use Rattle.uf_cid.specs.Blocks.{Lookup}
-use Rattle.uf_cid.specs.declared.cid.Cid.{Cid}
 use Rattle.uf_dagpb.specs.declared.node.Link.{Link}
 use Rattle.uf_lenient.specs.declared.due.Due.{Due}
-use Rattle.uf_lenient.specs.declared.due.Visited.TheVariants.{File}
 use Rattle.uf_lenient.specs.declared.fault.DagFault.{DagFault}
-use Rattle.uf_lenient.specs.declared.shapes.Limits.{Limits}
 use Rattle.uf_lenient.specs.Answers.{IsFault}
-use Rattle.uf_lenient.specs.Pending.{all_bytes, due_bytes, own_part, part_due, parts_due}
-use Rattle.uf_lenient.specs.Reading.{◌>>◌, ◌>>=◌, Visits, answered, file_under, file_of, joined_parts, part_bytes}
-use Rattle.uf_lenient.specs.Steps.{Rest, prefixed, start_of, to_come}
-use Rattle.uf_lenient.proofs.Ends.{behind-behind, bytes-step, less-one, with_below}
+use Rattle.uf_lenient.specs.Pending.{all_bytes, due_bytes, own_part, parts_due}
+use Rattle.uf_lenient.specs.Reading.{◌>>◌, Visits, answered, joined_parts, part_bytes}
+use Rattle.uf_lenient.specs.Steps.{Rest, prefixed, to_come}
+use Rattle.uf_lenient.proofs.Ends.{bytes-step, less-one, with_below}
 
 -- bytes in front of what is read behind them
 abbrev behind : (ℕ → Visits (List ℕ)) → List ℕ → ℕ → Visits (List ℕ)

@@ -1,28 +1,26 @@
 -- A reading one visit after the other ends as the whole reading.
-use Rattle.std.proofs.Common.{◌≡◌, ◌⊎◌, inl, inr, ℕ, zero, suc, pred, ◌+◌, ◌-◌, ◌≤◌, ◌≢◌, List, [], ◌∷◌, ◌++◌, drop, map, refl, sym, ap, subst, ◌∙◌, arith, Result, Ok, Err, append_assoc}
-use Rattle.std.specs.Prelude.{Option, Some, None, IfOk, OnOk}
+use Rattle.std.proofs.Common.{◌≡◌, inl, inr, ℕ, zero, suc, pred, ◌+◌, ◌-◌, ◌≤◌, ◌≢◌, List, [], ◌∷◌, ◌++◌, map, refl, sym, ap, subst, ◌∙◌, arith, Result, Ok, Err}
+use Rattle.std.specs.Prelude.{IfOk, OnOk}
+use Rattle.uf_varint.specs.Fields.{◌>>=◌}
 use Rattle.uf_cid.specs.Blocks.{Lookup}
 use Rattle.uf_cid.specs.declared.cid.Cid.{Cid}
 use Rattle.uf_cid.specs.declared.cid.Codec.TheVariants as codec
 use Rattle.uf_dagpb.specs.declared.node.Link.{Link}
 use Rattle.uf_tree.specs.Tree.{Tree, Dir, File as FileTree, entries}
 use Rattle.uf_lenient.specs.declared.due.Due.{Due}
-use Rattle.uf_lenient.specs.declared.due.Frame.{Frame}
 use Rattle.uf_lenient.specs.declared.due.Visited.{Visited}
 use Rattle.uf_lenient.specs.declared.due.Visited.TheVariants.{Whole, File, Part}
 use Rattle.uf_lenient.specs.declared.fault.DagFault.{DagFault}
-use Rattle.uf_lenient.specs.declared.found.Found.{Found}
 use Rattle.uf_lenient.specs.declared.gathered.Gathered.{Gathered}
 use Rattle.uf_lenient.specs.declared.gathered.Gathered.TheVariants.{File as IsFile, Folder as IsFolder}
 use Rattle.uf_lenient.specs.declared.shapes.Limits.{Limits}
 use Rattle.uf_lenient.specs.declared.shapes.Shape.{Shape}
-use Rattle.uf_lenient.specs.declared.unixfs.Unixfs.{Unixfs}
 use Rattle.uf_lenient.specs.declared.unixfs.Unixfs.TheVariants.{File as IsRaw}
 use Rattle.uf_lenient.specs.Answers.{IsFault, FollowsReading}
-use Rattle.uf_lenient.specs.Pending.{all_bytes, all_end, as_due, due_bytes, due_ends, ends, frame_ways, frames_ways, gathered_due, own_part, part_due, parts_due, way_due}
-use Rattle.uf_lenient.specs.Reading.{◌>>◌, ◌>>=◌, Visits, Ways, answered, completed, denotes, file_under, gathered, gathers, joined_parts, loads, member_trees, part_bytes, shape_of, shard_ways, still, sub_ways, tree_under, tree_within, visit_of}
-use Rattle.uf_lenient.specs.Steps.{IsRead, StepsTo, Surveys, prefixed}
-use Rattle.uf_lenient.specs.Unixfs.{as_file, as_part, as_shard, unixfs_of}
+use Rattle.uf_lenient.specs.Pending.{all_end, as_due, due_bytes, due_ends, how_ends, gathered_due, own_part, parts_due, way_due}
+use Rattle.uf_lenient.specs.Reading.{◌>>◌, Visits, Ways, answered, completed, denotes, file_under, gathered, gathers, joined_parts, loads, member_trees, part_bytes, shape_of, unvisited, tree_under, tree_within, visit_of}
+use Rattle.uf_lenient.specs.Steps.{IsRead, StepsTo, Surveys}
+use Rattle.uf_lenient.specs.Unixfs.{as_file, as_part, unixfs_of}
 use Rattle.uf_lenient.proofs.Bounds.{tree-step}
 use Rattle.uf_lenient.proofs.Saying.{fault-then, fault-behind, fault-is}
 
@@ -37,7 +35,7 @@ then-then (Ok x) f g = refl
 then-then (Err e) f g = refl
 
 -- only what is answered changes
-ends-pure : {A B : Type 0} (r : Visits A) (f : A → B) → ends (r >> λ a n. Ok (f a, n)) ≡ ends r
+ends-pure : {A B : Type 0} (r : Visits A) (f : A → B) → how_ends (r >> λ a n. Ok (f a, n)) ≡ how_ends r
 ends-pure (Ok x) f = refl
 ends-pure (Err e) f = refl
 
@@ -66,11 +64,11 @@ same_err x y is = ap (err_else x) is
 err_ok : {A : Type 0} (e : DagFault) (x : A) → ◌≡◌ {A = Result A DagFault} (Err e) (Ok x) → ⊥
 err_ok e x is = subst Is_err is tt
 
-pub ends_ok : {A : Type 0} (r : Visits A) (k : ℕ) → ends r ≡ Ok k → (a : A) × (r ≡ Ok (a, k))
+pub ends_ok : {A : Type 0} (r : Visits A) (k : ℕ) → how_ends r ≡ Ok k → (a : A) × (r ≡ Ok (a, k))
 ends_ok (Ok x) k is = (x.0, ap (λ n. Ok (x.0, n)) (same_ok x.1 k is))
 ends_ok (Err e) k is = absurd (err_ok e k is)
 
-pub ends_err : {A : Type 0} (r : Visits A) (fault : DagFault) → ends r ≡ Err fault → r ≡ Err fault
+pub ends_err : {A : Type 0} (r : Visits A) (fault : DagFault) → how_ends r ≡ Err fault → r ≡ Err fault
 ends_err (Ok x) fault is = absurd (err_ok fault x.1 (sym is))
 ends_err (Err e) fault is = ap Err (same_err {A = ℕ} e fault is)
 
@@ -98,31 +96,31 @@ module _ (held : Lookup) where
       inside (Ok m) ih = ih m
       inside (Err e) ih = refl
 
-  joined-ends : (left : ℕ) (links : List Link) (n : ℕ) → ends (joined_parts (part_bytes held left) links n) ≡ all_end held (parts_due left links) n
+  joined-ends : (left : ℕ) (links : List Link) (n : ℕ) → how_ends (joined_parts (part_bytes held left) links n) ≡ all_end held (parts_due left links) n
   joined-ends left [] n = refl
   joined-ends left (l ∷ ls) n = inside (part_bytes held left l.cid n) (λ m. joined-ends left ls m)
     where
-      inside : (r : Visits (List ℕ)) → ((m : ℕ) → ends (joined_parts (part_bytes held left) ls m) ≡ all_end held (parts_due left ls) m) → ends (r >> λ bytes m. joined_parts (part_bytes held left) ls m >> λ more k. Ok (bytes ++ more, k)) ≡ (ends r >>= λ m. all_end held (parts_due left ls) m)
+      inside : (r : Visits (List ℕ)) → ((m : ℕ) → how_ends (joined_parts (part_bytes held left) ls m) ≡ all_end held (parts_due left ls) m) → how_ends (r >> λ bytes m. joined_parts (part_bytes held left) ls m >> λ more k. Ok (bytes ++ more, k)) ≡ (how_ends r >>= λ m. all_end held (parts_due left ls) m)
       inside (Ok x) ih = ends-pure (joined_parts (part_bytes held left) ls x.1) (λ more. x.0 ++ more) ∙ ih x.1
       inside (Err e) ih = refl
 
-  members-ends : (ways : Ways) (n : ℕ) → ends (member_trees (tree_under held) ways n) ≡ all_end held (map way_due ways) n
+  members-ends : (ways : Ways) (n : ℕ) → how_ends (member_trees (tree_under held) ways n) ≡ all_end held (map way_due ways) n
   members-ends [] n = refl
   members-ends (w ∷ ws) n = inside (tree_under held w.1.left w.1.cid n) (λ m. members-ends ws m)
     where
-      inside : (r : Visits Tree) → ((m : ℕ) → ends (member_trees (tree_under held) ws m) ≡ all_end held (map way_due ws) m) → ends (r >> λ t m. member_trees (tree_under held) ws m >> λ more k. Ok ((w.0, t) ∷ more, k)) ≡ (ends r >>= λ m. all_end held (map way_due ws) m)
+      inside : (r : Visits Tree) → ((m : ℕ) → how_ends (member_trees (tree_under held) ws m) ≡ all_end held (map way_due ws) m) → how_ends (r >> λ t m. member_trees (tree_under held) ws m >> λ more k. Ok ((w.0, t) ∷ more, k)) ≡ (how_ends r >>= λ m. all_end held (map way_due ws) m)
       inside (Ok x) ih = ends-pure (member_trees (tree_under held) ws x.1) (λ more. (w.0, x.0) ∷ more) ∙ ih x.1
       inside (Err e) ih = refl
 
-  pub completed-ends : (left : ℕ) (g : Gathered) (n : ℕ) → ends (completed held (tree_under held) left g n) ≡ all_end held (gathered_due left g) n
+  pub completed-ends : (left : ℕ) (g : Gathered) (n : ℕ) → how_ends (completed held (tree_under held) left g n) ≡ all_end held (gathered_due left g) n
   completed-ends left (IsFile bytes links) n = ends-pure (joined_parts (part_bytes held left) links n) (λ more. FileTree (bytes ++ more)) ∙ joined-ends left links n
   completed-ends left (IsFolder ways) n = ends-pure (member_trees (tree_under held) ways n) (λ es. Dir (entries es)) ∙ members-ends ways n
 
   -- ---- a member of a directory is read
 
-  whole_ok : (left : ℕ) (c : Cid) (n : ℕ) (g : Gathered) (m : ℕ) → 1 ≤ left → gathered held left c n ≡ Ok (g, m) → ends (tree_under held left c n) ≡ all_end held (gathered_due (pred left) g) m
+  whole_ok : (left : ℕ) (c : Cid) (n : ℕ) (g : Gathered) (m : ℕ) → 1 ≤ left → gathered held left c n ≡ Ok (g, m) → how_ends (tree_under held left c n) ≡ all_end held (gathered_due (pred left) g) m
   whole_ok zero c n g m some is = absurd (omega arith)
-  whole_ok (suc left) c n g m some is = ap ends (tree-step held left c n) ∙ ap (λ r. ends (r >> λ x k. completed held (tree_under held) left x k)) is ∙ completed-ends left g m
+  whole_ok (suc left) c n g m some is = ap how_ends (tree-step held left c n) ∙ ap (λ r. how_ends (r >> λ x k. completed held (tree_under held) left x k)) is ∙ completed-ends left g m
 
   pub whole-steps : (d : Due) (ds : List Due) (n : ℕ) (g : Gathered) (m : ℕ) → d.visited ≡ Whole → 1 ≤ d.left → gathered held d.left d.cid n ≡ Ok (g, m)
       → all_end held (d ∷ ds) n ≡ all_end held (gathered_due (pred d.left) g ++ ds) m
@@ -130,16 +128,16 @@ module _ (held : Lookup) where
       ap (λ r. r >>= λ k. all_end held ds k) (ap (λ v. due_ends held (record { cid = d.cid; left = d.left; visited = v }) n) whole ∙ whole_ok d.left d.cid n g m some is)
       ∙ sym (all_end-append (gathered_due (pred d.left) g) ds m)
 
-  whole_err : (left : ℕ) (c : Cid) (n : ℕ) (fault : DagFault) → IsFault (gathered held left c n) fault → IsFault (ends (tree_under held left c n)) fault
+  whole_err : (left : ℕ) (c : Cid) (n : ℕ) (fault : DagFault) → IsFault (gathered held left c n) fault → IsFault (how_ends (tree_under held left c n)) fault
   unfolding tree_within gathered
   whole_err left c n fault (inl own) = inl own
-  whole_err zero c n fault (inr is) = inr (ap ends is)
-  whole_err (suc left) c n fault (inr is) = inr (ap ends (tree-step held left c n) ∙ ap (λ r. ends (r >> λ x k. completed held (tree_under held) left x k)) is)
+  whole_err zero c n fault (inr is) = inr (ap how_ends is)
+  whole_err (suc left) c n fault (inr is) = inr (ap how_ends (tree-step held left c n) ∙ ap (λ r. how_ends (r >> λ x k. completed held (tree_under held) left x k)) is)
 
   pub whole-fault : (d : Due) (ds : List Due) (n : ℕ) (fault : DagFault) → d.visited ≡ Whole → IsFault (gathered held d.left d.cid n) fault → IsFault (all_end held (d ∷ ds) n) fault
   whole-fault d ds n fault whole is =
       fault-then (due_ends held d n) (λ k. all_end held ds k) fault
-      (fault-is (ends (tree_under held d.left d.cid n)) (due_ends held d n) fault (ap (λ v. due_ends held (record { cid = d.cid; left = d.left; visited = v }) n) whole) (whole_err d.left d.cid n fault is))
+      (fault-is (how_ends (tree_under held d.left d.cid n)) (due_ends held d n) fault (ap (λ v. due_ends held (record { cid = d.cid; left = d.left; visited = v }) n) whole) (whole_err d.left d.cid n fault is))
 
   -- ---- a part of a file is read
 
@@ -149,45 +147,45 @@ module _ (held : Lookup) where
 
   bytes_step : (v : Visited) (left : ℕ) (c : Cid) (n : ℕ) → due_bytes held (record { cid = c; left = left; visited = v }) n ≡ (own_part held (record { cid = c; left = left; visited = v }) n >> with_below (pred left))
   unfolding file_under part_bytes
-  bytes_step Whole left c n = sym (behind-behind (visit_of held left c n) (λ u m. still m (as_file c u)) (with_below (pred left)))
-  bytes_step File left c n = sym (behind-behind (visit_of held left c n) (λ u m. still m (as_file c u)) (with_below (pred left)))
+  bytes_step Whole left c n = sym (behind-behind (visit_of held left c n) (λ u m. unvisited m (as_file c u)) (with_below (pred left)))
+  bytes_step File left c n = sym (behind-behind (visit_of held left c n) (λ u m. unvisited m (as_file c u)) (with_below (pred left)))
   bytes_step Part zero c n = refl
-  bytes_step Part (suc left) c n = sym (behind-behind (visit_of held (suc left) c n) (λ u m. still m (as_part c u)) (with_below left))
+  bytes_step Part (suc left) c n = sym (behind-behind (visit_of held (suc left) c n) (λ u m. unvisited m (as_part c u)) (with_below left))
 
   pub bytes-step : (d : Due) (n : ℕ) → due_bytes held d n ≡ (own_part held d n >> with_below (pred d.left))
   bytes-step d n = bytes_step d.visited d.left d.cid n
 
-  ends_bytes : (v : Visited) (left : ℕ) (c : Cid) (n : ℕ) → v ≢ Whole → due_ends held (record { cid = c; left = left; visited = v }) n ≡ ends (due_bytes held (record { cid = c; left = left; visited = v }) n)
+  ends_bytes : (v : Visited) (left : ℕ) (c : Cid) (n : ℕ) → v ≢ Whole → due_ends held (record { cid = c; left = left; visited = v }) n ≡ how_ends (due_bytes held (record { cid = c; left = left; visited = v }) n)
   ends_bytes Whole left c n other = absurd (other refl)
   ends_bytes File left c n other = refl
   ends_bytes Part left c n other = refl
 
-  part_ends : (d : Due) (n : ℕ) → d.visited ≢ Whole → due_ends held d n ≡ ends (own_part held d n >> with_below (pred d.left))
-  part_ends d n other = ends_bytes d.visited d.left d.cid n other ∙ ap ends (bytes-step d n)
+  part_ends : (d : Due) (n : ℕ) → d.visited ≢ Whole → due_ends held d n ≡ how_ends (own_part held d n >> with_below (pred d.left))
+  part_ends d n other = ends_bytes d.visited d.left d.cid n other ∙ ap how_ends (bytes-step d n)
 
-  below_ends : (left : ℕ) (own : List ℕ × List Link) (n : ℕ) → ends (with_below left own n) ≡ all_end held (parts_due left own.1) n
+  below_ends : (left : ℕ) (own : List ℕ × List Link) (n : ℕ) → how_ends (with_below left own n) ≡ all_end held (parts_due left own.1) n
   below_ends left own n = ends-pure (joined_parts (part_bytes held left) own.1 n) (λ more. own.0 ++ more) ∙ joined-ends left own.1 n
 
   pub part-steps : (d : Due) (ds : List Due) (n : ℕ) (own : List ℕ × List Link) (m : ℕ) → d.visited ≢ Whole → own_part held d n ≡ Ok (own, m)
       → all_end held (d ∷ ds) n ≡ all_end held (parts_due (pred d.left) own.1 ++ ds) m
   part-steps d ds n own m other is =
-      ap (λ r. r >>= λ k. all_end held ds k) (part_ends d n other ∙ ap (λ r. ends (r >> with_below (pred d.left))) is ∙ below_ends (pred d.left) own m)
+      ap (λ r. r >>= λ k. all_end held ds k) (part_ends d n other ∙ ap (λ r. how_ends (r >> with_below (pred d.left))) is ∙ below_ends (pred d.left) own m)
       ∙ sym (all_end-append (parts_due (pred d.left) own.1) ds m)
 
   pub part-fault : (d : Due) (ds : List Due) (n : ℕ) (fault : DagFault) → d.visited ≢ Whole → IsFault (own_part held d n) fault → IsFault (all_end held (d ∷ ds) n) fault
   part-fault d ds n fault other (inl own) = inl own
-  part-fault d ds n fault other (inr is) = inr (ap (λ r. r >>= λ k. all_end held ds k) (part_ends d n other ∙ ap (λ r. ends (r >> with_below (pred d.left))) is))
+  part-fault d ds n fault other (inr is) = inr (ap (λ r. r >>= λ k. all_end held ds k) (part_ends d n other ∙ ap (λ r. how_ends (r >> with_below (pred d.left))) is))
 
   -- ---- a raw block is read
 
   raw_visit : (left : ℕ) (c : Cid) (n : ℕ) (bytes : List ℕ) (m : ℕ) → c.codec ≡ codec.Raw → loads held left c n ≡ Ok (bytes, m) → visit_of held left c n ≡ Ok (IsRaw bytes [], m)
   unfolding unixfs_of
-  raw_visit left c n bytes m raw is = ap (λ r. r >> λ b k. still k (unixfs_of c b)) is ∙ ap (λ x. still m (unixfs_of (record { codec = x; digest = c.digest }) bytes)) raw
+  raw_visit left c n bytes m raw is = ap (λ r. r >> λ b k. unvisited k (unixfs_of c b)) is ∙ ap (λ x. unvisited m (unixfs_of (record { codec = x; digest = c.digest }) bytes)) raw
 
   raw_own : (v : Visited) (left : ℕ) (c : Cid) (n : ℕ) (bytes : List ℕ) (m : ℕ) → visit_of held left c n ≡ Ok (IsRaw bytes [], m) → own_part held (record { cid = c; left = left; visited = v }) n ≡ Ok ((bytes, []), m)
-  raw_own Whole left c n bytes m is = ap (λ r. r >> λ u k. still k (as_file c u)) is
-  raw_own File left c n bytes m is = ap (λ r. r >> λ u k. still k (as_file c u)) is
-  raw_own Part left c n bytes m is = ap (λ r. r >> λ u k. still k (as_part c u)) is
+  raw_own Whole left c n bytes m is = ap (λ r. r >> λ u k. unvisited k (as_file c u)) is
+  raw_own File left c n bytes m is = ap (λ r. r >> λ u k. unvisited k (as_file c u)) is
+  raw_own Part left c n bytes m is = ap (λ r. r >> λ u k. unvisited k (as_part c u)) is
 
   raw_whole : (left : ℕ) (c : Cid) (n : ℕ) (bytes : List ℕ) (m : ℕ) → visit_of held left c n ≡ Ok (IsRaw bytes [], m) → gathered held left c n ≡ Ok (IsFile bytes [], m)
   unfolding gathered
@@ -203,14 +201,14 @@ module _ (held : Lookup) where
   raw-steps d ds n bytes m raw some is = raw_steps d.visited d.left d.cid ds n bytes m some (raw_visit d.left d.cid n bytes m raw is)
 
   visit_fault : (left : ℕ) (c : Cid) (n : ℕ) (fault : DagFault) → IsFault (loads held left c n) fault → IsFault (visit_of held left c n) fault
-  visit_fault left c n fault is = fault-behind (loads held left c n) (λ b k. still k (unixfs_of c b)) fault is
+  visit_fault left c n fault is = fault-behind (loads held left c n) (λ b k. unvisited k (unixfs_of c b)) fault is
 
   pub gathered-fault : (left : ℕ) (c : Cid) (n : ℕ) (fault : DagFault) → IsFault (visit_of held left c n) fault → IsFault (gathered held left c n) fault
   unfolding gathered
   gathered-fault left c n fault is = fault-behind (visit_of held left c n) (λ u k. gathers held (pred left) c u k) fault is
 
   pub own-fault : (d : Due) (n : ℕ) (fault : DagFault) → IsFault (visit_of held d.left d.cid n) fault → IsFault (own_part held d n) fault
-  own-fault d n fault is = fault-behind (visit_of held d.left d.cid n) (λ u m. still m (as_due held d u)) fault is
+  own-fault d n fault is = fault-behind (visit_of held d.left d.cid n) (λ u m. unvisited m (as_due held d u)) fault is
 
   load_fault : (v : Visited) (left : ℕ) (c : Cid) (ds : List Due) (n : ℕ) (fault : DagFault) → IsFault (visit_of held left c n) fault → IsFault (all_end held (record { cid = c; left = left; visited = v } ∷ ds) n) fault
   load_fault Whole left c ds n fault is = whole-fault (record { cid = c; left = left; visited = Whole }) ds n fault refl (gathered-fault left c n fault is)
@@ -225,7 +223,7 @@ module _ (held : Lookup) where
   pub read-all : (limits : Limits) (c : Cid) (g : Gathered) (m k left : ℕ) (shape : Shape) → left ≡ limits.depth + 1 → gathered held left c limits.visits ≡ Ok (g, m) → all_end held (gathered_due (left - 1) g) m ≡ Ok k → shape ≡ shape_of g → IsRead held limits c shape
   read-all limits c g m k left shape depth is all shaped =
       let some : 1 ≤ left = omega (arith, depth) in
-      let whole : ends (tree_under held left c limits.visits) ≡ Ok k = whole_ok left c limits.visits g m some is ∙ ap (λ l. all_end held (gathered_due l g) m) (sym (less-one left)) ∙ all in
+      let whole : how_ends (tree_under held left c limits.visits) ≡ Ok k = whole_ok left c limits.visits g m some is ∙ ap (λ l. all_end held (gathered_due l g) m) (sym (less-one left)) ∙ all in
       let read = ends_ok (tree_under held left c limits.visits) k whole in
       record {
         tree = read.0;
@@ -237,13 +235,13 @@ module _ (held : Lookup) where
   not-read limits c g m left fault depth is (inl own) = inl own
   not-read limits c g m left fault depth is (inr all) =
       let some : 1 ≤ left = omega (arith, depth) in
-      let whole : ends (tree_under held left c limits.visits) ≡ Err fault = whole_ok left c limits.visits g m some is ∙ ap (λ l. all_end held (gathered_due l g) m) (sym (less-one left)) ∙ all in
+      let whole : how_ends (tree_under held left c limits.visits) ≡ Err fault = whole_ok left c limits.visits g m some is ∙ ap (λ l. all_end held (gathered_due l g) m) (sym (less-one left)) ∙ all in
       inr (ap (λ l. answered (λ t. t) (tree_under held l c limits.visits)) (sym depth) ∙ ap (answered (λ t. t)) (ends_err (tree_under held left c limits.visits) fault whole))
 
   pub not-gathered : (limits : Limits) (c : Cid) (left : ℕ) (fault : DagFault) → left ≡ limits.depth + 1 → IsFault (gathered held left c limits.visits) fault → IsFault (denotes held limits c) fault
   not-gathered limits c left fault depth is = by (whole_err left c limits.visits fault is)
     where
-      by : IsFault (ends (tree_under held left c limits.visits)) fault → IsFault (denotes held limits c) fault
+      by : IsFault (how_ends (tree_under held left c limits.visits)) fault → IsFault (denotes held limits c) fault
       by (inl own) = inl own
       by (inr ended) = inr (ap (λ l. answered (λ t. t) (tree_under held l c limits.visits)) (sym depth) ∙ ap (answered (λ t. t)) (ends_err (tree_under held left c limits.visits) fault ended))
 

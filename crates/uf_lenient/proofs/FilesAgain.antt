@@ -4,8 +4,6 @@ use Rattle.std.specs.Prelude.{IsTrue, nat_lt}
 use Rattle.std.specs.List.{AllByRecursion, flat_map}
 use Rattle.std.proofs.lemmas.Bool.Decides.{nat_tests}
 use Rattle.uf_cid.specs.Blocks.{Held, Lookup, Holds}
-use Rattle.uf_cid.specs.Cid.{cid_of}
-use Rattle.uf_cid.specs.declared.cid.Codec.TheVariants.{Raw}
 use Rattle.uf_tree.specs.declared.nodes.Entry.{Entry}
 use Rattle.uf_tree.specs.declared.nodes.Part.{Part}
 use Rattle.uf_tree.specs.declared.profile.Profile.{Profile}
@@ -15,14 +13,13 @@ use Rattle.uf_tree.specs.FileSub.{span, part_over, blocks_over}
 use Rattle.uf_tree.specs.Nodes.{file_block}
 use Rattle.uf_tree.specs.Profiles.{is_profile}
 use Rattle.uf_tree.specs.TreePlan.{Refusal, FileTooLong, too_long}
-use Rattle.uf_tree.specs.Validity.{IsHash, IsFileNode}
+use Rattle.uf_tree.specs.Validity.{IsHash}
 use Rattle.uf_tree.proofs.Each.{front, back}
 use Rattle.uf_tree.proofs.Groups.{joined-split, width-split}
 use Rattle.uf_tree.proofs.Rows.{file_plan-rows, plan-sub}
 use Rattle.uf_tree.proofs.Sub.{span-pos}
 use Rattle.uf_tree.proofs.Told.{kept}
 use Rattle.uf_tree.proofs.Valid.{file_node-valid}
-use Rattle.uf_lenient.specs.declared.unixfs.Unixfs.TheVariants.{File}
 use Rattle.uf_lenient.specs.Reading.{◌>>◌, joined_parts, part_bytes}
 use Rattle.uf_lenient.specs.Unixfs.{unixfs_of}
 use Rattle.uf_lenient.proofs.Rereading.{file-reread}

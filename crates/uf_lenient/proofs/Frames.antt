@@ -1,6 +1,7 @@
 -- Shards read one after the other.
-use Rattle.std.proofs.Common.{◌≡◌, ◌⊎◌, inl, inr, ℕ, zero, suc, pred, ◌+◌, ◌-◌, ◌<◌, ◌≤◌, List, [], ◌∷◌, drop, get_or, length, refl, sym, ap, subst, ◌∙◌, arith, Result, Ok, Err, Bool, true, false}
-use Rattle.std.specs.Prelude.{Option, Some, None, if◌then◌else◌}
+use Rattle.std.proofs.Common.{◌≡◌, inl, inr, ℕ, zero, suc, pred, ◌-◌, ◌≤◌, List, [], ◌∷◌, drop, length, refl, sym, ap, ◌∙◌, arith, Result, Ok, Err}
+use Rattle.std.specs.Prelude.{Option, Some, None}
+use Rattle.uf_varint.specs.Fields.{◌>>=◌}
 use Rattle.uf_cid.specs.Blocks.{Lookup}
 use Rattle.uf_cid.specs.declared.cid.Cid.{Cid}
 use Rattle.uf_dagpb.specs.declared.node.Link.{Link}
@@ -11,8 +12,8 @@ use Rattle.uf_lenient.specs.declared.gathered.Gathered.{Gathered}
 use Rattle.uf_lenient.specs.declared.gathered.Gathered.TheVariants.{Folder as IsFolder}
 use Rattle.uf_lenient.specs.Answers.{IsFault, FollowsReading}
 use Rattle.uf_lenient.specs.Pending.{frame_ways, frames_ways, own_shard}
-use Rattle.uf_lenient.specs.Reading.{◌>>◌, ◌>>=◌, Visits, Ways, behind_slot, gathered, gathers, meet, meet_all, shard_ways, slot_ways, still, sub_ways, visit_of}
-use Rattle.uf_lenient.specs.Steps.{AddsEntries, folder, folder_behind}
+use Rattle.uf_lenient.specs.Reading.{◌>>◌, Visits, Ways, behind_slot, gathered, gathers, meet, meet_all, shard_ways, slot_ways, unvisited, sub_ways, visit_of}
+use Rattle.uf_lenient.specs.Steps.{gathered_folder, gathered_folder_behind}
 use Rattle.uf_lenient.specs.Unixfs.{as_shard}
 use Rattle.uf_lenient.specs.declared.unixfs.Unixfs.{Unixfs}
 use Rattle.uf_lenient.proofs.Ends.{behind-behind, less-one}
@@ -36,25 +37,25 @@ module _ (deeper : Cid → Ways → ℕ → Visits Ways) (by : Cid) (left : ℕ)
   pub slot-deeper : behind_slot l.name ≡ Some [] → shard_ways deeper by left (l ∷ ls) met n ≡ (deeper l.cid met n >> λ more m. shard_ways deeper by left ls more m)
   slot-deeper is = at_slot (Some []) is
 
-  entry : (name : List ℕ) → 1 ≤ length name → slot_ways deeper by left l met n (Some name) ≡ still n (meet by left name l.cid met)
+  entry : (name : List ℕ) → 1 ≤ length name → slot_ways deeper by left l met n (Some name) ≡ unvisited n (meet by left name l.cid met)
   entry [] some = absurd (omega arith)
   entry (x ∷ xs) some = refl
 
   pub slot-entry : (name : List ℕ) (more : Ways) → 1 ≤ length name → behind_slot l.name ≡ Some name → meet by left name l.cid met ≡ Ok more → shard_ways deeper by left (l ∷ ls) met n ≡ shard_ways deeper by left ls more n
-  slot-entry name more some is met_is = at_slot (Some name) is ∙ ap (λ r. r >> λ more m. shard_ways deeper by left ls more m) (entry name some ∙ ap (still n) met_is)
+  slot-entry name more some is met_is = at_slot (Some name) is ∙ ap (λ r. r >> λ more m. shard_ways deeper by left ls more m) (entry name some ∙ ap (unvisited n) met_is)
 
   pub slot-fault : (name : List ℕ) (fault : DagFault) → 1 ≤ length name → behind_slot l.name ≡ Some name → IsFault (meet by left name l.cid met) fault → IsFault (shard_ways deeper by left (l ∷ ls) met n) fault
   slot-fault name fault some is fails =
       fault-is (slot_ways deeper by left l met n (Some name) >> λ more m. shard_ways deeper by left ls more m) (shard_ways deeper by left (l ∷ ls) met n) fault (at_slot (Some name) is)
       (fault-behind (slot_ways deeper by left l met n (Some name)) (λ more m. shard_ways deeper by left ls more m) fault
-      (fault-is (still n (meet by left name l.cid met)) (slot_ways deeper by left l met n (Some name)) fault (entry name some) (fault-still n (meet by left name l.cid met) fault fails)))
+      (fault-is (unvisited n (meet by left name l.cid met)) (slot_ways deeper by left l met n (Some name)) fault (entry name some) (fault-still n (meet by left name l.cid met) fault fails)))
 
 module _ (held : Lookup) where
   -- a shard is visited, and then its links are read
   sub_step : (left : ℕ) (c : Cid) (met : Ways) (n : ℕ) → sub_ways held left c met n ≡ (own_shard held left c n >> λ links k. shard_ways (sub_ways held (pred left)) c (pred left) links met k)
   unfolding sub_ways
   sub_step zero c met n = refl
-  sub_step (suc left) c met n = sym (behind-behind (visit_of held (suc left) c n) (λ u m. still m (as_shard c u)) (λ links k. shard_ways (sub_ways held left) c left links met k))
+  sub_step (suc left) c met n = sym (behind-behind (visit_of held (suc left) c n) (λ u m. unvisited m (as_shard c u)) (λ links k. shard_ways (sub_ways held left) c left links met k))
 
   pub frame-done : (f : Frame) (fs : List Frame) (met more : Ways) (n : ℕ) → frame_ways held f met n ≡ Ok (more, n) → frames_ways held (f ∷ fs) met n ≡ frames_ways held fs more n
   frame-done f fs met more n is = ap (λ r. r >> λ m k. frames_ways held fs m k) is
@@ -115,26 +116,26 @@ module _ (held : Lookup) where
 
   -- the ways of a shard tree are those of its first shard
   pub first-frame : (frames : List Frame) (by : Cid) (left : ℕ) (links : List Link) (n : ℕ) (met : Ways) (m : ℕ) → frames ≡ record { by = by; left = left; links = links; at = 0 } ∷ [] → frames_ways held frames [] n ≡ Ok (met, m)
-      → folder_behind (shard_ways (sub_ways held left) by left links [] n) ≡ Ok (IsFolder met, m)
+      → gathered_folder_behind (shard_ways (sub_ways held left) by left links [] n) ≡ Ok (IsFolder met, m)
   first-frame frames by left links n met m one is =
-      ap folder_behind (sym (one_frame (record { by = by; left = left; links = links; at = 0 }) [] n) ∙ ap (λ fs. frames_ways held fs [] n) (sym one) ∙ is)
+      ap gathered_folder_behind (sym (one_frame (record { by = by; left = left; links = links; at = 0 }) [] n) ∙ ap (λ fs. frames_ways held fs [] n) (sym one) ∙ is)
 
   pub first-fault : (frames : List Frame) (by : Cid) (left : ℕ) (links : List Link) (n : ℕ) (fault : DagFault) → frames ≡ record { by = by; left = left; links = links; at = 0 } ∷ [] → IsFault (frames_ways held frames [] n) fault
-      → IsFault (folder_behind (shard_ways (sub_ways held left) by left links [] n)) fault
+      → IsFault (gathered_folder_behind (shard_ways (sub_ways held left) by left links [] n)) fault
   first-fault frames by left links n fault one fails =
       fault-behind (shard_ways (sub_ways held left) by left links [] n) (λ all k. Ok (IsFolder all, k)) fault
       (fault-is (frames_ways held frames [] n) _ fault (sym (one_frame (record { by = by; left = left; links = links; at = 0 }) [] n) ∙ ap (λ fs. frames_ways held fs [] n) (sym one)) fails)
 
 -- a directory in one block, behind a visit
-pub folder_still : (n : ℕ) (r : Result Ways DagFault) (result : Result Gathered DagFault) → FollowsReading (λ g. g) (folder r) result → FollowsReading (λ g. (g, n)) (still n r >> λ ways m. Ok (IsFolder ways, m)) result
-folder_still n r (Ok g) says = by r ∙ ap (still n) says
+pub folder_still : (n : ℕ) (r : Result Ways DagFault) (result : Result Gathered DagFault) → FollowsReading (λ g. g) (gathered_folder r) result → FollowsReading (λ g. (g, n)) (unvisited n r >> λ ways m. Ok (IsFolder ways, m)) result
+folder_still n r (Ok g) says = by r ∙ ap (unvisited n) says
   where
-    by : (r : Result Ways DagFault) → (still n r >> λ ways m. Ok (IsFolder ways, m)) ≡ still n (folder r)
+    by : (r : Result Ways DagFault) → (unvisited n r >> λ ways m. Ok (IsFolder ways, m)) ≡ unvisited n (gathered_folder r)
     by (Ok ways) = refl
     by (Err e) = refl
 folder_still n r (Err fault) (inl own) = inl own
-folder_still n r (Err fault) (inr says) = inr (by r ∙ ap (still n) says)
+folder_still n r (Err fault) (inr says) = inr (by r ∙ ap (unvisited n) says)
   where
-    by : (r : Result Ways DagFault) → (still n r >> λ ways m. Ok (IsFolder ways, m)) ≡ still n (folder r)
+    by : (r : Result Ways DagFault) → (unvisited n r >> λ ways m. Ok (IsFolder ways, m)) ≡ unvisited n (gathered_folder r)
     by (Ok ways) = refl
     by (Err e) = refl

@@ -1,6 +1,7 @@
 -- What is read stays the same in a map that holds more.
 use Rattle.std.proofs.Common.{◌≡◌, ℕ, zero, suc, pred, ◌+◌, List, [], ◌∷◌, ◌++◌, refl, ap, subst, sym, Result, Ok, Err}
-use Rattle.std.specs.Prelude.{Option, Some, None, ⊤}
+use Rattle.std.specs.Prelude.{Option, Some, None}
+use Rattle.uf_varint.specs.Fields.{◌>>=◌}
 use Rattle.uf_cid.specs.Blocks.{Lookup}
 use Rattle.uf_cid.specs.declared.cid.Cid.{Cid}
 use Rattle.uf_dagpb.specs.declared.node.Link.{Link}
@@ -16,7 +17,7 @@ use Rattle.uf_lenient.specs.declared.gathered.Gathered.TheVariants.{File as IsFi
 use Rattle.uf_lenient.specs.declared.shapes.Limits.{Limits}
 use Rattle.uf_lenient.specs.declared.unixfs.Unixfs.{Unixfs}
 use Rattle.uf_lenient.specs.declared.unixfs.Unixfs.TheVariants.{File, Directory, Shard, OtherShard, Other}
-use Rattle.uf_lenient.specs.Reading.{◌>>◌, ◌>>=◌, Visits, Ways, answered, behind_slot, completed, denotes, file_of, file_under, gathered, gathers, joined_parts, loads, meet_all, member_trees, part_bytes, resolve_from, shallow_of, shape_of, shard_ways, slot_ways, step_of, still, sub_ways, tree_under, tree_within, visit_of, way_in_shape}
+use Rattle.uf_lenient.specs.Reading.{◌>>◌, Visits, Ways, answered, behind_slot, completed, denotes, file_of, file_under, gathered, gathers, joined_parts, loads, meet_all, member_trees, part_bytes, resolve_from, shallow_of, shape_of, shard_ways, slot_ways, step_of, unvisited, sub_ways, tree_under, tree_within, visit_of, way_in_shape}
 use Rattle.uf_lenient.specs.Pending.{all_bytes, due_bytes}
 use Rattle.uf_lenient.specs.Steps.{Rest, to_come}
 use Rattle.uf_lenient.specs.Unixfs.{as_file, as_part, as_shard, unixfs_of}
@@ -76,16 +77,16 @@ module _ (held more : Lookup) (all : HoldsAllOf held more) where
       by (Some bytes) is = ap (λ (o : Option (List ℕ)). elim o [ None ↦ Err (Store (Missing c)) | Some bytes ↦ Ok (bytes, n) ]) (all c bytes is)
 
   visit_same : (left : ℕ) (c : Cid) (n : ℕ) → AnswersSame more (visit_of held left c n) (visit_of more left c n)
-  visit_same left c n = behind_same more (loads held left c n) (loads more left c n) (λ b m. still m (unixfs_of c b)) (λ b m. still m (unixfs_of c b)) (loads_same left c n) (λ b m. gives_itself more (still m (unixfs_of c b)))
+  visit_same left c n = behind_same more (loads held left c n) (loads more left c n) (λ b m. unvisited m (unixfs_of c b)) (λ b m. unvisited m (unixfs_of c b)) (loads_same left c n) (λ b m. gives_itself more (unvisited m (unixfs_of c b)))
 
   part_same : (left : ℕ) (c : Cid) (n : ℕ) → AnswersSame more (part_bytes held left c n) (part_bytes more left c n)
   unfolding part_bytes
   part_same zero c n = λ gone. refl
   part_same (suc left) c n =
       let below = part_same left in
-      behind_same more (visit_of held (suc left) c n) (visit_of more (suc left) c n) (λ u m. still m (as_part c u) >> λ own k. joined_parts (part_bytes held left) own.1 k >> λ rest j. Ok (own.0 ++ rest, j))
-      (λ u m. still m (as_part c u) >> λ own k. joined_parts (part_bytes more left) own.1 k >> λ rest j. Ok (own.0 ++ rest, j)) (visit_same (suc left) c n)
-      (λ u m. behind_same more (still m (as_part c u)) (still m (as_part c u)) (λ own k. joined_parts (part_bytes held left) own.1 k >> λ rest j. Ok (own.0 ++ rest, j)) (λ own k. joined_parts (part_bytes more left) own.1 k >> λ rest j. Ok (own.0 ++ rest, j)) (gives_itself more (still m (as_part c u)))
+      behind_same more (visit_of held (suc left) c n) (visit_of more (suc left) c n) (λ u m. unvisited m (as_part c u) >> λ own k. joined_parts (part_bytes held left) own.1 k >> λ rest j. Ok (own.0 ++ rest, j))
+      (λ u m. unvisited m (as_part c u) >> λ own k. joined_parts (part_bytes more left) own.1 k >> λ rest j. Ok (own.0 ++ rest, j)) (visit_same (suc left) c n)
+      (λ u m. behind_same more (unvisited m (as_part c u)) (unvisited m (as_part c u)) (λ own k. joined_parts (part_bytes held left) own.1 k >> λ rest j. Ok (own.0 ++ rest, j)) (λ own k. joined_parts (part_bytes more left) own.1 k >> λ rest j. Ok (own.0 ++ rest, j)) (gives_itself more (unvisited m (as_part c u)))
       (λ own k. behind_same more (joined_parts (part_bytes held left) own.1 k) (joined_parts (part_bytes more left) own.1 k) (λ rest j. Ok (own.0 ++ rest, j)) (λ rest j. Ok (own.0 ++ rest, j)) (joined_same more (part_bytes held left) (part_bytes more left) below own.1 k) (λ rest j. refl)))
 
   sub_same : (left : ℕ) (c : Cid) (met : Ways) (n : ℕ) → AnswersSame more (sub_ways held left c met n) (sub_ways more left c met n)
@@ -93,14 +94,14 @@ module _ (held more : Lookup) (all : HoldsAllOf held more) where
   sub_same zero c met n = λ gone. refl
   sub_same (suc left) c met n =
       let below = sub_same left in
-      behind_same more (visit_of held (suc left) c n) (visit_of more (suc left) c n) (λ u m. still m (as_shard c u) >> λ links k. shard_ways (sub_ways held left) c left links met k)
-      (λ u m. still m (as_shard c u) >> λ links k. shard_ways (sub_ways more left) c left links met k) (visit_same (suc left) c n)
-      (λ u m. behind_same more (still m (as_shard c u)) (still m (as_shard c u)) (λ links k. shard_ways (sub_ways held left) c left links met k) (λ links k. shard_ways (sub_ways more left) c left links met k) (gives_itself more (still m (as_shard c u)))
+      behind_same more (visit_of held (suc left) c n) (visit_of more (suc left) c n) (λ u m. unvisited m (as_shard c u) >> λ links k. shard_ways (sub_ways held left) c left links met k)
+      (λ u m. unvisited m (as_shard c u) >> λ links k. shard_ways (sub_ways more left) c left links met k) (visit_same (suc left) c n)
+      (λ u m. behind_same more (unvisited m (as_shard c u)) (unvisited m (as_shard c u)) (λ links k. shard_ways (sub_ways held left) c left links met k) (λ links k. shard_ways (sub_ways more left) c left links met k) (gives_itself more (unvisited m (as_shard c u)))
       (λ links k. slots_same more (sub_ways held left) (sub_ways more left) below c left links met k))
 
   gathers_same : (left : ℕ) (c : Cid) (u : Unixfs) (n : ℕ) → AnswersSame more (gathers held left c u n) (gathers more left c u n)
   gathers_same left c (File bytes links) n = refl
-  gathers_same left c (Directory links) n = gives_itself more (still n (meet_all c left links []) >> λ ways m. Ok (IsFolder ways, m))
+  gathers_same left c (Directory links) n = gives_itself more (unvisited n (meet_all c left links []) >> λ ways m. Ok (IsFolder ways, m))
   gathers_same left c (Shard links) n =
       behind_same more (shard_ways (sub_ways held left) c left links [] n) (shard_ways (sub_ways more left) c left links [] n) (λ ways m. Ok (IsFolder ways, m)) (λ ways m. Ok (IsFolder ways, m)) (slots_same more (sub_ways held left) (sub_ways more left) (sub_same left) c left links [] n) (λ ways m. refl)
   gathers_same left c OtherShard n = λ gone. refl
@@ -127,9 +128,9 @@ module _ (held more : Lookup) (all : HoldsAllOf held more) where
   file_same : (left : ℕ) (c : Cid) (n : ℕ) → AnswersSame more (file_under held left c n) (file_under more left c n)
   unfolding file_under
   file_same left c n =
-      behind_same more (visit_of held left c n) (visit_of more left c n) (λ u m. still m (as_file c u) >> λ own k. joined_parts (part_bytes held (pred left)) own.1 k >> λ rest j. Ok (own.0 ++ rest, j))
-      (λ u m. still m (as_file c u) >> λ own k. joined_parts (part_bytes more (pred left)) own.1 k >> λ rest j. Ok (own.0 ++ rest, j)) (visit_same left c n)
-      (λ u m. behind_same more (still m (as_file c u)) (still m (as_file c u)) (λ own k. joined_parts (part_bytes held (pred left)) own.1 k >> λ rest j. Ok (own.0 ++ rest, j)) (λ own k. joined_parts (part_bytes more (pred left)) own.1 k >> λ rest j. Ok (own.0 ++ rest, j)) (gives_itself more (still m (as_file c u)))
+      behind_same more (visit_of held left c n) (visit_of more left c n) (λ u m. unvisited m (as_file c u) >> λ own k. joined_parts (part_bytes held (pred left)) own.1 k >> λ rest j. Ok (own.0 ++ rest, j))
+      (λ u m. unvisited m (as_file c u) >> λ own k. joined_parts (part_bytes more (pred left)) own.1 k >> λ rest j. Ok (own.0 ++ rest, j)) (visit_same left c n)
+      (λ u m. behind_same more (unvisited m (as_file c u)) (unvisited m (as_file c u)) (λ own k. joined_parts (part_bytes held (pred left)) own.1 k >> λ rest j. Ok (own.0 ++ rest, j)) (λ own k. joined_parts (part_bytes more (pred left)) own.1 k >> λ rest j. Ok (own.0 ++ rest, j)) (gives_itself more (unvisited m (as_file c u)))
       (λ own k. behind_same more (joined_parts (part_bytes held (pred left)) own.1 k) (joined_parts (part_bytes more (pred left)) own.1 k) (λ rest j. Ok (own.0 ++ rest, j)) (λ rest j. Ok (own.0 ++ rest, j)) (joined_same more (part_bytes held (pred left)) (part_bytes more (pred left)) (part_same (pred left)) own.1 k) (λ rest j. refl)))
 
   due_same : (v : Visited) (left : ℕ) (c : Cid) (n : ℕ) → AnswersSame more (due_bytes held (record { cid = c; left = left; visited = v }) n) (due_bytes more (record { cid = c; left = left; visited = v }) n)

@@ -1,12 +1,12 @@
 -- Paths followed name by name.
-use Rattle.std.proofs.Common.{◌≡◌, ℕ, ◌+◌, ◌<◌, List, ◌∷◌, drop, get_or, length, refl, sym, ap, ◌∙◌}
+use Rattle.std.proofs.Common.{◌≡◌, ℕ, ◌+◌, ◌<◌, List, ◌∷◌, drop, get_or, length, sym, ap, ◌∙◌}
 use Rattle.std.proofs.lemmas.List.{drop_more}
 use Rattle.uf_cid.specs.Blocks.{Lookup}
 use Rattle.uf_cid.specs.declared.cid.Cid.{Cid}
 use Rattle.uf_lenient.specs.declared.fault.DagFault.{DagFault}
 use Rattle.uf_lenient.specs.declared.shapes.Limits.{Limits}
 use Rattle.uf_lenient.specs.Answers.{IsFault}
-use Rattle.uf_lenient.specs.Reading.{◌>>=◌, resolve_from, step_of}
+use Rattle.uf_lenient.specs.Reading.{resolve_from, step_of}
 use Rattle.uf_lenient.proofs.Saying.{fault-is, fault-then}
 
 -- the fault at one name is that of the path

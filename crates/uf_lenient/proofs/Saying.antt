@@ -1,8 +1,9 @@
 -- How what calls answer composes.
-use Rattle.std.proofs.Common.{◌≡◌, ◌⊎◌, inl, inr, ℕ, List, refl, sym, ap, subst, ◌∙◌, arith}
+use Rattle.std.proofs.Common.{◌≡◌, inl, inr, ℕ, List, refl, sym, ap, subst, ◌∙◌}
 use Rattle.std.specs.Prelude.{Some, None, IfErr, IfSome}
 use Rattle.std.specs.declared.result.Result.{Result}
 use Rattle.std.specs.declared.result.Result.TheVariants.{Ok, Err}
+use Rattle.uf_varint.specs.Fields.{◌>>=◌}
 use Rattle.uf_store.specs.Contents.{Contents, Told}
 use Rattle.uf_store.specs.Calls.{OnlyReads}
 use Rattle.uf_store.specs.Faults.{NoneIsBad, Shown, Shows, StaysCalm}
@@ -13,7 +14,7 @@ use Rattle.uf_store.proofs.Causes.{StaysCalm-refl, calm-rises}
 use Rattle.uf_lenient.specs.declared.fault.DagFault.{DagFault}
 use Rattle.uf_lenient.specs.declared.fault.DagFault.TheVariants.{Store}
 use Rattle.uf_lenient.specs.Answers.{IsBare, IsFault, dag_fault, store_fault_of}
-use Rattle.uf_lenient.specs.Reading.{◌>>◌, ◌>>=◌, Visits, still}
+use Rattle.uf_lenient.specs.Reading.{◌>>◌, Visits, unvisited}
 
 -- a fault of a first reading is one of both
 pub fault-then : {A B : Type 0} (said : Result A DagFault) (next : A → Result B DagFault) (fault : DagFault) → IsFault said fault → IsFault (said >>= next) fault
@@ -24,9 +25,9 @@ pub fault-behind : {A B : Type 0} (said : Visits A) (next : A → ℕ → Visits
 fault-behind said next fault (inl own) = inl own
 fault-behind said next fault (inr is) = inr (ap (λ r. r >> next) is)
 
-pub fault-still : {A : Type 0} (n : ℕ) (said : Result A DagFault) (fault : DagFault) → IsFault said fault → IsFault (still n said) fault
+pub fault-still : {A : Type 0} (n : ℕ) (said : Result A DagFault) (fault : DagFault) → IsFault said fault → IsFault (unvisited n said) fault
 fault-still n said fault (inl own) = inl own
-fault-still n said fault (inr is) = inr (ap (still n) is)
+fault-still n said fault (inr is) = inr (ap (unvisited n) is)
 
 pub fault-is : {A : Type 0} (said other : Result A DagFault) (fault : DagFault) → other ≡ said → IsFault said fault → IsFault other fault
 fault-is said other fault same (inl own) = inl own

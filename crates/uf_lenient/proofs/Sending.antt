@@ -1,17 +1,15 @@
 -- Files written out piece by piece.
-use Rattle.std.proofs.Common.{◌≡◌, ◌⊎◌, inl, inr, ℕ, ◌+◌, ◌-◌, ◌^◌, ◌≤◌, List, [], ◌∷◌, ◌++◌, length, length-append, min, refl, sym, ap, subst, ◌∙◌, arith, Result, Ok, Err, append_assoc, append-nil, drop, take, take-append-drop}
-use Rattle.std.specs.Prelude.{Some, None, IfSome, Option}
+use Rattle.std.proofs.Common.{◌≡◌, ℕ, ◌+◌, ◌-◌, ◌^◌, List, [], ◌++◌, length, length-append, min, refl, sym, ap, subst, ◌∙◌, arith, Result, Ok, Err, append_assoc, append-nil, drop, take, take-append-drop}
+use Rattle.std.specs.Prelude.{Some, None, IfSome}
 use Rattle.uf_cid.specs.Blocks.{Lookup}
 use Rattle.uf_edge.specs.Streams.{AppendsPrefix, Told as Sent, after}
 use Rattle.uf_store.specs.Contents.{Contents, Told, held_at}
 use Rattle.uf_tree.specs.Nodes.{capped}
 use Rattle.uf_lenient.specs.declared.fault.DagFault.{DagFault}
 use Rattle.uf_lenient.specs.declared.fault.StreamFault.{StreamFault}
-use Rattle.uf_lenient.specs.declared.fault.StreamFault.TheVariants.{Sink, Dag}
 use Rattle.uf_lenient.specs.Answers.{IsFault}
-use Rattle.uf_lenient.specs.Reading.{◌>>=◌}
 use Rattle.uf_lenient.specs.Steps.{IsNextPiece, Rest, prefixed, to_come}
-use Rattle.uf_lenient.specs.Streams.{HasSent, IsFileFront, IsStreamed, SendsFront, Streams}
+use Rattle.uf_lenient.specs.Streams.{HasSent, IsFileFront, SendsFront, Streams}
 use Rattle.uf_lenient.proofs.Saying.{fault-is, fault-then, on, on-both}
 
 after-none : (held : Sent) → held ≡ after held []
@@ -54,8 +52,8 @@ sent-more told later start now next held held_now held_next count count_next pie
 -- all was written
 pub all-sent : (told later : Told) (start now next : Rest) (held held_now : Sent) (count : ℕ) → later ≡ told → HasSent told start now held held_now count → IfSome later (λ t. IsNextPiece (held_at t) now next (Ok None))
     → IfSome told (λ t. Streams (to_come (held_at t) start) held held_now (Ok count))
-all-sent told later start now next held held_now count same h ends =
-    on-both told later same (λ t said none. record { bytes = h.bytes; is = said ∙ ap (prefixed h.bytes) none ∙ ap (λ (l : List ℕ). Ok l) (append-nil h.bytes); sent = h.sent; counted = h.counted }) h.said ends
+all-sent told later start now next held held_now count same h how_ends =
+    on-both told later same (λ t said none. record { bytes = h.bytes; is = said ∙ ap (prefixed h.bytes) none ∙ ap (λ (l : List ℕ). Ok l) (append-nil h.bytes); sent = h.sent; counted = h.counted }) h.said how_ends
 
 -- the next piece has a fault
 pub not-sent : (told later : Told) (start now next : Rest) (held held_now : Sent) (count : ℕ) (fault : DagFault) → later ≡ told → HasSent told start now held held_now count → IfSome later (λ t. IsNextPiece (held_at t) now next (Err fault))

@@ -1,12 +1,13 @@
 -- A directory's own plan is read as its names, each with its CID.
-use Rattle.std.proofs.Common.{◌≡◌, ℕ, zero, suc, pred, ◌+◌, ◌-◌, ◌/◌, ◌%◌, ◌<◌, ◌≤◌, List, [], ◌∷◌, ◌++◌, length, map, refl, ap, arith, sym, subst, ◌∙◌, ◌⊎◌, inl, inr, T, Bool, true, false, cond, Option, None, Some, Result, Ok, Err, append-nil, Ordering, Less, Equal, Greater, is_eq, is_lt}
-use Rattle.std.specs.Prelude.{IsTrue, ◌==◌, ◌&&◌, nat_le, is_some, if◌then◌else◌}
+use Rattle.std.proofs.Common.{◌≡◌, ℕ, zero, suc, ◌+◌, ◌-◌, ◌/◌, ◌%◌, ◌<◌, ◌≤◌, List, [], ◌∷◌, ◌++◌, length, map, refl, ap, arith, sym, subst, ◌∙◌, ◌⊎◌, inl, inr, T, Bool, true, false, cond, Option, None, Some, Ok, Err, Ordering, Less, Equal, Greater, is_eq, is_lt}
+use Rattle.std.specs.Prelude.{IsTrue, ◌==◌, ◌&&◌, is_some, if◌then◌else◌}
 use Rattle.std.specs.List.{AllByRecursion, cons_option}
 use Rattle.std.specs.Option.{option_map, option_or}
 use Rattle.std.specs.Ordering.{eq_by_cmp}
 use Rattle.std.specs.Cmp.{tied_itself}
 use Rattle.std.specs.FinMap.Entries.{below_all, find, find-put, find-where_key, is_sorted, is_sorted-put, is_sorted-where_key, put, same_entries}
 use Rattle.std.proofs.lemmas.Bool.Decides.{nat_tests}
+use Rattle.uf_varint.specs.Fields.{◌>>=◌}
 use Rattle.uf_cid.specs.Blocks.{Held, Lookup, Holds}
 use Rattle.uf_cid.specs.Cid.{cid_of}
 use Rattle.uf_cid.specs.declared.cid.Cid.{Cid}
@@ -14,7 +15,6 @@ use Rattle.uf_cid.specs.declared.cid.Codec.TheVariants.{DagPb}
 use Rattle.uf_dagpb.specs.declared.node.Link.{Link}
 use Rattle.uf_murmur.specs.Slots.{slot}
 use Rattle.uf_tree.specs.declared.nodes.Entry.{Entry}
-use Rattle.uf_tree.specs.declared.nodes.Item.{Item}
 use Rattle.uf_tree.specs.FilePlan.{Plan}
 use Rattle.uf_tree.specs.Names.{is_name, names_cmp}
 use Rattle.uf_tree.specs.Nodes.{InSlot, Named, hex_digit, link_of, shard_block, slot_digits, slot_link}
@@ -25,15 +25,12 @@ use Rattle.uf_tree.proofs.Each.{at_flat_tabulate, each_filter}
 use Rattle.uf_tree.proofs.ShardLaws.{eqb_same, names_exact, names_total, slot-bound, tied}
 use Rattle.uf_tree.proofs.Shards.{digit_bounds}
 use Rattle.uf_tree.proofs.Sizes.{name_length}
-use Rattle.uf_tree.proofs.Told.{as_T}
 use Rattle.uf_tree.proofs.TreeLaws.{find-map}
 use Rattle.uf_tree.proofs.Valid.{node_entry-valid, shard-valid, shard_items-valid, sorted-map}
-use Rattle.uf_lenient.specs.declared.fault.DagFault.{DagFault}
 use Rattle.uf_lenient.specs.declared.fault.DagFault.TheVariants.{BadName, DuplicateName}
 use Rattle.uf_lenient.specs.declared.found.Found.{Found}
-use Rattle.uf_lenient.specs.declared.unixfs.Unixfs.{Unixfs}
 use Rattle.uf_lenient.specs.declared.unixfs.Unixfs.TheVariants.{Shard}
-use Rattle.uf_lenient.specs.Reading.{◌>>◌, ◌>>=◌, Visits, Ways, behind_slot, is_digit, leads, meet, meet_all, meet_name, shard_ways, slot_ways, still, sub_ways, visit_of}
+use Rattle.uf_lenient.specs.Reading.{◌>>◌, Visits, Ways, behind_slot, is_digit, leads, meet, meet_all, meet_name, shard_ways, unvisited, sub_ways, visit_of}
 use Rattle.uf_lenient.specs.Unixfs.{as_shard, unixfs_of}
 use Rattle.uf_lenient.specs.Within.{IsLimit}
 use Rattle.uf_lenient.proofs.Frames.{slot-deeper, slot-entry}
@@ -364,7 +361,7 @@ module _ (X : List ℕ → List ℕ) (N : List ℕ → ℕ) (good : IsHash X) (h
       → ((m : ℕ) → Adds w met (shard_ways (sub_ways held left) c left (map slot_link items) met m)) → Adds w met (sub_ways held (suc left) c met n)
   unfolding sub_ways
   visited_adds w met items left n valid c is here next =
-      gives-on (Adds w met) (λ e h. h) (Shard (map slot_link items)) (visit_of held (suc left) c n) (λ u m. still m (as_shard c u) >> λ links j. shard_ways (sub_ways held left) c left links met j)
+      gives-on (Adds w met) (λ e h. h) (Shard (map slot_link items)) (visit_of held (suc left) c n) (λ u m. unvisited m (as_shard c u) >> λ links j. shard_ways (sub_ways held left) c left links met j)
       (visit-gives held c (shard_block items) (Shard (map slot_link items)) here (ap (λ d. unixfs_of d (shard_block items)) is ∙ shard-reread (X (shard_block items)) items valid) (suc left) n) next
 
   pub shard-adds : (lv : ℕ) (l : List Named) → ShardHeld lv l → (left : ℕ) (met : Ways) (n : ℕ) → T (is_sorted names_cmp met) → Fresh l met → Adds (wanted l) met (sub_ways held left (shard X N lv l).entry.cid met n)

@@ -1,14 +1,11 @@
 -- A tree's plan is read as the tree.
 use Rattle.std.proofs.Common.{◌≡◌, ℕ, zero, suc, pred, ◌+◌, ◌^◌, ◌<◌, ◌≤◌, List, [], ◌∷◌, length, map, refl, ap, arith, sym, ◌∙◌, subst, T, Bool, true, false, cond, Option, None, Some, Ok, Err}
 use Rattle.std.specs.Prelude.{IsTrue}
-use Rattle.std.specs.List.{AllByRecursion, flat_map}
+use Rattle.std.specs.List.{flat_map}
 use Rattle.std.specs.FinMap.Entries.{is_sorted}
 use Rattle.std.proofs.lemmas.Bool.Decides.{nat_tests}
 use Rattle.uf_cid.specs.Blocks.{Held, Lookup, Holds}
-use Rattle.uf_cid.specs.Cid.{cid_of}
 use Rattle.uf_cid.specs.declared.cid.Cid.{Cid}
-use Rattle.uf_cid.specs.declared.cid.Codec.TheVariants.{DagPb}
-use Rattle.uf_tree.specs.declared.nodes.Entry.{Entry}
 use Rattle.uf_tree.specs.declared.profile.Profile.{Profile}
 use Rattle.uf_tree.specs.DirPlan.{basic_dir, is_sharded, own_plan}
 use Rattle.uf_tree.specs.FilePlan.{Plan}
@@ -25,17 +22,16 @@ use Rattle.uf_tree.proofs.Told.{as_T}
 use Rattle.uf_tree.proofs.TreeLaws.{entries-pairs}
 use Rattle.uf_tree.proofs.Twins.{Apart-HasShard, both_true, same_slots-hash, twins-Apart, twins-same}
 use Rattle.uf_tree.proofs.Valid.{directory-valid}
-use Rattle.uf_lenient.specs.declared.found.Found.{Found}
 use Rattle.uf_lenient.specs.declared.gathered.Gathered.{Gathered}
 use Rattle.uf_lenient.specs.declared.gathered.Gathered.TheVariants.{File as IsFile, Folder as IsFolder}
 use Rattle.uf_lenient.specs.declared.shapes.Limits.{Limits}
 use Rattle.uf_lenient.specs.declared.unixfs.Unixfs.TheVariants.{Directory, Shard}
-use Rattle.uf_lenient.specs.Reading.{◌>>◌, Visits, Ways, answered, completed, denotes, gathered, gathers, leads, member_trees, meet_all, shard_ways, still, sub_ways, tree_under, tree_within, visit_of}
+use Rattle.uf_lenient.specs.Reading.{◌>>◌, Visits, Ways, answered, completed, denotes, gathered, gathers, leads, member_trees, shard_ways, unvisited, sub_ways, tree_under, tree_within, visit_of}
 use Rattle.uf_lenient.specs.Unixfs.{unixfs_of}
 use Rattle.uf_lenient.specs.Within.{GivesWithinLimits, IsLimit}
 use Rattle.uf_lenient.proofs.FilesAgain.{file-read}
 use Rattle.uf_lenient.proofs.Rereading.{dir-reread, shard-reread}
-use Rattle.uf_lenient.proofs.ShardsAgain.{Added, Adds, ShardHeld, all-met, block-met, cids, root-adds, root-cid, root-held, root-valid, root_items, wanted}
+use Rattle.uf_lenient.proofs.ShardsAgain.{Adds, ShardHeld, all-met, block-met, cids, root-adds, root-cid, root-held, root-valid, root_items, wanted}
 use Rattle.uf_lenient.proofs.Within.{Gives, gives-on, gives-then, tree-of-file, visit-gives}
 
 both_none : (a b : Option Refusal) → or_else a b ≡ None → (a ≡ None) × (b ≡ None)
@@ -121,7 +117,7 @@ module _ (X : List ℕ → List ℕ) (N : List ℕ → ℕ) (good : IsHash X) (s
       gives-on (Gathers l) (λ e k. k) (Directory links) (visit_of held left c n) (λ u m. gathers held (pred left) c u m)
       (visit-gives held c (dir_block l) (Directory links) all.0 (dir-reread (X (dir_block l)) l h.valid.each (omega arith)) left n)
       (λ m. let met = block-met c (pred left) l [] (as_T _ h.valid.sorted) h.valid.each (λ q some. refl) tt in
-      subst (λ r. Gathers l (still m r >> λ ways m. Ok (IsFolder ways, m))) (sym met.is) (all-met l met.now (as_T _ h.valid.sorted) met.added))
+      subst (λ r. Gathers l (unvisited m r >> λ ways m. Ok (IsFolder ways, m))) (sym met.is) (all-met l met.now (as_T _ h.valid.sorted) met.added))
 
   in_shards : (l : List Named) → ShardHeld X N good held 7 l → (left n : ℕ) → Gathers l (gathered held left (shard X N 7 l).entry.cid n)
   unfolding gathered

@@ -1,19 +1,18 @@
 -- Readings that give a value unless a limit ends them, one behind the other.
-use Rattle.std.proofs.Common.{◌≡◌, ℕ, zero, suc, pred, List, [], ◌∷◌, ◌++◌, refl, sym, ap, subst, ◌∙◌, Result, Ok, Err, append-nil}
+use Rattle.std.proofs.Common.{◌≡◌, ℕ, zero, suc, pred, List, ◌++◌, refl, sym, ap, subst, Result, Ok, Err}
 use Rattle.std.specs.Prelude.{Some, None}
 use Rattle.std.specs.declared.option.Option.{Option}
 use Rattle.uf_cid.specs.Blocks.{Lookup}
 use Rattle.uf_cid.specs.declared.cid.Cid.{Cid}
 use Rattle.uf_dagpb.specs.declared.node.Link.{Link}
 use Rattle.uf_store.specs.declared.store.StoreFault.TheVariants.{Missing}
-use Rattle.uf_tree.specs.Tree.{Tree, File as FileTree}
+use Rattle.uf_tree.specs.Tree.{File as FileTree}
 use Rattle.uf_lenient.specs.declared.fault.DagFault.{DagFault}
 use Rattle.uf_lenient.specs.declared.fault.DagFault.TheVariants.{Store}
-use Rattle.uf_lenient.specs.declared.gathered.Gathered.{Gathered}
 use Rattle.uf_lenient.specs.declared.gathered.Gathered.TheVariants.{File as IsFile}
 use Rattle.uf_lenient.specs.declared.unixfs.Unixfs.{Unixfs}
 use Rattle.uf_lenient.specs.declared.unixfs.Unixfs.TheVariants.{File}
-use Rattle.uf_lenient.specs.Reading.{◌>>◌, Visits, completed, gathered, gathers, joined_parts, loads, part_bytes, still, tree_within, visit_of}
+use Rattle.uf_lenient.specs.Reading.{◌>>◌, Visits, completed, gathered, gathers, joined_parts, loads, part_bytes, unvisited, tree_within, visit_of}
 use Rattle.uf_lenient.specs.Unixfs.{as_part, unixfs_of}
 use Rattle.uf_lenient.specs.Within.{IsLimit}
 
@@ -39,7 +38,7 @@ module _ (held : Lookup) where
   -- a block that is held is visited as what it is
   pub visit-gives : (c : Cid) (bytes : List ℕ) (u : Unixfs) → held c ≡ Some bytes → unixfs_of c bytes ≡ Ok u → (left n : ℕ) → Gives u (visit_of held left c n)
   visit-gives c bytes u is says left n =
-      gives-then bytes u (loads held left c n) (λ b m. still m (unixfs_of c b)) (load_gives c bytes is left n) (λ m. subst (λ (r : Result Unixfs DagFault). Gives u (still m r)) (sym says) refl)
+      gives-then bytes u (loads held left c n) (λ b m. unvisited m (unixfs_of c b)) (load_gives c bytes is left n) (λ m. subst (λ (r : Result Unixfs DagFault). Gives u (unvisited m r)) (sym says) refl)
 
   -- what is held under a CID is read as the file of these bytes
   pub record ReadsFile (c : Cid) (b : List ℕ) : Type 0 where
@@ -54,7 +53,7 @@ module _ (held : Lookup) where
   unfolding part_bytes
   part-of-file c b r zero n = tt
   part-of-file c b r (suc left) n =
-      gives-then (File r.bytes r.links) b (visit_of held (suc left) c n) (λ u m. still m (as_part c u) >> λ own k. joined_parts (part_bytes held left) own.1 k >> λ more j. Ok (own.0 ++ more, j))
+      gives-then (File r.bytes r.links) b (visit_of held (suc left) c n) (λ u m. unvisited m (as_part c u) >> λ own k. joined_parts (part_bytes held left) own.1 k >> λ more j. Ok (own.0 ++ more, j))
       (visit-gives c r.block (File r.bytes r.links) r.is_held r.says (suc left) n) (λ m. r.below left m)
 
   as_tree : (own b : List ℕ) (s : Visits (List ℕ)) → Gives b (s >> λ more j. Ok (own ++ more, j)) → Gives (FileTree b) (s >> λ more m. Ok (FileTree (own ++ more), m))

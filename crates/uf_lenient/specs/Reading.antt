@@ -1,6 +1,6 @@
 -- What the blocks below a CID denote, whoever wrote them (UnixFS v1, "Data Format", "File", "Directory", "HAMTDirectory"): a
 -- tree, or the first fault. A visit of a block has a depth that is left, and all visits together have a number.
-use Rattle.std.specs.Prelude.{ℕ, zero, suc, pred, ◌+◌, List, [], ◌∷◌, ◌++◌, map, Bool, true, false, ◌&&◌, ◌||◌, not, nat_le, is_some, if◌then◌else◌}
+use Rattle.std.specs.Prelude.{ℕ, zero, suc, pred, ◌+◌, List, [], ◌∷◌, ◌++◌, map, Bool, ◌&&◌, ◌||◌, nat_le, is_some, if◌then◌else◌}
 use Rattle.std.specs.declared.option.Option.{Option}
 use Rattle.std.specs.declared.option.Option.TheVariants.{None, Some}
 use Rattle.std.specs.declared.result.Result.{Result}
@@ -9,6 +9,7 @@ use Rattle.std.specs.FinMap.Entries.{put, find}
 use Rattle.uf_cid.specs.declared.cid.Cid.{Cid}
 use Rattle.uf_cid.specs.Blocks.{Lookup}
 use Rattle.uf_dagpb.specs.declared.node.Link.{Link}
+use Rattle.uf_varint.specs.Fields.{◌>>=◌}
 use Rattle.uf_store.specs.declared.store.StoreFault.TheVariants.{Missing}
 use Rattle.uf_tree.specs.Names.{names_cmp, is_name}
 use Rattle.uf_tree.specs.Tree.{Tree, File as FileTree, Dir, entries}
@@ -35,9 +36,9 @@ abbrev pub ◌>>◌ : {A B : Type 0} → Visits A → (A → ℕ → Visits B) �
 (Err e) >> f = Err e
 
 -- what makes no visit, behind so many that are left
-abbrev pub still : {A : Type 0} → ℕ → Result A DagFault → Visits A
-still n (Ok a) = Ok (a, n)
-still n (Err e) = Err e
+abbrev pub unvisited : {A : Type 0} → ℕ → Result A DagFault → Visits A
+unvisited n (Ok a) = Ok (a, n)
+unvisited n (Err e) = Err e
 
 -- the answer alone
 abbrev pub answered : {A B : Type 0} → (A → B) → Visits A → Result B DagFault
@@ -66,12 +67,6 @@ meet_name by name found met = if is_some (find names_cmp name met) then Err (Dup
 abbrev pub meet : Cid → ℕ → List ℕ → Cid → Ways → Result Ways DagFault
 meet by left name c met = if is_name name then meet_name by name (record { cid = c; left = left }) met else Err (BadName by)
 
--- a step that makes no visit, and the next one
-abbrev pub ◌>>=◌ : {A B : Type 0} → Result A DagFault → (A → Result B DagFault) → Result B DagFault
-(Ok a) >>= f = f a
-(Err e) >>= f = Err e
-
-infixl 10 ◌>>=◌
 -- the ways of a directory in one block
 abbrev pub meet_all : Cid → ℕ → List Link → Ways → Result Ways DagFault
 meet_all by left [] met = Ok met
@@ -81,7 +76,7 @@ meet_all by left (l ∷ ls) met = meet by left l.name l.cid met >>= λ more. mee
 abbrev pub slot_ways : (Cid → Ways → ℕ → Visits Ways) → Cid → ℕ → Link → Ways → ℕ → Option (List ℕ) → Visits Ways
 slot_ways deeper by left l met n None = Err (NotUnixfs by 21)
 slot_ways deeper by left l met n (Some []) = deeper l.cid met n
-slot_ways deeper by left l met n (Some (b ∷ bs)) = still n (meet by left (b ∷ bs) l.cid met)
+slot_ways deeper by left l met n (Some (b ∷ bs)) = unvisited n (meet by left (b ∷ bs) l.cid met)
 
 -- the ways of a shard's links in their order
 abbrev pub shard_ways : (Cid → Ways → ℕ → Visits Ways) → Cid → ℕ → List Link → Ways → ℕ → Visits Ways
@@ -125,22 +120,22 @@ module _ (held : Lookup) where
 
   -- a visit, and what the block is
   abbrev pub visit_of : ℕ → Cid → ℕ → Visits Unixfs
-  visit_of left c n = loads left c n >> λ bytes m. still m (unixfs_of c bytes)
+  visit_of left c n = loads left c n >> λ bytes m. unvisited m (unixfs_of c bytes)
 
   -- the bytes of a part of a file: its own, and then those of its links
   unfoldable pub part_bytes : ℕ → Cid → ℕ → Visits (List ℕ)
   part_bytes zero c n = Err (TooDeep c)
-  part_bytes (suc left) c n = visit_of (suc left) c n >> λ u m. still m (as_part c u) >> λ own k. joined_parts (part_bytes left) own.1 k >> λ more j. Ok (own.0 ++ more, j)
+  part_bytes (suc left) c n = visit_of (suc left) c n >> λ u m. unvisited m (as_part c u) >> λ own k. joined_parts (part_bytes left) own.1 k >> λ more j. Ok (own.0 ++ more, j)
 
   -- the ways of the shard under a CID that a shard links
   unfoldable pub sub_ways : ℕ → Cid → Ways → ℕ → Visits Ways
   sub_ways zero c met n = Err (TooDeep c)
-  sub_ways (suc left) c met n = visit_of (suc left) c n >> λ u m. still m (as_shard c u) >> λ links k. shard_ways (sub_ways left) c left links met k
+  sub_ways (suc left) c met n = visit_of (suc left) c n >> λ u m. unvisited m (as_shard c u) >> λ links k. shard_ways (sub_ways left) c left links met k
 
   -- what a file or a directory is by its first block, and by those of its sub-shards
   abbrev pub gathers : ℕ → Cid → Unixfs → ℕ → Visits Gathered
   gathers left c (File bytes links) n = Ok (IsFile bytes links, n)
-  gathers left c (Directory links) n = still n (meet_all c left links []) >> λ ways m. Ok (IsFolder ways, m)
+  gathers left c (Directory links) n = unvisited n (meet_all c left links []) >> λ ways m. Ok (IsFolder ways, m)
   gathers left c (Shard links) n = shard_ways (sub_ways left) c left links [] n >> λ ways m. Ok (IsFolder ways, m)
   gathers left c OtherShard n = Err (Unsupported c)
   gathers left c Other n = Err (Unsupported c)
@@ -166,7 +161,7 @@ module _ (held : Lookup) where
   -- the bytes of the file under a CID: its first block may be no directory
   unfoldable pub file_under : ℕ → Cid → ℕ → Visits (List ℕ)
   unfolding part_bytes
-  file_under left c n = visit_of left c n >> λ u m. still m (as_file c u) >> λ own k. joined_parts (part_bytes (pred left)) own.1 k >> λ more j. Ok (own.0 ++ more, j)
+  file_under left c n = visit_of left c n >> λ u m. unvisited m (as_file c u) >> λ own k. joined_parts (part_bytes (pred left)) own.1 k >> λ more j. Ok (own.0 ++ more, j)
 
   module _ (limits : Limits) where
     -- the tree that a CID denotes

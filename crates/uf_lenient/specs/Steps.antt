@@ -4,6 +4,7 @@ use Rattle.std.specs.declared.option.Option.{Option}
 use Rattle.std.specs.declared.result.Result.{Result}
 use Rattle.std.specs.declared.result.Result.TheVariants.{Ok, Err}
 use Rattle.std.specs.FinMap.Entries.{is_sorted}
+use Rattle.uf_varint.specs.Fields.{◌>>=◌}
 use Rattle.uf_cid.specs.declared.cid.Cid.{Cid}
 use Rattle.uf_cid.specs.Blocks.{Lookup}
 use Rattle.uf_tree.specs.Names.{names_cmp}
@@ -18,15 +19,15 @@ use Rattle.uf_lenient.specs.declared.shapes.Limits.{Limits}
 use Rattle.uf_lenient.specs.declared.shapes.Shape.{Shape}
 use Rattle.uf_lenient.specs.declared.shapes.Shape.TheVariants.{File as FileShape, Folder as FolderShape}
 use Rattle.uf_lenient.specs.Answers.{IsFault}
-use Rattle.uf_lenient.specs.Pending.{all_bytes, all_end, frames_ways}
-use Rattle.uf_lenient.specs.Reading.{◌>>◌, ◌>>=◌, Visits, Ways, answered, denotes, file_of, meet_all, shallow_of, shard_ways, sub_ways}
+use Rattle.uf_lenient.specs.Pending.{all_bytes}
+use Rattle.uf_lenient.specs.Reading.{◌>>◌, Visits, Ways, answered, denotes, shallow_of, shard_ways}
 
 -- a directory of these ways
-abbrev pub folder : Result Ways DagFault → Result Gathered DagFault
-folder ways = ways >>= λ all. Ok (IsFolder all)
+abbrev pub gathered_folder : Result Ways DagFault → Result Gathered DagFault
+gathered_folder ways = ways >>= λ all. Ok (IsFolder all)
 
-abbrev pub folder_behind : Visits Ways → Visits Gathered
-folder_behind ways = ways >> λ all n. Ok (IsFolder all, n)
+abbrev pub gathered_folder_behind : Visits Ways → Visits Gathered
+gathered_folder_behind ways = ways >> λ all n. Ok (IsFolder all, n)
 
 -- the ways of a directory are in byte order of their names, which are all different
 abbrev pub IsInOrder : Shape → Type 0

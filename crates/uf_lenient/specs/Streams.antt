@@ -46,10 +46,10 @@ pub record HasSent (told : Told) (start now : Rest) (held held_now : Sent) (coun
   pub said : IfSome told (λ t. to_come (held_at t) start ≡ prefixed bytes (to_come (held_at t) now))
 
 -- the sink failed
-abbrev pub is_sink_fault : Result ℕ StreamFault → Bool
-is_sink_fault (Ok count) = false
-is_sink_fault (Err Sink) = true
-is_sink_fault (Err (Dag fault)) = false
+abbrev pub sink_failed : Result ℕ StreamFault → Bool
+sink_failed (Ok count) = false
+sink_failed (Err Sink) = true
+sink_failed (Err (Dag fault)) = false
 
 -- the store's fault in an answer
 abbrev pub stream_fault : Result ℕ StreamFault → Option StoreFault

@@ -9,7 +9,7 @@ ghost use Rattle.uf_lenient.specs.Answers.{FollowsReading, IsBare, dag_fault};
 ghost use Rattle.uf_lenient.specs.Pending.{frames_ways, own_shard};
 ghost use Rattle.uf_lenient.specs.Reading.{Visits, Ways, behind_slot, gathered, is_digit, meet, meet_all};
 ghost use Rattle.uf_lenient.specs.Reading.{shard_ways, sub_ways};
-ghost use Rattle.uf_lenient.specs.Steps.{AddsEntries, StepsTo, folder, folder_behind};
+ghost use Rattle.uf_lenient.specs.Steps.{AddsEntries, StepsTo, gathered_folder, gathered_folder_behind};
 
 use crate::DagFault;
 use crate::due::Frame;
@@ -54,7 +54,7 @@ pub fn gather<S: Store, L: Ledger>(
 
 // The ways of a directory in one block.
 fn gather_block(alloc: Global, by: &Cid, left: u64, links: Links) -> Result<Gathered, DagFault>
-    ensures says { FollowsReading (λ g. g) (folder (meet_all by.now left links [])) result }
+    ensures says { FollowsReading (λ g. g) (gathered_folder (meet_all by.now left links [])) result }
     ensures bare { IfErr result IsBare }
 {
     let mut met = Met::new(alloc);
@@ -76,7 +76,7 @@ fn gather_shards<S: Store, L: Ledger>(
     touches: &mut Steps<L>,
 ) -> Result<Gathered, DagFault>
     ensures says { IfSome (S.seen store.old).told (λ t. FollowsReading (λ g. (g, visits.new))
-        (folder_behind (shard_ways (sub_ways (held_at t) left) by.now left links [] visits.old)) result) }
+        (gathered_folder_behind (shard_ways (sub_ways (held_at t) left) by.now left links [] visits.old)) result) }
     ensures reads { OnlyReads S.X.block32 NoneIsBad (dag_fault result) (S.seen store.old) (S.seen store.new) }
     ensures fewer { OnOk result (visits.new ≤ visits.old) }
     ensures touches { touches.new + visits.new ≡ touches.old + visits.old }

@@ -67,7 +67,7 @@ impl Pieces {
     ) -> Result<Option<Block>, DagFault>
         ensures says { IfSome (S.seen store.old).told (λ t. IsNextPiece (held_at t) self.old self.new result) }
         ensures none { (result ≡ Ok None) ↔ (self.old.0 ≡ []) }
-        ensures still { (result ≡ Ok None) → self.new ≡ self.old }
+        ensures unvisited { (result ≡ Ok None) → self.new ≡ self.old }
         ensures same { OnErr result (self.new ≡ self.old) }
         ensures fewer { IfOk result (λ piece. IfSome piece (λ _. self.new.1 + 1 ≡ self.old.1)) }
         ensures cause { Shown S.X.block32 NoneIsBad (dag_fault result) (S.seen store.old) (S.seen store.new) }

@@ -6,7 +6,7 @@ ghost use Rattle.uf_store.specs.Contents.{held_at};
 ghost use Rattle.uf_store.specs.Faults.{NoneIsBad, Shown};
 ghost use Rattle.uf_lenient.specs.Reading.{file_of};
 ghost use Rattle.uf_lenient.specs.Steps.{to_come};
-ghost use Rattle.uf_lenient.specs.Streams.{SendsFront, Streams, is_sink_fault, stream_fault};
+ghost use Rattle.uf_lenient.specs.Streams.{SendsFront, Streams, sink_failed, stream_fault};
 
 use crate::{Limits, Pieces, StreamFault};
 use std::alloc::Global;
@@ -29,7 +29,7 @@ pub fn stream<S: Store, O: Sink, L: Ledger>(
         (O.holds out.old) (O.holds out.new) result) }
     ensures front { SendsFront (S.seen store.old).told (λ held. file_of held limits.now cid.now)
         (O.holds out.old) (O.holds out.new) }
-    ensures sink { Counts (is_sink_fault result) (O.faults out.old) (O.faults out.new) }
+    ensures sink { Counts (sink_failed result) (O.faults out.old) (O.faults out.new) }
     ensures cause { Shown S.X.block32 NoneIsBad (stream_fault result) (S.seen store.old) (S.seen store.new) }
     ensures told { (S.seen store.new).told ≡ (S.seen store.old).told }
     ensures touches { touches.new ≤ touches.old + limits.now.visits }
@@ -49,7 +49,7 @@ fn write_pieces<S: Store, O: Sink, L: Ledger>(
         (O.holds out.new) result) }
     ensures front { SendsFront (S.seen store.old).told (λ held. to_come held pieces.old) (O.holds out.old)
         (O.holds out.new) }
-    ensures sink { Counts (is_sink_fault result) (O.faults out.old) (O.faults out.new) }
+    ensures sink { Counts (sink_failed result) (O.faults out.old) (O.faults out.new) }
     ensures reads { OnlyReads S.X.block32 NoneIsBad (stream_fault result) (S.seen store.old) (S.seen store.new) }
     ensures touches { touches.new ≤ touches.old + pieces.old.1 }
 {
