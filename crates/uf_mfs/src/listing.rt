@@ -1,23 +1,24 @@
 // The names and the rows of what a path leads to.
 ghost use Rattle.std.specs.Prelude.{◌≡◌, ◌<◌, IfOk, List, None, map, ℕ};
 ghost use Rattle.uf_edge.specs.Counts.{Stood};
-ghost use Rattle.uf_store.specs.Faults.{Answers};
 ghost use Rattle.uf_tree.specs.declared.profile.Profile.{Profile};
 ghost use Rattle.uf_tree.specs.Nodes.{Named};
 ghost use Rattle.uf_tree.specs.Tree.{Dir, Entries, Tree, pairs as pairs_in};
 ghost use Rattle.uf_mfs.specs.Answers.{Pushes, Says};
 ghost use Rattle.uf_mfs.specs.Bad.{IsBad};
-ghost use Rattle.uf_mfs.specs.Replies.{last_name, names_at, row_of as row_at, rows_at, size as size_at};
+ghost use Rattle.uf_store.specs.Calls.{OnlyReads};
+ghost use Rattle.uf_store.specs.Faults.{fault_in};
+ghost use Rattle.uf_plain.specs.Replies.{last_name, names_at, row_of as row_at, rows_at, size as size_at};
 ghost use Rattle.uf_mfs.specs.Standing.{AreMembers, IsEntry, IsThing};
 
 use crate::looking::thing_of;
-use crate::measuring::size_of;
-use crate::{Row, Rows, Thing};
+use crate::Thing;
 use std::alloc::Global;
 use std::sync::ledger::Ledger;
 use uf_cid::{Cid, Memory};
 use uf_dir::entries;
 use uf_murmur::NameHash;
+use uf_plain::{Row, Rows};
 use uf_store::{Steps, Store, StoreFault};
 use uf_tree::{Entry, Name, Names, Pair};
 
@@ -31,11 +32,10 @@ pub(crate) fn names_of<S: Store, N: NameHash, L: Ledger>(
 ) -> Result<Names, StoreFault>
     ensures names { (p : Profile) (t : Tree) → IsThing S.X.block32 N.name64 (S.seen store.old).told p t thing → Stood (S.seen store.old).faults (S.seen store.new).faults
         → Says (names_at path.now t) result }
-    ensures cause { Answers S.X.block32 (IsBad N.name64 None) result (S.seen store.old) (S.seen store.new) }
-    ensures told { (S.seen store.new).told ≡ (S.seen store.old).told }
+    ensures reads { OnlyReads S.X.block32 (IsBad N.name64 None) (fault_in result) (S.seen store.old) (S.seen store.new) }
 {
     match thing {
-        Thing::File(_) => match own_name(alloc, path) {
+        Thing::File(_, _) => match own_name(alloc, path) {
             Err(_) => Err(StoreFault::Memory),
             Ok(names) => Ok(names),
         },
@@ -63,15 +63,12 @@ fn names_in<S: Store, N: NameHash, L: Ledger>(
 ) -> Result<Names, StoreFault>
     ensures names { (p : Profile) (es : Entries) → IsEntry S.X.block32 N.name64 (S.seen store.old).told p folder.now (Dir es) → Stood (S.seen store.old).faults (S.seen store.new).faults
         → Says (map (λ (m : List ℕ × Tree). m.0) (pairs_in es)) result }
-    ensures cause { Answers S.X.block32 (IsBad N.name64 None) result (S.seen store.old) (S.seen store.new) }
-    ensures told { (S.seen store.new).told ≡ (S.seen store.old).told }
+    ensures reads { OnlyReads S.X.block32 (IsBad N.name64 None) (fault_in result) (S.seen store.old) (S.seen store.new) }
 {
-    match entries(alloc, store, &folder.cid, touches) {
-        Err(fault) => Err(fault),
-        Ok(pairs) => match names_in_pairs(alloc, pairs.as_slice()) {
-            Err(_) => Err(StoreFault::Memory),
-            Ok(names) => Ok(names),
-        },
+    let pairs = entries(alloc, store, &folder.cid, touches)?;
+    match names_in_pairs(alloc, pairs.as_slice()) {
+        Err(_) => Err(StoreFault::Memory),
+        Ok(names) => Ok(names),
     }
 }
 
@@ -96,19 +93,13 @@ pub(crate) fn rows_of<S: Store, N: NameHash, L: Ledger>(
 ) -> Result<Rows, StoreFault>
     ensures rows { (p : Profile) (t : Tree) → IsThing S.X.block32 N.name64 (S.seen store.old).told p t thing → Stood (S.seen store.old).faults (S.seen store.new).faults
         → Says (rows_at S.X.block32 N.name64 p path.now t) result }
-    ensures cause { Answers S.X.block32 (IsBad N.name64 None) result (S.seen store.old) (S.seen store.new) }
-    ensures told { (S.seen store.new).told ≡ (S.seen store.old).told }
+    ensures reads { OnlyReads S.X.block32 (IsBad N.name64 None) (fault_in result) (S.seen store.old) (S.seen store.new) }
 {
     match thing {
-        Thing::File(entry) => {
-            match size_of::<S, N, L>(alloc, store, thing, touches) {
-                Err(fault) => Err(fault),
-                Ok(size) => match own_row(alloc, path, entry.cid, size) {
-                    Err(_) => Err(StoreFault::Memory),
-                    Ok(rows) => Ok(rows),
-                },
-            }
-        }
+        Thing::File(entry, size) => match own_row(alloc, path, entry.cid, size.length) {
+            Err(_) => Err(StoreFault::Memory),
+            Ok(rows) => Ok(rows),
+        },
         Thing::Folder(folder) => rows_in::<S, N, L>(alloc, store, &folder, touches),
     }
 }
@@ -134,13 +125,10 @@ fn rows_in<S: Store, N: NameHash, L: Ledger>(
 ) -> Result<Rows, StoreFault>
     ensures rows { (p : Profile) (es : Entries) → IsEntry S.X.block32 N.name64 (S.seen store.old).told p folder.now (Dir es) → Stood (S.seen store.old).faults (S.seen store.new).faults
         → Says (map (λ (m : List ℕ × Tree). row_at S.X.block32 N.name64 p m.0 m.1) (pairs_in es)) result }
-    ensures cause { Answers S.X.block32 (IsBad N.name64 None) result (S.seen store.old) (S.seen store.new) }
-    ensures told { (S.seen store.new).told ≡ (S.seen store.old).told }
+    ensures reads { OnlyReads S.X.block32 (IsBad N.name64 None) (fault_in result) (S.seen store.old) (S.seen store.new) }
 {
-    match entries(alloc, store, &folder.cid, touches) {
-        Err(fault) => Err(fault),
-        Ok(pairs) => rows_from::<S, N, L>(alloc, store, pairs.as_slice(), touches),
-    }
+    let pairs = entries(alloc, store, &folder.cid, touches)?;
+    rows_from::<S, N, L>(alloc, store, pairs.as_slice(), touches)
 }
 
 // The rows of these pairs.
@@ -152,15 +140,11 @@ fn rows_from<S: Store, N: NameHash, L: Ledger>(
 ) -> Result<Rows, StoreFault>
     ensures rows { (p : Profile) (l : List (List ℕ × Tree)) → AreMembers S.X.block32 N.name64 (S.seen store.old).told p pairs.now l → Stood (S.seen store.old).faults (S.seen store.new).faults
         → Says (map (λ (m : List ℕ × Tree). row_at S.X.block32 N.name64 p m.0 m.1) l) result }
-    ensures cause { Answers S.X.block32 (IsBad N.name64 None) result (S.seen store.old) (S.seen store.new) }
-    ensures told { (S.seen store.new).told ≡ (S.seen store.old).told }
+    ensures reads { OnlyReads S.X.block32 (IsBad N.name64 None) (fault_in result) (S.seen store.old) (S.seen store.new) }
 {
     let mut rows = Rows::new(alloc);
     for pair in pairs {
-        match push_row::<S, N, L>(alloc, store, &mut rows, pair, touches) {
-            Ok(()) => {}
-            Err(fault) => return Err(fault),
-        }
+        push_row::<S, N, L>(alloc, store, &mut rows, pair, touches)?;
     }
     Ok(rows)
 }
@@ -175,15 +159,12 @@ fn push_row<S: Store, N: NameHash, L: Ledger>(
 ) -> Result<(), StoreFault>
     ensures pushed { (p : Profile) (t : Tree) → IsEntry S.X.block32 N.name64 (S.seen store.old).told p pair.now.1 t → Stood (S.seen store.old).faults (S.seen store.new).faults
         → Pushes rows.old rows.new (row_at S.X.block32 N.name64 p pair.now.0 t) result }
-    ensures cause { Answers S.X.block32 (IsBad N.name64 None) result (S.seen store.old) (S.seen store.new) }
-    ensures told { (S.seen store.new).told ≡ (S.seen store.old).told }
+    ensures reads { OnlyReads S.X.block32 (IsBad N.name64 None) (fault_in result) (S.seen store.old) (S.seen store.new) }
 {
-    match row_of::<S, N, L>(alloc, store, pair, touches) {
-        Err(fault) => Err(fault),
-        Ok(row) => match rows.push(row) {
-            Err(_) => Err(StoreFault::Memory),
-            Ok(()) => Ok(()),
-        },
+    let row = row_of::<S, N, L>(alloc, store, pair, touches)?;
+    match rows.push(row) {
+        Err(_) => Err(StoreFault::Memory),
+        Ok(()) => Ok(()),
     }
 }
 
@@ -196,19 +177,16 @@ fn row_of<S: Store, N: NameHash, L: Ledger>(
 ) -> Result<Row, StoreFault>
     ensures row { (p : Profile) (t : Tree) → IsEntry S.X.block32 N.name64 (S.seen store.old).told p pair.now.1 t → Stood (S.seen store.old).faults (S.seen store.new).faults
         → Says (row_at S.X.block32 N.name64 p pair.now.0 t) result }
-    ensures cause { Answers S.X.block32 (IsBad N.name64 None) result (S.seen store.old) (S.seen store.new) }
-    ensures told { (S.seen store.new).told ≡ (S.seen store.old).told }
+    ensures reads { OnlyReads S.X.block32 (IsBad N.name64 None) (fault_in result) (S.seen store.old) (S.seen store.new) }
 {
-    match entry_size::<S, N, L>(alloc, store, &pair.entry, touches) {
-        Err(fault) => Err(fault),
-        Ok(size) => match pair.name.copy() {
-            Err(_) => Err(StoreFault::Memory),
-            Ok(name) => Ok(Row {
-                name,
-                cid: pair.entry.cid,
-                size,
-            }),
-        },
+    let size = entry_size::<S, N, L>(alloc, store, &pair.entry, touches)?;
+    match pair.name.copy() {
+        Err(_) => Err(StoreFault::Memory),
+        Ok(name) => Ok(Row {
+            name,
+            cid: pair.entry.cid,
+            size,
+        }),
     }
 }
 
@@ -221,11 +199,10 @@ fn entry_size<S: Store, N: NameHash, L: Ledger>(
 ) -> Result<u64, StoreFault>
     ensures sizes { (p : Profile) (t : Tree) → IsEntry S.X.block32 N.name64 (S.seen store.old).told p entry.now t → Stood (S.seen store.old).faults (S.seen store.new).faults
         → Says (size_at t) result }
-    ensures cause { Answers S.X.block32 (IsBad N.name64 None) result (S.seen store.old) (S.seen store.new) }
-    ensures told { (S.seen store.new).told ≡ (S.seen store.old).told }
+    ensures reads { OnlyReads S.X.block32 (IsBad N.name64 None) (fault_in result) (S.seen store.old) (S.seen store.new) }
 {
-    match thing_of::<S, N, L>(alloc, store, entry, touches) {
-        Err(fault) => Err(fault),
-        Ok(thing) => size_of::<S, N, L>(alloc, store, thing, touches),
+    match thing_of::<S, N, L>(alloc, store, entry, touches)? {
+        Thing::File(_, size) => Ok(size.length),
+        Thing::Folder(_) => Ok(0),
     }
 }

@@ -1,5 +1,5 @@
 use Rattle.std.proofs.Common.{List, ℕ}
-use Rattle.uf_mfs.specs.declared.types.Mfs.{Mfs}
+use Rattle.uf_mfs.specs.declared.mfs.Mfs.{Mfs}
 use Rattle.uf_store.specs.Faults.{NoneIsBad}
 use Rattle.uf_top.proofs.Shows.{ShownIn-opening, init-work, opening-fault}
 use Rattle.uf_top.proofs.Standings.{stands-kept}
