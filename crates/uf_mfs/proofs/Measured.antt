@@ -9,7 +9,7 @@ use Rattle.uf_dagpb.specs.Reading.{node_reads}
 use Rattle.uf_dagpb.proofs.Again.{node_again}
 use Rattle.uf_store.specs.declared.store.StoreFault.{StoreFault}
 use Rattle.uf_store.specs.declared.store.StoreFault.TheVariants.{Memory}
-use Rattle.uf_store.specs.Contents.{Contents, Told}
+use Rattle.uf_store.specs.Contents.{Contents, Told, held_at}
 use Rattle.uf_store.specs.Keeping.{Agrees}
 use Rattle.uf_store.specs.Lost.{FindsOver}
 use Rattle.uf_tree.specs.declared.nodes.Entry.{Entry}
@@ -40,7 +40,7 @@ use Rattle.uf_mfs.specs.Standing.{IsEntry, IsThing, file_size}
 use Rattle.uf_mfs.proofs.Files as files
 use Rattle.uf_mfs.proofs.Holding.{tells-agrees}
 use Rattle.uf_mfs.proofs.Planning.{is-planned, root-told}
-use Rattle.uf_mfs.proofs.Rooting.{children-node, children-raw, root-held}
+use Rattle.uf_mfs.proofs.Rooting.{children-node, children-raw}
 use Rattle.uf_mfs.proofs.Seeing.{finds-says, root-codec}
 
 node-read : (node : FileNode) → IsFileNode node → node_reads (file_block node) ≡ Ok (file_dag node)
@@ -60,12 +60,12 @@ module _ (X : List ℕ → List ℕ) (N : List ℕ → ℕ) (hash : IsHash X) (p
       let root : Held = files.root X N p (Some u) e bytes s in
       let cid : e.cid ≡ root.0 = rooted.root_cid X hash p bytes e.cid root i in
       let small : length bytes < 2 ^ 63 = (let few = i.few in let short = (kept p s.profile).short in omega (arith, few, short)) in
-      let b : IsCanonicalFileNode (Some p) Root root.1 = canonical bytes i.height s.profile i.rooted.least small (ap (λ (c : Cid). c.codec) (sym cid) ∙ dag) in
+      let b : IsCanonicalFileNode (Some p) Root root.1 = canonical bytes (files.rooted X p bytes s.profile).0 s.profile (files.rooted X p bytes s.profile).1.least small (ap (λ (c : Cid). c.codec) (sym cid) ∙ dag) in
       let size : FileSize = record { length = sum b.node.sizes; links = length b.node.parts } in
       let says : IsNodeOf root.1 size = record { node = b.node; valid = b.valid; is = b.is; length_is = refl; links_are = refl } in
-      let held = root-held X N hash u p e (File bytes) s in
+      let held : held_at u e.cid ≡ Some root.1 = ap (held_at u) cid ∙ (files.root-told X N p (Some u) e bytes s).0 in
       let found = rooted.found X hash p bytes e.cid root i (Some u) root.1 (Ok size) (tells-agrees (Some u) (root ∷ []) (files.root-told X N p (Some u) e bytes s)) held
-          (subst (λ (c : Codec). IsSizeOf c root.1 size) (sym dag) says) in
+      (subst (λ (c : Codec). IsSizeOf c root.1 size) (sym dag) says) in
       ap (λ (z : FileSize). z.links) (sym found.0) ∙ children-node X N hash (Some u) p e (File bytes) root.1 (file_dag b.node) s dag held (ap node_reads b.is ∙ node-read b.node b.valid)
 
   -- the root block of a file's plan has as many links as the file's node
@@ -94,7 +94,7 @@ module _ (X : List ℕ → List ℕ) (N : List ℕ → ℕ) (hash : IsHash X) (p
   node-kind : ((name : List ℕ) → N name < 2 ^ 64) → (told : Told) (e : Entry) (t : Tree) (r : Result Kind StoreFault) → IsEntry X N told p e t → e.cid.codec ≡ DagPb
       → ((M : List ℕ → ℕ) (p : Profile) (l : List Named) → IsPlanned X M p e.cid l → Agrees told (dir_root X M p l ∷ []) → FindsOver told (dir_root X M p l ∷ []) kinds.Folder r)
       → ((p : Profile) (bytes : List ℕ) (root : Held) (is : IsFileRoot X p bytes e.cid root) → e.cid.codec ≡ DagPb → Agrees told (root ∷ [])
-          → FindsOver told (root ∷ []) (kinds.File (record { length = length bytes; links = links_of p is.height bytes })) r)
+      → FindsOver told (root ∷ []) (kinds.File (record { length = length bytes; links = links_of p is.height bytes })) r)
       → IsKind told e t r
   node-kind fits told e (File bytes) r s dag folder file =
       let root = files.root X N p told e bytes s in
@@ -113,7 +113,7 @@ module _ (X : List ℕ → List ℕ) (N : List ℕ → ℕ) (hash : IsHash X) (p
       → (e.cid.codec ≡ Raw → r ≡ Ok (kinds.File (record { length = e.tsize; links = 0 })))
       → ((M : List ℕ → ℕ) (p : Profile) (l : List Named) → IsPlanned X M p e.cid l → Agrees told (dir_root X M p l ∷ []) → FindsOver told (dir_root X M p l ∷ []) kinds.Folder r)
       → ((p : Profile) (bytes : List ℕ) (root : Held) (is : IsFileRoot X p bytes e.cid root) → e.cid.codec ≡ DagPb → Agrees told (root ∷ [])
-          → FindsOver told (root ∷ []) (kinds.File (record { length = length bytes; links = links_of p is.height bytes })) r)
+      → FindsOver told (root ∷ []) (kinds.File (record { length = length bytes; links = links_of p is.height bytes })) r)
       → IsKind told e t r
   kind-says fits told e t r s raw folder file = by e.cid.codec refl
     where

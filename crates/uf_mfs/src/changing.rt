@@ -1,5 +1,5 @@
 // Edits of the tree.
-ghost use Rattle.std.specs.Prelude.{◌≡◌, IfErr, IfOk, IsTrue, None, OnErr, Ok, Some, false, true};
+ghost use Rattle.std.specs.Prelude.{◌≡◌, IfOk, IsTrue, None, OnErr, Ok, Some, false, true};
 ghost use Rattle.uf_cid.specs.declared.cid.Codec.TheVariants.{DagPb};
 ghost use Rattle.uf_edge.specs.Counts.{Stood};
 ghost use Rattle.uf_store.specs.Keeping.{KeepsGood};
@@ -12,7 +12,7 @@ ghost use Rattle.uf_mfs.specs.Bad.{IsBad};
 ghost use Rattle.uf_store.specs.Calls.{OnlySaves};
 ghost use Rattle.uf_plain.specs.Edits.{at, made, removed};
 ghost use Rattle.uf_mfs.specs.Standing.{IsEntry, IsMfs, StandsAt};
-ghost use Rattle.uf_mfs.specs.Steps.{EditsFolder, GivesFolder, IsTreeFault, stop_fault, tree_fault};
+ghost use Rattle.uf_mfs.specs.Steps.{EditsFolder, GivesFolder, stop_fault};
 
 use crate::editing::{edit, fill};
 use crate::telling::fault_of;
@@ -36,15 +36,22 @@ impl Mfs {
         touches: &mut Steps<L>,
     ) -> Result<(), MfsFault>
         requires mfs { IsMfs self.old }
-        ensures answer { (p : TheProfile) (es : Entries) → StandsAt S.X.block32 N.name64 (S.seen store.old).told self.old p es
-            → Stood (S.seen store.old).faults (S.seen store.new).faults → Stood (S.seen store.old).clashes (S.seen store.new).clashes
-            → Moves S.X.block32 N.name64 (S.seen store.new).told p path.now.names self.new (made parents path.now.names es) result }
-        ensures there { (p : TheProfile) (es below : Entries) → StandsAt S.X.block32 N.name64 (S.seen store.old).told self.old p es → Stood (S.seen store.old).faults (S.seen store.new).faults
-            → IsTrue parents → at 0 path.now.names (Dir es) ≡ Ok (Dir below) → ((S.seen store.new).told ≡ (S.seen store.old).told) × (self.new ≡ self.old) }
+        ensures answer { (p : TheProfile) (es : Entries)
+            → StandsAt S.X.block32 N.name64 (S.seen store.old).told self.old p es
+            → Stood (S.seen store.old).faults (S.seen store.new).faults
+            → Stood (S.seen store.old).clashes (S.seen store.new).clashes
+            → Moves S.X.block32 N.name64 (S.seen store.new).told p path.now.names self.new
+            (made parents path.now.names es) result }
+        ensures there { (p : TheProfile) (es below : Entries)
+            → StandsAt S.X.block32 N.name64 (S.seen store.old).told self.old p es
+            → Stood (S.seen store.old).faults (S.seen store.new).faults
+            → IsTrue parents → at 0 path.now.names (Dir es) ≡ Ok (Dir below)
+            → ((S.seen store.new).told ≡ (S.seen store.old).told) × (self.new ≡ self.old) }
         ensures refused { OnErr result (self.new ≡ self.old) }
         ensures mfs { IsMfs self.new }
         ensures profile { self.new.profile ≡ self.old.profile }
-        ensures cause { ShownInTree S.X.block32 (IsBad N.name64 (Some self.old.profile)) result (S.seen store.old) (S.seen store.new) }
+        ensures cause { ShownInTree S.X.block32 (IsBad N.name64 (Some self.old.profile)) result (S.seen store.old)
+            (S.seen store.new) }
         ensures good { KeepsGood S.X.block32 (S.seen store.old).told (S.seen store.new).told }
         ensures saves { SavesOnly S.X.block32 (S.seen store.old).told (S.seen store.new).told }
     {
@@ -71,13 +78,17 @@ impl Mfs {
         touches: &mut Steps<L>,
     ) -> Result<(), MfsFault>
         requires mfs { IsMfs self.old }
-        ensures answer { (p : TheProfile) (es : Entries) → StandsAt S.X.block32 N.name64 (S.seen store.old).told self.old p es
-            → Stood (S.seen store.old).faults (S.seen store.new).faults → Stood (S.seen store.old).clashes (S.seen store.new).clashes
-            → MovesTo S.X.block32 N.name64 (S.seen store.new).told p path.now.names self.new (removed recursive path.now.names es) result }
+        ensures answer { (p : TheProfile) (es : Entries)
+            → StandsAt S.X.block32 N.name64 (S.seen store.old).told self.old p es
+            → Stood (S.seen store.old).faults (S.seen store.new).faults
+            → Stood (S.seen store.old).clashes (S.seen store.new).clashes
+            → MovesTo S.X.block32 N.name64 (S.seen store.new).told p path.now.names self.new
+            (removed recursive path.now.names es) result }
         ensures refused { OnErr result (self.new ≡ self.old) }
         ensures mfs { IsMfs self.new }
         ensures profile { self.new.profile ≡ self.old.profile }
-        ensures cause { ShownInTree S.X.block32 (IsBad N.name64 (Some self.old.profile)) result (S.seen store.old) (S.seen store.new) }
+        ensures cause { ShownInTree S.X.block32 (IsBad N.name64 (Some self.old.profile)) result (S.seen store.old)
+            (S.seen store.new) }
         ensures good { KeepsGood S.X.block32 (S.seen store.old).told (S.seen store.new).told }
         ensures saves { SavesOnly S.X.block32 (S.seen store.old).told (S.seen store.new).told }
     {
@@ -128,8 +139,10 @@ fn removed_root<S: Store, N: NameHash, L: Ledger>(
     touches: &mut Steps<L>,
 ) -> Result<Entry, Stop>
     requires profile { IsTrue (is_profile profile.now) }
-    ensures edits { GivesFolder S.X.block32 N.name64 profile.now (S.seen store.old) (S.seen store.new) root.now (removed recursive names.now) result }
-    ensures saves { OnlySaves S.X.block32 (IsBad N.name64 (Some profile.now)) (stop_fault result) (S.seen store.old) (S.seen store.new) }
+    ensures edits { GivesFolder S.X.block32 N.name64 profile.now (S.seen store.old) (S.seen store.new) root.now
+        (removed recursive names.now) result }
+    ensures saves { OnlySaves S.X.block32 (IsBad N.name64 (Some profile.now)) (stop_fault result) (S.seen store.old)
+        (S.seen store.new) }
 {
     match names {
         [] => Err(Stop::Refused(Refused::RootRefused)),
@@ -158,10 +171,15 @@ fn made_root<S: Store, N: NameHash, L: Ledger>(
     touches: &mut Steps<L>,
 ) -> Result<Entry, Stop>
     requires profile { IsTrue (is_profile profile.now) }
-    ensures edits { EditsFolder S.X.block32 N.name64 profile.now (S.seen store.old) (S.seen store.new) root.now (made parents names.now) result }
-    ensures there { (es below : Entries) → IsEntry S.X.block32 N.name64 (S.seen store.old).told profile.now root.now (Dir es) → Stood (S.seen store.old).faults (S.seen store.new).faults
-        → IsTrue parents → at 0 names.now (Dir es) ≡ Ok (Dir below) → ((S.seen store.new).told ≡ (S.seen store.old).told) × IfOk result (λ e. e ≡ root.now) }
-    ensures saves { OnlySaves S.X.block32 (IsBad N.name64 (Some profile.now)) (stop_fault result) (S.seen store.old) (S.seen store.new) }
+    ensures edits { EditsFolder S.X.block32 N.name64 profile.now (S.seen store.old) (S.seen store.new) root.now
+        (made parents names.now) result }
+    ensures there { (es below : Entries)
+        → IsEntry S.X.block32 N.name64 (S.seen store.old).told profile.now root.now (Dir es)
+        → Stood (S.seen store.old).faults (S.seen store.new).faults
+        → IsTrue parents → at 0 names.now (Dir es) ≡ Ok (Dir below)
+        → ((S.seen store.new).told ≡ (S.seen store.old).told) × IfOk result (λ e. e ≡ root.now) }
+    ensures saves { OnlySaves S.X.block32 (IsBad N.name64 (Some profile.now)) (stop_fault result) (S.seen store.old)
+        (S.seen store.new) }
 {
     if parents {
         all_made::<S, N, L>(alloc, store, profile, root, names, touches)
@@ -180,8 +198,10 @@ fn one_made<S: Store, N: NameHash, L: Ledger>(
     touches: &mut Steps<L>,
 ) -> Result<Entry, Stop>
     requires profile { IsTrue (is_profile profile.now) }
-    ensures edits { EditsFolder S.X.block32 N.name64 profile.now (S.seen store.old) (S.seen store.new) root.now (made false names.now) result }
-    ensures saves { OnlySaves S.X.block32 (IsBad N.name64 (Some profile.now)) (stop_fault result) (S.seen store.old) (S.seen store.new) }
+    ensures edits { EditsFolder S.X.block32 N.name64 profile.now (S.seen store.old) (S.seen store.new) root.now
+        (made false names.now) result }
+    ensures saves { OnlySaves S.X.block32 (IsBad N.name64 (Some profile.now)) (stop_fault result) (S.seen store.old)
+        (S.seen store.new) }
 {
     match names {
         [] => Err(Stop::Refused(Refused::Exists(0))),
@@ -209,10 +229,15 @@ fn all_made<S: Store, N: NameHash, L: Ledger>(
     touches: &mut Steps<L>,
 ) -> Result<Entry, Stop>
     requires profile { IsTrue (is_profile profile.now) }
-    ensures edits { EditsFolder S.X.block32 N.name64 profile.now (S.seen store.old) (S.seen store.new) root.now (made true names.now) result }
-    ensures there { (es below : Entries) → IsEntry S.X.block32 N.name64 (S.seen store.old).told profile.now root.now (Dir es) → Stood (S.seen store.old).faults (S.seen store.new).faults
-        → at 0 names.now (Dir es) ≡ Ok (Dir below) → ((S.seen store.new).told ≡ (S.seen store.old).told) × IfOk result (λ e. e ≡ root.now) }
-    ensures saves { OnlySaves S.X.block32 (IsBad N.name64 (Some profile.now)) (stop_fault result) (S.seen store.old) (S.seen store.new) }
+    ensures edits { EditsFolder S.X.block32 N.name64 profile.now (S.seen store.old) (S.seen store.new) root.now
+        (made true names.now) result }
+    ensures there { (es below : Entries)
+        → IsEntry S.X.block32 N.name64 (S.seen store.old).told profile.now root.now (Dir es)
+        → Stood (S.seen store.old).faults (S.seen store.new).faults
+        → at 0 names.now (Dir es) ≡ Ok (Dir below) → ((S.seen store.new).told ≡ (S.seen store.old).told)
+        × IfOk result (λ e. e ≡ root.now) }
+    ensures saves { OnlySaves S.X.block32 (IsBad N.name64 (Some profile.now)) (stop_fault result) (S.seen store.old)
+        (S.seen store.new) }
 {
     match fill::<S, N, L>(alloc, store, profile, 0, names, root, touches)? {
         None => Ok(*root),

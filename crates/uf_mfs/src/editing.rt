@@ -13,9 +13,11 @@ ghost use Rattle.uf_mfs.specs.Answers.{Decides, Edits};
 ghost use Rattle.uf_plain.specs.Rules.{allowed};
 ghost use Rattle.uf_mfs.specs.Bad.{IsBad};
 ghost use Rattle.uf_store.specs.Calls.{OnlySaves};
-ghost use Rattle.uf_plain.specs.Edits.{as_folder, as_free, as_removable, at, change, child, done, edited, made_all, may_be, or_new, with_child, without_child};
+ghost use Rattle.uf_plain.specs.Edits.{as_folder, as_free, as_removable, at, change, child, done, edited, made_all};
+ghost use Rattle.uf_plain.specs.Edits.{may_be, or_new, with_child, without_child};
 ghost use Rattle.uf_mfs.specs.Standing.{IsEntry, IsMeant, IsMember};
-ghost use Rattle.uf_mfs.specs.Steps.{EditsFolder, FillsFolder, GivesFolder, IsOpened, changed_below, opened, stop_fault};
+ghost use Rattle.uf_mfs.specs.Steps.{EditsFolder, FillsFolder, GivesFolder, IsOpened, changed_below, opened};
+ghost use Rattle.uf_mfs.specs.Steps.{stop_fault};
 
 use crate::looking::member;
 use crate::{Stop, Thing};
@@ -43,8 +45,10 @@ pub(crate) fn edit<S: Store, N: NameHash, L: Ledger>(
     requires profile { IsTrue (is_profile profile.now) }
     requires few { led + length rest.now + 1 < 2 ^ 64 }
     ensures edits { (t : Tree) → IsMeant S.X.block32 N.name64 (S.seen store.old).told profile.now what t
-        → EditsFolder S.X.block32 N.name64 profile.now (S.seen store.old) (S.seen store.new) folder.now (edited (change what t) led name.now rest.now) result }
-    ensures saves { OnlySaves S.X.block32 (IsBad N.name64 (Some profile.now)) (stop_fault result) (S.seen store.old) (S.seen store.new) }
+        → EditsFolder S.X.block32 N.name64 profile.now (S.seen store.old) (S.seen store.new) folder.now
+        (edited (change what t) led name.now rest.now) result }
+    ensures saves { OnlySaves S.X.block32 (IsBad N.name64 (Some profile.now)) (stop_fault result) (S.seen store.old)
+        (S.seen store.new) }
 {
     let found = member::<S, N, L>(alloc, store, folder, name, touches)?;
     let [next, more @ ..] = rest else {
@@ -88,10 +92,15 @@ pub(crate) fn fill<S: Store, N: NameHash, L: Ledger>(
 ) -> Result<Option<Entry>, Stop>
     requires profile { IsTrue (is_profile profile.now) }
     requires few { led + length names.now < 2 ^ 64 }
-    ensures fills { FillsFolder S.X.block32 N.name64 profile.now (S.seen store.old) (S.seen store.new) folder.now (made_all led names.now) result }
-    ensures there { (es below : Entries) → IsEntry S.X.block32 N.name64 (S.seen store.old).told profile.now folder.now (Dir es) → Stood (S.seen store.old).faults (S.seen store.new).faults
-        → at led names.now (Dir es) ≡ Ok (Dir below) → ((S.seen store.new).told ≡ (S.seen store.old).told) × IfOk result (λ new. new ≡ None) }
-    ensures saves { OnlySaves S.X.block32 (IsBad N.name64 (Some profile.now)) (stop_fault result) (S.seen store.old) (S.seen store.new) }
+    ensures fills { FillsFolder S.X.block32 N.name64 profile.now (S.seen store.old) (S.seen store.new) folder.now
+        (made_all led names.now) result }
+    ensures there { (es below : Entries)
+        → IsEntry S.X.block32 N.name64 (S.seen store.old).told profile.now folder.now (Dir es)
+        → Stood (S.seen store.old).faults (S.seen store.new).faults
+        → at led names.now (Dir es) ≡ Ok (Dir below) → ((S.seen store.new).told ≡ (S.seen store.old).told)
+        × IfOk result (λ new. new ≡ None) }
+    ensures saves { OnlySaves S.X.block32 (IsBad N.name64 (Some profile.now)) (stop_fault result) (S.seen store.old)
+        (S.seen store.new) }
 {
     let [name, rest @ ..] = names else {
         return Ok(None);
@@ -124,12 +133,19 @@ fn open_or_make<S: Store, N: NameHash, L: Ledger>(
     folder: &Entry,
     touches: &mut Steps<L>,
 ) -> Result<(Entry, bool), Stop>
-    ensures opens { (p : TheProfile) → GivesFolder S.X.block32 N.name64 p (S.seen store.old) (S.seen store.new) folder.now (λ es. or_new led (child name.now es)) (opened result) }
-    ensures found { (p : TheProfile) (es : Entries) → IsEntry S.X.block32 N.name64 (S.seen store.old).told p folder.now (Dir es) → Stood (S.seen store.old).faults (S.seen store.new).faults
+    ensures opens { (p : TheProfile)
+        → GivesFolder S.X.block32 N.name64 p (S.seen store.old) (S.seen store.new) folder.now
+        (λ es. or_new led (child name.now es)) (opened result) }
+    ensures found { (p : TheProfile) (es : Entries)
+        → IsEntry S.X.block32 N.name64 (S.seen store.old).told p folder.now (Dir es)
+        → Stood (S.seen store.old).faults (S.seen store.new).faults
         → IfOk result (λ found. IsOpened S.X.block32 N.name64 (S.seen store.new).told p (child name.now es) found) }
-    ensures there { (p : TheProfile) (es : Entries) → IsEntry S.X.block32 N.name64 (S.seen store.old).told p folder.now (Dir es) → Stood (S.seen store.old).faults (S.seen store.new).faults
+    ensures there { (p : TheProfile) (es : Entries)
+        → IsEntry S.X.block32 N.name64 (S.seen store.old).told p folder.now (Dir es)
+        → Stood (S.seen store.old).faults (S.seen store.new).faults
         → child name.now es ≢ None → (S.seen store.new).told ≡ (S.seen store.old).told }
-    ensures saves { OnlySaves S.X.block32 (IsBad N.name64 None) (stop_fault result) (S.seen store.old) (S.seen store.new) }
+    ensures saves { OnlySaves S.X.block32 (IsBad N.name64 None) (stop_fault result) (S.seen store.old)
+        (S.seen store.new) }
 {
     match member::<S, N, L>(alloc, store, folder, name, touches)? {
         None => {
@@ -143,7 +159,8 @@ fn open_or_make<S: Store, N: NameHash, L: Ledger>(
 
 // The entry of a member that has to be a folder.
 fn folder_of(led: usize, found: Option<Thing>) -> Result<Entry, Refused>
-    ensures { (X : List ℕ → List ℕ) (N : List ℕ → ℕ) (told : Told) (p : TheProfile) (o : TheOption Tree) → IsMember X N told p o found
+    ensures { (X : List ℕ → List ℕ) (N : List ℕ → ℕ) (told : Told) (p : TheProfile) (o : TheOption Tree)
+        → IsMember X N told p o found
         → Decides (λ es e. IsEntry X N told p e (Dir es)) (as_folder led o) result }
 {
     match found {
@@ -166,10 +183,14 @@ fn edit_here<S: Store, N: NameHash, L: Ledger>(
     touches: &mut Steps<L>,
 ) -> Result<Entry, Stop>
     requires profile { IsTrue (is_profile profile.now) }
-    ensures edits { (t : Tree) (es : Entries) → IsMeant S.X.block32 N.name64 (S.seen store.old).told profile.now what t → IsEntry S.X.block32 N.name64 (S.seen store.old).told profile.now folder.now (Dir es)
-        → IsMember S.X.block32 N.name64 (S.seen store.old).told profile.now (child name.now es) found → Calm (S.seen store.old) (S.seen store.new)
-        → Edits S.X.block32 N.name64 (S.seen store.new).told profile.now (allowed S.X.block32 N.name64 profile.now (change what t led name.now es)) result }
-    ensures saves { OnlySaves S.X.block32 (IsBad N.name64 (Some profile.now)) (stop_fault result) (S.seen store.old) (S.seen store.new) }
+    ensures edits { (t : Tree) (es : Entries) → IsMeant S.X.block32 N.name64 (S.seen store.old).told profile.now what t
+        → IsEntry S.X.block32 N.name64 (S.seen store.old).told profile.now folder.now (Dir es)
+        → IsMember S.X.block32 N.name64 (S.seen store.old).told profile.now (child name.now es) found
+        → Calm (S.seen store.old) (S.seen store.new)
+        → Edits S.X.block32 N.name64 (S.seen store.new).told profile.now
+        (allowed S.X.block32 N.name64 profile.now (change what t led name.now es)) result }
+    ensures saves { OnlySaves S.X.block32 (IsBad N.name64 (Some profile.now)) (stop_fault result) (S.seen store.old)
+        (S.seen store.new) }
 {
     may(what, led, found)?;
     match what {
@@ -183,7 +204,8 @@ fn edit_here<S: Store, N: NameHash, L: Ledger>(
 
 // Whether an edit may be done, by what was found under its name.
 fn may(what: Change, led: usize, found: Option<Thing>) -> Result<(), Refused>
-    ensures { (X : List ℕ → List ℕ) (N : List ℕ → ℕ) (told : Told) (p : TheProfile) (o : TheOption Tree) → IsMember X N told p o found
+    ensures { (X : List ℕ → List ℕ) (N : List ℕ → ℕ) (told : Told) (p : TheProfile) (o : TheOption Tree)
+        → IsMember X N told p o found
         → Decides (λ a b. Unit {0}) (may_be what led o) result }
 {
     match what {
@@ -195,7 +217,8 @@ fn may(what: Change, led: usize, found: Option<Thing>) -> Result<(), Refused>
 
 // Whether a name is free.
 fn may_put(led: usize, found: Option<Thing>) -> Result<(), Refused>
-    ensures { (X : List ℕ → List ℕ) (N : List ℕ → ℕ) (told : Told) (p : TheProfile) (o : TheOption Tree) → IsMember X N told p o found
+    ensures { (X : List ℕ → List ℕ) (N : List ℕ → ℕ) (told : Told) (p : TheProfile) (o : TheOption Tree)
+        → IsMember X N told p o found
         → Decides (λ a b. Unit {0}) (as_free led o) result }
 {
     match found {
@@ -206,7 +229,8 @@ fn may_put(led: usize, found: Option<Thing>) -> Result<(), Refused>
 
 // Whether a member may be taken away.
 fn may_take(recursive: bool, led: usize, found: Option<Thing>) -> Result<(), Refused>
-    ensures { (X : List ℕ → List ℕ) (N : List ℕ → ℕ) (told : Told) (p : TheProfile) (o : TheOption Tree) → IsMember X N told p o found
+    ensures { (X : List ℕ → List ℕ) (N : List ℕ → ℕ) (told : Told) (p : TheProfile) (o : TheOption Tree)
+        → IsMember X N told p o found
         → Decides (λ a b. Unit {0}) (as_removable recursive led o) result }
 {
     match found {
@@ -232,8 +256,10 @@ fn make_in<S: Store, N: NameHash, L: Ledger>(
     touches: &mut Steps<L>,
 ) -> Result<Entry, Stop>
     requires profile { IsTrue (is_profile profile.now) }
-    ensures edits { EditsFolder S.X.block32 N.name64 profile.now (S.seen store.old) (S.seen store.new) folder.now (λ es. Ok (with_child name.now (Dir Nothing) es)) result }
-    ensures saves { OnlySaves S.X.block32 (IsBad N.name64 (Some profile.now)) (stop_fault result) (S.seen store.old) (S.seen store.new) }
+    ensures edits { EditsFolder S.X.block32 N.name64 profile.now (S.seen store.old) (S.seen store.new) folder.now
+        (λ es. Ok (with_child name.now (Dir Nothing) es)) result }
+    ensures saves { OnlySaves S.X.block32 (IsBad N.name64 (Some profile.now)) (stop_fault result) (S.seen store.old)
+        (S.seen store.new) }
 {
     let new = empty(alloc, store, touches)?;
     put_in::<S, N, L>(alloc, store, profile, folder, name, &new, touches)
@@ -251,8 +277,10 @@ pub(crate) fn put_in<S: Store, N: NameHash, L: Ledger>(
 ) -> Result<Entry, Stop>
     requires profile { IsTrue (is_profile profile.now) }
     ensures edits { (t : Tree) → IsEntry S.X.block32 N.name64 (S.seen store.old).told profile.now entry.now t
-        → EditsFolder S.X.block32 N.name64 profile.now (S.seen store.old) (S.seen store.new) folder.now (λ es. Ok (with_child name.now t es)) result }
-    ensures saves { OnlySaves S.X.block32 (IsBad N.name64 (Some profile.now)) (stop_fault result) (S.seen store.old) (S.seen store.new) }
+        → EditsFolder S.X.block32 N.name64 profile.now (S.seen store.old) (S.seen store.new) folder.now
+        (λ es. Ok (with_child name.now t es)) result }
+    ensures saves { OnlySaves S.X.block32 (IsBad N.name64 (Some profile.now)) (stop_fault result) (S.seen store.old)
+        (S.seen store.new) }
 {
     names_are_good(name);
     let new = put::<S, N, L>(alloc, store, profile, &folder.cid, name, entry, touches)?;
@@ -270,9 +298,13 @@ fn take_out<S: Store, N: NameHash, L: Ledger>(
     touches: &mut Steps<L>,
 ) -> Result<Entry, Stop>
     requires profile { IsTrue (is_profile profile.now) }
-    ensures edits { (es : Entries) → IsEntry S.X.block32 N.name64 (S.seen store.old).told profile.now folder.now (Dir es) → child name.now es ≢ None → Calm (S.seen store.old) (S.seen store.new)
-        → Edits S.X.block32 N.name64 (S.seen store.new).told profile.now (allowed S.X.block32 N.name64 profile.now (Ok (without_child name.now es))) result }
-    ensures saves { OnlySaves S.X.block32 (IsBad N.name64 (Some profile.now)) (stop_fault result) (S.seen store.old) (S.seen store.new) }
+    ensures edits { (es : Entries)
+        → IsEntry S.X.block32 N.name64 (S.seen store.old).told profile.now folder.now (Dir es)
+        → child name.now es ≢ None → Calm (S.seen store.old) (S.seen store.new)
+        → Edits S.X.block32 N.name64 (S.seen store.new).told profile.now
+        (allowed S.X.block32 N.name64 profile.now (Ok (without_child name.now es))) result }
+    ensures saves { OnlySaves S.X.block32 (IsBad N.name64 (Some profile.now)) (stop_fault result) (S.seen store.old)
+        (S.seen store.new) }
 {
     let taken = remove::<S, N, L>(alloc, store, profile, &folder.cid, name, touches)?;
     match taken {

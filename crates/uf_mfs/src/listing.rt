@@ -11,8 +11,8 @@ ghost use Rattle.uf_store.specs.Faults.{fault_in};
 ghost use Rattle.uf_plain.specs.Replies.{last_name, names_at, row_of as row_at, rows_at, size as size_at};
 ghost use Rattle.uf_mfs.specs.Standing.{AreMembers, IsEntry, IsThing};
 
-use crate::looking::thing_of;
 use crate::Thing;
+use crate::looking::thing_of;
 use std::alloc::Global;
 use std::sync::ledger::Ledger;
 use uf_cid::{Cid, Memory};
@@ -30,9 +30,11 @@ pub(crate) fn names_of<S: Store, N: NameHash, L: Ledger>(
     thing: Thing,
     touches: &mut Steps<L>,
 ) -> Result<Names, StoreFault>
-    ensures names { (p : Profile) (t : Tree) → IsThing S.X.block32 N.name64 (S.seen store.old).told p t thing → Stood (S.seen store.old).faults (S.seen store.new).faults
+    ensures names { (p : Profile) (t : Tree) → IsThing S.X.block32 N.name64 (S.seen store.old).told p t thing
+        → Stood (S.seen store.old).faults (S.seen store.new).faults
         → Says (names_at path.now t) result }
-    ensures reads { OnlyReads S.X.block32 (IsBad N.name64 None) (fault_in result) (S.seen store.old) (S.seen store.new) }
+    ensures reads { OnlyReads S.X.block32 (IsBad N.name64 None) (fault_in result) (S.seen store.old)
+        (S.seen store.new) }
 {
     match thing {
         Thing::File(_, _) => match own_name(alloc, path) {
@@ -61,9 +63,12 @@ fn names_in<S: Store, N: NameHash, L: Ledger>(
     folder: &Entry,
     touches: &mut Steps<L>,
 ) -> Result<Names, StoreFault>
-    ensures names { (p : Profile) (es : Entries) → IsEntry S.X.block32 N.name64 (S.seen store.old).told p folder.now (Dir es) → Stood (S.seen store.old).faults (S.seen store.new).faults
+    ensures names { (p : Profile) (es : Entries)
+        → IsEntry S.X.block32 N.name64 (S.seen store.old).told p folder.now (Dir es)
+        → Stood (S.seen store.old).faults (S.seen store.new).faults
         → Says (map (λ (m : List ℕ × Tree). m.0) (pairs_in es)) result }
-    ensures reads { OnlyReads S.X.block32 (IsBad N.name64 None) (fault_in result) (S.seen store.old) (S.seen store.new) }
+    ensures reads { OnlyReads S.X.block32 (IsBad N.name64 None) (fault_in result) (S.seen store.old)
+        (S.seen store.new) }
 {
     let pairs = entries(alloc, store, &folder.cid, touches)?;
     match names_in_pairs(alloc, pairs.as_slice()) {
@@ -91,9 +96,11 @@ pub(crate) fn rows_of<S: Store, N: NameHash, L: Ledger>(
     thing: Thing,
     touches: &mut Steps<L>,
 ) -> Result<Rows, StoreFault>
-    ensures rows { (p : Profile) (t : Tree) → IsThing S.X.block32 N.name64 (S.seen store.old).told p t thing → Stood (S.seen store.old).faults (S.seen store.new).faults
+    ensures rows { (p : Profile) (t : Tree) → IsThing S.X.block32 N.name64 (S.seen store.old).told p t thing
+        → Stood (S.seen store.old).faults (S.seen store.new).faults
         → Says (rows_at S.X.block32 N.name64 p path.now t) result }
-    ensures reads { OnlyReads S.X.block32 (IsBad N.name64 None) (fault_in result) (S.seen store.old) (S.seen store.new) }
+    ensures reads { OnlyReads S.X.block32 (IsBad N.name64 None) (fault_in result) (S.seen store.old)
+        (S.seen store.new) }
 {
     match thing {
         Thing::File(entry, size) => match own_row(alloc, path, entry.cid, size.length) {
@@ -106,7 +113,8 @@ pub(crate) fn rows_of<S: Store, N: NameHash, L: Ledger>(
 
 // The row of a file by the last name of its path.
 fn own_row(alloc: Global, path: &[Name], cid: Cid, size: u64) -> Result<Rows, Memory>
-    ensures { IfOk result (λ rows. rows ≡ map (λ (name : List ℕ). record { name = name; cid = cid; size = size }) (last_name path.now)) }
+    ensures { IfOk result
+        (λ rows. rows ≡ map (λ (name : List ℕ). record { name = name; cid = cid; size = size }) (last_name path.now)) }
 {
     let mut rows = Rows::new(alloc);
     if let Some(name) = path.last() {
@@ -123,9 +131,12 @@ fn rows_in<S: Store, N: NameHash, L: Ledger>(
     folder: &Entry,
     touches: &mut Steps<L>,
 ) -> Result<Rows, StoreFault>
-    ensures rows { (p : Profile) (es : Entries) → IsEntry S.X.block32 N.name64 (S.seen store.old).told p folder.now (Dir es) → Stood (S.seen store.old).faults (S.seen store.new).faults
+    ensures rows { (p : Profile) (es : Entries)
+        → IsEntry S.X.block32 N.name64 (S.seen store.old).told p folder.now (Dir es)
+        → Stood (S.seen store.old).faults (S.seen store.new).faults
         → Says (map (λ (m : List ℕ × Tree). row_at S.X.block32 N.name64 p m.0 m.1) (pairs_in es)) result }
-    ensures reads { OnlyReads S.X.block32 (IsBad N.name64 None) (fault_in result) (S.seen store.old) (S.seen store.new) }
+    ensures reads { OnlyReads S.X.block32 (IsBad N.name64 None) (fault_in result) (S.seen store.old)
+        (S.seen store.new) }
 {
     let pairs = entries(alloc, store, &folder.cid, touches)?;
     rows_from::<S, N, L>(alloc, store, pairs.as_slice(), touches)
@@ -138,9 +149,12 @@ fn rows_from<S: Store, N: NameHash, L: Ledger>(
     pairs: &[Pair],
     touches: &mut Steps<L>,
 ) -> Result<Rows, StoreFault>
-    ensures rows { (p : Profile) (l : List (List ℕ × Tree)) → AreMembers S.X.block32 N.name64 (S.seen store.old).told p pairs.now l → Stood (S.seen store.old).faults (S.seen store.new).faults
+    ensures rows { (p : Profile) (l : List (List ℕ × Tree))
+        → AreMembers S.X.block32 N.name64 (S.seen store.old).told p pairs.now l
+        → Stood (S.seen store.old).faults (S.seen store.new).faults
         → Says (map (λ (m : List ℕ × Tree). row_at S.X.block32 N.name64 p m.0 m.1) l) result }
-    ensures reads { OnlyReads S.X.block32 (IsBad N.name64 None) (fault_in result) (S.seen store.old) (S.seen store.new) }
+    ensures reads { OnlyReads S.X.block32 (IsBad N.name64 None) (fault_in result) (S.seen store.old)
+        (S.seen store.new) }
 {
     let mut rows = Rows::new(alloc);
     for pair in pairs {
@@ -157,9 +171,11 @@ fn push_row<S: Store, N: NameHash, L: Ledger>(
     pair: &Pair,
     touches: &mut Steps<L>,
 ) -> Result<(), StoreFault>
-    ensures pushed { (p : Profile) (t : Tree) → IsEntry S.X.block32 N.name64 (S.seen store.old).told p pair.now.1 t → Stood (S.seen store.old).faults (S.seen store.new).faults
+    ensures pushed { (p : Profile) (t : Tree) → IsEntry S.X.block32 N.name64 (S.seen store.old).told p pair.now.1 t
+        → Stood (S.seen store.old).faults (S.seen store.new).faults
         → Pushes rows.old rows.new (row_at S.X.block32 N.name64 p pair.now.0 t) result }
-    ensures reads { OnlyReads S.X.block32 (IsBad N.name64 None) (fault_in result) (S.seen store.old) (S.seen store.new) }
+    ensures reads { OnlyReads S.X.block32 (IsBad N.name64 None) (fault_in result) (S.seen store.old)
+        (S.seen store.new) }
 {
     let row = row_of::<S, N, L>(alloc, store, pair, touches)?;
     match rows.push(row) {
@@ -175,9 +191,11 @@ fn row_of<S: Store, N: NameHash, L: Ledger>(
     pair: &Pair,
     touches: &mut Steps<L>,
 ) -> Result<Row, StoreFault>
-    ensures row { (p : Profile) (t : Tree) → IsEntry S.X.block32 N.name64 (S.seen store.old).told p pair.now.1 t → Stood (S.seen store.old).faults (S.seen store.new).faults
+    ensures row { (p : Profile) (t : Tree) → IsEntry S.X.block32 N.name64 (S.seen store.old).told p pair.now.1 t
+        → Stood (S.seen store.old).faults (S.seen store.new).faults
         → Says (row_at S.X.block32 N.name64 p pair.now.0 t) result }
-    ensures reads { OnlyReads S.X.block32 (IsBad N.name64 None) (fault_in result) (S.seen store.old) (S.seen store.new) }
+    ensures reads { OnlyReads S.X.block32 (IsBad N.name64 None) (fault_in result) (S.seen store.old)
+        (S.seen store.new) }
 {
     let size = entry_size::<S, N, L>(alloc, store, &pair.entry, touches)?;
     match pair.name.copy() {
@@ -197,9 +215,11 @@ fn entry_size<S: Store, N: NameHash, L: Ledger>(
     entry: &Entry,
     touches: &mut Steps<L>,
 ) -> Result<u64, StoreFault>
-    ensures sizes { (p : Profile) (t : Tree) → IsEntry S.X.block32 N.name64 (S.seen store.old).told p entry.now t → Stood (S.seen store.old).faults (S.seen store.new).faults
+    ensures sizes { (p : Profile) (t : Tree) → IsEntry S.X.block32 N.name64 (S.seen store.old).told p entry.now t
+        → Stood (S.seen store.old).faults (S.seen store.new).faults
         → Says (size_at t) result }
-    ensures reads { OnlyReads S.X.block32 (IsBad N.name64 None) (fault_in result) (S.seen store.old) (S.seen store.new) }
+    ensures reads { OnlyReads S.X.block32 (IsBad N.name64 None) (fault_in result) (S.seen store.old)
+        (S.seen store.new) }
 {
     match thing_of::<S, N, L>(alloc, store, entry, touches)? {
         Thing::File(_, size) => Ok(size.length),

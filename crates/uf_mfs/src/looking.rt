@@ -8,14 +8,15 @@ ghost use Rattle.uf_mfs.specs.Bad.{IsBad};
 ghost use Rattle.uf_store.specs.Calls.{OnlyReads};
 ghost use Rattle.uf_store.specs.Faults.{fault_in};
 ghost use Rattle.uf_plain.specs.Edits.{at, child};
-ghost use Rattle.uf_mfs.specs.Standing.{IsEntry, IsMember, IsNodeFolder, IsThing, SaysThing};
+ghost use Rattle.uf_mfs.specs.Standing.{IsEntry, IsMember, IsThing, SaysThing};
 ghost use Rattle.uf_mfs.specs.Steps.{stop_fault};
 
-use crate::{Refused, Stop, Thing};
+use crate::{Stop, Thing};
 use std::alloc::Global;
 use std::sync::ledger::Ledger;
 use uf_dir::{Kind, find, kind_of};
 use uf_murmur::NameHash;
+use uf_plain::Refused;
 use uf_store::{Steps, Store, StoreFault};
 use uf_tree::{Entry, Name};
 
@@ -29,9 +30,13 @@ pub(crate) fn look<S: Store, N: NameHash, L: Ledger>(
     touches: &mut Steps<L>,
 ) -> Result<Thing, Stop>
     requires { led + length names.now < 2 ^ 64 }
-    ensures looks { (p : Profile) (es : Entries) → IsEntry S.X.block32 N.name64 (S.seen store.old).told p folder.now (Dir es) → Stood (S.seen store.old).faults (S.seen store.new).faults
-        → Meets (λ t thing. IsThing S.X.block32 N.name64 (S.seen store.new).told p t thing) (at led names.now (Dir es)) result }
-    ensures reads { OnlyReads S.X.block32 (IsBad N.name64 None) (stop_fault result) (S.seen store.old) (S.seen store.new) }
+    ensures looks { (p : Profile) (es : Entries)
+        → IsEntry S.X.block32 N.name64 (S.seen store.old).told p folder.now (Dir es)
+        → Stood (S.seen store.old).faults (S.seen store.new).faults
+        → Meets (λ t thing. IsThing S.X.block32 N.name64 (S.seen store.new).told p t thing) (at led names.now (Dir es))
+        result }
+    ensures reads { OnlyReads S.X.block32 (IsBad N.name64 None) (stop_fault result) (S.seen store.old)
+        (S.seen store.new) }
 {
     match names {
         [] => Ok(Thing::Folder(*folder)),
@@ -57,9 +62,13 @@ pub(crate) fn member<S: Store, N: NameHash, L: Ledger>(
     name: &Name,
     touches: &mut Steps<L>,
 ) -> Result<Option<Thing>, Stop>
-    ensures member { (p : Profile) (es : Entries) → IsEntry S.X.block32 N.name64 (S.seen store.old).told p folder.now (Dir es) → Stood (S.seen store.old).faults (S.seen store.new).faults
-        → Meets (λ t thing. IsMember S.X.block32 N.name64 (S.seen store.new).told p t thing) (Ok (child name.now es)) result }
-    ensures reads { OnlyReads S.X.block32 (IsBad N.name64 None) (stop_fault result) (S.seen store.old) (S.seen store.new) }
+    ensures member { (p : Profile) (es : Entries)
+        → IsEntry S.X.block32 N.name64 (S.seen store.old).told p folder.now (Dir es)
+        → Stood (S.seen store.old).faults (S.seen store.new).faults
+        → Meets (λ t thing. IsMember S.X.block32 N.name64 (S.seen store.new).told p t thing) (Ok (child name.now es))
+        result }
+    ensures reads { OnlyReads S.X.block32 (IsBad N.name64 None) (stop_fault result) (S.seen store.old)
+        (S.seen store.new) }
 {
     match find::<S, N, L>(alloc, store, &folder.cid, name, touches) {
         Err(fault) => Err(Stop::Store(fault)),
@@ -81,7 +90,8 @@ pub(crate) fn thing_of<S: Store, N: NameHash, L: Ledger>(
     ensures thing { (p : Profile) (t : Tree) → IsEntry S.X.block32 N.name64 (S.seen store.old).told p entry.now t
         → Stood (S.seen store.old).faults (S.seen store.new).faults
         → SaysThing S.X.block32 N.name64 (S.seen store.new).told p t result }
-    ensures reads { OnlyReads S.X.block32 (IsBad N.name64 None) (fault_in result) (S.seen store.old) (S.seen store.new) }
+    ensures reads { OnlyReads S.X.block32 (IsBad N.name64 None) (fault_in result) (S.seen store.old)
+        (S.seen store.new) }
 {
     match kind_of(alloc, store, entry, touches)? {
         Kind::Folder => Ok(Thing::Folder(*entry)),

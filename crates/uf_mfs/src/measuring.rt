@@ -33,7 +33,8 @@ pub(crate) fn stat_of<S: Store, N: NameHash, L: Ledger>(
     ensures stat { (p : Profile) (t : Tree) → IsThing S.X.block32 N.name64 (S.seen store.old).told p t thing
         → Stood (S.seen store.old).faults (S.seen store.new).faults
         → Says (stat_at S.X.block32 N.name64 p t) result }
-    ensures reads { OnlyReads S.X.block32 (IsBad N.name64 None) (fault_in result) (S.seen store.old) (S.seen store.new) }
+    ensures reads { OnlyReads S.X.block32 (IsBad N.name64 None) (fault_in result) (S.seen store.old)
+        (S.seen store.new) }
 {
     match thing {
         Thing::File(entry, size) => Ok(Stat {
@@ -63,10 +64,12 @@ fn links_at<S: Store, N: NameHash, L: Ledger>(
     folder: &Entry,
     touches: &mut Steps<L>,
 ) -> Result<u64, StoreFault>
-    ensures children { (p : Profile) (es : Entries) → IsEntry S.X.block32 N.name64 (S.seen store.old).told p folder.now (Dir es)
+    ensures children { (p : Profile) (es : Entries)
+        → IsEntry S.X.block32 N.name64 (S.seen store.old).told p folder.now (Dir es)
         → Stood (S.seen store.old).faults (S.seen store.new).faults
         → Says (children_of S.X.block32 N.name64 p (Dir es)) result }
-    ensures reads { OnlyReads S.X.block32 (IsBad N.name64 None) (fault_in result) (S.seen store.old) (S.seen store.new) }
+    ensures reads { OnlyReads S.X.block32 (IsBad N.name64 None) (fault_in result) (S.seen store.old)
+        (S.seen store.new) }
 {
     need(store, &folder.cid, touches)?;
     match decode_lenient(alloc, store.block()) {

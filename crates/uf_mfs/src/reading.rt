@@ -31,8 +31,11 @@ impl Mfs {
         path: &Path,
         touches: &mut Steps<L>,
     ) -> Result<Rows, MfsFault>
-        ensures answer { (p : Profile) (es : Entries) → StandsAt S.X.block32 N.name64 (S.seen store.old).told self.now p es → Stood (S.seen store.old).faults (S.seen store.new).faults
-            → Answers (λ t rows. rows ≡ rows_at S.X.block32 N.name64 p path.now.names t) path.now.names (at 0 path.now.names (Dir es)) result }
+        ensures answer { (p : Profile) (es : Entries)
+            → StandsAt S.X.block32 N.name64 (S.seen store.old).told self.now p es
+            → Stood (S.seen store.old).faults (S.seen store.new).faults
+            → Answers (λ t rows. rows ≡ rows_at S.X.block32 N.name64 p path.now.names t) path.now.names
+            (at 0 path.now.names (Dir es)) result }
         ensures cause { ShownInTree S.X.block32 (IsBad N.name64 None) result (S.seen store.old) (S.seen store.new) }
         ensures told { (S.seen store.new).told ≡ (S.seen store.old).told }
     {
@@ -54,8 +57,11 @@ impl Mfs {
         path: &Path,
         touches: &mut Steps<L>,
     ) -> Result<Names, MfsFault>
-        ensures answer { (p : Profile) (es : Entries) → StandsAt S.X.block32 N.name64 (S.seen store.old).told self.now p es → Stood (S.seen store.old).faults (S.seen store.new).faults
-            → Answers (λ t names. names ≡ names_at path.now.names t) path.now.names (at 0 path.now.names (Dir es)) result }
+        ensures answer { (p : Profile) (es : Entries)
+            → StandsAt S.X.block32 N.name64 (S.seen store.old).told self.now p es
+            → Stood (S.seen store.old).faults (S.seen store.new).faults
+            → Answers (λ t names. names ≡ names_at path.now.names t) path.now.names (at 0 path.now.names (Dir es))
+            result }
         ensures cause { ShownInTree S.X.block32 (IsBad N.name64 None) result (S.seen store.old) (S.seen store.new) }
         ensures told { (S.seen store.new).told ≡ (S.seen store.old).told }
     {
@@ -77,8 +83,11 @@ impl Mfs {
         path: &Path,
         touches: &mut Steps<L>,
     ) -> Result<Stat, MfsFault>
-        ensures answer { (p : Profile) (es : Entries) → StandsAt S.X.block32 N.name64 (S.seen store.old).told self.now p es → Stood (S.seen store.old).faults (S.seen store.new).faults
-            → Answers (λ t stat. stat ≡ stat_at S.X.block32 N.name64 p t) path.now.names (at 0 path.now.names (Dir es)) result }
+        ensures answer { (p : Profile) (es : Entries)
+            → StandsAt S.X.block32 N.name64 (S.seen store.old).told self.now p es
+            → Stood (S.seen store.old).faults (S.seen store.new).faults
+            → Answers (λ t stat. stat ≡ stat_at S.X.block32 N.name64 p t) path.now.names (at 0 path.now.names (Dir es))
+            result }
         ensures cause { ShownInTree S.X.block32 (IsBad N.name64 None) result (S.seen store.old) (S.seen store.new) }
         ensures told { (S.seen store.new).told ≡ (S.seen store.old).told }
     {

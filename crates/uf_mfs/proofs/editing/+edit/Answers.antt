@@ -1,10 +1,12 @@
-use Rattle.std.proofs.Common.{◌≡◌, ◌+◌, ◌-◌, ◌∷◌, Err, None, drop, length, subst, take}
+use Rattle.std.proofs.Common.{◌≡◌, ◌+◌, ◌-◌, ◌∷◌, Err, None, Some, drop, length, subst, take}
 use Rattle.std.proofs.lemmas.Result.{err_from_is_err_and}
 use Rattle.uf_plain.specs.Edits.{as_folder, change, child, edited}
 use Rattle.uf_mfs.specs.Steps.{EditsFolder}
-use Rattle.uf_store.proofs.Calls.{reads-saves, saves-saves}
+use Rattle.uf_store.proofs.Calls.{reads-saves, saves-by, saves-saves}
 use Rattle.uf_mfs.proofs.Folders.{path-put, path-stopped, steps}
 use Rattle.uf_mfs.proofs.Meeting.{first-rest}
+use Rattle.uf_mfs.specs.Bad.{IsBad}
+use Rattle.uf_mfs.proofs.Judging.{bad-more}
 use Rattle.uf_mfs.proofs.Moving.{meant-later}
 use Rattle.uf_mfs.proofs.editing.+edit.Goals as goal
 
@@ -35,3 +37,9 @@ returns-clause-edits g t c = λ u meant.
 
 pub returns-clause-saves : goal.returns-clause-saves
 returns-clause-saves g t c = saves-saves (saves-saves (reads-saves {f = None} c.in_ok-found.ensures.reads) c.in_ok-entry.ensures.saves) c.put_in.ensures.saves
+
+pub returns-in_err-found-clause-saves : goal.returns-in_err-found-clause-saves
+returns-in_err-found-clause-saves g t c =
+    let N = g.N.NameHash.name64 in let p = c.args.profile.now in
+    let out = err_from_is_err_and c.from_residual.result c.from_residual.ensures.1 in
+    rw (out.1, out.2) (saves-by (IsBad N (Some p)) (bad-more N p) (reads-saves c.in_err-found.ensures.reads))

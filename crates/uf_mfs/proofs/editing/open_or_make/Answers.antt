@@ -1,4 +1,5 @@
 use Rattle.std.proofs.Common.{None, Ok, ap, refl}
+use Rattle.std.proofs.lemmas.Result.{err_from_is_err_and}
 use Rattle.uf_tree.specs.Tree.{Dir}
 use Rattle.uf_store.specs.Faults.{NoneIsBad}
 use Rattle.uf_store.specs.Calls.{OnlySaves}
@@ -19,3 +20,8 @@ returns-in_ok-new-in-None-clause-opens g c = λ p es i calm.
     (c.in_ok-member.ensures.member p es i (calm-first found made calm).faults)
     (empty-told X N p b.told e.told c.in_ok-new-in-None.new c.args.folder.now (Dir es) (entry-later X N p a.told b.told c.args.folder.now (Dir es) found.good i) made.saves
     (c.in_ok-new-in-None.ensures.entry N p) (c.in_ok-new-in-None.ensures.held N p))
+
+pub returns-in_err-member-clause-saves : goal.returns-in_err-member-clause-saves
+returns-in_err-member-clause-saves g c =
+    let out = err_from_is_err_and c.from_residual.result c.from_residual.ensures.1 in
+    rw (out.1, out.2) (reads-saves c.in_err-member.ensures.reads)
