@@ -3,6 +3,7 @@ use Rattle.std.proofs.Common.{◌≡◌, ◌≢◌, ℕ, ◌<◌, ◌≤◌, ◌
 use Rattle.std.specs.Prelude.{IfSome}
 use Rattle.uf_cid.specs.Blocks.{Held}
 use Rattle.uf_cid.specs.declared.cid.Cid.{Cid}
+use Rattle.uf_cid.specs.declared.cid.Codec.TheVariants.{Raw}
 use Rattle.uf_dagpb.specs.Reading.{Fails, node_reads}
 use Rattle.uf_dagpb.specs.declared.fault.PbFault.TheVariants as pb
 use Rattle.uf_dagpb.specs.declared.fault.PbFault.{PbFault}
@@ -13,7 +14,7 @@ use Rattle.uf_store.specs.declared.store.StoreFault.{StoreFault}
 use Rattle.uf_store.specs.declared.store.StoreFault.TheVariants.{Failed, Damaged, Missing, BadBlock, Clash, Memory}
 use Rattle.uf_store.specs.Clashes.{IsLoadFault}
 use Rattle.uf_store.specs.Contents.{Told, held_at}
-use Rattle.uf_store.specs.Faults.{NoneIsBad, Shows, StaysCalm}
+use Rattle.uf_store.specs.Faults.{NoneIsBad, Shown, Shows, StaysCalm}
 use Rattle.uf_store.specs.Keeping.{Agrees, HoldsOne}
 use Rattle.uf_store.specs.Lost.{FindsOver, ReadsOver}
 use Rattle.uf_store.specs.Seen.{Finds, Seen}
@@ -28,22 +29,25 @@ use Rattle.uf_tree.specs.Validity.{IsHash}
 use Rattle.std.specs.declared.option.Option.{Option}
 use Rattle.uf_shard.specs.declared.fault.DirFault.{DirFault}
 use Rattle.uf_shard.specs.declared.fault.DirFault.TheVariants as dir
-use Rattle.uf_shard.specs.Answers.{Shown}
+use Rattle.uf_shard.specs.Answers.{Shown as ShownDir}
 use Rattle.uf_dir.specs.Bad.{IsBadListed}
 use Rattle.uf_dir.specs.Bad as dirs
 use Rattle.uf_dir.proofs.Causes.{shard-off, way-off}
 use Rattle.uf_dir.specs.Planned.{IsPlanned}
-use Rattle.uf_mfs.specs.declared.types.MfsFault.{MfsFault}
-use Rattle.uf_mfs.specs.declared.types.MfsFault.TheVariants as fault
-use Rattle.uf_mfs.specs.declared.types.Refused.{Refused}
-use Rattle.uf_mfs.specs.declared.types.Stop.{Stop}
-use Rattle.uf_mfs.specs.declared.types.Stop.TheVariants as stop
-use Rattle.uf_mfs.specs.declared.types.Thing.TheVariants.{File as FileAt}
-use Rattle.uf_mfs.specs.Answers.{Answers, Meets, Says, ShownStop, Tells, rule_of, stop_of}
+use Rattle.uf_mfs.specs.declared.fault.MfsFault.{MfsFault}
+use Rattle.uf_mfs.specs.declared.fault.MfsFault.TheVariants as fault
+use Rattle.uf_plain.specs.declared.rule.Refused.{Refused}
+use Rattle.uf_mfs.specs.declared.fault.Stop.{Stop}
+use Rattle.uf_mfs.specs.declared.fault.Stop.TheVariants as stop
+use Rattle.uf_mfs.specs.declared.thing.Thing.TheVariants.{File as FileAt}
+use Rattle.uf_mfs.specs.Answers.{Answers, Meets, Says, Tells, stop_of}
+use Rattle.uf_plain.specs.Rules.{rule_of}
 use Rattle.uf_mfs.specs.Bad.{IsBad}
-use Rattle.uf_mfs.specs.Replies.{size}
+use Rattle.uf_mfs.specs.Steps.{stop_fault}
+use Rattle.uf_plain.specs.Replies.{size}
 use Rattle.uf_mfs.specs.Standing.{IsEntry, IsThing}
-use Rattle.uf_mfs.proofs.Counting.{calm-rises, shows-by}
+use Rattle.uf_store.proofs.Causes.{calm-rises}
+use Rattle.uf_store.proofs.Causes.{Shows-by}
 use Rattle.uf_mfs.proofs.Files as files
 use Rattle.uf_mfs.proofs.Holding.{tells-agrees}
 use Rattle.uf_mfs.proofs.Planning.{is-planned, own-told}
@@ -62,7 +66,7 @@ listed-bad N FileNode bytes bad = absurd bad
 listed-bad N Leaf bytes bad = absurd bad
 
 pub listed-shows : (hash : List ℕ → List ℕ) (N : List ℕ → ℕ) (f : StoreFault) (a b : Seen) → Shows hash IsBadListed f a b → Shows hash (IsBad N None) f a b
-listed-shows hash N f a b h = shows-by hash IsBadListed (IsBad N None) f a b (listed-bad N) h
+listed-shows hash N f a b h = Shows-by hash IsBadListed (IsBad N None) f a b (listed-bad N) h
 
 -- a block that is bad where a name is looked up, put or taken out is bad
 way-bad : (N : List ℕ → ℕ) (h : ℕ) (profile : Option Profile) (role : Role) (bytes : List ℕ) → dirs.IsBad N h profile role bytes → IsBad N profile role bytes
@@ -79,16 +83,17 @@ weighed-bad N h profile FileNode bytes bad = absurd bad
 weighed-bad N h profile Leaf bytes bad = absurd bad
 
 pub way-shows : (hash : List ℕ → List ℕ) (N : List ℕ → ℕ) (h : ℕ) (profile : Option Profile) (f : StoreFault) (a b : Seen) → Shows hash (dirs.IsBad N h profile) f a b → Shows hash (IsBad N profile) f a b
-way-shows hash N h profile f a b shows = shows-by hash (dirs.IsBad N h profile) (IsBad N profile) f a b (way-bad N h profile) shows
+way-shows hash N h profile f a b shows = Shows-by hash (dirs.IsBad N h profile) (IsBad N profile) f a b (way-bad N h profile) shows
 
 pub weighed-shows : (hash : List ℕ → List ℕ) (N : List ℕ → ℕ) (h : ℕ) (profile : Option Profile) (f : StoreFault) (a b : Seen) → Shows hash (dirs.IsBadWeighed N h profile) f a b → Shows hash (IsBad N profile) f a b
-weighed-shows hash N h profile f a b shows = shows-by hash (dirs.IsBadWeighed N h profile) (IsBad N profile) f a b (weighed-bad N h profile) shows
+weighed-shows hash N h profile f a b shows = Shows-by hash (dirs.IsBadWeighed N h profile) (IsBad N profile) f a b (weighed-bad N h profile) shows
 
 -- the fault of an edited directory as that of a step
-pub stop-shows : (hash : List ℕ → List ℕ) (N : List ℕ → ℕ) (h : ℕ) (profile : Option Profile) (f : DirFault) (s : Stop) (a b : Seen) → s ≡ stop_of f → Shown {A = Entry} hash (dirs.IsBad N h profile) (Err f) a b → ShownStop hash (IsBad N profile) {A = Entry} (Err s) a b
-stop-shows hash N h profile f s a b is shown = subst (λ (s : Stop). ShownStop hash (IsBad N profile) {A = Entry} (Err s) a b) (sym is) (by f shown)
+pub stop-shows : (hash : List ℕ → List ℕ) (N : List ℕ → ℕ) (h : ℕ) (profile : Option Profile) (f : DirFault) (s : Stop) (a b : Seen) → s ≡ stop_of f → ShownDir {A = Entry} hash (dirs.IsBad N h profile) (Err f) a b
+    → Shown hash (IsBad N profile) (stop_fault {A = Entry} (Err s)) a b
+stop-shows hash N h profile f s a b is shown = subst (λ (s : Stop). Shown hash (IsBad N profile) (stop_fault {A = Entry} (Err s)) a b) (sym is) (by f shown)
   where
-    by : (f : DirFault) → Shown {A = Entry} hash (dirs.IsBad N h profile) (Err f) a b → ShownStop hash (IsBad N profile) {A = Entry} (Err (stop_of f)) a b
+    by : (f : DirFault) → ShownDir {A = Entry} hash (dirs.IsBad N h profile) (Err f) a b → Shown hash (IsBad N profile) (stop_fault {A = Entry} (Err (stop_of f))) a b
     by (dir.Collision first second) shown = shown
     by dir.TooBig shown = shown
     by (dir.Store g) shown = way-shows hash N h profile g a b shown
@@ -126,13 +131,9 @@ answer-then P Q names (Err why) b r h more = absurd h
 
 -- ---- the root block
 
--- a block that isn't read as a node is bad in either role
-pub unread-bad : (N : List ℕ → ℕ) (role : Role) (bytes : List ℕ) (f : PbFault) → (role ≡ Directory) ⊎ (role ≡ FileNode) → length bytes ≤ 2097152 → node_reads bytes ≡ Err f → IsBad N None role bytes
-unread-bad N role bytes f (inl is) size unread = subst (λ r. IsBad N None r bytes) (sym is) (λ c. clash (directory-read None true bytes c (omega (arith, size))))
-  where
-    clash : IsRead bytes → ⊥
-    clash r = (let e : Ok r.0 ≡ Err f = sym r.1 ∙ unread in cc)
-unread-bad N role bytes f (inr is) size unread = subst (λ r. IsBad N None r bytes) (sym is) (λ c. clash (file_node-read None bytes c (omega (arith, size))))
+-- a block that isn't read as a node is no directory's
+unread-bad : (N : List ℕ → ℕ) (bytes : List ℕ) (f : PbFault) → length bytes ≤ 2097152 → node_reads bytes ≡ Err f → IsBad N None Directory bytes
+unread-bad N bytes f size unread = λ c. clash (directory-read None true bytes c (omega (arith, size)))
   where
     clash : IsRead bytes → ⊥
     clash r = (let e : Ok r.0 ≡ Err f = sym r.1 ∙ unread in cc)
@@ -154,28 +155,20 @@ need-fault X N hash p e t (BadBlock c role) a b s stood same load h = absurd loa
 need-fault X N hash p e t (Clash c held bytes) a b s stood same load h = absurd load
 need-fault X N hash p e t Memory a b s stood same load h = refl
 
-pub unread-says : (lent : List ℕ) (cid : Cid) (role : Role) (f : StoreFault) (fault : PbFault) → (f ≡ Memory) ⊎ ((fault ≢ pb.Memory) × (f ≡ BadBlock cid role)) → Fails fault (node_reads lent) → IsRead lent → f ≡ Memory
-unread-says lent cid role f fault (inl is) why read = is
-unread-says lent cid role f fault (inr bad) (inl none) read = absurd (bad.0 none)
-unread-says lent cid role f fault (inr bad) (inr unread) read = absurd (let e : Ok read.0 ≡ Err fault = sym read.1 ∙ unread in cc)
+pub unread-says : (lent : List ℕ) (cid : Cid) (f : StoreFault) (fault : PbFault) → (f ≡ Memory) ⊎ ((fault ≢ pb.Memory) × (f ≡ BadBlock cid Directory)) → Fails fault (node_reads lent) → IsRead lent → f ≡ Memory
+unread-says lent cid f fault (inl is) why read = is
+unread-says lent cid f fault (inr bad) (inl none) read = absurd (bad.0 none)
+unread-says lent cid f fault (inr bad) (inr unread) read = absurd (let e : Ok read.0 ≡ Err fault = sym read.1 ∙ unread in cc)
 
-pub unread-shows : (X : List ℕ → List ℕ) (N : List ℕ → ℕ) (cid : Cid) (role : Role) (f : StoreFault) (fault : PbFault) (a b : Seen) → (role ≡ Directory) ⊎ (role ≡ FileNode)
-    → (f ≡ Memory) ⊎ ((fault ≢ pb.Memory) × (f ≡ BadBlock cid role)) → Fails fault (node_reads b.lent) → Finds X cid a b → StaysCalm a b → Shows X (IsBad N None) f a b
-unread-shows X N cid role f fault a b either (inl is) why finds calm = subst (λ f. Shows X (IsBad N None) f a b) (sym is) (calm-rises a b calm)
-unread-shows X N cid role f fault a b either (inr bad) (inl none) finds calm = absurd (bad.0 none)
-unread-shows X N cid role f fault a b either (inr bad) (inr unread) finds calm =
+pub unread-shows : (X : List ℕ → List ℕ) (N : List ℕ → ℕ) (cid : Cid) (f : StoreFault) (fault : PbFault) (a b : Seen)
+    → (f ≡ Memory) ⊎ ((fault ≢ pb.Memory) × (f ≡ BadBlock cid Directory)) → Fails fault (node_reads b.lent) → Finds X cid a b → StaysCalm a b → Shows X (IsBad N None) f a b
+unread-shows X N cid f fault a b (inl is) why finds calm = subst (λ f. Shows X (IsBad N None) f a b) (sym is) (calm-rises a b calm)
+unread-shows X N cid f fault a b (inr bad) (inl none) finds calm = absurd (bad.0 none)
+unread-shows X N cid f fault a b (inr bad) (inr unread) finds calm =
     subst (λ f. Shows X (IsBad N None) f a b) (sym bad.1) (record {
       rose = omega (arith, finds.counted.finds.rose refl);
       digest = finds.digest;
       is_held = subst (λ told. HoldsOne told cid b.lent) (sym finds.same_told) finds.is_held;
-      bad = unread-bad N role b.lent fault either finds.size unread;
+      bad = unread-bad N b.lent fault finds.size unread;
       calm = calm;
     })
-
--- the size of a file is that of its root block
-pub length-says : (X : List ℕ → List ℕ) (N : List ℕ → ℕ) (told : Told) (p : Profile) (t : Tree) (e : Entry) (r : Result ℕ StoreFault) → IsThing X N told p t (FileAt e)
-    → ((p : Profile) (bytes : List ℕ) (root : Held) → IsFileRoot X p bytes e.cid root → Agrees told (root ∷ []) → FindsOver told (root ∷ []) (length bytes) r) → Says (size t) r
-length-says X N told p (File bytes) e r s says =
-    let held = files.root-told X N p told e bytes s in
-    finds-says told _ _ r held (says p bytes (files.root X N p told e bytes s) (files.is-file-root X N p told e bytes s) (tells-agrees told _ held))
-length-says X N told p (Dir es) e r s says = absurd s

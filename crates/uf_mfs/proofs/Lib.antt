@@ -1,8 +1,11 @@
 pub mod Answering
-pub mod Counting
+pub mod Judging
 pub mod Files
+pub mod Filling
+pub mod Folders
 pub mod Hinge
 pub mod Holding
+pub mod Measured
 pub mod Meeting
 pub mod Membering
 pub mod Moving

@@ -1,6 +1,5 @@
 pub mod Answers
 pub mod Bad
 pub mod Opening
-pub mod Plain
-pub mod Replies
 pub mod Standing
+pub mod Steps

@@ -2,27 +2,27 @@
 ghost use Rattle.std.specs.Prelude.{◌≡◌, IfOk, IsTrue, None, OnErr, Ok, Some, false, true};
 ghost use Rattle.uf_cid.specs.declared.cid.Codec.TheVariants.{DagPb};
 ghost use Rattle.uf_edge.specs.Counts.{Stood};
-ghost use Rattle.uf_store.specs.Calls.{Calm};
-ghost use Rattle.uf_store.specs.Faults.{Answers};
 ghost use Rattle.uf_store.specs.Keeping.{KeepsGood};
 ghost use Rattle.uf_store.specs.Writing.{SavesOnly};
 ghost use Rattle.uf_tree.specs.declared.profile.Profile.{Profile as TheProfile};
 ghost use Rattle.uf_tree.specs.Profiles.{is_profile};
 ghost use Rattle.uf_tree.specs.Tree.{Dir, Entries};
-ghost use Rattle.uf_mfs.specs.Answers.{Edits, Moves, MovesTo, Says, Settles, ShownInTree, ShownStop, allowed};
+ghost use Rattle.uf_mfs.specs.Answers.{Moves, MovesTo, Settles, ShownInTree};
 ghost use Rattle.uf_mfs.specs.Bad.{IsBad};
-ghost use Rattle.uf_mfs.specs.Plain.{at, is_folder_at, made, removed};
+ghost use Rattle.uf_store.specs.Calls.{OnlySaves};
+ghost use Rattle.uf_plain.specs.Edits.{at, made, removed};
 ghost use Rattle.uf_mfs.specs.Standing.{IsEntry, IsMfs, StandsAt};
+ghost use Rattle.uf_mfs.specs.Steps.{EditsFolder, GivesFolder, stop_fault};
 
 use crate::editing::{edit, fill};
-use crate::looking::look;
 use crate::telling::fault_of;
-use crate::{Change, Mfs, MfsFault, Refused, Stop, Thing};
+use crate::{Mfs, MfsFault, Stop};
 use std::alloc::Global;
 use std::sync::ledger::Ledger;
 use uf_murmur::NameHash;
 use uf_path::Path;
-use uf_store::{Steps, Store, StoreFault};
+use uf_plain::{Change, Refused};
+use uf_store::{Steps, Store};
 use uf_tree::{Entry, Name, Profile};
 
 impl Mfs {
@@ -36,15 +36,22 @@ impl Mfs {
         touches: &mut Steps<L>,
     ) -> Result<(), MfsFault>
         requires mfs { IsMfs self.old }
-        ensures answer { (p : TheProfile) (es : Entries) → StandsAt S.X.block32 N.name64 (S.seen store.old).told self.old p es
-            → Stood (S.seen store.old).faults (S.seen store.new).faults → Stood (S.seen store.old).clashes (S.seen store.new).clashes
-            → Moves S.X.block32 N.name64 (S.seen store.new).told p path.now.names self.new (made parents path.now.names es) result }
-        ensures there { (p : TheProfile) (es below : Entries) → StandsAt S.X.block32 N.name64 (S.seen store.old).told self.old p es → Stood (S.seen store.old).faults (S.seen store.new).faults
-            → IsTrue parents → at 0 path.now.names (Dir es) ≡ Ok (Dir below) → ((S.seen store.new).told ≡ (S.seen store.old).told) × (self.new ≡ self.old) }
+        ensures answer { (p : TheProfile) (es : Entries)
+            → StandsAt S.X.block32 N.name64 (S.seen store.old).told self.old p es
+            → Stood (S.seen store.old).faults (S.seen store.new).faults
+            → Stood (S.seen store.old).clashes (S.seen store.new).clashes
+            → Moves S.X.block32 N.name64 (S.seen store.new).told p path.now.names self.new
+            (made parents path.now.names es) result }
+        ensures there { (p : TheProfile) (es below : Entries)
+            → StandsAt S.X.block32 N.name64 (S.seen store.old).told self.old p es
+            → Stood (S.seen store.old).faults (S.seen store.new).faults
+            → IsTrue parents → at 0 path.now.names (Dir es) ≡ Ok (Dir below)
+            → ((S.seen store.new).told ≡ (S.seen store.old).told) × (self.new ≡ self.old) }
         ensures refused { OnErr result (self.new ≡ self.old) }
         ensures mfs { IsMfs self.new }
         ensures profile { self.new.profile ≡ self.old.profile }
-        ensures cause { ShownInTree S.X.block32 (IsBad N.name64 (Some self.old.profile)) result (S.seen store.old) (S.seen store.new) }
+        ensures cause { ShownInTree S.X.block32 (IsBad N.name64 (Some self.old.profile)) result (S.seen store.old)
+            (S.seen store.new) }
         ensures good { KeepsGood S.X.block32 (S.seen store.old).told (S.seen store.new).told }
         ensures saves { SavesOnly S.X.block32 (S.seen store.old).told (S.seen store.new).told }
     {
@@ -71,13 +78,17 @@ impl Mfs {
         touches: &mut Steps<L>,
     ) -> Result<(), MfsFault>
         requires mfs { IsMfs self.old }
-        ensures answer { (p : TheProfile) (es : Entries) → StandsAt S.X.block32 N.name64 (S.seen store.old).told self.old p es
-            → Stood (S.seen store.old).faults (S.seen store.new).faults → Stood (S.seen store.old).clashes (S.seen store.new).clashes
-            → MovesTo S.X.block32 N.name64 (S.seen store.new).told p path.now.names self.new (removed recursive path.now.names es) result }
+        ensures answer { (p : TheProfile) (es : Entries)
+            → StandsAt S.X.block32 N.name64 (S.seen store.old).told self.old p es
+            → Stood (S.seen store.old).faults (S.seen store.new).faults
+            → Stood (S.seen store.old).clashes (S.seen store.new).clashes
+            → MovesTo S.X.block32 N.name64 (S.seen store.new).told p path.now.names self.new
+            (removed recursive path.now.names es) result }
         ensures refused { OnErr result (self.new ≡ self.old) }
         ensures mfs { IsMfs self.new }
         ensures profile { self.new.profile ≡ self.old.profile }
-        ensures cause { ShownInTree S.X.block32 (IsBad N.name64 (Some self.old.profile)) result (S.seen store.old) (S.seen store.new) }
+        ensures cause { ShownInTree S.X.block32 (IsBad N.name64 (Some self.old.profile)) result (S.seen store.old)
+            (S.seen store.new) }
         ensures good { KeepsGood S.X.block32 (S.seen store.old).told (S.seen store.new).told }
         ensures saves { SavesOnly S.X.block32 (S.seen store.old).told (S.seen store.new).told }
     {
@@ -102,7 +113,6 @@ impl Mfs {
         edited: Result<Entry, Stop>,
     ) -> Result<(), MfsFault>
         requires mfs { IsMfs self.old }
-        requires node { IfOk edited (λ e. e.cid.codec ≡ DagPb) }
         ensures settles { Settles names.now edited self.old self.new result }
         ensures refused { OnErr result (self.new ≡ self.old) }
         ensures mfs { IsMfs self.new }
@@ -129,12 +139,10 @@ fn removed_root<S: Store, N: NameHash, L: Ledger>(
     touches: &mut Steps<L>,
 ) -> Result<Entry, Stop>
     requires profile { IsTrue (is_profile profile.now) }
-    ensures edits { (es : Entries) → IsEntry S.X.block32 N.name64 (S.seen store.old).told profile.now root.now (Dir es) → Calm (S.seen store.old) (S.seen store.new)
-        → Edits S.X.block32 N.name64 (S.seen store.new).told profile.now (removed recursive names.now es) result }
-    ensures node { IfOk result (λ e. e.cid.codec ≡ DagPb) }
-    ensures cause { ShownStop S.X.block32 (IsBad N.name64 (Some profile.now)) result (S.seen store.old) (S.seen store.new) }
-    ensures good { KeepsGood S.X.block32 (S.seen store.old).told (S.seen store.new).told }
-    ensures saves { SavesOnly S.X.block32 (S.seen store.old).told (S.seen store.new).told }
+    ensures edits { GivesFolder S.X.block32 N.name64 profile.now (S.seen store.old) (S.seen store.new) root.now
+        (removed recursive names.now) result }
+    ensures saves { OnlySaves S.X.block32 (IsBad N.name64 (Some profile.now)) (stop_fault result) (S.seen store.old)
+        (S.seen store.new) }
 {
     match names {
         [] => Err(Stop::Refused(Refused::RootRefused)),
@@ -163,15 +171,15 @@ fn made_root<S: Store, N: NameHash, L: Ledger>(
     touches: &mut Steps<L>,
 ) -> Result<Entry, Stop>
     requires profile { IsTrue (is_profile profile.now) }
-    requires node { root.now.cid.codec ≡ DagPb }
-    ensures edits { (es : Entries) → IsEntry S.X.block32 N.name64 (S.seen store.old).told profile.now root.now (Dir es) → Calm (S.seen store.old) (S.seen store.new)
-        → Edits S.X.block32 N.name64 (S.seen store.new).told profile.now (allowed S.X.block32 N.name64 profile.now (made parents names.now es)) result }
-    ensures there { (es below : Entries) → IsEntry S.X.block32 N.name64 (S.seen store.old).told profile.now root.now (Dir es) → Stood (S.seen store.old).faults (S.seen store.new).faults
-        → IsTrue parents → at 0 names.now (Dir es) ≡ Ok (Dir below) → ((S.seen store.new).told ≡ (S.seen store.old).told) × IfOk result (λ e. e ≡ root.now) }
-    ensures node { IfOk result (λ e. e.cid.codec ≡ DagPb) }
-    ensures cause { ShownStop S.X.block32 (IsBad N.name64 (Some profile.now)) result (S.seen store.old) (S.seen store.new) }
-    ensures good { KeepsGood S.X.block32 (S.seen store.old).told (S.seen store.new).told }
-    ensures saves { SavesOnly S.X.block32 (S.seen store.old).told (S.seen store.new).told }
+    ensures edits { EditsFolder S.X.block32 N.name64 profile.now (S.seen store.old) (S.seen store.new) root.now
+        (made parents names.now) result }
+    ensures there { (es below : Entries)
+        → IsEntry S.X.block32 N.name64 (S.seen store.old).told profile.now root.now (Dir es)
+        → Stood (S.seen store.old).faults (S.seen store.new).faults
+        → IsTrue parents → at 0 names.now (Dir es) ≡ Ok (Dir below)
+        → ((S.seen store.new).told ≡ (S.seen store.old).told) × IfOk result (λ e. e ≡ root.now) }
+    ensures saves { OnlySaves S.X.block32 (IsBad N.name64 (Some profile.now)) (stop_fault result) (S.seen store.old)
+        (S.seen store.new) }
 {
     if parents {
         all_made::<S, N, L>(alloc, store, profile, root, names, touches)
@@ -190,12 +198,10 @@ fn one_made<S: Store, N: NameHash, L: Ledger>(
     touches: &mut Steps<L>,
 ) -> Result<Entry, Stop>
     requires profile { IsTrue (is_profile profile.now) }
-    ensures edits { (es : Entries) → IsEntry S.X.block32 N.name64 (S.seen store.old).told profile.now root.now (Dir es) → Calm (S.seen store.old) (S.seen store.new)
-        → Edits S.X.block32 N.name64 (S.seen store.new).told profile.now (allowed S.X.block32 N.name64 profile.now (made false names.now es)) result }
-    ensures node { IfOk result (λ e. e.cid.codec ≡ DagPb) }
-    ensures cause { ShownStop S.X.block32 (IsBad N.name64 (Some profile.now)) result (S.seen store.old) (S.seen store.new) }
-    ensures good { KeepsGood S.X.block32 (S.seen store.old).told (S.seen store.new).told }
-    ensures saves { SavesOnly S.X.block32 (S.seen store.old).told (S.seen store.new).told }
+    ensures edits { EditsFolder S.X.block32 N.name64 profile.now (S.seen store.old) (S.seen store.new) root.now
+        (made false names.now) result }
+    ensures saves { OnlySaves S.X.block32 (IsBad N.name64 (Some profile.now)) (stop_fault result) (S.seen store.old)
+        (S.seen store.new) }
 {
     match names {
         [] => Err(Stop::Refused(Refused::Exists(0))),
@@ -223,40 +229,18 @@ fn all_made<S: Store, N: NameHash, L: Ledger>(
     touches: &mut Steps<L>,
 ) -> Result<Entry, Stop>
     requires profile { IsTrue (is_profile profile.now) }
-    requires node { root.now.cid.codec ≡ DagPb }
-    ensures edits { (es : Entries) → IsEntry S.X.block32 N.name64 (S.seen store.old).told profile.now root.now (Dir es) → Calm (S.seen store.old) (S.seen store.new)
-        → Edits S.X.block32 N.name64 (S.seen store.new).told profile.now (allowed S.X.block32 N.name64 profile.now (made true names.now es)) result }
-    ensures there { (es below : Entries) → IsEntry S.X.block32 N.name64 (S.seen store.old).told profile.now root.now (Dir es) → Stood (S.seen store.old).faults (S.seen store.new).faults
-        → at 0 names.now (Dir es) ≡ Ok (Dir below) → ((S.seen store.new).told ≡ (S.seen store.old).told) × IfOk result (λ e. e ≡ root.now) }
-    ensures node { IfOk result (λ e. e.cid.codec ≡ DagPb) }
-    ensures cause { ShownStop S.X.block32 (IsBad N.name64 (Some profile.now)) result (S.seen store.old) (S.seen store.new) }
-    ensures good { KeepsGood S.X.block32 (S.seen store.old).told (S.seen store.new).told }
-    ensures saves { SavesOnly S.X.block32 (S.seen store.old).told (S.seen store.new).told }
+    ensures edits { EditsFolder S.X.block32 N.name64 profile.now (S.seen store.old) (S.seen store.new) root.now
+        (made true names.now) result }
+    ensures there { (es below : Entries)
+        → IsEntry S.X.block32 N.name64 (S.seen store.old).told profile.now root.now (Dir es)
+        → Stood (S.seen store.old).faults (S.seen store.new).faults
+        → at 0 names.now (Dir es) ≡ Ok (Dir below) → ((S.seen store.new).told ≡ (S.seen store.old).told)
+        × IfOk result (λ e. e ≡ root.now) }
+    ensures saves { OnlySaves S.X.block32 (IsBad N.name64 (Some profile.now)) (stop_fault result) (S.seen store.old)
+        (S.seen store.new) }
 {
-    match is_there::<S, N, L>(alloc, store, root, names, touches) {
-        Err(fault) => Err(Stop::Store(fault)),
-        Ok(true) => Ok(*root),
-        Ok(false) => fill::<S, N, L>(alloc, store, profile, 0, names, root, touches),
-    }
-}
-
-// Whether the names lead to a folder.
-fn is_there<S: Store, N: NameHash, L: Ledger>(
-    alloc: Global,
-    store: &mut S,
-    root: &Entry,
-    names: &[Name],
-    touches: &mut Steps<L>,
-) -> Result<bool, StoreFault>
-    ensures there { (p : TheProfile) (es : Entries) → IsEntry S.X.block32 N.name64 (S.seen store.old).told p root.now (Dir es) → Stood (S.seen store.old).faults (S.seen store.new).faults
-        → Says (is_folder_at (at 0 names.now (Dir es))) result }
-    ensures cause { Answers S.X.block32 (IsBad N.name64 None) result (S.seen store.old) (S.seen store.new) }
-    ensures told { (S.seen store.new).told ≡ (S.seen store.old).told }
-{
-    match look::<S, N, L>(alloc, store, 0, names, root, touches) {
-        Err(Stop::Store(fault)) => Err(fault),
-        Err(Stop::Refused(_)) => Ok(false),
-        Ok(Thing::File(_)) => Ok(false),
-        Ok(Thing::Folder(_)) => Ok(true),
+    match fill::<S, N, L>(alloc, store, profile, 0, names, root, touches)? {
+        None => Ok(*root),
+        Some(new) => Ok(new),
     }
 }

@@ -1,26 +1,31 @@
 // An edit along a path: each folder on it gets the new entry of the one below.
-ghost use Rattle.std.specs.Prelude.{◌≡◌, ◌≢◌, ◌+◌, ◌<◌, ◌^◌, List, ℕ, IfOk, IsTrue, None, Ok, Some, length};
+ghost use Rattle.std.specs.Prelude.{◌≡◌, ◌≢◌, ◌+◌, ◌<◌, ◌^◌, List, ℕ, IfOk, IfSome, IsTrue, None, Ok, Some, length};
 ghost use Rattle.std.specs.declared.option.Option.{Option as TheOption};
 ghost use Rattle.uf_cid.specs.declared.cid.Codec.TheVariants.{DagPb};
-ghost use Rattle.uf_store.specs.Calls.{Calm};
+ghost use Rattle.uf_edge.specs.Counts.{Stood};
 ghost use Rattle.uf_store.specs.Contents.{Told};
-ghost use Rattle.uf_store.specs.Keeping.{KeepsGood};
-ghost use Rattle.uf_store.specs.Writing.{SavesOnly};
 ghost use Rattle.uf_tree.specs.declared.profile.Profile.{Profile as TheProfile};
 ghost use Rattle.uf_tree.specs.Names.{is_name};
 ghost use Rattle.uf_tree.specs.Profiles.{is_profile};
 ghost use Rattle.uf_tree.specs.Tree.{Dir, Entries, Nothing, Tree};
-ghost use Rattle.uf_mfs.specs.Answers.{Decides, Edits, ShownStop, allowed, stop_of as the_stop};
+ghost use Rattle.uf_store.specs.Calls.{Calm};
+ghost use Rattle.uf_mfs.specs.Answers.{Decides, Edits};
+ghost use Rattle.uf_plain.specs.Rules.{allowed};
 ghost use Rattle.uf_mfs.specs.Bad.{IsBad};
-ghost use Rattle.uf_mfs.specs.Plain.{as_folder, as_free, as_removable, change, child, done, edited, made_all, may_be, or_new, with_child, without_child};
+ghost use Rattle.uf_store.specs.Calls.{OnlySaves};
+ghost use Rattle.uf_plain.specs.Edits.{as_folder, as_free, as_removable, at, change, child, done, edited, made_all};
+ghost use Rattle.uf_plain.specs.Edits.{may_be, or_new, with_child, without_child};
 ghost use Rattle.uf_mfs.specs.Standing.{IsEntry, IsMeant, IsMember};
+ghost use Rattle.uf_mfs.specs.Steps.{EditsFolder, FillsFolder, GivesFolder, IsOpened, changed_below, opened};
+ghost use Rattle.uf_mfs.specs.Steps.{stop_fault};
 
 use crate::looking::member;
-use crate::{Change, Refused, Stop, Thing};
+use crate::{Stop, Thing};
 use std::alloc::Global;
 use std::sync::ledger::Ledger;
-use uf_dir::{DirFault, empty, put, remove};
+use uf_dir::{empty, put, remove};
 use uf_murmur::NameHash;
+use uf_plain::{Change, Refused};
 use uf_store::{Steps, Store};
 use uf_tree::{Entry, Name, Profile};
 
@@ -39,52 +44,43 @@ pub(crate) fn edit<S: Store, N: NameHash, L: Ledger>(
 ) -> Result<Entry, Stop>
     requires profile { IsTrue (is_profile profile.now) }
     requires few { led + length rest.now + 1 < 2 ^ 64 }
-    ensures edits { (t : Tree) (es : Entries) → IsMeant S.X.block32 N.name64 (S.seen store.old).told profile.now what t → IsEntry S.X.block32 N.name64 (S.seen store.old).told profile.now folder.now (Dir es)
-        → Calm (S.seen store.old) (S.seen store.new)
-        → Edits S.X.block32 N.name64 (S.seen store.new).told profile.now (allowed S.X.block32 N.name64 profile.now (edited (change what t) led name.now rest.now es)) result }
-    ensures node { IfOk result (λ e. e.cid.codec ≡ DagPb) }
-    ensures cause { ShownStop S.X.block32 (IsBad N.name64 (Some profile.now)) result (S.seen store.old) (S.seen store.new) }
-    ensures good { KeepsGood S.X.block32 (S.seen store.old).told (S.seen store.new).told }
-    ensures saves { SavesOnly S.X.block32 (S.seen store.old).told (S.seen store.new).told }
+    ensures edits { (t : Tree) → IsMeant S.X.block32 N.name64 (S.seen store.old).told profile.now what t
+        → EditsFolder S.X.block32 N.name64 profile.now (S.seen store.old) (S.seen store.new) folder.now
+        (edited (change what t) led name.now rest.now) result }
+    ensures saves { OnlySaves S.X.block32 (IsBad N.name64 (Some profile.now)) (stop_fault result) (S.seen store.old)
+        (S.seen store.new) }
 {
-    match member::<S, N, L>(alloc, store, folder, name, touches) {
-        Err(stop) => Err(stop),
-        Ok(found) => match rest {
-            [] => edit_here::<S, N, L>(
-                alloc,
-                store,
-                profile,
-                what,
-                led + 1,
-                name,
-                folder,
-                found,
-                touches,
-            ),
-            [next, more @ ..] => match folder_of(led + 1, found) {
-                Err(why) => Err(Stop::Refused(why)),
-                Ok(below) => match edit::<S, N, L>(
-                    alloc,
-                    store,
-                    profile,
-                    what,
-                    led + 1,
-                    next,
-                    more,
-                    &below,
-                    touches,
-                ) {
-                    Err(stop) => Err(stop),
-                    Ok(entry) => put_in::<S, N, L>(
-                        alloc, store, profile, folder, name, &entry, touches,
-                    ),
-                },
-            },
-        },
-    }
+    let found = member::<S, N, L>(alloc, store, folder, name, touches)?;
+    let [next, more @ ..] = rest else {
+        return edit_here::<S, N, L>(
+            alloc,
+            store,
+            profile,
+            what,
+            led + 1,
+            name,
+            folder,
+            found,
+            touches,
+        );
+    };
+    let below = folder_of(led + 1, found)?;
+    let entry = edit::<S, N, L>(
+        alloc,
+        store,
+        profile,
+        what,
+        led + 1,
+        next,
+        more,
+        &below,
+        touches,
+    )?;
+    put_in::<S, N, L>(alloc, store, profile, folder, name, &entry, touches)
 }
 
-/// Makes each folder that is missing along the names from this folder, and answers the entry of this folder then.
+/// Makes each folder that is missing along the names from this folder, and answers the entry of this folder then, or none
+/// where each is there.
 pub(crate) fn fill<S: Store, N: NameHash, L: Ledger>(
     alloc: Global,
     store: &mut S,
@@ -93,47 +89,42 @@ pub(crate) fn fill<S: Store, N: NameHash, L: Ledger>(
     names: &[Name],
     folder: &Entry,
     touches: &mut Steps<L>,
-) -> Result<Entry, Stop>
+) -> Result<Option<Entry>, Stop>
     requires profile { IsTrue (is_profile profile.now) }
     requires few { led + length names.now < 2 ^ 64 }
-    requires node { folder.now.cid.codec ≡ DagPb }
-    ensures edits { (es : Entries) → IsEntry S.X.block32 N.name64 (S.seen store.old).told profile.now folder.now (Dir es) → Calm (S.seen store.old) (S.seen store.new)
-        → Edits S.X.block32 N.name64 (S.seen store.new).told profile.now (allowed S.X.block32 N.name64 profile.now (made_all led names.now es)) result }
-    ensures node { IfOk result (λ e. e.cid.codec ≡ DagPb) }
-    ensures cause { ShownStop S.X.block32 (IsBad N.name64 (Some profile.now)) result (S.seen store.old) (S.seen store.new) }
-    ensures good { KeepsGood S.X.block32 (S.seen store.old).told (S.seen store.new).told }
-    ensures saves { SavesOnly S.X.block32 (S.seen store.old).told (S.seen store.new).told }
+    ensures fills { FillsFolder S.X.block32 N.name64 profile.now (S.seen store.old) (S.seen store.new) folder.now
+        (made_all led names.now) result }
+    ensures there { (es below : Entries)
+        → IsEntry S.X.block32 N.name64 (S.seen store.old).told profile.now folder.now (Dir es)
+        → Stood (S.seen store.old).faults (S.seen store.new).faults
+        → at led names.now (Dir es) ≡ Ok (Dir below) → ((S.seen store.new).told ≡ (S.seen store.old).told)
+        × IfOk result (λ new. new ≡ None) }
+    ensures saves { OnlySaves S.X.block32 (IsBad N.name64 (Some profile.now)) (stop_fault result) (S.seen store.old)
+        (S.seen store.new) }
 {
-    match names {
-        [] => Ok(*folder),
-        [name, rest @ ..] => match open_or_make::<S, N, L>(
-            alloc,
-            store,
-            led + 1,
-            name,
-            folder,
-            touches,
-        ) {
-            Err(stop) => Err(stop),
-            Ok(start) => match fill::<S, N, L>(
-                alloc,
-                store,
-                profile,
-                led + 1,
-                rest,
-                &start,
-                touches,
-            ) {
-                Err(stop) => Err(stop),
-                Ok(below) => put_in::<S, N, L>(
-                    alloc, store, profile, folder, name, &below, touches,
-                ),
-            },
-        },
+    let [name, rest @ ..] = names else {
+        return Ok(None);
+    };
+    let start = open_or_make::<S, N, L>(alloc, store, led + 1, name, folder, touches)?;
+    let filled = fill::<S, N, L>(alloc, store, profile, led + 1, rest, &start.0, touches)?;
+    let Some(below) = below_of(start, filled) else {
+        return Ok(None);
+    };
+    let new = put_in::<S, N, L>(alloc, store, profile, folder, name, &below, touches)?;
+    Ok(Some(new))
+}
+
+// The folder below, where it is new or was changed.
+fn below_of(start: (Entry, bool), filled: Option<Entry>) -> Option<Entry>
+    ensures { result ≡ changed_below start filled }
+{
+    match filled {
+        Some(below) => Some(below),
+        None => { if start.1 { Some(start.0) } else { None } }
     }
 }
 
-// The folder of a name, and a new one where the name isn't there.
+// The folder of a name, and a new one where the name isn't there; says whether it is new.
 fn open_or_make<S: Store, N: NameHash, L: Ledger>(
     alloc: Global,
     store: &mut S,
@@ -141,33 +132,40 @@ fn open_or_make<S: Store, N: NameHash, L: Ledger>(
     name: &Name,
     folder: &Entry,
     touches: &mut Steps<L>,
-) -> Result<Entry, Stop>
-    ensures opens { (p : TheProfile) (es : Entries) → IsEntry S.X.block32 N.name64 (S.seen store.old).told p folder.now (Dir es) → Calm (S.seen store.old) (S.seen store.new)
-        → Edits S.X.block32 N.name64 (S.seen store.new).told p (or_new led (child name.now es)) result }
-    ensures node { IfOk result (λ e. e.cid.codec ≡ DagPb) }
-    ensures cause { ShownStop S.X.block32 (IsBad N.name64 None) result (S.seen store.old) (S.seen store.new) }
-    ensures good { KeepsGood S.X.block32 (S.seen store.old).told (S.seen store.new).told }
-    ensures saves { SavesOnly S.X.block32 (S.seen store.old).told (S.seen store.new).told }
+) -> Result<(Entry, bool), Stop>
+    ensures opens { (p : TheProfile)
+        → GivesFolder S.X.block32 N.name64 p (S.seen store.old) (S.seen store.new) folder.now
+        (λ es. or_new led (child name.now es)) (opened result) }
+    ensures found { (p : TheProfile) (es : Entries)
+        → IsEntry S.X.block32 N.name64 (S.seen store.old).told p folder.now (Dir es)
+        → Stood (S.seen store.old).faults (S.seen store.new).faults
+        → IfOk result (λ found. IsOpened S.X.block32 N.name64 (S.seen store.new).told p (child name.now es) found) }
+    ensures there { (p : TheProfile) (es : Entries)
+        → IsEntry S.X.block32 N.name64 (S.seen store.old).told p folder.now (Dir es)
+        → Stood (S.seen store.old).faults (S.seen store.new).faults
+        → child name.now es ≢ None → (S.seen store.new).told ≡ (S.seen store.old).told }
+    ensures saves { OnlySaves S.X.block32 (IsBad N.name64 None) (stop_fault result) (S.seen store.old)
+        (S.seen store.new) }
 {
-    match member::<S, N, L>(alloc, store, folder, name, touches) {
-        Err(stop) => Err(stop),
-        Ok(None) => match empty(alloc, store, touches) {
-            Err(fault) => Err(Stop::Store(fault)),
-            Ok(new) => Ok(new),
-        },
-        Ok(Some(Thing::File(_))) => Err(Stop::Refused(Refused::NotADirectory(led))),
-        Ok(Some(Thing::Folder(entry))) => Ok(entry),
+    match member::<S, N, L>(alloc, store, folder, name, touches)? {
+        None => {
+            let new = empty(alloc, store, touches)?;
+            Ok((new, true))
+        }
+        Some(Thing::File(_, _)) => Err(Stop::Refused(Refused::NotADirectory(led))),
+        Some(Thing::Folder(entry)) => Ok((entry, false)),
     }
 }
 
 // The entry of a member that has to be a folder.
 fn folder_of(led: usize, found: Option<Thing>) -> Result<Entry, Refused>
-    ensures { (X : List ℕ → List ℕ) (N : List ℕ → ℕ) (told : Told) (p : TheProfile) (o : TheOption Tree) → IsMember X N told p o found
+    ensures { (X : List ℕ → List ℕ) (N : List ℕ → ℕ) (told : Told) (p : TheProfile) (o : TheOption Tree)
+        → IsMember X N told p o found
         → Decides (λ es e. IsEntry X N told p e (Dir es)) (as_folder led o) result }
 {
     match found {
         None => Err(Refused::NotFound(led)),
-        Some(Thing::File(_)) => Err(Refused::NotADirectory(led)),
+        Some(Thing::File(_, _)) => Err(Refused::NotADirectory(led)),
         Some(Thing::Folder(entry)) => Ok(entry),
     }
 }
@@ -185,31 +183,29 @@ fn edit_here<S: Store, N: NameHash, L: Ledger>(
     touches: &mut Steps<L>,
 ) -> Result<Entry, Stop>
     requires profile { IsTrue (is_profile profile.now) }
-    ensures edits { (t : Tree) (es : Entries) → IsMeant S.X.block32 N.name64 (S.seen store.old).told profile.now what t → IsEntry S.X.block32 N.name64 (S.seen store.old).told profile.now folder.now (Dir es)
-        → IsMember S.X.block32 N.name64 (S.seen store.old).told profile.now (child name.now es) found → Calm (S.seen store.old) (S.seen store.new)
-        → Edits S.X.block32 N.name64 (S.seen store.new).told profile.now (allowed S.X.block32 N.name64 profile.now (change what t led name.now es)) result }
-    ensures node { IfOk result (λ e. e.cid.codec ≡ DagPb) }
-    ensures cause { ShownStop S.X.block32 (IsBad N.name64 (Some profile.now)) result (S.seen store.old) (S.seen store.new) }
-    ensures good { KeepsGood S.X.block32 (S.seen store.old).told (S.seen store.new).told }
-    ensures saves { SavesOnly S.X.block32 (S.seen store.old).told (S.seen store.new).told }
+    ensures edits { (t : Tree) (es : Entries) → IsMeant S.X.block32 N.name64 (S.seen store.old).told profile.now what t
+        → IsEntry S.X.block32 N.name64 (S.seen store.old).told profile.now folder.now (Dir es)
+        → IsMember S.X.block32 N.name64 (S.seen store.old).told profile.now (child name.now es) found
+        → Calm (S.seen store.old) (S.seen store.new)
+        → Edits S.X.block32 N.name64 (S.seen store.new).told profile.now
+        (allowed S.X.block32 N.name64 profile.now (change what t led name.now es)) result }
+    ensures saves { OnlySaves S.X.block32 (IsBad N.name64 (Some profile.now)) (stop_fault result) (S.seen store.old)
+        (S.seen store.new) }
 {
-    match may(what, led, found) {
-        Err(why) => Err(Stop::Refused(why)),
-        Ok(()) => match what {
-            Change::Make => make_in::<S, N, L>(alloc, store, profile, folder, name, touches),
-            Change::Put(new) => put_in::<S, N, L>(
-                alloc, store, profile, folder, name, &new, touches,
-            ),
-            Change::Remove(_) => {
-                take_out::<S, N, L>(alloc, store, profile, led, folder, name, touches)
-            }
-        },
+    may(what, led, found)?;
+    match what {
+        Change::Make => make_in::<S, N, L>(alloc, store, profile, folder, name, touches),
+        Change::Put(new) => put_in::<S, N, L>(alloc, store, profile, folder, name, &new, touches),
+        Change::Remove(_) => {
+            take_out::<S, N, L>(alloc, store, profile, led, folder, name, touches)
+        }
     }
 }
 
 // Whether an edit may be done, by what was found under its name.
 fn may(what: Change, led: usize, found: Option<Thing>) -> Result<(), Refused>
-    ensures { (X : List ℕ → List ℕ) (N : List ℕ → ℕ) (told : Told) (p : TheProfile) (o : TheOption Tree) → IsMember X N told p o found
+    ensures { (X : List ℕ → List ℕ) (N : List ℕ → ℕ) (told : Told) (p : TheProfile) (o : TheOption Tree)
+        → IsMember X N told p o found
         → Decides (λ a b. Unit {0}) (may_be what led o) result }
 {
     match what {
@@ -221,7 +217,8 @@ fn may(what: Change, led: usize, found: Option<Thing>) -> Result<(), Refused>
 
 // Whether a name is free.
 fn may_put(led: usize, found: Option<Thing>) -> Result<(), Refused>
-    ensures { (X : List ℕ → List ℕ) (N : List ℕ → ℕ) (told : Told) (p : TheProfile) (o : TheOption Tree) → IsMember X N told p o found
+    ensures { (X : List ℕ → List ℕ) (N : List ℕ → ℕ) (told : Told) (p : TheProfile) (o : TheOption Tree)
+        → IsMember X N told p o found
         → Decides (λ a b. Unit {0}) (as_free led o) result }
 {
     match found {
@@ -232,12 +229,13 @@ fn may_put(led: usize, found: Option<Thing>) -> Result<(), Refused>
 
 // Whether a member may be taken away.
 fn may_take(recursive: bool, led: usize, found: Option<Thing>) -> Result<(), Refused>
-    ensures { (X : List ℕ → List ℕ) (N : List ℕ → ℕ) (told : Told) (p : TheProfile) (o : TheOption Tree) → IsMember X N told p o found
+    ensures { (X : List ℕ → List ℕ) (N : List ℕ → ℕ) (told : Told) (p : TheProfile) (o : TheOption Tree)
+        → IsMember X N told p o found
         → Decides (λ a b. Unit {0}) (as_removable recursive led o) result }
 {
     match found {
         None => Err(Refused::NotFound(led)),
-        Some(Thing::File(_)) => Ok(()),
+        Some(Thing::File(_, _)) => Ok(()),
         Some(Thing::Folder(_)) => {
             if recursive {
                 Ok(())
@@ -258,17 +256,13 @@ fn make_in<S: Store, N: NameHash, L: Ledger>(
     touches: &mut Steps<L>,
 ) -> Result<Entry, Stop>
     requires profile { IsTrue (is_profile profile.now) }
-    ensures edits { (es : Entries) → IsEntry S.X.block32 N.name64 (S.seen store.old).told profile.now folder.now (Dir es) → Calm (S.seen store.old) (S.seen store.new)
-        → Edits S.X.block32 N.name64 (S.seen store.new).told profile.now (allowed S.X.block32 N.name64 profile.now (Ok (with_child name.now (Dir Nothing) es))) result }
-    ensures node { IfOk result (λ e. e.cid.codec ≡ DagPb) }
-    ensures cause { ShownStop S.X.block32 (IsBad N.name64 (Some profile.now)) result (S.seen store.old) (S.seen store.new) }
-    ensures good { KeepsGood S.X.block32 (S.seen store.old).told (S.seen store.new).told }
-    ensures saves { SavesOnly S.X.block32 (S.seen store.old).told (S.seen store.new).told }
+    ensures edits { EditsFolder S.X.block32 N.name64 profile.now (S.seen store.old) (S.seen store.new) folder.now
+        (λ es. Ok (with_child name.now (Dir Nothing) es)) result }
+    ensures saves { OnlySaves S.X.block32 (IsBad N.name64 (Some profile.now)) (stop_fault result) (S.seen store.old)
+        (S.seen store.new) }
 {
-    match empty(alloc, store, touches) {
-        Err(fault) => Err(Stop::Store(fault)),
-        Ok(new) => put_in::<S, N, L>(alloc, store, profile, folder, name, &new, touches),
-    }
+    let new = empty(alloc, store, touches)?;
+    put_in::<S, N, L>(alloc, store, profile, folder, name, &new, touches)
 }
 
 /// Puts an entry into this folder.
@@ -282,19 +276,15 @@ pub(crate) fn put_in<S: Store, N: NameHash, L: Ledger>(
     touches: &mut Steps<L>,
 ) -> Result<Entry, Stop>
     requires profile { IsTrue (is_profile profile.now) }
-    ensures edits { (t : Tree) (es : Entries) → IsEntry S.X.block32 N.name64 (S.seen store.old).told profile.now folder.now (Dir es) → IsEntry S.X.block32 N.name64 (S.seen store.old).told profile.now entry.now t
-        → Calm (S.seen store.old) (S.seen store.new)
-        → Edits S.X.block32 N.name64 (S.seen store.new).told profile.now (allowed S.X.block32 N.name64 profile.now (Ok (with_child name.now t es))) result }
-    ensures node { IfOk result (λ e. e.cid.codec ≡ DagPb) }
-    ensures cause { ShownStop S.X.block32 (IsBad N.name64 (Some profile.now)) result (S.seen store.old) (S.seen store.new) }
-    ensures good { KeepsGood S.X.block32 (S.seen store.old).told (S.seen store.new).told }
-    ensures saves { SavesOnly S.X.block32 (S.seen store.old).told (S.seen store.new).told }
+    ensures edits { (t : Tree) → IsEntry S.X.block32 N.name64 (S.seen store.old).told profile.now entry.now t
+        → EditsFolder S.X.block32 N.name64 profile.now (S.seen store.old) (S.seen store.new) folder.now
+        (λ es. Ok (with_child name.now t es)) result }
+    ensures saves { OnlySaves S.X.block32 (IsBad N.name64 (Some profile.now)) (stop_fault result) (S.seen store.old)
+        (S.seen store.new) }
 {
     names_are_good(name);
-    match put::<S, N, L>(alloc, store, profile, &folder.cid, name, entry, touches) {
-        Err(fault) => Err(stop_of(fault)),
-        Ok(new) => Ok(new),
-    }
+    let new = put::<S, N, L>(alloc, store, profile, &folder.cid, name, entry, touches)?;
+    Ok(new)
 }
 
 // Takes a member out of this folder.
@@ -308,28 +298,18 @@ fn take_out<S: Store, N: NameHash, L: Ledger>(
     touches: &mut Steps<L>,
 ) -> Result<Entry, Stop>
     requires profile { IsTrue (is_profile profile.now) }
-    ensures edits { (es : Entries) → IsEntry S.X.block32 N.name64 (S.seen store.old).told profile.now folder.now (Dir es) → child name.now es ≢ None → Calm (S.seen store.old) (S.seen store.new)
-        → Edits S.X.block32 N.name64 (S.seen store.new).told profile.now (allowed S.X.block32 N.name64 profile.now (Ok (without_child name.now es))) result }
-    ensures node { IfOk result (λ e. e.cid.codec ≡ DagPb) }
-    ensures cause { ShownStop S.X.block32 (IsBad N.name64 (Some profile.now)) result (S.seen store.old) (S.seen store.new) }
-    ensures good { KeepsGood S.X.block32 (S.seen store.old).told (S.seen store.new).told }
-    ensures saves { SavesOnly S.X.block32 (S.seen store.old).told (S.seen store.new).told }
+    ensures edits { (es : Entries)
+        → IsEntry S.X.block32 N.name64 (S.seen store.old).told profile.now folder.now (Dir es)
+        → child name.now es ≢ None → Calm (S.seen store.old) (S.seen store.new)
+        → Edits S.X.block32 N.name64 (S.seen store.new).told profile.now
+        (allowed S.X.block32 N.name64 profile.now (Ok (without_child name.now es))) result }
+    ensures saves { OnlySaves S.X.block32 (IsBad N.name64 (Some profile.now)) (stop_fault result) (S.seen store.old)
+        (S.seen store.new) }
 {
-    match remove::<S, N, L>(alloc, store, profile, &folder.cid, name, touches) {
-        Err(fault) => Err(Stop::Store(fault)),
-        Ok(None) => Err(Stop::Refused(Refused::NotFound(led))),
-        Ok(Some(new)) => Ok(new),
-    }
-}
-
-// The fault of an edited directory as that of a step.
-fn stop_of(fault: DirFault) -> Stop
-    ensures { result ≡ the_stop fault }
-{
-    match fault {
-        DirFault::Collision(first, second) => Stop::Refused(Refused::Collision(first, second)),
-        DirFault::TooBig => Stop::Refused(Refused::TooBig),
-        DirFault::Store(fault) => Stop::Store(fault),
+    let taken = remove::<S, N, L>(alloc, store, profile, &folder.cid, name, touches)?;
+    match taken {
+        None => Err(Stop::Refused(Refused::NotFound(led))),
+        Some(new) => Ok(new),
     }
 }
 

@@ -3,16 +3,20 @@
 
 mod changing;
 mod editing;
-pub mod laws;
+mod fault;
+mod from;
 mod listing;
 mod looking;
 mod measuring;
+mod mfs;
 mod opening;
 mod reading;
 mod telling;
-mod types;
+mod thing;
 
-pub use types::{Change, Mfs, MfsFault, Ready, Refused, Row, Rows, Rule, Stat, Stop, Thing};
+pub use fault::{MfsFault, Ready, Stop};
+pub use mfs::Mfs;
+pub use thing::Thing;
 
 #[cfg(test)]
 mod tests;

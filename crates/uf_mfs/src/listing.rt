@@ -1,23 +1,24 @@
 // The names and the rows of what a path leads to.
 ghost use Rattle.std.specs.Prelude.{◌≡◌, ◌<◌, IfOk, List, None, map, ℕ};
 ghost use Rattle.uf_edge.specs.Counts.{Stood};
-ghost use Rattle.uf_store.specs.Faults.{Answers};
 ghost use Rattle.uf_tree.specs.declared.profile.Profile.{Profile};
 ghost use Rattle.uf_tree.specs.Nodes.{Named};
 ghost use Rattle.uf_tree.specs.Tree.{Dir, Entries, Tree, pairs as pairs_in};
 ghost use Rattle.uf_mfs.specs.Answers.{Pushes, Says};
 ghost use Rattle.uf_mfs.specs.Bad.{IsBad};
-ghost use Rattle.uf_mfs.specs.Replies.{last_name, names_at, row_of as row_at, rows_at, size as size_at};
+ghost use Rattle.uf_store.specs.Calls.{OnlyReads};
+ghost use Rattle.uf_store.specs.Faults.{fault_in};
+ghost use Rattle.uf_plain.specs.Replies.{last_name, names_at, row_of as row_at, rows_at, size as size_at};
 ghost use Rattle.uf_mfs.specs.Standing.{AreMembers, IsEntry, IsThing};
 
+use crate::Thing;
 use crate::looking::thing_of;
-use crate::measuring::size_of;
-use crate::{Row, Rows, Thing};
 use std::alloc::Global;
 use std::sync::ledger::Ledger;
 use uf_cid::{Cid, Memory};
 use uf_dir::entries;
 use uf_murmur::NameHash;
+use uf_plain::{Row, Rows};
 use uf_store::{Steps, Store, StoreFault};
 use uf_tree::{Entry, Name, Names, Pair};
 
@@ -29,13 +30,14 @@ pub(crate) fn names_of<S: Store, N: NameHash, L: Ledger>(
     thing: Thing,
     touches: &mut Steps<L>,
 ) -> Result<Names, StoreFault>
-    ensures names { (p : Profile) (t : Tree) → IsThing S.X.block32 N.name64 (S.seen store.old).told p t thing → Stood (S.seen store.old).faults (S.seen store.new).faults
+    ensures names { (p : Profile) (t : Tree) → IsThing S.X.block32 N.name64 (S.seen store.old).told p t thing
+        → Stood (S.seen store.old).faults (S.seen store.new).faults
         → Says (names_at path.now t) result }
-    ensures cause { Answers S.X.block32 (IsBad N.name64 None) result (S.seen store.old) (S.seen store.new) }
-    ensures told { (S.seen store.new).told ≡ (S.seen store.old).told }
+    ensures reads { OnlyReads S.X.block32 (IsBad N.name64 None) (fault_in result) (S.seen store.old)
+        (S.seen store.new) }
 {
     match thing {
-        Thing::File(_) => match own_name(alloc, path) {
+        Thing::File(_, _) => match own_name(alloc, path) {
             Err(_) => Err(StoreFault::Memory),
             Ok(names) => Ok(names),
         },
@@ -61,17 +63,17 @@ fn names_in<S: Store, N: NameHash, L: Ledger>(
     folder: &Entry,
     touches: &mut Steps<L>,
 ) -> Result<Names, StoreFault>
-    ensures names { (p : Profile) (es : Entries) → IsEntry S.X.block32 N.name64 (S.seen store.old).told p folder.now (Dir es) → Stood (S.seen store.old).faults (S.seen store.new).faults
+    ensures names { (p : Profile) (es : Entries)
+        → IsEntry S.X.block32 N.name64 (S.seen store.old).told p folder.now (Dir es)
+        → Stood (S.seen store.old).faults (S.seen store.new).faults
         → Says (map (λ (m : List ℕ × Tree). m.0) (pairs_in es)) result }
-    ensures cause { Answers S.X.block32 (IsBad N.name64 None) result (S.seen store.old) (S.seen store.new) }
-    ensures told { (S.seen store.new).told ≡ (S.seen store.old).told }
+    ensures reads { OnlyReads S.X.block32 (IsBad N.name64 None) (fault_in result) (S.seen store.old)
+        (S.seen store.new) }
 {
-    match entries(alloc, store, &folder.cid, touches) {
-        Err(fault) => Err(fault),
-        Ok(pairs) => match names_in_pairs(alloc, pairs.as_slice()) {
-            Err(_) => Err(StoreFault::Memory),
-            Ok(names) => Ok(names),
-        },
+    let pairs = entries(alloc, store, &folder.cid, touches)?;
+    match names_in_pairs(alloc, pairs.as_slice()) {
+        Err(_) => Err(StoreFault::Memory),
+        Ok(names) => Ok(names),
     }
 }
 
@@ -94,28 +96,25 @@ pub(crate) fn rows_of<S: Store, N: NameHash, L: Ledger>(
     thing: Thing,
     touches: &mut Steps<L>,
 ) -> Result<Rows, StoreFault>
-    ensures rows { (p : Profile) (t : Tree) → IsThing S.X.block32 N.name64 (S.seen store.old).told p t thing → Stood (S.seen store.old).faults (S.seen store.new).faults
+    ensures rows { (p : Profile) (t : Tree) → IsThing S.X.block32 N.name64 (S.seen store.old).told p t thing
+        → Stood (S.seen store.old).faults (S.seen store.new).faults
         → Says (rows_at S.X.block32 N.name64 p path.now t) result }
-    ensures cause { Answers S.X.block32 (IsBad N.name64 None) result (S.seen store.old) (S.seen store.new) }
-    ensures told { (S.seen store.new).told ≡ (S.seen store.old).told }
+    ensures reads { OnlyReads S.X.block32 (IsBad N.name64 None) (fault_in result) (S.seen store.old)
+        (S.seen store.new) }
 {
     match thing {
-        Thing::File(entry) => {
-            match size_of::<S, N, L>(alloc, store, thing, touches) {
-                Err(fault) => Err(fault),
-                Ok(size) => match own_row(alloc, path, entry.cid, size) {
-                    Err(_) => Err(StoreFault::Memory),
-                    Ok(rows) => Ok(rows),
-                },
-            }
-        }
+        Thing::File(entry, size) => match own_row(alloc, path, entry.cid, size.length) {
+            Err(_) => Err(StoreFault::Memory),
+            Ok(rows) => Ok(rows),
+        },
         Thing::Folder(folder) => rows_in::<S, N, L>(alloc, store, &folder, touches),
     }
 }
 
 // The row of a file by the last name of its path.
 fn own_row(alloc: Global, path: &[Name], cid: Cid, size: u64) -> Result<Rows, Memory>
-    ensures { IfOk result (λ rows. rows ≡ map (λ (name : List ℕ). record { name = name; cid = cid; size = size }) (last_name path.now)) }
+    ensures { IfOk result
+        (λ rows. rows ≡ map (λ (name : List ℕ). record { name = name; cid = cid; size = size }) (last_name path.now)) }
 {
     let mut rows = Rows::new(alloc);
     if let Some(name) = path.last() {
@@ -132,15 +131,15 @@ fn rows_in<S: Store, N: NameHash, L: Ledger>(
     folder: &Entry,
     touches: &mut Steps<L>,
 ) -> Result<Rows, StoreFault>
-    ensures rows { (p : Profile) (es : Entries) → IsEntry S.X.block32 N.name64 (S.seen store.old).told p folder.now (Dir es) → Stood (S.seen store.old).faults (S.seen store.new).faults
+    ensures rows { (p : Profile) (es : Entries)
+        → IsEntry S.X.block32 N.name64 (S.seen store.old).told p folder.now (Dir es)
+        → Stood (S.seen store.old).faults (S.seen store.new).faults
         → Says (map (λ (m : List ℕ × Tree). row_at S.X.block32 N.name64 p m.0 m.1) (pairs_in es)) result }
-    ensures cause { Answers S.X.block32 (IsBad N.name64 None) result (S.seen store.old) (S.seen store.new) }
-    ensures told { (S.seen store.new).told ≡ (S.seen store.old).told }
+    ensures reads { OnlyReads S.X.block32 (IsBad N.name64 None) (fault_in result) (S.seen store.old)
+        (S.seen store.new) }
 {
-    match entries(alloc, store, &folder.cid, touches) {
-        Err(fault) => Err(fault),
-        Ok(pairs) => rows_from::<S, N, L>(alloc, store, pairs.as_slice(), touches),
-    }
+    let pairs = entries(alloc, store, &folder.cid, touches)?;
+    rows_from::<S, N, L>(alloc, store, pairs.as_slice(), touches)
 }
 
 // The rows of these pairs.
@@ -150,17 +149,16 @@ fn rows_from<S: Store, N: NameHash, L: Ledger>(
     pairs: &[Pair],
     touches: &mut Steps<L>,
 ) -> Result<Rows, StoreFault>
-    ensures rows { (p : Profile) (l : List (List ℕ × Tree)) → AreMembers S.X.block32 N.name64 (S.seen store.old).told p pairs.now l → Stood (S.seen store.old).faults (S.seen store.new).faults
+    ensures rows { (p : Profile) (l : List (List ℕ × Tree))
+        → AreMembers S.X.block32 N.name64 (S.seen store.old).told p pairs.now l
+        → Stood (S.seen store.old).faults (S.seen store.new).faults
         → Says (map (λ (m : List ℕ × Tree). row_at S.X.block32 N.name64 p m.0 m.1) l) result }
-    ensures cause { Answers S.X.block32 (IsBad N.name64 None) result (S.seen store.old) (S.seen store.new) }
-    ensures told { (S.seen store.new).told ≡ (S.seen store.old).told }
+    ensures reads { OnlyReads S.X.block32 (IsBad N.name64 None) (fault_in result) (S.seen store.old)
+        (S.seen store.new) }
 {
     let mut rows = Rows::new(alloc);
     for pair in pairs {
-        match push_row::<S, N, L>(alloc, store, &mut rows, pair, touches) {
-            Ok(()) => {}
-            Err(fault) => return Err(fault),
-        }
+        push_row::<S, N, L>(alloc, store, &mut rows, pair, touches)?;
     }
     Ok(rows)
 }
@@ -173,17 +171,16 @@ fn push_row<S: Store, N: NameHash, L: Ledger>(
     pair: &Pair,
     touches: &mut Steps<L>,
 ) -> Result<(), StoreFault>
-    ensures pushed { (p : Profile) (t : Tree) → IsEntry S.X.block32 N.name64 (S.seen store.old).told p pair.now.1 t → Stood (S.seen store.old).faults (S.seen store.new).faults
+    ensures pushed { (p : Profile) (t : Tree) → IsEntry S.X.block32 N.name64 (S.seen store.old).told p pair.now.1 t
+        → Stood (S.seen store.old).faults (S.seen store.new).faults
         → Pushes rows.old rows.new (row_at S.X.block32 N.name64 p pair.now.0 t) result }
-    ensures cause { Answers S.X.block32 (IsBad N.name64 None) result (S.seen store.old) (S.seen store.new) }
-    ensures told { (S.seen store.new).told ≡ (S.seen store.old).told }
+    ensures reads { OnlyReads S.X.block32 (IsBad N.name64 None) (fault_in result) (S.seen store.old)
+        (S.seen store.new) }
 {
-    match row_of::<S, N, L>(alloc, store, pair, touches) {
-        Err(fault) => Err(fault),
-        Ok(row) => match rows.push(row) {
-            Err(_) => Err(StoreFault::Memory),
-            Ok(()) => Ok(()),
-        },
+    let row = row_of::<S, N, L>(alloc, store, pair, touches)?;
+    match rows.push(row) {
+        Err(_) => Err(StoreFault::Memory),
+        Ok(()) => Ok(()),
     }
 }
 
@@ -194,21 +191,20 @@ fn row_of<S: Store, N: NameHash, L: Ledger>(
     pair: &Pair,
     touches: &mut Steps<L>,
 ) -> Result<Row, StoreFault>
-    ensures row { (p : Profile) (t : Tree) → IsEntry S.X.block32 N.name64 (S.seen store.old).told p pair.now.1 t → Stood (S.seen store.old).faults (S.seen store.new).faults
+    ensures row { (p : Profile) (t : Tree) → IsEntry S.X.block32 N.name64 (S.seen store.old).told p pair.now.1 t
+        → Stood (S.seen store.old).faults (S.seen store.new).faults
         → Says (row_at S.X.block32 N.name64 p pair.now.0 t) result }
-    ensures cause { Answers S.X.block32 (IsBad N.name64 None) result (S.seen store.old) (S.seen store.new) }
-    ensures told { (S.seen store.new).told ≡ (S.seen store.old).told }
+    ensures reads { OnlyReads S.X.block32 (IsBad N.name64 None) (fault_in result) (S.seen store.old)
+        (S.seen store.new) }
 {
-    match entry_size::<S, N, L>(alloc, store, &pair.entry, touches) {
-        Err(fault) => Err(fault),
-        Ok(size) => match pair.name.copy() {
-            Err(_) => Err(StoreFault::Memory),
-            Ok(name) => Ok(Row {
-                name,
-                cid: pair.entry.cid,
-                size,
-            }),
-        },
+    let size = entry_size::<S, N, L>(alloc, store, &pair.entry, touches)?;
+    match pair.name.copy() {
+        Err(_) => Err(StoreFault::Memory),
+        Ok(name) => Ok(Row {
+            name,
+            cid: pair.entry.cid,
+            size,
+        }),
     }
 }
 
@@ -219,13 +215,14 @@ fn entry_size<S: Store, N: NameHash, L: Ledger>(
     entry: &Entry,
     touches: &mut Steps<L>,
 ) -> Result<u64, StoreFault>
-    ensures sizes { (p : Profile) (t : Tree) → IsEntry S.X.block32 N.name64 (S.seen store.old).told p entry.now t → Stood (S.seen store.old).faults (S.seen store.new).faults
+    ensures sizes { (p : Profile) (t : Tree) → IsEntry S.X.block32 N.name64 (S.seen store.old).told p entry.now t
+        → Stood (S.seen store.old).faults (S.seen store.new).faults
         → Says (size_at t) result }
-    ensures cause { Answers S.X.block32 (IsBad N.name64 None) result (S.seen store.old) (S.seen store.new) }
-    ensures told { (S.seen store.new).told ≡ (S.seen store.old).told }
+    ensures reads { OnlyReads S.X.block32 (IsBad N.name64 None) (fault_in result) (S.seen store.old)
+        (S.seen store.new) }
 {
-    match thing_of::<S, N, L>(alloc, store, entry, touches) {
-        Err(fault) => Err(fault),
-        Ok(thing) => size_of::<S, N, L>(alloc, store, thing, touches),
+    match thing_of::<S, N, L>(alloc, store, entry, touches)? {
+        Thing::File(_, size) => Ok(size.length),
+        Thing::Folder(_) => Ok(0),
     }
 }

@@ -1,20 +1,22 @@
 // What is at a path, looked up from its root.
 ghost use Rattle.std.specs.Prelude.{◌≡◌, ◌+◌, ◌<◌, ◌^◌, IfOk, IfSome, None, Ok, length};
 ghost use Rattle.uf_edge.specs.Counts.{Stood};
-ghost use Rattle.uf_store.specs.Faults.{Answers};
 ghost use Rattle.uf_tree.specs.declared.profile.Profile.{Profile};
 ghost use Rattle.uf_tree.specs.Tree.{Dir, Entries, Tree};
-ghost use Rattle.uf_mfs.specs.Answers.{Meets, ShownStop};
+ghost use Rattle.uf_mfs.specs.Answers.{Meets};
 ghost use Rattle.uf_mfs.specs.Bad.{IsBad};
-ghost use Rattle.uf_mfs.specs.Plain.{at, child};
-ghost use Rattle.uf_mfs.specs.Standing.{IsEntry, IsMember, IsNodeFolder, IsThing, SaysThing};
+ghost use Rattle.uf_store.specs.Calls.{OnlyReads};
+ghost use Rattle.uf_store.specs.Faults.{fault_in};
+ghost use Rattle.uf_plain.specs.Edits.{at, child};
+ghost use Rattle.uf_mfs.specs.Standing.{IsEntry, IsMember, IsThing, SaysThing};
+ghost use Rattle.uf_mfs.specs.Steps.{stop_fault};
 
-use crate::{Refused, Stop, Thing};
+use crate::{Stop, Thing};
 use std::alloc::Global;
 use std::sync::ledger::Ledger;
-use uf_cid::Codec;
-use uf_dir::{find, is_dir};
+use uf_dir::{Kind, find, kind_of};
 use uf_murmur::NameHash;
+use uf_plain::Refused;
 use uf_store::{Steps, Store, StoreFault};
 use uf_tree::{Entry, Name};
 
@@ -28,18 +30,21 @@ pub(crate) fn look<S: Store, N: NameHash, L: Ledger>(
     touches: &mut Steps<L>,
 ) -> Result<Thing, Stop>
     requires { led + length names.now < 2 ^ 64 }
-    ensures looks { (p : Profile) (es : Entries) → IsEntry S.X.block32 N.name64 (S.seen store.old).told p folder.now (Dir es) → Stood (S.seen store.old).faults (S.seen store.new).faults
-        → Meets (λ t thing. IsThing S.X.block32 N.name64 (S.seen store.new).told p t thing) (at led names.now (Dir es)) result }
-    ensures cause { ShownStop S.X.block32 (IsBad N.name64 None) result (S.seen store.old) (S.seen store.new) }
-    ensures told { (S.seen store.new).told ≡ (S.seen store.old).told }
+    ensures looks { (p : Profile) (es : Entries)
+        → IsEntry S.X.block32 N.name64 (S.seen store.old).told p folder.now (Dir es)
+        → Stood (S.seen store.old).faults (S.seen store.new).faults
+        → Meets (λ t thing. IsThing S.X.block32 N.name64 (S.seen store.new).told p t thing) (at led names.now (Dir es))
+        result }
+    ensures reads { OnlyReads S.X.block32 (IsBad N.name64 None) (stop_fault result) (S.seen store.old)
+        (S.seen store.new) }
 {
     match names {
         [] => Ok(Thing::Folder(*folder)),
         [name, rest @ ..] => match member::<S, N, L>(alloc, store, folder, name, touches) {
             Err(stop) => Err(stop),
             Ok(None) => Err(Stop::Refused(Refused::NotFound(led + 1))),
-            Ok(Some(Thing::File(entry))) => match rest {
-                [] => Ok(Thing::File(entry)),
+            Ok(Some(Thing::File(entry, size))) => match rest {
+                [] => Ok(Thing::File(entry, size)),
                 [_, ..] => Err(Stop::Refused(Refused::NotADirectory(led + 1))),
             },
             Ok(Some(Thing::Folder(entry))) => {
@@ -57,11 +62,13 @@ pub(crate) fn member<S: Store, N: NameHash, L: Ledger>(
     name: &Name,
     touches: &mut Steps<L>,
 ) -> Result<Option<Thing>, Stop>
-    ensures member { (p : Profile) (es : Entries) → IsEntry S.X.block32 N.name64 (S.seen store.old).told p folder.now (Dir es) → Stood (S.seen store.old).faults (S.seen store.new).faults
-        → Meets (λ t thing. IsMember S.X.block32 N.name64 (S.seen store.new).told p t thing) (Ok (child name.now es)) result }
-    ensures node { IfOk result (λ found. IfSome found IsNodeFolder) }
-    ensures cause { ShownStop S.X.block32 (IsBad N.name64 None) result (S.seen store.old) (S.seen store.new) }
-    ensures told { (S.seen store.new).told ≡ (S.seen store.old).told }
+    ensures member { (p : Profile) (es : Entries)
+        → IsEntry S.X.block32 N.name64 (S.seen store.old).told p folder.now (Dir es)
+        → Stood (S.seen store.old).faults (S.seen store.new).faults
+        → Meets (λ t thing. IsMember S.X.block32 N.name64 (S.seen store.new).told p t thing) (Ok (child name.now es))
+        result }
+    ensures reads { OnlyReads S.X.block32 (IsBad N.name64 None) (stop_fault result) (S.seen store.old)
+        (S.seen store.new) }
 {
     match find::<S, N, L>(alloc, store, &folder.cid, name, touches) {
         Err(fault) => Err(Stop::Store(fault)),
@@ -73,25 +80,21 @@ pub(crate) fn member<S: Store, N: NameHash, L: Ledger>(
     }
 }
 
-/// Whether an entry is a file's or a folder's. A raw block is a file, and isn't loaded.
+/// Whether an entry is a file's or a folder's, by one load. A raw block is a file, and isn't loaded.
 pub(crate) fn thing_of<S: Store, N: NameHash, L: Ledger>(
     alloc: Global,
     store: &mut S,
     entry: &Entry,
     touches: &mut Steps<L>,
 ) -> Result<Thing, StoreFault>
-    ensures thing { (p : Profile) (t : Tree) → IsEntry S.X.block32 N.name64 (S.seen store.old).told p entry.now t → Stood (S.seen store.old).faults (S.seen store.new).faults
+    ensures thing { (p : Profile) (t : Tree) → IsEntry S.X.block32 N.name64 (S.seen store.old).told p entry.now t
+        → Stood (S.seen store.old).faults (S.seen store.new).faults
         → SaysThing S.X.block32 N.name64 (S.seen store.new).told p t result }
-    ensures node { IfOk result IsNodeFolder }
-    ensures cause { Answers S.X.block32 (IsBad N.name64 None) result (S.seen store.old) (S.seen store.new) }
-    ensures told { (S.seen store.new).told ≡ (S.seen store.old).told }
+    ensures reads { OnlyReads S.X.block32 (IsBad N.name64 None) (fault_in result) (S.seen store.old)
+        (S.seen store.new) }
 {
-    match entry.cid.codec {
-        Codec::Raw => Ok(Thing::File(*entry)),
-        Codec::DagPb => match is_dir(alloc, store, entry, touches) {
-            Err(fault) => Err(fault),
-            Ok(true) => Ok(Thing::Folder(*entry)),
-            Ok(false) => Ok(Thing::File(*entry)),
-        },
+    match kind_of(alloc, store, entry, touches)? {
+        Kind::Folder => Ok(Thing::Folder(*entry)),
+        Kind::File(size) => Ok(Thing::File(*entry, size)),
     }
 }

@@ -5,19 +5,20 @@ ghost use Rattle.uf_tree.specs.declared.profile.Profile.{Profile};
 ghost use Rattle.uf_tree.specs.Tree.{Dir, Entries};
 ghost use Rattle.uf_mfs.specs.Answers.{Answers, ShownInTree};
 ghost use Rattle.uf_mfs.specs.Bad.{IsBad};
-ghost use Rattle.uf_mfs.specs.Plain.{at};
-ghost use Rattle.uf_mfs.specs.Replies.{names_at, rows_at, stat_of as stat_at};
+ghost use Rattle.uf_plain.specs.Edits.{at};
+ghost use Rattle.uf_plain.specs.Replies.{names_at, rows_at, stat_of as stat_at};
 ghost use Rattle.uf_mfs.specs.Standing.{StandsAt};
 
 use crate::listing::{names_of, rows_of};
 use crate::looking::look;
 use crate::measuring::stat_of;
 use crate::telling::fault_of;
-use crate::{Mfs, MfsFault, Rows, Stat};
+use crate::{Mfs, MfsFault};
 use std::alloc::Global;
 use std::sync::ledger::Ledger;
 use uf_murmur::NameHash;
 use uf_path::Path;
+use uf_plain::{Rows, Stat};
 use uf_store::{Steps, Store};
 use uf_tree::Names;
 
@@ -30,18 +31,21 @@ impl Mfs {
         path: &Path,
         touches: &mut Steps<L>,
     ) -> Result<Rows, MfsFault>
-        ensures answer { (p : Profile) (es : Entries) → StandsAt S.X.block32 N.name64 (S.seen store.old).told self.now p es → Stood (S.seen store.old).faults (S.seen store.new).faults
-            → Answers (λ t rows. rows ≡ rows_at S.X.block32 N.name64 p path.now.names t) path.now.names (at 0 path.now.names (Dir es)) result }
+        ensures answer { (p : Profile) (es : Entries)
+            → StandsAt S.X.block32 N.name64 (S.seen store.old).told self.now p es
+            → Stood (S.seen store.old).faults (S.seen store.new).faults
+            → Answers (λ t rows. rows ≡ rows_at S.X.block32 N.name64 p path.now.names t) path.now.names
+            (at 0 path.now.names (Dir es)) result }
         ensures cause { ShownInTree S.X.block32 (IsBad N.name64 None) result (S.seen store.old) (S.seen store.new) }
         ensures told { (S.seen store.new).told ≡ (S.seen store.old).told }
     {
         let names = path.names.as_slice();
         match look::<S, N, L>(alloc, store, 0, names, &self.root, touches) {
             Err(stop) => Err(fault_of(alloc, names, stop)),
-            Ok(thing) => match rows_of::<S, N, L>(alloc, store, names, thing, touches) {
-                Err(fault) => Err(MfsFault::Store(fault)),
-                Ok(rows) => Ok(rows),
-            },
+            Ok(thing) => {
+                let rows = rows_of::<S, N, L>(alloc, store, names, thing, touches)?;
+                Ok(rows)
+            }
         }
     }
 
@@ -53,18 +57,21 @@ impl Mfs {
         path: &Path,
         touches: &mut Steps<L>,
     ) -> Result<Names, MfsFault>
-        ensures answer { (p : Profile) (es : Entries) → StandsAt S.X.block32 N.name64 (S.seen store.old).told self.now p es → Stood (S.seen store.old).faults (S.seen store.new).faults
-            → Answers (λ t names. names ≡ names_at path.now.names t) path.now.names (at 0 path.now.names (Dir es)) result }
+        ensures answer { (p : Profile) (es : Entries)
+            → StandsAt S.X.block32 N.name64 (S.seen store.old).told self.now p es
+            → Stood (S.seen store.old).faults (S.seen store.new).faults
+            → Answers (λ t names. names ≡ names_at path.now.names t) path.now.names (at 0 path.now.names (Dir es))
+            result }
         ensures cause { ShownInTree S.X.block32 (IsBad N.name64 None) result (S.seen store.old) (S.seen store.new) }
         ensures told { (S.seen store.new).told ≡ (S.seen store.old).told }
     {
         let names = path.names.as_slice();
         match look::<S, N, L>(alloc, store, 0, names, &self.root, touches) {
             Err(stop) => Err(fault_of(alloc, names, stop)),
-            Ok(thing) => match names_of::<S, N, L>(alloc, store, names, thing, touches) {
-                Err(fault) => Err(MfsFault::Store(fault)),
-                Ok(found) => Ok(found),
-            },
+            Ok(thing) => {
+                let found = names_of::<S, N, L>(alloc, store, names, thing, touches)?;
+                Ok(found)
+            }
         }
     }
 
@@ -76,18 +83,21 @@ impl Mfs {
         path: &Path,
         touches: &mut Steps<L>,
     ) -> Result<Stat, MfsFault>
-        ensures answer { (p : Profile) (es : Entries) → StandsAt S.X.block32 N.name64 (S.seen store.old).told self.now p es → Stood (S.seen store.old).faults (S.seen store.new).faults
-            → Answers (λ t stat. stat ≡ stat_at S.X.block32 N.name64 p t) path.now.names (at 0 path.now.names (Dir es)) result }
+        ensures answer { (p : Profile) (es : Entries)
+            → StandsAt S.X.block32 N.name64 (S.seen store.old).told self.now p es
+            → Stood (S.seen store.old).faults (S.seen store.new).faults
+            → Answers (λ t stat. stat ≡ stat_at S.X.block32 N.name64 p t) path.now.names (at 0 path.now.names (Dir es))
+            result }
         ensures cause { ShownInTree S.X.block32 (IsBad N.name64 None) result (S.seen store.old) (S.seen store.new) }
         ensures told { (S.seen store.new).told ≡ (S.seen store.old).told }
     {
         let names = path.names.as_slice();
         match look::<S, N, L>(alloc, store, 0, names, &self.root, touches) {
             Err(stop) => Err(fault_of(alloc, names, stop)),
-            Ok(thing) => match stat_of::<S, N, L>(alloc, store, thing, touches) {
-                Err(fault) => Err(MfsFault::Store(fault)),
-                Ok(stat) => Ok(stat),
-            },
+            Ok(thing) => {
+                let stat = stat_of::<S, N, L>(alloc, store, thing, touches)?;
+                Ok(stat)
+            }
         }
     }
 }

@@ -8,9 +8,9 @@ use Rattle.uf_edge.specs.Counts.{Counts, Stood}
 use Rattle.uf_edge.specs.Streams.{before, IsAtEnd}
 use Rattle.uf_edge.specs.Streams as streams
 use Rattle.uf_mfs.specs.Standing.{LeavesHead, TellsAs, TellsHeld}
-use Rattle.uf_mfs.specs.declared.types.Ready.TheVariants as ready
-use Rattle.uf_mfs.specs.declared.types.Rule.{Rule}
-use Rattle.uf_mfs.specs.declared.types.Rule.TheVariants.{FileTooLong}
+use Rattle.uf_mfs.specs.declared.fault.Ready.TheVariants as ready
+use Rattle.uf_plain.specs.declared.rule.Rule.{Rule}
+use Rattle.uf_plain.specs.declared.rule.Rule.TheVariants.{FileTooLong}
 use Rattle.uf_store.specs.declared.store.StoreFault.{StoreFault}
 use Rattle.uf_store.specs.Contents.{Told}
 use Rattle.uf_store.specs.Faults.{NoneIsBad}

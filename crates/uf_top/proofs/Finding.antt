@@ -1,10 +1,10 @@
 -- Stores that stand: no block is missing or bad, and what changes nothing writes nothing.
 use Rattle.std.proofs.Common.{◌≡◌, ℕ, List, true, false, refl, sym, ap, subst, ◌∙◌, inl, inr, Some, None, Result, Ok, Err}
 use Rattle.uf_edge.specs.Streams as streams
-use Rattle.uf_mfs.specs.Plain.{at, is_folder_at}
+use Rattle.uf_plain.specs.Edits.{at, is_folder_at}
 use Rattle.uf_mfs.specs.Standing.{StandsAt, TellsAs, head_in}
-use Rattle.uf_mfs.specs.declared.types.Mfs.{Mfs}
-use Rattle.uf_mfs.specs.declared.types.Refused.{Refused}
+use Rattle.uf_mfs.specs.declared.mfs.Mfs.{Mfs}
+use Rattle.uf_plain.specs.declared.rule.Refused.{Refused}
 use Rattle.uf_path.specs.declared.path.Path.{Path}
 use Rattle.uf_store.specs.declared.store.StoreFault.{StoreFault}
 use Rattle.uf_store.specs.declared.store.StoreFault.TheVariants as fault

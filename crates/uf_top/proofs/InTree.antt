@@ -1,15 +1,15 @@
 -- From calls on the tree to replies.
 use Rattle.std.proofs.Common.{◌≡◌, ℕ, List, [], ◌∷◌, refl, sym, ap, subst, ◌∙◌, inl, inr, Option, Some, None, Result, Ok, Err}
 use Rattle.std.specs.Prelude.{IfOk, IfSome}
-use Rattle.uf_mfs.specs.Answers.{rule_of}
+use Rattle.uf_plain.specs.Rules.{rule_of}
 use Rattle.uf_mfs.specs.Answers as tree
 use Rattle.uf_mfs.specs.Standing.{FindsHead, Inits, IsUnready, IsWanting, Opens, ReadsHead, StandsAt, TellsAs, head_in}
-use Rattle.uf_mfs.specs.declared.types.Mfs.{Mfs}
-use Rattle.uf_mfs.specs.declared.types.MfsFault.{MfsFault}
-use Rattle.uf_mfs.specs.declared.types.MfsFault.TheVariants as mfs
-use Rattle.uf_mfs.specs.declared.types.Ready.{Ready}
-use Rattle.uf_mfs.specs.declared.types.Ready.TheVariants as ready
-use Rattle.uf_mfs.specs.declared.types.Refused.{Refused}
+use Rattle.uf_mfs.specs.declared.mfs.Mfs.{Mfs}
+use Rattle.uf_mfs.specs.declared.fault.MfsFault.{MfsFault}
+use Rattle.uf_mfs.specs.declared.fault.MfsFault.TheVariants as mfs
+use Rattle.uf_mfs.specs.declared.fault.Ready.{Ready}
+use Rattle.uf_mfs.specs.declared.fault.Ready.TheVariants as ready
+use Rattle.uf_plain.specs.declared.rule.Refused.{Refused}
 use Rattle.uf_store.specs.Contents.{Contents, Told}
 use Rattle.uf_tree.specs.HeadReading.{head_reads}
 use Rattle.uf_tree.specs.Standing.{Standing, NoHead, BadHead, Stands, IsBadHead}

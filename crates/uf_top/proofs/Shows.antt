@@ -4,8 +4,8 @@ use Rattle.uf_store.specs.Clashes.{IsSaving}
 use Rattle.uf_edge.specs.Counts.{Rose, Stood}
 use Rattle.uf_mfs.specs.Answers.{ShownInTree, ShownOpening}
 use Rattle.uf_mfs.specs.Bad.{IsBad}
-use Rattle.uf_mfs.specs.declared.types.MfsFault.{MfsFault}
-use Rattle.uf_mfs.specs.declared.types.MfsFault.TheVariants as mfs
+use Rattle.uf_mfs.specs.declared.fault.MfsFault.{MfsFault}
+use Rattle.uf_mfs.specs.declared.fault.MfsFault.TheVariants as mfs
 use Rattle.uf_store.specs.declared.store.Role.{Role}
 use Rattle.uf_store.specs.declared.store.Role.TheVariants.{Directory, Shard, FileNode, Leaf}
 use Rattle.uf_store.specs.declared.store.StoreFault.{StoreFault}

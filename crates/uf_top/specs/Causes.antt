@@ -12,11 +12,11 @@ use Rattle.uf_edge.specs.Streams.{after, before, AppendsPrefix, Sends, is_unsent
 use Rattle.uf_edge.specs.Streams as streams
 use Rattle.uf_mfs.specs.Bad.{IsBad}
 use Rattle.uf_mfs.specs.Standing.{TellsAs, TellsHeld, head_in}
-use Rattle.uf_mfs.specs.declared.types.MfsFault.{MfsFault}
-use Rattle.uf_mfs.specs.declared.types.MfsFault.TheVariants as mfs
-use Rattle.uf_mfs.specs.declared.types.Ready.{Ready}
-use Rattle.uf_mfs.specs.declared.types.Ready.TheVariants as ready
-use Rattle.uf_mfs.specs.declared.types.Rule.TheVariants.{FileTooLong}
+use Rattle.uf_mfs.specs.declared.fault.MfsFault.{MfsFault}
+use Rattle.uf_mfs.specs.declared.fault.MfsFault.TheVariants as mfs
+use Rattle.uf_mfs.specs.declared.fault.Ready.{Ready}
+use Rattle.uf_mfs.specs.declared.fault.Ready.TheVariants as ready
+use Rattle.uf_plain.specs.declared.rule.Rule.TheVariants.{FileTooLong}
 use Rattle.uf_store.specs.declared.store.Role.{Role}
 use Rattle.uf_store.specs.Clashes.{IsSaving}
 use Rattle.uf_store.specs.declared.store.StoreFault.TheVariants.{Memory}

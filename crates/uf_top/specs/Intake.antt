@@ -6,7 +6,7 @@ use Rattle.uf_tree.specs.Profiles.{most_bytes}
 use Rattle.uf_store.specs.Clashes.{IsSaving}
 use Rattle.uf_build.specs.Building.{Building, HasFed, HoldsFed}
 use Rattle.uf_edge.specs.Streams.{Told, before, IsAtEnd}
-use Rattle.uf_mfs.specs.declared.types.Rule.TheVariants.{FileTooLong}
+use Rattle.uf_plain.specs.declared.rule.Rule.TheVariants.{FileTooLong}
 use Rattle.uf_store.specs.Contents as store
 use Rattle.uf_store.specs.Faults.{NoneIsBad, Shows, StaysCalm}
 use Rattle.uf_store.specs.Keeping.{Holds}

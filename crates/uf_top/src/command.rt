@@ -3,7 +3,7 @@ ghost use Rattle.std.specs.Prelude.{◌≡◌, ◌≢◌, ◌⊎◌, ◌<◌, Li
 ghost use Rattle.uf_cid.specs.declared.cid.Cid.{Cid as TheCid};
 ghost use Rattle.uf_edge.specs.Counts.{Counts, Rose, Stood};
 ghost use Rattle.uf_mfs.specs.Standing.{TellsAs, head_in};
-ghost use Rattle.uf_mfs.specs.declared.types.Ready.{Ready as TheReason};
+ghost use Rattle.uf_mfs.specs.declared.fault.Ready.{Ready as TheReason};
 ghost use Rattle.uf_store.specs.Faults.{ShowsBadBlock, ShowsClash, ShowsFailure, ShowsMissing};
 ghost use Rattle.uf_store.specs.Keeping.{KeepsGood};
 ghost use Rattle.uf_store.specs.declared.store.Role.{Role as TheRole};

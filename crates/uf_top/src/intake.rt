@@ -13,7 +13,7 @@ use std::alloc::{AllocError, Global};
 use std::sync::ledger::Ledger;
 use uf_build::{BuildFault, Builder};
 use uf_edge::{Filled, Source, fill};
-use uf_mfs::Rule;
+use uf_plain::Rule;
 use uf_store::{Steps, Store, StoreFault};
 use uf_tree::{Entry, Profile};
 

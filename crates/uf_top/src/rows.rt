@@ -7,7 +7,7 @@ ghost use Rattle.uf_top.specs.Lines.{added_line, line, name_line, row_line, stat
 use crate::lines::wrapped;
 use std::alloc::Global;
 use uf_cid::{Block, Cid, Memory};
-use uf_mfs::{Row, Rows, Stat};
+use uf_plain::{Row, Rows, Stat};
 use uf_tree::Names;
 use uf_words::shown;
 

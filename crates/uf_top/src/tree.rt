@@ -3,7 +3,7 @@ ghost use Rattle.std.specs.Prelude.{◌≡◌, [], false, true, IfOk, IsTrue, Ok
 ghost use Rattle.uf_edge.specs.Counts.{Stood};
 ghost use Rattle.uf_mfs.specs.Answers.{MovesTo, ShownInTree};
 ghost use Rattle.uf_mfs.specs.Bad.{IsBad};
-ghost use Rattle.uf_mfs.specs.Plain.{at as at_names};
+ghost use Rattle.uf_plain.specs.Edits.{at as at_names};
 ghost use Rattle.uf_mfs.specs.Standing.{IsMfs, StandsAt, TellsAs, head_in};
 ghost use Rattle.uf_store.specs.Keeping.{KeepsGood};
 ghost use Rattle.uf_store.specs.Writing.{SavesOnly};

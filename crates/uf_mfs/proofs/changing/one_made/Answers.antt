@@ -1,7 +1,8 @@
 use Rattle.std.proofs.Common.{◌≡◌, ◌-◌, ◌∷◌, drop, false, length, subst, take}
 use Rattle.uf_tree.specs.Tree.{Dir, Nothing}
-use Rattle.uf_mfs.specs.Answers.{Edits, allowed}
-use Rattle.uf_mfs.specs.Plain.{made}
+use Rattle.uf_mfs.specs.Answers.{Edits}
+use Rattle.uf_plain.specs.Rules.{allowed}
+use Rattle.uf_plain.specs.Edits.{made}
 use Rattle.uf_mfs.proofs.Meeting.{first-rest}
 use Rattle.uf_mfs.proofs.changing.one_made.Goals as goal
 
@@ -10,4 +11,4 @@ returns-in-len1-up-clause-edits g c = λ es i calm.
     let X = g.S.X.BlockHash.block32 in let N = g.N.NameHash.name64 in let p = c.args.profile.now in
     let more = take (length c.args.names.now - 1) (drop 1 c.args.names.now) in
     let q : c.name-item.result ∷ more ≡ c.args.names.now = first-rest c.args.names.now c.name-item.result c.in-len1-up.len_at_least c.name-item.is in
-    subst (λ l. Edits X N (g.S.Store.seen c.edit.new.store).told p (allowed X N p (made false l es)) c.edit.result) q (c.edit.ensures.edits (Dir Nothing) es tt i calm)
+    subst (λ l. Edits X N (g.S.Store.seen c.edit.new.store).told p (allowed X N p (made false l es)) c.edit.result) q (c.edit.ensures.edits (Dir Nothing) tt es i calm)

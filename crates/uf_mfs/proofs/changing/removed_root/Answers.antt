@@ -1,7 +1,7 @@
 use Rattle.std.proofs.Common.{◌≡◌, ◌-◌, ◌∷◌, drop, length, subst, take}
 use Rattle.uf_tree.specs.Tree.{Dir, Nothing}
 use Rattle.uf_mfs.specs.Answers.{Edits}
-use Rattle.uf_mfs.specs.Plain.{removed}
+use Rattle.uf_plain.specs.Edits.{removed}
 use Rattle.uf_mfs.proofs.Meeting.{first-rest}
 use Rattle.uf_mfs.proofs.Removing.{removed-edits}
 use Rattle.uf_mfs.proofs.changing.removed_root.Goals as goal
@@ -14,4 +14,4 @@ returns-in-len1-up-clause-edits g c = λ es i calm.
     let q : c.name-item.result ∷ more ≡ c.args.names.now = first-rest c.args.names.now c.name-item.result c.in-len1-up.len_at_least c.name-item.is in
     subst (λ l. Edits X N told p (removed c.args.recursive l es) c.edit.result) q
     (removed-edits X N (record { size = g.met.S.X.BlockHash.size; are_bytes = g.met.S.X.BlockHash.are_bytes }) g.met.N.NameHash.fits p i.profile told c.args.recursive (c.name-item.result ∷ more) es c.edit.result i.tree i.planned
-    (c.edit.ensures.edits (Dir Nothing) es tt i calm))
+    (c.edit.ensures.edits (Dir Nothing) tt es i calm))

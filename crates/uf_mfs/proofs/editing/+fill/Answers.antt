@@ -1,63 +1,115 @@
-use Rattle.std.proofs.Common.{◌≡◌, ◌+◌, ◌-◌, ◌∷◌, Err, Some, drop, length, subst, take}
-use Rattle.std.specs.declared.result.Result.{Result}
-use Rattle.uf_store.proofs.Writing.{SavesOnly-trans}
-use Rattle.uf_store.proofs.Causes.{StaysCalm-trans}
-use Rattle.uf_store.proofs.Keeping.{KeepsGood-trans}
-use Rattle.uf_tree.specs.Tree.{Dir, Entries}
-use Rattle.uf_mfs.specs.declared.types.Refused.{Refused}
-use Rattle.uf_mfs.specs.Answers.{Edits, allowed}
+use Rattle.std.proofs.Common.{◌≡◌, ◌+◌, ◌-◌, ◌∷◌, Err, None, Ok, Some, drop, length, refl, subst, sym, take, ◌∙◌}
+use Rattle.std.proofs.lemmas.Result.{err_from_is_err_and}
+use Rattle.uf_tree.specs.Tree.{Dir}
 use Rattle.uf_mfs.specs.Bad.{IsBad}
-use Rattle.uf_mfs.specs.Plain.{child, made_all, or_new}
-use Rattle.uf_mfs.proofs.Counting.{calm-rises, stop-rises}
-use Rattle.uf_mfs.proofs.Hinge.{entry-later}
+use Rattle.uf_plain.specs.Edits.{at, child, made_all, or_new}
+use Rattle.uf_mfs.specs.Steps.{FillsFolder, stop_fault}
+use Rattle.uf_tree.specs.declared.nodes.Entry.{Entry}
+use Rattle.uf_store.proofs.Calls.{saves-saves}
+use Rattle.uf_mfs.proofs.Filling.{filled-edits, filled-none, stood-before, there-not, there-under}
+use Rattle.uf_mfs.proofs.Folders.{path-put, path-stopped}
 use Rattle.uf_mfs.proofs.Meeting.{first-rest}
-use Rattle.uf_mfs.proofs.Moving.{Is, below-done, below-err, calm-back, calm-front, meets-decides}
 use Rattle.uf_mfs.proofs.editing.+fill.Goals as goal
 
-pub returns-in-Err-fill-clause-edits : goal.returns-in-Err-fill-clause-edits
-returns-in-Err-fill-clause-edits g t c = λ es i calm.
+pub returns-in_err-filled-clause-fills : goal.returns-in_err-filled-clause-fills
+returns-in_err-filled-clause-fills g t c =
     let X = g.S.X.BlockHash.block32 in let N = g.N.NameHash.name64 in let p = c.args.profile.now in let name = c.name-item.result in
-    let a = g.S.Store.seen c.args.store.now in let b = g.S.Store.seen c.open_or_make.new.store in let e = g.S.Store.seen c.fill.new.store in
-    let ab = c.in-Ok.ensures.cause in
-    let front = calm-front a b e ab (stop-rises X (IsBad N (Some p)) c.fill.result b e c.fill.ensures.cause) calm in
-    let back = calm-back a b e ab calm in
+    let a = g.S.Store.seen c.args.store.now in let e = g.S.Store.seen c.fill.new.store in
     let more = take (length c.args.names.now - 1) (drop 1 c.args.names.now) in
-    let q : name ∷ more ≡ c.args.names.now = first-rest c.args.names.now name c.in-len1-up.len_at_least c.name-item.is in
-    let go : Entries → Result Entries Refused = λ below. made_all (c.args.led + 1) more below in
-    subst (λ l. Edits X N e.told p (allowed X N p (made_all c.args.led l es)) (Err c.in-Err-fill.stop)) q
-    (below-err X N p a.told b.told e.told c.args.folder.now c.in-Ok.start name es (or_new (c.args.led + 1) (child name es)) go c.in-Err-fill.stop i
-    (meets-decides X N p (Is X N p b.told) (or_new (c.args.led + 1) (child name es)) c.in-Ok.start (c.in-Ok.ensures.opens p es i front))
-    (λ below j. c.in-Err-fill.ensures.edits below j back))
+    let names : name ∷ more ≡ c.args.names.now = first-rest c.args.names.now name c.in-len1-up.len_at_least c.name-item.is in
+    let out = err_from_is_err_and c.from_residual-in_err-filled.result c.from_residual-in_err-filled.ensures.1 in
+    rw (out.1, out.2) (subst (λ l. FillsFolder X N p a e c.args.folder.now (made_all c.args.led l) (Err c.in_err-filled.field-0.0)) names
+    (path-stopped X N p c.args.folder.now c.in_ok-start.start.0 name (λ es. or_new (c.args.led + 1) (child name es)) (made_all (c.args.led + 1) more) c.in_err-filled.field-0.0
+    c.in_ok-start.ensures.saves (c.in_ok-start.ensures.opens p) c.in_err-filled.ensures.saves c.in_err-filled.ensures.fills))
 
-pub returns-in-Err-fill-clause-good : goal.returns-in-Err-fill-clause-good
-returns-in-Err-fill-clause-good g t c = KeepsGood-trans _ _ _ _ c.in-Ok.ensures.good c.in-Err-fill.ensures.good
-
-pub returns-in-Ok-fill-clause-edits : goal.returns-in-Ok-fill-clause-edits
-returns-in-Ok-fill-clause-edits g t c = λ es i calm.
+pub returns-in_err-filled-clause-there : goal.returns-in_err-filled-clause-there
+returns-in_err-filled-clause-there g t c = λ es below i stood is.
     let X = g.S.X.BlockHash.block32 in let N = g.N.NameHash.name64 in let p = c.args.profile.now in let name = c.name-item.result in
-    let a = g.S.Store.seen c.args.store.now in let b = g.S.Store.seen c.open_or_make.new.store in let e = g.S.Store.seen c.fill.new.store in let d = g.S.Store.seen c.put_in.new.store in
-    let ab = c.in-Ok.ensures.cause in let be = c.in-Ok-fill.ensures.cause in
-    let ed = stop-rises X (IsBad N (Some p)) c.put_in.result e d c.put_in.ensures.cause in
-    let calm-ae = calm-front a e d (StaysCalm-trans a b e ab be) ed calm in
-    let calm-ab = calm-front a b e ab (calm-rises b e be) calm-ae in
-    let calm-bd = calm-back a b d ab calm in
-    let calm-be = calm-front b e d be ed calm-bd in
-    let calm-ed = calm-back b e d be calm-bd in
-    let folder = entry-later X N p a.told e.told c.args.folder.now (Dir es) (KeepsGood-trans X a.told b.told e.told c.in-Ok.ensures.good c.in-Ok-fill.ensures.good) i in
     let more = take (length c.args.names.now - 1) (drop 1 c.args.names.now) in
-    let q : name ∷ more ≡ c.args.names.now = first-rest c.args.names.now name c.in-len1-up.len_at_least c.name-item.is in
-    let go : Entries → Result Entries Refused = λ below. made_all (c.args.led + 1) more below in
-    subst (λ l. Edits X N d.told p (allowed X N p (made_all c.args.led l es)) c.put_in.result) q
-    (below-done X N p b.told e.told d.told c.args.folder.now c.in-Ok.start c.in-Ok-fill.below name es (or_new (c.args.led + 1) (child name es)) go c.put_in.result folder
-    (meets-decides X N p (Is X N p b.told) (or_new (c.args.led + 1) (child name es)) c.in-Ok.start (c.in-Ok.ensures.opens p es i calm-ab))
-    (λ below j. c.in-Ok-fill.ensures.edits below j calm-be)
-    (λ v j. c.put_in.ensures.edits v es folder j calm-ed))
+    let names : name ∷ more ≡ c.args.names.now = first-rest c.args.names.now name c.in-len1-up.len_at_least c.name-item.is in
+    let out = err_from_is_err_and c.from_residual-in_err-filled.result c.from_residual-in_err-filled.ensures.1 in
+    let under = there-under X N p c.args.led name more es below c.args.folder.now c.in_ok-start.start c.in_ok-start.ensures.saves c.in_err-filled.ensures.saves i stood
+    (subst (λ l. at c.args.led l (Dir es) ≡ Ok (Dir below)) (sym names) is) (c.in_ok-start.ensures.found p es) (c.in_ok-start.ensures.there p es) (λ fs j s h. c.in_err-filled.ensures.there fs below j s h) in
+    rw out.1 (under.1, tt)
 
-pub returns-in-Ok-fill-clause-good : goal.returns-in-Ok-fill-clause-good
-returns-in-Ok-fill-clause-good g t c = KeepsGood-trans _ _ _ _ (KeepsGood-trans _ _ _ _ c.in-Ok.ensures.good c.in-Ok-fill.ensures.good) c.put_in.ensures.good
+pub returns-in_err-filled-clause-saves : goal.returns-in_err-filled-clause-saves
+returns-in_err-filled-clause-saves g t c =
+    let out = err_from_is_err_and c.from_residual-in_err-filled.result c.from_residual-in_err-filled.ensures.1 in
+    rw (out.1, out.2) (saves-saves c.in_ok-start.ensures.saves c.in_err-filled.ensures.saves)
 
-pub returns-in-Err-fill-clause-saves : goal.returns-in-Err-fill-clause-saves
-returns-in-Err-fill-clause-saves g t c = SavesOnly-trans _ _ _ _ c.in-Ok.ensures.saves c.in-Err-fill.ensures.saves
+pub returns-in_default-below_of-clause-fills : goal.returns-in_default-below_of-clause-fills
+returns-in_default-below_of-clause-fills g t c =
+    let X = g.S.X.BlockHash.block32 in let N = g.N.NameHash.name64 in let p = c.args.profile.now in let name = c.name-item.result in
+    let more = take (length c.args.names.now - 1) (drop 1 c.args.names.now) in
+    let names : name ∷ more ≡ c.args.names.now = first-rest c.args.names.now name c.in-len1-up.len_at_least c.name-item.is in
+    let a = g.S.Store.seen c.args.store.now in let e = g.S.Store.seen c.fill.new.store in
+    subst (λ l. FillsFolder X N p a e c.args.folder.now (made_all c.args.led l) (Ok None)) names
+    (filled-none X N p (c.args.led + 1) c.args.folder.now name (made_all (c.args.led + 1) more) c.in_ok-start.start c.in_ok-filled.filled (sym c.below_of.ensures ∙ c.in_default-below_of.is)
+    c.in_ok-start.ensures.saves (λ es i calm. c.in_ok-start.ensures.found p es i calm.faults) c.in_ok-filled.ensures.saves c.in_ok-filled.ensures.fills)
 
-pub returns-in-Ok-fill-clause-saves : goal.returns-in-Ok-fill-clause-saves
-returns-in-Ok-fill-clause-saves g t c = SavesOnly-trans _ _ _ _ (SavesOnly-trans _ _ _ _ c.in-Ok.ensures.saves c.in-Ok-fill.ensures.saves) c.put_in.ensures.saves
+pub returns-in_default-below_of-clause-there : goal.returns-in_default-below_of-clause-there
+returns-in_default-below_of-clause-there g t c = λ es below i stood is.
+    let X = g.S.X.BlockHash.block32 in let N = g.N.NameHash.name64 in let p = c.args.profile.now in let name = c.name-item.result in
+    let more = take (length c.args.names.now - 1) (drop 1 c.args.names.now) in
+    let names : name ∷ more ≡ c.args.names.now = first-rest c.args.names.now name c.in-len1-up.len_at_least c.name-item.is in
+    let under = there-under X N p c.args.led name more es below c.args.folder.now c.in_ok-start.start c.in_ok-start.ensures.saves c.in_ok-filled.ensures.saves i stood
+    (subst (λ l. at c.args.led l (Dir es) ≡ Ok (Dir below)) (sym names) is) (c.in_ok-start.ensures.found p es) (c.in_ok-start.ensures.there p es) (λ fs j s h. c.in_ok-filled.ensures.there fs below j s h) in
+    (under.1, refl)
+
+pub returns-in_default-below_of-clause-saves : goal.returns-in_default-below_of-clause-saves
+returns-in_default-below_of-clause-saves g t c = saves-saves c.in_ok-start.ensures.saves c.in_ok-filled.ensures.saves
+
+pub returns-in_err-new-clause-fills : goal.returns-in_err-new-clause-fills
+returns-in_err-new-clause-fills g t c =
+    let X = g.S.X.BlockHash.block32 in let N = g.N.NameHash.name64 in let p = c.args.profile.now in let name = c.name-item.result in
+    let more = take (length c.args.names.now - 1) (drop 1 c.args.names.now) in
+    let names : name ∷ more ≡ c.args.names.now = first-rest c.args.names.now name c.in-len1-up.len_at_least c.name-item.is in
+    let a = g.S.Store.seen c.args.store.now in let d = g.S.Store.seen c.put_in.new.store in
+    let out = err_from_is_err_and c.from_residual-in_err-new.result c.from_residual-in_err-new.ensures.1 in
+    rw (out.1, out.2) (subst (λ l. FillsFolder X N p a d c.args.folder.now (made_all c.args.led l) (Err c.in_err-new.field-0.0)) names
+    (path-put X N p c.args.folder.now c.in_ok-start.start.0 c.in-Some.below name (λ es. or_new (c.args.led + 1) (child name es)) (made_all (c.args.led + 1) more) (Err c.in_err-new.field-0.0)
+    c.in_ok-start.ensures.saves (c.in_ok-start.ensures.opens p) c.in_ok-filled.ensures.saves
+    (filled-edits X N p c.in_ok-start.start c.in_ok-filled.filled c.in-Some.below (made_all (c.args.led + 1) more) (sym c.below_of.ensures ∙ c.in-Some.is) c.in_ok-filled.ensures.saves c.in_ok-filled.ensures.fills)
+    c.in_err-new.ensures.saves c.in_err-new.ensures.edits))
+
+pub returns-in_err-new-clause-there : goal.returns-in_err-new-clause-there
+returns-in_err-new-clause-there g t c = λ es below i stood is.
+    let X = g.S.X.BlockHash.block32 in let N = g.N.NameHash.name64 in let p = c.args.profile.now in let name = c.name-item.result in
+    let more = take (length c.args.names.now - 1) (drop 1 c.args.names.now) in
+    let names : name ∷ more ≡ c.args.names.now = first-rest c.args.names.now name c.in-len1-up.len_at_least c.name-item.is in
+    let a = g.S.Store.seen c.args.store.now in let e = g.S.Store.seen c.fill.new.store in let d = g.S.Store.seen c.put_in.new.store in
+    let both = saves-saves c.in_ok-start.ensures.saves c.in_ok-filled.ensures.saves in
+    absurd (there-not X N p c.args.led name more es below c.args.folder.now c.in_ok-start.start c.in_ok-filled.filled c.in-Some.below (sym c.below_of.ensures ∙ c.in-Some.is)
+    c.in_ok-start.ensures.saves c.in_ok-filled.ensures.saves i (stood-before X (IsBad N (Some p)) (IsBad N (Some p)) (stop_fault {A = Entry} (Err c.in_err-new.field-0.0)) a e d both c.in_err-new.ensures.saves stood)
+    (subst (λ l. at c.args.led l (Dir es) ≡ Ok (Dir below)) (sym names) is) (c.in_ok-start.ensures.found p es) (c.in_ok-start.ensures.there p es) (λ fs j s h. c.in_ok-filled.ensures.there fs below j s h))
+
+pub returns-in_err-new-clause-saves : goal.returns-in_err-new-clause-saves
+returns-in_err-new-clause-saves g t c =
+    let out = err_from_is_err_and c.from_residual-in_err-new.result c.from_residual-in_err-new.ensures.1 in
+    rw (out.1, out.2) (saves-saves (saves-saves c.in_ok-start.ensures.saves c.in_ok-filled.ensures.saves) c.in_err-new.ensures.saves)
+
+pub returns-clause-fills : goal.returns-clause-fills
+returns-clause-fills g t c =
+    let X = g.S.X.BlockHash.block32 in let N = g.N.NameHash.name64 in let p = c.args.profile.now in let name = c.name-item.result in
+    let more = take (length c.args.names.now - 1) (drop 1 c.args.names.now) in
+    let names : name ∷ more ≡ c.args.names.now = first-rest c.args.names.now name c.in-len1-up.len_at_least c.name-item.is in
+    let a = g.S.Store.seen c.args.store.now in let d = g.S.Store.seen c.put_in.new.store in
+    subst (λ l. FillsFolder X N p a d c.args.folder.now (made_all c.args.led l) (Ok (Some c.in_ok-new.new))) names
+    (path-put X N p c.args.folder.now c.in_ok-start.start.0 c.in-Some.below name (λ es. or_new (c.args.led + 1) (child name es)) (made_all (c.args.led + 1) more) (Ok c.in_ok-new.new)
+    c.in_ok-start.ensures.saves (c.in_ok-start.ensures.opens p) c.in_ok-filled.ensures.saves
+    (filled-edits X N p c.in_ok-start.start c.in_ok-filled.filled c.in-Some.below (made_all (c.args.led + 1) more) (sym c.below_of.ensures ∙ c.in-Some.is) c.in_ok-filled.ensures.saves c.in_ok-filled.ensures.fills)
+    c.in_ok-new.ensures.saves c.in_ok-new.ensures.edits)
+
+pub returns-clause-there : goal.returns-clause-there
+returns-clause-there g t c = λ es below i stood is.
+    let X = g.S.X.BlockHash.block32 in let N = g.N.NameHash.name64 in let p = c.args.profile.now in let name = c.name-item.result in
+    let more = take (length c.args.names.now - 1) (drop 1 c.args.names.now) in
+    let names : name ∷ more ≡ c.args.names.now = first-rest c.args.names.now name c.in-len1-up.len_at_least c.name-item.is in
+    let a = g.S.Store.seen c.args.store.now in let e = g.S.Store.seen c.fill.new.store in let d = g.S.Store.seen c.put_in.new.store in
+    let both = saves-saves c.in_ok-start.ensures.saves c.in_ok-filled.ensures.saves in
+    absurd (there-not X N p c.args.led name more es below c.args.folder.now c.in_ok-start.start c.in_ok-filled.filled c.in-Some.below (sym c.below_of.ensures ∙ c.in-Some.is)
+    c.in_ok-start.ensures.saves c.in_ok-filled.ensures.saves i (stood-before X (IsBad N (Some p)) (IsBad N (Some p)) None a e d both c.in_ok-new.ensures.saves stood)
+    (subst (λ l. at c.args.led l (Dir es) ≡ Ok (Dir below)) (sym names) is) (c.in_ok-start.ensures.found p es) (c.in_ok-start.ensures.there p es) (λ fs j s h. c.in_ok-filled.ensures.there fs below j s h))
+
+pub returns-clause-saves : goal.returns-clause-saves
+returns-clause-saves g t c = saves-saves (saves-saves c.in_ok-start.ensures.saves c.in_ok-filled.ensures.saves) c.in_ok-new.ensures.saves

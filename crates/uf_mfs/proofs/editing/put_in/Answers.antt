@@ -1,19 +1,24 @@
+use Rattle.std.proofs.lemmas.Result.{err_from_is_err_and}
 use Rattle.std.proofs.Common.{Some}
 use Rattle.uf_mfs.proofs.Answering.{stop-shows}
 use Rattle.uf_mfs.proofs.Moving.{put-done, put-err}
 use Rattle.uf_mfs.proofs.editing.put_in.Goals as goal
 
-pub returns-in-Err-clause-edits : goal.returns-in-Err-clause-edits
-returns-in-Err-clause-edits g c = λ t es i new calm.
-    put-err g.S.X.BlockHash.block32 g.N.NameHash.name64 c.args.profile.now (record { size = g.met.S.X.BlockHash.size; are_bytes = g.met.S.X.BlockHash.are_bytes }) g.met.N.NameHash.fits
-    _ _ c.args.folder.now c.args.entry.now es c.args.name.now t c.in-Err.fault c.stop_of.result c.stop_of.ensures c.put.ensures.good i new
-    (λ l planned agrees. c.in-Err.ensures.value l planned agrees calm.faults calm.clashes)
+pub returns-in_err-new-clause-edits : goal.returns-in_err-new-clause-edits
+returns-in_err-new-clause-edits g c = λ t new es i calm.
+    let out = err_from_is_err_and c.from_residual.result c.from_residual.ensures.1 in
+    rw out.1 (put-err g.S.X.BlockHash.block32 g.N.NameHash.name64 c.args.profile.now (record { size = g.met.S.X.BlockHash.size; are_bytes = g.met.S.X.BlockHash.are_bytes }) g.met.N.NameHash.fits
+    _ _ c.args.folder.now c.args.entry.now es c.args.name.now t c.in_err-new.field-0.0 out.0 out.2 c.put.ensures.good i new
+    (λ l planned agrees. c.in_err-new.ensures.value l planned agrees calm.faults calm.clashes))
 
-pub returns-in-Ok-clause-edits : goal.returns-in-Ok-clause-edits
-returns-in-Ok-clause-edits g c = λ t es i new calm.
+pub returns-clause-edits : goal.returns-clause-edits
+returns-clause-edits g c = λ t new es i calm.
     put-done g.S.X.BlockHash.block32 g.N.NameHash.name64 c.args.profile.now (record { size = g.met.S.X.BlockHash.size; are_bytes = g.met.S.X.BlockHash.are_bytes }) g.met.N.NameHash.fits
-    _ _ c.args.folder.now c.args.entry.now c.in-Ok.new es c.args.name.now t c.names_are_good.ensures c.in-Ok.ensures.good i new
-    (λ l planned agrees. c.in-Ok.ensures.value l planned agrees calm.faults calm.clashes) c.in-Ok.ensures.after
+    _ _ c.args.folder.now c.args.entry.now c.in_ok-new.new es c.args.name.now t c.names_are_good.ensures c.in_ok-new.ensures.good i new
+    (λ l planned agrees. c.in_ok-new.ensures.value l planned agrees calm.faults calm.clashes) c.in_ok-new.ensures.after
 
-pub returns-in-Err-clause-cause : goal.returns-in-Err-clause-cause
-returns-in-Err-clause-cause g c = stop-shows g.S.X.BlockHash.block32 g.N.NameHash.name64 (g.N.NameHash.name64 c.args.name.now) (Some c.args.profile.now) c.in-Err.fault c.stop_of.result _ _ c.stop_of.ensures c.in-Err.ensures.cause
+pub returns-in_err-new-clause-saves : goal.returns-in_err-new-clause-saves
+returns-in_err-new-clause-saves g c =
+    let X = g.S.X.BlockHash.block32 in let N = g.N.NameHash.name64 in
+    let out = err_from_is_err_and c.from_residual.result c.from_residual.ensures.1 in
+    rw out.1 (record { cause = stop-shows X N (N c.args.name.now) (Some c.args.profile.now) c.in_err-new.field-0.0 out.0 _ _ out.2 c.in_err-new.ensures.cause; good = c.in_err-new.ensures.good; saves = c.in_err-new.ensures.saves })

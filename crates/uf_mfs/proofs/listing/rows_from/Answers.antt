@@ -1,18 +1,22 @@
 use Rattle.std.proofs.Common.{None, subst, sym, ◌∙◌}
+use Rattle.std.proofs.lemmas.Result.{err_from_is_err_and}
 use Rattle.uf_store.proofs.Causes.{StaysCalm-trans}
 use Rattle.uf_mfs.specs.Bad.{IsBad}
+use Rattle.uf_store.specs.Faults.{fault_in}
 use Rattle.uf_mfs.specs.Standing.{IsEntry}
-use Rattle.uf_mfs.proofs.Counting.{answers-rises, stood-back, stood-front}
+use Rattle.uf_store.proofs.Calls.{shown-rises}
+use Rattle.uf_store.proofs.Calls.{stood-back, stood-front}
 use Rattle.uf_mfs.proofs.Membering.{all-rows, none-more, one-more}
 use Rattle.uf_mfs.proofs.listing.rows_from.Goals as goal
 
-pub returns-in-Err-clause-rows : goal.returns-in-Err-clause-rows
-returns-in-Err-clause-rows g c = λ p k h stood.
+pub returns-in_err-push_row-clause-rows : goal.returns-in_err-push_row-clause-rows
+returns-in_err-push_row-clause-rows g c = λ p k h stood.
     let X = g.S.X.BlockHash.block32 in let N = g.N.NameHash.name64 in
     let a = g.S.Store.seen c.args.store.now in let b = g.S.Store.seen c.loop-pair.store in let d = g.S.Store.seen c.push_row.new.store in
     let back = stood-back a.faults b.faults d.faults c.loop-pair.invariant.calm.faults stood in
-    none-more X N p a.told c.args.pairs.now k c.loop-pair.pair-index c.pair-item.result c.in-Err.fault h c.loop-pair-test.true c.pair-item.is
-    (λ t s. c.in-Err.ensures.pushed p t (subst (λ told. IsEntry X N told p c.pair-item.result.1 t) (sym c.loop-pair.invariant.told) s) back)
+    let out = err_from_is_err_and c.from_residual.result c.from_residual.ensures.1 in
+    rw (out.1, out.2) (none-more X N p a.told c.args.pairs.now k c.loop-pair.pair-index c.pair-item.result c.in_err-push_row.field-0.0 h c.loop-pair-test.true c.pair-item.is
+    (λ t s. c.in_err-push_row.ensures.pushed p t (subst (λ told. IsEntry X N told p c.pair-item.result.1 t) (sym c.loop-pair.invariant.told) s) back))
 
 pub loop-pair-preserved : goal.loop-pair-preserved
 loop-pair-preserved g c =
@@ -20,12 +24,12 @@ loop-pair-preserved g c =
     let a = g.S.Store.seen c.args.store.now in let b = g.S.Store.seen c.loop-pair.store in let d = g.S.Store.seen c.push_row.new.store in
     record {
       rows = λ p k h stood.
-          let front = stood-front a.faults b.faults d.faults c.loop-pair.invariant.calm.faults (answers-rises X (IsBad N None) c.push_row.result b d c.push_row.ensures.cause).faults stood in
+          let front = stood-front a.faults b.faults d.faults c.loop-pair.invariant.calm.faults (shown-rises X (IsBad N None) (fault_in c.push_row.result) b d c.push_row.ensures.reads.cause).faults stood in
           let back = stood-back a.faults b.faults d.faults c.loop-pair.invariant.calm.faults stood in
           one-more X N p a.told c.args.pairs.now k c.loop-pair.pair-index c.pair-item.result c.loop-pair.rows c.push_row.new.rows h c.loop-pair-test.true c.pair-item.is (c.loop-pair.invariant.rows p k h front)
-          (λ t s. c.in-Ok.ensures.pushed p t (subst (λ told. IsEntry X N told p c.pair-item.result.1 t) (sym c.loop-pair.invariant.told) s) back);
-      calm = StaysCalm-trans _ _ _ c.loop-pair.invariant.calm c.in-Ok.ensures.cause;
-      told = c.in-Ok.ensures.told ∙ c.loop-pair.invariant.told;
+          (λ t s. c.in_ok-push_row.ensures.pushed p t (subst (λ told. IsEntry X N told p c.pair-item.result.1 t) (sym c.loop-pair.invariant.told) s) back);
+      calm = StaysCalm-trans _ _ _ c.loop-pair.invariant.calm c.in_ok-push_row.ensures.reads.cause;
+      told = c.in_ok-push_row.ensures.reads.told ∙ c.loop-pair.invariant.told;
     }
 
 pub returns-clause-rows : goal.returns-clause-rows

@@ -1,7 +1,9 @@
 use Rattle.std.proofs.Common.{None, Some, Ok, ap, ◌∙◌}
 use Rattle.uf_mfs.proofs.Answering.{way-shows}
-use Rattle.uf_mfs.specs.Plain.{child}
-use Rattle.uf_mfs.proofs.Counting.{answers-rises, stood-back, stood-front}
+use Rattle.uf_plain.specs.Edits.{child}
+use Rattle.uf_store.proofs.Calls.{shown-rises}
+use Rattle.uf_store.specs.Faults.{fault_in}
+use Rattle.uf_store.proofs.Calls.{stood-back, stood-front}
 use Rattle.uf_mfs.proofs.Seeing.{find-says, member-err, member-none, member-some}
 use Rattle.uf_mfs.specs.Bad.{IsBad}
 use Rattle.uf_mfs.proofs.looking.member.Goals as goal
@@ -21,7 +23,7 @@ pub returns-in-Err-thing_of-clause-member : goal.returns-in-Err-thing_of-clause-
 returns-in-Err-thing_of-clause-member g c = λ p es s stood.
     let X = g.S.X.BlockHash.block32 in let N = g.N.NameHash.name64 in
     let a = g.S.Store.seen c.args.store.now in let b = g.S.Store.seen c.find.new.store in let d = g.S.Store.seen c.thing_of.new.store in
-    let rises = answers-rises X (IsBad N None) c.thing_of.result b d c.thing_of.ensures.cause in
+    let rises = shown-rises X (IsBad N None) (fault_in c.thing_of.result) b d c.thing_of.ensures.reads.cause in
     let front = stood-front a.faults b.faults d.faults c.in-Ok-Some.ensures.cause.faults rises.faults stood in
     let back = stood-back a.faults b.faults d.faults c.in-Ok-Some.ensures.cause.faults stood in
     let is = find-says X N (record { size = g.met.S.X.BlockHash.size; are_bytes = g.met.S.X.BlockHash.are_bytes }) g.met.N.NameHash.fits _ p c.args.folder.now es c.args.name.now c.find.result (Ok (Some c.in-Ok-Some.entry)) (c.in-Ok-Some.is ∙ ap Ok c.in-Ok-Some.field-0-is) s
@@ -33,7 +35,7 @@ pub returns-in-Ok-clause-member : goal.returns-in-Ok-clause-member
 returns-in-Ok-clause-member g c = λ p es s stood.
     let X = g.S.X.BlockHash.block32 in let N = g.N.NameHash.name64 in
     let a = g.S.Store.seen c.args.store.now in let b = g.S.Store.seen c.find.new.store in let d = g.S.Store.seen c.thing_of.new.store in
-    let rises = answers-rises X (IsBad N None) c.thing_of.result b d c.thing_of.ensures.cause in
+    let rises = shown-rises X (IsBad N None) (fault_in c.thing_of.result) b d c.thing_of.ensures.reads.cause in
     let front = stood-front a.faults b.faults d.faults c.in-Ok-Some.ensures.cause.faults rises.faults stood in
     let back = stood-back a.faults b.faults d.faults c.in-Ok-Some.ensures.cause.faults stood in
     let is = find-says X N (record { size = g.met.S.X.BlockHash.size; are_bytes = g.met.S.X.BlockHash.are_bytes }) g.met.N.NameHash.fits _ p c.args.folder.now es c.args.name.now c.find.result (Ok (Some c.in-Ok-Some.entry)) (c.in-Ok-Some.is ∙ ap Ok c.in-Ok-Some.field-0-is) s
@@ -41,5 +43,5 @@ returns-in-Ok-clause-member g c = λ p es s stood.
     member-some X N a.told b.told p c.args.folder.now es c.args.name.now c.in-Ok-Some.entry d.told c.in-Ok.thing c.in-Ok-Some.ensures.told s is
     (λ t i. c.in-Ok.ensures.thing p t i back)
 
-pub returns-in-Err-clause-cause : goal.returns-in-Err-clause-cause
-returns-in-Err-clause-cause g c = way-shows g.S.X.BlockHash.block32 g.N.NameHash.name64 (g.N.NameHash.name64 c.args.name.now) None c.in-Err.fault _ _ c.in-Err.ensures.cause
+pub returns-in-Err-clause-reads : goal.returns-in-Err-clause-reads
+returns-in-Err-clause-reads g c = record { cause = way-shows g.S.X.BlockHash.block32 g.N.NameHash.name64 (g.N.NameHash.name64 c.args.name.now) None c.in-Err.fault _ _ c.in-Err.ensures.cause; told = c.in-Err.ensures.told }

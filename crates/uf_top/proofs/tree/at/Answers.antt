@@ -1,7 +1,7 @@
 use Rattle.std.proofs.Common.{List, ℕ, ap, ◌∙◌, None, Some}
 use Rattle.uf_mfs.specs.Bad.{IsBad}
 use Rattle.uf_mfs.specs.Standing.{head_in}
-use Rattle.uf_mfs.specs.declared.types.Mfs.{Mfs}
+use Rattle.uf_mfs.specs.declared.mfs.Mfs.{Mfs}
 use Rattle.uf_store.proofs.Keeping.{KeepsGood-trans}
 use Rattle.uf_tree.specs.Standing.{Stands}
 use Rattle.uf_top.specs.Causes.{IsBadIn}

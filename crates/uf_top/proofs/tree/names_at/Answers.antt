@@ -2,10 +2,10 @@ use Rattle.std.proofs.Common.{◌≡◌, false, List, ℕ, refl, subst, ap, None
 use Rattle.std.specs.Prelude.{IfOk}
 use Rattle.uf_cid.specs.declared.bytes.Memory.{Memory}
 use Rattle.uf_mfs.specs.Bad.{IsBad}
-use Rattle.uf_mfs.specs.Plain.{at}
+use Rattle.uf_plain.specs.Edits.{at}
 use Rattle.uf_mfs.specs.Standing.{head_in}
 use Rattle.std.specs.List.{flat_map}
-use Rattle.uf_mfs.specs.Replies.{names_at}
+use Rattle.uf_plain.specs.Replies.{names_at}
 use Rattle.uf_top.specs.Lines.{name_line}
 use Rattle.uf_top.specs.Reply.{listed, looked}
 use Rattle.uf_tree.specs.Standing.{Stands}

@@ -2,10 +2,10 @@ use Rattle.std.proofs.Common.{◌≡◌, List, ℕ, refl, subst, ap, None, Some}
 use Rattle.std.specs.Prelude.{IfOk}
 use Rattle.uf_cid.specs.declared.bytes.Memory.{Memory}
 use Rattle.uf_mfs.specs.Bad.{IsBad}
-use Rattle.uf_mfs.specs.Plain.{at}
+use Rattle.uf_plain.specs.Edits.{at}
 use Rattle.uf_mfs.specs.Standing.{head_in}
-use Rattle.uf_mfs.specs.Replies.{stat_of}
-use Rattle.uf_mfs.specs.declared.types.Stat.{Stat as TheStat}
+use Rattle.uf_plain.specs.Replies.{stat_of}
+use Rattle.uf_plain.specs.declared.reply.Stat.{Stat as TheStat}
 use Rattle.uf_top.specs.Lines.{stat_text}
 use Rattle.uf_top.specs.Reply.{looked}
 use Rattle.uf_tree.specs.Standing.{Stands}

@@ -1,0 +1,11 @@
+// What an edit does in the directory that it is made in.
+use uf_tree::Entry;
+
+/// What an edit does in the directory that all names but the last lead to: it makes an empty directory, puts an entry, or
+/// takes the last name away, a directory only where that is recursive.
+#[derive(Clone, Copy, Debug, PartialEq, Eq)]
+pub enum Change {
+    Make,
+    Put(Entry),
+    Remove(bool),
+}

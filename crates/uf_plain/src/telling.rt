@@ -1,0 +1,42 @@
+// A rule told with the path up to the name that decides.
+ghost use Rattle.std.specs.Prelude.{◌≡◌, IfOk, take};
+ghost use Rattle.uf_plain.specs.Rules.{path_text, rule_of};
+
+use crate::{Refused, Rule};
+use std::alloc::Global;
+use uf_cid::{Memory, Text};
+use uf_tree::Name;
+
+/// The rule that refuses a command with this path.
+pub fn rule_at(alloc: Global, names: &[Name], why: Refused) -> Result<Rule, Memory>
+    ensures { IfOk result (λ rule. rule ≡ rule_of names.now why) }
+{
+    match why {
+        Refused::NotFound(led) => Ok(Rule::NotFound(path_to(alloc, names, led)?)),
+        Refused::NotADirectory(led) => Ok(Rule::NotADirectory(path_to(alloc, names, led)?)),
+        Refused::IsADirectory(led) => Ok(Rule::IsADirectory(path_to(alloc, names, led)?)),
+        Refused::Exists(led) => Ok(Rule::Exists(path_to(alloc, names, led)?)),
+        Refused::NeedsRecursive(led) => Ok(Rule::NeedsRecursive(path_to(alloc, names, led)?)),
+        Refused::RootRefused => Ok(Rule::RootRefused),
+        Refused::FileTooLong => Ok(Rule::FileTooLong),
+        Refused::Collision(first, second) => Ok(Rule::Collision(first, second)),
+        Refused::TooBig => Ok(Rule::TooBig),
+    }
+}
+
+// The path of so many names.
+fn path_to(alloc: Global, names: &[Name], led: usize) -> Result<Text, Memory>
+    ensures { IfOk result (λ text. text ≡ path_text (take led names.now)) }
+{
+    let mut text = Text::new(alloc);
+    let count = led.min(names.len());
+    if count == 0 {
+        text.push_str("/")?;
+        return Ok(text);
+    }
+    for name in &names[..count] {
+        text.push_str("/")?;
+        text.push_str(name.as_str())?;
+    }
+    Ok(text)
+}
