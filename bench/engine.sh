@@ -2,8 +2,8 @@
 # Measures the engine by the program uf_bench, on one core: a name put into a directory and taken out again, in place and by
 # building the directory anew, over directories of several sizes in memory; one byte written into files of 1 and 1024 MiB in
 # memory; the CAR of a large file written and read in memory, beside hashing and copying its pieces; and a file read from the
-# store on the disk, beside sha256sum of the same bytes. Prints microseconds for an edit, and user and system seconds of the
-# rest, each the median of three.
+# store on the disk, beside sha256sum of the same bytes; and 10^5 small blocks on the disk visited as what others wrote, beside
+# reading them as a file. Prints microseconds for an edit, and user and system seconds of the rest, each the median of three.
 # CORE says which core (the last one if unset), MIB how large the file is (1024 if unset).
 set -eu
 top=$(cd "$(dirname "$0")/.." && pwd)
@@ -18,11 +18,17 @@ cd "$folder"
 head -c "$((mib * 1048576))" /dev/urandom > input
 "$top/unixfs" init > /dev/null
 root=$("$top/unixfs" add < input | cut -d' ' -f2)
+mkdir small
+head -c 102400000 input > small/input
+cd small
+"$top/unixfs" init --chunk 1024 > /dev/null
+many=$("$top/unixfs" add < input | cut -d' ' -f2)
+cd ..
 
-taskset -c "$core" python3 - "$top/crates/uf_bench/out/uf_bench" "$root" "$mib" <<'PYTHON'
+taskset -c "$core" python3 - "$top/crates/uf_bench/out/uf_bench" "$root" "$mib" "$many" <<'PYTHON'
 import os, statistics, subprocess, sys
 
-PROGRAM, ROOT, MIB = sys.argv[1], sys.argv[2], sys.argv[3]
+PROGRAM, ROOT, MIB, MANY = sys.argv[1:]
 
 
 def seconds(words, program=PROGRAM):
@@ -54,4 +60,6 @@ print(f"{MIB} MiB: {once['hash']:.2f} s to hash and copy; CAR written {once['exp
 time, memory = seconds(["read", ROOT])
 print(f"reading {MIB} MiB: {median(['read', ROOT]):.2f} s, peak {memory:.1f} MiB; "
       f"sha256sum {median(['input'], 'sha256sum'):.2f} s")
+os.chdir("small")
+print(f"100000 blocks: visited {median(['survey', MANY]):.2f} s, read {median(['read', MANY]):.2f} s")
 PYTHON

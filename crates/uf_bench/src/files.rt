@@ -6,6 +6,7 @@ use uf_cid::{Cid, Sha256Hash};
 use uf_edge::Sink;
 use uf_fileedit::write_at;
 use uf_fileread::read_range;
+use uf_lenient::{Limits, survey};
 use uf_store::{MemStore, Steps, Store};
 use uf_tree::{Entry, Profile};
 
@@ -64,6 +65,23 @@ pub fn written<S: Store, O: Sink, L: Ledger>(
         tsize: 0,
     };
     match read_range(alloc, store, &entry, 0, u64::MAX, output, touches) {
+        Ok(_) => Some(()),
+        Err(_) => None,
+    }
+}
+
+/// Visits all that is below a CID, as what others wrote is read.
+pub fn surveyed<S: Store, L: Ledger>(
+    alloc: Global,
+    store: &mut S,
+    cid: &Cid,
+    touches: &mut Steps<L>,
+) -> Option<()> {
+    let limits = Limits {
+        depth: 256,
+        visits: u32::MAX,
+    };
+    match survey(alloc, store, cid, &limits, touches) {
         Ok(_) => Some(()),
         Err(_) => None,
     }

@@ -38,6 +38,8 @@ enum Task {
     Hash(u64, u64),
     // `read CID`: a whole file written to the output.
     Read(Cid),
+    // `survey CID`: all that is below a CID visited.
+    Survey(Cid),
 }
 
 fn main(rt: HostRuntime) -> ExitCode {
@@ -57,8 +59,10 @@ fn asked<R: Env + AllocGlobal>(rt: &R) -> Option<Task> {
     let mut words = env::args(rt).ok()?.skip(1);
     let name = words.next()?;
     let first = words.next()?;
-    if name.as_str() == "read" {
-        return Some(Task::Read(Cid::parse(&first).ok()?));
+    match name.as_str() {
+        "read" => return Some(Task::Read(Cid::parse(&first).ok()?)),
+        "survey" => return Some(Task::Survey(Cid::parse(&first).ok()?)),
+        _ => {}
     }
     let size = first.parse::<u64>().ok()?;
     let edits = words.next()?.parse::<u64>().ok()?;
@@ -95,6 +99,7 @@ fn done<L: Ledger, R: Files + RandomSource, O: Sink>(
         Task::Import(mib, times) => cars::imported(alloc, *mib, *times > 0, t)?,
         Task::Hash(mib, times) => cars::hashed(alloc, *mib, *times)?,
         Task::Read(cid) => return files::written(alloc, store, cid, output, t),
+        Task::Survey(cid) => return files::surveyed(alloc, store, cid, t),
     };
     print_line(output, &root)
 }
