@@ -25,6 +25,9 @@ const DIRECTORY: [u8; 2] = [8, 1];
 
 const FILE: [u8; 2] = [8, 2];
 
+// A file of two bytes in its node, with another declared size.
+const HI: [u8; 10] = [0x0a, 8, 8, 2, 0x12, 2, 0x68, 0x69, 0x18, 9];
+
 const SHARD: [u8; 7] = [8, 5, 0x28, 0x22, 0x30, 0x80, 2];
 
 fn put_link(block: &mut Block, cid: &Cid, name: &[u8]) -> Result<(), Memory>
@@ -124,7 +127,7 @@ fn number_of(shape: &Result<Shape, DagFault>) -> usize {
     }
 }
 
-// Whether the fault is about this block.
+// Whether the answer names this block, where it names one.
 fn is_about(shape: &Result<Shape, DagFault>, cid: &Cid) -> bool {
     match shape {
         Err(DagFault::NotUnixfs(c, _)) => c == cid,
@@ -133,20 +136,110 @@ fn is_about(shape: &Result<Shape, DagFault>, cid: &Cid) -> bool {
         Err(DagFault::Unsupported(c)) => c == cid,
         Err(DagFault::TooDeep(c)) => c == cid,
         Err(DagFault::Store(StoreFault::Missing(c))) => c == cid,
-        _ => false,
+        _ => true,
     }
 }
 
-// What a survey answers for a node of these bytes.
-fn surveyed<L: Ledger>(
+// How a reading is asked for: everything below, one directory, or the bytes of a file.
+#[derive(Clone, Copy)]
+enum Asked {
+    Survey,
+    Shallow,
+    Stream,
+}
+
+// A reading of a CID, the number of its answer, and the block that it is about.
+#[derive(Clone, Copy)]
+struct Reading {
+    asked: Asked,
+    cid: Cid,
+    limits: Limits,
+    number: usize,
+    about: Cid,
+}
+
+// A survey within the usual limits, whose fault is about a block.
+fn about(cid: Cid, number: usize, about: Cid) -> Reading {
+    Reading {
+        asked: Asked::Survey,
+        cid,
+        limits: USUAL,
+        number,
+        about,
+    }
+}
+
+// A reading within the usual limits, whose fault is about its own block.
+fn row(asked: Asked, cid: Cid, number: usize) -> Reading {
+    Reading {
+        asked,
+        cid,
+        limits: USUAL,
+        number,
+        about: cid,
+    }
+}
+
+// A reading within limits, whose fault is about a block.
+fn within(asked: Asked, cid: Cid, depth: u32, visits: u32, number: usize, about: Cid) -> Reading {
+    Reading {
+        asked,
+        cid,
+        limits: Limits { depth, visits },
+        number,
+        about,
+    }
+}
+
+// The number of the answer of a file that is written out.
+fn streamed<L: Ledger>(
     alloc: Global,
-    bytes: &[u8],
+    store: &mut Kept,
+    row: &Reading,
     touches: &mut Steps<L>,
 ) -> Result<usize, Memory> {
-    let mut store = Kept::new(alloc);
-    let cid = put(alloc, &mut store, Codec::DagPb, bytes)?;
-    let shape = survey(alloc, &mut store, &cid, &USUAL, touches);
-    Ok(number_of(&shape))
+    let mut sink = MemSink::new(alloc, 1000, Calls::new(alloc))?;
+    let sent = stream(alloc, store, &row.cid, &row.limits, &mut sink, touches);
+    match sent {
+        Ok(_) => Ok(1000),
+        Err(StreamFault::Sink) => Ok(1001),
+        Err(StreamFault::Dag(fault)) => Ok(number_of_fault(&fault)),
+    }
+}
+
+// Whether a reading answers as its row says.
+fn holds<L: Ledger>(
+    alloc: Global,
+    store: &mut Kept,
+    row: &Reading,
+    touches: &mut Steps<L>,
+) -> Result<bool, Memory> {
+    match row.asked {
+        Asked::Survey => {
+            let shape = survey(alloc, store, &row.cid, &row.limits, touches);
+            Ok(number_of(&shape) == row.number && is_about(&shape, &row.about))
+        }
+        Asked::Shallow => {
+            let shape = shallow(alloc, store, &row.cid, &row.limits, touches);
+            Ok(number_of(&shape) == row.number && is_about(&shape, &row.about))
+        }
+        Asked::Stream => Ok(streamed(alloc, store, row, touches)? == row.number),
+    }
+}
+
+// The place of the first row that doesn't hold.
+fn first_wrong<L: Ledger>(
+    alloc: Global,
+    store: &mut Kept,
+    rows: &[Reading],
+    touches: &mut Steps<L>,
+) -> Result<Option<usize>, Memory> {
+    for i in 0..rows.len() {
+        if !holds(alloc, store, &rows[i], touches)? {
+            return Ok(Some(i));
+        }
+    }
+    Ok(None)
 }
 
 // Blocks without links that are read, and what a survey answers.
@@ -199,39 +292,33 @@ static BLOCKS: [(&[u8], usize); 33] = [
     (&[0x0a, 4, 8, 2, 0x42, 0], 16),
 ];
 
-fn first_wrong_block<L: Ledger>(
+// The place of the first of these blocks that is read otherwise.
+fn wrong_block<L: Ledger>(
     alloc: Global,
-    touches: &mut Steps<L>,
+    s: &mut Kept,
+    t: &mut Steps<L>,
 ) -> Result<Option<usize>, Memory> {
     for i in 0..BLOCKS.len() {
         let (bytes, wanted) = BLOCKS[i];
-        if surveyed(alloc, bytes, touches)? != wanted {
+        let cid = put(alloc, s, Codec::DagPb, bytes)?;
+        if !holds(alloc, s, &row(Asked::Survey, cid, wanted), t)? {
             return Ok(Some(i));
         }
     }
     Ok(None)
 }
 
-// The bytes of a file, joined.
-fn joined<L: Ledger>(
-    alloc: Global,
+// The bytes of a file, node by node, within so many calls.
+fn put_pieces<L: Ledger>(
     store: &mut Kept,
-    cid: &Cid,
+    pieces: &mut Pieces,
+    all: &mut Block,
     touches: &mut Steps<L>,
-) -> Result<Block, DagFault> {
-    let mut all = Block::new(alloc);
-    let Ok(mut pieces) = Pieces::new(alloc, cid, &USUAL) else {
-        return Err(DagFault::TooMany);
-    };
+) -> Result<(), DagFault> {
     for _ in 0..100 {
-        match pieces.next(store, touches) {
-            Err(fault) => return Err(fault),
-            Ok(None) => return Ok(all),
-            Ok(Some(piece)) => {
-                if all.extend(piece.as_slice()).is_err() {
-                    return Err(DagFault::TooMany);
-                }
-            }
+        match pieces.next(store, touches)? {
+            None => return Ok(()),
+            Some(piece) => all.extend(piece.as_slice())?,
         }
     }
     Err(DagFault::TooMany)
@@ -241,179 +328,126 @@ fn joined<L: Ledger>(
 fn reads<L: Ledger>(
     alloc: Global,
     store: &mut Kept,
-    cid: &Cid,
-    wanted: &[u8],
+    file: (Cid, &[u8]),
     touches: &mut Steps<L>,
 ) -> Result<bool, Memory> {
+    let (cid, wanted) = file;
+    let mut all = Block::new(alloc);
+    let mut pieces = Pieces::new(alloc, &cid, &USUAL)?;
+    let whole = put_pieces(store, &mut pieces, &mut all, touches).is_ok();
     let mut sink = MemSink::new(alloc, 1000, Calls::new(alloc))?;
-    let count = match stream(alloc, store, cid, &USUAL, &mut sink, touches) {
-        Ok(count) => count,
-        Err(_) => return Ok(false),
-    };
-    Ok(
-        matches!(joined(alloc, store, cid, touches), Ok(all) if all.as_slice() == wanted)
-            && sink.bytes() == wanted
-            && count == wanted.len() as u64,
-    )
+    let sent = stream(alloc, store, &cid, &USUAL, &mut sink, touches).is_ok();
+    Ok(whole && sent && all.as_slice() == wanted && sink.bytes() == wanted)
 }
 
-// The number of the fault of a file that can't be written out.
-fn unread<L: Ledger>(
+// The place of the first file that has other bytes.
+fn wrong_bytes<L: Ledger>(
     alloc: Global,
     store: &mut Kept,
-    cid: &Cid,
+    files: &[(Cid, &[u8])],
     touches: &mut Steps<L>,
-) -> Result<usize, Memory> {
-    let mut sink = MemSink::new(alloc, 1000, Calls::new(alloc))?;
-    Ok(
-        match stream(alloc, store, cid, &USUAL, &mut sink, touches) {
-            Ok(_) => 1000,
-            Err(StreamFault::Sink) => 1001,
-            Err(StreamFault::Dag(fault)) => number_of_fault(&fault),
-        },
-    )
+) -> Result<Option<usize>, Memory> {
+    for i in 0..files.len() {
+        if !reads(alloc, store, files[i], touches)? {
+            return Ok(Some(i));
+        }
+    }
+    Ok(None)
 }
 
-// Files: their own bytes come first, then those of the links; another kind below a file is refused, as a beginning too.
-fn files<L: Ledger>(alloc: Global, touches: &mut Steps<L>) -> Result<bool, Memory> {
-    let mut store = Kept::new(alloc);
-    let s = &mut store;
-    let hi = put(
-        alloc,
-        s,
-        Codec::DagPb,
-        &[0x0a, 8, 8, 2, 0x12, 2, 0x68, 0x69, 0x18, 9],
-    )?;
+// Files: their own bytes come first, then those of the links.
+fn wrong_file<L: Ledger>(
+    alloc: Global,
+    s: &mut Kept,
+    t: &mut Steps<L>,
+) -> Result<Option<usize>, Memory> {
+    let hi = put(alloc, s, Codec::DagPb, &HI)?;
     let a = put(alloc, s, Codec::Raw, b"a")?;
     let hello = put(alloc, s, Codec::Raw, b"hello world")?;
     let none = put(alloc, s, Codec::Raw, b"")?;
-    let inner = put_node(
-        alloc,
-        s,
-        &[(a, b"x"), (none, b""), (hi, b"")],
-        &[8, 2, 0x12, 1, 0x2d],
-    )?;
+    let below = [(a, b"x".as_slice()), (none, b""), (hi, b"")];
+    let inner = put_node(alloc, s, &below, &[8, 2, 0x12, 1, 0x2d])?;
     let outer = put_node(alloc, s, &[(inner, b""), (a, b""), (inner, b"")], &FILE)?;
+    let files = [
+        (hi, b"hi".as_slice()),
+        (hello, b"hello world"),
+        (inner, b"-ahi"),
+        (outer, b"-ahia-ahi"),
+    ];
+    wrong_bytes(alloc, s, &files, t)
+}
+
+// Another kind below a file is refused, as a beginning too.
+fn wrong_part<L: Ledger>(
+    alloc: Global,
+    s: &mut Kept,
+    t: &mut Steps<L>,
+) -> Result<Option<usize>, Memory> {
+    let lost = raw(b"lost");
+    let a = put(alloc, s, Codec::Raw, b"a")?;
     let empty = put_node(alloc, s, &[], &DIRECTORY)?;
     let link = put_node(alloc, s, &[], &[8, 4])?;
     let shard = put_node(alloc, s, &[], &[8, 5])?;
-    let lost = put_node(
-        alloc,
-        s,
-        &[(a, b""), (raw(b"lost"), b""), (empty, b"")],
-        &FILE,
-    )?;
-    let above = put_node(
-        alloc,
-        s,
-        &[(a, b""), (empty, b""), (raw(b"lost"), b"")],
-        &FILE,
-    )?;
+    let early = put_node(alloc, s, &[(a, b""), (lost, b""), (empty, b"")], &FILE)?;
+    let late = put_node(alloc, s, &[(a, b""), (empty, b""), (lost, b"")], &FILE)?;
     let over_link = put_node(alloc, s, &[(link, b"")], &FILE)?;
     let over_shard = put_node(alloc, s, &[(shard, b"")], &FILE)?;
-    Ok(
-        reads(alloc, s, &hi, b"hi", touches)?
-            && reads(alloc, s, &hello, b"hello world", touches)?
-            && reads(alloc, s, &inner, b"-ahi", touches)?
-            && reads(alloc, s, &outer, b"-ahia-ahi", touches)?
-            && unread(alloc, s, &lost, touches)? == 400
-            && unread(alloc, s, &above, touches)? == 20
-            && unread(alloc, s, &over_link, touches)? == 20
-            && unread(alloc, s, &over_shard, touches)? == 20
-            && unread(alloc, s, &empty, touches)? == 20
-            && unread(alloc, s, &shard, touches)? == 20
-            && unread(alloc, s, &link, touches)? == 102
-            && number_of(&survey(alloc, s, &above, &USUAL, touches)) == 20
-            && is_about(&survey(alloc, s, &above, &USUAL, touches), &empty)
-            && number_of(&shallow(alloc, s, &above, &USUAL, touches)) == 1000,
-    )
+    let rows = [
+        row(Asked::Stream, early, 400),
+        row(Asked::Stream, late, 20),
+        row(Asked::Stream, over_link, 20),
+        row(Asked::Stream, over_shard, 20),
+        row(Asked::Stream, empty, 20),
+        row(Asked::Stream, shard, 20),
+        row(Asked::Stream, link, 102),
+        row(Asked::Shallow, late, 1000),
+        about(early, 400, lost),
+        about(late, 20, empty),
+    ];
+    first_wrong(alloc, s, &rows, t)
 }
 
 // Directories: names are checked where they are met, and then members are read in byte order.
-fn directories<L: Ledger>(alloc: Global, touches: &mut Steps<L>) -> Result<bool, Memory> {
-    let mut store = Kept::new(alloc);
-    let s = &mut store;
-    let a = put(alloc, s, Codec::Raw, b"a")?;
+fn wrong_directory<L: Ledger>(
+    alloc: Global,
+    s: &mut Kept,
+    t: &mut Steps<L>,
+) -> Result<Option<usize>, Memory> {
     let lost = raw(b"lost");
+    let a = put(alloc, s, Codec::Raw, b"a")?;
     let link = put_node(alloc, s, &[], &[8, 4])?;
-    let hi = put(
-        alloc,
-        s,
-        Codec::DagPb,
-        &[0x0a, 6, 8, 2, 0x12, 2, 0x68, 0x69],
-    )?;
-    let old = over_old(alloc, &hi)?;
-    let old = put(alloc, s, Codec::DagPb, old.as_slice())?;
+    let hi = put(alloc, s, Codec::DagPb, &HI)?;
+    let spelled = over_old(alloc, &hi)?;
+    let old = put(alloc, s, Codec::DagPb, spelled.as_slice())?;
     let two = put_node(alloc, s, &[(a, b"y"), (a, b"x")], &DIRECTORY)?;
     let twice = put_node(alloc, s, &[(lost, b"x"), (a, b"x"), (a, b"..")], &DIRECTORY)?;
     let bad = put_node(alloc, s, &[(lost, b"x"), (a, b""), (a, b"x")], &DIRECTORY)?;
     let order = put_node(alloc, s, &[(lost, b"y"), (link, b"x")], &DIRECTORY)?;
     let over = put_node(alloc, s, &[(two, b"two"), (order, b"order")], &DIRECTORY)?;
-    let path = put_node(alloc, s, &[(over, b"d"), (a, b"f")], &DIRECTORY)?;
-    Ok(
-        number_of(&survey(alloc, s, &two, &USUAL, touches)) == 2002
-            && number_of(&survey(alloc, s, &twice, &USUAL, touches)) == 100
-            && is_about(&survey(alloc, s, &twice, &USUAL, touches), &twice)
-            && number_of(&shallow(alloc, s, &twice, &USUAL, touches)) == 100
-            && number_of(&survey(alloc, s, &bad, &USUAL, touches)) == 101
-            && number_of(&survey(alloc, s, &order, &USUAL, touches)) == 102
-            && is_about(&survey(alloc, s, &order, &USUAL, touches), &link)
-            && number_of(&shallow(alloc, s, &order, &USUAL, touches)) == 2002
-            && is_about(&survey(alloc, s, &over, &USUAL, touches), &link)
-            && number_of(&survey(alloc, s, &old, &USUAL, touches)) == 2001
-            && leads(alloc, s, &path, "d/two/x", touches)? == 1000
-            && leads(alloc, s, &path, "d/three/x", touches)? == 201
-            && leads(alloc, s, &path, "f/x", touches)? == 301
-            && leads(alloc, s, &path, "", touches)? == 1000,
-    )
-}
-
-fn followed<L: Ledger>(
-    alloc: Global,
-    store: &mut Kept,
-    path: &DagPath,
-    touches: &mut Steps<L>,
-) -> usize {
-    if path.names.len() > 1000 {
-        return 401;
-    }
-    match resolve(alloc, store, path, &USUAL, touches) {
-        Ok(_) => 1000,
-        Err(fault) => number_of_fault(&fault),
-    }
-}
-
-// Where a path from a root leads.
-fn leads<L: Ledger>(
-    alloc: Global,
-    store: &mut Kept,
-    root: &Cid,
-    names: &str,
-    touches: &mut Steps<L>,
-) -> Result<usize, Memory> {
-    let text = root.text();
-    let Ok(front) = str::from_utf8(&text) else {
-        return Ok(401);
-    };
-    let Ok(word) = format!(in alloc; "{front}/{names}") else {
-        return Ok(401);
-    };
-    match DagPath::parse(alloc, word.as_str()) {
-        Ok(path) => Ok(followed(alloc, store, &path, touches)),
-        Err(_) => Ok(401),
-    }
+    let rows = [
+        row(Asked::Survey, old, 2001),
+        row(Asked::Survey, two, 2002),
+        row(Asked::Survey, twice, 100),
+        row(Asked::Shallow, twice, 100),
+        row(Asked::Survey, bad, 101),
+        row(Asked::Shallow, order, 2002),
+        about(order, 102, link),
+        about(over, 102, link),
+    ];
+    first_wrong(alloc, s, &rows, t)
 }
 
 // Directories in shards: sub-shards are read in their place.
-fn shards<L: Ledger>(alloc: Global, touches: &mut Steps<L>) -> Result<bool, Memory> {
-    let mut store = Kept::new(alloc);
-    let s = &mut store;
-    let a = put(alloc, s, Codec::Raw, b"a")?;
+fn wrong_shard<L: Ledger>(
+    alloc: Global,
+    s: &mut Kept,
+    t: &mut Steps<L>,
+) -> Result<Option<usize>, Memory> {
     let lost = raw(b"lost");
+    let a = put(alloc, s, Codec::Raw, b"a")?;
     let empty = put_node(alloc, s, &[], &DIRECTORY)?;
     let other = put_node(alloc, s, &[], &[8, 5])?;
     let low = put_node(alloc, s, &[(a, b"FFx"), (a, b"00y")], &SHARD)?;
-    let root = put_node(alloc, s, &[(a, b"00z"), (low, b"01"), (a, b"00a")], &SHARD)?;
     let twice = put_node(
         alloc,
         s,
@@ -434,85 +468,160 @@ fn shards<L: Ledger>(alloc: Global, touches: &mut Steps<L>) -> Result<bool, Memo
     let over_raw = put_node(alloc, s, &[(a, b"00")], &SHARD)?;
     let over_empty = put_node(alloc, s, &[(empty, b"00")], &SHARD)?;
     let over_other = put_node(alloc, s, &[(other, b"00")], &SHARD)?;
-    Ok(
-        number_of(&survey(alloc, s, &root, &USUAL, touches)) == 2004
-            && number_of(&survey(alloc, s, &twice, &USUAL, touches)) == 400
-            && number_of(&survey(alloc, s, &later, &USUAL, touches)) == 100
-            && is_about(&survey(alloc, s, &later, &USUAL, touches), &later)
-            && is_about(&survey(alloc, s, &below, &USUAL, touches), &low)
-            && number_of(&survey(alloc, s, &digits, &USUAL, touches)) == 21
-            && number_of(&survey(alloc, s, &short, &USUAL, touches)) == 21
-            && is_about(&survey(alloc, s, &short, &USUAL, touches), &short)
-            && number_of(&survey(alloc, s, &bad, &USUAL, touches)) == 101
-            && number_of(&shallow(alloc, s, &like, &USUAL, touches)) == 2002
-            && leads(alloc, s, &like, "FF", touches)? == 1000
-            && number_of(&survey(alloc, s, &over_raw, &USUAL, touches)) == 20
-            && is_about(&survey(alloc, s, &over_raw, &USUAL, touches), &a)
-            && number_of(&survey(alloc, s, &over_empty, &USUAL, touches)) == 20
-            && number_of(&survey(alloc, s, &over_other, &USUAL, touches)) == 102
-            && number_of(&shallow(alloc, s, &root, &with(1, 2), touches)) == 2004
-            && number_of(&shallow(alloc, s, &root, &with(1, 1), touches)) == 104
-            && number_of(&shallow(alloc, s, &root, &with(0, 2), touches)) == 103
-            && number_of(&survey(alloc, s, &root, &with(2, 6), touches)) == 2004
-            && number_of(&survey(alloc, s, &root, &with(2, 5), touches)) == 104
-            && number_of(&survey(alloc, s, &root, &with(1, 6), touches)) == 103,
-    )
+    let rows = [
+        about(twice, 400, lost),
+        row(Asked::Survey, later, 100),
+        about(below, 100, low),
+        row(Asked::Survey, digits, 21),
+        row(Asked::Survey, short, 21),
+        row(Asked::Survey, bad, 101),
+        row(Asked::Shallow, like, 2002),
+        about(over_raw, 20, a),
+        about(over_empty, 20, empty),
+        about(over_other, 102, other),
+    ];
+    first_wrong(alloc, s, &rows, t)
 }
 
-fn with(depth: u32, visits: u32) -> Limits {
-    Limits { depth, visits }
-}
-
-// 300 directories, one in the other, and which of them is 257 links below the top; then 40 that link the next one
-// twice.
-fn limits<L: Ledger>(alloc: Global, touches: &mut Steps<L>) -> Result<bool, Memory> {
-    let mut store = Kept::new(alloc);
-    let s = &mut store;
+// Limits that are met, and by one not: a shard over a shard, 300 directories, one in the other, of which the 258th is too
+// deep, and 40 that link the next one twice.
+fn wrong_limit<L: Ledger>(
+    alloc: Global,
+    s: &mut Kept,
+    t: &mut Steps<L>,
+) -> Result<Option<usize>, Memory> {
+    let a = put(alloc, s, Codec::Raw, b"a")?;
+    let low = put_node(alloc, s, &[(a, b"FFx"), (a, b"00y")], &SHARD)?;
+    let root = put_node(alloc, s, &[(a, b"00z"), (low, b"01"), (a, b"00a")], &SHARD)?;
     let mut top = put_node(alloc, s, &[], &DIRECTORY)?;
+    let mut twice = top;
     let mut deep = top;
     for i in 1..300 {
         top = put_node(alloc, s, &[(top, b"d")], &DIRECTORY)?;
-        if i == 42 {
-            deep = top;
-        }
+        deep = if i == 42 { top } else { deep };
     }
-    let mut twice = put_node(alloc, s, &[], &DIRECTORY)?;
     for _ in 1..40 {
         twice = put_node(alloc, s, &[(twice, b"a"), (twice, b"b")], &DIRECTORY)?;
     }
+    let rows = [
+        within(Asked::Shallow, root, 1, 2, 2004, root),
+        within(Asked::Shallow, root, 1, 1, 104, root),
+        within(Asked::Shallow, root, 0, 2, 103, low),
+        within(Asked::Survey, root, 2, 6, 2004, root),
+        within(Asked::Survey, root, 2, 5, 104, root),
+        within(Asked::Survey, root, 1, 6, 103, a),
+        about(top, 103, deep),
+        within(Asked::Survey, top, 299, 300, 2001, top),
+        within(Asked::Survey, twice, 256, 5000, 104, twice),
+    ];
+    first_wrong(alloc, s, &rows, t)
+}
+
+// Where a path leads: 1000 where it leads to a CID.
+fn followed<L: Ledger>(
+    alloc: Global,
+    store: &mut Kept,
+    path: &DagPath,
+    touches: &mut Steps<L>,
+) -> usize {
+    if path.names.len() > 1000 {
+        return 401;
+    }
+    match resolve(alloc, store, path, &USUAL, touches) {
+        Ok(_) => 1000,
+        Err(fault) => number_of_fault(&fault),
+    }
+}
+
+fn leads<L: Ledger>(
+    alloc: Global,
+    store: &mut Kept,
+    root: &Cid,
+    names: &str,
+    touches: &mut Steps<L>,
+) -> Result<usize, Memory> {
+    let text = root.text();
+    let Ok(front) = str::from_utf8(&text) else {
+        return Ok(401);
+    };
+    let Ok(word) = format!(in alloc; "{front}/{names}") else {
+        return Ok(401);
+    };
+    match DagPath::parse(alloc, word.as_str()) {
+        Ok(path) => Ok(followed(alloc, store, &path, touches)),
+        Err(_) => Ok(401),
+    }
+}
+
+// Names along a path.
+static PATHS: [(&str, usize); 5] = [
+    ("d/x", 1000),
+    ("d/z/x", 201),
+    ("f/x", 301),
+    ("z", 200),
+    ("", 1000),
+];
+
+fn wrong_path<L: Ledger>(
+    alloc: Global,
+    s: &mut Kept,
+    t: &mut Steps<L>,
+) -> Result<Option<usize>, Memory> {
+    let a = put(alloc, s, Codec::Raw, b"a")?;
+    let low = put_node(alloc, s, &[(a, b"00x")], &SHARD)?;
+    let over = put_node(alloc, s, &[(low, b"d"), (a, b"f")], &DIRECTORY)?;
+    for i in 0..PATHS.len() {
+        let (names, wanted) = PATHS[i];
+        if leads(alloc, s, &over, names, t)? != wanted {
+            return Ok(Some(i));
+        }
+    }
+    Ok(None)
+}
+
+// The place of the first wrong row in a group of rows, with the group's number in front.
+fn in_group(found: Option<usize>, group: usize) -> usize {
+    match found {
+        None => 0,
+        Some(at) => group.saturating_add(at),
+    }
+}
+
+fn wrong_row<L: Ledger>(alloc: Global, s: &mut Kept, t: &mut Steps<L>) -> Result<usize, Memory> {
+    let blocks = in_group(wrong_block(alloc, s, t)?, 100);
+    let files = in_group(wrong_file(alloc, s, t)?, 200);
+    let parts = in_group(wrong_part(alloc, s, t)?, 300);
+    let directories = in_group(wrong_directory(alloc, s, t)?, 400);
+    let shards = in_group(wrong_shard(alloc, s, t)?, 500);
+    let limits = in_group(wrong_limit(alloc, s, t)?, 600);
+    let paths = in_group(wrong_path(alloc, s, t)?, 700);
     Ok(
-        number_of(&survey(alloc, s, &top, &USUAL, touches)) == 103
-            && is_about(&survey(alloc, s, &top, &USUAL, touches), &deep)
-            && number_of(&survey(alloc, s, &top, &with(299, 300), touches)) == 2001
-            && number_of(&survey(alloc, s, &twice, &with(256, 5000), touches)) == 104,
+        blocks
+            .max(files)
+            .max(parts)
+            .max(directories)
+            .max(shards)
+            .max(limits)
+            .max(paths),
     )
 }
 
-// The number of the first group of rows that is wrong.
-fn first_wrong<L: Ledger>(alloc: Global, blank: Blank) -> Result<Option<usize>, Memory>
+// The number of a row that is wrong; 0 where all hold.
+fn over_store<L: Ledger>(alloc: Global, blank: Blank) -> Result<usize, Memory>
     requires name { blank.name ≡ L.name }
     requires parts { blank.parts ≡ L.parts }
     requires some { 0 < blank.parts }
 {
+    let mut store = Kept::new(alloc);
     let mut touches = Steps::<L>::new(blank);
-    let t = &mut touches;
-    if let Some(at) = first_wrong_block(alloc, t)? {
-        return Ok(Some(100usize.saturating_add(at)));
-    }
-    let rows = [
-        files(alloc, t)?,
-        directories(alloc, t)?,
-        shards(alloc, t)?,
-        limits(alloc, t)?,
-    ];
-    Ok(rows.iter().position(|right| !*right))
+    wrong_row(alloc, &mut store, &mut touches)
 }
 
-fn first_wrong_row(alloc: Global) -> Result<Option<usize>, Memory> {
-    first_wrong::<Brand>(alloc, Blank::new(1))
+fn first_wrong_row(alloc: Global) -> Result<usize, Memory> {
+    over_store::<Brand>(alloc, Blank::new(1))
 }
 
 #[test]
 fn rows(rt: HostRuntime) {
-    assert_eq!(rt; first_wrong_row(rt.alloc()), Ok(None));
+    assert_eq!(rt; first_wrong_row(rt.alloc()), Ok(0));
 }
