@@ -18,7 +18,13 @@ fn text_of(rule: &Rule) -> &str {
 #[test]
 fn rules_tell_their_paths(rt: HostRuntime) -> Result<(), Fail> {
     let path = Path::parse(rt.alloc(), "/a/b c/d")?;
-    for (led, text) in [(0, "/"), (1, "/a"), (2, "/a/b c"), (3, "/a/b c/d"), (4, "/a/b c/d")] {
+    for (led, text) in [
+        (0, "/"),
+        (1, "/a"),
+        (2, "/a/b c"),
+        (3, "/a/b c/d"),
+        (4, "/a/b c/d"),
+    ] {
         let rule = rule_at(rt.alloc(), path.names.as_slice(), Refused::NotFound(led))?;
         assert_eq!(rt; text_of(&rule), text);
     }

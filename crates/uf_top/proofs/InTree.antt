@@ -1,7 +1,6 @@
 -- From calls on the tree to replies.
 use Rattle.std.proofs.Common.{◌≡◌, ℕ, List, [], ◌∷◌, refl, sym, ap, subst, ◌∙◌, inl, inr, Option, Some, None, Result, Ok, Err}
 use Rattle.std.specs.Prelude.{IfOk, IfSome}
-use Rattle.uf_plain.specs.Rules.{rule_of}
 use Rattle.uf_mfs.specs.Answers as tree
 use Rattle.uf_mfs.specs.Standing.{FindsHead, Inits, IsUnready, IsWanting, Opens, ReadsHead, StandsAt, TellsAs, head_in}
 use Rattle.uf_mfs.specs.declared.mfs.Mfs.{Mfs}

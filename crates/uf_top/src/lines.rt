@@ -10,8 +10,8 @@ use crate::{Refusal, Status};
 use std::alloc::Global;
 use uf_cid::{Block, Cid, Memory};
 use uf_mfs::Ready;
-use uf_plain::Rule;
 use uf_path::PathFault;
+use uf_plain::Rule;
 use uf_store::{Role, StoreFault};
 use uf_words::shown;
 

@@ -1,7 +1,7 @@
 // What words ask for, and why it is refused.
 use uf_mfs::Ready;
-use uf_plain::Rule;
 use uf_path::{Path, PathFault};
+use uf_plain::Rule;
 use uf_store::StoreFault;
 use uf_tree::Profile;
 
