@@ -483,8 +483,8 @@ fn wrong_shard<L: Ledger>(
     first_wrong(alloc, s, &rows, t)
 }
 
-// Limits that are met, and by one not: a shard over a shard, 300 directories, one in the other, of which the 258th is too
-// deep, and 40 that link the next one twice.
+// Limits that are met, and by one not: a shard over a shard, 300 directories, one in the other, of which the 258th is
+// too deep, and 40 that link the next one twice.
 fn wrong_limit<L: Ledger>(
     alloc: Global,
     s: &mut Kept,
