@@ -16,7 +16,8 @@ use Rattle.uf_store.specs.Clashes.{IsLoadFault}
 use Rattle.uf_store.specs.Contents.{Told, held_at}
 use Rattle.uf_store.specs.Faults.{NoneIsBad, Shown, Shows, StaysCalm}
 use Rattle.uf_store.specs.Keeping.{Agrees, HoldsOne}
-use Rattle.uf_store.specs.Lost.{FindsOver, ReadsOver}
+use Rattle.uf_store.specs.Lost.{IsLossOf, ReadsOver}
+use Rattle.uf_plain.specs.Needs.{own_needs, root_of}
 use Rattle.uf_store.specs.Seen.{Finds, Seen}
 use Rattle.uf_tree.specs.declared.nodes.Entry.{Entry}
 use Rattle.uf_tree.specs.declared.profile.Profile.{Profile}
@@ -44,15 +45,12 @@ use Rattle.uf_mfs.specs.Answers.{Answers, Meets, Says, Tells, stop_of}
 use Rattle.uf_plain.specs.Rules.{rule_of}
 use Rattle.uf_mfs.specs.Bad.{IsBad}
 use Rattle.uf_mfs.specs.Steps.{stop_fault}
-use Rattle.uf_plain.specs.Replies.{size}
-use Rattle.uf_mfs.specs.Standing.{IsEntry, IsThing}
+use Rattle.uf_mfs.specs.Standing.{IsAgreed}
 use Rattle.uf_store.proofs.Causes.{calm-rises}
 use Rattle.uf_store.proofs.Causes.{Shows-by}
-use Rattle.uf_mfs.proofs.Files as files
-use Rattle.uf_mfs.proofs.Holding.{tells-agrees}
-use Rattle.uf_mfs.proofs.Planning.{is-planned, own-told}
-use Rattle.uf_mfs.proofs.Rooting.{IsRead, directory-read, file_node-read, root-held, root-of}
-use Rattle.uf_mfs.proofs.Seeing.{finds-says, reads-says}
+use Rattle.uf_mfs.proofs.Agreed.{own-agrees}
+use Rattle.uf_mfs.proofs.Planning.{planned-of}
+use Rattle.uf_mfs.proofs.Rooting.{IsRead, directory-read, root-block-of, root-loss}
 
 length-replicate : (n : ℕ) → length {A = ℕ} (replicate n 0) ≡ n
 length-replicate ℕ.zero = refl
@@ -99,12 +97,10 @@ stop-shows hash N h profile f s a b is shown = subst (λ (s : Stop). Shown hash 
     by (dir.Store g) shown = way-shows hash N h profile g a b shown
 
 -- what is listed of a folder
-pub entries-says : (X : List ℕ → List ℕ) (N : List ℕ → ℕ) → IsHash X → ((name : List ℕ) → N name < 2 ^ 64) → (told : Told) (p : Profile) (e : Entry) (es : Entries) (r q : Result (List Named) StoreFault) → r ≡ q → IsEntry X N told p e (Dir es)
+pub entries-says : (X : List ℕ → List ℕ) (N : List ℕ → ℕ) → IsHash X → ((name : List ℕ) → N name < 2 ^ 64) → (told : Told) (p : Profile) (e : Entry) (es : Entries) (r : Result (List Named) StoreFault) → IsAgreed X N told p e (Dir es)
     → ((M : List ℕ → ℕ) (p : Profile) (l : List Named) → IsPlanned X M p e.cid l → Agrees told (own_plan X M p l).blocks → ReadsOver told (own_plan X M p l).blocks l r)
-    → Says (named_entries X N p es) q
-entries-says X N hash fits told p e es r q is s reads =
-    let held = own-told X N p told e es s in
-    subst (Says (named_entries X N p es)) is (reads-says told _ _ r held (reads N p _ (is-planned X N p told e es s hash fits) (tells-agrees told _ held)))
+    → ReadsOver told (own_needs X N p (Dir es)) (named_entries X N p es) r
+entries-says X N hash fits told p e es r s reads = reads N p _ (planned-of X N p e es s.plan hash fits) (own-agrees X N p told e es s)
 
 map-names : (X : List ℕ → List ℕ) (N : List ℕ → ℕ) (p : Profile) (l : List (List ℕ × Tree)) → map (λ (m : Named). m.0) (map (λ (e : List ℕ × Tree). (e.0, entry X N p e.1)) l) ≡ map (λ (m : List ℕ × Tree). m.0) l
 map-names X N p [] = refl
@@ -112,22 +108,6 @@ map-names X N p (m ∷ l) = ap (λ k. m.0 ∷ k) (map-names X N p l)
 
 pub names-listed : (X : List ℕ → List ℕ) (N : List ℕ → ℕ) (p : Profile) (es : Entries) (l : List Named) (names : List (List ℕ)) → l ≡ named_entries X N p es → names ≡ map (λ (m : Named). m.0) l → names ≡ map (λ (m : List ℕ × Tree). m.0) (pairs es)
 names-listed X N p es l names is h = h ∙ ap (map (λ (m : Named). m.0)) is ∙ map-names X N p (pairs es)
-
--- a command that is refused by a lookup, and one that goes on from it
-pub answer-err : {A B D : Type 0} (P : A → B → Type 0) (Q : A → D → Type 0) (names : List (List ℕ)) (w : Result A Refused) (s : Stop) (f : MfsFault)
-    → Tells names s f → Meets P w (Err s) → Answers Q names w (Err f)
-answer-err P Q names (Ok a) (stop.Refused why) f t h = absurd h
-answer-err P Q names (Err why) (stop.Refused given) (fault.Rule rule) t h = t ∙ ap (rule_of names) h
-answer-err P Q names w (stop.Refused given) (fault.Ready ready) t h = absurd t
-answer-err P Q names w (stop.Refused given) fault.Sink t h = absurd t
-answer-err P Q names (Err why) (stop.Refused given) (fault.Store f) t h = t
-answer-err P Q names (Ok a) (stop.Store g) f t h = subst (λ f. Answers Q names (Ok a) (Err f)) (sym t) h
-answer-err P Q names (Err why) (stop.Store g) f t h = subst (λ f. Answers Q names (Err why) (Err f)) (sym t) h
-
-pub answer-then : {A B D : Type 0} (P : A → B → Type 0) (Q : A → D → Type 0) (names : List (List ℕ)) (w : Result A Refused) (b : B) (r : Result D MfsFault)
-    → Meets P w (Ok b) → ((a : A) → P a b → Answers Q names (Ok a) r) → Answers Q names w r
-answer-then P Q names (Ok a) b r h more = more a h
-answer-then P Q names (Err why) b r h more = absurd h
 
 -- ---- the root block
 
@@ -138,22 +118,22 @@ unread-bad N bytes f size unread = λ c. clash (directory-read None true bytes c
     clash : IsRead bytes → ⊥
     clash r = (let e : Ok r.0 ≡ Err f = sym r.1 ∙ unread in cc)
 
--- a load of a root block that is held can only want memory
-pub need-fault : (X : List ℕ → List ℕ) (N : List ℕ → ℕ) → IsHash X → (p : Profile) (e : Entry) (t : Tree) (f : StoreFault) (a b : Seen) → IsEntry X N a.told p e t → Stood a.faults b.faults
-    → b.told ≡ a.told → IsLoadFault e.cid f → Shows X NoneIsBad f a b → f ≡ Memory
+-- a load under the CID of a tree fails for want of its root block, or of memory
+pub need-fault : (X : List ℕ → List ℕ) (N : List ℕ → ℕ) → IsHash X → (p : Profile) (e : Entry) (t : Tree) (f : StoreFault) (a b : Seen) → IsAgreed X N a.told p e t → Stood a.faults b.faults
+    → b.told ≡ a.told → IsLoadFault e.cid f → Shows X NoneIsBad f a b → IsLossOf a.told (root_of X N p t) f
 need-fault X N hash p e t Failed a b s stood same load h = absurd (omega (arith, stood, h.rose))
 need-fault X N hash p e t (Damaged c) a b s stood same load h = absurd (omega (arith, stood, h.rose))
-need-fault X N hash p e t (Missing c) a b s stood same load h = absurd (by a.told s (subst (λ told. IfSome told (λ u. held_at u c ≡ None)) same h.not_held))
+need-fault X N hash p e t (Missing c) a b s stood same load h =
+    let r = root-block-of X N hash p e t s.plan in
+    let under : e.cid ≡ r.0.0 = ap (λ (e : Entry). e.cid) s.plan.is ∙ sym r.1.cid in
+    root-loss X N hash a.told p e t r.0 (Missing c) s.plan r.1.cid (by r.0 a.told (load ∙ under) (subst (λ told. IfSome told (λ u. held_at u c ≡ None)) same h.not_held))
   where
-    by : (told : Told) → IsEntry X N told p e t → IfSome told (λ u. held_at u c ≡ None) → ⊥
-    by None s lost = s.held
-    by (Some u) s lost =
-        let held = root-held X N hash u p e t s in
-        let no : held_at u e.cid ≡ None = subst (λ c. held_at u c ≡ None) load lost in
-        (let clash : None ≡ Some (root-of X N hash (Some u) p e t s).0.1 = sym no ∙ held in cc)
+    by : (root : Held) (told : Told) → c ≡ root.0 → IfSome told (λ u. held_at u c ≡ None) → IsLossOf told (root ∷ []) (Missing c)
+    by root None is lost = tt
+    by root (Some u) is lost = inl (is, ap (held_at u) (sym is) ∙ lost)
 need-fault X N hash p e t (BadBlock c role) a b s stood same load h = absurd load
 need-fault X N hash p e t (Clash c held bytes) a b s stood same load h = absurd load
-need-fault X N hash p e t Memory a b s stood same load h = refl
+need-fault X N hash p e t Memory a b s stood same load h = tt
 
 pub unread-says : (lent : List ℕ) (cid : Cid) (f : StoreFault) (fault : PbFault) → (f ≡ Memory) ⊎ ((fault ≢ pb.Memory) × (f ≡ BadBlock cid Directory)) → Fails fault (node_reads lent) → IsRead lent → f ≡ Memory
 unread-says lent cid f fault (inl is) why read = is

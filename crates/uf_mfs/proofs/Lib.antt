@@ -1,3 +1,4 @@
+pub mod Agreed
 pub mod Answering
 pub mod Judging
 pub mod Files
@@ -9,6 +10,7 @@ pub mod Measured
 pub mod Meeting
 pub mod Membering
 pub mod Moving
+pub mod Needed
 pub mod Planning
 pub mod Removing
 pub mod Rooting

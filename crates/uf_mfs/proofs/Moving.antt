@@ -47,7 +47,6 @@ use Rattle.uf_mfs.specs.Standing.{IsEntry, IsMeant, IsMember, TellsHeld}
 use Rattle.uf_mfs.proofs.Hinge.{AllSound, IsDir, IsSound, all-later, as-dir, entry-later, from-dir, members-sound, own-refusal, refused-above}
 use Rattle.uf_plain.proofs.Plans.{each-find, each-put, each-where, find-child}
 use Rattle.uf_mfs.proofs.Holding.{loss-fault, tells-after, tells-agrees}
-use Rattle.uf_mfs.proofs.Rooting.{equal_of}
 use Rattle.uf_mfs.proofs.Meeting.{meets-memory, value-err}
 use Rattle.uf_mfs.proofs.Planning.{is-planned, not-big, own-told}
 use Rattle.uf_mfs.proofs.Seeing.{reads-says}

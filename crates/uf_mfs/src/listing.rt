@@ -4,12 +4,15 @@ ghost use Rattle.uf_edge.specs.Counts.{Stood};
 ghost use Rattle.uf_tree.specs.declared.profile.Profile.{Profile};
 ghost use Rattle.uf_tree.specs.Nodes.{Named};
 ghost use Rattle.uf_tree.specs.Tree.{Dir, Entries, Tree, pairs as pairs_in};
-ghost use Rattle.uf_mfs.specs.Answers.{Pushes, Says};
+ghost use Rattle.uf_mfs.specs.Answers.{Pushes};
 ghost use Rattle.uf_mfs.specs.Bad.{IsBad};
 ghost use Rattle.uf_store.specs.Calls.{OnlyReads};
 ghost use Rattle.uf_store.specs.Faults.{fault_in};
 ghost use Rattle.uf_plain.specs.Replies.{last_name, names_at, row_of as row_at, rows_at, size as size_at};
-ghost use Rattle.uf_mfs.specs.Standing.{AreMembers, IsEntry, IsThing};
+ghost use Rattle.std.specs.List.{flat_map};
+ghost use Rattle.uf_plain.specs.Needs.{own_needs, root_of, rows_need};
+ghost use Rattle.uf_store.specs.Lost.{ReadsOver};
+ghost use Rattle.uf_mfs.specs.Standing.{AreMembers, IsAgreed, IsAgreedThing};
 
 use crate::Thing;
 use crate::looking::thing_of;
@@ -30,9 +33,9 @@ pub(crate) fn names_of<S: Store, N: NameHash, L: Ledger>(
     thing: Thing,
     touches: &mut Steps<L>,
 ) -> Result<Names, StoreFault>
-    ensures names { (p : Profile) (t : Tree) → IsThing S.X.block32 N.name64 (S.seen store.old).told p t thing
+    ensures names { (p : Profile) (t : Tree) → IsAgreedThing S.X.block32 N.name64 (S.seen store.old).told p t thing
         → Stood (S.seen store.old).faults (S.seen store.new).faults
-        → Says (names_at path.now t) result }
+        → ReadsOver (S.seen store.old).told (own_needs S.X.block32 N.name64 p t) (names_at path.now t) result }
     ensures reads { OnlyReads S.X.block32 (IsBad N.name64 None) (fault_in result) (S.seen store.old)
         (S.seen store.new) }
 {
@@ -64,9 +67,10 @@ fn names_in<S: Store, N: NameHash, L: Ledger>(
     touches: &mut Steps<L>,
 ) -> Result<Names, StoreFault>
     ensures names { (p : Profile) (es : Entries)
-        → IsEntry S.X.block32 N.name64 (S.seen store.old).told p folder.now (Dir es)
+        → IsAgreed S.X.block32 N.name64 (S.seen store.old).told p folder.now (Dir es)
         → Stood (S.seen store.old).faults (S.seen store.new).faults
-        → Says (map (λ (m : List ℕ × Tree). m.0) (pairs_in es)) result }
+        → ReadsOver (S.seen store.old).told (own_needs S.X.block32 N.name64 p (Dir es))
+        (map (λ (m : List ℕ × Tree). m.0) (pairs_in es)) result }
     ensures reads { OnlyReads S.X.block32 (IsBad N.name64 None) (fault_in result) (S.seen store.old)
         (S.seen store.new) }
 {
@@ -96,9 +100,10 @@ pub(crate) fn rows_of<S: Store, N: NameHash, L: Ledger>(
     thing: Thing,
     touches: &mut Steps<L>,
 ) -> Result<Rows, StoreFault>
-    ensures rows { (p : Profile) (t : Tree) → IsThing S.X.block32 N.name64 (S.seen store.old).told p t thing
+    ensures rows { (p : Profile) (t : Tree) → IsAgreedThing S.X.block32 N.name64 (S.seen store.old).told p t thing
         → Stood (S.seen store.old).faults (S.seen store.new).faults
-        → Says (rows_at S.X.block32 N.name64 p path.now t) result }
+        → ReadsOver (S.seen store.old).told (rows_need S.X.block32 N.name64 p t)
+        (rows_at S.X.block32 N.name64 p path.now t) result }
     ensures reads { OnlyReads S.X.block32 (IsBad N.name64 None) (fault_in result) (S.seen store.old)
         (S.seen store.new) }
 {
@@ -132,9 +137,10 @@ fn rows_in<S: Store, N: NameHash, L: Ledger>(
     touches: &mut Steps<L>,
 ) -> Result<Rows, StoreFault>
     ensures rows { (p : Profile) (es : Entries)
-        → IsEntry S.X.block32 N.name64 (S.seen store.old).told p folder.now (Dir es)
+        → IsAgreed S.X.block32 N.name64 (S.seen store.old).told p folder.now (Dir es)
         → Stood (S.seen store.old).faults (S.seen store.new).faults
-        → Says (map (λ (m : List ℕ × Tree). row_at S.X.block32 N.name64 p m.0 m.1) (pairs_in es)) result }
+        → ReadsOver (S.seen store.old).told (rows_need S.X.block32 N.name64 p (Dir es))
+        (map (λ (m : List ℕ × Tree). row_at S.X.block32 N.name64 p m.0 m.1) (pairs_in es)) result }
     ensures reads { OnlyReads S.X.block32 (IsBad N.name64 None) (fault_in result) (S.seen store.old)
         (S.seen store.new) }
 {
@@ -152,7 +158,8 @@ fn rows_from<S: Store, N: NameHash, L: Ledger>(
     ensures rows { (p : Profile) (l : List (List ℕ × Tree))
         → AreMembers S.X.block32 N.name64 (S.seen store.old).told p pairs.now l
         → Stood (S.seen store.old).faults (S.seen store.new).faults
-        → Says (map (λ (m : List ℕ × Tree). row_at S.X.block32 N.name64 p m.0 m.1) l) result }
+        → ReadsOver (S.seen store.old).told (flat_map (λ (m : List ℕ × Tree). root_of S.X.block32 N.name64 p m.1) l)
+        (map (λ (m : List ℕ × Tree). row_at S.X.block32 N.name64 p m.0 m.1) l) result }
     ensures reads { OnlyReads S.X.block32 (IsBad N.name64 None) (fault_in result) (S.seen store.old)
         (S.seen store.new) }
 {
@@ -171,9 +178,10 @@ fn push_row<S: Store, N: NameHash, L: Ledger>(
     pair: &Pair,
     touches: &mut Steps<L>,
 ) -> Result<(), StoreFault>
-    ensures pushed { (p : Profile) (t : Tree) → IsEntry S.X.block32 N.name64 (S.seen store.old).told p pair.now.1 t
+    ensures pushed { (p : Profile) (t : Tree) → IsAgreed S.X.block32 N.name64 (S.seen store.old).told p pair.now.1 t
         → Stood (S.seen store.old).faults (S.seen store.new).faults
-        → Pushes rows.old rows.new (row_at S.X.block32 N.name64 p pair.now.0 t) result }
+        → Pushes (S.seen store.old).told (root_of S.X.block32 N.name64 p t) rows.old rows.new
+        (row_at S.X.block32 N.name64 p pair.now.0 t) result }
     ensures reads { OnlyReads S.X.block32 (IsBad N.name64 None) (fault_in result) (S.seen store.old)
         (S.seen store.new) }
 {
@@ -191,9 +199,10 @@ fn row_of<S: Store, N: NameHash, L: Ledger>(
     pair: &Pair,
     touches: &mut Steps<L>,
 ) -> Result<Row, StoreFault>
-    ensures row { (p : Profile) (t : Tree) → IsEntry S.X.block32 N.name64 (S.seen store.old).told p pair.now.1 t
+    ensures row { (p : Profile) (t : Tree) → IsAgreed S.X.block32 N.name64 (S.seen store.old).told p pair.now.1 t
         → Stood (S.seen store.old).faults (S.seen store.new).faults
-        → Says (row_at S.X.block32 N.name64 p pair.now.0 t) result }
+        → ReadsOver (S.seen store.old).told (root_of S.X.block32 N.name64 p t)
+        (row_at S.X.block32 N.name64 p pair.now.0 t) result }
     ensures reads { OnlyReads S.X.block32 (IsBad N.name64 None) (fault_in result) (S.seen store.old)
         (S.seen store.new) }
 {
@@ -215,9 +224,9 @@ fn entry_size<S: Store, N: NameHash, L: Ledger>(
     entry: &Entry,
     touches: &mut Steps<L>,
 ) -> Result<u64, StoreFault>
-    ensures sizes { (p : Profile) (t : Tree) → IsEntry S.X.block32 N.name64 (S.seen store.old).told p entry.now t
+    ensures sizes { (p : Profile) (t : Tree) → IsAgreed S.X.block32 N.name64 (S.seen store.old).told p entry.now t
         → Stood (S.seen store.old).faults (S.seen store.new).faults
-        → Says (size_at t) result }
+        → ReadsOver (S.seen store.old).told (root_of S.X.block32 N.name64 p t) (size_at t) result }
     ensures reads { OnlyReads S.X.block32 (IsBad N.name64 None) (fault_in result) (S.seen store.old)
         (S.seen store.new) }
 {

@@ -3,12 +3,14 @@ ghost use Rattle.std.specs.Prelude.{◌≡◌, ◌+◌, ◌<◌, ◌^◌, IfOk, 
 ghost use Rattle.uf_edge.specs.Counts.{Stood};
 ghost use Rattle.uf_tree.specs.declared.profile.Profile.{Profile};
 ghost use Rattle.uf_tree.specs.Tree.{Dir, Entries, Tree};
-ghost use Rattle.uf_mfs.specs.Answers.{Meets};
+ghost use Rattle.uf_mfs.specs.Answers.{Meets, MeetsOr};
 ghost use Rattle.uf_mfs.specs.Bad.{IsBad};
 ghost use Rattle.uf_store.specs.Calls.{OnlyReads};
 ghost use Rattle.uf_store.specs.Faults.{fault_in};
 ghost use Rattle.uf_plain.specs.Edits.{at, child};
-ghost use Rattle.uf_mfs.specs.Standing.{IsEntry, IsMember, IsThing, SaysThing};
+ghost use Rattle.uf_mfs.specs.Standing.{IsAgreed, IsAgreedMember, IsAgreedThing, IsEntry, IsMember, ReadsThing};
+ghost use Rattle.uf_plain.specs.Needs.{member_needs, way};
+ghost use Rattle.uf_store.specs.Lost.{IsLossOf};
 ghost use Rattle.uf_mfs.specs.Steps.{stop_fault};
 
 use crate::{Stop, Thing};
@@ -31,9 +33,10 @@ pub(crate) fn look<S: Store, N: NameHash, L: Ledger>(
 ) -> Result<Thing, Stop>
     requires { led + length names.now < 2 ^ 64 }
     ensures looks { (p : Profile) (es : Entries)
-        → IsEntry S.X.block32 N.name64 (S.seen store.old).told p folder.now (Dir es)
+        → IsAgreed S.X.block32 N.name64 (S.seen store.old).told p folder.now (Dir es)
         → Stood (S.seen store.old).faults (S.seen store.new).faults
-        → Meets (λ t thing. IsThing S.X.block32 N.name64 (S.seen store.new).told p t thing) (at led names.now (Dir es))
+        → MeetsOr (IsLossOf (S.seen store.old).told (way S.X.block32 N.name64 p names.now (Dir es)))
+        (λ t thing. IsAgreedThing S.X.block32 N.name64 (S.seen store.old).told p t thing) (at led names.now (Dir es))
         result }
     ensures reads { OnlyReads S.X.block32 (IsBad N.name64 None) (stop_fault result) (S.seen store.old)
         (S.seen store.new) }
@@ -67,6 +70,12 @@ pub(crate) fn member<S: Store, N: NameHash, L: Ledger>(
         → Stood (S.seen store.old).faults (S.seen store.new).faults
         → Meets (λ t thing. IsMember S.X.block32 N.name64 (S.seen store.new).told p t thing) (Ok (child name.now es))
         result }
+    ensures lost { (p : Profile) (es : Entries)
+        → IsAgreed S.X.block32 N.name64 (S.seen store.old).told p folder.now (Dir es)
+        → Stood (S.seen store.old).faults (S.seen store.new).faults
+        → MeetsOr (IsLossOf (S.seen store.old).told (member_needs S.X.block32 N.name64 p name.now es))
+        (λ t thing. IsAgreedMember S.X.block32 N.name64 (S.seen store.old).told p t thing) (Ok (child name.now es))
+        result }
     ensures reads { OnlyReads S.X.block32 (IsBad N.name64 None) (stop_fault result) (S.seen store.old)
         (S.seen store.new) }
 {
@@ -87,9 +96,9 @@ pub(crate) fn thing_of<S: Store, N: NameHash, L: Ledger>(
     entry: &Entry,
     touches: &mut Steps<L>,
 ) -> Result<Thing, StoreFault>
-    ensures thing { (p : Profile) (t : Tree) → IsEntry S.X.block32 N.name64 (S.seen store.old).told p entry.now t
+    ensures thing { (p : Profile) (t : Tree) → IsAgreed S.X.block32 N.name64 (S.seen store.old).told p entry.now t
         → Stood (S.seen store.old).faults (S.seen store.new).faults
-        → SaysThing S.X.block32 N.name64 (S.seen store.new).told p t result }
+        → ReadsThing S.X.block32 N.name64 (S.seen store.old).told p t result }
     ensures reads { OnlyReads S.X.block32 (IsBad N.name64 None) (fault_in result) (S.seen store.old)
         (S.seen store.new) }
 {

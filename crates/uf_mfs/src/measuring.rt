@@ -9,9 +9,10 @@ ghost use Rattle.uf_store.specs.declared.store.StoreFault.TheVariants as faults;
 ghost use Rattle.uf_tree.specs.declared.profile.Profile.{Profile};
 ghost use Rattle.uf_tree.specs.Tree.{Dir, Entries, Tree};
 ghost use Rattle.uf_plain.specs.Replies.{children as children_of, stat_of as stat_at};
-ghost use Rattle.uf_mfs.specs.Answers.{Says};
 ghost use Rattle.uf_mfs.specs.Bad.{IsBad};
-ghost use Rattle.uf_mfs.specs.Standing.{IsEntry, IsThing};
+ghost use Rattle.uf_plain.specs.Needs.{root_of};
+ghost use Rattle.uf_store.specs.Lost.{ReadsOver};
+ghost use Rattle.uf_mfs.specs.Standing.{IsAgreed, IsAgreedThing};
 
 use crate::Thing;
 use std::alloc::Global;
@@ -30,9 +31,10 @@ pub(crate) fn stat_of<S: Store, N: NameHash, L: Ledger>(
     thing: Thing,
     touches: &mut Steps<L>,
 ) -> Result<Stat, StoreFault>
-    ensures stat { (p : Profile) (t : Tree) → IsThing S.X.block32 N.name64 (S.seen store.old).told p t thing
+    ensures stat { (p : Profile) (t : Tree) → IsAgreedThing S.X.block32 N.name64 (S.seen store.old).told p t thing
         → Stood (S.seen store.old).faults (S.seen store.new).faults
-        → Says (stat_at S.X.block32 N.name64 p t) result }
+        → ReadsOver (S.seen store.old).told (root_of S.X.block32 N.name64 p t) (stat_at S.X.block32 N.name64 p t)
+        result }
     ensures reads { OnlyReads S.X.block32 (IsBad N.name64 None) (fault_in result) (S.seen store.old)
         (S.seen store.new) }
 {
@@ -65,9 +67,10 @@ fn links_at<S: Store, N: NameHash, L: Ledger>(
     touches: &mut Steps<L>,
 ) -> Result<u64, StoreFault>
     ensures children { (p : Profile) (es : Entries)
-        → IsEntry S.X.block32 N.name64 (S.seen store.old).told p folder.now (Dir es)
+        → IsAgreed S.X.block32 N.name64 (S.seen store.old).told p folder.now (Dir es)
         → Stood (S.seen store.old).faults (S.seen store.new).faults
-        → Says (children_of S.X.block32 N.name64 p (Dir es)) result }
+        → ReadsOver (S.seen store.old).told (root_of S.X.block32 N.name64 p (Dir es))
+        (children_of S.X.block32 N.name64 p (Dir es)) result }
     ensures reads { OnlyReads S.X.block32 (IsBad N.name64 None) (fault_in result) (S.seen store.old)
         (S.seen store.new) }
 {

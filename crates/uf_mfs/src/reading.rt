@@ -3,11 +3,13 @@ ghost use Rattle.std.specs.Prelude.{◌≡◌, None};
 ghost use Rattle.uf_edge.specs.Counts.{Stood};
 ghost use Rattle.uf_tree.specs.declared.profile.Profile.{Profile};
 ghost use Rattle.uf_tree.specs.Tree.{Dir, Entries};
-ghost use Rattle.uf_mfs.specs.Answers.{Answers, ShownInTree};
+ghost use Rattle.uf_mfs.specs.Answers.{Answers, AnswersOr, ShownInTree};
 ghost use Rattle.uf_mfs.specs.Bad.{IsBad};
 ghost use Rattle.uf_plain.specs.Edits.{at};
+ghost use Rattle.uf_plain.specs.Needs.{needs_at, own_needs, root_of, rows_need};
+ghost use Rattle.uf_store.specs.Lost.{IsLossOf};
 ghost use Rattle.uf_plain.specs.Replies.{names_at, rows_at, stat_of as stat_at};
-ghost use Rattle.uf_mfs.specs.Standing.{StandsAt};
+ghost use Rattle.uf_mfs.specs.Standing.{StandsAt, StandsOver};
 
 use crate::listing::{names_of, rows_of};
 use crate::looking::look;
@@ -36,6 +38,13 @@ impl Mfs {
             → Stood (S.seen store.old).faults (S.seen store.new).faults
             → Answers (λ t rows. rows ≡ rows_at S.X.block32 N.name64 p path.now.names t) path.now.names
             (at 0 path.now.names (Dir es)) result }
+        ensures lost { (p : Profile) (es : Entries)
+            → StandsOver S.X.block32 N.name64 (S.seen store.old).told self.now p es
+            → Stood (S.seen store.old).faults (S.seen store.new).faults
+            → AnswersOr (IsLossOf (S.seen store.old).told
+            (needs_at S.X.block32 N.name64 p (rows_need S.X.block32 N.name64 p) path.now.names (Dir es)))
+            (λ t rows. rows ≡ rows_at S.X.block32 N.name64 p path.now.names t) path.now.names
+            (at 0 path.now.names (Dir es)) result }
         ensures cause { ShownInTree S.X.block32 (IsBad N.name64 None) result (S.seen store.old) (S.seen store.new) }
         ensures told { (S.seen store.new).told ≡ (S.seen store.old).told }
     {
@@ -62,6 +71,12 @@ impl Mfs {
             → Stood (S.seen store.old).faults (S.seen store.new).faults
             → Answers (λ t names. names ≡ names_at path.now.names t) path.now.names (at 0 path.now.names (Dir es))
             result }
+        ensures lost { (p : Profile) (es : Entries)
+            → StandsOver S.X.block32 N.name64 (S.seen store.old).told self.now p es
+            → Stood (S.seen store.old).faults (S.seen store.new).faults
+            → AnswersOr (IsLossOf (S.seen store.old).told
+            (needs_at S.X.block32 N.name64 p (own_needs S.X.block32 N.name64 p) path.now.names (Dir es)))
+            (λ t names. names ≡ names_at path.now.names t) path.now.names (at 0 path.now.names (Dir es)) result }
         ensures cause { ShownInTree S.X.block32 (IsBad N.name64 None) result (S.seen store.old) (S.seen store.new) }
         ensures told { (S.seen store.new).told ≡ (S.seen store.old).told }
     {
@@ -88,6 +103,12 @@ impl Mfs {
             → Stood (S.seen store.old).faults (S.seen store.new).faults
             → Answers (λ t stat. stat ≡ stat_at S.X.block32 N.name64 p t) path.now.names (at 0 path.now.names (Dir es))
             result }
+        ensures lost { (p : Profile) (es : Entries)
+            → StandsOver S.X.block32 N.name64 (S.seen store.old).told self.now p es
+            → Stood (S.seen store.old).faults (S.seen store.new).faults
+            → AnswersOr (IsLossOf (S.seen store.old).told
+            (needs_at S.X.block32 N.name64 p (root_of S.X.block32 N.name64 p) path.now.names (Dir es)))
+            (λ t stat. stat ≡ stat_at S.X.block32 N.name64 p t) path.now.names (at 0 path.now.names (Dir es)) result }
         ensures cause { ShownInTree S.X.block32 (IsBad N.name64 None) result (S.seen store.old) (S.seen store.new) }
         ensures told { (S.seen store.new).told ≡ (S.seen store.old).told }
     {

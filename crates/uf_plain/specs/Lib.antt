@@ -1,3 +1,4 @@
 pub mod Edits
+pub mod Needs
 pub mod Replies
 pub mod Rules
