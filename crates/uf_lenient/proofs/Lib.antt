@@ -12,3 +12,4 @@ pub mod FilesAgain
 pub mod ShardsAgain
 pub mod TreesAgain
 pub mod Greater
+pub mod Leading
