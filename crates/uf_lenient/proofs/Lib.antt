@@ -13,3 +13,4 @@ pub mod ShardsAgain
 pub mod TreesAgain
 pub mod Greater
 pub mod Leading
+pub mod Reached

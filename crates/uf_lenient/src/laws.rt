@@ -13,7 +13,7 @@ ghost use Rattle.uf_tree.specs.TreePlan.{blocks, entry, refusal};
 ghost use Rattle.uf_tree.specs.Validity.{IsFileNode, IsHash, IsNamed, IsShard};
 ghost use Rattle.uf_lenient.specs.declared.shapes.Limits.{Limits};
 ghost use Rattle.uf_lenient.specs.declared.unixfs.Unixfs.TheVariants.{Directory, File, Shard};
-ghost use Rattle.uf_lenient.specs.Leading.{AgreeAmong};
+ghost use Rattle.uf_lenient.specs.Leading.{AgreeAmong, LeadsInto, block_cids};
 ghost use Rattle.uf_lenient.specs.Reading.{denotes, file_of, resolve_from, shallow_of};
 ghost use Rattle.uf_lenient.specs.Steps.{Rest, to_come};
 ghost use Rattle.uf_lenient.specs.Unixfs.{unixfs_of};
@@ -67,4 +67,21 @@ pub fn a_reading_follows_links_alone()
     ensures path { (left right : Held) (cids : List Cid) (limits : Limits) (place : ℕ) (names : List (List ℕ)) (c : Cid)
         → AgreeAmong left right cids → Contains cids c
         → resolve_from left limits place names c ≡ resolve_from right limits place names c }
+{}
+
+/// A plan's blocks are just those to which links lead from its root: its root is one of them, each link of each leads to
+/// one of them again, and all of them are held wherever the same is held under all to which links lead.
+pub fn a_plan_is_where_links_lead()
+    ensures rooted { (X : List ℕ → List ℕ) (N : List ℕ → ℕ) (p : Profile) (t : Tree) (held : Held)
+        → IsHash X → ((name : List ℕ) → N name < 2 ^ 64) → IsTrue (is_profile p) → IsTrue (is_tree t)
+        → refusal X N p t ≡ None → Holds held (blocks X N p t)
+        → Contains (block_cids (blocks X N p t)) (entry X N p t).cid }
+    ensures closed { (X : List ℕ → List ℕ) (N : List ℕ → ℕ) (p : Profile) (t : Tree) (held : Held)
+        → IsHash X → ((name : List ℕ) → N name < 2 ^ 64) → IsTrue (is_profile p) → IsTrue (is_tree t)
+        → refusal X N p t ≡ None → Holds held (blocks X N p t)
+        → AllByRecursion (LeadsInto (block_cids (blocks X N p t))) (blocks X N p t) }
+    ensures reached { (X : List ℕ → List ℕ) (N : List ℕ → ℕ) (p : Profile) (t : Tree) (held more : Held)
+        (cids : List Cid) → IsHash X → ((name : List ℕ) → N name < 2 ^ 64) → IsTrue (is_profile p)
+        → IsTrue (is_tree t) → refusal X N p t ≡ None → Holds held (blocks X N p t) → AgreeAmong held more cids
+        → Contains cids (entry X N p t).cid → Holds more (blocks X N p t) }
 {}
