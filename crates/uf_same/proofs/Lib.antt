@@ -1,2 +1,4 @@
 pub mod Alike
 pub mod Equal
+pub mod Linked
+pub mod Readings
