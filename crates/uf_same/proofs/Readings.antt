@@ -67,3 +67,9 @@ agree-among left right most root h = record {
   same = λ c there. let one = h.alike c there in one.held_left ∙ sym one.held_right;
   closed = links-there left most root h.list h.order_left;
 }
+
+pub agree-back : (left right : Lookup) (most : ℕ) (root : Cid) (h : AreAlike left right most root) → AgreeAmong right left h.list
+agree-back left right most root h = record {
+  same = λ c there. let one = h.alike c there in one.held_right ∙ sym one.held_left;
+  closed = links-there right most root h.list h.order_right;
+}
