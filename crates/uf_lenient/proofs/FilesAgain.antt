@@ -48,7 +48,7 @@ module _ (X : List ℕ → List ℕ) (good : IsHash X) (held : Lookup) where
       let others = back (λ (b : Held). held b.0 ≡ Some b.1) (blocks_over X p.chunk p.width h g) (flat_map (blocks_over X p.chunk p.width h) gs) all in
       (record { profile = ok; fits = widths.0; few = omega (arith, size, few); all = own }, each_held p ok h gs widths.1 (omega (arith, size, few)) others)
 
-  below_held : (p : Profile) (h : ℕ) (b : List ℕ) → PartHeld p (suc h) b → AllByRecursion (PartHeld p h) (groups (span p.chunk p.width h) b)
+  pub below_held : (p : Profile) (h : ℕ) (b : List ℕ) → PartHeld p (suc h) b → AllByRecursion (PartHeld p h) (groups (span p.chunk p.width h) b)
   unfolding blocks_over
   below_held p h b s =
       let cut = span p.chunk p.width h in
@@ -99,16 +99,23 @@ module _ (X : List ℕ → List ℕ) (good : IsHash X) (held : Lookup) where
           some e = cc
       by false k = grind (arith, nat_tests)
 
+  -- the part of a file's height, where the blocks of the file's plan are held
+  pub file-held : (p : Profile) (b : List ℕ) (ok : IsTrue (is_profile p)) → too_long p b ≡ None → Holds held (file_plan X p b).blocks → let k = kept p ok in PartHeld p (file_plan-rows X p b k.some k.two).0 b
+  file-held p b ok fits all =
+      let k = kept p ok in
+      let r = file_plan-rows X p b k.some k.two in
+      let short : p.chunk ≤ 1048576 = k.short in
+      let few : length b ≤ p.chunk * 4194304 = not_long p b fits in
+      record {
+        profile = ok;
+        fits = r.2.fits;
+        few = omega arith;
+        all = plan-sub X p b k.some k.two (λ (x : Held). held x.0 ≡ Some x.1) r.0 r.2.fits _ r.3 all;
+      }
+
   -- a file whose plan's blocks are held
   pub file-read : (p : Profile) (b : List ℕ) → IsTrue (is_profile p) → too_long p b ≡ None → Holds held (file_plan X p b).blocks → ReadsFile held (file_plan X p b).entry.cid b
   file-read p b ok fits all =
       let k = kept p ok in
       let r = file_plan-rows X p b k.some k.two in
-      let short : p.chunk ≤ 1048576 = k.short in
-      let few : length b ≤ p.chunk * 4194304 = not_long p b fits in
-      subst (λ c. ReadsFile held c b) (sym (ap (λ (e : Entry). e.cid) r.1)) (part-read p r.0 b (record {
-        profile = ok;
-        fits = r.2.fits;
-        few = omega arith;
-        all = plan-sub X p b k.some k.two (λ (x : Held). held x.0 ≡ Some x.1) r.0 r.2.fits _ r.3 all;
-      }))
+      subst (λ c. ReadsFile held c b) (sym (ap (λ (e : Entry). e.cid) r.1)) (part-read p r.0 b (file-held p b ok fits all))

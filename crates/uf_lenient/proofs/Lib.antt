@@ -12,3 +12,5 @@ pub mod FilesAgain
 pub mod ShardsAgain
 pub mod TreesAgain
 pub mod Greater
+pub mod Leading
+pub mod Reached

@@ -338,7 +338,7 @@ module _ (X : List ℕ → List ℕ) (N : List ℕ → ℕ) (good : IsHash X) (h
     pub has : HasShard N lv l
     pub all : Holds held (shard X N lv l).blocks
 
-  below_shard : (lv : ℕ) (l : List Named) → ShardHeld (suc lv) l → (s : ℕ) → s < 256 → 2 ≤ length (bucket N (6 - lv) s l) → ShardHeld lv (bucket N (6 - lv) s l)
+  pub below_shard : (lv : ℕ) (l : List Named) → ShardHeld (suc lv) l → (s : ℕ) → s < 256 → 2 ≤ length (bucket N (6 - lv) s l) → ShardHeld lv (bucket N (6 - lv) s l)
   unfolding shard HasShard
   below_shard lv l h s small two = record {
     sorted = is_sorted-where_key names_cmp (λ name. slot (N name) (6 - lv) == s) l h.sorted;
@@ -353,7 +353,7 @@ module _ (X : List ℕ → List ℕ) (N : List ℕ → ℕ) (good : IsHash X) (h
       by (inl few) = absurd (omega arith)
       by (inr has) = has
 
-  none_valid : (m : List Named) → IsEntry (no_shard X N m).entry
+  pub none_valid : (m : List Named) → IsEntry (no_shard X N m).entry
   none_valid m = node_entry-valid X good [] []
 
   -- a shard that is held is visited, and its links add its names

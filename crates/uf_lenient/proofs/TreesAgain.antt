@@ -90,13 +90,13 @@ module _ (X : List ℕ → List ℕ) (N : List ℕ → ℕ) (good : IsHash X) (s
   -- ---- a directory's own blocks
 
   -- names and entries that have a plan, whose own blocks are held
-  record OwnHeld (p : Profile) (l : List Named) : Type 0 where
-    profile : IsTrue (is_profile p)
-    valid : IsDirectory l
-    planned : dir_refusal X N p l ≡ None
-    all : Holds held (own_plan X N p l).blocks
+  pub record OwnHeld (p : Profile) (l : List Named) : Type 0 where
+    pub profile : IsTrue (is_profile p)
+    pub valid : IsDirectory l
+    pub planned : dir_refusal X N p l ≡ None
+    pub all : Holds held (own_plan X N p l).blocks
 
-  shards_held : (p : Profile) (l : List Named) → OwnHeld p l → is_sharded p l ≡ true → Holds held (shard X N 7 l).blocks → ShardHeld X N good held 7 l
+  pub shards_held : (p : Profile) (l : List Named) → OwnHeld p l → is_sharded p l ≡ true → Holds held (shard X N 7 l).blocks → ShardHeld X N good held 7 l
   shards_held p l h e all =
       let alone : collision N l ≡ None = sym (ap (λ b. cond b (collision N l) None) e) ∙ (both_none (cond (is_sharded p l) (collision N l) None) (too_big (own_plan X N p l).entry.tsize) h.planned).0 in
       let apart : twins (same_slots N 7) l ≡ None = twins-same (same_slots N 7) (same_hash N) (λ a b. same_slots-hash N small a b) l ∙ no_twins N l alone in
@@ -143,13 +143,13 @@ module _ (X : List ℕ → List ℕ) (N : List ℕ → ℕ) (good : IsHash X) (s
 
   -- ---- trees
 
-  abbrev each_planned : Profile → Entries → List (List ℕ × Planned)
+  abbrev pub each_planned : Profile → Entries → List (List ℕ × Planned)
   each_planned p es = fold_each (planned_file X N p) (planned_dir X N p) es
 
-  abbrev named : Profile → Entries → List Named
+  abbrev pub named : Profile → Entries → List Named
   named p es = members X N p (each_planned p es)
 
-  abbrev blocks_of : Profile → Entries → List Held
+  abbrev pub blocks_of : Profile → Entries → List Held
   blocks_of p es = flat_map (λ (m : List ℕ × Planned). m.1.plan.blocks) (each_planned p es)
 
   -- a tree that has a plan, whose blocks are held
@@ -160,7 +160,7 @@ module _ (X : List ℕ → List ℕ) (N : List ℕ → ℕ) (good : IsHash X) (s
     pub all : Holds held (blocks X N p t)
 
   -- the same of each member
-  record EachHeld (p : Profile) (es : Entries) : Type 0 where
+  pub record EachHeld (p : Profile) (es : Entries) : Type 0 where
     profile : IsTrue (is_profile p)
     trees : are_trees es ≡ true
     planned : first_refusal (each_planned p es) ≡ None
@@ -171,7 +171,7 @@ module _ (X : List ℕ → List ℕ) (N : List ℕ → ℕ) (good : IsHash X) (s
   named_is p Nothing = refl
   named_is p (With name t es) = ap (λ (l : List Named). (name, entry X N p t) ∷ l) (named_is p es)
 
-  members_held : (p : Profile) (es : Entries) → TreeHeld p (Dir es) → EachHeld p es
+  pub members_held : (p : Profile) (es : Entries) → TreeHeld p (Dir es) → EachHeld p es
   unfolding planned fold is_tree
   members_held p es h = record {
     profile = h.profile;
@@ -180,7 +180,7 @@ module _ (X : List ℕ → List ℕ) (N : List ℕ → ℕ) (good : IsHash X) (s
     all = front (λ (b : Held). held b.0 ≡ Some b.1) (blocks_of p es) (own_plan X N p (named p es)).blocks h.all;
   }
 
-  own_held : (p : Profile) (es : Entries) → TreeHeld p (Dir es) → OwnHeld p (named p es)
+  pub own_held : (p : Profile) (es : Entries) → TreeHeld p (Dir es) → OwnHeld p (named p es)
   unfolding planned fold
   own_held p es h = record {
     profile = h.profile;
@@ -189,7 +189,7 @@ module _ (X : List ℕ → List ℕ) (N : List ℕ → ℕ) (good : IsHash X) (s
     all = back (λ (b : Held). held b.0 ≡ Some b.1) (blocks_of p es) (own_plan X N p (named p es)).blocks h.all;
   }
 
-  first_held : (p : Profile) (name : List ℕ) (t : Tree) (es : Entries) → EachHeld p (With name t es) → TreeHeld p t
+  pub first_held : (p : Profile) (name : List ℕ) (t : Tree) (es : Entries) → EachHeld p (With name t es) → TreeHeld p t
   unfolding planned fold is_tree
   first_held p name t es h = record {
     profile = h.profile;
@@ -198,7 +198,7 @@ module _ (X : List ℕ → List ℕ) (N : List ℕ → ℕ) (good : IsHash X) (s
     all = front (λ (b : Held). held b.0 ≡ Some b.1) (blocks X N p t) (blocks_of p es) h.all;
   }
 
-  others_held : (p : Profile) (name : List ℕ) (t : Tree) (es : Entries) → EachHeld p (With name t es) → EachHeld p es
+  pub others_held : (p : Profile) (name : List ℕ) (t : Tree) (es : Entries) → EachHeld p (With name t es) → EachHeld p es
   unfolding planned fold is_tree
   others_held p name t es h = record {
     profile = h.profile;

@@ -1,5 +1,6 @@
 pub mod Answers
 pub mod Keyed
+pub mod Leading
 pub mod Pending
 pub mod Reading
 pub mod Rows

@@ -1,5 +1,5 @@
 // What holds of readings.
-ghost use Rattle.std.specs.Prelude.{◌≡◌, ◌<◌, ◌^◌, ℕ, List, [], IsTrue, None, Ok, length, map};
+ghost use Rattle.std.specs.Prelude.{◌≡◌, ◌<◌, ◌^◌, ℕ, Contains, List, [], IsTrue, None, Ok, length, map};
 ghost use Rattle.std.specs.List.{AllByRecursion};
 ghost use Rattle.uf_cid.specs.Blocks.{Holds, Lookup as Held};
 ghost use Rattle.uf_cid.specs.declared.cid.Cid.{Cid};
@@ -13,6 +13,7 @@ ghost use Rattle.uf_tree.specs.TreePlan.{blocks, entry, refusal};
 ghost use Rattle.uf_tree.specs.Validity.{IsFileNode, IsHash, IsNamed, IsShard};
 ghost use Rattle.uf_lenient.specs.declared.shapes.Limits.{Limits};
 ghost use Rattle.uf_lenient.specs.declared.unixfs.Unixfs.TheVariants.{Directory, File, Shard};
+ghost use Rattle.uf_lenient.specs.Leading.{AgreeAmong, LeadsInto, block_cids};
 ghost use Rattle.uf_lenient.specs.Reading.{denotes, file_of, resolve_from, shallow_of};
 ghost use Rattle.uf_lenient.specs.Steps.{Rest, to_come};
 ghost use Rattle.uf_lenient.specs.Unixfs.{unixfs_of};
@@ -52,4 +53,35 @@ pub fn a_reading_stays_in_a_greater_map()
     ensures path { (held more : Held) (limits : Limits) (place : ℕ) (names : List (List ℕ)) (c : Cid)
         → HoldsAllOf held more
         → AnswersSame more (resolve_from held limits place names c) (resolve_from more limits place names c) }
+{}
+
+/// What is read below a CID depends on nothing but the blocks to which links lead from it: where two maps hold the same
+/// under a list of CIDs that no link leaves, each reading that begins in the list answers the same of both, value or fault.
+pub fn a_reading_follows_links_alone()
+    ensures tree { (left right : Held) (cids : List Cid) (limits : Limits) (c : Cid) → AgreeAmong left right cids
+        → Contains cids c → denotes left limits c ≡ denotes right limits c }
+    ensures shape { (left right : Held) (cids : List Cid) (limits : Limits) (c : Cid) → AgreeAmong left right cids
+        → Contains cids c → shallow_of left limits c ≡ shallow_of right limits c }
+    ensures file { (left right : Held) (cids : List Cid) (limits : Limits) (c : Cid) → AgreeAmong left right cids
+        → Contains cids c → file_of left limits c ≡ file_of right limits c }
+    ensures path { (left right : Held) (cids : List Cid) (limits : Limits) (place : ℕ) (names : List (List ℕ)) (c : Cid)
+        → AgreeAmong left right cids → Contains cids c
+        → resolve_from left limits place names c ≡ resolve_from right limits place names c }
+{}
+
+/// A plan's blocks are just those to which links lead from its root: its root is one of them, each link of each leads to
+/// one of them again, and all of them are held wherever the same is held under all to which links lead.
+pub fn a_plan_is_where_links_lead()
+    ensures rooted { (X : List ℕ → List ℕ) (N : List ℕ → ℕ) (p : Profile) (t : Tree) (held : Held)
+        → IsHash X → ((name : List ℕ) → N name < 2 ^ 64) → IsTrue (is_profile p) → IsTrue (is_tree t)
+        → refusal X N p t ≡ None → Holds held (blocks X N p t)
+        → Contains (block_cids (blocks X N p t)) (entry X N p t).cid }
+    ensures closed { (X : List ℕ → List ℕ) (N : List ℕ → ℕ) (p : Profile) (t : Tree) (held : Held)
+        → IsHash X → ((name : List ℕ) → N name < 2 ^ 64) → IsTrue (is_profile p) → IsTrue (is_tree t)
+        → refusal X N p t ≡ None → Holds held (blocks X N p t)
+        → AllByRecursion (LeadsInto (block_cids (blocks X N p t))) (blocks X N p t) }
+    ensures reached { (X : List ℕ → List ℕ) (N : List ℕ → ℕ) (p : Profile) (t : Tree) (held more : Held)
+        (cids : List Cid) → IsHash X → ((name : List ℕ) → N name < 2 ^ 64) → IsTrue (is_profile p)
+        → IsTrue (is_tree t) → refusal X N p t ≡ None → Holds held (blocks X N p t) → AgreeAmong held more cids
+        → Contains cids (entry X N p t).cid → Holds more (blocks X N p t) }
 {}

@@ -33,10 +33,10 @@ module _ (left right : Lookup) where
       by (Some x) None l r is = absurd (let no : None ≡ Some links = is in cc)
       by (Some x) (Some y) l r is = one x y (pointwise nat_eq x y) refl l r is
 
-  by_left : (c : Cid) (links : List Cid) → follow_both left right c ≡ Some links → follow_held left c ≡ Some links
+  pub by_left : (c : Cid) (links : List Cid) → follow_both left right c ≡ Some links → follow_held left c ≡ Some links
   by_left c links e = let f = followed c links e in ap (follow_block c) f.in_left ∙ f.reads
 
-  by_right : (c : Cid) (links : List Cid) → follow_both left right c ≡ Some links → follow_held right c ≡ Some links
+  pub by_right : (c : Cid) (links : List Cid) → follow_both left right c ≡ Some links → follow_held right c ≡ Some links
   by_right c links e = let f = followed c links e in ap (follow_block c) f.in_right ∙ f.reads
 
   whole_alike : (most : ℕ) (root : Cid) (list : List Cid) → goes (follow_both left right) most (root ∷ []) ≡ Whole list → AreAlike left right most root

@@ -1,2 +1,6 @@
 pub mod Alike
 pub mod Equal
+pub mod Linked
+pub mod Readings
+pub mod Stopping
+pub mod OneTree

@@ -1,4 +1,5 @@
 pub mod Alike
 pub mod Comparing
+pub mod OneTree
 pub mod Stopped
 pub mod Verdict

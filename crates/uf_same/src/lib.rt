@@ -9,4 +9,6 @@ mod tests;
 
 pub use answer::{Compared, SameFault};
 pub use comparing::same;
-pub use laws::equal_means_the_same_blocks;
+pub use laws::{
+    equal_means_the_same_blocks, equal_means_the_same_readings, equal_roots_compare_as_one_tree,
+};
