@@ -4,8 +4,8 @@ use std::alloc::Global;
 use std::sync::ledger::Ledger;
 use uf_car::{export, import};
 use uf_cid::{Block, Cid, Codec, Sha256Hash};
-use uf_edge::{Calls, MemSink, MemSource};
-use uf_store::{MemStore, Steps};
+use uf_edge::{Calls, MemSink, MemSource, Sink, Source};
+use uf_store::{MemStore, Steps, Store};
 
 // How many CIDs a walk may meet.
 const MOST: u32 = 1048576;
@@ -91,4 +91,31 @@ pub fn hashed(alloc: Global, mib: u64, times: u64) -> Option<Cid> {
         cid = Cid::of::<Sha256Hash>(Codec::Raw, copy.as_slice());
     }
     Some(cid)
+}
+
+/// Writes the CAR below a CID to the output.
+pub fn written<S: Store, O: Sink, L: Ledger>(
+    alloc: Global,
+    store: &mut S,
+    cid: &Cid,
+    output: &mut O,
+    touches: &mut Steps<L>,
+) -> Option<()> {
+    match export(alloc, store, cid, MOST, output, touches) {
+        Ok(_) => Some(()),
+        Err(_) => None,
+    }
+}
+
+/// Reads a CAR from the input into a store.
+pub fn taken_in<S: Store, I: Source, L: Ledger>(
+    alloc: Global,
+    store: &mut S,
+    input: &mut I,
+    touches: &mut Steps<L>,
+) -> Option<()> {
+    match import(alloc, store, input, u64::MAX, touches) {
+        Ok(_) => Some(()),
+        Err(_) => None,
+    }
 }

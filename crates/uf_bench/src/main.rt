@@ -17,8 +17,8 @@ use std::random::RandomSource;
 use std::rt::Env;
 use std::sync::ledger::{Blank, Ledger};
 use uf_cid::{Cid, Sha256Hash};
-use uf_disk::{DiskStore, StdSink};
-use uf_edge::Sink;
+use uf_disk::{DiskStore, StdSink, StdSource};
+use uf_edge::{Sink, Source};
 use uf_store::Steps;
 
 // What is measured.
@@ -40,6 +40,10 @@ enum Task {
     Read(Cid),
     // `survey CID`: all that is below a CID visited.
     Survey(Cid),
+    // `car-out CID`: the CAR below a CID written to the output.
+    CarOut(Cid),
+    // `car-in -`: a CAR read from the input.
+    CarIn,
 }
 
 fn main(rt: HostRuntime) -> ExitCode {
@@ -47,8 +51,16 @@ fn main(rt: HostRuntime) -> ExitCode {
         return ExitCode::from(2);
     };
     let mut store = DiskStore::<Sha256Hash, _>::new(rt.alloc(), rt);
+    let mut input = StdSource::new(rt.stdin());
     let mut output = StdSink::new(rt.stdout());
-    match done::<Brand, _, _>(rt.alloc(), &task, &mut store, &mut output, Blank::new(1)) {
+    match done::<Brand, _, _, _>(
+        rt.alloc(),
+        &task,
+        &mut store,
+        &mut input,
+        &mut output,
+        Blank::new(1),
+    ) {
         Some(()) => ExitCode::SUCCESS,
         None => ExitCode::from(1),
     }
@@ -62,6 +74,8 @@ fn asked<R: Env + AllocGlobal>(rt: &R) -> Option<Task> {
     match name.as_str() {
         "read" => return Some(Task::Read(Cid::parse(&first).ok()?)),
         "survey" => return Some(Task::Survey(Cid::parse(&first).ok()?)),
+        "car-out" => return Some(Task::CarOut(Cid::parse(&first).ok()?)),
+        "car-in" => return Some(Task::CarIn),
         _ => {}
     }
     let size = first.parse::<u64>().ok()?;
@@ -78,10 +92,11 @@ fn asked<R: Env + AllocGlobal>(rt: &R) -> Option<Task> {
 }
 
 // Does a task, and writes what it prints.
-fn done<L: Ledger, R: Files + RandomSource, O: Sink>(
+fn done<L: Ledger, R: Files + RandomSource, I: Source, O: Sink>(
     alloc: Global,
     task: &Task,
     store: &mut DiskStore<Sha256Hash, R>,
+    input: &mut I,
     output: &mut O,
     blank: Blank,
 ) -> Option<()>
@@ -100,6 +115,8 @@ fn done<L: Ledger, R: Files + RandomSource, O: Sink>(
         Task::Hash(mib, times) => cars::hashed(alloc, *mib, *times)?,
         Task::Read(cid) => return files::written(alloc, store, cid, output, t),
         Task::Survey(cid) => return files::surveyed(alloc, store, cid, t),
+        Task::CarOut(cid) => return cars::written(alloc, store, cid, output, t),
+        Task::CarIn => return cars::taken_in(alloc, store, input, t),
     };
     print_line(output, &root)
 }
