@@ -56,7 +56,8 @@ pub fn a_reading_stays_in_a_greater_map()
 {}
 
 /// What is read below a CID depends on nothing but the blocks to which links lead from it: where two maps hold the same
-/// under a list of CIDs that no link leaves, each reading that begins in the list answers the same of both, value or fault.
+/// under a list of CIDs that no link leaves, each reading that begins in the list answers the same of both, value or
+/// fault.
 pub fn a_reading_follows_links_alone()
     ensures tree { (left right : Held) (cids : List Cid) (limits : Limits) (c : Cid) → AgreeAmong left right cids
         → Contains cids c → denotes left limits c ≡ denotes right limits c }
@@ -69,8 +70,8 @@ pub fn a_reading_follows_links_alone()
         → resolve_from left limits place names c ≡ resolve_from right limits place names c }
 {}
 
-/// A plan's blocks are just those to which links lead from its root: its root is one of them, each link of each leads to
-/// one of them again, and all of them are held wherever the same is held under all to which links lead.
+/// A plan's blocks are just those to which links lead from its root: its root is one of them, each link of each leads
+/// to one of them again, and all of them are held wherever the same is held under all to which links lead.
 pub fn a_plan_is_where_links_lead()
     ensures rooted { (X : List ℕ → List ℕ) (N : List ℕ → ℕ) (p : Profile) (t : Tree) (held : Held)
         → IsHash X → ((name : List ℕ) → N name < 2 ^ 64) → IsTrue (is_profile p) → IsTrue (is_tree t)
