@@ -4,3 +4,4 @@ pub mod Linked
 pub mod Readings
 pub mod Stopping
 pub mod OneTree
+pub mod PlanOrder

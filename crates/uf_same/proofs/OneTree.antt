@@ -52,13 +52,13 @@ some_is : (a b : List Cid) → Some a ≡ Some b → a ≡ b
 some_is a b e = cc
 
 -- a block of a plan that is held
-record IsOfPlan (X : List ℕ → List ℕ) (held : Lookup) (cids : List Cid) (c : Cid) : Type 0 where
-  bytes : List ℕ
-  is_held : held c ≡ Some bytes
-  digest : c.digest ≡ X bytes
-  links : List Cid
-  followed : follow_held held c ≡ Some links
-  inside : AllByRecursion (Contains cids) links
+pub record IsOfPlan (X : List ℕ → List ℕ) (held : Lookup) (cids : List Cid) (c : Cid) : Type 0 where
+  pub bytes : List ℕ
+  pub is_held : held c ≡ Some bytes
+  pub digest : c.digest ≡ X bytes
+  pub links : List Cid
+  pub followed : follow_held held c ≡ Some links
+  pub inside : AllByRecursion (Contains cids) links
 
 module _ (X : List ℕ → List ℕ) (held : Lookup) (cids : List Cid) where
   of_plan : (b : Held) → LeadsInto cids b → held b.0 ≡ Some b.1 → b.0.digest ≡ X b.1 → IsOfPlan X held cids b.0
@@ -102,14 +102,14 @@ module _ (X : List ℕ → List ℕ) (N : List ℕ → ℕ) (good : IsHash X) (s
     abbrev Planned : Cid → Type 0
     Planned c = Contains (block_cids (blocks X N p t)) c
 
-    rooted : Planned (entry X N p t).cid
+    pub rooted : Planned (entry X N p t).cid
     rooted = plan-rooted X N p t held good small h.profile h.tree h.planned h.all
 
-    block_at : (c : Cid) → Planned c → IsOfPlan X held (block_cids (blocks X N p t)) c
-    block_at c here = in_plan X held (block_cids (blocks X N p t)) (blocks X N p t) (plan-closed X N p t held good small h.profile h.tree h.planned h.all) h.all (tree-digested X N p t) c here
+    pub block-at : (c : Cid) → Planned c → IsOfPlan X held (block_cids (blocks X N p t)) c
+    block-at c here = in_plan X held (block_cids (blocks X N p t)) (blocks X N p t) (plan-closed X N p t held good small h.profile h.tree h.planned h.all) h.all (tree-digested X N p t) c here
 
-    goes_inside : (c : Cid) (links : List Cid) → Planned c → follow_held held c ≡ Some links → AllByRecursion Planned links
-    goes_inside c links here is = let b = block_at c here in subst (AllByRecursion Planned) (some_is b.links links (sym b.followed ∙ is)) b.inside
+    pub goes-inside : (c : Cid) (links : List Cid) → Planned c → follow_held held c ≡ Some links → AllByRecursion Planned links
+    goes-inside c links here is = let b = block-at c here in subst (AllByRecursion Planned) (some_is b.links links (sym b.followed ∙ is)) b.inside
 
   module _ (p q : Profile) (t u : Tree) (left right : Lookup) (most : ℕ) (h : HasPlan X N p t left) (k : HasPlan X N q u right) (e : (entry X N p t).cid ≡ (entry X N q u).cid) where
     abbrev root : Cid
@@ -121,7 +121,7 @@ module _ (X : List ℕ → List ℕ) (N : List ℕ → ℕ) (good : IsHash X) (s
     both_closed : (c : Cid) (links : List Cid) → InBoth c → follow_both left right c ≡ Some links → AllByRecursion InBoth links
     both_closed c links here is =
         both_of (Contains (block_cids (blocks X N p t))) (Contains (block_cids (blocks X N q u))) links
-        (goes_inside p t left h c links here.0 (by_left left right c links is)) (goes_inside q u right k c links here.1 (by_right left right c links is))
+        (goes-inside p t left h c links here.0 (by_left left right c links is)) (goes-inside q u right k c links here.1 (by_right left right c links is))
 
     both_rooted : InBoth root
     both_rooted = (rooted p t left h, subst (Contains (block_cids (blocks X N q u))) (sym e) (rooted q u right k))
@@ -133,10 +133,10 @@ module _ (X : List ℕ → List ℕ) (N : List ℕ → ℕ) (good : IsHash X) (s
         (subst (λ o. FindsOneTree X t u (stop_left d (Some a.bytes) o)) (sym b.is_held) (by (pointwise nat_eq a.bytes b.bytes) refl))
       where
         a : IsOfPlan X left (block_cids (blocks X N p t)) d
-        a = block_at p t left h d here.0
+        a = block-at p t left h d here.0
 
         b : IsOfPlan X right (block_cids (blocks X N q u)) d
-        b = block_at q u right k d here.1
+        b = block-at q u right k d here.1
 
         unfollowed : follow_equal (pointwise nat_eq a.bytes b.bytes) d a.bytes ≡ None
         unfollowed = sym (ap (λ o. follow_left d o (right d)) a.is_held ∙ ap (λ o. follow_left d (Some a.bytes) o) b.is_held) ∙ none

@@ -8,10 +8,12 @@ ghost use Rattle.uf_tree.specs.Tree.{Tree, is_tree};
 ghost use Rattle.uf_tree.specs.TreePlan.{blocks, entry, refusal};
 ghost use Rattle.uf_tree.specs.Validity.{IsHash};
 ghost use Rattle.uf_lenient.specs.declared.shapes.Limits.{Limits};
+ghost use Rattle.uf_lenient.specs.Leading.{block_cids};
 ghost use Rattle.uf_lenient.specs.Reading.{denotes, file_of, resolve_from, shallow_of};
 ghost use Rattle.uf_walk.specs.Order.{OverMost, order};
 ghost use Rattle.uf_same.specs.Alike.{AreAlike};
 ghost use Rattle.uf_same.specs.OneTree.{FindsOneTree};
+ghost use Rattle.uf_same.specs.PlanOrder.{OrdersJust};
 ghost use Rattle.uf_same.specs.Verdict.{verdict};
 ghost use Rattle.uf_same.specs.declared.answer.Compared.TheVariants as compared;
 
@@ -36,9 +38,9 @@ pub fn equal_means_the_same_readings()
         → resolve_from left limits place names a ≡ resolve_from right limits place names a }
 {}
 
-/// Where one place holds the plan of a tree and another one that of a tree, be it by another profile, and both roots have
-/// one CID, the comparison finds that the trees are one, or shows two blocks that clash: nothing is missing, and each block
-/// is read. The order below the root is no longer than it may be.
+/// Where one place holds the plan of a tree and another one that of a tree, be it by another profile, and both roots
+/// have one CID, the comparison finds that the trees are one, or shows two blocks that clash: nothing is missing, and
+/// each block is read. The order below the root is no longer than it may be.
 pub fn equal_roots_compare_as_one_tree()
     ensures { (X : List ℕ → List ℕ) (N : List ℕ → ℕ) (p q : Profile) (t u : Tree) (left right : Lookup) (most : ℕ)
         → IsHash X → ((name : List ℕ) → N name < 2 ^ 64) → IsTrue (is_profile p) → IsTrue (is_profile q)
@@ -46,4 +48,13 @@ pub fn equal_roots_compare_as_one_tree()
         → Holds left (blocks X N p t) → Holds right (blocks X N q u) → (entry X N p t).cid ≡ (entry X N q u).cid
         → order left most (entry X N p t).cid ≢ Err OverMost
         → FindsOneTree X t u (verdict left right most (entry X N p t).cid (entry X N q u).cid) }
+{}
+
+/// Where the blocks of a tree's plan are held, the order below its root is of just their CIDs, unless it is longer than
+/// it may be: nothing is missing, and each block is read.
+pub fn the_order_of_a_plan_is_its_blocks()
+    ensures { (X : List ℕ → List ℕ) (N : List ℕ → ℕ) (p : Profile) (t : Tree) (held : Lookup) (most : ℕ)
+        → IsHash X → ((name : List ℕ) → N name < 2 ^ 64) → IsTrue (is_profile p) → IsTrue (is_tree t)
+        → refusal X N p t ≡ None → Holds held (blocks X N p t)
+        → OrdersJust (block_cids (blocks X N p t)) (order held most (entry X N p t).cid) }
 {}
