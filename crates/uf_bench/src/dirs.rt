@@ -85,9 +85,9 @@ pub fn built_anew<L: Ledger>(
     let pairs = empty_files(alloc, names)?;
     let more = empty_files(alloc, names.saturating_add(1))?;
     let mut root = built(alloc, &mut store, &pairs, touches)?;
-    for n in 0..edits {
-        let list = if n % 2 == 0 { &more } else { &pairs };
-        root = built(alloc, &mut store, list, touches)?;
+    for _ in 0..edits / 2 {
+        let _ = built(alloc, &mut store, &more, touches)?;
+        root = built(alloc, &mut store, &pairs, touches)?;
     }
     Some(root.cid)
 }
