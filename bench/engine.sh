@@ -31,19 +31,27 @@ leaf=$(head -c 1024 input | "$top/unixfs" add -n | cut -d' ' -f2)
 cd "$folder"
 
 taskset -c "$core" python3 - "$engine" "$mib" "$root" "$many" "$leaf" <<'PYTHON'
-import os, statistics, subprocess, sys
+import os, re, statistics, subprocess, sys, time
 
 ENGINE, MIB, ROOT, MANY, LEAF = sys.argv[1:]
 
 
 def run(words, folder="large", program=ENGINE, source=os.devnull):
     """User and system seconds of one run, and its peak memory in MiB."""
+    peak = 0
     with open(source, "rb") as bytes_in:
         child = subprocess.Popen([program] + words, cwd=folder, stdin=bytes_in, stdout=subprocess.DEVNULL)
-        _, code, usage = os.wait4(child.pid, 0)
+        while True:
+            with open(f"/proc/{child.pid}/status", encoding="ascii") as status:
+                found = re.search(r"VmHWM:\s+(\d+)", status.read())
+            peak = max(peak, int(found.group(1)) if found else 0)
+            pid, code, usage = os.wait4(child.pid, os.WNOHANG)
+            if pid:
+                break
+            time.sleep(0.002)
     if code:
         sys.exit(f"{program} {' '.join(words)}: status {code}")
-    return usage.ru_utime + usage.ru_stime, usage.ru_maxrss / 1024
+    return usage.ru_utime + usage.ru_stime, peak / 1024
 
 
 def seconds(words, folder="large", program=ENGINE):
@@ -62,7 +70,7 @@ def edit(task, size, edits):
 
 
 for size in ["1000", "10000", "100000"]:
-    print(f"directory of {size} names: {edit('dir', size, 20000):.1f} us an edit in place, "
+    print(f"directory of {size} names: {edit('dir', size, 2000):.1f} us an edit in place, "
           f"{edit('dir-anew', size, 20):.0f} us built anew")
 for size in ["1", MIB]:
     print(f"file of {size} MiB: {edit('file', size, 1000):.0f} us for a byte written")
