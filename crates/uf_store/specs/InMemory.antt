@@ -1,22 +1,24 @@
 -- What is seen of a store in memory.
-use Rattle.std.specs.Prelude.{◌≡◌, ◌≢◌, ℕ, ◌<◌, ◌⊎◌, List, [], length, Some}
+use Rattle.std.specs.Prelude.{◌≡◌, ℕ, List, [], Some}
 use Rattle.std.specs.FinMap.{empty, from_entries, insert, remove}
 use Rattle.uf_cid.specs.declared.cid.Cid.{Cid}
+use Rattle.uf_cid.specs.declared.hash.BlockHash.{Ghosts}
 use Rattle.uf_store.specs.declared.failing.Failures.{Failures}
 use Rattle.uf_store.specs.declared.memory.MemStore.{MemStore}
 use Rattle.uf_store.specs.Contents.{Contents, held_at, no_notes}
 use Rattle.uf_store.specs.Seen.{Seen}
+use Rattle.uf_store.specs.Whole.{IsDamaged}
 
 -- the blocks, the notes and the past writes
-abbrev pub contents_of : {X : Type 0} → MemStore X → Contents
-contents_of s = record { held = from_entries s.blocks.entries; notes = record { head = s.head; pins = s.pins }; writes = s.writes.items }
+abbrev pub contents_of : {X : Type 0} {G : Ghosts X} → MemStore X G → Contents
+contents_of s = record { held = from_entries s.blocks.blocks.entries; notes = record { head = s.head; pins = s.pins }; writes = s.writes.items }
 
 -- what a contract sees: it tells
-abbrev pub memory_seen : {X : Type 0} → MemStore X → Seen
+abbrev pub memory_seen : {X : Type 0} {G : Ghosts X} → MemStore X G → Seen
 memory_seen s = record { told = Some (contents_of s); lent = s.lent; finds = s.finds; misses = s.misses; faults = s.faults; clashes = s.clashes }
 
 -- the calls that were made and those that are to fail
-abbrev pub failures_of : {X : Type 0} → MemStore X → Failures
+abbrev pub failures_of : {X : Type 0} {G : Ghosts X} → MemStore X G → Failures
 failures_of s = s.failures
 
 -- nothing is held, no note is there, and nothing was written
@@ -33,10 +35,6 @@ without_block cid t = record t { held = remove t.held cid }
 
 abbrev pub with_block : Cid → List ℕ → Contents → Contents
 with_block cid bytes t = record t { held = insert t.held cid bytes }
-
--- a block that is too long, or whose hash isn't the CID's digest
-abbrev pub IsDamaged : (List ℕ → List ℕ) → Cid → List ℕ → Type 0
-IsDamaged hash cid bytes = (2097152 < length bytes) ⊎ (hash bytes ≢ cid.digest)
 
 -- a damaged block is held under this CID
 pub record HoldsDamaged (hash : List ℕ → List ℕ) (cid : Cid) (t : Contents) : Type 0 where

@@ -10,4 +10,5 @@ pub mod Keeping
 pub mod Lost
 pub mod Seen
 pub mod Stops
+pub mod Whole
 pub mod Writing

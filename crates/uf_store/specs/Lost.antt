@@ -52,7 +52,17 @@ abbrev pub ReadsOver : {A : Type 0} → Told → List Held → A → Result A St
 ReadsOver told l value (Ok a) = a ≡ value
 ReadsOver told l value (Err fault) = IsLossOf told l fault
 
+-- the block is one of these, under whose CID none is held
+abbrev pub IsLostBlock : Lookup → Held → List Held → Type 0
+IsLostBlock held block [] = ⊥
+IsLostBlock held block (b ∷ l) = ((block ≡ b) × (held b.0 ≡ None)) ⊎ IsLostBlock held block l
+
+-- where the store tells, the block is one of these, and it isn't held
+abbrev pub LosesBlock : Told → Held → List Held → Type 0
+LosesBlock told block l = IfSome told (λ t. IsLostBlock (held_at t) block l)
+
 -- what is held agrees with the new blocks, and each of them that isn't held is one of the old blocks that wasn't held before
 abbrev pub AgreesAfter : Told → Told → List Held → List Held → Type 0
 AgreesAfter before None old new = ⊥
-AgreesAfter before (Some t) old new = Agrees (Some t) new × AllByRecursion (λ (b : Held). held_at t b.0 ≡ None → LosesOne before b.0 old) new
+AgreesAfter before (Some t) old new =
+    Agrees (Some t) new × AllByRecursion (λ (b : Held). held_at t b.0 ≡ None → LosesBlock before b old) new

@@ -6,6 +6,7 @@ mod discard;
 mod failing;
 mod laws;
 mod memory;
+mod shelf;
 mod steps;
 mod store;
 #[cfg(test)]

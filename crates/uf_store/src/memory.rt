@@ -1,8 +1,8 @@
 // A store in memory. It tells, and it can be made to fail, to lose blocks and to hold wrong ones.
 ghost use Rattle.std.specs.Prelude.{◌≡◌, ◌≢◌, ◌≤◌, ◌<◌, ◌+◌, ◌^◌, ◌==◌, ◌↔◌, ◌⊎◌, ℕ, List, ◌∷◌, [], ◌++◌, length, take, Some, None, Contains, OnOk, OnErr, IfOk, IsTrue};
 ghost use Rattle.std.specs.List.{list_any};
-ghost use Rattle.std.specs.FinMap.{from_entries, get, insert, len, remove};
-ghost use Rattle.std.specs.Option.{option_copied};
+ghost use Rattle.std.specs.FinMap.{from_entries, insert, len};
+ghost use Rattle.uf_store.specs.Whole.{IsWhole};
 ghost use Rattle.uf_cid.specs.Cid.{cid_cmp};
 ghost use Rattle.uf_store.specs.Contents.{changed, held_at};
 ghost use Rattle.uf_store.specs.Stops.{behind_sync as place_behind_sync, behind_with as place_behind, survives as write_survives};
@@ -11,9 +11,9 @@ ghost use Rattle.uf_store.specs.Seen.{Loads, NoOther, ReadsNote, Saves, Seen, Sy
 
 use crate::callers::block_of;
 use crate::failing::Failures;
-use crate::{CallKind, Load, MOST_BYTES, Note, NoteRead, Save, Steps, Store, Write};
+use crate::shelf::{Shelf, is_whole};
+use crate::{CallKind, Load, Note, NoteRead, Save, Steps, Store, Write};
 use std::alloc::Global;
-use std::collections::BTreeMap;
 use std::marker::PhantomData;
 use std::sync::ledger::Ledger;
 use uf_cid::{Block, BlockHash, Cid, Memory};
@@ -24,7 +24,7 @@ use uf_edge::{Calls, Put};
 pub struct MemStore<X: BlockHash> {
     alloc: Global,
     hash: PhantomData<X>,
-    blocks: BTreeMap<Cid, Block>,
+    blocks: Shelf<X>,
     head: Option<Block>,
     pins: Option<Block>,
     writes: Vec<Write>,
@@ -48,7 +48,7 @@ impl<X: BlockHash> MemStore<X> {
         MemStore {
             alloc,
             hash: PhantomData,
-            blocks: BTreeMap::new(alloc),
+            blocks: Shelf::new(alloc),
             head: None,
             pins: None,
             writes: Vec::new(alloc),
@@ -75,7 +75,7 @@ impl<X: BlockHash> MemStore<X> {
         ensures seen { memory_seen self.new ≡ record (memory_seen self.old) { told = Some (without_block cid.now (contents_of self.old)) } }
         ensures failures { failures_of self.new ≡ failures_of self.old }
     {
-        take_away(&mut self.blocks, cid);
+        self.blocks.remove(cid);
     }
 
     /// Puts a block under a CID, unchecked. That is no write.
@@ -84,7 +84,8 @@ impl<X: BlockHash> MemStore<X> {
         ensures err { OnErr result (memory_seen self.new ≡ memory_seen self.old) }
         ensures failures { failures_of self.new ≡ failures_of self.old }
     {
-        put_there(&mut self.blocks, *cid, bytes)
+        let is_good = is_whole::<X>(cid, &bytes);
+        self.blocks.insert(*cid, bytes, is_good)
     }
 
     /// What a stop after the first `at` writes leaves, where the saves at the places in `lost` didn't outlive it. Places are
@@ -117,7 +118,15 @@ impl<X: BlockHash> MemStore<X> {
             Write::Saved(cid, block) => {
                 let kept = block.copy()?;
                 let copy = block.copy()?;
-                keep(&mut self.blocks, &mut self.writes, *cid, kept, copy)
+                let is_good = is_whole::<X>(cid, &kept);
+                keep(
+                    &mut self.blocks,
+                    &mut self.writes,
+                    *cid,
+                    kept,
+                    copy,
+                    is_good,
+                )
             }
             Write::Synced => {
                 self.writes.push(Write::Synced)?;
@@ -140,7 +149,7 @@ impl<X: BlockHash> MemStore<X> {
     pub fn count(&self) -> usize
         ensures { result ≡ len (contents_of self.now).held }
     {
-        count_of(&self.blocks)
+        self.blocks.len()
     }
 
     /// How many writes were made.
@@ -149,36 +158,6 @@ impl<X: BlockHash> MemStore<X> {
     {
         self.writes.len()
     }
-}
-
-// The block that is kept under a CID.
-fn kept<'a>(blocks: &'a BTreeMap<Cid, Block>, cid: &Cid) -> Option<&'a Block>
-    ensures { option_copied result ≡ get (from_entries {R = cid_cmp} blocks.now.entries) cid.now }
-{
-    blocks.get(cid)
-}
-
-// Puts a block under a CID.
-fn put_there(blocks: &mut BTreeMap<Cid, Block>, cid: Cid, block: Block) -> Result<(), Memory>
-    ensures held { OnOk result (from_entries {R = cid_cmp} blocks.new.entries ≡ insert (from_entries blocks.old.entries) cid block) }
-    ensures same { OnErr result (blocks.new.entries ≡ blocks.old.entries) }
-{
-    blocks.insert(cid, block)?;
-    Ok(())
-}
-
-// Takes the block under a CID away.
-fn take_away(blocks: &mut BTreeMap<Cid, Block>, cid: &Cid)
-    ensures { from_entries {R = cid_cmp} blocks.new.entries ≡ remove (from_entries blocks.old.entries) cid.now }
-{
-    let _ = blocks.remove(cid);
-}
-
-// How many blocks there are.
-fn count_of(blocks: &BTreeMap<Cid, Block>) -> usize
-    ensures { result ≡ len (from_entries {R = cid_cmp} blocks.now.entries) }
-{
-    blocks.len()
 }
 
 // The place behind the last sync.
@@ -221,22 +200,24 @@ fn is_among(places: &Calls, place: usize) -> bool
     places.as_slice().iter().any(|n| *n == place as u64)
 }
 
-// Keeps a block, and notes that it was saved.
-fn keep(
-    blocks: &mut BTreeMap<Cid, Block>,
+// Keeps a block, and notes that it was saved; says whether it is known to be whole.
+fn keep<X: BlockHash>(
+    blocks: &mut Shelf<X>,
     writes: &mut Vec<Write>,
     cid: Cid,
     block: Block,
     copy: Block,
+    is_good: bool,
 ) -> Result<(), Memory>
-    requires { copy ≡ block }
-    ensures held { OnOk result (from_entries {R = cid_cmp} blocks.new.entries ≡ insert (from_entries blocks.old.entries) cid block) }
+    requires same { copy ≡ block }
+    requires whole { IsTrue is_good → IsWhole X.block32 cid block }
+    ensures held { OnOk result (from_entries {R = cid_cmp} blocks.new.blocks.entries ≡ insert (from_entries {R = cid_cmp} blocks.old.blocks.entries) cid block) }
     ensures written { OnOk result (writes.new.items ≡ writes.old.items ++ Write.Saved cid block ∷ []) }
-    ensures same_held { OnErr result (blocks.new.entries ≡ blocks.old.entries) }
+    ensures same_held { OnErr result (from_entries {R = cid_cmp} blocks.new.blocks.entries ≡ from_entries {R = cid_cmp} blocks.old.blocks.entries) }
     ensures same_written { OnErr result (writes.new.items ≡ writes.old.items) }
 {
     writes.push(Write::Saved(cid, copy))?;
-    match put_there(blocks, cid, block) {
+    match blocks.insert(cid, block, is_good) {
         Ok(()) => Ok(()),
         Err(_) => {
             let _ = writes.pop();
@@ -268,11 +249,11 @@ impl<X: BlockHash> Store for MemStore<X> {
             self.faults = self.faults.saturating_add(1);
             return Load::Failed;
         }
-        let Some(block) = kept(&self.blocks, cid) else {
+        let Some(block) = self.blocks.get(cid) else {
             self.misses = self.misses.saturating_add(1);
             return Load::Missing;
         };
-        if block.as_slice().len() > MOST_BYTES || X::block32(block.as_slice()) != cid.digest {
+        if self.blocks.is_damaged(cid, block) {
             self.faults = self.faults.saturating_add(1);
             return Load::Damaged;
         }
@@ -306,7 +287,7 @@ impl<X: BlockHash> Store for MemStore<X> {
             self.faults = self.faults.saturating_add(1);
             return Save::Failed;
         }
-        if let Some(held) = kept(&self.blocks, cid) {
+        if let Some(held) = self.blocks.get(cid) {
             if held.as_slice() != bytes && X::block32(held.as_slice()) == cid.digest {
                 return match held.copy() {
                     Ok(copy) => {
@@ -324,7 +305,7 @@ impl<X: BlockHash> Store for MemStore<X> {
         let Ok(copy) = block_of(self.alloc, bytes) else {
             return Save::Memory;
         };
-        match keep(&mut self.blocks, &mut self.writes, *cid, block, copy) {
+        match keep(&mut self.blocks, &mut self.writes, *cid, block, copy, true) {
             Ok(()) => Save::Done,
             Err(_) => Save::Memory,
         }

@@ -1,6 +1,0 @@
-use Rattle.std.proofs.Common.{sym, ◌∙◌}
-use Rattle.uf_store.proofs.Holding.{len-from_entries}
-use Rattle.uf_store.proofs.memory.count_of.Goals as goal
-
-pub returns : goal.returns
-returns c = c.len.ensures.len ∙ sym (len-from_entries _ c.len.ensures.ordered)

@@ -1,0 +1,91 @@
+// Blocks by their CIDs, in memory.
+ghost use Rattle.std.specs.Prelude.{◌≡◌, ◌↔◌, IsTrue, OnErr, OnOk, Some, true};
+ghost use Rattle.std.specs.FinMap.{empty, from_entries, get, insert, len, remove};
+ghost use Rattle.std.specs.Option.{option_copied};
+ghost use Rattle.uf_cid.specs.Cid.{cid_cmp};
+ghost use Rattle.uf_store.specs.Whole.{AreWhole, IsDamaged, IsWhole};
+
+use crate::MOST_BYTES;
+use std::alloc::Global;
+use std::collections::BTreeMap;
+use std::marker::PhantomData;
+use uf_cid::{Block, BlockHash, Cid, Memory};
+
+/// Blocks by their CIDs. It knows whether a damaged one may be among them; else none is hashed when it is lent.
+#[derive(Drop)]
+pub(crate) struct Shelf<X: BlockHash> {
+    hash: PhantomData<X>,
+    blocks: BTreeMap<Cid, Block>,
+    is_whole: bool,
+    ghost whole: { is_whole ≡ true → AreWhole X.block32 blocks.entries },
+}
+
+impl<X: BlockHash> Shelf<X> {
+    /// No blocks.
+    pub(crate) fn new(alloc: Global) -> Self
+        ensures { from_entries {R = cid_cmp} result.blocks.entries ≡ empty }
+    {
+        Shelf {
+            hash: PhantomData,
+            blocks: BTreeMap::new(alloc),
+            is_whole: true,
+        }
+    }
+
+    /// The block under a CID.
+    pub(crate) fn get(&self, cid: &Cid) -> Option<&Block>
+        ensures { option_copied result ≡ get (from_entries {R = cid_cmp} self.now.blocks.entries) cid.now }
+    {
+        self.blocks.get(cid)
+    }
+
+    /// Whether a block that is here is damaged. It is hashed only where one may be.
+    pub(crate) fn is_damaged(&self, cid: &Cid, block: &Block) -> bool
+        requires { get (from_entries {R = cid_cmp} self.now.blocks.entries) cid.now ≡ Some block.now }
+        ensures { IsTrue result ↔ IsDamaged X.block32 cid.now block.now }
+    {
+        if self.is_whole {
+            return false;
+        }
+        is_damaged::<X>(cid, block)
+    }
+
+    /// Puts a block under a CID; says whether it is known to be whole.
+    pub(crate) fn insert(&mut self, cid: Cid, block: Block, is_whole: bool) -> Result<(), Memory>
+        requires { IsTrue is_whole → IsWhole X.block32 cid block }
+        ensures held { OnOk result (from_entries {R = cid_cmp} self.new.blocks.entries ≡ insert (from_entries {R = cid_cmp} self.old.blocks.entries) cid block) }
+        ensures same { OnErr result (from_entries {R = cid_cmp} self.new.blocks.entries ≡ from_entries {R = cid_cmp} self.old.blocks.entries) }
+    {
+        self.is_whole = self.is_whole && is_whole;
+        self.blocks.insert(cid, block)?;
+        Ok(())
+    }
+
+    /// Takes the block under a CID away.
+    pub(crate) fn remove(&mut self, cid: &Cid)
+        ensures { from_entries {R = cid_cmp} self.new.blocks.entries ≡ remove (from_entries {R = cid_cmp} self.old.blocks.entries) cid.now }
+    {
+        let _ = self.blocks.remove(cid);
+    }
+
+    /// How many blocks there are.
+    pub(crate) fn len(&self) -> usize
+        ensures { result ≡ len (from_entries {R = cid_cmp} self.now.blocks.entries) }
+    {
+        self.blocks.len()
+    }
+}
+
+/// Whether a block is no longer than one may be and has its CID's digest.
+pub(crate) fn is_whole<X: BlockHash>(cid: &Cid, block: &Block) -> bool
+    ensures { IsTrue result ↔ IsWhole X.block32 cid.now block.now }
+{
+    block.as_slice().len() <= MOST_BYTES && X::block32(block.as_slice()) == cid.digest
+}
+
+// Whether a block is longer than one may be, or its hash isn't the CID's digest.
+fn is_damaged<X: BlockHash>(cid: &Cid, block: &Block) -> bool
+    ensures { IsTrue result ↔ IsDamaged X.block32 cid.now block.now }
+{
+    block.as_slice().len() > MOST_BYTES || X::block32(block.as_slice()) != cid.digest
+}
