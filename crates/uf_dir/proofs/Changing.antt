@@ -1,28 +1,27 @@
 -- Directories changed in place, in one block or in shards.
-use Rattle.std.proofs.Common.{rules, ◌≡◌, ◌≢◌, ℕ, suc, ◌+◌, ◌^◌, ◌<◌, ◌≤◌, List, [], ◌∷◌, ◌++◌, length, min, refl, ap, arith, sym, ◌∙◌, subst, ◌⊎◌, inl, inr, Option, Some, None, Ordering, Bool, true, false, cond, T}
-use Rattle.std.specs.Prelude.{IfErr, IfOk, IfSome, IsSome, OnOk, nat_lt, not}
+use Rattle.std.proofs.Common.{rules, ◌≡◌, ℕ, suc, ◌+◌, ◌≤◌, List, [], ◌∷◌, length, refl, ap, arith, sym, ◌∙◌, subst, inl, inr, Option, Some, None, Ordering, Bool, true, false, cond}
+use Rattle.std.specs.Prelude.{IfOk, IfSome, IsSome, OnOk, nat_lt, not}
 use Rattle.std.specs.declared.cmp.Ordering.TheVariants.{Less, Equal, Greater}
 use Rattle.std.specs.declared.result.Result.{Result}
 use Rattle.std.specs.declared.result.Result.TheVariants.{Ok, Err}
-use Rattle.std.specs.FinMap.Entries.{by_order, find, is_sorted-where_key, put, where_key}
-use Rattle.std.specs.List.{AllByRecursion, sum_by}
+use Rattle.std.specs.FinMap.Entries.{by_order, find, put, where_key}
+use Rattle.std.specs.List.{AllByRecursion}
 use Rattle.std.specs.Ordering.{eq_by_cmp}
 use Rattle.std.proofs.lemmas.Bool.Decides.{nat_tests}
 use Rattle.std.proofs.lemmas.List.Sums.{sum_by-cons}
-use Rattle.uf_cid.specs.Blocks as blocks
 use Rattle.uf_cid.specs.Blocks.{Held}
 use Rattle.uf_cid.specs.declared.cid.Cid.{Cid}
-use Rattle.uf_edge.specs.Counts.{Rose, Stood}
+use Rattle.uf_edge.specs.Counts.{Stood}
 use Rattle.uf_store.specs.Clashes.{IsSaving}
 use Rattle.uf_store.specs.Contents.{Contents, Told, held_at}
 use Rattle.uf_store.specs.Faults.{Answers, NoneIsBad, Shows, StaysCalm}
 use Rattle.uf_store.specs.Keeping.{Agrees, Holds, StaysAgreed}
 use Rattle.uf_store.specs.Writing.{IsSave, SavesOnly}
 use Rattle.uf_store.proofs.Writing.{agrees-between}
-use Rattle.uf_store.specs.Lost.{AgreesAfter, IsLossOf, IsLost, LosesOne, ReadsOver}
+use Rattle.uf_store.specs.Lost.{AgreesAfter, IsLossOf, IsLost, LosesBlock, LosesOne, ReadsOver}
+use Rattle.uf_store.proofs.Lost.{loses-cid}
 use Rattle.uf_store.specs.Seen.{Seen}
 use Rattle.uf_store.specs.declared.store.Role.{Role}
-use Rattle.uf_store.specs.declared.store.Role.TheVariants.{Directory, Shard, FileNode, Leaf}
 use Rattle.uf_store.specs.declared.store.StoreFault.{StoreFault}
 use Rattle.uf_store.specs.declared.store.StoreFault.TheVariants.{Failed, Damaged, Missing, BadBlock, Clash, Memory}
 use Rattle.uf_store.proofs.Causes.{StaysCalm-trans, Shows-after}
@@ -34,8 +33,7 @@ use Rattle.uf_tree.specs.Names.{names_cmp}
 use Rattle.uf_tree.specs.Nodes.{InSlot, Named}
 use Rattle.uf_tree.specs.ShardPlan.{same_slots, shard, shard_plan, twins}
 use Rattle.uf_tree.specs.TreePlan.{Refusal, collision, dir_refusal, or_else, too_big}
-use Rattle.uf_tree.specs.Validity.{IsDirectory, IsHash}
-use Rattle.uf_tree.proofs.ShardLaws.{names_exact}
+use Rattle.uf_tree.specs.Validity.{IsHash}
 use Rattle.uf_shard.specs.declared.fault.DirFault.{DirFault}
 use Rattle.uf_shard.specs.declared.fault.DirFault.TheVariants.{Collision, TooBig, Store}
 use Rattle.uf_shard.specs.Answers.{Gives, GivesOver, Shown, shard_refusal}
@@ -271,9 +269,9 @@ module _ (X : List ℕ → List ℕ) (N : List ℕ → ℕ) (p : Profile) (name 
   }
 
 -- a block that is lost afterwards was lost before
-back_lost : (u : Contents) (before : Told) (old new : List Held) (c : Cid) → AllByRecursion (λ (b : Held). held_at u b.0 ≡ None → LosesOne before b.0 old) new → IsLost (held_at u) c new → LosesOne before c old
+back_lost : (u : Contents) (before : Told) (old new : List Held) (c : Cid) → AllByRecursion (λ (b : Held). held_at u b.0 ≡ None → LosesBlock before b old) new → IsLost (held_at u) c new → LosesOne before c old
 back_lost u before old [] c all h = absurd h
-back_lost u before old (b ∷ new) c all (inl h) = subst (λ (x : Cid). LosesOne before x old) (sym h.0) (all.0 h.1)
+back_lost u before old (b ∷ new) c all (inl h) = subst (λ (x : Cid). LosesOne before x old) (sym h.0) (loses-cid before b old (all.0 h.1))
 back_lost u before old (b ∷ new) c all (inr h) = back_lost u before old new c all.1 h
 
 pub loss-back : (before mid : Told) (old new : List Held) (fault : StoreFault) → AgreesAfter before mid old new → IsLossOf mid new fault → IsLossOf before old fault

@@ -1,5 +1,5 @@
 -- What a look at the root of a planned directory or file finds.
-use Rattle.std.proofs.Common.{◌≡◌, ℕ, List, [], ◌∷◌, ap, arith, sym, ◌∙◌, subst, inl, inr, Option, Some, None, Bool, true, false}
+use Rattle.std.proofs.Common.{◌≡◌, ℕ, ◌+◌, List, [], ◌∷◌, length, ap, arith, sym, ◌∙◌, subst, inl, inr, Option, Some, None, Bool, true, false}
 use Rattle.std.specs.Prelude.{◌≤◌, IfOk, IfSome, OnOk, ⊤}
 use Rattle.std.specs.FinMap.Entries.{find}
 use Rattle.std.specs.declared.result.Result.{Result}
@@ -179,6 +179,14 @@ module _ (X : List ℕ → List ℕ) (good : IsHash X) (N : List ℕ → ℕ) (p
     -- what the shards answer where they are read
     abbrev pub ReadBelow : Seen → Result (List Named) StoreFault → Type 0
     ReadBelow now r = (M : List ℕ → ℕ) (k : List Named) → shards.IsPlanned X M cid k → Agrees mid.told (shard X M 7 k).blocks → Stood mid.faults now.faults → ReadsOver mid.told (shard X M 7 k).blocks k r
+
+    -- a load for each shard, and one more
+    pub entries-touches : (t0 t1 t2 : ℕ) → t1 ≡ t0 + 1 → ((M : List ℕ → ℕ) (k : List Named) → shards.IsPlanned X M cid k → Agrees mid.told (shard X M 7 k).blocks → t2 ≤ t1 + length (shard X M 7 k).blocks)
+        → t2 ≤ t0 + (length (own_blocks X N p l) + 1)
+    entries-touches t0 t1 t2 first below =
+        let most = below N l (planned-sharded X N p l cid is sharded_is) agrees_mid in
+        let same = ap (λ (b : List Held). length b) (blocks-sharded X N p l sharded_is) in
+        omega (arith, most, same, first)
 
     pub entries-sharded : (now : Seen) (r : Result (List Named) StoreFault) → mid.faults ≡ before.faults → ReadBelow now r → Stood before.faults now.faults → ReadsOver before.told (own_blocks X N p l) l r
     entries-sharded now r calm below stood =

@@ -1,5 +1,5 @@
 -- How many touches edits of directories need.
-use Rattle.std.proofs.Common.{◌≡◌, ◌≢◌, Option, None, Some, ℕ, zero, suc, ◌+◌, ◌-◌, ◌*◌, ◌/◌, ◌<◌, ◌≤◌, List, [], ◌∷◌, ◌++◌, length, min, refl, ap, arith, sym, ◌∙◌, subst, Bool, true, false, cond, T, length-append}
+use Rattle.std.proofs.Common.{◌≡◌, ◌≢◌, Option, None, Some, ℕ, zero, suc, ◌+◌, ◌-◌, ◌*◌, ◌/◌, ◌≤◌, List, [], ◌∷◌, length, min, refl, arith, sym, subst, Bool, true, false, cond, T, length-append}
 use Rattle.std.specs.Prelude.{◌==◌, IsTrue, not}
 use Rattle.std.specs.FinMap.Entries.{is_sorted, is_sorted-where_key}
 use Rattle.std.specs.Ordering.{eq_by_cmp}

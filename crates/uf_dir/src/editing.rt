@@ -1,5 +1,6 @@
 // Directories changed by one name.
-ghost use Rattle.std.specs.Prelude.{◌≡◌, ◌≤◌, ◌+◌, ℕ, List, IfOk, IfSome, IsSome, IsTrue, None, OnOk, Some, length};
+ghost use Rattle.std.specs.Prelude.{◌≡◌, ◌<◌, ◌≤◌, ◌+◌, ℕ, List, IfOk, IfSome, IsSome, IsTrue, None, OnOk, Some};
+ghost use Rattle.std.specs.Prelude.{length};
 ghost use Rattle.uf_cid.specs.declared.cid.Codec.TheVariants.{DagPb};
 ghost use Rattle.uf_edge.specs.Counts.{Stood};
 ghost use Rattle.uf_store.specs.Calls.{OnlySaves};
@@ -67,6 +68,7 @@ pub fn put<S: Store, N: NameHash, L: Ledger>(
     ensures touches { (l : List Named) → IsPlanned S.X.block32 N.name64 p.now root.now l
         → Agrees (S.seen store.old).told (own_blocks S.X.block32 N.name64 p.now l)
         → touches.new ≤ touches.old + (17 + crossing S.X.block32 N.name64 p.now l (with_name name.now entry.now l)) }
+    ensures touched { touches.old < touches.new }
 {
     let found = look_at_root(alloc, store, Some(*p), root, touches)?;
     match found {
@@ -94,6 +96,7 @@ fn put_basic<S: Store, N: NameHash, L: Ledger>(
     ensures saves { OnlySaves S.X.block32 NoneIsBad (dir_fault result) (S.seen store.old) (S.seen store.new) }
     ensures touches { touches.new ≤ touches.old
         + length (own_blocks S.X.block32 N.name64 p.now (with_name name.now entry.now pairs.now)) }
+    ensures touched { touches.old ≤ touches.new }
     ensures early { IsFree N.name64 p.now (with_name name.now entry.now pairs.now) touches.old touches.new }
 {
     let changed = with_pair(alloc, pairs, name, entry)?;
@@ -137,6 +140,7 @@ pub fn remove<S: Store, N: NameHash, L: Ledger>(
         → Stood (S.seen store.old).clashes (S.seen store.new).clashes
         → touches.new ≤ touches.old + (18 + weighing p.now (shard_count S.X.block32 N.name64 l)
         + crossing S.X.block32 N.name64 p.now l (without name.now l)) }
+    ensures touched { touches.old < touches.new }
 {
     let found = look_at_root(alloc, store, Some(*p), root, touches)?;
     match found {
@@ -161,6 +165,7 @@ fn remove_basic<S: Store, N: NameHash, L: Ledger>(
         (S.seen store.old).told (S.seen store.new).told result }
     ensures saves { OnlySaves S.X.block32 NoneIsBad (fault_in result) (S.seen store.old) (S.seen store.new) }
     ensures touches { touches.new ≤ touches.old + 1 }
+    ensures touched { touches.old ≤ touches.new }
 {
     let rest = pairs_without(alloc, pairs, name)?;
     match rest {
@@ -204,6 +209,7 @@ fn remove_sharded<S: Store, N: NameHash, L: Ledger>(
         → Stood (S.seen store.old).clashes (S.seen store.new).clashes
         → touches.new ≤ touches.old + (17 + weighing p.now (shard_count S.X.block32 N.name64 l)
         + gathering p.now (shard_count S.X.block32 N.name64 l) (without name.now l)) }
+    ensures touched { touches.old < touches.new }
 {
     let removed = uf_shard::remove::<S, N, L>(alloc, store, root, name, touches)?;
     match removed {
@@ -247,6 +253,7 @@ fn settled<S: Store, L: Ledger>(
         → Stood (S.seen store.old).clashes (S.seen store.new).clashes
         → touches.new ≤ touches.old + (weighing p.now (shard_count S.X.block32 N l)
         + gathering p.now (shard_count S.X.block32 N l) l) }
+    ensures touched { touches.old < touches.new }
 {
     let is_heavy = weight_over(alloc, store, &entry.cid, u64::from(p.threshold), touches)?;
     if is_heavy {
@@ -283,6 +290,7 @@ fn in_one_block<S: Store, L: Ledger>(
     ensures touches { (N : List ℕ → ℕ) (l : List Named) → IsShardPlan S.X.block32 N entry.cid l
         → Agrees (S.seen store.old).told (shard S.X.block32 N 7 l).blocks
         → touches.new ≤ touches.old + (shard_count S.X.block32 N l + 1) }
+    ensures touched { touches.old < touches.new }
 {
     let pairs = entries(alloc, store, &entry.cid, touches)?;
     fitted(alloc, store, p, entry, &pairs, touches)
@@ -305,6 +313,7 @@ fn fitted<S: Store, L: Ledger>(
     ensures node { IfOk result (λ left. IfSome left (λ e. e.cid.codec ≡ DagPb)) }
     ensures saves { OnlySaves S.X.block32 NoneIsBad (fault_in result) (S.seen store.old) (S.seen store.new) }
     ensures touches { touches.new ≤ touches.old + 1 }
+    ensures touched { touches.old ≤ touches.new }
 {
     if needs_shards(p, pairs.as_slice()) {
         return Ok(Some(entry));

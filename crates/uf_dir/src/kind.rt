@@ -1,9 +1,9 @@
 // What an entry is.
 use uf_fileread::FileSize;
 
-/// What an entry is: a directory, or a file with its length and the number of links of its root block.
+/// What an entry is: a directory with the number of links of its root block, or a file with its length and that number.
 #[derive(Clone, Copy, Debug, PartialEq, Eq)]
 pub enum Kind {
-    Folder,
+    Folder(u64),
     File(FileSize),
 }

@@ -1,20 +1,17 @@
 -- A shard with one leaf is that of one pair.
-use Rattle.std.proofs.Common.{◌≡◌, ◌≢◌, ℕ, zero, suc, ◌+◌, ◌<◌, ◌≤◌, List, [], ◌∷◌, refl, ap, arith, sym, ◌∙◌, subst, Bool, true, false, cond, T, Option, Some, None, Ordering, ◌⊎◌, inl, inr}
+use Rattle.std.proofs.Common.{◌≡◌, ◌≢◌, ℕ, ◌<◌, ◌≤◌, List, [], ◌∷◌, refl, ap, arith, sym, ◌∙◌, Bool, true, false, cond, T, Some, None, ◌⊎◌, inl, inr}
 use Rattle.std.specs.Prelude.{◌==◌}
-use Rattle.std.specs.declared.cmp.Ordering.TheVariants.{Less, Equal, Greater}
 use Rattle.std.specs.Ordering.{nat_cmp, eq_by_cmp, is_eq}
-use Rattle.std.specs.Cmp.{nat_cmp_total}
-use Rattle.std.specs.FinMap.Entries.{find, is_sorted, where_key, find-where_key, same_entries, is_sorted-where_key}
+use Rattle.std.specs.FinMap.Entries.{find, is_sorted, find-where_key, same_entries}
 use Rattle.std.proofs.lemmas.Bool.{cases_eq, cases_lt}
 use Rattle.std.proofs.lemmas.Bool.Decides.{nat_tests}
 use Rattle.uf_tree.specs.declared.nodes.Entry.{Entry}
-use Rattle.uf_tree.specs.declared.nodes.Item.{Item}
-use Rattle.uf_tree.specs.declared.nodes.Item.TheVariants.{Leaf, Sub}
+use Rattle.uf_tree.specs.declared.nodes.Item.TheVariants.{Leaf}
 use Rattle.uf_tree.specs.FilePlan.{Plan}
 use Rattle.uf_murmur.specs.Slots.{slot}
 use Rattle.uf_tree.specs.Names.{names_cmp}
 use Rattle.uf_tree.specs.Nodes.{InSlot, Named}
-use Rattle.uf_tree.specs.ShardPlan.{bucket, shard_items, slot_item, tabulate}
+use Rattle.uf_tree.specs.ShardPlan.{bucket, shard_items, slot_item}
 use Rattle.uf_tree.proofs.ShardLaws.{eq_test, eqb_same, find-tabulate, names_exact, names_total, ne_test, nothing_above, slot-bound, tied}
 use Rattle.std.specs.Cmp.{tied_itself}
 use Rattle.uf_shard.proofs.Slotted.{free-none, leaf-one}

@@ -1,16 +1,15 @@
 -- What a put answers at the root.
-use Rattle.std.proofs.Common.{◌≡◌, ℕ, ◌+◌, ◌^◌, ◌<◌, ◌≤◌, List, [], ◌∷◌, length, map, min, refl, ap, arith, sym, ◌∙◌, subst, Option, None, Some}
+use Rattle.std.proofs.Common.{◌≡◌, ℕ, ◌^◌, ◌<◌, ◌≤◌, List, [], ◌∷◌, length, map, refl, ap, arith, sym, ◌∙◌, Option, None, Some}
 use Rattle.std.specs.declared.result.Result.{Result}
 use Rattle.std.specs.declared.result.Result.TheVariants.{Ok, Err}
 use Rattle.std.specs.Prelude.{IfErr, IfOk, IsTrue, OnOk, not}
 use Rattle.uf_cid.specs.declared.cid.Cid.{Cid}
 use Rattle.uf_cid.specs.Blocks.{Held}
-use Rattle.uf_edge.specs.Counts.{Rose, Stood}
+use Rattle.uf_edge.specs.Counts.{Stood}
 use Rattle.uf_store.specs.Contents.{Told}
 use Rattle.uf_store.specs.Clashes.{IsSaving}
-use Rattle.uf_store.specs.Faults.{Answers, NoneIsBad, Shows, StaysCalm}
-use Rattle.uf_store.proofs.Causes.{Answers-after}
-use Rattle.uf_store.specs.Keeping.{Agrees, Holds, KeepsGood}
+use Rattle.uf_store.specs.Faults.{Answers, NoneIsBad, Shows}
+use Rattle.uf_store.specs.Keeping.{Holds, KeepsGood}
 use Rattle.uf_store.specs.Lost.{AgreesAfter, IsLossOf, ReadsOver}
 use Rattle.uf_store.specs.Seen.{Seen}
 use Rattle.uf_store.proofs.Keeping.{KeepsGood-trans}
@@ -21,7 +20,7 @@ use Rattle.uf_tree.specs.declared.nodes.Entry.{Entry}
 use Rattle.uf_tree.specs.Changes.{with_name}
 use Rattle.uf_tree.specs.Names.{names_cmp}
 use Rattle.uf_tree.specs.Nodes.{InSlot, Named, item_entry, node_entry, shard_block}
-use Rattle.uf_tree.specs.ShardPlan.{same_hash, same_slots, shard, twins}
+use Rattle.uf_tree.specs.ShardPlan.{same_hash, same_slots, shard}
 use Rattle.uf_tree.specs.TreePlan.{Refusal, collision, or_else, too_big}
 use Rattle.uf_tree.specs.TreePlan as plans
 use Rattle.uf_tree.specs.Validity.{IsHash}
@@ -40,7 +39,7 @@ use Rattle.uf_shard.specs.Buckets.{deeper}
 use Rattle.uf_shard.specs.declared.removed.Removed.{Removed}
 use Rattle.uf_shard.specs.declared.removed.Removed.TheVariants.{Absent, Empty, Left}
 use Rattle.uf_shard.specs.Taken.{AgreesLeft, IsLeftOf, HasName, TakesSlots, left_of, left_without}
-use Rattle.uf_shard.specs.Changed.{GivesItems, HasNoTwin, MayLose, PutsSlots, level, slots_of}
+use Rattle.uf_shard.specs.Changed.{HasNoTwin, MayLose, PutsSlots, level, slots_of}
 use Rattle.uf_shard.proofs.Alone.{no-items}
 use Rattle.uf_store.specs.Keeping.{StaysAgreed}
 use Rattle.uf_shard.proofs.Knowing.{after-known}

@@ -1,18 +1,13 @@
 -- Blocks that are held or old ones.
-use Rattle.std.proofs.Common.{◌≡◌, ℕ, zero, suc, ◌+◌, ◌<◌, ◌≤◌, ◌≢◌, List, [], ◌∷◌, ◌++◌, length, drop, arith, refl, sym, ap, subst, ◌∙◌, ◌⊎◌, inl, inr}
-use Rattle.std.proofs.Math.Seq.{drop-append_seam}
+use Rattle.std.proofs.Common.{◌≡◌, ℕ, zero, suc, ◌+◌, ◌<◌, ◌≤◌, ◌≢◌, List, [], ◌∷◌, ◌++◌, arith, refl, sym, ap, subst, ◌∙◌, ◌⊎◌, inl, inr}
 use Rattle.std.specs.Prelude.{Some, None, IfSome}
 use Rattle.std.specs.declared.option.Option.{Option}
 use Rattle.std.proofs.lemmas.Bool.{cases_eq}
-use Rattle.std.specs.List.{AllByRecursion}
-use Rattle.uf_cid.specs.declared.cid.Cid.{Cid}
 use Rattle.uf_cid.specs.Blocks.{Held}
 use Rattle.uf_cid.specs.Blocks as blocks
-use Rattle.uf_store.specs.declared.store.Write.{Write}
-use Rattle.uf_store.specs.declared.store.Write.TheVariants.{Saved}
 use Rattle.uf_store.specs.Contents.{Contents, Told, held_at}
-use Rattle.uf_store.specs.Keeping.{Agrees, AreGood, Holds, KeepsGood, StaysAgreed}
-use Rattle.uf_store.specs.Lost.{AgreesAfter, IsLost, LosesOne}
+use Rattle.uf_store.specs.Keeping.{AreGood, KeepsGood, StaysAgreed}
+use Rattle.uf_store.specs.Lost.{AgreesAfter, IsLostBlock}
 use Rattle.uf_store.proofs.Keeping.{Holds-kept}
 use Rattle.uf_tree.specs.ShardPlan.{flat_tabulate}
 use Rattle.uf_tree.proofs.Each.{both}
@@ -80,17 +75,17 @@ in_good X b [] good i = absurd i
 in_good X b (a ∷ old) good (inl same) = subst (λ (x : Held). X x.1 ≡ x.0.digest) (sym same) good.0
 in_good X b (a ∷ old) good (inr later) = in_good X b old good.1 later
 
-in_lost : (t : Contents) (b : Held) (old : List Held) → held_at t b.0 ≡ None → IsIn b old → IsLost (held_at t) b.0 old
+in_lost : (t : Contents) (b : Held) (old : List Held) → held_at t b.0 ≡ None → IsIn b old → IsLostBlock (held_at t) b old
 in_lost t b [] none i = absurd i
-in_lost t b (a ∷ old) none (inl same) = inl (ap (λ (x : Held). x.0) same, ap (λ (x : Held). held_at t x.0) (sym same) ∙ none)
+in_lost t b (a ∷ old) none (inl same) = inl (same, ap (λ (x : Held). held_at t x.0) (sym same) ∙ none)
 in_lost t b (a ∷ old) none (inr later) = inr (in_lost t b old none later)
 
 module _ (X : List ℕ → List ℕ) (t u : Contents) (old : List Held) (good : AreGood X old) (agrees : blocks.Agrees (held_at t) old) (now_agrees : blocks.Agrees (held_at u) old) (keeps : KeepsGood X (Some t) (Some u)) where
   -- a block that is lost afterwards was lost before
-  old-lost : (b : Held) → IsIn b old → held_at u b.0 ≡ None → IsLost (held_at t) b.0 old
+  old-lost : (b : Held) → IsIn b old → held_at u b.0 ≡ None → IsLostBlock (held_at t) b old
   old-lost b i gone = by (held_at t b.0) refl
     where
-      by : (o : Option (List ℕ)) → held_at t b.0 ≡ o → IsLost (held_at t) b.0 old
+      by : (o : Option (List ℕ)) → held_at t b.0 ≡ o → IsLostBlock (held_at t) b old
       by None e = in_lost t b old e i
       by (Some x) e =
           let same : x ≡ b.1 = subst (λ (o : Option (List ℕ)). IfSome o (λ bytes. bytes ≡ b.1)) e (in_agrees t b old agrees i) in

@@ -7,6 +7,7 @@ pub mod Reaching
 pub mod Walks
 pub mod Rows
 pub mod Weights
+pub mod RowWeights
 pub mod Sorts
 pub mod Touches
 pub mod Digests

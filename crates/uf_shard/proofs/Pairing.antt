@@ -1,12 +1,12 @@
 -- Two names of one hash, of which one is put.
-use Rattle.std.proofs.Common.{◌≡◌, ◌≢◌, ℕ, List, [], ◌∷◌, Bool, true, false, cond, T, refl, ap, arith, sym, ◌∙◌, subst, Option, Some, None, Ordering, ◌⊎◌, inl, inr}
+use Rattle.std.proofs.Common.{◌≡◌, ◌≢◌, ℕ, List, [], ◌∷◌, Bool, true, false, cond, refl, ap, arith, sym, ◌∙◌, Option, Some, None, Ordering, ◌⊎◌, inl, inr}
 use Rattle.std.specs.Prelude.{◌==◌, ◌&&◌}
 use Rattle.std.specs.Cmp.{tied_itself}
 use Rattle.std.specs.declared.cmp.Ordering.TheVariants.{Less, Equal, Greater}
 use Rattle.std.specs.FinMap.Entries.{below_all, by_order, find as value_of, is_sorted, put, where_key, find-where_key}
-use Rattle.std.specs.List.{AllByRecursion, find}
-use Rattle.std.specs.Ordering.{eq_by_cmp, is_eq, is_lt, ordering_reverse}
-use Rattle.std.proofs.lemmas.Bool.{cases_eq, false≢true}
+use Rattle.std.specs.List.{find}
+use Rattle.std.specs.Ordering.{eq_by_cmp, is_lt, ordering_reverse}
+use Rattle.std.proofs.lemmas.Bool.{false≢true}
 use Rattle.std.proofs.lemmas.Bool.Decides.{nat_tests}
 use Rattle.uf_tree.specs.declared.nodes.Entry.{Entry}
 use Rattle.uf_tree.specs.Names.{names_cmp}

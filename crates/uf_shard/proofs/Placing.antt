@@ -1,7 +1,7 @@
 -- The slots of shards on the way of a name, read where they stand.
-use Rattle.std.proofs.Common.{◌≡◌, ◌≢◌, ℕ, zero, suc, ◌+◌, ◌-◌, ◌<◌, ◌≤◌, List, [], ◌∷◌, ◌++◌, length, map, refl, ap, arith, sym, ◌∙◌, subst, Bool, true, false, cond, Option, None, Some, ◌⊎◌, inl, inr, T}
-use Rattle.std.specs.Prelude.{◌==◌, IfSome, IsTrue}
-use Rattle.std.specs.FinMap.Entries.{find, is_sorted, is_sorted-where_key, where_key}
+use Rattle.std.proofs.Common.{◌≡◌, ℕ, zero, suc, ◌+◌, ◌-◌, ◌<◌, ◌≤◌, List, [], ◌∷◌, length, map, refl, ap, arith, sym, ◌∙◌, subst, Bool, true, false, cond, Option, None, Some, inl, inr, T}
+use Rattle.std.specs.Prelude.{◌==◌, IfSome}
+use Rattle.std.specs.FinMap.Entries.{find, is_sorted-where_key}
 use Rattle.std.specs.List.{AllByRecursion}
 use Rattle.std.specs.Ordering.{nat_cmp}
 use Rattle.std.proofs.lemmas.Bool.Decides.{nat_tests}
@@ -15,28 +15,27 @@ use Rattle.uf_store.specs.Lost.{IsLost, LosesOne}
 use Rattle.uf_store.specs.Seen.{Seen}
 use Rattle.uf_store.specs.declared.store.StoreFault.{StoreFault}
 use Rattle.uf_store.specs.declared.store.StoreFault.TheVariants.{Failed, Damaged, Missing, BadBlock, Clash, Memory}
-use Rattle.std.specs.declared.result.Result.TheVariants.{Ok, Err}
+use Rattle.std.specs.declared.result.Result.TheVariants.{Err}
 use Rattle.uf_tree.specs.declared.nodes.Entry.{Entry}
 use Rattle.uf_tree.specs.declared.nodes.Item.{Item}
-use Rattle.uf_tree.specs.declared.nodes.Item.TheVariants.{Leaf, Sub}
 use Rattle.uf_tree.specs.FilePlan.{Plan}
 use Rattle.uf_tree.specs.Names.{names_cmp}
 use Rattle.uf_tree.specs.Nodes.{InSlot, Named, item_entry, node_entry, shard_block}
-use Rattle.uf_tree.specs.Roles.{IsCanonicalShard, IsOnWay}
+use Rattle.uf_tree.specs.Roles.{IsCanonicalShard}
 use Rattle.uf_tree.specs.Shardable.{HasShard}
-use Rattle.uf_tree.specs.ShardPlan.{bucket, flat_tabulate, no_shard, shard, shard_at, shard_held, shard_items, slot_blocks, slot_item, tabulate}
-use Rattle.uf_tree.specs.Validity.{IsDirectory, IsEntry, IsHash, IsInSlot, IsItem, IsNamed, IsShard}
+use Rattle.uf_tree.specs.ShardPlan.{bucket, flat_tabulate, shard, shard_at, shard_held, shard_items, slot_blocks, slot_item}
+use Rattle.uf_tree.specs.Validity.{IsDirectory, IsEntry, IsHash, IsNamed, IsShard}
 use Rattle.uf_tree.proofs.Canonical.{shard-canonical}
 use Rattle.uf_tree.proofs.Each.{at_flat_tabulate, each_filter, each_flat_tabulate}
 use Rattle.uf_tree.proofs.ShardLaws.{find-tabulate, slot-bound}
 use Rattle.uf_tree.proofs.Valid.{node_entry-valid, shard-valid, shard_items-valid}
 use Rattle.uf_shard.specs.Buckets.{FitsSlot, deeper}
-use Rattle.uf_shard.specs.Placed.{IsPlaced, way}
+use Rattle.uf_shard.specs.Placed.{way}
 use Rattle.uf_shard.specs.Reached.{HasPlaced, IsReached, LoadsPlaced}
 use Rattle.uf_shard.proofs.Digests.{shard-digested}
 use Rattle.uf_shard.proofs.One.{one_shard}
-use Rattle.uf_shard.proofs.Ways.{from_way, further, on_way, way-length}
-use Rattle.uf_shard.specs.Changed.{AreAlong, AreItems, IsItemAt, IsSlot, MayLose, below, blocks_of, item_of, level, slots_of}
+use Rattle.uf_shard.proofs.Ways.{further, way-length}
+use Rattle.uf_shard.specs.Changed.{AreAlong, AreItems, IsSlot, MayLose, below, blocks_of, level, slots_of}
 use Rattle.uf_shard.specs.Known.{IsIn}
 use Rattle.uf_shard.proofs.Knowing.{AreIn, In-flat}
 

@@ -8,7 +8,7 @@ use Rattle.std.specs.declared.cmp.Ordering.TheVariants.{Less, Equal, Greater}
 use Rattle.std.specs.FinMap.{nat_cmp-IsAntisymmetric}
 use Rattle.std.specs.FinMap.Entries.{by_order, find, is_sorted, is_sorted-put, put}
 use Rattle.std.specs.List.{AllByRecursion}
-use Rattle.std.specs.Ordering.{eq_by_cmp, is_eq, is_lt, nat_cmp}
+use Rattle.std.specs.Ordering.{eq_by_cmp, is_eq, nat_cmp}
 use Rattle.std.proofs.lemmas.Bool.{cases_eq, false≢true}
 use Rattle.uf_cid.specs.Blocks.{Held}
 use Rattle.uf_murmur.specs.Slots.{slot}
@@ -21,14 +21,13 @@ use Rattle.uf_tree.specs.declared.nodes.Entry.{Entry}
 use Rattle.uf_tree.specs.declared.nodes.Item.{Item}
 use Rattle.uf_tree.specs.declared.nodes.Item.TheVariants.{Leaf, Sub}
 use Rattle.uf_tree.specs.Changes.{set_at, with_name}
-use Rattle.uf_tree.specs.FilePlan.{Plan}
 use Rattle.uf_tree.specs.Names.{names_cmp}
 use Rattle.uf_tree.specs.Nodes.{InSlot, Named, item_entry, node_entry, shard_block}
 use Rattle.uf_tree.specs.Roles.{IsOnWay}
 use Rattle.uf_tree.specs.Shardable.{HasShard}
-use Rattle.uf_tree.specs.ShardPlan.{bucket, flat_tabulate, same_slots, shard, shard_held, shard_items, slot_blocks, slot_item, tabulate}
+use Rattle.uf_tree.specs.ShardPlan.{bucket, flat_tabulate, same_slots, shard, shard_held, slot_blocks, tabulate}
 use Rattle.uf_tree.specs.Validity.{IsDirectory, IsInSlot, IsItem, IsShard}
-use Rattle.uf_tree.proofs.ShardLaws.{bucket-put, eqb_other, eqb_same, items-put, names_exact, names_total, slot-bound, tied}
+use Rattle.uf_tree.proofs.ShardLaws.{bucket-put, eqb_other, items-put, names_exact, names_total, slot-bound, tied}
 use Rattle.uf_tree.proofs.Twins.{Apart-HasShard, few_apart, same_key, slots-hash}
 use Rattle.uf_shard.specs.declared.fault.DirFault.{DirFault}
 use Rattle.uf_shard.specs.declared.fault.DirFault.TheVariants.{Collision, TooBig, Store}
@@ -37,11 +36,11 @@ use Rattle.uf_shard.specs.Answers.{AtCollision}
 use Rattle.uf_shard.specs.Placed.{IsPlaced, way}
 use Rattle.uf_shard.specs.Reached.{IsReached}
 use Rattle.uf_shard.proofs.Ways.{from_way, further, on_way, way-at, way-length}
-use Rattle.uf_shard.specs.Changed.{AreAlong, AreItems, AreTwins, GivesItem, GivesItems, HasNoTwin, IsItemAt, IsOrdered, IsOrderedOr, IsSlot, LeafOr, MayLose, PutsSlot, PutsSlots, SavesBelow, below, blocks_of, item_of, level, slots_of}
-use Rattle.uf_shard.specs.Known.{AreKnown, IsIn, IsKnown}
+use Rattle.uf_shard.specs.Changed.{AreAlong, AreItems, AreTwins, GivesItem, GivesItems, HasNoTwin, IsItemAt, IsOrderedOr, IsSlot, LeafOr, MayLose, PutsSlot, PutsSlots, SavesBelow, below, blocks_of, item_of, level, slots_of}
+use Rattle.uf_shard.specs.Known.{AreKnown, IsIn}
 use Rattle.uf_shard.proofs.Knowing.{AreIn, In-flat, known-flat, known-in, known-more, known-old}
 use Rattle.uf_shard.proofs.Pairing.{none_whole, twins_whole}
-use Rattle.uf_shard.proofs.Placing.{below-good, blocks-are, entry-is, in_lost, level-is, may-more, slot-good, slot-in, slot-read}
+use Rattle.uf_shard.proofs.Placing.{below-good, blocks-are, entry-is, level-is, may-more, slot-in, slot-read}
 use Rattle.uf_shard.proofs.Setting.{each_found}
 use Rattle.uf_shard.proofs.Slotted.{free-none, leaf-one, many-blocks, many-item, put-more, put-two, sub-many}
 

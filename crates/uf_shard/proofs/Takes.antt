@@ -1,17 +1,13 @@
 -- A name taken out, level by level.
-use Rattle.std.proofs.Common.{◌≡◌, ◌≢◌, ℕ, zero, suc, ◌+◌, ◌-◌, ◌<◌, ◌≤◌, List, [], ◌∷◌, length, get_or, map, refl, ap, arith, sym, ◌∙◌, subst, Bool, true, false, cond, T, Option, None, Some, Ordering, ◌⊎◌, inl, inr}
+use Rattle.std.proofs.Common.{◌≡◌, ◌≢◌, ℕ, suc, ◌-◌, ◌<◌, ◌≤◌, List, [], ◌∷◌, length, get_or, map, refl, ap, arith, sym, ◌∙◌, subst, Bool, true, false, cond, Option, None, Some}
 use Rattle.std.specs.Prelude.{◌==◌, not, IfOk, IfSome, IsTrue}
-use Rattle.std.specs.Cmp.{tied_itself}
 use Rattle.std.specs.declared.result.Result.{Result}
 use Rattle.std.specs.declared.result.Result.TheVariants.{Ok, Err}
 use Rattle.std.specs.FinMap.Entries.{find, find-where_key, is_sorted, is_sorted-where_key, where_key}
-use Rattle.std.specs.List.{AllByRecursion}
-use Rattle.std.specs.Ordering.{eq_by_cmp, is_eq, nat_cmp}
-use Rattle.std.proofs.lemmas.Bool.{false≢true}
+use Rattle.std.specs.Ordering.{eq_by_cmp, nat_cmp}
 use Rattle.uf_cid.specs.Blocks.{Held}
 use Rattle.uf_cid.specs.declared.bytes.Memory.{Memory}
 use Rattle.uf_murmur.specs.Slots.{slot}
-use Rattle.uf_store.specs.Clashes.{IsSaving}
 use Rattle.uf_store.specs.Contents.{Told}
 use Rattle.uf_store.specs.Keeping.{Agrees, Holds, KeepsGood}
 use Rattle.uf_store.specs.declared.store.StoreFault.{StoreFault}
@@ -21,10 +17,10 @@ use Rattle.uf_tree.specs.declared.nodes.Item.TheVariants.{Leaf, Sub}
 use Rattle.uf_tree.specs.Changes.{set_at, without}
 use Rattle.uf_tree.specs.Names.{names_cmp}
 use Rattle.uf_tree.specs.Nodes.{InSlot, Named, item_entry, node_entry, shard_block}
-use Rattle.uf_tree.specs.ShardPlan.{bucket, shard, shard_items, slot_blocks, slot_item}
+use Rattle.uf_tree.specs.ShardPlan.{bucket, shard}
 use Rattle.uf_tree.specs.Validity.{IsInSlot, IsItem, IsShard}
 use Rattle.uf_tree.proofs.Each.{each_filter}
-use Rattle.uf_tree.proofs.ShardLaws.{bucket-remove, eqb_other, items-remove, names_exact, names_total, tied}
+use Rattle.uf_tree.proofs.ShardLaws.{bucket-remove, eqb_other, items-remove, names_exact}
 use Rattle.uf_tree.proofs.Twins.{same_key}
 use Rattle.uf_shard.specs.Buckets.{deeper}
 use Rattle.uf_shard.specs.Reached.{IsReached}

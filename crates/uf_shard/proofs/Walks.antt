@@ -57,12 +57,12 @@ agrees_back held [] m h = h
 agrees_back held (b ∷ l) m h = agrees_back held l m h.1
 
 -- a lost block of a part is lost
-lost_front : (held : Lookup) (c : Cid) (l m : List Held) → IsLost held c l → IsLost held c (l ++ m)
+pub lost_front : (held : Lookup) (c : Cid) (l m : List Held) → IsLost held c l → IsLost held c (l ++ m)
 lost_front held c [] m h = absurd h
 lost_front held c (b ∷ l) m (inl h) = inl h
 lost_front held c (b ∷ l) m (inr h) = inr (lost_front held c l m h)
 
-lost_back : (held : Lookup) (c : Cid) (l m : List Held) → IsLost held c m → IsLost held c (l ++ m)
+pub lost_back : (held : Lookup) (c : Cid) (l m : List Held) → IsLost held c m → IsLost held c (l ++ m)
 lost_back held c [] m h = h
 lost_back held c (b ∷ l) m h = inr (lost_back held c l m h)
 
@@ -86,12 +86,12 @@ module _ {A : Type 0} (f : A → List Held) where
   agrees_at held (y ∷ xs) zero x low is h = subst (λ (z : A). blocks.Agrees held (f z)) (sym is) (agrees_front held (f y) (flat_map f xs) h)
   agrees_at held (y ∷ xs) (suc i) x low is h = agrees_at held xs i x (omega arith) is (agrees_back held (f y) (flat_map f xs) h)
 
-  lost_at : (held : Lookup) (c : Cid) (xs : List A) (i : ℕ) (x : A) → i < length xs → x ≡ get_or xs i x → IsLost held c (f x) → IsLost held c (flat_map f xs)
+  pub lost_at : (held : Lookup) (c : Cid) (xs : List A) (i : ℕ) (x : A) → i < length xs → x ≡ get_or xs i x → IsLost held c (f x) → IsLost held c (flat_map f xs)
   lost_at held c [] i x low is h = absurd (omega arith)
   lost_at held c (y ∷ xs) zero x low is h = lost_front held c (f y) (flat_map f xs) (subst (λ (z : A). IsLost held c (f z)) is h)
   lost_at held c (y ∷ xs) (suc i) x low is h = lost_back held c (f y) (flat_map f xs) (lost_at held c xs i x (omega arith) is h)
 
-  Agrees_at : (told : Told) (xs : List A) (i : ℕ) (x : A) → i < length xs → x ≡ get_or xs i x → Agrees told (flat_map f xs) → Agrees told (f x)
+  pub Agrees_at : (told : Told) (xs : List A) (i : ℕ) (x : A) → i < length xs → x ≡ get_or xs i x → Agrees told (flat_map f xs) → Agrees told (f x)
   Agrees_at None xs i x low is h = h
   Agrees_at (Some t) xs i x low is h = agrees_at (held_at t) xs i x low is h
 

@@ -11,3 +11,4 @@ pub mod Sorting
 pub mod Spots
 pub mod Taken
 pub mod Walked
+pub mod Weighed

@@ -1,10 +1,8 @@
 -- Shards loaded one by one, and what the shards of a plan have below them.
-use Rattle.std.specs.Prelude.{◌≡◌, ◌≢◌, ◌≤◌, ◌+◌, ◌-◌, ◌*◌, ℕ, zero, suc, List, [], ◌∷◌, length, ⊤, Some, None}
-use Rattle.std.specs.Prelude.{IfErr, IfSome, nat_lt, if◌then◌else◌}
-use Rattle.std.specs.declared.option.Option.{Option}
+use Rattle.std.specs.Prelude.{◌≡◌, ◌≢◌, ◌≤◌, ℕ, zero, suc, List, [], ◌∷◌, length, ⊤, Some, None, IfErr, IfSome}
 use Rattle.std.specs.declared.result.Result.{Result}
 use Rattle.std.specs.declared.result.Result.TheVariants.{Ok, Err}
-use Rattle.std.specs.List.{AllByRecursion, flat_map, sum_by}
+use Rattle.std.specs.List.{AllByRecursion, flat_map}
 use Rattle.uf_cid.specs.declared.cid.Cid.{Cid}
 use Rattle.uf_cid.specs.Blocks.{Held}
 use Rattle.uf_edge.specs.Counts.{Stood}
@@ -16,7 +14,6 @@ use Rattle.uf_store.specs.declared.store.StoreFault.{StoreFault}
 use Rattle.uf_store.specs.declared.store.StoreFault.TheVariants.{Failed, Damaged, Missing, BadBlock, Clash, Memory}
 use Rattle.uf_tree.specs.declared.nodes.Item.{Item}
 use Rattle.uf_tree.specs.declared.nodes.Item.TheVariants.{Leaf, Sub}
-use Rattle.uf_tree.specs.DirPlan.{weight}
 use Rattle.uf_tree.specs.Nodes.{InSlot, Named, shard_block}
 use Rattle.uf_tree.specs.ShardPlan.{shard}
 use Rattle.uf_tree.specs.Shardable.{HasShard}
@@ -50,20 +47,6 @@ LoadsItems left cid before now (Err (Missing c)) = (c ≡ cid) × IfSome before.
 LoadsItems left cid before now (Err (BadBlock c role)) = IsNoShard left cid before now
 LoadsItems left cid before now (Err (Clash c held bytes)) = ⊥
 LoadsItems left cid before now (Err Memory) = ⊤
-
--- what is left of a room, or nothing where the weight is more than the room
-abbrev pub room_after : ℕ → ℕ → Option ℕ
-room_after room weight = if nat_lt room weight then None else Some (room - weight)
-
--- few shards were loaded: four for 37 that were weighed, and so many more on the way to where the weighing stopped
-abbrev pub IsFew : ℕ → ℕ → ℕ → ℕ → Result (Option ℕ) StoreFault → Type 0
-IsFew more before now room (Ok (Some rest)) = 37 * now + 4 * rest ≤ 37 * before + 4 * room
-IsFew more before now room (Ok None) = 37 * now ≤ 37 * before + 4 * room + 37 * more
-IsFew more before now room (Err fault) = 37 * now ≤ 37 * before + 4 * room + 37 * more
-
--- the weight of all slots, where each slot has the pairs that `over` gives
-abbrev pub weight_over_slots : (ℕ → List Named) → List InSlot → ℕ
-weight_over_slots over items = sum_by (λ (p : InSlot). weight (over p.0)) items
 
 module _ (X : List ℕ → List ℕ) (N : List ℕ → ℕ) where
   -- the CID is that of the shard of these pairs with so many levels below it

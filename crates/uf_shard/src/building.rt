@@ -47,6 +47,7 @@ pub fn build<S: Store, N: NameHash, L: Ledger>(
     ensures good { KeepsGood S.X.block32 (S.seen store.old).told (S.seen store.new).told }
     ensures saves { SavesOnly S.X.block32 (S.seen store.old).told (S.seen store.new).told }
     ensures touches { touches.new ≤ touches.old + length (shard S.X.block32 N.name64 7 pairs.now).blocks }
+    ensures touched { touches.old ≤ touches.new }
 {
     let rows = hash_all::<N>(alloc, pairs.as_slice())?;
     let twins = first_twins(alloc, rows.as_slice())?;
@@ -96,6 +97,7 @@ fn save_shard<S: Store, N: NameHash, L: Ledger>(
     ensures fault { IfErr result IsSaving }
     ensures saves { OnlySaves S.X.block32 NoneIsBad (fault_in result) (S.seen store.old) (S.seen store.new) }
     ensures touches { touches.new ≤ touches.old + length (shard S.X.block32 N.name64 left (pairs_of rows.now)).blocks }
+    ensures touched { touches.old ≤ touches.new }
 {
     let slots = in_slots(alloc, rows, 7 - left)?;
     let items = save_slots::<S, N, L>(alloc, store, left, slots.as_slice(), touches)?;
@@ -121,6 +123,7 @@ fn save_slots<S: Store, N: NameHash, L: Ledger>(
     ensures saves { OnlySaves S.X.block32 NoneIsBad (fault_in result) (S.seen store.old) (S.seen store.new) }
     ensures touches { touches.new ≤ touches.old
         + length (flat_tabulate 256 0 (blocks_at S.X.block32 N.name64 left slots.now)) }
+    ensures touched { touches.old ≤ touches.new }
 {
     let mut items = Items::new(alloc);
     for (at, rows) in slots.iter().enumerate() {
@@ -159,6 +162,7 @@ fn save_slot<S: Store, N: NameHash, L: Ledger>(
     ensures saves { OnlySaves S.X.block32 NoneIsBad (fault_in result) (S.seen store.old) (S.seen store.new) }
     ensures touches { touches.new ≤ touches.old
         + length (slot_blocks (deeper S.X.block32 N.name64 left) (pairs_of rows.now)) }
+    ensures touched { touches.old ≤ touches.new }
 {
     match rows {
         [] => Ok(()),

@@ -1,5 +1,5 @@
 // The names of a shard tree gathered in the order of its slots, and put in byte order.
-ghost use Rattle.std.specs.Prelude.{◌≡◌, ◌≤◌, ◌+◌, ◌∷◌, ◌++◌, [], IfOk, IfSome, OnOk, length};
+ghost use Rattle.std.specs.Prelude.{◌≡◌, ◌<◌, ◌≤◌, ◌+◌, ◌∷◌, ◌++◌, [], IfOk, IfSome, OnOk, length};
 ghost use Rattle.std.specs.List.{AllByRecursion};
 ghost use Rattle.uf_store.specs.Calls.{OnlyReads};
 ghost use Rattle.uf_store.specs.Contents.{held_at};
@@ -36,6 +36,7 @@ pub fn gather<S: Store, L: Ledger>(
         LosesOnly blocks result (S.seen store.old) (S.seen store.new)) }
     ensures touches { OverShard S.X.block32 (S.seen store.old).told left cid.now (λ l blocks.
         touches.new ≤ touches.old + length blocks) }
+    ensures touched { touches.old < touches.new }
     ensures reads { OnlyReads S.X.block32 IsBadShard (fault_in result) (S.seen store.old) (S.seen store.new) }
 {
     let items = load_items(alloc, store, left, cid, touches)?;
@@ -60,6 +61,7 @@ fn gather_slots<S: Store, L: Ledger>(
         LosesOnly blocks result (S.seen store.old) (S.seen store.new)) }
     ensures touches { OverSlots S.X.block32 (S.seen store.old).told left items.now (λ over blocks.
         touches.new ≤ touches.old + length blocks) }
+    ensures touched { touches.old ≤ touches.new }
     ensures reads { OnlyReads S.X.block32 IsBadShard (fault_in result) (S.seen store.old) (S.seen store.new) }
 {
     for placed in items {
@@ -86,6 +88,7 @@ fn gather_slot<S: Store, L: Ledger>(
         LosesOnly blocks result (S.seen store.old) (S.seen store.new)) }
     ensures touches { OverSlot S.X.block32 (S.seen store.old).told left placed.now.1 (λ l blocks.
         touches.new ≤ touches.old + length blocks) }
+    ensures touched { touches.old ≤ touches.new }
     ensures reads { OnlyReads S.X.block32 IsBadShard (fault_in result) (S.seen store.old) (S.seen store.new) }
 {
     match &placed.item {

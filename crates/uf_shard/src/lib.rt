@@ -20,15 +20,17 @@ mod slots;
 mod spot;
 mod twins;
 mod walking;
+mod weighing;
 
 pub use building::build;
 pub use fault::DirFault;
-pub use listing::{entries, weight_over};
+pub use listing::entries;
 pub use lookup::find;
 pub use nodes::tsize_over_slots;
 pub use putting::put;
 pub use removed::Removed;
 pub use removing::remove;
+pub use weighing::weight_over;
 
 #[cfg(test)]
 mod build_tests;

@@ -161,17 +161,18 @@ static LISTED: [Row; 7] = [
     (&NINE, 1, false, Ask::List(Listing::Bad(7))),
 ];
 
-// That the names in front of a lost shard weigh too much is said without it.
-static WEIGHED: [Row; 9] = [
+// A lost shard counts as the two lightest names, and where these and the others weigh too much it is said without it.
+static WEIGHED: [Row; 10] = [
     (&THREE, 0, false, Ask::Weigh(0, Some(true))),
     (&THREE, 0, false, Ask::Weigh(110, Some(true))),
     (&THREE, 0, false, Ask::Weigh(111, Some(false))),
     (&THREE, 0, false, Ask::Weigh(112, Some(false))),
     (&EIGHT, 0, false, Ask::Weigh(87, Some(true))),
     (&EIGHT, 0, false, Ask::Weigh(88, Some(false))),
-    (&EIGHT, 0, true, Ask::Weigh(0, None)),
-    (&REPEATED, 0, true, Ask::Weigh(36, Some(true))),
-    (&REPEATED, 0, true, Ask::Weigh(37, None)),
+    (&EIGHT, 0, true, Ask::Weigh(73, Some(true))),
+    (&EIGHT, 0, true, Ask::Weigh(74, None)),
+    (&REPEATED, 0, true, Ask::Weigh(147, Some(true))),
+    (&REPEATED, 0, true, Ask::Weigh(148, None)),
 ];
 
 #[test]

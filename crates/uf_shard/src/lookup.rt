@@ -42,6 +42,7 @@ pub fn find<S: Store, N: NameHash, L: Ledger>(
         (S.seen store.old) (S.seen store.new) }
     ensures told { (S.seen store.new).told ≡ (S.seen store.old).told }
     ensures touches { touches.new ≤ touches.old + 8 }
+    ensures touched { touches.old < touches.new }
 {
     find_from::<S, N, L>(alloc, store, 7, root, name, touches)
 }
@@ -64,6 +65,7 @@ fn find_from<S: Store, N: NameHash, L: Ledger>(
     ensures reads { OnlyReads S.X.block32 (IsBadOnWay N.name64 (N.name64 name.now)) (fault_in result)
         (S.seen store.old) (S.seen store.new) }
     ensures touches { touches.new ≤ touches.old + left + 1 }
+    ensures touched { touches.old < touches.new }
 {
     let spot = look::<S, N, L>(alloc, store, 7 - left, root, name, touches)?;
     match spot {

@@ -29,6 +29,7 @@ pub fn save_node<S: Store, L: Ledger>(
     ensures fault { IfErr result IsSaving }
     ensures saves { OnlySaves S.X.block32 NoneIsBad (fault_in result) (S.seen store.old) (S.seen store.new) }
     ensures touches { touches.new ≤ touches.old + 1 }
+    ensures touched { touches.old ≤ touches.new }
 {
     let block = shard_node(alloc, items)?;
     let bytes = block.as_slice();

@@ -66,6 +66,7 @@ pub fn put<S: Store, N: NameHash, L: Ledger>(
     ensures good { KeepsGood S.X.block32 (S.seen store.old).told (S.seen store.new).told }
     ensures saves { SavesOnly S.X.block32 (S.seen store.old).told (S.seen store.new).told }
     ensures touches { touches.new ≤ touches.old + 16 }
+    ensures touched { touches.old < touches.new }
 {
     let items = items_with::<S, N, L>(alloc, store, 7, root, name, entry, touches)?;
     let entry = save_node(alloc, store, &items, touches)?;
@@ -93,6 +94,7 @@ fn items_with<S: Store, N: NameHash, L: Ledger>(
     ensures saves { OnlySaves S.X.block32 (IsBadOnWay N.name64 (N.name64 name.now)) (dir_fault result)
         (S.seen store.old) (S.seen store.new) }
     ensures touches { touches.new ≤ touches.old + (2 * left + 1) }
+    ensures touched { touches.old < touches.new }
 {
     let items = load_shard::<S, N, L>(alloc, store, 7 - left, cid, name, touches)?;
     put_into::<S, N, L>(alloc, store, left, &items, name, entry, touches)
@@ -120,6 +122,7 @@ fn put_into<S: Store, N: NameHash, L: Ledger>(
     ensures saves { OnlySaves S.X.block32 (IsBadOnWay N.name64 (N.name64 name.now)) (dir_fault result)
         (S.seen store.old) (S.seen store.new) }
     ensures touches { touches.new ≤ touches.old + 2 * left }
+    ensures touched { touches.old ≤ touches.new }
 {
     let slot = slot_at::<N>(name, 7 - left);
     let found = item_in(items.as_slice(), slot)?;
@@ -151,6 +154,7 @@ fn item_with<S: Store, N: NameHash, L: Ledger>(
     ensures saves { OnlySaves S.X.block32 (IsBadOnWay N.name64 (N.name64 name.now)) (dir_fault result)
         (S.seen store.old) (S.seen store.new) }
     ensures touches { touches.new ≤ touches.old + 2 * left }
+    ensures touched { touches.old ≤ touches.new }
 {
     match found {
         None => leaf(name, entry),
@@ -197,6 +201,7 @@ fn item_beside<S: Store, N: NameHash, L: Ledger>(
     ensures saves { OnlySaves S.X.block32 (IsBadOnWay N.name64 (N.name64 name.now)) (dir_fault result)
         (S.seen store.old) (S.seen store.new) }
     ensures touches { touches.new ≤ touches.old + 2 * left }
+    ensures touched { touches.old ≤ touches.new }
 {
     if is_same(name, &old.0) {
         return leaf(name, entry);
@@ -267,6 +272,7 @@ fn save_below<S: Store, L: Ledger>(
     ensures valid { IfOk result IsItem }
     ensures saves { OnlySaves S.X.block32 NoneIsBad (dir_fault result) (S.seen store.old) (S.seen store.new) }
     ensures touches { touches.new ≤ touches.old + 1 }
+    ensures touched { touches.old ≤ touches.new }
 {
     let entry = save_node(alloc, store, items, touches)?;
     Ok(Item::Sub(entry))

@@ -60,6 +60,7 @@ pub fn remove<S: Store, N: NameHash, L: Ledger>(
     ensures good { KeepsGood S.X.block32 (S.seen store.old).told (S.seen store.new).told }
     ensures saves { SavesOnly S.X.block32 (S.seen store.old).told (S.seen store.new).told }
     ensures touches { touches.new ≤ touches.old + 16 }
+    ensures touched { touches.old < touches.new }
 {
     let left = items_without::<S, N, L>(alloc, store, 7, root, name, touches)?;
     match left {
@@ -82,6 +83,7 @@ fn left_of<S: Store, L: Ledger>(
     ensures fault { IfErr result IsSaving }
     ensures saves { OnlySaves S.X.block32 NoneIsBad (fault_in result) (S.seen store.old) (S.seen store.new) }
     ensures touches { touches.new ≤ touches.old + 1 }
+    ensures touched { touches.old ≤ touches.new }
 {
     if items.len() == 0 {
         return Ok(Removed::Empty);
@@ -110,6 +112,7 @@ fn items_without<S: Store, N: NameHash, L: Ledger>(
     ensures saves { OnlySaves S.X.block32 (IsBadOnWay N.name64 (N.name64 name.now)) (fault_in result)
         (S.seen store.old) (S.seen store.new) }
     ensures touches { touches.new ≤ touches.old + (2 * left + 1) }
+    ensures touched { touches.old < touches.new }
 {
     let items = load_shard::<S, N, L>(alloc, store, 7 - left, cid, name, touches)?;
     take_from::<S, N, L>(alloc, store, left, &items, name, touches)
@@ -136,6 +139,7 @@ fn take_from<S: Store, N: NameHash, L: Ledger>(
     ensures saves { OnlySaves S.X.block32 (IsBadOnWay N.name64 (N.name64 name.now)) (fault_in result)
         (S.seen store.old) (S.seen store.new) }
     ensures touches { touches.new ≤ touches.old + 2 * left }
+    ensures touched { touches.old ≤ touches.new }
 {
     let slot = slot_at::<N>(name, 7 - left);
     let found = item_in(items.as_slice(), slot)?;
@@ -171,6 +175,7 @@ fn item_without<S: Store, N: NameHash, L: Ledger>(
     ensures saves { OnlySaves S.X.block32 (IsBadOnWay N.name64 (N.name64 name.now)) (fault_in result)
         (S.seen store.old) (S.seen store.new) }
     ensures touches { touches.new ≤ touches.old + 2 * left }
+    ensures touched { touches.old ≤ touches.new }
 {
     match found {
         None => Ok(Rest::Same),
@@ -212,6 +217,7 @@ fn rest_of<S: Store, L: Ledger>(
     ensures valid { IfOk result IsValidRest }
     ensures saves { OnlySaves S.X.block32 NoneIsBad (fault_in result) (S.seen store.old) (S.seen store.new) }
     ensures touches { touches.new ≤ touches.old + 1 }
+    ensures touched { touches.old ≤ touches.new }
 {
     let rest = without_shard(items.as_slice())?;
     match rest {

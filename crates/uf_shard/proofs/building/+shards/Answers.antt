@@ -85,6 +85,7 @@ save_slots-loop-at-init g t c = record {
   held = Holds-nil (g.S.Store.seen c.args.store.now).told;
   saves = saves-none (g.S.Store.seen c.args.store.now);
   touches = omega arith;
+  touched = omega arith;
 }
 
 pub save_shard-returns-clause-saves : goal.save_shard-returns-clause-saves
@@ -120,4 +121,5 @@ save_slots-loop-at-preserved g t c =
           c.save_slot.ensures.saves.good c.loop-at.invariant.held c.in_ok-save_slot.ensures.held;
       saves = saves-saves c.loop-at.invariant.saves c.in_ok-save_slot.ensures.saves;
       touches = omega (arith, one, step, both, c.loop-at.invariant.touches, c.save_slot.ensures.touches);
+      touched = omega (arith, c.loop-at.invariant.touched, c.save_slot.ensures.touched);
     }

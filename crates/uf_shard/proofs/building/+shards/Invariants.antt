@@ -21,4 +21,5 @@ invariant-save_slots-loop-at g l = record {
   held : Holds (g.S.Store.seen l.store).told (flat_tabulate l.at 0 (blocks_at g.S.X.BlockHash.block32 g.N.NameHash.name64 l.left l.slots));
   saves : OnlySaves g.S.X.BlockHash.block32 NoneIsBad None (g.S.Store.seen l.initial.store) (g.S.Store.seen l.store);
   touches : l.touches ≤ l.initial.touches + length (flat_tabulate l.at 0 (blocks_at g.S.X.BlockHash.block32 g.N.NameHash.name64 l.left l.slots));
+  touched : l.initial.touches ≤ l.touches;
 }

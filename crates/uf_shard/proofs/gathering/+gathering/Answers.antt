@@ -1,4 +1,4 @@
-use Rattle.std.proofs.Common.{◌∙◌}
+use Rattle.std.proofs.Common.{arith, ◌∙◌}
 use Rattle.uf_store.proofs.Causes.{StaysCalm-trans}
 use Rattle.std.proofs.lemmas.Result.{err_from_is_err_and}
 use Rattle.uf_shard.proofs.Touches.{all-touches, last-touches, more-touches, one-touch}
@@ -24,6 +24,7 @@ pub gather_slots-loop-placed-preserved : goal.gather_slots-loop-placed-preserved
 gather_slots-loop-placed-preserved g t c = record {
   adds = adds-more _ _ c.args.left c.args.items.now c.loop-placed.placed-index c.placed-item.result _ _ _ c.loop-placed-test.true c.placed-item.is c.loop-placed.invariant.told c.loop-placed.invariant.adds c.in_ok-gather_slot.ensures.adds;
   touches = λ N over are agrees. more-touches g.S.X.BlockHash.block32 N c.args.left over c.args.items.now c.loop-placed.placed-index c.placed-item.result c.loop-placed-test.true c.placed-item.is _ _ _ _ _ c.loop-placed.invariant.told (c.in_ok-gather_slot.ensures.touches N) are agrees (c.loop-placed.invariant.touches N over are agrees);
+  touched = omega (arith, c.loop-placed.invariant.touched, c.in_ok-gather_slot.ensures.touched);
   calm = StaysCalm-trans _ _ _ c.loop-placed.invariant.calm c.in_ok-gather_slot.ensures.reads.cause;
   told = c.in_ok-gather_slot.ensures.reads.told ∙ c.loop-placed.invariant.told;
 }

@@ -23,6 +23,7 @@ invariant-gather_slots-loop-placed g l = record {
   touches : (N : List ℕ → ℕ) (over : ℕ → List Named) → AreOver g.S.X.BlockHash.block32 N l.left over l.items
       → Agrees (g.S.Store.seen l.initial.store).told (all_blocks g.S.X.BlockHash.block32 N l.left over l.items)
       → l.touches ≤ l.initial.touches + length (all_blocks g.S.X.BlockHash.block32 N l.left over (take l.placed-index l.items));
+  touched : l.initial.touches ≤ l.touches;
   calm : StaysCalm (g.S.Store.seen l.initial.store) (g.S.Store.seen l.store);
   told : (g.S.Store.seen l.store).told ≡ (g.S.Store.seen l.initial.store).told;
 }
