@@ -38,9 +38,9 @@ Is_none (Some x) = ⊥
 none_some : (d : Due) → None ≡ Some d → ⊥
 none_some d is = subst Is_none is tt
 
-first_is : (l : List Due) (d : Due) → slice_get l 0 ≡ Some d → l ≡ d ∷ drop 1 l
-first_is [] d is = absurd (none_some d is)
-first_is (x ∷ l) d is = ap (λ (y : Due). y ∷ l) (same_some x d is)
+pub first-is : (l : List Due) (d : Due) → slice_get l 0 ≡ Some d → l ≡ d ∷ drop 1 l
+first-is [] d is = absurd (none_some d is)
+first-is (x ∷ l) d is = ap (λ (y : Due). y ∷ l) (same_some x d is)
 
 pub none-first : (l : List Due) → slice_get l 0 ≡ None → l ≡ []
 none-first [] is = refl
@@ -80,7 +80,7 @@ module _ (held : Lookup) where
       third (Ok z) = ap (λ (l : List ℕ). Ok l) (append_assoc b y.0 z.0)
       third (Err e) = refl
 
-  come : (d : Due) (ds : List Due) (n : ℕ) (bytes : List ℕ) (links : List Link) (m : ℕ) → own_part held d n ≡ Ok ((bytes, links), m)
+  pub come : (d : Due) (ds : List Due) (n : ℕ) (bytes : List ℕ) (links : List Link) (m : ℕ) → own_part held d n ≡ Ok ((bytes, links), m)
       → to_come held (d ∷ ds, n) ≡ prefixed bytes (to_come held (parts_due (d.left - 1) links ++ ds, m))
   come d ds n bytes links m is =
       ap (λ (r : Visits (List ℕ)). answered (λ (x : List ℕ). x) (r >> behind (all_bytes held ds))) (bytes-step held d n ∙ ap (λ r. r >> with_below held (pred d.left)) is)
@@ -88,10 +88,13 @@ module _ (held : Lookup) where
       ∙ ap (λ (r : Visits (List ℕ)). prefixed bytes (answered (λ (x : List ℕ). x) (r >> behind (all_bytes held ds)))) (ap (λ l. joined_parts (part_bytes held l) links m) (sym (less-one d.left)) ∙ joined-bytes (d.left - 1) links m)
       ∙ ap (λ (r : Visits (List ℕ)). prefixed bytes (answered (λ (x : List ℕ). x) r)) (sym (all_bytes-append (parts_due (d.left - 1) links) ds m))
 
+  pub comes-err : (d : Due) (ds : List Due) (n : ℕ) (fault : DagFault) → own_part held d n ≡ Err fault → to_come held (d ∷ ds, n) ≡ Err fault
+  comes-err d ds n fault is = ap (λ (r : Visits (List ℕ)). answered (λ (x : List ℕ). x) (r >> behind (all_bytes held ds))) (bytes-step held d n ∙ ap (λ r. r >> with_below held (pred d.left)) is)
+
   comes_next : (old now : Rest) (d : Due) (bytes : List ℕ) (links put : List Link) (m : ℕ) → slice_get old.0 0 ≡ Some d → own_part held d old.1 ≡ Ok ((bytes, links), m) → put ≡ links → now.0 ≡ parts_due (d.left - 1) put ++ drop 1 old.0 → now.1 ≡ m
       → to_come held old ≡ prefixed bytes (to_come held now)
   comes_next old now d bytes links put m top is same due visits =
-      ap (λ (l : List Due). to_come held (l, old.1)) (first_is old.0 d top)
+      ap (λ (l : List Due). to_come held (l, old.1)) (first-is old.0 d top)
       ∙ come d (drop 1 old.0) old.1 bytes links m is
       ∙ ap (λ (ls : List Link). prefixed bytes (to_come held (parts_due (d.left - 1) ls ++ drop 1 old.0, m))) (sym same)
       ∙ ap (λ (l : List Due). prefixed bytes (to_come held (l, m))) (sym due)
@@ -104,7 +107,7 @@ module _ (held : Lookup) where
   come_fault : (old : Rest) (d : Due) (fault : DagFault) → slice_get old.0 0 ≡ Some d → IsFault (own_part held d old.1) fault → IsFault (to_come held old) fault
   come_fault old d fault top (inl own) = inl own
   come_fault old d fault top (inr is) =
-      inr (ap (λ (l : List Due). to_come held (l, old.1)) (first_is old.0 d top) ∙ ap (λ (r : Visits (List ℕ)). answered (λ (x : List ℕ). x) (r >> behind (all_bytes held (drop 1 old.0)))) (bytes-step held d old.1 ∙ ap (λ r. r >> with_below held (pred d.left)) is))
+      inr (ap (λ (l : List Due). to_come held (l, old.1)) (first-is old.0 d top) ∙ ap (λ (r : Visits (List ℕ)). answered (λ (x : List ℕ). x) (r >> behind (all_bytes held (drop 1 old.0)))) (bytes-step held d old.1 ∙ ap (λ r. r >> with_below held (pred d.left)) is))
 
   pub come-fault : (old : Rest) (d : Due) (n : ℕ) (fault : DagFault) → n ≡ old.1 → slice_get old.0 0 ≡ Some d → IsFault (own_part held d n) fault → IsFault (to_come held old) fault
   come-fault old d n fault same top fails = come_fault old d fault top (subst (λ m. IsFault (own_part held d m) fault) same fails)

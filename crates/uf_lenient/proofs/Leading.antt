@@ -11,6 +11,9 @@ use Rattle.uf_dagpb.specs.declared.node.Link.{Link}
 use Rattle.uf_store.specs.declared.store.StoreFault.TheVariants.{Missing}
 use Rattle.uf_tree.specs.Names.{names_cmp, is_name}
 use Rattle.uf_tree.specs.Tree.{Tree, Dir, File as FileTree, entries}
+use Rattle.uf_lenient.specs.declared.due.Due.{Due}
+use Rattle.uf_lenient.specs.declared.due.Visited.{Visited}
+use Rattle.uf_lenient.specs.declared.due.Visited.TheVariants.{Whole, File as Begins, Part}
 use Rattle.uf_lenient.specs.declared.fault.DagFault.{DagFault}
 use Rattle.uf_lenient.specs.declared.fault.DagFault.TheVariants.{BadName, DuplicateName, Store}
 use Rattle.uf_lenient.specs.declared.found.Found.{Found}
@@ -23,6 +26,8 @@ use Rattle.uf_lenient.specs.declared.unixfs.Unixfs.{Unixfs}
 use Rattle.uf_lenient.specs.declared.unixfs.Unixfs.TheVariants.{File, Directory, Shard, OtherShard, Other}
 use Rattle.uf_lenient.specs.Leading.{AgreeAmong, links_to_read}
 use Rattle.uf_lenient.specs.Reading.{◌>>◌, Visits, Ways, answered, behind_slot, completed, denotes, file_of, file_under, gathered, gathers, joined_parts, leads, meet, meet_all, meet_name, member_trees, part_bytes, resolve_from, shallow_of, shape_of, shard_ways, slot_ways, step_of, sub_ways, tree_within, unvisited, visit_of, way_at, way_in_shape}
+use Rattle.uf_lenient.specs.Pending.{all_bytes, due_bytes}
+use Rattle.uf_lenient.specs.Steps.{Rest, to_come}
 use Rattle.uf_lenient.specs.Unixfs.{as_file, as_part, as_shard, unixfs_of}
 
 -- this holds of the value, unless there is a fault
@@ -151,6 +156,23 @@ module _ (left right : Lookup) (cids : List Cid) (agree : AgreeAmong left right 
       behind NodeHere Bytes (visit_of left d c n) (visit_of right d c n) (λ u m. unvisited m (as_file c u) >> λ own k. joined_parts (part_bytes left (pred d)) own.1 k >> λ more j. Ok (own.0 ++ more, j))
       (λ u m. unvisited m (as_file c u) >> λ own k. joined_parts (part_bytes right (pred d)) own.1 k >> λ more j. Ok (own.0 ++ more, j)) (visited d c n here)
       (λ u m h. own_and_parts (part_bytes left (pred d)) (part_bytes right (pred d)) (part_alike (pred d)) (as_file c u) m (file_here c u h))
+
+  abbrev DuesHere : List Due → Type 0
+  DuesHere ds = AllByRecursion (λ (d : Due). Contains cids d.cid) ds
+
+  due_alike : (v : Visited) (d : ℕ) (c : Cid) (n : ℕ) → Here c → Alike Bytes (due_bytes left (record { cid = c; left = d; visited = v }) n) (due_bytes right (record { cid = c; left = d; visited = v }) n)
+  due_alike Whole d c n here = file_alike d c n here
+  due_alike Begins d c n here = file_alike d c n here
+  due_alike Part d c n here = part_alike d c n here
+
+  dues_alike : (ds : List Due) (n : ℕ) → DuesHere ds → Alike Bytes (all_bytes left ds n) (all_bytes right ds n)
+  dues_alike [] n h = (refl, tt)
+  dues_alike (d ∷ ds) n h =
+      behind Bytes Bytes (due_bytes left d n) (due_bytes right d n) (λ bytes m. all_bytes left ds m >> λ more k. Ok (bytes ++ more, k)) (λ bytes m. all_bytes right ds m >> λ more k. Ok (bytes ++ more, k)) (due_alike d.visited d.left d.cid n h.0)
+      (λ bytes m any. behind Bytes Bytes (all_bytes left ds m) (all_bytes right ds m) (λ more k. Ok (bytes ++ more, k)) (λ more k. Ok (bytes ++ more, k)) (dues_alike ds m h.1) (λ more k any. (refl, tt)))
+
+  pub rest-alike : (rest : Rest) → DuesHere rest.0 → to_come left rest ≡ to_come right rest
+  rest-alike rest h = ap (answered (λ bytes. bytes)) (dues_alike rest.0 rest.1 h).0
 
   -- ---- directories
 

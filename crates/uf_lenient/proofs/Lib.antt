@@ -12,5 +12,7 @@ pub mod FilesAgain
 pub mod ShardsAgain
 pub mod TreesAgain
 pub mod Greater
+pub mod Good
 pub mod Leading
+pub mod Visited
 pub mod Reached

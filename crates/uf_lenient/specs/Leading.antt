@@ -21,7 +21,8 @@ links_to_read Other = []
 -- two maps hold the same under these CIDs, and each link of a block that is held there leads to one of them again
 pub record AgreeAmong (left right : Lookup) (cids : List Cid) : Type 0 where
   pub same : (c : Cid) → Contains cids c → left c ≡ right c
-  pub closed : (c : Cid) (block : List ℕ) (u : Unixfs) → Contains cids c → left c ≡ Some block → unixfs_of c block ≡ Ok u → AllByRecursion (λ (l : Link). Contains cids l.cid) (links_to_read u)
+  pub closed : (c : Cid) (block : List ℕ) (u : Unixfs) → Contains cids c → left c ≡ Some block
+      → unixfs_of c block ≡ Ok u → AllByRecursion (λ (l : Link). Contains cids l.cid) (links_to_read u)
 
 -- a reading follows the links of this block
 abbrev pub IsFollowed : Unixfs → Type 0

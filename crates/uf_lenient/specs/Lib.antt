@@ -7,4 +7,5 @@ pub mod Rows
 pub mod Steps
 pub mod Streams
 pub mod Unixfs
+pub mod Visited
 pub mod Within

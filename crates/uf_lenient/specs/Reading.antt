@@ -1,5 +1,6 @@
--- What the blocks below a CID denote, whoever wrote them (UnixFS v1, "Data Format", "File", "Directory", "HAMTDirectory"): a
--- tree, or the first fault. A visit of a block has a depth that is left, and all visits together have a number.
+-- What the blocks below a CID denote, whoever wrote them (UnixFS v1, "Data Format", "File", "Directory",
+-- "HAMTDirectory"): a tree, or the first fault. A visit of a block has a depth that is left, and all visits together
+-- have a number.
 use Rattle.std.specs.Prelude.{ℕ, zero, suc, pred, ◌+◌, List, [], ◌∷◌, ◌++◌, map, Bool, ◌&&◌, ◌||◌, nat_le, is_some, if◌then◌else◌}
 use Rattle.std.specs.declared.option.Option.{Option}
 use Rattle.std.specs.declared.option.Option.TheVariants.{None, Some}
@@ -61,11 +62,13 @@ behind_slot (a ∷ b ∷ rest) = if is_digit a && is_digit b then Some rest else
 
 -- a way more under a good name, from a block that links it: the name wasn't met in this directory
 abbrev pub meet_name : Cid → List ℕ → Found → Ways → Result Ways DagFault
-meet_name by name found met = if is_some (find names_cmp name met) then Err (DuplicateName by name) else Ok (put names_cmp name found met)
+meet_name by name found met =
+    if is_some (find names_cmp name met) then Err (DuplicateName by name) else Ok (put names_cmp name found met)
 
 -- the same where the name may be bad
 abbrev pub meet : Cid → ℕ → List ℕ → Cid → Ways → Result Ways DagFault
-meet by left name c met = if is_name name then meet_name by name (record { cid = c; left = left }) met else Err (BadName by)
+meet by left name c met =
+    if is_name name then meet_name by name (record { cid = c; left = left }) met else Err (BadName by)
 
 -- the ways of a directory in one block
 abbrev pub meet_all : Cid → ℕ → List Link → Ways → Result Ways DagFault
@@ -81,7 +84,8 @@ slot_ways deeper by left l met n (Some (b ∷ bs)) = unvisited n (meet by left (
 -- the ways of a shard's links in their order
 abbrev pub shard_ways : (Cid → Ways → ℕ → Visits Ways) → Cid → ℕ → List Link → Ways → ℕ → Visits Ways
 shard_ways deeper by left [] met n = Ok (met, n)
-shard_ways deeper by left (l ∷ ls) met n = slot_ways deeper by left l met n (behind_slot l.name) >> λ more m. shard_ways deeper by left ls more m
+shard_ways deeper by left (l ∷ ls) met n =
+    slot_ways deeper by left l met n (behind_slot l.name) >> λ more m. shard_ways deeper by left ls more m
 
 -- the names of ways and what they lead to
 abbrev pub leads : Ways → List (List ℕ × Cid)
@@ -95,7 +99,8 @@ joined_parts read (l ∷ ls) n = read l.cid n >> λ bytes m. joined_parts read l
 -- the trees of a directory's members in their order
 abbrev pub member_trees : (ℕ → Cid → ℕ → Visits Tree) → Ways → ℕ → Visits (List (List ℕ × Tree))
 member_trees read [] n = Ok ([], n)
-member_trees read (w ∷ ws) n = read w.1.left w.1.cid n >> λ t m. member_trees read ws m >> λ more k. Ok ((w.0, t) ∷ more, k)
+member_trees read (w ∷ ws) n =
+    read w.1.left w.1.cid n >> λ t m. member_trees read ws m >> λ more k. Ok ((w.0, t) ∷ more, k)
 
 -- what was gathered, without how much depth is left
 abbrev pub shape_of : Gathered → Shape
@@ -125,12 +130,16 @@ module _ (held : Lookup) where
   -- the bytes of a part of a file: its own, and then those of its links
   unfoldable pub part_bytes : ℕ → Cid → ℕ → Visits (List ℕ)
   part_bytes zero c n = Err (TooDeep c)
-  part_bytes (suc left) c n = visit_of (suc left) c n >> λ u m. unvisited m (as_part c u) >> λ own k. joined_parts (part_bytes left) own.1 k >> λ more j. Ok (own.0 ++ more, j)
+  part_bytes (suc left) c n =
+      visit_of (suc left) c n >> λ u m. unvisited m (as_part c u) >> λ own k.
+      joined_parts (part_bytes left) own.1 k >> λ more j. Ok (own.0 ++ more, j)
 
   -- the ways of the shard under a CID that a shard links
   unfoldable pub sub_ways : ℕ → Cid → Ways → ℕ → Visits Ways
   sub_ways zero c met n = Err (TooDeep c)
-  sub_ways (suc left) c met n = visit_of (suc left) c n >> λ u m. unvisited m (as_shard c u) >> λ links k. shard_ways (sub_ways left) c left links met k
+  sub_ways (suc left) c met n =
+      visit_of (suc left) c n >> λ u m. unvisited m (as_shard c u) >> λ links k.
+      shard_ways (sub_ways left) c left links met k
 
   -- what a file or a directory is by its first block, and by those of its sub-shards
   abbrev pub gathers : ℕ → Cid → Unixfs → ℕ → Visits Gathered
@@ -146,10 +155,12 @@ module _ (held : Lookup) where
 
   -- the tree of what was gathered, whose members `read` reads
   abbrev pub completed : (ℕ → Cid → ℕ → Visits Tree) → ℕ → Gathered → ℕ → Visits Tree
-  completed read left (IsFile bytes links) n = joined_parts (part_bytes left) links n >> λ more m. Ok (FileTree (bytes ++ more), m)
+  completed read left (IsFile bytes links) n =
+      joined_parts (part_bytes left) links n >> λ more m. Ok (FileTree (bytes ++ more), m)
   completed read left (IsFolder ways) n = member_trees read ways n >> λ es m. Ok (Dir (entries es), m)
 
-  -- the tree under a CID, with so much depth left; directories nest at most as deep as that, so `room` of as much is enough
+  -- the tree under a CID, with so much depth left; directories nest at most as deep as that, so `room` of as much is
+  -- enough
   unfoldable pub tree_within : ℕ → ℕ → Cid → ℕ → Visits Tree
   unfolding part_bytes gathered
   tree_within zero left c n = Err (TooDeep c)
@@ -161,7 +172,9 @@ module _ (held : Lookup) where
   -- the bytes of the file under a CID: its first block may be no directory
   unfoldable pub file_under : ℕ → Cid → ℕ → Visits (List ℕ)
   unfolding part_bytes
-  file_under left c n = visit_of left c n >> λ u m. unvisited m (as_file c u) >> λ own k. joined_parts (part_bytes (pred left)) own.1 k >> λ more j. Ok (own.0 ++ more, j)
+  file_under left c n =
+      visit_of left c n >> λ u m. unvisited m (as_file c u) >> λ own k.
+      joined_parts (part_bytes (pred left)) own.1 k >> λ more j. Ok (own.0 ++ more, j)
 
   module _ (limits : Limits) where
     -- the tree that a CID denotes

@@ -21,7 +21,8 @@ nth_raw n = record { codec = Raw; digest = nth_digest n }
 
 -- a link whose hash is spelled so
 abbrev pub link_spelled_as : List ℕ → List ℕ → List ℕ
-link_spelled_as hash name = 0x12 ∷ (length hash + length name + 4) ∷ 0x0a ∷ length hash ∷ hash ++ 0x12 ∷ length name ∷ name
+link_spelled_as hash name =
+    0x12 ∷ (length hash + length name + 4) ∷ 0x0a ∷ length hash ∷ hash ++ 0x12 ∷ length name ∷ name
 
 abbrev pub link_spelled : Cid × List ℕ → List ℕ
 link_spelled l = link_spelled_as (cid_bytes l.0) l.1
@@ -56,7 +57,9 @@ some_block n =
     if n == 1 then Some hi
     else if n == 2 then Some over_hi
     else if n == 3 then Some (codes "ab")
-    else if n == 4 then Some (node_spelled ((nth_raw 3, []) ∷ (nth_node 1, codes "n") ∷ (nth_raw 3, []) ∷ []) (8 ∷ 2 ∷ 0x12 ∷ 1 ∷ 0x2d ∷ 0x18 ∷ 1 ∷ []))
+    else if n == 4 then
+    Some (node_spelled ((nth_raw 3, []) ∷ (nth_node 1, codes "n") ∷ (nth_raw 3, []) ∷ []) (8 ∷ 2 ∷ 0x12
+    ∷ 1 ∷ 0x2d ∷ 0x18 ∷ 1 ∷ []))
     else if n == 5 then Some (node_spelled [] directory_content)
     else if n == 6 then Some (node_spelled [] (8 ∷ 4 ∷ []))
     else if n == 7 then Some (node_spelled [] (8 ∷ 5 ∷ []))
@@ -65,13 +68,22 @@ some_block n =
     else if n == 10 then Some (node_spelled ((nth_node 7, []) ∷ []) file_content)
     else if n == 11 then Some (node_spelled ((nth_raw 3, []) ∷ (nth_raw 99, []) ∷ (nth_node 5, []) ∷ []) file_content)
     else if n == 12 then Some (node_spelled ((nth_raw 3, codes "y") ∷ (nth_node 1, codes "x") ∷ []) directory_content)
-    else if n == 13 then Some (node_spelled ((nth_raw 99, codes "x") ∷ (nth_raw 3, codes "x") ∷ (nth_raw 3, codes "..") ∷ []) directory_content)
-    else if n == 14 then Some (node_spelled ((nth_raw 99, codes "x") ∷ (nth_raw 3, []) ∷ (nth_raw 3, codes "x") ∷ []) directory_content)
+    else if n == 13 then
+    Some (node_spelled ((nth_raw 99, codes "x") ∷ (nth_raw 3, codes "x") ∷ (nth_raw 3, codes "..")
+    ∷ []) directory_content)
+    else if n == 14 then
+    Some (node_spelled ((nth_raw 99, codes "x") ∷ (nth_raw 3, []) ∷ (nth_raw 3, codes "x") ∷ []) directory_content)
     else if n == 15 then Some (node_spelled ((nth_raw 99, codes "y") ∷ (nth_node 6, codes "x") ∷ []) directory_content)
     else if n == 16 then Some (node_spelled ((nth_raw 3, codes "FFx") ∷ (nth_node 1, codes "00y") ∷ []) shard_content)
-    else if n == 17 then Some (node_spelled ((nth_raw 3, codes "00z") ∷ (nth_node 16, codes "01") ∷ (nth_raw 3, codes "00a") ∷ []) shard_content)
-    else if n == 18 then Some (node_spelled ((nth_node 16, codes "01") ∷ (nth_node 99, codes "02") ∷ (nth_raw 3, codes "00x") ∷ []) shard_content)
-    else if n == 19 then Some (node_spelled ((nth_node 16, codes "01") ∷ (nth_raw 3, codes "00x") ∷ (nth_node 99, codes "02") ∷ []) shard_content)
+    else if n == 17 then
+    Some (node_spelled ((nth_raw 3, codes "00z") ∷ (nth_node 16, codes "01") ∷ (nth_raw 3, codes "00a")
+    ∷ []) shard_content)
+    else if n == 18 then
+    Some (node_spelled ((nth_node 16, codes "01") ∷ (nth_node 99, codes "02") ∷ (nth_raw 3, codes "00x")
+    ∷ []) shard_content)
+    else if n == 19 then
+    Some (node_spelled ((nth_node 16, codes "01") ∷ (nth_raw 3, codes "00x") ∷ (nth_node 99, codes "02")
+    ∷ []) shard_content)
     else if n == 20 then Some (node_spelled ((nth_raw 3, codes "00x") ∷ (nth_node 16, codes "01") ∷ []) shard_content)
     else if n == 21 then Some (node_spelled ((nth_raw 3, codes "0ax") ∷ []) shard_content)
     else if n == 22 then Some (node_spelled ((nth_raw 3, codes "00/") ∷ []) shard_content)
@@ -89,10 +101,14 @@ some_blocks c = under some_block c
 
 -- each directory links the next one by `d`, and the last of them links nothing; or each links the next one twice
 abbrev pub directory_chain : ℕ → Lookup
-directory_chain last c = under (λ n. Some (if n == last then node_spelled [] directory_content else node_spelled ((nth_node (n + 1), codes "d") ∷ []) directory_content)) c
+directory_chain last c =
+    under (λ n. Some (if n == last then node_spelled [] directory_content
+    else node_spelled ((nth_node (n + 1), codes "d") ∷ []) directory_content)) c
 
 abbrev pub doubled_chain : ℕ → Lookup
-doubled_chain last c = under (λ n. Some (if n == last then node_spelled [] directory_content else node_spelled ((nth_node (n + 1), codes "a") ∷ (nth_node (n + 1), codes "b") ∷ []) directory_content)) c
+doubled_chain last c =
+    under (λ n. Some (if n == last then node_spelled [] directory_content
+    else node_spelled ((nth_node (n + 1), codes "a") ∷ (nth_node (n + 1), codes "b") ∷ []) directory_content)) c
 
 abbrev pub usual_limits : Limits
 usual_limits = record { depth = 256; visits = 1048576 }

@@ -35,9 +35,11 @@ IsInOrder FileShape = ⊤
 IsInOrder (FolderShape ways) = IsTrue (is_sorted names_cmp ways)
 
 -- the entries of a shard from a place on were added, up to the end or to a link to a shard
-abbrev pub AddsEntries : Frame → Ways → Ways → (Cid → Ways → ℕ → Visits Ways) → ℕ → Result (Option (ℕ × Cid)) DagFault → Type 0
+abbrev pub AddsEntries : Frame → Ways → Ways → (Cid → Ways → ℕ → Visits Ways) → ℕ
+    → Result (Option (ℕ × Cid)) DagFault → Type 0
 AddsEntries f met more deeper n (Ok None) = shard_ways deeper f.by f.left (drop f.at f.links) met n ≡ Ok (more, n)
-AddsEntries f met more deeper n (Ok (Some next)) = shard_ways deeper f.by f.left (drop f.at f.links) met n ≡ (deeper next.1 more n >> λ all m. shard_ways deeper f.by f.left (drop next.0 f.links) all m)
+AddsEntries f met more deeper n (Ok (Some next)) = shard_ways deeper f.by f.left (drop f.at f.links) met n
+    ≡ (deeper next.1 more n >> λ all m. shard_ways deeper f.by f.left (drop next.0 f.links) all m)
 AddsEntries f met more deeper n (Err fault) = IsFault (shard_ways deeper f.by f.left (drop f.at f.links) met n) fault
 
 -- a step: what is to be read is the same before and after it, or it has a fault

@@ -1,9 +1,13 @@
 // What holds of readings.
-ghost use Rattle.std.specs.Prelude.{◌≡◌, ◌<◌, ◌^◌, ℕ, Contains, List, [], IsTrue, None, Ok, length, map};
+ghost use Rattle.std.specs.Prelude.{◌≡◌, ◌<◌, ◌^◌, ◌↔◌, ℕ, Contains, List, [], IsTrue, None, Ok, Some, length, map};
 ghost use Rattle.std.specs.List.{AllByRecursion};
+ghost use Rattle.std.specs.declared.option.Option.{Option};
+ghost use Rattle.std.specs.declared.result.Result.{Result};
 ghost use Rattle.uf_cid.specs.Blocks.{Holds, Lookup as Held};
 ghost use Rattle.uf_cid.specs.declared.cid.Cid.{Cid};
 ghost use Rattle.uf_cid.specs.declared.cid.Codec.TheVariants.{DagPb};
+ghost use Rattle.uf_store.specs.Contents.{Contents, held_at};
+ghost use Rattle.uf_store.specs.Keeping.{KeepsGood};
 ghost use Rattle.uf_tree.specs.declared.nodes.FileNode.{FileNode};
 ghost use Rattle.uf_tree.specs.declared.profile.Profile.{Profile};
 ghost use Rattle.uf_tree.specs.Nodes.{InSlot, Named, dir_block, file_block, link_of, shard_block, slot_link};
@@ -11,13 +15,17 @@ ghost use Rattle.uf_tree.specs.Profiles.{is_profile};
 ghost use Rattle.uf_tree.specs.Tree.{Tree, is_tree};
 ghost use Rattle.uf_tree.specs.TreePlan.{blocks, entry, refusal};
 ghost use Rattle.uf_tree.specs.Validity.{IsFileNode, IsHash, IsNamed, IsShard};
+ghost use Rattle.uf_lenient.specs.declared.due.Due.{Due};
+ghost use Rattle.uf_lenient.specs.declared.fault.DagFault.{DagFault};
 ghost use Rattle.uf_lenient.specs.declared.shapes.Limits.{Limits};
 ghost use Rattle.uf_lenient.specs.declared.unixfs.Unixfs.TheVariants.{Directory, File, Shard};
 ghost use Rattle.uf_lenient.specs.Leading.{AgreeAmong, LeadsInto, block_cids};
 ghost use Rattle.uf_lenient.specs.Reading.{denotes, file_of, resolve_from, shallow_of};
-ghost use Rattle.uf_lenient.specs.Steps.{Rest, to_come};
+ghost use Rattle.uf_lenient.specs.Steps.{IsNextPiece, Rest, to_come};
+ghost use Rattle.uf_lenient.specs.Streams.{IsFileFront};
 ghost use Rattle.uf_lenient.specs.Unixfs.{unixfs_of};
-ghost use Rattle.uf_lenient.specs.Within.{AnswersSame, GivesWithinLimits, HoldsAllOf};
+ghost use Rattle.uf_lenient.specs.Visited.{AgreeUnder, EndsPieces, GaveOfFile, file_visits, pieces_of};
+ghost use Rattle.uf_lenient.specs.Within.{AnswersSame, GivesWithinLimits, HoldsAllOf, HoldsGoodOf, good_blocks};
 
 /// The canonical blocks of files, directories and shards are what they were written as: a file's node has no bytes of
 /// its own.
@@ -39,8 +47,8 @@ pub fn a_plan_denotes_its_tree()
         → GivesWithinLimits t (denotes held limits (entry X N p t).cid) }
 {}
 
-/// What is read of a map of blocks, value or fault, is read of each map that holds all of them and more, but that a block
-/// that was missing may be there.
+/// What is read of a map of blocks, value or fault, is read of each map that holds all of them and more, but that a
+/// block that was missing may be there.
 pub fn a_reading_stays_in_a_greater_map()
     ensures tree { (held more : Held) (limits : Limits) (c : Cid) → HoldsAllOf held more
         → AnswersSame more (denotes held limits c) (denotes more limits c) }
@@ -55,8 +63,40 @@ pub fn a_reading_stays_in_a_greater_map()
         → AnswersSame more (resolve_from held limits place names c) (resolve_from more limits place names c) }
 {}
 
+/// What is read of the good blocks of a map, each of which has its CID's digest, is read of those of each map that
+/// holds all of them, but that a good block that was missing may be there. Calls that save keep such blocks.
+pub fn a_reading_of_good_blocks_stays()
+    ensures saves { (X : List ℕ → List ℕ) (before now : Contents) → KeepsGood X (Some before) (Some now)
+        → HoldsGoodOf X (held_at before) (held_at now) }
+    ensures good { (X : List ℕ → List ℕ) (held : Held) (c : Cid) (block : List ℕ)
+        → (good_blocks X held c ≡ Some block ↔ ((held c ≡ Some block) × (X block ≡ c.digest))) }
+    ensures tree { (X : List ℕ → List ℕ) (held more : Held) (limits : Limits) (c : Cid) → HoldsGoodOf X held more
+        → AnswersSame (good_blocks X more) (denotes (good_blocks X held) limits c)
+        (denotes (good_blocks X more) limits c) }
+    ensures file { (X : List ℕ → List ℕ) (held more : Held) (limits : Limits) (c : Cid) → HoldsGoodOf X held more
+        → AnswersSame (good_blocks X more) (file_of (good_blocks X held) limits c)
+        (file_of (good_blocks X more) limits c) }
+{}
+
+/// Calls of `Pieces::next` give one file, where each of their stores holds the same under each CID that the reading of
+/// the file visits: their pieces are its front, and the next such call ends it or says its fault. Where the file has
+/// bytes, a store that holds all that the first one held is such a store.
+pub fn pieces_are_of_one_file()
+    ensures front { (held : Held) (limits : Limits) (c : Cid) (calls : List (Held × List ℕ)) (now : Rest)
+        → GaveOfFile held limits c calls now → IsFileFront (pieces_of calls) (file_of held limits c) }
+    ensures next { (held more : Held) (limits : Limits) (c : Cid) (calls : List (Held × List ℕ)) (now after : Rest)
+        (answer : Result (Option (List ℕ)) DagFault) → GaveOfFile held limits c calls now
+        → AgreeUnder held more (file_visits held limits c) → IsNextPiece more now after answer
+        → EndsPieces (file_of held limits c) (pieces_of calls) answer }
+    ensures file { (held more : Held) (limits : Limits) (c : Cid) → AgreeUnder held more (file_visits held limits c)
+        → file_of more limits c ≡ file_of held limits c }
+    ensures greater { (held more : Held) (limits : Limits) (c : Cid) (bytes : List ℕ) → file_of held limits c ≡ Ok bytes
+        → HoldsAllOf held more → AgreeUnder held more (file_visits held limits c) }
+{}
+
 /// What is read below a CID depends on nothing but the blocks to which links lead from it: where two maps hold the same
-/// under a list of CIDs that no link leaves, each reading that begins in the list answers the same of both, value or fault.
+/// under a list of CIDs that no link leaves, each reading that begins in the list answers the same of both, value or
+/// fault.
 pub fn a_reading_follows_links_alone()
     ensures tree { (left right : Held) (cids : List Cid) (limits : Limits) (c : Cid) → AgreeAmong left right cids
         → Contains cids c → denotes left limits c ≡ denotes right limits c }
@@ -64,13 +104,15 @@ pub fn a_reading_follows_links_alone()
         → Contains cids c → shallow_of left limits c ≡ shallow_of right limits c }
     ensures file { (left right : Held) (cids : List Cid) (limits : Limits) (c : Cid) → AgreeAmong left right cids
         → Contains cids c → file_of left limits c ≡ file_of right limits c }
+    ensures rest { (left right : Held) (cids : List Cid) (rest : Rest) → AgreeAmong left right cids
+        → AllByRecursion (λ (d : Due). Contains cids d.cid) rest.0 → to_come left rest ≡ to_come right rest }
     ensures path { (left right : Held) (cids : List Cid) (limits : Limits) (place : ℕ) (names : List (List ℕ)) (c : Cid)
         → AgreeAmong left right cids → Contains cids c
         → resolve_from left limits place names c ≡ resolve_from right limits place names c }
 {}
 
-/// A plan's blocks are just those to which links lead from its root: its root is one of them, each link of each leads to
-/// one of them again, and all of them are held wherever the same is held under all to which links lead.
+/// A plan's blocks are just those to which links lead from its root: its root is one of them, each link of each leads
+/// to one of them again, and all of them are held wherever the same is held under all to which links lead.
 pub fn a_plan_is_where_links_lead()
     ensures rooted { (X : List ℕ → List ℕ) (N : List ℕ → ℕ) (p : Profile) (t : Tree) (held : Held)
         → IsHash X → ((name : List ℕ) → N name < 2 ^ 64) → IsTrue (is_profile p) → IsTrue (is_tree t)

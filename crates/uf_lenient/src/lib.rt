@@ -25,7 +25,8 @@ mod visiting;
 pub use fault::{DagFault, StreamFault};
 pub use laws::{
     a_plan_denotes_its_tree, a_plan_is_where_links_lead, a_reading_follows_links_alone,
-    a_reading_stays_in_a_greater_map, canonical_nodes_are_read,
+    a_reading_of_good_blocks_stays, a_reading_stays_in_a_greater_map, canonical_nodes_are_read,
+    pieces_are_of_one_file,
 };
 pub use looking::shallow;
 pub use pieces::Pieces;

@@ -9,6 +9,7 @@ ghost use Rattle.uf_lenient.specs.Answers.{dag_fault};
 ghost use Rattle.uf_lenient.specs.Pending.{parts_due};
 ghost use Rattle.uf_lenient.specs.Reading.{file_of};
 ghost use Rattle.uf_lenient.specs.Steps.{IsNextPiece, IsPiece, start_of, to_come};
+ghost use Rattle.uf_lenient.specs.Visited.{VisitsNext};
 
 use crate::due::{Due, Visited};
 use crate::parts::{put_parts, read_node};
@@ -66,6 +67,8 @@ impl Pieces {
         touches: &mut Steps<L>,
     ) -> Result<Option<Block>, DagFault>
         ensures says { IfSome (S.seen store.old).told (λ t. IsNextPiece (held_at t) self.old self.new result) }
+        ensures visits { IfSome (S.seen store.old).told (λ t. IfOk result (λ piece. IfSome piece
+            (λ _. VisitsNext (held_at t) self.old self.new))) }
         ensures none { (result ≡ Ok None) ↔ (self.old.0 ≡ []) }
         ensures unvisited { (result ≡ Ok None) → self.new ≡ self.old }
         ensures same { OnErr result (self.new ≡ self.old) }
@@ -93,6 +96,7 @@ impl Pieces {
     ) -> Result<Block, DagFault>
         requires top { slice_get self.old.0 0 ≡ Some next.now }
         ensures says { IfSome (S.seen store.old).told (λ t. IsPiece (held_at t) self.old self.new result) }
+        ensures visits { IfSome (S.seen store.old).told (λ t. OnOk result (VisitsNext (held_at t) self.old self.new)) }
         ensures same { OnErr result (self.new ≡ self.old) }
         ensures fewer { OnOk result (self.new.1 + 1 ≡ self.old.1) }
         ensures reads { OnlyReads S.X.block32 NoneIsBad (dag_fault result) (S.seen store.old) (S.seen store.new) }

@@ -484,7 +484,7 @@ fn wrong_shard<L: Ledger>(
 }
 
 // Limits that are met, and by one not: a shard over a shard, 300 directories, one in the other, of which the 258th is
-// too deep, and 40 that link the next one twice.
+// too deep, and 40 that link the next one twice, which are more visits than the most that are usual.
 fn wrong_limit<L: Ledger>(
     alloc: Global,
     s: &mut Kept,
@@ -512,7 +512,7 @@ fn wrong_limit<L: Ledger>(
         within(Asked::Survey, root, 1, 6, 103, a),
         about(top, 103, deep),
         within(Asked::Survey, top, 299, 300, 2001, top),
-        within(Asked::Survey, twice, 256, 5000, 104, twice),
+        within(Asked::Survey, twice, 256, 1048576, 104, twice),
     ];
     first_wrong(alloc, s, &rows, t)
 }

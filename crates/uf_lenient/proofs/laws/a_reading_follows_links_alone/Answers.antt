@@ -1,4 +1,4 @@
-use Rattle.uf_lenient.proofs.Leading.{bytes-alike, path-alike, shape-alike, tree-alike}
+use Rattle.uf_lenient.proofs.Leading.{bytes-alike, path-alike, rest-alike, shape-alike, tree-alike}
 use Rattle.uf_lenient.proofs.laws.a_reading_follows_links_alone.Goals as goal
 
 pub returns-clause-tree : goal.returns-clause-tree
@@ -12,3 +12,6 @@ returns-clause-file c = λ left right cids limits start agree here. bytes-alike 
 
 pub returns-clause-path : goal.returns-clause-path
 returns-clause-path c = λ left right cids limits place names start agree here. path-alike left right cids agree limits place names start here
+
+pub returns-clause-rest : goal.returns-clause-rest
+returns-clause-rest c = λ left right cids rest agree here. rest-alike left right cids agree rest here
