@@ -94,20 +94,23 @@ WritesCar text (Err fault.TooMany) out out_now = ⊥
 WritesCar text (Err (fault.Store f)) out out_now = IsOtherFault f × AppendsPrefix text out out_now
 
 -- the answer of `export` over what is held: the text of the order, or its first fault and nothing written
-pub record WritesNothing (said : Result (List Cid) OrderFault) (answer : Result ℕ ExportFault) (out out_now : Told) : Type 0 where
+pub record WritesNothing (said : Result (List Cid) OrderFault) (answer : Result ℕ ExportFault) (out out_now : Told)
+    : Type 0 where
   pub f : ExportFault
   pub refused : answer ≡ Err f
   pub stops : StopsOrder said f
   pub unwritten : out_now ≡ out
 
-pub record WritesText (held : Lookup) (root : Cid) (said : Result (List Cid) OrderFault) (answer : Result ℕ ExportFault) (out out_now : Told) : Type 0 where
+pub record WritesText (held : Lookup) (root : Cid) (said : Result (List Cid) OrderFault)
+    (answer : Result ℕ ExportFault) (out out_now : Told) : Type 0 where
   pub list : List Cid
   pub in_order : said ≡ Ok list
   pub writes : WritesCar (car_text held root list) answer out out_now
 
 abbrev pub Exports : Lookup → ℕ → Cid → Result ℕ ExportFault → Told → Told → Type 0
 Exports held most root answer out out_now =
-    WritesText held root (order held most root) answer out out_now ⊎ WritesNothing (order held most root) answer out out_now
+    WritesText held root (order held most root) answer out out_now
+    ⊎ WritesNothing (order held most root) answer out out_now
 
 -- these CIDs are the whole order
 abbrev pub IsAfterWalk : Lookup → ℕ → Cid → List Cid → Type 0

@@ -89,7 +89,9 @@ roots_counted bytes = count_of bytes >>= λ c. few_roots c
 
 -- a header that isn't marked
 abbrev pub first_version : List ℕ → Result (List Cid) CarFault
-first_version bytes = wanted (past_front roots_key bytes) >>= λ a. roots_counted a >>= λ c. roots_from [] c.0 c.1 >>= λ r. versioned r.0 r.1
+first_version bytes =
+    wanted (past_front roots_key bytes) >>= λ a. roots_counted a >>= λ c. roots_from [] c.0 c.1 >>= λ r.
+    versioned r.0 r.1
 
 abbrev pub by_mark : List ℕ → Option ℕ → Result (List Cid) CarFault
 by_mark bytes (Some v) = Err (fault.Version v)

@@ -56,7 +56,8 @@ abbrev pub car_fault : {A : Type 0} → Result A CarFault → Option StoreFault
 car_fault (Ok a) = None
 car_fault (Err f) = store_fault f
 
--- a call that keeps blocks: its fault is one of saving and has its cause, good blocks are kept, and nothing but blocks is written
+-- a call that keeps blocks: its fault is one of saving and has its cause, good blocks are kept, and nothing but blocks
+-- is written
 pub record OnlyImports (hash : List ℕ → List ℕ) (fault : Option StoreFault) (before now : Seen) : Type 0 where
   pub cause : Shown hash NoneIsBad fault before now
   pub saving : IfSome fault IsSaving
@@ -93,7 +94,8 @@ section_said over place (Has b used) = Ok (Some (b, used))
 
 -- a block that is that of its CID
 abbrev pub checked_block : (List ℕ → List ℕ) → ℕ → Cid → List ℕ → Result Unit CarFault
-checked_block hash place c block = if pointwise nat_eq (hash block) c.digest then Ok tt else Err (fault.WrongDigest place c)
+checked_block hash place c block =
+    if pointwise nat_eq (hash block) c.digest then Ok tt else Err (fault.WrongDigest place c)
 
 -- nothing is left of a source where a call says so
 abbrev pub EndsAt : {A : Type 0} → Result (Option A) CarFault → streams.Told → Type 0
@@ -121,25 +123,29 @@ UsesUp (Ok (Some used)) before now = Uses used before now
 UsesUp (Err f) before now = Unit {0}
 
 -- the block of a section was kept, and the bytes behind it are ahead
-pub record KeepsSection (hash : List ℕ → List ℕ) (place used : ℕ) (a : Ahead) (now : Option Ahead) (told told_now : Told) : Type 0 where
+pub record KeepsSection (hash : List ℕ → List ℕ) (place used : ℕ) (a : Ahead) (now : Option Ahead)
+    (told told_now : Told) : Type 0 where
   pub block : Held
   pub has : section_of hash place a.0 ≡ Has block used
   pub rest : now ≡ Some (drop used a.0, a.1)
   pub kept : told_now ≡ changed (with_save block.0 block.1) told
 
 -- nothing was left
-pub record IsAtLast (hash : List ℕ → List ℕ) (place : ℕ) (a : Ahead) (now : Option Ahead) (told told_now : Told) : Type 0 where
+pub record IsAtLast (hash : List ℕ → List ℕ) (place : ℕ) (a : Ahead) (now : Option Ahead)
+    (told told_now : Told) : Type 0 where
   pub none : a ≡ ([], false)
   pub same : now ≡ Some a
   pub same_told : told_now ≡ told
 
 -- a section was refused, or the call was stopped
-pub record RefusesSection (hash : List ℕ → List ℕ) (place : ℕ) (a : Ahead) (f : CarFault) (told told_now : Told) : Type 0 where
+pub record RefusesSection (hash : List ℕ → List ℕ) (place : ℕ) (a : Ahead) (f : CarFault)
+    (told told_now : Told) : Type 0 where
   pub said : stops f ≡ false → section_said a.1 place (section_of hash place a.0) ≡ Err f
   pub same_told : told_now ≡ told
 
 -- the answer for one section, where the source tells
-abbrev pub ImportsSection : (List ℕ → List ℕ) → ℕ → Ahead → Option Ahead → Result (Option ℕ) CarFault → Told → Told → Type 0
+abbrev pub ImportsSection : (List ℕ → List ℕ) → ℕ → Ahead → Option Ahead → Result (Option ℕ) CarFault → Told
+    → Told → Type 0
 ImportsSection hash place a now (Ok None) told told_now = IsAtLast hash place a now told told_now
 ImportsSection hash place a now (Ok (Some used)) told told_now = KeepsSection hash place used a now told told_now
 ImportsSection hash place a now (Err f) told told_now = RefusesSection hash place a f told told_now
@@ -185,7 +191,8 @@ abbrev pub behind_done : {A : Type 0} → List Held → Read A → Read A
 behind_done done r = record { sections = done ++ r.sections; answer = r.answer }
 
 -- how far sections were read: those so far were kept, and what is ahead is read on
-pub record GoesOn (hash : List ℕ → List ℕ) (start : ℕ) (first : Ahead) (place : ℕ) (now : Option Ahead) (told told_now : Told) (blocks : ℕ) : Type 0 where
+pub record GoesOn (hash : List ℕ → List ℕ) (start : ℕ) (first : Ahead) (place : ℕ) (now : Option Ahead)
+    (told told_now : Told) (blocks : ℕ) : Type 0 where
   pub done : List Held
   pub rest : List ℕ
   pub is_ahead : now ≡ Some (rest, first.1)

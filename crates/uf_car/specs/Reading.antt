@@ -1,5 +1,5 @@
--- What the bytes of a CAR say (CARv1): its sections up to the first fault, and its roots or that fault. A place is the number
--- of the byte with which the header or a section begins.
+-- What the bytes of a CAR say (CARv1): its sections up to the first fault, and its roots or that fault. A place is the
+-- number of the byte with which the header or a section begins.
 use Rattle.std.specs.Prelude.{ℕ, zero, suc, ◌+◌, ◌-◌, ◌≤◌, ◌<◌, ◌==◌, ◌||◌, min, nat_eq, nat_lt, Bool, true, false, List, [], ◌∷◌, length, take, drop, if◌then◌else◌}
 use Rattle.std.specs.Cmp.Lexicographic.{pointwise}
 use Rattle.std.specs.declared.result.Result.{Result}
@@ -56,14 +56,18 @@ pub data Section : Type 0 where
 
 -- a block is that of its CID
 abbrev pub checked : (List ℕ → List ℕ) → ℕ → Cid → List ℕ → ℕ → Section
-checked hash place c block used = if pointwise nat_eq (hash block) c.digest then Has (c, block) used else IsWrong (fault.WrongDigest place c)
+checked hash place c block used =
+    if pointwise nat_eq (hash block) c.digest then Has (c, block) used else IsWrong (fault.WrongDigest place c)
 
 abbrev pub with_opening : (List ℕ → List ℕ) → ℕ → List ℕ → Opening → Section
 with_opening hash place bytes End = NothingLeft
 with_opening hash place bytes Cut = EndsInside
 with_opening hash place bytes (Wrong f) = IsWrong f
 with_opening hash place bytes (Found c front size) =
-    elim (nat_lt (length bytes) (front + size)) [ true ↦ EndsInside | false ↦ checked hash place c (take size (drop front bytes)) (front + size) ]
+    elim (nat_lt (length bytes) (front + size)) [
+      | true ↦ EndsInside
+      | false ↦ checked hash place c (take size (drop front bytes)) (front + size)
+    ]
 
 -- the section in front
 abbrev pub section_of : (List ℕ → List ℕ) → ℕ → List ℕ → Section
@@ -87,14 +91,16 @@ and_section b r = record { sections = b ∷ r.sections; answer = r.answer }
 
 abbrev pub read_on : (ℕ → List ℕ → Read Unit) → Bool → ℕ → List ℕ → Section → Read Unit
 read_on next over place bytes NothingLeft = record { sections = []; answer = ended_over over (Ok tt) }
-read_on next over place bytes EndsInside = record { sections = []; answer = ended_over over (Err (fault.Truncated place)) }
+read_on next over place bytes EndsInside =
+    record { sections = []; answer = ended_over over (Err (fault.Truncated place)) }
 read_on next over place bytes (IsWrong f) = record { sections = []; answer = Err f }
 read_on next over place bytes (Has b used) = and_section b (next (place + used) (drop used bytes))
 
 -- at most so many sections
 unfoldable pub sections_within : (List ℕ → List ℕ) → Bool → ℕ → ℕ → List ℕ → Read Unit
 sections_within hash over zero place bytes = record { sections = []; answer = ended_over over (Ok tt) }
-sections_within hash over (suc n) place bytes = read_on (λ at rest. sections_within hash over n at rest) over place bytes (section_of hash place bytes)
+sections_within hash over (suc n) place bytes =
+    read_on (λ at rest. sections_within hash over n at rest) over place bytes (section_of hash place bytes)
 
 -- the sections of these bytes; each has a byte or more
 abbrev pub sections_of : (List ℕ → List ℕ) → Bool → ℕ → List ℕ → Read Unit
@@ -111,7 +117,10 @@ header_with over bytes Bad = Err (fault.BadLength 0)
 header_with over bytes (Value n used) =
     elim ((n == 0) || nat_lt 16384 n) [
       | true ↦ Err fault.Header
-      | false ↦ elim (nat_lt (length bytes) (used + n)) [ true ↦ ended_over over (Err (fault.Truncated 0)) | false ↦ sized_roots (used + n) (header_of (take n (drop used bytes))) ]
+      | false ↦ elim (nat_lt (length bytes) (used + n)) [
+        | true ↦ ended_over over (Err (fault.Truncated 0))
+        | false ↦ sized_roots (used + n) (header_of (take n (drop used bytes)))
+      ]
     ]
 
 abbrev pub header_at : Bool → List ℕ → Result (List Cid × ℕ) CarFault

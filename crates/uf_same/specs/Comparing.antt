@@ -53,9 +53,12 @@ right_fault _ = None
 
 -- the answer for one CID: both blocks are one and were taken, or the verdict is decided
 abbrev pub ComparesAt : Lookup → Lookup → Result (Option Compared) SameFault → Walked → Walked → Type 0
-ComparesAt left right (Ok None) before now = course (follow_both left right) now ≡ course (follow_both left right) before
-ComparesAt left right (Ok (Some clash)) before now = verdict_of left right (course (follow_both left right) before) ≡ Ok clash
-ComparesAt left right (Err f) before now = RefusesSame (verdict_of left right (course (follow_both left right) before)) f
+ComparesAt left right (Ok None) before now =
+    course (follow_both left right) now ≡ course (follow_both left right) before
+ComparesAt left right (Ok (Some clash)) before now =
+    verdict_of left right (course (follow_both left right) before) ≡ Ok clash
+ComparesAt left right (Err f) before now =
+    RefusesSame (verdict_of left right (course (follow_both left right) before)) f
 
 -- the walk goes on where the verdict isn't decided
 abbrev pub StepsOn : Result (Option Compared) SameFault → Walked → Walked → Type 0

@@ -6,22 +6,27 @@ ghost use Rattle.uf_walk.specs.Order.{is_met, linked, block_links, pb_number};
 ghost use Rattle.uf_walk.specs.Ahead.{LinksAhead, PassesOver};
 
 use crate::WalkFault;
+use crate::ahead::Ahead;
 use crate::key::Key;
 use indexmap::IndexSet;
 use std::alloc::Global;
-use std::collections::VecDeque;
 use uf_cid::{Cid, Codec, Memory};
 use uf_dagpb::{Link, PbFault, decode_lenient};
 
 // Puts the CIDs of links in front, the first link first.
-pub fn put_in_front(ahead: &mut VecDeque<Cid>, links: &[Link]) -> Result<(), Memory>
-    ensures ok { OnOk result (ahead.new.items ≡ map (λ l. l.cid) links.now ++ ahead.old.items) }
-    ensures err { OnErr result (ahead.new.items ≡ ahead.old.items) }
+pub fn put_in_front(ahead: &mut Ahead, links: &[Link]) -> Result<(), Memory>
+    ensures ok { OnOk result (ahead.new ≡ map (λ l. l.cid) links.now ++ ahead.old) }
+    ensures err { OnErr result (ahead.new ≡ ahead.old) }
 {
-    ahead.reserve(links.len())?;
     for i in 0..links.len() {
         let at = links.len() - 1 - i;
-        ahead.push_front_reserved(links[at].cid);
+        match ahead.push_front(links[at].cid) {
+            Ok(()) => {}
+            Err(memory) => {
+                ahead.take_away(i);
+                return Err(memory);
+            }
+        }
     }
     Ok(())
 }
@@ -47,9 +52,9 @@ pub fn links_ahead(
     alloc: Global,
     cid: &Cid,
     bytes: &[u8],
-    ahead: &mut VecDeque<Cid>,
+    ahead: &mut Ahead,
 ) -> Result<(), WalkFault>
-    ensures { LinksAhead cid.now (block_links cid.now.codec bytes.now) result ahead.old.items ahead.new.items }
+    ensures { LinksAhead cid.now (block_links cid.now.codec bytes.now) result ahead.old ahead.new }
 {
     match cid.codec {
         Codec::Raw => Ok(()),
@@ -58,13 +63,8 @@ pub fn links_ahead(
 }
 
 // Puts the links of a node in front.
-fn node_ahead(
-    alloc: Global,
-    cid: &Cid,
-    bytes: &[u8],
-    ahead: &mut VecDeque<Cid>,
-) -> Result<(), WalkFault>
-    ensures { LinksAhead cid.now (linked (node_reads bytes.now)) result ahead.old.items ahead.new.items }
+fn node_ahead(alloc: Global, cid: &Cid, bytes: &[u8], ahead: &mut Ahead) -> Result<(), WalkFault>
+    ensures { LinksAhead cid.now (linked (node_reads bytes.now)) result ahead.old ahead.new }
 {
     match decode_lenient(alloc, bytes) {
         Ok(node) => Ok(put_in_front(ahead, node.links.as_slice())?),
@@ -81,11 +81,11 @@ pub fn has(met: &IndexSet<Key>, cid: &Cid) -> bool
 }
 
 // Takes away what was met, up to the first CID that wasn't.
-pub fn pass_over(met: &IndexSet<Key>, ahead: &mut VecDeque<Cid>)
-    ensures { PassesOver (map (λ k. k.cid) met.now.keys) ahead.old.items ahead.new.items }
+pub fn pass_over(met: &IndexSet<Key>, ahead: &mut Ahead)
+    ensures { PassesOver (map (λ k. k.cid) met.now.keys) ahead.old ahead.new }
 {
-    while let Some(next) = ahead.front() {
-        if !has(met, next) {
+    while let Some(next) = ahead.first() {
+        if !has(met, &next) {
             return;
         }
         let _ = ahead.pop_front();

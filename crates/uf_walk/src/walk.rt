@@ -4,12 +4,12 @@ ghost use Rattle.std.specs.Prelude.{OnOk, OnErr, IsSome};
 ghost use Rattle.std.specs.Option.{option_map};
 ghost use Rattle.uf_walk.specs.Order.{Follow, Whole};
 
+use crate::ahead::Ahead;
 use crate::key::Key;
 use crate::links::{links_ahead, pass_over};
 use crate::{Turn, WalkFault};
 use indexmap::IndexSet;
 use std::alloc::Global;
-use std::collections::VecDeque;
 use std::marker::Model;
 use uf_cid::{Cid, Memory};
 
@@ -21,7 +21,7 @@ pub struct Walk {
     alloc: Global,
     most: u32,
     met: IndexSet<Key>,
-    ahead: VecDeque<Cid>,
+    ahead: Ahead,
     due: Option<Cid>,
 }
 
@@ -31,7 +31,7 @@ impl Model for Walk {
 
     ghost Value = { Walked };
 
-    ghost view = { λ w. walked w.most (map (λ k. k.cid) w.met.keys) w.ahead.items w.due };
+    ghost view = { λ w. walked w.most (map (λ k. k.cid) w.met.keys) w.ahead w.due };
 
     ghost invariant = { λ w. length w.met.keys ≤ w.most };
 }
@@ -51,7 +51,7 @@ impl Walk {
             alloc,
             most,
             met: IndexSet::new(alloc),
-            ahead: VecDeque::new(alloc),
+            ahead: Ahead::new(alloc),
             due: None,
         }
     }
@@ -73,13 +73,12 @@ impl Walk {
     {
         self.met.reserve(1)?;
         pass_over(&self.met, &mut self.ahead);
-        let Some(next) = self.ahead.front() else {
+        let Some(cid) = self.ahead.first() else {
             return Ok(Turn::End);
         };
         if self.met.len() == self.most as usize {
             return Ok(Turn::TooMany);
         }
-        let cid = *next;
         let _ = self.ahead.pop_front();
         match self.met.insert(Key { cid }) {
             Ok(_) => {
