@@ -1,4 +1,6 @@
 pub mod Edits
+pub mod Files
+pub mod Moves
 pub mod Needs
 pub mod Replies
 pub mod Rules

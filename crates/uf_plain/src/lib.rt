@@ -3,15 +3,22 @@
 #![tactic(auto)]
 
 mod change;
+mod file;
 pub mod laws;
+mod ready;
 mod reply;
+pub mod rows;
 mod rule;
+mod spot;
 mod telling;
 
 pub use change::Change;
+pub use file::{FileEdit, WriteHow};
+pub use ready::Ready;
 pub use reply::{Row, Rows, Stat};
 pub use rule::{Refused, Rule};
-pub use telling::rule_at;
+pub use spot::{Lie, Spot};
+pub use telling::{path_text, rule_at};
 
 #[cfg(test)]
 mod tests;

@@ -1,6 +1,6 @@
 // A rule told with the path up to the name that decides.
 ghost use Rattle.std.specs.Prelude.{◌≡◌, IfOk, take};
-ghost use Rattle.uf_plain.specs.Rules.{path_text, rule_of};
+ghost use Rattle.uf_plain.specs.Rules.{path_text as text_of, rule_of};
 
 use crate::{Refused, Rule};
 use std::alloc::Global;
@@ -24,9 +24,16 @@ pub fn rule_at(alloc: Global, names: &[Name], why: Refused) -> Result<Rule, Memo
     }
 }
 
+/// A path as text.
+pub fn path_text(alloc: Global, names: &[Name]) -> Result<Text, Memory>
+    ensures { IfOk result (λ text. text ≡ text_of names.now) }
+{
+    path_to(alloc, names, names.len())
+}
+
 // The path of so many names.
 fn path_to(alloc: Global, names: &[Name], led: usize) -> Result<Text, Memory>
-    ensures { IfOk result (λ text. text ≡ path_text (take led names.now)) }
+    ensures { IfOk result (λ text. text ≡ text_of (take led names.now)) }
 {
     let mut text = Text::new(alloc);
     let count = led.min(names.len());
