@@ -14,7 +14,7 @@ use Rattle.uf_store.specs.declared.store.StoreFault.{StoreFault}
 use Rattle.uf_store.specs.declared.store.StoreFault.TheVariants.{Failed, Damaged, Missing, BadBlock, Clash, Memory}
 use Rattle.uf_store.specs.Contents.{Contents, Told, held_at}
 use Rattle.uf_store.specs.Keeping.{Agrees, AreGood, Holds, KeepsGood}
-use Rattle.uf_store.specs.Lost.{AgreesAfter, IsLossOf, IsLost, LosesOne}
+use Rattle.uf_store.specs.Lost.{AgreesAfter, IsLossOf, IsLost, IsLostBlock, LosesBlock}
 use Rattle.uf_store.proofs.Keeping.{Holds-kept, KeepsGood-refl}
 use Rattle.uf_fileedit.specs.Edits.{laid}
 use Rattle.uf_tree.specs.declared.nodes.Entry.{Entry}
@@ -184,10 +184,10 @@ lost-before X t u l good agrees keeps x k none =
     by None e h d = refl
     by (Some y) e h d = absurd (let no : None ≡ Some y = sym none ∙ keeps.stays x.0 y e (ap X h ∙ d) in cc)
 
-is-lost : (held : Lookup) (c : Cid) (b : Held) (l : List Held) → IsIn b l → c ≡ b.0 → held b.0 ≡ None → IsLost held c l
-is-lost held c b [] h is none = absurd h
-is-lost held c b (d ∷ l) (inl h) is none = inl (is ∙ ap (λ (x : Held). x.0) h, ap (λ (x : Held). held x.0) (sym h) ∙ none)
-is-lost held c b (d ∷ l) (inr h) is none = inr (is-lost held c b l h is none)
+is-lost : (held : Lookup) (b : Held) (l : List Held) → IsIn b l → held b.0 ≡ None → IsLostBlock held b l
+is-lost held b [] h none = absurd h
+is-lost held b (d ∷ l) (inl h) none = inl (h, ap (λ (x : Held). held x.0) (sym h) ∙ none)
+is-lost held b (d ∷ l) (inr h) none = inr (is-lost held b l h none)
 
 lost-back : (X : List ℕ → List ℕ) (t u : Contents) (whole l : List Held) (c : Cid) → AreGood X whole → blocks.Agrees (held_at t) whole → KeepsGood X (Some t) (Some u) → ((x : Held) → IsIn x l → IsIn x whole) → IsLost (held_at u) c l → IsLost (held_at t) c l
 lost-back X t u whole [] c good agrees keeps among lost = lost
@@ -212,16 +212,16 @@ known-after X None now olds news good agrees after keeps known = absurd agrees
 known-after X (Some t) None olds news good agrees after keeps known = absurd after
 known-after X (Some t) (Some u) olds news good agrees after keeps known = (
   each-in (λ (x : Held). IfSome (held_at u x.0) (λ bytes. bytes ≡ x.1)) news (λ x k. agreed x (all-in (IsKnown (Some u) olds) news x known k)),
-  each-in (λ (x : Held). held_at u x.0 ≡ None → LosesOne (Some t) x.0 olds) news (λ x k none. lost x (all-in (IsKnown (Some u) olds) news x known k) none),
+  each-in (λ (x : Held). held_at u x.0 ≡ None → LosesBlock (Some t) x olds) news (λ x k none. lost x (all-in (IsKnown (Some u) olds) news x known k) none),
 )
   where
     agreed : (x : Held) → IsKnown (Some u) olds x → IfSome (held_at u x.0) (λ bytes. bytes ≡ x.1)
     agreed x (inl h) = subst (λ (o : Option (List ℕ)). IfSome o (λ bytes. bytes ≡ x.1)) (sym h.0) refl
     agreed x (inr h) = all-in (λ (y : Held). IfSome (held_at u y.0) (λ bytes. bytes ≡ y.1)) olds x after h
 
-    lost : (x : Held) → IsKnown (Some u) olds x → held_at u x.0 ≡ None → LosesOne (Some t) x.0 olds
-    lost x (inl h) none = none_some u x (LosesOne (Some t) x.0 olds) h.0 none
-    lost x (inr h) none = is-lost (held_at t) x.0 x olds h refl (lost-before X t u olds good agrees keeps x h none)
+    lost : (x : Held) → IsKnown (Some u) olds x → held_at u x.0 ≡ None → LosesBlock (Some t) x olds
+    lost x (inl h) none = none_some u x (LosesBlock (Some t) x olds) h.0 none
+    lost x (inr h) none = is-lost (held_at t) x olds h (lost-before X t u olds good agrees keeps x h none)
 
 -- ---- the answers
 

@@ -3,15 +3,22 @@ use Rattle.std.specs.Prelude.{◌≡◌, ◌⊎◌, ℕ, zero, suc, ◌+◌, ◌
 use Rattle.std.specs.List.{AllByRecursion, flat_map}
 use Rattle.std.specs.declared.option.Option.{Option}
 use Rattle.std.specs.declared.option.Option.TheVariants.{None, Some}
+use Rattle.std.specs.Prelude.{IfErr, IfOk}
+use Rattle.std.specs.declared.result.Result.{Result}
 use Rattle.uf_cid.specs.Blocks.{Held}
 use Rattle.uf_cid.specs.declared.cid.Cid.{Cid}
+use Rattle.uf_edge.specs.Counts.{Stood}
 use Rattle.uf_store.specs.Contents.{Told, held_at}
-use Rattle.uf_store.specs.Keeping.{Holds}
+use Rattle.uf_store.specs.Keeping.{Agrees, Holds}
+use Rattle.uf_store.specs.Lost.{IsLossOf}
+use Rattle.uf_store.specs.Seen.{Seen}
+use Rattle.uf_store.specs.declared.store.StoreFault.{StoreFault}
+use Rattle.uf_fileedit.specs.declared.changing.Target.{Target}
 use Rattle.uf_tree.specs.declared.nodes.Part.{Part}
 use Rattle.uf_tree.specs.declared.profile.Profile.{Profile}
 use Rattle.uf_tree.specs.declared.nodes.Entry.{Entry}
 use Rattle.uf_tree.specs.Cutting.{joined}
-use Rattle.uf_tree.specs.FilePlan.{file_plan}
+use Rattle.uf_tree.specs.FilePlan.{file_plan, groups}
 use Rattle.uf_tree.specs.FileSub.{blocks_over, part_over, span}
 
 -- the first byte, and those behind it; behind the end are zeros
@@ -124,3 +131,32 @@ size_after old (Some size) offset more = size
 pub record GivesFile (X : List ℕ → List ℕ) (p : Profile) (told : Told) (olds : List Held) (entry : Entry) (bytes : List ℕ) : Type 0 where
   pub same : entry ≡ (file_plan X p bytes).entry
   pub known : AllByRecursion (IsKnown told olds) (file_plan X p bytes).blocks
+
+-- over the old part's bytes, with whose blocks the store agrees before and after, the part of this height over the changed bytes is made
+abbrev pub MakesPart : (List ℕ → List ℕ) → Profile → ℕ → ℕ → Target → List ℕ → Told → Told
+    → Result Part StoreFault → Type 0
+MakesPart X p top k target piece before now answer =
+    (b : List ℕ) → IsOld X p (min top k) target.old b → Agrees before (old_blocks X p (min top k) target.old b)
+    → Agrees now (old_blocks X p (min top k) target.old b)
+    → IfOk answer (λ m. GivesPart X p now (old_blocks X p (min top k) target.old b) k m
+    (overlaid target.size b target.offset piece))
+
+-- where the store has stayed calm besides, a fault is that one of the old part's blocks is lost, or want of memory
+abbrev pub LosesOfPart : (List ℕ → List ℕ) → Profile → ℕ → Option Part → Seen → Seen → Result Part StoreFault → Type 0
+LosesOfPart X p k old before now answer =
+    (b : List ℕ) → IsOld X p k old b → Agrees before.told (old_blocks X p k old b) → Agrees now.told (old_blocks X p k old b)
+    → Stood before.faults now.faults → Stood before.clashes now.clashes → IfErr answer (IsLossOf now.told (old_blocks X p k old b))
+
+-- the same of the parts below a node, whose parts have this height
+abbrev pub MakesParts : (List ℕ → List ℕ) → Profile → ℕ → ℕ → List Part → Target → List ℕ → Told → Told → Result (List Part) StoreFault → Type 0
+MakesParts X p top k olds target piece before now answer =
+    (gs : List (List ℕ)) → AreOld X p (span p.chunk p.width k) (min top k) olds gs → Agrees before (blocks_of_all X p (min top k) gs)
+    → Agrees now (blocks_of_all X p (min top k) gs)
+    → IfOk answer (λ parts. GivesAll X p now (blocks_of_all X p (min top k) gs) k parts
+    (groups (span p.chunk p.width k) (overlaid target.size (joined gs) target.offset piece)))
+
+abbrev pub LosesOfParts : (List ℕ → List ℕ) → Profile → ℕ → ℕ → List Part → Seen → Seen → Result (List Part) StoreFault → Type 0
+LosesOfParts X p top k olds before now answer =
+    (gs : List (List ℕ)) → AreOld X p (span p.chunk p.width k) (min top k) olds gs → Agrees before.told (blocks_of_all X p (min top k) gs)
+    → Agrees now.told (blocks_of_all X p (min top k) gs) → Stood before.faults now.faults → Stood before.clashes now.clashes
+    → IfErr answer (IsLossOf now.told (blocks_of_all X p (min top k) gs))

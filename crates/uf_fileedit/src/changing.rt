@@ -1,17 +1,16 @@
 // Parts of a file changed, from the root down.
-ghost use Rattle.std.specs.Prelude.{◌≡◌, ◌⊎◌, ◌+◌, ◌<◌, ◌≤◌, ◌^◌, ℕ, List, [], length, min, slice_get, take, IfErr, IfOk, IfSome, IsTrue, None, Some};
+ghost use Rattle.std.specs.Prelude.{◌≡◌, ◌⊎◌, ◌+◌, ◌-◌, ◌*◌, ◌<◌, ◌≤◌, ℕ, List, length, min, slice_get, IfErr, IfNone, IfOk, IfSome, IsTrue, None, Some};
 ghost use Rattle.std.specs.List.{sum_by};
 ghost use Rattle.uf_edge.specs.Counts.{Stood};
 ghost use Rattle.uf_store.specs.Faults.{Answers};
 ghost use Rattle.uf_store.specs.Keeping.{Agrees, KeepsGood};
 ghost use Rattle.uf_store.specs.Writing.{SavesOnly};
 ghost use Rattle.uf_store.specs.Lost.{IsLossOf};
-ghost use Rattle.uf_tree.specs.FilePlan.{groups};
 ghost use Rattle.uf_tree.specs.FileSub.{blocks_over, span};
 ghost use Rattle.uf_tree.specs.Profiles.{is_profile};
 ghost use Rattle.uf_fileedit.specs.Bad.{IsBadEdited};
-ghost use Rattle.uf_fileedit.specs.Changes.{AreOld, GivesPart, GivesAll, HasSize, IsBlank, IsFrontPart, IsOld, IsOldPart, LiesWithin, blocks_of_all, overlaid, old_blocks};
-ghost use Rattle.uf_tree.specs.Cutting.{joined};
+ghost use Rattle.uf_fileedit.specs.Changes.{HasSize, IsBlank, IsFrontPart, IsOldPart, LiesWithin, LosesOfPart, LosesOfParts, MakesPart, MakesParts};
+ghost use Rattle.uf_fileedit.specs.Touches.{AreBelow, Climbs, IsChangeWithin, IsLeft};
 
 use crate::layout::span_of;
 use crate::leaves::change_leaf;
@@ -19,9 +18,24 @@ use crate::nodes::{load_parts, parts_below};
 use std::alloc::Global;
 use std::sync::ledger::Ledger;
 use uf_build::save_node;
-use uf_cid::Memory;
 use uf_store::{Steps, Store, StoreFault};
 use uf_tree::{Part, Parts, Profile};
+
+// Where a part is made: the profile, its height, and how high an old part of the file stands at most.
+#[derive(Clone, Copy)]
+pub struct Layer {
+    pub p: Profile,
+    pub top: u8,
+    pub height: u8,
+}
+
+// What is made of an old part, where there is one: so many bytes, and a piece is laid over them from a place on.
+#[derive(Clone, Copy)]
+pub struct Target {
+    pub old: Option<Part>,
+    pub size: u64,
+    pub offset: u64,
+}
 
 // The first part of a height of a file whose root has a greater one, or the root. At most one touch for each height between.
 pub fn front_of<S: Store, L: Ledger>(
@@ -43,212 +57,165 @@ pub fn front_of<S: Store, L: Ledger>(
         → IfErr result (IsLossOf (S.seen store.old).told (blocks_over S.X.block32 p.now.chunk p.now.width top b)) }
     ensures cause { Answers S.X.block32 (IsBadEdited p.now) result (S.seen store.old) (S.seen store.new) }
     ensures told { (S.seen store.new).told ≡ (S.seen store.old).told }
-    ensures touches { touches.new ≤ touches.old + top }
+    ensures size { root.size ≤ span p.now.chunk p.now.width top → IfOk result (λ m. m.size ≡ min root.size
+        (span p.now.chunk p.now.width (min top height))) }
+    ensures rises { touches.old ≤ touches.new }
+    ensures touches { touches.new ≤ touches.old + (top - height) }
 {
     if top <= height {
         return Ok(root);
     }
     let below = top - 1;
-    match load_parts(alloc, store, p, below, &root, touches) {
-        Err(fault) => Err(fault),
-        Ok(parts) => {
-            let first = parts.as_slice()[0];
-            front_of(alloc, store, p, below, height, first, touches)
-        }
-    }
+    let parts = load_parts(alloc, store, p, below, &root, touches)?;
+    let first = parts.as_slice()[0];
+    front_of(alloc, store, p, below, height, first, touches)
 }
 
-// Saves a part of this height and of so many bytes: those of the old part, where there is one, cut or filled with zeros, with
-// a piece laid over them. Where that is the old part it is left alone.
+// Saves a part of a layer: the bytes of the old part, where there is one, cut or filled with zeros, with a piece laid over them.
+// Where that is the old part it is left alone. At most two touches for each row and each chunk that is changed.
 #[cycle(changes)]
 pub fn change<S: Store, L: Ledger>(
     alloc: Global,
     store: &mut S,
-    p: &Profile,
-    top: u8,
-    height: u8,
-    old: Option<Part>,
-    size: u64,
-    offset: u64,
+    layer: Layer,
+    target: Target,
     piece: &[u8],
     touches: &mut Steps<L>,
 ) -> Result<Part, StoreFault>
-    requires profile { IsTrue (is_profile p.now) }
-    requires size { HasSize p.now height size }
-    requires within { LiesWithin size offset piece.now }
-    ensures size { IfOk result (λ m. m.size ≡ size) }
-    ensures gives { (b : List ℕ) → IsOld S.X.block32 p.now (min top height) old b
-        → Agrees (S.seen store.old).told (old_blocks S.X.block32 p.now (min top height) old b)
-        → Agrees (S.seen store.new).told (old_blocks S.X.block32 p.now (min top height) old b)
-        → IfOk result (λ m. GivesPart S.X.block32 p.now (S.seen store.new).told
-        (old_blocks S.X.block32 p.now (min top height) old b) height m (overlaid size b offset piece.now)) }
-    ensures lost { (b : List ℕ) → IsOld S.X.block32 p.now (min top height) old b
-        → Agrees (S.seen store.old).told (old_blocks S.X.block32 p.now (min top height) old b)
-        → Agrees (S.seen store.new).told (old_blocks S.X.block32 p.now (min top height) old b)
-        → Stood (S.seen store.old).faults (S.seen store.new).faults
-        → Stood (S.seen store.old).clashes (S.seen store.new).clashes
-        → IfErr result (IsLossOf (S.seen store.new).told (old_blocks S.X.block32 p.now (min top height) old b)) }
-    ensures cause { Answers S.X.block32 (IsBadEdited p.now) result (S.seen store.old) (S.seen store.new) }
+    requires profile { IsTrue (is_profile layer.p) }
+    requires size { HasSize layer.p layer.height target.size }
+    requires within { LiesWithin target.size target.offset piece.now }
+    ensures size { IfOk result (λ m. m.size ≡ target.size) }
+    ensures gives { MakesPart S.X.block32 layer.p layer.top layer.height target piece.now (S.seen store.old).told
+        (S.seen store.new).told result }
+    ensures lost { LosesOfPart S.X.block32 layer.p (min layer.top layer.height) target.old (S.seen store.old)
+        (S.seen store.new) result }
+    ensures left { IsLeft layer.top layer.height target.size target.old → length piece.now ≡ 0
+        → (S.seen store.new).told ≡ (S.seen store.old).told }
+    ensures cause { Answers S.X.block32 (IsBadEdited layer.p) result (S.seen store.old) (S.seen store.new) }
     ensures good { KeepsGood S.X.block32 (S.seen store.old).told (S.seen store.new).told }
     ensures saves { SavesOnly S.X.block32 (S.seen store.old).told (S.seen store.new).told }
+    ensures rises { Climbs result touches.old touches.new }
+    ensures touches { (a z : ℕ) → IsChangeWithin layer.p layer.top layer.height target.old target.size target.offset
+        (length piece.now) a z → touches.new ≤ touches.old + 2 * (layer.height + 1) * (z - a) }
 {
-    if let Some(part) = same_part(old, height <= top, size, piece) {
+    if let Some(part) = same_part(layer, target, piece) {
         return Ok(part);
     }
-    if height == 0 {
-        let at = offset.min(size) as usize;
-        return change_leaf(alloc, store, old, size as usize, at, piece, touches);
+    if layer.height == 0 {
+        let size = target.size;
+        let at = target.offset.min(size) as usize;
+        return change_leaf(alloc, store, target.old, size as usize, at, piece, touches);
     }
-    change_node(
-        alloc,
-        store,
-        p,
-        top,
-        height - 1,
-        old,
-        size,
-        offset,
-        piece,
-        touches,
-    )
+    let below = Layer {
+        p: layer.p,
+        top: layer.top,
+        height: layer.height - 1,
+    };
+    change_node(alloc, store, below, target, piece, touches)
 }
 
 // The old part, where it has this size already, stands as high as it has to, and nothing is written.
-fn same_part(old: Option<Part>, is_high: bool, size: u64, piece: &[u8]) -> Option<Part>
-    ensures old { IfSome result (λ part. old ≡ Some part) }
-    ensures high { IfSome result (λ part. IsTrue is_high) }
-    ensures size { IfSome result (λ part. part.size ≡ size) }
-    ensures piece { IfSome result (λ part. length piece.now ≡ 0) }
+fn same_part(layer: Layer, target: Target, piece: &[u8]) -> Option<Part>
+    ensures old { IfSome result (λ part. target.old ≡ Some part) }
+    ensures left { IfSome result (λ part. (layer.height ≤ layer.top) × (part.size ≡ target.size)
+        × (length piece.now ≡ 0)) }
+    ensures changed { IfNone result ((IsLeft layer.top layer.height target.size target.old → ⊥)
+        ⊎ (1 ≤ length piece.now)) }
 {
-    match old {
-        Some(part) if is_high && part.size == size && piece.len() == 0 => Some(part),
+    match target.old {
+        Some(part) if layer.height <= layer.top && part.size == target.size && piece.len() == 0 => {
+            Some(part)
+        }
         _ => None,
     }
 }
 
-// Saves a node over parts of this height.
+// Saves a node over parts of a layer.
 #[cycle(changes)]
 fn change_node<S: Store, L: Ledger>(
     alloc: Global,
     store: &mut S,
-    p: &Profile,
-    top: u8,
-    height: u8,
-    old: Option<Part>,
-    size: u64,
-    offset: u64,
+    layer: Layer,
+    target: Target,
     piece: &[u8],
     touches: &mut Steps<L>,
 ) -> Result<Part, StoreFault>
-    requires profile { IsTrue (is_profile p.now) }
-    requires size { HasSize p.now (height + 1) size }
-    requires within { LiesWithin size offset piece.now }
-    ensures size { IfOk result (λ m. m.size ≡ size) }
-    ensures gives { (b : List ℕ) → IsOld S.X.block32 p.now (min top (height + 1)) old b
-        → Agrees (S.seen store.old).told (old_blocks S.X.block32 p.now (min top (height + 1)) old b)
-        → Agrees (S.seen store.new).told (old_blocks S.X.block32 p.now (min top (height + 1)) old b)
-        → IfOk result (λ m. GivesPart S.X.block32 p.now (S.seen store.new).told
-        (old_blocks S.X.block32 p.now (min top (height + 1)) old b) (height + 1) m (overlaid size b offset piece.now)) }
-    ensures lost { (b : List ℕ) → IsOld S.X.block32 p.now (min top (height + 1)) old b
-        → Agrees (S.seen store.old).told (old_blocks S.X.block32 p.now (min top (height + 1)) old b)
-        → Agrees (S.seen store.new).told (old_blocks S.X.block32 p.now (min top (height + 1)) old b)
-        → Stood (S.seen store.old).faults (S.seen store.new).faults
-        → Stood (S.seen store.old).clashes (S.seen store.new).clashes
-        → IfErr result (IsLossOf (S.seen store.new).told (old_blocks S.X.block32 p.now (min top (height + 1)) old b)) }
-    ensures cause { Answers S.X.block32 (IsBadEdited p.now) result (S.seen store.old) (S.seen store.new) }
+    requires profile { IsTrue (is_profile layer.p) }
+    requires size { HasSize layer.p (layer.height + 1) target.size }
+    requires within { LiesWithin target.size target.offset piece.now }
+    ensures size { IfOk result (λ m. m.size ≡ target.size) }
+    ensures gives { MakesPart S.X.block32 layer.p layer.top (layer.height + 1) target piece.now (S.seen store.old).told
+        (S.seen store.new).told result }
+    ensures lost { LosesOfPart S.X.block32 layer.p (min layer.top (layer.height + 1)) target.old (S.seen store.old)
+        (S.seen store.new) result }
+    ensures cause { Answers S.X.block32 (IsBadEdited layer.p) result (S.seen store.old) (S.seen store.new) }
     ensures good { KeepsGood S.X.block32 (S.seen store.old).told (S.seen store.new).told }
     ensures saves { SavesOnly S.X.block32 (S.seen store.old).told (S.seen store.new).told }
+    ensures rises { Climbs result touches.old touches.new }
+    ensures touches { (a z : ℕ) → IsChangeWithin layer.p layer.top (layer.height + 1) target.old target.size
+        target.offset (length piece.now) a z → a < z → touches.new ≤ touches.old + 2 * (layer.height + 1 + 1) * (z - a) }
 {
-    let parts = match parts_below(alloc, store, p, top, height, old, touches) {
-        Ok(parts) => parts,
-        Err(fault) => return Err(fault),
-    };
-    match change_parts(
+    let olds = parts_below(
         alloc,
         store,
-        p,
-        top,
-        height,
-        parts.as_slice(),
-        size,
-        offset,
-        piece,
+        &layer.p,
+        layer.top,
+        layer.height,
+        target.old,
         touches,
-    ) {
-        Ok(new) => save_node(alloc, store, new.as_slice(), touches),
-        Err(fault) => Err(fault),
-    }
+    )?;
+    let news = change_parts(alloc, store, layer, target, olds.as_slice(), piece, touches)?;
+    save_node(alloc, store, news.as_slice(), touches)
 }
 
-// The parts, each of this height, of a node of so many bytes. Whole parts of zeros are made once.
+// The parts of a layer below a node. Whole parts of zeros are made once.
 #[cycle(changes)]
 fn change_parts<S: Store, L: Ledger>(
     alloc: Global,
     store: &mut S,
-    p: &Profile,
-    top: u8,
-    height: u8,
+    layer: Layer,
+    target: Target,
     olds: &[Part],
-    size: u64,
-    offset: u64,
     piece: &[u8],
     touches: &mut Steps<L>,
 ) -> Result<Parts, StoreFault>
-    requires profile { IsTrue (is_profile p.now) }
-    requires size { HasSize p.now (height + 1) size }
-    requires within { LiesWithin size offset piece.now }
+    requires profile { IsTrue (is_profile layer.p) }
+    requires size { HasSize layer.p (layer.height + 1) target.size }
+    requires within { LiesWithin target.size target.offset piece.now }
     ensures some { IfOk result (λ parts. 1 ≤ length parts) }
     ensures few { IfOk result (λ parts. length parts ≤ 1024) }
-    ensures size { IfOk result (λ parts. sum_by (λ m. m.size) parts ≡ size) }
-    ensures gives { (gs : List (List ℕ)) → AreOld S.X.block32 p.now (span p.now.chunk p.now.width height)
-        (min top height) olds.now gs → Agrees (S.seen store.old).told
-        (blocks_of_all S.X.block32 p.now (min top height) gs)
-        → Agrees (S.seen store.new).told (blocks_of_all S.X.block32 p.now (min top height) gs)
-        → IfOk result (λ parts. GivesAll S.X.block32 p.now (S.seen store.new).told
-        (blocks_of_all S.X.block32 p.now (min top height) gs) height parts
-        (groups (span p.now.chunk p.now.width height) (overlaid size (joined gs) offset piece.now))) }
-    ensures lost { (gs : List (List ℕ)) → AreOld S.X.block32 p.now (span p.now.chunk p.now.width height)
-        (min top height) olds.now gs → Agrees (S.seen store.old).told
-        (blocks_of_all S.X.block32 p.now (min top height) gs)
-        → Agrees (S.seen store.new).told (blocks_of_all S.X.block32 p.now (min top height) gs)
-        → Stood (S.seen store.old).faults (S.seen store.new).faults
-        → Stood (S.seen store.old).clashes (S.seen store.new).clashes
-        → IfErr result (IsLossOf (S.seen store.new).told (blocks_of_all S.X.block32 p.now (min top height) gs)) }
-    ensures cause { Answers S.X.block32 (IsBadEdited p.now) result (S.seen store.old) (S.seen store.new) }
+    ensures size { IfOk result (λ parts. sum_by (λ m. m.size) parts ≡ target.size) }
+    ensures gives { MakesParts S.X.block32 layer.p layer.top layer.height olds.now target piece.now
+        (S.seen store.old).told (S.seen store.new).told result }
+    ensures lost { LosesOfParts S.X.block32 layer.p layer.top layer.height olds.now (S.seen store.old)
+        (S.seen store.new) result }
+    ensures cause { Answers S.X.block32 (IsBadEdited layer.p) result (S.seen store.old) (S.seen store.new) }
     ensures good { KeepsGood S.X.block32 (S.seen store.old).told (S.seen store.new).told }
     ensures saves { SavesOnly S.X.block32 (S.seen store.old).told (S.seen store.new).told }
+    ensures rises { Climbs result touches.old touches.new }
+    ensures touches { (a z : ℕ) → IsChangeWithin layer.p layer.top (layer.height + 1) target.old target.size
+        target.offset (length piece.now) a z → AreBelow (span layer.p.chunk layer.p.width layer.height) target.old
+        olds.now → touches.new ≤ touches.old + 2 * (layer.height + 1) * (z - a) }
 {
-    let most = span_of(p, height);
+    let most = span_of(&layer.p, layer.height);
     let mut news = Parts::new(alloc);
     let mut blank = None;
-    let mut left = size;
-    let mut place = offset;
+    let mut left = target.size;
+    let mut place = target.offset;
     let mut rest = piece;
     let mut at = 0;
     'parts: while left > 0 {
         let count = left.min(most);
         let cut = (rest.len() as u64).min(count.saturating_sub(place)) as usize;
         let old = part_at(olds, at);
-        let part = match change_one(
-            alloc,
-            store,
-            p,
-            top,
-            height,
+        let one = Target {
             old,
-            blank,
-            count,
-            place,
-            &rest[..cut],
-            touches,
-        ) {
-            Ok(part) => part,
-            Err(fault) => return Err(fault),
+            size: count,
+            offset: place,
         };
-        match news.push(part) {
-            Ok(()) => {}
-            Err(Memory) => return Err(StoreFault::Memory),
-        }
+        let part = change_one(alloc, store, layer, one, blank, &rest[..cut], touches)?;
+        news.push(part)?;
         blank = blank_of(blank, old, part, cut, most);
         rest = &rest[cut..];
         place = place.saturating_sub(count);
@@ -263,41 +230,31 @@ fn change_parts<S: Store, L: Ledger>(
 fn change_one<S: Store, L: Ledger>(
     alloc: Global,
     store: &mut S,
-    p: &Profile,
-    top: u8,
-    height: u8,
-    old: Option<Part>,
+    layer: Layer,
+    target: Target,
     blank: Option<Part>,
-    size: u64,
-    offset: u64,
     piece: &[u8],
     touches: &mut Steps<L>,
 ) -> Result<Part, StoreFault>
-    requires profile { IsTrue (is_profile p.now) }
-    requires size { HasSize p.now height size }
-    requires within { LiesWithin size offset piece.now }
-    ensures size { IfOk result (λ m. m.size ≡ size) }
-    ensures gives { (b : List ℕ) → IsOld S.X.block32 p.now (min top height) old b
-        → IsBlank S.X.block32 p.now (S.seen store.old).told height blank
-        → Agrees (S.seen store.old).told (old_blocks S.X.block32 p.now (min top height) old b)
-        → Agrees (S.seen store.new).told (old_blocks S.X.block32 p.now (min top height) old b)
-        → IfOk result (λ m. GivesPart S.X.block32 p.now (S.seen store.new).told
-        (old_blocks S.X.block32 p.now (min top height) old b) height m (overlaid size b offset piece.now)) }
-    ensures lost { (b : List ℕ) → IsOld S.X.block32 p.now (min top height) old b
-        → Agrees (S.seen store.old).told (old_blocks S.X.block32 p.now (min top height) old b)
-        → Agrees (S.seen store.new).told (old_blocks S.X.block32 p.now (min top height) old b)
-        → Stood (S.seen store.old).faults (S.seen store.new).faults
-        → Stood (S.seen store.old).clashes (S.seen store.new).clashes
-        → IfErr result (IsLossOf (S.seen store.new).told (old_blocks S.X.block32 p.now (min top height) old b)) }
-    ensures cause { Answers S.X.block32 (IsBadEdited p.now) result (S.seen store.old) (S.seen store.new) }
+    requires profile { IsTrue (is_profile layer.p) }
+    requires size { HasSize layer.p layer.height target.size }
+    requires within { LiesWithin target.size target.offset piece.now }
+    ensures size { IfOk result (λ m. m.size ≡ target.size) }
+    ensures gives { IsBlank S.X.block32 layer.p (S.seen store.old).told layer.height blank
+        → MakesPart S.X.block32 layer.p layer.top layer.height target piece.now (S.seen store.old).told
+        (S.seen store.new).told result }
+    ensures lost { LosesOfPart S.X.block32 layer.p (min layer.top layer.height) target.old (S.seen store.old)
+        (S.seen store.new) result }
+    ensures cause { Answers S.X.block32 (IsBadEdited layer.p) result (S.seen store.old) (S.seen store.new) }
     ensures good { KeepsGood S.X.block32 (S.seen store.old).told (S.seen store.new).told }
     ensures saves { SavesOnly S.X.block32 (S.seen store.old).told (S.seen store.new).told }
+    ensures rises { Climbs result touches.old touches.new }
+    ensures touches { (a z : ℕ) → IsChangeWithin layer.p layer.top layer.height target.old target.size target.offset
+        (length piece.now) a z → touches.new ≤ touches.old + 2 * (layer.height + 1) * (z - a) }
 {
     match blank {
-        Some(part) if is_nothing(old, piece) && part.size == size => Ok(part),
-        _ => change(
-            alloc, store, p, top, height, old, size, offset, piece, touches,
-        ),
+        Some(part) if is_nothing(target.old, piece) && part.size == target.size => Ok(part),
+        _ => change(alloc, store, layer, target, piece, touches),
     }
 }
 

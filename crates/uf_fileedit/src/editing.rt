@@ -1,5 +1,5 @@
 // Files written into and cut.
-ghost use Rattle.std.specs.Prelude.{◌≡◌, ◌+◌, ◌<◌, ◌≤◌, ◌^◌, ◌*◌, ◌&&◌, ℕ, List, [], length, nat_lt, IfErr, IfOk, IfSome, IsTrue, OnOk, Ok};
+ghost use Rattle.std.specs.Prelude.{◌≡◌, ◌+◌, ◌-◌, ◌<◌, ◌≤◌, ◌^◌, ◌*◌, ◌&&◌, max, ℕ, List, [], length, nat_lt, IfErr, IfOk, IfSome, IsTrue, OnOk, Ok};
 ghost use Rattle.uf_edge.specs.Counts.{Stood};
 ghost use Rattle.uf_fileread.specs.Ranges.{IsFile};
 ghost use Rattle.uf_store.specs.Faults.{Answers};
@@ -12,8 +12,10 @@ ghost use Rattle.uf_fileedit.specs.Answers.{EditsOver, RefusesTooLong, ShownEdit
 ghost use Rattle.uf_fileedit.specs.Bad.{IsBadEdited};
 ghost use Rattle.uf_fileedit.specs.Changes.{GivesFile, LiesWithin, overlaid, size_after as after_size};
 ghost use Rattle.uf_fileedit.specs.Edits.{cut_to, laid};
+ghost use Rattle.uf_fileedit.specs.Touches.{Climbs, IsEditWithin, TouchedFirst, cut_chunks, edit_touches, written_chunks};
+ghost use Rattle.uf_tree.specs.FileSub.{IsHeight};
 
-use crate::changing::{change, front_of};
+use crate::changing::{Layer, Target, change, front_of};
 use crate::layout::height_of;
 use crate::nodes::root_of;
 use std::alloc::Global;
@@ -55,6 +57,12 @@ pub fn write_at<S: Store, L: Ledger>(
     ensures cause { ShownEdit S.X.block32 (IsBadEdited p.now) result (S.seen store.old) (S.seen store.new) }
     ensures good { KeepsGood S.X.block32 (S.seen store.old).told (S.seen store.new).told }
     ensures saves { SavesOnly S.X.block32 (S.seen store.old).told (S.seen store.new).told }
+    ensures touched { TouchedFirst result touches.old touches.new }
+    ensures touches { (b : List ℕ) (rows after : ℕ) → IsFile S.X.block32 p.now b entry.now.cid rows
+        → Agrees (S.seen store.old).told (file_plan S.X.block32 p.now b).blocks
+        → IsHeight p.now.chunk p.now.width (length (laid b offset piece.now)) after
+        → touches.new ≤ touches.old + edit_touches (written_chunks p.now.chunk (length b) offset (length piece.now))
+        (max rows after) }
     ensures empty { piece.now ≡ [] → (result ≡ Ok entry.now) × (S.seen store.new ≡ S.seen store.old)
         × (touches.new ≡ touches.old) }
 {
@@ -66,10 +74,7 @@ pub fn write_at<S: Store, L: Ledger>(
     if more > most || offset > most - more {
         return Err(BuildFault::FileTooLong);
     }
-    match edit(alloc, store, p, entry, None, offset, piece, touches) {
-        Ok(entry) => Ok(entry),
-        Err(fault) => Err(BuildFault::Store(fault)),
-    }
+    Ok(edit(alloc, store, p, entry, None, offset, piece, touches)?)
 }
 
 /// Cuts a file to a length, or fills it with zeros up to it, and answers the entry of the new file.
@@ -102,15 +107,20 @@ pub fn truncate<S: Store, L: Ledger>(
     ensures cause { ShownEdit S.X.block32 (IsBadEdited p.now) result (S.seen store.old) (S.seen store.new) }
     ensures good { KeepsGood S.X.block32 (S.seen store.old).told (S.seen store.new).told }
     ensures saves { SavesOnly S.X.block32 (S.seen store.old).told (S.seen store.new).told }
+    ensures touched { TouchedFirst result touches.old touches.new }
+    ensures touches { (b : List ℕ) (rows after : ℕ) → IsFile S.X.block32 p.now b entry.now.cid rows
+        → Agrees (S.seen store.old).told (file_plan S.X.block32 p.now b).blocks
+        → IsHeight p.now.chunk p.now.width size after
+        → touches.new ≤ touches.old + edit_touches (cut_chunks p.now.chunk (length b) size) (max rows after) }
+    ensures same { (b : List ℕ) (rows : ℕ) → IsFile S.X.block32 p.now b entry.now.cid rows
+        → Agrees (S.seen store.old).told (file_plan S.X.block32 p.now b).blocks → length b ≡ size
+        → (S.seen store.new).told ≡ (S.seen store.old).told }
 {
     let most = p.most_bytes();
     if size > most {
         return Err(BuildFault::FileTooLong);
     }
-    match edit(alloc, store, p, entry, Some(size), 0, &[], touches) {
-        Ok(entry) => Ok(entry),
-        Err(fault) => Err(BuildFault::Store(fault)),
-    }
+    Ok(edit(alloc, store, p, entry, Some(size), 0, &[], touches)?)
 }
 
 // Cuts or fills a file to a length, or else to no less than the end of a piece, and lays the piece over it.
@@ -142,34 +152,34 @@ fn edit<S: Store, L: Ledger>(
     ensures cause { Answers S.X.block32 (IsBadEdited p.now) result (S.seen store.old) (S.seen store.new) }
     ensures good { KeepsGood S.X.block32 (S.seen store.old).told (S.seen store.new).told }
     ensures saves { SavesOnly S.X.block32 (S.seen store.old).told (S.seen store.new).told }
+    ensures touched { Climbs result touches.old touches.new }
+    ensures touches { (b : List ℕ) (rows after a z : ℕ) → IsFile S.X.block32 p.now b entry.now.cid rows
+        → Agrees (S.seen store.old).told (file_plan S.X.block32 p.now b).blocks
+        → IsHeight p.now.chunk p.now.width (after_size (length b) wanted offset (length piece.now)) after
+        → IsEditWithin p.now.chunk (length b) (after_size (length b) wanted offset (length piece.now)) offset
+        (length piece.now) a z → touches.new ≤ touches.old + 1 + (rows - after) + 2 * (after + 1) * (z - a) }
+    ensures same { (b : List ℕ) (rows : ℕ) → IsFile S.X.block32 p.now b entry.now.cid rows
+        → Agrees (S.seen store.old).told (file_plan S.X.block32 p.now b).blocks
+        → length b ≡ after_size (length b) wanted offset (length piece.now) → length piece.now ≡ 0
+        → (S.seen store.new).told ≡ (S.seen store.old).told }
 {
-    let root = match root_of(alloc, store, p, entry, touches) {
-        Ok(root) => root,
-        Err(fault) => return Err(fault),
-    };
+    let root = root_of(alloc, store, p, entry, touches)?;
     let size = size_after(root.size, wanted, offset, piece.len() as u64);
     let top = height_of(p, root.size);
     let height = height_of(p, size);
-    let front = match front_of(alloc, store, p, top, height, root, touches) {
-        Ok(part) => part,
-        Err(fault) => return Err(fault),
-    };
-    let low = top.min(height);
-    match change(
-        alloc,
-        store,
-        p,
-        low,
+    let front = front_of(alloc, store, p, top, height, root, touches)?;
+    let layer = Layer {
+        p: *p,
+        top: top.min(height),
         height,
-        Some(front),
+    };
+    let target = Target {
+        old: Some(front),
         size,
         offset,
-        piece,
-        touches,
-    ) {
-        Ok(part) => Ok(part.entry),
-        Err(fault) => Err(fault),
-    }
+    };
+    let part = change(alloc, store, layer, target, piece, touches)?;
+    Ok(part.entry)
 }
 
 // How many bytes a file of `old` bytes has afterwards.

@@ -10,6 +10,7 @@ ghost use Rattle.uf_tree.specs.FilePlan.{leaf_held, leaf_part};
 ghost use Rattle.uf_tree.specs.declared.profile.Profile.{Profile};
 ghost use Rattle.uf_fileedit.specs.Bad.{IsBadEdited};
 ghost use Rattle.uf_fileedit.specs.Edits.{cut_to};
+ghost use Rattle.uf_fileedit.specs.Touches.{Climbs};
 ghost use Rattle.uf_fileedit.specs.Changes.{GivesPart, IsOld, IsOldPart, LiesWithin, overlaid, old_blocks};
 
 use std::alloc::Global;
@@ -46,6 +47,7 @@ pub fn change_leaf<S: Store, L: Ledger>(
     ensures cause { (p : Profile) → Answers S.X.block32 (IsBadEdited p) result (S.seen store.old) (S.seen store.new) }
     ensures good { KeepsGood S.X.block32 (S.seen store.old).told (S.seen store.new).told }
     ensures saves { SavesOnly S.X.block32 (S.seen store.old).told (S.seen store.new).told }
+    ensures rises { Climbs result touches.old touches.new }
     ensures touches { touches.new ≤ touches.old + 2 }
 {
     let bytes = match leaf_bytes(alloc, store, old, size, offset, piece, touches) {
@@ -105,6 +107,7 @@ fn leaf_bytes<S: Store, L: Ledger>(
         → IfErr result (IsLossOf (S.seen store.new).told (old_blocks S.X.block32 p 0 old b)) }
     ensures cause { (p : Profile) → Answers S.X.block32 (IsBadEdited p) result (S.seen store.old) (S.seen store.new) }
     ensures told { (S.seen store.new).told ≡ (S.seen store.old).told }
+    ensures rises { Climbs result touches.old touches.new }
     ensures touches { touches.new ≤ touches.old + 1 }
 {
     match old {

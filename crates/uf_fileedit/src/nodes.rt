@@ -12,7 +12,8 @@ ghost use Rattle.uf_tree.specs.FileSub.{blocks_over, span};
 ghost use Rattle.uf_tree.specs.Profiles.{is_profile};
 ghost use Rattle.uf_fileedit.specs.Bad.{IsBadEdited};
 ghost use Rattle.uf_fileedit.specs.Changes.{AreOld, IsBelow, IsOld, IsOldPart, old_blocks};
-ghost use Rattle.uf_fileedit.specs.Planned.{IsPlannedNode, SaysFileSize, role_at};
+ghost use Rattle.uf_fileedit.specs.Planned.{IsPlannedNode, SaysFileSize, are_planned as planned_of, role_at};
+ghost use Rattle.uf_fileedit.specs.Touches.{AreBelow, Climbs, old_size};
 
 use crate::layout::are_planned;
 use std::alloc::Global;
@@ -33,6 +34,8 @@ pub fn load_parts<S: Store, L: Ledger>(
 ) -> Result<Parts, StoreFault>
     requires profile { IsTrue (is_profile p.now) }
     ensures some { IfOk result (λ parts. 1 ≤ length parts) }
+    ensures planned { IfOk result (λ parts. IsTrue (planned_of (span p.now.chunk p.now.width height) height
+        part.now.size parts)) }
     ensures gives { (b : List ℕ) → IsOldPart S.X.block32 p.now (height + 1) part.now b
         → Agrees (S.seen store.old).told (blocks_over S.X.block32 p.now.chunk p.now.width (height + 1) b)
         → IfOk result (λ parts. AreOld S.X.block32 p.now (span p.now.chunk p.now.width height) height parts
@@ -102,6 +105,9 @@ pub fn parts_below<S: Store, L: Ledger>(
         → IfErr result (IsLossOf (S.seen store.old).told (old_blocks S.X.block32 p.now (min top (height + 1)) old b)) }
     ensures cause { Answers S.X.block32 (IsBadEdited p.now) result (S.seen store.old) (S.seen store.new) }
     ensures told { (S.seen store.new).told ≡ (S.seen store.old).told }
+    ensures below { old_size old ≤ span p.now.chunk p.now.width (min top (height + 1))
+        → IfOk result (AreBelow (span p.now.chunk p.now.width height) old) }
+    ensures rises { Climbs result touches.old touches.new }
     ensures touches { touches.new ≤ touches.old + 1 }
 {
     match old {

@@ -13,15 +13,16 @@ use uf_fileread::read_range;
 use uf_store::{MemStore, Steps};
 use uf_tree::{Entry, Profile};
 
-type Kept = MemStore<Sha256Hash>;
+pub type Kept = MemStore<Sha256Hash>;
 
 // Why a row of edits is wrong.
 #[derive(Drop)]
-enum Trouble {
+pub enum Trouble {
     Build(BuildFault),
     Memory,
     Entry,
     Bytes,
+    Touches,
 }
 
 impl From<BuildFault> for Trouble {
@@ -37,7 +38,7 @@ impl From<Memory> for Trouble {
 }
 
 // A profile of pieces and nodes of these sizes.
-fn profile(chunk: u32, width: u32) -> Profile
+pub fn profile(chunk: u32, width: u32) -> Profile
     ensures { IsTrue (is_profile result) }
 {
     Profile {
@@ -55,7 +56,7 @@ fn next(seed: u64) -> u64 {
 }
 
 // The entry of some bytes imported afresh.
-fn built<L: Ledger>(
+pub fn built<L: Ledger>(
     p: Profile,
     alloc: Global,
     store: &mut Kept,
@@ -78,7 +79,7 @@ fn byte_at(bytes: &[u8], place: usize) -> u8 {
 }
 
 // So many bytes of the model, with a piece laid over them.
-fn model(
+pub fn model(
     alloc: Global,
     bytes: &[u8],
     size: usize,
@@ -100,7 +101,7 @@ fn model(
 }
 
 // How many bytes the model has after a piece is written.
-fn size_with(size: usize, offset: usize, more: usize) -> usize {
+pub fn size_with(size: usize, offset: usize, more: usize) -> usize {
     if more == 0 {
         size
     } else {
@@ -109,7 +110,7 @@ fn size_with(size: usize, offset: usize, more: usize) -> usize {
 }
 
 // Whether a range of the file reads as that of the model.
-fn is_read<L: Ledger>(
+pub fn is_read<L: Ledger>(
     alloc: Global,
     store: &mut Kept,
     entry: &Entry,
@@ -156,7 +157,7 @@ fn edited<L: Ledger>(
 }
 
 // Whether an entry is that of these bytes imported afresh.
-fn is_built<L: Ledger>(
+pub fn is_built<L: Ledger>(
     p: &Profile,
     alloc: Global,
     entry: &Entry,
@@ -239,6 +240,7 @@ fn wrong<L: Ledger>(
         Err(Trouble::Memory) => 2,
         Err(Trouble::Entry) => 3,
         Err(Trouble::Bytes) => 4,
+        Err(Trouble::Touches) => 5,
     }
 }
 

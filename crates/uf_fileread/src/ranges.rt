@@ -70,6 +70,7 @@ pub fn read_range<S: Store, O: Sink, L: Ledger>(
     ensures touches { (p : Profile) (bytes : List ℕ) (height : ℕ) → IsFile S.X.block32 p bytes entry.now.cid height
         → Agrees (S.seen store.old).told (file_plan S.X.block32 p bytes).blocks
         → touches.new ≤ touches.old + length (blocks_read S.X.block32 p.chunk p.width height offset count bytes) }
+    ensures touched { touches.old < touches.new }
     ensures sends { SendsAtMost count (O.holds out.old) (O.holds out.new) result }
     ensures cause { ShowsRange S.X.block32 (IsBadInFile (S.seen store.old).told entry.now.cid) result
         (S.seen store.old) (S.seen store.new) (O.faults out.old) (O.faults out.new) }
@@ -100,6 +101,7 @@ fn send_part<S: Store, O: Sink, L: Ledger>(
         → ReadsPart (S.seen store.old).told (blocks_read S.X.block32 p.chunk p.width k reach.offset reach.count bytes)
         (range_of reach.offset reach.count bytes) (O.holds out.old) (O.holds out.new)
         (S.seen store.old).faults (S.seen store.new).faults touches.old touches.new result }
+    ensures touched { touches.old < touches.new }
     ensures sends { SendsAtMost reach.count (O.holds out.old) (O.holds out.new) result }
     ensures cause { ShowsRange S.X.block32 (IsBadBelow (S.seen store.old).told (22 - spot.rows) spot.declared spot.cid)
         result (S.seen store.old) (S.seen store.new) (O.faults out.old) (O.faults out.new) }
@@ -139,6 +141,7 @@ fn send_parts<S: Store, O: Sink, L: Ledger>(
         → ReadsPart (S.seen store.old).told (blocks_met (λ o n g. blocks_read S.X.block32 p.chunk p.width k o n g)
         reach.offset reach.count gs) (range_of reach.offset reach.count (joined gs)) (O.holds out.old) (O.holds out.new)
         (S.seen store.old).faults (S.seen store.new).faults touches.old touches.new result }
+    ensures touched { touches.old ≤ touches.new }
     ensures sends { SendsAtMost reach.count (O.holds out.old) (O.holds out.new) result }
     ensures cause { ShowsRange S.X.block32 (IsBadAmong (S.seen store.old).told (22 - rows) parts.now) result
         (S.seen store.old) (S.seen store.new) (O.faults out.old) (O.faults out.new) }
@@ -176,6 +179,7 @@ fn send_met<S: Store, O: Sink, L: Ledger>(
         p.width k reach.offset reach.count g else []) (range_of reach.offset reach.count g) (O.holds out.old)
         (O.holds out.new)
         (S.seen store.old).faults (S.seen store.new).faults touches.old touches.new result }
+    ensures touched { touches.old ≤ touches.new }
     ensures sends { SendsAtMost reach.count (O.holds out.old) (O.holds out.new) result }
     ensures cause { ShowsRange S.X.block32 (IsBadBelow (S.seen store.old).told (22 - rows) (Some part.now.size)
         part.now.entry.cid) result (S.seen store.old) (S.seen store.new) (O.faults out.old) (O.faults out.new) }
@@ -266,6 +270,7 @@ fn send_leaf<S: Store, O: Sink, L: Ledger>(
         → ReadsPart (S.seen store.old).told (leaf_held S.X.block32 bytes ∷ [])
         (range_of reach.offset reach.count bytes) (O.holds out.old) (O.holds out.new)
         (S.seen store.old).faults (S.seen store.new).faults touches.old touches.new result }
+    ensures touched { touches.old < touches.new }
     ensures sends { SendsAtMost reach.count (O.holds out.old) (O.holds out.new) result }
     ensures cause { (above : ℕ) → ShowsRange S.X.block32 (IsBadBelow (S.seen store.old).told above declared cid.now)
         result (S.seen store.old) (S.seen store.new) (O.faults out.old) (O.faults out.new) }

@@ -4,6 +4,8 @@ use Rattle.uf_store.specs.Keeping.{Agrees}
 use Rattle.uf_fileedit.specs.Bad.{IsBadEdited}
 use Rattle.uf_fileedit.specs.Changes.{overlaid, old_blocks}
 use Rattle.uf_fileedit.proofs.Steps.{leaf-saved, saved-lost, saved-shows}
+use Rattle.std.proofs.Common.{arith}
+use Rattle.uf_fileedit.proofs.Touching.{climbs-one}
 use Rattle.uf_fileedit.proofs.leaves.change_leaf.Goals as goal
 
 pub returns-clause-gives : goal.returns-clause-gives
@@ -18,3 +20,6 @@ returns-clause-lost g c = λ p b is before now stood clash.
 
 pub returns-clause-cause : goal.returns-clause-cause
 returns-clause-cause g c = λ p. saved-shows g.S.X.BlockHash.block32 (g.S.Store.seen c.args.store.now) (g.S.Store.seen c.leaf_bytes.new.store) (g.S.Store.seen c.save_leaf.new.store) (c.in-Ok.ensures.cause p) (IsBadEdited p) c.save_leaf.result c.save_leaf.ensures.cause
+
+pub returns-clause-rises : goal.returns-clause-rises
+returns-clause-rises g c = climbs-one c.save_leaf.result c.args.touches.now c.save_leaf.new.touches (let r = c.in-Ok.ensures.rises in let t = c.save_leaf.ensures.touches in omega arith)

@@ -3,6 +3,7 @@ use Rattle.uf_tree.specs.declared.nodes.Part.{Part}
 use Rattle.uf_fileedit.specs.Changes.{overlaid}
 use Rattle.uf_fileedit.proofs.Bytes.{changed-covered}
 use Rattle.uf_fileedit.proofs.Steps.{nothing-old, old-agrees, old-loss, old-part}
+use Rattle.uf_fileedit.proofs.Touching.{climbs-one}
 use Rattle.uf_fileedit.proofs.leaves.leaf_bytes.Goals as goal
 use Rattle.uf_fileedit.proofs.leaves.leaf_bytes.Goals.{in_default-via-in-Some+else-piece-size, in_default-via-in_default}
 
@@ -20,3 +21,6 @@ returns-in-Ok-clause-bytes g c = λ p b is before now. c.in-Ok.ensures.bytes ∙
   | in_default-via-in-Some+else-piece-size w ↦ changed-covered c.args.size [] b c.args.offset c.args.piece.now w.if-piece-size.false c.requires.within
   | in_default-via-in_default w ↦ ap (λ (l : List ℕ). overlaid c.args.size l c.args.offset c.args.piece.now) (sym (nothing-old g.S.X.BlockHash.block32 p (g.S.Store.seen c.args.store.now).told c.args.old b w.in_default.not-Some is))
 ]
+
+pub returns-in-Some-clause-rises : goal.returns-in-Some-clause-rises
+returns-in-Some-clause-rises g c = climbs-one c.over_block.result c.args.touches.now c.over_block.new.touches (let t = c.over_block.ensures.touches in omega arith)

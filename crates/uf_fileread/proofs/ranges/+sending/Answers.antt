@@ -64,6 +64,7 @@ send_parts-loop-part-init g t c = record {
   reads = λ p k gs over agrees. begins (g.S.Store.seen c.args.store.now).told _ c.args.reach.offset c.args.reach.count gs (g.O.Sink.holds c.args.out.now) c.args.touches.now;
   few = omega arith;
   appends = sends-none c.args.reach.count (g.O.Sink.holds c.args.out.now);
+  steps = omega arith;
   calm = StaysCalm-refl (g.S.Store.seen c.args.store.now);
   still = refl;
   told = refl;
@@ -90,6 +91,7 @@ send_parts-loop-part-preserved g t c = record {
       c.in_ok-sent.sent c.in_ok-sent.ensures.reads agrees (c.loop-part.invariant.reads p k gs over agrees));
   few = omega (arith, c.loop-part.invariant.few);
   appends = sends-more c.args.reach.count c.loop-part.rest c.in_ok-sent.sent _ _ _ c.loop-part.invariant.few c.loop-part.invariant.appends c.in_ok-sent.ensures.sends;
+  steps = omega (arith, c.loop-part.invariant.steps, c.in_ok-sent.ensures.touched);
   calm = StaysCalm-trans _ _ _ c.loop-part.invariant.calm c.in_ok-sent.ensures.cause.0;
   still = c.in_ok-sent.ensures.cause.1 ∙ c.loop-part.invariant.still;
   told = c.in_ok-sent.ensures.told ∙ c.loop-part.invariant.told;

@@ -26,6 +26,7 @@ invariant-send_parts-loop-part g l = record {
       → Progress (g.S.Store.seen l.initial.store).told (λ o n b. blocks_read g.S.X.BlockHash.block32 p.chunk p.width k o n b) l.reach.offset l.reach.count gs (drop l.part-index gs)
       l.place l.rest (g.O.Sink.holds l.initial.out) (g.O.Sink.holds l.out) l.initial.touches l.touches;
   few : l.rest ≤ l.reach.count;
+  steps : l.initial.touches ≤ l.touches;
   appends : AppendsCount (l.reach.count - l.rest) (g.O.Sink.holds l.initial.out) (g.O.Sink.holds l.out);
   calm : StaysCalm (g.S.Store.seen l.initial.store) (g.S.Store.seen l.store);
   still : g.O.Sink.faults l.out ≡ g.O.Sink.faults l.initial.out;
