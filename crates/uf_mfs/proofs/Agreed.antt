@@ -1,5 +1,5 @@
 -- Trees whose blocks the store agrees with, of which some may be lost.
-use Rattle.std.proofs.Common.{◌≡◌, ℕ, List, [], ◌∷◌, ◌++◌, refl, ap, sym, ◌∙◌, subst, true, Option, Some, None, map}
+use Rattle.std.proofs.Common.{◌≡◌, ℕ, List, [], ◌∷◌, refl, sym, ◌∙◌, subst, true, Some, None, map}
 use Rattle.std.specs.Prelude.{IsTrue}
 use Rattle.std.specs.List.{AllByRecursion}
 use Rattle.uf_cid.specs.Blocks.{Held}
@@ -47,7 +47,7 @@ module _ (X : List ℕ → List ℕ) (N : List ℕ → ℕ) (p : Profile) where
 
   -- ---- the members of a folder
 
-  abbrev Own : Tree → Type 0
+  abbrev pub Own : Tree → Type 0
   Own t = IsPlanOf X N p (entry X N p t) t
 
   all-plans : IsTrue (is_profile p) → (es : Entries) → first_refusal (plans X N p (pairs es)) ≡ None → are_trees es ≡ true → Each Own (pairs es)
@@ -57,7 +57,7 @@ module _ (X : List ℕ → List ℕ) (N : List ℕ → ℕ) (p : Profile) where
       let parts = both_true _ _ t in
       (record { profile = ok; tree = (both_true _ _ parts.0).1; planned = none-first _ _ n; is = refl }, all-plans ok es (none-second _ _ n) parts.1)
 
-  members-own : (e : Entry) (es : Entries) → IsPlanOf X N p e (Dir es) → Each Own (pairs es)
+  pub members-own : (e : Entry) (es : Entries) → IsPlanOf X N p e (Dir es) → Each Own (pairs es)
   unfolding is_tree
   members-own e es s = all-plans s.profile es (none-first _ _ (sym (refusal-is X N p es) ∙ s.planned)) (both_true _ _ s.tree).1
 

@@ -1,9 +1,8 @@
 -- What calls that read a tree answer.
-use Rattle.std.proofs.Common.{◌≡◌, ◌≢◌, ℕ, ◌<◌, ◌≤◌, ◌^◌, List, [], ◌∷◌, length, map, replicate, refl, ap, sym, ◌∙◌, subst, arith, true, Some, None, Result, Ok, Err, ◌⊎◌, inl, inr}
+use Rattle.std.proofs.Common.{◌≡◌, ◌≢◌, ℕ, ◌<◌, ◌≤◌, ◌^◌, List, [], ◌∷◌, length, map, replicate, refl, ap, sym, ◌∙◌, subst, arith, true, Some, None, Result, Ok, Err, ◌⊎◌, inl, inr, ◌+◌}
 use Rattle.std.specs.Prelude.{IfSome}
 use Rattle.uf_cid.specs.Blocks.{Held}
 use Rattle.uf_cid.specs.declared.cid.Cid.{Cid}
-use Rattle.uf_cid.specs.declared.cid.Codec.TheVariants.{Raw}
 use Rattle.uf_dagpb.specs.Reading.{Fails, node_reads}
 use Rattle.uf_dagpb.specs.declared.fault.PbFault.TheVariants as pb
 use Rattle.uf_dagpb.specs.declared.fault.PbFault.{PbFault}
@@ -23,8 +22,7 @@ use Rattle.uf_tree.specs.declared.nodes.Entry.{Entry}
 use Rattle.uf_tree.specs.declared.profile.Profile.{Profile}
 use Rattle.uf_tree.specs.DirPlan.{own_plan}
 use Rattle.uf_tree.specs.Nodes.{Named}
-use Rattle.uf_tree.specs.Roots.{IsFileRoot}
-use Rattle.uf_tree.specs.Tree.{Tree, File, Dir, Entries, pairs}
+use Rattle.uf_tree.specs.Tree.{Tree, Dir, Entries, pairs}
 use Rattle.uf_tree.specs.TreePlan.{entry, named_entries}
 use Rattle.uf_tree.specs.Validity.{IsHash}
 use Rattle.std.specs.declared.option.Option.{Option}
@@ -35,14 +33,8 @@ use Rattle.uf_dir.specs.Bad.{IsBadListed}
 use Rattle.uf_dir.specs.Bad as dirs
 use Rattle.uf_dir.proofs.Causes.{shard-off, way-off}
 use Rattle.uf_dir.specs.Planned.{IsPlanned}
-use Rattle.uf_mfs.specs.declared.fault.MfsFault.{MfsFault}
-use Rattle.uf_mfs.specs.declared.fault.MfsFault.TheVariants as fault
-use Rattle.uf_plain.specs.declared.rule.Refused.{Refused}
 use Rattle.uf_mfs.specs.declared.fault.Stop.{Stop}
-use Rattle.uf_mfs.specs.declared.fault.Stop.TheVariants as stop
-use Rattle.uf_mfs.specs.declared.thing.Thing.TheVariants.{File as FileAt}
-use Rattle.uf_mfs.specs.Answers.{Answers, Meets, Says, Tells, stop_of}
-use Rattle.uf_plain.specs.Rules.{rule_of}
+use Rattle.uf_mfs.specs.Answers.{stop_of}
 use Rattle.uf_mfs.specs.Bad.{IsBad}
 use Rattle.uf_mfs.specs.Steps.{stop_fault}
 use Rattle.uf_mfs.specs.Standing.{IsAgreed}
@@ -101,6 +93,12 @@ pub entries-says : (X : List ℕ → List ℕ) (N : List ℕ → ℕ) → IsHash
     → ((M : List ℕ → ℕ) (p : Profile) (l : List Named) → IsPlanned X M p e.cid l → Agrees told (own_plan X M p l).blocks → ReadsOver told (own_plan X M p l).blocks l r)
     → ReadsOver told (own_needs X N p (Dir es)) (named_entries X N p es) r
 entries-says X N hash fits told p e es r s reads = reads N p _ (planned-of X N p e es s.plan hash fits) (own-agrees X N p told e es s)
+
+-- and what listing it takes
+pub entries-touches : (X : List ℕ → List ℕ) (N : List ℕ → ℕ) → IsHash X → ((name : List ℕ) → N name < 2 ^ 64) → (told : Told) (p : Profile) (e : Entry) (es : Entries) (t0 t1 : ℕ) → IsAgreed X N told p e (Dir es)
+    → ((M : List ℕ → ℕ) (p : Profile) (l : List Named) → IsPlanned X M p e.cid l → Agrees told (own_plan X M p l).blocks → t1 ≤ t0 + (length (own_plan X M p l).blocks + 1))
+    → t1 ≤ t0 + (length (own_needs X N p (Dir es)) + 1)
+entries-touches X N hash fits told p e es t0 t1 s takes = takes N p _ (planned-of X N p e es s.plan hash fits) (own-agrees X N p told e es s)
 
 map-names : (X : List ℕ → List ℕ) (N : List ℕ → ℕ) (p : Profile) (l : List (List ℕ × Tree)) → map (λ (m : Named). m.0) (map (λ (e : List ℕ × Tree). (e.0, entry X N p e.1)) l) ≡ map (λ (m : List ℕ × Tree). m.0) l
 map-names X N p [] = refl

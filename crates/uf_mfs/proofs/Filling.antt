@@ -1,6 +1,7 @@
 -- Missing folders that are made along a path.
 use Rattle.std.proofs.Common.{◌≡◌, ◌≢◌, ℕ, ◌+◌, List, [], ◌∷◌, Bool, true, false, refl, ap, sym, subst, ◌∙◌, Option, Some, None, Result, Ok, Err}
 use Rattle.uf_edge.specs.Counts.{Stood}
+use Rattle.uf_cid.specs.Blocks.{Held}
 use Rattle.uf_store.specs.declared.store.Role.{Role}
 use Rattle.uf_store.specs.declared.store.StoreFault.{StoreFault}
 use Rattle.uf_store.specs.Contents.{Told}
@@ -10,17 +11,20 @@ use Rattle.uf_tree.specs.declared.profile.Profile.{Profile}
 use Rattle.uf_tree.specs.Tree.{Tree, File, Dir, Entries}
 use Rattle.uf_plain.specs.declared.rule.Refused.{Refused}
 use Rattle.uf_plain.specs.declared.rule.Refused.TheVariants as why
-use Rattle.uf_mfs.specs.declared.thing.Thing.{Thing}
-use Rattle.uf_mfs.specs.declared.thing.Thing.TheVariants.{File as FileAt, Folder as FolderAt}
-use Rattle.uf_store.specs.Calls.{Calm}
+use Rattle.uf_mfs.specs.declared.thing.Thing.TheVariants.{Folder as FolderAt}
 use Rattle.uf_store.specs.Calls.{OnlySaves}
-use Rattle.uf_plain.specs.Edits.{and_then, at, child, made_all, or_new, with_folder}
-use Rattle.uf_mfs.specs.Standing.{IsEntry, IsMember}
-use Rattle.uf_mfs.specs.Steps.{EditsFolder, FillsFolder, IsOpened, changed_below}
-use Rattle.uf_store.proofs.Calls.{calm-first, calm-then, shown-rises}
+use Rattle.uf_tree.specs.TreePlan.{blocks}
+use Rattle.uf_plain.specs.Edits.{and_then, at, child, or_new, with_folder}
+use Rattle.uf_plain.specs.Rules.{allowed, unless}
+use Rattle.uf_mfs.specs.Answers.{EditsAfter}
+use Rattle.uf_mfs.specs.Standing.{IsAgreed, IsAgreedMember}
+use Rattle.uf_mfs.specs.Steps.{EditsFolder, FillsFolder, IsFolderOver, IsOpened, changed_below}
+use Rattle.uf_store.proofs.Calls.{calm-then, shown-rises}
 use Rattle.uf_store.proofs.Calls.{stood-back, stood-front}
-use Rattle.uf_mfs.proofs.Hinge.{entry-later}
-use Rattle.uf_mfs.proofs.Moving.{same-root}
+use Rattle.uf_mfs.proofs.After.{after-kept, back-among, stays-some}
+use Rattle.uf_mfs.proofs.Agreed.{child-among}
+use Rattle.uf_mfs.proofs.Folders.{over-first}
+use Rattle.uf_mfs.proofs.Hinge.{are-good}
 use Rattle.uf_plain.proofs.Edited.{with-same}
 
 -- no folder below is new or was changed
@@ -49,56 +53,77 @@ at-under led name more es below h = by (child name es) refl h
 
 module _ (X : List ℕ → List ℕ) (N : List ℕ → ℕ) (p : Profile) where
   -- a name under which nothing was found is free
-  pub free : (told : Told) (o : Option Tree) → IsMember X N told p o None → o ≡ None
+  pub free : (told : Told) (o : Option Tree) → IsAgreedMember X N told p o None → o ≡ None
   free told None h = refl
   free told (Some t) h = absurd h
 
   pub opened-new : (told : Told) (o : Option Tree) (found : Entry × Bool) → o ≡ None → found.1 ≡ true → IsOpened X N told p o found
   opened-new told o found none is = subst (λ o. IsOpened X N told p o found) (sym none) is
 
-  pub opened-there : (told : Told) (o : Option Tree) (found : Entry × Bool) → found.1 ≡ false → IsMember X N told p o (Some (FolderAt found.0)) → IsOpened X N told p o found
+  pub opened-there : (told : Told) (o : Option Tree) (found : Entry × Bool) → found.1 ≡ false → IsAgreedMember X N told p o (Some (FolderAt found.0)) → IsOpened X N told p o found
   opened-there told None found is h = absurd h
   opened-there told (Some (File bytes)) found is h = absurd h
   opened-there told (Some (Dir fs)) found is h = (is, h)
 
-  old-folder : (told : Told) (o : Option Tree) (found : Entry × Bool) → found.1 ≡ false → IsOpened X N told p o found → (fs : Entries) × (o ≡ Some (Dir fs)) × IsEntry X N told p found.0 (Dir fs)
+  old-folder : (told : Told) (o : Option Tree) (found : Entry × Bool) → found.1 ≡ false → IsOpened X N told p o found → (fs : Entries) × (o ≡ Some (Dir fs)) × IsAgreed X N told p found.0 (Dir fs)
   old-folder told None found is h = absurd (let clash : true ≡ false = sym h ∙ is in cc)
   old-folder told (Some (File bytes)) found is h = absurd h
   old-folder told (Some (Dir fs)) found is h = (fs, refl, h.1)
+
+  -- an entry of a folder's plan, where the store agrees with its blocks
+  pub agreed-over : {a b : Seen} (folder : Entry) (es : Entries) → IsFolderOver X N p a b [] folder es → IsAgreed X N a.told p folder (Dir es)
+  agreed-over folder es o = record { plan = o.plan; agrees = o.stays.first }
+
+  pub agreed-beside : {a b : Seen} (more : List Held) (folder : Entry) (es : Entries) → IsFolderOver X N p a b more folder es → IsAgreed X N a.told p folder (Dir es)
+  agreed-beside {a} {b} more folder es o = record { plan = o.plan; agrees = (stays-some a.told b.told _ _ (back-among more (blocks X N p (Dir es))) o.stays).first }
+
+  -- the folder as it was
+  pub same-folder : {a b : Seen} {Bad : Role → List ℕ → Type 0} {fault : Option StoreFault} (folder : Entry) (es : Entries) (w : Result Entries Refused) → w ≡ Ok es → OnlySaves X Bad fault a b
+      → IsFolderOver X N p a b [] folder es → EditsAfter X N a.told b.told (blocks X N p (Dir es)) p (allowed X N p w) (Ok folder)
+  same-folder {a} {b} folder es w is saved o =
+      subst (λ w. EditsAfter X N a.told b.told (blocks X N p (Dir es)) p (allowed X N p w) (Ok folder)) (sym is)
+      (subst (λ o. EditsAfter X N a.told b.told (blocks X N p (Dir es)) p (unless es o) (Ok folder)) (sym o.plan.planned)
+      (record { plan = o.plan; after = after-kept X a.told b.told _ (are-good X N p (Dir es)) saved.good o.stays }))
 
   module _ {Bad Other : Role → List ℕ → Type 0} {a b c : Seen} where
     -- nothing is missing below: nothing was here
     pub filled-none : (k : ℕ) (folder : Entry) (name : List ℕ) (go : Entries → Result Entries Refused) (found : Entry × Bool) (filled : Option Entry)
         → changed_below found filled ≡ None → OnlySaves X Bad None a b
-        → ((es : Entries) → IsEntry X N a.told p folder (Dir es) → Calm a b → IsOpened X N b.told p (child name es) found)
-        → OnlySaves X Other None b c → FillsFolder X N p b c found.0 go (Ok filled)
-        → FillsFolder X N p a c folder (λ es. with_folder name es (and_then (or_new k (child name es)) go)) (Ok None)
-    filled-none k folder name go found filled none before opens after fills = λ es i calm.
+        → ((es : Entries) → IsAgreed X N a.told p folder (Dir es) → Stood a.faults b.faults → IsOpened X N b.told p (child name es) found)
+        → OnlySaves X Other None b c → FillsFolder X N b c p found.0 go (Ok filled)
+        → FillsFolder X N a c p folder (λ es. with_folder name es (and_then (or_new k (child name es)) go)) (Ok None)
+    filled-none k folder name go found filled none before opens after fills = λ es o.
         let was = unchanged found filled none in
-        let old = old-folder b.told (child name es) found was.0 (opens es i (calm-first before after calm)) in
-        let fills-none = subst (λ (o : Option Entry). FillsFolder X N p b c found.0 go (Ok o)) was.1 fills in
-        ap (λ (o : Option Tree). with_folder name es (and_then (or_new k o) go)) old.1 ∙ ap (with_folder name es) (fills-none old.0 old.2 (calm-then before calm))
-        ∙ ap (λ (es : Entries). Ok es) (with-same name (Dir old.0) es i.tree old.1)
+        let first = over-first X N p before after [] folder es o in
+        let old = old-folder b.told (child name es) found was.0 (opens es (agreed-over folder es first) first.calm.faults) in
+        let fills-none = subst (λ (o : Option Entry). FillsFolder X N b c p found.0 go (Ok o)) was.1 fills in
+        let below : IsFolderOver X N p b c [] found.0 old.0 = record {
+          plan = old.2.plan;
+          stays = record { first = old.2.agrees; last = (stays-some a.told c.told _ _ (λ P h. child-among X N p es name (Dir old.0) old.1 P h) o.stays).last };
+          calm = calm-then before o.calm;
+        } in
+        ap (λ (o : Option Tree). with_folder name es (and_then (or_new k o) go)) old.1 ∙ ap (with_folder name es) (fills-none old.0 below)
+        ∙ ap (λ (es : Entries). Ok es) (with-same name (Dir old.0) es o.plan.tree old.1)
 
   module _ {Bad : Role → List ℕ → Type 0} {a b : Seen} where
     -- the folder below that is put is what was filled
     pub filled-edits : (found : Entry × Bool) (filled : Option Entry) (below : Entry) (go : Entries → Result Entries Refused) → changed_below found filled ≡ Some below
-        → OnlySaves X Bad None a b → FillsFolder X N p a b found.0 go (Ok filled) → EditsFolder X N p a b found.0 go (Ok below)
-    filled-edits found (Some e) below go is saved fills = subst (λ (e : Entry). EditsFolder X N p a b found.0 go (Ok e)) (let same : e ≡ below = cc in same) fills
+        → OnlySaves X Bad None a b → FillsFolder X N a b p found.0 go (Ok filled) → EditsFolder X N p a b [] found.0 go (Ok below)
+    filled-edits found (Some e) below go is saved fills = subst (λ (e : Entry). EditsFolder X N p a b [] found.0 go (Ok e)) (let same : e ≡ below = cc in same) fills
     filled-edits found None below go is saved fills = by found.1 is
       where
-        by : (b' : Bool) → elim b' as (λ b. Option Entry) [ true ↦ Some found.0 | false ↦ None ] ≡ Some below → EditsFolder X N p a b found.0 go (Ok below)
-        by true is = subst (λ (e : Entry). EditsFolder X N p a b found.0 go (Ok e)) (let same : found.0 ≡ below = cc in same)
-            (λ es i calm. same-root X N p b.told found.0 es (go es) (fills es i calm) (entry-later X N p a.told b.told found.0 (Dir es) saved.good i))
+        by : (b' : Bool) → elim b' as (λ b. Option Entry) [ true ↦ Some found.0 | false ↦ None ] ≡ Some below → EditsFolder X N p a b [] found.0 go (Ok below)
+        by true is = subst (λ (e : Entry). EditsFolder X N p a b [] found.0 go (Ok e)) (let same : found.0 ≡ below = cc in same)
+            (λ es o. same-folder found.0 es (go es) (fills es o) saved o)
         by false is = absurd cc
 
 module _ (X : List ℕ → List ℕ) (N : List ℕ → ℕ) (p : Profile) {Bad Other : Role → List ℕ → Type 0} {a b c : Seen} where
   -- where each folder is there, what is known of the first is known of all
   pub there-under : {fault : Option StoreFault} {Q : Type 0} (led : ℕ) (name : List ℕ) (more : List (List ℕ)) (es below : Entries) (folder : Entry) (found : Entry × Bool)
-      → OnlySaves X Bad None a b → OnlySaves X Other fault b c → IsEntry X N a.told p folder (Dir es) → Stood a.faults c.faults → at led (name ∷ more) (Dir es) ≡ Ok (Dir below)
-      → (IsEntry X N a.told p folder (Dir es) → Stood a.faults b.faults → IsOpened X N b.told p (child name es) found)
-      → (IsEntry X N a.told p folder (Dir es) → Stood a.faults b.faults → child name es ≢ None → b.told ≡ a.told)
-      → ((fs : Entries) → IsEntry X N b.told p found.0 (Dir fs) → Stood b.faults c.faults → at (led + 1) more (Dir fs) ≡ Ok (Dir below) → (c.told ≡ b.told) × Q)
+      → OnlySaves X Bad None a b → OnlySaves X Other fault b c → IsAgreed X N a.told p folder (Dir es) → Stood a.faults c.faults → at led (name ∷ more) (Dir es) ≡ Ok (Dir below)
+      → (IsAgreed X N a.told p folder (Dir es) → Stood a.faults b.faults → IsOpened X N b.told p (child name es) found)
+      → (IsAgreed X N a.told p folder (Dir es) → Stood a.faults b.faults → child name es ≢ None → b.told ≡ a.told)
+      → ((fs : Entries) → IsAgreed X N b.told p found.0 (Dir fs) → Stood b.faults c.faults → at (led + 1) more (Dir fs) ≡ Ok (Dir below) → (c.told ≡ b.told) × Q)
       → (found.1 ≡ false) × (c.told ≡ a.told) × Q
   there-under {fault} led name more es below folder found before after i stood is opens same deeper =
       let rises = shown-rises X Other fault b c after.cause in
@@ -111,10 +136,10 @@ module _ (X : List ℕ → List ℕ) (N : List ℕ → ℕ) (p : Profile) {Bad O
   -- so nothing new is put
   pub there-not : {fault : Option StoreFault} (led : ℕ) (name : List ℕ) (more : List (List ℕ)) (es below : Entries) (folder : Entry) (found : Entry × Bool) (filled : Option Entry) (e : Entry)
       → changed_below found filled ≡ Some e
-      → OnlySaves X Bad None a b → OnlySaves X Other fault b c → IsEntry X N a.told p folder (Dir es) → Stood a.faults c.faults → at led (name ∷ more) (Dir es) ≡ Ok (Dir below)
-      → (IsEntry X N a.told p folder (Dir es) → Stood a.faults b.faults → IsOpened X N b.told p (child name es) found)
-      → (IsEntry X N a.told p folder (Dir es) → Stood a.faults b.faults → child name es ≢ None → b.told ≡ a.told)
-      → ((fs : Entries) → IsEntry X N b.told p found.0 (Dir fs) → Stood b.faults c.faults → at (led + 1) more (Dir fs) ≡ Ok (Dir below) → (c.told ≡ b.told) × (filled ≡ None)) → ⊥
+      → OnlySaves X Bad None a b → OnlySaves X Other fault b c → IsAgreed X N a.told p folder (Dir es) → Stood a.faults c.faults → at led (name ∷ more) (Dir es) ≡ Ok (Dir below)
+      → (IsAgreed X N a.told p folder (Dir es) → Stood a.faults b.faults → IsOpened X N b.told p (child name es) found)
+      → (IsAgreed X N a.told p folder (Dir es) → Stood a.faults b.faults → child name es ≢ None → b.told ≡ a.told)
+      → ((fs : Entries) → IsAgreed X N b.told p found.0 (Dir fs) → Stood b.faults c.faults → at (led + 1) more (Dir fs) ≡ Ok (Dir below) → (c.told ≡ b.told) × (filled ≡ None)) → ⊥
   there-not led name more es below folder found filled e some before after i stood is opens same deeper =
       let under = there-under led name more es below folder found before after i stood is opens same deeper in
       let none : changed_below found filled ≡ None = ap (changed_below found) under.2 ∙ ap (λ (b : Bool). elim b as (λ b. Option Entry) [ true ↦ Some found.0 | false ↦ None ]) under.0 in

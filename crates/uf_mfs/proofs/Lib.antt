@@ -1,3 +1,4 @@
+pub mod After
 pub mod Agreed
 pub mod Answering
 pub mod Judging
@@ -12,7 +13,10 @@ pub mod Membering
 pub mod Moving
 pub mod Needed
 pub mod Planning
+pub mod Ranges
 pub mod Removing
 pub mod Rooting
 pub mod Seeing
+pub mod Settling
 pub mod Starting
+pub mod Touching

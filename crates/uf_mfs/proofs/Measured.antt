@@ -1,5 +1,5 @@
 -- An entry by one load: what it is, and what its root block says of it.
-use Rattle.std.proofs.Common.{◌≡◌, ℕ, zero, suc, ◌<◌, ◌^◌, List, [], ◌∷◌, length, sum, refl, ap, sym, ◌∙◌, subst, arith, Option, Some, None, Result, Ok, Err}
+use Rattle.std.proofs.Common.{◌≡◌, ℕ, zero, suc, ◌<◌, ◌^◌, List, [], ◌∷◌, length, sum, refl, ap, sym, ◌∙◌, subst, arith, Some, None, Result, Ok, Err}
 use Rattle.std.specs.Prelude.{IsTrue}
 use Rattle.uf_cid.specs.Blocks.{Held}
 use Rattle.uf_cid.specs.declared.cid.Cid.{Cid}
@@ -32,11 +32,11 @@ use Rattle.uf_fileread.specs.Sizes.{IsNodeOf, IsSizeOf, links_of}
 use Rattle.uf_fileread.proofs.Rooted as rooted
 use Rattle.uf_dir.specs.declared.kind.Kind.{Kind}
 use Rattle.uf_dir.specs.declared.kind.Kind.TheVariants as kinds
-use Rattle.uf_dir.specs.Planned.{IsPlanned}
+use Rattle.uf_dir.specs.Planned.{IsPlanned, root_links}
 use Rattle.uf_plain.specs.Replies.{children}
 use Rattle.uf_mfs.specs.declared.thing.Thing.TheVariants.{File as FileAt, Folder as FolderAt}
 use Rattle.uf_plain.specs.Needs.{root_of}
-use Rattle.uf_mfs.specs.Standing.{IsAgreed, IsAgreedThing, file_size}
+use Rattle.uf_mfs.specs.Standing.{IsAgreed, IsAgreedThing}
 use Rattle.uf_mfs.proofs.Files as files
 use Rattle.uf_mfs.proofs.Holding.{agrees-among, finds-reads}
 use Rattle.uf_plain.proofs.Plans.{entry-is}
@@ -78,7 +78,7 @@ module _ (X : List ℕ → List ℕ) (N : List ℕ → ℕ) (hash : IsHash X) (p
 
   -- what an entry is, or that its root block is lost
   abbrev pub IsKind : Told → Entry → Tree → Result Kind StoreFault → Type 0
-  IsKind told e t (Ok kinds.Folder) = IsAgreedThing X N told p t (FolderAt e)
+  IsKind told e t (Ok (kinds.Folder links)) = IsAgreedThing X N told p t (FolderAt e)
   IsKind told e t (Ok (kinds.File size)) = IsAgreedThing X N told p t (FileAt e size)
   IsKind told e t (Err fault) = IsLossOf told (root_of X N p t) fault
 
@@ -98,15 +98,15 @@ module _ (X : List ℕ → List ℕ) (N : List ℕ → ℕ) (hash : IsHash X) (p
       root-loss X N hash told p e (File bytes) (files.root X N p e bytes s.plan) f s.plan (sym (rooted.root_cid X hash p bytes e.cid (files.root X N p e bytes s.plan) (files.is-file-root X N p e bytes s.plan)) ∙ ap (λ (e : Entry). e.cid) s.plan.is)
       (finds-reads {A = Kind} told (files.root X N p e bytes s.plan ∷ []) (kinds.File (record { length = length bytes; links = links_of p (files.is-file-root X N p e bytes s.plan).height bytes })) (Err f) h)
 
-  dir-kind : (told : Told) (e : Entry) (es : Entries) → IsAgreed X N told p e (Dir es) → (r : Result Kind StoreFault) → FindsOver told (dir_root X N p (named_entries X N p es) ∷ []) kinds.Folder r → IsKind told e (Dir es) r
+  dir-kind : (told : Told) (e : Entry) (es : Entries) → IsAgreed X N told p e (Dir es) → (r : Result Kind StoreFault) → FindsOver told (dir_root X N p (named_entries X N p es) ∷ []) (kinds.Folder (root_links X N p (named_entries X N p es))) r → IsKind told e (Dir es) r
   dir-kind told e es s (Ok k) h = subst (λ (k : Kind). IsKind told e (Dir es) (Ok k)) (sym h.0) s
   dir-kind told e es s (Err f) h =
-      root-loss X N hash told p e (Dir es) (dir_root X N p (named_entries X N p es)) f s.plan (dir-cid X N hash p (named_entries X N p es) ∙ ap (λ (e : Entry). e.cid) (sym (entry-is X N p es))) (finds-reads {A = Kind} told (dir_root X N p (named_entries X N p es) ∷ []) kinds.Folder (Err f) h)
+      root-loss X N hash told p e (Dir es) (dir_root X N p (named_entries X N p es)) f s.plan (dir-cid X N hash p (named_entries X N p es) ∙ ap (λ (e : Entry). e.cid) (sym (entry-is X N p es))) (finds-reads {A = Kind} told (dir_root X N p (named_entries X N p es) ∷ []) (kinds.Folder (root_links X N p (named_entries X N p es))) (Err f) h)
 
   -- what the directory layer says of an entry
   pub kind-says : ((name : List ℕ) → N name < 2 ^ 64) → (told : Told) (e : Entry) (t : Tree) (r : Result Kind StoreFault) → IsAgreed X N told p e t
       → (e.cid.codec ≡ Raw → r ≡ Ok (kinds.File (record { length = e.tsize; links = 0 })))
-      → ((M : List ℕ → ℕ) (p : Profile) (l : List Named) → IsPlanned X M p e.cid l → Agrees told (dir_root X M p l ∷ []) → FindsOver told (dir_root X M p l ∷ []) kinds.Folder r)
+      → ((M : List ℕ → ℕ) (p : Profile) (l : List Named) → IsPlanned X M p e.cid l → Agrees told (dir_root X M p l ∷ []) → FindsOver told (dir_root X M p l ∷ []) (kinds.Folder (root_links X M p l)) r)
       → ((p : Profile) (bytes : List ℕ) (root : Held) (is : IsFileRoot X p bytes e.cid root) → e.cid.codec ≡ DagPb → Agrees told (root ∷ [])
       → FindsOver told (root ∷ []) (kinds.File (record { length = length bytes; links = links_of p is.height bytes })) r)
       → IsKind told e t r

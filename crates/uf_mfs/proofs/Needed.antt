@@ -1,5 +1,5 @@
 -- What calls need of a tree is among the blocks of its plan, and what is lost of one need is lost of another.
-use Rattle.std.proofs.Common.{◌≡◌, ℕ, ◌+◌, List, [], ◌∷◌, ◌++◌, refl, ap, sym, ◌∙◌, subst, Bool, true, false, cond, inl, inr, Option, Some, None, Result, Ok, Err}
+use Rattle.std.proofs.Common.{◌≡◌, ℕ, ◌+◌, List, [], ◌∷◌, ◌++◌, refl, ap, sym, ◌∙◌, subst, true, false, cond, inl, inr, Option, Some, None, Result, Ok, Err}
 use Rattle.std.specs.List.{AllByRecursion, flat_map}
 use Rattle.uf_cid.specs.Blocks.{Held, Lookup}
 use Rattle.uf_cid.specs.Cid.{cid_of}
@@ -10,7 +10,7 @@ use Rattle.uf_store.specs.Contents.{Told}
 use Rattle.uf_store.specs.Lost.{IsLossOf, IsLost, ReadsOver}
 use Rattle.uf_tree.specs.declared.nodes.Entry.{Entry}
 use Rattle.uf_tree.specs.declared.profile.Profile.{Profile}
-use Rattle.uf_tree.specs.DirPlan.{basic_dir, is_sharded, own_plan, trail}
+use Rattle.uf_tree.specs.DirPlan.{basic_dir, is_sharded, trail}
 use Rattle.uf_tree.specs.Nodes.{Named, dir_block}
 use Rattle.uf_tree.specs.Roots.{dir_root}
 use Rattle.uf_tree.specs.ShardPlan.{shard, shard_held, shard_items, shard_trail}

@@ -1,22 +1,27 @@
 -- Steps below a command: the store's fault in what they answer, and what an edit of a folder does.
-use Rattle.std.specs.Prelude.{◌≡◌, ℕ, List, Bool, true, false, ⊤}
+use Rattle.std.specs.Prelude.{◌≡◌, ℕ, List, [], ◌++◌, Bool, true, false}
 use Rattle.std.specs.declared.option.Option.{Option}
 use Rattle.std.specs.declared.option.Option.TheVariants.{None, Some}
 use Rattle.std.specs.declared.result.Result.{Result}
 use Rattle.std.specs.declared.result.Result.TheVariants.{Ok, Err}
+use Rattle.uf_cid.specs.Blocks.{Held}
 use Rattle.uf_store.specs.declared.store.StoreFault.{StoreFault}
+use Rattle.uf_store.specs.Calls.{Calm}
 use Rattle.uf_store.specs.Contents.{Told}
+use Rattle.uf_store.specs.Keeping.{StaysAgreed}
 use Rattle.uf_store.specs.Seen.{Seen}
 use Rattle.uf_tree.specs.declared.nodes.Entry.{Entry}
 use Rattle.uf_tree.specs.declared.profile.Profile.{Profile}
 use Rattle.uf_tree.specs.Tree.{Tree, File, Dir, Entries}
+use Rattle.uf_tree.specs.TreePlan.{blocks}
 use Rattle.uf_plain.specs.declared.rule.Refused.{Refused}
+use Rattle.uf_plain.specs.Rules.{allowed}
+use Rattle.uf_mfs.specs.declared.fault.MfsFault.{MfsFault}
 use Rattle.uf_mfs.specs.declared.fault.Stop.{Stop}
 use Rattle.uf_mfs.specs.declared.fault.Stop.TheVariants as stop
-use Rattle.uf_store.specs.Calls.{Calm}
-use Rattle.uf_mfs.specs.Answers.{Edits}
-use Rattle.uf_plain.specs.Rules.{allowed}
-use Rattle.uf_mfs.specs.Standing.{IsEntry}
+use Rattle.uf_mfs.specs.declared.mfs.Mfs.{Mfs}
+use Rattle.uf_mfs.specs.Answers.{EditsAfter, MovesAfter}
+use Rattle.uf_mfs.specs.Standing.{IsAgreed, IsPlanOf}
 
 -- the store's fault in the answer of a step
 abbrev pub stop_fault : {A : Type 0} → Result A Stop → Option StoreFault
@@ -24,20 +29,36 @@ stop_fault (Ok a) = None
 stop_fault (Err (stop.Refused why)) = None
 stop_fault (Err (stop.Store fault)) = Some fault
 
-module _ (X : List ℕ → List ℕ) (N : List ℕ → ℕ) (p : Profile) (before now : Seen) (folder : Entry) where
-  -- where the entry stands for a folder before, and the store stayed calm, this is answered of that folder
-  abbrev pub GivesFolder : (Entries → Result Entries Refused) → Result Entry Stop → Type 0
-  GivesFolder next result = (es : Entries) → IsEntry X N before.told p folder (Dir es) → Calm before now → Edits X N now.told p (next es) result
+module _ (X : List ℕ → List ℕ) (N : List ℕ → ℕ) (p : Profile) (before now : Seen) (more : List Held) where
+  -- the entry is that of the directory of these entries, the store agrees with its blocks and with these others before
+  -- and after, and it stayed calm
+  pub record IsFolderOver (folder : Entry) (es : Entries) : Type 0 where
+    pub plan : IsPlanOf X N p folder (Dir es)
+    pub stays : StaysAgreed before.told now.told (more ++ blocks X N p (Dir es))
+    pub calm : Calm before now
+
+  -- of such a folder this is answered
+  abbrev pub GivesFolder : Entry → (Entries → Result Entries Refused) → Result Entry Stop → Type 0
+  GivesFolder folder next result = (es : Entries) → IsFolderOver folder es
+      → EditsAfter X N before.told now.told (more ++ blocks X N p (Dir es)) p (next es) result
 
   -- the same of an edit, whose folder may have no plan
-  abbrev pub EditsFolder : (Entries → Result Entries Refused) → Result Entry Stop → Type 0
-  EditsFolder edit result = GivesFolder (λ es. allowed X N p (edit es)) result
+  abbrev pub EditsFolder : Entry → (Entries → Result Entries Refused) → Result Entry Stop → Type 0
+  EditsFolder folder edit result = GivesFolder folder (λ es. allowed X N p (edit es)) result
 
+module _ (X : List ℕ → List ℕ) (N : List ℕ → ℕ) (before now : Seen) where
   -- every missing folder along some names is made: with no entry each was there
-  abbrev pub FillsFolder : (Entries → Result Entries Refused) → Result (Option Entry) Stop → Type 0
-  FillsFolder fill (Ok None) = (es : Entries) → IsEntry X N before.told p folder (Dir es) → Calm before now → fill es ≡ Ok es
-  FillsFolder fill (Ok (Some entry)) = EditsFolder fill (Ok entry)
-  FillsFolder fill (Err given) = EditsFolder fill (Err given)
+  abbrev pub FillsFolder : Profile → Entry → (Entries → Result Entries Refused) → Result (Option Entry) Stop → Type 0
+  FillsFolder p folder fill (Ok None) = (es : Entries) → IsFolderOver X N p before now [] folder es → fill es ≡ Ok es
+  FillsFolder p folder fill (Ok (Some entry)) = EditsFolder X N p before now [] folder fill (Ok entry)
+  FillsFolder p folder fill (Err given) = EditsFolder X N p before now [] folder fill (Err given)
+
+  -- the tree in memory moves to the next one, or is refused, or one of the old tree's blocks or of these others is lost
+  abbrev pub MovesTree : List Held → (was is : Mfs) → List (List ℕ) → (Profile → Entries → Result Entries Refused)
+      → Result Unit MfsFault → Type 0
+  MovesTree more was is names next result = (p : Profile) (es : Entries) → was.profile ≡ p
+      → IsFolderOver X N p before now more was.root es
+      → MovesAfter X N before.told now.told (more ++ blocks X N p (Dir es)) p names is (next p es) result
 
 -- a folder that was there or is new, by its entry
 abbrev pub opened : Result (Entry × Bool) Stop → Result Entry Stop
@@ -48,7 +69,7 @@ opened (Err given) = Err given
 abbrev pub IsOpened : (List ℕ → List ℕ) → (List ℕ → ℕ) → Told → Profile → Option Tree → Entry × Bool → Type 0
 IsOpened X N told p None found = found.1 ≡ true
 IsOpened X N told p (Some (File bytes)) found = ⊥
-IsOpened X N told p (Some (Dir below)) found = (found.1 ≡ false) × IsEntry X N told p found.0 (Dir below)
+IsOpened X N told p (Some (Dir below)) found = (found.1 ≡ false) × IsAgreed X N told p found.0 (Dir below)
 
 -- the folder below, where it is new or was changed
 abbrev pub changed_below : Entry × Bool → Option Entry → Option Entry

@@ -1,5 +1,5 @@
 // Edits of the tree.
-ghost use Rattle.std.specs.Prelude.{◌≡◌, IfOk, IsTrue, None, OnErr, Ok, Some, false, true};
+ghost use Rattle.std.specs.Prelude.{◌≡◌, ◌+◌, ◌*◌, [], length, IfOk, IsTrue, None, OnErr, Ok, Some, false, true};
 ghost use Rattle.uf_cid.specs.declared.cid.Codec.TheVariants.{DagPb};
 ghost use Rattle.uf_edge.specs.Counts.{Stood};
 ghost use Rattle.uf_store.specs.Keeping.{KeepsGood};
@@ -11,10 +11,12 @@ ghost use Rattle.uf_mfs.specs.Answers.{Moves, MovesTo, Settles, ShownInTree};
 ghost use Rattle.uf_mfs.specs.Bad.{IsBad};
 ghost use Rattle.uf_store.specs.Calls.{OnlySaves};
 ghost use Rattle.uf_plain.specs.Edits.{at, made, removed};
-ghost use Rattle.uf_mfs.specs.Standing.{IsEntry, IsMfs, StandsAt};
-ghost use Rattle.uf_mfs.specs.Steps.{EditsFolder, GivesFolder, stop_fault};
+ghost use Rattle.uf_plain.specs.Rules.{allowed};
+ghost use Rattle.uf_mfs.specs.Standing.{IsAgreed, IsMfs, StandsAt};
+ghost use Rattle.uf_mfs.specs.Steps.{EditsFolder, GivesFolder, MovesTree, stop_fault};
+ghost use Rattle.uf_mfs.specs.Touches.{TouchesFolder, crossings_of, touch_bound, weighing_at};
 
-use crate::editing::{edit, fill};
+use crate::editing::{Site, edit, fill};
 use crate::telling::fault_of;
 use crate::{Mfs, MfsFault, Stop};
 use std::alloc::Global;
@@ -42,6 +44,8 @@ impl Mfs {
             → Stood (S.seen store.old).clashes (S.seen store.new).clashes
             → Moves S.X.block32 N.name64 (S.seen store.new).told p path.now.names self.new
             (made parents path.now.names es) result }
+        ensures lost { MovesTree S.X.block32 N.name64 (S.seen store.old) (S.seen store.new) [] self.old self.new
+            path.now.names (λ p es. allowed S.X.block32 N.name64 p (made parents path.now.names es)) result }
         ensures there { (p : TheProfile) (es below : Entries)
             → StandsAt S.X.block32 N.name64 (S.seen store.old).told self.old p es
             → Stood (S.seen store.old).faults (S.seen store.new).faults
@@ -54,6 +58,10 @@ impl Mfs {
             (S.seen store.new) }
         ensures good { KeepsGood S.X.block32 (S.seen store.old).told (S.seen store.new).told }
         ensures saves { SavesOnly S.X.block32 (S.seen store.old).told (S.seen store.new).told }
+        ensures touches { (p : TheProfile) → self.old.profile ≡ p
+            → TouchesFolder S.X.block32 N.name64 p (S.seen store.old) (S.seen store.new) [] self.old.root
+            (λ es. touch_bound S.X.block32 N.name64 p path.now.names es (made parents path.now.names es))
+            touches.old touches.new }
     {
         let names = path.names.as_slice();
         let edited = made_root::<S, N, L>(
@@ -84,6 +92,8 @@ impl Mfs {
             → Stood (S.seen store.old).clashes (S.seen store.new).clashes
             → MovesTo S.X.block32 N.name64 (S.seen store.new).told p path.now.names self.new
             (removed recursive path.now.names es) result }
+        ensures lost { MovesTree S.X.block32 N.name64 (S.seen store.old) (S.seen store.new) [] self.old self.new
+            path.now.names (λ p es. removed recursive path.now.names es) result }
         ensures refused { OnErr result (self.new ≡ self.old) }
         ensures mfs { IsMfs self.new }
         ensures profile { self.new.profile ≡ self.old.profile }
@@ -91,6 +101,11 @@ impl Mfs {
             (S.seen store.new) }
         ensures good { KeepsGood S.X.block32 (S.seen store.old).told (S.seen store.new).told }
         ensures saves { SavesOnly S.X.block32 (S.seen store.old).told (S.seen store.new).told }
+        ensures touches { (p : TheProfile) → self.old.profile ≡ p
+            → TouchesFolder S.X.block32 N.name64 p (S.seen store.old) (S.seen store.new) [] self.old.root
+            (λ es. touch_bound S.X.block32 N.name64 p path.now.names es (removed recursive path.now.names es)
+            + weighing_at S.X.block32 N.name64 p path.now.names es)
+            touches.old touches.new }
     {
         let names = path.names.as_slice();
         let edited = removed_root::<S, N, L>(
@@ -139,24 +154,25 @@ fn removed_root<S: Store, N: NameHash, L: Ledger>(
     touches: &mut Steps<L>,
 ) -> Result<Entry, Stop>
     requires profile { IsTrue (is_profile profile.now) }
-    ensures edits { GivesFolder S.X.block32 N.name64 profile.now (S.seen store.old) (S.seen store.new) root.now
+    ensures edits { GivesFolder S.X.block32 N.name64 profile.now (S.seen store.old) (S.seen store.new) [] root.now
         (removed recursive names.now) result }
     ensures saves { OnlySaves S.X.block32 (IsBad N.name64 (Some profile.now)) (stop_fault result) (S.seen store.old)
         (S.seen store.new) }
+    ensures touches { TouchesFolder S.X.block32 N.name64 profile.now (S.seen store.old) (S.seen store.new) []
+        root.now (λ es. 40 * length names.now + crossings_of S.X.block32 N.name64 profile.now names.now es
+        (removed recursive names.now es)
+        + weighing_at S.X.block32 N.name64 profile.now names.now es) touches.old touches.new }
 {
     match names {
         [] => Err(Stop::Refused(Refused::RootRefused)),
-        [name, rest @ ..] => edit::<S, N, L>(
-            alloc,
-            store,
-            profile,
-            Change::Remove(recursive),
-            0,
-            name,
-            rest,
-            root,
-            touches,
-        ),
+        [name, rest @ ..] => {
+            let site = Site {
+                profile: *profile,
+                what: Change::Remove(recursive),
+                led: 0,
+            };
+            edit::<S, N, L>(alloc, store, site, name, rest, root, touches)
+        }
     }
 }
 
@@ -171,15 +187,18 @@ fn made_root<S: Store, N: NameHash, L: Ledger>(
     touches: &mut Steps<L>,
 ) -> Result<Entry, Stop>
     requires profile { IsTrue (is_profile profile.now) }
-    ensures edits { EditsFolder S.X.block32 N.name64 profile.now (S.seen store.old) (S.seen store.new) root.now
+    ensures edits { EditsFolder S.X.block32 N.name64 profile.now (S.seen store.old) (S.seen store.new) [] root.now
         (made parents names.now) result }
     ensures there { (es below : Entries)
-        → IsEntry S.X.block32 N.name64 (S.seen store.old).told profile.now root.now (Dir es)
+        → IsAgreed S.X.block32 N.name64 (S.seen store.old).told profile.now root.now (Dir es)
         → Stood (S.seen store.old).faults (S.seen store.new).faults
         → IsTrue parents → at 0 names.now (Dir es) ≡ Ok (Dir below)
         → ((S.seen store.new).told ≡ (S.seen store.old).told) × IfOk result (λ e. e ≡ root.now) }
     ensures saves { OnlySaves S.X.block32 (IsBad N.name64 (Some profile.now)) (stop_fault result) (S.seen store.old)
         (S.seen store.new) }
+    ensures touches { TouchesFolder S.X.block32 N.name64 profile.now (S.seen store.old) (S.seen store.new) []
+        root.now (λ es. 40 * length names.now + crossings_of S.X.block32 N.name64 profile.now names.now es
+        (made parents names.now es)) touches.old touches.new }
 {
     if parents {
         all_made::<S, N, L>(alloc, store, profile, root, names, touches)
@@ -198,24 +217,24 @@ fn one_made<S: Store, N: NameHash, L: Ledger>(
     touches: &mut Steps<L>,
 ) -> Result<Entry, Stop>
     requires profile { IsTrue (is_profile profile.now) }
-    ensures edits { EditsFolder S.X.block32 N.name64 profile.now (S.seen store.old) (S.seen store.new) root.now
+    ensures edits { EditsFolder S.X.block32 N.name64 profile.now (S.seen store.old) (S.seen store.new) [] root.now
         (made false names.now) result }
     ensures saves { OnlySaves S.X.block32 (IsBad N.name64 (Some profile.now)) (stop_fault result) (S.seen store.old)
         (S.seen store.new) }
+    ensures touches { TouchesFolder S.X.block32 N.name64 profile.now (S.seen store.old) (S.seen store.new) []
+        root.now (λ es. 40 * length names.now + crossings_of S.X.block32 N.name64 profile.now names.now es
+        (made false names.now es)) touches.old touches.new }
 {
     match names {
         [] => Err(Stop::Refused(Refused::Exists(0))),
-        [name, rest @ ..] => edit::<S, N, L>(
-            alloc,
-            store,
-            profile,
-            Change::Make,
-            0,
-            name,
-            rest,
-            root,
-            touches,
-        ),
+        [name, rest @ ..] => {
+            let site = Site {
+                profile: *profile,
+                what: Change::Make,
+                led: 0,
+            };
+            edit::<S, N, L>(alloc, store, site, name, rest, root, touches)
+        }
     }
 }
 
@@ -229,15 +248,18 @@ fn all_made<S: Store, N: NameHash, L: Ledger>(
     touches: &mut Steps<L>,
 ) -> Result<Entry, Stop>
     requires profile { IsTrue (is_profile profile.now) }
-    ensures edits { EditsFolder S.X.block32 N.name64 profile.now (S.seen store.old) (S.seen store.new) root.now
+    ensures edits { EditsFolder S.X.block32 N.name64 profile.now (S.seen store.old) (S.seen store.new) [] root.now
         (made true names.now) result }
     ensures there { (es below : Entries)
-        → IsEntry S.X.block32 N.name64 (S.seen store.old).told profile.now root.now (Dir es)
+        → IsAgreed S.X.block32 N.name64 (S.seen store.old).told profile.now root.now (Dir es)
         → Stood (S.seen store.old).faults (S.seen store.new).faults
         → at 0 names.now (Dir es) ≡ Ok (Dir below) → ((S.seen store.new).told ≡ (S.seen store.old).told)
         × IfOk result (λ e. e ≡ root.now) }
     ensures saves { OnlySaves S.X.block32 (IsBad N.name64 (Some profile.now)) (stop_fault result) (S.seen store.old)
         (S.seen store.new) }
+    ensures touches { TouchesFolder S.X.block32 N.name64 profile.now (S.seen store.old) (S.seen store.new) []
+        root.now (λ es. 40 * length names.now + crossings_of S.X.block32 N.name64 profile.now names.now es
+        (made true names.now es)) touches.old touches.new }
 {
     match fill::<S, N, L>(alloc, store, profile, 0, names, root, touches)? {
         None => Ok(*root),

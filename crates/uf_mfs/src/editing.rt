@@ -1,5 +1,6 @@
 // An edit along a path: each folder on it gets the new entry of the one below.
-ghost use Rattle.std.specs.Prelude.{◌≡◌, ◌≢◌, ◌+◌, ◌<◌, ◌^◌, List, ℕ, IfOk, IfSome, IsTrue, None, Ok, Some, length};
+ghost use Rattle.std.specs.Prelude.{◌≡◌, ◌≢◌, ◌+◌, ◌*◌, ◌++◌, ◌<◌, ◌≤◌, ◌^◌, List, [], ◌∷◌, ℕ, IfOk, IfSome};
+ghost use Rattle.std.specs.Prelude.{IsTrue, None, Ok, Some, length};
 ghost use Rattle.std.specs.declared.option.Option.{Option as TheOption};
 ghost use Rattle.uf_cid.specs.declared.cid.Codec.TheVariants.{DagPb};
 ghost use Rattle.uf_edge.specs.Counts.{Stood};
@@ -8,16 +9,18 @@ ghost use Rattle.uf_tree.specs.declared.profile.Profile.{Profile as TheProfile};
 ghost use Rattle.uf_tree.specs.Names.{is_name};
 ghost use Rattle.uf_tree.specs.Profiles.{is_profile};
 ghost use Rattle.uf_tree.specs.Tree.{Dir, Entries, Nothing, Tree};
-ghost use Rattle.uf_store.specs.Calls.{Calm};
-ghost use Rattle.uf_mfs.specs.Answers.{Decides, Edits};
+ghost use Rattle.uf_tree.specs.TreePlan.{blocks, named_entries};
+ghost use Rattle.uf_dir.specs.Bounds.{crossing, shard_count, weighing};
+ghost use Rattle.uf_mfs.specs.Answers.{Decides, EditsAfter};
 ghost use Rattle.uf_plain.specs.Rules.{allowed};
 ghost use Rattle.uf_mfs.specs.Bad.{IsBad};
 ghost use Rattle.uf_store.specs.Calls.{OnlySaves};
 ghost use Rattle.uf_plain.specs.Edits.{as_folder, as_free, as_removable, at, change, child, done, edited, made_all};
 ghost use Rattle.uf_plain.specs.Edits.{may_be, or_new, with_child, without_child};
-ghost use Rattle.uf_mfs.specs.Standing.{IsEntry, IsMeant, IsMember};
-ghost use Rattle.uf_mfs.specs.Steps.{EditsFolder, FillsFolder, GivesFolder, IsOpened, changed_below, opened};
-ghost use Rattle.uf_mfs.specs.Steps.{stop_fault};
+ghost use Rattle.uf_mfs.specs.Standing.{IsAgreed, IsAgreedMember, IsMeant, IsPlanOf, brought};
+ghost use Rattle.uf_mfs.specs.Steps.{EditsFolder, FillsFolder, GivesFolder, IsFolderOver, IsOpened, changed_below};
+ghost use Rattle.uf_mfs.specs.Steps.{opened, stop_fault};
+ghost use Rattle.uf_mfs.specs.Touches.{TouchesFolder, crossings_of, weighing_of};
 
 use crate::looking::member;
 use crate::{Stop, Thing};
@@ -29,58 +32,55 @@ use uf_plain::{Change, Refused};
 use uf_store::{Steps, Store};
 use uf_tree::{Entry, Name, Profile};
 
-/// Edits the folder that all names but the last lead to from this one, to which so many names led, and answers the entry of
-/// this folder then.
+/// An edit on its way: how blocks are made, what is done, and how many names led here.
+#[derive(Clone, Copy, Debug, PartialEq, Eq)]
+pub(crate) struct Site {
+    pub profile: Profile,
+    pub what: Change,
+    pub led: usize,
+}
+
+/// Edits the folder that all names but the last lead to from this one, and answers the entry of this folder then.
 pub(crate) fn edit<S: Store, N: NameHash, L: Ledger>(
     alloc: Global,
     store: &mut S,
-    profile: &Profile,
-    what: Change,
-    led: usize,
+    site: Site,
     name: &Name,
     rest: &[Name],
     folder: &Entry,
     touches: &mut Steps<L>,
 ) -> Result<Entry, Stop>
-    requires profile { IsTrue (is_profile profile.now) }
-    requires few { led + length rest.now + 1 < 2 ^ 64 }
-    ensures edits { (t : Tree) → IsMeant S.X.block32 N.name64 (S.seen store.old).told profile.now what t
-        → EditsFolder S.X.block32 N.name64 profile.now (S.seen store.old) (S.seen store.new) folder.now
-        (edited (change what t) led name.now rest.now) result }
-    ensures saves { OnlySaves S.X.block32 (IsBad N.name64 (Some profile.now)) (stop_fault result) (S.seen store.old)
+    requires profile { IsTrue (is_profile site.profile) }
+    requires few { site.led + length rest.now + 1 < 2 ^ 64 }
+    ensures edits { (t : Tree) → IsMeant S.X.block32 N.name64 site.profile site.what t
+        → EditsFolder S.X.block32 N.name64 site.profile (S.seen store.old) (S.seen store.new)
+        (brought S.X.block32 N.name64 site.profile site.what t) folder.now
+        (edited (change site.what t) site.led name.now rest.now) result }
+    ensures saves { OnlySaves S.X.block32 (IsBad N.name64 (Some site.profile)) (stop_fault result) (S.seen store.old)
         (S.seen store.new) }
+    ensures touches { (t : Tree) → IsMeant S.X.block32 N.name64 site.profile site.what t
+        → TouchesFolder S.X.block32 N.name64 site.profile (S.seen store.old) (S.seen store.new)
+        (brought S.X.block32 N.name64 site.profile site.what t) folder.now
+        (λ es. 40 * (length rest.now + 1) + crossings_of S.X.block32 N.name64 site.profile (name.now ∷ rest.now) es
+        (edited (change site.what t) site.led name.now rest.now es)
+        + weighing_of S.X.block32 N.name64 site.profile site.what (name.now ∷ rest.now) es) touches.old touches.new }
 {
     let found = member::<S, N, L>(alloc, store, folder, name, touches)?;
     let [next, more @ ..] = rest else {
-        return edit_here::<S, N, L>(
-            alloc,
-            store,
-            profile,
-            what,
-            led + 1,
-            name,
-            folder,
-            found,
-            touches,
-        );
+        return edit_here::<S, N, L>(alloc, store, site, name, folder, found, touches);
     };
-    let below = folder_of(led + 1, found)?;
-    let entry = edit::<S, N, L>(
-        alloc,
-        store,
-        profile,
-        what,
-        led + 1,
-        next,
-        more,
-        &below,
-        touches,
-    )?;
-    put_in::<S, N, L>(alloc, store, profile, folder, name, &entry, touches)
+    let below = folder_of(site.led + 1, found)?;
+    let under = Site {
+        profile: site.profile,
+        what: site.what,
+        led: site.led + 1,
+    };
+    let entry = edit::<S, N, L>(alloc, store, under, next, more, &below, touches)?;
+    put_in::<S, N, L>(alloc, store, &site.profile, folder, name, &entry, touches)
 }
 
-/// Makes each folder that is missing along the names from this folder, and answers the entry of this folder then, or none
-/// where each is there.
+/// Makes each folder that is missing along the names from this folder, and answers the entry of this folder then, or
+/// none where each is there.
 pub(crate) fn fill<S: Store, N: NameHash, L: Ledger>(
     alloc: Global,
     store: &mut S,
@@ -92,15 +92,18 @@ pub(crate) fn fill<S: Store, N: NameHash, L: Ledger>(
 ) -> Result<Option<Entry>, Stop>
     requires profile { IsTrue (is_profile profile.now) }
     requires few { led + length names.now < 2 ^ 64 }
-    ensures fills { FillsFolder S.X.block32 N.name64 profile.now (S.seen store.old) (S.seen store.new) folder.now
+    ensures fills { FillsFolder S.X.block32 N.name64 (S.seen store.old) (S.seen store.new) profile.now folder.now
         (made_all led names.now) result }
     ensures there { (es below : Entries)
-        → IsEntry S.X.block32 N.name64 (S.seen store.old).told profile.now folder.now (Dir es)
+        → IsAgreed S.X.block32 N.name64 (S.seen store.old).told profile.now folder.now (Dir es)
         → Stood (S.seen store.old).faults (S.seen store.new).faults
         → at led names.now (Dir es) ≡ Ok (Dir below) → ((S.seen store.new).told ≡ (S.seen store.old).told)
         × IfOk result (λ new. new ≡ None) }
     ensures saves { OnlySaves S.X.block32 (IsBad N.name64 (Some profile.now)) (stop_fault result) (S.seen store.old)
         (S.seen store.new) }
+    ensures touches { TouchesFolder S.X.block32 N.name64 profile.now (S.seen store.old) (S.seen store.new) []
+        folder.now (λ es. 40 * length names.now + crossings_of S.X.block32 N.name64 profile.now names.now es
+        (made_all led names.now es)) touches.old touches.new }
 {
     let [name, rest @ ..] = names else {
         return Ok(None);
@@ -134,18 +137,19 @@ fn open_or_make<S: Store, N: NameHash, L: Ledger>(
     touches: &mut Steps<L>,
 ) -> Result<(Entry, bool), Stop>
     ensures opens { (p : TheProfile)
-        → GivesFolder S.X.block32 N.name64 p (S.seen store.old) (S.seen store.new) folder.now
+        → GivesFolder S.X.block32 N.name64 p (S.seen store.old) (S.seen store.new) [] folder.now
         (λ es. or_new led (child name.now es)) (opened result) }
     ensures found { (p : TheProfile) (es : Entries)
-        → IsEntry S.X.block32 N.name64 (S.seen store.old).told p folder.now (Dir es)
+        → IsAgreed S.X.block32 N.name64 (S.seen store.old).told p folder.now (Dir es)
         → Stood (S.seen store.old).faults (S.seen store.new).faults
         → IfOk result (λ found. IsOpened S.X.block32 N.name64 (S.seen store.new).told p (child name.now es) found) }
     ensures there { (p : TheProfile) (es : Entries)
-        → IsEntry S.X.block32 N.name64 (S.seen store.old).told p folder.now (Dir es)
+        → IsAgreed S.X.block32 N.name64 (S.seen store.old).told p folder.now (Dir es)
         → Stood (S.seen store.old).faults (S.seen store.new).faults
         → child name.now es ≢ None → (S.seen store.new).told ≡ (S.seen store.old).told }
     ensures saves { OnlySaves S.X.block32 (IsBad N.name64 None) (stop_fault result) (S.seen store.old)
         (S.seen store.new) }
+    ensures touches { touches.new ≤ touches.old + 12 }
 {
     match member::<S, N, L>(alloc, store, folder, name, touches)? {
         None => {
@@ -160,8 +164,8 @@ fn open_or_make<S: Store, N: NameHash, L: Ledger>(
 // The entry of a member that has to be a folder.
 fn folder_of(led: usize, found: Option<Thing>) -> Result<Entry, Refused>
     ensures { (X : List ℕ → List ℕ) (N : List ℕ → ℕ) (told : Told) (p : TheProfile) (o : TheOption Tree)
-        → IsMember X N told p o found
-        → Decides (λ es e. IsEntry X N told p e (Dir es)) (as_folder led o) result }
+        → IsAgreedMember X N told p o found
+        → Decides (λ es e. IsAgreed X N told p e (Dir es)) (as_folder led o) result }
 {
     match found {
         None => Err(Refused::NotFound(led)),
@@ -174,26 +178,36 @@ fn folder_of(led: usize, found: Option<Thing>) -> Result<Entry, Refused>
 fn edit_here<S: Store, N: NameHash, L: Ledger>(
     alloc: Global,
     store: &mut S,
-    profile: &Profile,
-    what: Change,
-    led: usize,
+    site: Site,
     name: &Name,
     folder: &Entry,
     found: Option<Thing>,
     touches: &mut Steps<L>,
 ) -> Result<Entry, Stop>
-    requires profile { IsTrue (is_profile profile.now) }
-    ensures edits { (t : Tree) (es : Entries) → IsMeant S.X.block32 N.name64 (S.seen store.old).told profile.now what t
-        → IsEntry S.X.block32 N.name64 (S.seen store.old).told profile.now folder.now (Dir es)
-        → IsMember S.X.block32 N.name64 (S.seen store.old).told profile.now (child name.now es) found
-        → Calm (S.seen store.old) (S.seen store.new)
-        → Edits S.X.block32 N.name64 (S.seen store.new).told profile.now
-        (allowed S.X.block32 N.name64 profile.now (change what t led name.now es)) result }
-    ensures saves { OnlySaves S.X.block32 (IsBad N.name64 (Some profile.now)) (stop_fault result) (S.seen store.old)
+    requires profile { IsTrue (is_profile site.profile) }
+    requires few { site.led + 1 < 2 ^ 64 }
+    ensures edits { (t : Tree) (es : Entries) → IsMeant S.X.block32 N.name64 site.profile site.what t
+        → IsAgreedMember S.X.block32 N.name64 (S.seen store.old).told site.profile (child name.now es) found
+        → IsFolderOver S.X.block32 N.name64 site.profile (S.seen store.old) (S.seen store.new)
+        (brought S.X.block32 N.name64 site.profile site.what t) folder.now es
+        → EditsAfter S.X.block32 N.name64 (S.seen store.old).told (S.seen store.new).told
+        (brought S.X.block32 N.name64 site.profile site.what t ++ blocks S.X.block32 N.name64 site.profile (Dir es))
+        site.profile
+        (allowed S.X.block32 N.name64 site.profile (change site.what t (site.led + 1) name.now es)) result }
+    ensures saves { OnlySaves S.X.block32 (IsBad N.name64 (Some site.profile)) (stop_fault result) (S.seen store.old)
         (S.seen store.new) }
+    ensures touches { (t : Tree) (es : Entries) → IsMeant S.X.block32 N.name64 site.profile site.what t
+        → IsAgreedMember S.X.block32 N.name64 (S.seen store.old).told site.profile (child name.now es) found
+        → IsFolderOver S.X.block32 N.name64 site.profile (S.seen store.old) (S.seen store.new)
+        (brought S.X.block32 N.name64 site.profile site.what t) folder.now es
+        → touches.new ≤ touches.old + (19 + crossings_of S.X.block32 N.name64 site.profile (name.now ∷ []) es
+        (change site.what t (site.led + 1) name.now es)
+        + weighing_of S.X.block32 N.name64 site.profile site.what (name.now ∷ []) es) }
 {
-    may(what, led, found)?;
-    match what {
+    let led = site.led + 1;
+    let profile = &site.profile;
+    may(site.what, led, found)?;
+    match site.what {
         Change::Make => make_in::<S, N, L>(alloc, store, profile, folder, name, touches),
         Change::Put(new) => put_in::<S, N, L>(alloc, store, profile, folder, name, &new, touches),
         Change::Remove(_) => {
@@ -205,7 +219,7 @@ fn edit_here<S: Store, N: NameHash, L: Ledger>(
 // Whether an edit may be done, by what was found under its name.
 fn may(what: Change, led: usize, found: Option<Thing>) -> Result<(), Refused>
     ensures { (X : List ℕ → List ℕ) (N : List ℕ → ℕ) (told : Told) (p : TheProfile) (o : TheOption Tree)
-        → IsMember X N told p o found
+        → IsAgreedMember X N told p o found
         → Decides (λ a b. Unit {0}) (may_be what led o) result }
 {
     match what {
@@ -218,7 +232,7 @@ fn may(what: Change, led: usize, found: Option<Thing>) -> Result<(), Refused>
 // Whether a name is free.
 fn may_put(led: usize, found: Option<Thing>) -> Result<(), Refused>
     ensures { (X : List ℕ → List ℕ) (N : List ℕ → ℕ) (told : Told) (p : TheProfile) (o : TheOption Tree)
-        → IsMember X N told p o found
+        → IsAgreedMember X N told p o found
         → Decides (λ a b. Unit {0}) (as_free led o) result }
 {
     match found {
@@ -230,7 +244,7 @@ fn may_put(led: usize, found: Option<Thing>) -> Result<(), Refused>
 // Whether a member may be taken away.
 fn may_take(recursive: bool, led: usize, found: Option<Thing>) -> Result<(), Refused>
     ensures { (X : List ℕ → List ℕ) (N : List ℕ → ℕ) (told : Told) (p : TheProfile) (o : TheOption Tree)
-        → IsMember X N told p o found
+        → IsAgreedMember X N told p o found
         → Decides (λ a b. Unit {0}) (as_removable recursive led o) result }
 {
     match found {
@@ -256,10 +270,15 @@ fn make_in<S: Store, N: NameHash, L: Ledger>(
     touches: &mut Steps<L>,
 ) -> Result<Entry, Stop>
     requires profile { IsTrue (is_profile profile.now) }
-    ensures edits { EditsFolder S.X.block32 N.name64 profile.now (S.seen store.old) (S.seen store.new) folder.now
+    ensures edits { EditsFolder S.X.block32 N.name64 profile.now (S.seen store.old) (S.seen store.new) [] folder.now
         (λ es. Ok (with_child name.now (Dir Nothing) es)) result }
     ensures saves { OnlySaves S.X.block32 (IsBad N.name64 (Some profile.now)) (stop_fault result) (S.seen store.old)
         (S.seen store.new) }
+    ensures touches { TouchesFolder S.X.block32 N.name64 profile.now (S.seen store.old) (S.seen store.new) []
+        folder.now (λ es. 18 + crossing S.X.block32 N.name64 profile.now
+        (named_entries S.X.block32 N.name64 profile.now es)
+        (named_entries S.X.block32 N.name64 profile.now (with_child name.now (Dir Nothing) es)))
+        touches.old touches.new }
 {
     let new = empty(alloc, store, touches)?;
     put_in::<S, N, L>(alloc, store, profile, folder, name, &new, touches)
@@ -276,11 +295,16 @@ pub(crate) fn put_in<S: Store, N: NameHash, L: Ledger>(
     touches: &mut Steps<L>,
 ) -> Result<Entry, Stop>
     requires profile { IsTrue (is_profile profile.now) }
-    ensures edits { (t : Tree) → IsEntry S.X.block32 N.name64 (S.seen store.old).told profile.now entry.now t
-        → EditsFolder S.X.block32 N.name64 profile.now (S.seen store.old) (S.seen store.new) folder.now
-        (λ es. Ok (with_child name.now t es)) result }
+    ensures edits { (t : Tree) → IsPlanOf S.X.block32 N.name64 profile.now entry.now t
+        → EditsFolder S.X.block32 N.name64 profile.now (S.seen store.old) (S.seen store.new)
+        (blocks S.X.block32 N.name64 profile.now t) folder.now (λ es. Ok (with_child name.now t es)) result }
     ensures saves { OnlySaves S.X.block32 (IsBad N.name64 (Some profile.now)) (stop_fault result) (S.seen store.old)
         (S.seen store.new) }
+    ensures touches { (t : Tree) → IsPlanOf S.X.block32 N.name64 profile.now entry.now t
+        → TouchesFolder S.X.block32 N.name64 profile.now (S.seen store.old) (S.seen store.new)
+        (blocks S.X.block32 N.name64 profile.now t) folder.now
+        (λ es. 17 + crossing S.X.block32 N.name64 profile.now (named_entries S.X.block32 N.name64 profile.now es)
+        (named_entries S.X.block32 N.name64 profile.now (with_child name.now t es))) touches.old touches.new }
 {
     names_are_good(name);
     let new = put::<S, N, L>(alloc, store, profile, &folder.cid, name, entry, touches)?;
@@ -298,13 +322,18 @@ fn take_out<S: Store, N: NameHash, L: Ledger>(
     touches: &mut Steps<L>,
 ) -> Result<Entry, Stop>
     requires profile { IsTrue (is_profile profile.now) }
-    ensures edits { (es : Entries)
-        → IsEntry S.X.block32 N.name64 (S.seen store.old).told profile.now folder.now (Dir es)
-        → child name.now es ≢ None → Calm (S.seen store.old) (S.seen store.new)
-        → Edits S.X.block32 N.name64 (S.seen store.new).told profile.now
+    ensures edits { (es : Entries) → child name.now es ≢ None
+        → IsFolderOver S.X.block32 N.name64 profile.now (S.seen store.old) (S.seen store.new) [] folder.now es
+        → EditsAfter S.X.block32 N.name64 (S.seen store.old).told (S.seen store.new).told
+        (blocks S.X.block32 N.name64 profile.now (Dir es)) profile.now
         (allowed S.X.block32 N.name64 profile.now (Ok (without_child name.now es))) result }
     ensures saves { OnlySaves S.X.block32 (IsBad N.name64 (Some profile.now)) (stop_fault result) (S.seen store.old)
         (S.seen store.new) }
+    ensures touches { TouchesFolder S.X.block32 N.name64 profile.now (S.seen store.old) (S.seen store.new) []
+        folder.now (λ es. 18
+        + weighing profile.now (shard_count S.X.block32 N.name64 (named_entries S.X.block32 N.name64 profile.now es))
+        + crossing S.X.block32 N.name64 profile.now (named_entries S.X.block32 N.name64 profile.now es)
+        (named_entries S.X.block32 N.name64 profile.now (without_child name.now es))) touches.old touches.new }
 {
     let taken = remove::<S, N, L>(alloc, store, profile, &folder.cid, name, touches)?;
     match taken {

@@ -1,14 +1,6 @@
 // Why a call on the tree, or a step below it, gave up.
-use uf_plain::{Refused, Rule};
+use uf_plain::{Ready, Refused, Rule};
 use uf_store::StoreFault;
-
-/// Why a store isn't ready for a command: there is no Head, there is one already, or it isn't read.
-#[derive(Clone, Copy, Debug, PartialEq, Eq)]
-pub enum Ready {
-    NoHead,
-    HeadThere,
-    BadHead,
-}
 
 /// Why a call on the tree gave up.
 #[derive(Drop)]

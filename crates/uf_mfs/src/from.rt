@@ -5,10 +5,12 @@ ghost use Rattle.uf_mfs.specs.declared.fault.Stop.TheVariants as stop;
 ghost use Rattle.uf_store.specs.declared.store.StoreFault.TheVariants as faults;
 ghost use Rattle.uf_mfs.specs.Answers.{stop_of};
 ghost use Rattle.uf_mfs.specs.Opening.{IsHeadFault};
+ghost use Rattle.uf_mfs.specs.Reading.{IsRangeFault};
 
 use crate::{MfsFault, Ready, Stop};
 use uf_cid::Memory;
 use uf_dir::DirFault;
+use uf_fileread::RangeFault;
 use uf_plain::Refused;
 use uf_store::StoreFault;
 use uf_tree::HeadFault;
@@ -64,6 +66,17 @@ impl From<HeadFault> for MfsFault {
         match fault {
             HeadFault::Memory => MfsFault::Store(StoreFault::Memory),
             _ => MfsFault::Ready(Ready::BadHead),
+        }
+    }
+}
+
+impl From<RangeFault> for MfsFault {
+    ghost from_gives = { IsRangeFault };
+
+    fn from(fault: RangeFault) -> MfsFault {
+        match fault {
+            RangeFault::Sink => MfsFault::Sink,
+            RangeFault::Store(fault) => MfsFault::Store(fault),
         }
     }
 }

@@ -2,6 +2,7 @@
 #![tactic(auto)]
 
 mod changing;
+mod contents;
 mod editing;
 mod fault;
 mod from;
@@ -14,9 +15,10 @@ mod reading;
 mod telling;
 mod thing;
 
-pub use fault::{MfsFault, Ready, Stop};
+pub use fault::{MfsFault, Stop};
 pub use mfs::Mfs;
 pub use thing::Thing;
+pub use uf_plain::Ready;
 
 #[cfg(test)]
 mod tests;

@@ -1,5 +1,5 @@
 // The names and the rows of what a path leads to.
-ghost use Rattle.std.specs.Prelude.{◌≡◌, ◌<◌, IfOk, List, None, map, ℕ};
+ghost use Rattle.std.specs.Prelude.{◌≡◌, ◌<◌, ◌≤◌, ◌+◌, IfOk, List, None, length, map, ℕ};
 ghost use Rattle.uf_edge.specs.Counts.{Stood};
 ghost use Rattle.uf_tree.specs.declared.profile.Profile.{Profile};
 ghost use Rattle.uf_tree.specs.Nodes.{Named};
@@ -13,6 +13,7 @@ ghost use Rattle.std.specs.List.{flat_map};
 ghost use Rattle.uf_plain.specs.Needs.{own_needs, root_of, rows_need};
 ghost use Rattle.uf_store.specs.Lost.{ReadsOver};
 ghost use Rattle.uf_mfs.specs.Standing.{AreMembers, IsAgreed, IsAgreedThing};
+ghost use Rattle.uf_mfs.specs.Touches.{members_in};
 
 use crate::Thing;
 use crate::looking::thing_of;
@@ -38,6 +39,8 @@ pub(crate) fn names_of<S: Store, N: NameHash, L: Ledger>(
         → ReadsOver (S.seen store.old).told (own_needs S.X.block32 N.name64 p t) (names_at path.now t) result }
     ensures reads { OnlyReads S.X.block32 (IsBad N.name64 None) (fault_in result) (S.seen store.old)
         (S.seen store.new) }
+    ensures touches { (p : Profile) (t : Tree) → IsAgreedThing S.X.block32 N.name64 (S.seen store.old).told p t thing
+        → touches.new ≤ touches.old + (length (own_needs S.X.block32 N.name64 p t) + 1) }
 {
     match thing {
         Thing::File(_, _) => match own_name(alloc, path) {
@@ -73,6 +76,9 @@ fn names_in<S: Store, N: NameHash, L: Ledger>(
         (map (λ (m : List ℕ × Tree). m.0) (pairs_in es)) result }
     ensures reads { OnlyReads S.X.block32 (IsBad N.name64 None) (fault_in result) (S.seen store.old)
         (S.seen store.new) }
+    ensures touches { (p : Profile) (es : Entries)
+        → IsAgreed S.X.block32 N.name64 (S.seen store.old).told p folder.now (Dir es)
+        → touches.new ≤ touches.old + (length (own_needs S.X.block32 N.name64 p (Dir es)) + 1) }
 {
     let pairs = entries(alloc, store, &folder.cid, touches)?;
     match names_in_pairs(alloc, pairs.as_slice()) {
@@ -106,6 +112,9 @@ pub(crate) fn rows_of<S: Store, N: NameHash, L: Ledger>(
         (rows_at S.X.block32 N.name64 p path.now t) result }
     ensures reads { OnlyReads S.X.block32 (IsBad N.name64 None) (fault_in result) (S.seen store.old)
         (S.seen store.new) }
+    ensures touches { (p : Profile) (t : Tree) → IsAgreedThing S.X.block32 N.name64 (S.seen store.old).told p t thing
+        → Stood (S.seen store.old).faults (S.seen store.new).faults
+        → touches.new ≤ touches.old + (length (own_needs S.X.block32 N.name64 p t) + 1 + length (members_in t)) }
 {
     match thing {
         Thing::File(entry, size) => match own_row(alloc, path, entry.cid, size.length) {
@@ -143,6 +152,10 @@ fn rows_in<S: Store, N: NameHash, L: Ledger>(
         (map (λ (m : List ℕ × Tree). row_at S.X.block32 N.name64 p m.0 m.1) (pairs_in es)) result }
     ensures reads { OnlyReads S.X.block32 (IsBad N.name64 None) (fault_in result) (S.seen store.old)
         (S.seen store.new) }
+    ensures touches { (p : Profile) (es : Entries)
+        → IsAgreed S.X.block32 N.name64 (S.seen store.old).told p folder.now (Dir es)
+        → Stood (S.seen store.old).faults (S.seen store.new).faults
+        → touches.new ≤ touches.old + (length (own_needs S.X.block32 N.name64 p (Dir es)) + 1 + length (pairs_in es)) }
 {
     let pairs = entries(alloc, store, &folder.cid, touches)?;
     rows_from::<S, N, L>(alloc, store, pairs.as_slice(), touches)
@@ -162,6 +175,7 @@ fn rows_from<S: Store, N: NameHash, L: Ledger>(
         (map (λ (m : List ℕ × Tree). row_at S.X.block32 N.name64 p m.0 m.1) l) result }
     ensures reads { OnlyReads S.X.block32 (IsBad N.name64 None) (fault_in result) (S.seen store.old)
         (S.seen store.new) }
+    ensures touches { touches.new ≤ touches.old + length pairs.now }
 {
     let mut rows = Rows::new(alloc);
     for pair in pairs {
@@ -184,6 +198,7 @@ fn push_row<S: Store, N: NameHash, L: Ledger>(
         (row_at S.X.block32 N.name64 p pair.now.0 t) result }
     ensures reads { OnlyReads S.X.block32 (IsBad N.name64 None) (fault_in result) (S.seen store.old)
         (S.seen store.new) }
+    ensures touches { touches.new ≤ touches.old + 1 }
 {
     let row = row_of::<S, N, L>(alloc, store, pair, touches)?;
     match rows.push(row) {
@@ -205,6 +220,7 @@ fn row_of<S: Store, N: NameHash, L: Ledger>(
         (row_at S.X.block32 N.name64 p pair.now.0 t) result }
     ensures reads { OnlyReads S.X.block32 (IsBad N.name64 None) (fault_in result) (S.seen store.old)
         (S.seen store.new) }
+    ensures touches { touches.new ≤ touches.old + 1 }
 {
     let size = entry_size::<S, N, L>(alloc, store, &pair.entry, touches)?;
     match pair.name.copy() {
@@ -229,6 +245,7 @@ fn entry_size<S: Store, N: NameHash, L: Ledger>(
         → ReadsOver (S.seen store.old).told (root_of S.X.block32 N.name64 p t) (size_at t) result }
     ensures reads { OnlyReads S.X.block32 (IsBad N.name64 None) (fault_in result) (S.seen store.old)
         (S.seen store.new) }
+    ensures touches { touches.new ≤ touches.old + 1 }
 {
     match thing_of::<S, N, L>(alloc, store, entry, touches)? {
         Thing::File(_, size) => Ok(size.length),

@@ -1,14 +1,14 @@
 // What is at a path, looked up from its root.
-ghost use Rattle.std.specs.Prelude.{◌≡◌, ◌+◌, ◌<◌, ◌^◌, IfOk, IfSome, None, Ok, length};
+ghost use Rattle.std.specs.Prelude.{◌≡◌, ◌+◌, ◌*◌, ◌<◌, ◌≤◌, ◌^◌, IfOk, IfSome, None, Ok, length};
 ghost use Rattle.uf_edge.specs.Counts.{Stood};
 ghost use Rattle.uf_tree.specs.declared.profile.Profile.{Profile};
 ghost use Rattle.uf_tree.specs.Tree.{Dir, Entries, Tree};
-ghost use Rattle.uf_mfs.specs.Answers.{Meets, MeetsOr};
+ghost use Rattle.uf_mfs.specs.Answers.{MeetsOr};
 ghost use Rattle.uf_mfs.specs.Bad.{IsBad};
 ghost use Rattle.uf_store.specs.Calls.{OnlyReads};
 ghost use Rattle.uf_store.specs.Faults.{fault_in};
 ghost use Rattle.uf_plain.specs.Edits.{at, child};
-ghost use Rattle.uf_mfs.specs.Standing.{IsAgreed, IsAgreedMember, IsAgreedThing, IsEntry, IsMember, ReadsThing};
+ghost use Rattle.uf_mfs.specs.Standing.{IsAgreed, IsAgreedMember, IsAgreedThing, ReadsThing};
 ghost use Rattle.uf_plain.specs.Needs.{member_needs, way};
 ghost use Rattle.uf_store.specs.Lost.{IsLossOf};
 ghost use Rattle.uf_mfs.specs.Steps.{stop_fault};
@@ -40,6 +40,7 @@ pub(crate) fn look<S: Store, N: NameHash, L: Ledger>(
         result }
     ensures reads { OnlyReads S.X.block32 (IsBad N.name64 None) (stop_fault result) (S.seen store.old)
         (S.seen store.new) }
+    ensures touches { touches.new ≤ touches.old + 11 * length names.now }
 {
     match names {
         [] => Ok(Thing::Folder(*folder)),
@@ -66,11 +67,6 @@ pub(crate) fn member<S: Store, N: NameHash, L: Ledger>(
     touches: &mut Steps<L>,
 ) -> Result<Option<Thing>, Stop>
     ensures member { (p : Profile) (es : Entries)
-        → IsEntry S.X.block32 N.name64 (S.seen store.old).told p folder.now (Dir es)
-        → Stood (S.seen store.old).faults (S.seen store.new).faults
-        → Meets (λ t thing. IsMember S.X.block32 N.name64 (S.seen store.new).told p t thing) (Ok (child name.now es))
-        result }
-    ensures lost { (p : Profile) (es : Entries)
         → IsAgreed S.X.block32 N.name64 (S.seen store.old).told p folder.now (Dir es)
         → Stood (S.seen store.old).faults (S.seen store.new).faults
         → MeetsOr (IsLossOf (S.seen store.old).told (member_needs S.X.block32 N.name64 p name.now es))
@@ -78,6 +74,7 @@ pub(crate) fn member<S: Store, N: NameHash, L: Ledger>(
         result }
     ensures reads { OnlyReads S.X.block32 (IsBad N.name64 None) (stop_fault result) (S.seen store.old)
         (S.seen store.new) }
+    ensures touches { touches.new ≤ touches.old + 11 }
 {
     match find::<S, N, L>(alloc, store, &folder.cid, name, touches) {
         Err(fault) => Err(Stop::Store(fault)),
@@ -101,9 +98,10 @@ pub(crate) fn thing_of<S: Store, N: NameHash, L: Ledger>(
         → ReadsThing S.X.block32 N.name64 (S.seen store.old).told p t result }
     ensures reads { OnlyReads S.X.block32 (IsBad N.name64 None) (fault_in result) (S.seen store.old)
         (S.seen store.new) }
+    ensures touches { touches.new ≤ touches.old + 1 }
 {
     match kind_of(alloc, store, entry, touches)? {
-        Kind::Folder => Ok(Thing::Folder(*entry)),
+        Kind::Folder(_) => Ok(Thing::Folder(*entry)),
         Kind::File(size) => Ok(Thing::File(*entry, size)),
     }
 }

@@ -1,5 +1,5 @@
 // What is said of a file or a folder.
-ghost use Rattle.std.specs.Prelude.{◌≡◌, ◌≢◌, ◌⊎◌, List, None, ℕ};
+ghost use Rattle.std.specs.Prelude.{◌≡◌, ◌≢◌, ◌⊎◌, ◌≤◌, ◌+◌, List, None, ℕ};
 ghost use Rattle.uf_edge.specs.Counts.{Stood};
 ghost use Rattle.uf_dagpb.specs.declared.fault.PbFault.TheVariants as pb;
 ghost use Rattle.uf_store.specs.Calls.{OnlyReads};
@@ -37,6 +37,7 @@ pub(crate) fn stat_of<S: Store, N: NameHash, L: Ledger>(
         result }
     ensures reads { OnlyReads S.X.block32 (IsBad N.name64 None) (fault_in result) (S.seen store.old)
         (S.seen store.new) }
+    ensures touches { touches.new ≤ touches.old + 1 }
 {
     match thing {
         Thing::File(entry, size) => Ok(Stat {
@@ -73,6 +74,7 @@ fn links_at<S: Store, N: NameHash, L: Ledger>(
         (children_of S.X.block32 N.name64 p (Dir es)) result }
     ensures reads { OnlyReads S.X.block32 (IsBad N.name64 None) (fault_in result) (S.seen store.old)
         (S.seen store.new) }
+    ensures touches { touches.new ≤ touches.old + 1 }
 {
     need(store, &folder.cid, touches)?;
     match decode_lenient(alloc, store.block()) {

@@ -1,5 +1,5 @@
 // What the tree has at a path.
-ghost use Rattle.std.specs.Prelude.{◌≡◌, None};
+ghost use Rattle.std.specs.Prelude.{◌≡◌, ◌≤◌, ◌+◌, ◌*◌, None, length};
 ghost use Rattle.uf_edge.specs.Counts.{Stood};
 ghost use Rattle.uf_tree.specs.declared.profile.Profile.{Profile};
 ghost use Rattle.uf_tree.specs.Tree.{Dir, Entries};
@@ -10,6 +10,7 @@ ghost use Rattle.uf_plain.specs.Needs.{needs_at, own_needs, root_of, rows_need};
 ghost use Rattle.uf_store.specs.Lost.{IsLossOf};
 ghost use Rattle.uf_plain.specs.Replies.{names_at, rows_at, stat_of as stat_at};
 ghost use Rattle.uf_mfs.specs.Standing.{StandsAt, StandsOver};
+ghost use Rattle.uf_mfs.specs.Touches.{names_touches, read_bound, rows_touches};
 
 use crate::listing::{names_of, rows_of};
 use crate::looking::look;
@@ -47,6 +48,11 @@ impl Mfs {
             (at 0 path.now.names (Dir es)) result }
         ensures cause { ShownInTree S.X.block32 (IsBad N.name64 None) result (S.seen store.old) (S.seen store.new) }
         ensures told { (S.seen store.new).told ≡ (S.seen store.old).told }
+        ensures touches { (p : Profile) (es : Entries)
+            → StandsOver S.X.block32 N.name64 (S.seen store.old).told self.now p es
+            → Stood (S.seen store.old).faults (S.seen store.new).faults
+            → touches.new ≤ touches.old + read_bound
+            (rows_touches S.X.block32 N.name64 p) path.now.names (Dir es) }
     {
         let names = path.names.as_slice();
         match look::<S, N, L>(alloc, store, 0, names, &self.root, touches) {
@@ -79,6 +85,11 @@ impl Mfs {
             (λ t names. names ≡ names_at path.now.names t) path.now.names (at 0 path.now.names (Dir es)) result }
         ensures cause { ShownInTree S.X.block32 (IsBad N.name64 None) result (S.seen store.old) (S.seen store.new) }
         ensures told { (S.seen store.new).told ≡ (S.seen store.old).told }
+        ensures touches { (p : Profile) (es : Entries)
+            → StandsOver S.X.block32 N.name64 (S.seen store.old).told self.now p es
+            → Stood (S.seen store.old).faults (S.seen store.new).faults
+            → touches.new ≤ touches.old + read_bound
+            (names_touches S.X.block32 N.name64 p) path.now.names (Dir es) }
     {
         let names = path.names.as_slice();
         match look::<S, N, L>(alloc, store, 0, names, &self.root, touches) {
@@ -111,6 +122,7 @@ impl Mfs {
             (λ t stat. stat ≡ stat_at S.X.block32 N.name64 p t) path.now.names (at 0 path.now.names (Dir es)) result }
         ensures cause { ShownInTree S.X.block32 (IsBad N.name64 None) result (S.seen store.old) (S.seen store.new) }
         ensures told { (S.seen store.new).told ≡ (S.seen store.old).told }
+        ensures touches { touches.new ≤ touches.old + (11 * length path.now.names + 1) }
     {
         let names = path.names.as_slice();
         match look::<S, N, L>(alloc, store, 0, names, &self.root, touches) {

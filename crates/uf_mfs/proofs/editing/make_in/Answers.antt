@@ -1,19 +1,36 @@
-use Rattle.std.proofs.Common.{None}
+use Rattle.std.proofs.Common.{None, Ok, [], arith}
 use Rattle.uf_tree.specs.Tree.{Dir, Nothing}
+use Rattle.uf_tree.specs.TreePlan.{blocks}
+use Rattle.uf_plain.specs.Edits.{with_child}
+use Rattle.uf_plain.specs.Rules.{allowed}
 use Rattle.uf_store.specs.Faults.{NoneIsBad}
 use Rattle.uf_store.specs.Calls.{OnlySaves}
-use Rattle.uf_store.proofs.Calls.{calm-then, saves-saves}
-use Rattle.uf_mfs.proofs.Hinge.{entry-later}
-use Rattle.uf_mfs.proofs.Starting.{empty-told}
+use Rattle.uf_store.proofs.Calls.{saves-saves}
+use Rattle.uf_mfs.proofs.Folders.{beside, on-over, over-then}
+use Rattle.uf_mfs.proofs.Hinge.{are-good}
+use Rattle.uf_mfs.proofs.Starting.{empty-after}
 use Rattle.uf_mfs.proofs.editing.make_in.Goals as goal
 
 pub returns-clause-edits : goal.returns-clause-edits
-returns-clause-edits g c = λ es i calm.
-    let X = g.S.X.BlockHash.block32 in let N = g.N.NameHash.name64 in let p = c.args.profile.now in
+returns-clause-edits g c = λ es o.
+    let X = g.S.X.BlockHash.block32 in let N = g.N.NameHash.name64 in let p = c.args.profile.now in let folder = c.args.folder.now in
     let a = g.S.Store.seen c.args.store.now in let b = g.S.Store.seen c.empty.new.store in
     let made : OnlySaves X NoneIsBad None a b = record { cause = c.in_ok-new.ensures.cause; good = c.in_ok-new.ensures.good; saves = c.in_ok-new.ensures.saves } in
-    let new = empty-told X N p a.told b.told c.in_ok-new.new c.args.folder.now (Dir es) i made.saves (c.in_ok-new.ensures.entry N p) (c.in_ok-new.ensures.held N p) in
-    c.put_in.ensures.edits (Dir Nothing) new es (entry-later X N p a.told b.told c.args.folder.now (Dir es) made.good i) (calm-then made calm)
+    let new = empty-after X N p a.told b.told (blocks X N p (Dir es)) (blocks X N p (Dir es)) c.in_ok-new.new o.plan.profile o.stays.first made.saves (c.in_ok-new.ensures.entry N p) (c.in_ok-new.ensures.held N p) in
+    let came = beside X N p made c.put_in.ensures.saves [] (blocks X N p (Dir Nothing)) folder es tt o new.after in
+    on-over X N p made c.put_in.ensures.saves [] _ folder es (allowed X N p (Ok (with_child c.args.name.now (Dir Nothing) es))) c.put_in.result o came
+    (c.put_in.ensures.edits (Dir Nothing) new.plan es (over-then X N p made c.put_in.ensures.saves [] (blocks X N p (Dir Nothing)) folder folder es es (are-good X N p (Dir Nothing)) o.plan o came))
+
+pub returns-clause-touches : goal.returns-clause-touches
+returns-clause-touches g c = λ es o.
+    let X = g.S.X.BlockHash.block32 in let N = g.N.NameHash.name64 in let p = c.args.profile.now in let folder = c.args.folder.now in
+    let a = g.S.Store.seen c.args.store.now in let b = g.S.Store.seen c.empty.new.store in
+    let made : OnlySaves X NoneIsBad None a b = record { cause = c.in_ok-new.ensures.cause; good = c.in_ok-new.ensures.good; saves = c.in_ok-new.ensures.saves } in
+    let new = empty-after X N p a.told b.told (blocks X N p (Dir es)) (blocks X N p (Dir es)) c.in_ok-new.new o.plan.profile o.stays.first made.saves (c.in_ok-new.ensures.entry N p) (c.in_ok-new.ensures.held N p) in
+    let came = beside X N p made c.put_in.ensures.saves [] (blocks X N p (Dir Nothing)) folder es tt o new.after in
+    let r = c.put_in.ensures.touches (Dir Nothing) new.plan es (over-then X N p made c.put_in.ensures.saves [] (blocks X N p (Dir Nothing)) folder folder es es (are-good X N p (Dir Nothing)) o.plan o came) in
+    let first = c.in_ok-new.ensures.touches in
+    omega (arith, r, first)
 
 pub returns-clause-saves : goal.returns-clause-saves
 returns-clause-saves g c =

@@ -1,4 +1,4 @@
-use Rattle.std.proofs.Common.{None, subst, sym, ◌∙◌}
+use Rattle.std.proofs.Common.{arith, None, subst, sym, ◌∙◌}
 use Rattle.std.proofs.lemmas.Result.{err_from_is_err_and}
 use Rattle.uf_store.proofs.Causes.{StaysCalm-trans}
 use Rattle.uf_mfs.specs.Bad.{IsBad}
@@ -31,6 +31,7 @@ loop-pair-preserved g c =
           one-more X N p a.told c.args.pairs.now k c.loop-pair.pair-index c.pair-item.result c.loop-pair.rows c.push_row.new.rows h c.loop-pair-test.true c.pair-item.is (c.loop-pair.invariant.rows p k h front)
           (λ t s. c.in_ok-push_row.ensures.pushed p t (subst (λ told. IsAgreed X N told p c.pair-item.result.1 t) (sym c.loop-pair.invariant.told) s) back);
       calm = StaysCalm-trans _ _ _ c.loop-pair.invariant.calm c.in_ok-push_row.ensures.reads.cause;
+      touches = (let was = c.loop-pair.invariant.touches in let more = c.in_ok-push_row.ensures.touches in omega (arith, was, more));
       told = c.in_ok-push_row.ensures.reads.told ∙ c.loop-pair.invariant.told;
     }
 

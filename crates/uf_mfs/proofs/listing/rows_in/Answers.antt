@@ -1,5 +1,4 @@
-use Rattle.std.proofs.Common.{Err, None, Ok, subst, sym, ◌∙◌, List, ℕ}
-use Rattle.std.specs.Prelude.{map}
+use Rattle.std.proofs.Common.{arith, Err, None, Ok, subst, sym, ◌∙◌}
 use Rattle.std.proofs.lemmas.Result.{err_from_is_err_and}
 use Rattle.uf_store.specs.Lost.{ReadsOver}
 use Rattle.uf_store.specs.Faults.{fault_in}
@@ -9,9 +8,9 @@ use Rattle.uf_plain.specs.Needs.{own_needs}
 use Rattle.uf_mfs.specs.Bad.{IsBad}
 use Rattle.uf_mfs.specs.Standing.{AreMembers, IsAgreed}
 use Rattle.uf_mfs.proofs.Agreed.{folder-members}
-use Rattle.uf_mfs.proofs.Answering.{entries-says, listed-shows}
+use Rattle.uf_mfs.proofs.Answering.{entries-says, entries-touches, listed-shows}
 use Rattle.uf_mfs.proofs.Holding.{loss-front, reads-back}
-use Rattle.uf_mfs.proofs.Membering.{roots, rows}
+use Rattle.uf_mfs.proofs.Membering.{roots, rows, same-length}
 use Rattle.uf_mfs.proofs.listing.rows_in.Goals as goal
 
 pub returns-in_err-pairs-clause-rows : goal.returns-in_err-pairs-clause-rows
@@ -38,3 +37,20 @@ returns-clause-rows g c = λ p es s stood.
     reads-back a.told (own_needs X N p (Dir es)) (roots X N p (pairs es)) (rows X N p (pairs es)) c.rows_from.result
     (subst (λ told. ReadsOver told (roots X N p (pairs es)) (rows X N p (pairs es)) c.rows_from.result) c.in_ok-pairs.ensures.told
     (c.rows_from.ensures.rows p (pairs es) (subst (λ l. AreMembers X N b.told p l (pairs es)) (sym (c.as_slice.ensures ∙ is)) members) back))
+
+pub returns-in_err-pairs-clause-touches : goal.returns-in_err-pairs-clause-touches
+returns-in_err-pairs-clause-touches g c = λ p es s stood.
+    let r = entries-touches g.S.X.BlockHash.block32 g.N.NameHash.name64 (record { size = g.met.S.X.BlockHash.size; are_bytes = g.met.S.X.BlockHash.are_bytes }) g.met.N.NameHash.fits _ p c.args.folder.now es c.args.touches.now c.entries.new.touches s c.in_err-pairs.ensures.touches in
+    omega (arith, r)
+
+pub returns-clause-touches : goal.returns-clause-touches
+returns-clause-touches g c = λ p es s stood.
+    let X = g.S.X.BlockHash.block32 in let N = g.N.NameHash.name64 in
+    let a = g.S.Store.seen c.args.store.now in let b = g.S.Store.seen c.entries.new.store in let d = g.S.Store.seen c.rows_from.new.store in
+    let front = stood-front a.faults b.faults d.faults c.in_ok-pairs.ensures.cause.faults (shown-rises X (IsBad N None) (fault_in c.rows_from.result) b d c.rows_from.ensures.reads.cause).faults stood in
+    let is = entries-says X N (record { size = g.met.S.X.BlockHash.size; are_bytes = g.met.S.X.BlockHash.are_bytes }) g.met.N.NameHash.fits a.told p c.args.folder.now es (Ok c.in_ok-pairs.pairs) s (λ M p l i k. c.in_ok-pairs.ensures.value M p l i k front) in
+    let members = folder-members X N p b.told c.args.folder.now es (subst (λ told. IsAgreed X N told p c.args.folder.now (Dir es)) (sym c.in_ok-pairs.ensures.told) s) in
+    let long = same-length X N p b.told c.as_slice.result.now (pairs es) (subst (λ l. AreMembers X N b.told p l (pairs es)) (sym (c.as_slice.ensures ∙ is)) members) in
+    let r = entries-touches X N (record { size = g.met.S.X.BlockHash.size; are_bytes = g.met.S.X.BlockHash.are_bytes }) g.met.N.NameHash.fits a.told p c.args.folder.now es c.args.touches.now c.entries.new.touches s c.in_ok-pairs.ensures.touches in
+    let more = c.rows_from.ensures.touches in
+    omega (arith, long, r, more)

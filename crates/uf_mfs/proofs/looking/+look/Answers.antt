@@ -6,7 +6,6 @@ use Rattle.uf_plain.specs.Edits.{at, child}
 use Rattle.uf_plain.specs.Needs.{member_needs, way}
 use Rattle.uf_plain.specs.declared.rule.Refused.TheVariants as why
 use Rattle.uf_mfs.specs.declared.fault.Stop.TheVariants as stop
-use Rattle.uf_mfs.specs.declared.thing.Thing.TheVariants.{File as FileAt, Folder as FolderAt}
 use Rattle.uf_mfs.specs.Answers.{MeetsOr}
 use Rattle.uf_mfs.specs.Bad.{IsBad}
 use Rattle.uf_mfs.specs.Standing.{IsAgreed, IsAgreedMember, IsAgreedThing}
@@ -22,7 +21,7 @@ returns-in-Err-clause-looks g t c = λ p es s stood.
     let more = take (length c.args.names.now - 1) (drop 1 c.args.names.now) in
     let names : name ∷ more ≡ c.args.names.now = first-rest c.args.names.now name c.in-len1-up.len_at_least c.name-item.is in
     subst (λ l. MeetsOr (IsLossOf told (way X N p l (Dir es))) (λ t x. IsAgreedThing X N told p t x) (at c.args.led l (Dir es)) (Err c.in-Err.stop)) names
-    (look-err X N p (record { size = g.met.S.X.BlockHash.size; are_bytes = g.met.S.X.BlockHash.are_bytes }) told name more es (λ o x. IsAgreedMember X N told p o x) (λ t x. IsAgreedThing X N told p t x) (child name es) (at c.args.led (name ∷ more) (Dir es)) c.in-Err.stop (c.in-Err.ensures.lost p es s stood))
+    (look-err X N p (record { size = g.met.S.X.BlockHash.size; are_bytes = g.met.S.X.BlockHash.are_bytes }) told name more es (λ o x. IsAgreedMember X N told p o x) (λ t x. IsAgreedThing X N told p t x) (child name es) (at c.args.led (name ∷ more) (Dir es)) c.in-Err.stop (c.in-Err.ensures.member p es s stood))
 
 pub returns-in-len1-up-rest-clause-looks : goal.returns-in-len1-up-rest-clause-looks
 returns-in-len1-up-rest-clause-looks g t c = λ p es s stood.
@@ -30,7 +29,7 @@ returns-in-len1-up-rest-clause-looks g t c = λ p es s stood.
     let more = take (length c.args.names.now - 1) (drop 1 c.args.names.now) in
     let names : name ∷ more ≡ c.args.names.now = first-rest c.args.names.now name c.in-len1-up.len_at_least c.name-item.is in
     let found = subst (λ r. MeetsOr (IsLossOf told (member_needs X N p name es)) (λ o x. IsAgreedMember X N told p o x) (Ok (child name es)) r)
-    (c.in-Ok-Some-File.is ∙ ap Ok (c.in-Ok-Some-File.field-0-is ∙ ap Some c.in-Ok-Some-File.field-0-0-is)) (c.member.ensures.lost p es s stood) in
+    (c.in-Ok-Some-File.is ∙ ap Ok (c.in-Ok-Some-File.field-0-is ∙ ap Some c.in-Ok-Some-File.field-0-0-is)) (c.member.ensures.member p es s stood) in
     subst (λ l. MeetsOr (IsLossOf told (way X N p l (Dir es))) (λ t x. IsAgreedThing X N told p t x) (at c.args.led l (Dir es)) (Err (stop.Refused (why.NotADirectory (c.args.led + 1))))) names
     (look-past X N (IsLossOf told (way X N p (name ∷ more) (Dir es))) (λ t x. IsAgreedThing X N told p t x) told p c.args.led name more es c.in-Ok-Some-File.entry c.in-Ok-Some-File.size c.in-len1-up-rest.len_at_least found)
 
@@ -43,7 +42,7 @@ returns-in-Ok-Some-Folder-clause-looks g t c = λ p es s stood.
     let front = stood-front a.faults b.faults d.faults c.in-Ok-Some-Folder.ensures.reads.cause.faults (shown-rises X (IsBad N None) (stop_fault c.look.result) b d c.look.ensures.reads.cause).faults stood in
     let back = stood-back a.faults b.faults d.faults c.in-Ok-Some-Folder.ensures.reads.cause.faults stood in
     let found = subst (λ r. MeetsOr (IsLossOf told (member_needs X N p name es)) (λ o x. IsAgreedMember X N told p o x) (Ok (child name es)) r)
-    (c.in-Ok-Some-Folder.is ∙ ap Ok (c.in-Ok-Some-Folder.field-0-is ∙ ap Some c.in-Ok-Some-Folder.field-0-0-is)) (c.member.ensures.lost p es s front) in
+    (c.in-Ok-Some-Folder.is ∙ ap Ok (c.in-Ok-Some-Folder.field-0-is ∙ ap Some c.in-Ok-Some-Folder.field-0-0-is)) (c.member.ensures.member p es s front) in
     let below = look-below X N told p name es c.in-Ok-Some-Folder.entry found in
     let told_same = c.in-Ok-Some-Folder.ensures.reads.told in
     subst (λ l. MeetsOr (IsLossOf told (way X N p l (Dir es))) (λ t x. IsAgreedThing X N told p t x) (at c.args.led l (Dir es)) c.look.result) names

@@ -1,11 +1,11 @@
-use Rattle.std.proofs.Common.{Err, List, None, Ok, subst, sym, ℕ, ◌≡◌, ◌∙◌}
+use Rattle.std.proofs.Common.{Err, List, None, Ok, subst, sym, ℕ, ◌≡◌, ◌≤◌, ◌+◌}
 use Rattle.std.proofs.lemmas.Result.{err_from_is_err_and}
 use Rattle.uf_store.specs.Faults.{fault_in}
 use Rattle.uf_store.specs.Lost.{IsLossOf, ReadsOver}
 use Rattle.uf_store.proofs.Calls.{shown-rises, stood-back, stood-front}
-use Rattle.uf_tree.specs.Tree.{Dir, Tree}
+use Rattle.uf_tree.specs.Tree.{Dir}
 use Rattle.uf_plain.specs.Edits.{at}
-use Rattle.uf_plain.specs.Needs.{own_needs, needs_at}
+use Rattle.uf_plain.specs.Needs.{own_needs, needs_at, way}
 use Rattle.uf_plain.specs.Replies.{names_at}
 use Rattle.uf_mfs.specs.declared.fault.MfsFault.TheVariants as fault
 use Rattle.uf_mfs.specs.Answers.{AnswersOr}
@@ -13,6 +13,8 @@ use Rattle.uf_mfs.specs.Bad.{IsBad}
 use Rattle.uf_mfs.specs.Standing.{IsAgreedThing}
 use Rattle.uf_mfs.proofs.Agreed.{stands-over}
 use Rattle.uf_mfs.proofs.Needed.{answers-held, call-err, call-on, needs-held, own-needs-among}
+use Rattle.uf_mfs.specs.Touches.{names_touches, read_bound}
+use Rattle.uf_mfs.proofs.Touching.{look-touches, read-touches}
 use Rattle.uf_mfs.proofs.mfs.Mfs.names.Goals as goal
 
 pub returns-in-Err-clause-lost : goal.returns-in-Err-clause-lost
@@ -64,3 +66,29 @@ returns-in_ok-found-in-Ok-clause-answer g c = λ p es s stood.
     let names = c.args.path.now.names in
     answers-held told (needs_at X N p (own_needs X N p) names (Dir es)) (λ t found. found ≡ names_at names t) names (at 0 names (Dir es)) (Ok c.in_ok-found-in-Ok.found)
     (needs-held X N p told (own_needs X N p) (own-needs-among X N p) names c.args.self.now es s) (returns-in_ok-found-in-Ok-clause-lost g c p es (stands-over X N p told c.args.self.now es s) stood)
+
+pub returns-in-Err-clause-touches : goal.returns-in-Err-clause-touches
+returns-in-Err-clause-touches g c = λ p es s stood.
+    let X = g.S.X.BlockHash.block32 in let N = g.N.NameHash.name64 in
+    subst (λ (ns : List (List ℕ)). c.look.new.touches ≤ c.args.touches.now + read_bound (names_touches X N p) ns (Dir es)) c.as_slice-names.ensures
+    (look-touches (names_touches X N p) c.as_slice-names.result.now (Dir es) c.args.touches.now c.look.new.touches c.in-Err.ensures.touches)
+
+pub returns-in_err-found-in-Ok-clause-touches : goal.returns-in_err-found-in-Ok-clause-touches
+returns-in_err-found-in-Ok-clause-touches g c = λ p es s stood.
+    let X = g.S.X.BlockHash.block32 in let N = g.N.NameHash.name64 in let told = (g.S.Store.seen c.args.store.now).told in
+    let a = g.S.Store.seen c.args.store.now in let b = g.S.Store.seen c.look.new.store in let d = g.S.Store.seen c.names_of.new.store in
+    let front = stood-front a.faults b.faults d.faults c.in-Ok.ensures.reads.cause.faults (shown-rises X (IsBad N None) (fault_in c.names_of.result) b d c.names_of.ensures.reads.cause).faults stood in
+    let back = stood-back a.faults b.faults d.faults c.in-Ok.ensures.reads.cause.faults stood in
+    subst (λ (ns : List (List ℕ)). c.names_of.new.touches ≤ c.args.touches.now + read_bound (names_touches X N p) ns (Dir es)) c.as_slice-names.ensures
+    (read-touches (IsLossOf told (way X N p c.as_slice-names.result.now (Dir es))) (λ t x. IsAgreedThing X N told p t x) (names_touches X N p) c.as_slice-names.result.now (Dir es) c.in-Ok.thing c.args.touches.now c.look.new.touches c.names_of.new.touches
+    (c.in-Ok.ensures.looks p es s.root front) c.in-Ok.ensures.touches (λ found h. c.in_err-found-in-Ok.ensures.touches p found (subst (λ told. IsAgreedThing X N told p found c.in-Ok.thing) (sym c.in-Ok.ensures.reads.told) h)))
+
+pub returns-in_ok-found-in-Ok-clause-touches : goal.returns-in_ok-found-in-Ok-clause-touches
+returns-in_ok-found-in-Ok-clause-touches g c = λ p es s stood.
+    let X = g.S.X.BlockHash.block32 in let N = g.N.NameHash.name64 in let told = (g.S.Store.seen c.args.store.now).told in
+    let a = g.S.Store.seen c.args.store.now in let b = g.S.Store.seen c.look.new.store in let d = g.S.Store.seen c.names_of.new.store in
+    let front = stood-front a.faults b.faults d.faults c.in-Ok.ensures.reads.cause.faults (shown-rises X (IsBad N None) (fault_in c.names_of.result) b d c.names_of.ensures.reads.cause).faults stood in
+    let back = stood-back a.faults b.faults d.faults c.in-Ok.ensures.reads.cause.faults stood in
+    subst (λ (ns : List (List ℕ)). c.names_of.new.touches ≤ c.args.touches.now + read_bound (names_touches X N p) ns (Dir es)) c.as_slice-names.ensures
+    (read-touches (IsLossOf told (way X N p c.as_slice-names.result.now (Dir es))) (λ t x. IsAgreedThing X N told p t x) (names_touches X N p) c.as_slice-names.result.now (Dir es) c.in-Ok.thing c.args.touches.now c.look.new.touches c.names_of.new.touches
+    (c.in-Ok.ensures.looks p es s.root front) c.in-Ok.ensures.touches (λ found h. c.in_ok-found-in-Ok.ensures.touches p found (subst (λ told. IsAgreedThing X N told p found c.in-Ok.thing) (sym c.in-Ok.ensures.reads.told) h)))

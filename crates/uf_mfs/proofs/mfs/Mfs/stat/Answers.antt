@@ -1,9 +1,9 @@
-use Rattle.std.proofs.Common.{Err, List, None, Ok, subst, sym, ℕ, ◌≡◌, ◌∙◌}
+use Rattle.std.proofs.Common.{Err, List, None, Ok, subst, sym, ℕ, ◌≡◌}
 use Rattle.std.proofs.lemmas.Result.{err_from_is_err_and}
 use Rattle.uf_store.specs.Faults.{fault_in}
 use Rattle.uf_store.specs.Lost.{IsLossOf, ReadsOver}
 use Rattle.uf_store.proofs.Calls.{shown-rises, stood-back, stood-front}
-use Rattle.uf_tree.specs.Tree.{Dir, Tree}
+use Rattle.uf_tree.specs.Tree.{Dir}
 use Rattle.uf_plain.specs.Edits.{at}
 use Rattle.uf_plain.specs.Needs.{root_of, needs_at}
 use Rattle.uf_plain.specs.Replies.{stat_of}

@@ -1,0 +1,298 @@
+-- A file read from the tree: what a lookup meets, and the blocks that a range of it needs.
+use Rattle.std.proofs.Common.{◌≡◌, ℕ, zero, suc, ◌≤◌, ◌-◌, List, [], ◌∷◌, ◌++◌, length, take, drop, refl, ap, sym, ◌∙◌, subst, arith, append-nil, Bool, true, false, cond, inl, inr, Some, None, Result, Ok, Err}
+use Rattle.std.specs.Prelude.{IsTrue}
+use Rattle.std.specs.List.{AllByRecursion, flat_map}
+use Rattle.uf_cid.specs.Blocks.{Held}
+use Rattle.uf_cid.specs.Blocks.{Lookup}
+use Rattle.uf_cid.specs.declared.cid.Cid.{Cid}
+use Rattle.uf_edge.specs.Counts.{Stood}
+use Rattle.uf_edge.specs.Streams.{Told as SinkTold, AppendsPrefix, after}
+use Rattle.uf_fileread.specs.declared.fault.RangeFault.{RangeFault}
+use Rattle.uf_fileread.specs.declared.fault.RangeFault.TheVariants as ranges
+use Rattle.uf_fileread.specs.Bad.{IsBadInFile}
+use Rattle.uf_fileread.specs.Ranges.{IsFile, IsFirstLossOf, ShowsRange, WritesOver, blocks_met, blocks_read, meets, range_of}
+use Rattle.uf_store.specs.declared.store.Role.{Role}
+use Rattle.uf_store.specs.declared.store.StoreFault.{StoreFault}
+use Rattle.uf_store.specs.declared.store.StoreFault.TheVariants.{Failed, Damaged, Missing, BadBlock, Clash, Memory}
+use Rattle.uf_store.specs.Contents.{Told, held_at}
+use Rattle.uf_store.specs.Faults.{Shown, Shows, StaysCalm}
+use Rattle.uf_store.specs.Keeping.{Agrees}
+use Rattle.uf_store.specs.Lost.{IsFirstLost, IsLossOf, IsLost}
+use Rattle.uf_store.specs.Seen.{Seen}
+use Rattle.uf_store.proofs.Causes.{Shows-after, Shows-by, Shows-rises, calm-rises}
+use Rattle.uf_tree.specs.declared.nodes.Entry.{Entry}
+use Rattle.uf_tree.specs.declared.profile.Profile.{Profile}
+use Rattle.uf_tree.specs.FilePlan.{file_plan, groups}
+use Rattle.uf_tree.specs.FileSub.{IsHeight, IsRooted, blocks_over, span}
+use Rattle.uf_tree.specs.Tree.{Tree, File, Dir, Entries, fold}
+use Rattle.uf_tree.specs.TreePlan.{blocks, planned}
+use Rattle.uf_tree.specs.Profiles.{is_profile}
+use Rattle.uf_tree.proofs.Rows.{file_plan-rows, height-unique, plan-sub}
+use Rattle.uf_tree.proofs.Told.{kept}
+use Rattle.uf_plain.specs.declared.rule.Refused.{Refused}
+use Rattle.uf_plain.specs.declared.rule.Refused.TheVariants as why
+use Rattle.uf_plain.specs.Edits.{and_then, at}
+use Rattle.uf_plain.specs.Files.{as_plain_file, plain_bytes_at, read as range_at}
+use Rattle.uf_plain.specs.Needs.{needs_at, way}
+use Rattle.uf_plain.specs.Rules.{rule_of}
+use Rattle.uf_fileread.specs.declared.size.FileSize.{FileSize}
+use Rattle.uf_mfs.specs.declared.fault.MfsFault.{MfsFault}
+use Rattle.uf_mfs.specs.declared.fault.MfsFault.TheVariants as fault
+use Rattle.uf_mfs.specs.declared.fault.Stop.{Stop}
+use Rattle.uf_mfs.specs.declared.fault.Stop.TheVariants as stop
+use Rattle.uf_mfs.specs.declared.mfs.Mfs.{Mfs}
+use Rattle.uf_mfs.specs.declared.thing.Thing.TheVariants.{File as FileAt, Folder as FolderAt}
+use Rattle.uf_mfs.specs.Answers.{Answers, AnswersOr, MeetsOr, Tells}
+use Rattle.uf_mfs.specs.Bad.{IsBad}
+use Rattle.uf_mfs.specs.Reading.{IsBadRead, IsHeightOf, IsRangeFault, SendsAll, ShownSending, range_needs, to_read}
+use Rattle.uf_mfs.specs.Standing.{IsAgreed, IsAgreedThing, IsPlanOf, StandsAt}
+use Rattle.uf_mfs.specs.Steps.{stop_fault}
+use Rattle.uf_mfs.proofs.Files.{entry-is, is-file-root, rooted}
+use Rattle.uf_mfs.proofs.Holding.{append, back, front, loss-back, loss-front, tells-among}
+use Rattle.uf_mfs.proofs.After.{Among}
+use Rattle.uf_mfs.proofs.Needed.{answers-held, needs-among}
+
+-- ---- what a lookup meets has to be a file
+
+-- the fault of a step may come
+pub fault-of : {A B : Type 0} (May : StoreFault → Type 0) (P : A → B → Type 0) (w : Result A Refused) (f : StoreFault) → MeetsOr May P w (Err (stop.Store f)) → May f
+fault-of May P (Ok a) f h = h
+fault-of May P (Err why) f h = h
+
+-- and a fault that may come, whatever the plain tree gives
+pub may-meet : {A B : Type 0} (May : StoreFault → Type 0) (P : A → B → Type 0) (w : Result A Refused) (f : StoreFault) → May f → MeetsOr May P w (Err (stop.Store f))
+may-meet May P (Ok a) f h = h
+may-meet May P (Err why) f h = h
+
+may-answer : {A B : Type 0} (May : StoreFault → Type 0) (P : A → B → Type 0) (names : List (List ℕ)) (w : Result A Refused) (f : StoreFault) → May f → AnswersOr May P names w (Err (fault.Store f))
+may-answer May P names (Ok a) f h = h
+may-answer May P names (Err why) f h = h
+
+pub file-err : {B D : Type 0} (May : StoreFault → Type 0) (P : Tree → B → Type 0) (Q : List ℕ → D → Type 0) (w : Result Tree Refused) (k : ℕ) (s : Stop) → MeetsOr May P w (Err s)
+    → MeetsOr May Q (and_then w (as_plain_file k)) (Err s)
+file-err May P Q w k (stop.Store f) h = may-meet May Q (and_then w (as_plain_file k)) f (fault-of May P w f h)
+file-err May P Q (Ok t) k (stop.Refused given) h = absurd h
+file-err May P Q (Err why) k (stop.Refused given) h = h
+
+module _ (X : List ℕ → List ℕ) (N : List ℕ → ℕ) (told : Told) (p : Profile) (May : StoreFault → Type 0) where
+  pub file-found : (w : Result Tree Refused) (k : ℕ) (e : Entry) (size : FileSize) → MeetsOr May (λ t x. IsAgreedThing X N told p t x) w (Ok (FileAt e size))
+      → MeetsOr May (λ bytes e. IsAgreed X N told p e (File bytes)) (and_then w (as_plain_file k)) (Ok e)
+  file-found (Ok (File bytes)) k e size h = h.0
+  file-found (Ok (Dir es)) k e size h = absurd h
+  file-found (Err why) k e size h = absurd h
+
+  pub file-folder : {D : Type 0} (Q : List ℕ → D → Type 0) (w : Result Tree Refused) (k : ℕ) (e : Entry) → MeetsOr May (λ t x. IsAgreedThing X N told p t x) w (Ok (FolderAt e))
+      → MeetsOr May Q (and_then w (as_plain_file k)) (Err (stop.Refused (why.IsADirectory k)))
+  file-folder Q (Ok (File bytes)) k e h = absurd h
+  file-folder Q (Ok (Dir es)) k e h = refl
+  file-folder Q (Err why) k e h = absurd h
+
+-- ---- the blocks that a range needs
+
+-- those of a part are among all of it
+module _ (X : List ℕ → List ℕ) (c w : ℕ) (P : Held → Type 0) where
+  met-among : (b : Bool) (l : List Held) → AllByRecursion P l → AllByRecursion P (cond b l [])
+  met-among true l h = h
+  met-among false l h = tt
+
+  pub read-among : (k offset count : ℕ) (bytes : List ℕ) → AllByRecursion P (blocks_over X c w k bytes) → AllByRecursion P (blocks_read X c w k offset count bytes)
+  unfolding blocks_over blocks_read
+  read-among zero offset count bytes h = h
+  read-among (suc k) offset count bytes h = (h.0, mets (λ o n g j. read-among k o n g j) offset count (groups (span c w k) bytes) h.1)
+    where
+      front : (l m : List Held) → AllByRecursion P (l ++ m) → AllByRecursion P l × AllByRecursion P m
+      front [] m h = (tt, h)
+      front (b ∷ l) m h = ((h.0, (front l m h.1).0), (front l m h.1).1)
+
+      mets : ((o n : ℕ) (g : List ℕ) → AllByRecursion P (blocks_over X c w k g) → AllByRecursion P (blocks_read X c w k o n g)) → (o n : ℕ) (gs : List (List ℕ))
+          → AllByRecursion P (flat_map (blocks_over X c w k) gs) → AllByRecursion P (blocks_met (λ o n g. blocks_read X c w k o n g) o n gs)
+      mets rec o n [] h = tt
+      mets rec o n (g ∷ gs) h =
+          let parts = front (blocks_over X c w k g) (flat_map (blocks_over X c w k) gs) h in
+          append P (cond (meets o n g) (blocks_read X c w k o n g) []) (blocks_met (λ o n g. blocks_read X c w k o n g) (o - length g) (n - (length g - o)) gs)
+          (met-among (meets o n g) (blocks_read X c w k o n g) (rec o n g parts.0)) (mets rec (o - length g) (n - (length g - o)) gs parts.1)
+
+first-lost : (look : Lookup) (c : Cid) (l : List Held) → IsFirstLost look c l → IsLost look c l
+first-lost look c [] x = x
+first-lost look c (b ∷ l) (inl x) = inl x
+first-lost look c (b ∷ l) (inr x) = inr (first-lost look c l x.1)
+
+first-loss : (told : Told) (l : List Held) (f : StoreFault) → IsFirstLossOf told l f → IsLossOf told l f
+first-loss told l Failed h = h
+first-loss told l (Damaged c) h = h
+first-loss None l (Missing c) h = tt
+first-loss (Some t) l (Missing c) h = first-lost (held_at t) c l h
+first-loss told l (BadBlock c role) h = h
+first-loss told l (Clash c held bytes) h = h
+first-loss told l Memory h = tt
+
+-- ---- what the call answers
+
+after-none : (held : SinkTold) → held ≡ after held []
+after-none None = refl
+after-none (Some bytes) = ap (λ (l : List ℕ). Some l) (sym (append-nil bytes))
+
+-- nothing was written
+pub nothing-sent : (bytes : List ℕ) (held : SinkTold) → AppendsPrefix bytes held held
+nothing-sent bytes held = record { count = 0; fits = search arith; appended = after-none held }
+
+module _ (X : List ℕ → List ℕ) (N : List ℕ → ℕ) (p : Profile) (told : Told) (names : List (List ℕ)) (es : Entries) where
+  abbrev pub found : Result Tree Refused
+  found = at 0 names (Dir es)
+
+  abbrev pub w : Result (List ℕ) Refused
+  w = plain_bytes_at names es
+
+  -- a lookup that stopped stops the call
+  pub read-stopped : {B D : Type 0} (P : List ℕ → B → Type 0) (Q : List ℕ → D → Type 0) (more : Tree → List Held) (offset count : ℕ) (s : Stop) (f : MfsFault) → Tells names s f
+      → MeetsOr (IsLossOf told (way X N p names (Dir es))) P w (Err s) → AnswersOr (IsLossOf told (needs_at X N p more names (Dir es))) Q names (range_at offset count names es) (Err f)
+  read-stopped P Q more offset count s f tells h = by w (elim found as (λ w. List Held) [ Ok t ↦ more t | Err why ↦ [] ]) s f tells h
+    where
+      by : (w : Result (List ℕ) Refused) (k : List Held) (s : Stop) (f : MfsFault) → Tells names s f → MeetsOr (IsLossOf told (way X N p names (Dir es))) P w (Err s)
+          → AnswersOr (IsLossOf told (way X N p names (Dir es) ++ k)) Q names (and_then w (λ bytes. Ok (take count (drop offset bytes)))) (Err f)
+      by (Ok a) k (stop.Refused given) f tells h = absurd h
+      by (Err why) k (stop.Refused given) (fault.Rule rule) tells h = tells ∙ ap (rule_of names) h
+      by (Err why) k (stop.Refused given) (fault.Ready ready) tells h = absurd tells
+      by (Err why) k (stop.Refused given) fault.Sink tells h = absurd tells
+      by (Err why) k (stop.Refused given) (fault.Store f) tells h = subst (IsLossOf told (way X N p names (Dir es) ++ k)) (sym tells) tt
+      by w k (stop.Store g) f tells h =
+          let go = and_then w (λ bytes. Ok (take count (drop offset bytes))) in
+          let May = IsLossOf told (way X N p names (Dir es) ++ k) in
+          subst (λ f. AnswersOr May Q names go (Err f)) (sym tells)
+          (may-answer May Q names go g (loss-front told (way X N p names (Dir es)) k g (fault-of (IsLossOf told (way X N p names (Dir es))) P w g h)))
+
+  -- a file of the height
+  pub is-file : (e : Entry) (bytes : List ℕ) (height : ℕ) → IsPlanOf X N p e (File bytes) → IsHeight p.chunk p.width (length bytes) height → IsFile X p bytes e.cid height
+  is-file e bytes height s tall =
+      let r = rooted X p bytes s.profile in
+      record {
+        profile = s.profile;
+        few = (is-file-root X N p e bytes s).few;
+        cid_is = ap (λ (e : Entry). e.cid) (s.is ∙ entry-is X N p e bytes s);
+        rooted = subst (IsRooted X p bytes (file_plan X p bytes)) (height-unique p.chunk p.width (length bytes) r.0 height r.1.least tall) r.1;
+      }
+
+  pub file-agrees : (e : Entry) (bytes : List ℕ) → IsAgreed X N told p e (File bytes) → Agrees told (file_plan X p bytes).blocks
+  unfolding planned fold
+  file-agrees e bytes s = s.agrees
+
+  -- the answer of a range of the file that was found
+  pub read-done : (height offset count n : ℕ) (held held_now : SinkTold) (e : Entry)
+      → MeetsOr (IsLossOf told (way X N p names (Dir es))) (λ bytes e. IsAgreed X N told p e (File bytes)) w (Ok e) → IsHeightOf p height w
+      → ((bytes : List ℕ) → IsFile X p bytes e.cid height → Agrees told (file_plan X p bytes).blocks → WritesOver told (blocks_read X p.chunk p.width height offset count bytes) (range_of offset count bytes) held held_now (Ok n))
+      → AnswersOr (IsLossOf told (needs_at X N p (range_needs X p height offset count) names (Dir es))) (λ bytes n. SendsAll held held_now bytes n) names (range_at offset count names es) (Ok n)
+  read-done height offset count n held held_now e h tall reads = by w h tall
+    where
+      by : (w : Result (List ℕ) Refused) → MeetsOr (IsLossOf told (way X N p names (Dir es))) (λ bytes e. IsAgreed X N told p e (File bytes)) w (Ok e) → IsHeightOf p height w
+          → AnswersOr (IsLossOf told (needs_at X N p (range_needs X p height offset count) names (Dir es))) (λ bytes n. SendsAll held held_now bytes n) names (and_then w (λ bytes. Ok (take count (drop offset bytes)))) (Ok n)
+      by (Err why) h tall = absurd h
+      by (Ok bytes) h tall = (let r = reads bytes (is-file e bytes height h.plan tall) (file-agrees e bytes h) in (r.0, r.2))
+
+  pub read-lost : (height offset count : ℕ) (held held_now : SinkTold) (e : Entry) (f : RangeFault) (given : MfsFault) → IsRangeFault f given → (f ≡ ranges.Sink → ⊥)
+      → MeetsOr (IsLossOf told (way X N p names (Dir es))) (λ bytes e. IsAgreed X N told p e (File bytes)) w (Ok e) → IsHeightOf p height w
+      → ((bytes : List ℕ) → IsFile X p bytes e.cid height → Agrees told (file_plan X p bytes).blocks → WritesOver told (blocks_read X p.chunk p.width height offset count bytes) (range_of offset count bytes) held held_now (Err f))
+      → AnswersOr (IsLossOf told (needs_at X N p (range_needs X p height offset count) names (Dir es))) (λ bytes n. SendsAll held held_now bytes n) names (range_at offset count names es) (Err given)
+  read-lost height offset count held held_now e ranges.Sink given is calm h tall reads = absurd (calm refl)
+  read-lost height offset count held held_now e (ranges.Store f) given is calm h tall reads =
+      let May = IsLossOf told (needs_at X N p (range_needs X p height offset count) names (Dir es)) in
+      subst (λ given. AnswersOr May (λ bytes n. SendsAll held held_now bytes n) names (range_at offset count names es) (Err given)) (sym is) (by found h tall)
+    where
+      by : (t : Result Tree Refused) → MeetsOr (IsLossOf told (way X N p names (Dir es))) (λ bytes e. IsAgreed X N told p e (File bytes)) (and_then t (as_plain_file (length names))) (Ok e)
+          → IsHeightOf p height (and_then t (as_plain_file (length names)))
+          → AnswersOr (IsLossOf told (way X N p names (Dir es) ++ elim t as (λ t. List Held) [ Ok t ↦ range_needs X p height offset count t | Err why ↦ [] ])) (λ bytes n. SendsAll held held_now bytes n) names
+          (and_then (and_then t (as_plain_file (length names))) (λ bytes. Ok (take count (drop offset bytes)))) (Err (fault.Store f))
+      by (Err why) h tall = absurd h
+      by (Ok (Dir fs)) h tall = absurd h
+      by (Ok (File bytes)) h tall = loss-back told (way X N p names (Dir es)) (blocks_read X p.chunk p.width height offset count bytes) f
+          (first-loss told (blocks_read X p.chunk p.width height offset count bytes) f (reads bytes (is-file e bytes height h.plan tall) (file-agrees e bytes h)))
+
+  -- after a fault the sink has a front of the range
+  pub read-front : (offset count : ℕ) (held held_now : SinkTold) (e : Entry)
+      → MeetsOr (IsLossOf told (way X N p names (Dir es))) (λ bytes e. IsAgreed X N told p e (File bytes)) w (Ok e)
+      → ((bytes : List ℕ) (height : ℕ) → IsFile X p bytes e.cid height → Agrees told (file_plan X p bytes).blocks → AppendsPrefix (range_of offset count bytes) held held_now)
+      → AppendsPrefix (to_read (range_at offset count names es)) held held_now
+  read-front offset count held held_now e h reads = by w h
+    where
+      by : (w : Result (List ℕ) Refused) → MeetsOr (IsLossOf told (way X N p names (Dir es))) (λ bytes e. IsAgreed X N told p e (File bytes)) w (Ok e)
+          → AppendsPrefix (to_read (and_then w (λ bytes. Ok (take count (drop offset bytes))))) held held_now
+      by (Err why) h = absurd h
+      by (Ok bytes) h = reads bytes (rooted X p bytes h.plan.profile).0 (is-file e bytes (rooted X p bytes h.plan.profile).0 h.plan (rooted X p bytes h.plan.profile).1.least) (file-agrees e bytes h)
+
+  -- where all blocks of the tree are held those that are needed are
+  tall-of : (w : Result (List ℕ) Refused) → ((bytes : List ℕ) → w ≡ Ok bytes → (height : ℕ) × IsHeight p.chunk p.width (length bytes) height) → (height : ℕ) × IsHeightOf p height w
+  tall-of (Ok bytes) h = h bytes refl
+  tall-of (Err why) h = (0, tt)
+
+  plan-over : (bytes : List ℕ) → IsTrue (is_profile p) → (height : ℕ) → IsHeight p.chunk p.width (length bytes) height → (P : Held → Type 0) → AllByRecursion P (file_plan X p bytes).blocks
+      → AllByRecursion P (blocks_over X p.chunk p.width height bytes)
+  plan-over bytes ok height tall P h =
+      let pos = (kept p ok).some in
+      let two = (kept p ok).two in
+      let r = file_plan-rows X p bytes pos two in
+      subst (λ k. AllByRecursion P (blocks_over X p.chunk p.width k bytes)) (height-unique p.chunk p.width (length bytes) r.0 height r.2 tall) (plan-sub X p bytes pos two P r.0 r.2.fits _ r.3 h)
+
+  file-blocks : (bytes : List ℕ) (P : Held → Type 0) → AllByRecursion P (blocks X N p (File bytes)) → AllByRecursion P (file_plan X p bytes).blocks
+  unfolding planned fold
+  file-blocks bytes P h = h
+
+  needs-here : IsTrue (is_profile p) → (height offset count : ℕ) → IsHeightOf p height w → Among (needs_at X N p (range_needs X p height offset count) names (Dir es)) (blocks X N p (Dir es))
+  needs-here ok height offset count tall P h = append P (way X N p names (Dir es)) _ (front P (way X N p names (Dir es)) _ (whole P h)) (by found (back P (way X N p names (Dir es)) _ (whole P h)) tall)
+    where
+      whole : Among (needs_at X N p (blocks X N p) names (Dir es)) (blocks X N p (Dir es))
+      whole = needs-among X N p (blocks X N p) (λ t P h. h) names (Dir es)
+
+      by : (t : Result Tree Refused) → AllByRecursion P (elim t as (λ t. List Held) [ Ok t ↦ blocks X N p t | Err why ↦ [] ]) → IsHeightOf p height (and_then t (as_plain_file (length names)))
+          → AllByRecursion P (elim t as (λ t. List Held) [ Ok t ↦ range_needs X p height offset count t | Err why ↦ [] ])
+      by (Err why) h tall = tt
+      by (Ok (Dir fs)) h tall = tt
+      by (Ok (File bytes)) h tall = read-among X p.chunk p.width P height offset count bytes (plan-over bytes ok height tall P (file-blocks bytes P h))
+
+  pub read-held : {D : Type 0} (Q : List ℕ → D → Type 0) (mfs : Mfs) (offset count : ℕ) (r : Result D MfsFault) → StandsAt X N told mfs p es
+      → ((height : ℕ) → IsHeightOf p height w → AnswersOr (IsLossOf told (needs_at X N p (range_needs X p height offset count) names (Dir es))) Q names (range_at offset count names es) r)
+      → Answers Q names (range_at offset count names es) r
+  read-held Q mfs offset count r s lost =
+      let ok = s.root.profile in
+      let tall = tall-of w (λ bytes is. ((rooted X p bytes ok).0, (rooted X p bytes ok).1.least)) in
+      answers-held told (needs_at X N p (range_needs X p tall.0 offset count) names (Dir es)) Q names (range_at offset count names es) r
+      (tells-among told (blocks X N p (Dir es)) _ (needs-here ok tall.0 offset count tall.1) s.root.held) (lost tall.0 tall.1)
+
+-- ---- what the call shows
+
+module _ (hash : List ℕ → List ℕ) (N : List ℕ → ℕ) (told : Told) where
+  pub way-shows : (f : StoreFault) (a b : Seen) → Shows hash (IsBad N None) f a b → Shows hash (IsBadRead N told) f a b
+  way-shows f a b h = Shows-by hash (IsBad N None) (IsBadRead N told) f a b (λ role bytes bad. inl bad) h
+
+  -- a lookup that stopped
+  pub stopped-shows : (names : List (List ℕ)) (s : Stop) (f : MfsFault) (a b : Seen) (n : ℕ) → Tells names s f → Shown hash (IsBad N None) (stop_fault {A = ℕ} (Err s)) a b
+      → ShownSending {A = ℕ} hash (IsBadRead N told) (Err f) a b n n
+  stopped-shows names (stop.Refused why) (fault.Rule rule) a b n t h = (h, refl)
+  stopped-shows names (stop.Refused why) (fault.Ready ready) a b n t h = absurd t
+  stopped-shows names (stop.Refused why) fault.Sink a b n t h = absurd t
+  stopped-shows names (stop.Refused why) (fault.Store f) a b n t h =
+      subst (λ f. ShownSending {A = ℕ} hash (IsBadRead N told) (Err (fault.Store f)) a b n n) (sym t) (calm-rises a b h, refl)
+  stopped-shows names (stop.Store g) f a b n t h = subst (λ f. ShownSending {A = ℕ} hash (IsBadRead N told) (Err f) a b n n) (sym t) (way-shows g a b h, refl)
+
+  pub calm-calm : (a b c : Seen) → StaysCalm a b → StaysCalm b c → StaysCalm a c
+  calm-calm a b c p q = record { finds = omega (arith, p.finds, q.finds); misses = omega (arith, p.misses, q.misses); faults = q.faults ∙ p.faults; clashes = q.clashes ∙ p.clashes }
+
+  -- a reading after a lookup
+  pub range-shows : (root : Cid) (f : RangeFault) (given : MfsFault) (a b c : Seen) (n m : ℕ) → IsRangeFault f given → StaysCalm a b → b.told ≡ a.told → told ≡ a.told
+      → ShowsRange hash (IsBadInFile b.told root) (Err f) b c n m → ShownSending {A = ℕ} hash (IsBadRead N told) (Err given) a c n m
+  range-shows root ranges.Sink given a b c n m is calm same here h =
+      subst (λ given. ShownSending {A = ℕ} hash (IsBadRead N told) (Err given) a c n m) (sym is) (calm-calm a b c calm h.0, h.1)
+  range-shows root (ranges.Store f) given a b c n m is calm same here h =
+      subst (λ given. ShownSending {A = ℕ} hash (IsBadRead N told) (Err given) a c n m) (sym is) (
+        Shows-after hash (IsBadRead N told) f a b c calm (Shows-by hash (IsBadInFile b.told root) (IsBadRead N told) f b c
+            (λ role bytes bad. inr (root, subst (λ told. IsBadInFile told root role bytes) (same ∙ sym here) bad)) h.0),
+        h.1,
+      )
+
+-- a sink that stood didn't fail
+pub sink-calm : (hash : List ℕ → List ℕ) (Bad : Role → List ℕ → Type 0) (f : RangeFault) (b d : Seen) (n m : ℕ) → ShowsRange hash Bad (Err f) b d n m → Stood n m → f ≡ ranges.Sink → ⊥
+sink-calm hash Bad ranges.Sink b d n m h stood is = absurd (omega (arith, h.1, stood))
+sink-calm hash Bad (ranges.Store f) b d n m h stood is = absurd cc
+
+pub range-rises : (hash : List ℕ → List ℕ) (Bad : Role → List ℕ → Type 0) (r : Result ℕ RangeFault) (b d : Seen) (n m : ℕ) → ShowsRange hash Bad r b d n m → b.faults ≤ d.faults
+range-rises hash Bad (Ok k) b d n m h = (let same = h.0.faults in omega (arith, same))
+range-rises hash Bad (Err ranges.Sink) b d n m h = (let same = h.0.faults in omega (arith, same))
+range-rises hash Bad (Err (ranges.Store f)) b d n m h = (Shows-rises hash Bad f b d h.0).faults

@@ -1,0 +1,64 @@
+-- A file of the tree read.
+use Rattle.std.specs.Prelude.{◌≡◌, ◌⊎◌, ℕ, List, [], length}
+use Rattle.std.specs.declared.option.Option.TheVariants.{None}
+use Rattle.std.specs.declared.result.Result.{Result}
+use Rattle.std.specs.declared.result.Result.TheVariants.{Ok, Err}
+use Rattle.uf_cid.specs.Blocks.{Held}
+use Rattle.uf_cid.specs.declared.cid.Cid.{Cid}
+use Rattle.uf_edge.specs.Counts.{Rose}
+use Rattle.uf_edge.specs.Streams.{Told as SinkTold, after}
+use Rattle.uf_fileread.specs.Bad.{IsBadInFile}
+use Rattle.uf_fileread.specs.declared.fault.RangeFault.{RangeFault}
+use Rattle.uf_fileread.specs.declared.fault.RangeFault.TheVariants as ranges
+use Rattle.uf_fileread.specs.Ranges.{blocks_read}
+use Rattle.uf_store.specs.declared.store.Role.{Role}
+use Rattle.uf_store.specs.Contents.{Told}
+use Rattle.uf_store.specs.Faults.{Shows, StaysCalm}
+use Rattle.uf_store.specs.Seen.{Seen}
+use Rattle.uf_tree.specs.declared.profile.Profile.{Profile}
+use Rattle.uf_tree.specs.FileSub.{IsHeight}
+use Rattle.uf_tree.specs.Tree.{Tree, File, Dir}
+use Rattle.uf_plain.specs.declared.rule.Refused.{Refused}
+use Rattle.uf_mfs.specs.declared.fault.MfsFault.{MfsFault}
+use Rattle.uf_mfs.specs.declared.fault.MfsFault.TheVariants as fault
+use Rattle.uf_mfs.specs.Bad.{IsBad}
+
+-- the fault of a reading of a range as that of a call
+abbrev pub IsRangeFault : RangeFault → MfsFault → Type 0
+IsRangeFault ranges.Sink given = given ≡ fault.Sink
+IsRangeFault (ranges.Store f) given = given ≡ fault.Store f
+
+-- the height is that of a file, where there is one
+abbrev pub IsHeightOf : Profile → ℕ → Result (List ℕ) Refused → Type 0
+IsHeightOf p height (Ok bytes) = IsHeight p.chunk p.width (length bytes) height
+IsHeightOf p height (Err why) = Unit {0}
+
+-- the blocks that a range of a file of this height needs
+abbrev pub range_needs : (List ℕ → List ℕ) → Profile → (height offset count : ℕ) → Tree → List Held
+range_needs X p height offset count (File bytes) = blocks_read X p.chunk p.width height offset count bytes
+range_needs X p height offset count (Dir es) = []
+
+-- all of these bytes are behind what the sink held, and so many they are
+abbrev pub SendsAll : SinkTold → SinkTold → List ℕ → ℕ → Type 0
+SendsAll held held_now bytes n = (n ≡ length bytes) × (held_now ≡ after held bytes)
+
+-- the bytes that are to be read: of what is refused, none
+abbrev pub to_read : Result (List ℕ) Refused → List ℕ
+to_read (Ok bytes) = bytes
+to_read (Err why) = []
+
+-- a block that is bad on the way to a file, or in some file
+abbrev pub IsBadRead : (List ℕ → ℕ) → Told → Role → List ℕ → Type 0
+IsBadRead N told role bytes = IsBad N None role bytes ⊎ ((root : Cid) × IsBadInFile told root role bytes)
+
+-- no fault of a call that reads into a sink was passed over: a fault of the store or of the sink shows its cause, and
+-- before any other answer both have stayed calm; an opened tree is ready
+abbrev pub ShownSending : {A : Type 0} → (List ℕ → List ℕ) → (Role → List ℕ → Type 0) → Result A MfsFault
+    → Seen → Seen → (faults faults_now : ℕ) → Type 0
+ShownSending hash IsBad (Ok a) before now faults faults_now = StaysCalm before now × (faults_now ≡ faults)
+ShownSending hash IsBad (Err (fault.Rule rule)) before now faults faults_now =
+    StaysCalm before now × (faults_now ≡ faults)
+ShownSending hash IsBad (Err (fault.Ready ready)) before now faults faults_now = ⊥
+ShownSending hash IsBad (Err fault.Sink) before now faults faults_now = StaysCalm before now × Rose faults faults_now
+ShownSending hash IsBad (Err (fault.Store f)) before now faults faults_now =
+    Shows hash IsBad f before now × (faults_now ≡ faults)

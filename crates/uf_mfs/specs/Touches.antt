@@ -1,0 +1,77 @@
+-- How many touches an edit of a tree may need beyond a few for each name.
+use Rattle.std.specs.Prelude.{ℕ, ◌≤◌, ◌+◌, ◌*◌, List, [], ◌∷◌, length}
+use Rattle.std.specs.declared.option.Option.TheVariants.{None, Some}
+use Rattle.std.specs.declared.result.Result.{Result}
+use Rattle.std.specs.declared.result.Result.TheVariants.{Ok, Err}
+use Rattle.uf_cid.specs.Blocks.{Held}
+use Rattle.uf_store.specs.Seen.{Seen}
+use Rattle.uf_tree.specs.declared.nodes.Entry.{Entry}
+use Rattle.uf_tree.specs.declared.profile.Profile.{Profile}
+use Rattle.uf_tree.specs.Tree.{Tree, File, Dir, Entries, Nothing, pairs}
+use Rattle.uf_tree.specs.TreePlan.{named_entries}
+use Rattle.uf_dir.specs.Bounds.{crossing, shard_count, weighing}
+use Rattle.uf_plain.specs.declared.change.Change.{Change}
+use Rattle.uf_plain.specs.declared.change.Change.TheVariants.{Make, Put, Remove}
+use Rattle.uf_plain.specs.declared.rule.Refused.{Refused}
+use Rattle.uf_plain.specs.Edits.{at, child}
+use Rattle.uf_plain.specs.Needs.{own_needs}
+use Rattle.uf_mfs.specs.Steps.{IsFolderOver}
+
+-- the entries of a directory
+abbrev pub entries_in : Tree → Entries
+entries_in (File bytes) = Nothing
+entries_in (Dir es) = es
+
+-- the members of a directory, none of a file
+abbrev pub members_in : Tree → List (List ℕ × Tree)
+members_in t = pairs (entries_in t)
+
+-- the entries of the directory under a name, none where there is no such directory
+abbrev pub entries_at : List ℕ → Entries → Entries
+entries_at name es = elim (child name es) [ None ↦ Nothing | Some t ↦ entries_in t ]
+
+-- a call that reads at these names: a few touches for each, and those that what is there takes
+abbrev pub read_bound : (Tree → ℕ) → List (List ℕ) → Tree → ℕ
+read_bound more names t = 64 * (length names + 4) + elim (at 0 names t) [ Ok found ↦ more found | Err why ↦ 0 ]
+
+module _ (X : List ℕ → List ℕ) (N : List ℕ → ℕ) (p : Profile) where
+  -- each directory on these names that becomes sharded or basic between two trees
+  abbrev pub crossings : List (List ℕ) → Entries → Entries → ℕ
+  crossings [] es fs = 0
+  crossings (name ∷ names) es fs = crossing X N p (named_entries X N p es) (named_entries X N p fs)
+      + crossings names (entries_at name es) (entries_at name fs)
+
+  -- the same between a tree and what an edit makes of it, none where a rule refuses it
+  abbrev pub crossings_of : List (List ℕ) → Entries → Result Entries Refused → ℕ
+  crossings_of names es (Ok fs) = crossings names es fs
+  crossings_of names es (Err why) = 0
+
+  -- the weighing of the directory that loses the last of these names
+  abbrev pub weighing_at : List (List ℕ) → Entries → ℕ
+  weighing_at [] es = 0
+  weighing_at (name ∷ []) es = weighing p (shard_count X N (named_entries X N p es))
+  weighing_at (name ∷ next ∷ names) es = weighing_at (next ∷ names) (entries_at name es)
+
+  -- of an edit: only a removal weighs
+  abbrev pub weighing_of : Change → List (List ℕ) → Entries → ℕ
+  weighing_of Make names es = 0
+  weighing_of (Put e) names es = 0
+  weighing_of (Remove recursive) names es = weighing_at names es
+
+  -- an edit at these names: a few touches for each, and those of directories that become sharded or basic
+  abbrev pub touch_bound : List (List ℕ) → Entries → Result Entries Refused → ℕ
+  touch_bound names es next = 64 * (length names + 4) + crossings_of names es next
+
+  -- the names of a directory: its own blocks
+  abbrev pub names_touches : Tree → ℕ
+  names_touches t = length (own_needs X N p t)
+
+  -- its rows: its own blocks, and two for each row
+  abbrev pub rows_touches : Tree → ℕ
+  rows_touches t = length (own_needs X N p t) + 2 * length (members_in t)
+
+  -- where the entry is that of a folder, whose blocks the store agrees with before and after, and the store stayed
+  -- calm, so many touches are enough, whatever the answer
+  abbrev pub TouchesFolder : (before now : Seen) → List Held → Entry → (Entries → ℕ) → ℕ → ℕ → Type 0
+  TouchesFolder before now more folder bound was is = (es : Entries) → IsFolderOver X N p before now more folder es
+      → is ≤ was + bound es

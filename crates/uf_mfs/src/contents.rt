@@ -1,0 +1,102 @@
+// Files of the tree read.
+ghost use Rattle.std.specs.Prelude.{◌≡◌, ◌+◌, ◌<◌, ◌^◌, [], ℕ, List, IfErr, IfOk, IsTrue, None, OnErr, Ok, Some, false, length};
+ghost use Rattle.uf_edge.specs.Counts.{Stood};
+ghost use Rattle.uf_edge.specs.Streams.{AppendsPrefix};
+ghost use Rattle.uf_store.specs.Calls.{OnlyReads, OnlySaves};
+ghost use Rattle.uf_store.specs.Keeping.{KeepsGood};
+ghost use Rattle.uf_store.specs.Lost.{IsLossOf};
+ghost use Rattle.uf_store.specs.Writing.{SavesOnly};
+ghost use Rattle.uf_tree.specs.declared.profile.Profile.{Profile as TheProfile};
+ghost use Rattle.uf_tree.specs.Profiles.{is_profile};
+ghost use Rattle.uf_tree.specs.Tree.{Dir, Entries, File, Tree};
+ghost use Rattle.uf_plain.specs.Edits.{at};
+ghost use Rattle.uf_plain.specs.Files.{plain_bytes_at, read as range_at};
+ghost use Rattle.uf_plain.specs.Needs.{needs_at, way};
+ghost use Rattle.uf_plain.specs.Rules.{allowed};
+ghost use Rattle.uf_mfs.specs.Answers.{Answers, AnswersOr, MeetsOr, Moves, ShownInTree};
+ghost use Rattle.uf_mfs.specs.Bad.{IsBad};
+ghost use Rattle.uf_mfs.specs.Reading.{IsBadRead, IsHeightOf, SendsAll, ShownSending, range_needs, to_read};
+ghost use Rattle.uf_mfs.specs.Standing.{IsAgreed, IsMfs, StandsAt, StandsOver};
+ghost use Rattle.uf_mfs.specs.Steps.{EditsFolder, MovesTree, stop_fault};
+
+use crate::looking::look;
+use crate::telling::fault_of;
+use crate::{Mfs, MfsFault, Stop, Thing};
+use std::alloc::Global;
+use std::sync::ledger::Ledger;
+use uf_edge::Sink;
+use uf_fileread::read_range;
+use uf_murmur::NameHash;
+use uf_path::Path;
+use uf_plain::Refused;
+use uf_store::{Steps, Store};
+use uf_tree::{Entry, Name};
+
+impl Mfs {
+    /// Writes the bytes of a file from `offset` on, at most `count`, and answers how many. After a fault the sink has a prefix
+    /// of them.
+    pub fn read<S: Store, N: NameHash, O: Sink, L: Ledger>(
+        &self,
+        alloc: Global,
+        store: &mut S,
+        path: &Path,
+        offset: u64,
+        count: u64,
+        out: &mut O,
+        touches: &mut Steps<L>,
+    ) -> Result<u64, MfsFault>
+        ensures answer { (p : TheProfile) (es : Entries)
+            → StandsAt S.X.block32 N.name64 (S.seen store.old).told self.now p es
+            → Stood (S.seen store.old).faults (S.seen store.new).faults → Stood (O.faults out.old) (O.faults out.new)
+            → Answers (λ bytes n. SendsAll (O.holds out.old) (O.holds out.new) bytes n) path.now.names
+            (range_at offset count path.now.names es) result }
+        ensures lost { (p : TheProfile) (es : Entries) (height : ℕ)
+            → StandsOver S.X.block32 N.name64 (S.seen store.old).told self.now p es
+            → IsHeightOf p height (plain_bytes_at path.now.names es)
+            → Stood (S.seen store.old).faults (S.seen store.new).faults → Stood (O.faults out.old) (O.faults out.new)
+            → AnswersOr (IsLossOf (S.seen store.old).told (needs_at S.X.block32 N.name64 p
+            (range_needs S.X.block32 p height offset count) path.now.names (Dir es)))
+            (λ bytes n. SendsAll (O.holds out.old) (O.holds out.new) bytes n) path.now.names
+            (range_at offset count path.now.names es) result }
+        ensures prefix { (p : TheProfile) (es : Entries)
+            → StandsOver S.X.block32 N.name64 (S.seen store.old).told self.now p es
+            → Stood (S.seen store.old).faults (S.seen store.new).faults
+            → IfErr result (λ _. AppendsPrefix (to_read (range_at offset count path.now.names es)) (O.holds out.old)
+            (O.holds out.new)) }
+        ensures cause { ShownSending S.X.block32 (IsBadRead N.name64 (S.seen store.old).told) result (S.seen store.old)
+            (S.seen store.new) (O.faults out.old) (O.faults out.new) }
+        ensures told { (S.seen store.new).told ≡ (S.seen store.old).told }
+    {
+        let names = path.names.as_slice();
+        match look_at_file::<S, N, L>(alloc, store, names, &self.root, touches) {
+            Err(stop) => Err(fault_of(alloc, names, stop)),
+            Ok(entry) => {
+                let sent = read_range(alloc, store, &entry, offset, count, out, touches)?;
+                Ok(sent)
+            }
+        }
+    }
+}
+
+// The entry of the file that the names lead to.
+fn look_at_file<S: Store, N: NameHash, L: Ledger>(
+    alloc: Global,
+    store: &mut S,
+    names: &[Name],
+    root: &Entry,
+    touches: &mut Steps<L>,
+) -> Result<Entry, Stop>
+    ensures looks { (p : TheProfile) (es : Entries)
+        → IsAgreed S.X.block32 N.name64 (S.seen store.old).told p root.now (Dir es)
+        → Stood (S.seen store.old).faults (S.seen store.new).faults
+        → MeetsOr (IsLossOf (S.seen store.old).told (way S.X.block32 N.name64 p names.now (Dir es)))
+        (λ bytes e. IsAgreed S.X.block32 N.name64 (S.seen store.old).told p e (File bytes))
+        (plain_bytes_at names.now es) result }
+    ensures reads { OnlyReads S.X.block32 (IsBad N.name64 None) (stop_fault result) (S.seen store.old)
+        (S.seen store.new) }
+{
+    match look::<S, N, L>(alloc, store, 0, names, root, touches)? {
+        Thing::File(entry, _) => Ok(entry),
+        Thing::Folder(_) => Err(Stop::Refused(Refused::IsADirectory(names.len()))),
+    }
+}
