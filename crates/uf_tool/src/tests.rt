@@ -6,7 +6,7 @@ use std::marker::Brand;
 use std::random::RandomSource;
 use std::sync::ledger::Blank;
 use uf_cid::{Block, Memory};
-use uf_disk::DiskStore;
+use uf_disk::{DiskHost, DiskStore};
 use uf_edge::{Calls, MemSink, MemSource};
 
 // A command: its words and its input, and the status, the output and the error line that are to come of it.
@@ -84,10 +84,12 @@ fn ends<R: Files + RandomSource>(alloc: Global, files: &R, row: &Row) -> Result<
     let mut output = MemSink::new(alloc, 1000, Calls::new(alloc))?;
     let mut errors = MemSink::new(alloc, 1000, Calls::new(alloc))?;
     let mut store = DiskStore::new(alloc, files);
-    let status = serve::<Brand, &R, MemSource, MemSink, MemSink>(
+    let mut host = DiskHost::new(alloc, files);
+    let status = serve::<Brand, &R, DiskHost<&R>, MemSource, MemSink, MemSink>(
         alloc,
         &words,
         &mut store,
+        &mut host,
         &mut input,
         &mut output,
         &mut errors,

@@ -1,18 +1,18 @@
 -- What is made of an input that is added as a file.
 use Rattle.std.proofs.Common.{◌≡◌, ℕ, ◌<◌, ◌≤◌, ◌+◌, List, [], ◌++◌, length, Bool, true, false, arith, refl, sym, ap, subst, ◌∙◌, inl, inr, append-nil, length-append, Option, Some, None, Result, Ok, Err}
-use Rattle.std.specs.Prelude.{IfOk, IfSome, if◌then◌else◌}
+use Rattle.std.specs.Prelude.{IfOk, IfSome, OnOk, if◌then◌else◌}
 use Rattle.std.proofs.lemmas.Bool.{le-leb, lt-leb}
 use Rattle.uf_tree.specs.Profiles.{most_bytes, usual}
 use Rattle.uf_cid.specs.Blocks.{Held}
 use Rattle.uf_edge.specs.Counts.{Counts, Stood}
 use Rattle.uf_edge.specs.Streams.{before, IsAtEnd}
 use Rattle.uf_edge.specs.Streams as streams
-use Rattle.uf_mfs.specs.Standing.{LeavesHead, TellsAs, TellsHeld}
-use Rattle.uf_mfs.specs.declared.fault.Ready.TheVariants as ready
+use Rattle.uf_mfs.specs.Standing.{OnlySynced, TellsAs, TellsHeld}
+use Rattle.uf_plain.specs.declared.ready.Ready.TheVariants as ready
 use Rattle.uf_plain.specs.declared.rule.Rule.{Rule}
 use Rattle.uf_plain.specs.declared.rule.Rule.TheVariants.{FileTooLong}
 use Rattle.uf_store.specs.declared.store.StoreFault.{StoreFault}
-use Rattle.uf_store.specs.Contents.{Told}
+use Rattle.uf_store.specs.Contents.{Told, changed, with_sync}
 use Rattle.uf_store.specs.Faults.{NoneIsBad}
 use Rattle.uf_store.specs.Keeping.{Holds}
 use Rattle.uf_store.specs.Seen.{Seen}
@@ -21,13 +21,14 @@ use Rattle.uf_tree.specs.Standing.{Standing, NoHead, BadHead}
 use Rattle.uf_tree.specs.Validity.{IsHash}
 use Rattle.uf_tree.specs.declared.nodes.Entry.{Entry}
 use Rattle.uf_tree.specs.declared.profile.Profile.{Profile}
-use Rattle.uf_top.specs.Causes.{Adds, AddsBy, HeadSays, IsOfWork, IsProfileIn, IsProfileOf, IsProfileRead, IsReady, IsReason, IsUnread, Stops, is_read, or_usual}
+use Rattle.uf_top.specs.Causes.{Adds, AddsBy, HeadSays, IsProfileIn, IsProfileOf, IsProfileRead, IsReady, IsReason, IsUnread, Stops, is_read, or_usual}
 use Rattle.uf_top.specs.Intake.{IsFileOf, IsRowOf, ShownIn}
-use Rattle.uf_top.specs.Lines.{added_line}
-use Rattle.uf_top.specs.Reply.{Answers, Reply, add_reply, added, file_cid, unchanged}
-use Rattle.uf_top.specs.declared.types.Command.TheVariants.{Add}
-use Rattle.uf_top.specs.declared.types.Refusal.{Refusal}
-use Rattle.uf_top.specs.declared.types.Refusal.TheVariants as refusal
+use Rattle.uf_reply.specs.Lines.{added_line}
+use Rattle.uf_top.specs.Answering.{Answers}
+use Rattle.uf_reply.specs.Reply.{Reply, add_reply, added, file_cid, unchanged}
+use Rattle.uf_reply.specs.declared.types.Command.TheVariants.{Add}
+use Rattle.uf_reply.specs.declared.types.Refusal.{Refusal}
+use Rattle.uf_reply.specs.declared.types.Refusal.TheVariants as refusal
 use Rattle.uf_top.proofs.Shows.{saving-wants, not-rose}
 use Rattle.uf_top.proofs.Standings.{leaves-holds, standing-bad, standing-none, standing-says, tells-none}
 
@@ -183,16 +184,6 @@ module _ (X : List ℕ → List ℕ) where
   adds-read only_hash told refusal.Write l m read = tt
   adds-read only_hash told (refusal.Store fault) l m read = tt
 
-  pub row-work : (held : Told) (p : Profile) (r : Result (List ℕ) Refusal) (l m : streams.Told) → IsRowOf X p held r l m → IsOfWork r
-  row-work held p (Ok text) l m row = tt
-  row-work held p (Err (refusal.Rule rule)) l m row = tt
-  row-work held p (Err (refusal.BadPath why)) l m row = absurd row
-  row-work held p (Err refusal.Usage) l m row = absurd row
-  row-work held p (Err (refusal.Ready why)) l m row = tt
-  row-work held p (Err refusal.Read) l m row = tt
-  row-work held p (Err refusal.Write) l m row = absurd row
-  row-work held p (Err (refusal.Store fault)) l m row = row
-
   pub row-ready : (only_hash : Bool) (told held : Told) (p : Profile) (r : Result (List ℕ) Refusal) (l m : streams.Told) → IsRowOf X p held r l m → IsReady told (Add only_hash) r
   row-ready only_hash told held p (Ok text) l m row = tt
   row-ready only_hash told held p (Err (refusal.Rule rule)) l m row = tt
@@ -234,19 +225,10 @@ read-ready only_hash told refusal.Read read = tt
 read-ready only_hash told refusal.Write read = tt
 read-ready only_hash told (refusal.Store fault) read = tt
 
-pub read-work : (why : Refusal) (told : Told) → IsProfileRead (Err why) told → IsOfWork {A = List ℕ} (Err why)
-read-work (refusal.Rule rule) told read = tt
-read-work (refusal.BadPath why) told read = absurd read
-read-work refusal.Usage told read = absurd read
-read-work (refusal.Ready why) told read = tt
-read-work refusal.Read told read = tt
-read-work refusal.Write told read = absurd read
-read-work (refusal.Store fault) told read = read
-
 -- the row of a file, once its blocks were made to outlive a stop
-pub synced-row : (X : List ℕ → List ℕ) (p : Profile) (a b : Told) (entry : Entry) (row : List ℕ) (r : Result (List ℕ) Refusal) (l m : streams.Told) → LeavesHead a b
+pub synced-row : (X : List ℕ → List ℕ) (p : Profile) (a b : Told) (entry : Entry) (row : List ℕ) (r : Result (List ℕ) Refusal) (l m : streams.Told) → OnOk r (b ≡ changed with_sync a)
     → IfOk r (λ text. text ≡ row) → row ≡ added_line entry.cid → Stops r → IsFileOf X p a (Ok entry) l m → IsRowOf X p b r l m
-synced-row X p a b entry row (Ok text) l m leaves is row_is stops file = row-of X p a b entry text l m (λ bs h. leaves-holds a b bs leaves h) (is ∙ row_is) file
+synced-row X p a b entry row (Ok text) l m synced is row_is stops file = row-of X p a b entry text l m (λ bs h. leaves-holds a b bs (OnlySynced synced) h) (is ∙ row_is) file
 synced-row X p a b entry row (Err (refusal.Rule rule)) l m leaves is row_is stops file = absurd stops
 synced-row X p a b entry row (Err (refusal.BadPath why)) l m leaves is row_is stops file = absurd stops
 synced-row X p a b entry row (Err refusal.Usage) l m leaves is row_is stops file = absurd stops
@@ -254,13 +236,3 @@ synced-row X p a b entry row (Err (refusal.Ready why)) l m leaves is row_is stop
 synced-row X p a b entry row (Err refusal.Read) l m leaves is row_is stops file = absurd stops
 synced-row X p a b entry row (Err refusal.Write) l m leaves is row_is stops file = absurd stops
 synced-row X p a b entry row (Err (refusal.Store fault)) l m leaves is row_is stops file = stops
-
-pub stops-read : (r : Result (List ℕ) Refusal) → Stops r → is_read r ≡ false
-stops-read (Ok text) stops = refl
-stops-read (Err (refusal.Rule rule)) stops = refl
-stops-read (Err (refusal.BadPath why)) stops = refl
-stops-read (Err refusal.Usage) stops = refl
-stops-read (Err (refusal.Ready why)) stops = refl
-stops-read (Err refusal.Read) stops = absurd stops
-stops-read (Err refusal.Write) stops = refl
-stops-read (Err (refusal.Store fault)) stops = refl

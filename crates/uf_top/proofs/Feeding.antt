@@ -10,14 +10,15 @@ use Rattle.uf_build.specs.Building.{Building, HasFed, HoldsFed}
 use Rattle.uf_store.specs.Contents as store
 use Rattle.uf_store.specs.Seen.{Seen}
 use Rattle.uf_store.specs.Faults.{NoneIsBad, StaysCalm}
-use Rattle.uf_store.proofs.Causes.{Shows-after, StaysCalm-trans}
+use Rattle.uf_store.proofs.Calls.{shown-after}
 use Rattle.uf_store.specs.Keeping.{Holds}
 use Rattle.uf_tree.specs.FilePlan.{file_plan}
 use Rattle.uf_tree.specs.declared.nodes.Entry.{Entry}
 use Rattle.uf_tree.specs.declared.profile.Profile.{Profile}
-use Rattle.uf_top.specs.declared.types.Refusal.{Refusal}
-use Rattle.uf_top.specs.declared.types.Refusal.TheVariants as refusal
-use Rattle.uf_top.specs.Intake.{Closes, FeedsFrom, FeedsNext, FeedsPart, FeedsLast, FeedsRest, PassesLimit, IsFedBy, IsFileOf, IsStopped, ShownIn, ShownWhy}
+use Rattle.uf_reply.specs.Kinds.{refusal_fault}
+use Rattle.uf_reply.specs.declared.types.Refusal.{Refusal}
+use Rattle.uf_reply.specs.declared.types.Refusal.TheVariants as refusal
+use Rattle.uf_top.specs.Intake.{Closes, FeedsFrom, FeedsNext, FeedsPart, FeedsLast, FeedsRest, PassesLimit, IsFedBy, IsFileOf, IsStopped, ShownIn}
 
 before-nil : (t : Told) → before [] t ≡ t
 before-nil None = refl
@@ -34,18 +35,8 @@ stopped-more A B refusal.Write more h = h
 stopped-more A B (refusal.Store fault) more h = h
 
 -- what is shown behind calls in which the store has stayed calm
-why-after : (hash : List ℕ → List ℕ) (why : Refusal) (a b c : Seen) → StaysCalm a b → ShownWhy hash why b c → ShownWhy hash why a c
-why-after hash (refusal.Rule rule) a b c p q = StaysCalm-trans a b c p q
-why-after hash (refusal.BadPath why) a b c p q = StaysCalm-trans a b c p q
-why-after hash refusal.Usage a b c p q = StaysCalm-trans a b c p q
-why-after hash (refusal.Ready why) a b c p q = StaysCalm-trans a b c p q
-why-after hash refusal.Read a b c p q = StaysCalm-trans a b c p q
-why-after hash refusal.Write a b c p q = StaysCalm-trans a b c p q
-why-after hash (refusal.Store fault) a b c p q = Shows-after hash NoneIsBad fault a b c p q
-
 pub ShownIn-after : (A : Type 0) (hash : List ℕ → List ℕ) (r : Result A Refusal) (a b c : Seen) → StaysCalm a b → ShownIn hash r b c → ShownIn hash r a c
-ShownIn-after A hash (Ok x) a b c p q = StaysCalm-trans a b c p q
-ShownIn-after A hash (Err why) a b c p q = why-after hash why a b c p q
+ShownIn-after A hash r a b c p q = shown-after hash NoneIsBad (refusal_fault r) a b c p q
 
 module _ (hash : List ℕ → List ℕ) (p : Profile) where
   -- nothing was read yet

@@ -1,12 +1,10 @@
 -- Stores that stand: no block is missing or bad, and what changes nothing writes nothing.
-use Rattle.std.proofs.Common.{◌≡◌, ℕ, List, true, false, refl, sym, ap, subst, ◌∙◌, inl, inr, Some, None, Result, Ok, Err}
-use Rattle.uf_edge.specs.Streams as streams
+use Rattle.std.proofs.Common.{◌≡◌, ◌≢◌, ℕ, List, Bool, true, false, refl, sym, ap, subst, ◌∙◌, inl, inr, Some, None, Result, Ok, Err}
 use Rattle.uf_plain.specs.Edits.{at, is_folder_at}
 use Rattle.uf_mfs.specs.Standing.{StandsAt, TellsAs, head_in}
 use Rattle.uf_mfs.specs.declared.mfs.Mfs.{Mfs}
 use Rattle.uf_plain.specs.declared.rule.Refused.{Refused}
 use Rattle.uf_path.specs.declared.path.Path.{Path}
-use Rattle.uf_store.specs.declared.store.StoreFault.{StoreFault}
 use Rattle.uf_store.specs.declared.store.StoreFault.TheVariants as fault
 use Rattle.uf_store.specs.Contents.{Told}
 use Rattle.uf_tree.specs.Heads.{head_text}
@@ -15,25 +13,26 @@ use Rattle.uf_tree.specs.Tree.{Tree, File, Dir, Entries}
 use Rattle.uf_tree.specs.TreePlan.{entry}
 use Rattle.uf_tree.specs.declared.nodes.Entry.{Entry}
 use Rattle.uf_tree.specs.declared.profile.Profile.{Profile}
-use Rattle.uf_top.specs.declared.status.Status.{Status}
-use Rattle.uf_top.specs.declared.status.Status.TheVariants as status
-use Rattle.uf_top.specs.declared.types.Ask.{Ask}
-use Rattle.uf_top.specs.declared.types.Ask.TheVariants.{Ls, Stat, Edit as Edits}
-use Rattle.uf_top.specs.declared.types.Command.TheVariants.{At}
-use Rattle.uf_top.specs.declared.types.Edit.{Edit}
-use Rattle.uf_top.specs.declared.types.Edit.TheVariants.{Mkdir, Rm}
-use Rattle.uf_top.specs.declared.types.Refusal.{Refusal}
-use Rattle.uf_top.specs.declared.types.Refusal.TheVariants as refusal
-use Rattle.uf_top.specs.Causes.{IsOfWork}
-use Rattle.uf_top.specs.Commands.{IsOfWords, is_idle}
-use Rattle.uf_top.specs.Endings.{FindsAll, IsPrinted, Tells}
-use Rattle.uf_top.specs.Reply.{Answers, Reply, in_tree, init_reply, looked, moved, tree_reply}
-use Rattle.uf_top.specs.Statuses.{ended}
+use Rattle.uf_reply.specs.declared.status.Status.{Status}
+use Rattle.uf_reply.specs.declared.status.Status.TheVariants as status
+use Rattle.uf_reply.specs.declared.types.Ask.{Ask}
+use Rattle.uf_reply.specs.declared.types.Ask.TheVariants.{Ls, Stat, Edit as Edits}
+use Rattle.uf_reply.specs.declared.types.Command.TheVariants.{At}
+use Rattle.uf_reply.specs.declared.types.Edit.{Edit}
+use Rattle.uf_reply.specs.declared.types.Edit.TheVariants.{Mkdir, Rm}
+use Rattle.uf_reply.specs.declared.types.Refusal.{Refusal}
+use Rattle.uf_reply.specs.declared.types.Refusal.TheVariants as refusal
+use Rattle.uf_reply.specs.Kinds.{IsOf, RefusalKind, OfMissing, OfBadBlock, MakesReady, AddsInput, may_answer, refusal_kind, word_kinds}
+use Rattle.uf_reply.specs.Commands.{IsOfWords, is_idle}
+use Rattle.uf_top.specs.Endings.{FindsAll}
+use Rattle.uf_top.specs.Answering.{Answers}
+use Rattle.uf_reply.specs.Reply.{Reply, in_tree, init_reply, looked, moved, tree_reply}
+use Rattle.uf_reply.specs.Statuses.{ended}
 
 -- ---- no block is missing or bad
 
 -- how a command ends that finds all
-abbrev Finds : Result (List ℕ) Refusal → Type 0
+abbrev pub Finds : Result (List ℕ) Refusal → Type 0
 Finds ends = FindsAll (ended ends)
 
 done-finds : FindsAll status.Ok
@@ -48,48 +47,49 @@ unready-finds = (λ e. cc, λ e. cc)
 memory-finds : FindsAll status.Memory
 memory-finds = (λ e. cc, λ e. cc)
 
+-- by what kind of refusal it ended
+kind-finds : (why : Refusal) → refusal_kind why ≢ OfMissing → refusal_kind why ≢ OfBadBlock → Finds (Err why)
+kind-finds (refusal.Rule rule) missing bad = rule-finds
+kind-finds (refusal.BadPath why) missing bad = rule-finds
+kind-finds refusal.Usage missing bad = (λ e. cc, λ e. cc)
+kind-finds (refusal.Ready why) missing bad = unready-finds
+kind-finds refusal.Read missing bad = (λ e. cc, λ e. cc)
+kind-finds refusal.Write missing bad = (λ e. cc, λ e. cc)
+kind-finds (refusal.Store fault.Failed) missing bad = (λ e. cc, λ e. cc)
+kind-finds (refusal.Store (fault.Damaged cid)) missing bad = (λ e. cc, λ e. cc)
+kind-finds (refusal.Store (fault.Missing cid)) missing bad = absurd (missing refl)
+kind-finds (refusal.Store (fault.BadBlock cid role)) missing bad = absurd (bad refl)
+kind-finds (refusal.Store (fault.Clash cid held bytes)) missing bad = (λ e. cc, λ e. cc)
+kind-finds (refusal.Store fault.Memory) missing bad = memory-finds
+
+-- of these kinds it is of none
+of-none : (kinds : RefusalKind → Bool) (k none : RefusalKind) → kinds k ≡ true → kinds none ≡ false → k ≢ none
+of-none kinds k none h not = λ e. (let t : true ≡ false = sym h ∙ ap kinds e ∙ not in cc)
+
 -- words that are refused
 pub words-whole : (why : Refusal) → IsOfWords (Err why) → Finds (Err why)
-words-whole (refusal.Rule rule) h = absurd h
-words-whole (refusal.BadPath why) h = rule-finds
-words-whole refusal.Usage h = (λ e. cc, λ e. cc)
-words-whole (refusal.Ready why) h = absurd h
-words-whole refusal.Read h = absurd h
-words-whole refusal.Write h = absurd h
-words-whole (refusal.Store f) h = subst (λ (f : StoreFault). Finds (Err (refusal.Store f))) (sym h) memory-finds
+words-whole why h = kind-finds why (of-none word_kinds (refusal_kind why) OfMissing h refl) (of-none word_kinds (refusal_kind why) OfBadBlock h refl)
 
 -- `add` looks for no block
-pub add-whole : (r : Result (List ℕ) Refusal) → IsOfWork r → Finds r
+pub add-whole : (r : Result (List ℕ) Refusal) → IsOf (may_answer AddsInput) r → Finds r
 add-whole (Ok text) h = done-finds
-add-whole (Err (refusal.Rule rule)) h = rule-finds
-add-whole (Err (refusal.BadPath why)) h = absurd h
-add-whole (Err refusal.Usage) h = absurd h
-add-whole (Err (refusal.Ready why)) h = unready-finds
-add-whole (Err refusal.Read) h = (λ e. cc, λ e. cc)
-add-whole (Err refusal.Write) h = absurd h
-add-whole (Err (refusal.Store fault.Failed)) h = (λ e. cc, λ e. cc)
-add-whole (Err (refusal.Store (fault.Damaged cid))) h = absurd h
-add-whole (Err (refusal.Store (fault.Missing cid))) h = absurd h
-add-whole (Err (refusal.Store (fault.BadBlock cid role))) h = absurd h
-add-whole (Err (refusal.Store (fault.Clash cid held bytes))) h = (λ e. cc, λ e. cc)
-add-whole (Err (refusal.Store fault.Memory)) h = memory-finds
+add-whole (Err why) h = kind-finds why (of-none (may_answer AddsInput) (refusal_kind why) OfMissing h refl) (of-none (may_answer AddsInput) (refusal_kind why) OfBadBlock h refl)
 
--- what is printed of a text
-pub printed-whole : (text : List ℕ) (r : Result (List ℕ) Refusal) (held now : streams.Told) → IsPrinted text r held now → Finds r
-printed-whole text (Ok printed) held now h = done-finds
-printed-whole text (Err (refusal.Rule rule)) held now h = absurd h
-printed-whole text (Err (refusal.BadPath why)) held now h = absurd h
-printed-whole text (Err refusal.Usage) held now h = absurd h
-printed-whole text (Err (refusal.Ready why)) held now h = absurd h
-printed-whole text (Err refusal.Read) held now h = absurd h
-printed-whole text (Err refusal.Write) held now h = (λ e. cc, λ e. cc)
-printed-whole text (Err (refusal.Store f)) held now h = absurd h
-
--- what is told of how a command ended
-pub whole-told : (Says : List ℕ → Type 0) (r : Result (List ℕ) Refusal) (given : Status) → Tells Says r given → Finds r → FindsAll given
-whole-told Says (Ok text) given t h = subst FindsAll (sym t.0) h
-whole-told Says (Err why) given (inl t) h = subst FindsAll (sym t.0) h
-whole-told Says (Err why) given (inr t) h = subst FindsAll (sym t.1) memory-finds
+-- `init` refuses no block as not canonical
+pub init-judges : (r : Result (List ℕ) Refusal) → IsOf (may_answer MakesReady) r → ended r ≢ status.BadBlock
+init-judges (Ok text) h = λ e. cc
+init-judges (Err (refusal.Rule rule)) h = λ e. cc
+init-judges (Err (refusal.BadPath why)) h = λ e. cc
+init-judges (Err refusal.Usage) h = λ e. cc
+init-judges (Err (refusal.Ready why)) h = λ e. cc
+init-judges (Err refusal.Read) h = λ e. cc
+init-judges (Err refusal.Write) h = λ e. cc
+init-judges (Err (refusal.Store fault.Failed)) h = λ e. cc
+init-judges (Err (refusal.Store (fault.Damaged cid))) h = λ e. cc
+init-judges (Err (refusal.Store (fault.Missing cid))) h = λ e. cc
+init-judges (Err (refusal.Store (fault.BadBlock cid role))) h = absurd cc
+init-judges (Err (refusal.Store (fault.Clash cid held bytes))) h = λ e. cc
+init-judges (Err (refusal.Store fault.Memory)) h = λ e. cc
 
 module _ (X : List ℕ → List ℕ) (N : List ℕ → ℕ) where
   answered : (s : Standing) (given : Reply) (r : Result (List ℕ) Refusal) (now : Told) → Answers X N s given r now → Finds given.ends → Finds r

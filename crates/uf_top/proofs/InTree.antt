@@ -6,8 +6,8 @@ use Rattle.uf_mfs.specs.Standing.{FindsHead, Inits, IsUnready, IsWanting, Opens,
 use Rattle.uf_mfs.specs.declared.mfs.Mfs.{Mfs}
 use Rattle.uf_mfs.specs.declared.fault.MfsFault.{MfsFault}
 use Rattle.uf_mfs.specs.declared.fault.MfsFault.TheVariants as mfs
-use Rattle.uf_mfs.specs.declared.fault.Ready.{Ready}
-use Rattle.uf_mfs.specs.declared.fault.Ready.TheVariants as ready
+use Rattle.uf_plain.specs.declared.ready.Ready.{Ready}
+use Rattle.uf_plain.specs.declared.ready.Ready.TheVariants as ready
 use Rattle.uf_plain.specs.declared.rule.Refused.{Refused}
 use Rattle.uf_store.specs.Contents.{Contents, Told}
 use Rattle.uf_tree.specs.HeadReading.{head_reads}
@@ -16,13 +16,14 @@ use Rattle.uf_tree.specs.Tree.{Tree, Entries}
 use Rattle.uf_tree.specs.declared.head_fault.HeadFault.{HeadFault}
 use Rattle.uf_tree.specs.declared.profile.Profile.{Profile}
 use Rattle.uf_path.specs.declared.path.Path.{Path}
-use Rattle.uf_top.specs.Causes.{CommitsTo, HeadSays, HeadStays, IsMade, IsProfileOf, IsReady, IsReason, IsUnread, RefusesInTree, RefusesOpening}
-use Rattle.uf_top.specs.Reply.{Answers, Reply, in_tree, init_reply, looked, moved, not_ready, refused}
-use Rattle.uf_top.specs.Statuses.{no_memory}
-use Rattle.uf_top.specs.declared.types.Ask.{Ask}
-use Rattle.uf_top.specs.declared.types.Command.TheVariants.{Init, At}
-use Rattle.uf_top.specs.declared.types.Refusal.{Refusal}
-use Rattle.uf_top.specs.declared.types.Refusal.TheVariants as refusal
+use Rattle.uf_top.specs.Causes.{HeadSays, HeadStays, IsMade, IsProfileOf, IsReady, IsReason, IsUnread, RefusesInTree, RefusesOpening}
+use Rattle.uf_top.specs.Answering.{Answers}
+use Rattle.uf_reply.specs.Reply.{Reply, in_tree, init_reply, looked, moved, not_ready, refused}
+use Rattle.uf_reply.specs.Statuses.{no_memory}
+use Rattle.uf_reply.specs.declared.types.Ask.{Ask}
+use Rattle.uf_reply.specs.declared.types.Command.TheVariants.{Init, At}
+use Rattle.uf_reply.specs.declared.types.Refusal.{Refusal}
+use Rattle.uf_reply.specs.declared.types.Refusal.TheVariants as refusal
 use Rattle.uf_top.proofs.Standings.{tells-none}
 
 -- want of memory, as a refusal
@@ -43,7 +44,7 @@ bad-there None b = absurd b
 bad-there (Some text) b = (text, refl)
 
 module _ (X : List ℕ → List ℕ) (N : List ℕ → ℕ) where
-  wants : (s : Standing) (reply : Reply) (why : Refusal) (told : Told) → why ≡ no_memory → TellsAs X N told s → Answers X N s reply (Err why) told
+  pub wants : (s : Standing) (reply : Reply) (why : Refusal) (told : Told) → why ≡ no_memory → TellsAs X N told s → Answers X N s reply (Err why) told
   wants s reply why told is stands = inl (record { ends_are = ap (λ (w : Refusal). Err w) is; stands = stands })
 
   -- the store isn't ready, or memory is wanting
@@ -117,15 +118,15 @@ module _ (X : List ℕ → List ℕ) (N : List ℕ → ℕ) where
   look-answers B M P s names say (Ok t) b (Err m) r told h says made stands =
       subst (λ r. Answers X N s (looked s names say (Ok t)) r told) (sym made) (wants s (looked s names say (Ok t)) no_memory told refl stands)
 
-  -- an edited tree is committed
-  pub move-answers : (p : Profile) (es : Entries) (names : List (List ℕ)) (w : Result Entries Refused) (m : Mfs) (mid now : Told) (r : Result (List ℕ) Refusal)
-      → tree.Answers {B = Unit {0}} (λ es done. StandsAt X N mid m p es) names w (Ok tt) → ((next : Entries) → StandsAt X N mid m p next → CommitsTo X N p next r now)
-      → ((why : Refusal) → r ≡ Err why → TellsAs X N now (Stands p es)) → Answers X N (Stands p es) (moved X N p es names w) r now
-  move-answers p es names (Err why) m mid now r h commits kept = absurd h
-  move-answers p es names (Ok next) m mid now (Ok text) h commits kept =
+  -- an edited tree is committed, and nothing is printed
+  pub move-answers : (p : Profile) (es : Entries) (names : List (List ℕ)) (w : Result Entries Refused) (m last : Mfs) (mid now : Told) (text : List ℕ)
+      → tree.Answers {B = Unit {0}} (λ es done. StandsAt X N mid m p es) names w (Ok tt) → text ≡ []
+      → ((next : Entries) → StandsAt X N mid m p next → StandsAt X N now last p next × TellsAs X N now (Stands p next))
+      → Answers X N (Stands p es) (moved X N p es names w) (Ok text) now
+  move-answers p es names (Err why) m last mid now text h nothing commits = absurd h
+  move-answers p es names (Ok next) m last mid now text h nothing commits =
       let c = commits next h in
-      inr (record { ends_are = ap (λ (x : List ℕ). Ok x) c.0; stands = c.1; held = c.2 })
-  move-answers p es names (Ok next) m mid now (Err why) h commits kept = wants (Stands p es) (moved X N p es names (Ok next)) why now (commits next h) (kept why refl)
+      inr (record { ends_are = ap (λ (x : List ℕ). Ok x) nothing; stands = c.1; held = c.0.root.held })
 
 -- ---- over every store
 
@@ -170,11 +171,6 @@ pub stays-same : (r : Result (List ℕ) Refusal) (a b : Told) → head_in b ≡ 
 stays-same (Ok []) a b h = tt
 stays-same (Ok (x ∷ text)) a b h = h
 stays-same (Err why) a b h = h
-
-pub stays-after : (r : Result (List ℕ) Refusal) (a b c : Told) → head_in b ≡ head_in a → HeadStays r b c → HeadStays r a c
-stays-after (Ok []) a b c e h = tt
-stays-after (Ok (x ∷ text)) a b c e h = h ∙ e
-stays-after (Err why) a b c e h = h ∙ e
 
 pub stays-nothing : (text : List ℕ) (a b : Told) → text ≡ [] → HeadStays (Ok text) a b
 stays-nothing text a b nothing = subst (λ text. HeadStays (Ok text) a b) (sym nothing) tt

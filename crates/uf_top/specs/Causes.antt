@@ -8,14 +8,14 @@ use Rattle.uf_tree.specs.Profiles.{most_bytes, usual}
 use Rattle.uf_cid.specs.declared.cid.Cid.{Cid}
 use Rattle.uf_edge.specs.declared.streams.Sent.{Sent}
 use Rattle.uf_edge.specs.Counts.{Counts}
-use Rattle.uf_edge.specs.Streams.{after, before, AppendsPrefix, Sends, is_unsent}
+use Rattle.uf_edge.specs.Streams.{before, Sends, is_unsent}
 use Rattle.uf_edge.specs.Streams as streams
 use Rattle.uf_mfs.specs.Bad.{IsBad}
-use Rattle.uf_mfs.specs.Standing.{TellsAs, TellsHeld, head_in}
+use Rattle.uf_mfs.specs.Standing.{head_in}
 use Rattle.uf_mfs.specs.declared.fault.MfsFault.{MfsFault}
 use Rattle.uf_mfs.specs.declared.fault.MfsFault.TheVariants as mfs
-use Rattle.uf_mfs.specs.declared.fault.Ready.{Ready}
-use Rattle.uf_mfs.specs.declared.fault.Ready.TheVariants as ready
+use Rattle.uf_plain.specs.declared.ready.Ready.{Ready}
+use Rattle.uf_plain.specs.declared.ready.Ready.TheVariants as ready
 use Rattle.uf_plain.specs.declared.rule.Rule.TheVariants.{FileTooLong}
 use Rattle.uf_store.specs.declared.store.Role.{Role}
 use Rattle.uf_store.specs.Clashes.{IsSaving}
@@ -23,21 +23,17 @@ use Rattle.uf_store.specs.declared.store.StoreFault.TheVariants.{Memory}
 use Rattle.uf_store.specs.declared.store.Write.{Write}
 use Rattle.uf_store.specs.declared.store.Write.TheVariants.{Synced}
 use Rattle.uf_store.specs.Contents.{Told}
-use Rattle.uf_store.specs.Faults.{Shows, StaysCalm}
-use Rattle.uf_store.specs.Seen.{Seen}
 use Rattle.uf_tree.specs.HeadReading.{head_reads}
-use Rattle.uf_tree.specs.Standing.{Stands}
-use Rattle.uf_tree.specs.Tree.{Dir, Entries}
-use Rattle.uf_tree.specs.TreePlan.{blocks}
 use Rattle.uf_tree.specs.declared.head_fault.HeadFault.{HeadFault}
 use Rattle.uf_tree.specs.declared.profile.Profile.{Profile}
-use Rattle.uf_top.specs.declared.types.Command.{Command}
-use Rattle.uf_top.specs.declared.types.Command.TheVariants.{Init, Add, At}
-use Rattle.uf_top.specs.declared.types.Refusal.{Refusal}
-use Rattle.uf_top.specs.declared.types.Refusal.TheVariants as refusal
-use Rattle.uf_top.specs.Lines.{added_line}
-use Rattle.uf_top.specs.Statuses.{no_memory}
-use Rattle.uf_top.specs.Reply.{file_cid}
+use Rattle.uf_reply.specs.declared.types.Command.{Command}
+use Rattle.uf_reply.specs.declared.types.Command.TheVariants.{Init, Add, At}
+use Rattle.uf_reply.specs.declared.types.Refusal.{Refusal}
+use Rattle.uf_reply.specs.declared.types.Refusal.TheVariants as refusal
+use Rattle.uf_reply.specs.Kinds.{is_of, read_kind, refusal_fault}
+use Rattle.uf_reply.specs.Lines.{added_line}
+use Rattle.uf_reply.specs.Statuses.{no_memory}
+use Rattle.uf_reply.specs.Reply.{file_cid}
 
 -- the faults of calls that open a tree: no rule refuses that, and nothing is printed there
 abbrev pub IsOpeningFault : MfsFault → Type 0
@@ -105,100 +101,15 @@ IsReady told command ends = ⊤
 abbrev pub IsBadIn : (List ℕ → ℕ) → Told → Role → List ℕ → Type 0
 IsBadIn N told role bytes = IsBad N None role bytes ⊎ ((p : Profile) × IsProfileOf told p × IsBad N (Some p) role bytes)
 
-module _ (hash : List ℕ → List ℕ) (Bad : Role → List ℕ → Type 0) where
-  -- no fault was passed over: a fault of the store shows its cause, and before any other answer the store has stayed calm
-  abbrev pub Shown : Result (List ℕ) Refusal → Seen → Seen → Type 0
-  Shown (Ok text) before now = StaysCalm before now
-  Shown (Err (refusal.Rule rule)) before now = StaysCalm before now
-  Shown (Err (refusal.BadPath why)) before now = StaysCalm before now
-  Shown (Err refusal.Usage) before now = StaysCalm before now
-  Shown (Err (refusal.Ready why)) before now = StaysCalm before now
-  Shown (Err refusal.Read) before now = StaysCalm before now
-  Shown (Err refusal.Write) before now = StaysCalm before now
-  Shown (Err (refusal.Store fault)) before now = Shows hash Bad fault before now
-
 -- the Head moves only where a command is done that prints nothing
 abbrev pub HeadStays : Result (List ℕ) Refusal → Told → Told → Type 0
 HeadStays (Ok []) before now = ⊤
 HeadStays (Ok (b ∷ text)) before now = head_in now ≡ head_in before
 HeadStays (Err why) before now = head_in now ≡ head_in before
 
--- the reading failed, the writing failed
-abbrev pub is_reading : Refusal → Bool
-is_reading (refusal.Rule rule) = false
-is_reading (refusal.BadPath why) = false
-is_reading refusal.Usage = false
-is_reading (refusal.Ready why) = false
-is_reading refusal.Read = true
-is_reading refusal.Write = false
-is_reading (refusal.Store fault) = false
-
-abbrev pub is_writing : Refusal → Bool
-is_writing (refusal.Rule rule) = false
-is_writing (refusal.BadPath why) = false
-is_writing refusal.Usage = false
-is_writing (refusal.Ready why) = false
-is_writing refusal.Read = false
-is_writing refusal.Write = true
-is_writing (refusal.Store fault) = false
-
+-- the reading of the input failed
 abbrev pub is_read : {A : Type 0} → Result A Refusal → Bool
-is_read (Ok a) = false
-is_read (Err why) = is_reading why
-
-abbrev pub is_write : {A : Type 0} → Result A Refusal → Bool
-is_write (Ok a) = false
-is_write (Err why) = is_writing why
-
--- the refusals that `add` may have once its words are read: none of words, paths or the output, and of the store only what saves alone can have
-abbrev pub IsOfWork : {A : Type 0} → Result A Refusal → Type 0
-IsOfWork (Ok a) = ⊤
-IsOfWork (Err (refusal.Rule rule)) = ⊤
-IsOfWork (Err (refusal.BadPath why)) = ⊥
-IsOfWork (Err refusal.Usage) = ⊥
-IsOfWork (Err (refusal.Ready why)) = ⊤
-IsOfWork (Err refusal.Read) = ⊤
-IsOfWork (Err refusal.Write) = ⊥
-IsOfWork (Err (refusal.Store fault)) = IsSaving fault
-
--- the refusals that a command at a path may have
-abbrev pub IsOfAt : {A : Type 0} → Result A Refusal → Type 0
-IsOfAt (Ok a) = ⊤
-IsOfAt (Err (refusal.Rule rule)) = ⊤
-IsOfAt (Err (refusal.BadPath why)) = ⊥
-IsOfAt (Err refusal.Usage) = ⊥
-IsOfAt (Err (refusal.Ready why)) = ⊤
-IsOfAt (Err refusal.Read) = ⊥
-IsOfAt (Err refusal.Write) = ⊥
-IsOfAt (Err (refusal.Store fault)) = ⊤
-
--- the refusals that `init` may have
-abbrev pub IsOfInit : {A : Type 0} → Result A Refusal → Type 0
-IsOfInit (Ok a) = ⊤
-IsOfInit (Err (refusal.Rule rule)) = ⊥
-IsOfInit (Err (refusal.BadPath why)) = ⊥
-IsOfInit (Err refusal.Usage) = ⊥
-IsOfInit (Err (refusal.Ready why)) = ⊤
-IsOfInit (Err refusal.Read) = ⊥
-IsOfInit (Err refusal.Write) = ⊥
-IsOfInit (Err (refusal.Store fault)) = ⊤
-
--- the refusals that a command on the tree may have once the tree is opened
-abbrev pub IsOfTree : {A : Type 0} → Result A Refusal → Type 0
-IsOfTree (Ok a) = ⊤
-IsOfTree (Err (refusal.Rule rule)) = ⊤
-IsOfTree (Err (refusal.BadPath why)) = ⊥
-IsOfTree (Err refusal.Usage) = ⊥
-IsOfTree (Err (refusal.Ready why)) = ⊥
-IsOfTree (Err refusal.Read) = ⊥
-IsOfTree (Err refusal.Write) = ⊥
-IsOfTree (Err (refusal.Store fault)) = ⊤
-
--- the refusals that a command may have whose words are read: `init` has no rule, and only `add` reads the input
-abbrev pub IsOfCommand : Command → Result (List ℕ) Refusal → Type 0
-IsOfCommand (Init p) ends = IsOfInit ends
-IsOfCommand (Add only_hash) ends = IsOfWork ends
-IsOfCommand (At ask path) ends = IsOfAt ends
+is_read result = is_of read_kind result
 
 -- where the input tells, these are the bytes that it had left
 abbrev pub AreLeft : streams.Told → List ℕ → Type 0
@@ -232,12 +143,6 @@ Adds hash told only_hash (Ok text) left left_now = IsRow hash told only_hash lef
 Adds hash told only_hash (Err (refusal.Rule rule)) left left_now = (rule ≡ FileTooLong) × IsTooLong told only_hash left left_now
 Adds hash told only_hash (Err why) left left_now = ⊤
 
--- what a command with this text prints: all of it, a part of it where the output failed, and nothing where it is refused
-abbrev pub Prints : (List ℕ → Type 0) → Result (List ℕ) Refusal → streams.Told → streams.Told → Type 0
-Prints IsText (Ok text) held held_now = IsText text × (held_now ≡ after held text)
-Prints IsText (Err refusal.Write) held held_now = (text : List ℕ) × IsText text × AppendsPrefix text held held_now
-Prints IsText (Err why) held held_now = held_now ≡ held
-
 -- a line was written, or a part of it where the count rose
 pub record IsSent (line : List ℕ) (held held_now : streams.Told) (faults faults_now : ℕ) : Type 0 where
   pub sent : Sent
@@ -252,13 +157,9 @@ IsProfileIn (Some p) head = HeadSays head p
 -- what is read of the Head where only its profile is needed
 abbrev pub IsProfileRead : Result (Option Profile) Refusal → Told → Type 0
 IsProfileRead (Ok found) told = IfSome told (λ t. IsProfileIn found t.notes.head)
-IsProfileRead (Err (refusal.Rule rule)) told = ⊥
-IsProfileRead (Err (refusal.BadPath why)) told = ⊥
-IsProfileRead (Err refusal.Usage) told = ⊥
 IsProfileRead (Err (refusal.Ready why)) told = (why ≡ ready.BadHead) × IfSome told (λ t. IsUnread t.notes.head)
-IsProfileRead (Err refusal.Read) told = ⊥
-IsProfileRead (Err refusal.Write) told = ⊥
 IsProfileRead (Err (refusal.Store fault)) told = IsSaving fault
+IsProfileRead (Err why) told = ⊥
 
 -- the profile that `add -n` takes
 abbrev pub or_usual : Option Profile → Profile
@@ -267,14 +168,7 @@ or_usual (Some p) = p
 
 -- a fault of the store is want of memory
 abbrev pub OnlyWants : {A : Type 0} → Result A Refusal → Type 0
-OnlyWants (Ok a) = ⊤
-OnlyWants (Err (refusal.Rule rule)) = ⊤
-OnlyWants (Err (refusal.BadPath why)) = ⊤
-OnlyWants (Err refusal.Usage) = ⊤
-OnlyWants (Err (refusal.Ready why)) = ⊤
-OnlyWants (Err refusal.Read) = ⊤
-OnlyWants (Err refusal.Write) = ⊤
-OnlyWants (Err (refusal.Store fault)) = fault ≡ Memory
+OnlyWants result = IfSome (refusal_fault result) (λ fault. fault ≡ Memory)
 
 -- the last write was a sync
 abbrev pub IsSynced : Told → Type 0
@@ -284,29 +178,15 @@ IsSynced told = IfSome told (λ t. (writes : List Write) × (t.writes ≡ writes
 abbrev pub ReadsProfile : Result (Option Profile) Refusal → List ℕ → Type 0
 ReadsProfile (Ok None) text = ⊥
 ReadsProfile (Ok (Some p)) text = HeadSays (Some text) p
-ReadsProfile (Err (refusal.Rule rule)) text = ⊥
-ReadsProfile (Err (refusal.BadPath why)) text = ⊥
-ReadsProfile (Err refusal.Usage) text = ⊥
 ReadsProfile (Err (refusal.Ready why)) text = (why ≡ ready.BadHead) × IsUnread (Some text)
-ReadsProfile (Err refusal.Read) text = ⊥
-ReadsProfile (Err refusal.Write) text = ⊥
 ReadsProfile (Err (refusal.Store fault)) text = fault ≡ Memory
+ReadsProfile (Err why) text = ⊥
 
 -- the only refusals are faults that saves alone can have
 abbrev pub Stops : {A : Type 0} → Result A Refusal → Type 0
 Stops (Ok a) = ⊤
-Stops (Err (refusal.Rule rule)) = ⊥
-Stops (Err (refusal.BadPath why)) = ⊥
-Stops (Err refusal.Usage) = ⊥
-Stops (Err (refusal.Ready why)) = ⊥
-Stops (Err refusal.Read) = ⊥
-Stops (Err refusal.Write) = ⊥
 Stops (Err (refusal.Store fault)) = IsSaving fault
-
--- the Head of the tree was written, and nothing is printed, or there was no memory
-abbrev pub CommitsTo : (List ℕ → List ℕ) → (List ℕ → ℕ) → Profile → Entries → Result (List ℕ) Refusal → Told → Type 0
-CommitsTo X N p es (Ok text) now = (text ≡ []) × TellsAs X N now (Stands p es) × TellsHeld now (blocks X N p (Dir es))
-CommitsTo X N p es (Err why) now = why ≡ no_memory
+Stops (Err why) = ⊥
 
 -- a text that was made, or want of memory
 abbrev pub IsMade : {A : Type 0} → Result (List ℕ) A → Result (List ℕ) Refusal → Type 0

@@ -8,31 +8,21 @@ use Rattle.uf_build.specs.Building.{Building, HasFed, HoldsFed}
 use Rattle.uf_edge.specs.Streams.{Told, before, IsAtEnd}
 use Rattle.uf_plain.specs.declared.rule.Rule.TheVariants.{FileTooLong}
 use Rattle.uf_store.specs.Contents as store
-use Rattle.uf_store.specs.Faults.{NoneIsBad, Shows, StaysCalm}
+use Rattle.uf_store.specs.Faults.{NoneIsBad, Shown}
 use Rattle.uf_store.specs.Keeping.{Holds}
 use Rattle.uf_store.specs.Seen.{Seen}
 use Rattle.uf_tree.specs.FilePlan.{file_plan}
 use Rattle.uf_tree.specs.declared.nodes.Entry.{Entry}
 use Rattle.uf_tree.specs.declared.profile.Profile.{Profile}
-use Rattle.uf_top.specs.declared.types.Refusal.{Refusal}
-use Rattle.uf_top.specs.declared.types.Refusal.TheVariants as refusal
-use Rattle.uf_top.specs.Lines.{added_line}
-use Rattle.uf_top.specs.Reply.{file_cid}
+use Rattle.uf_reply.specs.declared.types.Refusal.{Refusal}
+use Rattle.uf_reply.specs.declared.types.Refusal.TheVariants as refusal
+use Rattle.uf_reply.specs.Lines.{added_line}
+use Rattle.uf_reply.specs.Kinds.{refusal_fault}
+use Rattle.uf_reply.specs.Reply.{file_cid}
 
--- what a refusal shows: a fault of the store its cause, and before any other refusal the store has stayed calm
-abbrev pub ShownWhy : (List ℕ → List ℕ) → Refusal → Seen → Seen → Type 0
-ShownWhy hash (refusal.Rule rule) before now = StaysCalm before now
-ShownWhy hash (refusal.BadPath why) before now = StaysCalm before now
-ShownWhy hash refusal.Usage before now = StaysCalm before now
-ShownWhy hash (refusal.Ready why) before now = StaysCalm before now
-ShownWhy hash refusal.Read before now = StaysCalm before now
-ShownWhy hash refusal.Write before now = StaysCalm before now
-ShownWhy hash (refusal.Store fault) before now = Shows hash NoneIsBad fault before now
-
--- no fault was passed over
+-- no fault was passed over by a call that reads no block's content
 abbrev pub ShownIn : {A : Type 0} → (List ℕ → List ℕ) → Result A Refusal → Seen → Seen → Type 0
-ShownIn hash (Ok a) before now = StaysCalm before now
-ShownIn hash (Err why) before now = ShownWhy hash why before now
+ShownIn hash result before now = Shown hash NoneIsBad (refusal_fault result) before now
 
 -- more bytes were given than a file of this profile may have
 pub record PassesMost (p : Profile) (left left_now : Told) : Type 0 where
@@ -52,12 +42,9 @@ pub record IsWholeFile (hash : List ℕ → List ℕ) (p : Profile) (told_now : 
 -- the refusals that the reading of an input can have: too many bytes, a failed reading, and what saves alone can have
 abbrev pub IsStopped : (refuses_long : Type 0) → Refusal → Type 0
 IsStopped long (refusal.Rule rule) = (rule ≡ FileTooLong) × long
-IsStopped long (refusal.BadPath why) = ⊥
-IsStopped long refusal.Usage = ⊥
-IsStopped long (refusal.Ready why) = ⊥
 IsStopped long refusal.Read = ⊤
-IsStopped long refusal.Write = ⊥
 IsStopped long (refusal.Store fault) = IsSaving fault
+IsStopped long why = ⊥
 
 -- the file of an input, or why there is none
 abbrev pub IsFileOf : (List ℕ → List ℕ) → Profile → store.Told → Result Entry Refusal → Told → Told → Type 0

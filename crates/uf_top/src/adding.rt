@@ -1,25 +1,25 @@
 // The commands that add the input as a file.
-ghost use Rattle.std.specs.Prelude.{◌≡◌, ◌<◌, List, ℕ, Ok, false, true, None, Some, IfOk, IfSome, IsTrue, OnOk};
-ghost use Rattle.uf_edge.specs.Counts.{Counts, Stood};
-ghost use Rattle.uf_mfs.specs.Standing.{LeavesHead, TellsAs, head_in};
+ghost use Rattle.std.specs.Prelude.{◌≡◌, ◌<◌, List, ℕ, false, true, None, IfOk, IfSome, IsTrue, OnErr, OnOk};
+ghost use Rattle.uf_edge.specs.Counts.{Counts};
+ghost use Rattle.uf_mfs.specs.Standing.{LeavesHead};
+ghost use Rattle.uf_store.specs.Contents.{changed, with_sync};
 ghost use Rattle.uf_store.specs.Keeping.{KeepsGood};
 ghost use Rattle.uf_tree.specs.Profiles.{is_profile};
-ghost use Rattle.uf_tree.specs.Standing.{Standing};
-ghost use Rattle.uf_top.specs.Causes.{Adds, IsOfWork, IsProfileRead, IsReady, IsSynced, OnlyWants, ReadsProfile, Stops, is_read, or_usual as usual_or};
-ghost use Rattle.uf_top.specs.Endings.{SyncsFor};
+ghost use Rattle.uf_reply.specs.Commands.{SyncsBlocks};
+ghost use Rattle.uf_top.specs.Causes.{IsProfileRead, OnlyWants, ReadsProfile, Stops, is_read, or_usual as usual_or};
 ghost use Rattle.uf_top.specs.Intake.{IsRowOf, ShownIn};
-ghost use Rattle.uf_top.specs.Reply.{Answers, add_reply};
-ghost use Rattle.uf_top.specs.declared.types.Command.TheVariants as commands;
+ghost use Rattle.uf_top.specs.Shapes.{WritesAs, is_ok};
+ghost use Rattle.uf_top.specs.Working.{Works};
+ghost use Rattle.uf_reply.specs.declared.types.Command.TheVariants as commands;
 
-use crate::Refusal;
 use crate::intake::file_of;
-use crate::rows::added_row;
 use std::alloc::Global;
 use std::marker::Brand;
 use std::sync::ledger::{Blank, Ledger};
 use uf_cid::{Block, BlockHash};
 use uf_edge::{Put, Source};
 use uf_mfs::Ready;
+use uf_reply::{Refusal, added_row};
 use uf_store::{Discard, Note, NoteRead, Steps, Store, StoreFault};
 use uf_tree::{HeadFault, Profile, read_head};
 
@@ -31,18 +31,8 @@ pub fn adds<S: Store, I: Source, L: Ledger>(
     input: &mut I,
     touches: &mut Steps<L>,
 ) -> Result<Block, Refusal>
-    ensures answers { (N : List ℕ → ℕ) (standing : Standing) (bytes : List ℕ) → TellsAs S.X.block32 N (S.seen store.old).told standing → I.left input.old ≡ Some bytes
-        → Stood (S.seen store.old).faults (S.seen store.new).faults → Stood (S.seen store.old).clashes (S.seen store.new).clashes → Stood (I.faults input.old) (I.faults input.new)
-        → Answers S.X.block32 N standing (add_reply S.X.block32 only_hash standing bytes) result (S.seen store.new).told }
-    ensures adds { Adds S.X.block32 (S.seen store.old).told only_hash result (I.left input.old) (I.left input.new) }
-    ensures synced { SyncsFor (Ok (commands.Add only_hash)) result (S.seen store.new).told }
-    ensures ready { IsReady (S.seen store.old).told (commands.Add only_hash) result }
-    ensures work { IsOfWork result }
-    ensures counts { Counts (is_read result) (I.faults input.old) (I.faults input.new) }
-    ensures cause { ShownIn S.X.block32 result (S.seen store.old) (S.seen store.new) }
-    ensures good { KeepsGood S.X.block32 (S.seen store.old).told (S.seen store.new).told }
-    ensures head { head_in (S.seen store.new).told ≡ head_in (S.seen store.old).told }
-    ensures told { only_hash ≡ true → (S.seen store.new).told ≡ (S.seen store.old).told }
+    ensures works { (N : List ℕ → ℕ) → Works S.X.block32 N (commands.Add only_hash) result (S.seen store.old)
+        (S.seen store.new) (I.left input.old) (I.left input.new) (I.faults input.old) (I.faults input.new) }
     ensures touches { only_hash ≡ true → touches.new ≡ touches.old }
 {
     if only_hash {
@@ -59,17 +49,8 @@ fn add<S: Store, I: Source, L: Ledger>(
     input: &mut I,
     touches: &mut Steps<L>,
 ) -> Result<Block, Refusal>
-    ensures answers { (N : List ℕ → ℕ) (standing : Standing) (bytes : List ℕ) → TellsAs S.X.block32 N (S.seen store.old).told standing → I.left input.old ≡ Some bytes
-        → Stood (S.seen store.old).faults (S.seen store.new).faults → Stood (S.seen store.old).clashes (S.seen store.new).clashes → Stood (I.faults input.old) (I.faults input.new)
-        → Answers S.X.block32 N standing (add_reply S.X.block32 false standing bytes) result (S.seen store.new).told }
-    ensures adds { Adds S.X.block32 (S.seen store.old).told false result (I.left input.old) (I.left input.new) }
-    ensures synced { OnOk result (IsSynced (S.seen store.new).told) }
-    ensures ready { IsReady (S.seen store.old).told (commands.Add false) result }
-    ensures work { IsOfWork result }
-    ensures counts { Counts (is_read result) (I.faults input.old) (I.faults input.new) }
-    ensures cause { ShownIn S.X.block32 result (S.seen store.old) (S.seen store.new) }
-    ensures good { KeepsGood S.X.block32 (S.seen store.old).told (S.seen store.new).told }
-    ensures head { head_in (S.seen store.new).told ≡ head_in (S.seen store.old).told }
+    ensures { (N : List ℕ → ℕ) → Works S.X.block32 N (commands.Add false) result (S.seen store.old) (S.seen store.new)
+        (I.left input.old) (I.left input.new) (I.faults input.old) (I.faults input.new) }
 {
     match head_profile(alloc, store) {
         Err(why) => Err(why),
@@ -84,15 +65,8 @@ fn add_only_hash<S: Store, I: Source>(
     store: &mut S,
     input: &mut I,
 ) -> Result<Block, Refusal>
-    ensures answers { (N : List ℕ → ℕ) (standing : Standing) (bytes : List ℕ) → TellsAs S.X.block32 N (S.seen store.old).told standing → I.left input.old ≡ Some bytes
-        → Stood (S.seen store.old).faults (S.seen store.new).faults → Stood (S.seen store.old).clashes (S.seen store.new).clashes → Stood (I.faults input.old) (I.faults input.new)
-        → Answers S.X.block32 N standing (add_reply S.X.block32 true standing bytes) result (S.seen store.new).told }
-    ensures adds { Adds S.X.block32 (S.seen store.old).told true result (I.left input.old) (I.left input.new) }
-    ensures ready { IsReady (S.seen store.old).told (commands.Add true) result }
-    ensures work { IsOfWork result }
-    ensures counts { Counts (is_read result) (I.faults input.old) (I.faults input.new) }
-    ensures cause { ShownIn S.X.block32 result (S.seen store.old) (S.seen store.new) }
-    ensures told { (S.seen store.new).told ≡ (S.seen store.old).told }
+    ensures { (N : List ℕ → ℕ) → Works S.X.block32 N (commands.Add true) result (S.seen store.old) (S.seen store.new)
+        (I.left input.old) (I.left input.new) (I.faults input.old) (I.faults input.new) }
 {
     match head_profile(alloc, store) {
         Err(why) => Err(why),
@@ -147,11 +121,10 @@ fn add_by<S: Store, I: Source, L: Ledger>(
 ) -> Result<Block, Refusal>
     requires { IsTrue (is_profile profile) }
     ensures row { IsRowOf S.X.block32 profile (S.seen store.new).told result (I.left input.old) (I.left input.new) }
-    ensures synced { OnOk result (IsSynced (S.seen store.new).told) }
     ensures counts { Counts (is_read result) (I.faults input.old) (I.faults input.new) }
     ensures cause { ShownIn S.X.block32 result (S.seen store.old) (S.seen store.new) }
     ensures good { KeepsGood S.X.block32 (S.seen store.old).told (S.seen store.new).told }
-    ensures head { head_in (S.seen store.new).told ≡ head_in (S.seen store.old).told }
+    ensures writes { WritesAs S.X.block32 SyncsBlocks (is_ok result) (S.seen store.old).told (S.seen store.new).told }
 {
     match file_of(alloc, profile, store, input, touches) {
         Err(why) => Err(why),
@@ -166,9 +139,9 @@ fn add_by<S: Store, I: Source, L: Ledger>(
 fn synced<S: Store>(store: &mut S, row: Block) -> Result<Block, Refusal>
     ensures row { IfOk result (λ text. text ≡ row) }
     ensures stopped { Stops result }
-    ensures synced { OnOk result (IsSynced (S.seen store.new).told) }
+    ensures synced { OnOk result ((S.seen store.new).told ≡ changed with_sync (S.seen store.old).told) }
+    ensures failed { OnErr result (LeavesHead (S.seen store.old).told (S.seen store.new).told) }
     ensures cause { ShownIn S.X.block32 result (S.seen store.old) (S.seen store.new) }
-    ensures leaves { LeavesHead (S.seen store.old).told (S.seen store.new).told }
 {
     match store.sync() {
         Put::Done => Ok(row),

@@ -8,12 +8,12 @@ ghost use Rattle.uf_top.specs.Intake.{Closes, FeedsNext, FeedsPiece, FeedsRest, 
 ghost use Rattle.uf_tree.specs.Profiles.{is_profile};
 ghost use Rattle.uf_tree.specs.declared.profile.Profile.{Profile as TheProfile};
 
-use crate::Refusal;
 use std::alloc::{AllocError, Global};
 use std::sync::ledger::Ledger;
 use uf_build::{BuildFault, Builder};
 use uf_edge::{Filled, Source, fill};
 use uf_plain::Rule;
+use uf_reply::Refusal;
 use uf_store::{Steps, Store, StoreFault};
 use uf_tree::{Entry, Profile};
 

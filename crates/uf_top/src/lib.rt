@@ -2,18 +2,12 @@
 #![tactic(auto)]
 
 mod adding;
-mod asking;
 mod command;
 mod intake;
-mod lines;
-mod rows;
-mod status;
 mod tree;
-mod types;
 
 pub use command::run;
-pub use status::Status;
-pub use types::{Ask, Command, Edit, Refusal};
+pub use uf_reply::Status;
 
 #[cfg(test)]
 mod tests;

@@ -6,7 +6,7 @@ use std::alloc::Global;
 use std::marker::Brand;
 use std::sync::ledger::{Blank, Ledger};
 use uf_cid::{Block, Cid, Codec, Memory, Sha256Hash};
-use uf_edge::{Calls, MemSink, MemSource, Put};
+use uf_edge::{Calls, MemHost, MemSink, MemSource, Put};
 use uf_murmur::Murmur3;
 use uf_store::{CallKind, MemStore, Note, Steps, Store};
 
@@ -126,10 +126,12 @@ fn ends<L: Ledger>(
     let mut input = source(alloc, row.input, streams.input_fails)?;
     let mut output = sink(alloc, streams.room, streams.output_fails)?;
     let mut errors = sink(alloc, 1000, streams.errors_fail)?;
-    let status = run::<Kept, Murmur3, MemSource, MemSink, MemSink, L>(
+    let mut host = MemHost::new(alloc, Calls::new(alloc));
+    let status = run::<Kept, Murmur3, MemHost, MemSource, MemSink, MemSink, L>(
         alloc,
         &words,
         store,
+        &mut host,
         &mut input,
         &mut output,
         &mut errors,

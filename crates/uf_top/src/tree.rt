@@ -1,33 +1,30 @@
 // The commands on the tree that the Head names.
-ghost use Rattle.std.specs.Prelude.{◌≡◌, [], false, true, IfOk, IsTrue, Ok, Some, None};
+ghost use Rattle.std.specs.Prelude.{◌≡◌, ℕ, false, true, IsTrue, Ok, Some};
 ghost use Rattle.uf_edge.specs.Counts.{Stood};
+ghost use Rattle.uf_edge.specs.Streams.{Told as Left};
 ghost use Rattle.uf_mfs.specs.Answers.{MovesTo, ShownInTree};
 ghost use Rattle.uf_mfs.specs.Bad.{IsBad};
 ghost use Rattle.uf_plain.specs.Edits.{at as at_names};
-ghost use Rattle.uf_mfs.specs.Standing.{IsMfs, StandsAt, TellsAs, head_in};
+ghost use Rattle.uf_mfs.specs.Standing.{IsMfs, StandsAt};
 ghost use Rattle.uf_store.specs.Keeping.{KeepsGood};
 ghost use Rattle.uf_store.specs.Writing.{SavesOnly};
-ghost use Rattle.uf_tree.specs.Heads.{head_text};
 ghost use Rattle.uf_tree.specs.Profiles.{is_profile};
-ghost use Rattle.uf_tree.specs.Standing.{Standing, Stands};
 ghost use Rattle.uf_tree.specs.Tree.{Dir, Entries};
 ghost use Rattle.uf_tree.specs.declared.profile.Profile.{Profile as TheProfile};
-ghost use Rattle.uf_top.specs.Causes.{CommitsTo, HeadStays, IsBadIn, IsMade, IsOfAt, IsOfInit, IsOfTree, IsOpeningFault, IsReady, IsTreeFault, RefusesInTree, RefusesOpening, Shown};
-ghost use Rattle.uf_top.specs.Commands.{is_idle, only_looks};
-ghost use Rattle.uf_top.specs.Intake.{ShownIn};
-ghost use Rattle.uf_top.specs.Reply.{Answers, edited_by, in_tree as in_the_tree, init_reply, tree_reply};
-ghost use Rattle.uf_top.specs.declared.types.Ask.TheVariants as asks;
-ghost use Rattle.uf_top.specs.declared.types.Command.TheVariants as commands;
-ghost use Rattle.uf_top.specs.declared.types.Edit.TheVariants as edits;
+ghost use Rattle.uf_top.specs.Causes.{IsMade, IsOpeningFault, IsTreeFault, RefusesInTree, RefusesOpening};
+ghost use Rattle.uf_top.specs.Working.{Works, WorksAt};
+ghost use Rattle.uf_reply.specs.Reply.{edited_by};
+ghost use Rattle.uf_reply.specs.declared.types.Ask.TheVariants as asks;
+ghost use Rattle.uf_reply.specs.declared.types.Command.TheVariants as commands;
+ghost use Rattle.uf_reply.specs.declared.types.Edit.TheVariants as edits;
 
-use crate::rows::{name_lines, row_lines, stat_text};
-use crate::{Ask, Edit, Refusal};
 use std::alloc::Global;
 use std::sync::ledger::Ledger;
 use uf_cid::{Block, Memory};
 use uf_mfs::{Mfs, MfsFault};
 use uf_murmur::NameHash;
 use uf_path::Path;
+use uf_reply::{Ask, Edit, Refusal, name_lines, row_lines, stat_text};
 use uf_store::{Steps, Store, StoreFault};
 use uf_tree::Profile;
 
@@ -39,15 +36,8 @@ pub fn init<S: Store, N: NameHash, L: Ledger>(
     touches: &mut Steps<L>,
 ) -> Result<Block, Refusal>
     requires { IsTrue (is_profile profile) }
-    ensures answers { (standing : Standing) → TellsAs S.X.block32 N.name64 (S.seen store.old).told standing
-        → Stood (S.seen store.old).faults (S.seen store.new).faults → Stood (S.seen store.old).clashes (S.seen store.new).clashes
-        → Answers S.X.block32 N.name64 standing (init_reply S.X.block32 N.name64 profile standing) result (S.seen store.new).told }
-    ensures nothing { IfOk result (λ text. text ≡ []) }
-    ensures ready { IsReady (S.seen store.old).told (commands.Init profile) result }
-    ensures work { IsOfInit result }
-    ensures cause { ShownIn S.X.block32 result (S.seen store.old) (S.seen store.new) }
-    ensures good { KeepsGood S.X.block32 (S.seen store.old).told (S.seen store.new).told }
-    ensures head { HeadStays result (S.seen store.old).told (S.seen store.new).told }
+    ensures { (left : Left) (reads : ℕ) → Works S.X.block32 N.name64 (commands.Init profile) result (S.seen store.old)
+        (S.seen store.new) left left reads reads }
 {
     match Mfs::init::<S, N, L>(alloc, store, profile, touches) {
         Err(fault) => Err(opening(fault)),
@@ -66,17 +56,9 @@ pub fn at<S: Store, N: NameHash, L: Ledger>(
     store: &mut S,
     touches: &mut Steps<L>,
 ) -> Result<Block, Refusal>
-    ensures answers { (standing : Standing) → TellsAs S.X.block32 N.name64 (S.seen store.old).told standing
-        → Stood (S.seen store.old).faults (S.seen store.new).faults → Stood (S.seen store.old).clashes (S.seen store.new).clashes
-        → Answers S.X.block32 N.name64 standing (in_the_tree (tree_reply S.X.block32 N.name64 ask path.now.names) standing) result (S.seen store.new).told }
-    ensures ready { IsReady (S.seen store.old).told (commands.At ask path.now) result }
-    ensures work { IsOfAt result }
-    ensures cause { Shown S.X.block32 (IsBadIn N.name64 (S.seen store.old).told) result (S.seen store.old) (S.seen store.new) }
-    ensures good { KeepsGood S.X.block32 (S.seen store.old).told (S.seen store.new).told }
-    ensures head { HeadStays result (S.seen store.old).told (S.seen store.new).told }
-    ensures told { only_looks ask ≡ true → (S.seen store.new).told ≡ (S.seen store.old).told }
-    ensures idle { (p : TheProfile) (es : Entries) → TellsAs S.X.block32 N.name64 (S.seen store.old).told (Stands p es) → Stood (S.seen store.old).faults (S.seen store.new).faults
-        → is_idle es (commands.At ask path.now) ≡ true → (S.seen store.new).told ≡ (S.seen store.old).told }
+    ensures { (left : Left) (reads : ℕ)
+        → Works S.X.block32 N.name64 (commands.At ask path.now) result (S.seen store.old)
+        (S.seen store.new) left left reads reads }
 {
     match Mfs::from_store::<S, N, L>(alloc, store, touches) {
         Err(fault) => Err(opening(fault)),
@@ -94,16 +76,7 @@ fn in_tree<S: Store, N: NameHash, L: Ledger>(
     touches: &mut Steps<L>,
 ) -> Result<Block, Refusal>
     requires { IsMfs tree }
-    ensures answers { (p : TheProfile) (es : Entries) → StandsAt S.X.block32 N.name64 (S.seen store.old).told tree p es → TellsAs S.X.block32 N.name64 (S.seen store.old).told (Stands p es)
-        → Stood (S.seen store.old).faults (S.seen store.new).faults → Stood (S.seen store.old).clashes (S.seen store.new).clashes
-        → Answers S.X.block32 N.name64 (Stands p es) (tree_reply S.X.block32 N.name64 ask path.now.names p es) result (S.seen store.new).told }
-    ensures work { IsOfTree result }
-    ensures cause { Shown S.X.block32 (IsBad N.name64 (Some tree.profile)) result (S.seen store.old) (S.seen store.new) }
-    ensures good { KeepsGood S.X.block32 (S.seen store.old).told (S.seen store.new).told }
-    ensures head { HeadStays result (S.seen store.old).told (S.seen store.new).told }
-    ensures told { only_looks ask ≡ true → (S.seen store.new).told ≡ (S.seen store.old).told }
-    ensures idle { (p : TheProfile) (es : Entries) → StandsAt S.X.block32 N.name64 (S.seen store.old).told tree p es → TellsAs S.X.block32 N.name64 (S.seen store.old).told (Stands p es)
-        → Stood (S.seen store.old).faults (S.seen store.new).faults → is_idle es (commands.At ask path.now) ≡ true → (S.seen store.new).told ≡ (S.seen store.old).told }
+    ensures { WorksAt S.X.block32 N.name64 tree ask path.now result (S.seen store.old) (S.seen store.new) }
 {
     match ask {
         Ask::Ls { long: false } => names_at::<S, N, L>(alloc, &tree, path, store, touches),
@@ -121,14 +94,8 @@ fn names_at<S: Store, N: NameHash, L: Ledger>(
     store: &mut S,
     touches: &mut Steps<L>,
 ) -> Result<Block, Refusal>
-    ensures answers { (p : TheProfile) (es : Entries) → StandsAt S.X.block32 N.name64 (S.seen store.old).told tree.now p es → TellsAs S.X.block32 N.name64 (S.seen store.old).told (Stands p es)
-        → Stood (S.seen store.old).faults (S.seen store.new).faults
-        → Answers S.X.block32 N.name64 (Stands p es) (tree_reply S.X.block32 N.name64 (asks.Ls false) path.now.names p es) result (S.seen store.new).told }
-    ensures work { IsOfTree result }
-    ensures cause { Shown S.X.block32 (IsBad N.name64 (Some tree.now.profile)) result (S.seen store.old) (S.seen store.new) }
-    ensures good { KeepsGood S.X.block32 (S.seen store.old).told (S.seen store.new).told }
-    ensures head { HeadStays result (S.seen store.old).told (S.seen store.new).told }
-    ensures told { (S.seen store.new).told ≡ (S.seen store.old).told }
+    ensures { WorksAt S.X.block32 N.name64 tree.now (asks.Ls false) path.now result (S.seen store.old)
+        (S.seen store.new) }
 {
     match tree.names::<S, N, L>(alloc, store, path, touches) {
         Err(fault) => Err(refusal(fault)),
@@ -144,14 +111,8 @@ fn rows_at<S: Store, N: NameHash, L: Ledger>(
     store: &mut S,
     touches: &mut Steps<L>,
 ) -> Result<Block, Refusal>
-    ensures answers { (p : TheProfile) (es : Entries) → StandsAt S.X.block32 N.name64 (S.seen store.old).told tree.now p es → TellsAs S.X.block32 N.name64 (S.seen store.old).told (Stands p es)
-        → Stood (S.seen store.old).faults (S.seen store.new).faults
-        → Answers S.X.block32 N.name64 (Stands p es) (tree_reply S.X.block32 N.name64 (asks.Ls true) path.now.names p es) result (S.seen store.new).told }
-    ensures work { IsOfTree result }
-    ensures cause { Shown S.X.block32 (IsBad N.name64 (Some tree.now.profile)) result (S.seen store.old) (S.seen store.new) }
-    ensures good { KeepsGood S.X.block32 (S.seen store.old).told (S.seen store.new).told }
-    ensures head { HeadStays result (S.seen store.old).told (S.seen store.new).told }
-    ensures told { (S.seen store.new).told ≡ (S.seen store.old).told }
+    ensures { WorksAt S.X.block32 N.name64 tree.now (asks.Ls true) path.now result (S.seen store.old)
+        (S.seen store.new) }
 {
     match tree.ls::<S, N, L>(alloc, store, path, touches) {
         Err(fault) => Err(refusal(fault)),
@@ -167,14 +128,7 @@ fn stat_at<S: Store, N: NameHash, L: Ledger>(
     store: &mut S,
     touches: &mut Steps<L>,
 ) -> Result<Block, Refusal>
-    ensures answers { (p : TheProfile) (es : Entries) → StandsAt S.X.block32 N.name64 (S.seen store.old).told tree.now p es → TellsAs S.X.block32 N.name64 (S.seen store.old).told (Stands p es)
-        → Stood (S.seen store.old).faults (S.seen store.new).faults
-        → Answers S.X.block32 N.name64 (Stands p es) (tree_reply S.X.block32 N.name64 asks.Stat path.now.names p es) result (S.seen store.new).told }
-    ensures work { IsOfTree result }
-    ensures cause { Shown S.X.block32 (IsBad N.name64 (Some tree.now.profile)) result (S.seen store.old) (S.seen store.new) }
-    ensures good { KeepsGood S.X.block32 (S.seen store.old).told (S.seen store.new).told }
-    ensures head { HeadStays result (S.seen store.old).told (S.seen store.new).told }
-    ensures told { (S.seen store.new).told ≡ (S.seen store.old).told }
+    ensures { WorksAt S.X.block32 N.name64 tree.now asks.Stat path.now result (S.seen store.old) (S.seen store.new) }
 {
     match tree.stat::<S, N, L>(alloc, store, path, touches) {
         Err(fault) => Err(refusal(fault)),
@@ -182,7 +136,7 @@ fn stat_at<S: Store, N: NameHash, L: Ledger>(
     }
 }
 
-// Edits the tree at a path, and writes its Head.
+// Edits the tree at a path, and writes its Head. Nothing is printed.
 fn edit_at<S: Store, N: NameHash, L: Ledger>(
     alloc: Global,
     tree: Mfs,
@@ -192,20 +146,15 @@ fn edit_at<S: Store, N: NameHash, L: Ledger>(
     touches: &mut Steps<L>,
 ) -> Result<Block, Refusal>
     requires { IsMfs tree }
-    ensures answers { (p : TheProfile) (es : Entries) → StandsAt S.X.block32 N.name64 (S.seen store.old).told tree p es → TellsAs S.X.block32 N.name64 (S.seen store.old).told (Stands p es)
-        → Stood (S.seen store.old).faults (S.seen store.new).faults → Stood (S.seen store.old).clashes (S.seen store.new).clashes
-        → Answers S.X.block32 N.name64 (Stands p es) (tree_reply S.X.block32 N.name64 (asks.Edit edit) path.now.names p es) result (S.seen store.new).told }
-    ensures work { IsOfTree result }
-    ensures cause { Shown S.X.block32 (IsBad N.name64 (Some tree.profile)) result (S.seen store.old) (S.seen store.new) }
-    ensures good { KeepsGood S.X.block32 (S.seen store.old).told (S.seen store.new).told }
-    ensures head { HeadStays result (S.seen store.old).told (S.seen store.new).told }
-    ensures idle { (p : TheProfile) (es : Entries) → StandsAt S.X.block32 N.name64 (S.seen store.old).told tree p es → TellsAs S.X.block32 N.name64 (S.seen store.old).told (Stands p es)
-        → Stood (S.seen store.old).faults (S.seen store.new).faults → is_idle es (commands.At (asks.Edit edit) path.now) ≡ true → (S.seen store.new).told ≡ (S.seen store.old).told }
+    ensures { WorksAt S.X.block32 N.name64 tree (asks.Edit edit) path.now result (S.seen store.old) (S.seen store.new) }
 {
     let mut tree = tree;
     match edited::<S, N, L>(alloc, &mut tree, edit, path, store, touches) {
         Err(fault) => Err(refusal(fault)),
-        Ok(()) => committed::<S, N, L>(alloc, tree, store, touches),
+        Ok(()) => match tree.commit::<S, N, L>(alloc, store, touches) {
+            Err(fault) => Err(refusal(fault)),
+            Ok(()) => Ok(Block::new(alloc)),
+        },
     }
 }
 
@@ -219,42 +168,26 @@ fn edited<S: Store, N: NameHash, L: Ledger>(
     touches: &mut Steps<L>,
 ) -> Result<(), MfsFault>
     requires { IsMfs tree.old }
-    ensures answer { (p : TheProfile) (es : Entries) → StandsAt S.X.block32 N.name64 (S.seen store.old).told tree.old p es
-        → Stood (S.seen store.old).faults (S.seen store.new).faults → Stood (S.seen store.old).clashes (S.seen store.new).clashes
-        → MovesTo S.X.block32 N.name64 (S.seen store.new).told p path.now.names tree.new (edited_by S.X.block32 N.name64 edit path.now.names p es) result }
-    ensures there { (p : TheProfile) (es below : Entries) → StandsAt S.X.block32 N.name64 (S.seen store.old).told tree.old p es → Stood (S.seen store.old).faults (S.seen store.new).faults
-        → edit ≡ edits.Mkdir true → at_names 0 path.now.names (Dir es) ≡ Ok (Dir below) → ((S.seen store.new).told ≡ (S.seen store.old).told) × (tree.new ≡ tree.old) }
+    ensures answer { (p : TheProfile) (es : Entries)
+        → StandsAt S.X.block32 N.name64 (S.seen store.old).told tree.old p es
+        → Stood (S.seen store.old).faults (S.seen store.new).faults
+        → Stood (S.seen store.old).clashes (S.seen store.new).clashes
+        → MovesTo S.X.block32 N.name64 (S.seen store.new).told p path.now.names tree.new (edited_by S.X.block32
+        N.name64 edit path.now.names p es) result }
+    ensures there { (p : TheProfile) (es below : Entries)
+        → StandsAt S.X.block32 N.name64 (S.seen store.old).told tree.old p es
+        → Stood (S.seen store.old).faults (S.seen store.new).faults
+        → edit ≡ edits.Mkdir true → at_names 0 path.now.names (Dir es) ≡ Ok (Dir below)
+        → ((S.seen store.new).told ≡ (S.seen store.old).told) × (tree.new ≡ tree.old) }
     ensures mfs { IsMfs tree.new }
-    ensures cause { ShownInTree S.X.block32 (IsBad N.name64 (Some tree.old.profile)) result (S.seen store.old) (S.seen store.new) }
+    ensures cause { ShownInTree S.X.block32 (IsBad N.name64 (Some tree.old.profile)) result (S.seen store.old)
+        (S.seen store.new) }
     ensures good { KeepsGood S.X.block32 (S.seen store.old).told (S.seen store.new).told }
     ensures saves { SavesOnly S.X.block32 (S.seen store.old).told (S.seen store.new).told }
 {
     match edit {
         Edit::Mkdir { parents } => { tree.mkdir::<S, N, L>(alloc, store, path, parents, touches) }
         Edit::Rm { recursive } => tree.rm::<S, N, L>(alloc, store, path, recursive, touches),
-    }
-}
-
-// Writes the Head of a tree. Nothing is printed.
-fn committed<S: Store, N: NameHash, L: Ledger>(
-    alloc: Global,
-    tree: Mfs,
-    store: &mut S,
-    touches: &mut Steps<L>,
-) -> Result<Block, Refusal>
-    requires { IsMfs tree }
-    ensures stands { (p : TheProfile) (es : Entries) → StandsAt S.X.block32 N.name64 (S.seen store.old).told tree p es → Stood (S.seen store.old).faults (S.seen store.new).faults
-        → CommitsTo S.X.block32 N.name64 p es result (S.seen store.new).told }
-    ensures work { IsOfTree result }
-    ensures cause { ShownIn S.X.block32 result (S.seen store.old) (S.seen store.new) }
-    ensures good { KeepsGood S.X.block32 (S.seen store.old).told (S.seen store.new).told }
-    ensures head { HeadStays result (S.seen store.old).told (S.seen store.new).told }
-    ensures idle { head_in (S.seen store.old).told ≡ Some (head_text tree.profile tree.root.cid) → (S.seen store.new).told ≡ (S.seen store.old).told }
-{
-    let mut tree = tree;
-    match tree.commit::<S, N, L>(alloc, store, touches) {
-        Err(fault) => Err(refusal(fault)),
-        Ok(()) => Ok(Block::new(alloc)),
     }
 }
 

@@ -1,0 +1,105 @@
+-- The kinds of refusals, and which of them a command may answer.
+use Rattle.std.specs.Prelude.{◌≡◌, Bool, true, false, ⊤}
+use Rattle.std.specs.declared.option.Option.{Option}
+use Rattle.std.specs.declared.option.Option.TheVariants.{None, Some}
+use Rattle.std.specs.declared.result.Result.{Result}
+use Rattle.std.specs.declared.result.Result.TheVariants.{Ok, Err}
+use Rattle.uf_store.specs.declared.store.StoreFault.{StoreFault}
+use Rattle.uf_store.specs.declared.store.StoreFault.TheVariants as fault
+use Rattle.uf_reply.specs.declared.types.Command.{Command}
+use Rattle.uf_reply.specs.declared.types.Command.TheVariants.{Init, Add, At}
+use Rattle.uf_reply.specs.declared.types.Refusal.{Refusal}
+use Rattle.uf_reply.specs.declared.types.Refusal.TheVariants as refusal
+
+-- the kinds of refusals: a damaged block is a failure of the store
+pub data RefusalKind : Type 0 where
+  OfRule OfPath OfUsage OfReady OfRead OfWrite OfFailure OfMissing OfBadBlock OfClash OfMemory : RefusalKind
+
+-- the kind of a fault of the store
+abbrev pub fault_kind : StoreFault → RefusalKind
+fault_kind fault.Failed = OfFailure
+fault_kind (fault.Damaged cid) = OfFailure
+fault_kind (fault.Missing cid) = OfMissing
+fault_kind (fault.BadBlock cid role) = OfBadBlock
+fault_kind (fault.Clash cid held bytes) = OfClash
+fault_kind fault.Memory = OfMemory
+
+-- the kind of a refusal
+abbrev pub refusal_kind : Refusal → RefusalKind
+refusal_kind (refusal.Rule rule) = OfRule
+refusal_kind (refusal.BadPath why) = OfPath
+refusal_kind refusal.Usage = OfUsage
+refusal_kind (refusal.Ready why) = OfReady
+refusal_kind refusal.Read = OfRead
+refusal_kind refusal.Write = OfWrite
+refusal_kind (refusal.Store fault) = fault_kind fault
+
+-- the store's fault in a refusal
+abbrev pub fault_behind : Refusal → Option StoreFault
+fault_behind (refusal.Store fault) = Some fault
+fault_behind why = None
+
+-- the store's fault in an answer
+abbrev pub refusal_fault : {A : Type 0} → Result A Refusal → Option StoreFault
+refusal_fault (Ok a) = None
+refusal_fault (Err why) = fault_behind why
+
+-- the families of commands: those that make a store ready, that add an input, and that work on the tree of the Head
+pub data Family : Type 0 where
+  MakesReady AddsInput WorksInTree : Family
+
+abbrev pub family_of : Command → Family
+family_of (Init p) = MakesReady
+family_of (Add only_hash) = AddsInput
+family_of (At ask path) = WorksInTree
+
+-- the kinds that a command of a family may answer once its words are read, before it prints
+abbrev pub may_answer : Family → RefusalKind → Bool
+may_answer MakesReady OfReady = true
+may_answer MakesReady OfFailure = true
+may_answer MakesReady OfMissing = true
+may_answer MakesReady OfClash = true
+may_answer MakesReady OfMemory = true
+may_answer MakesReady kind = false
+may_answer AddsInput OfRule = true
+may_answer AddsInput OfReady = true
+may_answer AddsInput OfRead = true
+may_answer AddsInput OfFailure = true
+may_answer AddsInput OfClash = true
+may_answer AddsInput OfMemory = true
+may_answer AddsInput kind = false
+may_answer WorksInTree OfRule = true
+may_answer WorksInTree OfReady = true
+may_answer WorksInTree OfFailure = true
+may_answer WorksInTree OfMissing = true
+may_answer WorksInTree OfBadBlock = true
+may_answer WorksInTree OfClash = true
+may_answer WorksInTree OfMemory = true
+may_answer WorksInTree kind = false
+
+-- the same of a command whose tree is opened: that is ready
+abbrev pub opened_kinds : RefusalKind → Bool
+opened_kinds OfReady = false
+opened_kinds kind = may_answer WorksInTree kind
+
+-- the kinds that words may be refused by
+abbrev pub word_kinds : RefusalKind → Bool
+word_kinds OfPath = true
+word_kinds OfUsage = true
+word_kinds OfMemory = true
+word_kinds kind = false
+
+-- a failed reading alone
+abbrev pub read_kind : RefusalKind → Bool
+read_kind OfRead = true
+read_kind kind = false
+
+-- the answer is a refusal of one of these kinds
+abbrev pub is_of : {A : Type 0} → (RefusalKind → Bool) → Result A Refusal → Bool
+is_of kinds (Ok a) = false
+is_of kinds (Err why) = kinds (refusal_kind why)
+
+-- a refusal is of one of these kinds
+abbrev pub IsOf : {A : Type 0} → (RefusalKind → Bool) → Result A Refusal → Type 0
+IsOf kinds (Ok a) = ⊤
+IsOf kinds (Err why) = kinds (refusal_kind why) ≡ true

@@ -1,0 +1,5 @@
+pub mod Commands
+pub mod Kinds
+pub mod Lines
+pub mod Reply
+pub mod Statuses

@@ -1,0 +1,144 @@
+-- The lines that commands print: error lines, rows of a directory, and what is said of a file or a directory (this
+-- project's own).
+use Rattle.std.specs.Prelude.{ℕ, List, [], ◌∷◌, ◌++◌, Bool, true, false, codes}
+use Rattle.std.specs.Fmt.{decimal}
+use Rattle.std.specs.declared.result.Result.{Result}
+use Rattle.std.specs.declared.result.Result.TheVariants.{Ok, Err}
+use Rattle.hex.specs.Hex.{encode_lower}
+use Rattle.uf_cid.specs.Cid.{cid_text}
+use Rattle.uf_cid.specs.declared.cid.Cid.{Cid}
+use Rattle.uf_plain.specs.declared.ready.Ready.{Ready}
+use Rattle.uf_plain.specs.declared.ready.Ready.TheVariants.{NoHead, HeadThere, BadHead}
+use Rattle.uf_plain.specs.declared.reply.Row.{Row}
+use Rattle.uf_plain.specs.declared.rule.Rule.{Rule}
+use Rattle.uf_plain.specs.declared.rule.Rule.TheVariants as rule
+use Rattle.uf_plain.specs.declared.reply.Stat.{Stat}
+use Rattle.uf_path.specs.declared.faults.PathFault.{PathFault}
+use Rattle.uf_path.specs.declared.faults.PathFault.TheVariants as path
+use Rattle.uf_store.specs.declared.store.Role.{Role}
+use Rattle.uf_store.specs.declared.store.Role.TheVariants.{Directory, Shard, FileNode, Leaf}
+use Rattle.uf_store.specs.declared.store.StoreFault.{StoreFault}
+use Rattle.uf_store.specs.declared.store.StoreFault.TheVariants as fault
+use Rattle.uf_words.specs.Shown.{shown_bytes}
+use Rattle.uf_reply.specs.declared.status.Status.TheVariants as status
+use Rattle.uf_reply.specs.declared.types.Refusal.{Refusal}
+use Rattle.uf_reply.specs.declared.types.Refusal.TheVariants as refusal
+use Rattle.uf_reply.specs.Statuses.{plain_line}
+
+-- a line: what is in front, what is behind it, and a line feed
+abbrev pub line : List ℕ → List ℕ → List ℕ
+line front rest = front ++ rest ++ 10 ∷ []
+
+-- the name of a rule and a path or a name, as it is shown
+abbrev pub with_detail : List ℕ → List ℕ → List ℕ
+with_detail name detail = name ++ shown_bytes detail
+
+-- the name of a rule and two paths or names, as they are shown
+abbrev pub with_details : List ℕ → List ℕ → List ℕ → List ℕ
+with_details name first second = name ++ shown_bytes first ++ 32 ∷ shown_bytes second
+
+-- the name of a rule and its details
+abbrev pub rule_words : Rule → List ℕ
+rule_words (rule.NotFound path) = with_detail (codes "NotFound ") path
+rule_words (rule.NotADirectory path) = with_detail (codes "NotADirectory ") path
+rule_words (rule.IsADirectory path) = with_detail (codes "IsADirectory ") path
+rule_words (rule.Exists path) = with_detail (codes "Exists ") path
+rule_words (rule.NeedsRecursive path) = with_detail (codes "NeedsRecursive ") path
+rule_words rule.RootRefused = codes "RootRefused"
+rule_words (rule.Inside source target) = with_details (codes "Inside ") source target
+rule_words rule.FileTooLong = codes "FileTooLong"
+rule_words (rule.Collision first second) = with_details (codes "Collision ") first second
+rule_words rule.TooBig = codes "TooBig"
+
+-- which of the reasons for which a text is no path this is, counted from 1
+abbrev pub path_number : PathFault → ℕ
+path_number path.NotAbsolute = 1
+path_number (path.BadName place) = 2
+path_number path.TooLong = 3
+path_number (path.BadCid why) = 4
+path_number path.Memory = 5
+
+-- the byte at which a bad name starts, and else 0
+abbrev pub path_place : PathFault → ℕ
+path_place path.NotAbsolute = 0
+path_place (path.BadName place) = place
+path_place path.TooLong = 0
+path_place (path.BadCid why) = 0
+path_place path.Memory = 0
+
+-- the number of a reason for which a store isn't ready
+abbrev pub ready_line : Ready → List ℕ
+ready_line NoHead = codes "error: not ready 1\n"
+ready_line HeadThere = codes "error: not ready 2\n"
+ready_line BadHead = codes "error: not ready 3\n"
+
+abbrev pub role_word : Role → List ℕ
+role_word Directory = codes "directory"
+role_word (Shard level) = codes "shard"
+role_word FileNode = codes "node"
+role_word Leaf = codes "leaf"
+
+abbrev pub missing_line : Cid → List ℕ
+missing_line cid = line (codes "error: missing ") (cid_text cid)
+
+abbrev pub bad_block_line : Cid → Role → List ℕ
+bad_block_line cid role = line (codes "error: bad block ") (cid_text cid ++ 32 ∷ role_word role)
+
+-- both blocks in lower case hexadecimal digits, the held one first
+abbrev pub clash_line : Cid → List ℕ → List ℕ → List ℕ
+clash_line cid held bytes = line (codes "error: clash ") (cid_text cid ++ 32 ∷ encode_lower held ++ 32 ∷ encode_lower bytes)
+
+-- the error line of a fault of the store
+abbrev pub fault_line : StoreFault → List ℕ
+fault_line fault.Failed = plain_line status.StoreFault
+fault_line (fault.Damaged cid) = plain_line status.StoreFault
+fault_line (fault.Missing cid) = missing_line cid
+fault_line (fault.BadBlock cid role) = bad_block_line cid role
+fault_line (fault.Clash cid held bytes) = clash_line cid held bytes
+fault_line fault.Memory = plain_line status.Memory
+
+abbrev pub rule_line : Rule → List ℕ
+rule_line rule = line (codes "error: rule ") (rule_words rule)
+
+abbrev pub bad_path_line : PathFault → List ℕ
+bad_path_line why = line (codes "error: rule BadPath ") (decimal (path_number why) ++ 32 ∷ decimal (path_place why))
+
+-- the error line of a refusal
+abbrev pub line_of : Refusal → List ℕ
+line_of (refusal.Rule rule) = rule_line rule
+line_of (refusal.BadPath why) = bad_path_line why
+line_of refusal.Usage = plain_line status.Usage
+line_of (refusal.Ready why) = ready_line why
+line_of refusal.Read = plain_line status.ReadFault
+line_of refusal.Write = plain_line status.WriteFault
+line_of (refusal.Store why) = fault_line why
+
+-- the line that goes to `errors`; nothing at Ok
+abbrev pub said : Result (List ℕ) Refusal → List ℕ
+said (Ok text) = []
+said (Err why) = line_of why
+
+-- the row of a file that was added from the input
+abbrev pub added_line : Cid → List ℕ
+added_line c = codes "added " ++ cid_text c ++ 32 ∷ cid_text c ++ 10 ∷ []
+
+-- a name as it is listed
+abbrev pub name_line : List ℕ → List ℕ
+name_line name = shown_bytes name ++ 10 ∷ []
+
+-- a member as it is listed at length: name, CID and size with tabs between them
+abbrev pub row_line : Row → List ℕ
+row_line row = shown_bytes row.name ++ 9 ∷ cid_text row.cid ++ 9 ∷ decimal row.size ++ 10 ∷ []
+
+abbrev pub type_word : Bool → List ℕ
+type_word true = codes "directory"
+type_word false = codes "file"
+
+-- what is said of a file or a directory, in five lines
+abbrev pub stat_text : Stat → List ℕ
+stat_text stat =
+    line (cid_text stat.cid) []
+    ++ line (codes "Size: ") (decimal stat.size)
+    ++ line (codes "CumulativeSize: ") (decimal stat.cumulative)
+    ++ line (codes "ChildBlocks: ") (decimal stat.children)
+    ++ line (codes "Type: ") (type_word stat.is_folder)

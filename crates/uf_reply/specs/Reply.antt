@@ -1,0 +1,118 @@
+-- The reply to a command, by what the store stands for and the input.
+use Rattle.std.specs.Prelude.{ℕ, List, [], length, Bool, true, false, nat_le, if◌then◌else◌}
+use Rattle.std.specs.declared.result.Result.{Result}
+use Rattle.std.specs.declared.result.Result.TheVariants.{Ok, Err}
+use Rattle.std.specs.List.{flat_map}
+use Rattle.uf_tree.specs.Profiles.{most_bytes, usual}
+use Rattle.uf_cid.specs.Blocks.{Held}
+use Rattle.uf_cid.specs.declared.cid.Cid.{Cid}
+use Rattle.uf_plain.specs.Rules.{allowed, rule_of}
+use Rattle.uf_plain.specs.Edits.{at, made, removed}
+use Rattle.uf_plain.specs.Replies.{names_at, rows_at, stat_of}
+use Rattle.uf_plain.specs.declared.ready.Ready.{Ready}
+use Rattle.uf_plain.specs.declared.ready.Ready.TheVariants as ready
+use Rattle.uf_plain.specs.declared.rule.Refused.{Refused}
+use Rattle.uf_plain.specs.declared.rule.Rule.TheVariants.{FileTooLong}
+use Rattle.uf_tree.specs.FilePlan.{file_plan}
+use Rattle.uf_tree.specs.Standing.{Standing, NoHead, BadHead, Stands}
+use Rattle.uf_tree.specs.Tree.{Tree, Dir, Entries, Nothing}
+use Rattle.uf_tree.specs.TreePlan.{blocks}
+use Rattle.uf_tree.specs.declared.profile.Profile.{Profile}
+use Rattle.uf_reply.specs.declared.types.Ask.{Ask}
+use Rattle.uf_reply.specs.declared.types.Ask.TheVariants.{Ls, Stat, Edit as Edits}
+use Rattle.uf_reply.specs.declared.types.Command.{Command}
+use Rattle.uf_reply.specs.declared.types.Command.TheVariants.{Init, Add, At}
+use Rattle.uf_reply.specs.declared.types.Edit.{Edit}
+use Rattle.uf_reply.specs.declared.types.Edit.TheVariants.{Mkdir, Rm}
+use Rattle.uf_reply.specs.declared.types.Refusal.{Refusal}
+use Rattle.uf_reply.specs.declared.types.Refusal.TheVariants as refusal
+use Rattle.uf_reply.specs.Lines.{added_line, name_line, row_line, stat_text}
+
+-- what a command prints or why it is refused, what the store stands for then, and the blocks that it holds then
+pub record Reply : Type 0 where
+  pub ends : Result (List ℕ) Refusal
+  pub next : Standing
+  pub held : List Held
+
+-- nothing changes: this is printed, or the command is refused
+abbrev pub unchanged : Standing → Result (List ℕ) Refusal → Reply
+unchanged standing ends = record { ends = ends; next = standing; held = [] }
+
+-- the refusal of a store that isn't ready
+abbrev pub not_ready : Standing → Ready → Reply
+not_ready standing why = unchanged standing (Err (refusal.Ready why))
+
+-- the refusal by a rule with this path
+abbrev pub refused : Standing → List (List ℕ) → Refused → Reply
+refused standing names why = unchanged standing (Err (refusal.Rule (rule_of names why)))
+
+-- the reply of a command that needs the Head
+abbrev pub in_tree : (Profile → Entries → Reply) → Standing → Reply
+in_tree say NoHead = not_ready NoHead ready.NoHead
+in_tree say BadHead = not_ready BadHead ready.BadHead
+in_tree say (Stands p es) = say p es
+
+-- what is said of what a lookup gives
+abbrev pub looked : Standing → List (List ℕ) → (Tree → List ℕ) → Result Tree Refused → Reply
+looked standing names say (Ok t) = unchanged standing (Ok (say t))
+looked standing names say (Err why) = refused standing names why
+
+module _ (X : List ℕ → List ℕ) where
+  -- the CID of the file of these bytes
+  abbrev pub file_cid : Profile → List ℕ → Cid
+  file_cid p bytes = (file_plan X p bytes).entry.cid
+
+  -- the row of the input as a file, unless it would be too long; these blocks are held then
+  abbrev pub added : Standing → (List ℕ → List Held) → Profile → List ℕ → Reply
+  added standing blocks p bytes =
+      if nat_le (length bytes) (most_bytes p) then record { ends = Ok (added_line (file_cid p bytes)); next = standing; held = blocks bytes }
+      else unchanged standing (Err (refusal.Rule FileTooLong))
+
+  -- `add -n` takes the profile of the Head, where there is one
+  abbrev pub hash_reply : Standing → List ℕ → Reply
+  hash_reply NoHead bytes = added NoHead (λ bytes. []) usual bytes
+  hash_reply BadHead bytes = not_ready BadHead ready.BadHead
+  hash_reply (Stands p es) bytes = added (Stands p es) (λ bytes. []) p bytes
+
+  abbrev pub add_reply : Bool → Standing → List ℕ → Reply
+  add_reply true standing bytes = hash_reply standing bytes
+  add_reply false standing bytes = in_tree (λ p es. added (Stands p es) (λ bytes. (file_plan X p bytes).blocks) p bytes) standing
+
+module _ (X : List ℕ → List ℕ) (N : List ℕ → ℕ) where
+  -- the empty directory, where there was no Head
+  abbrev pub init_reply : Profile → Standing → Reply
+  init_reply p NoHead = record { ends = Ok []; next = Stands p Nothing; held = blocks X N p (Dir Nothing) }
+  init_reply p BadHead = not_ready BadHead ready.HeadThere
+  init_reply p (Stands q es) = not_ready (Stands q es) ready.HeadThere
+
+  -- the names of what is at a path, or its rows
+  abbrev pub listed : Bool → Profile → List (List ℕ) → Tree → List ℕ
+  listed false p names t = flat_map name_line (names_at names t)
+  listed true p names t = flat_map row_line (rows_at X N p names t)
+
+  -- the tree after an edit, unless it has no plan; what is taken away leaves one
+  abbrev pub edited_by : Edit → List (List ℕ) → Profile → Entries → Result Entries Refused
+  edited_by (Mkdir parents) names p es = allowed X N p (made parents names es)
+  edited_by (Rm recursive) names p es = removed recursive names es
+
+  -- after an edit
+  abbrev pub moved : Profile → Entries → List (List ℕ) → Result Entries Refused → Reply
+  moved p es names (Ok next) = record { ends = Ok []; next = Stands p next; held = blocks X N p (Dir next) }
+  moved p es names (Err why) = refused (Stands p es) names why
+
+  -- the reply of a tree to what is asked at these names
+  abbrev pub tree_reply : Ask → List (List ℕ) → Profile → Entries → Reply
+  tree_reply (Ls long) names p es = looked (Stands p es) names (listed long p names) (at 0 names (Dir es))
+  tree_reply Stat names p es = looked (Stands p es) names (λ t. stat_text (stat_of X N p t)) (at 0 names (Dir es))
+  tree_reply (Edits edit) names p es = moved p es names (edited_by edit names p es)
+
+  -- the reply to a command
+  abbrev pub reply : Command → Standing → List ℕ → Reply
+  reply (Init p) standing bytes = init_reply p standing
+  reply (Add only_hash) standing bytes = add_reply X only_hash standing bytes
+  reply (At ask path) standing bytes = in_tree (tree_reply ask path.names) standing
+
+  -- the reply to words
+  abbrev pub reply_to : Result Command Refusal → Standing → List ℕ → Reply
+  reply_to (Ok command) standing bytes = reply command standing bytes
+  reply_to (Err why) standing bytes = unchanged standing (Err why)

@@ -1,0 +1,66 @@
+-- The statuses of commands.
+use Rattle.std.specs.Prelude.{ℕ, List, [], codes}
+use Rattle.std.specs.declared.result.Result.{Result}
+use Rattle.std.specs.declared.result.Result.TheVariants.{Ok, Err}
+use Rattle.uf_store.specs.declared.store.StoreFault.{StoreFault}
+use Rattle.uf_store.specs.declared.store.StoreFault.TheVariants as fault
+use Rattle.uf_reply.specs.declared.status.Status.{Status}
+use Rattle.uf_reply.specs.declared.status.Status.TheVariants as status
+use Rattle.uf_reply.specs.declared.types.Refusal.{Refusal}
+use Rattle.uf_reply.specs.declared.types.Refusal.TheVariants as refusal
+
+-- the exit status of the process
+abbrev pub status_number : Status → ℕ
+status_number status.Ok = 0
+status_number status.Rule = 1
+status_number status.Usage = 2
+status_number status.StoreFault = 3
+status_number status.Missing = 4
+status_number status.BadBlock = 5
+status_number status.ReadFault = 6
+status_number status.WriteFault = 7
+status_number status.Clash = 8
+status_number status.Memory = 9
+status_number status.NotReady = 10
+
+-- the error line of a status, where it has one without details
+abbrev pub plain_line : Status → List ℕ
+plain_line status.Ok = []
+plain_line status.Rule = []
+plain_line status.Usage = codes "error: usage\n"
+plain_line status.StoreFault = codes "error: store\n"
+plain_line status.Missing = []
+plain_line status.BadBlock = []
+plain_line status.ReadFault = codes "error: read\n"
+plain_line status.WriteFault = codes "error: write\n"
+plain_line status.Clash = []
+plain_line status.Memory = codes "error: memory\n"
+plain_line status.NotReady = []
+
+-- the status of a fault of the store
+abbrev pub fault_status : StoreFault → Status
+fault_status fault.Failed = status.StoreFault
+fault_status (fault.Damaged cid) = status.StoreFault
+fault_status (fault.Missing cid) = status.Missing
+fault_status (fault.BadBlock cid role) = status.BadBlock
+fault_status (fault.Clash cid held bytes) = status.Clash
+fault_status fault.Memory = status.Memory
+
+-- the status of a refusal
+abbrev pub status_of : Refusal → Status
+status_of (refusal.Rule rule) = status.Rule
+status_of (refusal.BadPath why) = status.Rule
+status_of refusal.Usage = status.Usage
+status_of (refusal.Ready why) = status.NotReady
+status_of refusal.Read = status.ReadFault
+status_of refusal.Write = status.WriteFault
+status_of (refusal.Store why) = fault_status why
+
+-- how a command ends that prints this or is refused
+abbrev pub ended : Result (List ℕ) Refusal → Status
+ended (Ok text) = status.Ok
+ended (Err why) = status_of why
+
+-- want of memory
+abbrev pub no_memory : Refusal
+no_memory = refusal.Store fault.Memory

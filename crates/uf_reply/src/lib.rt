@@ -1,0 +1,15 @@
+//! Commands and what is said of them, with no store: words read as a command, refusals, statuses, and the texts that are
+//! printed.
+#![tactic(auto)]
+
+mod asking;
+mod lines;
+mod rows;
+mod status;
+mod types;
+
+pub use asking::read_command;
+pub use lines::{line, refusal_status};
+pub use rows::{added_row, name_lines, row_lines, stat_text};
+pub use status::Status;
+pub use types::{Ask, Command, Edit, Refusal};

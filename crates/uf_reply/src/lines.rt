@@ -1,0 +1,224 @@
+// Error lines.
+ghost use Rattle.std.specs.Prelude.{◌≡◌, ◌++◌, ◌∷◌, [], IfOk, OnOk};
+ghost use Rattle.std.specs.Fmt.{decimal};
+ghost use Rattle.hex.specs.Hex.{encode_lower};
+ghost use Rattle.uf_words.specs.Shown.{shown_bytes};
+ghost use Rattle.uf_reply.specs.Lines.{bad_block_line, bad_path_line, clash_line, fault_line, line as line_text, line_of, path_number as number_of_path, path_place as place_of_path, ready_line as line_of_ready, role_word, rule_line as line_of_rule, rule_words as words_of_rule, with_detail, with_details};
+ghost use Rattle.uf_reply.specs.Statuses.{fault_status, status_of};
+
+use crate::{Refusal, Status};
+use std::alloc::Global;
+use uf_cid::{Block, Cid, Memory};
+use uf_path::PathFault;
+use uf_plain::{Ready, Rule};
+use uf_store::{Role, StoreFault};
+use uf_words::shown;
+
+/// The status of a refusal.
+pub fn refusal_status(refusal: &Refusal) -> Status
+    ensures { result ≡ status_of refusal.now }
+{
+    match refusal {
+        Refusal::Rule(_) | Refusal::BadPath(_) => Status::Rule,
+        Refusal::Usage => Status::Usage,
+        Refusal::Ready(_) => Status::NotReady,
+        Refusal::Read => Status::ReadFault,
+        Refusal::Write => Status::WriteFault,
+        Refusal::Store(fault) => status_of_fault(fault),
+    }
+}
+
+// The status of a fault of the store.
+fn status_of_fault(fault: &StoreFault) -> Status
+    ensures { result ≡ fault_status fault.now }
+{
+    match fault {
+        StoreFault::Failed | StoreFault::Damaged(_) => Status::StoreFault,
+        StoreFault::Missing(_) => Status::Missing,
+        StoreFault::BadBlock(_, _) => Status::BadBlock,
+        StoreFault::Clash(_, _, _) => Status::Clash,
+        StoreFault::Memory => Status::Memory,
+    }
+}
+
+/// The error line of a refusal, with its end.
+pub fn line(alloc: Global, refusal: &Refusal) -> Result<Block, Memory>
+    ensures { IfOk result (λ b. b ≡ line_of refusal.now) }
+{
+    match refusal {
+        Refusal::Rule(rule) => rule_line(alloc, rule),
+        Refusal::BadPath(why) => path_line(alloc, *why),
+        Refusal::Usage => plain(alloc, Status::Usage.plain_line()),
+        Refusal::Ready(why) => plain(alloc, ready_line(*why)),
+        Refusal::Read => plain(alloc, Status::ReadFault.plain_line()),
+        Refusal::Write => plain(alloc, Status::WriteFault.plain_line()),
+        Refusal::Store(fault) => store_line(alloc, fault),
+    }
+}
+
+// The error line of a fault of the store.
+fn store_line(alloc: Global, fault: &StoreFault) -> Result<Block, Memory>
+    ensures { IfOk result (λ b. b ≡ fault_line fault.now) }
+{
+    match fault {
+        StoreFault::Failed | StoreFault::Damaged(_) => {
+            plain(alloc, Status::StoreFault.plain_line())
+        }
+        StoreFault::Missing(cid) => wrapped(alloc, b"error: missing ", &cid.text()),
+        StoreFault::BadBlock(cid, role) => bad_block(alloc, cid, *role),
+        StoreFault::Clash(cid, held, bytes) => {
+            clash(alloc, cid, held.as_slice(), bytes.as_slice())
+        }
+        StoreFault::Memory => plain(alloc, Status::Memory.plain_line()),
+    }
+}
+
+// The line of a block that isn't canonical in its role.
+fn bad_block(alloc: Global, cid: &Cid, role: Role) -> Result<Block, Memory>
+    ensures { IfOk result (λ b. b ≡ bad_block_line cid.now role) }
+{
+    let mut words = plain(alloc, &cid.text())?;
+    words.extend(b" ")?;
+    words.extend(word_of_role(role))?;
+    wrapped(alloc, b"error: bad block ", words.as_slice())
+}
+
+fn word_of_role(role: Role) -> &'static [u8]
+    ensures { result.now ≡ role_word role }
+{
+    match role {
+        Role::Directory => b"directory",
+        Role::Shard(_) => b"shard",
+        Role::FileNode => b"node",
+        Role::Leaf => b"leaf",
+    }
+}
+
+// The line of two blocks of one digest, the held one first.
+fn clash(alloc: Global, cid: &Cid, held: &[u8], bytes: &[u8]) -> Result<Block, Memory>
+    ensures { IfOk result (λ b. b ≡ clash_line cid.now held.now bytes.now) }
+{
+    let mut words = plain(alloc, &cid.text())?;
+    put_hex(alloc, &mut words, held)?;
+    put_hex(alloc, &mut words, bytes)?;
+    wrapped(alloc, b"error: clash ", words.as_slice())
+}
+
+// A space and bytes in lower case hexadecimal digits.
+fn put_hex(alloc: Global, out: &mut Block, bytes: &[u8]) -> Result<(), Memory>
+    ensures { OnOk result (out.new ≡ out.old ++ 32 ∷ encode_lower bytes.now) }
+{
+    let text = hex::encode(alloc, bytes)?;
+    out.extend(b" ")?;
+    out.extend(text.as_bytes())?;
+    Ok(())
+}
+
+fn ready_line(why: Ready) -> &'static [u8]
+    ensures { result.now ≡ line_of_ready why }
+{
+    match why {
+        Ready::NoHead => b"error: not ready 1\n",
+        Ready::HeadThere => b"error: not ready 2\n",
+        Ready::BadHead => b"error: not ready 3\n",
+    }
+}
+
+// The line of a text that is no path.
+fn path_line(alloc: Global, why: PathFault) -> Result<Block, Memory>
+    ensures { IfOk result (λ b. b ≡ bad_path_line why) }
+{
+    let number = path_number(why);
+    let place = path_place(why);
+    let words = format!(in alloc; "{number} {place}")?;
+    wrapped(alloc, b"error: rule BadPath ", words.as_bytes())
+}
+
+fn path_number(why: PathFault) -> u8
+    ensures { result ≡ number_of_path why }
+{
+    match why {
+        PathFault::NotAbsolute => 1,
+        PathFault::BadName(_) => 2,
+        PathFault::TooLong => 3,
+        PathFault::BadCid(_) => 4,
+        PathFault::Memory => 5,
+    }
+}
+
+fn path_place(why: PathFault) -> usize
+    ensures { result ≡ place_of_path why }
+{
+    match why {
+        PathFault::BadName(place) => place,
+        _ => 0,
+    }
+}
+
+// The line of a rule.
+fn rule_line(alloc: Global, rule: &Rule) -> Result<Block, Memory>
+    ensures { IfOk result (λ b. b ≡ line_of_rule rule.now) }
+{
+    let words = rule_words(alloc, rule)?;
+    wrapped(alloc, b"error: rule ", words.as_slice())
+}
+
+// The name of a rule and its details.
+fn rule_words(alloc: Global, rule: &Rule) -> Result<Block, Memory>
+    ensures { IfOk result (λ b. b ≡ words_of_rule rule.now) }
+{
+    match rule {
+        Rule::NotFound(path) => detailed(alloc, b"NotFound ", path.as_str()),
+        Rule::NotADirectory(path) => detailed(alloc, b"NotADirectory ", path.as_str()),
+        Rule::IsADirectory(path) => detailed(alloc, b"IsADirectory ", path.as_str()),
+        Rule::Exists(path) => detailed(alloc, b"Exists ", path.as_str()),
+        Rule::NeedsRecursive(path) => detailed(alloc, b"NeedsRecursive ", path.as_str()),
+        Rule::RootRefused => plain(alloc, b"RootRefused"),
+        Rule::Inside(source, target) => {
+            twice_detailed(alloc, b"Inside ", source.as_str(), target.as_str())
+        }
+        Rule::FileTooLong => plain(alloc, b"FileTooLong"),
+        Rule::Collision(first, second) => {
+            twice_detailed(alloc, b"Collision ", first.as_str(), second.as_str())
+        }
+        Rule::TooBig => plain(alloc, b"TooBig"),
+    }
+}
+
+// The name of a rule and one detail as it is shown.
+fn detailed(alloc: Global, name: &[u8], detail: &str) -> Result<Block, Memory>
+    ensures { IfOk result (λ b. b ≡ with_detail name.now detail.now) }
+{
+    let mut out = plain(alloc, name)?;
+    out.extend(shown(alloc, detail)?.as_str().as_bytes())?;
+    Ok(out)
+}
+
+// The name of a rule and two details as they are shown.
+fn twice_detailed(alloc: Global, name: &[u8], first: &str, second: &str) -> Result<Block, Memory>
+    ensures { IfOk result (λ b. b ≡ with_details name.now first.now second.now) }
+{
+    let mut out = detailed(alloc, name, first)?;
+    out.extend(b" ")?;
+    out.extend(shown(alloc, second)?.as_str().as_bytes())?;
+    Ok(out)
+}
+
+// A line: what is in front, what is behind it, and a line feed.
+pub fn wrapped(alloc: Global, front: &[u8], rest: &[u8]) -> Result<Block, Memory>
+    ensures { IfOk result (λ b. b ≡ line_text front.now rest.now) }
+{
+    let mut out = plain(alloc, front)?;
+    out.extend(rest)?;
+    out.extend(b"\n")?;
+    Ok(out)
+}
+
+// These bytes in a block of their own.
+fn plain(alloc: Global, bytes: &[u8]) -> Result<Block, Memory>
+    ensures { IfOk result (λ b. b ≡ bytes.now) }
+{
+    let mut out = Block::new(alloc);
+    out.extend(bytes)?;
+    Ok(out)
+}

@@ -1,0 +1,117 @@
+-- How `add` is done.
+use Rattle.std.proofs.Common.{◌≡◌, ℕ, List, [], Bool, true, false, refl, sym, ap, subst, ◌∙◌, Option, Some, None, Result, Ok, Err}
+use Rattle.std.specs.Prelude.{IfSome, OnErr, OnOk}
+use Rattle.uf_edge.specs.Counts.{Counts}
+use Rattle.uf_edge.specs.Streams as streams
+use Rattle.uf_mfs.specs.Standing.{LeavesHead, Same, OnlySynced, head_in}
+use Rattle.uf_mfs.proofs.Starting.{leaves-head, saves-head}
+use Rattle.uf_store.specs.Contents.{Told, changed, with_sync}
+use Rattle.uf_store.specs.Faults.{StaysCalm}
+use Rattle.uf_store.specs.Keeping.{KeepsGood}
+use Rattle.uf_store.specs.Seen.{Seen}
+use Rattle.uf_store.specs.Writing.{SavesOnly}
+use Rattle.uf_store.proofs.Calls.{shown-after, stood-back}
+use Rattle.uf_store.proofs.Keeping.{KeepsGood-same}
+use Rattle.uf_store.proofs.Writing.{SavesOnly-refl}
+use Rattle.uf_tree.specs.Validity.{IsHash}
+use Rattle.uf_tree.specs.declared.profile.Profile.{Profile}
+use Rattle.uf_plain.specs.declared.ready.Ready.TheVariants as ready
+use Rattle.uf_reply.specs.Commands.{SyncsBlocks, command_writes}
+use Rattle.uf_reply.specs.Kinds.{refusal_fault}
+use Rattle.uf_reply.specs.declared.types.Command.TheVariants.{Add}
+use Rattle.uf_reply.specs.declared.types.Refusal.{Refusal}
+use Rattle.uf_reply.specs.declared.types.Refusal.TheVariants as refusal
+use Rattle.uf_top.specs.Causes.{AddsBy, IsBadIn, IsProfileIn, IsProfileRead, OnlyWants, is_read, or_usual}
+use Rattle.uf_top.specs.Intake.{IsRowOf, ShownIn}
+use Rattle.uf_top.specs.Shapes.{WritesAs, is_ok}
+use Rattle.uf_top.specs.Working.{Works}
+use Rattle.uf_top.proofs.Added.{add-answers, added-answers, adds-of, adds-read, by-found, by-told, hash-answers, head-absent, head-refused, plan_blocks, read-ready, row-ready}
+use Rattle.uf_top.proofs.InTree.{stays-same}
+use Rattle.uf_top.proofs.Classed.{head-counts, read-kinds, row-kinds}
+use Rattle.uf_top.proofs.Shows.{counts-still, shown-any, wants-shown}
+use Rattle.uf_top.proofs.Standings.{stands-kept, stands-same, tells-held, tells-none}
+
+-- where nothing was written, a refused `add` has written what it may
+add-same : (X : List ℕ → List ℕ) (only_hash : Bool) (a b : Told) → b ≡ a → WritesAs X (command_writes (Add only_hash)) false a b
+add-same X true a b e = e
+add-same X false a b e = record { between = a; saves = SavesOnly-refl X a; last = Same e }
+
+-- what saves and a sync write moves no Head
+synced-head : (a b : Told) → b ≡ changed with_sync a → head_in b ≡ head_in a
+synced-head a b e = leaves-head a b (OnlySynced e)
+
+pub add-head : (X : List ℕ → List ℕ) (done : Bool) (a b : Told) → WritesAs X SyncsBlocks done a b → head_in b ≡ head_in a
+add-head X true a b w = synced-head w.between b w.last ∙ saves-head X a w.between w.saves
+add-head X false a b w = leaves-head w.between b w.last ∙ saves-head X a w.between w.saves
+
+-- saves, and then a sync, or none
+pub synced-writes : (X : List ℕ → List ℕ) (r : Result (List ℕ) Refusal) (a m b : Told) → SavesOnly X a m → OnOk r (b ≡ changed with_sync m) → OnErr r (LeavesHead m b) → WritesAs X SyncsBlocks (is_ok r) a b
+synced-writes X (Ok text) a m b saves synced failed = record { between = m; saves = saves; last = synced }
+synced-writes X (Err why) a m b saves synced failed = record { between = m; saves = saves; last = failed }
+
+module _ (X : List ℕ → List ℕ) (hash : IsHash X) (N : List ℕ → ℕ) (a m : Seen) (told : m.told ≡ a.told) (l : streams.Told) (i : ℕ) where
+  -- the Head isn't read, or not in memory
+  pub head-unread : (only_hash : Bool) (why : Refusal) → IsProfileRead (Err why) a.told → ShownIn {A = Option Profile} X (Err why) a m → Works X N (Add only_hash) (Err why) a m l l i i
+  head-unread only_hash why read shown = record {
+    answers = λ s bytes stands input calm. head-refused X hash N s only_hash bytes why a m stands (stands-same X N a.told m.told s told stands) read shown calm.faults calm.clashes;
+    kinds = read-kinds why a.told read;
+    ready = read-ready only_hash a.told why read;
+    adds = adds-read X only_hash a.told why l l read;
+    counts = head-counts why a.told i read;
+    cause = shown-any X (IsBadIn N a.told) (Err why) a m shown;
+    leaves = record { good = KeepsGood-same X a.told m.told told; head = ap head_in told; writes = add-same X only_hash a.told m.told told; idle = λ p es stands calm same. told };
+  }
+
+  -- there is none, where one is needed
+  pub no-head : IfSome a.told (λ t. t.notes.head ≡ None) → StaysCalm a m → Works X N (Add false) (Err (refusal.Ready ready.NoHead)) a m l l i i
+  no-head none calm = record {
+    answers = λ s bytes stands input calm2. head-absent X N s bytes a.told m.told stands (stands-same X N a.told m.told s told stands) none;
+    kinds = refl;
+    ready = none;
+    adds = tt;
+    counts = counts-still i;
+    cause = calm;
+    leaves = record { good = KeepsGood-same X a.told m.told told; head = ap head_in told; writes = add-same X false a.told m.told told; idle = λ p es stands calm same. told };
+  }
+
+  module _ (calm : StaysCalm a m) (r : Result (List ℕ) Refusal) (k : streams.Told) (j : ℕ) (counts : Counts (is_read r) i j) where
+    -- the input is added by the profile of the Head
+    pub is-added : (p : Profile) (b : Seen) → IfSome a.told (λ t. IsProfileIn (Some p) t.notes.head) → IsRowOf X p b.told r l k → ShownIn X r m b → KeepsGood X m.told b.told
+        → WritesAs X SyncsBlocks (is_ok r) m.told b.told → Works X N (Add false) r a b l k i j
+    is-added p b says row shown kept writes =
+        let good = subst (λ t. KeepsGood X t b.told) told kept in
+        let written = subst (λ t. WritesAs X SyncsBlocks (is_ok r) t b.told) told writes in
+        let head = add-head X (is_ok r) a.told b.told written in
+        record {
+          answers = λ s bytes stands input calm2.
+              let given = input refl in
+              let now = stands-kept X N a.told b.told s good head stands in
+              add-answers X hash N s p bytes r a.told b.told stands says
+              (added-answers X N s (plan_blocks X p) p bytes r b.told m b l k i j now (λ bs h. tells-held X N b.told s _ now h) row given.0 shown
+              (stood-back a.faults m.faults b.faults calm.faults calm2.faults) (stood-back a.clashes m.clashes b.clashes calm.clashes calm2.clashes) counts given.1);
+          kinds = row-kinds X p b.told r l k row;
+          ready = row-ready X false a.told b.told p r l k row;
+          adds = adds-of X false a.told b.told p r l k (by-told a.told false p says) row;
+          counts = counts;
+          cause = shown-after X (IsBadIn N a.told) (refusal_fault r) a m b calm (shown-any X (IsBadIn N a.told) r m b shown);
+          leaves = record { good = good; head = stays-same r a.told b.told head; writes = written; idle = λ q es stands calm same. absurd cc };
+        }
+
+    -- the input's row is made, and nothing is kept
+    pub is-hashed : (found : Option Profile) (p : Profile) → p ≡ or_usual found → IfSome a.told (λ t. IsProfileIn found t.notes.head) → IsRowOf X p None r l k → OnlyWants r → Works X N (Add true) r a m l k i j
+    is-hashed found p is says row wants =
+        let shown = wants-shown X r a m wants calm in
+        record {
+          answers = λ s bytes stands input calm2.
+              let given = input refl in
+              let mid = stands-same X N a.told m.told s told stands in
+              let usual_row : IsRowOf X (or_usual found) None r l k = subst (λ p. IsRowOf X p None r l k) is row in
+              hash-answers X hash N s found bytes r a.told m.told stands says
+              (added-answers X N s (λ bytes. []) (or_usual found) bytes r None a m l k i j mid (λ bs h. tells-none X N m.told s mid) usual_row given.0 shown calm2.faults calm2.clashes counts given.1);
+          kinds = row-kinds X p None r l k row;
+          ready = row-ready X true a.told None p r l k row;
+          adds = adds-of X true a.told None p r l k (subst (λ p. IfSome a.told (λ t. AddsBy true t.notes.head p)) (sym is) (by-found a.told found says)) row;
+          counts = counts;
+          cause = shown-any X (IsBadIn N a.told) r a m shown;
+          leaves = record { good = KeepsGood-same X a.told m.told told; head = stays-same r a.told m.told (ap head_in told); writes = told; idle = λ q es stands calm same. told };
+        }

@@ -1,0 +1,45 @@
+-- What a command writes to the store, by what it may write and whether it was done.
+use Rattle.std.specs.Prelude.{◌≡◌, ℕ, List, Bool, true, false}
+use Rattle.std.specs.declared.result.Result.{Result}
+use Rattle.std.specs.declared.result.Result.TheVariants.{Ok, Err}
+use Rattle.uf_mfs.specs.Standing.{Commits, LeavesHead, SavesThen, notes_in}
+use Rattle.uf_store.specs.Contents.{Told, changed, with_sync}
+use Rattle.uf_reply.specs.Commands.{WriteShape, NoWrites, SyncsBlocks, MakesHead, MovesHead, command_writes}
+use Rattle.uf_reply.specs.declared.types.Command.{Command}
+use Rattle.uf_reply.specs.declared.types.Refusal.{Refusal}
+use Rattle.uf_reply.specs.declared.status.Status.{Status}
+use Rattle.uf_reply.specs.declared.status.Status.TheVariants as status
+
+-- blocks were saved and made to outlive a stop
+abbrev pub SyncsAfter : (List ℕ → List ℕ) → Told → Told → Type 0
+SyncsAfter hash before now = SavesThen hash (λ between now. now ≡ changed with_sync between) before now
+
+-- blocks were saved, made to outlive a stop, and then a Head was written, unless it said so already
+abbrev pub HeadAfter : (List ℕ → List ℕ) → Told → Told → Type 0
+HeadAfter hash before now = (text : List ℕ) × SavesThen hash (Commits text) before now
+
+-- what was written, by whether the command was done: one that is refused has written no Head
+abbrev pub WritesAs : (List ℕ → List ℕ) → WriteShape → Bool → Told → Told → Type 0
+WritesAs hash NoWrites done before now = now ≡ before
+WritesAs hash SyncsBlocks true before now = SyncsAfter hash before now
+WritesAs hash SyncsBlocks false before now = SavesThen hash LeavesHead before now
+WritesAs hash MakesHead true before now = HeadAfter hash before now
+WritesAs hash MakesHead false before now = notes_in now ≡ notes_in before
+WritesAs hash MovesHead true before now = HeadAfter hash before now
+WritesAs hash MovesHead false before now = SavesThen hash LeavesHead before now
+
+-- the command was done
+abbrev pub is_ok : {A B : Type 0} → Result A B → Bool
+is_ok (Ok a) = true
+is_ok (Err b) = false
+
+-- the same by its status: where only the output failed, the command was done
+abbrev pub is_done : Status → Bool
+is_done status.Ok = true
+is_done status.WriteFault = true
+is_done other = false
+
+-- what was written for words
+abbrev pub WritesFor : (List ℕ → List ℕ) → Result Command Refusal → Bool → Told → Told → Type 0
+WritesFor hash (Ok command) done before now = WritesAs hash (command_writes command) done before now
+WritesFor hash (Err why) done before now = now ≡ before
