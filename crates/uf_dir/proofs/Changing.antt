@@ -1,6 +1,6 @@
 -- Directories changed in place, in one block or in shards.
-use Rattle.std.proofs.Common.{rules, ◌≡◌, ℕ, suc, ◌+◌, ◌≤◌, List, [], ◌∷◌, length, refl, ap, arith, sym, ◌∙◌, subst, inl, inr, Option, Some, None, Ordering, Bool, true, false, cond}
-use Rattle.std.specs.Prelude.{IfOk, IfSome, IsSome, OnOk, nat_lt, not}
+use Rattle.std.proofs.Common.{◌≡◌, ℕ, suc, ◌+◌, ◌≤◌, List, [], ◌∷◌, length, refl, ap, arith, sym, ◌∙◌, subst, inl, inr, Option, Some, None, Ordering, Bool, true, false, cond}
+use Rattle.std.specs.Prelude.{IfErr, IfOk, IfSome, OnOk, nat_lt, not}
 use Rattle.std.specs.declared.cmp.Ordering.TheVariants.{Less, Equal, Greater}
 use Rattle.std.specs.declared.result.Result.{Result}
 use Rattle.std.specs.declared.result.Result.TheVariants.{Ok, Err}
@@ -14,10 +14,13 @@ use Rattle.uf_cid.specs.declared.cid.Cid.{Cid}
 use Rattle.uf_edge.specs.Counts.{Stood}
 use Rattle.uf_store.specs.Clashes.{IsSaving}
 use Rattle.uf_store.specs.Contents.{Contents, Told, held_at}
-use Rattle.uf_store.specs.Faults.{Answers, NoneIsBad, Shows, StaysCalm}
+use Rattle.uf_store.specs.Calls.{Calm}
+use Rattle.uf_store.specs.Faults.{Answers, NoneIsBad, Shows, StaysCalm, fault_in}
+use Rattle.uf_store.specs.Faults as faults
 use Rattle.uf_store.specs.Keeping.{Agrees, Holds, StaysAgreed}
 use Rattle.uf_store.specs.Writing.{IsSave, SavesOnly}
-use Rattle.uf_store.proofs.Writing.{agrees-between}
+use Rattle.uf_store.proofs.Calls.{shown-rises}
+use Rattle.uf_store.proofs.Writing.{SavesOnly-trans, agrees-between}
 use Rattle.uf_store.specs.Lost.{AgreesAfter, IsLossOf, IsLost, LosesBlock, LosesOne, ReadsOver}
 use Rattle.uf_store.proofs.Lost.{loses-cid}
 use Rattle.uf_store.specs.Seen.{Seen}
@@ -51,7 +54,7 @@ use Rattle.uf_dir.proofs.Listing.{directory-without}
 use Rattle.uf_dir.proofs.Nodes.{planned-node}
 use Rattle.uf_cid.specs.declared.cid.Codec.TheVariants.{DagPb}
 use Rattle.uf_store.proofs.Writing.{SavesOnly-refl}
-use Rattle.uf_dir.specs.Left.{Fits, Settles, TakesBasic, pairs_left}
+use Rattle.uf_dir.specs.Left.{AreShards, Fits, IsLeftOrHeld, SettlesOver, SettlesShards, StayShards, TakesBasic, TakesOver, TakesSharded, pairs_left}
 use Rattle.uf_shard.specs.declared.removed.Removed.TheVariants.{Absent, Empty, Left}
 use Rattle.uf_shard.specs.Taken.{left_of, left_without}
 use Rattle.uf_tree.specs.FilePlan.{Plan}
@@ -87,6 +90,16 @@ stood-mid before mid now calm stood = subst (λ (n : ℕ). Stood n now.faults) (
 stood-clash : (before mid now : Seen) → StaysCalm before mid → Stood before.clashes now.clashes → Stood mid.clashes now.clashes
 stood-clash before mid now calm stood = subst (λ (n : ℕ). Stood n now.clashes) (sym calm.clashes) stood
 
+-- where no count rose over two calls, none rose in the second
+pub then-calm : (before mid now : Seen) → StaysCalm before mid → Calm before now → Calm mid now
+then-calm before mid now stays calm = record { faults = stood-mid before mid now stays calm.faults; clashes = stood-clash before mid now stays calm.clashes }
+
+-- nor in the first
+pub first-calm : (hash : List ℕ → List ℕ) (P : Role → List ℕ → Type 0) (fault : Option StoreFault) (before mid now : Seen) → StaysCalm before mid → faults.Shown hash P fault mid now → Calm before now → Calm before mid
+first-calm hash P fault before mid now stays shown calm =
+    let rises = shown-rises hash P fault mid now shown in
+    record { faults = omega (arith, stays.faults, rises.faults, calm.faults); clashes = omega (arith, stays.clashes, rises.clashes, calm.clashes) }
+
 -- ---- weights
 
 heavier_one : (name : List ℕ) (e : Entry) (l : List Named) → weight l ≤ weight (with_name name e l)
@@ -117,6 +130,13 @@ gives-over hash told old refusal entry (Ok e) before mid now gives calm shown fa
 gives-over hash told old refusal entry (Err (Collision a b)) before mid now gives calm shown faults clashes = gives
 gives-over hash told old refusal entry (Err TooBig) before mid now gives calm shown faults clashes = gives
 gives-over hash told old refusal entry (Err (Store fault)) before mid now gives calm shown faults clashes = saving-loss hash NoneIsBad told old fault mid now gives shown (stood-mid before mid now calm faults) (stood-clash before mid now calm clashes)
+
+-- what a removal from shards answers, by what it takes
+takes-reads : (X : List ℕ → List ℕ) (N : List ℕ → ℕ) (p : Profile) (name : List ℕ) (l : List Named) (before now : Told) (r : Result (Option Entry) StoreFault) → TakesOver X N p name l before now r
+    → ReadsOver before (shard X N 7 l).blocks (entry_without X N p name l) r
+takes-reads X N p name l before now (Ok None) takes = takes
+takes-reads X N p name l before now (Ok (Some e)) takes = takes.0
+takes-reads X N p name l before now (Err fault) takes = takes
 
 module _ (X : List ℕ → List ℕ) (good : IsHash X) (N : List ℕ → ℕ) (p : Profile) (cid : Cid) (l : List Named) (is : IsPlanned X N p cid l)
     (before mid : Seen) (found : Root) (items : List InSlot) (at : found ≡ root.Sharded items) (looks : IsThere cid before mid × IsRootOf mid.lent found) (same : mid.told ≡ before.told) (agrees : Agrees before.told (own_blocks X N p l)) where
@@ -155,38 +175,18 @@ module _ (X : List ℕ → List ℕ) (good : IsHash X) (N : List ℕ → ℕ) (p
 
   -- ---- a removal
 
-  pub take-sharded : (name : List ℕ) (now : Seen) (r : Result (Option Entry) StoreFault) → StaysCalm before mid
-      → ((k : List Named) → shards.IsPlanned X N cid k → StaysAgreed mid.told now.told (shard X N 7 k).blocks → Stood mid.faults now.faults → Stood mid.clashes now.clashes
-      → ReadsOver mid.told (shard X N 7 k).blocks (entry_without X N p name k) r)
-      → Agrees now.told (own_blocks X N p l) → Stood before.faults now.faults → Stood before.clashes now.clashes → ReadsOver before.told (own_blocks X N p l) (entry_without X N p name l) r
-  take-sharded name now r calm value safe faults clashes =
+  -- the shards stay
+  pub stay-there : (now : Seen) → StaysCalm before mid → Agrees now.told (own_blocks X N p l) → Calm before now → StayShards X N cid mid now l
+  stay-there now stays safe calm = record { plan = plan_there; stays = stays_there now.told safe; calm = then-calm before mid now stays calm }
+
+  pub take-sharded : (name : List ℕ) (now : Seen) (r : Result (Option Entry) StoreFault) → StaysCalm before mid → TakesSharded X N p cid name mid now r
+      → Agrees now.told (own_blocks X N p l) → Calm before now → ReadsOver before.told (own_blocks X N p l) (entry_without X N p name l) r
+  take-sharded name now r stays takes safe calm =
       subst (λ (old : List Held). ReadsOver before.told old (entry_without X N p name l) r) (sym (blocks-sharded X N p l in_shards))
       (subst (λ (told : Told). ReadsOver told (shard X N 7 l).blocks (entry_without X N p name l) r) same
-      (value l plan_there (stays_there now.told safe) (stood-mid before mid now calm faults) (stood-clash before mid now calm clashes)))
-
-  -- what is asked of the shards may be asked
-  pub take-asked : (now : Seen) (Q : List Named → Type 0) → StaysCalm before mid
-      → ((k : List Named) → shards.IsPlanned X N cid k → StaysAgreed mid.told now.told (shard X N 7 k).blocks → Stood mid.faults now.faults → Stood mid.clashes now.clashes → Q k)
-      → Agrees now.told (own_blocks X N p l) → Stood before.faults now.faults → Stood before.clashes now.clashes → Q l
-  take-asked now Q calm asks safe faults clashes = asks l plan_there (stays_there now.told safe) (stood-mid before mid now calm faults) (stood-clash before mid now calm clashes)
+      (takes-reads X N p name l mid.told now.told r (takes.over l (stay-there now stays safe calm))))
 
 -- ---- what is left of a directory in shards
-
--- no count fell in a call
-rises-of : {A : Type 0} (hash : List ℕ → List ℕ) (P : Role → List ℕ → Type 0) (r : Result A StoreFault) (a b : Seen) → Answers hash P r a b → (a.faults ≤ b.faults) × (a.clashes ≤ b.clashes)
-rises-of hash P (Ok x) a b h = (omega (arith, h.faults), omega (arith, h.clashes))
-rises-of hash P (Err Failed) a b h = (h.rises.faults, h.rises.clashes)
-rises-of hash P (Err (Damaged c)) a b h = (h.rises.faults, h.rises.clashes)
-rises-of hash P (Err (Missing c)) a b h = (omega (arith, h.calm.faults), omega (arith, h.calm.clashes))
-rises-of hash P (Err (BadBlock c role)) a b h = (omega (arith, h.calm.faults), omega (arith, h.calm.clashes))
-rises-of hash P (Err (Clash c x y)) a b h = (h.rises.faults, h.rises.clashes)
-rises-of hash P (Err Memory) a b h = (h.faults, h.clashes)
-
--- the counts of the first of two calls
-pub stood-first : {A : Type 0} (hash : List ℕ → List ℕ) (P : Role → List ℕ → Type 0) (r : Result A StoreFault) (a b c : Seen) → StaysCalm a b → Answers hash P r b c → Stood a.faults c.faults → Stood a.clashes c.clashes → Stood a.faults b.faults × Stood a.clashes b.clashes
-stood-first hash P r a b c calm answers faults clashes =
-    let rises = rises-of hash P r b c answers in
-    (omega (arith, calm.faults, rises.0, faults), omega (arith, calm.clashes, rises.1, clashes))
 
 module _ (X : List ℕ → List ℕ) (N : List ℕ → ℕ) (p : Profile) (name : List ℕ) (l : List Named) where
   pub absent-none : Absent ≡ left_without X N name l → None ≡ entry_without X N p name l
@@ -283,53 +283,76 @@ loss-back before mid old new (BadBlock c role) after h = h
 loss-back before mid old new (Clash c x y) after h = h
 loss-back before mid old new Memory after h = tt
 
-pub reads-back : {A : Type 0} (before mid : Told) (old new : List Held) (value : A) (r : Result A StoreFault) → AgreesAfter before mid old new → ReadsOver mid new value r → ReadsOver before old value r
-reads-back before mid old new value (Ok a) after h = h
-reads-back before mid old new value (Err fault) after h = loss-back before mid old new fault after h
-
 pub agrees-of : (before mid : Told) (old new : List Held) → AgreesAfter before mid old new → Agrees mid new
 agrees-of before None old new after = absurd after
 agrees-of before (Some u) old new after = after.0
 
 -- where what is left stays as it was saved, or is held in another form
 pub settled-after : (X : List ℕ → List ℕ) (N : List ℕ → ℕ) (p : Profile) (m : List Named) (before mid now : Told) (old : List Held) → Agrees before old → SavesOnly X before now → AgreesAfter before mid old (shard X N 7 m).blocks
-    → Settles X N p m mid now → AgreesAfter before now old (own_blocks X N p m)
+    → IsLeftOrHeld X N p m mid now → AgreesAfter before now old (own_blocks X N p m)
 settled-after X N p m before mid now old agrees saves after (inl stays) =
     subst (AgreesAfter before now old) (sym (blocks-sharded X N p m stays.0)) (subst (λ (told : Told). AgreesAfter before told old (shard X N 7 m).blocks) (sym stays.1) after)
 settled-after X N p m before mid now old agrees saves after (inr held) = after-held X before now old (own_blocks X N p m) agrees saves held
 
 -- ---- the form that what is left has
 
-pub stays-sharded : (X : List ℕ → List ℕ) (N : List ℕ → ℕ) (p : Profile) (m : List Named) (e : Entry) → true ≡ nat_lt p.threshold (weight m) → e ≡ (shard X N 7 m).entry → Some e ≡ Some (dir_entry X N p m)
-stays-sharded X N p m e heavy is = ap (λ (x : Entry). Some x) (is ∙ ap (λ (b : Bool). (cond b (shard X N 7 m) (basic_dir X N m)).entry) heavy)
-
 -- the pairs that were listed, saved in one block where they aren't too heavy
-pub fits-value : (X : List ℕ → List ℕ) (N : List ℕ → ℕ) (p : Profile) (pairs l : List Named) (e : Entry) (told : Told) (old : List Held) (r : Result (Option Entry) StoreFault) (mid now : Told) (before between after : Seen) → pairs ≡ l → e ≡ (shard X N 7 l).entry → Fits X N p e pairs mid now r
-    → StaysCalm before between → Answers X NoneIsBad r between after → Stood before.faults after.faults → Stood before.clashes after.clashes → ReadsOver told old (Some (dir_entry X N p l)) r
-fits-value X N p pairs l e told old (Ok None) mid now before between after same is fits calm answers faults clashes = absurd fits
-fits-value X N p pairs l e told old (Ok (Some x)) mid now before between after same is (inl heavy) calm answers faults clashes =
-    ap (λ (x : Entry). Some x) (heavy.2 ∙ is ∙ ap (λ (b : Bool). (cond b (shard X N 7 l) (basic_dir X N l)).entry) (sym heavy.0 ∙ ap (is_sharded p) same))
-fits-value X N p pairs l e told old (Ok (Some x)) mid now before between after same is (inr light) calm answers faults clashes =
-    ap (λ (x : Entry). Some x) (light.0 ∙ ap (dir_entry X N p) same)
-fits-value X N p pairs l e told old (Err fault) mid now before between after same is fits calm answers faults clashes =
-    saving-loss X NoneIsBad told old fault between after fits answers (stood-mid before between after calm faults) (stood-clash before between after calm clashes)
+module _ (X : List ℕ → List ℕ) (p : Profile) (entry : Entry) where
+  sharded-entry : (N : List ℕ → ℕ) (l : List Named) → is_sharded p l ≡ true → entry ≡ (shard X N 7 l).entry → entry ≡ dir_entry X N p l
+  sharded-entry N l heavy is = is ∙ ap (λ (b : Bool). (cond b (shard X N 7 l) (basic_dir X N l)).entry) (sym heavy)
 
-pub fits-settles : (X : List ℕ → List ℕ) (N : List ℕ → ℕ) (p : Profile) (pairs l : List Named) (e : Entry) (r : Result (Option Entry) StoreFault) (before mid now : Told) → pairs ≡ l → mid ≡ before → Fits X N p e pairs mid now r → OnOk r (Settles X N p l before now)
-fits-settles X N p pairs l e (Ok None) before mid now same calm fits = absurd fits
-fits-settles X N p pairs l e (Ok (Some x)) before mid now same calm (inl heavy) = inl (ap (is_sharded p) (sym same) ∙ heavy.0, heavy.1 ∙ calm)
-fits-settles X N p pairs l e (Ok (Some x)) before mid now same calm (inr light) = inr (subst (λ (m : List Named). Holds now (own_blocks X N p m)) same light.1)
-fits-settles X N p pairs l e (Err fault) before mid now same calm fits = tt
+  -- shards that are too heavy for one block stay
+  pub stays-settled : (before now : Seen) → entry.cid.codec ≡ DagPb → now.told ≡ before.told
+      → ((N : List ℕ → ℕ) (l : List Named) → AreShards X N entry before now l → true ≡ nat_lt p.threshold (weight l)) → SettlesShards X p entry before now (Ok entry)
+  stays-settled before now node same heavy = record {
+    node = node;
+    over = λ N l are. let is : is_sharded p l ≡ true = sym (heavy N l are) in (sharded-entry N l is are.same, inl (is, same));
+  }
 
-pub fits-some : (X : List ℕ → List ℕ) (N : List ℕ → ℕ) (p : Profile) (pairs : List Named) (e : Entry) (r : Result (Option Entry) StoreFault) (mid now : Told) → Fits X N p e pairs mid now r → IfOk r IsSome
-fits-some X N p pairs e (Ok None) mid now fits = absurd fits
-fits-some X N p pairs e (Ok (Some x)) mid now fits = search rules
-fits-some X N p pairs e (Err fault) mid now fits = tt
+  -- the same over two calls, of which the first left all as it was
+  pub later-shards : (N : List ℕ → ℕ) (before mid now : Seen) (l : List Named) → StaysCalm before mid → mid.told ≡ before.told → AreShards X N entry before now l → AreShards X N entry mid now l
+  later-shards N before mid now l stays same are = record {
+    plan = are.plan;
+    same = are.same;
+    agrees = subst (λ (told : Told). Agrees told (shard X N 7 l).blocks) (sym same) are.agrees;
+    calm = then-calm before mid now stays are.calm;
+  }
 
-pub fits-after : (X : List ℕ → List ℕ) (p : Profile) (pairs : List Named) (e : Entry) (r : Result (Option Entry) StoreFault) (before mid now : Seen) → mid.told ≡ before.told → ((N : List ℕ → ℕ) → Fits X N p e pairs mid.told now.told r)
-    → ((N : List ℕ → ℕ) (l : List Named) → shards.IsPlanned X N e.cid l → Agrees before.told (shard X N 7 l).blocks → Stood before.faults now.faults → Stood before.clashes now.clashes → pairs ≡ l)
-    → OnOk r ((N : List ℕ → ℕ) (l : List Named) → shards.IsPlanned X N e.cid l → Agrees before.told (shard X N 7 l).blocks → Stood before.faults now.faults → Stood before.clashes now.clashes → Settles X N p l before.told now.told)
-fits-after X p pairs e (Ok x) before mid now calm fits same = λ N l is agrees faults clashes. fits-settles X N p pairs l e (Ok x) before.told mid.told now.told (same N l is agrees faults clashes) calm (fits N)
-fits-after X p pairs e (Err fault) before mid now calm fits same = tt
+  pub settles-later : (before mid now : Seen) (r : Result Entry StoreFault) → StaysCalm before mid → mid.told ≡ before.told → SettlesShards X p entry mid now r → SettlesShards X p entry before now r
+  settles-later before mid now r stays same settles = record {
+    node = settles.node;
+    over = λ N l are. subst (λ (told : Told). SettlesOver X N p l told now.told r) same (settles.over N l (later-shards N before mid now l stays same are));
+  }
+
+  module _ (pairs : List Named) where
+    -- what was saved of pairs that aren't too heavy
+    pub saved-fits : (N : List ℕ → ℕ) (r : Result Entry StoreFault) (mid now : Told) → is_sharded p pairs ≡ false → IfOk r (λ e. (N : List ℕ → ℕ) → e ≡ (basic_dir X N pairs).entry) → OnOk r (Holds now (basic_dir X N pairs).blocks) → IfErr r IsSaving
+        → Fits X N p entry pairs mid now r
+    saved-fits N (Ok e) mid now light is held fault = inr (is N ∙ light-entry X N p pairs light, light-held X N p pairs now light held)
+    saved-fits N (Err fault) mid now light is held saving = saving
+
+    fits-node : (r : Result Entry StoreFault) (before now : Told) → entry.cid.codec ≡ DagPb → Fits X (λ name. 0) p entry pairs before now r → IfOk r (λ e. e.cid.codec ≡ DagPb)
+    fits-node (Ok e) before now node (inl heavy) = ap (λ (e : Entry). e.cid.codec) heavy.2 ∙ node
+    fits-node (Ok e) before now node (inr light) = ap (λ (e : Entry). e.cid.codec) light.0 ∙ planned-node X (λ name. 0) p pairs
+    fits-node (Err fault) before now node fits = tt
+
+    fits-over : (N : List ℕ → ℕ) (l : List Named) (r : Result Entry StoreFault) (before mid now : Seen) → pairs ≡ l → entry ≡ (shard X N 7 l).entry → mid.told ≡ before.told → Fits X N p entry pairs mid.told now.told r
+        → faults.Shown X NoneIsBad (fault_in r) mid now → Calm mid now → SettlesOver X N p l before.told now.told r
+    fits-over N l (Ok e) before mid now same is told (inl heavy) shown calm =
+        let in_shards : is_sharded p l ≡ true = ap (is_sharded p) (sym same) ∙ heavy.0 in
+        (heavy.2 ∙ sharded-entry N l in_shards is, inl (in_shards, heavy.1 ∙ told))
+    fits-over N l (Ok e) before mid now same is told (inr light) shown calm =
+        (light.0 ∙ ap (dir_entry X N p) same, inr (subst (λ (m : List Named). Holds now.told (own_blocks X N p m)) same light.1))
+    fits-over N l (Err fault) before mid now same is told fits shown calm = saving-loss X NoneIsBad before.told (shard X N 7 l).blocks fault mid now fits shown calm.faults calm.clashes
+
+    pub fits-settles : (r : Result Entry StoreFault) (before mid now : Seen) → entry.cid.codec ≡ DagPb → StaysCalm before mid → mid.told ≡ before.told
+        → ((N : List ℕ → ℕ) (l : List Named) → shards.IsPlanned X N entry.cid l → Agrees before.told (shard X N 7 l).blocks → Stood before.faults mid.faults → pairs ≡ l)
+        → ((N : List ℕ → ℕ) → Fits X N p entry pairs mid.told now.told r) → faults.Shown X NoneIsBad (fault_in r) mid now → SettlesShards X p entry before now r
+    fits-settles r before mid now node stays told same fits shown = record {
+      node = fits-node r mid.told now.told node (fits (λ name. 0));
+      over = λ N l are. let first = first-calm X NoneIsBad (fault_in r) before mid now stays shown are.calm in
+          fits-over N l r before mid now (same N l are.plan are.agrees first.faults) are.same told (fits N) shown (then-calm before mid now stays are.calm);
+    }
 
 -- the weight of fewer pairs
 lighter : (name : List ℕ) (l : List Named) → weight (without name l) ≤ weight l
@@ -387,6 +410,11 @@ basic-after X N p name pairs l before mid now (Err fault) same calm takes saves 
 
 -- ---- what a removal from shards leaves
 
+-- the entry of what is left as the answer of the removal
+abbrev pub with_some : Result Entry StoreFault → Result (Option Entry) StoreFault
+with_some (Ok e) = Ok (Some e)
+with_some (Err fault) = Err fault
+
 module _ (X : List ℕ → List ℕ) (N : List ℕ → ℕ) (p : Profile) (name : List ℕ) (l : List Named) where
   pub emptied-after : (before now : Told) → Agrees before (shard X N 7 l).blocks → SavesOnly X before now → Empty ≡ left_without X N name l → Holds now (own_blocks X N p [])
       → AgreesAfter before now (shard X N 7 l).blocks (own_blocks X N p (without name l))
@@ -394,45 +422,28 @@ module _ (X : List ℕ → List ℕ) (N : List ℕ → ℕ) (p : Profile) (name 
       let empty = emptied X N p name l is in
       after-held X before now (shard X N 7 l).blocks (own_blocks X N p (without name l)) agrees saves (subst (λ (m : List Named). Holds now (own_blocks X N p m)) (sym empty.nothing) held)
 
-  module _ (cid : Cid) (is : shards.IsPlanned X N cid l) (e : Entry) (before mid now : Seen) (r : Result (Option Entry) StoreFault) (agrees : Agrees before.told (shard X N 7 l).blocks) (calm : StaysCalm before mid)
+  module _ (cid : Cid) (is : shards.IsPlanned X N cid l) (e : Entry) (before mid now : Seen) (agrees : Agrees before.told (shard X N 7 l).blocks) (stays : StaysCalm before mid) (calm : Calm before now)
       (safe : Agrees now.told (shard X N 7 l).blocks) (second : SavesOnly X mid.told now.told) (first : SavesOnly X before.told mid.told) (left : Left e ≡ left_without X N name l)
       (after : StaysAgreed before.told mid.told (shard X N 7 l).blocks → AgreesAfter before.told mid.told (shard X N 7 l).blocks (shard X N 7 (without name l)).blocks) where
     after_mid : AgreesAfter before.told mid.told (shard X N 7 l).blocks (shard X N 7 (without name l)).blocks
     after_mid = after (record { first = agrees; last = agrees-between X IsSave before.told mid.told now.told (shard X N 7 l).blocks first second (record { first = agrees; last = safe }) })
 
-    pub left-value : ((m : List Named) → shards.IsPlanned X N e.cid m → e ≡ (shard X N 7 m).entry → Agrees mid.told (shard X N 7 m).blocks → Stood mid.faults now.faults → Stood mid.clashes now.clashes
-        → ReadsOver mid.told (shard X N 7 m).blocks (Some (dir_entry X N p m)) r)
-        → Stood before.faults now.faults → Stood before.clashes now.clashes → ReadsOver before.told (shard X N 7 l).blocks (entry_without X N p name l) r
-    left-value value faults clashes =
+    pub left-shards : AreShards X N e mid now (without name l)
+    left-shards =
         let short = shortened X N p name l e left in
-        reads-back before.told mid.told (shard X N 7 l).blocks (shard X N 7 (without name l)).blocks (entry_without X N p name l) r after_mid
-        (subst (λ (o : Option Entry). ReadsOver mid.told (shard X N 7 (without name l)).blocks o r) (sym short.entry)
-        (value (without name l) (shortened-plan X N p name l cid e is short) short.shards (agrees-of before.told mid.told (shard X N 7 l).blocks (shard X N 7 (without name l)).blocks after_mid)
-        (stood-mid before mid now calm faults) (stood-clash before mid now calm clashes)))
+        record {
+          plan = shortened-plan X N p name l cid e is short;
+          same = short.shards;
+          agrees = agrees-of before.told mid.told (shard X N 7 l).blocks (shard X N 7 (without name l)).blocks after_mid;
+          calm = then-calm before mid now stays calm;
+        }
 
-    -- what is asked of the shards that are left may be asked
-    pub left-asked : (Q : List Named → Type 0) → ((m : List Named) → shards.IsPlanned X N e.cid m → Agrees mid.told (shard X N 7 m).blocks → Stood mid.faults now.faults → Stood mid.clashes now.clashes → Q m)
-        → Stood before.faults now.faults → Stood before.clashes now.clashes → Q (without name l)
-    left-asked Q asks faults clashes =
-        asks (without name l) (shortened-plan X N p name l cid e is (shortened X N p name l e left)) (agrees-of before.told mid.told (shard X N 7 l).blocks (shard X N 7 (without name l)).blocks after_mid)
-        (stood-mid before mid now calm faults) (stood-clash before mid now calm clashes)
-
-    pub left-after : ((m : List Named) → shards.IsPlanned X N e.cid m → Agrees mid.told (shard X N 7 m).blocks → Stood mid.faults now.faults → Stood mid.clashes now.clashes → Settles X N p m mid.told now.told)
-        → SavesOnly X before.told now.told → Stood before.faults now.faults → Stood before.clashes now.clashes → AgreesAfter before.told now.told (shard X N 7 l).blocks (own_blocks X N p (without name l))
-    left-after settles saves faults clashes =
-        let short = shortened X N p name l e left in
-        settled-after X N p (without name l) before.told mid.told now.told (shard X N 7 l).blocks agrees saves after_mid
-        (settles (without name l) (shortened-plan X N p name l cid e is short) (agrees-of before.told mid.told (shard X N 7 l).blocks (shard X N 7 (without name l)).blocks after_mid)
-        (stood-mid before mid now calm faults) (stood-clash before mid now calm clashes))
-
--- a fact after Ok, of what the answer is
-pub on-if : {A : Type 0} (S : Type 0) (r : Result A StoreFault) → OnOk r S → IfOk r (λ x. S)
-on-if S (Ok x) h = h
-on-if S (Err fault) h = tt
-
-pub to-some : {A : Type 0} (o : Option A) (Q : Type 0) → Q → IfSome o (λ x. Q)
-to-some None Q h = tt
-to-some (Some x) Q h = h
+    pub left-over : (r : Result Entry StoreFault) → SettlesOver X N p (without name l) mid.told now.told r → TakesOver X N p name l before.told now.told (with_some r)
+    left-over (Ok x) settles = (
+      ap (λ (x : Entry). Some x) settles.0 ∙ sym (shortened X N p name l e left).entry,
+      settled-after X N p (without name l) before.told mid.told now.told (shard X N 7 l).blocks agrees (SavesOnly-trans X before.told mid.told now.told first second) after_mid settles.1,
+    )
+    left-over (Err fault) settles = loss-back before.told mid.told (shard X N 7 l).blocks (shard X N 7 (without name l)).blocks fault after_mid settles
 
 pub saves-same : (X : List ℕ → List ℕ) (a b : Told) → b ≡ a → SavesOnly X a b
 saves-same X a b same = subst (SavesOnly X a) (sym same) (SavesOnly-refl X a)
@@ -486,31 +497,22 @@ module _ (X : List ℕ → List ℕ) (good : IsHash X) (N : List ℕ → ℕ) (p
   put-sharded-ok name e now (Ok x) after = λ l is stays. put-sharded-after X good N p cid l is before mid found items at looks same stays.first name e now after stays.last
   put-sharded-ok name e now (Err fault) after = tt
 
-  module _ (name : List ℕ) (now : Seen) (calm : StaysCalm before mid) where
-    abbrev Value : Result (Option Entry) StoreFault → Type 0
-    Value r = (k : List Named) → shards.IsPlanned X N cid k → StaysAgreed mid.told now.told (shard X N 7 k).blocks → Stood mid.faults now.faults → Stood mid.clashes now.clashes
-        → ReadsOver mid.told (shard X N 7 k).blocks (entry_without X N p name k) r
+  module _ (name : List ℕ) (now : Seen) (stays : StaysCalm before mid) where
+    not-there : (l : List Named) → None ≡ entry_without X N p name l → find names_cmp name l ≡ None
+    not-there l h = by (find names_cmp name l) h
+      where
+        by : (o : Option Entry) → ◌≡◌ {A = Option Entry} None (elim o [ None ↦ None | Some old ↦ Some (dir_entry X N p (without name l)) ]) → o ≡ None
+        by None h = refl
+        by (Some old) h = absurd (let no : None ≡ Some (dir_entry X N p (without name l)) = h in cc)
 
-    abbrev After : Option Entry → Type 0
-    After left = (k : List Named) → shards.IsPlanned X N cid k → StaysAgreed mid.told now.told (shard X N 7 k).blocks → Stood mid.faults now.faults → Stood mid.clashes now.clashes
-        → IfSome left (λ e. AgreesAfter mid.told now.told (shard X N 7 k).blocks (own_blocks X N p (without name k)))
-
-    pub take-sharded-ok : (r : Result (Option Entry) StoreFault) → IfOk r (λ left. left ≡ None → now.told ≡ mid.told) → Value r → IfOk r After
+    pub take-sharded-ok : (r : Result (Option Entry) StoreFault) → TakesSharded X N p cid name mid now r
         → OnOk r ((l : List Named) → IsPlanned X N p cid l → StaysAgreed before.told now.told (own_blocks X N p l) → Stood before.faults now.faults → Stood before.clashes now.clashes
         → AgreesAfter before.told now.told (own_blocks X N p l) (own_blocks X N p (without name l)))
-    take-sharded-ok (Ok None) none value after = λ l is stays faults clashes.
-        let absent : None ≡ entry_without X N p name l = take-sharded X good N p cid l is before mid found items at looks same stays.first name now (Ok None) calm value stays.last faults clashes in
-        subst (λ (m : List Named). AgreesAfter before.told now.told (own_blocks X N p l) (own_blocks X N p m)) (sym (without-absent name l (not-there l absent))) (after-same before.told now.told (own_blocks X N p l) stays.first (none refl ∙ same))
-      where
-        not-there : (l : List Named) → None ≡ entry_without X N p name l → find names_cmp name l ≡ None
-        not-there l h = by (find names_cmp name l) h
-          where
-            by : (o : Option Entry) → ◌≡◌ {A = Option Entry} None (elim o [ None ↦ None | Some old ↦ Some (dir_entry X N p (without name l)) ]) → o ≡ None
-            by None h = refl
-            by (Some old) h = absurd (let no : None ≡ Some (dir_entry X N p (without name l)) = h in cc)
-    take-sharded-ok (Ok (Some e)) none value after = λ l is stays faults clashes.
-        subst (λ (old : List Held). AgreesAfter before.told now.told old (own_blocks X N p (without name l))) (sym (blocks-sharded X N p l (in_shards X good N p cid l is before mid found items at looks same stays.first)))
-        (subst (λ (told : Told). AgreesAfter told now.told (shard X N 7 l).blocks (own_blocks X N p (without name l))) same
-        (after l (plan_there X good N p cid l is before mid found items at looks same stays.first) (stays_there X good N p cid l is before mid found items at looks same stays.first now.told stays.last)
-        (stood-mid before mid now calm faults) (stood-clash before mid now calm clashes)))
-    take-sharded-ok (Err fault) none value after = tt
+    take-sharded-ok (Ok None) takes = λ l is keeps faults clashes.
+        let absent : None ≡ entry_without X N p name l = takes.over l (stay-there X good N p cid l is before mid found items at looks same keeps.first now stays keeps.last (record { faults = faults; clashes = clashes })) in
+        subst (λ (m : List Named). AgreesAfter before.told now.told (own_blocks X N p l) (own_blocks X N p m)) (sym (without-absent name l (not-there l absent))) (after-same before.told now.told (own_blocks X N p l) keeps.first (takes.none refl ∙ same))
+    take-sharded-ok (Ok (Some e)) takes = λ l is keeps faults clashes.
+        let over = takes.over l (stay-there X good N p cid l is before mid found items at looks same keeps.first now stays keeps.last (record { faults = faults; clashes = clashes })) in
+        subst (λ (old : List Held). AgreesAfter before.told now.told old (own_blocks X N p (without name l))) (sym (blocks-sharded X N p l (in_shards X good N p cid l is before mid found items at looks same keeps.first)))
+        (subst (λ (told : Told). AgreesAfter told now.told (shard X N 7 l).blocks (own_blocks X N p (without name l))) same over.1)
+    take-sharded-ok (Err fault) takes = tt

@@ -10,4 +10,5 @@ pub mod Planning
 pub mod Refusals
 pub mod Rooted
 pub mod Roots
+pub mod Taking
 pub mod Touching

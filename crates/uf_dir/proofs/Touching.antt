@@ -14,7 +14,7 @@ use Rattle.uf_tree.specs.Nodes.{Named}
 use Rattle.uf_tree.specs.ShardPlan.{bucket, flat_tabulate, no_shard, shard, shard_below, slot_blocks}
 use Rattle.uf_tree.specs.TreePlan.{Refusal, collision}
 use Rattle.uf_tree.proofs.ShardLaws.{bucket-remove}
-use Rattle.uf_dir.specs.Bounds.{IsFree, crossing, gathering, shard_count, splitting, weighing}
+use Rattle.uf_dir.specs.Bounds.{IsFree, crossing, gathering, shard_count, splitting, weighing, weighing_from}
 use Rattle.uf_dir.specs.Planned.{own_blocks}
 
 as_T : (b : Bool) → b ≡ true → T b
@@ -92,15 +92,15 @@ module _ (X : List ℕ → List ℕ) (N : List ℕ → ℕ) (p : Profile) where
       (subst (λ (m : List Named). IsFree N p (change m) t1 t2) same free) in
       omega (arith, most, first)
 
-  pub basic-takes : (l m : List Named) (t0 t1 t2 : ℕ) → t1 ≡ t0 + 1 → t2 ≤ t1 + 1 → t2 ≤ t0 + (18 + weighing p (shard_count X N l) + crossing X N p l m)
-  basic-takes l m t0 t1 t2 first second = few (crossing X N p l m) (weighing p (shard_count X N l))
+  pub basic-takes : (l m : List Named) (t0 t1 t2 : ℕ) → t1 ≡ t0 + 1 → t2 ≤ t1 + 1 → t2 ≤ t0 + (18 + weighing_from X N p l + crossing X N p l m)
+  basic-takes l m t0 t1 t2 first second = few (crossing X N p l m) (weighing_from X N p l)
     where
       few : (c w : ℕ) → t2 ≤ t0 + (18 + w + c)
       few c w = omega (arith, first, second)
 
-  pub sharded-takes : (l m : List Named) (t0 t1 t2 : ℕ) → is_sharded p l ≡ true → collision N l ≡ None → t1 ≡ t0 + 1 → t2 ≤ t1 + (17 + weighing p (shard_count X N l) + gathering p (shard_count X N l) m) → t2 ≤ t0 + (18 + weighing p (shard_count X N l) + crossing X N p l m)
+  pub sharded-takes : (l m : List Named) (t0 t1 t2 : ℕ) → is_sharded p l ≡ true → collision N l ≡ None → t1 ≡ t0 + 1 → t2 ≤ t1 + (17 + weighing p (shard_count X N l) + gathering p (shard_count X N l) m) → t2 ≤ t0 + (18 + weighing_from X N p l + crossing X N p l m)
   sharded-takes l m t0 t1 t2 heavy none first second =
-      subst (λ (b : Bool). t2 ≤ t0 + (18 + weighing p (shard_count X N l) + cond b (cond (is_sharded p m) 0 (splitting X N l)) (cond (is_sharded p m) (splitting X N m) 0))) (sym heavy)
+      subst (λ (b : Bool). t2 ≤ t0 + (18 + cond b (weighing p (shard_count X N l)) 0 + cond b (cond (is_sharded p m) 0 (splitting X N l)) (cond (is_sharded p m) (splitting X N m) 0))) (sym heavy)
       (subst (λ (o : Option Refusal). t2 ≤ t0 + (18 + weighing p (shard_count X N l) + cond (is_sharded p m) 0 (elim o [ None ↦ 4 * shard_count X N l | Some refusal ↦ 0 ]))) (sym none)
       (by (is_sharded p m) (weighing p (shard_count X N l)) (shard_count X N l) (some-shard X N 7 l) second))
     where

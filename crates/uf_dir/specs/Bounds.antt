@@ -1,10 +1,18 @@
--- How many touches an edit of a directory may need beyond a few.
-use Rattle.std.specs.Prelude.{◌≡◌, ◌≢◌, ℕ, ◌+◌, ◌*◌, ◌/◌, List, length, min, true, None, Some, if◌then◌else◌}
+-- How many touches a call on a directory makes at least, and an edit may need beyond a few.
+use Rattle.std.specs.Prelude.{◌≡◌, ◌≢◌, ◌<◌, ◌≤◌, ℕ, ◌+◌, ◌*◌, ◌/◌, List, length, min, true, None, Some, if◌then◌else◌}
+use Rattle.std.specs.declared.result.Result.{Result}
+use Rattle.std.specs.declared.result.Result.TheVariants.{Ok, Err}
+use Rattle.uf_store.specs.declared.store.StoreFault.{StoreFault}
 use Rattle.uf_tree.specs.declared.profile.Profile.{Profile}
 use Rattle.uf_tree.specs.DirPlan.{is_sharded}
 use Rattle.uf_tree.specs.Nodes.{Named}
 use Rattle.uf_tree.specs.ShardPlan.{shard}
 use Rattle.uf_tree.specs.TreePlan.{collision}
+
+-- the count of touches hasn't fallen, and where the answer is a fault it has risen
+abbrev pub TouchedAtFault : {A : Type 0} → Result A StoreFault → (before now : ℕ) → Type 0
+TouchedAtFault (Ok a) before now = before ≤ now
+TouchedAtFault (Err fault) before now = before < now
 
 -- how many shard blocks the directory of these pairs has in shards
 abbrev pub shard_count : (List ℕ → List ℕ) → (List ℕ → ℕ) → List Named → ℕ
@@ -13,6 +21,10 @@ shard_count X N l = length (shard X N 7 l).blocks
 -- weighing the shards after a removal: no more than there are, and few where they are much heavier than the threshold
 abbrev pub weighing : Profile → ℕ → ℕ
 weighing p count = min count (4 * (p.threshold / 37 + 1) + 8)
+
+-- weighing after a removal from this directory: none where it was in one block
+abbrev pub weighing_from : (List ℕ → List ℕ) → (List ℕ → ℕ) → Profile → List Named → ℕ
+weighing_from X N p l = if is_sharded p l then weighing p (shard_count X N l) else 0
 
 -- reading so many shards and saving one block, where a directory has become light
 abbrev pub gathering : Profile → ℕ → List Named → ℕ

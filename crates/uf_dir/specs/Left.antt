@@ -1,19 +1,26 @@
 -- What a removal leaves.
-use Rattle.std.specs.Prelude.{◌≡◌, ◌⊎◌, ℕ, List, Some, None, true}
+use Rattle.std.specs.Prelude.{◌≡◌, ◌⊎◌, ℕ, List, IfOk, IfSome, Some, None, true}
 use Rattle.std.specs.declared.option.Option.{Option}
 use Rattle.std.specs.declared.result.Result.{Result}
 use Rattle.std.specs.declared.result.Result.TheVariants.{Ok, Err}
 use Rattle.std.specs.FinMap.Entries.{find}
+use Rattle.uf_cid.specs.declared.cid.Cid.{Cid}
+use Rattle.uf_cid.specs.declared.cid.Codec.TheVariants.{DagPb}
 use Rattle.uf_store.specs.declared.store.StoreFault.{StoreFault}
+use Rattle.uf_store.specs.Calls.{Calm}
 use Rattle.uf_store.specs.Clashes.{IsSaving}
 use Rattle.uf_store.specs.Contents.{Told}
-use Rattle.uf_store.specs.Keeping.{Holds}
+use Rattle.uf_store.specs.Keeping.{Agrees, Holds, StaysAgreed}
+use Rattle.uf_store.specs.Lost.{AgreesAfter, IsLossOf}
+use Rattle.uf_store.specs.Seen.{Seen}
 use Rattle.uf_tree.specs.declared.nodes.Entry.{Entry}
 use Rattle.uf_tree.specs.declared.profile.Profile.{Profile}
 use Rattle.uf_tree.specs.DirPlan.{is_sharded}
 use Rattle.uf_tree.specs.Changes.{without}
 use Rattle.uf_tree.specs.Names.{names_cmp}
 use Rattle.uf_tree.specs.Nodes.{Named}
+use Rattle.uf_tree.specs.ShardPlan.{shard}
+use Rattle.uf_shard.specs.Planned.{IsPlanned as IsShardPlan}
 use Rattle.uf_dir.specs.Planned.{dir_entry, entry_without, own_blocks}
 
 -- the pairs that are left, where the name is there
@@ -29,16 +36,62 @@ TakesBasic X N p name l before now (Ok (Some e)) =
     (entry_without X N p name l ≡ Some e) × Holds now (own_blocks X N p (without name l))
 TakesBasic X N p name l before now (Err fault) = IsSaving fault
 
--- a directory in shards is left as it is, or its one block is held
-abbrev pub Settles : (List ℕ → List ℕ) → (List ℕ → ℕ) → Profile → List Named → (before now : Told) → Type 0
-Settles X N p l before now = ((is_sharded p l ≡ true) × (now ≡ before)) ⊎ Holds now (own_blocks X N p l)
-
--- a directory whose shard tree has this entry: where its pairs are too heavy for one block it is left as it is, and
--- else it is saved in one
+-- pairs too heavy for one block leave the entry of their shards and what is told as they are; else the entry is that of
+-- their one block, which is held
 abbrev pub Fits : (List ℕ → List ℕ) → (List ℕ → ℕ) → Profile → Entry → List Named → (before now : Told)
-    → Result (Option Entry) StoreFault → Type 0
-Fits X N p entry pairs before now (Ok None) = ⊥
-Fits X N p entry pairs before now (Ok (Some e)) =
+    → Result Entry StoreFault → Type 0
+Fits X N p entry pairs before now (Ok e) =
     ((is_sharded p pairs ≡ true) × (now ≡ before) × (e ≡ entry))
     ⊎ ((e ≡ dir_entry X N p pairs) × Holds now (own_blocks X N p pairs))
 Fits X N p entry pairs before now (Err fault) = IsSaving fault
+
+module _ (X : List ℕ → List ℕ) (N : List ℕ → ℕ) where
+  -- the entry is that of the shards of these pairs, the store agrees with their blocks, and it stays calm
+  pub record AreShards (entry : Entry) (before now : Seen) (l : List Named) : Type 0 where
+    pub plan : IsShardPlan X N entry.cid l
+    pub same : entry ≡ (shard X N 7 l).entry
+    pub agrees : Agrees before.told (shard X N 7 l).blocks
+    pub calm : Calm before now
+
+  -- the CID is that of the shards of these pairs, the store agrees with their blocks before and after, and it stays
+  -- calm
+  pub record StayShards (root : Cid) (before now : Seen) (l : List Named) : Type 0 where
+    pub plan : IsShardPlan X N root l
+    pub stays : StaysAgreed before.told now.told (shard X N 7 l).blocks
+    pub calm : Calm before now
+
+  -- the directory of these pairs is left in shards, or its one block is held
+  abbrev pub IsLeftOrHeld : Profile → List Named → (before now : Told) → Type 0
+  IsLeftOrHeld p l before now = ((is_sharded p l ≡ true) × (now ≡ before)) ⊎ Holds now (own_blocks X N p l)
+
+  -- the answer is the entry of the directory of these pairs, which is left or held in one block, or one of their shards
+  -- is lost; want of memory is free
+  abbrev pub SettlesOver : Profile → List Named → (before now : Told) → Result Entry StoreFault → Type 0
+  SettlesOver p l before now (Ok e) = (e ≡ dir_entry X N p l) × IsLeftOrHeld p l before now
+  SettlesOver p l before now (Err fault) = IsLossOf before (shard X N 7 l).blocks fault
+
+  -- the answer is what is left of the directory of these pairs without a name, with whose blocks the store agrees
+  -- then, or one of the old shards is lost; want of memory is free
+  abbrev pub TakesOver : Profile → List ℕ → List Named → (before now : Told)
+      → Result (Option Entry) StoreFault → Type 0
+  TakesOver p name l before now (Ok None) = None ≡ entry_without X N p name l
+  TakesOver p name l before now (Ok (Some e)) = (Some e ≡ entry_without X N p name l)
+      × AgreesAfter before now (shard X N 7 l).blocks (own_blocks X N p (without name l))
+  TakesOver p name l before now (Err fault) = IsLossOf before (shard X N 7 l).blocks fault
+
+-- what a directory in shards of this entry comes to: the entry of a node, and for the pairs of these shards that of
+-- their directory
+pub record SettlesShards (X : List ℕ → List ℕ) (p : Profile) (entry : Entry) (before now : Seen)
+    (result : Result Entry StoreFault) : Type 0 where
+  pub node : IfOk result (λ e. e.cid.codec ≡ DagPb)
+  pub over : (N : List ℕ → ℕ) (l : List Named) → AreShards X N entry before now l
+      → SettlesOver X N p l before.told now.told result
+
+-- what a removal answers for a directory in shards: the entry of a node, or None, and nothing is saved, and for the
+-- pairs of these shards what is left of them
+pub record TakesSharded (X : List ℕ → List ℕ) (N : List ℕ → ℕ) (p : Profile) (root : Cid) (name : List ℕ)
+    (before now : Seen) (result : Result (Option Entry) StoreFault) : Type 0 where
+  pub node : IfOk result (λ left. IfSome left (λ e. e.cid.codec ≡ DagPb))
+  pub none : IfOk result (λ left. left ≡ None → now.told ≡ before.told)
+  pub over : (l : List Named) → StayShards X N root before now l
+      → TakesOver X N p name l before.told now.told result

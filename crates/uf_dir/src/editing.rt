@@ -1,5 +1,5 @@
 // Directories changed by one name.
-ghost use Rattle.std.specs.Prelude.{◌≡◌, ◌<◌, ◌≤◌, ◌+◌, ℕ, List, IfOk, IfSome, IsSome, IsTrue, None, OnOk, Some};
+ghost use Rattle.std.specs.Prelude.{◌≡◌, ◌<◌, ◌≤◌, ◌+◌, ℕ, List, IfOk, IfSome, IsTrue, None, OnOk, Some};
 ghost use Rattle.std.specs.Prelude.{length};
 ghost use Rattle.uf_cid.specs.declared.cid.Codec.TheVariants.{DagPb};
 ghost use Rattle.uf_edge.specs.Counts.{Stood};
@@ -12,15 +12,14 @@ ghost use Rattle.uf_tree.specs.Changes.{with_name, without};
 ghost use Rattle.uf_tree.specs.DirPlan.{weight};
 ghost use Rattle.uf_tree.specs.Nodes.{Named};
 ghost use Rattle.uf_tree.specs.Profiles.{is_profile};
-ghost use Rattle.uf_tree.specs.ShardPlan.{shard};
 ghost use Rattle.uf_tree.specs.TreePlan.{dir_refusal};
 ghost use Rattle.uf_tree.specs.Validity.{IsDirectory};
 ghost use Rattle.uf_shard.specs.Answers.{Gives, GivesOver, Shown, dir_fault};
 ghost use Rattle.uf_shard.specs.Listing.{IsBadShard};
-ghost use Rattle.uf_shard.specs.Planned.{IsPlanned as IsShardPlan};
 ghost use Rattle.uf_dir.specs.Bad.{IsBad, IsBadWeighed};
-ghost use Rattle.uf_dir.specs.Bounds.{IsFree, crossing, gathering, shard_count, weighing};
-ghost use Rattle.uf_dir.specs.Left.{Fits, Settles, TakesBasic, pairs_left};
+ghost use Rattle.uf_dir.specs.Bounds.{IsFree, crossing, gathering, shard_count, weighing, weighing_from};
+ghost use Rattle.uf_dir.specs.Left.{AreShards, Fits, SettlesShards, StayShards};
+ghost use Rattle.uf_dir.specs.Left.{TakesBasic, TakesSharded, pairs_left};
 ghost use Rattle.uf_dir.specs.Planned.{IsFitting, IsPlanned, dir_entry, entry_without, own_blocks};
 
 use crate::building::{build, empty, needs_shards, save_basic};
@@ -138,7 +137,7 @@ pub fn remove<S: Store, N: NameHash, L: Ledger>(
         → StaysAgreed (S.seen store.old).told (S.seen store.new).told (own_blocks S.X.block32 N.name64 p.now l)
         → Stood (S.seen store.old).faults (S.seen store.new).faults
         → Stood (S.seen store.old).clashes (S.seen store.new).clashes
-        → touches.new ≤ touches.old + (18 + weighing p.now (shard_count S.X.block32 N.name64 l)
+        → touches.new ≤ touches.old + (18 + weighing_from S.X.block32 N.name64 p.now l
         + crossing S.X.block32 N.name64 p.now l (without name.now l)) }
     ensures touched { touches.old < touches.new }
 {
@@ -187,26 +186,12 @@ fn remove_sharded<S: Store, N: NameHash, L: Ledger>(
     touches: &mut Steps<L>,
 ) -> Result<Option<Entry>, StoreFault>
     requires profile { IsTrue (is_profile p.now) }
-    ensures value { (l : List Named) → IsShardPlan S.X.block32 N.name64 root.now l
-        → StaysAgreed (S.seen store.old).told (S.seen store.new).told (shard S.X.block32 N.name64 7 l).blocks
-        → Stood (S.seen store.old).faults (S.seen store.new).faults
-        → Stood (S.seen store.old).clashes (S.seen store.new).clashes
-        → ReadsOver (S.seen store.old).told (shard S.X.block32 N.name64 7 l).blocks
-        (entry_without S.X.block32 N.name64 p.now name.now l) result }
-    ensures node { IfOk result (λ left. IfSome left (λ e. e.cid.codec ≡ DagPb)) }
-    ensures none { IfOk result (λ left. left ≡ None → (S.seen store.new).told ≡ (S.seen store.old).told) }
-    ensures after { IfOk result (λ left. (l : List Named) → IsShardPlan S.X.block32 N.name64 root.now l
-        → StaysAgreed (S.seen store.old).told (S.seen store.new).told (shard S.X.block32 N.name64 7 l).blocks
-        → Stood (S.seen store.old).faults (S.seen store.new).faults
-        → Stood (S.seen store.old).clashes (S.seen store.new).clashes
-        → IfSome left (λ e. AgreesAfter (S.seen store.old).told (S.seen store.new).told
-        (shard S.X.block32 N.name64 7 l).blocks (own_blocks S.X.block32 N.name64 p.now (without name.now l)))) }
+    ensures takes { TakesSharded S.X.block32 N.name64 p.now root.now name.now
+        (S.seen store.old) (S.seen store.new) result }
     ensures saves { OnlySaves S.X.block32 (IsBadWeighed N.name64 (N.name64 name.now) (Some p.now)) (fault_in result)
         (S.seen store.old) (S.seen store.new) }
-    ensures touches { (l : List Named) → IsShardPlan S.X.block32 N.name64 root.now l
-        → StaysAgreed (S.seen store.old).told (S.seen store.new).told (shard S.X.block32 N.name64 7 l).blocks
-        → Stood (S.seen store.old).faults (S.seen store.new).faults
-        → Stood (S.seen store.old).clashes (S.seen store.new).clashes
+    ensures touches { (l : List Named)
+        → StayShards S.X.block32 N.name64 root.now (S.seen store.old) (S.seen store.new) l
         → touches.new ≤ touches.old + (17 + weighing p.now (shard_count S.X.block32 N.name64 l)
         + gathering p.now (shard_count S.X.block32 N.name64 l) (without name.now l)) }
     ensures touched { touches.old < touches.new }
@@ -218,7 +203,10 @@ fn remove_sharded<S: Store, N: NameHash, L: Ledger>(
             let entry = empty(alloc, store, touches)?;
             Ok(Some(entry))
         }
-        Removed::Left(entry) => settled(alloc, store, p, entry, touches),
+        Removed::Left(entry) => {
+            let left = settled(alloc, store, p, entry, touches)?;
+            Ok(Some(left))
+        }
     }
 }
 
@@ -229,35 +217,20 @@ fn settled<S: Store, L: Ledger>(
     p: &Profile,
     entry: Entry,
     touches: &mut Steps<L>,
-) -> Result<Option<Entry>, StoreFault>
+) -> Result<Entry, StoreFault>
     requires profile { IsTrue (is_profile p.now) }
     requires node { entry.cid.codec ≡ DagPb }
-    ensures value { (N : List ℕ → ℕ) (l : List Named) → IsShardPlan S.X.block32 N entry.cid l
-        → entry ≡ (shard S.X.block32 N 7 l).entry
-        → Agrees (S.seen store.old).told (shard S.X.block32 N 7 l).blocks
-        → Stood (S.seen store.old).faults (S.seen store.new).faults
-        → Stood (S.seen store.old).clashes (S.seen store.new).clashes
-        → ReadsOver (S.seen store.old).told (shard S.X.block32 N 7 l).blocks
-        (Some (dir_entry S.X.block32 N p.now l)) result }
-    ensures node { IfOk result (λ left. IfSome left (λ e. e.cid.codec ≡ DagPb)) }
-    ensures some { IfOk result IsSome }
-    ensures after { OnOk result ((N : List ℕ → ℕ) (l : List Named) → IsShardPlan S.X.block32 N entry.cid l
-        → Agrees (S.seen store.old).told (shard S.X.block32 N 7 l).blocks
-        → Stood (S.seen store.old).faults (S.seen store.new).faults
-        → Stood (S.seen store.old).clashes (S.seen store.new).clashes
-        → Settles S.X.block32 N p.now l (S.seen store.old).told (S.seen store.new).told) }
+    ensures settles { SettlesShards S.X.block32 p.now entry (S.seen store.old) (S.seen store.new) result }
     ensures saves { OnlySaves S.X.block32 IsBadShard (fault_in result) (S.seen store.old) (S.seen store.new) }
-    ensures touches { (N : List ℕ → ℕ) (l : List Named) → IsShardPlan S.X.block32 N entry.cid l
-        → Agrees (S.seen store.old).told (shard S.X.block32 N 7 l).blocks
-        → Stood (S.seen store.old).faults (S.seen store.new).faults
-        → Stood (S.seen store.old).clashes (S.seen store.new).clashes
+    ensures touches { (N : List ℕ → ℕ) (l : List Named)
+        → AreShards S.X.block32 N entry (S.seen store.old) (S.seen store.new) l
         → touches.new ≤ touches.old + (weighing p.now (shard_count S.X.block32 N l)
         + gathering p.now (shard_count S.X.block32 N l) l) }
     ensures touched { touches.old < touches.new }
 {
     let is_heavy = weight_over(alloc, store, &entry.cid, u64::from(p.threshold), touches)?;
     if is_heavy {
-        return Ok(Some(entry));
+        return Ok(entry);
     }
     in_one_block(alloc, store, p, entry, touches)
 }
@@ -269,26 +242,13 @@ fn in_one_block<S: Store, L: Ledger>(
     p: &Profile,
     entry: Entry,
     touches: &mut Steps<L>,
-) -> Result<Option<Entry>, StoreFault>
+) -> Result<Entry, StoreFault>
     requires profile { IsTrue (is_profile p.now) }
     requires node { entry.cid.codec ≡ DagPb }
-    ensures value { (N : List ℕ → ℕ) (l : List Named) → IsShardPlan S.X.block32 N entry.cid l
-        → entry ≡ (shard S.X.block32 N 7 l).entry
-        → Agrees (S.seen store.old).told (shard S.X.block32 N 7 l).blocks
-        → Stood (S.seen store.old).faults (S.seen store.new).faults
-        → Stood (S.seen store.old).clashes (S.seen store.new).clashes
-        → ReadsOver (S.seen store.old).told (shard S.X.block32 N 7 l).blocks
-        (Some (dir_entry S.X.block32 N p.now l)) result }
-    ensures node { IfOk result (λ left. IfSome left (λ e. e.cid.codec ≡ DagPb)) }
-    ensures some { IfOk result IsSome }
-    ensures after { OnOk result ((N : List ℕ → ℕ) (l : List Named) → IsShardPlan S.X.block32 N entry.cid l
-        → Agrees (S.seen store.old).told (shard S.X.block32 N 7 l).blocks
-        → Stood (S.seen store.old).faults (S.seen store.new).faults
-        → Stood (S.seen store.old).clashes (S.seen store.new).clashes
-        → Settles S.X.block32 N p.now l (S.seen store.old).told (S.seen store.new).told) }
+    ensures settles { SettlesShards S.X.block32 p.now entry (S.seen store.old) (S.seen store.new) result }
     ensures saves { OnlySaves S.X.block32 IsBadShard (fault_in result) (S.seen store.old) (S.seen store.new) }
-    ensures touches { (N : List ℕ → ℕ) (l : List Named) → IsShardPlan S.X.block32 N entry.cid l
-        → Agrees (S.seen store.old).told (shard S.X.block32 N 7 l).blocks
+    ensures touches { (N : List ℕ → ℕ) (l : List Named)
+        → AreShards S.X.block32 N entry (S.seen store.old) (S.seen store.new) l
         → touches.new ≤ touches.old + (shard_count S.X.block32 N l + 1) }
     ensures touched { touches.old < touches.new }
 {
@@ -304,22 +264,19 @@ fn fitted<S: Store, L: Ledger>(
     entry: Entry,
     pairs: &Pairs,
     touches: &mut Steps<L>,
-) -> Result<Option<Entry>, StoreFault>
+) -> Result<Entry, StoreFault>
     requires profile { IsTrue (is_profile p.now) }
     requires directory { IsDirectory pairs.now }
-    requires node { entry.cid.codec ≡ DagPb }
     ensures fits { (N : List ℕ → ℕ) → Fits S.X.block32 N p.now entry pairs.now
         (S.seen store.old).told (S.seen store.new).told result }
-    ensures node { IfOk result (λ left. IfSome left (λ e. e.cid.codec ≡ DagPb)) }
     ensures saves { OnlySaves S.X.block32 NoneIsBad (fault_in result) (S.seen store.old) (S.seen store.new) }
     ensures touches { touches.new ≤ touches.old + 1 }
     ensures touched { touches.old ≤ touches.new }
 {
     if needs_shards(p, pairs.as_slice()) {
-        return Ok(Some(entry));
+        return Ok(entry);
     }
-    let entry = save_basic(alloc, store, pairs, touches)?;
-    Ok(Some(entry))
+    save_basic(alloc, store, pairs, touches)
 }
 
 // The pairs without a name, where the name is there.

@@ -1,7 +1,7 @@
 use Rattle.std.proofs.Common.{Some, refl}
 use Rattle.uf_dir.specs.Planned.{entry_without}
 use Rattle.std.proofs.lemmas.Result.{err_from_is_err_and}
-use Rattle.uf_dir.proofs.Changing.{basic-node, basic-ok, basic-value, in_shards, saves-same, take-asked, take-sharded, take-sharded-ok}
+use Rattle.uf_dir.proofs.Changing.{basic-node, basic-ok, basic-value, in_shards, saves-same, stay-there, take-sharded, take-sharded-ok}
 use Rattle.uf_dir.proofs.Looked.{entries-basic, entries-unread, fitting-at}
 use Rattle.uf_dir.proofs.Refusals.{sharded-apart}
 use Rattle.uf_dir.proofs.Touching.{basic-takes, sharded-takes}
@@ -28,11 +28,11 @@ returns-in-Basic-clause-after g c = basic-ok g.S.X.BlockHash.block32 g.N.NameHas
 
 pub returns-clause-value : goal.returns-clause-value
 returns-clause-value g c = λ l is stays faults clashes. take-sharded g.S.X.BlockHash.block32 (record { size = g.met.S.X.BlockHash.size; are_bytes = g.met.S.X.BlockHash.are_bytes }) g.N.NameHash.name64 c.args.p.now c.args.root.now l is (g.S.Store.seen c.args.store.now) (g.S.Store.seen c.look_at_root.new.store) _ _ c.in-Sharded.is c.in_ok-found.ensures.looks c.look_at_root.ensures.reads.told stays.first
-    c.args.name.now (g.S.Store.seen c.remove_sharded.new.store) c.remove_sharded.result c.in_ok-found.ensures.reads.cause c.remove_sharded.ensures.value stays.last faults clashes
+    c.args.name.now (g.S.Store.seen c.remove_sharded.new.store) c.remove_sharded.result c.in_ok-found.ensures.reads.cause c.remove_sharded.ensures.takes stays.last (record { faults = faults; clashes = clashes })
 
 pub returns-clause-after : goal.returns-clause-after
 returns-clause-after g c = take-sharded-ok g.S.X.BlockHash.block32 (record { size = g.met.S.X.BlockHash.size; are_bytes = g.met.S.X.BlockHash.are_bytes }) g.N.NameHash.name64 c.args.p.now c.args.root.now (g.S.Store.seen c.args.store.now) (g.S.Store.seen c.look_at_root.new.store) _ _ c.in-Sharded.is c.in_ok-found.ensures.looks c.look_at_root.ensures.reads.told
-    c.args.name.now (g.S.Store.seen c.remove_sharded.new.store) c.in_ok-found.ensures.reads.cause c.remove_sharded.result c.remove_sharded.ensures.none c.remove_sharded.ensures.value c.remove_sharded.ensures.after
+    c.args.name.now (g.S.Store.seen c.remove_sharded.new.store) c.in_ok-found.ensures.reads.cause c.remove_sharded.result c.remove_sharded.ensures.takes
 
 pub returns-in-Basic-clause-touches : goal.returns-in-Basic-clause-touches
 returns-in-Basic-clause-touches g c = λ l is stays faults clashes. basic-takes g.S.X.BlockHash.block32 g.N.NameHash.name64 c.args.p.now l (without c.args.name.now l) c.args.touches.now c.look_at_root.new.touches _ c.look_at_root.ensures.touches c.remove_basic.ensures.touches
@@ -47,5 +47,5 @@ pub returns-clause-touches : goal.returns-clause-touches
 returns-clause-touches g c = λ l is stays faults clashes.
     let heavy = in_shards g.S.X.BlockHash.block32 (record { size = g.met.S.X.BlockHash.size; are_bytes = g.met.S.X.BlockHash.are_bytes }) g.N.NameHash.name64 c.args.p.now c.args.root.now l is (g.S.Store.seen c.args.store.now) (g.S.Store.seen c.look_at_root.new.store) _ _ c.in-Sharded.is c.in_ok-found.ensures.looks c.look_at_root.ensures.reads.told stays.first in
     sharded-takes g.S.X.BlockHash.block32 g.N.NameHash.name64 c.args.p.now l (without c.args.name.now l) c.args.touches.now c.look_at_root.new.touches _ heavy (sharded-apart g.S.X.BlockHash.block32 g.N.NameHash.name64 g.met.N.NameHash.fits c.args.p.now l c.args.root.now is heavy) c.look_at_root.ensures.touches
-    (take-asked g.S.X.BlockHash.block32 (record { size = g.met.S.X.BlockHash.size; are_bytes = g.met.S.X.BlockHash.are_bytes }) g.N.NameHash.name64 c.args.p.now c.args.root.now l is (g.S.Store.seen c.args.store.now) (g.S.Store.seen c.look_at_root.new.store) _ _ c.in-Sharded.is c.in_ok-found.ensures.looks c.look_at_root.ensures.reads.told stays.first
-    (g.S.Store.seen c.remove_sharded.new.store) _ c.in_ok-found.ensures.reads.cause c.remove_sharded.ensures.touches stays.last faults clashes)
+    (c.remove_sharded.ensures.touches l (stay-there g.S.X.BlockHash.block32 (record { size = g.met.S.X.BlockHash.size; are_bytes = g.met.S.X.BlockHash.are_bytes }) g.N.NameHash.name64 c.args.p.now c.args.root.now l is (g.S.Store.seen c.args.store.now) (g.S.Store.seen c.look_at_root.new.store) _ _ c.in-Sharded.is c.in_ok-found.ensures.looks c.look_at_root.ensures.reads.told stays.first
+    (g.S.Store.seen c.remove_sharded.new.store) c.in_ok-found.ensures.reads.cause stays.last (record { faults = faults; clashes = clashes })))
