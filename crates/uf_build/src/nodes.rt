@@ -39,6 +39,7 @@ pub fn save_node<S: Store, L: Ledger>(
     ensures unread { LoadsNothing (fault_in result) (S.seen store.old) (S.seen store.new) }
     ensures touches { touches.new ≤ touches.old + 1 }
     ensures touch { OnOk result (touches.new ≡ touches.old + 1) }
+    ensures rises { touches.old ≤ touches.new }
 {
     let node = node_of(alloc, parts)?;
     let block = file_node(alloc, &node)?;

@@ -1,12 +1,12 @@
 -- Bytes changed, and cut into groups.
-use Rattle.std.proofs.Common.{◌≡◌, ◌≢◌, ℕ, zero, suc, ◌+◌, ◌-◌, ◌*◌, ◌<◌, ◌≤◌, List, [], ◌∷◌, ◌++◌, length, take, drop, replicate, get_or, min, max, refl, ap, arith, sym, ◌∙◌, subst, append_assoc, append-nil, length-append, length-take, length-drop, ◌⊎◌, inl, inr}
-use Rattle.std.proofs.lemmas.List.{take_all, drop_all, take_at, drop_at, take-replicate, drop-replicate, drop_more}
+use Rattle.std.proofs.Common.{◌≡◌, ℕ, zero, suc, ◌+◌, ◌-◌, ◌<◌, ◌≤◌, List, [], ◌∷◌, ◌++◌, length, take, drop, replicate, get_or, min, max, refl, ap, arith, sym, ◌∙◌, subst, append-nil, ◌⊎◌, inl, inr}
+use Rattle.std.proofs.lemmas.List.{take_all, drop_all, take_at, drop_at, take-replicate, drop-replicate}
 use Rattle.std.proofs.lemmas.Bool.{cases_lt}
 use Rattle.uf_fileread.proofs.Cutting.{take_two, drop_two}
 use Rattle.uf_tree.specs.Cutting.{joined}
-use Rattle.uf_tree.specs.FilePlan.{groups, split_from}
+use Rattle.uf_tree.specs.FilePlan.{groups}
 use Rattle.uf_tree.proofs.Behind.{groups-behind, split-short}
-use Rattle.uf_fileedit.specs.Changes.{AreCut, LiesWithin, overlaid, first, rest}
+use Rattle.uf_fileedit.specs.Changes.{AreCut, overlaid, first, rest}
 use Rattle.uf_fileedit.specs.Edits.{cut_to, laid}
 
 take_nil : (n : ℕ) → take {A = ℕ} n [] ≡ []

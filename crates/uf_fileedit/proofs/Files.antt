@@ -1,6 +1,6 @@
 -- A whole file changed.
-use Rattle.std.proofs.Common.{◌≡◌, ◌≢◌, ℕ, zero, suc, ◌+◌, ◌-◌, ◌*◌, ◌^◌, ◌<◌, ◌≤◌, List, [], ◌∷◌, ◌++◌, length, take, min, max, refl, ap, arith, sym, ◌∙◌, subst, Option, None, Some, ◌⊎◌, inl, inr, Bool, true, false, Result, Ok, Err, IsTrue}
-use Rattle.std.specs.Prelude.{◌==◌, IfErr, IfOk, IfSome, OnOk}
+use Rattle.std.proofs.Common.{◌≡◌, ℕ, suc, ◌*◌, ◌^◌, ◌<◌, ◌≤◌, List, [], ◌∷◌, length, min, refl, ap, arith, sym, ◌∙◌, subst, Option, None, Some, ◌⊎◌, inl, inr, Bool, true, false, IsTrue}
+use Rattle.std.specs.Prelude.{◌==◌, IfSome}
 use Rattle.std.specs.List.{AllByRecursion}
 use Rattle.std.proofs.lemmas.Bool.{cases_lt}
 use Rattle.std.proofs.lemmas.Bool.Decides.{nat_tests}
@@ -9,7 +9,6 @@ use Rattle.uf_cid.specs.Blocks as blocks
 use Rattle.uf_cid.specs.Blocks.{Held, Lookup}
 use Rattle.uf_cid.specs.declared.cid.Cid.{Cid}
 use Rattle.uf_fileread.specs.Ranges.{IsFile}
-use Rattle.uf_fileread.proofs.Sending.{root-agrees}
 use Rattle.uf_store.specs.declared.store.StoreFault.{StoreFault}
 use Rattle.uf_store.specs.declared.store.StoreFault.TheVariants.{Failed, Damaged, Missing, BadBlock, Clash, Memory}
 use Rattle.uf_store.specs.Contents.{Contents, Told, held_at}
@@ -29,7 +28,7 @@ use Rattle.uf_tree.proofs.Told.{kept}
 use Rattle.uf_tree.proofs.Valid.{sub-size}
 use Rattle.uf_store.specs.Writing.{IsSave, SavesOnly}
 use Rattle.uf_store.proofs.Writing.{Wrote-good}
-use Rattle.uf_fileedit.specs.Changes.{GivesPart, GivesFile, IsFrontPart, IsIn, IsKnown, IsOld, IsOldPart, overlaid, old_blocks, size_after}
+use Rattle.uf_fileedit.specs.Changes.{GivesPart, GivesFile, IsFrontPart, IsIn, IsKnown, IsOld, IsOldPart, overlaid, old_blocks}
 use Rattle.uf_fileedit.proofs.Bytes.{changed-take, length-changed}
 use Rattle.uf_fileedit.proofs.Kept.{agrees-among, all-in, each-in, known-among, known-old, loss-among, over-good}
 

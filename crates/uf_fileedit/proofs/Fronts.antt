@@ -1,8 +1,7 @@
 -- The first parts of an old file.
-use Rattle.std.proofs.Common.{◌≡◌, ℕ, zero, suc, ◌+◌, ◌-◌, ◌<◌, ◌≤◌, List, [], ◌∷◌, ◌++◌, length, map, take, get_or, min, refl, ap, arith, sym, ◌∙◌, subst, Result, Ok, Err, IsTrue}
+use Rattle.std.proofs.Common.{◌≡◌, ℕ, ◌+◌, ◌<◌, ◌≤◌, List, take, get_or, min, ap, arith, sym, ◌∙◌, subst, Result, Ok, Err, IsTrue}
 use Rattle.std.specs.Prelude.{IfErr, IfOk}
-use Rattle.std.specs.List.{AllByRecursion}
-use Rattle.std.proofs.lemmas.List.{take-take, take_min}
+use Rattle.std.proofs.lemmas.List.{take-take}
 use Rattle.uf_cid.specs.Blocks.{Held}
 use Rattle.uf_store.specs.declared.store.StoreFault.{StoreFault}
 use Rattle.uf_store.specs.Contents.{Told}
@@ -10,9 +9,8 @@ use Rattle.uf_store.specs.Keeping.{Agrees}
 use Rattle.uf_store.specs.Lost.{IsLossOf}
 use Rattle.uf_tree.specs.declared.nodes.Part.{Part}
 use Rattle.uf_tree.specs.declared.profile.Profile.{Profile}
-use Rattle.uf_tree.specs.Cutting.{joined}
 use Rattle.uf_tree.specs.FilePlan.{groups, split_from}
-use Rattle.uf_tree.specs.FileSub.{blocks_over, part_over, span}
+use Rattle.uf_tree.specs.FileSub.{blocks_over, span}
 use Rattle.uf_tree.specs.Profiles.{is_profile}
 use Rattle.uf_tree.specs.Validity.{IsHash}
 use Rattle.uf_tree.proofs.Groups.{joined-split}

@@ -1,21 +1,14 @@
 -- What is held while a file is changed.
-use Rattle.std.proofs.Common.{◌≡◌, ℕ, zero, suc, ◌≤◌, List, [], ◌∷◌, ◌++◌, refl, ap, sym, ◌∙◌, subst, Bool, true, false, cond, Option, None, Some, ◌⊎◌, inl, inr, map}
+use Rattle.std.proofs.Common.{◌≡◌, ℕ, zero, suc, List, [], ◌∷◌, ◌++◌, refl, ap, sym, ◌∙◌, subst, None, Some, ◌⊎◌, inl, inr}
 use Rattle.std.specs.Prelude.{IfSome}
 use Rattle.std.specs.List.{AllByRecursion, flat_map}
-use Rattle.std.specs.FinMap.{get, get-insert}
-use Rattle.std.specs.Ordering.{is_eq, eq_by_cmp}
-use Rattle.std.specs.declared.cmp.Ordering.{Ordering}
-use Rattle.std.specs.declared.cmp.Ordering.TheVariants.{Less, Equal, Greater}
 use Rattle.uf_cid.specs.Blocks.{Held, Lookup}
-use Rattle.uf_cid.specs.Blocks as blocks
-use Rattle.uf_cid.specs.Cid.{cid_cmp}
 use Rattle.uf_cid.specs.declared.cid.Cid.{Cid}
 use Rattle.uf_store.specs.declared.store.StoreFault.{StoreFault}
 use Rattle.uf_store.specs.declared.store.StoreFault.TheVariants.{Failed, Damaged, Missing, BadBlock, Clash, Memory}
-use Rattle.uf_store.specs.Contents.{Contents, Told, changed as told_changed, held_at, with_save}
+use Rattle.uf_store.specs.Contents.{Told, held_at}
 use Rattle.uf_store.specs.Keeping.{Agrees, AreGood, Holds, KeepsGood}
 use Rattle.uf_store.specs.Lost.{IsLossOf, IsLost}
-use Rattle.uf_store.proofs.Holding.{cid_cmp_total, cid_cmp-IsAntisymmetric}
 use Rattle.uf_store.proofs.Keeping.{Holds-kept}
 use Rattle.uf_tree.specs.FilePlan.{groups}
 use Rattle.uf_tree.specs.FileSub.{blocks_over, span}

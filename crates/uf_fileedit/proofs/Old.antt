@@ -1,52 +1,44 @@
 -- The old parts of a file.
-use Rattle.std.proofs.Common.{◌≡◌, ◌≢◌, ℕ, zero, suc, pred, ◌+◌, ◌-◌, ◌*◌, ◌^◌, ◌<◌, ◌≤◌, List, [], ◌∷◌, ◌++◌, length, sum, map, take, drop, get_or, min, refl, ap, arith, sym, ◌∙◌, subst, append-nil, length-append, add-one, Bool, true, false, Option, None, Some, ◌⊎◌, inl, inr, Result, Ok, Err, IsTrue}
-use Rattle.std.specs.Prelude.{◌&&◌, ◌==◌, IfErr, IfOk, IfSome, nat_lt}
+use Rattle.std.proofs.Common.{◌≡◌, ◌≢◌, ℕ, zero, suc, pred, ◌+◌, ◌-◌, ◌*◌, ◌^◌, ◌<◌, ◌≤◌, List, [], ◌∷◌, ◌++◌, length, sum, map, min, refl, ap, arith, sym, ◌∙◌, subst, append-nil, length-append, add-one, Bool, true, false, Option, None, Some, ◌⊎◌, inl, inr, Result, Ok, Err, IsTrue}
+use Rattle.std.specs.Prelude.{◌&&◌, ◌==◌, IfOk, IfSome, nat_lt}
 use Rattle.std.specs.List.{AllByRecursion, flat_map}
-use Rattle.std.proofs.lemmas.Bool.{cases_lt}
 use Rattle.std.proofs.lemmas.Bool.Decides.{nat_tests}
-use Rattle.std.proofs.lemmas.List.{take-take, take_all}
 use Rattle.std.proofs.lemmas.Bool.{false≢true}
 use Rattle.std.proofs.lemmas.List.Sums.{sum-map}
 use Rattle.uf_cid.specs.declared.bytes.StrictFault.TheVariants.{NotCanonical, Memory as StrictMemory}
 use Rattle.uf_cid.specs.declared.cid.Codec.{Codec}
 use Rattle.uf_fileread.specs.Ranges.{IsFile}
 use Rattle.uf_fileread.proofs.Sending.{root-agrees}
-use Rattle.uf_store.specs.declared.store.Role.{Role}
-use Rattle.uf_store.specs.declared.store.Role.TheVariants.{FileNode as FileRole, Leaf}
 use Rattle.uf_tree.specs.declared.nodes.Entry.{Entry}
-use Rattle.uf_tree.specs.Nodes.{file_block}
-use Rattle.uf_tree.specs.Roles.{Below, FilePlace, IsCanonicalFileNode, IsCanonicalLeaf, Root, WithSome}
 use Rattle.uf_tree.specs.Roots.{root_over}
-use Rattle.uf_fileedit.specs.Bad.{IsBadEdited}
 use Rattle.uf_cid.specs.Blocks.{Held}
 use Rattle.uf_cid.specs.declared.cid.Cid.{Cid}
 use Rattle.uf_cid.specs.declared.cid.Codec.TheVariants.{Raw, DagPb}
 use Rattle.uf_fileread.specs.Parts.{AreParts, parts_block}
-use Rattle.uf_fileread.proofs.Nodes.{node-parts, same_parts, zipped}
+use Rattle.uf_fileread.proofs.Nodes.{same_parts}
 use Rattle.uf_fileread.proofs.Sending.{the_block}
 use Rattle.uf_edge.specs.Counts.{Stood}
 use Rattle.uf_store.specs.declared.store.StoreFault.{StoreFault}
 use Rattle.uf_store.specs.declared.store.StoreFault.TheVariants.{Failed, Damaged, Missing, BadBlock, Clash, Memory}
 use Rattle.uf_store.specs.Clashes.{IsLoadFault}
-use Rattle.uf_store.specs.Contents.{Contents, Told, held_at}
-use Rattle.uf_store.specs.Faults.{NoneIsBad, Shows, ShowsBadBlock, StaysCalm}
-use Rattle.uf_store.specs.Keeping.{Agrees, Holds, HoldsOne}
+use Rattle.uf_store.specs.Contents.{Told, held_at}
+use Rattle.uf_store.specs.Faults.{NoneIsBad, Shows}
+use Rattle.uf_store.specs.Keeping.{Agrees}
 use Rattle.uf_store.specs.Lost.{IsLossOf, LosesOne}
-use Rattle.uf_store.specs.Seen.{Finds, Seen}
+use Rattle.uf_store.specs.Seen.{Seen}
 use Rattle.uf_tree.specs.declared.nodes.Part.{Part}
 use Rattle.uf_tree.specs.declared.profile.Profile.{Profile}
 use Rattle.uf_tree.specs.Cutting.{joined}
-use Rattle.uf_tree.specs.FilePlan.{file_plan, groups, leaf_held, node_held, node_over, split_from}
+use Rattle.uf_tree.specs.FilePlan.{file_plan, groups, node_held, node_over, split_from}
 use Rattle.uf_tree.specs.FileSub.{IsHeight, blocks_over, part_over, span}
 use Rattle.uf_tree.specs.Profiles.{is_profile}
-use Rattle.uf_tree.specs.Validity.{IsFileNode, IsHash}
+use Rattle.uf_tree.specs.Validity.{IsHash}
 use Rattle.uf_tree.proofs.Groups.{joined-split}
 use Rattle.uf_tree.proofs.Sub.{span-pos}
 use Rattle.uf_tree.proofs.Told.{kept}
 use Rattle.uf_tree.proofs.Valid.{file_node-valid, sub-size, sum_sizes}
-use Rattle.uf_fileedit.specs.Changes.{AreCut, AreOld, FitsOld, IsBelow, IsFrontPart, IsIn, IsOld, IsOldPart, blocks_of_all, old_blocks}
-use Rattle.uf_fileedit.specs.Planned.{IsNodeOver, IsPlannedNode, IsSize, SaysFileSize, are_planned, is_of_height, role_at}
-use Rattle.uf_fileedit.proofs.Kept.{agrees-among, in-back, in-either, in-front, loss-among}
+use Rattle.uf_fileedit.specs.Changes.{AreCut, AreOld, FitsOld, IsBelow, IsIn, IsOld, IsOldPart, blocks_of_all, old_blocks}
+use Rattle.uf_fileedit.specs.Planned.{IsPlannedNode, IsSize, are_planned, is_of_height}
 use Rattle.uf_fileedit.proofs.Numbers.{span-rises}
 
 -- a load that fails while the store stays calm has lost one of the blocks
@@ -170,9 +162,13 @@ module _ (X : List ℕ → List ℕ) (good : IsHash X) (p : Profile) (ok : IsTru
     size_is : part.size ≡ length b
     size_is = ap (λ (m : Part). m.size) is.same ∙ sub-size X good p ok (suc k) b
 
-    planned : IsPlannedNode p k part.size (at_parts k b)
-    planned = record {
-      valid = file_node-valid X good p ok k b is.fits.few is.fits.small;
+    node_valid : AreParts (at_parts k b)
+    node_valid = file_node-valid X good p ok k b is.fits.few is.fits.small
+
+    planned : (rows : ℕ) → rows ≤ 22 → IsPlannedNode p rows k part.size (at_parts k b)
+    planned rows low = record {
+      valid = node_valid;
+      few = omega arith;
       planned = ap (λ n. are_planned (span p.chunk p.width k) k n (at_parts k b)) (size_is ∙ sym (ap length (joined-split (span p.chunk p.width k) (span p.chunk p.width k) b)))
           ∙ planned-are k (groups (span p.chunk p.width k) b) (groups-cut (span p.chunk p.width k) b (pos k)) (groups-some (span p.chunk p.width k) b (pos k) some_bytes);
     }
@@ -200,24 +196,29 @@ module _ (X : List ℕ → List ℕ) (good : IsHash X) (p : Profile) (ok : IsTru
       cut = groups-cut (span p.chunk p.width k) b (pos k);
     }
 
-    pub loaded : (told : Told) (lent : List ℕ) (parts : List Part) → Agrees told (blocks_over X p.chunk p.width (suc k) b) → IfSome told (λ t. held_at t part.entry.cid ≡ Some lent) → IsPlannedNode p k part.size parts → lent ≡ parts_block parts
+    pub loaded : (rows : ℕ) (told : Told) (lent : List ℕ) (parts : List Part) → Agrees told (blocks_over X p.chunk p.width (suc k) b) → IfSome told (λ t. held_at t part.entry.cid ≡ Some lent) → IsPlannedNode p rows k part.size parts → lent ≡ parts_block parts
         → AreOld X p (span p.chunk p.width k) k parts (groups (span p.chunk p.width k) b)
-    loaded told lent parts agrees held read is_block =
+    loaded rows told lent parts agrees held read is_block =
         let block = the_block told (node_held X (at_parts k b)) (blocks_of_all X p k (groups (span p.chunk p.width k) b)) part.entry.cid lent cid_is (agrees_own told agrees) held in
-        let same : parts ≡ at_parts k b = same_parts parts (at_parts k b) read.valid planned.valid (sym is_block ∙ block.0) in
+        let same : parts ≡ at_parts k b = same_parts parts (at_parts k b) read.valid node_valid (sym is_block ∙ block.0) in
         subst (λ (l : List Part). AreOld X p (span p.chunk p.width k) k l (groups (span p.chunk p.width k) b)) (sym same) are-old
 
-    pub no_bad : (told : Told) (lent : List ℕ) → Agrees told (blocks_over X p.chunk p.width (suc k) b) → IfSome told (λ t. held_at t part.entry.cid ≡ Some lent) → ((parts : List Part) → IsPlannedNode p k part.size parts → lent ≢ parts_block parts) → ⊥
-    no_bad told lent agrees held none = none (at_parts k b) planned (the_block told (node_held X (at_parts k b)) (blocks_of_all X p k (groups (span p.chunk p.width k) b)) part.entry.cid lent cid_is (agrees_own told agrees) held).0
+    pub no_bad : (rows : ℕ) (told : Told) (lent : List ℕ) → rows ≤ 22 → Agrees told (blocks_over X p.chunk p.width (suc k) b) → IfSome told (λ t. held_at t part.entry.cid ≡ Some lent)
+        → ((parts : List Part) → IsPlannedNode p rows k part.size parts → lent ≢ parts_block parts) → ⊥
+    no_bad rows told lent low agrees held none = none (at_parts k b) (planned rows low) (the_block told (node_held X (at_parts k b)) (blocks_of_all X p k (groups (span p.chunk p.width k) b)) part.entry.cid lent cid_is (agrees_own told agrees) held).0
 
     pub need-lost : (before now : Seen) (fault : StoreFault) → Shows X NoneIsBad fault before now → IsLoadFault part.entry.cid fault → now.told ≡ before.told → Stood before.faults now.faults → IsLossOf before.told (blocks_over X p.chunk p.width (suc k) b) fault
     need-lost before now fault shows load same stood = lost_own before.told fault (need_lost X before now (node_held X (at_parts k b)) (blocks_of_all X p k (groups (span p.chunk p.width k) b)) part.entry.cid fault cid_is shows load same stood)
 
 -- a node that isn't as the layout has it
-pub planned-elsewhere : (p : Profile) (k size : ℕ) (bytes : List ℕ) (parts slice : List Part) (b : Bool) → AreParts parts × (bytes ≡ parts_block parts) → slice ≡ parts → b ≡ are_planned (span p.chunk p.width k) k size slice → b ≡ false
-    → (NotCanonical ≡ StrictMemory) ⊎ ((v : List Part) → IsPlannedNode p k size v → bytes ≢ parts_block v)
-planned-elsewhere p k size bytes parts slice b read same is fails =
+pub planned-elsewhere : (p : Profile) (rows k size : ℕ) (bytes : List ℕ) (parts slice : List Part) (b : Bool) → AreParts parts × (bytes ≡ parts_block parts) → slice ≡ parts → b ≡ are_planned (span p.chunk p.width k) k size slice → b ≡ false
+    → (NotCanonical ≡ StrictMemory) ⊎ ((v : List Part) → IsPlannedNode p rows k size v → bytes ≢ parts_block v)
+planned-elsewhere p rows k size bytes parts slice b read same is fails =
     inr (λ v h e. false≢true (sym fails ∙ is ∙ ap (are_planned (span p.chunk p.width k) k size) (same ∙ same_parts parts v read.0 h.valid (sym read.1 ∙ e)) ∙ h.planned))
+
+-- below too many nodes none may stand
+pub planned-nowhere : (p : Profile) (rows k size above : ℕ) (bytes : List ℕ) → above ≡ rows - k → 22 < above → (NotCanonical ≡ StrictMemory) ⊎ ((v : List Part) → IsPlannedNode p rows k size v → bytes ≢ parts_block v)
+planned-nowhere p rows k size above bytes is high = inr (λ v h e. absurd (let few : rows - k ≤ 22 = h.few in omega arith))
 
 -- ---- the parts below an old part
 
@@ -229,17 +230,17 @@ module _ (X : List ℕ → List ℕ) (good : IsHash X) (p : Profile) (ok : IsTru
     agrees_suc : (told : Told) → Agrees told (blocks_over X p.chunk p.width (k + 1) b) → Agrees told (blocks_over X p.chunk p.width (suc k) b)
     agrees_suc told h = subst (λ n. Agrees told (blocks_over X p.chunk p.width n b)) (add-one k) h
 
-    pub load-gives : (told : Told) (lent : List ℕ) (parts : List Part) → Agrees told (blocks_over X p.chunk p.width (k + 1) b) → IfSome told (λ t. held_at t part.entry.cid ≡ Some lent) → IsPlannedNode p k part.size parts × (lent ≡ parts_block parts)
+    pub load-gives : (rows : ℕ) (told : Told) (lent : List ℕ) (parts : List Part) → Agrees told (blocks_over X p.chunk p.width (k + 1) b) → IfSome told (λ t. held_at t part.entry.cid ≡ Some lent) → IsPlannedNode p rows k part.size parts × (lent ≡ parts_block parts)
         → AreOld X p (span p.chunk p.width k) k parts (groups (span p.chunk p.width k) b)
-    load-gives told lent parts agrees held read = loaded X good p ok k part b at_suc told lent parts (agrees_suc told agrees) held read.0 read.1
+    load-gives rows told lent parts agrees held read = loaded X good p ok k part b at_suc rows told lent parts (agrees_suc told agrees) held read.0 read.1
 
-    pub load-no_bad : (told : Told) (lent : List ℕ) → Agrees told (blocks_over X p.chunk p.width (k + 1) b) → IfSome told (λ t. held_at t part.entry.cid ≡ Some lent)
-        → (NotCanonical ≡ StrictMemory) ⊎ ((parts : List Part) → IsPlannedNode p k part.size parts → lent ≢ parts_block parts) → ⊥
-    load-no_bad told lent agrees held (inl e) = absurd (differ e)
+    pub load-no_bad : (rows : ℕ) (told : Told) (lent : List ℕ) → rows ≤ 22 → Agrees told (blocks_over X p.chunk p.width (k + 1) b) → IfSome told (λ t. held_at t part.entry.cid ≡ Some lent)
+        → (NotCanonical ≡ StrictMemory) ⊎ ((parts : List Part) → IsPlannedNode p rows k part.size parts → lent ≢ parts_block parts) → ⊥
+    load-no_bad rows told lent low agrees held (inl e) = absurd (differ e)
       where
         differ : NotCanonical ≡ StrictMemory → ⊥
         differ e = cc
-    load-no_bad told lent agrees held (inr none) = no_bad X good p ok k part b at_suc told lent (agrees_suc told agrees) held none
+    load-no_bad rows told lent low agrees held (inr none) = no_bad X good p ok k part b at_suc rows told lent low (agrees_suc told agrees) held none
 
     pub load-lost : (before now : Seen) (fault : StoreFault) → Shows X NoneIsBad fault before now → IsLoadFault part.entry.cid fault → now.told ≡ before.told → Stood before.faults now.faults → IsLossOf before.told (blocks_over X p.chunk p.width (k + 1) b) fault
     load-lost before now fault shows load same stood = subst (λ n. IsLossOf before.told (blocks_over X p.chunk p.width n b) fault) (sym (add-one k)) (need-lost X good p ok k part b at_suc before now fault shows load same stood)
@@ -350,43 +351,6 @@ module _ (X : List ℕ → List ℕ) (good : IsHash X) (p : Profile) (b : List �
     pub root-lost : (before now : Seen) (fault : StoreFault) → Shows X NoneIsBad fault before now → IsLoadFault cid fault → now.told ≡ before.told → Stood before.faults now.faults → IsLossOf before.told (blocks_over X p.chunk p.width height b) fault
     root-lost before now fault shows load same stood =
         subst (λ (l : List Held). IsLossOf before.told l fault) (sym (root_first height)) (need_lost X before now (root_over X p.chunk p.width height b) (behind_root height) cid fault root_cid shows load same stood)
-
--- ---- bad blocks
-
-bad_root : (p : Profile) (codec : Codec) (lent : List ℕ) → ((size : ℕ) → IsSize p codec lent size → ⊥) → IsBadEdited p (role_at codec) lent
-unfolding span
-bad_root p Raw lent none = (None, λ canonical. none (length lent) (refl, canonical.short))
-bad_root p DagPb lent none = (
-  Root,
-  λ canonical.
-      let same = node-parts canonical.node canonical.valid in
-      none (sum canonical.node.sizes) (record {
-        parts = zipped canonical.node.parts canonical.node.sizes;
-        valid = subst IsFileNode (sym same) canonical.valid;
-        is = canonical.is ∙ ap file_block (sym same);
-        total = ap (λ m. sum m.sizes) (sym same);
-        many = canonical.planned.height.least 0 (omega arith);
-      }),
-)
-
-pub root-bad : (hash : List ℕ → List ℕ) (p : Profile) (cid : Cid) (role : Role) (lent : List ℕ) (before now : Seen) → role ≡ role_at cid.codec → Finds hash cid before now → StaysCalm before now → lent ≡ now.lent
-    → ((size : ℕ) → IsSize p cid.codec lent size → ⊥) → ShowsBadBlock hash (IsBadEdited p) cid role before now
-root-bad hash p cid role lent before now is found calm same none = record {
-  rose = found.counted.finds.rose refl;
-  digest = found.digest;
-  is_held = subst (λ (t : Told). HoldsOne t cid now.lent) (sym found.same_told) found.is_held;
-  bad = subst (λ (r : Role). IsBadEdited p r now.lent) (sym is) (subst (IsBadEdited p (role_at cid.codec)) same (bad_root p cid.codec lent none));
-  calm = calm;
-}
-
-pub load-bad : (hash : List ℕ → List ℕ) (p : Profile) (cid : Cid) (before now : Seen) → Finds hash cid before now → StaysCalm before now → ShowsBadBlock hash (IsBadEdited p) cid FileRole before now
-load-bad hash p cid before now found calm = record {
-  rose = found.counted.finds.rose refl;
-  digest = found.digest;
-  is_held = subst (λ (t : Told). HoldsOne t cid now.lent) (sym found.same_told) found.is_held;
-  bad = (Below 22 0 0, λ canonical. (let few : 22 < 22 = canonical.few in absurd (omega arith)));
-  calm = calm;
-}
 
 pub not_many : (p : Profile) (codec : Codec) (bytes : List ℕ) (parts slice : List Part) (size sum_is chunk : ℕ) → codec ≡ DagPb → IsSize p codec bytes size → AreParts parts × (bytes ≡ parts_block parts) → slice ≡ parts → sum_is ≡ sum (node_over slice).sizes
     → sum_is ≤ chunk → chunk ≡ p.chunk → ⊥

@@ -1,25 +1,23 @@
 -- Parts changed, step by step.
-use Rattle.std.proofs.Common.{◌≡◌, ◌≢◌, ℕ, zero, suc, ◌+◌, ◌-◌, ◌*◌, ◌^◌, ◌<◌, ◌≤◌, List, [], ◌∷◌, ◌++◌, length, sum, map, take, drop, replicate, get_or, min, max, refl, ap, arith, sym, ◌∙◌, subst, append-nil, append_assoc, length-append, add-one, Bool, true, false, Option, None, Some, ◌⊎◌, inl, inr, Result, Ok, Err, IsTrue}
-use Rattle.std.specs.Prelude.{nat_le, slice_get, IfErr, IfOk, IfSome, OnErr, OnOk}
+use Rattle.std.proofs.Common.{◌≡◌, ◌≢◌, ℕ, zero, suc, ◌+◌, ◌-◌, ◌*◌, ◌^◌, ◌<◌, ◌≤◌, List, [], ◌∷◌, ◌++◌, length, map, take, drop, replicate, get_or, min, refl, ap, arith, sym, ◌∙◌, subst, append-nil, append_assoc, add-one, Option, None, Some, ◌⊎◌, inl, inr, Result, Ok, Err, IsTrue}
+use Rattle.std.specs.Prelude.{nat_le, slice_get, IfErr, IfOk, IfSome, OnOk}
 use Rattle.std.specs.List.{AllByRecursion, flat_map, sum_by}
 use Rattle.std.proofs.lemmas.List.{take_rest, drop_min, length-drop, length-take, take_at, take-append-drop, take-take, take_min, map-append}
 use Rattle.uf_cid.specs.Blocks.{Held}
-use Rattle.uf_cid.specs.declared.cid.Cid.{Cid}
 use Rattle.uf_edge.specs.Counts.{Stood}
 use Rattle.uf_fileread.proofs.Sending.{the_block}
 use Rattle.uf_store.specs.declared.store.StoreFault.{StoreFault}
 use Rattle.uf_store.specs.declared.store.StoreFault.TheVariants.{Failed, Damaged, Missing, BadBlock, Clash, Memory}
 use Rattle.uf_store.specs.Clashes.{IsLoadFault, IsSaving}
 use Rattle.uf_store.specs.Contents.{Told, held_at}
-use Rattle.uf_store.specs.Faults.{Answers, NoneIsBad, Rises, Shows, ShowsBadBlock, StaysCalm}
+use Rattle.uf_store.specs.Faults.{Answers, NoneIsBad, Shows, StaysCalm}
 use Rattle.uf_store.specs.declared.store.Role.{Role}
-use Rattle.uf_store.specs.declared.store.Role.TheVariants.{Leaf}
 use Rattle.uf_store.proofs.Causes.{Shows-after, Shows-any, StaysCalm-trans}
-use Rattle.uf_store.specs.Keeping.{Agrees, Holds, HoldsOne, KeepsGood}
+use Rattle.uf_store.specs.Keeping.{Agrees, Holds, KeepsGood}
 use Rattle.uf_store.specs.Lost.{IsLossOf}
 use Rattle.uf_store.specs.Writing.{IsSave, SavesOnly}
 use Rattle.uf_store.proofs.Writing.{Wrote-good, agrees-between}
-use Rattle.uf_store.specs.Seen.{Finds, Keeps, Seen}
+use Rattle.uf_store.specs.Seen.{Seen}
 use Rattle.std.proofs.lemmas.Bool.Decides.{nat_tests}
 use Rattle.std.proofs.lemmas.List.Sums.{sum_by-cons}
 use Rattle.uf_tree.proofs.Told.{kept}
@@ -29,13 +27,11 @@ use Rattle.uf_tree.specs.Cutting.{joined}
 use Rattle.uf_tree.specs.FilePlan.{groups, leaf_held, leaf_part, node_held, node_part}
 use Rattle.uf_tree.specs.FileSub.{blocks_over, part_over, span}
 use Rattle.uf_tree.specs.Profiles.{is_profile}
-use Rattle.uf_tree.specs.Roles.{IsCanonicalLeaf, WithSome}
 use Rattle.uf_tree.specs.Validity.{IsHash}
 use Rattle.uf_tree.proofs.Valid.{sub-size}
-use Rattle.uf_fileedit.specs.Bad.{IsBadEdited}
 use Rattle.uf_fileedit.specs.Changes.{AreCut, AreOld, FitsOld, GivesPart, GivesAll, IsBelow, IsBlank, IsIn, IsKnown, IsOld, IsOldPart, HasSize, LiesWithin, blocks_of_all, overlaid, old_blocks}
 use Rattle.uf_fileedit.specs.Edits.{cut_to}
-use Rattle.uf_fileedit.proofs.Bytes.{at-front, changed-covered, changed-cut, changed-nothing, changed-over, changed-same, later, later-one, later-some, length-changed}
+use Rattle.uf_fileedit.proofs.Bytes.{at-front, changed-cut, changed-nothing, changed-over, changed-same, later, later-one, later-some, length-changed}
 use Rattle.uf_fileedit.proofs.Kept.{agrees-among, over-good, all-append, all-good, in-back, in-front, known-among, known-held, known-later, known-old, loss-among}
 use Rattle.uf_fileedit.proofs.Old.{need_lost, pos}
 use Rattle.uf_fileedit.proofs.Numbers.{last, room-few}
@@ -107,18 +103,19 @@ save-lost X before now olds (BadBlock c role) shows saving stood clash = saving
 save-lost X before now olds (Clash c x y) shows saving stood clash = let r = shows.rose in omega (arith, r, clash)
 save-lost X before now olds Memory shows saving stood clash = tt
 
-pub bad-leaf : (hash : List ℕ → List ℕ) (p : Profile) (cid : Cid) (size : ℕ) (lent : List ℕ) (before now : Seen) → Finds hash cid before now → StaysCalm before now → lent ≡ now.lent → length lent ≢ size → ShowsBadBlock hash (IsBadEdited p) cid Leaf before now
-bad-leaf hash p cid size lent before now found calm same differs = record {
-  rose = found.counted.finds.rose refl;
-  digest = found.digest;
-  is_held = subst (λ (t : Told). HoldsOne t cid now.lent) (sym found.same_told) found.is_held;
-  bad = (Some size, λ canonical. differs (ap length same ∙ canonical.size));
-  calm = calm;
-}
-
 -- what is written back into the list of a vector
 pub written-back : (n : ℕ) (out items : List ℕ) → n ≡ length out → take n (out ++ drop (length out) items) ≡ out
 written-back n out items e = take_at out (drop (length out) items) n (sym e)
+
+-- ---- a part of zeros that is known
+
+pub blank-later : (X : List ℕ → List ℕ) (p : Profile) (a b : Told) (k : ℕ) (o : Option Part) → KeepsGood X a b → IsBlank X p a k o → IsBlank X p b k o
+blank-later X p a b k None keeps h = tt
+blank-later X p a b k (Some x) keeps h = record { same = h.same; known = known-later X a b [] (blocks_over X p.chunk p.width k (overlaid x.size [] zero [])) keeps (over-good X p.chunk p.width k (overlaid x.size [] zero [])) h.known }
+
+pub blank-first : (X : List ℕ → List ℕ) (p : Profile) (told : Told) (k : ℕ) (blank zeros : Option Part) → (blank ≡ None) ⊎ ((k ≡ 0) × (blank ≡ zeros)) → IsBlank X p told 0 zeros → IsBlank X p told k blank
+blank-first X p told k blank zeros (inl e) h = subst (IsBlank X p told k) (sym e) tt
+blank-first X p told k blank zeros (inr e) h = subst (IsBlank X p told k) (sym e.1) (subst (λ n. IsBlank X p told n zeros) (sym e.0) h)
 
 -- ---- bytes of an old piece, where there is one
 
@@ -438,3 +435,9 @@ node-few X good p ok k size count has within =
 
 pub high_is : (a b : ℕ) → IsTrue (nat_le a b) → a ≤ b
 high_is a b h = grind (arith, nat_tests)
+
+-- a piece of zeros that was saved
+pub zeros-saved : (X : List ℕ → List ℕ) (p : Profile) (told : Told) (size : ℕ) (out : List ℕ) (m : Part) → m ≡ leaf_part X out → Holds told (leaf_held X out ∷ []) → out ≡ overlaid size [] zero [] → IsBlank X p told 0 (Some m)
+zeros-saved X p told size out m is held bytes =
+    let sized : m.size ≡ size = ap (λ (x : Part). x.size) is ∙ ap length bytes ∙ length-changed size [] zero [] in
+    leaf-gives X p told [] m out (overlaid m.size [] zero []) is (bytes ∙ ap (λ n. overlaid n [] zero []) (sym sized)) held

@@ -1,5 +1,5 @@
 -- How often an edit touches the store, in numbers.
-use Rattle.std.proofs.Common.{◌≡◌, ◌≢◌, ℕ, zero, suc, ◌+◌, ◌-◌, ◌*◌, ◌/◌, ◌<◌, ◌≤◌, ◌^◌, List, [], ◌∷◌, length, take, drop, min, max, refl, ap, arith, sym, ◌∙◌, subst, Bool, true, false, Option, None, Some, ◌⊎◌, inl, inr, add-one, mul_assoc, mul_comm, IsTrue}
+use Rattle.std.proofs.Common.{◌≡◌, ◌≢◌, ℕ, zero, suc, ◌+◌, ◌-◌, ◌*◌, ◌/◌, ◌<◌, ◌≤◌, ◌^◌, List, [], ◌∷◌, length, take, drop, min, max, refl, ap, arith, sym, ◌∙◌, subst, Bool, true, false, Option, None, Some, ◌⊎◌, inl, inr, mul_assoc, mul_comm, IsTrue}
 use Rattle.std.specs.Prelude.{◌==◌, ◌&&◌, nat_lt, slice_get, get_or, cond, Result, IfErr, IfOk, OnOk, Ok, Err}
 use Rattle.std.proofs.Math.Nat.{add-mul, mul-add, mul-sub, mul-le-mul_left, mul-le-mul_right, div-mul-le_self, lt-div-mul-add, lt_of_mul-lt-mul_right}
 use Rattle.std.proofs.lemmas.Bool.{cases_lt}
@@ -283,7 +283,7 @@ node-touches p top height k old size offset more a z t0 t1 high is changed node 
     subst (λ n. t1 ≤ t0 + 2 * (n + 1) * (z - a)) (sym high) (node a z (subst (λ n. IsChangeWithin p top n old size offset more a z) high is) some)
 
 -- what an edit costs in all
-pub edit-spent : (rows after d t0 t1 : ℕ) → t1 ≤ t0 + 1 + (rows - after) + 2 * (after + 1) * d → t1 ≤ t0 + edit_touches d (max rows after)
+pub edit-spent : (rows after d t0 t1 : ℕ) → t1 ≤ t0 + 2 + (rows - after) + 2 * (after + 1) * d → t1 ≤ t0 + edit_touches d (max rows after)
 edit-spent rows after d t0 t1 h =
     let few : 2 * (after + 1) ≤ 2 * (max rows after + 2) = omega arith in
     let one = mul-le-mul_right d few in
@@ -375,16 +375,16 @@ module _ (p : Profile) (n size offset more top height low : ℕ) (top_is : IsHei
   pub edit-left : n ≡ size → IsLeft low height size (Some front)
   edit-left same = subst (λ m. IsLeft m height size (Some front)) (sym low_is) (file-left p n size offset more top height top_is height_is front front_is same)
 
-  pub edit-costs : (m new rows after a z t0 t1 t2 t3 : ℕ) → n ≡ m → size ≡ new → IsHeight p.chunk p.width m rows → IsHeight p.chunk p.width new after → IsEditWithin p.chunk m new offset more a z
-      → t1 ≡ t0 + 1 → t2 ≤ t1 + (top - height) → ((a z : ℕ) → IsChangeWithin p low height (Some front) size offset more a z → t3 ≤ t2 + 2 * (height + 1) * (z - a)) → t3 ≤ t0 + 1 + (rows - after) + 2 * (after + 1) * (z - a)
-  edit-costs m new rows after a z t0 t1 t2 t3 n_is size_is rows_is after_is within first second third =
+  pub edit-costs : (m new rows after a z t0 t1 t2 t2' t3 : ℕ) → n ≡ m → size ≡ new → IsHeight p.chunk p.width m rows → IsHeight p.chunk p.width new after → IsEditWithin p.chunk m new offset more a z
+      → t1 ≡ t0 + 1 → t2 ≤ t1 + (top - height) → t2' ≤ t2 + 1 → ((a z : ℕ) → IsChangeWithin p low height (Some front) size offset more a z → t3 ≤ t2' + 2 * (height + 1) * (z - a)) → t3 ≤ t0 + 2 + (rows - after) + 2 * (after + 1) * (z - a)
+  edit-costs m new rows after a z t0 t1 t2 t2' t3 n_is size_is rows_is after_is within first second more_is third =
       let rows_same : top ≡ rows = height-unique p.chunk p.width m top rows (subst (λ x. IsHeight p.chunk p.width x top) n_is top_is) rows_is in
       let after_same : height ≡ after = height-unique p.chunk p.width new height after (subst (λ x. IsHeight p.chunk p.width x height) size_is height_is) after_is in
       let here : IsEditWithin p.chunk n size offset more a z = subst (λ x. IsEditWithin p.chunk x size offset more a z) (sym n_is) (subst (λ x. IsEditWithin p.chunk m x offset more a z) (sym size_is) within) in
-      let all : t3 ≤ t2 + 2 * (height + 1) * (z - a) = third a z (subst (λ x. IsChangeWithin p x height (Some front) size offset more a z) (sym low_is) (file-within p n size offset more top height top_is height_is front front_is a z here)) in
-      subst (λ x. t3 ≤ t0 + 1 + (x - after) + 2 * (after + 1) * (z - a)) rows_same (subst (λ x. t3 ≤ t0 + 1 + (top - x) + 2 * (x + 1) * (z - a)) after_same (omega arith))
+      let all : t3 ≤ t2' + 2 * (height + 1) * (z - a) = third a z (subst (λ x. IsChangeWithin p x height (Some front) size offset more a z) (sym low_is) (file-within p n size offset more top height top_is height_is front front_is a z here)) in
+      subst (λ x. t3 ≤ t0 + 2 + (x - after) + 2 * (after + 1) * (z - a)) rows_same (subst (λ x. t3 ≤ t0 + 2 + (top - x) + 2 * (x + 1) * (z - a)) after_same (omega arith))
 
-pub write-costs : (c old size offset more rows after t0 t1 : ℕ) → 1 ≤ c → 1 ≤ more → size ≡ max old (offset + more) → ((a z : ℕ) → IsEditWithin c old size offset more a z → t1 ≤ t0 + 1 + (rows - after) + 2 * (after + 1) * (z - a))
+pub write-costs : (c old size offset more rows after t0 t1 : ℕ) → 1 ≤ c → 1 ≤ more → size ≡ max old (offset + more) → ((a z : ℕ) → IsEditWithin c old size offset more a z → t1 ≤ t0 + 2 + (rows - after) + 2 * (after + 1) * (z - a))
     → t1 ≤ t0 + edit_touches (written_chunks c old offset more) (max rows after)
 write-costs c old size offset more rows after t0 t1 pos some is cost =
     edit-spent rows after (written_chunks c old offset more) t0 t1 (cost (min offset (old - 1) / c) ((offset + more + c - 1) / c) (subst (λ n. IsEditWithin c old n offset more (min offset (old - 1) / c) ((offset + more + c - 1) / c)) (sym is) (write-within c old offset more pos some)))
@@ -392,7 +392,7 @@ write-costs c old size offset more rows after t0 t1 pos some is cost =
 differs_test : (a b : ℕ) → a ≡ b → (a == b) ≡ false → ⊥
 differs_test a b h e = grind (arith, nat_tests)
 
-pub cut-costs : (c old size rows after t0 t1 : ℕ) → 1 ≤ c → ((a z : ℕ) → IsEditWithin c old size 0 0 a z → t1 ≤ t0 + 1 + (rows - after) + 2 * (after + 1) * (z - a))
+pub cut-costs : (c old size rows after t0 t1 : ℕ) → 1 ≤ c → ((a z : ℕ) → IsEditWithin c old size 0 0 a z → t1 ≤ t0 + 2 + (rows - after) + 2 * (after + 1) * (z - a))
     → t1 ≤ t0 + edit_touches (cut_chunks c old size) (max rows after)
 cut-costs c old size rows after t0 t1 pos cost = by (old == size) refl
   where
@@ -406,23 +406,27 @@ cut-costs c old size rows after t0 t1 pos cost = by (old == size) refl
         subst (λ n. t1 ≤ t0 + edit_touches n (max rows after)) (ap (λ (t : Bool). cond t 0 (chunks_met c (min old size - 1) (max size 1))) e)
         (edit-spent rows after (chunks_met c (min old size - 1) (max size 1)) t0 t1 (cost ((min old size - 1) / c) ((max size 1 + c - 1) / c) (cut-within c old size pos differs)))
 
+-- where the length stays, there is no gap
+pub no-gap : {old new : ℕ} (root size end : ℕ) → root ≡ old → old ≡ new → size ≡ new → end ≡ size → end ≤ root
+no-gap root size end a b c d = omega arith
+
 -- ---- the count of touches climbs
 
 pub blamed-after : (fault : StoreFault) (a b c : ℕ) → a ≤ b → BlamedAfter fault b c → BlamedAfter fault a c
-blamed-after Failed a b c low h = tt
-blamed-after (Damaged cid) a b c low h = tt
-blamed-after (Missing cid) a b c low h = tt
+blamed-after Failed a b c low h = omega (arith, low, h)
+blamed-after (Damaged cid) a b c low h = omega (arith, low, h)
+blamed-after (Missing cid) a b c low h = omega (arith, low, h)
 blamed-after (BadBlock cid role) a b c low h = omega arith
-blamed-after (Clash cid held bytes) a b c low h = tt
-blamed-after Memory a b c low h = tt
+blamed-after (Clash cid held bytes) a b c low h = omega (arith, low, h)
+blamed-after Memory a b c low h = omega (arith, low, h)
 
 pub blamed-then : (fault : StoreFault) (a b : ℕ) → a < b → BlamedAfter fault a b
-blamed-then Failed a b low = tt
-blamed-then (Damaged cid) a b low = tt
-blamed-then (Missing cid) a b low = tt
+blamed-then Failed a b low = omega (arith, low)
+blamed-then (Damaged cid) a b low = omega (arith, low)
+blamed-then (Missing cid) a b low = omega (arith, low)
 blamed-then (BadBlock cid role) a b low = low
-blamed-then (Clash cid held bytes) a b low = tt
-blamed-then Memory a b low = tt
+blamed-then (Clash cid held bytes) a b low = omega (arith, low)
+blamed-then Memory a b low = omega (arith, low)
 
 module _ {A : Type 0} where
   -- a call that touches once more
@@ -431,11 +435,11 @@ module _ {A : Type 0} where
   climbs-one (Err fault) a b low = blamed-then fault a b low
 
   -- a save blames no block
-  pub climbs-save : (r : Result A StoreFault) (a b c : ℕ) → a ≤ b → OnOk r (c ≡ b + 1) → IfErr r IsSaving → Climbs r a c
+  pub climbs-save : (r : Result A StoreFault) (a b c : ℕ) → a ≤ b → b ≤ c → IfErr r IsSaving → Climbs r a c
   climbs-save (Ok x) a b c low more saving = omega arith
-  climbs-save (Err Failed) a b c low more saving = tt
-  climbs-save (Err (Damaged cid)) a b c low more saving = tt
-  climbs-save (Err (Missing cid)) a b c low more saving = tt
+  climbs-save (Err Failed) a b c low more saving = omega (arith, low, more)
+  climbs-save (Err (Damaged cid)) a b c low more saving = omega (arith, low, more)
+  climbs-save (Err (Missing cid)) a b c low more saving = omega (arith, low, more)
   climbs-save (Err (BadBlock cid role)) a b c low more saving = absurd saving
-  climbs-save (Err (Clash cid held bytes)) a b c low more saving = tt
-  climbs-save (Err Memory) a b c low more saving = tt
+  climbs-save (Err (Clash cid held bytes)) a b c low more saving = omega (arith, low, more)
+  climbs-save (Err Memory) a b c low more saving = omega (arith, low, more)

@@ -1,6 +1,5 @@
 -- What an edit of a file answers.
-use Rattle.std.specs.Prelude.{◌≡◌, ◌⊎◌, ℕ, List, Bool, true, false, ⊤}
-use Rattle.std.specs.List.{AllByRecursion}
+use Rattle.std.specs.Prelude.{◌≡◌, ℕ, List, Bool, true, false, ⊤}
 use Rattle.std.specs.declared.result.Result.{Result}
 use Rattle.std.specs.declared.result.Result.TheVariants.{Ok, Err}
 use Rattle.uf_build.specs.declared.fault.BuildFault.{BuildFault}
@@ -8,7 +7,6 @@ use Rattle.uf_build.specs.declared.fault.BuildFault.TheVariants.{FileTooLong, Sp
 use Rattle.uf_cid.specs.Blocks.{Held}
 use Rattle.uf_store.specs.Contents.{Told}
 use Rattle.uf_store.specs.Faults.{Shows, StaysCalm}
-use Rattle.uf_store.specs.Keeping.{Agrees, Holds}
 use Rattle.uf_store.specs.Lost.{IsLossOf}
 use Rattle.uf_store.specs.Seen.{Seen}
 use Rattle.uf_store.specs.declared.store.Role.{Role}
@@ -21,16 +19,16 @@ RefusesTooLong long (Err FileTooLong) = long ≡ true
 RefusesTooLong long (Err Spent) = ⊥
 RefusesTooLong long (Err (Store fault)) = long ≡ false
 
--- the answer is this entry, or one of these blocks that isn't held is missing; want of memory is free, and of a file that
--- would be too long nothing is said here
+-- the answer is this entry, or one of these blocks that isn't held is missing; want of memory is free, and of a file
+-- that would be too long nothing is said here
 abbrev pub EditsOver : Told → List Held → Entry → Result Entry BuildFault → Type 0
 EditsOver told l entry (Ok e) = e ≡ entry
 EditsOver told l entry (Err FileTooLong) = ⊤
 EditsOver told l entry (Err Spent) = ⊥
 EditsOver told l entry (Err (Store fault)) = IsLossOf told l fault
 
--- no fault was passed over: after Ok the store has stayed calm, its own fault shows the cause, and before any other answer it was
--- left alone
+-- no fault was passed over: after Ok the store has stayed calm, its own fault shows the cause, and before any other
+-- answer it was left alone
 abbrev pub ShownEdit : (List ℕ → List ℕ) → (Role → List ℕ → Type 0) → Result Entry BuildFault → Seen → Seen → Type 0
 ShownEdit hash IsBadEdited (Ok e) before now = StaysCalm before now
 ShownEdit hash IsBadEdited (Err FileTooLong) before now = now ≡ before

@@ -6,9 +6,8 @@ use Rattle.std.specs.declared.option.Option.TheVariants.{None, Some}
 use Rattle.std.specs.Prelude.{IfErr, IfOk}
 use Rattle.std.specs.declared.result.Result.{Result}
 use Rattle.uf_cid.specs.Blocks.{Held}
-use Rattle.uf_cid.specs.declared.cid.Cid.{Cid}
 use Rattle.uf_edge.specs.Counts.{Stood}
-use Rattle.uf_store.specs.Contents.{Told, held_at}
+use Rattle.uf_store.specs.Contents.{Told}
 use Rattle.uf_store.specs.Keeping.{Agrees, Holds}
 use Rattle.uf_store.specs.Lost.{IsLossOf}
 use Rattle.uf_store.specs.Seen.{Seen}
@@ -84,12 +83,14 @@ abbrev pub blocks_of_all : (List ℕ → List ℕ) → Profile → ℕ → List 
 blocks_of_all X p k gs = flat_map (blocks_over X p.chunk p.width k) gs
 
 -- the part is the one of this height over these bytes, and each of its blocks is held or an old one
-pub record GivesPart (X : List ℕ → List ℕ) (p : Profile) (told : Told) (olds : List Held) (k : ℕ) (part : Part) (bytes : List ℕ) : Type 0 where
+pub record GivesPart (X : List ℕ → List ℕ) (p : Profile) (told : Told) (olds : List Held) (k : ℕ) (part : Part)
+    (bytes : List ℕ) : Type 0 where
   pub same : part ≡ part_over X p.chunk p.width k bytes
   pub known : AllByRecursion (IsKnown told olds) (blocks_over X p.chunk p.width k bytes)
 
 -- the same of the parts below a node
-pub record GivesAll (X : List ℕ → List ℕ) (p : Profile) (told : Told) (olds : List Held) (k : ℕ) (parts : List Part) (gs : List (List ℕ)) : Type 0 where
+pub record GivesAll (X : List ℕ → List ℕ) (p : Profile) (told : Told) (olds : List Held) (k : ℕ) (parts : List Part)
+    (gs : List (List ℕ)) : Type 0 where
   pub same : parts ≡ map (part_over X p.chunk p.width k) gs
   pub known : AllByRecursion (IsKnown told olds) (flat_map (blocks_over X p.chunk p.width k) gs)
 
@@ -104,7 +105,8 @@ pub record HasSize (p : Profile) (k size : ℕ) : Type 0 where
   pub some : 1 ≤ k → 1 ≤ size
 
 -- the old parts below a part of the new file of height k + 1, over these bytes: their blocks are old ones
-pub record IsBelow (X : List ℕ → List ℕ) (p : Profile) (top k : ℕ) (olds : List Held) (parts : List Part) (bytes : List ℕ) : Type 0 where
+pub record IsBelow (X : List ℕ → List ℕ) (p : Profile) (top k : ℕ) (olds : List Held) (parts : List Part)
+    (bytes : List ℕ) : Type 0 where
   pub gs : List (List ℕ)
   pub are : AreOld X p (span p.chunk p.width k) (min top k) parts gs
   pub whole : joined gs ≡ bytes
@@ -120,7 +122,8 @@ pub record IsFrontPart (X : List ℕ → List ℕ) (p : Profile) (top k : ℕ) (
   pub front : List ℕ
   pub part_is : IsOldPart X p k part front
   pub is_front : take (span p.chunk p.width k) bytes ≡ front
-  pub among : (b : Held) → IsIn b (blocks_over X p.chunk p.width k front) → IsIn b (blocks_over X p.chunk p.width top bytes)
+  pub among : (b : Held) → IsIn b (blocks_over X p.chunk p.width k front)
+      → IsIn b (blocks_over X p.chunk p.width top bytes)
 
 -- how many bytes a file of so many has after an edit: as many as are wanted, or else no fewer than a piece needs
 abbrev pub size_after : ℕ → Option ℕ → ℕ → ℕ → ℕ
@@ -128,11 +131,13 @@ size_after old None offset more = max old (offset + more)
 size_after old (Some size) offset more = size
 
 -- the entry is that of the file of these bytes, and each block of its plan is held or an old one
-pub record GivesFile (X : List ℕ → List ℕ) (p : Profile) (told : Told) (olds : List Held) (entry : Entry) (bytes : List ℕ) : Type 0 where
+pub record GivesFile (X : List ℕ → List ℕ) (p : Profile) (told : Told) (olds : List Held) (entry : Entry)
+    (bytes : List ℕ) : Type 0 where
   pub same : entry ≡ (file_plan X p bytes).entry
   pub known : AllByRecursion (IsKnown told olds) (file_plan X p bytes).blocks
 
--- over the old part's bytes, with whose blocks the store agrees before and after, the part of this height over the changed bytes is made
+-- over the old part's bytes, with whose blocks the store agrees before and after, the part of this height over the
+-- changed bytes is made
 abbrev pub MakesPart : (List ℕ → List ℕ) → Profile → ℕ → ℕ → Target → List ℕ → Told → Told
     → Result Part StoreFault → Type 0
 MakesPart X p top k target piece before now answer =
@@ -144,19 +149,24 @@ MakesPart X p top k target piece before now answer =
 -- where the store has stayed calm besides, a fault is that one of the old part's blocks is lost, or want of memory
 abbrev pub LosesOfPart : (List ℕ → List ℕ) → Profile → ℕ → Option Part → Seen → Seen → Result Part StoreFault → Type 0
 LosesOfPart X p k old before now answer =
-    (b : List ℕ) → IsOld X p k old b → Agrees before.told (old_blocks X p k old b) → Agrees now.told (old_blocks X p k old b)
-    → Stood before.faults now.faults → Stood before.clashes now.clashes → IfErr answer (IsLossOf now.told (old_blocks X p k old b))
+    (b : List ℕ) → IsOld X p k old b → Agrees before.told (old_blocks X p k old b)
+    → Agrees now.told (old_blocks X p k old b) → Stood before.faults now.faults → Stood before.clashes now.clashes
+    → IfErr answer (IsLossOf now.told (old_blocks X p k old b))
 
 -- the same of the parts below a node, whose parts have this height
-abbrev pub MakesParts : (List ℕ → List ℕ) → Profile → ℕ → ℕ → List Part → Target → List ℕ → Told → Told → Result (List Part) StoreFault → Type 0
+abbrev pub MakesParts : (List ℕ → List ℕ) → Profile → ℕ → ℕ → List Part → Target → List ℕ → Told → Told
+    → Result (List Part) StoreFault → Type 0
 MakesParts X p top k olds target piece before now answer =
-    (gs : List (List ℕ)) → AreOld X p (span p.chunk p.width k) (min top k) olds gs → Agrees before (blocks_of_all X p (min top k) gs)
+    (gs : List (List ℕ)) → AreOld X p (span p.chunk p.width k) (min top k) olds gs
+    → Agrees before (blocks_of_all X p (min top k) gs)
     → Agrees now (blocks_of_all X p (min top k) gs)
     → IfOk answer (λ parts. GivesAll X p now (blocks_of_all X p (min top k) gs) k parts
     (groups (span p.chunk p.width k) (overlaid target.size (joined gs) target.offset piece)))
 
-abbrev pub LosesOfParts : (List ℕ → List ℕ) → Profile → ℕ → ℕ → List Part → Seen → Seen → Result (List Part) StoreFault → Type 0
+abbrev pub LosesOfParts : (List ℕ → List ℕ) → Profile → ℕ → ℕ → List Part → Seen → Seen
+    → Result (List Part) StoreFault → Type 0
 LosesOfParts X p top k olds before now answer =
-    (gs : List (List ℕ)) → AreOld X p (span p.chunk p.width k) (min top k) olds gs → Agrees before.told (blocks_of_all X p (min top k) gs)
-    → Agrees now.told (blocks_of_all X p (min top k) gs) → Stood before.faults now.faults → Stood before.clashes now.clashes
+    (gs : List (List ℕ)) → AreOld X p (span p.chunk p.width k) (min top k) olds gs
+    → Agrees before.told (blocks_of_all X p (min top k) gs) → Agrees now.told (blocks_of_all X p (min top k) gs)
+    → Stood before.faults now.faults → Stood before.clashes now.clashes
     → IfErr answer (IsLossOf now.told (blocks_of_all X p (min top k) gs))

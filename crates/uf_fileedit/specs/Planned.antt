@@ -24,11 +24,14 @@ is_of_height (suc k) DagPb = true
 -- whether parts are those of a node over so many bytes: each has s of them, the last one what is left, and this height
 abbrev pub are_planned : ℕ → ℕ → ℕ → List Part → Bool
 are_planned s k size [] = size == 0
-are_planned s k size (m ∷ ms) = nat_lt 0 m.size && (m.size == min size s) && is_of_height k m.entry.cid.codec && are_planned s k (size - m.size) ms
+are_planned s k size (m ∷ ms) =
+    nat_lt 0 m.size && (m.size == min size s) && is_of_height k m.entry.cid.codec
+    && are_planned s k (size - m.size) ms
 
--- the parts of a node of this height and of so many bytes
-pub record IsPlannedNode (p : Profile) (k size : ℕ) (parts : List Part) : Type 0 where
+-- the parts, of this height, of a node of so many bytes in a file of so many rows: at most 22 nodes are above the parts
+pub record IsPlannedNode (p : Profile) (rows k size : ℕ) (parts : List Part) : Type 0 where
   pub valid : AreParts parts
+  pub few : rows - k ≤ 22
   pub planned : IsTrue (are_planned (span p.chunk p.width k) k size parts)
 
 -- the block of a node over more than one piece

@@ -1,5 +1,5 @@
 -- How often an edit of a file touches the store.
-use Rattle.std.specs.Prelude.{◌≡◌, ◌≢◌, ℕ, ◌+◌, ◌-◌, ◌*◌, ◌/◌, ◌<◌, ◌≤◌, ◌==◌, List, if◌then◌else◌, min, max, None, Some, slice_get, ⊤}
+use Rattle.std.specs.Prelude.{◌≡◌, ◌≢◌, ℕ, ◌+◌, ◌-◌, ◌*◌, ◌/◌, ◌<◌, ◌≤◌, ◌==◌, List, if◌then◌else◌, min, max, None, Some, slice_get}
 use Rattle.std.specs.declared.option.Option.{Option}
 use Rattle.std.specs.declared.result.Result.{Result}
 use Rattle.std.specs.declared.result.Result.TheVariants.{Ok, Err}
@@ -16,11 +16,13 @@ use Rattle.uf_tree.specs.FileSub.{span}
 abbrev pub chunks_met : ℕ → ℕ → ℕ → ℕ
 chunks_met c from to = (to + c - 1) / c - from / c
 
--- how many chunks a write changes: from the first one that is laid over, or from the old last one where the piece is behind it
+-- how many chunks a write changes: from the first one that is laid over, or from the old last one where the piece is
+-- behind it
 abbrev pub written_chunks : ℕ → ℕ → ℕ → ℕ → ℕ
 written_chunks c old offset more = chunks_met c (min offset (old - 1)) (offset + more)
 
--- how many chunks a file gets or keeps a part of where its length changes: from the last one that was there before, or is now
+-- how many chunks a file gets or keeps a part of where its length changes: from the last one that was there before, or
+-- is now
 abbrev pub cut_chunks : ℕ → ℕ → ℕ → ℕ
 cut_chunks c old size = if old == size then 0 else chunks_met c (min old size - 1) (max size 1)
 
@@ -28,25 +30,25 @@ cut_chunks c old size = if old == size then 0 else chunks_met c (min old size - 
 abbrev pub edit_touches : ℕ → ℕ → ℕ
 edit_touches chunks rows = 2 * (chunks + 2) * (rows + 2)
 
--- before a block is blamed, the store was touched
+-- the count of touches doesn't fall, and it has risen where a block is blamed
 abbrev pub BlamedAfter : StoreFault → ℕ → ℕ → Type 0
-BlamedAfter Failed before now = ⊤
-BlamedAfter (Damaged cid) before now = ⊤
-BlamedAfter (Missing cid) before now = ⊤
+BlamedAfter Failed before now = before ≤ now
+BlamedAfter (Damaged cid) before now = before ≤ now
+BlamedAfter (Missing cid) before now = before ≤ now
 BlamedAfter (BadBlock cid role) before now = before < now
-BlamedAfter (Clash cid held bytes) before now = ⊤
-BlamedAfter Memory before now = ⊤
+BlamedAfter (Clash cid held bytes) before now = before ≤ now
+BlamedAfter Memory before now = before ≤ now
 
--- the count of touches doesn't fall, and it has risen where a block is blamed; after another fault nothing is said
+-- the same after every answer
 abbrev pub Climbs : {A : Type 0} → Result A StoreFault → ℕ → ℕ → Type 0
 Climbs (Ok a) before now = before ≤ now
 Climbs (Err fault) before now = BlamedAfter fault before now
 
--- the same of an edit's answer
+-- and after an edit's answer; nothing is touched before a file would be too long
 abbrev pub TouchedFirst : Result Entry BuildFault → ℕ → ℕ → Type 0
-TouchedFirst (Ok e) before now = ⊤
-TouchedFirst (Err FileTooLong) before now = ⊤
-TouchedFirst (Err Spent) before now = ⊤
+TouchedFirst (Ok e) before now = before ≤ now
+TouchedFirst (Err FileTooLong) before now = now ≡ before
+TouchedFirst (Err Spent) before now = before ≤ now
 TouchedFirst (Err (Store fault)) before now = BlamedAfter fault before now
 
 -- how many bytes an old part has, where there is one
@@ -59,8 +61,8 @@ abbrev pub IsLeft : ℕ → ℕ → ℕ → Option Part → Type 0
 IsLeft top height size None = ⊥
 IsLeft top height size (Some part) = (height ≤ top) × (part.size ≡ size)
 
--- an edit of a file that had `old` bytes and has `size` ones lies within the chunks of c bytes from number a up to number z: what is
--- laid over does, and where the length changes all from the old end or the new one on
+-- an edit of a file that had `old` bytes and has `size` ones lies within the chunks of c bytes from number a up to
+-- number z: what is laid over does, and where the length changes all from the old end or the new one on
 pub record IsEditWithin (c old size offset more a z : ℕ) : Type 0 where
   pub laid : 1 ≤ more → (a * c ≤ offset) × (offset + more ≤ z * c)
   pub ends : old ≢ size → (a * c ≤ min old size - 1) × (size ≤ z * c) × (a < z)
@@ -69,7 +71,8 @@ pub record IsEditWithin (c old size offset more a z : ℕ) : Type 0 where
 pub record IsChangeWithin (p : Profile) (top height : ℕ) (old : Option Part) (size offset more a z : ℕ) : Type 0 where
   pub fits : old_size old ≤ span p.chunk p.width (min top height)
   pub laid : 1 ≤ more → (a * p.chunk ≤ offset) × (offset + more ≤ z * p.chunk)
-  pub ends : (IsLeft top height size old → ⊥) → (a * p.chunk ≤ min (old_size old) size - 1) × (size ≤ z * p.chunk) × (a < z)
+  pub ends : (IsLeft top height size old → ⊥)
+      → (a * p.chunk ≤ min (old_size old) size - 1) × (size ≤ z * p.chunk) × (a < z)
 
 -- the parts below an old part: each but the last has s bytes, and the last no more
 pub record AreBelow (s : ℕ) (old : Option Part) (parts : List Part) : Type 0 where

@@ -3,7 +3,7 @@ ghost use Rattle.std.specs.Prelude.{◌≡◌, ◌<◌, ◌≤◌, ◌^◌, IsTr
 ghost use Rattle.uf_tree.specs.Profiles.{is_profile};
 
 use crate::layout::height_of;
-use crate::tests::{Kept, Trouble, built, is_built, model, profile, size_with};
+use crate::tests::{Kept, Trouble, built, is_built, model, next, profile, size_with};
 use crate::{truncate, write_at};
 use std::alloc::Global;
 use std::marker::Brand;
@@ -19,14 +19,14 @@ enum Edit {
     Cut(usize),
 }
 
-// Files of these lengths are edited, at each offset with each length of a piece, or at one of so many.
+// Files of fewer bytes are edited, at each place before with each shorter piece.
+const MOST: usize = 41;
+
+// The pieces and the nodes of a file have these sizes.
 #[derive(Clone, Copy)]
-struct Range {
+struct Sizes {
     chunk: u32,
     width: u32,
-    least: usize,
-    most: usize,
-    step: usize,
 }
 
 // How many chunks have one of the bytes from one place up to another.
@@ -167,56 +167,88 @@ fn check_edit<L: Ledger>(
     Ok(())
 }
 
-// Writes pieces of all lengths of a range at one place of a file.
+// Writes pieces of all lengths at one place of a file.
 fn check_pieces<L: Ledger>(
     alloc: Global,
     store: &mut Kept,
-    range: Range,
+    sizes: Sizes,
     entry: &Entry,
     bytes: &[u8],
     offset: usize,
     touches: &mut Steps<L>,
 ) -> Result<(), Trouble> {
-    let p = profile(range.chunk, range.width);
-    for more in 0..range.most {
-        if (more ^ bytes.len()) % range.step.max(1) == 0 {
-            let edit = Edit::Write(offset, more);
-            check_edit(alloc, store, &p, entry, bytes, edit, touches)?;
-        }
+    let p = profile(sizes.chunk, sizes.width);
+    for more in 0..MOST {
+        let edit = Edit::Write(offset, more);
+        check_edit(alloc, store, &p, entry, bytes, edit, touches)?;
     }
     Ok(())
 }
 
-// All edits of a range of a file of one length.
+// All edits of a file of one length.
 fn check_length<L: Ledger>(
     alloc: Global,
-    range: Range,
+    sizes: Sizes,
     length: usize,
     touches: &mut Steps<L>,
 ) -> Result<(), Trouble> {
-    let p = profile(range.chunk, range.width);
+    let p = profile(sizes.chunk, sizes.width);
     let bytes = bytes_of(alloc, length)?;
     let mut store = Kept::new(alloc);
     let entry = built(p, alloc, &mut store, bytes.as_slice(), touches)?;
-    for place in 0..range.most {
-        if (place ^ length) % range.step.max(1) == 0 {
-            let kept = &mut store;
-            let edit = Edit::Cut(place);
-            check_edit(alloc, kept, &p, &entry, bytes.as_slice(), edit, touches)?;
-            check_pieces(alloc, kept, range, &entry, bytes.as_slice(), place, touches)?;
-        }
+    for place in 0..MOST {
+        let kept = &mut store;
+        let edit = Edit::Cut(place);
+        check_edit(alloc, kept, &p, &entry, bytes.as_slice(), edit, touches)?;
+        check_pieces(alloc, kept, sizes, &entry, bytes.as_slice(), place, touches)?;
     }
     Ok(())
 }
 
-// All edits of a range.
-fn check_range<L: Ledger>(
+// All edits of files of all lengths.
+fn check_all<L: Ledger>(
     alloc: Global,
-    range: Range,
+    sizes: Sizes,
     touches: &mut Steps<L>,
 ) -> Result<(), Trouble> {
-    for length in range.least..range.most {
-        check_length(alloc, range, length, touches)?;
+    for length in 0..MOST {
+        check_length(alloc, sizes, length, touches)?;
+    }
+    Ok(())
+}
+
+// An edit of a file of up to 250 bytes, as a number says.
+fn check_one_of_many<L: Ledger>(
+    alloc: Global,
+    sizes: Sizes,
+    n: u64,
+    touches: &mut Steps<L>,
+) -> Result<(), Trouble> {
+    let p = profile(sizes.chunk, sizes.width);
+    let bytes = bytes_of(alloc, (n % 251) as usize)?;
+    let mut store = Kept::new(alloc);
+    let entry = built(p, alloc, &mut store, bytes.as_slice(), touches)?;
+    let place = (n / 256 % 300) as usize;
+    let more = (n / 131072 % 90) as usize;
+    let edit = if n / 16777216 % 4 == 0 {
+        Edit::Cut(place)
+    } else {
+        Edit::Write(place, more)
+    };
+    let bytes = bytes.as_slice();
+    check_edit(alloc, &mut store, &p, &entry, bytes, edit, touches)
+}
+
+// Edits of larger files at random places.
+fn check_many<L: Ledger>(
+    alloc: Global,
+    sizes: Sizes,
+    touches: &mut Steps<L>,
+) -> Result<(), Trouble> {
+    let mut n = 88172645463325252;
+    for _ in 0..60 {
+        n = next(n);
+        check_one_of_many(alloc, sizes, n, touches)?;
     }
     Ok(())
 }
@@ -242,50 +274,67 @@ fn check_middle<L: Ledger>(alloc: Global, touches: &mut Steps<L>) -> Result<(), 
     )
 }
 
-// The place of the first row that is wrong: each edit of files of up to 6 bytes, and about one in thirteen offsets and
-// lengths of pieces up to 40 of files of up to 40 bytes.
-fn first_wrong<L: Ledger>(alloc: Global, blank: Blank) -> Option<usize>
+// Whether each edit of files of up to 40 bytes is right, at places up to 40 with pieces of up to 40 bytes, and some of
+// larger files.
+fn all_right<L: Ledger>(alloc: Global, blank: Blank, sizes: Sizes) -> bool
     requires name { blank.name ≡ L.name }
     requires parts { blank.parts ≡ L.parts }
     requires some { 0 < blank.parts }
 {
     let mut touches = Steps::<L>::new(blank);
-    let t = &mut touches;
-    if check_middle(alloc, t).is_err() {
-        return Some(100);
-    }
-    let rows = [
-        (1, 2, 0, 7, 1),
-        (2, 2, 0, 7, 1),
-        (3, 3, 0, 7, 1),
-        (1, 2, 7, 41, 13),
-        (1, 3, 7, 41, 13),
-        (2, 2, 7, 41, 13),
-        (2, 3, 7, 41, 13),
-        (3, 2, 7, 41, 13),
-        (3, 3, 7, 41, 13),
-    ];
-    for place in 0..rows.len() {
-        let (chunk, width, least, most, step) = rows[place];
-        let range = Range {
-            chunk,
-            width,
-            least,
-            most,
-            step,
-        };
-        if check_range(alloc, range, t).is_err() {
-            return Some(place);
-        }
-    }
-    None
+    check_all(alloc, sizes, &mut touches).is_ok() && check_many(alloc, sizes, &mut touches).is_ok()
 }
 
-fn first_wrong_row(alloc: Global) -> Option<usize> {
-    first_wrong::<Brand>(alloc, Blank::new(1))
+// The same of files in pieces and nodes of these sizes.
+fn are_right(alloc: Global, chunk: u32, width: u32) -> bool {
+    all_right::<Brand>(alloc, Blank::new(1), Sizes { chunk, width })
+}
+
+// Whether an edit in the middle of a large file is right.
+fn middle_right<L: Ledger>(alloc: Global, blank: Blank) -> bool
+    requires name { blank.name ≡ L.name }
+    requires parts { blank.parts ≡ L.parts }
+    requires some { 0 < blank.parts }
+{
+    let mut touches = Steps::<L>::new(blank);
+    check_middle(alloc, &mut touches).is_ok()
+}
+
+fn middle_is_right(alloc: Global) -> bool {
+    middle_right::<Brand>(alloc, Blank::new(1))
 }
 
 #[test]
-fn edits_touch_the_store_no_more_than_they_may(rt: HostRuntime) {
-    assert_eq!(rt; first_wrong_row(rt.alloc()), None);
+fn an_edit_of_a_large_file_costs_what_its_rows_cost(rt: HostRuntime) {
+    assert!(rt; middle_is_right(rt.alloc()));
+}
+
+#[test]
+fn edits_of_pieces_of_one_under_two(rt: HostRuntime) {
+    assert!(rt; are_right(rt.alloc(), 1, 2));
+}
+
+#[test]
+fn edits_of_pieces_of_one_under_three(rt: HostRuntime) {
+    assert!(rt; are_right(rt.alloc(), 1, 3));
+}
+
+#[test]
+fn edits_of_pieces_of_two_under_two(rt: HostRuntime) {
+    assert!(rt; are_right(rt.alloc(), 2, 2));
+}
+
+#[test]
+fn edits_of_pieces_of_two_under_three(rt: HostRuntime) {
+    assert!(rt; are_right(rt.alloc(), 2, 3));
+}
+
+#[test]
+fn edits_of_pieces_of_three_under_two(rt: HostRuntime) {
+    assert!(rt; are_right(rt.alloc(), 3, 2));
+}
+
+#[test]
+fn edits_of_pieces_of_three_under_three(rt: HostRuntime) {
+    assert!(rt; are_right(rt.alloc(), 3, 3));
 }

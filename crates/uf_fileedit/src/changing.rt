@@ -1,5 +1,5 @@
 // Parts of a file changed, from the root down.
-ghost use Rattle.std.specs.Prelude.{◌≡◌, ◌⊎◌, ◌+◌, ◌-◌, ◌*◌, ◌<◌, ◌≤◌, ℕ, List, length, min, slice_get, IfErr, IfNone, IfOk, IfSome, IsTrue, None, Some};
+ghost use Rattle.std.specs.Prelude.{◌≡◌, ◌⊎◌, ◌+◌, ◌-◌, ◌*◌, ◌<◌, ◌≤◌, ℕ, List, [], ◌∷◌, length, min, slice_get, IfErr, IfNone, IfOk, IfSome, IsTrue, None, Some};
 ghost use Rattle.std.specs.List.{sum_by};
 ghost use Rattle.uf_edge.specs.Counts.{Stood};
 ghost use Rattle.uf_store.specs.Faults.{Answers};
@@ -8,11 +8,11 @@ ghost use Rattle.uf_store.specs.Writing.{SavesOnly};
 ghost use Rattle.uf_store.specs.Lost.{IsLossOf};
 ghost use Rattle.uf_tree.specs.FileSub.{blocks_over, span};
 ghost use Rattle.uf_tree.specs.Profiles.{is_profile};
-ghost use Rattle.uf_fileedit.specs.Bad.{IsBadEdited};
 ghost use Rattle.uf_fileedit.specs.Changes.{HasSize, IsBlank, IsFrontPart, IsOldPart, LiesWithin, LosesOfPart, LosesOfParts, MakesPart, MakesParts};
 ghost use Rattle.uf_fileedit.specs.Touches.{AreBelow, Climbs, IsChangeWithin, IsLeft};
+ghost use Rattle.uf_fileedit.specs.Ways.{IsBadAmongOld, IsBadOld, StandBelow};
 
-use crate::layout::span_of;
+use crate::layout::{Layer, span_of};
 use crate::leaves::change_leaf;
 use crate::nodes::{load_parts, parts_below};
 use std::alloc::Global;
@@ -20,14 +20,6 @@ use std::sync::ledger::Ledger;
 use uf_build::save_node;
 use uf_store::{Steps, Store, StoreFault};
 use uf_tree::{Part, Parts, Profile};
-
-// Where a part is made: the profile, its height, and how high an old part of the file stands at most.
-#[derive(Clone, Copy)]
-pub struct Layer {
-    pub p: Profile,
-    pub top: u8,
-    pub height: u8,
-}
 
 // What is made of an old part, where there is one: so many bytes, and a piece is laid over them from a place on.
 #[derive(Clone, Copy)]
@@ -37,42 +29,54 @@ pub struct Target {
     pub offset: u64,
 }
 
-// The first part of a height of a file whose root has a greater one, or the root. At most one touch for each height between.
+// The first part of a height of a file whose root has a greater one, or the root. At most one touch for each height
+// between.
 pub fn front_of<S: Store, L: Ledger>(
     alloc: Global,
     store: &mut S,
-    p: &Profile,
-    top: u8,
-    height: u8,
+    layer: Layer,
     root: Part,
     touches: &mut Steps<L>,
 ) -> Result<Part, StoreFault>
-    requires profile { IsTrue (is_profile p.now) }
-    ensures gives { (b : List ℕ) → IsOldPart S.X.block32 p.now top root b
-        → Agrees (S.seen store.old).told (blocks_over S.X.block32 p.now.chunk p.now.width top b)
-        → IfOk result (λ m. IsFrontPart S.X.block32 p.now top (min top height) m b) }
-    ensures lost { (b : List ℕ) → IsOldPart S.X.block32 p.now top root b
-        → Agrees (S.seen store.old).told (blocks_over S.X.block32 p.now.chunk p.now.width top b)
+    requires profile { IsTrue (is_profile layer.p) }
+    ensures gives { (b : List ℕ) → IsOldPart S.X.block32 layer.p layer.top root b
+        → Agrees (S.seen store.old).told (blocks_over S.X.block32 layer.p.chunk layer.p.width layer.top b)
+        → IfOk result (λ m. IsFrontPart S.X.block32 layer.p layer.top (min layer.top layer.height) m b) }
+    ensures lost { (b : List ℕ) → layer.rows ≤ 22 → IsOldPart S.X.block32 layer.p layer.top root b
+        → Agrees (S.seen store.old).told (blocks_over S.X.block32 layer.p.chunk layer.p.width layer.top b)
         → Stood (S.seen store.old).faults (S.seen store.new).faults
-        → IfErr result (IsLossOf (S.seen store.old).told (blocks_over S.X.block32 p.now.chunk p.now.width top b)) }
-    ensures cause { Answers S.X.block32 (IsBadEdited p.now) result (S.seen store.old) (S.seen store.new) }
+        → IfErr result (IsLossOf (S.seen store.old).told (blocks_over S.X.block32 layer.p.chunk layer.p.width
+        layer.top b)) }
+    ensures cause { Answers S.X.block32 (IsBadOld S.X.block32 layer.p (S.seen store.new).told layer.rows layer.top
+        (Some root)) result (S.seen store.old) (S.seen store.new) }
+    ensures stand { IfOk result (λ m. StandBelow S.X.block32 layer.p (S.seen store.old).told layer.rows layer.top
+        (Some root) (min layer.top layer.height) (m ∷ [])) }
     ensures told { (S.seen store.new).told ≡ (S.seen store.old).told }
-    ensures size { root.size ≤ span p.now.chunk p.now.width top → IfOk result (λ m. m.size ≡ min root.size
-        (span p.now.chunk p.now.width (min top height))) }
+    ensures size { root.size ≤ span layer.p.chunk layer.p.width layer.top → IfOk result (λ m. m.size ≡ min root.size
+        (span layer.p.chunk layer.p.width (min layer.top layer.height))) }
     ensures rises { touches.old ≤ touches.new }
-    ensures touches { touches.new ≤ touches.old + (top - height) }
+    ensures touches { touches.new ≤ touches.old + (layer.top - layer.height) }
 {
-    if top <= height {
+    if layer.top <= layer.height {
         return Ok(root);
     }
-    let below = top - 1;
-    let parts = load_parts(alloc, store, p, below, &root, touches)?;
+    let below = Layer {
+        p: layer.p,
+        rows: layer.rows,
+        top: layer.top - 1,
+        height: layer.height,
+        zeros: None,
+    };
+    let parts = load_parts(
+        alloc, store, &layer.p, layer.rows, below.top, &root, touches,
+    )?;
     let first = parts.as_slice()[0];
-    front_of(alloc, store, p, below, height, first, touches)
+    front_of(alloc, store, below, first, touches)
 }
 
-// Saves a part of a layer: the bytes of the old part, where there is one, cut or filled with zeros, with a piece laid over them.
-// Where that is the old part it is left alone. At most two touches for each row and each chunk that is changed.
+// Saves a part of a layer: the bytes of the old part, where there is one, cut or filled with zeros, with a piece laid
+// over them. Where that is the old part it is left alone. At most two touches for each row and each chunk that is
+// changed.
 #[cycle(changes)]
 pub fn change<S: Store, L: Ledger>(
     alloc: Global,
@@ -86,13 +90,15 @@ pub fn change<S: Store, L: Ledger>(
     requires size { HasSize layer.p layer.height target.size }
     requires within { LiesWithin target.size target.offset piece.now }
     ensures size { IfOk result (λ m. m.size ≡ target.size) }
-    ensures gives { MakesPart S.X.block32 layer.p layer.top layer.height target piece.now (S.seen store.old).told
+    ensures gives { IsBlank S.X.block32 layer.p (S.seen store.old).told 0 layer.zeros
+        → MakesPart S.X.block32 layer.p layer.top layer.height target piece.now (S.seen store.old).told
         (S.seen store.new).told result }
-    ensures lost { LosesOfPart S.X.block32 layer.p (min layer.top layer.height) target.old (S.seen store.old)
-        (S.seen store.new) result }
+    ensures lost { layer.rows ≤ 22 → LosesOfPart S.X.block32 layer.p (min layer.top layer.height) target.old
+        (S.seen store.old) (S.seen store.new) result }
     ensures left { IsLeft layer.top layer.height target.size target.old → length piece.now ≡ 0
         → (S.seen store.new).told ≡ (S.seen store.old).told }
-    ensures cause { Answers S.X.block32 (IsBadEdited layer.p) result (S.seen store.old) (S.seen store.new) }
+    ensures cause { Answers S.X.block32 (IsBadOld S.X.block32 layer.p (S.seen store.new).told layer.rows
+        (min layer.top layer.height) target.old) result (S.seen store.old) (S.seen store.new) }
     ensures good { KeepsGood S.X.block32 (S.seen store.old).told (S.seen store.new).told }
     ensures saves { SavesOnly S.X.block32 (S.seen store.old).told (S.seen store.new).told }
     ensures rises { Climbs result touches.old touches.new }
@@ -109,8 +115,10 @@ pub fn change<S: Store, L: Ledger>(
     }
     let below = Layer {
         p: layer.p,
+        rows: layer.rows,
         top: layer.top,
         height: layer.height - 1,
+        zeros: layer.zeros,
     };
     change_node(alloc, store, below, target, piece, touches)
 }
@@ -145,31 +153,27 @@ fn change_node<S: Store, L: Ledger>(
     requires size { HasSize layer.p (layer.height + 1) target.size }
     requires within { LiesWithin target.size target.offset piece.now }
     ensures size { IfOk result (λ m. m.size ≡ target.size) }
-    ensures gives { MakesPart S.X.block32 layer.p layer.top (layer.height + 1) target piece.now (S.seen store.old).told
+    ensures gives { IsBlank S.X.block32 layer.p (S.seen store.old).told 0 layer.zeros
+        → MakesPart S.X.block32 layer.p layer.top (layer.height + 1) target piece.now (S.seen store.old).told
         (S.seen store.new).told result }
-    ensures lost { LosesOfPart S.X.block32 layer.p (min layer.top (layer.height + 1)) target.old (S.seen store.old)
-        (S.seen store.new) result }
-    ensures cause { Answers S.X.block32 (IsBadEdited layer.p) result (S.seen store.old) (S.seen store.new) }
+    ensures lost { layer.rows ≤ 22 → LosesOfPart S.X.block32 layer.p (min layer.top (layer.height + 1)) target.old
+        (S.seen store.old) (S.seen store.new) result }
+    ensures cause { Answers S.X.block32 (IsBadOld S.X.block32 layer.p (S.seen store.new).told layer.rows
+        (min layer.top (layer.height + 1)) target.old) result (S.seen store.old) (S.seen store.new) }
     ensures good { KeepsGood S.X.block32 (S.seen store.old).told (S.seen store.new).told }
     ensures saves { SavesOnly S.X.block32 (S.seen store.old).told (S.seen store.new).told }
     ensures rises { Climbs result touches.old touches.new }
     ensures touches { (a z : ℕ) → IsChangeWithin layer.p layer.top (layer.height + 1) target.old target.size
-        target.offset (length piece.now) a z → a < z → touches.new ≤ touches.old + 2 * (layer.height + 1 + 1) * (z - a) }
+        target.offset (length piece.now) a z → a < z
+        → touches.new ≤ touches.old + 2 * (layer.height + 1 + 1) * (z - a) }
 {
-    let olds = parts_below(
-        alloc,
-        store,
-        &layer.p,
-        layer.top,
-        layer.height,
-        target.old,
-        touches,
-    )?;
+    let olds = parts_below(alloc, store, layer, target.old, touches)?;
     let news = change_parts(alloc, store, layer, target, olds.as_slice(), piece, touches)?;
     save_node(alloc, store, news.as_slice(), touches)
 }
 
-// The parts of a layer below a node. Whole parts of zeros are made once.
+// The parts of a layer below a node. Whole parts of zeros are made once, and a piece of zeros that is saved isn't saved
+// again.
 #[cycle(changes)]
 fn change_parts<S: Store, L: Ledger>(
     alloc: Global,
@@ -186,11 +190,13 @@ fn change_parts<S: Store, L: Ledger>(
     ensures some { IfOk result (λ parts. 1 ≤ length parts) }
     ensures few { IfOk result (λ parts. length parts ≤ 1024) }
     ensures size { IfOk result (λ parts. sum_by (λ m. m.size) parts ≡ target.size) }
-    ensures gives { MakesParts S.X.block32 layer.p layer.top layer.height olds.now target piece.now
+    ensures gives { IsBlank S.X.block32 layer.p (S.seen store.old).told 0 layer.zeros
+        → MakesParts S.X.block32 layer.p layer.top layer.height olds.now target piece.now
         (S.seen store.old).told (S.seen store.new).told result }
-    ensures lost { LosesOfParts S.X.block32 layer.p layer.top layer.height olds.now (S.seen store.old)
+    ensures lost { layer.rows ≤ 22 → LosesOfParts S.X.block32 layer.p layer.top layer.height olds.now (S.seen store.old)
         (S.seen store.new) result }
-    ensures cause { Answers S.X.block32 (IsBadEdited layer.p) result (S.seen store.old) (S.seen store.new) }
+    ensures cause { Answers S.X.block32 (IsBadAmongOld S.X.block32 layer.p (S.seen store.new).told layer.rows
+        (min layer.top layer.height) olds.now) result (S.seen store.old) (S.seen store.new) }
     ensures good { KeepsGood S.X.block32 (S.seen store.old).told (S.seen store.new).told }
     ensures saves { SavesOnly S.X.block32 (S.seen store.old).told (S.seen store.new).told }
     ensures rises { Climbs result touches.old touches.new }
@@ -200,7 +206,7 @@ fn change_parts<S: Store, L: Ledger>(
 {
     let most = span_of(&layer.p, layer.height);
     let mut news = Parts::new(alloc);
-    let mut blank = None;
+    let mut blank = first_blank(layer);
     let mut left = target.size;
     let mut place = target.offset;
     let mut rest = piece;
@@ -240,12 +246,14 @@ fn change_one<S: Store, L: Ledger>(
     requires size { HasSize layer.p layer.height target.size }
     requires within { LiesWithin target.size target.offset piece.now }
     ensures size { IfOk result (λ m. m.size ≡ target.size) }
-    ensures gives { IsBlank S.X.block32 layer.p (S.seen store.old).told layer.height blank
+    ensures gives { IsBlank S.X.block32 layer.p (S.seen store.old).told 0 layer.zeros
+        → IsBlank S.X.block32 layer.p (S.seen store.old).told layer.height blank
         → MakesPart S.X.block32 layer.p layer.top layer.height target piece.now (S.seen store.old).told
         (S.seen store.new).told result }
-    ensures lost { LosesOfPart S.X.block32 layer.p (min layer.top layer.height) target.old (S.seen store.old)
-        (S.seen store.new) result }
-    ensures cause { Answers S.X.block32 (IsBadEdited layer.p) result (S.seen store.old) (S.seen store.new) }
+    ensures lost { layer.rows ≤ 22 → LosesOfPart S.X.block32 layer.p (min layer.top layer.height) target.old
+        (S.seen store.old) (S.seen store.new) result }
+    ensures cause { Answers S.X.block32 (IsBadOld S.X.block32 layer.p (S.seen store.new).told layer.rows
+        (min layer.top layer.height) target.old) result (S.seen store.old) (S.seen store.new) }
     ensures good { KeepsGood S.X.block32 (S.seen store.old).told (S.seen store.new).told }
     ensures saves { SavesOnly S.X.block32 (S.seen store.old).told (S.seen store.new).told }
     ensures rises { Climbs result touches.old touches.new }
@@ -274,6 +282,13 @@ fn part_at(parts: &[Part], at: usize) -> Option<Part>
     ensures { result ≡ slice_get parts.now at }
 {
     parts.get(at).copied()
+}
+
+// The whole part of zeros that is known from the start.
+fn first_blank(layer: Layer) -> Option<Part>
+    ensures { (result ≡ None) ⊎ ((layer.height ≡ 0) × (result ≡ layer.zeros)) }
+{
+    if layer.height == 0 { layer.zeros } else { None }
 }
 
 // The whole part of zeros that is known after one more part.

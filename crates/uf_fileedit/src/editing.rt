@@ -15,8 +15,9 @@ ghost use Rattle.uf_fileedit.specs.Edits.{cut_to, laid};
 ghost use Rattle.uf_fileedit.specs.Touches.{Climbs, IsEditWithin, TouchedFirst, cut_chunks, edit_touches, written_chunks};
 ghost use Rattle.uf_tree.specs.FileSub.{IsHeight};
 
-use crate::changing::{Layer, Target, change, front_of};
-use crate::layout::height_of;
+use crate::changing::{Target, change, front_of};
+use crate::layout::{Layer, height_of};
+use crate::leaves::save_zeros;
 use crate::nodes::root_of;
 use std::alloc::Global;
 use std::sync::ledger::Ledger;
@@ -24,8 +25,8 @@ use uf_build::BuildFault;
 use uf_store::{Steps, Store, StoreFault};
 use uf_tree::{Entry, Profile};
 
-/// Lays a piece over the bytes of a file from `offset` on, and answers the entry of the new file. Zeros stand between the
-/// end of the old bytes and an offset behind it. With an empty piece the entry is as it was, and nothing is saved.
+/// Lays a piece over the bytes of a file from `offset` on, and answers the entry of the new file. Zeros stand between
+/// the end of the old bytes and an offset behind it. With an empty piece the entry is as it was, and nothing is saved.
 pub fn write_at<S: Store, L: Ledger>(
     alloc: Global,
     store: &mut S,
@@ -54,7 +55,8 @@ pub fn write_at<S: Store, L: Ledger>(
         → entry.now ≡ (file_plan S.X.block32 p.now b).entry → Agrees (S.seen store.old).told
         (file_plan S.X.block32 p.now b).blocks → Holds (S.seen store.old).told (file_plan S.X.block32 p.now b).blocks
         → OnOk result (Holds (S.seen store.new).told (file_plan S.X.block32 p.now (laid b offset piece.now)).blocks) }
-    ensures cause { ShownEdit S.X.block32 (IsBadEdited p.now) result (S.seen store.old) (S.seen store.new) }
+    ensures cause { ShownEdit S.X.block32 (IsBadEdited S.X.block32 p.now (S.seen store.new).told entry.now.cid) result
+        (S.seen store.old) (S.seen store.new) }
     ensures good { KeepsGood S.X.block32 (S.seen store.old).told (S.seen store.new).told }
     ensures saves { SavesOnly S.X.block32 (S.seen store.old).told (S.seen store.new).told }
     ensures touched { TouchedFirst result touches.old touches.new }
@@ -74,7 +76,11 @@ pub fn write_at<S: Store, L: Ledger>(
     if more > most || offset > most - more {
         return Err(BuildFault::FileTooLong);
     }
-    Ok(edit(alloc, store, p, entry, None, offset, piece, touches)?)
+    let extent = Extent {
+        wanted: None,
+        offset,
+    };
+    Ok(edit(alloc, store, p, entry, extent, piece, touches)?)
 }
 
 /// Cuts a file to a length, or fills it with zeros up to it, and answers the entry of the new file.
@@ -104,7 +110,8 @@ pub fn truncate<S: Store, L: Ledger>(
         → entry.now ≡ (file_plan S.X.block32 p.now b).entry → Agrees (S.seen store.old).told
         (file_plan S.X.block32 p.now b).blocks → Holds (S.seen store.old).told (file_plan S.X.block32 p.now b).blocks
         → OnOk result (Holds (S.seen store.new).told (file_plan S.X.block32 p.now (cut_to b size)).blocks) }
-    ensures cause { ShownEdit S.X.block32 (IsBadEdited p.now) result (S.seen store.old) (S.seen store.new) }
+    ensures cause { ShownEdit S.X.block32 (IsBadEdited S.X.block32 p.now (S.seen store.new).told entry.now.cid) result
+        (S.seen store.old) (S.seen store.new) }
     ensures good { KeepsGood S.X.block32 (S.seen store.old).told (S.seen store.new).told }
     ensures saves { SavesOnly S.X.block32 (S.seen store.old).told (S.seen store.new).told }
     ensures touched { TouchedFirst result touches.old touches.new }
@@ -120,7 +127,18 @@ pub fn truncate<S: Store, L: Ledger>(
     if size > most {
         return Err(BuildFault::FileTooLong);
     }
-    Ok(edit(alloc, store, p, entry, Some(size), 0, &[], touches)?)
+    let extent = Extent {
+        wanted: Some(size),
+        offset: 0,
+    };
+    Ok(edit(alloc, store, p, entry, extent, &[], touches)?)
+}
+
+// The length that is wanted of a file, where one is, and where a piece is laid over it.
+#[derive(Clone, Copy)]
+struct Extent {
+    wanted: Option<u64>,
+    offset: u64,
 }
 
 // Cuts or fills a file to a length, or else to no less than the end of a piece, and lays the piece over it.
@@ -129,66 +147,84 @@ fn edit<S: Store, L: Ledger>(
     store: &mut S,
     p: &Profile,
     entry: &Entry,
-    wanted: Option<u64>,
-    offset: u64,
+    extent: Extent,
     piece: &[u8],
     touches: &mut Steps<L>,
 ) -> Result<Entry, StoreFault>
     requires profile { IsTrue (is_profile p.now) }
-    requires within { IfSome wanted (λ n. LiesWithin n offset piece.now) }
-    requires small { IfSome wanted (λ n. n < 2 ^ 63) }
-    requires end { offset + length piece.now < 2 ^ 63 }
+    requires within { IfSome extent.wanted (λ n. LiesWithin n extent.offset piece.now) }
+    requires small { IfSome extent.wanted (λ n. n < 2 ^ 63) }
+    requires end { extent.offset + length piece.now < 2 ^ 63 }
     ensures gives { (b : List ℕ) (height : ℕ) → IsFile S.X.block32 p.now b entry.now.cid height
         → entry.now ≡ (file_plan S.X.block32 p.now b).entry → Agrees (S.seen store.old).told
         (file_plan S.X.block32 p.now b).blocks → Agrees (S.seen store.new).told (file_plan S.X.block32 p.now b).blocks
         → IfOk result (λ e. GivesFile S.X.block32 p.now (S.seen store.new).told (file_plan S.X.block32 p.now b).blocks
-        e (overlaid (after_size (length b) wanted offset (length piece.now)) b offset piece.now)) }
+        e (overlaid (after_size (length b) extent.wanted extent.offset (length piece.now)) b extent.offset piece.now)) }
     ensures lost { (b : List ℕ) (height : ℕ) → IsFile S.X.block32 p.now b entry.now.cid height
         → entry.now ≡ (file_plan S.X.block32 p.now b).entry → Agrees (S.seen store.old).told
         (file_plan S.X.block32 p.now b).blocks → Agrees (S.seen store.new).told (file_plan S.X.block32 p.now b).blocks
         → Stood (S.seen store.old).faults (S.seen store.new).faults
         → Stood (S.seen store.old).clashes (S.seen store.new).clashes
         → IfErr result (IsLossOf (S.seen store.new).told (file_plan S.X.block32 p.now b).blocks) }
-    ensures cause { Answers S.X.block32 (IsBadEdited p.now) result (S.seen store.old) (S.seen store.new) }
+    ensures cause { Answers S.X.block32 (IsBadEdited S.X.block32 p.now (S.seen store.new).told entry.now.cid) result
+        (S.seen store.old) (S.seen store.new) }
     ensures good { KeepsGood S.X.block32 (S.seen store.old).told (S.seen store.new).told }
     ensures saves { SavesOnly S.X.block32 (S.seen store.old).told (S.seen store.new).told }
     ensures touched { Climbs result touches.old touches.new }
     ensures touches { (b : List ℕ) (rows after a z : ℕ) → IsFile S.X.block32 p.now b entry.now.cid rows
         → Agrees (S.seen store.old).told (file_plan S.X.block32 p.now b).blocks
-        → IsHeight p.now.chunk p.now.width (after_size (length b) wanted offset (length piece.now)) after
-        → IsEditWithin p.now.chunk (length b) (after_size (length b) wanted offset (length piece.now)) offset
-        (length piece.now) a z → touches.new ≤ touches.old + 1 + (rows - after) + 2 * (after + 1) * (z - a) }
+        → IsHeight p.now.chunk p.now.width (after_size (length b) extent.wanted extent.offset (length piece.now)) after
+        → IsEditWithin p.now.chunk (length b) (after_size (length b) extent.wanted extent.offset (length piece.now))
+        extent.offset (length piece.now) a z
+        → touches.new ≤ touches.old + 2 + (rows - after) + 2 * (after + 1) * (z - a) }
     ensures same { (b : List ℕ) (rows : ℕ) → IsFile S.X.block32 p.now b entry.now.cid rows
         → Agrees (S.seen store.old).told (file_plan S.X.block32 p.now b).blocks
-        → length b ≡ after_size (length b) wanted offset (length piece.now) → length piece.now ≡ 0
+        → length b ≡ after_size (length b) extent.wanted extent.offset (length piece.now) → length piece.now ≡ 0
         → (S.seen store.new).told ≡ (S.seen store.old).told }
 {
     let root = root_of(alloc, store, p, entry, touches)?;
-    let size = size_after(root.size, wanted, offset, piece.len() as u64);
+    let size = size_after(root.size, extent, piece.len() as u64);
     let top = height_of(p, root.size);
     let height = height_of(p, size);
-    let front = front_of(alloc, store, p, top, height, root, touches)?;
-    let layer = Layer {
+    let mut layer = Layer {
         p: *p,
-        top: top.min(height),
+        rows: top,
+        top,
         height,
+        zeros: None,
     };
+    let front = front_of(alloc, store, layer, root, touches)?;
+    let end = gap_end(size, extent, piece);
+    let zeros = save_zeros(alloc, store, p.chunk, root.size, end, touches)?;
+    layer.top = top.min(height);
+    layer.zeros = zeros;
     let target = Target {
         old: Some(front),
         size,
-        offset,
+        offset: extent.offset,
     };
     let part = change(alloc, store, layer, target, piece, touches)?;
     Ok(part.entry)
 }
 
-// How many bytes a file of `old` bytes has afterwards.
-fn size_after(old: u64, wanted: Option<u64>, offset: u64, more: u64) -> u64
-    requires { offset + more < 2 ^ 63 }
-    ensures { result ≡ after_size old wanted offset more }
+// Where zeros end that fill a file of so many bytes: before a piece, or at its end.
+fn gap_end(size: u64, extent: Extent, piece: &[u8]) -> u64
+    ensures { length piece.now ≡ 0 → result ≡ size }
 {
-    match wanted {
+    if piece.is_empty() {
+        size
+    } else {
+        extent.offset
+    }
+}
+
+// How many bytes a file of `old` bytes has afterwards.
+fn size_after(old: u64, extent: Extent, more: u64) -> u64
+    requires { extent.offset + more < 2 ^ 63 }
+    ensures { result ≡ after_size old extent.wanted extent.offset more }
+{
+    match extent.wanted {
         Some(size) => size,
-        None => old.max(offset + more),
+        None => old.max(extent.offset + more),
     }
 }

@@ -7,6 +7,17 @@ ghost use Rattle.uf_fileedit.specs.Planned.{are_planned as planned_of, is_of_hei
 use uf_cid::Codec;
 use uf_tree::{Part, Profile};
 
+// Where a part is made: the profile, how many rows of nodes the old file has, how high an old part stands at most, the
+// height of the part, and a whole piece of zeros that is saved already, where there is one.
+#[derive(Clone, Copy)]
+pub struct Layer {
+    pub p: Profile,
+    pub rows: u8,
+    pub top: u8,
+    pub height: u8,
+    pub zeros: Option<Part>,
+}
+
 // How many bytes a part of this height has at most; a greater number counts as the greatest.
 pub fn span_of(p: &Profile, height: u8) -> u64
     requires { IsTrue (is_profile p.now) }

@@ -1,5 +1,5 @@
 // Pieces of a file changed.
-ghost use Rattle.std.specs.Prelude.{◌≡◌, ◌+◌, ◌-◌, ◌≤◌, ◌++◌, ℕ, List, [], ◌∷◌, length, take, drop, replicate, IfErr, IfOk, OnErr, OnOk};
+ghost use Rattle.std.specs.Prelude.{◌≡◌, ◌+◌, ◌-◌, ◌<◌, ◌≤◌, ◌^◌, ◌++◌, ℕ, List, [], ◌∷◌, length, take, drop, replicate, IfErr, IfOk, OnErr, OnOk, Some};
 ghost use Rattle.uf_edge.specs.Counts.{Stood};
 ghost use Rattle.uf_store.specs.Clashes.{IsSaving};
 ghost use Rattle.uf_store.specs.Faults.{Answers, NoneIsBad};
@@ -8,10 +8,10 @@ ghost use Rattle.uf_store.specs.Writing.{SavesOnly};
 ghost use Rattle.uf_store.specs.Lost.{IsLossOf};
 ghost use Rattle.uf_tree.specs.FilePlan.{leaf_held, leaf_part};
 ghost use Rattle.uf_tree.specs.declared.profile.Profile.{Profile};
-ghost use Rattle.uf_fileedit.specs.Bad.{IsBadEdited};
 ghost use Rattle.uf_fileedit.specs.Edits.{cut_to};
 ghost use Rattle.uf_fileedit.specs.Touches.{Climbs};
-ghost use Rattle.uf_fileedit.specs.Changes.{GivesPart, IsOld, IsOldPart, LiesWithin, overlaid, old_blocks};
+ghost use Rattle.uf_fileedit.specs.Changes.{GivesPart, IsBlank, IsOld, IsOldPart, LiesWithin, overlaid, old_blocks};
+ghost use Rattle.uf_fileedit.specs.Ways.{IsBadOld};
 
 use std::alloc::Global;
 use std::sync::ledger::Ledger;
@@ -19,8 +19,8 @@ use uf_cid::{Cid, Codec, Memory};
 use uf_store::{Role, Steps, Store, StoreFault, need, save_under};
 use uf_tree::{Entry, Part};
 
-// Saves a piece of so many bytes: those of the old piece, where there is one, cut or filled with zeros, and a part of what is
-// written laid over them.
+// Saves a piece of so many bytes: those of the old piece, where there is one, cut or filled with zeros, and a part of
+// what is written laid over them.
 pub fn change_leaf<S: Store, L: Ledger>(
     alloc: Global,
     store: &mut S,
@@ -44,17 +44,45 @@ pub fn change_leaf<S: Store, L: Ledger>(
         → Stood (S.seen store.old).faults (S.seen store.new).faults
         → Stood (S.seen store.old).clashes (S.seen store.new).clashes
         → IfErr result (IsLossOf (S.seen store.new).told (old_blocks S.X.block32 p 0 old b)) }
-    ensures cause { (p : Profile) → Answers S.X.block32 (IsBadEdited p) result (S.seen store.old) (S.seen store.new) }
+    ensures cause { (p : Profile) (rows : ℕ) → Answers S.X.block32 (IsBadOld S.X.block32 p (S.seen store.new).told
+        rows 0 old) result (S.seen store.old) (S.seen store.new) }
     ensures good { KeepsGood S.X.block32 (S.seen store.old).told (S.seen store.new).told }
     ensures saves { SavesOnly S.X.block32 (S.seen store.old).told (S.seen store.new).told }
     ensures rises { Climbs result touches.old touches.new }
     ensures touches { touches.new ≤ touches.old + 2 }
 {
-    let bytes = match leaf_bytes(alloc, store, old, size, offset, piece, touches) {
-        Ok(bytes) => bytes,
-        Err(fault) => return Err(fault),
-    };
+    let bytes = leaf_bytes(alloc, store, old, size, offset, piece, touches)?;
     save_leaf(alloc, store, bytes.as_slice(), touches)
+}
+
+// Saves a whole piece of zeros, where a gap from a place up to another has as many bytes as two: then it has one at
+// least. At most one touch.
+pub fn save_zeros<S: Store, L: Ledger>(
+    alloc: Global,
+    store: &mut S,
+    chunk: u32,
+    from: u64,
+    to: u64,
+    touches: &mut Steps<L>,
+) -> Result<Option<Part>, StoreFault>
+    requires some { 1 ≤ chunk }
+    requires few { chunk ≤ 1048576 }
+    requires from { from < 2 ^ 63 }
+    ensures blank { (p : Profile) → IfOk result (IsBlank S.X.block32 p (S.seen store.new).told 0) }
+    ensures none { to ≤ from → (S.seen store.new).told ≡ (S.seen store.old).told }
+    ensures cause { Answers S.X.block32 NoneIsBad result (S.seen store.old) (S.seen store.new) }
+    ensures fault { IfErr result IsSaving }
+    ensures good { KeepsGood S.X.block32 (S.seen store.old).told (S.seen store.new).told }
+    ensures saves { SavesOnly S.X.block32 (S.seen store.old).told (S.seen store.new).told }
+    ensures rises { touches.old ≤ touches.new }
+    ensures touches { touches.new ≤ touches.old + 1 }
+{
+    let two = 2 * u64::from(chunk);
+    if to < from.max(1).saturating_add(two) {
+        return Ok(None);
+    }
+    let bytes = laid_over(alloc, &[], chunk as usize, 0, &[])?;
+    Ok(Some(save_leaf(alloc, store, bytes.as_slice(), touches)?))
 }
 
 // Saves a piece as a raw block. One touch.
@@ -75,13 +103,11 @@ fn save_leaf<S: Store, L: Ledger>(
 {
     let size = bytes.len() as u64;
     let cid = Cid::of::<S::X>(Codec::Raw, bytes);
-    match save_under(alloc, store, &cid, bytes, touches) {
-        Ok(()) => Ok(Part {
-            entry: Entry { cid, tsize: size },
-            size,
-        }),
-        Err(fault) => Err(fault),
-    }
+    save_under(alloc, store, &cid, bytes, touches)?;
+    Ok(Part {
+        entry: Entry { cid, tsize: size },
+        size,
+    })
 }
 
 // The bytes of the changed piece. The old block is loaded unless what is written covers it.
@@ -105,7 +131,8 @@ fn leaf_bytes<S: Store, L: Ledger>(
         → Agrees (S.seen store.new).told (old_blocks S.X.block32 p 0 old b)
         → Stood (S.seen store.old).faults (S.seen store.new).faults
         → IfErr result (IsLossOf (S.seen store.new).told (old_blocks S.X.block32 p 0 old b)) }
-    ensures cause { (p : Profile) → Answers S.X.block32 (IsBadEdited p) result (S.seen store.old) (S.seen store.new) }
+    ensures cause { (p : Profile) (rows : ℕ) → Answers S.X.block32 (IsBadOld S.X.block32 p (S.seen store.new).told
+        rows 0 old) result (S.seen store.old) (S.seen store.new) }
     ensures told { (S.seen store.new).told ≡ (S.seen store.old).told }
     ensures rises { Climbs result touches.old touches.new }
     ensures touches { touches.new ≤ touches.old + 1 }
@@ -114,10 +141,7 @@ fn leaf_bytes<S: Store, L: Ledger>(
         Some(part) if piece.len() < size => {
             over_block(alloc, store, &part, size, offset, piece, touches)
         }
-        _ => match laid_over(alloc, &[], size, offset, piece) {
-            Ok(bytes) => Ok(bytes),
-            Err(Memory) => Err(StoreFault::Memory),
-        },
+        _ => Ok(laid_over(alloc, &[], size, offset, piece)?),
     }
 }
 
@@ -142,22 +166,18 @@ fn over_block<S: Store, L: Ledger>(
         → Agrees (S.seen store.new).told (leaf_held S.X.block32 b ∷ [])
         → Stood (S.seen store.old).faults (S.seen store.new).faults
         → IfErr result (IsLossOf (S.seen store.new).told (leaf_held S.X.block32 b ∷ [])) }
-    ensures cause { (p : Profile) → Answers S.X.block32 (IsBadEdited p) result (S.seen store.old) (S.seen store.new) }
+    ensures cause { (p : Profile) (rows : ℕ) → Answers S.X.block32 (IsBadOld S.X.block32 p (S.seen store.new).told
+        rows 0 (Some part.now)) result (S.seen store.old) (S.seen store.new) }
     ensures told { (S.seen store.new).told ≡ (S.seen store.old).told }
     ensures touches { touches.new ≡ touches.old + 1 }
 {
     let cid = part.entry.cid;
-    if let Err(fault) = need(store, &cid, touches) {
-        return Err(fault);
-    }
+    need(store, &cid, touches)?;
     let block = store.block();
     if block.len() as u64 != part.size {
         return Err(StoreFault::BadBlock(cid, Role::Leaf));
     }
-    match laid_over(alloc, block, size, offset, piece) {
-        Ok(bytes) => Ok(bytes),
-        Err(Memory) => Err(StoreFault::Memory),
-    }
+    Ok(laid_over(alloc, block, size, offset, piece)?)
 }
 
 // The first bytes of a block, filled with zeros up to so many, with a piece laid over them.

@@ -14,8 +14,9 @@ ghost use Rattle.uf_fileedit.specs.Bad.{IsBadEdited};
 ghost use Rattle.uf_fileedit.specs.Changes.{AreOld, IsBelow, IsOld, IsOldPart, old_blocks};
 ghost use Rattle.uf_fileedit.specs.Planned.{IsPlannedNode, SaysFileSize, are_planned as planned_of, role_at};
 ghost use Rattle.uf_fileedit.specs.Touches.{AreBelow, Climbs, old_size};
+ghost use Rattle.uf_fileedit.specs.Ways.{IsBadOld, StandBelow, StandsFirst};
 
-use crate::layout::are_planned;
+use crate::layout::{Layer, are_planned};
 use std::alloc::Global;
 use std::sync::ledger::Ledger;
 use uf_cid::{Codec, Memory, StrictFault};
@@ -23,11 +24,15 @@ use uf_fileread::read_parts;
 use uf_store::{Role, Steps, Store, StoreFault, need};
 use uf_tree::{Entry, Part, Parts, Profile};
 
-// Loads the parts, each of this height, of a node of a file. One touch.
+// How many nodes of a file may stand one above the other.
+const MOST_ROWS: u8 = 22;
+
+// Loads the parts, each of this height, of a node of a file of so many rows of nodes. One touch.
 pub fn load_parts<S: Store, L: Ledger>(
     alloc: Global,
     store: &mut S,
     p: &Profile,
+    rows: u8,
     height: u8,
     part: &Part,
     touches: &mut Steps<L>,
@@ -40,86 +45,93 @@ pub fn load_parts<S: Store, L: Ledger>(
         → Agrees (S.seen store.old).told (blocks_over S.X.block32 p.now.chunk p.now.width (height + 1) b)
         → IfOk result (λ parts. AreOld S.X.block32 p.now (span p.now.chunk p.now.width height) height parts
         (groups (span p.now.chunk p.now.width height) b)) }
-    ensures lost { (b : List ℕ) → IsOldPart S.X.block32 p.now (height + 1) part.now b
+    ensures lost { (b : List ℕ) → rows ≤ 22 → IsOldPart S.X.block32 p.now (height + 1) part.now b
         → Agrees (S.seen store.old).told (blocks_over S.X.block32 p.now.chunk p.now.width (height + 1) b)
         → Stood (S.seen store.old).faults (S.seen store.new).faults
         → IfErr result (IsLossOf (S.seen store.old).told (blocks_over S.X.block32 p.now.chunk p.now.width (height + 1)
         b)) }
-    ensures cause { Answers S.X.block32 (IsBadEdited p.now) result (S.seen store.old) (S.seen store.new) }
+    ensures cause { Answers S.X.block32 (IsBadOld S.X.block32 p.now (S.seen store.new).told rows (height + 1)
+        (Some part.now)) result (S.seen store.old) (S.seen store.new) }
+    ensures stand { IfOk result (StandBelow S.X.block32 p.now (S.seen store.old).told rows (height + 1)
+        (Some part.now) height) }
     ensures told { (S.seen store.new).told ≡ (S.seen store.old).told }
     ensures touches { touches.new ≡ touches.old + 1 }
 {
     let cid = part.entry.cid;
-    if let Err(fault) = need(store, &cid, touches) {
-        return Err(fault);
-    }
-    match read_planned(alloc, store.block(), p, height, part.size) {
+    need(store, &cid, touches)?;
+    match read_planned(alloc, store.block(), p, rows, height, part.size) {
         Ok(parts) => Ok(parts),
         Err(StrictFault::NotCanonical) => Err(StoreFault::BadBlock(cid, Role::FileNode)),
         Err(StrictFault::Memory) => Err(StoreFault::Memory),
     }
 }
 
-// The parts of a node over so many bytes.
+// The parts, each of this height, of a node over so many bytes, in a file of so many rows of nodes.
 fn read_planned(
     alloc: Global,
     bytes: &[u8],
     p: &Profile,
+    rows: u8,
     height: u8,
     size: u64,
 ) -> Result<Parts, StrictFault>
     requires profile { IsTrue (is_profile p.now) }
-    ensures { Reads (IsPlannedNode p.now height size) parts_block bytes.now result }
+    ensures { Reads (IsPlannedNode p.now rows height size) parts_block bytes.now result }
 {
-    match read_parts(alloc, bytes) {
-        Err(fault) => Err(fault),
-        Ok(parts) => {
-            if are_planned(p, height, size, parts.as_slice()) {
-                Ok(parts)
-            } else {
-                Err(StrictFault::NotCanonical)
-            }
-        }
+    let parts = read_parts(alloc, bytes)?;
+    let above = rows.saturating_sub(height);
+    if above <= MOST_ROWS && are_planned(p, height, size, parts.as_slice()) {
+        Ok(parts)
+    } else {
+        Err(StrictFault::NotCanonical)
     }
 }
 
-// The parts, each of this height, below an old part, or none where there is no old part. A part that is no higher itself is the
+// The parts of a layer below an old part, or none where there is no old part. A part that is no higher itself is the
 // only one. At most one touch.
 pub fn parts_below<S: Store, L: Ledger>(
     alloc: Global,
     store: &mut S,
-    p: &Profile,
-    top: u8,
-    height: u8,
+    layer: Layer,
     old: Option<Part>,
     touches: &mut Steps<L>,
 ) -> Result<Parts, StoreFault>
-    requires profile { IsTrue (is_profile p.now) }
-    ensures gives { (b : List ℕ) → IsOld S.X.block32 p.now (min top (height + 1)) old b
-        → Agrees (S.seen store.old).told (old_blocks S.X.block32 p.now (min top (height + 1)) old b)
-        → IfOk result (λ parts. IsBelow S.X.block32 p.now top height
-        (old_blocks S.X.block32 p.now (min top (height + 1)) old b) parts b) }
-    ensures lost { (b : List ℕ) → IsOld S.X.block32 p.now (min top (height + 1)) old b
-        → Agrees (S.seen store.old).told (old_blocks S.X.block32 p.now (min top (height + 1)) old b)
+    requires profile { IsTrue (is_profile layer.p) }
+    ensures gives { (b : List ℕ) → IsOld S.X.block32 layer.p (min layer.top (layer.height + 1)) old b
+        → Agrees (S.seen store.old).told (old_blocks S.X.block32 layer.p (min layer.top (layer.height + 1)) old b)
+        → IfOk result (λ parts. IsBelow S.X.block32 layer.p layer.top layer.height
+        (old_blocks S.X.block32 layer.p (min layer.top (layer.height + 1)) old b) parts b) }
+    ensures lost { (b : List ℕ) → layer.rows ≤ 22
+        → IsOld S.X.block32 layer.p (min layer.top (layer.height + 1)) old b
+        → Agrees (S.seen store.old).told (old_blocks S.X.block32 layer.p (min layer.top (layer.height + 1)) old b)
         → Stood (S.seen store.old).faults (S.seen store.new).faults
-        → IfErr result (IsLossOf (S.seen store.old).told (old_blocks S.X.block32 p.now (min top (height + 1)) old b)) }
-    ensures cause { Answers S.X.block32 (IsBadEdited p.now) result (S.seen store.old) (S.seen store.new) }
+        → IfErr result (IsLossOf (S.seen store.old).told
+        (old_blocks S.X.block32 layer.p (min layer.top (layer.height + 1)) old b)) }
+    ensures cause { Answers S.X.block32 (IsBadOld S.X.block32 layer.p (S.seen store.new).told layer.rows
+        (min layer.top (layer.height + 1)) old) result (S.seen store.old) (S.seen store.new) }
+    ensures stand { IfOk result (StandBelow S.X.block32 layer.p (S.seen store.old).told layer.rows
+        (min layer.top (layer.height + 1)) old (min layer.top layer.height)) }
     ensures told { (S.seen store.new).told ≡ (S.seen store.old).told }
-    ensures below { old_size old ≤ span p.now.chunk p.now.width (min top (height + 1))
-        → IfOk result (AreBelow (span p.now.chunk p.now.width height) old) }
+    ensures below { old_size old ≤ span layer.p.chunk layer.p.width (min layer.top (layer.height + 1))
+        → IfOk result (AreBelow (span layer.p.chunk layer.p.width layer.height) old) }
     ensures rises { Climbs result touches.old touches.new }
     ensures touches { touches.new ≤ touches.old + 1 }
 {
     match old {
         None => Ok(Parts::new(alloc)),
         Some(part) => {
-            if height < top {
-                load_parts(alloc, store, p, height, &part, touches)
+            if layer.height < layer.top {
+                load_parts(
+                    alloc,
+                    store,
+                    &layer.p,
+                    layer.rows,
+                    layer.height,
+                    &part,
+                    touches,
+                )
             } else {
-                match just(alloc, part) {
-                    Ok(parts) => Ok(parts),
-                    Err(Memory) => Err(StoreFault::Memory),
-                }
+                Ok(just(alloc, part)?)
             }
         }
     }
@@ -151,14 +163,14 @@ pub fn root_of<S: Store, L: Ledger>(
         → Agrees (S.seen store.old).told (file_plan S.X.block32 p.now b).blocks
         → Stood (S.seen store.old).faults (S.seen store.new).faults
         → IfErr result (IsLossOf (S.seen store.old).told (blocks_over S.X.block32 p.now.chunk p.now.width height b)) }
-    ensures cause { Answers S.X.block32 (IsBadEdited p.now) result (S.seen store.old) (S.seen store.new) }
+    ensures cause { Answers S.X.block32 (IsBadEdited S.X.block32 p.now (S.seen store.new).told entry.now.cid) result
+        (S.seen store.old) (S.seen store.new) }
+    ensures stand { IfOk result (StandsFirst S.X.block32 p.now (S.seen store.old).told entry.now.cid) }
     ensures told { (S.seen store.new).told ≡ (S.seen store.old).told }
     ensures touches { touches.new ≡ touches.old + 1 }
 {
     let cid = entry.cid;
-    if let Err(fault) = need(store, &cid, touches) {
-        return Err(fault);
-    }
+    need(store, &cid, touches)?;
     match root_size(alloc, store.block(), p, cid.codec) {
         Ok(size) => Ok(Part {
             entry: *entry,
@@ -181,17 +193,15 @@ fn root_size(alloc: Global, bytes: &[u8], p: &Profile, codec: Codec) -> Result<u
                 Err(StrictFault::NotCanonical)
             }
         }
-        Codec::DagPb => match read_parts(alloc, bytes) {
-            Err(fault) => Err(fault),
-            Ok(parts) => {
-                let size = size_over(parts.as_slice());
-                if size > u64::from(p.chunk) {
-                    Ok(size)
-                } else {
-                    Err(StrictFault::NotCanonical)
-                }
+        Codec::DagPb => {
+            let parts = read_parts(alloc, bytes)?;
+            let size = size_over(parts.as_slice());
+            if size > u64::from(p.chunk) {
+                Ok(size)
+            } else {
+                Err(StrictFault::NotCanonical)
             }
-        },
+        }
     }
 }
 

@@ -1,4 +1,4 @@
-// Worked rows: a file cut and filled, written into behind its end, and left alone.
+// Worked rows: a file cut and filled, written into behind its end, and left alone, and one of too many rows of nodes.
 ghost use Rattle.std.specs.Prelude.{◌≡◌, ◌<◌};
 
 use crate::tests::{Kept, Trouble, built, is_built, is_read, profile};
@@ -6,10 +6,10 @@ use crate::{truncate, write_at};
 use std::alloc::Global;
 use std::marker::Brand;
 use std::sync::ledger::{Blank, Ledger};
-use uf_build::BuildFault;
+use uf_build::{BuildFault, save_node};
 use uf_cid::Cid;
-use uf_store::Steps;
-use uf_tree::Entry;
+use uf_store::{Role, Steps, StoreFault};
+use uf_tree::{Entry, Part};
 
 // Whether an entry has the CID of this text.
 fn is_named(entry: &Entry, text: &str) -> bool {
@@ -19,7 +19,8 @@ fn is_named(entry: &Entry, text: &str) -> bool {
     }
 }
 
-// Three bytes in pieces of one, cut to two, to one and to none, filled to three zeros, and not filled to more than may be.
+// Three bytes in pieces of one, cut to two, to one and to none, filled to three zeros, and not filled to more than may
+// be.
 fn is_cut<L: Ledger>(alloc: Global, touches: &mut Steps<L>) -> Result<bool, Trouble> {
     let p = profile(1, 2);
     let mut store = Kept::new(alloc);
@@ -64,7 +65,47 @@ fn is_filled<L: Ledger>(alloc: Global, touches: &mut Steps<L>) -> Result<bool, T
     Ok(rows.iter().position(|right| !*right).is_none())
 }
 
-// Whether both are right.
+// The root of a file of zeros with so many rows of nodes, each over two of the row below.
+fn tall<L: Ledger>(
+    alloc: Global,
+    store: &mut Kept,
+    zero: Entry,
+    rows: u8,
+    touches: &mut Steps<L>,
+) -> Result<Entry, StoreFault> {
+    let mut part = Part {
+        entry: zero,
+        size: 1,
+    };
+    for _ in 0..rows {
+        part.size = part.size.min(1 << 40);
+        part = save_node(alloc, store, &[part, part], touches)?;
+    }
+    Ok(part.entry)
+}
+
+// Whether a block is blamed as a node of a file.
+fn is_blamed(answer: Result<Entry, BuildFault>, node: &Entry) -> bool {
+    match answer {
+        Err(BuildFault::Store(StoreFault::BadBlock(cid, Role::FileNode))) => cid == node.cid,
+        _ => false,
+    }
+}
+
+// Zeros under 22 rows of nodes are cut to one, and under 23 rows the lowest node is a bad block.
+fn is_shallow<L: Ledger>(alloc: Global, touches: &mut Steps<L>) -> Result<bool, Trouble> {
+    let p = profile(1, 2);
+    let mut store = Kept::new(alloc);
+    let zero = built(p, alloc, &mut store, &[0], touches)?;
+    let node = tall(alloc, &mut store, zero, 1, touches)?;
+    let few = tall(alloc, &mut store, zero, 22, touches)?;
+    let many = tall(alloc, &mut store, zero, 23, touches)?;
+    let cut = truncate(alloc, &mut store, &p, &few, 1, touches)?;
+    let deep = truncate(alloc, &mut store, &p, &many, 1, touches);
+    Ok(cut == zero && is_blamed(deep, &node))
+}
+
+// Whether all are right.
 fn are_right<L: Ledger>(alloc: Global, blank: Blank) -> bool
     requires name { blank.name ≡ L.name }
     requires parts { blank.parts ≡ L.parts }
@@ -73,7 +114,8 @@ fn are_right<L: Ledger>(alloc: Global, blank: Blank) -> bool
     let mut touches = Steps::<L>::new(blank);
     let cut = is_cut(alloc, &mut touches);
     let filled = is_filled(alloc, &mut touches);
-    matches!(cut, Ok(true)) && matches!(filled, Ok(true))
+    let shallow = is_shallow(alloc, &mut touches);
+    matches!(cut, Ok(true)) && matches!(filled, Ok(true)) && matches!(shallow, Ok(true))
 }
 
 fn rows_are_right(alloc: Global) -> bool {

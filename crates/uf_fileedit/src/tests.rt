@@ -1,4 +1,5 @@
-// Edits tried against a plain model: after each the entry is that of the new bytes imported afresh, and the file reads as them.
+// Edits tried against a plain model: after each the entry is that of the new bytes imported afresh, and the file reads
+// as them.
 ghost use Rattle.std.specs.Prelude.{◌≡◌, ◌<◌, IsTrue};
 ghost use Rattle.uf_tree.specs.Profiles.{is_profile};
 
@@ -10,7 +11,7 @@ use uf_build::{BuildFault, Builder};
 use uf_cid::{Memory, Seq, Sha256Hash};
 use uf_edge::MemSink;
 use uf_fileread::read_range;
-use uf_store::{MemStore, Steps};
+use uf_store::{MemStore, Steps, StoreFault};
 use uf_tree::{Entry, Profile};
 
 pub type Kept = MemStore<Sha256Hash>;
@@ -28,6 +29,12 @@ pub enum Trouble {
 impl From<BuildFault> for Trouble {
     fn from(fault: BuildFault) -> Trouble {
         Trouble::Build(fault)
+    }
+}
+
+impl From<StoreFault> for Trouble {
+    fn from(fault: StoreFault) -> Trouble {
+        Trouble::Build(BuildFault::Store(fault))
     }
 }
 
@@ -49,7 +56,7 @@ pub fn profile(chunk: u32, width: u32) -> Profile
 }
 
 // Numbers that look like chance (xorshift).
-fn next(seed: u64) -> u64 {
+pub fn next(seed: u64) -> u64 {
     let a = seed ^ (seed << 13);
     let b = a ^ (a >> 7);
     b ^ (b << 17)

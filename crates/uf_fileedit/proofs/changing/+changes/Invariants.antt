@@ -29,7 +29,7 @@ decreases-change_parts-parts g l = l.left
 
 abbrev pub invariant-change_parts-parts : goal.invariant-change_parts-parts
 invariant-change_parts-parts g l = record {
-  gives : (gs : List (List ℕ)) → AreOld g.S.X.BlockHash.block32 l.layer.p (span l.layer.p.chunk l.layer.p.width l.layer.height) (min l.layer.top l.layer.height) l.olds gs
+  gives : IsBlank g.S.X.BlockHash.block32 l.layer.p (g.S.Store.seen l.initial.store).told 0 l.layer.zeros → (gs : List (List ℕ)) → AreOld g.S.X.BlockHash.block32 l.layer.p (span l.layer.p.chunk l.layer.p.width l.layer.height) (min l.layer.top l.layer.height) l.olds gs
       → Agrees (g.S.Store.seen l.initial.store).told (blocks_of_all g.S.X.BlockHash.block32 l.layer.p (min l.layer.top l.layer.height) gs)
       → Agrees (g.S.Store.seen l.store).told (blocks_of_all g.S.X.BlockHash.block32 l.layer.p (min l.layer.top l.layer.height) gs)
       → Progress g.S.X.BlockHash.block32 l.layer.p (span l.layer.p.chunk l.layer.p.width l.layer.height) (min l.layer.top l.layer.height) l.layer.height gs l.fn.target.size l.fn.target.offset l.piece (g.S.Store.seen l.store).told l.news l.left l.at l.place l.rest

@@ -1,8 +1,8 @@
 use Rattle.std.proofs.lemmas.Result.{err_from_is_err_and}
-use Rattle.std.proofs.Common.{length, List, ℕ}
-use Rattle.uf_fileedit.specs.Edits.{cut_to, laid}
-use Rattle.uf_fileedit.proofs.Bytes.{changed-cut, changed-laid}
-use Rattle.uf_fileedit.proofs.Files.{agreed-held, answer-after, answer-entry, answer-held, answer-lost, some_bytes}
+use Rattle.std.proofs.Common.{length}
+use Rattle.uf_fileedit.specs.Edits.{cut_to}
+use Rattle.uf_fileedit.proofs.Bytes.{changed-cut}
+use Rattle.uf_fileedit.proofs.Files.{agreed-held, answer-after, answer-entry, answer-held, answer-lost}
 use Rattle.uf_tree.proofs.Told.{kept}
 use Rattle.uf_fileedit.proofs.Touching.{cut-costs}
 use Rattle.uf_fileedit.proofs.editing.truncate.Goals as goal

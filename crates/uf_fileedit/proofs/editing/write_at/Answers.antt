@@ -1,6 +1,6 @@
 use Rattle.std.proofs.lemmas.Result.{err_from_is_err_and}
 use Rattle.std.proofs.Common.{length, List, ℕ, ◌+◌, ◌∙◌, ap, max, refl, sym, subst}
-use Rattle.uf_fileedit.specs.Edits.{cut_to, laid}
+use Rattle.uf_fileedit.specs.Edits.{laid}
 use Rattle.uf_fileedit.proofs.Bytes.{changed-laid, length-changed}
 use Rattle.uf_fileedit.proofs.Files.{agreed-held, answer-after, answer-entry, answer-held, answer-lost, nothing-after, some_bytes}
 use Rattle.uf_tree.specs.FileSub.{IsHeight}

@@ -1,7 +1,7 @@
 use Rattle.std.proofs.Common.{◌∙◌, sym, subst}
 use Rattle.uf_store.specs.Contents.{Told}
 use Rattle.uf_store.specs.Keeping.{Agrees}
-use Rattle.uf_fileedit.specs.Bad.{IsBadEdited}
+use Rattle.uf_fileedit.specs.Ways.{IsBadOld}
 use Rattle.uf_fileedit.specs.Changes.{overlaid, old_blocks}
 use Rattle.uf_fileedit.proofs.Steps.{leaf-saved, saved-lost, saved-shows}
 use Rattle.std.proofs.Common.{arith}
@@ -12,14 +12,14 @@ pub returns-clause-gives : goal.returns-clause-gives
 returns-clause-gives g c = λ p b is before now.
     leaf-saved g.S.X.BlockHash.block32 p (g.S.Store.seen c.save_leaf.new.store).told (old_blocks g.S.X.BlockHash.block32 p 0 c.args.old b) c.as_slice.result.now (overlaid c.args.size b c.args.offset c.args.piece.now) c.save_leaf.result
     c.save_leaf.ensures.part c.save_leaf.ensures.held
-    (c.as_slice.ensures.value ∙ c.in-Ok.ensures.bytes p b is before (subst (λ (t : Told). Agrees t (old_blocks g.S.X.BlockHash.block32 p 0 c.args.old b)) (sym c.in-Ok.ensures.told) before))
+    (c.as_slice.ensures.value ∙ c.in_ok-bytes.ensures.bytes p b is before (subst (λ (t : Told). Agrees t (old_blocks g.S.X.BlockHash.block32 p 0 c.args.old b)) (sym c.in_ok-bytes.ensures.told) before))
 
 pub returns-clause-lost : goal.returns-clause-lost
 returns-clause-lost g c = λ p b is before now stood clash.
-    saved-lost g.S.X.BlockHash.block32 (g.S.Store.seen c.args.store.now) (g.S.Store.seen c.leaf_bytes.new.store) (g.S.Store.seen c.save_leaf.new.store) (c.in-Ok.ensures.cause p) (old_blocks g.S.X.BlockHash.block32 p 0 c.args.old b) c.save_leaf.result c.save_leaf.ensures.cause c.save_leaf.ensures.fault stood clash
+    saved-lost g.S.X.BlockHash.block32 (g.S.Store.seen c.args.store.now) (g.S.Store.seen c.leaf_bytes.new.store) (g.S.Store.seen c.save_leaf.new.store) (c.in_ok-bytes.ensures.cause p 0) (old_blocks g.S.X.BlockHash.block32 p 0 c.args.old b) c.save_leaf.result c.save_leaf.ensures.cause c.save_leaf.ensures.fault stood clash
 
 pub returns-clause-cause : goal.returns-clause-cause
-returns-clause-cause g c = λ p. saved-shows g.S.X.BlockHash.block32 (g.S.Store.seen c.args.store.now) (g.S.Store.seen c.leaf_bytes.new.store) (g.S.Store.seen c.save_leaf.new.store) (c.in-Ok.ensures.cause p) (IsBadEdited p) c.save_leaf.result c.save_leaf.ensures.cause
+returns-clause-cause g c = λ p rows. saved-shows g.S.X.BlockHash.block32 (g.S.Store.seen c.args.store.now) (g.S.Store.seen c.leaf_bytes.new.store) (g.S.Store.seen c.save_leaf.new.store) (c.in_ok-bytes.ensures.cause p rows) (IsBadOld g.S.X.BlockHash.block32 p (g.S.Store.seen c.save_leaf.new.store).told rows 0 c.args.old) c.save_leaf.result c.save_leaf.ensures.cause
 
 pub returns-clause-rises : goal.returns-clause-rises
-returns-clause-rises g c = climbs-one c.save_leaf.result c.args.touches.now c.save_leaf.new.touches (let r = c.in-Ok.ensures.rises in let t = c.save_leaf.ensures.touches in omega arith)
+returns-clause-rises g c = climbs-one c.save_leaf.result c.args.touches.now c.save_leaf.new.touches (let r = c.in_ok-bytes.ensures.rises in let t = c.save_leaf.ensures.touches in omega arith)

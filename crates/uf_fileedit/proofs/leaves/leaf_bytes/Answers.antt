@@ -1,5 +1,4 @@
-use Rattle.std.proofs.Common.{ap, ◌∙◌, sym, subst, ℕ, List, [], Option, Some, None, arith, length, ◌≤◌}
-use Rattle.uf_tree.specs.declared.nodes.Part.{Part}
+use Rattle.std.proofs.Common.{ap, ◌∙◌, sym, ℕ, List, [], arith}
 use Rattle.uf_fileedit.specs.Changes.{overlaid}
 use Rattle.uf_fileedit.proofs.Bytes.{changed-covered}
 use Rattle.uf_fileedit.proofs.Steps.{nothing-old, old-agrees, old-loss, old-part}
@@ -16,8 +15,8 @@ returns-in-Some-clause-lost g c = λ p b is before now stood. old-loss g.S.X.Blo
     (c.over_block.ensures.lost p b (old-part g.S.X.BlockHash.block32 p (g.S.Store.seen c.args.store.now).told c.args.old c.in-Some.part b c.in-Some.is is)
     (old-agrees g.S.X.BlockHash.block32 p (g.S.Store.seen c.args.store.now).told c.args.old c.in-Some.part b c.in-Some.is before) (old-agrees g.S.X.BlockHash.block32 p (g.S.Store.seen c.over_block.new.store).told c.args.old c.in-Some.part b c.in-Some.is now) stood)
 
-pub returns-in-Ok-clause-bytes : goal.returns-in-Ok-clause-bytes
-returns-in-Ok-clause-bytes g c = λ p b is before now. c.in-Ok.ensures.bytes ∙ elim c.in_default.branch [
+pub returns-in_ok-laid_over-in_default-clause-bytes : goal.returns-in_ok-laid_over-in_default-clause-bytes
+returns-in_ok-laid_over-in_default-clause-bytes g c = λ p b is before now. c.in_ok-laid_over-in_default.ensures.bytes ∙ elim c.in_default.branch [
   | in_default-via-in-Some+else-piece-size w ↦ changed-covered c.args.size [] b c.args.offset c.args.piece.now w.if-piece-size.false c.requires.within
   | in_default-via-in_default w ↦ ap (λ (l : List ℕ). overlaid c.args.size l c.args.offset c.args.piece.now) (sym (nothing-old g.S.X.BlockHash.block32 p (g.S.Store.seen c.args.store.now).told c.args.old b w.in_default.not-Some is))
 ]
