@@ -7,7 +7,7 @@ use Rattle.uf_cid.specs.Blocks as blocks
 use Rattle.uf_store.specs.declared.store.StoreFault.{StoreFault}
 use Rattle.uf_store.specs.declared.store.StoreFault.TheVariants.{Failed, Damaged, Missing, BadBlock, Clash, Memory}
 use Rattle.uf_store.specs.Contents.{Contents, Told, held_at}
-use Rattle.uf_store.specs.Keeping.{Agrees, AreGood, KeepsGood, StaysAgreed}
+use Rattle.uf_store.specs.Keeping.{AreGood, KeepsGood, StaysAgreed}
 use Rattle.uf_store.specs.Lost.{AgreesAfter, IsLossOf, IsLost, IsLostBlock, LosesBlock}
 use Rattle.uf_store.specs.Writing.{SavesOnly}
 use Rattle.uf_store.specs.Writing.{IsSave}
@@ -73,10 +73,6 @@ pub after-held : (a b : Told) (old l : List Held) → TellsHeld b l → AgreesAf
 after-held a None old l h = absurd h
 after-held a (Some u) old l h = (tells-agrees (Some u) l h, each _ _ (λ x held gone. absurd (let e : None ≡ Some x.1 = sym gone ∙ held in cc)) l h)
 
-pub after-agrees : (a b : Told) (old l : List Held) → AgreesAfter a b old l → Agrees b l
-after-agrees a None old l h = absurd h
-after-agrees a (Some u) old l h = h.0
-
 -- a block that is lost after calls was lost before, or is one of the old blocks
 pub loss-after : (a c : Told) (old mid : List Held) (f : StoreFault) → AgreesAfter a c old mid → IsLossOf c mid f → IsLossOf a old f
 loss-after a c old mid Failed h x = absurd x
@@ -138,9 +134,6 @@ module _ (hash : List ℕ → List ℕ) where
   pub stays-first : (a b c : Told) (l : List Held) → SavesOnly hash a b → SavesOnly hash b c → StaysAgreed a c l → StaysAgreed a b l
   stays-first a b c l p q h = record { first = h.first; last = agrees-between hash IsSave a b c l p q h }
 
-  pub stays-then : (a b c : Told) (l : List Held) → SavesOnly hash a b → SavesOnly hash b c → StaysAgreed a c l → StaysAgreed b c l
-  stays-then a b c l p q h = record { first = agrees-between hash IsSave a b c l p q h; last = h.last }
-
 pub stays-some : (a b : Told) (k l : List Held) → Among k l → StaysAgreed a b l → StaysAgreed a b k
 stays-some a b k l more h = record { first = agrees-among a l k more h.first; last = agrees-among b l k more h.last }
 
@@ -149,9 +142,6 @@ front-among k l P h = front P k l h
 
 pub back-among : (k l : List Held) → Among l (k ++ l)
 back-among k l P h = back P k l h
-
-pub both-among : (k l m : List Held) → Among k m → Among l m → Among (k ++ l) m
-both-among k l m p q P h = append P k l (p P h) (q P h)
 
 pub among-then : (k l m : List Held) → Among k l → Among l m → Among k m
 among-then k l m p q P h = p P (q P h)

@@ -1,23 +1,14 @@
 -- What calls that read a tree answer.
-use Rattle.std.proofs.Common.{◌≡◌, ◌≢◌, ℕ, ◌<◌, ◌≤◌, ◌^◌, List, [], ◌∷◌, length, map, replicate, refl, ap, sym, ◌∙◌, subst, arith, true, Some, None, Result, Ok, Err, ◌⊎◌, inl, inr, ◌+◌}
-use Rattle.std.specs.Prelude.{IfSome}
-use Rattle.uf_cid.specs.Blocks.{Held}
-use Rattle.uf_cid.specs.declared.cid.Cid.{Cid}
-use Rattle.uf_dagpb.specs.Reading.{Fails, node_reads}
-use Rattle.uf_dagpb.specs.declared.fault.PbFault.TheVariants as pb
-use Rattle.uf_dagpb.specs.declared.fault.PbFault.{PbFault}
-use Rattle.uf_edge.specs.Counts.{Stood}
+use Rattle.std.proofs.Common.{◌≡◌, ℕ, ◌<◌, ◌≤◌, ◌^◌, List, [], ◌∷◌, length, map, replicate, refl, ap, sym, ◌∙◌, subst, None, Result, Err, inl, inr, ◌+◌}
 use Rattle.uf_store.specs.declared.store.Role.{Role}
 use Rattle.uf_store.specs.declared.store.Role.TheVariants.{Directory, Shard, FileNode, Leaf}
 use Rattle.uf_store.specs.declared.store.StoreFault.{StoreFault}
-use Rattle.uf_store.specs.declared.store.StoreFault.TheVariants.{Failed, Damaged, Missing, BadBlock, Clash, Memory}
-use Rattle.uf_store.specs.Clashes.{IsLoadFault}
-use Rattle.uf_store.specs.Contents.{Told, held_at}
-use Rattle.uf_store.specs.Faults.{NoneIsBad, Shown, Shows, StaysCalm}
-use Rattle.uf_store.specs.Keeping.{Agrees, HoldsOne}
-use Rattle.uf_store.specs.Lost.{IsLossOf, ReadsOver}
-use Rattle.uf_plain.specs.Needs.{own_needs, root_of}
-use Rattle.uf_store.specs.Seen.{Finds, Seen}
+use Rattle.uf_store.specs.Contents.{Told}
+use Rattle.uf_store.specs.Faults.{Shown, Shows}
+use Rattle.uf_store.specs.Keeping.{Agrees}
+use Rattle.uf_store.specs.Lost.{ReadsOver}
+use Rattle.uf_plain.specs.Needs.{own_needs}
+use Rattle.uf_store.specs.Seen.{Seen}
 use Rattle.uf_tree.specs.declared.nodes.Entry.{Entry}
 use Rattle.uf_tree.specs.declared.profile.Profile.{Profile}
 use Rattle.uf_tree.specs.DirPlan.{own_plan}
@@ -38,11 +29,9 @@ use Rattle.uf_mfs.specs.Answers.{stop_of}
 use Rattle.uf_mfs.specs.Bad.{IsBad}
 use Rattle.uf_mfs.specs.Steps.{stop_fault}
 use Rattle.uf_mfs.specs.Standing.{IsAgreed}
-use Rattle.uf_store.proofs.Causes.{calm-rises}
 use Rattle.uf_store.proofs.Causes.{Shows-by}
 use Rattle.uf_mfs.proofs.Agreed.{own-agrees}
 use Rattle.uf_mfs.proofs.Planning.{planned-of}
-use Rattle.uf_mfs.proofs.Rooting.{IsRead, directory-read, root-block-of, root-loss}
 
 length-replicate : (n : ℕ) → length {A = ℕ} (replicate n 0) ≡ n
 length-replicate ℕ.zero = refl
@@ -106,47 +95,3 @@ map-names X N p (m ∷ l) = ap (λ k. m.0 ∷ k) (map-names X N p l)
 
 pub names-listed : (X : List ℕ → List ℕ) (N : List ℕ → ℕ) (p : Profile) (es : Entries) (l : List Named) (names : List (List ℕ)) → l ≡ named_entries X N p es → names ≡ map (λ (m : Named). m.0) l → names ≡ map (λ (m : List ℕ × Tree). m.0) (pairs es)
 names-listed X N p es l names is h = h ∙ ap (map (λ (m : Named). m.0)) is ∙ map-names X N p (pairs es)
-
--- ---- the root block
-
--- a block that isn't read as a node is no directory's
-unread-bad : (N : List ℕ → ℕ) (bytes : List ℕ) (f : PbFault) → length bytes ≤ 2097152 → node_reads bytes ≡ Err f → IsBad N None Directory bytes
-unread-bad N bytes f size unread = λ c. clash (directory-read None true bytes c (omega (arith, size)))
-  where
-    clash : IsRead bytes → ⊥
-    clash r = (let e : Ok r.0 ≡ Err f = sym r.1 ∙ unread in cc)
-
--- a load under the CID of a tree fails for want of its root block, or of memory
-pub need-fault : (X : List ℕ → List ℕ) (N : List ℕ → ℕ) → IsHash X → (p : Profile) (e : Entry) (t : Tree) (f : StoreFault) (a b : Seen) → IsAgreed X N a.told p e t → Stood a.faults b.faults
-    → b.told ≡ a.told → IsLoadFault e.cid f → Shows X NoneIsBad f a b → IsLossOf a.told (root_of X N p t) f
-need-fault X N hash p e t Failed a b s stood same load h = absurd (omega (arith, stood, h.rose))
-need-fault X N hash p e t (Damaged c) a b s stood same load h = absurd (omega (arith, stood, h.rose))
-need-fault X N hash p e t (Missing c) a b s stood same load h =
-    let r = root-block-of X N hash p e t s.plan in
-    let under : e.cid ≡ r.0.0 = ap (λ (e : Entry). e.cid) s.plan.is ∙ sym r.1.cid in
-    root-loss X N hash a.told p e t r.0 (Missing c) s.plan r.1.cid (by r.0 a.told (load ∙ under) (subst (λ told. IfSome told (λ u. held_at u c ≡ None)) same h.not_held))
-  where
-    by : (root : Held) (told : Told) → c ≡ root.0 → IfSome told (λ u. held_at u c ≡ None) → IsLossOf told (root ∷ []) (Missing c)
-    by root None is lost = tt
-    by root (Some u) is lost = inl (is, ap (held_at u) (sym is) ∙ lost)
-need-fault X N hash p e t (BadBlock c role) a b s stood same load h = absurd load
-need-fault X N hash p e t (Clash c held bytes) a b s stood same load h = absurd load
-need-fault X N hash p e t Memory a b s stood same load h = tt
-
-pub unread-says : (lent : List ℕ) (cid : Cid) (f : StoreFault) (fault : PbFault) → (f ≡ Memory) ⊎ ((fault ≢ pb.Memory) × (f ≡ BadBlock cid Directory)) → Fails fault (node_reads lent) → IsRead lent → f ≡ Memory
-unread-says lent cid f fault (inl is) why read = is
-unread-says lent cid f fault (inr bad) (inl none) read = absurd (bad.0 none)
-unread-says lent cid f fault (inr bad) (inr unread) read = absurd (let e : Ok read.0 ≡ Err fault = sym read.1 ∙ unread in cc)
-
-pub unread-shows : (X : List ℕ → List ℕ) (N : List ℕ → ℕ) (cid : Cid) (f : StoreFault) (fault : PbFault) (a b : Seen)
-    → (f ≡ Memory) ⊎ ((fault ≢ pb.Memory) × (f ≡ BadBlock cid Directory)) → Fails fault (node_reads b.lent) → Finds X cid a b → StaysCalm a b → Shows X (IsBad N None) f a b
-unread-shows X N cid f fault a b (inl is) why finds calm = subst (λ f. Shows X (IsBad N None) f a b) (sym is) (calm-rises a b calm)
-unread-shows X N cid f fault a b (inr bad) (inl none) finds calm = absurd (bad.0 none)
-unread-shows X N cid f fault a b (inr bad) (inr unread) finds calm =
-    subst (λ f. Shows X (IsBad N None) f a b) (sym bad.1) (record {
-      rose = omega (arith, finds.counted.finds.rose refl);
-      digest = finds.digest;
-      is_held = subst (λ told. HoldsOne told cid b.lent) (sym finds.same_told) finds.is_held;
-      bad = unread-bad N b.lent fault finds.size unread;
-      calm = calm;
-    })

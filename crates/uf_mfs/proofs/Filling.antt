@@ -11,7 +11,6 @@ use Rattle.uf_tree.specs.declared.profile.Profile.{Profile}
 use Rattle.uf_tree.specs.Tree.{Tree, File, Dir, Entries}
 use Rattle.uf_plain.specs.declared.rule.Refused.{Refused}
 use Rattle.uf_plain.specs.declared.rule.Refused.TheVariants as why
-use Rattle.uf_mfs.specs.declared.thing.Thing.TheVariants.{Folder as FolderAt}
 use Rattle.uf_store.specs.Calls.{OnlySaves}
 use Rattle.uf_tree.specs.TreePlan.{blocks}
 use Rattle.uf_plain.specs.Edits.{and_then, at, child, or_new, with_folder}
@@ -59,11 +58,6 @@ module _ (X : List ℕ → List ℕ) (N : List ℕ → ℕ) (p : Profile) where
 
   pub opened-new : (told : Told) (o : Option Tree) (found : Entry × Bool) → o ≡ None → found.1 ≡ true → IsOpened X N told p o found
   opened-new told o found none is = subst (λ o. IsOpened X N told p o found) (sym none) is
-
-  pub opened-there : (told : Told) (o : Option Tree) (found : Entry × Bool) → found.1 ≡ false → IsAgreedMember X N told p o (Some (FolderAt found.0)) → IsOpened X N told p o found
-  opened-there told None found is h = absurd h
-  opened-there told (Some (File bytes)) found is h = absurd h
-  opened-there told (Some (Dir fs)) found is h = (is, h)
 
   old-folder : (told : Told) (o : Option Tree) (found : Entry × Bool) → found.1 ≡ false → IsOpened X N told p o found → (fs : Entries) × (o ≡ Some (Dir fs)) × IsAgreed X N told p found.0 (Dir fs)
   old-folder told None found is h = absurd (let clash : true ≡ false = sym h ∙ is in cc)

@@ -72,14 +72,14 @@ module _ (X : List ℕ → List ℕ) (N : List ℕ → ℕ) (p : Profile) where
       by es o (Some (File bytes)) is h = absurd h
       by es o (Some (Dir fs)) is h = child-over folder e es fs name saved o is h.plan
 
-  pub opened-folder : {a b : Seen} {Bad : Role → List ℕ → Type 0} {fault : Option StoreFault} (led : ℕ) (folder e : Entry) (name : List ℕ) (es : Entries) → OnlySaves X Bad fault a b → IsFolderOver X N p a b [] folder es
-      → IsAgreedMember X N a.told p (child name es) (Some (FolderAt e)) → EditsAfter X N a.told b.told (blocks X N p (Dir es)) p (or_new led (child name es)) (Ok e)
-  opened-folder {a} {b} led folder e name es saved o found = by (child name es) refl found
+  pub opened-folder : {a b : Seen} {Bad : Role → List ℕ → Type 0} {fault : Option StoreFault} (led : ℕ) (folder e : Entry) (links : Option ℕ) (name : List ℕ) (es : Entries) → OnlySaves X Bad fault a b → IsFolderOver X N p a b [] folder es
+      → IsAgreedMember X N a.told p (child name es) (Some (FolderAt e links)) → EditsAfter X N a.told b.told (blocks X N p (Dir es)) p (or_new led (child name es)) (Ok e)
+  opened-folder {a} {b} led folder e links name es saved o found = by (child name es) refl found
     where
-      by : (m : Option Tree) → child name es ≡ m → IsAgreedMember X N a.told p m (Some (FolderAt e)) → EditsAfter X N a.told b.told (blocks X N p (Dir es)) p (or_new led m) (Ok e)
+      by : (m : Option Tree) → child name es ≡ m → IsAgreedMember X N a.told p m (Some (FolderAt e links)) → EditsAfter X N a.told b.told (blocks X N p (Dir es)) p (or_new led m) (Ok e)
       by None is h = absurd h
       by (Some (File bytes)) is h = absurd h
-      by (Some (Dir fs)) is h = child-over folder e es fs name saved o is h.plan
+      by (Some (Dir fs)) is h = child-over folder e es fs name saved o is h.0.plan
 
   pub opened-new : (a b : Told) (old : List Held) (led : ℕ) (o : Option Tree) (new : Entry) → IsAgreedMember X N a p o None → IsAfter X N a b old p new (Dir Nothing)
       → EditsAfter X N a b old p (or_new led o) (Ok new)

@@ -1,5 +1,5 @@
 -- An entry by one load: what it is, and what its root block says of it.
-use Rattle.std.proofs.Common.{◌≡◌, ℕ, zero, suc, ◌<◌, ◌^◌, List, [], ◌∷◌, length, sum, refl, ap, sym, ◌∙◌, subst, arith, Some, None, Result, Ok, Err}
+use Rattle.std.proofs.Common.{◌≡◌, ℕ, zero, suc, ◌<◌, ◌^◌, List, [], ◌∷◌, length, sum, refl, ap, sym, ◌∙◌, subst, arith, false, true, Some, None, Result, Ok, Err}
 use Rattle.std.specs.Prelude.{IsTrue}
 use Rattle.uf_cid.specs.Blocks.{Held}
 use Rattle.uf_cid.specs.declared.cid.Cid.{Cid}
@@ -33,7 +33,7 @@ use Rattle.uf_fileread.proofs.Rooted as rooted
 use Rattle.uf_dir.specs.declared.kind.Kind.{Kind}
 use Rattle.uf_dir.specs.declared.kind.Kind.TheVariants as kinds
 use Rattle.uf_dir.specs.Planned.{IsPlanned, root_links}
-use Rattle.uf_plain.specs.Replies.{children}
+use Rattle.uf_plain.specs.Replies.{children, stat_of}
 use Rattle.uf_mfs.specs.declared.thing.Thing.TheVariants.{File as FileAt, Folder as FolderAt}
 use Rattle.uf_plain.specs.Needs.{root_of}
 use Rattle.uf_mfs.specs.Standing.{IsAgreed, IsAgreedThing}
@@ -41,6 +41,7 @@ use Rattle.uf_mfs.proofs.Files as files
 use Rattle.uf_mfs.proofs.Holding.{agrees-among, finds-reads}
 use Rattle.uf_plain.proofs.Plans.{entry-is}
 use Rattle.uf_mfs.proofs.Agreed.{own-among}
+use Rattle.uf_mfs.proofs.Children.{links-of-folder}
 use Rattle.uf_mfs.proofs.Planning.{planned-of, root-among}
 use Rattle.uf_mfs.proofs.Rooting.{children-node, children-raw, dir-cid, root-loss}
 use Rattle.uf_mfs.proofs.Seeing.{root-codec}
@@ -78,7 +79,7 @@ module _ (X : List ℕ → List ℕ) (N : List ℕ → ℕ) (hash : IsHash X) (p
 
   -- what an entry is, or that its root block is lost
   abbrev pub IsKind : Told → Entry → Tree → Result Kind StoreFault → Type 0
-  IsKind told e t (Ok (kinds.Folder links)) = IsAgreedThing X N told p t (FolderAt e)
+  IsKind told e t (Ok (kinds.Folder links)) = IsAgreedThing X N told p t (FolderAt e (Some links))
   IsKind told e t (Ok (kinds.File size)) = IsAgreedThing X N told p t (FileAt e size)
   IsKind told e t (Err fault) = IsLossOf told (root_of X N p t) fault
 
@@ -99,9 +100,24 @@ module _ (X : List ℕ → List ℕ) (N : List ℕ → ℕ) (hash : IsHash X) (p
       (finds-reads {A = Kind} told (files.root X N p e bytes s.plan ∷ []) (kinds.File (record { length = length bytes; links = links_of p (files.is-file-root X N p e bytes s.plan).height bytes })) (Err f) h)
 
   dir-kind : (told : Told) (e : Entry) (es : Entries) → IsAgreed X N told p e (Dir es) → (r : Result Kind StoreFault) → FindsOver told (dir_root X N p (named_entries X N p es) ∷ []) (kinds.Folder (root_links X N p (named_entries X N p es))) r → IsKind told e (Dir es) r
-  dir-kind told e es s (Ok k) h = subst (λ (k : Kind). IsKind told e (Dir es) (Ok k)) (sym h.0) s
+  dir-kind told e es s (Ok k) h = subst (λ (k : Kind). IsKind told e (Dir es) (Ok k)) (sym h.0) (s, links-of-folder X N hash p told e es s h.1)
   dir-kind told e es s (Err f) h =
       root-loss X N hash told p e (Dir es) (dir_root X N p (named_entries X N p es)) f s.plan (dir-cid X N hash p (named_entries X N p es) ∙ ap (λ (e : Entry). e.cid) (sym (entry-is X N p es))) (finds-reads {A = Kind} told (dir_root X N p (named_entries X N p es) ∷ []) (kinds.Folder (root_links X N p (named_entries X N p es))) (Err f) h)
+
+  -- what is said of a file and of a folder by its kind
+  pub file-stat-is : (told : Told) (e : Entry) (t : Tree) (size : FileSize) → IsKind told e t (Ok (kinds.File size))
+      → record { cid = e.cid; size = size.length; cumulative = e.tsize; children = size.links; is_folder = false } ≡ stat_of X N p t
+  file-stat-is told e (File bytes) size h =
+      let entry = h.0.plan.is in let same = h.1 in
+      λ i. record { cid = (entry i).cid; size = (same i).length; cumulative = (entry i).tsize; children = (same i).links; is_folder = false }
+  file-stat-is told e (Dir es) size h = absurd h
+
+  pub folder-stat-is : (told : Told) (e : Entry) (t : Tree) (links : ℕ) → IsKind told e t (Ok (kinds.Folder links))
+      → record { cid = e.cid; size = 0; cumulative = e.tsize; children = links; is_folder = true } ≡ stat_of X N p t
+  folder-stat-is told e (File bytes) links h = absurd h
+  folder-stat-is told e (Dir es) links h =
+      let entry = h.0.plan.is in let same = h.1 in
+      λ i. record { cid = (entry i).cid; size = 0; cumulative = (entry i).tsize; children = same i; is_folder = true }
 
   -- what the directory layer says of an entry
   pub kind-says : ((name : List ℕ) → N name < 2 ^ 64) → (told : Told) (e : Entry) (t : Tree) (r : Result Kind StoreFault) → IsAgreed X N told p e t

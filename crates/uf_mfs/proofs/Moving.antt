@@ -23,7 +23,7 @@ use Rattle.uf_tree.specs.TreePlan.{Refusal, blocks, dir_refusal, entry, first_re
 use Rattle.uf_tree.specs.Validity.{IsHash}
 use Rattle.uf_tree.proofs.TreeLaws.{pairs-entries, named_entries-with, named_entries-without}
 use Rattle.uf_sizes.proofs.Removed.{removed-plan}
-use Rattle.uf_dir.specs.Bounds.{crossing, shard_count, weighing}
+use Rattle.uf_dir.specs.Bounds.{crossing, weighing_from}
 use Rattle.uf_dir.specs.Planned.{IsPlanned, dir_entry, entry_without, own_blocks}
 use Rattle.uf_plain.specs.declared.rule.Refused.{Refused}
 use Rattle.uf_plain.proofs.Edited.{tree-with, tree-without}
@@ -65,7 +65,7 @@ module _ (X : List ℕ → List ℕ) (N : List ℕ → ℕ) (p : Profile) where
   own-without folder es name s = subst (Each (Own X N p)) (sym (pairs-entries (without name (pairs es)))) (each-where (Own X N p) _ (pairs es) (members-own X N p folder es s))
 
   -- what refuses a member refuses the folder with it
-  refused-above : (folder : Entry) (es : Entries) (name : List ℕ) (u : Tree) (x : Refusal) → IsPlanOf X N p folder (Dir es) → refusal X N p u ≡ Some x → refusal X N p (Dir (with_child name u es)) ≡ Some x
+  pub refused-above : (folder : Entry) (es : Entries) (name : List ℕ) (u : Tree) (x : Refusal) → IsPlanOf X N p folder (Dir es) → refusal X N p u ≡ Some x → refusal X N p (Dir (with_child name u es)) ≡ Some x
   refused-above folder es name u x s h =
       let list : pairs (with_child name u es) ≡ put names_cmp name u (pairs es) = pairs-entries (put names_cmp name u (pairs es)) in
       refusal-is X N p (with_child name u es)
@@ -118,10 +118,6 @@ module _ (X : List ℕ → List ℕ) (N : List ℕ → ℕ) (p : Profile) where
     pub lost-edit : (w : Result Entries Refused) (f : StoreFault) → IsLossOf a old f → EditsAfter X N a b old p w (Err (stop.Store f))
     lost-edit (Ok es) f h = h
     lost-edit (Err why) f h = h
-
-    -- a refusal that an edit shares
-    pub refused-edit : (why given : Refused) → given ≡ why → EditsAfter X N a b old p (Err why) (Err (stop.Refused given))
-    refused-edit why given h = h
 
     pub allowed-ok : (es : Entries) (e : Entry) → EditsAfter X N a b old p (allowed X N p (Ok es)) (Ok e) → Is es e
     allowed-ok es e h = by (refusal X N p (Dir es)) h
@@ -245,10 +241,10 @@ module _ (X : List ℕ → List ℕ) (N : List ℕ → ℕ) (p : Profile) where
         unless-ok c d _ (without_child name es) new _ plan.planned (record { plan = plan; after = folder-after c d _ (without_child name es) each own })
 
     pub take-bound : (name : List ℕ) (t0 t1 : ℕ) → IsPlanOf X N p folder (Dir es) → StaysAgreed c d (blocks X N p (Dir es))
-        → ((l : List Named) → IsPlanned X N p folder.cid l → StaysAgreed c d (own_blocks X N p l) → t1 ≤ t0 + (18 + weighing p (shard_count X N l) + crossing X N p l (without name l)))
-        → t1 ≤ t0 + (18 + weighing p (shard_count X N (named_entries X N p es)) + crossing X N p (named_entries X N p es) (named_entries X N p (without_child name es)))
+        → ((l : List Named) → IsPlanned X N p folder.cid l → StaysAgreed c d (own_blocks X N p l) → t1 ≤ t0 + (18 + weighing_from X N p l + crossing X N p l (without name l)))
+        → t1 ≤ t0 + (18 + weighing_from X N p (named_entries X N p es) + crossing X N p (named_entries X N p es) (named_entries X N p (without_child name es)))
     take-bound name t0 t1 i stays takes =
-        subst (λ l. t1 ≤ t0 + (18 + weighing p (shard_count X N (named_entries X N p es)) + crossing X N p (named_entries X N p es) l)) (sym (named_entries-without X N p name es))
+        subst (λ l. t1 ≤ t0 + (18 + weighing_from X N p (named_entries X N p es) + crossing X N p (named_entries X N p es) l)) (sym (named_entries-without X N p name es))
         (takes (named_entries X N p es) (planned-of X N p folder es i hash fits) (stays-some c d _ _ (own-dir es) stays))
 
   -- ---- along the path

@@ -6,6 +6,7 @@ use Rattle.uf_cid.specs.Cid.{cid_of}
 use Rattle.uf_cid.specs.declared.cid.Codec.TheVariants.{DagPb}
 use Rattle.uf_cid.specs.declared.cid.Cid.{Cid}
 use Rattle.uf_store.specs.declared.store.StoreFault.{StoreFault}
+use Rattle.uf_store.specs.declared.store.StoreFault.TheVariants.{Memory}
 use Rattle.uf_store.specs.Contents.{Told}
 use Rattle.uf_store.specs.Lost.{IsLossOf, IsLost, ReadsOver}
 use Rattle.uf_tree.specs.declared.nodes.Entry.{Entry}
@@ -40,10 +41,6 @@ use Rattle.uf_mfs.proofs.Rooting.{dir-cid, found-among}
 meets-fault : {A B : Type 0} (May : StoreFault → Type 0) (P : A → B → Type 0) (w : Result A Refused) (f : StoreFault) → May f → MeetsOr May P w (Err (stop.Store f))
 meets-fault May P (Ok a) f h = h
 meets-fault May P (Err why) f h = h
-
-answers-fault : {A B : Type 0} (May : StoreFault → Type 0) (P : A → B → Type 0) (names : List (List ℕ)) (w : Result A Refused) (f : StoreFault) → May f → AnswersOr May P names w (Err (fault.Store f))
-answers-fault May P names (Ok a) f h = h
-answers-fault May P names (Err why) f h = h
 
 -- where all that is needed is held, only memory can be wanting
 pub answers-held : {A B : Type 0} (told : Told) (l : List Held) (P : A → B → Type 0) (names : List (List ℕ)) (w : Result A Refused) (r : Result B MfsFault) → TellsHeld told l
@@ -87,12 +84,12 @@ module _ (X : List ℕ → List ℕ) (N : List ℕ → ℕ) (p : Profile) where
   pub member-among : (name : List ℕ) (es : Entries) → Among (member_needs X N p name es) (blocks X N p (Dir es))
   member-among name es P h = append P _ _ (own-trail name es P h) (below (root_of X N p) root-of-among name es P h)
 
-  way-among : (names : List (List ℕ)) (t : Tree) → Among (way X N p names t) (blocks X N p t)
+  pub way-among : (names : List (List ℕ)) (t : Tree) → Among (way X N p names t) (blocks X N p t)
   way-among [] t P h = root-of-among t P h
   way-among (name ∷ names) (File bytes) P h = root-of-among (File bytes) P h
   way-among (name ∷ names) (Dir es) P h = append P _ _ (own-trail name es P h) (below (way X N p names) (way-among names) name es P h)
 
-  at-among : (led : ℕ) (names : List (List ℕ)) (t found : Tree) → at led names t ≡ Ok found → Among (blocks X N p found) (blocks X N p t)
+  pub at-among : (led : ℕ) (names : List (List ℕ)) (t found : Tree) → at led names t ≡ Ok found → Among (blocks X N p found) (blocks X N p t)
   at-among led [] t found is P h = subst (λ (t : Tree). AllByRecursion P (blocks X N p t)) (let same : t ≡ found = cc in same) h
   at-among led (name ∷ names) (File bytes) found is P h = absurd cc
   at-among led (name ∷ names) (Dir es) found is P h = by (λ t is h. at-among (led + 1) names t found is P h) (child name es) refl is
@@ -108,9 +105,6 @@ module _ (X : List ℕ → List ℕ) (N : List ℕ → ℕ) (p : Profile) where
       by : (w : Result Tree Refused) → at 0 names t ≡ w → AllByRecursion P (elim w as (λ w. List Held) [ Ok found ↦ more found | Err why ↦ [] ])
       by (Ok found) is = each found P (at-among 0 names t found is P h)
       by (Err why) is = tt
-
-  pub nothing-among : (t : Tree) → Among [] (blocks X N p t)
-  nothing-among t P h = tt
 
   pub own-needs-among : (t : Tree) → Among (own_needs X N p t) (blocks X N p t)
   own-needs-among (File bytes) P h = tt
@@ -198,18 +192,39 @@ module _ (X : List ℕ → List ℕ) (N : List ℕ → ℕ) (p : Profile) where
   -- ---- commands
 
   -- a command that a lookup refuses
-  pub call-err : {B D : Type 0} (told : Told) (more : Tree → List Held) (P : Tree → B → Type 0) (Q : Tree → D → Type 0) (names : List (List ℕ)) (t : Tree) (s : Stop) (f : MfsFault)
-      → Tells names s f → MeetsOr (IsLossOf told (way X N p names t)) P (at 0 names t) (Err s) → AnswersOr (IsLossOf told (needs_at X N p more names t)) Q names (at 0 names t) (Err f)
-  call-err {B = B} {D = D} told more P Q names t s f tells h = by (at 0 names t) (elim (at 0 names t) as (λ w. List Held) [ Ok found ↦ more found | Err why ↦ [] ]) s f tells h
+  pub call-err : {B D : Type 0} (May : StoreFault → Type 0) (P : Tree → B → Type 0) (Q : Tree → D → Type 0) (names : List (List ℕ)) (w : Result Tree Refused) (s : Stop) (f : MfsFault)
+      → May Memory → Tells names s f → MeetsOr May P w (Err s) → AnswersOr May Q names w (Err f)
+  call-err May P Q names (Ok a) (stop.Refused why) f free tells h = absurd h
+  call-err May P Q names (Err why) (stop.Refused given) (fault.Rule rule) free tells h = tells ∙ ap (rule_of names) h
+  call-err May P Q names (Err why) (stop.Refused given) (fault.Ready ready) free tells h = absurd tells
+  call-err May P Q names (Err why) (stop.Refused given) fault.Sink free tells h = absurd tells
+  call-err May P Q names (Err why) (stop.Refused given) (fault.Store f) free tells h = subst May (sym tells) free
+  call-err May P Q names (Ok a) (stop.Store g) f free tells h = subst (λ f. AnswersOr May Q names (Ok a) (Err f)) (sym tells) h
+  call-err May P Q names (Err why) (stop.Store g) f free tells h = subst (λ f. AnswersOr May Q names (Err why) (Err f)) (sym tells) h
+
+  -- what a lookup answers, as a command's
+  pub call-ok : {B : Type 0} (May : StoreFault → Type 0) (P : Tree → B → Type 0) (names : List (List ℕ)) (w : Result Tree Refused) (b : B) → MeetsOr May P w (Ok b) → AnswersOr May P names w (Ok b)
+  call-ok May P names (Ok a) b h = h
+  call-ok May P names (Err why) b h = h
+
+  pub call-met : {B : Type 0} (May : StoreFault → Type 0) (P : Tree → B → Type 0) (names : List (List ℕ)) (w : Result Tree Refused) (b : B) → AnswersOr May P names w (Ok b) → MeetsOr May P w (Ok b)
+  call-met May P names (Ok a) b h = h
+  call-met May P names (Err why) b h = h
+
+  -- a command that stopped where its lookup did
+  pub call-stopped : {B D : Type 0} (told : Told) (more : Tree → List Held) (P : Tree → B → Type 0) (Q : Tree → D → Type 0) (names : List (List ℕ)) (t : Tree) (f : MfsFault)
+      → AnswersOr (IsLossOf told (way X N p names t)) P names (at 0 names t) (Err f) → AnswersOr (IsLossOf told (needs_at X N p more names t)) Q names (at 0 names t) (Err f)
+  call-stopped {B = B} {D = D} told more P Q names t f h = by (at 0 names t) (elim (at 0 names t) as (λ w. List Held) [ Ok found ↦ more found | Err why ↦ [] ]) f h
     where
-      by : (w : Result Tree Refused) (k : List Held) (s : Stop) (f : MfsFault) → Tells names s f → MeetsOr (IsLossOf told (way X N p names t)) P w (Err s) → AnswersOr (IsLossOf told (way X N p names t ++ k)) Q names w (Err f)
-      by (Ok a) k (stop.Refused why) f tells h = absurd h
-      by (Err why) k (stop.Refused given) (fault.Rule rule) tells h = tells ∙ ap (rule_of names) h
-      by (Err why) k (stop.Refused given) (fault.Ready ready) tells h = absurd tells
-      by (Err why) k (stop.Refused given) fault.Sink tells h = absurd tells
-      by (Err why) k (stop.Refused given) (fault.Store f) tells h = subst (IsLossOf told (way X N p names t ++ k)) (sym tells) tt
-      by (Ok a) k (stop.Store g) f tells h = subst (λ f. AnswersOr (IsLossOf told (way X N p names t ++ k)) Q names (Ok a) (Err f)) (sym tells) (loss-front told (way X N p names t) k g h)
-      by (Err why) k (stop.Store g) f tells h = subst (λ f. AnswersOr (IsLossOf told (way X N p names t ++ k)) Q names (Err why) (Err f)) (sym tells) (loss-front told (way X N p names t) k g h)
+      by : (w : Result Tree Refused) (k : List Held) (f : MfsFault) → AnswersOr (IsLossOf told (way X N p names t)) P names w (Err f) → AnswersOr (IsLossOf told (way X N p names t ++ k)) Q names w (Err f)
+      by (Ok a) k (fault.Rule rule) h = absurd h
+      by (Err why) k (fault.Rule rule) h = h
+      by (Ok a) k (fault.Ready ready) h = absurd h
+      by (Err why) k (fault.Ready ready) h = absurd h
+      by (Ok a) k fault.Sink h = absurd h
+      by (Err why) k fault.Sink h = absurd h
+      by (Ok a) k (fault.Store f) h = loss-front told (way X N p names t) k f h
+      by (Err why) k (fault.Store f) h = loss-front told (way X N p names t) k f h
 
   -- the fault of a call as that of a command
   abbrev pub raised : {D : Type 0} → Result D StoreFault → Result D MfsFault

@@ -1,5 +1,5 @@
 -- A file read from the tree: what a lookup meets, and the blocks that a range of it needs.
-use Rattle.std.proofs.Common.{◌≡◌, ℕ, zero, suc, ◌≤◌, ◌-◌, List, [], ◌∷◌, ◌++◌, length, take, drop, refl, ap, sym, ◌∙◌, subst, arith, append-nil, Bool, true, false, cond, inl, inr, Some, None, Result, Ok, Err}
+use Rattle.std.proofs.Common.{◌≡◌, ℕ, zero, suc, ◌≤◌, ◌-◌, List, [], ◌∷◌, ◌++◌, length, take, drop, refl, ap, sym, ◌∙◌, subst, arith, append-nil, Bool, true, false, cond, inl, inr, Option, Some, None, Result, Ok, Err}
 use Rattle.std.specs.Prelude.{IsTrue}
 use Rattle.std.specs.List.{AllByRecursion, flat_map}
 use Rattle.uf_cid.specs.Blocks.{Held}
@@ -81,11 +81,11 @@ module _ (X : List ℕ → List ℕ) (N : List ℕ → ℕ) (told : Told) (p : P
   file-found (Ok (Dir es)) k e size h = absurd h
   file-found (Err why) k e size h = absurd h
 
-  pub file-folder : {D : Type 0} (Q : List ℕ → D → Type 0) (w : Result Tree Refused) (k : ℕ) (e : Entry) → MeetsOr May (λ t x. IsAgreedThing X N told p t x) w (Ok (FolderAt e))
+  pub file-folder : {D : Type 0} (Q : List ℕ → D → Type 0) (w : Result Tree Refused) (k : ℕ) (e : Entry) (links : Option ℕ) → MeetsOr May (λ t x. IsAgreedThing X N told p t x) w (Ok (FolderAt e links))
       → MeetsOr May Q (and_then w (as_plain_file k)) (Err (stop.Refused (why.IsADirectory k)))
-  file-folder Q (Ok (File bytes)) k e h = absurd h
-  file-folder Q (Ok (Dir es)) k e h = refl
-  file-folder Q (Err why) k e h = absurd h
+  file-folder Q (Ok (File bytes)) k e links h = absurd h
+  file-folder Q (Ok (Dir es)) k e links h = refl
+  file-folder Q (Err why) k e links h = absurd h
 
 -- ---- the blocks that a range needs
 

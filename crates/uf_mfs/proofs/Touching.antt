@@ -20,9 +20,9 @@ use Rattle.uf_dir.specs.Bounds.{crossing}
 use Rattle.uf_plain.specs.declared.change.Change.{Change}
 use Rattle.uf_plain.specs.declared.change.Change.TheVariants.{Make, Put, Remove}
 use Rattle.uf_plain.specs.declared.rule.Refused.{Refused}
-use Rattle.uf_plain.specs.Edits.{and_then, as_folder, at, change, child, done, may_be, or_new, with_child, with_folder}
+use Rattle.uf_plain.specs.Edits.{and_then, as_folder, at, child, or_new, with_child, with_folder}
 use Rattle.uf_plain.specs.Rules.{allowed}
-use Rattle.uf_mfs.specs.Answers.{Decides, EditsAfter, MeetsOr}
+use Rattle.uf_mfs.specs.Answers.{EditsAfter, MeetsOr}
 use Rattle.uf_mfs.specs.Standing.{IsAfter, IsPlanOf}
 use Rattle.uf_mfs.specs.Steps.{EditsFolder, GivesFolder, IsFolderOver}
 use Rattle.uf_mfs.specs.Touches.{TouchesFolder, crossings, crossings_of, entries_at, entries_in, read_bound, weighing_at, weighing_of}
@@ -45,14 +45,14 @@ entries-put name new es = ap (λ (o : Option Tree). elim o as (λ o. Entries) [ 
 pub look-touches : (more : Tree → ℕ) (names : List (List ℕ)) (t : Tree) (t0 t1 : ℕ) → t1 ≤ t0 + 11 * length names → t1 ≤ t0 + read_bound more names t
 look-touches more names t t0 t1 h = by (at 0 names t)
   where
-    by : (w : Result Tree Refused) → t1 ≤ t0 + (64 * (length names + 4) + elim w as (λ w. ℕ) [ Ok found ↦ more found | Err why ↦ 0 ])
+    by : (w : Result Tree Refused) → t1 ≤ t0 + (64 * (length names + 3) + elim w as (λ w. ℕ) [ Ok found ↦ more found | Err why ↦ 0 ])
     by w = omega (arith, h)
 
 pub read-touches : {B : Type 0} (May : StoreFault → Type 0) (P : Tree → B → Type 0) (more : Tree → ℕ) (names : List (List ℕ)) (t : Tree) (b : B) (t0 t1 t2 : ℕ) → MeetsOr May P (at 0 names t) (Ok b) → t1 ≤ t0 + 11 * length names
     → ((found : Tree) → P found b → t2 ≤ t1 + (more found + 1)) → t2 ≤ t0 + read_bound more names t
 read-touches {B} May P more names t b t0 t1 t2 h first then = by (at 0 names t) h
   where
-    by : (w : Result Tree Refused) → MeetsOr May P w (Ok b) → t2 ≤ t0 + (64 * (length names + 4) + elim w as (λ w. ℕ) [ Ok found ↦ more found | Err why ↦ 0 ])
+    by : (w : Result Tree Refused) → MeetsOr May P w (Ok b) → t2 ≤ t0 + (64 * (length names + 3) + elim w as (λ w. ℕ) [ Ok found ↦ more found | Err why ↦ 0 ])
     by (Ok found) h = (let r = then found h in omega (arith, first, r))
     by (Err why) h = absurd h
 
@@ -164,14 +164,4 @@ module _ (X : List ℕ → List ℕ) (N : List ℕ → ℕ) (p : Profile) where
   -- fewer touches are enough too
   pub touches-by : {a b : Seen} (more : List Held) (folder : Entry) (bound other : Entries → ℕ) (t0 t1 : ℕ) → ((es : Entries) → bound es ≤ other es) → TouchesFolder X N p a b more folder bound t0 t1 → TouchesFolder X N p a b more folder other t0 t1
   touches-by more folder bound other t0 t1 fewer h = λ es o. (let x = h es o in let y = fewer es in omega (arith, x, y))
-
   -- ---- an edit of this folder
-
-  pub here-touches : (what : Change) (t : Tree) (led : ℕ) (name : List ℕ) (es : Entries) (n t0 t1 : ℕ) → Decides {A = Unit {0}} {B = Unit {0}} (λ a b. Unit {0}) (may_be what led (child name es)) (Ok tt)
-      → t1 ≤ t0 + (n + crossing X N p (named_entries X N p es) (named_entries X N p (done what t name es)) + weighing_of X N p what (name ∷ []) es) → n ≤ 19
-      → t1 ≤ t0 + (19 + crossings_of X N p (name ∷ []) es (change what t led name es) + weighing_of X N p what (name ∷ []) es)
-  here-touches what t led name es n t0 t1 may h few = by (may_be what led (child name es)) may
-    where
-      by : (w : Result Unit Refused) → Decides {A = Unit {0}} {B = Unit {0}} (λ a b. Unit {0}) w (Ok tt) → t1 ≤ t0 + (19 + crossings_of X N p (name ∷ []) es (and_then w (λ may. Ok (done what t name es))) + weighing_of X N p what (name ∷ []) es)
-      by (Ok a) may = omega (arith, h, few)
-      by (Err given) may = absurd may

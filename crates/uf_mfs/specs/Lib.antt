@@ -1,7 +1,9 @@
 pub mod Answers
 pub mod Bad
+pub mod Moving
 pub mod Opening
 pub mod Reading
 pub mod Standing
 pub mod Steps
 pub mod Touches
+pub mod Writes

@@ -1,5 +1,5 @@
 -- A file of the tree read.
-use Rattle.std.specs.Prelude.{◌≡◌, ◌⊎◌, ℕ, List, [], length}
+use Rattle.std.specs.Prelude.{◌≡◌, ◌⊎◌, ◌+◌, ◌*◌, ℕ, List, [], length}
 use Rattle.std.specs.declared.option.Option.TheVariants.{None}
 use Rattle.std.specs.declared.result.Result.{Result}
 use Rattle.std.specs.declared.result.Result.TheVariants.{Ok, Err}
@@ -10,7 +10,7 @@ use Rattle.uf_edge.specs.Streams.{Told as SinkTold, after}
 use Rattle.uf_fileread.specs.Bad.{IsBadInFile}
 use Rattle.uf_fileread.specs.declared.fault.RangeFault.{RangeFault}
 use Rattle.uf_fileread.specs.declared.fault.RangeFault.TheVariants as ranges
-use Rattle.uf_fileread.specs.Ranges.{blocks_read}
+use Rattle.uf_fileread.specs.Ranges.{blocks_read, pieces_met}
 use Rattle.uf_store.specs.declared.store.Role.{Role}
 use Rattle.uf_store.specs.Contents.{Told}
 use Rattle.uf_store.specs.Faults.{Shows, StaysCalm}
@@ -37,6 +37,16 @@ IsHeightOf p height (Err why) = Unit {0}
 abbrev pub range_needs : (List ℕ → List ℕ) → Profile → (height offset count : ℕ) → Tree → List Held
 range_needs X p height offset count (File bytes) = blocks_read X p.chunk p.width height offset count bytes
 range_needs X p height offset count (Dir es) = []
+
+-- so many rows of nodes has a file of so many bytes
+abbrev pub AreHeights : Profile → (ℕ → ℕ) → Type 0
+AreHeights p rows = (n : ℕ) → IsHeight p.chunk p.width n (rows n)
+
+-- how often a range of a file touches the store at most, by the pieces that it meets and the file's rows
+abbrev pub range_touches : Profile → (ℕ → ℕ) → (offset count : ℕ) → Tree → ℕ
+range_touches p rows offset count (File bytes) =
+    2 * (pieces_met p.chunk offset count bytes + 2) * (rows (length bytes) + 2)
+range_touches p rows offset count (Dir es) = 0
 
 -- all of these bytes are behind what the sink held, and so many they are
 abbrev pub SendsAll : SinkTold → SinkTold → List ℕ → ℕ → Type 0

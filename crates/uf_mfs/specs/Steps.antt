@@ -1,5 +1,5 @@
 -- Steps below a command: the store's fault in what they answer, and what an edit of a folder does.
-use Rattle.std.specs.Prelude.{◌≡◌, ℕ, List, [], ◌++◌, Bool, true, false}
+use Rattle.std.specs.Prelude.{◌≡◌, ℕ, List, [], ◌∷◌, ◌++◌, Bool, true, false}
 use Rattle.std.specs.declared.option.Option.{Option}
 use Rattle.std.specs.declared.option.Option.TheVariants.{None, Some}
 use Rattle.std.specs.declared.result.Result.{Result}
@@ -14,9 +14,14 @@ use Rattle.uf_tree.specs.declared.nodes.Entry.{Entry}
 use Rattle.uf_tree.specs.declared.profile.Profile.{Profile}
 use Rattle.uf_tree.specs.Tree.{Tree, File, Dir, Entries}
 use Rattle.uf_tree.specs.TreePlan.{blocks}
+use Rattle.uf_plain.specs.declared.change.Change.{Change}
+use Rattle.uf_plain.specs.declared.change.Change.TheVariants.{Make, Put, Remove}
 use Rattle.uf_plain.specs.declared.rule.Refused.{Refused}
+use Rattle.uf_plain.specs.declared.rule.Refused.TheVariants.{Exists, RootRefused}
+use Rattle.uf_plain.specs.Edits.{change, edited}
 use Rattle.uf_plain.specs.Rules.{allowed}
 use Rattle.uf_mfs.specs.declared.fault.MfsFault.{MfsFault}
+use Rattle.uf_mfs.specs.declared.fault.MfsFault.TheVariants as fault
 use Rattle.uf_mfs.specs.declared.fault.Stop.{Stop}
 use Rattle.uf_mfs.specs.declared.fault.Stop.TheVariants as stop
 use Rattle.uf_mfs.specs.declared.mfs.Mfs.{Mfs}
@@ -28,6 +33,14 @@ abbrev pub stop_fault : {A : Type 0} → Result A Stop → Option StoreFault
 stop_fault (Ok a) = None
 stop_fault (Err (stop.Refused why)) = None
 stop_fault (Err (stop.Store fault)) = Some fault
+
+-- and in that of a call
+abbrev pub tree_fault : {A : Type 0} → Result A MfsFault → Option StoreFault
+tree_fault (Ok a) = None
+tree_fault (Err (fault.Rule rule)) = None
+tree_fault (Err (fault.Ready ready)) = None
+tree_fault (Err fault.Sink) = None
+tree_fault (Err (fault.Store f)) = Some f
 
 module _ (X : List ℕ → List ℕ) (N : List ℕ → ℕ) (p : Profile) (before now : Seen) (more : List Held) where
   -- the entry is that of the directory of these entries, the store agrees with its blocks and with these others before
@@ -59,6 +72,17 @@ module _ (X : List ℕ → List ℕ) (N : List ℕ → ℕ) (before now : Seen) 
   MovesTree more was is names next result = (p : Profile) (es : Entries) → was.profile ≡ p
       → IsFolderOver X N p before now more was.root es
       → MovesAfter X N before.told now.told (more ++ blocks X N p (Dir es)) p names is (next p es) result
+
+-- why the root isn't edited so
+abbrev pub refused_root : Change → Refused
+refused_root Make = Exists 0
+refused_root (Put e) = RootRefused
+refused_root (Remove recursive) = RootRefused
+
+-- the tree after an edit at these names
+abbrev pub changed_at : Change → Tree → List (List ℕ) → Entries → Result Entries Refused
+changed_at what t [] es = Err (refused_root what)
+changed_at what t (name ∷ names) es = edited (change what t) 0 name names es
 
 -- a folder that was there or is new, by its entry
 abbrev pub opened : Result (Entry × Bool) Stop → Result Entry Stop

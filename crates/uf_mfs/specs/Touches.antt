@@ -1,21 +1,52 @@
--- How many touches an edit of a tree may need beyond a few for each name.
-use Rattle.std.specs.Prelude.{ℕ, ◌≤◌, ◌+◌, ◌*◌, List, [], ◌∷◌, length}
+-- How the count of touches moves, and how many an edit of a tree may need beyond a few for each name.
+use Rattle.std.specs.Prelude.{ℕ, ◌<◌, ◌≤◌, ◌+◌, ◌*◌, List, [], ◌∷◌, length, ⊤}
+use Rattle.std.specs.declared.option.Option.{Option}
 use Rattle.std.specs.declared.option.Option.TheVariants.{None, Some}
 use Rattle.std.specs.declared.result.Result.{Result}
 use Rattle.std.specs.declared.result.Result.TheVariants.{Ok, Err}
 use Rattle.uf_cid.specs.Blocks.{Held}
+use Rattle.uf_store.specs.declared.store.StoreFault.{StoreFault}
+use Rattle.uf_store.specs.declared.store.StoreFault.TheVariants.{Failed, Damaged, Missing, BadBlock, Clash, Memory}
 use Rattle.uf_store.specs.Seen.{Seen}
 use Rattle.uf_tree.specs.declared.nodes.Entry.{Entry}
 use Rattle.uf_tree.specs.declared.profile.Profile.{Profile}
 use Rattle.uf_tree.specs.Tree.{Tree, File, Dir, Entries, Nothing, pairs}
 use Rattle.uf_tree.specs.TreePlan.{named_entries}
-use Rattle.uf_dir.specs.Bounds.{crossing, shard_count, weighing}
+use Rattle.uf_dir.specs.Bounds.{crossing, weighing_from}
 use Rattle.uf_plain.specs.declared.change.Change.{Change}
 use Rattle.uf_plain.specs.declared.change.Change.TheVariants.{Make, Put, Remove}
 use Rattle.uf_plain.specs.declared.rule.Refused.{Refused}
 use Rattle.uf_plain.specs.Edits.{at, child}
 use Rattle.uf_plain.specs.Needs.{own_needs}
+use Rattle.uf_mfs.specs.declared.thing.Thing.{Thing}
+use Rattle.uf_mfs.specs.declared.thing.Thing.TheVariants.{File as FileAt, Folder as FolderAt}
 use Rattle.uf_mfs.specs.Steps.{IsFolderOver}
+
+-- a block is blamed
+abbrev pub IsBlaming : Option StoreFault → Type 0
+IsBlaming None = ⊥
+IsBlaming (Some Failed) = ⊥
+IsBlaming (Some (Damaged cid)) = ⊥
+IsBlaming (Some (Missing cid)) = ⊥
+IsBlaming (Some (BadBlock cid role)) = ⊤
+IsBlaming (Some (Clash cid held bytes)) = ⊥
+IsBlaming (Some Memory) = ⊥
+
+-- the count of touches doesn't fall, and it has risen where a block is blamed
+pub record CountsUp (fault : Option StoreFault) (before now : ℕ) : Type 0 where
+  pub kept : before ≤ now
+  pub risen : IsBlaming fault → before < now
+
+-- how many blocks are still to be loaded to say what this is: of a folder that a lookup begins at, its root block
+abbrev pub unseen : Thing → ℕ
+unseen (FileAt e size) = 0
+unseen (FolderAt e None) = 1
+unseen (FolderAt e (Some links)) = 0
+
+-- the same of what some names lead to from this thing
+abbrev pub unseen_after : List (List ℕ) → Thing → ℕ
+unseen_after [] thing = unseen thing
+unseen_after (name ∷ names) thing = 0
 
 -- the entries of a directory
 abbrev pub entries_in : Tree → Entries
@@ -32,7 +63,7 @@ entries_at name es = elim (child name es) [ None ↦ Nothing | Some t ↦ entrie
 
 -- a call that reads at these names: a few touches for each, and those that what is there takes
 abbrev pub read_bound : (Tree → ℕ) → List (List ℕ) → Tree → ℕ
-read_bound more names t = 64 * (length names + 4) + elim (at 0 names t) [ Ok found ↦ more found | Err why ↦ 0 ]
+read_bound more names t = 64 * (length names + 3) + elim (at 0 names t) [ Ok found ↦ more found | Err why ↦ 0 ]
 
 module _ (X : List ℕ → List ℕ) (N : List ℕ → ℕ) (p : Profile) where
   -- each directory on these names that becomes sharded or basic between two trees
@@ -49,7 +80,7 @@ module _ (X : List ℕ → List ℕ) (N : List ℕ → ℕ) (p : Profile) where
   -- the weighing of the directory that loses the last of these names
   abbrev pub weighing_at : List (List ℕ) → Entries → ℕ
   weighing_at [] es = 0
-  weighing_at (name ∷ []) es = weighing p (shard_count X N (named_entries X N p es))
+  weighing_at (name ∷ []) es = weighing_from X N p (named_entries X N p es)
   weighing_at (name ∷ next ∷ names) es = weighing_at (next ∷ names) (entries_at name es)
 
   -- of an edit: only a removal weighs
@@ -60,7 +91,7 @@ module _ (X : List ℕ → List ℕ) (N : List ℕ → ℕ) (p : Profile) where
 
   -- an edit at these names: a few touches for each, and those of directories that become sharded or basic
   abbrev pub touch_bound : List (List ℕ) → Entries → Result Entries Refused → ℕ
-  touch_bound names es next = 64 * (length names + 4) + crossings_of names es next
+  touch_bound names es next = 64 * (length names + 3) + crossings_of names es next
 
   -- the names of a directory: its own blocks
   abbrev pub names_touches : Tree → ℕ

@@ -6,15 +6,15 @@ ghost use Rattle.uf_store.specs.Keeping.{KeepsGood};
 ghost use Rattle.uf_store.specs.Writing.{SavesOnly};
 ghost use Rattle.uf_tree.specs.declared.profile.Profile.{Profile as TheProfile};
 ghost use Rattle.uf_tree.specs.Profiles.{is_profile};
-ghost use Rattle.uf_tree.specs.Tree.{Dir, Entries};
+ghost use Rattle.uf_tree.specs.Tree.{Dir, Entries, Tree};
 ghost use Rattle.uf_mfs.specs.Answers.{Moves, MovesTo, Settles, ShownInTree};
 ghost use Rattle.uf_mfs.specs.Bad.{IsBad};
 ghost use Rattle.uf_store.specs.Calls.{OnlySaves};
 ghost use Rattle.uf_plain.specs.Edits.{at, made, removed};
 ghost use Rattle.uf_plain.specs.Rules.{allowed};
-ghost use Rattle.uf_mfs.specs.Standing.{IsAgreed, IsMfs, StandsAt};
-ghost use Rattle.uf_mfs.specs.Steps.{EditsFolder, GivesFolder, MovesTree, stop_fault};
-ghost use Rattle.uf_mfs.specs.Touches.{TouchesFolder, crossings_of, touch_bound, weighing_at};
+ghost use Rattle.uf_mfs.specs.Standing.{IsMeant, IsMfs, StandsAt, StandsOver, brought};
+ghost use Rattle.uf_mfs.specs.Steps.{EditsFolder, MovesTree, changed_at, refused_root, stop_fault, tree_fault};
+ghost use Rattle.uf_mfs.specs.Touches.{CountsUp, TouchesFolder, crossings_of, touch_bound, weighing_at, weighing_of};
 
 use crate::editing::{Site, edit, fill};
 use crate::telling::fault_of;
@@ -25,7 +25,7 @@ use uf_murmur::NameHash;
 use uf_path::Path;
 use uf_plain::{Change, Refused};
 use uf_store::{Steps, Store};
-use uf_tree::{Entry, Name, Profile};
+use uf_tree::{Entry, Name};
 
 impl Mfs {
     /// Makes an empty directory: at the last name of the path, or with `parents` at each name that is missing.
@@ -47,7 +47,7 @@ impl Mfs {
         ensures lost { MovesTree S.X.block32 N.name64 (S.seen store.old) (S.seen store.new) [] self.old self.new
             path.now.names (λ p es. allowed S.X.block32 N.name64 p (made parents path.now.names es)) result }
         ensures there { (p : TheProfile) (es below : Entries)
-            → StandsAt S.X.block32 N.name64 (S.seen store.old).told self.old p es
+            → StandsOver S.X.block32 N.name64 (S.seen store.old).told self.old p es
             → Stood (S.seen store.old).faults (S.seen store.new).faults
             → IsTrue parents → at 0 path.now.names (Dir es) ≡ Ok (Dir below)
             → ((S.seen store.new).told ≡ (S.seen store.old).told) × (self.new ≡ self.old) }
@@ -62,17 +62,10 @@ impl Mfs {
             → TouchesFolder S.X.block32 N.name64 p (S.seen store.old) (S.seen store.new) [] self.old.root
             (λ es. touch_bound S.X.block32 N.name64 p path.now.names es (made parents path.now.names es))
             touches.old touches.new }
+        ensures touched { CountsUp (tree_fault result) touches.old touches.new }
     {
         let names = path.names.as_slice();
-        let edited = made_root::<S, N, L>(
-            alloc,
-            store,
-            &self.profile,
-            &self.root,
-            names,
-            parents,
-            touches,
-        );
+        let edited = self.made_root::<S, N, L>(alloc, store, names, parents, touches);
         self.settled(alloc, names, edited)
     }
 
@@ -106,22 +99,16 @@ impl Mfs {
             (λ es. touch_bound S.X.block32 N.name64 p path.now.names es (removed recursive path.now.names es)
             + weighing_at S.X.block32 N.name64 p path.now.names es)
             touches.old touches.new }
+        ensures touched { CountsUp (tree_fault result) touches.old touches.new }
     {
         let names = path.names.as_slice();
-        let edited = removed_root::<S, N, L>(
-            alloc,
-            store,
-            &self.profile,
-            &self.root,
-            names,
-            recursive,
-            touches,
-        );
+        let what = Change::Remove(recursive);
+        let edited = self.changed_root::<S, N, L>(alloc, store, what, names, touches);
         self.settled(alloc, names, edited)
     }
 
     // Moves the root to what an edit answers; where it stopped, the root stays, and the fault is told with these names.
-    fn settled(
+    pub(crate) fn settled(
         &mut self,
         alloc: Global,
         names: &[Name],
@@ -141,128 +128,109 @@ impl Mfs {
             }
         }
     }
-}
 
-// The root without what the names lead to.
-fn removed_root<S: Store, N: NameHash, L: Ledger>(
-    alloc: Global,
-    store: &mut S,
-    profile: &Profile,
-    root: &Entry,
-    names: &[Name],
-    recursive: bool,
-    touches: &mut Steps<L>,
-) -> Result<Entry, Stop>
-    requires profile { IsTrue (is_profile profile.now) }
-    ensures edits { GivesFolder S.X.block32 N.name64 profile.now (S.seen store.old) (S.seen store.new) [] root.now
-        (removed recursive names.now) result }
-    ensures saves { OnlySaves S.X.block32 (IsBad N.name64 (Some profile.now)) (stop_fault result) (S.seen store.old)
-        (S.seen store.new) }
-    ensures touches { TouchesFolder S.X.block32 N.name64 profile.now (S.seen store.old) (S.seen store.new) []
-        root.now (λ es. 40 * length names.now + crossings_of S.X.block32 N.name64 profile.now names.now es
-        (removed recursive names.now es)
-        + weighing_at S.X.block32 N.name64 profile.now names.now es) touches.old touches.new }
-{
-    match names {
-        [] => Err(Stop::Refused(Refused::RootRefused)),
-        [name, rest @ ..] => {
-            let site = Site {
-                profile: *profile,
-                what: Change::Remove(recursive),
-                led: 0,
-            };
-            edit::<S, N, L>(alloc, store, site, name, rest, root, touches)
+    // The root with an empty folder at the names.
+    fn made_root<S: Store, N: NameHash, L: Ledger>(
+        &self,
+        alloc: Global,
+        store: &mut S,
+        names: &[Name],
+        parents: bool,
+        touches: &mut Steps<L>,
+    ) -> Result<Entry, Stop>
+        requires mfs { IsMfs self.now }
+        ensures edits { EditsFolder S.X.block32 N.name64 self.now.profile (S.seen store.old) (S.seen store.new) []
+            self.now.root (made parents names.now) result }
+        ensures there { (p : TheProfile) (es below : Entries)
+            → StandsOver S.X.block32 N.name64 (S.seen store.old).told self.now p es
+            → Stood (S.seen store.old).faults (S.seen store.new).faults
+            → IsTrue parents → at 0 names.now (Dir es) ≡ Ok (Dir below)
+            → ((S.seen store.new).told ≡ (S.seen store.old).told) × IfOk result (λ e. e ≡ self.now.root) }
+        ensures saves { OnlySaves S.X.block32 (IsBad N.name64 (Some self.now.profile)) (stop_fault result)
+            (S.seen store.old) (S.seen store.new) }
+        ensures touches { TouchesFolder S.X.block32 N.name64 self.now.profile (S.seen store.old) (S.seen store.new) []
+            self.now.root (λ es. 40 * length names.now + crossings_of S.X.block32 N.name64 self.now.profile names.now es
+            (made parents names.now es)) touches.old touches.new }
+        ensures touched { CountsUp (stop_fault result) touches.old touches.new }
+    {
+        if parents {
+            self.all_made::<S, N, L>(alloc, store, names, touches)
+        } else {
+            self.changed_root::<S, N, L>(alloc, store, Change::Make, names, touches)
         }
     }
-}
 
-// The root with an empty folder at the names.
-fn made_root<S: Store, N: NameHash, L: Ledger>(
-    alloc: Global,
-    store: &mut S,
-    profile: &Profile,
-    root: &Entry,
-    names: &[Name],
-    parents: bool,
-    touches: &mut Steps<L>,
-) -> Result<Entry, Stop>
-    requires profile { IsTrue (is_profile profile.now) }
-    ensures edits { EditsFolder S.X.block32 N.name64 profile.now (S.seen store.old) (S.seen store.new) [] root.now
-        (made parents names.now) result }
-    ensures there { (es below : Entries)
-        → IsAgreed S.X.block32 N.name64 (S.seen store.old).told profile.now root.now (Dir es)
-        → Stood (S.seen store.old).faults (S.seen store.new).faults
-        → IsTrue parents → at 0 names.now (Dir es) ≡ Ok (Dir below)
-        → ((S.seen store.new).told ≡ (S.seen store.old).told) × IfOk result (λ e. e ≡ root.now) }
-    ensures saves { OnlySaves S.X.block32 (IsBad N.name64 (Some profile.now)) (stop_fault result) (S.seen store.old)
-        (S.seen store.new) }
-    ensures touches { TouchesFolder S.X.block32 N.name64 profile.now (S.seen store.old) (S.seen store.new) []
-        root.now (λ es. 40 * length names.now + crossings_of S.X.block32 N.name64 profile.now names.now es
-        (made parents names.now es)) touches.old touches.new }
-{
-    if parents {
-        all_made::<S, N, L>(alloc, store, profile, root, names, touches)
-    } else {
-        one_made::<S, N, L>(alloc, store, profile, root, names, touches)
-    }
-}
-
-// The root with an empty folder at the last of the names.
-fn one_made<S: Store, N: NameHash, L: Ledger>(
-    alloc: Global,
-    store: &mut S,
-    profile: &Profile,
-    root: &Entry,
-    names: &[Name],
-    touches: &mut Steps<L>,
-) -> Result<Entry, Stop>
-    requires profile { IsTrue (is_profile profile.now) }
-    ensures edits { EditsFolder S.X.block32 N.name64 profile.now (S.seen store.old) (S.seen store.new) [] root.now
-        (made false names.now) result }
-    ensures saves { OnlySaves S.X.block32 (IsBad N.name64 (Some profile.now)) (stop_fault result) (S.seen store.old)
-        (S.seen store.new) }
-    ensures touches { TouchesFolder S.X.block32 N.name64 profile.now (S.seen store.old) (S.seen store.new) []
-        root.now (λ es. 40 * length names.now + crossings_of S.X.block32 N.name64 profile.now names.now es
-        (made false names.now es)) touches.old touches.new }
-{
-    match names {
-        [] => Err(Stop::Refused(Refused::Exists(0))),
-        [name, rest @ ..] => {
-            let site = Site {
-                profile: *profile,
-                what: Change::Make,
-                led: 0,
-            };
-            edit::<S, N, L>(alloc, store, site, name, rest, root, touches)
+    // The root with a folder at each of the names; it is the same where the last is there already.
+    fn all_made<S: Store, N: NameHash, L: Ledger>(
+        &self,
+        alloc: Global,
+        store: &mut S,
+        names: &[Name],
+        touches: &mut Steps<L>,
+    ) -> Result<Entry, Stop>
+        requires mfs { IsMfs self.now }
+        ensures edits { EditsFolder S.X.block32 N.name64 self.now.profile (S.seen store.old) (S.seen store.new) []
+            self.now.root (made true names.now) result }
+        ensures there { (p : TheProfile) (es below : Entries)
+            → StandsOver S.X.block32 N.name64 (S.seen store.old).told self.now p es
+            → Stood (S.seen store.old).faults (S.seen store.new).faults
+            → at 0 names.now (Dir es) ≡ Ok (Dir below) → ((S.seen store.new).told ≡ (S.seen store.old).told)
+            × IfOk result (λ e. e ≡ self.now.root) }
+        ensures saves { OnlySaves S.X.block32 (IsBad N.name64 (Some self.now.profile)) (stop_fault result)
+            (S.seen store.old) (S.seen store.new) }
+        ensures touches { TouchesFolder S.X.block32 N.name64 self.now.profile (S.seen store.old) (S.seen store.new) []
+            self.now.root (λ es. 40 * length names.now + crossings_of S.X.block32 N.name64 self.now.profile names.now es
+            (made true names.now es)) touches.old touches.new }
+        ensures touched { CountsUp (stop_fault result) touches.old touches.new }
+    {
+        match fill::<S, N, L>(alloc, store, &self.profile, 0, names, &self.root, touches)? {
+            None => Ok(self.root),
+            Some(new) => Ok(new),
         }
     }
+
+    /// The root after an edit at the names.
+    pub(crate) fn changed_root<S: Store, N: NameHash, L: Ledger>(
+        &self,
+        alloc: Global,
+        store: &mut S,
+        what: Change,
+        names: &[Name],
+        touches: &mut Steps<L>,
+    ) -> Result<Entry, Stop>
+        requires mfs { IsMfs self.now }
+        ensures edits { (t : Tree) → IsMeant S.X.block32 N.name64 self.now.profile what t
+            → EditsFolder S.X.block32 N.name64 self.now.profile (S.seen store.old) (S.seen store.new)
+            (brought S.X.block32 N.name64 self.now.profile what t) self.now.root (changed_at what t names.now) result }
+        ensures saves { OnlySaves S.X.block32 (IsBad N.name64 (Some self.now.profile)) (stop_fault result)
+            (S.seen store.old) (S.seen store.new) }
+        ensures touches { (t : Tree) → IsMeant S.X.block32 N.name64 self.now.profile what t
+            → TouchesFolder S.X.block32 N.name64 self.now.profile (S.seen store.old) (S.seen store.new)
+            (brought S.X.block32 N.name64 self.now.profile what t) self.now.root
+            (λ es. 40 * length names.now + crossings_of S.X.block32 N.name64 self.now.profile names.now es
+            (changed_at what t names.now es)
+            + weighing_of S.X.block32 N.name64 self.now.profile what names.now es) touches.old touches.new }
+        ensures touched { CountsUp (stop_fault result) touches.old touches.new }
+    {
+        let [name, rest @ ..] = names else {
+            return Err(Stop::Refused(root_refusal(what)));
+        };
+        let site = Site {
+            profile: self.profile,
+            what,
+            led: 0,
+        };
+        edit::<S, N, L>(alloc, store, site, name, rest, &self.root, touches)
+    }
 }
 
-// The root with a folder at each of the names; it is the same where the last is there already.
-fn all_made<S: Store, N: NameHash, L: Ledger>(
-    alloc: Global,
-    store: &mut S,
-    profile: &Profile,
-    root: &Entry,
-    names: &[Name],
-    touches: &mut Steps<L>,
-) -> Result<Entry, Stop>
-    requires profile { IsTrue (is_profile profile.now) }
-    ensures edits { EditsFolder S.X.block32 N.name64 profile.now (S.seen store.old) (S.seen store.new) [] root.now
-        (made true names.now) result }
-    ensures there { (es below : Entries)
-        → IsAgreed S.X.block32 N.name64 (S.seen store.old).told profile.now root.now (Dir es)
-        → Stood (S.seen store.old).faults (S.seen store.new).faults
-        → at 0 names.now (Dir es) ≡ Ok (Dir below) → ((S.seen store.new).told ≡ (S.seen store.old).told)
-        × IfOk result (λ e. e ≡ root.now) }
-    ensures saves { OnlySaves S.X.block32 (IsBad N.name64 (Some profile.now)) (stop_fault result) (S.seen store.old)
-        (S.seen store.new) }
-    ensures touches { TouchesFolder S.X.block32 N.name64 profile.now (S.seen store.old) (S.seen store.new) []
-        root.now (λ es. 40 * length names.now + crossings_of S.X.block32 N.name64 profile.now names.now es
-        (made true names.now es)) touches.old touches.new }
+// Why the root isn't edited so.
+fn root_refusal(what: Change) -> Refused
+    ensures { result ≡ refused_root what }
 {
-    match fill::<S, N, L>(alloc, store, profile, 0, names, root, touches)? {
-        None => Ok(*root),
-        Some(new) => Ok(new),
+    match what {
+        Change::Make => Refused::Exists(0),
+        Change::Put(_) => Refused::RootRefused,
+        Change::Remove(_) => Refused::RootRefused,
     }
 }

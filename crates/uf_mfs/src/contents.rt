@@ -1,23 +1,21 @@
 // Files of the tree read.
-ghost use Rattle.std.specs.Prelude.{◌≡◌, ◌+◌, ◌<◌, ◌^◌, [], ℕ, List, IfErr, IfOk, IsTrue, None, OnErr, Ok, Some, false, length};
+ghost use Rattle.std.specs.Prelude.{◌≡◌, ◌+◌, ◌*◌, ◌<◌, ◌≤◌, ℕ, IfErr, None, Ok, length};
 ghost use Rattle.uf_edge.specs.Counts.{Stood};
 ghost use Rattle.uf_edge.specs.Streams.{AppendsPrefix};
-ghost use Rattle.uf_store.specs.Calls.{OnlyReads, OnlySaves};
-ghost use Rattle.uf_store.specs.Keeping.{KeepsGood};
+ghost use Rattle.uf_store.specs.Calls.{OnlyReads};
 ghost use Rattle.uf_store.specs.Lost.{IsLossOf};
-ghost use Rattle.uf_store.specs.Writing.{SavesOnly};
 ghost use Rattle.uf_tree.specs.declared.profile.Profile.{Profile as TheProfile};
-ghost use Rattle.uf_tree.specs.Profiles.{is_profile};
-ghost use Rattle.uf_tree.specs.Tree.{Dir, Entries, File, Tree};
+ghost use Rattle.uf_tree.specs.Tree.{Dir, Entries, File};
 ghost use Rattle.uf_plain.specs.Edits.{at};
 ghost use Rattle.uf_plain.specs.Files.{plain_bytes_at, read as range_at};
 ghost use Rattle.uf_plain.specs.Needs.{needs_at, way};
-ghost use Rattle.uf_plain.specs.Rules.{allowed};
-ghost use Rattle.uf_mfs.specs.Answers.{Answers, AnswersOr, MeetsOr, Moves, ShownInTree};
+ghost use Rattle.uf_mfs.specs.Answers.{Answers, AnswersOr, MeetsOr};
 ghost use Rattle.uf_mfs.specs.Bad.{IsBad};
-ghost use Rattle.uf_mfs.specs.Reading.{IsBadRead, IsHeightOf, SendsAll, ShownSending, range_needs, to_read};
-ghost use Rattle.uf_mfs.specs.Standing.{IsAgreed, IsMfs, StandsAt, StandsOver};
-ghost use Rattle.uf_mfs.specs.Steps.{EditsFolder, MovesTree, stop_fault};
+ghost use Rattle.uf_mfs.specs.Reading.{AreHeights, IsBadRead, IsHeightOf, SendsAll, ShownSending};
+ghost use Rattle.uf_mfs.specs.Reading.{range_needs, range_touches, to_read};
+ghost use Rattle.uf_mfs.specs.Standing.{IsAgreed, StandsAt, StandsOver};
+ghost use Rattle.uf_mfs.specs.Steps.{stop_fault, tree_fault};
+ghost use Rattle.uf_mfs.specs.Touches.{CountsUp, read_bound};
 
 use crate::looking::look;
 use crate::telling::fault_of;
@@ -33,8 +31,8 @@ use uf_store::{Steps, Store};
 use uf_tree::{Entry, Name};
 
 impl Mfs {
-    /// Writes the bytes of a file from `offset` on, at most `count`, and answers how many. After a fault the sink has a prefix
-    /// of them.
+    /// Writes the bytes of a file from `offset` on, at most `count`, and answers how many. After a fault the sink has a
+    /// prefix of them.
     pub fn read<S: Store, N: NameHash, O: Sink, L: Ledger>(
         &self,
         alloc: Global,
@@ -66,6 +64,12 @@ impl Mfs {
         ensures cause { ShownSending S.X.block32 (IsBadRead N.name64 (S.seen store.old).told) result (S.seen store.old)
             (S.seen store.new) (O.faults out.old) (O.faults out.new) }
         ensures told { (S.seen store.new).told ≡ (S.seen store.old).told }
+        ensures touches { (p : TheProfile) (es : Entries) (rows : ℕ → ℕ)
+            → StandsOver S.X.block32 N.name64 (S.seen store.old).told self.now p es → AreHeights p rows
+            → Stood (S.seen store.old).faults (S.seen store.new).faults
+            → touches.new ≤ touches.old
+            + read_bound (range_touches p rows offset count) path.now.names (Dir es) }
+        ensures touched { CountsUp (tree_fault result) touches.old touches.new }
     {
         let names = path.names.as_slice();
         match look_at_file::<S, N, L>(alloc, store, names, &self.root, touches) {
@@ -78,8 +82,8 @@ impl Mfs {
     }
 }
 
-// The entry of the file that the names lead to.
-fn look_at_file<S: Store, N: NameHash, L: Ledger>(
+/// The entry of the file that the names lead to.
+pub(crate) fn look_at_file<S: Store, N: NameHash, L: Ledger>(
     alloc: Global,
     store: &mut S,
     names: &[Name],
@@ -92,11 +96,13 @@ fn look_at_file<S: Store, N: NameHash, L: Ledger>(
         → MeetsOr (IsLossOf (S.seen store.old).told (way S.X.block32 N.name64 p names.now (Dir es)))
         (λ bytes e. IsAgreed S.X.block32 N.name64 (S.seen store.old).told p e (File bytes))
         (plain_bytes_at names.now es) result }
+    ensures touches { touches.new ≤ touches.old + 11 * length names.now }
     ensures reads { OnlyReads S.X.block32 (IsBad N.name64 None) (stop_fault result) (S.seen store.old)
         (S.seen store.new) }
+    ensures touched { CountsUp (stop_fault result) touches.old touches.new }
 {
-    match look::<S, N, L>(alloc, store, 0, names, root, touches)? {
+    match look::<S, N, L>(alloc, store, 0, names, Thing::Folder(*root, None), touches)? {
         Thing::File(entry, _) => Ok(entry),
-        Thing::Folder(_) => Err(Stop::Refused(Refused::IsADirectory(names.len()))),
+        Thing::Folder(_, _) => Err(Stop::Refused(Refused::IsADirectory(names.len()))),
     }
 }

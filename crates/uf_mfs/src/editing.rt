@@ -10,7 +10,7 @@ ghost use Rattle.uf_tree.specs.Names.{is_name};
 ghost use Rattle.uf_tree.specs.Profiles.{is_profile};
 ghost use Rattle.uf_tree.specs.Tree.{Dir, Entries, Nothing, Tree};
 ghost use Rattle.uf_tree.specs.TreePlan.{blocks, named_entries};
-ghost use Rattle.uf_dir.specs.Bounds.{crossing, shard_count, weighing};
+ghost use Rattle.uf_dir.specs.Bounds.{crossing, weighing_from};
 ghost use Rattle.uf_mfs.specs.Answers.{Decides, EditsAfter};
 ghost use Rattle.uf_plain.specs.Rules.{allowed};
 ghost use Rattle.uf_mfs.specs.Bad.{IsBad};
@@ -20,7 +20,7 @@ ghost use Rattle.uf_plain.specs.Edits.{may_be, or_new, with_child, without_child
 ghost use Rattle.uf_mfs.specs.Standing.{IsAgreed, IsAgreedMember, IsMeant, IsPlanOf, brought};
 ghost use Rattle.uf_mfs.specs.Steps.{EditsFolder, FillsFolder, GivesFolder, IsFolderOver, IsOpened, changed_below};
 ghost use Rattle.uf_mfs.specs.Steps.{opened, stop_fault};
-ghost use Rattle.uf_mfs.specs.Touches.{TouchesFolder, crossings_of, weighing_of};
+ghost use Rattle.uf_mfs.specs.Touches.{CountsUp, TouchesFolder, crossings_of, weighing_of};
 
 use crate::looking::member;
 use crate::{Stop, Thing};
@@ -64,6 +64,7 @@ pub(crate) fn edit<S: Store, N: NameHash, L: Ledger>(
         (λ es. 40 * (length rest.now + 1) + crossings_of S.X.block32 N.name64 site.profile (name.now ∷ rest.now) es
         (edited (change site.what t) site.led name.now rest.now es)
         + weighing_of S.X.block32 N.name64 site.profile site.what (name.now ∷ rest.now) es) touches.old touches.new }
+    ensures touched { CountsUp (stop_fault result) touches.old touches.new }
 {
     let found = member::<S, N, L>(alloc, store, folder, name, touches)?;
     let [next, more @ ..] = rest else {
@@ -104,6 +105,7 @@ pub(crate) fn fill<S: Store, N: NameHash, L: Ledger>(
     ensures touches { TouchesFolder S.X.block32 N.name64 profile.now (S.seen store.old) (S.seen store.new) []
         folder.now (λ es. 40 * length names.now + crossings_of S.X.block32 N.name64 profile.now names.now es
         (made_all led names.now es)) touches.old touches.new }
+    ensures touched { CountsUp (stop_fault result) touches.old touches.new }
 {
     let [name, rest @ ..] = names else {
         return Ok(None);
@@ -150,6 +152,7 @@ fn open_or_make<S: Store, N: NameHash, L: Ledger>(
     ensures saves { OnlySaves S.X.block32 (IsBad N.name64 None) (stop_fault result) (S.seen store.old)
         (S.seen store.new) }
     ensures touches { touches.new ≤ touches.old + 12 }
+    ensures touched { CountsUp (stop_fault result) touches.old touches.new }
 {
     match member::<S, N, L>(alloc, store, folder, name, touches)? {
         None => {
@@ -157,12 +160,12 @@ fn open_or_make<S: Store, N: NameHash, L: Ledger>(
             Ok((new, true))
         }
         Some(Thing::File(_, _)) => Err(Stop::Refused(Refused::NotADirectory(led))),
-        Some(Thing::Folder(entry)) => Ok((entry, false)),
+        Some(Thing::Folder(entry, _)) => Ok((entry, false)),
     }
 }
 
-// The entry of a member that has to be a folder.
-fn folder_of(led: usize, found: Option<Thing>) -> Result<Entry, Refused>
+/// The entry of a member that has to be a folder.
+pub(crate) fn folder_of(led: usize, found: Option<Thing>) -> Result<Entry, Refused>
     ensures { (X : List ℕ → List ℕ) (N : List ℕ → ℕ) (told : Told) (p : TheProfile) (o : TheOption Tree)
         → IsAgreedMember X N told p o found
         → Decides (λ es e. IsAgreed X N told p e (Dir es)) (as_folder led o) result }
@@ -170,7 +173,7 @@ fn folder_of(led: usize, found: Option<Thing>) -> Result<Entry, Refused>
     match found {
         None => Err(Refused::NotFound(led)),
         Some(Thing::File(_, _)) => Err(Refused::NotADirectory(led)),
-        Some(Thing::Folder(entry)) => Ok(entry),
+        Some(Thing::Folder(entry, _)) => Ok(entry),
     }
 }
 
@@ -203,6 +206,7 @@ fn edit_here<S: Store, N: NameHash, L: Ledger>(
         → touches.new ≤ touches.old + (19 + crossings_of S.X.block32 N.name64 site.profile (name.now ∷ []) es
         (change site.what t (site.led + 1) name.now es)
         + weighing_of S.X.block32 N.name64 site.profile site.what (name.now ∷ []) es) }
+    ensures touched { CountsUp (stop_fault result) touches.old touches.new }
 {
     let led = site.led + 1;
     let profile = &site.profile;
@@ -223,14 +227,14 @@ fn may(what: Change, led: usize, found: Option<Thing>) -> Result<(), Refused>
         → Decides (λ a b. Unit {0}) (may_be what led o) result }
 {
     match what {
-        Change::Make => may_put(led, found),
-        Change::Put(_) => may_put(led, found),
+        Change::Make => may_make(led, found),
+        Change::Put(_) => Ok(()),
         Change::Remove(recursive) => may_take(recursive, led, found),
     }
 }
 
 // Whether a name is free.
-fn may_put(led: usize, found: Option<Thing>) -> Result<(), Refused>
+fn may_make(led: usize, found: Option<Thing>) -> Result<(), Refused>
     ensures { (X : List ℕ → List ℕ) (N : List ℕ → ℕ) (told : Told) (p : TheProfile) (o : TheOption Tree)
         → IsAgreedMember X N told p o found
         → Decides (λ a b. Unit {0}) (as_free led o) result }
@@ -250,7 +254,7 @@ fn may_take(recursive: bool, led: usize, found: Option<Thing>) -> Result<(), Ref
     match found {
         None => Err(Refused::NotFound(led)),
         Some(Thing::File(_, _)) => Ok(()),
-        Some(Thing::Folder(_)) => {
+        Some(Thing::Folder(_, _)) => {
             if recursive {
                 Ok(())
             } else {
@@ -279,6 +283,7 @@ fn make_in<S: Store, N: NameHash, L: Ledger>(
         (named_entries S.X.block32 N.name64 profile.now es)
         (named_entries S.X.block32 N.name64 profile.now (with_child name.now (Dir Nothing) es)))
         touches.old touches.new }
+    ensures touched { CountsUp (stop_fault result) touches.old touches.new }
 {
     let new = empty(alloc, store, touches)?;
     put_in::<S, N, L>(alloc, store, profile, folder, name, &new, touches)
@@ -305,6 +310,7 @@ pub(crate) fn put_in<S: Store, N: NameHash, L: Ledger>(
         (blocks S.X.block32 N.name64 profile.now t) folder.now
         (λ es. 17 + crossing S.X.block32 N.name64 profile.now (named_entries S.X.block32 N.name64 profile.now es)
         (named_entries S.X.block32 N.name64 profile.now (with_child name.now t es))) touches.old touches.new }
+    ensures touched { CountsUp (stop_fault result) touches.old touches.new }
 {
     names_are_good(name);
     let new = put::<S, N, L>(alloc, store, profile, &folder.cid, name, entry, touches)?;
@@ -331,9 +337,10 @@ fn take_out<S: Store, N: NameHash, L: Ledger>(
         (S.seen store.new) }
     ensures touches { TouchesFolder S.X.block32 N.name64 profile.now (S.seen store.old) (S.seen store.new) []
         folder.now (λ es. 18
-        + weighing profile.now (shard_count S.X.block32 N.name64 (named_entries S.X.block32 N.name64 profile.now es))
+        + weighing_from S.X.block32 N.name64 profile.now (named_entries S.X.block32 N.name64 profile.now es)
         + crossing S.X.block32 N.name64 profile.now (named_entries S.X.block32 N.name64 profile.now es)
         (named_entries S.X.block32 N.name64 profile.now (without_child name.now es))) touches.old touches.new }
+    ensures touched { CountsUp (stop_fault result) touches.old touches.new }
 {
     let taken = remove::<S, N, L>(alloc, store, profile, &folder.cid, name, touches)?;
     match taken {

@@ -11,9 +11,13 @@ mod looking;
 mod measuring;
 mod mfs;
 mod opening;
+mod placing;
 mod reading;
+mod spotting;
+mod target;
 mod telling;
 mod thing;
+mod writing;
 
 pub use fault::{MfsFault, Stop};
 pub use mfs::Mfs;
@@ -21,4 +25,12 @@ pub use thing::Thing;
 pub use uf_plain::Ready;
 
 #[cfg(test)]
+mod file_tests;
+#[cfg(test)]
+mod loss_tests;
+#[cfg(test)]
+mod move_tests;
+#[cfg(test)]
 mod tests;
+#[cfg(test)]
+mod tree_tests;

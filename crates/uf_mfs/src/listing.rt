@@ -5,6 +5,7 @@ ghost use Rattle.uf_tree.specs.declared.profile.Profile.{Profile};
 ghost use Rattle.uf_tree.specs.Nodes.{Named};
 ghost use Rattle.uf_tree.specs.Tree.{Dir, Entries, Tree, pairs as pairs_in};
 ghost use Rattle.uf_mfs.specs.Answers.{Pushes};
+ghost use Rattle.uf_dir.specs.Bad.{IsBadRoot};
 ghost use Rattle.uf_mfs.specs.Bad.{IsBad};
 ghost use Rattle.uf_store.specs.Calls.{OnlyReads};
 ghost use Rattle.uf_store.specs.Faults.{fault_in};
@@ -13,7 +14,7 @@ ghost use Rattle.std.specs.List.{flat_map};
 ghost use Rattle.uf_plain.specs.Needs.{own_needs, root_of, rows_need};
 ghost use Rattle.uf_store.specs.Lost.{ReadsOver};
 ghost use Rattle.uf_mfs.specs.Standing.{AreMembers, IsAgreed, IsAgreedThing};
-ghost use Rattle.uf_mfs.specs.Touches.{members_in};
+ghost use Rattle.uf_mfs.specs.Touches.{CountsUp, members_in};
 
 use crate::Thing;
 use crate::looking::thing_of;
@@ -41,13 +42,14 @@ pub(crate) fn names_of<S: Store, N: NameHash, L: Ledger>(
         (S.seen store.new) }
     ensures touches { (p : Profile) (t : Tree) → IsAgreedThing S.X.block32 N.name64 (S.seen store.old).told p t thing
         → touches.new ≤ touches.old + (length (own_needs S.X.block32 N.name64 p t) + 1) }
+    ensures touched { CountsUp (fault_in result) touches.old touches.new }
 {
     match thing {
         Thing::File(_, _) => match own_name(alloc, path) {
             Err(_) => Err(StoreFault::Memory),
             Ok(names) => Ok(names),
         },
-        Thing::Folder(folder) => names_in::<S, N, L>(alloc, store, &folder, touches),
+        Thing::Folder(folder, _) => names_in::<S, N, L>(alloc, store, &folder, touches),
     }
 }
 
@@ -79,6 +81,7 @@ fn names_in<S: Store, N: NameHash, L: Ledger>(
     ensures touches { (p : Profile) (es : Entries)
         → IsAgreed S.X.block32 N.name64 (S.seen store.old).told p folder.now (Dir es)
         → touches.new ≤ touches.old + (length (own_needs S.X.block32 N.name64 p (Dir es)) + 1) }
+    ensures touched { CountsUp (fault_in result) touches.old touches.new }
 {
     let pairs = entries(alloc, store, &folder.cid, touches)?;
     match names_in_pairs(alloc, pairs.as_slice()) {
@@ -115,13 +118,14 @@ pub(crate) fn rows_of<S: Store, N: NameHash, L: Ledger>(
     ensures touches { (p : Profile) (t : Tree) → IsAgreedThing S.X.block32 N.name64 (S.seen store.old).told p t thing
         → Stood (S.seen store.old).faults (S.seen store.new).faults
         → touches.new ≤ touches.old + (length (own_needs S.X.block32 N.name64 p t) + 1 + length (members_in t)) }
+    ensures touched { CountsUp (fault_in result) touches.old touches.new }
 {
     match thing {
         Thing::File(entry, size) => match own_row(alloc, path, entry.cid, size.length) {
             Err(_) => Err(StoreFault::Memory),
             Ok(rows) => Ok(rows),
         },
-        Thing::Folder(folder) => rows_in::<S, N, L>(alloc, store, &folder, touches),
+        Thing::Folder(folder, _) => rows_in::<S, N, L>(alloc, store, &folder, touches),
     }
 }
 
@@ -156,6 +160,7 @@ fn rows_in<S: Store, N: NameHash, L: Ledger>(
         → IsAgreed S.X.block32 N.name64 (S.seen store.old).told p folder.now (Dir es)
         → Stood (S.seen store.old).faults (S.seen store.new).faults
         → touches.new ≤ touches.old + (length (own_needs S.X.block32 N.name64 p (Dir es)) + 1 + length (pairs_in es)) }
+    ensures touched { CountsUp (fault_in result) touches.old touches.new }
 {
     let pairs = entries(alloc, store, &folder.cid, touches)?;
     rows_from::<S, N, L>(alloc, store, pairs.as_slice(), touches)
@@ -173,9 +178,10 @@ fn rows_from<S: Store, N: NameHash, L: Ledger>(
         → Stood (S.seen store.old).faults (S.seen store.new).faults
         → ReadsOver (S.seen store.old).told (flat_map (λ (m : List ℕ × Tree). root_of S.X.block32 N.name64 p m.1) l)
         (map (λ (m : List ℕ × Tree). row_at S.X.block32 N.name64 p m.0 m.1) l) result }
-    ensures reads { OnlyReads S.X.block32 (IsBad N.name64 None) (fault_in result) (S.seen store.old)
+    ensures reads { OnlyReads S.X.block32 IsBadRoot (fault_in result) (S.seen store.old)
         (S.seen store.new) }
     ensures touches { touches.new ≤ touches.old + length pairs.now }
+    ensures touched { CountsUp (fault_in result) touches.old touches.new }
 {
     let mut rows = Rows::new(alloc);
     for pair in pairs {
@@ -196,9 +202,10 @@ fn push_row<S: Store, N: NameHash, L: Ledger>(
         → Stood (S.seen store.old).faults (S.seen store.new).faults
         → Pushes (S.seen store.old).told (root_of S.X.block32 N.name64 p t) rows.old rows.new
         (row_at S.X.block32 N.name64 p pair.now.0 t) result }
-    ensures reads { OnlyReads S.X.block32 (IsBad N.name64 None) (fault_in result) (S.seen store.old)
+    ensures reads { OnlyReads S.X.block32 IsBadRoot (fault_in result) (S.seen store.old)
         (S.seen store.new) }
     ensures touches { touches.new ≤ touches.old + 1 }
+    ensures touched { CountsUp (fault_in result) touches.old touches.new }
 {
     let row = row_of::<S, N, L>(alloc, store, pair, touches)?;
     match rows.push(row) {
@@ -218,9 +225,10 @@ fn row_of<S: Store, N: NameHash, L: Ledger>(
         → Stood (S.seen store.old).faults (S.seen store.new).faults
         → ReadsOver (S.seen store.old).told (root_of S.X.block32 N.name64 p t)
         (row_at S.X.block32 N.name64 p pair.now.0 t) result }
-    ensures reads { OnlyReads S.X.block32 (IsBad N.name64 None) (fault_in result) (S.seen store.old)
+    ensures reads { OnlyReads S.X.block32 IsBadRoot (fault_in result) (S.seen store.old)
         (S.seen store.new) }
     ensures touches { touches.new ≤ touches.old + 1 }
+    ensures touched { CountsUp (fault_in result) touches.old touches.new }
 {
     let size = entry_size::<S, N, L>(alloc, store, &pair.entry, touches)?;
     match pair.name.copy() {
@@ -243,12 +251,13 @@ fn entry_size<S: Store, N: NameHash, L: Ledger>(
     ensures sizes { (p : Profile) (t : Tree) → IsAgreed S.X.block32 N.name64 (S.seen store.old).told p entry.now t
         → Stood (S.seen store.old).faults (S.seen store.new).faults
         → ReadsOver (S.seen store.old).told (root_of S.X.block32 N.name64 p t) (size_at t) result }
-    ensures reads { OnlyReads S.X.block32 (IsBad N.name64 None) (fault_in result) (S.seen store.old)
+    ensures reads { OnlyReads S.X.block32 IsBadRoot (fault_in result) (S.seen store.old)
         (S.seen store.new) }
     ensures touches { touches.new ≤ touches.old + 1 }
+    ensures touched { CountsUp (fault_in result) touches.old touches.new }
 {
     match thing_of::<S, N, L>(alloc, store, entry, touches)? {
         Thing::File(_, size) => Ok(size.length),
-        Thing::Folder(_) => Ok(0),
+        Thing::Folder(_, _) => Ok(0),
     }
 }

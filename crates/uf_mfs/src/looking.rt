@@ -4,6 +4,7 @@ ghost use Rattle.uf_edge.specs.Counts.{Stood};
 ghost use Rattle.uf_tree.specs.declared.profile.Profile.{Profile};
 ghost use Rattle.uf_tree.specs.Tree.{Dir, Entries, Tree};
 ghost use Rattle.uf_mfs.specs.Answers.{MeetsOr};
+ghost use Rattle.uf_dir.specs.Bad.{IsBadRoot};
 ghost use Rattle.uf_mfs.specs.Bad.{IsBad};
 ghost use Rattle.uf_store.specs.Calls.{OnlyReads};
 ghost use Rattle.uf_store.specs.Faults.{fault_in};
@@ -12,6 +13,7 @@ ghost use Rattle.uf_mfs.specs.Standing.{IsAgreed, IsAgreedMember, IsAgreedThing,
 ghost use Rattle.uf_plain.specs.Needs.{member_needs, way};
 ghost use Rattle.uf_store.specs.Lost.{IsLossOf};
 ghost use Rattle.uf_mfs.specs.Steps.{stop_fault};
+ghost use Rattle.uf_mfs.specs.Touches.{CountsUp, unseen, unseen_after};
 
 use crate::{Stop, Thing};
 use std::alloc::Global;
@@ -22,39 +24,35 @@ use uf_plain::Refused;
 use uf_store::{Steps, Store, StoreFault};
 use uf_tree::{Entry, Name};
 
-/// What the names lead to from this folder, to which so many names led.
+/// What the names lead to from this thing, to which so many names led.
 pub(crate) fn look<S: Store, N: NameHash, L: Ledger>(
     alloc: Global,
     store: &mut S,
     led: usize,
     names: &[Name],
-    folder: &Entry,
+    thing: Thing,
     touches: &mut Steps<L>,
 ) -> Result<Thing, Stop>
     requires { led + length names.now < 2 ^ 64 }
-    ensures looks { (p : Profile) (es : Entries)
-        → IsAgreed S.X.block32 N.name64 (S.seen store.old).told p folder.now (Dir es)
+    ensures looks { (p : Profile) (t : Tree) → IsAgreedThing S.X.block32 N.name64 (S.seen store.old).told p t thing
         → Stood (S.seen store.old).faults (S.seen store.new).faults
-        → MeetsOr (IsLossOf (S.seen store.old).told (way S.X.block32 N.name64 p names.now (Dir es)))
-        (λ t thing. IsAgreedThing S.X.block32 N.name64 (S.seen store.old).told p t thing) (at led names.now (Dir es))
-        result }
+        → MeetsOr (IsLossOf (S.seen store.old).told (way S.X.block32 N.name64 p names.now t))
+        (λ t thing. IsAgreedThing S.X.block32 N.name64 (S.seen store.old).told p t thing) (at led names.now t) result }
     ensures reads { OnlyReads S.X.block32 (IsBad N.name64 None) (stop_fault result) (S.seen store.old)
         (S.seen store.new) }
     ensures touches { touches.new ≤ touches.old + 11 * length names.now }
+    ensures touched { CountsUp (stop_fault result) touches.old touches.new }
+    ensures seen { IfOk result (λ found. unseen found ≡ unseen_after names.now thing) }
 {
-    match names {
-        [] => Ok(Thing::Folder(*folder)),
-        [name, rest @ ..] => match member::<S, N, L>(alloc, store, folder, name, touches) {
-            Err(stop) => Err(stop),
-            Ok(None) => Err(Stop::Refused(Refused::NotFound(led + 1))),
-            Ok(Some(Thing::File(entry, size))) => match rest {
-                [] => Ok(Thing::File(entry, size)),
-                [_, ..] => Err(Stop::Refused(Refused::NotADirectory(led + 1))),
-            },
-            Ok(Some(Thing::Folder(entry))) => {
-                look::<S, N, L>(alloc, store, led + 1, rest, &entry, touches)
-            }
-        },
+    let [name, rest @ ..] = names else {
+        return Ok(thing);
+    };
+    let Thing::Folder(folder, _) = thing else {
+        return Err(Stop::Refused(Refused::NotADirectory(led)));
+    };
+    match member::<S, N, L>(alloc, store, &folder, name, touches)? {
+        None => Err(Stop::Refused(Refused::NotFound(led + 1))),
+        Some(below) => look::<S, N, L>(alloc, store, led + 1, rest, below, touches),
     }
 }
 
@@ -75,15 +73,14 @@ pub(crate) fn member<S: Store, N: NameHash, L: Ledger>(
     ensures reads { OnlyReads S.X.block32 (IsBad N.name64 None) (stop_fault result) (S.seen store.old)
         (S.seen store.new) }
     ensures touches { touches.new ≤ touches.old + 11 }
+    ensures touched { CountsUp (stop_fault result) touches.old touches.new }
+    ensures seen { IfOk result (λ found. IfSome found (λ thing. unseen thing ≡ 0)) }
 {
-    match find::<S, N, L>(alloc, store, &folder.cid, name, touches) {
-        Err(fault) => Err(Stop::Store(fault)),
-        Ok(None) => Ok(None),
-        Ok(Some(entry)) => match thing_of::<S, N, L>(alloc, store, &entry, touches) {
-            Err(fault) => Err(Stop::Store(fault)),
-            Ok(thing) => Ok(Some(thing)),
-        },
-    }
+    let Some(entry) = find::<S, N, L>(alloc, store, &folder.cid, name, touches)? else {
+        return Ok(None);
+    };
+    let thing = thing_of::<S, N, L>(alloc, store, &entry, touches)?;
+    Ok(Some(thing))
 }
 
 /// Whether an entry is a file's or a folder's, by one load. A raw block is a file, and isn't loaded.
@@ -96,12 +93,14 @@ pub(crate) fn thing_of<S: Store, N: NameHash, L: Ledger>(
     ensures thing { (p : Profile) (t : Tree) → IsAgreed S.X.block32 N.name64 (S.seen store.old).told p entry.now t
         → Stood (S.seen store.old).faults (S.seen store.new).faults
         → ReadsThing S.X.block32 N.name64 (S.seen store.old).told p t result }
-    ensures reads { OnlyReads S.X.block32 (IsBad N.name64 None) (fault_in result) (S.seen store.old)
+    ensures reads { OnlyReads S.X.block32 IsBadRoot (fault_in result) (S.seen store.old)
         (S.seen store.new) }
     ensures touches { touches.new ≤ touches.old + 1 }
+    ensures touched { CountsUp (fault_in result) touches.old touches.new }
+    ensures seen { IfOk result (λ thing. unseen thing ≡ 0) }
 {
     match kind_of(alloc, store, entry, touches)? {
-        Kind::Folder(_) => Ok(Thing::Folder(*entry)),
+        Kind::Folder(links) => Ok(Thing::Folder(*entry, Some(links))),
         Kind::File(size) => Ok(Thing::File(*entry, size)),
     }
 }

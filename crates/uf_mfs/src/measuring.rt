@@ -1,30 +1,28 @@
 // What is said of a file or a folder.
-ghost use Rattle.std.specs.Prelude.{◌≡◌, ◌≢◌, ◌⊎◌, ◌≤◌, ◌+◌, List, None, ℕ};
+ghost use Rattle.std.specs.Prelude.{◌≡◌, ◌≤◌, ◌+◌, None, false, true};
 ghost use Rattle.uf_edge.specs.Counts.{Stood};
-ghost use Rattle.uf_dagpb.specs.declared.fault.PbFault.TheVariants as pb;
 ghost use Rattle.uf_store.specs.Calls.{OnlyReads};
 ghost use Rattle.uf_store.specs.Faults.{fault_in};
-ghost use Rattle.uf_store.specs.declared.store.Role.TheVariants.{Directory};
-ghost use Rattle.uf_store.specs.declared.store.StoreFault.TheVariants as faults;
 ghost use Rattle.uf_tree.specs.declared.profile.Profile.{Profile};
-ghost use Rattle.uf_tree.specs.Tree.{Dir, Entries, Tree};
-ghost use Rattle.uf_plain.specs.Replies.{children as children_of, stat_of as stat_at};
-ghost use Rattle.uf_mfs.specs.Bad.{IsBad};
+ghost use Rattle.uf_tree.specs.Tree.{Tree};
+ghost use Rattle.uf_plain.specs.Replies.{stat_of as stat_at};
+ghost use Rattle.uf_dir.specs.Bad.{IsBadRoot};
 ghost use Rattle.uf_plain.specs.Needs.{root_of};
 ghost use Rattle.uf_store.specs.Lost.{ReadsOver};
 ghost use Rattle.uf_mfs.specs.Standing.{IsAgreed, IsAgreedThing};
+ghost use Rattle.uf_mfs.specs.Touches.{CountsUp, unseen};
 
 use crate::Thing;
 use std::alloc::Global;
 use std::sync::ledger::Ledger;
-use uf_cid::Cid;
-use uf_dagpb::{PbFault, decode_lenient};
+use uf_dir::{Kind, kind_of};
+use uf_fileread::FileSize;
 use uf_murmur::NameHash;
 use uf_plain::Stat;
-use uf_store::{Role, Steps, Store, StoreFault, need};
+use uf_store::{Steps, Store, StoreFault};
 use uf_tree::Entry;
 
-/// What is said of a file or a folder. Of a folder the root block is loaded, of a file none.
+/// What is said of a file or a folder. Nothing is loaded where the lookup has loaded its root block.
 pub(crate) fn stat_of<S: Store, N: NameHash, L: Ledger>(
     alloc: Global,
     store: &mut S,
@@ -35,60 +33,74 @@ pub(crate) fn stat_of<S: Store, N: NameHash, L: Ledger>(
         → Stood (S.seen store.old).faults (S.seen store.new).faults
         → ReadsOver (S.seen store.old).told (root_of S.X.block32 N.name64 p t) (stat_at S.X.block32 N.name64 p t)
         result }
-    ensures reads { OnlyReads S.X.block32 (IsBad N.name64 None) (fault_in result) (S.seen store.old)
+    ensures reads { OnlyReads S.X.block32 IsBadRoot (fault_in result) (S.seen store.old)
         (S.seen store.new) }
-    ensures touches { touches.new ≤ touches.old + 1 }
+    ensures touches { touches.new ≤ touches.old + unseen thing }
+    ensures touched { CountsUp (fault_in result) touches.old touches.new }
 {
     match thing {
-        Thing::File(entry, size) => Ok(Stat {
-            cid: entry.cid,
-            size: size.length,
-            cumulative: entry.tsize,
-            children: size.links,
-            is_folder: false,
-        }),
-        Thing::Folder(entry) => {
-            let children = links_at::<S, N, L>(alloc, store, &entry, touches)?;
-            Ok(Stat {
-                cid: entry.cid,
-                size: 0,
-                cumulative: entry.tsize,
-                children,
-                is_folder: true,
-            })
-        }
+        Thing::File(entry, size) => Ok(file_stat(&entry, size)),
+        Thing::Folder(entry, Some(links)) => Ok(folder_stat(&entry, links)),
+        Thing::Folder(entry, None) => stat_at_root::<S, N, L>(alloc, store, &entry, touches),
     }
 }
 
-// How many links the root block of a folder has.
-fn links_at<S: Store, N: NameHash, L: Ledger>(
+// What is said of a file or a folder, by one load of its root block.
+fn stat_at_root<S: Store, N: NameHash, L: Ledger>(
     alloc: Global,
     store: &mut S,
-    folder: &Entry,
+    entry: &Entry,
     touches: &mut Steps<L>,
-) -> Result<u64, StoreFault>
-    ensures children { (p : Profile) (es : Entries)
-        → IsAgreed S.X.block32 N.name64 (S.seen store.old).told p folder.now (Dir es)
+) -> Result<Stat, StoreFault>
+    ensures stat { (p : Profile) (t : Tree) → IsAgreed S.X.block32 N.name64 (S.seen store.old).told p entry.now t
         → Stood (S.seen store.old).faults (S.seen store.new).faults
-        → ReadsOver (S.seen store.old).told (root_of S.X.block32 N.name64 p (Dir es))
-        (children_of S.X.block32 N.name64 p (Dir es)) result }
-    ensures reads { OnlyReads S.X.block32 (IsBad N.name64 None) (fault_in result) (S.seen store.old)
+        → ReadsOver (S.seen store.old).told (root_of S.X.block32 N.name64 p t) (stat_at S.X.block32 N.name64 p t)
+        result }
+    ensures reads { OnlyReads S.X.block32 IsBadRoot (fault_in result) (S.seen store.old)
         (S.seen store.new) }
     ensures touches { touches.new ≤ touches.old + 1 }
+    ensures touched { CountsUp (fault_in result) touches.old touches.new }
 {
-    need(store, &folder.cid, touches)?;
-    match decode_lenient(alloc, store.block()) {
-        Ok(node) => Ok(node.links.len() as u64),
-        Err(fault) => Err(unread(folder.cid, fault)),
+    match kind_of(alloc, store, entry, touches)? {
+        Kind::File(size) => Ok(file_stat(entry, size)),
+        Kind::Folder(links) => Ok(folder_stat(entry, links)),
     }
 }
 
-// The fault of a folder's block that isn't read as a node.
-fn unread(cid: Cid, fault: PbFault) -> StoreFault
-    ensures { (result ≡ faults.Memory) ⊎ ((fault ≢ pb.Memory) × (result ≡ faults.BadBlock cid Directory)) }
+// What is said of a file.
+fn file_stat(entry: &Entry, size: FileSize) -> Stat
+    ensures { result ≡ record {
+      cid = entry.now.cid;
+      size = size.length;
+      cumulative = entry.now.tsize;
+      children = size.links;
+      is_folder = false;
+    } }
 {
-    match fault {
-        PbFault::Memory => StoreFault::Memory,
-        _ => StoreFault::BadBlock(cid, Role::Directory),
+    Stat {
+        cid: entry.cid,
+        size: size.length,
+        cumulative: entry.tsize,
+        children: size.links,
+        is_folder: false,
+    }
+}
+
+// What is said of a folder whose root block has so many links.
+fn folder_stat(entry: &Entry, links: u64) -> Stat
+    ensures { result ≡ record {
+      cid = entry.now.cid;
+      size = 0;
+      cumulative = entry.now.tsize;
+      children = links;
+      is_folder = true;
+    } }
+{
+    Stat {
+        cid: entry.cid,
+        size: 0,
+        cumulative: entry.tsize,
+        children: links,
+        is_folder: true,
     }
 }

@@ -43,4 +43,4 @@ returns-in-Some-Folder-clause-opens g c = λ p es o.
     let X = g.S.X.BlockHash.block32 in let N = g.N.NameHash.name64 in
     let a = g.S.Store.seen c.args.store.now in let b = g.S.Store.seen c.member.new.store in
     let found = subst (λ x. IsAgreedMember X N a.told p (child c.args.name.now es) x) (c.in-Some-Folder.is ∙ ap Some c.in-Some-Folder.field-0-is) (c.in_ok-member.ensures.member p es (agreed-over X N p c.args.folder.now es o) o.calm.faults) in
-    rw c.in-Some-Folder.entry-is (opened-folder X N p c.args.led c.args.folder.now c.in-Some-Folder.entry c.args.name.now es (reads-saves {f = None} c.in_ok-member.ensures.reads) o found)
+    rw c.in-Some-Folder.entry-is (opened-folder X N p c.args.led c.args.folder.now c.in-Some-Folder.entry _ c.args.name.now es (reads-saves {f = None} c.in_ok-member.ensures.reads) o found)

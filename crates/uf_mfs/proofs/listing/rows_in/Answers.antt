@@ -1,11 +1,11 @@
-use Rattle.std.proofs.Common.{arith, Err, None, Ok, subst, sym, ◌∙◌}
+use Rattle.std.proofs.Common.{arith, Err, Ok, subst, sym, ◌∙◌}
 use Rattle.std.proofs.lemmas.Result.{err_from_is_err_and}
 use Rattle.uf_store.specs.Lost.{ReadsOver}
 use Rattle.uf_store.specs.Faults.{fault_in}
 use Rattle.uf_store.proofs.Calls.{shown-rises, stood-back, stood-front}
 use Rattle.uf_tree.specs.Tree.{Dir, pairs}
 use Rattle.uf_plain.specs.Needs.{own_needs}
-use Rattle.uf_mfs.specs.Bad.{IsBad}
+use Rattle.uf_dir.specs.Bad.{IsBadRoot}
 use Rattle.uf_mfs.specs.Standing.{AreMembers, IsAgreed}
 use Rattle.uf_mfs.proofs.Agreed.{folder-members}
 use Rattle.uf_mfs.proofs.Answering.{entries-says, entries-touches, listed-shows}
@@ -29,7 +29,7 @@ pub returns-clause-rows : goal.returns-clause-rows
 returns-clause-rows g c = λ p es s stood.
     let X = g.S.X.BlockHash.block32 in let N = g.N.NameHash.name64 in
     let a = g.S.Store.seen c.args.store.now in let b = g.S.Store.seen c.entries.new.store in let d = g.S.Store.seen c.rows_from.new.store in
-    let front = stood-front a.faults b.faults d.faults c.in_ok-pairs.ensures.cause.faults (shown-rises X (IsBad N None) (fault_in c.rows_from.result) b d c.rows_from.ensures.reads.cause).faults stood in
+    let front = stood-front a.faults b.faults d.faults c.in_ok-pairs.ensures.cause.faults (shown-rises X IsBadRoot (fault_in c.rows_from.result) b d c.rows_from.ensures.reads.cause).faults stood in
     let back = stood-back a.faults b.faults d.faults c.in_ok-pairs.ensures.cause.faults stood in
     let is = entries-says X N (record { size = g.met.S.X.BlockHash.size; are_bytes = g.met.S.X.BlockHash.are_bytes }) g.met.N.NameHash.fits a.told p c.args.folder.now es (Ok c.in_ok-pairs.pairs) s
     (λ M p l i k. c.in_ok-pairs.ensures.value M p l i k front) in
@@ -47,7 +47,7 @@ pub returns-clause-touches : goal.returns-clause-touches
 returns-clause-touches g c = λ p es s stood.
     let X = g.S.X.BlockHash.block32 in let N = g.N.NameHash.name64 in
     let a = g.S.Store.seen c.args.store.now in let b = g.S.Store.seen c.entries.new.store in let d = g.S.Store.seen c.rows_from.new.store in
-    let front = stood-front a.faults b.faults d.faults c.in_ok-pairs.ensures.cause.faults (shown-rises X (IsBad N None) (fault_in c.rows_from.result) b d c.rows_from.ensures.reads.cause).faults stood in
+    let front = stood-front a.faults b.faults d.faults c.in_ok-pairs.ensures.cause.faults (shown-rises X IsBadRoot (fault_in c.rows_from.result) b d c.rows_from.ensures.reads.cause).faults stood in
     let is = entries-says X N (record { size = g.met.S.X.BlockHash.size; are_bytes = g.met.S.X.BlockHash.are_bytes }) g.met.N.NameHash.fits a.told p c.args.folder.now es (Ok c.in_ok-pairs.pairs) s (λ M p l i k. c.in_ok-pairs.ensures.value M p l i k front) in
     let members = folder-members X N p b.told c.args.folder.now es (subst (λ told. IsAgreed X N told p c.args.folder.now (Dir es)) (sym c.in_ok-pairs.ensures.told) s) in
     let long = same-length X N p b.told c.as_slice.result.now (pairs es) (subst (λ l. AreMembers X N b.told p l (pairs es)) (sym (c.as_slice.ensures ∙ is)) members) in

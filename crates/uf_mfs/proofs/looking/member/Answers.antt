@@ -1,50 +1,55 @@
-use Rattle.std.proofs.Common.{None, Some, Ok, ap, ◌∙◌}
+use Rattle.std.proofs.Common.{Err, None, Ok, Some, ap, refl}
+use Rattle.std.proofs.lemmas.Result.{err_from_is_err_and}
 use Rattle.uf_store.proofs.Calls.{shown-rises, stood-back, stood-front}
 use Rattle.uf_store.specs.Faults.{fault_in}
 use Rattle.uf_tree.specs.DirPlan.{trail}
 use Rattle.uf_tree.specs.TreePlan.{named_entries}
+use Rattle.uf_dir.specs.Bad.{IsBadRoot}
 use Rattle.uf_plain.specs.Edits.{child}
 use Rattle.uf_mfs.proofs.Answering.{way-shows}
 use Rattle.uf_mfs.proofs.Holding.{loss-front}
 use Rattle.uf_mfs.proofs.Seeing.{find-says, member-err, member-none, member-some}
-use Rattle.uf_mfs.specs.Bad.{IsBad}
 use Rattle.uf_mfs.proofs.looking.member.Goals as goal
 
-pub returns-in-Err-clause-member : goal.returns-in-Err-clause-member
-returns-in-Err-clause-member g c = λ p es s stood.
+pub returns-in_err-entry-clause-member : goal.returns-in_err-entry-clause-member
+returns-in_err-entry-clause-member g c = λ p es s stood.
     let X = g.S.X.BlockHash.block32 in let N = g.N.NameHash.name64 in let a = g.S.Store.seen c.args.store.now in
-    loss-front a.told (trail X N p (named_entries X N p es) c.args.name.now) _ c.in-Err.fault
-    (find-says X N (record { size = g.met.S.X.BlockHash.size; are_bytes = g.met.S.X.BlockHash.are_bytes }) g.met.N.NameHash.fits a.told p c.args.folder.now es c.args.name.now c.find.result _ c.in-Err.is s (λ p l i k. c.find.ensures.value p l i k stood))
+    let out = err_from_is_err_and c.from_residual.result c.from_residual.ensures.1 in let f = c.in_err-entry.field-0.0 in
+    rw (out.1, out.2) (loss-front a.told (trail X N p (named_entries X N p es) c.args.name.now) _ f
+    (find-says X N (record { size = g.met.S.X.BlockHash.size; are_bytes = g.met.S.X.BlockHash.are_bytes }) g.met.N.NameHash.fits a.told p c.args.folder.now es c.args.name.now (Err f) (Err f) refl s (λ p l i k. c.in_err-entry.ensures.value p l i k stood)))
 
-pub returns-in-Ok-None-clause-member : goal.returns-in-Ok-None-clause-member
-returns-in-Ok-None-clause-member g c = λ p es s stood.
+pub returns-in_err-entry-clause-reads : goal.returns-in_err-entry-clause-reads
+returns-in_err-entry-clause-reads g c =
+    let out = err_from_is_err_and c.from_residual.result c.from_residual.ensures.1 in
+    rw (out.1, out.2) (record { cause = way-shows g.S.X.BlockHash.block32 g.N.NameHash.name64 (g.N.NameHash.name64 c.args.name.now) None c.in_err-entry.field-0.0 _ _ c.in_err-entry.ensures.cause; told = c.in_err-entry.ensures.told })
+
+pub returns-in_default-clause-member : goal.returns-in_default-clause-member
+returns-in_default-clause-member g c = λ p es s stood.
     let X = g.S.X.BlockHash.block32 in let N = g.N.NameHash.name64 in let a = g.S.Store.seen c.args.store.now in
     member-none X N a.told p (child c.args.name.now es)
-    (find-says X N (record { size = g.met.S.X.BlockHash.size; are_bytes = g.met.S.X.BlockHash.are_bytes }) g.met.N.NameHash.fits a.told p c.args.folder.now es c.args.name.now c.find.result (Ok None) (c.in-Ok-None.is ∙ ap Ok c.in-Ok-None.field-0-is) s (λ p l i k. c.find.ensures.value p l i k stood))
+    (find-says X N (record { size = g.met.S.X.BlockHash.size; are_bytes = g.met.S.X.BlockHash.are_bytes }) g.met.N.NameHash.fits a.told p c.args.folder.now es c.args.name.now (Ok c.in_ok-entry.field-0) (Ok None) (ap Ok c.in_default.is) s (λ p l i k. c.in_ok-entry.ensures.value p l i k stood))
 
-pub returns-in-Err-thing_of-clause-member : goal.returns-in-Err-thing_of-clause-member
-returns-in-Err-thing_of-clause-member g c = λ p es s stood.
+pub returns-in_err-thing-clause-member : goal.returns-in_err-thing-clause-member
+returns-in_err-thing-clause-member g c = λ p es s stood.
     let X = g.S.X.BlockHash.block32 in let N = g.N.NameHash.name64 in
     let a = g.S.Store.seen c.args.store.now in let b = g.S.Store.seen c.find.new.store in let d = g.S.Store.seen c.thing_of.new.store in
-    let rises = shown-rises X (IsBad N None) (fault_in c.thing_of.result) b d c.thing_of.ensures.reads.cause in
-    let front = stood-front a.faults b.faults d.faults c.in-Ok-Some.ensures.cause.faults rises.faults stood in
-    let back = stood-back a.faults b.faults d.faults c.in-Ok-Some.ensures.cause.faults stood in
-    let is = find-says X N (record { size = g.met.S.X.BlockHash.size; are_bytes = g.met.S.X.BlockHash.are_bytes }) g.met.N.NameHash.fits a.told p c.args.folder.now es c.args.name.now c.find.result (Ok (Some c.in-Ok-Some.entry)) (c.in-Ok-Some.is ∙ ap Ok c.in-Ok-Some.field-0-is) s
-    (λ p l i k. c.find.ensures.value p l i k front) in
-    member-err X N a.told b.told p c.args.folder.now es c.args.name.now c.in-Ok-Some.entry c.in-Err-thing_of.fault c.in-Ok-Some.ensures.told s is
-    (λ t i. c.in-Err-thing_of.ensures.thing p t i back)
+    let rises = shown-rises X IsBadRoot (fault_in c.thing_of.result) b d c.thing_of.ensures.reads.cause in
+    let front = stood-front a.faults b.faults d.faults c.in_ok-entry.ensures.cause.faults rises.faults stood in
+    let back = stood-back a.faults b.faults d.faults c.in_ok-entry.ensures.cause.faults stood in
+    let is = find-says X N (record { size = g.met.S.X.BlockHash.size; are_bytes = g.met.S.X.BlockHash.are_bytes }) g.met.N.NameHash.fits a.told p c.args.folder.now es c.args.name.now (Ok c.in_ok-entry.field-0) (Ok (Some c.in-Some.entry)) (ap Ok c.in-Some.is) s
+    (λ p l i k. c.in_ok-entry.ensures.value p l i k front) in
+    let out = err_from_is_err_and c.from_residual-in_err-thing.result c.from_residual-in_err-thing.ensures.1 in
+    rw (out.1, out.2) (member-err X N a.told b.told p c.args.folder.now es c.args.name.now c.in-Some.entry c.in_err-thing.field-0.0 c.in_ok-entry.ensures.told s is
+    (λ t i. c.in_err-thing.ensures.thing p t i back))
 
-pub returns-in-Ok-clause-member : goal.returns-in-Ok-clause-member
-returns-in-Ok-clause-member g c = λ p es s stood.
+pub returns-clause-member : goal.returns-clause-member
+returns-clause-member g c = λ p es s stood.
     let X = g.S.X.BlockHash.block32 in let N = g.N.NameHash.name64 in
     let a = g.S.Store.seen c.args.store.now in let b = g.S.Store.seen c.find.new.store in let d = g.S.Store.seen c.thing_of.new.store in
-    let rises = shown-rises X (IsBad N None) (fault_in c.thing_of.result) b d c.thing_of.ensures.reads.cause in
-    let front = stood-front a.faults b.faults d.faults c.in-Ok-Some.ensures.cause.faults rises.faults stood in
-    let back = stood-back a.faults b.faults d.faults c.in-Ok-Some.ensures.cause.faults stood in
-    let is = find-says X N (record { size = g.met.S.X.BlockHash.size; are_bytes = g.met.S.X.BlockHash.are_bytes }) g.met.N.NameHash.fits a.told p c.args.folder.now es c.args.name.now c.find.result (Ok (Some c.in-Ok-Some.entry)) (c.in-Ok-Some.is ∙ ap Ok c.in-Ok-Some.field-0-is) s
-    (λ p l i k. c.find.ensures.value p l i k front) in
-    member-some X N a.told b.told p c.args.folder.now es c.args.name.now c.in-Ok-Some.entry c.in-Ok.thing c.in-Ok-Some.ensures.told s is
-    (λ t i. c.in-Ok.ensures.thing p t i back)
-
-pub returns-in-Err-clause-reads : goal.returns-in-Err-clause-reads
-returns-in-Err-clause-reads g c = record { cause = way-shows g.S.X.BlockHash.block32 g.N.NameHash.name64 (g.N.NameHash.name64 c.args.name.now) None c.in-Err.fault _ _ c.in-Err.ensures.cause; told = c.in-Err.ensures.told }
+    let rises = shown-rises X IsBadRoot (fault_in c.thing_of.result) b d c.thing_of.ensures.reads.cause in
+    let front = stood-front a.faults b.faults d.faults c.in_ok-entry.ensures.cause.faults rises.faults stood in
+    let back = stood-back a.faults b.faults d.faults c.in_ok-entry.ensures.cause.faults stood in
+    let is = find-says X N (record { size = g.met.S.X.BlockHash.size; are_bytes = g.met.S.X.BlockHash.are_bytes }) g.met.N.NameHash.fits a.told p c.args.folder.now es c.args.name.now (Ok c.in_ok-entry.field-0) (Ok (Some c.in-Some.entry)) (ap Ok c.in-Some.is) s
+    (λ p l i k. c.in_ok-entry.ensures.value p l i k front) in
+    member-some X N a.told b.told p c.args.folder.now es c.args.name.now c.in-Some.entry c.in_ok-thing.thing c.in_ok-entry.ensures.told s is
+    (λ t i. c.in_ok-thing.ensures.thing p t i back)

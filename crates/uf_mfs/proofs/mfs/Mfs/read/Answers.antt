@@ -1,4 +1,4 @@
-use Rattle.std.proofs.Common.{Err, List, Ok, refl, subst, sym, ℕ}
+use Rattle.std.proofs.Common.{◌≤◌, ◌+◌, Err, List, Ok, refl, subst, sym, ℕ}
 use Rattle.std.proofs.lemmas.Result.{err_from_is_err_and}
 use Rattle.uf_fileread.specs.Bad.{IsBadInFile}
 use Rattle.uf_fileread.specs.Ranges.{WritesOver, blocks_read, range_of}
@@ -10,11 +10,14 @@ use Rattle.uf_tree.specs.Tree.{Dir, File}
 use Rattle.uf_plain.specs.Files.{plain_bytes_at, read as range_at}
 use Rattle.uf_plain.specs.Needs.{needs_at}
 use Rattle.uf_mfs.specs.Answers.{AnswersOr}
-use Rattle.uf_mfs.specs.Reading.{IsHeightOf, SendsAll, range_needs, to_read}
+use Rattle.uf_mfs.specs.Reading.{IsHeightOf, SendsAll, range_needs, range_touches, to_read}
 use Rattle.uf_mfs.specs.Standing.{IsAgreed}
 use Rattle.uf_edge.specs.Streams.{AppendsPrefix}
 use Rattle.uf_mfs.proofs.Agreed.{stands-over}
 use Rattle.uf_mfs.proofs.Ranges.{calm-calm, nothing-sent, range-shows, read-done, read-front, read-held, read-lost, read-stopped, range-rises, sink-calm, stopped-shows}
+use Rattle.uf_mfs.specs.Touches.{read_bound}
+use Rattle.uf_mfs.proofs.Reaching.{range-reached}
+use Rattle.uf_mfs.proofs.Touching.{look-touches}
 use Rattle.uf_mfs.proofs.mfs.Mfs.read.Goals as goal
 
 pub returns-in-Err-clause-lost : goal.returns-in-Err-clause-lost
@@ -107,3 +110,31 @@ returns-in_ok-sent-in-Ok-clause-cause g c =
     let X = g.S.X.BlockHash.block32 in let N = g.N.NameHash.name64 in
     let a = g.S.Store.seen c.args.store.now in let b = g.S.Store.seen c.look_at_file.new.store in let d = g.S.Store.seen c.read_range.new.store in
     (calm-calm X N a.told a b d c.in-Ok.ensures.reads.cause c.in_ok-sent-in-Ok.ensures.cause.0, c.in_ok-sent-in-Ok.ensures.cause.1)
+
+pub returns-in-Err-clause-touches : goal.returns-in-Err-clause-touches
+returns-in-Err-clause-touches g c = λ p es rows s heights stood.
+    let more = range_touches p rows c.args.offset c.args.count in
+    subst (λ (ns : List (List ℕ)). c.look_at_file.new.touches ≤ c.args.touches.now + read_bound more ns (Dir es)) c.as_slice-names.ensures
+    (look-touches more c.as_slice-names.result.now (Dir es) c.args.touches.now c.look_at_file.new.touches c.in-Err.ensures.touches)
+
+pub returns-in_err-sent-in-Ok-clause-touches : goal.returns-in_err-sent-in-Ok-clause-touches
+returns-in_err-sent-in-Ok-clause-touches g c = λ p es rows s heights stood.
+    let X = g.S.X.BlockHash.block32 in let N = g.N.NameHash.name64 in
+    let a = g.S.Store.seen c.args.store.now in let b = g.S.Store.seen c.look_at_file.new.store in let d = g.S.Store.seen c.read_range.new.store in
+    let same = c.in-Ok.ensures.reads.told in let names = c.as_slice-names.result.now in let more = range_touches p rows c.args.offset c.args.count in
+    let front = stood-front a.faults b.faults d.faults c.in-Ok.ensures.reads.cause.faults (range-rises X (IsBadInFile b.told c.in-Ok.entry.cid) (Err c.in_err-sent-in-Ok.field-0.0) b d _ _ c.in_err-sent-in-Ok.ensures.cause) stood in
+    subst (λ (ns : List (List ℕ)). c.read_range.new.touches ≤ c.args.touches.now + read_bound more ns (Dir es)) c.as_slice-names.ensures
+    (range-reached X N p a.told names es rows c.args.offset c.args.count c.in-Ok.entry c.args.touches.now c.look_at_file.new.touches c.read_range.new.touches heights
+    (c.in-Ok.ensures.looks p es s.root front) c.in-Ok.ensures.touches
+    (λ bytes height is agrees. c.in_err-sent-in-Ok.ensures.touches p bytes height is (subst (λ t. Agrees t (file_plan X p bytes).blocks) (sym same) agrees)))
+
+pub returns-in_ok-sent-in-Ok-clause-touches : goal.returns-in_ok-sent-in-Ok-clause-touches
+returns-in_ok-sent-in-Ok-clause-touches g c = λ p es rows s heights stood.
+    let X = g.S.X.BlockHash.block32 in let N = g.N.NameHash.name64 in
+    let a = g.S.Store.seen c.args.store.now in let b = g.S.Store.seen c.look_at_file.new.store in let d = g.S.Store.seen c.read_range.new.store in
+    let same = c.in-Ok.ensures.reads.told in let names = c.as_slice-names.result.now in let more = range_touches p rows c.args.offset c.args.count in
+    let front = stood-front a.faults b.faults d.faults c.in-Ok.ensures.reads.cause.faults (range-rises X (IsBadInFile b.told c.in-Ok.entry.cid) (Ok c.in_ok-sent-in-Ok.sent) b d _ _ c.in_ok-sent-in-Ok.ensures.cause) stood in
+    subst (λ (ns : List (List ℕ)). c.read_range.new.touches ≤ c.args.touches.now + read_bound more ns (Dir es)) c.as_slice-names.ensures
+    (range-reached X N p a.told names es rows c.args.offset c.args.count c.in-Ok.entry c.args.touches.now c.look_at_file.new.touches c.read_range.new.touches heights
+    (c.in-Ok.ensures.looks p es s.root front) c.in-Ok.ensures.touches
+    (λ bytes height is agrees. c.in_ok-sent-in-Ok.ensures.touches p bytes height is (subst (λ t. Agrees t (file_plan X p bytes).blocks) (sym same) agrees)))

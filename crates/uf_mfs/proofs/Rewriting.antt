@@ -1,0 +1,464 @@
+-- A file that an edit makes, over calls in a row.
+use Rattle.std.proofs.Common.{◌≡◌, ℕ, ◌+◌, ◌<◌, ◌≤◌, List, [], ◌∷◌, ◌++◌, length, refl, ap, sym, subst, arith}
+use Rattle.std.proofs.Common.{inl, inr, Bool, true, false, cond, Option, Some, None, Result, Ok, Err}
+use Rattle.std.specs.Prelude.{◌&&◌, IsTrue, OnOk, nat_lt}
+use Rattle.std.specs.List.{list_all}
+use Rattle.std.proofs.lemmas.Bool.Decides.{nat_tests}
+use Rattle.uf_build.specs.declared.fault.BuildFault.{BuildFault}
+use Rattle.uf_build.specs.declared.fault.BuildFault.TheVariants.{FileTooLong, Spent, Store}
+use Rattle.uf_bytes.proofs.Laid.{all-cut, all-laid, laid-long, length-cut}
+use Rattle.uf_bytes.specs.Laying.{cut_to, laid}
+use Rattle.uf_cid.specs.Blocks.{Held}
+use Rattle.uf_cid.specs.Bytes.{IsBytes}
+use Rattle.uf_cid.specs.Cid.{cid_of}
+use Rattle.uf_cid.specs.declared.cid.Codec.TheVariants.{Raw}
+use Rattle.uf_edge.specs.Counts.{Stood}
+use Rattle.uf_fileread.specs.Ranges.{IsFile}
+use Rattle.uf_fileedit.specs.Answers.{EditsOver, RefusesTooLong}
+use Rattle.uf_fileedit.specs.Bad.{IsBadEdited}
+use Rattle.uf_cid.specs.declared.cid.Cid.{Cid}
+use Rattle.uf_store.specs.declared.store.Role.{Role}
+use Rattle.uf_store.specs.declared.store.StoreFault.{StoreFault}
+use Rattle.uf_store.specs.declared.store.StoreFault.TheVariants.{Failed, Damaged, Missing, BadBlock, Clash, Memory}
+use Rattle.uf_store.specs.Calls.{Calm, OnlySaves}
+use Rattle.uf_store.specs.Clashes.{IsSaving}
+use Rattle.uf_store.specs.Contents.{Told}
+use Rattle.uf_store.specs.Faults.{NoneIsBad, Shows}
+use Rattle.uf_store.specs.Keeping.{Agrees, Holds, KeepsGood, StaysAgreed}
+use Rattle.uf_store.specs.Lost.{AgreesAfter, IsLossOf}
+use Rattle.uf_store.specs.Seen.{Seen}
+use Rattle.uf_store.proofs.Calls.{calm-then, saves-by}
+use Rattle.uf_store.proofs.Lost.{after-then}
+use Rattle.uf_tree.specs.declared.nodes.Entry.{Entry}
+use Rattle.uf_tree.specs.declared.profile.Profile.{Profile}
+use Rattle.uf_tree.specs.FilePlan.{climb, file_plan}
+use Rattle.uf_tree.specs.FileSub.{IsHeight}
+use Rattle.uf_tree.specs.Profiles.{is_profile, most_bytes}
+use Rattle.uf_tree.specs.Tree.{Tree, File, Dir, Entries, Nothing, fold, is_tree}
+use Rattle.uf_tree.specs.TreePlan.{FileTooLong as TooLong, blocks, named_entries, planned, too_long}
+use Rattle.uf_dir.specs.Bounds.{crossing}
+use Rattle.uf_plain.specs.declared.rule.Refused.{Refused}
+use Rattle.uf_plain.specs.declared.rule.Refused.TheVariants as why
+use Rattle.uf_plain.specs.declared.file.FileEdit.{FileEdit}
+use Rattle.uf_plain.specs.declared.file.FileEdit.TheVariants.{Write, Truncate}
+use Rattle.uf_plain.specs.declared.change.Change.TheVariants.{Make}
+use Rattle.uf_plain.specs.Edits.{and_then, as_folder, child, with_child}
+use Rattle.uf_plain.specs.Files.{as_file_or_new, begun, fitting, rewritten}
+use Rattle.uf_plain.specs.Rules.{allowed, unless}
+use Rattle.uf_mfs.specs.declared.fault.Stop.{Stop}
+use Rattle.uf_mfs.specs.declared.fault.Stop.TheVariants as stop
+use Rattle.uf_mfs.specs.Answers.{Decides, EditsAfter}
+use Rattle.uf_mfs.specs.Standing.{IsAfter, IsPlanOf, TellsHeld}
+use Rattle.uf_mfs.specs.Steps.{EditsFolder, IsFolderOver, stop_fault}
+use Rattle.uf_fileedit.specs.Touches.{BlamedAfter, TouchedFirst}
+use Rattle.uf_mfs.specs.Touches.{CountsUp, TouchesFolder, crossings_of, entries_at}
+use Rattle.uf_mfs.specs.Bad.{IsBad}
+use Rattle.uf_mfs.specs.Writes.{MakesFile, IsBadInSome, IsBadWritten, IsFileOver, IsStart, IsStepOf, file_touches, fitting_bytes, member_at, rewriting_touches, with_fitting}
+use Rattle.uf_mfs.proofs.After.{after-held, after-kept, after-some, loss-after, onward}
+use Rattle.uf_mfs.proofs.Agreed.{child-among}
+use Rattle.uf_mfs.proofs.Files.{few, rooted}
+use Rattle.uf_mfs.proofs.Folders.{beside, on-over, over-then}
+use Rattle.uf_mfs.proofs.Hinge.{are-good}
+use Rattle.uf_mfs.proofs.Moving.{lost-edit}
+use Rattle.uf_mfs.proofs.Ranges.{file-agrees, is-file}
+use Rattle.uf_mfs.proofs.Touching.{folder-leads}
+
+-- ---- the file of no bytes
+
+pub empty-entry : (X : List ℕ → List ℕ) (p : Profile) (e : Entry) → e ≡ record { cid = cid_of X Raw []; tsize = 0 }
+    → e ≡ (file_plan X p []).entry
+unfolding file_plan climb
+empty-entry X p e is = is
+
+pub empty-held : (X : List ℕ → List ℕ) (p : Profile) (told : Told) → Holds told ((cid_of X Raw [], []) ∷ [])
+    → Holds told (file_plan X p []).blocks
+unfolding file_plan climb
+empty-held X p told h = h
+
+-- a save over a store that stayed calm only wants memory
+pub save-loss : (X : List ℕ → List ℕ) (f : StoreFault) (a b : Seen) (l : List Held) → IsSaving f
+    → Shows X NoneIsBad f a b → Calm a b → IsLossOf a.told l f
+save-loss X Failed a b l saving h calm = absurd (let rose = h.rose in let stood = calm.faults in omega (arith, rose, stood))
+save-loss X (Damaged c) a b l saving h calm = absurd saving
+save-loss X (Missing c) a b l saving h calm = absurd saving
+save-loss X (BadBlock c role) a b l saving h calm = absurd saving
+save-loss X (Clash c other bytes) a b l saving h calm = absurd (let rose = h.rose in let stood = calm.clashes in omega (arith, rose, stood))
+save-loss X Memory a b l saving h calm = tt
+
+-- ---- bytes
+
+bytes-all : (bytes : List ℕ) → IsBytes bytes → list_all (λ b. nat_lt b 256) bytes ≡ true
+bytes-all [] h = refl
+bytes-all (b ∷ bytes) h = both (nat_lt b 256) (list_all (λ b. nat_lt b 256) bytes) (below b h.0) (bytes-all bytes h.1)
+  where
+    both : (s t : Bool) → s ≡ true → t ≡ true → s && t ≡ true
+    both true t g h = h
+    both false t g h = g
+
+    below : (b : ℕ) → b < 256 → nat_lt b 256 ≡ true
+    below b h = grind (arith, nat_tests)
+
+-- which bytes an edit begins with doesn't depend on how many names led there
+abbrev touches-of : Profile → (ℕ → ℕ) → FileEdit → List ℕ → Result (List ℕ) Refused → ℕ
+touches-of p rows what x w = elim w as (λ w. ℕ) [ Ok bytes ↦ rewriting_touches p rows what x bytes | Err why ↦ 0 ]
+
+begun-anyhow : (what : FileEdit) (led : ℕ) (o : Option Tree) (bytes : List ℕ) → begun what led o ≡ Ok bytes
+    → begun what 0 o ≡ Ok bytes
+begun-anyhow (Write how) led None bytes is = by how.create is
+  where
+    by : (create : Bool) → and_then (as_file_or_new create led None) (λ bytes. Ok (cond how.cut [] bytes)) ≡ Ok bytes
+        → and_then (as_file_or_new create 0 None) (λ bytes. Ok (cond how.cut [] bytes)) ≡ Ok bytes
+    by true is = is
+    by false is = absurd cc
+begun-anyhow (Write how) led (Some (File old)) bytes is = by how.create is
+  where
+    by : (create : Bool)
+        → and_then (as_file_or_new create led (Some (File old))) (λ bytes. Ok (cond how.cut [] bytes)) ≡ Ok bytes
+        → and_then (as_file_or_new create 0 (Some (File old))) (λ bytes. Ok (cond how.cut [] bytes)) ≡ Ok bytes
+    by true is = is
+    by false is = is
+begun-anyhow (Write how) led (Some (Dir es)) bytes is = by how.create is
+  where
+    by : (create : Bool)
+        → and_then (as_file_or_new create led (Some (Dir es))) (λ bytes. Ok (cond how.cut [] bytes)) ≡ Ok bytes
+        → and_then (as_file_or_new create 0 (Some (Dir es))) (λ bytes. Ok (cond how.cut [] bytes)) ≡ Ok bytes
+    by true is = absurd cc
+    by false is = absurd cc
+begun-anyhow (Truncate size) led None bytes is = absurd cc
+begun-anyhow (Truncate size) led (Some (File old)) bytes is = is
+begun-anyhow (Truncate size) led (Some (Dir es)) bytes is = absurd cc
+
+-- ---- the count of touches
+
+-- the count after an edit of a file, as that after a step
+pub stepped-counts : (r : Result Entry BuildFault) (s : Result Entry Stop) (t0 t1 : ℕ) → IsStepOf r s
+    → TouchedFirst r t0 t1 → CountsUp (stop_fault s) t0 t1
+stepped-counts (Ok e) s t0 t1 is h = subst (λ (s : Result Entry Stop). CountsUp (stop_fault s) t0 t1) (sym is) (record { kept = h; risen = λ x. absurd x })
+stepped-counts (Err FileTooLong) s t0 t1 is h = subst (λ (s : Result Entry Stop). CountsUp (stop_fault s) t0 t1) (sym is)
+    (record { kept = omega (arith, h); risen = λ x. absurd x })
+stepped-counts (Err Spent) s t0 t1 is h = absurd is
+stepped-counts (Err (Store f)) s t0 t1 is h = subst (λ (s : Result Entry Stop). CountsUp (stop_fault s) t0 t1) (sym is) (by f h)
+  where
+    by : (f : StoreFault) → BlamedAfter f t0 t1 → CountsUp (Some f) t0 t1
+    by Failed h = record { kept = h; risen = λ x. absurd x }
+    by (Damaged c) h = record { kept = h; risen = λ x. absurd x }
+    by (Missing c) h = record { kept = h; risen = λ x. absurd x }
+    by (BadBlock c role) h = record { kept = omega (arith, h); risen = λ x. h }
+    by (Clash c other bytes) h = record { kept = h; risen = λ x. absurd x }
+    by Memory h = record { kept = h; risen = λ x. absurd x }
+
+-- nothing is touched for a file that is too long
+within : (most n bound : ℕ) (r : Result Entry BuildFault) (t0 t1 : ℕ) → RefusesTooLong (nat_lt most n) r
+    → TouchedFirst r t0 t1 → t1 ≤ t0 + bound → t1 ≤ t0 + cond (nat_lt most n) 0 bound
+within most n bound r t0 t1 long first short = by (nat_lt most n) r long first
+  where
+    by : (t : Bool) (r : Result Entry BuildFault) → RefusesTooLong t r → TouchedFirst r t0 t1
+        → t1 ≤ t0 + cond t 0 bound
+    by false r long first = short
+    by true (Ok e) long first = absurd cc
+    by true (Err FileTooLong) long first = omega (arith, first)
+    by true (Err Spent) long first = absurd long
+    by true (Err (Store f)) long first = absurd cc
+
+module _ (X : List ℕ → List ℕ) (N : List ℕ → ℕ) (p : Profile) where
+  is-short : (e : Entry) (b : List ℕ) → IsPlanOf X N p e (File b) → nat_lt (most_bytes p) (length b) ≡ false
+  unfolding planned fold
+  is-short e b s = by (nat_lt (most_bytes p) (length b)) s.planned
+    where
+      by : (t : Bool) → cond t (Some TooLong) None ≡ None → t ≡ false
+      by true e = absurd cc
+      by false e = refl
+
+  -- the bytes of a file that has a plan fit
+  file-fits : (n : List ℕ) → nat_lt (most_bytes p) (length n) ≡ false → too_long p n ≡ None
+  file-fits n is = ap (λ (t : Bool). cond t (Some TooLong) None) is
+
+  file-long : (n : List ℕ) → nat_lt (most_bytes p) (length n) ≡ true → too_long p n ≡ Some TooLong
+  file-long n is = ap (λ (t : Bool). cond t (Some TooLong) None) is
+
+  pub file-plan-of : (e : Entry) (n : List ℕ) → IsTrue (is_profile p) → IsTrue (is_tree (File n))
+      → nat_lt (most_bytes p) (length n) ≡ false → e ≡ (file_plan X p n).entry
+      → IsPlanOf X N p e (File n)
+  unfolding planned fold
+  file-plan-of e n ok tree short is = record { profile = ok; tree = tree; planned = file-fits n short; is = is }
+
+  -- ---- what is under the file's name
+
+  keeps-same : (a : Told) → KeepsGood X a a
+  keeps-same a = record { alike = refl; stays = λ c b h good. h }
+
+  -- a file that is there, before anything was done
+  pub start-there : (a : Seen) (folder e : Entry) (name : List ℕ) (es : Entries) (w : Result (List ℕ) Refused)
+      → IsFolderOver X N p a a [] folder es
+      → Decides (λ bytes start. IsStart X N a.told p (child name es) bytes start) w (Ok (Some e))
+      → MakesFile X N p a a (blocks X N p (Dir es)) w (Ok e)
+  start-there a folder e name es (Err why) o h = absurd h
+  start-there a folder e name es (Ok bytes) o h = record {
+    plan = h.1.plan;
+    after = after-some a.told a.told _ _ _ (λ Q k. child-among X N p es name (File bytes) h.0 Q k)
+        (after-kept X a.told a.told _ (are-good X N p (Dir es)) (keeps-same a.told) o.stays);
+  }
+
+  -- and an empty one that was saved
+  pub start-empty : (a b : Seen) (folder e : Entry) (o : Option Tree) (es : Entries) (w : Result (List ℕ) Refused)
+      → IsFolderOver X N p a b [] folder es
+      → Decides (λ bytes start. IsStart X N a.told p o bytes start) w (Ok None) → e ≡ (file_plan X p []).entry
+      → Holds b.told (file_plan X p []).blocks
+      → MakesFile X N p a b (blocks X N p (Dir es)) w (Ok e)
+  unfolding planned fold is_tree
+  start-empty a b folder e o es (Err why) over h is held = absurd h
+  start-empty a b folder e o es (Ok bytes) over h is held = subst (λ n. IsAfter X N a.told b.told (blocks X N p (Dir es)) p e (File n)) (sym h) (record {
+    plan = file-plan-of e [] over.plan.profile refl (short p) is;
+    after = after-held a.told b.told (blocks X N p (Dir es)) _ (tells b.told (blocks X N p (Dir es)) over.stays.last held);
+  })
+    where
+      short : (p : Profile) → nat_lt (most_bytes p) 0 ≡ false
+      short p = grind (arith, nat_tests)
+
+      tells : (told : Told) (k : List Held) → Agrees told k → Holds told (file_plan X p []).blocks
+          → TellsHeld told (blocks X N p (File []))
+      tells None k agrees held = absurd agrees
+      tells (Some t) k agrees held = held
+
+  -- ---- the file that is made of it
+
+  -- a loss that may come, whatever the bytes are
+  pub lost-file : (a c : Seen) (old : List Held) (w : Result (List ℕ) Refused) (f : StoreFault)
+      → IsLossOf a.told old f → MakesFile X N p a c old w (Err (stop.Store f))
+  lost-file a c old (Ok n) f h = h
+  lost-file a c old (Err why) f h = h
+
+  -- the answer of an edit of a file as that of a step
+  pub stepped-file : (a c : Seen) (old : Entry) (b n : List ℕ) (r : Result Entry BuildFault) (s : Result Entry Stop)
+      → IsFileOver X N p a c old b → IsTrue (is_tree (File n))
+      → RefusesTooLong (nat_lt (most_bytes p) (length n)) r
+      → EditsOver a.told (file_plan X p b).blocks (file_plan X p n).entry r
+      → OnOk r (AgreesAfter a.told c.told (file_plan X p b).blocks (file_plan X p n).blocks) → IsStepOf r s
+      → MakesFile X N p a c (blocks X N p (File b)) (fitting p n) s
+  unfolding planned fold
+  stepped-file a c old b n (Ok e) s over tree long value after is =
+      subst (λ s. MakesFile X N p a c (blocks X N p (File b)) (fitting p n) s) (sym is)
+      (subst (λ o. MakesFile X N p a c (blocks X N p (File b)) (unless n o) (Ok e)) (sym (file-fits n long))
+      (record { plan = file-plan-of e n over.plan.profile tree long value; after = after }))
+  stepped-file a c old b n (Err FileTooLong) s over tree long value after is =
+      subst (λ s. MakesFile X N p a c (blocks X N p (File b)) (fitting p n) s) (sym is)
+      (subst (λ o. MakesFile X N p a c (blocks X N p (File b)) (unless n o) (Err (stop.Refused why.FileTooLong))) (sym (file-long n long)) refl)
+  stepped-file a c old b n (Err Spent) s over tree long value after is = absurd is
+  stepped-file a c old b n (Err (Store f)) s over tree long value after is =
+      subst (λ s. MakesFile X N p a c (blocks X N p (File b)) (fitting p n) s) (sym is) (lost-file a c _ (fitting p n) f value)
+
+  -- a file over which nothing failed, as uf_fileedit speaks of it
+  pub over-file : (a c : Seen) (old : Entry) (b : List ℕ) (height : ℕ) → IsFileOver X N p a c old b
+      → IsHeight p.chunk p.width (length b) height → IsFile X p b old.cid height
+  over-file a c old b height over tall = is-file X N p a.told [] Nothing old b height over.plan tall
+
+  pub over-agrees : (a c : Seen) (old : Entry) (b : List ℕ) → IsFileOver X N p a c old b
+      → Agrees a.told (file_plan X p b).blocks
+  over-agrees a c old b over = file-agrees X N p a.told [] Nothing old b (record { plan = over.plan; agrees = over.stays.first })
+
+  made-file : (a c : Seen) (old : Entry) (b n : List ℕ) (r : Result Entry BuildFault) (s : Result Entry Stop)
+      → IsFileOver X N p a c old b → IsTrue (is_tree (File n))
+      → RefusesTooLong (nat_lt (most_bytes p) (length n)) r
+      → ((height : ℕ) → IsFile X p b old.cid height → old ≡ (file_plan X p b).entry → StaysAgreed a.told c.told (file_plan X p b).blocks → Stood a.faults c.faults → Stood a.clashes c.clashes
+      → EditsOver a.told (file_plan X p b).blocks (file_plan X p n).entry r)
+      → ((height : ℕ) → IsFile X p b old.cid height → old ≡ (file_plan X p b).entry → StaysAgreed a.told c.told (file_plan X p b).blocks
+      → OnOk r (AgreesAfter a.told c.told (file_plan X p b).blocks (file_plan X p n).blocks))
+      → IsStepOf r s → MakesFile X N p a c (blocks X N p (File b)) (fitting p n) s
+  unfolding planned fold
+  made-file a c old b n r s over tree long value after is =
+      let tall = rooted X p b over.plan.profile in
+      let file = over-file a c old b tall.0 over tall.1.least in
+      stepped-file a c old b n r s over tree long (value tall.0 file over.plan.is over.stays over.calm.faults over.calm.clashes) (after tall.0 file over.plan.is over.stays) is
+
+  -- a piece laid over a file
+  pub laid-file : (a c : Seen) (old : Entry) (b : List ℕ) (offset : ℕ) (x : List ℕ) (r : Result Entry BuildFault) (s : Result Entry Stop) → IsFileOver X N p a c old b → IsBytes x
+      → RefusesTooLong (nat_lt 0 (length x) && nat_lt (most_bytes p) (offset + length x)) r
+      → ((b : List ℕ) (height : ℕ) → IsFile X p b old.cid height → old ≡ (file_plan X p b).entry → StaysAgreed a.told c.told (file_plan X p b).blocks → Stood a.faults c.faults
+      → Stood a.clashes c.clashes → EditsOver a.told (file_plan X p b).blocks (file_plan X p (laid b offset x)).entry r)
+      → ((b : List ℕ) (height : ℕ) → IsFile X p b old.cid height → old ≡ (file_plan X p b).entry → StaysAgreed a.told c.told (file_plan X p b).blocks
+      → OnOk r (AgreesAfter a.told c.told (file_plan X p b).blocks (file_plan X p (laid b offset x)).blocks))
+      → IsStepOf r s → MakesFile X N p a c (blocks X N p (File b)) (fitting p (laid b offset x)) s
+  unfolding is_tree
+  laid-file a c old b offset x r s over bytes long value after is =
+      let few = few X N p old b over.plan in
+      made-file a c old b (laid b offset x) r s over (all-laid (λ b. nat_lt b 256) b offset x refl over.plan.tree (bytes-all x bytes))
+      (subst (λ t. RefusesTooLong t r) (laid-long (most_bytes p) offset b x few) long) (value b) (after b) is
+
+  -- and a file cut
+  pub cut-file : (a c : Seen) (old : Entry) (b : List ℕ) (size : ℕ) (r : Result Entry BuildFault) (s : Result Entry Stop) → IsFileOver X N p a c old b
+      → RefusesTooLong (nat_lt (most_bytes p) size) r
+      → ((b : List ℕ) (height : ℕ) → IsFile X p b old.cid height → old ≡ (file_plan X p b).entry → StaysAgreed a.told c.told (file_plan X p b).blocks → Stood a.faults c.faults
+      → Stood a.clashes c.clashes → EditsOver a.told (file_plan X p b).blocks (file_plan X p (cut_to b size)).entry r)
+      → ((b : List ℕ) (height : ℕ) → IsFile X p b old.cid height → old ≡ (file_plan X p b).entry → StaysAgreed a.told c.told (file_plan X p b).blocks
+      → OnOk r (AgreesAfter a.told c.told (file_plan X p b).blocks (file_plan X p (cut_to b size)).blocks))
+      → IsStepOf r s → MakesFile X N p a c (blocks X N p (File b)) (fitting p (cut_to b size)) s
+  unfolding is_tree
+  cut-file a c old b size r s over long value after is =
+      made-file a c old b (cut_to b size) r s over (all-cut (λ b. nat_lt b 256) b size refl over.plan.tree)
+      (subst (λ n. RefusesTooLong (nat_lt (most_bytes p) n) r) (sym (length-cut b size)) long) (value b) (after b) is
+
+  -- how often they touch the store
+  pub laid-touches : (rows : ℕ → ℕ) (a c : Seen) (old : Entry) (b : List ℕ) (offset : ℕ) (x : List ℕ)
+      (r : Result Entry BuildFault) (t0 t1 bound : ℕ) → IsFileOver X N p a c old b
+      → RefusesTooLong (nat_lt 0 (length x) && nat_lt (most_bytes p) (offset + length x)) r
+      → TouchedFirst r t0 t1 → t1 ≤ t0 + bound
+      → t1 ≤ t0 + cond (nat_lt (most_bytes p) (length (laid b offset x))) 0 bound
+  laid-touches rows a c old b offset x r t0 t1 bound over long first few_touches =
+      within (most_bytes p) (length (laid b offset x)) bound r t0 t1
+      (subst (λ t. RefusesTooLong t r) (laid-long (most_bytes p) offset b x (few X N p old b over.plan)) long) first few_touches
+
+  pub cut-touches : (b : List ℕ) (size : ℕ) (r : Result Entry BuildFault) (t0 t1 bound : ℕ)
+      → RefusesTooLong (nat_lt (most_bytes p) size) r → TouchedFirst r t0 t1 → t1 ≤ t0 + bound
+      → t1 ≤ t0 + cond (nat_lt (most_bytes p) (length (cut_to b size))) 0 bound
+  cut-touches b size r t0 t1 bound long first few_touches =
+      within (most_bytes p) (length (cut_to b size)) bound r t0 t1
+      (subst (λ n. RefusesTooLong (nat_lt (most_bytes p) n) r) (sym (length-cut b size)) long) first few_touches
+
+  -- what is said from a later moment is said from an earlier one
+  pub later-file : (a b c : Seen) (old mid : List Held) (w : Result (List ℕ) Refused) (r : Result Entry Stop)
+      → AgreesAfter a.told b.told old mid
+      → MakesFile X N p b c mid w r → MakesFile X N p a c old w r
+  later-file a b c old mid (Ok n) (Ok e) first h = record { plan = h.plan; after = after-then a.told b.told c.told old mid _ first h.after }
+  later-file a b c old mid (Err why) (Ok e) first h = h
+  later-file a b c old mid (Ok n) (Err (stop.Refused given)) first h = h
+  later-file a b c old mid (Err why) (Err (stop.Refused given)) first h = h
+  later-file a b c old mid (Ok n) (Err (stop.Store f)) first h = loss-after a.told b.told old mid f first h
+  later-file a b c old mid (Err why) (Err (stop.Store f)) first h = loss-after a.told b.told old mid f first h
+
+  -- ---- what is found under a name, begun with and rewritten
+
+  -- what isn't begun with isn't made
+  pub new-stopped : (a b : Seen) (old : List Held) (what : FileEdit) (x : List ℕ) (led : ℕ) (o : Option Tree) (s : Stop) → MakesFile X N p a b old (begun what led o) (Err s)
+      → MakesFile X N p a b old (fitting_bytes p what x led o) (Err s)
+  new-stopped a b old what x led o s h = by (begun what led o) s h
+    where
+      by : (w : Result (List ℕ) Refused) (s : Stop) → MakesFile X N p a b old w (Err s)
+          → MakesFile X N p a b old (and_then (and_then w (λ bytes. Ok (rewritten what x bytes))) (fitting p)) (Err s)
+      by (Ok bytes) (stop.Refused given) h = absurd h
+      by (Err why) (stop.Refused given) h = h
+      by (Ok bytes) (stop.Store f) h = lost-file a b old (fitting p (rewritten what x bytes)) f h
+      by (Err why) (stop.Store f) h = h
+
+  module _ {Bad Other : Role → List ℕ → Type 0} {fault : Option StoreFault} {a b c : Seen} (before : OnlySaves X Bad None a b) (after : OnlySaves X Other fault b c) where
+    -- the file that is begun with, before it is rewritten
+    begun-over : (folder old : Entry) (es : Entries) (bytes : List ℕ) → IsFolderOver X N p a c [] folder es
+        → IsAfter X N a.told b.told (blocks X N p (Dir es)) p old (File bytes)
+        → IsFileOver X N p b c old bytes
+    begun-over folder old es bytes o h = record {
+      plan = h.plan;
+      stays = onward X a.told b.told c.told _ _ h.after (are-good X N p (File bytes)) after.good o.stays;
+      calm = calm-then before o.calm;
+    }
+
+    pub new-made : (folder old : Entry) (what : FileEdit) (x : List ℕ) (led : ℕ) (name : List ℕ) (es : Entries) (r : Result Entry Stop) → IsFolderOver X N p a c [] folder es
+        → MakesFile X N p a b (blocks X N p (Dir es)) (begun what led (child name es)) (Ok old)
+        → ((bytes : List ℕ) → IsFileOver X N p b c old bytes → MakesFile X N p b c (blocks X N p (File bytes)) (fitting p (rewritten what x bytes)) r)
+        → MakesFile X N p a c (blocks X N p (Dir es)) (fitting_bytes p what x led (child name es)) r
+    new-made folder old what x led name es r o start makes = by (begun what led (child name es)) start
+      where
+        by : (w : Result (List ℕ) Refused) → MakesFile X N p a b (blocks X N p (Dir es)) w (Ok old)
+            → MakesFile X N p a c (blocks X N p (Dir es)) (and_then (and_then w (λ bytes. Ok (rewritten what x bytes))) (fitting p)) r
+        by (Err why) h = absurd h
+        by (Ok bytes) h = later-file a b c _ _ (fitting p (rewritten what x bytes)) r h.after (makes bytes (begun-over folder old es bytes o h))
+
+    pub new-touches : (folder old : Entry) (what : FileEdit) (x : List ℕ) (rows : ℕ → ℕ) (led : ℕ) (name : List ℕ) (es : Entries) (t0 t1 t2 : ℕ) → IsFolderOver X N p a c [] folder es
+        → MakesFile X N p a b (blocks X N p (Dir es)) (begun what led (child name es)) (Ok old) → t1 ≤ t0 + 1
+        → ((bytes : List ℕ) → IsFileOver X N p b c old bytes → t2 ≤ t1 + rewriting_touches p rows what x bytes)
+        → t2 ≤ t0 + (1 + file_touches p rows what x (child name es))
+    new-touches folder old what x rows led name es t0 t1 t2 o start first takes = by (begun what led (child name es)) refl start
+      where
+        by : (w : Result (List ℕ) Refused) → begun what led (child name es) ≡ w
+            → MakesFile X N p a b (blocks X N p (Dir es)) w (Ok old)
+            → t2 ≤ t0 + (1 + file_touches p rows what x (child name es))
+        by (Err why) is h = absurd h
+        by (Ok bytes) is h =
+            let r = takes bytes (begun-over folder old es bytes o h) in
+            subst (λ (w : Result (List ℕ) Refused). t2 ≤ t0 + (1 + touches-of p rows what x w)) (sym (begun-anyhow what led (child name es) bytes is)) (omega (arith, first, r))
+
+  -- ---- the file put into its folder
+
+  -- a file that isn't made stops the edit
+  pub member-stopped : (a b : Seen) (what : FileEdit) (x : List ℕ) (led : ℕ) (name : List ℕ) (es : Entries) (s : Stop)
+      → MakesFile X N p a b (blocks X N p (Dir es)) (fitting_bytes p what x led (child name es)) (Err s)
+      → EditsAfter X N a.told b.told (blocks X N p (Dir es)) p (allowed X N p (with_fitting p what x led name es)) (Err s)
+  member-stopped a b what x led name es s h = by (fitting_bytes p what x led (child name es)) s h
+    where
+      old : List Held
+      old = blocks X N p (Dir es)
+
+      put : List ℕ → Entries
+      put n = with_child name (File n) es
+
+      by : (w : Result (List ℕ) Refused) (s : Stop) → MakesFile X N p a b old w (Err s)
+          → EditsAfter X N a.told b.told old p (allowed X N p (and_then w (λ n. Ok (put n)))) (Err s)
+      by (Ok n) (stop.Refused given) h = absurd h
+      by (Ok n) (stop.Store f) h = lost-edit X N p a.told b.told old (allowed X N p (Ok (put n))) f h
+      by (Err why) (stop.Refused given) h = h
+      by (Err why) (stop.Store f) h = h
+
+  -- the bytes that it has else
+  record Makes (a b : Seen) (what : FileEdit) (x : List ℕ) (led : ℕ) (name : List ℕ) (es : Entries) (new : Entry) : Type 0 where
+    bytes : List ℕ
+    puts : with_fitting p what x led name es ≡ Ok (with_child name (File bytes) es)
+    is : IsAfter X N a.told b.told (blocks X N p (Dir es)) p new (File bytes)
+
+  makes : (a b : Seen) (what : FileEdit) (x : List ℕ) (led : ℕ) (name : List ℕ) (es : Entries) (new : Entry)
+      → MakesFile X N p a b (blocks X N p (Dir es)) (fitting_bytes p what x led (child name es)) (Ok new)
+      → Makes a b what x led name es new
+  makes a b what x led name es new h = by (fitting_bytes p what x led (child name es)) refl h
+    where
+      by : (w : Result (List ℕ) Refused) → fitting_bytes p what x led (child name es) ≡ w
+          → MakesFile X N p a b (blocks X N p (Dir es)) w (Ok new) → Makes a b what x led name es new
+      by (Ok n) is h = record {
+        bytes = n;
+        puts = ap (λ (w : Result (List ℕ) Refused). and_then w (λ bytes. Ok (with_child name (File bytes) es))) is;
+        is = h;
+      }
+      by (Err why) is h = absurd h
+
+  module _ {Bad Other : Role → List ℕ → Type 0} {fault : Option StoreFault} {a b c : Seen} (before : OnlySaves X Bad None a b) (after : OnlySaves X Other fault b c)
+      (folder new : Entry) (what : FileEdit) (x : List ℕ) (led : ℕ) (name : List ℕ) (es : Entries) (o : IsFolderOver X N p a c [] folder es)
+      (made : MakesFile X N p a b (blocks X N p (Dir es)) (fitting_bytes p what x led (child name es)) (Ok new)) where
+    m : Makes a b what x led name es new
+    m = makes a b what x led name es new made
+
+    came : AgreesAfter a.told b.told (blocks X N p (Dir es)) (blocks X N p (File m.bytes) ++ blocks X N p (Dir es))
+    came = beside X N p before after [] (blocks X N p (File m.bytes)) folder es tt o m.is.after
+
+    beside-it : IsFolderOver X N p b c (blocks X N p (File m.bytes)) folder es
+    beside-it = over-then X N p before after [] (blocks X N p (File m.bytes)) folder folder es es (are-good X N p (File m.bytes)) o.plan o came
+
+    pub member-put : (r : Result Entry Stop)
+        → ((t : Tree) → IsPlanOf X N p new t → EditsFolder X N p b c (blocks X N p t) folder (λ es. Ok (with_child name t es)) r)
+        → EditsAfter X N a.told c.told (blocks X N p (Dir es)) p (allowed X N p (with_fitting p what x led name es)) r
+    member-put r puts = subst (λ (w : Result Entries Refused). EditsAfter X N a.told c.told (blocks X N p (Dir es)) p (allowed X N p w) r) (sym m.puts)
+        (on-over X N p before after [] _ folder es (allowed X N p (Ok (with_child name (File m.bytes) es))) r o came (puts (File m.bytes) m.is.plan es beside-it))
+
+    pub member-touches : (n t0 t1 t2 : ℕ) → t1 ≤ t0 + (1 + n)
+        → ((t : Tree) → IsPlanOf X N p new t → TouchesFolder X N p b c (blocks X N p t) folder (λ es. 17 + crossing X N p (named_entries X N p es) (named_entries X N p (with_child name t es))) t1 t2)
+        → t2 ≤ t0 + (18 + crossings_of X N p (name ∷ []) es (with_fitting p what x led name es) + n)
+    member-touches n t0 t1 t2 first takes =
+        let r = takes (File m.bytes) m.is.plan es beside-it in
+        subst (λ (w : Result Entries Refused). t2 ≤ t0 + (18 + crossings_of X N p (name ∷ []) es w + n)) (sym m.puts) (omega (arith, first, r))
+
+  -- ---- whose blocks are bad
+
+  pub way-written : {fault : Option StoreFault} {a b : Seen} (told : Told) → OnlySaves X (IsBad N (Some p)) fault a b
+      → OnlySaves X (IsBadWritten X N p told) fault a b
+  way-written told h = saves-by (IsBadWritten X N p told) (λ role bytes bad. inl bad) h
+
+  pub in-written : {fault : Option StoreFault} {a b : Seen} (told : Told)
+      → OnlySaves X (IsBadInSome X p told) fault a b → OnlySaves X (IsBadWritten X N p told) fault a b
+  in-written told h = saves-by (IsBadWritten X N p told) (λ role bytes bad. inr bad) h
+
+  pub in-some : {fault : Option StoreFault} {a b : Seen} (told : Told) (root : Cid)
+      → OnlySaves X (IsBadEdited X p told root) fault a b → OnlySaves X (IsBadInSome X p told) fault a b
+  in-some told root h = saves-by (IsBadInSome X p told) (λ role bytes bad. (root, bad)) h
+
+  -- ---- along the path
+
+  pub file-leads : (rows : ℕ → ℕ) (what : FileEdit) (x : List ℕ) (led : ℕ) (name next : List ℕ) (more : List (List ℕ)) (es below : Entries) → as_folder led (child name es) ≡ Ok below
+      → (entries_at name es ≡ below) × (file_touches p rows what x (member_at (next ∷ more) below) ≤ file_touches p rows what x (member_at (name ∷ next ∷ more) es))
+  file-leads rows what x led name next more es below is =
+      let there = (folder-leads X N p Make led name next more es below is).0 in
+      (there, subst (λ (y : Entries). file_touches p rows what x (member_at (next ∷ more) below) ≤ file_touches p rows what x (member_at (next ∷ more) y)) (sym there) (omega arith))

@@ -1,0 +1,123 @@
+-- A file of the tree written into and cut.
+use Rattle.std.specs.Prelude.{◌≡◌, ◌⊎◌, ℕ, List, [], ◌∷◌, length, max, Bool, false, not, nat_lt, if◌then◌else◌}
+use Rattle.std.specs.declared.option.Option.{Option}
+use Rattle.std.specs.declared.option.Option.TheVariants.{None, Some}
+use Rattle.std.specs.declared.result.Result.{Result}
+use Rattle.std.specs.declared.result.Result.TheVariants.{Ok, Err}
+use Rattle.uf_build.specs.declared.fault.BuildFault.{BuildFault}
+use Rattle.uf_build.specs.declared.fault.BuildFault.TheVariants.{FileTooLong, Spent, Store}
+use Rattle.uf_cid.specs.Blocks.{Held}
+use Rattle.uf_cid.specs.declared.cid.Cid.{Cid}
+use Rattle.uf_fileedit.specs.Bad.{IsBadEdited}
+use Rattle.uf_fileedit.specs.Touches.{cut_chunks, edit_touches, written_chunks}
+use Rattle.uf_store.specs.declared.store.Role.{Role}
+use Rattle.uf_store.specs.Calls.{Calm}
+use Rattle.uf_store.specs.Contents.{Told}
+use Rattle.uf_store.specs.Keeping.{StaysAgreed}
+use Rattle.uf_store.specs.Lost.{IsLossOf}
+use Rattle.uf_store.specs.Seen.{Seen}
+use Rattle.uf_tree.specs.declared.nodes.Entry.{Entry}
+use Rattle.uf_tree.specs.declared.profile.Profile.{Profile}
+use Rattle.uf_tree.specs.Profiles.{most_bytes}
+use Rattle.uf_tree.specs.Tree.{Tree, File, Entries}
+use Rattle.uf_tree.specs.TreePlan.{blocks}
+use Rattle.uf_plain.specs.declared.file.FileEdit.{FileEdit}
+use Rattle.uf_plain.specs.declared.file.FileEdit.TheVariants.{Write, Truncate}
+use Rattle.uf_plain.specs.declared.rule.Refused.{Refused}
+use Rattle.uf_plain.specs.declared.rule.Refused.TheVariants as why
+use Rattle.uf_plain.specs.Edits.{and_then, child, edited, with_child}
+use Rattle.uf_plain.specs.Files.{begun, fitting, new_bytes, rewritten}
+use Rattle.uf_mfs.specs.declared.fault.Stop.{Stop}
+use Rattle.uf_mfs.specs.declared.fault.Stop.TheVariants as stop
+use Rattle.uf_mfs.specs.Answers.{MeetsOr}
+use Rattle.uf_mfs.specs.Bad.{IsBad}
+use Rattle.uf_mfs.specs.Standing.{IsAfter, IsAgreed, IsPlanOf}
+use Rattle.uf_mfs.specs.Touches.{entries_at}
+
+-- a block that isn't canonical at its place in some file
+abbrev pub IsBadInSome : (List ℕ → List ℕ) → Profile → Told → Role → List ℕ → Type 0
+IsBadInSome X p told role bytes = (root : Cid) × IsBadEdited X p told root role bytes
+
+-- a block that isn't canonical on the way to a file, or in the file that is edited
+abbrev pub IsBadWritten : (List ℕ → List ℕ) → (List ℕ → ℕ) → Profile → Told → Role → List ℕ → Type 0
+IsBadWritten X N p told role bytes = IsBad N (Some p) role bytes ⊎ IsBadInSome X p told role bytes
+
+-- an edit creates a file that isn't there
+abbrev pub may_create : FileEdit → Bool
+may_create (Write how) = how.create
+may_create (Truncate size) = false
+
+-- an edit empties a file first
+abbrev pub cuts_first : FileEdit → Bool
+cuts_first (Write how) = how.cut
+cuts_first (Truncate size) = false
+
+-- an edit leaves the bytes of each file as they are: it writes nothing, and empties none
+abbrev pub leaves_bytes : FileEdit → List ℕ → Bool
+leaves_bytes (Write how) [] = not how.cut
+leaves_bytes (Write how) (z ∷ x) = false
+leaves_bytes (Truncate size) piece = false
+
+-- the member of the last of these names
+abbrev pub member_at : List (List ℕ) → Entries → Option Tree
+member_at [] es = None
+member_at (name ∷ []) es = child name es
+member_at (name ∷ next ∷ names) es = member_at (next ∷ names) (entries_at name es)
+
+-- the bytes of the file that an edit makes of what is under its name, or what refuses it
+abbrev pub fitting_bytes : Profile → FileEdit → List ℕ → ℕ → Option Tree → Result (List ℕ) Refused
+fitting_bytes p what piece led o = and_then (new_bytes what piece led o) (fitting p)
+
+-- what an edit of a file does in its folder, where the new bytes fit
+abbrev pub with_fitting : Profile → FileEdit → List ℕ → ℕ → List ℕ → Entries → Result Entries Refused
+with_fitting p what piece led name es =
+    and_then (fitting_bytes p what piece led (child name es)) (λ bytes. Ok (with_child name (File bytes) es))
+
+-- the folder after an edit of the file at these names, where the new bytes fit, before its plan is looked at
+abbrev pub fitting_edit : Profile → FileEdit → List ℕ → List (List ℕ) → Entries → Result Entries Refused
+fitting_edit p what piece [] es = Err (why.IsADirectory 0)
+fitting_edit p what piece (name ∷ names) es = edited (with_fitting p what piece) 0 name names es
+
+-- the answer of an edit of a file as that of a step: such an edit is begun anew, and so never spent
+abbrev pub IsStepOf : Result Entry BuildFault → Result Entry Stop → Type 0
+IsStepOf (Ok e) given = given ≡ Ok e
+IsStepOf (Err FileTooLong) given = given ≡ Err (stop.Refused why.FileTooLong)
+IsStepOf (Err Spent) given = ⊥
+IsStepOf (Err (Store fault)) given = given ≡ Err (stop.Store fault)
+
+-- how many chunks of a file of these bytes an edit changes
+abbrev pub changed_chunks : Profile → FileEdit → List ℕ → List ℕ → ℕ
+changed_chunks p (Write how) piece bytes = written_chunks p.chunk (length bytes) how.offset (length piece)
+changed_chunks p (Truncate size) piece bytes = cut_chunks p.chunk (length bytes) size
+
+-- how often an edit of a file of these bytes touches the store at most, by the chunks that it changes and the rows of
+-- the old or the new file, the greater; not at all where the new one is too long
+abbrev pub rewriting_touches : Profile → (ℕ → ℕ) → FileEdit → List ℕ → List ℕ → ℕ
+rewriting_touches p rows what piece bytes =
+    let new = length (rewritten what piece bytes) in
+    if nat_lt (most_bytes p) new then 0
+    else edit_touches (changed_chunks p what piece bytes) (max (rows (length bytes)) (rows new))
+
+-- the same of what is under the file's name, none where that is refused
+abbrev pub file_touches : Profile → (ℕ → ℕ) → FileEdit → List ℕ → Option Tree → ℕ
+file_touches p rows what piece o =
+    elim (begun what 0 o) [ Ok bytes ↦ rewriting_touches p rows what piece bytes | Err why ↦ 0 ]
+
+module _ (X : List ℕ → List ℕ) (N : List ℕ → ℕ) (told : Told) (p : Profile) where
+  -- what an edit of this member begins with: the entry of the file of these bytes that it is, or none, and then they
+  -- are none
+  abbrev pub IsStart : Option Tree → List ℕ → Option Entry → Type 0
+  IsStart o bytes None = bytes ≡ []
+  IsStart o bytes (Some e) = (o ≡ Some (File bytes)) × IsAgreed X N told p e (File bytes)
+
+module _ (X : List ℕ → List ℕ) (N : List ℕ → ℕ) (p : Profile) (before now : Seen) where
+  -- the entry is that of the file of these bytes, the store agrees with its blocks before and after, and it stayed calm
+  pub record IsFileOver (e : Entry) (bytes : List ℕ) : Type 0 where
+    pub plan : IsPlanOf X N p e (File bytes)
+    pub stays : StaysAgreed before.told now.told (blocks X N p (File bytes))
+    pub calm : Calm before now
+
+  -- over these old blocks: the file of these bytes, or what refuses it, or one of the old blocks is lost
+  abbrev pub MakesFile : List Held → Result (List ℕ) Refused → Result Entry Stop → Type 0
+  MakesFile old bytes result = MeetsOr (IsLossOf before.told old)
+      (λ bytes e. IsAfter X N before.told now.told old p e (File bytes)) bytes result
