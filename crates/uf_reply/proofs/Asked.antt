@@ -1,14 +1,19 @@
 -- Why words are refused.
 use Rattle.std.proofs.Common.{ℕ, List, Bool, true, false, refl, sym, subst, inl, inr, Option, Some, None, Result, Ok, Err}
-use Rattle.uf_path.specs.Paths.{path_reads}
+use Rattle.std.specs.Prelude.{if◌then◌else◌}
+use Rattle.uf_path.specs.Paths.{names_a_dag, path_reads}
 use Rattle.uf_path.specs.declared.faults.PathFault.{PathFault}
 use Rattle.uf_path.specs.declared.faults.PathFault.TheVariants as path
 use Rattle.uf_path.specs.declared.path.Path.{Path}
 use Rattle.uf_words.specs.declared.command.Cmd.{Cmd}
 use Rattle.uf_words.specs.declared.command.Cmd.TheVariants as cmd
+use Rattle.uf_plain.specs.declared.file.WriteHow.{WriteHow}
 use Rattle.uf_reply.specs.declared.types.Ask.{Ask}
+use Rattle.uf_reply.specs.declared.types.Edit.{Edit}
+use Rattle.uf_reply.specs.declared.types.Edit.TheVariants.{Cp, Mv}
 use Rattle.uf_reply.specs.declared.types.Refusal.{Refusal}
-use Rattle.uf_reply.specs.Commands.{IsAsked, IsOfWords, add_asked, asked, asked_of, at_path}
+use Rattle.uf_reply.specs.declared.types.Refusal.TheVariants as refusal
+use Rattle.uf_reply.specs.Commands.{IsAsked, IsOfWords, add_asked, asked, asked_of, at_path, both_paths, from_to, path_refusal, write_asked}
 
 at-only : (ask : Ask) (r : Result Path PathFault) → IsOfWords (at_path ask r)
 at-only ask (Ok path) = tt
@@ -24,6 +29,32 @@ add-only false only_hash None (Some host_path) = refl
 add-only false only_hash (Some dest) host_path = refl
 add-only true only_hash to_files host_path = refl
 
+write-only : (how : WriteHow) (hex : Option (List ℕ)) (r : Result Path PathFault) → IsOfWords (write_asked how hex r)
+write-only how None (Ok path) = tt
+write-only how None (Err path.NotAbsolute) = refl
+write-only how None (Err (path.BadName place)) = refl
+write-only how None (Err path.TooLong) = refl
+write-only how None (Err (path.BadCid why)) = refl
+write-only how None (Err path.Memory) = refl
+write-only how (Some piece) r = at-only _ r
+
+bad-only : (edit : Path → Edit) (why : PathFault) → IsOfWords (from_to edit (Err (path_refusal why)))
+bad-only edit path.NotAbsolute = refl
+bad-only edit (path.BadName place) = refl
+bad-only edit path.TooLong = refl
+bad-only edit (path.BadCid why) = refl
+bad-only edit path.Memory = refl
+
+from-to-only : (edit : Path → Edit) (r s : Result Path PathFault) → IsOfWords (from_to edit (both_paths r s))
+from-to-only edit (Ok source) (Ok dest) = tt
+from-to-only edit (Ok source) (Err why) = bad-only edit why
+from-to-only edit (Err why) s = bad-only edit why
+
+cp-only : (in_dag : Bool) (r s : Result Path PathFault)
+    → IsOfWords (if in_dag then Err refusal.Usage else from_to (λ to. Cp to) (both_paths r s))
+cp-only true r s = refl
+cp-only false r s = from-to-only (λ to. Cp to) r s
+
 cmd-only : (c : Cmd) → IsOfWords (asked c)
 cmd-only (cmd.Init profile) = tt
 cmd-only (cmd.Add recursive only_hash to_files host_path) = add-only recursive only_hash to_files host_path
@@ -33,10 +64,10 @@ cmd-only (cmd.Mkdir parents path) = at-only _ (path_reads path)
 cmd-only (cmd.Ls long path) = at-only _ (path_reads path)
 cmd-only (cmd.Stat path) = at-only _ (path_reads path)
 cmd-only (cmd.Read offset count path) = refl
-cmd-only (cmd.Write offset create cut hex path) = refl
-cmd-only (cmd.Truncate path length) = refl
-cmd-only (cmd.Cp source dest) = refl
-cmd-only (cmd.Mv source dest) = refl
+cmd-only (cmd.Write offset create cut hex path) = write-only (record { offset = offset; create = create; cut = cut }) hex (path_reads path)
+cmd-only (cmd.Truncate path length) = at-only _ (path_reads path)
+cmd-only (cmd.Cp source dest) = cp-only (names_a_dag source) (path_reads source) (path_reads dest)
+cmd-only (cmd.Mv source dest) = from-to-only (λ to. Mv to) (path_reads source) (path_reads dest)
 cmd-only (cmd.Rm recursive path) = at-only _ (path_reads path)
 cmd-only (cmd.Export cid) = refl
 cmd-only (cmd.Same cid) = refl

@@ -1,5 +1,5 @@
 -- What words ask for, once their paths are read.
-use Rattle.std.specs.Prelude.{◌≡◌, ◌⊎◌, ℕ, List, Bool, true, false, IsTrue}
+use Rattle.std.specs.Prelude.{◌≡◌, ◌⊎◌, ◌&&◌, ℕ, List, [], ◌∷◌, Bool, true, false, not, IsTrue, if◌then◌else◌}
 use Rattle.std.specs.declared.option.Option.{Option}
 use Rattle.std.specs.declared.option.Option.TheVariants.{None, Some}
 use Rattle.std.specs.declared.result.Result.{Result}
@@ -7,20 +7,26 @@ use Rattle.std.specs.declared.result.Result.TheVariants.{Ok, Err}
 use Rattle.uf_edge.specs.Counts.{Stood}
 use Rattle.uf_edge.specs.Streams.{Told}
 use Rattle.uf_plain.specs.Edits.{at, is_folder_at}
-use Rattle.uf_path.specs.Paths.{path_reads}
+use Rattle.uf_plain.specs.Moves.{lie_of, name_of, spot_names, target}
+use Rattle.uf_plain.specs.declared.file.WriteHow.{WriteHow}
+use Rattle.uf_plain.specs.declared.rule.Refused.{Refused}
+use Rattle.uf_plain.specs.declared.spot.Lie.{Lie}
+use Rattle.uf_plain.specs.declared.spot.Lie.TheVariants.{Itself, Below, Apart}
+use Rattle.uf_path.specs.Paths.{names_a_dag, path_reads}
 use Rattle.uf_path.specs.declared.faults.PathFault.{PathFault}
 use Rattle.uf_path.specs.declared.faults.PathFault.TheVariants as path
 use Rattle.uf_path.specs.declared.path.Path.{Path}
 use Rattle.uf_tree.specs.Profiles.{is_profile}
-use Rattle.uf_tree.specs.Tree.{Dir, Entries}
+use Rattle.uf_tree.specs.Tree.{Tree, File, Dir, Entries}
 use Rattle.uf_words.specs.Commands.{command_of}
 use Rattle.uf_words.specs.declared.command.Cmd.{Cmd}
 use Rattle.uf_words.specs.declared.command.Cmd.TheVariants as cmd
 use Rattle.uf_reply.specs.declared.types.Ask.{Ask}
 use Rattle.uf_reply.specs.declared.types.Ask.TheVariants.{Ls, Stat, Edit as Edits}
 use Rattle.uf_reply.specs.declared.types.Command.{Command}
-use Rattle.uf_reply.specs.declared.types.Command.TheVariants.{Init, Add, At}
-use Rattle.uf_reply.specs.declared.types.Edit.TheVariants.{Mkdir, Rm}
+use Rattle.uf_reply.specs.declared.types.Command.TheVariants.{Init, Add, WriteInput, At}
+use Rattle.uf_reply.specs.declared.types.Edit.{Edit}
+use Rattle.uf_reply.specs.declared.types.Edit.TheVariants.{Mkdir, Rm, Write, Truncate, Cp, Mv}
 use Rattle.uf_reply.specs.declared.types.Refusal.{Refusal}
 use Rattle.uf_reply.specs.declared.types.Refusal.TheVariants as refusal
 use Rattle.uf_reply.specs.Kinds.{IsOf, word_kinds}
@@ -46,6 +52,33 @@ add_asked false only_hash None (Some host_path) = Err refusal.Usage
 add_asked false only_hash (Some dest) host_path = Err refusal.Usage
 add_asked true only_hash to_files host_path = Err refusal.Usage
 
+-- `files write` of bytes that stand in the words, or else of the input
+abbrev pub write_asked : WriteHow → Option (List ℕ) → Result Path PathFault → Result Command Refusal
+write_asked how None (Ok path) = Ok (WriteInput how path)
+write_asked how None (Err why) = Err (path_refusal why)
+write_asked how (Some piece) path = at_path (Edits (Write how piece)) path
+
+-- two paths, or why the first text that is none is none
+abbrev pub both_paths : Result Path PathFault → Result Path PathFault → Result (Path × Path) Refusal
+both_paths (Err why) dest = Err (path_refusal why)
+both_paths (Ok source) (Err why) = Err (path_refusal why)
+both_paths (Ok source) (Ok dest) = Ok (source, dest)
+
+-- the edit at the first of two paths that the second makes
+abbrev pub from_to : (Path → Edit) → Result (Path × Path) Refusal → Result Command Refusal
+from_to edit (Ok paths) = Ok (At (Edits (edit paths.1)) paths.0)
+from_to edit (Err why) = Err why
+
+-- `files cp` from the tree; there is no other yet
+abbrev pub cp_asked : List ℕ → List ℕ → Result Command Refusal
+cp_asked source dest =
+    if names_a_dag source then Err refusal.Usage
+    else from_to (λ to. Cp to) (both_paths (path_reads source) (path_reads dest))
+
+-- `files mv`
+abbrev pub mv_asked : List ℕ → List ℕ → Result Command Refusal
+mv_asked source dest = from_to (λ to. Mv to) (both_paths (path_reads source) (path_reads dest))
+
 -- the command of words whose paths are texts
 abbrev pub asked : Cmd → Result Command Refusal
 asked (cmd.Init profile) = Ok (Init profile)
@@ -54,14 +87,15 @@ asked (cmd.Mkdir parents path) = at_path (Edits (Mkdir parents)) (path_reads pat
 asked (cmd.Ls long path) = at_path (Ls long) (path_reads path)
 asked (cmd.Stat path) = at_path Stat (path_reads path)
 asked (cmd.Rm recursive path) = at_path (Edits (Rm recursive)) (path_reads path)
+asked (cmd.Write offset create cut hex path) =
+    write_asked (record { offset = offset; create = create; cut = cut }) hex (path_reads path)
+asked (cmd.Truncate path length) = at_path (Edits (Truncate length)) (path_reads path)
+asked (cmd.Cp source dest) = cp_asked source dest
+asked (cmd.Mv source dest) = mv_asked source dest
 -- these aren't answered yet
 asked (cmd.Cat target) = Err refusal.Usage
 asked (cmd.Get target host_path) = Err refusal.Usage
 asked (cmd.Read offset count path) = Err refusal.Usage
-asked (cmd.Write offset create cut hex path) = Err refusal.Usage
-asked (cmd.Truncate path length) = Err refusal.Usage
-asked (cmd.Cp source dest) = Err refusal.Usage
-asked (cmd.Mv source dest) = Err refusal.Usage
 asked (cmd.Export cid) = Err refusal.Usage
 asked (cmd.Same cid) = Err refusal.Usage
 asked cmd.Import = Err refusal.Usage
@@ -77,26 +111,29 @@ abbrev pub command_in : List (List ℕ) → Result Command Refusal
 command_in words = asked_of (command_of words)
 
 -- the call answers as the words ask, or for want of memory
-abbrev pub IsAsked : Result Command Refusal → Result Command Refusal → Type 0
-IsAsked (Ok command) told = told ≡ Ok command
+abbrev pub IsAsked : {A : Type 0} → Result A Refusal → Result A Refusal → Type 0
+IsAsked (Ok a) told = told ≡ Ok a
 IsAsked (Err why) told = (why ≡ no_memory) ⊎ (told ≡ Err why)
 
 -- the profile of an `init` is accepted; no other command has one
 abbrev pub IsAccepted : Command → Type 0
 IsAccepted (Init profile) = IsTrue (is_profile profile)
 IsAccepted (Add only_hash) = Unit {0}
+IsAccepted (WriteInput how path) = Unit {0}
 IsAccepted (At ask path) = Unit {0}
 
 -- the command reads the input
 abbrev pub reads_input : Command → Bool
 reads_input (Init profile) = false
 reads_input (Add only_hash) = true
+reads_input (WriteInput how path) = true
 reads_input (At ask path) = false
 
 -- the command reads or writes files and folders of the host; none does yet
 abbrev pub uses_host : Command → Bool
 uses_host (Init profile) = false
 uses_host (Add only_hash) = false
+uses_host (WriteInput how path) = false
 uses_host (At ask path) = false
 
 -- what is asked writes nothing to the store
@@ -109,6 +146,7 @@ only_looks (Edits edit) = false
 abbrev pub only_reads : Command → Bool
 only_reads (Init profile) = false
 only_reads (Add only_hash) = only_hash
+only_reads (WriteInput how path) = false
 only_reads (At ask path) = only_looks ask
 
 -- what a command may write to the store: nothing; blocks and a sync; a Head where there was none; blocks, a sync and the Head
@@ -126,23 +164,54 @@ abbrev pub command_writes : Command → WriteShape
 command_writes (Init p) = MakesHead
 command_writes (Add true) = NoWrites
 command_writes (Add false) = SyncsBlocks
+command_writes (WriteInput how path) = MovesHead
 command_writes (At ask path) = ask_writes ask
 
 -- the command is `add -n`
 abbrev pub only_hashes : Command → Bool
 only_hashes (Init profile) = false
 only_hashes (Add only_hash) = only_hash
+only_hashes (WriteInput how path) = false
 only_hashes (At ask path) = false
 
--- the command is `files mkdir -p` of a path at which there is a directory already
-abbrev pub is_idle : Entries → Command → Bool
-is_idle es (At (Edits (Mkdir true)) path) = is_folder_at (at 0 path.names (Dir es))
-is_idle es (At (Edits (Mkdir false)) path) = false
-is_idle es (At (Edits (Rm recursive)) path) = false
-is_idle es (At (Ls long) path) = false
-is_idle es (At Stat path) = false
-is_idle es (Init profile) = false
-is_idle es (Add only_hash) = false
+-- a lookup found a file
+abbrev pub is_file_at : Result Tree Refused → Bool
+is_file_at (Ok (File bytes)) = true
+is_file_at (Ok (Dir es)) = false
+is_file_at (Err why) = false
+
+-- a target is the source
+abbrev pub is_itself : Lie → Bool
+is_itself Itself = true
+is_itself Below = false
+is_itself Apart = false
+
+-- a move goes to where its source is
+abbrev pub is_onto_itself : List (List ℕ) → Path → Entries → Bool
+is_onto_itself source dest es = elim (target dest (name_of source) es) [
+  | Ok found ↦ is_itself (lie_of source (spot_names found.0))
+  | Err rule ↦ false
+]
+
+-- an edit has nothing to do: `mkdir -p` of a directory that is there, a write of nothing into a file that keeps its
+-- bytes, and a move onto itself
+abbrev pub has_nothing_to_do : Edit → List (List ℕ) → Entries → Bool
+has_nothing_to_do (Mkdir parents) names es = parents && is_folder_at (at 0 names (Dir es))
+has_nothing_to_do (Rm recursive) names es = false
+has_nothing_to_do (Write how []) names es = not how.cut && is_file_at (at 0 names (Dir es))
+has_nothing_to_do (Write how (b ∷ piece)) names es = false
+has_nothing_to_do (Truncate length) names es = false
+has_nothing_to_do (Cp dest) names es = false
+has_nothing_to_do (Mv dest) names es = is_onto_itself names dest es
+
+-- the command is an edit that has nothing to do, where these are the bytes of the input
+abbrev pub is_idle : List ℕ → Entries → Command → Bool
+is_idle bytes es (At (Edits edit) path) = has_nothing_to_do edit path.names es
+is_idle bytes es (At (Ls long) path) = false
+is_idle bytes es (At Stat path) = false
+is_idle bytes es (Init profile) = false
+is_idle bytes es (Add only_hash) = false
+is_idle bytes es (WriteInput how path) = has_nothing_to_do (Write how bytes) path.names es
 
 -- a fact of the command, where words ask for one, and else this
 abbrev pub of_command : (Command → Bool) → Bool → Result Command Refusal → Bool

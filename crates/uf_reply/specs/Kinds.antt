@@ -7,13 +7,13 @@ use Rattle.std.specs.declared.result.Result.TheVariants.{Ok, Err}
 use Rattle.uf_store.specs.declared.store.StoreFault.{StoreFault}
 use Rattle.uf_store.specs.declared.store.StoreFault.TheVariants as fault
 use Rattle.uf_reply.specs.declared.types.Command.{Command}
-use Rattle.uf_reply.specs.declared.types.Command.TheVariants.{Init, Add, At}
+use Rattle.uf_reply.specs.declared.types.Command.TheVariants.{Init, Add, WriteInput, At}
 use Rattle.uf_reply.specs.declared.types.Refusal.{Refusal}
 use Rattle.uf_reply.specs.declared.types.Refusal.TheVariants as refusal
 
 -- the kinds of refusals: a damaged block is a failure of the store
 pub data RefusalKind : Type 0 where
-  OfRule OfPath OfUsage OfReady OfRead OfWrite OfFailure OfMissing OfBadBlock OfClash OfMemory : RefusalKind
+  OfRule OfPath OfLongInput OfUsage OfReady OfRead OfWrite OfFailure OfMissing OfBadBlock OfClash OfMemory : RefusalKind
 
 -- the kind of a fault of the store
 abbrev pub fault_kind : StoreFault → RefusalKind
@@ -28,6 +28,7 @@ fault_kind fault.Memory = OfMemory
 abbrev pub refusal_kind : Refusal → RefusalKind
 refusal_kind (refusal.Rule rule) = OfRule
 refusal_kind (refusal.BadPath why) = OfPath
+refusal_kind refusal.InputTooLong = OfLongInput
 refusal_kind refusal.Usage = OfUsage
 refusal_kind (refusal.Ready why) = OfReady
 refusal_kind refusal.Read = OfRead
@@ -44,20 +45,21 @@ abbrev pub refusal_fault : {A : Type 0} → Result A Refusal → Option StoreFau
 refusal_fault (Ok a) = None
 refusal_fault (Err why) = fault_behind why
 
--- the families of commands: those that make a store ready, that add an input, and that work on the tree of the Head
+-- the families of commands: those that make a store ready, that add an input, that write it into the tree of the Head,
+-- and that work on that tree alone
 pub data Family : Type 0 where
-  MakesReady AddsInput WorksInTree : Family
+  MakesReady AddsInput TakesInput WorksInTree : Family
 
 abbrev pub family_of : Command → Family
 family_of (Init p) = MakesReady
 family_of (Add only_hash) = AddsInput
+family_of (WriteInput how path) = TakesInput
 family_of (At ask path) = WorksInTree
 
 -- the kinds that a command of a family may answer once its words are read, before it prints
 abbrev pub may_answer : Family → RefusalKind → Bool
 may_answer MakesReady OfReady = true
 may_answer MakesReady OfFailure = true
-may_answer MakesReady OfMissing = true
 may_answer MakesReady OfClash = true
 may_answer MakesReady OfMemory = true
 may_answer MakesReady kind = false
@@ -76,6 +78,10 @@ may_answer WorksInTree OfBadBlock = true
 may_answer WorksInTree OfClash = true
 may_answer WorksInTree OfMemory = true
 may_answer WorksInTree kind = false
+may_answer TakesInput OfPath = false
+may_answer TakesInput OfUsage = false
+may_answer TakesInput OfWrite = false
+may_answer TakesInput kind = true
 
 -- the same of a command whose tree is opened: that is ready
 abbrev pub opened_kinds : RefusalKind → Bool

@@ -107,6 +107,7 @@ bad_path_line why = line (codes "error: rule BadPath ") (decimal (path_number wh
 abbrev pub line_of : Refusal → List ℕ
 line_of (refusal.Rule rule) = rule_line rule
 line_of (refusal.BadPath why) = bad_path_line why
+line_of refusal.InputTooLong = codes "error: rule InputTooLong\n"
 line_of refusal.Usage = plain_line status.Usage
 line_of (refusal.Ready why) = ready_line why
 line_of refusal.Read = plain_line status.ReadFault

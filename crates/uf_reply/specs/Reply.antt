@@ -8,10 +8,14 @@ use Rattle.uf_cid.specs.Blocks.{Held}
 use Rattle.uf_cid.specs.declared.cid.Cid.{Cid}
 use Rattle.uf_plain.specs.Rules.{allowed, rule_of}
 use Rattle.uf_plain.specs.Edits.{at, made, removed}
+use Rattle.uf_plain.specs.Files.{truncated, written}
+use Rattle.uf_plain.specs.Moves.{allowed_move, carried, copied, told_of}
 use Rattle.uf_plain.specs.Replies.{names_at, rows_at, stat_of}
 use Rattle.uf_plain.specs.declared.ready.Ready.{Ready}
 use Rattle.uf_plain.specs.declared.ready.Ready.TheVariants as ready
+use Rattle.uf_plain.specs.declared.file.WriteHow.{WriteHow}
 use Rattle.uf_plain.specs.declared.rule.Refused.{Refused}
+use Rattle.uf_plain.specs.declared.rule.Rule.{Rule}
 use Rattle.uf_plain.specs.declared.rule.Rule.TheVariants.{FileTooLong}
 use Rattle.uf_tree.specs.FilePlan.{file_plan}
 use Rattle.uf_tree.specs.Standing.{Standing, NoHead, BadHead, Stands}
@@ -21,9 +25,9 @@ use Rattle.uf_tree.specs.declared.profile.Profile.{Profile}
 use Rattle.uf_reply.specs.declared.types.Ask.{Ask}
 use Rattle.uf_reply.specs.declared.types.Ask.TheVariants.{Ls, Stat, Edit as Edits}
 use Rattle.uf_reply.specs.declared.types.Command.{Command}
-use Rattle.uf_reply.specs.declared.types.Command.TheVariants.{Init, Add, At}
+use Rattle.uf_reply.specs.declared.types.Command.TheVariants.{Init, Add, WriteInput, At}
 use Rattle.uf_reply.specs.declared.types.Edit.{Edit}
-use Rattle.uf_reply.specs.declared.types.Edit.TheVariants.{Mkdir, Rm}
+use Rattle.uf_reply.specs.declared.types.Edit.TheVariants.{Mkdir, Rm, Write, Truncate, Cp, Mv}
 use Rattle.uf_reply.specs.declared.types.Refusal.{Refusal}
 use Rattle.uf_reply.specs.declared.types.Refusal.TheVariants as refusal
 use Rattle.uf_reply.specs.Lines.{added_line, name_line, row_line, stat_text}
@@ -33,6 +37,10 @@ pub record Reply : Type 0 where
   pub ends : Result (List ℕ) Refusal
   pub next : Standing
   pub held : List Held
+
+-- so many bytes of an input are written into a file at most
+abbrev pub most_input : ℕ
+most_input = 268435456
 
 -- nothing changes: this is printed, or the command is refused
 abbrev pub unchanged : Standing → Result (List ℕ) Refusal → Reply
@@ -90,26 +98,38 @@ module _ (X : List ℕ → List ℕ) (N : List ℕ → ℕ) where
   listed false p names t = flat_map name_line (names_at names t)
   listed true p names t = flat_map row_line (rows_at X N p names t)
 
-  -- the tree after an edit, unless it has no plan; what is taken away leaves one
-  abbrev pub edited_by : Edit → List (List ℕ) → Profile → Entries → Result Entries Refused
-  edited_by (Mkdir parents) names p es = allowed X N p (made parents names es)
-  edited_by (Rm recursive) names p es = removed recursive names es
+  -- the tree after an edit, unless a rule refuses it: an edited tree has to have a plan, and what is taken away leaves
+  -- one
+  abbrev pub edited_by : Edit → List (List ℕ) → Profile → Entries → Result Entries Rule
+  edited_by (Mkdir parents) names p es = told_of names (allowed X N p (made parents names es))
+  edited_by (Rm recursive) names p es = told_of names (removed recursive names es)
+  edited_by (Write how piece) names p es = told_of names (allowed X N p (written how piece names es))
+  edited_by (Truncate size) names p es = told_of names (allowed X N p (truncated size names es))
+  edited_by (Cp dest) names p es = allowed_move X N p (copied names dest es)
+  edited_by (Mv dest) names p es = allowed_move X N p (carried names dest es)
 
   -- after an edit
-  abbrev pub moved : Profile → Entries → List (List ℕ) → Result Entries Refused → Reply
-  moved p es names (Ok next) = record { ends = Ok []; next = Stands p next; held = blocks X N p (Dir next) }
-  moved p es names (Err why) = refused (Stands p es) names why
+  abbrev pub moved : Profile → Entries → Result Entries Rule → Reply
+  moved p es (Ok next) = record { ends = Ok []; next = Stands p next; held = blocks X N p (Dir next) }
+  moved p es (Err rule) = unchanged (Stands p es) (Err (refusal.Rule rule))
 
   -- the reply of a tree to what is asked at these names
   abbrev pub tree_reply : Ask → List (List ℕ) → Profile → Entries → Reply
   tree_reply (Ls long) names p es = looked (Stands p es) names (listed long p names) (at 0 names (Dir es))
   tree_reply Stat names p es = looked (Stands p es) names (λ t. stat_text (stat_of X N p t)) (at 0 names (Dir es))
-  tree_reply (Edits edit) names p es = moved p es names (edited_by edit names p es)
+  tree_reply (Edits edit) names p es = moved p es (edited_by edit names p es)
+
+  -- the reply of a tree where the input is written into a file
+  abbrev pub input_reply : WriteHow → List (List ℕ) → List ℕ → Profile → Entries → Reply
+  input_reply how names bytes p es =
+      if nat_le (length bytes) most_input then tree_reply (Edits (Write how bytes)) names p es
+      else unchanged (Stands p es) (Err refusal.InputTooLong)
 
   -- the reply to a command
   abbrev pub reply : Command → Standing → List ℕ → Reply
   reply (Init p) standing bytes = init_reply p standing
   reply (Add only_hash) standing bytes = add_reply X only_hash standing bytes
+  reply (WriteInput how path) standing bytes = in_tree (input_reply how path.names bytes) standing
   reply (At ask path) standing bytes = in_tree (tree_reply ask path.names) standing
 
   -- the reply to words

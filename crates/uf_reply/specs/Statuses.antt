@@ -50,6 +50,7 @@ fault_status fault.Memory = status.Memory
 abbrev pub status_of : Refusal → Status
 status_of (refusal.Rule rule) = status.Rule
 status_of (refusal.BadPath why) = status.Rule
+status_of refusal.InputTooLong = status.Rule
 status_of refusal.Usage = status.Usage
 status_of (refusal.Ready why) = status.NotReady
 status_of refusal.Read = status.ReadFault

@@ -1,15 +1,21 @@
 // What words ask for.
 ghost use Rattle.std.specs.Prelude.{◌≡◌, map, string_bytes, IfOk};
 ghost use Rattle.uf_path.specs.Paths.{path_reads};
-ghost use Rattle.uf_reply.specs.Commands.{IsAccepted, IsAsked, add_asked, asked, at_path, command_in, path_refusal};
+ghost use Rattle.uf_reply.specs.Commands.{IsAccepted, IsAsked, add_asked, asked, at_path, both_paths, command_in};
+ghost use Rattle.uf_reply.specs.Commands.{cp_asked, mv_asked, path_refusal, write_asked};
+ghost use Rattle.uf_reply.specs.declared.types.Ask.TheVariants as asks;
 ghost use Rattle.uf_words.specs.Commands.{HasAcceptedProfile};
 
 use crate::{Ask, Command, Edit, Refusal};
 use std::alloc::Global;
-use uf_cid::Text;
+use uf_cid::{Block, Text};
 use uf_path::{Path, PathFault};
+use uf_plain::WriteHow;
 use uf_store::StoreFault;
 use uf_words::{Cmd, WordFault, read_words};
+
+// What a path in a DAG starts with.
+const DAG_FRONT: &str = "/ipfs/";
 
 /// The command that words ask for: its words are read first, and then its path. Commands that aren't answered yet are
 /// refused as words that are none.
@@ -38,20 +44,18 @@ fn read_path(alloc: Global, cmd: Cmd) -> Result<Command, Refusal>
             to_files,
             host_path,
         } => read_add(recursive, only_hash, to_files, host_path),
-        Cmd::Mkdir { parents, path } => ask_at(
-            alloc,
-            Ask::Edit {
-                edit: Edit::Mkdir { parents },
-            },
-            &path,
-        ),
-        Cmd::Rm { recursive, path } => ask_at(
-            alloc,
-            Ask::Edit {
-                edit: Edit::Rm { recursive },
-            },
-            &path,
-        ),
+        Cmd::Mkdir { parents, path } => edit_at(alloc, Edit::Mkdir { parents }, &path),
+        Cmd::Rm { recursive, path } => edit_at(alloc, Edit::Rm { recursive }, &path),
+        Cmd::Write {
+            offset,
+            create,
+            cut,
+            hex,
+            path,
+        } => read_write(alloc, offset, create, cut, hex, &path),
+        Cmd::Truncate { path, length } => edit_at(alloc, Edit::Truncate { length }, &path),
+        Cmd::Cp { source, dest } => read_cp(alloc, &source, &dest),
+        Cmd::Mv { source, dest } => read_mv(alloc, &source, &dest),
         Cmd::Ls { long, path } => ask_at(alloc, Ask::Ls { long }, &path),
         Cmd::Stat { path } => ask_at(alloc, Ask::Stat, &path),
         _ => Err(Refusal::Usage),
@@ -72,6 +76,89 @@ fn read_add(
         (false, None, None) => Ok(Command::Add { only_hash }),
         _ => Err(Refusal::Usage),
     }
+}
+
+// `files write` of bytes that stand in the words, or else of the input.
+fn read_write(
+    alloc: Global,
+    offset: u64,
+    create: bool,
+    cut: bool,
+    hex: Option<Block>,
+    path: &Text,
+) -> Result<Command, Refusal>
+    ensures asked { IsAsked result (write_asked (record { offset = offset; create = create; cut = cut }) hex
+        (path_reads path.now)) }
+    ensures profile { IfOk result IsAccepted }
+{
+    let how = WriteHow {
+        offset,
+        create,
+        cut,
+    };
+    match hex {
+        Some(piece) => edit_at(alloc, Edit::Write { how, piece }, path),
+        None => match Path::parse(alloc, path.as_str()) {
+            Ok(path) => Ok(Command::WriteInput { how, path }),
+            Err(why) => Err(bad_path(why)),
+        },
+    }
+}
+
+// `files cp` from the tree.
+fn read_cp(alloc: Global, source: &Text, dest: &Text) -> Result<Command, Refusal>
+    ensures asked { IsAsked result (cp_asked source.now dest.now) }
+    ensures profile { IfOk result IsAccepted }
+{
+    if source.as_str().starts_with(DAG_FRONT) {
+        return Err(Refusal::Usage);
+    }
+    match read_both(alloc, source, dest) {
+        Ok((path, dest)) => Ok(Command::At {
+            ask: Ask::Edit {
+                edit: Edit::Cp { dest },
+            },
+            path,
+        }),
+        Err(why) => Err(why),
+    }
+}
+
+// `files mv`.
+fn read_mv(alloc: Global, source: &Text, dest: &Text) -> Result<Command, Refusal>
+    ensures asked { IsAsked result (mv_asked source.now dest.now) }
+    ensures profile { IfOk result IsAccepted }
+{
+    match read_both(alloc, source, dest) {
+        Ok((path, dest)) => Ok(Command::At {
+            ask: Ask::Edit {
+                edit: Edit::Mv { dest },
+            },
+            path,
+        }),
+        Err(why) => Err(why),
+    }
+}
+
+// A source and a destination.
+fn read_both(alloc: Global, source: &Text, dest: &Text) -> Result<(Path, Path), Refusal>
+    ensures { IsAsked result (both_paths (path_reads source.now) (path_reads dest.now)) }
+{
+    match Path::parse(alloc, source.as_str()) {
+        Err(why) => Err(bad_path(why)),
+        Ok(source) => match Path::parse(alloc, dest.as_str()) {
+            Err(why) => Err(bad_path(why)),
+            Ok(dest) => Ok((source, dest)),
+        },
+    }
+}
+
+// An edit at a path.
+fn edit_at(alloc: Global, edit: Edit, path: &Text) -> Result<Command, Refusal>
+    ensures asked { IsAsked result (at_path (asks.Edit edit) (path_reads path.now)) }
+    ensures profile { IfOk result IsAccepted }
+{
+    ask_at(alloc, Ask::Edit { edit }, path)
 }
 
 // What is asked at a path.

@@ -3,6 +3,7 @@
 #![tactic(auto)]
 
 mod asking;
+mod from;
 mod lines;
 mod rows;
 mod status;

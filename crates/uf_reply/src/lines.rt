@@ -19,7 +19,7 @@ pub fn refusal_status(refusal: &Refusal) -> Status
     ensures { result ≡ status_of refusal.now }
 {
     match refusal {
-        Refusal::Rule(_) | Refusal::BadPath(_) => Status::Rule,
+        Refusal::Rule(_) | Refusal::BadPath(_) | Refusal::InputTooLong => Status::Rule,
         Refusal::Usage => Status::Usage,
         Refusal::Ready(_) => Status::NotReady,
         Refusal::Read => Status::ReadFault,
@@ -48,6 +48,7 @@ pub fn line(alloc: Global, refusal: &Refusal) -> Result<Block, Memory>
     match refusal {
         Refusal::Rule(rule) => rule_line(alloc, rule),
         Refusal::BadPath(why) => path_line(alloc, *why),
+        Refusal::InputTooLong => plain(alloc, b"error: rule InputTooLong\n"),
         Refusal::Usage => plain(alloc, Status::Usage.plain_line()),
         Refusal::Ready(why) => plain(alloc, ready_line(*why)),
         Refusal::Read => plain(alloc, Status::ReadFault.plain_line()),

@@ -1,19 +1,25 @@
 // What words ask for, and why it is refused.
+use uf_cid::Block;
 use uf_path::{Path, PathFault};
-use uf_plain::{Ready, Rule};
+use uf_plain::{Ready, Rule, WriteHow};
 use uf_store::StoreFault;
 use uf_tree::Profile;
 
-/// An edit of the tree at a path: directories are made, with those above where `parents`, or what is there is taken away,
-/// a directory only where `recursive`.
-#[derive(Clone, Copy, Debug, PartialEq, Eq)]
+/// An edit of the tree at a path: directories are made, with those above where `parents`; what is there is taken away,
+/// a directory only where `recursive`; a piece is written into a file; a file gets this length; or what is there is
+/// copied or moved to where another path leads.
+#[derive(Drop)]
 pub enum Edit {
     Mkdir { parents: bool },
     Rm { recursive: bool },
+    Write { how: WriteHow, piece: Block },
+    Truncate { length: u64 },
+    Cp { dest: Path },
+    Mv { dest: Path },
 }
 
 /// What is asked of the tree at a path: its list, what is said of it, or an edit.
-#[derive(Clone, Copy, Debug, PartialEq, Eq)]
+#[derive(Drop)]
 pub enum Ask {
     Ls { long: bool },
     Stat,
@@ -25,6 +31,7 @@ pub enum Ask {
 pub enum Command {
     Init { profile: Profile },
     Add { only_hash: bool },
+    WriteInput { how: WriteHow, path: Path },
     At { ask: Ask, path: Path },
 }
 
@@ -33,6 +40,7 @@ pub enum Command {
 pub enum Refusal {
     Rule(Rule),
     BadPath(PathFault),
+    InputTooLong,
     Usage,
     Ready(Ready),
     Read,

@@ -7,7 +7,7 @@ use Rattle.uf_cid.specs.Blocks.{Held}
 use Rattle.uf_edge.specs.Counts.{Counts, Stood}
 use Rattle.uf_edge.specs.Streams.{before, IsAtEnd}
 use Rattle.uf_edge.specs.Streams as streams
-use Rattle.uf_mfs.specs.Standing.{OnlySynced, TellsAs, TellsHeld}
+use Rattle.uf_mfs.specs.Standing.{NamesOver, OnlySynced, TellsAs, TellsHeld}
 use Rattle.uf_plain.specs.declared.ready.Ready.TheVariants as ready
 use Rattle.uf_plain.specs.declared.rule.Rule.{Rule}
 use Rattle.uf_plain.specs.declared.rule.Rule.TheVariants.{FileTooLong}
@@ -17,20 +17,24 @@ use Rattle.uf_store.specs.Faults.{NoneIsBad}
 use Rattle.uf_store.specs.Keeping.{Holds}
 use Rattle.uf_store.specs.Seen.{Seen}
 use Rattle.uf_tree.specs.FilePlan.{file_plan}
-use Rattle.uf_tree.specs.Standing.{Standing, NoHead, BadHead}
+use Rattle.uf_tree.specs.Standing.{Standing, NoHead, BadHead, Stands}
+use Rattle.uf_tree.specs.Tree.{Dir, Entries}
+use Rattle.uf_tree.specs.TreePlan.{blocks}
 use Rattle.uf_tree.specs.Validity.{IsHash}
 use Rattle.uf_tree.specs.declared.nodes.Entry.{Entry}
 use Rattle.uf_tree.specs.declared.profile.Profile.{Profile}
 use Rattle.uf_top.specs.Causes.{Adds, AddsBy, HeadSays, IsProfileIn, IsProfileOf, IsProfileRead, IsReady, IsReason, IsUnread, Stops, is_read, or_usual}
 use Rattle.uf_top.specs.Intake.{IsFileOf, IsRowOf, ShownIn}
+use Rattle.uf_top.specs.Losing.{AnswersOver, NamesAfter, StandsNamed}
 use Rattle.uf_reply.specs.Lines.{added_line}
 use Rattle.uf_top.specs.Answering.{Answers}
 use Rattle.uf_reply.specs.Reply.{Reply, add_reply, added, file_cid, unchanged}
 use Rattle.uf_reply.specs.declared.types.Command.TheVariants.{Add}
 use Rattle.uf_reply.specs.declared.types.Refusal.{Refusal}
 use Rattle.uf_reply.specs.declared.types.Refusal.TheVariants as refusal
+use Rattle.uf_top.proofs.Losing.{lost-wants}
 use Rattle.uf_top.proofs.Shows.{saving-wants, not-rose}
-use Rattle.uf_top.proofs.Standings.{leaves-holds, standing-bad, standing-none, standing-says, tells-none}
+use Rattle.uf_top.proofs.Standings.{leaves-holds, names-read, names-says, names-there, standing-bad, standing-none, standing-says, tells-none}
 
 -- the row of a whole file, which stays held
 pub row-of : (X : List ℕ → List ℕ) (p : Profile) (a b : Told) (entry : Entry) (text : List ℕ) (l m : streams.Told) → ((bs : List Held) → Holds a bs → Holds b bs)
@@ -44,14 +48,14 @@ row-of X p a b entry text l m stays is h = record {
   held = stays _ h.held;
 }
 
-all_given : (bytes given : List ℕ) (left left_now : streams.Told) → left ≡ Some bytes → left ≡ before given left_now → IsAtEnd left_now → bytes ≡ given
+pub all_given : (bytes given : List ℕ) (left left_now : streams.Told) → left ≡ Some bytes → left ≡ before given left_now → IsAtEnd left_now → bytes ≡ given
 all_given bytes given left None e taken ended = (let k : Some bytes ≡ None = sym e ∙ taken in absurd cc)
 all_given bytes given left (Some rest) e taken ended =
     let same : Some bytes ≡ Some (given ++ rest) = sym e ∙ taken in
     let whole : bytes ≡ given ++ rest = cc in
     whole ∙ ap (λ (r : List ℕ). given ++ r) ended ∙ append-nil given
 
-given_few : (bytes given : List ℕ) (left left_now : streams.Told) → left ≡ Some bytes → left ≡ before given left_now → length given ≤ length bytes
+pub given_few : (bytes given : List ℕ) (left left_now : streams.Told) → left ≡ Some bytes → left ≡ before given left_now → length given ≤ length bytes
 given_few bytes given left None e taken = (let k : Some bytes ≡ None = sym e ∙ taken in absurd cc)
 given_few bytes given left (Some rest) e taken =
     let same : Some bytes ≡ Some (given ++ rest) = sym e ∙ taken in
@@ -107,13 +111,67 @@ module _ (X : List ℕ → List ℕ) where
       })
   added-answers N s blocks p bytes (Err (refusal.BadPath why)) held a b l m i j stands stays row e shown f c counts read = absurd row
   added-answers N s blocks p bytes (Err refusal.Usage) held a b l m i j stands stays row e shown f c counts read = absurd row
+  added-answers N s blocks p bytes (Err refusal.InputTooLong) held a b l m i j stands stays row e shown f c counts read = absurd row
   added-answers N s blocks p bytes (Err (refusal.Ready why)) held a b l m i j stands stays row e shown f c counts read = absurd row
   added-answers N s blocks p bytes (Err refusal.Read) held a b l m i j stands stays row e shown f c counts read = absurd (not-rose i j (counts.rose refl) read)
   added-answers N s blocks p bytes (Err refusal.Write) held a b l m i j stands stays row e shown f c counts read = absurd row
   added-answers N s blocks p bytes (Err (refusal.Store fault)) held a b l m i j stands stays row e shown f c counts read =
       inl (record { ends_are = ap (λ (x : StoreFault). Err (refusal.Store x)) (saving-wants X NoneIsBad fault a b row shown f c); stands = stands })
 
+  -- the same over a tree of whose blocks some may be lost
+  pub added-over : (N : List ℕ → ℕ) (c d : Told) (p : Profile) (es : Entries) (held_blocks : List ℕ → List Held) (bytes : List ℕ) (r : Result (List ℕ) Refusal) (held : Told) (a b : Seen) (l m : streams.Told) (i j : ℕ)
+      → NamesAfter X N c d (blocks X N p (Dir es)) p es
+      → IsRowOf X p held r l m → l ≡ Some bytes → ShownIn X r a b → Stood a.faults b.faults → Stood a.clashes b.clashes → Counts (is_read r) i j → Stood i j
+      → AnswersOver X N c d p es [] (added X (Stands p es) held_blocks p bytes) r
+  added-over N c d p es held_blocks bytes (Ok text) held a b l m i j stands row e shown f g counts read =
+      let same : bytes ≡ row.bytes = all_given bytes row.bytes l m e row.taken row.nothing_left in
+      let few : length bytes ≤ most_bytes p = subst (λ (xs : List ℕ). length xs ≤ most_bytes p) (sym same) row.few in
+      let reply = short (Stands p es) held_blocks p bytes few in
+      inr (record {
+        ends_are = ap Ok (row.is ∙ ap (λ (xs : List ℕ). added_line (file_cid X p xs)) (sym same)) ∙ ap (λ (r : Reply). r.ends) (sym reply);
+        stands = subst (λ (r : Reply). StandsNamed X N c d (blocks X N p (Dir es)) r.next) (sym reply) stands;
+      })
+  added-over N c d p es held_blocks bytes (Err (refusal.Rule rule)) held a b l m i j stands row e shown f g counts read =
+      let few = given_few bytes row.1.bytes l m e row.1.taken in
+      let many = row.1.many in
+      let reply = long (Stands p es) held_blocks p bytes (omega (arith, few, many)) in
+      inr (record {
+        ends_are = ap (λ (r : Rule). Err (refusal.Rule r)) row.0 ∙ ap (λ (r : Reply). r.ends) (sym reply);
+        stands = subst (λ (r : Reply). StandsNamed X N c d (blocks X N p (Dir es)) r.next) (sym reply) stands;
+      })
+  added-over N c d p es held_blocks bytes (Err (refusal.BadPath why)) held a b l m i j stands row e shown f g counts read = absurd row
+  added-over N c d p es held_blocks bytes (Err refusal.Usage) held a b l m i j stands row e shown f g counts read = absurd row
+  added-over N c d p es held_blocks bytes (Err refusal.InputTooLong) held a b l m i j stands row e shown f g counts read = absurd row
+  added-over N c d p es held_blocks bytes (Err (refusal.Ready why)) held a b l m i j stands row e shown f g counts read = absurd row
+  added-over N c d p es held_blocks bytes (Err refusal.Read) held a b l m i j stands row e shown f g counts read = absurd (not-rose i j (counts.rose refl) read)
+  added-over N c d p es held_blocks bytes (Err refusal.Write) held a b l m i j stands row e shown f g counts read = absurd row
+  added-over N c d p es held_blocks bytes (Err (refusal.Store fault)) held a b l m i j stands row e shown f g counts read =
+      lost-wants X N c d p es [] (added X (Stands p es) held_blocks p bytes) (refusal.Store fault) (ap refusal.Store (saving-wants X NoneIsBad fault a b row shown f g)) stands
+
   -- ---- by the Head
+
+  -- over such a tree the Head is read, and only memory was wanting
+  pub unread-over : IsHash X → (N : List ℕ → ℕ) (p : Profile) (es : Entries) (given : Reply) (why : Refusal) (a b : Seen) → NamesOver X N a.told p es → NamesAfter X N a.told b.told (blocks X N p (Dir es)) p es
+      → IsProfileRead (Err why) a.told → ShownIn {A = Option Profile} X (Err why) a b → Stood a.faults b.faults → Stood a.clashes b.clashes → AnswersOver X N a.told b.told p es [] given (Err why)
+  unread-over good N p es given (refusal.Rule rule) a b names stands read shown f g = absurd read
+  unread-over good N p es given (refusal.BadPath why) a b names stands read shown f g = absurd read
+  unread-over good N p es given refusal.Usage a b names stands read shown f g = absurd read
+  unread-over good N p es given refusal.InputTooLong a b names stands read shown f g = absurd read
+  unread-over good N p es given (refusal.Ready why) a b names stands read shown f g = absurd (names-read X N good a.told p es names read.1)
+  unread-over good N p es given refusal.Read a b names stands read shown f g = absurd read
+  unread-over good N p es given refusal.Write a b names stands read shown f g = absurd read
+  unread-over good N p es given (refusal.Store fault) a b names stands read shown f g =
+      lost-wants X N a.told b.told p es [] given (refusal.Store fault) (ap refusal.Store (saving-wants X NoneIsBad fault a b read shown f g)) stands
+
+  -- the Head says the tree's profile, with `-n` too
+  pub add-over : IsHash X → (N : List ℕ → ℕ) (p q : Profile) (es : Entries) (bytes : List ℕ) (r : Result (List ℕ) Refusal) (a b : Told) → NamesOver X N a p es → IsProfileOf a q
+      → (p ≡ q → AnswersOver X N a b p es [] (added X (Stands p es) (plan_blocks X p) p bytes) r) → AnswersOver X N a b p es [] (add_reply X false (Stands p es) bytes) r
+  add-over good N p q es bytes r a b names says answers = answers (names-says X N good a p q es names says)
+
+  pub hash-over : IsHash X → (N : List ℕ → ℕ) (found : Option Profile) (p : Profile) (es : Entries) (bytes : List ℕ) (r : Result (List ℕ) Refusal) (a b : Told) → NamesOver X N a p es → IfSome a (λ t. IsProfileIn found t.notes.head)
+      → (p ≡ or_usual found → AnswersOver X N a b p es [] (added X (Stands p es) (λ bytes. []) p bytes) r) → AnswersOver X N a b p es [] (add_reply X true (Stands p es) bytes) r
+  hash-over good N None p es bytes r a b names none answers = absurd (names-there X N a p es names none)
+  hash-over good N (Some q) p es bytes r a b names says answers = answers (names-says X N good a p q es names says)
 
   -- the Head that is not read, or want of memory
   pub head-refused : IsHash X → (N : List ℕ → ℕ) (s : Standing) (only_hash : Bool) (bytes : List ℕ) (why : Refusal) (a b : Seen)
@@ -122,6 +180,7 @@ module _ (X : List ℕ → List ℕ) where
   head-refused good N s only_hash bytes (refusal.Rule rule) a b told now read shown f c = absurd read
   head-refused good N s only_hash bytes (refusal.BadPath why) a b told now read shown f c = absurd read
   head-refused good N s only_hash bytes refusal.Usage a b told now read shown f c = absurd read
+  head-refused good N s only_hash bytes refusal.InputTooLong a b told now read shown f c = absurd read
   head-refused good N s only_hash bytes (refusal.Ready why) a b told now read shown f c =
       let bad = standing-bad X N good a.told s told read.1 in
       subst (λ s. Answers X N s (add_reply X only_hash s bytes) (Err (refusal.Ready why)) b.told) (sym bad)
@@ -170,6 +229,7 @@ module _ (X : List ℕ → List ℕ) where
   adds-of only_hash told held p (Err (refusal.Rule rule)) l m by row = (row.0, record { profile = p; adds_by = by; bytes = row.1.bytes; taken = row.1.taken; many = row.1.many })
   adds-of only_hash told held p (Err (refusal.BadPath why)) l m by row = tt
   adds-of only_hash told held p (Err refusal.Usage) l m by row = tt
+  adds-of only_hash told held p (Err refusal.InputTooLong) l m by row = tt
   adds-of only_hash told held p (Err (refusal.Ready why)) l m by row = tt
   adds-of only_hash told held p (Err refusal.Read) l m by row = tt
   adds-of only_hash told held p (Err refusal.Write) l m by row = tt
@@ -179,6 +239,7 @@ module _ (X : List ℕ → List ℕ) where
   adds-read only_hash told (refusal.Rule rule) l m read = absurd read
   adds-read only_hash told (refusal.BadPath why) l m read = tt
   adds-read only_hash told refusal.Usage l m read = tt
+  adds-read only_hash told refusal.InputTooLong l m read = tt
   adds-read only_hash told (refusal.Ready why) l m read = tt
   adds-read only_hash told refusal.Read l m read = tt
   adds-read only_hash told refusal.Write l m read = tt
@@ -189,6 +250,7 @@ module _ (X : List ℕ → List ℕ) where
   row-ready only_hash told held p (Err (refusal.Rule rule)) l m row = tt
   row-ready only_hash told held p (Err (refusal.BadPath why)) l m row = tt
   row-ready only_hash told held p (Err refusal.Usage) l m row = tt
+  row-ready only_hash told held p (Err refusal.InputTooLong) l m row = tt
   row-ready only_hash told held p (Err (refusal.Ready why)) l m row = absurd row
   row-ready only_hash told held p (Err refusal.Read) l m row = tt
   row-ready only_hash told held p (Err refusal.Write) l m row = tt
@@ -220,6 +282,7 @@ pub read-ready : (only_hash : Bool) (told : Told) (why : Refusal) → IsProfileR
 read-ready only_hash told (refusal.Rule rule) read = tt
 read-ready only_hash told (refusal.BadPath why) read = tt
 read-ready only_hash told refusal.Usage read = tt
+read-ready only_hash told refusal.InputTooLong read = tt
 read-ready only_hash told (refusal.Ready why) read = subst (λ why. IsReason (Add only_hash) why told) (sym read.0) (unread-reason told only_hash read.1)
 read-ready only_hash told refusal.Read read = tt
 read-ready only_hash told refusal.Write read = tt
@@ -232,6 +295,7 @@ synced-row X p a b entry row (Ok text) l m synced is row_is stops file = row-of 
 synced-row X p a b entry row (Err (refusal.Rule rule)) l m leaves is row_is stops file = absurd stops
 synced-row X p a b entry row (Err (refusal.BadPath why)) l m leaves is row_is stops file = absurd stops
 synced-row X p a b entry row (Err refusal.Usage) l m leaves is row_is stops file = absurd stops
+synced-row X p a b entry row (Err refusal.InputTooLong) l m leaves is row_is stops file = absurd stops
 synced-row X p a b entry row (Err (refusal.Ready why)) l m leaves is row_is stops file = absurd stops
 synced-row X p a b entry row (Err refusal.Read) l m leaves is row_is stops file = absurd stops
 synced-row X p a b entry row (Err refusal.Write) l m leaves is row_is stops file = absurd stops

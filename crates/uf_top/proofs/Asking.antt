@@ -1,59 +1,74 @@
 -- How it is done what is asked of an opened tree.
-use Rattle.std.proofs.Common.{◌≡◌, ℕ, ◌≤◌, List, [], true, false, refl, sym, ap, subst, ◌∙◌, Some, None, Result, Ok, Err}
+use Rattle.std.proofs.Common.{◌≡◌, ℕ, ◌+◌, ◌≤◌, List, [], arith, true, false, refl, sym, ap, subst, ◌∙◌, Some, None, Result, Ok, Err}
 use Rattle.std.specs.Prelude.{IfOk}
 use Rattle.uf_edge.specs.Counts.{Stood}
 use Rattle.uf_mfs.specs.Answers as tree
 use Rattle.uf_mfs.specs.Answers.{MovesTo, ShownInTree}
 use Rattle.uf_mfs.specs.Bad.{IsBad}
-use Rattle.uf_mfs.specs.Standing.{Commits, IsWanting, LeavesHead, Same, StandsAt, TellsAs, head_in}
+use Rattle.uf_mfs.specs.Standing.{Commits, IsWanting, LeavesHead, NamesOver, Same, StandsAfter, StandsAt, StandsOver, TellsAs, head_in}
+use Rattle.uf_mfs.specs.Steps.{IsFolderOver, tree_fault}
+use Rattle.uf_mfs.specs.Touches.{CountsUp}
 use Rattle.uf_mfs.specs.declared.fault.MfsFault.{MfsFault}
+use Rattle.uf_mfs.specs.Writes.{IsBadWritten}
 use Rattle.uf_mfs.specs.declared.mfs.Mfs.{Mfs}
+use Rattle.uf_mfs.proofs.Counting.{counts-then}
 use Rattle.uf_mfs.proofs.Starting.{leaves-head, saves-head}
 use Rattle.uf_path.specs.declared.path.Path.{Path}
 use Rattle.uf_plain.specs.Edits.{at}
+use Rattle.uf_store.specs.Calls.{Calm}
 use Rattle.uf_store.specs.Faults.{NoneIsBad, StaysCalm}
+use Rattle.uf_store.specs.Lost.{IsLossOf}
 use Rattle.uf_store.specs.Keeping.{KeepsGood}
 use Rattle.uf_store.specs.Seen.{Seen}
-use Rattle.uf_store.specs.Writing.{SavesOnly}
 use Rattle.uf_store.proofs.Calls.{shown-after, shown-rises, stood-back, stood-front}
 use Rattle.uf_store.proofs.Causes.{StaysCalm-trans, calm-rises}
 use Rattle.uf_store.proofs.Keeping.{KeepsGood-same, KeepsGood-trans}
 use Rattle.uf_tree.specs.Heads.{head_text}
 use Rattle.uf_tree.specs.Standing.{Stands}
 use Rattle.uf_tree.specs.Tree.{Tree, Dir, Entries}
+use Rattle.uf_tree.specs.TreePlan.{blocks}
 use Rattle.uf_tree.specs.declared.profile.Profile.{Profile}
 use Rattle.uf_reply.specs.Commands.{NoWrites, ask_writes, is_idle}
 use Rattle.uf_reply.specs.Kinds.{fault_behind}
-use Rattle.uf_reply.specs.Reply.{edited_by, looked, moved, tree_reply}
+use Rattle.uf_reply.specs.Reply.{edited_by, looked, tree_reply}
 use Rattle.uf_reply.specs.declared.types.Ask.{Ask}
 use Rattle.uf_reply.specs.declared.types.Ask.TheVariants.{Edit as Edits}
 use Rattle.uf_reply.specs.declared.types.Command.TheVariants.{At}
 use Rattle.uf_reply.specs.declared.types.Edit.{Edit}
-use Rattle.uf_reply.specs.declared.types.Edit.TheVariants.{Mkdir}
 use Rattle.uf_reply.specs.declared.types.Refusal.{Refusal}
 use Rattle.uf_top.specs.Answering.{Answers}
+use Rattle.uf_top.specs.Bounds.{ask_touches}
 use Rattle.uf_top.specs.Causes.{IsMade, RefusesInTree}
+use Rattle.uf_top.specs.Losing.{AnswersOver, StaysNamed, ask_needs}
 use Rattle.uf_top.specs.Shapes.{WritesAs, is_ok}
-use Rattle.uf_top.specs.Working.{WorksAt}
-use Rattle.uf_top.proofs.Finding.{idle-head, idle-there}
-use Rattle.uf_top.proofs.InTree.{fault-answers, look-answers, move-answers, stays-nothing, stays-same, tree-wants, wants}
+use Rattle.uf_top.specs.Working.{EditsInMemory, WorksAt}
+use Rattle.uf_top.proofs.Finding.{idle-head}
+use Rattle.uf_top.proofs.InTree.{edit-answers, fault-answers, look-answers, move-answers, stays-nothing, stays-same, tree-wants, wants}
 use Rattle.uf_top.proofs.Classed.{made-kinds, tree-kinds}
-use Rattle.uf_top.proofs.Shows.{Shown-tree, bad-more, made-shown}
+use Rattle.uf_top.proofs.Losing.{edit-over, fault-over, look-over, lost-wants, move-over, named-before, named-between, names-kept, names-same}
+use Rattle.uf_top.proofs.Shows.{Shown-tree, bad-written, made-shown, made-touched, tree-touched}
 use Rattle.uf_top.proofs.Standings.{stands-kept, stands-same}
 
 module _ (X : List ℕ → List ℕ) (N : List ℕ → ℕ) (mfs : Mfs) (path : Path) where
-  module _ (ask : Ask) (say : Profile → Tree → List ℕ) (looks : ask_writes ask ≡ NoWrites)
+  module _ (a b : Seen) (ask : Ask) (say : Profile → Tree → List ℕ) (looks : ask_writes ask ≡ NoWrites)
       (reply_is : (p : Profile) (es : Entries) → tree_reply X N ask path.names p es ≡ looked (Stands p es) path.names (say p) (at 0 path.names (Dir es))) where
     -- a lookup that gives nothing
-    pub not-looked : (B : Type 0) (P : Profile → Tree → B → Type 0) (f : MfsFault) (w : Refusal) (a b : Seen) → RefusesInTree f w
+    pub not-looked : (t0 t1 : ℕ) → ((p : Profile) (es : Entries) (rows : ℕ → ℕ) → StandsOver X N a.told mfs p es → Stood a.faults b.faults → t1 ≤ t0 + ask_touches X N rows ask path.names p es) → (B : Type 0) (f : MfsFault) → CountsUp (tree_fault {A = B} (Err f)) t0 t1
+        → (P : Profile → Tree → B → Type 0) (w : Refusal) → RefusesInTree f w
         → ((p : Profile) (es : Entries) → StandsAt X N a.told mfs p es → Stood a.faults b.faults → tree.Answers {B = B} (P p) path.names (at 0 path.names (Dir es)) (Err f))
-        → ShownInTree X (IsBad N None) {A = B} (Err f) a b → b.told ≡ a.told → WorksAt X N mfs ask path (Err w) a b
-    not-looked B P f w a b is answer cause told = record {
+        → ((p : Profile) (es : Entries) → StandsOver X N a.told mfs p es → Stood a.faults b.faults → tree.AnswersOr {B = B} (IsLossOf a.told (ask_needs X N ask path.names p es)) (P p) path.names (at 0 path.names (Dir es)) (Err f))
+        → ShownInTree X (IsBad N None) {A = B} (Err f) a b → b.told ≡ a.told → WorksAt X N mfs ask path (Err w) a b t0 t1
+    not-looked t0 t1 few B f up P w is answer lost cause told = record {
       answers = λ p es at_tree stands calm. subst (λ r. Answers X N (Stands p es) r (Err w) b.told) (sym (reply_is p es))
           (fault-answers X N Tree B (P p) (Stands p es) path.names (at 0 path.names (Dir es)) (looked (Stands p es) path.names (say p)) f w b.told
           (λ why. refl) is (answer p es at_tree calm.faults) (stands-same X N a.told b.told (Stands p es) told stands));
+      lost = λ p es over named calm. subst (λ r. AnswersOver X N a.told b.told p es (ask_needs X N ask path.names p es) r (Err w)) (sym (reply_is p es))
+          (fault-over X N a.told b.told p es (ask_needs X N ask path.names p es) Tree B (P p) path.names (at 0 path.names (Dir es)) (looked (Stands p es) path.names (say p)) f w
+          (λ why. refl) is (lost p es over calm.faults) (names-same X N a.told b.told p es told named));
       kinds = tree-kinds f w is;
-      cause = Shown-tree B X (IsBad N None) (IsBad N (Some mfs.profile)) (bad-more N mfs.profile) f w a b is cause;
+      cause = Shown-tree B X (IsBad N None) (IsBadWritten X N mfs.profile b.told) (bad-written X N mfs.profile b.told) f w a b is cause;
+      touches = λ p es rows over named heights calm. few p es rows over calm.faults;
+      touched = tree-touched B f w t0 t1 is up;
       good = KeepsGood-same X a.told b.told told;
       head = ap head_in told;
       writes = subst (λ s. WritesAs X s false a.told b.told) (sym looks) told;
@@ -61,15 +76,21 @@ module _ (X : List ℕ → List ℕ) (N : List ℕ → ℕ) (mfs : Mfs) (path : 
     }
 
     -- what it gives is said
-    pub is-looked : (B M : Type 0) (P : Profile → Tree → B → Type 0) (found : B) (text : Result (List ℕ) M) (r : Result (List ℕ) Refusal) (a b : Seen)
+    pub is-looked : (t0 t1 : ℕ) → ((p : Profile) (es : Entries) (rows : ℕ → ℕ) → StandsOver X N a.told mfs p es → Stood a.faults b.faults → t1 ≤ t0 + ask_touches X N rows ask path.names p es) → CountsUp None t0 t1 → (B M : Type 0) (P : Profile → Tree → B → Type 0) (found : B) (text : Result (List ℕ) M) (r : Result (List ℕ) Refusal)
         → ((p : Profile) (es : Entries) → StandsAt X N a.told mfs p es → Stood a.faults b.faults → tree.Answers {B = B} (P p) path.names (at 0 path.names (Dir es)) (Ok found))
-        → ((p : Profile) (t : Tree) → mfs.profile ≡ p → P p t found → IfOk text (λ x. x ≡ say p t)) → IsMade text r → StaysCalm a b → b.told ≡ a.told → WorksAt X N mfs ask path r a b
-    is-looked B M P found text r a b answer says made calm told = record {
+        → ((p : Profile) (es : Entries) → StandsOver X N a.told mfs p es → Stood a.faults b.faults → tree.AnswersOr {B = B} (IsLossOf a.told (ask_needs X N ask path.names p es)) (P p) path.names (at 0 path.names (Dir es)) (Ok found))
+        → ((p : Profile) (t : Tree) → mfs.profile ≡ p → P p t found → IfOk text (λ x. x ≡ say p t)) → IsMade text r → StaysCalm a b → b.told ≡ a.told → WorksAt X N mfs ask path r a b t0 t1
+    is-looked t0 t1 few up B M P found text r answer lost says made calm told = record {
       answers = λ p es at_tree stands calm. subst (λ given. Answers X N (Stands p es) given r b.told) (sym (reply_is p es))
           (look-answers X N B M (P p) (Stands p es) path.names (say p) (at 0 path.names (Dir es)) found text r b.told
           (answer p es at_tree calm.faults) (λ t h. says p t at_tree.profile_is h) made (stands-same X N a.told b.told (Stands p es) told stands));
+      lost = λ p es over named calm2. subst (λ given. AnswersOver X N a.told b.told p es (ask_needs X N ask path.names p es) given r) (sym (reply_is p es))
+          (look-over X N a.told b.told p es (ask_needs X N ask path.names p es) B M (P p) path.names (say p) (at 0 path.names (Dir es)) found text r
+          (lost p es over calm2.faults) (λ t h. says p t over.profile_is h) made (names-same X N a.told b.told p es told named));
       kinds = made-kinds M text r made;
-      cause = made-shown M X (IsBad N (Some mfs.profile)) text r a b made calm;
+      cause = made-shown M X (IsBadWritten X N mfs.profile b.told) text r a b made calm;
+      touches = λ p es rows over named heights calm2. few p es rows over calm2.faults;
+      touched = made-touched M text r t0 t1 made up;
       good = KeepsGood-same X a.told b.told told;
       head = stays-same r a.told b.told (ap head_in told);
       writes = subst (λ s. WritesAs X s (is_ok r) a.told b.told) (sym looks) told;
@@ -78,76 +99,103 @@ module _ (X : List ℕ → List ℕ) (N : List ℕ → ℕ) (mfs : Mfs) (path : 
 
   -- ---- an edit, and then its commit
 
-  module _ (edit : Edit) (new : Mfs) (a m : Seen) (good : KeepsGood X a.told m.told) (saves : SavesOnly X a.told m.told) where
-    -- what an edit answers that stands
-    abbrev Edited : Result (Unit {0}) MfsFault → Type 0
-    Edited given = (p : Profile) (es : Entries) → StandsAt X N a.told mfs p es → Stood a.faults m.faults → Stood a.clashes m.clashes
-        → MovesTo X N m.told p path.names new (edited_by X N edit path.names p es) given
-
-    -- `mkdir -p` of what is there does nothing
-    abbrev There : Type 0
-    There = (p : Profile) (es below : Entries) → StandsAt X N a.told mfs p es → Stood a.faults m.faults → edit ≡ Mkdir true → at 0 path.names (Dir es) ≡ Ok (Dir below)
-        → (m.told ≡ a.told) × (new ≡ mfs)
+  module _ (edit : Edit) (new : Mfs) (a m : Seen) (t0 t1 : ℕ) where
+    folder-over : (p : Profile) (es : Entries) → StandsOver X N a.told mfs p es → StaysNamed X N a.told m.told p es → Calm a m → IsFolderOver X N p a m [] mfs.root es
+    folder-over p es over named calm = record { plan = over.root.plan; stays = record { first = over.root.agrees; last = named.last }; calm = calm }
 
     -- the edit is refused
-    pub edit-refused : (f : MfsFault) (w : Refusal) → RefusesInTree f w → Edited (Err f) → There → ShownInTree X (IsBad N (Some mfs.profile)) {A = Unit {0}} (Err f) a m
-        → WorksAt X N mfs (Edits edit) path (Err w) a m
-    edit-refused f w is answer there cause = record {
+    pub edit-refused : (f : MfsFault) (w : Refusal) → RefusesInTree f w → EditsInMemory X N mfs new edit path (Err f) a m t0 t1 → WorksAt X N mfs (Edits edit) path (Err w) a m t0 t1
+    edit-refused f w is e = record {
       answers = λ p es at_tree stands calm.
-          fault-answers X N Entries (Unit {0}) (λ es done. StandsAt X N m.told new p es) (Stands p es) path.names (edited_by X N edit path.names p es) (moved X N p es path.names) f w m.told
-          (λ why. refl) is (answer p es at_tree calm.faults calm.clashes) (stands-kept X N a.told m.told (Stands p es) good (saves-head X a.told m.told saves) stands);
+          edit-answers X N (λ fs done. StandsAt X N m.told new p fs) p es (edited_by X N edit path.names p es) f w m.told
+          is (e.answers p es at_tree calm) (stands-kept X N a.told m.told (Stands p es) e.good (saves-head X a.told m.told e.saves) stands);
+      lost = λ p es over named calm.
+          edit-over X N a.told m.told p es (blocks X N p (Dir es)) (λ fs done. StandsAfter X N a.told m.told (blocks X N p (Dir es)) new p fs) (edited_by X N edit path.names p es)
+          f w is (e.lost p es over.profile_is (folder-over p es over named calm)) (names-kept X N a.told m.told p es e.good (saves-head X a.told m.told e.saves) named);
       kinds = tree-kinds f w is;
-      cause = Shown-tree (Unit {0}) X (IsBad N (Some mfs.profile)) (IsBad N (Some mfs.profile)) (λ role bytes h. h) f w a m is cause;
-      good = good;
-      head = saves-head X a.told m.told saves;
-      writes = record { between = m.told; saves = saves; last = Same refl };
-      idle = λ p es at_tree stands faults same. (let i = idle-there es edit path same in (there p es i.0 at_tree faults i.1 i.2).0);
+      cause = Shown-tree (Unit {0}) X (IsBadWritten X N mfs.profile m.told) (IsBadWritten X N mfs.profile m.told) (λ role bytes h. h) f w a m is e.cause;
+      touches = λ p es rows over named heights calm. e.touches p rows over.profile_is heights es (folder-over p es over named calm);
+      touched = tree-touched (Unit {0}) f w t0 t1 is e.touched;
+      good = e.good;
+      head = saves-head X a.told m.told e.saves;
+      writes = record { between = m.told; saves = e.saves; last = Same refl };
+      idle = λ p es at_tree stands faults same. (e.idle p es at_tree faults same).0;
     }
 
-    module _ (answer : Edited (Ok tt)) (there : There) (calm : StaysCalm a m) (b : Seen) (kept : KeepsGood X m.told b.told)
-        (idle : head_in m.told ≡ Some (head_text new.profile new.root.cid) → b.told ≡ m.told) where
+    module _ (e : EditsInMemory X N mfs new edit path (Ok tt) a m t0 t1) (b : Seen) (kept : KeepsGood X m.told b.told)
+        (idle : head_in m.told ≡ Some (head_text new.profile new.root.cid) → b.told ≡ m.told) (t2 : ℕ) (still : t2 ≡ t1) where
+      calm : StaysCalm a m
+      calm = e.cause
+
+      both-good : KeepsGood X a.told b.told
+      both-good = KeepsGood-trans X a.told m.told b.told e.good kept
+
+      -- where no count rose over both calls, none rose in the edit
+      first-calm : m.faults ≤ b.faults → m.clashes ≤ b.clashes → Calm a b → Calm a m
+      first-calm faults clashes both = record {
+        faults = stood-front a.faults m.faults b.faults calm.faults faults both.faults;
+        clashes = stood-front a.clashes m.clashes b.clashes calm.clashes clashes both.clashes;
+      }
+
       -- over both calls nothing is done where nothing is to be done
-      both-idle : m.faults ≤ b.faults → (p : Profile) (es : Entries) → StandsAt X N a.told mfs p es → TellsAs X N a.told (Stands p es) → Stood a.faults b.faults
-          → is_idle es (At (Edits edit) path) ≡ true → b.told ≡ a.told
-      both-idle later p es at_tree stands faults same =
-          let i = idle-there es edit path same in
-          let still = there p es i.0 at_tree (stood-front a.faults m.faults b.faults calm.faults later faults) i.1 i.2 in
-          idle (idle-head X N a.told m.told mfs new p es at_tree stands still.0 still.1) ∙ still.0
+      both-idle : m.faults ≤ b.faults → (p : Profile) (es : Entries) → StandsOver X N a.told mfs p es → NamesOver X N a.told p es → Stood a.faults b.faults
+          → is_idle [] es (At (Edits edit) path) ≡ true → b.told ≡ a.told
+      both-idle later p es at_tree names faults same =
+          let same_tree = e.idle p es at_tree (stood-front a.faults m.faults b.faults calm.faults later faults) same in
+          idle (idle-head X N a.told m.told mfs new p es at_tree names same_tree.0 same_tree.1) ∙ same_tree.0
 
       -- the commit is refused
-      pub commit-refused : (f : MfsFault) (w : Refusal) → RefusesInTree f w → (Stood m.faults b.faults → IsWanting f) → LeavesHead m.told b.told
-          → ShownInTree X NoneIsBad {A = Unit {0}} (Err f) m b → WorksAt X N mfs (Edits edit) path (Err w) a b
-      commit-refused f w is wanting leaves cause =
-          let shown = Shown-tree (Unit {0}) X NoneIsBad (IsBad N (Some mfs.profile)) (λ role bytes bad. absurd bad) f w m b is cause in
-          let rises = shown-rises X (IsBad N (Some mfs.profile)) (fault_behind w) m b shown in
-          let head = leaves-head m.told b.told leaves ∙ saves-head X a.told m.told saves in
+      pub commit-refused : (f : MfsFault) (w : Refusal) → RefusesInTree f w → CountsUp (tree_fault {A = Unit {0}} (Err f)) t1 t2 → (Stood m.faults b.faults → IsWanting f) → LeavesHead m.told b.told
+          → ShownInTree X NoneIsBad {A = Unit {0}} (Err f) m b → WorksAt X N mfs (Edits edit) path (Err w) a b t0 t2
+      commit-refused f w is later_up wanting leaves cause =
+          let shown = Shown-tree (Unit {0}) X NoneIsBad (IsBadWritten X N mfs.profile b.told) (λ role bytes bad. absurd bad) f w m b is cause in
+          let rises = shown-rises X (IsBadWritten X N mfs.profile b.told) (fault_behind w) m b shown in
+          let head = leaves-head m.told b.told leaves ∙ saves-head X a.told m.told e.saves in
           record {
             answers = λ p es at_tree stands calm2.
                 wants X N (Stands p es) (tree_reply X N (Edits edit) path.names p es) w b.told
                 (tree-wants f w is (wanting (stood-back a.faults m.faults b.faults calm.faults calm2.faults)))
-                (stands-kept X N a.told b.told (Stands p es) (KeepsGood-trans X a.told m.told b.told good kept) head stands);
+                (stands-kept X N a.told b.told (Stands p es) both-good head stands);
+            lost = λ p es over named calm2.
+                lost-wants X N a.told b.told p es (blocks X N p (Dir es)) (tree_reply X N (Edits edit) path.names p es) w
+                (tree-wants f w is (wanting (stood-back a.faults m.faults b.faults calm.faults calm2.faults)))
+                (names-kept X N a.told b.told p es both-good head named);
             kinds = tree-kinds f w is;
-            cause = shown-after X (IsBad N (Some mfs.profile)) (fault_behind w) a m b calm shown;
-            good = KeepsGood-trans X a.told m.told b.told good kept;
+            cause = shown-after X (IsBadWritten X N mfs.profile b.told) (fault_behind w) a m b calm shown;
+            touches = λ p es rows over named heights calm2.
+                let x = e.touches p rows over.profile_is heights es (folder-over p es over (named-before X N a.told m.told b.told p es leaves named) (first-calm rises.faults rises.clashes calm2)) in
+                omega (arith, x, still);
+            touched = tree-touched (Unit {0}) f w t0 t2 is (counts-then e.touched later_up);
+            good = both-good;
             head = head;
-            writes = record { between = m.told; saves = saves; last = leaves };
+            writes = record { between = m.told; saves = e.saves; last = leaves };
             idle = both-idle rises.faults;
           }
 
       -- the tree is committed, and nothing is printed
-      pub is-committed : (text given : List ℕ) → text ≡ [] → Commits given m.told b.told → (last : Mfs)
+      pub is-committed : (text given : List ℕ) → text ≡ [] → given ≡ head_text new.profile new.root.cid → Commits given m.told b.told → (last : Mfs)
           → ((p : Profile) (es : Entries) → StandsAt X N m.told new p es → StandsAt X N b.told last p es × TellsAs X N b.told (Stands p es))
-          → StaysCalm m b → WorksAt X N mfs (Edits edit) path (Ok text) a b
-      is-committed text given nothing commits last stands_now later = record {
+          → StaysCalm m b → WorksAt X N mfs (Edits edit) path (Ok text) a b t0 t2
+      is-committed text given nothing given_is commits last stands_now later = record {
         answers = λ p es at_tree stands calm2.
             let rises = calm-rises m b later in
-            move-answers X N p es path.names (edited_by X N edit path.names p es) new last m.told b.told text
-            (answer p es at_tree (stood-front a.faults m.faults b.faults calm.faults rises.faults calm2.faults) (stood-front a.clashes m.clashes b.clashes calm.clashes rises.clashes calm2.clashes))
+            move-answers X N p es (edited_by X N edit path.names p es) new last m.told b.told text
+            (e.answers p es at_tree (first-calm rises.faults rises.clashes calm2))
             nothing (λ next at_next. stands_now p next at_next);
+        lost = λ p es over named calm2.
+            let rises = calm-rises m b later in
+            let first = first-calm rises.faults rises.clashes calm2 in
+            move-over X N a.told b.told p es (blocks X N p (Dir es)) m.told (edited_by X N edit path.names p es) new text given
+            (e.lost p es over.profile_is (folder-over p es over (named-between X N a.told m.told b.told given p es commits named) first)) nothing commits given_is;
         kinds = tt;
         cause = StaysCalm-trans a m b calm later;
-        good = KeepsGood-trans X a.told m.told b.told good kept;
+        touches = λ p es rows over named heights calm2.
+            let rises = calm-rises m b later in
+            let x = e.touches p rows over.profile_is heights es (folder-over p es over (named-between X N a.told m.told b.told given p es commits named) (first-calm rises.faults rises.clashes calm2)) in
+            omega (arith, x, still);
+        touched = record { kept = (let x = e.touched.kept in omega (arith, x, still)); risen = λ blames. absurd blames };
+        good = both-good;
         head = stays-nothing text a.told b.told nothing;
-        writes = (given, record { between = m.told; saves = saves; last = commits });
+        writes = (given, record { between = m.told; saves = e.saves; last = commits });
         idle = both-idle (calm-rises m b later).faults;
       }

@@ -2,16 +2,15 @@
 use Rattle.std.proofs.Common.{◌≡◌, ℕ, List, true, false, refl, sym, subst, Result, Ok, Err}
 use Rattle.uf_edge.specs.Counts.{Counts}
 use Rattle.uf_edge.specs.Streams as streams
+use Rattle.uf_mfs.specs.Opening.{IsOfMaking}
 use Rattle.uf_mfs.specs.declared.fault.MfsFault.{MfsFault}
 use Rattle.uf_mfs.specs.declared.fault.MfsFault.TheVariants as mfs
 use Rattle.uf_store.specs.Clashes.{IsSaving}
 use Rattle.uf_store.specs.Contents.{Told}
-use Rattle.uf_store.specs.Faults.{NoneIsBad, Shown}
-use Rattle.uf_store.specs.Seen.{Seen}
 use Rattle.uf_store.specs.declared.store.StoreFault.{StoreFault}
 use Rattle.uf_store.specs.declared.store.StoreFault.TheVariants.{Failed, Damaged, Missing, BadBlock, Clash, Memory}
 use Rattle.uf_tree.specs.declared.profile.Profile.{Profile}
-use Rattle.uf_reply.specs.Kinds.{IsOf, RefusalKind, OfRule, OfPath, OfUsage, OfReady, OfRead, OfWrite, OfFailure, OfMissing, OfBadBlock, OfClash, OfMemory, MakesReady, AddsInput, WorksInTree, fault_behind, fault_kind, may_answer, opened_kinds, read_kind, refusal_kind}
+use Rattle.uf_reply.specs.Kinds.{IsOf, RefusalKind, OfRule, OfPath, OfLongInput, OfUsage, OfReady, OfRead, OfWrite, OfFailure, OfMissing, OfBadBlock, OfClash, OfMemory, MakesReady, AddsInput, WorksInTree, fault_kind, may_answer, opened_kinds, read_kind, refusal_kind}
 use Rattle.uf_reply.specs.declared.types.Command.{Command}
 use Rattle.uf_reply.specs.declared.types.Refusal.{Refusal}
 use Rattle.uf_reply.specs.declared.types.Refusal.TheVariants as refusal
@@ -34,6 +33,7 @@ row-kinds X p held (Ok text) l m row = tt
 row-kinds X p held (Err (refusal.Rule rule)) l m row = refl
 row-kinds X p held (Err (refusal.BadPath why)) l m row = absurd row
 row-kinds X p held (Err refusal.Usage) l m row = absurd row
+row-kinds X p held (Err refusal.InputTooLong) l m row = absurd row
 row-kinds X p held (Err (refusal.Ready why)) l m row = refl
 row-kinds X p held (Err refusal.Read) l m row = refl
 row-kinds X p held (Err refusal.Write) l m row = absurd row
@@ -44,26 +44,28 @@ pub read-kinds : (why : Refusal) (told : Told) → IsProfileRead (Err why) told 
 read-kinds (refusal.Rule rule) told read = refl
 read-kinds (refusal.BadPath why) told read = absurd read
 read-kinds refusal.Usage told read = absurd read
+read-kinds refusal.InputTooLong told read = absurd read
 read-kinds (refusal.Ready why) told read = refl
 read-kinds refusal.Read told read = refl
 read-kinds refusal.Write told read = absurd read
 read-kinds (refusal.Store f) told read = saving-kind f read
 
--- a call that opens a tree
-store-ready : (hash : List ℕ → List ℕ) (f : StoreFault) (a b : Seen) → Shown hash NoneIsBad (fault_behind (refusal.Store f)) a b → may_answer MakesReady (fault_kind f) ≡ true
-store-ready hash Failed a b h = refl
-store-ready hash (Damaged cid) a b h = refl
-store-ready hash (Missing cid) a b h = refl
-store-ready hash (BadBlock cid role) a b h = absurd h.bad
-store-ready hash (Clash cid held bytes) a b h = refl
-store-ready hash Memory a b h = refl
+-- a call that makes a store ready
+store-ready : (f : StoreFault) → IsSaving f → may_answer MakesReady (fault_kind f) ≡ true
+store-ready Failed h = refl
+store-ready (Damaged cid) h = refl
+store-ready (Missing cid) h = absurd h
+store-ready (BadBlock cid role) h = absurd h
+store-ready (Clash cid held bytes) h = refl
+store-ready Memory h = refl
 
-pub init-kinds : (hash : List ℕ → List ℕ) (f : MfsFault) (w : Refusal) (a b : Seen) → RefusesOpening f w → Shown hash NoneIsBad (fault_behind w) a b → may_answer MakesReady (refusal_kind w) ≡ true
-init-kinds hash (mfs.Rule rule) w a b is h = absurd is
-init-kinds hash (mfs.Ready why) w a b is h = subst (λ w. may_answer MakesReady (refusal_kind w) ≡ true) (sym is) refl
-init-kinds hash mfs.Sink w a b is h = absurd is
-init-kinds hash (mfs.Store f) w a b is h = subst (λ w. may_answer MakesReady (refusal_kind w) ≡ true) (sym is) (store-ready hash f a b (subst (λ w. Shown hash NoneIsBad (fault_behind w) a b) is h))
+pub init-kinds : (f : MfsFault) (w : Refusal) → RefusesOpening f w → IsOfMaking f → may_answer MakesReady (refusal_kind w) ≡ true
+init-kinds (mfs.Rule rule) w is h = absurd is
+init-kinds (mfs.Ready why) w is h = subst (λ w. may_answer MakesReady (refusal_kind w) ≡ true) (sym is) refl
+init-kinds mfs.Sink w is h = absurd is
+init-kinds (mfs.Store f) w is h = subst (λ w. may_answer MakesReady (refusal_kind w) ≡ true) (sym is) (store-ready f h)
 
+-- one that opens a tree
 store-tree : (f : StoreFault) → may_answer WorksInTree (fault_kind f) ≡ true
 store-tree Failed = refl
 store-tree (Damaged cid) = refl
@@ -103,6 +105,7 @@ opened-of (Ok x) h = tt
 opened-of (Err (refusal.Rule rule)) h = refl
 opened-of (Err (refusal.BadPath why)) h = h
 opened-of (Err refusal.Usage) h = h
+opened-of (Err refusal.InputTooLong) h = h
 opened-of (Err (refusal.Ready why)) h = refl
 opened-of (Err refusal.Read) h = h
 opened-of (Err refusal.Write) h = h
@@ -113,6 +116,7 @@ opened-ready told command (Ok x) h = tt
 opened-ready told command (Err (refusal.Rule rule)) h = tt
 opened-ready told command (Err (refusal.BadPath why)) h = tt
 opened-ready told command (Err refusal.Usage) h = tt
+opened-ready told command (Err refusal.InputTooLong) h = tt
 opened-ready told command (Err (refusal.Ready why)) h = absurd cc
 opened-ready told command (Err refusal.Read) h = tt
 opened-ready told command (Err refusal.Write) h = tt
@@ -123,6 +127,7 @@ tree-reads : (k : RefusalKind) → may_answer WorksInTree k ≡ true → read_ki
 tree-reads OfRule h = refl
 tree-reads OfPath h = refl
 tree-reads OfUsage h = refl
+tree-reads OfLongInput h = refl
 tree-reads OfReady h = refl
 tree-reads OfRead h = absurd cc
 tree-reads OfWrite h = refl
@@ -136,6 +141,7 @@ init-reads : (k : RefusalKind) → may_answer MakesReady k ≡ true → read_kin
 init-reads OfRule h = refl
 init-reads OfPath h = refl
 init-reads OfUsage h = refl
+init-reads OfLongInput h = refl
 init-reads OfReady h = refl
 init-reads OfRead h = absurd cc
 init-reads OfWrite h = refl
@@ -158,6 +164,7 @@ pub head-counts : (why : Refusal) (told : Told) (i : ℕ) → IsProfileRead (Err
 head-counts (refusal.Rule rule) told i read = absurd read
 head-counts (refusal.BadPath why) told i read = absurd read
 head-counts refusal.Usage told i read = absurd read
+head-counts refusal.InputTooLong told i read = absurd read
 head-counts (refusal.Ready why) told i read = counts-still i
 head-counts refusal.Read told i read = absurd read
 head-counts refusal.Write told i read = absurd read

@@ -29,6 +29,7 @@ pub stopped-more : (A B : Type 0) (why : Refusal) → (A → B) → IsStopped A 
 stopped-more A B (refusal.Rule rule) more h = (h.0, more h.1)
 stopped-more A B (refusal.BadPath why) more h = h
 stopped-more A B refusal.Usage more h = h
+stopped-more A B refusal.InputTooLong more h = h
 stopped-more A B (refusal.Ready why) more h = h
 stopped-more A B refusal.Read more h = h
 stopped-more A B refusal.Write more h = h

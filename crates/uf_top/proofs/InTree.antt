@@ -2,6 +2,7 @@
 use Rattle.std.proofs.Common.{◌≡◌, ℕ, List, [], ◌∷◌, refl, sym, ap, subst, ◌∙◌, inl, inr, Option, Some, None, Result, Ok, Err}
 use Rattle.std.specs.Prelude.{IfOk, IfSome}
 use Rattle.uf_mfs.specs.Answers as tree
+use Rattle.uf_mfs.specs.Moving.{Gives}
 use Rattle.uf_mfs.specs.Standing.{FindsHead, Inits, IsUnready, IsWanting, Opens, ReadsHead, StandsAt, TellsAs, head_in}
 use Rattle.uf_mfs.specs.declared.mfs.Mfs.{Mfs}
 use Rattle.uf_mfs.specs.declared.fault.MfsFault.{MfsFault}
@@ -9,6 +10,7 @@ use Rattle.uf_mfs.specs.declared.fault.MfsFault.TheVariants as mfs
 use Rattle.uf_plain.specs.declared.ready.Ready.{Ready}
 use Rattle.uf_plain.specs.declared.ready.Ready.TheVariants as ready
 use Rattle.uf_plain.specs.declared.rule.Refused.{Refused}
+use Rattle.uf_plain.specs.declared.rule.Rule.{Rule}
 use Rattle.uf_store.specs.Contents.{Contents, Told}
 use Rattle.uf_tree.specs.HeadReading.{head_reads}
 use Rattle.uf_tree.specs.Standing.{Standing, NoHead, BadHead, Stands, IsBadHead}
@@ -118,13 +120,26 @@ module _ (X : List ℕ → List ℕ) (N : List ℕ → ℕ) where
   look-answers B M P s names say (Ok t) b (Err m) r told h says made stands =
       subst (λ r. Answers X N s (looked s names say (Ok t)) r told) (sym made) (wants s (looked s names say (Ok t)) no_memory told refl stands)
 
+  -- an edit that a rule refuses is refused by the reply
+  pub edit-answers : (P : Entries → Unit {0} → Type 0) (p : Profile) (es : Entries) (edited : Result Entries Rule) (f : MfsFault) (w : Refusal) (told : Told)
+      → RefusesInTree f w → Gives {B = Unit {0}} P edited (Err f) → TellsAs X N told (Stands p es) → Answers X N (Stands p es) (moved X N p es edited) (Err w) told
+  edit-answers P p es (Ok x) (mfs.Rule rule) w told is h stands = absurd h
+  edit-answers P p es (Err given) (mfs.Rule rule) w told is h stands =
+      inr (record { ends_are = ap (λ (w : Refusal). Err w) (is ∙ ap refusal.Rule h); stands = stands; held = tells-none X N told (Stands p es) stands })
+  edit-answers P p es (Ok x) (mfs.Ready why) w told is h stands = absurd h
+  edit-answers P p es (Err x) (mfs.Ready why) w told is h stands = absurd h
+  edit-answers P p es (Ok x) mfs.Sink w told is h stands = absurd h
+  edit-answers P p es (Err x) mfs.Sink w told is h stands = absurd h
+  edit-answers P p es (Ok x) (mfs.Store f) w told is h stands = wants (Stands p es) (moved X N p es (Ok x)) w told (is ∙ ap refusal.Store h) stands
+  edit-answers P p es (Err x) (mfs.Store f) w told is h stands = wants (Stands p es) (moved X N p es (Err x)) w told (is ∙ ap refusal.Store h) stands
+
   -- an edited tree is committed, and nothing is printed
-  pub move-answers : (p : Profile) (es : Entries) (names : List (List ℕ)) (w : Result Entries Refused) (m last : Mfs) (mid now : Told) (text : List ℕ)
-      → tree.Answers {B = Unit {0}} (λ es done. StandsAt X N mid m p es) names w (Ok tt) → text ≡ []
+  pub move-answers : (p : Profile) (es : Entries) (w : Result Entries Rule) (m last : Mfs) (mid now : Told) (text : List ℕ)
+      → Gives {B = Unit {0}} (λ fs done. StandsAt X N mid m p fs) w (Ok tt) → text ≡ []
       → ((next : Entries) → StandsAt X N mid m p next → StandsAt X N now last p next × TellsAs X N now (Stands p next))
-      → Answers X N (Stands p es) (moved X N p es names w) (Ok text) now
-  move-answers p es names (Err why) m last mid now text h nothing commits = absurd h
-  move-answers p es names (Ok next) m last mid now text h nothing commits =
+      → Answers X N (Stands p es) (moved X N p es w) (Ok text) now
+  move-answers p es (Err why) m last mid now text h nothing commits = absurd h
+  move-answers p es (Ok next) m last mid now text h nothing commits =
       let c = commits next h in
       inr (record { ends_are = ap (λ (x : List ℕ). Ok x) nothing; stands = c.1; held = c.0.root.held })
 

@@ -1,15 +1,21 @@
 -- How a command is done that opens a tree, or makes a store ready for one.
-use Rattle.std.proofs.Common.{◌≡◌, ℕ, List, [], false, refl, ap, subst, ◌∙◌, Some, None, Result, Ok, Err}
+use Rattle.std.proofs.Common.{◌≡◌, ℕ, ◌+◌, ◌≤◌, List, [], false, arith, sym, ap, subst, ◌∙◌, None, Result, Ok, Err}
 use Rattle.std.specs.Prelude.{IfSome}
 use Rattle.uf_edge.specs.Counts.{Stood}
 use Rattle.uf_edge.specs.Streams as streams
 use Rattle.uf_mfs.specs.Answers.{ShownOpening}
 use Rattle.uf_mfs.specs.Bad.{IsBad}
-use Rattle.uf_mfs.specs.Standing.{Commits, FindsHead, Inits, Opens, ReadsHead, Same, SavesThen, TellsAs, head_in, notes_in}
+use Rattle.uf_mfs.specs.Opening.{IsOfMaking}
+use Rattle.uf_mfs.specs.Steps.{tree_fault}
+use Rattle.uf_mfs.specs.Touches.{CountsUp}
+use Rattle.uf_mfs.specs.Standing.{Commits, FindsHead, Inits, LeavesHead, NamesOver, Opens, OpensOver, ReadsHead, Same, SavesThen, StandsOver, TellsAs, head_in}
+use Rattle.uf_mfs.specs.Writes.{IsBadWritten}
 use Rattle.uf_mfs.specs.declared.fault.MfsFault.{MfsFault}
 use Rattle.uf_mfs.specs.declared.mfs.Mfs.{Mfs}
-use Rattle.uf_mfs.proofs.Starting.{notes-head}
+use Rattle.uf_mfs.proofs.Counting.{counts-then}
+use Rattle.uf_mfs.proofs.Starting.{leaves-head, saves-head}
 use Rattle.uf_path.specs.declared.path.Path.{Path}
+use Rattle.uf_plain.specs.Needs.{root_of}
 use Rattle.uf_store.specs.Contents.{Told}
 use Rattle.uf_store.specs.Faults.{NoneIsBad, StaysCalm}
 use Rattle.uf_store.specs.Keeping.{KeepsGood}
@@ -17,7 +23,8 @@ use Rattle.uf_store.specs.Seen.{Seen}
 use Rattle.uf_store.proofs.Calls.{shown-after, shown-by, shown-rises, stood-back, stood-front}
 use Rattle.uf_store.proofs.Keeping.{KeepsGood-same}
 use Rattle.uf_store.proofs.Writing.{SavesOnly-refl}
-use Rattle.uf_tree.specs.Standing.{Standing, Stands}
+use Rattle.uf_tree.specs.Standing.{Standing}
+use Rattle.uf_tree.specs.Tree.{Dir, Entries}
 use Rattle.uf_tree.specs.declared.profile.Profile.{Profile}
 use Rattle.uf_reply.specs.Commands.{ask_writes}
 use Rattle.uf_reply.specs.Kinds.{fault_behind, refusal_fault}
@@ -27,11 +34,14 @@ use Rattle.uf_reply.specs.declared.types.Ask.TheVariants.{Ls, Stat, Edit as Edit
 use Rattle.uf_reply.specs.declared.types.Command.TheVariants.{Init, At}
 use Rattle.uf_reply.specs.declared.types.Refusal.{Refusal}
 use Rattle.uf_top.specs.Causes.{HeadStays, IsBadIn, RefusesOpening}
+use Rattle.uf_top.specs.Losing.{AnswersOver, ask_needs}
 use Rattle.uf_top.specs.Shapes.{WritesAs, is_ok}
 use Rattle.uf_top.specs.Working.{Works, WorksAt}
 use Rattle.uf_top.proofs.InTree.{init-ready, inits-err, inits-ok, not-opened, opened, opened-says, opening-ready, stays-nothing}
 use Rattle.uf_top.proofs.Classed.{init-counts, init-kinds, opened-of, opened-ready, opening-kinds, tree-counts}
-use Rattle.uf_top.proofs.Shows.{Shown-opening, bad-of-head, bad-of-none, counts-still}
+use Rattle.uf_top.proofs.Finding.{at-whole, init-looks}
+use Rattle.uf_top.proofs.Losing.{inits-over, named-from, names-kept, names-same, not-inited, opening-over, over-more}
+use Rattle.uf_top.proofs.Shows.{Shown-opening, bad-of-head, bad-of-none, counts-still, opening-touched}
 use Rattle.uf_top.proofs.Standings.{stands-kept, stands-same}
 
 -- where nothing was written, a refused ask has written what it may
@@ -43,79 +53,116 @@ ask-same X (Edits edit) a b e = record { between = a; saves = SavesOnly-refl X a
 module _ (X : List ℕ → List ℕ) (N : List ℕ → ℕ) where
   -- ---- at a path
 
-  module _ (ask : Ask) (path : Path) (a m : Seen) (told : m.told ≡ a.told) (left : streams.Told) (reads : ℕ) where
+  module _ (ask : Ask) (path : Path) (a m : Seen) (told : m.told ≡ a.told) (left : streams.Told) (reads t0 t1 : ℕ) (opens_by : t1 ≤ t0 + 1) where
     -- the tree isn't opened
     pub at-refused : (f : MfsFault) (w : Refusal) → RefusesOpening f w → ((s : Standing) → TellsAs X N a.told s → Stood a.faults m.faults → Opens X N m.told s (Err f))
-        → ReadsHead a.told (Err f) → ShownOpening X (IsBad N None) {A = Mfs} (Err f) a m → Works X N (At ask path) (Err w) a m left left reads reads
-    at-refused f w is opens head cause = record {
+        → ((p : Profile) (es : Entries) → NamesOver X N a.told p es → Stood a.faults m.faults → OpensOver X N a.told p es (Err f))
+        → ReadsHead a.told (Err f) → CountsUp (tree_fault {A = Mfs} (Err f)) t0 t1 → ShownOpening X (IsBad N None) {A = Mfs} (Err f) a m → Works X N (At ask path) (Err w) a m left left reads reads t0 t1
+    at-refused f w is opens lost head up cause = record {
       answers = λ s bytes stands input calm. not-opened X N s (tree_reply X N ask path.names) f w m.told is (opens s stands calm.faults) (stands-same X N a.told m.told s told stands);
+      lost = λ p es bytes named input calm.
+          opening-over X N a.told m.told p es (ask_needs X N ask path.names p es) (tree_reply X N ask path.names p es) f w is (lost p es named.names calm.faults)
+          (names-same X N a.told m.told p es told named);
       kinds = opening-kinds f w is;
       ready = opening-ready a.told ask path f w is head;
       adds = tt;
       counts = tree-counts (Err w) reads (opening-kinds f w is);
-      cause = Shown-opening Mfs X (IsBad N None) (IsBadIn N a.told) (bad-of-none N a.told) f w a m is cause;
-      leaves = record { good = KeepsGood-same X a.told m.told told; head = ap head_in told; writes = ask-same X ask a.told m.told told; idle = λ p es stands calm same. told };
+      cause = Shown-opening Mfs X (IsBad N None) (IsBadIn X N a.told m.told) (bad-of-none X N a.told m.told) f w a m is cause;
+      touches = λ p es bytes rows named input heights calm. omega (arith, opens_by);
+      whole = λ s stands calm. at-whole X N s ask path.names (Err w) m.told
+          (not-opened X N s (tree_reply X N ask path.names) f w m.told is (opens s stands calm.faults) (stands-same X N a.told m.told s told stands));
+      touched = (opening-touched Mfs f w t0 t1 is up).risen;
+      leaves = record { good = KeepsGood-same X a.told m.told told; head = ap head_in told; writes = ask-same X ask a.told m.told told; idle = λ p es bytes stands calm same. told };
     }
 
     -- the tree is opened, and what is asked of it is done
-    pub at-opened : (mfs : Mfs) (r : Result (List ℕ) Refusal) (b : Seen) → ((s : Standing) → TellsAs X N a.told s → Stood a.faults m.faults → Opens X N m.told s (Ok mfs))
-        → ReadsHead a.told (Ok mfs) → StaysCalm a m → WorksAt X N mfs ask path r m b → Works X N (At ask path) r a b left left reads reads
-    at-opened mfs r b opens head calm works =
-        let rises = shown-rises X (IsBad N (Some mfs.profile)) (refusal_fault r) m b works.cause in
+    pub at-opened : (mfs : Mfs) (r : Result (List ℕ) Refusal) (b : Seen) (t2 : ℕ) → ((s : Standing) → TellsAs X N a.told s → Stood a.faults m.faults → Opens X N m.told s (Ok mfs))
+        → ((p : Profile) (es : Entries) → NamesOver X N a.told p es → Stood a.faults m.faults → OpensOver X N a.told p es (Ok mfs))
+        → ReadsHead a.told (Ok mfs) → CountsUp None t0 t1 → StaysCalm a m → WorksAt X N mfs ask path r m b t1 t2 → Works X N (At ask path) r a b left left reads reads t0 t2
+    at-opened mfs r b t2 opens lost head up calm works =
+        let rises = shown-rises X (IsBadWritten X N mfs.profile b.told) (refusal_fault r) m b works.cause in
         let kinds = opened-of r works.kinds in
         record {
           answers = λ s bytes stands input calm2.
               opened X N s (tree_reply X N ask path.names) mfs m.told b.told r
               (opens s stands (stood-front a.faults m.faults b.faults calm.faults rises.faults calm2.faults)) (stands-same X N a.told m.told s told stands)
               (λ p es at now. works.answers p es at now (record { faults = stood-back a.faults m.faults b.faults calm.faults calm2.faults; clashes = stood-back a.clashes m.clashes b.clashes calm.clashes calm2.clashes }));
+          lost = λ p es bytes named input calm2.
+              let at = lost p es named.names (stood-front a.faults m.faults b.faults calm.faults rises.faults calm2.faults) in
+              over-more X N a.told b.told p es (ask_needs X N ask path.names p es) (root_of X N p (Dir es)) (tree_reply X N ask path.names p es) r
+              (subst (λ t. AnswersOver X N t b.told p es (ask_needs X N ask path.names p es) (tree_reply X N ask path.names p es) r) told
+              (works.lost p es (subst (λ t. StandsOver X N t mfs p es) (sym told) at) (named-from X N a.told m.told b.told p es told named)
+              (record { faults = stood-back a.faults m.faults b.faults calm.faults calm2.faults; clashes = stood-back a.clashes m.clashes b.clashes calm.clashes calm2.clashes })));
           kinds = kinds;
           ready = opened-ready a.told (At ask path) r works.kinds;
           adds = tt;
           counts = tree-counts r reads kinds;
-          cause = shown-after X (IsBadIn N a.told) (refusal_fault r) a m b calm
-              (shown-by X (IsBad N (Some mfs.profile)) (IsBadIn N a.told) (refusal_fault r) m b (bad-of-head N a.told mfs.profile (opened-says a.told mfs head)) works.cause);
+          cause = shown-after X (IsBadIn X N a.told b.told) (refusal_fault r) a m b calm
+              (shown-by X (IsBadWritten X N mfs.profile b.told) (IsBadIn X N a.told b.told) (refusal_fault r) m b (bad-of-head X N a.told b.told mfs.profile (opened-says a.told mfs head)) works.cause);
+          touches = λ p es bytes rows named input heights calm2.
+              let at = lost p es named.names (stood-front a.faults m.faults b.faults calm.faults rises.faults calm2.faults) in
+              let more = works.touches p es rows (subst (λ t. StandsOver X N t mfs p es) (sym told) at) (named-from X N a.told m.told b.told p es told named) heights
+              (record { faults = stood-back a.faults m.faults b.faults calm.faults calm2.faults; clashes = stood-back a.clashes m.clashes b.clashes calm.clashes calm2.clashes }) in
+              omega (arith, opens_by, more);
+          whole = λ s stands calm2. at-whole X N s ask path.names r b.told
+              (opened X N s (tree_reply X N ask path.names) mfs m.told b.told r
+              (opens s stands (stood-front a.faults m.faults b.faults calm.faults rises.faults calm2.faults)) (stands-same X N a.told m.told s told stands)
+              (λ p es at now. works.answers p es at now (record { faults = stood-back a.faults m.faults b.faults calm.faults calm2.faults; clashes = stood-back a.clashes m.clashes b.clashes calm.clashes calm2.clashes })));
+          touched = (counts-then up works.touched).risen;
           leaves = record {
             good = subst (λ t. KeepsGood X t b.told) told works.good;
             head = subst (λ t. HeadStays r t b.told) told works.head;
             writes = subst (λ t. WritesAs X (ask_writes ask) (is_ok r) t b.told) told works.writes;
-            idle = λ p es stands faults same.
-                works.idle p es (opens (Stands p es) stands (stood-front a.faults m.faults b.faults calm.faults rises.faults faults))
-                (stands-same X N a.told m.told (Stands p es) told stands) (stood-back a.faults m.faults b.faults calm.faults faults) same ∙ told;
+            idle = λ p es bytes names given same.
+                let at = lost p es names (stood-front a.faults m.faults b.faults calm.faults rises.faults given.1) in
+                works.idle p es (subst (λ t. StandsOver X N t mfs p es) (sym told) at) (subst (λ t. NamesOver X N t p es) (sym told) names)
+                (stood-back a.faults m.faults b.faults calm.faults given.1) same ∙ told;
           };
         }
 
   -- ---- `init`
 
-  module _ (p : Profile) (a b : Seen) (good : KeepsGood X a.told b.told) (left : streams.Told) (reads : ℕ) where
+  module _ (p : Profile) (a b : Seen) (good : KeepsGood X a.told b.told) (left : streams.Told) (reads t0 t1 : ℕ) where
     -- the store isn't made ready
     pub init-refused : (f : MfsFault) (w : Refusal) → RefusesOpening f w
         → IfSome a.told (λ t. Stood a.faults b.faults → Stood a.clashes b.clashes → Inits X N b.told p t.notes.head (Err f))
-        → FindsHead a.told (Err f) → notes_in b.told ≡ notes_in a.told → ShownOpening X NoneIsBad {A = Mfs} (Err f) a b → Works X N (Init p) (Err w) a b left left reads reads
-    init-refused f w is answer finds notes cause =
+        → FindsHead a.told (Err f) → SavesThen X LeavesHead a.told b.told → IsOfMaking f → CountsUp (tree_fault {A = Mfs} (Err f)) t0 t1 → ShownOpening X NoneIsBad {A = Mfs} (Err f) a b → Works X N (Init p) (Err w) a b left left reads reads t0 t1
+    init-refused f w is answer finds leaves making up cause =
         let shown = Shown-opening Mfs X NoneIsBad NoneIsBad (λ role bytes bad. bad) f w a b is cause in
-        let kinds = init-kinds X f w a b is shown in
+        let kinds = init-kinds f w is making in
+        let head = leaves-head leaves.between b.told leaves.last ∙ saves-head X a.told leaves.between leaves.saves in
         record {
           answers = λ s bytes stands input calm.
               inits-err X N (Stood a.faults b.faults) (Stood a.clashes b.clashes) s p a.told f w b.told is calm.faults calm.clashes stands answer
-              (stands-kept X N a.told b.told s good (notes-head a.told b.told notes) stands);
+              (stands-kept X N a.told b.told s good head stands);
+          lost = λ q es bytes named input calm.
+              inits-over X N (Stood a.faults b.faults) (Stood a.clashes b.clashes) a.told b.told p q es f w is calm.faults calm.clashes named.names answer
+              (names-kept X N a.told b.told q es good head named);
           kinds = kinds;
           ready = init-ready a.told p f w is finds;
           adds = tt;
           counts = init-counts (Err w) reads kinds;
-          cause = shown-by X NoneIsBad (IsBadIn N a.told) (fault_behind w) a b (λ role bytes bad. absurd bad) shown;
-          leaves = record { good = good; head = notes-head a.told b.told notes; writes = notes; idle = λ q es stands calm same. absurd cc };
+          cause = shown-by X NoneIsBad (IsBadIn X N a.told b.told) (fault_behind w) a b (λ role bytes bad. absurd bad) shown;
+          touches = λ q es bytes rows named input heights calm. tt;
+          whole = λ s stands calm. init-looks (Err w) kinds;
+          touched = (opening-touched Mfs f w t0 t1 is up).risen;
+          leaves = record { good = good; head = head; writes = leaves; idle = λ q es bytes stands calm same. absurd cc };
         }
 
     -- the store is made ready
     pub is-ready : (mfs : Mfs) (text given : List ℕ) → text ≡ []
         → IfSome a.told (λ t. Stood a.faults b.faults → Stood a.clashes b.clashes → Inits X N b.told p t.notes.head (Ok mfs))
-        → SavesThen X (Commits given) a.told b.told → StaysCalm a b → Works X N (Init p) (Ok text) a b left left reads reads
+        → SavesThen X (Commits given) a.told b.told → StaysCalm a b → Works X N (Init p) (Ok text) a b left left reads reads t0 t1
     is-ready mfs text given nothing answer writes calm = record {
       answers = λ s bytes stands input calm2. inits-ok X N (Stood a.faults b.faults) (Stood a.clashes b.clashes) s p a.told mfs text b.told calm2.faults calm2.clashes nothing stands answer;
+      lost = λ q es bytes named input calm2. absurd (not-inited X N (Stood a.faults b.faults) (Stood a.clashes b.clashes) a.told b.told p q es mfs calm2.faults calm2.clashes named.names answer);
       kinds = tt;
       ready = tt;
       adds = tt;
       counts = counts-still reads;
       cause = calm;
-      leaves = record { good = good; head = stays-nothing text a.told b.told nothing; writes = (given, writes); idle = λ q es stands calm same. absurd cc };
+      touches = λ q es bytes rows named input heights calm2. tt;
+      whole = λ s stands calm2. init-looks (Ok text) tt;
+      touched = λ blames. absurd blames;
+      leaves = record { good = good; head = stays-nothing text a.told b.told nothing; writes = (given, writes); idle = λ q es bytes stands calm same. absurd cc };
     }

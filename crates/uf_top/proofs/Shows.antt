@@ -1,8 +1,12 @@
 -- What the answers of calls in a row show.
-use Rattle.std.proofs.Common.{◌≡◌, ℕ, List, false, true, arith, refl, sym, subst, inl, inr, Some, None, Result, Ok, Err}
+use Rattle.std.proofs.Common.{◌≡◌, ℕ, ◌+◌, ◌≤◌, List, false, true, arith, refl, sym, subst, inl, inr, Option, Some, None, Result, Ok, Err}
+use Rattle.std.specs.Prelude.{IfSome}
 use Rattle.uf_edge.specs.Counts.{Counts, Rose, Stood}
 use Rattle.uf_mfs.specs.Answers.{ShownInTree, ShownOpening}
 use Rattle.uf_mfs.specs.Bad.{IsBad}
+use Rattle.uf_mfs.specs.Steps.{tree_fault}
+use Rattle.uf_mfs.specs.Touches.{CountsUp, IsBlaming}
+use Rattle.uf_mfs.specs.Writes.{IsBadWritten}
 use Rattle.uf_mfs.specs.declared.fault.MfsFault.{MfsFault}
 use Rattle.uf_mfs.specs.declared.fault.MfsFault.TheVariants as mfs
 use Rattle.uf_store.specs.Clashes.{IsSaving}
@@ -17,7 +21,9 @@ use Rattle.uf_store.proofs.Calls.{shown-by}
 use Rattle.uf_store.proofs.Causes.{calm-rises}
 use Rattle.uf_tree.specs.Roles.{IsCanonicalDirectory, Basic, Sharded, FileRoot}
 use Rattle.uf_tree.specs.declared.profile.Profile.{Profile}
-use Rattle.uf_reply.specs.Kinds.{fault_behind, refusal_fault}
+use Rattle.uf_reply.specs.Kinds.{AddsInput, IsOf, fault_behind, may_answer, refusal_fault}
+use Rattle.uf_reply.specs.Statuses.{status_of}
+use Rattle.uf_reply.specs.declared.status.Status.TheVariants as status
 use Rattle.uf_reply.specs.declared.types.Refusal.{Refusal}
 use Rattle.uf_reply.specs.declared.types.Refusal.TheVariants as refusal
 use Rattle.uf_top.specs.Causes.{IsBadIn, IsMade, IsOpeningFault, IsProfileOf, IsTreeFault, OnlyWants, RefusesInTree, RefusesOpening}
@@ -26,6 +32,11 @@ use Rattle.uf_top.specs.Intake.{ShownIn}
 -- a count that stands
 pub counts-still : (i : ℕ) → Counts false i i
 counts-still i = record { later = omega arith; rose = λ e. absurd cc; still = λ e. refl }
+
+-- no touch is within any bound
+pub no-touch : (most : Option ℕ) (t0 : ℕ) → IfSome most (λ n. t0 ≤ t0 + n)
+no-touch None t0 = tt
+no-touch (Some n) t0 = omega arith
 
 -- a command that reads no block's content
 pub shown-any : (hash : List ℕ → List ℕ) (Q : Role → List ℕ → Type 0) (r : Result (List ℕ) Refusal) (a b : Seen) → ShownIn hash r a b → Shown hash Q (refusal_fault r) a b
@@ -59,11 +70,11 @@ module _ (A : Type 0) (hash : List ℕ → List ℕ) (P : Role → List ℕ → 
     Shown-tree (mfs.Store f) w a b is h = subst (λ w. Shown hash Q (fault_behind w) a b) (sym is) (shown-by hash P Q (Some f) a b more h)
 
 -- blocks that aren't canonical where the tree is read are so in what a command shows
-pub bad-of-none : (N : List ℕ → ℕ) (told : Told) (role : Role) (bytes : List ℕ) → IsBad N None role bytes → IsBadIn N told role bytes
-bad-of-none N told role bytes h = inl h
+pub bad-of-none : (X : List ℕ → List ℕ) (N : List ℕ → ℕ) (told now : Told) (role : Role) (bytes : List ℕ) → IsBad N None role bytes → IsBadIn X N told now role bytes
+bad-of-none X N told now role bytes h = inl h
 
-pub bad-of-head : (N : List ℕ → ℕ) (told : Told) (p : Profile) → IsProfileOf told p → (role : Role) (bytes : List ℕ) → IsBad N (Some p) role bytes → IsBadIn N told role bytes
-bad-of-head N told p is role bytes h = inr (p, is, h)
+pub bad-of-head : (X : List ℕ → List ℕ) (N : List ℕ → ℕ) (told now : Told) (p : Profile) → IsProfileOf told p → (role : Role) (bytes : List ℕ) → IsBadWritten X N p now role bytes → IsBadIn X N told now role bytes
+bad-of-head X N told now p is role bytes h = inr (p, is, h)
 
 -- with no count risen, a fault that saves alone can have is want of memory
 pub saving-wants : (hash : List ℕ → List ℕ) (P : Role → List ℕ → Type 0) (f : StoreFault) (a b : Seen) → IsSaving f → Shows hash P f a b → Stood a.faults b.faults → Stood a.clashes b.clashes → f ≡ Memory
@@ -83,6 +94,7 @@ wants-shown hash (Ok x) a b w h = h
 wants-shown hash (Err (refusal.Rule rule)) a b w h = h
 wants-shown hash (Err (refusal.BadPath why)) a b w h = h
 wants-shown hash (Err refusal.Usage) a b w h = h
+wants-shown hash (Err refusal.InputTooLong) a b w h = h
 wants-shown hash (Err (refusal.Ready why)) a b w h = h
 wants-shown hash (Err refusal.Read) a b w h = h
 wants-shown hash (Err refusal.Write) a b w h = h
@@ -100,7 +112,62 @@ bad-more N p (Shard level) bytes bad = bad
 bad-more N p FileNode bytes bad = bad
 bad-more N p Leaf bytes bad = bad
 
+pub bad-written : (X : List ℕ → List ℕ) (N : List ℕ → ℕ) (p : Profile) (now : Told) (role : Role) (bytes : List ℕ) → IsBad N None role bytes → IsBadWritten X N p now role bytes
+bad-written X N p now role bytes bad = inl (bad-more N p role bytes bad)
+
 -- a text that was made, or want of memory, after which the store is as calm as before
 pub made-shown : (M : Type 0) (hash : List ℕ → List ℕ) (P : Role → List ℕ → Type 0) (text : Result (List ℕ) M) (r : Result (List ℕ) Refusal) (a b : Seen) → IsMade text r → StaysCalm a b → Shown hash P (refusal_fault r) a b
 made-shown M hash P (Ok x) r a b made h = subst (λ (r : Result (List ℕ) Refusal). Shown hash P (refusal_fault r) a b) (sym made) h
 made-shown M hash P (Err m) r a b made h = subst (λ (r : Result (List ℕ) Refusal). Shown hash P (refusal_fault r) a b) (sym made) (calm-rises a b h)
+
+-- ---- how the count of touches moved
+
+pub opening-touched : (A : Type 0) (f : MfsFault) (w : Refusal) (t0 t1 : ℕ) → RefusesOpening f w → CountsUp (tree_fault {A = A} (Err f)) t0 t1 → CountsUp (fault_behind w) t0 t1
+opening-touched A (mfs.Rule rule) w t0 t1 is h = absurd is
+opening-touched A (mfs.Ready why) w t0 t1 is h = subst (λ w. CountsUp (fault_behind w) t0 t1) (sym is) h
+opening-touched A mfs.Sink w t0 t1 is h = absurd is
+opening-touched A (mfs.Store f) w t0 t1 is h = subst (λ w. CountsUp (fault_behind w) t0 t1) (sym is) h
+
+pub tree-touched : (A : Type 0) (f : MfsFault) (w : Refusal) (t0 t1 : ℕ) → RefusesInTree f w → CountsUp (tree_fault {A = A} (Err f)) t0 t1 → CountsUp (fault_behind w) t0 t1
+tree-touched A (mfs.Rule rule) w t0 t1 is h = subst (λ w. CountsUp (fault_behind w) t0 t1) (sym is) h
+tree-touched A (mfs.Ready why) w t0 t1 is h = absurd is
+tree-touched A mfs.Sink w t0 t1 is h = absurd is
+tree-touched A (mfs.Store f) w t0 t1 is h = subst (λ w. CountsUp (fault_behind w) t0 t1) (sym is) h
+
+-- a text that was made, or want of memory, touches nothing more
+pub made-touched : (M : Type 0) (text : Result (List ℕ) M) (r : Result (List ℕ) Refusal) (t0 t1 : ℕ) → IsMade text r → CountsUp None t0 t1 → CountsUp (refusal_fault r) t0 t1
+made-touched M (Ok x) r t0 t1 made h = subst (λ (r : Result (List ℕ) Refusal). CountsUp (refusal_fault r) t0 t1) (sym made) h
+made-touched M (Err m) r t0 t1 made h = subst (λ (r : Result (List ℕ) Refusal). CountsUp (refusal_fault r) t0 t1) (sym made) (record { kept = h.kept; risen = λ blames. absurd blames })
+
+-- `add` blames no block
+pub add-blames : (r : Result (List ℕ) Refusal) → IsOf (may_answer AddsInput) r → IsBlaming (refusal_fault r) → ⊥
+add-blames (Ok text) h blames = blames
+add-blames (Err (refusal.Rule rule)) h blames = blames
+add-blames (Err (refusal.BadPath why)) h blames = blames
+add-blames (Err refusal.Usage) h blames = blames
+add-blames (Err refusal.InputTooLong) h blames = blames
+add-blames (Err (refusal.Ready why)) h blames = blames
+add-blames (Err refusal.Read) h blames = blames
+add-blames (Err refusal.Write) h blames = blames
+add-blames (Err (refusal.Store Failed)) h blames = blames
+add-blames (Err (refusal.Store (Damaged cid))) h blames = blames
+add-blames (Err (refusal.Store (Missing cid))) h blames = blames
+add-blames (Err (refusal.Store (BadBlock cid role))) h blames = (let e : false ≡ true = h in cc)
+add-blames (Err (refusal.Store (Clash cid held bytes))) h blames = blames
+add-blames (Err (refusal.Store Memory)) h blames = blames
+
+-- the status of a bad block is that of a refusal that blames one
+pub blaming-of : (why : Refusal) → status_of why ≡ status.BadBlock → IsBlaming (fault_behind why)
+blaming-of (refusal.Rule rule) e = absurd cc
+blaming-of (refusal.BadPath path) e = absurd cc
+blaming-of refusal.Usage e = absurd cc
+blaming-of refusal.InputTooLong e = absurd cc
+blaming-of (refusal.Ready reason) e = absurd cc
+blaming-of refusal.Read e = absurd cc
+blaming-of refusal.Write e = absurd cc
+blaming-of (refusal.Store Failed) e = absurd cc
+blaming-of (refusal.Store (Damaged cid)) e = absurd cc
+blaming-of (refusal.Store (Missing cid)) e = absurd cc
+blaming-of (refusal.Store (BadBlock cid role)) e = tt
+blaming-of (refusal.Store (Clash cid held bytes)) e = absurd cc
+blaming-of (refusal.Store Memory) e = absurd cc

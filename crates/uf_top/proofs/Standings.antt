@@ -27,7 +27,7 @@ use Rattle.uf_tree.proofs.TreeLaws.{entry-dir}
 use Rattle.uf_tree.proofs.Valid.{entry-valid}
 use Rattle.uf_laws.proofs.Held.{tree-digested}
 use Rattle.uf_unique.proofs.Heads.{one_standing}
-use Rattle.uf_mfs.specs.Standing.{LeavesHead, Same, OnlySynced, TellsAs, TellsHeld, head_in}
+use Rattle.uf_mfs.specs.Standing.{LeavesHead, NamesOver, Same, OnlySynced, TellsAs, TellsHeld, head_in}
 use Rattle.uf_top.specs.Causes.{HeadSays, IsProfileOf, IsUnread}
 
 flip : (X : List ℕ → List ℕ) (l : List Held) → AllByRecursion (λ (b : Held). b.0.digest ≡ X b.1) l → AreGood X l
@@ -145,6 +145,25 @@ module _ (X : List ℕ → List ℕ) (N : List ℕ → ℕ) where
   standing-says good (Some c) NoHead p t h = absurd (not-none c.notes.head p t h)
   standing-says good (Some c) BadHead p t h = absurd (bad-says c.notes.head p t h)
   standing-says good (Some c) (Stands q es) p t h = (let r = stands-reads good c q es t in (es, ap (λ (x : Profile). Stands x es) (says c.notes.head _ q p _ r.0 r.1 h)))
+
+  -- ---- what the Head says of a tree of whose blocks some may be lost
+
+  names-reads : IsHash X → (t : Contents) (p : Profile) (es : Entries) → NamesOver X N (Some t) p es → head_reads (head_text p (entry X N p (Dir es)).cid) ≡ Ok (record { profile = p; root = (entry X N p (Dir es)).cid })
+  names-reads good t p es names = (let ok = names.root.plan.profile in head_again p _ ok (entry-valid X good N p ok (Dir es)).cid (dir-codec p es))
+
+  -- no profile but its own
+  pub names-says : IsHash X → (told : Told) (p q : Profile) (es : Entries) → NamesOver X N told p es → IsProfileOf told q → p ≡ q
+  names-says good None p q es names h = absurd names.root.agrees
+  names-says good (Some t) p q es names h = says t.notes.head _ p q _ names.head (names-reads good t p es names) h
+
+  -- it is there, and read
+  pub names-read : IsHash X → (told : Told) (p : Profile) (es : Entries) → NamesOver X N told p es → IfSome told (λ t. IsUnread t.notes.head) → ⊥
+  names-read good None p es names h = names.root.agrees
+  names-read good (Some t) p es names h = unread t.notes.head _ p _ names.head (names-reads good t p es names) h
+
+  pub names-there : (told : Told) (p : Profile) (es : Entries) → NamesOver X N told p es → IfSome told (λ t. t.notes.head ≡ None) → ⊥
+  names-there None p es names h = names.root.agrees
+  names-there (Some t) p es names h = (let e = sym names.head ∙ h in cc)
 
 -- what is told stands for one tree at most
 pub stands-one : (X : List ℕ → List ℕ) (N : List ℕ → ℕ) → IsHash X → ((name : List ℕ) → N name < 2 ^ 64) → (told : Told) (s r : Standing) → TellsAs X N told s → TellsAs X N told r → s ≡ r

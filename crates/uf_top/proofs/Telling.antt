@@ -4,7 +4,7 @@ use Rattle.std.specs.Prelude.{⊤}
 use Rattle.uf_cid.specs.declared.cid.Cid.{Cid}
 use Rattle.uf_edge.specs.Counts.{Counts, Rose, Stood}
 use Rattle.uf_edge.specs.Streams as streams
-use Rattle.uf_mfs.specs.Standing.{TellsAs, head_in}
+use Rattle.uf_mfs.specs.Standing.{NamesOver, TellsAs, head_in}
 use Rattle.uf_plain.specs.declared.rule.Rule.{Rule}
 use Rattle.uf_store.specs.Calls.{Calm}
 use Rattle.uf_store.specs.Contents.{Told, changed, with_sync}
@@ -14,11 +14,11 @@ use Rattle.uf_store.specs.Seen.{Seen}
 use Rattle.uf_store.specs.declared.store.Role.{Role}
 use Rattle.uf_store.specs.declared.store.StoreFault.TheVariants as fault
 use Rattle.uf_store.proofs.Keeping.{KeepsGood-same}
-use Rattle.uf_tree.specs.Standing.{Standing, Stands}
+use Rattle.uf_tree.specs.Standing.{Standing}
 use Rattle.uf_tree.specs.Tree.{Entries}
 use Rattle.uf_tree.specs.declared.profile.Profile.{Profile}
 use Rattle.uf_reply.specs.Commands.{HasInput, IsOfWords, command_writes, is_idle, of_command, only_reads}
-use Rattle.uf_reply.specs.Kinds.{OfPath, OfUsage, OfWrite, family_of, fault_behind, may_answer, refusal_kind, word_kinds}
+use Rattle.uf_reply.specs.Kinds.{OfLongInput, OfPath, OfUsage, OfWrite, family_of, fault_behind, may_answer, refusal_kind, word_kinds}
 use Rattle.uf_reply.specs.Lines.{bad_block_line, clash_line, line_of, missing_line, said}
 use Rattle.uf_reply.specs.Reply.{Reply, reply_to}
 use Rattle.uf_reply.specs.Statuses.{ended, no_memory, plain_line, status_of}
@@ -26,7 +26,7 @@ use Rattle.uf_reply.specs.declared.status.Status.{Status}
 use Rattle.uf_reply.specs.declared.status.Status.TheVariants as status
 use Rattle.uf_reply.specs.declared.types.Ask.TheVariants.{Ls, Stat, Edit as Edits}
 use Rattle.uf_reply.specs.declared.types.Command.{Command}
-use Rattle.uf_reply.specs.declared.types.Command.TheVariants.{Init, Add, At}
+use Rattle.uf_reply.specs.declared.types.Command.TheVariants.{Init, Add, WriteInput, At}
 use Rattle.uf_reply.specs.declared.types.Refusal.{Refusal}
 use Rattle.uf_reply.specs.declared.types.Refusal.TheVariants as refusal
 use Rattle.uf_top.specs.Answering.{Answers}
@@ -34,7 +34,8 @@ use Rattle.uf_top.specs.Causes.{HeadStays, IsBadIn, IsSynced, is_read}
 use Rattle.uf_top.specs.Endings.{AddsFor, EndsAs, FindsAll, FindsBy, Finishes, IsNotReady, IsRefusedBy, IsRule, IsSyncedFor, IsTextOf, PrintsAll, PrintsAt, PrintsPart, RuleOf, SaysPlain, TellsWhy, has_details}
 use Rattle.uf_top.specs.Shapes.{SyncsAfter, WritesAs, WritesFor, is_done, is_ok}
 use Rattle.uf_top.specs.Working.{Serves, Works}
-use Rattle.uf_top.proofs.Finding.{Finds, add-whole, at-whole, init-judges, init-whole, words-whole}
+use Rattle.uf_top.proofs.Finding.{Finds, add-whole, init-looks, words-whole}
+use Rattle.uf_top.proofs.Shows.{blaming-of}
 use Rattle.uf_top.proofs.Standings.{stands-kept, tells-none}
 
 -- ---- which kinds no command has
@@ -42,16 +43,19 @@ use Rattle.uf_top.proofs.Standings.{stands-kept, tells-none}
 no-path : (command : Command) → may_answer (family_of command) OfPath ≡ true → ⊥
 no-path (Init p) h = cc
 no-path (Add only_hash) h = cc
+no-path (WriteInput how path) h = cc
 no-path (At ask path) h = cc
 
 no-usage : (command : Command) → may_answer (family_of command) OfUsage ≡ true → ⊥
 no-usage (Init p) h = cc
 no-usage (Add only_hash) h = cc
+no-usage (WriteInput how path) h = cc
 no-usage (At ask path) h = cc
 
 no-write : (command : Command) → may_answer (family_of command) OfWrite ≡ true → ⊥
 no-write (Init p) h = cc
 no-write (Add only_hash) h = cc
+no-write (WriteInput how path) h = cc
 no-write (At ask path) h = cc
 
 -- a line without details is the status's
@@ -59,6 +63,7 @@ plain-of : (why : Refusal) → has_details (status_of why) ≡ false → plain_l
 plain-of (refusal.Rule rule) e = absurd cc
 plain-of (refusal.BadPath path) e = absurd cc
 plain-of refusal.Usage e = refl
+plain-of refusal.InputTooLong e = absurd cc
 plain-of (refusal.Ready reason) e = absurd cc
 plain-of refusal.Read e = refl
 plain-of refusal.Write e = refl
@@ -74,6 +79,7 @@ not-ok : (why : Refusal) → status_of why ≡ status.Ok → ⊥
 not-ok (refusal.Rule rule) e = cc
 not-ok (refusal.BadPath path) e = cc
 not-ok refusal.Usage e = cc
+not-ok refusal.InputTooLong e = cc
 not-ok (refusal.Ready reason) e = cc
 not-ok refusal.Read e = cc
 not-ok refusal.Write e = cc
@@ -93,6 +99,7 @@ quiet-of : (IsText : List ℕ → Type 0) (held now : streams.Told) (why : Refus
 quiet-of IsText held now (refusal.Rule rule) other = record { quiet = λ h. h; undone = refl }
 quiet-of IsText held now (refusal.BadPath path) other = record { quiet = λ h. h; undone = refl }
 quiet-of IsText held now refusal.Usage other = record { quiet = λ h. h; undone = refl }
+quiet-of IsText held now refusal.InputTooLong other = record { quiet = λ h. h; undone = refl }
 quiet-of IsText held now (refusal.Ready reason) other = record { quiet = λ h. h; undone = refl }
 quiet-of IsText held now refusal.Read other = record { quiet = λ h. h; undone = refl }
 quiet-of IsText held now refusal.Write other = absurd (other refl)
@@ -111,6 +118,7 @@ read-of : (why : Refusal) (i j : ℕ) → Counts (is_read {A = List ℕ} (Err wh
 read-of (refusal.Rule rule) i j counts more = (let e = counts.still refl in absurd (omega (arith, e, more)))
 read-of (refusal.BadPath path) i j counts more = (let e = counts.still refl in absurd (omega (arith, e, more)))
 read-of refusal.Usage i j counts more = (let e = counts.still refl in absurd (omega (arith, e, more)))
+read-of refusal.InputTooLong i j counts more = (let e = counts.still refl in absurd (omega (arith, e, more)))
 read-of (refusal.Ready reason) i j counts more = (let e = counts.still refl in absurd (omega (arith, e, more)))
 read-of refusal.Read i j counts more = refl
 read-of refusal.Write i j counts more = (let e = counts.still refl in absurd (omega (arith, e, more)))
@@ -127,6 +135,7 @@ module _ (hash : List ℕ → List ℕ) (P : Role → List ℕ → Type 0) (a b 
   failure-of (refusal.Rule rule) h more = (let e = h.faults in absurd (omega (arith, e, more)))
   failure-of (refusal.BadPath path) h more = (let e = h.faults in absurd (omega (arith, e, more)))
   failure-of refusal.Usage h more = (let e = h.faults in absurd (omega (arith, e, more)))
+  failure-of refusal.InputTooLong h more = (let e = h.faults in absurd (omega (arith, e, more)))
   failure-of (refusal.Ready reason) h more = (let e = h.faults in absurd (omega (arith, e, more)))
   failure-of refusal.Read h more = (let e = h.faults in absurd (omega (arith, e, more)))
   failure-of refusal.Write h more = (let e = h.faults in absurd (omega (arith, e, more)))
@@ -141,6 +150,7 @@ module _ (hash : List ℕ → List ℕ) (P : Role → List ℕ → Type 0) (a b 
   clash-of (refusal.Rule rule) h more = (let e = h.clashes in absurd (omega (arith, e, more)))
   clash-of (refusal.BadPath path) h more = (let e = h.clashes in absurd (omega (arith, e, more)))
   clash-of refusal.Usage h more = (let e = h.clashes in absurd (omega (arith, e, more)))
+  clash-of refusal.InputTooLong h more = (let e = h.clashes in absurd (omega (arith, e, more)))
   clash-of (refusal.Ready reason) h more = (let e = h.clashes in absurd (omega (arith, e, more)))
   clash-of refusal.Read h more = (let e = h.clashes in absurd (omega (arith, e, more)))
   clash-of refusal.Write h more = (let e = h.clashes in absurd (omega (arith, e, more)))
@@ -199,7 +209,7 @@ module _ (Says : List ℕ → Type 0) where
     write-told (Ok text) (inr c) more = c.status_is
     write-told (Err why) t more = (let e = t.counts.still refl in absurd (omega (arith, e, more)))
 
-    module _ (X : List ℕ → List ℕ) (N : List ℕ → ℕ) (a b : Seen) (l m : streams.Told) (i j : ℕ) where
+    module _ (X : List ℕ → List ℕ) (N : List ℕ → ℕ) (a b : Seen) (l m : streams.Told) (i j t0 t1 : ℕ) where
       -- what each status shows
       abbrev pub StatusShows : Result Command Refusal → Status → Type 0
       StatusShows asked status.Ok = ⊤
@@ -207,7 +217,7 @@ module _ (Says : List ℕ → Type 0) where
       StatusShows asked status.Usage = asked ≡ Err refusal.Usage
       StatusShows asked status.StoreFault = ShowsFailure a b
       StatusShows asked status.Missing = (cid : Cid) × ShowsMissing cid a b × Says (missing_line cid)
-      StatusShows asked status.BadBlock = (cid : Cid) × (role : Role) × ShowsBadBlock X (IsBadIn N a.told) cid role a b × Says (bad_block_line cid role)
+      StatusShows asked status.BadBlock = (cid : Cid) × (role : Role) × ShowsBadBlock X (IsBadIn X N a.told b.told) cid role a b × Says (bad_block_line cid role)
       StatusShows asked status.ReadFault = Rose i j
       StatusShows asked status.WriteFault = Rose w v
       StatusShows asked status.Clash = (cid : Cid) × (held : List ℕ) × (bytes : List ℕ) × ShowsClash X cid held bytes a b × Says (clash_line cid held bytes)
@@ -218,12 +228,21 @@ module _ (Says : List ℕ → Type 0) where
           → RuleOf Says (Ok command) (refusal.Rule rule) a.told l m
       rule-in (Init p) rule h adds = absurd cc
       rule-in (Add only_hash) rule h adds = (ap refusal.Rule adds.0, adds.1)
+      rule-in (WriteInput how path) rule h adds = inr (rule, refl)
       rule-in (At ask path) rule h adds = (rule, refl)
 
-      works-show : (command : Command) (why : Refusal) → Works X N command (Err why) a b l m i j → Says (line_of why) → StatusShows (Ok command) (status_of why)
+      long-in : (command : Command) → may_answer (family_of command) OfLongInput ≡ true → AddsFor X a.told (Ok command) (Err refusal.InputTooLong) l m
+          → RuleOf Says (Ok command) refusal.InputTooLong a.told l m
+      long-in (Init p) h adds = absurd cc
+      long-in (Add only_hash) h adds = absurd cc
+      long-in (WriteInput how path) h adds = inl (refl, adds)
+      long-in (At ask path) h adds = absurd cc
+
+      works-show : (command : Command) (why : Refusal) → Works X N command (Err why) a b l m i j t0 t1 → Says (line_of why) → StatusShows (Ok command) (status_of why)
       works-show command (refusal.Rule rule) h says = (refusal.Rule rule, refl, says, rule-in command rule h.kinds h.adds)
       works-show command (refusal.BadPath path) h says = absurd (no-path command h.kinds)
       works-show command refusal.Usage h says = absurd (no-usage command h.kinds)
+      works-show command refusal.InputTooLong h says = (refusal.InputTooLong, refl, says, long-in command h.kinds h.adds)
       works-show command (refusal.Ready reason) h says = (reason, says, h.ready)
       works-show command refusal.Read h says = h.counts.rose refl
       works-show command refusal.Write h says = absurd (no-write command h.kinds)
@@ -238,6 +257,7 @@ module _ (Says : List ℕ → Type 0) where
       word-shows (refusal.Rule rule) h says = absurd cc
       word-shows (refusal.BadPath path) h says = (refusal.BadPath path, refl, says, refl)
       word-shows refusal.Usage h says = refl
+      word-shows refusal.InputTooLong h says = absurd cc
       word-shows (refusal.Ready reason) h says = absurd cc
       word-shows refusal.Read h says = absurd cc
       word-shows refusal.Write h says = absurd cc
@@ -257,7 +277,7 @@ module _ (Says : List ℕ → Type 0) where
           let e : why ≡ no_memory = cc in
           subst (λ w. StatusShows (Err asked) (status_of w)) (sym e) tt
 
-      pub shows : (asked : Result Command Refusal) (done : Result (List ℕ) Refusal) → IsOfWords asked → Serves X N asked done a b l m i j → Finishes Says done given held held_now w v → StatusShows asked given
+      pub shows : (asked : Result Command Refusal) (done : Result (List ℕ) Refusal) → IsOfWords asked → Serves X N asked done a b l m i j t0 t1 → Finishes Says done given held held_now w v → StatusShows asked given
       shows asked (Ok text) words s (inl p) = subst (StatusShows asked) (sym p.status_is) tt
       shows asked (Ok text) words s (inr c) = subst (StatusShows asked) (sym c.status_is) (c.counts.rose refl)
       shows (Ok command) (Err why) words s t = by-why (StatusShows (Ok command)) why given t.tells (works-show command why s) tt
@@ -270,26 +290,47 @@ module _ (Says : List ℕ → Type 0) where
       by-fault why want (inl t) (inr is) = inr (t.0 ∙ is)
       by-fault why want (inr t) is = inr t.1
 
-      pub faults-told : (asked : Result Command Refusal) (done : Result (List ℕ) Refusal) → Serves X N asked done a b l m i j → Finishes Says done given held held_now w v → a.faults < b.faults
+      pub faults-told : (asked : Result Command Refusal) (done : Result (List ℕ) Refusal) → Serves X N asked done a b l m i j t0 t1 → Finishes Says done given held held_now w v → a.faults < b.faults
           → (given ≡ status.StoreFault) ⊎ (given ≡ status.Memory)
       faults-told (Err asked) done s f more = (let e = ap (λ (x : Seen). x.faults) s.seen in absurd (omega (arith, e, more)))
       faults-told (Ok command) (Ok text) s f more = (let e = s.cause.faults in absurd (omega (arith, e, more)))
-      faults-told (Ok command) (Err why) s t more = by-fault why status.StoreFault t.tells (failure-of X (IsBadIn N a.told) a b why s.cause more)
+      faults-told (Ok command) (Err why) s t more = by-fault why status.StoreFault t.tells (failure-of X (IsBadIn X N a.told b.told) a b why s.cause more)
 
-      pub clashes-told : (asked : Result Command Refusal) (done : Result (List ℕ) Refusal) → Serves X N asked done a b l m i j → Finishes Says done given held held_now w v → a.clashes < b.clashes
+      pub clashes-told : (asked : Result Command Refusal) (done : Result (List ℕ) Refusal) → Serves X N asked done a b l m i j t0 t1 → Finishes Says done given held held_now w v → a.clashes < b.clashes
           → (given ≡ status.Clash) ⊎ (given ≡ status.Memory)
       clashes-told (Err asked) done s f more = (let e = ap (λ (x : Seen). x.clashes) s.seen in absurd (omega (arith, e, more)))
       clashes-told (Ok command) (Ok text) s f more = (let e = s.cause.clashes in absurd (omega (arith, e, more)))
-      clashes-told (Ok command) (Err why) s t more = by-fault why status.Clash t.tells (clash-of X (IsBadIn N a.told) a b why s.cause more)
+      clashes-told (Ok command) (Err why) s t more = by-fault why status.Clash t.tells (clash-of X (IsBadIn X N a.told b.told) a b why s.cause more)
 
       reading : (why : Refusal) → TellsWhy Says why given → why ≡ refusal.Read → given ≡ status.ReadFault
       reading why (inl t) is = t.0 ∙ ap status_of is
       reading why (inr t) is = (let e : false ≡ true = ap (λ w. has_details (status_of w)) (sym is) ∙ t.0 in absurd cc)
 
-      pub read-told : (asked : Result Command Refusal) (done : Result (List ℕ) Refusal) → Serves X N asked done a b l m i j → Finishes Says done given held held_now w v → i < j → given ≡ status.ReadFault
+      pub read-told : (asked : Result Command Refusal) (done : Result (List ℕ) Refusal) → Serves X N asked done a b l m i j t0 t1 → Finishes Says done given held held_now w v → i < j → given ≡ status.ReadFault
       read-told (Err asked) done s f more = (let e = s.unread in absurd (omega (arith, e, more)))
       read-told (Ok command) (Ok text) s f more = (let e = s.counts.still refl in absurd (omega (arith, e, more)))
       read-told (Ok command) (Err why) s t more = reading why t.tells (read-of why i j s.counts more)
+
+      -- ---- no block is called bad before one was touched
+
+      -- words are refused for no block
+      no-blame : (asked why : Refusal) (done : Result (List ℕ) Refusal) → done ≡ Err why → word_kinds (refusal_kind asked) ≡ true → (done ≡ Err asked) ⊎ (done ≡ Err no_memory) → status_of why ≢ status.BadBlock
+      no-blame asked why done is words (inl same) = λ bad. (let e : why ≡ asked = (let k : Err why ≡ Err asked = sym is ∙ same in cc) in (words-whole asked words).1 (ap status_of (sym e) ∙ bad))
+      no-blame asked why done is words (inr same) = λ bad. (let e : why ≡ no_memory = (let k : Err why ≡ Err no_memory = sym is ∙ same in cc) in let k : status.Memory ≡ status.BadBlock = ap status_of (sym e) ∙ bad in cc)
+
+      pub blamed-told : (asked : Result Command Refusal) (done : Result (List ℕ) Refusal) → IsOfWords asked → Serves X N asked done a b l m i j t0 t1 → Finishes Says done given held held_now w v → given ≡ status.BadBlock → t0 < t1
+      blamed-told asked (Ok text) words h (inl q) is = absurd (let k : status.Ok ≡ status.BadBlock = sym q.status_is ∙ is in cc)
+      blamed-told asked (Ok text) words h (inr c) is = absurd (let k : status.WriteFault ≡ status.BadBlock = sym c.status_is ∙ is in cc)
+      blamed-told (Ok command) (Err why) words h t is = by t.tells
+        where
+          by : TellsWhy Says why given → t0 < t1
+          by (inl told) = h.touched (blaming-of why (sym told.0 ∙ is))
+          by (inr told) = absurd (let k : status.Memory ≡ status.BadBlock = sym told.1 ∙ is in cc)
+      blamed-told (Err asked) (Err why) words h t is = by t.tells
+        where
+          by : TellsWhy Says why given → t0 < t1
+          by (inl told) = absurd (no-blame asked why (Err why) refl words h.refused (sym told.0 ∙ is))
+          by (inr told) = absurd (let k : status.Memory ≡ status.BadBlock = sym told.1 ∙ is in cc)
 
       -- ---- what is printed, and what is left
 
@@ -301,20 +342,21 @@ module _ (Says : List ℕ → Type 0) where
           let k : why ≡ no_memory = cc in
           let w : OfWrite ≡ refusal_kind no_memory = sym e ∙ ap refusal_kind k in absurd cc
 
-      text-of : (asked : Result Command Refusal) (text : List ℕ) → Serves X N asked (Ok text) a b l m i j → IsTextOf X a.told asked l text
+      text-of : (asked : Result Command Refusal) (text : List ℕ) → Serves X N asked (Ok text) a b l m i j t0 t1 → IsTextOf X a.told asked l text
       text-of (Ok (Init p)) text s = tt
       text-of (Ok (Add only_hash)) text s = s.adds
+      text-of (Ok (WriteInput how path)) text s = tt
       text-of (Ok (At ask path)) text s = tt
       text-of (Err why) text s = tt
 
-      no-cut : (asked : Result Command Refusal) (why : Refusal) → IsOfWords asked → Serves X N asked (Err why) a b l m i j → refusal_kind why ≢ OfWrite
+      no-cut : (asked : Result Command Refusal) (why : Refusal) → IsOfWords asked → Serves X N asked (Err why) a b l m i j t0 t1 → refusal_kind why ≢ OfWrite
       no-cut (Ok command) why words s = λ e. no-write command (subst (λ k. may_answer (family_of command) k ≡ true) e s.kinds)
       no-cut (Err asked) why words s = idle-cut asked why (Err why) refl words s.refused
 
       quiet-told : (IsText : List ℕ → Type 0) (why : Refusal) → TellsWhy Says why given → refusal_kind why ≢ OfWrite → IsQuiet IsText held held_now given
       quiet-told IsText why t other = by-why (IsQuiet IsText held held_now) why given t (λ says. quiet-of IsText held held_now why other) (memory-quiet IsText held held_now)
 
-      pub prints-told : (asked : Result Command Refusal) (done : Result (List ℕ) Refusal) → IsOfWords asked → Serves X N asked done a b l m i j → Finishes Says done given held held_now w v
+      pub prints-told : (asked : Result Command Refusal) (done : Result (List ℕ) Refusal) → IsOfWords asked → Serves X N asked done a b l m i j t0 t1 → Finishes Says done given held held_now w v
           → PrintsAt (IsTextOf X a.told asked l) given held held_now
       prints-told asked (Ok text) words s (inl p) = subst (λ g. PrintsAt (IsTextOf X a.told asked l) g held held_now) (sym p.status_is) (text, text-of asked text s, p.printed)
       prints-told asked (Ok text) words s (inr c) = subst (λ g. PrintsAt (IsTextOf X a.told asked l) g held held_now) (sym c.status_is) (text, text-of asked text s, c.printed)
@@ -323,7 +365,7 @@ module _ (Says : List ℕ → Type 0) where
       same-writes : (asked : Refusal) (done : Bool) → b.told ≡ a.told → WritesFor X (Err asked) done a.told b.told
       same-writes asked done e = e
 
-      pub writes-told : (asked : Result Command Refusal) (done : Result (List ℕ) Refusal) → IsOfWords asked → Serves X N asked done a b l m i j → Finishes Says done given held held_now w v
+      pub writes-told : (asked : Result Command Refusal) (done : Result (List ℕ) Refusal) → IsOfWords asked → Serves X N asked done a b l m i j t0 t1 → Finishes Says done given held held_now w v
           → WritesFor X asked (is_done given) a.told b.told
       writes-told (Err asked) done words s f = ap (λ (x : Seen). x.told) s.seen
       writes-told (Ok command) (Ok text) words s (inl p) = subst (λ g. WritesAs X (command_writes command) (is_done g) a.told b.told) (sym p.status_is) s.leaves.writes
@@ -332,7 +374,7 @@ module _ (Says : List ℕ → Type 0) where
           let q = quiet-told (λ text. ⊤) why t.tells (no-cut (Ok command) why words s) in
           subst (λ d. WritesAs X (command_writes command) d a.told b.told) (sym q.undone) s.leaves.writes
 
-      pub head-told : (asked : Result Command Refusal) (done : Result (List ℕ) Refusal) → Serves X N asked done a b l m i j → Finishes Says done given held held_now w v → given ≢ status.Ok → head_in b.told ≡ head_in a.told
+      pub head-told : (asked : Result Command Refusal) (done : Result (List ℕ) Refusal) → Serves X N asked done a b l m i j t0 t1 → Finishes Says done given held held_now w v → given ≢ status.Ok → head_in b.told ≡ head_in a.told
       head-told (Err asked) done s f not = ap (λ (x : Seen). head_in x.told) s.seen
       head-told (Ok command) (Ok text) s (inl p) not = absurd (not p.status_is)
       head-told (Ok command) (Ok text) s (inr c) not = some-stays text a.told b.told c.some s.leaves.head
@@ -346,34 +388,36 @@ module _ (Says : List ℕ → Type 0) where
           by (inl h) = not-ok why (sym h.0 ∙ is)
           by (inr h) = (let e : status.Memory ≡ status.Ok = sym h.1 ∙ is in cc)
 
-      pub synced-told : (asked : Result Command Refusal) (done : Result (List ℕ) Refusal) → Serves X N asked done a b l m i j → Finishes Says done given held held_now w v → given ≡ status.Ok → IsSyncedFor asked b.told
+      pub synced-told : (asked : Result Command Refusal) (done : Result (List ℕ) Refusal) → Serves X N asked done a b l m i j t0 t1 → Finishes Says done given held held_now w v → given ≡ status.Ok → IsSyncedFor asked b.told
       synced-told (Err asked) done s f is = tt
       synced-told (Ok (Init p)) done s f is = tt
       synced-told (Ok (Add true)) done s f is = tt
       synced-told (Ok (Add false)) done s f is = synced-of X a.told b.told (subst (λ d. WritesAs X (command_writes (Add false)) d a.told b.told) (was-ok done f is) s.leaves.writes)
+      synced-told (Ok (WriteInput how path)) done s f is = tt
       synced-told (Ok (At ask path)) done s f is = tt
 
-      pub good-told : (asked : Result Command Refusal) (done : Result (List ℕ) Refusal) → Serves X N asked done a b l m i j → KeepsGood X a.told b.told
+      pub good-told : (asked : Result Command Refusal) (done : Result (List ℕ) Refusal) → Serves X N asked done a b l m i j t0 t1 → KeepsGood X a.told b.told
       good-told (Err asked) done s = KeepsGood-same X a.told b.told (ap (λ (x : Seen). x.told) s.seen)
       good-told (Ok command) done s = s.leaves.good
 
-      pub told-same : (asked : Result Command Refusal) (done : Result (List ℕ) Refusal) → Serves X N asked done a b l m i j → of_command only_reads true asked ≡ true → b.told ≡ a.told
+      pub told-same : (asked : Result Command Refusal) (done : Result (List ℕ) Refusal) → Serves X N asked done a b l m i j t0 t1 → of_command only_reads true asked ≡ true → b.told ≡ a.told
       told-same (Err asked) done s is = ap (λ (x : Seen). x.told) s.seen
       told-same (Ok (Init p)) done s is = absurd cc
       told-same (Ok (Add true)) done s is = s.leaves.writes
       told-same (Ok (Add false)) done s is = absurd cc
+      told-same (Ok (WriteInput how path)) done s is = absurd cc
       told-same (Ok (At (Ls long) path)) done s is = s.leaves.writes
       told-same (Ok (At Stat path)) done s is = s.leaves.writes
       told-same (Ok (At (Edits edit) path)) done s is = absurd cc
 
-      pub idle-told : (asked : Result Command Refusal) (done : Result (List ℕ) Refusal) → Serves X N asked done a b l m i j → (p : Profile) (es : Entries) → TellsAs X N a.told (Stands p es) → Stood a.faults b.faults
-          → of_command (is_idle es) false asked ≡ true → b.told ≡ a.told
-      idle-told (Err asked) done s p es stands faults is = absurd cc
-      idle-told (Ok command) done s p es stands faults is = s.leaves.idle p es stands faults is
+      pub idle-told : (asked : Result Command Refusal) (done : Result (List ℕ) Refusal) → Serves X N asked done a b l m i j t0 t1 → (p : Profile) (es : Entries) (bytes : List ℕ) → NamesOver X N a.told p es → HasInput asked l bytes i j → Stood a.faults b.faults
+          → of_command (is_idle bytes es) false asked ≡ true → b.told ≡ a.told
+      idle-told (Err asked) done s p es bytes stands input faults is = absurd cc
+      idle-told (Ok command) done s p es bytes stands input faults is = s.leaves.idle p es bytes stands (input, faults) is
 
       -- ---- over a store that stands
 
-      answers-of : (asked : Result Command Refusal) (done : Result (List ℕ) Refusal) → Serves X N asked done a b l m i j → (s : Standing) (bytes : List ℕ) → TellsAs X N a.told s → HasInput asked l bytes i j → Calm a b
+      answers-of : (asked : Result Command Refusal) (done : Result (List ℕ) Refusal) → Serves X N asked done a b l m i j t0 t1 → (s : Standing) (bytes : List ℕ) → TellsAs X N a.told s → HasInput asked l bytes i j → Calm a b
           → Answers X N s (reply_to X N asked s bytes) done b.told
       answers-of (Ok command) done h s bytes stands input calm = h.answers s bytes stands input calm
       answers-of (Err asked) done h s bytes stands input calm = by h.refused
@@ -413,18 +457,18 @@ module _ (Says : List ℕ → Type 0) where
           })
           by (inr told) = inl (record { status_is = told.1; says = told.2; nothing = t.nothing; stands = stays refl })
 
-      stays-of : (asked : Result Command Refusal) (done : Result (List ℕ) Refusal) → Serves X N asked done a b l m i j → (s : Standing) → TellsAs X N a.told s → is_ok done ≡ false → TellsAs X N b.told s
+      stays-of : (asked : Result Command Refusal) (done : Result (List ℕ) Refusal) → Serves X N asked done a b l m i j t0 t1 → (s : Standing) → TellsAs X N a.told s → is_ok done ≡ false → TellsAs X N b.told s
       stays-of (Err asked) done h s stands is = subst (λ (x : Seen). TellsAs X N x.told s) (sym h.seen) stands
       stays-of (Ok command) (Ok text) h s stands is = absurd cc
       stays-of (Ok command) (Err why) h s stands is = stands-kept X N a.told b.told s h.leaves.good h.leaves.head stands
 
-      pub replies-told : (asked : Result Command Refusal) (done : Result (List ℕ) Refusal) → Serves X N asked done a b l m i j → Finishes Says done given held held_now w v
+      pub replies-told : (asked : Result Command Refusal) (done : Result (List ℕ) Refusal) → Serves X N asked done a b l m i j t0 t1 → Finishes Says done given held held_now w v
           → (s : Standing) (bytes : List ℕ) → TellsAs X N a.told s → HasInput asked l bytes i j → Calm a b → Stood w v → EndsAs Says X N s (reply_to X N asked s bytes) given held held_now b.told
       replies-told asked done h f s bytes stands input calm write =
           ends-of s (reply_to X N asked s bytes) done f write (answers-of asked done h s bytes stands input calm) (stays-of asked done h s stands)
 
       -- a part of the reply's text was printed where the output failed
-      pub prefix-told : (asked : Result Command Refusal) (done : Result (List ℕ) Refusal) → IsOfWords asked → Serves X N asked done a b l m i j → Finishes Says done given held held_now w v
+      pub prefix-told : (asked : Result Command Refusal) (done : Result (List ℕ) Refusal) → IsOfWords asked → Serves X N asked done a b l m i j t0 t1 → Finishes Says done given held held_now w v
           → (s : Standing) (bytes : List ℕ) → TellsAs X N a.told s → HasInput asked l bytes i j → Calm a b → given ≡ status.WriteFault → PrintsPart (reply_to X N asked s bytes).ends held held_now
       prefix-told asked (Ok text) words h (inl p) s bytes stands input calm is = (let e : status.Ok ≡ status.WriteFault = sym p.status_is ∙ is in absurd cc)
       prefix-told asked (Ok text) words h (inr c) s bytes stands input calm is = by (answers-of asked (Ok text) h s bytes stands input calm)
@@ -437,15 +481,13 @@ module _ (Says : List ℕ → Type 0) where
           let e : false ≡ true = sym q.undone ∙ ap is_done is in absurd cc
 
       -- no block is missing or bad
-      done-finds-all : (asked : Result Command Refusal) (done : Result (List ℕ) Refusal) → IsOfWords asked → Serves X N asked done a b l m i j → (s : Standing) → TellsAs X N a.told s → Calm a b → Finds done
+      done-finds-all : (asked : Result Command Refusal) (done : Result (List ℕ) Refusal) → IsOfWords asked → Serves X N asked done a b l m i j t0 t1 → (s : Standing) → TellsAs X N a.told s → Calm a b → Finds done
       done-finds-all (Err asked) done words h s stands calm = by h.refused
         where
           by : (done ≡ Err asked) ⊎ (done ≡ Err no_memory) → Finds done
           by (inl is) = subst Finds (sym is) (words-whole asked words)
           by (inr is) = subst Finds (sym is) (words-whole no_memory refl)
-      done-finds-all (Ok (Init p)) done words h s stands calm = init-whole X N s p done b.told (h.answers s [] stands (λ e. absurd cc) calm)
-      done-finds-all (Ok (Add only_hash)) done words h s stands calm = add-whole done h.kinds
-      done-finds-all (Ok (At ask path)) done words h s stands calm = at-whole X N s ask path.names done b.told (h.answers s [] stands (λ e. absurd cc) calm)
+      done-finds-all (Ok command) done words h s stands calm = h.whole s stands calm
 
     -- a command that was done so ends so
     ended-told : (A : Status → Type 0) (done : Result (List ℕ) Refusal) → Finishes Says done given held held_now w v → A (ended done) → A status.WriteFault → A status.Memory → A given
@@ -453,13 +495,14 @@ module _ (Says : List ℕ → Type 0) where
     ended-told A (Ok text) (inr c) h cut memory = subst A (sym c.status_is) cut
     ended-told A (Err why) t h cut memory = by-why A why given t.tells (λ says. h) memory
 
-    pub whole-told : (X : List ℕ → List ℕ) (N : List ℕ → ℕ) (a b : Seen) (l m : streams.Told) (i j : ℕ) (asked : Result Command Refusal) (done : Result (List ℕ) Refusal) → IsOfWords asked → Serves X N asked done a b l m i j
+    pub whole-told : (X : List ℕ → List ℕ) (N : List ℕ → ℕ) (a b : Seen) (l m : streams.Told) (i j t0 t1 : ℕ) (asked : Result Command Refusal) (done : Result (List ℕ) Refusal) → IsOfWords asked → Serves X N asked done a b l m i j t0 t1
         → Finishes Says done given held held_now w v → (s : Standing) → TellsAs X N a.told s → Calm a b → FindsAll given
-    whole-told X N a b l m i j asked done words h f s stands calm =
-        ended-told FindsAll done f (done-finds-all X N a b l m i j asked done words h s stands calm) (λ e. cc, λ e. cc) (λ e. cc, λ e. cc)
+    whole-told X N a b l m i j t0 t1 asked done words h f s stands calm =
+        ended-told FindsAll done f (done-finds-all X N a b l m i j t0 t1 asked done words h s stands calm) (λ e. cc, λ e. cc) (λ e. cc, λ e. cc)
 
-    pub looks-told : (X : List ℕ → List ℕ) (N : List ℕ → ℕ) (a b : Seen) (l m : streams.Told) (i j : ℕ) (command : Command) (done : Result (List ℕ) Refusal) → Works X N command done a b l m i j
+    pub looks-told : (X : List ℕ → List ℕ) (N : List ℕ → ℕ) (a b : Seen) (l m : streams.Told) (i j t0 t1 : ℕ) (command : Command) (done : Result (List ℕ) Refusal) → Works X N command done a b l m i j t0 t1
         → Finishes Says done given held held_now w v → FindsBy (family_of command) given
-    looks-told X N a b l m i j (Init p) done h f = ended-told (λ g. g ≢ status.BadBlock) done f (init-judges done h.kinds) (λ e. cc) (λ e. cc)
-    looks-told X N a b l m i j (Add only_hash) done h f = ended-told FindsAll done f (add-whole done h.kinds) (λ e. cc, λ e. cc) (λ e. cc, λ e. cc)
-    looks-told X N a b l m i j (At ask path) done h f = tt
+    looks-told X N a b l m i j t0 t1 (Init p) done h f = ended-told FindsAll done f (init-looks done h.kinds) (λ e. cc, λ e. cc) (λ e. cc, λ e. cc)
+    looks-told X N a b l m i j t0 t1 (Add only_hash) done h f = ended-told FindsAll done f (add-whole done h.kinds) (λ e. cc, λ e. cc) (λ e. cc, λ e. cc)
+    looks-told X N a b l m i j t0 t1 (WriteInput how path) done h f = tt
+    looks-told X N a b l m i j t0 t1 (At ask path) done h f = tt

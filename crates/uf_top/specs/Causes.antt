@@ -8,10 +8,11 @@ use Rattle.uf_tree.specs.Profiles.{most_bytes, usual}
 use Rattle.uf_cid.specs.declared.cid.Cid.{Cid}
 use Rattle.uf_edge.specs.declared.streams.Sent.{Sent}
 use Rattle.uf_edge.specs.Counts.{Counts}
-use Rattle.uf_edge.specs.Streams.{before, Sends, is_unsent}
+use Rattle.uf_edge.specs.Streams.{before, Exceeds, IsWhole, Sends, is_unsent}
 use Rattle.uf_edge.specs.Streams as streams
 use Rattle.uf_mfs.specs.Bad.{IsBad}
 use Rattle.uf_mfs.specs.Standing.{head_in}
+use Rattle.uf_mfs.specs.Writes.{IsBadWritten}
 use Rattle.uf_mfs.specs.declared.fault.MfsFault.{MfsFault}
 use Rattle.uf_mfs.specs.declared.fault.MfsFault.TheVariants as mfs
 use Rattle.uf_plain.specs.declared.ready.Ready.{Ready}
@@ -27,13 +28,13 @@ use Rattle.uf_tree.specs.HeadReading.{head_reads}
 use Rattle.uf_tree.specs.declared.head_fault.HeadFault.{HeadFault}
 use Rattle.uf_tree.specs.declared.profile.Profile.{Profile}
 use Rattle.uf_reply.specs.declared.types.Command.{Command}
-use Rattle.uf_reply.specs.declared.types.Command.TheVariants.{Init, Add, At}
+use Rattle.uf_reply.specs.declared.types.Command.TheVariants.{Init, Add, WriteInput, At}
 use Rattle.uf_reply.specs.declared.types.Refusal.{Refusal}
 use Rattle.uf_reply.specs.declared.types.Refusal.TheVariants as refusal
 use Rattle.uf_reply.specs.Kinds.{is_of, read_kind, refusal_fault}
 use Rattle.uf_reply.specs.Lines.{added_line}
 use Rattle.uf_reply.specs.Statuses.{no_memory}
-use Rattle.uf_reply.specs.Reply.{file_cid}
+use Rattle.uf_reply.specs.Reply.{file_cid, most_input}
 
 -- the faults of calls that open a tree: no rule refuses that, and nothing is printed there
 abbrev pub IsOpeningFault : MfsFault → Type 0
@@ -77,19 +78,22 @@ abbrev pub IsUnread : Option (List ℕ) → Type 0
 IsUnread None = ⊥
 IsUnread (Some text) = (why : HeadFault) × (head_reads text ≡ Err why)
 
--- for this reason the Head doesn't do for a command that needs it, where the store tells: there is none, or it isn't read
+-- for this reason the Head doesn't do for a command that needs it, where the store tells: there is none, or it isn't
+-- read
 abbrev pub IsReasonInTree : Ready → Told → Type 0
 IsReasonInTree ready.NoHead told = IfSome told (λ t. t.notes.head ≡ None)
 IsReasonInTree ready.HeadThere told = ⊥
 IsReasonInTree ready.BadHead told = IfSome told (λ t. IsUnread t.notes.head)
 
--- for this reason the Head doesn't do for a command, where the store tells: it is there at `init`, isn't read, or isn't there where one is needed
+-- for this reason the Head doesn't do for a command, where the store tells: it is there at `init`, isn't read, or isn't
+-- there where one is needed
 abbrev pub IsReason : Command → Ready → Told → Type 0
 IsReason (Init p) ready.HeadThere told = IfSome told (λ t. (text : List ℕ) × (t.notes.head ≡ Some text))
 IsReason (Init p) why told = ⊥
 IsReason (Add true) ready.BadHead told = IfSome told (λ t. IsUnread t.notes.head)
 IsReason (Add true) why told = ⊥
 IsReason (Add false) why told = IsReasonInTree why told
+IsReason (WriteInput how path) why told = IsReasonInTree why told
 IsReason (At ask path) why told = IsReasonInTree why told
 
 -- the answer that the store isn't ready has its reason in the Head
@@ -97,9 +101,11 @@ abbrev pub IsReady : Told → Command → Result (List ℕ) Refusal → Type 0
 IsReady told command (Err (refusal.Ready why)) = IsReason command why told
 IsReady told command ends = ⊤
 
--- the block isn't canonical in its role, where no profile or that of the Head is required
-abbrev pub IsBadIn : (List ℕ → ℕ) → Told → Role → List ℕ → Type 0
-IsBadIn N told role bytes = IsBad N None role bytes ⊎ ((p : Profile) × IsProfileOf told p × IsBad N (Some p) role bytes)
+-- the block isn't canonical in its role: on a way in the tree, or, where the profile of the Head is required, there or
+-- in a file that is edited
+abbrev pub IsBadIn : (List ℕ → List ℕ) → (List ℕ → ℕ) → (before now : Told) → Role → List ℕ → Type 0
+IsBadIn X N before now role bytes =
+    IsBad N None role bytes ⊎ ((p : Profile) × IsProfileOf before p × IsBadWritten X N p now role bytes)
 
 -- the Head moves only where a command is done that prints nothing
 abbrev pub HeadStays : Result (List ℕ) Refusal → Told → Told → Type 0
@@ -122,7 +128,8 @@ AddsBy false None p = ⊥
 AddsBy only_hash (Some text) p = HeadSays (Some text) p
 
 -- the row of some input as a file by that profile
-pub record IsRow (hash : List ℕ → List ℕ) (told : Told) (only_hash : Bool) (left : streams.Told) (text : List ℕ) : Type 0 where
+pub record IsRow (hash : List ℕ → List ℕ) (told : Told) (only_hash : Bool) (left : streams.Told)
+    (text : List ℕ) : Type 0 where
   pub profile : Profile
   pub adds_by : IfSome told (λ t. AddsBy only_hash t.notes.head profile)
   pub bytes : List ℕ
@@ -140,8 +147,22 @@ pub record IsTooLong (told : Told) (only_hash : Bool) (left left_now : streams.T
 -- what `add` makes of the input: its row, or that it is too long
 abbrev pub Adds : (List ℕ → List ℕ) → Told → Bool → Result (List ℕ) Refusal → streams.Told → streams.Told → Type 0
 Adds hash told only_hash (Ok text) left left_now = IsRow hash told only_hash left text
-Adds hash told only_hash (Err (refusal.Rule rule)) left left_now = (rule ≡ FileTooLong) × IsTooLong told only_hash left left_now
+Adds hash told only_hash (Err (refusal.Rule rule)) left left_now =
+    (rule ≡ FileTooLong) × IsTooLong told only_hash left left_now
 Adds hash told only_hash (Err why) left left_now = ⊤
+
+-- an input is taken whole, or why it isn't
+abbrev pub TakesAll : Result (List ℕ) Refusal → streams.Told → streams.Told → Type 0
+TakesAll (Ok bytes) left left_now = IsWhole most_input bytes left left_now
+TakesAll (Err refusal.InputTooLong) left left_now = Exceeds most_input left left_now
+TakesAll (Err refusal.Read) left left_now = ⊤
+TakesAll (Err (refusal.Store fault)) left left_now = fault ≡ Memory
+TakesAll (Err why) left left_now = ⊥
+
+-- an input is refused as too long only where it is
+abbrev pub IsLongAt : Result (List ℕ) Refusal → streams.Told → streams.Told → Type 0
+IsLongAt (Err refusal.InputTooLong) left left_now = Exceeds most_input left left_now
+IsLongAt ends left left_now = ⊤
 
 -- a line was written, or a part of it where the count rose
 pub record IsSent (line : List ℕ) (held held_now : streams.Told) (faults faults_now : ℕ) : Type 0 where

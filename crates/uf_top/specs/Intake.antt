@@ -31,7 +31,8 @@ pub record PassesMost (p : Profile) (left left_now : Told) : Type 0 where
   pub many : most_bytes p < length bytes
 
 -- these are all bytes of the input, no more than a file may have, and this is their file's entry, whose blocks are held
-pub record IsWholeFile (hash : List ℕ → List ℕ) (p : Profile) (told_now : store.Told) (entry : Entry) (left left_now : Told) : Type 0 where
+pub record IsWholeFile (hash : List ℕ → List ℕ) (p : Profile) (told_now : store.Told) (entry : Entry)
+    (left left_now : Told) : Type 0 where
   pub bytes : List ℕ
   pub taken : left ≡ before bytes left_now
   pub nothing_left : IsAtEnd left_now
@@ -52,7 +53,8 @@ IsFileOf hash p told_now (Ok entry) left left_now = IsWholeFile hash p told_now 
 IsFileOf hash p told_now (Err why) left left_now = IsStopped (PassesMost p left left_now) why
 
 -- a builder by this profile that has not given up was fed these bytes, and what it saved of their plan is held
-pub record IsFedBy (hash : List ℕ → List ℕ) (p : Profile) (told : store.Told) (bytes : List ℕ) (b : Building) : Type 0 where
+pub record IsFedBy (hash : List ℕ → List ℕ) (p : Profile) (told : store.Told) (bytes : List ℕ) (b : Building)
+    : Type 0 where
   pub fed : HasFed hash bytes b
   pub held : HoldsFed hash bytes told b
   pub count : b.fed ≡ length bytes
@@ -61,29 +63,34 @@ pub record IsFedBy (hash : List ℕ → List ℕ) (p : Profile) (told : store.To
   pub not_spent : b.is_spent ≡ false
 
 -- the builder was fed these bytes, which the source gave, behind what it was fed before
-pub record FeedsFrom (hash : List ℕ → List ℕ) (p : Profile) (bytes : List ℕ) (told told_now : store.Told) (b now : Building) (left left_now : Told) : Type 0 where
+pub record FeedsFrom (hash : List ℕ → List ℕ) (p : Profile) (bytes : List ℕ) (told told_now : store.Told)
+    (b now : Building) (left left_now : Told) : Type 0 where
   pub taken : left ≡ before bytes left_now
   pub fed : (front : List ℕ) → IsFedBy hash p told front b → IsFedBy hash p told_now (front ++ bytes) now
 
 -- the source gave bytes with which the file would be too long
-pub record PassesLimit (hash : List ℕ → List ℕ) (p : Profile) (told : store.Told) (b : Building) (left left_now : Told) : Type 0 where
+pub record PassesLimit (hash : List ℕ → List ℕ) (p : Profile) (told : store.Told) (b : Building)
+    (left left_now : Told) : Type 0 where
   pub bytes : List ℕ
   pub taken : left ≡ before bytes left_now
   pub many : (front : List ℕ) → IsFedBy hash p told front b → most_bytes p < length (front ++ bytes)
 
 -- more may follow what was fed
-pub record FeedsPart (hash : List ℕ → List ℕ) (p : Profile) (told told_now : store.Told) (b now : Building) (left left_now : Told) : Type 0 where
+pub record FeedsPart (hash : List ℕ → List ℕ) (p : Profile) (told told_now : store.Told) (b now : Building)
+    (left left_now : Told) : Type 0 where
   pub bytes : List ℕ
   pub feeds : FeedsFrom hash p bytes told told_now b now left left_now
 
 -- nothing follows what was fed
-pub record FeedsLast (hash : List ℕ → List ℕ) (p : Profile) (told told_now : store.Told) (b now : Building) (left left_now : Told) : Type 0 where
+pub record FeedsLast (hash : List ℕ → List ℕ) (p : Profile) (told told_now : store.Told) (b now : Building)
+    (left left_now : Told) : Type 0 where
   pub bytes : List ℕ
   pub feeds : FeedsFrom hash p bytes told told_now b now left left_now
   pub nothing_left : IsAtEnd left_now
 
 -- the answer of one reading: whether more may follow
-abbrev pub FeedsNext : (List ℕ → List ℕ) → Profile → Result Bool Refusal → store.Told → store.Told → Building → Building → Told → Told → Type 0
+abbrev pub FeedsNext : (List ℕ → List ℕ) → Profile → Result Bool Refusal → store.Told → store.Told → Building
+    → Building → Told → Told → Type 0
 FeedsNext hash p (Ok true) told told_now b now left left_now = FeedsPart hash p told told_now b now left left_now
 FeedsNext hash p (Ok false) told told_now b now left left_now = FeedsLast hash p told told_now b now left left_now
 FeedsNext hash p (Err why) told told_now b now left left_now = IsStopped (PassesLimit hash p told b left left_now) why
@@ -95,12 +102,16 @@ pub record GrowsBy (more : ℕ) (b now : Building) : Type 0 where
   pub profile : now.profile ≡ b.profile
 
 -- the answer where one piece is fed
-abbrev pub FeedsPiece : (List ℕ → List ℕ) → Profile → List ℕ → Result (Unit {0}) Refusal → store.Told → store.Told → Building → Building → Type 0
-FeedsPiece hash p piece (Ok done) told told_now b now = (front : List ℕ) → IsFedBy hash p told front b → IsFedBy hash p told_now (front ++ piece) now
-FeedsPiece hash p piece (Err why) told told_now b now = IsStopped ((front : List ℕ) → IsFedBy hash p told front b → most_bytes p < length (front ++ piece)) why
+abbrev pub FeedsPiece : (List ℕ → List ℕ) → Profile → List ℕ → Result (Unit {0}) Refusal → store.Told → store.Told
+    → Building → Building → Type 0
+FeedsPiece hash p piece (Ok done) told told_now b now =
+    (front : List ℕ) → IsFedBy hash p told front b → IsFedBy hash p told_now (front ++ piece) now
+FeedsPiece hash p piece (Err why) told told_now b now =
+    IsStopped ((front : List ℕ) → IsFedBy hash p told front b → most_bytes p < length (front ++ piece)) why
 
 -- the answer of the readings up to the end
-abbrev pub FeedsRest : (List ℕ → List ℕ) → Profile → Result (Unit {0}) Refusal → store.Told → store.Told → Building → Building → Told → Told → Type 0
+abbrev pub FeedsRest : (List ℕ → List ℕ) → Profile → Result (Unit {0}) Refusal → store.Told → store.Told → Building
+    → Building → Told → Told → Type 0
 FeedsRest hash p (Ok done) told told_now b now left left_now = FeedsLast hash p told told_now b now left left_now
 FeedsRest hash p (Err why) told told_now b now left left_now = IsStopped (PassesLimit hash p told b left left_now) why
 
@@ -115,7 +126,8 @@ Closes hash (Ok entry) told told_now b = IsClosed hash entry told told_now b
 Closes hash (Err why) told told_now b = IsStopped ⊥ why
 
 -- the row of all bytes of the input as a file, whose blocks are held
-pub record IsWholeRow (hash : List ℕ → List ℕ) (p : Profile) (told_now : store.Told) (text : List ℕ) (left left_now : Told) : Type 0 where
+pub record IsWholeRow (hash : List ℕ → List ℕ) (p : Profile) (told_now : store.Told) (text : List ℕ)
+    (left left_now : Told) : Type 0 where
   pub bytes : List ℕ
   pub taken : left ≡ before bytes left_now
   pub nothing_left : IsAtEnd left_now

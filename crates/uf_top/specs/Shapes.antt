@@ -2,7 +2,7 @@
 use Rattle.std.specs.Prelude.{◌≡◌, ℕ, List, Bool, true, false}
 use Rattle.std.specs.declared.result.Result.{Result}
 use Rattle.std.specs.declared.result.Result.TheVariants.{Ok, Err}
-use Rattle.uf_mfs.specs.Standing.{Commits, LeavesHead, SavesThen, notes_in}
+use Rattle.uf_mfs.specs.Standing.{Commits, LeavesHead, SavesThen}
 use Rattle.uf_store.specs.Contents.{Told, changed, with_sync}
 use Rattle.uf_reply.specs.Commands.{WriteShape, NoWrites, SyncsBlocks, MakesHead, MovesHead, command_writes}
 use Rattle.uf_reply.specs.declared.types.Command.{Command}
@@ -24,7 +24,7 @@ WritesAs hash NoWrites done before now = now ≡ before
 WritesAs hash SyncsBlocks true before now = SyncsAfter hash before now
 WritesAs hash SyncsBlocks false before now = SavesThen hash LeavesHead before now
 WritesAs hash MakesHead true before now = HeadAfter hash before now
-WritesAs hash MakesHead false before now = notes_in now ≡ notes_in before
+WritesAs hash MakesHead false before now = SavesThen hash LeavesHead before now
 WritesAs hash MovesHead true before now = HeadAfter hash before now
 WritesAs hash MovesHead false before now = SavesThen hash LeavesHead before now
 

@@ -32,8 +32,9 @@ pub fn adds<S: Store, I: Source, L: Ledger>(
     touches: &mut Steps<L>,
 ) -> Result<Block, Refusal>
     ensures works { (N : List ℕ → ℕ) → Works S.X.block32 N (commands.Add only_hash) result (S.seen store.old)
-        (S.seen store.new) (I.left input.old) (I.left input.new) (I.faults input.old) (I.faults input.new) }
-    ensures touches { only_hash ≡ true → touches.new ≡ touches.old }
+        (S.seen store.new) (I.left input.old) (I.left input.new) (I.faults input.old) (I.faults input.new)
+        touches.old touches.new }
+    ensures untouched { only_hash ≡ true → touches.new ≡ touches.old }
 {
     if only_hash {
         add_only_hash(alloc, store, input)
@@ -50,12 +51,11 @@ fn add<S: Store, I: Source, L: Ledger>(
     touches: &mut Steps<L>,
 ) -> Result<Block, Refusal>
     ensures { (N : List ℕ → ℕ) → Works S.X.block32 N (commands.Add false) result (S.seen store.old) (S.seen store.new)
-        (I.left input.old) (I.left input.new) (I.faults input.old) (I.faults input.new) }
+        (I.left input.old) (I.left input.new) (I.faults input.old) (I.faults input.new) touches.old touches.new }
 {
-    match head_profile(alloc, store) {
-        Err(why) => Err(why),
-        Ok(None) => Err(Refusal::Ready(Ready::NoHead)),
-        Ok(Some(profile)) => add_by(alloc, profile, store, input, touches),
+    match head_profile(alloc, store)? {
+        None => Err(Refusal::Ready(Ready::NoHead)),
+        Some(profile) => add_by(alloc, profile, store, input, touches),
     }
 }
 
@@ -65,13 +65,12 @@ fn add_only_hash<S: Store, I: Source>(
     store: &mut S,
     input: &mut I,
 ) -> Result<Block, Refusal>
-    ensures { (N : List ℕ → ℕ) → Works S.X.block32 N (commands.Add true) result (S.seen store.old) (S.seen store.new)
-        (I.left input.old) (I.left input.new) (I.faults input.old) (I.faults input.new) }
+    ensures { (N : List ℕ → ℕ) (touches : ℕ) → Works S.X.block32 N (commands.Add true) result (S.seen store.old)
+        (S.seen store.new) (I.left input.old) (I.left input.new) (I.faults input.old) (I.faults input.new)
+        touches touches }
 {
-    match head_profile(alloc, store) {
-        Err(why) => Err(why),
-        Ok(found) => hash_by::<S::X, I>(alloc, or_usual(found), input),
-    }
+    let found = head_profile(alloc, store)?;
+    hash_by::<S::X, I>(alloc, or_usual(found), input)
 }
 
 // The profile that the Head says; none where there is no Head.
@@ -126,13 +125,9 @@ fn add_by<S: Store, I: Source, L: Ledger>(
     ensures good { KeepsGood S.X.block32 (S.seen store.old).told (S.seen store.new).told }
     ensures writes { WritesAs S.X.block32 SyncsBlocks (is_ok result) (S.seen store.old).told (S.seen store.new).told }
 {
-    match file_of(alloc, profile, store, input, touches) {
-        Err(why) => Err(why),
-        Ok(entry) => match added_row(alloc, &entry.cid) {
-            Err(_) => Err(Refusal::Store(StoreFault::Memory)),
-            Ok(row) => synced(store, row),
-        },
-    }
+    let entry = file_of(alloc, profile, store, input, touches)?;
+    let row = added_row(alloc, &entry.cid)?;
+    synced(store, row)
 }
 
 // The row, once all that was saved is made to outlive a stop.

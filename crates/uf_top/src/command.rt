@@ -1,17 +1,24 @@
 // One command.
-ghost use Rattle.std.specs.Prelude.{◌≡◌, ◌≢◌, ◌⊎◌, ◌<◌, List, ℕ, true, false, Err, Ok, map, string_bytes};
+ghost use Rattle.std.specs.Prelude.{◌≡◌, ◌≢◌, ◌⊎◌, ◌<◌, ◌≤◌, ◌+◌, IfSome, List, ℕ, true, false, Err, Ok};
+ghost use Rattle.std.specs.Prelude.{map, string_bytes};
 ghost use Rattle.uf_cid.specs.declared.cid.Cid.{Cid as TheCid};
 ghost use Rattle.uf_edge.specs.Counts.{Rose, Stood};
-ghost use Rattle.uf_mfs.specs.Standing.{TellsAs, head_in};
+ghost use Rattle.uf_mfs.specs.Reading.{AreHeights};
+ghost use Rattle.uf_mfs.specs.Standing.{NamesOver, TellsAs, head_in};
+ghost use Rattle.uf_store.specs.Calls.{Calm};
 ghost use Rattle.uf_store.specs.Faults.{ShowsBadBlock, ShowsClash, ShowsFailure, ShowsMissing};
 ghost use Rattle.uf_store.specs.Keeping.{KeepsGood};
 ghost use Rattle.uf_store.specs.declared.store.Role.{Role as TheRole};
 ghost use Rattle.uf_tree.specs.Standing.{Standing, Stands};
 ghost use Rattle.uf_tree.specs.Tree.{Entries};
 ghost use Rattle.uf_tree.specs.declared.profile.Profile.{Profile as TheProfile};
+ghost use Rattle.uf_top.specs.Bounds.{words_touch};
 ghost use Rattle.uf_top.specs.Causes.{IsBadIn, IsSent};
-ghost use Rattle.uf_reply.specs.Commands.{HasInput, IsAccepted, command_in, is_idle, of_command, only_hashes, only_reads, reads_input, uses_host};
-ghost use Rattle.uf_top.specs.Endings.{EndsAs, Finishes, FindsAll, FindsBy, IsNotReady, IsRefusedBy, IsRule, IsSyncedFor, IsTextOf, PrintsAt, PrintsPart, SaysPlain, TellsWhy, has_details};
+ghost use Rattle.uf_reply.specs.Commands.{HasInput, IsAccepted, command_in, is_idle, of_command};
+ghost use Rattle.uf_reply.specs.Commands.{only_hashes, only_reads, reads_input, uses_host};
+ghost use Rattle.uf_top.specs.Endings.{EndsAs, FindsAll, FindsBy, Finishes, IsNotReady, IsRefusedBy, IsRule};
+ghost use Rattle.uf_top.specs.Endings.{IsSyncedFor, IsTextOf, PrintsAt, PrintsPart, SaysPlain, TellsWhy, has_details};
+ghost use Rattle.uf_top.specs.Losing.{EndsOver, StaysNamed, words_need};
 ghost use Rattle.uf_top.specs.Shapes.{WritesFor, is_done};
 ghost use Rattle.uf_top.specs.Working.{Serves, Works};
 ghost use Rattle.uf_reply.specs.Lines.{bad_block_line, clash_line, missing_line};
@@ -22,6 +29,7 @@ ghost use Rattle.uf_reply.specs.declared.types.Refusal.{Refusal as TheRefusal};
 ghost use Rattle.uf_reply.specs.declared.types.Refusal.TheVariants as refusals;
 
 use crate::adding::adds;
+use crate::taking::write_input;
 use crate::tree::{at, init};
 use std::alloc::Global;
 use std::sync::ledger::Ledger;
@@ -33,11 +41,12 @@ use uf_store::{Steps, Store};
 
 /// Does one command, which the words after the program's name say.
 ///
-/// `init` makes a store ready; `files mkdir`, `files ls`, `files stat` and `files rm` work on the tree that its Head names;
-/// `add` prints the CID of its input as a file (UnixFS v1; Kubo's balanced layout with raw leaves) and, without `-n`, keeps
-/// the file's blocks. Refused are first words that are none, then texts that are no paths, then a Head that doesn't do,
-/// then an input that is too long, and then what the rules of the command refuse. The status says how the command ended;
-/// after a refusal its line goes to `errors`, and a failed write of that line changes no status.
+/// `init` makes a store ready; `files mkdir`, `files ls`, `files stat`, `files write`, `files truncate`, `files cp`,
+/// `files mv` and `files rm` work on the tree that its Head names; `add` prints the CID of its input as a file (UnixFS
+/// v1; Kubo's balanced layout with raw leaves) and, without `-n`, keeps the file's blocks. Refused are first words that
+/// are none, then texts that are no paths, then a Head that doesn't do, then an input that is too long, and then what
+/// the rules of the command refuse. The status says how the command ended; after a refusal its line goes to `errors`,
+/// and a failed write of that line changes no status.
 pub fn run<S: Store, N: NameHash, W: Host, I: Source, O: Sink, E: Sink, L: Ledger>(
     alloc: Global,
     words: &[String],
@@ -48,24 +57,35 @@ pub fn run<S: Store, N: NameHash, W: Host, I: Source, O: Sink, E: Sink, L: Ledge
     errors: &mut E,
     touches: &mut Steps<L>,
 ) -> Status
-    // Over a store that stands for a tree and, where the command reads it, an input that tells, with no count risen and no
-    // clash met, the answer is the reply, or want of memory; whatever the input and the output do, no block is missing or bad.
+    // Over a store that stands for a tree and, where the command reads it, an input that tells, with no count risen and
+    // no clash met, the answer is the reply, or want of memory; whatever the input and the output do, no block is missing
+    // or bad.
     ensures replies { (standing : Standing) (bytes : List ℕ)
         → TellsAs S.X.block32 N.name64 (S.seen store.old).told standing
         → HasInput (command_in (map string_bytes words.now)) (I.left input.old) bytes (I.faults input.old)
         (I.faults input.new)
-        → Stood (S.seen store.old).faults (S.seen store.new).faults
-        → Stood (S.seen store.old).clashes (S.seen store.new).clashes
-        → Stood (O.faults output.old) (O.faults output.new)
+        → Calm (S.seen store.old) (S.seen store.new) → Stood (O.faults output.old) (O.faults output.new)
         → EndsAs (λ line. IsSent line (E.holds errors.old) (E.holds errors.new) (E.faults errors.old)
         (E.faults errors.new))
         S.X.block32 N.name64 standing (reply_to S.X.block32 N.name64 (command_in (map string_bytes words.now))
         standing bytes) result (O.holds output.old) (O.holds output.new) (S.seen store.new).told }
     ensures whole { (standing : Standing) → TellsAs S.X.block32 N.name64 (S.seen store.old).told standing
-        → Stood (S.seen store.old).faults (S.seen store.new).faults
-        → Stood (S.seen store.old).clashes (S.seen store.new).clashes → FindsAll result }
+        → Calm (S.seen store.old) (S.seen store.new) → FindsAll result }
 
-    // `init` refuses no block as not canonical and `add` looks for none, over every store.
+    // Over a tree that the Head names and of whose blocks some may be lost, the answer is the reply too, or one of the
+    // blocks that the command needs is lost; after Ok the new tree lacks no block that was held or is new.
+    ensures lost { (p : TheProfile) (es : Entries) (bytes : List ℕ)
+        → StaysNamed S.X.block32 N.name64 (S.seen store.old).told (S.seen store.new).told p es
+        → HasInput (command_in (map string_bytes words.now)) (I.left input.old) bytes (I.faults input.old)
+        (I.faults input.new)
+        → Calm (S.seen store.old) (S.seen store.new) → Stood (O.faults output.old) (O.faults output.new)
+        → EndsOver S.X.block32 N.name64 (S.seen store.old).told (S.seen store.new).told p es
+        (words_need S.X.block32 N.name64 (command_in (map string_bytes words.now)) p es)
+        (λ line. IsSent line (E.holds errors.old) (E.holds errors.new) (E.faults errors.old) (E.faults errors.new))
+        (reply_to S.X.block32 N.name64 (command_in (map string_bytes words.now)) (Stands p es) bytes)
+        result (O.holds output.old) (O.holds output.new) }
+
+    // `init` and `add` look for no block, over every store.
     ensures looks { (command : TheCommand) → command_in (map string_bytes words.now) ≡ Ok command
         → FindsBy (family_of command) result }
 
@@ -92,8 +112,8 @@ pub fn run<S: Store, N: NameHash, W: Host, I: Source, O: Sink, E: Sink, L: Ledge
         × IsSent (missing_line cid) (E.holds errors.old) (E.holds errors.new) (E.faults errors.old)
         (E.faults errors.new) }
     ensures bad_block { result ≡ Status.BadBlock → (cid : TheCid) × (role : TheRole)
-        × ShowsBadBlock S.X.block32 (IsBadIn N.name64 (S.seen store.old).told) cid role (S.seen store.old)
-        (S.seen store.new)
+        × ShowsBadBlock S.X.block32 (IsBadIn S.X.block32 N.name64 (S.seen store.old).told (S.seen store.new).told) cid
+        role (S.seen store.old) (S.seen store.new)
         × IsSent (bad_block_line cid role) (E.holds errors.old) (E.holds errors.new) (E.faults errors.old)
         (E.faults errors.new) }
     ensures clash { result ≡ Status.Clash → (cid : TheCid) × (held : List ℕ) × (bytes : List ℕ)
@@ -115,15 +135,13 @@ pub fn run<S: Store, N: NameHash, W: Host, I: Source, O: Sink, E: Sink, L: Ledge
     ensures read_told { I.faults input.old < I.faults input.new → result ≡ Status.ReadFault }
     ensures write_told { O.faults output.old < O.faults output.new → result ≡ Status.WriteFault }
 
-    // What is printed is printed whole at Ok, in part after a failed write, and else not at all; of `add` it is the row of the
-    // input, whose blocks have been made to outlive a stop.
+    // What is printed is printed whole at Ok, in part after a failed write, and else not at all; of `add` it is the row of
+    // the input, whose blocks have been made to outlive a stop.
     ensures prefix { (standing : Standing) (bytes : List ℕ)
         → TellsAs S.X.block32 N.name64 (S.seen store.old).told standing
         → HasInput (command_in (map string_bytes words.now)) (I.left input.old) bytes (I.faults input.old)
         (I.faults input.new)
-        → Stood (S.seen store.old).faults (S.seen store.new).faults
-        → Stood (S.seen store.old).clashes (S.seen store.new).clashes
-        → result ≡ Status.WriteFault
+        → Calm (S.seen store.old) (S.seen store.new) → result ≡ Status.WriteFault
         → PrintsPart (reply_to S.X.block32 N.name64 (command_in (map string_bytes words.now)) standing bytes).ends
         (O.holds output.old) (O.holds output.new) }
     ensures prints { PrintsAt (IsTextOf S.X.block32 (S.seen store.old).told (command_in (map string_bytes words.now))
@@ -135,21 +153,34 @@ pub fn run<S: Store, N: NameHash, W: Host, I: Source, O: Sink, E: Sink, L: Ledge
     ensures writes { WritesFor S.X.block32 (command_in (map string_bytes words.now)) (is_done result)
         (S.seen store.old).told (S.seen store.new).told }
 
-    // What is good stays, only a command that is done moves the Head, and some commands leave all as it was; so does
-    // `files mkdir -p` of a directory that is there.
+    // What is good stays, only a command that is done moves the Head, and some commands leave all as it was; so does an
+    // edit that has nothing to do.
     ensures good { KeepsGood S.X.block32 (S.seen store.old).told (S.seen store.new).told }
     ensures head { result ≢ Status.Ok → head_in (S.seen store.new).told ≡ head_in (S.seen store.old).told }
     ensures told { of_command only_reads true (command_in (map string_bytes words.now)) ≡ true
         → (S.seen store.new).told ≡ (S.seen store.old).told }
-    ensures idle { (p : TheProfile) (es : Entries)
-        → TellsAs S.X.block32 N.name64 (S.seen store.old).told (Stands p es)
+    ensures idle { (p : TheProfile) (es : Entries) (bytes : List ℕ)
+        → NamesOver S.X.block32 N.name64 (S.seen store.old).told p es
+        → HasInput (command_in (map string_bytes words.now)) (I.left input.old) bytes (I.faults input.old)
+        (I.faults input.new)
         → Stood (S.seen store.old).faults (S.seen store.new).faults
-        → of_command (is_idle es) false (command_in (map string_bytes words.now)) ≡ true
+        → of_command (is_idle bytes es) false (command_in (map string_bytes words.now)) ≡ true
         → (S.seen store.new).told ≡ (S.seen store.old).told }
     ensures host { of_command uses_host false (command_in (map string_bytes words.now)) ≡ false → host.new ≡ host.old }
     ensures input { of_command reads_input false (command_in (map string_bytes words.now)) ≡ false
         → input.new ≡ input.old }
-    ensures touches { of_command only_hashes true (command_in (map string_bytes words.now)) ≡ true
+
+    // The commands that work on a tree keep within their touches, also where they are refused, and `add -n` makes none;
+    // no block is called bad before one was touched.
+    ensures touches { (p : TheProfile) (es : Entries) (bytes : List ℕ) (rows : ℕ → ℕ)
+        → StaysNamed S.X.block32 N.name64 (S.seen store.old).told (S.seen store.new).told p es
+        → HasInput (command_in (map string_bytes words.now)) (I.left input.old) bytes (I.faults input.old)
+        (I.faults input.new)
+        → AreHeights p rows → Calm (S.seen store.old) (S.seen store.new)
+        → IfSome (words_touch S.X.block32 N.name64 rows bytes (command_in (map string_bytes words.now)) p es)
+        (λ most. touches.new ≤ touches.old + most) }
+    ensures touched { result ≡ Status.BadBlock → touches.old < touches.new }
+    ensures untouched { of_command only_hashes true (command_in (map string_bytes words.now)) ≡ true
         → touches.new ≡ touches.old }
 {
     let done = serve::<S, N, I, L>(alloc, words, store, input, touches);
@@ -165,11 +196,12 @@ fn serve<S: Store, N: NameHash, I: Source, L: Ledger>(
     touches: &mut Steps<L>,
 ) -> Result<Block, Refusal>
     ensures serves { Serves S.X.block32 N.name64 (command_in (map string_bytes words.now)) result (S.seen store.old)
-        (S.seen store.new) (I.left input.old) (I.left input.new) (I.faults input.old) (I.faults input.new) }
+        (S.seen store.new) (I.left input.old) (I.left input.new) (I.faults input.old) (I.faults input.new)
+        touches.old touches.new }
     ensures left { (why : TheRefusal) → command_in (map string_bytes words.now) ≡ Err why → store.new ≡ store.old }
     ensures input { of_command reads_input false (command_in (map string_bytes words.now)) ≡ false
         → input.new ≡ input.old }
-    ensures touches { of_command only_hashes true (command_in (map string_bytes words.now)) ≡ true
+    ensures untouched { of_command only_hashes true (command_in (map string_bytes words.now)) ≡ true
         → touches.new ≡ touches.old }
 {
     match read_command(alloc, words) {
@@ -188,14 +220,17 @@ fn work<S: Store, N: NameHash, I: Source, L: Ledger>(
 ) -> Result<Block, Refusal>
     requires { IsAccepted command.now }
     ensures works { Works S.X.block32 N.name64 command.now result (S.seen store.old) (S.seen store.new)
-        (I.left input.old) (I.left input.new) (I.faults input.old) (I.faults input.new) }
+        (I.left input.old) (I.left input.new) (I.faults input.old) (I.faults input.new) touches.old touches.new }
     ensures input { reads_input command.now ≡ false → input.new ≡ input.old }
-    ensures touches { only_hashes command.now ≡ true → touches.new ≡ touches.old }
+    ensures untouched { only_hashes command.now ≡ true → touches.new ≡ touches.old }
 {
     match command {
         Command::Init { profile } => init::<S, N, L>(alloc, *profile, store, touches),
         Command::Add { only_hash } => adds(alloc, *only_hash, store, input, touches),
-        Command::At { ask, path } => at::<S, N, L>(alloc, *ask, path, store, touches),
+        Command::WriteInput { how, path } => {
+            write_input::<S, N, I, L>(alloc, *how, path, store, input, touches)
+        }
+        Command::At { ask, path } => at::<S, N, L>(alloc, ask, path, store, touches),
     }
 }
 

@@ -39,10 +39,8 @@ pub fn file_of<S: Store, I: Source, L: Ledger>(
     ensures saves { SavesOnly S.X.block32 (S.seen store.old).told (S.seen store.new).told }
 {
     let mut builder = Builder::new(alloc, profile);
-    match feed_all(alloc, &mut builder, store, input, touches) {
-        Ok(()) => closed(builder, store, touches),
-        Err(why) => Err(why),
-    }
+    feed_all(alloc, &mut builder, store, input, touches)?;
+    closed(builder, store, touches)
 }
 
 // The entry of what a builder was fed.
@@ -66,7 +64,8 @@ fn closed<S: Store, L: Ledger>(
     }
 }
 
-// Feeds the builder all that is left: one piece, so that a short input costs no more than that, and then groups of pieces.
+// Feeds the builder all that is left: one piece, so that a short input costs no more than that, and then groups of
+// pieces.
 fn feed_all<S: Store, I: Source, L: Ledger>(
     alloc: Global,
     builder: &mut Builder,
@@ -74,7 +73,8 @@ fn feed_all<S: Store, I: Source, L: Ledger>(
     input: &mut I,
     touches: &mut Steps<L>,
 ) -> Result<(), Refusal>
-    ensures feeds { (p : TheProfile) → FeedsRest S.X.block32 p result (S.seen store.old).told (S.seen store.new).told builder.old builder.new (I.left input.old) (I.left input.new) }
+    ensures feeds { (p : TheProfile) → FeedsRest S.X.block32 p result (S.seen store.old).told (S.seen store.new).told
+        builder.old builder.new (I.left input.old) (I.left input.new) }
     ensures counts { Counts (is_read result) (I.faults input.old) (I.faults input.new) }
     ensures cause { ShownIn S.X.block32 result (S.seen store.old) (S.seen store.new) }
     ensures good { KeepsGood S.X.block32 (S.seen store.old).told (S.seen store.new).told }
@@ -83,10 +83,8 @@ fn feed_all<S: Store, I: Source, L: Ledger>(
     let Ok(mut piece) = zeros(alloc, PIECE) else {
         return Err(Refusal::Store(StoreFault::Memory));
     };
-    match feed_next(builder, store, input, &mut piece, touches) {
-        Ok(true) => {}
-        Ok(false) => return Ok(()),
-        Err(why) => return Err(why),
+    if !feed_next(builder, store, input, &mut piece, touches)? {
+        return Ok(());
     }
     let Ok(mut pieces) = zeros(alloc, GROUP * PIECE) else {
         return Err(Refusal::Store(StoreFault::Memory));
@@ -103,17 +101,16 @@ fn feed_rest<S: Store, I: Source, L: Ledger>(
     touches: &mut Steps<L>,
 ) -> Result<(), Refusal>
     requires { 0 < length buffer.old }
-    ensures feeds { (p : TheProfile) → FeedsRest S.X.block32 p result (S.seen store.old).told (S.seen store.new).told builder.old builder.new (I.left input.old) (I.left input.new) }
+    ensures feeds { (p : TheProfile) → FeedsRest S.X.block32 p result (S.seen store.old).told (S.seen store.new).told
+        builder.old builder.new (I.left input.old) (I.left input.new) }
     ensures counts { Counts (is_read result) (I.faults input.old) (I.faults input.new) }
     ensures cause { ShownIn S.X.block32 result (S.seen store.old) (S.seen store.new) }
     ensures good { KeepsGood S.X.block32 (S.seen store.old).told (S.seen store.new).told }
     ensures saves { SavesOnly S.X.block32 (S.seen store.old).told (S.seen store.new).told }
 {
     'pieces: loop {
-        match feed_next(builder, store, input, buffer, touches) {
-            Ok(true) => {}
-            Ok(false) => return Ok(()),
-            Err(why) => return Err(why),
+        if !feed_next(builder, store, input, buffer, touches)? {
+            return Ok(());
         }
     }
 }
@@ -127,7 +124,8 @@ fn feed_next<S: Store, I: Source, L: Ledger>(
     touches: &mut Steps<L>,
 ) -> Result<bool, Refusal>
     requires { 0 < length buffer.old }
-    ensures feeds { (p : TheProfile) → FeedsNext S.X.block32 p result (S.seen store.old).told (S.seen store.new).told builder.old builder.new (I.left input.old) (I.left input.new) }
+    ensures feeds { (p : TheProfile) → FeedsNext S.X.block32 p result (S.seen store.old).told (S.seen store.new).told
+        builder.old builder.new (I.left input.old) (I.left input.new) }
     ensures counts { Counts (is_read result) (I.faults input.old) (I.faults input.new) }
     ensures grows { result ≡ Ok true → GrowsBy (length buffer.new) builder.old builder.new }
     ensures cause { ShownIn S.X.block32 result (S.seen store.old) (S.seen store.new) }
@@ -135,14 +133,14 @@ fn feed_next<S: Store, I: Source, L: Ledger>(
     ensures saves { SavesOnly S.X.block32 (S.seen store.old).told (S.seen store.new).told }
 {
     match fill(input, buffer) {
-        Filled::Full => match feed_piece(builder, store, buffer, touches) {
-            Ok(()) => Ok(true),
-            Err(why) => Err(why),
-        },
-        Filled::Ended(count) => match feed_piece(builder, store, &buffer[..count], touches) {
-            Ok(()) => Ok(false),
-            Err(why) => Err(why),
-        },
+        Filled::Full => {
+            feed_piece(builder, store, buffer, touches)?;
+            Ok(true)
+        }
+        Filled::Ended(count) => {
+            feed_piece(builder, store, &buffer[..count], touches)?;
+            Ok(false)
+        }
         Filled::Failed => Err(Refusal::Read),
     }
 }
@@ -154,7 +152,8 @@ fn feed_piece<S: Store, L: Ledger>(
     piece: &[u8],
     touches: &mut Steps<L>,
 ) -> Result<(), Refusal>
-    ensures feeds { (p : TheProfile) → FeedsPiece S.X.block32 p piece.now result (S.seen store.old).told (S.seen store.new).told builder.old builder.new }
+    ensures feeds { (p : TheProfile) → FeedsPiece S.X.block32 p piece.now result (S.seen store.old).told
+        (S.seen store.new).told builder.old builder.new }
     ensures count { OnOk result (GrowsBy (length piece.now) builder.old builder.new) }
     ensures reads { is_read result ≡ false }
     ensures cause { ShownIn S.X.block32 result (S.seen store.old) (S.seen store.new) }

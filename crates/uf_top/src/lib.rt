@@ -4,6 +4,8 @@
 mod adding;
 mod command;
 mod intake;
+pub mod laws;
+mod taking;
 mod tree;
 
 pub use command::run;

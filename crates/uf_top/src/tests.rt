@@ -40,6 +40,8 @@ pub enum Step {
     AddsOver(Streams, u8, &'static [u8]),
     // `add -n` over outputs with room for the first bytes of its row, and at last for the whole of it.
     AddsCut,
+    // A command that is done. Of a stop before its last write this is told then, and of one after it that.
+    Stops(&'static str, Row<'static>, Row<'static>),
 }
 
 // The room of an output, and the calls that are to fail.
@@ -60,15 +62,15 @@ const FINE: Streams = Streams {
 
 // A command: its words and its input, and what is to come of it.
 #[derive(Clone, Copy)]
-struct Row<'a> {
-    words: &'a str,
-    input: &'a [u8],
-    status: u8,
-    output: &'a [u8],
-    errors: &'a [u8],
+pub struct Row<'a> {
+    pub words: &'a str,
+    pub input: &'a [u8],
+    pub status: u8,
+    pub output: &'a [u8],
+    pub errors: &'a [u8],
 }
 
-const DONE: Row<'static> = Row {
+pub const DONE: Row<'static> = Row {
     words: "",
     input: b"",
     status: 0,
@@ -258,6 +260,47 @@ fn writes_so(step: &Step, writes: bool) -> bool {
     }
 }
 
+// Whether this is told of the store after a stop behind so many writes, where all saves outlived it or where all that
+// could be lost are lost.
+fn stops_so<L: Ledger>(
+    alloc: Global,
+    at: usize,
+    row: &Row,
+    store: &Kept,
+    touches: &mut Steps<L>,
+) -> Result<bool, Memory> {
+    if store.writes() < at {
+        return Ok(false);
+    }
+    let mut places = Calls::new(alloc);
+    let mut kept = store.after_stop(at, &places)?;
+    for place in 0..at as u64 {
+        places.push(place)?;
+    }
+    let mut lost = store.after_stop(at, &places)?;
+    Ok(ends(alloc, row, &FINE, &mut kept, touches)? && ends(alloc, row, &FINE, &mut lost, touches)?)
+}
+
+// Whether a command is done, and a stop at each of its writes leaves what it should.
+fn stops_well<L: Ledger>(
+    alloc: Global,
+    rows: [&Row; 3],
+    store: &mut Kept,
+    touches: &mut Steps<L>,
+) -> Result<bool, Memory> {
+    let [done, before, after] = rows;
+    let first = store.writes();
+    if !ends(alloc, done, &FINE, store, touches)? {
+        return Ok(false);
+    }
+    for at in first..store.writes() {
+        if !stops_so(alloc, at, before, store, touches)? {
+            return Ok(false);
+        }
+    }
+    stops_so(alloc, store.writes(), after, store, touches)
+}
+
 fn streams_of(step: &Step) -> Streams {
     match step {
         Step::AddsOver(streams, _, _) => *streams,
@@ -274,6 +317,13 @@ fn is_right<L: Ledger>(
     match step {
         Step::AddsZeros(count, output) => adds_zeros(alloc, *count, *output, store, touches),
         Step::AddsCut => are_cut(alloc, store, touches),
+        Step::Stops(words, before, after) => {
+            let done = Row {
+                words: *words,
+                ..DONE
+            };
+            stops_well(alloc, [&done, before, after], store, touches)
+        }
         _ => match row_of(step) {
             Some(row) => {
                 let before = store.writes();

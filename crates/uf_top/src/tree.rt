@@ -1,22 +1,12 @@
 // The commands on the tree that the Head names.
-ghost use Rattle.std.specs.Prelude.{◌≡◌, ℕ, false, true, IsTrue, Ok, Some};
-ghost use Rattle.uf_edge.specs.Counts.{Stood};
+ghost use Rattle.std.specs.Prelude.{ℕ, false, true, IsTrue};
 ghost use Rattle.uf_edge.specs.Streams.{Told as Left};
-ghost use Rattle.uf_mfs.specs.Answers.{MovesTo, ShownInTree};
-ghost use Rattle.uf_mfs.specs.Bad.{IsBad};
-ghost use Rattle.uf_plain.specs.Edits.{at as at_names};
-ghost use Rattle.uf_mfs.specs.Standing.{IsMfs, StandsAt};
-ghost use Rattle.uf_store.specs.Keeping.{KeepsGood};
-ghost use Rattle.uf_store.specs.Writing.{SavesOnly};
+ghost use Rattle.uf_mfs.specs.Standing.{IsMfs};
 ghost use Rattle.uf_tree.specs.Profiles.{is_profile};
-ghost use Rattle.uf_tree.specs.Tree.{Dir, Entries};
-ghost use Rattle.uf_tree.specs.declared.profile.Profile.{Profile as TheProfile};
 ghost use Rattle.uf_top.specs.Causes.{IsMade, IsOpeningFault, IsTreeFault, RefusesInTree, RefusesOpening};
-ghost use Rattle.uf_top.specs.Working.{Works, WorksAt};
-ghost use Rattle.uf_reply.specs.Reply.{edited_by};
+ghost use Rattle.uf_top.specs.Working.{EditsInMemory, Works, WorksAt};
 ghost use Rattle.uf_reply.specs.declared.types.Ask.TheVariants as asks;
 ghost use Rattle.uf_reply.specs.declared.types.Command.TheVariants as commands;
-ghost use Rattle.uf_reply.specs.declared.types.Edit.TheVariants as edits;
 
 use std::alloc::Global;
 use std::sync::ledger::Ledger;
@@ -25,7 +15,7 @@ use uf_mfs::{Mfs, MfsFault};
 use uf_murmur::NameHash;
 use uf_path::Path;
 use uf_reply::{Ask, Edit, Refusal, name_lines, row_lines, stat_text};
-use uf_store::{Steps, Store, StoreFault};
+use uf_store::{Steps, Store};
 use uf_tree::Profile;
 
 // Makes the store ready.
@@ -37,7 +27,7 @@ pub fn init<S: Store, N: NameHash, L: Ledger>(
 ) -> Result<Block, Refusal>
     requires { IsTrue (is_profile profile) }
     ensures { (left : Left) (reads : ℕ) → Works S.X.block32 N.name64 (commands.Init profile) result (S.seen store.old)
-        (S.seen store.new) left left reads reads }
+        (S.seen store.new) left left reads reads touches.old touches.new }
 {
     match Mfs::init::<S, N, L>(alloc, store, profile, touches) {
         Err(fault) => Err(opening(fault)),
@@ -51,14 +41,14 @@ pub fn init<S: Store, N: NameHash, L: Ledger>(
 // Does what is asked at a path of the tree that the Head names.
 pub fn at<S: Store, N: NameHash, L: Ledger>(
     alloc: Global,
-    ask: Ask,
+    ask: &Ask,
     path: &Path,
     store: &mut S,
     touches: &mut Steps<L>,
 ) -> Result<Block, Refusal>
     ensures { (left : Left) (reads : ℕ)
-        → Works S.X.block32 N.name64 (commands.At ask path.now) result (S.seen store.old)
-        (S.seen store.new) left left reads reads }
+        → Works S.X.block32 N.name64 (commands.At ask.now path.now) result (S.seen store.old)
+        (S.seen store.new) left left reads reads touches.old touches.new }
 {
     match Mfs::from_store::<S, N, L>(alloc, store, touches) {
         Err(fault) => Err(opening(fault)),
@@ -70,13 +60,14 @@ pub fn at<S: Store, N: NameHash, L: Ledger>(
 fn in_tree<S: Store, N: NameHash, L: Ledger>(
     alloc: Global,
     tree: Mfs,
-    ask: Ask,
+    ask: &Ask,
     path: &Path,
     store: &mut S,
     touches: &mut Steps<L>,
 ) -> Result<Block, Refusal>
     requires { IsMfs tree }
-    ensures { WorksAt S.X.block32 N.name64 tree ask path.now result (S.seen store.old) (S.seen store.new) }
+    ensures { WorksAt S.X.block32 N.name64 tree ask.now path.now result (S.seen store.old) (S.seen store.new)
+        touches.old touches.new }
 {
     match ask {
         Ask::Ls { long: false } => names_at::<S, N, L>(alloc, &tree, path, store, touches),
@@ -95,7 +86,7 @@ fn names_at<S: Store, N: NameHash, L: Ledger>(
     touches: &mut Steps<L>,
 ) -> Result<Block, Refusal>
     ensures { WorksAt S.X.block32 N.name64 tree.now (asks.Ls false) path.now result (S.seen store.old)
-        (S.seen store.new) }
+        (S.seen store.new) touches.old touches.new }
 {
     match tree.names::<S, N, L>(alloc, store, path, touches) {
         Err(fault) => Err(refusal(fault)),
@@ -112,7 +103,7 @@ fn rows_at<S: Store, N: NameHash, L: Ledger>(
     touches: &mut Steps<L>,
 ) -> Result<Block, Refusal>
     ensures { WorksAt S.X.block32 N.name64 tree.now (asks.Ls true) path.now result (S.seen store.old)
-        (S.seen store.new) }
+        (S.seen store.new) touches.old touches.new }
 {
     match tree.ls::<S, N, L>(alloc, store, path, touches) {
         Err(fault) => Err(refusal(fault)),
@@ -128,7 +119,8 @@ fn stat_at<S: Store, N: NameHash, L: Ledger>(
     store: &mut S,
     touches: &mut Steps<L>,
 ) -> Result<Block, Refusal>
-    ensures { WorksAt S.X.block32 N.name64 tree.now asks.Stat path.now result (S.seen store.old) (S.seen store.new) }
+    ensures { WorksAt S.X.block32 N.name64 tree.now asks.Stat path.now result (S.seen store.old) (S.seen store.new)
+        touches.old touches.new }
 {
     match tree.stat::<S, N, L>(alloc, store, path, touches) {
         Err(fault) => Err(refusal(fault)),
@@ -137,16 +129,17 @@ fn stat_at<S: Store, N: NameHash, L: Ledger>(
 }
 
 // Edits the tree at a path, and writes its Head. Nothing is printed.
-fn edit_at<S: Store, N: NameHash, L: Ledger>(
+pub fn edit_at<S: Store, N: NameHash, L: Ledger>(
     alloc: Global,
     tree: Mfs,
-    edit: Edit,
+    edit: &Edit,
     path: &Path,
     store: &mut S,
     touches: &mut Steps<L>,
 ) -> Result<Block, Refusal>
     requires { IsMfs tree }
-    ensures { WorksAt S.X.block32 N.name64 tree (asks.Edit edit) path.now result (S.seen store.old) (S.seen store.new) }
+    ensures { WorksAt S.X.block32 N.name64 tree (asks.Edit edit.now) path.now result (S.seen store.old)
+        (S.seen store.new) touches.old touches.new }
 {
     let mut tree = tree;
     match edited::<S, N, L>(alloc, &mut tree, edit, path, store, touches) {
@@ -162,37 +155,32 @@ fn edit_at<S: Store, N: NameHash, L: Ledger>(
 fn edited<S: Store, N: NameHash, L: Ledger>(
     alloc: Global,
     tree: &mut Mfs,
-    edit: Edit,
+    edit: &Edit,
     path: &Path,
     store: &mut S,
     touches: &mut Steps<L>,
 ) -> Result<(), MfsFault>
     requires { IsMfs tree.old }
-    ensures answer { (p : TheProfile) (es : Entries)
-        → StandsAt S.X.block32 N.name64 (S.seen store.old).told tree.old p es
-        → Stood (S.seen store.old).faults (S.seen store.new).faults
-        → Stood (S.seen store.old).clashes (S.seen store.new).clashes
-        → MovesTo S.X.block32 N.name64 (S.seen store.new).told p path.now.names tree.new (edited_by S.X.block32
-        N.name64 edit path.now.names p es) result }
-    ensures there { (p : TheProfile) (es below : Entries)
-        → StandsAt S.X.block32 N.name64 (S.seen store.old).told tree.old p es
-        → Stood (S.seen store.old).faults (S.seen store.new).faults
-        → edit ≡ edits.Mkdir true → at_names 0 path.now.names (Dir es) ≡ Ok (Dir below)
-        → ((S.seen store.new).told ≡ (S.seen store.old).told) × (tree.new ≡ tree.old) }
+    ensures edits { EditsInMemory S.X.block32 N.name64 tree.old tree.new edit.now path.now result (S.seen store.old)
+        (S.seen store.new) touches.old touches.new }
     ensures mfs { IsMfs tree.new }
-    ensures cause { ShownInTree S.X.block32 (IsBad N.name64 (Some tree.old.profile)) result (S.seen store.old)
-        (S.seen store.new) }
-    ensures good { KeepsGood S.X.block32 (S.seen store.old).told (S.seen store.new).told }
-    ensures saves { SavesOnly S.X.block32 (S.seen store.old).told (S.seen store.new).told }
 {
     match edit {
-        Edit::Mkdir { parents } => { tree.mkdir::<S, N, L>(alloc, store, path, parents, touches) }
-        Edit::Rm { recursive } => tree.rm::<S, N, L>(alloc, store, path, recursive, touches),
+        Edit::Mkdir { parents } => tree.mkdir::<S, N, L>(alloc, store, path, *parents, touches),
+        Edit::Rm { recursive } => tree.rm::<S, N, L>(alloc, store, path, *recursive, touches),
+        Edit::Write { how, piece } => {
+            tree.write::<S, N, L>(alloc, store, path, how, piece.as_slice(), touches)
+        }
+        Edit::Truncate { length } => {
+            tree.truncate::<S, N, L>(alloc, store, path, *length, touches)
+        }
+        Edit::Cp { dest } => tree.cp::<S, N, L>(alloc, store, path, dest, touches),
+        Edit::Mv { dest } => tree.mv::<S, N, L>(alloc, store, path, dest, touches),
     }
 }
 
 // The fault of a call that opens a tree as a refusal. No rule refuses that, and nothing is printed there.
-fn opening(fault: MfsFault) -> Refusal
+pub fn opening(fault: MfsFault) -> Refusal
     requires { IsOpeningFault fault }
     ensures { RefusesOpening fault result }
 {
@@ -219,8 +207,5 @@ fn refusal(fault: MfsFault) -> Refusal
 fn made(text: Result<Block, Memory>) -> Result<Block, Refusal>
     ensures { IsMade text result }
 {
-    match text {
-        Ok(text) => Ok(text),
-        Err(_) => Err(Refusal::Store(StoreFault::Memory)),
-    }
+    Ok(text?)
 }

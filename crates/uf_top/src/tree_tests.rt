@@ -1,5 +1,5 @@
 // Rows of commands on the tree. CIDs and sizes were computed outside of this program.
-use crate::tests::{HELLO, Step, first_wrong};
+use crate::tests::{DONE, HELLO, Row, Step, first_wrong};
 use uf_store::CallKind;
 
 // The block of the empty directory.
@@ -71,6 +71,69 @@ const FOLDERS: [Step; 23] = [
 #[test]
 fn directories_are_made_and_taken_away(rt: HostRuntime) {
     assert_eq!(rt; first_wrong(rt.alloc(), &FOLDERS), None);
+}
+
+// A file with the bytes `hello world`, as it is listed at length.
+const HELLO_LISTED: &[u8] = b"f\tbafkreifzjut3te2nhyekklss27nh3k72ysco7y32koao5eei66wof36n5e\t11\n";
+
+// Bytes are written into files, and files are cut.
+const FILES: [Step; 19] = [
+    Step::Does("init"),
+    Step::Refuses("files write -x 68 /f", 1, b"error: rule NotFound /f\n"),
+    Step::Refuses("files write /f", 1, b"error: rule NotFound /f\n"),
+    Step::Does("files write -e -x 68656c6c6f20776f726c64 /f"),
+    Step::Prints("files ls -l", HELLO_LISTED),
+    Step::Does("files truncate /f 5"),
+    Step::Does("files write --offset 5 --hex 20776f726c64 /f"),
+    Step::Prints("files ls -l", HELLO_LISTED),
+    Step::Refuses(
+        "files truncate /f 1099511627777",
+        1,
+        b"error: rule FileTooLong\n",
+    ),
+    Step::Does("files truncate /f 20"),
+    Step::Does("files truncate /f 11"),
+    Step::Prints("files ls -l", HELLO_LISTED),
+    Step::Does("files mkdir /d"),
+    Step::Refuses("files truncate /d 1", 1, b"error: rule IsADirectory /d\n"),
+    Step::Refuses("files write -x 00 /d", 1, b"error: rule IsADirectory /d\n"),
+    Step::Adds("files write -t /f", b"", b""),
+    Step::Adds("files write /f", b"h", b""),
+    Step::Does("files write -o 1 -x 656c6c6f20776f726c64 /f"),
+    Step::Prints("files ls -l /f", HELLO_LISTED),
+];
+
+#[test]
+fn files_are_written_into_and_cut(rt: HostRuntime) {
+    assert_eq!(rt; first_wrong(rt.alloc(), &FILES), None);
+}
+
+// What is in the tree is copied and moved.
+const MOVES: [Step; 19] = [
+    Step::Does("init"),
+    Step::Does("files write -e -x 68656c6c6f20776f726c64 /f"),
+    Step::Does("files cp /f /g"),
+    Step::Refuses("files cp /f /g", 1, b"error: rule Exists /g\n"),
+    Step::Refuses("files cp /ipfs/x /h", 2, b"error: usage\n"),
+    Step::Refuses("files cp /q /h", 1, b"error: rule NotFound /q\n"),
+    Step::Refuses("files cp /f h", 1, b"error: rule BadPath 1 0\n"),
+    Step::Does("files mkdir /d"),
+    Step::Does("files mv /g /d"),
+    Step::Prints("files ls /d", b"g\n"),
+    Step::Does("files cp /f /d/"),
+    Step::Prints("files ls /d", b"f\ng\n"),
+    Step::Refuses("files mv /d /d/e", 1, b"error: rule Inside /d /d/e\n"),
+    Step::Refuses("files mv / /d", 1, b"error: rule RootRefused\n"),
+    Step::Prints("files mv /d/g /d/g", b""),
+    Step::Does("files mv /d/g /f"),
+    Step::Does("files rm -r /d"),
+    Step::Refuses("files mv /d /e", 1, b"error: rule NotFound /d\n"),
+    Step::Prints("files ls -l", HELLO_LISTED),
+];
+
+#[test]
+fn what_is_there_is_copied_and_moved(rt: HostRuntime) {
+    assert_eq!(rt; first_wrong(rt.alloc(), &MOVES), None);
 }
 
 // Directories of the same names have one root, whatever was done before.
@@ -177,4 +240,35 @@ const LOST: [Step; 7] = [
 #[test]
 fn a_lost_root_is_missing(rt: HostRuntime) {
     assert_eq!(rt; first_wrong(rt.alloc(), &LOST), None);
+}
+
+// What is told of the root of a store.
+const NOT_READY: Row<'static> = Row {
+    words: "files stat /",
+    status: 10,
+    errors: b"error: not ready 1\n",
+    ..DONE
+};
+
+const NOTHING_THERE: Row<'static> = Row {
+    words: "files stat /",
+    output: STAT_NOTHING,
+    ..DONE
+};
+
+const D_THERE: Row<'static> = Row {
+    words: "files stat /",
+    output: STAT_D,
+    ..DONE
+};
+
+const STOPS: [Step; 3] = [
+    Step::Stops("init", NOT_READY, NOTHING_THERE),
+    Step::Stops("files mkdir /d", NOTHING_THERE, D_THERE),
+    Step::Prints("files stat /", STAT_D),
+];
+
+#[test]
+fn a_stop_leaves_what_was_there_or_what_was_made(rt: HostRuntime) {
+    assert_eq!(rt; first_wrong(rt.alloc(), &STOPS), None);
 }

@@ -7,13 +7,13 @@ use Rattle.uf_top.proofs.command.serve.Goals as goal
 
 pub returns-in-Err-clause-serves : goal.returns-in-Err-clause-serves
 returns-in-Err-clause-serves g c =
-    words-serve g.S.X.BlockHash.block32 g.N.NameHash.name64 (g.S.Store.seen c.args.store.now) (g.I.Source.left c.args.input.now) (g.I.Source.faults c.args.input.now)
+    words-serve g.S.X.BlockHash.block32 g.N.NameHash.name64 (g.S.Store.seen c.args.store.now) (g.I.Source.left c.args.input.now) (g.I.Source.faults c.args.input.now) c.args.touches.now
     (command_in (map string_bytes c.args.words.now)) c.in-Err.why c.in-Err.ensures.asked
 
 pub returns-in-Ok-clause-serves : goal.returns-in-Ok-clause-serves
 returns-in-Ok-clause-serves g c =
     subst (λ asked. Serves g.S.X.BlockHash.block32 g.N.NameHash.name64 asked c.work.result (g.S.Store.seen c.args.store.now) (g.S.Store.seen c.work.new.store)
-    (g.I.Source.left c.args.input.now) (g.I.Source.left c.work.new.input) (g.I.Source.faults c.args.input.now) (g.I.Source.faults c.work.new.input))
+    (g.I.Source.left c.args.input.now) (g.I.Source.left c.work.new.input) (g.I.Source.faults c.args.input.now) (g.I.Source.faults c.work.new.input) c.args.touches.now c.work.new.touches)
     (sym c.in-Ok.ensures.asked) c.work.ensures.works
 
 pub returns-in-Ok-clause-left : goal.returns-in-Ok-clause-left
@@ -22,5 +22,5 @@ returns-in-Ok-clause-left g c = λ why is. absurd (let e : Ok c.in-Ok.command �
 pub returns-in-Ok-clause-input : goal.returns-in-Ok-clause-input
 returns-in-Ok-clause-input g c = λ is. c.work.ensures.input (ap (of_command reads_input false) (sym c.in-Ok.ensures.asked) ∙ is)
 
-pub returns-in-Ok-clause-touches : goal.returns-in-Ok-clause-touches
-returns-in-Ok-clause-touches g c = λ is. c.work.ensures.touches (ap (of_command only_hashes true) (sym c.in-Ok.ensures.asked) ∙ is)
+pub returns-in-Ok-clause-untouched : goal.returns-in-Ok-clause-untouched
+returns-in-Ok-clause-untouched g c = λ is. c.work.ensures.untouched (ap (of_command only_hashes true) (sym c.in-Ok.ensures.asked) ∙ is)

@@ -5,17 +5,23 @@ use Rattle.uf_top.proofs.command.work.Goals as goal
 pub returns-in-Init-clause-works : goal.returns-in-Init-clause-works
 returns-in-Init-clause-works g c =
     let l = g.I.Source.left c.args.input.now in let i = g.I.Source.faults c.args.input.now in
-    subst (λ command. Works g.S.X.BlockHash.block32 g.N.NameHash.name64 command c.init.result (g.S.Store.seen c.args.store.now) (g.S.Store.seen c.init.new.store) l l i i)
+    subst (λ command. Works g.S.X.BlockHash.block32 g.N.NameHash.name64 command c.init.result (g.S.Store.seen c.args.store.now) (g.S.Store.seen c.init.new.store) l l i i c.args.touches.now c.init.new.touches)
     (sym c.in-Init.is) (c.init.ensures l i)
 
 pub returns-in-Add-clause-works : goal.returns-in-Add-clause-works
 returns-in-Add-clause-works g c =
     subst (λ command. Works g.S.X.BlockHash.block32 g.N.NameHash.name64 command c.adds.result (g.S.Store.seen c.args.store.now) (g.S.Store.seen c.adds.new.store)
-    (g.I.Source.left c.args.input.now) (g.I.Source.left c.adds.new.input) (g.I.Source.faults c.args.input.now) (g.I.Source.faults c.adds.new.input))
+    (g.I.Source.left c.args.input.now) (g.I.Source.left c.adds.new.input) (g.I.Source.faults c.args.input.now) (g.I.Source.faults c.adds.new.input) c.args.touches.now c.adds.new.touches)
     (sym c.in-Add.is) (c.adds.ensures.works g.N.NameHash.name64)
 
 pub returns-in-At-clause-works : goal.returns-in-At-clause-works
 returns-in-At-clause-works g c =
     let l = g.I.Source.left c.args.input.now in let i = g.I.Source.faults c.args.input.now in
-    subst (λ command. Works g.S.X.BlockHash.block32 g.N.NameHash.name64 command c.at.result (g.S.Store.seen c.args.store.now) (g.S.Store.seen c.at.new.store) l l i i)
+    subst (λ command. Works g.S.X.BlockHash.block32 g.N.NameHash.name64 command c.at.result (g.S.Store.seen c.args.store.now) (g.S.Store.seen c.at.new.store) l l i i c.args.touches.now c.at.new.touches)
     (sym c.in-At.is) (c.at.ensures l i)
+
+pub returns-in-WriteInput-clause-works : goal.returns-in-WriteInput-clause-works
+returns-in-WriteInput-clause-works g c =
+    subst (λ command. Works g.S.X.BlockHash.block32 g.N.NameHash.name64 command c.write_input.result (g.S.Store.seen c.args.store.now) (g.S.Store.seen c.write_input.new.store)
+    (g.I.Source.left c.args.input.now) (g.I.Source.left c.write_input.new.input) (g.I.Source.faults c.args.input.now) (g.I.Source.faults c.write_input.new.input) c.args.touches.now c.write_input.new.touches)
+    (sym c.in-WriteInput.is) c.write_input.ensures

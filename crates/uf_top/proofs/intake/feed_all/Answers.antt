@@ -1,16 +1,18 @@
-use Rattle.uf_store.proofs.Keeping.{KeepsGood-trans}
+use Rattle.std.proofs.lemmas.Result.{err_from_is_err_and}
 use Rattle.uf_store.proofs.Writing.{SavesOnly-trans}
 use Rattle.uf_top.proofs.Feeding.{FeedsRest-after, last_of, part_of}
 use Rattle.uf_top.proofs.intake.feed_all.Goals as goal
 
-pub returns-in-Ok-false-clause-feeds : goal.returns-in-Ok-false-clause-feeds
-returns-in-Ok-false-clause-feeds g c = λ p. last_of _ p _ _ _ _ _ _ _ c.in-Ok-false.field-0-test (c.in-Ok-false.ensures.feeds p)
+pub returns-in_err-feed_next-clause-feeds : goal.returns-in_err-feed_next-clause-feeds
+returns-in_err-feed_next-clause-feeds g c = λ p.
+    let out = err_from_is_err_and c.from_residual.result c.from_residual.ensures.1 in
+    rw (out.1, out.2) (c.in_err-feed_next.ensures.feeds p)
+
+pub returns-then-not-branch-clause-feeds : goal.returns-then-not-branch-clause-feeds
+returns-then-not-branch-clause-feeds g c = λ p. last_of _ p _ _ _ _ _ _ _ c.if-not-branch.true (c.in_ok-feed_next.ensures.feeds p)
 
 pub returns-clause-feeds : goal.returns-clause-feeds
-returns-clause-feeds g c = λ p. FeedsRest-after _ p _ _ _ _ _ _ _ _ _ _ (part_of _ p _ _ _ _ _ _ _ c.in-Ok-true.field-0-test (c.in-Ok-true.ensures.feeds p)) (c.feed_rest.ensures.feeds p)
-
-pub returns-clause-good : goal.returns-clause-good
-returns-clause-good g c = KeepsGood-trans _ _ _ _ c.in-Ok-true.ensures.good c.feed_rest.ensures.good
+returns-clause-feeds g c = λ p. FeedsRest-after _ p _ _ _ _ _ _ _ _ _ _ (part_of _ p _ _ _ _ _ _ _ c.if-not-branch.false (c.in_ok-feed_next.ensures.feeds p)) (c.feed_rest.ensures.feeds p)
 
 pub returns-clause-saves : goal.returns-clause-saves
-returns-clause-saves g c = SavesOnly-trans _ _ _ _ c.in-Ok-true.ensures.saves c.feed_rest.ensures.saves
+returns-clause-saves g c = SavesOnly-trans _ _ _ _ c.in_ok-feed_next.ensures.saves c.feed_rest.ensures.saves

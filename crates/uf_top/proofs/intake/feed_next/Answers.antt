@@ -1,27 +1,25 @@
-use Rattle.std.proofs.Common.{sym, subst, take}
-use Rattle.uf_edge.specs.Counts.{Counts}
+use Rattle.std.proofs.Common.{take}
+use Rattle.std.proofs.lemmas.Result.{err_from_is_err_and}
 use Rattle.uf_top.proofs.Feeding.{stopped-more}
 use Rattle.uf_top.proofs.intake.feed_next.Goals as goal
 
-pub returns-in-Ok-clause-feeds : goal.returns-in-Ok-clause-feeds
-returns-in-Ok-clause-feeds g c = λ p. record { bytes = c.fill.new.buffer; feeds = record { taken = c.in-Full.ensures.bytes; fed = c.in-Ok.ensures.feeds p } }
+pub returns-in_ok-feed_piece-in-Full-clause-feeds : goal.returns-in_ok-feed_piece-in-Full-clause-feeds
+returns-in_ok-feed_piece-in-Full-clause-feeds g c = λ p. record { bytes = c.fill.new.buffer; feeds = record { taken = c.in-Full.ensures.bytes; fed = c.in_ok-feed_piece-in-Full.ensures.feeds p } }
 
-pub returns-in-Err-clause-feeds : goal.returns-in-Err-clause-feeds
-returns-in-Err-clause-feeds g c = λ p. stopped-more _ _ c.in-Err.why (λ many. record { bytes = c.fill.new.buffer; taken = c.in-Full.ensures.bytes; many = many }) (c.in-Err.ensures.feeds p)
+pub returns-in_err-feed_piece-in-Full-clause-feeds : goal.returns-in_err-feed_piece-in-Full-clause-feeds
+returns-in_err-feed_piece-in-Full-clause-feeds g c = λ p.
+    let out = err_from_is_err_and c.from_residual.result c.from_residual.ensures.1 in
+    rw (out.1, out.2) (stopped-more _ _ c.in_err-feed_piece-in-Full.field-0.0 (λ many. record { bytes = c.fill.new.buffer; taken = c.in-Full.ensures.bytes; many = many }) (c.in_err-feed_piece-in-Full.ensures.feeds p))
 
-pub returns-in-Err-clause-counts : goal.returns-in-Err-clause-counts
-returns-in-Err-clause-counts g c = subst (λ b. Counts b (g.I.Source.faults c.args.input.now) (g.I.Source.faults c.fill.new.input)) (sym c.in-Err.ensures.reads) c.in-Full.ensures.counts
-
-pub returns-in-Ok-feed_piece-clause-feeds : goal.returns-in-Ok-feed_piece-clause-feeds
-returns-in-Ok-feed_piece-clause-feeds g c = λ p. record {
+pub returns-in_ok-feed_piece-in-Ended-clause-feeds : goal.returns-in_ok-feed_piece-in-Ended-clause-feeds
+returns-in_ok-feed_piece-in-Ended-clause-feeds g c = λ p. record {
   bytes = take c.in-Ended.count c.fill.new.buffer;
-  feeds = record { taken = c.in-Ended.ensures.bytes.taken; fed = c.in-Ok-feed_piece.ensures.feeds p };
+  feeds = record { taken = c.in-Ended.ensures.bytes.taken; fed = c.in_ok-feed_piece-in-Ended.ensures.feeds p };
   nothing_left = c.in-Ended.ensures.bytes.nothing_left;
 }
 
-pub returns-in-Err-feed_piece-clause-feeds : goal.returns-in-Err-feed_piece-clause-feeds
-returns-in-Err-feed_piece-clause-feeds g c = λ p.
-    stopped-more _ _ c.in-Err-feed_piece.why (λ many. record { bytes = take c.in-Ended.count c.fill.new.buffer; taken = c.in-Ended.ensures.bytes.taken; many = many }) (c.in-Err-feed_piece.ensures.feeds p)
-
-pub returns-in-Err-feed_piece-clause-counts : goal.returns-in-Err-feed_piece-clause-counts
-returns-in-Err-feed_piece-clause-counts g c = subst (λ b. Counts b (g.I.Source.faults c.args.input.now) (g.I.Source.faults c.fill.new.input)) (sym c.in-Err-feed_piece.ensures.reads) c.in-Ended.ensures.counts
+pub returns-in_err-feed_piece-in-Ended-clause-feeds : goal.returns-in_err-feed_piece-in-Ended-clause-feeds
+returns-in_err-feed_piece-in-Ended-clause-feeds g c = λ p.
+    let out = err_from_is_err_and c.from_residual-in_err-feed_piece-in-Ended.result c.from_residual-in_err-feed_piece-in-Ended.ensures.1 in
+    rw (out.1, out.2)
+    (stopped-more _ _ c.in_err-feed_piece-in-Ended.field-0.0 (λ many. record { bytes = take c.in-Ended.count c.fill.new.buffer; taken = c.in-Ended.ensures.bytes.taken; many = many }) (c.in_err-feed_piece-in-Ended.ensures.feeds p))

@@ -11,11 +11,11 @@ opening-requires g c = opening-fault Mfs g.S.X.BlockHash.block32 (IsBad g.N.Name
 pub returns-in-Err : goal.returns-in-Err
 returns-in-Err g c = λ left reads.
     let e = c.in-Err.ensures in
-    at-refused g.S.X.BlockHash.block32 g.N.NameHash.name64 c.args.ask c.args.path.now (g.S.Store.seen c.args.store.now) (g.S.Store.seen c.from_store.new.store) e.told left reads
-    c.in-Err.fault c.opening.result c.opening.ensures e.opens e.head e.cause
+    at-refused g.S.X.BlockHash.block32 g.N.NameHash.name64 c.args.ask.now c.args.path.now (g.S.Store.seen c.args.store.now) (g.S.Store.seen c.from_store.new.store) e.told left reads c.args.touches.now c.from_store.new.touches e.touches
+    c.in-Err.fault c.opening.result c.opening.ensures e.opens e.lost e.head e.touched e.cause
 
 pub returns-in-Ok : goal.returns-in-Ok
 returns-in-Ok g c = λ left reads.
     let e = c.in-Ok.ensures in
-    at-opened g.S.X.BlockHash.block32 g.N.NameHash.name64 c.args.ask c.args.path.now (g.S.Store.seen c.args.store.now) (g.S.Store.seen c.from_store.new.store) e.told left reads
-    c.in-Ok.tree c.in_tree.result (g.S.Store.seen c.in_tree.new.store) e.opens e.head e.cause c.in_tree.ensures
+    at-opened g.S.X.BlockHash.block32 g.N.NameHash.name64 c.args.ask.now c.args.path.now (g.S.Store.seen c.args.store.now) (g.S.Store.seen c.from_store.new.store) e.told left reads c.args.touches.now c.from_store.new.touches e.touches
+    c.in-Ok.tree c.in_tree.result (g.S.Store.seen c.in_tree.new.store) c.in_tree.new.touches e.opens e.lost e.head e.touched e.cause c.in_tree.ensures

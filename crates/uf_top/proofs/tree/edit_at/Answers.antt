@@ -1,5 +1,5 @@
-use Rattle.std.proofs.Common.{None, Some}
-use Rattle.uf_mfs.specs.Bad.{IsBad}
+use Rattle.std.proofs.Common.{refl}
+use Rattle.uf_mfs.specs.Writes.{IsBadWritten}
 use Rattle.uf_store.specs.Faults.{NoneIsBad}
 use Rattle.uf_tree.specs.Heads.{head_text}
 use Rattle.uf_top.proofs.Asking.{commit-refused, edit-refused, is-committed}
@@ -7,26 +7,25 @@ use Rattle.uf_top.proofs.Shows.{tree-fault}
 use Rattle.uf_top.proofs.tree.edit_at.Goals as goal
 
 pub refusal-requires : goal.refusal-requires
-refusal-requires g c = tree-fault (Unit {0}) g.S.X.BlockHash.block32 (IsBad g.N.NameHash.name64 (Some c.args.tree.profile)) c.in-Err.fault (g.S.Store.seen c.args.store.now) (g.S.Store.seen c.edited.new.store) c.in-Err.ensures.cause
+refusal-requires g c = tree-fault (Unit {0}) g.S.X.BlockHash.block32 (IsBadWritten g.S.X.BlockHash.block32 g.N.NameHash.name64 c.args.tree.profile (g.S.Store.seen c.edited.new.store).told) c.in-Err.fault (g.S.Store.seen c.args.store.now) (g.S.Store.seen c.edited.new.store) c.in-Err.ensures.edits.cause
 
 pub refusal-requires-in-Err-commit : goal.refusal-requires-in-Err-commit
 refusal-requires-in-Err-commit g c = tree-fault (Unit {0}) g.S.X.BlockHash.block32 NoneIsBad c.in-Err-commit.fault (g.S.Store.seen c.edited.new.store) (g.S.Store.seen c.commit.new.store) c.in-Err-commit.ensures.cause
 
 pub returns-in-Err : goal.returns-in-Err
 returns-in-Err g c =
-    let e = c.in-Err.ensures in
-    edit-refused g.S.X.BlockHash.block32 g.N.NameHash.name64 c.args.tree c.args.path.now c.args.edit c.edited.new.tree (g.S.Store.seen c.args.store.now) (g.S.Store.seen c.edited.new.store) e.good e.saves
-    c.in-Err.fault c.refusal.result c.refusal.ensures e.answer e.there e.cause
+    edit-refused g.S.X.BlockHash.block32 g.N.NameHash.name64 c.args.tree c.args.path.now c.args.edit.now c.edited.new.tree (g.S.Store.seen c.args.store.now) (g.S.Store.seen c.edited.new.store) c.args.touches.now c.edited.new.touches
+    c.in-Err.fault c.refusal.result c.refusal.ensures c.in-Err.ensures.edits
 
 pub returns-in-Err-commit : goal.returns-in-Err-commit
 returns-in-Err-commit g c =
-    let e = c.in-Ok.ensures in let k = c.in-Err-commit.ensures in
-    commit-refused g.S.X.BlockHash.block32 g.N.NameHash.name64 c.args.tree c.args.path.now c.args.edit c.edited.new.tree (g.S.Store.seen c.args.store.now) (g.S.Store.seen c.edited.new.store) e.good e.saves
-    e.answer e.there e.cause (g.S.Store.seen c.commit.new.store) k.good k.idle c.in-Err-commit.fault c.refusal-in-Err-commit.result c.refusal-in-Err-commit.ensures k.answer k.leaves k.cause
+    let k = c.in-Err-commit.ensures in
+    commit-refused g.S.X.BlockHash.block32 g.N.NameHash.name64 c.args.tree c.args.path.now c.args.edit.now c.edited.new.tree (g.S.Store.seen c.args.store.now) (g.S.Store.seen c.edited.new.store) c.args.touches.now c.edited.new.touches
+    c.in-Ok.ensures.edits (g.S.Store.seen c.commit.new.store) k.good k.idle c.commit.new.touches k.touches c.in-Err-commit.fault c.refusal-in-Err-commit.result c.refusal-in-Err-commit.ensures k.touched k.answer k.leaves k.cause
 
 pub returns-in-Ok-commit : goal.returns-in-Ok-commit
 returns-in-Ok-commit g c =
-    let e = c.in-Ok.ensures in let k = c.in-Ok-commit.ensures in
-    is-committed g.S.X.BlockHash.block32 g.N.NameHash.name64 c.args.tree c.args.path.now c.args.edit c.edited.new.tree (g.S.Store.seen c.args.store.now) (g.S.Store.seen c.edited.new.store) e.good e.saves
-    e.answer e.there e.cause (g.S.Store.seen c.commit.new.store) k.good k.idle c.new.result (head_text c.edited.new.tree.profile c.edited.new.tree.root.cid) c.new.ensures k.commits
+    let k = c.in-Ok-commit.ensures in
+    is-committed g.S.X.BlockHash.block32 g.N.NameHash.name64 c.args.tree c.args.path.now c.args.edit.now c.edited.new.tree (g.S.Store.seen c.args.store.now) (g.S.Store.seen c.edited.new.store) c.args.touches.now c.edited.new.touches
+    c.in-Ok.ensures.edits (g.S.Store.seen c.commit.new.store) k.good k.idle c.commit.new.touches k.touches c.new.result (head_text c.edited.new.tree.profile c.edited.new.tree.root.cid) c.new.ensures refl k.commits
     c.commit.new.self k.stands k.cause

@@ -11,11 +11,11 @@ opening-requires g c = opening-fault Mfs g.S.X.BlockHash.block32 NoneIsBad c.in-
 pub returns-in-Err : goal.returns-in-Err
 returns-in-Err g c = λ left reads.
     let e = c.in-Err.ensures in
-    init-refused g.S.X.BlockHash.block32 g.N.NameHash.name64 c.args.profile (g.S.Store.seen c.args.store.now) (g.S.Store.seen c.init.new.store) e.good left reads
-    c.in-Err.fault c.opening.result c.opening.ensures e.answer e.finds e.notes e.cause
+    init-refused g.S.X.BlockHash.block32 g.N.NameHash.name64 c.args.profile (g.S.Store.seen c.args.store.now) (g.S.Store.seen c.init.new.store) e.good left reads c.args.touches.now c.init.new.touches
+    c.in-Err.fault c.opening.result c.opening.ensures e.answer e.finds e.leaves e.fault e.touched e.cause
 
 pub returns-in-Ok : goal.returns-in-Ok
 returns-in-Ok g c = λ left reads.
     let e = c.in-Ok.ensures in
-    is-ready g.S.X.BlockHash.block32 g.N.NameHash.name64 c.args.profile (g.S.Store.seen c.args.store.now) (g.S.Store.seen c.init.new.store) e.good left reads
+    is-ready g.S.X.BlockHash.block32 g.N.NameHash.name64 c.args.profile (g.S.Store.seen c.args.store.now) (g.S.Store.seen c.init.new.store) e.good left reads c.args.touches.now c.init.new.touches
     c.in-Ok.tree c.new.result (head_text c.in-Ok.tree.profile c.in-Ok.tree.root.cid) c.new.ensures e.answer e.writes e.cause

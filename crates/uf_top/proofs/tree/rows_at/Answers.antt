@@ -18,12 +18,12 @@ refusal-requires g c = tree-fault (List Row) g.S.X.BlockHash.block32 (IsBad g.N.
 pub returns-in-Err : goal.returns-in-Err
 returns-in-Err g c =
     let X = g.S.X.BlockHash.block32 in let N = g.N.NameHash.name64 in let names = c.args.path.now.names in
-    not-looked X N c.args.tree.now c.args.path.now (Ls true) (λ p. listed X N true p names) refl (λ p es. refl) (List Row) (λ p t found. found ≡ rows_at X N p names t)
-    c.in-Err.fault c.refusal.result (g.S.Store.seen c.args.store.now) (g.S.Store.seen c.ls.new.store) c.refusal.ensures c.in-Err.ensures.answer c.in-Err.ensures.cause c.in-Err.ensures.told
+    not-looked X N c.args.tree.now c.args.path.now (g.S.Store.seen c.args.store.now) (g.S.Store.seen c.ls.new.store) (Ls true) (λ p. listed X N true p names) refl (λ p es. refl) c.args.touches.now c.ls.new.touches (λ p es rows. c.in-Err.ensures.touches p es) (List Row) c.in-Err.fault c.in-Err.ensures.touched (λ p t found. found ≡ rows_at X N p names t)
+    c.refusal.result c.refusal.ensures c.in-Err.ensures.answer c.in-Err.ensures.lost c.in-Err.ensures.cause c.in-Err.ensures.told
 
 pub returns-in-Ok : goal.returns-in-Ok
 returns-in-Ok g c =
     let X = g.S.X.BlockHash.block32 in let N = g.N.NameHash.name64 in let names = c.args.path.now.names in
-    is-looked X N c.args.tree.now c.args.path.now (Ls true) (λ p. listed X N true p names) refl (λ p es. refl) (List Row) Memory (λ p t found. found ≡ rows_at X N p names t)
-    c.in-Ok.rows c.row_lines.result c.made.result (g.S.Store.seen c.args.store.now) (g.S.Store.seen c.ls.new.store) c.in-Ok.ensures.answer
+    is-looked X N c.args.tree.now c.args.path.now (g.S.Store.seen c.args.store.now) (g.S.Store.seen c.ls.new.store) (Ls true) (λ p. listed X N true p names) refl (λ p es. refl) c.args.touches.now c.ls.new.touches (λ p es rows. c.in-Ok.ensures.touches p es) c.in-Ok.ensures.touched (List Row) Memory (λ p t found. found ≡ rows_at X N p names t)
+    c.in-Ok.rows c.row_lines.result c.made.result c.in-Ok.ensures.answer c.in-Ok.ensures.lost
     (λ p t at_tree h. subst (λ found. IfOk c.row_lines.result (λ x. x ≡ flat_map row_line found)) h c.row_lines.ensures) c.made.ensures c.in-Ok.ensures.cause c.in-Ok.ensures.told

@@ -1,0 +1,269 @@
+-- How a command is done that writes its input into a file.
+use Rattle.std.proofs.Common.{◌≡◌, ℕ, ◌+◌, ◌<◌, ◌≤◌, List, [], Bool, true, false, arith, refl, sym, ap, subst, ◌∙◌, inl, inr, Some, None, Result, Ok, Err}
+use Rattle.std.specs.Prelude.{IfSome, length, if◌then◌else◌}
+use Rattle.std.proofs.lemmas.Bool.{le-leb, lt-leb}
+use Rattle.uf_edge.specs.Counts.{Counts, Stood}
+use Rattle.uf_edge.specs.Streams.{IsWhole}
+use Rattle.uf_edge.specs.Streams as streams
+use Rattle.uf_mfs.specs.Answers.{ShownOpening}
+use Rattle.uf_mfs.specs.Bad.{IsBad}
+use Rattle.uf_mfs.specs.Standing.{NamesOver, Opens, OpensOver, ReadsHead, Same, TellsAs, head_in}
+use Rattle.uf_mfs.specs.Steps.{tree_fault}
+use Rattle.uf_mfs.specs.Touches.{CountsUp, IsBlaming}
+use Rattle.uf_mfs.specs.declared.fault.MfsFault.{MfsFault}
+use Rattle.uf_mfs.specs.declared.mfs.Mfs.{Mfs}
+use Rattle.uf_path.specs.declared.path.Path.{Path}
+use Rattle.uf_plain.specs.declared.file.WriteHow.{WriteHow}
+use Rattle.uf_store.specs.Faults.{StaysCalm}
+use Rattle.uf_store.specs.Seen.{Seen}
+use Rattle.uf_store.specs.Contents.{Told}
+use Rattle.uf_store.specs.declared.store.StoreFault.{StoreFault}
+use Rattle.uf_store.specs.declared.store.StoreFault.TheVariants as fault
+use Rattle.uf_store.proofs.Keeping.{KeepsGood-same}
+use Rattle.uf_store.proofs.Writing.{SavesOnly-refl}
+use Rattle.uf_tree.specs.Standing.{Standing, NoHead, BadHead, Stands}
+use Rattle.uf_tree.specs.Tree.{Dir, Entries}
+use Rattle.uf_tree.specs.TreePlan.{blocks}
+use Rattle.uf_tree.specs.declared.profile.Profile.{Profile}
+use Rattle.uf_reply.specs.Commands.{HasInput, has_nothing_to_do}
+use Rattle.uf_reply.specs.Kinds.{IsOf, TakesInput, WorksInTree, fault_behind, fault_kind, may_answer, refusal_kind}
+use Rattle.uf_reply.specs.Reply.{Reply, in_tree, input_reply, most_input, reply, tree_reply, unchanged}
+use Rattle.uf_reply.specs.declared.types.Ask.TheVariants.{Edit as Edits}
+use Rattle.uf_reply.specs.declared.types.Command.TheVariants.{WriteInput, At}
+use Rattle.uf_reply.specs.declared.types.Edit.TheVariants.{Write}
+use Rattle.uf_reply.specs.declared.types.Refusal.{Refusal}
+use Rattle.uf_reply.specs.declared.types.Refusal.TheVariants as refusal
+use Rattle.uf_top.specs.Answering.{Answers}
+use Rattle.uf_top.specs.Bounds.{command_touches}
+use Rattle.uf_top.specs.Causes.{IsBadIn, IsLongAt, IsReady, OnlyWants, RefusesOpening, TakesAll, is_read}
+use Rattle.uf_top.specs.Losing.{AnswersOver, NamesAfter, command_needs}
+use Rattle.uf_top.specs.Working.{Works}
+use Rattle.uf_top.proofs.Added.{all_given, given_few}
+use Rattle.uf_top.proofs.Classed.{opening-kinds, tree-counts}
+use Rattle.uf_top.proofs.Finding.{Finds, at-whole}
+use Rattle.uf_top.proofs.InTree.{not-opened, opened, opening-ready}
+use Rattle.uf_top.proofs.Losing.{lost-wants, names-same, opening-over}
+use Rattle.uf_top.proofs.Shows.{Shown-opening, bad-of-none, opening-touched, shown-any, wants-shown}
+use Rattle.uf_top.proofs.Standings.{stands-same, tells-none}
+
+-- what a command at a path may refuse, one that takes the input may refuse
+tree-taken : (r : Result (List ℕ) Refusal) → IsOf (may_answer WorksInTree) r → IsOf (may_answer TakesInput) r
+tree-taken (Ok text) h = tt
+tree-taken (Err (refusal.Rule rule)) h = refl
+tree-taken (Err (refusal.BadPath why)) h = h
+tree-taken (Err refusal.InputTooLong) h = refl
+tree-taken (Err refusal.Usage) h = h
+tree-taken (Err (refusal.Ready why)) h = refl
+tree-taken (Err refusal.Read) h = refl
+tree-taken (Err refusal.Write) h = h
+tree-taken (Err (refusal.Store f)) h = by f
+  where
+    by : (f : StoreFault) → may_answer TakesInput (fault_kind f) ≡ true
+    by fault.Failed = refl
+    by (fault.Damaged cid) = refl
+    by (fault.Missing cid) = refl
+    by (fault.BadBlock cid role) = refl
+    by (fault.Clash cid held bytes) = refl
+    by fault.Memory = refl
+
+-- and none of it is that an input is too long
+not-long : (r : Result (List ℕ) Refusal) (l m : streams.Told) → IsOf (may_answer WorksInTree) r → IsLongAt r l m
+not-long (Ok text) l m h = tt
+not-long (Err (refusal.Rule rule)) l m h = tt
+not-long (Err (refusal.BadPath why)) l m h = tt
+not-long (Err refusal.InputTooLong) l m h = absurd (let e : false ≡ true = h in cc)
+not-long (Err refusal.Usage) l m h = tt
+not-long (Err (refusal.Ready why)) l m h = tt
+not-long (Err refusal.Read) l m h = tt
+not-long (Err refusal.Write) l m h = tt
+not-long (Err (refusal.Store f)) l m h = tt
+
+module _ (how : WriteHow) (path : Path) where
+  ready-taken : (told : Told) (piece : List ℕ) (r : Result (List ℕ) Refusal) → IsReady told (At (Edits (Write how piece)) path) r → IsReady told (WriteInput how path) r
+  ready-taken told piece (Ok text) h = tt
+  ready-taken told piece (Err (refusal.Rule rule)) h = tt
+  ready-taken told piece (Err (refusal.BadPath why)) h = tt
+  ready-taken told piece (Err refusal.InputTooLong) h = tt
+  ready-taken told piece (Err refusal.Usage) h = tt
+  ready-taken told piece (Err (refusal.Ready why)) h = h
+  ready-taken told piece (Err refusal.Read) h = tt
+  ready-taken told piece (Err refusal.Write) h = tt
+  ready-taken told piece (Err (refusal.Store f)) h = tt
+
+  module _ (X : List ℕ → List ℕ) (N : List ℕ → ℕ) where
+    -- an input that isn't too long is written
+    fits : (bytes : List ℕ) (p : Profile) (es : Entries) → length bytes ≤ most_input → input_reply X N how path.names bytes p es ≡ tree_reply X N (Edits (Write how bytes)) path.names p es
+    fits bytes p es few =
+        let done : Reply = tree_reply X N (Edits (Write how bytes)) path.names p es in
+        let other : Reply = unchanged (Stands p es) (Err refusal.InputTooLong) in
+        ap (λ (b : Bool). if b then done else other) (le-leb (length bytes) most_input few)
+
+    exceeds : (bytes : List ℕ) (p : Profile) (es : Entries) → most_input < length bytes → input_reply X N how path.names bytes p es ≡ unchanged (Stands p es) (Err refusal.InputTooLong)
+    exceeds bytes p es many =
+        let done : Reply = tree_reply X N (Edits (Write how bytes)) path.names p es in
+        let other : Reply = unchanged (Stands p es) (Err refusal.InputTooLong) in
+        ap (λ (b : Bool). if b then done else other) (lt-leb (length bytes) most_input many)
+
+    -- ---- the input is taken and written
+
+    module _ (piece : List ℕ) (l k : streams.Told) (i j : ℕ) (all : IsWhole most_input piece l k) (counts : Counts false i j) where
+      given-is : (bytes : List ℕ) → HasInput (Ok (WriteInput how path)) l bytes i j → bytes ≡ piece
+      given-is bytes input = all_given bytes piece l k (input refl).0 all.taken all.nothing_left
+
+      piece-reply : (s : Standing) → reply X N (WriteInput how path) s piece ≡ in_tree (tree_reply X N (Edits (Write how piece)) path.names) s
+      piece-reply NoHead = refl
+      piece-reply BadHead = refl
+      piece-reply (Stands p es) = fits piece p es all.few
+
+      same-reply : (s : Standing) (bytes : List ℕ) → HasInput (Ok (WriteInput how path)) l bytes i j → reply X N (WriteInput how path) s bytes ≡ in_tree (tree_reply X N (Edits (Write how piece)) path.names) s
+      same-reply s bytes input = ap (λ (bs : List ℕ). reply X N (WriteInput how path) s bs) (given-is bytes input) ∙ piece-reply s
+
+      pub input-written : (r : Result (List ℕ) Refusal) (a b : Seen) (t0 t1 : ℕ) → Works X N (At (Edits (Write how piece)) path) r a b l l i i t0 t1 → Works X N (WriteInput how path) r a b l k i j t0 t1
+      input-written r a b t0 t1 w = record {
+        answers = λ s bytes stands input calm. subst (λ given. Answers X N s given r b.told) (sym (same-reply s bytes input)) (w.answers s [] stands (λ e. absurd cc) calm);
+        lost = λ p es bytes named input calm. subst (λ given. AnswersOver X N a.told b.told p es (command_needs X N (WriteInput how path) p es) given r) (sym (same-reply (Stands p es) bytes input)) (w.lost p es [] named (λ e. absurd cc) calm);
+        kinds = tree-taken r w.kinds;
+        ready = ready-taken a.told piece r w.ready;
+        adds = not-long r l k w.kinds;
+        counts = subst (λ n. Counts (is_read r) i n) (sym (counts.still refl)) w.counts;
+        cause = w.cause;
+        whole = w.whole;
+        touches = λ p es bytes rows named input heights calm. subst (λ (bs : List ℕ). IfSome (command_touches X N rows bs (WriteInput how path) p es) (λ most. t1 ≤ t0 + most)) (sym (given-is bytes input)) (w.touches p es [] rows named (λ e. absurd cc) heights calm);
+        touched = w.touched;
+        leaves = record {
+          good = w.leaves.good;
+          head = w.leaves.head;
+          writes = w.leaves.writes;
+          idle = λ p es bytes names calm same. w.leaves.idle p es [] names ((λ e. absurd cc), calm.1) (subst (λ (bs : List ℕ). has_nothing_to_do (Write how bs) path.names es ≡ true) (given-is bytes calm.0) same);
+        };
+      }
+
+    -- ---- the input isn't taken
+
+    module _ (a m : Seen) (told : m.told ≡ a.told) (l k : streams.Told) (i j t0 t1 : ℕ) (opens_by : t1 ≤ t0 + 1) where
+      taken-answers : (why : Refusal) (bytes : List ℕ) (p : Profile) (es : Entries) → TakesAll (Err why) l k → Counts (is_read {A = List ℕ} (Err why)) i j → HasInput (Ok (WriteInput how path)) l bytes i j → TellsAs X N m.told (Stands p es)
+          → Answers X N (Stands p es) (input_reply X N how path.names bytes p es) (Err why) m.told
+      taken-answers (refusal.Rule rule) bytes p es takes counts input stands = absurd takes
+      taken-answers (refusal.BadPath path) bytes p es takes counts input stands = absurd takes
+      taken-answers refusal.InputTooLong bytes p es takes counts input stands =
+          let few = given_few bytes takes.bytes l k (input refl).0 takes.taken in let many = takes.many in
+          subst (λ given. Answers X N (Stands p es) given (Err refusal.InputTooLong) m.told) (sym (exceeds bytes p es (omega (arith, few, many))))
+          (inr (record { ends_are = refl; stands = stands; held = tells-none X N m.told (Stands p es) stands }))
+      taken-answers refusal.Usage bytes p es takes counts input stands = absurd takes
+      taken-answers (refusal.Ready ready) bytes p es takes counts input stands = absurd takes
+      taken-answers refusal.Read bytes p es takes counts input stands = (let rose = counts.rose refl in let stood = (input refl).1 in absurd (omega (arith, rose, stood)))
+      taken-answers refusal.Write bytes p es takes counts input stands = absurd takes
+      taken-answers (refusal.Store f) bytes p es takes counts input stands = inl (record { ends_are = ap (λ (f : StoreFault). Err (refusal.Store f)) takes; stands = stands })
+
+      taken-over : (why : Refusal) (bytes : List ℕ) (p : Profile) (es : Entries) → TakesAll (Err why) l k → Counts (is_read {A = List ℕ} (Err why)) i j → HasInput (Ok (WriteInput how path)) l bytes i j → NamesAfter X N a.told m.told (blocks X N p (Dir es)) p es
+          → AnswersOver X N a.told m.told p es (command_needs X N (WriteInput how path) p es) (input_reply X N how path.names bytes p es) (Err why)
+      taken-over (refusal.Rule rule) bytes p es takes counts input stands = absurd takes
+      taken-over (refusal.BadPath path) bytes p es takes counts input stands = absurd takes
+      taken-over refusal.InputTooLong bytes p es takes counts input stands =
+          let few = given_few bytes takes.bytes l k (input refl).0 takes.taken in let many = takes.many in
+          subst (λ given. AnswersOver X N a.told m.told p es (command_needs X N (WriteInput how path) p es) given (Err refusal.InputTooLong)) (sym (exceeds bytes p es (omega (arith, few, many))))
+          (inr (record { ends_are = refl; stands = stands }))
+      taken-over refusal.Usage bytes p es takes counts input stands = absurd takes
+      taken-over (refusal.Ready ready) bytes p es takes counts input stands = absurd takes
+      taken-over refusal.Read bytes p es takes counts input stands = (let rose = counts.rose refl in let stood = (input refl).1 in absurd (omega (arith, rose, stood)))
+      taken-over refusal.Write bytes p es takes counts input stands = absurd takes
+      taken-over (refusal.Store f) bytes p es takes counts input stands =
+          lost-wants X N a.told m.told p es (command_needs X N (WriteInput how path) p es) (input_reply X N how path.names bytes p es) (refusal.Store f) (ap refusal.Store takes) stands
+
+      taken-kinds : (why : Refusal) → TakesAll (Err why) l k → may_answer TakesInput (refusal_kind why) ≡ true
+      taken-kinds (refusal.Rule rule) takes = absurd takes
+      taken-kinds (refusal.BadPath path) takes = absurd takes
+      taken-kinds refusal.InputTooLong takes = refl
+      taken-kinds refusal.Usage takes = absurd takes
+      taken-kinds (refusal.Ready ready) takes = absurd takes
+      taken-kinds refusal.Read takes = refl
+      taken-kinds refusal.Write takes = absurd takes
+      taken-kinds (refusal.Store f) takes = subst (λ f. may_answer TakesInput (fault_kind f) ≡ true) (sym takes) refl
+
+      taken-finds : (why : Refusal) → TakesAll (Err why) l k → Finds (Err why)
+      taken-finds (refusal.Rule rule) takes = absurd takes
+      taken-finds (refusal.BadPath path) takes = absurd takes
+      taken-finds refusal.InputTooLong takes = (λ e. cc, λ e. cc)
+      taken-finds refusal.Usage takes = absurd takes
+      taken-finds (refusal.Ready ready) takes = absurd takes
+      taken-finds refusal.Read takes = (λ e. cc, λ e. cc)
+      taken-finds refusal.Write takes = absurd takes
+      taken-finds (refusal.Store f) takes = subst (λ f. Finds (Err (refusal.Store f))) (sym takes) (λ e. cc, λ e. cc)
+
+      taken-long : (why : Refusal) → TakesAll (Err why) l k → IsLongAt (Err why) l k
+      taken-long (refusal.Rule rule) takes = tt
+      taken-long (refusal.BadPath path) takes = tt
+      taken-long refusal.InputTooLong takes = takes
+      taken-long refusal.Usage takes = tt
+      taken-long (refusal.Ready ready) takes = tt
+      taken-long refusal.Read takes = tt
+      taken-long refusal.Write takes = tt
+      taken-long (refusal.Store f) takes = tt
+
+      taken-ready : (why : Refusal) → TakesAll (Err why) l k → IsReady a.told (WriteInput how path) (Err why)
+      taken-ready (refusal.Rule rule) takes = tt
+      taken-ready (refusal.BadPath path) takes = tt
+      taken-ready refusal.InputTooLong takes = tt
+      taken-ready refusal.Usage takes = tt
+      taken-ready (refusal.Ready ready) takes = absurd takes
+      taken-ready refusal.Read takes = tt
+      taken-ready refusal.Write takes = tt
+      taken-ready (refusal.Store f) takes = tt
+
+      taken-wants : (why : Refusal) → TakesAll (Err why) l k → OnlyWants {A = List ℕ} (Err why)
+      taken-wants (refusal.Rule rule) takes = tt
+      taken-wants (refusal.BadPath path) takes = tt
+      taken-wants refusal.InputTooLong takes = tt
+      taken-wants refusal.Usage takes = tt
+      taken-wants (refusal.Ready ready) takes = tt
+      taken-wants refusal.Read takes = tt
+      taken-wants refusal.Write takes = tt
+      taken-wants (refusal.Store f) takes = takes
+
+      taken-blames : (why : Refusal) → TakesAll (Err why) l k → IsBlaming (fault_behind why) → ⊥
+      taken-blames (refusal.Rule rule) takes blames = blames
+      taken-blames (refusal.BadPath path) takes blames = blames
+      taken-blames refusal.InputTooLong takes blames = blames
+      taken-blames refusal.Usage takes blames = blames
+      taken-blames (refusal.Ready ready) takes blames = blames
+      taken-blames refusal.Read takes blames = blames
+      taken-blames refusal.Write takes blames = blames
+      taken-blames (refusal.Store f) takes blames = subst (λ f. IsBlaming (Some f)) takes blames
+
+      pub input-refused : (mfs : Mfs) (why : Refusal) → ((s : Standing) → TellsAs X N a.told s → Stood a.faults m.faults → Opens X N m.told s (Ok mfs)) → StaysCalm a m
+          → TakesAll (Err why) l k → Counts (is_read {A = List ℕ} (Err why)) i j → Works X N (WriteInput how path) (Err why) a m l k i j t0 t1
+      input-refused mfs why opens calm takes counts = record {
+        answers = λ s bytes stands input calm2. opened X N s (input_reply X N how path.names bytes) mfs m.told m.told (Err why) (opens s stands calm2.faults) (stands-same X N a.told m.told s told stands)
+            (λ p es at now. taken-answers why bytes p es takes counts input now);
+        lost = λ p es bytes named input calm2. taken-over why bytes p es takes counts input (names-same X N a.told m.told p es told named);
+        kinds = taken-kinds why takes;
+        ready = taken-ready why takes;
+        adds = taken-long why takes;
+        counts = counts;
+        cause = shown-any X (IsBadIn X N a.told m.told) (Err why) a m (wants-shown X (Err why) a m (taken-wants why takes) calm);
+        whole = λ s stands calm2. taken-finds why takes;
+        touches = λ p es bytes rows named input heights calm2. omega (arith, opens_by);
+        touched = λ blames. absurd (taken-blames why takes blames);
+        leaves = record { good = KeepsGood-same X a.told m.told told; head = ap head_in told; writes = record { between = a.told; saves = SavesOnly-refl X a.told; last = Same told }; idle = λ p es bytes stands given same. told };
+      }
+
+      -- ---- the tree isn't opened
+
+      pub input-unopened : (f : MfsFault) (w : Refusal) → RefusesOpening f w → ((s : Standing) → TellsAs X N a.told s → Stood a.faults m.faults → Opens X N m.told s (Err f))
+          → ((p : Profile) (es : Entries) → NamesOver X N a.told p es → Stood a.faults m.faults → OpensOver X N a.told p es (Err f))
+          → ReadsHead a.told (Err f) → CountsUp (tree_fault {A = Mfs} (Err f)) t0 t1 → ShownOpening X (IsBad N None) {A = Mfs} (Err f) a m → Works X N (WriteInput how path) (Err w) a m l l i i t0 t1
+      input-unopened f w is opens lost head up cause = record {
+        answers = λ s bytes stands input calm. not-opened X N s (input_reply X N how path.names bytes) f w m.told is (opens s stands calm.faults) (stands-same X N a.told m.told s told stands);
+        lost = λ p es bytes named input calm. opening-over X N a.told m.told p es (blocks X N p (Dir es)) (input_reply X N how path.names bytes p es) f w is (lost p es named.names calm.faults)
+            (names-same X N a.told m.told p es told named);
+        kinds = tree-taken (Err w) (opening-kinds f w is);
+        ready = ready-taken a.told [] (Err w) (opening-ready a.told (Edits (Write how [])) path f w is head);
+        adds = not-long (Err w) l l (opening-kinds f w is);
+        counts = tree-counts (Err w) i (opening-kinds f w is);
+        cause = Shown-opening Mfs X (IsBad N None) (IsBadIn X N a.told m.told) (bad-of-none X N a.told m.told) f w a m is cause;
+        whole = λ s stands calm. at-whole X N s (Edits (Write how [])) path.names (Err w) m.told
+            (not-opened X N s (tree_reply X N (Edits (Write how [])) path.names) f w m.told is (opens s stands calm.faults) (stands-same X N a.told m.told s told stands));
+        touches = λ p es bytes rows named input heights calm. omega (arith, opens_by);
+        touched = (opening-touched Mfs f w t0 t1 is up).risen;
+        leaves = record { good = KeepsGood-same X a.told m.told told; head = ap head_in told; writes = record { between = a.told; saves = SavesOnly-refl X a.told; last = Same told }; idle = λ p es bytes stands given same. told };
+      }

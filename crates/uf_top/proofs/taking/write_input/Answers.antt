@@ -1,0 +1,34 @@
+use Rattle.std.proofs.Common.{None}
+use Rattle.uf_mfs.specs.Bad.{IsBad}
+use Rattle.uf_mfs.specs.declared.mfs.Mfs.{Mfs}
+use Rattle.uf_reply.specs.declared.types.Ask.TheVariants.{Edit as Edits}
+use Rattle.uf_reply.specs.declared.types.Edit.TheVariants.{Write}
+use Rattle.uf_top.proofs.Opening.{at-opened}
+use Rattle.uf_top.proofs.Shows.{opening-fault}
+use Rattle.uf_top.proofs.Written.{input-refused, input-unopened, input-written}
+use Rattle.uf_top.proofs.taking.write_input.Goals as goal
+
+pub opening-requires : goal.opening-requires
+opening-requires g c = opening-fault Mfs g.S.X.BlockHash.block32 (IsBad g.N.NameHash.name64 None) c.in-Err.fault (g.S.Store.seen c.args.store.now) (g.S.Store.seen c.from_store.new.store) c.in-Err.ensures.cause
+
+pub returns-in-Err : goal.returns-in-Err
+returns-in-Err g c =
+    let e = c.in-Err.ensures in let l = g.I.Source.left c.args.input.now in let i = g.I.Source.faults c.args.input.now in
+    input-unopened c.args.how c.args.path.now g.S.X.BlockHash.block32 g.N.NameHash.name64 (g.S.Store.seen c.args.store.now) (g.S.Store.seen c.from_store.new.store) e.told l l i i c.args.touches.now c.from_store.new.touches e.touches
+    c.in-Err.fault c.opening.result c.opening.ensures e.opens e.lost e.head e.touched e.cause
+
+pub returns-in-Err-taken : goal.returns-in-Err-taken
+returns-in-Err-taken g c =
+    let e = c.in-Ok.ensures in
+    input-refused c.args.how c.args.path.now g.S.X.BlockHash.block32 g.N.NameHash.name64 (g.S.Store.seen c.args.store.now) (g.S.Store.seen c.from_store.new.store) e.told
+    (g.I.Source.left c.args.input.now) (g.I.Source.left c.taken.new.input) (g.I.Source.faults c.args.input.now) (g.I.Source.faults c.taken.new.input) c.args.touches.now c.from_store.new.touches e.touches
+    c.in-Ok.tree c.in-Err-taken.why e.opens e.cause c.in-Err-taken.ensures.takes c.in-Err-taken.ensures.counts
+
+pub returns-in-Ok-taken : goal.returns-in-Ok-taken
+returns-in-Ok-taken g c =
+    let e = c.in-Ok.ensures in let X = g.S.X.BlockHash.block32 in let N = g.N.NameHash.name64 in
+    let l = g.I.Source.left c.args.input.now in let i = g.I.Source.faults c.args.input.now in
+    input-written c.args.how c.args.path.now X N c.in-Ok-taken.piece l (g.I.Source.left c.taken.new.input) i (g.I.Source.faults c.taken.new.input) c.in-Ok-taken.ensures.takes c.in-Ok-taken.ensures.counts
+    c.edit_at.result (g.S.Store.seen c.args.store.now) (g.S.Store.seen c.edit_at.new.store) c.args.touches.now c.edit_at.new.touches
+    (at-opened X N (Edits (Write c.args.how c.in-Ok-taken.piece)) c.args.path.now (g.S.Store.seen c.args.store.now) (g.S.Store.seen c.from_store.new.store) e.told l i c.args.touches.now c.from_store.new.touches e.touches
+    c.in-Ok.tree c.edit_at.result (g.S.Store.seen c.edit_at.new.store) c.edit_at.new.touches e.opens e.lost e.head e.touched e.cause c.edit_at.ensures)

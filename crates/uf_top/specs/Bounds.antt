@@ -1,0 +1,57 @@
+-- How many touches a command may need of a tree that the Head names.
+use Rattle.std.specs.Prelude.{ℕ, ◌+◌, ◌*◌, List, [], length, max, true, false}
+use Rattle.std.specs.declared.option.Option.{Option}
+use Rattle.std.specs.declared.option.Option.TheVariants.{None, Some}
+use Rattle.std.specs.declared.result.Result.{Result}
+use Rattle.std.specs.declared.result.Result.TheVariants.{Ok, Err}
+use Rattle.uf_mfs.specs.Moving.{copy_bound, move_bound}
+use Rattle.uf_mfs.specs.Writes.{file_touches, fitting_edit, member_at}
+use Rattle.uf_mfs.specs.Touches.{names_touches, read_bound, rows_touches, touch_bound, weighing_at}
+use Rattle.uf_plain.specs.Edits.{made, removed}
+use Rattle.uf_plain.specs.declared.file.FileEdit.TheVariants as file
+use Rattle.uf_tree.specs.Tree.{Dir, Entries}
+use Rattle.uf_tree.specs.declared.profile.Profile.{Profile}
+use Rattle.uf_reply.specs.declared.types.Ask.{Ask}
+use Rattle.uf_reply.specs.declared.types.Ask.TheVariants.{Ls, Stat, Edit as Edits}
+use Rattle.uf_reply.specs.declared.types.Command.{Command}
+use Rattle.uf_reply.specs.declared.types.Command.TheVariants.{Init, Add, WriteInput, At}
+use Rattle.uf_reply.specs.declared.types.Edit.{Edit}
+use Rattle.uf_reply.specs.declared.types.Edit.TheVariants.{Mkdir, Rm, Write, Truncate, Cp, Mv}
+use Rattle.uf_reply.specs.declared.types.Refusal.{Refusal}
+
+-- a file of n bytes has rows n rows of nodes
+module _ (X : List ℕ → List ℕ) (N : List ℕ → ℕ) (rows : ℕ → ℕ) where
+  -- so many touches are enough for an edit at these names
+  abbrev pub touches_of_edit : Edit → List (List ℕ) → Profile → Entries → ℕ
+  touches_of_edit (Mkdir parents) names p es = touch_bound X N p names es (made parents names es)
+  touches_of_edit (Rm recursive) names p es =
+      touch_bound X N p names es (removed recursive names es) + weighing_at X N p names es
+  touches_of_edit (Write how piece) names p es =
+      touch_bound X N p names es (fitting_edit p (file.Write how) piece names es)
+      + file_touches p rows (file.Write how) piece (member_at names es)
+  touches_of_edit (Truncate size) names p es =
+      touch_bound X N p names es (fitting_edit p (file.Truncate size) [] names es)
+      + file_touches p rows (file.Truncate size) [] (member_at names es)
+  touches_of_edit (Cp dest) names p es = copy_bound X N p names dest es
+  touches_of_edit (Mv dest) names p es = move_bound X N p names dest es
+
+  -- and for what is asked at these names
+  abbrev pub ask_touches : Ask → List (List ℕ) → Profile → Entries → ℕ
+  ask_touches (Ls false) names p es = read_bound (names_touches X N p) names (Dir es)
+  ask_touches (Ls true) names p es = read_bound (rows_touches X N p) names (Dir es)
+  ask_touches Stat names p es = max (11 * length names) 1
+  ask_touches (Edits edit) names p es = touches_of_edit edit names p es
+
+  -- and for a command with this input, which opens the tree first; nothing is promised of `init`, and of an `add` that
+  -- keeps its blocks
+  abbrev pub command_touches : List ℕ → Command → Profile → Entries → Option ℕ
+  command_touches bytes (Init q) p es = None
+  command_touches bytes (Add true) p es = Some 0
+  command_touches bytes (Add false) p es = None
+  command_touches bytes (WriteInput how path) p es = Some (1 + touches_of_edit (Write how bytes) path.names p es)
+  command_touches bytes (At ask path) p es = Some (1 + ask_touches ask path.names p es)
+
+  -- the same of words
+  abbrev pub words_touch : List ℕ → Result Command Refusal → Profile → Entries → Option ℕ
+  words_touch bytes (Ok command) p es = command_touches bytes command p es
+  words_touch bytes (Err why) p es = Some 0

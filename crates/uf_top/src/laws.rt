@@ -1,0 +1,72 @@
+// Laws of stores that stand, and of what a stop during a command leaves, by what the command writes.
+ghost use Rattle.std.specs.Prelude.{◌≡◌, ◌<◌, ◌^◌, ℕ, Bool, List, None, Some};
+ghost use Rattle.std.specs.FinMap.{get};
+ghost use Rattle.std.specs.declared.result.Result.{Result};
+ghost use Rattle.uf_cid.specs.Blocks.{Held, Holds};
+ghost use Rattle.uf_mfs.specs.Standing.{Commits, NamesOver, TellsAs, head_in};
+ghost use Rattle.uf_store.specs.Contents.{Contents, Told, held_at};
+ghost use Rattle.uf_store.specs.Keeping.{KeepsGood};
+ghost use Rattle.uf_store.specs.Stops.{IsPlain};
+ghost use Rattle.uf_tree.specs.Standing.{Standing, Stands};
+ghost use Rattle.uf_tree.specs.Tree.{Entries};
+ghost use Rattle.uf_tree.specs.Validity.{IsHash};
+ghost use Rattle.uf_tree.specs.declared.profile.Profile.{Profile};
+ghost use Rattle.uf_reply.specs.Commands.{MakesHead};
+ghost use Rattle.uf_reply.specs.declared.types.Command.{Command};
+ghost use Rattle.uf_reply.specs.declared.types.Refusal.{Refusal};
+ghost use Rattle.uf_top.specs.Losing.{StaysNamed};
+ghost use Rattle.uf_top.specs.Outcomes.{EachOutcome, EachStop, IsSafeFor, LeavesEither, LeavesNoneOr, LeavesTree};
+ghost use Rattle.uf_top.specs.Shapes.{HeadAfter, SyncsAfter, WritesAs, WritesFor};
+
+/// A store that stands for a tree names it, and does so throughout a call that keeps good blocks, as each command does.
+pub fn what_stands_is_named()
+    ensures first { (X : List ℕ → List ℕ) (N : List ℕ → ℕ) (told : Told) (p : Profile) (es : Entries)
+        → TellsAs X N told (Stands p es) → NamesOver X N told p es }
+    ensures throughout { (X : List ℕ → List ℕ) (N : List ℕ → ℕ) (a b : Told) (p : Profile) (es : Entries)
+        → TellsAs X N a (Stands p es) → KeepsGood X a b → StaysNamed X N a b p es }
+{}
+
+/// What a store stands for stays where good blocks are kept and the Head is as before: so of each command that is refused,
+/// whatever failed.
+pub fn what_stands_stays()
+    ensures { (X : List ℕ → List ℕ) (N : List ℕ → ℕ) (a b : Told) (standing : Standing) → TellsAs X N a standing
+        → KeepsGood X a b → head_in b ≡ head_in a → TellsAs X N b standing }
+{}
+
+/// What any stop leaves of a store that is safe for a tree stands for that tree.
+pub fn what_is_safe_outlives_stops()
+    ensures { (X : List ℕ → List ℕ) (N : List ℕ → ℕ) (t : Contents) (p : Profile) (es : Entries) → IsSafeFor X N t p es
+        → EachOutcome (LeavesTree X N p es) t.writes }
+{}
+
+/// Where a store is safe for a tree, a command has written what `run` says that it writes, and the store then stands for
+/// a tree, be it the same: the store is safe for the tree after, and a stop after any of these writes leaves the tree
+/// before or the tree after. The same of a `commit` alone.
+pub fn a_stop_leaves_the_tree_before_or_after()
+    ensures commit { (X : List ℕ → List ℕ) (N : List ℕ → ℕ) (text : List ℕ) (a b : Contents) (p q : Profile)
+        (es fs : Entries) → IsHash X → ((name : List ℕ) → N name < 2 ^ 64)
+        → IsSafeFor X N a p es → Commits text (Some a) (Some b) → LeavesTree X N q fs b.held b.notes
+        → IsSafeFor X N b q fs × EachStop (LeavesEither X N p es q fs) a b }
+    ensures command { (X : List ℕ → List ℕ) (N : List ℕ → ℕ) (asked : Result Command Refusal) (done : Bool) (a b : Contents)
+        (p q : Profile) (es fs : Entries) → IsHash X → ((name : List ℕ) → N name < 2 ^ 64)
+        → IsSafeFor X N a p es → WritesFor X asked done (Some a) (Some b) → LeavesTree X N q fs b.held b.notes
+        → IsSafeFor X N b q fs × EachStop (LeavesEither X N p es q fs) a b }
+{}
+
+/// Where a store tells what was written and has no Head, a stop after any write of an `init` leaves no Head or the tree
+/// for which the store stands after it. Where the Head was written, the store is safe for that tree.
+pub fn a_stop_of_init_leaves_no_head_or_its_tree()
+    ensures stops { (X : List ℕ → List ℕ) (N : List ℕ → ℕ) (done : Bool) (a b : Contents) (p : Profile) (es : Entries)
+        → IsPlain a → a.notes.head ≡ None → WritesAs X MakesHead done (Some a) (Some b)
+        → LeavesNoneOr X N p es b.held b.notes → EachStop (LeavesNoneOr X N p es) a b }
+    ensures safe { (X : List ℕ → List ℕ) (N : List ℕ → ℕ) (a b : Contents) (p : Profile) (es : Entries)
+        → IsPlain a → a.notes.head ≡ None → HeadAfter X (Some a) (Some b)
+        → LeavesTree X N p es b.held b.notes → IsSafeFor X N b p es }
+{}
+
+/// Where a store tells what was written, blocks that it holds after an `add` that was done are held whatever a stop
+/// leaves.
+pub fn a_stop_after_add_leaves_its_blocks()
+    ensures { (X : List ℕ → List ℕ) (a b : Contents) (blocks : List Held) → IsPlain a → SyncsAfter X (Some a) (Some b)
+        → Holds (held_at b) blocks → EachOutcome (λ held notes. Holds (λ cid. get held cid) blocks) b.writes }
+{}
