@@ -1,0 +1,6 @@
+pub mod Looser
+pub mod Denoting
+pub mod Fed
+pub mod Built
+pub mod Denoted
+pub mod Going

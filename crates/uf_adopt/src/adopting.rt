@@ -1,0 +1,45 @@
+// What a CID denotes adopted.
+ghost use Rattle.std.specs.Prelude.{IfSome, IsTrue};
+ghost use Rattle.uf_lenient.specs.Within.{good_blocks};
+ghost use Rattle.uf_store.specs.Contents.{held_at};
+ghost use Rattle.uf_store.specs.Faults.{NoneIsBad, Shown};
+ghost use Rattle.uf_store.specs.Keeping.{KeepsGood};
+ghost use Rattle.uf_store.specs.Writing.{SavesOnly};
+ghost use Rattle.uf_tree.specs.Profiles.{is_profile};
+ghost use Rattle.uf_adopt.specs.Adopting.{Adopts, IsOfGoodBlocks};
+ghost use Rattle.uf_adopt.specs.Faults.{TellsStoreApart, adopt_fault};
+
+use crate::AdoptFault;
+use crate::folders::adopt_within;
+use std::alloc::Global;
+use std::sync::ledger::Ledger;
+use uf_cid::Cid;
+use uf_lenient::{Limits, survey};
+use uf_murmur::NameHash;
+use uf_store::{Steps, Store};
+use uf_tree::{Entry, Profile};
+
+/// Builds what a CID denotes by a profile, and answers its entry. All of it is read first, so that nothing is saved of
+/// what denotes no tree. Then the files and directories are built in byte order of their names, each directory after
+/// its members. Depth and visits are counted anew in each call.
+pub fn adopt<S: Store, N: NameHash, L: Ledger>(
+    alloc: Global,
+    store: &mut S,
+    p: &Profile,
+    cid: &Cid,
+    limits: &Limits,
+    touches: &mut Steps<L>,
+) -> Result<Entry, AdoptFault>
+    requires profile { IsTrue (is_profile p.now) }
+    ensures says { IfSome (S.seen store.old).told (λ t. IsOfGoodBlocks S.X.block32 (held_at t) limits.now cid.now
+        → Adopts S.X.block32 N.name64 p.now (good_blocks S.X.block32 (held_at t)) limits.now (S.seen store.new).told
+        cid.now result) }
+    ensures apart { TellsStoreApart result }
+    ensures cause { Shown S.X.block32 NoneIsBad (adopt_fault result) (S.seen store.old) (S.seen store.new) }
+    ensures good { KeepsGood S.X.block32 (S.seen store.old).told (S.seen store.new).told }
+    ensures saves { SavesOnly S.X.block32 (S.seen store.old).told (S.seen store.new).told }
+{
+    survey(alloc, store, cid, limits, touches)?;
+    let room = u64::from(limits.depth) + 1;
+    adopt_within::<S, N, L>(alloc, store, p, cid, limits, room, touches)
+}
