@@ -1,0 +1,34 @@
+// The text of a path taken apart.
+ghost use Rattle.std.specs.Prelude.{◌≡◌};
+ghost use Rattle.std.specs.Path.{rsplit_once};
+ghost use Rattle.uf_host.specs.Paths.{behind_slash, first_row, trimmed};
+
+// The path without slashes at its end, but for one that begins it.
+pub fn trim(path: &str) -> &str
+    ensures { result.now ≡ trimmed path.now }
+{
+    let bytes = path.as_bytes();
+    let mut end = bytes.len();
+    while end > 1 && bytes[end - 1] == b'/' {
+        end -= 1;
+    }
+    &path[..end]
+}
+
+// The last name of a path, or `/` where nothing stands behind its last slash.
+pub fn row_of(path: &str) -> &str
+    ensures { result.now ≡ first_row path.now }
+{
+    let last = last_of(path);
+    if last.is_empty() { "/" } else { last }
+}
+
+// What stands behind the last slash.
+fn last_of(path: &str) -> &str
+    ensures { result.now ≡ behind_slash path.now (rsplit_once 47 path.now) }
+{
+    match path.rsplit_once('/') {
+        Some((_, last)) => last,
+        None => path,
+    }
+}
