@@ -16,7 +16,7 @@ ghost use Rattle.uf_tree.specs.TreePlan.{dir_refusal};
 ghost use Rattle.uf_tree.specs.Validity.{IsDirectory};
 ghost use Rattle.uf_shard.specs.Answers.{Gives, GivesOver, Shown, dir_fault};
 ghost use Rattle.uf_shard.specs.Listing.{IsBadShard};
-ghost use Rattle.uf_dir.specs.Bad.{IsBad, IsBadWeighed};
+ghost use Rattle.uf_dir.specs.Bad.{BlamesOnly, IsBad, IsBadWeighed};
 ghost use Rattle.uf_dir.specs.Bounds.{IsFree, crossing, gathering, shard_count, weighing, weighing_from};
 ghost use Rattle.uf_dir.specs.Left.{AreShards, Fits, SettlesShards, StayShards};
 ghost use Rattle.uf_dir.specs.Left.{TakesBasic, TakesSharded, pairs_left};
@@ -62,6 +62,7 @@ pub fn put<S: Store, N: NameHash, L: Ledger>(
         (own_blocks S.X.block32 N.name64 p.now (with_name name.now entry.now l))) }
     ensures cause { Shown S.X.block32 (IsBad N.name64 (N.name64 name.now) (Some p.now)) result
         (S.seen store.old) (S.seen store.new) }
+    ensures blames { BlamesOnly root.now (dir_fault result) }
     ensures good { KeepsGood S.X.block32 (S.seen store.old).told (S.seen store.new).told }
     ensures saves { SavesOnly S.X.block32 (S.seen store.old).told (S.seen store.new).told }
     ensures touches { (l : List Named) → IsPlanned S.X.block32 N.name64 p.now root.now l
@@ -131,6 +132,7 @@ pub fn remove<S: Store, N: NameHash, L: Ledger>(
         (own_blocks S.X.block32 N.name64 p.now (without name.now l))) }
     ensures cause { Answers S.X.block32 (IsBadWeighed N.name64 (N.name64 name.now) (Some p.now)) result
         (S.seen store.old) (S.seen store.new) }
+    ensures blames { BlamesOnly root.now (fault_in result) }
     ensures good { KeepsGood S.X.block32 (S.seen store.old).told (S.seen store.new).told }
     ensures saves { SavesOnly S.X.block32 (S.seen store.old).told (S.seen store.new).told }
     ensures touches { (l : List Named) → IsPlanned S.X.block32 N.name64 p.now root.now l
@@ -190,6 +192,7 @@ fn remove_sharded<S: Store, N: NameHash, L: Ledger>(
         (S.seen store.old) (S.seen store.new) result }
     ensures saves { OnlySaves S.X.block32 (IsBadWeighed N.name64 (N.name64 name.now) (Some p.now)) (fault_in result)
         (S.seen store.old) (S.seen store.new) }
+    ensures blames { BlamesOnly root.now (fault_in result) }
     ensures touches { (l : List Named)
         → StayShards S.X.block32 N.name64 root.now (S.seen store.old) (S.seen store.new) l
         → touches.new ≤ touches.old + (17 + weighing p.now (shard_count S.X.block32 N.name64 l)

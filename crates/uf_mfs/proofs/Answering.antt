@@ -1,5 +1,6 @@
 -- What calls that read a tree answer.
-use Rattle.std.proofs.Common.{◌≡◌, ℕ, ◌<◌, ◌≤◌, ◌^◌, List, [], ◌∷◌, length, map, replicate, refl, ap, sym, ◌∙◌, subst, None, Result, Err, inl, inr, ◌+◌}
+use Rattle.std.proofs.Common.{◌≡◌, ℕ, ◌<◌, ◌≤◌, ◌^◌, List, [], ◌∷◌, length, map, replicate, refl, ap, sym, ◌∙◌, subst, None, Result, Err, Some, inl, inr, ◌+◌}
+use Rattle.uf_cid.specs.declared.cid.Cid.{Cid}
 use Rattle.uf_store.specs.declared.store.Role.{Role}
 use Rattle.uf_store.specs.declared.store.Role.TheVariants.{Directory, Shard, FileNode, Leaf}
 use Rattle.uf_store.specs.declared.store.StoreFault.{StoreFault}
@@ -19,17 +20,17 @@ use Rattle.uf_tree.specs.Validity.{IsHash}
 use Rattle.std.specs.declared.option.Option.{Option}
 use Rattle.uf_shard.specs.declared.fault.DirFault.{DirFault}
 use Rattle.uf_shard.specs.declared.fault.DirFault.TheVariants as dir
-use Rattle.uf_shard.specs.Answers.{Shown as ShownDir}
-use Rattle.uf_dir.specs.Bad.{IsBadListed}
+use Rattle.uf_shard.specs.Answers.{Shown as ShownDir, dir_fault}
+use Rattle.uf_dir.specs.Bad.{BlamesOnly, IsBadListed}
 use Rattle.uf_dir.specs.Bad as dirs
 use Rattle.uf_dir.proofs.Causes.{shard-off, way-off}
 use Rattle.uf_dir.specs.Planned.{IsPlanned}
 use Rattle.uf_mfs.specs.declared.fault.Stop.{Stop}
 use Rattle.uf_mfs.specs.Answers.{stop_of}
-use Rattle.uf_mfs.specs.Bad.{IsBad}
+use Rattle.uf_mfs.specs.Bad.{IsBad, IsBadInTree}
 use Rattle.uf_mfs.specs.Steps.{stop_fault}
 use Rattle.uf_mfs.specs.Standing.{IsAgreed}
-use Rattle.uf_store.proofs.Causes.{Shows-by}
+use Rattle.uf_mfs.proofs.Judging.{shown-at}
 use Rattle.uf_mfs.proofs.Agreed.{own-agrees}
 use Rattle.uf_mfs.proofs.Planning.{planned-of}
 
@@ -37,17 +38,13 @@ length-replicate : (n : ℕ) → length {A = ℕ} (replicate n 0) ≡ n
 length-replicate ℕ.zero = refl
 length-replicate (ℕ.suc n) = ap ℕ.suc (length-replicate n)
 
--- a block that is bad where it is listed is bad
-pub listed-bad : (N : List ℕ → ℕ) (role : Role) (bytes : List ℕ) → IsBadListed role bytes → IsBad N None role bytes
+-- a block that is bad where it is listed, or where a name is looked up, put or taken out, is bad
+listed-bad : (N : List ℕ → ℕ) (role : Role) (bytes : List ℕ) → IsBadListed role bytes → IsBad N None role bytes
 listed-bad N Directory bytes bad = bad
 listed-bad N (Shard level) bytes bad = record { way = replicate level 0; at_level = length-replicate level; below = bad.0; bad = bad.1 N (replicate level 0) (length-replicate level) }
 listed-bad N FileNode bytes bad = absurd bad
 listed-bad N Leaf bytes bad = absurd bad
 
-pub listed-shows : (hash : List ℕ → List ℕ) (N : List ℕ → ℕ) (f : StoreFault) (a b : Seen) → Shows hash IsBadListed f a b → Shows hash (IsBad N None) f a b
-listed-shows hash N f a b h = Shows-by hash IsBadListed (IsBad N None) f a b (listed-bad N) h
-
--- a block that is bad where a name is looked up, put or taken out is bad
 way-bad : (N : List ℕ → ℕ) (h : ℕ) (profile : Option Profile) (role : Role) (bytes : List ℕ) → dirs.IsBad N h profile role bytes → IsBad N profile role bytes
 way-bad N h profile Directory bytes bad = bad
 way-bad N h profile (Shard level) bytes bad = way-off N h level bytes bad
@@ -61,21 +58,26 @@ weighed-bad N h profile (Shard level) bytes (inr bad) = shard-off N level bytes 
 weighed-bad N h profile FileNode bytes bad = absurd bad
 weighed-bad N h profile Leaf bytes bad = absurd bad
 
-pub way-shows : (hash : List ℕ → List ℕ) (N : List ℕ → ℕ) (h : ℕ) (profile : Option Profile) (f : StoreFault) (a b : Seen) → Shows hash (dirs.IsBad N h profile) f a b → Shows hash (IsBad N profile) f a b
-way-shows hash N h profile f a b shows = Shows-by hash (dirs.IsBad N h profile) (IsBad N profile) f a b (way-bad N h profile) shows
+module _ (hash : List ℕ → List ℕ) (N : List ℕ → ℕ) (root : Cid) where
+  pub listed-shows : (f : StoreFault) (a b : Seen) → BlamesOnly root (Some f) → Shows hash IsBadListed f a b → Shows hash (IsBadInTree hash N None root) f a b
+  listed-shows f a b blames h = shown-at hash N IsBadListed None root (Some f) a b (listed-bad N) blames h
 
-pub weighed-shows : (hash : List ℕ → List ℕ) (N : List ℕ → ℕ) (h : ℕ) (profile : Option Profile) (f : StoreFault) (a b : Seen) → Shows hash (dirs.IsBadWeighed N h profile) f a b → Shows hash (IsBad N profile) f a b
-weighed-shows hash N h profile f a b shows = Shows-by hash (dirs.IsBadWeighed N h profile) (IsBad N profile) f a b (weighed-bad N h profile) shows
+  pub way-shows : (h : ℕ) (profile : Option Profile) (f : StoreFault) (a b : Seen) → BlamesOnly root (Some f) → Shows hash (dirs.IsBad N h profile) f a b → Shows hash (IsBadInTree hash N profile root) f a b
+  way-shows h profile f a b blames shows = shown-at hash N (dirs.IsBad N h profile) profile root (Some f) a b (way-bad N h profile) blames shows
 
--- the fault of an edited directory as that of a step
-pub stop-shows : (hash : List ℕ → List ℕ) (N : List ℕ → ℕ) (h : ℕ) (profile : Option Profile) (f : DirFault) (s : Stop) (a b : Seen) → s ≡ stop_of f → ShownDir {A = Entry} hash (dirs.IsBad N h profile) (Err f) a b
-    → Shown hash (IsBad N profile) (stop_fault {A = Entry} (Err s)) a b
-stop-shows hash N h profile f s a b is shown = subst (λ (s : Stop). Shown hash (IsBad N profile) (stop_fault {A = Entry} (Err s)) a b) (sym is) (by f shown)
-  where
-    by : (f : DirFault) → ShownDir {A = Entry} hash (dirs.IsBad N h profile) (Err f) a b → Shown hash (IsBad N profile) (stop_fault {A = Entry} (Err (stop_of f))) a b
-    by (dir.Collision first second) shown = shown
-    by dir.TooBig shown = shown
-    by (dir.Store g) shown = way-shows hash N h profile g a b shown
+  pub weighed-shows : (h : ℕ) (profile : Option Profile) (f : StoreFault) (a b : Seen) → BlamesOnly root (Some f) → Shows hash (dirs.IsBadWeighed N h profile) f a b
+      → Shows hash (IsBadInTree hash N profile root) f a b
+  weighed-shows h profile f a b blames shows = shown-at hash N (dirs.IsBadWeighed N h profile) profile root (Some f) a b (weighed-bad N h profile) blames shows
+
+  -- the fault of an edited directory as that of a step
+  pub stop-shows : (h : ℕ) (profile : Option Profile) (f : DirFault) (s : Stop) (a b : Seen) → s ≡ stop_of f → BlamesOnly root (dir_fault {A = Entry} (Err f)) → ShownDir {A = Entry} hash (dirs.IsBad N h profile) (Err f) a b
+      → Shown hash (IsBadInTree hash N profile root) (stop_fault {A = Entry} (Err s)) a b
+  stop-shows h profile f s a b is blames shown = subst (λ (s : Stop). Shown hash (IsBadInTree hash N profile root) (stop_fault {A = Entry} (Err s)) a b) (sym is) (by f blames shown)
+    where
+      by : (f : DirFault) → BlamesOnly root (dir_fault {A = Entry} (Err f)) → ShownDir {A = Entry} hash (dirs.IsBad N h profile) (Err f) a b → Shown hash (IsBadInTree hash N profile root) (stop_fault {A = Entry} (Err (stop_of f))) a b
+      by (dir.Collision first second) blames shown = shown
+      by dir.TooBig blames shown = shown
+      by (dir.Store g) blames shown = way-shows h profile g a b blames shown
 
 -- what is listed of a folder
 pub entries-says : (X : List ℕ → List ℕ) (N : List ℕ → ℕ) → IsHash X → ((name : List ℕ) → N name < 2 ^ 64) → (told : Told) (p : Profile) (e : Entry) (es : Entries) (r : Result (List Named) StoreFault) → IsAgreed X N told p e (Dir es)

@@ -1,6 +1,6 @@
 -- Moves and copies: what a lookup of the source, a target or a spot, and an edit give together.
 use Rattle.std.proofs.Common.{◌≡◌, ℕ, ◌+◌, ◌-◌, ◌*◌, ◌≤◌, List, [], ◌∷◌, ◌++◌, length, take, refl, ap, arith, sym, ◌∙◌, subst, true, false, Bool, Option, Some, None, Result, Ok, Err}
-use Rattle.std.specs.Prelude.{◌||◌, get_or, slice_get}
+use Rattle.std.specs.Prelude.{◌||◌, get_or}
 use Rattle.uf_cid.specs.Blocks.{Held}
 use Rattle.uf_edge.specs.Counts.{Stood}
 use Rattle.uf_path.specs.declared.path.Path.{Path}
@@ -16,7 +16,7 @@ use Rattle.uf_store.specs.Seen.{Seen}
 use Rattle.uf_store.proofs.Calls.{calm-then, reads-saves, shown-rises, stood-back, stood-front}
 use Rattle.uf_tree.specs.declared.nodes.Entry.{Entry}
 use Rattle.uf_tree.specs.declared.profile.Profile.{Profile}
-use Rattle.uf_tree.specs.Tree.{Tree, File, Dir, Entries}
+use Rattle.uf_tree.specs.Tree.{Tree, Dir, Entries}
 use Rattle.uf_tree.specs.TreePlan.{blocks}
 use Rattle.uf_plain.specs.declared.rule.Refused.{Refused}
 use Rattle.uf_plain.specs.declared.rule.Rule.{Rule}
@@ -25,7 +25,7 @@ use Rattle.uf_plain.specs.Edits.{and_then, at, child, is_folder_at}
 use Rattle.uf_plain.specs.declared.spot.Lie.TheVariants.{Itself}
 use Rattle.uf_plain.specs.Needs.{way}
 use Rattle.uf_plain.specs.Moves.{allowed_move, as_vacant, carried, copied, folder_at, landing, lie_of, moved_to, name_of, placed_at, put_at_spot, spot_in, spot_names, spotted, target, then_go, told_of}
-use Rattle.uf_plain.specs.Rules.{allowed, rule_of}
+use Rattle.uf_plain.specs.Rules.{allowed}
 use Rattle.uf_mfs.specs.declared.fault.MfsFault.{MfsFault}
 use Rattle.uf_mfs.specs.declared.fault.MfsFault.TheVariants as fault
 use Rattle.uf_mfs.specs.declared.mfs.Mfs.{Mfs}

@@ -10,7 +10,7 @@ use Rattle.uf_edge.specs.Streams.{Told as SinkTold, AppendsPrefix, after}
 use Rattle.uf_fileread.specs.declared.fault.RangeFault.{RangeFault}
 use Rattle.uf_fileread.specs.declared.fault.RangeFault.TheVariants as ranges
 use Rattle.uf_fileread.specs.Bad.{IsBadInFile}
-use Rattle.uf_fileread.specs.Ranges.{IsFile, IsFirstLossOf, ShowsRange, WritesOver, blocks_met, blocks_read, meets, range_of}
+use Rattle.uf_fileread.specs.Ranges.{AppendsAtMost, IsFile, IsFirstLossOf, ShowsRange, WritesOver, blocks_met, blocks_read, meets, range_of}
 use Rattle.uf_store.specs.declared.store.Role.{Role}
 use Rattle.uf_store.specs.declared.store.StoreFault.{StoreFault}
 use Rattle.uf_store.specs.declared.store.StoreFault.TheVariants.{Failed, Damaged, Missing, BadBlock, Clash, Memory}
@@ -43,8 +43,8 @@ use Rattle.uf_mfs.specs.declared.fault.Stop.TheVariants as stop
 use Rattle.uf_mfs.specs.declared.mfs.Mfs.{Mfs}
 use Rattle.uf_mfs.specs.declared.thing.Thing.TheVariants.{File as FileAt, Folder as FolderAt}
 use Rattle.uf_mfs.specs.Answers.{Answers, AnswersOr, MeetsOr, Tells}
-use Rattle.uf_mfs.specs.Bad.{IsBad}
-use Rattle.uf_mfs.specs.Reading.{IsBadRead, IsHeightOf, IsRangeFault, SendsAll, ShownSending, range_needs, to_read}
+use Rattle.uf_mfs.specs.Bad.{IsBadInTree}
+use Rattle.uf_mfs.specs.Reading.{CanRise, IsBadRead, IsHeightOf, IsRangeFault, SendsAll, ShownSending, range_needs, to_read}
 use Rattle.uf_mfs.specs.Standing.{IsAgreed, IsAgreedThing, IsPlanOf, StandsAt}
 use Rattle.uf_mfs.specs.Steps.{stop_fault}
 use Rattle.uf_mfs.proofs.Files.{entry-is, is-file-root, rooted}
@@ -135,6 +135,13 @@ after-none (Some bytes) = ap (λ (l : List ℕ). Some l) (sym (append-nil bytes)
 -- nothing was written
 pub nothing-sent : (bytes : List ℕ) (held : SinkTold) → AppendsPrefix bytes held held
 nothing-sent bytes held = record { count = 0; fits = search arith; appended = after-none held }
+
+pub none-appended : (most : ℕ) (held : SinkTold) → AppendsAtMost most held held
+none-appended most held = record { count = 0; few = search arith; appends = record { bytes = []; count = refl; appended = after-none held } }
+
+-- a count that stays below its last value has stood
+pub stood-calm : (a b : ℕ) → b ≡ a → CanRise a → Stood a b
+stood-calm a b same room = omega (arith, same, room)
 
 module _ (X : List ℕ → List ℕ) (N : List ℕ → ℕ) (p : Profile) (told : Told) (names : List (List ℕ)) (es : Entries) where
   abbrev pub found : Result Tree Refused
@@ -247,50 +254,54 @@ module _ (X : List ℕ → List ℕ) (N : List ℕ → ℕ) (p : Profile) (told 
       by (Ok (Dir fs)) h tall = tt
       by (Ok (File bytes)) h tall = read-among X p.chunk p.width P height offset count bytes (plan-over bytes ok height tall P (file-blocks bytes P h))
 
+  -- a file has a height
+  pub tall : IsTrue (is_profile p) → (height : ℕ) × IsHeightOf p height w
+  tall ok = tall-of w (λ bytes is. ((rooted X p bytes ok).0, (rooted X p bytes ok).1.least))
+
   pub read-held : {D : Type 0} (Q : List ℕ → D → Type 0) (mfs : Mfs) (offset count : ℕ) (r : Result D MfsFault) → StandsAt X N told mfs p es
       → ((height : ℕ) → IsHeightOf p height w → AnswersOr (IsLossOf told (needs_at X N p (range_needs X p height offset count) names (Dir es))) Q names (range_at offset count names es) r)
       → Answers Q names (range_at offset count names es) r
   read-held Q mfs offset count r s lost =
       let ok = s.root.profile in
-      let tall = tall-of w (λ bytes is. ((rooted X p bytes ok).0, (rooted X p bytes ok).1.least)) in
-      answers-held told (needs_at X N p (range_needs X p tall.0 offset count) names (Dir es)) Q names (range_at offset count names es) r
-      (tells-among told (blocks X N p (Dir es)) _ (needs-here ok tall.0 offset count tall.1) s.root.held) (lost tall.0 tall.1)
+      let h = tall ok in
+      answers-held told (needs_at X N p (range_needs X p h.0 offset count) names (Dir es)) Q names (range_at offset count names es) r
+      (tells-among told (blocks X N p (Dir es)) _ (needs-here ok h.0 offset count h.1) s.root.held) (lost h.0 h.1)
 
 -- ---- what the call shows
 
-module _ (hash : List ℕ → List ℕ) (N : List ℕ → ℕ) (told : Told) where
-  pub way-shows : (f : StoreFault) (a b : Seen) → Shows hash (IsBad N None) f a b → Shows hash (IsBadRead N told) f a b
-  way-shows f a b h = Shows-by hash (IsBad N None) (IsBadRead N told) f a b (λ role bytes bad. inl bad) h
+module _ (hash : List ℕ → List ℕ) (N : List ℕ → ℕ) (told : Told) (root : Cid) where
+  pub way-shows : (f : StoreFault) (a b : Seen) → Shows hash (IsBadInTree hash N None root) f a b → Shows hash (IsBadRead hash N told root) f a b
+  way-shows f a b h = Shows-by hash (IsBadInTree hash N None root) (IsBadRead hash N told root) f a b (λ role bytes bad. inl bad) h
 
   -- a lookup that stopped
-  pub stopped-shows : (names : List (List ℕ)) (s : Stop) (f : MfsFault) (a b : Seen) (n : ℕ) → Tells names s f → Shown hash (IsBad N None) (stop_fault {A = ℕ} (Err s)) a b
-      → ShownSending {A = ℕ} hash (IsBadRead N told) (Err f) a b n n
+  pub stopped-shows : (names : List (List ℕ)) (s : Stop) (f : MfsFault) (a b : Seen) (n : ℕ) → Tells names s f → Shown hash (IsBadInTree hash N None root) (stop_fault {A = ℕ} (Err s)) a b
+      → ShownSending {A = ℕ} hash (IsBadRead hash N told root) (Err f) a b n n
   stopped-shows names (stop.Refused why) (fault.Rule rule) a b n t h = (h, refl)
   stopped-shows names (stop.Refused why) (fault.Ready ready) a b n t h = absurd t
   stopped-shows names (stop.Refused why) fault.Sink a b n t h = absurd t
   stopped-shows names (stop.Refused why) (fault.Store f) a b n t h =
-      subst (λ f. ShownSending {A = ℕ} hash (IsBadRead N told) (Err (fault.Store f)) a b n n) (sym t) (calm-rises a b h, refl)
-  stopped-shows names (stop.Store g) f a b n t h = subst (λ f. ShownSending {A = ℕ} hash (IsBadRead N told) (Err f) a b n n) (sym t) (way-shows g a b h, refl)
+      subst (λ f. ShownSending {A = ℕ} hash (IsBadRead hash N told root) (Err (fault.Store f)) a b n n) (sym t) (calm-rises a b h, refl)
+  stopped-shows names (stop.Store g) f a b n t h = subst (λ f. ShownSending {A = ℕ} hash (IsBadRead hash N told root) (Err f) a b n n) (sym t) (way-shows g a b h, refl)
 
   pub calm-calm : (a b c : Seen) → StaysCalm a b → StaysCalm b c → StaysCalm a c
   calm-calm a b c p q = record { finds = omega (arith, p.finds, q.finds); misses = omega (arith, p.misses, q.misses); faults = q.faults ∙ p.faults; clashes = q.clashes ∙ p.clashes }
 
   -- a reading after a lookup
-  pub range-shows : (root : Cid) (f : RangeFault) (given : MfsFault) (a b c : Seen) (n m : ℕ) → IsRangeFault f given → StaysCalm a b → b.told ≡ a.told → told ≡ a.told
-      → ShowsRange hash (IsBadInFile b.told root) (Err f) b c n m → ShownSending {A = ℕ} hash (IsBadRead N told) (Err given) a c n m
-  range-shows root ranges.Sink given a b c n m is calm same here h =
-      subst (λ given. ShownSending {A = ℕ} hash (IsBadRead N told) (Err given) a c n m) (sym is) (calm-calm a b c calm h.0, h.1)
-  range-shows root (ranges.Store f) given a b c n m is calm same here h =
-      subst (λ given. ShownSending {A = ℕ} hash (IsBadRead N told) (Err given) a c n m) (sym is) (
-        Shows-after hash (IsBadRead N told) f a b c calm (Shows-by hash (IsBadInFile b.told root) (IsBadRead N told) f b c
-            (λ role bytes bad. inr (root, subst (λ told. IsBadInFile told root role bytes) (same ∙ sym here) bad)) h.0),
+  pub range-shows : (file : Cid) (f : RangeFault) (given : MfsFault) (a b c : Seen) (n m : ℕ) → IsRangeFault f given → StaysCalm a b → b.told ≡ a.told → told ≡ a.told
+      → ShowsRange hash (IsBadInFile b.told file) (Err f) b c n m → ShownSending {A = ℕ} hash (IsBadRead hash N told root) (Err given) a c n m
+  range-shows file ranges.Sink given a b c n m is calm same here h =
+      subst (λ given. ShownSending {A = ℕ} hash (IsBadRead hash N told root) (Err given) a c n m) (sym is) (calm-calm a b c calm h.0, h.1)
+  range-shows file (ranges.Store f) given a b c n m is calm same here h =
+      subst (λ given. ShownSending {A = ℕ} hash (IsBadRead hash N told root) (Err given) a c n m) (sym is) (
+        Shows-after hash (IsBadRead hash N told root) f a b c calm (Shows-by hash (IsBadInFile b.told file) (IsBadRead hash N told root) f b c
+            (λ role bytes bad. inr (file, subst (λ told. IsBadInFile told file role bytes) (same ∙ sym here) bad)) h.0),
         h.1,
       )
 
--- a sink that stood didn't fail
-pub sink-calm : (hash : List ℕ → List ℕ) (Bad : Role → List ℕ → Type 0) (f : RangeFault) (b d : Seen) (n m : ℕ) → ShowsRange hash Bad (Err f) b d n m → Stood n m → f ≡ ranges.Sink → ⊥
-sink-calm hash Bad ranges.Sink b d n m h stood is = absurd (omega (arith, h.1, stood))
-sink-calm hash Bad (ranges.Store f) b d n m h stood is = absurd cc
+-- a sink that failed is told as such
+pub range-sink : (f : RangeFault) (given : MfsFault) → IsRangeFault f given → f ≡ ranges.Sink → given ≡ fault.Sink
+range-sink ranges.Sink given is e = is
+range-sink (ranges.Store f) given is e = absurd cc
 
 pub range-rises : (hash : List ℕ → List ℕ) (Bad : Role → List ℕ → Type 0) (r : Result ℕ RangeFault) (b d : Seen) (n m : ℕ) → ShowsRange hash Bad r b d n m → b.faults ≤ d.faults
 range-rises hash Bad (Ok k) b d n m h = (let same = h.0.faults in omega (arith, same))

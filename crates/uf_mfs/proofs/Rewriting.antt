@@ -52,8 +52,9 @@ use Rattle.uf_mfs.specs.Standing.{IsAfter, IsPlanOf, TellsHeld}
 use Rattle.uf_mfs.specs.Steps.{EditsFolder, IsFolderOver, stop_fault}
 use Rattle.uf_fileedit.specs.Touches.{BlamedAfter, TouchedFirst}
 use Rattle.uf_mfs.specs.Touches.{CountsUp, TouchesFolder, crossings_of, entries_at}
-use Rattle.uf_mfs.specs.Bad.{IsBad}
-use Rattle.uf_mfs.specs.Writes.{MakesFile, IsBadInSome, IsBadWritten, IsFileOver, IsStart, IsStepOf, file_touches, fitting_bytes, member_at, rewriting_touches, with_fitting}
+use Rattle.uf_mfs.specs.Bad.{IsBadInTree, RequiresDirectory}
+use Rattle.uf_mfs.proofs.Judging.{bad-below}
+use Rattle.uf_mfs.specs.Writes.{MakesFile, IsBadInSome, IsBadWrittenIn, IsFileOver, IsStart, IsStepOf, file_touches, fitting_bytes, member_at, rewriting_touches, with_fitting}
 use Rattle.uf_mfs.proofs.After.{after-held, after-kept, after-some, loss-after, onward}
 use Rattle.uf_mfs.proofs.Agreed.{child-among}
 use Rattle.uf_mfs.proofs.Files.{few, rooted}
@@ -443,13 +444,22 @@ module _ (X : List ℕ → List ℕ) (N : List ℕ → ℕ) (p : Profile) where
 
   -- ---- whose blocks are bad
 
-  pub way-written : {fault : Option StoreFault} {a b : Seen} (told : Told) → OnlySaves X (IsBad N (Some p)) fault a b
-      → OnlySaves X (IsBadWritten X N p told) fault a b
-  way-written told h = saves-by (IsBadWritten X N p told) (λ role bytes bad. inl bad) h
+  pub way-written : {fault : Option StoreFault} {a b : Seen} (told : Told) (root : Cid) → OnlySaves X (IsBadInTree X N (Some p) root) fault a b
+      → OnlySaves X (IsBadWrittenIn X N p told root) fault a b
+  way-written told root h = saves-by (IsBadWrittenIn X N p told root) (λ role bytes bad. inl bad) h
 
-  pub in-written : {fault : Option StoreFault} {a b : Seen} (told : Told)
-      → OnlySaves X (IsBadInSome X p told) fault a b → OnlySaves X (IsBadWritten X N p told) fault a b
-  in-written told h = saves-by (IsBadWritten X N p told) (λ role bytes bad. inr bad) h
+  pub in-written : {fault : Option StoreFault} {a b : Seen} (told : Told) (root : Cid)
+      → OnlySaves X (IsBadInSome X p told) fault a b → OnlySaves X (IsBadWrittenIn X N p told root) fault a b
+  in-written told root h = saves-by (IsBadWrittenIn X N p told root) (λ role bytes bad. inr bad) h
+
+  -- below a directory that is required
+  pub written-below : {fault : Option StoreFault} {a b : Seen} (told : Told) (root below : Cid) → RequiresDirectory X root below.digest
+      → OnlySaves X (IsBadWrittenIn X N p told below) fault a b → OnlySaves X (IsBadWrittenIn X N p told root) fault a b
+  written-below told root below r h = saves-by (IsBadWrittenIn X N p told root) by h
+    where
+      by : (role : Role) (bytes : List ℕ) → IsBadWrittenIn X N p told below role bytes → IsBadWrittenIn X N p told root role bytes
+      by role bytes (inl bad) = inl (bad-below X N (Some p) root below r role bytes bad)
+      by role bytes (inr bad) = inr bad
 
   pub in-some : {fault : Option StoreFault} {a b : Seen} (told : Told) (root : Cid)
       → OnlySaves X (IsBadEdited X p told root) fault a b → OnlySaves X (IsBadInSome X p told) fault a b

@@ -1,5 +1,5 @@
 -- What an edit of the tree in memory answers, over all blocks held and over some lost.
-use Rattle.std.proofs.Common.{◌≡◌, ℕ, List, [], refl, ap, sym, ◌∙◌, subst, Result, Ok, Err}
+use Rattle.std.proofs.Common.{◌≡◌, ℕ, ◌++◌, List, [], refl, ap, sym, ◌∙◌, subst, Result, Ok, Err}
 use Rattle.uf_edge.specs.Counts.{Stood}
 use Rattle.uf_cid.specs.Blocks.{Held}
 use Rattle.uf_store.specs.Contents.{Told}
@@ -7,21 +7,21 @@ use Rattle.uf_store.specs.Keeping.{KeepsGood}
 use Rattle.uf_store.specs.Seen.{Seen}
 use Rattle.uf_tree.specs.declared.nodes.Entry.{Entry}
 use Rattle.uf_tree.specs.declared.profile.Profile.{Profile}
-use Rattle.uf_tree.specs.Tree.{Dir, Entries}
+use Rattle.uf_tree.specs.Tree.{Dir, Entries, Tree}
 use Rattle.uf_tree.specs.TreePlan.{blocks}
 use Rattle.uf_plain.specs.declared.rule.Refused.{Refused}
-use Rattle.uf_plain.specs.Rules.{rule_of}
+use Rattle.uf_plain.specs.Rules.{allowed, rule_of}
 use Rattle.uf_mfs.specs.declared.fault.MfsFault.{MfsFault}
 use Rattle.uf_mfs.specs.declared.fault.MfsFault.TheVariants as fault
 use Rattle.uf_mfs.specs.declared.fault.Stop.{Stop}
 use Rattle.uf_mfs.specs.declared.fault.Stop.TheVariants as stop
 use Rattle.uf_mfs.specs.declared.mfs.Mfs.{Mfs}
 use Rattle.uf_mfs.specs.Answers.{EditsAfter, MovesAfter, MovesTo, Settles}
-use Rattle.uf_mfs.specs.Standing.{StandsAfter, StandsAt, TellsHeld}
+use Rattle.uf_mfs.specs.Standing.{IsEntry, IsPlanOf, StandsAfter, StandsAt, TellsHeld}
 use Rattle.uf_mfs.specs.Steps.{GivesFolder, IsFolderOver, MovesTree}
 use Rattle.uf_mfs.proofs.Agreed.{plan-of}
 use Rattle.uf_mfs.proofs.Hinge.{are-good}
-use Rattle.uf_mfs.proofs.Holding.{loss-fault, tells-after, tells-agrees, tells-kept, wants}
+use Rattle.uf_mfs.proofs.Holding.{append, loss-fault, tells-after, tells-agrees, tells-append, tells-kept, wants}
 
 module _ (X : List ℕ → List ℕ) (N : List ℕ → ℕ) where
   -- an edit of the root is one of the tree in memory
@@ -76,3 +76,27 @@ module _ (X : List ℕ → List ℕ) (N : List ℕ → ℕ) where
         stays = record { first = tells-agrees before.told _ held; last = tells-agrees now.told _ (tells-kept X before.told now.told _ (are-good X N p (Dir es)) keeps held) };
         calm = record { faults = faults; clashes = clashes };
       }))
+
+  -- of an edit that brings the blocks of another tree, which are held too
+  pub moves-held-with : (before now : Seen) (names : List (List ℕ)) (was is : Mfs) (e : Entry) (t : Tree) (next : Entries → Result Entries Refused) (step : Result Entry Stop) (r : Result Unit MfsFault) → KeepsGood X before.told now.told
+      → Settles names step was is r
+      → (IsPlanOf X N was.profile e t → GivesFolder X N was.profile before now (blocks X N was.profile t) was.root (λ es. allowed X N was.profile (next es)) step)
+      → (p : Profile) (es : Entries) → IsEntry X N before.told p e t → StandsAt X N before.told was p es → Stood before.faults now.faults → Stood before.clashes now.clashes
+      → MovesTo X N now.told p names is (allowed X N p (next es)) r
+  moves-held-with before now names was is e t next step r keeps settles edits p es i s faults clashes = by p s.profile_is i s.root
+    where
+      own : IsEntry X N before.told was.profile e t → IsEntry X N before.told was.profile was.root (Dir es) → MovesTo X N now.told was.profile names is (allowed X N was.profile (next es)) r
+      own i s =
+          let held : TellsHeld before.told (blocks X N was.profile t ++ blocks X N was.profile (Dir es)) = tells-append before.told (blocks X N was.profile t) (blocks X N was.profile (Dir es)) i.held s.held in
+          let good = append _ (blocks X N was.profile t) (blocks X N was.profile (Dir es)) (are-good X N was.profile t) (are-good X N was.profile (Dir es)) in
+          let old = blocks X N was.profile t ++ blocks X N was.profile (Dir es) in
+          held-moves before.told now.told old was.profile names is (allowed X N was.profile (next es)) r held
+          (by-root was.profile before.told now.told old names was is refl (allowed X N was.profile (next es)) step r settles (edits (plan-of X N was.profile before.told e t i) es (record {
+            plan = plan-of X N was.profile before.told was.root (Dir es) s;
+            stays = record { first = tells-agrees before.told _ held; last = tells-agrees now.told _ (tells-kept X before.told now.told _ good keeps held) };
+            calm = record { faults = faults; clashes = clashes };
+          })))
+
+      by : (p : Profile) → was.profile ≡ p → IsEntry X N before.told p e t → IsEntry X N before.told p was.root (Dir es) → MovesTo X N now.told p names is (allowed X N p (next es)) r
+      by p same i root = subst (λ (q : Profile). MovesTo X N now.told q names is (allowed X N q (next es)) r) same
+          (own (subst (λ (q : Profile). IsEntry X N before.told q e t) (sym same) i) (subst (λ (q : Profile). IsEntry X N before.told q was.root (Dir es)) (sym same) root))

@@ -1,11 +1,10 @@
 -- Something taken away in the tree and put elsewhere.
-use Rattle.std.proofs.Common.{◌≡◌, ℕ, ◌+◌, ◌*◌, ◌≤◌, List, [], ◌∷◌, ◌++◌, length, refl, ap, arith, sym, ◌∙◌, subst, true, false, Option, Some, None, Result, Ok, Err}
+use Rattle.std.proofs.Common.{◌≡◌, ℕ, ◌+◌, ◌*◌, ◌≤◌, List, [], ◌∷◌, ◌++◌, length, refl, ap, arith, sym, subst, true, Option, Some, None, Result, Ok, Err}
 use Rattle.uf_cid.specs.Blocks.{Held}
 use Rattle.uf_store.specs.declared.store.Role.{Role}
 use Rattle.uf_store.specs.declared.store.StoreFault.{StoreFault}
 use Rattle.uf_store.specs.Calls.{OnlySaves}
 use Rattle.uf_store.specs.Contents.{Told}
-use Rattle.uf_store.specs.Lost.{AgreesAfter, IsLossOf}
 use Rattle.uf_store.specs.Seen.{Seen}
 use Rattle.uf_tree.specs.declared.nodes.Entry.{Entry}
 use Rattle.uf_tree.specs.declared.profile.Profile.{Profile}
@@ -23,9 +22,9 @@ use Rattle.uf_mfs.specs.declared.fault.MfsFault.TheVariants as fault
 use Rattle.uf_mfs.specs.declared.fault.Stop.{Stop}
 use Rattle.uf_mfs.specs.declared.thing.Thing.{Thing}
 use Rattle.uf_mfs.specs.declared.thing.Thing.TheVariants.{File as FileAt, Folder as FolderAt}
-use Rattle.uf_mfs.specs.Answers.{EditsAfter, MeetsOr}
+use Rattle.uf_mfs.specs.Answers.{EditsAfter}
 use Rattle.uf_mfs.specs.Moving.{GivesOr, entry_in, put_crossings, shift_crossings}
-use Rattle.uf_mfs.specs.Standing.{IsAfter, IsAgreedThing, IsPlanOf}
+use Rattle.uf_mfs.specs.Standing.{IsAgreedThing, IsPlanOf}
 use Rattle.uf_mfs.specs.Steps.{EditsFolder, GivesFolder, IsFolderOver, changed_at}
 use Rattle.uf_mfs.specs.Touches.{crossings_of, weighing_at}
 use Rattle.uf_mfs.proofs.After.{after-both, after-kept, after-some}

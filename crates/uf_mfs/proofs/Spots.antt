@@ -1,5 +1,5 @@
 -- Where something is put in the tree, and what a refusal that is told with its path says.
-use Rattle.std.proofs.Common.{◌≡◌, ℕ, ◌+◌, ◌-◌, ◌≤◌, List, [], ◌∷◌, ◌++◌, length, take, drop, refl, ap, arith, sym, ◌∙◌, subst, true, false, Option, Some, None, Result, Ok, Err}
+use Rattle.std.proofs.Common.{◌≡◌, ℕ, ◌+◌, ◌-◌, ◌≤◌, List, [], ◌∷◌, ◌++◌, length, take, refl, ap, arith, sym, ◌∙◌, subst, true, false, Option, Some, None, Result, Ok, Err}
 use Rattle.std.specs.Prelude.{◌||◌, get_or, slice_get}
 use Rattle.std.specs.List.{AllByRecursion}
 use Rattle.uf_cid.specs.Blocks.{Held}
@@ -10,13 +10,13 @@ use Rattle.uf_store.specs.Calls.{OnlyReads, OnlySaves}
 use Rattle.uf_store.specs.Contents.{Told}
 use Rattle.uf_store.specs.Faults.{Shows}
 use Rattle.uf_store.proofs.Causes.{calm-rises}
-use Rattle.uf_store.proofs.Calls.{shown-rises}
+use Rattle.uf_store.proofs.Calls.{reads-by, reads-reads, shown-rises}
 use Rattle.uf_store.specs.Lost.{IsLossOf}
 use Rattle.uf_store.specs.Seen.{Seen}
 use Rattle.uf_tree.specs.declared.nodes.Entry.{Entry}
 use Rattle.uf_tree.specs.declared.profile.Profile.{Profile}
 use Rattle.uf_tree.specs.Tree.{Tree, File, Dir, Entries}
-use Rattle.uf_tree.specs.TreePlan.{Refusal, FileTooLong as IsTooLong, Collision as Collides, TooBig as IsTooBig, blocks, refusal}
+use Rattle.uf_tree.specs.TreePlan.{blocks}
 use Rattle.uf_path.specs.declared.path.Path.{Path}
 use Rattle.uf_plain.specs.declared.rule.Refused.{Refused}
 use Rattle.uf_plain.specs.declared.rule.Refused.TheVariants.{NotADirectory, NotFound}
@@ -25,7 +25,7 @@ use Rattle.uf_plain.specs.declared.spot.Spot.{Spot}
 use Rattle.uf_plain.specs.Edits.{and_then, as_folder, at, child, is_folder_at}
 use Rattle.uf_plain.specs.Moves.{as_vacant, folder_at, landing, spot_in, spot_names, spotted, target, then_go, told_of}
 use Rattle.uf_plain.specs.Needs.{member_needs, way}
-use Rattle.uf_plain.specs.Rules.{allowed, rule_of, unless}
+use Rattle.uf_plain.specs.Rules.{rule_of}
 use Rattle.uf_mfs.specs.declared.fault.MfsFault.{MfsFault}
 use Rattle.uf_mfs.specs.declared.fault.MfsFault.TheVariants as fault
 use Rattle.uf_mfs.specs.declared.fault.Stop.{Stop}
@@ -33,8 +33,8 @@ use Rattle.uf_mfs.specs.declared.fault.Stop.TheVariants as stop
 use Rattle.uf_mfs.specs.declared.target.Target.{Target}
 use Rattle.uf_mfs.specs.declared.thing.Thing.{Thing}
 use Rattle.uf_mfs.specs.declared.thing.Thing.TheVariants.{File as FileAt, Folder as FolderAt}
-use Rattle.uf_mfs.specs.Answers.{MeetsOr, ShownInTree, Tells}
-use Rattle.uf_mfs.specs.Moving.{EditsTree, Gives, GivesOr, GivesOver, IsFound, IsInTree, ReadsTree, folder_there, lands, vacant_at}
+use Rattle.uf_mfs.specs.Answers.{MeetsOr, Tells}
+use Rattle.uf_mfs.specs.Moving.{EditsTree, Gives, GivesOr, GivesOver, IsFound, ReadsTree, folder_there, lands, vacant_at}
 use Rattle.uf_fileread.specs.declared.size.FileSize.{FileSize}
 use Rattle.uf_mfs.specs.Standing.{IsAgreed, IsAgreedMember, IsAgreedThing, TellsHeld}
 use Rattle.uf_mfs.specs.Steps.{stop_fault, tree_fault}
@@ -190,6 +190,11 @@ module _ (X : List ℕ → List ℕ) (N : List ℕ → ℕ) (p : Profile) where
 -- no count of faults falls in a call that reads the tree
 pub tree-rises : {hash : List ℕ → List ℕ} {Bad : Role → List ℕ → Type 0} {A : Type 0} {a b : Seen} (r : Result A MfsFault) → ReadsTree hash Bad r a b → a.faults ≤ b.faults
 tree-rises {hash} {Bad} {A} {a} {b} r h = (shown-rises hash Bad (tree_fault r) a b h.reads.cause).faults
+
+-- what a call that reads the tree shows, behind one that read it, and by another judge
+pub tree-after : {hash : List ℕ → List ℕ} {Bad Other : Role → List ℕ → Type 0} {A : Type 0} {a b c : Seen} {r : Result A MfsFault} → ((role : Role) (bytes : List ℕ) → Bad role bytes → Other role bytes)
+    → OnlyReads hash Other None a b → ReadsTree hash Bad r b c → ReadsTree hash Other r a c
+tree-after {hash} {Bad} {Other} more first h = record { reads = reads-reads first (reads-by Other more h.reads); in_tree = h.in_tree }
 
 -- ---- the last name of a path
 

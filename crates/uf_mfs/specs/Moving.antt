@@ -1,9 +1,10 @@
 -- Copies and moves in the tree: a refusal is told with the path that it is about.
-use Rattle.std.specs.Prelude.{◌≡◌, ℕ, ◌≤◌, ◌+◌, ◌*◌, List, [], ◌∷◌, ◌++◌, length, Bool, true, false, ⊤}
+use Rattle.std.specs.Prelude.{◌≡◌, ℕ, ◌≤◌, ◌+◌, ◌*◌, List, [], length, Bool, true, false, ⊤}
 use Rattle.std.specs.declared.option.Option.{Option}
 use Rattle.std.specs.declared.option.Option.TheVariants.{None, Some}
 use Rattle.std.specs.declared.result.Result.{Result}
 use Rattle.std.specs.declared.result.Result.TheVariants.{Ok, Err}
+use Rattle.uf_edge.specs.Counts.{Stood}
 use Rattle.uf_path.specs.declared.path.Path.{Path}
 use Rattle.uf_plain.specs.declared.rule.Rule.{Rule}
 use Rattle.uf_plain.specs.declared.rule.Rule.TheVariants as rules
@@ -12,7 +13,8 @@ use Rattle.uf_plain.specs.declared.spot.Lie.TheVariants.{Itself}
 use Rattle.uf_plain.specs.declared.spot.Spot.{Spot}
 use Rattle.uf_plain.specs.declared.rule.Refused.{Refused}
 use Rattle.uf_plain.specs.Edits.{and_then, at, child, removed}
-use Rattle.uf_plain.specs.Moves.{allowed_move, as_vacant, folder_at, lie_of, name_of, put_at_spot, spot_in, spot_names, spotted, target, then_go, told_of}
+use Rattle.uf_plain.specs.Moves.{allowed_move, as_vacant, folder_at, lie_of, name_of, put_at_spot, spot_in, spot_names}
+use Rattle.uf_plain.specs.Moves.{spotted, target, then_go, told_of}
 use Rattle.uf_store.specs.declared.store.StoreFault.{StoreFault}
 use Rattle.uf_store.specs.declared.store.StoreFault.TheVariants.{Memory}
 use Rattle.uf_store.specs.declared.store.Role.{Role}
@@ -30,7 +32,7 @@ use Rattle.uf_mfs.specs.declared.mfs.Mfs.{Mfs}
 use Rattle.uf_mfs.specs.declared.target.Target.{Target}
 use Rattle.uf_mfs.specs.declared.thing.Thing.{Thing}
 use Rattle.uf_mfs.specs.declared.thing.Thing.TheVariants.{File as FileAt, Folder as FolderAt}
-use Rattle.uf_mfs.specs.Standing.{IsAfter, IsAgreedMember, IsAgreedThing, StandsAfter}
+use Rattle.uf_mfs.specs.Standing.{IsAfter, IsAgreedMember, IsAgreedThing, StandsAfter, StandsAt}
 use Rattle.uf_mfs.specs.Steps.{IsFolderOver, tree_fault}
 use Rattle.uf_mfs.specs.Touches.{crossings_of, weighing_at}
 
@@ -110,8 +112,8 @@ module _ (X : List ℕ → List ℕ) (N : List ℕ → ℕ) where
     pub there : IsAgreedMember X N told p (child found.0.name found.1) given.there
 
   -- a call that looks for a place in the tree gives this, or one of the tree's blocks is lost
-  abbrev pub GivesOver : {A B : Type 0} → Told → Profile → Entries → (A → B → Type 0) → Result A Rule → Result B MfsFault
-      → Type 0
+  abbrev pub GivesOver : {A B : Type 0} → Told → Profile → Entries → (A → B → Type 0) → Result A Rule
+      → Result B MfsFault → Type 0
   GivesOver told p es P w r = GivesOr (IsLossOf told (blocks X N p (Dir es))) P w r
 
   module _ (before now : Seen) where
@@ -133,8 +135,9 @@ module _ (X : List ℕ → List ℕ) (N : List ℕ → ℕ) where
 
     -- and so many touches are enough for it, whatever the answer
     abbrev pub TouchesThing : (was : Mfs) → List (List ℕ) → Tree → Thing → (Entries → ℕ) → ℕ → ℕ → Type 0
-    TouchesThing was source t thing bound t0 t1 = (es : Entries) → IsFolderOver X N was.profile before now [] was.root es
-        → at 0 source (Dir es) ≡ Ok t → IsAgreedThing X N before.told was.profile t thing → t1 ≤ t0 + bound es
+    TouchesThing was source t thing bound t0 t1 = (es : Entries)
+        → IsFolderOver X N was.profile before now [] was.root es → at 0 source (Dir es) ≡ Ok t
+        → IsAgreedThing X N before.told was.profile t thing → t1 ≤ t0 + bound es
 
     -- the tree in memory moves to the next one, or a rule refuses that, or one of the old tree's blocks is lost
     abbrev pub MovesBy : (was is : Mfs) → (Profile → Entries → Result Entries Rule) → Result Unit MfsFault → Type 0
@@ -142,6 +145,12 @@ module _ (X : List ℕ → List ℕ) (N : List ℕ → ℕ) where
         → IsFolderOver X N p before now [] was.root es
         → GivesOver before.told p es
         (λ fs done. StandsAfter X N before.told now.told (blocks X N p (Dir es)) is p fs) (next p es) result
+
+    -- the same where all the old tree's blocks are held: all of the next one's are then, or memory was wanting
+    abbrev pub MovesHeld : (was is : Mfs) → (Profile → Entries → Result Entries Rule) → Result Unit MfsFault → Type 0
+    MovesHeld was is next result = (p : Profile) (es : Entries) → StandsAt X N before.told was p es
+        → Stood before.faults now.faults → Stood before.clashes now.clashes
+        → Gives (λ fs done. StandsAt X N now.told is p fs) (next p es) result
 
 -- a move goes to where its source is
 abbrev pub IsOntoItself : List (List ℕ) → Path → Entries → Type 0

@@ -1,5 +1,5 @@
 -- A file of the tree read.
-use Rattle.std.specs.Prelude.{◌≡◌, ◌⊎◌, ◌+◌, ◌*◌, ℕ, List, [], length}
+use Rattle.std.specs.Prelude.{◌≡◌, ◌⊎◌, ◌<◌, ◌+◌, ◌*◌, ◌-◌, ◌^◌, ℕ, List, [], length}
 use Rattle.std.specs.declared.option.Option.TheVariants.{None}
 use Rattle.std.specs.declared.result.Result.{Result}
 use Rattle.std.specs.declared.result.Result.TheVariants.{Ok, Err}
@@ -21,12 +21,16 @@ use Rattle.uf_tree.specs.Tree.{Tree, File, Dir}
 use Rattle.uf_plain.specs.declared.rule.Refused.{Refused}
 use Rattle.uf_mfs.specs.declared.fault.MfsFault.{MfsFault}
 use Rattle.uf_mfs.specs.declared.fault.MfsFault.TheVariants as fault
-use Rattle.uf_mfs.specs.Bad.{IsBad}
+use Rattle.uf_mfs.specs.Bad.{IsBadInTree}
 
 -- the fault of a reading of a range as that of a call
 abbrev pub IsRangeFault : RangeFault → MfsFault → Type 0
 IsRangeFault ranges.Sink given = given ≡ fault.Sink
 IsRangeFault (ranges.Store f) given = given ≡ fault.Store f
+
+-- the count isn't at its last value, at which a fault would leave it as it is
+abbrev pub CanRise : ℕ → Type 0
+CanRise count = count < 2 ^ 64 - 1
 
 -- the height is that of a file, where there is one
 abbrev pub IsHeightOf : Profile → ℕ → Result (List ℕ) Refused → Type 0
@@ -57,9 +61,10 @@ abbrev pub to_read : Result (List ℕ) Refused → List ℕ
 to_read (Ok bytes) = bytes
 to_read (Err why) = []
 
--- a block that is bad on the way to a file, or in some file
-abbrev pub IsBadRead : (List ℕ → ℕ) → Told → Role → List ℕ → Type 0
-IsBadRead N told role bytes = IsBad N None role bytes ⊎ ((root : Cid) × IsBadInFile told root role bytes)
+-- a block that is bad on the way to a file of the tree with this root, or in some file
+abbrev pub IsBadRead : (List ℕ → List ℕ) → (List ℕ → ℕ) → Told → Cid → Role → List ℕ → Type 0
+IsBadRead hash N told root role bytes =
+    IsBadInTree hash N None root role bytes ⊎ ((file : Cid) × IsBadInFile told file role bytes)
 
 -- no fault of a call that reads into a sink was passed over: a fault of the store or of the sink shows its cause, and
 -- before any other answer both have stayed calm; an opened tree is ready

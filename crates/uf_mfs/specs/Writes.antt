@@ -1,5 +1,6 @@
 -- A file of the tree written into and cut.
-use Rattle.std.specs.Prelude.{◌≡◌, ◌⊎◌, ℕ, List, [], ◌∷◌, length, max, Bool, false, not, nat_lt, if◌then◌else◌}
+use Rattle.std.specs.Prelude.{◌≡◌, ◌⊎◌, ◌+◌, ◌*◌, ℕ, List, [], ◌∷◌, length, max, Bool, false, not, nat_lt}
+use Rattle.std.specs.Prelude.{if◌then◌else◌}
 use Rattle.std.specs.declared.option.Option.{Option}
 use Rattle.std.specs.declared.option.Option.TheVariants.{None, Some}
 use Rattle.std.specs.declared.result.Result.{Result}
@@ -26,13 +27,15 @@ use Rattle.uf_plain.specs.declared.file.FileEdit.TheVariants.{Write, Truncate}
 use Rattle.uf_plain.specs.declared.rule.Refused.{Refused}
 use Rattle.uf_plain.specs.declared.rule.Refused.TheVariants as why
 use Rattle.uf_plain.specs.Edits.{and_then, child, edited, with_child}
-use Rattle.uf_plain.specs.Files.{begun, fitting, new_bytes, rewritten}
+use Rattle.uf_plain.specs.Files.{begun, file_edited, fitting, new_bytes, rewritten}
 use Rattle.uf_mfs.specs.declared.fault.Stop.{Stop}
 use Rattle.uf_mfs.specs.declared.fault.Stop.TheVariants as stop
 use Rattle.uf_mfs.specs.Answers.{MeetsOr}
-use Rattle.uf_mfs.specs.Bad.{IsBad}
+use Rattle.uf_mfs.specs.Bad.{IsBad, IsBadInTree}
 use Rattle.uf_mfs.specs.Standing.{IsAfter, IsAgreed, IsPlanOf}
-use Rattle.uf_mfs.specs.Touches.{entries_at}
+use Rattle.uf_mfs.specs.Reading.{AreHeights}
+use Rattle.uf_mfs.specs.Steps.{EditsFolder}
+use Rattle.uf_mfs.specs.Touches.{TouchesFolder, crossings_of, entries_at, touch_bound}
 
 -- a block that isn't canonical at its place in some file
 abbrev pub IsBadInSome : (List ℕ → List ℕ) → Profile → Told → Role → List ℕ → Type 0
@@ -41,6 +44,11 @@ IsBadInSome X p told role bytes = (root : Cid) × IsBadEdited X p told root role
 -- a block that isn't canonical on the way to a file, or in the file that is edited
 abbrev pub IsBadWritten : (List ℕ → List ℕ) → (List ℕ → ℕ) → Profile → Told → Role → List ℕ → Type 0
 IsBadWritten X N p told role bytes = IsBad N (Some p) role bytes ⊎ IsBadInSome X p told role bytes
+
+-- the same on the way to a file of the tree with this root
+abbrev pub IsBadWrittenIn : (List ℕ → List ℕ) → (List ℕ → ℕ) → Profile → Told → Cid → Role → List ℕ → Type 0
+IsBadWrittenIn X N p told root role bytes =
+    IsBadInTree X N (Some p) root role bytes ⊎ IsBadInSome X p told role bytes
 
 -- an edit creates a file that isn't there
 abbrev pub may_create : FileEdit → Bool
@@ -121,3 +129,22 @@ module _ (X : List ℕ → List ℕ) (N : List ℕ → ℕ) (p : Profile) (befor
   abbrev pub MakesFile : List Held → Result (List ℕ) Refused → Result Entry Stop → Type 0
   MakesFile old bytes result = MeetsOr (IsLossOf before.told old)
       (λ bytes e. IsAfter X N before.told now.told old p e (File bytes)) bytes result
+
+  -- an edit of the file that these names lead to from the root
+  abbrev pub EditsFileAt : FileEdit → List ℕ → (root : Entry) → List (List ℕ) → Result Entry Stop → Type 0
+  EditsFileAt what piece root names result =
+      EditsFolder X N p before now [] root (file_edited what piece 0 names) result
+
+  -- over a tree of this root so many touches are enough for each name, and those of the edit
+  abbrev pub TouchesFileAt : (each : ℕ) → FileEdit → List ℕ → (root : Entry) → List (List ℕ) → (was is : ℕ) → Type 0
+  TouchesFileAt each what piece root names was is = (rows : ℕ → ℕ) → AreHeights p rows
+      → TouchesFolder X N p before now [] root (λ es. each * length names
+      + crossings_of X N p names es (fitting_edit p what piece names es)
+      + file_touches p rows what piece (member_at names es)) was is
+
+-- an edit of the file at these names: a few touches for each, those of directories that become sharded or basic, and
+-- those of the file
+abbrev pub writing_bound : (List ℕ → List ℕ) → (List ℕ → ℕ) → Profile → (ℕ → ℕ) → FileEdit → List ℕ → List (List ℕ)
+    → Entries → ℕ
+writing_bound X N p rows what piece names es = touch_bound X N p names es (fitting_edit p what piece names es)
+    + file_touches p rows what piece (member_at names es)

@@ -8,7 +8,7 @@ ghost use Rattle.uf_tree.specs.declared.profile.Profile.{Profile as TheProfile};
 ghost use Rattle.uf_tree.specs.Profiles.{is_profile};
 ghost use Rattle.uf_tree.specs.Tree.{Dir, Entries, Tree};
 ghost use Rattle.uf_mfs.specs.Answers.{Moves, MovesTo, Settles, ShownInTree};
-ghost use Rattle.uf_mfs.specs.Bad.{IsBad};
+ghost use Rattle.uf_mfs.specs.Bad.{IsBadInTree};
 ghost use Rattle.uf_store.specs.Calls.{OnlySaves};
 ghost use Rattle.uf_plain.specs.Edits.{at, made, removed};
 ghost use Rattle.uf_plain.specs.Rules.{allowed};
@@ -54,8 +54,9 @@ impl Mfs {
         ensures refused { OnErr result (self.new ≡ self.old) }
         ensures mfs { IsMfs self.new }
         ensures profile { self.new.profile ≡ self.old.profile }
-        ensures cause { ShownInTree S.X.block32 (IsBad N.name64 (Some self.old.profile)) result (S.seen store.old)
-            (S.seen store.new) }
+        ensures cause { ShownInTree S.X.block32
+            (IsBadInTree S.X.block32 N.name64 (Some self.old.profile) self.old.root.cid) result
+            (S.seen store.old) (S.seen store.new) }
         ensures good { KeepsGood S.X.block32 (S.seen store.old).told (S.seen store.new).told }
         ensures saves { SavesOnly S.X.block32 (S.seen store.old).told (S.seen store.new).told }
         ensures touches { (p : TheProfile) → self.old.profile ≡ p
@@ -90,8 +91,9 @@ impl Mfs {
         ensures refused { OnErr result (self.new ≡ self.old) }
         ensures mfs { IsMfs self.new }
         ensures profile { self.new.profile ≡ self.old.profile }
-        ensures cause { ShownInTree S.X.block32 (IsBad N.name64 (Some self.old.profile)) result (S.seen store.old)
-            (S.seen store.new) }
+        ensures cause { ShownInTree S.X.block32
+            (IsBadInTree S.X.block32 N.name64 (Some self.old.profile) self.old.root.cid) result
+            (S.seen store.old) (S.seen store.new) }
         ensures good { KeepsGood S.X.block32 (S.seen store.old).told (S.seen store.new).told }
         ensures saves { SavesOnly S.X.block32 (S.seen store.old).told (S.seen store.new).told }
         ensures touches { (p : TheProfile) → self.old.profile ≡ p
@@ -146,7 +148,8 @@ impl Mfs {
             → Stood (S.seen store.old).faults (S.seen store.new).faults
             → IsTrue parents → at 0 names.now (Dir es) ≡ Ok (Dir below)
             → ((S.seen store.new).told ≡ (S.seen store.old).told) × IfOk result (λ e. e ≡ self.now.root) }
-        ensures saves { OnlySaves S.X.block32 (IsBad N.name64 (Some self.now.profile)) (stop_fault result)
+        ensures saves { OnlySaves S.X.block32
+            (IsBadInTree S.X.block32 N.name64 (Some self.now.profile) self.now.root.cid) (stop_fault result)
             (S.seen store.old) (S.seen store.new) }
         ensures touches { TouchesFolder S.X.block32 N.name64 self.now.profile (S.seen store.old) (S.seen store.new) []
             self.now.root (λ es. 40 * length names.now + crossings_of S.X.block32 N.name64 self.now.profile names.now es
@@ -176,7 +179,8 @@ impl Mfs {
             → Stood (S.seen store.old).faults (S.seen store.new).faults
             → at 0 names.now (Dir es) ≡ Ok (Dir below) → ((S.seen store.new).told ≡ (S.seen store.old).told)
             × IfOk result (λ e. e ≡ self.now.root) }
-        ensures saves { OnlySaves S.X.block32 (IsBad N.name64 (Some self.now.profile)) (stop_fault result)
+        ensures saves { OnlySaves S.X.block32
+            (IsBadInTree S.X.block32 N.name64 (Some self.now.profile) self.now.root.cid) (stop_fault result)
             (S.seen store.old) (S.seen store.new) }
         ensures touches { TouchesFolder S.X.block32 N.name64 self.now.profile (S.seen store.old) (S.seen store.new) []
             self.now.root (λ es. 40 * length names.now + crossings_of S.X.block32 N.name64 self.now.profile names.now es
@@ -202,7 +206,8 @@ impl Mfs {
         ensures edits { (t : Tree) → IsMeant S.X.block32 N.name64 self.now.profile what t
             → EditsFolder S.X.block32 N.name64 self.now.profile (S.seen store.old) (S.seen store.new)
             (brought S.X.block32 N.name64 self.now.profile what t) self.now.root (changed_at what t names.now) result }
-        ensures saves { OnlySaves S.X.block32 (IsBad N.name64 (Some self.now.profile)) (stop_fault result)
+        ensures saves { OnlySaves S.X.block32
+            (IsBadInTree S.X.block32 N.name64 (Some self.now.profile) self.now.root.cid) (stop_fault result)
             (S.seen store.old) (S.seen store.new) }
         ensures touches { (t : Tree) → IsMeant S.X.block32 N.name64 self.now.profile what t
             → TouchesFolder S.X.block32 N.name64 self.now.profile (S.seen store.old) (S.seen store.new)

@@ -1,5 +1,5 @@
 // Files of the tree read.
-ghost use Rattle.std.specs.Prelude.{◌≡◌, ◌+◌, ◌*◌, ◌<◌, ◌≤◌, ℕ, IfErr, None, Ok, length};
+ghost use Rattle.std.specs.Prelude.{◌≡◌, ◌≢◌, ◌+◌, ◌*◌, ◌<◌, ◌≤◌, ℕ, Err, IfErr, None, Ok, length};
 ghost use Rattle.uf_edge.specs.Counts.{Stood};
 ghost use Rattle.uf_edge.specs.Streams.{AppendsPrefix};
 ghost use Rattle.uf_store.specs.Calls.{OnlyReads};
@@ -10,11 +10,13 @@ ghost use Rattle.uf_plain.specs.Edits.{at};
 ghost use Rattle.uf_plain.specs.Files.{plain_bytes_at, read as range_at};
 ghost use Rattle.uf_plain.specs.Needs.{needs_at, way};
 ghost use Rattle.uf_mfs.specs.Answers.{Answers, AnswersOr, MeetsOr};
-ghost use Rattle.uf_mfs.specs.Bad.{IsBad};
-ghost use Rattle.uf_mfs.specs.Reading.{AreHeights, IsBadRead, IsHeightOf, SendsAll, ShownSending};
+ghost use Rattle.uf_fileread.specs.Ranges.{AppendsAtMost};
+ghost use Rattle.uf_mfs.specs.Bad.{IsBadInTree};
+ghost use Rattle.uf_mfs.specs.Reading.{AreHeights, CanRise, IsBadRead, IsHeightOf, SendsAll, ShownSending};
 ghost use Rattle.uf_mfs.specs.Reading.{range_needs, range_touches, to_read};
 ghost use Rattle.uf_mfs.specs.Standing.{IsAgreed, StandsAt, StandsOver};
 ghost use Rattle.uf_mfs.specs.Steps.{stop_fault, tree_fault};
+ghost use Rattle.uf_mfs.specs.declared.fault.MfsFault.TheVariants as faults;
 ghost use Rattle.uf_mfs.specs.Touches.{CountsUp, read_bound};
 
 use crate::looking::look;
@@ -45,24 +47,26 @@ impl Mfs {
     ) -> Result<u64, MfsFault>
         ensures answer { (p : TheProfile) (es : Entries)
             → StandsAt S.X.block32 N.name64 (S.seen store.old).told self.now p es
-            → Stood (S.seen store.old).faults (S.seen store.new).faults → Stood (O.faults out.old) (O.faults out.new)
+            → Stood (S.seen store.old).faults (S.seen store.new).faults → result ≢ Err faults.Sink
             → Answers (λ bytes n. SendsAll (O.holds out.old) (O.holds out.new) bytes n) path.now.names
             (range_at offset count path.now.names es) result }
         ensures lost { (p : TheProfile) (es : Entries) (height : ℕ)
             → StandsOver S.X.block32 N.name64 (S.seen store.old).told self.now p es
             → IsHeightOf p height (plain_bytes_at path.now.names es)
-            → Stood (S.seen store.old).faults (S.seen store.new).faults → Stood (O.faults out.old) (O.faults out.new)
+            → Stood (S.seen store.old).faults (S.seen store.new).faults → result ≢ Err faults.Sink
             → AnswersOr (IsLossOf (S.seen store.old).told (needs_at S.X.block32 N.name64 p
             (range_needs S.X.block32 p height offset count) path.now.names (Dir es)))
             (λ bytes n. SendsAll (O.holds out.old) (O.holds out.new) bytes n) path.now.names
             (range_at offset count path.now.names es) result }
         ensures prefix { (p : TheProfile) (es : Entries)
             → StandsOver S.X.block32 N.name64 (S.seen store.old).told self.now p es
-            → Stood (S.seen store.old).faults (S.seen store.new).faults
+            → CanRise (S.seen store.old).faults
             → IfErr result (λ _. AppendsPrefix (to_read (range_at offset count path.now.names es)) (O.holds out.old)
             (O.holds out.new)) }
-        ensures cause { ShownSending S.X.block32 (IsBadRead N.name64 (S.seen store.old).told) result (S.seen store.old)
-            (S.seen store.new) (O.faults out.old) (O.faults out.new) }
+        ensures sends { AppendsAtMost count (O.holds out.old) (O.holds out.new) }
+        ensures cause { ShownSending S.X.block32
+            (IsBadRead S.X.block32 N.name64 (S.seen store.old).told self.now.root.cid) result
+            (S.seen store.old) (S.seen store.new) (O.faults out.old) (O.faults out.new) }
         ensures told { (S.seen store.new).told ≡ (S.seen store.old).told }
         ensures touches { (p : TheProfile) (es : Entries) (rows : ℕ → ℕ)
             → StandsOver S.X.block32 N.name64 (S.seen store.old).told self.now p es → AreHeights p rows
@@ -97,8 +101,8 @@ pub(crate) fn look_at_file<S: Store, N: NameHash, L: Ledger>(
         (λ bytes e. IsAgreed S.X.block32 N.name64 (S.seen store.old).told p e (File bytes))
         (plain_bytes_at names.now es) result }
     ensures touches { touches.new ≤ touches.old + 11 * length names.now }
-    ensures reads { OnlyReads S.X.block32 (IsBad N.name64 None) (stop_fault result) (S.seen store.old)
-        (S.seen store.new) }
+    ensures reads { OnlyReads S.X.block32 (IsBadInTree S.X.block32 N.name64 None root.now.cid)
+        (stop_fault result) (S.seen store.old) (S.seen store.new) }
     ensures touched { CountsUp (stop_fault result) touches.old touches.new }
 {
     match look::<S, N, L>(alloc, store, 0, names, Thing::Folder(*root, None), touches)? {

@@ -2,7 +2,6 @@
 ghost use Rattle.std.specs.Prelude.{◌≡◌, ◌≢◌, ◌+◌, ◌*◌, ◌++◌, ◌<◌, ◌≤◌, ◌^◌, List, [], ◌∷◌, ℕ, IfOk, IfSome};
 ghost use Rattle.std.specs.Prelude.{IsTrue, None, Ok, Some, length};
 ghost use Rattle.std.specs.declared.option.Option.{Option as TheOption};
-ghost use Rattle.uf_cid.specs.declared.cid.Codec.TheVariants.{DagPb};
 ghost use Rattle.uf_edge.specs.Counts.{Stood};
 ghost use Rattle.uf_store.specs.Contents.{Told};
 ghost use Rattle.uf_tree.specs.declared.profile.Profile.{Profile as TheProfile};
@@ -13,7 +12,8 @@ ghost use Rattle.uf_tree.specs.TreePlan.{blocks, named_entries};
 ghost use Rattle.uf_dir.specs.Bounds.{crossing, weighing_from};
 ghost use Rattle.uf_mfs.specs.Answers.{Decides, EditsAfter};
 ghost use Rattle.uf_plain.specs.Rules.{allowed};
-ghost use Rattle.uf_mfs.specs.Bad.{IsBad};
+ghost use Rattle.uf_mfs.specs.Bad.{IsBadInTree, RequiresDirectory};
+ghost use Rattle.uf_mfs.specs.Moving.{folder_there};
 ghost use Rattle.uf_store.specs.Calls.{OnlySaves};
 ghost use Rattle.uf_plain.specs.Edits.{as_folder, as_free, as_removable, at, change, child, done, edited, made_all};
 ghost use Rattle.uf_plain.specs.Edits.{may_be, or_new, with_child, without_child};
@@ -56,8 +56,8 @@ pub(crate) fn edit<S: Store, N: NameHash, L: Ledger>(
         → EditsFolder S.X.block32 N.name64 site.profile (S.seen store.old) (S.seen store.new)
         (brought S.X.block32 N.name64 site.profile site.what t) folder.now
         (edited (change site.what t) site.led name.now rest.now) result }
-    ensures saves { OnlySaves S.X.block32 (IsBad N.name64 (Some site.profile)) (stop_fault result) (S.seen store.old)
-        (S.seen store.new) }
+    ensures saves { OnlySaves S.X.block32 (IsBadInTree S.X.block32 N.name64 (Some site.profile) folder.now.cid)
+        (stop_fault result) (S.seen store.old) (S.seen store.new) }
     ensures touches { (t : Tree) → IsMeant S.X.block32 N.name64 site.profile site.what t
         → TouchesFolder S.X.block32 N.name64 site.profile (S.seen store.old) (S.seen store.new)
         (brought S.X.block32 N.name64 site.profile site.what t) folder.now
@@ -100,8 +100,8 @@ pub(crate) fn fill<S: Store, N: NameHash, L: Ledger>(
         → Stood (S.seen store.old).faults (S.seen store.new).faults
         → at led names.now (Dir es) ≡ Ok (Dir below) → ((S.seen store.new).told ≡ (S.seen store.old).told)
         × IfOk result (λ new. new ≡ None) }
-    ensures saves { OnlySaves S.X.block32 (IsBad N.name64 (Some profile.now)) (stop_fault result) (S.seen store.old)
-        (S.seen store.new) }
+    ensures saves { OnlySaves S.X.block32 (IsBadInTree S.X.block32 N.name64 (Some profile.now) folder.now.cid)
+        (stop_fault result) (S.seen store.old) (S.seen store.new) }
     ensures touches { TouchesFolder S.X.block32 N.name64 profile.now (S.seen store.old) (S.seen store.new) []
         folder.now (λ es. 40 * length names.now + crossings_of S.X.block32 N.name64 profile.now names.now es
         (made_all led names.now es)) touches.old touches.new }
@@ -149,8 +149,9 @@ fn open_or_make<S: Store, N: NameHash, L: Ledger>(
         → IsAgreed S.X.block32 N.name64 (S.seen store.old).told p folder.now (Dir es)
         → Stood (S.seen store.old).faults (S.seen store.new).faults
         → child name.now es ≢ None → (S.seen store.new).told ≡ (S.seen store.old).told }
-    ensures saves { OnlySaves S.X.block32 (IsBad N.name64 None) (stop_fault result) (S.seen store.old)
-        (S.seen store.new) }
+    ensures saves { OnlySaves S.X.block32 (IsBadInTree S.X.block32 N.name64 None folder.now.cid)
+        (stop_fault result) (S.seen store.old) (S.seen store.new) }
+    ensures required { IfOk result (λ found. RequiresDirectory S.X.block32 folder.now.cid found.0.cid.digest) }
     ensures touches { touches.new ≤ touches.old + 12 }
     ensures touched { CountsUp (stop_fault result) touches.old touches.new }
 {
@@ -166,9 +167,10 @@ fn open_or_make<S: Store, N: NameHash, L: Ledger>(
 
 /// The entry of a member that has to be a folder.
 pub(crate) fn folder_of(led: usize, found: Option<Thing>) -> Result<Entry, Refused>
-    ensures { (X : List ℕ → List ℕ) (N : List ℕ → ℕ) (told : Told) (p : TheProfile) (o : TheOption Tree)
+    ensures decides { (X : List ℕ → List ℕ) (N : List ℕ → ℕ) (told : Told) (p : TheProfile) (o : TheOption Tree)
         → IsAgreedMember X N told p o found
         → Decides (λ es e. IsAgreed X N told p e (Dir es)) (as_folder led o) result }
+    ensures folder { IfOk result (λ e. folder_there found ≡ Some e) }
 {
     match found {
         None => Err(Refused::NotFound(led)),
@@ -197,8 +199,8 @@ fn edit_here<S: Store, N: NameHash, L: Ledger>(
         (brought S.X.block32 N.name64 site.profile site.what t ++ blocks S.X.block32 N.name64 site.profile (Dir es))
         site.profile
         (allowed S.X.block32 N.name64 site.profile (change site.what t (site.led + 1) name.now es)) result }
-    ensures saves { OnlySaves S.X.block32 (IsBad N.name64 (Some site.profile)) (stop_fault result) (S.seen store.old)
-        (S.seen store.new) }
+    ensures saves { OnlySaves S.X.block32 (IsBadInTree S.X.block32 N.name64 (Some site.profile) folder.now.cid)
+        (stop_fault result) (S.seen store.old) (S.seen store.new) }
     ensures touches { (t : Tree) (es : Entries) → IsMeant S.X.block32 N.name64 site.profile site.what t
         → IsAgreedMember S.X.block32 N.name64 (S.seen store.old).told site.profile (child name.now es) found
         → IsFolderOver S.X.block32 N.name64 site.profile (S.seen store.old) (S.seen store.new)
@@ -276,8 +278,8 @@ fn make_in<S: Store, N: NameHash, L: Ledger>(
     requires profile { IsTrue (is_profile profile.now) }
     ensures edits { EditsFolder S.X.block32 N.name64 profile.now (S.seen store.old) (S.seen store.new) [] folder.now
         (λ es. Ok (with_child name.now (Dir Nothing) es)) result }
-    ensures saves { OnlySaves S.X.block32 (IsBad N.name64 (Some profile.now)) (stop_fault result) (S.seen store.old)
-        (S.seen store.new) }
+    ensures saves { OnlySaves S.X.block32 (IsBadInTree S.X.block32 N.name64 (Some profile.now) folder.now.cid)
+        (stop_fault result) (S.seen store.old) (S.seen store.new) }
     ensures touches { TouchesFolder S.X.block32 N.name64 profile.now (S.seen store.old) (S.seen store.new) []
         folder.now (λ es. 18 + crossing S.X.block32 N.name64 profile.now
         (named_entries S.X.block32 N.name64 profile.now es)
@@ -303,8 +305,8 @@ pub(crate) fn put_in<S: Store, N: NameHash, L: Ledger>(
     ensures edits { (t : Tree) → IsPlanOf S.X.block32 N.name64 profile.now entry.now t
         → EditsFolder S.X.block32 N.name64 profile.now (S.seen store.old) (S.seen store.new)
         (blocks S.X.block32 N.name64 profile.now t) folder.now (λ es. Ok (with_child name.now t es)) result }
-    ensures saves { OnlySaves S.X.block32 (IsBad N.name64 (Some profile.now)) (stop_fault result) (S.seen store.old)
-        (S.seen store.new) }
+    ensures saves { OnlySaves S.X.block32 (IsBadInTree S.X.block32 N.name64 (Some profile.now) folder.now.cid)
+        (stop_fault result) (S.seen store.old) (S.seen store.new) }
     ensures touches { (t : Tree) → IsPlanOf S.X.block32 N.name64 profile.now entry.now t
         → TouchesFolder S.X.block32 N.name64 profile.now (S.seen store.old) (S.seen store.new)
         (blocks S.X.block32 N.name64 profile.now t) folder.now
@@ -333,8 +335,8 @@ fn take_out<S: Store, N: NameHash, L: Ledger>(
         → EditsAfter S.X.block32 N.name64 (S.seen store.old).told (S.seen store.new).told
         (blocks S.X.block32 N.name64 profile.now (Dir es)) profile.now
         (allowed S.X.block32 N.name64 profile.now (Ok (without_child name.now es))) result }
-    ensures saves { OnlySaves S.X.block32 (IsBad N.name64 (Some profile.now)) (stop_fault result) (S.seen store.old)
-        (S.seen store.new) }
+    ensures saves { OnlySaves S.X.block32 (IsBadInTree S.X.block32 N.name64 (Some profile.now) folder.now.cid)
+        (stop_fault result) (S.seen store.old) (S.seen store.new) }
     ensures touches { TouchesFolder S.X.block32 N.name64 profile.now (S.seen store.old) (S.seen store.new) []
         folder.now (λ es. 18
         + weighing_from S.X.block32 N.name64 profile.now (named_entries S.X.block32 N.name64 profile.now es)

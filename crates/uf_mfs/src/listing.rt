@@ -6,7 +6,7 @@ ghost use Rattle.uf_tree.specs.Nodes.{Named};
 ghost use Rattle.uf_tree.specs.Tree.{Dir, Entries, Tree, pairs as pairs_in};
 ghost use Rattle.uf_mfs.specs.Answers.{Pushes};
 ghost use Rattle.uf_dir.specs.Bad.{IsBadRoot};
-ghost use Rattle.uf_mfs.specs.Bad.{IsBad};
+ghost use Rattle.uf_mfs.specs.Bad.{IsBadInTree, IsBadUnder};
 ghost use Rattle.uf_store.specs.Calls.{OnlyReads};
 ghost use Rattle.uf_store.specs.Faults.{fault_in};
 ghost use Rattle.uf_plain.specs.Replies.{last_name, names_at, row_of as row_at, rows_at, size as size_at};
@@ -38,8 +38,8 @@ pub(crate) fn names_of<S: Store, N: NameHash, L: Ledger>(
     ensures names { (p : Profile) (t : Tree) → IsAgreedThing S.X.block32 N.name64 (S.seen store.old).told p t thing
         → Stood (S.seen store.old).faults (S.seen store.new).faults
         → ReadsOver (S.seen store.old).told (own_needs S.X.block32 N.name64 p t) (names_at path.now t) result }
-    ensures reads { OnlyReads S.X.block32 (IsBad N.name64 None) (fault_in result) (S.seen store.old)
-        (S.seen store.new) }
+    ensures reads { OnlyReads S.X.block32 (IsBadUnder S.X.block32 N.name64 None thing)
+        (fault_in result) (S.seen store.old) (S.seen store.new) }
     ensures touches { (p : Profile) (t : Tree) → IsAgreedThing S.X.block32 N.name64 (S.seen store.old).told p t thing
         → touches.new ≤ touches.old + (length (own_needs S.X.block32 N.name64 p t) + 1) }
     ensures touched { CountsUp (fault_in result) touches.old touches.new }
@@ -76,8 +76,8 @@ fn names_in<S: Store, N: NameHash, L: Ledger>(
         → Stood (S.seen store.old).faults (S.seen store.new).faults
         → ReadsOver (S.seen store.old).told (own_needs S.X.block32 N.name64 p (Dir es))
         (map (λ (m : List ℕ × Tree). m.0) (pairs_in es)) result }
-    ensures reads { OnlyReads S.X.block32 (IsBad N.name64 None) (fault_in result) (S.seen store.old)
-        (S.seen store.new) }
+    ensures reads { OnlyReads S.X.block32 (IsBadInTree S.X.block32 N.name64 None folder.now.cid)
+        (fault_in result) (S.seen store.old) (S.seen store.new) }
     ensures touches { (p : Profile) (es : Entries)
         → IsAgreed S.X.block32 N.name64 (S.seen store.old).told p folder.now (Dir es)
         → touches.new ≤ touches.old + (length (own_needs S.X.block32 N.name64 p (Dir es)) + 1) }
@@ -113,8 +113,8 @@ pub(crate) fn rows_of<S: Store, N: NameHash, L: Ledger>(
         → Stood (S.seen store.old).faults (S.seen store.new).faults
         → ReadsOver (S.seen store.old).told (rows_need S.X.block32 N.name64 p t)
         (rows_at S.X.block32 N.name64 p path.now t) result }
-    ensures reads { OnlyReads S.X.block32 (IsBad N.name64 None) (fault_in result) (S.seen store.old)
-        (S.seen store.new) }
+    ensures reads { OnlyReads S.X.block32 (IsBadUnder S.X.block32 N.name64 None thing)
+        (fault_in result) (S.seen store.old) (S.seen store.new) }
     ensures touches { (p : Profile) (t : Tree) → IsAgreedThing S.X.block32 N.name64 (S.seen store.old).told p t thing
         → Stood (S.seen store.old).faults (S.seen store.new).faults
         → touches.new ≤ touches.old + (length (own_needs S.X.block32 N.name64 p t) + 1 + length (members_in t)) }
@@ -154,8 +154,8 @@ fn rows_in<S: Store, N: NameHash, L: Ledger>(
         → Stood (S.seen store.old).faults (S.seen store.new).faults
         → ReadsOver (S.seen store.old).told (rows_need S.X.block32 N.name64 p (Dir es))
         (map (λ (m : List ℕ × Tree). row_at S.X.block32 N.name64 p m.0 m.1) (pairs_in es)) result }
-    ensures reads { OnlyReads S.X.block32 (IsBad N.name64 None) (fault_in result) (S.seen store.old)
-        (S.seen store.new) }
+    ensures reads { OnlyReads S.X.block32 (IsBadInTree S.X.block32 N.name64 None folder.now.cid)
+        (fault_in result) (S.seen store.old) (S.seen store.new) }
     ensures touches { (p : Profile) (es : Entries)
         → IsAgreed S.X.block32 N.name64 (S.seen store.old).told p folder.now (Dir es)
         → Stood (S.seen store.old).faults (S.seen store.new).faults
@@ -178,8 +178,7 @@ fn rows_from<S: Store, N: NameHash, L: Ledger>(
         → Stood (S.seen store.old).faults (S.seen store.new).faults
         → ReadsOver (S.seen store.old).told (flat_map (λ (m : List ℕ × Tree). root_of S.X.block32 N.name64 p m.1) l)
         (map (λ (m : List ℕ × Tree). row_at S.X.block32 N.name64 p m.0 m.1) l) result }
-    ensures reads { OnlyReads S.X.block32 IsBadRoot (fault_in result) (S.seen store.old)
-        (S.seen store.new) }
+    ensures reads { OnlyReads S.X.block32 IsBadRoot (fault_in result) (S.seen store.old) (S.seen store.new) }
     ensures touches { touches.new ≤ touches.old + length pairs.now }
     ensures touched { CountsUp (fault_in result) touches.old touches.new }
 {
@@ -202,8 +201,7 @@ fn push_row<S: Store, N: NameHash, L: Ledger>(
         → Stood (S.seen store.old).faults (S.seen store.new).faults
         → Pushes (S.seen store.old).told (root_of S.X.block32 N.name64 p t) rows.old rows.new
         (row_at S.X.block32 N.name64 p pair.now.0 t) result }
-    ensures reads { OnlyReads S.X.block32 IsBadRoot (fault_in result) (S.seen store.old)
-        (S.seen store.new) }
+    ensures reads { OnlyReads S.X.block32 IsBadRoot (fault_in result) (S.seen store.old) (S.seen store.new) }
     ensures touches { touches.new ≤ touches.old + 1 }
     ensures touched { CountsUp (fault_in result) touches.old touches.new }
 {
@@ -225,8 +223,7 @@ fn row_of<S: Store, N: NameHash, L: Ledger>(
         → Stood (S.seen store.old).faults (S.seen store.new).faults
         → ReadsOver (S.seen store.old).told (root_of S.X.block32 N.name64 p t)
         (row_at S.X.block32 N.name64 p pair.now.0 t) result }
-    ensures reads { OnlyReads S.X.block32 IsBadRoot (fault_in result) (S.seen store.old)
-        (S.seen store.new) }
+    ensures reads { OnlyReads S.X.block32 IsBadRoot (fault_in result) (S.seen store.old) (S.seen store.new) }
     ensures touches { touches.new ≤ touches.old + 1 }
     ensures touched { CountsUp (fault_in result) touches.old touches.new }
 {
@@ -251,8 +248,7 @@ fn entry_size<S: Store, N: NameHash, L: Ledger>(
     ensures sizes { (p : Profile) (t : Tree) → IsAgreed S.X.block32 N.name64 (S.seen store.old).told p entry.now t
         → Stood (S.seen store.old).faults (S.seen store.new).faults
         → ReadsOver (S.seen store.old).told (root_of S.X.block32 N.name64 p t) (size_at t) result }
-    ensures reads { OnlyReads S.X.block32 IsBadRoot (fault_in result) (S.seen store.old)
-        (S.seen store.new) }
+    ensures reads { OnlyReads S.X.block32 IsBadRoot (fault_in result) (S.seen store.old) (S.seen store.new) }
     ensures touches { touches.new ≤ touches.old + 1 }
     ensures touched { CountsUp (fault_in result) touches.old touches.new }
 {

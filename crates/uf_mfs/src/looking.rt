@@ -1,11 +1,12 @@
 // What is at a path, looked up from its root.
 ghost use Rattle.std.specs.Prelude.{◌≡◌, ◌+◌, ◌*◌, ◌<◌, ◌≤◌, ◌^◌, IfOk, IfSome, None, Ok, length};
+ghost use Rattle.uf_cid.specs.declared.cid.Cid.{Cid as TheCid};
 ghost use Rattle.uf_edge.specs.Counts.{Stood};
 ghost use Rattle.uf_tree.specs.declared.profile.Profile.{Profile};
 ghost use Rattle.uf_tree.specs.Tree.{Dir, Entries, Tree};
 ghost use Rattle.uf_mfs.specs.Answers.{MeetsOr};
 ghost use Rattle.uf_dir.specs.Bad.{IsBadRoot};
-ghost use Rattle.uf_mfs.specs.Bad.{IsBad};
+ghost use Rattle.uf_mfs.specs.Bad.{IsBadInTree, IsBadUnder, IsRequired};
 ghost use Rattle.uf_store.specs.Calls.{OnlyReads};
 ghost use Rattle.uf_store.specs.Faults.{fault_in};
 ghost use Rattle.uf_plain.specs.Edits.{at, child};
@@ -38,8 +39,9 @@ pub(crate) fn look<S: Store, N: NameHash, L: Ledger>(
         → Stood (S.seen store.old).faults (S.seen store.new).faults
         → MeetsOr (IsLossOf (S.seen store.old).told (way S.X.block32 N.name64 p names.now t))
         (λ t thing. IsAgreedThing S.X.block32 N.name64 (S.seen store.old).told p t thing) (at led names.now t) result }
-    ensures reads { OnlyReads S.X.block32 (IsBad N.name64 None) (stop_fault result) (S.seen store.old)
-        (S.seen store.new) }
+    ensures reads { OnlyReads S.X.block32 (IsBadUnder S.X.block32 N.name64 None thing)
+        (stop_fault result) (S.seen store.old) (S.seen store.new) }
+    ensures required { (root : TheCid) → IsRequired S.X.block32 root thing → IfOk result (IsRequired S.X.block32 root) }
     ensures touches { touches.new ≤ touches.old + 11 * length names.now }
     ensures touched { CountsUp (stop_fault result) touches.old touches.new }
     ensures seen { IfOk result (λ found. unseen found ≡ unseen_after names.now thing) }
@@ -70,8 +72,9 @@ pub(crate) fn member<S: Store, N: NameHash, L: Ledger>(
         → MeetsOr (IsLossOf (S.seen store.old).told (member_needs S.X.block32 N.name64 p name.now es))
         (λ t thing. IsAgreedMember S.X.block32 N.name64 (S.seen store.old).told p t thing) (Ok (child name.now es))
         result }
-    ensures reads { OnlyReads S.X.block32 (IsBad N.name64 None) (stop_fault result) (S.seen store.old)
-        (S.seen store.new) }
+    ensures reads { OnlyReads S.X.block32 (IsBadInTree S.X.block32 N.name64 None folder.now.cid)
+        (stop_fault result) (S.seen store.old) (S.seen store.new) }
+    ensures required { IfOk result (λ found. IfSome found (IsRequired S.X.block32 folder.now.cid)) }
     ensures touches { touches.new ≤ touches.old + 11 }
     ensures touched { CountsUp (stop_fault result) touches.old touches.new }
     ensures seen { IfOk result (λ found. IfSome found (λ thing. unseen thing ≡ 0)) }
@@ -93,8 +96,8 @@ pub(crate) fn thing_of<S: Store, N: NameHash, L: Ledger>(
     ensures thing { (p : Profile) (t : Tree) → IsAgreed S.X.block32 N.name64 (S.seen store.old).told p entry.now t
         → Stood (S.seen store.old).faults (S.seen store.new).faults
         → ReadsThing S.X.block32 N.name64 (S.seen store.old).told p t result }
-    ensures reads { OnlyReads S.X.block32 IsBadRoot (fault_in result) (S.seen store.old)
-        (S.seen store.new) }
+    ensures reads { OnlyReads S.X.block32 IsBadRoot (fault_in result) (S.seen store.old) (S.seen store.new) }
+    ensures required { (root : TheCid) → IfOk result (IsRequired S.X.block32 root) }
     ensures touches { touches.new ≤ touches.old + 1 }
     ensures touched { CountsUp (fault_in result) touches.old touches.new }
     ensures seen { IfOk result (λ thing. unseen thing ≡ 0) }

@@ -47,8 +47,8 @@ const CALLS: [Call; 9] = [
 
 const PLACES: [&str; 4] = ["/d/f", "/d/new", "/d", "/x/f"];
 
-// The blocks of the file of `abc` in pieces of one byte under nodes of two links, its root aside: the two nodes, then the
-// three pieces.
+// The blocks of the file of `abc` in pieces of one byte under nodes of two links, its root aside: the two nodes, then
+// the three pieces.
 const BELOW: [&str; 5] = [
     "bafybeiax4xog4m4p3j73flgovgmljykx4e4ziialjigptc6zvybvekste4",
     "bafybeibur2e6yyjtsynha7fswazghh5op52abd6w4szltfnxkhnl5qre6a",

@@ -33,8 +33,7 @@ pub(crate) fn stat_of<S: Store, N: NameHash, L: Ledger>(
         → Stood (S.seen store.old).faults (S.seen store.new).faults
         → ReadsOver (S.seen store.old).told (root_of S.X.block32 N.name64 p t) (stat_at S.X.block32 N.name64 p t)
         result }
-    ensures reads { OnlyReads S.X.block32 IsBadRoot (fault_in result) (S.seen store.old)
-        (S.seen store.new) }
+    ensures reads { OnlyReads S.X.block32 IsBadRoot (fault_in result) (S.seen store.old) (S.seen store.new) }
     ensures touches { touches.new ≤ touches.old + unseen thing }
     ensures touched { CountsUp (fault_in result) touches.old touches.new }
 {
@@ -56,8 +55,7 @@ fn stat_at_root<S: Store, N: NameHash, L: Ledger>(
         → Stood (S.seen store.old).faults (S.seen store.new).faults
         → ReadsOver (S.seen store.old).told (root_of S.X.block32 N.name64 p t) (stat_at S.X.block32 N.name64 p t)
         result }
-    ensures reads { OnlyReads S.X.block32 IsBadRoot (fault_in result) (S.seen store.old)
-        (S.seen store.new) }
+    ensures reads { OnlyReads S.X.block32 IsBadRoot (fault_in result) (S.seen store.old) (S.seen store.new) }
     ensures touches { touches.new ≤ touches.old + 1 }
     ensures touched { CountsUp (fault_in result) touches.old touches.new }
 {

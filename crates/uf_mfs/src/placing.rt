@@ -1,44 +1,39 @@
 // Copies and moves in the tree.
 ghost use Rattle.std.specs.Prelude.{◌≡◌, ◌+◌, ◌*◌, [], ℕ, List, IfOk, IsTrue, OnErr, Ok, Some, length, true};
-ghost use Rattle.std.specs.Ordering.{eq_by_cmp};
 ghost use Rattle.uf_edge.specs.Counts.{Stood};
 ghost use Rattle.uf_store.specs.Calls.{OnlySaves};
 ghost use Rattle.uf_store.specs.Keeping.{KeepsGood};
 ghost use Rattle.uf_store.specs.Writing.{SavesOnly};
 ghost use Rattle.uf_tree.specs.declared.profile.Profile.{Profile as TheProfile};
-ghost use Rattle.uf_tree.specs.Names.{names_cmp};
 ghost use Rattle.uf_tree.specs.Profiles.{is_profile};
 ghost use Rattle.uf_tree.specs.Tree.{Dir, Entries, Tree};
 ghost use Rattle.uf_tree.specs.TreePlan.{blocks};
-ghost use Rattle.uf_plain.specs.declared.rule.Rule.TheVariants as rules;
 ghost use Rattle.uf_plain.specs.declared.rule.Refused.{Refused as TheRefused};
 ghost use Rattle.uf_plain.specs.declared.spot.Spot.{Spot as TheSpot};
 ghost use Rattle.uf_plain.specs.Edits.{at, removed};
 ghost use Rattle.uf_plain.specs.Moves.{allowed_move, as_replaceable, carried, copied, edited_at, lie_of as lie_at};
 ghost use Rattle.uf_plain.specs.Moves.{moved_to as moved_by, put_at_spot, put_over, shifted, spot_names, told_of};
-ghost use Rattle.uf_plain.specs.Rules.{allowed, path_text as text_of};
-ghost use Rattle.uf_mfs.specs.Answers.{Decides, ShownInTree};
-ghost use Rattle.uf_mfs.specs.Bad.{IsBad};
-ghost use Rattle.uf_mfs.specs.Moving.{EditsTree, Gives, IsFound, IsInside, IsOntoItself, MovesBy, MovesRoot};
-ghost use Rattle.uf_mfs.specs.Moving.{MovesThing, TouchesThing, copy_bound, entry_in, move_bound, put_crossings};
-ghost use Rattle.uf_mfs.specs.Moving.{replaces, shift_crossings};
+ghost use Rattle.uf_plain.specs.Rules.{allowed};
+ghost use Rattle.uf_mfs.specs.Answers.{Moves, ShownInTree};
+ghost use Rattle.uf_mfs.specs.Bad.{IsBad, IsBadInTree};
+ghost use Rattle.uf_mfs.specs.Moving.{EditsTree, IsFound, IsInside, IsOntoItself, MovesBy, MovesHeld};
+ghost use Rattle.uf_mfs.specs.Moving.{MovesRoot, MovesThing, TouchesThing, copy_bound, entry_in, move_bound};
+ghost use Rattle.uf_mfs.specs.Moving.{put_crossings, replaces, shift_crossings};
 ghost use Rattle.uf_plain.specs.declared.spot.Lie.TheVariants.{Itself};
-ghost use Rattle.uf_mfs.specs.Standing.{IsAgreedMember, IsAgreedThing, IsMfs, IsPlanOf, StandsAt, StandsOver};
+ghost use Rattle.uf_mfs.specs.Standing.{IsEntry, IsMfs, IsPlanOf, StandsAt, StandsOver};
 ghost use Rattle.uf_mfs.specs.Steps.{EditsFolder, GivesFolder, MovesTree, stop_fault, tree_fault};
 ghost use Rattle.uf_mfs.specs.Touches.{CountsUp, TouchesFolder, crossings_of, weighing_at};
 
 use crate::looking::look;
-use crate::spotting::{exists_at, joined, target_of};
+use crate::spotting::{exists_at, target_of};
 use crate::target::Target;
 use crate::telling::fault_of;
 use crate::{Mfs, MfsFault, Stop, Thing};
 use std::alloc::Global;
-use std::cmp::Ordering;
 use std::sync::ledger::Ledger;
-use uf_cid::Memory;
 use uf_murmur::NameHash;
 use uf_path::Path;
-use uf_plain::{Change, Lie, Rule, Spot, path_text};
+use uf_plain::{Change, Lie, Rule, Spot, inside_rule, joined_names, lie_of};
 use uf_store::{Steps, Store};
 use uf_tree::{Entry, Name};
 
@@ -53,6 +48,13 @@ impl Mfs {
         touches: &mut Steps<L>,
     ) -> Result<(), MfsFault>
         requires mfs { IsMfs self.old }
+        ensures answer { (t : Tree) (p : TheProfile) (es : Entries)
+            → IsEntry S.X.block32 N.name64 (S.seen store.old).told p entry.now t
+            → StandsAt S.X.block32 N.name64 (S.seen store.old).told self.old p es
+            → Stood (S.seen store.old).faults (S.seen store.new).faults
+            → Stood (S.seen store.old).clashes (S.seen store.new).clashes
+            → Moves S.X.block32 N.name64 (S.seen store.new).told p (spot_names spot.now) self.new
+            (put_at_spot spot.now t es) result }
         ensures lost { (t : Tree) → IsPlanOf S.X.block32 N.name64 self.old.profile entry.now t
             → MovesTree S.X.block32 N.name64 (S.seen store.old) (S.seen store.new)
             (blocks S.X.block32 N.name64 self.old.profile t) self.old self.new (spot_names spot.now)
@@ -60,8 +62,9 @@ impl Mfs {
         ensures refused { OnErr result (self.new ≡ self.old) }
         ensures mfs { IsMfs self.new }
         ensures profile { self.new.profile ≡ self.old.profile }
-        ensures cause { ShownInTree S.X.block32 (IsBad N.name64 (Some self.old.profile)) result (S.seen store.old)
-            (S.seen store.new) }
+        ensures cause { ShownInTree S.X.block32
+            (IsBadInTree S.X.block32 N.name64 (Some self.old.profile) self.old.root.cid) result
+            (S.seen store.old) (S.seen store.new) }
         ensures good { KeepsGood S.X.block32 (S.seen store.old).told (S.seen store.new).told }
         ensures saves { SavesOnly S.X.block32 (S.seen store.old).told (S.seen store.new).told }
         ensures touches { (t : Tree) → IsPlanOf S.X.block32 N.name64 self.old.profile entry.now t
@@ -71,7 +74,7 @@ impl Mfs {
             + put_crossings S.X.block32 N.name64 self.old.profile spot.now t es) touches.old touches.new }
         ensures touched { CountsUp (tree_fault result) touches.old touches.new }
     {
-        let list = joined(alloc, spot.folder.as_slice(), &spot.name)?;
+        let list = joined_names(alloc, spot.folder.as_slice(), &spot.name)?;
         let names = list.as_slice();
         let edited = put_root::<S, N, L>(alloc, store, self, names, entry, touches);
         self.settled(alloc, names, edited)
@@ -87,19 +90,16 @@ impl Mfs {
         touches: &mut Steps<L>,
     ) -> Result<(), MfsFault>
         requires mfs { IsMfs self.old }
-        ensures answer { (p : TheProfile) (es : Entries)
-            → StandsAt S.X.block32 N.name64 (S.seen store.old).told self.old p es
-            → Stood (S.seen store.old).faults (S.seen store.new).faults
-            → Stood (S.seen store.old).clashes (S.seen store.new).clashes
-            → Gives (λ fs done. StandsAt S.X.block32 N.name64 (S.seen store.new).told self.new p fs)
-            (allowed_move S.X.block32 N.name64 p (copied source.now.names dest.now es)) result }
+        ensures answer { MovesHeld S.X.block32 N.name64 (S.seen store.old) (S.seen store.new) self.old self.new
+            (λ p es. allowed_move S.X.block32 N.name64 p (copied source.now.names dest.now es)) result }
         ensures lost { MovesBy S.X.block32 N.name64 (S.seen store.old) (S.seen store.new) self.old self.new
             (λ p es. allowed_move S.X.block32 N.name64 p (copied source.now.names dest.now es)) result }
         ensures refused { OnErr result (self.new ≡ self.old) }
         ensures mfs { IsMfs self.new }
         ensures profile { self.new.profile ≡ self.old.profile }
-        ensures cause { ShownInTree S.X.block32 (IsBad N.name64 (Some self.old.profile)) result (S.seen store.old)
-            (S.seen store.new) }
+        ensures cause { ShownInTree S.X.block32
+            (IsBadInTree S.X.block32 N.name64 (Some self.old.profile) self.old.root.cid) result
+            (S.seen store.old) (S.seen store.new) }
         ensures good { KeepsGood S.X.block32 (S.seen store.old).told (S.seen store.new).told }
         ensures saves { SavesOnly S.X.block32 (S.seen store.old).told (S.seen store.new).told }
         ensures touches { TouchesFolder S.X.block32 N.name64 self.old.profile (S.seen store.old) (S.seen store.new) []
@@ -124,8 +124,8 @@ impl Mfs {
         }
     }
 
-    /// Moves what is at `source` to where `dest` says; a directory that is there is entered, and a file takes the place of a
-    /// file. A move onto itself changes nothing.
+    /// Moves what is at `source` to where `dest` says; a directory that is there is entered, and a file takes the place
+    /// of a file. A move onto itself changes nothing.
     pub fn mv<S: Store, N: NameHash, L: Ledger>(
         &mut self,
         alloc: Global,
@@ -135,12 +135,8 @@ impl Mfs {
         touches: &mut Steps<L>,
     ) -> Result<(), MfsFault>
         requires mfs { IsMfs self.old }
-        ensures answer { (p : TheProfile) (es : Entries)
-            → StandsAt S.X.block32 N.name64 (S.seen store.old).told self.old p es
-            → Stood (S.seen store.old).faults (S.seen store.new).faults
-            → Stood (S.seen store.old).clashes (S.seen store.new).clashes
-            → Gives (λ fs done. StandsAt S.X.block32 N.name64 (S.seen store.new).told self.new p fs)
-            (allowed_move S.X.block32 N.name64 p (carried source.now.names dest.now es)) result }
+        ensures answer { MovesHeld S.X.block32 N.name64 (S.seen store.old) (S.seen store.new) self.old self.new
+            (λ p es. allowed_move S.X.block32 N.name64 p (carried source.now.names dest.now es)) result }
         ensures lost { MovesBy S.X.block32 N.name64 (S.seen store.old) (S.seen store.new) self.old self.new
             (λ p es. allowed_move S.X.block32 N.name64 p (carried source.now.names dest.now es)) result }
         ensures itself { (p : TheProfile) (es : Entries)
@@ -296,7 +292,8 @@ fn removed_root<S: Store, N: NameHash, L: Ledger>(
     requires mfs { IsMfs tree.now }
     ensures edits { GivesFolder S.X.block32 N.name64 tree.now.profile (S.seen store.old) (S.seen store.new) []
         tree.now.root (removed true names.now) result }
-    ensures saves { OnlySaves S.X.block32 (IsBad N.name64 (Some tree.now.profile)) (stop_fault result)
+    ensures saves { OnlySaves S.X.block32
+        (IsBadInTree S.X.block32 N.name64 (Some tree.now.profile) tree.now.root.cid) (stop_fault result)
         (S.seen store.old) (S.seen store.new) }
     ensures touches { TouchesFolder S.X.block32 N.name64 tree.now.profile (S.seen store.old) (S.seen store.new) []
         tree.now.root (λ es. 40 * length names.now + crossings_of S.X.block32 N.name64 tree.now.profile names.now es
@@ -320,7 +317,8 @@ fn put_root<S: Store, N: NameHash, L: Ledger>(
     ensures edits { (t : Tree) → IsPlanOf S.X.block32 N.name64 tree.now.profile entry.now t
         → EditsFolder S.X.block32 N.name64 tree.now.profile (S.seen store.old) (S.seen store.new)
         (blocks S.X.block32 N.name64 tree.now.profile t) tree.now.root (edited_at (put_over t) names.now) result }
-    ensures saves { OnlySaves S.X.block32 (IsBad N.name64 (Some tree.now.profile)) (stop_fault result)
+    ensures saves { OnlySaves S.X.block32
+        (IsBadInTree S.X.block32 N.name64 (Some tree.now.profile) tree.now.root.cid) (stop_fault result)
         (S.seen store.old) (S.seen store.new) }
     ensures touches { (t : Tree) → IsPlanOf S.X.block32 N.name64 tree.now.profile entry.now t
         → TouchesFolder S.X.block32 N.name64 tree.now.profile (S.seen store.old) (S.seen store.new)
@@ -353,45 +351,6 @@ fn is_replaceable(thing: Thing, there: Option<Thing>) -> bool
     }
 }
 
-// How a target lies to a source.
-fn lie_of(source: &[Name], target: &[Name]) -> Lie
-    ensures { result ≡ lie_at source.now target.now }
-{
-    match source {
-        [] => below_or_itself(target),
-        [a, source @ ..] => match target {
-            [] => Lie::Apart,
-            [b, target @ ..] => {
-                if is_same(a, b) {
-                    lie_of(source, target)
-                } else {
-                    Lie::Apart
-                }
-            }
-        },
-    }
-}
-
-// How the rest of a target lies, all names of whose source it has.
-fn below_or_itself(rest: &[Name]) -> Lie
-    ensures { result ≡ lie_at [] rest.now }
-{
-    match rest {
-        [] => Lie::Itself,
-        [_, ..] => Lie::Below,
-    }
-}
-
-// Whether two names are the same.
-fn is_same(a: &Name, b: &Name) -> bool
-    ensures { result ≡ eq_by_cmp names_cmp a.now b.now }
-{
-    match a.as_str().as_bytes().cmp(b.as_str().as_bytes()) {
-        Ordering::Equal => true,
-        _ => false,
-    }
-}
-
 // That a move goes into what it moves.
 fn inside(alloc: Global, source: &[Name], target: &[Name]) -> MfsFault
     ensures { IsInside source.now target.now result }
@@ -400,11 +359,4 @@ fn inside(alloc: Global, source: &[Name], target: &[Name]) -> MfsFault
         Err(fault) => fault.into(),
         Ok(rule) => MfsFault::Rule(rule),
     }
-}
-
-// The rule of a move into what it moves.
-fn inside_rule(alloc: Global, source: &[Name], target: &[Name]) -> Result<Rule, Memory>
-    ensures { IfOk result (λ rule. rule ≡ rules.Inside (text_of source.now) (text_of target.now)) }
-{
-    Ok(Rule::Inside(path_text(alloc, source)?, path_text(alloc, target)?))
 }

@@ -4,7 +4,7 @@ ghost use Rattle.uf_edge.specs.Counts.{Stood};
 ghost use Rattle.uf_tree.specs.declared.profile.Profile.{Profile};
 ghost use Rattle.uf_tree.specs.Tree.{Dir, Entries};
 ghost use Rattle.uf_mfs.specs.Answers.{Answers, AnswersOr, ShownInTree};
-ghost use Rattle.uf_mfs.specs.Bad.{IsBad};
+ghost use Rattle.uf_mfs.specs.Bad.{IsBadInTree, IsRequired};
 ghost use Rattle.uf_plain.specs.Edits.{at};
 ghost use Rattle.uf_plain.specs.Needs.{needs_at, own_needs, root_of, rows_need, way};
 ghost use Rattle.uf_store.specs.Lost.{IsLossOf};
@@ -48,7 +48,8 @@ impl Mfs {
             (needs_at S.X.block32 N.name64 p (rows_need S.X.block32 N.name64 p) path.now.names (Dir es)))
             (λ t rows. rows ≡ rows_at S.X.block32 N.name64 p path.now.names t) path.now.names
             (at 0 path.now.names (Dir es)) result }
-        ensures cause { ShownInTree S.X.block32 (IsBad N.name64 None) result (S.seen store.old) (S.seen store.new) }
+        ensures cause { ShownInTree S.X.block32 (IsBadInTree S.X.block32 N.name64 None self.now.root.cid) result
+            (S.seen store.old) (S.seen store.new) }
         ensures told { (S.seen store.new).told ≡ (S.seen store.old).told }
         ensures touches { (p : Profile) (es : Entries)
             → StandsOver S.X.block32 N.name64 (S.seen store.old).told self.now p es
@@ -82,7 +83,8 @@ impl Mfs {
             → AnswersOr (IsLossOf (S.seen store.old).told
             (needs_at S.X.block32 N.name64 p (own_needs S.X.block32 N.name64 p) path.now.names (Dir es)))
             (λ t names. names ≡ names_at path.now.names t) path.now.names (at 0 path.now.names (Dir es)) result }
-        ensures cause { ShownInTree S.X.block32 (IsBad N.name64 None) result (S.seen store.old) (S.seen store.new) }
+        ensures cause { ShownInTree S.X.block32 (IsBadInTree S.X.block32 N.name64 None self.now.root.cid) result
+            (S.seen store.old) (S.seen store.new) }
         ensures told { (S.seen store.new).told ≡ (S.seen store.old).told }
         ensures touches { (p : Profile) (es : Entries)
             → StandsOver S.X.block32 N.name64 (S.seen store.old).told self.now p es
@@ -116,7 +118,8 @@ impl Mfs {
             → AnswersOr (IsLossOf (S.seen store.old).told
             (needs_at S.X.block32 N.name64 p (root_of S.X.block32 N.name64 p) path.now.names (Dir es)))
             (λ t stat. stat ≡ stat_at S.X.block32 N.name64 p t) path.now.names (at 0 path.now.names (Dir es)) result }
-        ensures cause { ShownInTree S.X.block32 (IsBad N.name64 None) result (S.seen store.old) (S.seen store.new) }
+        ensures cause { ShownInTree S.X.block32 (IsBadInTree S.X.block32 N.name64 None self.now.root.cid) result
+            (S.seen store.old) (S.seen store.new) }
         ensures told { (S.seen store.new).told ≡ (S.seen store.old).told }
         ensures touches { touches.new ≤ touches.old + max (11 * length path.now.names) 1 }
         ensures touched { CountsUp (tree_fault result) touches.old touches.new }
@@ -141,11 +144,13 @@ impl Mfs {
             → AnswersOr (IsLossOf (S.seen store.old).told (way S.X.block32 N.name64 p names.now (Dir es)))
             (λ t thing. IsAgreedThing S.X.block32 N.name64 (S.seen store.old).told p t thing) names.now
             (at 0 names.now (Dir es)) result }
-        ensures cause { ShownInTree S.X.block32 (IsBad N.name64 None) result (S.seen store.old) (S.seen store.new) }
+        ensures cause { ShownInTree S.X.block32 (IsBadInTree S.X.block32 N.name64 None self.now.root.cid) result
+            (S.seen store.old) (S.seen store.new) }
         ensures told { (S.seen store.new).told ≡ (S.seen store.old).told }
         ensures touches { touches.new ≤ touches.old + 11 * length names.now }
         ensures touched { CountsUp (tree_fault result) touches.old touches.new }
         ensures seen { IfOk result (λ found. unseen found ≡ unseen_after names.now (Folder self.now.root None)) }
+        ensures required { IfOk result (IsRequired S.X.block32 self.now.root.cid) }
     {
         let root = Thing::Folder(self.root, None);
         match look::<S, N, L>(alloc, store, 0, names, root, touches) {

@@ -1,5 +1,6 @@
 // Where something is put in the tree.
-ghost use Rattle.std.specs.Prelude.{◌≡◌, ◌++◌, ◌+◌, ◌*◌, ◌∷◌, ◌≤◌, ◌<◌, ◌^◌, [], ℕ, IfOk, None, Ok, Some, length, option_copied, true};
+ghost use Rattle.std.specs.Prelude.{◌≡◌, ◌+◌, ◌*◌, ◌≤◌, ◌<◌, IfOk, IfSome, None, Ok, Some, length, option_copied};
+ghost use Rattle.std.specs.Prelude.{true};
 ghost use Rattle.uf_edge.specs.Counts.{Stood};
 ghost use Rattle.uf_store.specs.Calls.{OnlyReads};
 ghost use Rattle.uf_store.specs.Lost.{IsLossOf};
@@ -11,7 +12,7 @@ ghost use Rattle.uf_plain.specs.Needs.{member_needs, way};
 ghost use Rattle.uf_plain.specs.Rules.{rule_of};
 ghost use Rattle.uf_plain.specs.declared.rule.Refused.TheVariants as why;
 ghost use Rattle.uf_mfs.specs.Answers.{MeetsOr, ShownInTree, Tells};
-ghost use Rattle.uf_mfs.specs.Bad.{IsBad};
+ghost use Rattle.uf_mfs.specs.Bad.{IsBadInTree, IsRequired, RequiresDirectory};
 ghost use Rattle.uf_mfs.specs.Moving.{Gives, GivesOr, GivesOver, IsFound, ReadsTree, folder_there, lands, vacant_at};
 ghost use Rattle.uf_mfs.specs.Standing.{IsAgreed, IsAgreedMember, StandsAt, StandsOver};
 ghost use Rattle.uf_mfs.specs.Steps.{stop_fault, tree_fault};
@@ -24,16 +25,15 @@ use crate::telling::fault_of;
 use crate::{Mfs, MfsFault, Stop, Thing};
 use std::alloc::Global;
 use std::sync::ledger::Ledger;
-use uf_cid::Memory;
 use uf_murmur::NameHash;
 use uf_path::Path;
-use uf_plain::{Refused, Rule, Spot};
+use uf_plain::{Refused, Rule, Spot, joined_names, spot_of};
 use uf_store::{Steps, Store};
 use uf_tree::{Entry, Name, Names};
 
 impl Mfs {
-    /// Where something of this name is put that goes to `dest`: under the name in the directory at `dest` where that ends
-    /// with `/`, else under the last name of `dest`. Nothing may be there.
+    /// Where something of this name is put that goes to `dest`: under the name in the directory at `dest` where that
+    /// ends with `/`, else under the last name of `dest`. Nothing may be there.
     pub fn spot<S: Store, N: NameHash, L: Ledger>(
         &self,
         alloc: Global,
@@ -51,7 +51,8 @@ impl Mfs {
             → Stood (S.seen store.old).faults (S.seen store.new).faults
             → GivesOver S.X.block32 N.name64 (S.seen store.old).told p es (λ spot given. given ≡ spot)
             (spotted dest.now (option_copied name.entry) es) result }
-        ensures cause { ShownInTree S.X.block32 (IsBad N.name64 None) result (S.seen store.old) (S.seen store.new) }
+        ensures cause { ShownInTree S.X.block32 (IsBadInTree S.X.block32 N.name64 None self.now.root.cid) result
+            (S.seen store.old) (S.seen store.new) }
         ensures told { (S.seen store.new).told ≡ (S.seen store.old).told }
         ensures touches { touches.new ≤ touches.old + 11 * (length dest.now.names + 1) }
         ensures touched { CountsUp (tree_fault result) touches.old touches.new }
@@ -83,7 +84,8 @@ fn spot_in<S: Store, N: NameHash, L: Ledger>(
         → Stood (S.seen store.old).faults (S.seen store.new).faults
         → GivesOver S.X.block32 N.name64 (S.seen store.old).told p es (λ spot given. given ≡ spot)
         (spotted (record { names = names.now; into = true }) (option_copied name.entry) es) result }
-    ensures reads { ReadsTree S.X.block32 (IsBad N.name64 None) result (S.seen store.old) (S.seen store.new) }
+    ensures reads { ReadsTree S.X.block32 (IsBadInTree S.X.block32 N.name64 None root.now.cid) result
+        (S.seen store.old) (S.seen store.new) }
     ensures touches { touches.new ≤ touches.old + 11 * (length names.now + 1) }
     ensures touched { CountsUp (tree_fault result) touches.old touches.new }
 {
@@ -111,7 +113,8 @@ fn vacant<S: Store, N: NameHash, L: Ledger>(
         → Stood (S.seen store.old).faults (S.seen store.new).faults
         → GivesOver S.X.block32 N.name64 (S.seen store.old).told p es (λ spot given. given ≡ spot)
         (vacant_at told.now folder.now name.now es) result }
-    ensures reads { ReadsTree S.X.block32 (IsBad N.name64 None) result (S.seen store.old) (S.seen store.new) }
+    ensures reads { ReadsTree S.X.block32 (IsBadInTree S.X.block32 N.name64 None root.now.cid) result
+        (S.seen store.old) (S.seen store.new) }
     ensures touches { touches.new ≤ touches.old + 11 * (length folder.now + 1) }
     ensures touched { CountsUp (tree_fault result) touches.old touches.new }
 {
@@ -136,7 +139,8 @@ pub(crate) fn target_of<S: Store, N: NameHash, L: Ledger>(
         → Stood (S.seen store.old).faults (S.seen store.new).faults
         → GivesOver S.X.block32 N.name64 (S.seen store.old).told p es
         (IsFound S.X.block32 N.name64 (S.seen store.old).told p) (target dest.now (Some name.now) es) result }
-    ensures reads { ReadsTree S.X.block32 (IsBad N.name64 None) result (S.seen store.old) (S.seen store.new) }
+    ensures reads { ReadsTree S.X.block32 (IsBadInTree S.X.block32 N.name64 None root.now.cid) result
+        (S.seen store.old) (S.seen store.new) }
     ensures touches { touches.new ≤ touches.old + 11 * (length dest.now.names + 1) }
     ensures touched { CountsUp (tree_fault result) touches.old touches.new }
 {
@@ -183,7 +187,9 @@ fn landing<S: Store, N: NameHash, L: Ledger>(
         → GivesOver S.X.block32 N.name64 (S.seen store.old).told p es
         (IsFound S.X.block32 N.name64 (S.seen store.old).told p)
         (told_of told.now (lands folder.now name.now es)) result }
-    ensures reads { ReadsTree S.X.block32 (IsBad N.name64 None) result (S.seen store.old) (S.seen store.new) }
+    ensures reads { ReadsTree S.X.block32 (IsBadInTree S.X.block32 N.name64 None root.now.cid) result
+        (S.seen store.old) (S.seen store.new) }
+    ensures required { IfOk result (λ target. IfSome target.there (IsRequired S.X.block32 root.now.cid)) }
     ensures touches { touches.new ≤ touches.old + 11 * (length folder.now + 1) }
     ensures touched { CountsUp (tree_fault result) touches.old touches.new }
 {
@@ -208,14 +214,16 @@ fn under<S: Store, N: NameHash, L: Ledger>(
         → GivesOver S.X.block32 N.name64 (S.seen store.old).told p fs
         (IsFound S.X.block32 N.name64 (S.seen store.old).told p)
         (Ok (record { folder = folder.now; name = name.now }, fs)) result }
-    ensures reads { ReadsTree S.X.block32 (IsBad N.name64 None) result (S.seen store.old) (S.seen store.new) }
+    ensures reads { ReadsTree S.X.block32 (IsBadInTree S.X.block32 N.name64 None entry.now.cid) result
+        (S.seen store.old) (S.seen store.new) }
+    ensures required { IfOk result (λ target. IfSome target.there (IsRequired S.X.block32 entry.now.cid)) }
     ensures touches { touches.new ≤ touches.old + 11 }
     ensures touched { CountsUp (tree_fault result) touches.old touches.new }
 {
     match member::<S, N, L>(alloc, store, entry, name, touches) {
         Err(stop) => Err(fault_of(alloc, folder, stop)),
         Ok(there) => {
-            let names = joined(alloc, folder, name)?;
+            let names = joined_names(alloc, folder, name)?;
             Ok(Target { names, there })
         }
     }
@@ -234,8 +242,9 @@ fn look_at_folder<S: Store, N: NameHash, L: Ledger>(
         → Stood (S.seen store.old).faults (S.seen store.new).faults
         → MeetsOr (IsLossOf (S.seen store.old).told (way S.X.block32 N.name64 p names.now (Dir es)))
         (λ fs e. IsAgreed S.X.block32 N.name64 (S.seen store.old).told p e (Dir fs)) (folder_at names.now es) result }
-    ensures reads { OnlyReads S.X.block32 (IsBad N.name64 None) (stop_fault result) (S.seen store.old)
-        (S.seen store.new) }
+    ensures reads { OnlyReads S.X.block32 (IsBadInTree S.X.block32 N.name64 None root.now.cid)
+        (stop_fault result) (S.seen store.old) (S.seen store.new) }
+    ensures required { IfOk result (λ e. RequiresDirectory S.X.block32 root.now.cid e.cid.digest) }
     ensures touches { touches.new ≤ touches.old + 11 * length names.now }
     ensures touched { CountsUp (stop_fault result) touches.old touches.new }
 {
@@ -243,36 +252,6 @@ fn look_at_folder<S: Store, N: NameHash, L: Ledger>(
         Thing::Folder(entry, _) => Ok(entry),
         Thing::File(_, _) => Err(Stop::Refused(Refused::NotADirectory(names.len()))),
     }
-}
-
-/// The names of something under a name in a folder.
-pub(crate) fn joined(alloc: Global, folder: &[Name], name: &Name) -> Result<Names, Memory>
-    ensures { IfOk result (λ names. names ≡ folder.now ++ name.now ∷ []) }
-{
-    let mut names = copied(alloc, folder)?;
-    names.push(name.copy()?)?;
-    Ok(names)
-}
-
-// These names in a list.
-fn copied(alloc: Global, names: &[Name]) -> Result<Names, Memory>
-    ensures { IfOk result (λ list. list ≡ names.now) }
-{
-    let mut list = Names::new(alloc);
-    for name in names {
-        list.push(name.copy()?)?;
-    }
-    Ok(list)
-}
-
-// The spot of a name in a folder.
-fn spot_of(alloc: Global, folder: &[Name], name: &Name) -> Result<Spot, Memory>
-    ensures { IfOk result (λ spot. spot ≡ record { folder = folder.now; name = name.now }) }
-{
-    Ok(Spot {
-        folder: copied(alloc, folder)?,
-        name: name.copy()?,
-    })
 }
 
 /// That something is at these names.

@@ -24,12 +24,13 @@ ghost use Rattle.uf_tree.specs.Profiles.{is_profile};
 ghost use Rattle.uf_tree.specs.Tree.{Dir, Entries, File, Tree};
 ghost use Rattle.uf_tree.specs.TreePlan.{blocks};
 ghost use Rattle.uf_mfs.specs.Answers.{Decides, EditsAfter, Moves, ShownInTree};
-ghost use Rattle.uf_mfs.specs.Bad.{IsBad};
+ghost use Rattle.uf_mfs.specs.Bad.{IsBadInTree};
 ghost use Rattle.uf_mfs.specs.Reading.{AreHeights};
 ghost use Rattle.uf_mfs.specs.Standing.{IsAgreed, IsAgreedMember, IsMfs, StandsAt, StandsOver};
 ghost use Rattle.uf_mfs.specs.Steps.{EditsFolder, IsFolderOver, MovesTree, stop_fault, tree_fault};
 ghost use Rattle.uf_mfs.specs.Touches.{CountsUp, TouchesFolder, crossings_of, touch_bound};
-ghost use Rattle.uf_mfs.specs.Writes.{MakesFile, IsBadInSome, IsBadWritten, IsFileOver, IsStart, IsStepOf};
+ghost use Rattle.uf_mfs.specs.Writes.{EditsFileAt, IsBadInSome, IsBadWrittenIn, IsFileOver, IsStart, IsStepOf};
+ghost use Rattle.uf_mfs.specs.Writes.{MakesFile, TouchesFileAt, writing_bound};
 ghost use Rattle.uf_mfs.specs.Writes.{cuts_first, file_touches, fitting_bytes, fitting_edit, leaves_bytes};
 ghost use Rattle.uf_mfs.specs.Writes.{may_create, member_at, rewriting_touches, with_fitting};
 
@@ -87,15 +88,15 @@ impl Mfs {
         ensures refused { OnErr result (self.new ≡ self.old) }
         ensures mfs { IsMfs self.new }
         ensures profile { self.new.profile ≡ self.old.profile }
-        ensures cause { ShownInTree S.X.block32 (IsBadWritten S.X.block32 N.name64 self.old.profile
-            (S.seen store.new).told) result (S.seen store.old) (S.seen store.new) }
+        ensures cause { ShownInTree S.X.block32
+            (IsBadWrittenIn S.X.block32 N.name64 self.old.profile (S.seen store.new).told self.old.root.cid) result
+            (S.seen store.old) (S.seen store.new) }
         ensures good { KeepsGood S.X.block32 (S.seen store.old).told (S.seen store.new).told }
         ensures saves { SavesOnly S.X.block32 (S.seen store.old).told (S.seen store.new).told }
         ensures touches { (p : TheProfile) (rows : ℕ → ℕ) → self.old.profile ≡ p → AreHeights p rows
             → TouchesFolder S.X.block32 N.name64 p (S.seen store.old) (S.seen store.new) [] self.old.root
-            (λ es. touch_bound S.X.block32 N.name64 p path.now.names es
-            (fitting_edit p (Write how.now) piece.now path.now.names es)
-            + file_touches p rows (Write how.now) piece.now (member_at path.now.names es)) touches.old touches.new }
+            (writing_bound S.X.block32 N.name64 p rows (Write how.now) piece.now path.now.names)
+            touches.old touches.new }
         ensures touched { CountsUp (tree_fault result) touches.old touches.new }
     {
         let names = path.names.as_slice();
@@ -130,15 +131,15 @@ impl Mfs {
         ensures refused { OnErr result (self.new ≡ self.old) }
         ensures mfs { IsMfs self.new }
         ensures profile { self.new.profile ≡ self.old.profile }
-        ensures cause { ShownInTree S.X.block32 (IsBadWritten S.X.block32 N.name64 self.old.profile
-            (S.seen store.new).told) result (S.seen store.old) (S.seen store.new) }
+        ensures cause { ShownInTree S.X.block32
+            (IsBadWrittenIn S.X.block32 N.name64 self.old.profile (S.seen store.new).told self.old.root.cid) result
+            (S.seen store.old) (S.seen store.new) }
         ensures good { KeepsGood S.X.block32 (S.seen store.old).told (S.seen store.new).told }
         ensures saves { SavesOnly S.X.block32 (S.seen store.old).told (S.seen store.new).told }
         ensures touches { (p : TheProfile) (rows : ℕ → ℕ) → self.old.profile ≡ p → AreHeights p rows
             → TouchesFolder S.X.block32 N.name64 p (S.seen store.old) (S.seen store.new) [] self.old.root
-            (λ es. touch_bound S.X.block32 N.name64 p path.now.names es
-            (fitting_edit p (Truncate length) [] path.now.names es)
-            + file_touches p rows (Truncate length) [] (member_at path.now.names es)) touches.old touches.new }
+            (writing_bound S.X.block32 N.name64 p rows (Truncate length) [] path.now.names)
+            touches.old touches.new }
         ensures touched { CountsUp (tree_fault result) touches.old touches.new }
     {
         let names = path.names.as_slice();
@@ -165,21 +166,18 @@ fn edited_root<S: Store, N: NameHash, L: Ledger>(
 ) -> Result<Entry, Stop>
     requires profile { IsTrue (is_profile site.now.profile) }
     requires start { site.now.led ≡ 0 }
-    ensures edits { EditsFolder S.X.block32 N.name64 site.now.profile (S.seen store.old) (S.seen store.new) [] root.now
-        (file_edited site.now.what site.now.piece.now 0 names.now) result }
+    ensures edits { EditsFileAt S.X.block32 N.name64 site.now.profile (S.seen store.old) (S.seen store.new)
+        site.now.what site.now.piece.now root.now names.now result }
     ensures idle { (p : TheProfile) (es : Entries) (bytes : List ℕ)
         → IsAgreed S.X.block32 N.name64 (S.seen store.old).told p root.now (Dir es)
         → Stood (S.seen store.old).faults (S.seen store.new).faults
         → leaves_bytes site.now.what site.now.piece.now ≡ true → at 0 names.now (Dir es) ≡ Ok (File bytes)
         → ((S.seen store.new).told ≡ (S.seen store.old).told) × IfOk result (λ e. e ≡ root.now) }
-    ensures saves { OnlySaves S.X.block32 (IsBadWritten S.X.block32 N.name64 site.now.profile
-        (S.seen store.new).told) (stop_fault result) (S.seen store.old) (S.seen store.new) }
-    ensures touches { (rows : ℕ → ℕ) → AreHeights site.now.profile rows
-        → TouchesFolder S.X.block32 N.name64 site.now.profile (S.seen store.old) (S.seen store.new) [] root.now
-        (λ es. 51 * length names.now + crossings_of S.X.block32 N.name64 site.now.profile names.now es
-        (fitting_edit site.now.profile site.now.what site.now.piece.now names.now es)
-        + file_touches site.now.profile rows site.now.what site.now.piece.now (member_at names.now es))
-        touches.old touches.new }
+    ensures saves { OnlySaves S.X.block32
+        (IsBadWrittenIn S.X.block32 N.name64 site.now.profile (S.seen store.new).told root.now.cid)
+        (stop_fault result) (S.seen store.old) (S.seen store.new) }
+    ensures touches { TouchesFileAt S.X.block32 N.name64 site.now.profile (S.seen store.old) (S.seen store.new) 51
+        site.now.what site.now.piece.now root.now names.now touches.old touches.new }
     ensures touched { CountsUp (stop_fault result) touches.old touches.new }
 {
     if leaves(site) && leads_to_file::<S, N, L>(alloc, store, root, names, touches)? {
@@ -199,16 +197,13 @@ fn changed_file<S: Store, N: NameHash, L: Ledger>(
 ) -> Result<Entry, Stop>
     requires profile { IsTrue (is_profile site.now.profile) }
     requires start { site.now.led ≡ 0 }
-    ensures edits { EditsFolder S.X.block32 N.name64 site.now.profile (S.seen store.old) (S.seen store.new) [] root.now
-        (file_edited site.now.what site.now.piece.now 0 names.now) result }
-    ensures saves { OnlySaves S.X.block32 (IsBadWritten S.X.block32 N.name64 site.now.profile
-        (S.seen store.new).told) (stop_fault result) (S.seen store.old) (S.seen store.new) }
-    ensures touches { (rows : ℕ → ℕ) → AreHeights site.now.profile rows
-        → TouchesFolder S.X.block32 N.name64 site.now.profile (S.seen store.old) (S.seen store.new) [] root.now
-        (λ es. 40 * length names.now + crossings_of S.X.block32 N.name64 site.now.profile names.now es
-        (fitting_edit site.now.profile site.now.what site.now.piece.now names.now es)
-        + file_touches site.now.profile rows site.now.what site.now.piece.now (member_at names.now es))
-        touches.old touches.new }
+    ensures edits { EditsFileAt S.X.block32 N.name64 site.now.profile (S.seen store.old) (S.seen store.new)
+        site.now.what site.now.piece.now root.now names.now result }
+    ensures saves { OnlySaves S.X.block32
+        (IsBadWrittenIn S.X.block32 N.name64 site.now.profile (S.seen store.new).told root.now.cid)
+        (stop_fault result) (S.seen store.old) (S.seen store.new) }
+    ensures touches { TouchesFileAt S.X.block32 N.name64 site.now.profile (S.seen store.old) (S.seen store.new) 40
+        site.now.what site.now.piece.now root.now names.now touches.old touches.new }
     ensures touched { CountsUp (stop_fault result) touches.old touches.new }
 {
     match names {
@@ -240,8 +235,8 @@ fn leads_to_file<S: Store, N: NameHash, L: Ledger>(
         → Stood (S.seen store.old).faults (S.seen store.new).faults
         → ReadsOver (S.seen store.old).told (way S.X.block32 N.name64 p names.now (Dir es))
         (is_ok (plain_bytes_at names.now es)) result }
-    ensures reads { OnlyReads S.X.block32 (IsBad N.name64 None) (fault_in result) (S.seen store.old)
-        (S.seen store.new) }
+    ensures reads { OnlyReads S.X.block32 (IsBadInTree S.X.block32 N.name64 None root.now.cid)
+        (fault_in result) (S.seen store.old) (S.seen store.new) }
     ensures touches { touches.new ≤ touches.old + 11 * length names.now }
     ensures touched { CountsUp (fault_in result) touches.old touches.new }
 {
@@ -267,8 +262,9 @@ fn edit_file<S: Store, N: NameHash, L: Ledger>(
     ensures edits { EditsFolder S.X.block32 N.name64 site.now.profile (S.seen store.old) (S.seen store.new) []
         folder.now (edited (with_fitting site.now.profile site.now.what site.now.piece.now) site.now.led name.now
         rest.now) result }
-    ensures saves { OnlySaves S.X.block32 (IsBadWritten S.X.block32 N.name64 site.now.profile
-        (S.seen store.new).told) (stop_fault result) (S.seen store.old) (S.seen store.new) }
+    ensures saves { OnlySaves S.X.block32
+        (IsBadWrittenIn S.X.block32 N.name64 site.now.profile (S.seen store.new).told folder.now.cid)
+        (stop_fault result) (S.seen store.old) (S.seen store.new) }
     ensures touches { (rows : ℕ → ℕ) → AreHeights site.now.profile rows
         → TouchesFolder S.X.block32 N.name64 site.now.profile (S.seen store.old) (S.seen store.new) [] folder.now
         (λ es. 40 * (length rest.now + 1) + crossings_of S.X.block32 N.name64 site.now.profile (name.now ∷ rest.now) es
@@ -311,8 +307,9 @@ fn edit_member<S: Store, N: NameHash, L: Ledger>(
         (blocks S.X.block32 N.name64 site.now.profile (Dir es)) site.now.profile
         (allowed S.X.block32 N.name64 site.now.profile
         (with_fitting site.now.profile site.now.what site.now.piece.now (site.now.led + 1) name.now es)) result }
-    ensures saves { OnlySaves S.X.block32 (IsBadWritten S.X.block32 N.name64 site.now.profile
-        (S.seen store.new).told) (stop_fault result) (S.seen store.old) (S.seen store.new) }
+    ensures saves { OnlySaves S.X.block32
+        (IsBadWrittenIn S.X.block32 N.name64 site.now.profile (S.seen store.new).told folder.now.cid)
+        (stop_fault result) (S.seen store.old) (S.seen store.new) }
     ensures touches { (rows : ℕ → ℕ) (es : Entries) → AreHeights site.now.profile rows
         → IsAgreedMember S.X.block32 N.name64 (S.seen store.old).told site.now.profile (child name.now es) found
         → IsFolderOver S.X.block32 N.name64 site.now.profile (S.seen store.old) (S.seen store.new) [] folder.now es

@@ -58,7 +58,8 @@ abbrev pub with_bytes : FileEdit → List ℕ → ℕ → List ℕ → Entries �
 with_bytes what piece led name es =
     and_then (new_bytes what piece led (child name es)) (λ bytes. Ok (with_child name (File bytes) es))
 
--- the folder after an edit of the file at these names below it, to which so many names led, before its plan is looked at
+-- the folder after an edit of the file at these names below it, to which so many names led, before its plan is looked
+-- at
 abbrev pub file_edited : FileEdit → List ℕ → ℕ → List (List ℕ) → Entries → Result Entries Refused
 file_edited what piece led [] es = Err (IsADirectory led)
 file_edited what piece led (name ∷ names) es = edited (with_bytes what piece) led name names es

@@ -1,5 +1,6 @@
 -- Copies and moves in the plain tree. A refusal is told with the path that it is about.
-use Rattle.std.specs.Prelude.{ℕ, ◌-◌, List, [], ◌∷◌, ◌++◌, length, take, slice_get, Bool, true, false, ◌||◌, if◌then◌else◌}
+use Rattle.std.specs.Prelude.{ℕ, ◌-◌, List, [], ◌∷◌, ◌++◌, length, take, slice_get, Bool, true, false, ◌||◌}
+use Rattle.std.specs.Prelude.{if◌then◌else◌}
 use Rattle.std.specs.declared.option.Option.{Option}
 use Rattle.std.specs.declared.option.Option.TheVariants.{None, Some}
 use Rattle.std.specs.declared.result.Result.{Result}
@@ -68,7 +69,8 @@ abbrev pub put_over : Tree → ℕ → List ℕ → Entries → Result Entries R
 put_over t led name es = Ok (with_child name t es)
 
 -- the tree after an edit of the folder that all names but the last lead to; the root has no such folder
-abbrev pub edited_at : (ℕ → List ℕ → Entries → Result Entries Refused) → List (List ℕ) → Entries → Result Entries Refused
+abbrev pub edited_at : (ℕ → List ℕ → Entries → Result Entries Refused) → List (List ℕ) → Entries
+    → Result Entries Refused
 edited_at change [] es = Err RootRefused
 edited_at change (name ∷ names) es = edited change 0 name names es
 

@@ -18,13 +18,15 @@ module _ (X : List ℕ → List ℕ) (N : List ℕ → ℕ) (p : Profile) where
 
   -- what is under a name of a directory: the trail of the name, and the root block of what is there
   abbrev pub member_needs : List ℕ → Entries → List Held
-  member_needs name es = trail X N p (named_entries X N p es) name ++ elim (child name es) [ None ↦ [] | Some t ↦ root_of t ]
+  member_needs name es = trail X N p (named_entries X N p es) name
+      ++ elim (child name es) [ None ↦ [] | Some t ↦ root_of t ]
 
   -- a lookup: the trail of each name that is met, and the root block of the last thing met
   abbrev pub way : List (List ℕ) → Tree → List Held
   way [] t = root_of t
   way (name ∷ names) (File bytes) = root_of (File bytes)
-  way (name ∷ names) (Dir es) = trail X N p (named_entries X N p es) name ++ elim (child name es) [ None ↦ [] | Some t ↦ way names t ]
+  way (name ∷ names) (Dir es) = trail X N p (named_entries X N p es) name
+      ++ elim (child name es) [ None ↦ [] | Some t ↦ way names t ]
 
   -- the names of a directory: its own blocks
   abbrev pub own_needs : Tree → List Held

@@ -7,7 +7,8 @@ use Rattle.std.specs.declared.result.Result.TheVariants.{Ok, Err}
 use Rattle.std.specs.List.{flat_map}
 use Rattle.uf_tree.specs.declared.profile.Profile.{Profile}
 use Rattle.uf_tree.specs.Tree.{Dir, Entries}
-use Rattle.uf_tree.specs.TreePlan.{Refusal, FileTooLong as IsTooLong, Collision as Collides, TooBig as IsTooBig, refusal}
+use Rattle.uf_tree.specs.TreePlan.{Refusal, FileTooLong as IsTooLong, Collision as Collides, TooBig as IsTooBig}
+use Rattle.uf_tree.specs.TreePlan.{refusal}
 use Rattle.uf_plain.specs.declared.rule.Refused.{Refused}
 use Rattle.uf_plain.specs.declared.rule.Refused.TheVariants as why
 use Rattle.uf_plain.specs.declared.rule.Rule.{Rule}

@@ -1,7 +1,7 @@
 // What is done to the bytes of a file.
 
-/// How a piece is written into a file: at which offset, whether a missing file is created, and whether one that is there is
-/// emptied first.
+/// How a piece is written into a file: at which offset, whether a missing file is created, and whether one that is
+/// there is emptied first.
 #[derive(Clone, Copy, Debug, PartialEq, Eq)]
 pub struct WriteHow {
     pub offset: u64,

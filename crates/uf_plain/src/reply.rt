@@ -35,8 +35,8 @@ impl Copied for Row {
     }
 }
 
-/// What is said of a file or a directory: its CID, the bytes of a file (0 of a directory), its Tsize, the number of links of
-/// its root block (0 of a raw block), and whether it is a directory.
+/// What is said of a file or a directory: its CID, the bytes of a file (0 of a directory), its Tsize, the number of
+/// links of its root block (0 of a raw block), and whether it is a directory.
 #[derive(Clone, Copy, Debug, PartialEq, Eq)]
 pub struct Stat {
     pub cid: Cid,

@@ -17,7 +17,8 @@ pub enum Rule {
     TooBig,
 }
 
-/// The rule that refuses a command, before its path is told: a number says how many names of the path lead to what decides.
+/// The rule that refuses a command, before its path is told: a number says how many names of the path lead to what
+/// decides.
 #[derive(Drop)]
 pub enum Refused {
     NotFound(usize),

@@ -1,6 +1,7 @@
 // A rule told with the path up to the name that decides.
 ghost use Rattle.std.specs.Prelude.{◌≡◌, IfOk, take};
 ghost use Rattle.uf_plain.specs.Rules.{path_text as text_of, rule_of};
+ghost use Rattle.uf_plain.specs.declared.rule.Rule.TheVariants as rules;
 
 use crate::{Refused, Rule};
 use std::alloc::Global;
@@ -22,6 +23,13 @@ pub fn rule_at(alloc: Global, names: &[Name], why: Refused) -> Result<Rule, Memo
         Refused::Collision(first, second) => Ok(Rule::Collision(first, second)),
         Refused::TooBig => Ok(Rule::TooBig),
     }
+}
+
+/// The rule that refuses a move into what it moves.
+pub fn inside_rule(alloc: Global, source: &[Name], target: &[Name]) -> Result<Rule, Memory>
+    ensures { IfOk result (λ rule. rule ≡ rules.Inside (text_of source.now) (text_of target.now)) }
+{
+    Ok(Rule::Inside(path_text(alloc, source)?, path_text(alloc, target)?))
 }
 
 /// A path as text.

@@ -3,7 +3,8 @@ use Rattle.uf_tree.specs.Changes.{with_name}
 use Rattle.uf_shard.specs.Placed.{IsBadOnWay}
 use Rattle.uf_dir.specs.Bad.{IsBad}
 use Rattle.std.proofs.lemmas.Result.{err_from_is_err_and}
-use Rattle.uf_dir.proofs.Causes.{way-bad}
+use Rattle.uf_store.specs.Faults.{NoneIsBad}
+use Rattle.uf_dir.proofs.Causes.{blames-none, way-bad}
 use Rattle.uf_dir.proofs.Changing.{Shown-wider, put-basic, put-basic-after, put-sharded, put-sharded-ok, saves-same}
 use Rattle.uf_dir.proofs.Looked.{basic-light, entries-basic, entries-unread, fitting-at}
 use Rattle.uf_dir.proofs.Nodes.{gives-node}
@@ -47,3 +48,9 @@ returns-in-Basic-clause-fitting g c = fitting-at c.put_basic.result c.args.p.now
 
 pub returns-clause-fitting : goal.returns-clause-fitting
 returns-clause-fitting g c = fitting-at c.put.result c.args.p.now c.args.root.now (g.S.Store.seen c.args.store.now) (g.S.Store.seen c.look_at_root.new.store) _ c.in_ok-found.ensures.looks c.in_ok-found.ensures.light
+
+pub returns-in-Basic-clause-blames : goal.returns-in-Basic-clause-blames
+returns-in-Basic-clause-blames g c = blames-none g.S.X.BlockHash.block32 NoneIsBad c.args.root.now _ _ _ (λ bytes h. h) c.put_basic.ensures.saves.cause
+
+pub returns-clause-blames : goal.returns-clause-blames
+returns-clause-blames g c = blames-none g.S.X.BlockHash.block32 (IsBadOnWay g.N.NameHash.name64 (g.N.NameHash.name64 c.args.name.now)) c.args.root.now _ _ _ (λ bytes h. h) c.put.ensures.cause

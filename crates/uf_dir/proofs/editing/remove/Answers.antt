@@ -2,6 +2,8 @@ use Rattle.std.proofs.Common.{Some, refl}
 use Rattle.uf_dir.specs.Planned.{entry_without}
 use Rattle.std.proofs.lemmas.Result.{err_from_is_err_and}
 use Rattle.uf_dir.proofs.Changing.{basic-node, basic-ok, basic-value, in_shards, saves-same, stay-there, take-sharded, take-sharded-ok}
+use Rattle.uf_store.specs.Faults.{NoneIsBad}
+use Rattle.uf_dir.proofs.Causes.{blames-none}
 use Rattle.uf_dir.proofs.Looked.{entries-basic, entries-unread, fitting-at}
 use Rattle.uf_dir.proofs.Refusals.{sharded-apart}
 use Rattle.uf_dir.proofs.Touching.{basic-takes, sharded-takes}
@@ -49,3 +51,6 @@ returns-clause-touches g c = λ l is stays faults clashes.
     sharded-takes g.S.X.BlockHash.block32 g.N.NameHash.name64 c.args.p.now l (without c.args.name.now l) c.args.touches.now c.look_at_root.new.touches _ heavy (sharded-apart g.S.X.BlockHash.block32 g.N.NameHash.name64 g.met.N.NameHash.fits c.args.p.now l c.args.root.now is heavy) c.look_at_root.ensures.touches
     (c.remove_sharded.ensures.touches l (stay-there g.S.X.BlockHash.block32 (record { size = g.met.S.X.BlockHash.size; are_bytes = g.met.S.X.BlockHash.are_bytes }) g.N.NameHash.name64 c.args.p.now c.args.root.now l is (g.S.Store.seen c.args.store.now) (g.S.Store.seen c.look_at_root.new.store) _ _ c.in-Sharded.is c.in_ok-found.ensures.looks c.look_at_root.ensures.reads.told stays.first
     (g.S.Store.seen c.remove_sharded.new.store) c.in_ok-found.ensures.reads.cause stays.last (record { faults = faults; clashes = clashes })))
+
+pub returns-in-Basic-clause-blames : goal.returns-in-Basic-clause-blames
+returns-in-Basic-clause-blames g c = blames-none g.S.X.BlockHash.block32 NoneIsBad c.args.root.now _ _ _ (λ bytes h. h) c.remove_basic.ensures.saves.cause

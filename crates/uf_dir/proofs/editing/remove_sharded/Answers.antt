@@ -4,7 +4,10 @@ use Rattle.std.proofs.lemmas.Result.{err_from_is_err_and}
 use Rattle.uf_store.proofs.Calls.{saves-by, saves-saves}
 use Rattle.uf_tree.specs.Changes.{without}
 use Rattle.uf_dir.specs.Bad.{IsBadWeighed}
-use Rattle.uf_dir.proofs.Causes.{shard-weighed, way-weighed}
+use Rattle.uf_store.specs.Faults.{NoneIsBad}
+use Rattle.uf_shard.specs.Listing.{IsBadShard}
+use Rattle.uf_shard.specs.Placed.{IsBadOnWay}
+use Rattle.uf_dir.proofs.Causes.{blames-none, shard-weighed, way-weighed}
 use Rattle.uf_dir.proofs.Taking.{absent-takes, emptied-takes, settled-takes, shards-left, unread-takes}
 use Rattle.uf_dir.proofs.Touching.{left-takes}
 use Rattle.uf_dir.proofs.editing.remove_sharded.Goals as goal
@@ -65,3 +68,13 @@ returns-in_ok-left-in-Left-clause-touches g c = λ l stay. left-takes g.S.X.Bloc
     (c.settled.ensures.touches g.N.NameHash.name64 (without c.args.name.now l) (shards-left g.S.X.BlockHash.block32 g.N.NameHash.name64 c.args.p.now c.args.root.now c.args.name.now (g.S.Store.seen c.args.store.now) (g.S.Store.seen c.remove.new.store) (g.S.Store.seen c.settled.new.store) c.in_ok-removed.ensures.cause
     c.remove.ensures.saves c.settled.ensures.saves.saves c.in-Left.entry (rw c.in-Left.is at c.in_ok-removed.ensures.value) (rw c.in-Left.is at c.in_ok-removed.ensures.after)
     c.settled.result c.settled.ensures.saves.cause l stay))
+
+pub returns-in_err-removed-clause-blames : goal.returns-in_err-removed-clause-blames
+returns-in_err-removed-clause-blames g c =
+    let out = err_from_is_err_and c.from_residual.result c.from_residual.ensures.1 in
+    rw (out.1, out.2) (blames-none g.S.X.BlockHash.block32 (IsBadOnWay g.N.NameHash.name64 (g.N.NameHash.name64 c.args.name.now)) c.args.root.now (Some c.in_err-removed.field-0.0) _ _ (λ bytes h. h) c.in_err-removed.ensures.cause)
+
+pub returns-in_err-left-in-Left-clause-blames : goal.returns-in_err-left-in-Left-clause-blames
+returns-in_err-left-in-Left-clause-blames g c =
+    let out = err_from_is_err_and c.from_residual-in_err-left-in-Left.result c.from_residual-in_err-left-in-Left.ensures.1 in
+    rw (out.1, out.2) (blames-none g.S.X.BlockHash.block32 IsBadShard c.args.root.now (Some c.in_err-left-in-Left.field-0.0) _ _ (λ bytes h. h) c.in_err-left-in-Left.ensures.saves.cause)

@@ -16,8 +16,8 @@ use Rattle.uf_store.proofs.Calls.{reads-saves, saves-by, saves-saves}
 use Rattle.uf_mfs.proofs.Filling.{agreed-beside, agreed-over}
 use Rattle.uf_mfs.proofs.Folders.{brought-good, folder-stops, folder-there, member-stops, over-first, path-put, path-stopped, read-over}
 use Rattle.uf_mfs.proofs.Meeting.{first-rest, no-names}
-use Rattle.uf_mfs.specs.Bad.{IsBad}
-use Rattle.uf_mfs.proofs.Judging.{bad-more}
+use Rattle.uf_mfs.specs.Bad.{IsBadInTree}
+use Rattle.uf_mfs.proofs.Judging.{bad-below, folder-required, tree-more}
 use Rattle.uf_mfs.proofs.editing.+edit.Goals as goal
 
 pub returns-in_err-entry-clause-edits : goal.returns-in_err-entry-clause-edits
@@ -30,7 +30,7 @@ returns-in_err-entry-clause-edits g t c = λ u meant.
     let out = err_from_is_err_and c.from_residual-in_err-entry.result c.from_residual-in_err-entry.ensures.1 in
     rw (out.1, out.2) (subst (λ l. EditsFolder X N p a e (brought X N p what u) c.args.folder.now (edited (change what u) led name l) (Err c.in_err-entry.field-0.0)) names
     (path-stopped X N p c.args.folder.now c.in_ok-below.below (brought X N p what u) name (λ es. as_folder (led + 1) (child name es)) (edited (change what u) (led + 1) c.next-item.result more) c.in_err-entry.field-0.0 (brought-good X N p what u)
-    found (folder-there X N p (led + 1) c.args.folder.now c.in_ok-below.below name found (λ es o. c.in_ok-below.ensures X N a.told p (child name es) (c.in_ok-found.ensures.member p es (agreed-over X N p c.args.folder.now es o) o.calm.faults)))
+    found (folder-there X N p (led + 1) c.args.folder.now c.in_ok-below.below name found (λ es o. c.in_ok-below.ensures.decides X N a.told p (child name es) (c.in_ok-found.ensures.member p es (agreed-over X N p c.args.folder.now es o) o.calm.faults)))
     c.in_err-entry.ensures.saves (c.in_err-entry.ensures.edits u meant)))
 
 pub returns-clause-edits : goal.returns-clause-edits
@@ -42,7 +42,7 @@ returns-clause-edits g t c = λ u meant.
     let names : c.next-item.result ∷ more ≡ c.args.rest.now = first-rest c.args.rest.now c.next-item.result c.in-len1-up.len_at_least c.next-item.is in
     subst (λ l. EditsFolder X N p a d (brought X N p what u) c.args.folder.now (edited (change what u) led name l) c.put_in.result) names
     (path-put X N p c.args.folder.now c.in_ok-below.below c.in_ok-entry.entry (brought X N p what u) name (λ es. as_folder (led + 1) (child name es)) (edited (change what u) (led + 1) c.next-item.result more) c.put_in.result (brought-good X N p what u)
-    found (folder-there X N p (led + 1) c.args.folder.now c.in_ok-below.below name found (λ es o. c.in_ok-below.ensures X N a.told p (child name es) (c.in_ok-found.ensures.member p es (agreed-over X N p c.args.folder.now es o) o.calm.faults)))
+    found (folder-there X N p (led + 1) c.args.folder.now c.in_ok-below.below name found (λ es o. c.in_ok-below.ensures.decides X N a.told p (child name es) (c.in_ok-found.ensures.member p es (agreed-over X N p c.args.folder.now es o) o.calm.faults)))
     c.in_ok-entry.ensures.saves (c.in_ok-entry.ensures.edits u meant) c.put_in.ensures.saves c.put_in.ensures.edits)
 
 pub returns-clause-saves : goal.returns-clause-saves
@@ -50,9 +50,9 @@ returns-clause-saves g t c = saves-saves (saves-saves (reads-saves {f = None} c.
 
 pub returns-in_err-found-clause-saves : goal.returns-in_err-found-clause-saves
 returns-in_err-found-clause-saves g t c =
-    let N = g.N.NameHash.name64 in let p = c.args.site.profile in
+    let X = g.S.X.BlockHash.block32 in let N = g.N.NameHash.name64 in let p = c.args.site.profile in
     let out = err_from_is_err_and c.from_residual.result c.from_residual.ensures.1 in
-    rw (out.1, out.2) (saves-by (IsBad N (Some p)) (bad-more N p) (reads-saves c.in_err-found.ensures.reads))
+    rw (out.1, out.2) (saves-by (IsBadInTree X N (Some p) c.args.folder.now.cid) (tree-more X N p c.args.folder.now.cid) (reads-saves c.in_err-found.ensures.reads))
 
 pub returns-in_err-found-clause-edits : goal.returns-in_err-found-clause-edits
 returns-in_err-found-clause-edits g t c = λ u meant es o.
@@ -85,7 +85,7 @@ returns-in_err-below-clause-edits g t c = λ u meant es o.
     let out = err_from_is_err_and c.from_residual-in_err-below.result c.from_residual-in_err-below.ensures.1 in
     rw (out.1, out.2) (subst (λ l. EditsAfter X N a.told b.told old p (allowed X N p (edited (change what u) led name l es)) (Err (stop.Refused c.in_err-below.field-0.0))) names
     (folder-stops X N p a.told b.told old name es (as_folder (led + 1) (child name es)) (edited (change what u) (led + 1) c.next-item.result more) c.in_err-below.field-0.0
-    (c.in_err-below.ensures X N a.told p (child name es) member)))
+    (c.in_err-below.ensures.decides X N a.told p (child name es) member)))
 
 pub returns-in_default-clause-touches : goal.returns-in_default-clause-touches
 returns-in_default-clause-touches g t c = λ u meant es o.
@@ -113,7 +113,7 @@ returns-in_err-entry-clause-touches g t c = λ u meant.
     subst (λ (l : List (List ℕ)). TouchesFolder X N p a e (brought X N p what u) folder (λ es. 40 * (length l + 1) + crossings_of X N p (name ∷ l) es (edited (change what u) led name l es) + weighing_of X N p what (name ∷ l) es) c.args.touches.now c.edit.new.touches) names
     (touches-by X N p (brought X N p what u) folder _ _ c.args.touches.now c.edit.new.touches (λ es. omega arith)
     (stopped-touches X N p folder c.in_ok-below.below (brought X N p what u) name (next ∷ more) step go (weighing_of X N p what (next ∷ more)) (weighing_of X N p what (name ∷ next ∷ more)) (length more + 1) (brought-good X N p what u) (folder-leads X N p what (led + 1) name next more)
-    c.args.touches.now c.member.new.touches c.edit.new.touches (omega (arith, t1)) found (folder-there X N p (led + 1) folder c.in_ok-below.below name found (λ es o. c.in_ok-below.ensures X N a.told p (child name es) (c.in_ok-found.ensures.member p es (agreed-over X N p folder es o) o.calm.faults)))
+    c.args.touches.now c.member.new.touches c.edit.new.touches (omega (arith, t1)) found (folder-there X N p (led + 1) folder c.in_ok-below.below name found (λ es o. c.in_ok-below.ensures.decides X N a.told p (child name es) (c.in_ok-found.ensures.member p es (agreed-over X N p folder es o) o.calm.faults)))
     c.in_err-entry.ensures.saves (c.in_err-entry.ensures.touches u meant)))
 
 pub returns-clause-touches : goal.returns-clause-touches
@@ -129,5 +129,12 @@ returns-clause-touches g t c = λ u meant.
     subst (λ (l : List (List ℕ)). TouchesFolder X N p a d (brought X N p what u) folder (λ es. 40 * (length l + 1) + crossings_of X N p (name ∷ l) es (edited (change what u) led name l es) + weighing_of X N p what (name ∷ l) es) c.args.touches.now c.put_in.new.touches) names
     (touches-by X N p (brought X N p what u) folder _ _ c.args.touches.now c.put_in.new.touches (λ es. omega arith)
     (put-touches X N p folder c.in_ok-below.below (brought X N p what u) name (next ∷ more) step go (weighing_of X N p what (next ∷ more)) (weighing_of X N p what (name ∷ next ∷ more)) (length more + 1) (brought-good X N p what u) (folder-leads X N p what (led + 1) name next more)
-    c.in_ok-entry.entry c.args.touches.now c.member.new.touches c.edit.new.touches c.put_in.new.touches (omega (arith, t1)) found (folder-there X N p (led + 1) folder c.in_ok-below.below name found (λ es o. c.in_ok-below.ensures X N a.told p (child name es) (c.in_ok-found.ensures.member p es (agreed-over X N p folder es o) o.calm.faults)))
+    c.in_ok-entry.entry c.args.touches.now c.member.new.touches c.edit.new.touches c.put_in.new.touches (omega (arith, t1)) found (folder-there X N p (led + 1) folder c.in_ok-below.below name found (λ es o. c.in_ok-below.ensures.decides X N a.told p (child name es) (c.in_ok-found.ensures.member p es (agreed-over X N p folder es o) o.calm.faults)))
     c.in_ok-entry.ensures.saves (c.in_ok-entry.ensures.edits u meant) (c.in_ok-entry.ensures.touches u meant) c.put_in.ensures.saves c.put_in.ensures.touches))
+
+pub returns-in_err-entry-clause-saves : goal.returns-in_err-entry-clause-saves
+returns-in_err-entry-clause-saves g t c =
+    let X = g.S.X.BlockHash.block32 in let N = g.N.NameHash.name64 in let p = c.args.site.profile in let folder = c.args.folder.now.cid in
+    let out = err_from_is_err_and c.from_residual-in_err-entry.result c.from_residual-in_err-entry.ensures.1 in
+    rw (out.1, out.2) (saves-saves (reads-saves {f = None} c.in_ok-found.ensures.reads)
+    (saves-by (IsBadInTree X N (Some p) folder) (bad-below X N (Some p) folder c.in_ok-below.below.cid (folder-required X N folder c.in_ok-found.found c.in_ok-below.below c.in_ok-below.ensures.folder c.in_ok-found.ensures.required)) c.in_err-entry.ensures.saves))

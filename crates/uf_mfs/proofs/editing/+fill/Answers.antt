@@ -4,11 +4,12 @@ use Rattle.uf_tree.specs.Tree.{Dir, Entries}
 use Rattle.uf_plain.specs.declared.rule.Refused.{Refused}
 use Rattle.uf_mfs.specs.Touches.{TouchesFolder, crossings_of}
 use Rattle.uf_mfs.proofs.Touching.{new-leads, put-touches, stopped-touches, touches-by}
-use Rattle.uf_mfs.specs.Bad.{IsBad}
 use Rattle.uf_plain.specs.Edits.{at, child, made_all, or_new}
 use Rattle.uf_mfs.specs.Steps.{FillsFolder, stop_fault}
 use Rattle.uf_tree.specs.declared.nodes.Entry.{Entry}
-use Rattle.uf_store.proofs.Calls.{saves-saves}
+use Rattle.uf_store.proofs.Calls.{saves-by, saves-saves}
+use Rattle.uf_mfs.specs.Bad.{IsBadInTree}
+use Rattle.uf_mfs.proofs.Judging.{bad-below, tree-more}
 use Rattle.uf_mfs.proofs.Filling.{filled-edits, filled-none, stood-before, there-not, there-under}
 use Rattle.uf_mfs.proofs.Folders.{path-put, path-stopped}
 use Rattle.uf_mfs.proofs.Meeting.{first-rest}
@@ -38,7 +39,14 @@ returns-in_err-filled-clause-there g t c = λ es below i stood is.
 pub returns-in_err-filled-clause-saves : goal.returns-in_err-filled-clause-saves
 returns-in_err-filled-clause-saves g t c =
     let out = err_from_is_err_and c.from_residual-in_err-filled.result c.from_residual-in_err-filled.ensures.1 in
-    rw (out.1, out.2) (saves-saves c.in_ok-start.ensures.saves c.in_err-filled.ensures.saves)
+    let X = g.S.X.BlockHash.block32 in let N = g.N.NameHash.name64 in let p = c.args.profile.now in let folder = c.args.folder.now.cid in
+    rw (out.1, out.2) (saves-saves c.in_ok-start.ensures.saves (saves-by (IsBadInTree X N (Some p) folder) (bad-below X N (Some p) folder c.in_ok-start.start.0.cid c.in_ok-start.ensures.required) c.in_err-filled.ensures.saves))
+
+pub returns-in_err-start-clause-saves : goal.returns-in_err-start-clause-saves
+returns-in_err-start-clause-saves g t c =
+    let X = g.S.X.BlockHash.block32 in let N = g.N.NameHash.name64 in let p = c.args.profile.now in let folder = c.args.folder.now.cid in
+    let out = err_from_is_err_and c.from_residual.result c.from_residual.ensures.1 in
+    rw (out.1, out.2) (saves-by (IsBadInTree X N (Some p) folder) (tree-more X N p folder) c.in_err-start.ensures.saves)
 
 pub returns-in_default-below_of-clause-fills : goal.returns-in_default-below_of-clause-fills
 returns-in_default-below_of-clause-fills g t c =
@@ -60,7 +68,9 @@ returns-in_default-below_of-clause-there g t c = λ es below i stood is.
     (under.1, refl)
 
 pub returns-in_default-below_of-clause-saves : goal.returns-in_default-below_of-clause-saves
-returns-in_default-below_of-clause-saves g t c = saves-saves c.in_ok-start.ensures.saves c.in_ok-filled.ensures.saves
+returns-in_default-below_of-clause-saves g t c =
+    let X = g.S.X.BlockHash.block32 in let N = g.N.NameHash.name64 in let p = c.args.profile.now in let folder = c.args.folder.now.cid in
+    saves-saves c.in_ok-start.ensures.saves (saves-by (IsBadInTree X N (Some p) folder) (bad-below X N (Some p) folder c.in_ok-start.start.0.cid c.in_ok-start.ensures.required) c.in_ok-filled.ensures.saves)
 
 pub returns-in_err-new-clause-fills : goal.returns-in_err-new-clause-fills
 returns-in_err-new-clause-fills g t c =
@@ -83,7 +93,7 @@ returns-in_err-new-clause-there g t c = λ es below i stood is.
     let a = g.S.Store.seen c.args.store.now in let e = g.S.Store.seen c.fill.new.store in let d = g.S.Store.seen c.put_in.new.store in
     let both = saves-saves c.in_ok-start.ensures.saves c.in_ok-filled.ensures.saves in
     absurd (there-not X N p c.args.led name more es below c.args.folder.now c.in_ok-start.start c.in_ok-filled.filled c.in-Some.below (sym c.below_of.ensures ∙ c.in-Some.is)
-    c.in_ok-start.ensures.saves c.in_ok-filled.ensures.saves i (stood-before X (IsBad N (Some p)) (IsBad N (Some p)) (stop_fault {A = Entry} (Err c.in_err-new.field-0.0)) a e d both c.in_err-new.ensures.saves stood)
+    c.in_ok-start.ensures.saves c.in_ok-filled.ensures.saves i (stood-before X _ _ (stop_fault {A = Entry} (Err c.in_err-new.field-0.0)) a e d both c.in_err-new.ensures.saves stood)
     (subst (λ l. at c.args.led l (Dir es) ≡ Ok (Dir below)) (sym names) is) (c.in_ok-start.ensures.found p es) (c.in_ok-start.ensures.there p es) (λ fs j s h. c.in_ok-filled.ensures.there fs below j s h))
 
 pub returns-in_err-new-clause-saves : goal.returns-in_err-new-clause-saves
@@ -111,7 +121,7 @@ returns-clause-there g t c = λ es below i stood is.
     let a = g.S.Store.seen c.args.store.now in let e = g.S.Store.seen c.fill.new.store in let d = g.S.Store.seen c.put_in.new.store in
     let both = saves-saves c.in_ok-start.ensures.saves c.in_ok-filled.ensures.saves in
     absurd (there-not X N p c.args.led name more es below c.args.folder.now c.in_ok-start.start c.in_ok-filled.filled c.in-Some.below (sym c.below_of.ensures ∙ c.in-Some.is)
-    c.in_ok-start.ensures.saves c.in_ok-filled.ensures.saves i (stood-before X (IsBad N (Some p)) (IsBad N (Some p)) None a e d both c.in_ok-new.ensures.saves stood)
+    c.in_ok-start.ensures.saves c.in_ok-filled.ensures.saves i (stood-before X _ _ None a e d both c.in_ok-new.ensures.saves stood)
     (subst (λ l. at c.args.led l (Dir es) ≡ Ok (Dir below)) (sym names) is) (c.in_ok-start.ensures.found p es) (c.in_ok-start.ensures.there p es) (λ fs j s h. c.in_ok-filled.ensures.there fs below j s h))
 
 pub returns-clause-saves : goal.returns-clause-saves

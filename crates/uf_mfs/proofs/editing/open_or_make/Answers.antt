@@ -11,6 +11,9 @@ use Rattle.uf_mfs.specs.Standing.{IsAgreedMember}
 use Rattle.uf_mfs.proofs.Filling.{agreed-over}
 use Rattle.uf_mfs.proofs.Folders.{member-stops, opened-folder, opened-new, over-first}
 use Rattle.uf_mfs.proofs.Starting.{empty-after}
+use Rattle.std.specs.Prelude.{IfSome}
+use Rattle.uf_mfs.specs.Bad.{IsRequired}
+use Rattle.uf_mfs.proofs.Judging.{empty-required}
 use Rattle.uf_mfs.proofs.editing.open_or_make.Goals as goal
 
 pub returns-in_ok-new-in-None-clause-opens : goal.returns-in_ok-new-in-None-clause-opens
@@ -44,3 +47,11 @@ returns-in-Some-Folder-clause-opens g c = λ p es o.
     let a = g.S.Store.seen c.args.store.now in let b = g.S.Store.seen c.member.new.store in
     let found = subst (λ x. IsAgreedMember X N a.told p (child c.args.name.now es) x) (c.in-Some-Folder.is ∙ ap Some c.in-Some-Folder.field-0-is) (c.in_ok-member.ensures.member p es (agreed-over X N p c.args.folder.now es o) o.calm.faults) in
     rw c.in-Some-Folder.entry-is (opened-folder X N p c.args.led c.args.folder.now c.in-Some-Folder.entry _ c.args.name.now es (reads-saves {f = None} c.in_ok-member.ensures.reads) o found)
+
+pub returns-in_ok-new-in-None-clause-required : goal.returns-in_ok-new-in-None-clause-required
+returns-in_ok-new-in-None-clause-required g c = empty-required g.S.X.BlockHash.block32 g.N.NameHash.name64 c.args.folder.now.cid c.in_ok-new-in-None.new c.in_ok-new-in-None.ensures.entry
+
+pub returns-in-Some-Folder-clause-required : goal.returns-in-Some-Folder-clause-required
+returns-in-Some-Folder-clause-required g c =
+    let X = g.S.X.BlockHash.block32 in let folder = c.args.folder.now.cid in
+    rw c.in-Some-Folder.entry-is (subst (λ o. IfSome o (IsRequired X folder)) (c.in-Some-Folder.is ∙ ap Some c.in-Some-Folder.field-0-is) c.in_ok-member.ensures.required)

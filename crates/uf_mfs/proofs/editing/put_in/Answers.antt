@@ -21,7 +21,7 @@ pub returns-in_err-new-clause-saves : goal.returns-in_err-new-clause-saves
 returns-in_err-new-clause-saves g c =
     let X = g.S.X.BlockHash.block32 in let N = g.N.NameHash.name64 in
     let out = err_from_is_err_and c.from_residual.result c.from_residual.ensures.1 in
-    rw out.1 (record { cause = stop-shows X N (N c.args.name.now) (Some c.args.profile.now) c.in_err-new.field-0.0 out.0 _ _ out.2 c.in_err-new.ensures.cause; good = c.in_err-new.ensures.good; saves = c.in_err-new.ensures.saves })
+    rw out.1 (record { cause = stop-shows X N c.args.folder.now.cid (N c.args.name.now) (Some c.args.profile.now) c.in_err-new.field-0.0 out.0 _ _ out.2 c.in_err-new.ensures.blames c.in_err-new.ensures.cause; good = c.in_err-new.ensures.good; saves = c.in_err-new.ensures.saves })
 
 pub returns-clause-touches : goal.returns-clause-touches
 returns-clause-touches g c = λ t new es o.

@@ -33,7 +33,7 @@ pub returns-in_err-taken-clause-saves : goal.returns-in_err-taken-clause-saves
 returns-in_err-taken-clause-saves g c =
     let X = g.S.X.BlockHash.block32 in let N = g.N.NameHash.name64 in let f = c.in_err-taken.field-0.0 in
     let out = err_from_is_err_and c.from_residual.result c.from_residual.ensures.1 in
-    rw (out.1, out.2) (record { cause = weighed-shows X N (N c.args.name.now) (Some c.args.profile.now) f _ _ c.in_err-taken.ensures.cause; good = c.in_err-taken.ensures.good; saves = c.in_err-taken.ensures.saves })
+    rw (out.1, out.2) (record { cause = weighed-shows X N c.args.folder.now.cid (N c.args.name.now) (Some c.args.profile.now) f _ _ c.in_err-taken.ensures.blames c.in_err-taken.ensures.cause; good = c.in_err-taken.ensures.good; saves = c.in_err-taken.ensures.saves })
 
 pub returns-in_err-taken-clause-touches : goal.returns-in_err-taken-clause-touches
 returns-in_err-taken-clause-touches g c = λ es o.

@@ -1,8 +1,8 @@
-use Rattle.std.proofs.Common.{arith, Err, Ok, subst, sym, ◌∙◌}
+use Rattle.std.proofs.Common.{arith, Err, None, Ok, subst, sym, ◌∙◌}
 use Rattle.std.proofs.lemmas.Result.{err_from_is_err_and}
 use Rattle.uf_store.specs.Lost.{ReadsOver}
 use Rattle.uf_store.specs.Faults.{fault_in}
-use Rattle.uf_store.proofs.Calls.{shown-rises, stood-back, stood-front}
+use Rattle.uf_store.proofs.Calls.{reads-by, reads-reads, shown-rises, stood-back, stood-front}
 use Rattle.uf_tree.specs.Tree.{Dir, pairs}
 use Rattle.uf_plain.specs.Needs.{own_needs}
 use Rattle.uf_dir.specs.Bad.{IsBadRoot}
@@ -11,6 +11,10 @@ use Rattle.uf_mfs.proofs.Agreed.{folder-members}
 use Rattle.uf_mfs.proofs.Answering.{entries-says, entries-touches, listed-shows}
 use Rattle.uf_mfs.proofs.Holding.{loss-front, reads-back}
 use Rattle.uf_mfs.proofs.Membering.{roots, rows, same-length}
+use Rattle.uf_store.specs.Calls.{OnlyReads}
+use Rattle.uf_store.specs.Faults.{NoneIsBad}
+use Rattle.uf_mfs.specs.Bad.{IsBadInTree}
+use Rattle.uf_mfs.proofs.Judging.{root-bad}
 use Rattle.uf_mfs.proofs.listing.rows_in.Goals as goal
 
 pub returns-in_err-pairs-clause-rows : goal.returns-in_err-pairs-clause-rows
@@ -23,7 +27,7 @@ returns-in_err-pairs-clause-rows g c = λ p es s stood.
 pub returns-in_err-pairs-clause-reads : goal.returns-in_err-pairs-clause-reads
 returns-in_err-pairs-clause-reads g c =
     let out = err_from_is_err_and c.from_residual.result c.from_residual.ensures.1 in
-    rw (out.1, out.2) (record { cause = listed-shows g.S.X.BlockHash.block32 g.N.NameHash.name64 c.in_err-pairs.field-0.0 _ _ c.in_err-pairs.ensures.cause; told = c.in_err-pairs.ensures.told })
+    rw (out.1, out.2) (record { cause = listed-shows g.S.X.BlockHash.block32 g.N.NameHash.name64 c.args.folder.now.cid c.in_err-pairs.field-0.0 _ _ c.in_err-pairs.ensures.blames c.in_err-pairs.ensures.cause; told = c.in_err-pairs.ensures.told })
 
 pub returns-clause-rows : goal.returns-clause-rows
 returns-clause-rows g c = λ p es s stood.
@@ -54,3 +58,9 @@ returns-clause-touches g c = λ p es s stood.
     let r = entries-touches X N (record { size = g.met.S.X.BlockHash.size; are_bytes = g.met.S.X.BlockHash.are_bytes }) g.met.N.NameHash.fits a.told p c.args.folder.now es c.args.touches.now c.entries.new.touches s c.in_ok-pairs.ensures.touches in
     let more = c.rows_from.ensures.touches in
     omega (arith, long, r, more)
+
+pub returns-clause-reads : goal.returns-clause-reads
+returns-clause-reads g c =
+    let X = g.S.X.BlockHash.block32 in let N = g.N.NameHash.name64 in let folder = c.args.folder.now.cid in
+    let found : OnlyReads X NoneIsBad None (g.S.Store.seen c.args.store.now) (g.S.Store.seen c.entries.new.store) = record { cause = c.in_ok-pairs.ensures.cause; told = c.in_ok-pairs.ensures.told } in
+    reads-reads found (reads-by (IsBadInTree X N None folder) (root-bad X N None folder) c.rows_from.ensures.reads)

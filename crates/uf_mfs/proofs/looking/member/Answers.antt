@@ -1,6 +1,6 @@
 use Rattle.std.proofs.Common.{Err, None, Ok, Some, ap, refl}
 use Rattle.std.proofs.lemmas.Result.{err_from_is_err_and}
-use Rattle.uf_store.proofs.Calls.{shown-rises, stood-back, stood-front}
+use Rattle.uf_store.proofs.Calls.{reads-by, reads-reads, shown-rises, stood-back, stood-front}
 use Rattle.uf_store.specs.Faults.{fault_in}
 use Rattle.uf_tree.specs.DirPlan.{trail}
 use Rattle.uf_tree.specs.TreePlan.{named_entries}
@@ -9,6 +9,10 @@ use Rattle.uf_plain.specs.Edits.{child}
 use Rattle.uf_mfs.proofs.Answering.{way-shows}
 use Rattle.uf_mfs.proofs.Holding.{loss-front}
 use Rattle.uf_mfs.proofs.Seeing.{find-says, member-err, member-none, member-some}
+use Rattle.uf_store.specs.Calls.{OnlyReads}
+use Rattle.uf_store.specs.Faults.{NoneIsBad}
+use Rattle.uf_mfs.specs.Bad.{IsBadInTree}
+use Rattle.uf_mfs.proofs.Judging.{root-bad}
 use Rattle.uf_mfs.proofs.looking.member.Goals as goal
 
 pub returns-in_err-entry-clause-member : goal.returns-in_err-entry-clause-member
@@ -21,7 +25,7 @@ returns-in_err-entry-clause-member g c = λ p es s stood.
 pub returns-in_err-entry-clause-reads : goal.returns-in_err-entry-clause-reads
 returns-in_err-entry-clause-reads g c =
     let out = err_from_is_err_and c.from_residual.result c.from_residual.ensures.1 in
-    rw (out.1, out.2) (record { cause = way-shows g.S.X.BlockHash.block32 g.N.NameHash.name64 (g.N.NameHash.name64 c.args.name.now) None c.in_err-entry.field-0.0 _ _ c.in_err-entry.ensures.cause; told = c.in_err-entry.ensures.told })
+    rw (out.1, out.2) (record { cause = way-shows g.S.X.BlockHash.block32 g.N.NameHash.name64 c.args.folder.now.cid (g.N.NameHash.name64 c.args.name.now) None c.in_err-entry.field-0.0 _ _ c.in_err-entry.ensures.blames c.in_err-entry.ensures.cause; told = c.in_err-entry.ensures.told })
 
 pub returns-in_default-clause-member : goal.returns-in_default-clause-member
 returns-in_default-clause-member g c = λ p es s stood.
@@ -53,3 +57,13 @@ returns-clause-member g c = λ p es s stood.
     (λ p l i k. c.in_ok-entry.ensures.value p l i k front) in
     member-some X N a.told b.told p c.args.folder.now es c.args.name.now c.in-Some.entry c.in_ok-thing.thing c.in_ok-entry.ensures.told s is
     (λ t i. c.in_ok-thing.ensures.thing p t i back)
+
+pub returns-in_err-thing-clause-reads : goal.returns-in_err-thing-clause-reads
+returns-in_err-thing-clause-reads g c =
+    let X = g.S.X.BlockHash.block32 in let N = g.N.NameHash.name64 in let folder = c.args.folder.now.cid in
+    let found : OnlyReads X NoneIsBad None (g.S.Store.seen c.args.store.now) (g.S.Store.seen c.find.new.store) = record { cause = c.in_ok-entry.ensures.cause; told = c.in_ok-entry.ensures.told } in
+    let out = err_from_is_err_and c.from_residual-in_err-thing.result c.from_residual-in_err-thing.ensures.1 in
+    rw (out.1, out.2) (reads-reads found (reads-by (IsBadInTree X N None folder) (root-bad X N None folder) c.in_err-thing.ensures.reads))
+
+pub returns-clause-required : goal.returns-clause-required
+returns-clause-required g c = c.in_ok-thing.ensures.required c.args.folder.now.cid

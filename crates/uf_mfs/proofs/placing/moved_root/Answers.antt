@@ -1,7 +1,7 @@
 use Rattle.std.proofs.Common.{[], Err, List, Ok, Some, length, subst, sym, ℕ, ◌≡◌, ◌≤◌, ◌+◌, ◌∙◌}
 use Rattle.std.proofs.lemmas.Result.{err_from_is_err_and}
 use Rattle.uf_store.specs.Lost.{IsLossOf}
-use Rattle.uf_store.proofs.Calls.{reads-reads, reads-saves, shown-rises, stood-back, stood-front}
+use Rattle.uf_store.proofs.Calls.{reads-by, reads-reads, reads-saves, saves-saves, shown-rises, stood-back, stood-front}
 use Rattle.uf_tree.specs.Tree.{Dir, Entries, Tree}
 use Rattle.uf_tree.specs.TreePlan.{blocks}
 use Rattle.uf_tree.specs.declared.nodes.Entry.{Entry}
@@ -16,7 +16,9 @@ use Rattle.uf_mfs.specs.Steps.{IsFolderOver}
 use Rattle.uf_mfs.proofs.Carrying.{carried-on, meets-value, move-found, move-touches, onto-itself, source-stop, target-length, target-stops}
 use Rattle.uf_mfs.proofs.Filling.{agreed-over}
 use Rattle.uf_mfs.proofs.Folders.{over-first, read-over}
-use Rattle.uf_mfs.proofs.Spots.{front-last, tree-rises}
+use Rattle.uf_mfs.proofs.Spots.{front-last, tells-saves, tree-rises}
+use Rattle.uf_mfs.specs.Bad.{IsBad}
+use Rattle.uf_mfs.proofs.Judging.{tree-bad-more}
 use Rattle.uf_mfs.proofs.placing.moved_root.Goals as goal
 
 pub returns-in-Err-clause-moves : goal.returns-in-Err-clause-moves
@@ -81,3 +83,18 @@ returns-in_err-target-in-Ok-clause-moves g c = λ p es same o.
     (subst (λ n. GivesOver X N a.told p es (IsFound X N a.told p) (target dest n es) (Err f)) (sym (front-last source c.name-item.result c.in-len1-up.len_at_least c.name-item.is).1)
     (subst (λ told. GivesOver X N told p es (IsFound X N told p) (target dest (Some c.name-item.result) es) (Err f)) looked.told
     (c.in_err-target-in-Ok.ensures.found p es (subst (λ told. IsAgreed X N told p root (Dir es)) (sym looked.told) s) back))))
+
+pub returns-in-Err-clause-saves : goal.returns-in-Err-clause-saves
+returns-in-Err-clause-saves g c =
+    let X = g.S.X.BlockHash.block32 in let N = g.N.NameHash.name64 in let p = c.args.tree.now.profile in
+    tells-saves Thing Entry X (IsBad N (Some p)) c.args.source.now c.in-Err.stop c.fault_of.result _ _ c.fault_of.ensures
+    (reads-saves (reads-by (IsBad N (Some p)) (tree-bad-more X N p c.args.tree.now.root.cid) c.in-Err.ensures.reads))
+
+pub returns-in_err-target-in-Ok-clause-saves : goal.returns-in_err-target-in-Ok-clause-saves
+returns-in_err-target-in-Ok-clause-saves g c =
+    let X = g.S.X.BlockHash.block32 in let N = g.N.NameHash.name64 in let p = c.args.tree.now.profile in let found = c.in_err-target-in-Ok.ensures.reads in
+    let out = err_from_is_err_and c.from_residual.result c.from_residual.ensures.1 in
+    rw (out.1, out.2) (record {
+      saves = saves-saves (reads-saves c.in-Ok.ensures.reads) (reads-saves (reads-by (IsBad N (Some p)) (tree-bad-more X N p c.args.tree.now.root.cid) found.reads));
+      in_tree = found.in_tree;
+    })

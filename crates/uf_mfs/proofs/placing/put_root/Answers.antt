@@ -1,8 +1,3 @@
-use Rattle.std.proofs.Common.{◌≤◌, ◌*◌, ◌+◌, arith, length, subst}
-use Rattle.uf_tree.specs.TreePlan.{blocks}
-use Rattle.uf_plain.specs.Rules.{allowed}
-use Rattle.uf_mfs.specs.Answers.{EditsAfter}
-use Rattle.uf_mfs.specs.Touches.{crossings_of}
 use Rattle.uf_mfs.proofs.Shifting.{put-after, put-crossed}
 use Rattle.uf_mfs.proofs.placing.put_root.Goals as goal
 

@@ -1,9 +1,9 @@
-use Rattle.std.proofs.Common.{[], Err, Ok, ◌≡◌, ◌≤◌, ◌+◌, ◌*◌, length, subst, sym, true}
+use Rattle.std.proofs.Common.{[], Err, Ok, ◌≤◌, ◌+◌, ◌*◌, length, subst, sym, true}
 use Rattle.uf_tree.specs.declared.nodes.Entry.{Entry}
 use Rattle.uf_tree.specs.Tree.{Dir, Entries}
 use Rattle.uf_tree.specs.TreePlan.{blocks}
 use Rattle.uf_store.specs.Lost.{IsLossOf}
-use Rattle.uf_store.proofs.Calls.{saves-saves}
+use Rattle.uf_store.proofs.Calls.{saves-by, saves-saves}
 use Rattle.uf_plain.specs.Edits.{removed}
 use Rattle.uf_plain.specs.Moves.{allowed_move, edited_at, placed_at, put_over, shifted, told_of}
 use Rattle.uf_plain.specs.Rules.{allowed}
@@ -12,6 +12,9 @@ use Rattle.uf_mfs.specs.Standing.{IsAfter, IsPlanOf}
 use Rattle.uf_mfs.proofs.Folders.{over-first}
 use Rattle.uf_mfs.proofs.Shifting.{allowed-stop, shift-moves, shift-told, shift-touches, thing-plan}
 use Rattle.uf_mfs.proofs.Spots.{gives-stop, meets-gives, tells-gives, tells-saves}
+use Rattle.std.proofs.Common.{Some}
+use Rattle.uf_mfs.specs.Bad.{IsBad}
+use Rattle.uf_mfs.proofs.Judging.{tree-bad}
 use Rattle.uf_mfs.proofs.placing.shifted_root.Goals as goal
 
 pub returns-in-Err-clause-moves : goal.returns-in-Err-clause-moves
@@ -38,7 +41,7 @@ returns-in-Err-put_root-clause-moves g c = λ t spot same es o there thing.
 
 pub returns-in-Err-put_root-clause-saves : goal.returns-in-Err-put_root-clause-saves
 returns-in-Err-put_root-clause-saves g c =
-    tells-saves Entry Entry g.S.X.BlockHash.block32 _ c.args.names.now c.in-Err-put_root.stop c.fault_of-in-Err-put_root.result _ _ c.fault_of-in-Err-put_root.ensures (saves-saves c.in-Ok.ensures.saves c.in-Err-put_root.ensures.saves)
+    tells-saves Entry Entry g.S.X.BlockHash.block32 _ c.args.names.now c.in-Err-put_root.stop c.fault_of-in-Err-put_root.result _ _ c.fault_of-in-Err-put_root.ensures (saves-saves c.in-Ok.ensures.saves (saves-by (IsBad g.N.NameHash.name64 (Some c.args.tree.now.profile)) (tree-bad g.S.X.BlockHash.block32 g.N.NameHash.name64 (Some c.args.tree.now.profile) c.in-Ok.left.cid) c.in-Err-put_root.ensures.saves))
 
 pub returns-in-Ok-put_root-clause-moves : goal.returns-in-Ok-put_root-clause-moves
 returns-in-Ok-put_root-clause-moves g c = λ t spot same es o there thing.
@@ -53,7 +56,7 @@ returns-in-Ok-put_root-clause-moves g c = λ t spot same es o there thing.
     (meets-gives May P names (allowed X N p (edited_at (put_over t) names fs)) c.in-Ok-put_root.root h))
 
 pub returns-in-Ok-put_root-clause-saves : goal.returns-in-Ok-put_root-clause-saves
-returns-in-Ok-put_root-clause-saves g c = record { saves = saves-saves c.in-Ok.ensures.saves c.in-Ok-put_root.ensures.saves; in_tree = tt }
+returns-in-Ok-put_root-clause-saves g c = record { saves = saves-saves c.in-Ok.ensures.saves (saves-by (IsBad g.N.NameHash.name64 (Some c.args.tree.now.profile)) (tree-bad g.S.X.BlockHash.block32 g.N.NameHash.name64 (Some c.args.tree.now.profile) c.in-Ok.left.cid) c.in-Ok-put_root.ensures.saves); in_tree = tt }
 
 pub returns-in-Err-put_root-clause-touches : goal.returns-in-Err-put_root-clause-touches
 returns-in-Err-put_root-clause-touches g c = λ t spot same es o there thing.
@@ -76,3 +79,8 @@ returns-in-Ok-put_root-clause-touches g c = λ t spot same es o there thing.
     (λ u plan. c.in-Ok-put_root.ensures.edits u (subst (λ e. IsPlanOf X N p e u) (sym c.entry_of-entry.ensures) plan))
     (λ fs is over h. shift-touches X N p source names spot t es fs c.args.touches.now c.removed_root.new.touches c.put_root.new.touches same is first
     (c.in-Ok-put_root.ensures.touches t (subst (λ e. IsPlanOf X N p e t) (sym c.entry_of-entry.ensures) plan) fs over))
+
+pub returns-in-Err-clause-saves : goal.returns-in-Err-clause-saves
+returns-in-Err-clause-saves g c =
+    let X = g.S.X.BlockHash.block32 in let N = g.N.NameHash.name64 in let p = c.args.tree.now.profile in
+    tells-saves Entry Entry X (IsBad N (Some p)) c.args.source.now c.in-Err.stop c.fault_of.result _ _ c.fault_of.ensures (saves-by (IsBad N (Some p)) (tree-bad X N (Some p) c.args.tree.now.root.cid) c.in-Err.ensures.saves)

@@ -1,10 +1,11 @@
-use Rattle.std.proofs.Common.{Ok, subst, sym}
+use Rattle.std.proofs.Common.{None, Ok, subst, sym}
 use Rattle.uf_tree.specs.Tree.{Dir, Entries}
 use Rattle.uf_tree.specs.declared.nodes.Entry.{Entry}
 use Rattle.uf_store.proofs.Calls.{stood-back, stood-front}
 use Rattle.uf_mfs.specs.Moving.{GivesOver, IsFound}
 use Rattle.uf_mfs.specs.Standing.{IsAgreed}
-use Rattle.uf_mfs.proofs.Spots.{folder-leads, folder-stops, tree-rises}
+use Rattle.uf_mfs.proofs.Spots.{folder-leads, folder-stops, tree-after, tree-rises}
+use Rattle.uf_mfs.proofs.Judging.{bad-below, target-below}
 use Rattle.uf_mfs.proofs.spotting.landing.Goals as goal
 
 pub returns-in-Err-clause-found : goal.returns-in-Err-clause-found
@@ -24,3 +25,11 @@ returns-in-Ok-clause-found g c = λ p es s stood.
     (c.in-Ok.ensures.looks p es s front) (λ fs s.
     subst (λ told. GivesOver X N told p fs (IsFound X N told p) (Ok (record { folder = c.args.folder.now; name = c.args.name.now }, fs)) c.under.result) same
     (c.under.ensures.found p fs (subst (λ told. IsAgreed X N told p c.in-Ok.entry (Dir fs)) (sym same) s) back))
+
+pub returns-in-Ok-clause-reads : goal.returns-in-Ok-clause-reads
+returns-in-Ok-clause-reads g c =
+    let X = g.S.X.BlockHash.block32 in let N = g.N.NameHash.name64 in
+    tree-after (bad-below X N None c.args.root.now.cid c.in-Ok.entry.cid c.in-Ok.ensures.required) c.in-Ok.ensures.reads c.under.ensures.reads
+
+pub returns-in-Ok-clause-required : goal.returns-in-Ok-clause-required
+returns-in-Ok-clause-required g c = target-below g.S.X.BlockHash.block32 g.N.NameHash.name64 c.args.root.now.cid c.in-Ok.entry.cid c.under.result c.in-Ok.ensures.required c.under.ensures.required

@@ -8,6 +8,8 @@ use Rattle.uf_plain.specs.Needs.{way}
 use Rattle.uf_mfs.specs.Answers.{MeetsOr}
 use Rattle.uf_mfs.specs.Standing.{IsAgreed, IsAgreedThing}
 use Rattle.uf_mfs.proofs.Spots.{folder-file, folder-found, stops-then}
+use Rattle.std.proofs.Common.{refl}
+use Rattle.uf_mfs.specs.Bad.{AtRoot, IsRequired}
 use Rattle.uf_mfs.proofs.spotting.look_at_folder.Goals as goal
 
 pub returns-in_err-entry-clause-looks : goal.returns-in_err-entry-clause-looks
@@ -30,3 +32,6 @@ returns-in-File-clause-looks g c = λ p es s stood.
     let May = IsLossOf told (way X N p c.args.names.now (Dir es)) in
     folder-file X N told p May (λ (fs : Entries) (e : Entry). IsAgreed X N told p e (Dir fs)) (at 0 c.args.names.now (Dir es)) (length c.args.names.now) _ _
     (subst (λ x. MeetsOr May (λ t x. IsAgreedThing X N told p t x) (at 0 c.args.names.now (Dir es)) (Ok x)) c.in-File.is (c.in_ok-entry.ensures.looks p (Dir es) (s, tt) stood))
+
+pub returns-in-Folder-clause-required : goal.returns-in-Folder-clause-required
+returns-in-Folder-clause-required g c = subst (IsRequired g.S.X.BlockHash.block32 c.args.root.now.cid) c.in-Folder.is (c.in_ok-entry.ensures.required c.args.root.now.cid (AtRoot refl))

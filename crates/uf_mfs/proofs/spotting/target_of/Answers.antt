@@ -1,4 +1,4 @@
-use Rattle.std.proofs.Common.{Err, List, Ok, Some, ap, length, subst, sym, take, ℕ, ◌≡◌, ◌≤◌, ◌-◌, ◌∙◌}
+use Rattle.std.proofs.Common.{Err, List, Ok, length, subst, sym, take, ℕ, ◌≡◌, ◌≤◌, ◌-◌, ◌∙◌}
 use Rattle.std.specs.Prelude.{get_or}
 use Rattle.std.proofs.lemmas.Result.{err_from_is_err_and}
 use Rattle.uf_tree.specs.Tree.{Dir}
@@ -8,7 +8,9 @@ use Rattle.uf_tree.specs.TreePlan.{blocks}
 use Rattle.uf_plain.specs.Moves.{told_of}
 use Rattle.uf_mfs.specs.Moving.{GivesOver, IsFound, lands}
 use Rattle.uf_mfs.specs.Standing.{IsAgreed}
-use Rattle.uf_mfs.proofs.Spots.{target-in, target-stop, target-there, tree-rises}
+use Rattle.uf_mfs.proofs.Spots.{target-in, target-stop, target-there, tree-after, tree-rises}
+use Rattle.std.proofs.Common.{None}
+use Rattle.uf_mfs.proofs.Judging.{bad-below, folder-required}
 use Rattle.uf_mfs.proofs.spotting.target_of.Goals as goal
 
 pub returns-in_err-found-in-len1-up-clause-found : goal.returns-in_err-found-in-len1-up-clause-found
@@ -43,3 +45,9 @@ returns-in-None-clause-found g c = λ p es s stood.
     (subst (λ (ns : List (List ℕ)). last ≡ get_or ns (length ns - 1) last) c.as_slice-names.ensures c.last-item.is) c.in_ok-found-in-len1-up.found (sym c.in-None.is ∙ c.folder_in.ensures)
     (subst (λ (ns : List (List ℕ)). GivesOver X N told p es (IsFound X N told p) (told_of ns (lands (take (length ns - 1) ns) last es)) (Ok c.in_ok-found-in-len1-up.found)) c.as_slice-names.ensures
     (c.in_ok-found-in-len1-up.ensures.found p es s stood))
+
+pub returns-in-Some-clause-reads : goal.returns-in-Some-clause-reads
+returns-in-Some-clause-reads g c =
+    let X = g.S.X.BlockHash.block32 in let N = g.N.NameHash.name64 in let root = c.args.root.now.cid in
+    let r = folder-required X N root c.in_ok-found-in-len1-up.found.there c.in-Some.entry (sym c.folder_in.ensures ∙ c.in-Some.is) c.in_ok-found-in-len1-up.ensures.required in
+    tree-after (bad-below X N None root c.in-Some.entry.cid r) c.in_ok-found-in-len1-up.ensures.reads.reads c.under.ensures.reads

@@ -29,7 +29,7 @@ returns-clause-edits g c = λ es member o.
     (c.in_ok-new.ensures.gives N folder name es member first) c.put_in.result c.put_in.ensures.edits
 
 pub returns-clause-saves : goal.returns-clause-saves
-returns-clause-saves g c = saves-saves c.in_ok-new.ensures.saves (way-written g.S.X.BlockHash.block32 g.N.NameHash.name64 c.args.site.now.profile (g.S.Store.seen c.put_in.new.store).told c.put_in.ensures.saves)
+returns-clause-saves g c = saves-saves c.in_ok-new.ensures.saves (way-written g.S.X.BlockHash.block32 g.N.NameHash.name64 c.args.site.now.profile (g.S.Store.seen c.put_in.new.store).told c.args.folder.now.cid c.put_in.ensures.saves)
 
 pub returns-clause-touches : goal.returns-clause-touches
 returns-clause-touches g c = λ rows es heights member o.

@@ -4,10 +4,10 @@ use Rattle.uf_plain.specs.Files.{file_edited}
 use Rattle.uf_plain.specs.Rules.{allowed}
 use Rattle.uf_store.proofs.Calls.{reads-saves, saves-by}
 use Rattle.uf_tree.specs.Tree.{Dir}
-use Rattle.uf_mfs.specs.Bad.{IsBad}
+use Rattle.uf_mfs.specs.Bad.{IsBadInTree}
 use Rattle.uf_mfs.proofs.After.{loss-among}
 use Rattle.uf_mfs.proofs.Filling.{agreed-over, same-folder}
-use Rattle.uf_mfs.proofs.Judging.{bad-more}
+use Rattle.uf_mfs.proofs.Judging.{tree-more}
 use Rattle.uf_mfs.proofs.Leaving.{left-whole}
 use Rattle.uf_mfs.proofs.Moving.{lost-edit}
 use Rattle.uf_mfs.proofs.Needed.{way-among}
@@ -24,9 +24,9 @@ returns-in_err-leads_to_file-clause-edits g c = λ es o.
 
 pub returns-in_err-leads_to_file-clause-saves : goal.returns-in_err-leads_to_file-clause-saves
 returns-in_err-leads_to_file-clause-saves g c =
-    let N = g.N.NameHash.name64 in let p = c.args.site.now.profile in
+    let X = g.S.X.BlockHash.block32 in let N = g.N.NameHash.name64 in let p = c.args.site.now.profile in let root = c.args.root.now.cid in
     let out = err_from_is_err_and c.from_residual.result c.from_residual.ensures.1 in
-    rw (out.1, out.2) (way-written g.S.X.BlockHash.block32 N p (g.S.Store.seen c.leads_to_file.new.store).told (saves-by (IsBad N (Some p)) (bad-more N p) (reads-saves c.in_err-leads_to_file.ensures.reads)))
+    rw (out.1, out.2) (way-written X N p (g.S.Store.seen c.leads_to_file.new.store).told root (saves-by (IsBadInTree X N (Some p) root) (tree-more X N p root) (reads-saves c.in_err-leads_to_file.ensures.reads)))
 
 pub returns-then-branch-clause-edits : goal.returns-then-branch-clause-edits
 returns-then-branch-clause-edits g c = λ es o.

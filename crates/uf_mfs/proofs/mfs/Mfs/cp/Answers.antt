@@ -1,5 +1,5 @@
 use Rattle.std.specs.Prelude.{option_copied}
-use Rattle.std.proofs.Common.{[], Err, List, None, Ok, refl, subst, sym, ℕ, ◌≡◌, ◌≤◌, ◌+◌, ◌++◌, ◌∙◌}
+use Rattle.std.proofs.Common.{Err, List, None, refl, subst, sym, ℕ, ◌≡◌, ◌≤◌, ◌+◌, ◌++◌, ◌∙◌}
 use Rattle.std.proofs.lemmas.Result.{err_from_is_err_and}
 use Rattle.uf_store.specs.Lost.{IsLossOf}
 use Rattle.uf_store.specs.Calls.{OnlyReads}
@@ -8,7 +8,6 @@ use Rattle.uf_store.proofs.Calls.{reads-reads, reads-saves, stood-back, stood-fr
 use Rattle.uf_store.proofs.Keeping.{KeepsGood-same}
 use Rattle.uf_tree.specs.Tree.{Dir, Entries, Tree}
 use Rattle.uf_tree.specs.TreePlan.{blocks}
-use Rattle.uf_tree.specs.declared.nodes.Entry.{Entry}
 use Rattle.uf_plain.specs.Edits.{at}
 use Rattle.uf_plain.specs.Moves.{allowed_move, copied, name_of, put_at_spot, spot_names, spotted}
 use Rattle.uf_plain.specs.Rules.{allowed}
@@ -16,12 +15,16 @@ use Rattle.uf_plain.specs.Needs.{way}
 use Rattle.uf_plain.specs.declared.spot.Spot.{Spot}
 use Rattle.uf_mfs.specs.declared.thing.Thing.{Thing}
 use Rattle.uf_mfs.specs.Answers.{MovesAfter}
-use Rattle.uf_mfs.specs.Bad.{IsBad}
+use Rattle.uf_mfs.specs.Bad.{IsBadInTree}
 use Rattle.uf_mfs.specs.Moving.{GivesOver, copy_bound}
 use Rattle.uf_mfs.specs.Standing.{IsAgreed, IsAgreedThing, IsPlanOf, StandsAfter}
 use Rattle.uf_mfs.specs.Steps.{IsFolderOver}
 use Rattle.uf_mfs.proofs.Carrying.{copied-moves, copied-stop, copy-found, copy-touches, meets-value, moves-by-held, over-beside, spot-length, spot-stop, tree-rises}
 use Rattle.uf_mfs.proofs.Filling.{agreed-over}
+use Rattle.std.proofs.Common.{Some}
+use Rattle.uf_store.proofs.Calls.{shown-by}
+use Rattle.uf_mfs.specs.Steps.{stop_fault}
+use Rattle.uf_mfs.proofs.Judging.{in-tree-after, in-tree-by, in-tree-told, tree-more}
 use Rattle.uf_mfs.proofs.mfs.Mfs.cp.Goals as goal
 
 pub returns-in-Err-clause-saves : goal.returns-in-Err-clause-saves
@@ -69,7 +72,7 @@ returns-in_ok-spot-in-Ok-clause-lost g c = λ p es same o.
     let X = g.S.X.BlockHash.block32 in let N = g.N.NameHash.name64 in let dest = c.args.dest.now in let self = c.args.self.now in let source = c.as_slice-names.result.now in
     let a = g.S.Store.seen c.args.store.now in let b = g.S.Store.seen c.look.new.store in let d = g.S.Store.seen c.spot.new.store in let looked = c.in-Ok.ensures.reads in
     let e = g.S.Store.seen c.place.new.store in let spot = c.in_ok-spot-in-Ok.spot in
-    let targeted : OnlyReads X (IsBad N None) None b d = record { cause = c.in_ok-spot-in-Ok.ensures.cause; told = c.in_ok-spot-in-Ok.ensures.told } in let reads = reads-reads looked targeted in
+    let targeted : OnlyReads X (IsBadInTree X N None self.root.cid) None b d = record { cause = c.in_ok-spot-in-Ok.ensures.cause; told = c.in_ok-spot-in-Ok.ensures.told } in let reads = reads-reads looked targeted in
     let rises = tree-rises X _ c.place.result d e c.place.ensures.cause in
     let m = copy-found X N p source dest es self c.in-Ok.thing spot (option_copied c.last.result) looked targeted c.last.ensures.value same (agreed-over X N p self.root es o)
     (stood-front a.faults d.faults e.faults reads.cause.faults rises.faults o.calm.faults) (λ s stood. c.in-Ok.ensures.looks p (Dir es) (s, tt) stood) (λ s stood. c.in_ok-spot-in-Ok.ensures.lost p es s stood) in
@@ -91,7 +94,7 @@ returns-in_ok-spot-in-Ok-clause-touches g c = λ es o.
     let X = g.S.X.BlockHash.block32 in let N = g.N.NameHash.name64 in let dest = c.args.dest.now in let self = c.args.self.now in let source = c.as_slice-names.result.now in
     let a = g.S.Store.seen c.args.store.now in let b = g.S.Store.seen c.look.new.store in let d = g.S.Store.seen c.spot.new.store in let looked = c.in-Ok.ensures.reads in
     let e = g.S.Store.seen c.place.new.store in let spot = c.in_ok-spot-in-Ok.spot in
-    let targeted : OnlyReads X (IsBad N None) None b d = record { cause = c.in_ok-spot-in-Ok.ensures.cause; told = c.in_ok-spot-in-Ok.ensures.told } in let reads = reads-reads looked targeted in
+    let targeted : OnlyReads X (IsBadInTree X N None self.root.cid) None b d = record { cause = c.in_ok-spot-in-Ok.ensures.cause; told = c.in_ok-spot-in-Ok.ensures.told } in let reads = reads-reads looked targeted in
     let p = self.profile in let same : self.profile ≡ p = refl in
     let rises = tree-rises X _ c.place.result d e c.place.ensures.cause in
     let m = copy-found X N p source dest es self c.in-Ok.thing spot (option_copied c.last.result) looked targeted c.last.ensures.value same (agreed-over X N p self.root es o)
@@ -100,3 +103,18 @@ returns-in_ok-spot-in-Ok-clause-touches g c = λ es o.
     (copy-touches X N p source dest es m.t spot c.args.touches.now c.look.new.touches c.spot.new.touches c.place.new.touches m.there m.at_spot c.in-Ok.ensures.touches c.in_ok-spot-in-Ok.ensures.touches
     (spot-length dest (name_of source) es spot m.at_spot)
     (c.place.ensures.touches m.t (subst (λ x. IsPlanOf X N p x m.t) (sym c.entry_of.ensures) m.plan) es (over-beside X N p reads e source self.root es m.t m.there o)))
+
+pub returns-in-Err-clause-cause : goal.returns-in-Err-clause-cause
+returns-in-Err-clause-cause g c =
+    let X = g.S.X.BlockHash.block32 in let N = g.N.NameHash.name64 in let p = c.args.self.now.profile in let root = c.args.self.now.root.cid in
+    let a = g.S.Store.seen c.args.store.now in let b = g.S.Store.seen c.look.new.store in
+    in-tree-told Thing (Unit {0}) X (IsBadInTree X N (Some p) root) c.as_slice-names.result.now c.in-Err.stop c.fault_of.result a b c.fault_of.ensures
+    (shown-by X (IsBadInTree X N None root) (IsBadInTree X N (Some p) root) (stop_fault {A = Thing} (Err c.in-Err.stop)) a b (tree-more X N p root) c.in-Err.ensures.reads.cause)
+
+pub returns-in_err-spot-in-Ok-clause-cause : goal.returns-in_err-spot-in-Ok-clause-cause
+returns-in_err-spot-in-Ok-clause-cause g c =
+    let X = g.S.X.BlockHash.block32 in let N = g.N.NameHash.name64 in let p = c.args.self.now.profile in let root = c.args.self.now.root.cid in
+    let a = g.S.Store.seen c.args.store.now in let b = g.S.Store.seen c.look.new.store in let d = g.S.Store.seen c.spot.new.store in
+    let f = c.in_err-spot-in-Ok.field-0.0 in let out = err_from_is_err_and c.from_residual.result c.from_residual.ensures.1 in
+    rw (out.1, out.2) (in-tree-after {A = Unit {0}} X (IsBadInTree X N (Some p) root) (Err f) a b d c.in-Ok.ensures.reads.cause
+    (in-tree-by {A = Unit {0}} X (IsBadInTree X N None root) (IsBadInTree X N (Some p) root) (Err f) b d (tree-more X N p root) c.in_err-spot-in-Ok.ensures.cause))

@@ -1,4 +1,4 @@
-use Rattle.std.proofs.Common.{◌≤◌, ◌+◌, Err, List, Ok, refl, subst, sym, ℕ}
+use Rattle.std.proofs.Common.{◌≤◌, ◌+◌, ◌∙◌, Err, List, Ok, ap, refl, subst, sym, ℕ}
 use Rattle.std.proofs.lemmas.Result.{err_from_is_err_and}
 use Rattle.uf_fileread.specs.Bad.{IsBadInFile}
 use Rattle.uf_fileread.specs.Ranges.{WritesOver, blocks_read, range_of}
@@ -14,8 +14,9 @@ use Rattle.uf_mfs.specs.Reading.{IsHeightOf, SendsAll, range_needs, range_touche
 use Rattle.uf_mfs.specs.Standing.{IsAgreed}
 use Rattle.uf_edge.specs.Streams.{AppendsPrefix}
 use Rattle.uf_mfs.proofs.Agreed.{stands-over}
-use Rattle.uf_mfs.proofs.Ranges.{calm-calm, nothing-sent, range-shows, read-done, read-front, read-held, read-lost, read-stopped, range-rises, sink-calm, stopped-shows}
+use Rattle.uf_mfs.proofs.Ranges.{calm-calm, nothing-sent, range-shows, read-done, read-front, read-held, none-appended, stood-calm, read-lost, read-stopped, range-rises, range-sink, stopped-shows}
 use Rattle.uf_mfs.specs.Touches.{read_bound}
+use Rattle.uf_mfs.specs.declared.fault.MfsFault.{MfsFault}
 use Rattle.uf_mfs.proofs.Reaching.{range-reached}
 use Rattle.uf_mfs.proofs.Touching.{look-touches}
 use Rattle.uf_mfs.proofs.mfs.Mfs.read.Goals as goal
@@ -40,7 +41,7 @@ returns-in_err-sent-in-Ok-clause-lost g c = λ p es height s tall stood calm.
     rw out.1 (subst (λ (ns : List (List ℕ)). IsHeightOf p height (plain_bytes_at ns es) → AnswersOr (IsLossOf told (needs_at X N p (range_needs X p height c.args.offset c.args.count) ns (Dir es))) (λ bytes n. SendsAll held held_now bytes n) ns
     (range_at c.args.offset c.args.count ns es) (Err out.0)) c.as_slice-names.ensures
     (λ tall. read-lost X N p told c.as_slice-names.result.now es height c.args.offset c.args.count held held_now c.in-Ok.entry c.in_err-sent-in-Ok.field-0.0 out.0 out.2
-    (sink-calm X (IsBadInFile b.told c.in-Ok.entry.cid) c.in_err-sent-in-Ok.field-0.0 b d _ _ c.in_err-sent-in-Ok.ensures.cause calm) (c.in-Ok.ensures.looks p es s.root front) tall
+    (λ is. calm (out.1 ∙ ap (λ (f : MfsFault). Err f) (range-sink c.in_err-sent-in-Ok.field-0.0 out.0 out.2 is))) (c.in-Ok.ensures.looks p es s.root front) tall
     (λ bytes is agrees. subst (λ t. WritesOver t (blocks_read X p.chunk p.width height c.args.offset c.args.count bytes) (range_of c.args.offset c.args.count bytes) held held_now (Err c.in_err-sent-in-Ok.field-0.0)) same
     (c.in_err-sent-in-Ok.ensures.value p bytes height is (subst (λ t. Agrees t (file_plan X p bytes).blocks) (sym same) agrees) back))) tall)
 
@@ -79,15 +80,15 @@ returns-in_ok-sent-in-Ok-clause-answer g c = λ p es s stood calm.
     (λ height tall. returns-in_ok-sent-in-Ok-clause-lost g c p es height (stands-over X N p told c.args.self.now es s) tall stood calm)
 
 pub returns-in-Err-clause-prefix : goal.returns-in-Err-clause-prefix
-returns-in-Err-clause-prefix g c = λ p es s stood. nothing-sent (to_read (range_at c.args.offset c.args.count c.args.path.now.names es)) (g.O.Sink.holds c.args.out.now)
+returns-in-Err-clause-prefix g c = λ p es s room. nothing-sent (to_read (range_at c.args.offset c.args.count c.args.path.now.names es)) (g.O.Sink.holds c.args.out.now)
 
 pub returns-in_err-sent-in-Ok-clause-prefix : goal.returns-in_err-sent-in-Ok-clause-prefix
-returns-in_err-sent-in-Ok-clause-prefix g c = λ p es s stood.
+returns-in_err-sent-in-Ok-clause-prefix g c = λ p es s room.
     let X = g.S.X.BlockHash.block32 in let N = g.N.NameHash.name64 in
-    let a = g.S.Store.seen c.args.store.now in let b = g.S.Store.seen c.look_at_file.new.store in let d = g.S.Store.seen c.read_range.new.store in let told = a.told in
+    let a = g.S.Store.seen c.args.store.now in let b = g.S.Store.seen c.look_at_file.new.store in let told = a.told in
     let held = g.O.Sink.holds c.args.out.now in let held_now = g.O.Sink.holds c.read_range.new.out in
     let same = c.in-Ok.ensures.reads.told in
-    let front = stood-front a.faults b.faults d.faults c.in-Ok.ensures.reads.cause.faults (range-rises X (IsBadInFile b.told c.in-Ok.entry.cid) (Err c.in_err-sent-in-Ok.field-0.0) b d _ _ c.in_err-sent-in-Ok.ensures.cause) stood in
+    let front = stood-calm a.faults b.faults c.in-Ok.ensures.reads.cause.faults room in
     let out = err_from_is_err_and c.from_residual.result c.from_residual.ensures.1 in
     rw out.1 (subst (λ (ns : List (List ℕ)). AppendsPrefix (to_read (range_at c.args.offset c.args.count ns es)) held held_now) c.as_slice-names.ensures
     (read-front X N p told c.as_slice-names.result.now es c.args.offset c.args.count held held_now c.in-Ok.entry (c.in-Ok.ensures.looks p es s.root front)
@@ -96,20 +97,20 @@ returns-in_err-sent-in-Ok-clause-prefix g c = λ p es s stood.
 pub returns-in-Err-clause-cause : goal.returns-in-Err-clause-cause
 returns-in-Err-clause-cause g c =
     let X = g.S.X.BlockHash.block32 in let N = g.N.NameHash.name64 in let a = g.S.Store.seen c.args.store.now in let b = g.S.Store.seen c.look_at_file.new.store in
-    stopped-shows X N a.told c.as_slice-names.result.now c.in-Err.stop c.fault_of.result a b (g.O.Sink.faults c.args.out.now) c.fault_of.ensures c.in-Err.ensures.reads.cause
+    stopped-shows X N a.told c.args.self.now.root.cid c.as_slice-names.result.now c.in-Err.stop c.fault_of.result a b (g.O.Sink.faults c.args.out.now) c.fault_of.ensures c.in-Err.ensures.reads.cause
 
 pub returns-in_err-sent-in-Ok-clause-cause : goal.returns-in_err-sent-in-Ok-clause-cause
 returns-in_err-sent-in-Ok-clause-cause g c =
     let X = g.S.X.BlockHash.block32 in let N = g.N.NameHash.name64 in
     let a = g.S.Store.seen c.args.store.now in let b = g.S.Store.seen c.look_at_file.new.store in let d = g.S.Store.seen c.read_range.new.store in
     let out = err_from_is_err_and c.from_residual.result c.from_residual.ensures.1 in
-    rw out.1 (range-shows X N a.told c.in-Ok.entry.cid c.in_err-sent-in-Ok.field-0.0 out.0 a b d _ _ out.2 c.in-Ok.ensures.reads.cause c.in-Ok.ensures.reads.told refl c.in_err-sent-in-Ok.ensures.cause)
+    rw out.1 (range-shows X N a.told c.args.self.now.root.cid c.in-Ok.entry.cid c.in_err-sent-in-Ok.field-0.0 out.0 a b d _ _ out.2 c.in-Ok.ensures.reads.cause c.in-Ok.ensures.reads.told refl c.in_err-sent-in-Ok.ensures.cause)
 
 pub returns-in_ok-sent-in-Ok-clause-cause : goal.returns-in_ok-sent-in-Ok-clause-cause
 returns-in_ok-sent-in-Ok-clause-cause g c =
     let X = g.S.X.BlockHash.block32 in let N = g.N.NameHash.name64 in
     let a = g.S.Store.seen c.args.store.now in let b = g.S.Store.seen c.look_at_file.new.store in let d = g.S.Store.seen c.read_range.new.store in
-    (calm-calm X N a.told a b d c.in-Ok.ensures.reads.cause c.in_ok-sent-in-Ok.ensures.cause.0, c.in_ok-sent-in-Ok.ensures.cause.1)
+    (calm-calm X N a.told c.args.self.now.root.cid a b d c.in-Ok.ensures.reads.cause c.in_ok-sent-in-Ok.ensures.cause.0, c.in_ok-sent-in-Ok.ensures.cause.1)
 
 pub returns-in-Err-clause-touches : goal.returns-in-Err-clause-touches
 returns-in-Err-clause-touches g c = λ p es rows s heights stood.
@@ -138,3 +139,12 @@ returns-in_ok-sent-in-Ok-clause-touches g c = λ p es rows s heights stood.
     (range-reached X N p a.told names es rows c.args.offset c.args.count c.in-Ok.entry c.args.touches.now c.look_at_file.new.touches c.read_range.new.touches heights
     (c.in-Ok.ensures.looks p es s.root front) c.in-Ok.ensures.touches
     (λ bytes height is agrees. c.in_ok-sent-in-Ok.ensures.touches p bytes height is (subst (λ t. Agrees t (file_plan X p bytes).blocks) (sym same) agrees)))
+
+pub returns-in-Err-clause-sends : goal.returns-in-Err-clause-sends
+returns-in-Err-clause-sends g c = none-appended c.args.count (g.O.Sink.holds c.args.out.now)
+
+pub returns-in_err-sent-in-Ok-clause-sends : goal.returns-in_err-sent-in-Ok-clause-sends
+returns-in_err-sent-in-Ok-clause-sends g c = c.in_err-sent-in-Ok.ensures.sends
+
+pub returns-in_ok-sent-in-Ok-clause-sends : goal.returns-in_ok-sent-in-Ok-clause-sends
+returns-in_ok-sent-in-Ok-clause-sends g c = record { count = c.in_ok-sent-in-Ok.sent; few = c.in_ok-sent-in-Ok.ensures.sends.0; appends = c.in_ok-sent-in-Ok.ensures.sends.1 }

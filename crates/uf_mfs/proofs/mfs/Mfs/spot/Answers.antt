@@ -1,6 +1,5 @@
 use Rattle.std.specs.Prelude.{get_or, option_copied}
-use Rattle.std.proofs.Common.{List, length, subst, sym, take, true, ℕ, ◌≡◌, ◌≤◌, ◌-◌, ◌∙◌}
-use Rattle.uf_path.specs.declared.path.Path.{Path}
+use Rattle.std.proofs.Common.{List, length, subst, sym, take, true, ℕ, ◌≡◌, ◌≤◌, ◌-◌}
 use Rattle.uf_tree.specs.Tree.{Dir}
 use Rattle.uf_tree.specs.TreePlan.{blocks}
 use Rattle.uf_plain.specs.declared.spot.Spot.{Spot}

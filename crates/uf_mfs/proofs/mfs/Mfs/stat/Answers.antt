@@ -1,8 +1,8 @@
-use Rattle.std.proofs.Common.{Err, List, Ok, subst, sym, ℕ, ◌≡◌}
+use Rattle.std.proofs.Common.{Err, List, Ok, subst, sym, ℕ, ◌≡◌, Some, None}
 use Rattle.std.proofs.lemmas.Result.{err_from_is_err_and}
 use Rattle.uf_store.specs.Faults.{fault_in}
 use Rattle.uf_store.specs.Lost.{IsLossOf, ReadsOver}
-use Rattle.uf_store.proofs.Calls.{shown-rises, stood-back, stood-front}
+use Rattle.uf_store.proofs.Calls.{shown-after, shown-by, shown-rises, stood-back, stood-front}
 use Rattle.uf_tree.specs.Tree.{Dir}
 use Rattle.uf_plain.specs.Edits.{at}
 use Rattle.uf_plain.specs.Needs.{root_of, needs_at, way}
@@ -13,6 +13,8 @@ use Rattle.uf_dir.specs.Bad.{IsBadRoot}
 use Rattle.uf_mfs.specs.Standing.{IsAgreedThing}
 use Rattle.uf_mfs.proofs.Agreed.{stands-over}
 use Rattle.uf_mfs.proofs.Needed.{answers-held, call-met, call-on, call-stopped, needs-held, root-of-among}
+use Rattle.uf_mfs.specs.Bad.{IsBadInTree}
+use Rattle.uf_mfs.proofs.Judging.{root-bad}
 use Rattle.uf_mfs.proofs.mfs.Mfs.stat.Goals as goal
 
 pub returns-in_err-thing-clause-lost : goal.returns-in_err-thing-clause-lost
@@ -65,3 +67,11 @@ returns-clause-answer g c = λ p es s stood.
     let names = c.args.path.now.names in
     answers-held told (needs_at X N p (root_of X N p) names (Dir es)) (λ t stat. stat ≡ stat_of X N p t) names (at 0 names (Dir es)) (Ok c.in_ok-stat.stat)
     (needs-held X N p told (root_of X N p) (root-of-among X N p) names c.args.self.now es s) (returns-clause-lost g c p es (stands-over X N p told c.args.self.now es s) stood)
+
+pub returns-in_err-stat-clause-cause : goal.returns-in_err-stat-clause-cause
+returns-in_err-stat-clause-cause g c =
+    let X = g.S.X.BlockHash.block32 in let N = g.N.NameHash.name64 in let root = c.args.self.now.root.cid in let f = c.in_err-stat.field-0.0 in
+    let a = g.S.Store.seen c.args.store.now in let b = g.S.Store.seen c.thing_at.new.store in let d = g.S.Store.seen c.stat_of.new.store in
+    let out = err_from_is_err_and c.from_residual-in_err-stat.result c.from_residual-in_err-stat.ensures.1 in
+    rw (out.1, out.2) (shown-after X (IsBadInTree X N None root) (Some f) a b d c.in_ok-thing.ensures.cause
+    (shown-by X IsBadRoot (IsBadInTree X N None root) (Some f) b d (root-bad X N None root) c.in_err-stat.ensures.reads.cause))

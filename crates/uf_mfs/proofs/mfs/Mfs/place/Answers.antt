@@ -1,0 +1,14 @@
+use Rattle.std.proofs.Common.{[], ◌++◌, ◌∙◌, ◌∷◌, List, ap, subst, ℕ}
+use Rattle.uf_plain.specs.Moves.{edited_at, put_over}
+use Rattle.uf_plain.specs.Rules.{allowed}
+use Rattle.uf_mfs.specs.Answers.{MovesTo}
+use Rattle.uf_mfs.proofs.Settling.{moves-held-with}
+use Rattle.uf_mfs.proofs.mfs.Mfs.place.Goals as goal
+
+pub returns-clause-answer : goal.returns-clause-answer
+returns-clause-answer g c = λ t p es i s faults clashes.
+    let X = g.S.X.BlockHash.block32 in let N = g.N.NameHash.name64 in let now = (g.S.Store.seen c.put_root-edited.new.store).told in
+    let names = c.as_slice-names.ensures ∙ c.in_ok-list.ensures ∙ ap (λ (ns : List (List ℕ)). ns ++ c.args.spot.now.name ∷ []) c.as_slice.ensures in
+    subst (λ (ns : List (List ℕ)). MovesTo X N now p ns c.settled.new.self (allowed X N p (edited_at (put_over t) ns es)) c.settled.result) names
+    (moves-held-with X N (g.S.Store.seen c.args.store.now) (g.S.Store.seen c.put_root-edited.new.store) c.as_slice-names.result.now c.args.self.now c.settled.new.self c.args.entry.now t (edited_at (put_over t) c.as_slice-names.result.now)
+    c.put_root-edited.result c.settled.result c.put_root-edited.ensures.saves.good c.settled.ensures.settles (c.put_root-edited.ensures.edits t) p es i s faults clashes)
