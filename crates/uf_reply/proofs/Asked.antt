@@ -1,9 +1,10 @@
 -- Why words are refused.
 use Rattle.std.proofs.Common.{ℕ, List, Bool, true, false, refl, sym, subst, inl, inr, Option, Some, None, Result, Ok, Err}
 use Rattle.std.specs.Prelude.{if◌then◌else◌}
-use Rattle.uf_path.specs.Paths.{names_a_dag, path_reads}
+use Rattle.uf_path.specs.Paths.{dag_path_reads, names_a_dag, path_reads}
 use Rattle.uf_path.specs.declared.faults.PathFault.{PathFault}
 use Rattle.uf_path.specs.declared.faults.PathFault.TheVariants as path
+use Rattle.uf_path.specs.declared.path.DagPath.{DagPath}
 use Rattle.uf_path.specs.declared.path.Path.{Path}
 use Rattle.uf_words.specs.declared.command.Cmd.{Cmd}
 use Rattle.uf_words.specs.declared.command.Cmd.TheVariants as cmd
@@ -13,7 +14,7 @@ use Rattle.uf_reply.specs.declared.types.Edit.{Edit}
 use Rattle.uf_reply.specs.declared.types.Edit.TheVariants.{Cp, Mv}
 use Rattle.uf_reply.specs.declared.types.Refusal.{Refusal}
 use Rattle.uf_reply.specs.declared.types.Refusal.TheVariants as refusal
-use Rattle.uf_reply.specs.Commands.{IsAsked, IsOfWords, add_asked, asked, asked_of, at_path, both_paths, from_to, path_refusal, write_asked}
+use Rattle.uf_reply.specs.Commands.{IsAsked, IsOfWords, add_asked, asked, asked_of, at_path, both_paths, cat_asked, from_to, path_refusal, read_asked, write_asked}
 
 at-only : (ask : Ask) (r : Result Path PathFault) → IsOfWords (at_path ask r)
 at-only ask (Ok path) = tt
@@ -28,6 +29,22 @@ add-only false only_hash None None = tt
 add-only false only_hash None (Some host_path) = refl
 add-only false only_hash (Some dest) host_path = refl
 add-only true only_hash to_files host_path = refl
+
+read-only : (offset count : ℕ) (r : Result Path PathFault) → IsOfWords (read_asked offset count r)
+read-only offset count (Ok path) = tt
+read-only offset count (Err path.NotAbsolute) = refl
+read-only offset count (Err (path.BadName place)) = refl
+read-only offset count (Err path.TooLong) = refl
+read-only offset count (Err (path.BadCid why)) = refl
+read-only offset count (Err path.Memory) = refl
+
+cat-only : (r : Result DagPath PathFault) → IsOfWords (cat_asked r)
+cat-only (Ok path) = tt
+cat-only (Err path.NotAbsolute) = refl
+cat-only (Err (path.BadName place)) = refl
+cat-only (Err path.TooLong) = refl
+cat-only (Err (path.BadCid why)) = refl
+cat-only (Err path.Memory) = refl
 
 write-only : (how : WriteHow) (hex : Option (List ℕ)) (r : Result Path PathFault) → IsOfWords (write_asked how hex r)
 write-only how None (Ok path) = tt
@@ -58,12 +75,12 @@ cp-only false r s = from-to-only (λ to. Cp to) r s
 cmd-only : (c : Cmd) → IsOfWords (asked c)
 cmd-only (cmd.Init profile) = tt
 cmd-only (cmd.Add recursive only_hash to_files host_path) = add-only recursive only_hash to_files host_path
-cmd-only (cmd.Cat target) = refl
+cmd-only (cmd.Cat target) = cat-only (dag_path_reads target)
 cmd-only (cmd.Get target host_path) = refl
 cmd-only (cmd.Mkdir parents path) = at-only _ (path_reads path)
 cmd-only (cmd.Ls long path) = at-only _ (path_reads path)
 cmd-only (cmd.Stat path) = at-only _ (path_reads path)
-cmd-only (cmd.Read offset count path) = refl
+cmd-only (cmd.Read offset count path) = read-only offset count (path_reads path)
 cmd-only (cmd.Write offset create cut hex path) = write-only (record { offset = offset; create = create; cut = cut }) hex (path_reads path)
 cmd-only (cmd.Truncate path length) = at-only _ (path_reads path)
 cmd-only (cmd.Cp source dest) = cp-only (names_a_dag source) (path_reads source) (path_reads dest)

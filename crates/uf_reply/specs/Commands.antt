@@ -1,5 +1,5 @@
 -- What words ask for, once their paths are read.
-use Rattle.std.specs.Prelude.{◌≡◌, ◌⊎◌, ◌&&◌, ℕ, List, [], ◌∷◌, Bool, true, false, not, IsTrue, if◌then◌else◌}
+use Rattle.std.specs.Prelude.{◌≡◌, ◌⊎◌, ◌<◌, ◌^◌, ◌&&◌, length, ℕ, List, [], ◌∷◌, Bool, true, false, not, IsTrue, if◌then◌else◌}
 use Rattle.std.specs.declared.option.Option.{Option}
 use Rattle.std.specs.declared.option.Option.TheVariants.{None, Some}
 use Rattle.std.specs.declared.result.Result.{Result}
@@ -12,9 +12,10 @@ use Rattle.uf_plain.specs.declared.file.WriteHow.{WriteHow}
 use Rattle.uf_plain.specs.declared.rule.Refused.{Refused}
 use Rattle.uf_plain.specs.declared.spot.Lie.{Lie}
 use Rattle.uf_plain.specs.declared.spot.Lie.TheVariants.{Itself, Below, Apart}
-use Rattle.uf_path.specs.Paths.{names_a_dag, path_reads}
+use Rattle.uf_path.specs.Paths.{dag_path_reads, names_a_dag, path_reads}
 use Rattle.uf_path.specs.declared.faults.PathFault.{PathFault}
 use Rattle.uf_path.specs.declared.faults.PathFault.TheVariants as path
+use Rattle.uf_path.specs.declared.path.DagPath.{DagPath}
 use Rattle.uf_path.specs.declared.path.Path.{Path}
 use Rattle.uf_tree.specs.Profiles.{is_profile}
 use Rattle.uf_tree.specs.Tree.{Tree, File, Dir, Entries}
@@ -24,7 +25,7 @@ use Rattle.uf_words.specs.declared.command.Cmd.TheVariants as cmd
 use Rattle.uf_reply.specs.declared.types.Ask.{Ask}
 use Rattle.uf_reply.specs.declared.types.Ask.TheVariants.{Ls, Stat, Edit as Edits}
 use Rattle.uf_reply.specs.declared.types.Command.{Command}
-use Rattle.uf_reply.specs.declared.types.Command.TheVariants.{Init, Add, WriteInput, At}
+use Rattle.uf_reply.specs.declared.types.Command.TheVariants.{Init, Add, WriteInput, At, Read, Cat}
 use Rattle.uf_reply.specs.declared.types.Edit.{Edit}
 use Rattle.uf_reply.specs.declared.types.Edit.TheVariants.{Mkdir, Rm, Write, Truncate, Cp, Mv}
 use Rattle.uf_reply.specs.declared.types.Refusal.{Refusal}
@@ -58,6 +59,16 @@ write_asked how None (Ok path) = Ok (WriteInput how path)
 write_asked how None (Err why) = Err (path_refusal why)
 write_asked how (Some piece) path = at_path (Edits (Write how piece)) path
 
+-- `files read` of so many bytes from an offset
+abbrev pub read_asked : (offset count : ℕ) → Result Path PathFault → Result Command Refusal
+read_asked offset count (Ok path) = Ok (Read offset count path)
+read_asked offset count (Err why) = Err (path_refusal why)
+
+-- `cat` of a path in a DAG
+abbrev pub cat_asked : Result DagPath PathFault → Result Command Refusal
+cat_asked (Ok path) = Ok (Cat path)
+cat_asked (Err why) = Err (path_refusal why)
+
 -- two paths, or why the first text that is none is none
 abbrev pub both_paths : Result Path PathFault → Result Path PathFault → Result (Path × Path) Refusal
 both_paths (Err why) dest = Err (path_refusal why)
@@ -83,9 +94,11 @@ mv_asked source dest = from_to (λ to. Mv to) (both_paths (path_reads source) (p
 abbrev pub asked : Cmd → Result Command Refusal
 asked (cmd.Init profile) = Ok (Init profile)
 asked (cmd.Add recursive only_hash to_files host_path) = add_asked recursive only_hash to_files host_path
+asked (cmd.Cat target) = cat_asked (dag_path_reads target)
 asked (cmd.Mkdir parents path) = at_path (Edits (Mkdir parents)) (path_reads path)
 asked (cmd.Ls long path) = at_path (Ls long) (path_reads path)
 asked (cmd.Stat path) = at_path Stat (path_reads path)
+asked (cmd.Read offset count path) = read_asked offset count (path_reads path)
 asked (cmd.Rm recursive path) = at_path (Edits (Rm recursive)) (path_reads path)
 asked (cmd.Write offset create cut hex path) =
     write_asked (record { offset = offset; create = create; cut = cut }) hex (path_reads path)
@@ -93,9 +106,7 @@ asked (cmd.Truncate path length) = at_path (Edits (Truncate length)) (path_reads
 asked (cmd.Cp source dest) = cp_asked source dest
 asked (cmd.Mv source dest) = mv_asked source dest
 -- these aren't answered yet
-asked (cmd.Cat target) = Err refusal.Usage
 asked (cmd.Get target host_path) = Err refusal.Usage
-asked (cmd.Read offset count path) = Err refusal.Usage
 asked (cmd.Export cid) = Err refusal.Usage
 asked (cmd.Same cid) = Err refusal.Usage
 asked cmd.Import = Err refusal.Usage
@@ -115,12 +126,14 @@ abbrev pub IsAsked : {A : Type 0} → Result A Refusal → Result A Refusal → 
 IsAsked (Ok a) told = told ≡ Ok a
 IsAsked (Err why) told = (why ≡ no_memory) ⊎ (told ≡ Err why)
 
--- the profile of an `init` is accepted; no other command has one
+-- the profile of an `init` is accepted, and a path in a DAG has fewer than 2^32 names
 abbrev pub IsAccepted : Command → Type 0
 IsAccepted (Init profile) = IsTrue (is_profile profile)
 IsAccepted (Add only_hash) = Unit {0}
 IsAccepted (WriteInput how path) = Unit {0}
 IsAccepted (At ask path) = Unit {0}
+IsAccepted (Read offset count path) = Unit {0}
+IsAccepted (Cat path) = length path.names < 2 ^ 32
 
 -- the command reads the input
 abbrev pub reads_input : Command → Bool
@@ -128,6 +141,26 @@ reads_input (Init profile) = false
 reads_input (Add only_hash) = true
 reads_input (WriteInput how path) = true
 reads_input (At ask path) = false
+reads_input (Read offset count path) = false
+reads_input (Cat path) = false
+
+-- the command writes its output while it reads blocks
+abbrev pub streams : Command → Bool
+streams (Init profile) = false
+streams (Add only_hash) = false
+streams (WriteInput how path) = false
+streams (At ask path) = false
+streams (Read offset count path) = true
+streams (Cat path) = true
+
+-- the command needs a Head, or that there is none; any other is answered by what is held alone
+abbrev pub needs_standing : Command → Bool
+needs_standing (Init profile) = true
+needs_standing (Add only_hash) = true
+needs_standing (WriteInput how path) = true
+needs_standing (At ask path) = true
+needs_standing (Read offset count path) = true
+needs_standing (Cat path) = false
 
 -- the command reads or writes files and folders of the host; none does yet
 abbrev pub uses_host : Command → Bool
@@ -135,6 +168,8 @@ uses_host (Init profile) = false
 uses_host (Add only_hash) = false
 uses_host (WriteInput how path) = false
 uses_host (At ask path) = false
+uses_host (Read offset count path) = false
+uses_host (Cat path) = false
 
 -- what is asked writes nothing to the store
 abbrev pub only_looks : Ask → Bool
@@ -148,6 +183,8 @@ only_reads (Init profile) = false
 only_reads (Add only_hash) = only_hash
 only_reads (WriteInput how path) = false
 only_reads (At ask path) = only_looks ask
+only_reads (Read offset count path) = true
+only_reads (Cat path) = true
 
 -- what a command may write to the store: nothing; blocks and a sync; a Head where there was none; blocks, a sync and the Head
 pub data WriteShape : Type 0 where
@@ -166,6 +203,8 @@ command_writes (Add true) = NoWrites
 command_writes (Add false) = SyncsBlocks
 command_writes (WriteInput how path) = MovesHead
 command_writes (At ask path) = ask_writes ask
+command_writes (Read offset count path) = NoWrites
+command_writes (Cat path) = NoWrites
 
 -- the command is `add -n`
 abbrev pub only_hashes : Command → Bool
@@ -173,6 +212,8 @@ only_hashes (Init profile) = false
 only_hashes (Add only_hash) = only_hash
 only_hashes (WriteInput how path) = false
 only_hashes (At ask path) = false
+only_hashes (Read offset count path) = false
+only_hashes (Cat path) = false
 
 -- a lookup found a file
 abbrev pub is_file_at : Result Tree Refused → Bool
@@ -212,6 +253,8 @@ is_idle bytes es (At Stat path) = false
 is_idle bytes es (Init profile) = false
 is_idle bytes es (Add only_hash) = false
 is_idle bytes es (WriteInput how path) = has_nothing_to_do (Write how bytes) path.names es
+is_idle bytes es (Read offset count path) = false
+is_idle bytes es (Cat path) = false
 
 -- a fact of the command, where words ask for one, and else this
 abbrev pub of_command : (Command → Bool) → Bool → Result Command Refusal → Bool
@@ -220,7 +263,8 @@ of_command test else_this (Err why) = else_this
 
 -- where the command reads the input, these are the bytes that it has left, and no reading failed
 abbrev pub HasInput : Result Command Refusal → Told → List ℕ → ℕ → ℕ → Type 0
-HasInput command left bytes faults faults_now = of_command reads_input false command ≡ true → (left ≡ Some bytes) × Stood faults faults_now
+HasInput command left bytes faults faults_now =
+    of_command reads_input false command ≡ true → (left ≡ Some bytes) × Stood faults faults_now
 
 -- words are refused since they are no command, a text is no path, or memory was wanting
 abbrev pub IsOfWords : Result Command Refusal → Type 0

@@ -7,13 +7,13 @@ use Rattle.std.specs.declared.result.Result.TheVariants.{Ok, Err}
 use Rattle.uf_store.specs.declared.store.StoreFault.{StoreFault}
 use Rattle.uf_store.specs.declared.store.StoreFault.TheVariants as fault
 use Rattle.uf_reply.specs.declared.types.Command.{Command}
-use Rattle.uf_reply.specs.declared.types.Command.TheVariants.{Init, Add, WriteInput, At}
+use Rattle.uf_reply.specs.declared.types.Command.TheVariants.{Init, Add, WriteInput, At, Read, Cat}
 use Rattle.uf_reply.specs.declared.types.Refusal.{Refusal}
 use Rattle.uf_reply.specs.declared.types.Refusal.TheVariants as refusal
 
 -- the kinds of refusals: a damaged block is a failure of the store
 pub data RefusalKind : Type 0 where
-  OfRule OfPath OfLongInput OfUsage OfReady OfRead OfWrite OfFailure OfMissing OfBadBlock OfClash OfMemory : RefusalKind
+  OfRule OfDag OfPath OfLongInput OfUsage OfReady OfRead OfWrite OfFailure OfMissing OfBadBlock OfClash OfMemory : RefusalKind
 
 -- the kind of a fault of the store
 abbrev pub fault_kind : StoreFault → RefusalKind
@@ -27,6 +27,7 @@ fault_kind fault.Memory = OfMemory
 -- the kind of a refusal
 abbrev pub refusal_kind : Refusal → RefusalKind
 refusal_kind (refusal.Rule rule) = OfRule
+refusal_kind (refusal.Dag rule) = OfDag
 refusal_kind (refusal.BadPath why) = OfPath
 refusal_kind refusal.InputTooLong = OfLongInput
 refusal_kind refusal.Usage = OfUsage
@@ -46,15 +47,17 @@ refusal_fault (Ok a) = None
 refusal_fault (Err why) = fault_behind why
 
 -- the families of commands: those that make a store ready, that add an input, that write it into the tree of the Head,
--- and that work on that tree alone
+-- that work on that tree alone, and that read DAGs of others
 pub data Family : Type 0 where
-  MakesReady AddsInput TakesInput WorksInTree : Family
+  MakesReady AddsInput TakesInput WorksInTree ReadsDag : Family
 
 abbrev pub family_of : Command → Family
 family_of (Init p) = MakesReady
 family_of (Add only_hash) = AddsInput
 family_of (WriteInput how path) = TakesInput
 family_of (At ask path) = WorksInTree
+family_of (Read offset count path) = WorksInTree
+family_of (Cat path) = ReadsDag
 
 -- the kinds that a command of a family may answer once its words are read, before it prints
 abbrev pub may_answer : Family → RefusalKind → Bool
@@ -78,10 +81,22 @@ may_answer WorksInTree OfBadBlock = true
 may_answer WorksInTree OfClash = true
 may_answer WorksInTree OfMemory = true
 may_answer WorksInTree kind = false
+may_answer TakesInput OfDag = false
 may_answer TakesInput OfPath = false
 may_answer TakesInput OfUsage = false
 may_answer TakesInput OfWrite = false
 may_answer TakesInput kind = true
+may_answer ReadsDag OfDag = true
+may_answer ReadsDag OfFailure = true
+may_answer ReadsDag OfMissing = true
+may_answer ReadsDag OfClash = true
+may_answer ReadsDag OfMemory = true
+may_answer ReadsDag kind = false
+
+-- the same when it has printed: the output may have failed
+abbrev pub may_end : Family → RefusalKind → Bool
+may_end family OfWrite = true
+may_end family kind = may_answer family kind
 
 -- the same of a command whose tree is opened: that is ready
 abbrev pub opened_kinds : RefusalKind → Bool
@@ -99,6 +114,11 @@ word_kinds kind = false
 abbrev pub read_kind : RefusalKind → Bool
 read_kind OfRead = true
 read_kind kind = false
+
+-- a failed writing alone
+abbrev pub write_kind : RefusalKind → Bool
+write_kind OfWrite = true
+write_kind kind = false
 
 -- the answer is a refusal of one of these kinds
 abbrev pub is_of : {A : Type 0} → (RefusalKind → Bool) → Result A Refusal → Bool

@@ -1,4 +1,5 @@
 pub mod Commands
+pub mod Dags
 pub mod Kinds
 pub mod Lines
 pub mod Reply

@@ -21,8 +21,10 @@ use Rattle.uf_store.specs.declared.store.StoreFault.{StoreFault}
 use Rattle.uf_store.specs.declared.store.StoreFault.TheVariants as fault
 use Rattle.uf_words.specs.Shown.{shown_bytes}
 use Rattle.uf_reply.specs.declared.status.Status.TheVariants as status
+use Rattle.uf_reply.specs.declared.types.DagRule.{DagRule}
 use Rattle.uf_reply.specs.declared.types.Refusal.{Refusal}
 use Rattle.uf_reply.specs.declared.types.Refusal.TheVariants as refusal
+use Rattle.uf_reply.specs.Dags.{dag_words}
 use Rattle.uf_reply.specs.Statuses.{plain_line}
 
 -- a line: what is in front, what is behind it, and a line feed
@@ -100,12 +102,16 @@ fault_line fault.Memory = plain_line status.Memory
 abbrev pub rule_line : Rule → List ℕ
 rule_line rule = line (codes "error: rule ") (rule_words rule)
 
+abbrev pub dag_line : DagRule → List ℕ
+dag_line rule = line (codes "error: rule ") (dag_words rule)
+
 abbrev pub bad_path_line : PathFault → List ℕ
 bad_path_line why = line (codes "error: rule BadPath ") (decimal (path_number why) ++ 32 ∷ decimal (path_place why))
 
 -- the error line of a refusal
 abbrev pub line_of : Refusal → List ℕ
 line_of (refusal.Rule rule) = rule_line rule
+line_of (refusal.Dag rule) = dag_line rule
 line_of (refusal.BadPath why) = bad_path_line why
 line_of refusal.InputTooLong = codes "error: rule InputTooLong\n"
 line_of refusal.Usage = plain_line status.Usage

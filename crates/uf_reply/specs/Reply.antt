@@ -1,14 +1,14 @@
--- The reply to a command, by what the store stands for and the input.
+-- The reply to a command, by what it finds.
 use Rattle.std.specs.Prelude.{ℕ, List, [], length, Bool, true, false, nat_le, if◌then◌else◌}
 use Rattle.std.specs.declared.result.Result.{Result}
 use Rattle.std.specs.declared.result.Result.TheVariants.{Ok, Err}
 use Rattle.std.specs.List.{flat_map}
 use Rattle.uf_tree.specs.Profiles.{most_bytes, usual}
-use Rattle.uf_cid.specs.Blocks.{Held}
+use Rattle.uf_cid.specs.Blocks.{Held, Lookup}
 use Rattle.uf_cid.specs.declared.cid.Cid.{Cid}
 use Rattle.uf_plain.specs.Rules.{allowed, rule_of}
 use Rattle.uf_plain.specs.Edits.{at, made, removed}
-use Rattle.uf_plain.specs.Files.{truncated, written}
+use Rattle.uf_plain.specs.Files.{read, truncated, written}
 use Rattle.uf_plain.specs.Moves.{allowed_move, carried, copied, told_of}
 use Rattle.uf_plain.specs.Replies.{names_at, rows_at, stat_of}
 use Rattle.uf_plain.specs.declared.ready.Ready.{Ready}
@@ -25,12 +25,23 @@ use Rattle.uf_tree.specs.declared.profile.Profile.{Profile}
 use Rattle.uf_reply.specs.declared.types.Ask.{Ask}
 use Rattle.uf_reply.specs.declared.types.Ask.TheVariants.{Ls, Stat, Edit as Edits}
 use Rattle.uf_reply.specs.declared.types.Command.{Command}
-use Rattle.uf_reply.specs.declared.types.Command.TheVariants.{Init, Add, WriteInput, At}
+use Rattle.uf_reply.specs.declared.types.Command.TheVariants.{Init, Add, WriteInput, At, Read, Cat}
 use Rattle.uf_reply.specs.declared.types.Edit.{Edit}
 use Rattle.uf_reply.specs.declared.types.Edit.TheVariants.{Mkdir, Rm, Write, Truncate, Cp, Mv}
 use Rattle.uf_reply.specs.declared.types.Refusal.{Refusal}
 use Rattle.uf_reply.specs.declared.types.Refusal.TheVariants as refusal
+use Rattle.uf_reply.specs.Dags.{file_at, tree_at}
 use Rattle.uf_reply.specs.Lines.{added_line, name_line, row_line, stat_text}
+
+-- what a command finds: what the store stands for, what it holds under each CID, and the bytes of the input
+pub record World : Type 0 where
+  pub standing : Standing
+  pub held : Lookup
+  pub input : List ℕ
+
+-- the same, where the store stands for this tree
+abbrev pub in_world : Profile → Entries → Lookup → List ℕ → World
+in_world p es held input = record { standing = Stands p es; held = held; input = input }
 
 -- what a command prints or why it is refused, what the store stands for then, and the blocks that it holds then
 pub record Reply : Type 0 where
@@ -61,9 +72,13 @@ in_tree say BadHead = not_ready BadHead ready.BadHead
 in_tree say (Stands p es) = say p es
 
 -- what is said of what a lookup gives
-abbrev pub looked : Standing → List (List ℕ) → (Tree → List ℕ) → Result Tree Refused → Reply
-looked standing names say (Ok t) = unchanged standing (Ok (say t))
+abbrev pub looked : {A : Type 0} → Standing → List (List ℕ) → (A → List ℕ) → Result A Refused → Reply
+looked standing names say (Ok found) = unchanged standing (Ok (say found))
 looked standing names say (Err why) = refused standing names why
+
+-- the reply of a tree where a part of a file is read
+abbrev pub read_reply : (offset count : ℕ) → List (List ℕ) → Profile → Entries → Reply
+read_reply offset count names p es = looked (Stands p es) names (λ bytes. bytes) (read offset count names es)
 
 module _ (X : List ℕ → List ℕ) where
   -- the CID of the file of these bytes
@@ -73,7 +88,8 @@ module _ (X : List ℕ → List ℕ) where
   -- the row of the input as a file, unless it would be too long; these blocks are held then
   abbrev pub added : Standing → (List ℕ → List Held) → Profile → List ℕ → Reply
   added standing blocks p bytes =
-      if nat_le (length bytes) (most_bytes p) then record { ends = Ok (added_line (file_cid p bytes)); next = standing; held = blocks bytes }
+      if nat_le (length bytes) (most_bytes p)
+      then record { ends = Ok (added_line (file_cid p bytes)); next = standing; held = blocks bytes }
       else unchanged standing (Err (refusal.Rule FileTooLong))
 
   -- `add -n` takes the profile of the Head, where there is one
@@ -126,13 +142,15 @@ module _ (X : List ℕ → List ℕ) (N : List ℕ → ℕ) where
       else unchanged (Stands p es) (Err refusal.InputTooLong)
 
   -- the reply to a command
-  abbrev pub reply : Command → Standing → List ℕ → Reply
-  reply (Init p) standing bytes = init_reply p standing
-  reply (Add only_hash) standing bytes = add_reply X only_hash standing bytes
-  reply (WriteInput how path) standing bytes = in_tree (input_reply how path.names bytes) standing
-  reply (At ask path) standing bytes = in_tree (tree_reply ask path.names) standing
+  abbrev pub reply : Command → World → Reply
+  reply (Init p) w = init_reply p w.standing
+  reply (Add only_hash) w = add_reply X only_hash w.standing w.input
+  reply (WriteInput how path) w = in_tree (input_reply how path.names w.input) w.standing
+  reply (At ask path) w = in_tree (tree_reply ask path.names) w.standing
+  reply (Read offset count path) w = in_tree (read_reply offset count path.names) w.standing
+  reply (Cat path) w = unchanged w.standing (file_at path (tree_at w.held path))
 
   -- the reply to words
-  abbrev pub reply_to : Result Command Refusal → Standing → List ℕ → Reply
-  reply_to (Ok command) standing bytes = reply command standing bytes
-  reply_to (Err why) standing bytes = unchanged standing (Err why)
+  abbrev pub reply_to : Result Command Refusal → World → Reply
+  reply_to (Ok command) w = reply command w
+  reply_to (Err why) w = unchanged w.standing (Err why)

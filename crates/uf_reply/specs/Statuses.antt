@@ -49,6 +49,7 @@ fault_status fault.Memory = status.Memory
 -- the status of a refusal
 abbrev pub status_of : Refusal → Status
 status_of (refusal.Rule rule) = status.Rule
+status_of (refusal.Dag rule) = status.Rule
 status_of (refusal.BadPath why) = status.Rule
 status_of refusal.InputTooLong = status.Rule
 status_of refusal.Usage = status.Usage
@@ -57,9 +58,9 @@ status_of refusal.Read = status.ReadFault
 status_of refusal.Write = status.WriteFault
 status_of (refusal.Store why) = fault_status why
 
--- how a command ends that prints this or is refused
-abbrev pub ended : Result (List ℕ) Refusal → Status
-ended (Ok text) = status.Ok
+-- how a command ends that is done or refused
+abbrev pub ended : {A : Type 0} → Result A Refusal → Status
+ended (Ok a) = status.Ok
 ended (Err why) = status_of why
 
 -- want of memory

@@ -1,15 +1,15 @@
 // What words ask for.
 ghost use Rattle.std.specs.Prelude.{◌≡◌, map, string_bytes, IfOk};
-ghost use Rattle.uf_path.specs.Paths.{path_reads};
+ghost use Rattle.uf_path.specs.Paths.{dag_path_reads, path_reads};
 ghost use Rattle.uf_reply.specs.Commands.{IsAccepted, IsAsked, add_asked, asked, at_path, both_paths, command_in};
-ghost use Rattle.uf_reply.specs.Commands.{cp_asked, mv_asked, path_refusal, write_asked};
+ghost use Rattle.uf_reply.specs.Commands.{cat_asked, cp_asked, mv_asked, path_refusal, read_asked, write_asked};
 ghost use Rattle.uf_reply.specs.declared.types.Ask.TheVariants as asks;
 ghost use Rattle.uf_words.specs.Commands.{HasAcceptedProfile};
 
 use crate::{Ask, Command, Edit, Refusal};
 use std::alloc::Global;
 use uf_cid::{Block, Text};
-use uf_path::{Path, PathFault};
+use uf_path::{DagPath, Path, PathFault};
 use uf_plain::WriteHow;
 use uf_store::StoreFault;
 use uf_words::{Cmd, WordFault, read_words};
@@ -57,7 +57,13 @@ fn read_path(alloc: Global, cmd: Cmd) -> Result<Command, Refusal>
         Cmd::Cp { source, dest } => read_cp(alloc, &source, &dest),
         Cmd::Mv { source, dest } => read_mv(alloc, &source, &dest),
         Cmd::Ls { long, path } => ask_at(alloc, Ask::Ls { long }, &path),
+        Cmd::Cat { target } => read_cat(alloc, &target),
         Cmd::Stat { path } => ask_at(alloc, Ask::Stat, &path),
+        Cmd::Read {
+            offset,
+            count,
+            path,
+        } => read_read(alloc, offset, count, &path),
         _ => Err(Refusal::Usage),
     }
 }
@@ -102,6 +108,32 @@ fn read_write(
             Ok(path) => Ok(Command::WriteInput { how, path }),
             Err(why) => Err(bad_path(why)),
         },
+    }
+}
+
+// `cat` of a path in a DAG.
+fn read_cat(alloc: Global, target: &Text) -> Result<Command, Refusal>
+    ensures asked { IsAsked result (cat_asked (dag_path_reads target.now)) }
+    ensures profile { IfOk result IsAccepted }
+{
+    match DagPath::parse(alloc, target.as_str()) {
+        Ok(path) => Ok(Command::Cat { path }),
+        Err(why) => Err(bad_path(why)),
+    }
+}
+
+// `files read`.
+fn read_read(alloc: Global, offset: u64, count: u64, path: &Text) -> Result<Command, Refusal>
+    ensures asked { IsAsked result (read_asked offset count (path_reads path.now)) }
+    ensures profile { IfOk result IsAccepted }
+{
+    match Path::parse(alloc, path.as_str()) {
+        Ok(path) => Ok(Command::Read {
+            offset,
+            count,
+            path,
+        }),
+        Err(why) => Err(bad_path(why)),
     }
 }
 

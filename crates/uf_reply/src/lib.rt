@@ -3,6 +3,7 @@
 #![tactic(auto)]
 
 mod asking;
+mod dags;
 mod from;
 mod lines;
 mod rows;
@@ -10,7 +11,8 @@ mod status;
 mod types;
 
 pub use asking::read_command;
+pub use dags::{dag_refusal, no_file};
 pub use lines::{line, refusal_status};
 pub use rows::{added_row, name_lines, row_lines, stat_text};
 pub use status::Status;
-pub use types::{Ask, Command, Edit, Refusal};
+pub use types::{Ask, Command, DagRule, Edit, Refusal};

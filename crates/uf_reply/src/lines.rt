@@ -3,10 +3,11 @@ ghost use Rattle.std.specs.Prelude.{◌≡◌, ◌++◌, ◌∷◌, [], IfOk, On
 ghost use Rattle.std.specs.Fmt.{decimal};
 ghost use Rattle.hex.specs.Hex.{encode_lower};
 ghost use Rattle.uf_words.specs.Shown.{shown_bytes};
-ghost use Rattle.uf_reply.specs.Lines.{bad_block_line, bad_path_line, clash_line, fault_line, line as line_text, line_of, path_number as number_of_path, path_place as place_of_path, ready_line as line_of_ready, role_word, rule_line as line_of_rule, rule_words as words_of_rule, with_detail, with_details};
+ghost use Rattle.uf_reply.specs.Lines.{bad_block_line, bad_path_line, clash_line, dag_line as line_of_dag, fault_line, line as line_text, line_of, path_number as number_of_path, path_place as place_of_path, ready_line as line_of_ready, role_word, rule_line as line_of_rule, rule_words as words_of_rule, with_detail, with_details};
 ghost use Rattle.uf_reply.specs.Statuses.{fault_status, status_of};
 
-use crate::{Refusal, Status};
+use crate::dags::dag_words;
+use crate::{DagRule, Refusal, Status};
 use std::alloc::Global;
 use uf_cid::{Block, Cid, Memory};
 use uf_path::PathFault;
@@ -19,7 +20,9 @@ pub fn refusal_status(refusal: &Refusal) -> Status
     ensures { result ≡ status_of refusal.now }
 {
     match refusal {
-        Refusal::Rule(_) | Refusal::BadPath(_) | Refusal::InputTooLong => Status::Rule,
+        Refusal::Rule(_) | Refusal::Dag(_) | Refusal::BadPath(_) | Refusal::InputTooLong => {
+            Status::Rule
+        }
         Refusal::Usage => Status::Usage,
         Refusal::Ready(_) => Status::NotReady,
         Refusal::Read => Status::ReadFault,
@@ -47,6 +50,7 @@ pub fn line(alloc: Global, refusal: &Refusal) -> Result<Block, Memory>
 {
     match refusal {
         Refusal::Rule(rule) => rule_line(alloc, rule),
+        Refusal::Dag(rule) => dag_line(alloc, rule),
         Refusal::BadPath(why) => path_line(alloc, *why),
         Refusal::InputTooLong => plain(alloc, b"error: rule InputTooLong\n"),
         Refusal::Usage => plain(alloc, Status::Usage.plain_line()),
@@ -156,6 +160,14 @@ fn path_place(why: PathFault) -> usize
     }
 }
 
+// The line of a rule by which a DAG of others is refused.
+fn dag_line(alloc: Global, rule: &DagRule) -> Result<Block, Memory>
+    ensures { IfOk result (λ b. b ≡ line_of_dag rule.now) }
+{
+    let words = dag_words(alloc, rule)?;
+    wrapped(alloc, b"error: rule ", words.as_slice())
+}
+
 // The line of a rule.
 fn rule_line(alloc: Global, rule: &Rule) -> Result<Block, Memory>
     ensures { IfOk result (λ b. b ≡ line_of_rule rule.now) }
@@ -216,7 +228,7 @@ pub fn wrapped(alloc: Global, front: &[u8], rest: &[u8]) -> Result<Block, Memory
 }
 
 // These bytes in a block of their own.
-fn plain(alloc: Global, bytes: &[u8]) -> Result<Block, Memory>
+pub fn plain(alloc: Global, bytes: &[u8]) -> Result<Block, Memory>
     ensures { IfOk result (λ b. b ≡ bytes.now) }
 {
     let mut out = Block::new(alloc);

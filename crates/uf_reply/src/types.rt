@@ -1,9 +1,9 @@
 // What words ask for, and why it is refused.
-use uf_cid::Block;
-use uf_path::{Path, PathFault};
+use uf_cid::{Block, Cid};
+use uf_path::{DagPath, Path, PathFault};
 use uf_plain::{Ready, Rule, WriteHow};
 use uf_store::StoreFault;
-use uf_tree::Profile;
+use uf_tree::{Name, Profile};
 
 /// An edit of the tree at a path: directories are made, with those above where `parents`; what is there is taken away,
 /// a directory only where `recursive`; a piece is written into a file; a file gets this length; or what is there is
@@ -33,12 +33,31 @@ pub enum Command {
     Add { only_hash: bool },
     WriteInput { how: WriteHow, path: Path },
     At { ask: Ask, path: Path },
+    Read { offset: u64, count: u64, path: Path },
+    Cat { path: DagPath },
+}
+
+/// The rules by which what is asked of the DAGs of others is refused: a path leads to nothing, goes on behind a file, or
+/// leads to a directory; a block is none of UnixFS, for a numbered reason; a directory has a name twice, or one that
+/// isn't good; a block is of a kind that isn't read, or too many links away; or there are too many blocks.
+#[derive(Drop)]
+pub enum DagRule {
+    NotFound(DagPath),
+    NotADirectory(DagPath),
+    IsADirectory(DagPath),
+    NotUnixfs(Cid, u8),
+    DuplicateName(Cid, Name),
+    BadName(Cid),
+    Unsupported(Cid),
+    TooDeep(Cid),
+    TooMany,
 }
 
 /// Why a command is refused.
 #[derive(Drop)]
 pub enum Refusal {
     Rule(Rule),
+    Dag(DagRule),
     BadPath(PathFault),
     InputTooLong,
     Usage,

@@ -28,7 +28,7 @@ const DONE: Row = Row {
 };
 
 // Each is a run of its own, as of a new process.
-const RUNS: [Row; 7] = [
+const RUNS: [Row; 8] = [
     Row {
         words: "files ls",
         status: 10,
@@ -58,6 +58,11 @@ const RUNS: [Row; 7] = [
         words: "add",
         input: b"hello world",
         output: b"added bafkreifzjut3te2nhyekklss27nh3k72ysco7y32koao5eei66wof36n5e bafkreifzjut3te2nhyekklss27nh3k72ysco7y32koao5eei66wof36n5e\n",
+        ..DONE
+    },
+    Row {
+        words: "cat bafkreifzjut3te2nhyekklss27nh3k72ysco7y32koao5eei66wof36n5e",
+        output: b"hello world",
         ..DONE
     },
     Row {

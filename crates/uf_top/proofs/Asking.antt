@@ -4,7 +4,7 @@ use Rattle.std.specs.Prelude.{IfOk}
 use Rattle.uf_edge.specs.Counts.{Stood}
 use Rattle.uf_mfs.specs.Answers as tree
 use Rattle.uf_mfs.specs.Answers.{MovesTo, ShownInTree}
-use Rattle.uf_mfs.specs.Bad.{IsBad}
+use Rattle.uf_mfs.specs.Bad.{IsBadInTree}
 use Rattle.uf_mfs.specs.Standing.{Commits, IsWanting, LeavesHead, NamesOver, Same, StandsAfter, StandsAt, StandsOver, TellsAs, head_in}
 use Rattle.uf_mfs.specs.Steps.{IsFolderOver, tree_fault}
 use Rattle.uf_mfs.specs.Touches.{CountsUp}
@@ -39,14 +39,15 @@ use Rattle.uf_reply.specs.declared.types.Refusal.{Refusal}
 use Rattle.uf_top.specs.Answering.{Answers}
 use Rattle.uf_top.specs.Bounds.{ask_touches}
 use Rattle.uf_top.specs.Causes.{IsMade, RefusesInTree}
-use Rattle.uf_top.specs.Losing.{AnswersOver, StaysNamed, ask_needs}
+use Rattle.uf_top.specs.Losing.{AnswersOver, ask_needs}
+use Rattle.uf_top.specs.Naming.{StaysNamed}
 use Rattle.uf_top.specs.Shapes.{WritesAs, is_ok}
 use Rattle.uf_top.specs.Working.{EditsInMemory, WorksAt}
 use Rattle.uf_top.proofs.Finding.{idle-head}
 use Rattle.uf_top.proofs.InTree.{edit-answers, fault-answers, look-answers, move-answers, stays-nothing, stays-same, tree-wants, wants}
 use Rattle.uf_top.proofs.Classed.{made-kinds, tree-kinds}
 use Rattle.uf_top.proofs.Losing.{edit-over, fault-over, look-over, lost-wants, move-over, named-before, named-between, names-kept, names-same}
-use Rattle.uf_top.proofs.Shows.{Shown-tree, bad-written, made-shown, made-touched, tree-touched}
+use Rattle.uf_top.proofs.Shows.{Shown-tree, bad-way, made-shown, made-touched, tree-touched}
 use Rattle.uf_top.proofs.Standings.{stands-kept, stands-same}
 
 module _ (X : List ℕ → List ℕ) (N : List ℕ → ℕ) (mfs : Mfs) (path : Path) where
@@ -57,7 +58,7 @@ module _ (X : List ℕ → List ℕ) (N : List ℕ → ℕ) (mfs : Mfs) (path : 
         → (P : Profile → Tree → B → Type 0) (w : Refusal) → RefusesInTree f w
         → ((p : Profile) (es : Entries) → StandsAt X N a.told mfs p es → Stood a.faults b.faults → tree.Answers {B = B} (P p) path.names (at 0 path.names (Dir es)) (Err f))
         → ((p : Profile) (es : Entries) → StandsOver X N a.told mfs p es → Stood a.faults b.faults → tree.AnswersOr {B = B} (IsLossOf a.told (ask_needs X N ask path.names p es)) (P p) path.names (at 0 path.names (Dir es)) (Err f))
-        → ShownInTree X (IsBad N None) {A = B} (Err f) a b → b.told ≡ a.told → WorksAt X N mfs ask path (Err w) a b t0 t1
+        → ShownInTree X (IsBadInTree X N None mfs.root.cid) {A = B} (Err f) a b → b.told ≡ a.told → WorksAt X N mfs ask path (Err w) a b t0 t1
     not-looked t0 t1 few B f up P w is answer lost cause told = record {
       answers = λ p es at_tree stands calm. subst (λ r. Answers X N (Stands p es) r (Err w) b.told) (sym (reply_is p es))
           (fault-answers X N Tree B (P p) (Stands p es) path.names (at 0 path.names (Dir es)) (looked (Stands p es) path.names (say p)) f w b.told
@@ -66,7 +67,7 @@ module _ (X : List ℕ → List ℕ) (N : List ℕ → ℕ) (mfs : Mfs) (path : 
           (fault-over X N a.told b.told p es (ask_needs X N ask path.names p es) Tree B (P p) path.names (at 0 path.names (Dir es)) (looked (Stands p es) path.names (say p)) f w
           (λ why. refl) is (lost p es over calm.faults) (names-same X N a.told b.told p es told named));
       kinds = tree-kinds f w is;
-      cause = Shown-tree B X (IsBad N None) (IsBadWritten X N mfs.profile b.told) (bad-written X N mfs.profile b.told) f w a b is cause;
+      cause = Shown-tree B X (IsBadInTree X N None mfs.root.cid) (IsBadWritten X N mfs.profile b.told) (bad-way X N mfs.profile b.told mfs.root.cid) f w a b is cause;
       touches = λ p es rows over named heights calm. few p es rows over calm.faults;
       touched = tree-touched B f w t0 t1 is up;
       good = KeepsGood-same X a.told b.told told;

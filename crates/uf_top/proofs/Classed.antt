@@ -10,7 +10,7 @@ use Rattle.uf_store.specs.Contents.{Told}
 use Rattle.uf_store.specs.declared.store.StoreFault.{StoreFault}
 use Rattle.uf_store.specs.declared.store.StoreFault.TheVariants.{Failed, Damaged, Missing, BadBlock, Clash, Memory}
 use Rattle.uf_tree.specs.declared.profile.Profile.{Profile}
-use Rattle.uf_reply.specs.Kinds.{IsOf, RefusalKind, OfRule, OfPath, OfLongInput, OfUsage, OfReady, OfRead, OfWrite, OfFailure, OfMissing, OfBadBlock, OfClash, OfMemory, MakesReady, AddsInput, WorksInTree, fault_kind, may_answer, opened_kinds, read_kind, refusal_kind}
+use Rattle.uf_reply.specs.Kinds.{IsOf, RefusalKind, OfRule, OfDag, OfPath, OfLongInput, OfUsage, OfReady, OfRead, OfWrite, OfFailure, OfMissing, OfBadBlock, OfClash, OfMemory, MakesReady, AddsInput, WorksInTree, fault_kind, may_answer, opened_kinds, read_kind, refusal_kind}
 use Rattle.uf_reply.specs.declared.types.Command.{Command}
 use Rattle.uf_reply.specs.declared.types.Refusal.{Refusal}
 use Rattle.uf_reply.specs.declared.types.Refusal.TheVariants as refusal
@@ -31,6 +31,7 @@ saving-kind Memory h = refl
 pub row-kinds : (X : List ℕ → List ℕ) (p : Profile) (held : Told) (r : Result (List ℕ) Refusal) (l m : streams.Told) → IsRowOf X p held r l m → IsOf (may_answer AddsInput) r
 row-kinds X p held (Ok text) l m row = tt
 row-kinds X p held (Err (refusal.Rule rule)) l m row = refl
+row-kinds X p held (Err (refusal.Dag rule)) l m row = absurd row
 row-kinds X p held (Err (refusal.BadPath why)) l m row = absurd row
 row-kinds X p held (Err refusal.Usage) l m row = absurd row
 row-kinds X p held (Err refusal.InputTooLong) l m row = absurd row
@@ -42,6 +43,7 @@ row-kinds X p held (Err (refusal.Store f)) l m row = saving-kind f row
 -- and what is read of the Head
 pub read-kinds : (why : Refusal) (told : Told) → IsProfileRead (Err why) told → may_answer AddsInput (refusal_kind why) ≡ true
 read-kinds (refusal.Rule rule) told read = refl
+read-kinds (refusal.Dag rule) told read = absurd read
 read-kinds (refusal.BadPath why) told read = absurd read
 read-kinds refusal.Usage told read = absurd read
 read-kinds refusal.InputTooLong told read = absurd read
@@ -103,6 +105,7 @@ made-kinds M (Err m) r made = subst (λ (r : Result (List ℕ) Refusal). IsOf op
 pub opened-of : (r : Result (List ℕ) Refusal) → IsOf opened_kinds r → IsOf (may_answer WorksInTree) r
 opened-of (Ok x) h = tt
 opened-of (Err (refusal.Rule rule)) h = refl
+opened-of (Err (refusal.Dag rule)) h = h
 opened-of (Err (refusal.BadPath why)) h = h
 opened-of (Err refusal.Usage) h = h
 opened-of (Err refusal.InputTooLong) h = h
@@ -114,6 +117,7 @@ opened-of (Err (refusal.Store f)) h = store-tree f
 pub opened-ready : (told : Told) (command : Command) (r : Result (List ℕ) Refusal) → IsOf opened_kinds r → IsReady told command r
 opened-ready told command (Ok x) h = tt
 opened-ready told command (Err (refusal.Rule rule)) h = tt
+opened-ready told command (Err (refusal.Dag rule)) h = tt
 opened-ready told command (Err (refusal.BadPath why)) h = tt
 opened-ready told command (Err refusal.Usage) h = tt
 opened-ready told command (Err refusal.InputTooLong) h = tt
@@ -125,6 +129,7 @@ opened-ready told command (Err (refusal.Store f)) h = tt
 -- only `add` reads the input
 tree-reads : (k : RefusalKind) → may_answer WorksInTree k ≡ true → read_kind k ≡ false
 tree-reads OfRule h = refl
+tree-reads OfDag h = refl
 tree-reads OfPath h = refl
 tree-reads OfUsage h = refl
 tree-reads OfLongInput h = refl
@@ -139,6 +144,7 @@ tree-reads OfMemory h = refl
 
 init-reads : (k : RefusalKind) → may_answer MakesReady k ≡ true → read_kind k ≡ false
 init-reads OfRule h = refl
+init-reads OfDag h = refl
 init-reads OfPath h = refl
 init-reads OfUsage h = refl
 init-reads OfLongInput h = refl
@@ -162,6 +168,7 @@ init-counts (Err why) i h = subst (λ b. Counts b i i) (sym (init-reads (refusal
 -- reading the Head reads no input
 pub head-counts : (why : Refusal) (told : Told) (i : ℕ) → IsProfileRead (Err why) told → Counts (is_read {A = List ℕ} (Err why)) i i
 head-counts (refusal.Rule rule) told i read = absurd read
+head-counts (refusal.Dag rule) told i read = absurd read
 head-counts (refusal.BadPath why) told i read = absurd read
 head-counts refusal.Usage told i read = absurd read
 head-counts refusal.InputTooLong told i read = absurd read

@@ -4,13 +4,15 @@ use Rattle.std.specs.Prelude.{◌&&◌, not}
 use Rattle.uf_edge.specs.Counts.{Stood}
 use Rattle.uf_mfs.specs.Answers as tree
 use Rattle.uf_mfs.specs.Answers.{ShownInTree}
-use Rattle.uf_mfs.specs.Bad.{IsBad}
+use Rattle.uf_cid.specs.declared.cid.Cid.{Cid}
+use Rattle.uf_mfs.specs.Bad.{IsBad, IsBadInTree}
 use Rattle.uf_mfs.specs.Moving.{GivesOr, IsOntoItself}
 use Rattle.uf_mfs.specs.Reading.{AreHeights}
 use Rattle.uf_mfs.specs.Standing.{StandsAfter, StandsAt, StandsOver}
 use Rattle.uf_mfs.specs.Steps.{MovesTree, tree_fault}
 use Rattle.uf_mfs.specs.Touches.{CountsUp, TouchesFolder}
-use Rattle.uf_mfs.specs.Writes.{IsBadWritten}
+use Rattle.uf_mfs.specs.Writes.{IsBadWritten, IsBadWrittenIn}
+use Rattle.uf_mfs.proofs.Judging.{written-bad}
 use Rattle.uf_mfs.specs.declared.fault.MfsFault.{MfsFault}
 use Rattle.uf_mfs.specs.declared.fault.MfsFault.TheVariants as mfs
 use Rattle.uf_mfs.specs.declared.mfs.Mfs.{Mfs}
@@ -27,6 +29,7 @@ use Rattle.uf_plain.specs.declared.spot.Spot.{Spot}
 use Rattle.uf_store.specs.Keeping.{KeepsGood}
 use Rattle.uf_store.specs.Lost.{IsLossOf}
 use Rattle.uf_store.specs.Seen.{Seen}
+use Rattle.uf_store.specs.declared.store.Role.{Role}
 use Rattle.uf_store.specs.Writing.{SavesOnly}
 use Rattle.uf_store.specs.declared.store.StoreFault.TheVariants.{Memory}
 use Rattle.uf_store.proofs.Calls.{shown-by}
@@ -88,13 +91,24 @@ idle-move source dest es is = by (target dest (name_of source) es) is where
   by (Err rule) is = absurd cc
 
 -- what is bad on a way in the tree is bad where a file is edited
-pub way-shown : (X : List ℕ → List ℕ) (N : List ℕ → ℕ) (p : Profile) (r : Result (Unit {0}) MfsFault) (a b : Seen)
-    → ShownInTree X (IsBad N (Some p)) r a b → ShownInTree X (IsBadWritten X N p b.told) r a b
-way-shown X N p (Ok done) a b h = h
-way-shown X N p (Err (mfs.Rule rule)) a b h = h
-way-shown X N p (Err (mfs.Ready why)) a b h = h
-way-shown X N p (Err mfs.Sink) a b h = h
-way-shown X N p (Err (mfs.Store f)) a b h = shown-by X (IsBad N (Some p)) (IsBadWritten X N p b.told) (Some f) a b (λ role bytes bad. inl bad) h
+shown-tree-by : (X : List ℕ → List ℕ) (P Q : Role → List ℕ → Type 0) (more : (role : Role) (bytes : List ℕ) → P role bytes → Q role bytes) (r : Result (Unit {0}) MfsFault) (a b : Seen)
+    → ShownInTree X P r a b → ShownInTree X Q r a b
+shown-tree-by X P Q more (Ok done) a b h = h
+shown-tree-by X P Q more (Err (mfs.Rule rule)) a b h = h
+shown-tree-by X P Q more (Err (mfs.Ready why)) a b h = h
+shown-tree-by X P Q more (Err mfs.Sink) a b h = h
+shown-tree-by X P Q more (Err (mfs.Store f)) a b h = shown-by X P Q (Some f) a b more h
+
+module _ (X : List ℕ → List ℕ) (N : List ℕ → ℕ) (p : Profile) (r : Result (Unit {0}) MfsFault) (a b : Seen) where
+  pub way-shown : (root : Cid) → ShownInTree X (IsBadInTree X N (Some p) root) r a b → ShownInTree X (IsBadWritten X N p b.told) r a b
+  way-shown root h = shown-tree-by X (IsBadInTree X N (Some p) root) (IsBadWritten X N p b.told) (λ role bytes bad. inl bad.bad) r a b h
+
+  -- a move puts where the tree isn't what it was
+  pub move-shown : ShownInTree X (IsBad N (Some p)) r a b → ShownInTree X (IsBadWritten X N p b.told) r a b
+  move-shown h = shown-tree-by X (IsBad N (Some p)) (IsBadWritten X N p b.told) (λ role bytes bad. inl bad) r a b h
+
+  pub file-shown : (root : Cid) → ShownInTree X (IsBadWrittenIn X N p b.told root) r a b → ShownInTree X (IsBadWritten X N p b.told) r a b
+  file-shown root h = shown-tree-by X (IsBadWrittenIn X N p b.told root) (IsBadWritten X N p b.told) (written-bad X N p b.told root) r a b h
 
 module _ (X : List ℕ → List ℕ) (N : List ℕ → ℕ) (was is : Mfs) (path : Path) (a b : Seen) (t0 t1 : ℕ) (r : Result (Unit {0}) MfsFault)
     (cause : ShownInTree X (IsBadWritten X N was.profile b.told) r a b) (up : CountsUp (tree_fault r) t0 t1)

@@ -22,7 +22,8 @@ use Rattle.uf_reply.specs.Kinds.{IsOf, RefusalKind, OfMissing, OfBadBlock, Makes
 use Rattle.uf_reply.specs.Commands.{IsOfWords}
 use Rattle.uf_top.specs.Endings.{FindsAll}
 use Rattle.uf_top.specs.Answering.{Answers}
-use Rattle.uf_reply.specs.Reply.{Reply, edited_by, in_tree, looked, moved, tree_reply}
+use Rattle.uf_plain.specs.Files.{read}
+use Rattle.uf_reply.specs.Reply.{Reply, edited_by, in_tree, looked, moved, tree_reply, read_reply}
 use Rattle.uf_reply.specs.Statuses.{ended}
 
 -- ---- no block is missing or bad
@@ -44,8 +45,9 @@ memory-finds : FindsAll status.Memory
 memory-finds = (λ e. cc, λ e. cc)
 
 -- by what kind of refusal it ended
-kind-finds : (why : Refusal) → refusal_kind why ≢ OfMissing → refusal_kind why ≢ OfBadBlock → Finds (Err why)
+pub kind-finds : (why : Refusal) → refusal_kind why ≢ OfMissing → refusal_kind why ≢ OfBadBlock → Finds (Err why)
 kind-finds (refusal.Rule rule) missing bad = rule-finds
+kind-finds (refusal.Dag rule) missing bad = rule-finds
 kind-finds (refusal.BadPath why) missing bad = rule-finds
 kind-finds refusal.Usage missing bad = (λ e. cc, λ e. cc)
 kind-finds refusal.InputTooLong missing bad = (λ e. cc, λ e. cc)
@@ -60,7 +62,7 @@ kind-finds (refusal.Store (fault.Clash cid held bytes)) missing bad = (λ e. cc,
 kind-finds (refusal.Store fault.Memory) missing bad = memory-finds
 
 -- of these kinds it is of none
-of-none : (kinds : RefusalKind → Bool) (k none : RefusalKind) → kinds k ≡ true → kinds none ≡ false → k ≢ none
+pub of-none : (kinds : RefusalKind → Bool) (k none : RefusalKind) → kinds k ≡ true → kinds none ≡ false → k ≢ none
 of-none kinds k none h not = λ e. (let t : true ≡ false = sym h ∙ ap kinds e ∙ not in cc)
 
 -- words that are refused
@@ -82,7 +84,7 @@ module _ (X : List ℕ → List ℕ) (N : List ℕ → ℕ) where
   answered s given r now (inl w) h = subst Finds (sym w.ends_are) memory-finds
   answered s given r now (inr w) h = subst Finds (sym w.ends_are) h
 
-  looked-finds : (s : Standing) (names : List (List ℕ)) (say : Tree → List ℕ) (w : Result Tree Refused) → Finds (looked s names say w).ends
+  looked-finds : {A : Type 0} (s : Standing) (names : List (List ℕ)) (say : A → List ℕ) (w : Result A Refused) → Finds (looked s names say w).ends
   looked-finds s names say (Ok t) = done-finds
   looked-finds s names say (Err why) = rule-finds
 
@@ -102,6 +104,14 @@ module _ (X : List ℕ → List ℕ) (N : List ℕ → ℕ) where
 
   pub at-whole : (s : Standing) (ask : Ask) (names : List (List ℕ)) (r : Result (List ℕ) Refusal) (now : Told) → Answers X N s (in_tree (tree_reply X N ask names) s) r now → Finds r
   at-whole s ask names r now h = answered s (in_tree (tree_reply X N ask names) s) r now h (in-tree-finds ask names s)
+
+  in-read-finds : (offset count : ℕ) (names : List (List ℕ)) (s : Standing) → Finds (in_tree (read_reply offset count names) s).ends
+  in-read-finds offset count names NoHead = unready-finds
+  in-read-finds offset count names BadHead = unready-finds
+  in-read-finds offset count names (Stands p es) = looked-finds (Stands p es) names (λ (bytes : List ℕ). bytes) (read offset count names es)
+
+  pub read-whole : (s : Standing) (offset count : ℕ) (names : List (List ℕ)) (r : Result (List ℕ) Refusal) (now : Told) → Answers X N s (in_tree (read_reply offset count names) s) r now → Finds r
+  read-whole s offset count names r now h = answered s (in_tree (read_reply offset count names) s) r now h (in-read-finds offset count names s)
 
   -- ---- what changes nothing writes nothing
 

@@ -164,22 +164,22 @@ opening-reason told ask path ready.HeadThere h = h
 opening-reason None ask path ready.BadHead h = tt
 opening-reason (Some t) ask path ready.BadHead h = unread-of t.notes.head h.0 h.1 h.2 h.3
 
-pub opening-ready : (told : Told) (ask : Ask) (path : Path) (f : MfsFault) (w : Refusal) → RefusesOpening f w → ReadsHead told (Err f) → IsReady told (At ask path) (Err w)
+pub opening-ready : (told : Told) (ask : Ask) (path : Path) (f : MfsFault) (w : Refusal) → RefusesOpening f w → ReadsHead told (Err f) → IsReady {A = List ℕ} told (At ask path) (Err w)
 opening-ready told ask path (mfs.Rule rule) w is h = absurd is
-opening-ready told ask path (mfs.Ready why) w is h = subst (λ w. IsReady told (At ask path) (Err w)) (sym is) (opening-reason told ask path why h)
+opening-ready told ask path (mfs.Ready why) w is h = subst (λ w. IsReady {A = List ℕ} told (At ask path) (Err w)) (sym is) (opening-reason told ask path why h)
 opening-ready told ask path mfs.Sink w is h = absurd is
-opening-ready told ask path (mfs.Store f) w is h = subst (λ w. IsReady told (At ask path) (Err w)) (sym is) tt
+opening-ready told ask path (mfs.Store f) w is h = subst (λ w. IsReady {A = List ℕ} told (At ask path) (Err w)) (sym is) tt
 
 init-reason : (told : Told) (p : Profile) (why : Ready) → FindsHead told (Err (mfs.Ready why)) → IsReason (Init p) why told
 init-reason told p ready.NoHead h = h
 init-reason told p ready.HeadThere h = h
 init-reason told p ready.BadHead h = h
 
-pub init-ready : (told : Told) (p : Profile) (f : MfsFault) (w : Refusal) → RefusesOpening f w → FindsHead told (Err f) → IsReady told (Init p) (Err w)
+pub init-ready : (told : Told) (p : Profile) (f : MfsFault) (w : Refusal) → RefusesOpening f w → FindsHead told (Err f) → IsReady {A = List ℕ} told (Init p) (Err w)
 init-ready told p (mfs.Rule rule) w is h = absurd is
-init-ready told p (mfs.Ready why) w is h = subst (λ w. IsReady told (Init p) (Err w)) (sym is) (init-reason told p why h)
+init-ready told p (mfs.Ready why) w is h = subst (λ w. IsReady {A = List ℕ} told (Init p) (Err w)) (sym is) (init-reason told p why h)
 init-ready told p mfs.Sink w is h = absurd is
-init-ready told p (mfs.Store f) w is h = subst (λ w. IsReady told (Init p) (Err w)) (sym is) tt
+init-ready told p (mfs.Store f) w is h = subst (λ w. IsReady {A = List ℕ} told (Init p) (Err w)) (sym is) tt
 
 -- the Head stays where a fault refuses
 pub stays-same : (r : Result (List ℕ) Refusal) (a b : Told) → head_in b ≡ head_in a → HeadStays r a b

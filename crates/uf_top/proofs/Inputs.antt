@@ -27,7 +27,7 @@ use Rattle.uf_top.specs.Bounds.{command_touches}
 use Rattle.uf_top.specs.Causes.{AddsBy, IsBadIn, IsProfileIn, IsProfileRead, OnlyWants, is_read, or_usual}
 use Rattle.uf_top.specs.Intake.{IsRowOf, ShownIn}
 use Rattle.uf_top.specs.Shapes.{WritesAs, is_ok}
-use Rattle.uf_top.specs.Working.{Works}
+use Rattle.uf_top.specs.Working.{Makes}
 use Rattle.uf_top.proofs.Added.{add-answers, add-over, added-answers, added-over, hash-over, unread-over, adds-of, adds-read, by-found, by-told, hash-answers, head-absent, head-refused, plan_blocks, read-ready, row-ready}
 use Rattle.uf_top.proofs.InTree.{stays-same}
 use Rattle.uf_top.proofs.Classed.{head-counts, read-kinds, row-kinds}
@@ -56,10 +56,10 @@ synced-writes X (Err why) a m b saves synced failed = record { between = m; save
 
 module _ (X : List ℕ → List ℕ) (hash : IsHash X) (N : List ℕ → ℕ) (a m : Seen) (told : m.told ≡ a.told) (l : streams.Told) (i t0 : ℕ) where
   -- the Head isn't read, or not in memory
-  pub head-unread : (only_hash : Bool) (why : Refusal) → IsProfileRead (Err why) a.told → ShownIn {A = Option Profile} X (Err why) a m → Works X N (Add only_hash) (Err why) a m l l i i t0 t0
+  pub head-unread : (only_hash : Bool) (why : Refusal) → IsProfileRead (Err why) a.told → ShownIn {A = Option Profile} X (Err why) a m → Makes X N (Add only_hash) (Err why) a m l l i i t0 t0
   head-unread only_hash why read shown = record {
-    answers = λ s bytes stands input calm. head-refused X hash N s only_hash bytes why a m stands (stands-same X N a.told m.told s told stands) read shown calm.faults calm.clashes;
-    lost = λ p es bytes named input calm.
+    answers = λ world stands input calm. let s = world.standing in let bytes = world.input in head-refused X hash N s only_hash bytes why a m stands (stands-same X N a.told m.told s told stands) read shown calm.faults calm.clashes;
+    lost = λ p es heights held bytes named input calm.
         unread-over X hash N p es (add_reply X only_hash (Stands p es) bytes) why a m named.names (names-same X N a.told m.told p es told named) read shown calm.faults calm.clashes;
     kinds = read-kinds why a.told read;
     ready = read-ready only_hash a.told why read;
@@ -73,10 +73,10 @@ module _ (X : List ℕ → List ℕ) (hash : IsHash X) (N : List ℕ → ℕ) (a
   }
 
   -- there is none, where one is needed
-  pub no-head : IfSome a.told (λ t. t.notes.head ≡ None) → StaysCalm a m → Works X N (Add false) (Err (refusal.Ready ready.NoHead)) a m l l i i t0 t0
+  pub no-head : IfSome a.told (λ t. t.notes.head ≡ None) → StaysCalm a m → Makes X N (Add false) (Err (refusal.Ready ready.NoHead)) a m l l i i t0 t0
   no-head none calm = record {
-    answers = λ s bytes stands input calm2. head-absent X N s bytes a.told m.told stands (stands-same X N a.told m.told s told stands) none;
-    lost = λ p es bytes named input calm2. absurd (names-there X N a.told p es named.names none);
+    answers = λ world stands input calm2. let s = world.standing in let bytes = world.input in head-absent X N s bytes a.told m.told stands (stands-same X N a.told m.told s told stands) none;
+    lost = λ p es heights held bytes named input calm2. absurd (names-there X N a.told p es named.names none);
     kinds = refl;
     ready = none;
     adds = tt;
@@ -91,19 +91,19 @@ module _ (X : List ℕ → List ℕ) (hash : IsHash X) (N : List ℕ → ℕ) (a
   module _ (calm : StaysCalm a m) (r : Result (List ℕ) Refusal) (k : streams.Told) (j : ℕ) (counts : Counts (is_read r) i j) where
     -- the input is added by the profile of the Head
     pub is-added : (p : Profile) (b : Seen) (t1 : ℕ) → IfSome a.told (λ t. IsProfileIn (Some p) t.notes.head) → IsRowOf X p b.told r l k → ShownIn X r m b → KeepsGood X m.told b.told
-        → WritesAs X SyncsBlocks (is_ok r) m.told b.told → Works X N (Add false) r a b l k i j t0 t1
+        → WritesAs X SyncsBlocks (is_ok r) m.told b.told → Makes X N (Add false) r a b l k i j t0 t1
     is-added p b t1 says row shown kept writes =
         let good = subst (λ t. KeepsGood X t b.told) told kept in
         let written = subst (λ t. WritesAs X SyncsBlocks (is_ok r) t b.told) told writes in
         let head = add-head X (is_ok r) a.told b.told written in
         record {
-          answers = λ s bytes stands input calm2.
+          answers = λ world stands input calm2. let s = world.standing in let bytes = world.input in
               let given = input refl in
               let now = stands-kept X N a.told b.told s good head stands in
               add-answers X hash N s p bytes r a.told b.told stands says
               (added-answers X N s (plan_blocks X p) p bytes r b.told m b l k i j now (λ bs h. tells-held X N b.told s _ now h) row given.0 shown
               (stood-back a.faults m.faults b.faults calm.faults calm2.faults) (stood-back a.clashes m.clashes b.clashes calm.clashes calm2.clashes) counts given.1);
-          lost = λ q es bytes named input calm2.
+          lost = λ q es heights held bytes named input calm2.
               let given = input refl in
               add-over X hash N q p es bytes r a.told b.told named.names says (λ same.
               added-over X N a.told b.told q es (plan_blocks X q) bytes r b.told m b l k i j (names-kept X N a.told b.told q es good head named)
@@ -121,17 +121,17 @@ module _ (X : List ℕ → List ℕ) (hash : IsHash X) (N : List ℕ → ℕ) (a
         }
 
     -- the input's row is made, and nothing is kept
-    pub is-hashed : (found : Option Profile) (p : Profile) → p ≡ or_usual found → IfSome a.told (λ t. IsProfileIn found t.notes.head) → IsRowOf X p None r l k → OnlyWants r → Works X N (Add true) r a m l k i j t0 t0
+    pub is-hashed : (found : Option Profile) (p : Profile) → p ≡ or_usual found → IfSome a.told (λ t. IsProfileIn found t.notes.head) → IsRowOf X p None r l k → OnlyWants r → Makes X N (Add true) r a m l k i j t0 t0
     is-hashed found p is says row wants =
         let shown = wants-shown X r a m wants calm in
         record {
-          answers = λ s bytes stands input calm2.
+          answers = λ world stands input calm2. let s = world.standing in let bytes = world.input in
               let given = input refl in
               let mid = stands-same X N a.told m.told s told stands in
               let usual_row : IsRowOf X (or_usual found) None r l k = subst (λ p. IsRowOf X p None r l k) is row in
               hash-answers X hash N s found bytes r a.told m.told stands says
               (added-answers X N s (λ bytes. []) (or_usual found) bytes r None a m l k i j mid (λ bs h. tells-none X N m.told s mid) usual_row given.0 shown calm2.faults calm2.clashes counts given.1);
-          lost = λ q es bytes named input calm2.
+          lost = λ q es heights held bytes named input calm2.
               let given = input refl in
               hash-over X hash N found q es bytes r a.told m.told named.names says (λ same.
               added-over X N a.told m.told q es (λ bytes. []) bytes r None a m l k i j (names-same X N a.told m.told q es told named)

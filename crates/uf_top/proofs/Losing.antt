@@ -31,7 +31,8 @@ use Rattle.uf_reply.specs.Statuses.{no_memory}
 use Rattle.uf_reply.specs.declared.types.Refusal.{Refusal}
 use Rattle.uf_reply.specs.declared.types.Refusal.TheVariants as refusal
 use Rattle.uf_top.specs.Causes.{IsMade, RefusesInTree, RefusesOpening}
-use Rattle.uf_top.specs.Losing.{AnswersOver, NamesAfter, StaysNamed}
+use Rattle.uf_top.specs.Losing.{AnswersOver}
+use Rattle.uf_top.specs.Naming.{NamesAfter, StaysNamed}
 
 -- ---- what a commit leaves of what is held
 

@@ -1,94 +1,76 @@
 -- How a command ends over a tree of whose blocks some may be lost.
-use Rattle.std.proofs.Common.{◌≡◌, ◌⊎◌, ℕ, ◌+◌, ◌≤◌, List, [], false, arith, refl, sym, ap, subst, ◌∙◌, inl, inr, Result, Ok, Err}
-use Rattle.std.specs.Prelude.{IfSome}
-use Rattle.uf_cid.specs.Blocks.{Held}
+use Rattle.std.proofs.Common.{◌≡◌, ◌⊎◌, ℕ, ◌+◌, ◌≤◌, List, false, arith, refl, sym, ap, subst, ◌∙◌, inl, inr, Result, Ok, Err}
+use Rattle.std.specs.Prelude.{IfErr, IfSome}
+use Rattle.uf_cid.specs.Blocks.{Held, Lookup}
 use Rattle.uf_edge.specs.Counts.{Stood}
-use Rattle.uf_edge.specs.Streams as streams
 use Rattle.uf_mfs.specs.Reading.{AreHeights}
+use Rattle.uf_mfs.specs.Standing.{head_in}
 use Rattle.uf_store.specs.Calls.{Calm}
-use Rattle.uf_store.specs.Seen.{Seen}
 use Rattle.uf_store.specs.declared.store.StoreFault.TheVariants.{Memory}
-use Rattle.uf_tree.specs.Standing.{Stands}
 use Rattle.uf_tree.specs.Tree.{Dir, Entries}
 use Rattle.uf_tree.specs.TreePlan.{blocks}
 use Rattle.uf_tree.specs.declared.profile.Profile.{Profile}
 use Rattle.uf_reply.specs.Commands.{HasInput}
 use Rattle.uf_reply.specs.Lines.{line_of, said}
-use Rattle.uf_reply.specs.Reply.{Reply, reply_to}
+use Rattle.uf_reply.specs.Reply.{Reply, in_world, reply_to}
 use Rattle.uf_reply.specs.Statuses.{ended, no_memory, status_of}
 use Rattle.uf_reply.specs.declared.status.Status.{Status}
 use Rattle.uf_reply.specs.declared.types.Command.{Command}
 use Rattle.uf_reply.specs.declared.types.Refusal.{Refusal}
 use Rattle.uf_reply.specs.declared.types.Refusal.TheVariants as refusal
+use Rattle.uf_top.specs.Around.{Around}
 use Rattle.uf_top.specs.Bounds.{words_touch}
-use Rattle.uf_top.specs.Endings.{Finishes, PrintsAll, TellsWhy}
-use Rattle.uf_top.specs.Losing.{AnswersOver, EndsOver, NamesAfter, StaysNamed, words_need}
-use Rattle.uf_top.specs.Shapes.{is_ok}
-use Rattle.uf_top.specs.Working.{Serves}
+use Rattle.uf_top.specs.Endings.{TellsEnd, TellsWhy}
+use Rattle.uf_top.specs.Losing.{DoesOver, EndsOver, words_need}
+use Rattle.uf_top.specs.Naming.{NamesAfter, StaysNamed, TellsBlocks}
+use Rattle.uf_top.specs.Working.{Does, Serves}
 use Rattle.uf_top.proofs.Losing.{names-kept, names-same}
+use Rattle.uf_top.proofs.Telling.{err-ends, ok-ends, printed-all}
 
-module _ (Says : List ℕ → Type 0) (given : Status) (held held_now : streams.Told) (w v : ℕ) (X : List ℕ → List ℕ) (N : List ℕ → ℕ) (a b : Seen) (p : Profile) (es : Entries) where
+module _ (Says : List ℕ → Type 0) (given : Status) (X : List ℕ → List ℕ) (N : List ℕ → ℕ) (a b : Around) (p : Profile) (es : Entries) where
   abbrev StillNamed : Type 0
-  StillNamed = NamesAfter X N a.told b.told (blocks X N p (Dir es)) p es
+  StillNamed = NamesAfter X N a.store.told b.store.told (blocks X N p (Dir es)) p es
 
-  module _ (needs : List Held) (reply : Reply) where
-    -- a refusal that a lost block, or want of memory, is behind
-    loss-ends : (why : Refusal) (done : Result (List ℕ) Refusal) → done ≡ Err why → AnswersOver X N a.told b.told p es needs reply done → held_now ≡ held → TellsWhy Says why given → StillNamed
-        → EndsOver X N a.told b.told p es needs Says reply given held held_now
-    loss-ends why done is x nothing (inr told) stands =
-        inl (record { fault = Memory; loss = tt; status_is = told.1; says = told.2; nothing = nothing; stands = stands })
-    loss-ends why done is (inl x) nothing (inl told) stands =
-        let e : why ≡ refusal.Store x.fault = (let same : Err why ≡ Err (refusal.Store x.fault) = sym is ∙ x.ends_are in cc) in
-        inl (record { fault = x.fault; loss = x.loss; status_is = told.0 ∙ ap status_of e; says = subst (λ r. Says (line_of r)) e told.1; nothing = nothing; stands = x.stands })
-    loss-ends why done is (inr x) nothing (inl told) stands =
-        let e : Err why ≡ reply.ends = sym is ∙ x.ends_are in
-        inr (record {
-          status_is = told.0 ∙ ap ended e;
-          says = subst (λ e. Says (said e)) e told.1;
-          printed = subst (λ e. PrintsAll e held held_now) e nothing;
-          stands = x.stands;
-        })
+  ends-over : (needs : List Held) (reply : Reply) (done : Result (Unit {0}) Refusal) → TellsEnd Says done given → DoesOver X N a.store.told b.store.told p es needs reply done a.held b.held
+      → ((why : Refusal) → done ≡ Err why → StillNamed) → EndsOver X N a.store.told b.store.told p es needs Says reply given a.held b.held
+  ends-over needs reply (Ok done) t (inl x) stays = absurd (let e = x.ends_are in cc)
+  ends-over needs reply (Ok done) t (inr x) stays =
+      let told = ok-ends Says reply.ends given a.held b.held t x.ends in
+      inr (record { status_is = told.0; says = told.1; printed = printed-all reply.ends (Ok done) a.held b.held x.ends; stands = x.stands })
+  ends-over needs reply (Err why) (inr told) x stays = inl (record { fault = Memory; loss = tt; status_is = told.1; says = told.2; stands = stays why refl })
+  ends-over needs reply (Err why) (inl told) (inl x) stays =
+      let e : why ≡ refusal.Store x.fault = (let same = x.ends_are in cc) in
+      inl (record { fault = x.fault; loss = x.loss; status_is = told.0 ∙ ap status_of e; says = subst (λ r. Says (line_of r)) e told.1; stands = x.stands })
+  ends-over needs reply (Err why) (inl told) (inr x) stays =
+      let e = err-ends reply.ends why a.held b.held x.ends in
+      inr (record { status_is = told.0 ∙ ap ended e; says = subst (λ e. Says (said e)) e told.1; printed = printed-all reply.ends (Err why) a.held b.held x.ends; stands = x.stands })
 
-    ends-over : (done : Result (List ℕ) Refusal) → Finishes Says done given held held_now w v → Stood w v → AnswersOver X N a.told b.told p es needs reply done → (is_ok done ≡ false → StillNamed)
-        → EndsOver X N a.told b.told p es needs Says reply given held held_now
-    ends-over (Ok text) (inl q) write (inl x) stays = (let e = x.ends_are in absurd cc)
-    ends-over (Ok text) (inl q) write (inr x) stays =
-        inr (record {
-          status_is = q.status_is ∙ ap ended x.ends_are;
-          says = subst (λ e. Says (said e)) x.ends_are q.says;
-          printed = subst (λ e. PrintsAll e held held_now) x.ends_are q.printed;
-          stands = x.stands;
-        })
-    ends-over (Ok text) (inr c) write x stays = (let rose = c.counts.rose refl in absurd (omega (arith, rose, write)))
-    ends-over (Err why) t write x stays = loss-ends why (Err why) refl x t.nothing t.tells (stays refl)
+  over-of : (asked : Result Command Refusal) (done : Result (Unit {0}) Refusal) → Serves X N asked done a b → (rows : ℕ → ℕ) (held : Lookup) (bytes : List ℕ) → StaysNamed X N a.store.told b.store.told p es → TellsBlocks a.store.told held → AreHeights p rows
+      → HasInput asked a.left bytes a.reads b.reads → Calm a.store b.store → Stood a.writes b.writes → DoesOver X N a.store.told b.store.told p es (words_need X N rows asked p es) (reply_to X N asked (in_world p es held bytes)) done a.held b.held
+  over-of (Ok command) done h rows held bytes named tells heights input calm write = h.lost p es rows held bytes named tells heights input (record { store = calm; output = write })
+  over-of (Err asked) done h rows held bytes named tells heights input calm write = by h.refused
+    where
+      now : StillNamed
+      now = names-same X N a.store.told b.store.told p es (ap (λ (x : Around). x.store.told) h.same) named
 
-  module _ (l m : streams.Told) (i j t0 t1 : ℕ) where
-    over-of : (asked : Result Command Refusal) (done : Result (List ℕ) Refusal) → Serves X N asked done a b l m i j t0 t1 → (bytes : List ℕ) → StaysNamed X N a.told b.told p es → HasInput asked l bytes i j → Calm a b
-        → AnswersOver X N a.told b.told p es (words_need X N asked p es) (reply_to X N asked (Stands p es) bytes) done
-    over-of (Ok command) done h bytes named input calm = h.lost p es bytes named input calm
-    over-of (Err asked) done h bytes named input calm = by h.refused
-      where
-        now : StillNamed
-        now = names-same X N a.told b.told p es (ap (λ (x : Seen). x.told) h.seen) named
+      by : (done ≡ Err asked) ⊎ (done ≡ Err no_memory) → DoesOver X N a.store.told b.store.told p es (words_need X N rows (Err asked) p es) (reply_to X N (Err asked) (in_world p es held bytes)) done a.held b.held
+      by (inl is) = inr (record { ends = (is, ap (λ (x : Around). x.held) h.same); stands = now })
+      by (inr is) = inl (record { fault = Memory; ends_are = is; loss = tt; stands = now })
 
-        by : (done ≡ Err asked) ⊎ (done ≡ Err no_memory) → AnswersOver X N a.told b.told p es [] (reply_to X N (Err asked) (Stands p es) bytes) done
-        by (inl is) = inr (record { ends_are = is; stands = now })
-        by (inr is) = inl (record { fault = Memory; ends_are = is; loss = tt; stands = now })
+  still-of : (asked : Result Command Refusal) (done : Result (Unit {0}) Refusal) → Serves X N asked done a b → StaysNamed X N a.store.told b.store.told p es → (why : Refusal) → done ≡ Err why → StillNamed
+  still-of (Err asked) done h named why is = names-same X N a.store.told b.store.told p es (ap (λ (x : Around). x.store.told) h.same) named
+  still-of (Ok command) done h named why is =
+      names-kept X N a.store.told b.store.told p es h.leaves.good (subst (λ d. IfErr d (λ why. head_in b.store.told ≡ head_in a.store.told)) is h.leaves.head) named
 
-    still-of : (asked : Result Command Refusal) (done : Result (List ℕ) Refusal) → Serves X N asked done a b l m i j t0 t1 → StaysNamed X N a.told b.told p es → is_ok done ≡ false → StillNamed
-    still-of (Err asked) done h named is = names-same X N a.told b.told p es (ap (λ (x : Seen). x.told) h.seen) named
-    still-of (Ok command) (Ok text) h named is = absurd cc
-    still-of (Ok command) (Err why) h named is = names-kept X N a.told b.told p es h.leaves.good h.leaves.head named
+  pub lost-told : (asked : Result Command Refusal) (done : Result (Unit {0}) Refusal) → Serves X N asked done a b → TellsEnd Says done given
+      → (rows : ℕ → ℕ) (held : Lookup) (bytes : List ℕ) → StaysNamed X N a.store.told b.store.told p es → TellsBlocks a.store.told held → AreHeights p rows → HasInput asked a.left bytes a.reads b.reads → Calm a.store b.store → Stood a.writes b.writes
+      → EndsOver X N a.store.told b.store.told p es (words_need X N rows asked p es) Says (reply_to X N asked (in_world p es held bytes)) given a.held b.held
+  lost-told asked done h t rows held bytes named tells heights input calm write =
+      ends-over (words_need X N rows asked p es) (reply_to X N asked (in_world p es held bytes)) done t (over-of asked done h rows held bytes named tells heights input calm write) (still-of asked done h named)
 
-    pub lost-told : (asked : Result Command Refusal) (done : Result (List ℕ) Refusal) → Serves X N asked done a b l m i j t0 t1 → Finishes Says done given held held_now w v
-        → (bytes : List ℕ) → StaysNamed X N a.told b.told p es → HasInput asked l bytes i j → Calm a b → Stood w v
-        → EndsOver X N a.told b.told p es (words_need X N asked p es) Says (reply_to X N asked (Stands p es) bytes) given held held_now
-    lost-told asked done h f bytes named input calm write =
-        ends-over (words_need X N asked p es) (reply_to X N asked (Stands p es) bytes) done f write (over-of asked done h bytes named input calm) (still-of asked done h named)
+  -- ---- how many touches were needed
 
-    -- ---- how many touches were needed
-
-    pub touches-told : (bytes : List ℕ) (rows : ℕ → ℕ) (asked : Result Command Refusal) (done : Result (List ℕ) Refusal) → Serves X N asked done a b l m i j t0 t1 → StaysNamed X N a.told b.told p es → HasInput asked l bytes i j → AreHeights p rows → Calm a b
-        → IfSome (words_touch X N rows bytes asked p es) (λ most. t1 ≤ t0 + most)
-    touches-told bytes rows (Ok command) done h named input heights calm = h.touches p es bytes rows named input heights calm
-    touches-told bytes rows (Err asked) done h named input heights calm = (let e = h.untouched in omega (arith, e))
+  pub touches-told : (bytes : List ℕ) (rows : ℕ → ℕ) (asked : Result Command Refusal) (done : Result (Unit {0}) Refusal) → Serves X N asked done a b → StaysNamed X N a.store.told b.store.told p es → HasInput asked a.left bytes a.reads b.reads → AreHeights p rows → Calm a.store b.store
+      → IfSome (words_touch X N rows bytes asked p es) (λ most. b.touches ≤ a.touches + most)
+  touches-told bytes rows (Ok command) done h named input heights calm = h.touches p es bytes rows named input heights calm
+  touches-told bytes rows (Err asked) done h named input heights calm = (let e = ap (λ (x : Around). x.touches) h.same in omega (arith, e))

@@ -36,7 +36,7 @@ use Rattle.uf_reply.specs.declared.types.Refusal.{Refusal}
 use Rattle.uf_top.specs.Causes.{HeadStays, IsBadIn, RefusesOpening}
 use Rattle.uf_top.specs.Losing.{AnswersOver, ask_needs}
 use Rattle.uf_top.specs.Shapes.{WritesAs, is_ok}
-use Rattle.uf_top.specs.Working.{Works, WorksAt}
+use Rattle.uf_top.specs.Working.{Makes, WorksAt}
 use Rattle.uf_top.proofs.InTree.{init-ready, inits-err, inits-ok, not-opened, opened, opened-says, opening-ready, stays-nothing}
 use Rattle.uf_top.proofs.Classed.{init-counts, init-kinds, opened-of, opened-ready, opening-kinds, tree-counts}
 use Rattle.uf_top.proofs.Finding.{at-whole, init-looks}
@@ -57,10 +57,10 @@ module _ (X : List ℕ → List ℕ) (N : List ℕ → ℕ) where
     -- the tree isn't opened
     pub at-refused : (f : MfsFault) (w : Refusal) → RefusesOpening f w → ((s : Standing) → TellsAs X N a.told s → Stood a.faults m.faults → Opens X N m.told s (Err f))
         → ((p : Profile) (es : Entries) → NamesOver X N a.told p es → Stood a.faults m.faults → OpensOver X N a.told p es (Err f))
-        → ReadsHead a.told (Err f) → CountsUp (tree_fault {A = Mfs} (Err f)) t0 t1 → ShownOpening X (IsBad N None) {A = Mfs} (Err f) a m → Works X N (At ask path) (Err w) a m left left reads reads t0 t1
+        → ReadsHead a.told (Err f) → CountsUp (tree_fault {A = Mfs} (Err f)) t0 t1 → ShownOpening X (IsBad N None) {A = Mfs} (Err f) a m → Makes X N (At ask path) (Err w) a m left left reads reads t0 t1
     at-refused f w is opens lost head up cause = record {
-      answers = λ s bytes stands input calm. not-opened X N s (tree_reply X N ask path.names) f w m.told is (opens s stands calm.faults) (stands-same X N a.told m.told s told stands);
-      lost = λ p es bytes named input calm.
+      answers = λ world stands input calm. let s = world.standing in let bytes = world.input in not-opened X N s (tree_reply X N ask path.names) f w m.told is (opens s stands calm.faults) (stands-same X N a.told m.told s told stands);
+      lost = λ p es heights held bytes named input calm.
           opening-over X N a.told m.told p es (ask_needs X N ask path.names p es) (tree_reply X N ask path.names p es) f w is (lost p es named.names calm.faults)
           (names-same X N a.told m.told p es told named);
       kinds = opening-kinds f w is;
@@ -78,16 +78,16 @@ module _ (X : List ℕ → List ℕ) (N : List ℕ → ℕ) where
     -- the tree is opened, and what is asked of it is done
     pub at-opened : (mfs : Mfs) (r : Result (List ℕ) Refusal) (b : Seen) (t2 : ℕ) → ((s : Standing) → TellsAs X N a.told s → Stood a.faults m.faults → Opens X N m.told s (Ok mfs))
         → ((p : Profile) (es : Entries) → NamesOver X N a.told p es → Stood a.faults m.faults → OpensOver X N a.told p es (Ok mfs))
-        → ReadsHead a.told (Ok mfs) → CountsUp None t0 t1 → StaysCalm a m → WorksAt X N mfs ask path r m b t1 t2 → Works X N (At ask path) r a b left left reads reads t0 t2
+        → ReadsHead a.told (Ok mfs) → CountsUp None t0 t1 → StaysCalm a m → WorksAt X N mfs ask path r m b t1 t2 → Makes X N (At ask path) r a b left left reads reads t0 t2
     at-opened mfs r b t2 opens lost head up calm works =
         let rises = shown-rises X (IsBadWritten X N mfs.profile b.told) (refusal_fault r) m b works.cause in
         let kinds = opened-of r works.kinds in
         record {
-          answers = λ s bytes stands input calm2.
+          answers = λ world stands input calm2. let s = world.standing in let bytes = world.input in
               opened X N s (tree_reply X N ask path.names) mfs m.told b.told r
               (opens s stands (stood-front a.faults m.faults b.faults calm.faults rises.faults calm2.faults)) (stands-same X N a.told m.told s told stands)
               (λ p es at now. works.answers p es at now (record { faults = stood-back a.faults m.faults b.faults calm.faults calm2.faults; clashes = stood-back a.clashes m.clashes b.clashes calm.clashes calm2.clashes }));
-          lost = λ p es bytes named input calm2.
+          lost = λ p es heights held bytes named input calm2.
               let at = lost p es named.names (stood-front a.faults m.faults b.faults calm.faults rises.faults calm2.faults) in
               over-more X N a.told b.told p es (ask_needs X N ask path.names p es) (root_of X N p (Dir es)) (tree_reply X N ask path.names p es) r
               (subst (λ t. AnswersOver X N t b.told p es (ask_needs X N ask path.names p es) (tree_reply X N ask path.names p es) r) told
@@ -126,16 +126,16 @@ module _ (X : List ℕ → List ℕ) (N : List ℕ → ℕ) where
     -- the store isn't made ready
     pub init-refused : (f : MfsFault) (w : Refusal) → RefusesOpening f w
         → IfSome a.told (λ t. Stood a.faults b.faults → Stood a.clashes b.clashes → Inits X N b.told p t.notes.head (Err f))
-        → FindsHead a.told (Err f) → SavesThen X LeavesHead a.told b.told → IsOfMaking f → CountsUp (tree_fault {A = Mfs} (Err f)) t0 t1 → ShownOpening X NoneIsBad {A = Mfs} (Err f) a b → Works X N (Init p) (Err w) a b left left reads reads t0 t1
+        → FindsHead a.told (Err f) → SavesThen X LeavesHead a.told b.told → IsOfMaking f → CountsUp (tree_fault {A = Mfs} (Err f)) t0 t1 → ShownOpening X NoneIsBad {A = Mfs} (Err f) a b → Makes X N (Init p) (Err w) a b left left reads reads t0 t1
     init-refused f w is answer finds leaves making up cause =
         let shown = Shown-opening Mfs X NoneIsBad NoneIsBad (λ role bytes bad. bad) f w a b is cause in
         let kinds = init-kinds f w is making in
         let head = leaves-head leaves.between b.told leaves.last ∙ saves-head X a.told leaves.between leaves.saves in
         record {
-          answers = λ s bytes stands input calm.
+          answers = λ world stands input calm. let s = world.standing in let bytes = world.input in
               inits-err X N (Stood a.faults b.faults) (Stood a.clashes b.clashes) s p a.told f w b.told is calm.faults calm.clashes stands answer
               (stands-kept X N a.told b.told s good head stands);
-          lost = λ q es bytes named input calm.
+          lost = λ q es heights held bytes named input calm.
               inits-over X N (Stood a.faults b.faults) (Stood a.clashes b.clashes) a.told b.told p q es f w is calm.faults calm.clashes named.names answer
               (names-kept X N a.told b.told q es good head named);
           kinds = kinds;
@@ -152,10 +152,10 @@ module _ (X : List ℕ → List ℕ) (N : List ℕ → ℕ) where
     -- the store is made ready
     pub is-ready : (mfs : Mfs) (text given : List ℕ) → text ≡ []
         → IfSome a.told (λ t. Stood a.faults b.faults → Stood a.clashes b.clashes → Inits X N b.told p t.notes.head (Ok mfs))
-        → SavesThen X (Commits given) a.told b.told → StaysCalm a b → Works X N (Init p) (Ok text) a b left left reads reads t0 t1
+        → SavesThen X (Commits given) a.told b.told → StaysCalm a b → Makes X N (Init p) (Ok text) a b left left reads reads t0 t1
     is-ready mfs text given nothing answer writes calm = record {
-      answers = λ s bytes stands input calm2. inits-ok X N (Stood a.faults b.faults) (Stood a.clashes b.clashes) s p a.told mfs text b.told calm2.faults calm2.clashes nothing stands answer;
-      lost = λ q es bytes named input calm2. absurd (not-inited X N (Stood a.faults b.faults) (Stood a.clashes b.clashes) a.told b.told p q es mfs calm2.faults calm2.clashes named.names answer);
+      answers = λ world stands input calm2. let s = world.standing in let bytes = world.input in inits-ok X N (Stood a.faults b.faults) (Stood a.clashes b.clashes) s p a.told mfs text b.told calm2.faults calm2.clashes nothing stands answer;
+      lost = λ q es heights held bytes named input calm2. absurd (not-inited X N (Stood a.faults b.faults) (Stood a.clashes b.clashes) a.told b.told p q es mfs calm2.faults calm2.clashes named.names answer);
       kinds = tt;
       ready = tt;
       adds = tt;

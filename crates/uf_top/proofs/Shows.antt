@@ -3,10 +3,12 @@ use Rattle.std.proofs.Common.{◌≡◌, ℕ, ◌+◌, ◌≤◌, List, false, t
 use Rattle.std.specs.Prelude.{IfSome}
 use Rattle.uf_edge.specs.Counts.{Counts, Rose, Stood}
 use Rattle.uf_mfs.specs.Answers.{ShownInTree, ShownOpening}
-use Rattle.uf_mfs.specs.Bad.{IsBad}
+use Rattle.uf_cid.specs.declared.cid.Cid.{Cid}
+use Rattle.uf_mfs.specs.Bad.{IsBad, IsBadInTree}
 use Rattle.uf_mfs.specs.Steps.{tree_fault}
 use Rattle.uf_mfs.specs.Touches.{CountsUp, IsBlaming}
 use Rattle.uf_mfs.specs.Writes.{IsBadWritten}
+use Rattle.uf_mfs.proofs.Judging.{tree-bad-more}
 use Rattle.uf_mfs.specs.declared.fault.MfsFault.{MfsFault}
 use Rattle.uf_mfs.specs.declared.fault.MfsFault.TheVariants as mfs
 use Rattle.uf_store.specs.Clashes.{IsSaving}
@@ -14,12 +16,10 @@ use Rattle.uf_store.specs.Contents.{Told}
 use Rattle.uf_store.specs.Faults.{NoneIsBad, Shown, Shows, StaysCalm}
 use Rattle.uf_store.specs.Seen.{Seen}
 use Rattle.uf_store.specs.declared.store.Role.{Role}
-use Rattle.uf_store.specs.declared.store.Role.TheVariants.{Directory, Shard, FileNode, Leaf}
 use Rattle.uf_store.specs.declared.store.StoreFault.{StoreFault}
 use Rattle.uf_store.specs.declared.store.StoreFault.TheVariants.{Failed, Damaged, Missing, BadBlock, Clash, Memory}
 use Rattle.uf_store.proofs.Calls.{shown-by}
 use Rattle.uf_store.proofs.Causes.{calm-rises}
-use Rattle.uf_tree.specs.Roles.{IsCanonicalDirectory, Basic, Sharded, FileRoot}
 use Rattle.uf_tree.specs.declared.profile.Profile.{Profile}
 use Rattle.uf_reply.specs.Kinds.{AddsInput, IsOf, fault_behind, may_answer, refusal_fault}
 use Rattle.uf_reply.specs.Statuses.{status_of}
@@ -74,7 +74,7 @@ pub bad-of-none : (X : List ℕ → List ℕ) (N : List ℕ → ℕ) (told now :
 bad-of-none X N told now role bytes h = inl h
 
 pub bad-of-head : (X : List ℕ → List ℕ) (N : List ℕ → ℕ) (told now : Told) (p : Profile) → IsProfileOf told p → (role : Role) (bytes : List ℕ) → IsBadWritten X N p now role bytes → IsBadIn X N told now role bytes
-bad-of-head X N told now p is role bytes h = inr (p, is, h)
+bad-of-head X N told now p is role bytes h = inr (inr (p, is, h))
 
 -- with no count risen, a fault that saves alone can have is want of memory
 pub saving-wants : (hash : List ℕ → List ℕ) (P : Role → List ℕ → Type 0) (f : StoreFault) (a b : Seen) → IsSaving f → Shows hash P f a b → Stood a.faults b.faults → Stood a.clashes b.clashes → f ≡ Memory
@@ -92,6 +92,7 @@ not-rose before now r s = omega (arith, r, s)
 pub wants-shown : (hash : List ℕ → List ℕ) (r : Result (List ℕ) Refusal) (a b : Seen) → OnlyWants r → StaysCalm a b → ShownIn hash r a b
 wants-shown hash (Ok x) a b w h = h
 wants-shown hash (Err (refusal.Rule rule)) a b w h = h
+wants-shown hash (Err (refusal.Dag rule)) a b w h = h
 wants-shown hash (Err (refusal.BadPath why)) a b w h = h
 wants-shown hash (Err refusal.Usage) a b w h = h
 wants-shown hash (Err refusal.InputTooLong) a b w h = h
@@ -100,20 +101,9 @@ wants-shown hash (Err refusal.Read) a b w h = h
 wants-shown hash (Err refusal.Write) a b w h = h
 wants-shown hash (Err (refusal.Store f)) a b w h = subst (λ f. Shows hash NoneIsBad f a b) (sym w) (calm-rises a b h)
 
--- what is bad without a profile is bad with one
-with_profile : (p : Profile) (bytes : List ℕ) → IsCanonicalDirectory (Some p) true bytes → IsCanonicalDirectory None true bytes
-with_profile p bytes (Basic b) = Basic (record { pairs = b.pairs; valid = b.valid; light = tt; is = b.is })
-with_profile p bytes (Sharded s) = Sharded s
-with_profile p bytes (FileRoot e n) = FileRoot e n
-
-pub bad-more : (N : List ℕ → ℕ) (p : Profile) (role : Role) (bytes : List ℕ) → IsBad N None role bytes → IsBad N (Some p) role bytes
-bad-more N p Directory bytes bad = λ c. bad (with_profile p bytes c)
-bad-more N p (Shard level) bytes bad = bad
-bad-more N p FileNode bytes bad = bad
-bad-more N p Leaf bytes bad = bad
-
-pub bad-written : (X : List ℕ → List ℕ) (N : List ℕ → ℕ) (p : Profile) (now : Told) (role : Role) (bytes : List ℕ) → IsBad N None role bytes → IsBadWritten X N p now role bytes
-bad-written X N p now role bytes bad = inl (bad-more N p role bytes bad)
+-- what is bad on a way in a tree is so where a file of it is edited
+pub bad-way : (X : List ℕ → List ℕ) (N : List ℕ → ℕ) (p : Profile) (now : Told) (root : Cid) (role : Role) (bytes : List ℕ) → IsBadInTree X N None root role bytes → IsBadWritten X N p now role bytes
+bad-way X N p now root role bytes bad = inl (tree-bad-more X N p root role bytes bad)
 
 -- a text that was made, or want of memory, after which the store is as calm as before
 pub made-shown : (M : Type 0) (hash : List ℕ → List ℕ) (P : Role → List ℕ → Type 0) (text : Result (List ℕ) M) (r : Result (List ℕ) Refusal) (a b : Seen) → IsMade text r → StaysCalm a b → Shown hash P (refusal_fault r) a b
@@ -143,6 +133,7 @@ made-touched M (Err m) r t0 t1 made h = subst (λ (r : Result (List ℕ) Refusal
 pub add-blames : (r : Result (List ℕ) Refusal) → IsOf (may_answer AddsInput) r → IsBlaming (refusal_fault r) → ⊥
 add-blames (Ok text) h blames = blames
 add-blames (Err (refusal.Rule rule)) h blames = blames
+add-blames (Err (refusal.Dag rule)) h blames = blames
 add-blames (Err (refusal.BadPath why)) h blames = blames
 add-blames (Err refusal.Usage) h blames = blames
 add-blames (Err refusal.InputTooLong) h blames = blames
@@ -159,6 +150,7 @@ add-blames (Err (refusal.Store Memory)) h blames = blames
 -- the status of a bad block is that of a refusal that blames one
 pub blaming-of : (why : Refusal) → status_of why ≡ status.BadBlock → IsBlaming (fault_behind why)
 blaming-of (refusal.Rule rule) e = absurd cc
+blaming-of (refusal.Dag rule) e = absurd cc
 blaming-of (refusal.BadPath path) e = absurd cc
 blaming-of refusal.Usage e = absurd cc
 blaming-of refusal.InputTooLong e = absurd cc

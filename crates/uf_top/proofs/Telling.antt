@@ -1,11 +1,10 @@
 -- From how a command was done to what is told of it.
-use Rattle.std.proofs.Common.{◌≡◌, ◌≢◌, ◌⊎◌, ℕ, ◌<◌, List, [], ◌∷◌, true, false, arith, refl, sym, ap, subst, ◌∙◌, inl, inr, Some, None, Bool, Result, Ok, Err}
-use Rattle.std.specs.Prelude.{⊤}
+use Rattle.std.proofs.Common.{◌≡◌, ◌≢◌, ◌⊎◌, ℕ, ◌<◌, List, [], true, false, arith, refl, sym, ap, subst, ◌∙◌, inl, inr, Some, None, Bool, Result, Ok, Err}
+use Rattle.std.specs.Prelude.{IfErr, ⊤}
 use Rattle.uf_cid.specs.declared.cid.Cid.{Cid}
 use Rattle.uf_edge.specs.Counts.{Counts, Rose, Stood}
 use Rattle.uf_edge.specs.Streams as streams
 use Rattle.uf_mfs.specs.Standing.{NamesOver, TellsAs, head_in}
-use Rattle.uf_plain.specs.declared.rule.Rule.{Rule}
 use Rattle.uf_store.specs.Calls.{Calm}
 use Rattle.uf_store.specs.Contents.{Told, changed, with_sync}
 use Rattle.uf_store.specs.Faults.{Shown, ShowsBadBlock, ShowsClash, ShowsFailure, ShowsMissing}
@@ -17,50 +16,53 @@ use Rattle.uf_store.proofs.Keeping.{KeepsGood-same}
 use Rattle.uf_tree.specs.Standing.{Standing}
 use Rattle.uf_tree.specs.Tree.{Entries}
 use Rattle.uf_tree.specs.declared.profile.Profile.{Profile}
-use Rattle.uf_reply.specs.Commands.{HasInput, IsOfWords, command_writes, is_idle, of_command, only_reads}
-use Rattle.uf_reply.specs.Kinds.{OfLongInput, OfPath, OfUsage, OfWrite, family_of, fault_behind, may_answer, refusal_kind, word_kinds}
+use Rattle.uf_reply.specs.Commands.{HasInput, IsOfWords, command_writes, is_idle, needs_standing, of_command, only_reads}
+use Rattle.uf_reply.specs.Commands.{streams as flows}
+use Rattle.uf_reply.specs.Kinds.{AddsInput, IsOf, MakesReady, OfBadBlock, OfMissing, OfPath, OfUsage, OfWrite, family_of, fault_behind, may_end, refusal_kind, word_kinds}
 use Rattle.uf_reply.specs.Lines.{bad_block_line, clash_line, line_of, missing_line, said}
-use Rattle.uf_reply.specs.Reply.{Reply, reply_to}
+use Rattle.uf_reply.specs.Reply.{World, reply, reply_to}
 use Rattle.uf_reply.specs.Statuses.{ended, no_memory, plain_line, status_of}
 use Rattle.uf_reply.specs.declared.status.Status.{Status}
 use Rattle.uf_reply.specs.declared.status.Status.TheVariants as status
 use Rattle.uf_reply.specs.declared.types.Ask.TheVariants.{Ls, Stat, Edit as Edits}
 use Rattle.uf_reply.specs.declared.types.Command.{Command}
-use Rattle.uf_reply.specs.declared.types.Command.TheVariants.{Init, Add, WriteInput, At}
+use Rattle.uf_reply.specs.declared.types.Command.TheVariants.{Init, Add, WriteInput, At, Read, Cat}
 use Rattle.uf_reply.specs.declared.types.Refusal.{Refusal}
 use Rattle.uf_reply.specs.declared.types.Refusal.TheVariants as refusal
-use Rattle.uf_top.specs.Answering.{Answers}
-use Rattle.uf_top.specs.Causes.{HeadStays, IsBadIn, IsSynced, is_read}
-use Rattle.uf_top.specs.Endings.{AddsFor, EndsAs, FindsAll, FindsBy, Finishes, IsNotReady, IsRefusedBy, IsRule, IsSyncedFor, IsTextOf, PrintsAll, PrintsAt, PrintsPart, RuleOf, SaysPlain, TellsWhy, has_details}
-use Rattle.uf_top.specs.Shapes.{SyncsAfter, WritesAs, WritesFor, is_done, is_ok}
-use Rattle.uf_top.specs.Working.{Serves, Works}
-use Rattle.uf_top.proofs.Finding.{Finds, add-whole, init-looks, words-whole}
+use Rattle.uf_top.specs.Answering.{DoesAnswer}
+use Rattle.uf_top.specs.Around.{Around, CountsCanRise, RisesFor}
+use Rattle.uf_top.specs.Causes.{IsBadIn, IsSynced, is_read, is_write}
+use Rattle.uf_top.specs.Endings.{EndsAs, EndsBy, FindsAll, FindsBy, IsNotReady, IsRefusedBy, IsRule, IsSyncedFor, IsTextOf, PrintsAll, PrintsAt, PrintsPart, SaysPlain, TellsEnd, TellsWhy, has_details}
+use Rattle.uf_top.specs.Naming.{FindsOver, FindsWorld, StandsIf}
+use Rattle.uf_top.specs.Shapes.{SyncsAfter, WritesAs, WritesFor, is_done}
+use Rattle.uf_top.specs.Working.{Does, Serves}
+use Rattle.uf_top.proofs.Finding.{kind-finds, of-none, words-whole}
+use Rattle.uf_top.proofs.Printing.{quiet-of}
 use Rattle.uf_top.proofs.Shows.{blaming-of}
 use Rattle.uf_top.proofs.Standings.{stands-kept, tells-none}
 
 -- ---- which kinds no command has
 
-no-path : (command : Command) → may_answer (family_of command) OfPath ≡ true → ⊥
+no-path : (command : Command) → may_end (family_of command) OfPath ≡ true → ⊥
 no-path (Init p) h = cc
 no-path (Add only_hash) h = cc
 no-path (WriteInput how path) h = cc
 no-path (At ask path) h = cc
+no-path (Read offset count path) h = cc
+no-path (Cat path) h = cc
 
-no-usage : (command : Command) → may_answer (family_of command) OfUsage ≡ true → ⊥
+no-usage : (command : Command) → may_end (family_of command) OfUsage ≡ true → ⊥
 no-usage (Init p) h = cc
 no-usage (Add only_hash) h = cc
 no-usage (WriteInput how path) h = cc
 no-usage (At ask path) h = cc
-
-no-write : (command : Command) → may_answer (family_of command) OfWrite ≡ true → ⊥
-no-write (Init p) h = cc
-no-write (Add only_hash) h = cc
-no-write (WriteInput how path) h = cc
-no-write (At ask path) h = cc
+no-usage (Read offset count path) h = cc
+no-usage (Cat path) h = cc
 
 -- a line without details is the status's
 plain-of : (why : Refusal) → has_details (status_of why) ≡ false → plain_line (status_of why) ≡ line_of why
 plain-of (refusal.Rule rule) e = absurd cc
+plain-of (refusal.Dag rule) e = absurd cc
 plain-of (refusal.BadPath path) e = absurd cc
 plain-of refusal.Usage e = refl
 plain-of refusal.InputTooLong e = absurd cc
@@ -77,6 +79,7 @@ plain-of (refusal.Store fault.Memory) e = refl
 -- no refusal ends as Ok, and one that ends as a failed write is that
 not-ok : (why : Refusal) → status_of why ≡ status.Ok → ⊥
 not-ok (refusal.Rule rule) e = cc
+not-ok (refusal.Dag rule) e = cc
 not-ok (refusal.BadPath path) e = cc
 not-ok refusal.Usage e = cc
 not-ok refusal.InputTooLong e = cc
@@ -90,32 +93,10 @@ not-ok (refusal.Store (fault.BadBlock cid role)) e = cc
 not-ok (refusal.Store (fault.Clash cid first second)) e = cc
 not-ok (refusal.Store fault.Memory) e = cc
 
--- what no failed write answers prints nothing, and the command wasn't done
-record IsQuiet (IsText : List ℕ → Type 0) (held now : streams.Told) (given : Status) : Type 0 where
-  quiet : now ≡ held → PrintsAt IsText given held now
-  undone : is_done given ≡ false
-
-quiet-of : (IsText : List ℕ → Type 0) (held now : streams.Told) (why : Refusal) → refusal_kind why ≢ OfWrite → IsQuiet IsText held now (status_of why)
-quiet-of IsText held now (refusal.Rule rule) other = record { quiet = λ h. h; undone = refl }
-quiet-of IsText held now (refusal.BadPath path) other = record { quiet = λ h. h; undone = refl }
-quiet-of IsText held now refusal.Usage other = record { quiet = λ h. h; undone = refl }
-quiet-of IsText held now refusal.InputTooLong other = record { quiet = λ h. h; undone = refl }
-quiet-of IsText held now (refusal.Ready reason) other = record { quiet = λ h. h; undone = refl }
-quiet-of IsText held now refusal.Read other = record { quiet = λ h. h; undone = refl }
-quiet-of IsText held now refusal.Write other = absurd (other refl)
-quiet-of IsText held now (refusal.Store fault.Failed) other = record { quiet = λ h. h; undone = refl }
-quiet-of IsText held now (refusal.Store (fault.Damaged cid)) other = record { quiet = λ h. h; undone = refl }
-quiet-of IsText held now (refusal.Store (fault.Missing cid)) other = record { quiet = λ h. h; undone = refl }
-quiet-of IsText held now (refusal.Store (fault.BadBlock cid role)) other = record { quiet = λ h. h; undone = refl }
-quiet-of IsText held now (refusal.Store (fault.Clash cid first second)) other = record { quiet = λ h. h; undone = refl }
-quiet-of IsText held now (refusal.Store fault.Memory) other = record { quiet = λ h. h; undone = refl }
-
-memory-quiet : (IsText : List ℕ → Type 0) (held now : streams.Told) → IsQuiet IsText held now status.Memory
-memory-quiet IsText held now = record { quiet = λ h. h; undone = refl }
-
 -- a failed reading is the refusal where the input's count rose
-read-of : (why : Refusal) (i j : ℕ) → Counts (is_read {A = List ℕ} (Err why)) i j → i < j → why ≡ refusal.Read
+read-of : (why : Refusal) (i j : ℕ) → Counts (is_read {A = Unit {0}} (Err why)) i j → i < j → why ≡ refusal.Read
 read-of (refusal.Rule rule) i j counts more = (let e = counts.still refl in absurd (omega (arith, e, more)))
+read-of (refusal.Dag rule) i j counts more = (let e = counts.still refl in absurd (omega (arith, e, more)))
 read-of (refusal.BadPath path) i j counts more = (let e = counts.still refl in absurd (omega (arith, e, more)))
 read-of refusal.Usage i j counts more = (let e = counts.still refl in absurd (omega (arith, e, more)))
 read-of refusal.InputTooLong i j counts more = (let e = counts.still refl in absurd (omega (arith, e, more)))
@@ -129,10 +110,28 @@ read-of (refusal.Store (fault.BadBlock cid role)) i j counts more = (let e = cou
 read-of (refusal.Store (fault.Clash cid first second)) i j counts more = (let e = counts.still refl in absurd (omega (arith, e, more)))
 read-of (refusal.Store fault.Memory) i j counts more = (let e = counts.still refl in absurd (omega (arith, e, more)))
 
+-- a failed writing is the refusal where the output's count rose
+write-of : (why : Refusal) (i j : ℕ) → RisesFor (is_write {A = Unit {0}} (Err why)) i j → i < j → why ≡ refusal.Write
+write-of (refusal.Rule rule) i j counts more = (let e = counts.still refl in absurd (omega (arith, e, more)))
+write-of (refusal.Dag rule) i j counts more = (let e = counts.still refl in absurd (omega (arith, e, more)))
+write-of (refusal.BadPath path) i j counts more = (let e = counts.still refl in absurd (omega (arith, e, more)))
+write-of refusal.Usage i j counts more = (let e = counts.still refl in absurd (omega (arith, e, more)))
+write-of refusal.InputTooLong i j counts more = (let e = counts.still refl in absurd (omega (arith, e, more)))
+write-of (refusal.Ready reason) i j counts more = (let e = counts.still refl in absurd (omega (arith, e, more)))
+write-of refusal.Read i j counts more = (let e = counts.still refl in absurd (omega (arith, e, more)))
+write-of refusal.Write i j counts more = refl
+write-of (refusal.Store fault.Failed) i j counts more = (let e = counts.still refl in absurd (omega (arith, e, more)))
+write-of (refusal.Store (fault.Damaged cid)) i j counts more = (let e = counts.still refl in absurd (omega (arith, e, more)))
+write-of (refusal.Store (fault.Missing cid)) i j counts more = (let e = counts.still refl in absurd (omega (arith, e, more)))
+write-of (refusal.Store (fault.BadBlock cid role)) i j counts more = (let e = counts.still refl in absurd (omega (arith, e, more)))
+write-of (refusal.Store (fault.Clash cid first second)) i j counts more = (let e = counts.still refl in absurd (omega (arith, e, more)))
+write-of (refusal.Store fault.Memory) i j counts more = (let e = counts.still refl in absurd (omega (arith, e, more)))
+
 -- a risen count of the store is behind its fault
 module _ (hash : List ℕ → List ℕ) (P : Role → List ℕ → Type 0) (a b : Seen) where
   failure-of : (why : Refusal) → Shown hash P (fault_behind why) a b → a.faults < b.faults → (status_of why ≡ status.StoreFault) ⊎ (status_of why ≡ status.Memory)
   failure-of (refusal.Rule rule) h more = (let e = h.faults in absurd (omega (arith, e, more)))
+  failure-of (refusal.Dag rule) h more = (let e = h.faults in absurd (omega (arith, e, more)))
   failure-of (refusal.BadPath path) h more = (let e = h.faults in absurd (omega (arith, e, more)))
   failure-of refusal.Usage h more = (let e = h.faults in absurd (omega (arith, e, more)))
   failure-of refusal.InputTooLong h more = (let e = h.faults in absurd (omega (arith, e, more)))
@@ -148,6 +147,7 @@ module _ (hash : List ℕ → List ℕ) (P : Role → List ℕ → Type 0) (a b 
 
   clash-of : (why : Refusal) → Shown hash P (fault_behind why) a b → a.clashes < b.clashes → (status_of why ≡ status.Clash) ⊎ (status_of why ≡ status.Memory)
   clash-of (refusal.Rule rule) h more = (let e = h.clashes in absurd (omega (arith, e, more)))
+  clash-of (refusal.Dag rule) h more = (let e = h.clashes in absurd (omega (arith, e, more)))
   clash-of (refusal.BadPath path) h more = (let e = h.clashes in absurd (omega (arith, e, more)))
   clash-of refusal.Usage h more = (let e = h.clashes in absurd (omega (arith, e, more)))
   clash-of refusal.InputTooLong h more = (let e = h.clashes in absurd (omega (arith, e, more)))
@@ -169,9 +169,61 @@ synced-last (Some t) now e = subst IsSynced (sym e) (t.writes, refl)
 synced-of : (X : List ℕ → List ℕ) (before now : Told) → SyncsAfter X before now → IsSynced now
 synced-of X before now h = synced-last h.between now h.last
 
-some-stays : (text : List ℕ) (a b : Told) → (text ≢ []) → HeadStays (Ok text) a b → head_in b ≡ head_in a
-some-stays [] a b some stays = absurd (some refl)
-some-stays (x ∷ text) a b some stays = stays
+-- words are refused for no failed write
+unwritten : (why : Refusal) → IsOfWords (Err why) → refusal_kind why ≡ OfWrite → ⊥
+unwritten why words e = (let w : word_kinds OfWrite ≡ true = ap word_kinds (sym e) ∙ words in cc)
+
+-- a status with details is no end of a command that was done, and prints as want of memory does
+detailed-undone : (s : Status) → has_details s ≡ true → is_done s ≡ false
+detailed-undone status.Ok h = absurd cc
+detailed-undone status.Rule h = refl
+detailed-undone status.Usage h = refl
+detailed-undone status.StoreFault h = refl
+detailed-undone status.Missing h = refl
+detailed-undone status.BadBlock h = refl
+detailed-undone status.ReadFault h = refl
+detailed-undone status.WriteFault h = absurd cc
+detailed-undone status.Clash h = refl
+detailed-undone status.Memory h = refl
+detailed-undone status.NotReady h = refl
+
+detailed-prints : (IsText : List ℕ → Type 0) (more : Bool) (held now : streams.Told) (s : Status) → has_details s ≡ true → PrintsAt IsText more s held now → PrintsAt IsText more status.Memory held now
+detailed-prints IsText more held now status.Ok h p = absurd cc
+detailed-prints IsText more held now status.Rule h p = p
+detailed-prints IsText more held now status.Usage h p = p
+detailed-prints IsText more held now status.StoreFault h p = p
+detailed-prints IsText more held now status.Missing h p = p
+detailed-prints IsText more held now status.BadBlock h p = p
+detailed-prints IsText more held now status.ReadFault h p = p
+detailed-prints IsText more held now status.WriteFault h p = absurd cc
+detailed-prints IsText more held now status.Clash h p = p
+detailed-prints IsText more held now status.Memory h p = p
+detailed-prints IsText more held now status.NotReady h p = p
+
+-- what stands stays, where it is asked for
+still-stands : (X : List ℕ → List ℕ) (N : List ℕ → ℕ) (a b : Told) (needs : Bool) (s : Standing) → KeepsGood X a b → head_in b ≡ head_in a → StandsIf X N needs a s → StandsIf X N needs b s
+still-stands X N a b true s good head stands = stands-kept X N a b s good head stands
+still-stands X N None b false s good head stands = absurd (let e : false ≡ true = stands in cc)
+still-stands X N (Some a) None false s good head stands = absurd (let e : false ≡ true = good.alike in cc)
+still-stands X N (Some a) (Some b) false s good head stands = refl
+
+-- a command that ended as a reply says
+pub err-ends : (e : Result (List ℕ) Refusal) (why : Refusal) (held now : streams.Told) → EndsBy e (Err why) held now → Err why ≡ e
+err-ends (Ok text) why held now h = absurd (let k = h.0 in cc)
+err-ends (Err w) why held now h = (let k : why ≡ w = (let same = h.0 in cc) in ap (λ (r : Refusal). Err r) k)
+
+pub printed-all : (e : Result (List ℕ) Refusal) (done : Result (Unit {0}) Refusal) (held now : streams.Told) → EndsBy e done held now → PrintsAll e held now
+printed-all (Ok text) done held now h = h.1
+printed-all (Err why) done held now h = h.1
+
+-- neither `init` nor `add` looks for a block
+makes-finds : (done : Result (Unit {0}) Refusal) → IsOf (may_end MakesReady) done → FindsAll (ended done)
+makes-finds (Ok done) h = (λ e. cc, λ e. cc)
+makes-finds (Err why) h = kind-finds why (of-none (may_end MakesReady) (refusal_kind why) OfMissing h refl) (of-none (may_end MakesReady) (refusal_kind why) OfBadBlock h refl)
+
+adds-finds : (done : Result (Unit {0}) Refusal) → IsOf (may_end AddsInput) done → FindsAll (ended done)
+adds-finds (Ok done) h = (λ e. cc, λ e. cc)
+adds-finds (Err why) h = kind-finds why (of-none (may_end AddsInput) (refusal_kind why) OfMissing h refl) (of-none (may_end AddsInput) (refusal_kind why) OfBadBlock h refl)
 
 -- ---- what goes to `errors`
 
@@ -194,67 +246,59 @@ module _ (Says : List ℕ → Type 0) where
   by-why A why given (inl t) go memory = subst A (sym t.0) (go t.1)
   by-why A why given (inr t) go memory = subst A (sym t.1) memory
 
-  module _ (given : Status) (held held_now : streams.Told) (w v : ℕ) where
-    pub says-plain : (done : Result (List ℕ) Refusal) → Finishes Says done given held held_now w v → SaysPlain Says given
-    says-plain (Ok text) (inl p) = λ e. subst (λ s. Says (plain_line s)) (sym p.status_is) p.says
-    says-plain (Ok text) (inr c) = λ e. subst (λ s. Says (plain_line s)) (sym c.status_is) c.says
-    says-plain (Err why) t = why-plain why given t.tells
+  -- the reply's end is told
+  pub ok-ends : (e : Result (List ℕ) Refusal) (given : Status) (held now : streams.Told) → (given ≡ status.Ok) × Says [] → EndsBy e (Ok tt) held now → (given ≡ ended e) × Says (said e)
+  ok-ends (Ok text) given held now t h = t
+  ok-ends (Err why) given held now t h = absurd (let k = h.0 in cc)
 
-    pub is-refused : (done : Result (List ℕ) Refusal) (why : Refusal) → Finishes Says done given held held_now w v → (done ≡ Err why) ⊎ (done ≡ Err no_memory) → IsRefusedBy Says why given
-    is-refused done why f (inl is) = (let t = subst (λ done. Finishes Says done given held held_now w v) is f in refused-told why given t.tells)
-    is-refused done why f (inr is) = (let t = subst (λ done. Finishes Says done given held held_now w v) is f in inl (memory-told given t.tells))
+  module _ (given : Status) where
+    pub says-plain : (done : Result (Unit {0}) Refusal) → TellsEnd Says done given → SaysPlain Says given
+    says-plain (Ok done) t = λ e. subst (λ s. Says (plain_line s)) (sym t.0) t.1
+    says-plain (Err why) t = why-plain why given t
 
-    pub write-told : (done : Result (List ℕ) Refusal) → Finishes Says done given held held_now w v → w < v → given ≡ status.WriteFault
-    write-told (Ok text) (inl p) more = (let e = p.counts.still refl in absurd (omega (arith, e, more)))
-    write-told (Ok text) (inr c) more = c.status_is
-    write-told (Err why) t more = (let e = t.counts.still refl in absurd (omega (arith, e, more)))
+    pub is-refused : (done : Result (Unit {0}) Refusal) (why : Refusal) → TellsEnd Says done given → (done ≡ Err why) ⊎ (done ≡ Err no_memory) → IsRefusedBy Says why given
+    is-refused done why f (inl is) = refused-told why given (subst (λ d. TellsEnd Says d given) is f)
+    is-refused done why f (inr is) = inl (memory-told given (subst (λ d. TellsEnd Says d given) is f))
 
-    module _ (X : List ℕ → List ℕ) (N : List ℕ → ℕ) (a b : Seen) (l m : streams.Told) (i j t0 t1 : ℕ) where
+    -- a command that was done so ends so
+    ended-told : (A : Status → Type 0) (done : Result (Unit {0}) Refusal) → TellsEnd Says done given → A (ended done) → A status.Memory → A given
+    ended-told A (Ok done) t h memory = subst A (sym t.0) h
+    ended-told A (Err why) t h memory = by-why A why given t (λ says. h) memory
+
+    module _ (X : List ℕ → List ℕ) (N : List ℕ → ℕ) (a b : Around) where
       -- what each status shows
       abbrev pub StatusShows : Result Command Refusal → Status → Type 0
       StatusShows asked status.Ok = ⊤
-      StatusShows asked status.Rule = IsRule Says asked a.told l m
+      StatusShows asked status.Rule = IsRule Says asked a.store.told a.left b.left
       StatusShows asked status.Usage = asked ≡ Err refusal.Usage
-      StatusShows asked status.StoreFault = ShowsFailure a b
-      StatusShows asked status.Missing = (cid : Cid) × ShowsMissing cid a b × Says (missing_line cid)
-      StatusShows asked status.BadBlock = (cid : Cid) × (role : Role) × ShowsBadBlock X (IsBadIn X N a.told b.told) cid role a b × Says (bad_block_line cid role)
-      StatusShows asked status.ReadFault = Rose i j
-      StatusShows asked status.WriteFault = Rose w v
-      StatusShows asked status.Clash = (cid : Cid) × (held : List ℕ) × (bytes : List ℕ) × ShowsClash X cid held bytes a b × Says (clash_line cid held bytes)
+      StatusShows asked status.StoreFault = ShowsFailure a.store b.store
+      StatusShows asked status.Missing = (cid : Cid) × ShowsMissing cid a.store b.store × Says (missing_line cid)
+      StatusShows asked status.BadBlock = (cid : Cid) × (role : Role) × ShowsBadBlock X (IsBadIn X N a.store.told b.store.told) cid role a.store b.store × Says (bad_block_line cid role)
+      StatusShows asked status.ReadFault = Rose a.reads b.reads
+      StatusShows asked status.WriteFault = Rose a.writes b.writes
+      StatusShows asked status.Clash = (cid : Cid) × (held : List ℕ) × (bytes : List ℕ) × ShowsClash X cid held bytes a.store b.store × Says (clash_line cid held bytes)
       StatusShows asked status.Memory = ⊤
-      StatusShows asked status.NotReady = IsNotReady Says asked a.told
+      StatusShows asked status.NotReady = IsNotReady Says asked a.store.told
 
-      rule-in : (command : Command) (rule : Rule) → may_answer (family_of command) (refusal_kind (refusal.Rule rule)) ≡ true → AddsFor X a.told (Ok command) (Err (refusal.Rule rule)) l m
-          → RuleOf Says (Ok command) (refusal.Rule rule) a.told l m
-      rule-in (Init p) rule h adds = absurd cc
-      rule-in (Add only_hash) rule h adds = (ap refusal.Rule adds.0, adds.1)
-      rule-in (WriteInput how path) rule h adds = inr (rule, refl)
-      rule-in (At ask path) rule h adds = (rule, refl)
-
-      long-in : (command : Command) → may_answer (family_of command) OfLongInput ≡ true → AddsFor X a.told (Ok command) (Err refusal.InputTooLong) l m
-          → RuleOf Says (Ok command) refusal.InputTooLong a.told l m
-      long-in (Init p) h adds = absurd cc
-      long-in (Add only_hash) h adds = absurd cc
-      long-in (WriteInput how path) h adds = inl (refl, adds)
-      long-in (At ask path) h adds = absurd cc
-
-      works-show : (command : Command) (why : Refusal) → Works X N command (Err why) a b l m i j t0 t1 → Says (line_of why) → StatusShows (Ok command) (status_of why)
-      works-show command (refusal.Rule rule) h says = (refusal.Rule rule, refl, says, rule-in command rule h.kinds h.adds)
-      works-show command (refusal.BadPath path) h says = absurd (no-path command h.kinds)
-      works-show command refusal.Usage h says = absurd (no-usage command h.kinds)
-      works-show command refusal.InputTooLong h says = (refusal.InputTooLong, refl, says, long-in command h.kinds h.adds)
-      works-show command (refusal.Ready reason) h says = (reason, says, h.ready)
-      works-show command refusal.Read h says = h.counts.rose refl
-      works-show command refusal.Write h says = absurd (no-write command h.kinds)
-      works-show command (refusal.Store fault.Failed) h says = h.cause
-      works-show command (refusal.Store (fault.Damaged cid)) h says = h.cause
-      works-show command (refusal.Store (fault.Missing cid)) h says = (cid, h.cause, says)
-      works-show command (refusal.Store (fault.BadBlock cid role)) h says = (cid, role, h.cause, says)
-      works-show command (refusal.Store (fault.Clash cid first second)) h says = (cid, first, second, h.cause, says)
-      works-show command (refusal.Store fault.Memory) h says = tt
+      does-show : (command : Command) (why : Refusal) → Does X N command (Err why) a b → Says (line_of why) → StatusShows (Ok command) (status_of why)
+      does-show command (refusal.Rule rule) h says = (refusal.Rule rule, refl, says, h.rule refl)
+      does-show command (refusal.Dag rule) h says = (refusal.Dag rule, refl, says, h.rule refl)
+      does-show command (refusal.BadPath path) h says = absurd (no-path command h.kinds)
+      does-show command refusal.Usage h says = absurd (no-usage command h.kinds)
+      does-show command refusal.InputTooLong h says = (refusal.InputTooLong, refl, says, h.rule refl)
+      does-show command (refusal.Ready reason) h says = (reason, says, h.ready)
+      does-show command refusal.Read h says = h.reads.rose refl
+      does-show command refusal.Write h says = h.writes.rose refl
+      does-show command (refusal.Store fault.Failed) h says = h.cause
+      does-show command (refusal.Store (fault.Damaged cid)) h says = h.cause
+      does-show command (refusal.Store (fault.Missing cid)) h says = (cid, h.cause, says)
+      does-show command (refusal.Store (fault.BadBlock cid role)) h says = (cid, role, h.cause, says)
+      does-show command (refusal.Store (fault.Clash cid first second)) h says = (cid, first, second, h.cause, says)
+      does-show command (refusal.Store fault.Memory) h says = tt
 
       word-shows : (why : Refusal) → word_kinds (refusal_kind why) ≡ true → Says (line_of why) → StatusShows (Err why) (status_of why)
       word-shows (refusal.Rule rule) h says = absurd cc
+      word-shows (refusal.Dag rule) h says = absurd cc
       word-shows (refusal.BadPath path) h says = (refusal.BadPath path, refl, says, refl)
       word-shows refusal.Usage h says = refl
       word-shows refusal.InputTooLong h says = absurd cc
@@ -268,7 +312,7 @@ module _ (Says : List ℕ → Type 0) where
       word-shows (refusal.Store (fault.Clash cid first second)) h says = absurd cc
       word-shows (refusal.Store fault.Memory) h says = tt
 
-      idle-shows : (asked why : Refusal) (done : Result (List ℕ) Refusal) → done ≡ Err why → word_kinds (refusal_kind asked) ≡ true → (done ≡ Err asked) ⊎ (done ≡ Err no_memory) → Says (line_of why)
+      idle-shows : (asked why : Refusal) (done : Result (Unit {0}) Refusal) → done ≡ Err why → word_kinds (refusal_kind asked) ≡ true → (done ≡ Err asked) ⊎ (done ≡ Err no_memory) → Says (line_of why)
           → StatusShows (Err asked) (status_of why)
       idle-shows asked why done is h (inl same) says =
           let e : why ≡ asked = cc in
@@ -277,11 +321,10 @@ module _ (Says : List ℕ → Type 0) where
           let e : why ≡ no_memory = cc in
           subst (λ w. StatusShows (Err asked) (status_of w)) (sym e) tt
 
-      pub shows : (asked : Result Command Refusal) (done : Result (List ℕ) Refusal) → IsOfWords asked → Serves X N asked done a b l m i j t0 t1 → Finishes Says done given held held_now w v → StatusShows asked given
-      shows asked (Ok text) words s (inl p) = subst (StatusShows asked) (sym p.status_is) tt
-      shows asked (Ok text) words s (inr c) = subst (StatusShows asked) (sym c.status_is) (c.counts.rose refl)
-      shows (Ok command) (Err why) words s t = by-why (StatusShows (Ok command)) why given t.tells (works-show command why s) tt
-      shows (Err asked) (Err why) words s t = by-why (StatusShows (Err asked)) why given t.tells (idle-shows asked why (Err why) refl words s.refused) tt
+      pub shows : (asked : Result Command Refusal) (done : Result (Unit {0}) Refusal) → IsOfWords asked → Serves X N asked done a b → TellsEnd Says done given → StatusShows asked given
+      shows asked (Ok done) words s t = subst (StatusShows asked) (sym t.0) tt
+      shows (Ok command) (Err why) words s t = by-why (StatusShows (Ok command)) why given t (does-show command why s) tt
+      shows (Err asked) (Err why) words s t = by-why (StatusShows (Err asked)) why given t (idle-shows asked why (Err why) refl words s.refused) tt
 
       -- ---- no fault is passed over
 
@@ -290,118 +333,111 @@ module _ (Says : List ℕ → Type 0) where
       by-fault why want (inl t) (inr is) = inr (t.0 ∙ is)
       by-fault why want (inr t) is = inr t.1
 
-      pub faults-told : (asked : Result Command Refusal) (done : Result (List ℕ) Refusal) → Serves X N asked done a b l m i j t0 t1 → Finishes Says done given held held_now w v → a.faults < b.faults
+      pub faults-told : (asked : Result Command Refusal) (done : Result (Unit {0}) Refusal) → Serves X N asked done a b → TellsEnd Says done given → a.store.faults < b.store.faults
           → (given ≡ status.StoreFault) ⊎ (given ≡ status.Memory)
-      faults-told (Err asked) done s f more = (let e = ap (λ (x : Seen). x.faults) s.seen in absurd (omega (arith, e, more)))
-      faults-told (Ok command) (Ok text) s f more = (let e = s.cause.faults in absurd (omega (arith, e, more)))
-      faults-told (Ok command) (Err why) s t more = by-fault why status.StoreFault t.tells (failure-of X (IsBadIn X N a.told b.told) a b why s.cause more)
+      faults-told (Err asked) done s t more = (let e = ap (λ (x : Around). x.store.faults) s.same in absurd (omega (arith, e, more)))
+      faults-told (Ok command) (Ok done) s t more = (let e = s.cause.faults in absurd (omega (arith, e, more)))
+      faults-told (Ok command) (Err why) s t more = by-fault why status.StoreFault t (failure-of X (IsBadIn X N a.store.told b.store.told) a.store b.store why s.cause more)
 
-      pub clashes-told : (asked : Result Command Refusal) (done : Result (List ℕ) Refusal) → Serves X N asked done a b l m i j t0 t1 → Finishes Says done given held held_now w v → a.clashes < b.clashes
+      pub clashes-told : (asked : Result Command Refusal) (done : Result (Unit {0}) Refusal) → Serves X N asked done a b → TellsEnd Says done given → a.store.clashes < b.store.clashes
           → (given ≡ status.Clash) ⊎ (given ≡ status.Memory)
-      clashes-told (Err asked) done s f more = (let e = ap (λ (x : Seen). x.clashes) s.seen in absurd (omega (arith, e, more)))
-      clashes-told (Ok command) (Ok text) s f more = (let e = s.cause.clashes in absurd (omega (arith, e, more)))
-      clashes-told (Ok command) (Err why) s t more = by-fault why status.Clash t.tells (clash-of X (IsBadIn X N a.told b.told) a b why s.cause more)
+      clashes-told (Err asked) done s t more = (let e = ap (λ (x : Around). x.store.clashes) s.same in absurd (omega (arith, e, more)))
+      clashes-told (Ok command) (Ok done) s t more = (let e = s.cause.clashes in absurd (omega (arith, e, more)))
+      clashes-told (Ok command) (Err why) s t more = by-fault why status.Clash t (clash-of X (IsBadIn X N a.store.told b.store.told) a.store b.store why s.cause more)
 
       reading : (why : Refusal) → TellsWhy Says why given → why ≡ refusal.Read → given ≡ status.ReadFault
       reading why (inl t) is = t.0 ∙ ap status_of is
       reading why (inr t) is = (let e : false ≡ true = ap (λ w. has_details (status_of w)) (sym is) ∙ t.0 in absurd cc)
 
-      pub read-told : (asked : Result Command Refusal) (done : Result (List ℕ) Refusal) → Serves X N asked done a b l m i j t0 t1 → Finishes Says done given held held_now w v → i < j → given ≡ status.ReadFault
-      read-told (Err asked) done s f more = (let e = s.unread in absurd (omega (arith, e, more)))
-      read-told (Ok command) (Ok text) s f more = (let e = s.counts.still refl in absurd (omega (arith, e, more)))
-      read-told (Ok command) (Err why) s t more = reading why t.tells (read-of why i j s.counts more)
+      writing : (why : Refusal) → TellsWhy Says why given → why ≡ refusal.Write → given ≡ status.WriteFault
+      writing why (inl t) is = t.0 ∙ ap status_of is
+      writing why (inr t) is = (let e : false ≡ true = ap (λ w. has_details (status_of w)) (sym is) ∙ t.0 in absurd cc)
+
+      pub read-told : (asked : Result Command Refusal) (done : Result (Unit {0}) Refusal) → Serves X N asked done a b → TellsEnd Says done given → a.reads < b.reads → given ≡ status.ReadFault
+      read-told (Err asked) done s t more = (let e = ap (λ (x : Around). x.reads) s.same in absurd (omega (arith, e, more)))
+      read-told (Ok command) (Ok done) s t more = (let e = s.reads.still refl in absurd (omega (arith, e, more)))
+      read-told (Ok command) (Err why) s t more = reading why t (read-of why a.reads b.reads s.reads more)
+
+      pub write-told : (asked : Result Command Refusal) (done : Result (Unit {0}) Refusal) → Serves X N asked done a b → TellsEnd Says done given → a.writes < b.writes → given ≡ status.WriteFault
+      write-told (Err asked) done s t more = (let e = ap (λ (x : Around). x.writes) s.same in absurd (omega (arith, e, more)))
+      write-told (Ok command) (Ok done) s t more = (let e = s.writes.still refl in absurd (omega (arith, e, more)))
+      write-told (Ok command) (Err why) s t more = writing why t (write-of why a.writes b.writes s.writes more)
 
       -- ---- no block is called bad before one was touched
 
       -- words are refused for no block
-      no-blame : (asked why : Refusal) (done : Result (List ℕ) Refusal) → done ≡ Err why → word_kinds (refusal_kind asked) ≡ true → (done ≡ Err asked) ⊎ (done ≡ Err no_memory) → status_of why ≢ status.BadBlock
+      no-blame : (asked why : Refusal) (done : Result (Unit {0}) Refusal) → done ≡ Err why → word_kinds (refusal_kind asked) ≡ true → (done ≡ Err asked) ⊎ (done ≡ Err no_memory) → status_of why ≢ status.BadBlock
       no-blame asked why done is words (inl same) = λ bad. (let e : why ≡ asked = (let k : Err why ≡ Err asked = sym is ∙ same in cc) in (words-whole asked words).1 (ap status_of (sym e) ∙ bad))
       no-blame asked why done is words (inr same) = λ bad. (let e : why ≡ no_memory = (let k : Err why ≡ Err no_memory = sym is ∙ same in cc) in let k : status.Memory ≡ status.BadBlock = ap status_of (sym e) ∙ bad in cc)
 
-      pub blamed-told : (asked : Result Command Refusal) (done : Result (List ℕ) Refusal) → IsOfWords asked → Serves X N asked done a b l m i j t0 t1 → Finishes Says done given held held_now w v → given ≡ status.BadBlock → t0 < t1
-      blamed-told asked (Ok text) words h (inl q) is = absurd (let k : status.Ok ≡ status.BadBlock = sym q.status_is ∙ is in cc)
-      blamed-told asked (Ok text) words h (inr c) is = absurd (let k : status.WriteFault ≡ status.BadBlock = sym c.status_is ∙ is in cc)
-      blamed-told (Ok command) (Err why) words h t is = by t.tells
+      pub blamed-told : (asked : Result Command Refusal) (done : Result (Unit {0}) Refusal) → IsOfWords asked → Serves X N asked done a b → TellsEnd Says done given → given ≡ status.BadBlock → a.touches < b.touches
+      blamed-told asked (Ok done) words h t is = absurd (let k : status.Ok ≡ status.BadBlock = sym t.0 ∙ is in cc)
+      blamed-told (Ok command) (Err why) words h t is = by t
         where
-          by : TellsWhy Says why given → t0 < t1
+          by : TellsWhy Says why given → a.touches < b.touches
           by (inl told) = h.touched (blaming-of why (sym told.0 ∙ is))
           by (inr told) = absurd (let k : status.Memory ≡ status.BadBlock = sym told.1 ∙ is in cc)
-      blamed-told (Err asked) (Err why) words h t is = by t.tells
+      blamed-told (Err asked) (Err why) words h t is = by t
         where
-          by : TellsWhy Says why given → t0 < t1
+          by : TellsWhy Says why given → a.touches < b.touches
           by (inl told) = absurd (no-blame asked why (Err why) refl words h.refused (sym told.0 ∙ is))
           by (inr told) = absurd (let k : status.Memory ≡ status.BadBlock = sym told.1 ∙ is in cc)
 
       -- ---- what is printed, and what is left
 
-      idle-cut : (asked why : Refusal) (done : Result (List ℕ) Refusal) → done ≡ Err why → word_kinds (refusal_kind asked) ≡ true → (done ≡ Err asked) ⊎ (done ≡ Err no_memory) → refusal_kind why ≢ OfWrite
-      idle-cut asked why done is words (inl same) = λ e.
-          let k : why ≡ asked = cc in
-          let w : word_kinds OfWrite ≡ true = ap word_kinds (sym e ∙ ap refusal_kind k) ∙ words in absurd cc
-      idle-cut asked why done is words (inr same) = λ e.
-          let k : why ≡ no_memory = cc in
-          let w : OfWrite ≡ refusal_kind no_memory = sym e ∙ ap refusal_kind k in absurd cc
+      -- where a line finds no memory, what was printed is as before
+      by-end : (IsText : List ℕ → Type 0) (more : Bool) (done : Result (Unit {0}) Refusal) → TellsEnd Says done given → PrintsAt IsText more (ended done) a.held b.held → PrintsAt IsText more given a.held b.held
+      by-end IsText more (Ok done) t p = subst (λ g. PrintsAt IsText more g a.held b.held) (sym t.0) p
+      by-end IsText more (Err why) (inl t) p = subst (λ g. PrintsAt IsText more g a.held b.held) (sym t.0) p
+      by-end IsText more (Err why) (inr t) p = subst (λ g. PrintsAt IsText more g a.held b.held) (sym t.1) (detailed-prints IsText more a.held b.held (status_of why) t.0 p)
 
-      text-of : (asked : Result Command Refusal) (text : List ℕ) → Serves X N asked (Ok text) a b l m i j t0 t1 → IsTextOf X a.told asked l text
-      text-of (Ok (Init p)) text s = tt
-      text-of (Ok (Add only_hash)) text s = s.adds
-      text-of (Ok (WriteInput how path)) text s = tt
-      text-of (Ok (At ask path)) text s = tt
-      text-of (Err why) text s = tt
+      same-done : (done : Result (Unit {0}) Refusal) → TellsEnd Says done given → is_done given ≡ is_done (ended done)
+      same-done (Ok done) t = ap is_done t.0
+      same-done (Err why) (inl t) = ap is_done t.0
+      same-done (Err why) (inr t) = ap is_done t.1 ∙ sym (detailed-undone (status_of why) t.0)
 
-      no-cut : (asked : Result Command Refusal) (why : Refusal) → IsOfWords asked → Serves X N asked (Err why) a b l m i j t0 t1 → refusal_kind why ≢ OfWrite
-      no-cut (Ok command) why words s = λ e. no-write command (subst (λ k. may_answer (family_of command) k ≡ true) e s.kinds)
-      no-cut (Err asked) why words s = idle-cut asked why (Err why) refl words s.refused
+      -- words that are refused print nothing
+      idle-prints : (why : Refusal) (done : Result (Unit {0}) Refusal) → IsOfWords (Err why) → (done ≡ Err why) ⊎ (done ≡ Err no_memory) → b ≡ a → PrintsAt (λ text. ⊤) false (ended done) a.held b.held
+      idle-prints why done words (inl is) same =
+          subst (λ d. PrintsAt (λ text. ⊤) false (ended d) a.held b.held) (sym is) ((quiet-of (λ text. ⊤) false why (λ e. unwritten why words e)).prints a.held b.held (ap (λ (x : Around). x.held) same))
+      idle-prints why done words (inr is) same = subst (λ d. PrintsAt (λ text. ⊤) false (ended d) a.held b.held) (sym is) (ap (λ (x : Around). x.held) same)
 
-      quiet-told : (IsText : List ℕ → Type 0) (why : Refusal) → TellsWhy Says why given → refusal_kind why ≢ OfWrite → IsQuiet IsText held held_now given
-      quiet-told IsText why t other = by-why (IsQuiet IsText held held_now) why given t (λ says. quiet-of IsText held held_now why other) (memory-quiet IsText held held_now)
+      pub prints-told : (asked : Result Command Refusal) (done : Result (Unit {0}) Refusal) → IsOfWords asked → Serves X N asked done a b → TellsEnd Says done given
+          → PrintsAt (IsTextOf X a.store.told asked a.left) (of_command flows false asked) given a.held b.held
+      prints-told (Ok command) done words s t = by-end (IsTextOf X a.store.told (Ok command) a.left) (flows command) done t s.prints
+      prints-told (Err why) done words s t = by-end (λ text. ⊤) false done t (idle-prints why done words s.refused s.same)
 
-      pub prints-told : (asked : Result Command Refusal) (done : Result (List ℕ) Refusal) → IsOfWords asked → Serves X N asked done a b l m i j t0 t1 → Finishes Says done given held held_now w v
-          → PrintsAt (IsTextOf X a.told asked l) given held held_now
-      prints-told asked (Ok text) words s (inl p) = subst (λ g. PrintsAt (IsTextOf X a.told asked l) g held held_now) (sym p.status_is) (text, text-of asked text s, p.printed)
-      prints-told asked (Ok text) words s (inr c) = subst (λ g. PrintsAt (IsTextOf X a.told asked l) g held held_now) (sym c.status_is) (text, text-of asked text s, c.printed)
-      prints-told asked (Err why) words s t = (let q = quiet-told (IsTextOf X a.told asked l) why t.tells (no-cut asked why words s) in q.quiet t.nothing)
+      pub writes-told : (asked : Result Command Refusal) (done : Result (Unit {0}) Refusal) → Serves X N asked done a b → TellsEnd Says done given → WritesFor X asked (is_done given) a.store.told b.store.told
+      writes-told (Err asked) done s t = ap (λ (x : Around). x.store.told) s.same
+      writes-told (Ok command) done s t = subst (λ d. WritesAs X (command_writes command) d a.store.told b.store.told) (sym (same-done done t)) s.leaves.writes
 
-      same-writes : (asked : Refusal) (done : Bool) → b.told ≡ a.told → WritesFor X (Err asked) done a.told b.told
-      same-writes asked done e = e
-
-      pub writes-told : (asked : Result Command Refusal) (done : Result (List ℕ) Refusal) → IsOfWords asked → Serves X N asked done a b l m i j t0 t1 → Finishes Says done given held held_now w v
-          → WritesFor X asked (is_done given) a.told b.told
-      writes-told (Err asked) done words s f = ap (λ (x : Seen). x.told) s.seen
-      writes-told (Ok command) (Ok text) words s (inl p) = subst (λ g. WritesAs X (command_writes command) (is_done g) a.told b.told) (sym p.status_is) s.leaves.writes
-      writes-told (Ok command) (Ok text) words s (inr c) = subst (λ g. WritesAs X (command_writes command) (is_done g) a.told b.told) (sym c.status_is) s.leaves.writes
-      writes-told (Ok command) (Err why) words s t =
-          let q = quiet-told (λ text. ⊤) why t.tells (no-cut (Ok command) why words s) in
-          subst (λ d. WritesAs X (command_writes command) d a.told b.told) (sym q.undone) s.leaves.writes
-
-      pub head-told : (asked : Result Command Refusal) (done : Result (List ℕ) Refusal) → Serves X N asked done a b l m i j t0 t1 → Finishes Says done given held held_now w v → given ≢ status.Ok → head_in b.told ≡ head_in a.told
-      head-told (Err asked) done s f not = ap (λ (x : Seen). head_in x.told) s.seen
-      head-told (Ok command) (Ok text) s (inl p) not = absurd (not p.status_is)
-      head-told (Ok command) (Ok text) s (inr c) not = some-stays text a.told b.told c.some s.leaves.head
+      pub head-told : (asked : Result Command Refusal) (done : Result (Unit {0}) Refusal) → Serves X N asked done a b → TellsEnd Says done given → given ≢ status.Ok → head_in b.store.told ≡ head_in a.store.told
+      head-told (Err asked) done s t not = ap (λ (x : Around). head_in x.store.told) s.same
+      head-told (Ok command) (Ok done) s t not = absurd (not t.0)
       head-told (Ok command) (Err why) s t not = s.leaves.head
 
-      was-ok : (done : Result (List ℕ) Refusal) → Finishes Says done given held held_now w v → given ≡ status.Ok → is_ok done ≡ true
-      was-ok (Ok text) f is = refl
-      was-ok (Err why) t is = absurd (by t.tells)
-        where
-          by : TellsWhy Says why given → ⊥
-          by (inl h) = not-ok why (sym h.0 ∙ is)
-          by (inr h) = (let e : status.Memory ≡ status.Ok = sym h.1 ∙ is in cc)
+      was-ok : (done : Result (Unit {0}) Refusal) → TellsEnd Says done given → given ≡ status.Ok → is_done (ended done) ≡ true
+      was-ok (Ok done) t is = refl
+      was-ok (Err why) (inl t) is = absurd (not-ok why (sym t.0 ∙ is))
+      was-ok (Err why) (inr t) is = absurd (let e : status.Memory ≡ status.Ok = sym t.1 ∙ is in cc)
 
-      pub synced-told : (asked : Result Command Refusal) (done : Result (List ℕ) Refusal) → Serves X N asked done a b l m i j t0 t1 → Finishes Says done given held held_now w v → given ≡ status.Ok → IsSyncedFor asked b.told
-      synced-told (Err asked) done s f is = tt
-      synced-told (Ok (Init p)) done s f is = tt
-      synced-told (Ok (Add true)) done s f is = tt
-      synced-told (Ok (Add false)) done s f is = synced-of X a.told b.told (subst (λ d. WritesAs X (command_writes (Add false)) d a.told b.told) (was-ok done f is) s.leaves.writes)
-      synced-told (Ok (WriteInput how path)) done s f is = tt
-      synced-told (Ok (At ask path)) done s f is = tt
+      pub synced-told : (asked : Result Command Refusal) (done : Result (Unit {0}) Refusal) → Serves X N asked done a b → TellsEnd Says done given → given ≡ status.Ok → IsSyncedFor asked b.store.told
+      synced-told (Err asked) done s t is = tt
+      synced-told (Ok (Init p)) done s t is = tt
+      synced-told (Ok (Add true)) done s t is = tt
+      synced-told (Ok (Add false)) done s t is =
+          synced-of X a.store.told b.store.told (subst (λ d. WritesAs X (command_writes (Add false)) d a.store.told b.store.told) (was-ok done t is) s.leaves.writes)
+      synced-told (Ok (WriteInput how path)) done s t is = tt
+      synced-told (Ok (At ask path)) done s t is = tt
+      synced-told (Ok (Read offset count path)) done s t is = tt
+      synced-told (Ok (Cat path)) done s t is = tt
 
-      pub good-told : (asked : Result Command Refusal) (done : Result (List ℕ) Refusal) → Serves X N asked done a b l m i j t0 t1 → KeepsGood X a.told b.told
-      good-told (Err asked) done s = KeepsGood-same X a.told b.told (ap (λ (x : Seen). x.told) s.seen)
+      pub good-told : (asked : Result Command Refusal) (done : Result (Unit {0}) Refusal) → Serves X N asked done a b → KeepsGood X a.store.told b.store.told
+      good-told (Err asked) done s = KeepsGood-same X a.store.told b.store.told (ap (λ (x : Around). x.store.told) s.same)
       good-told (Ok command) done s = s.leaves.good
 
-      pub told-same : (asked : Result Command Refusal) (done : Result (List ℕ) Refusal) → Serves X N asked done a b l m i j t0 t1 → of_command only_reads true asked ≡ true → b.told ≡ a.told
-      told-same (Err asked) done s is = ap (λ (x : Seen). x.told) s.seen
+      pub told-same : (asked : Result Command Refusal) (done : Result (Unit {0}) Refusal) → Serves X N asked done a b → of_command only_reads true asked ≡ true → b.store.told ≡ a.store.told
+      told-same (Err asked) done s is = ap (λ (x : Around). x.store.told) s.same
       told-same (Ok (Init p)) done s is = absurd cc
       told-same (Ok (Add true)) done s is = s.leaves.writes
       told-same (Ok (Add false)) done s is = absurd cc
@@ -409,100 +445,72 @@ module _ (Says : List ℕ → Type 0) where
       told-same (Ok (At (Ls long) path)) done s is = s.leaves.writes
       told-same (Ok (At Stat path)) done s is = s.leaves.writes
       told-same (Ok (At (Edits edit) path)) done s is = absurd cc
+      told-same (Ok (Read offset count path)) done s is = s.leaves.writes
+      told-same (Ok (Cat path)) done s is = s.leaves.writes
 
-      pub idle-told : (asked : Result Command Refusal) (done : Result (List ℕ) Refusal) → Serves X N asked done a b l m i j t0 t1 → (p : Profile) (es : Entries) (bytes : List ℕ) → NamesOver X N a.told p es → HasInput asked l bytes i j → Stood a.faults b.faults
-          → of_command (is_idle bytes es) false asked ≡ true → b.told ≡ a.told
+      pub idle-told : (asked : Result Command Refusal) (done : Result (Unit {0}) Refusal) → Serves X N asked done a b → (p : Profile) (es : Entries) (bytes : List ℕ) → NamesOver X N a.store.told p es → HasInput asked a.left bytes a.reads b.reads → Stood a.store.faults b.store.faults
+          → of_command (is_idle bytes es) false asked ≡ true → b.store.told ≡ a.store.told
       idle-told (Err asked) done s p es bytes stands input faults is = absurd cc
       idle-told (Ok command) done s p es bytes stands input faults is = s.leaves.idle p es bytes stands (input, faults) is
 
       -- ---- over a store that stands
 
-      answers-of : (asked : Result Command Refusal) (done : Result (List ℕ) Refusal) → Serves X N asked done a b l m i j t0 t1 → (s : Standing) (bytes : List ℕ) → TellsAs X N a.told s → HasInput asked l bytes i j → Calm a b
-          → Answers X N s (reply_to X N asked s bytes) done b.told
-      answers-of (Ok command) done h s bytes stands input calm = h.answers s bytes stands input calm
-      answers-of (Err asked) done h s bytes stands input calm = by h.refused
+      pub replies-told : (asked : Result Command Refusal) (done : Result (Unit {0}) Refusal) → Serves X N asked done a b → TellsEnd Says done given
+          → (world : World) → FindsWorld X N asked a.store.told world → HasInput asked a.left world.input a.reads b.reads → Calm a.store b.store → Stood a.writes b.writes → EndsAs Says X N asked world given a.held b.held b.store.told
+      replies-told (Ok command) done s t world finds input calm write = by done (s.answers world finds input (record { store = calm; output = write })) t (stays done s)
         where
-          now : TellsAs X N b.told s
-          now = subst (λ (x : Seen). TellsAs X N x.told s) (sym h.seen) stands
+          stays : (done : Result (Unit {0}) Refusal) → Does X N command done a b → (why : Refusal) → done ≡ Err why → StandsIf X N (needs_standing command) b.store.told world.standing
+          stays done h why is = still-stands X N a.store.told b.store.told (needs_standing command) world.standing h.leaves.good (subst (λ d. IfErr d (λ why. head_in b.store.told ≡ head_in a.store.told)) is h.leaves.head) finds.stands
 
-          by : (done ≡ Err asked) ⊎ (done ≡ Err no_memory) → Answers X N s (reply_to X N (Err asked) s bytes) done b.told
-          by (inl is) = inr (record { ends_are = is; stands = now; held = tells-none X N b.told s now })
-          by (inr is) = inl (record { ends_are = is; stands = now })
-
-      ends-of : (s : Standing) (reply : Reply) (done : Result (List ℕ) Refusal) → Finishes Says done given held held_now w v → Stood w v → Answers X N s reply done b.told → (is_ok done ≡ false → TellsAs X N b.told s)
-          → EndsAs Says X N s reply given held held_now b.told
-      ends-of s reply (Ok text) (inl p) write (inl x) stays = (let e = x.ends_are in absurd cc)
-      ends-of s reply (Ok text) (inl p) write (inr x) stays =
-          inr (record {
-            status_is = p.status_is ∙ ap ended x.ends_are;
-            says = subst (λ e. Says (said e)) x.ends_are p.says;
-            printed = subst (λ e. PrintsAll e held held_now) x.ends_are p.printed;
-            stands = x.stands;
-            blocks = x.held;
-          })
-      ends-of s reply (Ok text) (inr c) write x stays = (let rose = c.counts.rose refl in absurd (omega (arith, rose, write)))
-      ends-of s reply (Err why) t write (inl x) stays =
-          let e : why ≡ no_memory = (let same = x.ends_are in cc) in
-          let told = memory-told given (subst (λ w. TellsWhy Says w given) e t.tells) in
-          inl (record { status_is = told.0; says = told.1; nothing = t.nothing; stands = x.stands })
-      ends-of s reply (Err why) t write (inr x) stays = by t.tells
+          by : (done : Result (Unit {0}) Refusal) → DoesAnswer X N command world done a.held b.held b.store.told → TellsEnd Says done given → ((why : Refusal) → done ≡ Err why → StandsIf X N (needs_standing command) b.store.told world.standing)
+              → EndsAs Says X N (Ok command) world given a.held b.held b.store.told
+          by (Ok done) (inl x) t stays = absurd (let e = x.ends_are in cc)
+          by (Ok done) (inr x) t stays = inr (record { status_is = (ok-ends (reply X N command world).ends given a.held b.held t x.ends).0; says = (ok-ends (reply X N command world).ends given a.held b.held t x.ends).1; printed = printed-all (reply X N command world).ends (Ok done) a.held b.held x.ends; stands = x.stands; blocks = x.blocks })
+          by (Err why) (inl x) t stays =
+              let e : why ≡ no_memory = (let same = x.ends_are in cc) in
+              let told = memory-told given (subst (λ w. TellsWhy Says w given) e t) in
+              inl (record { status_is = told.0; says = told.1; stands = x.stands })
+          by (Err why) (inr x) (inl told) stays =
+              let is = err-ends (reply X N command world).ends why a.held b.held x.ends in
+              inr (record { status_is = told.0 ∙ ap ended is; says = subst (λ e. Says (said e)) is told.1; printed = printed-all (reply X N command world).ends (Err why) a.held b.held x.ends; stands = x.stands; blocks = x.blocks })
+          by (Err why) (inr x) (inr told) stays = inl (record { status_is = told.1; says = told.2; stands = stays why refl })
+      replies-told (Err asked) done s t world finds input calm write = by s.refused
         where
-          by : TellsWhy Says why given → EndsAs Says X N s reply given held held_now b.told
-          by (inl told) = inr (record {
-            status_is = told.0 ∙ ap ended x.ends_are;
-            says = subst (λ e. Says (said e)) x.ends_are told.1;
-            printed = subst (λ e. PrintsAll e held held_now) x.ends_are t.nothing;
-            stands = x.stands;
-            blocks = x.held;
-          })
-          by (inr told) = inl (record { status_is = told.1; says = told.2; nothing = t.nothing; stands = stays refl })
+          held-same : b.held ≡ a.held
+          held-same = ap (λ (x : Around). x.held) s.same
 
-      stays-of : (asked : Result Command Refusal) (done : Result (List ℕ) Refusal) → Serves X N asked done a b l m i j t0 t1 → (s : Standing) → TellsAs X N a.told s → is_ok done ≡ false → TellsAs X N b.told s
-      stays-of (Err asked) done h s stands is = subst (λ (x : Seen). TellsAs X N x.told s) (sym h.seen) stands
-      stays-of (Ok command) (Ok text) h s stands is = absurd cc
-      stays-of (Ok command) (Err why) h s stands is = stands-kept X N a.told b.told s h.leaves.good h.leaves.head stands
+          stands : TellsAs X N b.store.told world.standing
+          stands = subst (λ (x : Around). TellsAs X N x.store.told world.standing) (sym s.same) finds.stands
 
-      pub replies-told : (asked : Result Command Refusal) (done : Result (List ℕ) Refusal) → Serves X N asked done a b l m i j t0 t1 → Finishes Says done given held held_now w v
-          → (s : Standing) (bytes : List ℕ) → TellsAs X N a.told s → HasInput asked l bytes i j → Calm a b → Stood w v → EndsAs Says X N s (reply_to X N asked s bytes) given held held_now b.told
-      replies-told asked done h f s bytes stands input calm write =
-          ends-of s (reply_to X N asked s bytes) done f write (answers-of asked done h s bytes stands input calm) (stays-of asked done h s stands)
+          by : (done ≡ Err asked) ⊎ (done ≡ Err no_memory) → EndsAs Says X N (Err asked) world given a.held b.held b.store.told
+          by (inl is) = refused (subst (λ d. TellsEnd Says d given) is t)
+            where
+              refused : TellsWhy Says asked given → EndsAs Says X N (Err asked) world given a.held b.held b.store.told
+              refused (inl told) = inr (record { status_is = told.0; says = told.1; printed = held-same; stands = stands; blocks = tells-none X N b.store.told world.standing stands })
+              refused (inr told) = inl (record { status_is = told.1; says = told.2; stands = stands })
+          by (inr is) = (let told = memory-told given (subst (λ d. TellsEnd Says d given) is t) in inl (record { status_is = told.0; says = told.1; stands = stands }))
 
-      -- a part of the reply's text was printed where the output failed
-      pub prefix-told : (asked : Result Command Refusal) (done : Result (List ℕ) Refusal) → IsOfWords asked → Serves X N asked done a b l m i j t0 t1 → Finishes Says done given held held_now w v
-          → (s : Standing) (bytes : List ℕ) → TellsAs X N a.told s → HasInput asked l bytes i j → Calm a b → given ≡ status.WriteFault → PrintsPart (reply_to X N asked s bytes).ends held held_now
-      prefix-told asked (Ok text) words h (inl p) s bytes stands input calm is = (let e : status.Ok ≡ status.WriteFault = sym p.status_is ∙ is in absurd cc)
-      prefix-told asked (Ok text) words h (inr c) s bytes stands input calm is = by (answers-of asked (Ok text) h s bytes stands input calm)
+      -- nothing but the beginning of the reply's text is printed
+      pub prefix-told : (asked : Result Command Refusal) (done : Result (Unit {0}) Refusal) → Serves X N asked done a b
+          → (world : World) → FindsOver X N a.store.told b.store.told asked world → HasInput asked a.left world.input a.reads b.reads → CountsCanRise a.store → PrintsPart (reply_to X N asked world).ends a.held b.held
+      prefix-told (Ok command) done s world finds input room = s.prefix world finds input room
+      prefix-told (Err asked) done s world finds input room = ap (λ (x : Around). x.held) s.same
+
+      -- ---- no block is missing or bad
+
+      pub whole-told : (asked : Result Command Refusal) (done : Result (Unit {0}) Refusal) → IsOfWords asked → Serves X N asked done a b → TellsEnd Says done given
+          → (s : Standing) → of_command needs_standing true asked ≡ true → TellsAs X N a.store.told s → Calm a.store b.store → FindsAll given
+      whole-told (Ok command) done words h t s needs stands calm = ended-told FindsAll done t (h.whole s needs stands calm) (λ e. cc, λ e. cc)
+      whole-told (Err asked) done words h t s needs stands calm = ended-told FindsAll done t (by h.refused) (λ e. cc, λ e. cc)
         where
-          by : Answers X N s (reply_to X N asked s bytes) (Ok text) b.told → PrintsPart (reply_to X N asked s bytes).ends held held_now
-          by (inl x) = (let e = x.ends_are in absurd cc)
-          by (inr x) = subst (λ e. PrintsPart e held held_now) x.ends_are c.printed
-      prefix-told asked (Err why) words h t s bytes stands input calm is =
-          let q = quiet-told (λ text. ⊤) why t.tells (no-cut asked why words h) in
-          let e : false ≡ true = sym q.undone ∙ ap is_done is in absurd cc
+          by : (done ≡ Err asked) ⊎ (done ≡ Err no_memory) → FindsAll (ended done)
+          by (inl is) = subst (λ d. FindsAll (ended d)) (sym is) (words-whole asked words)
+          by (inr is) = subst (λ d. FindsAll (ended d)) (sym is) (λ e. cc, λ e. cc)
 
-      -- no block is missing or bad
-      done-finds-all : (asked : Result Command Refusal) (done : Result (List ℕ) Refusal) → IsOfWords asked → Serves X N asked done a b l m i j t0 t1 → (s : Standing) → TellsAs X N a.told s → Calm a b → Finds done
-      done-finds-all (Err asked) done words h s stands calm = by h.refused
-        where
-          by : (done ≡ Err asked) ⊎ (done ≡ Err no_memory) → Finds done
-          by (inl is) = subst Finds (sym is) (words-whole asked words)
-          by (inr is) = subst Finds (sym is) (words-whole no_memory refl)
-      done-finds-all (Ok command) done words h s stands calm = h.whole s stands calm
-
-    -- a command that was done so ends so
-    ended-told : (A : Status → Type 0) (done : Result (List ℕ) Refusal) → Finishes Says done given held held_now w v → A (ended done) → A status.WriteFault → A status.Memory → A given
-    ended-told A (Ok text) (inl p) h cut memory = subst A (sym p.status_is) h
-    ended-told A (Ok text) (inr c) h cut memory = subst A (sym c.status_is) cut
-    ended-told A (Err why) t h cut memory = by-why A why given t.tells (λ says. h) memory
-
-    pub whole-told : (X : List ℕ → List ℕ) (N : List ℕ → ℕ) (a b : Seen) (l m : streams.Told) (i j t0 t1 : ℕ) (asked : Result Command Refusal) (done : Result (List ℕ) Refusal) → IsOfWords asked → Serves X N asked done a b l m i j t0 t1
-        → Finishes Says done given held held_now w v → (s : Standing) → TellsAs X N a.told s → Calm a b → FindsAll given
-    whole-told X N a b l m i j t0 t1 asked done words h f s stands calm =
-        ended-told FindsAll done f (done-finds-all X N a b l m i j t0 t1 asked done words h s stands calm) (λ e. cc, λ e. cc) (λ e. cc, λ e. cc)
-
-    pub looks-told : (X : List ℕ → List ℕ) (N : List ℕ → ℕ) (a b : Seen) (l m : streams.Told) (i j t0 t1 : ℕ) (command : Command) (done : Result (List ℕ) Refusal) → Works X N command done a b l m i j t0 t1
-        → Finishes Says done given held held_now w v → FindsBy (family_of command) given
-    looks-told X N a b l m i j t0 t1 (Init p) done h f = ended-told FindsAll done f (init-looks done h.kinds) (λ e. cc, λ e. cc) (λ e. cc, λ e. cc)
-    looks-told X N a b l m i j t0 t1 (Add only_hash) done h f = ended-told FindsAll done f (add-whole done h.kinds) (λ e. cc, λ e. cc) (λ e. cc, λ e. cc)
-    looks-told X N a b l m i j t0 t1 (WriteInput how path) done h f = tt
-    looks-told X N a b l m i j t0 t1 (At ask path) done h f = tt
+      pub looks-told : (command : Command) (done : Result (Unit {0}) Refusal) → Does X N command done a b → TellsEnd Says done given → FindsBy (family_of command) given
+      looks-told (Init p) done h t = ended-told FindsAll done t (makes-finds done h.kinds) (λ e. cc, λ e. cc)
+      looks-told (Add only_hash) done h t = ended-told FindsAll done t (adds-finds done h.kinds) (λ e. cc, λ e. cc)
+      looks-told (WriteInput how path) done h t = tt
+      looks-told (At ask path) done h t = tt
+      looks-told (Read offset count path) done h t = tt
+      looks-told (Cat path) done h t = tt

@@ -27,7 +27,7 @@ use Rattle.uf_tree.specs.TreePlan.{blocks}
 use Rattle.uf_tree.specs.declared.profile.Profile.{Profile}
 use Rattle.uf_reply.specs.Commands.{HasInput, has_nothing_to_do}
 use Rattle.uf_reply.specs.Kinds.{IsOf, TakesInput, WorksInTree, fault_behind, fault_kind, may_answer, refusal_kind}
-use Rattle.uf_reply.specs.Reply.{Reply, in_tree, input_reply, most_input, reply, tree_reply, unchanged}
+use Rattle.uf_reply.specs.Reply.{Reply, in_tree, input_reply, most_input, tree_reply, unchanged}
 use Rattle.uf_reply.specs.declared.types.Ask.TheVariants.{Edit as Edits}
 use Rattle.uf_reply.specs.declared.types.Command.TheVariants.{WriteInput, At}
 use Rattle.uf_reply.specs.declared.types.Edit.TheVariants.{Write}
@@ -36,8 +36,9 @@ use Rattle.uf_reply.specs.declared.types.Refusal.TheVariants as refusal
 use Rattle.uf_top.specs.Answering.{Answers}
 use Rattle.uf_top.specs.Bounds.{command_touches}
 use Rattle.uf_top.specs.Causes.{IsBadIn, IsLongAt, IsReady, OnlyWants, RefusesOpening, TakesAll, is_read}
-use Rattle.uf_top.specs.Losing.{AnswersOver, NamesAfter, command_needs}
-use Rattle.uf_top.specs.Working.{Works}
+use Rattle.uf_top.specs.Losing.{AnswersOver, command_needs}
+use Rattle.uf_top.specs.Naming.{NamesAfter}
+use Rattle.uf_top.specs.Working.{Makes}
 use Rattle.uf_top.proofs.Added.{all_given, given_few}
 use Rattle.uf_top.proofs.Classed.{opening-kinds, tree-counts}
 use Rattle.uf_top.proofs.Finding.{Finds, at-whole}
@@ -50,6 +51,7 @@ use Rattle.uf_top.proofs.Standings.{stands-same, tells-none}
 tree-taken : (r : Result (List ℕ) Refusal) → IsOf (may_answer WorksInTree) r → IsOf (may_answer TakesInput) r
 tree-taken (Ok text) h = tt
 tree-taken (Err (refusal.Rule rule)) h = refl
+tree-taken (Err (refusal.Dag rule)) h = h
 tree-taken (Err (refusal.BadPath why)) h = h
 tree-taken (Err refusal.InputTooLong) h = refl
 tree-taken (Err refusal.Usage) h = h
@@ -70,6 +72,7 @@ tree-taken (Err (refusal.Store f)) h = by f
 not-long : (r : Result (List ℕ) Refusal) (l m : streams.Told) → IsOf (may_answer WorksInTree) r → IsLongAt r l m
 not-long (Ok text) l m h = tt
 not-long (Err (refusal.Rule rule)) l m h = tt
+not-long (Err (refusal.Dag rule)) l m h = tt
 not-long (Err (refusal.BadPath why)) l m h = tt
 not-long (Err refusal.InputTooLong) l m h = absurd (let e : false ≡ true = h in cc)
 not-long (Err refusal.Usage) l m h = tt
@@ -82,6 +85,7 @@ module _ (how : WriteHow) (path : Path) where
   ready-taken : (told : Told) (piece : List ℕ) (r : Result (List ℕ) Refusal) → IsReady told (At (Edits (Write how piece)) path) r → IsReady told (WriteInput how path) r
   ready-taken told piece (Ok text) h = tt
   ready-taken told piece (Err (refusal.Rule rule)) h = tt
+  ready-taken told piece (Err (refusal.Dag rule)) h = tt
   ready-taken told piece (Err (refusal.BadPath why)) h = tt
   ready-taken told piece (Err refusal.InputTooLong) h = tt
   ready-taken told piece (Err refusal.Usage) h = tt
@@ -110,18 +114,18 @@ module _ (how : WriteHow) (path : Path) where
       given-is : (bytes : List ℕ) → HasInput (Ok (WriteInput how path)) l bytes i j → bytes ≡ piece
       given-is bytes input = all_given bytes piece l k (input refl).0 all.taken all.nothing_left
 
-      piece-reply : (s : Standing) → reply X N (WriteInput how path) s piece ≡ in_tree (tree_reply X N (Edits (Write how piece)) path.names) s
+      piece-reply : (s : Standing) → in_tree (input_reply X N how path.names piece) s ≡ in_tree (tree_reply X N (Edits (Write how piece)) path.names) s
       piece-reply NoHead = refl
       piece-reply BadHead = refl
       piece-reply (Stands p es) = fits piece p es all.few
 
-      same-reply : (s : Standing) (bytes : List ℕ) → HasInput (Ok (WriteInput how path)) l bytes i j → reply X N (WriteInput how path) s bytes ≡ in_tree (tree_reply X N (Edits (Write how piece)) path.names) s
-      same-reply s bytes input = ap (λ (bs : List ℕ). reply X N (WriteInput how path) s bs) (given-is bytes input) ∙ piece-reply s
+      same-reply : (s : Standing) (bytes : List ℕ) → HasInput (Ok (WriteInput how path)) l bytes i j → in_tree (input_reply X N how path.names bytes) s ≡ in_tree (tree_reply X N (Edits (Write how piece)) path.names) s
+      same-reply s bytes input = ap (λ (bs : List ℕ). in_tree (input_reply X N how path.names bs) s) (given-is bytes input) ∙ piece-reply s
 
-      pub input-written : (r : Result (List ℕ) Refusal) (a b : Seen) (t0 t1 : ℕ) → Works X N (At (Edits (Write how piece)) path) r a b l l i i t0 t1 → Works X N (WriteInput how path) r a b l k i j t0 t1
+      pub input-written : (r : Result (List ℕ) Refusal) (a b : Seen) (t0 t1 : ℕ) → Makes X N (At (Edits (Write how piece)) path) r a b l l i i t0 t1 → Makes X N (WriteInput how path) r a b l k i j t0 t1
       input-written r a b t0 t1 w = record {
-        answers = λ s bytes stands input calm. subst (λ given. Answers X N s given r b.told) (sym (same-reply s bytes input)) (w.answers s [] stands (λ e. absurd cc) calm);
-        lost = λ p es bytes named input calm. subst (λ given. AnswersOver X N a.told b.told p es (command_needs X N (WriteInput how path) p es) given r) (sym (same-reply (Stands p es) bytes input)) (w.lost p es [] named (λ e. absurd cc) calm);
+        answers = λ world stands input calm. let s = world.standing in let bytes = world.input in subst (λ given. Answers X N s given r b.told) (sym (same-reply s bytes input)) (w.answers world stands (λ e. absurd cc) calm);
+        lost = λ p es heights held bytes named input calm. subst (λ given. AnswersOver X N a.told b.told p es (command_needs X N (λ n. 0) (WriteInput how path) p es) given r) (sym (same-reply (Stands p es) bytes input)) (w.lost p es heights held [] named (λ e. absurd cc) calm);
         kinds = tree-taken r w.kinds;
         ready = ready-taken a.told piece r w.ready;
         adds = not-long r l k w.kinds;
@@ -144,6 +148,7 @@ module _ (how : WriteHow) (path : Path) where
       taken-answers : (why : Refusal) (bytes : List ℕ) (p : Profile) (es : Entries) → TakesAll (Err why) l k → Counts (is_read {A = List ℕ} (Err why)) i j → HasInput (Ok (WriteInput how path)) l bytes i j → TellsAs X N m.told (Stands p es)
           → Answers X N (Stands p es) (input_reply X N how path.names bytes p es) (Err why) m.told
       taken-answers (refusal.Rule rule) bytes p es takes counts input stands = absurd takes
+      taken-answers (refusal.Dag rule) bytes p es takes counts input stands = absurd takes
       taken-answers (refusal.BadPath path) bytes p es takes counts input stands = absurd takes
       taken-answers refusal.InputTooLong bytes p es takes counts input stands =
           let few = given_few bytes takes.bytes l k (input refl).0 takes.taken in let many = takes.many in
@@ -156,22 +161,24 @@ module _ (how : WriteHow) (path : Path) where
       taken-answers (refusal.Store f) bytes p es takes counts input stands = inl (record { ends_are = ap (λ (f : StoreFault). Err (refusal.Store f)) takes; stands = stands })
 
       taken-over : (why : Refusal) (bytes : List ℕ) (p : Profile) (es : Entries) → TakesAll (Err why) l k → Counts (is_read {A = List ℕ} (Err why)) i j → HasInput (Ok (WriteInput how path)) l bytes i j → NamesAfter X N a.told m.told (blocks X N p (Dir es)) p es
-          → AnswersOver X N a.told m.told p es (command_needs X N (WriteInput how path) p es) (input_reply X N how path.names bytes p es) (Err why)
+          → AnswersOver X N a.told m.told p es (command_needs X N (λ n. 0) (WriteInput how path) p es) (input_reply X N how path.names bytes p es) (Err why)
       taken-over (refusal.Rule rule) bytes p es takes counts input stands = absurd takes
+      taken-over (refusal.Dag rule) bytes p es takes counts input stands = absurd takes
       taken-over (refusal.BadPath path) bytes p es takes counts input stands = absurd takes
       taken-over refusal.InputTooLong bytes p es takes counts input stands =
           let few = given_few bytes takes.bytes l k (input refl).0 takes.taken in let many = takes.many in
-          subst (λ given. AnswersOver X N a.told m.told p es (command_needs X N (WriteInput how path) p es) given (Err refusal.InputTooLong)) (sym (exceeds bytes p es (omega (arith, few, many))))
+          subst (λ given. AnswersOver X N a.told m.told p es (command_needs X N (λ n. 0) (WriteInput how path) p es) given (Err refusal.InputTooLong)) (sym (exceeds bytes p es (omega (arith, few, many))))
           (inr (record { ends_are = refl; stands = stands }))
       taken-over refusal.Usage bytes p es takes counts input stands = absurd takes
       taken-over (refusal.Ready ready) bytes p es takes counts input stands = absurd takes
       taken-over refusal.Read bytes p es takes counts input stands = (let rose = counts.rose refl in let stood = (input refl).1 in absurd (omega (arith, rose, stood)))
       taken-over refusal.Write bytes p es takes counts input stands = absurd takes
       taken-over (refusal.Store f) bytes p es takes counts input stands =
-          lost-wants X N a.told m.told p es (command_needs X N (WriteInput how path) p es) (input_reply X N how path.names bytes p es) (refusal.Store f) (ap refusal.Store takes) stands
+          lost-wants X N a.told m.told p es (command_needs X N (λ n. 0) (WriteInput how path) p es) (input_reply X N how path.names bytes p es) (refusal.Store f) (ap refusal.Store takes) stands
 
       taken-kinds : (why : Refusal) → TakesAll (Err why) l k → may_answer TakesInput (refusal_kind why) ≡ true
       taken-kinds (refusal.Rule rule) takes = absurd takes
+      taken-kinds (refusal.Dag rule) takes = absurd takes
       taken-kinds (refusal.BadPath path) takes = absurd takes
       taken-kinds refusal.InputTooLong takes = refl
       taken-kinds refusal.Usage takes = absurd takes
@@ -182,6 +189,7 @@ module _ (how : WriteHow) (path : Path) where
 
       taken-finds : (why : Refusal) → TakesAll (Err why) l k → Finds (Err why)
       taken-finds (refusal.Rule rule) takes = absurd takes
+      taken-finds (refusal.Dag rule) takes = absurd takes
       taken-finds (refusal.BadPath path) takes = absurd takes
       taken-finds refusal.InputTooLong takes = (λ e. cc, λ e. cc)
       taken-finds refusal.Usage takes = absurd takes
@@ -192,6 +200,7 @@ module _ (how : WriteHow) (path : Path) where
 
       taken-long : (why : Refusal) → TakesAll (Err why) l k → IsLongAt (Err why) l k
       taken-long (refusal.Rule rule) takes = tt
+      taken-long (refusal.Dag rule) takes = tt
       taken-long (refusal.BadPath path) takes = tt
       taken-long refusal.InputTooLong takes = takes
       taken-long refusal.Usage takes = tt
@@ -200,8 +209,9 @@ module _ (how : WriteHow) (path : Path) where
       taken-long refusal.Write takes = tt
       taken-long (refusal.Store f) takes = tt
 
-      taken-ready : (why : Refusal) → TakesAll (Err why) l k → IsReady a.told (WriteInput how path) (Err why)
+      taken-ready : (why : Refusal) → TakesAll (Err why) l k → IsReady {A = List ℕ} a.told (WriteInput how path) (Err why)
       taken-ready (refusal.Rule rule) takes = tt
+      taken-ready (refusal.Dag rule) takes = tt
       taken-ready (refusal.BadPath path) takes = tt
       taken-ready refusal.InputTooLong takes = tt
       taken-ready refusal.Usage takes = tt
@@ -212,6 +222,7 @@ module _ (how : WriteHow) (path : Path) where
 
       taken-wants : (why : Refusal) → TakesAll (Err why) l k → OnlyWants {A = List ℕ} (Err why)
       taken-wants (refusal.Rule rule) takes = tt
+      taken-wants (refusal.Dag rule) takes = tt
       taken-wants (refusal.BadPath path) takes = tt
       taken-wants refusal.InputTooLong takes = tt
       taken-wants refusal.Usage takes = tt
@@ -222,6 +233,7 @@ module _ (how : WriteHow) (path : Path) where
 
       taken-blames : (why : Refusal) → TakesAll (Err why) l k → IsBlaming (fault_behind why) → ⊥
       taken-blames (refusal.Rule rule) takes blames = blames
+      taken-blames (refusal.Dag rule) takes blames = blames
       taken-blames (refusal.BadPath path) takes blames = blames
       taken-blames refusal.InputTooLong takes blames = blames
       taken-blames refusal.Usage takes blames = blames
@@ -231,11 +243,11 @@ module _ (how : WriteHow) (path : Path) where
       taken-blames (refusal.Store f) takes blames = subst (λ f. IsBlaming (Some f)) takes blames
 
       pub input-refused : (mfs : Mfs) (why : Refusal) → ((s : Standing) → TellsAs X N a.told s → Stood a.faults m.faults → Opens X N m.told s (Ok mfs)) → StaysCalm a m
-          → TakesAll (Err why) l k → Counts (is_read {A = List ℕ} (Err why)) i j → Works X N (WriteInput how path) (Err why) a m l k i j t0 t1
+          → TakesAll (Err why) l k → Counts (is_read {A = List ℕ} (Err why)) i j → Makes X N (WriteInput how path) (Err why) a m l k i j t0 t1
       input-refused mfs why opens calm takes counts = record {
-        answers = λ s bytes stands input calm2. opened X N s (input_reply X N how path.names bytes) mfs m.told m.told (Err why) (opens s stands calm2.faults) (stands-same X N a.told m.told s told stands)
+        answers = λ world stands input calm2. let s = world.standing in let bytes = world.input in opened X N s (input_reply X N how path.names bytes) mfs m.told m.told (Err why) (opens s stands calm2.faults) (stands-same X N a.told m.told s told stands)
             (λ p es at now. taken-answers why bytes p es takes counts input now);
-        lost = λ p es bytes named input calm2. taken-over why bytes p es takes counts input (names-same X N a.told m.told p es told named);
+        lost = λ p es heights held bytes named input calm2. taken-over why bytes p es takes counts input (names-same X N a.told m.told p es told named);
         kinds = taken-kinds why takes;
         ready = taken-ready why takes;
         adds = taken-long why takes;
@@ -251,10 +263,10 @@ module _ (how : WriteHow) (path : Path) where
 
       pub input-unopened : (f : MfsFault) (w : Refusal) → RefusesOpening f w → ((s : Standing) → TellsAs X N a.told s → Stood a.faults m.faults → Opens X N m.told s (Err f))
           → ((p : Profile) (es : Entries) → NamesOver X N a.told p es → Stood a.faults m.faults → OpensOver X N a.told p es (Err f))
-          → ReadsHead a.told (Err f) → CountsUp (tree_fault {A = Mfs} (Err f)) t0 t1 → ShownOpening X (IsBad N None) {A = Mfs} (Err f) a m → Works X N (WriteInput how path) (Err w) a m l l i i t0 t1
+          → ReadsHead a.told (Err f) → CountsUp (tree_fault {A = Mfs} (Err f)) t0 t1 → ShownOpening X (IsBad N None) {A = Mfs} (Err f) a m → Makes X N (WriteInput how path) (Err w) a m l l i i t0 t1
       input-unopened f w is opens lost head up cause = record {
-        answers = λ s bytes stands input calm. not-opened X N s (input_reply X N how path.names bytes) f w m.told is (opens s stands calm.faults) (stands-same X N a.told m.told s told stands);
-        lost = λ p es bytes named input calm. opening-over X N a.told m.told p es (blocks X N p (Dir es)) (input_reply X N how path.names bytes p es) f w is (lost p es named.names calm.faults)
+        answers = λ world stands input calm. let s = world.standing in let bytes = world.input in not-opened X N s (input_reply X N how path.names bytes) f w m.told is (opens s stands calm.faults) (stands-same X N a.told m.told s told stands);
+        lost = λ p es heights held bytes named input calm. opening-over X N a.told m.told p es (blocks X N p (Dir es)) (input_reply X N how path.names bytes p es) f w is (lost p es named.names calm.faults)
             (names-same X N a.told m.told p es told named);
         kinds = tree-taken (Err w) (opening-kinds f w is);
         ready = ready-taken a.told [] (Err w) (opening-ready a.told (Edits (Write how [])) path f w is head);

@@ -1,13 +1,18 @@
 -- The reply to a command, as the answer of a call over a store.
-use Rattle.std.specs.Prelude.{◌≡◌, ◌⊎◌, ℕ, List}
+use Rattle.std.specs.Prelude.{◌≡◌, ◌⊎◌, ℕ, List, Bool}
 use Rattle.std.specs.declared.result.Result.{Result}
 use Rattle.std.specs.declared.result.Result.TheVariants.{Err}
+use Rattle.uf_edge.specs.Streams as streams
 use Rattle.uf_mfs.specs.Standing.{TellsAs, TellsHeld}
 use Rattle.uf_store.specs.Contents.{Told}
 use Rattle.uf_tree.specs.Standing.{Standing}
-use Rattle.uf_reply.specs.Reply.{Reply}
+use Rattle.uf_reply.specs.Commands.{needs_standing}
+use Rattle.uf_reply.specs.Reply.{Reply, World, reply}
 use Rattle.uf_reply.specs.Statuses.{no_memory}
+use Rattle.uf_reply.specs.declared.types.Command.{Command}
 use Rattle.uf_reply.specs.declared.types.Refusal.{Refusal}
+use Rattle.uf_top.specs.Endings.{EndsBy}
+use Rattle.uf_top.specs.Naming.{StandsIf}
 
 module _ (X : List ℕ → List ℕ) (N : List ℕ → ℕ) where
   -- there was no memory, and what stood stands
@@ -24,3 +29,20 @@ module _ (X : List ℕ → List ℕ) (N : List ℕ → ℕ) where
   -- the answer is the reply, or want of memory
   abbrev pub Answers : Standing → Reply → Result (List ℕ) Refusal → Told → Type 0
   Answers standing given ends now = IsWanting standing ends now ⊎ IsReply given ends now
+
+  -- the same once it is printed: there was no memory, and what stood stands, where that is needed
+  pub record DoesWant (needs : Bool) (standing : Standing) (done : Result (Unit {0}) Refusal) (now : Told)
+      : Type 0 where
+    pub ends_are : done ≡ Err no_memory
+    pub stands : StandsIf X N needs now standing
+
+  -- the command ended as the reply says and printed its text, and what it says stands and is held
+  pub record DoesReply (needs : Bool) (given : Reply) (done : Result (Unit {0}) Refusal) (held held_now : streams.Told)
+      (now : Told) : Type 0 where
+    pub ends : EndsBy given.ends done held held_now
+    pub stands : StandsIf X N needs now given.next
+    pub blocks : TellsHeld now given.held
+
+  abbrev pub DoesAnswer : Command → World → Result (Unit {0}) Refusal → streams.Told → streams.Told → Told → Type 0
+  DoesAnswer command w done held held_now now = DoesWant (needs_standing command) w.standing done now
+      ⊎ DoesReply (needs_standing command) (reply X N command w) done held held_now now

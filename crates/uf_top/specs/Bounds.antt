@@ -4,6 +4,7 @@ use Rattle.std.specs.declared.option.Option.{Option}
 use Rattle.std.specs.declared.option.Option.TheVariants.{None, Some}
 use Rattle.std.specs.declared.result.Result.{Result}
 use Rattle.std.specs.declared.result.Result.TheVariants.{Ok, Err}
+use Rattle.uf_mfs.specs.Reading.{range_touches}
 use Rattle.uf_mfs.specs.Moving.{copy_bound, move_bound}
 use Rattle.uf_mfs.specs.Writes.{file_touches, fitting_edit, member_at}
 use Rattle.uf_mfs.specs.Touches.{names_touches, read_bound, rows_touches, touch_bound, weighing_at}
@@ -14,7 +15,7 @@ use Rattle.uf_tree.specs.declared.profile.Profile.{Profile}
 use Rattle.uf_reply.specs.declared.types.Ask.{Ask}
 use Rattle.uf_reply.specs.declared.types.Ask.TheVariants.{Ls, Stat, Edit as Edits}
 use Rattle.uf_reply.specs.declared.types.Command.{Command}
-use Rattle.uf_reply.specs.declared.types.Command.TheVariants.{Init, Add, WriteInput, At}
+use Rattle.uf_reply.specs.declared.types.Command.TheVariants.{Init, Add, WriteInput, At, Read, Cat}
 use Rattle.uf_reply.specs.declared.types.Edit.{Edit}
 use Rattle.uf_reply.specs.declared.types.Edit.TheVariants.{Mkdir, Rm, Write, Truncate, Cp, Mv}
 use Rattle.uf_reply.specs.declared.types.Refusal.{Refusal}
@@ -42,14 +43,17 @@ module _ (X : List ℕ → List ℕ) (N : List ℕ → ℕ) (rows : ℕ → ℕ)
   ask_touches Stat names p es = max (11 * length names) 1
   ask_touches (Edits edit) names p es = touches_of_edit edit names p es
 
-  -- and for a command with this input, which opens the tree first; nothing is promised of `init`, and of an `add` that
-  -- keeps its blocks
+  -- and for a command with this input, which opens the tree first; nothing is promised of `init`, of an `add` that
+  -- keeps its blocks, and of `cat`
   abbrev pub command_touches : List ℕ → Command → Profile → Entries → Option ℕ
   command_touches bytes (Init q) p es = None
   command_touches bytes (Add true) p es = Some 0
   command_touches bytes (Add false) p es = None
   command_touches bytes (WriteInput how path) p es = Some (1 + touches_of_edit (Write how bytes) path.names p es)
   command_touches bytes (At ask path) p es = Some (1 + ask_touches ask path.names p es)
+  command_touches bytes (Read offset count path) p es =
+      Some (1 + read_bound (range_touches p rows offset count) path.names (Dir es))
+  command_touches bytes (Cat path) p es = None
 
   -- the same of words
   abbrev pub words_touch : List ℕ → Result Command Refusal → Profile → Entries → Option ℕ

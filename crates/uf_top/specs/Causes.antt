@@ -10,6 +10,7 @@ use Rattle.uf_edge.specs.declared.streams.Sent.{Sent}
 use Rattle.uf_edge.specs.Counts.{Counts}
 use Rattle.uf_edge.specs.Streams.{before, Exceeds, IsWhole, Sends, is_unsent}
 use Rattle.uf_edge.specs.Streams as streams
+use Rattle.uf_fileread.specs.Bad.{IsBadInFile}
 use Rattle.uf_mfs.specs.Bad.{IsBad}
 use Rattle.uf_mfs.specs.Standing.{head_in}
 use Rattle.uf_mfs.specs.Writes.{IsBadWritten}
@@ -28,10 +29,10 @@ use Rattle.uf_tree.specs.HeadReading.{head_reads}
 use Rattle.uf_tree.specs.declared.head_fault.HeadFault.{HeadFault}
 use Rattle.uf_tree.specs.declared.profile.Profile.{Profile}
 use Rattle.uf_reply.specs.declared.types.Command.{Command}
-use Rattle.uf_reply.specs.declared.types.Command.TheVariants.{Init, Add, WriteInput, At}
+use Rattle.uf_reply.specs.declared.types.Command.TheVariants.{Init, Add, WriteInput, At, Read, Cat}
 use Rattle.uf_reply.specs.declared.types.Refusal.{Refusal}
 use Rattle.uf_reply.specs.declared.types.Refusal.TheVariants as refusal
-use Rattle.uf_reply.specs.Kinds.{is_of, read_kind, refusal_fault}
+use Rattle.uf_reply.specs.Kinds.{is_of, read_kind, refusal_fault, write_kind}
 use Rattle.uf_reply.specs.Lines.{added_line}
 use Rattle.uf_reply.specs.Statuses.{no_memory}
 use Rattle.uf_reply.specs.Reply.{file_cid, most_input}
@@ -50,12 +51,26 @@ IsTreeFault (mfs.Ready why) = ⊥
 IsTreeFault mfs.Sink = ⊥
 IsTreeFault (mfs.Store fault) = ⊤
 
+-- the faults of calls that send a file of an opened tree: such a tree is ready
+abbrev pub IsSendingFault : MfsFault → Type 0
+IsSendingFault (mfs.Rule rule) = ⊤
+IsSendingFault (mfs.Ready why) = ⊥
+IsSendingFault mfs.Sink = ⊤
+IsSendingFault (mfs.Store fault) = ⊤
+
 -- the fault of a call that opens a tree, and the refusal by it
 abbrev pub RefusesOpening : MfsFault → Refusal → Type 0
 RefusesOpening (mfs.Rule rule) given = ⊥
 RefusesOpening (mfs.Ready why) given = given ≡ refusal.Ready why
 RefusesOpening mfs.Sink given = ⊥
 RefusesOpening (mfs.Store fault) given = given ≡ refusal.Store fault
+
+-- the fault of a call that sends a file of an opened tree, and the refusal by it: such a tree is ready
+abbrev pub RefusesSending : MfsFault → Refusal → Type 0
+RefusesSending (mfs.Rule rule) given = given ≡ refusal.Rule rule
+RefusesSending (mfs.Ready why) given = ⊥
+RefusesSending mfs.Sink given = given ≡ refusal.Write
+RefusesSending (mfs.Store fault) given = given ≡ refusal.Store fault
 
 -- the fault of a call on an opened tree, and the refusal by it
 abbrev pub RefusesInTree : MfsFault → Refusal → Type 0
@@ -95,23 +110,33 @@ IsReason (Add true) why told = ⊥
 IsReason (Add false) why told = IsReasonInTree why told
 IsReason (WriteInput how path) why told = IsReasonInTree why told
 IsReason (At ask path) why told = IsReasonInTree why told
+IsReason (Read offset count path) why told = IsReasonInTree why told
+IsReason (Cat path) why told = ⊥
 
--- the answer that the store isn't ready has its reason in the Head
-abbrev pub IsReady : Told → Command → Result (List ℕ) Refusal → Type 0
-IsReady told command (Err (refusal.Ready why)) = IsReason command why told
-IsReady told command ends = ⊤
+-- the refusal that the store isn't ready has its reason in the Head
+abbrev pub IsReadyBy : Told → Command → Refusal → Type 0
+IsReadyBy told command (refusal.Ready why) = IsReason command why told
+IsReadyBy told command why = ⊤
 
--- the block isn't canonical in its role: on a way in the tree, or, where the profile of the Head is required, there or
--- in a file that is edited
+abbrev pub IsReady : {A : Type 0} → Told → Command → Result A Refusal → Type 0
+IsReady told command (Ok a) = ⊤
+IsReady told command (Err why) = IsReadyBy told command why
+
+-- the block isn't canonical in its role: on a way in the tree, in a file that is read, or, where the profile of the Head
+-- is required, there or in a file that is edited
 abbrev pub IsBadIn : (List ℕ → List ℕ) → (List ℕ → ℕ) → (before now : Told) → Role → List ℕ → Type 0
-IsBadIn X N before now role bytes =
-    IsBad N None role bytes ⊎ ((p : Profile) × IsProfileOf before p × IsBadWritten X N p now role bytes)
+IsBadIn X N before now role bytes = IsBad N None role bytes ⊎ ((file : Cid) × IsBadInFile before file role bytes)
+    ⊎ ((p : Profile) × IsProfileOf before p × IsBadWritten X N p now role bytes)
 
 -- the Head moves only where a command is done that prints nothing
 abbrev pub HeadStays : Result (List ℕ) Refusal → Told → Told → Type 0
 HeadStays (Ok []) before now = ⊤
 HeadStays (Ok (b ∷ text)) before now = head_in now ≡ head_in before
 HeadStays (Err why) before now = head_in now ≡ head_in before
+
+-- the output failed
+abbrev pub is_write : {A : Type 0} → Result A Refusal → Bool
+is_write result = is_of write_kind result
 
 -- the reading of the input failed
 abbrev pub is_read : {A : Type 0} → Result A Refusal → Bool

@@ -1,5 +1,6 @@
 -- How a command was done, before anything of it is printed: what it answers, why, and what it leaves.
-use Rattle.std.specs.Prelude.{◌≡◌, ◌⊎◌, ℕ, ◌+◌, ◌<◌, ◌≤◌, List, [], true, IfSome}
+use Rattle.std.specs.Prelude.{◌≡◌, ◌⊎◌, ℕ, ◌+◌, ◌<◌, ◌≤◌, List, [], true, IfErr, IfSome}
+use Rattle.uf_cid.specs.Blocks.{Lookup}
 use Rattle.std.specs.declared.result.Result.{Result}
 use Rattle.std.specs.declared.result.Result.TheVariants.{Ok, Err}
 use Rattle.uf_edge.specs.Counts.{Counts, Stood}
@@ -7,7 +8,7 @@ use Rattle.uf_edge.specs.Streams as streams
 use Rattle.uf_mfs.specs.Answers.{ShownInTree}
 use Rattle.uf_mfs.specs.Moving.{Gives, MovesBy}
 use Rattle.uf_mfs.specs.Reading.{AreHeights}
-use Rattle.uf_mfs.specs.Standing.{NamesOver, StandsAt, StandsOver, TellsAs}
+use Rattle.uf_mfs.specs.Standing.{NamesOver, StandsAt, StandsOver, TellsAs, head_in}
 use Rattle.uf_mfs.specs.Steps.{tree_fault}
 use Rattle.uf_mfs.specs.Touches.{CountsUp, IsBlaming, TouchesFolder}
 use Rattle.uf_mfs.specs.Writes.{IsBadWritten}
@@ -29,20 +30,24 @@ use Rattle.uf_reply.specs.declared.types.Command.TheVariants.{At}
 use Rattle.uf_reply.specs.declared.types.Edit.{Edit}
 use Rattle.uf_reply.specs.declared.types.Refusal.{Refusal}
 use Rattle.uf_reply.specs.Commands.{HasInput, ask_writes, command_writes, has_nothing_to_do, is_idle}
-use Rattle.uf_reply.specs.Kinds.{IsOf, family_of, may_answer, opened_kinds, refusal_fault}
-use Rattle.uf_reply.specs.Reply.{edited_by, reply, tree_reply}
-use Rattle.uf_reply.specs.Statuses.{ended, no_memory}
-use Rattle.uf_top.specs.Answering.{Answers}
+use Rattle.uf_reply.specs.Commands.{needs_standing, streams as flows}
+use Rattle.uf_reply.specs.Kinds.{IsOf, family_of, may_answer, may_end, opened_kinds, refusal_fault}
+use Rattle.uf_reply.specs.Reply.{World, edited_by, in_world, reply, tree_reply}
+use Rattle.uf_reply.specs.Statuses.{ended, no_memory, status_of}
+use Rattle.uf_reply.specs.declared.status.Status.TheVariants as status
+use Rattle.uf_top.specs.Answering.{Answers, DoesAnswer}
+use Rattle.uf_top.specs.Around.{Around, CountsCanRise, RisesFor, StaysQuiet}
 use Rattle.uf_top.specs.Bounds.{ask_touches, command_touches, touches_of_edit}
-use Rattle.uf_top.specs.Causes.{HeadStays, IsBadIn, IsReady, is_read}
-use Rattle.uf_top.specs.Endings.{AddsFor, FindsAll}
-use Rattle.uf_top.specs.Losing.{AnswersOver, StaysNamed, ask_needs, command_needs}
-use Rattle.uf_top.specs.Shapes.{WritesAs, is_ok}
+use Rattle.uf_top.specs.Causes.{HeadStays, IsBadIn, IsReady, is_read, is_write}
+use Rattle.uf_top.specs.Endings.{AddsFor, FindsAll, IsTextOf, PrintsAt, PrintsPart, RuleOf}
+use Rattle.uf_top.specs.Losing.{AnswersOver, DoesOver, ask_needs, command_needs}
+use Rattle.uf_top.specs.Naming.{FindsOver, FindsWorld, StaysNamed, TellsBlocks}
+use Rattle.uf_top.specs.Shapes.{WritesAs, is_done, is_ok}
 
 module _ (X : List ℕ → List ℕ) (N : List ℕ → ℕ) where
-  -- what a command leaves: good blocks, the Head where it prints or is refused, all where nothing is to be done, and what
-  -- it wrote
-  pub record WorkLeaves (command : Command) (done : Result (List ℕ) Refusal) (before now : Told)
+  -- what a command leaves before anything is printed: good blocks, the Head where it prints or is refused, all where
+  -- nothing is to be done, and what it wrote
+  pub record MakesLeaving (command : Command) (done : Result (List ℕ) Refusal) (before now : Told)
       (calm : List ℕ → Type 0) : Type 0 where
     pub good : KeepsGood X before now
     pub head : HeadStays done before now
@@ -50,17 +55,17 @@ module _ (X : List ℕ → List ℕ) (N : List ℕ → ℕ) where
     pub idle : (p : Profile) (es : Entries) (bytes : List ℕ) → NamesOver X N before p es → calm bytes
         → is_idle bytes es command ≡ true → now ≡ before
 
-  -- how a command was done: its answer is the reply, over lost blocks too, each refusal is one of its family's and has
-  -- its cause, it keeps within its touches, and it leaves what it leaves
-  pub record Works (command : Command) (done : Result (List ℕ) Refusal) (before now : Seen)
+  -- how the text of a command was made: its answer is the reply, over lost blocks too, each refusal is one of its
+  -- family's and has its cause, it keeps within its touches, and it leaves what it leaves
+  pub record Makes (command : Command) (done : Result (List ℕ) Refusal) (before now : Seen)
       (left left_now : streams.Told) (reads reads_now was is : ℕ) : Type 0 where
-    pub answers : (standing : Standing) (bytes : List ℕ) → TellsAs X N before.told standing
-        → HasInput (Ok command) left bytes reads reads_now
-        → Calm before now → Answers X N standing (reply X N command standing bytes) done now.told
-    pub lost : (p : Profile) (es : Entries) (bytes : List ℕ) → StaysNamed X N before.told now.told p es
-        → HasInput (Ok command) left bytes reads reads_now → Calm before now
-        → AnswersOver X N before.told now.told p es (command_needs X N command p es)
-        (reply X N command (Stands p es) bytes) done
+    pub answers : (w : World) → TellsAs X N before.told w.standing
+        → HasInput (Ok command) left w.input reads reads_now
+        → Calm before now → Answers X N w.standing (reply X N command w) done now.told
+    pub lost : (p : Profile) (es : Entries) (rows : ℕ → ℕ) (held : Lookup) (bytes : List ℕ)
+        → StaysNamed X N before.told now.told p es → HasInput (Ok command) left bytes reads reads_now → Calm before now
+        → AnswersOver X N before.told now.told p es (command_needs X N rows command p es)
+        (reply X N command (in_world p es held bytes)) done
     pub kinds : IsOf (may_answer (family_of command)) done
     pub ready : IsReady before.told command done
     pub adds : AddsFor X before.told (Ok command) done left left_now
@@ -72,25 +77,63 @@ module _ (X : List ℕ → List ℕ) (N : List ℕ → ℕ) where
         → AreHeights p rows → Calm before now
         → IfSome (command_touches X N rows bytes command p es) (λ most. is ≤ was + most)
     pub touched : IsBlaming (refusal_fault done) → was < is
-    pub leaves : WorkLeaves command done before.told now.told
+    pub leaves : MakesLeaving command done before.told now.told
         (λ bytes. HasInput (Ok command) left bytes reads reads_now × Stood before.faults now.faults)
 
+  -- what a command leaves: good blocks, the Head where it is refused, all where nothing is to be done, and what it wrote
+  pub record DoesLeave (command : Command) (done : Result (Unit {0}) Refusal) (before now : Told)
+      (calm : List ℕ → Type 0) : Type 0 where
+    pub good : KeepsGood X before now
+    pub head : IfErr done (λ why. head_in now ≡ head_in before)
+    pub writes : WritesAs X (command_writes command) (is_done (ended done)) before now
+    pub idle : (p : Profile) (es : Entries) (bytes : List ℕ) → NamesOver X N before p es → calm bytes
+        → is_idle bytes es command ≡ true → now ≡ before
+
+  -- how a command was done and its text printed: its answer is the reply, over lost blocks too, what is printed begins
+  -- the reply's text, each refusal is one of its family's and has its cause, it keeps within its touches, and it leaves
+  -- what it leaves
+  pub record Does (command : Command) (done : Result (Unit {0}) Refusal) (before now : Around) : Type 0 where
+    pub answers : (w : World) → FindsWorld X N (Ok command) before.store.told w
+        → HasInput (Ok command) before.left w.input before.reads now.reads → StaysQuiet before now
+        → DoesAnswer X N command w done before.held now.held now.store.told
+    pub lost : (p : Profile) (es : Entries) (rows : ℕ → ℕ) (held : Lookup) (bytes : List ℕ)
+        → StaysNamed X N before.store.told now.store.told p es → TellsBlocks before.store.told held → AreHeights p rows
+        → HasInput (Ok command) before.left bytes before.reads now.reads → StaysQuiet before now
+        → DoesOver X N before.store.told now.store.told p es (command_needs X N rows command p es)
+        (reply X N command (in_world p es held bytes)) done before.held now.held
+    pub prefix : (w : World) → FindsOver X N before.store.told now.store.told (Ok command) w
+        → HasInput (Ok command) before.left w.input before.reads now.reads → CountsCanRise before.store
+        → PrintsPart (reply X N command w).ends before.held now.held
+    pub prints : PrintsAt (IsTextOf X before.store.told (Ok command) before.left) (flows command) (ended done)
+        before.held now.held
+    pub kinds : IsOf (may_end (family_of command)) done
+    pub ready : IsReady before.store.told command done
+    pub rule : IfErr done (λ why. status_of why ≡ status.Rule → RuleOf (Ok command) why before.store.told before.left
+        now.left)
+    pub reads : Counts (is_read done) before.reads now.reads
+    pub writes : RisesFor (is_write done) before.writes now.writes
+    pub cause : Shown X (IsBadIn X N before.store.told now.store.told) (refusal_fault done) before.store now.store
+    pub whole : (standing : Standing) → needs_standing command ≡ true → TellsAs X N before.store.told standing
+        → Calm before.store now.store → FindsAll (ended done)
+    pub touches : (p : Profile) (es : Entries) (bytes : List ℕ) (rows : ℕ → ℕ)
+        → StaysNamed X N before.store.told now.store.told p es
+        → HasInput (Ok command) before.left bytes before.reads now.reads → AreHeights p rows
+        → Calm before.store now.store
+        → IfSome (command_touches X N rows bytes command p es) (λ most. now.touches ≤ before.touches + most)
+    pub touched : IsBlaming (refusal_fault done) → before.touches < now.touches
+    pub leaves : DoesLeave command done before.store.told now.store.told
+        (λ bytes. HasInput (Ok command) before.left bytes before.reads now.reads
+        × Stood before.store.faults now.store.faults)
+
   -- words were refused, and nothing was done
-  pub record IsIdle (why : Refusal) (done : Result (List ℕ) Refusal) (before now : Seen)
-      (left left_now : streams.Told) (reads reads_now was is : ℕ) : Type 0 where
+  pub record IsIdle (why : Refusal) (done : Result (Unit {0}) Refusal) (before now : Around) : Type 0 where
     pub refused : (done ≡ Err why) ⊎ (done ≡ Err no_memory)
-    pub seen : now ≡ before
-    pub input : left_now ≡ left
-    pub unread : reads_now ≡ reads
-    pub untouched : is ≡ was
+    pub same : now ≡ before
 
   -- what became of words
-  abbrev pub Serves : Result Command Refusal → Result (List ℕ) Refusal → Seen → Seen → streams.Told → streams.Told
-      → ℕ → ℕ → ℕ → ℕ → Type 0
-  Serves (Ok command) done before now left left_now reads reads_now was is = Works command done before now left
-      left_now reads reads_now was is
-  Serves (Err why) done before now left left_now reads reads_now was is = IsIdle why done before now left left_now
-      reads reads_now was is
+  abbrev pub Serves : Result Command Refusal → Result (Unit {0}) Refusal → Around → Around → Type 0
+  Serves (Ok command) done before now = Does command done before now
+  Serves (Err why) done before now = IsIdle why done before now
 
   -- how it was done what was asked of an opened tree
   pub record WorksAt (tree : Mfs) (ask : Ask) (path : Path) (done : Result (List ℕ) Refusal)

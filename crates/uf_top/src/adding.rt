@@ -9,7 +9,7 @@ ghost use Rattle.uf_reply.specs.Commands.{SyncsBlocks};
 ghost use Rattle.uf_top.specs.Causes.{IsProfileRead, OnlyWants, ReadsProfile, Stops, is_read, or_usual as usual_or};
 ghost use Rattle.uf_top.specs.Intake.{IsRowOf, ShownIn};
 ghost use Rattle.uf_top.specs.Shapes.{WritesAs, is_ok};
-ghost use Rattle.uf_top.specs.Working.{Works};
+ghost use Rattle.uf_top.specs.Working.{Makes};
 ghost use Rattle.uf_reply.specs.declared.types.Command.TheVariants as commands;
 
 use crate::intake::file_of;
@@ -31,7 +31,7 @@ pub fn adds<S: Store, I: Source, L: Ledger>(
     input: &mut I,
     touches: &mut Steps<L>,
 ) -> Result<Block, Refusal>
-    ensures works { (N : List ℕ → ℕ) → Works S.X.block32 N (commands.Add only_hash) result (S.seen store.old)
+    ensures works { (N : List ℕ → ℕ) → Makes S.X.block32 N (commands.Add only_hash) result (S.seen store.old)
         (S.seen store.new) (I.left input.old) (I.left input.new) (I.faults input.old) (I.faults input.new)
         touches.old touches.new }
     ensures untouched { only_hash ≡ true → touches.new ≡ touches.old }
@@ -50,7 +50,7 @@ fn add<S: Store, I: Source, L: Ledger>(
     input: &mut I,
     touches: &mut Steps<L>,
 ) -> Result<Block, Refusal>
-    ensures { (N : List ℕ → ℕ) → Works S.X.block32 N (commands.Add false) result (S.seen store.old) (S.seen store.new)
+    ensures { (N : List ℕ → ℕ) → Makes S.X.block32 N (commands.Add false) result (S.seen store.old) (S.seen store.new)
         (I.left input.old) (I.left input.new) (I.faults input.old) (I.faults input.new) touches.old touches.new }
 {
     match head_profile(alloc, store)? {
@@ -65,7 +65,7 @@ fn add_only_hash<S: Store, I: Source>(
     store: &mut S,
     input: &mut I,
 ) -> Result<Block, Refusal>
-    ensures { (N : List ℕ → ℕ) (touches : ℕ) → Works S.X.block32 N (commands.Add true) result (S.seen store.old)
+    ensures { (N : List ℕ → ℕ) (touches : ℕ) → Makes S.X.block32 N (commands.Add true) result (S.seen store.old)
         (S.seen store.new) (I.left input.old) (I.left input.new) (I.faults input.old) (I.faults input.new)
         touches touches }
 {

@@ -1,6 +1,7 @@
 // One command.
 ghost use Rattle.std.specs.Prelude.{◌≡◌, ◌≢◌, ◌⊎◌, ◌<◌, ◌≤◌, ◌+◌, IfSome, List, ℕ, true, false, Err, Ok};
 ghost use Rattle.std.specs.Prelude.{map, string_bytes};
+ghost use Rattle.uf_cid.specs.Blocks.{Lookup};
 ghost use Rattle.uf_cid.specs.declared.cid.Cid.{Cid as TheCid};
 ghost use Rattle.uf_edge.specs.Counts.{Rose, Stood};
 ghost use Rattle.uf_mfs.specs.Reading.{AreHeights};
@@ -9,26 +10,32 @@ ghost use Rattle.uf_store.specs.Calls.{Calm};
 ghost use Rattle.uf_store.specs.Faults.{ShowsBadBlock, ShowsClash, ShowsFailure, ShowsMissing};
 ghost use Rattle.uf_store.specs.Keeping.{KeepsGood};
 ghost use Rattle.uf_store.specs.declared.store.Role.{Role as TheRole};
-ghost use Rattle.uf_tree.specs.Standing.{Standing, Stands};
+ghost use Rattle.uf_tree.specs.Standing.{Standing};
 ghost use Rattle.uf_tree.specs.Tree.{Entries};
 ghost use Rattle.uf_tree.specs.declared.profile.Profile.{Profile as TheProfile};
 ghost use Rattle.uf_top.specs.Bounds.{words_touch};
 ghost use Rattle.uf_top.specs.Causes.{IsBadIn, IsSent};
 ghost use Rattle.uf_reply.specs.Commands.{HasInput, IsAccepted, command_in, is_idle, of_command};
-ghost use Rattle.uf_reply.specs.Commands.{only_hashes, only_reads, reads_input, uses_host};
-ghost use Rattle.uf_top.specs.Endings.{EndsAs, FindsAll, FindsBy, Finishes, IsNotReady, IsRefusedBy, IsRule};
-ghost use Rattle.uf_top.specs.Endings.{IsSyncedFor, IsTextOf, PrintsAt, PrintsPart, SaysPlain, TellsWhy, has_details};
-ghost use Rattle.uf_top.specs.Losing.{EndsOver, StaysNamed, words_need};
+ghost use Rattle.uf_reply.specs.Commands.{needs_standing, only_hashes, only_reads, reads_input, streams as flows};
+ghost use Rattle.uf_reply.specs.Commands.{uses_host};
+ghost use Rattle.uf_top.specs.Around.{CountsCanRise, around};
+ghost use Rattle.uf_top.specs.Endings.{EndsAs, FindsAll, FindsBy, IsNotReady, IsRefusedBy, IsRule, IsSyncedFor};
+ghost use Rattle.uf_top.specs.Endings.{IsTextOf, Prints, PrintsAt, PrintsPart, SaysPlain, TellsEnd, TellsWhy};
+ghost use Rattle.uf_top.specs.Endings.{has_details};
+ghost use Rattle.uf_top.specs.Losing.{EndsOver, words_need};
+ghost use Rattle.uf_top.specs.Naming.{FindsOver, FindsWorld, StaysNamed, TellsBlocks};
 ghost use Rattle.uf_top.specs.Shapes.{WritesFor, is_done};
-ghost use Rattle.uf_top.specs.Working.{Serves, Works};
+ghost use Rattle.uf_top.specs.Working.{Does, Makes, Serves};
 ghost use Rattle.uf_reply.specs.Lines.{bad_block_line, clash_line, missing_line};
 ghost use Rattle.uf_reply.specs.Kinds.{family_of};
-ghost use Rattle.uf_reply.specs.Reply.{reply_to};
+ghost use Rattle.uf_reply.specs.Reply.{World, in_world, reply_to};
 ghost use Rattle.uf_reply.specs.declared.types.Command.{Command as TheCommand};
 ghost use Rattle.uf_reply.specs.declared.types.Refusal.{Refusal as TheRefusal};
 ghost use Rattle.uf_reply.specs.declared.types.Refusal.TheVariants as refusals;
 
 use crate::adding::adds;
+use crate::foreign::cat;
+use crate::sending::send_part;
 use crate::taking::write_input;
 use crate::tree::{at, init};
 use std::alloc::Global;
@@ -41,8 +48,8 @@ use uf_store::{Steps, Store};
 
 /// Does one command, which the words after the program's name say.
 ///
-/// `init` makes a store ready; `files mkdir`, `files ls`, `files stat`, `files write`, `files truncate`, `files cp`,
-/// `files mv` and `files rm` work on the tree that its Head names; `add` prints the CID of its input as a file (UnixFS
+/// `init` makes a store ready; `files mkdir`, `files ls`, `files stat`, `files read`, `files write`, `files truncate`,
+/// `files cp`, `files mv` and `files rm` work on the tree that its Head names; `add` prints the CID of its input as a file (UnixFS
 /// v1; Kubo's balanced layout with raw leaves) and, without `-n`, keeps the file's blocks. Refused are first words that
 /// are none, then texts that are no paths, then a Head that doesn't do, then an input that is too long, and then what
 /// the rules of the command refuse. The status says how the command ended; after a refusal its line goes to `errors`,
@@ -57,32 +64,34 @@ pub fn run<S: Store, N: NameHash, W: Host, I: Source, O: Sink, E: Sink, L: Ledge
     errors: &mut E,
     touches: &mut Steps<L>,
 ) -> Status
-    // Over a store that stands for a tree and, where the command reads it, an input that tells, with no count risen and
-    // no clash met, the answer is the reply, or want of memory; whatever the input and the output do, no block is missing
-    // or bad.
-    ensures replies { (standing : Standing) (bytes : List ℕ)
-        → TellsAs S.X.block32 N.name64 (S.seen store.old).told standing
-        → HasInput (command_in (map string_bytes words.now)) (I.left input.old) bytes (I.faults input.old)
+    // Over a store that stands as the command needs it and, where the command reads it, an input that tells, with no count
+    // risen and no clash met, the answer is the reply, or want of memory; over one that stands for a tree no block of a
+    // command on it is missing or bad, whatever the input and the output do.
+    ensures replies { (w : World) → FindsWorld S.X.block32 N.name64 (command_in (map string_bytes words.now))
+        (S.seen store.old).told w
+        → HasInput (command_in (map string_bytes words.now)) (I.left input.old) w.input (I.faults input.old)
         (I.faults input.new)
         → Calm (S.seen store.old) (S.seen store.new) → Stood (O.faults output.old) (O.faults output.new)
         → EndsAs (λ line. IsSent line (E.holds errors.old) (E.holds errors.new) (E.faults errors.old)
         (E.faults errors.new))
-        S.X.block32 N.name64 standing (reply_to S.X.block32 N.name64 (command_in (map string_bytes words.now))
-        standing bytes) result (O.holds output.old) (O.holds output.new) (S.seen store.new).told }
-    ensures whole { (standing : Standing) → TellsAs S.X.block32 N.name64 (S.seen store.old).told standing
+        S.X.block32 N.name64 (command_in (map string_bytes words.now)) w result (O.holds output.old)
+        (O.holds output.new) (S.seen store.new).told }
+    ensures whole { (standing : Standing) → of_command needs_standing true (command_in (map string_bytes words.now)) ≡ true
+        → TellsAs S.X.block32 N.name64 (S.seen store.old).told standing
         → Calm (S.seen store.old) (S.seen store.new) → FindsAll result }
 
     // Over a tree that the Head names and of whose blocks some may be lost, the answer is the reply too, or one of the
     // blocks that the command needs is lost; after Ok the new tree lacks no block that was held or is new.
-    ensures lost { (p : TheProfile) (es : Entries) (bytes : List ℕ)
+    ensures lost { (p : TheProfile) (es : Entries) (rows : ℕ → ℕ) (held : Lookup) (bytes : List ℕ)
         → StaysNamed S.X.block32 N.name64 (S.seen store.old).told (S.seen store.new).told p es
+        → TellsBlocks (S.seen store.old).told held → AreHeights p rows
         → HasInput (command_in (map string_bytes words.now)) (I.left input.old) bytes (I.faults input.old)
         (I.faults input.new)
         → Calm (S.seen store.old) (S.seen store.new) → Stood (O.faults output.old) (O.faults output.new)
         → EndsOver S.X.block32 N.name64 (S.seen store.old).told (S.seen store.new).told p es
-        (words_need S.X.block32 N.name64 (command_in (map string_bytes words.now)) p es)
+        (words_need S.X.block32 N.name64 rows (command_in (map string_bytes words.now)) p es)
         (λ line. IsSent line (E.holds errors.old) (E.holds errors.new) (E.faults errors.old) (E.faults errors.new))
-        (reply_to S.X.block32 N.name64 (command_in (map string_bytes words.now)) (Stands p es) bytes)
+        (reply_to S.X.block32 N.name64 (command_in (map string_bytes words.now)) (in_world p es held bytes))
         result (O.holds output.old) (O.holds output.new) }
 
     // `init` and `add` look for no block, over every store.
@@ -135,17 +144,19 @@ pub fn run<S: Store, N: NameHash, W: Host, I: Source, O: Sink, E: Sink, L: Ledge
     ensures read_told { I.faults input.old < I.faults input.new → result ≡ Status.ReadFault }
     ensures write_told { O.faults output.old < O.faults output.new → result ≡ Status.WriteFault }
 
-    // What is printed is printed whole at Ok, in part after a failed write, and else not at all; of `add` it is the row of
-    // the input, whose blocks have been made to outlive a stop.
-    ensures prefix { (standing : Standing) (bytes : List ℕ)
-        → TellsAs S.X.block32 N.name64 (S.seen store.old).told standing
-        → HasInput (command_in (map string_bytes words.now)) (I.left input.old) bytes (I.faults input.old)
+    // What is printed is printed whole at Ok, in part after a failed write, and else not at all, unless the command writes
+    // while it reads blocks; of `add` it is the row of the input, whose blocks have been made to outlive a stop. Whatever
+    // the answer and whatever blocks are lost, nothing is printed but the beginning of the reply's text.
+    ensures prefix { (w : World) → FindsOver S.X.block32 N.name64 (S.seen store.old).told (S.seen store.new).told
+        (command_in (map string_bytes words.now)) w
+        → HasInput (command_in (map string_bytes words.now)) (I.left input.old) w.input (I.faults input.old)
         (I.faults input.new)
-        → Calm (S.seen store.old) (S.seen store.new) → result ≡ Status.WriteFault
-        → PrintsPart (reply_to S.X.block32 N.name64 (command_in (map string_bytes words.now)) standing bytes).ends
+        → CountsCanRise (S.seen store.old)
+        → PrintsPart (reply_to S.X.block32 N.name64 (command_in (map string_bytes words.now)) w).ends
         (O.holds output.old) (O.holds output.new) }
     ensures prints { PrintsAt (IsTextOf S.X.block32 (S.seen store.old).told (command_in (map string_bytes words.now))
-        (I.left input.old)) result (O.holds output.old) (O.holds output.new) }
+        (I.left input.old)) (of_command flows false (command_in (map string_bytes words.now))) result
+        (O.holds output.old) (O.holds output.new) }
     ensures synced { result ≡ Status.Ok
         → IsSyncedFor (command_in (map string_bytes words.now)) (S.seen store.new).told }
 
@@ -183,21 +194,24 @@ pub fn run<S: Store, N: NameHash, W: Host, I: Source, O: Sink, E: Sink, L: Ledge
     ensures untouched { of_command only_hashes true (command_in (map string_bytes words.now)) ≡ true
         → touches.new ≡ touches.old }
 {
-    let done = serve::<S, N, I, L>(alloc, words, store, input, touches);
-    finish(alloc, done, output, errors)
+    let done = serve::<S, N, I, O, L>(alloc, words, store, input, output, touches);
+    tell_end(alloc, done, errors)
 }
 
-// Reads the words and does the command: what it prints, or why it is refused.
-fn serve<S: Store, N: NameHash, I: Source, L: Ledger>(
+// Reads the words and does the command, or says why it is refused.
+fn serve<S: Store, N: NameHash, I: Source, O: Sink, L: Ledger>(
     alloc: Global,
     words: &[String],
     store: &mut S,
     input: &mut I,
+    output: &mut O,
     touches: &mut Steps<L>,
-) -> Result<Block, Refusal>
-    ensures serves { Serves S.X.block32 N.name64 (command_in (map string_bytes words.now)) result (S.seen store.old)
-        (S.seen store.new) (I.left input.old) (I.left input.new) (I.faults input.old) (I.faults input.new)
-        touches.old touches.new }
+) -> Result<(), Refusal>
+    ensures serves { Serves S.X.block32 N.name64 (command_in (map string_bytes words.now)) result
+        (around (S.seen store.old) (I.left input.old) (I.faults input.old) (O.holds output.old) (O.faults output.old)
+        touches.old)
+        (around (S.seen store.new) (I.left input.new) (I.faults input.new) (O.holds output.new) (O.faults output.new)
+        touches.new) }
     ensures left { (why : TheRefusal) → command_in (map string_bytes words.now) ≡ Err why → store.new ≡ store.old }
     ensures input { of_command reads_input false (command_in (map string_bytes words.now)) ≡ false
         → input.new ≡ input.old }
@@ -206,20 +220,56 @@ fn serve<S: Store, N: NameHash, I: Source, L: Ledger>(
 {
     match read_command(alloc, words) {
         Err(why) => Err(why),
-        Ok(command) => work::<S, N, I, L>(alloc, &command, store, input, touches),
+        Ok(command) => work::<S, N, I, O, L>(alloc, &command, store, input, output, touches),
     }
 }
 
-// Does a command: what it prints, or why it is refused.
-fn work<S: Store, N: NameHash, I: Source, L: Ledger>(
+// Does a command and prints what it says, or says why it is refused.
+fn work<S: Store, N: NameHash, I: Source, O: Sink, L: Ledger>(
+    alloc: Global,
+    command: &Command,
+    store: &mut S,
+    input: &mut I,
+    output: &mut O,
+    touches: &mut Steps<L>,
+) -> Result<(), Refusal>
+    requires { IsAccepted command.now }
+    ensures does { Does S.X.block32 N.name64 command.now result
+        (around (S.seen store.old) (I.left input.old) (I.faults input.old) (O.holds output.old) (O.faults output.old)
+        touches.old)
+        (around (S.seen store.new) (I.left input.new) (I.faults input.new) (O.holds output.new) (O.faults output.new)
+        touches.new) }
+    ensures input { reads_input command.now ≡ false → input.new ≡ input.old }
+    ensures untouched { only_hashes command.now ≡ true → touches.new ≡ touches.old }
+{
+    if let Command::Read {
+        offset,
+        count,
+        path,
+    } = command
+    {
+        return send_part::<S, N, O, L>(alloc, *offset, *count, path, store, output, touches);
+    }
+    if let Command::Cat { path } = command {
+        return cat(alloc, path, store, output, touches);
+    }
+    match text_of::<S, N, I, L>(alloc, command, store, input, touches) {
+        Err(why) => Err(why),
+        Ok(text) => print(&text, output),
+    }
+}
+
+// What a command prints that is done before anything is printed, or why it is refused.
+fn text_of<S: Store, N: NameHash, I: Source, L: Ledger>(
     alloc: Global,
     command: &Command,
     store: &mut S,
     input: &mut I,
     touches: &mut Steps<L>,
 ) -> Result<Block, Refusal>
-    requires { IsAccepted command.now }
-    ensures works { Works S.X.block32 N.name64 command.now result (S.seen store.old) (S.seen store.new)
+    requires accepted { IsAccepted command.now }
+    requires waits { flows command.now ≡ false }
+    ensures makes { Makes S.X.block32 N.name64 command.now result (S.seen store.old) (S.seen store.new)
         (I.left input.old) (I.left input.new) (I.faults input.old) (I.faults input.new) touches.old touches.new }
     ensures input { reads_input command.now ≡ false → input.new ≡ input.old }
     ensures untouched { only_hashes command.now ≡ true → touches.new ≡ touches.old }
@@ -231,38 +281,33 @@ fn work<S: Store, N: NameHash, I: Source, L: Ledger>(
             write_input::<S, N, I, L>(alloc, *how, path, store, input, touches)
         }
         Command::At { ask, path } => at::<S, N, L>(alloc, ask, path, store, touches),
-    }
-}
-
-// Prints what a command says, or tells why it is refused.
-fn finish<O: Sink, E: Sink>(
-    alloc: Global,
-    done: Result<Block, Refusal>,
-    output: &mut O,
-    errors: &mut E,
-) -> Status
-    ensures { Finishes (λ line. IsSent line (E.holds errors.old) (E.holds errors.new) (E.faults errors.old)
-        (E.faults errors.new))
-        done result (O.holds output.old) (O.holds output.new) (O.faults output.old) (O.faults output.new) }
-{
-    match done {
-        Ok(text) => print(&text, output, errors),
-        Err(why) => tell(alloc, &why, errors),
+        Command::Read { .. } | Command::Cat { .. } => unreachable!(),
     }
 }
 
 // Prints a text; of nothing, nothing is written.
-fn print<O: Sink, E: Sink>(text: &Block, output: &mut O, errors: &mut E) -> Status
-    ensures { Finishes (λ line. IsSent line (E.holds errors.old) (E.holds errors.new) (E.faults errors.old)
-        (E.faults errors.new))
-        (Ok text.now) result (O.holds output.old) (O.holds output.new) (O.faults output.old) (O.faults output.new) }
+fn print<O: Sink>(text: &Block, output: &mut O) -> Result<(), Refusal>
+    ensures { Prints text.now result (O.holds output.old) (O.holds output.new) (O.faults output.old)
+        (O.faults output.new) }
 {
     if text.as_slice().is_empty() {
-        return said(Status::Ok, b"", errors);
+        return Ok(());
     }
     match write_all(output, text.as_slice()) {
-        Sent::Done => said(Status::Ok, b"", errors),
-        Sent::Failed => said(Status::WriteFault, Status::WriteFault.plain_line(), errors),
+        Sent::Done => Ok(()),
+        Sent::Failed => Err(Refusal::Write),
+    }
+}
+
+// The status with which a command ends, whose line goes to `errors`.
+fn tell_end<E: Sink>(alloc: Global, done: Result<(), Refusal>, errors: &mut E) -> Status
+    ensures { TellsEnd (λ line. IsSent line (E.holds errors.old) (E.holds errors.new) (E.faults errors.old)
+        (E.faults errors.new))
+        done result }
+{
+    match done {
+        Ok(()) => said(Status::Ok, b"", errors),
+        Err(why) => tell(alloc, &why, errors),
     }
 }
 

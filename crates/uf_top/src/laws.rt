@@ -14,7 +14,7 @@ ghost use Rattle.uf_tree.specs.declared.profile.Profile.{Profile};
 ghost use Rattle.uf_reply.specs.Commands.{MakesHead};
 ghost use Rattle.uf_reply.specs.declared.types.Command.{Command};
 ghost use Rattle.uf_reply.specs.declared.types.Refusal.{Refusal};
-ghost use Rattle.uf_top.specs.Losing.{StaysNamed};
+ghost use Rattle.uf_top.specs.Naming.{StaysNamed};
 ghost use Rattle.uf_top.specs.Outcomes.{EachOutcome, EachStop, IsSafeFor, LeavesEither, LeavesNoneOr, LeavesTree};
 ghost use Rattle.uf_top.specs.Shapes.{HeadAfter, SyncsAfter, WritesAs, WritesFor};
 

@@ -3,14 +3,26 @@
 
 mod adding;
 mod command;
+mod foreign;
 mod intake;
 pub mod laws;
+mod sending;
 mod taking;
 mod tree;
 
 pub use command::run;
 pub use uf_reply::Status;
 
+#[cfg(test)]
+mod dag_tests;
+#[cfg(test)]
+mod fault_tests;
+#[cfg(test)]
+mod file_tests;
+#[cfg(test)]
+mod move_tests;
+#[cfg(test)]
+mod shard_tests;
 #[cfg(test)]
 mod tests;
 #[cfg(test)]

@@ -1,7 +1,7 @@
 // The input written into a file of the tree that the Head names.
 ghost use Rattle.uf_edge.specs.Counts.{Counts};
 ghost use Rattle.uf_top.specs.Causes.{TakesAll, is_read};
-ghost use Rattle.uf_top.specs.Working.{Works};
+ghost use Rattle.uf_top.specs.Working.{Makes};
 ghost use Rattle.uf_reply.specs.declared.types.Command.TheVariants as commands;
 
 use crate::tree::{edit_at, opening};
@@ -28,7 +28,7 @@ pub fn write_input<S: Store, N: NameHash, I: Source, L: Ledger>(
     input: &mut I,
     touches: &mut Steps<L>,
 ) -> Result<Block, Refusal>
-    ensures { Works S.X.block32 N.name64 (commands.WriteInput how path.now) result (S.seen store.old)
+    ensures { Makes S.X.block32 N.name64 (commands.WriteInput how path.now) result (S.seen store.old)
         (S.seen store.new) (I.left input.old) (I.left input.new) (I.faults input.old) (I.faults input.new)
         touches.old touches.new }
 {

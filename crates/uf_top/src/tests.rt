@@ -5,12 +5,10 @@ use crate::run;
 use std::alloc::Global;
 use std::marker::Brand;
 use std::sync::ledger::{Blank, Ledger};
-use uf_cid::{Block, Cid, Codec, Memory, Sha256Hash};
-use uf_edge::{Calls, MemHost, MemSink, MemSource, Put};
-use uf_murmur::Murmur3;
+use uf_cid::{Block, BlockHash, Cid, Codec, Memory, Sha256Hash, Sum8Hash};
+use uf_edge::{Calls, MemHost, MemSink, MemSource, Put, Read, Source};
+use uf_murmur::{FirstEight, Murmur3, NameHash};
 use uf_store::{CallKind, MemStore, Note, Steps, Store};
-
-type Kept = MemStore<Sha256Hash>;
 
 // What is done with one store, and what is to come of it.
 pub enum Step {
@@ -24,6 +22,8 @@ pub enum Step {
     Loses(&'static [u8]),
     // Other bytes are put in the place of this node's.
     Spoils(&'static [u8]),
+    // The node of these bytes is held.
+    Keeps(&'static [u8]),
     // So many blocks are held.
     Holds(usize),
     // A command that is done: it writes to the store, and prints nothing.
@@ -36,12 +36,23 @@ pub enum Step {
     Refuses(&'static str, u8, &'static [u8]),
     // `add -n` of so many zero bytes, which prints this.
     AddsZeros(usize, &'static [u8]),
+    // A command that is done with an input of so many other bytes, with a `z` at this place, and prints this.
+    Feeds(&'static str, usize, Option<usize>, &'static [u8]),
+    // A command whose input has more bytes than may be written into a file at once.
+    FeedsTooMuch(&'static str),
+    // A command that is done with each number from 1 to this one behind it, in two digits where it has fewer.
+    Counts(&'static str, u32),
+    // A command that would be done with so many loads and so many saves.
+    Takes(&'static str, u8),
     // `add -n` over these streams, which ends with this status and error line, and prints nothing.
     AddsOver(Streams, u8, &'static [u8]),
     // `add -n` over outputs with room for the first bytes of its row, and at last for the whole of it.
     AddsCut,
     // A command that is done. Of a stop before its last write this is told then, and of one after it that.
     Stops(&'static str, Row<'static>, Row<'static>),
+    // A command that would be done. Where a call of the store that it makes fails, it is refused, this is told then, the
+    // same command is done, and then that is told.
+    Fails(&'static str, Row<'static>, Row<'static>),
 }
 
 // The room of an output, and the calls that are to fail.
@@ -86,9 +97,11 @@ const HELLO_ADDED: Row<'static> = Row {
     errors: b"",
 };
 
+// The words of a line, which end at tabs where it has some.
 fn split(alloc: Global, line: &str) -> Result<Vec<String>, Memory> {
+    let end = if line.contains('\t') { '\t' } else { ' ' };
     let mut words = Vec::new(alloc);
-    for word in line.split(' ') {
+    for word in line.split(end) {
         words.push(String::from_str(alloc, word)?)?;
     }
     Ok(words)
@@ -116,25 +129,61 @@ fn sink(alloc: Global, room: usize, fails: Option<u64>) -> Result<MemSink, Memor
     MemSink::new(alloc, room, calls(alloc, fails)?)
 }
 
+// Gives so many zero bytes. It doesn't tell.
+#[derive(Drop)]
+struct Zeros {
+    left: usize,
+}
+
+impl Source for Zeros {
+    ghost use Rattle.std.specs.Prelude.{None};
+
+    ghost left = { λ s. None };
+
+    ghost faults = { λ s. 0 };
+
+    fn read(&mut self, buf: &mut [u8]) -> Read {
+        let count = buf.len().min(self.left);
+        if count == 0 {
+            return Read::End;
+        }
+        buf[..count].fill(0);
+        self.left -= count;
+        Read::Got(count)
+    }
+}
+
 // Whether a command ends so.
-fn ends<L: Ledger>(
+fn ends<X: BlockHash, N: NameHash, L: Ledger>(
     alloc: Global,
     row: &Row,
     streams: &Streams,
-    store: &mut Kept,
+    store: &mut MemStore<X>,
+    touches: &mut Steps<L>,
+) -> Result<bool, Memory> {
+    let mut input = source(alloc, row.input, streams.input_fails)?;
+    ends_on::<X, N, MemSource, L>(alloc, row, &mut input, streams, store, touches)
+}
+
+// Whether a command ends so on this input.
+fn ends_on<X: BlockHash, N: NameHash, I: Source, L: Ledger>(
+    alloc: Global,
+    row: &Row,
+    input: &mut I,
+    streams: &Streams,
+    store: &mut MemStore<X>,
     touches: &mut Steps<L>,
 ) -> Result<bool, Memory> {
     let words = split(alloc, row.words)?;
-    let mut input = source(alloc, row.input, streams.input_fails)?;
     let mut output = sink(alloc, streams.room, streams.output_fails)?;
     let mut errors = sink(alloc, 1000, streams.errors_fail)?;
     let mut host = MemHost::new(alloc, Calls::new(alloc));
-    let status = run::<Kept, Murmur3, MemHost, MemSource, MemSink, MemSink, L>(
+    let status = run::<MemStore<X>, N, MemHost, I, MemSink, MemSink, L>(
         alloc,
         &words,
         store,
         &mut host,
-        &mut input,
+        input,
         &mut output,
         &mut errors,
         touches,
@@ -194,25 +243,25 @@ fn cut_row(room: usize) -> Row<'static> {
     }
 }
 
-fn are_cut<L: Ledger>(
+fn are_cut<X: BlockHash, N: NameHash, L: Ledger>(
     alloc: Global,
-    store: &mut Kept,
+    store: &mut MemStore<X>,
     touches: &mut Steps<L>,
 ) -> Result<bool, Memory> {
     for room in 0..127 {
         let streams = Streams { room, ..FINE };
-        if !ends(alloc, &cut_row(room), &streams, store, touches)? {
+        if !ends::<X, N, L>(alloc, &cut_row(room), &streams, store, touches)? {
             return Ok(false);
         }
     }
     Ok(true)
 }
 
-fn adds_zeros<L: Ledger>(
+fn adds_zeros<X: BlockHash, N: NameHash, L: Ledger>(
     alloc: Global,
     count: usize,
     output: &[u8],
-    store: &mut Kept,
+    store: &mut MemStore<X>,
     touches: &mut Steps<L>,
 ) -> Result<bool, Memory> {
     let zeros = vec![in alloc; 0u8; count]?;
@@ -223,28 +272,194 @@ fn adds_zeros<L: Ledger>(
         output,
         errors: b"",
     };
-    ends(alloc, &row, &FINE, store, touches)
+    ends::<X, N, L>(alloc, &row, &FINE, store, touches)
+}
+
+// So many bytes, each of which tells its place.
+fn various(alloc: Global, count: usize, changed: Option<usize>) -> Result<Vec<u8>, Memory> {
+    let mut bytes = Vec::new(alloc);
+    for place in 0..count {
+        bytes.push(if changed == Some(place) {
+            b'z'
+        } else {
+            (place % 251) as u8
+        })?;
+    }
+    Ok(bytes)
+}
+
+// Whether a command is done with such an input.
+fn feeds<X: BlockHash, N: NameHash, L: Ledger>(
+    alloc: Global,
+    row: &Row,
+    bytes: (usize, Option<usize>),
+    store: &mut MemStore<X>,
+    touches: &mut Steps<L>,
+) -> Result<bool, Memory> {
+    let input = various(alloc, bytes.0, bytes.1)?;
+    let row = Row {
+        words: row.words,
+        input: &input,
+        ..*row
+    };
+    ends::<X, N, L>(alloc, &row, &FINE, store, touches)
+}
+
+// Whether a command is refused that would write too much.
+fn feeds_too_much<X: BlockHash, N: NameHash, L: Ledger>(
+    alloc: Global,
+    words: &str,
+    store: &mut MemStore<X>,
+    touches: &mut Steps<L>,
+) -> Result<bool, Memory> {
+    let row = Row {
+        words,
+        input: b"",
+        status: 1,
+        output: b"",
+        errors: b"error: rule InputTooLong\n",
+    };
+    let mut input = Zeros { left: 268435457 };
+    ends_on::<X, N, Zeros, L>(alloc, &row, &mut input, &FINE, store, touches)
+}
+
+// Whether a command is done with each of these numbers.
+fn counts<X: BlockHash, N: NameHash, L: Ledger>(
+    alloc: Global,
+    words: &str,
+    last: u32,
+    store: &mut MemStore<X>,
+    touches: &mut Steps<L>,
+) -> Result<bool, Memory> {
+    for number in 1..=last {
+        let line = format!(in alloc; "{words}{number:02}")?;
+        let row = Row {
+            words: line.as_str(),
+            input: b"",
+            status: 0,
+            output: b"",
+            errors: b"",
+        };
+        if !ends::<X, N, L>(alloc, &row, &FINE, store, touches)? {
+            return Ok(false);
+        }
+    }
+    Ok(true)
+}
+
+// A store that holds the same.
+fn copied<X: BlockHash>(alloc: Global, store: &MemStore<X>) -> Result<MemStore<X>, Memory> {
+    store.after_stop(store.writes(), &Calls::new(alloc))
+}
+
+// Whether a command is done with so many loads and so many saves.
+fn is_done_within<X: BlockHash, N: NameHash, L: Ledger>(
+    alloc: Global,
+    row: &Row,
+    most: u8,
+    store: &MemStore<X>,
+    touches: &mut Steps<L>,
+) -> Result<bool, Memory> {
+    let mut store = copied(alloc, store)?;
+    let next = u64::from(most) + 1;
+    store.fail_at(CallKind::Load, next)?;
+    store.fail_at(CallKind::Save, next)?;
+    ends::<X, N, L>(alloc, row, &FINE, &mut store, touches)
+}
+
+// Whether these commands end so where the call of this kind with this number fails.
+fn end_after_failure<X: BlockHash, N: NameHash, L: Ledger>(
+    alloc: Global,
+    rows: &[&Row],
+    call: (CallKind, u64),
+    store: &MemStore<X>,
+    touches: &mut Steps<L>,
+) -> Result<bool, Memory> {
+    let mut store = copied(alloc, store)?;
+    store.fail_at(call.0, call.1)?;
+    for row in rows {
+        if !ends::<X, N, L>(alloc, row, &FINE, &mut store, touches)? {
+            return Ok(false);
+        }
+    }
+    Ok(true)
+}
+
+// Whether the command makes calls of this kind, and each of them may fail.
+fn fails_well_at<X: BlockHash, N: NameHash, L: Ledger>(
+    alloc: Global,
+    kind: CallKind,
+    rows: [&Row; 3],
+    store: &MemStore<X>,
+    touches: &mut Steps<L>,
+) -> Result<bool, Memory> {
+    let [done, before, after] = rows;
+    let refused = Row {
+        status: 3,
+        errors: b"error: store\n",
+        ..*done
+    };
+    for number in 1u64..100 {
+        let call = (kind, number);
+        if end_after_failure::<X, N, L>(alloc, &[done], call, store, touches)? {
+            return Ok(1 < number);
+        }
+        let all = [&refused, before, done, after];
+        if !end_after_failure::<X, N, L>(alloc, &all, call, store, touches)? {
+            return Ok(false);
+        }
+    }
+    Ok(false)
+}
+
+const CALLS: [CallKind; 5] = [
+    CallKind::Load,
+    CallKind::Save,
+    CallKind::Sync,
+    CallKind::ReadNote,
+    CallKind::WriteNote,
+];
+
+// The same of each kind of call.
+fn fails_well<X: BlockHash, N: NameHash, L: Ledger>(
+    alloc: Global,
+    rows: [&Row; 3],
+    store: &MemStore<X>,
+    touches: &mut Steps<L>,
+) -> Result<bool, Memory> {
+    for kind in CALLS {
+        if !fails_well_at::<X, N, L>(alloc, kind, rows, store, touches)? {
+            return Ok(false);
+        }
+    }
+    Ok(true)
 }
 
 // The CID of a node.
-fn cid(bytes: &[u8]) -> Cid {
-    Cid::of::<Sha256Hash>(Codec::DagPb, bytes)
+fn cid<X: BlockHash>(bytes: &[u8]) -> Cid {
+    Cid::of::<X>(Codec::DagPb, bytes)
 }
 
-// Puts other bytes in the place of a node's.
-fn spoils(alloc: Global, store: &mut Kept, bytes: &[u8]) -> Result<(), Memory> {
-    let other = block(alloc, b"other")?;
-    store.plant(&cid(bytes), other)
+// Holds these bytes under the CID of a node.
+fn plants<X: BlockHash>(
+    alloc: Global,
+    store: &mut MemStore<X>,
+    node: &[u8],
+    bytes: &[u8],
+) -> Result<(), Memory> {
+    let held = block(alloc, bytes)?;
+    store.plant(&cid::<X>(node), held)
 }
 
 // Does what is done with the store but by commands.
-fn sets(alloc: Global, step: &Step, store: &mut Kept) -> Result<bool, Memory> {
+fn sets<X: BlockHash>(alloc: Global, step: &Step, store: &mut MemStore<X>) -> Result<bool, Memory> {
     match step {
-        Step::Anew => *store = Kept::new(alloc),
+        Step::Anew => *store = MemStore::new(alloc),
         Step::Breaks(kind, number) => store.fail_at(*kind, *number)?,
         Step::Head(text) => return Ok(store.write_note(Note::Head, *text) == Put::Done),
-        Step::Loses(bytes) => store.forget(&cid(*bytes)),
-        Step::Spoils(bytes) => spoils(alloc, store, *bytes)?,
+        Step::Loses(bytes) => store.forget(&cid::<X>(*bytes)),
+        Step::Spoils(bytes) => plants(alloc, store, *bytes, b"other")?,
+        Step::Keeps(bytes) => plants(alloc, store, *bytes, *bytes)?,
         Step::Holds(count) => return Ok(store.count() == *count),
         _ => return Ok(false),
     }
@@ -262,11 +477,11 @@ fn writes_so(step: &Step, writes: bool) -> bool {
 
 // Whether this is told of the store after a stop behind so many writes, where all saves outlived it or where all that
 // could be lost are lost.
-fn stops_so<L: Ledger>(
+fn stops_so<X: BlockHash, N: NameHash, L: Ledger>(
     alloc: Global,
     at: usize,
     row: &Row,
-    store: &Kept,
+    store: &MemStore<X>,
     touches: &mut Steps<L>,
 ) -> Result<bool, Memory> {
     if store.writes() < at {
@@ -278,27 +493,30 @@ fn stops_so<L: Ledger>(
         places.push(place)?;
     }
     let mut lost = store.after_stop(at, &places)?;
-    Ok(ends(alloc, row, &FINE, &mut kept, touches)? && ends(alloc, row, &FINE, &mut lost, touches)?)
+    Ok(
+        ends::<X, N, L>(alloc, row, &FINE, &mut kept, touches)?
+            && ends::<X, N, L>(alloc, row, &FINE, &mut lost, touches)?,
+    )
 }
 
 // Whether a command is done, and a stop at each of its writes leaves what it should.
-fn stops_well<L: Ledger>(
+fn stops_well<X: BlockHash, N: NameHash, L: Ledger>(
     alloc: Global,
     rows: [&Row; 3],
-    store: &mut Kept,
+    store: &mut MemStore<X>,
     touches: &mut Steps<L>,
 ) -> Result<bool, Memory> {
     let [done, before, after] = rows;
     let first = store.writes();
-    if !ends(alloc, done, &FINE, store, touches)? {
+    if !ends::<X, N, L>(alloc, done, &FINE, store, touches)? {
         return Ok(false);
     }
     for at in first..store.writes() {
-        if !stops_so(alloc, at, before, store, touches)? {
+        if !stops_so::<X, N, L>(alloc, at, before, store, touches)? {
             return Ok(false);
         }
     }
-    stops_so(alloc, store.writes(), after, store, touches)
+    stops_so::<X, N, L>(alloc, store.writes(), after, store, touches)
 }
 
 fn streams_of(step: &Step) -> Streams {
@@ -308,43 +526,75 @@ fn streams_of(step: &Step) -> Streams {
     }
 }
 
-fn is_right<L: Ledger>(
+// The row of a command that is done, and prints nothing.
+fn done(words: &'static str) -> Row<'static> {
+    Row { words, ..DONE }
+}
+
+// Whether a command ends and writes as it should, or the store is set.
+fn is_row<X: BlockHash, N: NameHash, L: Ledger>(
     alloc: Global,
     step: &Step,
-    store: &mut Kept,
+    store: &mut MemStore<X>,
+    touches: &mut Steps<L>,
+) -> Result<bool, Memory> {
+    match row_of(step) {
+        Some(row) => {
+            let before = store.writes();
+            let right = ends::<X, N, L>(alloc, &row, &streams_of(step), store, touches)?;
+            Ok(right && writes_so(step, before < store.writes()))
+        }
+        None => sets(alloc, step, store),
+    }
+}
+
+fn is_right<X: BlockHash, N: NameHash, L: Ledger>(
+    alloc: Global,
+    step: &Step,
+    store: &mut MemStore<X>,
     touches: &mut Steps<L>,
 ) -> Result<bool, Memory> {
     match step {
-        Step::AddsZeros(count, output) => adds_zeros(alloc, *count, *output, store, touches),
-        Step::AddsCut => are_cut(alloc, store, touches),
-        Step::Stops(words, before, after) => {
-            let done = Row {
-                words: *words,
-                ..DONE
-            };
-            stops_well(alloc, [&done, before, after], store, touches)
+        Step::AddsZeros(count, output) => {
+            adds_zeros::<X, N, L>(alloc, *count, *output, store, touches)
         }
-        _ => match row_of(step) {
-            Some(row) => {
-                let before = store.writes();
-                let right = ends(alloc, &row, &streams_of(step), store, touches)?;
-                Ok(right && writes_so(step, before < store.writes()))
-            }
-            None => sets(alloc, step, store),
-        },
+        Step::AddsCut => are_cut::<X, N, L>(alloc, store, touches),
+        Step::Feeds(words, count, changed, output) => {
+            let row = Row {
+                output: *output,
+                ..done(*words)
+            };
+            feeds::<X, N, L>(alloc, &row, (*count, *changed), store, touches)
+        }
+        Step::FeedsTooMuch(words) => feeds_too_much::<X, N, L>(alloc, *words, store, touches),
+        Step::Counts(words, last) => counts::<X, N, L>(alloc, *words, *last, store, touches),
+        Step::Takes(words, most) => {
+            is_done_within::<X, N, L>(alloc, &done(*words), *most, store, touches)
+        }
+        Step::Stops(words, before, after) => {
+            stops_well::<X, N, L>(alloc, [&done(*words), before, after], store, touches)
+        }
+        Step::Fails(words, before, after) => {
+            fails_well::<X, N, L>(alloc, [&done(*words), before, after], store, touches)
+        }
+        _ => is_row::<X, N, L>(alloc, step, store, touches),
     }
 }
 
 // The place of the first step that is wrong.
-fn first_wrong_by<L: Ledger>(alloc: Global, steps: &[Step], blank: Blank) -> Option<usize>
+fn first_wrong_by<X: BlockHash, N: NameHash, L: Ledger>(
+    alloc: Global,
+    steps: &[Step],
+    blank: Blank,
+) -> Option<usize>
     requires name { blank.name ≡ L.name }
     requires parts { blank.parts ≡ L.parts }
     requires some { 0 < blank.parts }
 {
     let mut touches = Steps::<L>::new(blank);
-    let mut store = Kept::new(alloc);
+    let mut store = MemStore::<X>::new(alloc);
     for i in 0..steps.len() {
-        if is_right(alloc, &steps[i], &mut store, &mut touches) != Ok(true) {
+        if is_right::<X, N, L>(alloc, &steps[i], &mut store, &mut touches) != Ok(true) {
             return Some(i);
         }
     }
@@ -352,7 +602,17 @@ fn first_wrong_by<L: Ledger>(alloc: Global, steps: &[Step], blank: Blank) -> Opt
 }
 
 pub fn first_wrong(alloc: Global, steps: &[Step]) -> Option<usize> {
-    first_wrong_by::<Brand>(alloc, steps, Blank::new(1))
+    first_wrong_by::<Sha256Hash, Murmur3, Brand>(alloc, steps, Blank::new(1))
+}
+
+// The same where the slots of a name are its first letters.
+pub fn first_wrong_by_letters(alloc: Global, steps: &[Step]) -> Option<usize> {
+    first_wrong_by::<Sha256Hash, FirstEight, Brand>(alloc, steps, Blank::new(1))
+}
+
+// The same where blocks of one sum clash.
+pub fn first_wrong_by_sums(alloc: Global, steps: &[Step]) -> Option<usize> {
+    first_wrong_by::<Sum8Hash, Murmur3, Brand>(alloc, steps, Blank::new(1))
 }
 
 const EMPTY: &[u8] =
@@ -367,7 +627,7 @@ const INPUTS: [Step; 7] = [
     Step::Adds("add --only-hash", b"hello world", HELLO),
     Step::Refuses("add", 10, b"error: not ready 1\n"),
     Step::Refuses("add x", 2, b"error: usage\n"),
-    Step::Refuses("cat x", 2, b"error: usage\n"),
+    Step::Refuses("dag x", 2, b"error: usage\n"),
     Step::Holds(0),
 ];
 

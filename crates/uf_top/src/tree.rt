@@ -3,8 +3,9 @@ ghost use Rattle.std.specs.Prelude.{ℕ, false, true, IsTrue};
 ghost use Rattle.uf_edge.specs.Streams.{Told as Left};
 ghost use Rattle.uf_mfs.specs.Standing.{IsMfs};
 ghost use Rattle.uf_tree.specs.Profiles.{is_profile};
-ghost use Rattle.uf_top.specs.Causes.{IsMade, IsOpeningFault, IsTreeFault, RefusesInTree, RefusesOpening};
-ghost use Rattle.uf_top.specs.Working.{EditsInMemory, Works, WorksAt};
+ghost use Rattle.uf_top.specs.Causes.{IsMade, IsOpeningFault, IsSendingFault, IsTreeFault};
+ghost use Rattle.uf_top.specs.Causes.{RefusesInTree, RefusesOpening, RefusesSending};
+ghost use Rattle.uf_top.specs.Working.{EditsInMemory, Makes, WorksAt};
 ghost use Rattle.uf_reply.specs.declared.types.Ask.TheVariants as asks;
 ghost use Rattle.uf_reply.specs.declared.types.Command.TheVariants as commands;
 
@@ -26,7 +27,7 @@ pub fn init<S: Store, N: NameHash, L: Ledger>(
     touches: &mut Steps<L>,
 ) -> Result<Block, Refusal>
     requires { IsTrue (is_profile profile) }
-    ensures { (left : Left) (reads : ℕ) → Works S.X.block32 N.name64 (commands.Init profile) result (S.seen store.old)
+    ensures { (left : Left) (reads : ℕ) → Makes S.X.block32 N.name64 (commands.Init profile) result (S.seen store.old)
         (S.seen store.new) left left reads reads touches.old touches.new }
 {
     match Mfs::init::<S, N, L>(alloc, store, profile, touches) {
@@ -47,7 +48,7 @@ pub fn at<S: Store, N: NameHash, L: Ledger>(
     touches: &mut Steps<L>,
 ) -> Result<Block, Refusal>
     ensures { (left : Left) (reads : ℕ)
-        → Works S.X.block32 N.name64 (commands.At ask.now path.now) result (S.seen store.old)
+        → Makes S.X.block32 N.name64 (commands.At ask.now path.now) result (S.seen store.old)
         (S.seen store.new) left left reads reads touches.old touches.new }
 {
     match Mfs::from_store::<S, N, L>(alloc, store, touches) {
@@ -188,6 +189,19 @@ pub fn opening(fault: MfsFault) -> Refusal
         MfsFault::Ready(why) => Refusal::Ready(why),
         MfsFault::Store(fault) => Refusal::Store(fault),
         MfsFault::Rule(_) | MfsFault::Sink => unreachable!(),
+    }
+}
+
+// The fault of a call that sends a file of an opened tree, as a refusal. Such a tree is ready.
+pub fn sending(fault: MfsFault) -> Refusal
+    requires { IsSendingFault fault }
+    ensures { RefusesSending fault result }
+{
+    match fault {
+        MfsFault::Rule(rule) => Refusal::Rule(rule),
+        MfsFault::Store(fault) => Refusal::Store(fault),
+        MfsFault::Sink => Refusal::Write,
+        MfsFault::Ready(_) => unreachable!(),
     }
 }
 

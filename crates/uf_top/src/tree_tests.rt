@@ -3,9 +3,9 @@ use crate::tests::{DONE, HELLO, Row, Step, first_wrong};
 use uf_store::CallKind;
 
 // The block of the empty directory.
-const NOTHING: &[u8] = b"\x0a\x02\x08\x01";
+pub const NOTHING: &[u8] = b"\x0a\x02\x08\x01";
 
-const STAT_NOTHING: &[u8] =
+pub const STAT_NOTHING: &[u8] =
     b"bafybeiczsscdsbs7ffqz55asqdf3smv6klcw3gofszvwlyarci47bgf354\nSize: 0\nCumulativeSize: 4\nChildBlocks: 0\nType: directory\n";
 
 // A directory with an empty directory `d`.
@@ -250,7 +250,7 @@ const NOT_READY: Row<'static> = Row {
     ..DONE
 };
 
-const NOTHING_THERE: Row<'static> = Row {
+pub const NOTHING_THERE: Row<'static> = Row {
     words: "files stat /",
     output: STAT_NOTHING,
     ..DONE

@@ -2,7 +2,7 @@ use Rattle.std.proofs.Common.{◌≡◌, false, List, ℕ, refl, subst, None}
 use Rattle.std.specs.List.{flat_map}
 use Rattle.std.specs.Prelude.{IfOk}
 use Rattle.uf_cid.specs.declared.bytes.Memory.{Memory}
-use Rattle.uf_mfs.specs.Bad.{IsBad}
+use Rattle.uf_mfs.specs.Bad.{IsBadInTree}
 use Rattle.uf_plain.specs.Replies.{names_at}
 use Rattle.uf_reply.specs.Lines.{name_line}
 use Rattle.uf_reply.specs.Reply.{listed}
@@ -12,7 +12,7 @@ use Rattle.uf_top.proofs.Shows.{tree-fault}
 use Rattle.uf_top.proofs.tree.names_at.Goals as goal
 
 pub refusal-requires : goal.refusal-requires
-refusal-requires g c = tree-fault (List (List ℕ)) g.S.X.BlockHash.block32 (IsBad g.N.NameHash.name64 None) c.in-Err.fault (g.S.Store.seen c.args.store.now) (g.S.Store.seen c.names.new.store) c.in-Err.ensures.cause
+refusal-requires g c = tree-fault (List (List ℕ)) g.S.X.BlockHash.block32 (IsBadInTree g.S.X.BlockHash.block32 g.N.NameHash.name64 None c.args.tree.now.root.cid) c.in-Err.fault (g.S.Store.seen c.args.store.now) (g.S.Store.seen c.names.new.store) c.in-Err.ensures.cause
 
 pub returns-in-Err : goal.returns-in-Err
 returns-in-Err g c =

@@ -1,7 +1,7 @@
 use Rattle.std.proofs.Common.{◌≡◌, refl, subst, None}
 use Rattle.std.specs.Prelude.{IfOk}
 use Rattle.uf_cid.specs.declared.bytes.Memory.{Memory}
-use Rattle.uf_mfs.specs.Bad.{IsBad}
+use Rattle.uf_mfs.specs.Bad.{IsBadInTree}
 use Rattle.uf_plain.specs.Replies.{stat_of}
 use Rattle.uf_plain.specs.declared.reply.Stat.{Stat as TheStat}
 use Rattle.uf_reply.specs.Lines.{stat_text}
@@ -11,7 +11,7 @@ use Rattle.uf_top.proofs.Shows.{tree-fault}
 use Rattle.uf_top.proofs.tree.stat_at.Goals as goal
 
 pub refusal-requires : goal.refusal-requires
-refusal-requires g c = tree-fault TheStat g.S.X.BlockHash.block32 (IsBad g.N.NameHash.name64 None) c.in-Err.fault (g.S.Store.seen c.args.store.now) (g.S.Store.seen c.stat.new.store) c.in-Err.ensures.cause
+refusal-requires g c = tree-fault TheStat g.S.X.BlockHash.block32 (IsBadInTree g.S.X.BlockHash.block32 g.N.NameHash.name64 None c.args.tree.now.root.cid) c.in-Err.fault (g.S.Store.seen c.args.store.now) (g.S.Store.seen c.stat.new.store) c.in-Err.ensures.cause
 
 pub returns-in-Err : goal.returns-in-Err
 returns-in-Err g c =

@@ -1,0 +1,340 @@
+-- From the text of a command that is made before anything is printed to the command that is done.
+use Rattle.std.proofs.Common.{◌≡◌, ◌≢◌, ◌⊎◌, ℕ, ◌<◌, ◌≤◌, ◌+◌, List, [], ◌∷◌, ◌++◌, length, take, true, false, arith, refl, sym, ap, subst, ◌∙◌, inl, inr, append-nil, Some, None, Bool, Result, Ok, Err}
+use Rattle.uf_cid.specs.Blocks.{Held, Lookup}
+use Rattle.uf_edge.specs.Counts.{Counts, Stood}
+use Rattle.uf_edge.specs.Streams.{after, AppendsPrefix}
+use Rattle.uf_edge.specs.Streams as streams
+use Rattle.uf_mfs.specs.Reading.{CanRise}
+use Rattle.uf_mfs.specs.Standing.{head_in}
+use Rattle.uf_path.specs.declared.path.DagPath.{DagPath}
+use Rattle.uf_path.specs.declared.path.Path.{Path}
+use Rattle.uf_plain.specs.declared.rule.Rule.{Rule}
+use Rattle.uf_store.specs.Calls.{Calm}
+use Rattle.uf_store.specs.Contents.{Told}
+use Rattle.uf_store.specs.Faults.{Shown, StaysCalm}
+use Rattle.uf_store.specs.Seen.{Seen}
+use Rattle.uf_store.specs.declared.store.Role.{Role}
+use Rattle.uf_tree.specs.Standing.{Standing, NoHead, BadHead, Stands}
+use Rattle.uf_tree.specs.Tree.{Dir, Entries}
+use Rattle.uf_tree.specs.TreePlan.{blocks}
+use Rattle.uf_tree.specs.declared.profile.Profile.{Profile}
+use Rattle.uf_reply.specs.Commands.{HasInput, command_writes, needs_standing}
+use Rattle.uf_reply.specs.Commands as commands
+use Rattle.uf_reply.specs.Kinds.{IsOf, OfDag, OfLongInput, OfPath, OfWrite, family_of, fault_behind, may_answer, may_end, refusal_kind}
+use Rattle.uf_reply.specs.Reply.{Reply, World, reply}
+use Rattle.uf_reply.specs.Statuses.{ended, no_memory, status_of}
+use Rattle.uf_reply.specs.declared.status.Status.{Status}
+use Rattle.uf_reply.specs.declared.status.Status.TheVariants as status
+use Rattle.uf_reply.specs.declared.types.Command.{Command}
+use Rattle.uf_reply.specs.declared.types.Command.TheVariants.{Init, Add, WriteInput, At, Read, Cat}
+use Rattle.uf_reply.specs.declared.types.Refusal.{Refusal}
+use Rattle.uf_reply.specs.declared.types.Refusal.TheVariants as refusal
+use Rattle.uf_store.specs.declared.store.StoreFault.{StoreFault}
+use Rattle.uf_store.specs.declared.store.StoreFault.TheVariants as fault
+use Rattle.uf_top.specs.Answering.{Answers, DoesAnswer}
+use Rattle.uf_top.specs.Around.{Around, CountsCanRise, RisesFor, StaysQuiet, around}
+use Rattle.uf_top.specs.Causes.{HeadStays, is_read, is_write}
+use Rattle.uf_top.specs.Endings.{AddsFor, EndsBy, FindsAll, IsCut, IsTextOf, PrintsAt, PrintsElse, PrintsPart, Prints, RuleOf}
+use Rattle.uf_top.specs.Losing.{AnswersOver, DoesOver}
+use Rattle.uf_top.specs.Naming.{FindsOver, FindsWorld, NamesIf, NamesAs, StandsIf, StandsNamed, StaysNamed}
+use Rattle.uf_top.specs.Shapes.{WritesAs, is_done, is_ok}
+use Rattle.uf_top.specs.Working.{Does, Makes}
+
+-- ---- which kinds no command that waits has
+
+pub no-write : (command : Command) → may_answer (family_of command) OfWrite ≡ true → ⊥
+no-write (Init p) h = cc
+no-write (Add only_hash) h = cc
+no-write (WriteInput how path) h = cc
+no-write (At ask path) h = cc
+no-write (Read offset count path) h = cc
+no-write (Cat path) h = cc
+
+-- a command that isn't one of those that write while they read waits with its output
+pub waits-of : (command : Command) → ((offset count : ℕ) (path : Path) → command ≡ Read offset count path → ⊥) → ((path : DagPath) → command ≡ Cat path → ⊥) → commands.streams command ≡ false
+waits-of (Init p) other cat = refl
+waits-of (Add only_hash) other cat = refl
+waits-of (WriteInput how path) other cat = refl
+waits-of (At ask path) other cat = refl
+waits-of (Read offset count path) other cat = absurd (other offset count path refl)
+waits-of (Cat path) other cat = absurd (cat path refl)
+
+-- a command that waits with its output needs what the store stands for
+pub waits-stands : (command : Command) → commands.streams command ≡ false → needs_standing command ≡ true
+waits-stands (Init p) h = refl
+waits-stands (Add only_hash) h = refl
+waits-stands (WriteInput how path) h = refl
+waits-stands (At ask path) h = refl
+waits-stands (Read offset count path) h = absurd cc
+waits-stands (Cat path) h = absurd cc
+
+-- what may be answered before anything is printed may be answered after it
+may-end : (command : Command) (k : Refusal) → may_answer (family_of command) (refusal_kind k) ≡ true → may_end (family_of command) (refusal_kind k) ≡ true
+may-end command (refusal.Rule rule) h = h
+may-end command (refusal.Dag rule) h = h
+may-end command (refusal.BadPath why) h = h
+may-end command refusal.InputTooLong h = h
+may-end command refusal.Usage h = h
+may-end command (refusal.Ready why) h = h
+may-end command refusal.Read h = h
+may-end command refusal.Write h = refl
+may-end command (refusal.Store fault.Failed) h = h
+may-end command (refusal.Store (fault.Damaged cid)) h = h
+may-end command (refusal.Store (fault.Missing cid)) h = h
+may-end command (refusal.Store (fault.BadBlock cid role)) h = h
+may-end command (refusal.Store (fault.Clash cid first second)) h = h
+may-end command (refusal.Store fault.Memory) h = h
+
+-- ---- a refusal that no failed write is prints nothing, and the command wasn't done
+
+pub record IsQuiet (IsText : List ℕ → Type 0) (flows : Bool) (why : Refusal) : Type 0 where
+  pub prints : (held now : streams.Told) → PrintsElse flows held now → PrintsAt IsText flows (status_of why) held now
+  pub undone : is_done (status_of why) ≡ false
+  pub unwritten : is_write {A = Unit {0}} (Err why) ≡ false
+
+pub quiet-of : (IsText : List ℕ → Type 0) (flows : Bool) (why : Refusal) → refusal_kind why ≢ OfWrite → IsQuiet IsText flows why
+quiet-of T f (refusal.Rule rule) other = record { prints = λ h n e. e; undone = refl; unwritten = refl }
+quiet-of T f (refusal.Dag rule) other = record { prints = λ h n e. e; undone = refl; unwritten = refl }
+quiet-of T f (refusal.BadPath path) other = record { prints = λ h n e. e; undone = refl; unwritten = refl }
+quiet-of T f refusal.Usage other = record { prints = λ h n e. e; undone = refl; unwritten = refl }
+quiet-of T f refusal.InputTooLong other = record { prints = λ h n e. e; undone = refl; unwritten = refl }
+quiet-of T f (refusal.Ready reason) other = record { prints = λ h n e. e; undone = refl; unwritten = refl }
+quiet-of T f refusal.Read other = record { prints = λ h n e. e; undone = refl; unwritten = refl }
+quiet-of T f refusal.Write other = absurd (other refl)
+quiet-of T f (refusal.Store fault.Failed) other = record { prints = λ h n e. e; undone = refl; unwritten = refl }
+quiet-of T f (refusal.Store (fault.Damaged cid)) other = record { prints = λ h n e. e; undone = refl; unwritten = refl }
+quiet-of T f (refusal.Store (fault.Missing cid)) other = record { prints = λ h n e. e; undone = refl; unwritten = refl }
+quiet-of T f (refusal.Store (fault.BadBlock cid role)) other = record { prints = λ h n e. e; undone = refl; unwritten = refl }
+quiet-of T f (refusal.Store (fault.Clash cid first second)) other = record { prints = λ h n e. e; undone = refl; unwritten = refl }
+quiet-of T f (refusal.Store fault.Memory) other = record { prints = λ h n e. e; undone = refl; unwritten = refl }
+
+pub rises-still : (w : ℕ) → RisesFor false w w
+rises-still w = record { rose = λ e. absurd cc; still = λ e. refl }
+
+pub after-nothing : (held : streams.Told) → held ≡ after held []
+after-nothing None = refl
+after-nothing (Some bytes) = ap (λ (l : List ℕ). Some l) (sym (append-nil bytes))
+
+-- nothing was printed
+pub else-same : (flows : Bool) (held : streams.Told) → PrintsElse flows held held
+else-same true held = ([], after-nothing held)
+else-same false held = refl
+
+-- of any text, nothing is a part
+pub nothing-printed : (ends : Result (List ℕ) Refusal) (held now : streams.Told) → now ≡ held → PrintsPart ends held now
+nothing-printed (Ok text) held now same = record { count = 0; fits = search arith; appended = same ∙ after-nothing held }
+nothing-printed (Err why) held now same = same
+
+take-all : (text : List ℕ) → take (length text) text ≡ text
+take-all [] = refl
+take-all (b ∷ text) = ap (λ (l : List ℕ). b ∷ l) (take-all text)
+
+-- the whole of a text is a part of it
+pub whole-printed : (text : List ℕ) (held now : streams.Told) → now ≡ after held text → AppendsPrefix text held now
+whole-printed text held now is = record { count = length text; fits = search arith; appended = is ∙ ap (λ (l : List ℕ). after held l) (sym (take-all text)) }
+
+-- a store that has room and has stayed calm was calm
+pub calm-of : (a b : Seen) → CountsCanRise a → StaysCalm a b → Calm a b
+calm-of a b room calm = record {
+  faults = (let e = calm.faults in let r = room.faults in omega (arith, e, r));
+  clashes = (let e = calm.clashes in let r = room.clashes in omega (arith, e, r));
+}
+
+some-stays : (text : List ℕ) (a b : Told) → (text ≢ []) → HeadStays (Ok text) a b → head_in b ≡ head_in a
+some-stays [] a b some stays = absurd (some refl)
+some-stays (x ∷ text) a b some stays = stays
+
+module _ (X : List ℕ → List ℕ) (N : List ℕ → ℕ) where
+  text-of : (command : Command) (told : Told) (l m : streams.Told) (text : List ℕ) → AddsFor X told (Ok command) (Ok text) l m → IsTextOf X told (Ok command) l text
+  text-of (Init p) told l m text h = tt
+  text-of (Add only_hash) told l m text h = h
+  text-of (WriteInput how path) told l m text h = tt
+  text-of (At ask path) told l m text h = tt
+  text-of (Read offset count path) told l m text h = tt
+  text-of (Cat path) told l m text h = tt
+
+  rule-in : (command : Command) (told : Told) (l m : streams.Told) (rule : Rule) → may_answer (family_of command) (refusal_kind (refusal.Rule rule)) ≡ true → AddsFor X told (Ok command) (Err (refusal.Rule rule)) l m
+      → RuleOf (Ok command) (refusal.Rule rule) told l m
+  rule-in (Init p) told l m rule h adds = absurd cc
+  rule-in (Add only_hash) told l m rule h adds = (ap refusal.Rule adds.0, adds.1)
+  rule-in (WriteInput how path) told l m rule h adds = inr (rule, refl)
+  rule-in (At ask path) told l m rule h adds = (rule, refl)
+  rule-in (Read offset count path) told l m rule h adds = (rule, refl)
+  rule-in (Cat path) told l m rule h adds = absurd cc
+
+  long-in : (command : Command) (told : Told) (l m : streams.Told) → may_answer (family_of command) OfLongInput ≡ true → AddsFor X told (Ok command) (Err refusal.InputTooLong) l m
+      → RuleOf (Ok command) refusal.InputTooLong told l m
+  long-in (Init p) told l m h adds = absurd cc
+  long-in (Add only_hash) told l m h adds = absurd cc
+  long-in (WriteInput how path) told l m h adds = inl (refl, adds)
+  long-in (At ask path) told l m h adds = absurd cc
+  long-in (Read offset count path) told l m h adds = absurd cc
+  long-in (Cat path) told l m h adds = absurd cc
+
+  no-path : (command : Command) → may_answer (family_of command) OfPath ≡ true → ⊥
+  no-path (Init p) h = cc
+  no-path (Add only_hash) h = cc
+  no-path (WriteInput how path) h = cc
+  no-path (At ask path) h = cc
+  no-path (Read offset count path) h = cc
+  no-path (Cat path) h = cc
+
+  no-dag : (command : Command) → needs_standing command ≡ true → may_answer (family_of command) OfDag ≡ true → ⊥
+  no-dag (Init p) needs h = cc
+  no-dag (Add only_hash) needs h = cc
+  no-dag (WriteInput how path) needs h = cc
+  no-dag (At ask path) needs h = cc
+  no-dag (Read offset count path) needs h = cc
+  no-dag (Cat path) needs h = cc
+
+  rules : (command : Command) → needs_standing command ≡ true → (told : Told) (l m : streams.Told) (why : Refusal) → may_answer (family_of command) (refusal_kind why) ≡ true → AddsFor X told (Ok command) (Err why) l m
+      → status_of why ≡ status.Rule → RuleOf (Ok command) why told l m
+  rules command needs told l m (refusal.Rule rule) h adds is = rule-in command told l m rule h adds
+  rules command needs told l m (refusal.Dag rule) h adds is = absurd (no-dag command needs h)
+  rules command needs told l m (refusal.BadPath why) h adds is = absurd (no-path command h)
+  rules command needs told l m refusal.InputTooLong h adds is = long-in command told l m h adds
+  rules command needs told l m refusal.Usage h adds is = absurd cc
+  rules command needs told l m (refusal.Ready why) h adds is = absurd cc
+  rules command needs told l m refusal.Read h adds is = absurd cc
+  rules command needs told l m refusal.Write h adds is = absurd cc
+  rules command needs told l m (refusal.Store fault.Failed) h adds is = absurd cc
+  rules command needs told l m (refusal.Store (fault.Damaged cid)) h adds is = absurd cc
+  rules command needs told l m (refusal.Store (fault.Missing cid)) h adds is = absurd cc
+  rules command needs told l m (refusal.Store (fault.BadBlock cid role)) h adds is = absurd cc
+  rules command needs told l m (refusal.Store (fault.Clash cid first second)) h adds is = absurd cc
+  rules command needs told l m (refusal.Store fault.Memory) h adds is = absurd cc
+
+  module _ (command : Command) (needs : needs_standing command ≡ true) (a b : Seen) (l m : streams.Told) (i j t0 t1 : ℕ) (h : streams.Told) (w : ℕ) where
+    stands-in : (told : Told) (s : Standing) → StandsIf X N (needs_standing command) told s → StandsIf X N true told s
+    stands-in told s stands = subst (λ n. StandsIf X N n told s) needs stands
+
+    stands-out : (told : Told) (s : Standing) → StandsIf X N true told s → StandsIf X N (needs_standing command) told s
+    stands-out told s stands = subst (λ n. StandsIf X N n told s) (sym needs) stands
+
+    -- a command that is refused before anything is printed
+    pub refused-does : (why : Refusal) → Makes X N command (Err why) a b l m i j t0 t1 → Does X N command (Err why) (around a l i h w t0) (around b m j h w t1)
+    refused-does why mk =
+        let quiet = quiet-of (IsTextOf X a.told (Ok command) l) (commands.streams command) why (λ e. no-write command (subst (λ k. may_answer (family_of command) k ≡ true) e mk.kinds)) in
+        record {
+          answers = λ world finds input calm. answered world (mk.answers world (stands-in a.told world.standing finds.stands) input calm.store);
+          lost = λ p es rows held bytes named tells heights input calm. over p es (mk.lost p es rows held bytes named input calm.store);
+          prefix = λ world finds input room. nothing-printed (reply X N command world).ends h h refl;
+          prints = quiet.prints h h (else-same (commands.streams command) h);
+          kinds = may-end command why mk.kinds;
+          ready = mk.ready;
+          rule = λ is. rules command needs a.told l m why mk.kinds mk.adds is;
+          reads = mk.counts;
+          writes = subst (λ f. RisesFor f w w) (sym quiet.unwritten) (rises-still w);
+          cause = mk.cause;
+          whole = λ s needs stands calm. mk.whole s stands calm;
+          touches = λ p es bytes rows named input heights calm. mk.touches p es bytes rows named input heights calm;
+          touched = mk.touched;
+          leaves = record {
+            good = mk.leaves.good;
+            head = mk.leaves.head;
+            writes = subst (λ d. WritesAs X (command_writes command) d a.told b.told) (sym quiet.undone) mk.leaves.writes;
+            idle = mk.leaves.idle;
+          };
+        }
+      where
+        answered : (world : World) → Answers X N world.standing (reply X N command world) (Err why) b.told → DoesAnswer X N command world (Err why) h h b.told
+        answered world (inl x) =
+            let e : why ≡ no_memory = (let same = x.ends_are in cc) in
+            inl (record { ends_are = ap (λ (r : Refusal). Err r) e; stands = stands-out b.told world.standing x.stands })
+        answered world (inr x) =
+            inr (record {
+              ends = subst (λ e. EndsBy e (Err why) h h) x.ends_are (refl, refl);
+              stands = stands-out b.told (reply X N command world).next x.stands;
+              blocks = x.held;
+            })
+
+        over : (p : Profile) (es : Entries) {needs : List Held} {given : Reply} → AnswersOver X N a.told b.told p es needs given (Err why) → DoesOver X N a.told b.told p es needs given (Err why) h h
+        over p es (inl x) =
+            let e : why ≡ refusal.Store x.fault = (let same = x.ends_are in cc) in
+            inl (record { fault = x.fault; ends_are = ap (λ (r : Refusal). Err r) e; loss = x.loss; stands = x.stands })
+        over p es (inr x) = inr (record { ends = subst (λ e. EndsBy e (Err why) h h) x.ends_are (refl, refl); stands = x.stands })
+
+    module _ (text : List ℕ) (mk : Makes X N command (Ok text) a b l m i j t0 t1) where
+      -- the text is the reply's, whatever blocks are lost
+      text-given : (s : Standing) (held : Lookup) (bytes : List ℕ) → NamesAs X N a.told b.told s → HasInput (Ok command) l bytes i j → CountsCanRise a
+          → Ok text ≡ (reply X N command (record { standing = s; held = held; input = bytes })).ends
+      text-given NoHead held bytes names input room = by (mk.answers (record { standing = NoHead; held = held; input = bytes }) names input (calm-of a b room mk.cause))
+        where
+          by : Answers X N NoHead (reply X N command (record { standing = NoHead; held = held; input = bytes })) (Ok text) b.told → Ok text ≡ (reply X N command (record { standing = NoHead; held = held; input = bytes })).ends
+          by (inl x) = absurd (let e = x.ends_are in cc)
+          by (inr x) = x.ends_are
+      text-given BadHead held bytes names input room = by (mk.answers (record { standing = BadHead; held = held; input = bytes }) names input (calm-of a b room mk.cause))
+        where
+          by : Answers X N BadHead (reply X N command (record { standing = BadHead; held = held; input = bytes })) (Ok text) b.told → Ok text ≡ (reply X N command (record { standing = BadHead; held = held; input = bytes })).ends
+          by (inl x) = absurd (let e = x.ends_are in cc)
+          by (inr x) = x.ends_are
+      text-given (Stands p es) held bytes names input room = by (mk.lost p es (λ n. 0) held bytes names input (calm-of a b room mk.cause))
+        where
+          by : {needs : List Held} → AnswersOver X N a.told b.told p es needs (reply X N command (record { standing = Stands p es; held = held; input = bytes })) (Ok text)
+              → Ok text ≡ (reply X N command (record { standing = Stands p es; held = held; input = bytes })).ends
+          by (inl x) = absurd (let e = x.ends_are in cc)
+          by (inr x) = x.ends_are
+
+      text-is : (world : World) → FindsOver X N a.told b.told (Ok command) world → HasInput (Ok command) l world.input i j → CountsCanRise a → Ok text ≡ (reply X N command world).ends
+      text-is world finds input room =
+          text-given world.standing world.held world.input (subst (λ n. NamesIf X N a.told b.told n world.standing) needs finds.names) input room
+
+      module _ (h2 : streams.Told) (v : ℕ) where
+        -- its text is printed
+        pub printed-does : h2 ≡ after h text → Counts false w v → Does X N command (Ok tt) (around a l i h w t0) (around b m j h2 v t1)
+        printed-does is counts = record {
+          answers = λ world finds input calm. answered world (mk.answers world (stands-in a.told world.standing finds.stands) input calm.store);
+          lost = λ p es rows held bytes named tells heights input calm. over p es (mk.lost p es rows held bytes named input calm.store);
+          prefix = λ world finds input room. subst (λ e. PrintsPart e h h2) (text-is world finds input room) (whole-printed text h h2 is);
+          prints = (text, text-of command a.told l m text mk.adds, is);
+          kinds = tt;
+          ready = tt;
+          rule = tt;
+          reads = mk.counts;
+          writes = record { rose = counts.rose; still = counts.still };
+          cause = mk.cause;
+          whole = λ s needs stands calm. mk.whole s stands calm;
+          touches = λ p es bytes rows named input heights calm. mk.touches p es bytes rows named input heights calm;
+          touched = mk.touched;
+          leaves = record { good = mk.leaves.good; head = tt; writes = mk.leaves.writes; idle = mk.leaves.idle };
+        }
+          where
+            answered : (world : World) → Answers X N world.standing (reply X N command world) (Ok text) b.told → DoesAnswer X N command world (Ok tt) h h2 b.told
+            answered world (inl x) = absurd (let e = x.ends_are in cc)
+            answered world (inr x) =
+                inr (record {
+                  ends = subst (λ e. EndsBy e (Ok tt) h h2) x.ends_are (refl, is);
+                  stands = stands-out b.told (reply X N command world).next x.stands;
+                  blocks = x.held;
+                })
+
+            over : (p : Profile) (es : Entries) {needs : List Held} {given : Reply} → AnswersOver X N a.told b.told p es needs given (Ok text) → DoesOver X N a.told b.told p es needs given (Ok tt) h h2
+            over p es (inl x) = absurd (let e = x.ends_are in cc)
+            over p es (inr x) = inr (record { ends = subst (λ e. EndsBy e (Ok tt) h h2) x.ends_are (refl, is); stands = x.stands })
+
+        cut-does : IsCut text refusal.Write h h2 w v → Does X N command (Err refusal.Write) (around a l i h w t0) (around b m j h2 v t1)
+        cut-does c =
+            let rose = c.counts.rose refl in
+            record {
+              answers = λ world finds input calm. absurd (let stood = calm.output in omega (arith, rose, stood));
+              lost = λ p es rows held bytes named tells heights input calm. absurd (let stood = calm.output in omega (arith, rose, stood));
+              prefix = λ world finds input room. subst (λ e. PrintsPart e h h2) (text-is world finds input room) c.printed;
+              prints = (text, text-of command a.told l m text mk.adds, c.printed);
+              kinds = refl;
+              ready = tt;
+              rule = λ is. absurd cc;
+              reads = mk.counts;
+              writes = record { rose = c.counts.rose; still = c.counts.still };
+              cause = mk.cause;
+              whole = λ s needs stands calm. (λ e. cc, λ e. cc);
+              touches = λ p es bytes rows named input heights calm. mk.touches p es bytes rows named input heights calm;
+              touched = λ blames. absurd blames;
+              leaves = record { good = mk.leaves.good; head = some-stays text a.told b.told c.some mk.leaves.head; writes = mk.leaves.writes; idle = mk.leaves.idle };
+            }
+
+        -- or the output failed
+        pub prints-does : (r : Result (Unit {0}) Refusal) → Prints text r h h2 w v → Does X N command r (around a l i h w t0) (around b m j h2 v t1)
+        prints-does (Ok done) p = printed-does p.0 p.1
+        prints-does (Err why) c =
+            let e = c.write in
+            subst (λ (r : Refusal). Does X N command (Err r) (around a l i h w t0) (around b m j h2 v t1)) (sym e) (cut-does (subst (λ (r : Refusal). IsCut text r h h2 w v) e c))

@@ -1,0 +1,87 @@
+// Files of DAGs of others, sent to the output while their blocks are read.
+ghost use Rattle.std.specs.Prelude.{◌<◌, ◌^◌, IfErr, IfSome, List, ℕ, length};
+ghost use Rattle.uf_edge.specs.Streams.{Told as Left};
+ghost use Rattle.uf_reply.specs.Kinds.{refusal_fault};
+ghost use Rattle.uf_reply.specs.declared.types.Command.TheVariants as commands;
+ghost use Rattle.uf_store.specs.Calls.{OnlyReads};
+ghost use Rattle.uf_store.specs.Contents.{held_at};
+ghost use Rattle.uf_store.specs.Faults.{NoneIsBad};
+ghost use Rattle.uf_top.specs.Around.{around};
+ghost use Rattle.uf_top.specs.Foreign.{FindsFile, IsOfReading, LeadsTo};
+ghost use Rattle.uf_top.specs.Working.{Does};
+
+use std::alloc::Global;
+use std::sync::ledger::Ledger;
+use uf_cid::Cid;
+use uf_edge::Sink;
+use uf_lenient::{Limits, Shape, StreamFault, resolve, stream, survey};
+use uf_path::DagPath;
+use uf_reply::{Refusal, dag_refusal, no_file};
+use uf_store::{Steps, Store};
+
+// How far DAGs of others are read.
+const USUAL: Limits = Limits {
+    depth: 256,
+    visits: 1048576,
+};
+
+// Writes the bytes of the file to which a path leads, once everything below it was read.
+pub fn cat<S: Store, O: Sink, L: Ledger>(
+    alloc: Global,
+    path: &DagPath,
+    store: &mut S,
+    output: &mut O,
+    touches: &mut Steps<L>,
+) -> Result<(), Refusal>
+    requires { length path.now.names < 2 ^ 32 }
+    ensures { (N : List ℕ → ℕ) (left : Left) (reads : ℕ) → Does S.X.block32 N (commands.Cat path.now) result
+        (around (S.seen store.old) left reads (O.holds output.old) (O.faults output.old) touches.old)
+        (around (S.seen store.new) left reads (O.holds output.new) (O.faults output.new) touches.new) }
+{
+    match file_in(alloc, path, store, touches) {
+        Err(why) => Err(why),
+        Ok(cid) => match stream(alloc, store, &cid, &USUAL, output, touches) {
+            Ok(_) => Ok(()),
+            Err(StreamFault::Sink) => Err(Refusal::Write),
+            Err(StreamFault::Dag(fault)) => Err(dag_refusal(alloc, path, fault)),
+        },
+    }
+}
+
+// The CID of the file to which a path leads.
+fn file_in<S: Store, L: Ledger>(
+    alloc: Global,
+    path: &DagPath,
+    store: &mut S,
+    touches: &mut Steps<L>,
+) -> Result<Cid, Refusal>
+    requires { length path.now.names < 2 ^ 32 }
+    ensures finds { IfSome (S.seen store.old).told (λ t. FindsFile (held_at t) path.now result) }
+    ensures refuses { IfErr result IsOfReading }
+    ensures reads { OnlyReads S.X.block32 NoneIsBad (refusal_fault result) (S.seen store.old) (S.seen store.new) }
+{
+    match resolve(alloc, store, path, &USUAL, touches) {
+        Err(fault) => Err(dag_refusal(alloc, path, fault)),
+        Ok(cid) => file_under(alloc, path, cid, store, touches),
+    }
+}
+
+// The same CID, where it is a file's below which everything can be read.
+fn file_under<S: Store, L: Ledger>(
+    alloc: Global,
+    path: &DagPath,
+    cid: Cid,
+    store: &mut S,
+    touches: &mut Steps<L>,
+) -> Result<Cid, Refusal>
+    ensures finds { IfSome (S.seen store.old).told (λ t. LeadsTo (held_at t) path.now cid
+        → FindsFile (held_at t) path.now result) }
+    ensures refuses { IfErr result IsOfReading }
+    ensures reads { OnlyReads S.X.block32 NoneIsBad (refusal_fault result) (S.seen store.old) (S.seen store.new) }
+{
+    match survey(alloc, store, &cid, &USUAL, touches) {
+        Err(fault) => Err(dag_refusal(alloc, path, fault)),
+        Ok(Shape::File) => Ok(cid),
+        Ok(Shape::Folder(_)) => Err(no_file(alloc, path)),
+    }
+}
