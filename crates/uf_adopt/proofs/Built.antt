@@ -27,7 +27,8 @@ use Rattle.uf_laws.proofs.Held.{Digested, trees-digested}
 use Rattle.uf_lenient.specs.Reading.{shallow_of}
 use Rattle.uf_lenient.specs.declared.shapes.Limits.{Limits}
 use Rattle.uf_lenient.specs.declared.shapes.Shape.TheVariants.{Folder as FolderShape}
-use Rattle.uf_adopt.specs.Adopting.{AreBuilt, AreDenoted, BuildsEach, BuildsTree, IsBuilt, IsFirstAmong, IsFirstTooLong, denotes_within, each_blocks, planned_each}
+use Rattle.uf_adopt.specs.Adopting.{AreBuilt, BuildsEach, BuildsTree, IsBuilt, IsFirstAmong, IsFirstTooLong, each_blocks, planned_each}
+use Rattle.uf_lenient.specs.Denoted.{AreDenoted, denotes_within}
 use Rattle.uf_adopt.specs.Faults.{of_directory}
 use Rattle.uf_adopt.specs.Feeding.{AdoptsFile}
 use Rattle.uf_adopt.specs.declared.fault.AdoptFault.{AdoptFault}

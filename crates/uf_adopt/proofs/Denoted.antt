@@ -16,7 +16,8 @@ use Rattle.uf_lenient.specs.declared.shapes.Limits.{Limits}
 use Rattle.uf_lenient.proofs.Good.{good-is}
 use Rattle.uf_lenient.specs.Steps.{Surveys}
 use Rattle.uf_lenient.specs.declared.shapes.Shape.{Shape}
-use Rattle.uf_adopt.specs.Adopting.{Adopts, BuildsTree, IsOfGoodBlocks, denotes_within}
+use Rattle.uf_adopt.specs.Adopting.{Adopts, BuildsTree, IsOfGoodBlocks}
+use Rattle.uf_lenient.specs.Denoted.{denotes_within}
 use Rattle.uf_adopt.specs.Faults.{of_reading}
 use Rattle.uf_adopt.specs.Feeding.{HoldsGoodMap}
 use Rattle.uf_adopt.specs.declared.fault.AdoptFault.{AdoptFault}
@@ -48,10 +49,14 @@ module _ (X : List ℕ → List ℕ) (N : List ℕ → ℕ) (p : Profile) (limit
   says-fault None now c fault says = tt
   says-fault (Some t) now c fault says = λ same. not-denoted X N p (good_blocks X (held_at t)) limits now c fault (subst (λ r. IsFault r fault) (sym same) says)
 
-  pub says-denoted : (told read now : Told) (c : Cid) (shape : Shape) (r : Result Entry AdoptFault) → read ≡ told → IfSome told (λ t. Surveys (held_at t) limits c (Ok shape)) → (room : ℕ) → room ≡ limits.depth + 1
-      → ((held : Lookup) (t : Tree) → HoldsGoodMap X held read → denotes_within held limits room c ≡ Ok t → BuildsTree X N p held limits now c t r) → IfSome told (λ t. IsOfGoodBlocks X (held_at t) limits c → Adopts X N p (good_blocks X (held_at t)) limits now c r)
-  says-denoted None read now c shape r told_same says room is builds = tt
-  says-denoted (Some t) read now c shape r told_same says room is builds = λ same.
+  -- a CID denotes so much with so much room
+  pub with-room : (held : Lookup) (c : Cid) (t : Tree) (room : ℕ) → room ≡ limits.depth + 1 → denotes held limits c ≡ Ok t → denotes_within held limits room c ≡ Ok t
+  with-room held c t room is denoted = subst (λ n. denotes_within held limits n c ≡ Ok t) (sym is) denoted
+
+  pub says-denoted : (told read now : Told) (c : Cid) (shape : Shape) (r : Result Entry AdoptFault) → read ≡ told → IfSome told (λ t. Surveys (held_at t) limits c (Ok shape))
+      → ((held : Lookup) (t : Tree) → HoldsGoodMap X held read → denotes held limits c ≡ Ok t → BuildsTree X N p held limits now c t r) → IfSome told (λ t. IsOfGoodBlocks X (held_at t) limits c → Adopts X N p (good_blocks X (held_at t)) limits now c r)
+  says-denoted None read now c shape r told_same says builds = tt
+  says-denoted (Some t) read now c shape r told_same says builds = λ same.
       let denoted = same ∙ says.denoted in
       is-denoted X N p (good_blocks X (held_at t)) limits now c says.tree r denoted
-      (builds (good_blocks X (held_at t)) says.tree (subst (HoldsGoodMap X (good_blocks X (held_at t))) (sym told_same) (good-map X t)) (subst (λ n. denotes_within (good_blocks X (held_at t)) limits n c ≡ Ok says.tree) (sym is) denoted))
+      (builds (good_blocks X (held_at t)) says.tree (subst (HoldsGoodMap X (good_blocks X (held_at t))) (sym told_same) (good-map X t)) denoted)

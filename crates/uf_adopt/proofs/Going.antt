@@ -30,13 +30,14 @@ use Rattle.uf_lenient.specs.declared.shapes.Shape.{Shape}
 use Rattle.uf_lenient.specs.declared.shapes.Shape.TheVariants.{File as FileShape, Folder as FolderShape}
 use Rattle.uf_lenient.specs.Within.{AnswersSame}
 use Rattle.uf_lenient.proofs.Greater.{shape-stays}
-use Rattle.uf_adopt.specs.Adopting.{AreDenoted, BuildsTree, DenotesBy, denotes_within}
+use Rattle.uf_adopt.specs.Adopting.{BuildsTree}
+use Rattle.uf_lenient.specs.Denoted.{AreDenoted, DenotesBy, IsStep, denotes_within}
 use Rattle.uf_adopt.specs.Faults.{OnlyAdopts, of_directory, of_reading}
 use Rattle.uf_adopt.specs.Feeding.{AdoptsFile, HoldsGoodMap}
 use Rattle.uf_adopt.specs.declared.fault.AdoptFault.{AdoptFault}
 use Rattle.uf_adopt.specs.declared.fault.AdoptFault.TheVariants.{Store}
 use Rattle.uf_adopt.proofs.Built.{Next, Went, file-built, names_of, next-of, sorted-by-names}
-use Rattle.uf_adopt.proofs.Denoting.{IsStep, denoted-step, none-denoted}
+use Rattle.uf_lenient.proofs.Denoting.{denoted-step, none-denoted}
 use Rattle.uf_adopt.proofs.Fed.{map-all, own-fault}
 
 -- ---- what is shown

@@ -1,5 +1,3 @@
-pub mod Looser
-pub mod Denoting
 pub mod Fed
 pub mod Built
 pub mod Denoted

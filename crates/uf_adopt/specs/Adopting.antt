@@ -1,5 +1,5 @@
 -- What adopting answers: the entry of the tree that a CID denotes, or why there is none.
-use Rattle.std.specs.Prelude.{◌≡◌, ◌⊎◌, ℕ, ◌+◌, ◌<◌, List, [], ◌∷◌, length, true, Some, None, IsTrue, ⊤}
+use Rattle.std.specs.Prelude.{◌≡◌, ◌⊎◌, ℕ, ◌<◌, List, [], ◌∷◌, length, true, Some, None, IsTrue}
 use Rattle.std.specs.declared.option.Option.{Option}
 use Rattle.std.specs.declared.result.Result.{Result}
 use Rattle.std.specs.declared.result.Result.TheVariants.{Ok, Err}
@@ -16,36 +16,15 @@ use Rattle.uf_tree.specs.TreePlan.{planned_dir, planned_file, refusal}
 use Rattle.uf_tree.specs.TreePlan.{FileTooLong as IsTooLong, Collision as Collides, TooBig as IsTooBig}
 use Rattle.uf_tree.specs.declared.nodes.Entry.{Entry}
 use Rattle.uf_tree.specs.declared.profile.Profile.{Profile}
-use Rattle.uf_lenient.specs.Reading.{answered, denotes, file_of, shallow_of, tree_within}
+use Rattle.uf_lenient.specs.Reading.{denotes, shallow_of}
 use Rattle.uf_lenient.specs.Within.{good_blocks}
 use Rattle.uf_lenient.specs.declared.fault.DagFault.{DagFault}
 use Rattle.uf_lenient.specs.declared.fault.DagFault.TheVariants as dag
 use Rattle.uf_lenient.specs.declared.shapes.Limits.{Limits}
-use Rattle.uf_lenient.specs.declared.shapes.Shape.{Shape}
-use Rattle.uf_lenient.specs.declared.shapes.Shape.TheVariants.{File as FileShape, Folder as FolderShape}
+use Rattle.uf_lenient.specs.declared.shapes.Shape.TheVariants.{Folder as FolderShape}
 use Rattle.uf_adopt.specs.Faults.{IsStoreFailing}
 use Rattle.uf_adopt.specs.declared.fault.AdoptFault.{AdoptFault}
 use Rattle.uf_adopt.specs.declared.fault.AdoptFault.TheVariants.{Dag, FileTooLong, Collision, TooBig, Store}
-
-module _ (held : Lookup) (limits : Limits) where
-  -- the tree that a CID denotes, where directories nest less deep than `room`
-  abbrev pub denotes_within : ℕ → Cid → Result Tree DagFault
-  denotes_within room c = answered (λ t. t) (tree_within held room (limits.depth + 1) c limits.visits)
-
-  -- each of these ways leads to what denotes one of these members, in their order
-  abbrev pub AreDenoted : ℕ → List (List ℕ × Cid) → Entries → Type 0
-  AreDenoted room [] Nothing = ⊤
-  AreDenoted room (w ∷ ways) Nothing = ⊥
-  AreDenoted room [] (With name t es) = ⊥
-  AreDenoted room (w ∷ ways) (With name t es) =
-      (name ≡ w.0) × (denotes_within room w.1 ≡ Ok t) × AreDenoted room ways es
-
-  -- what a CID denotes is this tree: a file, or a directory whose ways lead to its members
-  abbrev pub DenotesBy : ℕ → Cid → Tree → Shape → Type 0
-  DenotesBy room c (File bytes) FileShape = file_of held limits c ≡ Ok bytes
-  DenotesBy room c (File bytes) (FolderShape ways) = ⊥
-  DenotesBy room c (Dir es) FileShape = ⊥
-  DenotesBy room c (Dir es) (FolderShape ways) = AreDenoted room ways es
 
 -- what a CID denotes, value or fault, is read of good blocks alone, each of which has its CID's digest
 abbrev pub IsOfGoodBlocks : (List ℕ → List ℕ) → Lookup → Limits → Cid → Type 0

@@ -1,12 +1,16 @@
 // What a CID denotes adopted.
-ghost use Rattle.std.specs.Prelude.{IfSome, IsTrue};
+ghost use Rattle.std.specs.Prelude.{◌≡◌, IfSome, IsTrue, Ok};
+ghost use Rattle.uf_cid.specs.Blocks.{Lookup};
+ghost use Rattle.uf_lenient.specs.Reading.{denotes};
 ghost use Rattle.uf_lenient.specs.Within.{good_blocks};
 ghost use Rattle.uf_store.specs.Contents.{held_at};
 ghost use Rattle.uf_store.specs.Faults.{NoneIsBad, Shown};
 ghost use Rattle.uf_store.specs.Keeping.{KeepsGood};
 ghost use Rattle.uf_store.specs.Writing.{SavesOnly};
 ghost use Rattle.uf_tree.specs.Profiles.{is_profile};
-ghost use Rattle.uf_adopt.specs.Adopting.{Adopts, IsOfGoodBlocks};
+ghost use Rattle.uf_tree.specs.Tree.{Tree};
+ghost use Rattle.uf_adopt.specs.Adopting.{Adopts, BuildsTree, IsOfGoodBlocks};
+ghost use Rattle.uf_adopt.specs.Feeding.{HoldsGoodMap};
 ghost use Rattle.uf_adopt.specs.Faults.{TellsStoreApart, adopt_fault};
 
 use crate::AdoptFault;
@@ -40,6 +44,27 @@ pub fn adopt<S: Store, N: NameHash, L: Ledger>(
     ensures saves { SavesOnly S.X.block32 (S.seen store.old).told (S.seen store.new).told }
 {
     survey(alloc, store, cid, limits, touches)?;
+    adopt_surveyed::<S, N, L>(alloc, store, p, cid, limits, touches)
+}
+
+/// The same of a CID that `survey` was called for, which isn't done again.
+pub fn adopt_surveyed<S: Store, N: NameHash, L: Ledger>(
+    alloc: Global,
+    store: &mut S,
+    p: &Profile,
+    cid: &Cid,
+    limits: &Limits,
+    touches: &mut Steps<L>,
+) -> Result<Entry, AdoptFault>
+    requires profile { IsTrue (is_profile p.now) }
+    ensures builds { (held : Lookup) (t : Tree) → HoldsGoodMap S.X.block32 held (S.seen store.old).told
+        → denotes held limits.now cid.now ≡ Ok t
+        → BuildsTree S.X.block32 N.name64 p.now held limits.now (S.seen store.new).told cid.now t result }
+    ensures apart { TellsStoreApart result }
+    ensures cause { Shown S.X.block32 NoneIsBad (adopt_fault result) (S.seen store.old) (S.seen store.new) }
+    ensures good { KeepsGood S.X.block32 (S.seen store.old).told (S.seen store.new).told }
+    ensures saves { SavesOnly S.X.block32 (S.seen store.old).told (S.seen store.new).told }
+{
     let room = u64::from(limits.depth) + 1;
     adopt_within::<S, N, L>(alloc, store, p, cid, limits, room, touches)
 }

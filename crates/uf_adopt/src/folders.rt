@@ -6,7 +6,8 @@ ghost use Rattle.uf_tree.specs.Names.{names_cmp};
 ghost use Rattle.uf_tree.specs.Profiles.{is_profile};
 ghost use Rattle.uf_tree.specs.Tree.{Entries, Tree};
 ghost use Rattle.uf_tree.specs.Validity.{IsDirectory, IsNamed};
-ghost use Rattle.uf_adopt.specs.Adopting.{AreDenoted, BuildsEach, BuildsTree, denotes_within};
+ghost use Rattle.uf_adopt.specs.Adopting.{BuildsEach, BuildsTree};
+ghost use Rattle.uf_lenient.specs.Denoted.{AreDenoted, denotes_within};
 ghost use Rattle.uf_adopt.specs.Faults.{OnlyAdopts};
 ghost use Rattle.uf_adopt.specs.Feeding.{HoldsGoodMap};
 

@@ -7,7 +7,7 @@ mod files;
 mod folders;
 mod laws;
 
-pub use adopting::adopt;
+pub use adopting::{adopt, adopt_surveyed};
 pub use fault::AdoptFault;
 pub use laws::a_calm_store_lacks_memory_alone;
 

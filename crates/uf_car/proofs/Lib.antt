@@ -4,6 +4,7 @@ pub mod Exports
 pub mod Openings
 pub mod Roots
 pub mod Sections
+pub mod Somes
 pub mod Stops
 pub mod Texts
 pub mod Windows

@@ -59,6 +59,10 @@ pub record WritesSection (cid : Cid) (n : ℕ) (before now : Seen) (out out_now 
   pub written : out_now ≡ after out (section_bytes (cid, now.lent))
   pub count : n ≡ length (section_bytes (cid, now.lent))
 
+-- some bytes were written behind what the sink held
+abbrev pub WritesSome : Told → Told → Type 0
+WritesSome out out_now = (text : List ℕ) × (out_now ≡ after out text)
+
 -- a part of it was written
 pub record WritesPart (cid : Cid) (before now : Seen) (out out_now : Told) : Type 0 where
   pub is_held : IfSome before.told (λ t. held_at t cid ≡ Some now.lent)

@@ -6,7 +6,7 @@ ghost use Rattle.uf_store.specs.Contents.{Contents, held_at};
 ghost use Rattle.uf_store.specs.Faults.{NoneIsBad, Shown};
 ghost use Rattle.uf_walk.specs.Order.{order};
 ghost use Rattle.uf_walk.specs.Turns.{HasTaken};
-ghost use Rattle.uf_car.specs.Exporting.{Exports, FollowsOrder, IsAfterWalk, WalksAll, WritesBlock, WritesCar};
+ghost use Rattle.uf_car.specs.Exporting.{Exports, FollowsOrder, IsAfterWalk, WalksAll, WritesBlock, WritesCar, WritesSome};
 ghost use Rattle.uf_car.specs.Exporting.{export_fault, is_sink_fault};
 ghost use Rattle.uf_car.specs.Text.{car_text, section_bytes};
 
@@ -34,6 +34,7 @@ pub fn export<S: Store, O: Sink, L: Ledger>(
     // Over a store that tells: the text of the order, or its first fault and nothing written; a failure leaves a front.
     ensures text { (t : Contents) → (S.seen store.old).told ≡ Some t
         → Exports (held_at t) most root.now result (O.holds out.old) (O.holds out.new) }
+    ensures some { WritesSome (O.holds out.old) (O.holds out.new) }
     ensures cause { Shown S.X.block32 NoneIsBad (export_fault result) (S.seen store.old) (S.seen store.new) }
     ensures told { (S.seen store.new).told ≡ (S.seen store.old).told }
     ensures counts { Counts (is_sink_fault result) (O.faults out.old) (O.faults out.new) }
@@ -97,6 +98,7 @@ fn write_car<S: Store, O: Sink, L: Ledger>(
     ensures text { (t : Contents) → (S.seen store.old).told ≡ Some t
         → IsAfterWalk (held_at t) most root.now walk.now.handed
         → WritesCar (car_text (held_at t) root.now walk.now.handed) result (O.holds out.old) (O.holds out.new) }
+    ensures some { WritesSome (O.holds out.old) (O.holds out.new) }
     ensures reads { OnlyReads S.X.block32 NoneIsBad (export_fault result) (S.seen store.old) (S.seen store.new) }
     ensures counts { Counts (is_sink_fault result) (O.faults out.old) (O.faults out.new) }
 {
@@ -127,6 +129,7 @@ fn write_block<S: Store, O: Sink, L: Ledger>(
 ) -> Result<u64, ExportFault>
     ensures block { WritesBlock cid.now result (S.seen store.old) (S.seen store.new)
         (O.holds out.old) (O.holds out.new) }
+    ensures some { WritesSome (O.holds out.old) (O.holds out.new) }
     ensures few { IfOk result (λ n. n ≤ 2097198) }
     ensures reads { OnlyReads S.X.block32 NoneIsBad (export_fault result) (S.seen store.old) (S.seen store.new) }
     ensures counts { Counts (is_sink_fault result) (O.faults out.old) (O.faults out.new) }

@@ -36,14 +36,15 @@ use Rattle.uf_tree.specs.Names.{names_cmp}
 use Rattle.uf_tree.specs.Nodes.{InSlot, Named}
 use Rattle.uf_tree.specs.ShardPlan.{same_slots, shard, shard_plan, twins}
 use Rattle.uf_tree.specs.TreePlan.{Refusal, collision, dir_refusal, or_else, too_big}
-use Rattle.uf_tree.specs.Validity.{IsHash}
+use Rattle.uf_tree.specs.Validity.{IsDirectory, IsHash}
 use Rattle.uf_shard.specs.declared.fault.DirFault.{DirFault}
 use Rattle.uf_shard.specs.declared.fault.DirFault.TheVariants.{Collision, TooBig, Store}
 use Rattle.uf_shard.specs.Answers.{Gives, GivesOver, Shown, shard_refusal}
 use Rattle.uf_shard.specs.Planned as shards
+use Rattle.uf_shard.specs.Planned.{IsShardCid}
 use Rattle.uf_tree.proofs.Each.{each_filter}
 use Rattle.uf_dir.specs.Planned.{IsPlanned, dir_entry, entry_without, own_blocks}
-use Rattle.uf_dir.specs.Roots.{IsRootOf, IsThere}
+use Rattle.uf_dir.specs.Roots.{IsRootCid, IsRootOf, IsThere}
 use Rattle.uf_dir.specs.declared.root.Root.{Root}
 use Rattle.uf_dir.specs.declared.root.Root.TheVariants as root
 use Rattle.uf_dir.proofs.Causes.{Shows-wider}
@@ -51,8 +52,7 @@ use Rattle.uf_dir.proofs.Looked.{agrees_mid, sharded_is}
 use Rattle.uf_dir.proofs.Planning.{blocks-sharded, light-entry, light-held, planned-sharded}
 use Rattle.uf_dir.proofs.Edited.{after-held, after-same, left-some, without-absent}
 use Rattle.uf_dir.proofs.Listing.{directory-without}
-use Rattle.uf_dir.proofs.Nodes.{planned-node}
-use Rattle.uf_cid.specs.declared.cid.Codec.TheVariants.{DagPb}
+use Rattle.uf_dir.proofs.Nodes.{planned-root, shard-root}
 use Rattle.uf_store.proofs.Writing.{SavesOnly-refl}
 use Rattle.uf_dir.specs.Left.{AreShards, Fits, IsLeftOrHeld, SettlesOver, SettlesShards, StayShards, TakesBasic, TakesOver, TakesSharded, pairs_left}
 use Rattle.uf_shard.specs.declared.removed.Removed.TheVariants.{Absent, Empty, Left}
@@ -302,10 +302,10 @@ module _ (X : List ℕ → List ℕ) (p : Profile) (entry : Entry) where
   sharded-entry N l heavy is = is ∙ ap (λ (b : Bool). (cond b (shard X N 7 l) (basic_dir X N l)).entry) (sym heavy)
 
   -- shards that are too heavy for one block stay
-  pub stays-settled : (before now : Seen) → entry.cid.codec ≡ DagPb → now.told ≡ before.told
+  pub stays-settled : (before now : Seen) → IsShardCid X entry.cid → now.told ≡ before.told
       → ((N : List ℕ → ℕ) (l : List Named) → AreShards X N entry before now l → true ≡ nat_lt p.threshold (weight l)) → SettlesShards X p entry before now (Ok entry)
-  stays-settled before now node same heavy = record {
-    node = node;
+  stays-settled before now shard same heavy = record {
+    made = shard-root X (Some p) entry.cid shard;
     over = λ N l are. let is : is_sharded p l ≡ true = sym (heavy N l are) in (sharded-entry N l is are.same, inl (is, same));
   }
 
@@ -320,7 +320,7 @@ module _ (X : List ℕ → List ℕ) (p : Profile) (entry : Entry) where
 
   pub settles-later : (before mid now : Seen) (r : Result Entry StoreFault) → StaysCalm before mid → mid.told ≡ before.told → SettlesShards X p entry mid now r → SettlesShards X p entry before now r
   settles-later before mid now r stays same settles = record {
-    node = settles.node;
+    made = settles.made;
     over = λ N l are. subst (λ (told : Told). SettlesOver X N p l told now.told r) same (settles.over N l (later-shards N before mid now l stays same are));
   }
 
@@ -331,10 +331,10 @@ module _ (X : List ℕ → List ℕ) (p : Profile) (entry : Entry) where
     saved-fits N (Ok e) mid now light is held fault = inr (is N ∙ light-entry X N p pairs light, light-held X N p pairs now light held)
     saved-fits N (Err fault) mid now light is held saving = saving
 
-    fits-node : (r : Result Entry StoreFault) (before now : Told) → entry.cid.codec ≡ DagPb → Fits X (λ name. 0) p entry pairs before now r → IfOk r (λ e. e.cid.codec ≡ DagPb)
-    fits-node (Ok e) before now node (inl heavy) = ap (λ (e : Entry). e.cid.codec) heavy.2 ∙ node
-    fits-node (Ok e) before now node (inr light) = ap (λ (e : Entry). e.cid.codec) light.0 ∙ planned-node X (λ name. 0) p pairs
-    fits-node (Err fault) before now node fits = tt
+    fits-made : IsHash X → IsDirectory pairs → (r : Result Entry StoreFault) (before now : Told) → IsShardCid X entry.cid → Fits X (λ name. 0) p entry pairs before now r → IfOk r (λ e. IsRootCid X (Some p) e.cid)
+    fits-made good valid (Ok e) before now shard (inl heavy) = subst (λ (x : Entry). IsRootCid X (Some p) x.cid) (sym heavy.2) (shard-root X (Some p) entry.cid shard)
+    fits-made good valid (Ok e) before now shard (inr light) = subst (λ (x : Entry). IsRootCid X (Some p) x.cid) (sym light.0) (planned-root X good (λ name. 0) p pairs valid)
+    fits-made good valid (Err fault) before now shard fits = tt
 
     fits-over : (N : List ℕ → ℕ) (l : List Named) (r : Result Entry StoreFault) (before mid now : Seen) → pairs ≡ l → entry ≡ (shard X N 7 l).entry → mid.told ≡ before.told → Fits X N p entry pairs mid.told now.told r
         → faults.Shown X NoneIsBad (fault_in r) mid now → Calm mid now → SettlesOver X N p l before.told now.told r
@@ -345,11 +345,11 @@ module _ (X : List ℕ → List ℕ) (p : Profile) (entry : Entry) where
         (light.0 ∙ ap (dir_entry X N p) same, inr (subst (λ (m : List Named). Holds now.told (own_blocks X N p m)) same light.1))
     fits-over N l (Err fault) before mid now same is told fits shown calm = saving-loss X NoneIsBad before.told (shard X N 7 l).blocks fault mid now fits shown calm.faults calm.clashes
 
-    pub fits-settles : (r : Result Entry StoreFault) (before mid now : Seen) → entry.cid.codec ≡ DagPb → StaysCalm before mid → mid.told ≡ before.told
+    pub fits-settles : IsHash X → IsDirectory pairs → (r : Result Entry StoreFault) (before mid now : Seen) → IsShardCid X entry.cid → StaysCalm before mid → mid.told ≡ before.told
         → ((N : List ℕ → ℕ) (l : List Named) → shards.IsPlanned X N entry.cid l → Agrees before.told (shard X N 7 l).blocks → Stood before.faults mid.faults → pairs ≡ l)
         → ((N : List ℕ → ℕ) → Fits X N p entry pairs mid.told now.told r) → faults.Shown X NoneIsBad (fault_in r) mid now → SettlesShards X p entry before now r
-    fits-settles r before mid now node stays told same fits shown = record {
-      node = fits-node r mid.told now.told node (fits (λ name. 0));
+    fits-settles good valid r before mid now shard stays told same fits shown = record {
+      made = fits-made good valid r mid.told now.told shard (fits (λ name. 0));
       over = λ N l are. let first = first-calm X NoneIsBad (fault_in r) before mid now stays shown are.calm in
           fits-over N l r before mid now (same N l are.plan are.agrees first.faults) are.same told (fits N) shown (then-calm before mid now stays are.calm);
     }
@@ -464,17 +464,20 @@ module _ (X : List ℕ → List ℕ) (N : List ℕ → ℕ) (p : Profile) where
       (subst (λ (m : List Named). Holds now (own_blocks X N p (with_name name e m))) (ok l is stays.first) held)
   put-basic-after root name e pairs before mid now (Err fault) ok same saves held = tt
 
-  entry-some : (name : List ℕ) (l : List Named) (e : Entry) → entry_without X N p name l ≡ Some e → e.cid.codec ≡ DagPb
-  entry-some name l e h = by (find names_cmp name l) h
-    where
-      by : (o : Option Entry) → elim o [ None ↦ None | Some old ↦ Some (dir_entry X N p (without name l)) ] ≡ Some e → e.cid.codec ≡ DagPb
-      by None h = absurd (let no : None ≡ Some e = h in cc)
-      by (Some old) h = (let same : dir_entry X N p (without name l) ≡ e = (let some : Some (dir_entry X N p (without name l)) ≡ Some e = h in cc) in ap (λ (x : Entry). x.cid.codec) (sym same) ∙ planned-node X N p (without name l))
+  module _ (good : IsHash X) (name : List ℕ) (pairs : List Named) (valid : IsDirectory pairs) where
+    entry-some : (e : Entry) → entry_without X N p name pairs ≡ Some e → IsRootCid X (Some p) e.cid
+    entry-some e h = by (find names_cmp name pairs) h
+      where
+        by : (o : Option Entry) → elim o [ None ↦ None | Some old ↦ Some (dir_entry X N p (without name pairs)) ] ≡ Some e → IsRootCid X (Some p) e.cid
+        by None h = absurd (let no : None ≡ Some e = h in cc)
+        by (Some old) h =
+            let same : dir_entry X N p (without name pairs) ≡ e = (let some : Some (dir_entry X N p (without name pairs)) ≡ Some e = h in cc) in
+            subst (λ (x : Entry). IsRootCid X (Some p) x.cid) same (planned-root X good N p (without name pairs) (directory-without name pairs valid))
 
-  pub basic-node : (name : List ℕ) (pairs : List Named) (mid now : Told) (r : Result (Option Entry) StoreFault) → TakesBasic X N p name pairs mid now r → IfOk r (λ left. IfSome left (λ e. e.cid.codec ≡ DagPb))
-  basic-node name pairs mid now (Ok None) h = tt
-  basic-node name pairs mid now (Ok (Some e)) h = entry-some name pairs e h.0
-  basic-node name pairs mid now (Err fault) h = tt
+    pub basic-root : (mid now : Told) (r : Result (Option Entry) StoreFault) → TakesBasic X N p name pairs mid now r → IfOk r (λ left. IfSome left (λ e. IsRootCid X (Some p) e.cid))
+    basic-root mid now (Ok None) h = tt
+    basic-root mid now (Ok (Some e)) h = entry-some e h.0
+    basic-root mid now (Err fault) h = tt
 
   pub basic-ok : (root : Cid) (name : List ℕ) (pairs : List Named) (before mid now : Told) (r : Result (Option Entry) StoreFault) (B C : List Named → Type 0) → ((l : List Named) → IsPlanned X N p root l → Agrees before (own_blocks X N p l) → pairs ≡ l) → mid ≡ before
       → SavesOnly X mid now → TakesBasic X N p name pairs mid now r

@@ -1,10 +1,9 @@
 -- What a removal from a directory in shards answers.
-use Rattle.std.proofs.Common.{◌≡◌, ℕ, List, [], Some, None}
+use Rattle.std.proofs.Common.{◌≡◌, ℕ, List, [], Option, Some, None}
 use Rattle.std.specs.Prelude.{IfOk, IfSome}
 use Rattle.std.specs.declared.result.Result.{Result}
 use Rattle.std.specs.declared.result.Result.TheVariants.{Ok, Err}
 use Rattle.uf_cid.specs.declared.cid.Cid.{Cid}
-use Rattle.uf_cid.specs.declared.cid.Codec.TheVariants.{DagPb}
 use Rattle.uf_edge.specs.Counts.{Stood}
 use Rattle.uf_store.specs.Clashes.{IsSaving}
 use Rattle.uf_store.specs.Faults.{NoneIsBad, Shown, Shows, StaysCalm, fault_in}
@@ -26,7 +25,7 @@ use Rattle.uf_shard.specs.Taken.{left_without}
 use Rattle.uf_dir.specs.Left.{AreShards, SettlesShards, StayShards, TakesSharded}
 use Rattle.uf_dir.specs.Planned.{dir_entry, own_blocks}
 use Rattle.uf_dir.proofs.Changing.{absent-none, emptied-after, emptied-value, first-calm, left-over, left-shards, saving-loss, then-calm, with_some}
-use Rattle.uf_dir.proofs.Nodes.{empty-node}
+use Rattle.uf_dir.specs.Roots.{IsRootCid}
 
 module _ (X : List ℕ → List ℕ) (N : List ℕ → ℕ) (p : Profile) (root : Cid) (name : List ℕ) where
   -- what holds of the pairs whose shards a store agrees with, where it stays calm
@@ -35,12 +34,12 @@ module _ (X : List ℕ → List ℕ) (N : List ℕ → ℕ) (p : Profile) (root 
 
   -- the shards weren't read
   pub unread-takes : (before now : Seen) (fault : StoreFault) → Asks before now (λ l. IsLossOf before.told (shard X N 7 l).blocks fault) → TakesSharded X N p root name before now (Err fault)
-  unread-takes before now fault value = record { node = tt; none = tt; over = λ l stay. value l stay.plan stay.stays.first stay.calm.faults stay.calm.clashes }
+  unread-takes before now fault value = record { made = tt; none = tt; over = λ l stay. value l stay.plan stay.stays.first stay.calm.faults stay.calm.clashes }
 
   -- the name isn't there
   pub absent-takes : (before now : Seen) → now.told ≡ before.told → Asks before now (λ l. Absent ≡ left_without X N name l) → TakesSharded X N p root name before now (Ok None)
   absent-takes before now same value = record {
-    node = tt;
+    made = tt;
     none = λ is. same;
     over = λ l stay. absent-none X N p name l (value l stay.plan stay.stays.first stay.calm.faults stay.calm.clashes);
   }
@@ -49,17 +48,17 @@ module _ (X : List ℕ → List ℕ) (N : List ℕ → ℕ) (p : Profile) (root 
     -- it was the only one, and the empty directory wasn't saved
     pub unsaved-takes : (fault : StoreFault) → IsSaving fault → Shows X NoneIsBad fault mid now → TakesSharded X N p root name before now (Err fault)
     unsaved-takes fault saving shows = record {
-      node = tt;
+      made = tt;
       none = tt;
       over = λ l stay. let calm = then-calm before mid now stays stay.calm in saving-loss X NoneIsBad before.told (shard X N 7 l).blocks fault mid now saving shows calm.faults calm.clashes;
     }
 
     module _ (first : SavesOnly X before.told mid.told) (second : SavesOnly X mid.told now.told) where
       -- or it was
-      pub emptied-takes : (e : Entry) → ((N : List ℕ → ℕ) (p : Profile) → e ≡ dir_entry X N p []) → ((N : List ℕ → ℕ) (p : Profile) → Holds now.told (own_blocks X N p [])) → StaysCalm mid now
+      pub emptied-takes : (e : Entry) → ((profile : Option Profile) → IsRootCid X profile e.cid) → ((N : List ℕ → ℕ) (p : Profile) → e ≡ dir_entry X N p []) → ((N : List ℕ → ℕ) (p : Profile) → Holds now.told (own_blocks X N p [])) → StaysCalm mid now
           → Asks before mid (λ l. Empty ≡ left_without X N name l) → TakesSharded X N p root name before now (Ok (Some e))
-      emptied-takes e is held calm value = record {
-        node = empty-node X e is;
+      emptied-takes e made is held calm value = record {
+        made = made (Some p);
         none = λ no. absurd (let none : Some e ≡ None = no in cc);
         over = λ l stay.
             let was = first-calm X NoneIsBad None before mid now stays calm stay.calm in
@@ -79,9 +78,9 @@ module _ (X : List ℕ → List ℕ) (N : List ℕ → ℕ) (p : Profile) (root 
         pub shards-left : (l : List Named) → StayShards X N root before now l → AreShards X N e mid now (without name l)
         shards-left l stay = left-shards X N p name l root stay.plan e before mid now stay.stays.first stays stay.calm stay.stays.last second first (left-there l stay) (after l stay.plan)
 
-        node-left : (r : Result Entry StoreFault) → IfOk r (λ e. e.cid.codec ≡ DagPb) → IfOk (with_some r) (λ left. IfSome left (λ e. e.cid.codec ≡ DagPb))
-        node-left (Ok x) node = node
-        node-left (Err fault) node = tt
+        made-left : (r : Result Entry StoreFault) → IfOk r (λ e. IsRootCid X (Some p) e.cid) → IfOk (with_some r) (λ left. IfSome left (λ e. IsRootCid X (Some p) e.cid))
+        made-left (Ok x) made = made
+        made-left (Err fault) made = tt
 
         some-left : (r : Result Entry StoreFault) → IfOk (with_some r) (λ left. left ≡ None → now.told ≡ before.told)
         some-left (Ok x) = λ no. absurd (let none : Some x ≡ None = no in cc)
@@ -89,7 +88,7 @@ module _ (X : List ℕ → List ℕ) (N : List ℕ → ℕ) (p : Profile) (root 
 
         pub settled-takes : SettlesShards X p e mid now r → TakesSharded X N p root name before now (with_some r)
         settled-takes settles = record {
-          node = node-left r settles.node;
+          made = made-left r settles.made;
           none = some-left r;
           over = λ l stay. left-over X N p name l root stay.plan e before mid now stay.stays.first stays stay.calm stay.stays.last second first (left-there l stay) (after l stay.plan) r
               (settles.over N (without name l) (shards-left l stay));

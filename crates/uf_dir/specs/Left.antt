@@ -5,7 +5,6 @@ use Rattle.std.specs.declared.result.Result.{Result}
 use Rattle.std.specs.declared.result.Result.TheVariants.{Ok, Err}
 use Rattle.std.specs.FinMap.Entries.{find}
 use Rattle.uf_cid.specs.declared.cid.Cid.{Cid}
-use Rattle.uf_cid.specs.declared.cid.Codec.TheVariants.{DagPb}
 use Rattle.uf_store.specs.declared.store.StoreFault.{StoreFault}
 use Rattle.uf_store.specs.Calls.{Calm}
 use Rattle.uf_store.specs.Clashes.{IsSaving}
@@ -22,6 +21,7 @@ use Rattle.uf_tree.specs.Nodes.{Named}
 use Rattle.uf_tree.specs.ShardPlan.{shard}
 use Rattle.uf_shard.specs.Planned.{IsPlanned as IsShardPlan}
 use Rattle.uf_dir.specs.Planned.{dir_entry, entry_without, own_blocks}
+use Rattle.uf_dir.specs.Roots.{IsRootCid}
 
 -- the pairs that are left, where the name is there
 abbrev pub pairs_left : List ℕ → List Named → Option (List Named)
@@ -79,19 +79,19 @@ module _ (X : List ℕ → List ℕ) (N : List ℕ → ℕ) where
       × AgreesAfter before now (shard X N 7 l).blocks (own_blocks X N p (without name l))
   TakesOver p name l before now (Err fault) = IsLossOf before (shard X N 7 l).blocks fault
 
--- what a directory in shards of this entry comes to: the entry of a node, and for the pairs of these shards that of
--- their directory
+-- what a directory in shards of this entry comes to: the entry of a directory's root, and for the pairs of these shards
+-- that of their directory
 pub record SettlesShards (X : List ℕ → List ℕ) (p : Profile) (entry : Entry) (before now : Seen)
     (result : Result Entry StoreFault) : Type 0 where
-  pub node : IfOk result (λ e. e.cid.codec ≡ DagPb)
+  pub made : IfOk result (λ e. IsRootCid X (Some p) e.cid)
   pub over : (N : List ℕ → ℕ) (l : List Named) → AreShards X N entry before now l
       → SettlesOver X N p l before.told now.told result
 
--- what a removal answers for a directory in shards: the entry of a node, or None, and nothing is saved, and for the
--- pairs of these shards what is left of them
+-- what a removal answers for a directory in shards: the entry of a directory's root, or None, and nothing is saved, and
+-- for the pairs of these shards what is left of them
 pub record TakesSharded (X : List ℕ → List ℕ) (N : List ℕ → ℕ) (p : Profile) (root : Cid) (name : List ℕ)
     (before now : Seen) (result : Result (Option Entry) StoreFault) : Type 0 where
-  pub node : IfOk result (λ left. IfSome left (λ e. e.cid.codec ≡ DagPb))
+  pub made : IfOk result (λ left. IfSome left (λ e. IsRootCid X (Some p) e.cid))
   pub none : IfOk result (λ left. left ≡ None → now.told ≡ before.told)
   pub over : (l : List Named) → StayShards X N root before now l
       → TakesOver X N p name l before.told now.told result

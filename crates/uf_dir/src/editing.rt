@@ -1,7 +1,6 @@
 // Directories changed by one name.
 ghost use Rattle.std.specs.Prelude.{◌≡◌, ◌<◌, ◌≤◌, ◌+◌, ℕ, List, IfOk, IfSome, IsTrue, None, OnOk, Some};
 ghost use Rattle.std.specs.Prelude.{length};
-ghost use Rattle.uf_cid.specs.declared.cid.Codec.TheVariants.{DagPb};
 ghost use Rattle.uf_edge.specs.Counts.{Stood};
 ghost use Rattle.uf_store.specs.Calls.{OnlySaves};
 ghost use Rattle.uf_store.specs.Faults.{Answers, NoneIsBad, fault_in};
@@ -16,11 +15,13 @@ ghost use Rattle.uf_tree.specs.TreePlan.{dir_refusal};
 ghost use Rattle.uf_tree.specs.Validity.{IsDirectory};
 ghost use Rattle.uf_shard.specs.Answers.{Gives, GivesOver, Shown, dir_fault};
 ghost use Rattle.uf_shard.specs.Listing.{IsBadShard};
+ghost use Rattle.uf_shard.specs.Planned.{IsShardCid};
 ghost use Rattle.uf_dir.specs.Bad.{BlamesOnly, IsBad, IsBadWeighed};
 ghost use Rattle.uf_dir.specs.Bounds.{IsFree, crossing, gathering, shard_count, weighing, weighing_from};
 ghost use Rattle.uf_dir.specs.Left.{AreShards, Fits, SettlesShards, StayShards};
 ghost use Rattle.uf_dir.specs.Left.{TakesBasic, TakesSharded, pairs_left};
 ghost use Rattle.uf_dir.specs.Planned.{IsFitting, IsPlanned, dir_entry, entry_without, own_blocks};
+ghost use Rattle.uf_dir.specs.Roots.{IsRootCid};
 
 use crate::building::{build, empty, needs_shards, save_basic};
 use crate::looking::look_at_root;
@@ -54,7 +55,7 @@ pub fn put<S: Store, N: NameHash, L: Ledger>(
         → GivesOver (S.seen store.old).told (own_blocks S.X.block32 N.name64 p.now l)
         (dir_refusal S.X.block32 N.name64 p.now (with_name name.now entry.now l))
         (dir_entry S.X.block32 N.name64 p.now (with_name name.now entry.now l)) result }
-    ensures node { IfOk result (λ e. e.cid.codec ≡ DagPb) }
+    ensures made { IfOk result (λ e. IsRootCid S.X.block32 (Some p.now) e.cid) }
     ensures fitting { OnOk result (IsFitting p.now root.now (S.seen store.old).told) }
     ensures after { OnOk result ((l : List Named) → IsPlanned S.X.block32 N.name64 p.now root.now l
         → StaysAgreed (S.seen store.old).told (S.seen store.new).told (own_blocks S.X.block32 N.name64 p.now l)
@@ -91,6 +92,7 @@ fn put_basic<S: Store, N: NameHash, L: Ledger>(
     requires directory { IsDirectory pairs.now }
     ensures answer { Gives (dir_refusal S.X.block32 N.name64 p.now (with_name name.now entry.now pairs.now))
         (dir_entry S.X.block32 N.name64 p.now (with_name name.now entry.now pairs.now)) result }
+    ensures made { IfOk result (λ e. IsRootCid S.X.block32 (Some p.now) e.cid) }
     ensures held { OnOk result (Holds (S.seen store.new).told
         (own_blocks S.X.block32 N.name64 p.now (with_name name.now entry.now pairs.now))) }
     ensures saves { OnlySaves S.X.block32 NoneIsBad (dir_fault result) (S.seen store.old) (S.seen store.new) }
@@ -121,7 +123,7 @@ pub fn remove<S: Store, N: NameHash, L: Ledger>(
         → Stood (S.seen store.old).clashes (S.seen store.new).clashes
         → ReadsOver (S.seen store.old).told (own_blocks S.X.block32 N.name64 p.now l)
         (entry_without S.X.block32 N.name64 p.now name.now l) result }
-    ensures node { IfOk result (λ left. IfSome left (λ e. e.cid.codec ≡ DagPb)) }
+    ensures made { IfOk result (λ left. IfSome left (λ e. IsRootCid S.X.block32 (Some p.now) e.cid)) }
     ensures fitting { OnOk result (IsFitting p.now root.now (S.seen store.old).told) }
     ensures none { IfOk result (λ left. left ≡ None → (S.seen store.new).told ≡ (S.seen store.old).told) }
     ensures after { OnOk result ((l : List Named) → IsPlanned S.X.block32 N.name64 p.now root.now l
@@ -222,7 +224,7 @@ fn settled<S: Store, L: Ledger>(
     touches: &mut Steps<L>,
 ) -> Result<Entry, StoreFault>
     requires profile { IsTrue (is_profile p.now) }
-    requires node { entry.cid.codec ≡ DagPb }
+    requires shard { IsShardCid S.X.block32 entry.cid }
     ensures settles { SettlesShards S.X.block32 p.now entry (S.seen store.old) (S.seen store.new) result }
     ensures saves { OnlySaves S.X.block32 IsBadShard (fault_in result) (S.seen store.old) (S.seen store.new) }
     ensures touches { (N : List ℕ → ℕ) (l : List Named)
@@ -247,7 +249,7 @@ fn in_one_block<S: Store, L: Ledger>(
     touches: &mut Steps<L>,
 ) -> Result<Entry, StoreFault>
     requires profile { IsTrue (is_profile p.now) }
-    requires node { entry.cid.codec ≡ DagPb }
+    requires shard { IsShardCid S.X.block32 entry.cid }
     ensures settles { SettlesShards S.X.block32 p.now entry (S.seen store.old) (S.seen store.new) result }
     ensures saves { OnlySaves S.X.block32 IsBadShard (fault_in result) (S.seen store.old) (S.seen store.new) }
     ensures touches { (N : List ℕ → ℕ) (l : List Named)

@@ -4,3 +4,10 @@ pub mod Saids
 pub mod Takings
 pub mod Texts
 pub mod Walks
+pub mod Below
+pub mod Puttings
+pub mod Members
+pub mod Written
+pub mod FilePuts
+pub mod Room
+pub mod Gotten

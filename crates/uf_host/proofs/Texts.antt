@@ -15,7 +15,7 @@ use Rattle.uf_host.specs.Paths.{behind_slash, first_row, kept_length, trimmed}
 positive : (n : ℕ) → 0 < n → nat_lt 0 n ≡ true
 positive n h = grind (arith, nat_tests)
 
-other : (n : ℕ) → n ≢ 47 → (n == 47) ≡ false
+pub other : (n : ℕ) → n ≢ 47 → (n == 47) ≡ false
 other n h = grind (arith, nat_tests)
 
 and-false : (b : Bool) → b && false ≡ false
@@ -49,13 +49,13 @@ kept-first path (suc (suc n)) h = absurd (omega arith)
 
 -- ---- the last name
 
-split-none : (text : List ℕ) (n : ℕ) → ((i : ℕ) → i < n → slice_index text i ≢ 47) → rfind_below 47 text n ≡ None
+pub split-none : (text : List ℕ) (n : ℕ) → ((i : ℕ) → i < n → slice_index text i ≢ 47) → rfind_below 47 text n ≡ None
 split-none text zero h = refl
 split-none text (suc n) h =
     ap (λ (b : Bool). cond b (Some n) (rfind_below 47 text n)) (other (slice_index text n) (h n (omega arith)))
     ∙ split-none text n (λ i low. h i (omega arith))
 
-split-some : (text : List ℕ) (k n : ℕ) → k < n → slice_index text k ≡ 47 → ((i : ℕ) → k < i → i < n → slice_index text i ≢ 47) → rfind_below 47 text n ≡ Some k
+pub split-some : (text : List ℕ) (k n : ℕ) → k < n → slice_index text k ≡ 47 → ((i : ℕ) → k < i → i < n → slice_index text i ≢ 47) → rfind_below 47 text n ≡ Some k
 split-some text k zero less is h = absurd (omega arith)
 split-some text k (suc n) less is h = by (cases_lt k n) (λ low. split-some text k n low is (λ i more fits. h i more (omega arith)))
   where

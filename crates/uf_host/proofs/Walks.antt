@@ -33,7 +33,8 @@ use Rattle.uf_tree.specs.declared.nodes.Entry.{Entry}
 use Rattle.uf_tree.specs.declared.profile.Profile.{Profile}
 use Rattle.uf_host.specs.Adding.{AddsAs, AddsAt, AddsBelow, AddsMember, AddsRow, AddsTree, HasHeldPlan, IsMember, IsOfMembers, IsRefusal, IsSaid}
 use Rattle.uf_host.specs.Faults.{for_one, of_directory}
-use Rattle.uf_host.specs.HostTree.{Members, Walk, directory_of, each_member, is_folder_there, member_at, rows_below, rows_in, rows_of, tree_there, unless_refused, walk_down, walk_of, with_entries}
+use Rattle.uf_host.specs.Paths.{is_folder_there}
+use Rattle.uf_host.specs.HostTree.{Members, Walk, directory_of, each_member, member_at, rows_below, rows_in, rows_of, tree_there, unless_refused, walk_down, walk_of, with_entries}
 use Rattle.uf_host.specs.Naming.{IsBadName, IsNameOf}
 use Rattle.uf_host.specs.Reading.{AddsFile, IsLongFile, OfFileAt}
 use Rattle.uf_host.specs.declared.fault.HostFault.{HostFault}

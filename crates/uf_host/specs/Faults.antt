@@ -4,6 +4,8 @@ use Rattle.std.specs.declared.option.Option.{Option}
 use Rattle.std.specs.declared.result.Result.{Result}
 use Rattle.std.specs.declared.result.Result.TheVariants.{Ok, Err}
 use Rattle.uf_lenient.specs.Answers.{store_fault_of}
+use Rattle.uf_lenient.specs.declared.fault.DagFault.{DagFault}
+use Rattle.uf_lenient.specs.declared.fault.DagFault.TheVariants as dag
 use Rattle.uf_shard.specs.declared.fault.DirFault.{DirFault}
 use Rattle.uf_shard.specs.declared.fault.DirFault.TheVariants as directory
 use Rattle.uf_store.specs.Clashes.{IsSaving}
@@ -33,6 +35,16 @@ edge_fault (Err fault) = store_part fault
 abbrev pub is_read_fault : {A : Type 0} → Result A HostFault → Bool
 is_read_fault (Err Read) = true
 is_read_fault other = false
+
+-- the answer is that the host failed at writing
+abbrev pub is_write_fault : {A : Type 0} → Result A HostFault → Bool
+is_write_fault (Err Write) = true
+is_write_fault other = false
+
+-- a fault of a reading: one of the store stays one of the store
+abbrev pub fault_of_reading : DagFault → HostFault
+fault_of_reading (dag.Store fault) = Store fault
+fault_of_reading other = Dag other
 
 -- the host failed at reading, a save failed, or it is said to be so; no import has a fault of an export
 abbrev pub IsSaidOr : (HostFault → Type 0) → HostFault → Type 0

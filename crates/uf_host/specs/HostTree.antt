@@ -13,7 +13,7 @@ use Rattle.uf_tree.specs.Names.{is_name}
 use Rattle.uf_tree.specs.Nodes.{Named}
 use Rattle.uf_tree.specs.Tree.{Tree, File, Dir, Entries, Nothing, With, entries}
 use Rattle.uf_tree.specs.TreePlan as plan
-use Rattle.uf_host.specs.Paths.{trimmed}
+use Rattle.uf_host.specs.Paths.{is_folder_there, trimmed}
 use Rattle.uf_host.specs.declared.import.AddedRow.{AddedRow}
 use Rattle.uf_host.specs.declared.fault.HostFault.{HostFault}
 use Rattle.uf_host.specs.declared.fault.HostFault.TheVariants.{Absent, NeedsRecursive, Name, TooDeep, FileTooLong, Collision, TooBig}
@@ -42,11 +42,6 @@ unless_refused path tree None = Ok tree
 unless_refused path tree (Some plan.FileTooLong) = Err (FileTooLong path)
 unless_refused path tree (Some (plan.Collision first second)) = Err (Collision first second)
 unless_refused path tree (Some plan.TooBig) = Err TooBig
-
--- a folder is there
-abbrev pub is_folder_there : Option Place → Bool
-is_folder_there (Some place.Folder) = true
-is_folder_there other = false
 
 module _ (X : List ℕ → List ℕ) (N : List ℕ → ℕ) (p : Profile) where
   -- names with their entries

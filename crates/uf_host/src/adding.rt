@@ -14,11 +14,11 @@ ghost use Rattle.uf_host.specs.Paths.{first_row};
 use crate::HostFault;
 use crate::import::{AddedRows, Import};
 use crate::paths::{row_of, trim};
-use crate::site::Site;
+use crate::site::{Site, text_of};
 use crate::walking::add_at;
 use std::alloc::Global;
 use std::sync::ledger::Ledger;
-use uf_cid::{Memory, Text};
+use uf_cid::Memory;
 use uf_edge::Host;
 use uf_murmur::NameHash;
 use uf_store::{Steps, Store};
@@ -110,15 +110,6 @@ fn site_of(alloc: Global, path: &str) -> Result<Site, Memory>
         path: text_of(alloc, path)?,
         row: text_of(alloc, row_of(path))?,
     })
-}
-
-// A text of its own.
-fn text_of(alloc: Global, text: &str) -> Result<Text, Memory>
-    ensures { IfOk result (λ own. own ≡ text.now) }
-{
-    let mut own = Text::new(alloc);
-    own.push_str(text)?;
-    Ok(own)
 }
 
 // So many bytes of zero.

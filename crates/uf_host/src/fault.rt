@@ -73,3 +73,17 @@ impl From<DirFault> for HostFault {
         }
     }
 }
+
+impl From<DagFault> for HostFault {
+    ghost use Rattle.std.specs.Prelude.{◌≡◌};
+    ghost use Rattle.uf_host.specs.Faults.{fault_of_reading};
+
+    ghost from_gives = { λ fault given. given ≡ fault_of_reading fault };
+
+    fn from(fault: DagFault) -> Self {
+        match fault {
+            DagFault::Store(fault) => HostFault::Store(fault),
+            other => HostFault::Dag(other),
+        }
+    }
+}

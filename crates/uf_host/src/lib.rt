@@ -3,15 +3,20 @@
 
 mod adding;
 mod fault;
+mod getting;
 mod import;
 mod intake;
 mod paths;
+mod putting;
 mod site;
 mod walking;
 
 pub use adding::add;
 pub use fault::HostFault;
+pub use getting::get;
 pub use import::{AddedRow, AddedRows};
 
+#[cfg(test)]
+mod get_tests;
 #[cfg(test)]
 mod tests;

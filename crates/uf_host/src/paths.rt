@@ -1,7 +1,10 @@
 // The text of a path taken apart.
 ghost use Rattle.std.specs.Prelude.{◌≡◌};
 ghost use Rattle.std.specs.Path.{rsplit_once};
-ghost use Rattle.uf_host.specs.Paths.{behind_slash, first_row, trimmed};
+ghost use Rattle.uf_host.specs.Paths.{behind_slash, first_row, folder_named, trimmed};
+ghost use Rattle.uf_host.specs.Getting.{IsNamedBy, SplitsLast};
+
+use crate::HostFault;
 
 // The path without slashes at its end, but for one that begins it.
 pub fn trim(path: &str) -> &str
@@ -30,5 +33,33 @@ fn last_of(path: &str) -> &str
     match path.rsplit_once('/') {
         Some((_, last)) => last,
         None => path,
+    }
+}
+
+// What stands in front of the last slash, and behind it; `None` where there is no slash.
+pub fn split_last(path: &str) -> Option<(&str, &str)>
+    ensures { SplitsLast path.now result }
+{
+    match path.rsplit_once('/') {
+        Some((front, last)) => Some((front, last)),
+        None => None,
+    }
+}
+
+// The folder that a path names in front of its last slash.
+pub fn or_root(folder: &str) -> &str
+    ensures { result.now ≡ folder_named folder.now }
+{
+    if folder.is_empty() { "/" } else { folder }
+}
+
+// Says whether what has no slash is the name of something.
+pub fn named(name: &str) -> Result<(), HostFault>
+    ensures { IsNamedBy name.now result }
+{
+    if name.is_empty() {
+        Err(HostFault::Absent)
+    } else {
+        Ok(())
     }
 }

@@ -45,3 +45,12 @@ fn joined(alloc: Global, first: &str, second: &str, third: &str) -> Result<Text,
     text.push_str(third)?;
     Ok(text)
 }
+
+// A text of its own.
+pub fn text_of(alloc: Global, text: &str) -> Result<Text, Memory>
+    ensures { IfOk result (λ own. own ≡ text.now) }
+{
+    let mut own = Text::new(alloc);
+    own.push_str(text)?;
+    Ok(own)
+}

@@ -28,7 +28,7 @@ const A_AND_B: &str = "bafybeiawjw5vczq77gskoakd6753fcjvzcuid75mfwu6piefq47yg6pu
 
 // What is in a host: for each the folder that it is in (none is the working folder), its name, and the bytes of a file
 // or none of a folder.
-type Node<'a> = (&'a str, &'a str, Option<&'a [u8]>);
+pub type Node<'a> = (&'a str, &'a str, Option<&'a [u8]>);
 
 const FOLDER: [Node<'static>; 3] = [
     ("", "d", None),
@@ -96,7 +96,7 @@ fn put_in(
 }
 
 // A host that has these, and fails at these calls.
-fn host_of(alloc: Global, nodes: &[Node<'_>], fail: Calls) -> Result<MemHost, Memory> {
+pub fn host_of(alloc: Global, nodes: &[Node<'_>], fail: Calls) -> Result<MemHost, Memory> {
     let mut host = MemHost::new(alloc, fail);
     for node in nodes {
         let (folder, name, content) = *node;
@@ -113,7 +113,7 @@ fn host_of(alloc: Global, nodes: &[Node<'_>], fail: Calls) -> Result<MemHost, Me
 }
 
 // The lines of an answer.
-fn lines_of(alloc: Global, answer: &Result<AddedRows, HostFault>) -> Result<Text, Memory> {
+pub fn lines_of(alloc: Global, answer: &Result<AddedRows, HostFault>) -> Result<Text, Memory> {
     let mut text = Text::new(alloc);
     match answer {
         Ok(rows) => {
@@ -129,7 +129,7 @@ fn lines_of(alloc: Global, answer: &Result<AddedRows, HostFault>) -> Result<Text
     Ok(text)
 }
 
-fn push_fault(text: &mut Text, fault: &HostFault) -> Result<(), Memory> {
+pub fn push_fault(text: &mut Text, fault: &HostFault) -> Result<(), Memory> {
     let (word, path) = match fault {
         HostFault::Absent => ("absent", ""),
         HostFault::NeedsRecursive => ("recursive", ""),
@@ -139,6 +139,10 @@ fn push_fault(text: &mut Text, fault: &HostFault) -> Result<(), Memory> {
         HostFault::FileTooLong(path) => ("long ", path.as_str()),
         HostFault::Collision(first, _) => ("collision ", first.as_str()),
         HostFault::Read => ("read", ""),
+        HostFault::Write => ("write", ""),
+        HostFault::Exists => ("exists", ""),
+        HostFault::Dag(_) => ("dag", ""),
+        HostFault::Store(StoreFault::Missing(_)) => ("missing", ""),
         HostFault::Store(StoreFault::Memory) => ("memory", ""),
         _ => ("?", ""),
     };
@@ -164,7 +168,7 @@ fn adds<L: Ledger>(
 }
 
 // Several texts in a row.
-fn text_of(alloc: Global, parts: &[&str]) -> Result<Text, Memory> {
+pub fn text_of(alloc: Global, parts: &[&str]) -> Result<Text, Memory> {
     let mut text = Text::new(alloc);
     for part in parts {
         text.push_str(part)?;

@@ -16,3 +16,5 @@ pub mod Good
 pub mod Leading
 pub mod Visited
 pub mod Reached
+pub mod Looser
+pub mod Denoting

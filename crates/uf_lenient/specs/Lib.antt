@@ -1,4 +1,5 @@
 pub mod Answers
+pub mod Denoted
 pub mod Keyed
 pub mod Leading
 pub mod Pending

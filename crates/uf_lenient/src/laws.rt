@@ -1,5 +1,5 @@
 // What holds of readings.
-ghost use Rattle.std.specs.Prelude.{◌≡◌, ◌<◌, ◌^◌, ◌↔◌, ℕ, Contains, List, [], IsTrue, None, Ok, Some, length, map};
+ghost use Rattle.std.specs.Prelude.{◌≡◌, ◌+◌, ◌<◌, ◌^◌, ◌↔◌, ℕ, Contains, List, [], IsTrue, None, Ok, Some, length, map};
 ghost use Rattle.std.specs.List.{AllByRecursion};
 ghost use Rattle.std.specs.declared.option.Option.{Option};
 ghost use Rattle.std.specs.declared.result.Result.{Result};
@@ -19,6 +19,7 @@ ghost use Rattle.uf_lenient.specs.declared.due.Due.{Due};
 ghost use Rattle.uf_lenient.specs.declared.fault.DagFault.{DagFault};
 ghost use Rattle.uf_lenient.specs.declared.shapes.Limits.{Limits};
 ghost use Rattle.uf_lenient.specs.declared.unixfs.Unixfs.TheVariants.{Directory, File, Shard};
+ghost use Rattle.uf_lenient.specs.Denoted.{IsStep, denotes_within};
 ghost use Rattle.uf_lenient.specs.Leading.{AgreeAmong, LeadsInto, block_cids};
 ghost use Rattle.uf_lenient.specs.Reading.{denotes, file_of, resolve_from, shallow_of};
 ghost use Rattle.uf_lenient.specs.Steps.{IsNextPiece, Rest, to_come};
@@ -76,6 +77,13 @@ pub fn a_reading_of_good_blocks_stays()
     ensures file { (X : List ℕ → List ℕ) (held more : Held) (limits : Limits) (c : Cid) → HoldsGoodOf X held more
         → AnswersSame (good_blocks X more) (file_of (good_blocks X held) limits c)
         (file_of (good_blocks X more) limits c) }
+{}
+
+/// A tree can be read directory by directory, with depth and visits counted anew for each: what a CID denotes is the file
+/// under it, or the directory of what its ways denote, where these nest one level less deep.
+pub fn a_tree_is_read_step_by_step()
+    ensures { (held : Held) (limits : Limits) (room : ℕ) (c : Cid) (t : Tree)
+        → denotes_within held limits (room + 1) c ≡ Ok t → IsStep held limits room c t }
 {}
 
 /// Calls of `Pieces::next` give one file, where each of their stores holds the same under each CID that the reading of

@@ -1,5 +1,5 @@
 -- What is bad by one judge and by another.
-use Rattle.std.proofs.Common.{◌≡◌, ℕ, List, [], Bool, cond, ap, subst, sym, ◌∙◌, Option, Some, None, true, false, refl, inl, inr}
+use Rattle.std.proofs.Common.{◌≡◌, ℕ, List, ap, subst, sym, ◌∙◌, Option, Some, None, true, false, refl}
 use Rattle.std.proofs.lemmas.Bool.{false≢true}
 use Rattle.std.specs.Prelude.{IfOk, IfSome}
 use Rattle.std.specs.declared.result.Result.{Result}
@@ -15,37 +15,32 @@ use Rattle.uf_store.specs.Seen.{Seen}
 use Rattle.uf_store.proofs.Calls.{shown-by}
 use Rattle.uf_store.proofs.Causes.{Shows-after, StaysCalm-trans, calm-rises}
 use Rattle.uf_tree.specs.declared.nodes.Entry.{Entry}
+use Rattle.uf_tree.specs.declared.profile.Head.{Head}
 use Rattle.uf_tree.specs.declared.profile.Profile.{Profile}
-use Rattle.uf_tree.specs.DirPlan.{basic_dir}
-use Rattle.uf_tree.specs.Nodes.{dir_block}
-use Rattle.uf_tree.specs.ShardPlan.{shard}
 use Rattle.uf_tree.specs.Roles.{IsCanonicalDirectory, Basic, Sharded, FileRoot}
 use Rattle.uf_dir.specs.Bad as dirs
 use Rattle.uf_dir.specs.Bad.{BlamesOnly}
-use Rattle.uf_dir.specs.Planned.{dir_entry}
-use Rattle.uf_dir.specs.Roots.{IsRootUnder}
-use Rattle.uf_dir.proofs.Planning.{empty-light}
+use Rattle.uf_dir.specs.Roots.{IsNoRoot, IsRootCid, IsRootUnder}
 use Rattle.uf_mfs.specs.declared.fault.MfsFault.{MfsFault}
 use Rattle.uf_mfs.specs.declared.fault.MfsFault.TheVariants as fault
 use Rattle.uf_mfs.specs.declared.fault.Stop.{Stop}
 use Rattle.uf_mfs.specs.declared.fault.Stop.TheVariants as stop
 use Rattle.uf_mfs.specs.Answers.{ShownInTree, Tells}
 use Rattle.uf_mfs.specs.Steps.{stop_fault}
-use Rattle.uf_mfs.specs.Bad.{IsBad, IsBadInTree, IsBadUnder, IsRequired, RequiresDirectory, AtRoot, AsMet}
+use Rattle.uf_mfs.specs.Bad.{IsBad, IsBadInHead, IsBadInTree, IsHeadTold, IsBadUnder, IsRequired, RequiresDirectory, AtRoot, AsMet}
 use Rattle.uf_mfs.specs.declared.thing.Thing.{Thing}
 use Rattle.uf_mfs.specs.declared.thing.Thing.TheVariants.{File as FileAt, Folder as FolderAt}
 use Rattle.uf_mfs.specs.declared.target.Target.{Target}
 use Rattle.uf_mfs.specs.Moving.{folder_there}
-use Rattle.uf_mfs.specs.Writes.{IsBadWritten, IsBadWrittenIn}
 
 -- what is bad without a profile is bad with one
-with_profile : (p : Profile) (bytes : List ℕ) → IsCanonicalDirectory (Some p) true bytes → IsCanonicalDirectory None true bytes
-with_profile p bytes (Basic b) = Basic (record { pairs = b.pairs; valid = b.valid; light = tt; is = b.is })
-with_profile p bytes (Sharded s) = Sharded s
-with_profile p bytes (FileRoot e n) = FileRoot e n
+unweighed : (profile : Option Profile) (bytes : List ℕ) → IsCanonicalDirectory profile true bytes → IsCanonicalDirectory None true bytes
+unweighed profile bytes (Basic b) = Basic (record { pairs = b.pairs; valid = b.valid; light = tt; is = b.is })
+unweighed profile bytes (Sharded s) = Sharded s
+unweighed profile bytes (FileRoot e n) = FileRoot e n
 
 pub bad-more : (N : List ℕ → ℕ) (p : Profile) (role : Role) (bytes : List ℕ) → IsBad N None role bytes → IsBad N (Some p) role bytes
-bad-more N p Directory bytes bad = λ c. bad (with_profile p bytes c)
+bad-more N p Directory bytes bad = λ c. bad (unweighed (Some p) bytes c)
 bad-more N p (Shard level) bytes bad = bad
 bad-more N p FileNode bytes bad = bad
 bad-more N p Leaf bytes bad = bad
@@ -61,17 +56,6 @@ module _ (X : List ℕ → List ℕ) (N : List ℕ → ℕ) where
 
   pub tree-more : (p : Profile) (root : Cid) (role : Role) (bytes : List ℕ) → IsBadInTree X N None root role bytes → IsBadInTree X N (Some p) root role bytes
   tree-more p root role bytes h = record { bad = bad-more N p role bytes h.bad; required = h.required }
-
-  -- the older words, of which each is implied by that of a tree
-  pub tree-bad : (profile : Option Profile) (root : Cid) (role : Role) (bytes : List ℕ) → IsBadInTree X N profile root role bytes → IsBad N profile role bytes
-  tree-bad profile root role bytes h = h.bad
-
-  pub tree-bad-more : (p : Profile) (root : Cid) (role : Role) (bytes : List ℕ) → IsBadInTree X N None root role bytes → IsBad N (Some p) role bytes
-  tree-bad-more p root role bytes h = bad-more N p role bytes h.bad
-
-  pub written-bad : (p : Profile) (told : Told) (root : Cid) (role : Role) (bytes : List ℕ) → IsBadWrittenIn X N p told root role bytes → IsBadWritten X N p told role bytes
-  written-bad p told root role bytes (inl h) = inl h.bad
-  written-bad p told root role bytes (inr h) = inr h
 
   -- where neither a directory nor a file is canonical
   pub root-bad : (profile : Option Profile) (root : Cid) (role : Role) (bytes : List ℕ) → dirs.IsBadRoot role bytes → IsBadInTree X N profile root role bytes
@@ -115,15 +99,21 @@ module _ (X : List ℕ → List ℕ) (N : List ℕ → ℕ) where
   pub met-required : (root : Cid) (e : Entry) (bytes : List ℕ) → IsRootUnder X e.cid bytes → RequiresDirectory X root e.cid.digest
   met-required root e bytes h = AsMet bytes h.digest h.canonical
 
-  -- the empty directory's block is canonical
-  pub empty-required : (root : Cid) (e : Entry) → ((M : List ℕ → ℕ) (p : Profile) → e ≡ dir_entry X M p []) → RequiresDirectory X root e.cid.digest
-  empty-required root e is = AsMet (dir_block []) (digest ∙ ap (λ (x : Entry). x.cid.digest) (sym (is N any))) (Basic (record { pairs = []; valid = record { sorted = refl; each = tt }; light = tt; is = refl }))
-    where
-      any : Profile
-      any = record { chunk = 1; width = 2; threshold = 0 }
+  -- what an edit or the making of a directory answered
+  pub made-required : (profile : Option Profile) (root cid : Cid) → IsRootCid X profile cid → RequiresDirectory X root cid.digest
+  made-required profile root cid h = AsMet h.block (sym (ap (λ (c : Cid). c.digest) h.same)) (unweighed profile h.block h.canonical)
 
-      digest : X (dir_block []) ≡ (dir_entry X N any []).cid.digest
-      digest = subst (λ (b : Bool). X (dir_block []) ≡ (cond b (shard X N 7 []) (basic_dir X N [])).entry.cid.digest) (sym (empty-light any)) refl
+  -- ---- the root of a directory that is opened
+
+  root-unread : (role : Role) (bytes : List ℕ) → IsNoRoot None true role bytes → IsBad N None role bytes
+  root-unread Directory bytes h = h
+  root-unread (Shard level) bytes h = absurd h
+  root-unread FileNode bytes h = absurd h
+  root-unread Leaf bytes h = absurd h
+
+  -- what is bad in the tree of the Head that was read
+  pub head-bad : (told : Told) (head : Head) → IsHeadTold told head → (role : Role) (bytes : List ℕ) → IsBadInTree X N None head.root role bytes → IsBadInHead X N told role bytes
+  head-bad told head is role bytes h = record { head = head; is_told = is; bad = h }
 
   -- ---- what a directory's call blames
 
@@ -142,6 +132,9 @@ module _ (X : List ℕ → List ℕ) (N : List ℕ → ℕ) where
   }
   shown-at Bad profile root (Some (Clash cid held bytes)) a b more blames h = h
   shown-at Bad profile root (Some Memory) a b more blames h = h
+
+  pub shown-root : (root : Cid) (f : Option StoreFault) (a b : Seen) → BlamesOnly root f → Shown X (IsNoRoot None true) f a b → Shown X (IsBadInTree X N None root) f a b
+  shown-root root f a b blames h = shown-at (IsNoRoot None true) None root f a b root-unread blames h
 
 -- what one judge calls bad in a call on an opened tree, another does too
 pub in-tree-by : {A : Type 0} (X : List ℕ → List ℕ) (P Q : Role → List ℕ → Type 0) (r : Result A MfsFault) (a b : Seen) → ((role : Role) (bytes : List ℕ) → P role bytes → Q role bytes)

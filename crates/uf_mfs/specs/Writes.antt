@@ -31,7 +31,7 @@ use Rattle.uf_plain.specs.Files.{begun, file_edited, fitting, new_bytes, rewritt
 use Rattle.uf_mfs.specs.declared.fault.Stop.{Stop}
 use Rattle.uf_mfs.specs.declared.fault.Stop.TheVariants as stop
 use Rattle.uf_mfs.specs.Answers.{MeetsOr}
-use Rattle.uf_mfs.specs.Bad.{IsBad, IsBadInTree}
+use Rattle.uf_mfs.specs.Bad.{IsBadInTree}
 use Rattle.uf_mfs.specs.Standing.{IsAfter, IsAgreed, IsPlanOf}
 use Rattle.uf_mfs.specs.Reading.{AreHeights}
 use Rattle.uf_mfs.specs.Steps.{EditsFolder}
@@ -41,11 +41,7 @@ use Rattle.uf_mfs.specs.Touches.{TouchesFolder, crossings_of, entries_at, touch_
 abbrev pub IsBadInSome : (List ℕ → List ℕ) → Profile → Told → Role → List ℕ → Type 0
 IsBadInSome X p told role bytes = (root : Cid) × IsBadEdited X p told root role bytes
 
--- a block that isn't canonical on the way to a file, or in the file that is edited
-abbrev pub IsBadWritten : (List ℕ → List ℕ) → (List ℕ → ℕ) → Profile → Told → Role → List ℕ → Type 0
-IsBadWritten X N p told role bytes = IsBad N (Some p) role bytes ⊎ IsBadInSome X p told role bytes
-
--- the same on the way to a file of the tree with this root
+-- a block that isn't canonical on the way to a file of the tree with this root, or in the file that is edited
 abbrev pub IsBadWrittenIn : (List ℕ → List ℕ) → (List ℕ → ℕ) → Profile → Told → Cid → Role → List ℕ → Type 0
 IsBadWrittenIn X N p told root role bytes =
     IsBadInTree X N (Some p) root role bytes ⊎ IsBadInSome X p told role bytes

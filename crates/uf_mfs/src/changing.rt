@@ -7,6 +7,7 @@ ghost use Rattle.uf_store.specs.Writing.{SavesOnly};
 ghost use Rattle.uf_tree.specs.declared.profile.Profile.{Profile as TheProfile};
 ghost use Rattle.uf_tree.specs.Profiles.{is_profile};
 ghost use Rattle.uf_tree.specs.Tree.{Dir, Entries, Tree};
+ghost use Rattle.uf_dir.specs.Roots.{IsRootCid};
 ghost use Rattle.uf_mfs.specs.Answers.{Moves, MovesTo, Settles, ShownInTree};
 ghost use Rattle.uf_mfs.specs.Bad.{IsBadInTree};
 ghost use Rattle.uf_store.specs.Calls.{OnlySaves};
@@ -206,6 +207,7 @@ impl Mfs {
         ensures edits { (t : Tree) → IsMeant S.X.block32 N.name64 self.now.profile what t
             → EditsFolder S.X.block32 N.name64 self.now.profile (S.seen store.old) (S.seen store.new)
             (brought S.X.block32 N.name64 self.now.profile what t) self.now.root (changed_at what t names.now) result }
+        ensures made { IfOk result (λ e. IsRootCid S.X.block32 (Some self.now.profile) e.cid) }
         ensures saves { OnlySaves S.X.block32
             (IsBadInTree S.X.block32 N.name64 (Some self.now.profile) self.now.root.cid) (stop_fault result)
             (S.seen store.old) (S.seen store.new) }

@@ -10,6 +10,7 @@ ghost use Rattle.uf_tree.specs.Profiles.{is_profile};
 ghost use Rattle.uf_tree.specs.Tree.{Dir, Entries, Nothing, Tree};
 ghost use Rattle.uf_tree.specs.TreePlan.{blocks, named_entries};
 ghost use Rattle.uf_dir.specs.Bounds.{crossing, weighing_from};
+ghost use Rattle.uf_dir.specs.Roots.{IsRootCid};
 ghost use Rattle.uf_mfs.specs.Answers.{Decides, EditsAfter};
 ghost use Rattle.uf_plain.specs.Rules.{allowed};
 ghost use Rattle.uf_mfs.specs.Bad.{IsBadInTree, RequiresDirectory};
@@ -56,6 +57,7 @@ pub(crate) fn edit<S: Store, N: NameHash, L: Ledger>(
         → EditsFolder S.X.block32 N.name64 site.profile (S.seen store.old) (S.seen store.new)
         (brought S.X.block32 N.name64 site.profile site.what t) folder.now
         (edited (change site.what t) site.led name.now rest.now) result }
+    ensures made { IfOk result (λ e. IsRootCid S.X.block32 (Some site.profile) e.cid) }
     ensures saves { OnlySaves S.X.block32 (IsBadInTree S.X.block32 N.name64 (Some site.profile) folder.now.cid)
         (stop_fault result) (S.seen store.old) (S.seen store.new) }
     ensures touches { (t : Tree) → IsMeant S.X.block32 N.name64 site.profile site.what t
@@ -199,6 +201,7 @@ fn edit_here<S: Store, N: NameHash, L: Ledger>(
         (brought S.X.block32 N.name64 site.profile site.what t ++ blocks S.X.block32 N.name64 site.profile (Dir es))
         site.profile
         (allowed S.X.block32 N.name64 site.profile (change site.what t (site.led + 1) name.now es)) result }
+    ensures made { IfOk result (λ e. IsRootCid S.X.block32 (Some site.profile) e.cid) }
     ensures saves { OnlySaves S.X.block32 (IsBadInTree S.X.block32 N.name64 (Some site.profile) folder.now.cid)
         (stop_fault result) (S.seen store.old) (S.seen store.new) }
     ensures touches { (t : Tree) (es : Entries) → IsMeant S.X.block32 N.name64 site.profile site.what t
@@ -278,6 +281,7 @@ fn make_in<S: Store, N: NameHash, L: Ledger>(
     requires profile { IsTrue (is_profile profile.now) }
     ensures edits { EditsFolder S.X.block32 N.name64 profile.now (S.seen store.old) (S.seen store.new) [] folder.now
         (λ es. Ok (with_child name.now (Dir Nothing) es)) result }
+    ensures made { IfOk result (λ e. IsRootCid S.X.block32 (Some profile.now) e.cid) }
     ensures saves { OnlySaves S.X.block32 (IsBadInTree S.X.block32 N.name64 (Some profile.now) folder.now.cid)
         (stop_fault result) (S.seen store.old) (S.seen store.new) }
     ensures touches { TouchesFolder S.X.block32 N.name64 profile.now (S.seen store.old) (S.seen store.new) []
@@ -305,6 +309,7 @@ pub(crate) fn put_in<S: Store, N: NameHash, L: Ledger>(
     ensures edits { (t : Tree) → IsPlanOf S.X.block32 N.name64 profile.now entry.now t
         → EditsFolder S.X.block32 N.name64 profile.now (S.seen store.old) (S.seen store.new)
         (blocks S.X.block32 N.name64 profile.now t) folder.now (λ es. Ok (with_child name.now t es)) result }
+    ensures made { IfOk result (λ e. IsRootCid S.X.block32 (Some profile.now) e.cid) }
     ensures saves { OnlySaves S.X.block32 (IsBadInTree S.X.block32 N.name64 (Some profile.now) folder.now.cid)
         (stop_fault result) (S.seen store.old) (S.seen store.new) }
     ensures touches { (t : Tree) → IsPlanOf S.X.block32 N.name64 profile.now entry.now t
@@ -335,6 +340,7 @@ fn take_out<S: Store, N: NameHash, L: Ledger>(
         → EditsAfter S.X.block32 N.name64 (S.seen store.old).told (S.seen store.new).told
         (blocks S.X.block32 N.name64 profile.now (Dir es)) profile.now
         (allowed S.X.block32 N.name64 profile.now (Ok (without_child name.now es))) result }
+    ensures made { IfOk result (λ e. IsRootCid S.X.block32 (Some profile.now) e.cid) }
     ensures saves { OnlySaves S.X.block32 (IsBadInTree S.X.block32 N.name64 (Some profile.now) folder.now.cid)
         (stop_fault result) (S.seen store.old) (S.seen store.new) }
     ensures touches { TouchesFolder S.X.block32 N.name64 profile.now (S.seen store.old) (S.seen store.new) []

@@ -14,8 +14,9 @@ ghost use Rattle.uf_plain.specs.Edits.{at, removed};
 ghost use Rattle.uf_plain.specs.Moves.{allowed_move, as_replaceable, carried, copied, edited_at, lie_of as lie_at};
 ghost use Rattle.uf_plain.specs.Moves.{moved_to as moved_by, put_at_spot, put_over, shifted, spot_names, told_of};
 ghost use Rattle.uf_plain.specs.Rules.{allowed};
+ghost use Rattle.uf_dir.specs.Roots.{IsRootCid};
 ghost use Rattle.uf_mfs.specs.Answers.{Moves, ShownInTree};
-ghost use Rattle.uf_mfs.specs.Bad.{IsBad, IsBadInTree};
+ghost use Rattle.uf_mfs.specs.Bad.{IsBadInTree};
 ghost use Rattle.uf_mfs.specs.Moving.{EditsTree, IsFound, IsInside, IsOntoItself, MovesBy, MovesHeld};
 ghost use Rattle.uf_mfs.specs.Moving.{MovesRoot, MovesThing, TouchesThing, copy_bound, entry_in, move_bound};
 ghost use Rattle.uf_mfs.specs.Moving.{put_crossings, replaces, shift_crossings};
@@ -147,8 +148,9 @@ impl Mfs {
         ensures refused { OnErr result (self.new ≡ self.old) }
         ensures mfs { IsMfs self.new }
         ensures profile { self.new.profile ≡ self.old.profile }
-        ensures cause { ShownInTree S.X.block32 (IsBad N.name64 (Some self.old.profile)) result (S.seen store.old)
-            (S.seen store.new) }
+        ensures cause { ShownInTree S.X.block32
+            (IsBadInTree S.X.block32 N.name64 (Some self.old.profile) self.old.root.cid) result
+            (S.seen store.old) (S.seen store.new) }
         ensures good { KeepsGood S.X.block32 (S.seen store.old).told (S.seen store.new).told }
         ensures saves { SavesOnly S.X.block32 (S.seen store.old).told (S.seen store.new).told }
         ensures touches { TouchesFolder S.X.block32 N.name64 self.old.profile (S.seen store.old) (S.seen store.new) []
@@ -179,8 +181,9 @@ fn moved_root<S: Store, N: NameHash, L: Ledger>(
         → StandsOver S.X.block32 N.name64 (S.seen store.old).told tree.now p es
         → Stood (S.seen store.old).faults (S.seen store.new).faults → IsOntoItself source.now dest.now es
         → ((S.seen store.new).told ≡ (S.seen store.old).told) × IfOk result (λ e. e ≡ tree.now.root) }
-    ensures saves { EditsTree S.X.block32 (IsBad N.name64 (Some tree.now.profile)) result (S.seen store.old)
-        (S.seen store.new) }
+    ensures saves { EditsTree S.X.block32
+        (IsBadInTree S.X.block32 N.name64 (Some tree.now.profile) tree.now.root.cid) result
+        (S.seen store.old) (S.seen store.new) }
     ensures touches { TouchesFolder S.X.block32 N.name64 tree.now.profile (S.seen store.old) (S.seen store.new) []
         tree.now.root (move_bound S.X.block32 N.name64 tree.now.profile source.now dest.now) touches.old touches.new }
     ensures touched { CountsUp (tree_fault result) touches.old touches.new }
@@ -221,8 +224,9 @@ fn moved_to<S: Store, N: NameHash, L: Ledger>(
         (moved_by source.now t found) result }
     ensures itself { lie_at source.now target.now.names ≡ Itself
         → ((S.seen store.new).told ≡ (S.seen store.old).told) × IfOk result (λ e. e ≡ tree.now.root) }
-    ensures saves { EditsTree S.X.block32 (IsBad N.name64 (Some tree.now.profile)) result (S.seen store.old)
-        (S.seen store.new) }
+    ensures saves { EditsTree S.X.block32
+        (IsBadInTree S.X.block32 N.name64 (Some tree.now.profile) tree.now.root.cid) result
+        (S.seen store.old) (S.seen store.new) }
     ensures touches { (t : Tree) (found : TheSpot × Entries)
         → IsFound S.X.block32 N.name64 (S.seen store.old).told tree.now.profile found target.now
         → TouchesThing S.X.block32 N.name64 (S.seen store.old) (S.seen store.new) tree.now source.now t thing
@@ -258,8 +262,9 @@ fn shifted_root<S: Store, N: NameHash, L: Ledger>(
     ensures moves { (t : Tree) (spot : TheSpot) → names.now ≡ spot_names spot
         → MovesThing S.X.block32 N.name64 (S.seen store.old) (S.seen store.new) tree.now source.now t thing
         (shifted source.now spot t) result }
-    ensures saves { EditsTree S.X.block32 (IsBad N.name64 (Some tree.now.profile)) result (S.seen store.old)
-        (S.seen store.new) }
+    ensures saves { EditsTree S.X.block32
+        (IsBadInTree S.X.block32 N.name64 (Some tree.now.profile) tree.now.root.cid) result
+        (S.seen store.old) (S.seen store.new) }
     ensures touches { (t : Tree) (spot : TheSpot) → names.now ≡ spot_names spot
         → TouchesThing S.X.block32 N.name64 (S.seen store.old) (S.seen store.new) tree.now source.now t thing
         (λ es. 40 * (length source.now + length names.now)
@@ -292,6 +297,7 @@ fn removed_root<S: Store, N: NameHash, L: Ledger>(
     requires mfs { IsMfs tree.now }
     ensures edits { GivesFolder S.X.block32 N.name64 tree.now.profile (S.seen store.old) (S.seen store.new) []
         tree.now.root (removed true names.now) result }
+    ensures made { IfOk result (λ e. IsRootCid S.X.block32 (Some tree.now.profile) e.cid) }
     ensures saves { OnlySaves S.X.block32
         (IsBadInTree S.X.block32 N.name64 (Some tree.now.profile) tree.now.root.cid) (stop_fault result)
         (S.seen store.old) (S.seen store.new) }

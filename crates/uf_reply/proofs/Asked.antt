@@ -1,6 +1,7 @@
 -- Why words are refused.
 use Rattle.std.proofs.Common.{ℕ, List, Bool, true, false, refl, sym, subst, inl, inr, Option, Some, None, Result, Ok, Err}
 use Rattle.std.specs.Prelude.{if◌then◌else◌}
+use Rattle.uf_cid.specs.declared.cid.Cid.{Cid}
 use Rattle.uf_path.specs.Paths.{dag_path_reads, names_a_dag, path_reads}
 use Rattle.uf_path.specs.declared.faults.PathFault.{PathFault}
 use Rattle.uf_path.specs.declared.faults.PathFault.TheVariants as path
@@ -14,7 +15,8 @@ use Rattle.uf_reply.specs.declared.types.Edit.{Edit}
 use Rattle.uf_reply.specs.declared.types.Edit.TheVariants.{Cp, Mv}
 use Rattle.uf_reply.specs.declared.types.Refusal.{Refusal}
 use Rattle.uf_reply.specs.declared.types.Refusal.TheVariants as refusal
-use Rattle.uf_reply.specs.Commands.{IsAsked, IsOfWords, add_asked, asked, asked_of, at_path, both_paths, cat_asked, from_to, path_refusal, read_asked, write_asked}
+use Rattle.uf_reply.specs.Cids.{cid_reads}
+use Rattle.uf_reply.specs.Commands.{IsAsked, IsOfWords, add_asked, adopt_asked, asked, asked_of, at_path, both_paths, cat_asked, export_asked, from_to, path_refusal, read_asked, write_asked}
 
 at-only : (ask : Ask) (r : Result Path PathFault) → IsOfWords (at_path ask r)
 at-only ask (Ok path) = tt
@@ -25,10 +27,9 @@ at-only ask (Err (path.BadCid why)) = refl
 at-only ask (Err path.Memory) = refl
 
 add-only : (recursive only_hash : Bool) (to_files host_path : Option (List ℕ)) → IsOfWords (add_asked recursive only_hash to_files host_path)
-add-only false only_hash None None = tt
-add-only false only_hash None (Some host_path) = refl
-add-only false only_hash (Some dest) host_path = refl
-add-only true only_hash to_files host_path = refl
+add-only recursive only_hash None None = tt
+add-only recursive only_hash None (Some path) = tt
+add-only recursive only_hash (Some dest) host_path = refl
 
 read-only : (offset count : ℕ) (r : Result Path PathFault) → IsOfWords (read_asked offset count r)
 read-only offset count (Ok path) = tt
@@ -45,6 +46,14 @@ cat-only (Err (path.BadName place)) = refl
 cat-only (Err path.TooLong) = refl
 cat-only (Err (path.BadCid why)) = refl
 cat-only (Err path.Memory) = refl
+
+export-only : (r : Result Cid PathFault) → IsOfWords (export_asked r)
+export-only (Ok cid) = tt
+export-only (Err path.NotAbsolute) = refl
+export-only (Err (path.BadName place)) = refl
+export-only (Err path.TooLong) = refl
+export-only (Err (path.BadCid why)) = refl
+export-only (Err path.Memory) = refl
 
 write-only : (how : WriteHow) (hex : Option (List ℕ)) (r : Result Path PathFault) → IsOfWords (write_asked how hex r)
 write-only how None (Ok path) = tt
@@ -67,10 +76,22 @@ from-to-only edit (Ok source) (Ok dest) = tt
 from-to-only edit (Ok source) (Err why) = bad-only edit why
 from-to-only edit (Err why) s = bad-only edit why
 
-cp-only : (in_dag : Bool) (r s : Result Path PathFault)
-    → IsOfWords (if in_dag then Err refusal.Usage else from_to (λ to. Cp to) (both_paths r s))
-cp-only true r s = refl
-cp-only false r s = from-to-only (λ to. Cp to) r s
+adopt-bad : (why : PathFault) → IsOfWords (Err (path_refusal why))
+adopt-bad path.NotAbsolute = refl
+adopt-bad (path.BadName place) = refl
+adopt-bad path.TooLong = refl
+adopt-bad (path.BadCid why) = refl
+adopt-bad path.Memory = refl
+
+adopt-only : (r : Result DagPath PathFault) (s : Result Path PathFault) → IsOfWords (adopt_asked r s)
+adopt-only (Ok source) (Ok dest) = tt
+adopt-only (Ok source) (Err why) = adopt-bad why
+adopt-only (Err why) s = adopt-bad why
+
+cp-only : (in_dag : Bool) (d : Result DagPath PathFault) (r s : Result Path PathFault)
+    → IsOfWords (if in_dag then adopt_asked d s else from_to (λ to. Cp to) (both_paths r s))
+cp-only true d r s = adopt-only d s
+cp-only false d r s = from-to-only (λ to. Cp to) r s
 
 cmd-only : (c : Cmd) → IsOfWords (asked c)
 cmd-only (cmd.Init profile) = tt
@@ -83,12 +104,12 @@ cmd-only (cmd.Stat path) = at-only _ (path_reads path)
 cmd-only (cmd.Read offset count path) = read-only offset count (path_reads path)
 cmd-only (cmd.Write offset create cut hex path) = write-only (record { offset = offset; create = create; cut = cut }) hex (path_reads path)
 cmd-only (cmd.Truncate path length) = at-only _ (path_reads path)
-cmd-only (cmd.Cp source dest) = cp-only (names_a_dag source) (path_reads source) (path_reads dest)
+cmd-only (cmd.Cp source dest) = cp-only (names_a_dag source) (dag_path_reads source) (path_reads source) (path_reads dest)
 cmd-only (cmd.Mv source dest) = from-to-only (λ to. Mv to) (path_reads source) (path_reads dest)
 cmd-only (cmd.Rm recursive path) = at-only _ (path_reads path)
-cmd-only (cmd.Export cid) = refl
+cmd-only (cmd.Export cid) = export-only (cid_reads cid)
 cmd-only (cmd.Same cid) = refl
-cmd-only cmd.Import = refl
+cmd-only cmd.Import = tt
 cmd-only cmd.Batch = refl
 cmd-only (cmd.Gen n seed) = refl
 

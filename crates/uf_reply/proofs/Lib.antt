@@ -1,2 +1,4 @@
 pub mod Asked
+pub mod CidNames
 pub mod Few
+pub mod Slashes

@@ -5,6 +5,7 @@ use Rattle.std.specs.declared.option.Option.TheVariants.{None, Some}
 use Rattle.std.specs.declared.result.Result.{Result}
 use Rattle.std.specs.declared.result.Result.TheVariants.{Ok, Err}
 use Rattle.uf_edge.specs.Counts.{Stood}
+use Rattle.uf_edge.specs.Host.{HostTold, HostTree}
 use Rattle.uf_edge.specs.Streams.{Told}
 use Rattle.uf_plain.specs.Edits.{at, is_folder_at}
 use Rattle.uf_plain.specs.Moves.{lie_of, name_of, spot_names, target}
@@ -13,6 +14,7 @@ use Rattle.uf_plain.specs.declared.rule.Refused.{Refused}
 use Rattle.uf_plain.specs.declared.spot.Lie.{Lie}
 use Rattle.uf_plain.specs.declared.spot.Lie.TheVariants.{Itself, Below, Apart}
 use Rattle.uf_path.specs.Paths.{dag_path_reads, names_a_dag, path_reads}
+use Rattle.uf_cid.specs.declared.cid.Cid.{Cid}
 use Rattle.uf_path.specs.declared.faults.PathFault.{PathFault}
 use Rattle.uf_path.specs.declared.faults.PathFault.TheVariants as path
 use Rattle.uf_path.specs.declared.path.DagPath.{DagPath}
@@ -25,11 +27,12 @@ use Rattle.uf_words.specs.declared.command.Cmd.TheVariants as cmd
 use Rattle.uf_reply.specs.declared.types.Ask.{Ask}
 use Rattle.uf_reply.specs.declared.types.Ask.TheVariants.{Ls, Stat, Edit as Edits}
 use Rattle.uf_reply.specs.declared.types.Command.{Command}
-use Rattle.uf_reply.specs.declared.types.Command.TheVariants.{Init, Add, WriteInput, At, Read, Cat}
+use Rattle.uf_reply.specs.declared.types.Command.TheVariants.{Init, Add, AddFrom, WriteInput, At, Read, Cat, Export, Import, Adopt}
 use Rattle.uf_reply.specs.declared.types.Edit.{Edit}
 use Rattle.uf_reply.specs.declared.types.Edit.TheVariants.{Mkdir, Rm, Write, Truncate, Cp, Mv}
 use Rattle.uf_reply.specs.declared.types.Refusal.{Refusal}
 use Rattle.uf_reply.specs.declared.types.Refusal.TheVariants as refusal
+use Rattle.uf_reply.specs.Cids.{cid_reads}
 use Rattle.uf_reply.specs.Kinds.{IsOf, word_kinds}
 use Rattle.uf_reply.specs.Statuses.{no_memory}
 
@@ -46,12 +49,11 @@ abbrev pub at_path : Ask → Result Path PathFault → Result Command Refusal
 at_path ask (Ok path) = Ok (At ask path)
 at_path ask (Err why) = Err (path_refusal why)
 
--- `add` of the input; there is no other yet
+-- `add` of the input, or of what the host has at a path; nothing is put into the tree of the Head yet
 abbrev pub add_asked : Bool → Bool → Option (List ℕ) → Option (List ℕ) → Result Command Refusal
-add_asked false only_hash None None = Ok (Add only_hash)
-add_asked false only_hash None (Some host_path) = Err refusal.Usage
-add_asked false only_hash (Some dest) host_path = Err refusal.Usage
-add_asked true only_hash to_files host_path = Err refusal.Usage
+add_asked recursive only_hash None None = Ok (Add only_hash)
+add_asked recursive only_hash None (Some path) = Ok (AddFrom recursive only_hash path)
+add_asked recursive only_hash (Some dest) host_path = Err refusal.Usage
 
 -- `files write` of bytes that stand in the words, or else of the input
 abbrev pub write_asked : WriteHow → Option (List ℕ) → Result Path PathFault → Result Command Refusal
@@ -69,6 +71,11 @@ abbrev pub cat_asked : Result DagPath PathFault → Result Command Refusal
 cat_asked (Ok path) = Ok (Cat path)
 cat_asked (Err why) = Err (path_refusal why)
 
+-- `dag export` of what is below a CID
+abbrev pub export_asked : Result Cid PathFault → Result Command Refusal
+export_asked (Ok cid) = Ok (Export cid)
+export_asked (Err why) = Err (path_refusal why)
+
 -- two paths, or why the first text that is none is none
 abbrev pub both_paths : Result Path PathFault → Result Path PathFault → Result (Path × Path) Refusal
 both_paths (Err why) dest = Err (path_refusal why)
@@ -80,10 +87,16 @@ abbrev pub from_to : (Path → Edit) → Result (Path × Path) Refusal → Resul
 from_to edit (Ok paths) = Ok (At (Edits (edit paths.1)) paths.0)
 from_to edit (Err why) = Err why
 
--- `files cp` from the tree; there is no other yet
+-- `files cp` from a DAG
+abbrev pub adopt_asked : Result DagPath PathFault → Result Path PathFault → Result Command Refusal
+adopt_asked (Err why) dest = Err (path_refusal why)
+adopt_asked (Ok source) (Err why) = Err (path_refusal why)
+adopt_asked (Ok source) (Ok dest) = Ok (Adopt source dest)
+
+-- `files cp` from the tree, or from a DAG where its source is a path in one
 abbrev pub cp_asked : List ℕ → List ℕ → Result Command Refusal
 cp_asked source dest =
-    if names_a_dag source then Err refusal.Usage
+    if names_a_dag source then adopt_asked (dag_path_reads source) (path_reads dest)
     else from_to (λ to. Cp to) (both_paths (path_reads source) (path_reads dest))
 
 -- `files mv`
@@ -105,11 +118,11 @@ asked (cmd.Write offset create cut hex path) =
 asked (cmd.Truncate path length) = at_path (Edits (Truncate length)) (path_reads path)
 asked (cmd.Cp source dest) = cp_asked source dest
 asked (cmd.Mv source dest) = mv_asked source dest
+asked (cmd.Export cid) = export_asked (cid_reads cid)
+asked cmd.Import = Ok Import
 -- these aren't answered yet
 asked (cmd.Get target host_path) = Err refusal.Usage
-asked (cmd.Export cid) = Err refusal.Usage
 asked (cmd.Same cid) = Err refusal.Usage
-asked cmd.Import = Err refusal.Usage
 asked cmd.Batch = Err refusal.Usage
 asked (cmd.Gen n seed) = Err refusal.Usage
 
@@ -130,46 +143,87 @@ IsAsked (Err why) told = (why ≡ no_memory) ⊎ (told ≡ Err why)
 abbrev pub IsAccepted : Command → Type 0
 IsAccepted (Init profile) = IsTrue (is_profile profile)
 IsAccepted (Add only_hash) = Unit {0}
+IsAccepted (AddFrom recursive only_hash path) = Unit {0}
 IsAccepted (WriteInput how path) = Unit {0}
 IsAccepted (At ask path) = Unit {0}
 IsAccepted (Read offset count path) = Unit {0}
 IsAccepted (Cat path) = length path.names < 2 ^ 32
+IsAccepted (Export cid) = Unit {0}
+IsAccepted Import = Unit {0}
+IsAccepted (Adopt source dest) = length source.names < 2 ^ 32
 
 -- the command reads the input
 abbrev pub reads_input : Command → Bool
 reads_input (Init profile) = false
 reads_input (Add only_hash) = true
+reads_input (AddFrom recursive only_hash path) = false
 reads_input (WriteInput how path) = true
 reads_input (At ask path) = false
 reads_input (Read offset count path) = false
 reads_input (Cat path) = false
+reads_input (Export cid) = false
+reads_input Import = true
+reads_input (Adopt source dest) = false
 
 -- the command writes its output while it reads blocks
 abbrev pub streams : Command → Bool
 streams (Init profile) = false
 streams (Add only_hash) = false
+streams (AddFrom recursive only_hash path) = false
 streams (WriteInput how path) = false
 streams (At ask path) = false
 streams (Read offset count path) = true
 streams (Cat path) = true
+streams (Export cid) = true
+streams Import = false
+streams (Adopt source dest) = false
 
 -- the command needs a Head, or that there is none; any other is answered by what is held alone
 abbrev pub needs_standing : Command → Bool
 needs_standing (Init profile) = true
 needs_standing (Add only_hash) = true
+needs_standing (AddFrom recursive only_hash path) = true
 needs_standing (WriteInput how path) = true
 needs_standing (At ask path) = true
 needs_standing (Read offset count path) = true
 needs_standing (Cat path) = false
+needs_standing (Export cid) = false
+needs_standing Import = false
+needs_standing (Adopt source dest) = true
 
--- the command reads or writes files and folders of the host; none does yet
+-- the command copies from a DAG of others into the tree
+abbrev pub adopts : Command → Bool
+adopts (Init profile) = false
+adopts (Add only_hash) = false
+adopts (AddFrom recursive only_hash path) = false
+adopts (WriteInput how path) = false
+adopts (At ask path) = false
+adopts (Read offset count path) = false
+adopts (Cat path) = false
+adopts (Export cid) = false
+adopts Import = false
+adopts (Adopt source dest) = true
+
+-- the command needs a Head, or that there is none, and reads no block but those of the tree that the Head names
+abbrev pub reads_tree_alone : Command → Bool
+reads_tree_alone command = needs_standing command && not (adopts command)
+
+-- the command reads or writes files and folders of the host
 abbrev pub uses_host : Command → Bool
 uses_host (Init profile) = false
 uses_host (Add only_hash) = false
+uses_host (AddFrom recursive only_hash path) = true
 uses_host (WriteInput how path) = false
 uses_host (At ask path) = false
 uses_host (Read offset count path) = false
 uses_host (Cat path) = false
+uses_host (Export cid) = false
+uses_host Import = false
+uses_host (Adopt source dest) = false
+
+-- the command writes files and folders of the host; none does yet
+abbrev pub writes_host : Command → Bool
+writes_host command = false
 
 -- what is asked writes nothing to the store
 abbrev pub only_looks : Ask → Bool
@@ -181,10 +235,14 @@ only_looks (Edits edit) = false
 abbrev pub only_reads : Command → Bool
 only_reads (Init profile) = false
 only_reads (Add only_hash) = only_hash
+only_reads (AddFrom recursive only_hash path) = only_hash
 only_reads (WriteInput how path) = false
 only_reads (At ask path) = only_looks ask
 only_reads (Read offset count path) = true
 only_reads (Cat path) = true
+only_reads (Export cid) = true
+only_reads Import = false
+only_reads (Adopt source dest) = false
 
 -- what a command may write to the store: nothing; blocks and a sync; a Head where there was none; blocks, a sync and the Head
 pub data WriteShape : Type 0 where
@@ -201,19 +259,28 @@ abbrev pub command_writes : Command → WriteShape
 command_writes (Init p) = MakesHead
 command_writes (Add true) = NoWrites
 command_writes (Add false) = SyncsBlocks
+command_writes (AddFrom recursive true path) = NoWrites
+command_writes (AddFrom recursive false path) = SyncsBlocks
 command_writes (WriteInput how path) = MovesHead
 command_writes (At ask path) = ask_writes ask
 command_writes (Read offset count path) = NoWrites
 command_writes (Cat path) = NoWrites
+command_writes (Export cid) = NoWrites
+command_writes Import = SyncsBlocks
+command_writes (Adopt source dest) = MovesHead
 
--- the command is `add -n`
+-- the command is `add -n`, of the input or of the host
 abbrev pub only_hashes : Command → Bool
 only_hashes (Init profile) = false
 only_hashes (Add only_hash) = only_hash
+only_hashes (AddFrom recursive only_hash path) = only_hash
 only_hashes (WriteInput how path) = false
 only_hashes (At ask path) = false
 only_hashes (Read offset count path) = false
 only_hashes (Cat path) = false
+only_hashes (Export cid) = false
+only_hashes Import = false
+only_hashes (Adopt source dest) = false
 
 -- a lookup found a file
 abbrev pub is_file_at : Result Tree Refused → Bool
@@ -252,9 +319,13 @@ is_idle bytes es (At (Ls long) path) = false
 is_idle bytes es (At Stat path) = false
 is_idle bytes es (Init profile) = false
 is_idle bytes es (Add only_hash) = false
+is_idle bytes es (AddFrom recursive only_hash path) = false
 is_idle bytes es (WriteInput how path) = has_nothing_to_do (Write how bytes) path.names es
 is_idle bytes es (Read offset count path) = false
 is_idle bytes es (Cat path) = false
+is_idle bytes es (Export cid) = false
+is_idle bytes es Import = false
+is_idle bytes es (Adopt source dest) = false
 
 -- a fact of the command, where words ask for one, and else this
 abbrev pub of_command : (Command → Bool) → Bool → Result Command Refusal → Bool
@@ -265,6 +336,11 @@ of_command test else_this (Err why) = else_this
 abbrev pub HasInput : Result Command Refusal → Told → List ℕ → ℕ → ℕ → Type 0
 HasInput command left bytes faults faults_now =
     of_command reads_input false command ≡ true → (left ≡ Some bytes) × Stood faults faults_now
+
+-- where the command uses the host, it tells these files and folders, and no reading of it failed
+abbrev pub HasHost : Result Command Refusal → HostTold → HostTree → ℕ → ℕ → Type 0
+HasHost command told tree faults faults_now =
+    of_command uses_host false command ≡ true → (told ≡ Some tree) × Stood faults faults_now
 
 -- words are refused since they are no command, a text is no path, or memory was wanting
 abbrev pub IsOfWords : Result Command Refusal → Type 0

@@ -2,6 +2,7 @@
 use Rattle.std.specs.Prelude.{◌≡◌, ◌⊎◌, ◌+◌, ℕ, List, ◌∷◌, ◌++◌, codes, length, take}
 use Rattle.std.specs.Fmt.{decimal}
 use Rattle.std.specs.List.{flat_map}
+use Rattle.std.specs.declared.option.Option.TheVariants.{None, Some}
 use Rattle.std.specs.declared.result.Result.{Result}
 use Rattle.std.specs.declared.result.Result.TheVariants.{Ok, Err}
 use Rattle.uf_cid.specs.Blocks.{Lookup}
@@ -11,6 +12,7 @@ use Rattle.uf_lenient.specs.declared.fault.DagFault.{DagFault}
 use Rattle.uf_lenient.specs.declared.fault.DagFault.TheVariants as fault
 use Rattle.uf_lenient.specs.declared.shapes.Limits.{Limits}
 use Rattle.uf_path.specs.declared.path.DagPath.{DagPath}
+use Rattle.uf_plain.specs.Moves.{name_of}
 use Rattle.uf_tree.specs.Tree.{Tree, File, Dir}
 use Rattle.uf_varint.specs.Fields.{◌>>=◌}
 use Rattle.uf_words.specs.Shown.{shown_bytes}
@@ -27,6 +29,10 @@ usual_limits = record { depth = 256; visits = 1048576 }
 -- a path in a DAG as it is shown: `/ipfs/`, its CID, and its names
 abbrev pub shown_path : DagPath → List ℕ
 shown_path path = codes "/ipfs/" ++ cid_text path.cid ++ flat_map (λ name. 47 ∷ shown_bytes name) path.names
+
+-- the name under which what is at a path is put in a directory: the last one of the path, or else the text of its CID
+abbrev pub adopted_name : DagPath → List ℕ
+adopted_name path = elim (name_of path.names) [ None ↦ cid_text path.cid | Some name ↦ name ]
 
 -- so many names of a path
 abbrev pub front_of : ℕ → DagPath → DagPath
@@ -69,3 +75,8 @@ abbrev pub file_at : DagPath → Result Tree DagFault → Result (List ℕ) Refu
 file_at path (Ok (File bytes)) = Ok bytes
 file_at path (Ok (Dir es)) = Err (refusal.Dag (rule.IsADirectory path))
 file_at path (Err why) = Err (dag_refusal path why)
+
+-- what is said of a reading along a path
+abbrev pub by_dag : {A : Type 0} → DagPath → Result A DagFault → Result A Refusal
+by_dag path (Ok a) = Ok a
+by_dag path (Err why) = Err (dag_refusal path why)

@@ -7,13 +7,13 @@ use Rattle.std.specs.declared.result.Result.TheVariants.{Ok, Err}
 use Rattle.uf_store.specs.declared.store.StoreFault.{StoreFault}
 use Rattle.uf_store.specs.declared.store.StoreFault.TheVariants as fault
 use Rattle.uf_reply.specs.declared.types.Command.{Command}
-use Rattle.uf_reply.specs.declared.types.Command.TheVariants.{Init, Add, WriteInput, At, Read, Cat}
+use Rattle.uf_reply.specs.declared.types.Command.TheVariants.{Init, Add, AddFrom, WriteInput, At, Read, Cat, Export, Import, Adopt}
 use Rattle.uf_reply.specs.declared.types.Refusal.{Refusal}
 use Rattle.uf_reply.specs.declared.types.Refusal.TheVariants as refusal
 
 -- the kinds of refusals: a damaged block is a failure of the store
 pub data RefusalKind : Type 0 where
-  OfRule OfDag OfPath OfLongInput OfUsage OfReady OfRead OfWrite OfFailure OfMissing OfBadBlock OfClash OfMemory : RefusalKind
+  OfRule OfDag OfHost OfPath OfLongInput OfUsage OfReady OfRead OfWrite OfFailure OfMissing OfBadBlock OfClash OfMemory OfCar : RefusalKind
 
 -- the kind of a fault of the store
 abbrev pub fault_kind : StoreFault → RefusalKind
@@ -28,6 +28,7 @@ fault_kind fault.Memory = OfMemory
 abbrev pub refusal_kind : Refusal → RefusalKind
 refusal_kind (refusal.Rule rule) = OfRule
 refusal_kind (refusal.Dag rule) = OfDag
+refusal_kind (refusal.Host rule) = OfHost
 refusal_kind (refusal.BadPath why) = OfPath
 refusal_kind refusal.InputTooLong = OfLongInput
 refusal_kind refusal.Usage = OfUsage
@@ -35,6 +36,7 @@ refusal_kind (refusal.Ready why) = OfReady
 refusal_kind refusal.Read = OfRead
 refusal_kind refusal.Write = OfWrite
 refusal_kind (refusal.Store fault) = fault_kind fault
+refusal_kind (refusal.Car number place) = OfCar
 
 -- the store's fault in a refusal
 abbrev pub fault_behind : Refusal → Option StoreFault
@@ -46,18 +48,23 @@ abbrev pub refusal_fault : {A : Type 0} → Result A Refusal → Option StoreFau
 refusal_fault (Ok a) = None
 refusal_fault (Err why) = fault_behind why
 
--- the families of commands: those that make a store ready, that add an input, that write it into the tree of the Head,
--- that work on that tree alone, and that read DAGs of others
+-- the families of commands: those that make a store ready, that add an input or what a host has, that write an input into
+-- the tree of the Head, that work on that tree alone, that read DAGs of others, that keep the blocks of a CAR, and that
+-- copy from DAGs of others into that tree
 pub data Family : Type 0 where
-  MakesReady AddsInput TakesInput WorksInTree ReadsDag : Family
+  MakesReady AddsInput AddsHost TakesInput WorksInTree ReadsDag KeepsCar AdoptsDag : Family
 
 abbrev pub family_of : Command → Family
 family_of (Init p) = MakesReady
 family_of (Add only_hash) = AddsInput
+family_of (AddFrom recursive only_hash path) = AddsHost
 family_of (WriteInput how path) = TakesInput
 family_of (At ask path) = WorksInTree
 family_of (Read offset count path) = WorksInTree
 family_of (Cat path) = ReadsDag
+family_of (Export cid) = ReadsDag
+family_of Import = KeepsCar
+family_of (Adopt source dest) = AdoptsDag
 
 -- the kinds that a command of a family may answer once its words are read, before it prints
 abbrev pub may_answer : Family → RefusalKind → Bool
@@ -73,6 +80,14 @@ may_answer AddsInput OfFailure = true
 may_answer AddsInput OfClash = true
 may_answer AddsInput OfMemory = true
 may_answer AddsInput kind = false
+may_answer AddsHost OfHost = true
+may_answer AddsHost OfRule = true
+may_answer AddsHost OfReady = true
+may_answer AddsHost OfRead = true
+may_answer AddsHost OfFailure = true
+may_answer AddsHost OfClash = true
+may_answer AddsHost OfMemory = true
+may_answer AddsHost kind = false
 may_answer WorksInTree OfRule = true
 may_answer WorksInTree OfReady = true
 may_answer WorksInTree OfFailure = true
@@ -82,9 +97,11 @@ may_answer WorksInTree OfClash = true
 may_answer WorksInTree OfMemory = true
 may_answer WorksInTree kind = false
 may_answer TakesInput OfDag = false
+may_answer TakesInput OfHost = false
 may_answer TakesInput OfPath = false
 may_answer TakesInput OfUsage = false
 may_answer TakesInput OfWrite = false
+may_answer TakesInput OfCar = false
 may_answer TakesInput kind = true
 may_answer ReadsDag OfDag = true
 may_answer ReadsDag OfFailure = true
@@ -92,6 +109,20 @@ may_answer ReadsDag OfMissing = true
 may_answer ReadsDag OfClash = true
 may_answer ReadsDag OfMemory = true
 may_answer ReadsDag kind = false
+may_answer KeepsCar OfCar = true
+may_answer KeepsCar OfRead = true
+may_answer KeepsCar OfFailure = true
+may_answer KeepsCar OfClash = true
+may_answer KeepsCar OfMemory = true
+may_answer KeepsCar kind = false
+may_answer AdoptsDag OfHost = false
+may_answer AdoptsDag OfCar = false
+may_answer AdoptsDag OfPath = false
+may_answer AdoptsDag OfLongInput = false
+may_answer AdoptsDag OfUsage = false
+may_answer AdoptsDag OfRead = false
+may_answer AdoptsDag OfWrite = false
+may_answer AdoptsDag kind = true
 
 -- the same when it has printed: the output may have failed
 abbrev pub may_end : Family → RefusalKind → Bool

@@ -1,6 +1,7 @@
+pub mod Cars
+pub mod Cids
 pub mod Commands
 pub mod Dags
 pub mod Kinds
 pub mod Lines
-pub mod Reply
 pub mod Statuses

@@ -22,6 +22,8 @@ use Rattle.uf_store.specs.declared.store.StoreFault.TheVariants as fault
 use Rattle.uf_words.specs.Shown.{shown_bytes}
 use Rattle.uf_reply.specs.declared.status.Status.TheVariants as status
 use Rattle.uf_reply.specs.declared.types.DagRule.{DagRule}
+use Rattle.uf_reply.specs.declared.types.HostRule.{HostRule}
+use Rattle.uf_reply.specs.declared.types.HostRule.TheVariants as host
 use Rattle.uf_reply.specs.declared.types.Refusal.{Refusal}
 use Rattle.uf_reply.specs.declared.types.Refusal.TheVariants as refusal
 use Rattle.uf_reply.specs.Dags.{dag_words}
@@ -105,13 +107,29 @@ rule_line rule = line (codes "error: rule ") (rule_words rule)
 abbrev pub dag_line : DagRule → List ℕ
 dag_line rule = line (codes "error: rule ") (dag_words rule)
 
+-- the name of a rule of the host, and its path as it is shown
+abbrev pub host_words : HostRule → List ℕ
+host_words (host.Absent path) = with_detail (codes "HostAbsent ") path
+host_words (host.Other path) = with_detail (codes "HostOther ") path
+host_words (host.Exists path) = with_detail (codes "HostExists ") path
+host_words (host.Name path) = with_detail (codes "HostName ") path
+host_words (host.Deep path) = with_detail (codes "HostDeep ") path
+
+abbrev pub host_line : HostRule → List ℕ
+host_line rule = line (codes "error: rule ") (host_words rule)
+
 abbrev pub bad_path_line : PathFault → List ℕ
 bad_path_line why = line (codes "error: rule BadPath ") (decimal (path_number why) ++ 32 ∷ decimal (path_place why))
+
+-- the number of a fault of a CAR, and its place
+abbrev pub car_line : (number place : ℕ) → List ℕ
+car_line number place = line (codes "error: rule Car ") (decimal number ++ 32 ∷ decimal place)
 
 -- the error line of a refusal
 abbrev pub line_of : Refusal → List ℕ
 line_of (refusal.Rule rule) = rule_line rule
 line_of (refusal.Dag rule) = dag_line rule
+line_of (refusal.Host rule) = host_line rule
 line_of (refusal.BadPath why) = bad_path_line why
 line_of refusal.InputTooLong = codes "error: rule InputTooLong\n"
 line_of refusal.Usage = plain_line status.Usage
@@ -119,6 +137,7 @@ line_of (refusal.Ready why) = ready_line why
 line_of refusal.Read = plain_line status.ReadFault
 line_of refusal.Write = plain_line status.WriteFault
 line_of (refusal.Store why) = fault_line why
+line_of (refusal.Car number place) = car_line number place
 
 -- the line that goes to `errors`; nothing at Ok
 abbrev pub said : Result (List ℕ) Refusal → List ℕ
@@ -128,6 +147,10 @@ said (Err why) = line_of why
 -- the row of a file that was added from the input
 abbrev pub added_line : Cid → List ℕ
 added_line c = codes "added " ++ cid_text c ++ 32 ∷ cid_text c ++ 10 ∷ []
+
+-- the row of what was added from the host: its CID, and its path as it is shown
+abbrev pub from_line : Cid → List ℕ → List ℕ
+from_line c path = codes "added " ++ cid_text c ++ 32 ∷ shown_bytes path ++ 10 ∷ []
 
 -- a name as it is listed
 abbrev pub name_line : List ℕ → List ℕ

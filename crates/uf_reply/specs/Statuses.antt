@@ -50,6 +50,7 @@ fault_status fault.Memory = status.Memory
 abbrev pub status_of : Refusal → Status
 status_of (refusal.Rule rule) = status.Rule
 status_of (refusal.Dag rule) = status.Rule
+status_of (refusal.Host rule) = status.Rule
 status_of (refusal.BadPath why) = status.Rule
 status_of refusal.InputTooLong = status.Rule
 status_of refusal.Usage = status.Usage
@@ -57,6 +58,7 @@ status_of (refusal.Ready why) = status.NotReady
 status_of refusal.Read = status.ReadFault
 status_of refusal.Write = status.WriteFault
 status_of (refusal.Store why) = fault_status why
+status_of (refusal.Car number place) = status.Rule
 
 -- how a command ends that is done or refused
 abbrev pub ended : {A : Type 0} → Result A Refusal → Status

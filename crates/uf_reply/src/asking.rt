@@ -1,14 +1,17 @@
 // What words ask for.
-ghost use Rattle.std.specs.Prelude.{◌≡◌, map, string_bytes, IfOk};
-ghost use Rattle.uf_path.specs.Paths.{dag_path_reads, path_reads};
+ghost use Rattle.std.specs.Prelude.{◌≡◌, ◌≤◌, length, map, string_bytes, IfOk};
+ghost use Rattle.std.specs.List.{after_first};
+ghost use Rattle.uf_path.specs.Paths.{ReadsAs, dag_path_reads, is_slash, path_reads};
+ghost use Rattle.uf_reply.specs.Cids.{cid_reads, first_name_at as first_name_in, slashes_before as slashes_in_front};
 ghost use Rattle.uf_reply.specs.Commands.{IsAccepted, IsAsked, add_asked, asked, at_path, both_paths, command_in};
-ghost use Rattle.uf_reply.specs.Commands.{cat_asked, cp_asked, mv_asked, path_refusal, read_asked, write_asked};
+ghost use Rattle.uf_reply.specs.Commands.{adopt_asked, cat_asked, cp_asked, export_asked, mv_asked, path_refusal, read_asked};
+ghost use Rattle.uf_reply.specs.Commands.{write_asked};
 ghost use Rattle.uf_reply.specs.declared.types.Ask.TheVariants as asks;
 ghost use Rattle.uf_words.specs.Commands.{HasAcceptedProfile};
 
 use crate::{Ask, Command, Edit, Refusal};
 use std::alloc::Global;
-use uf_cid::{Block, Text};
+use uf_cid::{Block, Cid, Text};
 use uf_path::{DagPath, Path, PathFault};
 use uf_plain::WriteHow;
 use uf_store::StoreFault;
@@ -64,11 +67,13 @@ fn read_path(alloc: Global, cmd: Cmd) -> Result<Command, Refusal>
             count,
             path,
         } => read_read(alloc, offset, count, &path),
+        Cmd::Export { cid } => read_export(alloc, &cid),
+        Cmd::Import => Ok(Command::Import),
         _ => Err(Refusal::Usage),
     }
 }
 
-// `add` of the input.
+// `add` of the input, or of what the host has at a path.
 fn read_add(
     recursive: bool,
     only_hash: bool,
@@ -78,9 +83,14 @@ fn read_add(
     ensures asked { IsAsked result (add_asked recursive only_hash to_files host_path) }
     ensures profile { IfOk result IsAccepted }
 {
-    match (recursive, to_files, host_path) {
-        (false, None, None) => Ok(Command::Add { only_hash }),
-        _ => Err(Refusal::Usage),
+    match (to_files, host_path) {
+        (None, None) => Ok(Command::Add { only_hash }),
+        (None, Some(path)) => Ok(Command::AddFrom {
+            recursive,
+            only_hash,
+            path,
+        }),
+        (Some(_), _) => Err(Refusal::Usage),
     }
 }
 
@@ -122,6 +132,64 @@ fn read_cat(alloc: Global, target: &Text) -> Result<Command, Refusal>
     }
 }
 
+// `dag export`.
+fn read_export(alloc: Global, cid: &Text) -> Result<Command, Refusal>
+    ensures asked { IsAsked result (export_asked (cid_reads cid.now)) }
+    ensures profile { IfOk result IsAccepted }
+{
+    match read_cid(alloc, cid.as_str()) {
+        Ok(cid) => Ok(Command::Export { cid }),
+        Err(why) => Err(bad_path(why)),
+    }
+}
+
+// The CID that a text is: a path in a DAG without names.
+fn read_cid(alloc: Global, text: &str) -> Result<Cid, PathFault>
+    ensures { ReadsAs result (cid_reads text.now) }
+{
+    match DagPath::parse(alloc, text) {
+        Err(why) => Err(why),
+        Ok(path) => match path.names.as_slice() {
+            [] => Ok(path.cid),
+            [..] => Err(PathFault::BadName(first_name_at(text))),
+        },
+    }
+}
+
+// The byte at which the first name behind the CID starts.
+fn first_name_at(text: &str) -> usize
+    ensures { result ≡ first_name_in text.now }
+{
+    let names = match text.strip_prefix(DAG_FRONT) {
+        Some(rest) => behind_slash(rest),
+        None => behind_slash(text),
+    };
+    text.len() - names.len() + slashes_before(names.as_bytes())
+}
+
+// What stands after the first slash; without one, nothing.
+fn behind_slash(text: &str) -> &str
+    ensures behind { result.now ≡ after_first is_slash text.now }
+    ensures size { length result.now ≤ length text.now }
+{
+    match text.split_once('/') {
+        Some((_, names)) => names,
+        None => "",
+    }
+}
+
+// How many slashes stand in front of a text.
+fn slashes_before(text: &[u8]) -> usize
+    ensures count { result ≡ slashes_in_front text.now }
+    ensures size { result ≤ length text.now }
+{
+    let mut count = 0;
+    'slashes: while count < text.len() && text[count] == b'/' {
+        count += 1;
+    }
+    count
+}
+
 // `files read`.
 fn read_read(alloc: Global, offset: u64, count: u64, path: &Text) -> Result<Command, Refusal>
     ensures asked { IsAsked result (read_asked offset count (path_reads path.now)) }
@@ -137,13 +205,13 @@ fn read_read(alloc: Global, offset: u64, count: u64, path: &Text) -> Result<Comm
     }
 }
 
-// `files cp` from the tree.
+// `files cp` from the tree, or from a DAG.
 fn read_cp(alloc: Global, source: &Text, dest: &Text) -> Result<Command, Refusal>
     ensures asked { IsAsked result (cp_asked source.now dest.now) }
     ensures profile { IfOk result IsAccepted }
 {
     if source.as_str().starts_with(DAG_FRONT) {
-        return Err(Refusal::Usage);
+        return read_adopt(alloc, source, dest);
     }
     match read_both(alloc, source, dest) {
         Ok((path, dest)) => Ok(Command::At {
@@ -153,6 +221,20 @@ fn read_cp(alloc: Global, source: &Text, dest: &Text) -> Result<Command, Refusal
             path,
         }),
         Err(why) => Err(why),
+    }
+}
+
+// `files cp` from a DAG.
+fn read_adopt(alloc: Global, source: &Text, dest: &Text) -> Result<Command, Refusal>
+    ensures asked { IsAsked result (adopt_asked (dag_path_reads source.now) (path_reads dest.now)) }
+    ensures profile { IfOk result IsAccepted }
+{
+    match DagPath::parse(alloc, source.as_str()) {
+        Err(why) => Err(bad_path(why)),
+        Ok(source) => match Path::parse(alloc, dest.as_str()) {
+            Err(why) => Err(bad_path(why)),
+            Ok(dest) => Ok(Command::Adopt { source, dest }),
+        },
     }
 }
 

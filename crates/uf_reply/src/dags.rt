@@ -5,17 +5,17 @@ ghost use Rattle.std.specs.List.{flat_map};
 ghost use Rattle.uf_cid.specs.Cid.{cid_text};
 ghost use Rattle.uf_words.specs.Shown.{shown_bytes};
 ghost use Rattle.uf_reply.specs.Dags.{IsToldAs, dag_refusal as refusal_of_dag, dag_words as words_of_dag};
-ghost use Rattle.uf_reply.specs.Dags.{front_of, shown_path};
+ghost use Rattle.uf_reply.specs.Dags.{adopted_name as name_adopted, front_of, shown_path};
 ghost use Rattle.uf_reply.specs.declared.types.DagRule.TheVariants as rules;
 ghost use Rattle.uf_reply.specs.declared.types.Refusal.TheVariants as refusals;
 
 use crate::lines::plain;
 use crate::{DagRule, Refusal};
 use std::alloc::Global;
-use uf_cid::{Block, Cid, Memory};
+use uf_cid::{Block, Cid, Memory, cids_are_whole};
 use uf_lenient::DagFault;
 use uf_path::DagPath;
-use uf_tree::Names;
+use uf_tree::{Name, NameFault, Names};
 use uf_words::shown;
 
 /// A fault of a reading along a path, as a refusal: paths in it go up to the name that isn't there, or to what is no
@@ -49,6 +49,32 @@ pub fn no_file(alloc: Global, path: &DagPath) -> Refusal
     match front(alloc, path, path.names.len()) {
         Ok(whole) => Refusal::Dag(DagRule::IsADirectory(whole)),
         Err(why) => Refusal::from(why),
+    }
+}
+
+/// The name under which what is at a path is put in a directory: the last one of the path, or else the text of its CID.
+pub fn adopted_name(alloc: Global, path: &DagPath) -> Result<Name, Memory>
+    ensures { IfOk result (λ name. name ≡ name_adopted path.now) }
+{
+    match path.names.as_slice().last() {
+        Some(name) => name.copy(),
+        None => text_name(alloc, &path.cid),
+    }
+}
+
+// The text of a CID as a name.
+fn text_name(alloc: Global, cid: &Cid) -> Result<Name, Memory>
+    ensures { IfOk result (λ name. name ≡ cid_text cid.now) }
+{
+    cids_are_whole(cid);
+    let bytes = cid.text();
+    match str::from_utf8(&bytes) {
+        Err(_) => unreachable!(),
+        Ok(text) => match Name::parse(alloc, text) {
+            Ok(name) => Ok(name),
+            Err(NameFault::Memory) => Err(Memory),
+            Err(NameFault::Bad) => unreachable!(),
+        },
     }
 }
 

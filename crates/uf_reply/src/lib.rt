@@ -3,6 +3,7 @@
 #![tactic(auto)]
 
 mod asking;
+mod cars;
 mod dags;
 mod from;
 mod lines;
@@ -11,8 +12,9 @@ mod status;
 mod types;
 
 pub use asking::read_command;
-pub use dags::{dag_refusal, no_file};
+pub use cars::{car_refusal, export_refusal, root_lines};
+pub use dags::{adopted_name, dag_refusal, no_file};
 pub use lines::{line, refusal_status};
-pub use rows::{added_row, name_lines, row_lines, stat_text};
+pub use rows::{added_row, name_lines, put_added, row_lines, stat_text};
 pub use status::Status;
-pub use types::{Ask, Command, DagRule, Edit, Refusal};
+pub use types::{Ask, Command, DagRule, Edit, HostRule, Refusal};

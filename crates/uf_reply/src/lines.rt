@@ -3,11 +3,11 @@ ghost use Rattle.std.specs.Prelude.{◌≡◌, ◌++◌, ◌∷◌, [], IfOk, On
 ghost use Rattle.std.specs.Fmt.{decimal};
 ghost use Rattle.hex.specs.Hex.{encode_lower};
 ghost use Rattle.uf_words.specs.Shown.{shown_bytes};
-ghost use Rattle.uf_reply.specs.Lines.{bad_block_line, bad_path_line, clash_line, dag_line as line_of_dag, fault_line, line as line_text, line_of, path_number as number_of_path, path_place as place_of_path, ready_line as line_of_ready, role_word, rule_line as line_of_rule, rule_words as words_of_rule, with_detail, with_details};
+ghost use Rattle.uf_reply.specs.Lines.{bad_block_line, bad_path_line, car_line as line_of_car, clash_line, dag_line as line_of_dag, fault_line, host_line as line_of_host, host_words as words_of_host, line as line_text, line_of, path_number as number_of_path, path_place as place_of_path, ready_line as line_of_ready, role_word, rule_line as line_of_rule, rule_words as words_of_rule, with_detail, with_details};
 ghost use Rattle.uf_reply.specs.Statuses.{fault_status, status_of};
 
 use crate::dags::dag_words;
-use crate::{DagRule, Refusal, Status};
+use crate::{DagRule, HostRule, Refusal, Status};
 use std::alloc::Global;
 use uf_cid::{Block, Cid, Memory};
 use uf_path::PathFault;
@@ -20,9 +20,12 @@ pub fn refusal_status(refusal: &Refusal) -> Status
     ensures { result ≡ status_of refusal.now }
 {
     match refusal {
-        Refusal::Rule(_) | Refusal::Dag(_) | Refusal::BadPath(_) | Refusal::InputTooLong => {
-            Status::Rule
-        }
+        Refusal::Rule(_)
+        | Refusal::Dag(_)
+        | Refusal::Host(_)
+        | Refusal::BadPath(_)
+        | Refusal::InputTooLong
+        | Refusal::Car { .. } => Status::Rule,
         Refusal::Usage => Status::Usage,
         Refusal::Ready(_) => Status::NotReady,
         Refusal::Read => Status::ReadFault,
@@ -51,6 +54,7 @@ pub fn line(alloc: Global, refusal: &Refusal) -> Result<Block, Memory>
     match refusal {
         Refusal::Rule(rule) => rule_line(alloc, rule),
         Refusal::Dag(rule) => dag_line(alloc, rule),
+        Refusal::Host(rule) => host_line(alloc, rule),
         Refusal::BadPath(why) => path_line(alloc, *why),
         Refusal::InputTooLong => plain(alloc, b"error: rule InputTooLong\n"),
         Refusal::Usage => plain(alloc, Status::Usage.plain_line()),
@@ -58,6 +62,7 @@ pub fn line(alloc: Global, refusal: &Refusal) -> Result<Block, Memory>
         Refusal::Read => plain(alloc, Status::ReadFault.plain_line()),
         Refusal::Write => plain(alloc, Status::WriteFault.plain_line()),
         Refusal::Store(fault) => store_line(alloc, fault),
+        Refusal::Car { number, place } => car_line(alloc, *number, *place),
     }
 }
 
@@ -166,6 +171,35 @@ fn dag_line(alloc: Global, rule: &DagRule) -> Result<Block, Memory>
 {
     let words = dag_words(alloc, rule)?;
     wrapped(alloc, b"error: rule ", words.as_slice())
+}
+
+// The line of a fault of a CAR.
+fn car_line(alloc: Global, number: u8, place: u64) -> Result<Block, Memory>
+    ensures { IfOk result (λ b. b ≡ line_of_car number place) }
+{
+    let words = format!(in alloc; "{number} {place}")?;
+    wrapped(alloc, b"error: rule Car ", words.as_bytes())
+}
+
+// The line of a rule by which what is asked of the host is refused.
+fn host_line(alloc: Global, rule: &HostRule) -> Result<Block, Memory>
+    ensures { IfOk result (λ b. b ≡ line_of_host rule.now) }
+{
+    let words = host_words(alloc, rule)?;
+    wrapped(alloc, b"error: rule ", words.as_slice())
+}
+
+// The name of such a rule and its path.
+fn host_words(alloc: Global, rule: &HostRule) -> Result<Block, Memory>
+    ensures { IfOk result (λ b. b ≡ words_of_host rule.now) }
+{
+    match rule {
+        HostRule::Absent(path) => detailed(alloc, b"HostAbsent ", path.as_str()),
+        HostRule::Other(path) => detailed(alloc, b"HostOther ", path.as_str()),
+        HostRule::Exists(path) => detailed(alloc, b"HostExists ", path.as_str()),
+        HostRule::Name(path) => detailed(alloc, b"HostName ", path.as_str()),
+        HostRule::Deep(path) => detailed(alloc, b"HostDeep ", path.as_str()),
+    }
 }
 
 // The line of a rule.

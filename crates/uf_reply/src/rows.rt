@@ -2,7 +2,7 @@
 ghost use Rattle.std.specs.Prelude.{◌≡◌, ◌++◌, IfOk, OnOk};
 ghost use Rattle.std.specs.Fmt.{decimal};
 ghost use Rattle.std.specs.List.{flat_map};
-ghost use Rattle.uf_reply.specs.Lines.{added_line, line, name_line, row_line, stat_text as text_of_stat, type_word};
+ghost use Rattle.uf_reply.specs.Lines.{added_line, from_line, line, name_line, row_line, stat_text as text_of_stat, type_word};
 
 use crate::lines::wrapped;
 use std::alloc::Global;
@@ -23,6 +23,19 @@ pub fn added_row(alloc: Global, cid: &Cid) -> Result<Block, Memory>
     row.extend(&text)?;
     row.extend(b"\n")?;
     Ok(row)
+}
+
+/// Puts the row of what was added from the host behind others: its CID, and its path as it is shown.
+pub fn put_added(alloc: Global, out: &mut Block, cid: &Cid, path: &str) -> Result<(), Memory>
+    ensures { OnOk result (out.new ≡ out.old ++ from_line cid.now path.now) }
+{
+    let text = shown(alloc, path)?;
+    out.extend(b"added ")?;
+    out.extend(&cid.text())?;
+    out.extend(b" ")?;
+    out.extend(text.as_str().as_bytes())?;
+    out.extend(b"\n")?;
+    Ok(())
 }
 
 /// Names as they are shown, each in a line.

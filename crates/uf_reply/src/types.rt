@@ -1,5 +1,5 @@
 // What words ask for, and why it is refused.
-use uf_cid::{Block, Cid};
+use uf_cid::{Block, Cid, Text};
 use uf_path::{DagPath, Path, PathFault};
 use uf_plain::{Ready, Rule, WriteHow};
 use uf_store::StoreFault;
@@ -26,15 +26,44 @@ pub enum Ask {
     Edit { edit: Edit },
 }
 
-/// A command, its path read.
+/// A command, its paths read. `Adopt` copies what is at a path in a DAG to where a path of the tree leads.
 #[derive(Drop)]
 pub enum Command {
-    Init { profile: Profile },
-    Add { only_hash: bool },
-    WriteInput { how: WriteHow, path: Path },
-    At { ask: Ask, path: Path },
-    Read { offset: u64, count: u64, path: Path },
-    Cat { path: DagPath },
+    Init {
+        profile: Profile,
+    },
+    Add {
+        only_hash: bool,
+    },
+    AddFrom {
+        recursive: bool,
+        only_hash: bool,
+        path: Text,
+    },
+    WriteInput {
+        how: WriteHow,
+        path: Path,
+    },
+    At {
+        ask: Ask,
+        path: Path,
+    },
+    Read {
+        offset: u64,
+        count: u64,
+        path: Path,
+    },
+    Cat {
+        path: DagPath,
+    },
+    Export {
+        cid: Cid,
+    },
+    Import,
+    Adopt {
+        source: DagPath,
+        dest: Path,
+    },
 }
 
 /// The rules by which what is asked of the DAGs of others is refused: a path leads to nothing, goes on behind a file, or
@@ -53,11 +82,24 @@ pub enum DagRule {
     TooMany,
 }
 
-/// Why a command is refused.
+/// The rules by which what is asked of the host is refused, each with a path in it: nothing is there, or no folder that is
+/// there has it; it is neither a file nor a folder; something is there already; a name isn't good; or a folder is too many
+/// folders down.
+#[derive(Drop)]
+pub enum HostRule {
+    Absent(Text),
+    Other(Text),
+    Exists(Text),
+    Name(Text),
+    Deep(Text),
+}
+
+/// Why a command is refused. A fault of a CAR has its number, and the byte with which the header or the section begins.
 #[derive(Drop)]
 pub enum Refusal {
     Rule(Rule),
     Dag(DagRule),
+    Host(HostRule),
     BadPath(PathFault),
     InputTooLong,
     Usage,
@@ -65,4 +107,5 @@ pub enum Refusal {
     Read,
     Write,
     Store(StoreFault),
+    Car { number: u8, place: u64 },
 }

@@ -1,8 +1,11 @@
--- The CID of a shard plan.
+-- The CID of a shard plan, and of a shard.
 use Rattle.std.specs.Prelude.{◌≡◌, ℕ, List, Some}
+use Rattle.uf_cid.specs.Cid.{cid_of}
 use Rattle.uf_cid.specs.declared.cid.Cid.{Cid}
+use Rattle.uf_cid.specs.declared.cid.Codec.TheVariants.{DagPb}
 use Rattle.uf_tree.specs.FilePlan.{Plan}
 use Rattle.uf_tree.specs.Nodes.{Named}
+use Rattle.uf_tree.specs.Roles.{IsShardBlock}
 use Rattle.uf_tree.specs.ShardPlan.{shard_plan}
 use Rattle.uf_tree.specs.Validity.{IsDirectory}
 
@@ -12,3 +15,9 @@ pub record IsPlanned (X : List ℕ → List ℕ) (N : List ℕ → ℕ) (root : 
   pub plan : Plan
   pub is_plan : shard_plan X N 0 l ≡ Some plan
   pub cid : root ≡ plan.entry.cid
+
+-- the CID is that of a block that is a shard's
+pub record IsShardCid (hash : List ℕ → List ℕ) (cid : Cid) : Type 0 where
+  pub block : List ℕ
+  pub canonical : IsShardBlock block
+  pub same : cid ≡ cid_of hash DagPb block

@@ -13,7 +13,6 @@ use Rattle.uf_store.specs.Clashes.{IsSaving}
 use Rattle.uf_store.specs.Lost.{AgreesAfter}
 use Rattle.uf_store.specs.Keeping.{Holds}
 use Rattle.uf_store.specs.declared.store.StoreFault.{StoreFault}
-use Rattle.uf_cid.specs.declared.cid.Codec.TheVariants.{DagPb}
 use Rattle.uf_tree.specs.declared.nodes.Item.TheVariants.{Leaf, Sub}
 use Rattle.uf_tree.specs.declared.nodes.Entry.{Entry}
 use Rattle.uf_tree.specs.Changes.{without}
@@ -26,6 +25,7 @@ use Rattle.uf_shard.specs.declared.removed.Removed.TheVariants.{Absent, Empty, L
 use Rattle.uf_shard.specs.declared.rest.Rest.{Rest}
 use Rattle.uf_shard.specs.declared.rest.Rest.TheVariants.{Same, Of}
 use Rattle.uf_shard.specs.Changed.{GivesItem, GivesItems, MayLose}
+use Rattle.uf_shard.specs.Planned.{IsShardCid}
 
 -- where the name wasn't there, or was the only one, nothing was saved
 abbrev pub SavesNothing : Removed → Told → Told → Type 0
@@ -56,11 +56,11 @@ UnsavedBelow items Same before now = ⊤
 UnsavedBelow items (Of None) before now = (items ≡ []) × (now ≡ before)
 UnsavedBelow items (Of (Some item)) before now = ⊤
 
--- what is left is the entry of a node
-abbrev pub LeavesNode : Removed → Type 0
-LeavesNode Absent = ⊤
-LeavesNode Empty = ⊤
-LeavesNode (Left e) = e.cid.codec ≡ DagPb
+-- what is left is the entry of a shard
+abbrev pub LeavesShard : (List ℕ → List ℕ) → Removed → Type 0
+LeavesShard hash Absent = ⊤
+LeavesShard hash Empty = ⊤
+LeavesShard hash (Left e) = IsShardCid hash e.cid
 
 -- what a slot has without a name is a valid item
 abbrev pub IsValidRest : Rest → Type 0

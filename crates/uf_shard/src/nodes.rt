@@ -7,6 +7,7 @@ ghost use Rattle.uf_store.specs.Faults.{NoneIsBad, fault_in};
 ghost use Rattle.uf_store.specs.Keeping.{Holds};
 ghost use Rattle.uf_tree.specs.Nodes.{InSlot, capped, item_entry, node_entry, shard_block};
 ghost use Rattle.uf_tree.specs.Validity.{IsEntry, IsShard};
+ghost use Rattle.uf_shard.specs.Planned.{IsShardCid};
 
 use std::alloc::Global;
 use std::sync::ledger::Ledger;
@@ -24,6 +25,7 @@ pub fn save_node<S: Store, L: Ledger>(
     requires { IsShard items.now }
     ensures entry { IfOk result (λ e. e ≡ node_entry S.X.block32 (shard_block items.now)
         (map (λ (p : InSlot). item_entry p.1) items.now)) }
+    ensures made { IfOk result (λ e. IsShardCid S.X.block32 e.cid) }
     ensures valid { IfOk result IsEntry }
     ensures held { IfOk result (λ e. Holds (S.seen store.new).told ((e.cid, shard_block items.now) ∷ [])) }
     ensures fault { IfErr result IsSaving }

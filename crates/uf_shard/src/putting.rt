@@ -2,7 +2,6 @@
 ghost use Rattle.std.specs.Prelude.{◌≡◌, ◌<◌, ◌≤◌, ◌+◌, ◌*◌, ◌-◌, ℕ, List, [], ◌∷◌};
 ghost use Rattle.std.specs.Prelude.{IfOk, IfSome, OnOk, Some, false};
 ghost use Rattle.std.specs.Ordering.{eq_by_cmp};
-ghost use Rattle.uf_cid.specs.declared.cid.Codec.TheVariants.{DagPb};
 ghost use Rattle.uf_edge.specs.Counts.{Stood};
 ghost use Rattle.uf_murmur.specs.Slots.{slot as slot_of};
 ghost use Rattle.uf_store.specs.Calls.{OnlySaves};
@@ -18,7 +17,7 @@ ghost use Rattle.uf_tree.specs.ShardPlan.{shard};
 ghost use Rattle.uf_tree.specs.Validity.{IsItem, IsNamed, IsShard};
 ghost use Rattle.uf_shard.specs.Answers.{AtCollision, GivesOver, Shown, dir_fault, shard_refusal};
 ghost use Rattle.uf_shard.specs.Placed.{IsBadOnWay, IsPlaced, way};
-ghost use Rattle.uf_shard.specs.Planned.{IsPlanned};
+ghost use Rattle.uf_shard.specs.Planned.{IsPlanned, IsShardCid};
 ghost use Rattle.uf_shard.specs.Reached.{IsReached};
 ghost use Rattle.uf_shard.specs.Saving.{IsCollisionOr};
 ghost use Rattle.uf_shard.specs.Changed.{AreItems, IsItemAt, IsOrderedOr, IsSlot, LeafOr, PutsSlot, PutsSlots};
@@ -55,7 +54,7 @@ pub fn put<S: Store, N: NameHash, L: Ledger>(
         → GivesOver (S.seen store.old).told (shard S.X.block32 N.name64 7 l).blocks
         (shard_refusal S.X.block32 N.name64 (with_name name.now entry.now l))
         (shard S.X.block32 N.name64 7 (with_name name.now entry.now l)).entry result }
-    ensures node { IfOk result (λ e. e.cid.codec ≡ DagPb) }
+    ensures made { IfOk result (λ e. IsShardCid S.X.block32 e.cid) }
     ensures after { OnOk result ((l : List Named) → IsPlanned S.X.block32 N.name64 root.now l
         → StaysAgreed (S.seen store.old).told (S.seen store.new).told (shard S.X.block32 N.name64 7 l).blocks
         → AgreesAfter (S.seen store.old).told (S.seen store.new).told (shard S.X.block32 N.name64 7 l).blocks

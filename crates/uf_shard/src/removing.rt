@@ -17,7 +17,7 @@ ghost use Rattle.uf_shard.specs.Planned.{IsPlanned};
 ghost use Rattle.uf_shard.specs.Reached.{IsReached};
 ghost use Rattle.uf_shard.specs.Changed.{AreItems, IsItemAt, IsSlot, below, blocks_of};
 ghost use Rattle.uf_shard.specs.Taken.{AgreesLeft, AreInSlots, IsLeftOf, IsValidRest, LeafWithout, LeavesBelow};
-ghost use Rattle.uf_shard.specs.Taken.{LeavesNode, SavesNothing, TakesSlot, TakesSlots, UnsavedBelow, UnsavedItems};
+ghost use Rattle.uf_shard.specs.Taken.{LeavesShard, SavesNothing, TakesSlot, TakesSlots, UnsavedBelow, UnsavedItems};
 ghost use Rattle.uf_shard.specs.Taken.{UnsavedRest, collapsed, left_without};
 
 use crate::loading::{load_shard, slot_at};
@@ -49,7 +49,7 @@ pub fn remove<S: Store, N: NameHash, L: Ledger>(
         → Stood (S.seen store.old).clashes (S.seen store.new).clashes
         → ReadsOver (S.seen store.old).told (shard S.X.block32 N.name64 7 l).blocks
         (left_without S.X.block32 N.name64 name.now l) result }
-    ensures node { IfOk result LeavesNode }
+    ensures made { IfOk result (LeavesShard S.X.block32) }
     ensures nothing { IfOk result (λ left. SavesNothing left (S.seen store.old).told (S.seen store.new).told) }
     ensures after { IfOk result (λ left. (l : List Named) → IsPlanned S.X.block32 N.name64 root.now l
         → StaysAgreed (S.seen store.old).told (S.seen store.new).told (shard S.X.block32 N.name64 7 l).blocks
@@ -78,7 +78,7 @@ fn left_of<S: Store, L: Ledger>(
 ) -> Result<Removed, StoreFault>
     requires { AreInSlots items.now }
     ensures left { IfOk result (IsLeftOf S.X.block32 (S.seen store.old).told (S.seen store.new).told items.now) }
-    ensures node { IfOk result LeavesNode }
+    ensures made { IfOk result (LeavesShard S.X.block32) }
     ensures nothing { IfOk result (λ left. SavesNothing left (S.seen store.old).told (S.seen store.new).told) }
     ensures fault { IfErr result IsSaving }
     ensures saves { OnlySaves S.X.block32 NoneIsBad (fault_in result) (S.seen store.old) (S.seen store.new) }

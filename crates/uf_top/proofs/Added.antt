@@ -29,7 +29,7 @@ use Rattle.uf_top.specs.Losing.{AnswersOver}
 use Rattle.uf_top.specs.Naming.{NamesAfter, StandsNamed}
 use Rattle.uf_reply.specs.Lines.{added_line}
 use Rattle.uf_top.specs.Answering.{Answers}
-use Rattle.uf_reply.specs.Reply.{Reply, add_reply, added, file_cid, unchanged}
+use Rattle.uf_top.specs.Reply.{Reply, add_reply, added, file_cid, unchanged}
 use Rattle.uf_reply.specs.declared.types.Command.TheVariants.{Add}
 use Rattle.uf_reply.specs.declared.types.Refusal.{Refusal}
 use Rattle.uf_reply.specs.declared.types.Refusal.TheVariants as refusal
@@ -111,6 +111,8 @@ module _ (X : List ℕ → List ℕ) where
         held = subst (λ (r : Reply). TellsHeld b.told r.held) (sym reply) (tells-none X N b.told s stands);
       })
   added-answers N s blocks p bytes (Err (refusal.Dag rule)) held a b l m i j stands stays row e shown f c counts read = absurd row
+  added-answers N s blocks p bytes (Err (refusal.Car number place)) held a b l m i j stands stays row e shown f c counts read = absurd row
+  added-answers N s blocks p bytes (Err (refusal.Host rule)) held a b l m i j stands stays row e shown f c counts read = absurd row
   added-answers N s blocks p bytes (Err (refusal.BadPath why)) held a b l m i j stands stays row e shown f c counts read = absurd row
   added-answers N s blocks p bytes (Err refusal.Usage) held a b l m i j stands stays row e shown f c counts read = absurd row
   added-answers N s blocks p bytes (Err refusal.InputTooLong) held a b l m i j stands stays row e shown f c counts read = absurd row
@@ -142,6 +144,8 @@ module _ (X : List ℕ → List ℕ) where
         stands = subst (λ (r : Reply). StandsNamed X N c d (blocks X N p (Dir es)) r.next) (sym reply) stands;
       })
   added-over N c d p es held_blocks bytes (Err (refusal.Dag rule)) held a b l m i j stands row e shown f g counts read = absurd row
+  added-over N c d p es held_blocks bytes (Err (refusal.Car number place)) held a b l m i j stands row e shown f g counts read = absurd row
+  added-over N c d p es held_blocks bytes (Err (refusal.Host rule)) held a b l m i j stands row e shown f g counts read = absurd row
   added-over N c d p es held_blocks bytes (Err (refusal.BadPath why)) held a b l m i j stands row e shown f g counts read = absurd row
   added-over N c d p es held_blocks bytes (Err refusal.Usage) held a b l m i j stands row e shown f g counts read = absurd row
   added-over N c d p es held_blocks bytes (Err refusal.InputTooLong) held a b l m i j stands row e shown f g counts read = absurd row
@@ -158,6 +162,8 @@ module _ (X : List ℕ → List ℕ) where
       → IsProfileRead (Err why) a.told → ShownIn {A = Option Profile} X (Err why) a b → Stood a.faults b.faults → Stood a.clashes b.clashes → AnswersOver X N a.told b.told p es [] given (Err why)
   unread-over good N p es given (refusal.Rule rule) a b names stands read shown f g = absurd read
   unread-over good N p es given (refusal.Dag rule) a b names stands read shown f g = absurd read
+  unread-over good N p es given (refusal.Car number place) a b names stands read shown f g = absurd read
+  unread-over good N p es given (refusal.Host rule) a b names stands read shown f g = absurd read
   unread-over good N p es given (refusal.BadPath why) a b names stands read shown f g = absurd read
   unread-over good N p es given refusal.Usage a b names stands read shown f g = absurd read
   unread-over good N p es given refusal.InputTooLong a b names stands read shown f g = absurd read
@@ -183,6 +189,8 @@ module _ (X : List ℕ → List ℕ) where
       → Answers X N s (add_reply X only_hash s bytes) (Err why) b.told
   head-refused good N s only_hash bytes (refusal.Rule rule) a b told now read shown f c = absurd read
   head-refused good N s only_hash bytes (refusal.Dag rule) a b told now read shown f c = absurd read
+  head-refused good N s only_hash bytes (refusal.Car number place) a b told now read shown f c = absurd read
+  head-refused good N s only_hash bytes (refusal.Host rule) a b told now read shown f c = absurd read
   head-refused good N s only_hash bytes (refusal.BadPath why) a b told now read shown f c = absurd read
   head-refused good N s only_hash bytes refusal.Usage a b told now read shown f c = absurd read
   head-refused good N s only_hash bytes refusal.InputTooLong a b told now read shown f c = absurd read
@@ -233,6 +241,8 @@ module _ (X : List ℕ → List ℕ) where
   adds-of only_hash told held p (Ok text) l m by row = record { profile = p; adds_by = by; bytes = row.bytes; are_left = left_are row.bytes l m row.taken row.nothing_left; is = row.is }
   adds-of only_hash told held p (Err (refusal.Rule rule)) l m by row = (row.0, record { profile = p; adds_by = by; bytes = row.1.bytes; taken = row.1.taken; many = row.1.many })
   adds-of only_hash told held p (Err (refusal.Dag rule)) l m by row = tt
+  adds-of only_hash told held p (Err (refusal.Car number place)) l m by row = tt
+  adds-of only_hash told held p (Err (refusal.Host rule)) l m by row = tt
   adds-of only_hash told held p (Err (refusal.BadPath why)) l m by row = tt
   adds-of only_hash told held p (Err refusal.Usage) l m by row = tt
   adds-of only_hash told held p (Err refusal.InputTooLong) l m by row = tt
@@ -244,6 +254,8 @@ module _ (X : List ℕ → List ℕ) where
   pub adds-read : (only_hash : Bool) (told : Told) (why : Refusal) (l m : streams.Told) → IsProfileRead (Err why) told → Adds X told only_hash (Err why) l m
   adds-read only_hash told (refusal.Rule rule) l m read = absurd read
   adds-read only_hash told (refusal.Dag rule) l m read = tt
+  adds-read only_hash told (refusal.Car number place) l m read = tt
+  adds-read only_hash told (refusal.Host rule) l m read = tt
   adds-read only_hash told (refusal.BadPath why) l m read = tt
   adds-read only_hash told refusal.Usage l m read = tt
   adds-read only_hash told refusal.InputTooLong l m read = tt
@@ -256,6 +268,8 @@ module _ (X : List ℕ → List ℕ) where
   row-ready only_hash told held p (Ok text) l m row = tt
   row-ready only_hash told held p (Err (refusal.Rule rule)) l m row = tt
   row-ready only_hash told held p (Err (refusal.Dag rule)) l m row = tt
+  row-ready only_hash told held p (Err (refusal.Car number place)) l m row = tt
+  row-ready only_hash told held p (Err (refusal.Host rule)) l m row = tt
   row-ready only_hash told held p (Err (refusal.BadPath why)) l m row = tt
   row-ready only_hash told held p (Err refusal.Usage) l m row = tt
   row-ready only_hash told held p (Err refusal.InputTooLong) l m row = tt
@@ -289,6 +303,8 @@ unread-reason told false h = h
 pub read-ready : (only_hash : Bool) (told : Told) (why : Refusal) → IsProfileRead (Err why) told → IsReady {A = List ℕ} told (Add only_hash) (Err why)
 read-ready only_hash told (refusal.Rule rule) read = tt
 read-ready only_hash told (refusal.Dag rule) read = tt
+read-ready only_hash told (refusal.Car number place) read = tt
+read-ready only_hash told (refusal.Host rule) read = tt
 read-ready only_hash told (refusal.BadPath why) read = tt
 read-ready only_hash told refusal.Usage read = tt
 read-ready only_hash told refusal.InputTooLong read = tt
@@ -303,6 +319,8 @@ pub synced-row : (X : List ℕ → List ℕ) (p : Profile) (a b : Told) (entry :
 synced-row X p a b entry row (Ok text) l m synced is row_is stops file = row-of X p a b entry text l m (λ bs h. leaves-holds a b bs (OnlySynced synced) h) (is ∙ row_is) file
 synced-row X p a b entry row (Err (refusal.Rule rule)) l m leaves is row_is stops file = absurd stops
 synced-row X p a b entry row (Err (refusal.Dag rule)) l m leaves is row_is stops file = absurd stops
+synced-row X p a b entry row (Err (refusal.Car number place)) l m leaves is row_is stops file = absurd stops
+synced-row X p a b entry row (Err (refusal.Host rule)) l m leaves is row_is stops file = absurd stops
 synced-row X p a b entry row (Err (refusal.BadPath why)) l m leaves is row_is stops file = absurd stops
 synced-row X p a b entry row (Err refusal.Usage) l m leaves is row_is stops file = absurd stops
 synced-row X p a b entry row (Err refusal.InputTooLong) l m leaves is row_is stops file = absurd stops

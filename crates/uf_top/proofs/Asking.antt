@@ -9,7 +9,7 @@ use Rattle.uf_mfs.specs.Standing.{Commits, IsWanting, LeavesHead, NamesOver, Sam
 use Rattle.uf_mfs.specs.Steps.{IsFolderOver, tree_fault}
 use Rattle.uf_mfs.specs.Touches.{CountsUp}
 use Rattle.uf_mfs.specs.declared.fault.MfsFault.{MfsFault}
-use Rattle.uf_mfs.specs.Writes.{IsBadWritten}
+use Rattle.uf_mfs.specs.Writes.{IsBadWrittenIn}
 use Rattle.uf_mfs.specs.declared.mfs.Mfs.{Mfs}
 use Rattle.uf_mfs.proofs.Counting.{counts-then}
 use Rattle.uf_mfs.proofs.Starting.{leaves-head, saves-head}
@@ -30,7 +30,7 @@ use Rattle.uf_tree.specs.TreePlan.{blocks}
 use Rattle.uf_tree.specs.declared.profile.Profile.{Profile}
 use Rattle.uf_reply.specs.Commands.{NoWrites, ask_writes, is_idle}
 use Rattle.uf_reply.specs.Kinds.{fault_behind}
-use Rattle.uf_reply.specs.Reply.{edited_by, looked, tree_reply}
+use Rattle.uf_top.specs.Reply.{edited_by, looked, tree_reply}
 use Rattle.uf_reply.specs.declared.types.Ask.{Ask}
 use Rattle.uf_reply.specs.declared.types.Ask.TheVariants.{Edit as Edits}
 use Rattle.uf_reply.specs.declared.types.Command.TheVariants.{At}
@@ -67,7 +67,7 @@ module _ (X : List ℕ → List ℕ) (N : List ℕ → ℕ) (mfs : Mfs) (path : 
           (fault-over X N a.told b.told p es (ask_needs X N ask path.names p es) Tree B (P p) path.names (at 0 path.names (Dir es)) (looked (Stands p es) path.names (say p)) f w
           (λ why. refl) is (lost p es over calm.faults) (names-same X N a.told b.told p es told named));
       kinds = tree-kinds f w is;
-      cause = Shown-tree B X (IsBadInTree X N None mfs.root.cid) (IsBadWritten X N mfs.profile b.told) (bad-way X N mfs.profile b.told mfs.root.cid) f w a b is cause;
+      cause = Shown-tree B X (IsBadInTree X N None mfs.root.cid) (IsBadWrittenIn X N mfs.profile b.told mfs.root.cid) (bad-way X N mfs.profile b.told mfs.root.cid) f w a b is cause;
       touches = λ p es rows over named heights calm. few p es rows over calm.faults;
       touched = tree-touched B f w t0 t1 is up;
       good = KeepsGood-same X a.told b.told told;
@@ -89,7 +89,7 @@ module _ (X : List ℕ → List ℕ) (N : List ℕ → ℕ) (mfs : Mfs) (path : 
           (look-over X N a.told b.told p es (ask_needs X N ask path.names p es) B M (P p) path.names (say p) (at 0 path.names (Dir es)) found text r
           (lost p es over calm2.faults) (λ t h. says p t over.profile_is h) made (names-same X N a.told b.told p es told named));
       kinds = made-kinds M text r made;
-      cause = made-shown M X (IsBadWritten X N mfs.profile b.told) text r a b made calm;
+      cause = made-shown M X (IsBadWrittenIn X N mfs.profile b.told mfs.root.cid) text r a b made calm;
       touches = λ p es rows over named heights calm2. few p es rows over calm2.faults;
       touched = made-touched M text r t0 t1 made up;
       good = KeepsGood-same X a.told b.told told;
@@ -114,7 +114,7 @@ module _ (X : List ℕ → List ℕ) (N : List ℕ → ℕ) (mfs : Mfs) (path : 
           edit-over X N a.told m.told p es (blocks X N p (Dir es)) (λ fs done. StandsAfter X N a.told m.told (blocks X N p (Dir es)) new p fs) (edited_by X N edit path.names p es)
           f w is (e.lost p es over.profile_is (folder-over p es over named calm)) (names-kept X N a.told m.told p es e.good (saves-head X a.told m.told e.saves) named);
       kinds = tree-kinds f w is;
-      cause = Shown-tree (Unit {0}) X (IsBadWritten X N mfs.profile m.told) (IsBadWritten X N mfs.profile m.told) (λ role bytes h. h) f w a m is e.cause;
+      cause = Shown-tree (Unit {0}) X (IsBadWrittenIn X N mfs.profile m.told mfs.root.cid) (IsBadWrittenIn X N mfs.profile m.told mfs.root.cid) (λ role bytes h. h) f w a m is e.cause;
       touches = λ p es rows over named heights calm. e.touches p rows over.profile_is heights es (folder-over p es over named calm);
       touched = tree-touched (Unit {0}) f w t0 t1 is e.touched;
       good = e.good;
@@ -149,8 +149,8 @@ module _ (X : List ℕ → List ℕ) (N : List ℕ → ℕ) (mfs : Mfs) (path : 
       pub commit-refused : (f : MfsFault) (w : Refusal) → RefusesInTree f w → CountsUp (tree_fault {A = Unit {0}} (Err f)) t1 t2 → (Stood m.faults b.faults → IsWanting f) → LeavesHead m.told b.told
           → ShownInTree X NoneIsBad {A = Unit {0}} (Err f) m b → WorksAt X N mfs (Edits edit) path (Err w) a b t0 t2
       commit-refused f w is later_up wanting leaves cause =
-          let shown = Shown-tree (Unit {0}) X NoneIsBad (IsBadWritten X N mfs.profile b.told) (λ role bytes bad. absurd bad) f w m b is cause in
-          let rises = shown-rises X (IsBadWritten X N mfs.profile b.told) (fault_behind w) m b shown in
+          let shown = Shown-tree (Unit {0}) X NoneIsBad (IsBadWrittenIn X N mfs.profile b.told mfs.root.cid) (λ role bytes bad. absurd bad) f w m b is cause in
+          let rises = shown-rises X (IsBadWrittenIn X N mfs.profile b.told mfs.root.cid) (fault_behind w) m b shown in
           let head = leaves-head m.told b.told leaves ∙ saves-head X a.told m.told e.saves in
           record {
             answers = λ p es at_tree stands calm2.
@@ -162,7 +162,7 @@ module _ (X : List ℕ → List ℕ) (N : List ℕ → ℕ) (mfs : Mfs) (path : 
                 (tree-wants f w is (wanting (stood-back a.faults m.faults b.faults calm.faults calm2.faults)))
                 (names-kept X N a.told b.told p es both-good head named);
             kinds = tree-kinds f w is;
-            cause = shown-after X (IsBadWritten X N mfs.profile b.told) (fault_behind w) a m b calm shown;
+            cause = shown-after X (IsBadWrittenIn X N mfs.profile b.told mfs.root.cid) (fault_behind w) a m b calm shown;
             touches = λ p es rows over named heights calm2.
                 let x = e.touches p rows over.profile_is heights es (folder-over p es over (named-before X N a.told m.told b.told p es leaves named) (first-calm rises.faults rises.clashes calm2)) in
                 omega (arith, x, still);

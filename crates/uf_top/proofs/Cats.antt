@@ -33,21 +33,22 @@ use Rattle.uf_lenient.specs.declared.fault.StreamFault.TheVariants as stream
 use Rattle.uf_lenient.specs.declared.shapes.Shape.{Shape}
 use Rattle.uf_lenient.specs.declared.shapes.Shape.TheVariants.{File as FileShape, Folder as FolderShape}
 use Rattle.uf_varint.specs.Fields.{◌>>=◌}
-use Rattle.uf_adopt.specs.Adopting.{DenotesBy}
-use Rattle.uf_adopt.proofs.Denoting.{denoted-step}
+use Rattle.uf_lenient.specs.Denoted.{DenotesBy}
+use Rattle.uf_lenient.proofs.Denoting.{denoted-step}
 use Rattle.uf_reply.specs.Commands.{NoWrites}
 use Rattle.uf_reply.specs.Dags.{IsToldAs, dag_refusal, file_at, tree_at, usual_limits}
 use Rattle.uf_reply.specs.Kinds.{IsOf, OfWrite, ReadsDag, fault_behind, may_end, refusal_fault, refusal_kind}
-use Rattle.uf_reply.specs.Reply.{World, in_world, reply}
+use Rattle.uf_top.specs.Reply.{Outside, World, in_world, reply}
 use Rattle.uf_reply.specs.Statuses.{ended, no_memory, status_of}
 use Rattle.uf_reply.specs.declared.status.Status.TheVariants as status
+use Rattle.uf_reply.specs.declared.types.Command.{Command}
 use Rattle.uf_reply.specs.declared.types.Command.TheVariants.{Cat}
 use Rattle.uf_reply.specs.declared.types.DagRule.{DagRule}
 use Rattle.uf_reply.specs.declared.types.DagRule.TheVariants as rule
 use Rattle.uf_reply.specs.declared.types.Refusal.{Refusal}
 use Rattle.uf_reply.specs.declared.types.Refusal.TheVariants as refusal
 use Rattle.uf_top.specs.Answering.{DoesAnswer}
-use Rattle.uf_top.specs.Around.{RisesFor, around}
+use Rattle.uf_top.specs.Around.{HostSide, RisesFor, around}
 use Rattle.uf_top.specs.Causes.{IsBadIn, IsReadyBy, is_read, is_write}
 use Rattle.uf_top.specs.Endings.{EndsBy, PrintsAt, PrintsPart, RuleOf}
 use Rattle.uf_top.specs.Foreign.{FindsFile, IsFileIn, IsOfReading, IsOwnRefusal, LeadsTo}
@@ -164,9 +165,11 @@ module _ (held : Lookup) (path : DagPath) (cid : Cid) (resolved : resolve_from h
 
 -- ---- what every answer of `cat` has
 
-reading-kinds : (hash : List ℕ → List ℕ) (a b : Seen) (why : Refusal) → IsOfReading why → Shown hash NoneIsBad (fault_behind why) a b → may_end ReadsDag (refusal_kind why) ≡ true
+pub reading-kinds : (hash : List ℕ → List ℕ) (a b : Seen) (why : Refusal) → IsOfReading why → Shown hash NoneIsBad (fault_behind why) a b → may_end ReadsDag (refusal_kind why) ≡ true
 reading-kinds hash a b (refusal.Rule r) of h = absurd of
 reading-kinds hash a b (refusal.Dag r) of h = refl
+reading-kinds hash a b (refusal.Car number place) of h = absurd of
+reading-kinds hash a b (refusal.Host r) of h = absurd of
 reading-kinds hash a b (refusal.BadPath p) of h = absurd of
 reading-kinds hash a b refusal.InputTooLong of h = absurd of
 reading-kinds hash a b refusal.Usage of h = absurd of
@@ -180,9 +183,11 @@ reading-kinds hash a b (refusal.Store (fault.BadBlock cid role)) of h = absurd h
 reading-kinds hash a b (refusal.Store (fault.Clash cid first second)) of h = refl
 reading-kinds hash a b (refusal.Store fault.Memory) of h = refl
 
-no-blame : (hash : List ℕ → List ℕ) (a b : Seen) (why : Refusal) → IsOfReading why → Shown hash NoneIsBad (fault_behind why) a b → IsBlaming (fault_behind why) → ⊥
+pub no-blame : (hash : List ℕ → List ℕ) (a b : Seen) (why : Refusal) → IsOfReading why → Shown hash NoneIsBad (fault_behind why) a b → IsBlaming (fault_behind why) → ⊥
 no-blame hash a b (refusal.Rule r) of h blames = of
 no-blame hash a b (refusal.Dag r) of h blames = blames
+no-blame hash a b (refusal.Car number place) of h blames = of
+no-blame hash a b (refusal.Host r) of h blames = blames
 no-blame hash a b (refusal.BadPath p) of h blames = of
 no-blame hash a b refusal.InputTooLong of h blames = of
 no-blame hash a b refusal.Usage of h blames = of
@@ -196,32 +201,36 @@ no-blame hash a b (refusal.Store (fault.BadBlock cid role)) of h blames = h.bad
 no-blame hash a b (refusal.Store (fault.Clash cid first second)) of h blames = blames
 no-blame hash a b (refusal.Store fault.Memory) of h blames = blames
 
-record IsPlain (path : DagPath) (told : Told) (l m : streams.Told) (i : ℕ) (why : Refusal) : Type 0 where
-  other : refusal_kind why ≢ OfWrite
-  ready : IsReadyBy told (Cat path) why
-  rule : status_of why ≡ status.Rule → RuleOf (Ok (Cat path)) why told l m
-  reads : Counts (is_read {A = Unit {0}} (Err why)) i i
+pub record IsPlain (command : Command) (told : Told) (l m : streams.Told) (i : ℕ) (why : Refusal) : Type 0 where
+  pub other : refusal_kind why ≢ OfWrite
+  pub ready : IsReadyBy told command why
+  pub rule : status_of why ≡ status.Rule → (r : DagRule) × (why ≡ refusal.Dag r)
+  pub reads : Counts (is_read {A = Unit {0}} (Err why)) i i
 
-plain-of : (path : DagPath) (told : Told) (l m : streams.Told) (i : ℕ) (why : Refusal) → IsOfReading why → IsPlain path told l m i why
-plain-of path told l m i (refusal.Rule r) of = absurd of
-plain-of path told l m i (refusal.Dag r) of = record { other = λ e. cc; ready = tt; rule = λ e. (r, refl); reads = counts-still i }
-plain-of path told l m i (refusal.BadPath p) of = absurd of
+pub plain-of : (command : Command) (told : Told) (l m : streams.Told) (i : ℕ) (why : Refusal) → IsOfReading why → IsPlain command told l m i why
+plain-of command told l m i (refusal.Rule r) of = absurd of
+plain-of command told l m i (refusal.Dag r) of = record { other = λ e. cc; ready = tt; rule = λ e. (r, refl); reads = counts-still i }
+plain-of command told l m i (refusal.Host r) of = absurd of
+plain-of command told l m i (refusal.Car number place) of = absurd of
+plain-of command told l m i (refusal.BadPath p) of = absurd of
 plain-of path told l m i refusal.InputTooLong of = absurd of
 plain-of path told l m i refusal.Usage of = absurd of
-plain-of path told l m i (refusal.Ready r) of = absurd of
+plain-of command told l m i (refusal.Ready r) of = absurd of
 plain-of path told l m i refusal.Read of = absurd of
 plain-of path told l m i refusal.Write of = absurd of
-plain-of path told l m i (refusal.Store fault.Failed) of = record { other = λ e. cc; ready = tt; rule = λ e. absurd cc; reads = counts-still i }
-plain-of path told l m i (refusal.Store (fault.Damaged cid)) of = record { other = λ e. cc; ready = tt; rule = λ e. absurd cc; reads = counts-still i }
-plain-of path told l m i (refusal.Store (fault.Missing cid)) of = record { other = λ e. cc; ready = tt; rule = λ e. absurd cc; reads = counts-still i }
-plain-of path told l m i (refusal.Store (fault.BadBlock cid role)) of = record { other = λ e. cc; ready = tt; rule = λ e. absurd cc; reads = counts-still i }
-plain-of path told l m i (refusal.Store (fault.Clash cid first second)) of = record { other = λ e. cc; ready = tt; rule = λ e. absurd cc; reads = counts-still i }
-plain-of path told l m i (refusal.Store fault.Memory) of = record { other = λ e. cc; ready = tt; rule = λ e. absurd cc; reads = counts-still i }
+plain-of command told l m i (refusal.Store fault.Failed) of = record { other = λ e. cc; ready = tt; rule = λ e. absurd cc; reads = counts-still i }
+plain-of command told l m i (refusal.Store (fault.Damaged cid)) of = record { other = λ e. cc; ready = tt; rule = λ e. absurd cc; reads = counts-still i }
+plain-of command told l m i (refusal.Store (fault.Missing cid)) of = record { other = λ e. cc; ready = tt; rule = λ e. absurd cc; reads = counts-still i }
+plain-of command told l m i (refusal.Store (fault.BadBlock cid role)) of = record { other = λ e. cc; ready = tt; rule = λ e. absurd cc; reads = counts-still i }
+plain-of command told l m i (refusal.Store (fault.Clash cid first second)) of = record { other = λ e. cc; ready = tt; rule = λ e. absurd cc; reads = counts-still i }
+plain-of command told l m i (refusal.Store fault.Memory) of = record { other = λ e. cc; ready = tt; rule = λ e. absurd cc; reads = counts-still i }
 
 -- the store's own refusal is want of memory, where it stayed calm
-own-wants : (hash : List ℕ → List ℕ) (a b : Seen) (why : Refusal) → IsOwnRefusal why → Shown hash NoneIsBad (fault_behind why) a b → Calm a b → why ≡ no_memory
+pub own-wants : (hash : List ℕ → List ℕ) (a b : Seen) (why : Refusal) → IsOwnRefusal why → Shown hash NoneIsBad (fault_behind why) a b → Calm a b → why ≡ no_memory
 own-wants hash a b (refusal.Rule r) own h calm = absurd own
 own-wants hash a b (refusal.Dag r) own h calm = absurd own
+own-wants hash a b (refusal.Car number place) own h calm = absurd own
+own-wants hash a b (refusal.Host r) own h calm = absurd own
 own-wants hash a b (refusal.BadPath p) own h calm = absurd own
 own-wants hash a b refusal.InputTooLong own h calm = absurd own
 own-wants hash a b refusal.Usage own h calm = absurd own
@@ -249,11 +258,11 @@ front-printed bytes front h h2 sent is = record {
   appended = sent ∙ ap (λ (l : List ℕ). after h l) (sym (ap (take (length front)) is.1 ∙ take-append front is.0));
 }
 
-tells-some : (told : Told) (h : Lookup) → TellsBlocks told h → TellsHeld told []
+pub tells-some : (told : Told) (h : Lookup) → TellsBlocks told h → TellsHeld told []
 tells-some None h t = absurd t
 tells-some (Some c) h t = tt
 
-module _ (X : List ℕ → List ℕ) (N : List ℕ → ℕ) (path : DagPath) (a b : Seen) (same : b.told ≡ a.told) (l : streams.Told) (i : ℕ) (h h2 : streams.Told) (w w2 t0 t1 : ℕ) where
+module _ (X : List ℕ → List ℕ) (N : List ℕ → ℕ) (path : DagPath) (a b : Seen) (same : b.told ≡ a.told) (l : streams.Told) (i : ℕ) (h h2 : streams.Told) (w w2 t0 t1 : ℕ) (side : HostSide) where
   -- what the reading says of what is printed
   abbrev said : Lookup → Result (List ℕ) Refusal
   said held = file_at path (tree_at held path)
@@ -274,24 +283,25 @@ module _ (X : List ℕ → List ℕ) (N : List ℕ → ℕ) (path : DagPath) (a 
 
   -- a refusal: the reading's, and then nothing is printed, or the store's own
   pub cat-refused : (why : Refusal) → IfSome a.told (λ t. IsOwnRefusal why ⊎ ((said (held_at t) ≡ Err why) × (h2 ≡ h))) → IfSome a.told (λ t. PrintsPart (said (held_at t)) h h2)
-      → (bytes : List ℕ) → h2 ≡ after h bytes → IsOfReading why → Shown X NoneIsBad (fault_behind why) a b → w2 ≡ w → Does X N (Cat path) (Err why) (around a l i h w t0) (around b l i h2 w2 t1)
+      → (bytes : List ℕ) → h2 ≡ after h bytes → IsOfReading why → Shown X NoneIsBad (fault_behind why) a b → w2 ≡ w → Does X N (Cat path) (Err why) (around a l i h w t0 side) (around b l i h2 w2 t1 side)
   cat-refused why says part bytes sent of cause still =
-      let plain = plain-of path a.told l l i why of in
+      let plain = plain-of (Cat path) a.told l l i why of in
       let quiet = quiet-of (λ text. ⊤) true why plain.other in
       record {
         answers = λ world finds input calm. answered world finds.held calm.store (by-told (λ held. IsOwnRefusal why ⊎ ((said held ≡ Err why) × (h2 ≡ h))) world.held finds.held says);
-        lost = λ p es rows held bs named tells heights input calm. over p es held bs named calm.store (by-told (λ held. IsOwnRefusal why ⊎ ((said held ≡ Err why) × (h2 ≡ h))) held tells says);
+        lost = λ p es rows held bs named tells good heights input calm. over p es held bs named calm.store (by-told (λ held. IsOwnRefusal why ⊎ ((said held ≡ Err why) × (h2 ≡ h))) held tells says);
         prefix = λ world finds input room. by-told (λ held. PrintsPart (said held) h h2) world.held finds.held part;
         prints = quiet.prints h h2 (bytes, sent);
         kinds = reading-kinds X a b why of cause;
         ready = plain.ready;
         rule = plain.rule;
         reads = plain.reads;
+        host = refl;
         writes = subst (λ f. RisesFor f w w2) (sym quiet.unwritten) (record { rose = λ e. absurd cc; still = λ e. still });
         cause = shown-by X NoneIsBad (IsBadIn X N a.told b.told) (fault_behind why) a b (λ role bytes bad. absurd bad) cause;
         whole = λ s needs stands calm. absurd cc;
         touches = λ p es bs rows named input heights calm. tt;
-        touched = λ blames. absurd (no-blame X a b why of cause blames);
+        touched = λ plain blames. absurd (no-blame X a b why of cause blames);
         leaves = record { good = KeepsGood-same X a.told b.told same; head = ap head_in same; writes = same; idle = λ p es bs stands calm is. absurd cc };
       }
     where
@@ -299,34 +309,35 @@ module _ (X : List ℕ → List ℕ) (N : List ℕ → ℕ) (path : DagPath) (a 
       answered world tells calm (inl own) = inl (record { ends_are = ap (λ (r : Refusal). Err r) (own-wants X a b why own cause calm); stands = still-tells world.held tells })
       answered world tells calm (inr is) = inr (record { ends = subst (λ e. EndsBy e (Err why) h h2) (sym is.0) (refl, is.1); stands = still-tells world.held tells; blocks = subst (λ t. TellsHeld t []) (sym same) (tells-some a.told world.held tells) })
 
-      over : (p : Profile) (es : Entries) (held : Lookup) (bs : List ℕ) → StaysNamed X N a.told b.told p es → Calm a b → IsOwnRefusal why ⊎ ((said held ≡ Err why) × (h2 ≡ h)) → DoesOver X N a.told b.told p es [] (reply X N (Cat path) (in_world p es held bs)) (Err why) h h2
+      over : (p : Profile) (es : Entries) (held : Lookup) (bs : Outside) → StaysNamed X N a.told b.told p es → Calm a b → IsOwnRefusal why ⊎ ((said held ≡ Err why) × (h2 ≡ h)) → DoesOver X N a.told b.told p es [] (reply X N (Cat path) (in_world p es held bs)) (Err why) h h2
       over p es held bs named calm (inl own) = inl (record { fault = fault.Memory; ends_are = ap (λ (r : Refusal). Err r) (own-wants X a b why own cause calm); loss = tt; stands = names-same X N a.told b.told p es same named })
       over p es held bs named calm (inr is) = inr (record { ends = subst (λ e. EndsBy e (Err why) h h2) (sym is.0) (refl, is.1); stands = names-same X N a.told b.told p es same named })
 
   -- the whole file was sent
   pub cat-sent : IfSome a.told (λ t. (bytes : List ℕ) × (said (held_at t) ≡ Ok bytes) × (h2 ≡ after h bytes)) → (bytes : List ℕ) → h2 ≡ after h bytes → StaysCalm a b → w2 ≡ w
-      → Does X N (Cat path) (Ok tt) (around a l i h w t0) (around b l i h2 w2 t1)
+      → Does X N (Cat path) (Ok tt) (around a l i h w t0 side) (around b l i h2 w2 t1 side)
   cat-sent says bytes sent calm still = record {
     answers = λ world finds input quiet. answered world finds.held (by-told (λ held. (bytes : List ℕ) × (said held ≡ Ok bytes) × (h2 ≡ after h bytes)) world.held finds.held says);
-    lost = λ p es rows held bs named tells heights input quiet. over p es held bs named (by-told (λ held. (bytes : List ℕ) × (said held ≡ Ok bytes) × (h2 ≡ after h bytes)) held tells says);
+    lost = λ p es rows held bs named tells good heights input quiet. over p es held bs named (by-told (λ held. (bytes : List ℕ) × (said held ≡ Ok bytes) × (h2 ≡ after h bytes)) held tells says);
     prefix = λ world finds input room. whole world.held (by-told (λ held. (bytes : List ℕ) × (said held ≡ Ok bytes) × (h2 ≡ after h bytes)) world.held finds.held says);
     prints = (bytes, tt, sent);
     kinds = tt;
     ready = tt;
     rule = tt;
     reads = counts-still i;
+    host = refl;
     writes = record { rose = λ e. absurd cc; still = λ e. still };
     cause = calm;
     whole = λ s needs stands quiet. absurd cc;
     touches = λ p es bs rows named input heights quiet. tt;
-    touched = λ blames. absurd blames;
+    touched = λ plain blames. absurd blames;
     leaves = record { good = KeepsGood-same X a.told b.told same; head = tt; writes = same; idle = λ p es bs stands quiet is. absurd cc };
   }
     where
       answered : (world : World) → TellsBlocks a.told world.held → (bytes : List ℕ) × (said world.held ≡ Ok bytes) × (h2 ≡ after h bytes) → DoesAnswer X N (Cat path) world (Ok tt) h h2 b.told
       answered world tells is = inr (record { ends = subst (λ e. EndsBy e (Ok tt) h h2) (sym is.1) (refl, is.2); stands = still-tells world.held tells; blocks = subst (λ t. TellsHeld t []) (sym same) (tells-some a.told world.held tells) })
 
-      over : (p : Profile) (es : Entries) (held : Lookup) (bs : List ℕ) → StaysNamed X N a.told b.told p es → (bytes : List ℕ) × (said held ≡ Ok bytes) × (h2 ≡ after h bytes) → DoesOver X N a.told b.told p es [] (reply X N (Cat path) (in_world p es held bs)) (Ok tt) h h2
+      over : (p : Profile) (es : Entries) (held : Lookup) (bs : Outside) → StaysNamed X N a.told b.told p es → (bytes : List ℕ) × (said held ≡ Ok bytes) × (h2 ≡ after h bytes) → DoesOver X N a.told b.told p es [] (reply X N (Cat path) (in_world p es held bs)) (Ok tt) h h2
       over p es held bs named is = inr (record { ends = subst (λ e. EndsBy e (Ok tt) h h2) (sym is.1) (refl, is.2); stands = names-same X N a.told b.told p es same named })
 
       whole : (held : Lookup) → (bytes : List ℕ) × (said held ≡ Ok bytes) × (h2 ≡ after h bytes) → PrintsPart (said held) h h2
@@ -334,21 +345,22 @@ module _ (X : List ℕ → List ℕ) (N : List ℕ → ℕ) (path : DagPath) (a 
 
   -- the output failed
   pub cat-cut : IfSome a.told (λ t. PrintsPart (said (held_at t)) h h2) → (bytes : List ℕ) → h2 ≡ after h bytes → StaysCalm a b → Counts true w w2
-      → Does X N (Cat path) (Err refusal.Write) (around a l i h w t0) (around b l i h2 w2 t1)
+      → Does X N (Cat path) (Err refusal.Write) (around a l i h w t0 side) (around b l i h2 w2 t1 side)
   cat-cut part bytes sent calm counts = record {
     answers = λ world finds input quiet. absurd (not-rose w w2 (counts.rose refl) quiet.output);
-    lost = λ p es rows held bs named tells heights input quiet. absurd (not-rose w w2 (counts.rose refl) quiet.output);
+    lost = λ p es rows held bs named tells good heights input quiet. absurd (not-rose w w2 (counts.rose refl) quiet.output);
     prefix = λ world finds input room. by-told (λ held. PrintsPart (said held) h h2) world.held finds.held part;
     prints = (bytes, tt, whole-printed bytes h h2 sent);
     kinds = refl;
     ready = tt;
     rule = λ is. absurd cc;
     reads = counts-still i;
+    host = refl;
     writes = record { rose = counts.rose; still = λ e. absurd cc };
     cause = calm;
     whole = λ s needs stands quiet. absurd cc;
     touches = λ p es bs rows named input heights quiet. tt;
-    touched = λ blames. absurd blames;
+    touched = λ plain blames. absurd blames;
     leaves = record { good = KeepsGood-same X a.told b.told same; head = ap head_in same; writes = same; idle = λ p es bs stands quiet is. absurd cc };
   }
 

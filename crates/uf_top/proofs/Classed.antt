@@ -10,7 +10,7 @@ use Rattle.uf_store.specs.Contents.{Told}
 use Rattle.uf_store.specs.declared.store.StoreFault.{StoreFault}
 use Rattle.uf_store.specs.declared.store.StoreFault.TheVariants.{Failed, Damaged, Missing, BadBlock, Clash, Memory}
 use Rattle.uf_tree.specs.declared.profile.Profile.{Profile}
-use Rattle.uf_reply.specs.Kinds.{IsOf, RefusalKind, OfRule, OfDag, OfPath, OfLongInput, OfUsage, OfReady, OfRead, OfWrite, OfFailure, OfMissing, OfBadBlock, OfClash, OfMemory, MakesReady, AddsInput, WorksInTree, fault_kind, may_answer, opened_kinds, read_kind, refusal_kind}
+use Rattle.uf_reply.specs.Kinds.{IsOf, RefusalKind, OfRule, OfDag, OfHost, OfPath, OfLongInput, OfUsage, OfReady, OfRead, OfWrite, OfFailure, OfMissing, OfBadBlock, OfClash, OfMemory, OfCar, MakesReady, AddsInput, WorksInTree, fault_kind, may_answer, opened_kinds, read_kind, refusal_kind}
 use Rattle.uf_reply.specs.declared.types.Command.{Command}
 use Rattle.uf_reply.specs.declared.types.Refusal.{Refusal}
 use Rattle.uf_reply.specs.declared.types.Refusal.TheVariants as refusal
@@ -32,6 +32,8 @@ pub row-kinds : (X : List ℕ → List ℕ) (p : Profile) (held : Told) (r : Res
 row-kinds X p held (Ok text) l m row = tt
 row-kinds X p held (Err (refusal.Rule rule)) l m row = refl
 row-kinds X p held (Err (refusal.Dag rule)) l m row = absurd row
+row-kinds X p held (Err (refusal.Car number place)) l m row = absurd row
+row-kinds X p held (Err (refusal.Host rule)) l m row = absurd row
 row-kinds X p held (Err (refusal.BadPath why)) l m row = absurd row
 row-kinds X p held (Err refusal.Usage) l m row = absurd row
 row-kinds X p held (Err refusal.InputTooLong) l m row = absurd row
@@ -44,6 +46,8 @@ row-kinds X p held (Err (refusal.Store f)) l m row = saving-kind f row
 pub read-kinds : (why : Refusal) (told : Told) → IsProfileRead (Err why) told → may_answer AddsInput (refusal_kind why) ≡ true
 read-kinds (refusal.Rule rule) told read = refl
 read-kinds (refusal.Dag rule) told read = absurd read
+read-kinds (refusal.Car number place) told read = absurd read
+read-kinds (refusal.Host rule) told read = absurd read
 read-kinds (refusal.BadPath why) told read = absurd read
 read-kinds refusal.Usage told read = absurd read
 read-kinds refusal.InputTooLong told read = absurd read
@@ -106,6 +110,8 @@ pub opened-of : (r : Result (List ℕ) Refusal) → IsOf opened_kinds r → IsOf
 opened-of (Ok x) h = tt
 opened-of (Err (refusal.Rule rule)) h = refl
 opened-of (Err (refusal.Dag rule)) h = h
+opened-of (Err (refusal.Car number place)) h = h
+opened-of (Err (refusal.Host rule)) h = h
 opened-of (Err (refusal.BadPath why)) h = h
 opened-of (Err refusal.Usage) h = h
 opened-of (Err refusal.InputTooLong) h = h
@@ -118,6 +124,8 @@ pub opened-ready : (told : Told) (command : Command) (r : Result (List ℕ) Refu
 opened-ready told command (Ok x) h = tt
 opened-ready told command (Err (refusal.Rule rule)) h = tt
 opened-ready told command (Err (refusal.Dag rule)) h = tt
+opened-ready told command (Err (refusal.Car number place)) h = tt
+opened-ready told command (Err (refusal.Host rule)) h = tt
 opened-ready told command (Err (refusal.BadPath why)) h = tt
 opened-ready told command (Err refusal.Usage) h = tt
 opened-ready told command (Err refusal.InputTooLong) h = tt
@@ -130,6 +138,7 @@ opened-ready told command (Err (refusal.Store f)) h = tt
 tree-reads : (k : RefusalKind) → may_answer WorksInTree k ≡ true → read_kind k ≡ false
 tree-reads OfRule h = refl
 tree-reads OfDag h = refl
+tree-reads OfHost h = refl
 tree-reads OfPath h = refl
 tree-reads OfUsage h = refl
 tree-reads OfLongInput h = refl
@@ -141,10 +150,12 @@ tree-reads OfMissing h = refl
 tree-reads OfBadBlock h = refl
 tree-reads OfClash h = refl
 tree-reads OfMemory h = refl
+tree-reads OfCar h = refl
 
 init-reads : (k : RefusalKind) → may_answer MakesReady k ≡ true → read_kind k ≡ false
 init-reads OfRule h = refl
 init-reads OfDag h = refl
+init-reads OfHost h = refl
 init-reads OfPath h = refl
 init-reads OfUsage h = refl
 init-reads OfLongInput h = refl
@@ -156,6 +167,7 @@ init-reads OfMissing h = refl
 init-reads OfBadBlock h = refl
 init-reads OfClash h = refl
 init-reads OfMemory h = refl
+init-reads OfCar h = refl
 
 pub tree-counts : (r : Result (List ℕ) Refusal) (i : ℕ) → IsOf (may_answer WorksInTree) r → Counts (is_read r) i i
 tree-counts (Ok text) i h = counts-still i
@@ -169,6 +181,8 @@ init-counts (Err why) i h = subst (λ b. Counts b i i) (sym (init-reads (refusal
 pub head-counts : (why : Refusal) (told : Told) (i : ℕ) → IsProfileRead (Err why) told → Counts (is_read {A = List ℕ} (Err why)) i i
 head-counts (refusal.Rule rule) told i read = absurd read
 head-counts (refusal.Dag rule) told i read = absurd read
+head-counts (refusal.Car number place) told i read = absurd read
+head-counts (refusal.Host rule) told i read = absurd read
 head-counts (refusal.BadPath why) told i read = absurd read
 head-counts refusal.Usage told i read = absurd read
 head-counts refusal.InputTooLong told i read = absurd read

@@ -5,14 +5,13 @@ use Rattle.uf_edge.specs.Counts.{Stood}
 use Rattle.uf_mfs.specs.Answers as tree
 use Rattle.uf_mfs.specs.Answers.{ShownInTree}
 use Rattle.uf_cid.specs.declared.cid.Cid.{Cid}
-use Rattle.uf_mfs.specs.Bad.{IsBad, IsBadInTree}
+use Rattle.uf_mfs.specs.Bad.{IsBadInTree}
 use Rattle.uf_mfs.specs.Moving.{GivesOr, IsOntoItself}
 use Rattle.uf_mfs.specs.Reading.{AreHeights}
 use Rattle.uf_mfs.specs.Standing.{StandsAfter, StandsAt, StandsOver}
 use Rattle.uf_mfs.specs.Steps.{MovesTree, tree_fault}
 use Rattle.uf_mfs.specs.Touches.{CountsUp, TouchesFolder}
-use Rattle.uf_mfs.specs.Writes.{IsBadWritten, IsBadWrittenIn}
-use Rattle.uf_mfs.proofs.Judging.{written-bad}
+use Rattle.uf_mfs.specs.Writes.{IsBadWrittenIn}
 use Rattle.uf_mfs.specs.declared.fault.MfsFault.{MfsFault}
 use Rattle.uf_mfs.specs.declared.fault.MfsFault.TheVariants as mfs
 use Rattle.uf_mfs.specs.declared.mfs.Mfs.{Mfs}
@@ -37,7 +36,7 @@ use Rattle.uf_tree.specs.Tree.{Tree, File, Dir, Entries}
 use Rattle.uf_tree.specs.TreePlan.{blocks}
 use Rattle.uf_tree.specs.declared.profile.Profile.{Profile}
 use Rattle.uf_reply.specs.Commands.{has_nothing_to_do, is_file_at, is_itself, is_onto_itself}
-use Rattle.uf_reply.specs.Reply.{edited_by}
+use Rattle.uf_top.specs.Reply.{edited_by}
 use Rattle.uf_reply.specs.declared.types.Edit.{Edit}
 use Rattle.uf_reply.specs.declared.types.Edit.TheVariants.{Mkdir, Write}
 use Rattle.uf_top.specs.Bounds.{touches_of_edit}
@@ -100,18 +99,11 @@ shown-tree-by X P Q more (Err mfs.Sink) a b h = h
 shown-tree-by X P Q more (Err (mfs.Store f)) a b h = shown-by X P Q (Some f) a b more h
 
 module _ (X : List ℕ → List ℕ) (N : List ℕ → ℕ) (p : Profile) (r : Result (Unit {0}) MfsFault) (a b : Seen) where
-  pub way-shown : (root : Cid) → ShownInTree X (IsBadInTree X N (Some p) root) r a b → ShownInTree X (IsBadWritten X N p b.told) r a b
-  way-shown root h = shown-tree-by X (IsBadInTree X N (Some p) root) (IsBadWritten X N p b.told) (λ role bytes bad. inl bad.bad) r a b h
-
-  -- a move puts where the tree isn't what it was
-  pub move-shown : ShownInTree X (IsBad N (Some p)) r a b → ShownInTree X (IsBadWritten X N p b.told) r a b
-  move-shown h = shown-tree-by X (IsBad N (Some p)) (IsBadWritten X N p b.told) (λ role bytes bad. inl bad) r a b h
-
-  pub file-shown : (root : Cid) → ShownInTree X (IsBadWrittenIn X N p b.told root) r a b → ShownInTree X (IsBadWritten X N p b.told) r a b
-  file-shown root h = shown-tree-by X (IsBadWrittenIn X N p b.told root) (IsBadWritten X N p b.told) (written-bad X N p b.told root) r a b h
+  pub way-shown : (root : Cid) → ShownInTree X (IsBadInTree X N (Some p) root) r a b → ShownInTree X (IsBadWrittenIn X N p b.told root) r a b
+  way-shown root h = shown-tree-by X (IsBadInTree X N (Some p) root) (IsBadWrittenIn X N p b.told root) (λ role bytes bad. inl bad) r a b h
 
 module _ (X : List ℕ → List ℕ) (N : List ℕ → ℕ) (was is : Mfs) (path : Path) (a b : Seen) (t0 t1 : ℕ) (r : Result (Unit {0}) MfsFault)
-    (cause : ShownInTree X (IsBadWritten X N was.profile b.told) r a b) (up : CountsUp (tree_fault r) t0 t1)
+    (cause : ShownInTree X (IsBadWrittenIn X N was.profile b.told was.root.cid) r a b) (up : CountsUp (tree_fault r) t0 t1)
     (good : KeepsGood X a.told b.told) (saves : SavesOnly X a.told b.told) where
   -- an edit that is told with its path
   pub told-edit : (edit : Edit) (next : Profile → Entries → Result Entries Refused)

@@ -28,6 +28,8 @@ before-nil (Some rest) = refl
 pub stopped-more : (A B : Type 0) (why : Refusal) → (A → B) → IsStopped A why → IsStopped B why
 stopped-more A B (refusal.Rule rule) more h = (h.0, more h.1)
 stopped-more A B (refusal.Dag rule) more h = h
+stopped-more A B (refusal.Car number place) more h = h
+stopped-more A B (refusal.Host rule) more h = h
 stopped-more A B (refusal.BadPath why) more h = h
 stopped-more A B refusal.Usage more h = h
 stopped-more A B refusal.InputTooLong more h = h

@@ -8,7 +8,7 @@ use Rattle.uf_edge.specs.Streams as streams
 use Rattle.uf_fileread.specs.Ranges.{AppendsAtMost}
 use Rattle.uf_mfs.specs.Answers as tree
 use Rattle.uf_mfs.specs.Answers.{ShownOpening}
-use Rattle.uf_mfs.specs.Bad.{IsBad}
+use Rattle.uf_mfs.specs.Bad.{IsBadInHead}
 use Rattle.uf_mfs.specs.Reading.{AreHeights, CanRise, IsBadRead, IsHeightOf, SendsAll, ShownSending, range_needs, range_touches, to_read}
 use Rattle.uf_mfs.specs.Standing.{NamesOver, Opens, OpensOver, ReadsHead, StandsAt, StandsOver, TellsAs, head_in}
 use Rattle.uf_mfs.specs.Steps.{tree_fault}
@@ -41,7 +41,7 @@ use Rattle.uf_tree.specs.TreePlan.{blocks}
 use Rattle.uf_tree.specs.declared.profile.Profile.{Profile}
 use Rattle.uf_reply.specs.Commands.{NoWrites}
 use Rattle.uf_reply.specs.Kinds.{IsOf, WorksInTree, fault_behind, fault_kind, may_end, refusal_fault}
-use Rattle.uf_reply.specs.Reply.{in_tree, looked, read_reply}
+use Rattle.uf_top.specs.Reply.{in_tree, looked, read_reply}
 use Rattle.uf_reply.specs.Statuses.{ended, fault_status, no_memory, status_of}
 use Rattle.uf_reply.specs.declared.status.Status.TheVariants as status
 use Rattle.uf_reply.specs.declared.types.Ask.TheVariants.{Stat}
@@ -50,7 +50,7 @@ use Rattle.uf_reply.specs.declared.types.Command.TheVariants.{At, Read}
 use Rattle.uf_reply.specs.declared.types.Refusal.{Refusal}
 use Rattle.uf_reply.specs.declared.types.Refusal.TheVariants as refusal
 use Rattle.uf_top.specs.Answering.{DoesReply, DoesWant}
-use Rattle.uf_top.specs.Around.{RisesFor, around}
+use Rattle.uf_top.specs.Around.{HostSide, RisesFor, around}
 use Rattle.uf_top.specs.Causes.{IsBadIn, IsReady, IsReadyBy, IsSendingFault, RefusesOpening, RefusesSending, is_read, is_write}
 use Rattle.uf_top.specs.Endings.{FindsAll, PrintsAt, PrintsPart, RuleOf}
 use Rattle.uf_top.specs.Losing.{DoesOver, part_needs}
@@ -61,14 +61,16 @@ use Rattle.uf_top.proofs.Classed.{opening-kinds, tree-counts}
 use Rattle.uf_top.proofs.Finding.{read-whole}
 use Rattle.uf_top.proofs.InTree.{not-opened, opening-ready}
 use Rattle.uf_top.proofs.Losing.{names-of, names-same, opening-over}
-use Rattle.uf_top.proofs.Printing.{after-nothing, refused-does, whole-printed}
-use Rattle.uf_top.proofs.Shows.{Shown-opening, bad-of-none, counts-still, opening-touched}
+use Rattle.uf_top.proofs.Printing.{after-nothing, made-text, refused-does, whole-printed}
+use Rattle.uf_top.proofs.Shows.{Shown-opening, bad-of-none, counts-still, head_of, opening-touched}
 use Rattle.uf_top.proofs.Standings.{stands-same, tells-none}
 
 -- the reason that holds of one command on the tree holds of another
 ready-read : (offset count : ℕ) (path : Path) (told : Told) (w : Refusal) → IsReadyBy told (At Stat path) w → IsReadyBy told (Read offset count path) w
 ready-read offset count path told (refusal.Rule rule) h = tt
 ready-read offset count path told (refusal.Dag rule) h = tt
+ready-read offset count path told (refusal.Car number place) h = tt
+ready-read offset count path told (refusal.Host rule) h = tt
 ready-read offset count path told (refusal.BadPath why) h = tt
 ready-read offset count path told refusal.InputTooLong h = tt
 ready-read offset count path told refusal.Usage h = tt
@@ -292,14 +294,14 @@ not-sink w v hash P a b (Err (mfs.Ready why)) shown stood = λ e. cc
 not-sink w v hash P a b (Err mfs.Sink) shown stood = λ e. (let rose = shown.1 in omega (arith, rose, stood))
 not-sink w v hash P a b (Err (mfs.Store f)) shown stood = λ e. cc
 
-module _ (X : List ℕ → List ℕ) (N : List ℕ → ℕ) (offset count : ℕ) (path : Path) (a m : Seen) (told : m.told ≡ a.told) (l : streams.Told) (i : ℕ) (h : streams.Told) (w t0 t1 : ℕ) (opens_by : t1 ≤ t0 + 1) where
+module _ (X : List ℕ → List ℕ) (N : List ℕ → ℕ) (offset count : ℕ) (path : Path) (a m : Seen) (told : m.told ≡ a.told) (l : streams.Told) (i : ℕ) (h : streams.Told) (w t0 t1 : ℕ) (opens_by : t1 ≤ t0 + 1) (side : HostSide) where
   -- ---- the tree isn't opened
 
   pub send-unopened : (f : MfsFault) (why : Refusal) → RefusesOpening f why → ((s : Standing) → TellsAs X N a.told s → Stood a.faults m.faults → Opens X N m.told s (Err f))
       → ((p : Profile) (es : Entries) → NamesOver X N a.told p es → Stood a.faults m.faults → OpensOver X N a.told p es (Err f))
-      → ReadsHead a.told (Err f) → CountsUp (tree_fault {A = Mfs} (Err f)) t0 t1 → ShownOpening X (IsBad N None) {A = Mfs} (Err f) a m
-      → Does X N (Read offset count path) (Err why) (around a l i h w t0) (around m l i h w t1)
-  send-unopened f why is opens lost head up cause = refused-does X N (Read offset count path) refl a m l l i i t0 t1 h w why makes
+      → ReadsHead a.told (Err f) → CountsUp (tree_fault {A = Mfs} (Err f)) t0 t1 → ShownOpening X (IsBadInHead X N a.told) {A = Mfs} (Err f) a m
+      → Does X N (Read offset count path) (Err why) (around a l i h w t0 side) (around m l i h w t1 side)
+  send-unopened f why is opens lost head up cause = refused-does X N (Read offset count path) refl a m l l i i t0 t1 h w side side why (made-text X N (Read offset count path) refl a m l l i i t0 t1 h w side (λ text. tt) (Err why) makes)
     where
       makes : Makes X N (Read offset count path) (Err why) a m l l i i t0 t1
       makes = record {
@@ -311,7 +313,7 @@ module _ (X : List ℕ → List ℕ) (N : List ℕ → ℕ) (offset count : ℕ)
         ready = ready-read offset count path a.told why (opening-ready a.told Stat path f why is head);
         adds = tt;
         counts = tree-counts (Err why) i (opening-kinds f why is);
-        cause = Shown-opening Mfs X (IsBad N None) (IsBadIn X N a.told m.told) (bad-of-none X N a.told m.told) f why a m is cause;
+        cause = Shown-opening Mfs X (IsBadInHead X N a.told) (IsBadIn X N a.told m.told) (bad-of-none X N a.told m.told) f why a m is cause;
         touches = λ p es bytes rows named input heights calm. omega (arith, opens_by);
         whole = λ s stands calm. read-whole X N s offset count path.names (Err why) m.told
             (not-opened X N s (read_reply offset count path.names) f why m.told is (opens s stands calm.faults) (stands-same X N a.told m.told s told stands));
@@ -323,7 +325,7 @@ module _ (X : List ℕ → List ℕ) (N : List ℕ → ℕ) (offset count : ℕ)
 
   module _ (found : Mfs) (opens : (s : Standing) → TellsAs X N a.told s → Stood a.faults m.faults → Opens X N m.told s (Ok found))
       (over : (p : Profile) (es : Entries) → NamesOver X N a.told p es → Stood a.faults m.faults → OpensOver X N a.told p es (Ok found))
-      (up : CountsUp None t0 t1) (calm : StaysCalm a m)
+      (head : ReadsHead a.told (Ok found)) (up : CountsUp None t0 t1) (calm : StaysCalm a m)
       (b : Seen) (h2 : streams.Told) (w2 t2 : ℕ) (r : Result ℕ MfsFault) (done : Result (Unit {0}) Refusal) (sent : SentAs r done)
       (answer : (p : Profile) (es : Entries) → StandsAt X N m.told found p es → Stood m.faults b.faults → r ≢ Err mfs.Sink
       → tree.Answers (λ bytes n. SendsAll h h2 bytes n) path.names (range_at offset count path.names es) r)
@@ -383,10 +385,10 @@ module _ (X : List ℕ → List ℕ) (N : List ℕ → ℕ) (offset count : ℕ)
             let calm2 = subst (λ q. ShownSending X (IsBadRead X N m.told found.root.cid) q m b w w2) is cause in
             lost p es height at high (stood-calm m.faults b.faults calm2.0.faults (room-kept had)) (λ e. (let k : Ok n ≡ Err mfs.Sink = sym is ∙ e in cc))
 
-    pub sends-does : Does X N (Read offset count path) done (around a l i h w t0) (around b l i h2 w2 t2)
+    pub sends-does : Does X N (Read offset count path) done (around a l i h w t0 side) (around b l i h2 w2 t2 side)
     sends-does = record {
       answers = λ world finds input quiet. ok-answer world.standing finds.stands quiet.store.faults (not-sink w w2 X (IsBadRead X N m.told found.root.cid) m b r cause quiet.output);
-      lost = λ p es rows held bytes named tells heights input quiet.
+      lost = λ p es rows held bytes named tells good heights input quiet.
           let stood = quiet.store.faults in let at = opened-over p es named.names (front stood) in
           let needs = part_needs X N rows offset count path.names p es in
           answered-over X N path.names h h2 a.told b.told p es (root_of X N p (Dir es)) needs (range_at offset count path.names es) r done sent
@@ -399,13 +401,14 @@ module _ (X : List ℕ → List ℕ) (N : List ℕ → ℕ) (offset count : ℕ)
       ready = sent-ready a.told (Read offset count path) done kind;
       rule = sent-rule offset count path a.told l l done kind;
       reads = sent-reads done i kind;
+      host = refl;
       writes = sending-counts X (IsBadRead X N m.told found.root.cid) m b w w2 r done sent cause;
       cause = shown-after X (IsBadIn X N a.told b.told) (refusal_fault done) a m b calm
           (shown-by X (IsBadRead X N m.told found.root.cid) (IsBadIn X N a.told b.told) (refusal_fault done) m b (λ role bytes bad. bad-of-read (subst (λ t. IsBadRead X N t found.root.cid role bytes) told bad)) (sending-shown X (IsBadRead X N m.told found.root.cid) m b w w2 r done sent cause));
       whole = λ s needs stands quiet. finds s stands quiet.faults;
       touches = λ p es bytes rows named input heights quiet.
           let more = touches p es rows (opened-over p es named.names (front quiet.faults)) heights (back quiet.faults) in omega (arith, opens_by, more);
-      touched = by-kind;
+      touched = λ plain. by-kind;
       leaves = record { good = KeepsGood-same X a.told b.told same; head = if-err done _ (ap head_in same); writes = same-writes; idle = λ p es bytes stands calm same. absurd cc };
     }
       where
@@ -418,7 +421,7 @@ module _ (X : List ℕ → List ℕ) (N : List ℕ → ℕ) (offset count : ℕ)
         by-kind = (counts-then up (sent-touched r done t1 t2 sent touched)).risen
 
         bad-of-read : {role : Role} {bytes : List ℕ} → IsBadRead X N a.told found.root.cid role bytes → IsBadIn X N a.told b.told role bytes
-        bad-of-read (inl bad) = inl bad.bad
+        bad-of-read (inl bad) = inl (record { head = head_of found; is_told = head; bad = bad })
         bad-of-read (inr bad) = inr (inl bad)
 
         same-writes : WritesAs X NoWrites (is_done (ended done)) a.told b.told

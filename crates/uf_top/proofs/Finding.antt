@@ -23,7 +23,7 @@ use Rattle.uf_reply.specs.Commands.{IsOfWords}
 use Rattle.uf_top.specs.Endings.{FindsAll}
 use Rattle.uf_top.specs.Answering.{Answers}
 use Rattle.uf_plain.specs.Files.{read}
-use Rattle.uf_reply.specs.Reply.{Reply, edited_by, in_tree, looked, moved, tree_reply, read_reply}
+use Rattle.uf_top.specs.Reply.{Reply, edited_by, in_tree, looked, moved, tree_reply, read_reply}
 use Rattle.uf_reply.specs.Statuses.{ended}
 
 -- ---- no block is missing or bad
@@ -48,6 +48,8 @@ memory-finds = (λ e. cc, λ e. cc)
 pub kind-finds : (why : Refusal) → refusal_kind why ≢ OfMissing → refusal_kind why ≢ OfBadBlock → Finds (Err why)
 kind-finds (refusal.Rule rule) missing bad = rule-finds
 kind-finds (refusal.Dag rule) missing bad = rule-finds
+kind-finds (refusal.Car number place) missing bad = rule-finds
+kind-finds (refusal.Host rule) missing bad = rule-finds
 kind-finds (refusal.BadPath why) missing bad = rule-finds
 kind-finds refusal.Usage missing bad = (λ e. cc, λ e. cc)
 kind-finds refusal.InputTooLong missing bad = (λ e. cc, λ e. cc)

@@ -18,9 +18,9 @@ use Rattle.uf_tree.specs.Tree.{Tree, Entries}
 use Rattle.uf_tree.specs.declared.head_fault.HeadFault.{HeadFault}
 use Rattle.uf_tree.specs.declared.profile.Profile.{Profile}
 use Rattle.uf_path.specs.declared.path.Path.{Path}
-use Rattle.uf_top.specs.Causes.{HeadSays, HeadStays, IsMade, IsProfileOf, IsReady, IsReason, IsUnread, RefusesInTree, RefusesOpening}
+use Rattle.uf_top.specs.Causes.{HeadStays, IsMade, IsReady, IsReason, IsUnread, RefusesInTree, RefusesOpening}
 use Rattle.uf_top.specs.Answering.{Answers}
-use Rattle.uf_reply.specs.Reply.{Reply, in_tree, init_reply, looked, moved, not_ready, refused}
+use Rattle.uf_top.specs.Reply.{Reply, in_tree, init_reply, looked, moved, not_ready, refused}
 use Rattle.uf_reply.specs.Statuses.{no_memory}
 use Rattle.uf_reply.specs.declared.types.Ask.{Ask}
 use Rattle.uf_reply.specs.declared.types.Command.TheVariants.{Init, At}
@@ -144,15 +144,6 @@ module _ (X : List ℕ → List ℕ) (N : List ℕ → ℕ) where
       inr (record { ends_are = ap (λ (x : List ℕ). Ok x) nothing; stands = c.1; held = c.0.root.held })
 
 -- ---- over every store
-
--- what the Head said of an opened tree
-says-of : (head : Option (List ℕ)) (m : Mfs) (text : List ℕ) → head ≡ Some text → head_reads text ≡ Ok (record { profile = m.profile; root = m.root.cid }) → HeadSays head m.profile
-says-of None m text is reads = absurd cc
-says-of (Some given) m text is reads = (m.root.cid, (let same : given ≡ text = cc in ap head_reads same ∙ reads))
-
-pub opened-says : (told : Told) (m : Mfs) → ReadsHead told (Ok m) → IsProfileOf told m.profile
-opened-says None m h = tt
-opened-says (Some t) m h = says-of t.notes.head m h.0 h.1 h.2
 
 unread-of : (head : Option (List ℕ)) (text : List ℕ) (why : HeadFault) → head ≡ Some text → head_reads text ≡ Err why → IsUnread head
 unread-of None text why is unread = absurd cc

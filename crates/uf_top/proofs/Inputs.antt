@@ -19,7 +19,7 @@ use Rattle.uf_tree.specs.declared.profile.Profile.{Profile}
 use Rattle.uf_plain.specs.declared.ready.Ready.TheVariants as ready
 use Rattle.uf_reply.specs.Commands.{SyncsBlocks, command_writes}
 use Rattle.uf_reply.specs.Kinds.{refusal_fault}
-use Rattle.uf_reply.specs.Reply.{add_reply}
+use Rattle.uf_top.specs.Reply.{add_reply}
 use Rattle.uf_reply.specs.declared.types.Command.TheVariants.{Add}
 use Rattle.uf_reply.specs.declared.types.Refusal.{Refusal}
 use Rattle.uf_reply.specs.declared.types.Refusal.TheVariants as refusal
@@ -59,7 +59,7 @@ module _ (X : List ℕ → List ℕ) (hash : IsHash X) (N : List ℕ → ℕ) (a
   pub head-unread : (only_hash : Bool) (why : Refusal) → IsProfileRead (Err why) a.told → ShownIn {A = Option Profile} X (Err why) a m → Makes X N (Add only_hash) (Err why) a m l l i i t0 t0
   head-unread only_hash why read shown = record {
     answers = λ world stands input calm. let s = world.standing in let bytes = world.input in head-refused X hash N s only_hash bytes why a m stands (stands-same X N a.told m.told s told stands) read shown calm.faults calm.clashes;
-    lost = λ p es heights held bytes named input calm.
+    lost = λ p es heights held outside named input calm. let bytes = outside.input in
         unread-over X hash N p es (add_reply X only_hash (Stands p es) bytes) why a m named.names (names-same X N a.told m.told p es told named) read shown calm.faults calm.clashes;
     kinds = read-kinds why a.told read;
     ready = read-ready only_hash a.told why read;
@@ -76,7 +76,7 @@ module _ (X : List ℕ → List ℕ) (hash : IsHash X) (N : List ℕ → ℕ) (a
   pub no-head : IfSome a.told (λ t. t.notes.head ≡ None) → StaysCalm a m → Makes X N (Add false) (Err (refusal.Ready ready.NoHead)) a m l l i i t0 t0
   no-head none calm = record {
     answers = λ world stands input calm2. let s = world.standing in let bytes = world.input in head-absent X N s bytes a.told m.told stands (stands-same X N a.told m.told s told stands) none;
-    lost = λ p es heights held bytes named input calm2. absurd (names-there X N a.told p es named.names none);
+    lost = λ p es heights held outside named input calm2. let bytes = outside.input in absurd (names-there X N a.told p es named.names none);
     kinds = refl;
     ready = none;
     adds = tt;
@@ -103,7 +103,7 @@ module _ (X : List ℕ → List ℕ) (hash : IsHash X) (N : List ℕ → ℕ) (a
               add-answers X hash N s p bytes r a.told b.told stands says
               (added-answers X N s (plan_blocks X p) p bytes r b.told m b l k i j now (λ bs h. tells-held X N b.told s _ now h) row given.0 shown
               (stood-back a.faults m.faults b.faults calm.faults calm2.faults) (stood-back a.clashes m.clashes b.clashes calm.clashes calm2.clashes) counts given.1);
-          lost = λ q es heights held bytes named input calm2.
+          lost = λ q es heights held outside named input calm2. let bytes = outside.input in
               let given = input refl in
               add-over X hash N q p es bytes r a.told b.told named.names says (λ same.
               added-over X N a.told b.told q es (plan_blocks X q) bytes r b.told m b l k i j (names-kept X N a.told b.told q es good head named)
@@ -131,7 +131,7 @@ module _ (X : List ℕ → List ℕ) (hash : IsHash X) (N : List ℕ → ℕ) (a
               let usual_row : IsRowOf X (or_usual found) None r l k = subst (λ p. IsRowOf X p None r l k) is row in
               hash-answers X hash N s found bytes r a.told m.told stands says
               (added-answers X N s (λ bytes. []) (or_usual found) bytes r None a m l k i j mid (λ bs h. tells-none X N m.told s mid) usual_row given.0 shown calm2.faults calm2.clashes counts given.1);
-          lost = λ q es heights held bytes named input calm2.
+          lost = λ q es heights held outside named input calm2. let bytes = outside.input in
               let given = input refl in
               hash-over X hash N found q es bytes r a.told m.told named.names says (λ same.
               added-over X N a.told m.told q es (λ bytes. []) bytes r None a m l k i j (names-same X N a.told m.told q es told named)

@@ -26,7 +26,7 @@ use Rattle.uf_tree.specs.Tree.{Tree, Dir, Entries}
 use Rattle.uf_tree.specs.TreePlan.{blocks, entry}
 use Rattle.uf_tree.specs.declared.nodes.Entry.{Entry}
 use Rattle.uf_tree.specs.declared.profile.Profile.{Profile}
-use Rattle.uf_reply.specs.Reply.{Reply, init_reply, looked, moved, refused}
+use Rattle.uf_top.specs.Reply.{Reply, init_reply, looked, moved, refused}
 use Rattle.uf_reply.specs.Statuses.{no_memory}
 use Rattle.uf_reply.specs.declared.types.Refusal.{Refusal}
 use Rattle.uf_reply.specs.declared.types.Refusal.TheVariants as refusal

@@ -4,12 +4,12 @@ use Rattle.std.specs.Prelude.{IfSome}
 use Rattle.uf_edge.specs.Counts.{Stood}
 use Rattle.uf_edge.specs.Streams as streams
 use Rattle.uf_mfs.specs.Answers.{ShownOpening}
-use Rattle.uf_mfs.specs.Bad.{IsBad}
+use Rattle.uf_mfs.specs.Bad.{IsBadInHead}
 use Rattle.uf_mfs.specs.Opening.{IsOfMaking}
 use Rattle.uf_mfs.specs.Steps.{tree_fault}
 use Rattle.uf_mfs.specs.Touches.{CountsUp}
 use Rattle.uf_mfs.specs.Standing.{Commits, FindsHead, Inits, LeavesHead, NamesOver, Opens, OpensOver, ReadsHead, Same, SavesThen, StandsOver, TellsAs, head_in}
-use Rattle.uf_mfs.specs.Writes.{IsBadWritten}
+use Rattle.uf_mfs.specs.Writes.{IsBadWrittenIn}
 use Rattle.uf_mfs.specs.declared.fault.MfsFault.{MfsFault}
 use Rattle.uf_mfs.specs.declared.mfs.Mfs.{Mfs}
 use Rattle.uf_mfs.proofs.Counting.{counts-then}
@@ -28,7 +28,7 @@ use Rattle.uf_tree.specs.Tree.{Dir, Entries}
 use Rattle.uf_tree.specs.declared.profile.Profile.{Profile}
 use Rattle.uf_reply.specs.Commands.{ask_writes}
 use Rattle.uf_reply.specs.Kinds.{fault_behind, refusal_fault}
-use Rattle.uf_reply.specs.Reply.{tree_reply}
+use Rattle.uf_top.specs.Reply.{tree_reply}
 use Rattle.uf_reply.specs.declared.types.Ask.{Ask}
 use Rattle.uf_reply.specs.declared.types.Ask.TheVariants.{Ls, Stat, Edit as Edits}
 use Rattle.uf_reply.specs.declared.types.Command.TheVariants.{Init, At}
@@ -37,7 +37,7 @@ use Rattle.uf_top.specs.Causes.{HeadStays, IsBadIn, RefusesOpening}
 use Rattle.uf_top.specs.Losing.{AnswersOver, ask_needs}
 use Rattle.uf_top.specs.Shapes.{WritesAs, is_ok}
 use Rattle.uf_top.specs.Working.{Makes, WorksAt}
-use Rattle.uf_top.proofs.InTree.{init-ready, inits-err, inits-ok, not-opened, opened, opened-says, opening-ready, stays-nothing}
+use Rattle.uf_top.proofs.InTree.{init-ready, inits-err, inits-ok, not-opened, opened, opening-ready, stays-nothing}
 use Rattle.uf_top.proofs.Classed.{init-counts, init-kinds, opened-of, opened-ready, opening-kinds, tree-counts}
 use Rattle.uf_top.proofs.Finding.{at-whole, init-looks}
 use Rattle.uf_top.proofs.Losing.{inits-over, named-from, names-kept, names-same, not-inited, opening-over, over-more}
@@ -57,7 +57,7 @@ module _ (X : List ℕ → List ℕ) (N : List ℕ → ℕ) where
     -- the tree isn't opened
     pub at-refused : (f : MfsFault) (w : Refusal) → RefusesOpening f w → ((s : Standing) → TellsAs X N a.told s → Stood a.faults m.faults → Opens X N m.told s (Err f))
         → ((p : Profile) (es : Entries) → NamesOver X N a.told p es → Stood a.faults m.faults → OpensOver X N a.told p es (Err f))
-        → ReadsHead a.told (Err f) → CountsUp (tree_fault {A = Mfs} (Err f)) t0 t1 → ShownOpening X (IsBad N None) {A = Mfs} (Err f) a m → Makes X N (At ask path) (Err w) a m left left reads reads t0 t1
+        → ReadsHead a.told (Err f) → CountsUp (tree_fault {A = Mfs} (Err f)) t0 t1 → ShownOpening X (IsBadInHead X N a.told) {A = Mfs} (Err f) a m → Makes X N (At ask path) (Err w) a m left left reads reads t0 t1
     at-refused f w is opens lost head up cause = record {
       answers = λ world stands input calm. let s = world.standing in let bytes = world.input in not-opened X N s (tree_reply X N ask path.names) f w m.told is (opens s stands calm.faults) (stands-same X N a.told m.told s told stands);
       lost = λ p es heights held bytes named input calm.
@@ -67,7 +67,7 @@ module _ (X : List ℕ → List ℕ) (N : List ℕ → ℕ) where
       ready = opening-ready a.told ask path f w is head;
       adds = tt;
       counts = tree-counts (Err w) reads (opening-kinds f w is);
-      cause = Shown-opening Mfs X (IsBad N None) (IsBadIn X N a.told m.told) (bad-of-none X N a.told m.told) f w a m is cause;
+      cause = Shown-opening Mfs X (IsBadInHead X N a.told) (IsBadIn X N a.told m.told) (bad-of-none X N a.told m.told) f w a m is cause;
       touches = λ p es bytes rows named input heights calm. omega (arith, opens_by);
       whole = λ s stands calm. at-whole X N s ask path.names (Err w) m.told
           (not-opened X N s (tree_reply X N ask path.names) f w m.told is (opens s stands calm.faults) (stands-same X N a.told m.told s told stands));
@@ -80,7 +80,7 @@ module _ (X : List ℕ → List ℕ) (N : List ℕ → ℕ) where
         → ((p : Profile) (es : Entries) → NamesOver X N a.told p es → Stood a.faults m.faults → OpensOver X N a.told p es (Ok mfs))
         → ReadsHead a.told (Ok mfs) → CountsUp None t0 t1 → StaysCalm a m → WorksAt X N mfs ask path r m b t1 t2 → Makes X N (At ask path) r a b left left reads reads t0 t2
     at-opened mfs r b t2 opens lost head up calm works =
-        let rises = shown-rises X (IsBadWritten X N mfs.profile b.told) (refusal_fault r) m b works.cause in
+        let rises = shown-rises X (IsBadWrittenIn X N mfs.profile b.told mfs.root.cid) (refusal_fault r) m b works.cause in
         let kinds = opened-of r works.kinds in
         record {
           answers = λ world stands input calm2. let s = world.standing in let bytes = world.input in
@@ -98,7 +98,7 @@ module _ (X : List ℕ → List ℕ) (N : List ℕ → ℕ) where
           adds = tt;
           counts = tree-counts r reads kinds;
           cause = shown-after X (IsBadIn X N a.told b.told) (refusal_fault r) a m b calm
-              (shown-by X (IsBadWritten X N mfs.profile b.told) (IsBadIn X N a.told b.told) (refusal_fault r) m b (bad-of-head X N a.told b.told mfs.profile (opened-says a.told mfs head)) works.cause);
+              (shown-by X (IsBadWrittenIn X N mfs.profile b.told mfs.root.cid) (IsBadIn X N a.told b.told) (refusal_fault r) m b (bad-of-head X N a.told b.told mfs head) works.cause);
           touches = λ p es bytes rows named input heights calm2.
               let at = lost p es named.names (stood-front a.faults m.faults b.faults calm.faults rises.faults calm2.faults) in
               let more = works.touches p es rows (subst (λ t. StandsOver X N t mfs p es) (sym told) at) (named-from X N a.told m.told b.told p es told named) heights

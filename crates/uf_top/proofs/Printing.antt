@@ -1,7 +1,10 @@
 -- From the text of a command that is made before anything is printed to the command that is done.
 use Rattle.std.proofs.Common.{◌≡◌, ◌≢◌, ◌⊎◌, ℕ, ◌<◌, ◌≤◌, ◌+◌, List, [], ◌∷◌, ◌++◌, length, take, true, false, arith, refl, sym, ap, subst, ◌∙◌, inl, inr, append-nil, Some, None, Bool, Result, Ok, Err}
+use Rattle.std.specs.Prelude.{◌&&◌, not, IfOk}
 use Rattle.uf_cid.specs.Blocks.{Held, Lookup}
+use Rattle.uf_cid.specs.declared.cid.Cid.{Cid}
 use Rattle.uf_edge.specs.Counts.{Counts, Stood}
+use Rattle.uf_edge.specs.Host.{HostTold}
 use Rattle.uf_edge.specs.Streams.{after, AppendsPrefix}
 use Rattle.uf_edge.specs.Streams as streams
 use Rattle.uf_mfs.specs.Reading.{CanRise}
@@ -18,27 +21,29 @@ use Rattle.uf_tree.specs.Standing.{Standing, NoHead, BadHead, Stands}
 use Rattle.uf_tree.specs.Tree.{Dir, Entries}
 use Rattle.uf_tree.specs.TreePlan.{blocks}
 use Rattle.uf_tree.specs.declared.profile.Profile.{Profile}
-use Rattle.uf_reply.specs.Commands.{HasInput, command_writes, needs_standing}
+use Rattle.uf_reply.specs.Commands.{command_writes, needs_standing, uses_host}
 use Rattle.uf_reply.specs.Commands as commands
-use Rattle.uf_reply.specs.Kinds.{IsOf, OfDag, OfLongInput, OfPath, OfWrite, family_of, fault_behind, may_answer, may_end, refusal_kind}
-use Rattle.uf_reply.specs.Reply.{Reply, World, reply}
+use Rattle.uf_reply.specs.Kinds.{IsOf, OfCar, OfDag, OfHost, OfLongInput, OfPath, OfWrite, family_of, fault_behind, may_answer, may_end, refusal_kind}
+use Rattle.uf_top.specs.Reply.{Outside, Reply, World, outside_of, reply, world_of}
 use Rattle.uf_reply.specs.Statuses.{ended, no_memory, status_of}
 use Rattle.uf_reply.specs.declared.status.Status.{Status}
 use Rattle.uf_reply.specs.declared.status.Status.TheVariants as status
 use Rattle.uf_reply.specs.declared.types.Command.{Command}
-use Rattle.uf_reply.specs.declared.types.Command.TheVariants.{Init, Add, WriteInput, At, Read, Cat}
+use Rattle.uf_reply.specs.declared.types.Command.TheVariants.{Init, Add, AddFrom, WriteInput, At, Read, Cat, Export, Import, Adopt}
+use Rattle.uf_reply.specs.declared.types.HostRule.{HostRule}
 use Rattle.uf_reply.specs.declared.types.Refusal.{Refusal}
 use Rattle.uf_reply.specs.declared.types.Refusal.TheVariants as refusal
 use Rattle.uf_store.specs.declared.store.StoreFault.{StoreFault}
 use Rattle.uf_store.specs.declared.store.StoreFault.TheVariants as fault
 use Rattle.uf_top.specs.Answering.{Answers, DoesAnswer}
-use Rattle.uf_top.specs.Around.{Around, CountsCanRise, RisesFor, StaysQuiet, around}
+use Rattle.uf_top.specs.Around.{Around, CountsCanRise, HasOutside, HostSide, RisesFor, StaysQuiet, UsesHost, around}
 use Rattle.uf_top.specs.Causes.{HeadStays, is_read, is_write}
 use Rattle.uf_top.specs.Endings.{AddsFor, EndsBy, FindsAll, IsCut, IsTextOf, PrintsAt, PrintsElse, PrintsPart, Prints, RuleOf}
+use Rattle.uf_top.specs.Hosted.{IsHostedText}
 use Rattle.uf_top.specs.Losing.{AnswersOver, DoesOver}
 use Rattle.uf_top.specs.Naming.{FindsOver, FindsWorld, NamesIf, NamesAs, StandsIf, StandsNamed, StaysNamed}
 use Rattle.uf_top.specs.Shapes.{WritesAs, is_done, is_ok}
-use Rattle.uf_top.specs.Working.{Does, Makes}
+use Rattle.uf_top.specs.Working.{Does, Makes, MakesText}
 
 -- ---- which kinds no command that waits has
 
@@ -49,29 +54,49 @@ no-write (WriteInput how path) h = cc
 no-write (At ask path) h = cc
 no-write (Read offset count path) h = cc
 no-write (Cat path) h = cc
+no-write (Export cid) h = cc
+no-write Import h = cc
+no-write (Adopt source dest) h = cc
+no-write (AddFrom recursive only_hash path) h = cc
 
--- a command that isn't one of those that write while they read waits with its output
-pub waits-of : (command : Command) → ((offset count : ℕ) (path : Path) → command ≡ Read offset count path → ⊥) → ((path : DagPath) → command ≡ Cat path → ⊥) → commands.streams command ≡ false
-waits-of (Init p) other cat = refl
-waits-of (Add only_hash) other cat = refl
-waits-of (WriteInput how path) other cat = refl
-waits-of (At ask path) other cat = refl
-waits-of (Read offset count path) other cat = absurd (other offset count path refl)
-waits-of (Cat path) other cat = absurd (cat path refl)
+-- a command that waits with its output, and reads the tree of the Head alone
+pub record IsStanding (command : Command) : Type 0 where
+  pub waits : commands.streams command ≡ false
+  pub alone : commands.reads_tree_alone command ≡ true
 
--- a command that waits with its output needs what the store stands for
-pub waits-stands : (command : Command) → commands.streams command ≡ false → needs_standing command ≡ true
-waits-stands (Init p) h = refl
-waits-stands (Add only_hash) h = refl
-waits-stands (WriteInput how path) h = refl
-waits-stands (At ask path) h = refl
-waits-stands (Read offset count path) h = absurd cc
-waits-stands (Cat path) h = absurd cc
+-- so is each that isn't one of those with a way of their own
+pub standing-of : (command : Command) → ((offset count : ℕ) (path : Path) → command ≡ Read offset count path → ⊥) → ((path : DagPath) → command ≡ Cat path → ⊥) → ((cid : Cid) → command ≡ Export cid → ⊥) → (command ≡ Import → ⊥)
+    → ((source : DagPath) (dest : Path) → command ≡ Adopt source dest → ⊥) → IsStanding command
+standing-of (Init p) other cat export import adopt = record { waits = refl; alone = refl }
+standing-of (Add only_hash) other cat export import adopt = record { waits = refl; alone = refl }
+standing-of (AddFrom recursive only_hash path) other cat export import adopt = record { waits = refl; alone = refl }
+standing-of (WriteInput how path) other cat export import adopt = record { waits = refl; alone = refl }
+standing-of (At ask path) other cat export import adopt = record { waits = refl; alone = refl }
+standing-of (Read offset count path) other cat export import adopt = absurd (other offset count path refl)
+standing-of (Cat path) other cat export import adopt = absurd (cat path refl)
+standing-of (Export cid) other cat export import adopt = absurd (export cid refl)
+standing-of Import other cat export import adopt = absurd (import refl)
+standing-of (Adopt source dest) other cat export import adopt = absurd (adopt source dest refl)
+
+-- such a command needs what the store stands for
+alone-needs : (command : Command) → commands.reads_tree_alone command ≡ true → needs_standing command ≡ true
+alone-needs (Init p) h = refl
+alone-needs (Add only_hash) h = refl
+alone-needs (AddFrom recursive only_hash path) h = refl
+alone-needs (WriteInput how path) h = refl
+alone-needs (At ask path) h = refl
+alone-needs (Read offset count path) h = refl
+alone-needs (Cat path) h = absurd cc
+alone-needs (Export cid) h = absurd cc
+alone-needs Import h = absurd cc
+alone-needs (Adopt source dest) h = absurd cc
 
 -- what may be answered before anything is printed may be answered after it
-may-end : (command : Command) (k : Refusal) → may_answer (family_of command) (refusal_kind k) ≡ true → may_end (family_of command) (refusal_kind k) ≡ true
+pub may-end : (command : Command) (k : Refusal) → may_answer (family_of command) (refusal_kind k) ≡ true → may_end (family_of command) (refusal_kind k) ≡ true
 may-end command (refusal.Rule rule) h = h
 may-end command (refusal.Dag rule) h = h
+may-end command (refusal.Car number place) h = h
+may-end command (refusal.Host rule) h = h
 may-end command (refusal.BadPath why) h = h
 may-end command refusal.InputTooLong h = h
 may-end command refusal.Usage h = h
@@ -95,6 +120,8 @@ pub record IsQuiet (IsText : List ℕ → Type 0) (flows : Bool) (why : Refusal)
 pub quiet-of : (IsText : List ℕ → Type 0) (flows : Bool) (why : Refusal) → refusal_kind why ≢ OfWrite → IsQuiet IsText flows why
 quiet-of T f (refusal.Rule rule) other = record { prints = λ h n e. e; undone = refl; unwritten = refl }
 quiet-of T f (refusal.Dag rule) other = record { prints = λ h n e. e; undone = refl; unwritten = refl }
+quiet-of T f (refusal.Car number place) other = record { prints = λ h n e. e; undone = refl; unwritten = refl }
+quiet-of T f (refusal.Host rule) other = record { prints = λ h n e. e; undone = refl; unwritten = refl }
 quiet-of T f (refusal.BadPath path) other = record { prints = λ h n e. e; undone = refl; unwritten = refl }
 quiet-of T f refusal.Usage other = record { prints = λ h n e. e; undone = refl; unwritten = refl }
 quiet-of T f refusal.InputTooLong other = record { prints = λ h n e. e; undone = refl; unwritten = refl }
@@ -145,13 +172,17 @@ some-stays [] a b some stays = absurd (some refl)
 some-stays (x ∷ text) a b some stays = stays
 
 module _ (X : List ℕ → List ℕ) (N : List ℕ → ℕ) where
-  text-of : (command : Command) (told : Told) (l m : streams.Told) (text : List ℕ) → AddsFor X told (Ok command) (Ok text) l m → IsTextOf X told (Ok command) l text
-  text-of (Init p) told l m text h = tt
-  text-of (Add only_hash) told l m text h = h
-  text-of (WriteInput how path) told l m text h = tt
-  text-of (At ask path) told l m text h = tt
-  text-of (Read offset count path) told l m text h = tt
-  text-of (Cat path) told l m text h = tt
+  text-of : (command : Command) (told : Told) (host : HostTold) (l m : streams.Told) (text : List ℕ) → AddsFor X told (Ok command) (Ok text) l m → IsHostedText X N told host command text → IsTextOf X N told host (Ok command) l text
+  text-of (Init p) told host l m text h rows = tt
+  text-of (Add only_hash) told host l m text h rows = h
+  text-of (WriteInput how path) told host l m text h rows = tt
+  text-of (At ask path) told host l m text h rows = tt
+  text-of (Read offset count path) told host l m text h rows = tt
+  text-of (Cat path) told host l m text h rows = tt
+  text-of (AddFrom recursive only_hash path) told host l m text h rows = rows
+  text-of (Export cid) told host l m text h rows = tt
+  text-of Import told host l m text h rows = tt
+  text-of (Adopt source dest) told host l m text h rows = tt
 
   rule-in : (command : Command) (told : Told) (l m : streams.Told) (rule : Rule) → may_answer (family_of command) (refusal_kind (refusal.Rule rule)) ≡ true → AddsFor X told (Ok command) (Err (refusal.Rule rule)) l m
       → RuleOf (Ok command) (refusal.Rule rule) told l m
@@ -161,6 +192,10 @@ module _ (X : List ℕ → List ℕ) (N : List ℕ → ℕ) where
   rule-in (At ask path) told l m rule h adds = (rule, refl)
   rule-in (Read offset count path) told l m rule h adds = (rule, refl)
   rule-in (Cat path) told l m rule h adds = absurd cc
+  rule-in (Export cid) told l m rule h adds = absurd cc
+  rule-in Import told l m rule h adds = absurd cc
+  rule-in (Adopt source dest) told l m rule h adds = inr (rule, refl)
+  rule-in (AddFrom recursive only_hash path) told l m rule h adds = inr (rule, refl)
 
   long-in : (command : Command) (told : Told) (l m : streams.Told) → may_answer (family_of command) OfLongInput ≡ true → AddsFor X told (Ok command) (Err refusal.InputTooLong) l m
       → RuleOf (Ok command) refusal.InputTooLong told l m
@@ -170,6 +205,10 @@ module _ (X : List ℕ → List ℕ) (N : List ℕ → ℕ) where
   long-in (At ask path) told l m h adds = absurd cc
   long-in (Read offset count path) told l m h adds = absurd cc
   long-in (Cat path) told l m h adds = absurd cc
+  long-in (Export cid) told l m h adds = absurd cc
+  long-in Import told l m h adds = absurd cc
+  long-in (Adopt source dest) told l m h adds = absurd cc
+  long-in (AddFrom recursive only_hash path) told l m h adds = absurd cc
 
   no-path : (command : Command) → may_answer (family_of command) OfPath ≡ true → ⊥
   no-path (Init p) h = cc
@@ -178,19 +217,53 @@ module _ (X : List ℕ → List ℕ) (N : List ℕ → ℕ) where
   no-path (At ask path) h = cc
   no-path (Read offset count path) h = cc
   no-path (Cat path) h = cc
+  no-path (Export cid) h = cc
+  no-path Import h = cc
+  no-path (Adopt source dest) h = cc
+  no-path (AddFrom recursive only_hash path) h = cc
 
-  no-dag : (command : Command) → needs_standing command ≡ true → may_answer (family_of command) OfDag ≡ true → ⊥
+  no-dag : (command : Command) → commands.reads_tree_alone command ≡ true → may_answer (family_of command) OfDag ≡ true → ⊥
   no-dag (Init p) needs h = cc
   no-dag (Add only_hash) needs h = cc
+  no-dag (AddFrom recursive only_hash path) needs h = cc
   no-dag (WriteInput how path) needs h = cc
   no-dag (At ask path) needs h = cc
   no-dag (Read offset count path) needs h = cc
   no-dag (Cat path) needs h = cc
+  no-dag (Export cid) needs h = cc
+  no-dag Import needs h = cc
+  no-dag (Adopt source dest) needs h = cc
 
-  rules : (command : Command) → needs_standing command ≡ true → (told : Told) (l m : streams.Told) (why : Refusal) → may_answer (family_of command) (refusal_kind why) ≡ true → AddsFor X told (Ok command) (Err why) l m
+  no-car : (command : Command) → commands.reads_tree_alone command ≡ true → may_answer (family_of command) OfCar ≡ true → ⊥
+  no-car (Init p) needs h = cc
+  no-car (Add only_hash) needs h = cc
+  no-car (AddFrom recursive only_hash path) needs h = cc
+  no-car (WriteInput how path) needs h = cc
+  no-car (At ask path) needs h = cc
+  no-car (Read offset count path) needs h = cc
+  no-car (Cat path) needs h = cc
+  no-car (Export cid) needs h = cc
+  no-car Import needs h = cc
+  no-car (Adopt source dest) needs h = cc
+
+  host-in : (command : Command) (told : Told) (l m : streams.Told) (rule : HostRule) → may_answer (family_of command) OfHost ≡ true → RuleOf (Ok command) (refusal.Host rule) told l m
+  host-in (Init p) told l m rule h = absurd cc
+  host-in (Add only_hash) told l m rule h = absurd cc
+  host-in (AddFrom recursive only_hash path) told l m rule h = inl (rule, refl)
+  host-in (WriteInput how path) told l m rule h = absurd cc
+  host-in (At ask path) told l m rule h = absurd cc
+  host-in (Read offset count path) told l m rule h = absurd cc
+  host-in (Cat path) told l m rule h = absurd cc
+  host-in (Export cid) told l m rule h = absurd cc
+  host-in Import told l m rule h = absurd cc
+  host-in (Adopt source dest) told l m rule h = absurd cc
+
+  rules : (command : Command) → commands.reads_tree_alone command ≡ true → (told : Told) (l m : streams.Told) (why : Refusal) → may_answer (family_of command) (refusal_kind why) ≡ true → AddsFor X told (Ok command) (Err why) l m
       → status_of why ≡ status.Rule → RuleOf (Ok command) why told l m
   rules command needs told l m (refusal.Rule rule) h adds is = rule-in command told l m rule h adds
   rules command needs told l m (refusal.Dag rule) h adds is = absurd (no-dag command needs h)
+  rules command needs told l m (refusal.Car number place) h adds is = absurd (no-car command needs h)
+  rules command needs told l m (refusal.Host rule) h adds is = host-in command told l m rule h
   rules command needs told l m (refusal.BadPath why) h adds is = absurd (no-path command h)
   rules command needs told l m refusal.InputTooLong h adds is = long-in command told l m h adds
   rules command needs told l m refusal.Usage h adds is = absurd cc
@@ -204,7 +277,39 @@ module _ (X : List ℕ → List ℕ) (N : List ℕ → ℕ) where
   rules command needs told l m (refusal.Store (fault.Clash cid first second)) h adds is = absurd cc
   rules command needs told l m (refusal.Store fault.Memory) h adds is = absurd cc
 
-  module _ (command : Command) (needs : needs_standing command ≡ true) (a b : Seen) (l m : streams.Told) (i j t0 t1 : ℕ) (h : streams.Told) (w : ℕ) where
+  -- a command that doesn't use the host leaves it as it was, whatever that is
+  pub made-text : (command : Command) → uses_host command ≡ false → (a b : Seen) (l m : streams.Told) (i j t0 t1 : ℕ) (h : streams.Told) (w : ℕ) (s : HostSide) → ((text : List ℕ) → IsHostedText X N a.told s.told command text) → (done : Result (List ℕ) Refusal)
+      → Makes X N command done a b l m i j t0 t1 → MakesText X N command done (around a l i h w t0 s) (around b m j h w t1 s)
+  made-text command none a b l m i j t0 t1 h w s hostless done mk = record {
+    answers = λ world stands outside calm. mk.answers world stands outside.0 calm;
+    lost = λ p es rows held outside named given calm. mk.lost p es rows held outside named given.0 calm;
+    kinds = mk.kinds;
+    ready = mk.ready;
+    adds = mk.adds;
+    reads = subst (λ u. Counts (not u && is_read done) i j) (sym none) mk.counts;
+    host = subst (λ u. UsesHost u (is_read done) s s) (sym none) refl;
+    rows = by done;
+    cause = mk.cause;
+    whole = mk.whole;
+    touches = mk.touches;
+    touched = mk.touched;
+    leaves = mk.leaves;
+  }
+    where
+      by : (done : Result (List ℕ) Refusal) → IfOk done (λ text. IsHostedText X N a.told s.told command text)
+      by (Ok text) = hostless text
+      by (Err why) = tt
+
+  -- the same of a command that is this one
+  pub made-as : (given command : Command) → given ≡ command → uses_host command ≡ false → (a b : Seen) (l m : streams.Told) (i j t0 t1 : ℕ) (s : HostSide) → ((text : List ℕ) → IsHostedText X N a.told s.told command text) → (done : Result (List ℕ) Refusal)
+      → Makes X N command done a b l m i j t0 t1 → (h : streams.Told) (w : ℕ) → MakesText X N given done (around a l i h w t0 s) (around b m j h w t1 s)
+  made-as given command is none a b l m i j t0 t1 s hostless done mk h w =
+      subst (λ given. MakesText X N given done (around a l i h w t0 s) (around b m j h w t1 s)) (sym is) (made-text command none a b l m i j t0 t1 h w s hostless done mk)
+
+  module _ (command : Command) (alone : commands.reads_tree_alone command ≡ true) (a b : Seen) (l m : streams.Told) (i j t0 t1 : ℕ) (h : streams.Told) (w : ℕ) (side side2 : HostSide) where
+    needs : needs_standing command ≡ true
+    needs = alone-needs command alone
+
     stands-in : (told : Told) (s : Standing) → StandsIf X N (needs_standing command) told s → StandsIf X N true told s
     stands-in told s stands = subst (λ n. StandsIf X N n told s) needs stands
 
@@ -212,23 +317,24 @@ module _ (X : List ℕ → List ℕ) (N : List ℕ → ℕ) where
     stands-out told s stands = subst (λ n. StandsIf X N n told s) (sym needs) stands
 
     -- a command that is refused before anything is printed
-    pub refused-does : (why : Refusal) → Makes X N command (Err why) a b l m i j t0 t1 → Does X N command (Err why) (around a l i h w t0) (around b m j h w t1)
+    pub refused-does : (why : Refusal) → MakesText X N command (Err why) (around a l i h w t0 side) (around b m j h w t1 side2) → Does X N command (Err why) (around a l i h w t0 side) (around b m j h w t1 side2)
     refused-does why mk =
-        let quiet = quiet-of (IsTextOf X a.told (Ok command) l) (commands.streams command) why (λ e. no-write command (subst (λ k. may_answer (family_of command) k ≡ true) e mk.kinds)) in
+        let quiet = quiet-of (IsTextOf X N a.told side.told (Ok command) l) (commands.streams command) why (λ e. no-write command (subst (λ k. may_answer (family_of command) k ≡ true) e mk.kinds)) in
         record {
           answers = λ world finds input calm. answered world (mk.answers world (stands-in a.told world.standing finds.stands) input calm.store);
-          lost = λ p es rows held bytes named tells heights input calm. over p es (mk.lost p es rows held bytes named input calm.store);
+          lost = λ p es rows held bytes named tells good heights input calm. over p es (mk.lost p es rows held bytes named input calm.store);
           prefix = λ world finds input room. nothing-printed (reply X N command world).ends h h refl;
           prints = quiet.prints h h (else-same (commands.streams command) h);
           kinds = may-end command why mk.kinds;
           ready = mk.ready;
-          rule = λ is. rules command needs a.told l m why mk.kinds mk.adds is;
-          reads = mk.counts;
+          rule = λ is. rules command alone a.told l m why mk.kinds mk.adds is;
+          reads = mk.reads;
+          host = mk.host;
           writes = subst (λ f. RisesFor f w w) (sym quiet.unwritten) (rises-still w);
           cause = mk.cause;
           whole = λ s needs stands calm. mk.whole s stands calm;
           touches = λ p es bytes rows named input heights calm. mk.touches p es bytes rows named input heights calm;
-          touched = mk.touched;
+          touched = λ plain. mk.touched;
           leaves = record {
             good = mk.leaves.good;
             head = mk.leaves.head;
@@ -254,48 +360,49 @@ module _ (X : List ℕ → List ℕ) (N : List ℕ → ℕ) where
             inl (record { fault = x.fault; ends_are = ap (λ (r : Refusal). Err r) e; loss = x.loss; stands = x.stands })
         over p es (inr x) = inr (record { ends = subst (λ e. EndsBy e (Err why) h h) x.ends_are (refl, refl); stands = x.stands })
 
-    module _ (text : List ℕ) (mk : Makes X N command (Ok text) a b l m i j t0 t1) where
+    module _ (text : List ℕ) (mk : MakesText X N command (Ok text) (around a l i h w t0 side) (around b m j h w t1 side2)) where
       -- the text is the reply's, whatever blocks are lost
-      text-given : (s : Standing) (held : Lookup) (bytes : List ℕ) → NamesAs X N a.told b.told s → HasInput (Ok command) l bytes i j → CountsCanRise a
-          → Ok text ≡ (reply X N command (record { standing = s; held = held; input = bytes })).ends
-      text-given NoHead held bytes names input room = by (mk.answers (record { standing = NoHead; held = held; input = bytes }) names input (calm-of a b room mk.cause))
+      text-given : (s : Standing) (held : Lookup) (outside : Outside) → NamesAs X N a.told b.told s → HasOutside (Ok command) outside (around a l i h w t0 side) (around b m j h w t1 side2) → CountsCanRise a
+          → Ok text ≡ (reply X N command (world_of s held outside)).ends
+      text-given NoHead held outside names input room = by (mk.answers (world_of NoHead held outside) names input (calm-of a b room mk.cause))
         where
-          by : Answers X N NoHead (reply X N command (record { standing = NoHead; held = held; input = bytes })) (Ok text) b.told → Ok text ≡ (reply X N command (record { standing = NoHead; held = held; input = bytes })).ends
+          by : Answers X N NoHead (reply X N command (world_of NoHead held outside)) (Ok text) b.told → Ok text ≡ (reply X N command (world_of NoHead held outside)).ends
           by (inl x) = absurd (let e = x.ends_are in cc)
           by (inr x) = x.ends_are
-      text-given BadHead held bytes names input room = by (mk.answers (record { standing = BadHead; held = held; input = bytes }) names input (calm-of a b room mk.cause))
+      text-given BadHead held outside names input room = by (mk.answers (world_of BadHead held outside) names input (calm-of a b room mk.cause))
         where
-          by : Answers X N BadHead (reply X N command (record { standing = BadHead; held = held; input = bytes })) (Ok text) b.told → Ok text ≡ (reply X N command (record { standing = BadHead; held = held; input = bytes })).ends
+          by : Answers X N BadHead (reply X N command (world_of BadHead held outside)) (Ok text) b.told → Ok text ≡ (reply X N command (world_of BadHead held outside)).ends
           by (inl x) = absurd (let e = x.ends_are in cc)
           by (inr x) = x.ends_are
-      text-given (Stands p es) held bytes names input room = by (mk.lost p es (λ n. 0) held bytes names input (calm-of a b room mk.cause))
+      text-given (Stands p es) held outside names input room = by (mk.lost p es (λ n. 0) held outside names input (calm-of a b room mk.cause))
         where
-          by : {needs : List Held} → AnswersOver X N a.told b.told p es needs (reply X N command (record { standing = Stands p es; held = held; input = bytes })) (Ok text)
-              → Ok text ≡ (reply X N command (record { standing = Stands p es; held = held; input = bytes })).ends
+          by : {needs : List Held} → AnswersOver X N a.told b.told p es needs (reply X N command (world_of (Stands p es) held outside)) (Ok text)
+              → Ok text ≡ (reply X N command (world_of (Stands p es) held outside)).ends
           by (inl x) = absurd (let e = x.ends_are in cc)
           by (inr x) = x.ends_are
 
-      text-is : (world : World) → FindsOver X N a.told b.told (Ok command) world → HasInput (Ok command) l world.input i j → CountsCanRise a → Ok text ≡ (reply X N command world).ends
+      text-is : (world : World) → FindsOver X N a.told b.told (Ok command) world → HasOutside (Ok command) (outside_of world) (around a l i h w t0 side) (around b m j h w t1 side2) → CountsCanRise a → Ok text ≡ (reply X N command world).ends
       text-is world finds input room =
-          text-given world.standing world.held world.input (subst (λ n. NamesIf X N a.told b.told n world.standing) needs finds.names) input room
+          text-given world.standing world.held (outside_of world) (subst (λ n. NamesIf X N a.told b.told n world.standing) needs finds.names) input room
 
       module _ (h2 : streams.Told) (v : ℕ) where
         -- its text is printed
-        pub printed-does : h2 ≡ after h text → Counts false w v → Does X N command (Ok tt) (around a l i h w t0) (around b m j h2 v t1)
+        pub printed-does : h2 ≡ after h text → Counts false w v → Does X N command (Ok tt) (around a l i h w t0 side) (around b m j h2 v t1 side2)
         printed-does is counts = record {
           answers = λ world finds input calm. answered world (mk.answers world (stands-in a.told world.standing finds.stands) input calm.store);
-          lost = λ p es rows held bytes named tells heights input calm. over p es (mk.lost p es rows held bytes named input calm.store);
+          lost = λ p es rows held bytes named tells good heights input calm. over p es (mk.lost p es rows held bytes named input calm.store);
           prefix = λ world finds input room. subst (λ e. PrintsPart e h h2) (text-is world finds input room) (whole-printed text h h2 is);
-          prints = (text, text-of command a.told l m text mk.adds, is);
+          prints = (text, text-of command a.told side.told l m text mk.adds mk.rows, is);
           kinds = tt;
           ready = tt;
           rule = tt;
-          reads = mk.counts;
+          reads = mk.reads;
+          host = mk.host;
           writes = record { rose = counts.rose; still = counts.still };
           cause = mk.cause;
           whole = λ s needs stands calm. mk.whole s stands calm;
           touches = λ p es bytes rows named input heights calm. mk.touches p es bytes rows named input heights calm;
-          touched = mk.touched;
+          touched = λ plain. mk.touched;
           leaves = record { good = mk.leaves.good; head = tt; writes = mk.leaves.writes; idle = mk.leaves.idle };
         }
           where
@@ -312,29 +419,30 @@ module _ (X : List ℕ → List ℕ) (N : List ℕ → ℕ) where
             over p es (inl x) = absurd (let e = x.ends_are in cc)
             over p es (inr x) = inr (record { ends = subst (λ e. EndsBy e (Ok tt) h h2) x.ends_are (refl, is); stands = x.stands })
 
-        cut-does : IsCut text refusal.Write h h2 w v → Does X N command (Err refusal.Write) (around a l i h w t0) (around b m j h2 v t1)
+        cut-does : IsCut text refusal.Write h h2 w v → Does X N command (Err refusal.Write) (around a l i h w t0 side) (around b m j h2 v t1 side2)
         cut-does c =
             let rose = c.counts.rose refl in
             record {
               answers = λ world finds input calm. absurd (let stood = calm.output in omega (arith, rose, stood));
-              lost = λ p es rows held bytes named tells heights input calm. absurd (let stood = calm.output in omega (arith, rose, stood));
+              lost = λ p es rows held bytes named tells good heights input calm. absurd (let stood = calm.output in omega (arith, rose, stood));
               prefix = λ world finds input room. subst (λ e. PrintsPart e h h2) (text-is world finds input room) c.printed;
-              prints = (text, text-of command a.told l m text mk.adds, c.printed);
+              prints = (text, text-of command a.told side.told l m text mk.adds mk.rows, c.printed);
               kinds = refl;
               ready = tt;
               rule = λ is. absurd cc;
-              reads = mk.counts;
+              reads = mk.reads;
+              host = mk.host;
               writes = record { rose = c.counts.rose; still = c.counts.still };
               cause = mk.cause;
               whole = λ s needs stands calm. (λ e. cc, λ e. cc);
               touches = λ p es bytes rows named input heights calm. mk.touches p es bytes rows named input heights calm;
-              touched = λ blames. absurd blames;
+              touched = λ plain blames. absurd blames;
               leaves = record { good = mk.leaves.good; head = some-stays text a.told b.told c.some mk.leaves.head; writes = mk.leaves.writes; idle = mk.leaves.idle };
             }
 
         -- or the output failed
-        pub prints-does : (r : Result (Unit {0}) Refusal) → Prints text r h h2 w v → Does X N command r (around a l i h w t0) (around b m j h2 v t1)
+        pub prints-does : (r : Result (Unit {0}) Refusal) → Prints text r h h2 w v → Does X N command r (around a l i h w t0 side) (around b m j h2 v t1 side2)
         prints-does (Ok done) p = printed-does p.0 p.1
         prints-does (Err why) c =
             let e = c.write in
-            subst (λ (r : Refusal). Does X N command (Err r) (around a l i h w t0) (around b m j h2 v t1)) (sym e) (cut-does (subst (λ (r : Refusal). IsCut text r h h2 w v) e c))
+            subst (λ (r : Refusal). Does X N command (Err r) (around a l i h w t0 side) (around b m j h2 v t1 side2)) (sym e) (cut-does (subst (λ (r : Refusal). IsCut text r h h2 w v) e c))

@@ -1,20 +1,22 @@
 -- From words to a command that is done.
-use Rattle.std.proofs.Common.{◌≡◌, ℕ, List, true, false, refl, sym, ap, subst, inl, inr, Result, Ok, Err}
+use Rattle.std.proofs.Common.{◌≡◌, ℕ, List, Bool, true, false, refl, sym, ap, subst, inl, inr, Result, Ok, Err}
+use Rattle.std.specs.Prelude.{◌&&◌, not}
+use Rattle.uf_edge.specs.Counts.{Counts}
 use Rattle.uf_mfs.specs.Standing.{Same}
 use Rattle.uf_store.specs.Contents.{Told}
 use Rattle.uf_store.specs.declared.store.StoreFault.TheVariants.{Memory}
 use Rattle.uf_store.proofs.Causes.{StaysCalm-refl, calm-rises}
 use Rattle.uf_store.proofs.Keeping.{KeepsGood-refl}
 use Rattle.uf_store.proofs.Writing.{SavesOnly-refl}
-use Rattle.uf_reply.specs.Commands.{IsAsked, command_writes, streams}
+use Rattle.uf_reply.specs.Commands.{IsAsked, command_writes, streams, uses_host}
 use Rattle.uf_reply.specs.Kinds.{family_of, may_end, refusal_kind}
-use Rattle.uf_reply.specs.Reply.{reply}
+use Rattle.uf_top.specs.Reply.{reply}
 use Rattle.uf_reply.specs.Statuses.{no_memory}
 use Rattle.uf_reply.specs.declared.types.Ask.TheVariants.{Ls, Stat, Edit as Edits}
 use Rattle.uf_reply.specs.declared.types.Command.{Command}
-use Rattle.uf_reply.specs.declared.types.Command.TheVariants.{Init, Add, WriteInput, At, Read, Cat}
+use Rattle.uf_reply.specs.declared.types.Command.TheVariants.{Init, Add, AddFrom, WriteInput, At, Read, Cat, Export, Import, Adopt}
 use Rattle.uf_reply.specs.declared.types.Refusal.{Refusal}
-use Rattle.uf_top.specs.Around.{Around}
+use Rattle.uf_top.specs.Around.{Around, UsesHost, is_input_read}
 use Rattle.uf_top.specs.Bounds.{command_touches}
 use Rattle.uf_top.specs.Shapes.{WritesAs}
 use Rattle.uf_top.specs.Working.{Does, Serves}
@@ -30,6 +32,10 @@ memory-kind (WriteInput how path) = refl
 memory-kind (At ask path) = refl
 memory-kind (Read offset count path) = refl
 memory-kind (Cat path) = refl
+memory-kind (Export cid) = refl
+memory-kind Import = refl
+memory-kind (Adopt source dest) = refl
+memory-kind (AddFrom recursive only_hash path) = refl
 
 memory-writes : (X : List ℕ → List ℕ) (command : Command) (a : Told) → WritesAs X (command_writes command) false a a
 memory-writes X (Init p) a = record { between = a; saves = SavesOnly-refl X a; last = Same refl }
@@ -41,24 +47,44 @@ memory-writes X (At Stat path) a = refl
 memory-writes X (At (Edits edit) path) a = record { between = a; saves = SavesOnly-refl X a; last = Same refl }
 memory-writes X (Read offset count path) a = refl
 memory-writes X (Cat path) a = refl
+memory-writes X (Export cid) a = refl
+memory-writes X Import a = record { between = a; saves = SavesOnly-refl X a; last = Same refl }
+memory-writes X (Adopt source dest) a = record { between = a; saves = SavesOnly-refl X a; last = Same refl }
+memory-writes X (AddFrom recursive true path) a = refl
+memory-writes X (AddFrom recursive false path) a = record { between = a; saves = SavesOnly-refl X a; last = Same refl }
 
 module _ (X : List ℕ → List ℕ) (N : List ℕ → ℕ) (a : Around) where
+  still-reads : (command : Command) → Counts (is_input_read {A = Unit {0}} command (Err no_memory)) a.reads a.reads
+  still-reads command = by (uses_host command)
+    where
+      by : (u : Bool) → Counts (not u && false) a.reads a.reads
+      by true = counts-still a.reads
+      by false = counts-still a.reads
+
+  still-host : (command : Command) → UsesHost (uses_host command) false a.host a.host
+  still-host command = by (uses_host command)
+    where
+      by : (u : Bool) → UsesHost u false a.host a.host
+      by true = record { told = refl; reads = counts-still a.host.reads; writes = refl }
+      by false = refl
+
   wanting : (command : Command) → Does X N command (Err no_memory) a a
   wanting command = record {
     answers = λ world finds input calm. inl (record { ends_are = refl; stands = finds.stands });
-    lost = λ p es rows held bytes named tells heights input calm.
+    lost = λ p es rows held bytes named tells good heights input calm.
         inl (record { fault = Memory; ends_are = refl; loss = tt; stands = names-same X N a.store.told a.store.told p es refl named });
     prefix = λ world finds input room. nothing-printed (reply X N command world).ends a.held a.held refl;
     prints = else-same (streams command) a.held;
     kinds = memory-kind command;
     ready = tt;
     rule = λ is. absurd cc;
-    reads = counts-still a.reads;
+    reads = still-reads command;
+    host = still-host command;
     writes = rises-still a.writes;
     cause = calm-rises a.store a.store (StaysCalm-refl a.store);
     whole = λ s needs stands calm. (λ e. cc, λ e. cc);
     touches = λ p es bytes rows named input heights calm. no-touch (command_touches X N rows bytes command p es) a.touches;
-    touched = λ blames. absurd blames;
+    touched = λ plain blames. absurd blames;
     leaves = record { good = KeepsGood-refl X a.store.told; head = refl; writes = memory-writes X command a.store.told; idle = λ p es bytes stands calm same. refl };
   }
 

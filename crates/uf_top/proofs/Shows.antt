@@ -4,11 +4,14 @@ use Rattle.std.specs.Prelude.{IfSome}
 use Rattle.uf_edge.specs.Counts.{Counts, Rose, Stood}
 use Rattle.uf_mfs.specs.Answers.{ShownInTree, ShownOpening}
 use Rattle.uf_cid.specs.declared.cid.Cid.{Cid}
-use Rattle.uf_mfs.specs.Bad.{IsBad, IsBadInTree}
+use Rattle.uf_mfs.specs.Bad.{IsBadInHead, IsBadInTree}
+use Rattle.uf_mfs.specs.Standing.{ReadsHead}
+use Rattle.uf_mfs.specs.declared.mfs.Mfs.{Mfs}
+use Rattle.uf_tree.specs.declared.profile.Head.{Head}
 use Rattle.uf_mfs.specs.Steps.{tree_fault}
 use Rattle.uf_mfs.specs.Touches.{CountsUp, IsBlaming}
-use Rattle.uf_mfs.specs.Writes.{IsBadWritten}
-use Rattle.uf_mfs.proofs.Judging.{tree-bad-more}
+use Rattle.uf_mfs.specs.Writes.{IsBadWrittenIn}
+use Rattle.uf_mfs.proofs.Judging.{tree-more}
 use Rattle.uf_mfs.specs.declared.fault.MfsFault.{MfsFault}
 use Rattle.uf_mfs.specs.declared.fault.MfsFault.TheVariants as mfs
 use Rattle.uf_store.specs.Clashes.{IsSaving}
@@ -26,7 +29,7 @@ use Rattle.uf_reply.specs.Statuses.{status_of}
 use Rattle.uf_reply.specs.declared.status.Status.TheVariants as status
 use Rattle.uf_reply.specs.declared.types.Refusal.{Refusal}
 use Rattle.uf_reply.specs.declared.types.Refusal.TheVariants as refusal
-use Rattle.uf_top.specs.Causes.{IsBadIn, IsMade, IsOpeningFault, IsProfileOf, IsTreeFault, OnlyWants, RefusesInTree, RefusesOpening}
+use Rattle.uf_top.specs.Causes.{IsBadIn, IsMade, IsOpeningFault, IsTreeFault, OnlyWants, RefusesInTree, RefusesOpening}
 use Rattle.uf_top.specs.Intake.{ShownIn}
 
 -- a count that stands
@@ -69,12 +72,16 @@ module _ (A : Type 0) (hash : List ℕ → List ℕ) (P : Role → List ℕ → 
     Shown-tree mfs.Sink w a b is h = absurd is
     Shown-tree (mfs.Store f) w a b is h = subst (λ w. Shown hash Q (fault_behind w) a b) (sym is) (shown-by hash P Q (Some f) a b more h)
 
+-- the Head of a tree
+abbrev pub head_of : Mfs → Head
+head_of tree = record { profile = tree.profile; root = tree.root.cid }
+
 -- blocks that aren't canonical where the tree is read are so in what a command shows
-pub bad-of-none : (X : List ℕ → List ℕ) (N : List ℕ → ℕ) (told now : Told) (role : Role) (bytes : List ℕ) → IsBad N None role bytes → IsBadIn X N told now role bytes
+pub bad-of-none : (X : List ℕ → List ℕ) (N : List ℕ → ℕ) (told now : Told) (role : Role) (bytes : List ℕ) → IsBadInHead X N told role bytes → IsBadIn X N told now role bytes
 bad-of-none X N told now role bytes h = inl h
 
-pub bad-of-head : (X : List ℕ → List ℕ) (N : List ℕ → ℕ) (told now : Told) (p : Profile) → IsProfileOf told p → (role : Role) (bytes : List ℕ) → IsBadWritten X N p now role bytes → IsBadIn X N told now role bytes
-bad-of-head X N told now p is role bytes h = inr (inr (p, is, h))
+pub bad-of-head : (X : List ℕ → List ℕ) (N : List ℕ → ℕ) (told now : Told) (tree : Mfs) → ReadsHead told (Ok tree) → (role : Role) (bytes : List ℕ) → IsBadWrittenIn X N tree.profile now tree.root.cid role bytes → IsBadIn X N told now role bytes
+bad-of-head X N told now tree is role bytes h = inr (inr (head_of tree, is, h))
 
 -- with no count risen, a fault that saves alone can have is want of memory
 pub saving-wants : (hash : List ℕ → List ℕ) (P : Role → List ℕ → Type 0) (f : StoreFault) (a b : Seen) → IsSaving f → Shows hash P f a b → Stood a.faults b.faults → Stood a.clashes b.clashes → f ≡ Memory
@@ -93,6 +100,8 @@ pub wants-shown : (hash : List ℕ → List ℕ) (r : Result (List ℕ) Refusal)
 wants-shown hash (Ok x) a b w h = h
 wants-shown hash (Err (refusal.Rule rule)) a b w h = h
 wants-shown hash (Err (refusal.Dag rule)) a b w h = h
+wants-shown hash (Err (refusal.Car number place)) a b w h = h
+wants-shown hash (Err (refusal.Host rule)) a b w h = h
 wants-shown hash (Err (refusal.BadPath why)) a b w h = h
 wants-shown hash (Err refusal.Usage) a b w h = h
 wants-shown hash (Err refusal.InputTooLong) a b w h = h
@@ -102,8 +111,8 @@ wants-shown hash (Err refusal.Write) a b w h = h
 wants-shown hash (Err (refusal.Store f)) a b w h = subst (λ f. Shows hash NoneIsBad f a b) (sym w) (calm-rises a b h)
 
 -- what is bad on a way in a tree is so where a file of it is edited
-pub bad-way : (X : List ℕ → List ℕ) (N : List ℕ → ℕ) (p : Profile) (now : Told) (root : Cid) (role : Role) (bytes : List ℕ) → IsBadInTree X N None root role bytes → IsBadWritten X N p now role bytes
-bad-way X N p now root role bytes bad = inl (tree-bad-more X N p root role bytes bad)
+pub bad-way : (X : List ℕ → List ℕ) (N : List ℕ → ℕ) (p : Profile) (now : Told) (root : Cid) (role : Role) (bytes : List ℕ) → IsBadInTree X N None root role bytes → IsBadWrittenIn X N p now root role bytes
+bad-way X N p now root role bytes bad = inl (tree-more X N p root role bytes bad)
 
 -- a text that was made, or want of memory, after which the store is as calm as before
 pub made-shown : (M : Type 0) (hash : List ℕ → List ℕ) (P : Role → List ℕ → Type 0) (text : Result (List ℕ) M) (r : Result (List ℕ) Refusal) (a b : Seen) → IsMade text r → StaysCalm a b → Shown hash P (refusal_fault r) a b
@@ -134,6 +143,8 @@ pub add-blames : (r : Result (List ℕ) Refusal) → IsOf (may_answer AddsInput)
 add-blames (Ok text) h blames = blames
 add-blames (Err (refusal.Rule rule)) h blames = blames
 add-blames (Err (refusal.Dag rule)) h blames = blames
+add-blames (Err (refusal.Car number place)) h blames = blames
+add-blames (Err (refusal.Host rule)) h blames = blames
 add-blames (Err (refusal.BadPath why)) h blames = blames
 add-blames (Err refusal.Usage) h blames = blames
 add-blames (Err refusal.InputTooLong) h blames = blames
@@ -151,6 +162,8 @@ add-blames (Err (refusal.Store Memory)) h blames = blames
 pub blaming-of : (why : Refusal) → status_of why ≡ status.BadBlock → IsBlaming (fault_behind why)
 blaming-of (refusal.Rule rule) e = absurd cc
 blaming-of (refusal.Dag rule) e = absurd cc
+blaming-of (refusal.Car number place) e = absurd cc
+blaming-of (refusal.Host rule) e = absurd cc
 blaming-of (refusal.BadPath path) e = absurd cc
 blaming-of refusal.Usage e = absurd cc
 blaming-of refusal.InputTooLong e = absurd cc

@@ -1,8 +1,9 @@
 -- From how a command was done to what is told of it.
 use Rattle.std.proofs.Common.{◌≡◌, ◌≢◌, ◌⊎◌, ℕ, ◌<◌, List, [], true, false, arith, refl, sym, ap, subst, ◌∙◌, inl, inr, Some, None, Bool, Result, Ok, Err}
-use Rattle.std.specs.Prelude.{IfErr, ⊤}
+use Rattle.std.specs.Prelude.{◌&&◌, not, IfErr, ⊤}
 use Rattle.uf_cid.specs.declared.cid.Cid.{Cid}
-use Rattle.uf_edge.specs.Counts.{Counts, Rose, Stood}
+use Rattle.uf_edge.specs.Counts.{Counts, Stood}
+use Rattle.uf_edge.specs.Host.{HostTree}
 use Rattle.uf_edge.specs.Streams as streams
 use Rattle.uf_mfs.specs.Standing.{NamesOver, TellsAs, head_in}
 use Rattle.uf_store.specs.Calls.{Calm}
@@ -16,24 +17,24 @@ use Rattle.uf_store.proofs.Keeping.{KeepsGood-same}
 use Rattle.uf_tree.specs.Standing.{Standing}
 use Rattle.uf_tree.specs.Tree.{Entries}
 use Rattle.uf_tree.specs.declared.profile.Profile.{Profile}
-use Rattle.uf_reply.specs.Commands.{HasInput, IsOfWords, command_writes, is_idle, needs_standing, of_command, only_reads}
+use Rattle.uf_reply.specs.Commands.{HasInput, IsOfWords, adopts, command_writes, is_idle, needs_standing, of_command, only_reads, reads_tree_alone, uses_host, writes_host}
 use Rattle.uf_reply.specs.Commands.{streams as flows}
-use Rattle.uf_reply.specs.Kinds.{AddsInput, IsOf, MakesReady, OfBadBlock, OfMissing, OfPath, OfUsage, OfWrite, family_of, fault_behind, may_end, refusal_kind, word_kinds}
+use Rattle.uf_reply.specs.Kinds.{AddsHost, AddsInput, IsOf, KeepsCar, MakesReady, OfBadBlock, OfMissing, OfPath, OfUsage, OfWrite, family_of, fault_behind, may_end, refusal_kind, word_kinds}
 use Rattle.uf_reply.specs.Lines.{bad_block_line, clash_line, line_of, missing_line, said}
-use Rattle.uf_reply.specs.Reply.{World, reply, reply_to}
+use Rattle.uf_top.specs.Reply.{World, host_after, outside_of, reply, reply_to}
 use Rattle.uf_reply.specs.Statuses.{ended, no_memory, plain_line, status_of}
 use Rattle.uf_reply.specs.declared.status.Status.{Status}
 use Rattle.uf_reply.specs.declared.status.Status.TheVariants as status
 use Rattle.uf_reply.specs.declared.types.Ask.TheVariants.{Ls, Stat, Edit as Edits}
 use Rattle.uf_reply.specs.declared.types.Command.{Command}
-use Rattle.uf_reply.specs.declared.types.Command.TheVariants.{Init, Add, WriteInput, At, Read, Cat}
+use Rattle.uf_reply.specs.declared.types.Command.TheVariants.{Init, Add, AddFrom, WriteInput, At, Read, Cat, Export, Import, Adopt}
 use Rattle.uf_reply.specs.declared.types.Refusal.{Refusal}
 use Rattle.uf_reply.specs.declared.types.Refusal.TheVariants as refusal
 use Rattle.uf_top.specs.Answering.{DoesAnswer}
-use Rattle.uf_top.specs.Around.{Around, CountsCanRise, RisesFor}
+use Rattle.uf_top.specs.Around.{Around, CountsCanRise, HasOutside, HostSide, RisesFor, RoseAt, UsesHost}
 use Rattle.uf_top.specs.Causes.{IsBadIn, IsSynced, is_read, is_write}
 use Rattle.uf_top.specs.Endings.{EndsAs, EndsBy, FindsAll, FindsBy, IsNotReady, IsRefusedBy, IsRule, IsSyncedFor, IsTextOf, PrintsAll, PrintsAt, PrintsPart, SaysPlain, TellsEnd, TellsWhy, has_details}
-use Rattle.uf_top.specs.Naming.{FindsOver, FindsWorld, StandsIf}
+use Rattle.uf_top.specs.Naming.{FindsOver, FindsWorld, StandsIf, TellsHost}
 use Rattle.uf_top.specs.Shapes.{SyncsAfter, WritesAs, WritesFor, is_done}
 use Rattle.uf_top.specs.Working.{Does, Serves}
 use Rattle.uf_top.proofs.Finding.{kind-finds, of-none, words-whole}
@@ -50,6 +51,10 @@ no-path (WriteInput how path) h = cc
 no-path (At ask path) h = cc
 no-path (Read offset count path) h = cc
 no-path (Cat path) h = cc
+no-path (Export cid) h = cc
+no-path Import h = cc
+no-path (Adopt source dest) h = cc
+no-path (AddFrom recursive only_hash path) h = cc
 
 no-usage : (command : Command) → may_end (family_of command) OfUsage ≡ true → ⊥
 no-usage (Init p) h = cc
@@ -58,11 +63,17 @@ no-usage (WriteInput how path) h = cc
 no-usage (At ask path) h = cc
 no-usage (Read offset count path) h = cc
 no-usage (Cat path) h = cc
+no-usage (Export cid) h = cc
+no-usage Import h = cc
+no-usage (Adopt source dest) h = cc
+no-usage (AddFrom recursive only_hash path) h = cc
 
 -- a line without details is the status's
 plain-of : (why : Refusal) → has_details (status_of why) ≡ false → plain_line (status_of why) ≡ line_of why
 plain-of (refusal.Rule rule) e = absurd cc
 plain-of (refusal.Dag rule) e = absurd cc
+plain-of (refusal.Car number place) e = absurd cc
+plain-of (refusal.Host rule) e = absurd cc
 plain-of (refusal.BadPath path) e = absurd cc
 plain-of refusal.Usage e = refl
 plain-of refusal.InputTooLong e = absurd cc
@@ -80,6 +91,8 @@ plain-of (refusal.Store fault.Memory) e = refl
 not-ok : (why : Refusal) → status_of why ≡ status.Ok → ⊥
 not-ok (refusal.Rule rule) e = cc
 not-ok (refusal.Dag rule) e = cc
+not-ok (refusal.Car number place) e = cc
+not-ok (refusal.Host rule) e = cc
 not-ok (refusal.BadPath path) e = cc
 not-ok refusal.Usage e = cc
 not-ok refusal.InputTooLong e = cc
@@ -93,27 +106,63 @@ not-ok (refusal.Store (fault.BadBlock cid role)) e = cc
 not-ok (refusal.Store (fault.Clash cid first second)) e = cc
 not-ok (refusal.Store fault.Memory) e = cc
 
--- a failed reading is the refusal where the input's count rose
-read-of : (why : Refusal) (i j : ℕ) → Counts (is_read {A = Unit {0}} (Err why)) i j → i < j → why ≡ refusal.Read
-read-of (refusal.Rule rule) i j counts more = (let e = counts.still refl in absurd (omega (arith, e, more)))
-read-of (refusal.Dag rule) i j counts more = (let e = counts.still refl in absurd (omega (arith, e, more)))
-read-of (refusal.BadPath path) i j counts more = (let e = counts.still refl in absurd (omega (arith, e, more)))
-read-of refusal.Usage i j counts more = (let e = counts.still refl in absurd (omega (arith, e, more)))
-read-of refusal.InputTooLong i j counts more = (let e = counts.still refl in absurd (omega (arith, e, more)))
-read-of (refusal.Ready reason) i j counts more = (let e = counts.still refl in absurd (omega (arith, e, more)))
-read-of refusal.Read i j counts more = refl
-read-of refusal.Write i j counts more = (let e = counts.still refl in absurd (omega (arith, e, more)))
-read-of (refusal.Store fault.Failed) i j counts more = (let e = counts.still refl in absurd (omega (arith, e, more)))
-read-of (refusal.Store (fault.Damaged cid)) i j counts more = (let e = counts.still refl in absurd (omega (arith, e, more)))
-read-of (refusal.Store (fault.Missing cid)) i j counts more = (let e = counts.still refl in absurd (omega (arith, e, more)))
-read-of (refusal.Store (fault.BadBlock cid role)) i j counts more = (let e = counts.still refl in absurd (omega (arith, e, more)))
-read-of (refusal.Store (fault.Clash cid first second)) i j counts more = (let e = counts.still refl in absurd (omega (arith, e, more)))
-read-of (refusal.Store fault.Memory) i j counts more = (let e = counts.still refl in absurd (omega (arith, e, more)))
+-- a failed reading is that refusal
+read-of : (why : Refusal) → is_read {A = Unit {0}} (Err why) ≡ true → why ≡ refusal.Read
+read-of (refusal.Rule rule) is = absurd cc
+read-of (refusal.Dag rule) is = absurd cc
+read-of (refusal.Car number place) is = absurd cc
+read-of (refusal.Host rule) is = absurd cc
+read-of (refusal.BadPath path) is = absurd cc
+read-of refusal.Usage is = absurd cc
+read-of refusal.InputTooLong is = absurd cc
+read-of (refusal.Ready reason) is = absurd cc
+read-of refusal.Read is = refl
+read-of refusal.Write is = absurd cc
+read-of (refusal.Store fault.Failed) is = absurd cc
+read-of (refusal.Store (fault.Damaged cid)) is = absurd cc
+read-of (refusal.Store (fault.Missing cid)) is = absurd cc
+read-of (refusal.Store (fault.BadBlock cid role)) is = absurd cc
+read-of (refusal.Store (fault.Clash cid first second)) is = absurd cc
+read-of (refusal.Store fault.Memory) is = absurd cc
+
+-- a count that rose counts a fault
+risen-of : (is_fault : Bool) (i j : ℕ) → Counts is_fault i j → i < j → is_fault ≡ true
+risen-of true i j counts more = refl
+risen-of false i j counts more = (let e = counts.still refl in absurd (omega (arith, e, more)))
+
+-- where the input's count or the host's rose, a reading failed
+input-read : (uses is_fault : Bool) (i j : ℕ) → Counts (not uses && is_fault) i j → i < j → is_fault ≡ true
+input-read true is_fault i j counts more = absurd (let e : false ≡ true = risen-of false i j counts more in cc)
+input-read false is_fault i j counts more = risen-of is_fault i j counts more
+
+host-read : (uses is_fault : Bool) (s t : HostSide) → UsesHost uses is_fault s t → s.reads < t.reads → is_fault ≡ true
+host-read true is_fault s t used more = risen-of is_fault s.reads t.reads used.reads more
+host-read false is_fault s t used more = (let e = ap (λ (x : HostSide). x.reads) used in absurd (omega (arith, e, more)))
+
+-- a failed reading has made one of them rise
+reading-rose : (uses : Bool) (i j : ℕ) (s t : HostSide) → Counts (not uses && true) i j → UsesHost uses true s t → RoseAt uses i j s.reads t.reads
+reading-rose true i j s t counts used = used.reads.rose refl
+reading-rose false i j s t counts used = counts.rose refl
+
+-- no command writes to the host, or changes what it tells
+host-unwritten : (uses is_fault : Bool) (s t : HostSide) → UsesHost uses is_fault s t → t.writes ≡ s.writes
+host-unwritten true is_fault s t used = used.writes
+host-unwritten false is_fault s t used = ap (λ (x : HostSide). x.writes) used
+
+host-same : (uses is_fault : Bool) (s t : HostSide) → UsesHost uses is_fault s t → t.told ≡ s.told
+host-same true is_fault s t used = used.told
+host-same false is_fault s t used = ap (λ (x : HostSide). x.told) used
+
+host-tells : (uses is_fault : Bool) (s t : HostSide) (tree : HostTree) → UsesHost uses is_fault s t → (uses ≡ true → s.told ≡ Some tree) → TellsHost uses t.told tree
+host-tells true is_fault s t tree used tells = used.told ∙ tells refl
+host-tells false is_fault s t tree used tells = tt
 
 -- a failed writing is the refusal where the output's count rose
 write-of : (why : Refusal) (i j : ℕ) → RisesFor (is_write {A = Unit {0}} (Err why)) i j → i < j → why ≡ refusal.Write
 write-of (refusal.Rule rule) i j counts more = (let e = counts.still refl in absurd (omega (arith, e, more)))
 write-of (refusal.Dag rule) i j counts more = (let e = counts.still refl in absurd (omega (arith, e, more)))
+write-of (refusal.Car number place) i j counts more = (let e = counts.still refl in absurd (omega (arith, e, more)))
+write-of (refusal.Host rule) i j counts more = (let e = counts.still refl in absurd (omega (arith, e, more)))
 write-of (refusal.BadPath path) i j counts more = (let e = counts.still refl in absurd (omega (arith, e, more)))
 write-of refusal.Usage i j counts more = (let e = counts.still refl in absurd (omega (arith, e, more)))
 write-of refusal.InputTooLong i j counts more = (let e = counts.still refl in absurd (omega (arith, e, more)))
@@ -132,6 +181,8 @@ module _ (hash : List ℕ → List ℕ) (P : Role → List ℕ → Type 0) (a b 
   failure-of : (why : Refusal) → Shown hash P (fault_behind why) a b → a.faults < b.faults → (status_of why ≡ status.StoreFault) ⊎ (status_of why ≡ status.Memory)
   failure-of (refusal.Rule rule) h more = (let e = h.faults in absurd (omega (arith, e, more)))
   failure-of (refusal.Dag rule) h more = (let e = h.faults in absurd (omega (arith, e, more)))
+  failure-of (refusal.Car number place) h more = (let e = h.faults in absurd (omega (arith, e, more)))
+  failure-of (refusal.Host rule) h more = (let e = h.faults in absurd (omega (arith, e, more)))
   failure-of (refusal.BadPath path) h more = (let e = h.faults in absurd (omega (arith, e, more)))
   failure-of refusal.Usage h more = (let e = h.faults in absurd (omega (arith, e, more)))
   failure-of refusal.InputTooLong h more = (let e = h.faults in absurd (omega (arith, e, more)))
@@ -148,6 +199,8 @@ module _ (hash : List ℕ → List ℕ) (P : Role → List ℕ → Type 0) (a b 
   clash-of : (why : Refusal) → Shown hash P (fault_behind why) a b → a.clashes < b.clashes → (status_of why ≡ status.Clash) ⊎ (status_of why ≡ status.Memory)
   clash-of (refusal.Rule rule) h more = (let e = h.clashes in absurd (omega (arith, e, more)))
   clash-of (refusal.Dag rule) h more = (let e = h.clashes in absurd (omega (arith, e, more)))
+  clash-of (refusal.Car number place) h more = (let e = h.clashes in absurd (omega (arith, e, more)))
+  clash-of (refusal.Host rule) h more = (let e = h.clashes in absurd (omega (arith, e, more)))
   clash-of (refusal.BadPath path) h more = (let e = h.clashes in absurd (omega (arith, e, more)))
   clash-of refusal.Usage h more = (let e = h.clashes in absurd (omega (arith, e, more)))
   clash-of refusal.InputTooLong h more = (let e = h.clashes in absurd (omega (arith, e, more)))
@@ -225,6 +278,15 @@ adds-finds : (done : Result (Unit {0}) Refusal) → IsOf (may_end AddsInput) don
 adds-finds (Ok done) h = (λ e. cc, λ e. cc)
 adds-finds (Err why) h = kind-finds why (of-none (may_end AddsInput) (refusal_kind why) OfMissing h refl) (of-none (may_end AddsInput) (refusal_kind why) OfBadBlock h refl)
 
+-- nor does `dag import`
+cars-find : (done : Result (Unit {0}) Refusal) → IsOf (may_end KeepsCar) done → FindsAll (ended done)
+cars-find (Ok done) h = (λ e. cc, λ e. cc)
+cars-find (Err why) h = kind-finds why (of-none (may_end KeepsCar) (refusal_kind why) OfMissing h refl) (of-none (may_end KeepsCar) (refusal_kind why) OfBadBlock h refl)
+
+hosts-finds : (done : Result (Unit {0}) Refusal) → IsOf (may_end AddsHost) done → FindsAll (ended done)
+hosts-finds (Ok done) h = (λ e. cc, λ e. cc)
+hosts-finds (Err why) h = kind-finds why (of-none (may_end AddsHost) (refusal_kind why) OfMissing h refl) (of-none (may_end AddsHost) (refusal_kind why) OfBadBlock h refl)
+
 -- ---- what goes to `errors`
 
 module _ (Says : List ℕ → Type 0) where
@@ -274,8 +336,8 @@ module _ (Says : List ℕ → Type 0) where
       StatusShows asked status.StoreFault = ShowsFailure a.store b.store
       StatusShows asked status.Missing = (cid : Cid) × ShowsMissing cid a.store b.store × Says (missing_line cid)
       StatusShows asked status.BadBlock = (cid : Cid) × (role : Role) × ShowsBadBlock X (IsBadIn X N a.store.told b.store.told) cid role a.store b.store × Says (bad_block_line cid role)
-      StatusShows asked status.ReadFault = Rose a.reads b.reads
-      StatusShows asked status.WriteFault = Rose a.writes b.writes
+      StatusShows asked status.ReadFault = RoseAt (of_command uses_host false asked) a.reads b.reads a.host.reads b.host.reads
+      StatusShows asked status.WriteFault = RoseAt (of_command writes_host false asked) a.writes b.writes a.host.writes b.host.writes
       StatusShows asked status.Clash = (cid : Cid) × (held : List ℕ) × (bytes : List ℕ) × ShowsClash X cid held bytes a.store b.store × Says (clash_line cid held bytes)
       StatusShows asked status.Memory = ⊤
       StatusShows asked status.NotReady = IsNotReady Says asked a.store.told
@@ -283,11 +345,13 @@ module _ (Says : List ℕ → Type 0) where
       does-show : (command : Command) (why : Refusal) → Does X N command (Err why) a b → Says (line_of why) → StatusShows (Ok command) (status_of why)
       does-show command (refusal.Rule rule) h says = (refusal.Rule rule, refl, says, h.rule refl)
       does-show command (refusal.Dag rule) h says = (refusal.Dag rule, refl, says, h.rule refl)
+      does-show command (refusal.Car number place) h says = (refusal.Car number place, refl, says, h.rule refl)
+      does-show command (refusal.Host rule) h says = (refusal.Host rule, refl, says, h.rule refl)
       does-show command (refusal.BadPath path) h says = absurd (no-path command h.kinds)
       does-show command refusal.Usage h says = absurd (no-usage command h.kinds)
       does-show command refusal.InputTooLong h says = (refusal.InputTooLong, refl, says, h.rule refl)
       does-show command (refusal.Ready reason) h says = (reason, says, h.ready)
-      does-show command refusal.Read h says = h.reads.rose refl
+      does-show command refusal.Read h says = reading-rose (uses_host command) a.reads b.reads a.host b.host h.reads h.host
       does-show command refusal.Write h says = h.writes.rose refl
       does-show command (refusal.Store fault.Failed) h says = h.cause
       does-show command (refusal.Store (fault.Damaged cid)) h says = h.cause
@@ -299,6 +363,8 @@ module _ (Says : List ℕ → Type 0) where
       word-shows : (why : Refusal) → word_kinds (refusal_kind why) ≡ true → Says (line_of why) → StatusShows (Err why) (status_of why)
       word-shows (refusal.Rule rule) h says = absurd cc
       word-shows (refusal.Dag rule) h says = absurd cc
+      word-shows (refusal.Car number place) h says = absurd cc
+      word-shows (refusal.Host rule) h says = absurd cc
       word-shows (refusal.BadPath path) h says = (refusal.BadPath path, refl, says, refl)
       word-shows refusal.Usage h says = refl
       word-shows refusal.InputTooLong h says = absurd cc
@@ -353,15 +419,31 @@ module _ (Says : List ℕ → Type 0) where
       writing why (inl t) is = t.0 ∙ ap status_of is
       writing why (inr t) is = (let e : false ≡ true = ap (λ w. has_details (status_of w)) (sym is) ∙ t.0 in absurd cc)
 
-      pub read-told : (asked : Result Command Refusal) (done : Result (Unit {0}) Refusal) → Serves X N asked done a b → TellsEnd Says done given → a.reads < b.reads → given ≡ status.ReadFault
-      read-told (Err asked) done s t more = (let e = ap (λ (x : Around). x.reads) s.same in absurd (omega (arith, e, more)))
-      read-told (Ok command) (Ok done) s t more = (let e = s.reads.still refl in absurd (omega (arith, e, more)))
-      read-told (Ok command) (Err why) s t more = reading why t (read-of why a.reads b.reads s.reads more)
+      pub read-told : (asked : Result Command Refusal) (done : Result (Unit {0}) Refusal) → Serves X N asked done a b → TellsEnd Says done given → (a.reads < b.reads) ⊎ (a.host.reads < b.host.reads) → given ≡ status.ReadFault
+      read-told (Err asked) done s t (inl more) = (let e = ap (λ (x : Around). x.reads) s.same in absurd (omega (arith, e, more)))
+      read-told (Err asked) done s t (inr more) = (let e = ap (λ (x : Around). x.host.reads) s.same in absurd (omega (arith, e, more)))
+      read-told (Ok command) (Ok done) s t (inl more) = (let e = input-read (uses_host command) false a.reads b.reads s.reads more in absurd cc)
+      read-told (Ok command) (Ok done) s t (inr more) = (let e = host-read (uses_host command) false a.host b.host s.host more in absurd cc)
+      read-told (Ok command) (Err why) s t (inl more) = reading why t (read-of why (input-read (uses_host command) (is_read {A = Unit {0}} (Err why)) a.reads b.reads s.reads more))
+      read-told (Ok command) (Err why) s t (inr more) = reading why t (read-of why (host-read (uses_host command) (is_read {A = Unit {0}} (Err why)) a.host b.host s.host more))
 
-      pub write-told : (asked : Result Command Refusal) (done : Result (Unit {0}) Refusal) → Serves X N asked done a b → TellsEnd Says done given → a.writes < b.writes → given ≡ status.WriteFault
-      write-told (Err asked) done s t more = (let e = ap (λ (x : Around). x.writes) s.same in absurd (omega (arith, e, more)))
-      write-told (Ok command) (Ok done) s t more = (let e = s.writes.still refl in absurd (omega (arith, e, more)))
-      write-told (Ok command) (Err why) s t more = writing why t (write-of why a.writes b.writes s.writes more)
+      -- no command writes to the host
+      pub host-writes : (asked : Result Command Refusal) (done : Result (Unit {0}) Refusal) → Serves X N asked done a b → b.host.writes ≡ a.host.writes
+      host-writes (Err asked) done s = ap (λ (x : Around). x.host.writes) s.same
+      host-writes (Ok command) done s = host-unwritten (uses_host command) (is_read done) a.host b.host s.host
+
+      pub host-told : (asked : Result Command Refusal) (done : Result (Unit {0}) Refusal) → Serves X N asked done a b → b.host.told ≡ a.host.told
+      host-told (Err asked) done s = ap (λ (x : Around). x.host.told) s.same
+      host-told (Ok command) done s = host-same (uses_host command) (is_read done) a.host b.host s.host
+
+      output-told : (asked : Result Command Refusal) (done : Result (Unit {0}) Refusal) → Serves X N asked done a b → TellsEnd Says done given → a.writes < b.writes → given ≡ status.WriteFault
+      output-told (Err asked) done s t more = (let e = ap (λ (x : Around). x.writes) s.same in absurd (omega (arith, e, more)))
+      output-told (Ok command) (Ok done) s t more = (let e = s.writes.still refl in absurd (omega (arith, e, more)))
+      output-told (Ok command) (Err why) s t more = writing why t (write-of why a.writes b.writes s.writes more)
+
+      pub write-told : (asked : Result Command Refusal) (done : Result (Unit {0}) Refusal) → Serves X N asked done a b → TellsEnd Says done given → (a.writes < b.writes) ⊎ (a.host.writes < b.host.writes) → given ≡ status.WriteFault
+      write-told asked done s t (inl more) = output-told asked done s t more
+      write-told asked done s t (inr more) = (let e = host-writes asked done s in absurd (omega (arith, e, more)))
 
       -- ---- no block is called bad before one was touched
 
@@ -370,14 +452,14 @@ module _ (Says : List ℕ → Type 0) where
       no-blame asked why done is words (inl same) = λ bad. (let e : why ≡ asked = (let k : Err why ≡ Err asked = sym is ∙ same in cc) in (words-whole asked words).1 (ap status_of (sym e) ∙ bad))
       no-blame asked why done is words (inr same) = λ bad. (let e : why ≡ no_memory = (let k : Err why ≡ Err no_memory = sym is ∙ same in cc) in let k : status.Memory ≡ status.BadBlock = ap status_of (sym e) ∙ bad in cc)
 
-      pub blamed-told : (asked : Result Command Refusal) (done : Result (Unit {0}) Refusal) → IsOfWords asked → Serves X N asked done a b → TellsEnd Says done given → given ≡ status.BadBlock → a.touches < b.touches
-      blamed-told asked (Ok done) words h t is = absurd (let k : status.Ok ≡ status.BadBlock = sym t.0 ∙ is in cc)
-      blamed-told (Ok command) (Err why) words h t is = by t
+      pub blamed-told : (asked : Result Command Refusal) (done : Result (Unit {0}) Refusal) → IsOfWords asked → Serves X N asked done a b → TellsEnd Says done given → of_command adopts false asked ≡ false → given ≡ status.BadBlock → a.touches < b.touches
+      blamed-told asked (Ok done) words h t plain is = absurd (let k : status.Ok ≡ status.BadBlock = sym t.0 ∙ is in cc)
+      blamed-told (Ok command) (Err why) words h t plain is = by t
         where
           by : TellsWhy Says why given → a.touches < b.touches
-          by (inl told) = h.touched (blaming-of why (sym told.0 ∙ is))
+          by (inl told) = h.touched plain (blaming-of why (sym told.0 ∙ is))
           by (inr told) = absurd (let k : status.Memory ≡ status.BadBlock = sym told.1 ∙ is in cc)
-      blamed-told (Err asked) (Err why) words h t is = by t
+      blamed-told (Err asked) (Err why) words h t plain is = by t
         where
           by : TellsWhy Says why given → a.touches < b.touches
           by (inl told) = absurd (no-blame asked why (Err why) refl words h.refused (sym told.0 ∙ is))
@@ -403,8 +485,8 @@ module _ (Says : List ℕ → Type 0) where
       idle-prints why done words (inr is) same = subst (λ d. PrintsAt (λ text. ⊤) false (ended d) a.held b.held) (sym is) (ap (λ (x : Around). x.held) same)
 
       pub prints-told : (asked : Result Command Refusal) (done : Result (Unit {0}) Refusal) → IsOfWords asked → Serves X N asked done a b → TellsEnd Says done given
-          → PrintsAt (IsTextOf X a.store.told asked a.left) (of_command flows false asked) given a.held b.held
-      prints-told (Ok command) done words s t = by-end (IsTextOf X a.store.told (Ok command) a.left) (flows command) done t s.prints
+          → PrintsAt (IsTextOf X N a.store.told a.host.told asked a.left) (of_command flows false asked) given a.held b.held
+      prints-told (Ok command) done words s t = by-end (IsTextOf X N a.store.told a.host.told (Ok command) a.left) (flows command) done t s.prints
       prints-told (Err why) done words s t = by-end (λ text. ⊤) false done t (idle-prints why done words s.refused s.same)
 
       pub writes-told : (asked : Result Command Refusal) (done : Result (Unit {0}) Refusal) → Serves X N asked done a b → TellsEnd Says done given → WritesFor X asked (is_done given) a.store.told b.store.told
@@ -427,10 +509,17 @@ module _ (Says : List ℕ → Type 0) where
       synced-told (Ok (Add true)) done s t is = tt
       synced-told (Ok (Add false)) done s t is =
           synced-of X a.store.told b.store.told (subst (λ d. WritesAs X (command_writes (Add false)) d a.store.told b.store.told) (was-ok done t is) s.leaves.writes)
+      synced-told (Ok (AddFrom recursive true path)) done s t is = tt
+      synced-told (Ok (AddFrom recursive false path)) done s t is =
+          synced-of X a.store.told b.store.told (subst (λ d. WritesAs X (command_writes (AddFrom recursive false path)) d a.store.told b.store.told) (was-ok done t is) s.leaves.writes)
       synced-told (Ok (WriteInput how path)) done s t is = tt
       synced-told (Ok (At ask path)) done s t is = tt
       synced-told (Ok (Read offset count path)) done s t is = tt
       synced-told (Ok (Cat path)) done s t is = tt
+      synced-told (Ok (Export cid)) done s t is = tt
+      synced-told (Ok Import) done s t is =
+          synced-of X a.store.told b.store.told (subst (λ d. WritesAs X (command_writes Import) d a.store.told b.store.told) (was-ok done t is) s.leaves.writes)
+      synced-told (Ok (Adopt source dest)) done s t is = tt
 
       pub good-told : (asked : Result Command Refusal) (done : Result (Unit {0}) Refusal) → Serves X N asked done a b → KeepsGood X a.store.told b.store.told
       good-told (Err asked) done s = KeepsGood-same X a.store.told b.store.told (ap (λ (x : Around). x.store.told) s.same)
@@ -447,6 +536,11 @@ module _ (Says : List ℕ → Type 0) where
       told-same (Ok (At (Edits edit) path)) done s is = absurd cc
       told-same (Ok (Read offset count path)) done s is = s.leaves.writes
       told-same (Ok (Cat path)) done s is = s.leaves.writes
+      told-same (Ok (Export cid)) done s is = s.leaves.writes
+      told-same (Ok Import) done s is = absurd cc
+      told-same (Ok (Adopt source dest)) done s is = absurd cc
+      told-same (Ok (AddFrom recursive true path)) done s is = s.leaves.writes
+      told-same (Ok (AddFrom recursive false path)) done s is = absurd cc
 
       pub idle-told : (asked : Result Command Refusal) (done : Result (Unit {0}) Refusal) → Serves X N asked done a b → (p : Profile) (es : Entries) (bytes : List ℕ) → NamesOver X N a.store.told p es → HasInput asked a.left bytes a.reads b.reads → Stood a.store.faults b.store.faults
           → of_command (is_idle bytes es) false asked ≡ true → b.store.told ≡ a.store.told
@@ -456,23 +550,26 @@ module _ (Says : List ℕ → Type 0) where
       -- ---- over a store that stands
 
       pub replies-told : (asked : Result Command Refusal) (done : Result (Unit {0}) Refusal) → Serves X N asked done a b → TellsEnd Says done given
-          → (world : World) → FindsWorld X N asked a.store.told world → HasInput asked a.left world.input a.reads b.reads → Calm a.store b.store → Stood a.writes b.writes → EndsAs Says X N asked world given a.held b.held b.store.told
+          → (world : World) → FindsWorld X N asked a.store.told world → HasOutside asked (outside_of world) a b → Calm a.store b.store → Stood a.writes b.writes → EndsAs Says X N asked world given a.held b.held b.store.told b.host.told
       replies-told (Ok command) done s t world finds input calm write = by done (s.answers world finds input (record { store = calm; output = write })) t (stays done s)
         where
+          leaves : TellsHost (uses_host command) b.host.told (host_after (Ok command) world)
+          leaves = host-tells (uses_host command) (is_read done) a.host b.host world.host s.host (λ uses. (input.1 uses).0)
+
           stays : (done : Result (Unit {0}) Refusal) → Does X N command done a b → (why : Refusal) → done ≡ Err why → StandsIf X N (needs_standing command) b.store.told world.standing
           stays done h why is = still-stands X N a.store.told b.store.told (needs_standing command) world.standing h.leaves.good (subst (λ d. IfErr d (λ why. head_in b.store.told ≡ head_in a.store.told)) is h.leaves.head) finds.stands
 
           by : (done : Result (Unit {0}) Refusal) → DoesAnswer X N command world done a.held b.held b.store.told → TellsEnd Says done given → ((why : Refusal) → done ≡ Err why → StandsIf X N (needs_standing command) b.store.told world.standing)
-              → EndsAs Says X N (Ok command) world given a.held b.held b.store.told
+              → EndsAs Says X N (Ok command) world given a.held b.held b.store.told b.host.told
           by (Ok done) (inl x) t stays = absurd (let e = x.ends_are in cc)
-          by (Ok done) (inr x) t stays = inr (record { status_is = (ok-ends (reply X N command world).ends given a.held b.held t x.ends).0; says = (ok-ends (reply X N command world).ends given a.held b.held t x.ends).1; printed = printed-all (reply X N command world).ends (Ok done) a.held b.held x.ends; stands = x.stands; blocks = x.blocks })
+          by (Ok done) (inr x) t stays = inr (record { status_is = (ok-ends (reply X N command world).ends given a.held b.held t x.ends).0; says = (ok-ends (reply X N command world).ends given a.held b.held t x.ends).1; printed = printed-all (reply X N command world).ends (Ok done) a.held b.held x.ends; stands = x.stands; blocks = x.blocks }, leaves)
           by (Err why) (inl x) t stays =
               let e : why ≡ no_memory = (let same = x.ends_are in cc) in
               let told = memory-told given (subst (λ w. TellsWhy Says w given) e t) in
               inl (record { status_is = told.0; says = told.1; stands = x.stands })
           by (Err why) (inr x) (inl told) stays =
               let is = err-ends (reply X N command world).ends why a.held b.held x.ends in
-              inr (record { status_is = told.0 ∙ ap ended is; says = subst (λ e. Says (said e)) is told.1; printed = printed-all (reply X N command world).ends (Err why) a.held b.held x.ends; stands = x.stands; blocks = x.blocks })
+              inr (record { status_is = told.0 ∙ ap ended is; says = subst (λ e. Says (said e)) is told.1; printed = printed-all (reply X N command world).ends (Err why) a.held b.held x.ends; stands = x.stands; blocks = x.blocks }, leaves)
           by (Err why) (inr x) (inr told) stays = inl (record { status_is = told.1; says = told.2; stands = stays why refl })
       replies-told (Err asked) done s t world finds input calm write = by s.refused
         where
@@ -482,24 +579,24 @@ module _ (Says : List ℕ → Type 0) where
           stands : TellsAs X N b.store.told world.standing
           stands = subst (λ (x : Around). TellsAs X N x.store.told world.standing) (sym s.same) finds.stands
 
-          by : (done ≡ Err asked) ⊎ (done ≡ Err no_memory) → EndsAs Says X N (Err asked) world given a.held b.held b.store.told
+          by : (done ≡ Err asked) ⊎ (done ≡ Err no_memory) → EndsAs Says X N (Err asked) world given a.held b.held b.store.told b.host.told
           by (inl is) = refused (subst (λ d. TellsEnd Says d given) is t)
             where
-              refused : TellsWhy Says asked given → EndsAs Says X N (Err asked) world given a.held b.held b.store.told
-              refused (inl told) = inr (record { status_is = told.0; says = told.1; printed = held-same; stands = stands; blocks = tells-none X N b.store.told world.standing stands })
+              refused : TellsWhy Says asked given → EndsAs Says X N (Err asked) world given a.held b.held b.store.told b.host.told
+              refused (inl told) = inr (record { status_is = told.0; says = told.1; printed = held-same; stands = stands; blocks = tells-none X N b.store.told world.standing stands }, tt)
               refused (inr told) = inl (record { status_is = told.1; says = told.2; stands = stands })
           by (inr is) = (let told = memory-told given (subst (λ d. TellsEnd Says d given) is t) in inl (record { status_is = told.0; says = told.1; stands = stands }))
 
       -- nothing but the beginning of the reply's text is printed
       pub prefix-told : (asked : Result Command Refusal) (done : Result (Unit {0}) Refusal) → Serves X N asked done a b
-          → (world : World) → FindsOver X N a.store.told b.store.told asked world → HasInput asked a.left world.input a.reads b.reads → CountsCanRise a.store → PrintsPart (reply_to X N asked world).ends a.held b.held
+          → (world : World) → FindsOver X N a.store.told b.store.told asked world → HasOutside asked (outside_of world) a b → CountsCanRise a.store → PrintsPart (reply_to X N asked world).ends a.held b.held
       prefix-told (Ok command) done s world finds input room = s.prefix world finds input room
       prefix-told (Err asked) done s world finds input room = ap (λ (x : Around). x.held) s.same
 
       -- ---- no block is missing or bad
 
       pub whole-told : (asked : Result Command Refusal) (done : Result (Unit {0}) Refusal) → IsOfWords asked → Serves X N asked done a b → TellsEnd Says done given
-          → (s : Standing) → of_command needs_standing true asked ≡ true → TellsAs X N a.store.told s → Calm a.store b.store → FindsAll given
+          → (s : Standing) → of_command reads_tree_alone true asked ≡ true → TellsAs X N a.store.told s → Calm a.store b.store → FindsAll given
       whole-told (Ok command) done words h t s needs stands calm = ended-told FindsAll done t (h.whole s needs stands calm) (λ e. cc, λ e. cc)
       whole-told (Err asked) done words h t s needs stands calm = ended-told FindsAll done t (by h.refused) (λ e. cc, λ e. cc)
         where
@@ -514,3 +611,7 @@ module _ (Says : List ℕ → Type 0) where
       looks-told (At ask path) done h t = tt
       looks-told (Read offset count path) done h t = tt
       looks-told (Cat path) done h t = tt
+      looks-told (Export cid) done h t = tt
+      looks-told Import done h t = ended-told FindsAll done t (cars-find done h.kinds) (λ e. cc, λ e. cc)
+      looks-told (Adopt source dest) done h t = tt
+      looks-told (AddFrom recursive only_hash path) done h t = ended-told FindsAll done t (hosts-finds done h.kinds) (λ e. cc, λ e. cc)

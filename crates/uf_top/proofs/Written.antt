@@ -1,12 +1,12 @@
 -- How a command is done that writes its input into a file.
-use Rattle.std.proofs.Common.{◌≡◌, ℕ, ◌+◌, ◌<◌, ◌≤◌, List, [], Bool, true, false, arith, refl, sym, ap, subst, ◌∙◌, inl, inr, Some, None, Result, Ok, Err}
+use Rattle.std.proofs.Common.{◌≡◌, ℕ, ◌+◌, ◌<◌, ◌≤◌, List, [], Bool, true, false, arith, refl, sym, ap, subst, ◌∙◌, inl, inr, Some, Result, Ok, Err}
 use Rattle.std.specs.Prelude.{IfSome, length, if◌then◌else◌}
 use Rattle.std.proofs.lemmas.Bool.{le-leb, lt-leb}
 use Rattle.uf_edge.specs.Counts.{Counts, Stood}
 use Rattle.uf_edge.specs.Streams.{IsWhole}
 use Rattle.uf_edge.specs.Streams as streams
 use Rattle.uf_mfs.specs.Answers.{ShownOpening}
-use Rattle.uf_mfs.specs.Bad.{IsBad}
+use Rattle.uf_mfs.specs.Bad.{IsBadInHead}
 use Rattle.uf_mfs.specs.Standing.{NamesOver, Opens, OpensOver, ReadsHead, Same, TellsAs, head_in}
 use Rattle.uf_mfs.specs.Steps.{tree_fault}
 use Rattle.uf_mfs.specs.Touches.{CountsUp, IsBlaming}
@@ -27,7 +27,7 @@ use Rattle.uf_tree.specs.TreePlan.{blocks}
 use Rattle.uf_tree.specs.declared.profile.Profile.{Profile}
 use Rattle.uf_reply.specs.Commands.{HasInput, has_nothing_to_do}
 use Rattle.uf_reply.specs.Kinds.{IsOf, TakesInput, WorksInTree, fault_behind, fault_kind, may_answer, refusal_kind}
-use Rattle.uf_reply.specs.Reply.{Reply, in_tree, input_reply, most_input, tree_reply, unchanged}
+use Rattle.uf_top.specs.Reply.{Reply, in_tree, input_reply, most_input, tree_reply, unchanged}
 use Rattle.uf_reply.specs.declared.types.Ask.TheVariants.{Edit as Edits}
 use Rattle.uf_reply.specs.declared.types.Command.TheVariants.{WriteInput, At}
 use Rattle.uf_reply.specs.declared.types.Edit.TheVariants.{Write}
@@ -52,6 +52,8 @@ tree-taken : (r : Result (List ℕ) Refusal) → IsOf (may_answer WorksInTree) r
 tree-taken (Ok text) h = tt
 tree-taken (Err (refusal.Rule rule)) h = refl
 tree-taken (Err (refusal.Dag rule)) h = h
+tree-taken (Err (refusal.Car number place)) h = h
+tree-taken (Err (refusal.Host rule)) h = h
 tree-taken (Err (refusal.BadPath why)) h = h
 tree-taken (Err refusal.InputTooLong) h = refl
 tree-taken (Err refusal.Usage) h = h
@@ -73,6 +75,8 @@ not-long : (r : Result (List ℕ) Refusal) (l m : streams.Told) → IsOf (may_an
 not-long (Ok text) l m h = tt
 not-long (Err (refusal.Rule rule)) l m h = tt
 not-long (Err (refusal.Dag rule)) l m h = tt
+not-long (Err (refusal.Car number place)) l m h = tt
+not-long (Err (refusal.Host rule)) l m h = tt
 not-long (Err (refusal.BadPath why)) l m h = tt
 not-long (Err refusal.InputTooLong) l m h = absurd (let e : false ≡ true = h in cc)
 not-long (Err refusal.Usage) l m h = tt
@@ -86,6 +90,8 @@ module _ (how : WriteHow) (path : Path) where
   ready-taken told piece (Ok text) h = tt
   ready-taken told piece (Err (refusal.Rule rule)) h = tt
   ready-taken told piece (Err (refusal.Dag rule)) h = tt
+  ready-taken told piece (Err (refusal.Car number place)) h = tt
+  ready-taken told piece (Err (refusal.Host rule)) h = tt
   ready-taken told piece (Err (refusal.BadPath why)) h = tt
   ready-taken told piece (Err refusal.InputTooLong) h = tt
   ready-taken told piece (Err refusal.Usage) h = tt
@@ -125,7 +131,7 @@ module _ (how : WriteHow) (path : Path) where
       pub input-written : (r : Result (List ℕ) Refusal) (a b : Seen) (t0 t1 : ℕ) → Makes X N (At (Edits (Write how piece)) path) r a b l l i i t0 t1 → Makes X N (WriteInput how path) r a b l k i j t0 t1
       input-written r a b t0 t1 w = record {
         answers = λ world stands input calm. let s = world.standing in let bytes = world.input in subst (λ given. Answers X N s given r b.told) (sym (same-reply s bytes input)) (w.answers world stands (λ e. absurd cc) calm);
-        lost = λ p es heights held bytes named input calm. subst (λ given. AnswersOver X N a.told b.told p es (command_needs X N (λ n. 0) (WriteInput how path) p es) given r) (sym (same-reply (Stands p es) bytes input)) (w.lost p es heights held [] named (λ e. absurd cc) calm);
+        lost = λ p es heights held outside named input calm. let bytes = outside.input in subst (λ given. AnswersOver X N a.told b.told p es (command_needs X N (λ n. 0) (WriteInput how path) p es) given r) (sym (same-reply (Stands p es) bytes input)) (w.lost p es heights held outside named (λ e. absurd cc) calm);
         kinds = tree-taken r w.kinds;
         ready = ready-taken a.told piece r w.ready;
         adds = not-long r l k w.kinds;
@@ -149,6 +155,8 @@ module _ (how : WriteHow) (path : Path) where
           → Answers X N (Stands p es) (input_reply X N how path.names bytes p es) (Err why) m.told
       taken-answers (refusal.Rule rule) bytes p es takes counts input stands = absurd takes
       taken-answers (refusal.Dag rule) bytes p es takes counts input stands = absurd takes
+      taken-answers (refusal.Car number place) bytes p es takes counts input stands = absurd takes
+      taken-answers (refusal.Host rule) bytes p es takes counts input stands = absurd takes
       taken-answers (refusal.BadPath path) bytes p es takes counts input stands = absurd takes
       taken-answers refusal.InputTooLong bytes p es takes counts input stands =
           let few = given_few bytes takes.bytes l k (input refl).0 takes.taken in let many = takes.many in
@@ -164,6 +172,8 @@ module _ (how : WriteHow) (path : Path) where
           → AnswersOver X N a.told m.told p es (command_needs X N (λ n. 0) (WriteInput how path) p es) (input_reply X N how path.names bytes p es) (Err why)
       taken-over (refusal.Rule rule) bytes p es takes counts input stands = absurd takes
       taken-over (refusal.Dag rule) bytes p es takes counts input stands = absurd takes
+      taken-over (refusal.Car number place) bytes p es takes counts input stands = absurd takes
+      taken-over (refusal.Host rule) bytes p es takes counts input stands = absurd takes
       taken-over (refusal.BadPath path) bytes p es takes counts input stands = absurd takes
       taken-over refusal.InputTooLong bytes p es takes counts input stands =
           let few = given_few bytes takes.bytes l k (input refl).0 takes.taken in let many = takes.many in
@@ -179,6 +189,8 @@ module _ (how : WriteHow) (path : Path) where
       taken-kinds : (why : Refusal) → TakesAll (Err why) l k → may_answer TakesInput (refusal_kind why) ≡ true
       taken-kinds (refusal.Rule rule) takes = absurd takes
       taken-kinds (refusal.Dag rule) takes = absurd takes
+      taken-kinds (refusal.Car number place) takes = absurd takes
+      taken-kinds (refusal.Host rule) takes = absurd takes
       taken-kinds (refusal.BadPath path) takes = absurd takes
       taken-kinds refusal.InputTooLong takes = refl
       taken-kinds refusal.Usage takes = absurd takes
@@ -190,6 +202,8 @@ module _ (how : WriteHow) (path : Path) where
       taken-finds : (why : Refusal) → TakesAll (Err why) l k → Finds (Err why)
       taken-finds (refusal.Rule rule) takes = absurd takes
       taken-finds (refusal.Dag rule) takes = absurd takes
+      taken-finds (refusal.Car number place) takes = absurd takes
+      taken-finds (refusal.Host rule) takes = absurd takes
       taken-finds (refusal.BadPath path) takes = absurd takes
       taken-finds refusal.InputTooLong takes = (λ e. cc, λ e. cc)
       taken-finds refusal.Usage takes = absurd takes
@@ -201,6 +215,8 @@ module _ (how : WriteHow) (path : Path) where
       taken-long : (why : Refusal) → TakesAll (Err why) l k → IsLongAt (Err why) l k
       taken-long (refusal.Rule rule) takes = tt
       taken-long (refusal.Dag rule) takes = tt
+      taken-long (refusal.Car number place) takes = tt
+      taken-long (refusal.Host rule) takes = tt
       taken-long (refusal.BadPath path) takes = tt
       taken-long refusal.InputTooLong takes = takes
       taken-long refusal.Usage takes = tt
@@ -212,6 +228,8 @@ module _ (how : WriteHow) (path : Path) where
       taken-ready : (why : Refusal) → TakesAll (Err why) l k → IsReady {A = List ℕ} a.told (WriteInput how path) (Err why)
       taken-ready (refusal.Rule rule) takes = tt
       taken-ready (refusal.Dag rule) takes = tt
+      taken-ready (refusal.Car number place) takes = tt
+      taken-ready (refusal.Host rule) takes = tt
       taken-ready (refusal.BadPath path) takes = tt
       taken-ready refusal.InputTooLong takes = tt
       taken-ready refusal.Usage takes = tt
@@ -223,6 +241,8 @@ module _ (how : WriteHow) (path : Path) where
       taken-wants : (why : Refusal) → TakesAll (Err why) l k → OnlyWants {A = List ℕ} (Err why)
       taken-wants (refusal.Rule rule) takes = tt
       taken-wants (refusal.Dag rule) takes = tt
+      taken-wants (refusal.Car number place) takes = tt
+      taken-wants (refusal.Host rule) takes = tt
       taken-wants (refusal.BadPath path) takes = tt
       taken-wants refusal.InputTooLong takes = tt
       taken-wants refusal.Usage takes = tt
@@ -234,6 +254,8 @@ module _ (how : WriteHow) (path : Path) where
       taken-blames : (why : Refusal) → TakesAll (Err why) l k → IsBlaming (fault_behind why) → ⊥
       taken-blames (refusal.Rule rule) takes blames = blames
       taken-blames (refusal.Dag rule) takes blames = blames
+      taken-blames (refusal.Car number place) takes blames = blames
+      taken-blames (refusal.Host rule) takes blames = blames
       taken-blames (refusal.BadPath path) takes blames = blames
       taken-blames refusal.InputTooLong takes blames = blames
       taken-blames refusal.Usage takes blames = blames
@@ -247,7 +269,7 @@ module _ (how : WriteHow) (path : Path) where
       input-refused mfs why opens calm takes counts = record {
         answers = λ world stands input calm2. let s = world.standing in let bytes = world.input in opened X N s (input_reply X N how path.names bytes) mfs m.told m.told (Err why) (opens s stands calm2.faults) (stands-same X N a.told m.told s told stands)
             (λ p es at now. taken-answers why bytes p es takes counts input now);
-        lost = λ p es heights held bytes named input calm2. taken-over why bytes p es takes counts input (names-same X N a.told m.told p es told named);
+        lost = λ p es heights held outside named input calm2. let bytes = outside.input in taken-over why bytes p es takes counts input (names-same X N a.told m.told p es told named);
         kinds = taken-kinds why takes;
         ready = taken-ready why takes;
         adds = taken-long why takes;
@@ -263,16 +285,16 @@ module _ (how : WriteHow) (path : Path) where
 
       pub input-unopened : (f : MfsFault) (w : Refusal) → RefusesOpening f w → ((s : Standing) → TellsAs X N a.told s → Stood a.faults m.faults → Opens X N m.told s (Err f))
           → ((p : Profile) (es : Entries) → NamesOver X N a.told p es → Stood a.faults m.faults → OpensOver X N a.told p es (Err f))
-          → ReadsHead a.told (Err f) → CountsUp (tree_fault {A = Mfs} (Err f)) t0 t1 → ShownOpening X (IsBad N None) {A = Mfs} (Err f) a m → Makes X N (WriteInput how path) (Err w) a m l l i i t0 t1
+          → ReadsHead a.told (Err f) → CountsUp (tree_fault {A = Mfs} (Err f)) t0 t1 → ShownOpening X (IsBadInHead X N a.told) {A = Mfs} (Err f) a m → Makes X N (WriteInput how path) (Err w) a m l l i i t0 t1
       input-unopened f w is opens lost head up cause = record {
         answers = λ world stands input calm. let s = world.standing in let bytes = world.input in not-opened X N s (input_reply X N how path.names bytes) f w m.told is (opens s stands calm.faults) (stands-same X N a.told m.told s told stands);
-        lost = λ p es heights held bytes named input calm. opening-over X N a.told m.told p es (blocks X N p (Dir es)) (input_reply X N how path.names bytes p es) f w is (lost p es named.names calm.faults)
+        lost = λ p es heights held outside named input calm. let bytes = outside.input in opening-over X N a.told m.told p es (blocks X N p (Dir es)) (input_reply X N how path.names bytes p es) f w is (lost p es named.names calm.faults)
             (names-same X N a.told m.told p es told named);
         kinds = tree-taken (Err w) (opening-kinds f w is);
         ready = ready-taken a.told [] (Err w) (opening-ready a.told (Edits (Write how [])) path f w is head);
         adds = not-long (Err w) l l (opening-kinds f w is);
         counts = tree-counts (Err w) i (opening-kinds f w is);
-        cause = Shown-opening Mfs X (IsBad N None) (IsBadIn X N a.told m.told) (bad-of-none X N a.told m.told) f w a m is cause;
+        cause = Shown-opening Mfs X (IsBadInHead X N a.told) (IsBadIn X N a.told m.told) (bad-of-none X N a.told m.told) f w a m is cause;
         whole = λ s stands calm. at-whole X N s (Edits (Write how [])) path.names (Err w) m.told
             (not-opened X N s (tree_reply X N (Edits (Write how [])) path.names) f w m.told is (opens s stands calm.faults) (stands-same X N a.told m.told s told stands));
         touches = λ p es bytes rows named input heights calm. omega (arith, opens_by);

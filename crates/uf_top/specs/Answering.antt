@@ -7,7 +7,7 @@ use Rattle.uf_mfs.specs.Standing.{TellsAs, TellsHeld}
 use Rattle.uf_store.specs.Contents.{Told}
 use Rattle.uf_tree.specs.Standing.{Standing}
 use Rattle.uf_reply.specs.Commands.{needs_standing}
-use Rattle.uf_reply.specs.Reply.{Reply, World, reply}
+use Rattle.uf_top.specs.Reply.{Reply, World, reply}
 use Rattle.uf_reply.specs.Statuses.{no_memory}
 use Rattle.uf_reply.specs.declared.types.Command.{Command}
 use Rattle.uf_reply.specs.declared.types.Refusal.{Refusal}

@@ -1,13 +1,29 @@
 -- What is told around a command, before it or after it.
-use Rattle.std.specs.Prelude.{◌≡◌, ℕ, Bool, true, false}
-use Rattle.uf_edge.specs.Counts.{Rose, Stood}
+use Rattle.std.specs.Prelude.{◌≡◌, ℕ, Bool, true, false, ◌&&◌, not}
+use Rattle.std.specs.declared.result.Result.{Result}
+use Rattle.uf_edge.specs.Counts.{Counts, Rose, Stood}
+use Rattle.uf_edge.specs.Host.{HostTold}
 use Rattle.uf_edge.specs.Streams as streams
 use Rattle.uf_mfs.specs.Reading.{CanRise}
 use Rattle.uf_store.specs.Calls.{Calm}
 use Rattle.uf_store.specs.Seen.{Seen}
+use Rattle.uf_reply.specs.Commands.{HasHost, HasInput, uses_host}
+use Rattle.uf_reply.specs.declared.types.Command.{Command}
+use Rattle.uf_reply.specs.declared.types.Refusal.{Refusal}
+use Rattle.uf_top.specs.Causes.{is_read}
+use Rattle.uf_top.specs.Reply.{Outside}
+
+-- what a host tells, and how often its reading and its writing failed
+pub record HostSide : Type 0 where
+  pub told : HostTold
+  pub reads : ℕ
+  pub writes : ℕ
+
+abbrev pub host_side : HostTold → ℕ → ℕ → HostSide
+host_side told reads writes = record { told = told; reads = reads; writes = writes }
 
 -- what the store shows, what is left of the input and how often its reading failed, what the output holds and how often
--- its writing failed, and how many touches were counted
+-- its writing failed, how many touches were counted, and the host
 pub record Around : Type 0 where
   pub store : Seen
   pub left : streams.Told
@@ -15,10 +31,36 @@ pub record Around : Type 0 where
   pub held : streams.Told
   pub writes : ℕ
   pub touches : ℕ
+  pub host : HostSide
 
-abbrev pub around : Seen → streams.Told → ℕ → streams.Told → ℕ → ℕ → Around
-around store left reads held writes touches =
-    record { store = store; left = left; reads = reads; held = held; writes = writes; touches = touches }
+abbrev pub around : Seen → streams.Told → ℕ → streams.Told → ℕ → ℕ → HostSide → Around
+around store left reads held writes touches host =
+    record { store = store; left = left; reads = reads; held = held; writes = writes; touches = touches; host = host }
+
+-- what is outside of the store is so, where the command asks for it
+abbrev pub HasOutside : Result Command Refusal → Outside → Around → Around → Type 0
+HasOutside asked outside before now = HasInput asked before.left outside.input before.reads now.reads
+    × HasHost asked before.host.told outside.host before.host.reads now.host.reads
+
+-- the answer is a failed reading of the input: a command that uses the host reads no input
+abbrev pub is_input_read : {A : Type 0} → Command → Result A Refusal → Bool
+is_input_read command done = not (uses_host command) && is_read done
+
+-- nothing changed in the host but its count of readings, and that only where one failed
+pub record OnlyReadsHost (is_fault : Bool) (before now : HostSide) : Type 0 where
+  pub told : now.told ≡ before.told
+  pub reads : Counts is_fault before.reads now.reads
+  pub writes : now.writes ≡ before.writes
+
+-- a command that uses the host only reads it, and any other leaves it as it was
+abbrev pub UsesHost : (uses is_fault : Bool) → HostSide → HostSide → Type 0
+UsesHost true is_fault before now = OnlyReadsHost is_fault before now
+UsesHost false is_fault before now = now ≡ before
+
+-- a count rose: the host's where it is used, and else the one of the stream
+abbrev pub RoseAt : (of_host : Bool) → (stream stream_now host host_now : ℕ) → Type 0
+RoseAt true stream stream_now host host_now = Rose host host_now
+RoseAt false stream stream_now host host_now = Rose stream stream_now
 
 -- no count of the store is at its last value, at which it would hide a failure or a clash
 pub record CountsCanRise (seen : Seen) : Type 0 where

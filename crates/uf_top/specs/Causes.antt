@@ -11,9 +11,9 @@ use Rattle.uf_edge.specs.Counts.{Counts}
 use Rattle.uf_edge.specs.Streams.{before, Exceeds, IsWhole, Sends, is_unsent}
 use Rattle.uf_edge.specs.Streams as streams
 use Rattle.uf_fileread.specs.Bad.{IsBadInFile}
-use Rattle.uf_mfs.specs.Bad.{IsBad}
+use Rattle.uf_mfs.specs.Bad.{IsBadInHead, IsHeadTold}
 use Rattle.uf_mfs.specs.Standing.{head_in}
-use Rattle.uf_mfs.specs.Writes.{IsBadWritten}
+use Rattle.uf_mfs.specs.Writes.{IsBadWrittenIn}
 use Rattle.uf_mfs.specs.declared.fault.MfsFault.{MfsFault}
 use Rattle.uf_mfs.specs.declared.fault.MfsFault.TheVariants as mfs
 use Rattle.uf_plain.specs.declared.ready.Ready.{Ready}
@@ -27,15 +27,16 @@ use Rattle.uf_store.specs.declared.store.Write.TheVariants.{Synced}
 use Rattle.uf_store.specs.Contents.{Told}
 use Rattle.uf_tree.specs.HeadReading.{head_reads}
 use Rattle.uf_tree.specs.declared.head_fault.HeadFault.{HeadFault}
+use Rattle.uf_tree.specs.declared.profile.Head.{Head}
 use Rattle.uf_tree.specs.declared.profile.Profile.{Profile}
 use Rattle.uf_reply.specs.declared.types.Command.{Command}
-use Rattle.uf_reply.specs.declared.types.Command.TheVariants.{Init, Add, WriteInput, At, Read, Cat}
+use Rattle.uf_reply.specs.declared.types.Command.TheVariants.{Init, Add, AddFrom, WriteInput, At, Read, Cat, Export, Import, Adopt}
 use Rattle.uf_reply.specs.declared.types.Refusal.{Refusal}
 use Rattle.uf_reply.specs.declared.types.Refusal.TheVariants as refusal
 use Rattle.uf_reply.specs.Kinds.{is_of, read_kind, refusal_fault, write_kind}
 use Rattle.uf_reply.specs.Lines.{added_line}
 use Rattle.uf_reply.specs.Statuses.{no_memory}
-use Rattle.uf_reply.specs.Reply.{file_cid, most_input}
+use Rattle.uf_top.specs.Reply.{file_cid, most_input}
 
 -- the faults of calls that open a tree: no rule refuses that, and nothing is printed there
 abbrev pub IsOpeningFault : MfsFault → Type 0
@@ -108,10 +109,16 @@ IsReason (Init p) why told = ⊥
 IsReason (Add true) ready.BadHead told = IfSome told (λ t. IsUnread t.notes.head)
 IsReason (Add true) why told = ⊥
 IsReason (Add false) why told = IsReasonInTree why told
+IsReason (AddFrom recursive true path) ready.BadHead told = IfSome told (λ t. IsUnread t.notes.head)
+IsReason (AddFrom recursive true path) why told = ⊥
+IsReason (AddFrom recursive false path) why told = IsReasonInTree why told
 IsReason (WriteInput how path) why told = IsReasonInTree why told
 IsReason (At ask path) why told = IsReasonInTree why told
 IsReason (Read offset count path) why told = IsReasonInTree why told
 IsReason (Cat path) why told = ⊥
+IsReason (Export cid) why told = ⊥
+IsReason Import why told = ⊥
+IsReason (Adopt source dest) why told = IsReasonInTree why told
 
 -- the refusal that the store isn't ready has its reason in the Head
 abbrev pub IsReadyBy : Told → Command → Refusal → Type 0
@@ -122,11 +129,12 @@ abbrev pub IsReady : {A : Type 0} → Told → Command → Result A Refusal → 
 IsReady told command (Ok a) = ⊤
 IsReady told command (Err why) = IsReadyBy told command why
 
--- the block isn't canonical in its role: on a way in the tree, in a file that is read, or, where the profile of the Head
--- is required, there or in a file that is edited
+-- the block isn't canonical in its role: in the tree that the Head names, in a file that is read, or, where the profile
+-- of the Head is required, in that tree or in a file that is edited
 abbrev pub IsBadIn : (List ℕ → List ℕ) → (List ℕ → ℕ) → (before now : Told) → Role → List ℕ → Type 0
-IsBadIn X N before now role bytes = IsBad N None role bytes ⊎ ((file : Cid) × IsBadInFile before file role bytes)
-    ⊎ ((p : Profile) × IsProfileOf before p × IsBadWritten X N p now role bytes)
+IsBadIn X N before now role bytes = IsBadInHead X N before role bytes
+    ⊎ ((file : Cid) × IsBadInFile before file role bytes)
+    ⊎ ((head : Head) × IsHeadTold before head × IsBadWrittenIn X N head.profile now head.root role bytes)
 
 -- the Head moves only where a command is done that prints nothing
 abbrev pub HeadStays : Result (List ℕ) Refusal → Told → Told → Type 0

@@ -5,12 +5,12 @@ use Rattle.std.specs.declared.result.Result.TheVariants.{Ok, Err}
 use Rattle.uf_cid.specs.Blocks.{Lookup}
 use Rattle.uf_cid.specs.declared.cid.Cid.{Cid}
 use Rattle.uf_lenient.specs.Answers.{IsStoreOwn}
-use Rattle.uf_lenient.specs.Reading.{file_of, resolve_from}
+use Rattle.uf_lenient.specs.Reading.{denotes, file_of, resolve_from}
 use Rattle.uf_path.specs.declared.path.DagPath.{DagPath}
-use Rattle.uf_reply.specs.Dags.{file_at, tree_at, usual_limits}
+use Rattle.uf_reply.specs.Dags.{by_dag, file_at, tree_at, usual_limits}
 use Rattle.uf_reply.specs.declared.types.Refusal.{Refusal}
 use Rattle.uf_reply.specs.declared.types.Refusal.TheVariants as refusal
-use Rattle.uf_tree.specs.Tree.{File}
+use Rattle.uf_tree.specs.Tree.{Tree, File}
 
 -- a path leads to this CID
 abbrev pub LeadsTo : Lookup → DagPath → Cid → Type 0
@@ -37,3 +37,14 @@ pub record IsFileIn (held : Lookup) (path : DagPath) (cid : Cid) : Type 0 where
 abbrev pub FindsFile : Lookup → DagPath → Result Cid Refusal → Type 0
 FindsFile held path (Ok cid) = IsFileIn held path cid
 FindsFile held path (Err why) = IsOwnRefusal why ⊎ (file_at path (tree_at held path) ≡ Err why)
+
+-- a path leads to a tree, which this CID denotes
+pub record IsTreeIn (held : Lookup) (path : DagPath) (cid : Cid) : Type 0 where
+  pub tree : Tree
+  pub leads : tree_at held path ≡ Ok tree
+  pub denoted : denotes held usual_limits cid ≡ Ok tree
+
+-- a path leads to what this CID denotes, or why it leads to no tree
+abbrev pub FindsTree : Lookup → DagPath → Result Cid Refusal → Type 0
+FindsTree held path (Ok cid) = IsTreeIn held path cid
+FindsTree held path (Err why) = IsOwnRefusal why ⊎ (by_dag path (tree_at held path) ≡ Err why)

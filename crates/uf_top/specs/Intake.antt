@@ -18,7 +18,7 @@ use Rattle.uf_reply.specs.declared.types.Refusal.{Refusal}
 use Rattle.uf_reply.specs.declared.types.Refusal.TheVariants as refusal
 use Rattle.uf_reply.specs.Lines.{added_line}
 use Rattle.uf_reply.specs.Kinds.{refusal_fault}
-use Rattle.uf_reply.specs.Reply.{file_cid}
+use Rattle.uf_top.specs.Reply.{file_cid}
 
 -- no fault was passed over by a call that reads no block's content
 abbrev pub ShownIn : {A : Type 0} → (List ℕ → List ℕ) → Result A Refusal → Seen → Seen → Type 0

@@ -14,13 +14,13 @@ use Rattle.uf_tree.specs.Tree.{Dir, Entries}
 use Rattle.uf_tree.specs.TreePlan.{blocks}
 use Rattle.uf_tree.specs.declared.profile.Profile.{Profile}
 use Rattle.uf_reply.specs.Lines.{line_of, said}
-use Rattle.uf_reply.specs.Reply.{Reply}
+use Rattle.uf_top.specs.Reply.{Reply}
 use Rattle.uf_reply.specs.Statuses.{ended, status_of}
 use Rattle.uf_reply.specs.declared.status.Status.{Status}
 use Rattle.uf_reply.specs.declared.types.Ask.{Ask}
 use Rattle.uf_reply.specs.declared.types.Ask.TheVariants.{Ls, Stat, Edit as Edits}
 use Rattle.uf_reply.specs.declared.types.Command.{Command}
-use Rattle.uf_reply.specs.declared.types.Command.TheVariants.{Init, Add, WriteInput, At, Read, Cat}
+use Rattle.uf_reply.specs.declared.types.Command.TheVariants.{Init, Add, AddFrom, WriteInput, At, Read, Cat, Export, Import, Adopt}
 use Rattle.uf_reply.specs.declared.types.Refusal.{Refusal}
 use Rattle.uf_reply.specs.declared.types.Refusal.TheVariants as refusal
 use Rattle.uf_top.specs.Endings.{EndsBy, PrintsAll}
@@ -43,11 +43,15 @@ module _ (X : List ℕ → List ℕ) (N : List ℕ → ℕ) where
   abbrev pub command_needs : (ℕ → ℕ) → Command → Profile → Entries → List Held
   command_needs rows (Init q) p es = []
   command_needs rows (Add only_hash) p es = []
+  command_needs rows (AddFrom recursive only_hash path) p es = []
   command_needs rows (WriteInput how path) p es = root_of X N p (Dir es) ++ blocks X N p (Dir es)
   command_needs rows (At ask path) p es = root_of X N p (Dir es) ++ ask_needs ask path.names p es
   command_needs rows (Read offset count path) p es =
       root_of X N p (Dir es) ++ part_needs rows offset count path.names p es
   command_needs rows (Cat path) p es = []
+  command_needs rows (Export cid) p es = []
+  command_needs rows Import p es = []
+  command_needs rows (Adopt source dest) p es = root_of X N p (Dir es) ++ blocks X N p (Dir es)
 
   -- the same of words
   abbrev pub words_need : (ℕ → ℕ) → Result Command Refusal → Profile → Entries → List Held

@@ -1,5 +1,5 @@
 -- How a command was done, before anything of it is printed: what it answers, why, and what it leaves.
-use Rattle.std.specs.Prelude.{◌≡◌, ◌⊎◌, ℕ, ◌+◌, ◌<◌, ◌≤◌, List, [], true, IfErr, IfSome}
+use Rattle.std.specs.Prelude.{◌≡◌, ◌⊎◌, ℕ, ◌+◌, ◌<◌, ◌≤◌, List, [], true, false, IfErr, IfOk, IfSome}
 use Rattle.uf_cid.specs.Blocks.{Lookup}
 use Rattle.std.specs.declared.result.Result.{Result}
 use Rattle.std.specs.declared.result.Result.TheVariants.{Ok, Err}
@@ -11,7 +11,7 @@ use Rattle.uf_mfs.specs.Reading.{AreHeights}
 use Rattle.uf_mfs.specs.Standing.{NamesOver, StandsAt, StandsOver, TellsAs, head_in}
 use Rattle.uf_mfs.specs.Steps.{tree_fault}
 use Rattle.uf_mfs.specs.Touches.{CountsUp, IsBlaming, TouchesFolder}
-use Rattle.uf_mfs.specs.Writes.{IsBadWritten}
+use Rattle.uf_mfs.specs.Writes.{IsBadWrittenIn}
 use Rattle.uf_mfs.specs.declared.fault.MfsFault.{MfsFault}
 use Rattle.uf_mfs.specs.declared.mfs.Mfs.{Mfs}
 use Rattle.uf_path.specs.declared.path.Path.{Path}
@@ -30,18 +30,19 @@ use Rattle.uf_reply.specs.declared.types.Command.TheVariants.{At}
 use Rattle.uf_reply.specs.declared.types.Edit.{Edit}
 use Rattle.uf_reply.specs.declared.types.Refusal.{Refusal}
 use Rattle.uf_reply.specs.Commands.{HasInput, ask_writes, command_writes, has_nothing_to_do, is_idle}
-use Rattle.uf_reply.specs.Commands.{needs_standing, streams as flows}
+use Rattle.uf_reply.specs.Commands.{adopts, reads_tree_alone, streams as flows, uses_host}
 use Rattle.uf_reply.specs.Kinds.{IsOf, family_of, may_answer, may_end, opened_kinds, refusal_fault}
-use Rattle.uf_reply.specs.Reply.{World, edited_by, in_world, reply, tree_reply}
+use Rattle.uf_top.specs.Reply.{Outside, World, edited_by, in_world, outside_of, reply, tree_reply}
 use Rattle.uf_reply.specs.Statuses.{ended, no_memory, status_of}
 use Rattle.uf_reply.specs.declared.status.Status.TheVariants as status
 use Rattle.uf_top.specs.Answering.{Answers, DoesAnswer}
-use Rattle.uf_top.specs.Around.{Around, CountsCanRise, RisesFor, StaysQuiet}
+use Rattle.uf_top.specs.Around.{Around, CountsCanRise, HasOutside, RisesFor, StaysQuiet, UsesHost, is_input_read}
 use Rattle.uf_top.specs.Bounds.{ask_touches, command_touches, touches_of_edit}
 use Rattle.uf_top.specs.Causes.{HeadStays, IsBadIn, IsReady, is_read, is_write}
 use Rattle.uf_top.specs.Endings.{AddsFor, FindsAll, IsTextOf, PrintsAt, PrintsPart, RuleOf}
+use Rattle.uf_top.specs.Hosted.{IsHostedText}
 use Rattle.uf_top.specs.Losing.{AnswersOver, DoesOver, ask_needs, command_needs}
-use Rattle.uf_top.specs.Naming.{FindsOver, FindsWorld, StaysNamed, TellsBlocks}
+use Rattle.uf_top.specs.Naming.{AreGoodIf, FindsOver, FindsWorld, StaysNamed, TellsBlocks}
 use Rattle.uf_top.specs.Shapes.{WritesAs, is_done, is_ok}
 
 module _ (X : List ℕ → List ℕ) (N : List ℕ → ℕ) where
@@ -62,10 +63,11 @@ module _ (X : List ℕ → List ℕ) (N : List ℕ → ℕ) where
     pub answers : (w : World) → TellsAs X N before.told w.standing
         → HasInput (Ok command) left w.input reads reads_now
         → Calm before now → Answers X N w.standing (reply X N command w) done now.told
-    pub lost : (p : Profile) (es : Entries) (rows : ℕ → ℕ) (held : Lookup) (bytes : List ℕ)
-        → StaysNamed X N before.told now.told p es → HasInput (Ok command) left bytes reads reads_now → Calm before now
+    pub lost : (p : Profile) (es : Entries) (rows : ℕ → ℕ) (held : Lookup) (outside : Outside)
+        → StaysNamed X N before.told now.told p es → HasInput (Ok command) left outside.input reads reads_now
+        → Calm before now
         → AnswersOver X N before.told now.told p es (command_needs X N rows command p es)
-        (reply X N command (in_world p es held bytes)) done
+        (reply X N command (in_world p es held outside)) done
     pub kinds : IsOf (may_answer (family_of command)) done
     pub ready : IsReady before.told command done
     pub adds : AddsFor X before.told (Ok command) done left left_now
@@ -79,6 +81,35 @@ module _ (X : List ℕ → List ℕ) (N : List ℕ → ℕ) where
     pub touched : IsBlaming (refusal_fault done) → was < is
     pub leaves : MakesLeaving command done before.told now.told
         (λ bytes. HasInput (Ok command) left bytes reads reads_now × Stood before.faults now.faults)
+
+  -- the same of a command that may use the host, with all that is around it
+  pub record MakesText (command : Command) (done : Result (List ℕ) Refusal) (before now : Around) : Type 0 where
+    pub answers : (w : World) → TellsAs X N before.store.told w.standing
+        → HasOutside (Ok command) (outside_of w) before now → Calm before.store now.store
+        → Answers X N w.standing (reply X N command w) done now.store.told
+    pub lost : (p : Profile) (es : Entries) (rows : ℕ → ℕ) (held : Lookup) (outside : Outside)
+        → StaysNamed X N before.store.told now.store.told p es → HasOutside (Ok command) outside before now
+        → Calm before.store now.store
+        → AnswersOver X N before.store.told now.store.told p es (command_needs X N rows command p es)
+        (reply X N command (in_world p es held outside)) done
+    pub kinds : IsOf (may_answer (family_of command)) done
+    pub ready : IsReady before.store.told command done
+    pub adds : AddsFor X before.store.told (Ok command) done before.left now.left
+    pub reads : Counts (is_input_read command done) before.reads now.reads
+    pub host : UsesHost (uses_host command) (is_read done) before.host now.host
+    pub rows : IfOk done (λ text. IsHostedText X N before.store.told before.host.told command text)
+    pub cause : Shown X (IsBadIn X N before.store.told now.store.told) (refusal_fault done) before.store now.store
+    pub whole : (standing : Standing) → TellsAs X N before.store.told standing → Calm before.store now.store
+        → FindsAll (ended done)
+    pub touches : (p : Profile) (es : Entries) (bytes : List ℕ) (rows : ℕ → ℕ)
+        → StaysNamed X N before.store.told now.store.told p es
+        → HasInput (Ok command) before.left bytes before.reads now.reads → AreHeights p rows
+        → Calm before.store now.store
+        → IfSome (command_touches X N rows bytes command p es) (λ most. now.touches ≤ before.touches + most)
+    pub touched : IsBlaming (refusal_fault done) → before.touches < now.touches
+    pub leaves : MakesLeaving command done before.store.told now.store.told
+        (λ bytes. HasInput (Ok command) before.left bytes before.reads now.reads
+        × Stood before.store.faults now.store.faults)
 
   -- what a command leaves: good blocks, the Head where it is refused, all where nothing is to be done, and what it wrote
   pub record DoesLeave (command : Command) (done : Result (Unit {0}) Refusal) (before now : Told)
@@ -94,33 +125,35 @@ module _ (X : List ℕ → List ℕ) (N : List ℕ → ℕ) where
   -- what it leaves
   pub record Does (command : Command) (done : Result (Unit {0}) Refusal) (before now : Around) : Type 0 where
     pub answers : (w : World) → FindsWorld X N (Ok command) before.store.told w
-        → HasInput (Ok command) before.left w.input before.reads now.reads → StaysQuiet before now
+        → HasOutside (Ok command) (outside_of w) before now → StaysQuiet before now
         → DoesAnswer X N command w done before.held now.held now.store.told
-    pub lost : (p : Profile) (es : Entries) (rows : ℕ → ℕ) (held : Lookup) (bytes : List ℕ)
-        → StaysNamed X N before.store.told now.store.told p es → TellsBlocks before.store.told held → AreHeights p rows
-        → HasInput (Ok command) before.left bytes before.reads now.reads → StaysQuiet before now
+    pub lost : (p : Profile) (es : Entries) (rows : ℕ → ℕ) (held : Lookup) (outside : Outside)
+        → StaysNamed X N before.store.told now.store.told p es → TellsBlocks before.store.told held
+        → AreGoodIf X (adopts command) held → AreHeights p rows
+        → HasOutside (Ok command) outside before now → StaysQuiet before now
         → DoesOver X N before.store.told now.store.told p es (command_needs X N rows command p es)
-        (reply X N command (in_world p es held bytes)) done before.held now.held
+        (reply X N command (in_world p es held outside)) done before.held now.held
     pub prefix : (w : World) → FindsOver X N before.store.told now.store.told (Ok command) w
-        → HasInput (Ok command) before.left w.input before.reads now.reads → CountsCanRise before.store
+        → HasOutside (Ok command) (outside_of w) before now → CountsCanRise before.store
         → PrintsPart (reply X N command w).ends before.held now.held
-    pub prints : PrintsAt (IsTextOf X before.store.told (Ok command) before.left) (flows command) (ended done)
-        before.held now.held
+    pub prints : PrintsAt (IsTextOf X N before.store.told before.host.told (Ok command) before.left) (flows command)
+        (ended done) before.held now.held
     pub kinds : IsOf (may_end (family_of command)) done
     pub ready : IsReady before.store.told command done
     pub rule : IfErr done (λ why. status_of why ≡ status.Rule → RuleOf (Ok command) why before.store.told before.left
         now.left)
-    pub reads : Counts (is_read done) before.reads now.reads
+    pub reads : Counts (is_input_read command done) before.reads now.reads
+    pub host : UsesHost (uses_host command) (is_read done) before.host now.host
     pub writes : RisesFor (is_write done) before.writes now.writes
     pub cause : Shown X (IsBadIn X N before.store.told now.store.told) (refusal_fault done) before.store now.store
-    pub whole : (standing : Standing) → needs_standing command ≡ true → TellsAs X N before.store.told standing
+    pub whole : (standing : Standing) → reads_tree_alone command ≡ true → TellsAs X N before.store.told standing
         → Calm before.store now.store → FindsAll (ended done)
     pub touches : (p : Profile) (es : Entries) (bytes : List ℕ) (rows : ℕ → ℕ)
         → StaysNamed X N before.store.told now.store.told p es
         → HasInput (Ok command) before.left bytes before.reads now.reads → AreHeights p rows
         → Calm before.store now.store
         → IfSome (command_touches X N rows bytes command p es) (λ most. now.touches ≤ before.touches + most)
-    pub touched : IsBlaming (refusal_fault done) → before.touches < now.touches
+    pub touched : adopts command ≡ false → IsBlaming (refusal_fault done) → before.touches < now.touches
     pub leaves : DoesLeave command done before.store.told now.store.told
         (λ bytes. HasInput (Ok command) before.left bytes before.reads now.reads
         × Stood before.store.faults now.store.faults)
@@ -146,7 +179,7 @@ module _ (X : List ℕ → List ℕ) (N : List ℕ → ℕ) where
         → AnswersOver X N before.told now.told p es (ask_needs X N ask path.names p es)
         (tree_reply X N ask path.names p es) done
     pub kinds : IsOf opened_kinds done
-    pub cause : Shown X (IsBadWritten X N tree.profile now.told) (refusal_fault done) before now
+    pub cause : Shown X (IsBadWrittenIn X N tree.profile now.told tree.root.cid) (refusal_fault done) before now
     pub touches : (p : Profile) (es : Entries) (rows : ℕ → ℕ) → StandsOver X N before.told tree p es
         → StaysNamed X N before.told now.told p es → AreHeights p rows → Calm before now
         → is ≤ was + ask_touches X N rows ask path.names p es
@@ -167,7 +200,7 @@ module _ (X : List ℕ → List ℕ) (N : List ℕ → ℕ) where
     pub idle : (p : Profile) (es : Entries) → StandsOver X N before.told tree p es
         → Stood before.faults now.faults → has_nothing_to_do edit path.names es ≡ true
         → (now.told ≡ before.told) × (next ≡ tree)
-    pub cause : ShownInTree X (IsBadWritten X N tree.profile now.told) done before now
+    pub cause : ShownInTree X (IsBadWrittenIn X N tree.profile now.told tree.root.cid) done before now
     pub touches : (p : Profile) (rows : ℕ → ℕ) → tree.profile ≡ p → AreHeights p rows
         → TouchesFolder X N p before now [] tree.root (λ es. touches_of_edit X N rows edit path.names p es) was is
     pub touched : CountsUp (tree_fault done) was is

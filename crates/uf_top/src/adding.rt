@@ -74,7 +74,7 @@ fn add_only_hash<S: Store, I: Source>(
 }
 
 // The profile that the Head says; none where there is no Head.
-fn head_profile<S: Store>(alloc: Global, store: &mut S) -> Result<Option<Profile>, Refusal>
+pub fn head_profile<S: Store>(alloc: Global, store: &mut S) -> Result<Option<Profile>, Refusal>
     ensures read { IsProfileRead result (S.seen store.old).told }
     ensures accepted { IfOk result (λ found. IfSome found (λ p. IsTrue (is_profile p))) }
     ensures cause { ShownIn S.X.block32 result (S.seen store.old) (S.seen store.new) }
@@ -101,7 +101,7 @@ fn profile_of(alloc: Global, text: &[u8]) -> Result<Option<Profile>, Refusal>
 }
 
 // The profile that was found, or the usual one.
-fn or_usual(found: Option<Profile>) -> Profile
+pub fn or_usual(found: Option<Profile>) -> Profile
     ensures { result ≡ usual_or found }
 {
     match found {
@@ -131,7 +131,7 @@ fn add_by<S: Store, I: Source, L: Ledger>(
 }
 
 // The row, once all that was saved is made to outlive a stop.
-fn synced<S: Store>(store: &mut S, row: Block) -> Result<Block, Refusal>
+pub fn synced<S: Store>(store: &mut S, row: Block) -> Result<Block, Refusal>
     ensures row { IfOk result (λ text. text ≡ row) }
     ensures stopped { Stops result }
     ensures synced { OnOk result ((S.seen store.new).told ≡ changed with_sync (S.seen store.old).told) }

@@ -3,7 +3,8 @@ ghost use Rattle.std.specs.Prelude.{◌≡◌, ◌≢◌, ◌⊎◌, ◌<◌, �
 ghost use Rattle.std.specs.Prelude.{map, string_bytes};
 ghost use Rattle.uf_cid.specs.Blocks.{Lookup};
 ghost use Rattle.uf_cid.specs.declared.cid.Cid.{Cid as TheCid};
-ghost use Rattle.uf_edge.specs.Counts.{Rose, Stood};
+ghost use Rattle.uf_edge.specs.Counts.{Stood};
+ghost use Rattle.uf_edge.specs.Streams.{Told};
 ghost use Rattle.uf_mfs.specs.Reading.{AreHeights};
 ghost use Rattle.uf_mfs.specs.Standing.{NamesOver, TellsAs, head_in};
 ghost use Rattle.uf_store.specs.Calls.{Calm};
@@ -15,26 +16,29 @@ ghost use Rattle.uf_tree.specs.Tree.{Entries};
 ghost use Rattle.uf_tree.specs.declared.profile.Profile.{Profile as TheProfile};
 ghost use Rattle.uf_top.specs.Bounds.{words_touch};
 ghost use Rattle.uf_top.specs.Causes.{IsBadIn, IsSent};
-ghost use Rattle.uf_reply.specs.Commands.{HasInput, IsAccepted, command_in, is_idle, of_command};
-ghost use Rattle.uf_reply.specs.Commands.{needs_standing, only_hashes, only_reads, reads_input, streams as flows};
-ghost use Rattle.uf_reply.specs.Commands.{uses_host};
-ghost use Rattle.uf_top.specs.Around.{CountsCanRise, around};
+ghost use Rattle.uf_reply.specs.Commands.{HasHost, HasInput, IsAccepted, adopts, command_in, is_idle, of_command};
+ghost use Rattle.uf_reply.specs.Commands.{only_hashes, only_reads, reads_input, reads_tree_alone, streams as flows};
+ghost use Rattle.uf_reply.specs.Commands.{uses_host, writes_host};
+ghost use Rattle.uf_top.specs.Around.{CountsCanRise, RoseAt, around, host_side};
 ghost use Rattle.uf_top.specs.Endings.{EndsAs, FindsAll, FindsBy, IsNotReady, IsRefusedBy, IsRule, IsSyncedFor};
 ghost use Rattle.uf_top.specs.Endings.{IsTextOf, Prints, PrintsAt, PrintsPart, SaysPlain, TellsEnd, TellsWhy};
 ghost use Rattle.uf_top.specs.Endings.{has_details};
 ghost use Rattle.uf_top.specs.Losing.{EndsOver, words_need};
-ghost use Rattle.uf_top.specs.Naming.{FindsOver, FindsWorld, StaysNamed, TellsBlocks};
+ghost use Rattle.uf_top.specs.Naming.{AreGoodIf, FindsOver, FindsWorld, StaysNamed, TellsBlocks};
 ghost use Rattle.uf_top.specs.Shapes.{WritesFor, is_done};
-ghost use Rattle.uf_top.specs.Working.{Does, Makes, Serves};
+ghost use Rattle.uf_top.specs.Working.{Does, MakesText, Serves};
 ghost use Rattle.uf_reply.specs.Lines.{bad_block_line, clash_line, missing_line};
 ghost use Rattle.uf_reply.specs.Kinds.{family_of};
-ghost use Rattle.uf_reply.specs.Reply.{World, in_world, reply_to};
+ghost use Rattle.uf_top.specs.Reply.{Outside, World, in_world, reply_to};
 ghost use Rattle.uf_reply.specs.declared.types.Command.{Command as TheCommand};
 ghost use Rattle.uf_reply.specs.declared.types.Refusal.{Refusal as TheRefusal};
 ghost use Rattle.uf_reply.specs.declared.types.Refusal.TheVariants as refusals;
 
 use crate::adding::adds;
+use crate::cars::{export_car, import_car};
 use crate::foreign::cat;
+use crate::grafting::graft;
+use crate::hosted::add_from;
 use crate::sending::send_part;
 use crate::taking::write_input;
 use crate::tree::{at, init};
@@ -50,7 +54,8 @@ use uf_store::{Steps, Store};
 ///
 /// `init` makes a store ready; `files mkdir`, `files ls`, `files stat`, `files read`, `files write`, `files truncate`,
 /// `files cp`, `files mv` and `files rm` work on the tree that its Head names; `add` prints the CID of its input as a file (UnixFS
-/// v1; Kubo's balanced layout with raw leaves) and, without `-n`, keeps the file's blocks. Refused are first words that
+/// v1; Kubo's balanced layout with raw leaves), or those of a file of the host or of a folder and everything in it, and,
+/// without `-n`, keeps their blocks. Refused are first words that
 /// are none, then texts that are no paths, then a Head that doesn't do, then an input that is too long, and then what
 /// the rules of the command refuse. The status says how the command ended; after a refusal its line goes to `errors`,
 /// and a failed write of that line changes no status.
@@ -65,33 +70,42 @@ pub fn run<S: Store, N: NameHash, W: Host, I: Source, O: Sink, E: Sink, L: Ledge
     touches: &mut Steps<L>,
 ) -> Status
     // Over a store that stands as the command needs it and, where the command reads it, an input that tells, with no count
-    // risen and no clash met, the answer is the reply, or want of memory; over one that stands for a tree no block of a
-    // command on it is missing or bad, whatever the input and the output do.
+    // risen and no clash met, the answer is the reply, or want of memory; of a copy from a DAG this is said where each held
+    // block has its CID's digest. Over a store that stands for a tree no block of a command on it alone is missing or bad,
+    // whatever the input and the output do.
     ensures replies { (w : World) → FindsWorld S.X.block32 N.name64 (command_in (map string_bytes words.now))
         (S.seen store.old).told w
         → HasInput (command_in (map string_bytes words.now)) (I.left input.old) w.input (I.faults input.old)
         (I.faults input.new)
+        → HasHost (command_in (map string_bytes words.now)) (W.tree host.old) w.host (W.read_faults host.old)
+        (W.read_faults host.new)
         → Calm (S.seen store.old) (S.seen store.new) → Stood (O.faults output.old) (O.faults output.new)
         → EndsAs (λ line. IsSent line (E.holds errors.old) (E.holds errors.new) (E.faults errors.old)
         (E.faults errors.new))
         S.X.block32 N.name64 (command_in (map string_bytes words.now)) w result (O.holds output.old)
-        (O.holds output.new) (S.seen store.new).told }
-    ensures whole { (standing : Standing) → of_command needs_standing true (command_in (map string_bytes words.now)) ≡ true
+        (O.holds output.new) (S.seen store.new).told (W.tree host.new) }
+    ensures whole { (standing : Standing)
+        → of_command reads_tree_alone true (command_in (map string_bytes words.now)) ≡ true
         → TellsAs S.X.block32 N.name64 (S.seen store.old).told standing
         → Calm (S.seen store.old) (S.seen store.new) → FindsAll result }
 
     // Over a tree that the Head names and of whose blocks some may be lost, the answer is the reply too, or one of the
     // blocks that the command needs is lost; after Ok the new tree lacks no block that was held or is new.
-    ensures lost { (p : TheProfile) (es : Entries) (rows : ℕ → ℕ) (held : Lookup) (bytes : List ℕ)
+    ensures lost { (p : TheProfile) (es : Entries) (rows : ℕ → ℕ) (held : Lookup)
+        (outside : Outside)
         → StaysNamed S.X.block32 N.name64 (S.seen store.old).told (S.seen store.new).told p es
-        → TellsBlocks (S.seen store.old).told held → AreHeights p rows
-        → HasInput (command_in (map string_bytes words.now)) (I.left input.old) bytes (I.faults input.old)
+        → TellsBlocks (S.seen store.old).told held
+        → AreGoodIf S.X.block32 (of_command adopts false (command_in (map string_bytes words.now))) held
+        → AreHeights p rows
+        → HasInput (command_in (map string_bytes words.now)) (I.left input.old) outside.input (I.faults input.old)
         (I.faults input.new)
+        → HasHost (command_in (map string_bytes words.now)) (W.tree host.old) outside.host (W.read_faults host.old)
+        (W.read_faults host.new)
         → Calm (S.seen store.old) (S.seen store.new) → Stood (O.faults output.old) (O.faults output.new)
         → EndsOver S.X.block32 N.name64 (S.seen store.old).told (S.seen store.new).told p es
         (words_need S.X.block32 N.name64 rows (command_in (map string_bytes words.now)) p es)
         (λ line. IsSent line (E.holds errors.old) (E.holds errors.new) (E.faults errors.old) (E.faults errors.new))
-        (reply_to S.X.block32 N.name64 (command_in (map string_bytes words.now)) (in_world p es held bytes))
+        (reply_to S.X.block32 N.name64 (command_in (map string_bytes words.now)) (in_world p es held outside))
         result (O.holds output.old) (O.holds output.new) }
 
     // `init` and `add` look for no block, over every store.
@@ -129,8 +143,12 @@ pub fn run<S: Store, N: NameHash, W: Host, I: Source, O: Sink, E: Sink, L: Ledge
         × ShowsClash S.X.block32 cid held bytes (S.seen store.old) (S.seen store.new)
         × IsSent (clash_line cid held bytes) (E.holds errors.old) (E.holds errors.new) (E.faults errors.old)
         (E.faults errors.new) }
-    ensures read { result ≡ Status.ReadFault → Rose (I.faults input.old) (I.faults input.new) }
-    ensures write { result ≡ Status.WriteFault → Rose (O.faults output.old) (O.faults output.new) }
+    ensures read { result ≡ Status.ReadFault
+        → RoseAt (of_command uses_host false (command_in (map string_bytes words.now))) (I.faults input.old)
+        (I.faults input.new) (W.read_faults host.old) (W.read_faults host.new) }
+    ensures write { result ≡ Status.WriteFault
+        → RoseAt (of_command writes_host false (command_in (map string_bytes words.now))) (O.faults output.old)
+        (O.faults output.new) (W.write_faults host.old) (W.write_faults host.new) }
     ensures not_ready { result ≡ Status.NotReady
         → IsNotReady (λ line. IsSent line (E.holds errors.old) (E.holds errors.new) (E.faults errors.old)
         (E.faults errors.new))
@@ -141,22 +159,28 @@ pub fn run<S: Store, N: NameHash, W: Host, I: Source, O: Sink, E: Sink, L: Ledge
         ⊎ (result ≡ Status.Memory) }
     ensures clashes_told { (S.seen store.old).clashes < (S.seen store.new).clashes → (result ≡ Status.Clash)
         ⊎ (result ≡ Status.Memory) }
-    ensures read_told { I.faults input.old < I.faults input.new → result ≡ Status.ReadFault }
-    ensures write_told { O.faults output.old < O.faults output.new → result ≡ Status.WriteFault }
+    ensures read_told { (I.faults input.old < I.faults input.new) ⊎ (W.read_faults host.old < W.read_faults host.new)
+        → result ≡ Status.ReadFault }
+    ensures write_told { (O.faults output.old < O.faults output.new)
+        ⊎ (W.write_faults host.old < W.write_faults host.new) → result ≡ Status.WriteFault }
 
     // What is printed is printed whole at Ok, in part after a failed write, and else not at all, unless the command writes
-    // while it reads blocks; of `add` it is the row of the input, whose blocks have been made to outlive a stop. Whatever
-    // the answer and whatever blocks are lost, nothing is printed but the beginning of the reply's text.
+    // while it reads blocks; of `add` it is the row of the input or the rows of what the host has, whose blocks have been
+    // made to outlive a stop. Whatever the answer and whatever blocks are lost, nothing is printed but the beginning of the
+    // reply's text.
     ensures prefix { (w : World) → FindsOver S.X.block32 N.name64 (S.seen store.old).told (S.seen store.new).told
         (command_in (map string_bytes words.now)) w
         → HasInput (command_in (map string_bytes words.now)) (I.left input.old) w.input (I.faults input.old)
         (I.faults input.new)
+        → HasHost (command_in (map string_bytes words.now)) (W.tree host.old) w.host (W.read_faults host.old)
+        (W.read_faults host.new)
         → CountsCanRise (S.seen store.old)
         → PrintsPart (reply_to S.X.block32 N.name64 (command_in (map string_bytes words.now)) w).ends
         (O.holds output.old) (O.holds output.new) }
-    ensures prints { PrintsAt (IsTextOf S.X.block32 (S.seen store.old).told (command_in (map string_bytes words.now))
-        (I.left input.old)) (of_command flows false (command_in (map string_bytes words.now))) result
-        (O.holds output.old) (O.holds output.new) }
+    ensures prints { PrintsAt (IsTextOf S.X.block32 N.name64 (S.seen store.old).told (W.tree host.old)
+        (command_in (map string_bytes words.now)) (I.left input.old))
+        (of_command flows false (command_in (map string_bytes words.now))) result (O.holds output.old)
+        (O.holds output.new) }
     ensures synced { result ≡ Status.Ok
         → IsSyncedFor (command_in (map string_bytes words.now)) (S.seen store.new).told }
 
@@ -178,11 +202,13 @@ pub fn run<S: Store, N: NameHash, W: Host, I: Source, O: Sink, E: Sink, L: Ledge
         → of_command (is_idle bytes es) false (command_in (map string_bytes words.now)) ≡ true
         → (S.seen store.new).told ≡ (S.seen store.old).told }
     ensures host { of_command uses_host false (command_in (map string_bytes words.now)) ≡ false → host.new ≡ host.old }
+    ensures host_told { of_command writes_host false (command_in (map string_bytes words.now)) ≡ false
+        → W.tree host.new ≡ W.tree host.old }
     ensures input { of_command reads_input false (command_in (map string_bytes words.now)) ≡ false
         → input.new ≡ input.old }
 
     // The commands that work on a tree keep within their touches, also where they are refused, and `add -n` makes none;
-    // no block is called bad before one was touched.
+    // no block is called bad before one was touched, but that nothing is said of the touches of a copy from a DAG.
     ensures touches { (p : TheProfile) (es : Entries) (bytes : List ℕ) (rows : ℕ → ℕ)
         → StaysNamed S.X.block32 N.name64 (S.seen store.old).told (S.seen store.new).told p es
         → HasInput (command_in (map string_bytes words.now)) (I.left input.old) bytes (I.faults input.old)
@@ -190,45 +216,51 @@ pub fn run<S: Store, N: NameHash, W: Host, I: Source, O: Sink, E: Sink, L: Ledge
         → AreHeights p rows → Calm (S.seen store.old) (S.seen store.new)
         → IfSome (words_touch S.X.block32 N.name64 rows bytes (command_in (map string_bytes words.now)) p es)
         (λ most. touches.new ≤ touches.old + most) }
-    ensures touched { result ≡ Status.BadBlock → touches.old < touches.new }
+    ensures touched { of_command adopts false (command_in (map string_bytes words.now)) ≡ false
+        → result ≡ Status.BadBlock → touches.old < touches.new }
     ensures untouched { of_command only_hashes true (command_in (map string_bytes words.now)) ≡ true
         → touches.new ≡ touches.old }
 {
-    let done = serve::<S, N, I, O, L>(alloc, words, store, input, output, touches);
+    let done = serve::<S, N, W, I, O, L>(alloc, words, store, host, input, output, touches);
     tell_end(alloc, done, errors)
 }
 
 // Reads the words and does the command, or says why it is refused.
-fn serve<S: Store, N: NameHash, I: Source, O: Sink, L: Ledger>(
+fn serve<S: Store, N: NameHash, W: Host, I: Source, O: Sink, L: Ledger>(
     alloc: Global,
     words: &[String],
     store: &mut S,
+    host: &mut W,
     input: &mut I,
     output: &mut O,
     touches: &mut Steps<L>,
 ) -> Result<(), Refusal>
     ensures serves { Serves S.X.block32 N.name64 (command_in (map string_bytes words.now)) result
         (around (S.seen store.old) (I.left input.old) (I.faults input.old) (O.holds output.old) (O.faults output.old)
-        touches.old)
+        touches.old (host_side (W.tree host.old) (W.read_faults host.old) (W.write_faults host.old)))
         (around (S.seen store.new) (I.left input.new) (I.faults input.new) (O.holds output.new) (O.faults output.new)
-        touches.new) }
+        touches.new (host_side (W.tree host.new) (W.read_faults host.new) (W.write_faults host.new))) }
     ensures left { (why : TheRefusal) → command_in (map string_bytes words.now) ≡ Err why → store.new ≡ store.old }
     ensures input { of_command reads_input false (command_in (map string_bytes words.now)) ≡ false
         → input.new ≡ input.old }
+    ensures host { of_command uses_host false (command_in (map string_bytes words.now)) ≡ false → host.new ≡ host.old }
     ensures untouched { of_command only_hashes true (command_in (map string_bytes words.now)) ≡ true
         → touches.new ≡ touches.old }
 {
     match read_command(alloc, words) {
         Err(why) => Err(why),
-        Ok(command) => work::<S, N, I, O, L>(alloc, &command, store, input, output, touches),
+        Ok(command) => work::<S, N, W, I, O, L>(
+            alloc, &command, store, host, input, output, touches,
+        ),
     }
 }
 
 // Does a command and prints what it says, or says why it is refused.
-fn work<S: Store, N: NameHash, I: Source, O: Sink, L: Ledger>(
+fn work<S: Store, N: NameHash, W: Host, I: Source, O: Sink, L: Ledger>(
     alloc: Global,
     command: &Command,
     store: &mut S,
+    host: &mut W,
     input: &mut I,
     output: &mut O,
     touches: &mut Steps<L>,
@@ -236,57 +268,73 @@ fn work<S: Store, N: NameHash, I: Source, O: Sink, L: Ledger>(
     requires { IsAccepted command.now }
     ensures does { Does S.X.block32 N.name64 command.now result
         (around (S.seen store.old) (I.left input.old) (I.faults input.old) (O.holds output.old) (O.faults output.old)
-        touches.old)
+        touches.old (host_side (W.tree host.old) (W.read_faults host.old) (W.write_faults host.old)))
         (around (S.seen store.new) (I.left input.new) (I.faults input.new) (O.holds output.new) (O.faults output.new)
-        touches.new) }
+        touches.new (host_side (W.tree host.new) (W.read_faults host.new) (W.write_faults host.new))) }
     ensures input { reads_input command.now ≡ false → input.new ≡ input.old }
+    ensures host { uses_host command.now ≡ false → host.new ≡ host.old }
     ensures untouched { only_hashes command.now ≡ true → touches.new ≡ touches.old }
 {
-    if let Command::Read {
-        offset,
-        count,
-        path,
-    } = command
-    {
-        return send_part::<S, N, O, L>(alloc, *offset, *count, path, store, output, touches);
-    }
-    if let Command::Cat { path } = command {
-        return cat(alloc, path, store, output, touches);
-    }
-    match text_of::<S, N, I, L>(alloc, command, store, input, touches) {
-        Err(why) => Err(why),
-        Ok(text) => print(&text, output),
+    match command {
+        Command::Read {
+            offset,
+            count,
+            path,
+        } => send_part::<S, N, O, L>(alloc, *offset, *count, path, store, output, touches),
+        Command::Adopt { source, dest } => { graft::<S, N, L>(alloc, source, dest, store, touches) }
+        Command::Cat { path } => cat(alloc, path, store, output, touches),
+        Command::Export { cid } => export_car(alloc, cid, store, output, touches),
+        Command::Import => import_car(alloc, store, input, output, touches),
+        _ => match text_of::<S, N, W, I, L>(alloc, command, store, host, input, touches) {
+            Err(why) => Err(why),
+            Ok(text) => print(&text, output),
+        },
     }
 }
 
-// What a command prints that is done before anything is printed, or why it is refused.
-fn text_of<S: Store, N: NameHash, I: Source, L: Ledger>(
+// What a command on what the store stands for prints once it is done, or why it is refused.
+fn text_of<S: Store, N: NameHash, W: Host, I: Source, L: Ledger>(
     alloc: Global,
     command: &Command,
     store: &mut S,
+    host: &mut W,
     input: &mut I,
     touches: &mut Steps<L>,
 ) -> Result<Block, Refusal>
     requires accepted { IsAccepted command.now }
     requires waits { flows command.now ≡ false }
-    ensures makes { Makes S.X.block32 N.name64 command.now result (S.seen store.old) (S.seen store.new)
-        (I.left input.old) (I.left input.new) (I.faults input.old) (I.faults input.new) touches.old touches.new }
+    requires alone { reads_tree_alone command.now ≡ true }
+    ensures makes { (held : Told) (writes : ℕ) → MakesText S.X.block32 N.name64 command.now result
+        (around (S.seen store.old) (I.left input.old) (I.faults input.old) held writes touches.old
+        (host_side (W.tree host.old) (W.read_faults host.old) (W.write_faults host.old)))
+        (around (S.seen store.new) (I.left input.new) (I.faults input.new) held writes touches.new
+        (host_side (W.tree host.new) (W.read_faults host.new) (W.write_faults host.new))) }
     ensures input { reads_input command.now ≡ false → input.new ≡ input.old }
+    ensures host { uses_host command.now ≡ false → host.new ≡ host.old }
     ensures untouched { only_hashes command.now ≡ true → touches.new ≡ touches.old }
 {
     match command {
         Command::Init { profile } => init::<S, N, L>(alloc, *profile, store, touches),
         Command::Add { only_hash } => adds(alloc, *only_hash, store, input, touches),
+        Command::AddFrom {
+            recursive,
+            only_hash,
+            path,
+        } => add_from::<S, N, W, L>(alloc, *recursive, *only_hash, path, store, host, touches),
         Command::WriteInput { how, path } => {
             write_input::<S, N, I, L>(alloc, *how, path, store, input, touches)
         }
         Command::At { ask, path } => at::<S, N, L>(alloc, ask, path, store, touches),
-        Command::Read { .. } | Command::Cat { .. } => unreachable!(),
+        Command::Read { .. }
+        | Command::Cat { .. }
+        | Command::Export { .. }
+        | Command::Import
+        | Command::Adopt { .. } => unreachable!(),
     }
 }
 
 // Prints a text; of nothing, nothing is written.
-fn print<O: Sink>(text: &Block, output: &mut O) -> Result<(), Refusal>
+pub fn print<O: Sink>(text: &Block, output: &mut O) -> Result<(), Refusal>
     ensures { Prints text.now result (O.holds output.old) (O.holds output.new) (O.faults output.old)
         (O.faults output.new) }
 {

@@ -1,4 +1,4 @@
-// Files of DAGs of others, sent to the output while their blocks are read.
+// What is found in DAGs of others. Files are sent to the output while their blocks are read.
 ghost use Rattle.std.specs.Prelude.{◌<◌, ◌^◌, IfErr, IfSome, List, ℕ, length};
 ghost use Rattle.uf_edge.specs.Streams.{Told as Left};
 ghost use Rattle.uf_reply.specs.Kinds.{refusal_fault};
@@ -6,8 +6,8 @@ ghost use Rattle.uf_reply.specs.declared.types.Command.TheVariants as commands;
 ghost use Rattle.uf_store.specs.Calls.{OnlyReads};
 ghost use Rattle.uf_store.specs.Contents.{held_at};
 ghost use Rattle.uf_store.specs.Faults.{NoneIsBad};
-ghost use Rattle.uf_top.specs.Around.{around};
-ghost use Rattle.uf_top.specs.Foreign.{FindsFile, IsOfReading, LeadsTo};
+ghost use Rattle.uf_top.specs.Around.{HostSide, around};
+ghost use Rattle.uf_top.specs.Foreign.{FindsFile, FindsTree, IsOfReading, LeadsTo};
 ghost use Rattle.uf_top.specs.Working.{Does};
 
 use std::alloc::Global;
@@ -20,7 +20,7 @@ use uf_reply::{Refusal, dag_refusal, no_file};
 use uf_store::{Steps, Store};
 
 // How far DAGs of others are read.
-const USUAL: Limits = Limits {
+pub const USUAL: Limits = Limits {
     depth: 256,
     visits: 1048576,
 };
@@ -34,9 +34,9 @@ pub fn cat<S: Store, O: Sink, L: Ledger>(
     touches: &mut Steps<L>,
 ) -> Result<(), Refusal>
     requires { length path.now.names < 2 ^ 32 }
-    ensures { (N : List ℕ → ℕ) (left : Left) (reads : ℕ) → Does S.X.block32 N (commands.Cat path.now) result
-        (around (S.seen store.old) left reads (O.holds output.old) (O.faults output.old) touches.old)
-        (around (S.seen store.new) left reads (O.holds output.new) (O.faults output.new) touches.new) }
+    ensures { (N : List ℕ → ℕ) (left : Left) (reads : ℕ) (side : HostSide) → Does S.X.block32 N (commands.Cat path.now) result
+        (around (S.seen store.old) left reads (O.holds output.old) (O.faults output.old) touches.old side)
+        (around (S.seen store.new) left reads (O.holds output.new) (O.faults output.new) touches.new side) }
 {
     match file_in(alloc, path, store, touches) {
         Err(why) => Err(why),
@@ -83,5 +83,42 @@ fn file_under<S: Store, L: Ledger>(
         Err(fault) => Err(dag_refusal(alloc, path, fault)),
         Ok(Shape::File) => Ok(cid),
         Ok(Shape::Folder(_)) => Err(no_file(alloc, path)),
+    }
+}
+
+// The CID of the tree to which a path leads, below which everything can be read.
+pub fn tree_in<S: Store, L: Ledger>(
+    alloc: Global,
+    path: &DagPath,
+    store: &mut S,
+    touches: &mut Steps<L>,
+) -> Result<Cid, Refusal>
+    requires { length path.now.names < 2 ^ 32 }
+    ensures finds { IfSome (S.seen store.old).told (λ t. FindsTree (held_at t) path.now result) }
+    ensures refuses { IfErr result IsOfReading }
+    ensures reads { OnlyReads S.X.block32 NoneIsBad (refusal_fault result) (S.seen store.old) (S.seen store.new) }
+{
+    match resolve(alloc, store, path, &USUAL, touches) {
+        Err(fault) => Err(dag_refusal(alloc, path, fault)),
+        Ok(cid) => tree_under(alloc, path, cid, store, touches),
+    }
+}
+
+// The same CID, where everything below it can be read.
+fn tree_under<S: Store, L: Ledger>(
+    alloc: Global,
+    path: &DagPath,
+    cid: Cid,
+    store: &mut S,
+    touches: &mut Steps<L>,
+) -> Result<Cid, Refusal>
+    ensures finds { IfSome (S.seen store.old).told (λ t. LeadsTo (held_at t) path.now cid
+        → FindsTree (held_at t) path.now result) }
+    ensures refuses { IfErr result IsOfReading }
+    ensures reads { OnlyReads S.X.block32 NoneIsBad (refusal_fault result) (S.seen store.old) (S.seen store.new) }
+{
+    match survey(alloc, store, &cid, &USUAL, touches) {
+        Err(fault) => Err(dag_refusal(alloc, path, fault)),
+        Ok(_) => Ok(cid),
     }
 }

@@ -2,8 +2,11 @@
 #![tactic(auto)]
 
 mod adding;
+mod cars;
 mod command;
 mod foreign;
+mod grafting;
+mod hosted;
 mod intake;
 pub mod laws;
 mod sending;
@@ -14,11 +17,17 @@ pub use command::run;
 pub use uf_reply::Status;
 
 #[cfg(test)]
+mod adopt_tests;
+#[cfg(test)]
+mod car_tests;
+#[cfg(test)]
 mod dag_tests;
 #[cfg(test)]
 mod fault_tests;
 #[cfg(test)]
 mod file_tests;
+#[cfg(test)]
+mod host_tests;
 #[cfg(test)]
 mod move_tests;
 #[cfg(test)]

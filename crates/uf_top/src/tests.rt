@@ -1,6 +1,7 @@
 // Rows of commands, over streams and a store in memory. CIDs and sizes were computed outside of this program.
 ghost use Rattle.std.specs.Prelude.{◌≡◌, ◌<◌};
 
+use crate::car_tests::cuts_car;
 use crate::run;
 use std::alloc::Global;
 use std::marker::Brand;
@@ -24,6 +25,8 @@ pub enum Step {
     Spoils(&'static [u8]),
     // The node of these bytes is held.
     Keeps(&'static [u8]),
+    // So many nested directories are held, each with links of these letters to the next one; the last one is empty.
+    Nests(usize, &'static [u8]),
     // So many blocks are held.
     Holds(usize),
     // A command that is done: it writes to the store, and prints nothing.
@@ -32,6 +35,10 @@ pub enum Step {
     Prints(&'static str, &'static [u8]),
     // A command that is done with this input, and prints this.
     Adds(&'static str, &'static [u8], &'static [u8]),
+    // A command with its input, and what is to come of it.
+    Meets(Row<'static>),
+    // `dag import` of each front of the CAR of a block.
+    CutsCar(&'static [u8; 107]),
     // A command that ends with this status and error line, and prints nothing.
     Refuses(&'static str, u8, &'static [u8]),
     // `add -n` of so many zero bytes, which prints this.
@@ -48,6 +55,8 @@ pub enum Step {
     AddsOver(Streams, u8, &'static [u8]),
     // `add -n` over outputs with room for the first bytes of its row, and at last for the whole of it.
     AddsCut,
+    // A command over outputs with room for the first bytes of this, and at last for the whole of it.
+    Cuts(&'static str, &'static [u8]),
     // A command that is done. Of a stop before its last write this is told then, and of one after it that.
     Stops(&'static str, Row<'static>, Row<'static>),
     // A command that would be done. Where a call of the store that it makes fails, it is refused, this is told then, the
@@ -64,8 +73,15 @@ pub struct Streams {
     errors_fail: Option<u64>,
 }
 
-const FINE: Streams = Streams {
+pub const FINE: Streams = Streams {
     room: 1000,
+    input_fails: None,
+    output_fails: None,
+    errors_fail: None,
+};
+
+pub const ROOMY: Streams = Streams {
+    room: 65536,
     input_fails: None,
     output_fails: None,
     errors_fail: None,
@@ -98,7 +114,7 @@ const HELLO_ADDED: Row<'static> = Row {
 };
 
 // The words of a line, which end at tabs where it has some.
-fn split(alloc: Global, line: &str) -> Result<Vec<String>, Memory> {
+pub fn split(alloc: Global, line: &str) -> Result<Vec<String>, Memory> {
     let end = if line.contains('\t') { '\t' } else { ' ' };
     let mut words = Vec::new(alloc);
     for word in line.split(end) {
@@ -113,7 +129,7 @@ fn block(alloc: Global, bytes: &[u8]) -> Result<Block, Memory> {
     Ok(block)
 }
 
-fn calls(alloc: Global, call: Option<u64>) -> Result<Calls, Memory> {
+pub fn calls(alloc: Global, call: Option<u64>) -> Result<Calls, Memory> {
     let mut calls = Calls::new(alloc);
     if let Some(call) = call {
         calls.push(call)?;
@@ -121,11 +137,11 @@ fn calls(alloc: Global, call: Option<u64>) -> Result<Calls, Memory> {
     Ok(calls)
 }
 
-fn source(alloc: Global, bytes: &[u8], fails: Option<u64>) -> Result<MemSource, Memory> {
+pub fn source(alloc: Global, bytes: &[u8], fails: Option<u64>) -> Result<MemSource, Memory> {
     Ok(MemSource::new(block(alloc, bytes)?, 65536, calls(alloc, fails)?))
 }
 
-fn sink(alloc: Global, room: usize, fails: Option<u64>) -> Result<MemSink, Memory> {
+pub fn sink(alloc: Global, room: usize, fails: Option<u64>) -> Result<MemSink, Memory> {
     MemSink::new(alloc, room, calls(alloc, fails)?)
 }
 
@@ -154,7 +170,7 @@ impl Source for Zeros {
 }
 
 // Whether a command ends so.
-fn ends<X: BlockHash, N: NameHash, L: Ledger>(
+pub fn ends<X: BlockHash, N: NameHash, L: Ledger>(
     alloc: Global,
     row: &Row,
     streams: &Streams,
@@ -213,6 +229,7 @@ fn row_of(step: &Step) -> Option<Row<'static>> {
             output: *output,
             ..DONE
         }),
+        Step::Meets(row) => Some(*row),
         Step::Refuses(words, status, errors) => Some(Row {
             words: *words,
             status: *status,
@@ -255,6 +272,37 @@ fn are_cut<X: BlockHash, N: NameHash, L: Ledger>(
         }
     }
     Ok(true)
+}
+
+// Whether a command prints of this what its output has room for.
+fn is_cut<X: BlockHash, N: NameHash, L: Ledger>(
+    alloc: Global,
+    words: &str,
+    whole: &[u8],
+    store: &mut MemStore<X>,
+    touches: &mut Steps<L>,
+) -> Result<bool, Memory> {
+    for room in 0..whole.len() {
+        let row = Row {
+            words,
+            input: b"",
+            status: 7,
+            output: &whole[..room],
+            errors: b"error: write\n",
+        };
+        let streams = Streams { room, ..FINE };
+        if !ends::<X, N, L>(alloc, &row, &streams, store, touches)? {
+            return Ok(false);
+        }
+    }
+    let row = Row {
+        words,
+        input: b"",
+        status: 0,
+        output: whole,
+        errors: b"",
+    };
+    ends::<X, N, L>(alloc, &row, &FINE, store, touches)
 }
 
 fn adds_zeros<X: BlockHash, N: NameHash, L: Ledger>(
@@ -451,6 +499,33 @@ fn plants<X: BlockHash>(
     store.plant(&cid::<X>(node), held)
 }
 
+// A directory with links of these letters to a CID.
+fn directory(alloc: Global, letters: &[u8], cid: &Cid) -> Result<Block, Memory> {
+    let mut node = Block::new(alloc);
+    for letter in letters {
+        node.extend(b"\x12\x2b\x0a\x24")?;
+        node.extend(&cid.to_binary())?;
+        node.extend(&[0x12, 1, *letter, 0x18, 0])?;
+    }
+    node.extend(b"\x0a\x02\x08\x01")?;
+    Ok(node)
+}
+
+// Holds so many nested directories.
+fn nests<X: BlockHash>(
+    alloc: Global,
+    count: usize,
+    letters: &[u8],
+    store: &mut MemStore<X>,
+) -> Result<(), Memory> {
+    let mut node = block(alloc, b"\x0a\x02\x08\x01")?;
+    for _ in 1..count {
+        plants(alloc, store, node.as_slice(), node.as_slice())?;
+        node = directory(alloc, letters, &cid::<X>(node.as_slice()))?;
+    }
+    plants(alloc, store, node.as_slice(), node.as_slice())
+}
+
 // Does what is done with the store but by commands.
 fn sets<X: BlockHash>(alloc: Global, step: &Step, store: &mut MemStore<X>) -> Result<bool, Memory> {
     match step {
@@ -460,6 +535,7 @@ fn sets<X: BlockHash>(alloc: Global, step: &Step, store: &mut MemStore<X>) -> Re
         Step::Loses(bytes) => store.forget(&cid::<X>(*bytes)),
         Step::Spoils(bytes) => plants(alloc, store, *bytes, b"other")?,
         Step::Keeps(bytes) => plants(alloc, store, *bytes, *bytes)?,
+        Step::Nests(count, letters) => nests(alloc, *count, *letters, store)?,
         Step::Holds(count) => return Ok(store.count() == *count),
         _ => return Ok(false),
     }
@@ -558,7 +634,9 @@ fn is_right<X: BlockHash, N: NameHash, L: Ledger>(
         Step::AddsZeros(count, output) => {
             adds_zeros::<X, N, L>(alloc, *count, *output, store, touches)
         }
+        Step::CutsCar(car) => cuts_car::<X, N, L>(alloc, *car, store, touches),
         Step::AddsCut => are_cut::<X, N, L>(alloc, store, touches),
+        Step::Cuts(words, whole) => is_cut::<X, N, L>(alloc, *words, *whole, store, touches),
         Step::Feeds(words, count, changed, output) => {
             let row = Row {
                 output: *output,
@@ -626,7 +704,7 @@ const INPUTS: [Step; 7] = [
     Step::Adds("add -n", b"hello world", HELLO),
     Step::Adds("add --only-hash", b"hello world", HELLO),
     Step::Refuses("add", 10, b"error: not ready 1\n"),
-    Step::Refuses("add x", 2, b"error: usage\n"),
+    Step::Refuses("add -n x", 1, b"error: rule HostAbsent x\n"),
     Step::Refuses("dag x", 2, b"error: usage\n"),
     Step::Holds(0),
 ];

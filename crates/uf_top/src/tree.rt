@@ -206,7 +206,7 @@ pub fn sending(fault: MfsFault) -> Refusal
 }
 
 // The fault of a call on an opened tree as a refusal. Such a tree is ready, and nothing is printed there.
-fn refusal(fault: MfsFault) -> Refusal
+pub fn refusal(fault: MfsFault) -> Refusal
     requires { IsTreeFault fault }
     ensures { RefusesInTree fault result }
 {

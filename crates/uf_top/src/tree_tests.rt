@@ -114,7 +114,7 @@ const MOVES: [Step; 19] = [
     Step::Does("files write -e -x 68656c6c6f20776f726c64 /f"),
     Step::Does("files cp /f /g"),
     Step::Refuses("files cp /f /g", 1, b"error: rule Exists /g\n"),
-    Step::Refuses("files cp /ipfs/x /h", 2, b"error: usage\n"),
+    Step::Refuses("files cp /ipfs/x /h", 1, b"error: rule BadPath 4 0\n"),
     Step::Refuses("files cp /q /h", 1, b"error: rule NotFound /q\n"),
     Step::Refuses("files cp /f h", 1, b"error: rule BadPath 1 0\n"),
     Step::Does("files mkdir /d"),

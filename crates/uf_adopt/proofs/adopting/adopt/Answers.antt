@@ -1,4 +1,3 @@
-use Rattle.std.proofs.Common.{◌+◌, ap}
 use Rattle.std.proofs.lemmas.Result.{err_from_is_err_and}
 use Rattle.uf_adopt.proofs.Denoted.{says-denoted, says-fault}
 use Rattle.uf_adopt.proofs.adopting.adopt.Goals as goal
@@ -10,5 +9,5 @@ returns-in_err-survey-clause-says g c =
 
 pub returns-clause-says : goal.returns-clause-says
 returns-clause-says g c =
-    says-denoted g.S.X.BlockHash.block32 g.N.NameHash.name64 c.args.p.now c.args.limits.now (g.S.Store.seen c.args.store.now).told (g.S.Store.seen c.survey.new.store).told (g.S.Store.seen c.adopt_within.new.store).told c.args.cid.now _ c.adopt_within.result c.in_ok-survey.ensures.told c.in_ok-survey.ensures.says
-    (c.from-room.result + 1) (ap (λ n. n + 1) c.from-room.ensures) c.adopt_within.ensures.builds
+    says-denoted g.S.X.BlockHash.block32 g.N.NameHash.name64 c.args.p.now c.args.limits.now (g.S.Store.seen c.args.store.now).told (g.S.Store.seen c.survey.new.store).told (g.S.Store.seen c.adopt_surveyed.new.store).told c.args.cid.now _ c.adopt_surveyed.result c.in_ok-survey.ensures.told c.in_ok-survey.ensures.says
+    c.adopt_surveyed.ensures.builds

@@ -15,7 +15,8 @@ use Rattle.uf_tree.specs.Tree.{Tree}
 use Rattle.uf_tree.specs.Validity.{IsDirectory, IsNamed}
 use Rattle.uf_lenient.specs.Steps.{IsInOrder}
 use Rattle.uf_tree.specs.declared.nodes.Entry.{Entry}
-use Rattle.uf_adopt.specs.Adopting.{BuildsTree, denotes_within}
+use Rattle.uf_adopt.specs.Adopting.{BuildsTree}
+use Rattle.uf_lenient.specs.Denoted.{denotes_within}
 use Rattle.uf_adopt.specs.Faults.{of_directory}
 use Rattle.uf_adopt.specs.Feeding.{HoldsGoodMap}
 use Rattle.uf_adopt.proofs.Built.{Went, folder-built, folder-err, folder-refused, names_of, went-all, went-err, went-more, went-none}

@@ -5,7 +5,7 @@ use Rattle.uf_store.specs.Calls.{OnlySaves}
 use Rattle.uf_store.specs.Faults.{NoneIsBad}
 use Rattle.uf_tree.specs.Tree.{Entries}
 use Rattle.uf_tree.specs.Validity.{IsNamed}
-use Rattle.uf_adopt.specs.Adopting.{AreDenoted}
+use Rattle.uf_lenient.specs.Denoted.{AreDenoted}
 use Rattle.uf_adopt.specs.Feeding.{HoldsGoodMap}
 use Rattle.uf_adopt.proofs.Built.{Went, names_of}
 use Rattle.uf_adopt.proofs.folders.+adopting.Given as goal

@@ -6,12 +6,14 @@ use Rattle.uf_store.proofs.Causes.{StaysCalm-refl}
 use Rattle.uf_car.specs.Exporting.{WritesAll}
 use Rattle.uf_car.specs.Text.{car_text, section_bytes}
 use Rattle.uf_car.proofs.Exports.{err_text, held_block, text_last}
+use Rattle.uf_car.proofs.Somes.{some-then}
 use Rattle.uf_car.proofs.Texts.{text_more, text_whole, written_head, written_more}
 use Rattle.uf_car.proofs.exporting.write_car.Goals as goal
 
 pub loop-place-init : goal.loop-place-init
 loop-place-init g c = record {
   text = λ t is. written_head c.args.root.now (held_at t) _ _ _ c.cids_are_whole.ensures refl c.in-Done.ensures.bytes;
+  some = (_, c.in-Done.ensures.bytes);
   few = omega arith;
   reads = record { cause = StaysCalm-refl _; told = refl };
   counted = c.in-Done.ensures.counts.still refl;
@@ -45,7 +47,12 @@ loop-place-preserved g c =
           (section_bytes (c.in-Some.cid, (g.S.Store.seen c.write_block.new.store).lent)) c.in_ok-count-in-Some.count
           (text_more (held_at t) c.args.root.now c.args.walk.now.handed c.loop-place.place c.in-Some.cid _ (sym c.in-Some.ensures) held)
           c.in_ok-count-in-Some.ensures.block.written c.in_ok-count-in-Some.ensures.block.count;
+      some = some-then (g.O.Sink.holds c.args.out.now) (g.O.Sink.holds c.loop-place.out) (g.O.Sink.holds c.write_block.new.out) c.loop-place.invariant.some c.in_ok-count-in-Some.ensures.some;
       few = omega arith;
       reads = reads-reads c.loop-place.invariant.reads c.in_ok-count-in-Some.ensures.reads;
       counted = c.in_ok-count-in-Some.ensures.counts.still refl ∙ c.loop-place.invariant.counted;
     }
+
+pub returns-in_err-count-in-Some-clause-some : goal.returns-in_err-count-in-Some-clause-some
+returns-in_err-count-in-Some-clause-some g c =
+    some-then (g.O.Sink.holds c.args.out.now) (g.O.Sink.holds c.loop-place.out) (g.O.Sink.holds c.write_block.new.out) c.loop-place.invariant.some c.in_err-count-in-Some.ensures.some

@@ -7,7 +7,7 @@ use Rattle.uf_store.specs.Faults.{NoneIsBad}
 use Rattle.uf_dir.proofs.Causes.{blames-none, way-bad}
 use Rattle.uf_dir.proofs.Changing.{Shown-wider, put-basic, put-basic-after, put-sharded, put-sharded-ok, saves-same}
 use Rattle.uf_dir.proofs.Looked.{basic-light, entries-basic, entries-unread, fitting-at}
-use Rattle.uf_dir.proofs.Nodes.{gives-node}
+use Rattle.uf_dir.proofs.Nodes.{shards-root}
 use Rattle.uf_dir.proofs.Touching.{basic-touches}
 use Rattle.uf_dir.proofs.editing.put.Goals as goal
 
@@ -22,9 +22,6 @@ pub returns-in-Basic-clause-value : goal.returns-in-Basic-clause-value
 returns-in-Basic-clause-value g c = λ l is agrees faults clashes. put-basic g.S.X.BlockHash.block32 g.N.NameHash.name64 c.args.p.now c.args.name.now c.args.entry.now c.in-Basic.pairs l (g.S.Store.seen c.args.store.now).told _ c.put_basic.result (g.S.Store.seen c.args.store.now) (g.S.Store.seen c.look_at_root.new.store) (g.S.Store.seen c.put_basic.new.store)
     (entries-basic g.S.X.BlockHash.block32 (record { size = g.met.S.X.BlockHash.size; are_bytes = g.met.S.X.BlockHash.are_bytes }) g.N.NameHash.name64 c.args.p.now c.args.root.now l is _ _ _ _ c.in-Basic.is c.in_ok-found.ensures.looks agrees) c.put_basic.ensures.answer c.in_ok-found.ensures.reads.cause c.put_basic.ensures.saves.cause faults clashes
 
-pub returns-in-Basic-clause-node : goal.returns-in-Basic-clause-node
-returns-in-Basic-clause-node g c = gives-node g.S.X.BlockHash.block32 g.N.NameHash.name64 c.args.p.now (with_name c.args.name.now c.args.entry.now c.in-Basic.pairs) _ c.put_basic.result c.put_basic.ensures.answer
-
 pub returns-in-Basic-clause-after : goal.returns-in-Basic-clause-after
 returns-in-Basic-clause-after g c = put-basic-after g.S.X.BlockHash.block32 g.N.NameHash.name64 c.args.p.now c.args.root.now c.args.name.now c.args.entry.now c.in-Basic.pairs (g.S.Store.seen c.args.store.now).told (g.S.Store.seen c.look_at_root.new.store).told (g.S.Store.seen c.put_basic.new.store).told c.put_basic.result
     (λ l is agrees. entries-basic g.S.X.BlockHash.block32 (record { size = g.met.S.X.BlockHash.size; are_bytes = g.met.S.X.BlockHash.are_bytes }) g.N.NameHash.name64 c.args.p.now c.args.root.now l is _ _ _ _ c.in-Basic.is c.in_ok-found.ensures.looks agrees) c.look_at_root.ensures.reads.told c.put_basic.ensures.saves.saves c.put_basic.ensures.held
@@ -32,6 +29,9 @@ returns-in-Basic-clause-after g c = put-basic-after g.S.X.BlockHash.block32 g.N.
 pub returns-clause-value : goal.returns-clause-value
 returns-clause-value g c = λ l is agrees faults clashes. put-sharded g.S.X.BlockHash.block32 (record { size = g.met.S.X.BlockHash.size; are_bytes = g.met.S.X.BlockHash.are_bytes }) g.N.NameHash.name64 c.args.p.now c.args.root.now l is (g.S.Store.seen c.args.store.now) (g.S.Store.seen c.look_at_root.new.store) _ _ c.in-Sharded.is c.in_ok-found.ensures.looks c.look_at_root.ensures.reads.told agrees
     c.args.name.now c.args.entry.now (g.S.Store.seen c.put.new.store) c.put.result c.in_ok-found.ensures.reads.cause c.put.ensures.value faults clashes
+
+pub returns-clause-made : goal.returns-clause-made
+returns-clause-made g c = shards-root g.S.X.BlockHash.block32 (Some c.args.p.now) c.put.result c.put.ensures.made
 
 pub returns-clause-after : goal.returns-clause-after
 returns-clause-after g c = put-sharded-ok g.S.X.BlockHash.block32 (record { size = g.met.S.X.BlockHash.size; are_bytes = g.met.S.X.BlockHash.are_bytes }) g.N.NameHash.name64 c.args.p.now c.args.root.now (g.S.Store.seen c.args.store.now) (g.S.Store.seen c.look_at_root.new.store) _ _ c.in-Sharded.is c.in_ok-found.ensures.looks c.look_at_root.ensures.reads.told

@@ -1,7 +1,7 @@
 use Rattle.std.proofs.Common.{Some, refl}
 use Rattle.uf_dir.specs.Planned.{entry_without}
 use Rattle.std.proofs.lemmas.Result.{err_from_is_err_and}
-use Rattle.uf_dir.proofs.Changing.{basic-node, basic-ok, basic-value, in_shards, saves-same, stay-there, take-sharded, take-sharded-ok}
+use Rattle.uf_dir.proofs.Changing.{basic-ok, basic-root, basic-value, in_shards, saves-same, stay-there, take-sharded, take-sharded-ok}
 use Rattle.uf_store.specs.Faults.{NoneIsBad}
 use Rattle.uf_dir.proofs.Causes.{blames-none}
 use Rattle.uf_dir.proofs.Looked.{entries-basic, entries-unread, fitting-at}
@@ -21,8 +21,8 @@ pub returns-in-Basic-clause-value : goal.returns-in-Basic-clause-value
 returns-in-Basic-clause-value g c = λ l is stays faults clashes. basic-value g.S.X.BlockHash.block32 g.N.NameHash.name64 c.args.p.now c.args.name.now c.in-Basic.pairs l (g.S.Store.seen c.args.store.now).told _ _ _ c.remove_basic.result (g.S.Store.seen c.args.store.now) (g.S.Store.seen c.look_at_root.new.store) (g.S.Store.seen c.remove_basic.new.store)
     (entries-basic g.S.X.BlockHash.block32 (record { size = g.met.S.X.BlockHash.size; are_bytes = g.met.S.X.BlockHash.are_bytes }) g.N.NameHash.name64 c.args.p.now c.args.root.now l is _ _ _ _ c.in-Basic.is c.in_ok-found.ensures.looks stays.first) c.remove_basic.ensures.takes c.in_ok-found.ensures.reads.cause c.remove_basic.ensures.saves.cause faults clashes
 
-pub returns-in-Basic-clause-node : goal.returns-in-Basic-clause-node
-returns-in-Basic-clause-node g c = basic-node g.S.X.BlockHash.block32 g.N.NameHash.name64 c.args.p.now c.args.name.now c.in-Basic.pairs _ _ c.remove_basic.result c.remove_basic.ensures.takes
+pub returns-in-Basic-clause-made : goal.returns-in-Basic-clause-made
+returns-in-Basic-clause-made g c = basic-root g.S.X.BlockHash.block32 g.N.NameHash.name64 c.args.p.now (record { size = g.met.S.X.BlockHash.size; are_bytes = g.met.S.X.BlockHash.are_bytes }) c.args.name.now c.in-Basic.pairs (rw c.in-Basic.is at c.in_ok-found.ensures.looks).1.0 _ _ c.remove_basic.result c.remove_basic.ensures.takes
 
 pub returns-in-Basic-clause-after : goal.returns-in-Basic-clause-after
 returns-in-Basic-clause-after g c = basic-ok g.S.X.BlockHash.block32 g.N.NameHash.name64 c.args.p.now c.args.root.now c.args.name.now c.in-Basic.pairs (g.S.Store.seen c.args.store.now).told (g.S.Store.seen c.look_at_root.new.store).told (g.S.Store.seen c.remove_basic.new.store).told c.remove_basic.result _ _

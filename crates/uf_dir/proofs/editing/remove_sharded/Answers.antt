@@ -29,7 +29,7 @@ returns-in-Absent-clause-takes g c = absent-takes g.S.X.BlockHash.block32 g.N.Na
 
 pub returns-in_ok-entry-in-Empty-clause-takes : goal.returns-in_ok-entry-in-Empty-clause-takes
 returns-in_ok-entry-in-Empty-clause-takes g c = emptied-takes g.S.X.BlockHash.block32 g.N.NameHash.name64 c.args.p.now c.args.root.now c.args.name.now (g.S.Store.seen c.args.store.now) (g.S.Store.seen c.remove.new.store) (g.S.Store.seen c.empty.new.store) c.in_ok-removed.ensures.cause
-    c.remove.ensures.saves c.empty.ensures.saves c.in_ok-entry-in-Empty.entry c.in_ok-entry-in-Empty.ensures.entry c.in_ok-entry-in-Empty.ensures.held c.in_ok-entry-in-Empty.ensures.cause (rw c.in-Empty.is at c.in_ok-removed.ensures.value)
+    c.remove.ensures.saves c.empty.ensures.saves c.in_ok-entry-in-Empty.entry c.in_ok-entry-in-Empty.ensures.made c.in_ok-entry-in-Empty.ensures.entry c.in_ok-entry-in-Empty.ensures.held c.in_ok-entry-in-Empty.ensures.cause (rw c.in-Empty.is at c.in_ok-removed.ensures.value)
 
 pub returns-in_err-left-in-Left-clause-takes : goal.returns-in_err-left-in-Left-clause-takes
 returns-in_err-left-in-Left-clause-takes g c =

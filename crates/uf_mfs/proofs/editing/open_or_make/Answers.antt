@@ -13,7 +13,7 @@ use Rattle.uf_mfs.proofs.Folders.{member-stops, opened-folder, opened-new, over-
 use Rattle.uf_mfs.proofs.Starting.{empty-after}
 use Rattle.std.specs.Prelude.{IfSome}
 use Rattle.uf_mfs.specs.Bad.{IsRequired}
-use Rattle.uf_mfs.proofs.Judging.{empty-required}
+use Rattle.uf_mfs.proofs.Judging.{made-required}
 use Rattle.uf_mfs.proofs.editing.open_or_make.Goals as goal
 
 pub returns-in_ok-new-in-None-clause-opens : goal.returns-in_ok-new-in-None-clause-opens
@@ -49,7 +49,7 @@ returns-in-Some-Folder-clause-opens g c = λ p es o.
     rw c.in-Some-Folder.entry-is (opened-folder X N p c.args.led c.args.folder.now c.in-Some-Folder.entry _ c.args.name.now es (reads-saves {f = None} c.in_ok-member.ensures.reads) o found)
 
 pub returns-in_ok-new-in-None-clause-required : goal.returns-in_ok-new-in-None-clause-required
-returns-in_ok-new-in-None-clause-required g c = empty-required g.S.X.BlockHash.block32 g.N.NameHash.name64 c.args.folder.now.cid c.in_ok-new-in-None.new c.in_ok-new-in-None.ensures.entry
+returns-in_ok-new-in-None-clause-required g c = made-required g.S.X.BlockHash.block32 g.N.NameHash.name64 None c.args.folder.now.cid c.in_ok-new-in-None.new.cid (c.in_ok-new-in-None.ensures.made None)
 
 pub returns-in-Some-Folder-clause-required : goal.returns-in-Some-Folder-clause-required
 returns-in-Some-Folder-clause-required g c =

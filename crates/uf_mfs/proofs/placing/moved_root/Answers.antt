@@ -17,8 +17,8 @@ use Rattle.uf_mfs.proofs.Carrying.{carried-on, meets-value, move-found, move-tou
 use Rattle.uf_mfs.proofs.Filling.{agreed-over}
 use Rattle.uf_mfs.proofs.Folders.{over-first, read-over}
 use Rattle.uf_mfs.proofs.Spots.{front-last, tells-saves, tree-rises}
-use Rattle.uf_mfs.specs.Bad.{IsBad}
-use Rattle.uf_mfs.proofs.Judging.{tree-bad-more}
+use Rattle.uf_mfs.specs.Bad.{IsBadInTree}
+use Rattle.uf_mfs.proofs.Judging.{tree-more}
 use Rattle.uf_mfs.proofs.placing.moved_root.Goals as goal
 
 pub returns-in-Err-clause-moves : goal.returns-in-Err-clause-moves
@@ -87,14 +87,14 @@ returns-in_err-target-in-Ok-clause-moves g c = λ p es same o.
 pub returns-in-Err-clause-saves : goal.returns-in-Err-clause-saves
 returns-in-Err-clause-saves g c =
     let X = g.S.X.BlockHash.block32 in let N = g.N.NameHash.name64 in let p = c.args.tree.now.profile in
-    tells-saves Thing Entry X (IsBad N (Some p)) c.args.source.now c.in-Err.stop c.fault_of.result _ _ c.fault_of.ensures
-    (reads-saves (reads-by (IsBad N (Some p)) (tree-bad-more X N p c.args.tree.now.root.cid) c.in-Err.ensures.reads))
+    tells-saves Thing Entry X (IsBadInTree X N (Some p) c.args.tree.now.root.cid) c.args.source.now c.in-Err.stop c.fault_of.result _ _ c.fault_of.ensures
+    (reads-saves (reads-by (IsBadInTree X N (Some p) c.args.tree.now.root.cid) (tree-more X N p c.args.tree.now.root.cid) c.in-Err.ensures.reads))
 
 pub returns-in_err-target-in-Ok-clause-saves : goal.returns-in_err-target-in-Ok-clause-saves
 returns-in_err-target-in-Ok-clause-saves g c =
     let X = g.S.X.BlockHash.block32 in let N = g.N.NameHash.name64 in let p = c.args.tree.now.profile in let found = c.in_err-target-in-Ok.ensures.reads in
     let out = err_from_is_err_and c.from_residual.result c.from_residual.ensures.1 in
     rw (out.1, out.2) (record {
-      saves = saves-saves (reads-saves c.in-Ok.ensures.reads) (reads-saves (reads-by (IsBad N (Some p)) (tree-bad-more X N p c.args.tree.now.root.cid) found.reads));
+      saves = saves-saves (reads-saves c.in-Ok.ensures.reads) (reads-saves (reads-by (IsBadInTree X N (Some p) c.args.tree.now.root.cid) (tree-more X N p c.args.tree.now.root.cid) found.reads));
       in_tree = found.in_tree;
     })

@@ -13,8 +13,8 @@ use Rattle.uf_mfs.proofs.Folders.{over-first}
 use Rattle.uf_mfs.proofs.Shifting.{allowed-stop, shift-moves, shift-told, shift-touches, thing-plan}
 use Rattle.uf_mfs.proofs.Spots.{gives-stop, meets-gives, tells-gives, tells-saves}
 use Rattle.std.proofs.Common.{Some}
-use Rattle.uf_mfs.specs.Bad.{IsBad}
-use Rattle.uf_mfs.proofs.Judging.{tree-bad}
+use Rattle.uf_mfs.specs.Bad.{IsBadInTree}
+use Rattle.uf_mfs.proofs.Judging.{bad-below, made-required}
 use Rattle.uf_mfs.proofs.placing.shifted_root.Goals as goal
 
 pub returns-in-Err-clause-moves : goal.returns-in-Err-clause-moves
@@ -41,7 +41,9 @@ returns-in-Err-put_root-clause-moves g c = λ t spot same es o there thing.
 
 pub returns-in-Err-put_root-clause-saves : goal.returns-in-Err-put_root-clause-saves
 returns-in-Err-put_root-clause-saves g c =
-    tells-saves Entry Entry g.S.X.BlockHash.block32 _ c.args.names.now c.in-Err-put_root.stop c.fault_of-in-Err-put_root.result _ _ c.fault_of-in-Err-put_root.ensures (saves-saves c.in-Ok.ensures.saves (saves-by (IsBad g.N.NameHash.name64 (Some c.args.tree.now.profile)) (tree-bad g.S.X.BlockHash.block32 g.N.NameHash.name64 (Some c.args.tree.now.profile) c.in-Ok.left.cid) c.in-Err-put_root.ensures.saves))
+    let X = g.S.X.BlockHash.block32 in let N = g.N.NameHash.name64 in let p = c.args.tree.now.profile in let root = c.args.tree.now.root.cid in let left = c.in-Ok.left.cid in
+    tells-saves Entry Entry X (IsBadInTree X N (Some p) root) c.args.names.now c.in-Err-put_root.stop c.fault_of-in-Err-put_root.result _ _ c.fault_of-in-Err-put_root.ensures
+    (saves-saves c.in-Ok.ensures.saves (saves-by (IsBadInTree X N (Some p) root) (bad-below X N (Some p) root left (made-required X N (Some p) root left c.in-Ok.ensures.made)) c.in-Err-put_root.ensures.saves))
 
 pub returns-in-Ok-put_root-clause-moves : goal.returns-in-Ok-put_root-clause-moves
 returns-in-Ok-put_root-clause-moves g c = λ t spot same es o there thing.
@@ -56,7 +58,12 @@ returns-in-Ok-put_root-clause-moves g c = λ t spot same es o there thing.
     (meets-gives May P names (allowed X N p (edited_at (put_over t) names fs)) c.in-Ok-put_root.root h))
 
 pub returns-in-Ok-put_root-clause-saves : goal.returns-in-Ok-put_root-clause-saves
-returns-in-Ok-put_root-clause-saves g c = record { saves = saves-saves c.in-Ok.ensures.saves (saves-by (IsBad g.N.NameHash.name64 (Some c.args.tree.now.profile)) (tree-bad g.S.X.BlockHash.block32 g.N.NameHash.name64 (Some c.args.tree.now.profile) c.in-Ok.left.cid) c.in-Ok-put_root.ensures.saves); in_tree = tt }
+returns-in-Ok-put_root-clause-saves g c =
+    let X = g.S.X.BlockHash.block32 in let N = g.N.NameHash.name64 in let p = c.args.tree.now.profile in let root = c.args.tree.now.root.cid in let left = c.in-Ok.left.cid in
+    record {
+      saves = saves-saves c.in-Ok.ensures.saves (saves-by (IsBadInTree X N (Some p) root) (bad-below X N (Some p) root left (made-required X N (Some p) root left c.in-Ok.ensures.made)) c.in-Ok-put_root.ensures.saves);
+      in_tree = tt;
+    }
 
 pub returns-in-Err-put_root-clause-touches : goal.returns-in-Err-put_root-clause-touches
 returns-in-Err-put_root-clause-touches g c = λ t spot same es o there thing.
@@ -83,4 +90,4 @@ returns-in-Ok-put_root-clause-touches g c = λ t spot same es o there thing.
 pub returns-in-Err-clause-saves : goal.returns-in-Err-clause-saves
 returns-in-Err-clause-saves g c =
     let X = g.S.X.BlockHash.block32 in let N = g.N.NameHash.name64 in let p = c.args.tree.now.profile in
-    tells-saves Entry Entry X (IsBad N (Some p)) c.args.source.now c.in-Err.stop c.fault_of.result _ _ c.fault_of.ensures (saves-by (IsBad N (Some p)) (tree-bad X N (Some p) c.args.tree.now.root.cid) c.in-Err.ensures.saves)
+    tells-saves Entry Entry X (IsBadInTree X N (Some p) c.args.tree.now.root.cid) c.args.source.now c.in-Err.stop c.fault_of.result _ _ c.fault_of.ensures c.in-Err.ensures.saves

@@ -1,7 +1,7 @@
 use Rattle.std.proofs.Common.{◌≡◌, false, true, sym, subst, ap, ◌∙◌, Ok, Err}
 use Rattle.std.specs.Prelude.{map, string_bytes}
-use Rattle.uf_reply.specs.Commands.{command_in, of_command, only_hashes, reads_input}
-use Rattle.uf_top.specs.Around.{around}
+use Rattle.uf_reply.specs.Commands.{command_in, of_command, only_hashes, reads_input, uses_host}
+use Rattle.uf_top.specs.Around.{around, host_side}
 use Rattle.uf_top.specs.Working.{Serves}
 use Rattle.uf_top.proofs.Serving.{words-serve}
 use Rattle.uf_top.proofs.command.serve.Goals as goal
@@ -9,14 +9,14 @@ use Rattle.uf_top.proofs.command.serve.Goals as goal
 pub returns-in-Err-clause-serves : goal.returns-in-Err-clause-serves
 returns-in-Err-clause-serves g c =
     words-serve g.S.X.BlockHash.block32 g.N.NameHash.name64
-    (around (g.S.Store.seen c.args.store.now) (g.I.Source.left c.args.input.now) (g.I.Source.faults c.args.input.now) (g.O.Sink.holds c.args.output.now) (g.O.Sink.faults c.args.output.now) c.args.touches.now)
+    (around (g.S.Store.seen c.args.store.now) (g.I.Source.left c.args.input.now) (g.I.Source.faults c.args.input.now) (g.O.Sink.holds c.args.output.now) (g.O.Sink.faults c.args.output.now) c.args.touches.now (host_side (g.W.Host.tree c.args.host.now) (g.W.Host.read_faults c.args.host.now) (g.W.Host.write_faults c.args.host.now)))
     (command_in (map string_bytes c.args.words.now)) c.in-Err.why c.in-Err.ensures.asked
 
 pub returns-in-Ok-clause-serves : goal.returns-in-Ok-clause-serves
 returns-in-Ok-clause-serves g c =
     subst (λ asked. Serves g.S.X.BlockHash.block32 g.N.NameHash.name64 asked c.work.result
-    (around (g.S.Store.seen c.args.store.now) (g.I.Source.left c.args.input.now) (g.I.Source.faults c.args.input.now) (g.O.Sink.holds c.args.output.now) (g.O.Sink.faults c.args.output.now) c.args.touches.now)
-    (around (g.S.Store.seen c.work.new.store) (g.I.Source.left c.work.new.input) (g.I.Source.faults c.work.new.input) (g.O.Sink.holds c.work.new.output) (g.O.Sink.faults c.work.new.output) c.work.new.touches))
+    (around (g.S.Store.seen c.args.store.now) (g.I.Source.left c.args.input.now) (g.I.Source.faults c.args.input.now) (g.O.Sink.holds c.args.output.now) (g.O.Sink.faults c.args.output.now) c.args.touches.now (host_side (g.W.Host.tree c.args.host.now) (g.W.Host.read_faults c.args.host.now) (g.W.Host.write_faults c.args.host.now)))
+    (around (g.S.Store.seen c.work.new.store) (g.I.Source.left c.work.new.input) (g.I.Source.faults c.work.new.input) (g.O.Sink.holds c.work.new.output) (g.O.Sink.faults c.work.new.output) c.work.new.touches (host_side (g.W.Host.tree c.work.new.host) (g.W.Host.read_faults c.work.new.host) (g.W.Host.write_faults c.work.new.host))))
     (sym c.in-Ok.ensures.asked) c.work.ensures.does
 
 pub returns-in-Ok-clause-left : goal.returns-in-Ok-clause-left
@@ -27,3 +27,6 @@ returns-in-Ok-clause-input g c = λ is. c.work.ensures.input (ap (of_command rea
 
 pub returns-in-Ok-clause-untouched : goal.returns-in-Ok-clause-untouched
 returns-in-Ok-clause-untouched g c = λ is. c.work.ensures.untouched (ap (of_command only_hashes true) (sym c.in-Ok.ensures.asked) ∙ is)
+
+pub returns-in-Ok-clause-host : goal.returns-in-Ok-clause-host
+returns-in-Ok-clause-host g c = λ is. c.work.ensures.host (ap (of_command uses_host false) (sym c.in-Ok.ensures.asked) ∙ is)

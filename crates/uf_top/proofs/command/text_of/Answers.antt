@@ -1,27 +1,42 @@
-use Rattle.std.proofs.Common.{sym, subst}
-use Rattle.uf_top.specs.Working.{Makes}
+use Rattle.std.proofs.Common.{◌≡◌, ◌∙◌, false, true, ap, refl, sym, subst}
+use Rattle.uf_reply.specs.Commands.{uses_host}
+use Rattle.uf_reply.specs.declared.types.Command.TheVariants.{Init, Add, AddFrom, WriteInput, At}
+use Rattle.uf_top.specs.Around.{around, host_side}
+use Rattle.uf_top.specs.Working.{MakesText}
+use Rattle.uf_top.proofs.Printing.{made-as}
 use Rattle.uf_top.proofs.command.text_of.Goals as goal
 
 pub returns-in-Init-clause-makes : goal.returns-in-Init-clause-makes
 returns-in-Init-clause-makes g c =
-    let l = g.I.Source.left c.args.input.now in let i = g.I.Source.faults c.args.input.now in
-    subst (λ command. Makes g.S.X.BlockHash.block32 g.N.NameHash.name64 command c.init.result (g.S.Store.seen c.args.store.now) (g.S.Store.seen c.init.new.store) l l i i c.args.touches.now c.init.new.touches)
-    (sym c.in-Init.is) (c.init.ensures l i)
+    made-as g.S.X.BlockHash.block32 g.N.NameHash.name64 c.args.command.now (Init c.in-Init.profile) c.in-Init.is refl (g.S.Store.seen c.args.store.now) (g.S.Store.seen c.init.new.store)
+    (g.I.Source.left c.args.input.now) (g.I.Source.left c.args.input.now) (g.I.Source.faults c.args.input.now) (g.I.Source.faults c.args.input.now) c.args.touches.now c.init.new.touches
+    (host_side (g.W.Host.tree c.args.host.now) (g.W.Host.read_faults c.args.host.now) (g.W.Host.write_faults c.args.host.now)) (λ text. tt) c.init.result (c.init.ensures (g.I.Source.left c.args.input.now) (g.I.Source.faults c.args.input.now))
 
 pub returns-in-Add-clause-makes : goal.returns-in-Add-clause-makes
 returns-in-Add-clause-makes g c =
-    subst (λ command. Makes g.S.X.BlockHash.block32 g.N.NameHash.name64 command c.adds.result (g.S.Store.seen c.args.store.now) (g.S.Store.seen c.adds.new.store)
-    (g.I.Source.left c.args.input.now) (g.I.Source.left c.adds.new.input) (g.I.Source.faults c.args.input.now) (g.I.Source.faults c.adds.new.input) c.args.touches.now c.adds.new.touches)
-    (sym c.in-Add.is) (c.adds.ensures.works g.N.NameHash.name64)
+    made-as g.S.X.BlockHash.block32 g.N.NameHash.name64 c.args.command.now (Add c.in-Add.only_hash) c.in-Add.is refl (g.S.Store.seen c.args.store.now) (g.S.Store.seen c.adds.new.store)
+    (g.I.Source.left c.args.input.now) (g.I.Source.left c.adds.new.input) (g.I.Source.faults c.args.input.now) (g.I.Source.faults c.adds.new.input) c.args.touches.now c.adds.new.touches
+    (host_side (g.W.Host.tree c.args.host.now) (g.W.Host.read_faults c.args.host.now) (g.W.Host.write_faults c.args.host.now)) (λ text. tt) c.adds.result (c.adds.ensures.works g.N.NameHash.name64)
+
+pub returns-in-AddFrom-clause-makes : goal.returns-in-AddFrom-clause-makes
+returns-in-AddFrom-clause-makes g c = λ held writes.
+    let l = g.I.Source.left c.args.input.now in let i = g.I.Source.faults c.args.input.now in
+    subst (λ command. MakesText g.S.X.BlockHash.block32 g.N.NameHash.name64 command c.add_from.result
+    (around (g.S.Store.seen c.args.store.now) l i held writes c.args.touches.now (host_side (g.W.Host.tree c.args.host.now) (g.W.Host.read_faults c.args.host.now) (g.W.Host.write_faults c.args.host.now)))
+    (around (g.S.Store.seen c.add_from.new.store) l i held writes c.add_from.new.touches (host_side (g.W.Host.tree c.add_from.new.host) (g.W.Host.read_faults c.add_from.new.host) (g.W.Host.write_faults c.add_from.new.host))))
+    (sym c.in-AddFrom.is) (c.add_from.ensures.works l i held writes)
+
+pub returns-in-AddFrom-clause-host : goal.returns-in-AddFrom-clause-host
+returns-in-AddFrom-clause-host g c = λ e. absurd (let k : uses_host (AddFrom c.in-AddFrom.recursive c.in-AddFrom.only_hash c.in-AddFrom.path) ≡ false = ap uses_host (sym c.in-AddFrom.is) ∙ e in cc)
 
 pub returns-in-At-clause-makes : goal.returns-in-At-clause-makes
 returns-in-At-clause-makes g c =
-    let l = g.I.Source.left c.args.input.now in let i = g.I.Source.faults c.args.input.now in
-    subst (λ command. Makes g.S.X.BlockHash.block32 g.N.NameHash.name64 command c.at.result (g.S.Store.seen c.args.store.now) (g.S.Store.seen c.at.new.store) l l i i c.args.touches.now c.at.new.touches)
-    (sym c.in-At.is) (c.at.ensures l i)
+    made-as g.S.X.BlockHash.block32 g.N.NameHash.name64 c.args.command.now (At c.in-At.ask c.in-At.path) c.in-At.is refl (g.S.Store.seen c.args.store.now) (g.S.Store.seen c.at.new.store)
+    (g.I.Source.left c.args.input.now) (g.I.Source.left c.args.input.now) (g.I.Source.faults c.args.input.now) (g.I.Source.faults c.args.input.now) c.args.touches.now c.at.new.touches
+    (host_side (g.W.Host.tree c.args.host.now) (g.W.Host.read_faults c.args.host.now) (g.W.Host.write_faults c.args.host.now)) (λ text. tt) c.at.result (c.at.ensures (g.I.Source.left c.args.input.now) (g.I.Source.faults c.args.input.now))
 
 pub returns-in-WriteInput-clause-makes : goal.returns-in-WriteInput-clause-makes
 returns-in-WriteInput-clause-makes g c =
-    subst (λ command. Makes g.S.X.BlockHash.block32 g.N.NameHash.name64 command c.write_input.result (g.S.Store.seen c.args.store.now) (g.S.Store.seen c.write_input.new.store)
-    (g.I.Source.left c.args.input.now) (g.I.Source.left c.write_input.new.input) (g.I.Source.faults c.args.input.now) (g.I.Source.faults c.write_input.new.input) c.args.touches.now c.write_input.new.touches)
-    (sym c.in-WriteInput.is) c.write_input.ensures
+    made-as g.S.X.BlockHash.block32 g.N.NameHash.name64 c.args.command.now (WriteInput c.in-WriteInput.how c.in-WriteInput.path) c.in-WriteInput.is refl (g.S.Store.seen c.args.store.now) (g.S.Store.seen c.write_input.new.store)
+    (g.I.Source.left c.args.input.now) (g.I.Source.left c.write_input.new.input) (g.I.Source.faults c.args.input.now) (g.I.Source.faults c.write_input.new.input) c.args.touches.now c.write_input.new.touches
+    (host_side (g.W.Host.tree c.args.host.now) (g.W.Host.read_faults c.args.host.now) (g.W.Host.write_faults c.args.host.now)) (λ text. tt) c.write_input.result (c.write_input.ensures)

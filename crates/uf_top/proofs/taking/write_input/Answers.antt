@@ -1,5 +1,4 @@
-use Rattle.std.proofs.Common.{None}
-use Rattle.uf_mfs.specs.Bad.{IsBad}
+use Rattle.uf_mfs.specs.Bad.{IsBadInHead}
 use Rattle.uf_mfs.specs.declared.mfs.Mfs.{Mfs}
 use Rattle.uf_reply.specs.declared.types.Ask.TheVariants.{Edit as Edits}
 use Rattle.uf_reply.specs.declared.types.Edit.TheVariants.{Write}
@@ -9,7 +8,7 @@ use Rattle.uf_top.proofs.Written.{input-refused, input-unopened, input-written}
 use Rattle.uf_top.proofs.taking.write_input.Goals as goal
 
 pub opening-requires : goal.opening-requires
-opening-requires g c = opening-fault Mfs g.S.X.BlockHash.block32 (IsBad g.N.NameHash.name64 None) c.in-Err.fault (g.S.Store.seen c.args.store.now) (g.S.Store.seen c.from_store.new.store) c.in-Err.ensures.cause
+opening-requires g c = opening-fault Mfs g.S.X.BlockHash.block32 (IsBadInHead g.S.X.BlockHash.block32 g.N.NameHash.name64 (g.S.Store.seen c.args.store.now).told) c.in-Err.fault (g.S.Store.seen c.args.store.now) (g.S.Store.seen c.from_store.new.store) c.in-Err.ensures.cause
 
 pub returns-in-Err : goal.returns-in-Err
 returns-in-Err g c =

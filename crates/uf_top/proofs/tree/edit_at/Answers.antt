@@ -1,5 +1,5 @@
 use Rattle.std.proofs.Common.{refl}
-use Rattle.uf_mfs.specs.Writes.{IsBadWritten}
+use Rattle.uf_mfs.specs.Writes.{IsBadWrittenIn}
 use Rattle.uf_store.specs.Faults.{NoneIsBad}
 use Rattle.uf_tree.specs.Heads.{head_text}
 use Rattle.uf_top.proofs.Asking.{commit-refused, edit-refused, is-committed}
@@ -7,7 +7,7 @@ use Rattle.uf_top.proofs.Shows.{tree-fault}
 use Rattle.uf_top.proofs.tree.edit_at.Goals as goal
 
 pub refusal-requires : goal.refusal-requires
-refusal-requires g c = tree-fault (Unit {0}) g.S.X.BlockHash.block32 (IsBadWritten g.S.X.BlockHash.block32 g.N.NameHash.name64 c.args.tree.profile (g.S.Store.seen c.edited.new.store).told) c.in-Err.fault (g.S.Store.seen c.args.store.now) (g.S.Store.seen c.edited.new.store) c.in-Err.ensures.edits.cause
+refusal-requires g c = tree-fault (Unit {0}) g.S.X.BlockHash.block32 (IsBadWrittenIn g.S.X.BlockHash.block32 g.N.NameHash.name64 c.args.tree.profile (g.S.Store.seen c.edited.new.store).told c.args.tree.root.cid) c.in-Err.fault (g.S.Store.seen c.args.store.now) (g.S.Store.seen c.edited.new.store) c.in-Err.ensures.edits.cause
 
 pub refusal-requires-in-Err-commit : goal.refusal-requires-in-Err-commit
 refusal-requires-in-Err-commit g c = tree-fault (Unit {0}) g.S.X.BlockHash.block32 NoneIsBad c.in-Err-commit.fault (g.S.Store.seen c.edited.new.store) (g.S.Store.seen c.commit.new.store) c.in-Err-commit.ensures.cause

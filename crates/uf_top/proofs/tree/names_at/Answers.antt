@@ -5,7 +5,7 @@ use Rattle.uf_cid.specs.declared.bytes.Memory.{Memory}
 use Rattle.uf_mfs.specs.Bad.{IsBadInTree}
 use Rattle.uf_plain.specs.Replies.{names_at}
 use Rattle.uf_reply.specs.Lines.{name_line}
-use Rattle.uf_reply.specs.Reply.{listed}
+use Rattle.uf_top.specs.Reply.{listed}
 use Rattle.uf_reply.specs.declared.types.Ask.TheVariants.{Ls}
 use Rattle.uf_top.proofs.Asking.{is-looked, not-looked}
 use Rattle.uf_top.proofs.Shows.{tree-fault}

@@ -6,7 +6,7 @@ use Rattle.uf_mfs.specs.Bad.{IsBadInTree}
 use Rattle.uf_plain.specs.Replies.{rows_at}
 use Rattle.uf_plain.specs.declared.reply.Row.{Row}
 use Rattle.uf_reply.specs.Lines.{row_line}
-use Rattle.uf_reply.specs.Reply.{listed}
+use Rattle.uf_top.specs.Reply.{listed}
 use Rattle.uf_reply.specs.declared.types.Ask.TheVariants.{Ls}
 use Rattle.uf_top.proofs.Asking.{is-looked, not-looked}
 use Rattle.uf_top.proofs.Shows.{tree-fault}

@@ -13,8 +13,8 @@ use Rattle.uf_lenient.specs.declared.unixfs.Unixfs.{Unixfs}
 use Rattle.uf_lenient.specs.declared.unixfs.Unixfs.TheVariants.{File, Directory, Shard, OtherShard, Other}
 use Rattle.uf_lenient.specs.Reading.{◌>>◌, Visits, Ways, answered, completed, file_under, gathered, gathers, joined_parts, leads, meet_all, member_trees, part_bytes, shallow_of, shape_of, shard_ways, sub_ways, tree_within, unvisited, visit_of}
 use Rattle.uf_lenient.specs.Unixfs.{as_file}
-use Rattle.uf_adopt.specs.Adopting.{AreDenoted, DenotesBy, denotes_within}
-use Rattle.uf_adopt.proofs.Looser.{AreLike, Follows, IsLikeGathered, Same, gathered-like, within-like}
+use Rattle.uf_lenient.specs.Denoted.{AreDenoted, DenotesBy, IsStep, denotes_within}
+use Rattle.uf_lenient.proofs.Looser.{AreLike, Follows, IsLikeGathered, Same, gathered-like, within-like}
 
 -- a reading behind another one gives a value only where both do
 record BothGive {A B : Type 0} (r : Visits A) (f : A → ℕ → Visits B) (y : B × ℕ) : Type 0 where
@@ -94,13 +94,7 @@ module _ (held : Lookup) where
 
     -- ---- one step
 
-    -- what a CID denotes, by the shape that it has
-    pub record IsStep (room : ℕ) (c : Cid) (t : Tree) : Type 0 where
-      pub shape : Shape
-      pub shaped : shallow_of held limits c ≡ Ok shape
-      pub by : DenotesBy held limits room c t shape
-
-    step_of_gathered : (room : ℕ) (c : Cid) (t : Tree) (x : Gathered) (n m : ℕ) → gathered held (limits.depth + 1) c limits.visits ≡ Ok (x, n) → completed held (tree_within held room) (pred (limits.depth + 1)) x n ≡ Ok (t, m) → IsStep room c t
+    step_of_gathered : (room : ℕ) (c : Cid) (t : Tree) (x : Gathered) (n m : ℕ) → gathered held (limits.depth + 1) c limits.visits ≡ Ok (x, n) → completed held (tree_within held room) (pred (limits.depth + 1)) x n ≡ Ok (t, m) → IsStep held limits room c t
     step_of_gathered room c t (IsFile bytes links) n m is e =
         let g = both_give (joined_parts (part_bytes held (pred (limits.depth + 1))) links n) (λ more k. Ok (FileTree (bytes ++ more), k)) (t, m) e in
         let same : FileTree (bytes ++ g.first.0) ≡ t = firsts {x = (FileTree (bytes ++ g.first.0), g.first.1)} {y = (t, m)} g.then in
@@ -124,7 +118,7 @@ module _ (held : Lookup) where
         members (IsFile bytes links) like few {es} {k} is = absurd like
         members (IsFolder vs) like few {es} {k} is = members_denoted room ways vs n es k like few is
 
-    pub denoted-step : (room : ℕ) (c : Cid) (t : Tree) → denotes_within held limits (suc room) c ≡ Ok t → IsStep room c t
+    pub denoted-step : (room : ℕ) (c : Cid) (t : Tree) → denotes_within held limits (suc room) c ≡ Ok t → IsStep held limits room c t
     unfolding tree_within
     denoted-step room c t is =
         let a = was_answered (tree_within held (suc room) (limits.depth + 1) c limits.visits) t is in

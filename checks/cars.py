@@ -1,0 +1,83 @@
+"""CARs that go from one folder to another: a tree is exported and imported, a byte of it is changed, and blocks are lost.
+
+The word says how many files the tree has: two hundred where it isn't given.
+"""
+
+import os
+import shutil
+import subprocess
+import sys
+import tempfile
+
+
+class Cars:
+    """Two folders with a store each, and what was compared."""
+
+    def __init__(self, program, folder):
+        self.program = program
+        self.folder = folder
+        self.count = self.wrong = 0
+        for name in ("from", "to", "spoiled"):
+            os.mkdir(os.path.join(folder, name))
+
+    def run(self, where, words, data=b""):
+        """The status of a command in a folder, and what it prints on standard output and on standard error."""
+        done = subprocess.run(
+            [self.program, *words.split()], cwd=os.path.join(self.folder, where), input=data,
+            stdout=subprocess.PIPE, stderr=subprocess.PIPE, timeout=60, check=False)
+        return done.returncode, done.stdout, done.stderr.decode()
+
+    def expect(self, name, got, wanted):
+        """Compares what came with what is wanted."""
+        self.count += 1
+        if got != wanted:
+            self.wrong += 1
+            print(f"cars: {name}\n  wanted: {wanted!r:.300}\n  got:    {got!r:.300}")
+
+    def blocks(self, where):
+        """The paths of the files of blocks in a folder, by their CIDs."""
+        top = os.path.join(self.folder, where, ".unixfs", "blocks")
+        return {name: os.path.join(folder, name) for folder, _, names in os.walk(top) for name in names}
+
+    def lose(self, where, cid, words, line):
+        """A block is lost: the command is refused, and nothing is printed."""
+        path = self.blocks(where)[cid]
+        shutil.move(path, path + "-kept")
+        self.expect(f"{where}: lost {cid}", self.run(where, words), (4, b"", line))
+        shutil.move(path + "-kept", path)
+
+    def all(self, files):
+        """A tree of so many files goes round."""
+        self.expect("init", self.run("from", "init --chunk 1024 --threshold 4096"), (0, b"", ""))
+        for number in range(files):
+            data = b"%d " % number * 300
+            self.expect("write", self.run("from", f"files write -e /{number}", data), (0, b"", ""))
+        root = self.run("from", "files stat /")[1].split()[0].decode()
+        last = self.run("from", "files stat /0")[1].split()[0].decode()
+        status, car, line = self.run("from", f"dag export {root}")
+        self.expect("export", (status, line), (0, ""))
+        told = (0, f"root {root}\n".encode(), "")
+        self.expect("import", self.run("to", "dag import", car), told)
+        self.expect("import again", self.run("to", "dag import", car), told)
+        self.expect("equal", self.run("to", f"dag export {root}"), (0, car, ""))
+        spoiled = car[:-1] + bytes([car[-1] ^ 1])
+        status, printed, line = self.run("spoiled", "dag import", spoiled)
+        self.expect("one byte", (status, printed, line.startswith("error: rule Car 5 ")), (1, b"", True))
+        self.expect("kept in front of it", len(self.blocks("spoiled")) + 1, len(self.blocks("to")))
+        for where in ("from", "to"):
+            self.lose(where, last, f"dag export {root}", f"error: missing {last}\n")
+        self.expect("whole again", self.run("to", f"dag export {root}"), (0, car, ""))
+
+
+def main():
+    """Runs the checks with the built program."""
+    top = os.path.dirname(os.path.dirname(os.path.abspath(__file__)))
+    subprocess.run([os.path.join(top, "unixfs"), "add", "-n"], stdin=subprocess.DEVNULL, stdout=subprocess.DEVNULL, check=True)
+    with tempfile.TemporaryDirectory() as folder:
+        cars = Cars(os.path.join(top, "crates", "uf_tool", "out", "uf_tool"), folder)
+        cars.all(int(sys.argv[1]) if len(sys.argv) > 1 else 200)
+        print(f"cars: {cars.count - cars.wrong} passed, {cars.wrong} failed")
+    sys.exit(1 if cars.wrong else 0)
+
+
+main()

@@ -1,0 +1,239 @@
+-- What is found in a DAG, built, and put into the tree in memory.
+use Rattle.std.proofs.Common.{◌≡◌, ◌⊎◌, ℕ, ◌<◌, List, [], true, refl, sym, ap, subst, ◌∙◌, inl, inr, Option, Some, None, Result, Ok, Err}
+use Rattle.std.specs.Prelude.{IfErr, IfSome}
+use Rattle.uf_adopt.specs.Adopting.{BuildsTree, IsBuilt, IsFirstTooLong}
+use Rattle.uf_adopt.specs.Faults.{TellsStoreApart, adopt_fault}
+use Rattle.uf_adopt.specs.Feeding.{HoldsGoodMap}
+use Rattle.uf_adopt.specs.declared.fault.AdoptFault.{AdoptFault}
+use Rattle.uf_adopt.specs.declared.fault.AdoptFault.TheVariants as adopt
+use Rattle.uf_cid.specs.Blocks.{Held, Lookup}
+use Rattle.uf_cid.specs.declared.cid.Cid.{Cid}
+use Rattle.uf_edge.specs.Counts.{Stood}
+use Rattle.uf_lenient.specs.Answers.{IsFault, IsOwn}
+use Rattle.uf_lenient.specs.Reading.{denotes, resolve_from}
+use Rattle.uf_lenient.specs.Steps.{IsRead}
+use Rattle.uf_lenient.specs.declared.fault.DagFault.{DagFault}
+use Rattle.uf_lenient.specs.declared.fault.DagFault.TheVariants as dag
+use Rattle.uf_lenient.specs.declared.shapes.Shape.{Shape}
+use Rattle.uf_mfs.specs.Standing.{StandsAfter, StandsOver}
+use Rattle.uf_mfs.specs.Steps.{IsFolderOver}
+use Rattle.uf_mfs.specs.declared.mfs.Mfs.{Mfs}
+use Rattle.uf_mfs.proofs.Folders.{read-over}
+use Rattle.uf_path.specs.declared.path.DagPath.{DagPath}
+use Rattle.uf_path.specs.declared.path.Path.{Path}
+use Rattle.uf_plain.specs.Moves.{spotted, told_of}
+use Rattle.uf_plain.specs.Rules.{unless}
+use Rattle.uf_plain.specs.declared.spot.Spot.{Spot}
+use Rattle.uf_store.specs.Calls.{OnlyReads}
+use Rattle.uf_store.specs.Contents.{Contents, Told, held_at}
+use Rattle.uf_store.specs.Faults.{NoneIsBad, Shown}
+use Rattle.uf_store.specs.Keeping.{Agrees}
+use Rattle.uf_store.specs.Seen.{Seen}
+use Rattle.uf_store.specs.declared.store.Role.{Role}
+use Rattle.uf_store.specs.declared.store.StoreFault.{StoreFault}
+use Rattle.uf_store.specs.declared.store.StoreFault.TheVariants as fault
+use Rattle.uf_store.proofs.Calls.{shown-rises}
+use Rattle.uf_tree.specs.Tree.{Dir, Entries, Tree}
+use Rattle.uf_tree.specs.TreePlan.{Refusal as NoPlan, blocks, refusal as refusal_of}
+use Rattle.uf_tree.specs.declared.nodes.Entry.{Entry}
+use Rattle.uf_tree.specs.declared.profile.Profile.{Profile}
+use Rattle.uf_varint.specs.Fields.{◌>>=◌}
+use Rattle.uf_reply.specs.Dags.{IsToldAs, adopted_name, by_dag, dag_refusal, tree_at, usual_limits}
+use Rattle.uf_reply.specs.Kinds.{AdoptsDag, IsOf, fault_behind, fault_kind, may_answer, refusal_kind}
+use Rattle.uf_top.specs.Reply.{adopted, by_rule, grafted, with_plan}
+use Rattle.uf_reply.specs.Statuses.{no_memory}
+use Rattle.uf_reply.specs.declared.types.Refusal.{Refusal}
+use Rattle.uf_reply.specs.declared.types.Refusal.TheVariants as refusal
+use Rattle.uf_top.specs.Foreign.{FindsTree, IsOfReading, IsOwnRefusal, IsTreeIn, LeadsTo}
+use Rattle.uf_top.specs.Grafts.{BuildsPlanned, FollowsOr, IsFailingRefusal, IsLostBy, IsOkFor, PutsTree, adopt_refusal, graft_kinds, put_tree}
+use Rattle.uf_top.specs.Naming.{AreGoodBlocks, TellsBlocks}
+use Rattle.uf_top.proofs.Cats.{below-fault, way-fault}
+use Rattle.uf_top.proofs.Putting.{failing-lost, follows-then, ok-for, ok-value, stops-then}
+
+-- ---- kinds
+
+store-graft : (f : StoreFault) → graft_kinds (fault_kind f) ≡ true
+store-graft fault.Failed = refl
+store-graft (fault.Damaged cid) = refl
+store-graft (fault.Missing cid) = refl
+store-graft (fault.BadBlock cid role) = refl
+store-graft (fault.Clash cid held bytes) = refl
+store-graft fault.Memory = refl
+
+dag-graft : (path : DagPath) (f : DagFault) → graft_kinds (refusal_kind (dag_refusal path f)) ≡ true
+dag-graft path (dag.NotUnixfs cid n) = refl
+dag-graft path (dag.DuplicateName cid name) = refl
+dag-graft path (dag.BadName cid) = refl
+dag-graft path (dag.Unsupported cid) = refl
+dag-graft path (dag.TooDeep cid) = refl
+dag-graft path dag.TooMany = refl
+dag-graft path (dag.NotFound place) = refl
+dag-graft path (dag.NotADirectory place) = refl
+dag-graft path (dag.Store f) = store-graft f
+
+adopt-graft : (path : DagPath) (f : AdoptFault) → graft_kinds (refusal_kind (adopt_refusal path f)) ≡ true
+adopt-graft path (adopt.Dag f) = dag-graft path f
+adopt-graft path (adopt.FileTooLong cid) = refl
+adopt-graft path (adopt.Collision first second) = refl
+adopt-graft path adopt.TooBig = refl
+adopt-graft path (adopt.Store f) = store-graft f
+
+pub adopted-kind : (path : DagPath) (f : AdoptFault) (why : Refusal) → IsToldAs (adopt_refusal path f) why → graft_kinds (refusal_kind why) ≡ true
+adopted-kind path f why (inl is) = subst (λ w. graft_kinds (refusal_kind w) ≡ true) (sym is) refl
+adopted-kind path f why (inr is) = subst (λ w. graft_kinds (refusal_kind w) ≡ true) (sym is) (adopt-graft path f)
+
+pub reading-kind : (why : Refusal) → IsOfReading why → graft_kinds (refusal_kind why) ≡ true
+reading-kind (refusal.Rule r) of = absurd of
+reading-kind (refusal.Dag r) of = refl
+reading-kind (refusal.BadPath p) of = absurd of
+reading-kind (refusal.Host r) of = absurd of
+reading-kind (refusal.Car number place) of = absurd of
+reading-kind refusal.InputTooLong of = absurd of
+reading-kind refusal.Usage of = absurd of
+reading-kind (refusal.Ready r) of = absurd of
+reading-kind refusal.Read of = absurd of
+reading-kind refusal.Write of = absurd of
+reading-kind (refusal.Store f) of = store-graft f
+
+-- ---- a tree that is built
+
+pub built-planned : (X : List ℕ → List ℕ) (N : List ℕ → ℕ) (p : Profile) (now : Told) (t : Tree) (e : Entry) → IsBuilt X N p now t e → BuildsPlanned X N p now t (Ok e)
+built-planned X N p now t e h =
+    ok-for (λ planned. IsBuilt X N p now planned e) (by_rule (with_plan X N p t)) t (ap (λ (o : Option NoPlan). by_rule (told_of [] (unless t o))) h.planned) h
+
+pub refused-planned : (X : List ℕ → List ℕ) (N : List ℕ → ℕ) (p : Profile) (held : Lookup) (path : DagPath) (now : Told) (c : Cid) (t : Tree) (f : AdoptFault) (why : Refusal) → IsToldAs (adopt_refusal path f) why → BuildsTree X N p held usual_limits now c t (Err f)
+    → BuildsPlanned X N p now t (Err why)
+refused-planned X N p held path now c t f why (inl is) h = inl (subst IsFailingRefusal (sym is) (inl tt))
+refused-planned X N p held path now c t f why (inr is) h = by f is h
+  where
+    said : (o : NoPlan) → refusal_of X N p t ≡ Some o → by_rule (with_plan X N p t) ≡ by_rule (told_of [] (unless t (Some o)))
+    said o planned = ap (λ (o : Option NoPlan). by_rule (told_of [] (unless t o))) planned
+
+    by : (f : AdoptFault) → why ≡ adopt_refusal path f → BuildsTree X N p held usual_limits now c t (Err f) → BuildsPlanned X N p now t (Err why)
+    by (adopt.Dag f) is h = absurd h
+    by (adopt.FileTooLong node) is h = inr (said _ h.0 ∙ ap (λ (r : Refusal). Err r) (sym is))
+    by (adopt.Collision first second) is h = inr (said _ h ∙ ap (λ (r : Refusal). Err r) (sym is))
+    by adopt.TooBig is h = inr (said _ h ∙ ap (λ (r : Refusal). Err r) (sym is))
+    by (adopt.Store f) is h = inl (subst IsFailingRefusal (sym is) h)
+
+-- the store's own fault is the refusal's
+pub adopted-fault : (path : DagPath) (f : AdoptFault) (hash : List ℕ → List ℕ) (a b : Seen) (why : Refusal) → IsToldAs (adopt_refusal path f) why → TellsStoreApart {A = Entry} (Err f) → Shown hash NoneIsBad (adopt_fault {A = Entry} (Err f)) a b
+    → Shown hash NoneIsBad (fault_behind why) a b
+adopted-fault path f hash a b why (inl is) apart h = subst (λ w. Shown hash NoneIsBad (fault_behind w) a b) (sym is) (shown-rises hash NoneIsBad (adopt_fault {A = Entry} (Err f)) a b h)
+adopted-fault path f hash a b why (inr is) apart h = subst (λ w. Shown hash NoneIsBad (fault_behind w) a b) (sym is) (by f apart h)
+  where
+    by : (f : AdoptFault) → TellsStoreApart {A = Entry} (Err f) → Shown hash NoneIsBad (adopt_fault {A = Entry} (Err f)) a b → Shown hash NoneIsBad (fault_behind (adopt_refusal path f)) a b
+    by (adopt.Dag (dag.NotUnixfs cid n)) apart h = h
+    by (adopt.Dag (dag.DuplicateName cid name)) apart h = h
+    by (adopt.Dag (dag.BadName cid)) apart h = h
+    by (adopt.Dag (dag.Unsupported cid)) apart h = h
+    by (adopt.Dag (dag.TooDeep cid)) apart h = h
+    by (adopt.Dag dag.TooMany) apart h = h
+    by (adopt.Dag (dag.NotFound place)) apart h = h
+    by (adopt.Dag (dag.NotADirectory place)) apart h = h
+    by (adopt.Dag (dag.Store s)) apart h = absurd apart
+    by (adopt.FileTooLong cid) apart h = h
+    by (adopt.Collision first second) apart h = h
+    by adopt.TooBig apart h = h
+    by (adopt.Store s) apart h = h
+
+-- ---- what is found
+
+own-failing : (why : Refusal) → IsOwnRefusal why → IsFailingRefusal why
+own-failing (refusal.Rule r) own = absurd own
+own-failing (refusal.Dag r) own = absurd own
+own-failing (refusal.BadPath p) own = absurd own
+own-failing (refusal.Host r) own = absurd own
+own-failing (refusal.Car number place) own = absurd own
+own-failing refusal.InputTooLong own = absurd own
+own-failing refusal.Usage own = absurd own
+own-failing (refusal.Ready r) own = absurd own
+own-failing refusal.Read own = absurd own
+own-failing refusal.Write own = absurd own
+own-failing (refusal.Store f) own = inl own
+
+-- a fault of a reading is the refusal that it says, or the store's own
+fault-tree : (held : Lookup) (path : DagPath) (f : DagFault) (why : Refusal) → IsFault (tree_at held path) f → IsToldAs (dag_refusal path f) why → FindsTree held path (Err why)
+fault-tree held path f why said (inl is) = inl (subst IsOwnRefusal (sym is) tt)
+fault-tree held path f why (inr said) (inr is) = inr (ap (by_dag path) said ∙ ap (λ (r : Refusal). Err r) (sym is))
+fault-tree held path f why (inl own) (inr is) = inl (subst IsOwnRefusal (sym is) (by f own))
+  where
+    by : (f : DagFault) → IsOwn f → IsOwnRefusal (dag_refusal path f)
+    by (dag.NotUnixfs cid n) own = absurd own
+    by (dag.DuplicateName cid name) own = absurd own
+    by (dag.BadName cid) own = absurd own
+    by (dag.Unsupported cid) own = absurd own
+    by (dag.TooDeep cid) own = absurd own
+    by dag.TooMany own = absurd own
+    by (dag.NotFound place) own = absurd own
+    by (dag.NotADirectory place) own = absurd own
+    by (dag.Store s) own = own
+
+pub way-told : (told : Told) (path : DagPath) (f : DagFault) (why : Refusal) → IfSome told (λ t. IsFault (resolve_from (held_at t) usual_limits 0 path.names path.cid) f) → IsToldAs (dag_refusal path f) why → IfSome told (λ t. FindsTree (held_at t) path (Err why))
+way-told None path f why said is = tt
+way-told (Some t) path f why said is = fault-tree (held_at t) path f why (way-fault (held_at t) path f said) is
+
+pub below-told : (told : Told) (path : DagPath) (cid : Cid) (f : DagFault) (why : Refusal) → IfSome told (λ t. IsFault (denotes (held_at t) usual_limits cid) f) → IsToldAs (dag_refusal path f) why
+    → IfSome told (λ t. LeadsTo (held_at t) path cid → FindsTree (held_at t) path (Err why))
+below-told None path cid f why said is = tt
+below-told (Some t) path cid f why said is = λ leads. fault-tree (held_at t) path f why (below-fault (held_at t) path cid leads f said) is
+
+pub tree-told : (told : Told) (path : DagPath) (cid : Cid) (shape : Shape) → IfSome told (λ t. IsRead (held_at t) usual_limits cid shape) → IfSome told (λ t. LeadsTo (held_at t) path cid → FindsTree (held_at t) path (Ok cid))
+tree-told None path cid shape read = tt
+tree-told (Some t) path cid shape read = λ leads. record {
+  tree = read.tree;
+  leads = ap (λ (r : Result Cid DagFault). r >>= λ c. denotes (held_at t) usual_limits c) leads ∙ read.denoted;
+  denoted = read.denoted;
+}
+
+-- what is found of the blocks that the store tells
+by-told : (A : Lookup → Type 0) (told : Told) (held : Lookup) → TellsBlocks told held → IfSome told (λ t. A (held_at t)) → A held
+by-told A None held tells h = absurd tells
+by-told A (Some t) held tells h = subst A (sym tells) h
+
+good-map : (X : List ℕ → List ℕ) (told : Told) (held : Lookup) → TellsBlocks told held → AreGoodBlocks X held → HoldsGoodMap X held told
+good-map X None held tells good = absurd tells
+good-map X (Some t) held tells good = λ c block is. (ap (λ (h : Lookup). h c) (sym tells) ∙ is, good c block is)
+
+module _ (X : List ℕ → List ℕ) (N : List ℕ → ℕ) (source : DagPath) (dest : Path) (held : Lookup) (was is : Mfs) where
+  after_tree : Tree → Profile → Entries → Result Entries Refusal
+  after_tree t p es = grafted X N (adopted_name source) t dest p es
+
+  -- the path leads to no tree
+  pub nothing-found : (a m : Seen) (why : Refusal) → TellsBlocks a.told held → IfSome a.told (λ t. FindsTree (held_at t) source (Err why)) → Shown X NoneIsBad (fault_behind why) a m → PutsTree X N was is (adopted X N held source dest) (Err why) a m
+  nothing-found a m why tells found shown = λ p es same over.
+      stops-then IsOwnRefusal (IsLostBy a.told (blocks X N p (Dir es))) (by_dag source (tree_at held source)) (λ t. grafted X N (adopted_name source) t dest p es) why
+      (λ own. failing-lost X a.told (blocks X N p (Dir es)) a m why (own-failing why own) shown over.calm) (by-told (λ held. FindsTree held source (Err why)) a.told held tells found)
+
+  module _ (a m : Seen) (same : m.told ≡ a.told) (cid : Cid) (tells : TellsBlocks a.told held) (found : IfSome a.told (λ t. FindsTree (held_at t) source (Ok cid))) where
+    there : IsTreeIn held source cid
+    there = by-told (λ held. FindsTree held source (Ok cid)) a.told held tells found
+
+    leads_on : (C : Type 0) (P : Entries → C → Type 0) (May : Refusal → Type 0) (p : Profile) (es : Entries) (r : Result C Refusal) → FollowsOr May P (grafted X N (adopted_name source) there.tree dest p es) r → FollowsOr May P (adopted X N held source dest p es) r
+    leads_on C P May p es r h = follows-then May P (by_dag source (tree_at held source)) there.tree (λ t. grafted X N (adopted_name source) t dest p es) r (ap (by_dag source) there.leads) h
+
+    stands_there : (c : Seen) (p : Profile) (es : Entries) → was.profile ≡ p → IsFolderOver X N p a c [] was.root es → StandsOver X N m.told was p es
+    stands_there c p es profile over = record { profile_is = profile; root = record { plan = over.plan; agrees = subst (λ t. Agrees t (blocks X N p (Dir es))) (sym same) over.stays.first } }
+
+    -- no spot is found
+    pub nowhere : (b : Seen) (why : Refusal)
+        → ((p : Profile) (es : Entries) → StandsOver X N m.told was p es → Stood m.faults b.faults → FollowsOr (IsLostBy m.told (blocks X N p (Dir es))) (λ (spot given : Spot). given ≡ spot) (by_rule (spotted dest (Some (adopted_name source)) es)) (Err why))
+        → ((c : ℕ) → Stood a.faults c → Stood m.faults c) → PutsTree X N was is (adopted X N held source dest) (Err why) a b
+    nowhere b why finds back = λ p es profile over.
+        leads_on (Unit {0}) (λ fs done. StandsAfter X N a.told b.told (blocks X N p (Dir es)) is p fs) (IsLostBy a.told (blocks X N p (Dir es))) p es (Err why)
+        (stops-then (IsLostBy m.told (blocks X N p (Dir es))) (IsLostBy a.told (blocks X N p (Dir es))) (by_rule (spotted dest (Some (adopted_name source)) es)) (λ spot. put_tree X N spot there.tree p es) why
+        (λ lost. subst (λ t. IsLostBy t (blocks X N p (Dir es)) why) same lost) (finds p es (stands_there b p es profile over) (back b.faults over.calm.faults)))
+
+    -- it is put at the spot that is found
+    pub put-there : (b c : Seen) (again : b.told ≡ m.told) (spot : Spot) (r : Result (Unit {0}) Refusal) {Bad : Role → List ℕ → Type 0} → OnlyReads X Bad None a b → AreGoodBlocks X held
+        → ((p : Profile) (es : Entries) → StandsOver X N m.told was p es → Stood m.faults b.faults → FollowsOr (IsLostBy m.told (blocks X N p (Dir es))) (λ (spot given : Spot). given ≡ spot) (by_rule (spotted dest (Some (adopted_name source)) es)) (Ok spot))
+        → (Stood a.faults c.faults → Stood m.faults b.faults)
+        → ((held : Lookup) (t : Tree) → HoldsGoodMap X held b.told → denotes held usual_limits cid ≡ Ok t → PutsTree X N was is (put_tree X N spot t) r b c) → PutsTree X N was is (adopted X N held source dest) r a c
+    put-there b c again spot r {Bad} reads good finds back puts = λ p es profile over.
+        let old = blocks X N p (Dir es) in
+        let told : b.told ≡ a.told = again ∙ same in
+        let v = ok-value (λ (s : Spot). spot ≡ s) (by_rule (spotted dest (Some (adopted_name source)) es)) (finds p es (stands_there c p es profile over) (back over.calm.faults)) in
+        leads_on (Unit {0}) (λ fs done. StandsAfter X N a.told c.told old is p fs) (IsLostBy a.told old) p es r
+        (follows-then (IsLostBy a.told old) (λ fs done. StandsAfter X N a.told c.told old is p fs) (by_rule (spotted dest (Some (adopted_name source)) es)) spot (λ spot. put_tree X N spot there.tree p es) r (v.1 ∙ ap (λ (s : Spot). Ok s) (sym v.2))
+        (subst (λ t. FollowsOr (IsLostBy t old) (λ fs done. StandsAfter X N t c.told old is p fs) (put_tree X N spot there.tree p es) r) told
+        (puts held there.tree (subst (HoldsGoodMap X held) (sym told) (good-map X a.told held tells good)) there.denoted p es profile (read-over X N p [] was.root es reads over))))

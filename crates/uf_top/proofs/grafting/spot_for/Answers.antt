@@ -1,0 +1,15 @@
+use Rattle.std.proofs.Common.{None, Some}
+use Rattle.uf_mfs.specs.Bad.{IsBadInTree}
+use Rattle.uf_mfs.proofs.Judging.{tree-more}
+use Rattle.uf_plain.specs.declared.spot.Spot.{Spot}
+use Rattle.uf_top.proofs.Shows.{Shown-tree}
+use Rattle.uf_top.proofs.grafting.spot_for.Goals as goal
+
+pub returns-in-Err-spot-clause-reads : goal.returns-in-Err-spot-clause-reads
+returns-in-Err-spot-clause-reads g c =
+    let X = g.S.X.BlockHash.block32 in let N = g.N.NameHash.name64 in let p = c.args.tree.now.profile in let root = c.args.tree.now.root.cid in
+    let e = c.in-Err-spot.ensures in
+    record {
+      cause = Shown-tree Spot X (IsBadInTree X N None root) (IsBadInTree X N (Some p) root) (tree-more X N p root) c.in-Err-spot.fault c.refusal.result (g.S.Store.seen c.args.store.now) (g.S.Store.seen c.spot.new.store) c.refusal.ensures e.cause;
+      told = e.told;
+    }

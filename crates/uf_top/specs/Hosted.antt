@@ -1,0 +1,71 @@
+-- What becomes of what a host has at a path, where it is added.
+use Rattle.std.specs.Prelude.{◌≡◌, ℕ, List, Bool, IfSome, IsTrue, None, ⊤}
+use Rattle.std.specs.declared.result.Result.{Result}
+use Rattle.std.specs.declared.result.Result.TheVariants.{Ok, Err}
+use Rattle.uf_edge.specs.Host.{HostTold}
+use Rattle.uf_host.specs.Adding.{HasHeldPlan, IsSaid}
+use Rattle.uf_host.specs.HostTree.{tree_on_host}
+use Rattle.uf_host.specs.declared.fault.HostFault.{HostFault}
+use Rattle.uf_host.specs.declared.fault.HostFault.TheVariants as fault
+use Rattle.uf_store.specs.Clashes.{IsSaving}
+use Rattle.uf_store.specs.Contents.{Told}
+use Rattle.uf_tree.specs.Tree.{Tree, is_tree}
+use Rattle.uf_tree.specs.TreePlan as plan
+use Rattle.uf_tree.specs.declared.profile.Profile.{Profile}
+use Rattle.uf_reply.specs.declared.types.Command.{Command}
+use Rattle.uf_reply.specs.declared.types.Command.TheVariants.{AddFrom}
+use Rattle.uf_reply.specs.declared.types.Refusal.{Refusal}
+use Rattle.uf_reply.specs.declared.types.Refusal.TheVariants as refusal
+use Rattle.uf_top.specs.Causes.{AddsBy}
+use Rattle.uf_top.specs.HostTexts.{host_refusal, host_text}
+
+-- the faults that adding what a host has at a path may have
+abbrev pub IsAddFault : HostFault → Type 0
+IsAddFault fault.Exists = ⊥
+IsAddFault fault.Write = ⊥
+IsAddFault (fault.Dag why) = ⊥
+IsAddFault why = ⊤
+
+-- the refusal by a fault of which this holds
+abbrev pub IsHostRule : List ℕ → (HostFault → Type 0) → Refusal → Type 0
+IsHostRule path Said why = (fault : HostFault) × (why ≡ host_refusal path fault) × Said fault
+
+-- a rule that is said to refuse, a failed reading of the host, or what saves alone can have
+abbrev pub IsHostRefused : List ℕ → (HostFault → Type 0) → Refusal → Type 0
+IsHostRefused path Said (refusal.Host rule) = IsHostRule path Said (refusal.Host rule)
+IsHostRefused path Said (refusal.Rule rule) = IsHostRule path Said (refusal.Rule rule)
+IsHostRefused path Said refusal.Read = ⊤
+IsHostRefused path Said (refusal.Store why) = IsSaving why
+IsHostRefused path Said why = ⊥
+
+module _ (X : List ℕ → List ℕ) (N : List ℕ → ℕ) where
+  -- the rows of a tree that has a plan, whose blocks are held, and where the host tells of the one that it has at the path
+  pub record IsHostText (p : Profile) (told : Told) (host : HostTold) (recursive : Bool) (path text : List ℕ)
+      : Type 0 where
+    pub tree : Tree
+    pub plan : HasHeldPlan X N p told tree
+    pub said : IsSaid host (λ h. tree_on_host X N p h recursive path) (Ok tree)
+    pub is : text ≡ host_text X N p path tree
+
+  -- those rows, or why there are none
+  abbrev pub MakesHostText : Profile → Told → HostTold → Bool → List ℕ → Result (List ℕ) Refusal → Type 0
+  MakesHostText p told host recursive path (Ok text) = IsHostText p told host recursive path text
+  MakesHostText p told host recursive path (Err why) =
+      IsHostRefused path (λ fault. IsSaid host (λ h. tree_on_host X N p h recursive path) (Err fault)) why
+
+  -- the rows of what the host has at a path, by the profile of the Head, and with `-n` by the usual one where there is none
+  pub record AreHostRows (told : Told) (host : HostTold) (recursive only_hash : Bool) (path text : List ℕ)
+      : Type 0 where
+    pub profile : Profile
+    pub adds_by : IfSome told (λ t. AddsBy only_hash t.notes.head profile)
+    pub tree : Tree
+    pub is_tree : IsTrue (is_tree tree)
+    pub whole : plan.refusal X N profile tree ≡ None
+    pub said : IsSaid host (λ h. tree_on_host X N profile h recursive path) (Ok tree)
+    pub is : text ≡ host_text X N profile path tree
+
+  -- the text of a command that adds from the host is these rows; of another command nothing is said
+  abbrev pub IsHostedText : Told → HostTold → Command → List ℕ → Type 0
+  IsHostedText told host (AddFrom recursive only_hash path) text =
+      AreHostRows told host recursive only_hash path text
+  IsHostedText told host command text = ⊤

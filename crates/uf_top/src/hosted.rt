@@ -1,0 +1,255 @@
+// Files and folders of the host added.
+ghost use Rattle.std.specs.Prelude.{◌≡◌, ◌<◌, ℕ, false, true, None, IfOk, IsTrue};
+ghost use Rattle.std.specs.List.{flat_map};
+ghost use Rattle.uf_edge.specs.Streams.{Told};
+ghost use Rattle.uf_reply.specs.Commands.{SyncsBlocks};
+ghost use Rattle.uf_reply.specs.declared.types.Command.TheVariants as commands;
+ghost use Rattle.uf_store.specs.Keeping.{KeepsGood};
+ghost use Rattle.uf_store.specs.Writing.{SavesOnly};
+ghost use Rattle.uf_top.specs.Around.{OnlyReadsHost, around, host_side};
+ghost use Rattle.uf_top.specs.Causes.{OnlyWants, is_read};
+ghost use Rattle.uf_top.specs.Hosted.{IsAddFault, MakesHostText};
+ghost use Rattle.uf_top.specs.HostTexts.{host_refusal, host_row};
+ghost use Rattle.uf_top.specs.Intake.{ShownIn};
+ghost use Rattle.uf_top.specs.Shapes.{WritesAs, is_ok};
+ghost use Rattle.uf_top.specs.Working.{MakesText};
+ghost use Rattle.uf_tree.specs.Profiles.{is_profile};
+
+use crate::adding::{head_profile, or_usual, synced};
+use std::alloc::Global;
+use std::marker::Brand;
+use std::sync::ledger::{Blank, Ledger};
+use uf_cid::{Block, BlockHash, Memory, Text};
+use uf_edge::Host;
+use uf_host::{AddedRows, HostFault};
+use uf_mfs::Ready;
+use uf_murmur::NameHash;
+use uf_plain::Rule;
+use uf_reply::{HostRule, Refusal, put_added};
+use uf_store::{Discard, Steps, Store, StoreFault};
+use uf_tree::Profile;
+
+// Adds what the host has at a path, or only makes its rows.
+pub fn add_from<S: Store, N: NameHash, W: Host, L: Ledger>(
+    alloc: Global,
+    recursive: bool,
+    only_hash: bool,
+    path: &Text,
+    store: &mut S,
+    host: &mut W,
+    touches: &mut Steps<L>,
+) -> Result<Block, Refusal>
+    ensures works { (left : Told) (reads : ℕ) (held : Told) (writes : ℕ) → MakesText S.X.block32 N.name64
+        (commands.AddFrom recursive only_hash path.now) result
+        (around (S.seen store.old) left reads held writes touches.old
+        (host_side (W.tree host.old) (W.read_faults host.old) (W.write_faults host.old)))
+        (around (S.seen store.new) left reads held writes touches.new
+        (host_side (W.tree host.new) (W.read_faults host.new) (W.write_faults host.new))) }
+    ensures untouched { only_hash ≡ true → touches.new ≡ touches.old }
+{
+    if only_hash {
+        hash_from::<S, N, W>(alloc, recursive, path, store, host)
+    } else {
+        keep_from::<S, N, W, L>(alloc, recursive, path, store, host, touches)
+    }
+}
+
+// Adds what the host has at a path, and makes its blocks outlive a stop.
+fn keep_from<S: Store, N: NameHash, W: Host, L: Ledger>(
+    alloc: Global,
+    recursive: bool,
+    path: &Text,
+    store: &mut S,
+    host: &mut W,
+    touches: &mut Steps<L>,
+) -> Result<Block, Refusal>
+    ensures { (left : Told) (reads : ℕ) (held : Told) (writes : ℕ) → MakesText S.X.block32 N.name64
+        (commands.AddFrom recursive false path.now) result
+        (around (S.seen store.old) left reads held writes touches.old
+        (host_side (W.tree host.old) (W.read_faults host.old) (W.write_faults host.old)))
+        (around (S.seen store.new) left reads held writes touches.new
+        (host_side (W.tree host.new) (W.read_faults host.new) (W.write_faults host.new))) }
+{
+    match head_profile(alloc, store)? {
+        None => Err(Refusal::Ready(Ready::NoHead)),
+        Some(profile) => {
+            keep_by::<S, N, W, L>(alloc, profile, recursive, path, store, host, touches)
+        }
+    }
+}
+
+// The rows of what the host has at a path, with nothing kept and no touch counted.
+fn hash_from<S: Store, N: NameHash, W: Host>(
+    alloc: Global,
+    recursive: bool,
+    path: &Text,
+    store: &mut S,
+    host: &mut W,
+) -> Result<Block, Refusal>
+    ensures { (left : Told) (reads : ℕ) (held : Told) (writes : ℕ) (touches : ℕ) → MakesText S.X.block32 N.name64
+        (commands.AddFrom recursive true path.now) result
+        (around (S.seen store.old) left reads held writes touches
+        (host_side (W.tree host.old) (W.read_faults host.old) (W.write_faults host.old)))
+        (around (S.seen store.new) left reads held writes touches
+        (host_side (W.tree host.new) (W.read_faults host.new) (W.write_faults host.new))) }
+{
+    let found = head_profile(alloc, store)?;
+    hash_by::<S::X, N, W>(alloc, or_usual(found), recursive, path, host)
+}
+
+// Adds what the host has at a path by a profile, and makes its blocks outlive a stop.
+fn keep_by<S: Store, N: NameHash, W: Host, L: Ledger>(
+    alloc: Global,
+    profile: Profile,
+    recursive: bool,
+    path: &Text,
+    store: &mut S,
+    host: &mut W,
+    touches: &mut Steps<L>,
+) -> Result<Block, Refusal>
+    requires { IsTrue (is_profile profile) }
+    ensures text { MakesHostText S.X.block32 N.name64 profile (S.seen store.new).told (W.tree host.old) recursive path.now
+        result }
+    ensures host { OnlyReadsHost (is_read result)
+        (host_side (W.tree host.old) (W.read_faults host.old) (W.write_faults host.old))
+        (host_side (W.tree host.new) (W.read_faults host.new) (W.write_faults host.new)) }
+    ensures cause { ShownIn S.X.block32 result (S.seen store.old) (S.seen store.new) }
+    ensures good { KeepsGood S.X.block32 (S.seen store.old).told (S.seen store.new).told }
+    ensures writes { WritesAs S.X.block32 SyncsBlocks (is_ok result) (S.seen store.old).told (S.seen store.new).told }
+{
+    let text = rows_by::<S, N, W, L>(alloc, profile, recursive, path, store, host, touches)?;
+    synced(store, text)
+}
+
+// The rows of what the host has at a path by a profile, whose blocks are saved.
+fn rows_by<S: Store, N: NameHash, W: Host, L: Ledger>(
+    alloc: Global,
+    profile: Profile,
+    recursive: bool,
+    path: &Text,
+    store: &mut S,
+    host: &mut W,
+    touches: &mut Steps<L>,
+) -> Result<Block, Refusal>
+    requires { IsTrue (is_profile profile) }
+    ensures text { MakesHostText S.X.block32 N.name64 profile (S.seen store.new).told (W.tree host.old) recursive path.now
+        result }
+    ensures host { OnlyReadsHost (is_read result)
+        (host_side (W.tree host.old) (W.read_faults host.old) (W.write_faults host.old))
+        (host_side (W.tree host.new) (W.read_faults host.new) (W.write_faults host.new)) }
+    ensures cause { ShownIn S.X.block32 result (S.seen store.old) (S.seen store.new) }
+    ensures good { KeepsGood S.X.block32 (S.seen store.old).told (S.seen store.new).told }
+    ensures saves { SavesOnly S.X.block32 (S.seen store.old).told (S.seen store.new).told }
+{
+    let given = path.copy()?;
+    match uf_host::add::<S, N, W, L>(
+        alloc,
+        store,
+        &profile,
+        host,
+        path.as_str(),
+        recursive,
+        touches,
+    ) {
+        Ok(rows) => Ok(row_lines(alloc, &rows)?),
+        Err(fault) => Err(refused(given, fault)),
+    }
+}
+
+// The rows, each in a line.
+fn row_lines(alloc: Global, rows: &AddedRows) -> Result<Block, Memory>
+    ensures { IfOk result (λ out. out ≡ flat_map host_row rows.now) }
+{
+    let mut out = Block::new(alloc);
+    for row in rows.as_slice() {
+        put_added(alloc, &mut out, &row.entry.cid, row.path.as_str())?;
+    }
+    Ok(out)
+}
+
+// A fault of adding what the host has at a path, as a refusal.
+fn refused(path: Text, fault: HostFault) -> Refusal
+    requires { IsAddFault fault }
+    ensures { result ≡ host_refusal path fault }
+{
+    match fault {
+        HostFault::Absent => Refusal::Host(HostRule::Absent(path)),
+        HostFault::NeedsRecursive => Refusal::Rule(Rule::NeedsRecursive(path)),
+        HostFault::Other(there) => Refusal::Host(HostRule::Other(there)),
+        HostFault::Name(_) => Refusal::Host(HostRule::Name(path)),
+        HostFault::TooDeep(there) => Refusal::Host(HostRule::Deep(there)),
+        HostFault::FileTooLong(_) => Refusal::Rule(Rule::FileTooLong),
+        HostFault::Collision(first, second) => Refusal::Rule(Rule::Collision(first, second)),
+        HostFault::TooBig => Refusal::Rule(Rule::TooBig),
+        HostFault::Read => Refusal::Read,
+        HostFault::Store(fault) => Refusal::Store(fault),
+        HostFault::Exists | HostFault::Write | HostFault::Dag(_) => unreachable!(),
+    }
+}
+
+// The rows of what the host has at a path by a profile, with nothing kept.
+fn hash_by<X: BlockHash, N: NameHash, W: Host>(
+    alloc: Global,
+    profile: Profile,
+    recursive: bool,
+    path: &Text,
+    host: &mut W,
+) -> Result<Block, Refusal>
+    requires { IsTrue (is_profile profile) }
+    ensures text { MakesHostText X.block32 N.name64 profile None (W.tree host.old) recursive path.now result }
+    ensures wants { OnlyWants result }
+    ensures host { OnlyReadsHost (is_read result)
+        (host_side (W.tree host.old) (W.read_faults host.old) (W.write_faults host.old))
+        (host_side (W.tree host.new) (W.read_faults host.new) (W.write_faults host.new)) }
+{
+    counted_hash_by::<X, N, W, Brand>(alloc, profile, recursive, path, host, Blank::new(1))
+}
+
+// The same, with a count of its own for the touches of the store that keeps nothing.
+fn counted_hash_by<X: BlockHash, N: NameHash, W: Host, L: Ledger>(
+    alloc: Global,
+    profile: Profile,
+    recursive: bool,
+    path: &Text,
+    host: &mut W,
+    blank: Blank,
+) -> Result<Block, Refusal>
+    requires profile { IsTrue (is_profile profile) }
+    requires name { blank.name ≡ L.name }
+    requires parts { blank.parts ≡ L.parts }
+    requires some { 0 < blank.parts }
+    ensures text { MakesHostText X.block32 N.name64 profile None (W.tree host.old) recursive path.now result }
+    ensures wants { OnlyWants result }
+    ensures host { OnlyReadsHost (is_read result)
+        (host_side (W.tree host.old) (W.read_faults host.old) (W.write_faults host.old))
+        (host_side (W.tree host.new) (W.read_faults host.new) (W.write_faults host.new)) }
+{
+    let mut touches = Steps::<L>::new(blank);
+    hash_over::<X, N, W, L>(alloc, profile, recursive, path, host, &mut touches)
+}
+
+// The same, with the touches that an import into a store that keeps nothing makes.
+fn hash_over<X: BlockHash, N: NameHash, W: Host, L: Ledger>(
+    alloc: Global,
+    profile: Profile,
+    recursive: bool,
+    path: &Text,
+    host: &mut W,
+    touches: &mut Steps<L>,
+) -> Result<Block, Refusal>
+    requires { IsTrue (is_profile profile) }
+    ensures text { MakesHostText X.block32 N.name64 profile None (W.tree host.old) recursive path.now result }
+    ensures wants { OnlyWants result }
+    ensures host { OnlyReadsHost (is_read result)
+        (host_side (W.tree host.old) (W.read_faults host.old) (W.write_faults host.old))
+        (host_side (W.tree host.new) (W.read_faults host.new) (W.write_faults host.new)) }
+{
+    let mut store = Discard::<X>::new();
+    match rows_by::<Discard<X>, N, W, L>(
+        alloc, profile, recursive, path, &mut store, host, touches,
+    ) {
+        Ok(text) => Ok(text),
+        Err(Refusal::Store(_)) => Err(Refusal::Store(StoreFault::Memory)),
+        Err(why) => Err(why),
+    }
+}
