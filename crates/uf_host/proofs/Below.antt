@@ -96,10 +96,11 @@ front-member folder name some = front-body (front folder ++ name) ∙ ap (λ l. 
 pub below-folder : (folder name q : List ℕ) → 0 < length name → IsBelow (front folder ++ name) q → (rest : List ℕ) × (q ≡ front folder ++ rest) × (rest ≢ [])
 below-folder folder [] q some is = absurd (omega arith)
 below-folder folder (b ∷ bs) q some (inl is) = (b ∷ bs, is, λ no. absurd (let size = ap length no in omega (arith, size)))
-below-folder folder (b ∷ bs) q some (inr more) =
-    ((b ∷ bs) ++ 47 ∷ more.0,
-     more.1 ∙ ap (λ l. l ++ more.0) (front-member folder (b ∷ bs) some) ∙ append_assoc (front folder ++ b ∷ bs) (47 ∷ []) more.0 ∙ append_assoc (front folder) (b ∷ bs) (47 ∷ more.0),
-     λ no. absurd (let size = ap length no in omega (arith, size)))
+below-folder folder (b ∷ bs) q some (inr more) = (
+  (b ∷ bs) ++ 47 ∷ more.0,
+  more.1 ∙ ap (λ l. l ++ more.0) (front-member folder (b ∷ bs) some) ∙ append_assoc (front folder ++ b ∷ bs) (47 ∷ []) more.0 ∙ append_assoc (front folder) (b ∷ bs) (47 ∷ more.0),
+  λ no. absurd (let size = ap length no in omega (arith, size)),
+)
 
 -- a member isn't below another one
 pub sisters-apart : (folder name other : List ℕ) → IsTrue (is_member_name name) → IsTrue (is_member_name other) → name ≢ other → IsBelow (front folder ++ name) (front folder ++ other) → ⊥

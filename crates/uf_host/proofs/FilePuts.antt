@@ -96,6 +96,7 @@ front-stands First path sent bytes told now front h = by h.state
     made_one : (told : HostTold) → now ≡ host_changed (λ tree. insert tree path (File sent)) told → now ≡ host_changed (with_places ((path, File sent) ∷ [])) told
     made_one None is = is
     made_one (Some tree) is = is
+
     by : ((sent ≡ []) × (now ≡ told) × First) ⊎ (now ≡ host_changed (λ tree. insert tree path (File sent)) told) → PutsFirst ((path, File bytes) ∷ []) told now
     by (inl none) = part-none ((path, File bytes) ∷ []) told now none.1
     by (inr made) = record {
@@ -111,6 +112,7 @@ file-all First path sent bytes told now mid is none begun h = by h.state
     one : (told : HostTold) → now ≡ host_changed (λ tree. insert tree path (File sent)) told → now ≡ host_changed (with_places ((path, File bytes) ∷ [])) told
     one None made = made
     one (Some tree) made = made ∙ ap (λ (l : List ℕ). Some (insert tree path (File l))) (came-all sent bytes mid is none)
+
     by : ((sent ≡ []) × (now ≡ told) × First) ⊎ (now ≡ host_changed (λ tree. insert tree path (File sent)) told) → now ≡ host_changed (with_places ((path, File bytes) ∷ [])) told
     by (inl nothing) = absurd (begun nothing.2)
     by (inr made) = one told made
@@ -124,13 +126,15 @@ pub file-stopped : (First : Type 0) (path sent piece bytes : List ℕ) (told mid
     → PutsFile path bytes told now (Err why)
 file-stopped First path sent piece bytes told mid now why next takes is h appends =
     let s = stopped-made First path sent piece told mid now why takes h appends in
-    let front = came-front (sent ++ piece) bytes next is in
-    (host-stops why appends.0,
-     front-stands First path (sent ++ take s.0 piece) bytes told now
-     (drop s.0 piece ++ front.0,
-      front.1 ∙ ap (λ (l : List ℕ). (sent ++ l) ++ front.0) (sym (take-append-drop s.0 piece)) ∙ ap (λ (l : List ℕ). l ++ front.0) (sym (append_assoc sent (take s.0 piece) (drop s.0 piece)))
-      ∙ append_assoc (sent ++ take s.0 piece) (drop s.0 piece) front.0)
-     s.1)
+    let front = came-front (sent ++ piece) bytes next is in (
+      host-stops why appends.0,
+      front-stands First path (sent ++ take s.0 piece) bytes told now (
+        drop s.0 piece ++ front.0,
+        front.1 ∙ ap (λ (l : List ℕ). (sent ++ l) ++ front.0) (sym (take-append-drop s.0 piece)) ∙ ap (λ (l : List ℕ). l ++ front.0) (sym (append_assoc sent (take s.0 piece) (drop s.0 piece)))
+            ∙ append_assoc (sent ++ take s.0 piece) (drop s.0 piece) front.0,
+      )
+          s.1,
+    )
 
 -- ---- so far
 
@@ -146,6 +150,7 @@ so-far-none told path start host = record { sent = []; made = made-none (start �
     none : (r : Result (List ℕ) DagFault) → r ≡ prefixed [] r
     none (Ok more) = refl
     none (Err fault) = refl
+
     by : (told : Told) → IfSome told (λ t. to_come (held_at t) start ≡ prefixed [] (to_come (held_at t) start))
     by None = tt
     by (Some t) = none (to_come (held_at t) start)

@@ -96,6 +96,7 @@ went-takes folder w left (Some tree) now takes good h =
     is-less Less h = refl
     is-less Equal h = absurd (let no : false ≡ true = h in cc)
     is-less Greater h = absurd (let no : false ≡ true = h in cc)
+
     less : (name : List ℕ) → IsTrue (is_lt (names_cmp name w.0)) → name ≡ w.0 → names_cmp w.0 w.0 ≡ Less
     less name lower same = is-less (names_cmp w.0 w.0) (subst (λ n. IsTrue (is_lt (names_cmp n w.0))) same lower)
 
@@ -162,10 +163,11 @@ module _ (held : Lookup) (limits : Limits) (room : ℕ) (folder : List ℕ) wher
   }
 
   pub some-stopped : (w : List ℕ × Cid) (left : List (List ℕ × Cid)) (es : Entries) (told mid now : HostTold) (why : HostFault) → (n : NextPut w left es told mid) → Puts (places_of (front folder ++ w.0) n.tree) mid now (Err why) → Puts (places_in folder es) told now (Err why)
-  some-stopped w left es told mid now why n one =
-      (one.0,
-       subst (λ l. PutsFirst l told now) n.whole
-       (part-behind n.done (places_of (front folder ++ w.0) n.tree ++ places_in folder n.more) told mid now n.are_put (part-longer (places_of (front folder ++ w.0) n.tree) (places_in folder n.more) mid now one.1)))
+  some-stopped w left es told mid now why n one = (
+    one.0,
+    subst (λ l. PutsFirst l told now) n.whole
+        (part-behind n.done (places_of (front folder ++ w.0) n.tree ++ places_in folder n.more) told mid now n.are_put (part-longer (places_of (front folder ++ w.0) n.tree) (places_in folder n.more) mid now one.1)),
+  )
 
   pub some-all : (es : Entries) (told now : HostTold) → PutSome [] es told now → Puts (places_in folder es) told now (Ok tt)
   unfolding places_of

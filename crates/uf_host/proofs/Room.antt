@@ -48,9 +48,10 @@ split-at-some text first last i j none at front_is is all =
     let later : (k : ℕ) → i < k → k < length text → slice_index text k ≢ 47 = λ k more low.
     let back : j + (k - j) ≡ k = omega arith in
     λ e. free (k - j) (omega (arith, length-drop j text)) (get_or-drop j text (k - j) 0 ∙ ap (λ (n : ℕ). get_or text n 0) back ∙ e) in
-    let found = split-some text i (length text) (omega arith) (at.byte (omega arith)) later in
-    (ap (option_map (λ i. (take i text, drop (i + 1) text))) found ∙ ap (λ (n : ℕ). Some (take i text, drop n text)) (sym next) ∙ ap (λ (l : List ℕ). Some (l, drop j text)) (sym front_is) ∙ ap (λ (l : List ℕ). Some (first, l)) (sym is),
-     subst (λ (l : List ℕ). lacks_slash l ≡ true) (sym is) (none-lacks (drop j text) free))
+    let found = split-some text i (length text) (omega arith) (at.byte (omega arith)) later in (
+      ap (option_map (λ i. (take i text, drop (i + 1) text))) found ∙ ap (λ (n : ℕ). Some (take i text, drop n text)) (sym next) ∙ ap (λ (l : List ℕ). Some (l, drop j text)) (sym front_is) ∙ ap (λ (l : List ℕ). Some (first, l)) (sym is),
+      subst (λ (l : List ℕ). lacks_slash l ≡ true) (sym is) (none-lacks (drop j text) free),
+    )
 
 found-slash : (text : List ℕ) (n k : ℕ) → rfind_below 47 text n ≡ Some k → (k < n) × (slice_index text k ≡ 47)
 found-slash text zero k is = absurd (let no : None ≡ Some k = is in cc)

@@ -92,7 +92,15 @@ fn written<L: Ledger>(
     }
     let mut host = host_of(alloc, row.nodes, fail)?;
     let mut text = Text::new(alloc);
-    match get(alloc, &mut store, &root, &mut host, row.path, &row.limits, touches) {
+    match get(
+        alloc,
+        &mut store,
+        &root,
+        &mut host,
+        row.path,
+        &row.limits,
+        touches,
+    ) {
         Ok(()) => text.push_str("ok")?,
         Err(fault) => push_fault(&mut text, &fault)?,
     }

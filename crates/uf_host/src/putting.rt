@@ -59,7 +59,15 @@ pub fn put_tree<S: Store, W: Host, L: Ledger>(
         Shape::File => put_file(export, store, host, cid, path, touches),
         Shape::Folder(ways) => {
             make_folder(host, path)?;
-            put_members(export, store, host, ways.as_slice(), path, room - 1, touches)
+            put_members(
+                export,
+                store,
+                host,
+                ways.as_slice(),
+                path,
+                room - 1,
+                touches,
+            )
         }
     }
 }

@@ -46,8 +46,7 @@ put_members-put_tree-requires g t c κs within =
     let went = subst (λ (l : List (List ℕ × Cid)). Went c.args.folder.now l (g.W.Host.tree c.args.host.now) (g.W.Host.tree c.loop-way.host)) (at_drop c.args.ways.now c.loop-way.way-index c.way-item.result c.loop-way-test.true c.way-item.is) c.loop-way.invariant.went in
     let name : c.as_str-in-loop-way.result.now ≡ c.way-item.result.0 = c.as_str-in-loop-way.ensures.value ∙ ap (λ (x : List ℕ × Cid). x.0) c.way.view_is in
     let good : IsTrue (is_name c.way-item.result.0) = subst (λ (n : List ℕ). IsTrue (is_name n)) (ap (λ (x : List ℕ × Cid). x.0) c.way.view_is) c.as_str-in-loop-way.ensures.good in
-    let path : c.in_ok-path.path ≡ front c.args.folder.now ++ c.way-item.result.0 = c.in_ok-path.ensures ∙ ap (λ (f : List ℕ). front f ++ c.as_str-in-loop-way.result.now) c.as_str.ensures ∙ ap (λ (n : List ℕ). front c.args.folder.now ++ n) name in
-    (
+    let path : c.in_ok-path.path ≡ front c.args.folder.now ++ c.way-item.result.0 = c.in_ok-path.ensures ∙ ap (λ (f : List ℕ). front f ++ c.as_str-in-loop-way.result.now) c.as_str.ensures ∙ ap (λ (n : List ℕ). front c.args.folder.now ++ n) name in (
       search rules,
       (
         within.0,
@@ -58,7 +57,7 @@ put_members-put_tree-requires g t c κs within =
             (
               within.1.1.1,
               subst (λ (p : List ℕ). TakesFolder (g.W.Host.tree c.loop-way.host) p) (sym path)
-              (went-takes c.args.folder.now c.way-item.result left (g.W.Host.tree c.args.host.now) (g.W.Host.tree c.loop-way.host) c.requires.folder good went),
+                  (went-takes c.args.folder.now c.way-item.result left (g.W.Host.tree c.args.host.now) (g.W.Host.tree c.loop-way.host) c.requires.folder good went),
             ),
           ),
         ),
@@ -145,8 +144,7 @@ put_tree-returns-in_err-shallow-clause-puts g t c = λ t tree tells is.
 
 pub put_tree-put_members-requires : goal.put_tree-put_members-requires
 put_tree-put_members-requires g t c κs within =
-    let order = subst IsInOrder c.in-Folder.is c.in_ok-shallow.ensures.order in
-    (
+    let order = subst IsInOrder c.in-Folder.is c.in_ok-shallow.ensures.order in (
       omega (arith, c.if-room-eq0.false),
       (
         within.0,
