@@ -15,7 +15,7 @@ use Rattle.uf_host.specs.declared.fault.HostFault.TheVariants as faults
 pub gets-of : (held : Lookup) (limits : Limits) (c : Cid) (path : List ℕ) (told now : HostTold) (tree : Tree) (r : Result (Unit {0}) HostFault) → denotes held limits c ≡ Ok tree → IfSome told (λ host. HasRoom host path) → Puts (places_of path tree) told now r → Gets held limits c path told now r
 gets-of held limits c path told now tree (Ok done) denoted room puts = record { tree = tree; denoted = denoted; room = room; are_put = puts }
 gets-of held limits c path told now tree (Err faults.Write) denoted room puts = record { tree = tree; denoted = denoted; room = room; puts = puts.1 }
-gets-of held limits c path told now tree (Err (faults.Store fault)) denoted room puts = inr (record { tree = tree; denoted = denoted; room = room; puts = puts.1 })
+gets-of held limits c path told now tree (Err (faults.Store fault)) denoted room puts = inr (puts.0, record { tree = tree; denoted = denoted; room = room; puts = puts.1 })
 gets-of held limits c path told now tree (Err faults.Absent) denoted room puts = absurd puts.0
 gets-of held limits c path told now tree (Err faults.NeedsRecursive) denoted room puts = absurd puts.0
 gets-of held limits c path told now tree (Err (faults.Other p)) denoted room puts = absurd puts.0

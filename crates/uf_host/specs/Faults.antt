@@ -12,7 +12,7 @@ use Rattle.uf_store.specs.Clashes.{IsSaving}
 use Rattle.uf_store.specs.declared.store.StoreFault.{StoreFault}
 use Rattle.uf_store.specs.declared.store.StoreFault.TheVariants.{Memory}
 use Rattle.uf_host.specs.declared.fault.HostFault.{HostFault}
-use Rattle.uf_host.specs.declared.fault.HostFault.TheVariants.{NeedsRecursive, Exists, TooDeep, Collision, TooBig, Read, Write, Dag, Store}
+use Rattle.uf_host.specs.declared.fault.HostFault.TheVariants.{Absent, NeedsRecursive, Exists, TooDeep, Collision, TooBig, Read, Write, Dag, Store}
 
 -- a fault of building a directory
 abbrev pub of_directory : DirFault → HostFault
@@ -45,6 +45,20 @@ is_write_fault other = false
 abbrev pub fault_of_reading : DagFault → HostFault
 fault_of_reading (dag.Store fault) = Store fault
 fault_of_reading other = Dag other
+
+-- the faults of an export once it writes: the host's at writing, those of a reading, and the store's
+abbrev pub IsPutFault : HostFault → Type 0
+IsPutFault Write = ⊤
+IsPutFault (Dag fault) = ⊤
+IsPutFault (Store fault) = ⊤
+IsPutFault other = ⊥
+
+-- the same of a whole export, which looks for room first
+abbrev pub IsGetFault : HostFault → Type 0
+IsGetFault Absent = ⊤
+IsGetFault Exists = ⊤
+IsGetFault Read = ⊤
+IsGetFault other = IsPutFault other
 
 -- the host failed at reading, a save failed, or it is said to be so; no import has a fault of an export
 abbrev pub IsSaidOr : (HostFault → Type 0) → HostFault → Type 0

@@ -10,7 +10,7 @@ use Rattle.std.specs.FinMap.{get}
 use Rattle.uf_cid.specs.Blocks.{Lookup}
 use Rattle.uf_cid.specs.declared.cid.Cid.{Cid}
 use Rattle.uf_edge.specs.Host.{HostTold, HostTree, host_changed}
-use Rattle.uf_lenient.specs.Answers.{IsFault}
+use Rattle.uf_lenient.specs.Answers.{IsFault, IsStoreOwn}
 use Rattle.uf_lenient.specs.Reading.{denotes}
 use Rattle.uf_lenient.specs.declared.fault.DagFault.TheVariants as dag
 use Rattle.uf_lenient.specs.declared.shapes.Limits.{Limits}
@@ -95,5 +95,5 @@ module _ (held : Lookup) (limits : Limits) (c : Cid) (path : List ℕ) (told now
   Gets (Err Read) = Denotes × (now ≡ told)
   Gets (Err (Dag fault)) = (denotes held limits c ≡ Err fault) × (now ≡ told)
   Gets (Err (Store fault)) =
-      (IsFault (denotes held limits c) (dag.Store fault) × (now ≡ told)) ⊎ StandsInPart
+      (IsFault (denotes held limits c) (dag.Store fault) × (now ≡ told)) ⊎ (IsStoreOwn fault × StandsInPart)
   Gets (Err other) = ⊥

@@ -1,9 +1,9 @@
 // What a CID denotes written to a host.
-ghost use Rattle.std.specs.Prelude.{◌≡◌, Some};
+ghost use Rattle.std.specs.Prelude.{◌≡◌, IfErr, Some};
 ghost use Rattle.uf_edge.specs.Counts.{Counts};
 ghost use Rattle.uf_store.specs.Contents.{Contents, held_at};
 ghost use Rattle.uf_store.specs.Faults.{NoneIsBad, Shown};
-ghost use Rattle.uf_host.specs.Faults.{edge_fault, is_read_fault, is_write_fault};
+ghost use Rattle.uf_host.specs.Faults.{IsGetFault, edge_fault, is_read_fault, is_write_fault};
 ghost use Rattle.uf_host.specs.Getting.{FindsFolder, FindsRoom, Gets};
 ghost use Rattle.uf_host.specs.Paths.{trimmed};
 ghost use Rattle.uf_host.specs.Places.{ChangesAt, IsFolderThere};
@@ -41,6 +41,7 @@ pub fn get<S: Store, W: Host, L: Ledger>(
     ensures below { ChangesAt (trimmed path.now) (W.tree host.old) (W.tree host.new) }
     ensures reads { Counts (is_read_fault result) (W.read_faults host.old) (W.read_faults host.new) }
     ensures writes { Counts (is_write_fault result) (W.write_faults host.old) (W.write_faults host.new) }
+    ensures faults { IfErr result IsGetFault }
     ensures cause { Shown S.X.block32 NoneIsBad (edge_fault result) (S.seen store.old) (S.seen store.new) }
     ensures told { (S.seen store.new).told ≡ (S.seen store.old).told }
 {

@@ -1,5 +1,5 @@
 // Trees written to a host, files and folders.
-ghost use Rattle.std.specs.Prelude.{◌≡◌, ◌≢◌, List, ℕ, [], false, IsTrue, Ok, Some};
+ghost use Rattle.std.specs.Prelude.{◌≡◌, ◌≢◌, List, ℕ, [], IfErr, IsTrue, Ok, Some};
 ghost use Rattle.std.specs.FinMap.Entries.{is_sorted};
 ghost use Rattle.uf_edge.specs.Counts.{Counts};
 ghost use Rattle.uf_edge.specs.Host.{TakesFile, TakesFolder};
@@ -11,7 +11,7 @@ ghost use Rattle.uf_store.specs.Contents.{Contents, held_at};
 ghost use Rattle.uf_store.specs.Faults.{NoneIsBad};
 ghost use Rattle.uf_tree.specs.Names.{names_cmp};
 ghost use Rattle.uf_tree.specs.Tree.{Entries, Tree};
-ghost use Rattle.uf_host.specs.Faults.{edge_fault, is_read_fault, is_write_fault};
+ghost use Rattle.uf_host.specs.Faults.{IsPutFault, edge_fault, is_write_fault};
 ghost use Rattle.uf_host.specs.Places.{AppendsPiece, ChangesAt, ChangesIn, MakesFolderAt, Puts, PutsFile, TakesMembers};
 ghost use Rattle.uf_host.specs.Places.{places_in, places_of};
 
@@ -49,7 +49,7 @@ pub fn put_tree<S: Store, W: Host, L: Ledger>(
     ensures below { ChangesAt path.now (W.tree host.old) (W.tree host.new) }
     ensures reads { W.read_faults host.new ≡ W.read_faults host.old }
     ensures writes { Counts (is_write_fault result) (W.write_faults host.old) (W.write_faults host.new) }
-    ensures no_read { is_read_fault result ≡ false }
+    ensures stops { IfErr result IsPutFault }
     ensures shown { OnlyReads S.X.block32 NoneIsBad (edge_fault result) (S.seen store.old) (S.seen store.new) }
 {
     if room == 0 {
@@ -91,7 +91,7 @@ fn put_members<S: Store, W: Host, L: Ledger>(
     ensures below { ChangesIn folder.now (W.tree host.old) (W.tree host.new) }
     ensures reads { W.read_faults host.new ≡ W.read_faults host.old }
     ensures writes { Counts (is_write_fault result) (W.write_faults host.old) (W.write_faults host.new) }
-    ensures no_read { is_read_fault result ≡ false }
+    ensures stops { IfErr result IsPutFault }
     ensures shown { OnlyReads S.X.block32 NoneIsBad (edge_fault result) (S.seen store.old) (S.seen store.new) }
 {
     for way in ways {
@@ -107,7 +107,7 @@ fn make_folder<W: Host>(host: &mut W, path: &Text) -> Result<(), HostFault>
     ensures makes { MakesFolderAt path.now (W.tree host.old) (W.tree host.new) result }
     ensures reads { W.read_faults host.new ≡ W.read_faults host.old }
     ensures writes { Counts (is_write_fault result) (W.write_faults host.old) (W.write_faults host.new) }
-    ensures no_read { is_read_fault result ≡ false }
+    ensures stops { IfErr result IsPutFault }
 {
     match host.make_folder(path.as_str()) {
         Put::Done => Ok(()),
@@ -132,7 +132,7 @@ fn put_file<S: Store, W: Host, L: Ledger>(
     ensures below { ChangesAt path.now (W.tree host.old) (W.tree host.new) }
     ensures reads { W.read_faults host.new ≡ W.read_faults host.old }
     ensures writes { Counts (is_write_fault result) (W.write_faults host.old) (W.write_faults host.new) }
-    ensures no_read { is_read_fault result ≡ false }
+    ensures stops { IfErr result IsPutFault }
     ensures shown { OnlyReads S.X.block32 NoneIsBad (edge_fault result) (S.seen store.old) (S.seen store.new) }
 {
     let mut pieces = Pieces::new(export.alloc, cid, &export.limits)?;
@@ -155,7 +155,7 @@ fn put_pieces<S: Store, W: Host, L: Ledger>(
     ensures below { ChangesAt path.now (W.tree host.old) (W.tree host.new) }
     ensures reads { W.read_faults host.new ≡ W.read_faults host.old }
     ensures writes { Counts (is_write_fault result) (W.write_faults host.old) (W.write_faults host.new) }
-    ensures no_read { is_read_fault result ≡ false }
+    ensures stops { IfErr result IsPutFault }
     ensures shown { OnlyReads S.X.block32 NoneIsBad (edge_fault result) (S.seen store.old) (S.seen store.new) }
 {
     while let Some(piece) = pieces.next(store, touches)? {
@@ -170,7 +170,7 @@ fn put_piece<W: Host>(host: &mut W, path: &Text, piece: &[u8]) -> Result<(), Hos
     ensures appends { AppendsPiece path.now piece.now (W.tree host.old) (W.tree host.new) result }
     ensures reads { W.read_faults host.new ≡ W.read_faults host.old }
     ensures writes { Counts (is_write_fault result) (W.write_faults host.old) (W.write_faults host.new) }
-    ensures no_read { is_read_fault result ≡ false }
+    ensures stops { IfErr result IsPutFault }
 {
     match host.append(path.as_str(), piece) {
         Put::Done => Ok(()),
