@@ -1,0 +1,95 @@
+use Rattle.std.proofs.Common.{arith, rules, refl, sym, ◌∙◌}
+use Rattle.uf_store.proofs.Plain.{calls_write}
+use Rattle.uf_cache.specs.Entries.{lent_by}
+use Rattle.uf_cache.proofs.Answering.{found_kept, hit_finds, hits, is_found, is_other, keeps_found, keeps_none}
+use Rattle.uf_cache.proofs.Answering.{may_keep, unfound}
+use Rattle.uf_cache.proofs.Finding.{among, each_some, is_absent, is_first, is_left, is_there, promotes}
+use Rattle.uf_cache.proofs.Kept.{AreKept-put, AreKept-same, AreKept-used}
+use Rattle.uf_cache.proofs.cached.CachedStore.load.Goals as goal
+
+pub invariant_of-self : goal.invariant_of-self
+invariant_of-self g c =
+    let self = c.args.self.now in let cid = c.args.cid.now in
+    let p = promotes self.entries _ _ cid _ c.to_binary.ensures c.promote.ensures.value c.promote.ensures.entries in
+    let hash = g.S.X.BlockHash.block32 in
+    record { kept = AreKept-used hash _ self.entries _ cid self.kept p.is_used }
+
+pub returns-then-promote-clause-seen : goal.returns-then-promote-clause-seen
+returns-then-promote-clause-seen g c =
+    let self = c.args.self.now in let cid = c.args.cid.now in
+    let p = promotes self.entries _ _ cid _ c.to_binary.ensures c.promote.ensures.value c.promote.ensures.entries in
+    let hash = g.S.X.BlockHash.block32 in
+    let below = g.S.Store.seen self.inner in
+    let there = is_there p c.if-promote.true in
+    let first = is_first p below.lent there.0 there.1 in
+    let kept = self.kept cid there.0 (among self.entries cid there.0 there.1) in
+    hit_finds hash cid below _ _ there.0 _ _ kept first c.saturating_add-self.ensures (grind (arith, rules))
+
+pub returns-then-promote-clause-hit : goal.returns-then-promote-clause-hit
+returns-then-promote-clause-hit g c =
+    let self = c.args.self.now in let cid = c.args.cid.now in
+    let p = promotes self.entries _ _ cid _ c.to_binary.ensures c.promote.ensures.value c.promote.ensures.entries in
+    hits self _ cid p.is_used (refl {a = self.inner}) (is_first p (g.S.Store.seen self.inner).lent)
+
+pub returns-then-promote-clause-miss : goal.returns-then-promote-clause-miss
+returns-then-promote-clause-miss g c is =
+    let self = c.args.self.now in let cid = c.args.cid.now in
+    let p = promotes self.entries _ _ cid _ c.to_binary.ensures c.promote.ensures.value c.promote.ensures.entries in
+    let no_entry = sym is ∙ (is_there p c.if-promote.true).1 in absurd cc
+
+pub invariant_of-self-then-eq : goal.invariant_of-self-then-eq
+invariant_of-self-then-eq g c =
+    let self = c.args.self.now in let cid = c.args.cid.now in
+    let p = promotes self.entries _ _ cid _ c.to_binary.ensures c.promote.ensures.value c.promote.ensures.entries in
+    let hash = g.S.X.BlockHash.block32 in
+    let found = is_found c.load-answer.result c.if-eq.ensures in
+    let same = (calls_write hash _ _).load cid _ c.load-answer.ensures.seen in
+    let whole = found_kept hash cid _ _ _ found c.load-answer.ensures.seen in
+    let put = may_keep _ _ _ _ _ _ (is_left p c.if-promote.false) c.block.ensures c.keep.ensures in
+    let kept = AreKept-same hash _ _ self.entries same self.kept in
+    record { kept = AreKept-put hash _ self.entries _ cid kept _ whole put }
+
+pub invariant_of-self-else-eq : goal.invariant_of-self-else-eq
+invariant_of-self-else-eq g c =
+    let self = c.args.self.now in let cid = c.args.cid.now in
+    let p = promotes self.entries _ _ cid _ c.to_binary.ensures c.promote.ensures.value c.promote.ensures.entries in
+    let hash = g.S.X.BlockHash.block32 in
+    let same = (calls_write hash _ _).load cid _ c.load-answer.ensures.seen in
+    let kept = AreKept-same hash _ _ self.entries same self.kept in
+    record { kept = AreKept-used hash _ self.entries _ cid kept p.is_used }
+
+pub returns-then-eq-clause-hit : goal.returns-then-eq-clause-hit
+returns-then-eq-clause-hit g c =
+    let self = c.args.self.now in let cid = c.args.cid.now in
+    let p = promotes self.entries _ _ cid _ c.to_binary.ensures c.promote.ensures.value c.promote.ensures.entries in
+    each_some _ _ (λ bytes is. let no_entry = sym (is_absent p c.if-promote.false) ∙ is in absurd cc)
+
+pub returns-then-eq-clause-miss : goal.returns-then-eq-clause-miss
+returns-then-eq-clause-miss g c is =
+    let self = c.args.self.now in let cid = c.args.cid.now in
+    let p = promotes self.entries _ _ cid _ c.to_binary.ensures c.promote.ensures.value c.promote.ensures.entries in
+    let found = is_found c.load-answer.result c.if-eq.ensures in
+    let put = may_keep _ _ _ _ _ _ (is_left p c.if-promote.false) c.block.ensures c.keep.ensures in
+    record { below = c.load-answer.ensures.seen; kept = keeps_found self _ cid _ found put }
+
+pub returns-else-eq-clause-seen : goal.returns-else-eq-clause-seen
+returns-else-eq-clause-seen g c =
+    let self = c.args.self.now in let cid = c.args.cid.now in
+    let p = promotes self.entries _ _ cid _ c.to_binary.ensures c.promote.ensures.value c.promote.ensures.entries in
+    let hash = g.S.X.BlockHash.block32 in
+    let left = is_left p c.if-promote.false in
+    let other = is_other c.load-answer.result c.if-eq.ensures in
+    unfound hash cid _ _ _ _ _ (λ e i. lent_by self.lends_first (left i) (e i)) _ other c.load-answer.ensures.seen
+
+pub returns-else-eq-clause-hit : goal.returns-else-eq-clause-hit
+returns-else-eq-clause-hit g c =
+    let self = c.args.self.now in let cid = c.args.cid.now in
+    let p = promotes self.entries _ _ cid _ c.to_binary.ensures c.promote.ensures.value c.promote.ensures.entries in
+    each_some _ _ (λ bytes is. let no_entry = sym (is_absent p c.if-promote.false) ∙ is in absurd cc)
+
+pub returns-else-eq-clause-miss : goal.returns-else-eq-clause-miss
+returns-else-eq-clause-miss g c is =
+    let self = c.args.self.now in let cid = c.args.cid.now in
+    let p = promotes self.entries _ _ cid _ c.to_binary.ensures c.promote.ensures.value c.promote.ensures.entries in
+    let other = is_other c.load-answer.result c.if-eq.ensures in
+    record { below = c.load-answer.ensures.seen; kept = keeps_none self _ cid _ other (is_left p c.if-promote.false) }

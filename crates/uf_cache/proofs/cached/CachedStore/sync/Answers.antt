@@ -1,0 +1,11 @@
+use Rattle.uf_store.specs.Writing.{IsAny}
+use Rattle.uf_store.proofs.Plain.{calls_write}
+use Rattle.uf_store.proofs.Writing.{Wrote-good}
+use Rattle.uf_cache.proofs.Kept.{AreKept-on}
+use Rattle.uf_cache.proofs.cached.CachedStore.sync.Goals as goal
+
+pub invariant_of-self : goal.invariant_of-self
+invariant_of-self g c =
+    let hash = g.S.X.BlockHash.block32 in let self = c.args.self.now in
+    let writes = (calls_write hash _ _).sync _ c.sync.ensures.seen in
+    record { kept = AreKept-on hash _ _ self.entries (Wrote-good hash IsAny _ _ writes) self.kept }

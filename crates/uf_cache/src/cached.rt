@@ -1,0 +1,135 @@
+// A store over another one, with entries in memory.
+ghost use Rattle.std.specs.Prelude.{◌≡◌, ◌≤◌, ◌<◌, ◌+◌, [], None, IfOk, IfSome, length};
+ghost use Rattle.std.proofs.Props.{props};
+ghost use Rattle.lru.specs.LruCache.{lru_cache};
+ghost use Rattle.uf_cache.specs.Entries.{AreKept};
+ghost use Rattle.uf_store.specs.Seen.{Loads, ReadsNote, Saves, Syncs, WritesNote};
+
+use crate::keep::keep;
+use lru::LruCache;
+use std::alloc::Global;
+use std::num::NonZeroUsize;
+use std::sync::ledger::Ledger;
+use uf_cid::{Block, Cid, Memory};
+use uf_edge::Put;
+use uf_store::{Load, Note, NoteRead, Save, Steps, Store};
+
+/// A store that keeps the blocks which it found last in memory, and hands all else to another store.
+///
+/// An entry is whole, and the other store holds it under its CID, where that one tells. A block that is found is lent
+/// by the store that found it: after a hit that is the first entry.
+#[derive(Drop)]
+pub struct Cached<S: Store> {
+    alloc: Global,
+    inner: S,
+    entries: LruCache<[u8; 36], Block>,
+    lends_first: bool,
+    finds: u64,
+    ghost kept: { AreKept S.X.block32 (S.seen inner).told entries } by { Prim.hlevel props },
+}
+
+impl<S: Store + Drop> Cached<S> {
+    ghost use Rattle.uf_cache.specs.Cached.{cached_seen, entries_of, with_finds};
+
+    /// A cache of at most so many entries over a store. It has none yet.
+    pub fn new(alloc: Global, inner: S, entries: usize) -> Result<Self, Memory>
+        requires some { 0 < entries }
+        ensures seen { IfOk result (λ cached. cached_seen cached ≡ with_finds 0 (S.seen inner)) }
+        ensures entries { IfOk result (λ cached. entries_of cached ≡ lru_cache [] entries) }
+    {
+        let most = NonZeroUsize::new(entries).unwrap();
+        Ok(Cached {
+            alloc,
+            inner,
+            entries: LruCache::new(alloc, most)?,
+            lends_first: false,
+            finds: 0,
+        })
+    }
+}
+
+impl<S: Store> Cached<S> {
+    ghost use Rattle.uf_cache.specs.Cached.{entries_of, inner_seen};
+
+    /// How many blocks are in memory: no more than there may be, and each of them whole and held by the other store.
+    pub fn count(&self) -> usize
+        ensures count { result ≡ length (entries_of self.now).entries }
+        ensures most { result ≤ (entries_of self.now).cap }
+        ensures kept { AreKept S.X.block32 (inner_seen self.now).told (entries_of self.now) }
+    {
+        self.entries.len()
+    }
+}
+
+impl<S: Store> Store for Cached<S> {
+    ghost use Rattle.uf_cache.specs.Cached.{AsksBelow, Hits, PassesOn, cached_seen, entry_of};
+
+    type X = S::X;
+
+    ghost seen = { λ c. cached_seen c };
+
+    fn load<L: Ledger>(&mut self, cid: &Cid, touches: &mut Steps<L>) -> Load
+        ensures seen { Loads S.X.block32 cid.now result (cached_seen self.old) (cached_seen self.new) }
+        ensures touch { touches.new ≡ touches.old + 1 }
+
+        // A block among the entries is lent from there, and nothing is asked of the other store. All else it answers.
+        ensures hit { IfSome (entry_of self.old cid.now) (λ bytes. Hits cid.now bytes result self.old self.new) }
+        ensures miss { entry_of self.old cid.now ≡ None → AsksBelow S.X.block32 cid.now result self.old self.new }
+    {
+        if self.entries.promote(&cid.to_binary()) {
+            touches.tick();
+            self.lends_first = true;
+            self.finds = self.finds.saturating_add(1);
+            return Load::Found;
+        }
+        let answer = self.inner.load(cid, touches);
+        if answer == Load::Found {
+            self.lends_first = false;
+            self.finds = self.finds.saturating_add(1);
+            keep(self.alloc, &mut self.entries, cid, self.inner.block());
+        }
+        answer
+    }
+
+    fn block(&self) -> &[u8] {
+        match self.entries.peek_mru() {
+            Some((_, block)) if self.lends_first => block.as_slice(),
+            _ => self.inner.block(),
+        }
+    }
+
+    fn save<L: Ledger>(&mut self, cid: &Cid, bytes: &[u8], touches: &mut Steps<L>) -> Save
+        requires digest { S.X.block32 bytes.now ≡ cid.now.digest }
+        requires size { length bytes.now ≤ 2097152 }
+        ensures seen { Saves S.X.block32 cid.now bytes.now result (cached_seen self.old) (cached_seen self.new) }
+        ensures touch { touches.new ≡ touches.old + 1 }
+        ensures below { PassesOn (Saves S.X.block32 cid.now bytes.now result) self.old self.new }
+    {
+        let answer = self.inner.save(cid, bytes, touches);
+        if answer == Save::Clash {
+            self.lends_first = false;
+        }
+        answer
+    }
+
+    fn sync(&mut self) -> Put
+        ensures seen { Syncs result (cached_seen self.old) (cached_seen self.new) }
+        ensures below { PassesOn (Syncs result) self.old self.new }
+    {
+        self.inner.sync()
+    }
+
+    fn read_note(&mut self, which: Note) -> NoteRead
+        ensures seen { ReadsNote which result (cached_seen self.old) (cached_seen self.new) }
+        ensures below { PassesOn (ReadsNote which result) self.old self.new }
+    {
+        self.inner.read_note(which)
+    }
+
+    fn write_note(&mut self, which: Note, bytes: &[u8]) -> Put
+        ensures seen { WritesNote which bytes.now result (cached_seen self.old) (cached_seen self.new) }
+        ensures below { PassesOn (WritesNote which bytes.now result) self.old self.new }
+    {
+        self.inner.write_note(which, bytes)
+    }
+}

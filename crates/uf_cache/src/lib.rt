@@ -1,0 +1,9 @@
+//! A store over another one, whose blocks that were found last are kept in memory.
+#![tactic(auto)]
+
+mod cached;
+mod keep;
+#[cfg(test)]
+mod tests;
+
+pub use cached::Cached;

@@ -1,0 +1,208 @@
+// Rows of stores with entries in memory over a store that fails, lies and clashes.
+ghost use Rattle.std.specs.Prelude.{◌≡◌, ◌<◌};
+ghost use Rattle.uf_cid.specs.Cid.{cid_of};
+ghost use Rattle.uf_cid.specs.declared.cid.Codec.TheVariants.{Raw};
+
+use crate::Cached;
+use std::alloc::Global;
+use std::marker::Brand;
+use std::sync::ledger::{Blank, Ledger};
+use uf_cid::{Block, BlockHash, Cid, Codec, Memory, Sum8Hash};
+use uf_edge::Put;
+use uf_store::{CallKind, Load, MemStore, Note, NoteRead, Save, Steps, Store};
+
+// What is done with a store, and what is to come of it. Blocks are named by the sum of their bytes.
+#[derive(Clone, Copy)]
+enum Step {
+    Loads(&'static [u8], Load),
+    Lends(&'static [u8]),
+    Saves(&'static [u8], Save),
+    Notes,
+    Keeps(usize),
+}
+
+// A block is loaded once from below, and then lent from memory, whatever fails.
+const HELD_TWICE: [Step; 7] = [
+    Step::Loads(b"a", Load::Found),
+    Step::Loads(b"a", Load::Found),
+    Step::Lends(b"a"),
+    Step::Loads(b"b", Load::Failed),
+    Step::Lends(b"a"),
+    Step::Loads(b"a", Load::Found),
+    Step::Keeps(1),
+];
+
+// One entry goes for the next.
+const ONE_ENTRY: [Step; 7] = [
+    Step::Loads(b"a", Load::Found),
+    Step::Loads(b"b", Load::Found),
+    Step::Lends(b"b"),
+    Step::Loads(b"a", Load::Failed),
+    Step::Lends(b"b"),
+    Step::Loads(b"b", Load::Found),
+    Step::Keeps(1),
+];
+
+// The entry that was used longest ago goes first.
+const TWO_ENTRIES: [Step; 9] = [
+    Step::Loads(b"a", Load::Found),
+    Step::Loads(b"b", Load::Found),
+    Step::Loads(b"a", Load::Found),
+    Step::Lends(b"a"),
+    Step::Loads(b"ab", Load::Found),
+    Step::Lends(b"ab"),
+    Step::Loads(b"a", Load::Found),
+    Step::Loads(b"b", Load::Failed),
+    Step::Keeps(2),
+];
+
+// A block that isn't held, and one that isn't its CID's, are not kept, and are found once they are saved.
+const NOT_FOUND: [Step; 11] = [
+    Step::Loads(b"d", Load::Missing),
+    Step::Loads(b"d", Load::Missing),
+    Step::Loads(b"c", Load::Damaged),
+    Step::Loads(b"c", Load::Damaged),
+    Step::Lends(b""),
+    Step::Keeps(0),
+    Step::Saves(b"d", Save::Done),
+    Step::Saves(b"c", Save::Done),
+    Step::Loads(b"d", Load::Found),
+    Step::Loads(b"c", Load::Found),
+    Step::Keeps(2),
+];
+
+// A clash lends the block below, and what comes after a hit lends the entry.
+const CLASHES: [Step; 11] = [
+    Step::Loads(b"ab", Load::Found),
+    Step::Loads(b"a", Load::Found),
+    Step::Loads(b"ab", Load::Found),
+    Step::Loads(b"a", Load::Found),
+    Step::Saves(b"ba", Save::Clash),
+    Step::Lends(b"ab"),
+    Step::Loads(b"b", Load::Failed),
+    Step::Lends(b"ab"),
+    Step::Loads(b"a", Load::Found),
+    Step::Lends(b"a"),
+    Step::Keeps(2),
+];
+
+// All else goes to the store below and leaves what is kept and lent.
+const PASSES_ON: [Step; 7] = [
+    Step::Loads(b"b", Load::Found),
+    Step::Loads(b"a", Load::Found),
+    Step::Loads(b"b", Load::Found),
+    Step::Saves(b"a", Save::Done),
+    Step::Notes,
+    Step::Lends(b"b"),
+    Step::Keeps(2),
+];
+
+fn block(alloc: Global, bytes: &[u8]) -> Result<Block, Memory> {
+    let mut block = Block::new(alloc);
+    block.extend(bytes)?;
+    Ok(block)
+}
+
+fn raw<X: BlockHash>(bytes: &[u8]) -> Cid
+    ensures { result ≡ cid_of X.block32 Raw bytes.now }
+{
+    Cid::of::<X>(Codec::Raw, bytes)
+}
+
+// A store that holds `a`, `b`, `ab`, and other bytes in the place of `c`. One of its later loads fails.
+fn below(alloc: Global, failing: u64) -> Result<MemStore<Sum8Hash>, Memory> {
+    let mut store = MemStore::new(alloc);
+    store.plant(&raw::<Sum8Hash>(b"a"), block(alloc, b"a")?)?;
+    store.plant(&raw::<Sum8Hash>(b"b"), block(alloc, b"b")?)?;
+    store.plant(&raw::<Sum8Hash>(b"ab"), block(alloc, b"ab")?)?;
+    store.plant(&raw::<Sum8Hash>(b"c"), block(alloc, b"x")?)?;
+    store.fail_at(CallKind::Load, failing)?;
+    Ok(store)
+}
+
+fn saves<L: Ledger>(
+    store: &mut Cached<MemStore<Sum8Hash>>,
+    bytes: &[u8],
+    touches: &mut Steps<L>,
+) -> Save {
+    if bytes.len() > 2 {
+        return Save::Failed;
+    }
+    store.save(&raw::<Sum8Hash>(bytes), bytes, touches)
+}
+
+fn lends(store: &Cached<MemStore<Sum8Hash>>, bytes: &[u8]) -> bool {
+    store.block() == bytes
+}
+
+// Whether notes are written, read and synced.
+fn notes(store: &mut Cached<MemStore<Sum8Hash>>) -> bool {
+    let written = store.write_note(Note::Head, b"text") == Put::Done;
+    let read = match store.read_note(Note::Head) {
+        NoteRead::Text(text) => text.as_slice() == b"text".as_slice(),
+        _ => false,
+    };
+    let absent = matches!(store.read_note(Note::Pins), NoteRead::Absent);
+    written && read && absent && store.sync() == Put::Done
+}
+
+// Whether a step goes so.
+fn goes<L: Ledger>(
+    store: &mut Cached<MemStore<Sum8Hash>>,
+    step: &Step,
+    touches: &mut Steps<L>,
+) -> bool {
+    match step {
+        Step::Loads(bytes, answer) => store.load(&raw::<Sum8Hash>(*bytes), touches) == *answer,
+        Step::Lends(bytes) => lends(store, *bytes),
+        Step::Saves(bytes, answer) => saves(store, *bytes, touches) == *answer,
+        Step::Notes => notes(store),
+        Step::Keeps(count) => store.count() == *count,
+    }
+}
+
+// The first step that goes wrong over a store with so many entries in memory, below which one load fails.
+fn first_wrong_step<L: Ledger>(
+    alloc: Global,
+    entries: usize,
+    failing: u64,
+    steps: &[Step],
+    touches: &mut Steps<L>,
+) -> Result<Option<usize>, Memory>
+    requires { 0 < entries }
+{
+    let inner = below(alloc, failing)?;
+    let mut store = Cached::new(alloc, inner, entries)?;
+    for (place, step) in steps.iter().enumerate() {
+        if !goes(&mut store, step, touches) {
+            return Ok(Some(place));
+        }
+    }
+    Ok(None)
+}
+
+fn first_wrong_steps<L: Ledger>(alloc: Global, blank: Blank) -> Result<[Option<usize>; 6], Memory>
+    requires name { blank.name ≡ L.name }
+    requires parts { blank.parts ≡ L.parts }
+    requires some { 0 < blank.parts }
+{
+    let mut touches = Steps::<L>::new(blank);
+    Ok([
+        first_wrong_step(alloc, 1, 2, &HELD_TWICE, &mut touches)?,
+        first_wrong_step(alloc, 1, 3, &ONE_ENTRY, &mut touches)?,
+        first_wrong_step(alloc, 2, 4, &TWO_ENTRIES, &mut touches)?,
+        first_wrong_step(alloc, 64, 100, &NOT_FOUND, &mut touches)?,
+        first_wrong_step(alloc, 2, 3, &CLASHES, &mut touches)?,
+        first_wrong_step(alloc, 64, 100, &PASSES_ON, &mut touches)?,
+    ])
+}
+
+fn first_wrong_step_of_each(alloc: Global) -> Result<[Option<usize>; 6], Memory> {
+    first_wrong_steps::<Brand>(alloc, Blank::new(1))
+}
+
+#[test]
+fn blocks_are_kept_lent_and_let_go(rt: HostRuntime) -> Result<(), Memory> {
+    assert_eq!(rt; first_wrong_step_of_each(rt.alloc())?, [None; 6]);
+    Ok(())
+}
