@@ -1,10 +1,13 @@
 -- What is ahead of a window, and what its bytes say of that.
 use Rattle.std.proofs.Common.{◌≡◌, ℕ, ◌+◌, ◌-◌, ◌≤◌, ◌<◌, List, [], ◌∷◌, ◌++◌, length, take, drop, Bool, true, false, refl, sym, ap, ◌∙◌, arith, append-nil, length-append, length-drop, Ok, Err, Result, ◌⊎◌, inl, inr, true≢false}
 use Rattle.std.proofs.lemmas.List.{drop-append-le, take-append-le}
-use Rattle.std.specs.Prelude.{nat_lt, Some, None, ◌==◌, ◌||◌, if◌then◌else◌, nat_eq}
+use Rattle.std.specs.Prelude.{nat_lt, Some, None, Option, IfSome, ◌==◌, ◌||◌, if◌then◌else◌, nat_eq}
 use Rattle.uf_cid.specs.Blocks.{Held}
 use Rattle.uf_cid.specs.declared.cid.Cid.{Cid}
 use Rattle.uf_edge.specs.Streams.{IsAtEnd, Told}
+use Rattle.uf_store.specs.Contents.{Told as Kept}
+use Rattle.uf_store.specs.Keeping.{HoldsOne}
+use Rattle.uf_store.specs.declared.store.StoreFault.{StoreFault}
 use Rattle.uf_varint.proofs.Varints.{not_below}
 use Rattle.uf_varint.specs.Varint.{read_multi_of}
 use Rattle.uf_varint.specs.declared.varint.Var.{Var}
@@ -17,13 +20,14 @@ use Rattle.uf_car.specs.declared.window.Supply.{Supply}
 use Rattle.uf_car.specs.declared.window.Supply.TheVariants.{Open, Ended, Over}
 use Rattle.uf_car.specs.declared.window.Window.{Window}
 use Rattle.uf_car.specs.declared.begun.Begun.{Begun}
-use Rattle.uf_car.specs.Importing.{begun, checked_block, cut_fault, section_said, no_more, stops}
+use Rattle.uf_car.specs.Importing.{ClashesInFront, ClashesWith, begun, checked_block, cut_fault, section_said, no_more, stops}
 use Rattle.std.specs.Cmp.Lexicographic.{pointwise}
 use Rattle.std.proofs.lemmas.Bool.Decides.{nat_tests}
 use Rattle.uf_car.specs.Headers.{header_of}
 use Rattle.uf_car.specs.Reading.{EndsInside, Has, IsWrong, Section, checked, ended_over, header_at, header_with, opening_of, section_of, sized_roots, with_opening}
 use Rattle.uf_car.specs.Windows.{Ahead, ComesTo, NoMoreComes, HasEnough, ahead, ahead_of, ahead_with, window_bytes, is_over_at}
 use Rattle.uf_car.proofs.Openings.{length_stable, long_enough, opening_none, opening_end, opening_stable, opening_long}
+use Rattle.uf_car.proofs.Stops.{clash_as}
 
 -- ---- what is ahead
 
@@ -178,6 +182,19 @@ module _ (hash : List ℕ → List ℕ) (place : ℕ) (a : Ahead) (b : Begun) (f
         by : (x : Bool) → said_by place b.cid x ≡ Ok tt → section_by place (b.cid, block) (b.front + b.size) x ≡ Has (b.cid, block) (b.front + b.size)
         by true e = refl
         by false e = cc
+
+    -- a save of the block meets a block that is held
+    pub met : (block : List ℕ) → block ≡ take (b.front + b.size - b.front) (drop b.front (window_bytes w)) → (mid : Kept) (o : Option StoreFault) → IfSome o (ClashesWith hash place b.cid block mid) → IfSome o (ClashesInFront (section_of hash place a.0) mid)
+    met block same mid o h = clash_as With Front front o h
+      where
+        With : Cid → List ℕ → List ℕ → Type 0
+        With c first second = (c ≡ b.cid) × (second ≡ block) × (checked_block hash place b.cid block ≡ Ok tt) × HoldsOne mid c first
+
+        Front : Cid → List ℕ → List ℕ → Type 0
+        Front c first second = (used : ℕ) × (section_of hash place a.0 ≡ Has (c, second) used) × HoldsOne mid c first
+
+        front : (c : Cid) (first second : List ℕ) → With c first second → Front c first second
+        front c first second g = (b.front + b.size, accepted block same g.2 ∙ (λ i. Has (sym g.0 i, sym g.1 i) (b.front + b.size)), g.3)
 
 -- ---- what was begun
 

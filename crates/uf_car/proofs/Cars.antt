@@ -7,10 +7,11 @@ use Rattle.uf_store.specs.Contents.{Told}
 use Rattle.uf_car.specs.declared.fault.CarFault.{CarFault}
 use Rattle.uf_car.specs.declared.window.Supply.TheVariants.{Open}
 use Rattle.uf_car.specs.declared.window.Window.{Window}
-use Rattle.uf_car.specs.Importing.{KeepsAll, RefusesCar, stops}
+use Rattle.uf_car.specs.Importing.{IsOfInput, KeepsAll, RefusesCar, stops}
 use Rattle.uf_car.specs.Reading.{Read, behind_header, header_at, read_over, rooted, sections_of}
 use Rattle.uf_car.specs.Windows.{ahead, ahead_of, window_bytes}
 use Rattle.uf_car.proofs.Sections.{saved_none}
+use Rattle.uf_car.proofs.Stops.{no_clash}
 
 -- nothing was read yet
 pub at_first : (w : Window) (limit : ℕ) (told : streams.Told) (bytes : List ℕ) → window_bytes w ≡ [] → w.room ≡ limit → w.supply ≡ Open → told ≡ Some bytes
@@ -25,14 +26,15 @@ module _ (hash : List ℕ → List ℕ) (over : Bool) (bytes : List ℕ) where
   whole_roots roots place e = ap (behind_header hash over bytes) e
 
   -- the header was refused
-  pub header_refused : (f : CarFault) (told : Told) → (stops f ≡ false → header_at over bytes ≡ Err f) → RefusesCar (read_over hash over bytes) f told told
-  header_refused f told says = record {
+  pub header_refused : (f : CarFault) (told : Told) → IsOfInput f → (stops f ≡ false → header_at over bytes ≡ Err f) → RefusesCar (read_over hash over bytes) f told told
+  header_refused f told input says = record {
     said = λ plain. ap (λ (r : Read (List Cid)). r.answer) (whole_fault f (says plain));
     kept = record {
       count = 0;
       few = omega arith;
       kept = saved_none told;
       all = λ plain. sym (ap (λ (r : Read (List Cid)). length r.sections) (whole_fault f (says plain)));
+      next = no_clash _ f input;
     };
   }
 

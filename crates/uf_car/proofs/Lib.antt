@@ -1,5 +1,6 @@
 pub mod Aheads
 pub mod Cars
+pub mod Clashing
 pub mod Exports
 pub mod Openings
 pub mod Roots

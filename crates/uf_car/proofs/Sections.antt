@@ -1,18 +1,21 @@
 -- The sections of a CAR, one after another.
-use Rattle.std.proofs.Common.{◌≡◌, ℕ, zero, suc, ◌+◌, ◌-◌, ◌≤◌, ◌<◌, List, [], ◌∷◌, ◌++◌, length, take, drop, Bool, true, false, refl, sym, ap, ◌∙◌, arith, append_assoc, append-nil, length-append, length-drop, Ok, Err}
-use Rattle.std.proofs.lemmas.List.{take_at}
-use Rattle.std.specs.Prelude.{nat_lt, nat_eq, Some, None, Option, if◌then◌else◌}
+use Rattle.std.proofs.Common.{◌≡◌, ℕ, zero, suc, ◌+◌, ◌-◌, ◌≤◌, ◌<◌, List, [], ◌∷◌, ◌++◌, length, take, drop, Bool, true, false, refl, sym, ap, subst, ◌∙◌, arith, append_assoc, append-nil, length-append, length-drop, Ok, Err}
+use Rattle.std.proofs.lemmas.List.{drop_at, take_at}
+use Rattle.std.specs.Prelude.{nat_lt, nat_eq, Some, None, Option, IfSome, if◌then◌else◌}
 use Rattle.std.specs.Cmp.Lexicographic.{pointwise}
 use Rattle.uf_cid.specs.Blocks.{Held}
+use Rattle.uf_cid.specs.declared.cid.Cid.{Cid}
 use Rattle.uf_store.specs.Contents.{Contents, Told, changed, with_save}
+use Rattle.uf_store.specs.Keeping.{HoldsOne}
 use Rattle.uf_car.specs.declared.fault.CarFault.{CarFault}
 use Rattle.uf_car.specs.declared.fault.CarFault.TheVariants as fault
 use Rattle.uf_car.specs.declared.section.Opening.{Opening}
 use Rattle.uf_car.specs.declared.section.Opening.TheVariants.{End, Cut, Wrong, Found}
-use Rattle.uf_car.specs.Importing.{GoesOn, IsAtLast, KeepsAll, KeepsSection, RefusesCar, RefusesSection, cut_fault, behind_done, section_said, no_more, stops, with_saves}
+use Rattle.uf_car.specs.Importing.{ClashesFirst, GoesOn, IsAtLast, KeepsAll, KeepsSection, RefusesCar, RefusesSection, cut_fault, behind_done, section_said, no_more, stops, store_fault, with_saves}
 use Rattle.uf_car.specs.Reading.{NothingLeft, EndsInside, Has, IsWrong, Read, Section, and_section, checked, ended_over, opening_of, read_on, section_of, sections_of, sections_within, with_opening, within_section}
 use Rattle.uf_car.specs.Windows.{Ahead}
 use Rattle.uf_car.proofs.Openings.{opening_none, opening_within}
+use Rattle.uf_car.proofs.Stops.{clash_as}
 
 module _ (hash : List ℕ → List ℕ) where
   -- a section has a byte or more
@@ -156,9 +159,29 @@ module _ (hash : List ℕ → List ℕ) (start : ℕ) (first : Ahead) where
         few = ap-few;
         kept = k.same_told ∙ g.kept ∙ ap (λ (xs : List Held). changed (with_saves xs) told) (sym (take_at g.done (sections_of hash first.1 place g.rest).sections (length g.done) refl) ∙ ap (λ (r : Read Unit). take (length g.done) r.sections) (sym g.so_far));
         all = λ plain. ap (λ (r : Read Unit). length r.sections) (sym (whole plain));
+        next = subst (λ (xs : List Held). IfSome (store_fault f) (ClashesFirst xs last)) (sym left_is) (clash_as InFront First in-front (store_fault f) k.clash);
       };
     }
       where
+        rest : List Held
+        rest = (sections_of hash first.1 place g.rest).sections
+
+        left_is : drop (length g.done) (sections_of hash first.1 start first.0).sections ≡ rest
+        left_is = ap (λ (r : Read Unit). drop (length g.done) r.sections) g.so_far ∙ drop_at g.done rest (length g.done) refl
+
+        InFront : Cid → List ℕ → List ℕ → Type 0
+        InFront c a b = (used : ℕ) × (section_of hash place g.rest ≡ Has (c, b) used) × HoldsOne mid c a
+
+        First : Cid → List ℕ → List ℕ → Type 0
+        First c a b = (more : List Held) × (rest ≡ (c, b) ∷ more) × HoldsOne last c a
+
+        in-front : (c : Cid) (a b : List ℕ) → InFront c a b → First c a b
+        in-front c a b h = (
+          (sections_of hash first.1 (place + h.0) (drop h.0 g.rest)).sections,
+          ap (λ (r : Read Unit). r.sections) (sections_step hash first.1 place g.rest ∙ ap (read_on (λ at bytes. sections_of hash first.1 at bytes) first.1 place g.rest) h.1),
+          subst (λ t. HoldsOne t c a) (sym k.same_told) h.2,
+        )
+
         whole : stops f ≡ false → sections_of hash first.1 start first.0 ≡ record { sections = g.done; answer = Err f }
         whole plain = g.so_far ∙ ap (behind_done g.done) (sections_step hash first.1 place g.rest ∙ refused_is f (section_of hash place g.rest) (k.said plain)) ∙ (λ i. record { sections = append-nil g.done i; answer = Err f })
 

@@ -1,5 +1,5 @@
 -- What the calls that read a CAR into a store answer and leave.
-use Rattle.std.specs.Prelude.{◌≡◌, ℕ, ◌+◌, ◌≤◌, ◌<◌, Bool, true, false, List, [], ◌∷◌, ◌++◌, length, take, drop, None, Some, IfSome, nat_eq, if◌then◌else◌}
+use Rattle.std.specs.Prelude.{◌≡◌, ℕ, ◌+◌, ◌≤◌, ◌<◌, Bool, true, false, List, [], ◌∷◌, ◌++◌, length, take, drop, None, Some, IfSome, nat_eq, if◌then◌else◌, ⊤}
 use Rattle.std.specs.Cmp.Lexicographic.{pointwise}
 use Rattle.std.specs.declared.option.Option.{Option}
 use Rattle.std.specs.declared.result.Result.{Result}
@@ -10,9 +10,10 @@ use Rattle.uf_edge.specs.Streams as streams
 use Rattle.uf_store.specs.Clashes.{IsSaving}
 use Rattle.uf_store.specs.Contents.{Contents, Told, changed, with_save}
 use Rattle.uf_store.specs.Faults.{NoneIsBad, Shown}
-use Rattle.uf_store.specs.Keeping.{KeepsGood}
+use Rattle.uf_store.specs.Keeping.{HoldsOne, KeepsGood}
 use Rattle.uf_store.specs.Writing.{SavesOnly}
 use Rattle.uf_store.specs.declared.store.StoreFault.{StoreFault}
+use Rattle.uf_store.specs.declared.store.StoreFault.TheVariants as store
 use Rattle.uf_store.specs.Seen.{Seen}
 use Rattle.uf_car.specs.declared.begun.Begun.{Begun}
 use Rattle.uf_car.specs.declared.fault.CarFault.{CarFault}
@@ -56,6 +57,15 @@ abbrev pub car_fault : {A : Type 0} → Result A CarFault → Option StoreFault
 car_fault (Ok a) = None
 car_fault (Err f) = store_fault f
 
+-- so it is of a clash: the CID, the block that is held under it, and the one that was to be saved
+abbrev pub IfClash : (Cid → List ℕ → List ℕ → Type 0) → StoreFault → Type 0
+IfClash IsSo store.Failed = ⊤
+IfClash IsSo (store.Damaged c) = ⊤
+IfClash IsSo (store.Missing c) = ⊤
+IfClash IsSo (store.BadBlock c role) = ⊤
+IfClash IsSo (store.Clash c first second) = IsSo c first second
+IfClash IsSo store.Memory = ⊤
+
 -- a call that keeps blocks: its fault is one of saving and has its cause, good blocks are kept, and nothing but blocks
 -- is written
 pub record OnlyImports (hash : List ℕ → List ℕ) (fault : Option StoreFault) (before now : Seen) : Type 0 where
@@ -97,6 +107,11 @@ abbrev pub checked_block : (List ℕ → List ℕ) → ℕ → Cid → List ℕ 
 checked_block hash place c block =
     if pointwise nat_eq (hash block) c.digest then Ok tt else Err (fault.WrongDigest place c)
 
+-- the clash is of this block, which is that of its CID, with one that is held
+abbrev pub ClashesWith : (List ℕ → List ℕ) → ℕ → Cid → List ℕ → Told → StoreFault → Type 0
+ClashesWith hash place cid block told = IfClash (λ c first second. (c ≡ cid) × (second ≡ block)
+    × (checked_block hash place cid block ≡ Ok tt) × HoldsOne told c first)
+
 -- nothing is left of a source where a call says so
 abbrev pub EndsAt : {A : Type 0} → Result (Option A) CarFault → streams.Told → Type 0
 EndsAt (Ok None) left = streams.IsAtEnd left
@@ -137,11 +152,17 @@ pub record IsAtLast (hash : List ℕ → List ℕ) (place : ℕ) (a : Ahead) (no
   pub same : now ≡ Some a
   pub same_told : told_now ≡ told
 
+-- the clash is of the section in front, with a block that is held
+abbrev pub ClashesInFront : Section → Told → StoreFault → Type 0
+ClashesInFront front told =
+    IfClash (λ c first second. (used : ℕ) × (front ≡ Has (c, second) used) × HoldsOne told c first)
+
 -- a section was refused, or the call was stopped
 pub record RefusesSection (hash : List ℕ → List ℕ) (place : ℕ) (a : Ahead) (f : CarFault)
     (told told_now : Told) : Type 0 where
   pub said : stops f ≡ false → section_said a.1 place (section_of hash place a.0) ≡ Err f
   pub same_told : told_now ≡ told
+  pub clash : IfSome (store_fault f) (ClashesInFront (section_of hash place a.0) told)
 
 -- the answer for one section, where the source tells
 abbrev pub ImportsSection : (List ℕ → List ℕ) → ℕ → Ahead → Option Ahead → Result (Option ℕ) CarFault → Told
@@ -155,12 +176,18 @@ abbrev pub with_saves : List Held → Contents → Contents
 with_saves [] t = t
 with_saves (b ∷ blocks) t = with_saves blocks (with_save b.0 b.1 t)
 
--- so many of these blocks were kept: all where the answer is one of the CAR
+-- the clash is of the first of these blocks, with one that is held
+abbrev pub ClashesFirst : List Held → Told → StoreFault → Type 0
+ClashesFirst sections told =
+    IfClash (λ c first second. (rest : List Held) × (sections ≡ (c, second) ∷ rest) × HoldsOne told c first)
+
+-- so many of these blocks were kept: all where the answer is one of the CAR, and else those in front of a clash
 pub record KeepsSome (sections : List Held) (f : CarFault) (told told_now : Told) : Type 0 where
   pub count : ℕ
   pub few : count ≤ length sections
   pub kept : told_now ≡ changed (with_saves (take count sections)) told
   pub all : stops f ≡ false → count ≡ length sections
+  pub next : IfSome (store_fault f) (ClashesFirst (drop count sections) told_now)
 
 -- the answer for all sections: how many there are, with all of them kept, or the first fault, with those before it
 pub record KeepsAll {A : Type 0} (r : Read A) (a : A) (blocks : ℕ) (told told_now : Told) : Type 0 where

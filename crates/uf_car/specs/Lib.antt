@@ -1,3 +1,4 @@
+pub mod Clashing
 pub mod Exporting
 pub mod Headers
 pub mod Importing

@@ -10,7 +10,8 @@ ghost use Rattle.uf_store.specs.Faults.{NoneIsBad, Shown};
 ghost use Rattle.uf_store.specs.Keeping.{KeepsGood};
 ghost use Rattle.uf_store.specs.Writing.{SavesOnly};
 ghost use Rattle.uf_car.specs.declared.section.Opening.TheVariants.{Found};
-ghost use Rattle.uf_car.specs.Importing.{EndsAt, FitsSection, ImportsCar, ImportsSection, ImportsSections, IsOfInput};
+ghost use Rattle.uf_car.specs.Importing.{ClashesWith, EndsAt, FitsSection, ImportsCar, ImportsSection};
+ghost use Rattle.uf_car.specs.Importing.{ImportsSections, IsOfInput};
 ghost use Rattle.uf_car.specs.Importing.{OnlyImports, SaysUnlessStopped, Uses, UsesAhead, UsesUp, as_section, begun};
 ghost use Rattle.uf_car.specs.Importing.{car_fault, checked_block, cut_fault, is_source_fault};
 ghost use Rattle.uf_car.specs.Reading.{car_read, header_at, header_with, opening_of, read_over, sections_of};
@@ -268,6 +269,8 @@ fn keep_block<S: Store, L: Ledger>(
     ensures kept { OnOk result ((S.seen store.new).told
         ≡ changed (with_save begun.now.cid block.now) (S.seen store.old).told) }
     ensures err { OnErr result ((S.seen store.new).told ≡ (S.seen store.old).told) }
+    ensures clash { IfSome (car_fault result)
+        (ClashesWith S.X.block32 place begun.now.cid block.now (S.seen store.old).told) }
     ensures no_read { is_source_fault result ≡ false }
     ensures imports { OnlyImports S.X.block32 (car_fault result) (S.seen store.old) (S.seen store.new) }
 {

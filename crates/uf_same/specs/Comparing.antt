@@ -7,6 +7,7 @@ use Rattle.uf_cid.specs.Blocks.{IsClash, Lookup}
 use Rattle.uf_cid.specs.declared.cid.Cid.{Cid}
 use Rattle.uf_store.specs.declared.store.StoreFault.{StoreFault}
 use Rattle.uf_store.specs.declared.store.StoreFault.TheVariants as store
+use Rattle.uf_store.specs.Seen.{Seen}
 use Rattle.uf_walk.specs.Turns.{HasTaken}
 use Rattle.uf_walk.specs.Walked.{Walked, course}
 use Rattle.uf_same.specs.declared.answer.Compared.{Compared}
@@ -50,6 +51,28 @@ left_fault _ = None
 abbrev pub right_fault : {A : Type 0} → Result A SameFault → Option StoreFault
 right_fault (Err (fault.Right f)) = Some f
 right_fault _ = None
+
+-- a load may answer this
+abbrev pub IsLooking : StoreFault → Type 0
+IsLooking store.Failed = ⊤
+IsLooking (store.Damaged c) = ⊤
+IsLooking (store.Missing c) = ⊤
+IsLooking (store.BadBlock c role) = ⊥
+IsLooking (store.Clash c a b) = ⊥
+IsLooking store.Memory = ⊤
+
+-- a fault of a side is one of loads
+abbrev pub IsOfLoads : SameFault → Type 0
+IsOfLoads (fault.NotDagPb c why) = ⊤
+IsOfLoads fault.TooMany = ⊤
+IsOfLoads (fault.Left f) = IsLooking f
+IsOfLoads (fault.Right f) = IsLooking f
+IsOfLoads fault.Memory = ⊤
+
+-- where there is no fault of this side, no block was missing there
+abbrev pub MissesNone : Option StoreFault → Seen → Seen → Type 0
+MissesNone None before now = now.misses ≡ before.misses
+MissesNone (Some f) before now = ⊤
 
 -- the answer for one CID: both blocks are one and were taken, or the verdict is decided
 abbrev pub ComparesAt : Lookup → Lookup → Result (Option Compared) SameFault → Walked → Walked → Type 0

@@ -1,11 +1,11 @@
 // Two stores compared.
-ghost use Rattle.std.specs.Prelude.{◌≡◌, ◌≢◌, ◌∷◌, [], Some, IfOk, IfSome};
+ghost use Rattle.std.specs.Prelude.{◌≡◌, ◌≢◌, ◌∷◌, [], Some, IfErr, IfOk, IfSome};
 ghost use Rattle.uf_store.specs.Calls.{OnlyReads};
 ghost use Rattle.uf_store.specs.Contents.{Contents, held_at};
 ghost use Rattle.uf_store.specs.Faults.{NoneIsBad, Shown};
 ghost use Rattle.uf_walk.specs.Order.{goes};
-ghost use Rattle.uf_same.specs.Comparing.{ComparesAt, IsClashOf, Judges, ShowsTwoBlocks, StepsOn};
-ghost use Rattle.uf_same.specs.Comparing.{left_fault, right_fault};
+ghost use Rattle.uf_same.specs.Comparing.{ComparesAt, IsClashOf, IsOfLoads, Judges, MissesNone, ShowsTwoBlocks};
+ghost use Rattle.uf_same.specs.Comparing.{StepsOn, left_fault, right_fault};
 ghost use Rattle.uf_same.specs.Verdict.{follow_both, verdict, verdict_of};
 
 use crate::{Compared, SameFault};
@@ -32,9 +32,12 @@ pub fn same<A: Store, B: Store<X = A::X>, L: Ledger>(
     ensures clash { IfOk result (ShowsTwoBlocks A.X.block32) }
     ensures differ { a.now ≢ b.now → touches.new ≡ touches.old }
 
-    // A fault of either side has its cause, and both tell what they told.
+    // A fault of either side is one of loads and has its cause, where it isn't the left one's no block is missing there,
+    // and both tell what they told.
+    ensures loads { IfErr result IsOfLoads }
     ensures left { Shown A.X.block32 NoneIsBad (left_fault result) (A.seen left.old) (A.seen left.new) }
     ensures right { Shown A.X.block32 NoneIsBad (right_fault result) (B.seen right.old) (B.seen right.new) }
+    ensures left_misses { MissesNone (left_fault result) (A.seen left.old) (A.seen left.new) }
     ensures left_told { (A.seen left.new).told ≡ (A.seen left.old).told }
     ensures right_told { (B.seen right.new).told ≡ (B.seen right.old).told }
 {
@@ -57,7 +60,9 @@ fn compare_from<A: Store, B: Store<X = A::X>, L: Ledger>(
         → Judges (verdict_of (held_at t) (held_at u)
         (goes (follow_both (held_at t) (held_at u)) most (root.now ∷ []))) result }
     ensures clash { IfOk result (ShowsTwoBlocks A.X.block32) }
+    ensures loads { IfErr result IsOfLoads }
     ensures left { OnlyReads A.X.block32 NoneIsBad (left_fault result) (A.seen left.old) (A.seen left.new) }
+    ensures left_misses { MissesNone (left_fault result) (A.seen left.old) (A.seen left.new) }
     ensures right { OnlyReads A.X.block32 NoneIsBad (right_fault result) (B.seen right.old) (B.seen right.new) }
 {
     let mut walk = Walk::new(alloc, most);
@@ -90,7 +95,9 @@ fn compare_at<A: Store, B: Store<X = A::X>, L: Ledger>(
         → ComparesAt (held_at t) (held_at u) result walk.old walk.new }
     ensures steps { StepsOn result walk.old walk.new }
     ensures clash { IfOk result (λ c. IfSome c (ShowsTwoBlocks A.X.block32)) }
+    ensures loads { IfErr result IsOfLoads }
     ensures left { OnlyReads A.X.block32 NoneIsBad (left_fault result) (A.seen left.old) (A.seen left.new) }
+    ensures left_misses { MissesNone (left_fault result) (A.seen left.old) (A.seen left.new) }
     ensures right { OnlyReads A.X.block32 NoneIsBad (right_fault result) (B.seen right.old) (B.seen right.new) }
 {
     if let Err(fault) = need(left, cid, touches) {

@@ -1,7 +1,7 @@
 use Rattle.std.proofs.Common.{ap, ◌∙◌, ◌-◌, ◌+◌, take, drop}
 use Rattle.std.proofs.lemmas.Result.{err_from_is_err_and}
-use Rattle.uf_car.specs.Importing.{RefusesSection}
-use Rattle.uf_car.proofs.Aheads.{accepted, refused, used_ahead}
+use Rattle.uf_car.specs.Importing.{RefusesSection, store_fault}
+use Rattle.uf_car.proofs.Aheads.{accepted, met, refused, used_ahead}
 use Rattle.uf_car.proofs.importing.import_block.Goals as goal
 
 pub returns-in_err-keep_block-in-Enough-clause-reads : goal.returns-in_err-keep_block-in-Enough-clause-reads
@@ -10,6 +10,7 @@ returns-in_err-keep_block-in-Enough-clause-reads g c a e found =
     let refuses : RefusesSection g.S.X.BlockHash.block32 c.args.place a c.in_err-keep_block-in-Enough.field-0.0 (g.S.Store.seen c.args.store.now).told (g.S.Store.seen c.keep_block.new.store).told = record {
       said = refused g.S.X.BlockHash.block32 c.args.place a c.args.begun.now found c.fill_to.new.self _ (c.fill_to.ensures.ahead.same ∙ e) (rw c.in-Enough.is at c.in_ok-fill_to.ensures.answer) _ _ (ap (λ xs. take (c.args.begun.now.front + c.args.begun.now.size - c.args.begun.now.front) (drop c.args.begun.now.front xs)) c.bytes.ensures) c.in_err-keep_block-in-Enough.ensures.says;
       same_told = c.in_err-keep_block-in-Enough.ensures.err;
+      clash = met g.S.X.BlockHash.block32 c.args.place a c.args.begun.now found c.fill_to.new.self _ (c.fill_to.ensures.ahead.same ∙ e) (rw c.in-Enough.is at c.in_ok-fill_to.ensures.answer) _ (ap (λ xs. take (c.args.begun.now.front + c.args.begun.now.size - c.args.begun.now.front) (drop c.args.begun.now.front xs)) c.bytes.ensures) _ (store_fault c.in_err-keep_block-in-Enough.field-0.0) c.in_err-keep_block-in-Enough.ensures.clash;
     } in
     rw (out.1, out.2) refuses
 

@@ -30,5 +30,6 @@ loop-walk-preserved g c =
       due = took.due;
       course = λ t u is ws. (rw c.in-None.is at (c.in_ok-clash-in-At.ensures.compares t u (inv.left.told ∙ is) (inv.right.told ∙ ws))) ∙ hands.course (follow_both (held_at t) (held_at u)) ∙ inv.course t u is ws;
       left = reads-reads inv.left c.in_ok-clash-in-At.ensures.left;
+      left_misses = c.in_ok-clash-in-At.ensures.left_misses ∙ inv.left_misses;
       right = reads-reads inv.right c.in_ok-clash-in-At.ensures.right;
     }

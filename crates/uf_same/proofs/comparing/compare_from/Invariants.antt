@@ -13,6 +13,7 @@ invariant-loop-walk g l = record {
   course : (t u : Contents) → (g.A.Store.seen l.initial.left).told ≡ Some t → (g.B.Store.seen l.initial.right).told ≡ Some u
       → course (follow_both (held_at t) (held_at u)) l.walk ≡ goes (follow_both (held_at t) (held_at u)) l.most (l.root ∷ []);
   left : OnlyReads g.A.X.BlockHash.block32 NoneIsBad None (g.A.Store.seen l.initial.left) (g.A.Store.seen l.left);
+  left_misses : (g.A.Store.seen l.left).misses ≡ (g.A.Store.seen l.initial.left).misses;
   right : OnlyReads g.A.X.BlockHash.block32 NoneIsBad None (g.B.Store.seen l.initial.right) (g.B.Store.seen l.right);
 }
 
