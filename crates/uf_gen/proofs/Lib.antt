@@ -1,0 +1,5 @@
+pub mod Order
+pub mod Places
+pub mod Steps
+pub mod Names
+pub mod Left

@@ -1,0 +1,13 @@
+//! The generated tree: many files by a few rules, to try and to measure a tree with.
+#![tactic(auto)]
+
+mod fresh;
+mod laws;
+mod rules;
+
+pub use fresh::fresh_root;
+pub use laws::a_grown_tree_is_its_files;
+pub use rules::{file_name, first_bytes, late_offset, late_piece};
+
+#[cfg(test)]
+mod tests;
