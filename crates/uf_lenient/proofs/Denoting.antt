@@ -7,11 +7,10 @@ use Rattle.uf_tree.specs.Tree.{Tree, Dir, entries, File as FileTree}
 use Rattle.uf_lenient.specs.declared.gathered.Gathered.{Gathered}
 use Rattle.uf_lenient.specs.declared.gathered.Gathered.TheVariants.{File as IsFile, Folder as IsFolder}
 use Rattle.uf_lenient.specs.declared.shapes.Limits.{Limits}
-use Rattle.uf_lenient.specs.declared.shapes.Shape.{Shape}
 use Rattle.uf_lenient.specs.declared.shapes.Shape.TheVariants.{File as FileShape, Folder as FolderShape}
 use Rattle.uf_lenient.specs.declared.unixfs.Unixfs.{Unixfs}
 use Rattle.uf_lenient.specs.declared.unixfs.Unixfs.TheVariants.{File, Directory, Shard, OtherShard, Other}
-use Rattle.uf_lenient.specs.Reading.{◌>>◌, Visits, Ways, answered, completed, file_under, gathered, gathers, joined_parts, leads, meet_all, member_trees, part_bytes, shallow_of, shape_of, shard_ways, sub_ways, tree_within, unvisited, visit_of}
+use Rattle.uf_lenient.specs.Reading.{◌>>◌, Visits, Ways, answered, completed, file_under, gathered, gathers, joined_parts, leads, meet_all, member_trees, part_bytes, shape_of, shard_ways, sub_ways, tree_within, unvisited, visit_of}
 use Rattle.uf_lenient.specs.Unixfs.{as_file}
 use Rattle.uf_lenient.specs.Denoted.{AreDenoted, DenotesBy, IsStep, denotes_within}
 use Rattle.uf_lenient.proofs.Looser.{AreLike, Follows, IsLikeGathered, Same, gathered-like, within-like}

@@ -115,16 +115,24 @@ module _ (held : Lookup) where
       by (Err e) = refl
 
   -- the ways of a shard tree are those of its first shard
-  pub first-frame : (frames : List Frame) (by : Cid) (left : ℕ) (links : List Link) (n : ℕ) (met : Ways) (m : ℕ) → frames ≡ record { by = by; left = left; links = links; at = 0 } ∷ [] → frames_ways held frames [] n ≡ Ok (met, m)
+  pub first-frame : (frames : List Frame) (by : Cid) (left : ℕ) (links : List Link) (start : Ways) (n : ℕ) (met : Ways)
+      (m : ℕ) → frames ≡ record { by = by; left = left; links = links; at = 0 } ∷ [] → start ≡ []
+      → frames_ways held frames start n ≡ Ok (met, m)
       → gathered_folder_behind (shard_ways (sub_ways held left) by left links [] n) ≡ Ok (IsFolder met, m)
-  first-frame frames by left links n met m one is =
-      ap gathered_folder_behind (sym (one_frame (record { by = by; left = left; links = links; at = 0 }) [] n) ∙ ap (λ fs. frames_ways held fs [] n) (sym one) ∙ is)
+  first-frame frames by left links start n met m one none is =
+      let f : Frame = record { by = by; left = left; links = links; at = 0 } in
+      ap gathered_folder_behind (sym (one_frame f [] n) ∙ ap (λ fs. frames_ways held fs [] n) (sym one)
+      ∙ ap (λ ways. frames_ways held frames ways n) (sym none) ∙ is)
 
-  pub first-fault : (frames : List Frame) (by : Cid) (left : ℕ) (links : List Link) (n : ℕ) (fault : DagFault) → frames ≡ record { by = by; left = left; links = links; at = 0 } ∷ [] → IsFault (frames_ways held frames [] n) fault
+  pub first-fault : (frames : List Frame) (by : Cid) (left : ℕ) (links : List Link) (start : Ways) (n : ℕ)
+      (fault : DagFault) → frames ≡ record { by = by; left = left; links = links; at = 0 } ∷ [] → start ≡ []
+      → IsFault (frames_ways held frames start n) fault
       → IsFault (gathered_folder_behind (shard_ways (sub_ways held left) by left links [] n)) fault
-  first-fault frames by left links n fault one fails =
+  first-fault frames by left links start n fault one none fails =
+      let f : Frame = record { by = by; left = left; links = links; at = 0 } in
       fault-behind (shard_ways (sub_ways held left) by left links [] n) (λ all k. Ok (IsFolder all, k)) fault
-      (fault-is (frames_ways held frames [] n) _ fault (sym (one_frame (record { by = by; left = left; links = links; at = 0 }) [] n) ∙ ap (λ fs. frames_ways held fs [] n) (sym one)) fails)
+      (fault-is (frames_ways held frames start n) _ fault (sym (one_frame f [] n) ∙ ap (λ fs. frames_ways held fs [] n) (sym one)
+      ∙ ap (λ ways. frames_ways held frames ways n) (sym none)) fails)
 
 -- a directory in one block, behind a visit
 pub folder_still : (n : ℕ) (r : Result Ways DagFault) (result : Result Gathered DagFault) → FollowsReading (λ g. g) (gathered_folder r) result → FollowsReading (λ g. (g, n)) (unvisited n r >> λ ways m. Ok (IsFolder ways, m)) result

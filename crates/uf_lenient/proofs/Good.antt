@@ -4,6 +4,7 @@ use Rattle.std.specs.Prelude.{◌↔◌, Option, Some, None, if◌then◌else◌
 use Rattle.std.specs.Cmp.Lexicographic.{pointwise, same_text, other_text}
 use Rattle.uf_cid.specs.Blocks.{Lookup}
 use Rattle.uf_cid.specs.declared.cid.Cid.{Cid}
+use Rattle.uf_lenient.specs.Good.{HasGoodOf}
 use Rattle.uf_lenient.specs.Within.{HoldsAllOf, HoldsGoodOf, good_blocks, with_digest}
 
 module _ (hash : List ℕ → List ℕ) where
@@ -31,3 +32,10 @@ module _ (hash : List ℕ → List ℕ) where
   good-greater held more all c block is =
       let both = there c.digest block (held c) is in
       ap (with_digest hash c.digest) (all c block both.0 both.1) ∙ here c.digest block both.1
+
+  -- the good blocks of a map are a map that has them
+  pub good-has : (held : Lookup) → HasGoodOf hash held (good_blocks hash held)
+  good-has held = record {
+    holds = λ c block is same. (good-is held c block).1 (is, same);
+    misses = λ c none. ap (with_digest hash c.digest) none;
+  }

@@ -4,7 +4,8 @@ use Rattle.std.specs.Prelude.{Some, None, IfErr, IfSome}
 use Rattle.std.specs.declared.result.Result.{Result}
 use Rattle.std.specs.declared.result.Result.TheVariants.{Ok, Err}
 use Rattle.uf_varint.specs.Fields.{◌>>=◌}
-use Rattle.uf_store.specs.Contents.{Contents, Told}
+use Rattle.uf_cid.specs.Blocks.{Lookup}
+use Rattle.uf_store.specs.Contents.{Contents, Told, held_at}
 use Rattle.uf_store.specs.Calls.{OnlyReads}
 use Rattle.uf_store.specs.Faults.{NoneIsBad, Shown, Shows, StaysCalm}
 use Rattle.uf_store.specs.declared.store.StoreFault.{StoreFault}
@@ -14,6 +15,7 @@ use Rattle.uf_store.proofs.Causes.{StaysCalm-refl, calm-rises}
 use Rattle.uf_lenient.specs.declared.fault.DagFault.{DagFault}
 use Rattle.uf_lenient.specs.declared.fault.DagFault.TheVariants.{Store}
 use Rattle.uf_lenient.specs.Answers.{IsBare, IsFault, dag_fault, store_fault_of}
+use Rattle.uf_lenient.specs.Good.{ByGoodBlocks}
 use Rattle.uf_lenient.specs.Reading.{◌>>◌, Visits, unvisited}
 
 -- a fault of a first reading is one of both
@@ -45,6 +47,30 @@ on-both {P} {Q} {R} (Some t) later same f p q = f t p (subst (λ m. IfSome m Q) 
 pub told-always : {P : Contents → Type 0} (told : Told) → ((t : Contents) → P t) → IfSome told P
 told-always None f = tt
 told-always (Some t) f = f t
+
+-- the same by the good blocks
+pub by-good : {P Q : Lookup → Type 0} (hash : List ℕ → List ℕ) (told : Told) → ((held : Lookup) → P held → Q held)
+    → ByGoodBlocks hash told P → ByGoodBlocks hash told Q
+by-good hash None f p = tt
+by-good hash (Some t) f p = λ good has. f good (p good has)
+
+pub good-both : {P Q R : Lookup → Type 0} (hash : List ℕ → List ℕ) (told later : Told) → later ≡ told
+    → ((held : Lookup) → P held → Q held → R held)
+    → ByGoodBlocks hash told P → ByGoodBlocks hash later Q → ByGoodBlocks hash told R
+good-both hash None later same f p q = tt
+good-both {P} {Q} {R} hash (Some t) later same f p q =
+    let now = subst (λ m. ByGoodBlocks hash m Q) same q in λ good has. f good (p good has) (now good has)
+
+pub good-always : {P : Lookup → Type 0} (hash : List ℕ → List ℕ) (told : Told) → ((held : Lookup) → P held)
+    → ByGoodBlocks hash told P
+good-always hash None f = tt
+good-always hash (Some t) f = λ good has. f good
+
+-- all that is held has its own good blocks
+pub held-so : (P : Lookup → Type 0) (hash : List ℕ → List ℕ) (told : Told) → ByGoodBlocks hash told P
+    → IfSome told (λ t. P (held_at t))
+held-so P hash None p = tt
+held-so P hash (Some t) p = p (held_at t) (record { holds = λ c block is same. is; misses = λ c none. none })
 
 -- a fault that isn't the store's shows nothing but that the store has stayed calm, and want of memory no more
 memory_shown : (hash : List ℕ → List ℕ) (fault : StoreFault) (a b : Seen) → fault ≡ Memory → StaysCalm a b → Shows hash NoneIsBad fault a b

@@ -1,5 +1,6 @@
 pub mod Answers
 pub mod Denoted
+pub mod Good
 pub mod Keyed
 pub mod Leading
 pub mod Pending

@@ -1,11 +1,11 @@
 // The ways of a directory gathered, with those of its sub-shards in their place.
-ghost use Rattle.std.specs.Prelude.{◌≡◌, ◌≤◌, ◌<◌, ◌+◌, ◌-◌, ◌*◌, [], ◌∷◌, ℕ, IfErr, IfSome, OnOk, length};
+ghost use Rattle.std.specs.Prelude.{◌≡◌, ◌≤◌, ◌<◌, ◌+◌, ◌-◌, ◌*◌, [], ◌∷◌, ℕ, IfErr, OnOk, length};
 ghost use Rattle.std.specs.Option.{option_map};
 ghost use Rattle.uf_cid.specs.declared.cid.Cid.{Cid as TheCid};
 ghost use Rattle.uf_store.specs.Calls.{OnlyReads};
-ghost use Rattle.uf_store.specs.Contents.{held_at};
 ghost use Rattle.uf_store.specs.Faults.{NoneIsBad};
 ghost use Rattle.uf_lenient.specs.Answers.{FollowsReading, IsBare, dag_fault};
+ghost use Rattle.uf_lenient.specs.Good.{ByGoodBlocks};
 ghost use Rattle.uf_lenient.specs.Pending.{frames_ways, own_shard};
 ghost use Rattle.uf_lenient.specs.Reading.{Visits, Ways, behind_slot, gathered, is_digit, meet, meet_all};
 ghost use Rattle.uf_lenient.specs.Reading.{shard_ways, sub_ways};
@@ -34,12 +34,13 @@ pub fn gather<S: Store, L: Ledger>(
     visits: &mut u32,
     touches: &mut Steps<L>,
 ) -> Result<Gathered, DagFault>
-    ensures says { IfSome (S.seen store.old).told (λ t. FollowsReading (λ g. (g, visits.new))
-        (gathered (held_at t) left cid.now visits.old) result) }
+    ensures says { ByGoodBlocks S.X.block32 (S.seen store.old).told (λ held. FollowsReading (λ g. (g, visits.new))
+        (gathered held left cid.now visits.old) result) }
     ensures reads { OnlyReads S.X.block32 NoneIsBad (dag_fault result) (S.seen store.old) (S.seen store.new) }
     ensures depth { OnOk result (1 ≤ left) }
     ensures fewer { OnOk result (visits.new < visits.old) }
     ensures touches { touches.new + visits.new ≡ touches.old + visits.old }
+    ensures touched { touches.old ≤ touches.new }
 {
     match visit(alloc, store, cid, left, visits, touches)? {
         Unixfs::File(bytes, links) => Ok(Gathered::File(bytes, links)),
@@ -75,11 +76,12 @@ fn gather_shards<S: Store, L: Ledger>(
     visits: &mut u32,
     touches: &mut Steps<L>,
 ) -> Result<Gathered, DagFault>
-    ensures says { IfSome (S.seen store.old).told (λ t. FollowsReading (λ g. (g, visits.new))
-        (gathered_folder_behind (shard_ways (sub_ways (held_at t) left) by.now left links [] visits.old)) result) }
+    ensures says { ByGoodBlocks S.X.block32 (S.seen store.old).told (λ held. FollowsReading (λ g. (g, visits.new))
+        (gathered_folder_behind (shard_ways (sub_ways held left) by.now left links [] visits.old)) result) }
     ensures reads { OnlyReads S.X.block32 NoneIsBad (dag_fault result) (S.seen store.old) (S.seen store.new) }
     ensures fewer { OnOk result (visits.new ≤ visits.old) }
     ensures touches { touches.new + visits.new ≡ touches.old + visits.old }
+    ensures touched { touches.old ≤ touches.new }
 {
     let mut met = Met::new(alloc);
     let mut frames = Pile::new(alloc);
@@ -102,11 +104,12 @@ fn gather_frames<S: Store, L: Ledger>(
     visits: &mut u32,
     touches: &mut Steps<L>,
 ) -> Result<(), DagFault>
-    ensures says { IfSome (S.seen store.old).told (λ t. FollowsReading (λ _. (met.new, visits.new))
-        (frames_ways (held_at t) frames.old met.old visits.old) result) }
+    ensures says { ByGoodBlocks S.X.block32 (S.seen store.old).told (λ held. FollowsReading (λ _. (met.new, visits.new))
+        (frames_ways held frames.old met.old visits.old) result) }
     ensures reads { OnlyReads S.X.block32 NoneIsBad (dag_fault result) (S.seen store.old) (S.seen store.new) }
     ensures fewer { OnOk result (visits.new ≤ visits.old) }
     ensures touches { touches.new + visits.new ≡ touches.old + visits.old }
+    ensures touched { touches.old ≤ touches.new }
 {
     while let Some(frame) = frames.pop() {
         gather_frame(alloc, store, frame, frames, met, visits, touches)?;
@@ -124,13 +127,14 @@ fn gather_frame<S: Store, L: Ledger>(
     visits: &mut u32,
     touches: &mut Steps<L>,
 ) -> Result<(), DagFault>
-    ensures says { IfSome (S.seen store.old).told (λ t. StepsTo
-        (frames_ways (held_at t) (frame ∷ frames.old) met.old visits.old)
-        (frames_ways (held_at t) frames.new met.new visits.new) result) }
+    ensures says { ByGoodBlocks S.X.block32 (S.seen store.old).told (λ held. StepsTo
+        (frames_ways held (frame ∷ frames.old) met.old visits.old)
+        (frames_ways held frames.new met.new visits.new) result) }
     ensures reads { OnlyReads S.X.block32 NoneIsBad (dag_fault result) (S.seen store.old) (S.seen store.new) }
     ensures fewer { OnOk result (visits.new ≤ visits.old) }
     ensures smaller { OnOk result (2 * visits.new + length frames.new < 2 * visits.old + length frames.old + 1) }
     ensures touches { touches.new + visits.new ≡ touches.old + visits.old }
+    ensures touched { touches.old ≤ touches.new }
 {
     match add_entries(alloc, &frame, met)? {
         None => Ok(()),
@@ -151,12 +155,13 @@ fn enter_shard<S: Store, L: Ledger>(
     visits: &mut u32,
     touches: &mut Steps<L>,
 ) -> Result<Links, DagFault>
-    ensures says { IfSome (S.seen store.old).told (λ t. FollowsReading (λ links. (links, visits.new))
-        (own_shard (held_at t) left cid.now visits.old) result) }
+    ensures says { ByGoodBlocks S.X.block32 (S.seen store.old).told (λ held. FollowsReading
+        (λ links. (links, visits.new)) (own_shard held left cid.now visits.old) result) }
     ensures reads { OnlyReads S.X.block32 NoneIsBad (dag_fault result) (S.seen store.old) (S.seen store.new) }
     ensures depth { OnOk result (1 ≤ left) }
     ensures fewer { OnOk result (visits.new + 1 ≡ visits.old) }
     ensures touches { touches.new + visits.new ≡ touches.old + visits.old }
+    ensures touched { touches.old ≤ touches.new }
 {
     let node = visit(alloc, store, cid, left, visits, touches)?;
     shard_of(cid, node)

@@ -2,7 +2,8 @@
 ghost use Rattle.std.specs.Prelude.{◌≡◌, ◌≤◌, ◌+◌, IfErr, IfOk, IfSome, Ok};
 ghost use Rattle.uf_store.specs.Contents.{held_at};
 ghost use Rattle.uf_store.specs.Faults.{NoneIsBad, Shown};
-ghost use Rattle.uf_lenient.specs.Answers.{FollowsReading, IsBare, dag_fault};
+ghost use Rattle.uf_lenient.specs.Answers.{FollowsReading, dag_fault};
+ghost use Rattle.uf_lenient.specs.Good.{ByGoodBlocks};
 ghost use Rattle.uf_lenient.specs.Reading.{shallow_of, shape_of as shape_is};
 ghost use Rattle.uf_lenient.specs.Steps.{IsInOrder};
 
@@ -25,10 +26,13 @@ pub fn shallow<S: Store, L: Ledger>(
 ) -> Result<Shape, DagFault>
     ensures says { IfSome (S.seen store.old).told (λ t. FollowsReading (λ s. s)
         (shallow_of (held_at t) limits.now cid.now) result) }
+    ensures good { ByGoodBlocks S.X.block32 (S.seen store.old).told (λ held. FollowsReading (λ s. s)
+        (shallow_of held limits.now cid.now) result) }
     ensures order { IfOk result IsInOrder }
     ensures cause { Shown S.X.block32 NoneIsBad (dag_fault result) (S.seen store.old) (S.seen store.new) }
     ensures told { (S.seen store.new).told ≡ (S.seen store.old).told }
     ensures touches { touches.new ≤ touches.old + limits.now.visits }
+    ensures touched { touches.old ≤ touches.new }
 {
     let mut visits = limits.visits;
     let left = u64::from(limits.depth) + 1;

@@ -1,9 +1,9 @@
 // Nodes of files visited.
-ghost use Rattle.std.specs.Prelude.{◌≡◌, ◌≤◌, ◌+◌, ◌∷◌, ◌++◌, IfSome, OnOk};
+ghost use Rattle.std.specs.Prelude.{◌≡◌, ◌≤◌, ◌+◌, ◌∷◌, ◌++◌, OnOk};
 ghost use Rattle.uf_store.specs.Calls.{OnlyReads};
-ghost use Rattle.uf_store.specs.Contents.{held_at};
 ghost use Rattle.uf_store.specs.Faults.{NoneIsBad};
 ghost use Rattle.uf_lenient.specs.Answers.{FollowsReading, dag_fault};
+ghost use Rattle.uf_lenient.specs.Good.{ByGoodBlocks};
 ghost use Rattle.uf_lenient.specs.Pending.{own_part, parts_due};
 
 use crate::DagFault;
@@ -25,13 +25,14 @@ pub fn read_node<S: Store, L: Ledger>(
     visits: &mut u32,
     touches: &mut Steps<L>,
 ) -> Result<(Block, Links), DagFault>
-    ensures says { IfSome (S.seen store.old).told (λ t. FollowsReading (λ own. (own, visits.new))
-        (own_part (held_at t) next.now visits.old) result) }
+    ensures says { ByGoodBlocks S.X.block32 (S.seen store.old).told (λ held. FollowsReading (λ own. (own, visits.new))
+        (own_part held next.now visits.old) result) }
     ensures reads { OnlyReads S.X.block32 NoneIsBad (dag_fault result) (S.seen store.old) (S.seen store.new) }
     ensures depth { OnOk result (1 ≤ next.now.left) }
     ensures fewer { OnOk result (visits.new + 1 ≡ visits.old) }
     ensures most { visits.old ≤ visits.new + 1 }
     ensures touches { touches.new + visits.new ≡ touches.old + visits.old }
+    ensures touched { touches.old ≤ touches.new }
 {
     let node = visit(alloc, store, &next.cid, next.left, visits, touches)?;
     match next.visited {

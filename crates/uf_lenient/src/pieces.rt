@@ -6,6 +6,7 @@ ghost use Rattle.uf_store.specs.Calls.{OnlyReads};
 ghost use Rattle.uf_store.specs.Contents.{held_at};
 ghost use Rattle.uf_store.specs.Faults.{NoneIsBad, Shown};
 ghost use Rattle.uf_lenient.specs.Answers.{dag_fault};
+ghost use Rattle.uf_lenient.specs.Good.{ByGoodBlocks};
 ghost use Rattle.uf_lenient.specs.Pending.{parts_due};
 ghost use Rattle.uf_lenient.specs.Reading.{file_of};
 ghost use Rattle.uf_lenient.specs.Steps.{IsNextPiece, IsPiece, start_of, to_come};
@@ -67,6 +68,8 @@ impl Pieces {
         touches: &mut Steps<L>,
     ) -> Result<Option<Block>, DagFault>
         ensures says { IfSome (S.seen store.old).told (λ t. IsNextPiece (held_at t) self.old self.new result) }
+        ensures good { ByGoodBlocks S.X.block32 (S.seen store.old).told (λ held.
+            IsNextPiece held self.old self.new result) }
         ensures visits { IfSome (S.seen store.old).told (λ t. IfOk result (λ piece. IfSome piece
             (λ _. VisitsNext (held_at t) self.old self.new))) }
         ensures none { (result ≡ Ok None) ↔ (self.old.0 ≡ []) }
@@ -77,6 +80,7 @@ impl Pieces {
         ensures told { (S.seen store.new).told ≡ (S.seen store.old).told }
         ensures touches { touches.new ≤ touches.old + 1 }
         ensures within { touches.new ≤ touches.old + self.old.1 }
+        ensures touched { touches.old ≤ touches.new }
     {
         match self.due.top() {
             None => Ok(None),
@@ -95,13 +99,16 @@ impl Pieces {
         touches: &mut Steps<L>,
     ) -> Result<Block, DagFault>
         requires top { slice_get self.old.0 0 ≡ Some next.now }
-        ensures says { IfSome (S.seen store.old).told (λ t. IsPiece (held_at t) self.old self.new result) }
-        ensures visits { IfSome (S.seen store.old).told (λ t. OnOk result (VisitsNext (held_at t) self.old self.new)) }
+        ensures says { ByGoodBlocks S.X.block32 (S.seen store.old).told (λ held.
+            IsPiece held self.old self.new result) }
+        ensures visits { ByGoodBlocks S.X.block32 (S.seen store.old).told (λ held.
+            OnOk result (VisitsNext held self.old self.new)) }
         ensures same { OnErr result (self.new ≡ self.old) }
         ensures fewer { OnOk result (self.new.1 + 1 ≡ self.old.1) }
         ensures reads { OnlyReads S.X.block32 NoneIsBad (dag_fault result) (S.seen store.old) (S.seen store.new) }
         ensures touches { touches.new ≤ touches.old + 1 }
         ensures within { touches.new ≤ touches.old + self.old.1 }
+        ensures touched { touches.old ≤ touches.new }
     {
         let mut visits = self.visits;
         let (bytes, links) = read_node(self.alloc, store, next, &mut visits, touches)?;

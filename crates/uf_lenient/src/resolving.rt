@@ -7,6 +7,7 @@ ghost use Rattle.uf_store.specs.Contents.{held_at};
 ghost use Rattle.uf_store.specs.Faults.{NoneIsBad, Shown};
 ghost use Rattle.uf_tree.specs.Names.{names_cmp};
 ghost use Rattle.uf_lenient.specs.Answers.{FollowsReading, dag_fault};
+ghost use Rattle.uf_lenient.specs.Good.{ByGoodBlocks};
 ghost use Rattle.uf_lenient.specs.Reading.{resolve_from, step_of};
 
 use crate::{DagFault, Limits, Shape, Way, shallow};
@@ -29,9 +30,12 @@ pub fn resolve<S: Store, L: Ledger>(
     requires few { length path.now.names < 2 ^ 32 }
     ensures says { IfSome (S.seen store.old).told (λ t. FollowsReading (λ c. c)
         (resolve_from (held_at t) limits.now 0 path.now.names path.now.cid) result) }
+    ensures good { ByGoodBlocks S.X.block32 (S.seen store.old).told (λ held. FollowsReading (λ c. c)
+        (resolve_from held limits.now 0 path.now.names path.now.cid) result) }
     ensures cause { Shown S.X.block32 NoneIsBad (dag_fault result) (S.seen store.old) (S.seen store.new) }
     ensures told { (S.seen store.new).told ≡ (S.seen store.old).told }
     ensures touches { touches.new ≤ touches.old + length path.now.names * limits.now.visits }
+    ensures touched { touches.old ≤ touches.new }
 {
     let mut cid = path.cid;
     let names = path.names.as_slice();
@@ -51,10 +55,11 @@ fn step<S: Store, L: Ledger>(
     limits: &Limits,
     touches: &mut Steps<L>,
 ) -> Result<Cid, DagFault>
-    ensures says { IfSome (S.seen store.old).told (λ t. FollowsReading (λ c. c)
-        (step_of (held_at t) limits.now place name.now cid.now) result) }
+    ensures says { ByGoodBlocks S.X.block32 (S.seen store.old).told (λ held. FollowsReading (λ c. c)
+        (step_of held limits.now place name.now cid.now) result) }
     ensures reads { OnlyReads S.X.block32 NoneIsBad (dag_fault result) (S.seen store.old) (S.seen store.new) }
     ensures touches { touches.new ≤ touches.old + limits.now.visits }
+    ensures touched { touches.old ≤ touches.new }
 {
     match shallow(alloc, store, cid, limits, touches)? {
         Shape::File => Err(DagFault::NotADirectory(place)),

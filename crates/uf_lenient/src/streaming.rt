@@ -33,6 +33,7 @@ pub fn stream<S: Store, O: Sink, L: Ledger>(
     ensures cause { Shown S.X.block32 NoneIsBad (stream_fault result) (S.seen store.old) (S.seen store.new) }
     ensures told { (S.seen store.new).told ≡ (S.seen store.old).told }
     ensures touches { touches.new ≤ touches.old + limits.now.visits }
+    ensures touched { touches.old ≤ touches.new }
 {
     let mut pieces = Pieces::new(alloc, cid, limits)?;
     write_pieces(store, &mut pieces, out, touches)
@@ -52,6 +53,7 @@ fn write_pieces<S: Store, O: Sink, L: Ledger>(
     ensures sink { Counts (sink_failed result) (O.faults out.old) (O.faults out.new) }
     ensures reads { OnlyReads S.X.block32 NoneIsBad (stream_fault result) (S.seen store.old) (S.seen store.new) }
     ensures touches { touches.new ≤ touches.old + pieces.old.1 }
+    ensures touched { touches.old ≤ touches.new }
 {
     let mut count: u64 = 0;
     while let Some(piece) = pieces.next(store, touches)? {

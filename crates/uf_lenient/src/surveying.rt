@@ -5,6 +5,7 @@ ghost use Rattle.uf_store.specs.Calls.{OnlyReads};
 ghost use Rattle.uf_store.specs.Contents.{held_at};
 ghost use Rattle.uf_store.specs.Faults.{NoneIsBad, Shown};
 ghost use Rattle.uf_lenient.specs.Answers.{FollowsReading, dag_fault};
+ghost use Rattle.uf_lenient.specs.Good.{ByGoodBlocks};
 ghost use Rattle.uf_lenient.specs.Pending.{all_end, gathered_due, way_due};
 ghost use Rattle.uf_lenient.specs.Reading.{shape_of as shape_is};
 ghost use Rattle.uf_lenient.specs.Steps.{IsInOrder, StepsTo, Surveys};
@@ -33,10 +34,12 @@ pub fn survey<S: Store, L: Ledger>(
     touches: &mut Steps<L>,
 ) -> Result<Shape, DagFault>
     ensures says { IfSome (S.seen store.old).told (λ t. Surveys (held_at t) limits.now cid.now result) }
+    ensures good { ByGoodBlocks S.X.block32 (S.seen store.old).told (λ held. Surveys held limits.now cid.now result) }
     ensures order { IfOk result IsInOrder }
     ensures cause { Shown S.X.block32 NoneIsBad (dag_fault result) (S.seen store.old) (S.seen store.new) }
     ensures told { (S.seen store.new).told ≡ (S.seen store.old).told }
     ensures touches { touches.new ≤ touches.old + limits.now.visits }
+    ensures touched { touches.old ≤ touches.new }
 {
     let mut visits = limits.visits;
     let left = u64::from(limits.depth) + 1;
@@ -53,12 +56,13 @@ fn complete<S: Store, L: Ledger>(
     visits: &mut u32,
     touches: &mut Steps<L>,
 ) -> Result<Shape, DagFault>
-    ensures says { IfSome (S.seen store.old).told (λ t. FollowsReading (λ _. visits.new)
-        (all_end (held_at t) (gathered_due left gathered) visits.old) result) }
+    ensures says { ByGoodBlocks S.X.block32 (S.seen store.old).told (λ held. FollowsReading (λ _. visits.new)
+        (all_end held (gathered_due left gathered) visits.old) result) }
     ensures reads { OnlyReads S.X.block32 NoneIsBad (dag_fault result) (S.seen store.old) (S.seen store.new) }
     ensures shape { IfOk result (λ s. s ≡ shape_is gathered) }
     ensures order { IfOk result IsInOrder }
     ensures touches { touches.new + visits.new ≡ touches.old + visits.old }
+    ensures touched { touches.old ≤ touches.new }
 {
     let shape = shape_of(alloc, &gathered)?;
     let mut due = Pile::new(alloc);
@@ -75,10 +79,11 @@ fn read_due<S: Store, L: Ledger>(
     visits: &mut u32,
     touches: &mut Steps<L>,
 ) -> Result<(), DagFault>
-    ensures says { IfSome (S.seen store.old).told (λ t. FollowsReading (λ _. visits.new)
-        (all_end (held_at t) due.old visits.old) result) }
+    ensures says { ByGoodBlocks S.X.block32 (S.seen store.old).told (λ held. FollowsReading (λ _. visits.new)
+        (all_end held due.old visits.old) result) }
     ensures reads { OnlyReads S.X.block32 NoneIsBad (dag_fault result) (S.seen store.old) (S.seen store.new) }
     ensures touches { touches.new + visits.new ≡ touches.old + visits.old }
+    ensures touched { touches.old ≤ touches.new }
 {
     while let Some(next) = due.pop() {
         read_one(alloc, store, &next, due, visits, touches)?;
@@ -95,11 +100,12 @@ fn read_one<S: Store, L: Ledger>(
     visits: &mut u32,
     touches: &mut Steps<L>,
 ) -> Result<(), DagFault>
-    ensures says { IfSome (S.seen store.old).told (λ t. StepsTo (all_end (held_at t) (next.now ∷ due.old) visits.old)
-        (all_end (held_at t) due.new visits.new) result) }
+    ensures says { ByGoodBlocks S.X.block32 (S.seen store.old).told (λ held. StepsTo
+        (all_end held (next.now ∷ due.old) visits.old) (all_end held due.new visits.new) result) }
     ensures reads { OnlyReads S.X.block32 NoneIsBad (dag_fault result) (S.seen store.old) (S.seen store.new) }
     ensures fewer { OnOk result (visits.new < visits.old) }
     ensures touches { touches.new + visits.new ≡ touches.old + visits.old }
+    ensures touched { touches.old ≤ touches.new }
 {
     match next.cid.codec {
         Codec::Raw => enter(store, &next.cid, next.left, visits, touches),
@@ -120,11 +126,12 @@ fn read_whole<S: Store, L: Ledger>(
     visits: &mut u32,
     touches: &mut Steps<L>,
 ) -> Result<(), DagFault>
-    ensures says { next.now.visited ≡ Whole → IfSome (S.seen store.old).told (λ t. StepsTo
-        (all_end (held_at t) (next.now ∷ due.old) visits.old) (all_end (held_at t) due.new visits.new) result) }
+    ensures says { next.now.visited ≡ Whole → ByGoodBlocks S.X.block32 (S.seen store.old).told (λ held.
+        StepsTo (all_end held (next.now ∷ due.old) visits.old) (all_end held due.new visits.new) result) }
     ensures reads { OnlyReads S.X.block32 NoneIsBad (dag_fault result) (S.seen store.old) (S.seen store.new) }
     ensures fewer { OnOk result (visits.new < visits.old) }
     ensures touches { touches.new + visits.new ≡ touches.old + visits.old }
+    ensures touched { touches.old ≤ touches.new }
 {
     let gathered = gather(alloc, store, &next.cid, next.left, visits, touches)?;
     put_gathered(due, gathered, next.left - 1)?;
@@ -140,11 +147,12 @@ fn read_part<S: Store, L: Ledger>(
     visits: &mut u32,
     touches: &mut Steps<L>,
 ) -> Result<(), DagFault>
-    ensures says { next.now.visited ≢ Whole → IfSome (S.seen store.old).told (λ t. StepsTo
-        (all_end (held_at t) (next.now ∷ due.old) visits.old) (all_end (held_at t) due.new visits.new) result) }
+    ensures says { next.now.visited ≢ Whole → ByGoodBlocks S.X.block32 (S.seen store.old).told (λ held.
+        StepsTo (all_end held (next.now ∷ due.old) visits.old) (all_end held due.new visits.new) result) }
     ensures reads { OnlyReads S.X.block32 NoneIsBad (dag_fault result) (S.seen store.old) (S.seen store.new) }
     ensures fewer { OnOk result (visits.new < visits.old) }
     ensures touches { touches.new + visits.new ≡ touches.old + visits.old }
+    ensures touched { touches.old ≤ touches.new }
 {
     let (_, links) = read_node(alloc, store, next, visits, touches)?;
     put_parts(due, links.as_slice(), next.left - 1)?;

@@ -1,9 +1,9 @@
 // One visit.
-ghost use Rattle.std.specs.Prelude.{◌≡◌, ◌≤◌, ◌+◌, IfSome, OnOk};
+ghost use Rattle.std.specs.Prelude.{◌≡◌, ◌≤◌, ◌+◌, OnOk};
 ghost use Rattle.uf_store.specs.Calls.{OnlyReads};
-ghost use Rattle.uf_store.specs.Contents.{held_at};
 ghost use Rattle.uf_store.specs.Faults.{NoneIsBad};
 ghost use Rattle.uf_lenient.specs.Answers.{FollowsReading, dag_fault};
+ghost use Rattle.uf_lenient.specs.Good.{ByGoodBlocks};
 ghost use Rattle.uf_lenient.specs.Reading.{loads, visit_of};
 
 use crate::DagFault;
@@ -22,13 +22,14 @@ pub fn enter<S: Store, L: Ledger>(
     visits: &mut u32,
     touches: &mut Steps<L>,
 ) -> Result<(), DagFault>
-    ensures says { IfSome (S.seen store.old).told (λ t. FollowsReading (λ _. ((S.seen store.new).lent, visits.new))
-        (loads (held_at t) left cid.now visits.old) result) }
+    ensures says { ByGoodBlocks S.X.block32 (S.seen store.old).told (λ held. FollowsReading
+        (λ _. ((S.seen store.new).lent, visits.new)) (loads held left cid.now visits.old) result) }
     ensures reads { OnlyReads S.X.block32 NoneIsBad (dag_fault result) (S.seen store.old) (S.seen store.new) }
     ensures depth { OnOk result (1 ≤ left) }
     ensures fewer { OnOk result (visits.new + 1 ≡ visits.old) }
     ensures most { visits.old ≤ visits.new + 1 }
     ensures touches { touches.new + visits.new ≡ touches.old + visits.old }
+    ensures touched { touches.old ≤ touches.new }
 {
     if left == 0 {
         return Err(DagFault::TooDeep(*cid));
@@ -50,13 +51,14 @@ pub fn visit<S: Store, L: Ledger>(
     visits: &mut u32,
     touches: &mut Steps<L>,
 ) -> Result<Unixfs, DagFault>
-    ensures says { IfSome (S.seen store.old).told (λ t. FollowsReading (λ u. (u, visits.new))
-        (visit_of (held_at t) left cid.now visits.old) result) }
+    ensures says { ByGoodBlocks S.X.block32 (S.seen store.old).told (λ held. FollowsReading (λ u. (u, visits.new))
+        (visit_of held left cid.now visits.old) result) }
     ensures reads { OnlyReads S.X.block32 NoneIsBad (dag_fault result) (S.seen store.old) (S.seen store.new) }
     ensures depth { OnOk result (1 ≤ left) }
     ensures fewer { OnOk result (visits.new + 1 ≡ visits.old) }
     ensures most { visits.old ≤ visits.new + 1 }
     ensures touches { touches.new + visits.new ≡ touches.old + visits.old }
+    ensures touched { touches.old ≤ touches.new }
 {
     enter(store, cid, left, visits, touches)?;
     read_unixfs(alloc, cid, store.block())

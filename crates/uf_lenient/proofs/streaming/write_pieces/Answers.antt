@@ -26,5 +26,6 @@ loop-piece-preserved g c =
       sink = c.in-Done.ensures.counts.still refl ∙ c.loop-piece.invariant.sink;
       calm = StaysCalm-trans _ _ _ c.loop-piece.invariant.calm c.in_ok-piece.ensures.cause;
       told = c.in_ok-piece.ensures.told ∙ c.loop-piece.invariant.told;
+      touched = omega (arith, c.loop-piece.invariant.touched, c.in_ok-piece.ensures.touched);
       touches = omega (arith, c.loop-piece.invariant.touches, c.in_ok-piece.ensures.touches, fewer);
     }

@@ -9,6 +9,7 @@ invariant-loop-piece g l = record {
   sink : g.O.Sink.faults l.out ≡ g.O.Sink.faults l.initial.out;
   calm : StaysCalm (g.S.Store.seen l.initial.store) (g.S.Store.seen l.store);
   told : (g.S.Store.seen l.store).told ≡ (g.S.Store.seen l.initial.store).told;
+  touched : l.initial.touches ≤ l.touches;
   touches : l.touches + l.pieces.1 ≤ l.initial.touches + l.initial.pieces.1;
 }
 
