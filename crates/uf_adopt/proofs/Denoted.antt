@@ -1,22 +1,26 @@
 -- What is adopted of what a CID denotes.
-use Rattle.std.proofs.Common.{◌≡◌, inl, inr, ℕ, ◌+◌, List, subst, sym, ◌∙◌, Result, Ok, Err}
-use Rattle.std.specs.Prelude.{IfSome, Some, None}
+use Rattle.std.proofs.Common.{◌≡◌, inl, inr, ℕ, ◌+◌, List, [], ◌∷◌, subst, sym, Result, Ok, Err}
+use Rattle.std.specs.Prelude.{Some, None}
 use Rattle.uf_cid.specs.Blocks.{Lookup}
 use Rattle.uf_cid.specs.declared.cid.Cid.{Cid}
 use Rattle.uf_store.specs.Contents.{Contents, Told, held_at}
-use Rattle.uf_tree.specs.Tree.{Tree}
+use Rattle.uf_tree.specs.Tree.{Dir, Entries, File, Nothing, Tree, With}
 use Rattle.uf_tree.specs.declared.nodes.Entry.{Entry}
 use Rattle.uf_tree.specs.declared.profile.Profile.{Profile}
 use Rattle.uf_lenient.specs.Answers.{IsFault}
 use Rattle.uf_lenient.specs.Reading.{denotes}
-use Rattle.uf_lenient.specs.Within.{good_blocks}
+use Rattle.uf_lenient.specs.Good.{ByGoodBlocks}
+use Rattle.uf_lenient.specs.Within.{AnswersSame, HoldsAllOf, good_blocks}
 use Rattle.uf_lenient.specs.declared.fault.DagFault.{DagFault}
 use Rattle.uf_lenient.specs.declared.fault.DagFault.TheVariants as dag
 use Rattle.uf_lenient.specs.declared.shapes.Limits.{Limits}
-use Rattle.uf_lenient.proofs.Good.{good-is}
+use Rattle.uf_lenient.proofs.Good.{good-has, good-is}
+use Rattle.uf_lenient.proofs.Greater.{shape-stays, tree-stays}
 use Rattle.uf_lenient.specs.Steps.{Surveys}
 use Rattle.uf_lenient.specs.declared.shapes.Shape.{Shape}
-use Rattle.uf_adopt.specs.Adopting.{Adopts, BuildsTree, IsOfGoodBlocks}
+use Rattle.uf_lenient.specs.declared.shapes.Shape.TheVariants.{Folder as FolderShape}
+use Rattle.uf_lenient.specs.Reading.{shallow_of}
+use Rattle.uf_adopt.specs.Adopting.{Adopts, BuildsTree, IsFirstAmong, IsFirstTooLong}
 use Rattle.uf_lenient.specs.Denoted.{denotes_within}
 use Rattle.uf_adopt.specs.Faults.{of_reading}
 use Rattle.uf_adopt.specs.Feeding.{HoldsGoodMap}
@@ -45,18 +49,61 @@ module _ (X : List ℕ → List ℕ) (N : List ℕ → ℕ) (p : Profile) (held 
   is-denoted t (Err (Dag fault)) is h = absurd h
 
 module _ (X : List ℕ → List ℕ) (N : List ℕ → ℕ) (p : Profile) (limits : Limits) where
-  pub says-fault : (told now : Told) (c : Cid) (fault : DagFault) → IfSome told (λ t. Surveys (held_at t) limits c (Err fault)) → IfSome told (λ t. IsOfGoodBlocks X (held_at t) limits c → Adopts X N p (good_blocks X (held_at t)) limits now c (Err (of_reading fault)))
+  pub says-fault : (told now : Told) (c : Cid) (fault : DagFault)
+      → ByGoodBlocks X told (λ held. Surveys held limits c (Err fault))
+      → ByGoodBlocks X told (λ held. Adopts X N p held limits now c (Err (of_reading fault)))
   says-fault None now c fault says = tt
-  says-fault (Some t) now c fault says = λ same. not-denoted X N p (good_blocks X (held_at t)) limits now c fault (subst (λ r. IsFault r fault) (sym same) says)
+  says-fault (Some t) now c fault says = λ good has. not-denoted X N p good limits now c fault (says good has)
 
   -- a CID denotes so much with so much room
   pub with-room : (held : Lookup) (c : Cid) (t : Tree) (room : ℕ) → room ≡ limits.depth + 1 → denotes held limits c ≡ Ok t → denotes_within held limits room c ≡ Ok t
   with-room held c t room is denoted = subst (λ n. denotes_within held limits n c ≡ Ok t) (sym is) denoted
 
-  pub says-denoted : (told read now : Told) (c : Cid) (shape : Shape) (r : Result Entry AdoptFault) → read ≡ told → IfSome told (λ t. Surveys (held_at t) limits c (Ok shape))
-      → ((held : Lookup) (t : Tree) → HoldsGoodMap X held read → denotes held limits c ≡ Ok t → BuildsTree X N p held limits now c t r) → IfSome told (λ t. IsOfGoodBlocks X (held_at t) limits c → Adopts X N p (good_blocks X (held_at t)) limits now c r)
+  -- ---- what is built of a map is built of each greater one
+
+  module _ (held more : Lookup) (all : HoldsAllOf held more) where
+    shape_there : (c : Cid) (shape : Shape) → shallow_of held limits c ≡ Ok shape → shallow_of more limits c ≡ Ok shape
+    shape_there c shape is = subst (λ r. AnswersSame more r (shallow_of more limits c)) is (shape-stays held more all limits c)
+
+    mutual
+      unfolding IsFirstTooLong
+
+      long_there : (t : Tree) (c node : Cid) → IsFirstTooLong X N p held limits t c node
+          → IsFirstTooLong X N p more limits t c node
+      long_there (File bytes) c node h = h
+      long_there (Dir es) c node h = (h.0, shape_there c (FolderShape h.0) h.1, among_there es h.0 node h.2)
+
+      among_there : (es : Entries) (ways : List (List ℕ × Cid)) (node : Cid)
+          → IsFirstAmong X N p held limits es ways node → IsFirstAmong X N p more limits es ways node
+      among_there Nothing ways node h = absurd h
+      among_there (With name t es) [] node h = absurd h
+      among_there (With name t es) (w ∷ ways) node (inl h) = inl (long_there t w.1 node h)
+      among_there (With name t es) (w ∷ ways) node (inr h) = inr (h.0, among_there es ways node h.1)
+
+    builds_there : (now : Told) (c : Cid) (t : Tree) (r : Result Entry AdoptFault)
+        → BuildsTree X N p held limits now c t r → BuildsTree X N p more limits now c t r
+    builds_there now c t (Ok e) h = h
+    builds_there now c t (Err (FileTooLong node)) h = (h.0, long_there t c node h.1)
+    builds_there now c t (Err (Collision x y)) h = h
+    builds_there now c t (Err TooBig) h = h
+    builds_there now c t (Err (Store fault)) h = h
+    builds_there now c t (Err (Dag fault)) h = absurd h
+
+    adopts_there : (now : Told) (c : Cid) (t : Tree) (r : Result Entry AdoptFault) → denotes held limits c ≡ Ok t
+        → BuildsTree X N p held limits now c t r → Adopts X N p more limits now c r
+    adopts_there now c t r denoted builds =
+        is-denoted X N p more limits now c t r
+        (subst (λ r. AnswersSame more r (denotes more limits c)) denoted (tree-stays held more all limits c))
+        (builds_there now c t r builds)
+
+  pub says-denoted : (told read now : Told) (c : Cid) (shape : Shape) (r : Result Entry AdoptFault) → read ≡ told
+      → ByGoodBlocks X told (λ held. Surveys held limits c (Ok shape))
+      → ((held : Lookup) (t : Tree) → HoldsGoodMap X held read → denotes held limits c ≡ Ok t
+      → BuildsTree X N p held limits now c t r) → ByGoodBlocks X told (λ held. Adopts X N p held limits now c r)
   says-denoted None read now c shape r told_same says builds = tt
-  says-denoted (Some t) read now c shape r told_same says builds = λ same.
-      let denoted = same ∙ says.denoted in
-      is-denoted X N p (good_blocks X (held_at t)) limits now c says.tree r denoted
-      (builds (good_blocks X (held_at t)) says.tree (subst (HoldsGoodMap X (good_blocks X (held_at t))) (sym told_same) (good-map X t)) denoted)
+  says-denoted (Some t) read now c shape r told_same says builds = λ good has.
+      let own = good_blocks X (held_at t) in
+      let said = says own (good-has X (held_at t)) in
+      let all : HoldsAllOf own good = λ c block is. let both = (good-is X (held_at t) c block).0 is in has.holds c block both.0 both.1 in
+      adopts_there own good all now c said.tree r said.denoted
+      (builds own said.tree (subst (HoldsGoodMap X own) (sym told_same) (good-map X t)) said.denoted)

@@ -17,18 +17,12 @@ use Rattle.uf_tree.specs.TreePlan.{FileTooLong as IsTooLong, Collision as Collid
 use Rattle.uf_tree.specs.declared.nodes.Entry.{Entry}
 use Rattle.uf_tree.specs.declared.profile.Profile.{Profile}
 use Rattle.uf_lenient.specs.Reading.{denotes, shallow_of}
-use Rattle.uf_lenient.specs.Within.{good_blocks}
-use Rattle.uf_lenient.specs.declared.fault.DagFault.{DagFault}
 use Rattle.uf_lenient.specs.declared.fault.DagFault.TheVariants as dag
 use Rattle.uf_lenient.specs.declared.shapes.Limits.{Limits}
 use Rattle.uf_lenient.specs.declared.shapes.Shape.TheVariants.{Folder as FolderShape}
 use Rattle.uf_adopt.specs.Faults.{IsStoreFailing}
 use Rattle.uf_adopt.specs.declared.fault.AdoptFault.{AdoptFault}
 use Rattle.uf_adopt.specs.declared.fault.AdoptFault.TheVariants.{Dag, FileTooLong, Collision, TooBig, Store}
-
--- what a CID denotes, value or fault, is read of good blocks alone, each of which has its CID's digest
-abbrev pub IsOfGoodBlocks : (List ℕ → List ℕ) → Lookup → Limits → Cid → Type 0
-IsOfGoodBlocks hash held limits c = denotes (good_blocks hash held) limits c ≡ denotes held limits c
 
 module _ (X : List ℕ → List ℕ) (N : List ℕ → ℕ) (p : Profile) where
   -- the plans of a directory's members

@@ -27,6 +27,10 @@ HoldsGoodMap hash held (Some t) = (c : Cid) (block : List ℕ) → held c ≡ So
     → (held_at t c ≡ Some block) × (hash block ≡ c.digest)
 
 module _ (hash : List ℕ → List ℕ) where
+  -- a builder was fed some bytes
+  abbrev pub WasFed : Building → Type 0
+  WasFed b = (bytes : List ℕ) × HasFed hash bytes b
+
   -- a builder that has not given up was fed these bytes, no more than a file may have, and holds what it saved of them
   pub record HasFront (told : Told) (bytes : List ℕ) (b : Building) : Type 0 where
     pub fed : HasFed hash bytes b

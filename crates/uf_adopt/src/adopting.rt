@@ -1,15 +1,14 @@
 // What a CID denotes adopted.
-ghost use Rattle.std.specs.Prelude.{◌≡◌, IfSome, IsTrue, Ok};
+ghost use Rattle.std.specs.Prelude.{◌≡◌, ◌≤◌, IsTrue, Ok, OnOk};
 ghost use Rattle.uf_cid.specs.Blocks.{Lookup};
+ghost use Rattle.uf_lenient.specs.Good.{ByGoodBlocks};
 ghost use Rattle.uf_lenient.specs.Reading.{denotes};
-ghost use Rattle.uf_lenient.specs.Within.{good_blocks};
-ghost use Rattle.uf_store.specs.Contents.{held_at};
 ghost use Rattle.uf_store.specs.Faults.{NoneIsBad, Shown};
 ghost use Rattle.uf_store.specs.Keeping.{KeepsGood};
 ghost use Rattle.uf_store.specs.Writing.{SavesOnly};
 ghost use Rattle.uf_tree.specs.Profiles.{is_profile};
 ghost use Rattle.uf_tree.specs.Tree.{Tree};
-ghost use Rattle.uf_adopt.specs.Adopting.{Adopts, BuildsTree, IsOfGoodBlocks};
+ghost use Rattle.uf_adopt.specs.Adopting.{Adopts, BuildsTree};
 ghost use Rattle.uf_adopt.specs.Feeding.{HoldsGoodMap};
 ghost use Rattle.uf_adopt.specs.Faults.{TellsStoreApart, adopt_fault};
 
@@ -25,7 +24,8 @@ use uf_tree::{Entry, Profile};
 
 /// Builds what a CID denotes by a profile, and answers its entry. All of it is read first, so that nothing is saved of
 /// what denotes no tree. Then the files and directories are built in byte order of their names, each directory after
-/// its members. Depth and visits are counted anew in each call.
+/// its members. Depth and visits are counted anew in each call. A held block that hasn't its CID's digest is never read:
+/// what it denotes makes no difference.
 pub fn adopt<S: Store, N: NameHash, L: Ledger>(
     alloc: Global,
     store: &mut S,
@@ -35,13 +35,13 @@ pub fn adopt<S: Store, N: NameHash, L: Ledger>(
     touches: &mut Steps<L>,
 ) -> Result<Entry, AdoptFault>
     requires profile { IsTrue (is_profile p.now) }
-    ensures says { IfSome (S.seen store.old).told (λ t. IsOfGoodBlocks S.X.block32 (held_at t) limits.now cid.now
-        → Adopts S.X.block32 N.name64 p.now (good_blocks S.X.block32 (held_at t)) limits.now (S.seen store.new).told
-        cid.now result) }
+    ensures says { ByGoodBlocks S.X.block32 (S.seen store.old).told (λ held. Adopts S.X.block32 N.name64 p.now held
+        limits.now (S.seen store.new).told cid.now result) }
     ensures apart { TellsStoreApart result }
     ensures cause { Shown S.X.block32 NoneIsBad (adopt_fault result) (S.seen store.old) (S.seen store.new) }
     ensures good { KeepsGood S.X.block32 (S.seen store.old).told (S.seen store.new).told }
     ensures saves { SavesOnly S.X.block32 (S.seen store.old).told (S.seen store.new).told }
+    ensures touched { OnOk result (touches.old ≤ touches.new) }
 {
     survey(alloc, store, cid, limits, touches)?;
     adopt_surveyed::<S, N, L>(alloc, store, p, cid, limits, touches)
@@ -64,6 +64,7 @@ pub fn adopt_surveyed<S: Store, N: NameHash, L: Ledger>(
     ensures cause { Shown S.X.block32 NoneIsBad (adopt_fault result) (S.seen store.old) (S.seen store.new) }
     ensures good { KeepsGood S.X.block32 (S.seen store.old).told (S.seen store.new).told }
     ensures saves { SavesOnly S.X.block32 (S.seen store.old).told (S.seen store.new).told }
+    ensures touched { OnOk result (touches.old ≤ touches.new) }
 {
     let room = u64::from(limits.depth) + 1;
     adopt_within::<S, N, L>(alloc, store, p, cid, limits, room, touches)

@@ -1,5 +1,6 @@
 // One file adopted.
-ghost use Rattle.std.specs.Prelude.{◌≡◌, List, ℕ, [], false, IsTrue, Ok, OnOk};
+ghost use Rattle.std.specs.Prelude.{◌≡◌, ◌≤◌, ◌+◌, List, ℕ, [], false, IsTrue, Ok, OnOk};
+ghost use Rattle.uf_build.specs.Building.{saved_by};
 ghost use Rattle.uf_cid.specs.Blocks.{Lookup};
 ghost use Rattle.uf_cid.specs.declared.cid.Cid.{Cid as TheCid};
 ghost use Rattle.uf_lenient.specs.declared.shapes.Limits.{Limits as TheLimits};
@@ -7,7 +8,7 @@ ghost use Rattle.uf_lenient.specs.Reading.{file_of};
 ghost use Rattle.uf_lenient.specs.Steps.{start_of};
 ghost use Rattle.uf_tree.specs.Profiles.{is_profile};
 ghost use Rattle.uf_adopt.specs.Faults.{OnlyAdopts};
-ghost use Rattle.uf_adopt.specs.Feeding.{AdoptsFile, FeedsAll, FeedsOne, HasFront, HoldsGoodMap};
+ghost use Rattle.uf_adopt.specs.Feeding.{AdoptsFile, FeedsAll, FeedsOne, HasFront, HoldsGoodMap, WasFed};
 
 use crate::AdoptFault;
 use std::alloc::Global;
@@ -32,6 +33,7 @@ pub fn adopt_file<S: Store, L: Ledger>(
         → file_of held limits.now cid.now ≡ Ok bytes
         → AdoptsFile S.X.block32 p.now cid.now bytes (S.seen store.new).told result }
     ensures adopts { OnlyAdopts S.X.block32 result (S.seen store.old) (S.seen store.new) }
+    ensures touched { OnOk result (touches.old ≤ touches.new) }
 {
     let mut builder = Builder::new(alloc, *p);
     let mut pieces = Pieces::new(alloc, cid, limits)?;
@@ -54,7 +56,9 @@ fn feed_all<S: Store, L: Ledger>(
         → FeedsAll S.X.block32 cid.now bytes (S.seen store.new).told builder.new result }
     ensures profile { builder.new.profile ≡ builder.old.profile }
     ensures not_spent { OnOk result (builder.new.is_spent ≡ false) }
+    ensures fed { OnOk result (WasFed S.X.block32 builder.old → WasFed S.X.block32 builder.new) }
     ensures adopts { OnlyAdopts S.X.block32 result (S.seen store.old) (S.seen store.new) }
+    ensures touched { OnOk result (touches.old + saved_by builder.new ≤ touches.new + saved_by builder.old) }
 {
     while let Some(piece) = pieces.next(store, touches)? {
         feed_one(store, cid, builder, piece.as_slice(), touches)?;
@@ -75,7 +79,9 @@ fn feed_one<S: Store, L: Ledger>(
         builder.old builder.new result }
     ensures profile { builder.new.profile ≡ builder.old.profile }
     ensures not_spent { OnOk result (builder.new.is_spent ≡ false) }
+    ensures fed { OnOk result (WasFed S.X.block32 builder.old → WasFed S.X.block32 builder.new) }
     ensures adopts { OnlyAdopts S.X.block32 result (S.seen store.old) (S.seen store.new) }
+    ensures touches { OnOk result (touches.new + saved_by builder.old ≡ touches.old + saved_by builder.new) }
 {
     slices_hold_bytes(piece);
     match builder.feed(store, piece, touches) {
@@ -96,6 +102,7 @@ fn close<S: Store, L: Ledger>(
     ensures file { (c : TheCid) (bytes : List ℕ) → HasFront S.X.block32 (S.seen store.old).told bytes builder
         → AdoptsFile S.X.block32 builder.profile c bytes (S.seen store.new).told result }
     ensures adopts { OnlyAdopts S.X.block32 result (S.seen store.old) (S.seen store.new) }
+    ensures touched { OnOk result (WasFed S.X.block32 builder → touches.old ≤ touches.new + saved_by builder) }
 {
     match builder.finish(store, touches) {
         Ok(entry) => Ok(entry),

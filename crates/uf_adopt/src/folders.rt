@@ -1,5 +1,5 @@
 // Trees adopted, files and directories.
-ghost use Rattle.std.specs.Prelude.{◌≡◌, ℕ, List, IfOk, IsTrue, Ok};
+ghost use Rattle.std.specs.Prelude.{◌≡◌, ◌≤◌, ℕ, List, IfOk, IsTrue, Ok, OnOk};
 ghost use Rattle.std.specs.FinMap.Entries.{is_sorted};
 ghost use Rattle.uf_cid.specs.Blocks.{Lookup};
 ghost use Rattle.uf_tree.specs.Names.{names_cmp};
@@ -37,6 +37,7 @@ pub fn adopt_within<S: Store, N: NameHash, L: Ledger>(
         → denotes_within held limits.now room cid.now ≡ Ok t
         → BuildsTree S.X.block32 N.name64 p.now held limits.now (S.seen store.new).told cid.now t result }
     ensures adopts { OnlyAdopts S.X.block32 result (S.seen store.old) (S.seen store.new) }
+    ensures touched { OnOk result (touches.old ≤ touches.new) }
 {
     if room == 0 {
         return Err(AdoptFault::Dag(DagFault::TooDeep(*cid)));
@@ -68,6 +69,7 @@ fn adopt_each<S: Store, N: NameHash, L: Ledger>(
         → BuildsEach S.X.block32 N.name64 p.now held limits.now (S.seen store.new).told ways.now es result }
     ensures directory { IsTrue (is_sorted names_cmp ways.now) → IfOk result IsDirectory }
     ensures adopts { OnlyAdopts S.X.block32 result (S.seen store.old) (S.seen store.new) }
+    ensures touched { OnOk result (touches.old ≤ touches.new) }
 {
     let mut pairs = Pairs::new(alloc);
     for way in ways {

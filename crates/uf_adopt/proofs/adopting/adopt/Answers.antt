@@ -5,9 +5,9 @@ use Rattle.uf_adopt.proofs.adopting.adopt.Goals as goal
 pub returns-in_err-survey-clause-says : goal.returns-in_err-survey-clause-says
 returns-in_err-survey-clause-says g c =
     let out = err_from_is_err_and c.from_residual.result c.from_residual.ensures.1 in
-    rw (out.1, out.2) (says-fault g.S.X.BlockHash.block32 g.N.NameHash.name64 c.args.p.now c.args.limits.now (g.S.Store.seen c.args.store.now).told (g.S.Store.seen c.survey.new.store).told c.args.cid.now c.in_err-survey.field-0.0 c.in_err-survey.ensures.says)
+    rw (out.1, out.2) (says-fault g.S.X.BlockHash.block32 g.N.NameHash.name64 c.args.p.now c.args.limits.now (g.S.Store.seen c.args.store.now).told (g.S.Store.seen c.survey.new.store).told c.args.cid.now c.in_err-survey.field-0.0 c.in_err-survey.ensures.good)
 
 pub returns-clause-says : goal.returns-clause-says
 returns-clause-says g c =
-    says-denoted g.S.X.BlockHash.block32 g.N.NameHash.name64 c.args.p.now c.args.limits.now (g.S.Store.seen c.args.store.now).told (g.S.Store.seen c.survey.new.store).told (g.S.Store.seen c.adopt_surveyed.new.store).told c.args.cid.now _ c.adopt_surveyed.result c.in_ok-survey.ensures.told c.in_ok-survey.ensures.says
+    says-denoted g.S.X.BlockHash.block32 g.N.NameHash.name64 c.args.p.now c.args.limits.now (g.S.Store.seen c.args.store.now).told (g.S.Store.seen c.survey.new.store).told (g.S.Store.seen c.adopt_surveyed.new.store).told c.args.cid.now _ c.adopt_surveyed.result c.in_ok-survey.ensures.told c.in_ok-survey.ensures.good
     c.adopt_surveyed.ensures.builds

@@ -1,4 +1,4 @@
-use Rattle.std.proofs.Common.{◌≡◌, List, ℕ, Err, Ok, None, rules, subst, ◌∙◌}
+use Rattle.std.proofs.Common.{◌≡◌, List, ℕ, Err, Ok, None, arith, rules, subst, ◌∙◌}
 use Rattle.std.specs.Prelude.{IfSome, Option}
 use Rattle.std.proofs.lemmas.Result.{err_from_is_err_and}
 use Rattle.uf_store.specs.Calls.{OnlyReads}
@@ -27,6 +27,8 @@ loop-piece-preserved g c =
           (subst (λ (l : List ℕ). FeedsOne X c.args.cid.now l next now c.loop-piece.builder c.feed_one.new.builder (Ok tt)) c.as_slice.ensures c.in_ok-feed_one.ensures.feeds);
       profile = c.feed_one.ensures.profile ∙ c.loop-piece.invariant.profile;
       not_spent = c.in_ok-feed_one.ensures.not_spent;
+      fed = λ was. c.in_ok-feed_one.ensures.fed (c.loop-piece.invariant.fed was);
+      touched = omega (arith, c.loop-piece.invariant.touched, c.in_ok-piece.ensures.touched, c.in_ok-feed_one.ensures.touches);
       saves = saves-saves c.loop-piece.invariant.saves (saves-saves (reads-saves reads) c.in_ok-feed_one.ensures.adopts.saves);
     }
 

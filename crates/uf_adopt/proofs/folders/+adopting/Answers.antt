@@ -31,6 +31,7 @@ adopt_each-loop-way-init g t c = record {
       (went-none g.S.X.BlockHash.block32 g.N.NameHash.name64 c.args.p.now held c.args.limits.now c.args.room c.args.ways.now es (g.S.Store.seen c.args.store.now).told denoted);
   names = ap (λ (l : List Named). names_of l ++ names_of c.args.ways.now) c.new-pairs.ensures;
   named = subst (AllByRecursion IsNamed) (sym c.new-pairs.ensures) tt;
+  touched = omega arith;
   saves = saves-none (g.S.Store.seen c.args.store.now);
 }
 
@@ -86,6 +87,7 @@ adopt_each-loop-way-preserved g t c =
           (went-more X N p held c.args.limits.now c.args.room c.args.ways.now es told now w left c.loop-way.pairs c.in_ok-entry.entry n c.in_ok-entry.ensures.adopts.saves.good named.name built);
       names = subst (λ (l : List Named). names_of l ++ names_of left ≡ names_of c.args.ways.now) (sym list) (names-more c.args.ways.now c.loop-way.way-index w c.loop-way.pairs c.in_ok-entry.entry c.loop-way-test.true c.way-item.is c.loop-way.invariant.names);
       named = subst (AllByRecursion IsNamed) (sym list) (all-named c.loop-way.pairs (w.0, c.in_ok-entry.entry) c.loop-way.invariant.named named);
+      touched = omega (arith, c.loop-way.invariant.touched, c.in_ok-entry.ensures.touched);
       saves = saves-saves c.loop-way.invariant.saves c.in_ok-entry.ensures.adopts.saves;
     }
 

@@ -1,4 +1,4 @@
-use Rattle.std.proofs.Common.{◌≡◌, ◌+◌, ◌*◌, ◌++◌, drop, None}
+use Rattle.std.proofs.Common.{◌≡◌, ◌≤◌, ◌+◌, ◌*◌, ◌++◌, drop, None}
 use Rattle.std.specs.List.{AllByRecursion}
 use Rattle.uf_cid.specs.Blocks.{Lookup}
 use Rattle.uf_store.specs.Calls.{OnlySaves}
@@ -22,5 +22,6 @@ invariant-adopt_each-loop-way g l = record {
       → Went g.S.X.BlockHash.block32 g.N.NameHash.name64 l.p held l.limits l.room (g.S.Store.seen l.store).told l.ways es (drop l.way-index l.ways) l.pairs;
   names : names_of l.pairs ++ names_of (drop l.way-index l.ways) ≡ names_of l.ways;
   named : AllByRecursion IsNamed l.pairs;
+  touched : l.initial.touches ≤ l.touches;
   saves : OnlySaves g.S.X.BlockHash.block32 NoneIsBad None (g.S.Store.seen l.initial.store) (g.S.Store.seen l.store);
 }
