@@ -1,13 +1,14 @@
 -- A copy from a DAG into the tree that the Head names, from its opening to its commit.
-use Rattle.std.proofs.Common.{◌≡◌, ◌≢◌, ◌⊎◌, ℕ, ◌+◌, ◌≤◌, List, [], ◌++◌, arith, true, false, refl, sym, ap, subst, ◌∙◌, inl, inr, Option, Some, None, Result, Ok, Err}
-use Rattle.std.specs.Prelude.{IfErr, IfSome, ⊤}
-use Rattle.uf_cid.specs.Blocks.{Held, Lookup}
+use Rattle.std.proofs.Common.{◌≡◌, ◌≢◌, ◌⊎◌, ℕ, ◌≤◌, List, [], ◌++◌, arith, true, false, refl, sym, ap, subst, ◌∙◌, inl, inr, Some, None, Result, Ok, Err}
+use Rattle.std.specs.Prelude.{⊤}
+use Rattle.uf_cid.specs.Blocks.{Lookup}
 use Rattle.uf_edge.specs.Counts.{Counts, Stood}
 use Rattle.uf_edge.specs.Streams as streams
 use Rattle.uf_mfs.specs.Answers.{ShownInTree, ShownOpening}
 use Rattle.uf_mfs.specs.Bad.{IsBadInHead, IsBadInTree}
-use Rattle.uf_mfs.specs.Standing.{Commits, IsWanting, LeavesHead, NamesOver, Opens, OpensOver, ReadsHead, Same, StandsAfter, StandsAt, StandsOver, TellsAs, TellsHeld, head_in}
-use Rattle.uf_mfs.specs.Steps.{IsFolderOver}
+use Rattle.uf_mfs.specs.Standing.{Commits, IsWanting, LeavesHead, NamesOver, Opens, OpensOver, ReadsHead, Same, StandsAfter, StandsOver, TellsAs, TellsHeld, head_in}
+use Rattle.uf_mfs.specs.Steps.{IsFolderOver, tree_fault}
+use Rattle.uf_mfs.specs.Touches.{CountsUp}
 use Rattle.uf_mfs.specs.declared.fault.MfsFault.{MfsFault}
 use Rattle.uf_mfs.specs.declared.fault.MfsFault.TheVariants as mfs
 use Rattle.uf_mfs.specs.declared.mfs.Mfs.{Mfs}
@@ -20,9 +21,7 @@ use Rattle.uf_store.specs.Calls.{Calm, OnlySaves}
 use Rattle.uf_store.specs.Contents.{Told}
 use Rattle.uf_store.specs.Faults.{NoneIsBad, Shown, StaysCalm}
 use Rattle.uf_store.specs.Keeping.{KeepsGood}
-use Rattle.uf_store.specs.Lost.{IsLossOf}
 use Rattle.uf_store.specs.Seen.{Seen}
-use Rattle.uf_store.specs.declared.store.Role.{Role}
 use Rattle.uf_store.specs.declared.store.StoreFault.{StoreFault}
 use Rattle.uf_store.specs.declared.store.StoreFault.TheVariants as fault
 use Rattle.uf_store.proofs.Calls.{shown-after, shown-by, shown-rises, stood-back, stood-front}
@@ -34,10 +33,10 @@ use Rattle.uf_tree.specs.Standing.{Standing, NoHead, BadHead, Stands}
 use Rattle.uf_tree.specs.Tree.{Dir, Entries}
 use Rattle.uf_tree.specs.TreePlan.{blocks}
 use Rattle.uf_tree.specs.declared.profile.Profile.{Profile}
-use Rattle.uf_reply.specs.Commands.{MovesHead, WriteShape}
-use Rattle.uf_reply.specs.Kinds.{AdoptsDag, IsOf, OfWrite, RefusalKind, fault_behind, may_answer, may_end, refusal_fault, refusal_kind}
-use Rattle.uf_top.specs.Reply.{Outside, Reply, World, adopt_reply, adopted, grown, in_tree, in_world, moved, outside_of, reply, world_of}
-use Rattle.uf_reply.specs.Statuses.{ended, no_memory, status_of}
+use Rattle.uf_reply.specs.Commands.{MovesHead}
+use Rattle.uf_reply.specs.Kinds.{AdoptsDag, OfWrite, fault_behind, may_end, refusal_fault, refusal_kind}
+use Rattle.uf_top.specs.Reply.{Outside, World, adopt_reply, adopted, grown, in_world, moved, outside_of, reply, world_of}
+use Rattle.uf_reply.specs.Statuses.{status_of}
 use Rattle.uf_reply.specs.declared.status.Status.TheVariants as status
 use Rattle.uf_reply.specs.declared.types.Ask.TheVariants.{Ls}
 use Rattle.uf_reply.specs.declared.types.Command.TheVariants.{Adopt, At}
@@ -45,18 +44,18 @@ use Rattle.uf_reply.specs.declared.types.Refusal.{Refusal}
 use Rattle.uf_reply.specs.declared.types.Refusal.TheVariants as refusal
 use Rattle.uf_top.specs.Answering.{Answers, DoesAnswer}
 use Rattle.uf_top.specs.Around.{HostSide, RisesFor, around}
-use Rattle.uf_top.specs.Causes.{IsBadIn, IsReady, IsReadyBy, RefusesInTree, RefusesOpening, is_read, is_write}
-use Rattle.uf_top.specs.Endings.{EndsBy, PrintsAt, PrintsPart, RuleOf}
-use Rattle.uf_top.specs.Grafts.{GraftsIn, IsLostBy, IsOkFor, PutsTree, graft_kinds}
+use Rattle.uf_top.specs.Causes.{IsBadIn, IsReadyBy, RefusesInTree, RefusesOpening, is_read}
+use Rattle.uf_top.specs.Endings.{EndsBy, RuleOf}
+use Rattle.uf_top.specs.Grafts.{GraftsIn, IsLostBy, PutsTree, TouchesUp, graft_kinds}
 use Rattle.uf_top.specs.Losing.{AnswersOver, DoesOver}
-use Rattle.uf_top.specs.Naming.{AreGoodBlocks, NamesAfter, StandsNamed, StaysNamed, TellsBlocks}
-use Rattle.uf_top.specs.Shapes.{WritesAs, is_done, is_ok}
+use Rattle.uf_top.specs.Naming.{NamesAfter, StandsNamed, StaysNamed, TellsBlocks}
+use Rattle.uf_top.specs.Shapes.{WritesAs}
 use Rattle.uf_top.specs.Working.{Does}
 use Rattle.uf_top.proofs.Putting.{ok-value}
 use Rattle.uf_top.proofs.InTree.{not-opened, opening-ready, tree-wants}
-use Rattle.uf_top.proofs.Losing.{move-over, named-before, named-of, named-between, named-from, names-kept, names-same, opening-over}
+use Rattle.uf_top.proofs.Losing.{move-over, named-of, named-between, named-from, names-kept, names-same, opening-over}
 use Rattle.uf_top.proofs.Printing.{after-nothing, nothing-printed, quiet-of, rises-still}
-use Rattle.uf_top.proofs.Shows.{Shown-opening, Shown-tree, bad-of-head, bad-of-none, counts-still}
+use Rattle.uf_top.proofs.Shows.{Shown-opening, Shown-tree, bad-of-head, bad-of-none, counts-still, opening-touched, tree-touched}
 use Rattle.uf_top.proofs.Standings.{stands-same, tells-none}
 
 -- ---- kinds
@@ -179,20 +178,21 @@ module _ (X : List ℕ → List ℕ) (N : List ℕ → ℕ) (tree new : Mfs) (so
   stopped-over a m p es w refusal.Write given (inl lost) stands = absurd lost
 
   -- it is refused
-  pub graft-refused : (a m : Seen) (why : Refusal) → ((held : Lookup) → TellsBlocks a.told held → AreGoodBlocks X held → PutsTree X N tree new (adopted X N held source dest) (Err why) a m)
-      → OnlySaves X (IsBadInTree X N (Some tree.profile) tree.root.cid) (fault_behind why) a m → graft_kinds (refusal_kind why) ≡ true → GraftsIn X N tree source dest (Err why) a m
-  graft-refused a m why puts saves kind = record {
-    lost = λ p es held given over named tells good calm.
-        stopped-over a.told m.told p es (adopted X N held source dest p es) why given (puts held tells good p es over.profile_is (folder-over a m p es over named calm))
+  pub graft-refused : (a m : Seen) (why : Refusal) → ((held : Lookup) → TellsBlocks a.told held → PutsTree X N tree new (adopted X N held source dest) (Err why) a m)
+      → OnlySaves X (IsBadInTree X N (Some tree.profile) tree.root.cid) (fault_behind why) a m → graft_kinds (refusal_kind why) ≡ true → (t0 t1 : ℕ) → TouchesUp {A = Unit {0}} (Err why) t0 t1 → GraftsIn X N tree source dest (Err why) a m t0 t1
+  graft-refused a m why puts saves kind t0 t1 up = record {
+    lost = λ p es held given over named tells calm.
+        stopped-over a.told m.told p es (adopted X N held source dest p es) why given (puts held tells p es over.profile_is (folder-over a m p es over named calm))
         (names-kept X N a.told m.told p es saves.good (saves-head X a.told m.told saves.saves) named);
     kinds = kind;
     cause = saves.cause;
     good = saves.good;
+    touched = up.risen;
     head = saves-head X a.told m.told saves.saves;
     writes = record { between = m.told; saves = saves.saves; last = Same refl };
   }
 
-  module _ (a m b : Seen) (puts : (held : Lookup) → TellsBlocks a.told held → AreGoodBlocks X held → PutsTree X N tree new (adopted X N held source dest) (Ok tt) a m)
+  module _ (a m b : Seen) (puts : (held : Lookup) → TellsBlocks a.told held → PutsTree X N tree new (adopted X N held source dest) (Ok tt) a m)
       (saves : OnlySaves X (IsBadInTree X N (Some tree.profile) tree.root.cid) None a m) (kept : KeepsGood X m.told b.told) where
     first-calm : m.faults ≤ b.faults → m.clashes ≤ b.clashes → Calm a b → Calm a m
     first-calm faults clashes both = record {
@@ -202,35 +202,37 @@ module _ (X : List ℕ → List ℕ) (N : List ℕ → ℕ) (tree new : Mfs) (so
 
     -- the commit is refused
     pub graft-uncommitted : (f : MfsFault) (w : Refusal) → RefusesInTree f w → (Stood m.faults b.faults → IsWanting f) → LeavesHead m.told b.told → ShownInTree X NoneIsBad {A = Unit {0}} (Err f) m b
-        → GraftsIn X N tree source dest (Err w) a b
-    graft-uncommitted f w is wanting leaves cause =
+        → (t0 t1 t2 : ℕ) → TouchesUp {A = Unit {0}} (Ok tt) t0 t1 → CountsUp (tree_fault {A = Unit {0}} (Err f)) t1 t2 → GraftsIn X N tree source dest (Err w) a b t0 t2
+    graft-uncommitted f w is wanting leaves cause t0 t1 t2 up later_up =
         let shown = Shown-tree (Unit {0}) X NoneIsBad (IsBadInTree X N (Some tree.profile) tree.root.cid) (λ role bytes bad. absurd bad) f w m b is cause in
         let head = leaves-head m.told b.told leaves ∙ saves-head X a.told m.told saves.saves in
         let good = KeepsGood-trans X a.told m.told b.told saves.good kept in
         record {
-          lost = λ p es held given over named tells fine calm.
+          lost = λ p es held given over named tells calm.
               stopped-over a.told b.told p es (adopted X N held source dest p es) w given
               (inl (subst (IsLostBy a.told (blocks X N p (Dir es))) (sym (tree-wants f w is (wanting (stood-back a.faults m.faults b.faults saves.cause.faults calm.faults)))) tt))
               (names-kept X N a.told b.told p es good head named);
           kinds = tree-kind f w is;
           cause = shown-after X (IsBadInTree X N (Some tree.profile) tree.root.cid) (fault_behind w) a m b saves.cause shown;
           good = good;
+          touched = λ blames. let low = up.kept in let more = (tree-touched (Unit {0}) f w t1 t2 is later_up).risen blames in omega (arith, low, more);
           head = head;
           writes = record { between = m.told; saves = saves.saves; last = leaves };
         }
 
     -- it is committed
-    pub graft-committed : (text : List ℕ) → text ≡ head_text new.profile new.root.cid → Commits text m.told b.told → StaysCalm m b → GraftsIn X N tree source dest (Ok tt) a b
-    graft-committed text text_is commits later = record {
-      lost = λ p es held given over named tells fine calm.
+    pub graft-committed : (text : List ℕ) → text ≡ head_text new.profile new.root.cid → Commits text m.told b.told → StaysCalm m b → (t0 t2 : ℕ) → GraftsIn X N tree source dest (Ok tt) a b t0 t2
+    graft-committed text text_is commits later t0 t2 = record {
+      lost = λ p es held given over named tells calm.
           let rises = calm-rises m b later in
           let v = ok-value (λ fs. StandsAfter X N a.told m.told (blocks X N p (Dir es)) new p fs) (adopted X N held source dest p es)
-          (puts held tells fine p es over.profile_is (folder-over a m p es over (named-between X N a.told m.told b.told text p es commits named) (first-calm rises.faults rises.clashes calm))) in
+          (puts held tells p es over.profile_is (folder-over a m p es over (named-between X N a.told m.told b.told text p es commits named) (first-calm rises.faults rises.clashes calm))) in
           subst (λ w. DoesOver X N a.told b.told p es (blocks X N p (Dir es)) (grown X N p es w) (Ok tt) given given) (sym v.1)
           (done p es v.0 given (move-over X N a.told b.told p es (blocks X N p (Dir es)) m.told (Ok v.0) new [] text v.2 refl commits text_is));
       kinds = tt;
       cause = StaysCalm-trans a m b saves.cause later;
       good = KeepsGood-trans X a.told m.told b.told saves.good kept;
+      touched = λ blames. absurd blames;
       head = tt;
       writes = (text, record { between = m.told; saves = saves.saves; last = commits });
     }
@@ -278,14 +280,14 @@ module _ (X : List ℕ → List ℕ) (N : List ℕ → ℕ) where
     -- the tree isn't opened
     pub graft-unopened : (t1 : ℕ) (f : MfsFault) (why : Refusal) → RefusesOpening f why → ((s : Standing) → TellsAs X N a.told s → Stood a.faults m.faults → Opens X N m.told s (Err f))
         → ((p : Profile) (es : Entries) → NamesOver X N a.told p es → Stood a.faults m.faults → OpensOver X N a.told p es (Err f))
-        → ReadsHead a.told (Err f) → ShownOpening X (IsBadInHead X N a.told) {A = Mfs} (Err f) a m → Does X N (Adopt source dest) (Err why) (around a l i h w t0 side) (around m l i h w t1 side)
-    graft-unopened t1 f why is opens lost head cause =
+        → ReadsHead a.told (Err f) → ShownOpening X (IsBadInHead X N a.told) {A = Mfs} (Err f) a m → CountsUp (tree_fault {A = Mfs} (Err f)) t0 t1 → Does X N (Adopt source dest) (Err why) (around a l i h w t0 side) (around m l i h w t1 side)
+    graft-unopened t1 f why is opens lost head cause up =
         let plain = grafting-opening source dest a.told l l i f why is in
         let quiet = quiet-of (λ text. ⊤) false why plain.other in
         record {
           answers = λ world finds input quiet2. answered world
               (not-opened X N world.standing (adopt_reply X N world.held source dest) f why m.told is (opens world.standing finds.stands quiet2.store.faults) (stands-same X N a.told m.told world.standing told finds.stands));
-          lost = λ p es rows held bytes named tells good heights input quiet2. over p es held bytes
+          lost = λ p es rows held bytes named tells heights input quiet2. over p es held bytes
               (opening-over X N a.told m.told p es (blocks X N p (Dir es)) (adopt_reply X N held source dest p es) f why is (lost p es named.names quiet2.store.faults) (names-same X N a.told m.told p es told named));
           prefix = λ world finds input room. nothing-printed (reply X N (Adopt source dest) world).ends h h refl;
           prints = quiet.prints h h refl;
@@ -298,7 +300,7 @@ module _ (X : List ℕ → List ℕ) (N : List ℕ → ℕ) where
           cause = Shown-opening Mfs X (IsBadInHead X N a.told) (IsBadIn X N a.told m.told) (bad-of-none X N a.told m.told) f why a m is cause;
           whole = λ s needs stands quiet2. absurd cc;
           touches = λ p es bytes rows named input heights quiet2. tt;
-          touched = λ own blames. absurd cc;
+          touched = (opening-touched Mfs f why t0 t1 is up).risen;
           leaves = record {
             good = KeepsGood-same X a.told m.told told;
             head = ap head_in told;
@@ -319,20 +321,20 @@ module _ (X : List ℕ → List ℕ) (N : List ℕ → ℕ) where
     -- the tree is opened
     module _ (b : Seen) (tree : Mfs) (opens : (s : Standing) → TellsAs X N a.told s → Stood a.faults m.faults → Opens X N m.told s (Ok tree))
         (lost : (p : Profile) (es : Entries) → NamesOver X N a.told p es → Stood a.faults m.faults → OpensOver X N a.told p es (Ok tree))
-        (head : ReadsHead a.told (Ok tree)) (calm : StaysCalm a m) where
-      module _ (done : Result (Unit {0}) Refusal) (grafts : GraftsIn X N tree source dest done m b) where
+        (head : ReadsHead a.told (Ok tree)) (calm : StaysCalm a m) (t1 t2 : ℕ) (low : t0 ≤ t1) where
+      module _ (done : Result (Unit {0}) Refusal) (grafts : GraftsIn X N tree source dest done m b t1 t2) where
         front : Stood a.faults b.faults → Stood a.faults m.faults
         front stood = stood-front a.faults m.faults b.faults calm.faults (shown-rises X (IsBadInTree X N (Some tree.profile) tree.root.cid) (refusal_fault done) m b grafts.cause).faults stood
 
         back : Calm a b → Calm m b
         back both = record { faults = stood-back a.faults m.faults b.faults calm.faults both.faults; clashes = stood-back a.clashes m.clashes b.clashes calm.clashes both.clashes }
 
-        over-opened : (p : Profile) (es : Entries) (held : Lookup) → StaysNamed X N a.told b.told p es → TellsBlocks a.told held → AreGoodBlocks X held → Calm a b
+        over-opened : (p : Profile) (es : Entries) (held : Lookup) → StaysNamed X N a.told b.told p es → TellsBlocks a.told held → Calm a b
             → DoesOver X N a.told b.told p es (blocks X N p (Dir es)) (adopt_reply X N held source dest p es) done h h
-        over-opened p es held named tells good both =
+        over-opened p es held named tells both =
             let at = lost p es named.names (front both.faults) in
             subst (λ t. DoesOver X N t b.told p es (blocks X N p (Dir es)) (adopt_reply X N held source dest p es) done h h) told
-            (grafts.lost p es held h (subst (λ t. StandsOver X N t tree p es) (sym told) at) (named-from X N a.told m.told b.told p es told named) (subst (λ t. TellsBlocks t held) (sym told) tells) good (back both))
+            (grafts.lost p es held h (subst (λ t. StandsOver X N t tree p es) (sym told) at) (named-from X N a.told m.told b.told p es told named) (subst (λ t. TellsBlocks t held) (sym told) tells) (back both))
 
         more-over : (p : Profile) (es : Entries) (held : Lookup) (bytes : Outside) → DoesOver X N a.told b.told p es (blocks X N p (Dir es)) (adopt_reply X N held source dest p es) done h h
             → DoesOver X N a.told b.told p es (root_of X N p (Dir es) ++ blocks X N p (Dir es)) (reply X N (Adopt source dest) (in_world p es held bytes)) done h h
@@ -342,25 +344,25 @@ module _ (X : List ℕ → List ℕ) (N : List ℕ → ℕ) where
         all_good : KeepsGood X a.told b.told
         all_good = subst (λ t. KeepsGood X t b.told) told grafts.good
 
-        answers-opened : (s : Standing) (held : Lookup) (input : Outside) → TellsAs X N a.told s → TellsBlocks a.told held → AreGoodBlocks X held → Calm a b
+        answers-opened : (s : Standing) (held : Lookup) (input : Outside) → TellsAs X N a.told s → TellsBlocks a.told held → Calm a b
             → DoesAnswer X N (Adopt source dest) (world_of s held input) done h h b.told
-        answers-opened NoHead held input stands tells good both = absurd (opens NoHead stands (front both.faults))
-        answers-opened BadHead held input stands tells good both = absurd (opens BadHead stands (front both.faults))
-        answers-opened (Stands p es) held input stands tells good both =
-            over-answers source dest held input a.told b.told p es done h stands (over-opened p es held (named-of X N a.told b.told p es stands all_good) tells good both)
+        answers-opened NoHead held input stands tells both = absurd (opens NoHead stands (front both.faults))
+        answers-opened BadHead held input stands tells both = absurd (opens BadHead stands (front both.faults))
+        answers-opened (Stands p es) held input stands tells both =
+            over-answers source dest held input a.told b.told p es done h stands (over-opened p es held (named-of X N a.told b.told p es stands all_good) tells both)
 
         shown : Shown X (IsBadIn X N a.told b.told) (refusal_fault done) a b
         shown = shown-after X (IsBadIn X N a.told b.told) (refusal_fault done) a m b calm
             (shown-by X (IsBadInTree X N (Some tree.profile) tree.root.cid) (IsBadIn X N a.told b.told) (refusal_fault done) m b (λ role bytes bad. bad-of-head X N a.told b.told tree head role bytes (inl bad)) grafts.cause)
 
       -- it is refused
-      pub graft-stopped : (t1 : ℕ) (why : Refusal) → GraftsIn X N tree source dest (Err why) m b → Does X N (Adopt source dest) (Err why) (around a l i h w t0 side) (around b l i h w t1 side)
-      graft-stopped t1 why g =
+      pub graft-stopped : (why : Refusal) → GraftsIn X N tree source dest (Err why) m b t1 t2 → Does X N (Adopt source dest) (Err why) (around a l i h w t0 side) (around b l i h w t2 side)
+      graft-stopped why g =
           let plain = grafting-of source dest a.told l l i why g.kinds in
           let quiet = quiet-of (λ text. ⊤) false why plain.other in
           record {
-            answers = λ world finds input quiet2. answers-opened (Err why) g world.standing world.held (outside_of world) finds.stands finds.held finds.good quiet2.store;
-            lost = λ p es rows held bytes named tells good heights input quiet2. more-over (Err why) g p es held bytes (over-opened (Err why) g p es held named tells good quiet2.store);
+            answers = λ world finds input quiet2. answers-opened (Err why) g world.standing world.held (outside_of world) finds.stands finds.held quiet2.store;
+            lost = λ p es rows held bytes named tells heights input quiet2. more-over (Err why) g p es held bytes (over-opened (Err why) g p es held named tells quiet2.store);
             prefix = λ world finds input room. nothing-printed (reply X N (Adopt source dest) world).ends h h refl;
             prints = quiet.prints h h refl;
             kinds = plain.ends;
@@ -372,7 +374,7 @@ module _ (X : List ℕ → List ℕ) (N : List ℕ → ℕ) where
             cause = shown (Err why) g;
             whole = λ s needs stands quiet2. absurd cc;
             touches = λ p es bytes rows named input heights quiet2. tt;
-            touched = λ own blames. absurd cc;
+            touched = λ blames. let more = g.touched blames in omega (arith, low, more);
             leaves = record {
               good = all_good (Err why) g;
               head = g.head ∙ ap head_in told;
@@ -382,10 +384,10 @@ module _ (X : List ℕ → List ℕ) (N : List ℕ → ℕ) where
           }
 
       -- it is done
-      pub graft-done : (t1 : ℕ) → GraftsIn X N tree source dest (Ok tt) m b → Does X N (Adopt source dest) (Ok tt) (around a l i h w t0 side) (around b l i h w t1 side)
-      graft-done t1 g = record {
-        answers = λ world finds input quiet2. answers-opened (Ok tt) g world.standing world.held (outside_of world) finds.stands finds.held finds.good quiet2.store;
-        lost = λ p es rows held bytes named tells good heights input quiet2. more-over (Ok tt) g p es held bytes (over-opened (Ok tt) g p es held named tells good quiet2.store);
+      pub graft-done : GraftsIn X N tree source dest (Ok tt) m b t1 t2 → Does X N (Adopt source dest) (Ok tt) (around a l i h w t0 side) (around b l i h w t2 side)
+      graft-done g = record {
+        answers = λ world finds input quiet2. answers-opened (Ok tt) g world.standing world.held (outside_of world) finds.stands finds.held quiet2.store;
+        lost = λ p es rows held bytes named tells heights input quiet2. more-over (Ok tt) g p es held bytes (over-opened (Ok tt) g p es held named tells quiet2.store);
         prefix = λ world finds input room. nothing-printed (reply X N (Adopt source dest) world).ends h h refl;
         prints = ([], tt, after-nothing h);
         kinds = tt;
@@ -397,10 +399,10 @@ module _ (X : List ℕ → List ℕ) (N : List ℕ → ℕ) where
         cause = shown (Ok tt) g;
         whole = λ s needs stands quiet2. absurd cc;
         touches = λ p es bytes rows named input heights quiet2. tt;
-        touched = λ own blames. absurd cc;
+        touched = λ blames. absurd blames;
         leaves = record { good = all_good (Ok tt) g; head = tt; writes = subst (λ t. WritesAs X MovesHead true t b.told) told g.writes; idle = λ p es bytes names calm same. absurd cc };
       }
 
-      pub graft-ends : (t1 : ℕ) (done : Result (Unit {0}) Refusal) → GraftsIn X N tree source dest done m b → Does X N (Adopt source dest) done (around a l i h w t0 side) (around b l i h w t1 side)
-      graft-ends t1 (Ok done) g = graft-done t1 g
-      graft-ends t1 (Err why) g = graft-stopped t1 why g
+      pub graft-ends : (done : Result (Unit {0}) Refusal) → GraftsIn X N tree source dest done m b t1 t2 → Does X N (Adopt source dest) done (around a l i h w t0 side) (around b l i h w t2 side)
+      graft-ends (Ok done) g = graft-done g
+      graft-ends (Err why) g = graft-stopped why g

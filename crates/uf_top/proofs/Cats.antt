@@ -1,45 +1,40 @@
 -- How a file of a DAG of others is sent to the output.
-use Rattle.std.proofs.Common.{◌≡◌, ◌≢◌, ◌⊎◌, ℕ, List, [], ◌∷◌, ◌++◌, length, length-append, take, arith, true, false, refl, sym, ap, subst, ◌∙◌, inl, inr, Some, None, Bool, Result, Ok, Err}
-use Rattle.std.specs.Prelude.{IfErr, IfSome, IsSome, ⊤}
-use Rattle.uf_cid.specs.Blocks.{Held, Lookup}
+use Rattle.std.proofs.Common.{◌≡◌, ◌≢◌, ◌⊎◌, ℕ, List, [], ◌∷◌, ◌++◌, length, length-append, take, arith, true, refl, sym, ap, subst, ◌∙◌, inl, inr, Some, None, Result, Ok, Err}
+use Rattle.std.specs.Prelude.{IfSome, IsSome, ⊤}
+use Rattle.uf_cid.specs.Blocks.{Lookup}
 use Rattle.uf_cid.specs.declared.cid.Cid.{Cid}
-use Rattle.uf_edge.specs.Counts.{Counts, Rose, Stood}
+use Rattle.uf_edge.specs.Counts.{Counts}
 use Rattle.uf_edge.specs.Streams.{after, AppendsPrefix}
 use Rattle.uf_edge.specs.Streams as streams
 use Rattle.uf_mfs.specs.Standing.{TellsHeld, head_in}
 use Rattle.uf_mfs.specs.Touches.{IsBlaming}
 use Rattle.uf_path.specs.declared.path.DagPath.{DagPath}
-use Rattle.uf_store.specs.Calls.{Calm, OnlyReads}
-use Rattle.uf_store.specs.Contents.{Contents, Told, held_at}
+use Rattle.uf_store.specs.Calls.{Calm}
+use Rattle.uf_store.specs.Contents.{Told, held_at}
 use Rattle.uf_store.specs.Faults.{NoneIsBad, Shown, StaysCalm}
 use Rattle.uf_store.specs.Seen.{Seen}
-use Rattle.uf_store.specs.declared.store.StoreFault.{StoreFault}
 use Rattle.uf_store.specs.declared.store.StoreFault.TheVariants as fault
 use Rattle.uf_store.proofs.Calls.{shown-by, shown-rises}
 use Rattle.uf_store.proofs.Causes.{calm-rises}
 use Rattle.uf_store.proofs.Keeping.{KeepsGood-same}
-use Rattle.uf_tree.specs.Standing.{Standing}
 use Rattle.uf_tree.specs.Tree.{Tree, File, Dir, Entries}
-use Rattle.uf_tree.specs.TreePlan.{blocks}
 use Rattle.uf_tree.specs.declared.profile.Profile.{Profile}
-use Rattle.uf_lenient.specs.Answers.{IsFault, IsOwn, IsStoreOwn, store_fault_of}
-use Rattle.uf_lenient.specs.Reading.{denotes, file_of, resolve_from, shallow_of}
+use Rattle.uf_lenient.specs.Answers.{IsFault, IsOwn, store_fault_of}
+use Rattle.uf_lenient.specs.Reading.{denotes, file_of, resolve_from}
 use Rattle.uf_lenient.specs.Steps.{IsRead}
-use Rattle.uf_lenient.specs.Streams.{IsFileFront, SendsFront, Streams, sink_failed, stream_fault}
+use Rattle.uf_lenient.specs.Streams.{IsFileFront, Streams}
 use Rattle.uf_lenient.specs.declared.fault.DagFault.{DagFault}
 use Rattle.uf_lenient.specs.declared.fault.DagFault.TheVariants as dag
-use Rattle.uf_lenient.specs.declared.fault.StreamFault.{StreamFault}
 use Rattle.uf_lenient.specs.declared.fault.StreamFault.TheVariants as stream
 use Rattle.uf_lenient.specs.declared.shapes.Shape.{Shape}
 use Rattle.uf_lenient.specs.declared.shapes.Shape.TheVariants.{File as FileShape, Folder as FolderShape}
 use Rattle.uf_varint.specs.Fields.{◌>>=◌}
 use Rattle.uf_lenient.specs.Denoted.{DenotesBy}
 use Rattle.uf_lenient.proofs.Denoting.{denoted-step}
-use Rattle.uf_reply.specs.Commands.{NoWrites}
 use Rattle.uf_reply.specs.Dags.{IsToldAs, dag_refusal, file_at, tree_at, usual_limits}
-use Rattle.uf_reply.specs.Kinds.{IsOf, OfWrite, ReadsDag, fault_behind, may_end, refusal_fault, refusal_kind}
+use Rattle.uf_reply.specs.Kinds.{OfWrite, ReadsDag, fault_behind, may_end, refusal_kind}
 use Rattle.uf_top.specs.Reply.{Outside, World, in_world, reply}
-use Rattle.uf_reply.specs.Statuses.{ended, no_memory, status_of}
+use Rattle.uf_reply.specs.Statuses.{no_memory, status_of}
 use Rattle.uf_reply.specs.declared.status.Status.TheVariants as status
 use Rattle.uf_reply.specs.declared.types.Command.{Command}
 use Rattle.uf_reply.specs.declared.types.Command.TheVariants.{Cat}
@@ -49,15 +44,14 @@ use Rattle.uf_reply.specs.declared.types.Refusal.{Refusal}
 use Rattle.uf_reply.specs.declared.types.Refusal.TheVariants as refusal
 use Rattle.uf_top.specs.Answering.{DoesAnswer}
 use Rattle.uf_top.specs.Around.{HostSide, RisesFor, around}
-use Rattle.uf_top.specs.Causes.{IsBadIn, IsReadyBy, is_read, is_write}
-use Rattle.uf_top.specs.Endings.{EndsBy, PrintsAt, PrintsPart, RuleOf}
+use Rattle.uf_top.specs.Causes.{IsBadIn, IsReadyBy, is_read}
+use Rattle.uf_top.specs.Endings.{EndsBy, PrintsPart}
 use Rattle.uf_top.specs.Foreign.{FindsFile, IsFileIn, IsOfReading, IsOwnRefusal, LeadsTo}
 use Rattle.uf_top.specs.Losing.{DoesOver}
 use Rattle.uf_top.specs.Naming.{StaysNamed, TellsBlocks}
-use Rattle.uf_top.specs.Shapes.{WritesAs, is_done}
 use Rattle.uf_top.specs.Working.{Does}
 use Rattle.uf_top.proofs.Losing.{names-same}
-use Rattle.uf_top.proofs.Printing.{nothing-printed, quiet-of, rises-still, whole-printed}
+use Rattle.uf_top.proofs.Printing.{nothing-printed, quiet-of, whole-printed}
 use Rattle.uf_top.proofs.Shows.{counts-still, not-rose}
 
 -- ---- refusals of a reading
@@ -289,7 +283,7 @@ module _ (X : List ℕ → List ℕ) (N : List ℕ → ℕ) (path : DagPath) (a 
       let quiet = quiet-of (λ text. ⊤) true why plain.other in
       record {
         answers = λ world finds input calm. answered world finds.held calm.store (by-told (λ held. IsOwnRefusal why ⊎ ((said held ≡ Err why) × (h2 ≡ h))) world.held finds.held says);
-        lost = λ p es rows held bs named tells good heights input calm. over p es held bs named calm.store (by-told (λ held. IsOwnRefusal why ⊎ ((said held ≡ Err why) × (h2 ≡ h))) held tells says);
+        lost = λ p es rows held bs named tells heights input calm. over p es held bs named calm.store (by-told (λ held. IsOwnRefusal why ⊎ ((said held ≡ Err why) × (h2 ≡ h))) held tells says);
         prefix = λ world finds input room. by-told (λ held. PrintsPart (said held) h h2) world.held finds.held part;
         prints = quiet.prints h h2 (bytes, sent);
         kinds = reading-kinds X a b why of cause;
@@ -301,7 +295,7 @@ module _ (X : List ℕ → List ℕ) (N : List ℕ → ℕ) (path : DagPath) (a 
         cause = shown-by X NoneIsBad (IsBadIn X N a.told b.told) (fault_behind why) a b (λ role bytes bad. absurd bad) cause;
         whole = λ s needs stands calm. absurd cc;
         touches = λ p es bs rows named input heights calm. tt;
-        touched = λ plain blames. absurd (no-blame X a b why of cause blames);
+        touched = λ blames. absurd (no-blame X a b why of cause blames);
         leaves = record { good = KeepsGood-same X a.told b.told same; head = ap head_in same; writes = same; idle = λ p es bs stands calm is. absurd cc };
       }
     where
@@ -318,7 +312,7 @@ module _ (X : List ℕ → List ℕ) (N : List ℕ → ℕ) (path : DagPath) (a 
       → Does X N (Cat path) (Ok tt) (around a l i h w t0 side) (around b l i h2 w2 t1 side)
   cat-sent says bytes sent calm still = record {
     answers = λ world finds input quiet. answered world finds.held (by-told (λ held. (bytes : List ℕ) × (said held ≡ Ok bytes) × (h2 ≡ after h bytes)) world.held finds.held says);
-    lost = λ p es rows held bs named tells good heights input quiet. over p es held bs named (by-told (λ held. (bytes : List ℕ) × (said held ≡ Ok bytes) × (h2 ≡ after h bytes)) held tells says);
+    lost = λ p es rows held bs named tells heights input quiet. over p es held bs named (by-told (λ held. (bytes : List ℕ) × (said held ≡ Ok bytes) × (h2 ≡ after h bytes)) held tells says);
     prefix = λ world finds input room. whole world.held (by-told (λ held. (bytes : List ℕ) × (said held ≡ Ok bytes) × (h2 ≡ after h bytes)) world.held finds.held says);
     prints = (bytes, tt, sent);
     kinds = tt;
@@ -330,7 +324,7 @@ module _ (X : List ℕ → List ℕ) (N : List ℕ → ℕ) (path : DagPath) (a 
     cause = calm;
     whole = λ s needs stands quiet. absurd cc;
     touches = λ p es bs rows named input heights quiet. tt;
-    touched = λ plain blames. absurd blames;
+    touched = λ blames. absurd blames;
     leaves = record { good = KeepsGood-same X a.told b.told same; head = tt; writes = same; idle = λ p es bs stands quiet is. absurd cc };
   }
     where
@@ -348,7 +342,7 @@ module _ (X : List ℕ → List ℕ) (N : List ℕ → ℕ) (path : DagPath) (a 
       → Does X N (Cat path) (Err refusal.Write) (around a l i h w t0 side) (around b l i h2 w2 t1 side)
   cat-cut part bytes sent calm counts = record {
     answers = λ world finds input quiet. absurd (not-rose w w2 (counts.rose refl) quiet.output);
-    lost = λ p es rows held bs named tells good heights input quiet. absurd (not-rose w w2 (counts.rose refl) quiet.output);
+    lost = λ p es rows held bs named tells heights input quiet. absurd (not-rose w w2 (counts.rose refl) quiet.output);
     prefix = λ world finds input room. by-told (λ held. PrintsPart (said held) h h2) world.held finds.held part;
     prints = (bytes, tt, whole-printed bytes h h2 sent);
     kinds = refl;
@@ -360,7 +354,7 @@ module _ (X : List ℕ → List ℕ) (N : List ℕ → ℕ) (path : DagPath) (a 
     cause = calm;
     whole = λ s needs stands quiet. absurd cc;
     touches = λ p es bs rows named input heights quiet. tt;
-    touched = λ plain blames. absurd blames;
+    touched = λ blames. absurd blames;
     leaves = record { good = KeepsGood-same X a.told b.told same; head = ap head_in same; writes = same; idle = λ p es bs stands quiet is. absurd cc };
   }
 

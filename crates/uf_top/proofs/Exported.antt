@@ -1,5 +1,5 @@
 -- How the CAR of what is held is sent to the output.
-use Rattle.std.proofs.Common.{◌≡◌, ◌⊎◌, ℕ, List, [], true, false, refl, sym, ap, subst, ◌∙◌, inl, inr, Some, None, Result, Ok, Err}
+use Rattle.std.proofs.Common.{◌≡◌, ◌⊎◌, ℕ, List, [], true, false, refl, sym, ap, subst, inl, inr, Some, None, Result, Ok, Err}
 use Rattle.std.specs.Prelude.{IfSome, IsSome, ⊤}
 use Rattle.uf_car.specs.Exporting.{Exports, IsOtherFault, StopsOrder, WritesCar, WritesSome, export_fault, is_sink_fault}
 use Rattle.uf_car.specs.Text.{car_text}
@@ -136,7 +136,7 @@ module _ (X : List ℕ → List ℕ) (N : List ℕ → ℕ) (cid : Cid) (a b : S
       let quiet = quiet-of (λ text. ⊤) true why plain.other in
       record {
         answers = λ world finds input calm. answered world finds.held calm.store (by-told (Refuses why) world.held finds.held says);
-        lost = λ p es rows held bs named tells good heights input calm. over p es held bs named calm.store (by-told (Refuses why) held tells says);
+        lost = λ p es rows held bs named tells heights input calm. over p es held bs named calm.store (by-told (Refuses why) held tells says);
         prefix = λ world finds input room. by-told (λ held. PrintsPart (said held cid h h2) h h2) world.held finds.held part;
         prints = quiet.prints h h2 (bytes, sent);
         kinds = reading-kinds X a b why of cause;
@@ -148,7 +148,7 @@ module _ (X : List ℕ → List ℕ) (N : List ℕ → ℕ) (cid : Cid) (a b : S
         cause = shown-by X NoneIsBad (IsBadIn X N a.told b.told) (fault_behind why) a b (λ role bytes bad. absurd bad) cause;
         whole = λ s needs stands calm. absurd cc;
         touches = λ p es bs rows named input heights calm. tt;
-        touched = λ plain blames. absurd (no-blame X a b why of cause blames);
+        touched = λ blames. absurd (no-blame X a b why of cause blames);
         leaves = record { good = KeepsGood-same X a.told b.told same; head = ap head_in same; writes = same; idle = λ p es bs stands calm is. absurd cc };
       }
     where
@@ -165,7 +165,7 @@ module _ (X : List ℕ → List ℕ) (N : List ℕ → ℕ) (cid : Cid) (a b : S
       → Does X N (Export cid) (Ok tt) (around a l i h w t0 side) (around b l i h2 w2 t1 side)
   sent-whole says bytes sent calm still = record {
     answers = λ world finds input quiet. answered world finds.held (by-told Whole world.held finds.held says);
-    lost = λ p es rows held bs named tells good heights input quiet. over p es held bs named (by-told Whole held tells says);
+    lost = λ p es rows held bs named tells heights input quiet. over p es held bs named (by-told Whole held tells says);
     prefix = λ world finds input room. whole world.held (by-told Whole world.held finds.held says);
     prints = (bytes, tt, sent);
     kinds = tt;
@@ -177,7 +177,7 @@ module _ (X : List ℕ → List ℕ) (N : List ℕ → ℕ) (cid : Cid) (a b : S
     cause = calm;
     whole = λ s needs stands quiet. absurd cc;
     touches = λ p es bs rows named input heights quiet. tt;
-    touched = λ plain blames. absurd blames;
+    touched = λ blames. absurd blames;
     leaves = record { good = KeepsGood-same X a.told b.told same; head = tt; writes = same; idle = λ p es bs stands quiet is. absurd cc };
   }
     where
@@ -195,7 +195,7 @@ module _ (X : List ℕ → List ℕ) (N : List ℕ → ℕ) (cid : Cid) (a b : S
       → Does X N (Export cid) (Err refusal.Write) (around a l i h w t0 side) (around b l i h2 w2 t1 side)
   cut part bytes sent calm counts = record {
     answers = λ world finds input quiet. absurd (not-rose w w2 (counts.rose refl) quiet.output);
-    lost = λ p es rows held bs named tells good heights input quiet. absurd (not-rose w w2 (counts.rose refl) quiet.output);
+    lost = λ p es rows held bs named tells heights input quiet. absurd (not-rose w w2 (counts.rose refl) quiet.output);
     prefix = λ world finds input room. by-told (λ held. PrintsPart (said held cid h h2) h h2) world.held finds.held part;
     prints = (bytes, tt, whole-printed bytes h h2 sent);
     kinds = refl;
@@ -207,7 +207,7 @@ module _ (X : List ℕ → List ℕ) (N : List ℕ → ℕ) (cid : Cid) (a b : S
     cause = calm;
     whole = λ s needs stands quiet. absurd cc;
     touches = λ p es bs rows named input heights quiet. tt;
-    touched = λ plain blames. absurd blames;
+    touched = λ blames. absurd blames;
     leaves = record { good = KeepsGood-same X a.told b.told same; head = ap head_in same; writes = same; idle = λ p es bs stands quiet is. absurd cc };
   }
 

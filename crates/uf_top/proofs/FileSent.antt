@@ -1,8 +1,8 @@
 -- How a file of the tree that the Head names is sent to the output.
-use Rattle.std.proofs.Common.{◌≡◌, ◌≢◌, ◌⊎◌, ℕ, zero, suc, ◌<◌, ◌≤◌, ◌+◌, List, [], ◌++◌, length, take, true, false, arith, refl, sym, ap, subst, ◌∙◌, inl, inr, Some, None, Bool, Result, Ok, Err}
+use Rattle.std.proofs.Common.{◌≡◌, ◌≢◌, ◌⊎◌, ℕ, zero, suc, ◌<◌, ◌≤◌, ◌+◌, List, [], ◌++◌, length, take, true, arith, refl, sym, ap, subst, ◌∙◌, inl, inr, None, Result, Ok, Err}
 use Rattle.std.specs.Prelude.{IfErr, ⊤}
 use Rattle.uf_cid.specs.Blocks.{Held}
-use Rattle.uf_edge.specs.Counts.{Counts, Rose, Stood}
+use Rattle.uf_edge.specs.Counts.{Counts, Stood}
 use Rattle.uf_edge.specs.Streams.{after, AppendsPrefix}
 use Rattle.uf_edge.specs.Streams as streams
 use Rattle.uf_fileread.specs.Ranges.{AppendsAtMost}
@@ -26,13 +26,13 @@ use Rattle.uf_plain.specs.Rules.{rule_of}
 use Rattle.uf_plain.specs.declared.rule.Refused.{Refused}
 use Rattle.uf_plain.specs.declared.rule.Rule.{Rule}
 use Rattle.uf_store.specs.Contents.{Told}
-use Rattle.uf_store.specs.Faults.{Rises, Shown, Shows, StaysCalm}
+use Rattle.uf_store.specs.Faults.{Rises, Shown, StaysCalm}
 use Rattle.uf_store.specs.Lost.{IsLossOf}
 use Rattle.uf_store.specs.Seen.{Seen}
 use Rattle.uf_store.specs.declared.store.Role.{Role}
 use Rattle.uf_store.specs.declared.store.StoreFault.{StoreFault}
 use Rattle.uf_store.specs.declared.store.StoreFault.TheVariants as fault
-use Rattle.uf_store.proofs.Calls.{shown-after, shown-by, shown-rises, stood-back, stood-front}
+use Rattle.uf_store.proofs.Calls.{shown-after, shown-by, stood-back, stood-front}
 use Rattle.uf_store.proofs.Causes.{Shows-rises, calm-rises}
 use Rattle.uf_store.proofs.Keeping.{KeepsGood-same}
 use Rattle.uf_tree.specs.Standing.{Standing, NoHead, BadHead, Stands}
@@ -40,7 +40,7 @@ use Rattle.uf_tree.specs.Tree.{Dir, Entries}
 use Rattle.uf_tree.specs.TreePlan.{blocks}
 use Rattle.uf_tree.specs.declared.profile.Profile.{Profile}
 use Rattle.uf_reply.specs.Commands.{NoWrites}
-use Rattle.uf_reply.specs.Kinds.{IsOf, WorksInTree, fault_behind, fault_kind, may_end, refusal_fault}
+use Rattle.uf_reply.specs.Kinds.{IsOf, WorksInTree, fault_kind, may_end, refusal_fault}
 use Rattle.uf_top.specs.Reply.{in_tree, looked, read_reply}
 use Rattle.uf_reply.specs.Statuses.{ended, fault_status, no_memory, status_of}
 use Rattle.uf_reply.specs.declared.status.Status.TheVariants as status
@@ -388,7 +388,7 @@ module _ (X : List ℕ → List ℕ) (N : List ℕ → ℕ) (offset count : ℕ)
     pub sends-does : Does X N (Read offset count path) done (around a l i h w t0 side) (around b l i h2 w2 t2 side)
     sends-does = record {
       answers = λ world finds input quiet. ok-answer world.standing finds.stands quiet.store.faults (not-sink w w2 X (IsBadRead X N m.told found.root.cid) m b r cause quiet.output);
-      lost = λ p es rows held bytes named tells good heights input quiet.
+      lost = λ p es rows held bytes named tells heights input quiet.
           let stood = quiet.store.faults in let at = opened-over p es named.names (front stood) in
           let needs = part_needs X N rows offset count path.names p es in
           answered-over X N path.names h h2 a.told b.told p es (root_of X N p (Dir es)) needs (range_at offset count path.names es) r done sent
@@ -408,7 +408,7 @@ module _ (X : List ℕ → List ℕ) (N : List ℕ → ℕ) (offset count : ℕ)
       whole = λ s needs stands quiet. finds s stands quiet.faults;
       touches = λ p es bytes rows named input heights quiet.
           let more = touches p es rows (opened-over p es named.names (front quiet.faults)) heights (back quiet.faults) in omega (arith, opens_by, more);
-      touched = λ plain. by-kind;
+      touched = by-kind;
       leaves = record { good = KeepsGood-same X a.told b.told same; head = if-err done _ (ap head_in same); writes = same-writes; idle = λ p es bytes stands calm same. absurd cc };
     }
       where

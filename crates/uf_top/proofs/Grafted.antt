@@ -1,22 +1,26 @@
 -- What is found in a DAG, built, and put into the tree in memory.
-use Rattle.std.proofs.Common.{◌≡◌, ◌⊎◌, ℕ, ◌<◌, List, [], true, refl, sym, ap, subst, ◌∙◌, inl, inr, Option, Some, None, Result, Ok, Err}
-use Rattle.std.specs.Prelude.{IfErr, IfSome}
-use Rattle.uf_adopt.specs.Adopting.{BuildsTree, IsBuilt, IsFirstTooLong}
+use Rattle.std.proofs.Common.{◌≡◌, ℕ, ◌≤◌, List, [], arith, true, refl, sym, ap, subst, ◌∙◌, inl, inr, Option, Some, None, Result, Ok, Err}
+use Rattle.uf_adopt.specs.Adopting.{BuildsTree, IsBuilt}
 use Rattle.uf_adopt.specs.Faults.{TellsStoreApart, adopt_fault}
 use Rattle.uf_adopt.specs.Feeding.{HoldsGoodMap}
 use Rattle.uf_adopt.specs.declared.fault.AdoptFault.{AdoptFault}
 use Rattle.uf_adopt.specs.declared.fault.AdoptFault.TheVariants as adopt
-use Rattle.uf_cid.specs.Blocks.{Held, Lookup}
+use Rattle.uf_cid.specs.Blocks.{Lookup}
 use Rattle.uf_cid.specs.declared.cid.Cid.{Cid}
 use Rattle.uf_edge.specs.Counts.{Stood}
 use Rattle.uf_lenient.specs.Answers.{IsFault, IsOwn}
+use Rattle.uf_lenient.specs.Good.{ByGoodBlocks, HasGoodOf}
 use Rattle.uf_lenient.specs.Reading.{denotes, resolve_from}
 use Rattle.uf_lenient.specs.Steps.{IsRead}
+use Rattle.uf_lenient.specs.Within.{AnswersSame, HoldsAllOf, good_blocks}
+use Rattle.uf_lenient.proofs.Good.{good-has, good-is}
+use Rattle.uf_lenient.proofs.Greater.{tree-stays}
 use Rattle.uf_lenient.specs.declared.fault.DagFault.{DagFault}
 use Rattle.uf_lenient.specs.declared.fault.DagFault.TheVariants as dag
 use Rattle.uf_lenient.specs.declared.shapes.Shape.{Shape}
 use Rattle.uf_mfs.specs.Standing.{StandsAfter, StandsOver}
 use Rattle.uf_mfs.specs.Steps.{IsFolderOver}
+use Rattle.uf_mfs.specs.Touches.{CountsUp, IsBlaming}
 use Rattle.uf_mfs.specs.declared.mfs.Mfs.{Mfs}
 use Rattle.uf_mfs.proofs.Folders.{read-over}
 use Rattle.uf_path.specs.declared.path.DagPath.{DagPath}
@@ -25,7 +29,7 @@ use Rattle.uf_plain.specs.Moves.{spotted, told_of}
 use Rattle.uf_plain.specs.Rules.{unless}
 use Rattle.uf_plain.specs.declared.spot.Spot.{Spot}
 use Rattle.uf_store.specs.Calls.{OnlyReads}
-use Rattle.uf_store.specs.Contents.{Contents, Told, held_at}
+use Rattle.uf_store.specs.Contents.{Told}
 use Rattle.uf_store.specs.Faults.{NoneIsBad, Shown}
 use Rattle.uf_store.specs.Keeping.{Agrees}
 use Rattle.uf_store.specs.Seen.{Seen}
@@ -39,14 +43,13 @@ use Rattle.uf_tree.specs.declared.nodes.Entry.{Entry}
 use Rattle.uf_tree.specs.declared.profile.Profile.{Profile}
 use Rattle.uf_varint.specs.Fields.{◌>>=◌}
 use Rattle.uf_reply.specs.Dags.{IsToldAs, adopted_name, by_dag, dag_refusal, tree_at, usual_limits}
-use Rattle.uf_reply.specs.Kinds.{AdoptsDag, IsOf, fault_behind, fault_kind, may_answer, refusal_kind}
+use Rattle.uf_reply.specs.Kinds.{fault_behind, fault_kind, refusal_kind}
 use Rattle.uf_top.specs.Reply.{adopted, by_rule, grafted, with_plan}
-use Rattle.uf_reply.specs.Statuses.{no_memory}
 use Rattle.uf_reply.specs.declared.types.Refusal.{Refusal}
 use Rattle.uf_reply.specs.declared.types.Refusal.TheVariants as refusal
 use Rattle.uf_top.specs.Foreign.{FindsTree, IsOfReading, IsOwnRefusal, IsTreeIn, LeadsTo}
-use Rattle.uf_top.specs.Grafts.{BuildsPlanned, FollowsOr, IsFailingRefusal, IsLostBy, IsOkFor, PutsTree, adopt_refusal, graft_kinds, put_tree}
-use Rattle.uf_top.specs.Naming.{AreGoodBlocks, TellsBlocks}
+use Rattle.uf_top.specs.Grafts.{BuildsPlanned, FollowsOr, IsFailingRefusal, IsLostBy, PutsTree, TouchesUp, adopt_refusal, graft_kinds, put_tree}
+use Rattle.uf_top.specs.Naming.{TellsBlocks}
 use Rattle.uf_top.proofs.Cats.{below-fault, way-fault}
 use Rattle.uf_top.proofs.Putting.{failing-lost, follows-then, ok-for, ok-value, stops-then}
 
@@ -169,45 +172,100 @@ fault-tree held path f why (inl own) (inr is) = inl (subst IsOwnRefusal (sym is)
     by (dag.NotADirectory place) own = absurd own
     by (dag.Store s) own = own
 
-pub way-told : (told : Told) (path : DagPath) (f : DagFault) (why : Refusal) → IfSome told (λ t. IsFault (resolve_from (held_at t) usual_limits 0 path.names path.cid) f) → IsToldAs (dag_refusal path f) why → IfSome told (λ t. FindsTree (held_at t) path (Err why))
-way-told None path f why said is = tt
-way-told (Some t) path f why said is = fault-tree (held_at t) path f why (way-fault (held_at t) path f said) is
+pub way-told : (X : List ℕ → List ℕ) (told : Told) (path : DagPath) (f : DagFault) (why : Refusal)
+    → ByGoodBlocks X told (λ held. IsFault (resolve_from held usual_limits 0 path.names path.cid) f)
+    → IsToldAs (dag_refusal path f) why → ByGoodBlocks X told (λ held. FindsTree held path (Err why))
+way-told X None path f why said is = tt
+way-told X (Some t) path f why said is = λ good has. fault-tree good path f why (way-fault good path f (said good has)) is
 
-pub below-told : (told : Told) (path : DagPath) (cid : Cid) (f : DagFault) (why : Refusal) → IfSome told (λ t. IsFault (denotes (held_at t) usual_limits cid) f) → IsToldAs (dag_refusal path f) why
-    → IfSome told (λ t. LeadsTo (held_at t) path cid → FindsTree (held_at t) path (Err why))
-below-told None path cid f why said is = tt
-below-told (Some t) path cid f why said is = λ leads. fault-tree (held_at t) path f why (below-fault (held_at t) path cid leads f said) is
+pub below-told : (X : List ℕ → List ℕ) (told : Told) (path : DagPath) (cid : Cid) (f : DagFault) (why : Refusal)
+    → ByGoodBlocks X told (λ held. IsFault (denotes held usual_limits cid) f) → IsToldAs (dag_refusal path f) why
+    → ByGoodBlocks X told (λ held. LeadsTo held path cid → FindsTree held path (Err why))
+below-told X None path cid f why said is = tt
+below-told X (Some t) path cid f why said is =
+    λ good has leads. fault-tree good path f why (below-fault good path cid leads f (said good has)) is
 
-pub tree-told : (told : Told) (path : DagPath) (cid : Cid) (shape : Shape) → IfSome told (λ t. IsRead (held_at t) usual_limits cid shape) → IfSome told (λ t. LeadsTo (held_at t) path cid → FindsTree (held_at t) path (Ok cid))
-tree-told None path cid shape read = tt
-tree-told (Some t) path cid shape read = λ leads. record {
-  tree = read.tree;
-  leads = ap (λ (r : Result Cid DagFault). r >>= λ c. denotes (held_at t) usual_limits c) leads ∙ read.denoted;
-  denoted = read.denoted;
-}
+pub tree-told : (X : List ℕ → List ℕ) (told : Told) (path : DagPath) (cid : Cid) (shape : Shape)
+    → ByGoodBlocks X told (λ held. IsRead held usual_limits cid shape)
+    → ByGoodBlocks X told (λ held. LeadsTo held path cid → FindsTree held path (Ok cid))
+tree-told X None path cid shape read = tt
+tree-told X (Some t) path cid shape read = λ good has leads.
+    let r = read good has in
+    record {
+      tree = r.tree;
+      leads = ap (λ (r : Result Cid DagFault). r >>= λ c. denotes good usual_limits c) leads ∙ r.denoted;
+      denoted = r.denoted;
+    }
 
--- what is found of the blocks that the store tells
-by-told : (A : Lookup → Type 0) (told : Told) (held : Lookup) → TellsBlocks told held → IfSome told (λ t. A (held_at t)) → A held
-by-told A None held tells h = absurd tells
-by-told A (Some t) held tells h = subst A (sym tells) h
+-- what is found of the blocks that the store tells, and of the good ones among them
+found-in : (A : Lookup → Type 0) (X : List ℕ → List ℕ) (told : Told) (held good : Lookup) → TellsBlocks told held
+    → HasGoodOf X held good → ByGoodBlocks X told A → A good
+found-in A X None held good tells has h = absurd tells
+found-in A X (Some t) held good tells has h = h good (subst (λ (m : Lookup). HasGoodOf X m good) tells has)
 
-good-map : (X : List ℕ → List ℕ) (told : Told) (held : Lookup) → TellsBlocks told held → AreGoodBlocks X held → HoldsGoodMap X held told
-good-map X None held tells good = absurd tells
-good-map X (Some t) held tells good = λ c block is. (ap (λ (h : Lookup). h c) (sym tells) ∙ is, good c block is)
+has-itself : (X : List ℕ → List ℕ) (held : Lookup) → HasGoodOf X held held
+has-itself X held = record { holds = λ c block is same. is; misses = λ c none. none }
+
+good-map : (X : List ℕ → List ℕ) (told : Told) (held : Lookup) → TellsBlocks told held
+    → HoldsGoodMap X (good_blocks X held) told
+good-map X None held tells = absurd tells
+good-map X (Some t) held tells = λ c block is.
+    let both = (good-is X held c block).0 is in (ap (λ (h : Lookup). h c) (sym tells) ∙ both.0, both.1)
+
+-- ---- how the count of touches moved
+
+none-blamed : (hash : List ℕ → List ℕ) (f : Option StoreFault) (a b : Seen) → Shown hash NoneIsBad f a b → IsBlaming f → ⊥
+none-blamed hash None a b h blames = blames
+none-blamed hash (Some fault.Failed) a b h blames = blames
+none-blamed hash (Some (fault.Damaged cid)) a b h blames = blames
+none-blamed hash (Some (fault.Missing cid)) a b h blames = blames
+none-blamed hash (Some (fault.BadBlock cid role)) a b h blames = h.bad
+none-blamed hash (Some (fault.Clash cid held bytes)) a b h blames = blames
+none-blamed hash (Some fault.Memory) a b h blames = blames
+
+-- a refusal that blames no block
+pub up-none : (A : Type 0) (hash : List ℕ → List ℕ) (why : Refusal) (a b : Seen) (t0 t1 : ℕ)
+    → Shown hash NoneIsBad (fault_behind why) a b → TouchesUp {A = A} (Err why) t0 t1
+up-none A hash why a b t0 t1 h = record { kept = tt; risen = λ blames. absurd (none-blamed hash (fault_behind why) a b h blames) }
+
+pub up-same : (A B : Type 0) (why : Refusal) (t0 t1 : ℕ) → TouchesUp {A = A} (Err why) t0 t1 → TouchesUp {A = B} (Err why) t0 t1
+up-same A B why t0 t1 up = record { kept = tt; risen = up.risen }
+
+pub up-counts : (A : Type 0) (why : Refusal) (t0 t1 t2 : ℕ) → t0 ≤ t1 → CountsUp (fault_behind why) t1 t2
+    → TouchesUp {A = A} (Err why) t0 t2
+up-counts A why t0 t1 t2 low up = record { kept = tt; risen = λ blames. let more = up.risen blames in omega (arith, low, more) }
+
+pub up-ok : (A : Type 0) (x : A) (t0 t1 : ℕ) → t0 ≤ t1 → TouchesUp (Ok x) t0 t1
+up-ok A x t0 t1 low = record { kept = low; risen = λ blames. absurd blames }
+
+pub up-after : (A : Type 0) (r : Result A Refusal) (t0 t1 t2 : ℕ) → t0 ≤ t1 → TouchesUp r t1 t2 → TouchesUp r t0 t2
+up-after A (Ok x) t0 t1 t2 low up = up-ok A x t0 t2 (let more = up.kept in omega (arith, low, more))
+up-after A (Err why) t0 t1 t2 low up = record { kept = tt; risen = λ blames. let more = up.risen blames in omega (arith, low, more) }
 
 module _ (X : List ℕ → List ℕ) (N : List ℕ → ℕ) (source : DagPath) (dest : Path) (held : Lookup) (was is : Mfs) where
   after_tree : Tree → Profile → Entries → Result Entries Refusal
   after_tree t p es = grafted X N (adopted_name source) t dest p es
 
   -- the path leads to no tree
-  pub nothing-found : (a m : Seen) (why : Refusal) → TellsBlocks a.told held → IfSome a.told (λ t. FindsTree (held_at t) source (Err why)) → Shown X NoneIsBad (fault_behind why) a m → PutsTree X N was is (adopted X N held source dest) (Err why) a m
+  pub nothing-found : (a m : Seen) (why : Refusal) → TellsBlocks a.told held → ByGoodBlocks X a.told (λ held. FindsTree held source (Err why)) → Shown X NoneIsBad (fault_behind why) a m → PutsTree X N was is (adopted X N held source dest) (Err why) a m
   nothing-found a m why tells found shown = λ p es same over.
       stops-then IsOwnRefusal (IsLostBy a.told (blocks X N p (Dir es))) (by_dag source (tree_at held source)) (λ t. grafted X N (adopted_name source) t dest p es) why
-      (λ own. failing-lost X a.told (blocks X N p (Dir es)) a m why (own-failing why own) shown over.calm) (by-told (λ held. FindsTree held source (Err why)) a.told held tells found)
+      (λ own. failing-lost X a.told (blocks X N p (Dir es)) a m why (own-failing why own) shown over.calm) (found-in (λ held. FindsTree held source (Err why)) X a.told held held tells (has-itself X held) found)
 
-  module _ (a m : Seen) (same : m.told ≡ a.told) (cid : Cid) (tells : TellsBlocks a.told held) (found : IfSome a.told (λ t. FindsTree (held_at t) source (Ok cid))) where
+  module _ (a m : Seen) (same : m.told ≡ a.told) (cid : Cid) (tells : TellsBlocks a.told held)
+      (found : ByGoodBlocks X a.told (λ held. FindsTree held source (Ok cid))) where
     there : IsTreeIn held source cid
-    there = by-told (λ held. FindsTree held source (Ok cid)) a.told held tells found
+    there = found-in (λ held. FindsTree held source (Ok cid)) X a.told held held tells (has-itself X held) found
+
+    -- the good blocks denote the same tree
+    good_denotes : denotes (good_blocks X held) usual_limits cid ≡ Ok there.tree
+    good_denotes =
+        let good = good_blocks X held in
+        let read = found-in (λ held. FindsTree held source (Ok cid)) X a.told held good tells (good-has X held) found in
+        let all : HoldsAllOf good held = λ c block is. ((good-is X held c block).0 is).0 in
+        let again : denotes held usual_limits cid ≡ Ok read.tree = subst (λ r. AnswersSame held r (denotes held usual_limits cid)) read.denoted (tree-stays good held all usual_limits cid) in
+        let one : read.tree ≡ there.tree = (let e : Ok read.tree ≡ Ok there.tree = sym again ∙ there.denoted in cc) in
+        read.denoted ∙ ap (λ (t : Tree). Ok t) one
 
     leads_on : (C : Type 0) (P : Entries → C → Type 0) (May : Refusal → Type 0) (p : Profile) (es : Entries) (r : Result C Refusal) → FollowsOr May P (grafted X N (adopted_name source) there.tree dest p es) r → FollowsOr May P (adopted X N held source dest p es) r
     leads_on C P May p es r h = follows-then May P (by_dag source (tree_at held source)) there.tree (λ t. grafted X N (adopted_name source) t dest p es) r (ap (by_dag source) there.leads) h
@@ -225,15 +283,15 @@ module _ (X : List ℕ → List ℕ) (N : List ℕ → ℕ) (source : DagPath) (
         (λ lost. subst (λ t. IsLostBy t (blocks X N p (Dir es)) why) same lost) (finds p es (stands_there b p es profile over) (back b.faults over.calm.faults)))
 
     -- it is put at the spot that is found
-    pub put-there : (b c : Seen) (again : b.told ≡ m.told) (spot : Spot) (r : Result (Unit {0}) Refusal) {Bad : Role → List ℕ → Type 0} → OnlyReads X Bad None a b → AreGoodBlocks X held
+    pub put-there : (b c : Seen) (again : b.told ≡ m.told) (spot : Spot) (r : Result (Unit {0}) Refusal) {Bad : Role → List ℕ → Type 0} → OnlyReads X Bad None a b
         → ((p : Profile) (es : Entries) → StandsOver X N m.told was p es → Stood m.faults b.faults → FollowsOr (IsLostBy m.told (blocks X N p (Dir es))) (λ (spot given : Spot). given ≡ spot) (by_rule (spotted dest (Some (adopted_name source)) es)) (Ok spot))
         → (Stood a.faults c.faults → Stood m.faults b.faults)
         → ((held : Lookup) (t : Tree) → HoldsGoodMap X held b.told → denotes held usual_limits cid ≡ Ok t → PutsTree X N was is (put_tree X N spot t) r b c) → PutsTree X N was is (adopted X N held source dest) r a c
-    put-there b c again spot r {Bad} reads good finds back puts = λ p es profile over.
+    put-there b c again spot r {Bad} reads finds back puts = λ p es profile over.
         let old = blocks X N p (Dir es) in
         let told : b.told ≡ a.told = again ∙ same in
         let v = ok-value (λ (s : Spot). spot ≡ s) (by_rule (spotted dest (Some (adopted_name source)) es)) (finds p es (stands_there c p es profile over) (back over.calm.faults)) in
         leads_on (Unit {0}) (λ fs done. StandsAfter X N a.told c.told old is p fs) (IsLostBy a.told old) p es r
         (follows-then (IsLostBy a.told old) (λ fs done. StandsAfter X N a.told c.told old is p fs) (by_rule (spotted dest (Some (adopted_name source)) es)) spot (λ spot. put_tree X N spot there.tree p es) r (v.1 ∙ ap (λ (s : Spot). Ok s) (sym v.2))
         (subst (λ t. FollowsOr (IsLostBy t old) (λ fs done. StandsAfter X N t c.told old is p fs) (put_tree X N spot there.tree p es) r) told
-        (puts held there.tree (subst (HoldsGoodMap X held) (sym told) (good-map X a.told held tells good)) there.denoted p es profile (read-over X N p [] was.root es reads over))))
+        (puts (good_blocks X held) there.tree (subst (HoldsGoodMap X (good_blocks X held)) (sym told) (good-map X a.told held tells)) good_denotes p es profile (read-over X N p [] was.root es reads over))))

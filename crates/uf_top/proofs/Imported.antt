@@ -1,23 +1,21 @@
 -- How a CAR is read into the store, and its roots printed.
-use Rattle.std.proofs.Common.{◌≡◌, ◌≢◌, ◌⊎◌, ℕ, List, [], false, true, arith, refl, sym, ap, subst, ◌∙◌, inl, inr, length, take, Some, None, Result, Ok, Err}
+use Rattle.std.proofs.Common.{◌≡◌, ◌≢◌, ◌⊎◌, ℕ, List, [], false, true, arith, refl, sym, ap, subst, ◌∙◌, inl, inr, take, Some, None, Result, Ok, Err}
 use Rattle.std.proofs.lemmas.List.{take_all}
 use Rattle.std.specs.Prelude.{IfOk, IfSome, IsSome, OnErr, OnOk, ⊤}
 use Rattle.std.specs.List.{flat_map}
 use Rattle.uf_car.specs.Importing.{ImportsCar, car_fault, is_source_fault, stops, with_saves}
-use Rattle.uf_car.specs.Reading.{Read, car_read}
+use Rattle.uf_car.specs.Reading.{car_read}
 use Rattle.uf_car.specs.declared.fault.CarFault.{CarFault}
 use Rattle.uf_car.specs.declared.fault.CarFault.TheVariants as car
 use Rattle.uf_car.specs.declared.fault.Imported.{Imported}
 use Rattle.uf_cid.specs.Blocks.{Held, Lookup}
-use Rattle.uf_cid.specs.declared.cid.Cid.{Cid}
-use Rattle.uf_edge.specs.Counts.{Counts, Stood}
+use Rattle.uf_edge.specs.Counts.{Counts}
 use Rattle.uf_edge.specs.Streams.{after}
 use Rattle.uf_edge.specs.Streams as streams
 use Rattle.uf_mfs.specs.Standing.{LeavesHead, OnlySynced, Same, TellsHeld, head_in}
 use Rattle.uf_mfs.specs.Touches.{IsBlaming}
-use Rattle.uf_store.specs.Calls.{Calm}
 use Rattle.uf_store.specs.Clashes.{IsSaving}
-use Rattle.uf_store.specs.Contents.{Contents, Told, changed, with_sync}
+use Rattle.uf_store.specs.Contents.{Told, changed, with_sync}
 use Rattle.uf_store.specs.Faults.{NoneIsBad, Shown, Shows, StaysCalm}
 use Rattle.uf_store.specs.Keeping.{KeepsGood}
 use Rattle.uf_store.specs.Seen.{Seen}
@@ -45,8 +43,8 @@ use Rattle.uf_top.specs.Cars.{KeepsCar, TellsRoots}
 use Rattle.uf_top.specs.Causes.{IsBadIn, IsReadyBy, Stops, is_read}
 use Rattle.uf_top.specs.Endings.{EndsBy, IsCut, Prints, PrintsPart}
 use Rattle.uf_top.specs.Losing.{DoesOver}
-use Rattle.uf_top.specs.Naming.{NamesAfter, StaysNamed, TellsBlocks}
-use Rattle.uf_top.specs.Shapes.{WritesAs, is_ok}
+use Rattle.uf_top.specs.Naming.{NamesAfter, TellsBlocks}
+use Rattle.uf_top.specs.Shapes.{WritesAs}
 use Rattle.uf_top.specs.Working.{Does}
 use Rattle.uf_top.proofs.Inputs.{add-head, synced-writes}
 use Rattle.uf_top.proofs.Kept.{sections-held}
@@ -254,7 +252,7 @@ module _ (X : List ℕ → List ℕ) (N : List ℕ → ℕ) (a b : Seen) (l m : 
       let head = add-head X false a.told b.told k.writes in
       record {
         answers = λ world finds input calm. answered world finds.stands (k.roots world.held world.input finds.held (input.0 refl).0 (input.0 refl).1 calm.store);
-        lost = λ p es rows held outside named tells good heights input calm. over p es held outside (names-kept X N a.told b.told p es k.good head named) (k.roots held outside.input tells (input.0 refl).0 (input.0 refl).1 calm.store);
+        lost = λ p es rows held outside named tells heights input calm. over p es held outside (names-kept X N a.told b.told p es k.good head named) (k.roots held outside.input tells (input.0 refl).0 (input.0 refl).1 calm.store);
         prefix = λ world finds input room. nothing-printed (reply X N Import world).ends h h refl;
         prints = quiet.prints h h (else-same false h);
         kinds = may-end Import why k.kinds;
@@ -266,7 +264,7 @@ module _ (X : List ℕ → List ℕ) (N : List ℕ → ℕ) (a b : Seen) (l m : 
         cause = shown-by X NoneIsBad (IsBadIn X N a.told b.told) (fault_behind why) a b (λ role bytes bad. absurd bad) k.cause;
         whole = λ s needs stands calm. absurd cc;
         touches = λ p es bytes rows named input heights calm. tt;
-        touched = λ plain blames. absurd (of.blames blames);
+        touched = λ blames. absurd (of.blames blames);
         leaves = record { good = k.good; head = head; writes = subst (λ d. WritesAs X SyncsBlocks d a.told b.told) (sym quiet.undone) k.writes; idle = λ p es bytes stands calm is. absurd cc };
       }
     where
@@ -293,7 +291,7 @@ module _ (X : List ℕ → List ℕ) (N : List ℕ → ℕ) (a b : Seen) (l m : 
     printed : h2 ≡ after h text → Counts false w v → Does X N Import (Ok tt) (around a l i h w t0 side) (around b m j h2 v t1 side)
     printed is counts = record {
       answers = λ world finds input calm. answered world finds.stands (k.roots world.held world.input finds.held (input.0 refl).0 (input.0 refl).1 calm.store);
-      lost = λ p es rows held outside named tells good heights input calm. over p es held outside (names-kept X N a.told b.told p es k.good head-same named) (k.roots held outside.input tells (input.0 refl).0 (input.0 refl).1 calm.store);
+      lost = λ p es rows held outside named tells heights input calm. over p es held outside (names-kept X N a.told b.told p es k.good head-same named) (k.roots held outside.input tells (input.0 refl).0 (input.0 refl).1 calm.store);
       prefix = λ world finds input room. subst (λ e. PrintsPart e h h2) (ends-so world finds.held input.0 room) (whole-printed text h h2 is);
       prints = (text, tt, is);
       kinds = tt;
@@ -305,7 +303,7 @@ module _ (X : List ℕ → List ℕ) (N : List ℕ → ℕ) (a b : Seen) (l m : 
       cause = k.cause;
       whole = λ s needs stands calm. absurd cc;
       touches = λ p es bytes rows named input heights calm. tt;
-      touched = λ plain blames. absurd blames;
+      touched = λ blames. absurd blames;
       leaves = record { good = k.good; head = tt; writes = k.writes; idle = λ p es bytes stands calm is. absurd cc };
     }
       where
@@ -321,7 +319,7 @@ module _ (X : List ℕ → List ℕ) (N : List ℕ → ℕ) (a b : Seen) (l m : 
     cut : IsCut text refusal.Write h h2 w v → Does X N Import (Err refusal.Write) (around a l i h w t0 side) (around b m j h2 v t1 side)
     cut c = record {
       answers = λ world finds input calm. absurd (not-rose w v (c.counts.rose refl) calm.output);
-      lost = λ p es rows held outside named tells good heights input calm. absurd (not-rose w v (c.counts.rose refl) calm.output);
+      lost = λ p es rows held outside named tells heights input calm. absurd (not-rose w v (c.counts.rose refl) calm.output);
       prefix = λ world finds input room. subst (λ e. PrintsPart e h h2) (ends-so world finds.held input.0 room) c.printed;
       prints = (text, tt, c.printed);
       kinds = refl;
@@ -333,7 +331,7 @@ module _ (X : List ℕ → List ℕ) (N : List ℕ → ℕ) (a b : Seen) (l m : 
       cause = k.cause;
       whole = λ s needs stands calm. absurd cc;
       touches = λ p es bytes rows named input heights calm. tt;
-      touched = λ plain blames. absurd blames;
+      touched = λ blames. absurd blames;
       leaves = record { good = k.good; head = head-same; writes = k.writes; idle = λ p es bytes stands calm is. absurd cc };
     }
 

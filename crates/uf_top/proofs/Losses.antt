@@ -1,5 +1,5 @@
 -- How a command ends over a tree of whose blocks some may be lost.
-use Rattle.std.proofs.Common.{◌≡◌, ◌⊎◌, ℕ, ◌+◌, ◌≤◌, List, false, arith, refl, sym, ap, subst, ◌∙◌, inl, inr, Result, Ok, Err}
+use Rattle.std.proofs.Common.{◌≡◌, ◌⊎◌, ℕ, ◌+◌, ◌≤◌, List, arith, refl, ap, subst, ◌∙◌, inl, inr, Result, Ok, Err}
 use Rattle.std.specs.Prelude.{IfErr, IfSome}
 use Rattle.uf_cid.specs.Blocks.{Held, Lookup}
 use Rattle.uf_edge.specs.Counts.{Stood}
@@ -10,7 +10,7 @@ use Rattle.uf_store.specs.declared.store.StoreFault.TheVariants.{Memory}
 use Rattle.uf_tree.specs.Tree.{Dir, Entries}
 use Rattle.uf_tree.specs.TreePlan.{blocks}
 use Rattle.uf_tree.specs.declared.profile.Profile.{Profile}
-use Rattle.uf_reply.specs.Commands.{HasInput, adopts, of_command}
+use Rattle.uf_reply.specs.Commands.{HasInput}
 use Rattle.uf_reply.specs.Lines.{line_of, said}
 use Rattle.uf_top.specs.Reply.{Outside, Reply, in_world, reply_to}
 use Rattle.uf_reply.specs.Statuses.{ended, no_memory, status_of}
@@ -20,10 +20,10 @@ use Rattle.uf_reply.specs.declared.types.Refusal.{Refusal}
 use Rattle.uf_reply.specs.declared.types.Refusal.TheVariants as refusal
 use Rattle.uf_top.specs.Around.{Around, HasOutside}
 use Rattle.uf_top.specs.Bounds.{words_touch}
-use Rattle.uf_top.specs.Endings.{TellsEnd, TellsWhy}
+use Rattle.uf_top.specs.Endings.{TellsEnd}
 use Rattle.uf_top.specs.Losing.{DoesOver, EndsOver, words_need}
-use Rattle.uf_top.specs.Naming.{AreGoodIf, NamesAfter, StaysNamed, TellsBlocks}
-use Rattle.uf_top.specs.Working.{Does, Serves}
+use Rattle.uf_top.specs.Naming.{NamesAfter, StaysNamed, TellsBlocks}
+use Rattle.uf_top.specs.Working.{Serves}
 use Rattle.uf_top.proofs.Losing.{names-kept, names-same}
 use Rattle.uf_top.proofs.Telling.{err-ends, ok-ends, printed-all}
 
@@ -45,10 +45,10 @@ module _ (Says : List ℕ → Type 0) (given : Status) (X : List ℕ → List �
       let e = err-ends reply.ends why a.held b.held x.ends in
       inr (record { status_is = told.0 ∙ ap ended e; says = subst (λ e. Says (said e)) e told.1; printed = printed-all reply.ends (Err why) a.held b.held x.ends; stands = x.stands })
 
-  over-of : (asked : Result Command Refusal) (done : Result (Unit {0}) Refusal) → Serves X N asked done a b → (rows : ℕ → ℕ) (held : Lookup) (outside : Outside) → StaysNamed X N a.store.told b.store.told p es → TellsBlocks a.store.told held → AreGoodIf X (of_command adopts false asked) held → AreHeights p rows
+  over-of : (asked : Result Command Refusal) (done : Result (Unit {0}) Refusal) → Serves X N asked done a b → (rows : ℕ → ℕ) (held : Lookup) (outside : Outside) → StaysNamed X N a.store.told b.store.told p es → TellsBlocks a.store.told held → AreHeights p rows
       → HasOutside asked outside a b → Calm a.store b.store → Stood a.writes b.writes → DoesOver X N a.store.told b.store.told p es (words_need X N rows asked p es) (reply_to X N asked (in_world p es held outside)) done a.held b.held
-  over-of (Ok command) done h rows held outside named tells good heights input calm write = h.lost p es rows held outside named tells good heights input (record { store = calm; output = write })
-  over-of (Err asked) done h rows held outside named tells good heights input calm write = by h.refused
+  over-of (Ok command) done h rows held outside named tells heights input calm write = h.lost p es rows held outside named tells heights input (record { store = calm; output = write })
+  over-of (Err asked) done h rows held outside named tells heights input calm write = by h.refused
     where
       now : StillNamed
       now = names-same X N a.store.told b.store.told p es (ap (λ (x : Around). x.store.told) h.same) named
@@ -63,10 +63,10 @@ module _ (Says : List ℕ → Type 0) (given : Status) (X : List ℕ → List �
       names-kept X N a.store.told b.store.told p es h.leaves.good (subst (λ d. IfErr d (λ why. head_in b.store.told ≡ head_in a.store.told)) is h.leaves.head) named
 
   pub lost-told : (asked : Result Command Refusal) (done : Result (Unit {0}) Refusal) → Serves X N asked done a b → TellsEnd Says done given
-      → (rows : ℕ → ℕ) (held : Lookup) (outside : Outside) → StaysNamed X N a.store.told b.store.told p es → TellsBlocks a.store.told held → AreGoodIf X (of_command adopts false asked) held → AreHeights p rows → HasOutside asked outside a b → Calm a.store b.store → Stood a.writes b.writes
+      → (rows : ℕ → ℕ) (held : Lookup) (outside : Outside) → StaysNamed X N a.store.told b.store.told p es → TellsBlocks a.store.told held → AreHeights p rows → HasOutside asked outside a b → Calm a.store b.store → Stood a.writes b.writes
       → EndsOver X N a.store.told b.store.told p es (words_need X N rows asked p es) Says (reply_to X N asked (in_world p es held outside)) given a.held b.held
-  lost-told asked done h t rows held outside named tells good heights input calm write =
-      ends-over (words_need X N rows asked p es) (reply_to X N asked (in_world p es held outside)) done t (over-of asked done h rows held outside named tells good heights input calm write) (still-of asked done h named)
+  lost-told asked done h t rows held outside named tells heights input calm write =
+      ends-over (words_need X N rows asked p es) (reply_to X N asked (in_world p es held outside)) done t (over-of asked done h rows held outside named tells heights input calm write) (still-of asked done h named)
 
   -- ---- how many touches were needed
 

@@ -1,48 +1,43 @@
 -- From the text of a command that is made before anything is printed to the command that is done.
-use Rattle.std.proofs.Common.{◌≡◌, ◌≢◌, ◌⊎◌, ℕ, ◌<◌, ◌≤◌, ◌+◌, List, [], ◌∷◌, ◌++◌, length, take, true, false, arith, refl, sym, ap, subst, ◌∙◌, inl, inr, append-nil, Some, None, Bool, Result, Ok, Err}
+use Rattle.std.proofs.Common.{◌≡◌, ◌≢◌, ℕ, List, [], ◌∷◌, length, take, true, false, arith, refl, sym, ap, subst, ◌∙◌, inl, inr, append-nil, Some, None, Bool, Result, Ok, Err}
 use Rattle.std.specs.Prelude.{◌&&◌, not, IfOk}
 use Rattle.uf_cid.specs.Blocks.{Held, Lookup}
 use Rattle.uf_cid.specs.declared.cid.Cid.{Cid}
-use Rattle.uf_edge.specs.Counts.{Counts, Stood}
+use Rattle.uf_edge.specs.Counts.{Counts}
 use Rattle.uf_edge.specs.Host.{HostTold}
 use Rattle.uf_edge.specs.Streams.{after, AppendsPrefix}
 use Rattle.uf_edge.specs.Streams as streams
-use Rattle.uf_mfs.specs.Reading.{CanRise}
 use Rattle.uf_mfs.specs.Standing.{head_in}
 use Rattle.uf_path.specs.declared.path.DagPath.{DagPath}
 use Rattle.uf_path.specs.declared.path.Path.{Path}
 use Rattle.uf_plain.specs.declared.rule.Rule.{Rule}
 use Rattle.uf_store.specs.Calls.{Calm}
 use Rattle.uf_store.specs.Contents.{Told}
-use Rattle.uf_store.specs.Faults.{Shown, StaysCalm}
+use Rattle.uf_store.specs.Faults.{StaysCalm}
 use Rattle.uf_store.specs.Seen.{Seen}
-use Rattle.uf_store.specs.declared.store.Role.{Role}
 use Rattle.uf_tree.specs.Standing.{Standing, NoHead, BadHead, Stands}
-use Rattle.uf_tree.specs.Tree.{Dir, Entries}
-use Rattle.uf_tree.specs.TreePlan.{blocks}
+use Rattle.uf_tree.specs.Tree.{Entries}
 use Rattle.uf_tree.specs.declared.profile.Profile.{Profile}
 use Rattle.uf_reply.specs.Commands.{command_writes, needs_standing, uses_host}
 use Rattle.uf_reply.specs.Commands as commands
-use Rattle.uf_reply.specs.Kinds.{IsOf, OfCar, OfDag, OfHost, OfLongInput, OfPath, OfWrite, family_of, fault_behind, may_answer, may_end, refusal_kind}
+use Rattle.uf_reply.specs.Kinds.{OfCar, OfDag, OfHost, OfLongInput, OfPath, OfWrite, family_of, may_answer, may_end, refusal_kind}
 use Rattle.uf_top.specs.Reply.{Outside, Reply, World, outside_of, reply, world_of}
-use Rattle.uf_reply.specs.Statuses.{ended, no_memory, status_of}
-use Rattle.uf_reply.specs.declared.status.Status.{Status}
+use Rattle.uf_reply.specs.Statuses.{no_memory, status_of}
 use Rattle.uf_reply.specs.declared.status.Status.TheVariants as status
 use Rattle.uf_reply.specs.declared.types.Command.{Command}
 use Rattle.uf_reply.specs.declared.types.Command.TheVariants.{Init, Add, AddFrom, WriteInput, At, Read, Cat, Export, Import, Adopt}
 use Rattle.uf_reply.specs.declared.types.HostRule.{HostRule}
 use Rattle.uf_reply.specs.declared.types.Refusal.{Refusal}
 use Rattle.uf_reply.specs.declared.types.Refusal.TheVariants as refusal
-use Rattle.uf_store.specs.declared.store.StoreFault.{StoreFault}
 use Rattle.uf_store.specs.declared.store.StoreFault.TheVariants as fault
 use Rattle.uf_top.specs.Answering.{Answers, DoesAnswer}
-use Rattle.uf_top.specs.Around.{Around, CountsCanRise, HasOutside, HostSide, RisesFor, StaysQuiet, UsesHost, around}
+use Rattle.uf_top.specs.Around.{CountsCanRise, HasOutside, HostSide, RisesFor, UsesHost, around}
 use Rattle.uf_top.specs.Causes.{HeadStays, is_read, is_write}
-use Rattle.uf_top.specs.Endings.{AddsFor, EndsBy, FindsAll, IsCut, IsTextOf, PrintsAt, PrintsElse, PrintsPart, Prints, RuleOf}
+use Rattle.uf_top.specs.Endings.{AddsFor, EndsBy, IsCut, IsTextOf, PrintsAt, PrintsElse, PrintsPart, Prints, RuleOf}
 use Rattle.uf_top.specs.Hosted.{IsHostedText}
 use Rattle.uf_top.specs.Losing.{AnswersOver, DoesOver}
-use Rattle.uf_top.specs.Naming.{FindsOver, FindsWorld, NamesIf, NamesAs, StandsIf, StandsNamed, StaysNamed}
-use Rattle.uf_top.specs.Shapes.{WritesAs, is_done, is_ok}
+use Rattle.uf_top.specs.Naming.{FindsOver, NamesIf, NamesAs, StandsIf}
+use Rattle.uf_top.specs.Shapes.{WritesAs, is_done}
 use Rattle.uf_top.specs.Working.{Does, Makes, MakesText}
 
 -- ---- which kinds no command that waits has
@@ -322,7 +317,7 @@ module _ (X : List ℕ → List ℕ) (N : List ℕ → ℕ) where
         let quiet = quiet-of (IsTextOf X N a.told side.told (Ok command) l) (commands.streams command) why (λ e. no-write command (subst (λ k. may_answer (family_of command) k ≡ true) e mk.kinds)) in
         record {
           answers = λ world finds input calm. answered world (mk.answers world (stands-in a.told world.standing finds.stands) input calm.store);
-          lost = λ p es rows held bytes named tells good heights input calm. over p es (mk.lost p es rows held bytes named input calm.store);
+          lost = λ p es rows held bytes named tells heights input calm. over p es (mk.lost p es rows held bytes named input calm.store);
           prefix = λ world finds input room. nothing-printed (reply X N command world).ends h h refl;
           prints = quiet.prints h h (else-same (commands.streams command) h);
           kinds = may-end command why mk.kinds;
@@ -334,7 +329,7 @@ module _ (X : List ℕ → List ℕ) (N : List ℕ → ℕ) where
           cause = mk.cause;
           whole = λ s needs stands calm. mk.whole s stands calm;
           touches = λ p es bytes rows named input heights calm. mk.touches p es bytes rows named input heights calm;
-          touched = λ plain. mk.touched;
+          touched = mk.touched;
           leaves = record {
             good = mk.leaves.good;
             head = mk.leaves.head;
@@ -390,7 +385,7 @@ module _ (X : List ℕ → List ℕ) (N : List ℕ → ℕ) where
         pub printed-does : h2 ≡ after h text → Counts false w v → Does X N command (Ok tt) (around a l i h w t0 side) (around b m j h2 v t1 side2)
         printed-does is counts = record {
           answers = λ world finds input calm. answered world (mk.answers world (stands-in a.told world.standing finds.stands) input calm.store);
-          lost = λ p es rows held bytes named tells good heights input calm. over p es (mk.lost p es rows held bytes named input calm.store);
+          lost = λ p es rows held bytes named tells heights input calm. over p es (mk.lost p es rows held bytes named input calm.store);
           prefix = λ world finds input room. subst (λ e. PrintsPart e h h2) (text-is world finds input room) (whole-printed text h h2 is);
           prints = (text, text-of command a.told side.told l m text mk.adds mk.rows, is);
           kinds = tt;
@@ -402,7 +397,7 @@ module _ (X : List ℕ → List ℕ) (N : List ℕ → ℕ) where
           cause = mk.cause;
           whole = λ s needs stands calm. mk.whole s stands calm;
           touches = λ p es bytes rows named input heights calm. mk.touches p es bytes rows named input heights calm;
-          touched = λ plain. mk.touched;
+          touched = mk.touched;
           leaves = record { good = mk.leaves.good; head = tt; writes = mk.leaves.writes; idle = mk.leaves.idle };
         }
           where
@@ -424,7 +419,7 @@ module _ (X : List ℕ → List ℕ) (N : List ℕ → ℕ) where
             let rose = c.counts.rose refl in
             record {
               answers = λ world finds input calm. absurd (let stood = calm.output in omega (arith, rose, stood));
-              lost = λ p es rows held bytes named tells good heights input calm. absurd (let stood = calm.output in omega (arith, rose, stood));
+              lost = λ p es rows held bytes named tells heights input calm. absurd (let stood = calm.output in omega (arith, rose, stood));
               prefix = λ world finds input room. subst (λ e. PrintsPart e h h2) (text-is world finds input room) c.printed;
               prints = (text, text-of command a.told side.told l m text mk.adds mk.rows, c.printed);
               kinds = refl;
@@ -436,7 +431,7 @@ module _ (X : List ℕ → List ℕ) (N : List ℕ → ℕ) where
               cause = mk.cause;
               whole = λ s needs stands calm. (λ e. cc, λ e. cc);
               touches = λ p es bytes rows named input heights calm. mk.touches p es bytes rows named input heights calm;
-              touched = λ plain blames. absurd blames;
+              touched = λ blames. absurd blames;
               leaves = record { good = mk.leaves.good; head = some-stays text a.told b.told c.some mk.leaves.head; writes = mk.leaves.writes; idle = mk.leaves.idle };
             }
 

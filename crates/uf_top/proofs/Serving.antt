@@ -71,7 +71,7 @@ module _ (X : List ℕ → List ℕ) (N : List ℕ → ℕ) (a : Around) where
   wanting : (command : Command) → Does X N command (Err no_memory) a a
   wanting command = record {
     answers = λ world finds input calm. inl (record { ends_are = refl; stands = finds.stands });
-    lost = λ p es rows held bytes named tells good heights input calm.
+    lost = λ p es rows held bytes named tells heights input calm.
         inl (record { fault = Memory; ends_are = refl; loss = tt; stands = names-same X N a.store.told a.store.told p es refl named });
     prefix = λ world finds input room. nothing-printed (reply X N command world).ends a.held a.held refl;
     prints = else-same (streams command) a.held;
@@ -84,7 +84,7 @@ module _ (X : List ℕ → List ℕ) (N : List ℕ → ℕ) (a : Around) where
     cause = calm-rises a.store a.store (StaysCalm-refl a.store);
     whole = λ s needs stands calm. (λ e. cc, λ e. cc);
     touches = λ p es bytes rows named input heights calm. no-touch (command_touches X N rows bytes command p es) a.touches;
-    touched = λ plain blames. absurd blames;
+    touched = λ blames. absurd blames;
     leaves = record { good = KeepsGood-refl X a.store.told; head = refl; writes = memory-writes X command a.store.told; idle = λ p es bytes stands calm same. refl };
   }
 

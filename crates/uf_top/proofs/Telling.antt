@@ -17,7 +17,7 @@ use Rattle.uf_store.proofs.Keeping.{KeepsGood-same}
 use Rattle.uf_tree.specs.Standing.{Standing}
 use Rattle.uf_tree.specs.Tree.{Entries}
 use Rattle.uf_tree.specs.declared.profile.Profile.{Profile}
-use Rattle.uf_reply.specs.Commands.{HasInput, IsOfWords, adopts, command_writes, is_idle, needs_standing, of_command, only_reads, reads_tree_alone, uses_host, writes_host}
+use Rattle.uf_reply.specs.Commands.{HasInput, IsOfWords, command_writes, is_idle, needs_standing, of_command, only_reads, reads_tree_alone, uses_host, writes_host}
 use Rattle.uf_reply.specs.Commands.{streams as flows}
 use Rattle.uf_reply.specs.Kinds.{AddsHost, AddsInput, IsOf, KeepsCar, MakesReady, OfBadBlock, OfMissing, OfPath, OfUsage, OfWrite, family_of, fault_behind, may_end, refusal_kind, word_kinds}
 use Rattle.uf_reply.specs.Lines.{bad_block_line, clash_line, line_of, missing_line, said}
@@ -452,14 +452,14 @@ module _ (Says : List ℕ → Type 0) where
       no-blame asked why done is words (inl same) = λ bad. (let e : why ≡ asked = (let k : Err why ≡ Err asked = sym is ∙ same in cc) in (words-whole asked words).1 (ap status_of (sym e) ∙ bad))
       no-blame asked why done is words (inr same) = λ bad. (let e : why ≡ no_memory = (let k : Err why ≡ Err no_memory = sym is ∙ same in cc) in let k : status.Memory ≡ status.BadBlock = ap status_of (sym e) ∙ bad in cc)
 
-      pub blamed-told : (asked : Result Command Refusal) (done : Result (Unit {0}) Refusal) → IsOfWords asked → Serves X N asked done a b → TellsEnd Says done given → of_command adopts false asked ≡ false → given ≡ status.BadBlock → a.touches < b.touches
-      blamed-told asked (Ok done) words h t plain is = absurd (let k : status.Ok ≡ status.BadBlock = sym t.0 ∙ is in cc)
-      blamed-told (Ok command) (Err why) words h t plain is = by t
+      pub blamed-told : (asked : Result Command Refusal) (done : Result (Unit {0}) Refusal) → IsOfWords asked → Serves X N asked done a b → TellsEnd Says done given → given ≡ status.BadBlock → a.touches < b.touches
+      blamed-told asked (Ok done) words h t is = absurd (let k : status.Ok ≡ status.BadBlock = sym t.0 ∙ is in cc)
+      blamed-told (Ok command) (Err why) words h t is = by t
         where
           by : TellsWhy Says why given → a.touches < b.touches
-          by (inl told) = h.touched plain (blaming-of why (sym told.0 ∙ is))
+          by (inl told) = h.touched (blaming-of why (sym told.0 ∙ is))
           by (inr told) = absurd (let k : status.Memory ≡ status.BadBlock = sym told.1 ∙ is in cc)
-      blamed-told (Err asked) (Err why) words h t plain is = by t
+      blamed-told (Err asked) (Err why) words h t is = by t
         where
           by : TellsWhy Says why given → a.touches < b.touches
           by (inl told) = absurd (no-blame asked why (Err why) refl words h.refused (sym told.0 ∙ is))

@@ -1,5 +1,5 @@
 -- Copies from DAGs of others into the tree that the Head names.
-use Rattle.std.specs.Prelude.{◌≡◌, ◌⊎◌, ℕ, List, [], Bool, false, IfErr}
+use Rattle.std.specs.Prelude.{◌≡◌, ◌⊎◌, ℕ, ◌≤◌, ◌<◌, List, [], Bool, false, IfErr, OnOk}
 use Rattle.std.specs.declared.result.Result.{Result}
 use Rattle.std.specs.declared.result.Result.TheVariants.{Ok, Err}
 use Rattle.uf_adopt.specs.Adopting.{IsBuilt}
@@ -11,6 +11,7 @@ use Rattle.uf_edge.specs.Streams as streams
 use Rattle.uf_mfs.specs.Bad.{IsBadInTree}
 use Rattle.uf_mfs.specs.Standing.{StandsAfter, StandsOver, head_in}
 use Rattle.uf_mfs.specs.Steps.{IsFolderOver}
+use Rattle.uf_mfs.specs.Touches.{IsBlaming}
 use Rattle.uf_mfs.specs.declared.mfs.Mfs.{Mfs}
 use Rattle.uf_path.specs.declared.path.DagPath.{DagPath}
 use Rattle.uf_path.specs.declared.path.Path.{Path}
@@ -36,7 +37,7 @@ use Rattle.uf_tree.specs.declared.profile.Profile.{Profile}
 use Rattle.uf_varint.specs.Fields.{◌>>=◌}
 use Rattle.std.specs.declared.option.Option.TheVariants.{Some}
 use Rattle.uf_top.specs.Losing.{DoesOver}
-use Rattle.uf_top.specs.Naming.{AreGoodBlocks, StaysNamed, TellsBlocks}
+use Rattle.uf_top.specs.Naming.{StaysNamed, TellsBlocks}
 use Rattle.uf_top.specs.Shapes.{WritesAs, is_ok}
 
 -- there is a value, and this holds of it
@@ -73,6 +74,11 @@ abbrev pub graft_kinds : RefusalKind → Bool
 graft_kinds OfReady = false
 graft_kinds kind = may_answer AdoptsDag kind
 
+-- the count of touches doesn't fall where there is no fault, and it has risen where a block is blamed
+pub record TouchesUp {A : Type 0} (result : Result A Refusal) (was is : ℕ) : Type 0 where
+  pub kept : OnOk result (was ≤ is)
+  pub risen : IsBlaming (refusal_fault result) → was < is
+
 module _ (X : List ℕ → List ℕ) (N : List ℕ → ℕ) where
   -- a tree that is read is put at a spot: it has to have a plan, and then the whole tree
   abbrev pub put_tree : Spot → Tree → Profile → Entries → Result Entries Refusal
@@ -94,14 +100,15 @@ module _ (X : List ℕ → List ℕ) (N : List ℕ → ℕ) where
 
   -- how it was copied into an opened tree, which was committed
   pub record GraftsIn (tree : Mfs) (source : DagPath) (dest : Path) (done : Result (Unit {0}) Refusal)
-      (before now : Seen) : Type 0 where
+      (before now : Seen) (was is : ℕ) : Type 0 where
     pub lost : (p : Profile) (es : Entries) (held : Lookup) (given : streams.Told)
         → StandsOver X N before.told tree p es → StaysNamed X N before.told now.told p es
-        → TellsBlocks before.told held → AreGoodBlocks X held → Calm before now
+        → TellsBlocks before.told held → Calm before now
         → DoesOver X N before.told now.told p es (blocks X N p (Dir es)) (adopt_reply X N held source dest p es) done
         given given
     pub kinds : IsOf graft_kinds done
     pub cause : Shown X (IsBadInTree X N (Some tree.profile) tree.root.cid) (refusal_fault done) before now
     pub good : KeepsGood X before.told now.told
+    pub touched : IsBlaming (refusal_fault done) → was < is
     pub head : IfErr done (λ why. head_in now.told ≡ head_in before.told)
     pub writes : WritesAs X MovesHead (is_ok done) before.told now.told

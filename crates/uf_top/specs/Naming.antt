@@ -3,7 +3,6 @@ use Rattle.std.specs.Prelude.{◌≡◌, ℕ, List, Bool, true, false, IsSome, �
 use Rattle.std.specs.declared.option.Option.TheVariants.{None, Some}
 use Rattle.std.specs.declared.result.Result.{Result}
 use Rattle.uf_cid.specs.Blocks.{Held, Lookup}
-use Rattle.uf_cid.specs.declared.cid.Cid.{Cid}
 use Rattle.uf_edge.specs.Host.{HostTold, HostTree}
 use Rattle.uf_mfs.specs.Standing.{IsAfter, NamesOver, TellsAs, head_in}
 use Rattle.uf_store.specs.Contents.{Told, held_at}
@@ -13,19 +12,10 @@ use Rattle.uf_tree.specs.Standing.{Standing, NoHead, BadHead, Stands}
 use Rattle.uf_tree.specs.Tree.{Dir, Entries}
 use Rattle.uf_tree.specs.TreePlan.{blocks, entry}
 use Rattle.uf_tree.specs.declared.profile.Profile.{Profile}
-use Rattle.uf_reply.specs.Commands.{adopts, needs_standing, of_command}
+use Rattle.uf_reply.specs.Commands.{needs_standing, of_command}
 use Rattle.uf_top.specs.Reply.{World}
 use Rattle.uf_reply.specs.declared.types.Command.{Command}
 use Rattle.uf_reply.specs.declared.types.Refusal.{Refusal}
-
--- each of these blocks has its CID's digest
-abbrev pub AreGoodBlocks : (List ℕ → List ℕ) → Lookup → Type 0
-AreGoodBlocks hash held = (c : Cid) (block : List ℕ) → held c ≡ Some block → hash block ≡ c.digest
-
--- so they are, where a command copies from a DAG of others
-abbrev pub AreGoodIf : (List ℕ → List ℕ) → Bool → Lookup → Type 0
-AreGoodIf hash true held = AreGoodBlocks hash held
-AreGoodIf hash false held = ⊤
 
 -- the store tells these blocks
 abbrev pub TellsBlocks : Told → Lookup → Type 0
@@ -47,7 +37,6 @@ module _ (X : List ℕ → List ℕ) (N : List ℕ → ℕ) where
   pub record FindsWorld (asked : Result Command Refusal) (told : Told) (w : World) : Type 0 where
     pub stands : StandsIf (of_command needs_standing true asked) told w.standing
     pub held : TellsBlocks told w.held
-    pub good : AreGoodIf X (of_command adopts false asked) w.held
 
   module _ (before now : Told) where
     -- the Head names the tree of these entries, and the store agrees with its blocks before the call and after it, of

@@ -1,5 +1,5 @@
 -- How a command was done, before anything of it is printed: what it answers, why, and what it leaves.
-use Rattle.std.specs.Prelude.{◌≡◌, ◌⊎◌, ℕ, ◌+◌, ◌<◌, ◌≤◌, List, [], true, false, IfErr, IfOk, IfSome}
+use Rattle.std.specs.Prelude.{◌≡◌, ◌⊎◌, ℕ, ◌+◌, ◌<◌, ◌≤◌, List, [], true, IfErr, IfOk, IfSome}
 use Rattle.uf_cid.specs.Blocks.{Lookup}
 use Rattle.std.specs.declared.result.Result.{Result}
 use Rattle.std.specs.declared.result.Result.TheVariants.{Ok, Err}
@@ -30,7 +30,7 @@ use Rattle.uf_reply.specs.declared.types.Command.TheVariants.{At}
 use Rattle.uf_reply.specs.declared.types.Edit.{Edit}
 use Rattle.uf_reply.specs.declared.types.Refusal.{Refusal}
 use Rattle.uf_reply.specs.Commands.{HasInput, ask_writes, command_writes, has_nothing_to_do, is_idle}
-use Rattle.uf_reply.specs.Commands.{adopts, reads_tree_alone, streams as flows, uses_host}
+use Rattle.uf_reply.specs.Commands.{reads_tree_alone, streams as flows, uses_host}
 use Rattle.uf_reply.specs.Kinds.{IsOf, family_of, may_answer, may_end, opened_kinds, refusal_fault}
 use Rattle.uf_top.specs.Reply.{Outside, World, edited_by, in_world, outside_of, reply, tree_reply}
 use Rattle.uf_reply.specs.Statuses.{ended, no_memory, status_of}
@@ -42,7 +42,7 @@ use Rattle.uf_top.specs.Causes.{HeadStays, IsBadIn, IsReady, is_read, is_write}
 use Rattle.uf_top.specs.Endings.{AddsFor, FindsAll, IsTextOf, PrintsAt, PrintsPart, RuleOf}
 use Rattle.uf_top.specs.Hosted.{IsHostedText}
 use Rattle.uf_top.specs.Losing.{AnswersOver, DoesOver, ask_needs, command_needs}
-use Rattle.uf_top.specs.Naming.{AreGoodIf, FindsOver, FindsWorld, StaysNamed, TellsBlocks}
+use Rattle.uf_top.specs.Naming.{FindsOver, FindsWorld, StaysNamed, TellsBlocks}
 use Rattle.uf_top.specs.Shapes.{WritesAs, is_done, is_ok}
 
 module _ (X : List ℕ → List ℕ) (N : List ℕ → ℕ) where
@@ -129,7 +129,7 @@ module _ (X : List ℕ → List ℕ) (N : List ℕ → ℕ) where
         → DoesAnswer X N command w done before.held now.held now.store.told
     pub lost : (p : Profile) (es : Entries) (rows : ℕ → ℕ) (held : Lookup) (outside : Outside)
         → StaysNamed X N before.store.told now.store.told p es → TellsBlocks before.store.told held
-        → AreGoodIf X (adopts command) held → AreHeights p rows
+        → AreHeights p rows
         → HasOutside (Ok command) outside before now → StaysQuiet before now
         → DoesOver X N before.store.told now.store.told p es (command_needs X N rows command p es)
         (reply X N command (in_world p es held outside)) done before.held now.held
@@ -153,7 +153,7 @@ module _ (X : List ℕ → List ℕ) (N : List ℕ → ℕ) where
         → HasInput (Ok command) before.left bytes before.reads now.reads → AreHeights p rows
         → Calm before.store now.store
         → IfSome (command_touches X N rows bytes command p es) (λ most. now.touches ≤ before.touches + most)
-    pub touched : adopts command ≡ false → IsBlaming (refusal_fault done) → before.touches < now.touches
+    pub touched : IsBlaming (refusal_fault done) → before.touches < now.touches
     pub leaves : DoesLeave command done before.store.told now.store.told
         (λ bytes. HasInput (Ok command) before.left bytes before.reads now.reads
         × Stood before.store.faults now.store.faults)

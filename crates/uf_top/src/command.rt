@@ -16,7 +16,7 @@ ghost use Rattle.uf_tree.specs.Tree.{Entries};
 ghost use Rattle.uf_tree.specs.declared.profile.Profile.{Profile as TheProfile};
 ghost use Rattle.uf_top.specs.Bounds.{words_touch};
 ghost use Rattle.uf_top.specs.Causes.{IsBadIn, IsSent};
-ghost use Rattle.uf_reply.specs.Commands.{HasHost, HasInput, IsAccepted, adopts, command_in, is_idle, of_command};
+ghost use Rattle.uf_reply.specs.Commands.{HasHost, HasInput, IsAccepted, command_in, is_idle, of_command};
 ghost use Rattle.uf_reply.specs.Commands.{only_hashes, only_reads, reads_input, reads_tree_alone, streams as flows};
 ghost use Rattle.uf_reply.specs.Commands.{uses_host, writes_host};
 ghost use Rattle.uf_top.specs.Around.{CountsCanRise, RoseAt, around, host_side};
@@ -24,7 +24,7 @@ ghost use Rattle.uf_top.specs.Endings.{EndsAs, FindsAll, FindsBy, IsNotReady, Is
 ghost use Rattle.uf_top.specs.Endings.{IsTextOf, Prints, PrintsAt, PrintsPart, SaysPlain, TellsEnd, TellsWhy};
 ghost use Rattle.uf_top.specs.Endings.{has_details};
 ghost use Rattle.uf_top.specs.Losing.{EndsOver, words_need};
-ghost use Rattle.uf_top.specs.Naming.{AreGoodIf, FindsOver, FindsWorld, StaysNamed, TellsBlocks};
+ghost use Rattle.uf_top.specs.Naming.{FindsOver, FindsWorld, StaysNamed, TellsBlocks};
 ghost use Rattle.uf_top.specs.Shapes.{WritesFor, is_done};
 ghost use Rattle.uf_top.specs.Working.{Does, MakesText, Serves};
 ghost use Rattle.uf_reply.specs.Lines.{bad_block_line, clash_line, missing_line};
@@ -70,9 +70,8 @@ pub fn run<S: Store, N: NameHash, W: Host, I: Source, O: Sink, E: Sink, L: Ledge
     touches: &mut Steps<L>,
 ) -> Status
     // Over a store that stands as the command needs it and, where the command reads it, an input that tells, with no count
-    // risen and no clash met, the answer is the reply, or want of memory; of a copy from a DAG this is said where each held
-    // block has its CID's digest. Over a store that stands for a tree no block of a command on it alone is missing or bad,
-    // whatever the input and the output do.
+    // risen and no clash met, the answer is the reply, or want of memory. Over a store that stands for a tree no block of a
+    // command on it alone is missing or bad, whatever the input and the output do.
     ensures replies { (w : World) → FindsWorld S.X.block32 N.name64 (command_in (map string_bytes words.now))
         (S.seen store.old).told w
         → HasInput (command_in (map string_bytes words.now)) (I.left input.old) w.input (I.faults input.old)
@@ -95,7 +94,6 @@ pub fn run<S: Store, N: NameHash, W: Host, I: Source, O: Sink, E: Sink, L: Ledge
         (outside : Outside)
         → StaysNamed S.X.block32 N.name64 (S.seen store.old).told (S.seen store.new).told p es
         → TellsBlocks (S.seen store.old).told held
-        → AreGoodIf S.X.block32 (of_command adopts false (command_in (map string_bytes words.now))) held
         → AreHeights p rows
         → HasInput (command_in (map string_bytes words.now)) (I.left input.old) outside.input (I.faults input.old)
         (I.faults input.new)
@@ -208,7 +206,7 @@ pub fn run<S: Store, N: NameHash, W: Host, I: Source, O: Sink, E: Sink, L: Ledge
         → input.new ≡ input.old }
 
     // The commands that work on a tree keep within their touches, also where they are refused, and `add -n` makes none;
-    // no block is called bad before one was touched, but that nothing is said of the touches of a copy from a DAG.
+    // no block is called bad before one was touched.
     ensures touches { (p : TheProfile) (es : Entries) (bytes : List ℕ) (rows : ℕ → ℕ)
         → StaysNamed S.X.block32 N.name64 (S.seen store.old).told (S.seen store.new).told p es
         → HasInput (command_in (map string_bytes words.now)) (I.left input.old) bytes (I.faults input.old)
@@ -216,8 +214,7 @@ pub fn run<S: Store, N: NameHash, W: Host, I: Source, O: Sink, E: Sink, L: Ledge
         → AreHeights p rows → Calm (S.seen store.old) (S.seen store.new)
         → IfSome (words_touch S.X.block32 N.name64 rows bytes (command_in (map string_bytes words.now)) p es)
         (λ most. touches.new ≤ touches.old + most) }
-    ensures touched { of_command adopts false (command_in (map string_bytes words.now)) ≡ false
-        → result ≡ Status.BadBlock → touches.old < touches.new }
+    ensures touched { result ≡ Status.BadBlock → touches.old < touches.new }
     ensures untouched { of_command only_hashes true (command_in (map string_bytes words.now)) ≡ true
         → touches.new ≡ touches.old }
 {

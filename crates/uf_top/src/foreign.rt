@@ -1,6 +1,7 @@
 // What is found in DAGs of others. Files are sent to the output while their blocks are read.
-ghost use Rattle.std.specs.Prelude.{◌<◌, ◌^◌, IfErr, IfSome, List, ℕ, length};
+ghost use Rattle.std.specs.Prelude.{◌<◌, ◌≤◌, ◌^◌, IfErr, IfSome, List, ℕ, length};
 ghost use Rattle.uf_edge.specs.Streams.{Told as Left};
+ghost use Rattle.uf_lenient.specs.Good.{ByGoodBlocks};
 ghost use Rattle.uf_reply.specs.Kinds.{refusal_fault};
 ghost use Rattle.uf_reply.specs.declared.types.Command.TheVariants as commands;
 ghost use Rattle.uf_store.specs.Calls.{OnlyReads};
@@ -94,9 +95,10 @@ pub fn tree_in<S: Store, L: Ledger>(
     touches: &mut Steps<L>,
 ) -> Result<Cid, Refusal>
     requires { length path.now.names < 2 ^ 32 }
-    ensures finds { IfSome (S.seen store.old).told (λ t. FindsTree (held_at t) path.now result) }
+    ensures finds { ByGoodBlocks S.X.block32 (S.seen store.old).told (λ held. FindsTree held path.now result) }
     ensures refuses { IfErr result IsOfReading }
     ensures reads { OnlyReads S.X.block32 NoneIsBad (refusal_fault result) (S.seen store.old) (S.seen store.new) }
+    ensures touched { touches.old ≤ touches.new }
 {
     match resolve(alloc, store, path, &USUAL, touches) {
         Err(fault) => Err(dag_refusal(alloc, path, fault)),
@@ -112,10 +114,11 @@ fn tree_under<S: Store, L: Ledger>(
     store: &mut S,
     touches: &mut Steps<L>,
 ) -> Result<Cid, Refusal>
-    ensures finds { IfSome (S.seen store.old).told (λ t. LeadsTo (held_at t) path.now cid
-        → FindsTree (held_at t) path.now result) }
+    ensures finds { ByGoodBlocks S.X.block32 (S.seen store.old).told (λ held. LeadsTo held path.now cid
+        → FindsTree held path.now result) }
     ensures refuses { IfErr result IsOfReading }
     ensures reads { OnlyReads S.X.block32 NoneIsBad (refusal_fault result) (S.seen store.old) (S.seen store.new) }
+    ensures touched { touches.old ≤ touches.new }
 {
     match survey(alloc, store, &cid, &USUAL, touches) {
         Err(fault) => Err(dag_refusal(alloc, path, fault)),

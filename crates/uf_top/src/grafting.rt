@@ -7,6 +7,7 @@ ghost use Rattle.uf_edge.specs.Streams.{Told as Left};
 ghost use Rattle.uf_lenient.specs.Reading.{denotes};
 ghost use Rattle.uf_mfs.specs.Bad.{IsBadInTree};
 ghost use Rattle.uf_mfs.specs.Standing.{IsMfs, StandsOver};
+ghost use Rattle.uf_mfs.specs.Touches.{CountsUp};
 ghost use Rattle.uf_plain.specs.Moves.{spotted};
 ghost use Rattle.uf_reply.specs.Dags.{IsToldAs, adopted_name as name_adopted, usual_limits};
 ghost use Rattle.uf_reply.specs.Kinds.{IsOf, refusal_fault};
@@ -18,9 +19,9 @@ ghost use Rattle.uf_tree.specs.Tree.{Dir, Entries, Tree};
 ghost use Rattle.uf_tree.specs.TreePlan.{blocks};
 ghost use Rattle.uf_tree.specs.declared.profile.Profile.{Profile as TheProfile};
 ghost use Rattle.uf_top.specs.Around.{HostSide, around};
-ghost use Rattle.uf_top.specs.Grafts.{BuildsPlanned, FollowsOr, GraftsIn, IsLostBy, PutsTree, adopt_refusal};
-ghost use Rattle.uf_top.specs.Grafts.{graft_kinds, put_tree};
-ghost use Rattle.uf_top.specs.Naming.{AreGoodBlocks, TellsBlocks};
+ghost use Rattle.uf_top.specs.Grafts.{BuildsPlanned, FollowsOr, GraftsIn, IsLostBy, PutsTree, TouchesUp};
+ghost use Rattle.uf_top.specs.Grafts.{adopt_refusal, graft_kinds, put_tree};
+ghost use Rattle.uf_top.specs.Naming.{TellsBlocks};
 ghost use Rattle.uf_top.specs.Working.{Does};
 
 use crate::foreign::{USUAL, tree_in};
@@ -68,7 +69,8 @@ fn graft_in<S: Store, N: NameHash, L: Ledger>(
 ) -> Result<(), Refusal>
     requires few { length source.now.names < 2 ^ 32 }
     requires mfs { IsMfs tree }
-    ensures { GraftsIn S.X.block32 N.name64 tree source.now dest.now result (S.seen store.old) (S.seen store.new) }
+    ensures { GraftsIn S.X.block32 N.name64 tree source.now dest.now result (S.seen store.old) (S.seen store.new)
+        touches.old touches.new }
 {
     let mut tree = tree;
     match grafted::<S, N, L>(alloc, &mut tree, source, dest, store, touches) {
@@ -91,7 +93,7 @@ fn grafted<S: Store, N: NameHash, L: Ledger>(
 ) -> Result<(), Refusal>
     requires few { length source.now.names < 2 ^ 32 }
     requires mfs { IsMfs tree.old }
-    ensures puts { (held : Lookup) → TellsBlocks (S.seen store.old).told held → AreGoodBlocks S.X.block32 held
+    ensures puts { (held : Lookup) → TellsBlocks (S.seen store.old).told held
         → PutsTree S.X.block32 N.name64 tree.old tree.new (adopted S.X.block32 N.name64 held source.now dest.now)
         result (S.seen store.old) (S.seen store.new) }
     ensures saves { OnlySaves S.X.block32
@@ -99,6 +101,7 @@ fn grafted<S: Store, N: NameHash, L: Ledger>(
         (S.seen store.old) (S.seen store.new) }
     ensures kinds { IsOf graft_kinds result }
     ensures mfs { IsMfs tree.new }
+    ensures touched { TouchesUp result touches.old touches.new }
 {
     match tree_in(alloc, source, store, touches) {
         Err(why) => Err(why),
@@ -127,6 +130,7 @@ fn spot_for<S: Store, N: NameHash, L: Ledger>(
         (IsBadInTree S.X.block32 N.name64 (Some tree.now.profile) tree.now.root.cid) (refusal_fault result)
         (S.seen store.old) (S.seen store.new) }
     ensures kinds { IsOf graft_kinds result }
+    ensures touched { CountsUp (refusal_fault result) touches.old touches.new }
 {
     match adopted_name(alloc, source) {
         Err(why) => Err(Refusal::from(why)),
@@ -159,6 +163,7 @@ fn put_at<S: Store, N: NameHash, L: Ledger>(
         (S.seen store.old) (S.seen store.new) }
     ensures kinds { IsOf graft_kinds result }
     ensures mfs { IsMfs tree.new }
+    ensures touched { TouchesUp result touches.old touches.new }
 {
     match built::<S, N, L>(alloc, tree, source, cid, store, touches) {
         Err(why) => Err(why),
@@ -184,6 +189,7 @@ fn built<S: Store, N: NameHash, L: Ledger>(
         → BuildsPlanned S.X.block32 N.name64 tree.now.profile (S.seen store.new).told t result }
     ensures saves { OnlySaves S.X.block32 NoneIsBad (refusal_fault result) (S.seen store.old) (S.seen store.new) }
     ensures kinds { IsOf graft_kinds result }
+    ensures touched { TouchesUp result touches.old touches.new }
 {
     match adopt_surveyed::<S, N, L>(alloc, store, &tree.profile, cid, &USUAL, touches) {
         Ok(entry) => Ok(entry),

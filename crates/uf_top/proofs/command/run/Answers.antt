@@ -19,11 +19,11 @@ returns-clause-replies g c = λ w finds input host calm write.
     (command_in (map string_bytes c.args.words.now)) c.serve-done.result c.serve-done.ensures.serves c.tell_end.ensures w finds (input, host) calm write
 
 pub returns-clause-lost : goal.returns-clause-lost
-returns-clause-lost g c = λ p es rows held outside named tells good heights input host calm write.
+returns-clause-lost g c = λ p es rows held outside named tells heights input host calm write.
     lost-told (λ line. IsSent line (g.E.Sink.holds c.args.errors.now) (g.E.Sink.holds c.tell_end.new.errors) (g.E.Sink.faults c.args.errors.now) (g.E.Sink.faults c.tell_end.new.errors)) c.tell_end.result g.S.X.BlockHash.block32 g.N.NameHash.name64
     (around (g.S.Store.seen c.args.store.now) (g.I.Source.left c.args.input.now) (g.I.Source.faults c.args.input.now) (g.O.Sink.holds c.args.output.now) (g.O.Sink.faults c.args.output.now) c.args.touches.now (host_side (g.W.Host.tree c.args.host.now) (g.W.Host.read_faults c.args.host.now) (g.W.Host.write_faults c.args.host.now)))
     (around (g.S.Store.seen c.serve-done.new.store) (g.I.Source.left c.serve-done.new.input) (g.I.Source.faults c.serve-done.new.input) (g.O.Sink.holds c.serve-done.new.output) (g.O.Sink.faults c.serve-done.new.output) c.serve-done.new.touches (host_side (g.W.Host.tree c.serve-done.new.host) (g.W.Host.read_faults c.serve-done.new.host) (g.W.Host.write_faults c.serve-done.new.host)))
-    p es (command_in (map string_bytes c.args.words.now)) c.serve-done.result c.serve-done.ensures.serves c.tell_end.ensures rows held outside named tells good heights (input, host) calm write
+    p es (command_in (map string_bytes c.args.words.now)) c.serve-done.result c.serve-done.ensures.serves c.tell_end.ensures rows held outside named tells heights (input, host) calm write
 
 pub returns-clause-touches : goal.returns-clause-touches
 returns-clause-touches g c = λ p es bytes rows named input heights calm.
@@ -33,11 +33,11 @@ returns-clause-touches g c = λ p es bytes rows named input heights calm.
     p es bytes rows (command_in (map string_bytes c.args.words.now)) c.serve-done.result c.serve-done.ensures.serves named input heights calm
 
 pub returns-clause-touched : goal.returns-clause-touched
-returns-clause-touched g c = λ plain is.
+returns-clause-touched g c = λ is.
     blamed-told (λ line. IsSent line (g.E.Sink.holds c.args.errors.now) (g.E.Sink.holds c.tell_end.new.errors) (g.E.Sink.faults c.args.errors.now) (g.E.Sink.faults c.tell_end.new.errors)) c.tell_end.result g.S.X.BlockHash.block32 g.N.NameHash.name64
     (around (g.S.Store.seen c.args.store.now) (g.I.Source.left c.args.input.now) (g.I.Source.faults c.args.input.now) (g.O.Sink.holds c.args.output.now) (g.O.Sink.faults c.args.output.now) c.args.touches.now (host_side (g.W.Host.tree c.args.host.now) (g.W.Host.read_faults c.args.host.now) (g.W.Host.write_faults c.args.host.now)))
     (around (g.S.Store.seen c.serve-done.new.store) (g.I.Source.left c.serve-done.new.input) (g.I.Source.faults c.serve-done.new.input) (g.O.Sink.holds c.serve-done.new.output) (g.O.Sink.faults c.serve-done.new.output) c.serve-done.new.touches (host_side (g.W.Host.tree c.serve-done.new.host) (g.W.Host.read_faults c.serve-done.new.host) (g.W.Host.write_faults c.serve-done.new.host)))
-    (command_in (map string_bytes c.args.words.now)) c.serve-done.result (words-only (command_of (map string_bytes c.args.words.now))) c.serve-done.ensures.serves c.tell_end.ensures plain is
+    (command_in (map string_bytes c.args.words.now)) c.serve-done.result (words-only (command_of (map string_bytes c.args.words.now))) c.serve-done.ensures.serves c.tell_end.ensures is
 
 pub returns-clause-whole : goal.returns-clause-whole
 returns-clause-whole g c = λ s needs stands calm.

@@ -11,10 +11,10 @@ pub returns-in-Err : goal.returns-in-Err
 returns-in-Err g c = λ left reads held writes side.
     let e = c.in-Err.ensures in
     graft-unopened g.S.X.BlockHash.block32 g.N.NameHash.name64 c.args.source.now c.args.dest.now (g.S.Store.seen c.args.store.now) (g.S.Store.seen c.from_store.new.store) e.told left reads held writes c.args.touches.now side c.from_store.new.touches
-    c.in-Err.fault c.opening.result c.opening.ensures e.opens e.lost e.head e.cause
+    c.in-Err.fault c.opening.result c.opening.ensures e.opens e.lost e.head e.cause e.touched
 
 pub returns-in-Ok : goal.returns-in-Ok
 returns-in-Ok g c = λ left reads held writes side.
     let e = c.in-Ok.ensures in
     graft-ends g.S.X.BlockHash.block32 g.N.NameHash.name64 c.args.source.now c.args.dest.now (g.S.Store.seen c.args.store.now) (g.S.Store.seen c.from_store.new.store) e.told left reads held writes c.args.touches.now side
-    (g.S.Store.seen c.graft_in.new.store) c.in-Ok.tree e.opens e.lost e.head e.cause c.graft_in.new.touches c.graft_in.result c.graft_in.ensures
+    (g.S.Store.seen c.graft_in.new.store) c.in-Ok.tree e.opens e.lost e.head e.cause c.from_store.new.touches c.graft_in.new.touches e.touched.kept c.graft_in.result c.graft_in.ensures

@@ -12,16 +12,16 @@ pub returns-in-Err : goal.returns-in-Err
 returns-in-Err g c =
     let e = c.in-Err.ensures in
     graft-refused g.S.X.BlockHash.block32 g.N.NameHash.name64 c.args.tree c.grafted.new.tree c.args.source.now c.args.dest.now (g.S.Store.seen c.args.store.now) (g.S.Store.seen c.grafted.new.store)
-    c.in-Err.why e.puts e.saves e.kinds
+    c.in-Err.why e.puts e.saves e.kinds c.args.touches.now c.grafted.new.touches e.touched
 
 pub returns-in-Err-commit : goal.returns-in-Err-commit
 returns-in-Err-commit g c =
     let e = c.in-Ok.ensures in let k = c.in-Err-commit.ensures in
     graft-uncommitted g.S.X.BlockHash.block32 g.N.NameHash.name64 c.args.tree c.grafted.new.tree c.args.source.now c.args.dest.now (g.S.Store.seen c.args.store.now) (g.S.Store.seen c.grafted.new.store) (g.S.Store.seen c.commit.new.store)
-    e.puts e.saves k.good c.in-Err-commit.fault c.refusal.result c.refusal.ensures k.answer k.leaves k.cause
+    e.puts e.saves k.good c.in-Err-commit.fault c.refusal.result c.refusal.ensures k.answer k.leaves k.cause c.args.touches.now c.grafted.new.touches c.commit.new.touches e.touched k.touched
 
 pub returns-in-Ok-commit : goal.returns-in-Ok-commit
 returns-in-Ok-commit g c =
     let e = c.in-Ok.ensures in let k = c.in-Ok-commit.ensures in
     graft-committed g.S.X.BlockHash.block32 g.N.NameHash.name64 c.args.tree c.grafted.new.tree c.args.source.now c.args.dest.now (g.S.Store.seen c.args.store.now) (g.S.Store.seen c.grafted.new.store) (g.S.Store.seen c.commit.new.store)
-    e.puts e.saves k.good (head_text c.grafted.new.tree.profile c.grafted.new.tree.root.cid) refl k.commits k.cause
+    e.puts e.saves k.good (head_text c.grafted.new.tree.profile c.grafted.new.tree.root.cid) refl k.commits k.cause c.args.touches.now c.commit.new.touches

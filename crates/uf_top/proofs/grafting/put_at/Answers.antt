@@ -1,15 +1,12 @@
-use Rattle.std.proofs.Common.{Some, None}
-use Rattle.uf_adopt.specs.Adopting.{IsBuilt}
+use Rattle.std.proofs.Common.{◌≤◌, Some, None, arith}
 use Rattle.uf_mfs.specs.Bad.{IsBadInTree}
-use Rattle.uf_mfs.specs.Standing.{IsPlanOf}
 use Rattle.uf_store.specs.Calls.{OnlySaves}
-use Rattle.uf_store.specs.Faults.{NoneIsBad}
 use Rattle.uf_store.proofs.Calls.{saves-saves}
-use Rattle.uf_tree.specs.Tree.{Tree}
 use Rattle.uf_tree.specs.declared.nodes.Entry.{Entry}
 use Rattle.uf_reply.specs.Kinds.{fault_behind}
 use Rattle.uf_top.proofs.Putting.{is-put, not-put}
-use Rattle.uf_top.proofs.Shows.{Shown-tree}
+use Rattle.uf_top.proofs.Grafted.{up-counts, up-ok, up-same}
+use Rattle.uf_top.proofs.Shows.{Shown-tree, tree-touched}
 use Rattle.uf_top.proofs.grafting.put_at.Goals as goal
 
 pub returns-in-Err-place-clause-puts : goal.returns-in-Err-place-clause-puts
@@ -53,3 +50,18 @@ returns-in-Ok-place-clause-saves g c =
     let k = c.in-Ok-place.ensures in
     let after : OnlySaves X (IsBadInTree X N (Some p) c.args.tree.now.root.cid) None b d = record { cause = k.cause; good = k.good; saves = k.saves } in
     saves-saves c.in-Ok.ensures.saves after
+
+pub returns-in-Err-clause-touched : goal.returns-in-Err-clause-touched
+returns-in-Err-clause-touched g c = up-same Entry (Unit {0}) c.in-Err.why c.args.touches.now c.built.new.touches c.in-Err.ensures.touched
+
+pub returns-in-Err-place-clause-touched : goal.returns-in-Err-place-clause-touched
+returns-in-Err-place-clause-touched g c =
+    up-counts (Unit {0}) c.refusal.result c.args.touches.now c.built.new.touches c.place.new.touches c.in-Ok.ensures.touched.kept
+    (tree-touched (Unit {0}) c.in-Err-place.fault c.refusal.result c.built.new.touches c.place.new.touches c.refusal.ensures c.in-Err-place.ensures.touched)
+
+pub returns-in-Ok-place-clause-touched : goal.returns-in-Ok-place-clause-touched
+returns-in-Ok-place-clause-touched g c =
+    let first = c.in-Ok.ensures.touched.kept in
+    let second = c.in-Ok-place.ensures.touched.kept in
+    let low : c.args.touches.now ≤ c.place.new.touches = omega (arith, first, second) in
+    up-ok (Unit {0}) tt c.args.touches.now c.place.new.touches low

@@ -2,7 +2,7 @@ use Rattle.std.proofs.Common.{None, Some}
 use Rattle.uf_mfs.specs.Bad.{IsBadInTree}
 use Rattle.uf_mfs.proofs.Judging.{tree-more}
 use Rattle.uf_plain.specs.declared.spot.Spot.{Spot}
-use Rattle.uf_top.proofs.Shows.{Shown-tree}
+use Rattle.uf_top.proofs.Shows.{Shown-tree, tree-touched}
 use Rattle.uf_top.proofs.grafting.spot_for.Goals as goal
 
 pub returns-in-Err-spot-clause-reads : goal.returns-in-Err-spot-clause-reads
@@ -13,3 +13,7 @@ returns-in-Err-spot-clause-reads g c =
       cause = Shown-tree Spot X (IsBadInTree X N None root) (IsBadInTree X N (Some p) root) (tree-more X N p root) c.in-Err-spot.fault c.refusal.result (g.S.Store.seen c.args.store.now) (g.S.Store.seen c.spot.new.store) c.refusal.ensures e.cause;
       told = e.told;
     }
+
+pub returns-in-Err-spot-clause-touched : goal.returns-in-Err-spot-clause-touched
+returns-in-Err-spot-clause-touched g c =
+    tree-touched Spot c.in-Err-spot.fault c.refusal.result c.args.touches.now c.spot.new.touches c.refusal.ensures c.in-Err-spot.ensures.touched
