@@ -1,13 +1,39 @@
-"""CARs that go from one folder to another: a tree is exported and imported, a byte of it is changed, and blocks are lost.
+"""CARs that go from one folder to another: a tree is exported, imported and compared, a byte of it is changed, and blocks
+are lost.
 
 The word says how many files the tree has: two hundred where it isn't given.
 """
 
+import base64
 import os
 import shutil
 import subprocess
 import sys
 import tempfile
+
+
+def places(car):
+    """Where the sections of a CAR begin, and where it ends."""
+    found, place = [], 59
+    while place < len(car):
+        found.append(place)
+        size = shift = 0
+        while True:
+            byte = car[place]
+            size |= (byte & 127) << shift
+            shift += 7
+            place += 1
+            if byte < 128:
+                break
+        place += size
+    return found + [place]
+
+
+def cid_text(car, place):
+    """The text of the CID of the section that begins here."""
+    while car[place] > 127:
+        place += 1
+    return "b" + base64.b32encode(car[place + 1:place + 37]).decode().lower().rstrip("=")
 
 
 class Cars:
@@ -39,12 +65,27 @@ class Cars:
         top = os.path.join(self.folder, where, ".unixfs", "blocks")
         return {name: os.path.join(folder, name) for folder, _, names in os.walk(top) for name in names}
 
-    def lose(self, where, cid, words, line):
+    def lose(self, where, cid, words, line, data=b""):
         """A block is lost: the command is refused, and nothing is printed."""
         path = self.blocks(where)[cid]
         shutil.move(path, path + "-kept")
-        self.expect(f"{where}: lost {cid}", self.run(where, words), (4, b"", line))
+        self.expect(f"{where}: lost {cid}", self.run(where, words, data), (4, b"", line))
         shutil.move(path + "-kept", path)
+
+    def compare(self, root, car, last):
+        """A folder is compared with a CAR: they are equal, a byte differs, or a block is lost on either side."""
+        words, before = f"dag same {root}", len(self.blocks("to"))
+        for where in ("from", "to"):
+            self.expect("same", self.run(where, words, car), (0, b"equal\n", ""))
+            self.expect("differ", self.run(where, f"dag same {last}", car), (0, b"differ\n", ""))
+        spoiled = car[:-1] + bytes([car[-1] ^ 1])
+        status, printed, line = self.run("to", words, spoiled)
+        self.expect("one byte differs", (status, printed, line.startswith("error: rule Car 5 ")), (1, b"", True))
+        begin, end = places(car)[1:3]
+        self.expect("lost in the CAR", self.run("to", words, car[:begin] + car[end:]),
+                    (4, b"", f"error: missing {cid_text(car, begin)}\n"))
+        self.lose("to", last, words, f"error: missing {last}\n", car)
+        self.expect("nothing is kept", len(self.blocks("to")), before)
 
     def all(self, files):
         """A tree of so many files goes round."""
@@ -66,6 +107,7 @@ class Cars:
         self.expect("kept in front of it", len(self.blocks("spoiled")) + 1, len(self.blocks("to")))
         for where in ("from", "to"):
             self.lose(where, last, f"dag export {root}", f"error: missing {last}\n")
+        self.compare(root, car, last)
         self.expect("whole again", self.run("to", f"dag export {root}"), (0, car, ""))
 
 

@@ -16,7 +16,7 @@ use Rattle.uf_reply.specs.declared.types.Edit.TheVariants.{Cp, Mv}
 use Rattle.uf_reply.specs.declared.types.Refusal.{Refusal}
 use Rattle.uf_reply.specs.declared.types.Refusal.TheVariants as refusal
 use Rattle.uf_reply.specs.Cids.{cid_reads}
-use Rattle.uf_reply.specs.Commands.{IsAsked, IsOfWords, add_asked, adopt_asked, asked, asked_of, at_path, both_paths, cat_asked, export_asked, from_to, path_refusal, read_asked, write_asked}
+use Rattle.uf_reply.specs.Commands.{IsAsked, IsOfWords, add_asked, adopt_asked, asked, asked_of, at_path, both_paths, below_asked, cat_asked, from_to, path_refusal, read_asked, write_asked}
 
 at-only : (ask : Ask) (r : Result Path PathFault) → IsOfWords (at_path ask r)
 at-only ask (Ok path) = tt
@@ -47,13 +47,13 @@ cat-only (Err path.TooLong) = refl
 cat-only (Err (path.BadCid why)) = refl
 cat-only (Err path.Memory) = refl
 
-export-only : (r : Result Cid PathFault) → IsOfWords (export_asked r)
-export-only (Ok cid) = tt
-export-only (Err path.NotAbsolute) = refl
-export-only (Err (path.BadName place)) = refl
-export-only (Err path.TooLong) = refl
-export-only (Err (path.BadCid why)) = refl
-export-only (Err path.Memory) = refl
+below-only : (compared : Bool) (r : Result Cid PathFault) → IsOfWords (below_asked compared r)
+below-only compared (Ok cid) = tt
+below-only compared (Err path.NotAbsolute) = refl
+below-only compared (Err (path.BadName place)) = refl
+below-only compared (Err path.TooLong) = refl
+below-only compared (Err (path.BadCid why)) = refl
+below-only compared (Err path.Memory) = refl
 
 write-only : (how : WriteHow) (hex : Option (List ℕ)) (r : Result Path PathFault) → IsOfWords (write_asked how hex r)
 write-only how None (Ok path) = tt
@@ -107,8 +107,8 @@ cmd-only (cmd.Truncate path length) = at-only _ (path_reads path)
 cmd-only (cmd.Cp source dest) = cp-only (names_a_dag source) (dag_path_reads source) (path_reads source) (path_reads dest)
 cmd-only (cmd.Mv source dest) = from-to-only (λ to. Mv to) (path_reads source) (path_reads dest)
 cmd-only (cmd.Rm recursive path) = at-only _ (path_reads path)
-cmd-only (cmd.Export cid) = export-only (cid_reads cid)
-cmd-only (cmd.Same cid) = refl
+cmd-only (cmd.Export cid) = below-only false (cid_reads cid)
+cmd-only (cmd.Same cid) = below-only true (cid_reads cid)
 cmd-only cmd.Import = tt
 cmd-only cmd.Batch = refl
 cmd-only (cmd.Gen n seed) = refl

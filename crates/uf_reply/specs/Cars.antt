@@ -11,9 +11,11 @@ use Rattle.uf_car.specs.declared.fault.ExportFault.TheVariants as export
 use Rattle.uf_cid.specs.Blocks.{Lookup}
 use Rattle.uf_cid.specs.Cid.{cid_text}
 use Rattle.uf_cid.specs.declared.cid.Cid.{Cid}
+use Rattle.uf_store.specs.declared.store.StoreFault.{StoreFault}
 use Rattle.uf_store.specs.declared.store.StoreFault.TheVariants as store
 use Rattle.uf_walk.specs.Order.{OrderFault, OverMost, Missing, NotDagPb}
 use Rattle.uf_reply.specs.Lines.{line}
+use Rattle.uf_reply.specs.Statuses.{no_memory}
 use Rattle.uf_reply.specs.declared.types.DagRule.TheVariants as rule
 use Rattle.uf_reply.specs.declared.types.Refusal.{Refusal}
 use Rattle.uf_reply.specs.declared.types.Refusal.TheVariants as refusal
@@ -39,6 +41,30 @@ car_refusal (car.BadLength place) = refusal.Car 8 place
 car_refusal car.TooLong = refusal.Car 9 0
 car_refusal car.Read = refusal.Read
 car_refusal (car.Store fault) = refusal.Store fault
+
+-- the fault of a store that was made for a CAR: its sections lack a block, or two of them have one CID and other
+-- bytes; it fails for want of memory alone
+abbrev pub section_refusal : StoreFault → Refusal
+section_refusal store.Failed = no_memory
+section_refusal (store.Damaged cid) = no_memory
+section_refusal (store.Missing cid) = refusal.CarLacks cid
+section_refusal (store.BadBlock cid role) = no_memory
+section_refusal (store.Clash cid first second) = refusal.CarClash cid first second
+section_refusal store.Memory = no_memory
+
+-- why a CAR isn't read into such a store
+abbrev pub kept_refusal : CarFault → Refusal
+kept_refusal (car.Truncated place) = car_refusal (car.Truncated place)
+kept_refusal car.Header = car_refusal car.Header
+kept_refusal (car.Version version) = car_refusal (car.Version version)
+kept_refusal (car.BadCid place) = car_refusal (car.BadCid place)
+kept_refusal (car.WrongDigest place cid) = car_refusal (car.WrongDigest place cid)
+kept_refusal (car.TooBigBlock place size) = car_refusal (car.TooBigBlock place size)
+kept_refusal (car.TooManyRoots count) = car_refusal (car.TooManyRoots count)
+kept_refusal (car.BadLength place) = car_refusal (car.BadLength place)
+kept_refusal car.TooLong = car_refusal car.TooLong
+kept_refusal car.Read = car_refusal car.Read
+kept_refusal (car.Store fault) = section_refusal fault
 
 -- why a CAR isn't written
 abbrev pub export_refusal : ExportFault → Refusal

@@ -27,7 +27,7 @@ use Rattle.uf_words.specs.declared.command.Cmd.TheVariants as cmd
 use Rattle.uf_reply.specs.declared.types.Ask.{Ask}
 use Rattle.uf_reply.specs.declared.types.Ask.TheVariants.{Ls, Stat, Edit as Edits}
 use Rattle.uf_reply.specs.declared.types.Command.{Command}
-use Rattle.uf_reply.specs.declared.types.Command.TheVariants.{Init, Add, AddFrom, WriteInput, At, Read, Cat, Export, Import, Adopt}
+use Rattle.uf_reply.specs.declared.types.Command.TheVariants.{Init, Add, AddFrom, WriteInput, At, Read, Cat, Export, Import, Same, Adopt}
 use Rattle.uf_reply.specs.declared.types.Edit.{Edit}
 use Rattle.uf_reply.specs.declared.types.Edit.TheVariants.{Mkdir, Rm, Write, Truncate, Cp, Mv}
 use Rattle.uf_reply.specs.declared.types.Refusal.{Refusal}
@@ -71,10 +71,14 @@ abbrev pub cat_asked : Result DagPath PathFault → Result Command Refusal
 cat_asked (Ok path) = Ok (Cat path)
 cat_asked (Err why) = Err (path_refusal why)
 
--- `dag export` of what is below a CID
-abbrev pub export_asked : Result Cid PathFault → Result Command Refusal
-export_asked (Ok cid) = Ok (Export cid)
-export_asked (Err why) = Err (path_refusal why)
+-- `dag same`, or else `dag export`, of what is below a CID
+abbrev pub below : Bool → Cid → Command
+below true cid = Same cid
+below false cid = Export cid
+
+abbrev pub below_asked : Bool → Result Cid PathFault → Result Command Refusal
+below_asked compared (Ok cid) = Ok (below compared cid)
+below_asked compared (Err why) = Err (path_refusal why)
 
 -- two paths, or why the first text that is none is none
 abbrev pub both_paths : Result Path PathFault → Result Path PathFault → Result (Path × Path) Refusal
@@ -118,11 +122,11 @@ asked (cmd.Write offset create cut hex path) =
 asked (cmd.Truncate path length) = at_path (Edits (Truncate length)) (path_reads path)
 asked (cmd.Cp source dest) = cp_asked source dest
 asked (cmd.Mv source dest) = mv_asked source dest
-asked (cmd.Export cid) = export_asked (cid_reads cid)
+asked (cmd.Export cid) = below_asked false (cid_reads cid)
 asked cmd.Import = Ok Import
+asked (cmd.Same cid) = below_asked true (cid_reads cid)
 -- these aren't answered yet
 asked (cmd.Get target host_path) = Err refusal.Usage
-asked (cmd.Same cid) = Err refusal.Usage
 asked cmd.Batch = Err refusal.Usage
 asked (cmd.Gen n seed) = Err refusal.Usage
 
@@ -150,6 +154,7 @@ IsAccepted (Read offset count path) = Unit {0}
 IsAccepted (Cat path) = length path.names < 2 ^ 32
 IsAccepted (Export cid) = Unit {0}
 IsAccepted Import = Unit {0}
+IsAccepted (Same cid) = Unit {0}
 IsAccepted (Adopt source dest) = length source.names < 2 ^ 32
 
 -- the command reads the input
@@ -163,6 +168,7 @@ reads_input (Read offset count path) = false
 reads_input (Cat path) = false
 reads_input (Export cid) = false
 reads_input Import = true
+reads_input (Same cid) = true
 reads_input (Adopt source dest) = false
 
 -- the command writes its output while it reads blocks
@@ -176,6 +182,7 @@ streams (Read offset count path) = true
 streams (Cat path) = true
 streams (Export cid) = true
 streams Import = false
+streams (Same cid) = false
 streams (Adopt source dest) = false
 
 -- the command needs a Head, or that there is none; any other is answered by what is held alone
@@ -189,6 +196,7 @@ needs_standing (Read offset count path) = true
 needs_standing (Cat path) = false
 needs_standing (Export cid) = false
 needs_standing Import = false
+needs_standing (Same cid) = false
 needs_standing (Adopt source dest) = true
 
 -- the command copies from a DAG of others into the tree
@@ -202,11 +210,26 @@ adopts (Read offset count path) = false
 adopts (Cat path) = false
 adopts (Export cid) = false
 adopts Import = false
+adopts (Same cid) = false
 adopts (Adopt source dest) = true
 
 -- the command needs a Head, or that there is none, and reads no block but those of the tree that the Head names
 abbrev pub reads_tree_alone : Command → Bool
 reads_tree_alone command = needs_standing command && not (adopts command)
+
+-- the command compares what is held with a CAR
+abbrev pub compares : Command → Bool
+compares (Init profile) = false
+compares (Add only_hash) = false
+compares (AddFrom recursive only_hash path) = false
+compares (WriteInput how path) = false
+compares (At ask path) = false
+compares (Read offset count path) = false
+compares (Cat path) = false
+compares (Export cid) = false
+compares Import = false
+compares (Same cid) = true
+compares (Adopt source dest) = false
 
 -- the command reads or writes files and folders of the host
 abbrev pub uses_host : Command → Bool
@@ -219,6 +242,7 @@ uses_host (Read offset count path) = false
 uses_host (Cat path) = false
 uses_host (Export cid) = false
 uses_host Import = false
+uses_host (Same cid) = false
 uses_host (Adopt source dest) = false
 
 -- the command writes files and folders of the host; none does yet
@@ -242,6 +266,7 @@ only_reads (Read offset count path) = true
 only_reads (Cat path) = true
 only_reads (Export cid) = true
 only_reads Import = false
+only_reads (Same cid) = true
 only_reads (Adopt source dest) = false
 
 -- what a command may write to the store: nothing; blocks and a sync; a Head where there was none; blocks, a sync and the Head
@@ -267,6 +292,7 @@ command_writes (Read offset count path) = NoWrites
 command_writes (Cat path) = NoWrites
 command_writes (Export cid) = NoWrites
 command_writes Import = SyncsBlocks
+command_writes (Same cid) = NoWrites
 command_writes (Adopt source dest) = MovesHead
 
 -- the command is `add -n`, of the input or of the host
@@ -280,6 +306,7 @@ only_hashes (Read offset count path) = false
 only_hashes (Cat path) = false
 only_hashes (Export cid) = false
 only_hashes Import = false
+only_hashes (Same cid) = false
 only_hashes (Adopt source dest) = false
 
 -- a lookup found a file
@@ -325,6 +352,7 @@ is_idle bytes es (Read offset count path) = false
 is_idle bytes es (Cat path) = false
 is_idle bytes es (Export cid) = false
 is_idle bytes es Import = false
+is_idle bytes es (Same cid) = false
 is_idle bytes es (Adopt source dest) = false
 
 -- a fact of the command, where words ask for one, and else this

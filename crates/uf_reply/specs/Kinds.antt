@@ -7,13 +7,13 @@ use Rattle.std.specs.declared.result.Result.TheVariants.{Ok, Err}
 use Rattle.uf_store.specs.declared.store.StoreFault.{StoreFault}
 use Rattle.uf_store.specs.declared.store.StoreFault.TheVariants as fault
 use Rattle.uf_reply.specs.declared.types.Command.{Command}
-use Rattle.uf_reply.specs.declared.types.Command.TheVariants.{Init, Add, AddFrom, WriteInput, At, Read, Cat, Export, Import, Adopt}
+use Rattle.uf_reply.specs.declared.types.Command.TheVariants.{Init, Add, AddFrom, WriteInput, At, Read, Cat, Export, Import, Same, Adopt}
 use Rattle.uf_reply.specs.declared.types.Refusal.{Refusal}
 use Rattle.uf_reply.specs.declared.types.Refusal.TheVariants as refusal
 
--- the kinds of refusals: a damaged block is a failure of the store
+-- the kinds of refusals: a damaged block is a failure of the store, and the sections of a CAR may lack a block or clash
 pub data RefusalKind : Type 0 where
-  OfRule OfDag OfHost OfPath OfLongInput OfUsage OfReady OfRead OfWrite OfFailure OfMissing OfBadBlock OfClash OfMemory OfCar : RefusalKind
+  OfRule OfDag OfHost OfPath OfLongInput OfUsage OfReady OfRead OfWrite OfFailure OfMissing OfBadBlock OfClash OfMemory OfCar OfSections : RefusalKind
 
 -- the kind of a fault of the store
 abbrev pub fault_kind : StoreFault → RefusalKind
@@ -37,6 +37,8 @@ refusal_kind refusal.Read = OfRead
 refusal_kind refusal.Write = OfWrite
 refusal_kind (refusal.Store fault) = fault_kind fault
 refusal_kind (refusal.Car number place) = OfCar
+refusal_kind (refusal.CarLacks cid) = OfSections
+refusal_kind (refusal.CarClash cid first second) = OfSections
 
 -- the store's fault in a refusal
 abbrev pub fault_behind : Refusal → Option StoreFault
@@ -49,10 +51,10 @@ refusal_fault (Ok a) = None
 refusal_fault (Err why) = fault_behind why
 
 -- the families of commands: those that make a store ready, that add an input or what a host has, that write an input into
--- the tree of the Head, that work on that tree alone, that read DAGs of others, that keep the blocks of a CAR, and that
--- copy from DAGs of others into that tree
+-- the tree of the Head, that work on that tree alone, that read DAGs of others, that keep the blocks of a CAR, that
+-- compare with one, and that copy from DAGs of others into that tree
 pub data Family : Type 0 where
-  MakesReady AddsInput AddsHost TakesInput WorksInTree ReadsDag KeepsCar AdoptsDag : Family
+  MakesReady AddsInput AddsHost TakesInput WorksInTree ReadsDag KeepsCar ComparesCar AdoptsDag : Family
 
 abbrev pub family_of : Command → Family
 family_of (Init p) = MakesReady
@@ -64,6 +66,7 @@ family_of (Read offset count path) = WorksInTree
 family_of (Cat path) = ReadsDag
 family_of (Export cid) = ReadsDag
 family_of Import = KeepsCar
+family_of (Same cid) = ComparesCar
 family_of (Adopt source dest) = AdoptsDag
 
 -- the kinds that a command of a family may answer once its words are read, before it prints
@@ -102,6 +105,7 @@ may_answer TakesInput OfPath = false
 may_answer TakesInput OfUsage = false
 may_answer TakesInput OfWrite = false
 may_answer TakesInput OfCar = false
+may_answer TakesInput OfSections = false
 may_answer TakesInput kind = true
 may_answer ReadsDag OfDag = true
 may_answer ReadsDag OfFailure = true
@@ -115,8 +119,17 @@ may_answer KeepsCar OfFailure = true
 may_answer KeepsCar OfClash = true
 may_answer KeepsCar OfMemory = true
 may_answer KeepsCar kind = false
+may_answer ComparesCar OfDag = true
+may_answer ComparesCar OfCar = true
+may_answer ComparesCar OfSections = true
+may_answer ComparesCar OfRead = true
+may_answer ComparesCar OfFailure = true
+may_answer ComparesCar OfMissing = true
+may_answer ComparesCar OfMemory = true
+may_answer ComparesCar kind = false
 may_answer AdoptsDag OfHost = false
 may_answer AdoptsDag OfCar = false
+may_answer AdoptsDag OfSections = false
 may_answer AdoptsDag OfPath = false
 may_answer AdoptsDag OfLongInput = false
 may_answer AdoptsDag OfUsage = false

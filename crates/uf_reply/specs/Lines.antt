@@ -88,9 +88,14 @@ missing_line cid = line (codes "error: missing ") (cid_text cid)
 abbrev pub bad_block_line : Cid → Role → List ℕ
 bad_block_line cid role = line (codes "error: bad block ") (cid_text cid ++ 32 ∷ role_word role)
 
--- both blocks in lower case hexadecimal digits, the held one first
+-- a CID and two blocks in lower case hexadecimal digits
+abbrev pub two_blocks_line : List ℕ → Cid → List ℕ → List ℕ → List ℕ
+two_blocks_line front cid first second =
+    line front (cid_text cid ++ 32 ∷ encode_lower first ++ 32 ∷ encode_lower second)
+
+-- two blocks of one digest, the held one first
 abbrev pub clash_line : Cid → List ℕ → List ℕ → List ℕ
-clash_line cid held bytes = line (codes "error: clash ") (cid_text cid ++ 32 ∷ encode_lower held ++ 32 ∷ encode_lower bytes)
+clash_line cid held bytes = two_blocks_line (codes "error: clash ") cid held bytes
 
 -- the error line of a fault of the store
 abbrev pub fault_line : StoreFault → List ℕ
@@ -138,6 +143,8 @@ line_of refusal.Read = plain_line status.ReadFault
 line_of refusal.Write = plain_line status.WriteFault
 line_of (refusal.Store why) = fault_line why
 line_of (refusal.Car number place) = car_line number place
+line_of (refusal.CarLacks cid) = missing_line cid
+line_of (refusal.CarClash cid first second) = clash_line cid first second
 
 -- the line that goes to `errors`; nothing at Ok
 abbrev pub said : Result (List ℕ) Refusal → List ℕ

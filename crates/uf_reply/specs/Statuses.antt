@@ -59,6 +59,8 @@ status_of refusal.Read = status.ReadFault
 status_of refusal.Write = status.WriteFault
 status_of (refusal.Store why) = fault_status why
 status_of (refusal.Car number place) = status.Rule
+status_of (refusal.CarLacks cid) = status.Missing
+status_of (refusal.CarClash cid first second) = status.Clash
 
 -- how a command ends that is done or refused
 abbrev pub ended : {A : Type 0} → Result A Refusal → Status

@@ -4,7 +4,7 @@ ghost use Rattle.std.specs.List.{after_first};
 ghost use Rattle.uf_path.specs.Paths.{ReadsAs, dag_path_reads, is_slash, path_reads};
 ghost use Rattle.uf_reply.specs.Cids.{cid_reads, first_name_at as first_name_in, slashes_before as slashes_in_front};
 ghost use Rattle.uf_reply.specs.Commands.{IsAccepted, IsAsked, add_asked, asked, at_path, both_paths, command_in};
-ghost use Rattle.uf_reply.specs.Commands.{adopt_asked, cat_asked, cp_asked, export_asked, mv_asked, path_refusal, read_asked};
+ghost use Rattle.uf_reply.specs.Commands.{adopt_asked, below_asked, cat_asked, cp_asked, mv_asked, path_refusal, read_asked};
 ghost use Rattle.uf_reply.specs.Commands.{write_asked};
 ghost use Rattle.uf_reply.specs.declared.types.Ask.TheVariants as asks;
 ghost use Rattle.uf_words.specs.Commands.{HasAcceptedProfile};
@@ -67,8 +67,9 @@ fn read_path(alloc: Global, cmd: Cmd) -> Result<Command, Refusal>
             count,
             path,
         } => read_read(alloc, offset, count, &path),
-        Cmd::Export { cid } => read_export(alloc, &cid),
+        Cmd::Export { cid } => read_below(alloc, &cid, false),
         Cmd::Import => Ok(Command::Import),
+        Cmd::Same { cid } => read_below(alloc, &cid, true),
         _ => Err(Refusal::Usage),
     }
 }
@@ -132,12 +133,13 @@ fn read_cat(alloc: Global, target: &Text) -> Result<Command, Refusal>
     }
 }
 
-// `dag export`.
-fn read_export(alloc: Global, cid: &Text) -> Result<Command, Refusal>
-    ensures asked { IsAsked result (export_asked (cid_reads cid.now)) }
+// `dag same`, or else `dag export`, of what is below a CID.
+fn read_below(alloc: Global, cid: &Text, compared: bool) -> Result<Command, Refusal>
+    ensures asked { IsAsked result (below_asked compared (cid_reads cid.now)) }
     ensures profile { IfOk result IsAccepted }
 {
     match read_cid(alloc, cid.as_str()) {
+        Ok(cid) if compared => Ok(Command::Same { cid }),
         Ok(cid) => Ok(Command::Export { cid }),
         Err(why) => Err(bad_path(why)),
     }

@@ -2,11 +2,13 @@
 ghost use Rattle.std.specs.Prelude.{◌≡◌, ◌++◌, IfOk, OnOk};
 ghost use Rattle.std.specs.List.{flat_map};
 ghost use Rattle.uf_reply.specs.Cars.{car_refusal as refusal_of_car, export_refusal as refusal_of_export, root_line};
+ghost use Rattle.uf_reply.specs.Cars.{kept_refusal as refusal_of_kept, section_refusal as refusal_of_section};
 
 use crate::{DagRule, Refusal};
 use std::alloc::Global;
 use uf_car::{CarFault, ExportFault};
 use uf_cid::{Block, Cid, Cids, Memory};
+use uf_store::StoreFault;
 
 /// A fault of a CAR, as a refusal.
 pub fn car_refusal(fault: CarFault) -> Refusal
@@ -26,6 +28,31 @@ pub fn car_refusal(fault: CarFault) -> Refusal
         CarFault::Store(fault) => return Refusal::Store(fault),
     };
     Refusal::Car { number, place }
+}
+
+/// A fault of a CAR that is read into a store of its own, as a refusal.
+pub fn kept_refusal(fault: CarFault) -> Refusal
+    ensures { result ≡ refusal_of_kept fault }
+{
+    match fault {
+        CarFault::Store(fault) => section_refusal(fault),
+        fault => car_refusal(fault),
+    }
+}
+
+/// A fault of the store into which a CAR was read, as a refusal: its sections lack a block, or two of them clash. Such a
+/// store is made for the CAR, and fails for want of memory alone.
+pub fn section_refusal(fault: StoreFault) -> Refusal
+    ensures { result ≡ refusal_of_section fault }
+{
+    match fault {
+        StoreFault::Missing(cid) => Refusal::CarLacks(cid),
+        StoreFault::Clash(cid, first, second) => Refusal::CarClash(cid, first, second),
+        StoreFault::Failed
+        | StoreFault::Damaged(_)
+        | StoreFault::BadBlock(_, _)
+        | StoreFault::Memory => Refusal::Store(StoreFault::Memory),
+    }
 }
 
 /// Why a CAR isn't written, as a refusal.

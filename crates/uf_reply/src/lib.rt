@@ -12,9 +12,9 @@ mod status;
 mod types;
 
 pub use asking::read_command;
-pub use cars::{car_refusal, export_refusal, root_lines};
+pub use cars::{car_refusal, export_refusal, kept_refusal, root_lines, section_refusal};
 pub use dags::{adopted_name, dag_refusal, no_file};
-pub use lines::{line, refusal_status};
+pub use lines::{line, plain, refusal_status, two_blocks};
 pub use rows::{added_row, name_lines, put_added, row_lines, stat_text};
 pub use status::Status;
 pub use types::{Ask, Command, DagRule, Edit, HostRule, Refusal};

@@ -3,7 +3,7 @@ ghost use Rattle.std.specs.Prelude.{◌≡◌, ◌++◌, ◌∷◌, [], IfOk, On
 ghost use Rattle.std.specs.Fmt.{decimal};
 ghost use Rattle.hex.specs.Hex.{encode_lower};
 ghost use Rattle.uf_words.specs.Shown.{shown_bytes};
-ghost use Rattle.uf_reply.specs.Lines.{bad_block_line, bad_path_line, car_line as line_of_car, clash_line, dag_line as line_of_dag, fault_line, host_line as line_of_host, host_words as words_of_host, line as line_text, line_of, path_number as number_of_path, path_place as place_of_path, ready_line as line_of_ready, role_word, rule_line as line_of_rule, rule_words as words_of_rule, with_detail, with_details};
+ghost use Rattle.uf_reply.specs.Lines.{bad_block_line, bad_path_line, car_line as line_of_car, clash_line, dag_line as line_of_dag, fault_line, missing_line, host_line as line_of_host, host_words as words_of_host, line as line_text, line_of, path_number as number_of_path, path_place as place_of_path, ready_line as line_of_ready, role_word, rule_line as line_of_rule, rule_words as words_of_rule, two_blocks_line, with_detail, with_details};
 ghost use Rattle.uf_reply.specs.Statuses.{fault_status, status_of};
 
 use crate::dags::dag_words;
@@ -31,6 +31,8 @@ pub fn refusal_status(refusal: &Refusal) -> Status
         Refusal::Read => Status::ReadFault,
         Refusal::Write => Status::WriteFault,
         Refusal::Store(fault) => status_of_fault(fault),
+        Refusal::CarLacks(_) => Status::Missing,
+        Refusal::CarClash(_, _, _) => Status::Clash,
     }
 }
 
@@ -63,6 +65,10 @@ pub fn line(alloc: Global, refusal: &Refusal) -> Result<Block, Memory>
         Refusal::Write => plain(alloc, Status::WriteFault.plain_line()),
         Refusal::Store(fault) => store_line(alloc, fault),
         Refusal::Car { number, place } => car_line(alloc, *number, *place),
+        Refusal::CarLacks(cid) => missing(alloc, cid),
+        Refusal::CarClash(cid, first, second) => {
+            clash(alloc, cid, first.as_slice(), second.as_slice())
+        }
     }
 }
 
@@ -74,13 +80,20 @@ fn store_line(alloc: Global, fault: &StoreFault) -> Result<Block, Memory>
         StoreFault::Failed | StoreFault::Damaged(_) => {
             plain(alloc, Status::StoreFault.plain_line())
         }
-        StoreFault::Missing(cid) => wrapped(alloc, b"error: missing ", &cid.text()),
+        StoreFault::Missing(cid) => missing(alloc, cid),
         StoreFault::BadBlock(cid, role) => bad_block(alloc, cid, *role),
         StoreFault::Clash(cid, held, bytes) => {
             clash(alloc, cid, held.as_slice(), bytes.as_slice())
         }
         StoreFault::Memory => plain(alloc, Status::Memory.plain_line()),
     }
+}
+
+// The line of a block that is missing.
+fn missing(alloc: Global, cid: &Cid) -> Result<Block, Memory>
+    ensures { IfOk result (λ b. b ≡ missing_line cid.now) }
+{
+    wrapped(alloc, b"error: missing ", &cid.text())
 }
 
 // The line of a block that isn't canonical in its role.
@@ -104,14 +117,27 @@ fn word_of_role(role: Role) -> &'static [u8]
     }
 }
 
-// The line of two blocks of one digest, the held one first.
+// The error line of two blocks of one digest, the held one first.
 fn clash(alloc: Global, cid: &Cid, held: &[u8], bytes: &[u8]) -> Result<Block, Memory>
     ensures { IfOk result (λ b. b ≡ clash_line cid.now held.now bytes.now) }
 {
+    two_blocks(alloc, b"error: clash ", cid, held, bytes)
+}
+
+/// A line with a CID and two blocks in lower case hexadecimal digits.
+pub fn two_blocks(
+    alloc: Global,
+    front: &[u8],
+    cid: &Cid,
+    first: &[u8],
+    second: &[u8],
+) -> Result<Block, Memory>
+    ensures { IfOk result (λ b. b ≡ two_blocks_line front.now cid.now first.now second.now) }
+{
     let mut words = plain(alloc, &cid.text())?;
-    put_hex(alloc, &mut words, held)?;
-    put_hex(alloc, &mut words, bytes)?;
-    wrapped(alloc, b"error: clash ", words.as_slice())
+    put_hex(alloc, &mut words, first)?;
+    put_hex(alloc, &mut words, second)?;
+    wrapped(alloc, front, words.as_slice())
 }
 
 // A space and bytes in lower case hexadecimal digits.
@@ -261,7 +287,7 @@ pub fn wrapped(alloc: Global, front: &[u8], rest: &[u8]) -> Result<Block, Memory
     Ok(out)
 }
 
-// These bytes in a block of their own.
+/// These bytes in a block of their own.
 pub fn plain(alloc: Global, bytes: &[u8]) -> Result<Block, Memory>
     ensures { IfOk result (λ b. b ≡ bytes.now) }
 {

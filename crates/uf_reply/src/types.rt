@@ -60,6 +60,9 @@ pub enum Command {
         cid: Cid,
     },
     Import,
+    Same {
+        cid: Cid,
+    },
     Adopt {
         source: DagPath,
         dest: Path,
@@ -95,6 +98,8 @@ pub enum HostRule {
 }
 
 /// Why a command is refused. A fault of a CAR has its number, and the byte with which the header or the section begins.
+/// The sections of one that is compared may lack the block of a CID, or two of them have one CID and other bytes, those of
+/// the earlier one first.
 #[derive(Drop)]
 pub enum Refusal {
     Rule(Rule),
@@ -108,4 +113,6 @@ pub enum Refusal {
     Write,
     Store(StoreFault),
     Car { number: u8, place: u64 },
+    CarLacks(Cid),
+    CarClash(Cid, Block, Block),
 }

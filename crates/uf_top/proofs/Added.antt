@@ -112,6 +112,8 @@ module _ (X : List ℕ → List ℕ) where
       })
   added-answers N s blocks p bytes (Err (refusal.Dag rule)) held a b l m i j stands stays row e shown f c counts read = absurd row
   added-answers N s blocks p bytes (Err (refusal.Car number place)) held a b l m i j stands stays row e shown f c counts read = absurd row
+  added-answers N s blocks p bytes (Err (refusal.CarLacks cid)) held a b l m i j stands stays row e shown f c counts read = absurd row
+  added-answers N s blocks p bytes (Err (refusal.CarClash cid first second)) held a b l m i j stands stays row e shown f c counts read = absurd row
   added-answers N s blocks p bytes (Err (refusal.Host rule)) held a b l m i j stands stays row e shown f c counts read = absurd row
   added-answers N s blocks p bytes (Err (refusal.BadPath why)) held a b l m i j stands stays row e shown f c counts read = absurd row
   added-answers N s blocks p bytes (Err refusal.Usage) held a b l m i j stands stays row e shown f c counts read = absurd row
@@ -145,6 +147,8 @@ module _ (X : List ℕ → List ℕ) where
       })
   added-over N c d p es held_blocks bytes (Err (refusal.Dag rule)) held a b l m i j stands row e shown f g counts read = absurd row
   added-over N c d p es held_blocks bytes (Err (refusal.Car number place)) held a b l m i j stands row e shown f g counts read = absurd row
+  added-over N c d p es held_blocks bytes (Err (refusal.CarLacks cid)) held a b l m i j stands row e shown f g counts read = absurd row
+  added-over N c d p es held_blocks bytes (Err (refusal.CarClash cid first second)) held a b l m i j stands row e shown f g counts read = absurd row
   added-over N c d p es held_blocks bytes (Err (refusal.Host rule)) held a b l m i j stands row e shown f g counts read = absurd row
   added-over N c d p es held_blocks bytes (Err (refusal.BadPath why)) held a b l m i j stands row e shown f g counts read = absurd row
   added-over N c d p es held_blocks bytes (Err refusal.Usage) held a b l m i j stands row e shown f g counts read = absurd row
@@ -163,6 +167,8 @@ module _ (X : List ℕ → List ℕ) where
   unread-over good N p es given (refusal.Rule rule) a b names stands read shown f g = absurd read
   unread-over good N p es given (refusal.Dag rule) a b names stands read shown f g = absurd read
   unread-over good N p es given (refusal.Car number place) a b names stands read shown f g = absurd read
+  unread-over good N p es given (refusal.CarLacks cid) a b names stands read shown f g = absurd read
+  unread-over good N p es given (refusal.CarClash cid first second) a b names stands read shown f g = absurd read
   unread-over good N p es given (refusal.Host rule) a b names stands read shown f g = absurd read
   unread-over good N p es given (refusal.BadPath why) a b names stands read shown f g = absurd read
   unread-over good N p es given refusal.Usage a b names stands read shown f g = absurd read
@@ -190,6 +196,8 @@ module _ (X : List ℕ → List ℕ) where
   head-refused good N s only_hash bytes (refusal.Rule rule) a b told now read shown f c = absurd read
   head-refused good N s only_hash bytes (refusal.Dag rule) a b told now read shown f c = absurd read
   head-refused good N s only_hash bytes (refusal.Car number place) a b told now read shown f c = absurd read
+  head-refused good N s only_hash bytes (refusal.CarLacks cid) a b told now read shown f c = absurd read
+  head-refused good N s only_hash bytes (refusal.CarClash cid first second) a b told now read shown f c = absurd read
   head-refused good N s only_hash bytes (refusal.Host rule) a b told now read shown f c = absurd read
   head-refused good N s only_hash bytes (refusal.BadPath why) a b told now read shown f c = absurd read
   head-refused good N s only_hash bytes refusal.Usage a b told now read shown f c = absurd read
@@ -242,6 +250,8 @@ module _ (X : List ℕ → List ℕ) where
   adds-of only_hash told held p (Err (refusal.Rule rule)) l m by row = (row.0, record { profile = p; adds_by = by; bytes = row.1.bytes; taken = row.1.taken; many = row.1.many })
   adds-of only_hash told held p (Err (refusal.Dag rule)) l m by row = tt
   adds-of only_hash told held p (Err (refusal.Car number place)) l m by row = tt
+  adds-of only_hash told held p (Err (refusal.CarLacks cid)) l m by row = tt
+  adds-of only_hash told held p (Err (refusal.CarClash cid first second)) l m by row = tt
   adds-of only_hash told held p (Err (refusal.Host rule)) l m by row = tt
   adds-of only_hash told held p (Err (refusal.BadPath why)) l m by row = tt
   adds-of only_hash told held p (Err refusal.Usage) l m by row = tt
@@ -255,6 +265,8 @@ module _ (X : List ℕ → List ℕ) where
   adds-read only_hash told (refusal.Rule rule) l m read = absurd read
   adds-read only_hash told (refusal.Dag rule) l m read = tt
   adds-read only_hash told (refusal.Car number place) l m read = tt
+  adds-read only_hash told (refusal.CarLacks cid) l m read = tt
+  adds-read only_hash told (refusal.CarClash cid first second) l m read = tt
   adds-read only_hash told (refusal.Host rule) l m read = tt
   adds-read only_hash told (refusal.BadPath why) l m read = tt
   adds-read only_hash told refusal.Usage l m read = tt
@@ -269,6 +281,8 @@ module _ (X : List ℕ → List ℕ) where
   row-ready only_hash told held p (Err (refusal.Rule rule)) l m row = tt
   row-ready only_hash told held p (Err (refusal.Dag rule)) l m row = tt
   row-ready only_hash told held p (Err (refusal.Car number place)) l m row = tt
+  row-ready only_hash told held p (Err (refusal.CarLacks cid)) l m row = tt
+  row-ready only_hash told held p (Err (refusal.CarClash cid first second)) l m row = tt
   row-ready only_hash told held p (Err (refusal.Host rule)) l m row = tt
   row-ready only_hash told held p (Err (refusal.BadPath why)) l m row = tt
   row-ready only_hash told held p (Err refusal.Usage) l m row = tt
@@ -304,6 +318,8 @@ pub read-ready : (only_hash : Bool) (told : Told) (why : Refusal) → IsProfileR
 read-ready only_hash told (refusal.Rule rule) read = tt
 read-ready only_hash told (refusal.Dag rule) read = tt
 read-ready only_hash told (refusal.Car number place) read = tt
+read-ready only_hash told (refusal.CarLacks cid) read = tt
+read-ready only_hash told (refusal.CarClash cid first second) read = tt
 read-ready only_hash told (refusal.Host rule) read = tt
 read-ready only_hash told (refusal.BadPath why) read = tt
 read-ready only_hash told refusal.Usage read = tt
@@ -320,6 +336,8 @@ synced-row X p a b entry row (Ok text) l m synced is row_is stops file = row-of 
 synced-row X p a b entry row (Err (refusal.Rule rule)) l m leaves is row_is stops file = absurd stops
 synced-row X p a b entry row (Err (refusal.Dag rule)) l m leaves is row_is stops file = absurd stops
 synced-row X p a b entry row (Err (refusal.Car number place)) l m leaves is row_is stops file = absurd stops
+synced-row X p a b entry row (Err (refusal.CarLacks cid)) l m leaves is row_is stops file = absurd stops
+synced-row X p a b entry row (Err (refusal.CarClash cid first second)) l m leaves is row_is stops file = absurd stops
 synced-row X p a b entry row (Err (refusal.Host rule)) l m leaves is row_is stops file = absurd stops
 synced-row X p a b entry row (Err (refusal.BadPath why)) l m leaves is row_is stops file = absurd stops
 synced-row X p a b entry row (Err refusal.Usage) l m leaves is row_is stops file = absurd stops

@@ -163,6 +163,8 @@ pub reading-kinds : (hash : List ℕ → List ℕ) (a b : Seen) (why : Refusal) 
 reading-kinds hash a b (refusal.Rule r) of h = absurd of
 reading-kinds hash a b (refusal.Dag r) of h = refl
 reading-kinds hash a b (refusal.Car number place) of h = absurd of
+reading-kinds hash a b (refusal.CarLacks cid) of h = absurd of
+reading-kinds hash a b (refusal.CarClash cid first second) of h = absurd of
 reading-kinds hash a b (refusal.Host r) of h = absurd of
 reading-kinds hash a b (refusal.BadPath p) of h = absurd of
 reading-kinds hash a b refusal.InputTooLong of h = absurd of
@@ -181,6 +183,8 @@ pub no-blame : (hash : List ℕ → List ℕ) (a b : Seen) (why : Refusal) → I
 no-blame hash a b (refusal.Rule r) of h blames = of
 no-blame hash a b (refusal.Dag r) of h blames = blames
 no-blame hash a b (refusal.Car number place) of h blames = of
+no-blame hash a b (refusal.CarLacks cid) of h blames = of
+no-blame hash a b (refusal.CarClash cid first second) of h blames = of
 no-blame hash a b (refusal.Host r) of h blames = blames
 no-blame hash a b (refusal.BadPath p) of h blames = of
 no-blame hash a b refusal.InputTooLong of h blames = of
@@ -206,6 +210,8 @@ plain-of command told l m i (refusal.Rule r) of = absurd of
 plain-of command told l m i (refusal.Dag r) of = record { other = λ e. cc; ready = tt; rule = λ e. (r, refl); reads = counts-still i }
 plain-of command told l m i (refusal.Host r) of = absurd of
 plain-of command told l m i (refusal.Car number place) of = absurd of
+plain-of command told l m i (refusal.CarLacks cid) of = absurd of
+plain-of command told l m i (refusal.CarClash cid first second) of = absurd of
 plain-of command told l m i (refusal.BadPath p) of = absurd of
 plain-of path told l m i refusal.InputTooLong of = absurd of
 plain-of path told l m i refusal.Usage of = absurd of
@@ -224,6 +230,8 @@ pub own-wants : (hash : List ℕ → List ℕ) (a b : Seen) (why : Refusal) → 
 own-wants hash a b (refusal.Rule r) own h calm = absurd own
 own-wants hash a b (refusal.Dag r) own h calm = absurd own
 own-wants hash a b (refusal.Car number place) own h calm = absurd own
+own-wants hash a b (refusal.CarLacks cid) own h calm = absurd own
+own-wants hash a b (refusal.CarClash cid first second) own h calm = absurd own
 own-wants hash a b (refusal.Host r) own h calm = absurd own
 own-wants hash a b (refusal.BadPath p) own h calm = absurd own
 own-wants hash a b refusal.InputTooLong own h calm = absurd own

@@ -29,6 +29,8 @@ pub stopped-more : (A B : Type 0) (why : Refusal) → (A → B) → IsStopped A 
 stopped-more A B (refusal.Rule rule) more h = (h.0, more h.1)
 stopped-more A B (refusal.Dag rule) more h = h
 stopped-more A B (refusal.Car number place) more h = h
+stopped-more A B (refusal.CarLacks cid) more h = h
+stopped-more A B (refusal.CarClash cid first second) more h = h
 stopped-more A B (refusal.Host rule) more h = h
 stopped-more A B (refusal.BadPath why) more h = h
 stopped-more A B refusal.Usage more h = h

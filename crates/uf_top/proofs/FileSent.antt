@@ -70,6 +70,8 @@ ready-read : (offset count : ℕ) (path : Path) (told : Told) (w : Refusal) → 
 ready-read offset count path told (refusal.Rule rule) h = tt
 ready-read offset count path told (refusal.Dag rule) h = tt
 ready-read offset count path told (refusal.Car number place) h = tt
+ready-read offset count path told (refusal.CarLacks cid) h = tt
+ready-read offset count path told (refusal.CarClash cid first second) h = tt
 ready-read offset count path told (refusal.Host rule) h = tt
 ready-read offset count path told (refusal.BadPath why) h = tt
 ready-read offset count path told refusal.InputTooLong h = tt

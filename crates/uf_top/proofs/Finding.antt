@@ -18,7 +18,7 @@ use Rattle.uf_reply.specs.declared.types.Ask.{Ask}
 use Rattle.uf_reply.specs.declared.types.Ask.TheVariants.{Ls, Stat, Edit as Edits}
 use Rattle.uf_reply.specs.declared.types.Refusal.{Refusal}
 use Rattle.uf_reply.specs.declared.types.Refusal.TheVariants as refusal
-use Rattle.uf_reply.specs.Kinds.{IsOf, RefusalKind, OfMissing, OfBadBlock, MakesReady, AddsInput, may_answer, refusal_kind, word_kinds}
+use Rattle.uf_reply.specs.Kinds.{IsOf, RefusalKind, OfMissing, OfBadBlock, OfSections, MakesReady, AddsInput, may_answer, refusal_kind, word_kinds}
 use Rattle.uf_reply.specs.Commands.{IsOfWords}
 use Rattle.uf_top.specs.Endings.{FindsAll}
 use Rattle.uf_top.specs.Answering.{Answers}
@@ -45,23 +45,25 @@ memory-finds : FindsAll status.Memory
 memory-finds = (λ e. cc, λ e. cc)
 
 -- by what kind of refusal it ended
-pub kind-finds : (why : Refusal) → refusal_kind why ≢ OfMissing → refusal_kind why ≢ OfBadBlock → Finds (Err why)
-kind-finds (refusal.Rule rule) missing bad = rule-finds
-kind-finds (refusal.Dag rule) missing bad = rule-finds
-kind-finds (refusal.Car number place) missing bad = rule-finds
-kind-finds (refusal.Host rule) missing bad = rule-finds
-kind-finds (refusal.BadPath why) missing bad = rule-finds
-kind-finds refusal.Usage missing bad = (λ e. cc, λ e. cc)
-kind-finds refusal.InputTooLong missing bad = (λ e. cc, λ e. cc)
-kind-finds (refusal.Ready why) missing bad = unready-finds
-kind-finds refusal.Read missing bad = (λ e. cc, λ e. cc)
-kind-finds refusal.Write missing bad = (λ e. cc, λ e. cc)
-kind-finds (refusal.Store fault.Failed) missing bad = (λ e. cc, λ e. cc)
-kind-finds (refusal.Store (fault.Damaged cid)) missing bad = (λ e. cc, λ e. cc)
-kind-finds (refusal.Store (fault.Missing cid)) missing bad = absurd (missing refl)
-kind-finds (refusal.Store (fault.BadBlock cid role)) missing bad = absurd (bad refl)
-kind-finds (refusal.Store (fault.Clash cid held bytes)) missing bad = (λ e. cc, λ e. cc)
-kind-finds (refusal.Store fault.Memory) missing bad = memory-finds
+pub kind-finds : (why : Refusal) → refusal_kind why ≢ OfMissing → refusal_kind why ≢ OfBadBlock → refusal_kind why ≢ OfSections → Finds (Err why)
+kind-finds (refusal.Rule rule) missing bad sections = rule-finds
+kind-finds (refusal.Dag rule) missing bad sections = rule-finds
+kind-finds (refusal.Car number place) missing bad sections = rule-finds
+kind-finds (refusal.CarLacks cid) missing bad sections = absurd (sections refl)
+kind-finds (refusal.CarClash cid first second) missing bad sections = absurd (sections refl)
+kind-finds (refusal.Host rule) missing bad sections = rule-finds
+kind-finds (refusal.BadPath why) missing bad sections = rule-finds
+kind-finds refusal.Usage missing bad sections = (λ e. cc, λ e. cc)
+kind-finds refusal.InputTooLong missing bad sections = (λ e. cc, λ e. cc)
+kind-finds (refusal.Ready why) missing bad sections = unready-finds
+kind-finds refusal.Read missing bad sections = (λ e. cc, λ e. cc)
+kind-finds refusal.Write missing bad sections = (λ e. cc, λ e. cc)
+kind-finds (refusal.Store fault.Failed) missing bad sections = (λ e. cc, λ e. cc)
+kind-finds (refusal.Store (fault.Damaged cid)) missing bad sections = (λ e. cc, λ e. cc)
+kind-finds (refusal.Store (fault.Missing cid)) missing bad sections = absurd (missing refl)
+kind-finds (refusal.Store (fault.BadBlock cid role)) missing bad sections = absurd (bad refl)
+kind-finds (refusal.Store (fault.Clash cid held bytes)) missing bad sections = (λ e. cc, λ e. cc)
+kind-finds (refusal.Store fault.Memory) missing bad sections = memory-finds
 
 -- of these kinds it is of none
 pub of-none : (kinds : RefusalKind → Bool) (k none : RefusalKind) → kinds k ≡ true → kinds none ≡ false → k ≢ none
@@ -69,17 +71,17 @@ of-none kinds k none h not = λ e. (let t : true ≡ false = sym h ∙ ap kinds 
 
 -- words that are refused
 pub words-whole : (why : Refusal) → IsOfWords (Err why) → Finds (Err why)
-words-whole why h = kind-finds why (of-none word_kinds (refusal_kind why) OfMissing h refl) (of-none word_kinds (refusal_kind why) OfBadBlock h refl)
+words-whole why h = kind-finds why (of-none word_kinds (refusal_kind why) OfMissing h refl) (of-none word_kinds (refusal_kind why) OfBadBlock h refl) (of-none word_kinds (refusal_kind why) OfSections h refl)
 
 -- `add` looks for no block
 pub add-whole : (r : Result (List ℕ) Refusal) → IsOf (may_answer AddsInput) r → Finds r
 add-whole (Ok text) h = done-finds
-add-whole (Err why) h = kind-finds why (of-none (may_answer AddsInput) (refusal_kind why) OfMissing h refl) (of-none (may_answer AddsInput) (refusal_kind why) OfBadBlock h refl)
+add-whole (Err why) h = kind-finds why (of-none (may_answer AddsInput) (refusal_kind why) OfMissing h refl) (of-none (may_answer AddsInput) (refusal_kind why) OfBadBlock h refl) (of-none (may_answer AddsInput) (refusal_kind why) OfSections h refl)
 
 -- nor does `init`
 pub init-looks : (r : Result (List ℕ) Refusal) → IsOf (may_answer MakesReady) r → Finds r
 init-looks (Ok text) h = done-finds
-init-looks (Err why) h = kind-finds why (of-none (may_answer MakesReady) (refusal_kind why) OfMissing h refl) (of-none (may_answer MakesReady) (refusal_kind why) OfBadBlock h refl)
+init-looks (Err why) h = kind-finds why (of-none (may_answer MakesReady) (refusal_kind why) OfMissing h refl) (of-none (may_answer MakesReady) (refusal_kind why) OfBadBlock h refl) (of-none (may_answer MakesReady) (refusal_kind why) OfSections h refl)
 
 module _ (X : List ℕ → List ℕ) (N : List ℕ → ℕ) where
   answered : (s : Standing) (given : Reply) (r : Result (List ℕ) Refusal) (now : Told) → Answers X N s given r now → Finds given.ends → Finds r

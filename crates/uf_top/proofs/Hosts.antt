@@ -31,7 +31,7 @@ use Rattle.uf_tree.specs.TreePlan.{blocks}
 use Rattle.uf_tree.specs.Validity.{IsHash}
 use Rattle.uf_tree.specs.declared.profile.Profile.{Profile}
 use Rattle.uf_reply.specs.Commands.{SyncsBlocks, command_writes}
-use Rattle.uf_reply.specs.Kinds.{AddsHost, IsOf, OfBadBlock, OfMissing, fault_kind, may_answer, refusal_fault, refusal_kind}
+use Rattle.uf_reply.specs.Kinds.{AddsHost, IsOf, OfBadBlock, OfSections, OfMissing, fault_kind, may_answer, refusal_fault, refusal_kind}
 use Rattle.uf_reply.specs.Statuses.{ended, no_memory}
 use Rattle.uf_reply.specs.declared.types.Command.TheVariants.{AddFrom}
 use Rattle.uf_reply.specs.declared.types.HostRule.{HostRule}
@@ -70,6 +70,8 @@ end-of : (path : List ℕ) (Said : HostFault → Type 0) (why : Refusal) → IsH
 end-of path Said (refusal.Rule rule) h = ByRule rule refl h
 end-of path Said (refusal.Dag rule) h = absurd h
 end-of path Said (refusal.Car number place) h = absurd h
+end-of path Said (refusal.CarLacks cid) h = absurd h
+end-of path Said (refusal.CarClash cid first second) h = absurd h
 end-of path Said (refusal.Host rule) h = ByHost rule refl h
 end-of path Said (refusal.BadPath why) h = absurd h
 end-of path Said refusal.Usage h = absurd h
@@ -102,6 +104,8 @@ head-end : (told : Told) (why : Refusal) → IsProfileRead (Err why) told → He
 head-end told (refusal.Rule rule) read = absurd read
 head-end told (refusal.Dag rule) read = absurd read
 head-end told (refusal.Car number place) read = absurd read
+head-end told (refusal.CarLacks cid) read = absurd read
+head-end told (refusal.CarClash cid first second) read = absurd read
 head-end told (refusal.Host rule) read = absurd read
 head-end told (refusal.BadPath why) read = absurd read
 head-end told refusal.Usage read = absurd read
@@ -133,6 +137,8 @@ kind-blames : (why : Refusal) → may_answer AddsHost (refusal_kind why) ≡ tru
 kind-blames (refusal.Rule rule) h blames = blames
 kind-blames (refusal.Dag rule) h blames = blames
 kind-blames (refusal.Car number place) h blames = blames
+kind-blames (refusal.CarLacks cid) h blames = blames
+kind-blames (refusal.CarClash cid first second) h blames = blames
 kind-blames (refusal.Host rule) h blames = blames
 kind-blames (refusal.BadPath why) h blames = blames
 kind-blames refusal.Usage h blames = blames
@@ -153,7 +159,7 @@ host-blames (Err why) h blames = kind-blames why h blames
 
 host-finds : (r : Result (List ℕ) Refusal) → IsOf (may_answer AddsHost) r → FindsAll (ended r)
 host-finds (Ok text) h = (λ e. cc, λ e. cc)
-host-finds (Err why) h = kind-finds why (of-none (may_answer AddsHost) (refusal_kind why) OfMissing h refl) (of-none (may_answer AddsHost) (refusal_kind why) OfBadBlock h refl)
+host-finds (Err why) h = kind-finds why (of-none (may_answer AddsHost) (refusal_kind why) OfMissing h refl) (of-none (may_answer AddsHost) (refusal_kind why) OfBadBlock h refl) (of-none (may_answer AddsHost) (refusal_kind why) OfSections h refl)
 
 unread-reason : (told : Told) (recursive only_hash : Bool) (path : List ℕ) → IfSome told (λ t. IsUnread t.notes.head) → IsReason (AddFrom recursive only_hash path) ready.BadHead told
 unread-reason told recursive true path h = h
@@ -491,6 +497,8 @@ module _ (X : List ℕ → List ℕ) (N : List ℕ → ℕ) (p : Profile) (host 
   synced-text a b text (Err (refusal.Rule rule)) synced is stops h = absurd stops
   synced-text a b text (Err (refusal.Dag rule)) synced is stops h = absurd stops
   synced-text a b text (Err (refusal.Car number place)) synced is stops h = absurd stops
+  synced-text a b text (Err (refusal.CarLacks cid)) synced is stops h = absurd stops
+  synced-text a b text (Err (refusal.CarClash cid first second)) synced is stops h = absurd stops
   synced-text a b text (Err (refusal.Host rule)) synced is stops h = absurd stops
   synced-text a b text (Err (refusal.BadPath why)) synced is stops h = absurd stops
   synced-text a b text (Err refusal.Usage) synced is stops h = absurd stops
@@ -505,6 +513,8 @@ stops-read (Ok text) h = refl
 stops-read (Err (refusal.Rule rule)) h = absurd h
 stops-read (Err (refusal.Dag rule)) h = absurd h
 stops-read (Err (refusal.Car number place)) h = absurd h
+stops-read (Err (refusal.CarLacks cid)) h = absurd h
+stops-read (Err (refusal.CarClash cid first second)) h = absurd h
 stops-read (Err (refusal.Host rule)) h = absurd h
 stops-read (Err (refusal.BadPath why)) h = absurd h
 stops-read (Err refusal.Usage) h = absurd h

@@ -2,20 +2,15 @@
 use Rattle.std.proofs.Common.{◌≡◌, ℕ, List, [], ◌∷◌, ◌++◌, length, take, refl, sym, ap, subst, ◌∙◌, append_assoc, append-nil, Some, None}
 use Rattle.std.proofs.lemmas.List.{append_cancel_left}
 use Rattle.uf_car.specs.Importing.{with_saves}
+use Rattle.uf_car.proofs.Clashing.{saves_of}
 use Rattle.uf_cid.specs.Blocks.{Held}
 use Rattle.uf_cid.specs.Blocks as blocks
 use Rattle.uf_mfs.specs.Standing.{TellsHeld}
 use Rattle.uf_store.specs.Contents.{Contents, Told, changed, held_at, with_save}
 use Rattle.uf_store.specs.Writing.{Appends, IsSave, ReplaceNone, SavesOnly}
-use Rattle.uf_store.specs.declared.store.Write.{Write}
 use Rattle.uf_store.specs.declared.store.Write.TheVariants.{Saved}
 use Rattle.uf_store.proofs.Keeping.{held-saved}
 use Rattle.uf_store.proofs.Writing.{SavesOnly-refl, SavesOnly-saved, SavesOnly-trans, Wrote-good}
-
--- the saves of these blocks
-abbrev saves_of : List Held → List Write
-saves_of [] = []
-saves_of (b ∷ sections) = Saved b.0 b.1 ∷ saves_of sections
 
 writes-are : (sections : List Held) (t : Contents) → (with_saves sections t).writes ≡ t.writes ++ saves_of sections
 writes-are [] t = sym (append-nil t.writes)
@@ -35,7 +30,8 @@ module _ (X : List ℕ → List ℕ) where
       let more = Wrote-good X IsSave (Some (with_save b.0 b.1 t)) (Some (with_saves sections (with_save b.0 b.1 t))) (saves-only sections (with_save b.0 b.1 t) free.2) in
       (more.stays b.0 b.1 (held-saved t b.0 b.1) free.0, all-held sections (with_save b.0 b.1 t) free.2)
 
-  free-of : (sections : List Held) (t : Contents) → Appends X IsSave t (with_saves sections t) → ReplaceNone X t.held (saves_of sections)
+  -- saves replaced no other block
+  pub free-of : (sections : List Held) (t : Contents) → Appends X IsSave t (with_saves sections t) → ReplaceNone X t.held (saves_of sections)
   free-of sections t h = subst (ReplaceNone X t.held) (append_cancel_left t.writes h.added (saves_of sections) (sym h.writes ∙ writes-are sections t)) h.replace_none
 
   -- sections that were saved are held

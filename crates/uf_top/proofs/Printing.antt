@@ -25,7 +25,7 @@ use Rattle.uf_top.specs.Reply.{Outside, Reply, World, outside_of, reply, world_o
 use Rattle.uf_reply.specs.Statuses.{no_memory, status_of}
 use Rattle.uf_reply.specs.declared.status.Status.TheVariants as status
 use Rattle.uf_reply.specs.declared.types.Command.{Command}
-use Rattle.uf_reply.specs.declared.types.Command.TheVariants.{Init, Add, AddFrom, WriteInput, At, Read, Cat, Export, Import, Adopt}
+use Rattle.uf_reply.specs.declared.types.Command.TheVariants.{Init, Add, AddFrom, WriteInput, At, Read, Cat, Export, Import, Same, Adopt}
 use Rattle.uf_reply.specs.declared.types.HostRule.{HostRule}
 use Rattle.uf_reply.specs.declared.types.Refusal.{Refusal}
 use Rattle.uf_reply.specs.declared.types.Refusal.TheVariants as refusal
@@ -51,6 +51,7 @@ no-write (Read offset count path) h = cc
 no-write (Cat path) h = cc
 no-write (Export cid) h = cc
 no-write Import h = cc
+no-write (Same cid) h = cc
 no-write (Adopt source dest) h = cc
 no-write (AddFrom recursive only_hash path) h = cc
 
@@ -60,18 +61,19 @@ pub record IsStanding (command : Command) : Type 0 where
   pub alone : commands.reads_tree_alone command ≡ true
 
 -- so is each that isn't one of those with a way of their own
-pub standing-of : (command : Command) → ((offset count : ℕ) (path : Path) → command ≡ Read offset count path → ⊥) → ((path : DagPath) → command ≡ Cat path → ⊥) → ((cid : Cid) → command ≡ Export cid → ⊥) → (command ≡ Import → ⊥)
+pub standing-of : (command : Command) → ((offset count : ℕ) (path : Path) → command ≡ Read offset count path → ⊥) → ((path : DagPath) → command ≡ Cat path → ⊥) → ((cid : Cid) → command ≡ Export cid → ⊥) → (command ≡ Import → ⊥) → ((cid : Cid) → command ≡ Same cid → ⊥)
     → ((source : DagPath) (dest : Path) → command ≡ Adopt source dest → ⊥) → IsStanding command
-standing-of (Init p) other cat export import adopt = record { waits = refl; alone = refl }
-standing-of (Add only_hash) other cat export import adopt = record { waits = refl; alone = refl }
-standing-of (AddFrom recursive only_hash path) other cat export import adopt = record { waits = refl; alone = refl }
-standing-of (WriteInput how path) other cat export import adopt = record { waits = refl; alone = refl }
-standing-of (At ask path) other cat export import adopt = record { waits = refl; alone = refl }
-standing-of (Read offset count path) other cat export import adopt = absurd (other offset count path refl)
-standing-of (Cat path) other cat export import adopt = absurd (cat path refl)
-standing-of (Export cid) other cat export import adopt = absurd (export cid refl)
-standing-of Import other cat export import adopt = absurd (import refl)
-standing-of (Adopt source dest) other cat export import adopt = absurd (adopt source dest refl)
+standing-of (Init p) other cat export import compare adopt = record { waits = refl; alone = refl }
+standing-of (Add only_hash) other cat export import compare adopt = record { waits = refl; alone = refl }
+standing-of (AddFrom recursive only_hash path) other cat export import compare adopt = record { waits = refl; alone = refl }
+standing-of (WriteInput how path) other cat export import compare adopt = record { waits = refl; alone = refl }
+standing-of (At ask path) other cat export import compare adopt = record { waits = refl; alone = refl }
+standing-of (Read offset count path) other cat export import compare adopt = absurd (other offset count path refl)
+standing-of (Cat path) other cat export import compare adopt = absurd (cat path refl)
+standing-of (Export cid) other cat export import compare adopt = absurd (export cid refl)
+standing-of Import other cat export import compare adopt = absurd (import refl)
+standing-of (Same cid) other cat export import compare adopt = absurd (compare cid refl)
+standing-of (Adopt source dest) other cat export import compare adopt = absurd (adopt source dest refl)
 
 -- such a command needs what the store stands for
 alone-needs : (command : Command) → commands.reads_tree_alone command ≡ true → needs_standing command ≡ true
@@ -84,6 +86,7 @@ alone-needs (Read offset count path) h = refl
 alone-needs (Cat path) h = absurd cc
 alone-needs (Export cid) h = absurd cc
 alone-needs Import h = absurd cc
+alone-needs (Same cid) h = absurd cc
 alone-needs (Adopt source dest) h = absurd cc
 
 -- what may be answered before anything is printed may be answered after it
@@ -91,6 +94,8 @@ pub may-end : (command : Command) (k : Refusal) → may_answer (family_of comman
 may-end command (refusal.Rule rule) h = h
 may-end command (refusal.Dag rule) h = h
 may-end command (refusal.Car number place) h = h
+may-end command (refusal.CarLacks cid) h = h
+may-end command (refusal.CarClash cid first second) h = h
 may-end command (refusal.Host rule) h = h
 may-end command (refusal.BadPath why) h = h
 may-end command refusal.InputTooLong h = h
@@ -116,6 +121,8 @@ pub quiet-of : (IsText : List ℕ → Type 0) (flows : Bool) (why : Refusal) →
 quiet-of T f (refusal.Rule rule) other = record { prints = λ h n e. e; undone = refl; unwritten = refl }
 quiet-of T f (refusal.Dag rule) other = record { prints = λ h n e. e; undone = refl; unwritten = refl }
 quiet-of T f (refusal.Car number place) other = record { prints = λ h n e. e; undone = refl; unwritten = refl }
+quiet-of T f (refusal.CarLacks cid) other = record { prints = λ h n e. e; undone = refl; unwritten = refl }
+quiet-of T f (refusal.CarClash cid first second) other = record { prints = λ h n e. e; undone = refl; unwritten = refl }
 quiet-of T f (refusal.Host rule) other = record { prints = λ h n e. e; undone = refl; unwritten = refl }
 quiet-of T f (refusal.BadPath path) other = record { prints = λ h n e. e; undone = refl; unwritten = refl }
 quiet-of T f refusal.Usage other = record { prints = λ h n e. e; undone = refl; unwritten = refl }
@@ -177,6 +184,7 @@ module _ (X : List ℕ → List ℕ) (N : List ℕ → ℕ) where
   text-of (AddFrom recursive only_hash path) told host l m text h rows = rows
   text-of (Export cid) told host l m text h rows = tt
   text-of Import told host l m text h rows = tt
+  text-of (Same cid) told host l m text h rows = tt
   text-of (Adopt source dest) told host l m text h rows = tt
 
   rule-in : (command : Command) (told : Told) (l m : streams.Told) (rule : Rule) → may_answer (family_of command) (refusal_kind (refusal.Rule rule)) ≡ true → AddsFor X told (Ok command) (Err (refusal.Rule rule)) l m
@@ -189,6 +197,7 @@ module _ (X : List ℕ → List ℕ) (N : List ℕ → ℕ) where
   rule-in (Cat path) told l m rule h adds = absurd cc
   rule-in (Export cid) told l m rule h adds = absurd cc
   rule-in Import told l m rule h adds = absurd cc
+  rule-in (Same cid) told l m rule h adds = absurd cc
   rule-in (Adopt source dest) told l m rule h adds = inr (rule, refl)
   rule-in (AddFrom recursive only_hash path) told l m rule h adds = inr (rule, refl)
 
@@ -202,6 +211,7 @@ module _ (X : List ℕ → List ℕ) (N : List ℕ → ℕ) where
   long-in (Cat path) told l m h adds = absurd cc
   long-in (Export cid) told l m h adds = absurd cc
   long-in Import told l m h adds = absurd cc
+  long-in (Same cid) told l m h adds = absurd cc
   long-in (Adopt source dest) told l m h adds = absurd cc
   long-in (AddFrom recursive only_hash path) told l m h adds = absurd cc
 
@@ -214,6 +224,7 @@ module _ (X : List ℕ → List ℕ) (N : List ℕ → ℕ) where
   no-path (Cat path) h = cc
   no-path (Export cid) h = cc
   no-path Import h = cc
+  no-path (Same cid) h = cc
   no-path (Adopt source dest) h = cc
   no-path (AddFrom recursive only_hash path) h = cc
 
@@ -227,6 +238,7 @@ module _ (X : List ℕ → List ℕ) (N : List ℕ → ℕ) where
   no-dag (Cat path) needs h = cc
   no-dag (Export cid) needs h = cc
   no-dag Import needs h = cc
+  no-dag (Same cid) needs h = cc
   no-dag (Adopt source dest) needs h = cc
 
   no-car : (command : Command) → commands.reads_tree_alone command ≡ true → may_answer (family_of command) OfCar ≡ true → ⊥
@@ -239,6 +251,7 @@ module _ (X : List ℕ → List ℕ) (N : List ℕ → ℕ) where
   no-car (Cat path) needs h = cc
   no-car (Export cid) needs h = cc
   no-car Import needs h = cc
+  no-car (Same cid) needs h = cc
   no-car (Adopt source dest) needs h = cc
 
   host-in : (command : Command) (told : Told) (l m : streams.Told) (rule : HostRule) → may_answer (family_of command) OfHost ≡ true → RuleOf (Ok command) (refusal.Host rule) told l m
@@ -251,6 +264,7 @@ module _ (X : List ℕ → List ℕ) (N : List ℕ → ℕ) where
   host-in (Cat path) told l m rule h = absurd cc
   host-in (Export cid) told l m rule h = absurd cc
   host-in Import told l m rule h = absurd cc
+  host-in (Same cid) told l m rule h = absurd cc
   host-in (Adopt source dest) told l m rule h = absurd cc
 
   rules : (command : Command) → commands.reads_tree_alone command ≡ true → (told : Told) (l m : streams.Told) (why : Refusal) → may_answer (family_of command) (refusal_kind why) ≡ true → AddsFor X told (Ok command) (Err why) l m
@@ -258,6 +272,8 @@ module _ (X : List ℕ → List ℕ) (N : List ℕ → ℕ) where
   rules command needs told l m (refusal.Rule rule) h adds is = rule-in command told l m rule h adds
   rules command needs told l m (refusal.Dag rule) h adds is = absurd (no-dag command needs h)
   rules command needs told l m (refusal.Car number place) h adds is = absurd (no-car command needs h)
+  rules command needs told l m (refusal.CarLacks cid) h adds is = absurd cc
+  rules command needs told l m (refusal.CarClash cid first second) h adds is = absurd cc
   rules command needs told l m (refusal.Host rule) h adds is = host-in command told l m rule h
   rules command needs told l m (refusal.BadPath why) h adds is = absurd (no-path command h)
   rules command needs told l m refusal.InputTooLong h adds is = long-in command told l m h adds

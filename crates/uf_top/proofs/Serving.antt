@@ -1,23 +1,27 @@
 -- From words to a command that is done.
-use Rattle.std.proofs.Common.{◌≡◌, ℕ, List, Bool, true, false, refl, sym, ap, subst, inl, inr, Result, Ok, Err}
-use Rattle.std.specs.Prelude.{◌&&◌, not}
+use Rattle.std.proofs.Common.{◌≡◌, ◌∙◌, ℕ, List, Bool, true, false, refl, sym, ap, subst, inl, inr, Result, Ok, Err}
+use Rattle.std.specs.Prelude.{◌&&◌, not, IfErr}
 use Rattle.uf_edge.specs.Counts.{Counts}
-use Rattle.uf_mfs.specs.Standing.{Same}
+use Rattle.uf_mfs.specs.Standing.{Same as StaysSame}
 use Rattle.uf_store.specs.Contents.{Told}
+use Rattle.uf_store.specs.Seen.{Seen}
+use Rattle.uf_edge.specs.Streams as streams
 use Rattle.uf_store.specs.declared.store.StoreFault.TheVariants.{Memory}
 use Rattle.uf_store.proofs.Causes.{StaysCalm-refl, calm-rises}
 use Rattle.uf_store.proofs.Keeping.{KeepsGood-refl}
 use Rattle.uf_store.proofs.Writing.{SavesOnly-refl}
-use Rattle.uf_reply.specs.Commands.{IsAsked, command_writes, streams, uses_host}
-use Rattle.uf_reply.specs.Kinds.{family_of, may_end, refusal_kind}
+use Rattle.uf_reply.specs.Commands.{IsAsked, IsOfWords, command_writes, compares, reads_tree_alone, streams as flows, uses_host}
+use Rattle.uf_reply.specs.Kinds.{IsOf, OfSections, family_of, may_end, refusal_kind, word_kinds}
 use Rattle.uf_top.specs.Reply.{reply}
 use Rattle.uf_reply.specs.Statuses.{no_memory}
 use Rattle.uf_reply.specs.declared.types.Ask.TheVariants.{Ls, Stat, Edit as Edits}
 use Rattle.uf_reply.specs.declared.types.Command.{Command}
-use Rattle.uf_reply.specs.declared.types.Command.TheVariants.{Init, Add, AddFrom, WriteInput, At, Read, Cat, Export, Import, Adopt}
+use Rattle.uf_reply.specs.declared.types.Command.TheVariants.{Init, Add, AddFrom, WriteInput, At, Read, Cat, Export, Import, Same, Adopt}
 use Rattle.uf_reply.specs.declared.types.Refusal.{Refusal}
+use Rattle.uf_reply.specs.declared.types.Refusal.TheVariants as refusal
 use Rattle.uf_top.specs.Around.{Around, UsesHost, is_input_read}
 use Rattle.uf_top.specs.Bounds.{command_touches}
+use Rattle.uf_top.specs.Cars.{BySections}
 use Rattle.uf_top.specs.Shapes.{WritesAs}
 use Rattle.uf_top.specs.Working.{Does, Serves}
 use Rattle.uf_top.proofs.Losing.{names-same}
@@ -34,24 +38,26 @@ memory-kind (Read offset count path) = refl
 memory-kind (Cat path) = refl
 memory-kind (Export cid) = refl
 memory-kind Import = refl
+memory-kind (Same cid) = refl
 memory-kind (Adopt source dest) = refl
 memory-kind (AddFrom recursive only_hash path) = refl
 
 memory-writes : (X : List ℕ → List ℕ) (command : Command) (a : Told) → WritesAs X (command_writes command) false a a
-memory-writes X (Init p) a = record { between = a; saves = SavesOnly-refl X a; last = Same refl }
+memory-writes X (Init p) a = record { between = a; saves = SavesOnly-refl X a; last = StaysSame refl }
 memory-writes X (Add true) a = refl
-memory-writes X (Add false) a = record { between = a; saves = SavesOnly-refl X a; last = Same refl }
-memory-writes X (WriteInput how path) a = record { between = a; saves = SavesOnly-refl X a; last = Same refl }
+memory-writes X (Add false) a = record { between = a; saves = SavesOnly-refl X a; last = StaysSame refl }
+memory-writes X (WriteInput how path) a = record { between = a; saves = SavesOnly-refl X a; last = StaysSame refl }
 memory-writes X (At (Ls long) path) a = refl
 memory-writes X (At Stat path) a = refl
-memory-writes X (At (Edits edit) path) a = record { between = a; saves = SavesOnly-refl X a; last = Same refl }
+memory-writes X (At (Edits edit) path) a = record { between = a; saves = SavesOnly-refl X a; last = StaysSame refl }
 memory-writes X (Read offset count path) a = refl
 memory-writes X (Cat path) a = refl
 memory-writes X (Export cid) a = refl
-memory-writes X Import a = record { between = a; saves = SavesOnly-refl X a; last = Same refl }
-memory-writes X (Adopt source dest) a = record { between = a; saves = SavesOnly-refl X a; last = Same refl }
+memory-writes X Import a = record { between = a; saves = SavesOnly-refl X a; last = StaysSame refl }
+memory-writes X (Same cid) a = refl
+memory-writes X (Adopt source dest) a = record { between = a; saves = SavesOnly-refl X a; last = StaysSame refl }
 memory-writes X (AddFrom recursive true path) a = refl
-memory-writes X (AddFrom recursive false path) a = record { between = a; saves = SavesOnly-refl X a; last = Same refl }
+memory-writes X (AddFrom recursive false path) a = record { between = a; saves = SavesOnly-refl X a; last = StaysSame refl }
 
 module _ (X : List ℕ → List ℕ) (N : List ℕ → ℕ) (a : Around) where
   still-reads : (command : Command) → Counts (is_input_read {A = Unit {0}} command (Err no_memory)) a.reads a.reads
@@ -74,7 +80,7 @@ module _ (X : List ℕ → List ℕ) (N : List ℕ → ℕ) (a : Around) where
     lost = λ p es rows held bytes named tells heights input calm.
         inl (record { fault = Memory; ends_are = refl; loss = tt; stands = names-same X N a.store.told a.store.told p es refl named });
     prefix = λ world finds input room. nothing-printed (reply X N command world).ends a.held a.held refl;
-    prints = else-same (streams command) a.held;
+    prints = else-same (flows command) a.held;
     kinds = memory-kind command;
     ready = tt;
     rule = λ is. absurd cc;
@@ -94,3 +100,58 @@ module _ (X : List ℕ → List ℕ) (N : List ℕ → ℕ) (a : Around) where
   words-serve (Ok command) why (inr same) = absurd cc
   words-serve (Err asked) why (inl memory) = record { refused = inr (ap (λ (w : Refusal). Err w) memory); same = refl }
   words-serve (Err asked) why (inr same) = (let e : asked ≡ why = cc in record { refused = inl (ap (λ (w : Refusal). Err w) (sym e)); same = refl })
+
+-- ---- no sections of a CAR are to blame but where a command compares
+
+may-section : (command : Command) → may_end (family_of command) OfSections ≡ true → compares command ≡ true
+may-section (Init p) h = absurd cc
+may-section (Add only_hash) h = absurd cc
+may-section (AddFrom recursive only_hash path) h = absurd cc
+may-section (WriteInput how path) h = absurd cc
+may-section (At ask path) h = absurd cc
+may-section (Read offset count path) h = absurd cc
+may-section (Cat path) h = absurd cc
+may-section (Export cid) h = absurd cc
+may-section Import h = absurd cc
+may-section (Same cid) h = refl
+may-section (Adopt source dest) h = absurd cc
+
+module _ (X : List ℕ → List ℕ) (left : streams.Told) (a b : Seen) where
+  by-none : (compared : Bool) (why : Refusal) → (refusal_kind why ≡ OfSections → ⊥) → BySections X compared left a b why
+  by-none compared (refusal.Rule rule) none = tt
+  by-none compared (refusal.Dag rule) none = tt
+  by-none compared (refusal.Host rule) none = tt
+  by-none compared (refusal.BadPath path) none = tt
+  by-none compared refusal.InputTooLong none = tt
+  by-none compared refusal.Usage none = tt
+  by-none compared (refusal.Ready reason) none = tt
+  by-none compared refusal.Read none = tt
+  by-none compared refusal.Write none = tt
+  by-none compared (refusal.Store f) none = tt
+  by-none compared (refusal.Car number place) none = tt
+  by-none compared (refusal.CarLacks cid) none = absurd (none refl)
+  by-none compared (refusal.CarClash cid first second) none = absurd (none refl)
+
+  -- any other command
+  pub spares-sections : (command : Command) (done : Result (Unit {0}) Refusal) → compares command ≡ false → IsOf (may_end (family_of command)) done → IfErr done (BySections X (compares command) left a b)
+  spares-sections command (Ok done) other kinds = tt
+  spares-sections command (Err why) other kinds =
+      by-none (compares command) why (λ is. (let e : true ≡ false = sym (may-section command (ap (may_end (family_of command)) (sym is) ∙ kinds)) ∙ other in cc))
+
+  -- words that are refused
+  pub words-spare : (compared : Bool) (why : Refusal) → IsOfWords (Err why) → BySections X compared left a b why
+  words-spare compared why words = by-none compared why (λ is. (let e : false ≡ true = ap word_kinds (sym is) ∙ words in cc))
+
+-- a command on the tree alone compares nothing
+pub alone-spares : (command : Command) → reads_tree_alone command ≡ true → compares command ≡ false
+alone-spares (Init p) h = refl
+alone-spares (Add only_hash) h = refl
+alone-spares (AddFrom recursive only_hash path) h = refl
+alone-spares (WriteInput how path) h = refl
+alone-spares (At ask path) h = refl
+alone-spares (Read offset count path) h = refl
+alone-spares (Cat path) h = refl
+alone-spares (Export cid) h = refl
+alone-spares Import h = refl
+alone-spares (Same cid) h = absurd cc
+alone-spares (Adopt source dest) h = refl

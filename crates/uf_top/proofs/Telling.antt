@@ -17,9 +17,9 @@ use Rattle.uf_store.proofs.Keeping.{KeepsGood-same}
 use Rattle.uf_tree.specs.Standing.{Standing}
 use Rattle.uf_tree.specs.Tree.{Entries}
 use Rattle.uf_tree.specs.declared.profile.Profile.{Profile}
-use Rattle.uf_reply.specs.Commands.{HasInput, IsOfWords, command_writes, is_idle, needs_standing, of_command, only_reads, reads_tree_alone, uses_host, writes_host}
+use Rattle.uf_reply.specs.Commands.{HasInput, IsOfWords, command_writes, compares, is_idle, needs_standing, of_command, only_reads, reads_tree_alone, uses_host, writes_host}
 use Rattle.uf_reply.specs.Commands.{streams as flows}
-use Rattle.uf_reply.specs.Kinds.{AddsHost, AddsInput, IsOf, KeepsCar, MakesReady, OfBadBlock, OfMissing, OfPath, OfUsage, OfWrite, family_of, fault_behind, may_end, refusal_kind, word_kinds}
+use Rattle.uf_reply.specs.Kinds.{AddsHost, AddsInput, IsOf, KeepsCar, MakesReady, OfBadBlock, OfSections, OfMissing, OfPath, OfUsage, OfWrite, family_of, fault_behind, may_end, refusal_kind, word_kinds}
 use Rattle.uf_reply.specs.Lines.{bad_block_line, clash_line, line_of, missing_line, said}
 use Rattle.uf_top.specs.Reply.{World, host_after, outside_of, reply, reply_to}
 use Rattle.uf_reply.specs.Statuses.{ended, no_memory, plain_line, status_of}
@@ -27,11 +27,12 @@ use Rattle.uf_reply.specs.declared.status.Status.{Status}
 use Rattle.uf_reply.specs.declared.status.Status.TheVariants as status
 use Rattle.uf_reply.specs.declared.types.Ask.TheVariants.{Ls, Stat, Edit as Edits}
 use Rattle.uf_reply.specs.declared.types.Command.{Command}
-use Rattle.uf_reply.specs.declared.types.Command.TheVariants.{Init, Add, AddFrom, WriteInput, At, Read, Cat, Export, Import, Adopt}
+use Rattle.uf_reply.specs.declared.types.Command.TheVariants.{Init, Add, AddFrom, WriteInput, At, Read, Cat, Export, Import, Same, Adopt}
 use Rattle.uf_reply.specs.declared.types.Refusal.{Refusal}
 use Rattle.uf_reply.specs.declared.types.Refusal.TheVariants as refusal
 use Rattle.uf_top.specs.Answering.{DoesAnswer}
 use Rattle.uf_top.specs.Around.{Around, CountsCanRise, HasOutside, HostSide, RisesFor, RoseAt, UsesHost}
+use Rattle.uf_top.specs.Cars.{BySections, IsClashing, IsMissing, LacksSection, TwoSections}
 use Rattle.uf_top.specs.Causes.{IsBadIn, IsSynced, is_read, is_write}
 use Rattle.uf_top.specs.Endings.{EndsAs, EndsBy, FindsAll, FindsBy, IsNotReady, IsRefusedBy, IsRule, IsSyncedFor, IsTextOf, PrintsAll, PrintsAt, PrintsPart, SaysPlain, TellsEnd, TellsWhy, has_details}
 use Rattle.uf_top.specs.Naming.{FindsOver, FindsWorld, StandsIf, TellsHost}
@@ -53,6 +54,7 @@ no-path (Read offset count path) h = cc
 no-path (Cat path) h = cc
 no-path (Export cid) h = cc
 no-path Import h = cc
+no-path (Same cid) h = cc
 no-path (Adopt source dest) h = cc
 no-path (AddFrom recursive only_hash path) h = cc
 
@@ -65,6 +67,7 @@ no-usage (Read offset count path) h = cc
 no-usage (Cat path) h = cc
 no-usage (Export cid) h = cc
 no-usage Import h = cc
+no-usage (Same cid) h = cc
 no-usage (Adopt source dest) h = cc
 no-usage (AddFrom recursive only_hash path) h = cc
 
@@ -73,6 +76,8 @@ plain-of : (why : Refusal) → has_details (status_of why) ≡ false → plain_l
 plain-of (refusal.Rule rule) e = absurd cc
 plain-of (refusal.Dag rule) e = absurd cc
 plain-of (refusal.Car number place) e = absurd cc
+plain-of (refusal.CarLacks cid) e = absurd cc
+plain-of (refusal.CarClash cid first second) e = absurd cc
 plain-of (refusal.Host rule) e = absurd cc
 plain-of (refusal.BadPath path) e = absurd cc
 plain-of refusal.Usage e = refl
@@ -92,6 +97,8 @@ not-ok : (why : Refusal) → status_of why ≡ status.Ok → ⊥
 not-ok (refusal.Rule rule) e = cc
 not-ok (refusal.Dag rule) e = cc
 not-ok (refusal.Car number place) e = cc
+not-ok (refusal.CarLacks cid) e = cc
+not-ok (refusal.CarClash cid first second) e = cc
 not-ok (refusal.Host rule) e = cc
 not-ok (refusal.BadPath path) e = cc
 not-ok refusal.Usage e = cc
@@ -111,6 +118,8 @@ read-of : (why : Refusal) → is_read {A = Unit {0}} (Err why) ≡ true → why 
 read-of (refusal.Rule rule) is = absurd cc
 read-of (refusal.Dag rule) is = absurd cc
 read-of (refusal.Car number place) is = absurd cc
+read-of (refusal.CarLacks cid) is = absurd cc
+read-of (refusal.CarClash cid first second) is = absurd cc
 read-of (refusal.Host rule) is = absurd cc
 read-of (refusal.BadPath path) is = absurd cc
 read-of refusal.Usage is = absurd cc
@@ -162,6 +171,8 @@ write-of : (why : Refusal) (i j : ℕ) → RisesFor (is_write {A = Unit {0}} (Er
 write-of (refusal.Rule rule) i j counts more = (let e = counts.still refl in absurd (omega (arith, e, more)))
 write-of (refusal.Dag rule) i j counts more = (let e = counts.still refl in absurd (omega (arith, e, more)))
 write-of (refusal.Car number place) i j counts more = (let e = counts.still refl in absurd (omega (arith, e, more)))
+write-of (refusal.CarLacks cid) i j counts more = (let e = counts.still refl in absurd (omega (arith, e, more)))
+write-of (refusal.CarClash cid first second) i j counts more = (let e = counts.still refl in absurd (omega (arith, e, more)))
 write-of (refusal.Host rule) i j counts more = (let e = counts.still refl in absurd (omega (arith, e, more)))
 write-of (refusal.BadPath path) i j counts more = (let e = counts.still refl in absurd (omega (arith, e, more)))
 write-of refusal.Usage i j counts more = (let e = counts.still refl in absurd (omega (arith, e, more)))
@@ -182,6 +193,8 @@ module _ (hash : List ℕ → List ℕ) (P : Role → List ℕ → Type 0) (a b 
   failure-of (refusal.Rule rule) h more = (let e = h.faults in absurd (omega (arith, e, more)))
   failure-of (refusal.Dag rule) h more = (let e = h.faults in absurd (omega (arith, e, more)))
   failure-of (refusal.Car number place) h more = (let e = h.faults in absurd (omega (arith, e, more)))
+  failure-of (refusal.CarLacks cid) h more = (let e = h.faults in absurd (omega (arith, e, more)))
+  failure-of (refusal.CarClash cid first second) h more = (let e = h.faults in absurd (omega (arith, e, more)))
   failure-of (refusal.Host rule) h more = (let e = h.faults in absurd (omega (arith, e, more)))
   failure-of (refusal.BadPath path) h more = (let e = h.faults in absurd (omega (arith, e, more)))
   failure-of refusal.Usage h more = (let e = h.faults in absurd (omega (arith, e, more)))
@@ -200,6 +213,8 @@ module _ (hash : List ℕ → List ℕ) (P : Role → List ℕ → Type 0) (a b 
   clash-of (refusal.Rule rule) h more = (let e = h.clashes in absurd (omega (arith, e, more)))
   clash-of (refusal.Dag rule) h more = (let e = h.clashes in absurd (omega (arith, e, more)))
   clash-of (refusal.Car number place) h more = (let e = h.clashes in absurd (omega (arith, e, more)))
+  clash-of (refusal.CarLacks cid) h more = (let e = h.clashes in absurd (omega (arith, e, more)))
+  clash-of (refusal.CarClash cid first second) h more = (let e = h.clashes in absurd (omega (arith, e, more)))
   clash-of (refusal.Host rule) h more = (let e = h.clashes in absurd (omega (arith, e, more)))
   clash-of (refusal.BadPath path) h more = (let e = h.clashes in absurd (omega (arith, e, more)))
   clash-of refusal.Usage h more = (let e = h.clashes in absurd (omega (arith, e, more)))
@@ -272,20 +287,20 @@ printed-all (Err why) done held now h = h.1
 -- neither `init` nor `add` looks for a block
 makes-finds : (done : Result (Unit {0}) Refusal) → IsOf (may_end MakesReady) done → FindsAll (ended done)
 makes-finds (Ok done) h = (λ e. cc, λ e. cc)
-makes-finds (Err why) h = kind-finds why (of-none (may_end MakesReady) (refusal_kind why) OfMissing h refl) (of-none (may_end MakesReady) (refusal_kind why) OfBadBlock h refl)
+makes-finds (Err why) h = kind-finds why (of-none (may_end MakesReady) (refusal_kind why) OfMissing h refl) (of-none (may_end MakesReady) (refusal_kind why) OfBadBlock h refl) (of-none (may_end MakesReady) (refusal_kind why) OfSections h refl)
 
 adds-finds : (done : Result (Unit {0}) Refusal) → IsOf (may_end AddsInput) done → FindsAll (ended done)
 adds-finds (Ok done) h = (λ e. cc, λ e. cc)
-adds-finds (Err why) h = kind-finds why (of-none (may_end AddsInput) (refusal_kind why) OfMissing h refl) (of-none (may_end AddsInput) (refusal_kind why) OfBadBlock h refl)
+adds-finds (Err why) h = kind-finds why (of-none (may_end AddsInput) (refusal_kind why) OfMissing h refl) (of-none (may_end AddsInput) (refusal_kind why) OfBadBlock h refl) (of-none (may_end AddsInput) (refusal_kind why) OfSections h refl)
 
 -- nor does `dag import`
 cars-find : (done : Result (Unit {0}) Refusal) → IsOf (may_end KeepsCar) done → FindsAll (ended done)
 cars-find (Ok done) h = (λ e. cc, λ e. cc)
-cars-find (Err why) h = kind-finds why (of-none (may_end KeepsCar) (refusal_kind why) OfMissing h refl) (of-none (may_end KeepsCar) (refusal_kind why) OfBadBlock h refl)
+cars-find (Err why) h = kind-finds why (of-none (may_end KeepsCar) (refusal_kind why) OfMissing h refl) (of-none (may_end KeepsCar) (refusal_kind why) OfBadBlock h refl) (of-none (may_end KeepsCar) (refusal_kind why) OfSections h refl)
 
 hosts-finds : (done : Result (Unit {0}) Refusal) → IsOf (may_end AddsHost) done → FindsAll (ended done)
 hosts-finds (Ok done) h = (λ e. cc, λ e. cc)
-hosts-finds (Err why) h = kind-finds why (of-none (may_end AddsHost) (refusal_kind why) OfMissing h refl) (of-none (may_end AddsHost) (refusal_kind why) OfBadBlock h refl)
+hosts-finds (Err why) h = kind-finds why (of-none (may_end AddsHost) (refusal_kind why) OfMissing h refl) (of-none (may_end AddsHost) (refusal_kind why) OfBadBlock h refl) (of-none (may_end AddsHost) (refusal_kind why) OfSections h refl)
 
 -- ---- what goes to `errors`
 
@@ -334,36 +349,57 @@ module _ (Says : List ℕ → Type 0) where
       StatusShows asked status.Rule = IsRule Says asked a.store.told a.left b.left
       StatusShows asked status.Usage = asked ≡ Err refusal.Usage
       StatusShows asked status.StoreFault = ShowsFailure a.store b.store
-      StatusShows asked status.Missing = (cid : Cid) × ShowsMissing cid a.store b.store × Says (missing_line cid)
+      StatusShows asked status.Missing = (cid : Cid) × IsMissing X (of_command compares false asked) a.left cid a.store b.store × Says (missing_line cid)
       StatusShows asked status.BadBlock = (cid : Cid) × (role : Role) × ShowsBadBlock X (IsBadIn X N a.store.told b.store.told) cid role a.store b.store × Says (bad_block_line cid role)
       StatusShows asked status.ReadFault = RoseAt (of_command uses_host false asked) a.reads b.reads a.host.reads b.host.reads
       StatusShows asked status.WriteFault = RoseAt (of_command writes_host false asked) a.writes b.writes a.host.writes b.host.writes
-      StatusShows asked status.Clash = (cid : Cid) × (held : List ℕ) × (bytes : List ℕ) × ShowsClash X cid held bytes a.store b.store × Says (clash_line cid held bytes)
+      StatusShows asked status.Clash = (cid : Cid) × (held : List ℕ) × (bytes : List ℕ) × IsClashing X (of_command compares false asked) a.left cid held bytes a.store b.store × Says (clash_line cid held bytes)
       StatusShows asked status.Memory = ⊤
       StatusShows asked status.NotReady = IsNotReady Says asked a.store.told
 
-      does-show : (command : Command) (why : Refusal) → Does X N command (Err why) a b → Says (line_of why) → StatusShows (Ok command) (status_of why)
-      does-show command (refusal.Rule rule) h says = (refusal.Rule rule, refl, says, h.rule refl)
-      does-show command (refusal.Dag rule) h says = (refusal.Dag rule, refl, says, h.rule refl)
-      does-show command (refusal.Car number place) h says = (refusal.Car number place, refl, says, h.rule refl)
-      does-show command (refusal.Host rule) h says = (refusal.Host rule, refl, says, h.rule refl)
-      does-show command (refusal.BadPath path) h says = absurd (no-path command h.kinds)
-      does-show command refusal.Usage h says = absurd (no-usage command h.kinds)
-      does-show command refusal.InputTooLong h says = (refusal.InputTooLong, refl, says, h.rule refl)
-      does-show command (refusal.Ready reason) h says = (reason, says, h.ready)
-      does-show command refusal.Read h says = reading-rose (uses_host command) a.reads b.reads a.host b.host h.reads h.host
-      does-show command refusal.Write h says = h.writes.rose refl
-      does-show command (refusal.Store fault.Failed) h says = h.cause
-      does-show command (refusal.Store (fault.Damaged cid)) h says = h.cause
-      does-show command (refusal.Store (fault.Missing cid)) h says = (cid, h.cause, says)
-      does-show command (refusal.Store (fault.BadBlock cid role)) h says = (cid, role, h.cause, says)
-      does-show command (refusal.Store (fault.Clash cid first second)) h says = (cid, first, second, h.cause, says)
-      does-show command (refusal.Store fault.Memory) h says = tt
+      -- a cause in the store, or in the sections of a CAR
+      missing : (c : Bool) (cid : Cid) → ShowsMissing cid a.store b.store → IsMissing X c a.left cid a.store b.store
+      missing true cid h = inl h
+      missing false cid h = h
+
+      lacking : (c : Bool) (cid : Cid) → (c ≡ true) × LacksSection X a.left cid a.store b.store → IsMissing X c a.left cid a.store b.store
+      lacking true cid h = inr h.1
+      lacking false cid h = absurd (let e : false ≡ true = h.0 in cc)
+
+      meeting : (c : Bool) (cid : Cid) (first second : List ℕ) → ShowsClash X cid first second a.store b.store → IsClashing X c a.left cid first second a.store b.store
+      meeting true cid first second h = inl h
+      meeting false cid first second h = h
+
+      clashing : (c : Bool) (cid : Cid) (first second : List ℕ) → (c ≡ true) × TwoSections X a.left cid first second a.store b.store → IsClashing X c a.left cid first second a.store b.store
+      clashing true cid first second h = inr h.1
+      clashing false cid first second h = absurd (let e : false ≡ true = h.0 in cc)
+
+      does-show : (command : Command) (why : Refusal) → Does X N command (Err why) a b → BySections X (compares command) a.left a.store b.store why → Says (line_of why) → StatusShows (Ok command) (status_of why)
+      does-show command (refusal.Rule rule) h sections says = (refusal.Rule rule, refl, says, h.rule refl)
+      does-show command (refusal.Dag rule) h sections says = (refusal.Dag rule, refl, says, h.rule refl)
+      does-show command (refusal.Car number place) h sections says = (refusal.Car number place, refl, says, h.rule refl)
+      does-show command (refusal.CarLacks cid) h sections says = (cid, lacking (compares command) cid sections, says)
+      does-show command (refusal.CarClash cid first second) h sections says = (cid, first, second, clashing (compares command) cid first second sections, says)
+      does-show command (refusal.Host rule) h sections says = (refusal.Host rule, refl, says, h.rule refl)
+      does-show command (refusal.BadPath path) h sections says = absurd (no-path command h.kinds)
+      does-show command refusal.Usage h sections says = absurd (no-usage command h.kinds)
+      does-show command refusal.InputTooLong h sections says = (refusal.InputTooLong, refl, says, h.rule refl)
+      does-show command (refusal.Ready reason) h sections says = (reason, says, h.ready)
+      does-show command refusal.Read h sections says = reading-rose (uses_host command) a.reads b.reads a.host b.host h.reads h.host
+      does-show command refusal.Write h sections says = h.writes.rose refl
+      does-show command (refusal.Store fault.Failed) h sections says = h.cause
+      does-show command (refusal.Store (fault.Damaged cid)) h sections says = h.cause
+      does-show command (refusal.Store (fault.Missing cid)) h sections says = (cid, missing (compares command) cid h.cause, says)
+      does-show command (refusal.Store (fault.BadBlock cid role)) h sections says = (cid, role, h.cause, says)
+      does-show command (refusal.Store (fault.Clash cid first second)) h sections says = (cid, first, second, meeting (compares command) cid first second h.cause, says)
+      does-show command (refusal.Store fault.Memory) h sections says = tt
 
       word-shows : (why : Refusal) → word_kinds (refusal_kind why) ≡ true → Says (line_of why) → StatusShows (Err why) (status_of why)
       word-shows (refusal.Rule rule) h says = absurd cc
       word-shows (refusal.Dag rule) h says = absurd cc
       word-shows (refusal.Car number place) h says = absurd cc
+      word-shows (refusal.CarLacks cid) h says = absurd cc
+      word-shows (refusal.CarClash cid first second) h says = absurd cc
       word-shows (refusal.Host rule) h says = absurd cc
       word-shows (refusal.BadPath path) h says = (refusal.BadPath path, refl, says, refl)
       word-shows refusal.Usage h says = refl
@@ -387,10 +423,10 @@ module _ (Says : List ℕ → Type 0) where
           let e : why ≡ no_memory = cc in
           subst (λ w. StatusShows (Err asked) (status_of w)) (sym e) tt
 
-      pub shows : (asked : Result Command Refusal) (done : Result (Unit {0}) Refusal) → IsOfWords asked → Serves X N asked done a b → TellsEnd Says done given → StatusShows asked given
-      shows asked (Ok done) words s t = subst (StatusShows asked) (sym t.0) tt
-      shows (Ok command) (Err why) words s t = by-why (StatusShows (Ok command)) why given t (does-show command why s) tt
-      shows (Err asked) (Err why) words s t = by-why (StatusShows (Err asked)) why given t (idle-shows asked why (Err why) refl words s.refused) tt
+      pub shows : (asked : Result Command Refusal) (done : Result (Unit {0}) Refusal) → IsOfWords asked → Serves X N asked done a b → IfErr done (BySections X (of_command compares false asked) a.left a.store b.store) → TellsEnd Says done given → StatusShows asked given
+      shows asked (Ok done) words s sections t = subst (StatusShows asked) (sym t.0) tt
+      shows (Ok command) (Err why) words s sections t = by-why (StatusShows (Ok command)) why given t (does-show command why s sections) tt
+      shows (Err asked) (Err why) words s sections t = by-why (StatusShows (Err asked)) why given t (idle-shows asked why (Err why) refl words s.refused) tt
 
       -- ---- no fault is passed over
 
@@ -519,6 +555,7 @@ module _ (Says : List ℕ → Type 0) where
       synced-told (Ok (Export cid)) done s t is = tt
       synced-told (Ok Import) done s t is =
           synced-of X a.store.told b.store.told (subst (λ d. WritesAs X (command_writes Import) d a.store.told b.store.told) (was-ok done t is) s.leaves.writes)
+      synced-told (Ok (Same cid)) done s t is = tt
       synced-told (Ok (Adopt source dest)) done s t is = tt
 
       pub good-told : (asked : Result Command Refusal) (done : Result (Unit {0}) Refusal) → Serves X N asked done a b → KeepsGood X a.store.told b.store.told
@@ -538,6 +575,7 @@ module _ (Says : List ℕ → Type 0) where
       told-same (Ok (Cat path)) done s is = s.leaves.writes
       told-same (Ok (Export cid)) done s is = s.leaves.writes
       told-same (Ok Import) done s is = absurd cc
+      told-same (Ok (Same cid)) done s is = s.leaves.writes
       told-same (Ok (Adopt source dest)) done s is = absurd cc
       told-same (Ok (AddFrom recursive true path)) done s is = s.leaves.writes
       told-same (Ok (AddFrom recursive false path)) done s is = absurd cc
@@ -613,5 +651,6 @@ module _ (Says : List ℕ → Type 0) where
       looks-told (Cat path) done h t = tt
       looks-told (Export cid) done h t = tt
       looks-told Import done h t = ended-told FindsAll done t (cars-find done h.kinds) (λ e. cc, λ e. cc)
+      looks-told (Same cid) done h t = tt
       looks-told (Adopt source dest) done h t = tt
       looks-told (AddFrom recursive only_hash path) done h t = ended-told FindsAll done t (hosts-finds done h.kinds) (λ e. cc, λ e. cc)

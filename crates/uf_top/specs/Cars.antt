@@ -1,26 +1,33 @@
--- What becomes of a CAR that is read into the store.
-use Rattle.std.specs.Prelude.{◌≡◌, ◌⊎◌, ℕ, List}
-use Rattle.std.specs.declared.option.Option.TheVariants.{Some}
+-- What becomes of a CAR that is read into the store, or with which what the store holds is compared.
+use Rattle.std.specs.Prelude.{◌≡◌, ◌⊎◌, ℕ, List, [], ◌∷◌, Bool, true, false, IfErr, IfSome, ⊤}
+use Rattle.std.specs.declared.option.Option.TheVariants.{None, Some}
 use Rattle.std.specs.declared.result.Result.{Result}
-use Rattle.std.specs.declared.result.Result.TheVariants.{Err}
+use Rattle.std.specs.declared.result.Result.TheVariants.{Ok, Err}
+use Rattle.uf_car.specs.Clashing.{HasTwo, sections_clash, sections_held}
+use Rattle.uf_car.specs.Importing.{with_saves}
 use Rattle.uf_car.specs.Reading.{Read, car_read}
-use Rattle.uf_cid.specs.Blocks.{Lookup}
+use Rattle.uf_cid.specs.Blocks.{IsClash, Lookup}
 use Rattle.uf_cid.specs.declared.cid.Cid.{Cid}
 use Rattle.uf_edge.specs.Counts.{Counts, Stood}
 use Rattle.uf_edge.specs.Streams as streams
 use Rattle.uf_mfs.specs.Standing.{TellsHeld}
-use Rattle.uf_reply.specs.Cars.{most_car, roots_told}
+use Rattle.uf_reply.specs.Cars.{most_blocks, most_car, roots_told}
 use Rattle.uf_reply.specs.Commands.{SyncsBlocks}
-use Rattle.uf_reply.specs.Kinds.{IsOf, KeepsCar as OfCars, may_answer, refusal_fault}
+use Rattle.uf_reply.specs.Kinds.{IsOf, ComparesCar as OfComparing, KeepsCar as OfCars, may_answer, refusal_fault}
 use Rattle.uf_reply.specs.Statuses.{no_memory}
 use Rattle.uf_reply.specs.declared.types.Refusal.{Refusal}
+use Rattle.uf_reply.specs.declared.types.Refusal.TheVariants as refusal
 use Rattle.uf_store.specs.Calls.{Calm}
-use Rattle.uf_store.specs.Contents.{Told}
-use Rattle.uf_store.specs.Faults.{NoneIsBad, Shown}
+use Rattle.uf_store.specs.Contents.{Contents, Told, held_at}
+use Rattle.uf_store.specs.Faults.{NoneIsBad, Shown, ShowsClash, ShowsMissing, StaysCalm}
+use Rattle.uf_store.specs.InMemory.{no_contents}
+use Rattle.uf_store.specs.declared.store.StoreFault.TheVariants.{Memory}
 use Rattle.uf_store.specs.Keeping.{KeepsGood}
 use Rattle.uf_store.specs.Seen.{Seen}
 use Rattle.uf_top.specs.Causes.{is_read}
 use Rattle.uf_top.specs.Naming.{TellsBlocks}
+use Rattle.uf_top.specs.Reply.{car_compared, verdict_told}
+use Rattle.uf_same.specs.Verdict.{verdict}
 use Rattle.uf_top.specs.Shapes.{WritesAs, is_ok}
 
 -- the roots are those of the CAR, or it is refused as it has to be; the blocks of its sections up to there are held
@@ -39,3 +46,97 @@ pub record KeepsCar (X : List ℕ → List ℕ) (done : Result (List ℕ) Refusa
   pub cause : Shown X NoneIsBad (refusal_fault done) before now
   pub good : KeepsGood X before.told now.told
   pub writes : WritesAs X SyncsBlocks (is_ok done) before.told now.told
+
+-- ---- what is held, compared with a CAR
+
+-- a command looked for blocks in the store and found each, and nothing else of it has changed
+pub record SparesStore (before now : Seen) : Type 0 where
+  pub calm : StaysCalm before now
+  pub misses : now.misses ≡ before.misses
+  pub told : now.told ≡ before.told
+
+-- no section of the CAR that the input has is of this CID
+pub record LacksSection (X : List ℕ → List ℕ) (left : streams.Told) (cid : Cid) (before now : Seen) : Type 0 where
+  pub lacks : IfSome left (λ bytes. sections_held (car_read X most_car bytes).sections cid ≡ None)
+  pub spares : SparesStore before now
+
+-- two sections of it have this CID and different blocks of one digest
+pub record TwoSections (X : List ℕ → List ℕ) (left : streams.Told) (cid : Cid) (first second : List ℕ)
+    (before now : Seen) : Type 0 where
+  pub two : IfSome left (λ bytes. HasTwo (car_read X most_car bytes).sections cid first second)
+  pub clash : IsClash X first second
+  pub spares : SparesStore before now
+
+-- a block is missing in the store or, where a command compares, among the sections of the CAR
+abbrev pub IsMissing : (List ℕ → List ℕ) → Bool → streams.Told → Cid → Seen → Seen → Type 0
+IsMissing X true left cid before now = ShowsMissing cid before now ⊎ LacksSection X left cid before now
+IsMissing X false left cid before now = ShowsMissing cid before now
+
+-- a block clashes with one that the store holds or, where a command compares, two sections of the CAR clash
+abbrev pub IsClashing : (List ℕ → List ℕ) → Bool → streams.Told → Cid → (first second : List ℕ) → Seen → Seen → Type 0
+IsClashing X true left cid first second before now =
+    ShowsClash X cid first second before now ⊎ TwoSections X left cid first second before now
+IsClashing X false left cid first second before now = ShowsClash X cid first second before now
+
+-- a refusal by the sections comes only where a command compares, and has its cause in them
+abbrev pub BySections : (List ℕ → List ℕ) → Bool → streams.Told → Seen → Seen → Refusal → Type 0
+BySections X compares left before now (refusal.CarLacks cid) = (compares ≡ true) × LacksSection X left cid before now
+BySections X compares left before now (refusal.CarClash cid first second) =
+    (compares ≡ true) × TwoSections X left cid first second before now
+BySections X compares left before now (refusal.Rule rule) = ⊤
+BySections X compares left before now (refusal.Dag rule) = ⊤
+BySections X compares left before now (refusal.Host rule) = ⊤
+BySections X compares left before now (refusal.BadPath why) = ⊤
+BySections X compares left before now refusal.InputTooLong = ⊤
+BySections X compares left before now refusal.Usage = ⊤
+BySections X compares left before now (refusal.Ready why) = ⊤
+BySections X compares left before now refusal.Read = ⊤
+BySections X compares left before now refusal.Write = ⊤
+BySections X compares left before now (refusal.Store fault) = ⊤
+BySections X compares left before now (refusal.Car number place) = ⊤
+
+-- the one root of a CAR whose sections don't clash and are kept, or why it is refused whatever it is compared with
+pub record IsRootOf (car : Read (List Cid)) (root : Cid) (now : Told) : Type 0 where
+  pub sound : sections_clash car.sections ≡ None
+  pub is : car.answer ≡ Ok (root ∷ [])
+  pub kept : now ≡ Some (with_saves car.sections no_contents)
+
+abbrev pub TellsRoot : Read (List Cid) → Result Cid Refusal → Told → (reads reads_now : ℕ) → Type 0
+TellsRoot car (Ok root) now reads reads_now = IsRootOf car root now
+TellsRoot car (Err why) now reads reads_now = Stood reads reads_now
+    → (why ≡ no_memory) ⊎ ((held : Lookup) (cid : Cid) → car_compared held cid car ≡ Err why)
+
+-- how the CAR that the input has was read into an empty store: its root, each refusal with its cause
+pub record TakesRoot (X : List ℕ → List ℕ) (done : Result Cid Refusal) (before now : Told) (left : streams.Told)
+    (reads reads_now : ℕ) : Type 0 where
+  pub root : (bytes : List ℕ) → left ≡ Some bytes → before ≡ Some no_contents
+      → TellsRoot (car_read X most_car bytes) done now reads reads_now
+  pub kinds : IsOf (may_answer OfComparing) done
+  pub counts : Counts (is_read done) reads reads_now
+  pub fault : IfSome (refusal_fault done) (λ fault. fault ≡ Memory)
+  pub sections : before ≡ Some no_contents → (other : Seen) → IfErr done (BySections X true left other other)
+
+-- how two stores were compared: the verdict, each refusal with its cause
+pub record ComparesStores (X : List ℕ → List ℕ) (cid root : Cid) (done : Result (List ℕ) Refusal) (before now : Seen)
+    (right : Told) : Type 0 where
+  pub verdict_is : (held : Lookup) (u : Contents) → TellsBlocks before.told held → right ≡ Some u → Calm before now
+      → (done ≡ Err no_memory) ⊎ (done ≡ verdict_told (verdict held (held_at u) most_blocks cid root))
+  pub kinds : IsOf (may_answer OfComparing) done
+  pub unread : is_read done ≡ false
+  pub cause : Shown X NoneIsBad (refusal_fault done) before now
+  pub told : now.told ≡ before.told
+  pub sections : (left : streams.Told) (u : Contents) → right ≡ Some u
+      → IfSome left (λ bytes. u ≡ with_saves (car_read X most_car bytes).sections no_contents)
+      → IfErr done (BySections X true left before now)
+
+-- how what the store holds was compared with the CAR that the input has: the text, each refusal with its cause
+pub record ComparesCar (X : List ℕ → List ℕ) (cid : Cid) (done : Result (List ℕ) Refusal) (before now : Seen)
+    (left : streams.Told) (reads reads_now : ℕ) : Type 0 where
+  pub says : (held : Lookup) (bytes : List ℕ) → TellsBlocks before.told held → left ≡ Some bytes
+      → Stood reads reads_now → Calm before now
+      → (done ≡ Err no_memory) ⊎ (done ≡ car_compared held cid (car_read X most_car bytes))
+  pub kinds : IsOf (may_answer OfComparing) done
+  pub counts : Counts (is_read done) reads reads_now
+  pub cause : Shown X NoneIsBad (refusal_fault done) before now
+  pub told : now.told ≡ before.told
+  pub sections : IfErr done (BySections X true left before now)

@@ -30,7 +30,7 @@ use Rattle.uf_tree.specs.declared.head_fault.HeadFault.{HeadFault}
 use Rattle.uf_tree.specs.declared.profile.Head.{Head}
 use Rattle.uf_tree.specs.declared.profile.Profile.{Profile}
 use Rattle.uf_reply.specs.declared.types.Command.{Command}
-use Rattle.uf_reply.specs.declared.types.Command.TheVariants.{Init, Add, AddFrom, WriteInput, At, Read, Cat, Export, Import, Adopt}
+use Rattle.uf_reply.specs.declared.types.Command.TheVariants.{Init, Add, AddFrom, WriteInput, At, Read, Cat, Export, Import, Same, Adopt}
 use Rattle.uf_reply.specs.declared.types.Refusal.{Refusal}
 use Rattle.uf_reply.specs.declared.types.Refusal.TheVariants as refusal
 use Rattle.uf_reply.specs.Kinds.{is_of, read_kind, refusal_fault, write_kind}
@@ -118,6 +118,7 @@ IsReason (Read offset count path) why told = IsReasonInTree why told
 IsReason (Cat path) why told = ⊥
 IsReason (Export cid) why told = ⊥
 IsReason Import why told = ⊥
+IsReason (Same cid) why told = ⊥
 IsReason (Adopt source dest) why told = IsReasonInTree why told
 
 -- the refusal that the store isn't ready has its reason in the Head

@@ -1,9 +1,10 @@
-// CARs written from what is held, and read into the store.
-ghost use Rattle.std.specs.Prelude.{List, ℕ};
+// CARs written from what is held, read into the store, and compared with what is held.
+ghost use Rattle.std.specs.Prelude.{◌≡◌, IfErr, IfOk, List, ℕ, true};
 ghost use Rattle.uf_edge.specs.Streams.{Told as Left};
 ghost use Rattle.uf_reply.specs.declared.types.Command.TheVariants as commands;
 ghost use Rattle.uf_top.specs.Around.{HostSide, around};
-ghost use Rattle.uf_top.specs.Cars.{KeepsCar};
+ghost use Rattle.uf_top.specs.Cars.{BySections, ComparesCar, ComparesStores, KeepsCar, TakesRoot};
+ghost use Rattle.uf_top.specs.Reply.{compared_text as text_of_compared, same_refusal as refusal_of_same};
 ghost use Rattle.uf_top.specs.Working.{Does};
 
 use crate::adding::synced;
@@ -11,10 +12,14 @@ use crate::command::print;
 use std::alloc::Global;
 use std::sync::ledger::Ledger;
 use uf_car::{export, import};
-use uf_cid::{Block, Cid};
+use uf_cid::{Block, Cid, Memory};
 use uf_edge::{Sink, Source};
-use uf_reply::{Refusal, car_refusal, export_refusal, root_lines};
-use uf_store::{Steps, Store};
+use uf_reply::{
+    DagRule, Refusal, car_refusal, export_refusal, kept_refusal, plain, root_lines,
+    section_refusal, two_blocks,
+};
+use uf_same::{Compared, SameFault, same};
+use uf_store::{MemStore, Steps, Store, StoreFault};
 
 // A CAR is written of at most so many blocks.
 const MOST_BLOCKS: u32 = 16777216;
@@ -76,5 +81,119 @@ fn roots_of<S: Store, I: Source, L: Ledger>(
             let text = root_lines(alloc, &imported.roots)?;
             synced(store, text)
         }
+    }
+}
+
+// Compares what is below a CID with the CAR that the input has, and prints how they compare.
+pub fn compare_car<S: Store, I: Source, O: Sink, L: Ledger>(
+    alloc: Global,
+    cid: &Cid,
+    store: &mut S,
+    input: &mut I,
+    output: &mut O,
+    touches: &mut Steps<L>,
+) -> Result<(), Refusal>
+    ensures does { (N : List ℕ → ℕ) (side : HostSide) → Does S.X.block32 N (commands.Same cid.now) result
+        (around (S.seen store.old) (I.left input.old) (I.faults input.old) (O.holds output.old) (O.faults output.old)
+        touches.old side)
+        (around (S.seen store.new) (I.left input.new) (I.faults input.new) (O.holds output.new) (O.faults output.new)
+        touches.new side) }
+    ensures sections { IfErr result (BySections S.X.block32 true (I.left input.old) (S.seen store.old)
+        (S.seen store.new)) }
+{
+    match comparison(alloc, cid, store, input, touches) {
+        Err(why) => Err(why),
+        Ok(text) => print(&text, output),
+    }
+}
+
+// How what is below a CID compares with the CAR that the input has, which is read whole into a store of its own.
+fn comparison<S: Store, I: Source, L: Ledger>(
+    alloc: Global,
+    cid: &Cid,
+    store: &mut S,
+    input: &mut I,
+    touches: &mut Steps<L>,
+) -> Result<Block, Refusal>
+    ensures { ComparesCar S.X.block32 cid.now result (S.seen store.old) (S.seen store.new) (I.left input.old)
+        (I.faults input.old) (I.faults input.new) }
+{
+    let mut right = MemStore::<S::X>::new(alloc);
+    match one_root(alloc, &mut right, input, touches) {
+        Err(why) => Err(why),
+        Ok(root) => compare_stores(alloc, cid, &root, store, &mut right, touches),
+    }
+}
+
+// The root of the CAR that the input has, once its blocks are kept: there has to be one.
+fn one_root<S: Store, I: Source, L: Ledger>(
+    alloc: Global,
+    store: &mut S,
+    input: &mut I,
+    touches: &mut Steps<L>,
+) -> Result<Cid, Refusal>
+    ensures { TakesRoot S.X.block32 result (S.seen store.old).told (S.seen store.new).told (I.left input.old)
+        (I.faults input.old) (I.faults input.new) }
+{
+    match import(alloc, store, input, MOST_BYTES, touches) {
+        Err(fault) => Err(kept_refusal(fault)),
+        Ok(imported) => match imported.roots.as_slice() {
+            [root] => Ok(*root),
+            [..] => Err(Refusal::Car {
+                number: 7,
+                place: 0,
+            }),
+        },
+    }
+}
+
+// How two stores compare below a CID and the root of a CAR.
+fn compare_stores<S: Store, R: Store<X = S::X>, L: Ledger>(
+    alloc: Global,
+    cid: &Cid,
+    root: &Cid,
+    left: &mut S,
+    right: &mut R,
+    touches: &mut Steps<L>,
+) -> Result<Block, Refusal>
+    ensures { ComparesStores S.X.block32 cid.now root.now result (S.seen left.old) (S.seen left.new)
+        (R.seen right.old).told }
+{
+    match same(alloc, left, right, cid, root, MOST_BLOCKS, touches) {
+        Err(fault) => Err(same_refusal(fault)),
+        Ok(found) => {
+            let text = compared_text(alloc, &found)?;
+            Ok(text)
+        }
+    }
+}
+
+// Why two stores weren't compared, as a refusal.
+fn same_refusal(fault: SameFault) -> Refusal
+    ensures { result ≡ refusal_of_same fault }
+{
+    match fault {
+        SameFault::NotDagPb(cid, why) => Refusal::Dag(DagRule::NotUnixfs(cid, why)),
+        SameFault::TooMany => Refusal::Dag(DagRule::TooMany),
+        SameFault::Left(fault) => Refusal::Store(fault),
+        SameFault::Right(fault) => section_refusal(fault),
+        SameFault::Memory => Refusal::Store(StoreFault::Memory),
+    }
+}
+
+// How two stores compare, as it is printed.
+fn compared_text(alloc: Global, found: &Compared) -> Result<Block, Memory>
+    ensures { IfOk result (λ text. text ≡ text_of_compared found.now) }
+{
+    match found {
+        Compared::Equal => plain(alloc, b"equal\n"),
+        Compared::Differ => plain(alloc, b"differ\n"),
+        Compared::Clash(cid, first, second) => two_blocks(
+            alloc,
+            b"clash ",
+            cid,
+            first.as_slice(),
+            second.as_slice(),
+        ),
     }
 }

@@ -1,5 +1,5 @@
 // One command.
-ghost use Rattle.std.specs.Prelude.{◌≡◌, ◌≢◌, ◌⊎◌, ◌<◌, ◌≤◌, ◌+◌, IfSome, List, ℕ, true, false, Err, Ok};
+ghost use Rattle.std.specs.Prelude.{◌≡◌, ◌≢◌, ◌⊎◌, ◌<◌, ◌≤◌, ◌+◌, IfErr, IfSome, List, ℕ, true, false, Err, Ok};
 ghost use Rattle.std.specs.Prelude.{map, string_bytes};
 ghost use Rattle.uf_cid.specs.Blocks.{Lookup};
 ghost use Rattle.uf_cid.specs.declared.cid.Cid.{Cid as TheCid};
@@ -8,15 +8,16 @@ ghost use Rattle.uf_edge.specs.Streams.{Told};
 ghost use Rattle.uf_mfs.specs.Reading.{AreHeights};
 ghost use Rattle.uf_mfs.specs.Standing.{NamesOver, TellsAs, head_in};
 ghost use Rattle.uf_store.specs.Calls.{Calm};
-ghost use Rattle.uf_store.specs.Faults.{ShowsBadBlock, ShowsClash, ShowsFailure, ShowsMissing};
+ghost use Rattle.uf_store.specs.Faults.{ShowsBadBlock, ShowsFailure};
 ghost use Rattle.uf_store.specs.Keeping.{KeepsGood};
 ghost use Rattle.uf_store.specs.declared.store.Role.{Role as TheRole};
 ghost use Rattle.uf_tree.specs.Standing.{Standing};
 ghost use Rattle.uf_tree.specs.Tree.{Entries};
 ghost use Rattle.uf_tree.specs.declared.profile.Profile.{Profile as TheProfile};
 ghost use Rattle.uf_top.specs.Bounds.{words_touch};
+ghost use Rattle.uf_top.specs.Cars.{BySections, IsClashing, IsMissing};
 ghost use Rattle.uf_top.specs.Causes.{IsBadIn, IsSent};
-ghost use Rattle.uf_reply.specs.Commands.{HasHost, HasInput, IsAccepted, command_in, is_idle, of_command};
+ghost use Rattle.uf_reply.specs.Commands.{HasHost, HasInput, IsAccepted, command_in, compares, is_idle, of_command};
 ghost use Rattle.uf_reply.specs.Commands.{only_hashes, only_reads, reads_input, reads_tree_alone, streams as flows};
 ghost use Rattle.uf_reply.specs.Commands.{uses_host, writes_host};
 ghost use Rattle.uf_top.specs.Around.{CountsCanRise, RoseAt, around, host_side};
@@ -35,7 +36,7 @@ ghost use Rattle.uf_reply.specs.declared.types.Refusal.{Refusal as TheRefusal};
 ghost use Rattle.uf_reply.specs.declared.types.Refusal.TheVariants as refusals;
 
 use crate::adding::adds;
-use crate::cars::{export_car, import_car};
+use crate::cars::{compare_car, export_car, import_car};
 use crate::foreign::cat;
 use crate::grafting::graft;
 use crate::hosted::add_from;
@@ -129,7 +130,9 @@ pub fn run<S: Store, N: NameHash, W: Host, I: Source, O: Sink, E: Sink, L: Ledge
         (command_in (map string_bytes words.now)) (S.seen store.old).told (I.left input.old) (I.left input.new) }
     ensures usage { result ≡ Status.Usage → command_in (map string_bytes words.now) ≡ Err refusals.Usage }
     ensures store_fault { result ≡ Status.StoreFault → ShowsFailure (S.seen store.old) (S.seen store.new) }
-    ensures missing { result ≡ Status.Missing → (cid : TheCid) × ShowsMissing cid (S.seen store.old) (S.seen store.new)
+    ensures missing { result ≡ Status.Missing → (cid : TheCid)
+        × IsMissing S.X.block32 (of_command compares false (command_in (map string_bytes words.now)))
+        (I.left input.old) cid (S.seen store.old) (S.seen store.new)
         × IsSent (missing_line cid) (E.holds errors.old) (E.holds errors.new) (E.faults errors.old)
         (E.faults errors.new) }
     ensures bad_block { result ≡ Status.BadBlock → (cid : TheCid) × (role : TheRole)
@@ -138,7 +141,8 @@ pub fn run<S: Store, N: NameHash, W: Host, I: Source, O: Sink, E: Sink, L: Ledge
         × IsSent (bad_block_line cid role) (E.holds errors.old) (E.holds errors.new) (E.faults errors.old)
         (E.faults errors.new) }
     ensures clash { result ≡ Status.Clash → (cid : TheCid) × (held : List ℕ) × (bytes : List ℕ)
-        × ShowsClash S.X.block32 cid held bytes (S.seen store.old) (S.seen store.new)
+        × IsClashing S.X.block32 (of_command compares false (command_in (map string_bytes words.now)))
+        (I.left input.old) cid held bytes (S.seen store.old) (S.seen store.new)
         × IsSent (clash_line cid held bytes) (E.holds errors.old) (E.holds errors.new) (E.faults errors.old)
         (E.faults errors.new) }
     ensures read { result ≡ Status.ReadFault
@@ -237,6 +241,9 @@ fn serve<S: Store, N: NameHash, W: Host, I: Source, O: Sink, L: Ledger>(
         touches.old (host_side (W.tree host.old) (W.read_faults host.old) (W.write_faults host.old)))
         (around (S.seen store.new) (I.left input.new) (I.faults input.new) (O.holds output.new) (O.faults output.new)
         touches.new (host_side (W.tree host.new) (W.read_faults host.new) (W.write_faults host.new))) }
+    ensures sections { IfErr result (BySections S.X.block32
+        (of_command compares false (command_in (map string_bytes words.now))) (I.left input.old) (S.seen store.old)
+        (S.seen store.new)) }
     ensures left { (why : TheRefusal) → command_in (map string_bytes words.now) ≡ Err why → store.new ≡ store.old }
     ensures input { of_command reads_input false (command_in (map string_bytes words.now)) ≡ false
         → input.new ≡ input.old }
@@ -268,6 +275,8 @@ fn work<S: Store, N: NameHash, W: Host, I: Source, O: Sink, L: Ledger>(
         touches.old (host_side (W.tree host.old) (W.read_faults host.old) (W.write_faults host.old)))
         (around (S.seen store.new) (I.left input.new) (I.faults input.new) (O.holds output.new) (O.faults output.new)
         touches.new (host_side (W.tree host.new) (W.read_faults host.new) (W.write_faults host.new))) }
+    ensures sections { IfErr result (BySections S.X.block32 (compares command.now) (I.left input.old)
+        (S.seen store.old) (S.seen store.new)) }
     ensures input { reads_input command.now ≡ false → input.new ≡ input.old }
     ensures host { uses_host command.now ≡ false → host.new ≡ host.old }
     ensures untouched { only_hashes command.now ≡ true → touches.new ≡ touches.old }
@@ -282,6 +291,7 @@ fn work<S: Store, N: NameHash, W: Host, I: Source, O: Sink, L: Ledger>(
         Command::Cat { path } => cat(alloc, path, store, output, touches),
         Command::Export { cid } => export_car(alloc, cid, store, output, touches),
         Command::Import => import_car(alloc, store, input, output, touches),
+        Command::Same { cid } => compare_car(alloc, cid, store, input, output, touches),
         _ => match text_of::<S, N, W, I, L>(alloc, command, store, host, input, touches) {
             Err(why) => Err(why),
             Ok(text) => print(&text, output),
@@ -326,6 +336,7 @@ fn text_of<S: Store, N: NameHash, W: Host, I: Source, L: Ledger>(
         | Command::Cat { .. }
         | Command::Export { .. }
         | Command::Import
+        | Command::Same { .. }
         | Command::Adopt { .. } => unreachable!(),
     }
 }

@@ -31,6 +31,8 @@ mod host_tests;
 #[cfg(test)]
 mod move_tests;
 #[cfg(test)]
+mod same_tests;
+#[cfg(test)]
 mod shard_tests;
 #[cfg(test)]
 mod tests;

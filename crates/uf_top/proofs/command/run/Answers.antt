@@ -77,7 +77,7 @@ returns-clause-rule g c = λ is.
     (command_in (map string_bytes c.args.words.now))) is (shows (λ line. IsSent line (g.E.Sink.holds c.args.errors.now) (g.E.Sink.holds c.tell_end.new.errors) (g.E.Sink.faults c.args.errors.now) (g.E.Sink.faults c.tell_end.new.errors)) c.tell_end.result g.S.X.BlockHash.block32 g.N.NameHash.name64
     (around (g.S.Store.seen c.args.store.now) (g.I.Source.left c.args.input.now) (g.I.Source.faults c.args.input.now) (g.O.Sink.holds c.args.output.now) (g.O.Sink.faults c.args.output.now) c.args.touches.now (host_side (g.W.Host.tree c.args.host.now) (g.W.Host.read_faults c.args.host.now) (g.W.Host.write_faults c.args.host.now)))
     (around (g.S.Store.seen c.serve-done.new.store) (g.I.Source.left c.serve-done.new.input) (g.I.Source.faults c.serve-done.new.input) (g.O.Sink.holds c.serve-done.new.output) (g.O.Sink.faults c.serve-done.new.output) c.serve-done.new.touches (host_side (g.W.Host.tree c.serve-done.new.host) (g.W.Host.read_faults c.serve-done.new.host) (g.W.Host.write_faults c.serve-done.new.host)))
-    (command_in (map string_bytes c.args.words.now)) c.serve-done.result (words-only (command_of (map string_bytes c.args.words.now))) c.serve-done.ensures.serves c.tell_end.ensures)
+    (command_in (map string_bytes c.args.words.now)) c.serve-done.result (words-only (command_of (map string_bytes c.args.words.now))) c.serve-done.ensures.serves c.serve-done.ensures.sections c.tell_end.ensures)
 
 pub returns-clause-usage : goal.returns-clause-usage
 returns-clause-usage g c = λ is.
@@ -87,7 +87,7 @@ returns-clause-usage g c = λ is.
     (command_in (map string_bytes c.args.words.now))) is (shows (λ line. IsSent line (g.E.Sink.holds c.args.errors.now) (g.E.Sink.holds c.tell_end.new.errors) (g.E.Sink.faults c.args.errors.now) (g.E.Sink.faults c.tell_end.new.errors)) c.tell_end.result g.S.X.BlockHash.block32 g.N.NameHash.name64
     (around (g.S.Store.seen c.args.store.now) (g.I.Source.left c.args.input.now) (g.I.Source.faults c.args.input.now) (g.O.Sink.holds c.args.output.now) (g.O.Sink.faults c.args.output.now) c.args.touches.now (host_side (g.W.Host.tree c.args.host.now) (g.W.Host.read_faults c.args.host.now) (g.W.Host.write_faults c.args.host.now)))
     (around (g.S.Store.seen c.serve-done.new.store) (g.I.Source.left c.serve-done.new.input) (g.I.Source.faults c.serve-done.new.input) (g.O.Sink.holds c.serve-done.new.output) (g.O.Sink.faults c.serve-done.new.output) c.serve-done.new.touches (host_side (g.W.Host.tree c.serve-done.new.host) (g.W.Host.read_faults c.serve-done.new.host) (g.W.Host.write_faults c.serve-done.new.host)))
-    (command_in (map string_bytes c.args.words.now)) c.serve-done.result (words-only (command_of (map string_bytes c.args.words.now))) c.serve-done.ensures.serves c.tell_end.ensures)
+    (command_in (map string_bytes c.args.words.now)) c.serve-done.result (words-only (command_of (map string_bytes c.args.words.now))) c.serve-done.ensures.serves c.serve-done.ensures.sections c.tell_end.ensures)
 
 pub returns-clause-store_fault : goal.returns-clause-store_fault
 returns-clause-store_fault g c = λ is.
@@ -97,7 +97,7 @@ returns-clause-store_fault g c = λ is.
     (command_in (map string_bytes c.args.words.now))) is (shows (λ line. IsSent line (g.E.Sink.holds c.args.errors.now) (g.E.Sink.holds c.tell_end.new.errors) (g.E.Sink.faults c.args.errors.now) (g.E.Sink.faults c.tell_end.new.errors)) c.tell_end.result g.S.X.BlockHash.block32 g.N.NameHash.name64
     (around (g.S.Store.seen c.args.store.now) (g.I.Source.left c.args.input.now) (g.I.Source.faults c.args.input.now) (g.O.Sink.holds c.args.output.now) (g.O.Sink.faults c.args.output.now) c.args.touches.now (host_side (g.W.Host.tree c.args.host.now) (g.W.Host.read_faults c.args.host.now) (g.W.Host.write_faults c.args.host.now)))
     (around (g.S.Store.seen c.serve-done.new.store) (g.I.Source.left c.serve-done.new.input) (g.I.Source.faults c.serve-done.new.input) (g.O.Sink.holds c.serve-done.new.output) (g.O.Sink.faults c.serve-done.new.output) c.serve-done.new.touches (host_side (g.W.Host.tree c.serve-done.new.host) (g.W.Host.read_faults c.serve-done.new.host) (g.W.Host.write_faults c.serve-done.new.host)))
-    (command_in (map string_bytes c.args.words.now)) c.serve-done.result (words-only (command_of (map string_bytes c.args.words.now))) c.serve-done.ensures.serves c.tell_end.ensures)
+    (command_in (map string_bytes c.args.words.now)) c.serve-done.result (words-only (command_of (map string_bytes c.args.words.now))) c.serve-done.ensures.serves c.serve-done.ensures.sections c.tell_end.ensures)
 
 pub returns-clause-missing : goal.returns-clause-missing
 returns-clause-missing g c = λ is.
@@ -107,7 +107,7 @@ returns-clause-missing g c = λ is.
     (command_in (map string_bytes c.args.words.now))) is (shows (λ line. IsSent line (g.E.Sink.holds c.args.errors.now) (g.E.Sink.holds c.tell_end.new.errors) (g.E.Sink.faults c.args.errors.now) (g.E.Sink.faults c.tell_end.new.errors)) c.tell_end.result g.S.X.BlockHash.block32 g.N.NameHash.name64
     (around (g.S.Store.seen c.args.store.now) (g.I.Source.left c.args.input.now) (g.I.Source.faults c.args.input.now) (g.O.Sink.holds c.args.output.now) (g.O.Sink.faults c.args.output.now) c.args.touches.now (host_side (g.W.Host.tree c.args.host.now) (g.W.Host.read_faults c.args.host.now) (g.W.Host.write_faults c.args.host.now)))
     (around (g.S.Store.seen c.serve-done.new.store) (g.I.Source.left c.serve-done.new.input) (g.I.Source.faults c.serve-done.new.input) (g.O.Sink.holds c.serve-done.new.output) (g.O.Sink.faults c.serve-done.new.output) c.serve-done.new.touches (host_side (g.W.Host.tree c.serve-done.new.host) (g.W.Host.read_faults c.serve-done.new.host) (g.W.Host.write_faults c.serve-done.new.host)))
-    (command_in (map string_bytes c.args.words.now)) c.serve-done.result (words-only (command_of (map string_bytes c.args.words.now))) c.serve-done.ensures.serves c.tell_end.ensures)
+    (command_in (map string_bytes c.args.words.now)) c.serve-done.result (words-only (command_of (map string_bytes c.args.words.now))) c.serve-done.ensures.serves c.serve-done.ensures.sections c.tell_end.ensures)
 
 pub returns-clause-bad_block : goal.returns-clause-bad_block
 returns-clause-bad_block g c = λ is.
@@ -117,7 +117,7 @@ returns-clause-bad_block g c = λ is.
     (command_in (map string_bytes c.args.words.now))) is (shows (λ line. IsSent line (g.E.Sink.holds c.args.errors.now) (g.E.Sink.holds c.tell_end.new.errors) (g.E.Sink.faults c.args.errors.now) (g.E.Sink.faults c.tell_end.new.errors)) c.tell_end.result g.S.X.BlockHash.block32 g.N.NameHash.name64
     (around (g.S.Store.seen c.args.store.now) (g.I.Source.left c.args.input.now) (g.I.Source.faults c.args.input.now) (g.O.Sink.holds c.args.output.now) (g.O.Sink.faults c.args.output.now) c.args.touches.now (host_side (g.W.Host.tree c.args.host.now) (g.W.Host.read_faults c.args.host.now) (g.W.Host.write_faults c.args.host.now)))
     (around (g.S.Store.seen c.serve-done.new.store) (g.I.Source.left c.serve-done.new.input) (g.I.Source.faults c.serve-done.new.input) (g.O.Sink.holds c.serve-done.new.output) (g.O.Sink.faults c.serve-done.new.output) c.serve-done.new.touches (host_side (g.W.Host.tree c.serve-done.new.host) (g.W.Host.read_faults c.serve-done.new.host) (g.W.Host.write_faults c.serve-done.new.host)))
-    (command_in (map string_bytes c.args.words.now)) c.serve-done.result (words-only (command_of (map string_bytes c.args.words.now))) c.serve-done.ensures.serves c.tell_end.ensures)
+    (command_in (map string_bytes c.args.words.now)) c.serve-done.result (words-only (command_of (map string_bytes c.args.words.now))) c.serve-done.ensures.serves c.serve-done.ensures.sections c.tell_end.ensures)
 
 pub returns-clause-clash : goal.returns-clause-clash
 returns-clause-clash g c = λ is.
@@ -127,7 +127,7 @@ returns-clause-clash g c = λ is.
     (command_in (map string_bytes c.args.words.now))) is (shows (λ line. IsSent line (g.E.Sink.holds c.args.errors.now) (g.E.Sink.holds c.tell_end.new.errors) (g.E.Sink.faults c.args.errors.now) (g.E.Sink.faults c.tell_end.new.errors)) c.tell_end.result g.S.X.BlockHash.block32 g.N.NameHash.name64
     (around (g.S.Store.seen c.args.store.now) (g.I.Source.left c.args.input.now) (g.I.Source.faults c.args.input.now) (g.O.Sink.holds c.args.output.now) (g.O.Sink.faults c.args.output.now) c.args.touches.now (host_side (g.W.Host.tree c.args.host.now) (g.W.Host.read_faults c.args.host.now) (g.W.Host.write_faults c.args.host.now)))
     (around (g.S.Store.seen c.serve-done.new.store) (g.I.Source.left c.serve-done.new.input) (g.I.Source.faults c.serve-done.new.input) (g.O.Sink.holds c.serve-done.new.output) (g.O.Sink.faults c.serve-done.new.output) c.serve-done.new.touches (host_side (g.W.Host.tree c.serve-done.new.host) (g.W.Host.read_faults c.serve-done.new.host) (g.W.Host.write_faults c.serve-done.new.host)))
-    (command_in (map string_bytes c.args.words.now)) c.serve-done.result (words-only (command_of (map string_bytes c.args.words.now))) c.serve-done.ensures.serves c.tell_end.ensures)
+    (command_in (map string_bytes c.args.words.now)) c.serve-done.result (words-only (command_of (map string_bytes c.args.words.now))) c.serve-done.ensures.serves c.serve-done.ensures.sections c.tell_end.ensures)
 
 pub returns-clause-read : goal.returns-clause-read
 returns-clause-read g c = λ is.
@@ -137,7 +137,7 @@ returns-clause-read g c = λ is.
     (command_in (map string_bytes c.args.words.now))) is (shows (λ line. IsSent line (g.E.Sink.holds c.args.errors.now) (g.E.Sink.holds c.tell_end.new.errors) (g.E.Sink.faults c.args.errors.now) (g.E.Sink.faults c.tell_end.new.errors)) c.tell_end.result g.S.X.BlockHash.block32 g.N.NameHash.name64
     (around (g.S.Store.seen c.args.store.now) (g.I.Source.left c.args.input.now) (g.I.Source.faults c.args.input.now) (g.O.Sink.holds c.args.output.now) (g.O.Sink.faults c.args.output.now) c.args.touches.now (host_side (g.W.Host.tree c.args.host.now) (g.W.Host.read_faults c.args.host.now) (g.W.Host.write_faults c.args.host.now)))
     (around (g.S.Store.seen c.serve-done.new.store) (g.I.Source.left c.serve-done.new.input) (g.I.Source.faults c.serve-done.new.input) (g.O.Sink.holds c.serve-done.new.output) (g.O.Sink.faults c.serve-done.new.output) c.serve-done.new.touches (host_side (g.W.Host.tree c.serve-done.new.host) (g.W.Host.read_faults c.serve-done.new.host) (g.W.Host.write_faults c.serve-done.new.host)))
-    (command_in (map string_bytes c.args.words.now)) c.serve-done.result (words-only (command_of (map string_bytes c.args.words.now))) c.serve-done.ensures.serves c.tell_end.ensures)
+    (command_in (map string_bytes c.args.words.now)) c.serve-done.result (words-only (command_of (map string_bytes c.args.words.now))) c.serve-done.ensures.serves c.serve-done.ensures.sections c.tell_end.ensures)
 
 pub returns-clause-write : goal.returns-clause-write
 returns-clause-write g c = λ is.
@@ -147,7 +147,7 @@ returns-clause-write g c = λ is.
     (command_in (map string_bytes c.args.words.now))) is (shows (λ line. IsSent line (g.E.Sink.holds c.args.errors.now) (g.E.Sink.holds c.tell_end.new.errors) (g.E.Sink.faults c.args.errors.now) (g.E.Sink.faults c.tell_end.new.errors)) c.tell_end.result g.S.X.BlockHash.block32 g.N.NameHash.name64
     (around (g.S.Store.seen c.args.store.now) (g.I.Source.left c.args.input.now) (g.I.Source.faults c.args.input.now) (g.O.Sink.holds c.args.output.now) (g.O.Sink.faults c.args.output.now) c.args.touches.now (host_side (g.W.Host.tree c.args.host.now) (g.W.Host.read_faults c.args.host.now) (g.W.Host.write_faults c.args.host.now)))
     (around (g.S.Store.seen c.serve-done.new.store) (g.I.Source.left c.serve-done.new.input) (g.I.Source.faults c.serve-done.new.input) (g.O.Sink.holds c.serve-done.new.output) (g.O.Sink.faults c.serve-done.new.output) c.serve-done.new.touches (host_side (g.W.Host.tree c.serve-done.new.host) (g.W.Host.read_faults c.serve-done.new.host) (g.W.Host.write_faults c.serve-done.new.host)))
-    (command_in (map string_bytes c.args.words.now)) c.serve-done.result (words-only (command_of (map string_bytes c.args.words.now))) c.serve-done.ensures.serves c.tell_end.ensures)
+    (command_in (map string_bytes c.args.words.now)) c.serve-done.result (words-only (command_of (map string_bytes c.args.words.now))) c.serve-done.ensures.serves c.serve-done.ensures.sections c.tell_end.ensures)
 
 pub returns-clause-not_ready : goal.returns-clause-not_ready
 returns-clause-not_ready g c = λ is.
@@ -157,7 +157,7 @@ returns-clause-not_ready g c = λ is.
     (command_in (map string_bytes c.args.words.now))) is (shows (λ line. IsSent line (g.E.Sink.holds c.args.errors.now) (g.E.Sink.holds c.tell_end.new.errors) (g.E.Sink.faults c.args.errors.now) (g.E.Sink.faults c.tell_end.new.errors)) c.tell_end.result g.S.X.BlockHash.block32 g.N.NameHash.name64
     (around (g.S.Store.seen c.args.store.now) (g.I.Source.left c.args.input.now) (g.I.Source.faults c.args.input.now) (g.O.Sink.holds c.args.output.now) (g.O.Sink.faults c.args.output.now) c.args.touches.now (host_side (g.W.Host.tree c.args.host.now) (g.W.Host.read_faults c.args.host.now) (g.W.Host.write_faults c.args.host.now)))
     (around (g.S.Store.seen c.serve-done.new.store) (g.I.Source.left c.serve-done.new.input) (g.I.Source.faults c.serve-done.new.input) (g.O.Sink.holds c.serve-done.new.output) (g.O.Sink.faults c.serve-done.new.output) c.serve-done.new.touches (host_side (g.W.Host.tree c.serve-done.new.host) (g.W.Host.read_faults c.serve-done.new.host) (g.W.Host.write_faults c.serve-done.new.host)))
-    (command_in (map string_bytes c.args.words.now)) c.serve-done.result (words-only (command_of (map string_bytes c.args.words.now))) c.serve-done.ensures.serves c.tell_end.ensures)
+    (command_in (map string_bytes c.args.words.now)) c.serve-done.result (words-only (command_of (map string_bytes c.args.words.now))) c.serve-done.ensures.serves c.serve-done.ensures.sections c.tell_end.ensures)
 
 pub returns-clause-faults_told : goal.returns-clause-faults_told
 returns-clause-faults_told g c = λ more.
