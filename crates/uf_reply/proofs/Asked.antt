@@ -16,7 +16,7 @@ use Rattle.uf_reply.specs.declared.types.Edit.TheVariants.{Cp, Mv}
 use Rattle.uf_reply.specs.declared.types.Refusal.{Refusal}
 use Rattle.uf_reply.specs.declared.types.Refusal.TheVariants as refusal
 use Rattle.uf_reply.specs.Cids.{cid_reads}
-use Rattle.uf_reply.specs.Commands.{IsAsked, IsOfWords, add_asked, adopt_asked, asked, asked_of, at_path, both_paths, below_asked, cat_asked, from_to, path_refusal, read_asked, write_asked}
+use Rattle.uf_reply.specs.Commands.{IsAsked, IsOfWords, add_asked, adopt_asked, asked, asked_of, at_path, both_paths, below_asked, cat_asked, from_to, get_asked, path_refusal, read_asked, write_asked}
 
 at-only : (ask : Ask) (r : Result Path PathFault) → IsOfWords (at_path ask r)
 at-only ask (Ok path) = tt
@@ -46,6 +46,14 @@ cat-only (Err (path.BadName place)) = refl
 cat-only (Err path.TooLong) = refl
 cat-only (Err (path.BadCid why)) = refl
 cat-only (Err path.Memory) = refl
+
+get-only : (host_path : List ℕ) (r : Result DagPath PathFault) → IsOfWords (get_asked r host_path)
+get-only host_path (Ok path) = tt
+get-only host_path (Err path.NotAbsolute) = refl
+get-only host_path (Err (path.BadName place)) = refl
+get-only host_path (Err path.TooLong) = refl
+get-only host_path (Err (path.BadCid why)) = refl
+get-only host_path (Err path.Memory) = refl
 
 below-only : (compared : Bool) (r : Result Cid PathFault) → IsOfWords (below_asked compared r)
 below-only compared (Ok cid) = tt
@@ -97,7 +105,7 @@ cmd-only : (c : Cmd) → IsOfWords (asked c)
 cmd-only (cmd.Init profile) = tt
 cmd-only (cmd.Add recursive only_hash to_files host_path) = add-only recursive only_hash to_files host_path
 cmd-only (cmd.Cat target) = cat-only (dag_path_reads target)
-cmd-only (cmd.Get target host_path) = refl
+cmd-only (cmd.Get target host_path) = get-only host_path (dag_path_reads target)
 cmd-only (cmd.Mkdir parents path) = at-only _ (path_reads path)
 cmd-only (cmd.Ls long path) = at-only _ (path_reads path)
 cmd-only (cmd.Stat path) = at-only _ (path_reads path)

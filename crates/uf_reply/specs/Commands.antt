@@ -27,7 +27,7 @@ use Rattle.uf_words.specs.declared.command.Cmd.TheVariants as cmd
 use Rattle.uf_reply.specs.declared.types.Ask.{Ask}
 use Rattle.uf_reply.specs.declared.types.Ask.TheVariants.{Ls, Stat, Edit as Edits}
 use Rattle.uf_reply.specs.declared.types.Command.{Command}
-use Rattle.uf_reply.specs.declared.types.Command.TheVariants.{Init, Add, AddFrom, WriteInput, At, Read, Cat, Export, Import, Same, Adopt}
+use Rattle.uf_reply.specs.declared.types.Command.TheVariants.{Init, Add, AddFrom, WriteInput, At, Read, Cat, Get, Export, Import, Same, Adopt}
 use Rattle.uf_reply.specs.declared.types.Edit.{Edit}
 use Rattle.uf_reply.specs.declared.types.Edit.TheVariants.{Mkdir, Rm, Write, Truncate, Cp, Mv}
 use Rattle.uf_reply.specs.declared.types.Refusal.{Refusal}
@@ -71,6 +71,11 @@ abbrev pub cat_asked : Result DagPath PathFault → Result Command Refusal
 cat_asked (Ok path) = Ok (Cat path)
 cat_asked (Err why) = Err (path_refusal why)
 
+-- `get` of a path in a DAG
+abbrev pub get_asked : Result DagPath PathFault → List ℕ → Result Command Refusal
+get_asked (Ok path) host_path = Ok (Get path host_path)
+get_asked (Err why) host_path = Err (path_refusal why)
+
 -- `dag same`, or else `dag export`, of what is below a CID
 abbrev pub below : Bool → Cid → Command
 below true cid = Same cid
@@ -112,6 +117,7 @@ abbrev pub asked : Cmd → Result Command Refusal
 asked (cmd.Init profile) = Ok (Init profile)
 asked (cmd.Add recursive only_hash to_files host_path) = add_asked recursive only_hash to_files host_path
 asked (cmd.Cat target) = cat_asked (dag_path_reads target)
+asked (cmd.Get target host_path) = get_asked (dag_path_reads target) host_path
 asked (cmd.Mkdir parents path) = at_path (Edits (Mkdir parents)) (path_reads path)
 asked (cmd.Ls long path) = at_path (Ls long) (path_reads path)
 asked (cmd.Stat path) = at_path Stat (path_reads path)
@@ -126,7 +132,6 @@ asked (cmd.Export cid) = below_asked false (cid_reads cid)
 asked cmd.Import = Ok Import
 asked (cmd.Same cid) = below_asked true (cid_reads cid)
 -- these aren't answered yet
-asked (cmd.Get target host_path) = Err refusal.Usage
 asked cmd.Batch = Err refusal.Usage
 asked (cmd.Gen n seed) = Err refusal.Usage
 
@@ -152,6 +157,7 @@ IsAccepted (WriteInput how path) = Unit {0}
 IsAccepted (At ask path) = Unit {0}
 IsAccepted (Read offset count path) = Unit {0}
 IsAccepted (Cat path) = length path.names < 2 ^ 32
+IsAccepted (Get path host_path) = length path.names < 2 ^ 32
 IsAccepted (Export cid) = Unit {0}
 IsAccepted Import = Unit {0}
 IsAccepted (Same cid) = Unit {0}
@@ -166,6 +172,7 @@ reads_input (WriteInput how path) = true
 reads_input (At ask path) = false
 reads_input (Read offset count path) = false
 reads_input (Cat path) = false
+reads_input (Get path host_path) = false
 reads_input (Export cid) = false
 reads_input Import = true
 reads_input (Same cid) = true
@@ -180,6 +187,7 @@ streams (WriteInput how path) = false
 streams (At ask path) = false
 streams (Read offset count path) = true
 streams (Cat path) = true
+streams (Get path host_path) = false
 streams (Export cid) = true
 streams Import = false
 streams (Same cid) = false
@@ -194,6 +202,7 @@ needs_standing (WriteInput how path) = true
 needs_standing (At ask path) = true
 needs_standing (Read offset count path) = true
 needs_standing (Cat path) = false
+needs_standing (Get path host_path) = false
 needs_standing (Export cid) = false
 needs_standing Import = false
 needs_standing (Same cid) = false
@@ -208,6 +217,7 @@ adopts (WriteInput how path) = false
 adopts (At ask path) = false
 adopts (Read offset count path) = false
 adopts (Cat path) = false
+adopts (Get path host_path) = false
 adopts (Export cid) = false
 adopts Import = false
 adopts (Same cid) = false
@@ -226,6 +236,7 @@ compares (WriteInput how path) = false
 compares (At ask path) = false
 compares (Read offset count path) = false
 compares (Cat path) = false
+compares (Get path host_path) = false
 compares (Export cid) = false
 compares Import = false
 compares (Same cid) = true
@@ -240,14 +251,26 @@ uses_host (WriteInput how path) = false
 uses_host (At ask path) = false
 uses_host (Read offset count path) = false
 uses_host (Cat path) = false
+uses_host (Get path host_path) = true
 uses_host (Export cid) = false
 uses_host Import = false
 uses_host (Same cid) = false
 uses_host (Adopt source dest) = false
 
--- the command writes files and folders of the host; none does yet
+-- the command writes files and folders of the host
 abbrev pub writes_host : Command → Bool
-writes_host command = false
+writes_host (Init profile) = false
+writes_host (Add only_hash) = false
+writes_host (AddFrom recursive only_hash path) = false
+writes_host (WriteInput how path) = false
+writes_host (At ask path) = false
+writes_host (Read offset count path) = false
+writes_host (Cat path) = false
+writes_host (Get path host_path) = true
+writes_host (Export cid) = false
+writes_host Import = false
+writes_host (Same cid) = false
+writes_host (Adopt source dest) = false
 
 -- what is asked writes nothing to the store
 abbrev pub only_looks : Ask → Bool
@@ -264,6 +287,7 @@ only_reads (WriteInput how path) = false
 only_reads (At ask path) = only_looks ask
 only_reads (Read offset count path) = true
 only_reads (Cat path) = true
+only_reads (Get path host_path) = true
 only_reads (Export cid) = true
 only_reads Import = false
 only_reads (Same cid) = true
@@ -290,6 +314,7 @@ command_writes (WriteInput how path) = MovesHead
 command_writes (At ask path) = ask_writes ask
 command_writes (Read offset count path) = NoWrites
 command_writes (Cat path) = NoWrites
+command_writes (Get path host_path) = NoWrites
 command_writes (Export cid) = NoWrites
 command_writes Import = SyncsBlocks
 command_writes (Same cid) = NoWrites
@@ -304,6 +329,7 @@ only_hashes (WriteInput how path) = false
 only_hashes (At ask path) = false
 only_hashes (Read offset count path) = false
 only_hashes (Cat path) = false
+only_hashes (Get path host_path) = false
 only_hashes (Export cid) = false
 only_hashes Import = false
 only_hashes (Same cid) = false
@@ -350,6 +376,7 @@ is_idle bytes es (AddFrom recursive only_hash path) = false
 is_idle bytes es (WriteInput how path) = has_nothing_to_do (Write how bytes) path.names es
 is_idle bytes es (Read offset count path) = false
 is_idle bytes es (Cat path) = false
+is_idle bytes es (Get path host_path) = false
 is_idle bytes es (Export cid) = false
 is_idle bytes es Import = false
 is_idle bytes es (Same cid) = false

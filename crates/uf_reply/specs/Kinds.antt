@@ -7,7 +7,7 @@ use Rattle.std.specs.declared.result.Result.TheVariants.{Ok, Err}
 use Rattle.uf_store.specs.declared.store.StoreFault.{StoreFault}
 use Rattle.uf_store.specs.declared.store.StoreFault.TheVariants as fault
 use Rattle.uf_reply.specs.declared.types.Command.{Command}
-use Rattle.uf_reply.specs.declared.types.Command.TheVariants.{Init, Add, AddFrom, WriteInput, At, Read, Cat, Export, Import, Same, Adopt}
+use Rattle.uf_reply.specs.declared.types.Command.TheVariants.{Init, Add, AddFrom, WriteInput, At, Read, Cat, Get, Export, Import, Same, Adopt}
 use Rattle.uf_reply.specs.declared.types.Refusal.{Refusal}
 use Rattle.uf_reply.specs.declared.types.Refusal.TheVariants as refusal
 
@@ -51,10 +51,10 @@ refusal_fault (Ok a) = None
 refusal_fault (Err why) = fault_behind why
 
 -- the families of commands: those that make a store ready, that add an input or what a host has, that write an input into
--- the tree of the Head, that work on that tree alone, that read DAGs of others, that keep the blocks of a CAR, that
--- compare with one, and that copy from DAGs of others into that tree
+-- the tree of the Head, that work on that tree alone, that read DAGs of others, that write them to a host, that keep the
+-- blocks of a CAR, that compare with one, and that copy from DAGs of others into that tree
 pub data Family : Type 0 where
-  MakesReady AddsInput AddsHost TakesInput WorksInTree ReadsDag KeepsCar ComparesCar AdoptsDag : Family
+  MakesReady AddsInput AddsHost TakesInput WorksInTree ReadsDag GetsDag KeepsCar ComparesCar AdoptsDag : Family
 
 abbrev pub family_of : Command → Family
 family_of (Init p) = MakesReady
@@ -64,6 +64,7 @@ family_of (WriteInput how path) = TakesInput
 family_of (At ask path) = WorksInTree
 family_of (Read offset count path) = WorksInTree
 family_of (Cat path) = ReadsDag
+family_of (Get path host_path) = GetsDag
 family_of (Export cid) = ReadsDag
 family_of Import = KeepsCar
 family_of (Same cid) = ComparesCar
@@ -113,6 +114,14 @@ may_answer ReadsDag OfMissing = true
 may_answer ReadsDag OfClash = true
 may_answer ReadsDag OfMemory = true
 may_answer ReadsDag kind = false
+may_answer GetsDag OfDag = true
+may_answer GetsDag OfHost = true
+may_answer GetsDag OfRead = true
+may_answer GetsDag OfFailure = true
+may_answer GetsDag OfMissing = true
+may_answer GetsDag OfClash = true
+may_answer GetsDag OfMemory = true
+may_answer GetsDag kind = false
 may_answer KeepsCar OfCar = true
 may_answer KeepsCar OfRead = true
 may_answer KeepsCar OfFailure = true
@@ -137,7 +146,7 @@ may_answer AdoptsDag OfRead = false
 may_answer AdoptsDag OfWrite = false
 may_answer AdoptsDag kind = true
 
--- the same when it has printed: the output may have failed
+-- the same when it has printed or written to the host: that may have failed
 abbrev pub may_end : Family → RefusalKind → Bool
 may_end family OfWrite = true
 may_end family kind = may_answer family kind

@@ -4,8 +4,8 @@ ghost use Rattle.std.specs.List.{after_first};
 ghost use Rattle.uf_path.specs.Paths.{ReadsAs, dag_path_reads, is_slash, path_reads};
 ghost use Rattle.uf_reply.specs.Cids.{cid_reads, first_name_at as first_name_in, slashes_before as slashes_in_front};
 ghost use Rattle.uf_reply.specs.Commands.{IsAccepted, IsAsked, add_asked, asked, at_path, both_paths, command_in};
-ghost use Rattle.uf_reply.specs.Commands.{adopt_asked, below_asked, cat_asked, cp_asked, mv_asked, path_refusal, read_asked};
-ghost use Rattle.uf_reply.specs.Commands.{write_asked};
+ghost use Rattle.uf_reply.specs.Commands.{adopt_asked, below_asked, cat_asked, cp_asked, get_asked, mv_asked, path_refusal};
+ghost use Rattle.uf_reply.specs.Commands.{read_asked, write_asked};
 ghost use Rattle.uf_reply.specs.declared.types.Ask.TheVariants as asks;
 ghost use Rattle.uf_words.specs.Commands.{HasAcceptedProfile};
 
@@ -61,6 +61,7 @@ fn read_path(alloc: Global, cmd: Cmd) -> Result<Command, Refusal>
         Cmd::Mv { source, dest } => read_mv(alloc, &source, &dest),
         Cmd::Ls { long, path } => ask_at(alloc, Ask::Ls { long }, &path),
         Cmd::Cat { target } => read_cat(alloc, &target),
+        Cmd::Get { target, host_path } => read_get(alloc, &target, host_path),
         Cmd::Stat { path } => ask_at(alloc, Ask::Stat, &path),
         Cmd::Read {
             offset,
@@ -129,6 +130,17 @@ fn read_cat(alloc: Global, target: &Text) -> Result<Command, Refusal>
 {
     match DagPath::parse(alloc, target.as_str()) {
         Ok(path) => Ok(Command::Cat { path }),
+        Err(why) => Err(bad_path(why)),
+    }
+}
+
+// `get` of a path in a DAG.
+fn read_get(alloc: Global, target: &Text, host_path: Text) -> Result<Command, Refusal>
+    ensures asked { IsAsked result (get_asked (dag_path_reads target.now) host_path) }
+    ensures profile { IfOk result IsAccepted }
+{
+    match DagPath::parse(alloc, target.as_str()) {
+        Ok(path) => Ok(Command::Get { path, host_path }),
         Err(why) => Err(bad_path(why)),
     }
 }

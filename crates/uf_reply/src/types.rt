@@ -26,7 +26,8 @@ pub enum Ask {
     Edit { edit: Edit },
 }
 
-/// A command, its paths read. `Adopt` copies what is at a path in a DAG to where a path of the tree leads.
+/// A command, its paths read. `Get` writes what is at a path in a DAG to a path of the host, and `Adopt` copies it to where
+/// a path of the tree leads.
 #[derive(Drop)]
 pub enum Command {
     Init {
@@ -55,6 +56,10 @@ pub enum Command {
     },
     Cat {
         path: DagPath,
+    },
+    Get {
+        path: DagPath,
+        host_path: Text,
     },
     Export {
         cid: Cid,

@@ -3,6 +3,7 @@ use Rattle.std.proofs.Common.{◌≡◌, ◌≢◌, ◌⊎◌, ℕ, ◌≤◌, L
 use Rattle.std.specs.Prelude.{⊤}
 use Rattle.uf_cid.specs.Blocks.{Lookup}
 use Rattle.uf_edge.specs.Counts.{Counts, Stood}
+use Rattle.uf_edge.specs.Host.{HostTold}
 use Rattle.uf_edge.specs.Streams as streams
 use Rattle.uf_mfs.specs.Answers.{ShownInTree, ShownOpening}
 use Rattle.uf_mfs.specs.Bad.{IsBadInHead, IsBadInTree}
@@ -274,15 +275,15 @@ module _ (X : List ℕ → List ℕ) (N : List ℕ → ℕ) where
   grown-stands a b p es (Ok fs) held named = (let s = named-stands a b p es fs held named in (s, stands-blocks b p fs s))
   grown-stands a b p es (Err why) held named = (let s = named-stands a b p es es held named in (s, tells-none X N b (Stands p es) s))
 
-  over-answers : (source : DagPath) (dest : Path) (lookup : Lookup) (input : Outside) (a b : Told) (p : Profile) (es : Entries) (done : Result (Unit {0}) Refusal) (given : streams.Told) → TellsAs X N a (Stands p es)
+  over-answers : (source : DagPath) (dest : Path) (lookup : Lookup) (input : Outside) (a b : Told) (p : Profile) (es : Entries) (done : Result (Unit {0}) Refusal) (given : streams.Told) (host : HostTold) → TellsAs X N a (Stands p es)
       → DoesOver X N a b p es (blocks X N p (Dir es)) (adopt_reply X N lookup source dest p es) done given given
-      → DoesAnswer X N (Adopt source dest) (in_world p es lookup input) done given given b
-  over-answers source dest lookup input a b p es done given stands (inl x) =
+      → DoesAnswer X N (Adopt source dest) (in_world p es lookup input) done given given b host
+  over-answers source dest lookup input a b p es done given host stands (inl x) =
       let held = stands-blocks a p es stands in
       inl (record { ends_are = x.ends_are ∙ ap (λ (f : StoreFault). Err (refusal.Store f)) (loss-fault a (blocks X N p (Dir es)) x.fault held x.loss); stands = named-stands a b p es es held x.stands })
-  over-answers source dest lookup input a b p es done given stands (inr x) =
+  over-answers source dest lookup input a b p es done given host stands (inr x) =
       let s = grown-stands a b p es (adopted X N lookup source dest p es) (stands-blocks a p es stands) x.stands in
-      inr (record { ends = x.ends; stands = s.0; blocks = s.1 })
+      inr (record { ends = x.ends; stands = s.0; blocks = s.1 }, tt)
 
   -- ---- how it is done
 
@@ -306,6 +307,7 @@ module _ (X : List ℕ → List ℕ) (N : List ℕ → ℕ) where
           rule = plain.rule;
           reads = plain.reads;
           host = refl;
+          gets = tt;
           writes = subst (λ f. RisesFor f w w) (sym quiet.unwritten) (rises-still w);
           cause = Shown-opening Mfs X (IsBadInHead X N a.told) (IsBadIn X N a.told m.told) (bad-of-none X N a.told m.told) f why a m is cause;
           whole = λ s needs stands quiet2. absurd cc;
@@ -319,9 +321,9 @@ module _ (X : List ℕ → List ℕ) (N : List ℕ → ℕ) where
           };
         }
       where
-        answered : (world : World) → Answers X N world.standing (reply X N (Adopt source dest) world) (Err why) m.told → DoesAnswer X N (Adopt source dest) world (Err why) h h m.told
+        answered : (world : World) → Answers X N world.standing (reply X N (Adopt source dest) world) (Err why) m.told → DoesAnswer X N (Adopt source dest) world (Err why) h h m.told side.told
         answered world (inl x) = inl (record { ends_are = ap (λ (r : Refusal). Err r) (let same = x.ends_are in cc); stands = x.stands })
-        answered world (inr x) = inr (record { ends = subst (λ e. EndsBy e (Err why) h h) x.ends_are (refl, refl); stands = x.stands; blocks = x.held })
+        answered world (inr x) = inr (record { ends = subst (λ e. EndsBy e (Err why) h h) x.ends_are (refl, refl); stands = x.stands; blocks = x.held }, tt)
 
         over : (p : Profile) (es : Entries) (held : Lookup) (bytes : Outside) → AnswersOver X N a.told m.told p es (root_of X N p (Dir es) ++ blocks X N p (Dir es)) (adopt_reply X N held source dest p es) (Err why)
             → DoesOver X N a.told m.told p es (root_of X N p (Dir es) ++ blocks X N p (Dir es)) (reply X N (Adopt source dest) (in_world p es held bytes)) (Err why) h h
@@ -355,11 +357,11 @@ module _ (X : List ℕ → List ℕ) (N : List ℕ → ℕ) where
         all_good = subst (λ t. KeepsGood X t b.told) told grafts.good
 
         answers-opened : (s : Standing) (held : Lookup) (input : Outside) → TellsAs X N a.told s → TellsBlocks a.told held → Calm a b
-            → DoesAnswer X N (Adopt source dest) (world_of s held input) done h h b.told
+            → DoesAnswer X N (Adopt source dest) (world_of s held input) done h h b.told side.told
         answers-opened NoHead held input stands tells both = absurd (opens NoHead stands (front both.faults))
         answers-opened BadHead held input stands tells both = absurd (opens BadHead stands (front both.faults))
         answers-opened (Stands p es) held input stands tells both =
-            over-answers source dest held input a.told b.told p es done h stands (over-opened p es held (named-of X N a.told b.told p es stands all_good) tells both)
+            over-answers source dest held input a.told b.told p es done h side.told stands (over-opened p es held (named-of X N a.told b.told p es stands all_good) tells both)
 
         shown : Shown X (IsBadIn X N a.told b.told) (refusal_fault done) a b
         shown = shown-after X (IsBadIn X N a.told b.told) (refusal_fault done) a m b calm
@@ -380,6 +382,7 @@ module _ (X : List ℕ → List ℕ) (N : List ℕ → ℕ) where
             rule = plain.rule;
             reads = plain.reads;
             host = refl;
+            gets = tt;
             writes = subst (λ f. RisesFor f w w) (sym quiet.unwritten) (rises-still w);
             cause = shown (Err why) g;
             whole = λ s needs stands quiet2. absurd cc;
@@ -405,6 +408,7 @@ module _ (X : List ℕ → List ℕ) (N : List ℕ → ℕ) where
         rule = tt;
         reads = counts-still i;
         host = refl;
+        gets = tt;
         writes = rises-still w;
         cause = shown (Ok tt) g;
         whole = λ s needs stands quiet2. absurd cc;

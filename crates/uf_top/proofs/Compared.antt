@@ -100,6 +100,7 @@ module _ (X : List ℕ → List ℕ) (N : List ℕ → ℕ) (cid : Cid) (a b : S
         rule = of.rule;
         reads = k.counts;
         host = refl;
+        gets = tt;
         writes = subst (λ f. RisesFor f w w) (sym quiet.unwritten) (rises-still w);
         cause = shown-by X NoneIsBad (IsBadIn X N a.told b.told) (fault_behind why) a b (λ role bytes bad. absurd bad) k.cause;
         whole = λ s needs stands calm. absurd cc;
@@ -108,9 +109,9 @@ module _ (X : List ℕ → List ℕ) (N : List ℕ → ℕ) (cid : Cid) (a b : S
         leaves = record { good = KeepsGood-same X a.told b.told same; head = ap head_in same; writes = same; idle = λ p es bytes stands calm is. absurd cc };
       }
     where
-      answered : (world : World) → TellsBlocks a.told world.held → Wants (Err why) world.held world.input → DoesAnswer X N (Same cid) world (Err why) h h b.told
+      answered : (world : World) → TellsBlocks a.told world.held → Wants (Err why) world.held world.input → DoesAnswer X N (Same cid) world (Err why) h h b.told side.told
       answered world tells (inl e) = (let is : why ≡ no_memory = cc in inl (record { ends_are = ap (λ (r : Refusal). Err r) is; stands = still-tells world.held tells }))
-      answered world tells (inr e) = inr (record { ends = subst (λ x. EndsBy x (Err why) h h) e (refl, refl); stands = still-tells world.held tells; blocks = subst (λ t. TellsHeld t []) (sym same) (tells-some a.told world.held tells) })
+      answered world tells (inr e) = inr (record { ends = subst (λ x. EndsBy x (Err why) h h) e (refl, refl); stands = still-tells world.held tells; blocks = subst (λ t. TellsHeld t []) (sym same) (tells-some a.told world.held tells) }, tt)
 
       over : (p : Profile) (es : Entries) (held : Lookup) (outside : Outside) → StaysNamed X N a.told b.told p es → Wants (Err why) held outside.input
           → DoesOver X N a.told b.told p es [] (reply X N (Same cid) (in_world p es held outside)) (Err why) h h
@@ -134,6 +135,7 @@ module _ (X : List ℕ → List ℕ) (N : List ℕ → ℕ) (cid : Cid) (a b : S
       rule = tt;
       reads = k.counts;
       host = refl;
+      gets = tt;
       writes = record { rose = counts.rose; still = counts.still };
       cause = k.cause;
       whole = λ s needs stands calm. absurd cc;
@@ -142,8 +144,8 @@ module _ (X : List ℕ → List ℕ) (N : List ℕ → ℕ) (cid : Cid) (a b : S
       leaves = record { good = KeepsGood-same X a.told b.told same; head = tt; writes = same; idle = λ p es bytes stands calm is. absurd cc };
     }
       where
-        answered : (world : World) → TellsBlocks a.told world.held → Ok text ≡ car_compared world.held cid (car_read X most_car world.input) → DoesAnswer X N (Same cid) world (Ok tt) h h2 b.told
-        answered world tells e = inr (record { ends = subst (λ x. EndsBy x (Ok tt) h h2) e (refl, is); stands = still-tells world.held tells; blocks = subst (λ t. TellsHeld t []) (sym same) (tells-some a.told world.held tells) })
+        answered : (world : World) → TellsBlocks a.told world.held → Ok text ≡ car_compared world.held cid (car_read X most_car world.input) → DoesAnswer X N (Same cid) world (Ok tt) h h2 b.told side.told
+        answered world tells e = inr (record { ends = subst (λ x. EndsBy x (Ok tt) h h2) e (refl, is); stands = still-tells world.held tells; blocks = subst (λ t. TellsHeld t []) (sym same) (tells-some a.told world.held tells) }, tt)
 
         over : (p : Profile) (es : Entries) (held : Lookup) (outside : Outside) → StaysNamed X N a.told b.told p es → Ok text ≡ car_compared held cid (car_read X most_car outside.input)
             → DoesOver X N a.told b.told p es [] (reply X N (Same cid) (in_world p es held outside)) (Ok tt) h h2
@@ -151,8 +153,8 @@ module _ (X : List ℕ → List ℕ) (N : List ℕ → ℕ) (cid : Cid) (a b : S
 
     cut : IsCut text refusal.Write h h2 w v → Does X N (Same cid) (Err refusal.Write) (around a l i h w t0 side) (around b m j h2 v t1 side)
     cut c = record {
-      answers = λ world finds input calm. absurd (not-rose w v (c.counts.rose refl) calm.output);
-      lost = λ p es rows held outside named tells heights input calm. absurd (not-rose w v (c.counts.rose refl) calm.output);
+      answers = λ world finds input calm. absurd (not-rose w v (c.counts.rose refl) calm.written.output);
+      lost = λ p es rows held outside named tells heights input calm. absurd (not-rose w v (c.counts.rose refl) calm.written.output);
       prefix = λ world finds input room. subst (λ e. PrintsPart e h h2) (text-is world.held world.input (k.says world.held world.input finds.held (input.0 refl).0 (input.0 refl).1 (calm-of a b room k.cause))) c.printed;
       prints = (text, tt, c.printed);
       kinds = refl;
@@ -160,6 +162,7 @@ module _ (X : List ℕ → List ℕ) (N : List ℕ → ℕ) (cid : Cid) (a b : S
       rule = λ is. absurd cc;
       reads = k.counts;
       host = refl;
+      gets = tt;
       writes = record { rose = c.counts.rose; still = c.counts.still };
       cause = k.cause;
       whole = λ s needs stands calm. absurd cc;

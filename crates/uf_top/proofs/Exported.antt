@@ -144,6 +144,7 @@ module _ (X : List ℕ → List ℕ) (N : List ℕ → ℕ) (cid : Cid) (a b : S
         rule = plain.rule;
         reads = plain.reads;
         host = refl;
+        gets = tt;
         writes = subst (λ f. RisesFor f w w2) (sym quiet.unwritten) (record { rose = λ e. absurd cc; still = λ e. still });
         cause = shown-by X NoneIsBad (IsBadIn X N a.told b.told) (fault_behind why) a b (λ role bytes bad. absurd bad) cause;
         whole = λ s needs stands calm. absurd cc;
@@ -152,9 +153,9 @@ module _ (X : List ℕ → List ℕ) (N : List ℕ → ℕ) (cid : Cid) (a b : S
         leaves = record { good = KeepsGood-same X a.told b.told same; head = ap head_in same; writes = same; idle = λ p es bs stands calm is. absurd cc };
       }
     where
-      answered : (world : World) → TellsBlocks a.told world.held → Calm a b → Refuses why world.held → DoesAnswer X N (Export cid) world (Err why) h h2 b.told
+      answered : (world : World) → TellsBlocks a.told world.held → Calm a b → Refuses why world.held → DoesAnswer X N (Export cid) world (Err why) h h2 b.told side.told
       answered world tells calm (inl own) = inl (record { ends_are = ap (λ (r : Refusal). Err r) (own-wants X a b why own cause calm); stands = still-tells world.held tells })
-      answered world tells calm (inr is) = inr (record { ends = subst (λ e. EndsBy e (Err why) h h2) (sym is.0) (refl, is.1); stands = still-tells world.held tells; blocks = subst (λ t. TellsHeld t []) (sym same) (tells-some a.told world.held tells) })
+      answered world tells calm (inr is) = inr (record { ends = subst (λ e. EndsBy e (Err why) h h2) (sym is.0) (refl, is.1); stands = still-tells world.held tells; blocks = subst (λ t. TellsHeld t []) (sym same) (tells-some a.told world.held tells) }, tt)
 
       over : (p : Profile) (es : Entries) (held : Lookup) (bs : Outside) → StaysNamed X N a.told b.told p es → Calm a b → Refuses why held → DoesOver X N a.told b.told p es [] (reply X N (Export cid) (in_world p es held bs)) (Err why) h h2
       over p es held bs named calm (inl own) = inl (record { fault = fault.Memory; ends_are = ap (λ (r : Refusal). Err r) (own-wants X a b why own cause calm); loss = tt; stands = names-same X N a.told b.told p es same named })
@@ -173,6 +174,7 @@ module _ (X : List ℕ → List ℕ) (N : List ℕ → ℕ) (cid : Cid) (a b : S
     rule = tt;
     reads = counts-still i;
     host = refl;
+    gets = tt;
     writes = record { rose = λ e. absurd cc; still = λ e. still };
     cause = calm;
     whole = λ s needs stands quiet. absurd cc;
@@ -181,8 +183,8 @@ module _ (X : List ℕ → List ℕ) (N : List ℕ → ℕ) (cid : Cid) (a b : S
     leaves = record { good = KeepsGood-same X a.told b.told same; head = tt; writes = same; idle = λ p es bs stands quiet is. absurd cc };
   }
     where
-      answered : (world : World) → TellsBlocks a.told world.held → Whole world.held → DoesAnswer X N (Export cid) world (Ok tt) h h2 b.told
-      answered world tells is = inr (record { ends = subst (λ e. EndsBy e (Ok tt) h h2) (sym is.1) (refl, is.2); stands = still-tells world.held tells; blocks = subst (λ t. TellsHeld t []) (sym same) (tells-some a.told world.held tells) })
+      answered : (world : World) → TellsBlocks a.told world.held → Whole world.held → DoesAnswer X N (Export cid) world (Ok tt) h h2 b.told side.told
+      answered world tells is = inr (record { ends = subst (λ e. EndsBy e (Ok tt) h h2) (sym is.1) (refl, is.2); stands = still-tells world.held tells; blocks = subst (λ t. TellsHeld t []) (sym same) (tells-some a.told world.held tells) }, tt)
 
       over : (p : Profile) (es : Entries) (held : Lookup) (bs : Outside) → StaysNamed X N a.told b.told p es → Whole held → DoesOver X N a.told b.told p es [] (reply X N (Export cid) (in_world p es held bs)) (Ok tt) h h2
       over p es held bs named is = inr (record { ends = subst (λ e. EndsBy e (Ok tt) h h2) (sym is.1) (refl, is.2); stands = names-same X N a.told b.told p es same named })
@@ -194,8 +196,8 @@ module _ (X : List ℕ → List ℕ) (N : List ℕ → ℕ) (cid : Cid) (a b : S
   cut : IfSome a.told (λ t. PrintsPart (said (held_at t) cid h h2) h h2) → (bytes : List ℕ) → h2 ≡ after h bytes → StaysCalm a b → Counts true w w2
       → Does X N (Export cid) (Err refusal.Write) (around a l i h w t0 side) (around b l i h2 w2 t1 side)
   cut part bytes sent calm counts = record {
-    answers = λ world finds input quiet. absurd (not-rose w w2 (counts.rose refl) quiet.output);
-    lost = λ p es rows held bs named tells heights input quiet. absurd (not-rose w w2 (counts.rose refl) quiet.output);
+    answers = λ world finds input quiet. absurd (not-rose w w2 (counts.rose refl) quiet.written.output);
+    lost = λ p es rows held bs named tells heights input quiet. absurd (not-rose w w2 (counts.rose refl) quiet.written.output);
     prefix = λ world finds input room. by-told (λ held. PrintsPart (said held cid h h2) h h2) world.held finds.held part;
     prints = (bytes, tt, whole-printed bytes h h2 sent);
     kinds = refl;
@@ -203,6 +205,7 @@ module _ (X : List ℕ → List ℕ) (N : List ℕ → ℕ) (cid : Cid) (a b : S
     rule = λ is. absurd cc;
     reads = counts-still i;
     host = refl;
+    gets = tt;
     writes = record { rose = counts.rose; still = λ e. absurd cc };
     cause = calm;
     whole = λ s needs stands quiet. absurd cc;

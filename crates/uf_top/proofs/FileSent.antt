@@ -61,7 +61,7 @@ use Rattle.uf_top.proofs.Classed.{opening-kinds, tree-counts}
 use Rattle.uf_top.proofs.Finding.{read-whole}
 use Rattle.uf_top.proofs.InTree.{not-opened, opening-ready}
 use Rattle.uf_top.proofs.Losing.{names-of, names-same, opening-over}
-use Rattle.uf_top.proofs.Printing.{after-nothing, made-text, refused-does, whole-printed}
+use Rattle.uf_top.proofs.Printing.{after-nothing, made-text, of-no-host, refused-does, whole-printed}
 use Rattle.uf_top.proofs.Shows.{Shown-opening, bad-of-none, counts-still, head_of, opening-touched}
 use Rattle.uf_top.proofs.Standings.{stands-same, tells-none}
 
@@ -389,13 +389,13 @@ module _ (X : List ℕ → List ℕ) (N : List ℕ → ℕ) (offset count : ℕ)
 
     pub sends-does : Does X N (Read offset count path) done (around a l i h w t0 side) (around b l i h2 w2 t2 side)
     sends-does = record {
-      answers = λ world finds input quiet. ok-answer world.standing finds.stands quiet.store.faults (not-sink w w2 X (IsBadRead X N m.told found.root.cid) m b r cause quiet.output);
+      answers = λ world finds input quiet. of-no-host (ok-answer world.standing finds.stands quiet.store.faults (not-sink w w2 X (IsBadRead X N m.told found.root.cid) m b r cause quiet.written.output));
       lost = λ p es rows held bytes named tells heights input quiet.
           let stood = quiet.store.faults in let at = opened-over p es named.names (front stood) in
           let needs = part_needs X N rows offset count path.names p es in
           answered-over X N path.names h h2 a.told b.told p es (root_of X N p (Dir es)) needs (range_at offset count path.names es) r done sent
           (subst (λ t. tree.AnswersOr (IsLossOf t needs) (λ bytes n. SendsAll h h2 bytes n) path.names (range_at offset count path.names es) r) told
-          (lost p es (rows (length (to_read (plain_bytes_at path.names es)))) at (height-of p rows (plain_bytes_at path.names es) heights) (back stood) (not-sink w w2 X (IsBadRead X N m.told found.root.cid) m b r cause quiet.output)))
+          (lost p es (rows (length (to_read (plain_bytes_at path.names es)))) at (height-of p rows (plain_bytes_at path.names es) heights) (back stood) (not-sink w w2 X (IsBadRead X N m.told found.root.cid) m b r cause quiet.written.output)))
           (prefix p es at (room stood)) (names-same X N a.told b.told p es same named);
       prefix = λ world finds input had. printed world.standing finds.names had.faults;
       prints = sent-prints (λ text. ⊤) h h2 sends.appends.bytes tt sends.appends.appended done kind;
@@ -404,6 +404,7 @@ module _ (X : List ℕ → List ℕ) (N : List ℕ → ℕ) (offset count : ℕ)
       rule = sent-rule offset count path a.told l l done kind;
       reads = sent-reads done i kind;
       host = refl;
+      gets = tt;
       writes = sending-counts X (IsBadRead X N m.told found.root.cid) m b w w2 r done sent cause;
       cause = shown-after X (IsBadIn X N a.told b.told) (refusal_fault done) a m b calm
           (shown-by X (IsBadRead X N m.told found.root.cid) (IsBadIn X N a.told b.told) (refusal_fault done) m b (λ role bytes bad. bad-of-read (subst (λ t. IsBadRead X N t found.root.cid role bytes) told bad)) (sending-shown X (IsBadRead X N m.told found.root.cid) m b w w2 r done sent cause));

@@ -160,7 +160,7 @@ own-failing refusal.Write own = absurd own
 own-failing (refusal.Store f) own = inl own
 
 -- a fault of a reading is the refusal that it says, or the store's own
-fault-tree : (held : Lookup) (path : DagPath) (f : DagFault) (why : Refusal) → IsFault (tree_at held path) f → IsToldAs (dag_refusal path f) why → FindsTree held path (Err why)
+pub fault-tree : (held : Lookup) (path : DagPath) (f : DagFault) (why : Refusal) → IsFault (tree_at held path) f → IsToldAs (dag_refusal path f) why → FindsTree held path (Err why)
 fault-tree held path f why said (inl is) = inl (subst IsOwnRefusal (sym is) tt)
 fault-tree held path f why (inr said) (inr is) = inr (ap (by_dag path) said ∙ ap (λ (r : Refusal). Err r) (sym is))
 fault-tree held path f why (inl own) (inr is) = inl (subst IsOwnRefusal (sym is) (by f own))

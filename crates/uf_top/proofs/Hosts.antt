@@ -42,7 +42,7 @@ use Rattle.uf_top.specs.Around.{HostSide, OnlyReadsHost, around}
 use Rattle.uf_top.specs.Bounds.{command_touches}
 use Rattle.uf_top.specs.Causes.{AddsBy, IsBadIn, IsProfileIn, IsProfileOf, IsProfileRead, IsReady, IsReason, IsUnread, OnlyWants, Stops, is_read, or_usual}
 use Rattle.uf_top.specs.Endings.{FindsAll}
-use Rattle.uf_top.specs.Hosted.{AreHostRows, IsAddFault, IsHostRefused, IsHostRule, MakesHostText}
+use Rattle.uf_top.specs.Hosted.{AreHostRows, IsHostRefused, IsHostRule, IsNoReading, MakesHostText}
 use Rattle.uf_top.specs.HostTexts.{host_refusal, host_text}
 use Rattle.uf_top.specs.Intake.{ShownIn}
 use Rattle.uf_top.specs.Losing.{AnswersOver}
@@ -411,18 +411,18 @@ module _ (X : List ℕ → List ℕ) (N : List ℕ → ℕ) where
 
 -- ---- from the answer of the import to the text
 
-pub add-fault : (Said : HostFault → Type 0) (f : HostFault) → IsSaidOr Said f → IsAddFault f
+pub add-fault : (Said : HostFault → Type 0) (f : HostFault) → IsSaidOr Said f → IsNoReading f
 add-fault Said host.Absent h = tt
 add-fault Said host.NeedsRecursive h = tt
 add-fault Said (host.Other path) h = tt
-add-fault Said host.Exists h = h
+add-fault Said host.Exists h = tt
 add-fault Said (host.Name path) h = tt
 add-fault Said (host.TooDeep path) h = tt
 add-fault Said (host.FileTooLong path) h = tt
 add-fault Said (host.Collision first second) h = tt
 add-fault Said host.TooBig h = tt
 add-fault Said host.Read h = tt
-add-fault Said host.Write h = h
+add-fault Said host.Write h = tt
 add-fault Said (host.Dag why) h = h
 add-fault Said (host.Store why) h = tt
 
@@ -442,18 +442,18 @@ host-refused path Said (host.Dag why) h = absurd h
 host-refused path Said (host.Store why) h = h
 
 module _ (path : List ℕ) (A : Type 0) where
-  fault-reads : (i j : ℕ) (f : HostFault) → IsAddFault f → Counts (is_read_fault {A = A} (Err f)) i j → Counts (is_read {A = List ℕ} (Err (host_refusal path f))) i j
+  fault-reads : (i j : ℕ) (f : HostFault) → IsNoReading f → Counts (is_read_fault {A = A} (Err f)) i j → Counts (is_read {A = List ℕ} (Err (host_refusal path f))) i j
   fault-reads i j host.Absent h counts = counts
   fault-reads i j host.NeedsRecursive h counts = counts
   fault-reads i j (host.Other there) h counts = counts
-  fault-reads i j host.Exists h counts = absurd h
+  fault-reads i j host.Exists h counts = counts
   fault-reads i j (host.Name there) h counts = counts
   fault-reads i j (host.TooDeep there) h counts = counts
   fault-reads i j (host.FileTooLong there) h counts = counts
   fault-reads i j (host.Collision first second) h counts = counts
   fault-reads i j host.TooBig h counts = counts
   fault-reads i j host.Read h counts = counts
-  fault-reads i j host.Write h counts = absurd h
+  fault-reads i j host.Write h counts = counts
   fault-reads i j (host.Dag why) h counts = absurd h
   fault-reads i j (host.Store Failed) h counts = counts
   fault-reads i j (host.Store (Damaged cid)) h counts = counts
@@ -462,22 +462,22 @@ module _ (path : List ℕ) (A : Type 0) where
   fault-reads i j (host.Store (Clash cid held bytes)) h counts = counts
   fault-reads i j (host.Store Memory) h counts = counts
 
-  pub host-reads : (f : HostFault) (s t : HostSide) → IsAddFault f → t.told ≡ s.told → Counts (is_read_fault {A = A} (Err f)) s.reads t.reads → t.writes ≡ s.writes
+  pub host-reads : (f : HostFault) (s t : HostSide) → IsNoReading f → t.told ≡ s.told → Counts (is_read_fault {A = A} (Err f)) s.reads t.reads → t.writes ≡ s.writes
       → OnlyReadsHost (is_read {A = List ℕ} (Err (host_refusal path f))) s t
   host-reads f s t h told counts writes = record { told = told; reads = fault-reads s.reads t.reads f h counts; writes = writes }
 
-  pub host-shown : (X : List ℕ → List ℕ) (a b : Seen) (f : HostFault) → IsAddFault f → Shown X NoneIsBad (edge_fault {A = A} (Err f)) a b → ShownIn {A = List ℕ} X (Err (host_refusal path f)) a b
+  pub host-shown : (X : List ℕ → List ℕ) (a b : Seen) (f : HostFault) → IsNoReading f → Shown X NoneIsBad (edge_fault {A = A} (Err f)) a b → ShownIn {A = List ℕ} X (Err (host_refusal path f)) a b
   host-shown X a b host.Absent h shown = shown
   host-shown X a b host.NeedsRecursive h shown = shown
   host-shown X a b (host.Other there) h shown = shown
-  host-shown X a b host.Exists h shown = absurd h
+  host-shown X a b host.Exists h shown = shown
   host-shown X a b (host.Name there) h shown = shown
   host-shown X a b (host.TooDeep there) h shown = shown
   host-shown X a b (host.FileTooLong there) h shown = shown
   host-shown X a b (host.Collision first second) h shown = shown
   host-shown X a b host.TooBig h shown = shown
   host-shown X a b host.Read h shown = shown
-  host-shown X a b host.Write h shown = absurd h
+  host-shown X a b host.Write h shown = shown
   host-shown X a b (host.Dag why) h shown = absurd h
   host-shown X a b (host.Store why) h shown = shown
 

@@ -264,6 +264,7 @@ module _ (X : List ℕ → List ℕ) (N : List ℕ → ℕ) (a b : Seen) (l m : 
         rule = of.rule;
         reads = k.counts;
         host = refl;
+        gets = tt;
         writes = subst (λ f. RisesFor f w w) (sym quiet.unwritten) (rises-still w);
         cause = shown-by X NoneIsBad (IsBadIn X N a.told b.told) (fault_behind why) a b (λ role bytes bad. absurd bad) k.cause;
         whole = λ s needs stands calm. absurd cc;
@@ -272,9 +273,9 @@ module _ (X : List ℕ → List ℕ) (N : List ℕ → ℕ) (a b : Seen) (l m : 
         leaves = record { good = k.good; head = head; writes = subst (λ d. WritesAs X SyncsBlocks d a.told b.told) (sym quiet.undone) k.writes; idle = λ p es bytes stands calm is. absurd cc };
       }
     where
-      answered : (world : World) → IsSome a.told → (◌≡◌ {A = Result (List ℕ) Refusal} (Err why) (Err no_memory)) ⊎ TellsRoots (car_read X most_car world.input) (Err why) b.told → DoesAnswer X N Import world (Err why) h h b.told
+      answered : (world : World) → IsSome a.told → (◌≡◌ {A = Result (List ℕ) Refusal} (Err why) (Err no_memory)) ⊎ TellsRoots (car_read X most_car world.input) (Err why) b.told → DoesAnswer X N Import world (Err why) h h b.told side.told
       answered world some (inl e) = (let is : why ≡ no_memory = cc in inl (record { ends_are = ap (λ (r : Refusal). Err r) is; stands = still-told k.good some }))
-      answered world some (inr t) = inr (record { ends = subst (λ e. EndsBy e (Err why) h h) t.is (refl, refl); stands = still-told k.good some; blocks = t.held })
+      answered world some (inr t) = inr (record { ends = subst (λ e. EndsBy e (Err why) h h) t.is (refl, refl); stands = still-told k.good some; blocks = t.held }, tt)
 
       over : (p : Profile) (es : Entries) (held : Lookup) (outside : Outside) → NamesKept p es → (◌≡◌ {A = Result (List ℕ) Refusal} (Err why) (Err no_memory)) ⊎ TellsRoots (car_read X most_car outside.input) (Err why) b.told
           → DoesOver X N a.told b.told p es [] (reply X N Import (in_world p es held outside)) (Err why) h h
@@ -303,6 +304,7 @@ module _ (X : List ℕ → List ℕ) (N : List ℕ → ℕ) (a b : Seen) (l m : 
       rule = tt;
       reads = k.counts;
       host = refl;
+      gets = tt;
       writes = record { rose = counts.rose; still = counts.still };
       cause = k.cause;
       whole = λ s needs stands calm. absurd cc;
@@ -311,9 +313,9 @@ module _ (X : List ℕ → List ℕ) (N : List ℕ → ℕ) (a b : Seen) (l m : 
       leaves = record { good = k.good; head = tt; writes = k.writes; idle = λ p es bytes stands calm is. absurd cc };
     }
       where
-        answered : (world : World) → IsSome a.told → (◌≡◌ {A = Result (List ℕ) Refusal} (Ok text) (Err no_memory)) ⊎ TellsRoots (car_read X most_car world.input) (Ok text) b.told → DoesAnswer X N Import world (Ok tt) h h2 b.told
+        answered : (world : World) → IsSome a.told → (◌≡◌ {A = Result (List ℕ) Refusal} (Ok text) (Err no_memory)) ⊎ TellsRoots (car_read X most_car world.input) (Ok text) b.told → DoesAnswer X N Import world (Ok tt) h h2 b.told side.told
         answered world some (inl e) = absurd cc
-        answered world some (inr t) = inr (record { ends = subst (λ e. EndsBy e (Ok tt) h h2) t.is (refl, is); stands = still-told k.good some; blocks = t.held })
+        answered world some (inr t) = inr (record { ends = subst (λ e. EndsBy e (Ok tt) h h2) t.is (refl, is); stands = still-told k.good some; blocks = t.held }, tt)
 
         over : (p : Profile) (es : Entries) (held : Lookup) (outside : Outside) → NamesKept p es → (◌≡◌ {A = Result (List ℕ) Refusal} (Ok text) (Err no_memory)) ⊎ TellsRoots (car_read X most_car outside.input) (Ok text) b.told
             → DoesOver X N a.told b.told p es [] (reply X N Import (in_world p es held outside)) (Ok tt) h h2
@@ -322,8 +324,8 @@ module _ (X : List ℕ → List ℕ) (N : List ℕ → ℕ) (a b : Seen) (l m : 
 
     cut : IsCut text refusal.Write h h2 w v → Does X N Import (Err refusal.Write) (around a l i h w t0 side) (around b m j h2 v t1 side)
     cut c = record {
-      answers = λ world finds input calm. absurd (not-rose w v (c.counts.rose refl) calm.output);
-      lost = λ p es rows held outside named tells heights input calm. absurd (not-rose w v (c.counts.rose refl) calm.output);
+      answers = λ world finds input calm. absurd (not-rose w v (c.counts.rose refl) calm.written.output);
+      lost = λ p es rows held outside named tells heights input calm. absurd (not-rose w v (c.counts.rose refl) calm.written.output);
       prefix = λ world finds input room. subst (λ e. PrintsPart e h h2) (ends-so world finds.held input.0 room) c.printed;
       prints = (text, tt, c.printed);
       kinds = refl;
@@ -331,6 +333,7 @@ module _ (X : List ℕ → List ℕ) (N : List ℕ → ℕ) (a b : Seen) (l m : 
       rule = λ is. absurd cc;
       reads = k.counts;
       host = refl;
+      gets = tt;
       writes = record { rose = c.counts.rose; still = c.counts.still };
       cause = k.cause;
       whole = λ s needs stands calm. absurd cc;

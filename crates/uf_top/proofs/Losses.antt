@@ -2,7 +2,6 @@
 use Rattle.std.proofs.Common.{◌≡◌, ◌⊎◌, ℕ, ◌+◌, ◌≤◌, List, arith, refl, ap, subst, ◌∙◌, inl, inr, Result, Ok, Err}
 use Rattle.std.specs.Prelude.{IfErr, IfSome}
 use Rattle.uf_cid.specs.Blocks.{Held, Lookup}
-use Rattle.uf_edge.specs.Counts.{Stood}
 use Rattle.uf_mfs.specs.Reading.{AreHeights}
 use Rattle.uf_mfs.specs.Standing.{head_in}
 use Rattle.uf_store.specs.Calls.{Calm}
@@ -18,7 +17,7 @@ use Rattle.uf_reply.specs.declared.status.Status.{Status}
 use Rattle.uf_reply.specs.declared.types.Command.{Command}
 use Rattle.uf_reply.specs.declared.types.Refusal.{Refusal}
 use Rattle.uf_reply.specs.declared.types.Refusal.TheVariants as refusal
-use Rattle.uf_top.specs.Around.{Around, HasOutside}
+use Rattle.uf_top.specs.Around.{AllWritten, Around, HasOutside}
 use Rattle.uf_top.specs.Bounds.{words_touch}
 use Rattle.uf_top.specs.Endings.{TellsEnd}
 use Rattle.uf_top.specs.Losing.{DoesOver, EndsOver, words_need}
@@ -46,8 +45,8 @@ module _ (Says : List ℕ → Type 0) (given : Status) (X : List ℕ → List �
       inr (record { status_is = told.0 ∙ ap ended e; says = subst (λ e. Says (said e)) e told.1; printed = printed-all reply.ends (Err why) a.held b.held x.ends; stands = x.stands })
 
   over-of : (asked : Result Command Refusal) (done : Result (Unit {0}) Refusal) → Serves X N asked done a b → (rows : ℕ → ℕ) (held : Lookup) (outside : Outside) → StaysNamed X N a.store.told b.store.told p es → TellsBlocks a.store.told held → AreHeights p rows
-      → HasOutside asked outside a b → Calm a.store b.store → Stood a.writes b.writes → DoesOver X N a.store.told b.store.told p es (words_need X N rows asked p es) (reply_to X N asked (in_world p es held outside)) done a.held b.held
-  over-of (Ok command) done h rows held outside named tells heights input calm write = h.lost p es rows held outside named tells heights input (record { store = calm; output = write })
+      → HasOutside asked outside a b → Calm a.store b.store → AllWritten asked a.writes b.writes a.host.writes b.host.writes → DoesOver X N a.store.told b.store.told p es (words_need X N rows asked p es) (reply_to X N asked (in_world p es held outside)) done a.held b.held
+  over-of (Ok command) done h rows held outside named tells heights input calm write = h.lost p es rows held outside named tells heights input (record { store = calm; written = write })
   over-of (Err asked) done h rows held outside named tells heights input calm write = by h.refused
     where
       now : StillNamed
@@ -63,7 +62,7 @@ module _ (Says : List ℕ → Type 0) (given : Status) (X : List ℕ → List �
       names-kept X N a.store.told b.store.told p es h.leaves.good (subst (λ d. IfErr d (λ why. head_in b.store.told ≡ head_in a.store.told)) is h.leaves.head) named
 
   pub lost-told : (asked : Result Command Refusal) (done : Result (Unit {0}) Refusal) → Serves X N asked done a b → TellsEnd Says done given
-      → (rows : ℕ → ℕ) (held : Lookup) (outside : Outside) → StaysNamed X N a.store.told b.store.told p es → TellsBlocks a.store.told held → AreHeights p rows → HasOutside asked outside a b → Calm a.store b.store → Stood a.writes b.writes
+      → (rows : ℕ → ℕ) (held : Lookup) (outside : Outside) → StaysNamed X N a.store.told b.store.told p es → TellsBlocks a.store.told held → AreHeights p rows → HasOutside asked outside a b → Calm a.store b.store → AllWritten asked a.writes b.writes a.host.writes b.host.writes
       → EndsOver X N a.store.told b.store.told p es (words_need X N rows asked p es) Says (reply_to X N asked (in_world p es held outside)) given a.held b.held
   lost-told asked done h t rows held outside named tells heights input calm write =
       ends-over (words_need X N rows asked p es) (reply_to X N asked (in_world p es held outside)) done t (over-of asked done h rows held outside named tells heights input calm write) (still-of asked done h named)

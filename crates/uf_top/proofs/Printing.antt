@@ -1,10 +1,10 @@
 -- From the text of a command that is made before anything is printed to the command that is done.
-use Rattle.std.proofs.Common.{◌≡◌, ◌≢◌, ℕ, List, [], ◌∷◌, length, take, true, false, arith, refl, sym, ap, subst, ◌∙◌, inl, inr, append-nil, Some, None, Bool, Result, Ok, Err}
-use Rattle.std.specs.Prelude.{◌&&◌, not, IfOk}
+use Rattle.std.proofs.Common.{◌≡◌, ◌≢◌, ◌⊎◌, ℕ, ◌<◌, ◌≤◌, ◌+◌, List, [], ◌∷◌, ◌++◌, length, take, true, false, arith, refl, sym, ap, subst, ◌∙◌, inl, inr, append-nil, Some, None, Bool, Result, Ok, Err}
+use Rattle.std.specs.Prelude.{◌&&◌, not, IfOk, ⊤}
 use Rattle.uf_cid.specs.Blocks.{Held, Lookup}
 use Rattle.uf_cid.specs.declared.cid.Cid.{Cid}
-use Rattle.uf_edge.specs.Counts.{Counts}
-use Rattle.uf_edge.specs.Host.{HostTold}
+use Rattle.uf_edge.specs.Counts.{Counts, Stood}
+use Rattle.uf_edge.specs.Host.{HostTold, HostTree}
 use Rattle.uf_edge.specs.Streams.{after, AppendsPrefix}
 use Rattle.uf_edge.specs.Streams as streams
 use Rattle.uf_mfs.specs.Standing.{head_in}
@@ -18,26 +18,28 @@ use Rattle.uf_store.specs.Seen.{Seen}
 use Rattle.uf_tree.specs.Standing.{Standing, NoHead, BadHead, Stands}
 use Rattle.uf_tree.specs.Tree.{Entries}
 use Rattle.uf_tree.specs.declared.profile.Profile.{Profile}
-use Rattle.uf_reply.specs.Commands.{command_writes, needs_standing, uses_host}
+use Rattle.uf_reply.specs.Commands.{command_writes, needs_standing, uses_host, writes_host}
 use Rattle.uf_reply.specs.Commands as commands
-use Rattle.uf_reply.specs.Kinds.{OfCar, OfDag, OfHost, OfLongInput, OfPath, OfWrite, family_of, may_answer, may_end, refusal_kind}
-use Rattle.uf_top.specs.Reply.{Outside, Reply, World, outside_of, reply, world_of}
-use Rattle.uf_reply.specs.Statuses.{no_memory, status_of}
+use Rattle.uf_reply.specs.Kinds.{IsOf, OfCar, OfDag, OfHost, OfLongInput, OfPath, OfWrite, family_of, fault_behind, may_answer, may_end, refusal_kind}
+use Rattle.uf_top.specs.Reply.{Outside, Reply, World, host_after, outside_of, reply, world_of}
+use Rattle.uf_reply.specs.Statuses.{ended, no_memory, status_of}
+use Rattle.uf_reply.specs.declared.status.Status.{Status}
 use Rattle.uf_reply.specs.declared.status.Status.TheVariants as status
 use Rattle.uf_reply.specs.declared.types.Command.{Command}
-use Rattle.uf_reply.specs.declared.types.Command.TheVariants.{Init, Add, AddFrom, WriteInput, At, Read, Cat, Export, Import, Same, Adopt}
+use Rattle.uf_reply.specs.declared.types.Command.TheVariants.{Init, Add, AddFrom, WriteInput, At, Read, Cat, Get, Export, Import, Same, Adopt}
 use Rattle.uf_reply.specs.declared.types.HostRule.{HostRule}
 use Rattle.uf_reply.specs.declared.types.Refusal.{Refusal}
 use Rattle.uf_reply.specs.declared.types.Refusal.TheVariants as refusal
 use Rattle.uf_store.specs.declared.store.StoreFault.TheVariants as fault
 use Rattle.uf_top.specs.Answering.{Answers, DoesAnswer}
-use Rattle.uf_top.specs.Around.{CountsCanRise, HasOutside, HostSide, RisesFor, UsesHost, around}
+use Rattle.uf_top.specs.Around.{Around, CountsCanRise, HasOutside, HostSide, RisesFor, StaysQuiet, TakesHost, UsesHost, around}
 use Rattle.uf_top.specs.Causes.{HeadStays, is_read, is_write}
-use Rattle.uf_top.specs.Endings.{AddsFor, EndsBy, IsCut, IsTextOf, PrintsAt, PrintsElse, PrintsPart, Prints, RuleOf}
+use Rattle.uf_top.specs.Endings.{AddsFor, EndsBy, FindsAll, IsCut, IsTextOf, PrintsAt, PrintsElse, PrintsPart, Prints, RuleOf}
+use Rattle.uf_top.specs.Getting.{GetsFor}
 use Rattle.uf_top.specs.Hosted.{IsHostedText}
 use Rattle.uf_top.specs.Losing.{AnswersOver, DoesOver}
-use Rattle.uf_top.specs.Naming.{FindsOver, NamesIf, NamesAs, StandsIf}
-use Rattle.uf_top.specs.Shapes.{WritesAs, is_done}
+use Rattle.uf_top.specs.Naming.{FindsOver, FindsWorld, NamesIf, NamesAs, StandsIf, StandsNamed, StaysNamed, TellsHost}
+use Rattle.uf_top.specs.Shapes.{WritesAs, is_done, is_ok}
 use Rattle.uf_top.specs.Working.{Does, Makes, MakesText}
 
 -- ---- which kinds no command that waits has
@@ -49,6 +51,7 @@ no-write (WriteInput how path) h = cc
 no-write (At ask path) h = cc
 no-write (Read offset count path) h = cc
 no-write (Cat path) h = cc
+no-write (Get path host_path) h = cc
 no-write (Export cid) h = cc
 no-write Import h = cc
 no-write (Same cid) h = cc
@@ -61,19 +64,20 @@ pub record IsStanding (command : Command) : Type 0 where
   pub alone : commands.reads_tree_alone command ≡ true
 
 -- so is each that isn't one of those with a way of their own
-pub standing-of : (command : Command) → ((offset count : ℕ) (path : Path) → command ≡ Read offset count path → ⊥) → ((path : DagPath) → command ≡ Cat path → ⊥) → ((cid : Cid) → command ≡ Export cid → ⊥) → (command ≡ Import → ⊥) → ((cid : Cid) → command ≡ Same cid → ⊥)
+pub standing-of : (command : Command) → ((offset count : ℕ) (path : Path) → command ≡ Read offset count path → ⊥) → ((path : DagPath) → command ≡ Cat path → ⊥) → ((path : DagPath) (host_path : List ℕ) → command ≡ Get path host_path → ⊥) → ((cid : Cid) → command ≡ Export cid → ⊥) → (command ≡ Import → ⊥) → ((cid : Cid) → command ≡ Same cid → ⊥)
     → ((source : DagPath) (dest : Path) → command ≡ Adopt source dest → ⊥) → IsStanding command
-standing-of (Init p) other cat export import compare adopt = record { waits = refl; alone = refl }
-standing-of (Add only_hash) other cat export import compare adopt = record { waits = refl; alone = refl }
-standing-of (AddFrom recursive only_hash path) other cat export import compare adopt = record { waits = refl; alone = refl }
-standing-of (WriteInput how path) other cat export import compare adopt = record { waits = refl; alone = refl }
-standing-of (At ask path) other cat export import compare adopt = record { waits = refl; alone = refl }
-standing-of (Read offset count path) other cat export import compare adopt = absurd (other offset count path refl)
-standing-of (Cat path) other cat export import compare adopt = absurd (cat path refl)
-standing-of (Export cid) other cat export import compare adopt = absurd (export cid refl)
-standing-of Import other cat export import compare adopt = absurd (import refl)
-standing-of (Same cid) other cat export import compare adopt = absurd (compare cid refl)
-standing-of (Adopt source dest) other cat export import compare adopt = absurd (adopt source dest refl)
+standing-of (Init p) other cat get export import compare adopt = record { waits = refl; alone = refl }
+standing-of (Add only_hash) other cat get export import compare adopt = record { waits = refl; alone = refl }
+standing-of (AddFrom recursive only_hash path) other cat get export import compare adopt = record { waits = refl; alone = refl }
+standing-of (WriteInput how path) other cat get export import compare adopt = record { waits = refl; alone = refl }
+standing-of (At ask path) other cat get export import compare adopt = record { waits = refl; alone = refl }
+standing-of (Read offset count path) other cat get export import compare adopt = absurd (other offset count path refl)
+standing-of (Cat path) other cat get export import compare adopt = absurd (cat path refl)
+standing-of (Get path host_path) other cat get export import compare adopt = absurd (get path host_path refl)
+standing-of (Export cid) other cat get export import compare adopt = absurd (export cid refl)
+standing-of Import other cat get export import compare adopt = absurd (import refl)
+standing-of (Same cid) other cat get export import compare adopt = absurd (compare cid refl)
+standing-of (Adopt source dest) other cat get export import compare adopt = absurd (adopt source dest refl)
 
 -- such a command needs what the store stands for
 alone-needs : (command : Command) → commands.reads_tree_alone command ≡ true → needs_standing command ≡ true
@@ -84,10 +88,65 @@ alone-needs (WriteInput how path) h = refl
 alone-needs (At ask path) h = refl
 alone-needs (Read offset count path) h = refl
 alone-needs (Cat path) h = absurd cc
+alone-needs (Get path host_path) h = absurd cc
 alone-needs (Export cid) h = absurd cc
 alone-needs Import h = absurd cc
 alone-needs (Same cid) h = absurd cc
 alone-needs (Adopt source dest) h = absurd cc
+
+-- it only reads the host, whose files and folders stay
+alone-reads : (command : Command) → commands.reads_tree_alone command ≡ true → writes_host command ≡ false
+alone-reads (Init p) h = refl
+alone-reads (Add only_hash) h = refl
+alone-reads (AddFrom recursive only_hash path) h = refl
+alone-reads (WriteInput how path) h = refl
+alone-reads (At ask path) h = refl
+alone-reads (Read offset count path) h = refl
+alone-reads (Cat path) h = absurd cc
+alone-reads (Get path host_path) h = absurd cc
+alone-reads (Export cid) h = absurd cc
+alone-reads Import h = absurd cc
+alone-reads (Same cid) h = absurd cc
+alone-reads (Adopt source dest) h = absurd cc
+
+alone-stays : (command : Command) → commands.reads_tree_alone command ≡ true → (world : World) → host_after (Ok command) world ≡ world.host
+alone-stays (Init p) h world = refl
+alone-stays (Add only_hash) h world = refl
+alone-stays (AddFrom recursive only_hash path) h world = refl
+alone-stays (WriteInput how path) h world = refl
+alone-stays (At ask path) h world = refl
+alone-stays (Read offset count path) h world = refl
+alone-stays (Cat path) h world = absurd cc
+alone-stays (Get path host_path) h world = absurd cc
+alone-stays (Export cid) h world = absurd cc
+alone-stays Import h world = absurd cc
+alone-stays (Same cid) h world = absurd cc
+alone-stays (Adopt source dest) h world = absurd cc
+
+-- and gets nothing
+alone-gets : (command : Command) → commands.reads_tree_alone command ≡ true → (given : Status) (told : Told) (host now : HostTold) → GetsFor (Ok command) given told host now
+alone-gets (Init p) h given told host now = tt
+alone-gets (Add only_hash) h given told host now = tt
+alone-gets (AddFrom recursive only_hash path) h given told host now = tt
+alone-gets (WriteInput how path) h given told host now = tt
+alone-gets (At ask path) h given told host now = tt
+alone-gets (Read offset count path) h given told host now = tt
+alone-gets (Cat path) h given told host now = absurd cc
+alone-gets (Get path host_path) h given told host now = absurd cc
+alone-gets (Export cid) h given told host now = absurd cc
+alone-gets Import h given told host now = absurd cc
+alone-gets (Same cid) h given told host now = absurd cc
+alone-gets (Adopt source dest) h given told host now = absurd cc
+
+-- a command that doesn't use the host says nothing of it
+pub of-no-host : {A B : Type 0} → A ⊎ B → A ⊎ (B × ⊤)
+of-no-host (inl a) = inl a
+of-no-host (inr b) = inr (b, tt)
+
+-- a host that is used and only read tells what it told
+host-tells : (uses is_fault : Bool) (s t : HostSide) (tree : HostTree) → UsesHost uses is_fault s t → (uses ≡ true → s.told ≡ Some tree) → TellsHost uses t.told tree
+host-tells true is_fault s t tree used tells = used.told ∙ tells refl
+host-tells false is_fault s t tree used tells = tt
 
 -- what may be answered before anything is printed may be answered after it
 pub may-end : (command : Command) (k : Refusal) → may_answer (family_of command) (refusal_kind k) ≡ true → may_end (family_of command) (refusal_kind k) ≡ true
@@ -174,18 +233,19 @@ some-stays [] a b some stays = absurd (some refl)
 some-stays (x ∷ text) a b some stays = stays
 
 module _ (X : List ℕ → List ℕ) (N : List ℕ → ℕ) where
-  text-of : (command : Command) (told : Told) (host : HostTold) (l m : streams.Told) (text : List ℕ) → AddsFor X told (Ok command) (Ok text) l m → IsHostedText X N told host command text → IsTextOf X N told host (Ok command) l text
-  text-of (Init p) told host l m text h rows = tt
-  text-of (Add only_hash) told host l m text h rows = h
-  text-of (WriteInput how path) told host l m text h rows = tt
-  text-of (At ask path) told host l m text h rows = tt
-  text-of (Read offset count path) told host l m text h rows = tt
-  text-of (Cat path) told host l m text h rows = tt
-  text-of (AddFrom recursive only_hash path) told host l m text h rows = rows
-  text-of (Export cid) told host l m text h rows = tt
-  text-of Import told host l m text h rows = tt
-  text-of (Same cid) told host l m text h rows = tt
-  text-of (Adopt source dest) told host l m text h rows = tt
+  text-of : (command : Command) → commands.reads_tree_alone command ≡ true → (told : Told) (host : HostTold) (l m : streams.Told) (text : List ℕ) → AddsFor X told (Ok command) (Ok text) l m → IsHostedText X N told host command text → IsTextOf X N told host (Ok command) l text
+  text-of (Init p) alone told host l m text h rows = tt
+  text-of (Add only_hash) alone told host l m text h rows = h
+  text-of (WriteInput how path) alone told host l m text h rows = tt
+  text-of (At ask path) alone told host l m text h rows = tt
+  text-of (Read offset count path) alone told host l m text h rows = tt
+  text-of (Cat path) alone told host l m text h rows = tt
+  text-of (AddFrom recursive only_hash path) alone told host l m text h rows = rows
+  text-of (Get path host_path) alone told host l m text h rows = absurd cc
+  text-of (Export cid) alone told host l m text h rows = tt
+  text-of Import alone told host l m text h rows = tt
+  text-of (Same cid) alone told host l m text h rows = tt
+  text-of (Adopt source dest) alone told host l m text h rows = tt
 
   rule-in : (command : Command) (told : Told) (l m : streams.Told) (rule : Rule) → may_answer (family_of command) (refusal_kind (refusal.Rule rule)) ≡ true → AddsFor X told (Ok command) (Err (refusal.Rule rule)) l m
       → RuleOf (Ok command) (refusal.Rule rule) told l m
@@ -195,6 +255,7 @@ module _ (X : List ℕ → List ℕ) (N : List ℕ → ℕ) where
   rule-in (At ask path) told l m rule h adds = (rule, refl)
   rule-in (Read offset count path) told l m rule h adds = (rule, refl)
   rule-in (Cat path) told l m rule h adds = absurd cc
+  rule-in (Get path host_path) told l m rule h adds = absurd cc
   rule-in (Export cid) told l m rule h adds = absurd cc
   rule-in Import told l m rule h adds = absurd cc
   rule-in (Same cid) told l m rule h adds = absurd cc
@@ -209,6 +270,7 @@ module _ (X : List ℕ → List ℕ) (N : List ℕ → ℕ) where
   long-in (At ask path) told l m h adds = absurd cc
   long-in (Read offset count path) told l m h adds = absurd cc
   long-in (Cat path) told l m h adds = absurd cc
+  long-in (Get path host_path) told l m h adds = absurd cc
   long-in (Export cid) told l m h adds = absurd cc
   long-in Import told l m h adds = absurd cc
   long-in (Same cid) told l m h adds = absurd cc
@@ -222,6 +284,7 @@ module _ (X : List ℕ → List ℕ) (N : List ℕ → ℕ) where
   no-path (At ask path) h = cc
   no-path (Read offset count path) h = cc
   no-path (Cat path) h = cc
+  no-path (Get path host_path) h = cc
   no-path (Export cid) h = cc
   no-path Import h = cc
   no-path (Same cid) h = cc
@@ -236,6 +299,7 @@ module _ (X : List ℕ → List ℕ) (N : List ℕ → ℕ) where
   no-dag (At ask path) needs h = cc
   no-dag (Read offset count path) needs h = cc
   no-dag (Cat path) needs h = cc
+  no-dag (Get path host_path) needs h = cc
   no-dag (Export cid) needs h = cc
   no-dag Import needs h = cc
   no-dag (Same cid) needs h = cc
@@ -249,6 +313,7 @@ module _ (X : List ℕ → List ℕ) (N : List ℕ → ℕ) where
   no-car (At ask path) needs h = cc
   no-car (Read offset count path) needs h = cc
   no-car (Cat path) needs h = cc
+  no-car (Get path host_path) needs h = cc
   no-car (Export cid) needs h = cc
   no-car Import needs h = cc
   no-car (Same cid) needs h = cc
@@ -262,6 +327,7 @@ module _ (X : List ℕ → List ℕ) (N : List ℕ → ℕ) where
   host-in (At ask path) told l m rule h = absurd cc
   host-in (Read offset count path) told l m rule h = absurd cc
   host-in (Cat path) told l m rule h = absurd cc
+  host-in (Get path host_path) told l m rule h = inl (rule, refl)
   host-in (Export cid) told l m rule h = absurd cc
   host-in Import told l m rule h = absurd cc
   host-in (Same cid) told l m rule h = absurd cc
@@ -321,6 +387,18 @@ module _ (X : List ℕ → List ℕ) (N : List ℕ → ℕ) where
     needs : needs_standing command ≡ true
     needs = alone-needs command alone
 
+    reads : writes_host command ≡ false
+    reads = alone-reads command alone
+
+    takes : (is_read is_write : Bool) → UsesHost (uses_host command) is_read side side2 → TakesHost (writes_host command) (uses_host command) is_read is_write side side2
+    takes is_read is_write used = subst (λ u. TakesHost u (uses_host command) is_read is_write side side2) (sym reads) used
+
+    rises : (is_fault : Bool) (v : ℕ) → RisesFor is_fault w v → RisesFor (not (writes_host command) && is_fault) w v
+    rises is_fault v h = subst (λ u. RisesFor (not u && is_fault) w v) (sym reads) h
+
+    stays : (is_fault : Bool) (world : World) → UsesHost (uses_host command) is_fault side side2 → (uses_host command ≡ true → side.told ≡ Some world.host) → TellsHost (uses_host command) side2.told (host_after (Ok command) world)
+    stays is_fault world used tells = host-tells (uses_host command) is_fault side side2 (host_after (Ok command) world) used (λ uses. tells uses ∙ ap (λ (t : HostTree). Some t) (sym (alone-stays command alone world)))
+
     stands-in : (told : Told) (s : Standing) → StandsIf X N (needs_standing command) told s → StandsIf X N true told s
     stands-in told s stands = subst (λ n. StandsIf X N n told s) needs stands
 
@@ -332,7 +410,7 @@ module _ (X : List ℕ → List ℕ) (N : List ℕ → ℕ) where
     refused-does why mk =
         let quiet = quiet-of (IsTextOf X N a.told side.told (Ok command) l) (commands.streams command) why (λ e. no-write command (subst (λ k. may_answer (family_of command) k ≡ true) e mk.kinds)) in
         record {
-          answers = λ world finds input calm. answered world (mk.answers world (stands-in a.told world.standing finds.stands) input calm.store);
+          answers = λ world finds input calm. answered world (λ uses. (input.1 uses).0) (mk.answers world (stands-in a.told world.standing finds.stands) input calm.store);
           lost = λ p es rows held bytes named tells heights input calm. over p es (mk.lost p es rows held bytes named input calm.store);
           prefix = λ world finds input room. nothing-printed (reply X N command world).ends h h refl;
           prints = quiet.prints h h (else-same (commands.streams command) h);
@@ -340,8 +418,9 @@ module _ (X : List ℕ → List ℕ) (N : List ℕ → ℕ) where
           ready = mk.ready;
           rule = λ is. rules command alone a.told l m why mk.kinds mk.adds is;
           reads = mk.reads;
-          host = mk.host;
-          writes = subst (λ f. RisesFor f w w) (sym quiet.unwritten) (rises-still w);
+          host = takes (is_read {A = Unit {0}} (Err why)) (is_write {A = Unit {0}} (Err why)) mk.host;
+          gets = alone-gets command alone (ended {A = Unit {0}} (Err why)) a.told side.told side2.told;
+          writes = rises (is_write {A = Unit {0}} (Err why)) w (subst (λ f. RisesFor f w w) (sym quiet.unwritten) (rises-still w));
           cause = mk.cause;
           whole = λ s needs stands calm. mk.whole s stands calm;
           touches = λ p es bytes rows named input heights calm. mk.touches p es bytes rows named input heights calm;
@@ -354,16 +433,19 @@ module _ (X : List ℕ → List ℕ) (N : List ℕ → ℕ) where
           };
         }
       where
-        answered : (world : World) → Answers X N world.standing (reply X N command world) (Err why) b.told → DoesAnswer X N command world (Err why) h h b.told
-        answered world (inl x) =
+        answered : (world : World) → (uses_host command ≡ true → side.told ≡ Some world.host) → Answers X N world.standing (reply X N command world) (Err why) b.told → DoesAnswer X N command world (Err why) h h b.told side2.told
+        answered world tells (inl x) =
             let e : why ≡ no_memory = (let same = x.ends_are in cc) in
             inl (record { ends_are = ap (λ (r : Refusal). Err r) e; stands = stands-out b.told world.standing x.stands })
-        answered world (inr x) =
-            inr (record {
-              ends = subst (λ e. EndsBy e (Err why) h h) x.ends_are (refl, refl);
-              stands = stands-out b.told (reply X N command world).next x.stands;
-              blocks = x.held;
-            })
+        answered world tells (inr x) =
+            inr (
+              record {
+                ends = subst (λ e. EndsBy e (Err why) h h) x.ends_are (refl, refl);
+                stands = stands-out b.told (reply X N command world).next x.stands;
+                blocks = x.held;
+              },
+              stays (is_read {A = Unit {0}} (Err why)) world mk.host tells,
+            )
 
         over : (p : Profile) (es : Entries) {needs : List Held} {given : Reply} → AnswersOver X N a.told b.told p es needs given (Err why) → DoesOver X N a.told b.told p es needs given (Err why) h h
         over p es (inl x) =
@@ -400,16 +482,17 @@ module _ (X : List ℕ → List ℕ) (N : List ℕ → ℕ) where
         -- its text is printed
         pub printed-does : h2 ≡ after h text → Counts false w v → Does X N command (Ok tt) (around a l i h w t0 side) (around b m j h2 v t1 side2)
         printed-does is counts = record {
-          answers = λ world finds input calm. answered world (mk.answers world (stands-in a.told world.standing finds.stands) input calm.store);
+          answers = λ world finds input calm. answered world (λ uses. (input.1 uses).0) (mk.answers world (stands-in a.told world.standing finds.stands) input calm.store);
           lost = λ p es rows held bytes named tells heights input calm. over p es (mk.lost p es rows held bytes named input calm.store);
           prefix = λ world finds input room. subst (λ e. PrintsPart e h h2) (text-is world finds input room) (whole-printed text h h2 is);
-          prints = (text, text-of command a.told side.told l m text mk.adds mk.rows, is);
+          prints = (text, text-of command alone a.told side.told l m text mk.adds mk.rows, is);
           kinds = tt;
           ready = tt;
           rule = tt;
           reads = mk.reads;
-          host = mk.host;
-          writes = record { rose = counts.rose; still = counts.still };
+          host = takes false false mk.host;
+          gets = alone-gets command alone status.Ok a.told side.told side2.told;
+          writes = rises false v (record { rose = counts.rose; still = counts.still });
           cause = mk.cause;
           whole = λ s needs stands calm. mk.whole s stands calm;
           touches = λ p es bytes rows named input heights calm. mk.touches p es bytes rows named input heights calm;
@@ -417,14 +500,17 @@ module _ (X : List ℕ → List ℕ) (N : List ℕ → ℕ) where
           leaves = record { good = mk.leaves.good; head = tt; writes = mk.leaves.writes; idle = mk.leaves.idle };
         }
           where
-            answered : (world : World) → Answers X N world.standing (reply X N command world) (Ok text) b.told → DoesAnswer X N command world (Ok tt) h h2 b.told
-            answered world (inl x) = absurd (let e = x.ends_are in cc)
-            answered world (inr x) =
-                inr (record {
-                  ends = subst (λ e. EndsBy e (Ok tt) h h2) x.ends_are (refl, is);
-                  stands = stands-out b.told (reply X N command world).next x.stands;
-                  blocks = x.held;
-                })
+            answered : (world : World) → (uses_host command ≡ true → side.told ≡ Some world.host) → Answers X N world.standing (reply X N command world) (Ok text) b.told → DoesAnswer X N command world (Ok tt) h h2 b.told side2.told
+            answered world tells (inl x) = absurd (let e = x.ends_are in cc)
+            answered world tells (inr x) =
+                inr (
+                  record {
+                    ends = subst (λ e. EndsBy e (Ok tt) h h2) x.ends_are (refl, is);
+                    stands = stands-out b.told (reply X N command world).next x.stands;
+                    blocks = x.held;
+                  },
+                  stays false world mk.host tells,
+                )
 
             over : (p : Profile) (es : Entries) {needs : List Held} {given : Reply} → AnswersOver X N a.told b.told p es needs given (Ok text) → DoesOver X N a.told b.told p es needs given (Ok tt) h h2
             over p es (inl x) = absurd (let e = x.ends_are in cc)
@@ -434,16 +520,17 @@ module _ (X : List ℕ → List ℕ) (N : List ℕ → ℕ) where
         cut-does c =
             let rose = c.counts.rose refl in
             record {
-              answers = λ world finds input calm. absurd (let stood = calm.output in omega (arith, rose, stood));
-              lost = λ p es rows held bytes named tells heights input calm. absurd (let stood = calm.output in omega (arith, rose, stood));
+              answers = λ world finds input calm. absurd (let stood = calm.written.output in omega (arith, rose, stood));
+              lost = λ p es rows held bytes named tells heights input calm. absurd (let stood = calm.written.output in omega (arith, rose, stood));
               prefix = λ world finds input room. subst (λ e. PrintsPart e h h2) (text-is world finds input room) c.printed;
-              prints = (text, text-of command a.told side.told l m text mk.adds mk.rows, c.printed);
+              prints = (text, text-of command alone a.told side.told l m text mk.adds mk.rows, c.printed);
               kinds = refl;
               ready = tt;
               rule = λ is. absurd cc;
               reads = mk.reads;
-              host = mk.host;
-              writes = record { rose = c.counts.rose; still = c.counts.still };
+              host = takes false true mk.host;
+              gets = alone-gets command alone status.WriteFault a.told side.told side2.told;
+              writes = rises true v (record { rose = c.counts.rose; still = c.counts.still });
               cause = mk.cause;
               whole = λ s needs stands calm. (λ e. cc, λ e. cc);
               touches = λ p es bytes rows named input heights calm. mk.touches p es bytes rows named input heights calm;

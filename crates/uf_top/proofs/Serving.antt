@@ -1,29 +1,35 @@
 -- From words to a command that is done.
-use Rattle.std.proofs.Common.{◌≡◌, ◌∙◌, ℕ, List, Bool, true, false, refl, sym, ap, subst, inl, inr, Result, Ok, Err}
-use Rattle.std.specs.Prelude.{◌&&◌, not, IfErr}
+use Rattle.std.proofs.Common.{◌≡◌, ◌∙◌, ℕ, List, Bool, true, false, refl, sym, ap, subst, inl, inr, Option, None, Some, Result, Ok, Err}
+use Rattle.std.specs.Prelude.{◌&&◌, not, IfErr, IfSome}
 use Rattle.uf_edge.specs.Counts.{Counts}
+use Rattle.uf_edge.specs.Host.{HostTold}
+use Rattle.uf_host.specs.Paths.{trimmed}
 use Rattle.uf_mfs.specs.Standing.{Same as StaysSame}
-use Rattle.uf_store.specs.Contents.{Told}
+use Rattle.uf_path.specs.declared.path.DagPath.{DagPath}
+use Rattle.uf_store.specs.Contents.{Told, held_at}
 use Rattle.uf_store.specs.Seen.{Seen}
 use Rattle.uf_edge.specs.Streams as streams
 use Rattle.uf_store.specs.declared.store.StoreFault.TheVariants.{Memory}
 use Rattle.uf_store.proofs.Causes.{StaysCalm-refl, calm-rises}
 use Rattle.uf_store.proofs.Keeping.{KeepsGood-refl}
 use Rattle.uf_store.proofs.Writing.{SavesOnly-refl}
-use Rattle.uf_reply.specs.Commands.{IsAsked, IsOfWords, command_writes, compares, reads_tree_alone, streams as flows, uses_host}
+use Rattle.uf_reply.specs.Commands.{IsAsked, IsOfWords, command_writes, compares, reads_tree_alone, streams as flows, uses_host, writes_host}
 use Rattle.uf_reply.specs.Kinds.{IsOf, OfSections, family_of, may_end, refusal_kind, word_kinds}
 use Rattle.uf_top.specs.Reply.{reply}
 use Rattle.uf_reply.specs.Statuses.{no_memory}
 use Rattle.uf_reply.specs.declared.types.Ask.TheVariants.{Ls, Stat, Edit as Edits}
 use Rattle.uf_reply.specs.declared.types.Command.{Command}
-use Rattle.uf_reply.specs.declared.types.Command.TheVariants.{Init, Add, AddFrom, WriteInput, At, Read, Cat, Export, Import, Same, Adopt}
+use Rattle.uf_reply.specs.declared.types.Command.TheVariants.{Init, Add, AddFrom, WriteInput, At, Read, Cat, Get, Export, Import, Same, Adopt}
 use Rattle.uf_reply.specs.declared.types.Refusal.{Refusal}
 use Rattle.uf_reply.specs.declared.types.Refusal.TheVariants as refusal
-use Rattle.uf_top.specs.Around.{Around, UsesHost, is_input_read}
+use Rattle.uf_reply.specs.declared.status.Status.TheVariants as status
+use Rattle.uf_top.specs.Around.{Around, RisesFor, TakesHost, is_input_read, is_output_write}
+use Rattle.uf_top.specs.Getting.{GetsFor, LeavesAt}
 use Rattle.uf_top.specs.Bounds.{command_touches}
 use Rattle.uf_top.specs.Cars.{BySections}
 use Rattle.uf_top.specs.Shapes.{WritesAs}
 use Rattle.uf_top.specs.Working.{Does, Serves}
+use Rattle.uf_top.proofs.Gotten.{same-below}
 use Rattle.uf_top.proofs.Losing.{names-same}
 use Rattle.uf_top.proofs.Printing.{else-same, nothing-printed, rises-still}
 use Rattle.uf_top.proofs.Shows.{counts-still, no-touch}
@@ -36,6 +42,7 @@ memory-kind (WriteInput how path) = refl
 memory-kind (At ask path) = refl
 memory-kind (Read offset count path) = refl
 memory-kind (Cat path) = refl
+memory-kind (Get path host_path) = refl
 memory-kind (Export cid) = refl
 memory-kind Import = refl
 memory-kind (Same cid) = refl
@@ -52,12 +59,32 @@ memory-writes X (At Stat path) a = refl
 memory-writes X (At (Edits edit) path) a = record { between = a; saves = SavesOnly-refl X a; last = StaysSame refl }
 memory-writes X (Read offset count path) a = refl
 memory-writes X (Cat path) a = refl
+memory-writes X (Get path host_path) a = refl
 memory-writes X (Export cid) a = refl
 memory-writes X Import a = record { between = a; saves = SavesOnly-refl X a; last = StaysSame refl }
 memory-writes X (Same cid) a = refl
 memory-writes X (Adopt source dest) a = record { between = a; saves = SavesOnly-refl X a; last = StaysSame refl }
 memory-writes X (AddFrom recursive true path) a = refl
 memory-writes X (AddFrom recursive false path) a = record { between = a; saves = SavesOnly-refl X a; last = StaysSame refl }
+
+-- nothing is written to the host then
+same-left : (source : DagPath) (path : List ℕ) (store : Told) (told : HostTold) → IfSome store (λ t. LeavesAt (held_at t) source path told told status.Memory)
+same-left source path None told = tt
+same-left source path (Some t) told = inl refl
+
+nothing-gotten : (command : Command) (store : Told) (told : HostTold) → GetsFor (Ok command) status.Memory store told told
+nothing-gotten (Init p) store told = tt
+nothing-gotten (Add only_hash) store told = tt
+nothing-gotten (AddFrom recursive only_hash path) store told = tt
+nothing-gotten (WriteInput how path) store told = tt
+nothing-gotten (At ask path) store told = tt
+nothing-gotten (Read offset count path) store told = tt
+nothing-gotten (Cat path) store told = tt
+nothing-gotten (Get source path) store told = record { below = same-below (trimmed path) told; leaves = same-left source path store told }
+nothing-gotten (Export cid) store told = tt
+nothing-gotten Import store told = tt
+nothing-gotten (Same cid) store told = tt
+nothing-gotten (Adopt source dest) store told = tt
 
 module _ (X : List ℕ → List ℕ) (N : List ℕ → ℕ) (a : Around) where
   still-reads : (command : Command) → Counts (is_input_read {A = Unit {0}} command (Err no_memory)) a.reads a.reads
@@ -67,12 +94,20 @@ module _ (X : List ℕ → List ℕ) (N : List ℕ → ℕ) (a : Around) where
       by true = counts-still a.reads
       by false = counts-still a.reads
 
-  still-host : (command : Command) → UsesHost (uses_host command) false a.host a.host
-  still-host command = by (uses_host command)
+  still-host : (command : Command) → TakesHost (writes_host command) (uses_host command) false false a.host a.host
+  still-host command = by (writes_host command) (uses_host command)
     where
-      by : (u : Bool) → UsesHost u false a.host a.host
-      by true = record { told = refl; reads = counts-still a.host.reads; writes = refl }
-      by false = refl
+      by : (writes uses : Bool) → TakesHost writes uses false false a.host a.host
+      by true uses = record { reads = counts-still a.host.reads; writes = counts-still a.host.writes }
+      by false true = record { told = refl; reads = counts-still a.host.reads; writes = refl }
+      by false false = refl
+
+  still-written : (command : Command) → RisesFor (is_output_write {A = Unit {0}} command (Err no_memory)) a.writes a.writes
+  still-written command = by (writes_host command)
+    where
+      by : (u : Bool) → RisesFor (not u && false) a.writes a.writes
+      by true = rises-still a.writes
+      by false = rises-still a.writes
 
   wanting : (command : Command) → Does X N command (Err no_memory) a a
   wanting command = record {
@@ -86,7 +121,8 @@ module _ (X : List ℕ → List ℕ) (N : List ℕ → ℕ) (a : Around) where
     rule = λ is. absurd cc;
     reads = still-reads command;
     host = still-host command;
-    writes = rises-still a.writes;
+    gets = nothing-gotten command a.store.told a.host.told;
+    writes = still-written command;
     cause = calm-rises a.store a.store (StaysCalm-refl a.store);
     whole = λ s needs stands calm. (λ e. cc, λ e. cc);
     touches = λ p es bytes rows named input heights calm. no-touch (command_touches X N rows bytes command p es) a.touches;
@@ -111,6 +147,7 @@ may-section (WriteInput how path) h = absurd cc
 may-section (At ask path) h = absurd cc
 may-section (Read offset count path) h = absurd cc
 may-section (Cat path) h = absurd cc
+may-section (Get path host_path) h = absurd cc
 may-section (Export cid) h = absurd cc
 may-section Import h = absurd cc
 may-section (Same cid) h = refl
@@ -151,6 +188,7 @@ alone-spares (WriteInput how path) h = refl
 alone-spares (At ask path) h = refl
 alone-spares (Read offset count path) h = refl
 alone-spares (Cat path) h = refl
+alone-spares (Get path host_path) h = refl
 alone-spares (Export cid) h = refl
 alone-spares Import h = refl
 alone-spares (Same cid) h = absurd cc

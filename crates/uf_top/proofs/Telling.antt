@@ -1,13 +1,14 @@
 -- From how a command was done to what is told of it.
 use Rattle.std.proofs.Common.{◌≡◌, ◌≢◌, ◌⊎◌, ℕ, ◌<◌, List, [], true, false, arith, refl, sym, ap, subst, ◌∙◌, inl, inr, Some, None, Bool, Result, Ok, Err}
-use Rattle.std.specs.Prelude.{◌&&◌, not, IfErr, ⊤}
+use Rattle.std.specs.Prelude.{◌&&◌, not, IfErr, IfSome, ⊤}
 use Rattle.uf_cid.specs.declared.cid.Cid.{Cid}
 use Rattle.uf_edge.specs.Counts.{Counts, Stood}
-use Rattle.uf_edge.specs.Host.{HostTree}
+use Rattle.uf_edge.specs.Host.{HostTold}
 use Rattle.uf_edge.specs.Streams as streams
 use Rattle.uf_mfs.specs.Standing.{NamesOver, TellsAs, head_in}
 use Rattle.uf_store.specs.Calls.{Calm}
-use Rattle.uf_store.specs.Contents.{Told, changed, with_sync}
+use Rattle.uf_path.specs.declared.path.DagPath.{DagPath}
+use Rattle.uf_store.specs.Contents.{Told, changed, held_at, with_sync}
 use Rattle.uf_store.specs.Faults.{Shown, ShowsBadBlock, ShowsClash, ShowsFailure, ShowsMissing}
 use Rattle.uf_store.specs.Keeping.{KeepsGood}
 use Rattle.uf_store.specs.Seen.{Seen}
@@ -21,21 +22,22 @@ use Rattle.uf_reply.specs.Commands.{HasInput, IsOfWords, command_writes, compare
 use Rattle.uf_reply.specs.Commands.{streams as flows}
 use Rattle.uf_reply.specs.Kinds.{AddsHost, AddsInput, IsOf, KeepsCar, MakesReady, OfBadBlock, OfSections, OfMissing, OfPath, OfUsage, OfWrite, family_of, fault_behind, may_end, refusal_kind, word_kinds}
 use Rattle.uf_reply.specs.Lines.{bad_block_line, clash_line, line_of, missing_line, said}
-use Rattle.uf_top.specs.Reply.{World, host_after, outside_of, reply, reply_to}
+use Rattle.uf_top.specs.Reply.{World, outside_of, reply, reply_to}
 use Rattle.uf_reply.specs.Statuses.{ended, no_memory, plain_line, status_of}
 use Rattle.uf_reply.specs.declared.status.Status.{Status}
 use Rattle.uf_reply.specs.declared.status.Status.TheVariants as status
 use Rattle.uf_reply.specs.declared.types.Ask.TheVariants.{Ls, Stat, Edit as Edits}
 use Rattle.uf_reply.specs.declared.types.Command.{Command}
-use Rattle.uf_reply.specs.declared.types.Command.TheVariants.{Init, Add, AddFrom, WriteInput, At, Read, Cat, Export, Import, Same, Adopt}
+use Rattle.uf_reply.specs.declared.types.Command.TheVariants.{Init, Add, AddFrom, WriteInput, At, Read, Cat, Get, Export, Import, Same, Adopt}
 use Rattle.uf_reply.specs.declared.types.Refusal.{Refusal}
 use Rattle.uf_reply.specs.declared.types.Refusal.TheVariants as refusal
 use Rattle.uf_top.specs.Answering.{DoesAnswer}
-use Rattle.uf_top.specs.Around.{Around, CountsCanRise, HasOutside, HostSide, RisesFor, RoseAt, UsesHost}
+use Rattle.uf_top.specs.Around.{AllWritten, Around, CountsCanRise, HasOutside, HostSide, RisesFor, RoseAt, TakesHost}
 use Rattle.uf_top.specs.Cars.{BySections, IsClashing, IsMissing, LacksSection, TwoSections}
 use Rattle.uf_top.specs.Causes.{IsBadIn, IsSynced, is_read, is_write}
 use Rattle.uf_top.specs.Endings.{EndsAs, EndsBy, FindsAll, FindsBy, IsNotReady, IsRefusedBy, IsRule, IsSyncedFor, IsTextOf, PrintsAll, PrintsAt, PrintsPart, SaysPlain, TellsEnd, TellsWhy, has_details}
-use Rattle.uf_top.specs.Naming.{FindsOver, FindsWorld, StandsIf, TellsHost}
+use Rattle.uf_top.specs.Getting.{GetsFor, LeavesAt}
+use Rattle.uf_top.specs.Naming.{FindsOver, FindsWorld, StandsIf}
 use Rattle.uf_top.specs.Shapes.{SyncsAfter, WritesAs, WritesFor, is_done}
 use Rattle.uf_top.specs.Working.{Does, Serves}
 use Rattle.uf_top.proofs.Finding.{kind-finds, of-none, words-whole}
@@ -52,6 +54,7 @@ no-path (WriteInput how path) h = cc
 no-path (At ask path) h = cc
 no-path (Read offset count path) h = cc
 no-path (Cat path) h = cc
+no-path (Get path host_path) h = cc
 no-path (Export cid) h = cc
 no-path Import h = cc
 no-path (Same cid) h = cc
@@ -65,6 +68,7 @@ no-usage (WriteInput how path) h = cc
 no-usage (At ask path) h = cc
 no-usage (Read offset count path) h = cc
 no-usage (Cat path) h = cc
+no-usage (Get path host_path) h = cc
 no-usage (Export cid) h = cc
 no-usage Import h = cc
 no-usage (Same cid) h = cc
@@ -144,48 +148,75 @@ input-read : (uses is_fault : Bool) (i j : ℕ) → Counts (not uses && is_fault
 input-read true is_fault i j counts more = absurd (let e : false ≡ true = risen-of false i j counts more in cc)
 input-read false is_fault i j counts more = risen-of is_fault i j counts more
 
-host-read : (uses is_fault : Bool) (s t : HostSide) → UsesHost uses is_fault s t → s.reads < t.reads → is_fault ≡ true
-host-read true is_fault s t used more = risen-of is_fault s.reads t.reads used.reads more
-host-read false is_fault s t used more = (let e = ap (λ (x : HostSide). x.reads) used in absurd (omega (arith, e, more)))
+host-read : (writes uses is_fault is_write : Bool) (s t : HostSide) → TakesHost writes uses is_fault is_write s t → s.reads < t.reads → is_fault ≡ true
+host-read true uses is_fault is_write s t used more = risen-of is_fault s.reads t.reads used.reads more
+host-read false true is_fault is_write s t used more = risen-of is_fault s.reads t.reads used.reads more
+host-read false false is_fault is_write s t used more = (let e = ap (λ (x : HostSide). x.reads) used in absurd (omega (arith, e, more)))
 
--- a failed reading has made one of them rise
-reading-rose : (uses : Bool) (i j : ℕ) (s t : HostSide) → Counts (not uses && true) i j → UsesHost uses true s t → RoseAt uses i j s.reads t.reads
-reading-rose true i j s t counts used = used.reads.rose refl
-reading-rose false i j s t counts used = counts.rose refl
+-- a failed reading has made one of them rise: what writes to the host uses it
+reading-rose : (writes uses is_write : Bool) (i j : ℕ) (s t : HostSide) → (writes ≡ true → uses ≡ true) → Counts (not uses && true) i j → TakesHost writes uses true is_write s t → RoseAt uses i j s.reads t.reads
+reading-rose true true is_write i j s t both counts used = used.reads.rose refl
+reading-rose true false is_write i j s t both counts used = absurd (let e : false ≡ true = both refl in cc)
+reading-rose false true is_write i j s t both counts used = used.reads.rose refl
+reading-rose false false is_write i j s t both counts used = counts.rose refl
 
--- no command writes to the host, or changes what it tells
-host-unwritten : (uses is_fault : Bool) (s t : HostSide) → UsesHost uses is_fault s t → t.writes ≡ s.writes
-host-unwritten true is_fault s t used = used.writes
-host-unwritten false is_fault s t used = ap (λ (x : HostSide). x.writes) used
+-- what writes to the host uses it
+writing-uses : (command : Command) → writes_host command ≡ true → uses_host command ≡ true
+writing-uses (Init p) h = absurd cc
+writing-uses (Add only_hash) h = absurd cc
+writing-uses (AddFrom recursive only_hash path) h = absurd cc
+writing-uses (WriteInput how path) h = absurd cc
+writing-uses (At ask path) h = absurd cc
+writing-uses (Read offset count path) h = absurd cc
+writing-uses (Cat path) h = absurd cc
+writing-uses (Get path host_path) h = refl
+writing-uses (Export cid) h = absurd cc
+writing-uses Import h = absurd cc
+writing-uses (Same cid) h = absurd cc
+writing-uses (Adopt source dest) h = absurd cc
 
-host-same : (uses is_fault : Bool) (s t : HostSide) → UsesHost uses is_fault s t → t.told ≡ s.told
-host-same true is_fault s t used = used.told
-host-same false is_fault s t used = ap (λ (x : HostSide). x.told) used
+-- where the output's count or the host's rose, a writing failed
+output-written : (writes is_fault : Bool) (i j : ℕ) → RisesFor (not writes && is_fault) i j → i < j → is_fault ≡ true
+output-written true is_fault i j rises more = (let e = rises.still refl in absurd (omega (arith, e, more)))
+output-written false true i j rises more = refl
+output-written false false i j rises more = (let e = rises.still refl in absurd (omega (arith, e, more)))
 
-host-tells : (uses is_fault : Bool) (s t : HostSide) (tree : HostTree) → UsesHost uses is_fault s t → (uses ≡ true → s.told ≡ Some tree) → TellsHost uses t.told tree
-host-tells true is_fault s t tree used tells = used.told ∙ tells refl
-host-tells false is_fault s t tree used tells = tt
+host-written : (writes uses is_read is_fault : Bool) (s t : HostSide) → TakesHost writes uses is_read is_fault s t → s.writes < t.writes → is_fault ≡ true
+host-written true uses is_read is_fault s t used more = risen-of is_fault s.writes t.writes used.writes more
+host-written false true is_read is_fault s t used more = (let e = used.writes in absurd (omega (arith, e, more)))
+host-written false false is_read is_fault s t used more = (let e = ap (λ (x : HostSide). x.writes) used in absurd (omega (arith, e, more)))
 
--- a failed writing is the refusal where the output's count rose
-write-of : (why : Refusal) (i j : ℕ) → RisesFor (is_write {A = Unit {0}} (Err why)) i j → i < j → why ≡ refusal.Write
-write-of (refusal.Rule rule) i j counts more = (let e = counts.still refl in absurd (omega (arith, e, more)))
-write-of (refusal.Dag rule) i j counts more = (let e = counts.still refl in absurd (omega (arith, e, more)))
-write-of (refusal.Car number place) i j counts more = (let e = counts.still refl in absurd (omega (arith, e, more)))
-write-of (refusal.CarLacks cid) i j counts more = (let e = counts.still refl in absurd (omega (arith, e, more)))
-write-of (refusal.CarClash cid first second) i j counts more = (let e = counts.still refl in absurd (omega (arith, e, more)))
-write-of (refusal.Host rule) i j counts more = (let e = counts.still refl in absurd (omega (arith, e, more)))
-write-of (refusal.BadPath path) i j counts more = (let e = counts.still refl in absurd (omega (arith, e, more)))
-write-of refusal.Usage i j counts more = (let e = counts.still refl in absurd (omega (arith, e, more)))
-write-of refusal.InputTooLong i j counts more = (let e = counts.still refl in absurd (omega (arith, e, more)))
-write-of (refusal.Ready reason) i j counts more = (let e = counts.still refl in absurd (omega (arith, e, more)))
-write-of refusal.Read i j counts more = (let e = counts.still refl in absurd (omega (arith, e, more)))
-write-of refusal.Write i j counts more = refl
-write-of (refusal.Store fault.Failed) i j counts more = (let e = counts.still refl in absurd (omega (arith, e, more)))
-write-of (refusal.Store (fault.Damaged cid)) i j counts more = (let e = counts.still refl in absurd (omega (arith, e, more)))
-write-of (refusal.Store (fault.Missing cid)) i j counts more = (let e = counts.still refl in absurd (omega (arith, e, more)))
-write-of (refusal.Store (fault.BadBlock cid role)) i j counts more = (let e = counts.still refl in absurd (omega (arith, e, more)))
-write-of (refusal.Store (fault.Clash cid first second)) i j counts more = (let e = counts.still refl in absurd (omega (arith, e, more)))
-write-of (refusal.Store fault.Memory) i j counts more = (let e = counts.still refl in absurd (omega (arith, e, more)))
+-- a failed writing has made one of them rise
+writing-rose : (writes uses is_read : Bool) (i j : ℕ) (s t : HostSide) → RisesFor (not writes && true) i j → TakesHost writes uses is_read true s t → RoseAt writes i j s.writes t.writes
+writing-rose true uses is_read i j s t rises used = used.writes.rose refl
+writing-rose false uses is_read i j s t rises used = rises.rose refl
+
+-- what doesn't write to the host leaves what it tells
+host-same : (writes uses is_read is_write : Bool) (s t : HostSide) → writes ≡ false → TakesHost writes uses is_read is_write s t → t.told ≡ s.told
+host-same true uses is_read is_write s t none used = absurd cc
+host-same false true is_read is_write s t none used = used.told
+host-same false false is_read is_write s t none used = ap (λ (x : HostSide). x.told) used
+
+-- a failed writing is that refusal
+write-of : (why : Refusal) → is_write {A = Unit {0}} (Err why) ≡ true → why ≡ refusal.Write
+write-of (refusal.Rule rule) is = absurd cc
+write-of (refusal.Dag rule) is = absurd cc
+write-of (refusal.Car number place) is = absurd cc
+write-of (refusal.CarLacks cid) is = absurd cc
+write-of (refusal.CarClash cid first second) is = absurd cc
+write-of (refusal.Host rule) is = absurd cc
+write-of (refusal.BadPath path) is = absurd cc
+write-of refusal.Usage is = absurd cc
+write-of refusal.InputTooLong is = absurd cc
+write-of (refusal.Ready reason) is = absurd cc
+write-of refusal.Read is = absurd cc
+write-of refusal.Write is = refl
+write-of (refusal.Store fault.Failed) is = absurd cc
+write-of (refusal.Store (fault.Damaged cid)) is = absurd cc
+write-of (refusal.Store (fault.Missing cid)) is = absurd cc
+write-of (refusal.Store (fault.BadBlock cid role)) is = absurd cc
+write-of (refusal.Store (fault.Clash cid first second)) is = absurd cc
+write-of (refusal.Store fault.Memory) is = absurd cc
 
 -- a risen count of the store is behind its fault
 module _ (hash : List ℕ → List ℕ) (P : Role → List ℕ → Type 0) (a b : Seen) where
@@ -385,8 +416,8 @@ module _ (Says : List ℕ → Type 0) where
       does-show command refusal.Usage h sections says = absurd (no-usage command h.kinds)
       does-show command refusal.InputTooLong h sections says = (refusal.InputTooLong, refl, says, h.rule refl)
       does-show command (refusal.Ready reason) h sections says = (reason, says, h.ready)
-      does-show command refusal.Read h sections says = reading-rose (uses_host command) a.reads b.reads a.host b.host h.reads h.host
-      does-show command refusal.Write h sections says = h.writes.rose refl
+      does-show command refusal.Read h sections says = reading-rose (writes_host command) (uses_host command) false a.reads b.reads a.host b.host (writing-uses command) h.reads h.host
+      does-show command refusal.Write h sections says = writing-rose (writes_host command) (uses_host command) false a.writes b.writes a.host b.host h.writes h.host
       does-show command (refusal.Store fault.Failed) h sections says = h.cause
       does-show command (refusal.Store (fault.Damaged cid)) h sections says = h.cause
       does-show command (refusal.Store (fault.Missing cid)) h sections says = (cid, missing (compares command) cid h.cause, says)
@@ -459,27 +490,58 @@ module _ (Says : List ℕ → Type 0) where
       read-told (Err asked) done s t (inl more) = (let e = ap (λ (x : Around). x.reads) s.same in absurd (omega (arith, e, more)))
       read-told (Err asked) done s t (inr more) = (let e = ap (λ (x : Around). x.host.reads) s.same in absurd (omega (arith, e, more)))
       read-told (Ok command) (Ok done) s t (inl more) = (let e = input-read (uses_host command) false a.reads b.reads s.reads more in absurd cc)
-      read-told (Ok command) (Ok done) s t (inr more) = (let e = host-read (uses_host command) false a.host b.host s.host more in absurd cc)
+      read-told (Ok command) (Ok done) s t (inr more) = (let e = host-read (writes_host command) (uses_host command) false false a.host b.host s.host more in absurd cc)
       read-told (Ok command) (Err why) s t (inl more) = reading why t (read-of why (input-read (uses_host command) (is_read {A = Unit {0}} (Err why)) a.reads b.reads s.reads more))
-      read-told (Ok command) (Err why) s t (inr more) = reading why t (read-of why (host-read (uses_host command) (is_read {A = Unit {0}} (Err why)) a.host b.host s.host more))
+      read-told (Ok command) (Err why) s t (inr more) = reading why t (read-of why (host-read (writes_host command) (uses_host command) (is_read {A = Unit {0}} (Err why)) (is_write {A = Unit {0}} (Err why)) a.host b.host s.host more))
 
-      -- no command writes to the host
-      pub host-writes : (asked : Result Command Refusal) (done : Result (Unit {0}) Refusal) → Serves X N asked done a b → b.host.writes ≡ a.host.writes
-      host-writes (Err asked) done s = ap (λ (x : Around). x.host.writes) s.same
-      host-writes (Ok command) done s = host-unwritten (uses_host command) (is_read done) a.host b.host s.host
-
-      pub host-told : (asked : Result Command Refusal) (done : Result (Unit {0}) Refusal) → Serves X N asked done a b → b.host.told ≡ a.host.told
-      host-told (Err asked) done s = ap (λ (x : Around). x.host.told) s.same
-      host-told (Ok command) done s = host-same (uses_host command) (is_read done) a.host b.host s.host
-
-      output-told : (asked : Result Command Refusal) (done : Result (Unit {0}) Refusal) → Serves X N asked done a b → TellsEnd Says done given → a.writes < b.writes → given ≡ status.WriteFault
-      output-told (Err asked) done s t more = (let e = ap (λ (x : Around). x.writes) s.same in absurd (omega (arith, e, more)))
-      output-told (Ok command) (Ok done) s t more = (let e = s.writes.still refl in absurd (omega (arith, e, more)))
-      output-told (Ok command) (Err why) s t more = writing why t (write-of why a.writes b.writes s.writes more)
+      -- only a command that writes to the host changes it
+      pub host-told : (asked : Result Command Refusal) (done : Result (Unit {0}) Refusal) → Serves X N asked done a b → of_command writes_host false asked ≡ false → b.host.told ≡ a.host.told
+      host-told (Err asked) done s none = ap (λ (x : Around). x.host.told) s.same
+      host-told (Ok command) done s none = host-same (writes_host command) (uses_host command) (is_read done) (is_write done) a.host b.host none s.host
 
       pub write-told : (asked : Result Command Refusal) (done : Result (Unit {0}) Refusal) → Serves X N asked done a b → TellsEnd Says done given → (a.writes < b.writes) ⊎ (a.host.writes < b.host.writes) → given ≡ status.WriteFault
-      write-told asked done s t (inl more) = output-told asked done s t more
-      write-told asked done s t (inr more) = (let e = host-writes asked done s in absurd (omega (arith, e, more)))
+      write-told (Err asked) done s t (inl more) = (let e = ap (λ (x : Around). x.writes) s.same in absurd (omega (arith, e, more)))
+      write-told (Err asked) done s t (inr more) = (let e = ap (λ (x : Around). x.host.writes) s.same in absurd (omega (arith, e, more)))
+      write-told (Ok command) (Ok done) s t (inl more) = (let e = output-written (writes_host command) false a.writes b.writes s.writes more in absurd cc)
+      write-told (Ok command) (Ok done) s t (inr more) = (let e = host-written (writes_host command) (uses_host command) false false a.host b.host s.host more in absurd cc)
+      write-told (Ok command) (Err why) s t (inl more) = writing why t (write-of why (output-written (writes_host command) (is_write {A = Unit {0}} (Err why)) a.writes b.writes s.writes more))
+      write-told (Ok command) (Err why) s t (inr more) = writing why t (write-of why (host-written (writes_host command) (uses_host command) (is_read {A = Unit {0}} (Err why)) (is_write {A = Unit {0}} (Err why)) a.host b.host s.host more))
+
+      -- what a detailed status leaves on the host, want of memory leaves too
+      detailed-left : (store : Told) (source : DagPath) (path : List ℕ) (host now : HostTold) (s : Status) → has_details s ≡ true → IfSome store (λ t. LeavesAt (held_at t) source path host now s) → IfSome store (λ t. LeavesAt (held_at t) source path host now status.Memory)
+      detailed-left None source path host now s h left = tt
+      detailed-left (Some t) source path host now status.Ok h left = absurd cc
+      detailed-left (Some t) source path host now status.Rule h left = inl left
+      detailed-left (Some t) source path host now status.Usage h left = absurd cc
+      detailed-left (Some t) source path host now status.StoreFault h left = absurd cc
+      detailed-left (Some t) source path host now status.Missing h left = inl left
+      detailed-left (Some t) source path host now status.BadBlock h left = inl left
+      detailed-left (Some t) source path host now status.ReadFault h left = absurd cc
+      detailed-left (Some t) source path host now status.WriteFault h left = absurd cc
+      detailed-left (Some t) source path host now status.Clash h left = inl left
+      detailed-left (Some t) source path host now status.Memory h left = absurd cc
+      detailed-left (Some t) source path host now status.NotReady h left = inl left
+
+      detailed-gets : (command : Command) (store : Told) (host now : HostTold) (s : Status) → has_details s ≡ true → GetsFor (Ok command) s store host now → GetsFor (Ok command) status.Memory store host now
+      detailed-gets (Init p) store host now s h gets = tt
+      detailed-gets (Add only_hash) store host now s h gets = tt
+      detailed-gets (AddFrom recursive only_hash path) store host now s h gets = tt
+      detailed-gets (WriteInput how path) store host now s h gets = tt
+      detailed-gets (At ask path) store host now s h gets = tt
+      detailed-gets (Read offset count path) store host now s h gets = tt
+      detailed-gets (Cat path) store host now s h gets = tt
+      detailed-gets (Get source path) store host now s h gets = record { below = gets.below; leaves = detailed-left store source path host now s h gets.leaves }
+      detailed-gets (Export cid) store host now s h gets = tt
+      detailed-gets Import store host now s h gets = tt
+      detailed-gets (Same cid) store host now s h gets = tt
+      detailed-gets (Adopt source dest) store host now s h gets = tt
+
+      pub gets-told : (asked : Result Command Refusal) (done : Result (Unit {0}) Refusal) → Serves X N asked done a b → TellsEnd Says done given → GetsFor asked given a.store.told a.host.told b.host.told
+      gets-told (Err asked) done s t = tt
+      gets-told (Ok command) (Ok done) s t = subst (λ g. GetsFor (Ok command) g a.store.told a.host.told b.host.told) (sym t.0) s.gets
+      gets-told (Ok command) (Err why) s (inl t) = subst (λ g. GetsFor (Ok command) g a.store.told a.host.told b.host.told) (sym t.0) s.gets
+      gets-told (Ok command) (Err why) s (inr t) =
+          subst (λ g. GetsFor (Ok command) g a.store.told a.host.told b.host.told) (sym t.1) (detailed-gets command a.store.told a.host.told b.host.told (status_of why) t.0 s.gets)
 
       -- ---- no block is called bad before one was touched
 
@@ -552,6 +614,7 @@ module _ (Says : List ℕ → Type 0) where
       synced-told (Ok (At ask path)) done s t is = tt
       synced-told (Ok (Read offset count path)) done s t is = tt
       synced-told (Ok (Cat path)) done s t is = tt
+      synced-told (Ok (Get path host_path)) done s t is = tt
       synced-told (Ok (Export cid)) done s t is = tt
       synced-told (Ok Import) done s t is =
           synced-of X a.store.told b.store.told (subst (λ d. WritesAs X (command_writes Import) d a.store.told b.store.told) (was-ok done t is) s.leaves.writes)
@@ -573,6 +636,7 @@ module _ (Says : List ℕ → Type 0) where
       told-same (Ok (At (Edits edit) path)) done s is = absurd cc
       told-same (Ok (Read offset count path)) done s is = s.leaves.writes
       told-same (Ok (Cat path)) done s is = s.leaves.writes
+      told-same (Ok (Get path host_path)) done s is = s.leaves.writes
       told-same (Ok (Export cid)) done s is = s.leaves.writes
       told-same (Ok Import) done s is = absurd cc
       told-same (Ok (Same cid)) done s is = s.leaves.writes
@@ -588,26 +652,23 @@ module _ (Says : List ℕ → Type 0) where
       -- ---- over a store that stands
 
       pub replies-told : (asked : Result Command Refusal) (done : Result (Unit {0}) Refusal) → Serves X N asked done a b → TellsEnd Says done given
-          → (world : World) → FindsWorld X N asked a.store.told world → HasOutside asked (outside_of world) a b → Calm a.store b.store → Stood a.writes b.writes → EndsAs Says X N asked world given a.held b.held b.store.told b.host.told
-      replies-told (Ok command) done s t world finds input calm write = by done (s.answers world finds input (record { store = calm; output = write })) t (stays done s)
+          → (world : World) → FindsWorld X N asked a.store.told world → HasOutside asked (outside_of world) a b → Calm a.store b.store → AllWritten asked a.writes b.writes a.host.writes b.host.writes → EndsAs Says X N asked world given a.held b.held b.store.told b.host.told
+      replies-told (Ok command) done s t world finds input calm write = by done (s.answers world finds input (record { store = calm; written = write })) t (stays done s)
         where
-          leaves : TellsHost (uses_host command) b.host.told (host_after (Ok command) world)
-          leaves = host-tells (uses_host command) (is_read done) a.host b.host world.host s.host (λ uses. (input.1 uses).0)
-
           stays : (done : Result (Unit {0}) Refusal) → Does X N command done a b → (why : Refusal) → done ≡ Err why → StandsIf X N (needs_standing command) b.store.told world.standing
           stays done h why is = still-stands X N a.store.told b.store.told (needs_standing command) world.standing h.leaves.good (subst (λ d. IfErr d (λ why. head_in b.store.told ≡ head_in a.store.told)) is h.leaves.head) finds.stands
 
-          by : (done : Result (Unit {0}) Refusal) → DoesAnswer X N command world done a.held b.held b.store.told → TellsEnd Says done given → ((why : Refusal) → done ≡ Err why → StandsIf X N (needs_standing command) b.store.told world.standing)
+          by : (done : Result (Unit {0}) Refusal) → DoesAnswer X N command world done a.held b.held b.store.told b.host.told → TellsEnd Says done given → ((why : Refusal) → done ≡ Err why → StandsIf X N (needs_standing command) b.store.told world.standing)
               → EndsAs Says X N (Ok command) world given a.held b.held b.store.told b.host.told
           by (Ok done) (inl x) t stays = absurd (let e = x.ends_are in cc)
-          by (Ok done) (inr x) t stays = inr (record { status_is = (ok-ends (reply X N command world).ends given a.held b.held t x.ends).0; says = (ok-ends (reply X N command world).ends given a.held b.held t x.ends).1; printed = printed-all (reply X N command world).ends (Ok done) a.held b.held x.ends; stands = x.stands; blocks = x.blocks }, leaves)
+          by (Ok done) (inr x) t stays = inr (record { status_is = (ok-ends (reply X N command world).ends given a.held b.held t x.0.ends).0; says = (ok-ends (reply X N command world).ends given a.held b.held t x.0.ends).1; printed = printed-all (reply X N command world).ends (Ok done) a.held b.held x.0.ends; stands = x.0.stands; blocks = x.0.blocks }, x.1)
           by (Err why) (inl x) t stays =
               let e : why ≡ no_memory = (let same = x.ends_are in cc) in
               let told = memory-told given (subst (λ w. TellsWhy Says w given) e t) in
               inl (record { status_is = told.0; says = told.1; stands = x.stands })
           by (Err why) (inr x) (inl told) stays =
-              let is = err-ends (reply X N command world).ends why a.held b.held x.ends in
-              inr (record { status_is = told.0 ∙ ap ended is; says = subst (λ e. Says (said e)) is told.1; printed = printed-all (reply X N command world).ends (Err why) a.held b.held x.ends; stands = x.stands; blocks = x.blocks }, leaves)
+              let is = err-ends (reply X N command world).ends why a.held b.held x.0.ends in
+              inr (record { status_is = told.0 ∙ ap ended is; says = subst (λ e. Says (said e)) is told.1; printed = printed-all (reply X N command world).ends (Err why) a.held b.held x.0.ends; stands = x.0.stands; blocks = x.0.blocks }, x.1)
           by (Err why) (inr x) (inr told) stays = inl (record { status_is = told.1; says = told.2; stands = stays why refl })
       replies-told (Err asked) done s t world finds input calm write = by s.refused
         where
@@ -649,6 +710,7 @@ module _ (Says : List ℕ → Type 0) where
       looks-told (At ask path) done h t = tt
       looks-told (Read offset count path) done h t = tt
       looks-told (Cat path) done h t = tt
+      looks-told (Get path host_path) done h t = tt
       looks-told (Export cid) done h t = tt
       looks-told Import done h t = ended-told FindsAll done t (cars-find done h.kinds) (λ e. cc, λ e. cc)
       looks-told (Same cid) done h t = tt

@@ -1,18 +1,19 @@
 -- The reply to a command, as the answer of a call over a store.
 use Rattle.std.specs.Prelude.{◌≡◌, ◌⊎◌, ℕ, List, Bool}
 use Rattle.std.specs.declared.result.Result.{Result}
-use Rattle.std.specs.declared.result.Result.TheVariants.{Err}
+use Rattle.std.specs.declared.result.Result.TheVariants.{Err, Ok}
+use Rattle.uf_edge.specs.Host.{HostTold}
 use Rattle.uf_edge.specs.Streams as streams
 use Rattle.uf_mfs.specs.Standing.{TellsAs, TellsHeld}
 use Rattle.uf_store.specs.Contents.{Told}
 use Rattle.uf_tree.specs.Standing.{Standing}
-use Rattle.uf_reply.specs.Commands.{needs_standing}
-use Rattle.uf_top.specs.Reply.{Reply, World, reply}
+use Rattle.uf_reply.specs.Commands.{needs_standing, uses_host}
+use Rattle.uf_top.specs.Reply.{Reply, World, host_after, reply}
 use Rattle.uf_reply.specs.Statuses.{no_memory}
 use Rattle.uf_reply.specs.declared.types.Command.{Command}
 use Rattle.uf_reply.specs.declared.types.Refusal.{Refusal}
 use Rattle.uf_top.specs.Endings.{EndsBy}
-use Rattle.uf_top.specs.Naming.{StandsIf}
+use Rattle.uf_top.specs.Naming.{StandsIf, TellsHost}
 
 module _ (X : List ℕ → List ℕ) (N : List ℕ → ℕ) where
   -- there was no memory, and what stood stands
@@ -43,6 +44,9 @@ module _ (X : List ℕ → List ℕ) (N : List ℕ → ℕ) where
     pub stands : StandsIf X N needs now given.next
     pub blocks : TellsHeld now given.held
 
-  abbrev pub DoesAnswer : Command → World → Result (Unit {0}) Refusal → streams.Told → streams.Told → Told → Type 0
-  DoesAnswer command w done held held_now now = DoesWant (needs_standing command) w.standing done now
-      ⊎ DoesReply (needs_standing command) (reply X N command w) done held held_now now
+  -- and the host tells what it has then, where it is used
+  abbrev pub DoesAnswer : Command → World → Result (Unit {0}) Refusal → streams.Told → streams.Told → Told → HostTold
+      → Type 0
+  DoesAnswer command w done held held_now now host_now = DoesWant (needs_standing command) w.standing done now
+      ⊎ (DoesReply (needs_standing command) (reply X N command w) done held held_now now
+      × TellsHost (uses_host command) host_now (host_after (Ok command) w))

@@ -7,10 +7,10 @@ use Rattle.uf_edge.specs.Streams as streams
 use Rattle.uf_mfs.specs.Reading.{CanRise}
 use Rattle.uf_store.specs.Calls.{Calm}
 use Rattle.uf_store.specs.Seen.{Seen}
-use Rattle.uf_reply.specs.Commands.{HasHost, HasInput, uses_host}
+use Rattle.uf_reply.specs.Commands.{HasHost, HasInput, of_command, uses_host, writes_host}
 use Rattle.uf_reply.specs.declared.types.Command.{Command}
 use Rattle.uf_reply.specs.declared.types.Refusal.{Refusal}
-use Rattle.uf_top.specs.Causes.{is_read}
+use Rattle.uf_top.specs.Causes.{is_read, is_write}
 use Rattle.uf_top.specs.Reply.{Outside}
 
 -- what a host tells, and how often its reading and its writing failed
@@ -46,6 +46,10 @@ HasOutside asked outside before now = HasInput asked before.left outside.input b
 abbrev pub is_input_read : {A : Type 0} → Command → Result A Refusal → Bool
 is_input_read command done = not (uses_host command) && is_read done
 
+-- the answer is a failed writing of the output: a command that writes to the host prints nothing
+abbrev pub is_output_write : {A : Type 0} → Command → Result A Refusal → Bool
+is_output_write command done = not (writes_host command) && is_write done
+
 -- nothing changed in the host but its count of readings, and that only where one failed
 pub record OnlyReadsHost (is_fault : Bool) (before now : HostSide) : Type 0 where
   pub told : now.told ≡ before.told
@@ -56,6 +60,16 @@ pub record OnlyReadsHost (is_fault : Bool) (before now : HostSide) : Type 0 wher
 abbrev pub UsesHost : (uses is_fault : Bool) → HostSide → HostSide → Type 0
 UsesHost true is_fault before now = OnlyReadsHost is_fault before now
 UsesHost false is_fault before now = now ≡ before
+
+-- the counts of failed readings and writings of the host; of what it tells nothing is said here
+pub record CountsHost (is_read is_write : Bool) (before now : HostSide) : Type 0 where
+  pub reads : Counts is_read before.reads now.reads
+  pub writes : Counts is_write before.writes now.writes
+
+-- a command writes to the host, or uses it as it does else
+abbrev pub TakesHost : (writes uses is_read is_write : Bool) → HostSide → HostSide → Type 0
+TakesHost true uses is_read is_write before now = CountsHost is_read is_write before now
+TakesHost false uses is_read is_write before now = UsesHost uses is_read before now
 
 -- a count rose: the host's where it is used, and else the one of the stream
 abbrev pub RoseAt : (of_host : Bool) → (stream stream_now host host_now : ℕ) → Type 0
@@ -72,7 +86,12 @@ pub record RisesFor (is_told : Bool) (before now : ℕ) : Type 0 where
   pub rose : is_told ≡ true → Rose before now
   pub still : is_told ≡ false → now ≡ before
 
--- nothing of the store or the output failed meanwhile, and no clash was met
-pub record StaysQuiet (before now : Around) : Type 0 where
+-- no writing failed: none of the output, nor of the host where that is written to
+pub record AllWritten (asked : Result Command Refusal) (was is was_host is_host : ℕ) : Type 0 where
+  pub output : Stood was is
+  pub host : of_command writes_host false asked ≡ true → Stood was_host is_host
+
+-- nothing of the store failed meanwhile nor any writing, and no clash was met
+pub record StaysQuiet (asked : Result Command Refusal) (before now : Around) : Type 0 where
   pub store : Calm before.store now.store
-  pub output : Stood before.writes now.writes
+  pub written : AllWritten asked before.writes now.writes before.host.writes now.host.writes

@@ -15,7 +15,7 @@ use Rattle.uf_tree.specs.declared.profile.Profile.{Profile}
 use Rattle.uf_reply.specs.declared.types.Ask.{Ask}
 use Rattle.uf_reply.specs.declared.types.Ask.TheVariants.{Ls, Stat, Edit as Edits}
 use Rattle.uf_reply.specs.declared.types.Command.{Command}
-use Rattle.uf_reply.specs.declared.types.Command.TheVariants.{Init, Add, AddFrom, WriteInput, At, Read, Cat, Export, Import, Same, Adopt}
+use Rattle.uf_reply.specs.declared.types.Command.TheVariants.{Init, Add, AddFrom, WriteInput, At, Read, Cat, Get, Export, Import, Same, Adopt}
 use Rattle.uf_reply.specs.declared.types.Edit.{Edit}
 use Rattle.uf_reply.specs.declared.types.Edit.TheVariants.{Mkdir, Rm, Write, Truncate, Cp, Mv}
 use Rattle.uf_reply.specs.declared.types.Refusal.{Refusal}
@@ -44,7 +44,7 @@ module _ (X : List ℕ → List ℕ) (N : List ℕ → ℕ) (rows : ℕ → ℕ)
   ask_touches (Edits edit) names p es = touches_of_edit edit names p es
 
   -- and for a command with this input, which opens the tree first; nothing is promised of `init`, of an `add` that
-  -- keeps its blocks, of `cat`, of what has to do with CARs, and of a copy from a DAG
+  -- keeps its blocks, of `cat` and `get`, of what has to do with CARs, and of a copy from a DAG
   abbrev pub command_touches : List ℕ → Command → Profile → Entries → Option ℕ
   command_touches bytes (Init q) p es = None
   command_touches bytes (Add true) p es = Some 0
@@ -56,6 +56,7 @@ module _ (X : List ℕ → List ℕ) (N : List ℕ → ℕ) (rows : ℕ → ℕ)
   command_touches bytes (Read offset count path) p es =
       Some (1 + read_bound (range_touches p rows offset count) path.names (Dir es))
   command_touches bytes (Cat path) p es = None
+  command_touches bytes (Get path host_path) p es = None
   command_touches bytes (Export cid) p es = None
   command_touches bytes Import p es = None
   command_touches bytes (Same cid) p es = None

@@ -30,7 +30,7 @@ use Rattle.uf_tree.specs.declared.head_fault.HeadFault.{HeadFault}
 use Rattle.uf_tree.specs.declared.profile.Head.{Head}
 use Rattle.uf_tree.specs.declared.profile.Profile.{Profile}
 use Rattle.uf_reply.specs.declared.types.Command.{Command}
-use Rattle.uf_reply.specs.declared.types.Command.TheVariants.{Init, Add, AddFrom, WriteInput, At, Read, Cat, Export, Import, Same, Adopt}
+use Rattle.uf_reply.specs.declared.types.Command.TheVariants.{Init, Add, AddFrom, WriteInput, At, Read, Cat, Get, Export, Import, Same, Adopt}
 use Rattle.uf_reply.specs.declared.types.Refusal.{Refusal}
 use Rattle.uf_reply.specs.declared.types.Refusal.TheVariants as refusal
 use Rattle.uf_reply.specs.Kinds.{is_of, read_kind, refusal_fault, write_kind}
@@ -116,6 +116,7 @@ IsReason (WriteInput how path) why told = IsReasonInTree why told
 IsReason (At ask path) why told = IsReasonInTree why told
 IsReason (Read offset count path) why told = IsReasonInTree why told
 IsReason (Cat path) why told = ⊥
+IsReason (Get path host_path) why told = ⊥
 IsReason (Export cid) why told = ⊥
 IsReason Import why told = ⊥
 IsReason (Same cid) why told = ⊥

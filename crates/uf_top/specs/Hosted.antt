@@ -19,12 +19,10 @@ use Rattle.uf_reply.specs.declared.types.Refusal.TheVariants as refusal
 use Rattle.uf_top.specs.Causes.{AddsBy}
 use Rattle.uf_top.specs.HostTexts.{host_refusal, host_text}
 
--- the faults that adding what a host has at a path may have
-abbrev pub IsAddFault : HostFault → Type 0
-IsAddFault fault.Exists = ⊥
-IsAddFault fault.Write = ⊥
-IsAddFault (fault.Dag why) = ⊥
-IsAddFault why = ⊤
+-- the fault is none of a reading of a DAG
+abbrev pub IsNoReading : HostFault → Type 0
+IsNoReading (fault.Dag why) = ⊥
+IsNoReading why = ⊤
 
 -- the refusal by a fault of which this holds
 abbrev pub IsHostRule : List ℕ → (HostFault → Type 0) → Refusal → Type 0

@@ -20,7 +20,7 @@ use Rattle.uf_reply.specs.declared.status.Status.{Status}
 use Rattle.uf_reply.specs.declared.types.Ask.{Ask}
 use Rattle.uf_reply.specs.declared.types.Ask.TheVariants.{Ls, Stat, Edit as Edits}
 use Rattle.uf_reply.specs.declared.types.Command.{Command}
-use Rattle.uf_reply.specs.declared.types.Command.TheVariants.{Init, Add, AddFrom, WriteInput, At, Read, Cat, Export, Import, Same, Adopt}
+use Rattle.uf_reply.specs.declared.types.Command.TheVariants.{Init, Add, AddFrom, WriteInput, At, Read, Cat, Get, Export, Import, Same, Adopt}
 use Rattle.uf_reply.specs.declared.types.Refusal.{Refusal}
 use Rattle.uf_reply.specs.declared.types.Refusal.TheVariants as refusal
 use Rattle.uf_top.specs.Endings.{EndsBy, PrintsAll}
@@ -49,6 +49,7 @@ module _ (X : List ℕ → List ℕ) (N : List ℕ → ℕ) where
   command_needs rows (Read offset count path) p es =
       root_of X N p (Dir es) ++ part_needs rows offset count path.names p es
   command_needs rows (Cat path) p es = []
+  command_needs rows (Get path host_path) p es = []
   command_needs rows (Export cid) p es = []
   command_needs rows Import p es = []
   command_needs rows (Same cid) p es = []

@@ -30,16 +30,18 @@ use Rattle.uf_reply.specs.declared.types.Command.TheVariants.{At}
 use Rattle.uf_reply.specs.declared.types.Edit.{Edit}
 use Rattle.uf_reply.specs.declared.types.Refusal.{Refusal}
 use Rattle.uf_reply.specs.Commands.{HasInput, ask_writes, command_writes, has_nothing_to_do, is_idle}
-use Rattle.uf_reply.specs.Commands.{reads_tree_alone, streams as flows, uses_host}
+use Rattle.uf_reply.specs.Commands.{reads_tree_alone, streams as flows, uses_host, writes_host}
 use Rattle.uf_reply.specs.Kinds.{IsOf, family_of, may_answer, may_end, opened_kinds, refusal_fault}
 use Rattle.uf_top.specs.Reply.{Outside, World, edited_by, in_world, outside_of, reply, tree_reply}
 use Rattle.uf_reply.specs.Statuses.{ended, no_memory, status_of}
 use Rattle.uf_reply.specs.declared.status.Status.TheVariants as status
 use Rattle.uf_top.specs.Answering.{Answers, DoesAnswer}
-use Rattle.uf_top.specs.Around.{Around, CountsCanRise, HasOutside, RisesFor, StaysQuiet, UsesHost, is_input_read}
+use Rattle.uf_top.specs.Around.{Around, CountsCanRise, HasOutside, RisesFor, StaysQuiet, TakesHost, UsesHost, is_input_read}
+use Rattle.uf_top.specs.Around.{is_output_write}
 use Rattle.uf_top.specs.Bounds.{ask_touches, command_touches, touches_of_edit}
 use Rattle.uf_top.specs.Causes.{HeadStays, IsBadIn, IsReady, is_read, is_write}
 use Rattle.uf_top.specs.Endings.{AddsFor, FindsAll, IsTextOf, PrintsAt, PrintsPart, RuleOf}
+use Rattle.uf_top.specs.Getting.{GetsFor}
 use Rattle.uf_top.specs.Hosted.{IsHostedText}
 use Rattle.uf_top.specs.Losing.{AnswersOver, DoesOver, ask_needs, command_needs}
 use Rattle.uf_top.specs.Naming.{FindsOver, FindsWorld, StaysNamed, TellsBlocks}
@@ -125,12 +127,12 @@ module _ (X : List ℕ → List ℕ) (N : List ℕ → ℕ) where
   -- what it leaves
   pub record Does (command : Command) (done : Result (Unit {0}) Refusal) (before now : Around) : Type 0 where
     pub answers : (w : World) → FindsWorld X N (Ok command) before.store.told w
-        → HasOutside (Ok command) (outside_of w) before now → StaysQuiet before now
-        → DoesAnswer X N command w done before.held now.held now.store.told
+        → HasOutside (Ok command) (outside_of w) before now → StaysQuiet (Ok command) before now
+        → DoesAnswer X N command w done before.held now.held now.store.told now.host.told
     pub lost : (p : Profile) (es : Entries) (rows : ℕ → ℕ) (held : Lookup) (outside : Outside)
         → StaysNamed X N before.store.told now.store.told p es → TellsBlocks before.store.told held
         → AreHeights p rows
-        → HasOutside (Ok command) outside before now → StaysQuiet before now
+        → HasOutside (Ok command) outside before now → StaysQuiet (Ok command) before now
         → DoesOver X N before.store.told now.store.told p es (command_needs X N rows command p es)
         (reply X N command (in_world p es held outside)) done before.held now.held
     pub prefix : (w : World) → FindsOver X N before.store.told now.store.told (Ok command) w
@@ -143,8 +145,9 @@ module _ (X : List ℕ → List ℕ) (N : List ℕ → ℕ) where
     pub rule : IfErr done (λ why. status_of why ≡ status.Rule → RuleOf (Ok command) why before.store.told before.left
         now.left)
     pub reads : Counts (is_input_read command done) before.reads now.reads
-    pub host : UsesHost (uses_host command) (is_read done) before.host now.host
-    pub writes : RisesFor (is_write done) before.writes now.writes
+    pub host : TakesHost (writes_host command) (uses_host command) (is_read done) (is_write done) before.host now.host
+    pub gets : GetsFor (Ok command) (ended done) before.store.told before.host.told now.host.told
+    pub writes : RisesFor (is_output_write command done) before.writes now.writes
     pub cause : Shown X (IsBadIn X N before.store.told now.store.told) (refusal_fault done) before.store now.store
     pub whole : (standing : Standing) → reads_tree_alone command ≡ true → TellsAs X N before.store.told standing
         → Calm before.store now.store → FindsAll (ended done)

@@ -20,10 +20,11 @@ ghost use Rattle.uf_top.specs.Causes.{IsBadIn, IsSent};
 ghost use Rattle.uf_reply.specs.Commands.{HasHost, HasInput, IsAccepted, command_in, compares, is_idle, of_command};
 ghost use Rattle.uf_reply.specs.Commands.{only_hashes, only_reads, reads_input, reads_tree_alone, streams as flows};
 ghost use Rattle.uf_reply.specs.Commands.{uses_host, writes_host};
-ghost use Rattle.uf_top.specs.Around.{CountsCanRise, RoseAt, around, host_side};
+ghost use Rattle.uf_top.specs.Around.{AllWritten, CountsCanRise, RoseAt, around, host_side};
 ghost use Rattle.uf_top.specs.Endings.{EndsAs, FindsAll, FindsBy, IsNotReady, IsRefusedBy, IsRule, IsSyncedFor};
 ghost use Rattle.uf_top.specs.Endings.{IsTextOf, Prints, PrintsAt, PrintsPart, SaysPlain, TellsEnd, TellsWhy};
 ghost use Rattle.uf_top.specs.Endings.{has_details};
+ghost use Rattle.uf_top.specs.Getting.{GetsFor};
 ghost use Rattle.uf_top.specs.Losing.{EndsOver, words_need};
 ghost use Rattle.uf_top.specs.Naming.{FindsOver, FindsWorld, StaysNamed, TellsBlocks};
 ghost use Rattle.uf_top.specs.Shapes.{WritesFor, is_done};
@@ -38,6 +39,7 @@ ghost use Rattle.uf_reply.specs.declared.types.Refusal.TheVariants as refusals;
 use crate::adding::adds;
 use crate::cars::{compare_car, export_car, import_car};
 use crate::foreign::cat;
+use crate::getting::get;
 use crate::grafting::graft;
 use crate::hosted::add_from;
 use crate::sending::send_part;
@@ -56,8 +58,8 @@ use uf_store::{Steps, Store};
 /// `init` makes a store ready; `files mkdir`, `files ls`, `files stat`, `files read`, `files write`, `files truncate`,
 /// `files cp`, `files mv` and `files rm` work on the tree that its Head names; `add` prints the CID of its input as a file (UnixFS
 /// v1; Kubo's balanced layout with raw leaves), or those of a file of the host or of a folder and everything in it, and,
-/// without `-n`, keeps their blocks. Refused are first words that
-/// are none, then texts that are no paths, then a Head that doesn't do, then an input that is too long, and then what
+/// without `-n`, keeps their blocks; `cat` prints a file of a DAG, and `get` writes what is in one to the host. Refused are
+/// first words that are none, then texts that are no paths, then a Head that doesn't do, then an input that is too long, and then what
 /// the rules of the command refuse. The status says how the command ended; after a refusal its line goes to `errors`,
 /// and a failed write of that line changes no status.
 pub fn run<S: Store, N: NameHash, W: Host, I: Source, O: Sink, E: Sink, L: Ledger>(
@@ -70,16 +72,18 @@ pub fn run<S: Store, N: NameHash, W: Host, I: Source, O: Sink, E: Sink, L: Ledge
     errors: &mut E,
     touches: &mut Steps<L>,
 ) -> Status
-    // Over a store that stands as the command needs it and, where the command reads it, an input that tells, with no count
-    // risen and no clash met, the answer is the reply, or want of memory. Over a store that stands for a tree no block of a
-    // command on it alone is missing or bad, whatever the input and the output do.
+    // Over a store that stands as the command needs it and, where the command uses it, an input or a host that tells, with no
+    // count risen and no clash met, the answer is the reply, or want of memory. Over a store that stands for a tree no block of
+    // a command on it alone is missing or bad, whatever the input and the output do.
     ensures replies { (w : World) → FindsWorld S.X.block32 N.name64 (command_in (map string_bytes words.now))
         (S.seen store.old).told w
         → HasInput (command_in (map string_bytes words.now)) (I.left input.old) w.input (I.faults input.old)
         (I.faults input.new)
         → HasHost (command_in (map string_bytes words.now)) (W.tree host.old) w.host (W.read_faults host.old)
         (W.read_faults host.new)
-        → Calm (S.seen store.old) (S.seen store.new) → Stood (O.faults output.old) (O.faults output.new)
+        → Calm (S.seen store.old) (S.seen store.new)
+        → AllWritten (command_in (map string_bytes words.now)) (O.faults output.old) (O.faults output.new)
+        (W.write_faults host.old) (W.write_faults host.new)
         → EndsAs (λ line. IsSent line (E.holds errors.old) (E.holds errors.new) (E.faults errors.old)
         (E.faults errors.new))
         S.X.block32 N.name64 (command_in (map string_bytes words.now)) w result (O.holds output.old)
@@ -100,7 +104,9 @@ pub fn run<S: Store, N: NameHash, W: Host, I: Source, O: Sink, E: Sink, L: Ledge
         (I.faults input.new)
         → HasHost (command_in (map string_bytes words.now)) (W.tree host.old) outside.host (W.read_faults host.old)
         (W.read_faults host.new)
-        → Calm (S.seen store.old) (S.seen store.new) → Stood (O.faults output.old) (O.faults output.new)
+        → Calm (S.seen store.old) (S.seen store.new)
+        → AllWritten (command_in (map string_bytes words.now)) (O.faults output.old) (O.faults output.new)
+        (W.write_faults host.old) (W.write_faults host.new)
         → EndsOver S.X.block32 N.name64 (S.seen store.old).told (S.seen store.new).told p es
         (words_need S.X.block32 N.name64 rows (command_in (map string_bytes words.now)) p es)
         (λ line. IsSent line (E.holds errors.old) (E.holds errors.new) (E.faults errors.old) (E.faults errors.new))
@@ -209,6 +215,10 @@ pub fn run<S: Store, N: NameHash, W: Host, I: Source, O: Sink, E: Sink, L: Ledge
     ensures input { of_command reads_input false (command_in (map string_bytes words.now)) ≡ false
         → input.new ≡ input.old }
 
+    // What `get` leaves on the host, also where it is refused or stopped.
+    ensures gets { GetsFor (command_in (map string_bytes words.now)) result (S.seen store.old).told (W.tree host.old)
+        (W.tree host.new) }
+
     // The commands that work on a tree keep within their touches, also where they are refused, and `add -n` makes none;
     // no block is called bad before one was touched.
     ensures touches { (p : TheProfile) (es : Entries) (bytes : List ℕ) (rows : ℕ → ℕ)
@@ -289,6 +299,7 @@ fn work<S: Store, N: NameHash, W: Host, I: Source, O: Sink, L: Ledger>(
         } => send_part::<S, N, O, L>(alloc, *offset, *count, path, store, output, touches),
         Command::Adopt { source, dest } => { graft::<S, N, L>(alloc, source, dest, store, touches) }
         Command::Cat { path } => cat(alloc, path, store, output, touches),
+        Command::Get { path, host_path } => { get(alloc, path, host_path, store, host, touches) }
         Command::Export { cid } => export_car(alloc, cid, store, output, touches),
         Command::Import => import_car(alloc, store, input, output, touches),
         Command::Same { cid } => compare_car(alloc, cid, store, input, output, touches),
@@ -334,6 +345,7 @@ fn text_of<S: Store, N: NameHash, W: Host, I: Source, L: Ledger>(
         Command::At { ask, path } => at::<S, N, L>(alloc, ask, path, store, touches),
         Command::Read { .. }
         | Command::Cat { .. }
+        | Command::Get { .. }
         | Command::Export { .. }
         | Command::Import
         | Command::Same { .. }

@@ -15,10 +15,10 @@ use uf_store::{MemStore, Steps};
 
 // What is in a host: for each the folder that it is in (none is the working folder), its name, and the bytes of a file
 // or none of a folder.
-type Node = (&'static str, &'static str, Option<&'static [u8]>);
+pub type Node = (&'static str, &'static str, Option<&'static [u8]>);
 
 // A command, its status, what it prints, and its error line.
-type Line = (&'static str, u8, &'static [u8], &'static [u8]);
+pub type Line = (&'static str, u8, &'static [u8], &'static [u8]);
 
 const NODES: [Node; 9] = [
     ("", "d", None),
@@ -33,7 +33,7 @@ const NODES: [Node; 9] = [
 ];
 
 // A folder of three files.
-const THREE: [Node; 4] = [
+pub const THREE: [Node; 4] = [
     ("", "d", None),
     ("d", "b", Some(b"")),
     ("d", "a", Some(b"hello world")),
@@ -206,7 +206,7 @@ fn put_in(
 }
 
 // A host that has these, and fails at this call, counted from its first.
-fn host_of(alloc: Global, nodes: &[Node], fails: Option<u64>) -> Result<MemHost, Memory> {
+pub fn host_of(alloc: Global, nodes: &[Node], fails: Option<u64>) -> Result<MemHost, Memory> {
     let mut host = MemHost::new(alloc, calls(alloc, fails)?);
     for node in nodes {
         let (folder, name, content) = *node;
@@ -223,7 +223,7 @@ fn host_of(alloc: Global, nodes: &[Node], fails: Option<u64>) -> Result<MemHost,
 }
 
 // Whether a command over a host ends so.
-fn ends<W: Host, L: Ledger>(
+pub fn ends<W: Host, L: Ledger>(
     alloc: Global,
     line: &Line,
     room: usize,

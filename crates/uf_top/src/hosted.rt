@@ -8,7 +8,7 @@ ghost use Rattle.uf_store.specs.Keeping.{KeepsGood};
 ghost use Rattle.uf_store.specs.Writing.{SavesOnly};
 ghost use Rattle.uf_top.specs.Around.{OnlyReadsHost, around, host_side};
 ghost use Rattle.uf_top.specs.Causes.{OnlyWants, is_read};
-ghost use Rattle.uf_top.specs.Hosted.{IsAddFault, MakesHostText};
+ghost use Rattle.uf_top.specs.Hosted.{IsNoReading, MakesHostText};
 ghost use Rattle.uf_top.specs.HostTexts.{host_refusal, host_row};
 ghost use Rattle.uf_top.specs.Intake.{ShownIn};
 ghost use Rattle.uf_top.specs.Shapes.{WritesAs, is_ok};
@@ -167,13 +167,14 @@ fn row_lines(alloc: Global, rows: &AddedRows) -> Result<Block, Memory>
     Ok(out)
 }
 
-// A fault of adding what the host has at a path, as a refusal.
-fn refused(path: Text, fault: HostFault) -> Refusal
-    requires { IsAddFault fault }
+// A fault at a path of the host, as a refusal.
+pub fn refused(path: Text, fault: HostFault) -> Refusal
+    requires { IsNoReading fault }
     ensures { result ≡ host_refusal path fault }
 {
     match fault {
         HostFault::Absent => Refusal::Host(HostRule::Absent(path)),
+        HostFault::Exists => Refusal::Host(HostRule::Exists(path)),
         HostFault::NeedsRecursive => Refusal::Rule(Rule::NeedsRecursive(path)),
         HostFault::Other(there) => Refusal::Host(HostRule::Other(there)),
         HostFault::Name(_) => Refusal::Host(HostRule::Name(path)),
@@ -182,8 +183,9 @@ fn refused(path: Text, fault: HostFault) -> Refusal
         HostFault::Collision(first, second) => Refusal::Rule(Rule::Collision(first, second)),
         HostFault::TooBig => Refusal::Rule(Rule::TooBig),
         HostFault::Read => Refusal::Read,
+        HostFault::Write => Refusal::Write,
         HostFault::Store(fault) => Refusal::Store(fault),
-        HostFault::Exists | HostFault::Write | HostFault::Dag(_) => unreachable!(),
+        HostFault::Dag(_) => unreachable!(),
     }
 }
 

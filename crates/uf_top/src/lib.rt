@@ -5,6 +5,7 @@ mod adding;
 mod cars;
 mod command;
 mod foreign;
+mod getting;
 mod grafting;
 mod hosted;
 mod intake;
@@ -26,6 +27,8 @@ mod dag_tests;
 mod fault_tests;
 #[cfg(test)]
 mod file_tests;
+#[cfg(test)]
+mod get_tests;
 #[cfg(test)]
 mod host_tests;
 #[cfg(test)]

@@ -489,7 +489,7 @@ fn cid<X: BlockHash>(bytes: &[u8]) -> Cid {
 }
 
 // Holds these bytes under the CID of a node.
-fn plants<X: BlockHash>(
+pub fn plants<X: BlockHash>(
     alloc: Global,
     store: &mut MemStore<X>,
     node: &[u8],

@@ -8,7 +8,7 @@ use Rattle.uf_top.specs.Causes.{IsSent}
 use Rattle.uf_top.specs.Working.{Serves}
 use Rattle.uf_top.proofs.Losses.{lost-told, touches-told}
 use Rattle.uf_top.proofs.Standings.{stands-one}
-use Rattle.uf_top.proofs.Telling.{StatusShows, blamed-told, clashes-told, faults-told, good-told, head-told, host-told, idle-told, is-refused, looks-told, prefix-told, prints-told, read-told, replies-told, says-plain, shows, synced-told, told-same, whole-told, write-told, writes-told}
+use Rattle.uf_top.proofs.Telling.{StatusShows, blamed-told, clashes-told, faults-told, gets-told, good-told, head-told, host-told, idle-told, is-refused, looks-told, prefix-told, prints-told, read-told, replies-told, says-plain, shows, synced-told, told-same, whole-told, write-told, writes-told}
 use Rattle.uf_top.proofs.command.run.Goals as goal
 
 pub returns-clause-replies : goal.returns-clause-replies
@@ -245,4 +245,11 @@ returns-clause-host_told g c = λ is.
     host-told (λ line. IsSent line (g.E.Sink.holds c.args.errors.now) (g.E.Sink.holds c.tell_end.new.errors) (g.E.Sink.faults c.args.errors.now) (g.E.Sink.faults c.tell_end.new.errors)) c.tell_end.result g.S.X.BlockHash.block32 g.N.NameHash.name64
     (around (g.S.Store.seen c.args.store.now) (g.I.Source.left c.args.input.now) (g.I.Source.faults c.args.input.now) (g.O.Sink.holds c.args.output.now) (g.O.Sink.faults c.args.output.now) c.args.touches.now (host_side (g.W.Host.tree c.args.host.now) (g.W.Host.read_faults c.args.host.now) (g.W.Host.write_faults c.args.host.now)))
     (around (g.S.Store.seen c.serve-done.new.store) (g.I.Source.left c.serve-done.new.input) (g.I.Source.faults c.serve-done.new.input) (g.O.Sink.holds c.serve-done.new.output) (g.O.Sink.faults c.serve-done.new.output) c.serve-done.new.touches (host_side (g.W.Host.tree c.serve-done.new.host) (g.W.Host.read_faults c.serve-done.new.host) (g.W.Host.write_faults c.serve-done.new.host)))
-    (command_in (map string_bytes c.args.words.now)) c.serve-done.result c.serve-done.ensures.serves
+    (command_in (map string_bytes c.args.words.now)) c.serve-done.result c.serve-done.ensures.serves is
+
+pub returns-clause-gets : goal.returns-clause-gets
+returns-clause-gets g c =
+    gets-told (λ line. IsSent line (g.E.Sink.holds c.args.errors.now) (g.E.Sink.holds c.tell_end.new.errors) (g.E.Sink.faults c.args.errors.now) (g.E.Sink.faults c.tell_end.new.errors)) c.tell_end.result g.S.X.BlockHash.block32 g.N.NameHash.name64
+    (around (g.S.Store.seen c.args.store.now) (g.I.Source.left c.args.input.now) (g.I.Source.faults c.args.input.now) (g.O.Sink.holds c.args.output.now) (g.O.Sink.faults c.args.output.now) c.args.touches.now (host_side (g.W.Host.tree c.args.host.now) (g.W.Host.read_faults c.args.host.now) (g.W.Host.write_faults c.args.host.now)))
+    (around (g.S.Store.seen c.serve-done.new.store) (g.I.Source.left c.serve-done.new.input) (g.I.Source.faults c.serve-done.new.input) (g.O.Sink.holds c.serve-done.new.output) (g.O.Sink.faults c.serve-done.new.output) c.serve-done.new.touches (host_side (g.W.Host.tree c.serve-done.new.host) (g.W.Host.read_faults c.serve-done.new.host) (g.W.Host.write_faults c.serve-done.new.host)))
+    (command_in (map string_bytes c.args.words.now)) c.serve-done.result c.serve-done.ensures.serves c.tell_end.ensures

@@ -1,7 +1,7 @@
 use Rattle.std.proofs.Common.{◌≡◌, ◌∙◌, false, true, ap, refl, sym, subst, Err}
 use Rattle.std.specs.Prelude.{IfErr}
-use Rattle.uf_reply.specs.Commands.{compares, only_hashes, reads_input}
-use Rattle.uf_reply.specs.declared.types.Command.TheVariants.{Adopt, Cat, Export, Import, Read, Same}
+use Rattle.uf_reply.specs.Commands.{compares, only_hashes, reads_input, uses_host}
+use Rattle.uf_reply.specs.declared.types.Command.TheVariants.{Adopt, Cat, Export, Get, Import, Read, Same}
 use Rattle.uf_top.specs.Around.{around, host_side}
 use Rattle.uf_top.specs.Cars.{BySections}
 use Rattle.uf_top.specs.Working.{Does}
@@ -28,7 +28,7 @@ returns-in-Read-clause-sections g c =
 pub returns-in-Err : goal.returns-in-Err
 returns-in-Err g c =
     let h = g.O.Sink.holds c.args.output.now in let w = g.O.Sink.faults c.args.output.now in
-    let is = standing-of c.args.command.now c.in_default.not-Read c.in_default.not-Cat c.in_default.not-Export c.in_default.not-Import c.in_default.not-Same c.in_default.not-Adopt in
+    let is = standing-of c.args.command.now c.in_default.not-Read c.in_default.not-Cat c.in_default.not-Get c.in_default.not-Export c.in_default.not-Import c.in_default.not-Same c.in_default.not-Adopt in
     let does = refused-does g.S.X.BlockHash.block32 g.N.NameHash.name64 c.args.command.now is.alone
     (g.S.Store.seen c.args.store.now) (g.S.Store.seen c.text_of.new.store) (g.I.Source.left c.args.input.now) (g.I.Source.left c.text_of.new.input) (g.I.Source.faults c.args.input.now) (g.I.Source.faults c.text_of.new.input)
     c.args.touches.now c.text_of.new.touches h w
@@ -45,7 +45,7 @@ returns-in-Err g c =
 pub returns-in-Ok : goal.returns-in-Ok
 returns-in-Ok g c =
     let h = g.O.Sink.holds c.args.output.now in let w = g.O.Sink.faults c.args.output.now in
-    let is = standing-of c.args.command.now c.in_default.not-Read c.in_default.not-Cat c.in_default.not-Export c.in_default.not-Import c.in_default.not-Same c.in_default.not-Adopt in
+    let is = standing-of c.args.command.now c.in_default.not-Read c.in_default.not-Cat c.in_default.not-Get c.in_default.not-Export c.in_default.not-Import c.in_default.not-Same c.in_default.not-Adopt in
     let does = prints-does g.S.X.BlockHash.block32 g.N.NameHash.name64 c.args.command.now is.alone
     (g.S.Store.seen c.args.store.now) (g.S.Store.seen c.text_of.new.store) (g.I.Source.left c.args.input.now) (g.I.Source.left c.text_of.new.input) (g.I.Source.faults c.args.input.now) (g.I.Source.faults c.text_of.new.input)
     c.args.touches.now c.text_of.new.touches h w
@@ -73,6 +73,22 @@ returns-in-Cat g c =
       input = λ e. refl;
       host = λ e. refl;
       untouched = λ e. absurd (let k : only_hashes (Cat c.in-Cat.path) ≡ true = ap only_hashes (sym c.in-Cat.is) ∙ e in cc);
+    }
+
+pub returns-in-Get : goal.returns-in-Get
+returns-in-Get g c =
+    let l = g.I.Source.left c.args.input.now in let i = g.I.Source.faults c.args.input.now in
+    let h = g.O.Sink.holds c.args.output.now in let w = g.O.Sink.faults c.args.output.now in
+    record {
+      does = subst (λ command. Does g.S.X.BlockHash.block32 g.N.NameHash.name64 command c.get.result
+          (around (g.S.Store.seen c.args.store.now) l i h w c.args.touches.now (host_side (g.W.Host.tree c.args.host.now) (g.W.Host.read_faults c.args.host.now) (g.W.Host.write_faults c.args.host.now)))
+          (around (g.S.Store.seen c.get.new.store) l i h w c.get.new.touches (host_side (g.W.Host.tree c.get.new.host) (g.W.Host.read_faults c.get.new.host) (g.W.Host.write_faults c.get.new.host))))
+          (sym c.in-Get.is) (c.get.ensures g.N.NameHash.name64 l i h w);
+      sections = subst (λ command. IfErr c.get.result (BySections g.S.X.BlockHash.block32 (compares command) l (g.S.Store.seen c.args.store.now) (g.S.Store.seen c.get.new.store))) (sym c.in-Get.is)
+          (spares-sections g.S.X.BlockHash.block32 l (g.S.Store.seen c.args.store.now) (g.S.Store.seen c.get.new.store) (Get c.in-Get.path c.in-Get.host_path) c.get.result refl (c.get.ensures g.N.NameHash.name64 l i h w).kinds);
+      input = λ e. refl;
+      host = λ e. absurd (let k : uses_host (Get c.in-Get.path c.in-Get.host_path) ≡ false = ap uses_host (sym c.in-Get.is) ∙ e in cc);
+      untouched = λ e. absurd (let k : only_hashes (Get c.in-Get.path c.in-Get.host_path) ≡ true = ap only_hashes (sym c.in-Get.is) ∙ e in cc);
     }
 
 pub returns-in-Export : goal.returns-in-Export

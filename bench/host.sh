@@ -1,0 +1,106 @@
+#!/usr/bin/env bash
+# Measures files and folders of the host: a folder is added and gotten again, each row three times in turn on one core, and
+# the medians are printed.
+# - small: a folder of SMALL files of 100 bytes (10000 if unset)
+# - large: a folder of four files of MIB MiB together (1024 if unset)
+# - `unixfs add -r` against `git add` that makes each object stable, `cp -r` with `sync`, and, where they are installed,
+#   `ostree commit` and `restic backup`; `unixfs get` against `git checkout`, `cp -r`, `ostree checkout` and `restic restore`
+# CORE says which core (the last one if unset), FOLDER on which disk (that of the temporary files if unset).
+set -eu
+top=$(cd "$(dirname "$0")/.." && pwd)
+small=${SMALL:-10000}
+mib=${MIB:-1024}
+core=${CORE:-$(($(nproc) - 1))}
+"$top/unixfs" add -n < /dev/null > /dev/null
+export UNIXFS=$top/crates/uf_tool/out/uf_tool RESTIC_PASSWORD=none
+folder=$(mktemp -d -p "${FOLDER:-${TMPDIR:-/tmp}}")
+trap 'rm -rf "$folder"' EXIT
+cd "$folder"
+mkdir small large
+python3 - "$small" "$mib" <<'PYTHON'
+import os, sys
+for n in range(int(sys.argv[1])):
+    with open(f"small/{n:05}", "wb") as file:
+        file.write(os.urandom(100))
+for n in range(4):
+    with open(f"large/{n}", "wb") as file:
+        for _ in range(int(sys.argv[2]) * 4):
+            file.write(os.urandom(65536))
+PYTHON
+sync -f .
+
+# A store or a repository in a folder of its own.
+ready() {
+    rm -rf work
+    mkdir work
+    case $1 in
+    unixfs) (cd work && "$UNIXFS" init) ;;
+    git)
+        git -C work init -q
+        git -C work config core.compression 0
+        git -C work config core.fsync loose-object
+        git -C work config user.name bench
+        git -C work config user.email bench@localhost
+        cp -r "$2" work/files
+        ;;
+    ostree) ostree --repo=work/repo init --mode=archive ;;
+    restic) restic -q -r work/repo init ;;
+    esac
+    sync -f .
+}
+
+# Prints the name of a row, its seconds, its user seconds and its system seconds.
+measure() {
+    sync -f .
+    (cd work && taskset -c "$core" python3 - "$1" "$2" <<'PYTHON') | tee -a lines
+import resource, subprocess, sys, time
+start = time.monotonic()
+subprocess.run(["sh", "-c", sys.argv[2]], stdout=subprocess.DEVNULL, stderr=subprocess.DEVNULL, check=True)
+used = resource.getrusage(resource.RUSAGE_CHILDREN)
+print(sys.argv[1], f"{time.monotonic() - start:.4f} {used.ru_utime:.4f} {used.ru_stime:.4f}")
+PYTHON
+}
+
+# Adds one of the two folders and gets it again.
+go_round() {
+    ready unixfs
+    measure "$1-add:unixfs" "\"\$UNIXFS\" add -r ../$1 > ../rows"
+    cid=$(tail -n 1 rows | cut -d ' ' -f 2)
+    measure "$1-get:unixfs" "\"\$UNIXFS\" get $cid copy && sync -f ."
+    ready git "$1"
+    measure "$1-add:git" 'git add files'
+    git -C work commit -q -m files
+    rm -rf work/files
+    measure "$1-get:git" 'git checkout -q -- files && sync -f .'
+    ready cp
+    measure "$1-add:cp" "cp -r ../$1 copy && sync -f ."
+    measure "$1-get:cp" 'cp -r copy again && sync -f .'
+    if command -v ostree > /dev/null; then
+        ready ostree
+        measure "$1-add:ostree" "ostree --repo=repo commit -b files ../$1"
+        measure "$1-get:ostree" 'ostree --repo=repo checkout -U files copy && sync -f .'
+    fi
+    if command -v restic > /dev/null; then
+        ready restic
+        measure "$1-add:restic" "restic -q -r repo backup ../$1"
+        measure "$1-get:restic" 'restic -q -r repo restore latest --target copy && sync -f .'
+    fi
+}
+
+for name in ostree restic; do
+    command -v "$name" > /dev/null || echo "$name: not installed, skipped"
+done
+for turn in 1 2 3; do
+    go_round small
+    go_round large
+done
+python3 - "$small" "$mib" <<'PYTHON'
+import statistics, sys
+rows = {}
+for line in open("lines", encoding="ascii"):
+    name, *numbers = line.split()
+    rows.setdefault(name, []).append([float(number) for number in numbers])
+print(f"medians of three: seconds, user seconds, system seconds (small: {sys.argv[1]} files of 100 bytes; large: {sys.argv[2]} MiB in four files)")
+for name, runs in rows.items():
+    print(name, *(f"{statistics.median(column):.3f}" for column in zip(*runs)))
+PYTHON
