@@ -3,3 +3,4 @@ pub mod Places
 pub mod Steps
 pub mod Names
 pub mod Left
+pub mod Counted

@@ -69,7 +69,7 @@ counting a (suc n) =
     ap (λ l. a ∷ l) (counting (a + 1) n)
     ∙ ap (λ k. a ∷ (range_with_len (a + 1) n ++ k ∷ [])) {x = (a + 1) + n} {y = a + suc n} (omega arith)
 
-rows-more : (f : ℕ → List Row) (a n : ℕ) → rows f a (suc n) ≡ rows f a n ++ f (a + n)
+pub rows-more : (f : ℕ → List Row) (a n : ℕ) → rows f a (suc n) ≡ rows f a n ++ f (a + n)
 rows-more f a n =
     ap (flat_map f) (counting a n)
     ∙ flat_map-append f (range_with_len a n) ((a + n) ∷ [])

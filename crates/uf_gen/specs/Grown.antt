@@ -1,8 +1,8 @@
 -- The generated tree: as its commands make it, and as it is at once.
-use Rattle.std.specs.Prelude.{ℕ, zero, suc, ◌%◌, ◌==◌, List, [], ◌∷◌, if◌then◌else◌, true, false}
+use Rattle.std.specs.Prelude.{ℕ, zero, suc, ◌%◌, ◌==◌, List, [], ◌∷◌, length, if◌then◌else◌, true, false}
 use Rattle.std.specs.declared.result.Result.{Result}
 use Rattle.std.specs.declared.result.Result.TheVariants.{Ok}
-use Rattle.std.specs.List.{flat_map, range_with_len}
+use Rattle.std.specs.List.{flat_map, range_with_len, sum_by}
 use Rattle.uf_plain.specs.declared.file.WriteHow.{WriteHow}
 use Rattle.uf_plain.specs.declared.rule.Rule.{Rule}
 use Rattle.uf_plain.specs.Edits.{removed}
@@ -10,7 +10,7 @@ use Rattle.uf_plain.specs.Files.{written}
 use Rattle.uf_plain.specs.Moves.{then_go, told_of}
 use Rattle.uf_plain.specs.Rules.{allowed}
 use Rattle.uf_tree.specs.declared.profile.Profile.{Profile}
-use Rattle.uf_tree.specs.Tree.{Tree, File, Entries, Nothing}
+use Rattle.uf_tree.specs.Tree.{Tree, File, Dir, Entries, Nothing}
 use Rattle.uf_gen.specs.Rules.{file_name, first_bytes, last_bytes, late_offset, late_piece}
 
 -- a write that makes the file
@@ -36,6 +36,15 @@ left_file seed i = if i % 3 == 0 then [] else ((file_name i, File (last_bytes se
 -- the files that are left of the first n
 abbrev pub left_files : (seed n : ℕ) → List (List ℕ × Tree)
 left_files seed n = flat_map (left_file seed) (range_with_len 0 n)
+
+-- how many bytes a file has
+abbrev pub file_size : Tree → ℕ
+file_size (File bytes) = length bytes
+file_size (Dir es) = 0
+
+-- how many bytes the files have that are left of the first n
+abbrev pub left_size : (seed n : ℕ) → ℕ
+left_size seed n = sum_by (λ (row : List ℕ × Tree). file_size row.1) (left_files seed n)
 
 module _ (X : List ℕ → List ℕ) (N : List ℕ → ℕ) (p : Profile) (seed : ℕ) where
   -- a file is written into a tree, unless a rule refuses it

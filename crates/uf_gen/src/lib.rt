@@ -4,10 +4,12 @@
 mod fresh;
 mod laws;
 mod rules;
+mod sums;
 
 pub use fresh::fresh_root;
 pub use laws::a_grown_tree_is_its_files;
 pub use rules::{file_name, first_bytes, late_offset, late_piece};
+pub use sums::{left_count, left_size};
 
 #[cfg(test)]
 mod tests;

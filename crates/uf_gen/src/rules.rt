@@ -61,12 +61,20 @@ fn digit(i: u64) -> u8
     48 + (i % 10) as u8
 }
 
+/// How many bytes a file has as it is made.
+pub fn first_length(seed: u64, i: u64) -> u64
+    ensures is { result ≡ mixed seed i % 4096 }
+    ensures few { result < 4096 }
+{
+    mixed_number(seed, i) % 4096
+}
+
 /// The bytes with which a file is made.
 pub fn first_bytes(alloc: Global, seed: u64, i: u64) -> Result<Block, Memory>
     ensures { IfOk result (λ bytes. bytes ≡ bytes_first seed i) }
 {
     let from = mixed_number(seed, i);
-    let count = from % 4096;
+    let count = first_length(seed, i);
     let mut bytes = Block::with_capacity(alloc, count as usize)?;
     for j in 0..count {
         bytes.extend(&[((from + j) % 256) as u8])?;

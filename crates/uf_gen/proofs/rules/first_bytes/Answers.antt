@@ -1,6 +1,6 @@
 use Rattle.std.proofs.Common.{◌+◌, ◌%◌, ◌++◌, ◌∷◌, [], sym, ap, ◌∙◌, arith}
 use Rattle.std.proofs.lemmas.List.FromFn.{map-range_with_len_more}
-use Rattle.uf_gen.specs.Rules.{rising_bytes}
+use Rattle.uf_gen.specs.Rules.{mixed, rising_bytes}
 use Rattle.uf_gen.proofs.rules.first_bytes.Goals as goal
 
 pub loop-j-preserved : goal.loop-j-preserved
@@ -14,5 +14,6 @@ pub returns : goal.returns
 returns c =
     let from = c.mixed_number-from.result in
     c.loop-j.invariant
-    ∙ ap (rising_bytes from) {x = c.loop-j.j} {y = from % 4096} (omega (arith, c.loop-j-test.false, c.loop-j.auto.j-end))
-    ∙ ap (λ m. rising_bytes m (m % 4096)) c.mixed_number-from.ensures.is
+    ∙ ap (rising_bytes from) {x = c.loop-j.j} {y = c.first_length-count.result} (omega (arith, c.loop-j-test.false, c.loop-j.auto.j-end))
+    ∙ ap (rising_bytes from) c.first_length-count.ensures.is
+    ∙ ap (λ m. rising_bytes m (mixed c.args.seed c.args.i % 4096)) c.mixed_number-from.ensures.is
