@@ -15,6 +15,6 @@ pub use asking::read_command;
 pub use cars::{car_refusal, export_refusal, kept_refusal, root_lines, section_refusal};
 pub use dags::{adopted_name, dag_refusal, no_file};
 pub use lines::{line, plain, refusal_status, two_blocks};
-pub use rows::{added_row, name_lines, put_added, row_lines, stat_text};
+pub use rows::{added_row, name_lines, put_added, put_line, put_number, row_lines, stat_text};
 pub use status::Status;
 pub use types::{Ask, Command, DagRule, Edit, HostRule, Refusal};

@@ -96,8 +96,8 @@ pub fn stat_text(alloc: Global, stat: &Stat) -> Result<Block, Memory>
     Ok(out)
 }
 
-// A line with a number.
-fn put_number(alloc: Global, out: &mut Block, word: &[u8], number: u64) -> Result<(), Memory>
+/// Puts a line with a number behind the text.
+pub fn put_number(alloc: Global, out: &mut Block, word: &[u8], number: u64) -> Result<(), Memory>
     ensures { OnOk result (out.new ≡ out.old ++ line word.now (decimal number)) }
 {
     let digits = format!(in alloc; "{number}")?;
@@ -105,8 +105,8 @@ fn put_number(alloc: Global, out: &mut Block, word: &[u8], number: u64) -> Resul
     Ok(())
 }
 
-// A line: a word, what stands behind it, and a line feed.
-fn put_line(out: &mut Block, word: &[u8], rest: &[u8]) -> Result<(), Memory>
+/// Puts a line behind the text: a word, what stands behind it, and a line feed.
+pub fn put_line(out: &mut Block, word: &[u8], rest: &[u8]) -> Result<(), Memory>
     ensures { OnOk result (out.new ≡ out.old ++ line word.now rest.now) }
 {
     out.extend(word)?;

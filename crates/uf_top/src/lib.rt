@@ -5,6 +5,7 @@ mod adding;
 mod cars;
 mod command;
 mod foreign;
+mod generating;
 mod getting;
 mod grafting;
 mod hosted;
@@ -15,6 +16,7 @@ mod taking;
 mod tree;
 
 pub use command::run;
+pub use generating::generated;
 pub use uf_reply::Status;
 
 #[cfg(test)]

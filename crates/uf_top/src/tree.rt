@@ -153,7 +153,7 @@ pub fn edit_at<S: Store, N: NameHash, L: Ledger>(
 }
 
 // Edits the tree at a path, in memory.
-fn edited<S: Store, N: NameHash, L: Ledger>(
+pub fn edited<S: Store, N: NameHash, L: Ledger>(
     alloc: Global,
     tree: &mut Mfs,
     edit: &Edit,
