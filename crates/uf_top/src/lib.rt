@@ -30,6 +30,7 @@ mod fault_tests;
 #[cfg(test)]
 mod file_tests;
 #[cfg(test)]
+mod gen_tests;
 mod get_tests;
 #[cfg(test)]
 mod host_tests;
