@@ -31,6 +31,7 @@ mod fault_tests;
 mod file_tests;
 #[cfg(test)]
 mod gen_tests;
+#[cfg(test)]
 mod get_tests;
 #[cfg(test)]
 mod host_tests;
