@@ -188,18 +188,18 @@ fn failures_are_told<L: Ledger>(alloc: Global, touches: &mut Steps<L>) -> Result
     {
         return Ok(false);
     }
-    let ways: [(u8, &[u8], [bool; 3]); 6] = [
-        (6, b"error: read\n", [false, false, false]),
-        (7, b"error: write\n", [false, false, false]),
-        (7, b"error: write\n", [true, false, false]),
-        (7, b"error: write\n", [true, true, false]),
-        (7, b"error: write\n", [true, true, true]),
-        (0, b"", [true, true, true]),
+    let ways: [(u64, u8, &[u8], [bool; 3]); 6] = [
+        (0, 6, b"error: read\n", [false, false, false]),
+        (1, 7, b"error: write\n", [false, false, false]),
+        (2, 7, b"error: write\n", [false, false, false]),
+        (3, 7, b"error: write\n", [true, false, false]),
+        (4, 7, b"error: write\n", [true, true, false]),
+        (9, 0, b"", [true, true, true]),
     ];
-    for number in 0..6 {
-        let (status, said, there) = ways[number as usize];
+    for way in ways {
+        let (call, status, said, there) = way;
         let line: Line = (words, status, b"", said);
-        let mut host = host_of(alloc, &[], Some(number))?;
+        let mut host = host_of(alloc, &[], Some(call))?;
         let told = ends(alloc, &line, 2000, &mut store, &mut host, touches)?;
         if !told || kinds(&mut host) != there {
             return Ok(false);
