@@ -151,47 +151,25 @@ IsAsked (Err why) told = (why ≡ no_memory) ⊎ (told ≡ Err why)
 -- the profile of an `init` is accepted, and a path in a DAG has fewer than 2^32 names
 abbrev pub IsAccepted : Command → Type 0
 IsAccepted (Init profile) = IsTrue (is_profile profile)
-IsAccepted (Add only_hash) = Unit {0}
-IsAccepted (AddFrom recursive only_hash path) = Unit {0}
-IsAccepted (WriteInput how path) = Unit {0}
-IsAccepted (At ask path) = Unit {0}
-IsAccepted (Read offset count path) = Unit {0}
 IsAccepted (Cat path) = length path.names < 2 ^ 32
 IsAccepted (Get path host_path) = length path.names < 2 ^ 32
-IsAccepted (Export cid) = Unit {0}
-IsAccepted Import = Unit {0}
-IsAccepted (Same cid) = Unit {0}
 IsAccepted (Adopt source dest) = length source.names < 2 ^ 32
+IsAccepted other = Unit {0}
 
 -- the command reads the input
 abbrev pub reads_input : Command → Bool
-reads_input (Init profile) = false
 reads_input (Add only_hash) = true
-reads_input (AddFrom recursive only_hash path) = false
 reads_input (WriteInput how path) = true
-reads_input (At ask path) = false
-reads_input (Read offset count path) = false
-reads_input (Cat path) = false
-reads_input (Get path host_path) = false
-reads_input (Export cid) = false
 reads_input Import = true
 reads_input (Same cid) = true
-reads_input (Adopt source dest) = false
+reads_input other = false
 
 -- the command writes its output while it reads blocks
 abbrev pub streams : Command → Bool
-streams (Init profile) = false
-streams (Add only_hash) = false
-streams (AddFrom recursive only_hash path) = false
-streams (WriteInput how path) = false
-streams (At ask path) = false
 streams (Read offset count path) = true
 streams (Cat path) = true
-streams (Get path host_path) = false
 streams (Export cid) = true
-streams Import = false
-streams (Same cid) = false
-streams (Adopt source dest) = false
+streams other = false
 
 -- the command needs a Head, or that there is none; any other is answered by what is held alone
 abbrev pub needs_standing : Command → Bool
@@ -201,27 +179,13 @@ needs_standing (AddFrom recursive only_hash path) = true
 needs_standing (WriteInput how path) = true
 needs_standing (At ask path) = true
 needs_standing (Read offset count path) = true
-needs_standing (Cat path) = false
-needs_standing (Get path host_path) = false
-needs_standing (Export cid) = false
-needs_standing Import = false
-needs_standing (Same cid) = false
 needs_standing (Adopt source dest) = true
+needs_standing other = false
 
 -- the command copies from a DAG of others into the tree
 abbrev pub adopts : Command → Bool
-adopts (Init profile) = false
-adopts (Add only_hash) = false
-adopts (AddFrom recursive only_hash path) = false
-adopts (WriteInput how path) = false
-adopts (At ask path) = false
-adopts (Read offset count path) = false
-adopts (Cat path) = false
-adopts (Get path host_path) = false
-adopts (Export cid) = false
-adopts Import = false
-adopts (Same cid) = false
 adopts (Adopt source dest) = true
+adopts other = false
 
 -- the command needs a Head, or that there is none, and reads no block but those of the tree that the Head names
 abbrev pub reads_tree_alone : Command → Bool
@@ -229,48 +193,19 @@ reads_tree_alone command = needs_standing command && not (adopts command)
 
 -- the command compares what is held with a CAR
 abbrev pub compares : Command → Bool
-compares (Init profile) = false
-compares (Add only_hash) = false
-compares (AddFrom recursive only_hash path) = false
-compares (WriteInput how path) = false
-compares (At ask path) = false
-compares (Read offset count path) = false
-compares (Cat path) = false
-compares (Get path host_path) = false
-compares (Export cid) = false
-compares Import = false
 compares (Same cid) = true
-compares (Adopt source dest) = false
+compares other = false
 
 -- the command reads or writes files and folders of the host
 abbrev pub uses_host : Command → Bool
-uses_host (Init profile) = false
-uses_host (Add only_hash) = false
 uses_host (AddFrom recursive only_hash path) = true
-uses_host (WriteInput how path) = false
-uses_host (At ask path) = false
-uses_host (Read offset count path) = false
-uses_host (Cat path) = false
 uses_host (Get path host_path) = true
-uses_host (Export cid) = false
-uses_host Import = false
-uses_host (Same cid) = false
-uses_host (Adopt source dest) = false
+uses_host other = false
 
 -- the command writes files and folders of the host
 abbrev pub writes_host : Command → Bool
-writes_host (Init profile) = false
-writes_host (Add only_hash) = false
-writes_host (AddFrom recursive only_hash path) = false
-writes_host (WriteInput how path) = false
-writes_host (At ask path) = false
-writes_host (Read offset count path) = false
-writes_host (Cat path) = false
 writes_host (Get path host_path) = true
-writes_host (Export cid) = false
-writes_host Import = false
-writes_host (Same cid) = false
-writes_host (Adopt source dest) = false
+writes_host other = false
 
 -- what is asked writes nothing to the store
 abbrev pub only_looks : Ask → Bool
@@ -280,18 +215,15 @@ only_looks (Edits edit) = false
 
 -- the command writes nothing to the store
 abbrev pub only_reads : Command → Bool
-only_reads (Init profile) = false
 only_reads (Add only_hash) = only_hash
 only_reads (AddFrom recursive only_hash path) = only_hash
-only_reads (WriteInput how path) = false
 only_reads (At ask path) = only_looks ask
 only_reads (Read offset count path) = true
 only_reads (Cat path) = true
 only_reads (Get path host_path) = true
 only_reads (Export cid) = true
-only_reads Import = false
 only_reads (Same cid) = true
-only_reads (Adopt source dest) = false
+only_reads other = false
 
 -- what a command may write to the store: nothing; blocks and a sync; a Head where there was none; blocks, a sync and the Head
 pub data WriteShape : Type 0 where
@@ -312,28 +244,15 @@ command_writes (AddFrom recursive true path) = NoWrites
 command_writes (AddFrom recursive false path) = SyncsBlocks
 command_writes (WriteInput how path) = MovesHead
 command_writes (At ask path) = ask_writes ask
-command_writes (Read offset count path) = NoWrites
-command_writes (Cat path) = NoWrites
-command_writes (Get path host_path) = NoWrites
-command_writes (Export cid) = NoWrites
 command_writes Import = SyncsBlocks
-command_writes (Same cid) = NoWrites
 command_writes (Adopt source dest) = MovesHead
+command_writes other = NoWrites
 
 -- the command is `add -n`, of the input or of the host
 abbrev pub only_hashes : Command → Bool
-only_hashes (Init profile) = false
 only_hashes (Add only_hash) = only_hash
 only_hashes (AddFrom recursive only_hash path) = only_hash
-only_hashes (WriteInput how path) = false
-only_hashes (At ask path) = false
-only_hashes (Read offset count path) = false
-only_hashes (Cat path) = false
-only_hashes (Get path host_path) = false
-only_hashes (Export cid) = false
-only_hashes Import = false
-only_hashes (Same cid) = false
-only_hashes (Adopt source dest) = false
+only_hashes other = false
 
 -- a lookup found a file
 abbrev pub is_file_at : Result Tree Refused → Bool
@@ -368,19 +287,8 @@ has_nothing_to_do (Mv dest) names es = is_onto_itself names dest es
 -- the command is an edit that has nothing to do, where these are the bytes of the input
 abbrev pub is_idle : List ℕ → Entries → Command → Bool
 is_idle bytes es (At (Edits edit) path) = has_nothing_to_do edit path.names es
-is_idle bytes es (At (Ls long) path) = false
-is_idle bytes es (At Stat path) = false
-is_idle bytes es (Init profile) = false
-is_idle bytes es (Add only_hash) = false
-is_idle bytes es (AddFrom recursive only_hash path) = false
 is_idle bytes es (WriteInput how path) = has_nothing_to_do (Write how bytes) path.names es
-is_idle bytes es (Read offset count path) = false
-is_idle bytes es (Cat path) = false
-is_idle bytes es (Get path host_path) = false
-is_idle bytes es (Export cid) = false
-is_idle bytes es Import = false
-is_idle bytes es (Same cid) = false
-is_idle bytes es (Adopt source dest) = false
+is_idle bytes es other = false
 
 -- a fact of the command, where words ask for one, and else this
 abbrev pub of_command : (Command → Bool) → Bool → Result Command Refusal → Bool

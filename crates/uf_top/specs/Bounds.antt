@@ -46,21 +46,14 @@ module _ (X : List ℕ → List ℕ) (N : List ℕ → ℕ) (rows : ℕ → ℕ)
   -- and for a command with this input, which opens the tree first; nothing is promised of `init`, of an `add` that
   -- keeps its blocks, of `cat` and `get`, of what has to do with CARs, and of a copy from a DAG
   abbrev pub command_touches : List ℕ → Command → Profile → Entries → Option ℕ
-  command_touches bytes (Init q) p es = None
   command_touches bytes (Add true) p es = Some 0
   command_touches bytes (Add false) p es = None
   command_touches bytes (AddFrom recursive true path) p es = Some 0
-  command_touches bytes (AddFrom recursive false path) p es = None
   command_touches bytes (WriteInput how path) p es = Some (1 + touches_of_edit (Write how bytes) path.names p es)
   command_touches bytes (At ask path) p es = Some (1 + ask_touches ask path.names p es)
   command_touches bytes (Read offset count path) p es =
       Some (1 + read_bound (range_touches p rows offset count) path.names (Dir es))
-  command_touches bytes (Cat path) p es = None
-  command_touches bytes (Get path host_path) p es = None
-  command_touches bytes (Export cid) p es = None
-  command_touches bytes Import p es = None
-  command_touches bytes (Same cid) p es = None
-  command_touches bytes (Adopt source dest) p es = None
+  command_touches bytes other p es = None
 
   -- the same of words
   abbrev pub words_touch : List ℕ → Result Command Refusal → Profile → Entries → Option ℕ

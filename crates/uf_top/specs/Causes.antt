@@ -105,7 +105,6 @@ IsReasonInTree ready.BadHead told = IfSome told (λ t. IsUnread t.notes.head)
 -- there where one is needed
 abbrev pub IsReason : Command → Ready → Told → Type 0
 IsReason (Init p) ready.HeadThere told = IfSome told (λ t. (text : List ℕ) × (t.notes.head ≡ Some text))
-IsReason (Init p) why told = ⊥
 IsReason (Add true) ready.BadHead told = IfSome told (λ t. IsUnread t.notes.head)
 IsReason (Add true) why told = ⊥
 IsReason (Add false) why told = IsReasonInTree why told
@@ -115,12 +114,8 @@ IsReason (AddFrom recursive false path) why told = IsReasonInTree why told
 IsReason (WriteInput how path) why told = IsReasonInTree why told
 IsReason (At ask path) why told = IsReasonInTree why told
 IsReason (Read offset count path) why told = IsReasonInTree why told
-IsReason (Cat path) why told = ⊥
-IsReason (Get path host_path) why told = ⊥
-IsReason (Export cid) why told = ⊥
-IsReason Import why told = ⊥
-IsReason (Same cid) why told = ⊥
 IsReason (Adopt source dest) why told = IsReasonInTree why told
+IsReason other why told = ⊥
 
 -- the refusal that the store isn't ready has its reason in the Head
 abbrev pub IsReadyBy : Told → Command → Refusal → Type 0

@@ -41,19 +41,12 @@ module _ (X : List ℕ → List ℕ) (N : List ℕ → ℕ) where
 
   -- the blocks that a command needs of the tree that the Head names: those of what is asked, and the root block
   abbrev pub command_needs : (ℕ → ℕ) → Command → Profile → Entries → List Held
-  command_needs rows (Init q) p es = []
-  command_needs rows (Add only_hash) p es = []
-  command_needs rows (AddFrom recursive only_hash path) p es = []
   command_needs rows (WriteInput how path) p es = root_of X N p (Dir es) ++ blocks X N p (Dir es)
   command_needs rows (At ask path) p es = root_of X N p (Dir es) ++ ask_needs ask path.names p es
   command_needs rows (Read offset count path) p es =
       root_of X N p (Dir es) ++ part_needs rows offset count path.names p es
-  command_needs rows (Cat path) p es = []
-  command_needs rows (Get path host_path) p es = []
-  command_needs rows (Export cid) p es = []
-  command_needs rows Import p es = []
-  command_needs rows (Same cid) p es = []
   command_needs rows (Adopt source dest) p es = root_of X N p (Dir es) ++ blocks X N p (Dir es)
+  command_needs rows other p es = []
 
   -- the same of words
   abbrev pub words_need : (ℕ → ℕ) → Result Command Refusal → Profile → Entries → List Held
