@@ -1,8 +1,8 @@
 """Holds the documents against the files.
 
 Each link of a document leads to a file. Each definition that docs/TRUST.md lists is in the file that it names. Each
-clause and each edit that a table of the README names is there: a row is a claim, its clauses, and the edits that it
-refuses, under a heading that names the crate.
+clause (or fact of a record that is one) and each edit that a table of the README names is there: a row is a claim, its
+clauses, and the edits that it refuses, under a heading that names the crate.
 """
 
 import os
@@ -62,12 +62,12 @@ def wrong_rows():
     """Clauses and edits of the README's tables that there are none of."""
     parts = re.split(r"^### (uf_\w+)", text_of("README.md"), flags=re.M)
     for crate, part in zip(parts[1::2], parts[2::2]):
-        source = source_of(crate, "src", ".rt")
+        source = source_of(crate, "src", ".rt") + source_of(crate, "specs", ".antt")
         for cells in rows(part.split("\n## ")[0]):
             if len(cells) != 3 or cells[0] == "Claim":
                 continue
             for word in words(cells[1]):
-                if not re.search(rf"\b(ensures|ghost|fn) {re.escape(word)}\b", source):
+                if not re.search(rf"\b(ensures|ghost|fn|pub) {re.escape(word)}\b", source):
                     yield f"README.md: {crate} has no clause {word}"
             for word in words(cells[2]):
                 if not os.path.exists(os.path.join(TOP, "crates", crate, "must-fail", word + ".edit")):

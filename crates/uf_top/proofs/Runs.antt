@@ -1,0 +1,55 @@
+-- From how a command was done to what it did.
+use Rattle.std.proofs.Common.{subst, Result}
+use Rattle.std.specs.Prelude.{ℕ, List, IfErr}
+use Rattle.uf_reply.specs.Commands.{IsOfWords, compares, of_command}
+use Rattle.uf_reply.specs.declared.status.Status.{Status}
+use Rattle.uf_reply.specs.declared.types.Command.{Command}
+use Rattle.uf_reply.specs.declared.types.Refusal.{Refusal}
+use Rattle.uf_top.specs.Around.{Around}
+use Rattle.uf_top.specs.Cars.{BySections}
+use Rattle.uf_top.specs.Endings.{TellsEnd}
+use Rattle.uf_top.specs.Running.{Runs}
+use Rattle.uf_top.specs.Working.{Serves}
+use Rattle.uf_top.proofs.Losses.{lost-told, touches-told}
+use Rattle.uf_top.proofs.Telling.{StatusShows, blamed-told, clashes-told, faults-told, gets-told, good-told, head-told, host-told, idle-told, is-refused, looks-told, prefix-told, prints-told, read-told, replies-told, says-plain, shows, synced-told, told-same, whole-told, write-told, writes-told}
+
+module _ (Says : List ℕ → Type 0) (given : Status) (X : List ℕ → List ℕ) (N : List ℕ → ℕ) (a b : Around) where
+  pub runs-told : (asked : Result Command Refusal) (done : Result (Unit {0}) Refusal) → IsOfWords asked → Serves X N asked done a b
+      → IfErr done (BySections X (of_command compares false asked) a.left a.store b.store) → TellsEnd Says done given → Runs Says X N asked given a b
+  runs-told asked done of-words s sections t = record {
+    replies = λ w finds outside quiet. replies-told Says given X N a b asked done s t w finds outside quiet.store quiet.written;
+    whole = λ standing needs stands calm. whole-told Says given X N a b asked done of-words s t standing needs stands calm;
+    lost = λ p es rows held outside named tells heights has quiet.
+        lost-told Says given X N a b p es asked done s t rows held outside named tells heights has quiet.store quiet.written;
+    looks = λ command is. looks-told Says given X N a b command done (subst (λ asked. Serves X N asked done a b) is s) t;
+    words = λ why is. (let idle = subst (λ asked. Serves X N asked done a b) is s in is-refused Says given done why t idle.refused);
+    lines = says-plain Says given done t;
+    rule = λ is. subst (StatusShows Says given X N a b asked) is shown;
+    usage = λ is. subst (StatusShows Says given X N a b asked) is shown;
+    store_fault = λ is. subst (StatusShows Says given X N a b asked) is shown;
+    missing = λ is. subst (StatusShows Says given X N a b asked) is shown;
+    bad_block = λ is. subst (StatusShows Says given X N a b asked) is shown;
+    clash = λ is. subst (StatusShows Says given X N a b asked) is shown;
+    read = λ is. subst (StatusShows Says given X N a b asked) is shown;
+    write = λ is. subst (StatusShows Says given X N a b asked) is shown;
+    not_ready = λ is. subst (StatusShows Says given X N a b asked) is shown;
+    faults_told = λ more. faults-told Says given X N a b asked done s t more;
+    clashes_told = λ more. clashes-told Says given X N a b asked done s t more;
+    read_told = λ more. read-told Says given X N a b asked done s t more;
+    write_told = λ more. write-told Says given X N a b asked done s t more;
+    prefix = λ w finds outside room. prefix-told Says given X N a b asked done s w finds outside room;
+    prints = prints-told Says given X N a b asked done of-words s t;
+    synced = λ is. synced-told Says given X N a b asked done s t is;
+    writes = writes-told Says given X N a b asked done s t;
+    good = good-told Says given X N a b asked done s;
+    head = λ not-ok. head-told Says given X N a b asked done s t not-ok;
+    told = λ is. told-same Says given X N a b asked done s is;
+    idle = λ p es bytes names input faults is. idle-told Says given X N a b asked done s p es bytes names input faults is;
+    host_told = λ is. host-told Says given X N a b asked done s is;
+    gets = gets-told Says given X N a b asked done s t;
+    touches = λ p es bytes rows named input heights calm. touches-told Says given X N a b p es bytes rows asked done s named input heights calm;
+    touched = λ is. blamed-told Says given X N a b asked done of-words s t is;
+  }
+    where
+      shown : StatusShows Says given X N a b asked given
+      shown = shows Says given X N a b asked done of-words s sections t

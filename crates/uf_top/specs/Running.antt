@@ -1,0 +1,115 @@
+-- What one command did: what it answered, the cause of each answer, and what it left. `run`, and each line of a batch, is
+-- so.
+use Rattle.std.specs.Prelude.{◌≡◌, ◌≢◌, ◌⊎◌, ℕ, ◌+◌, ◌<◌, ◌≤◌, List, true, false, IfSome}
+use Rattle.std.specs.declared.result.Result.{Result}
+use Rattle.std.specs.declared.result.Result.TheVariants.{Ok, Err}
+use Rattle.uf_cid.specs.Blocks.{Lookup}
+use Rattle.uf_cid.specs.declared.cid.Cid.{Cid}
+use Rattle.uf_edge.specs.Counts.{Stood}
+use Rattle.uf_mfs.specs.Reading.{AreHeights}
+use Rattle.uf_mfs.specs.Standing.{NamesOver, TellsAs, head_in}
+use Rattle.uf_reply.specs.Commands.{HasInput, compares, is_idle, of_command, only_reads, reads_tree_alone, uses_host, writes_host}
+use Rattle.uf_reply.specs.Commands.{streams as flows}
+use Rattle.uf_reply.specs.Kinds.{family_of}
+use Rattle.uf_reply.specs.Lines.{bad_block_line, clash_line, missing_line}
+use Rattle.uf_reply.specs.declared.status.Status.{Status}
+use Rattle.uf_reply.specs.declared.status.Status.TheVariants as status
+use Rattle.uf_reply.specs.declared.types.Command.{Command}
+use Rattle.uf_reply.specs.declared.types.Refusal.{Refusal}
+use Rattle.uf_reply.specs.declared.types.Refusal.TheVariants as refusal
+use Rattle.uf_store.specs.Calls.{Calm}
+use Rattle.uf_store.specs.Faults.{ShowsBadBlock, ShowsFailure}
+use Rattle.uf_store.specs.Keeping.{KeepsGood}
+use Rattle.uf_store.specs.declared.store.Role.{Role}
+use Rattle.uf_top.specs.Around.{Around, CountsCanRise, HasOutside, RoseAt, StaysQuiet}
+use Rattle.uf_top.specs.Bounds.{words_touch}
+use Rattle.uf_top.specs.Cars.{IsClashing, IsMissing}
+use Rattle.uf_top.specs.Causes.{IsBadIn}
+use Rattle.uf_top.specs.Endings.{EndsAs, FindsAll, FindsBy, IsNotReady, IsRefusedBy, IsRule, IsSyncedFor, IsTextOf, PrintsAt, PrintsPart, SaysPlain}
+use Rattle.uf_top.specs.Getting.{GetsFor}
+use Rattle.uf_top.specs.Losing.{EndsOver, words_need}
+use Rattle.uf_top.specs.Naming.{FindsOver, FindsWorld, StaysNamed, TellsBlocks}
+use Rattle.uf_top.specs.Reply.{Outside, World, in_world, outside_of, reply_to}
+use Rattle.uf_top.specs.Shapes.{WritesFor, is_done}
+use Rattle.uf_tree.specs.Standing.{Standing}
+use Rattle.uf_tree.specs.Tree.{Entries}
+use Rattle.uf_tree.specs.declared.profile.Profile.{Profile}
+
+-- Says holds of the line that went to `errors`
+module _ (Says : List ℕ → Type 0) (X : List ℕ → List ℕ) (N : List ℕ → ℕ) where
+  pub record Runs (asked : Result Command Refusal) (given : Status) (before now : Around) : Type 0 where
+    -- over a store that stands as the command needs it and, where the command uses it, an input or a host that tells,
+    -- with no count risen and no clash met, the answer is the reply, or want of memory; over a store that stands for a
+    -- tree no block of a command on it alone is missing or bad, whatever the input and the output do
+    pub replies : (w : World) → FindsWorld X N asked before.store.told w → HasOutside asked (outside_of w) before now
+        → StaysQuiet asked before now
+        → EndsAs Says X N asked w given before.held now.held now.store.told now.host.told
+    pub whole : (standing : Standing) → of_command reads_tree_alone true asked ≡ true
+        → TellsAs X N before.store.told standing → Calm before.store now.store → FindsAll given
+    -- over a tree that the Head names and of whose blocks some may be lost, the answer is the reply too, or one of the
+    -- blocks that the command needs is lost; after Ok the new tree lacks no block that was held or is new
+    pub lost : (p : Profile) (es : Entries) (rows : ℕ → ℕ) (held : Lookup) (outside : Outside)
+        → StaysNamed X N before.store.told now.store.told p es → TellsBlocks before.store.told held
+        → AreHeights p rows → HasOutside asked outside before now → StaysQuiet asked before now
+        → EndsOver X N before.store.told now.store.told p es (words_need X N rows asked p es) Says
+        (reply_to X N asked (in_world p es held outside)) given before.held now.held
+    -- `init` and `add` look for no block, over every store
+    pub looks : (command : Command) → asked ≡ Ok command → FindsBy (family_of command) given
+    -- words that are no command, and texts that are no paths, are refused
+    pub words : (why : Refusal) → asked ≡ Err why → IsRefusedBy Says why given
+    -- each other answer has its cause, and its line goes to `errors`
+    pub lines : SaysPlain Says given
+    pub rule : given ≡ status.Rule → IsRule Says asked before.store.told before.left now.left
+    pub usage : given ≡ status.Usage → asked ≡ Err refusal.Usage
+    pub store_fault : given ≡ status.StoreFault → ShowsFailure before.store now.store
+    pub missing : given ≡ status.Missing → (cid : Cid)
+        × IsMissing X (of_command compares false asked) before.left cid before.store now.store
+        × Says (missing_line cid)
+    pub bad_block : given ≡ status.BadBlock → (cid : Cid) × (role : Role)
+        × ShowsBadBlock X (IsBadIn X N before.store.told now.store.told) cid role before.store now.store
+        × Says (bad_block_line cid role)
+    pub clash : given ≡ status.Clash → (cid : Cid) × (held : List ℕ) × (bytes : List ℕ)
+        × IsClashing X (of_command compares false asked) before.left cid held bytes before.store now.store
+        × Says (clash_line cid held bytes)
+    pub read : given ≡ status.ReadFault
+        → RoseAt (of_command uses_host false asked) before.reads now.reads before.host.reads now.host.reads
+    pub write : given ≡ status.WriteFault
+        → RoseAt (of_command writes_host false asked) before.writes now.writes before.host.writes now.host.writes
+    pub not_ready : given ≡ status.NotReady → IsNotReady Says asked before.store.told
+    -- no fault is passed over
+    pub faults_told : before.store.faults < now.store.faults → (given ≡ status.StoreFault) ⊎ (given ≡ status.Memory)
+    pub clashes_told : before.store.clashes < now.store.clashes → (given ≡ status.Clash) ⊎ (given ≡ status.Memory)
+    pub read_told : (before.reads < now.reads) ⊎ (before.host.reads < now.host.reads) → given ≡ status.ReadFault
+    pub write_told : (before.writes < now.writes) ⊎ (before.host.writes < now.host.writes)
+        → given ≡ status.WriteFault
+    -- what is printed is printed whole at Ok, in part after a failed write, and else not at all, unless the command
+    -- writes while it reads blocks; of `add` it is the row of the input or the rows of what the host has, whose blocks
+    -- have been made to outlive a stop. Whatever the answer and whatever blocks are lost, nothing is printed but the
+    -- beginning of the reply's text
+    pub prefix : (w : World) → FindsOver X N before.store.told now.store.told asked w
+        → HasOutside asked (outside_of w) before now → CountsCanRise before.store
+        → PrintsPart (reply_to X N asked w).ends before.held now.held
+    pub prints : PrintsAt (IsTextOf X N before.store.told before.host.told asked before.left)
+        (of_command flows false asked) given before.held now.held
+    pub synced : given ≡ status.Ok → IsSyncedFor asked now.store.told
+    -- what was written
+    pub writes : WritesFor X asked (is_done given) before.store.told now.store.told
+    -- what is good stays, only a command that is done moves the Head, and some commands leave all as it was; so does an
+    -- edit that has nothing to do
+    pub good : KeepsGood X before.store.told now.store.told
+    pub head : given ≢ status.Ok → head_in now.store.told ≡ head_in before.store.told
+    pub told : of_command only_reads true asked ≡ true → now.store.told ≡ before.store.told
+    pub idle : (p : Profile) (es : Entries) (bytes : List ℕ) → NamesOver X N before.store.told p es
+        → HasInput asked before.left bytes before.reads now.reads → Stood before.store.faults now.store.faults
+        → of_command (is_idle bytes es) false asked ≡ true → now.store.told ≡ before.store.told
+    pub host_told : of_command writes_host false asked ≡ false → now.host.told ≡ before.host.told
+    -- what `get` leaves on the host, also where it is refused or stopped
+    pub gets : GetsFor asked given before.store.told before.host.told now.host.told
+    -- the commands that work on a tree keep within their touches, also where they are refused, and no block is called
+    -- bad before one was touched
+    pub touches : (p : Profile) (es : Entries) (bytes : List ℕ) (rows : ℕ → ℕ)
+        → StaysNamed X N before.store.told now.store.told p es
+        → HasInput asked before.left bytes before.reads now.reads → AreHeights p rows
+        → Calm before.store now.store
+        → IfSome (words_touch X N rows bytes asked p es) (λ most. now.touches ≤ before.touches + most)
+    pub touched : given ≡ status.BadBlock → before.touches < now.touches
