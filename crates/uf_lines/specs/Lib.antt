@@ -1,0 +1,4 @@
+pub mod LinesIn
+pub mod Reading
+pub mod Seeking
+pub mod Windows
