@@ -6,7 +6,7 @@ use Rattle.std.proofs.lemmas.List.{length_push}
 use Rattle.std.proofs.lemmas.List.Elements.{All-head, All-tail}
 use Rattle.std.specs.List.{AllByRecursion}
 use Rattle.std.specs.Prelude.{nat_lt, ◌==◌, if◌then◌else◌}
-use Rattle.uf_lines.specs.LinesIn.{HasNoFeed, IsLine, LinesIn, last_line, lines_from, lines_in, text_of, too_long, with_lines}
+use Rattle.uf_lines.specs.LinesIn.{HasNoFeed, IsLine, LinesIn, last_line, lines_from, lines_in, text_of, long_lines, with_lines}
 
 is_byte : (b : ℕ) → (b == 10) ≡ false → (t f : LinesIn) → (if b == 10 then t else f) ≡ f
 is_byte b e t f = ap (λ (x : Bool). if x then t else f) e
@@ -14,18 +14,18 @@ is_byte b e t f = ap (λ (x : Bool). if x then t else f) e
 step_byte : (most r b : ℕ) (line bs : List ℕ) → (b == 10) ≡ false → length line < most → lines_from most (suc r) line (b ∷ bs) ≡ lines_from most r (line ++ b ∷ []) bs
 unfolding lines_from
 step_byte most r b line bs byte fits =
-    is_byte b byte _ _ ∙ ap (λ (x : Bool). if x then lines_from most r (line ++ b ∷ []) bs else too_long) (let e : nat_lt (length line) most ≡ true = grind (arith, nat_tests) in e)
+    is_byte b byte _ _ ∙ ap (λ (x : Bool). if x then lines_from most r (line ++ b ∷ []) bs else long_lines) (let e : nat_lt (length line) most ≡ true = grind (arith, nat_tests) in e)
 
-step_long : (most r b : ℕ) (line bs : List ℕ) → (b == 10) ≡ false → most ≤ length line → lines_from most (suc r) line (b ∷ bs) ≡ too_long
+step_long : (most r b : ℕ) (line bs : List ℕ) → (b == 10) ≡ false → most ≤ length line → lines_from most (suc r) line (b ∷ bs) ≡ long_lines
 unfolding lines_from
 step_long most r b line bs byte long =
-    is_byte b byte _ _ ∙ ap (λ (x : Bool). if x then lines_from most r (line ++ b ∷ []) bs else too_long) (let e : nat_lt (length line) most ≡ false = grind (arith, nat_tests) in e)
+    is_byte b byte _ _ ∙ ap (λ (x : Bool). if x then lines_from most r (line ++ b ∷ []) bs else long_lines) (let e : nat_lt (length line) most ≡ false = grind (arith, nat_tests) in e)
 
 step_feed : (most r : ℕ) (line bs : List ℕ) → lines_from most (suc r) line (10 ∷ bs) ≡ with_lines (line ∷ []) (lines_from most r [] bs)
 unfolding lines_from
 step_feed most r line bs = refl
 
-pub no_room : (most b : ℕ) (line bs : List ℕ) → lines_from most 0 line (b ∷ bs) ≡ too_long
+pub no_room : (most b : ℕ) (line bs : List ℕ) → lines_from most 0 line (b ∷ bs) ≡ long_lines
 unfolding lines_from
 no_room most b line bs = refl
 
@@ -48,17 +48,17 @@ many_on : (most r x : ℕ) (line xs : List ℕ) → (most < length line + length
 many_on most r x line xs (inl long) = inl (let size : length (line ++ x ∷ []) ≡ length line + 1 = length_push line x in omega (arith, size))
 many_on most r x line xs (inr over) = inr (omega arith)
 
-short_or_long : (most r x : ℕ) (line xs rest : List ℕ) → (x == 10) ≡ false → (length line < most → lines_from most r (line ++ x ∷ []) (xs ++ rest) ≡ too_long)
-    → lines_from most (suc r) line (x ∷ (xs ++ rest)) ≡ too_long
+short_or_long : (most r x : ℕ) (line xs rest : List ℕ) → (x == 10) ≡ false → (length line < most → lines_from most r (line ++ x ∷ []) (xs ++ rest) ≡ long_lines)
+    → lines_from most (suc r) line (x ∷ (xs ++ rest)) ≡ long_lines
 short_or_long most r x line xs rest byte on = by (cases_lt (length line) most)
   where
-    by : (length line < most) ⊎ (most ≤ length line) → lines_from most (suc r) line (x ∷ (xs ++ rest)) ≡ too_long
+    by : (length line < most) ⊎ (most ≤ length line) → lines_from most (suc r) line (x ∷ (xs ++ rest)) ≡ long_lines
     by (inl less) = step_byte most r x line (xs ++ rest) byte less ∙ on less
     by (inr full) = step_long most r x line (xs ++ rest) byte full
 
 -- too many of them, for the line or for the limit
 pub too_many : (most room : ℕ) (line xs rest : List ℕ) → HasNoFeed xs → length line ≤ most → (most < length line + length xs) ⊎ (room < length xs)
-    → lines_from most room line (xs ++ rest) ≡ too_long
+    → lines_from most room line (xs ++ rest) ≡ long_lines
 too_many most room line [] rest none short (inl long) = absurd (omega arith)
 too_many most room line [] rest none short (inr over) = absurd (omega arith)
 too_many most zero line (x ∷ xs) rest none short many = no_room most x line (xs ++ rest)
@@ -76,7 +76,7 @@ ended_line most room xs rest none fits few =
     ∙ step_feed most (room - (length xs + 1)) xs rest
 
 -- a line whose LF is behind the limit
-pub ended_late : (most room : ℕ) (xs rest : List ℕ) → HasNoFeed xs → length xs ≤ most → length xs ≡ room → lines_in most room (xs ++ 10 ∷ rest) ≡ too_long
+pub ended_late : (most room : ℕ) (xs rest : List ℕ) → HasNoFeed xs → length xs ≤ most → length xs ≡ room → lines_in most room (xs ++ 10 ∷ rest) ≡ long_lines
 ended_late most room xs rest none fits same =
     walk most room [] xs (10 ∷ rest) none (omega arith) (omega arith)
     ∙ (λ i. lines_from most ((let e : room - length xs ≡ 0 = omega arith in e) i) xs (10 ∷ rest))

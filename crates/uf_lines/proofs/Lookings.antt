@@ -4,8 +4,8 @@ use Rattle.std.proofs.lemmas.Bool.{cases_lt}
 use Rattle.std.proofs.lemmas.List.{drop_all, drop_more, take-append-drop, take_all}
 use Rattle.std.specs.Prelude.{None, Option, Some, IfSome}
 use Rattle.uf_edge.specs.Streams.{Told, before as in_front}
-use Rattle.uf_lines.specs.LinesIn.{HasNoFeed, LinesIn, last_line, lines_in, too_long, with_lines}
-use Rattle.uf_lines.specs.Reading.{AnswersNext, GivesNone, HasEnded, all_ahead, bytes_ahead, lines_ahead, lines_told, may_read}
+use Rattle.uf_lines.specs.LinesIn.{HasNoFeed, LinesIn, last_line, lines_in, long_lines, with_lines}
+use Rattle.uf_lines.specs.Reading.{AnswersNext, GivesNone, HasEnded, IsShorter, all_ahead, bytes_ahead, lines_ahead, lines_told, may_read}
 use Rattle.uf_lines.specs.Seeking.{Goes, IsAsBefore, Looks, LooksAt, StandsAtFeed}
 use Rattle.uf_lines.specs.Windows.{in_window}
 use Rattle.uf_lines.specs.declared.lines.Line.{Line}
@@ -30,18 +30,18 @@ module _ (most room n : ℕ) (bytes left : List ℕ) (none : HasNoFeed (take n b
       ∙ ended_line most room (take n bytes) (drop (n + 1) bytes ++ left) none (omega (arith, size)) (omega (arith, size))
       ∙ (λ i. with_lines (take n bytes ∷ []) (lines_in most (room - (size i + 1)) (drop (n + 1) bytes ++ left)))
 
-  feed_long : (most < n) ⊎ (room ≤ n) → lines_in most room (bytes ++ left) ≡ too_long
+  feed_long : (most < n) ⊎ (room ≤ n) → lines_in most room (bytes ++ left) ≡ long_lines
   feed_long (inl long) = ap (lines_in most room) cut ∙ too_many most room [] (take n bytes) (10 ∷ (drop (n + 1) bytes ++ left)) none (omega arith) (inl (omega (arith, size)))
   feed_long (inr late) = ap (lines_in most room) cut ∙ by (cases_lt room n) (cases_lt most n)
     where
-      by : (room < n) ⊎ (n ≤ room) → (most < n) ⊎ (n ≤ most) → lines_in most room (take n bytes ++ 10 ∷ (drop (n + 1) bytes ++ left)) ≡ too_long
+      by : (room < n) ⊎ (n ≤ room) → (most < n) ⊎ (n ≤ most) → lines_in most room (take n bytes ++ 10 ∷ (drop (n + 1) bytes ++ left)) ≡ long_lines
       by (inl over) m = too_many most room [] (take n bytes) (10 ∷ (drop (n + 1) bytes ++ left)) none (omega arith) (inr (omega (arith, size)))
       by (inr same) (inl long) = too_many most room [] (take n bytes) (10 ∷ (drop (n + 1) bytes ++ left)) none (omega arith) (inl (omega (arith, size)))
       by (inr same) (inr fits) = ended_late most room (take n bytes) (drop (n + 1) bytes ++ left) none (omega (arith, size)) (omega (arith, size))
 
 -- ---- bytes without LF
 
-rest_long : (most room : ℕ) (bytes left : List ℕ) → HasNoFeed bytes → (most < length bytes) ⊎ (room < length bytes) → lines_in most room (bytes ++ left) ≡ too_long
+rest_long : (most room : ℕ) (bytes left : List ℕ) → HasNoFeed bytes → (most < length bytes) ⊎ (room < length bytes) → lines_in most room (bytes ++ left) ≡ long_lines
 rest_long most room bytes left none (inl long) = too_many most room [] bytes left none (omega arith) (inl (omega arith))
 rest_long most room bytes left none (inr over) = too_many most room [] bytes left none (omega arith) (inr over)
 
@@ -82,8 +82,8 @@ module _ (w : Lines) (passed : w.used ≡ 0) where
         let r = goes.room in
         omega (arith, a, b, r)
 
-    looks_given : (answer : (left : Told) → HasEnded w left → AnswersNext Given w now left left) → used ≤ w.room → used ≤ length (bytes_ahead w) → Looks (Some Given) w now
-    looks_given answer few fits = record { says = record { answer = answer; no_fault = refl; same_reads = same_reads few fits }; same_most = goes.same_most; same_end = goes.same_end }
+    looks_given : (answer : (left : Told) → HasEnded w left → AnswersNext Given w now left left) → 0 < used → used ≤ w.room → used ≤ length (bytes_ahead w) → Looks (Some Given) w now
+    looks_given answer some few fits = let shorter : now.room < w.room = let r = goes.room in omega arith in record { says = record { answer = answer; no_fault = refl; shorter = shorter; same_reads = same_reads few fits }; same_most = goes.same_most; same_end = goes.same_end }
 
     feed_given : (stands : StandsAtFeed w) → used ≡ w.seen + 1 → w.seen ≤ w.most → w.seen < w.room → (left : Told) → HasEnded w left → AnswersNext Given w now left left
     feed_given stands one fits few None ended = refl
@@ -106,8 +106,8 @@ module _ (w : Lines) (passed : w.used ≡ 0) where
         ∙ as_goes left)
 
   -- it is too long
-  looks_long : ((left : List ℕ) → lines_in w.most w.room (in_window w.window ++ left) ≡ too_long) → Looks (Some TooLong) w w
-  looks_long long = record { says = record { answer = by; no_fault = refl; same_reads = refl }; same_most = refl; same_end = refl }
+  looks_long : ((left : List ℕ) → lines_in w.most w.room (in_window w.window ++ left) ≡ long_lines) → Looks (Some TooLong) w w
+  looks_long long = record { says = record { answer = by; no_fault = refl; shorter = tt; same_reads = refl }; same_most = refl; same_end = refl }
     where
       by : (left : Told) → HasEnded w left → AnswersNext TooLong w w left left
       by None ended = (tt, record { same_bytes = refl; same_room = refl })
@@ -120,7 +120,7 @@ module _ (w : Lines) (passed : w.used ≡ 0) where
       feed_long w.most w.room w.seen (in_window w.window) left no_feed inside feed many)
 
   pub feed_gives : (now : Lines) → StandsAtFeed w → w.seen ≤ w.most → w.seen < w.room → Goes (w.seen + 1) w now → Looks (Some Given) w now
-  feed_gives now stands fits few goes = looks_given now (w.seen + 1) goes (feed_given now (w.seen + 1) goes stands refl fits few) (omega arith) (let h = stands.inside in omega arith)
+  feed_gives now stands fits few goes = looks_given now (w.seen + 1) goes (feed_given now (w.seen + 1) goes stands refl fits few) (omega arith) (omega arith) (let h = stands.inside in omega arith)
 
   -- at the end of what is there
   module _ (stands : w.seen ≡ length (bytes_ahead w)) where
@@ -138,10 +138,10 @@ module _ (w : Lines) (passed : w.used ≡ 0) where
         by (inr over) = inr (omega (arith, whole_is))
 
     pub rest_gives : (now : Lines) → w.ended ≡ true → w.seen ≤ w.most → w.seen ≤ w.room → 0 < w.seen → Goes w.seen w now → Looks (Some Given) w now
-    rest_gives now end fits few some goes = looks_given now w.seen goes (rest_given now w.seen goes stands refl end fits few some) few (omega arith)
+    rest_gives now end fits few some goes = looks_given now w.seen goes (rest_given now w.seen goes stands refl end fits few some) some few (omega arith)
 
     pub rest_ends : w.ended ≡ true → w.seen ≡ 0 → Looks (Some End) w w
-    rest_ends end nothing = record { says = record { answer = by; no_fault = refl; same_reads = refl }; same_most = refl; same_end = refl }
+    rest_ends end nothing = record { says = record { answer = by; no_fault = refl; shorter = tt; same_reads = refl }; same_most = refl; same_end = refl }
       where
         empty : bytes_ahead w ≡ []
         empty = is_nil (bytes_ahead w) (omega (arith, stands))
@@ -189,9 +189,17 @@ answers_from line a b c left middle now bytes room most = by line
     by : (line : Line) → AnswersNext line b c middle now → AnswersNext line a c left now
     by Given h = lines ∙ h
     by End h = (onto (last_line []) h.0, h.1, h.2, none h.3)
-    by TooLong h = (onto too_long h.0, none h.1)
+    by TooLong h = (onto long_lines h.0, none h.1)
     by Failed h = none h
     by Memory h = none h
+
+-- a line takes some of the limit
+pub shorter_from : (line : Line) (a b c : Lines) → b.room ≡ a.room → IsShorter line b c → IsShorter line a c
+shorter_from Given a b c same h = omega (arith, same)
+shorter_from End a b c same h = tt
+shorter_from TooLong a b c same h = tt
+shorter_from Failed a b c same h = tt
+shorter_from Memory a b c same h = tt
 
 pub looks_from : (answer : Option Line) (a b c : Lines) → IsAsBefore a b → Looks answer b c → Looks answer a c
 looks_from answer a b c same looks = record { says = by answer looks.says; same_most = looks.same_most ∙ same.same_most; same_end = looks.same_end ∙ same.same_end }
@@ -204,5 +212,6 @@ looks_from answer a b c same looks = record { says = by answer looks.says; same_
     by (Some line) h = record {
       answer = λ left ended. answers_from line a b c left left left (ap (λ (xs : List ℕ). in_front xs left) bytes) same.same_room same.same_most (h.answer left (λ end. ended (sym same.same_end ∙ end)));
       no_fault = h.no_fault;
+      shorter = shorter_from line a b c same.same_room h.shorter;
       same_reads = h.same_reads ∙ (λ i. same.same_room i + 1 - length (bytes i));
     }

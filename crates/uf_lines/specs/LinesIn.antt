@@ -7,8 +7,8 @@ pub record LinesIn : Type 0 where
   pub lines : List (List ℕ)
   pub whole : Bool
 
-abbrev pub too_long : LinesIn
-too_long = record { lines = []; whole = false }
+abbrev pub long_lines : LinesIn
+long_lines = record { lines = []; whole = false }
 
 -- what no LF ends is a line where it has bytes
 abbrev pub last_line : List ℕ → LinesIn
@@ -22,10 +22,10 @@ with_lines given rest = record { lines = given ++ rest.lines; whole = rest.whole
 -- the lines of at most `most` bytes, within the first `room` bytes, behind the beginning of one
 unfoldable pub lines_from : ℕ → ℕ → List ℕ → List ℕ → LinesIn
 lines_from most room line [] = last_line line
-lines_from most zero line (b ∷ bs) = too_long
+lines_from most zero line (b ∷ bs) = long_lines
 lines_from most (suc room) line (b ∷ bs) =
     if b == 10 then with_lines (line ∷ []) (lines_from most room [] bs)
-    else (if nat_lt (length line) most then lines_from most room (line ++ b ∷ []) bs else too_long)
+    else (if nat_lt (length line) most then lines_from most room (line ++ b ∷ []) bs else long_lines)
 
 abbrev pub lines_in : ℕ → ℕ → List ℕ → LinesIn
 lines_in most limit bytes = lines_from most limit [] bytes

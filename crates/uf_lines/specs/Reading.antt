@@ -1,8 +1,8 @@
 -- What contracts see of an input's lines while they are read.
-use Rattle.std.specs.Prelude.{◌≡◌, ℕ, ◌+◌, ◌-◌, ◌≤◌, Bool, true, false, List, [], ◌∷◌, length, take, drop, Some, None, IfSome}
+use Rattle.std.specs.Prelude.{◌≡◌, ℕ, ◌+◌, ◌-◌, ◌<◌, ◌≤◌, Bool, true, false, List, [], ◌∷◌, length, take, drop, Some, None, IfSome}
 use Rattle.std.specs.declared.option.Option.{Option}
 use Rattle.uf_edge.specs.Streams.{IsAtEnd, Told, before as in_front}
-use Rattle.uf_lines.specs.LinesIn.{LinesIn, last_line, lines_in, too_long, with_lines}
+use Rattle.uf_lines.specs.LinesIn.{LinesIn, last_line, lines_in, long_lines, with_lines}
 use Rattle.uf_lines.specs.Windows.{in_window}
 use Rattle.uf_lines.specs.declared.lines.Line.{Line}
 use Rattle.uf_lines.specs.declared.lines.Line.TheVariants.{Given, End, TooLong, Failed, Memory}
@@ -61,7 +61,7 @@ AnswersNext End before now left left_now =
     IfSome (lines_ahead before left) (λ r. r ≡ last_line []) × (bytes_ahead now ≡ []) × IsAtEnd left_now
     × GivesNone before now left left_now
 AnswersNext TooLong before now left left_now =
-    IfSome (lines_ahead before left) (λ r. r ≡ too_long) × GivesNone before now left left_now
+    IfSome (lines_ahead before left) (λ r. r ≡ long_lines) × GivesNone before now left left_now
 AnswersNext Failed before now left left_now = GivesNone before now left left_now
 AnswersNext Memory before now left left_now = GivesNone before now left left_now
 
@@ -77,3 +77,8 @@ pub record TakesFew (before now : Lines) (left left_now : Told) : Type 0 where
   pub bytes : List ℕ
   pub taken : left ≡ in_front bytes left_now
   pub few : length bytes + may_read now ≤ may_read before
+
+-- a line takes some of the limit, so there are only so many
+abbrev pub IsShorter : Line → Lines → Lines → Type 0
+IsShorter Given before now = line_room now < line_room before
+IsShorter other before now = Unit {0}

@@ -1,9 +1,9 @@
 -- What the steps of a reading of lines leave.
-use Rattle.std.specs.Prelude.{◌≡◌, ℕ, ◌+◌, ◌-◌, ◌<◌, ◌≤◌, Bool, true, false, length, get_or, Some, None}
+use Rattle.std.specs.Prelude.{◌≡◌, ℕ, ◌+◌, ◌-◌, ◌<◌, ◌≤◌, Bool, true, false, length, get_or, Some, None, IfSome}
 use Rattle.std.specs.declared.option.Option.{Option}
 use Rattle.uf_edge.specs.Streams.{Told}
 use Rattle.uf_lines.specs.LinesIn.{HasNoFeed}
-use Rattle.uf_lines.specs.Reading.{AnswersNext, GivesNone, HasEnded, TakesFew, bytes_ahead, is_failed_line, may_read}
+use Rattle.uf_lines.specs.Reading.{AnswersNext, GivesNone, HasEnded, IsShorter, TakesFew, bytes_ahead, is_failed_line, may_read}
 use Rattle.uf_lines.specs.declared.lines.Line.{Line}
 use Rattle.uf_lines.specs.declared.lines.Lines.{Lines}
 
@@ -54,6 +54,7 @@ pub record NeedsMore (w : Lines) : Type 0 where
 pub record Says (line : Line) (before now : Lines) : Type 0 where
   pub answer : (left : Told) → HasEnded before left → AnswersNext line before now left left
   pub no_fault : is_failed_line line ≡ false
+  pub shorter : IsShorter line before now
   pub same_reads : may_read now ≡ may_read before
 
 -- more bytes are wanted
@@ -84,6 +85,7 @@ LeadsTo None before now left left_now = readings now < readings before
 pub record Leads (answer : Option Line) (before now : Lines) (left left_now : Told) : Type 0 where
   pub leads : LeadsTo answer before now left left_now
   pub none : GivesNone before now left left_now
+  pub shorter : IfSome answer (λ line. IsShorter line before now)
   pub few : TakesFew before now left left_now
   pub ended : HasEnded now left_now
   pub passed : now.used ≡ 0

@@ -42,7 +42,7 @@ pub struct Lines {
 
 impl Lines {
     ghost use Rattle.uf_edge.specs.Streams.{Told};
-    ghost use Rattle.uf_lines.specs.Reading.{AnswersNext, HasEnded, TakesFew, bytes_ahead, is_failed_line, line_given, line_most, line_room};
+    ghost use Rattle.uf_lines.specs.Reading.{AnswersNext, HasEnded, IsShorter, TakesFew, bytes_ahead, is_failed_line, line_given, line_most, line_room};
     ghost use Rattle.uf_lines.specs.Seeking.{Goes, IsAsBefore, IsPassed, Leads, Looks, NeedsMore, StandsAtFeed, Stops, is_fault};
 
     /// The lines of a source that nothing was read of.
@@ -78,6 +78,7 @@ impl Lines {
         ensures ended { HasEnded self.new (I.left input.new) }
         ensures few { TakesFew self.old self.new (I.left input.old) (I.left input.new) }
         ensures waits { Contains (bytes_ahead self.old) 10 → input.new ≡ input.old }
+        ensures shorter { IsShorter result self.old self.new }
         ensures counts { Counts (is_failed_line result) (I.faults input.old) (I.faults input.new) }
     {
         self.pass();

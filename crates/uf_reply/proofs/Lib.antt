@@ -1,4 +1,5 @@
 pub mod Asked
 pub mod CidNames
 pub mod Few
+pub mod LineWords
 pub mod Slashes

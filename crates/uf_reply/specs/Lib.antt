@@ -1,3 +1,4 @@
+pub mod Batches
 pub mod Cars
 pub mod Cids
 pub mod Commands

@@ -34,7 +34,7 @@ pub fn read_command(alloc: Global, words: &[String]) -> Result<Command, Refusal>
 }
 
 // The same command with its path read.
-fn read_path(alloc: Global, cmd: Cmd) -> Result<Command, Refusal>
+pub fn read_path(alloc: Global, cmd: Cmd) -> Result<Command, Refusal>
     requires { HasAcceptedProfile cmd }
     ensures asked { IsAsked result (asked cmd) }
     ensures profile { IfOk result IsAccepted }

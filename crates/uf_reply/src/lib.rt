@@ -3,6 +3,7 @@
 #![tactic(auto)]
 
 mod asking;
+mod batches;
 mod cars;
 mod dags;
 mod from;
@@ -12,6 +13,7 @@ mod status;
 mod types;
 
 pub use asking::read_command;
+pub use batches::read_line;
 pub use cars::{car_refusal, export_refusal, kept_refusal, root_lines, section_refusal};
 pub use dags::{adopted_name, dag_refusal, no_file};
 pub use lines::{line, plain, refusal_status, two_blocks};
