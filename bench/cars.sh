@@ -1,5 +1,6 @@
 #!/usr/bin/env bash
-# Measures CARs over the store on the disk, each row three times in turn on one core, and prints the medians.
+# Measures CARs over the store on the disk, each row three times in turn on one core, and prints the medians and their
+# ratios.
 # - `dag export` of a file of MIB MiB (1024 if unset)
 # - `dag import` of that CAR into another store
 # - `cp` of the same bytes with `sync`, and sha256sum of them
@@ -46,7 +47,13 @@ rows = {}
 for line in open("lines", encoding="ascii"):
     name, *numbers = line.split()
     rows.setdefault(name, []).append([float(number) for number in numbers])
+medians = {name: [statistics.median(column) for column in zip(*runs)] for name, runs in rows.items()}
 print(f"medians of three: seconds, user seconds, system seconds ({sys.argv[1]} MiB)")
-for name, runs in rows.items():
-    print(name, *(f"{statistics.median(column):.3f}" for column in zip(*runs)))
+for name, numbers in medians.items():
+    print(name, *(f"{number:.3f}" for number in numbers))
+print("ratios of unixfs to others: seconds, user seconds")
+for name in ("export", "import"):
+    for other in ("cp", "sha256sum"):
+        pairs = zip(medians[name][:2], medians[other][:2])
+        print(f"{name}:{other}", *(f"{ours / theirs:.2f}" if theirs else "-" for ours, theirs in pairs))
 PYTHON

@@ -1,10 +1,13 @@
 #!/usr/bin/env bash
 # Measures files and folders of the host: a folder is added and gotten again, each row three times in turn on one core, and
-# the medians are printed.
-# - small: a folder of SMALL files of 100 bytes (10000 if unset)
+# the medians and their ratios are printed.
+# - small: a folder of SMALL files of 5000 to 5400 bytes (10000 if unset: 52 MB)
 # - large: a folder of four files of MIB MiB together (1024 if unset)
 # - `unixfs add -r` against `git add` that makes each object stable, `cp -r` with `sync`, and, where they are installed,
 #   `ostree commit` and `restic backup`; `unixfs get` against `git checkout`, `cp -r`, `ostree checkout` and `restic restore`
+# - `unixfs add -r -n` against `find -exec sha256sum`
+# The aims: `add -r` of the small folder takes less time than `git add`, and `add -r -n` at most 1.2 of the user time of
+# `sha256sum`.
 # CORE says which core (the last one if unset), FOLDER on which disk (that of the temporary files if unset).
 set -eu
 top=$(cd "$(dirname "$0")/.." && pwd)
@@ -21,7 +24,7 @@ python3 - "$small" "$mib" <<'PYTHON'
 import os, sys
 for n in range(int(sys.argv[1])):
     with open(f"small/{n:05}", "wb") as file:
-        file.write(os.urandom(100))
+        file.write(os.urandom(5000 + n % 401))
 for n in range(4):
     with open(f"large/{n}", "wb") as file:
         for _ in range(int(sys.argv[2]) * 4):
@@ -61,10 +64,13 @@ print(sys.argv[1], f"{time.monotonic() - start:.4f} {used.ru_utime:.4f} {used.ru
 PYTHON
 }
 
-# Adds one of the two folders and gets it again.
+# Hashes one of the two folders, adds it and gets it again.
 go_round() {
     ready unixfs
+    measure "$1-hash:unixfs" "\"\$UNIXFS\" add -r -n ../$1 > ../hashed"
+    measure "$1-hash:sha256sum" "find ../$1 -type f -exec sha256sum {} + > ../sums"
     measure "$1-add:unixfs" "\"\$UNIXFS\" add -r ../$1 > ../rows"
+    cmp -s rows hashed
     cid=$(tail -n 1 rows | cut -d ' ' -f 2)
     measure "$1-get:unixfs" "\"\$UNIXFS\" get $cid copy && sync -f ."
     ready git "$1"
@@ -100,7 +106,14 @@ rows = {}
 for line in open("lines", encoding="ascii"):
     name, *numbers = line.split()
     rows.setdefault(name, []).append([float(number) for number in numbers])
-print(f"medians of three: seconds, user seconds, system seconds (small: {sys.argv[1]} files of 100 bytes; large: {sys.argv[2]} MiB in four files)")
-for name, runs in rows.items():
-    print(name, *(f"{statistics.median(column):.3f}" for column in zip(*runs)))
+medians = {name: [statistics.median(column) for column in zip(*runs)] for name, runs in rows.items()}
+print(f"medians of three: seconds, user seconds, system seconds (small: {sys.argv[1]} files of about 5 KB; large: {sys.argv[2]} MiB in four files)")
+for name, numbers in medians.items():
+    print(name, *(f"{number:.3f}" for number in numbers))
+print("ratios of unixfs to others: seconds, user seconds")
+for name, numbers in medians.items():
+    what, who = name.split(":")
+    if who != "unixfs":
+        ours = medians[what + ":unixfs"]
+        print(name, *(f"{ours[at] / numbers[at]:.2f}" if numbers[at] else "-" for at in (0, 1)))
 PYTHON

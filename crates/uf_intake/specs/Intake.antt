@@ -1,0 +1,35 @@
+-- What becomes of a source that is read as a file.
+use Rattle.std.specs.Prelude.{◌≡◌, ℕ, ◌<◌, ◌≤◌, List, length}
+use Rattle.std.specs.declared.result.Result.{Result}
+use Rattle.std.specs.declared.result.Result.TheVariants.{Ok, Err}
+use Rattle.uf_edge.specs.Streams.{Told, before, IsAtEnd}
+use Rattle.uf_store.specs.Contents as store
+use Rattle.uf_store.specs.Keeping.{Holds}
+use Rattle.uf_tree.specs.FilePlan.{file_plan}
+use Rattle.uf_tree.specs.Profiles.{most_bytes}
+use Rattle.uf_tree.specs.declared.nodes.Entry.{Entry}
+use Rattle.uf_tree.specs.declared.profile.Profile.{Profile}
+use Rattle.uf_intake.specs.Faults.{IsStoppedBy}
+use Rattle.uf_intake.specs.declared.fault.IntakeFault.{IntakeFault}
+
+-- more bytes were given than a file of this profile may have
+pub record PassesMost (p : Profile) (left left_now : Told) : Type 0 where
+  pub bytes : List ℕ
+  pub taken : left ≡ before bytes left_now
+  pub many : most_bytes p < length bytes
+
+-- these are all bytes of the source, no more than a file may have, and this is their file's entry, whose blocks are
+-- held
+pub record IsWholeFile (hash : List ℕ → List ℕ) (p : Profile) (told_now : store.Told) (entry : Entry)
+    (left left_now : Told) : Type 0 where
+  pub bytes : List ℕ
+  pub taken : left ≡ before bytes left_now
+  pub nothing_left : IsAtEnd left_now
+  pub few : length bytes ≤ most_bytes p
+  pub is : entry ≡ (file_plan hash p bytes).entry
+  pub held : Holds told_now (file_plan hash p bytes).blocks
+
+-- the file of a source, or why there is none
+abbrev pub IsFileOf : (List ℕ → List ℕ) → Profile → store.Told → Result Entry IntakeFault → Told → Told → Type 0
+IsFileOf hash p told_now (Ok entry) left left_now = IsWholeFile hash p told_now entry left left_now
+IsFileOf hash p told_now (Err fault) left left_now = IsStoppedBy (PassesMost p left left_now) fault

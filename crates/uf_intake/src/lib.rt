@@ -1,0 +1,10 @@
+//! Files made of what a source gives: built and saved while it is read.
+#![tactic(auto)]
+
+mod fault;
+mod intake;
+#[cfg(test)]
+mod tests;
+
+pub use fault::IntakeFault;
+pub use intake::file_of;
