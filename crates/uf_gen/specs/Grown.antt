@@ -12,6 +12,8 @@ use Rattle.uf_plain.specs.Rules.{allowed}
 use Rattle.uf_tree.specs.declared.profile.Profile.{Profile}
 use Rattle.uf_tree.specs.Tree.{Tree, File, Dir, Entries, Nothing}
 use Rattle.uf_gen.specs.Rules.{file_name, first_bytes, last_bytes, late_offset, late_piece}
+use Rattle.uf_gen.specs.declared.step.Step.{Step}
+use Rattle.uf_gen.specs.declared.step.Step.TheVariants.{Make, Change}
 
 -- a write that makes the file
 abbrev pub making : WriteHow
@@ -61,6 +63,11 @@ module _ (X : List ℕ → List ℕ) (N : List ℕ → ℕ) (p : Profile) (seed 
       if i % 3 == 0 then told_of (file_path i) (removed false (file_path i) es)
       else (if i % 3 == 1 then after_write (writing_at (late_offset seed i)) late_piece i es else Ok es)
 
+  -- a file is made, or changed
+  abbrev pub after_step : Step → ℕ → Entries → Result Entries Rule
+  after_step Make i = after_make i
+  after_step Change i = after_change i
+
   -- the tree once so many files are made
   unfoldable pub made_files : ℕ → Result Entries Rule
   made_files zero = Ok Nothing
@@ -70,6 +77,11 @@ module _ (X : List ℕ → List ℕ) (N : List ℕ → ℕ) (p : Profile) (seed 
   unfoldable pub changed_files : (n i : ℕ) → Result Entries Rule
   changed_files n zero = made_files n
   changed_files n (suc i) = then_go (changed_files n i) (after_change i)
+
+  -- the tree of n files once this step was done to so many of them
+  abbrev pub stepped : Step → (n i : ℕ) → Result Entries Rule
+  stepped Make n i = made_files i
+  stepped Change n i = changed_files n i
 
   -- the tree of n files, unless a rule refuses one of the steps
   abbrev pub grown : ℕ → Result Entries Rule

@@ -4,11 +4,13 @@
 mod fresh;
 mod laws;
 mod rules;
+mod step;
 mod sums;
 
 pub use fresh::fresh_root;
 pub use laws::a_grown_tree_is_its_files;
-pub use rules::{file_name, first_bytes, late_offset, late_piece};
+pub use rules::{file_name, file_path, first_bytes, late_offset, late_piece};
+pub use step::Step;
 pub use sums::{left_count, left_size};
 
 #[cfg(test)]

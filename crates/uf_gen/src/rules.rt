@@ -1,12 +1,14 @@
 // The names and bytes of the generated files.
 ghost use Rattle.std.specs.Prelude.{◌≡◌, ◌<◌, ◌≤◌, ◌+◌, ◌-◌, ◌%◌, ◌^◌, ◌++◌, [], ℕ, IfErr, IfOk, OnOk, length, replicate, take};
+ghost use Rattle.uf_gen.specs.Grown.{file_path as path_of};
 ghost use Rattle.uf_gen.specs.Rules.{file_name as name_of, first_bytes as bytes_first, last_bytes as bytes_last};
 ghost use Rattle.uf_gen.specs.Rules.{late_offset as offset_late, late_piece as piece_late, mixed};
 ghost use Rattle.uf_bytes.specs.Laying.{laid};
 
 use std::alloc::Global;
 use uf_cid::{Block, Memory};
-use uf_tree::{Name, NameFault};
+use uf_path::Path;
+use uf_tree::{Name, NameFault, Names};
 
 // The number that a file has by a seed.
 fn mixed_number(seed: u64, i: u64) -> u64
@@ -29,6 +31,16 @@ pub fn file_name(alloc: Global, i: u64) -> Result<Name, Memory>
         },
         Err(_) => unreachable!(),
     }
+}
+
+/// The path of a file.
+pub fn file_path(alloc: Global, i: u64) -> Result<Path, Memory>
+    ensures { IfOk result (λ path. path.names ≡ path_of i) }
+{
+    let name = file_name(alloc, i)?;
+    let mut names = Names::new(alloc);
+    names.push(name)?;
+    Ok(Path { names, into: false })
 }
 
 // The bytes of that name.

@@ -119,7 +119,7 @@ cmd-only (cmd.Export cid) = below-only false (cid_reads cid)
 cmd-only (cmd.Same cid) = below-only true (cid_reads cid)
 cmd-only cmd.Import = tt
 cmd-only cmd.Batch = refl
-cmd-only (cmd.Gen n seed) = refl
+cmd-only (cmd.Gen n seed) = tt
 
 -- words are refused as no command, by a path, or never
 pub words-only : (o : Option Cmd) → IsOfWords (asked_of o)

@@ -15,7 +15,7 @@ use Rattle.uf_store.specs.declared.store.StoreFault.{StoreFault}
 use Rattle.uf_store.specs.declared.store.StoreFault.TheVariants as store
 use Rattle.uf_walk.specs.Order.{OrderFault, OverMost, Missing, NotDagPb}
 use Rattle.uf_reply.specs.Lines.{line}
-use Rattle.uf_reply.specs.Statuses.{no_memory}
+use Rattle.uf_reply.specs.Statuses.{own_refusal}
 use Rattle.uf_reply.specs.declared.types.DagRule.TheVariants as rule
 use Rattle.uf_reply.specs.declared.types.Refusal.{Refusal}
 use Rattle.uf_reply.specs.declared.types.Refusal.TheVariants as refusal
@@ -45,12 +45,12 @@ car_refusal (car.Store fault) = refusal.Store fault
 -- the fault of a store that was made for a CAR: its sections lack a block, or two of them have one CID and other
 -- bytes; it fails for want of memory alone
 abbrev pub section_refusal : StoreFault → Refusal
-section_refusal store.Failed = no_memory
-section_refusal (store.Damaged cid) = no_memory
+section_refusal store.Failed = own_refusal store.Failed
+section_refusal (store.Damaged cid) = own_refusal (store.Damaged cid)
 section_refusal (store.Missing cid) = refusal.CarLacks cid
-section_refusal (store.BadBlock cid role) = no_memory
-section_refusal (store.Clash cid first second) = refusal.CarClash cid first second
-section_refusal store.Memory = no_memory
+section_refusal (store.BadBlock cid role) = own_refusal (store.BadBlock cid role)
+section_refusal (store.Clash cid first second) = own_refusal (store.Clash cid first second)
+section_refusal store.Memory = own_refusal store.Memory
 
 -- why a CAR isn't read into such a store
 abbrev pub kept_refusal : CarFault → Refusal

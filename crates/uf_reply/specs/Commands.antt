@@ -1,5 +1,5 @@
 -- What words ask for, once their paths are read.
-use Rattle.std.specs.Prelude.{◌≡◌, ◌⊎◌, ◌<◌, ◌^◌, ◌&&◌, length, ℕ, List, [], ◌∷◌, Bool, true, false, not, IsTrue, if◌then◌else◌}
+use Rattle.std.specs.Prelude.{◌≡◌, ◌≢◌, ◌⊎◌, ◌<◌, ◌≤◌, ◌^◌, ◌&&◌, length, ℕ, List, [], ◌∷◌, Bool, true, false, not, IsTrue, if◌then◌else◌}
 use Rattle.std.specs.declared.option.Option.{Option}
 use Rattle.std.specs.declared.option.Option.TheVariants.{None, Some}
 use Rattle.std.specs.declared.result.Result.{Result}
@@ -27,7 +27,7 @@ use Rattle.uf_words.specs.declared.command.Cmd.TheVariants as cmd
 use Rattle.uf_reply.specs.declared.types.Ask.{Ask}
 use Rattle.uf_reply.specs.declared.types.Ask.TheVariants.{Ls, Stat, Edit as Edits}
 use Rattle.uf_reply.specs.declared.types.Command.{Command}
-use Rattle.uf_reply.specs.declared.types.Command.TheVariants.{Init, Add, AddFrom, WriteInput, At, Read, Cat, Get, Export, Import, Same, Adopt}
+use Rattle.uf_reply.specs.declared.types.Command.TheVariants.{Init, Add, AddFrom, WriteInput, At, Read, Cat, Get, Export, Import, Same, Adopt, Gen}
 use Rattle.uf_reply.specs.declared.types.Edit.{Edit}
 use Rattle.uf_reply.specs.declared.types.Edit.TheVariants.{Mkdir, Rm, Write, Truncate, Cp, Mv}
 use Rattle.uf_reply.specs.declared.types.Refusal.{Refusal}
@@ -131,9 +131,9 @@ asked (cmd.Mv source dest) = mv_asked source dest
 asked (cmd.Export cid) = below_asked false (cid_reads cid)
 asked cmd.Import = Ok Import
 asked (cmd.Same cid) = below_asked true (cid_reads cid)
--- these aren't answered yet
+asked (cmd.Gen n seed) = Ok (Gen n seed)
+-- this isn't answered yet
 asked cmd.Batch = Err refusal.Usage
-asked (cmd.Gen n seed) = Err refusal.Usage
 
 abbrev pub asked_of : Option Cmd → Result Command Refusal
 asked_of None = Err refusal.Usage
@@ -148,12 +148,13 @@ abbrev pub IsAsked : {A : Type 0} → Result A Refusal → Result A Refusal → 
 IsAsked (Ok a) told = told ≡ Ok a
 IsAsked (Err why) told = (why ≡ no_memory) ⊎ (told ≡ Err why)
 
--- the profile of an `init` is accepted, and a path in a DAG has fewer than 2^32 names
+-- the profile of an `init` is accepted, a path in a DAG has fewer than 2^32 names, and few files are generated
 abbrev pub IsAccepted : Command → Type 0
 IsAccepted (Init profile) = IsTrue (is_profile profile)
 IsAccepted (Cat path) = length path.names < 2 ^ 32
 IsAccepted (Get path host_path) = length path.names < 2 ^ 32
 IsAccepted (Adopt source dest) = length source.names < 2 ^ 32
+IsAccepted (Gen n seed) = n ≤ 20000
 IsAccepted other = Unit {0}
 
 -- the command reads the input
@@ -191,10 +192,20 @@ adopts other = false
 abbrev pub reads_tree_alone : Command → Bool
 reads_tree_alone command = needs_standing command && not (adopts command)
 
--- the command compares what is held with a CAR
-abbrev pub compares : Command → Bool
-compares (Same cid) = true
-compares other = false
+-- a store of a command's own: none, one of the sections of a CAR with which it compares what is held, or one in which it
+-- generates a tree
+pub data OwnStore : Type 0 where
+  NoStore OfCarSections OfTree : OwnStore
+
+abbrev pub own_store : Command → OwnStore
+own_store (Same cid) = OfCarSections
+own_store (Gen n seed) = OfTree
+own_store other = NoStore
+
+-- the command works on stores of its own alone, and leaves the one that it was given as it was
+abbrev pub generates : Command → Bool
+generates (Gen n seed) = true
+generates other = false
 
 -- the command reads or writes files and folders of the host
 abbrev pub uses_host : Command → Bool
@@ -223,6 +234,7 @@ only_reads (Cat path) = true
 only_reads (Get path host_path) = true
 only_reads (Export cid) = true
 only_reads (Same cid) = true
+only_reads (Gen n seed) = true
 only_reads other = false
 
 -- what a command may write to the store: nothing; blocks and a sync; a Head where there was none; blocks, a sync and the Head
@@ -248,11 +260,12 @@ command_writes Import = SyncsBlocks
 command_writes (Adopt source dest) = MovesHead
 command_writes other = NoWrites
 
--- the command is `add -n`, of the input or of the host
-abbrev pub only_hashes : Command → Bool
-only_hashes (Add only_hash) = only_hash
-only_hashes (AddFrom recursive only_hash path) = only_hash
-only_hashes other = false
+-- the command counts no touches: `add -n`, of the input or of the host, and `gen`
+abbrev pub touches_nothing : Command → Bool
+touches_nothing (Add only_hash) = only_hash
+touches_nothing (AddFrom recursive only_hash path) = only_hash
+touches_nothing (Gen n seed) = true
+touches_nothing other = false
 
 -- a lookup found a file
 abbrev pub is_file_at : Result Tree Refused → Bool
@@ -291,7 +304,7 @@ is_idle bytes es (WriteInput how path) = has_nothing_to_do (Write how bytes) pat
 is_idle bytes es other = false
 
 -- a fact of the command, where words ask for one, and else this
-abbrev pub of_command : (Command → Bool) → Bool → Result Command Refusal → Bool
+abbrev pub of_command : {A : Type 0} → (Command → A) → A → Result Command Refusal → A
 of_command test else_this (Ok command) = test command
 of_command test else_this (Err why) = else_this
 

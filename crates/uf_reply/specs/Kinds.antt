@@ -7,13 +7,15 @@ use Rattle.std.specs.declared.result.Result.TheVariants.{Ok, Err}
 use Rattle.uf_store.specs.declared.store.StoreFault.{StoreFault}
 use Rattle.uf_store.specs.declared.store.StoreFault.TheVariants as fault
 use Rattle.uf_reply.specs.declared.types.Command.{Command}
-use Rattle.uf_reply.specs.declared.types.Command.TheVariants.{Init, Add, AddFrom, WriteInput, At, Read, Cat, Get, Export, Import, Same, Adopt}
+use Rattle.uf_reply.specs.declared.types.Command.TheVariants.{Init, Add, AddFrom, WriteInput, At, Read, Cat, Get, Export, Import, Same, Adopt, Gen}
 use Rattle.uf_reply.specs.declared.types.Refusal.{Refusal}
 use Rattle.uf_reply.specs.declared.types.Refusal.TheVariants as refusal
 
--- the kinds of refusals: a damaged block is a failure of the store, and the sections of a CAR may lack a block or clash
+-- the kinds of refusals: a damaged block is a failure of the store, the sections of a CAR may lack a block, and blocks may
+-- clash in a store of the command's own
 pub data RefusalKind : Type 0 where
-  OfRule OfDag OfHost OfPath OfLongInput OfUsage OfReady OfRead OfWrite OfFailure OfMissing OfBadBlock OfClash OfMemory OfCar OfSections : RefusalKind
+  OfRule OfDag OfHost OfPath OfLongInput OfUsage OfReady OfRead OfWrite OfFailure OfMissing OfBadBlock OfClash OfMemory
+      OfCar OfSections OfOwnClash : RefusalKind
 
 -- the kind of a fault of the store
 abbrev pub fault_kind : StoreFault → RefusalKind
@@ -38,7 +40,7 @@ refusal_kind refusal.Write = OfWrite
 refusal_kind (refusal.Store fault) = fault_kind fault
 refusal_kind (refusal.Car number place) = OfCar
 refusal_kind (refusal.CarLacks cid) = OfSections
-refusal_kind (refusal.CarClash cid first second) = OfSections
+refusal_kind (refusal.OwnClash cid first second) = OfOwnClash
 
 -- the store's fault in a refusal
 abbrev pub fault_behind : Refusal → Option StoreFault
@@ -52,9 +54,10 @@ refusal_fault (Err why) = fault_behind why
 
 -- the families of commands: those that make a store ready, that add an input or what a host has, that write an input into
 -- the tree of the Head, that work on that tree alone, that read DAGs of others, that write them to a host, that keep the
--- blocks of a CAR, that compare with one, and that copy from DAGs of others into that tree
+-- blocks of a CAR, that compare with one, that copy from DAGs of others into that tree, and that generate a tree
 pub data Family : Type 0 where
-  MakesReady AddsInput AddsHost TakesInput WorksInTree ReadsDag GetsDag KeepsCar ComparesCar AdoptsDag : Family
+  MakesReady AddsInput AddsHost TakesInput WorksInTree ReadsDag GetsDag KeepsCar ComparesCar AdoptsDag GeneratesTree
+      : Family
 
 abbrev pub family_of : Command → Family
 family_of (Init p) = MakesReady
@@ -69,6 +72,7 @@ family_of (Export cid) = ReadsDag
 family_of Import = KeepsCar
 family_of (Same cid) = ComparesCar
 family_of (Adopt source dest) = AdoptsDag
+family_of (Gen n seed) = GeneratesTree
 
 -- the kinds that a command of a family may answer once its words are read, before it prints
 abbrev pub may_answer : Family → RefusalKind → Bool
@@ -107,6 +111,7 @@ may_answer TakesInput OfUsage = false
 may_answer TakesInput OfWrite = false
 may_answer TakesInput OfCar = false
 may_answer TakesInput OfSections = false
+may_answer TakesInput OfOwnClash = false
 may_answer TakesInput kind = true
 may_answer ReadsDag OfDag = true
 may_answer ReadsDag OfFailure = true
@@ -131,6 +136,7 @@ may_answer KeepsCar kind = false
 may_answer ComparesCar OfDag = true
 may_answer ComparesCar OfCar = true
 may_answer ComparesCar OfSections = true
+may_answer ComparesCar OfOwnClash = true
 may_answer ComparesCar OfRead = true
 may_answer ComparesCar OfFailure = true
 may_answer ComparesCar OfMissing = true
@@ -139,12 +145,17 @@ may_answer ComparesCar kind = false
 may_answer AdoptsDag OfHost = false
 may_answer AdoptsDag OfCar = false
 may_answer AdoptsDag OfSections = false
+may_answer AdoptsDag OfOwnClash = false
 may_answer AdoptsDag OfPath = false
 may_answer AdoptsDag OfLongInput = false
 may_answer AdoptsDag OfUsage = false
 may_answer AdoptsDag OfRead = false
 may_answer AdoptsDag OfWrite = false
 may_answer AdoptsDag kind = true
+may_answer GeneratesTree OfRule = true
+may_answer GeneratesTree OfOwnClash = true
+may_answer GeneratesTree OfMemory = true
+may_answer GeneratesTree kind = false
 
 -- the same when it has printed or written to the host: that may have failed
 abbrev pub may_end : Family → RefusalKind → Bool

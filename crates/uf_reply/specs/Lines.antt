@@ -144,7 +144,7 @@ line_of refusal.Write = plain_line status.WriteFault
 line_of (refusal.Store why) = fault_line why
 line_of (refusal.Car number place) = car_line number place
 line_of (refusal.CarLacks cid) = missing_line cid
-line_of (refusal.CarClash cid first second) = clash_line cid first second
+line_of (refusal.OwnClash cid first second) = clash_line cid first second
 
 -- the line that goes to `errors`; nothing at Ok
 abbrev pub said : Result (List ℕ) Refusal → List ℕ

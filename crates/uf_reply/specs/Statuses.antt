@@ -60,7 +60,7 @@ status_of refusal.Write = status.WriteFault
 status_of (refusal.Store why) = fault_status why
 status_of (refusal.Car number place) = status.Rule
 status_of (refusal.CarLacks cid) = status.Missing
-status_of (refusal.CarClash cid first second) = status.Clash
+status_of (refusal.OwnClash cid first second) = status.Clash
 
 -- how a command ends that is done or refused
 abbrev pub ended : {A : Type 0} → Result A Refusal → Status
@@ -70,3 +70,13 @@ ended (Err why) = status_of why
 -- want of memory
 abbrev pub no_memory : Refusal
 no_memory = refusal.Store fault.Memory
+
+-- the fault of a store of a command's own, which holds what it was given and doesn't fail: what is no clash is want of
+-- memory
+abbrev pub own_refusal : StoreFault → Refusal
+own_refusal fault.Failed = no_memory
+own_refusal (fault.Damaged cid) = no_memory
+own_refusal (fault.Missing cid) = no_memory
+own_refusal (fault.BadBlock cid role) = no_memory
+own_refusal (fault.Clash cid first second) = refusal.OwnClash cid first second
+own_refusal fault.Memory = no_memory

@@ -7,7 +7,7 @@ ghost use Rattle.uf_reply.specs.Commands.{IsAccepted, IsAsked, add_asked, asked,
 ghost use Rattle.uf_reply.specs.Commands.{adopt_asked, below_asked, cat_asked, cp_asked, get_asked, mv_asked, path_refusal};
 ghost use Rattle.uf_reply.specs.Commands.{read_asked, write_asked};
 ghost use Rattle.uf_reply.specs.declared.types.Ask.TheVariants as asks;
-ghost use Rattle.uf_words.specs.Commands.{HasAcceptedProfile};
+ghost use Rattle.uf_words.specs.Commands.{IsWithinLimits};
 
 use crate::{Ask, Command, Edit, Refusal};
 use std::alloc::Global;
@@ -35,7 +35,7 @@ pub fn read_command(alloc: Global, words: &[String]) -> Result<Command, Refusal>
 
 // The same command with its path read.
 pub fn read_path(alloc: Global, cmd: Cmd) -> Result<Command, Refusal>
-    requires { HasAcceptedProfile cmd }
+    requires { IsWithinLimits cmd }
     ensures asked { IsAsked result (asked cmd) }
     ensures profile { IfOk result IsAccepted }
 {
@@ -71,6 +71,7 @@ pub fn read_path(alloc: Global, cmd: Cmd) -> Result<Command, Refusal>
         Cmd::Export { cid } => read_below(alloc, &cid, false),
         Cmd::Import => Ok(Command::Import),
         Cmd::Same { cid } => read_below(alloc, &cid, true),
+        Cmd::Gen { n, seed } => Ok(Command::Gen { n, seed }),
         _ => Err(Refusal::Usage),
     }
 }

@@ -3,6 +3,7 @@ ghost use Rattle.std.specs.Prelude.{◌≡◌, ◌++◌, IfOk, OnOk};
 ghost use Rattle.std.specs.List.{flat_map};
 ghost use Rattle.uf_reply.specs.Cars.{car_refusal as refusal_of_car, export_refusal as refusal_of_export, root_line};
 ghost use Rattle.uf_reply.specs.Cars.{kept_refusal as refusal_of_kept, section_refusal as refusal_of_section};
+ghost use Rattle.uf_reply.specs.Statuses.{own_refusal as refusal_of_own};
 
 use crate::{DagRule, Refusal};
 use std::alloc::Global;
@@ -47,9 +48,20 @@ pub fn section_refusal(fault: StoreFault) -> Refusal
 {
     match fault {
         StoreFault::Missing(cid) => Refusal::CarLacks(cid),
-        StoreFault::Clash(cid, first, second) => Refusal::CarClash(cid, first, second),
+        fault => own_refusal(fault),
+    }
+}
+
+/// A fault of a store of a command's own, as a refusal. Such a store holds what it was given and doesn't fail: what is no
+/// clash is want of memory.
+pub fn own_refusal(fault: StoreFault) -> Refusal
+    ensures { result ≡ refusal_of_own fault }
+{
+    match fault {
+        StoreFault::Clash(cid, first, second) => Refusal::OwnClash(cid, first, second),
         StoreFault::Failed
         | StoreFault::Damaged(_)
+        | StoreFault::Missing(_)
         | StoreFault::BadBlock(_, _)
         | StoreFault::Memory => Refusal::Store(StoreFault::Memory),
     }

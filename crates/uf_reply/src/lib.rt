@@ -14,7 +14,9 @@ mod types;
 
 pub use asking::read_command;
 pub use batches::read_line;
-pub use cars::{car_refusal, export_refusal, kept_refusal, root_lines, section_refusal};
+pub use cars::{
+    car_refusal, export_refusal, kept_refusal, own_refusal, root_lines, section_refusal,
+};
 pub use dags::{adopted_name, dag_refusal, no_file};
 pub use lines::{line, plain, refusal_status, two_blocks};
 pub use rows::{added_row, name_lines, put_added, put_line, put_number, row_lines, stat_text};

@@ -32,7 +32,7 @@ pub fn refusal_status(refusal: &Refusal) -> Status
         Refusal::Write => Status::WriteFault,
         Refusal::Store(fault) => status_of_fault(fault),
         Refusal::CarLacks(_) => Status::Missing,
-        Refusal::CarClash(_, _, _) => Status::Clash,
+        Refusal::OwnClash(_, _, _) => Status::Clash,
     }
 }
 
@@ -66,7 +66,7 @@ pub fn line(alloc: Global, refusal: &Refusal) -> Result<Block, Memory>
         Refusal::Store(fault) => store_line(alloc, fault),
         Refusal::Car { number, place } => car_line(alloc, *number, *place),
         Refusal::CarLacks(cid) => missing(alloc, cid),
-        Refusal::CarClash(cid, first, second) => {
+        Refusal::OwnClash(cid, first, second) => {
             clash(alloc, cid, first.as_slice(), second.as_slice())
         }
     }

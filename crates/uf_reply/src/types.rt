@@ -27,7 +27,7 @@ pub enum Ask {
 }
 
 /// A command, its paths read. `Get` writes what is at a path in a DAG to a path of the host, and `Adopt` copies it to where
-/// a path of the tree leads.
+/// a path of the tree leads. `Gen` makes a tree of `n` files on a store of its own.
 #[derive(Drop)]
 pub enum Command {
     Init {
@@ -72,6 +72,10 @@ pub enum Command {
         source: DagPath,
         dest: Path,
     },
+    Gen {
+        n: u64,
+        seed: u64,
+    },
 }
 
 /// The rules by which what is asked of the DAGs of others is refused: a path leads to nothing, goes on behind a file, or
@@ -103,8 +107,8 @@ pub enum HostRule {
 }
 
 /// Why a command is refused. A fault of a CAR has its number, and the byte with which the header or the section begins.
-/// The sections of one that is compared may lack the block of a CID, or two of them have one CID and other bytes, those of
-/// the earlier one first.
+/// The sections of one that is compared may lack the block of a CID. In a store of a command's own, of such sections or of
+/// what it generates, two blocks may clash, the earlier one first.
 #[derive(Drop)]
 pub enum Refusal {
     Rule(Rule),
@@ -119,5 +123,5 @@ pub enum Refusal {
     Store(StoreFault),
     Car { number: u8, place: u64 },
     CarLacks(Cid),
-    CarClash(Cid, Block, Block),
+    OwnClash(Cid, Block, Block),
 }

@@ -113,7 +113,7 @@ module _ (X : List ℕ → List ℕ) where
   added-answers N s blocks p bytes (Err (refusal.Dag rule)) held a b l m i j stands stays row e shown f c counts read = absurd row
   added-answers N s blocks p bytes (Err (refusal.Car number place)) held a b l m i j stands stays row e shown f c counts read = absurd row
   added-answers N s blocks p bytes (Err (refusal.CarLacks cid)) held a b l m i j stands stays row e shown f c counts read = absurd row
-  added-answers N s blocks p bytes (Err (refusal.CarClash cid first second)) held a b l m i j stands stays row e shown f c counts read = absurd row
+  added-answers N s blocks p bytes (Err (refusal.OwnClash cid first second)) held a b l m i j stands stays row e shown f c counts read = absurd row
   added-answers N s blocks p bytes (Err (refusal.Host rule)) held a b l m i j stands stays row e shown f c counts read = absurd row
   added-answers N s blocks p bytes (Err (refusal.BadPath why)) held a b l m i j stands stays row e shown f c counts read = absurd row
   added-answers N s blocks p bytes (Err refusal.Usage) held a b l m i j stands stays row e shown f c counts read = absurd row
@@ -148,7 +148,7 @@ module _ (X : List ℕ → List ℕ) where
   added-over N c d p es held_blocks bytes (Err (refusal.Dag rule)) held a b l m i j stands row e shown f g counts read = absurd row
   added-over N c d p es held_blocks bytes (Err (refusal.Car number place)) held a b l m i j stands row e shown f g counts read = absurd row
   added-over N c d p es held_blocks bytes (Err (refusal.CarLacks cid)) held a b l m i j stands row e shown f g counts read = absurd row
-  added-over N c d p es held_blocks bytes (Err (refusal.CarClash cid first second)) held a b l m i j stands row e shown f g counts read = absurd row
+  added-over N c d p es held_blocks bytes (Err (refusal.OwnClash cid first second)) held a b l m i j stands row e shown f g counts read = absurd row
   added-over N c d p es held_blocks bytes (Err (refusal.Host rule)) held a b l m i j stands row e shown f g counts read = absurd row
   added-over N c d p es held_blocks bytes (Err (refusal.BadPath why)) held a b l m i j stands row e shown f g counts read = absurd row
   added-over N c d p es held_blocks bytes (Err refusal.Usage) held a b l m i j stands row e shown f g counts read = absurd row
@@ -168,7 +168,7 @@ module _ (X : List ℕ → List ℕ) where
   unread-over good N p es given (refusal.Dag rule) a b names stands read shown f g = absurd read
   unread-over good N p es given (refusal.Car number place) a b names stands read shown f g = absurd read
   unread-over good N p es given (refusal.CarLacks cid) a b names stands read shown f g = absurd read
-  unread-over good N p es given (refusal.CarClash cid first second) a b names stands read shown f g = absurd read
+  unread-over good N p es given (refusal.OwnClash cid first second) a b names stands read shown f g = absurd read
   unread-over good N p es given (refusal.Host rule) a b names stands read shown f g = absurd read
   unread-over good N p es given (refusal.BadPath why) a b names stands read shown f g = absurd read
   unread-over good N p es given refusal.Usage a b names stands read shown f g = absurd read
@@ -197,7 +197,7 @@ module _ (X : List ℕ → List ℕ) where
   head-refused good N s only_hash bytes (refusal.Dag rule) a b told now read shown f c = absurd read
   head-refused good N s only_hash bytes (refusal.Car number place) a b told now read shown f c = absurd read
   head-refused good N s only_hash bytes (refusal.CarLacks cid) a b told now read shown f c = absurd read
-  head-refused good N s only_hash bytes (refusal.CarClash cid first second) a b told now read shown f c = absurd read
+  head-refused good N s only_hash bytes (refusal.OwnClash cid first second) a b told now read shown f c = absurd read
   head-refused good N s only_hash bytes (refusal.Host rule) a b told now read shown f c = absurd read
   head-refused good N s only_hash bytes (refusal.BadPath why) a b told now read shown f c = absurd read
   head-refused good N s only_hash bytes refusal.Usage a b told now read shown f c = absurd read
@@ -251,7 +251,7 @@ module _ (X : List ℕ → List ℕ) where
   adds-of only_hash told held p (Err (refusal.Dag rule)) l m by row = tt
   adds-of only_hash told held p (Err (refusal.Car number place)) l m by row = tt
   adds-of only_hash told held p (Err (refusal.CarLacks cid)) l m by row = tt
-  adds-of only_hash told held p (Err (refusal.CarClash cid first second)) l m by row = tt
+  adds-of only_hash told held p (Err (refusal.OwnClash cid first second)) l m by row = tt
   adds-of only_hash told held p (Err (refusal.Host rule)) l m by row = tt
   adds-of only_hash told held p (Err (refusal.BadPath why)) l m by row = tt
   adds-of only_hash told held p (Err refusal.Usage) l m by row = tt
@@ -266,7 +266,7 @@ module _ (X : List ℕ → List ℕ) where
   adds-read only_hash told (refusal.Dag rule) l m read = tt
   adds-read only_hash told (refusal.Car number place) l m read = tt
   adds-read only_hash told (refusal.CarLacks cid) l m read = tt
-  adds-read only_hash told (refusal.CarClash cid first second) l m read = tt
+  adds-read only_hash told (refusal.OwnClash cid first second) l m read = tt
   adds-read only_hash told (refusal.Host rule) l m read = tt
   adds-read only_hash told (refusal.BadPath why) l m read = tt
   adds-read only_hash told refusal.Usage l m read = tt
@@ -282,7 +282,7 @@ module _ (X : List ℕ → List ℕ) where
   row-ready only_hash told held p (Err (refusal.Dag rule)) l m row = tt
   row-ready only_hash told held p (Err (refusal.Car number place)) l m row = tt
   row-ready only_hash told held p (Err (refusal.CarLacks cid)) l m row = tt
-  row-ready only_hash told held p (Err (refusal.CarClash cid first second)) l m row = tt
+  row-ready only_hash told held p (Err (refusal.OwnClash cid first second)) l m row = tt
   row-ready only_hash told held p (Err (refusal.Host rule)) l m row = tt
   row-ready only_hash told held p (Err (refusal.BadPath why)) l m row = tt
   row-ready only_hash told held p (Err refusal.Usage) l m row = tt
@@ -319,7 +319,7 @@ read-ready only_hash told (refusal.Rule rule) read = tt
 read-ready only_hash told (refusal.Dag rule) read = tt
 read-ready only_hash told (refusal.Car number place) read = tt
 read-ready only_hash told (refusal.CarLacks cid) read = tt
-read-ready only_hash told (refusal.CarClash cid first second) read = tt
+read-ready only_hash told (refusal.OwnClash cid first second) read = tt
 read-ready only_hash told (refusal.Host rule) read = tt
 read-ready only_hash told (refusal.BadPath why) read = tt
 read-ready only_hash told refusal.Usage read = tt
@@ -337,7 +337,7 @@ synced-row X p a b entry row (Err (refusal.Rule rule)) l m leaves is row_is stop
 synced-row X p a b entry row (Err (refusal.Dag rule)) l m leaves is row_is stops file = absurd stops
 synced-row X p a b entry row (Err (refusal.Car number place)) l m leaves is row_is stops file = absurd stops
 synced-row X p a b entry row (Err (refusal.CarLacks cid)) l m leaves is row_is stops file = absurd stops
-synced-row X p a b entry row (Err (refusal.CarClash cid first second)) l m leaves is row_is stops file = absurd stops
+synced-row X p a b entry row (Err (refusal.OwnClash cid first second)) l m leaves is row_is stops file = absurd stops
 synced-row X p a b entry row (Err (refusal.Host rule)) l m leaves is row_is stops file = absurd stops
 synced-row X p a b entry row (Err (refusal.BadPath why)) l m leaves is row_is stops file = absurd stops
 synced-row X p a b entry row (Err refusal.Usage) l m leaves is row_is stops file = absurd stops

@@ -10,7 +10,7 @@ use Rattle.uf_store.specs.Contents.{Told}
 use Rattle.uf_store.specs.declared.store.StoreFault.{StoreFault}
 use Rattle.uf_store.specs.declared.store.StoreFault.TheVariants.{Failed, Damaged, Missing, BadBlock, Clash, Memory}
 use Rattle.uf_tree.specs.declared.profile.Profile.{Profile}
-use Rattle.uf_reply.specs.Kinds.{IsOf, RefusalKind, OfRule, OfDag, OfHost, OfPath, OfLongInput, OfUsage, OfReady, OfRead, OfWrite, OfFailure, OfMissing, OfBadBlock, OfClash, OfMemory, OfCar, OfSections, MakesReady, AddsInput, WorksInTree, fault_kind, may_answer, opened_kinds, read_kind, refusal_kind}
+use Rattle.uf_reply.specs.Kinds.{IsOf, RefusalKind, OfRule, OfDag, OfHost, OfPath, OfLongInput, OfUsage, OfReady, OfRead, OfWrite, OfFailure, OfMissing, OfBadBlock, OfClash, OfMemory, OfCar, OfSections, OfOwnClash, MakesReady, AddsInput, WorksInTree, fault_kind, may_answer, opened_kinds, read_kind, refusal_kind}
 use Rattle.uf_reply.specs.declared.types.Command.{Command}
 use Rattle.uf_reply.specs.declared.types.Refusal.{Refusal}
 use Rattle.uf_reply.specs.declared.types.Refusal.TheVariants as refusal
@@ -34,7 +34,7 @@ row-kinds X p held (Err (refusal.Rule rule)) l m row = refl
 row-kinds X p held (Err (refusal.Dag rule)) l m row = absurd row
 row-kinds X p held (Err (refusal.Car number place)) l m row = absurd row
 row-kinds X p held (Err (refusal.CarLacks cid)) l m row = absurd row
-row-kinds X p held (Err (refusal.CarClash cid first second)) l m row = absurd row
+row-kinds X p held (Err (refusal.OwnClash cid first second)) l m row = absurd row
 row-kinds X p held (Err (refusal.Host rule)) l m row = absurd row
 row-kinds X p held (Err (refusal.BadPath why)) l m row = absurd row
 row-kinds X p held (Err refusal.Usage) l m row = absurd row
@@ -50,7 +50,7 @@ read-kinds (refusal.Rule rule) told read = refl
 read-kinds (refusal.Dag rule) told read = absurd read
 read-kinds (refusal.Car number place) told read = absurd read
 read-kinds (refusal.CarLacks cid) told read = absurd read
-read-kinds (refusal.CarClash cid first second) told read = absurd read
+read-kinds (refusal.OwnClash cid first second) told read = absurd read
 read-kinds (refusal.Host rule) told read = absurd read
 read-kinds (refusal.BadPath why) told read = absurd read
 read-kinds refusal.Usage told read = absurd read
@@ -116,7 +116,7 @@ opened-of (Err (refusal.Rule rule)) h = refl
 opened-of (Err (refusal.Dag rule)) h = h
 opened-of (Err (refusal.Car number place)) h = h
 opened-of (Err (refusal.CarLacks cid)) h = h
-opened-of (Err (refusal.CarClash cid first second)) h = h
+opened-of (Err (refusal.OwnClash cid first second)) h = h
 opened-of (Err (refusal.Host rule)) h = h
 opened-of (Err (refusal.BadPath why)) h = h
 opened-of (Err refusal.Usage) h = h
@@ -132,7 +132,7 @@ opened-ready told command (Err (refusal.Rule rule)) h = tt
 opened-ready told command (Err (refusal.Dag rule)) h = tt
 opened-ready told command (Err (refusal.Car number place)) h = tt
 opened-ready told command (Err (refusal.CarLacks cid)) h = tt
-opened-ready told command (Err (refusal.CarClash cid first second)) h = tt
+opened-ready told command (Err (refusal.OwnClash cid first second)) h = tt
 opened-ready told command (Err (refusal.Host rule)) h = tt
 opened-ready told command (Err (refusal.BadPath why)) h = tt
 opened-ready told command (Err refusal.Usage) h = tt
@@ -160,6 +160,7 @@ tree-reads OfClash h = refl
 tree-reads OfMemory h = refl
 tree-reads OfCar h = refl
 tree-reads OfSections h = refl
+tree-reads OfOwnClash h = refl
 
 init-reads : (k : RefusalKind) → may_answer MakesReady k ≡ true → read_kind k ≡ false
 init-reads OfRule h = refl
@@ -178,6 +179,7 @@ init-reads OfClash h = refl
 init-reads OfMemory h = refl
 init-reads OfCar h = refl
 init-reads OfSections h = refl
+init-reads OfOwnClash h = refl
 
 pub tree-counts : (r : Result (List ℕ) Refusal) (i : ℕ) → IsOf (may_answer WorksInTree) r → Counts (is_read r) i i
 tree-counts (Ok text) i h = counts-still i
@@ -193,7 +195,7 @@ head-counts (refusal.Rule rule) told i read = absurd read
 head-counts (refusal.Dag rule) told i read = absurd read
 head-counts (refusal.Car number place) told i read = absurd read
 head-counts (refusal.CarLacks cid) told i read = absurd read
-head-counts (refusal.CarClash cid first second) told i read = absurd read
+head-counts (refusal.OwnClash cid first second) told i read = absurd read
 head-counts (refusal.Host rule) told i read = absurd read
 head-counts (refusal.BadPath why) told i read = absurd read
 head-counts refusal.Usage told i read = absurd read

@@ -19,6 +19,7 @@ use Rattle.uf_store.proofs.Keeping.{KeepsGood-same}
 use Rattle.uf_tree.specs.Tree.{Entries}
 use Rattle.uf_tree.specs.declared.profile.Profile.{Profile}
 use Rattle.uf_reply.specs.Cars.{most_car}
+use Rattle.uf_reply.specs.Commands.{OfCarSections}
 use Rattle.uf_reply.specs.Kinds.{ComparesCar as OfComparing, OfWrite, fault_behind, may_answer, refusal_kind}
 use Rattle.uf_reply.specs.Statuses.{no_memory, status_of}
 use Rattle.uf_reply.specs.declared.status.Status.TheVariants as status
@@ -28,7 +29,7 @@ use Rattle.uf_reply.specs.declared.types.Refusal.{Refusal}
 use Rattle.uf_reply.specs.declared.types.Refusal.TheVariants as refusal
 use Rattle.uf_top.specs.Answering.{DoesAnswer}
 use Rattle.uf_top.specs.Around.{HostSide, RisesFor, around}
-use Rattle.uf_top.specs.Cars.{BySections, ComparesCar}
+use Rattle.uf_top.specs.Cars.{ByOwnStore, ComparesCar}
 use Rattle.uf_top.specs.Causes.{IsBadIn, IsReadyBy}
 use Rattle.uf_top.specs.Endings.{EndsBy, IsCut, Prints, PrintsPart}
 use Rattle.uf_top.specs.Losing.{DoesOver}
@@ -66,12 +67,12 @@ of-comparing told cid (refusal.Store (fault.Clash c first second)) h = absurd cc
 of-comparing told cid (refusal.Store fault.Memory) h = record { other = λ e. cc; ready = tt; rule = λ e. absurd cc; blames = λ b. b }
 of-comparing told cid (refusal.Car number place) h = record { other = λ e. cc; ready = tt; rule = λ e. inr (number, place, refl); blames = λ b. b }
 of-comparing told cid (refusal.CarLacks c) h = record { other = λ e. cc; ready = tt; rule = λ e. absurd cc; blames = λ b. b }
-of-comparing told cid (refusal.CarClash c first second) h = record { other = λ e. cc; ready = tt; rule = λ e. absurd cc; blames = λ b. b }
+of-comparing told cid (refusal.OwnClash c first second) h = record { other = λ e. cc; ready = tt; rule = λ e. absurd cc; blames = λ b. b }
 
 -- a failed writing blames no section
-pub printed-sections : (X : List ℕ → List ℕ) (left : streams.Told) (a b : Seen) (text : List ℕ) (h h2 : streams.Told) (w v : ℕ) (r : Result (Unit {0}) Refusal) → Prints text r h h2 w v → IfErr r (BySections X true left a b)
+pub printed-sections : (X : List ℕ → List ℕ) (left : streams.Told) (a b : Seen) (text : List ℕ) (h h2 : streams.Told) (w v : ℕ) (r : Result (Unit {0}) Refusal) → Prints text r h h2 w v → IfErr r (ByOwnStore X OfCarSections left a b)
 printed-sections X left a b text h h2 w v (Ok done) p = tt
-printed-sections X left a b text h h2 w v (Err why) p = subst (BySections X true left a b) (sym p.write) tt
+printed-sections X left a b text h h2 w v (Err why) p = subst (ByOwnStore X OfCarSections left a b) (sym p.write) tt
 
 -- ---- its text is printed
 

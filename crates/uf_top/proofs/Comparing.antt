@@ -36,7 +36,7 @@ use Rattle.uf_reply.specs.Kinds.{ComparesCar as OfComparing, IsOf, may_answer, r
 use Rattle.uf_reply.specs.Statuses.{no_memory}
 use Rattle.uf_reply.specs.declared.types.Refusal.{Refusal}
 use Rattle.uf_reply.specs.declared.types.Refusal.TheVariants as refusal
-use Rattle.uf_top.specs.Cars.{BySections, ComparesCar, ComparesStores, IsRootOf, LacksSection, SparesStore, TakesRoot, TellsRoot, TwoSections}
+use Rattle.uf_top.specs.Cars.{ByOwnStore, ComparesCar, ComparesStores, IsRootOf, LacksSection, SparesStore, TakesRoot, TellsRoot, TwoSections}
 use Rattle.uf_top.specs.Causes.{is_read}
 use Rattle.uf_top.specs.Naming.{TellsBlocks}
 use Rattle.uf_top.specs.Reply.{by_answer, by_roots, car_compared, compared_text, not_one_root, same_refusal, unless_two, verdict_told}
@@ -145,24 +145,21 @@ module _ (X : List ℕ → List ℕ) (a b : Seen) (l : streams.Told) (i j : ℕ)
   }
 
   -- two sections clash
-  clashed : (cid : Cid) (first second : List ℕ) → Reads (Err (car.Store (fault.Clash cid first second))) → IsClash X first second → Counts false i j → Taken (Err (refusal.CarClash cid first second))
+  clashed : (cid : Cid) (first second : List ℕ) → Reads (Err (car.Store (fault.Clash cid first second))) → IsClash X first second → Counts false i j → Taken (Err (refusal.OwnClash cid first second))
   clashed cid first second reads clash counts = record {
     root = λ bytes given empty stood. inr (λ held under. told held under (car_read X most_car bytes) empty (reads bytes given));
     kinds = refl;
     counts = counts;
     fault = tt;
-    sections = λ empty seen. (
-      refl,
-      record {
-        two = each-text (λ bytes. HasTwo (car_read X most_car bytes).sections cid first second) l (λ bytes given. two empty (car_read X most_car bytes) (reads bytes given));
-        clash = clash;
-        spares = spared seen;
-      },
-    );
+    sections = λ empty seen. record {
+      two = each-text (λ bytes. HasTwo (car_read X most_car bytes).sections cid first second) l (λ bytes given. two empty (car_read X most_car bytes) (reads bytes given));
+      clash = clash;
+      spares = spared seen;
+    };
   }
     where
       told : (held : Lookup) (under : Cid) (r : Read (List Cid)) → a.told ≡ Some no_contents → RefusesCar r (car.Store (fault.Clash cid first second)) a.told b.told
-          → car_compared held under r ≡ Err (refusal.CarClash cid first second)
+          → car_compared held under r ≡ Err (refusal.OwnClash cid first second)
       told held under r empty refuses =
           let next = refuses.kept.next in
           ap (λ t. unless_two t (by_answer held (sections_held r.sections) under r.answer)) (clash-is X a.told b.told empty saves r.sections refuses.kept.count refuses.kept.kept cid first second next.0 next.1 next.2 clash)

@@ -97,7 +97,7 @@ wider (refusal.Rule r) of = absurd of
 wider (refusal.Dag r) of = tt
 wider (refusal.Car number place) of = absurd of
 wider (refusal.CarLacks cid) of = absurd of
-wider (refusal.CarClash cid first second) of = absurd of
+wider (refusal.OwnClash cid first second) of = absurd of
 wider (refusal.Host r) of = absurd of
 wider (refusal.BadPath p) of = absurd of
 wider refusal.InputTooLong of = absurd of
@@ -117,7 +117,7 @@ no-edge (refusal.Rule r) of = absurd of
 no-edge (refusal.Dag r) of = record { unread = refl; unwritten = refl }
 no-edge (refusal.Car number place) of = absurd of
 no-edge (refusal.CarLacks cid) of = absurd of
-no-edge (refusal.CarClash cid first second) of = absurd of
+no-edge (refusal.OwnClash cid first second) of = absurd of
 no-edge (refusal.Host r) of = absurd of
 no-edge (refusal.BadPath p) of = absurd of
 no-edge refusal.InputTooLong of = absurd of
@@ -139,7 +139,7 @@ module _ (held : Lookup) (source : DagPath) (path : List ℕ) (told now : HostTo
   refused-gets (refusal.Dag r) of n = inl n
   refused-gets (refusal.Car number place) of n = absurd of
   refused-gets (refusal.CarLacks cid) of n = absurd of
-  refused-gets (refusal.CarClash cid first second) of n = absurd of
+  refused-gets (refusal.OwnClash cid first second) of n = absurd of
   refused-gets (refusal.Host r) of n = absurd of
   refused-gets (refusal.BadPath p) of n = absurd of
   refused-gets refusal.InputTooLong of n = absurd of
@@ -161,10 +161,10 @@ module _ (held : Lookup) (source : DagPath) (path : List ℕ) (told now : HostTo
   ways-of (refusal.Dag r) (inr p) = inr (inr p.0)
   ways-of (refusal.Car number place) (inl n) = inr (inl n)
   ways-of (refusal.CarLacks cid) (inl n) = inr (inl n)
-  ways-of (refusal.CarClash cid first second) (inl n) = inr (inl n)
+  ways-of (refusal.OwnClash cid first second) (inl n) = inr (inl n)
   ways-of (refusal.Car number place) (inr p) = inr (inr p.0)
   ways-of (refusal.CarLacks cid) (inr p) = inr (inr p.0)
-  ways-of (refusal.CarClash cid first second) (inr p) = inr (inr p.0)
+  ways-of (refusal.OwnClash cid first second) (inr p) = inr (inr p.0)
   ways-of (refusal.Host r) (inl n) = inr (inl n)
   ways-of (refusal.Host r) (inr p) = inr (inr p.0)
   ways-of (refusal.BadPath p) (inl n) = inr (inl n)
@@ -188,7 +188,7 @@ module _ (held : Lookup) (source : DagPath) (path : List ℕ) (told now : HostTo
   leaves-of (Err (refusal.Dag r)) of (inr p) = absurd p.0
   leaves-of (Err (refusal.Car number place)) of g = absurd of
   leaves-of (Err (refusal.CarLacks cid)) of g = absurd of
-  leaves-of (Err (refusal.CarClash cid first second)) of g = absurd of
+  leaves-of (Err (refusal.OwnClash cid first second)) of g = absurd of
   leaves-of (Err (refusal.Host r)) of (inl n) = n.same
   leaves-of (Err (refusal.Host r)) of (inr p) = absurd p.0
   leaves-of (Err (refusal.BadPath p)) of g = absurd of
@@ -382,7 +382,7 @@ of-getting hash a b told source path l (refusal.Rule r) of h = absurd of
 of-getting hash a b told source path l (refusal.Dag r) of h = record { kinds = refl; ready = tt; rule = λ e. inr (r, refl); prints = λ held. refl; blames = λ blames. blames }
 of-getting hash a b told source path l (refusal.Car number place) of h = absurd of
 of-getting hash a b told source path l (refusal.CarLacks cid) of h = absurd of
-of-getting hash a b told source path l (refusal.CarClash cid first second) of h = absurd of
+of-getting hash a b told source path l (refusal.OwnClash cid first second) of h = absurd of
 of-getting hash a b told source path l (refusal.Host r) of h = record { kinds = refl; ready = tt; rule = λ e. inl (r, refl); prints = λ held. refl; blames = λ blames. blames }
 of-getting hash a b told source path l (refusal.BadPath p) of h = absurd of
 of-getting hash a b told source path l refusal.InputTooLong of h = absurd of

@@ -93,7 +93,7 @@ stops-store refusal.Write h = absurd h
 stops-store (refusal.Store f) h = record { fault = f; is = refl; saving = h }
 stops-store (refusal.Car number place) h = absurd h
 stops-store (refusal.CarLacks cid) h = absurd h
-stops-store (refusal.CarClash cid first second) h = absurd h
+stops-store (refusal.OwnClash cid first second) h = absurd h
 
 sync-tells : (a : Told) (l : List Held) → TellsHeld a l → TellsHeld (changed with_sync a) l
 sync-tells None l h = absurd h
@@ -233,7 +233,7 @@ of-car told (refusal.Store (fault.Clash cid first second)) h = record { other = 
 of-car told (refusal.Store fault.Memory) h = record { other = λ e. cc; ready = tt; rule = λ e. absurd cc; blames = λ b. b }
 of-car told (refusal.Car number place) h = record { other = λ e. cc; ready = tt; rule = λ e. (number, place, refl); blames = λ b. b }
 of-car told (refusal.CarLacks cid) h = absurd cc
-of-car told (refusal.CarClash cid first second) h = absurd cc
+of-car told (refusal.OwnClash cid first second) h = absurd cc
 
 -- ---- its roots are printed
 

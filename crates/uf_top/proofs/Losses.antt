@@ -17,7 +17,7 @@ use Rattle.uf_reply.specs.declared.status.Status.{Status}
 use Rattle.uf_reply.specs.declared.types.Command.{Command}
 use Rattle.uf_reply.specs.declared.types.Refusal.{Refusal}
 use Rattle.uf_reply.specs.declared.types.Refusal.TheVariants as refusal
-use Rattle.uf_top.specs.Around.{AllWritten, Around, HasOutside}
+use Rattle.uf_top.specs.Around.{AllWritten, Around, HasOutside, MetNone}
 use Rattle.uf_top.specs.Bounds.{words_touch}
 use Rattle.uf_top.specs.Endings.{TellsEnd}
 use Rattle.uf_top.specs.Losing.{DoesOver, EndsOver, words_need}
@@ -30,24 +30,32 @@ module _ (Says : List ℕ → Type 0) (given : Status) (X : List ℕ → List �
   abbrev StillNamed : Type 0
   StillNamed = NamesAfter X N a.store.told b.store.told (blocks X N p (Dir es)) p es
 
-  ends-over : (needs : List Held) (reply : Reply) (done : Result (Unit {0}) Refusal) → TellsEnd Says done given → DoesOver X N a.store.told b.store.told p es needs reply done a.held b.held
-      → ((why : Refusal) → done ≡ Err why → StillNamed) → EndsOver X N a.store.told b.store.told p es needs Says reply given a.held b.held
-  ends-over needs reply (Ok done) t (inl x) stays = absurd (let e = x.ends_are in cc)
-  ends-over needs reply (Ok done) t (inr x) stays =
+  ok-over : (needs : List Held) (reply : Reply) (done : Unit {0}) → TellsEnd Says (Ok done) given → DoesOver X N a.store.told b.store.told p es needs reply (Ok done) a.held b.held → EndsOver X N a.store.told b.store.told p es needs Says reply given a.held b.held
+  ok-over needs reply done t (inl x) = absurd (let e = x.ends_are in cc)
+  ok-over needs reply done t (inr x) =
       let told = ok-ends Says reply.ends given a.held b.held t x.ends in
       inr (record { status_is = told.0; says = told.1; printed = printed-all reply.ends (Ok done) a.held b.held x.ends; stands = x.stands })
-  ends-over needs reply (Err why) (inr told) x stays = inl (record { fault = Memory; loss = tt; status_is = told.1; says = told.2; stands = stays why refl })
-  ends-over needs reply (Err why) (inl told) (inl x) stays =
+
+  err-over : (needs : List Held) (reply : Reply) (why : Refusal) → (given ≡ status_of why) × Says (line_of why) → DoesOver X N a.store.told b.store.told p es needs reply (Err why) a.held b.held
+      → EndsOver X N a.store.told b.store.told p es needs Says reply given a.held b.held
+  err-over needs reply why told (inl x) =
       let e : why ≡ refusal.Store x.fault = (let same = x.ends_are in cc) in
       inl (record { fault = x.fault; loss = x.loss; status_is = told.0 ∙ ap status_of e; says = subst (λ r. Says (line_of r)) e told.1; stands = x.stands })
-  ends-over needs reply (Err why) (inl told) (inr x) stays =
+  err-over needs reply why told (inr x) =
       let e = err-ends reply.ends why a.held b.held x.ends in
       inr (record { status_is = told.0 ∙ ap ended e; says = subst (λ e. Says (said e)) e told.1; printed = printed-all reply.ends (Err why) a.held b.held x.ends; stands = x.stands })
 
+  ends-over : (asked : Result Command Refusal) (needs : List Held) (reply : Reply) (done : Result (Unit {0}) Refusal) → MetNone asked given → TellsEnd Says done given
+      → (MetNone asked (ended done) → DoesOver X N a.store.told b.store.told p es needs reply done a.held b.held)
+      → ((why : Refusal) → done ≡ Err why → StillNamed) → EndsOver X N a.store.told b.store.told p es needs Says reply given a.held b.held
+  ends-over asked needs reply (Ok done) none t over stays = ok-over needs reply done t (over (λ generated e. cc))
+  ends-over asked needs reply (Err why) none (inr told) over stays = inl (record { fault = Memory; loss = tt; status_is = told.1; says = told.2; stands = stays why refl })
+  ends-over asked needs reply (Err why) none (inl told) over stays = err-over needs reply why told (over (λ generated e. none generated (told.0 ∙ e)))
+
   over-of : (asked : Result Command Refusal) (done : Result (Unit {0}) Refusal) → Serves X N asked done a b → (rows : ℕ → ℕ) (held : Lookup) (outside : Outside) → StaysNamed X N a.store.told b.store.told p es → TellsBlocks a.store.told held → AreHeights p rows
-      → HasOutside asked outside a b → Calm a.store b.store → AllWritten asked a.writes b.writes a.host.writes b.host.writes → DoesOver X N a.store.told b.store.told p es (words_need X N rows asked p es) (reply_to X N asked (in_world p es held outside)) done a.held b.held
-  over-of (Ok command) done h rows held outside named tells heights input calm write = h.lost p es rows held outside named tells heights input (record { store = calm; written = write })
-  over-of (Err asked) done h rows held outside named tells heights input calm write = by h.refused
+      → HasOutside asked outside a b → Calm a.store b.store → AllWritten asked a.writes b.writes a.host.writes b.host.writes → MetNone asked (ended done) → DoesOver X N a.store.told b.store.told p es (words_need X N rows asked p es) (reply_to X N asked (in_world p es held outside)) done a.held b.held
+  over-of (Ok command) done h rows held outside named tells heights input calm write own = h.lost p es rows held outside named tells heights input (record { store = calm; written = write; own = own })
+  over-of (Err asked) done h rows held outside named tells heights input calm write own = by h.refused
     where
       now : StillNamed
       now = names-same X N a.store.told b.store.told p es (ap (λ (x : Around). x.store.told) h.same) named
@@ -62,10 +70,10 @@ module _ (Says : List ℕ → Type 0) (given : Status) (X : List ℕ → List �
       names-kept X N a.store.told b.store.told p es h.leaves.good (subst (λ d. IfErr d (λ why. head_in b.store.told ≡ head_in a.store.told)) is h.leaves.head) named
 
   pub lost-told : (asked : Result Command Refusal) (done : Result (Unit {0}) Refusal) → Serves X N asked done a b → TellsEnd Says done given
-      → (rows : ℕ → ℕ) (held : Lookup) (outside : Outside) → StaysNamed X N a.store.told b.store.told p es → TellsBlocks a.store.told held → AreHeights p rows → HasOutside asked outside a b → Calm a.store b.store → AllWritten asked a.writes b.writes a.host.writes b.host.writes
+      → (rows : ℕ → ℕ) (held : Lookup) (outside : Outside) → StaysNamed X N a.store.told b.store.told p es → TellsBlocks a.store.told held → AreHeights p rows → HasOutside asked outside a b → Calm a.store b.store → AllWritten asked a.writes b.writes a.host.writes b.host.writes → MetNone asked given
       → EndsOver X N a.store.told b.store.told p es (words_need X N rows asked p es) Says (reply_to X N asked (in_world p es held outside)) given a.held b.held
-  lost-told asked done h t rows held outside named tells heights input calm write =
-      ends-over (words_need X N rows asked p es) (reply_to X N asked (in_world p es held outside)) done t (over-of asked done h rows held outside named tells heights input calm write) (still-of asked done h named)
+  lost-told asked done h t rows held outside named tells heights input calm write none =
+      ends-over asked (words_need X N rows asked p es) (reply_to X N asked (in_world p es held outside)) done none t (over-of asked done h rows held outside named tells heights input calm write) (still-of asked done h named)
 
   -- ---- how many touches were needed
 

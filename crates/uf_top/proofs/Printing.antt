@@ -26,7 +26,7 @@ use Rattle.uf_reply.specs.Statuses.{ended, no_memory, status_of}
 use Rattle.uf_reply.specs.declared.status.Status.{Status}
 use Rattle.uf_reply.specs.declared.status.Status.TheVariants as status
 use Rattle.uf_reply.specs.declared.types.Command.{Command}
-use Rattle.uf_reply.specs.declared.types.Command.TheVariants.{Init, Add, AddFrom, WriteInput, At, Read, Cat, Get, Export, Import, Same, Adopt}
+use Rattle.uf_reply.specs.declared.types.Command.TheVariants.{Init, Add, AddFrom, WriteInput, At, Read, Cat, Get, Export, Import, Same, Adopt, Gen}
 use Rattle.uf_reply.specs.declared.types.HostRule.{HostRule}
 use Rattle.uf_reply.specs.declared.types.Refusal.{Refusal}
 use Rattle.uf_reply.specs.declared.types.Refusal.TheVariants as refusal
@@ -56,6 +56,7 @@ no-write (Export cid) h = cc
 no-write Import h = cc
 no-write (Same cid) h = cc
 no-write (Adopt source dest) h = cc
+no-write (Gen n seed) h = cc
 no-write (AddFrom recursive only_hash path) h = cc
 
 -- a command that waits with its output, and reads the tree of the Head alone
@@ -65,19 +66,20 @@ pub record IsStanding (command : Command) : Type 0 where
 
 -- so is each that isn't one of those with a way of their own
 pub standing-of : (command : Command) → ((offset count : ℕ) (path : Path) → command ≡ Read offset count path → ⊥) → ((path : DagPath) → command ≡ Cat path → ⊥) → ((path : DagPath) (host_path : List ℕ) → command ≡ Get path host_path → ⊥) → ((cid : Cid) → command ≡ Export cid → ⊥) → (command ≡ Import → ⊥) → ((cid : Cid) → command ≡ Same cid → ⊥)
-    → ((source : DagPath) (dest : Path) → command ≡ Adopt source dest → ⊥) → IsStanding command
-standing-of (Init p) other cat get export import compare adopt = record { waits = refl; alone = refl }
-standing-of (Add only_hash) other cat get export import compare adopt = record { waits = refl; alone = refl }
-standing-of (AddFrom recursive only_hash path) other cat get export import compare adopt = record { waits = refl; alone = refl }
-standing-of (WriteInput how path) other cat get export import compare adopt = record { waits = refl; alone = refl }
-standing-of (At ask path) other cat get export import compare adopt = record { waits = refl; alone = refl }
-standing-of (Read offset count path) other cat get export import compare adopt = absurd (other offset count path refl)
-standing-of (Cat path) other cat get export import compare adopt = absurd (cat path refl)
-standing-of (Get path host_path) other cat get export import compare adopt = absurd (get path host_path refl)
-standing-of (Export cid) other cat get export import compare adopt = absurd (export cid refl)
-standing-of Import other cat get export import compare adopt = absurd (import refl)
-standing-of (Same cid) other cat get export import compare adopt = absurd (compare cid refl)
-standing-of (Adopt source dest) other cat get export import compare adopt = absurd (adopt source dest refl)
+    → ((source : DagPath) (dest : Path) → command ≡ Adopt source dest → ⊥) → ((n seed : ℕ) → command ≡ Gen n seed → ⊥) → IsStanding command
+standing-of (Init p) other cat get export import compare adopt generate = record { waits = refl; alone = refl }
+standing-of (Add only_hash) other cat get export import compare adopt generate = record { waits = refl; alone = refl }
+standing-of (AddFrom recursive only_hash path) other cat get export import compare adopt generate = record { waits = refl; alone = refl }
+standing-of (WriteInput how path) other cat get export import compare adopt generate = record { waits = refl; alone = refl }
+standing-of (At ask path) other cat get export import compare adopt generate = record { waits = refl; alone = refl }
+standing-of (Read offset count path) other cat get export import compare adopt generate = absurd (other offset count path refl)
+standing-of (Cat path) other cat get export import compare adopt generate = absurd (cat path refl)
+standing-of (Get path host_path) other cat get export import compare adopt generate = absurd (get path host_path refl)
+standing-of (Export cid) other cat get export import compare adopt generate = absurd (export cid refl)
+standing-of Import other cat get export import compare adopt generate = absurd (import refl)
+standing-of (Same cid) other cat get export import compare adopt generate = absurd (compare cid refl)
+standing-of (Adopt source dest) other cat get export import compare adopt generate = absurd (adopt source dest refl)
+standing-of (Gen n seed) other cat get export import compare adopt generate = absurd (generate n seed refl)
 
 -- such a command needs what the store stands for
 alone-needs : (command : Command) → commands.reads_tree_alone command ≡ true → needs_standing command ≡ true
@@ -93,6 +95,7 @@ alone-needs (Export cid) h = absurd cc
 alone-needs Import h = absurd cc
 alone-needs (Same cid) h = absurd cc
 alone-needs (Adopt source dest) h = absurd cc
+alone-needs (Gen n seed) h = absurd cc
 
 -- it only reads the host, whose files and folders stay
 alone-reads : (command : Command) → commands.reads_tree_alone command ≡ true → writes_host command ≡ false
@@ -108,6 +111,7 @@ alone-reads (Export cid) h = absurd cc
 alone-reads Import h = absurd cc
 alone-reads (Same cid) h = absurd cc
 alone-reads (Adopt source dest) h = absurd cc
+alone-reads (Gen n seed) h = absurd cc
 
 alone-stays : (command : Command) → commands.reads_tree_alone command ≡ true → (world : World) → host_after (Ok command) world ≡ world.host
 alone-stays (Init p) h world = refl
@@ -122,6 +126,7 @@ alone-stays (Export cid) h world = absurd cc
 alone-stays Import h world = absurd cc
 alone-stays (Same cid) h world = absurd cc
 alone-stays (Adopt source dest) h world = absurd cc
+alone-stays (Gen n seed) h world = absurd cc
 
 -- and gets nothing
 alone-gets : (command : Command) → commands.reads_tree_alone command ≡ true → (given : Status) (told : Told) (host now : HostTold) → GetsFor (Ok command) given told host now
@@ -137,6 +142,7 @@ alone-gets (Export cid) h given told host now = absurd cc
 alone-gets Import h given told host now = absurd cc
 alone-gets (Same cid) h given told host now = absurd cc
 alone-gets (Adopt source dest) h given told host now = absurd cc
+alone-gets (Gen n seed) h given told host now = absurd cc
 
 -- a command that doesn't use the host says nothing of it
 pub of-no-host : {A B : Type 0} → A ⊎ B → A ⊎ (B × ⊤)
@@ -154,7 +160,7 @@ may-end command (refusal.Rule rule) h = h
 may-end command (refusal.Dag rule) h = h
 may-end command (refusal.Car number place) h = h
 may-end command (refusal.CarLacks cid) h = h
-may-end command (refusal.CarClash cid first second) h = h
+may-end command (refusal.OwnClash cid first second) h = h
 may-end command (refusal.Host rule) h = h
 may-end command (refusal.BadPath why) h = h
 may-end command refusal.InputTooLong h = h
@@ -181,7 +187,7 @@ quiet-of T f (refusal.Rule rule) other = record { prints = λ h n e. e; undone =
 quiet-of T f (refusal.Dag rule) other = record { prints = λ h n e. e; undone = refl; unwritten = refl }
 quiet-of T f (refusal.Car number place) other = record { prints = λ h n e. e; undone = refl; unwritten = refl }
 quiet-of T f (refusal.CarLacks cid) other = record { prints = λ h n e. e; undone = refl; unwritten = refl }
-quiet-of T f (refusal.CarClash cid first second) other = record { prints = λ h n e. e; undone = refl; unwritten = refl }
+quiet-of T f (refusal.OwnClash cid first second) other = record { prints = λ h n e. e; undone = refl; unwritten = refl }
 quiet-of T f (refusal.Host rule) other = record { prints = λ h n e. e; undone = refl; unwritten = refl }
 quiet-of T f (refusal.BadPath path) other = record { prints = λ h n e. e; undone = refl; unwritten = refl }
 quiet-of T f refusal.Usage other = record { prints = λ h n e. e; undone = refl; unwritten = refl }
@@ -246,6 +252,7 @@ module _ (X : List ℕ → List ℕ) (N : List ℕ → ℕ) where
   text-of Import alone told host l m text h rows = tt
   text-of (Same cid) alone told host l m text h rows = tt
   text-of (Adopt source dest) alone told host l m text h rows = tt
+  text-of (Gen n seed) alone told host l m text h rows = absurd cc
 
   rule-in : (command : Command) (told : Told) (l m : streams.Told) (rule : Rule) → may_answer (family_of command) (refusal_kind (refusal.Rule rule)) ≡ true → AddsFor X told (Ok command) (Err (refusal.Rule rule)) l m
       → RuleOf (Ok command) (refusal.Rule rule) told l m
@@ -260,6 +267,7 @@ module _ (X : List ℕ → List ℕ) (N : List ℕ → ℕ) where
   rule-in Import told l m rule h adds = absurd cc
   rule-in (Same cid) told l m rule h adds = absurd cc
   rule-in (Adopt source dest) told l m rule h adds = inr (rule, refl)
+  rule-in (Gen n seed) told l m rule h adds = (rule, refl)
   rule-in (AddFrom recursive only_hash path) told l m rule h adds = inr (rule, refl)
 
   long-in : (command : Command) (told : Told) (l m : streams.Told) → may_answer (family_of command) OfLongInput ≡ true → AddsFor X told (Ok command) (Err refusal.InputTooLong) l m
@@ -275,6 +283,7 @@ module _ (X : List ℕ → List ℕ) (N : List ℕ → ℕ) where
   long-in Import told l m h adds = absurd cc
   long-in (Same cid) told l m h adds = absurd cc
   long-in (Adopt source dest) told l m h adds = absurd cc
+  long-in (Gen n seed) told l m h adds = absurd cc
   long-in (AddFrom recursive only_hash path) told l m h adds = absurd cc
 
   no-path : (command : Command) → may_answer (family_of command) OfPath ≡ true → ⊥
@@ -289,6 +298,7 @@ module _ (X : List ℕ → List ℕ) (N : List ℕ → ℕ) where
   no-path Import h = cc
   no-path (Same cid) h = cc
   no-path (Adopt source dest) h = cc
+  no-path (Gen n seed) h = cc
   no-path (AddFrom recursive only_hash path) h = cc
 
   no-dag : (command : Command) → commands.reads_tree_alone command ≡ true → may_answer (family_of command) OfDag ≡ true → ⊥
@@ -304,6 +314,7 @@ module _ (X : List ℕ → List ℕ) (N : List ℕ → ℕ) where
   no-dag Import needs h = cc
   no-dag (Same cid) needs h = cc
   no-dag (Adopt source dest) needs h = cc
+  no-dag (Gen n seed) needs h = cc
 
   no-car : (command : Command) → commands.reads_tree_alone command ≡ true → may_answer (family_of command) OfCar ≡ true → ⊥
   no-car (Init p) needs h = cc
@@ -318,6 +329,7 @@ module _ (X : List ℕ → List ℕ) (N : List ℕ → ℕ) where
   no-car Import needs h = cc
   no-car (Same cid) needs h = cc
   no-car (Adopt source dest) needs h = cc
+  no-car (Gen n seed) needs h = cc
 
   host-in : (command : Command) (told : Told) (l m : streams.Told) (rule : HostRule) → may_answer (family_of command) OfHost ≡ true → RuleOf (Ok command) (refusal.Host rule) told l m
   host-in (Init p) told l m rule h = absurd cc
@@ -332,6 +344,7 @@ module _ (X : List ℕ → List ℕ) (N : List ℕ → ℕ) where
   host-in Import told l m rule h = absurd cc
   host-in (Same cid) told l m rule h = absurd cc
   host-in (Adopt source dest) told l m rule h = absurd cc
+  host-in (Gen n seed) told l m rule h = absurd cc
 
   rules : (command : Command) → commands.reads_tree_alone command ≡ true → (told : Told) (l m : streams.Told) (why : Refusal) → may_answer (family_of command) (refusal_kind why) ≡ true → AddsFor X told (Ok command) (Err why) l m
       → status_of why ≡ status.Rule → RuleOf (Ok command) why told l m
@@ -339,7 +352,7 @@ module _ (X : List ℕ → List ℕ) (N : List ℕ → ℕ) where
   rules command needs told l m (refusal.Dag rule) h adds is = absurd (no-dag command needs h)
   rules command needs told l m (refusal.Car number place) h adds is = absurd (no-car command needs h)
   rules command needs told l m (refusal.CarLacks cid) h adds is = absurd cc
-  rules command needs told l m (refusal.CarClash cid first second) h adds is = absurd cc
+  rules command needs told l m (refusal.OwnClash cid first second) h adds is = absurd cc
   rules command needs told l m (refusal.Host rule) h adds is = host-in command told l m rule h
   rules command needs told l m (refusal.BadPath why) h adds is = absurd (no-path command h)
   rules command needs told l m refusal.InputTooLong h adds is = long-in command told l m h adds

@@ -1,12 +1,12 @@
 -- From how a command was done to what it did.
 use Rattle.std.proofs.Common.{subst, Result}
 use Rattle.std.specs.Prelude.{ℕ, List, IfErr}
-use Rattle.uf_reply.specs.Commands.{IsOfWords, compares, of_command}
+use Rattle.uf_reply.specs.Commands.{IsOfWords, NoStore, of_command, own_store}
 use Rattle.uf_reply.specs.declared.status.Status.{Status}
 use Rattle.uf_reply.specs.declared.types.Command.{Command}
 use Rattle.uf_reply.specs.declared.types.Refusal.{Refusal}
 use Rattle.uf_top.specs.Around.{Around}
-use Rattle.uf_top.specs.Cars.{BySections}
+use Rattle.uf_top.specs.Cars.{ByOwnStore}
 use Rattle.uf_top.specs.Endings.{TellsEnd}
 use Rattle.uf_top.specs.Running.{Runs}
 use Rattle.uf_top.specs.Working.{Serves}
@@ -15,12 +15,12 @@ use Rattle.uf_top.proofs.Telling.{StatusShows, blamed-told, clashes-told, faults
 
 module _ (Says : List ℕ → Type 0) (given : Status) (X : List ℕ → List ℕ) (N : List ℕ → ℕ) (a b : Around) where
   pub runs-told : (asked : Result Command Refusal) (done : Result (Unit {0}) Refusal) → IsOfWords asked → Serves X N asked done a b
-      → IfErr done (BySections X (of_command compares false asked) a.left a.store b.store) → TellsEnd Says done given → Runs Says X N asked given a b
+      → IfErr done (ByOwnStore X (of_command own_store NoStore asked) a.left a.store b.store) → TellsEnd Says done given → Runs Says X N asked given a b
   runs-told asked done of-words s sections t = record {
-    replies = λ w finds outside quiet. replies-told Says given X N a b asked done s t w finds outside quiet.store quiet.written;
+    replies = λ w finds outside quiet. replies-told Says given X N a b asked done s t w finds outside quiet.store quiet.written quiet.own;
     whole = λ standing needs stands calm. whole-told Says given X N a b asked done of-words s t standing needs stands calm;
     lost = λ p es rows held outside named tells heights has quiet.
-        lost-told Says given X N a b p es asked done s t rows held outside named tells heights has quiet.store quiet.written;
+        lost-told Says given X N a b p es asked done s t rows held outside named tells heights has quiet.store quiet.written quiet.own;
     looks = λ command is. looks-told Says given X N a b command done (subst (λ asked. Serves X N asked done a b) is s) t;
     words = λ why is. (let idle = subst (λ asked. Serves X N asked done a b) is s in is-refused Says given done why t idle.refused);
     lines = says-plain Says given done t;

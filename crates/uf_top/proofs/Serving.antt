@@ -13,20 +13,20 @@ use Rattle.uf_store.specs.declared.store.StoreFault.TheVariants.{Memory}
 use Rattle.uf_store.proofs.Causes.{StaysCalm-refl, calm-rises}
 use Rattle.uf_store.proofs.Keeping.{KeepsGood-refl}
 use Rattle.uf_store.proofs.Writing.{SavesOnly-refl}
-use Rattle.uf_reply.specs.Commands.{IsAsked, IsOfWords, command_writes, compares, reads_tree_alone, streams as flows, uses_host, writes_host}
-use Rattle.uf_reply.specs.Kinds.{IsOf, OfSections, family_of, may_end, refusal_kind, word_kinds}
+use Rattle.uf_reply.specs.Commands.{IsAsked, IsOfWords, NoStore, OwnStore, command_writes, generates, own_store, reads_tree_alone, streams as flows, uses_host, writes_host}
+use Rattle.uf_reply.specs.Kinds.{IsOf, OfOwnClash, OfSections, family_of, may_end, refusal_kind, word_kinds}
 use Rattle.uf_top.specs.Reply.{reply}
 use Rattle.uf_reply.specs.Statuses.{no_memory}
 use Rattle.uf_reply.specs.declared.types.Ask.TheVariants.{Ls, Stat, Edit as Edits}
 use Rattle.uf_reply.specs.declared.types.Command.{Command}
-use Rattle.uf_reply.specs.declared.types.Command.TheVariants.{Init, Add, AddFrom, WriteInput, At, Read, Cat, Get, Export, Import, Same, Adopt}
+use Rattle.uf_reply.specs.declared.types.Command.TheVariants.{Init, Add, AddFrom, WriteInput, At, Read, Cat, Get, Export, Import, Same, Adopt, Gen}
 use Rattle.uf_reply.specs.declared.types.Refusal.{Refusal}
 use Rattle.uf_reply.specs.declared.types.Refusal.TheVariants as refusal
 use Rattle.uf_reply.specs.declared.status.Status.TheVariants as status
 use Rattle.uf_top.specs.Around.{Around, RisesFor, TakesHost, is_input_read, is_output_write}
 use Rattle.uf_top.specs.Getting.{GetsFor, LeavesAt}
 use Rattle.uf_top.specs.Bounds.{command_touches}
-use Rattle.uf_top.specs.Cars.{BySections}
+use Rattle.uf_top.specs.Cars.{ByOwnStore}
 use Rattle.uf_top.specs.Shapes.{WritesAs}
 use Rattle.uf_top.specs.Working.{Does, Serves}
 use Rattle.uf_top.proofs.Gotten.{same-below}
@@ -47,6 +47,7 @@ memory-kind (Export cid) = refl
 memory-kind Import = refl
 memory-kind (Same cid) = refl
 memory-kind (Adopt source dest) = refl
+memory-kind (Gen n seed) = refl
 memory-kind (AddFrom recursive only_hash path) = refl
 
 memory-writes : (X : List ℕ → List ℕ) (command : Command) (a : Told) → WritesAs X (command_writes command) false a a
@@ -64,6 +65,7 @@ memory-writes X (Export cid) a = refl
 memory-writes X Import a = record { between = a; saves = SavesOnly-refl X a; last = StaysSame refl }
 memory-writes X (Same cid) a = refl
 memory-writes X (Adopt source dest) a = record { between = a; saves = SavesOnly-refl X a; last = StaysSame refl }
+memory-writes X (Gen n seed) a = refl
 memory-writes X (AddFrom recursive true path) a = refl
 memory-writes X (AddFrom recursive false path) a = record { between = a; saves = SavesOnly-refl X a; last = StaysSame refl }
 
@@ -85,6 +87,7 @@ nothing-gotten (Export cid) store told = tt
 nothing-gotten Import store told = tt
 nothing-gotten (Same cid) store told = tt
 nothing-gotten (Adopt source dest) store told = tt
+nothing-gotten (Gen n seed) store told = tt
 
 module _ (X : List ℕ → List ℕ) (N : List ℕ → ℕ) (a : Around) where
   still-reads : (command : Command) → Counts (is_input_read {A = Unit {0}} command (Err no_memory)) a.reads a.reads
@@ -137,50 +140,69 @@ module _ (X : List ℕ → List ℕ) (N : List ℕ → ℕ) (a : Around) where
   words-serve (Err asked) why (inl memory) = record { refused = inr (ap (λ (w : Refusal). Err w) memory); same = refl }
   words-serve (Err asked) why (inr same) = (let e : asked ≡ why = cc in record { refused = inl (ap (λ (w : Refusal). Err w) (sym e)); same = refl })
 
--- ---- no sections of a CAR are to blame but where a command compares
+-- ---- no store of a command's own is to blame but where it has one
 
-may-section : (command : Command) → may_end (family_of command) OfSections ≡ true → compares command ≡ true
-may-section (Init p) h = absurd cc
-may-section (Add only_hash) h = absurd cc
-may-section (AddFrom recursive only_hash path) h = absurd cc
-may-section (WriteInput how path) h = absurd cc
-may-section (At ask path) h = absurd cc
-may-section (Read offset count path) h = absurd cc
-may-section (Cat path) h = absurd cc
-may-section (Get path host_path) h = absurd cc
-may-section (Export cid) h = absurd cc
-may-section Import h = absurd cc
-may-section (Same cid) h = refl
-may-section (Adopt source dest) h = absurd cc
+may-section : (command : Command) → may_end (family_of command) OfSections ≡ true → own_store command ≡ NoStore → ⊥
+may-section (Init p) h none = cc
+may-section (Add only_hash) h none = cc
+may-section (AddFrom recursive only_hash path) h none = cc
+may-section (WriteInput how path) h none = cc
+may-section (At ask path) h none = cc
+may-section (Read offset count path) h none = cc
+may-section (Cat path) h none = cc
+may-section (Get path host_path) h none = cc
+may-section (Export cid) h none = cc
+may-section Import h none = cc
+may-section (Same cid) h none = cc
+may-section (Adopt source dest) h none = cc
+may-section (Gen n seed) h none = cc
+
+may-clash : (command : Command) → may_end (family_of command) OfOwnClash ≡ true → own_store command ≡ NoStore → ⊥
+may-clash (Init p) h none = cc
+may-clash (Add only_hash) h none = cc
+may-clash (AddFrom recursive only_hash path) h none = cc
+may-clash (WriteInput how path) h none = cc
+may-clash (At ask path) h none = cc
+may-clash (Read offset count path) h none = cc
+may-clash (Cat path) h none = cc
+may-clash (Get path host_path) h none = cc
+may-clash (Export cid) h none = cc
+may-clash Import h none = cc
+may-clash (Same cid) h none = cc
+may-clash (Adopt source dest) h none = cc
+may-clash (Gen n seed) h none = cc
 
 module _ (X : List ℕ → List ℕ) (left : streams.Told) (a b : Seen) where
-  by-none : (compared : Bool) (why : Refusal) → (refusal_kind why ≡ OfSections → ⊥) → BySections X compared left a b why
-  by-none compared (refusal.Rule rule) none = tt
-  by-none compared (refusal.Dag rule) none = tt
-  by-none compared (refusal.Host rule) none = tt
-  by-none compared (refusal.BadPath path) none = tt
-  by-none compared refusal.InputTooLong none = tt
-  by-none compared refusal.Usage none = tt
-  by-none compared (refusal.Ready reason) none = tt
-  by-none compared refusal.Read none = tt
-  by-none compared refusal.Write none = tt
-  by-none compared (refusal.Store f) none = tt
-  by-none compared (refusal.Car number place) none = tt
-  by-none compared (refusal.CarLacks cid) none = absurd (none refl)
-  by-none compared (refusal.CarClash cid first second) none = absurd (none refl)
+  by-none : (own : OwnStore) (why : Refusal) → (refusal_kind why ≡ OfSections → ⊥) → (refusal_kind why ≡ OfOwnClash → ⊥) → ByOwnStore X own left a b why
+  by-none own (refusal.Rule rule) none free = tt
+  by-none own (refusal.Dag rule) none free = tt
+  by-none own (refusal.Host rule) none free = tt
+  by-none own (refusal.BadPath path) none free = tt
+  by-none own refusal.InputTooLong none free = tt
+  by-none own refusal.Usage none free = tt
+  by-none own (refusal.Ready reason) none free = tt
+  by-none own refusal.Read none free = tt
+  by-none own refusal.Write none free = tt
+  by-none own (refusal.Store f) none free = tt
+  by-none own (refusal.Car number place) none free = tt
+  by-none own (refusal.CarLacks cid) none free = absurd (none refl)
+  by-none own (refusal.OwnClash cid first second) none free = absurd (free refl)
 
   -- any other command
-  pub spares-sections : (command : Command) (done : Result (Unit {0}) Refusal) → compares command ≡ false → IsOf (may_end (family_of command)) done → IfErr done (BySections X (compares command) left a b)
-  spares-sections command (Ok done) other kinds = tt
-  spares-sections command (Err why) other kinds =
-      by-none (compares command) why (λ is. (let e : true ≡ false = sym (may-section command (ap (may_end (family_of command)) (sym is) ∙ kinds)) ∙ other in cc))
+  pub spares-own : (command : Command) (done : Result (Unit {0}) Refusal) → own_store command ≡ NoStore → IsOf (may_end (family_of command)) done → IfErr done (ByOwnStore X (own_store command) left a b)
+  spares-own command (Ok done) other kinds = tt
+  spares-own command (Err why) other kinds =
+      by-none (own_store command) why
+      (λ is. may-section command (ap (may_end (family_of command)) (sym is) ∙ kinds) other)
+      (λ is. may-clash command (ap (may_end (family_of command)) (sym is) ∙ kinds) other)
 
   -- words that are refused
-  pub words-spare : (compared : Bool) (why : Refusal) → IsOfWords (Err why) → BySections X compared left a b why
-  words-spare compared why words = by-none compared why (λ is. (let e : false ≡ true = ap word_kinds (sym is) ∙ words in cc))
+  pub words-spare : (own : OwnStore) (why : Refusal) → IsOfWords (Err why) → ByOwnStore X own left a b why
+  words-spare own why words =
+      by-none own why (λ is. (let e : false ≡ true = ap word_kinds (sym is) ∙ words in cc)) (λ is. (let e : false ≡ true = ap word_kinds (sym is) ∙ words in cc))
 
--- a command on the tree alone compares nothing
-pub alone-spares : (command : Command) → reads_tree_alone command ≡ true → compares command ≡ false
+-- a command on the tree alone has no store of its own
+pub alone-spares : (command : Command) → reads_tree_alone command ≡ true → own_store command ≡ NoStore
 alone-spares (Init p) h = refl
 alone-spares (Add only_hash) h = refl
 alone-spares (AddFrom recursive only_hash path) h = refl
@@ -193,3 +215,20 @@ alone-spares (Export cid) h = refl
 alone-spares Import h = refl
 alone-spares (Same cid) h = absurd cc
 alone-spares (Adopt source dest) h = refl
+alone-spares (Gen n seed) h = absurd cc
+
+-- and generates nothing
+pub alone-given : (command : Command) → reads_tree_alone command ≡ true → generates command ≡ true → ⊥
+alone-given (Init p) h own = cc
+alone-given (Add only_hash) h own = cc
+alone-given (AddFrom recursive only_hash path) h own = cc
+alone-given (WriteInput how path) h own = cc
+alone-given (At ask path) h own = cc
+alone-given (Read offset count path) h own = cc
+alone-given (Cat path) h own = cc
+alone-given (Get path host_path) h own = cc
+alone-given (Export cid) h own = cc
+alone-given Import h own = cc
+alone-given (Same cid) h own = cc
+alone-given (Adopt source dest) h own = cc
+alone-given (Gen n seed) h own = cc

@@ -18,9 +18,10 @@ use Rattle.uf_store.proofs.Keeping.{KeepsGood-same}
 use Rattle.uf_tree.specs.Standing.{Standing}
 use Rattle.uf_tree.specs.Tree.{Entries}
 use Rattle.uf_tree.specs.declared.profile.Profile.{Profile}
-use Rattle.uf_reply.specs.Commands.{HasInput, IsOfWords, command_writes, compares, is_idle, needs_standing, of_command, only_reads, reads_tree_alone, uses_host, writes_host}
+use Rattle.uf_reply.specs.Commands.{HasInput, IsOfWords, command_writes, generates, is_idle, needs_standing, of_command, only_reads, own_store, reads_tree_alone, uses_host, writes_host}
+use Rattle.uf_reply.specs.Commands.{OwnStore, NoStore, OfCarSections, OfTree}
 use Rattle.uf_reply.specs.Commands.{streams as flows}
-use Rattle.uf_reply.specs.Kinds.{AddsHost, AddsInput, IsOf, KeepsCar, MakesReady, OfBadBlock, OfSections, OfMissing, OfPath, OfUsage, OfWrite, family_of, fault_behind, may_end, refusal_kind, word_kinds}
+use Rattle.uf_reply.specs.Kinds.{AddsHost, AddsInput, GeneratesTree, IsOf, KeepsCar, MakesReady, OfBadBlock, OfClash, OfSections, OfMissing, OfPath, OfUsage, OfWrite, family_of, fault_behind, may_end, refusal_kind, word_kinds}
 use Rattle.uf_reply.specs.Lines.{bad_block_line, clash_line, line_of, missing_line, said}
 use Rattle.uf_top.specs.Reply.{World, outside_of, reply, reply_to}
 use Rattle.uf_reply.specs.Statuses.{ended, no_memory, plain_line, status_of}
@@ -28,12 +29,12 @@ use Rattle.uf_reply.specs.declared.status.Status.{Status}
 use Rattle.uf_reply.specs.declared.status.Status.TheVariants as status
 use Rattle.uf_reply.specs.declared.types.Ask.TheVariants.{Ls, Stat, Edit as Edits}
 use Rattle.uf_reply.specs.declared.types.Command.{Command}
-use Rattle.uf_reply.specs.declared.types.Command.TheVariants.{Init, Add, AddFrom, WriteInput, At, Read, Cat, Get, Export, Import, Same, Adopt}
+use Rattle.uf_reply.specs.declared.types.Command.TheVariants.{Init, Add, AddFrom, WriteInput, At, Read, Cat, Get, Export, Import, Same, Adopt, Gen}
 use Rattle.uf_reply.specs.declared.types.Refusal.{Refusal}
 use Rattle.uf_reply.specs.declared.types.Refusal.TheVariants as refusal
 use Rattle.uf_top.specs.Answering.{DoesAnswer}
-use Rattle.uf_top.specs.Around.{AllWritten, Around, CountsCanRise, HasOutside, HostSide, RisesFor, RoseAt, TakesHost}
-use Rattle.uf_top.specs.Cars.{BySections, IsClashing, IsMissing, LacksSection, TwoSections}
+use Rattle.uf_top.specs.Around.{AllWritten, Around, CountsCanRise, HasOutside, HostSide, MetNone, RisesFor, RoseAt, TakesHost}
+use Rattle.uf_top.specs.Cars.{ByOwnStore, IsClashing, IsMissing, IsOwnClash, LacksSection}
 use Rattle.uf_top.specs.Causes.{IsBadIn, IsSynced, is_read, is_write}
 use Rattle.uf_top.specs.Endings.{EndsAs, EndsBy, FindsAll, FindsBy, IsNotReady, IsRefusedBy, IsRule, IsSyncedFor, IsTextOf, PrintsAll, PrintsAt, PrintsPart, SaysPlain, TellsEnd, TellsWhy, has_details}
 use Rattle.uf_top.specs.Getting.{GetsFor, LeavesAt}
@@ -59,6 +60,7 @@ no-path (Export cid) h = cc
 no-path Import h = cc
 no-path (Same cid) h = cc
 no-path (Adopt source dest) h = cc
+no-path (Gen n seed) h = cc
 no-path (AddFrom recursive only_hash path) h = cc
 
 no-usage : (command : Command) → may_end (family_of command) OfUsage ≡ true → ⊥
@@ -73,7 +75,24 @@ no-usage (Export cid) h = cc
 no-usage Import h = cc
 no-usage (Same cid) h = cc
 no-usage (Adopt source dest) h = cc
+no-usage (Gen n seed) h = cc
 no-usage (AddFrom recursive only_hash path) h = cc
+
+-- a command that generates a tree meets no clash in the store
+tree-clashes : (command : Command) → may_end (family_of command) OfClash ≡ true → own_store command ≡ OfTree → ⊥
+tree-clashes (Init p) h own = cc
+tree-clashes (Add only_hash) h own = cc
+tree-clashes (WriteInput how path) h own = cc
+tree-clashes (At ask path) h own = cc
+tree-clashes (Read offset count path) h own = cc
+tree-clashes (Cat path) h own = cc
+tree-clashes (Get path host_path) h own = cc
+tree-clashes (Export cid) h own = cc
+tree-clashes Import h own = cc
+tree-clashes (Same cid) h own = cc
+tree-clashes (Adopt source dest) h own = cc
+tree-clashes (Gen n seed) h own = cc
+tree-clashes (AddFrom recursive only_hash path) h own = cc
 
 -- a line without details is the status's
 plain-of : (why : Refusal) → has_details (status_of why) ≡ false → plain_line (status_of why) ≡ line_of why
@@ -81,7 +100,7 @@ plain-of (refusal.Rule rule) e = absurd cc
 plain-of (refusal.Dag rule) e = absurd cc
 plain-of (refusal.Car number place) e = absurd cc
 plain-of (refusal.CarLacks cid) e = absurd cc
-plain-of (refusal.CarClash cid first second) e = absurd cc
+plain-of (refusal.OwnClash cid first second) e = absurd cc
 plain-of (refusal.Host rule) e = absurd cc
 plain-of (refusal.BadPath path) e = absurd cc
 plain-of refusal.Usage e = refl
@@ -102,7 +121,7 @@ not-ok (refusal.Rule rule) e = cc
 not-ok (refusal.Dag rule) e = cc
 not-ok (refusal.Car number place) e = cc
 not-ok (refusal.CarLacks cid) e = cc
-not-ok (refusal.CarClash cid first second) e = cc
+not-ok (refusal.OwnClash cid first second) e = cc
 not-ok (refusal.Host rule) e = cc
 not-ok (refusal.BadPath path) e = cc
 not-ok refusal.Usage e = cc
@@ -123,7 +142,7 @@ read-of (refusal.Rule rule) is = absurd cc
 read-of (refusal.Dag rule) is = absurd cc
 read-of (refusal.Car number place) is = absurd cc
 read-of (refusal.CarLacks cid) is = absurd cc
-read-of (refusal.CarClash cid first second) is = absurd cc
+read-of (refusal.OwnClash cid first second) is = absurd cc
 read-of (refusal.Host rule) is = absurd cc
 read-of (refusal.BadPath path) is = absurd cc
 read-of refusal.Usage is = absurd cc
@@ -174,6 +193,7 @@ writing-uses (Export cid) h = absurd cc
 writing-uses Import h = absurd cc
 writing-uses (Same cid) h = absurd cc
 writing-uses (Adopt source dest) h = absurd cc
+writing-uses (Gen n seed) h = absurd cc
 
 -- where the output's count or the host's rose, a writing failed
 output-written : (writes is_fault : Bool) (i j : ℕ) → RisesFor (not writes && is_fault) i j → i < j → is_fault ≡ true
@@ -203,7 +223,7 @@ write-of (refusal.Rule rule) is = absurd cc
 write-of (refusal.Dag rule) is = absurd cc
 write-of (refusal.Car number place) is = absurd cc
 write-of (refusal.CarLacks cid) is = absurd cc
-write-of (refusal.CarClash cid first second) is = absurd cc
+write-of (refusal.OwnClash cid first second) is = absurd cc
 write-of (refusal.Host rule) is = absurd cc
 write-of (refusal.BadPath path) is = absurd cc
 write-of refusal.Usage is = absurd cc
@@ -225,7 +245,7 @@ module _ (hash : List ℕ → List ℕ) (P : Role → List ℕ → Type 0) (a b 
   failure-of (refusal.Dag rule) h more = (let e = h.faults in absurd (omega (arith, e, more)))
   failure-of (refusal.Car number place) h more = (let e = h.faults in absurd (omega (arith, e, more)))
   failure-of (refusal.CarLacks cid) h more = (let e = h.faults in absurd (omega (arith, e, more)))
-  failure-of (refusal.CarClash cid first second) h more = (let e = h.faults in absurd (omega (arith, e, more)))
+  failure-of (refusal.OwnClash cid first second) h more = (let e = h.faults in absurd (omega (arith, e, more)))
   failure-of (refusal.Host rule) h more = (let e = h.faults in absurd (omega (arith, e, more)))
   failure-of (refusal.BadPath path) h more = (let e = h.faults in absurd (omega (arith, e, more)))
   failure-of refusal.Usage h more = (let e = h.faults in absurd (omega (arith, e, more)))
@@ -245,7 +265,7 @@ module _ (hash : List ℕ → List ℕ) (P : Role → List ℕ → Type 0) (a b 
   clash-of (refusal.Dag rule) h more = (let e = h.clashes in absurd (omega (arith, e, more)))
   clash-of (refusal.Car number place) h more = (let e = h.clashes in absurd (omega (arith, e, more)))
   clash-of (refusal.CarLacks cid) h more = (let e = h.clashes in absurd (omega (arith, e, more)))
-  clash-of (refusal.CarClash cid first second) h more = (let e = h.clashes in absurd (omega (arith, e, more)))
+  clash-of (refusal.OwnClash cid first second) h more = (let e = h.clashes in absurd (omega (arith, e, more)))
   clash-of (refusal.Host rule) h more = (let e = h.clashes in absurd (omega (arith, e, more)))
   clash-of (refusal.BadPath path) h more = (let e = h.clashes in absurd (omega (arith, e, more)))
   clash-of refusal.Usage h more = (let e = h.clashes in absurd (omega (arith, e, more)))
@@ -329,6 +349,11 @@ cars-find : (done : Result (Unit {0}) Refusal) → IsOf (may_end KeepsCar) done 
 cars-find (Ok done) h = (λ e. cc, λ e. cc)
 cars-find (Err why) h = kind-finds why (of-none (may_end KeepsCar) (refusal_kind why) OfMissing h refl) (of-none (may_end KeepsCar) (refusal_kind why) OfBadBlock h refl) (of-none (may_end KeepsCar) (refusal_kind why) OfSections h refl)
 
+-- nor does `gen`
+trees-find : (done : Result (Unit {0}) Refusal) → IsOf (may_end GeneratesTree) done → FindsAll (ended done)
+trees-find (Ok done) h = (λ e. cc, λ e. cc)
+trees-find (Err why) h = kind-finds why (of-none (may_end GeneratesTree) (refusal_kind why) OfMissing h refl) (of-none (may_end GeneratesTree) (refusal_kind why) OfBadBlock h refl) (of-none (may_end GeneratesTree) (refusal_kind why) OfSections h refl)
+
 hosts-finds : (done : Result (Unit {0}) Refusal) → IsOf (may_end AddsHost) done → FindsAll (ended done)
 hosts-finds (Ok done) h = (λ e. cc, λ e. cc)
 hosts-finds (Err why) h = kind-finds why (of-none (may_end AddsHost) (refusal_kind why) OfMissing h refl) (of-none (may_end AddsHost) (refusal_kind why) OfBadBlock h refl) (of-none (may_end AddsHost) (refusal_kind why) OfSections h refl)
@@ -380,37 +405,41 @@ module _ (Says : List ℕ → Type 0) where
       StatusShows asked status.Rule = IsRule Says asked a.store.told a.left b.left
       StatusShows asked status.Usage = asked ≡ Err refusal.Usage
       StatusShows asked status.StoreFault = ShowsFailure a.store b.store
-      StatusShows asked status.Missing = (cid : Cid) × IsMissing X (of_command compares false asked) a.left cid a.store b.store × Says (missing_line cid)
+      StatusShows asked status.Missing = (cid : Cid) × IsMissing X (of_command own_store NoStore asked) a.left cid a.store b.store × Says (missing_line cid)
       StatusShows asked status.BadBlock = (cid : Cid) × (role : Role) × ShowsBadBlock X (IsBadIn X N a.store.told b.store.told) cid role a.store b.store × Says (bad_block_line cid role)
       StatusShows asked status.ReadFault = RoseAt (of_command uses_host false asked) a.reads b.reads a.host.reads b.host.reads
       StatusShows asked status.WriteFault = RoseAt (of_command writes_host false asked) a.writes b.writes a.host.writes b.host.writes
-      StatusShows asked status.Clash = (cid : Cid) × (held : List ℕ) × (bytes : List ℕ) × IsClashing X (of_command compares false asked) a.left cid held bytes a.store b.store × Says (clash_line cid held bytes)
+      StatusShows asked status.Clash = (cid : Cid) × (held : List ℕ) × (bytes : List ℕ) × IsClashing X (of_command own_store NoStore asked) a.left cid held bytes a.store b.store × Says (clash_line cid held bytes)
       StatusShows asked status.Memory = ⊤
       StatusShows asked status.NotReady = IsNotReady Says asked a.store.told
 
-      -- a cause in the store, or in the sections of a CAR
-      missing : (c : Bool) (cid : Cid) → ShowsMissing cid a.store b.store → IsMissing X c a.left cid a.store b.store
-      missing true cid h = inl h
-      missing false cid h = h
+      -- a cause in the store, or in one of the command's own
+      missing : (own : OwnStore) (cid : Cid) → ShowsMissing cid a.store b.store → IsMissing X own a.left cid a.store b.store
+      missing NoStore cid h = h
+      missing OfCarSections cid h = inl h
+      missing OfTree cid h = h
 
-      lacking : (c : Bool) (cid : Cid) → (c ≡ true) × LacksSection X a.left cid a.store b.store → IsMissing X c a.left cid a.store b.store
-      lacking true cid h = inr h.1
-      lacking false cid h = absurd (let e : false ≡ true = h.0 in cc)
+      lacking : (own : OwnStore) (cid : Cid) → (own ≡ OfCarSections) × LacksSection X a.left cid a.store b.store → IsMissing X own a.left cid a.store b.store
+      lacking NoStore cid h = absurd (let e = h.0 in cc)
+      lacking OfCarSections cid h = inr h.1
+      lacking OfTree cid h = absurd (let e = h.0 in cc)
 
-      meeting : (c : Bool) (cid : Cid) (first second : List ℕ) → ShowsClash X cid first second a.store b.store → IsClashing X c a.left cid first second a.store b.store
-      meeting true cid first second h = inl h
-      meeting false cid first second h = h
+      meeting : (own : OwnStore) (cid : Cid) (first second : List ℕ) → (own ≡ OfTree → ⊥) → ShowsClash X cid first second a.store b.store → IsClashing X own a.left cid first second a.store b.store
+      meeting NoStore cid first second other h = h
+      meeting OfCarSections cid first second other h = inl h
+      meeting OfTree cid first second other h = absurd (other refl)
 
-      clashing : (c : Bool) (cid : Cid) (first second : List ℕ) → (c ≡ true) × TwoSections X a.left cid first second a.store b.store → IsClashing X c a.left cid first second a.store b.store
-      clashing true cid first second h = inr h.1
-      clashing false cid first second h = absurd (let e : false ≡ true = h.0 in cc)
+      clashing : (own : OwnStore) (cid : Cid) (first second : List ℕ) → IsOwnClash X own a.left cid first second a.store b.store → IsClashing X own a.left cid first second a.store b.store
+      clashing NoStore cid first second h = absurd h
+      clashing OfCarSections cid first second h = inr h
+      clashing OfTree cid first second h = h
 
-      does-show : (command : Command) (why : Refusal) → Does X N command (Err why) a b → BySections X (compares command) a.left a.store b.store why → Says (line_of why) → StatusShows (Ok command) (status_of why)
+      does-show : (command : Command) (why : Refusal) → Does X N command (Err why) a b → ByOwnStore X (own_store command) a.left a.store b.store why → Says (line_of why) → StatusShows (Ok command) (status_of why)
       does-show command (refusal.Rule rule) h sections says = (refusal.Rule rule, refl, says, h.rule refl)
       does-show command (refusal.Dag rule) h sections says = (refusal.Dag rule, refl, says, h.rule refl)
       does-show command (refusal.Car number place) h sections says = (refusal.Car number place, refl, says, h.rule refl)
-      does-show command (refusal.CarLacks cid) h sections says = (cid, lacking (compares command) cid sections, says)
-      does-show command (refusal.CarClash cid first second) h sections says = (cid, first, second, clashing (compares command) cid first second sections, says)
+      does-show command (refusal.CarLacks cid) h sections says = (cid, lacking (own_store command) cid sections, says)
+      does-show command (refusal.OwnClash cid first second) h sections says = (cid, first, second, clashing (own_store command) cid first second sections, says)
       does-show command (refusal.Host rule) h sections says = (refusal.Host rule, refl, says, h.rule refl)
       does-show command (refusal.BadPath path) h sections says = absurd (no-path command h.kinds)
       does-show command refusal.Usage h sections says = absurd (no-usage command h.kinds)
@@ -420,9 +449,9 @@ module _ (Says : List ℕ → Type 0) where
       does-show command refusal.Write h sections says = writing-rose (writes_host command) (uses_host command) false a.writes b.writes a.host b.host h.writes h.host
       does-show command (refusal.Store fault.Failed) h sections says = h.cause
       does-show command (refusal.Store (fault.Damaged cid)) h sections says = h.cause
-      does-show command (refusal.Store (fault.Missing cid)) h sections says = (cid, missing (compares command) cid h.cause, says)
+      does-show command (refusal.Store (fault.Missing cid)) h sections says = (cid, missing (own_store command) cid h.cause, says)
       does-show command (refusal.Store (fault.BadBlock cid role)) h sections says = (cid, role, h.cause, says)
-      does-show command (refusal.Store (fault.Clash cid first second)) h sections says = (cid, first, second, meeting (compares command) cid first second h.cause, says)
+      does-show command (refusal.Store (fault.Clash cid first second)) h sections says = (cid, first, second, meeting (own_store command) cid first second (tree-clashes command h.kinds) h.cause, says)
       does-show command (refusal.Store fault.Memory) h sections says = tt
 
       word-shows : (why : Refusal) → word_kinds (refusal_kind why) ≡ true → Says (line_of why) → StatusShows (Err why) (status_of why)
@@ -430,7 +459,7 @@ module _ (Says : List ℕ → Type 0) where
       word-shows (refusal.Dag rule) h says = absurd cc
       word-shows (refusal.Car number place) h says = absurd cc
       word-shows (refusal.CarLacks cid) h says = absurd cc
-      word-shows (refusal.CarClash cid first second) h says = absurd cc
+      word-shows (refusal.OwnClash cid first second) h says = absurd cc
       word-shows (refusal.Host rule) h says = absurd cc
       word-shows (refusal.BadPath path) h says = (refusal.BadPath path, refl, says, refl)
       word-shows refusal.Usage h says = refl
@@ -454,7 +483,7 @@ module _ (Says : List ℕ → Type 0) where
           let e : why ≡ no_memory = cc in
           subst (λ w. StatusShows (Err asked) (status_of w)) (sym e) tt
 
-      pub shows : (asked : Result Command Refusal) (done : Result (Unit {0}) Refusal) → IsOfWords asked → Serves X N asked done a b → IfErr done (BySections X (of_command compares false asked) a.left a.store b.store) → TellsEnd Says done given → StatusShows asked given
+      pub shows : (asked : Result Command Refusal) (done : Result (Unit {0}) Refusal) → IsOfWords asked → Serves X N asked done a b → IfErr done (ByOwnStore X (of_command own_store NoStore asked) a.left a.store b.store) → TellsEnd Says done given → StatusShows asked given
       shows asked (Ok done) words s sections t = subst (StatusShows asked) (sym t.0) tt
       shows (Ok command) (Err why) words s sections t = by-why (StatusShows (Ok command)) why given t (does-show command why s sections) tt
       shows (Err asked) (Err why) words s sections t = by-why (StatusShows (Err asked)) why given t (idle-shows asked why (Err why) refl words s.refused) tt
@@ -535,6 +564,7 @@ module _ (Says : List ℕ → Type 0) where
       detailed-gets Import store host now s h gets = tt
       detailed-gets (Same cid) store host now s h gets = tt
       detailed-gets (Adopt source dest) store host now s h gets = tt
+      detailed-gets (Gen n seed) store host now s h gets = tt
 
       pub gets-told : (asked : Result Command Refusal) (done : Result (Unit {0}) Refusal) → Serves X N asked done a b → TellsEnd Says done given → GetsFor asked given a.store.told a.host.told b.host.told
       gets-told (Err asked) done s t = tt
@@ -620,6 +650,7 @@ module _ (Says : List ℕ → Type 0) where
           synced-of X a.store.told b.store.told (subst (λ d. WritesAs X (command_writes Import) d a.store.told b.store.told) (was-ok done t is) s.leaves.writes)
       synced-told (Ok (Same cid)) done s t is = tt
       synced-told (Ok (Adopt source dest)) done s t is = tt
+      synced-told (Ok (Gen n seed)) done s t is = tt
 
       pub good-told : (asked : Result Command Refusal) (done : Result (Unit {0}) Refusal) → Serves X N asked done a b → KeepsGood X a.store.told b.store.told
       good-told (Err asked) done s = KeepsGood-same X a.store.told b.store.told (ap (λ (x : Around). x.store.told) s.same)
@@ -641,6 +672,7 @@ module _ (Says : List ℕ → Type 0) where
       told-same (Ok Import) done s is = absurd cc
       told-same (Ok (Same cid)) done s is = s.leaves.writes
       told-same (Ok (Adopt source dest)) done s is = absurd cc
+      told-same (Ok (Gen n seed)) done s is = s.leaves.writes
       told-same (Ok (AddFrom recursive true path)) done s is = s.leaves.writes
       told-same (Ok (AddFrom recursive false path)) done s is = absurd cc
 
@@ -652,25 +684,32 @@ module _ (Says : List ℕ → Type 0) where
       -- ---- over a store that stands
 
       pub replies-told : (asked : Result Command Refusal) (done : Result (Unit {0}) Refusal) → Serves X N asked done a b → TellsEnd Says done given
-          → (world : World) → FindsWorld X N asked a.store.told world → HasOutside asked (outside_of world) a b → Calm a.store b.store → AllWritten asked a.writes b.writes a.host.writes b.host.writes → EndsAs Says X N asked world given a.held b.held b.store.told b.host.told
-      replies-told (Ok command) done s t world finds input calm write = by done (s.answers world finds input (record { store = calm; written = write })) t (stays done s)
+          → (world : World) → FindsWorld X N asked a.store.told world → HasOutside asked (outside_of world) a b → Calm a.store b.store → AllWritten asked a.writes b.writes a.host.writes b.host.writes → MetNone asked given → EndsAs Says X N asked world given a.held b.held b.store.told b.host.told
+      replies-told (Ok command) done s t world finds input calm write none =
+          by done (λ own. s.answers world finds input (record { store = calm; written = write; own = own })) t (stays done s)
         where
           stays : (done : Result (Unit {0}) Refusal) → Does X N command done a b → (why : Refusal) → done ≡ Err why → StandsIf X N (needs_standing command) b.store.told world.standing
           stays done h why is = still-stands X N a.store.told b.store.told (needs_standing command) world.standing h.leaves.good (subst (λ d. IfErr d (λ why. head_in b.store.told ≡ head_in a.store.told)) is h.leaves.head) finds.stands
 
-          by : (done : Result (Unit {0}) Refusal) → DoesAnswer X N command world done a.held b.held b.store.told b.host.told → TellsEnd Says done given → ((why : Refusal) → done ≡ Err why → StandsIf X N (needs_standing command) b.store.told world.standing)
-              → EndsAs Says X N (Ok command) world given a.held b.held b.store.told b.host.told
-          by (Ok done) (inl x) t stays = absurd (let e = x.ends_are in cc)
-          by (Ok done) (inr x) t stays = inr (record { status_is = (ok-ends (reply X N command world).ends given a.held b.held t x.0.ends).0; says = (ok-ends (reply X N command world).ends given a.held b.held t x.0.ends).1; printed = printed-all (reply X N command world).ends (Ok done) a.held b.held x.0.ends; stands = x.0.stands; blocks = x.0.blocks }, x.1)
-          by (Err why) (inl x) t stays =
+          ok-by : (done : Unit {0}) → DoesAnswer X N command world (Ok done) a.held b.held b.store.told b.host.told → TellsEnd Says (Ok done) given → EndsAs Says X N (Ok command) world given a.held b.held b.store.told b.host.told
+          ok-by done (inl x) t = absurd (let e = x.ends_are in cc)
+          ok-by done (inr x) t = inr (record { status_is = (ok-ends (reply X N command world).ends given a.held b.held t x.0.ends).0; says = (ok-ends (reply X N command world).ends given a.held b.held t x.0.ends).1; printed = printed-all (reply X N command world).ends (Ok done) a.held b.held x.0.ends; stands = x.0.stands; blocks = x.0.blocks }, x.1)
+
+          err-by : (why : Refusal) → DoesAnswer X N command world (Err why) a.held b.held b.store.told b.host.told → (given ≡ status_of why) × Says (line_of why) → EndsAs Says X N (Ok command) world given a.held b.held b.store.told b.host.told
+          err-by why (inl x) t =
               let e : why ≡ no_memory = (let same = x.ends_are in cc) in
-              let told = memory-told given (subst (λ w. TellsWhy Says w given) e t) in
+              let told = memory-told given (subst (λ w. TellsWhy Says w given) e (inl t)) in
               inl (record { status_is = told.0; says = told.1; stands = x.stands })
-          by (Err why) (inr x) (inl told) stays =
+          err-by why (inr x) t =
               let is = err-ends (reply X N command world).ends why a.held b.held x.0.ends in
-              inr (record { status_is = told.0 ∙ ap ended is; says = subst (λ e. Says (said e)) is told.1; printed = printed-all (reply X N command world).ends (Err why) a.held b.held x.0.ends; stands = x.0.stands; blocks = x.0.blocks }, x.1)
-          by (Err why) (inr x) (inr told) stays = inl (record { status_is = told.1; says = told.2; stands = stays why refl })
-      replies-told (Err asked) done s t world finds input calm write = by s.refused
+              inr (record { status_is = t.0 ∙ ap ended is; says = subst (λ e. Says (said e)) is t.1; printed = printed-all (reply X N command world).ends (Err why) a.held b.held x.0.ends; stands = x.0.stands; blocks = x.0.blocks }, x.1)
+
+          by : (done : Result (Unit {0}) Refusal) → (MetNone (Ok command) (ended done) → DoesAnswer X N command world done a.held b.held b.store.told b.host.told) → TellsEnd Says done given → ((why : Refusal) → done ≡ Err why → StandsIf X N (needs_standing command) b.store.told world.standing)
+              → EndsAs Says X N (Ok command) world given a.held b.held b.store.told b.host.told
+          by (Ok done) answers t stays = ok-by done (answers (λ generated e. cc)) t
+          by (Err why) answers (inl told) stays = err-by why (answers (λ generated e. none generated (told.0 ∙ e))) told
+          by (Err why) answers (inr told) stays = inl (record { status_is = told.1; says = told.2; stands = stays why refl })
+      replies-told (Err asked) done s t world finds input calm write none = by s.refused
         where
           held-same : b.held ≡ a.held
           held-same = ap (λ (x : Around). x.held) s.same
@@ -715,4 +754,5 @@ module _ (Says : List ℕ → Type 0) where
       looks-told Import done h t = ended-told FindsAll done t (cars-find done h.kinds) (λ e. cc, λ e. cc)
       looks-told (Same cid) done h t = tt
       looks-told (Adopt source dest) done h t = tt
+      looks-told (Gen n seed) done h t = ended-told FindsAll done t (trees-find done h.kinds) (λ e. cc, λ e. cc)
       looks-told (AddFrom recursive only_hash path) done h t = ended-told FindsAll done t (hosts-finds done h.kinds) (λ e. cc, λ e. cc)

@@ -54,7 +54,7 @@ tree-taken (Err (refusal.Rule rule)) h = refl
 tree-taken (Err (refusal.Dag rule)) h = h
 tree-taken (Err (refusal.Car number place)) h = h
 tree-taken (Err (refusal.CarLacks cid)) h = h
-tree-taken (Err (refusal.CarClash cid first second)) h = h
+tree-taken (Err (refusal.OwnClash cid first second)) h = h
 tree-taken (Err (refusal.Host rule)) h = h
 tree-taken (Err (refusal.BadPath why)) h = h
 tree-taken (Err refusal.InputTooLong) h = refl
@@ -79,7 +79,7 @@ not-long (Err (refusal.Rule rule)) l m h = tt
 not-long (Err (refusal.Dag rule)) l m h = tt
 not-long (Err (refusal.Car number place)) l m h = tt
 not-long (Err (refusal.CarLacks cid)) l m h = tt
-not-long (Err (refusal.CarClash cid first second)) l m h = tt
+not-long (Err (refusal.OwnClash cid first second)) l m h = tt
 not-long (Err (refusal.Host rule)) l m h = tt
 not-long (Err (refusal.BadPath why)) l m h = tt
 not-long (Err refusal.InputTooLong) l m h = absurd (let e : false ≡ true = h in cc)
@@ -96,7 +96,7 @@ module _ (how : WriteHow) (path : Path) where
   ready-taken told piece (Err (refusal.Dag rule)) h = tt
   ready-taken told piece (Err (refusal.Car number place)) h = tt
   ready-taken told piece (Err (refusal.CarLacks cid)) h = tt
-  ready-taken told piece (Err (refusal.CarClash cid first second)) h = tt
+  ready-taken told piece (Err (refusal.OwnClash cid first second)) h = tt
   ready-taken told piece (Err (refusal.Host rule)) h = tt
   ready-taken told piece (Err (refusal.BadPath why)) h = tt
   ready-taken told piece (Err refusal.InputTooLong) h = tt
@@ -163,7 +163,7 @@ module _ (how : WriteHow) (path : Path) where
       taken-answers (refusal.Dag rule) bytes p es takes counts input stands = absurd takes
       taken-answers (refusal.Car number place) bytes p es takes counts input stands = absurd takes
       taken-answers (refusal.CarLacks cid) bytes p es takes counts input stands = absurd takes
-      taken-answers (refusal.CarClash cid first second) bytes p es takes counts input stands = absurd takes
+      taken-answers (refusal.OwnClash cid first second) bytes p es takes counts input stands = absurd takes
       taken-answers (refusal.Host rule) bytes p es takes counts input stands = absurd takes
       taken-answers (refusal.BadPath path) bytes p es takes counts input stands = absurd takes
       taken-answers refusal.InputTooLong bytes p es takes counts input stands =
@@ -182,7 +182,7 @@ module _ (how : WriteHow) (path : Path) where
       taken-over (refusal.Dag rule) bytes p es takes counts input stands = absurd takes
       taken-over (refusal.Car number place) bytes p es takes counts input stands = absurd takes
       taken-over (refusal.CarLacks cid) bytes p es takes counts input stands = absurd takes
-      taken-over (refusal.CarClash cid first second) bytes p es takes counts input stands = absurd takes
+      taken-over (refusal.OwnClash cid first second) bytes p es takes counts input stands = absurd takes
       taken-over (refusal.Host rule) bytes p es takes counts input stands = absurd takes
       taken-over (refusal.BadPath path) bytes p es takes counts input stands = absurd takes
       taken-over refusal.InputTooLong bytes p es takes counts input stands =
@@ -201,7 +201,7 @@ module _ (how : WriteHow) (path : Path) where
       taken-kinds (refusal.Dag rule) takes = absurd takes
       taken-kinds (refusal.Car number place) takes = absurd takes
       taken-kinds (refusal.CarLacks cid) takes = absurd takes
-      taken-kinds (refusal.CarClash cid first second) takes = absurd takes
+      taken-kinds (refusal.OwnClash cid first second) takes = absurd takes
       taken-kinds (refusal.Host rule) takes = absurd takes
       taken-kinds (refusal.BadPath path) takes = absurd takes
       taken-kinds refusal.InputTooLong takes = refl
@@ -216,7 +216,7 @@ module _ (how : WriteHow) (path : Path) where
       taken-finds (refusal.Dag rule) takes = absurd takes
       taken-finds (refusal.Car number place) takes = absurd takes
       taken-finds (refusal.CarLacks cid) takes = absurd takes
-      taken-finds (refusal.CarClash cid first second) takes = absurd takes
+      taken-finds (refusal.OwnClash cid first second) takes = absurd takes
       taken-finds (refusal.Host rule) takes = absurd takes
       taken-finds (refusal.BadPath path) takes = absurd takes
       taken-finds refusal.InputTooLong takes = (λ e. cc, λ e. cc)
@@ -231,7 +231,7 @@ module _ (how : WriteHow) (path : Path) where
       taken-long (refusal.Dag rule) takes = tt
       taken-long (refusal.Car number place) takes = tt
       taken-long (refusal.CarLacks cid) takes = tt
-      taken-long (refusal.CarClash cid first second) takes = tt
+      taken-long (refusal.OwnClash cid first second) takes = tt
       taken-long (refusal.Host rule) takes = tt
       taken-long (refusal.BadPath path) takes = tt
       taken-long refusal.InputTooLong takes = takes
@@ -246,7 +246,7 @@ module _ (how : WriteHow) (path : Path) where
       taken-ready (refusal.Dag rule) takes = tt
       taken-ready (refusal.Car number place) takes = tt
       taken-ready (refusal.CarLacks cid) takes = tt
-      taken-ready (refusal.CarClash cid first second) takes = tt
+      taken-ready (refusal.OwnClash cid first second) takes = tt
       taken-ready (refusal.Host rule) takes = tt
       taken-ready (refusal.BadPath path) takes = tt
       taken-ready refusal.InputTooLong takes = tt
@@ -261,7 +261,7 @@ module _ (how : WriteHow) (path : Path) where
       taken-wants (refusal.Dag rule) takes = tt
       taken-wants (refusal.Car number place) takes = tt
       taken-wants (refusal.CarLacks cid) takes = tt
-      taken-wants (refusal.CarClash cid first second) takes = tt
+      taken-wants (refusal.OwnClash cid first second) takes = tt
       taken-wants (refusal.Host rule) takes = tt
       taken-wants (refusal.BadPath path) takes = tt
       taken-wants refusal.InputTooLong takes = tt
@@ -276,7 +276,7 @@ module _ (how : WriteHow) (path : Path) where
       taken-blames (refusal.Dag rule) takes blames = blames
       taken-blames (refusal.Car number place) takes blames = blames
       taken-blames (refusal.CarLacks cid) takes blames = blames
-      taken-blames (refusal.CarClash cid first second) takes blames = blames
+      taken-blames (refusal.OwnClash cid first second) takes blames = blames
       taken-blames (refusal.Host rule) takes blames = blames
       taken-blames (refusal.BadPath path) takes blames = blames
       taken-blames refusal.InputTooLong takes blames = blames

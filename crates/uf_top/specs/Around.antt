@@ -1,5 +1,5 @@
 -- What is told around a command, before it or after it.
-use Rattle.std.specs.Prelude.{◌≡◌, ℕ, Bool, true, false, ◌&&◌, not}
+use Rattle.std.specs.Prelude.{◌≡◌, ◌≢◌, ℕ, Bool, true, false, ◌&&◌, not}
 use Rattle.std.specs.declared.result.Result.{Result}
 use Rattle.uf_edge.specs.Counts.{Counts, Rose, Stood}
 use Rattle.uf_edge.specs.Host.{HostTold}
@@ -7,7 +7,9 @@ use Rattle.uf_edge.specs.Streams as streams
 use Rattle.uf_mfs.specs.Reading.{CanRise}
 use Rattle.uf_store.specs.Calls.{Calm}
 use Rattle.uf_store.specs.Seen.{Seen}
-use Rattle.uf_reply.specs.Commands.{HasHost, HasInput, of_command, uses_host, writes_host}
+use Rattle.uf_reply.specs.Commands.{HasHost, HasInput, generates, of_command, uses_host, writes_host}
+use Rattle.uf_reply.specs.declared.status.Status.{Status}
+use Rattle.uf_reply.specs.declared.status.Status.TheVariants as status
 use Rattle.uf_reply.specs.declared.types.Command.{Command}
 use Rattle.uf_reply.specs.declared.types.Refusal.{Refusal}
 use Rattle.uf_top.specs.Causes.{is_read, is_write}
@@ -91,7 +93,12 @@ pub record AllWritten (asked : Result Command Refusal) (was is was_host is_host 
   pub output : Stood was is
   pub host : of_command writes_host false asked ≡ true → Stood was_host is_host
 
+-- a command that generates a tree met no clash in the store of its own
+abbrev pub MetNone : Result Command Refusal → Status → Type 0
+MetNone asked given = of_command generates false asked ≡ true → given ≢ status.Clash
+
 -- nothing of the store failed meanwhile nor any writing, and no clash was met
-pub record StaysQuiet (asked : Result Command Refusal) (before now : Around) : Type 0 where
+pub record StaysQuiet (asked : Result Command Refusal) (given : Status) (before now : Around) : Type 0 where
   pub store : Calm before.store now.store
   pub written : AllWritten asked before.writes now.writes before.host.writes now.host.writes
+  pub own : MetNone asked given

@@ -1,5 +1,5 @@
 -- What becomes of a CAR that is read into the store, or with which what the store holds is compared.
-use Rattle.std.specs.Prelude.{◌≡◌, ◌⊎◌, ℕ, List, [], ◌∷◌, Bool, true, false, IfErr, IfSome, ⊤}
+use Rattle.std.specs.Prelude.{◌≡◌, ◌⊎◌, ℕ, List, [], ◌∷◌, false, IfErr, IfSome, ⊤}
 use Rattle.std.specs.declared.option.Option.TheVariants.{None, Some}
 use Rattle.std.specs.declared.result.Result.{Result}
 use Rattle.std.specs.declared.result.Result.TheVariants.{Ok, Err}
@@ -12,7 +12,7 @@ use Rattle.uf_edge.specs.Counts.{Counts, Stood}
 use Rattle.uf_edge.specs.Streams as streams
 use Rattle.uf_mfs.specs.Standing.{TellsHeld}
 use Rattle.uf_reply.specs.Cars.{most_blocks, most_car, roots_told}
-use Rattle.uf_reply.specs.Commands.{SyncsBlocks}
+use Rattle.uf_reply.specs.Commands.{OwnStore, NoStore, OfCarSections, OfTree, SyncsBlocks}
 use Rattle.uf_reply.specs.Kinds.{IsOf, ComparesCar as OfComparing, KeepsCar as OfCars, may_answer, refusal_fault}
 use Rattle.uf_reply.specs.Statuses.{no_memory}
 use Rattle.uf_reply.specs.declared.types.Refusal.{Refusal}
@@ -25,6 +25,7 @@ use Rattle.uf_store.specs.declared.store.StoreFault.TheVariants.{Memory}
 use Rattle.uf_store.specs.Keeping.{KeepsGood}
 use Rattle.uf_store.specs.Seen.{Seen}
 use Rattle.uf_top.specs.Causes.{is_read}
+use Rattle.uf_top.specs.Generated.{TwoGenerated}
 use Rattle.uf_top.specs.Naming.{TellsBlocks}
 use Rattle.uf_top.specs.Reply.{car_compared, verdict_told}
 use Rattle.uf_same.specs.Verdict.{verdict}
@@ -68,32 +69,32 @@ pub record TwoSections (X : List ℕ → List ℕ) (left : streams.Told) (cid : 
   pub spares : SparesStore before now
 
 -- a block is missing in the store or, where a command compares, among the sections of the CAR
-abbrev pub IsMissing : (List ℕ → List ℕ) → Bool → streams.Told → Cid → Seen → Seen → Type 0
-IsMissing X true left cid before now = ShowsMissing cid before now ⊎ LacksSection X left cid before now
-IsMissing X false left cid before now = ShowsMissing cid before now
+abbrev pub IsMissing : (List ℕ → List ℕ) → OwnStore → streams.Told → Cid → Seen → Seen → Type 0
+IsMissing X OfCarSections left cid before now = ShowsMissing cid before now ⊎ LacksSection X left cid before now
+IsMissing X other left cid before now = ShowsMissing cid before now
 
--- a block clashes with one that the store holds or, where a command compares, two sections of the CAR clash
-abbrev pub IsClashing : (List ℕ → List ℕ) → Bool → streams.Told → Cid → (first second : List ℕ) → Seen → Seen → Type 0
-IsClashing X true left cid first second before now =
+-- two blocks clash in the store of the command's own: two sections of the CAR, or two of those that are generated
+abbrev pub IsOwnClash : (List ℕ → List ℕ) → OwnStore → streams.Told → Cid → (first second : List ℕ) → Seen → Seen
+    → Type 0
+IsOwnClash X NoStore left cid first second before now = ⊥
+IsOwnClash X OfCarSections left cid first second before now = TwoSections X left cid first second before now
+IsOwnClash X OfTree left cid first second before now = TwoGenerated X cid first second
+
+-- a block clashes with one that the store holds or, where a command compares, two sections of the CAR clash; where it
+-- generates a tree, it doesn't look at the store
+abbrev pub IsClashing : (List ℕ → List ℕ) → OwnStore → streams.Told → Cid → (first second : List ℕ) → Seen → Seen
+    → Type 0
+IsClashing X NoStore left cid first second before now = ShowsClash X cid first second before now
+IsClashing X OfCarSections left cid first second before now =
     ShowsClash X cid first second before now ⊎ TwoSections X left cid first second before now
-IsClashing X false left cid first second before now = ShowsClash X cid first second before now
+IsClashing X OfTree left cid first second before now = TwoGenerated X cid first second
 
--- a refusal by the sections comes only where a command compares, and has its cause in them
-abbrev pub BySections : (List ℕ → List ℕ) → Bool → streams.Told → Seen → Seen → Refusal → Type 0
-BySections X compares left before now (refusal.CarLacks cid) = (compares ≡ true) × LacksSection X left cid before now
-BySections X compares left before now (refusal.CarClash cid first second) =
-    (compares ≡ true) × TwoSections X left cid first second before now
-BySections X compares left before now (refusal.Rule rule) = ⊤
-BySections X compares left before now (refusal.Dag rule) = ⊤
-BySections X compares left before now (refusal.Host rule) = ⊤
-BySections X compares left before now (refusal.BadPath why) = ⊤
-BySections X compares left before now refusal.InputTooLong = ⊤
-BySections X compares left before now refusal.Usage = ⊤
-BySections X compares left before now (refusal.Ready why) = ⊤
-BySections X compares left before now refusal.Read = ⊤
-BySections X compares left before now refusal.Write = ⊤
-BySections X compares left before now (refusal.Store fault) = ⊤
-BySections X compares left before now (refusal.Car number place) = ⊤
+-- a refusal by a store of the command's own comes only where it has one, and has its cause there
+abbrev pub ByOwnStore : (List ℕ → List ℕ) → OwnStore → streams.Told → Seen → Seen → Refusal → Type 0
+ByOwnStore X own left before now (refusal.CarLacks cid) = (own ≡ OfCarSections) × LacksSection X left cid before now
+ByOwnStore X own left before now (refusal.OwnClash cid first second) =
+    IsOwnClash X own left cid first second before now
+ByOwnStore X own left before now other = ⊤
 
 -- the one root of a CAR whose sections don't clash and are kept, or why it is refused whatever it is compared with
 pub record IsRootOf (car : Read (List Cid)) (root : Cid) (now : Told) : Type 0 where
@@ -114,7 +115,7 @@ pub record TakesRoot (X : List ℕ → List ℕ) (done : Result Cid Refusal) (be
   pub kinds : IsOf (may_answer OfComparing) done
   pub counts : Counts (is_read done) reads reads_now
   pub fault : IfSome (refusal_fault done) (λ fault. fault ≡ Memory)
-  pub sections : before ≡ Some no_contents → (other : Seen) → IfErr done (BySections X true left other other)
+  pub sections : before ≡ Some no_contents → (other : Seen) → IfErr done (ByOwnStore X OfCarSections left other other)
 
 -- how two stores were compared: the verdict, each refusal with its cause
 pub record ComparesStores (X : List ℕ → List ℕ) (cid root : Cid) (done : Result (List ℕ) Refusal) (before now : Seen)
@@ -127,7 +128,7 @@ pub record ComparesStores (X : List ℕ → List ℕ) (cid root : Cid) (done : R
   pub told : now.told ≡ before.told
   pub sections : (left : streams.Told) (u : Contents) → right ≡ Some u
       → IfSome left (λ bytes. u ≡ with_saves (car_read X most_car bytes).sections no_contents)
-      → IfErr done (BySections X true left before now)
+      → IfErr done (ByOwnStore X OfCarSections left before now)
 
 -- how what the store holds was compared with the CAR that the input has: the text, each refusal with its cause
 pub record ComparesCar (X : List ℕ → List ℕ) (cid : Cid) (done : Result (List ℕ) Refusal) (before now : Seen)
@@ -139,4 +140,4 @@ pub record ComparesCar (X : List ℕ → List ℕ) (cid : Cid) (done : Result (L
   pub counts : Counts (is_read done) reads reads_now
   pub cause : Shown X NoneIsBad (refusal_fault done) before now
   pub told : now.told ≡ before.told
-  pub sections : IfErr done (BySections X true left before now)
+  pub sections : IfErr done (ByOwnStore X OfCarSections left before now)

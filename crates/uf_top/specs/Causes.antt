@@ -30,7 +30,7 @@ use Rattle.uf_tree.specs.declared.head_fault.HeadFault.{HeadFault}
 use Rattle.uf_tree.specs.declared.profile.Head.{Head}
 use Rattle.uf_tree.specs.declared.profile.Profile.{Profile}
 use Rattle.uf_reply.specs.declared.types.Command.{Command}
-use Rattle.uf_reply.specs.declared.types.Command.TheVariants.{Init, Add, AddFrom, WriteInput, At, Read, Cat, Get, Export, Import, Same, Adopt}
+use Rattle.uf_reply.specs.declared.types.Command.TheVariants.{Init, Add, AddFrom, WriteInput, At, Read, Cat, Get, Export, Import, Same, Adopt, Gen}
 use Rattle.uf_reply.specs.declared.types.Refusal.{Refusal}
 use Rattle.uf_reply.specs.declared.types.Refusal.TheVariants as refusal
 use Rattle.uf_reply.specs.Kinds.{is_of, read_kind, refusal_fault, write_kind}

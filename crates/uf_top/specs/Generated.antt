@@ -1,5 +1,5 @@
 -- The generated tree as it is made on a store of its own, and what is printed of it.
-use Rattle.std.specs.Prelude.{◌≡◌, ℕ, ◌%◌, ◌==◌, List, ◌++◌, length, codes, ⊤, None, Some, false, if◌then◌else◌}
+use Rattle.std.specs.Prelude.{◌≡◌, ℕ, ◌%◌, ◌==◌, List, ◌++◌, length, codes, ⊤, None, Some, false, true, if◌then◌else◌}
 use Rattle.std.specs.Fmt.{decimal}
 use Rattle.std.specs.declared.option.Option.{Option}
 use Rattle.std.specs.declared.result.Result.{Result}
@@ -8,8 +8,10 @@ use Rattle.uf_cid.specs.Blocks.{IsClash}
 use Rattle.uf_cid.specs.Cid.{cid_text}
 use Rattle.uf_cid.specs.declared.cid.Cid.{Cid}
 use Rattle.uf_gen.specs.Fresh.{left_tree}
-use Rattle.uf_gen.specs.Grown.{grown, left_files, left_size, writing_at}
-use Rattle.uf_gen.specs.Rules.{late_offset, late_piece}
+use Rattle.uf_gen.specs.Grown.{grown, left_files, left_size, making, writing_at}
+use Rattle.uf_gen.specs.Rules.{first_bytes, late_offset, late_piece}
+use Rattle.uf_gen.specs.declared.step.Step.{Step}
+use Rattle.uf_gen.specs.declared.step.Step.TheVariants.{Make, Change}
 use Rattle.uf_mfs.specs.Standing.{IsPlanOf, StandsAt}
 use Rattle.uf_mfs.specs.declared.fault.MfsFault.{MfsFault}
 use Rattle.uf_mfs.specs.declared.fault.MfsFault.TheVariants as fault
@@ -17,7 +19,7 @@ use Rattle.uf_mfs.specs.declared.mfs.Mfs.{Mfs}
 use Rattle.uf_plain.specs.declared.rule.Rule.{Rule}
 use Rattle.uf_shard.specs.declared.fault.DirFault.{DirFault}
 use Rattle.uf_shard.specs.declared.fault.DirFault.TheVariants as dir
-use Rattle.uf_store.specs.Contents.{Contents}
+use Rattle.uf_store.specs.Contents.{Contents, Told, held_at}
 use Rattle.uf_store.specs.Seen.{Seen}
 use Rattle.uf_store.specs.declared.store.StoreFault.{StoreFault}
 use Rattle.uf_store.specs.declared.store.StoreFault.TheVariants as store
@@ -26,6 +28,7 @@ use Rattle.uf_tree.specs.TreePlan.{entry}
 use Rattle.uf_tree.specs.declared.nodes.Entry.{Entry}
 use Rattle.uf_tree.specs.declared.profile.Profile.{Profile}
 use Rattle.uf_reply.specs.Lines.{line}
+use Rattle.uf_reply.specs.Statuses.{own_refusal}
 use Rattle.uf_reply.specs.declared.types.Edit.{Edit}
 use Rattle.uf_reply.specs.declared.types.Edit.TheVariants.{Rm, Write}
 use Rattle.uf_reply.specs.declared.types.Refusal.{Refusal}
@@ -34,23 +37,6 @@ use Rattle.uf_reply.specs.declared.types.Refusal.TheVariants as refusal
 -- the profile of the generated tree
 abbrev pub small_profile : Profile
 small_profile = record { chunk = 4096; width = 174; threshold = 4096 }
-
--- a clash is of two different blocks of one digest
-abbrev pub IsShownClash : (List ℕ → List ℕ) → StoreFault → Type 0
-IsShownClash X store.Failed = ⊤
-IsShownClash X (store.Damaged c) = ⊤
-IsShownClash X (store.Missing c) = ⊤
-IsShownClash X (store.BadBlock c role) = ⊤
-IsShownClash X (store.Clash c held bytes) = IsClash X held bytes
-IsShownClash X store.Memory = ⊤
-
--- the store tells, has no Head, and never failed or met a clash
-pub record IsHeadless (seen : Seen) : Type 0 where
-  pub contents : Contents
-  pub told : seen.told ≡ Some contents
-  pub head : contents.notes.head ≡ None
-  pub faults : seen.faults ≡ 0
-  pub clashes : seen.clashes ≡ 0
 
 -- the five lines: how many files are left, their bytes, the root's Tsize, the root, and the root built afresh
 abbrev pub generated_lines : (n seed : ℕ) → Entry → Cid → List ℕ
@@ -61,27 +47,19 @@ generated_lines n seed root fresh =
     ++ line (codes "root ") (cid_text root.cid)
     ++ line (codes "fresh ") (cid_text fresh)
 
--- the edit that changes a file: each third is removed, and into the one behind it a byte is written
-abbrev pub change_of : (seed i : ℕ) → Option Edit
-change_of seed i =
+-- the edit of a step: a file is made; then each third is removed, and into the one behind it a byte is written
+abbrev pub step_edit : Step → (seed i : ℕ) → Option Edit
+step_edit Make seed i = Some (Write making (first_bytes seed i))
+step_edit Change seed i =
     if i % 3 == 0 then Some (Rm false)
     else (if i % 3 == 1 then Some (Write (writing_at (late_offset seed i)) late_piece) else None)
 
--- a fault of a store of one's own, which holds what it was given and doesn't fail: what is no clash is want of memory
-abbrev pub own_fault : StoreFault → StoreFault
-own_fault store.Failed = store.Memory
-own_fault (store.Damaged c) = store.Memory
-own_fault (store.Missing c) = store.Memory
-own_fault (store.BadBlock c role) = store.Memory
-own_fault (store.Clash c held bytes) = store.Clash c held bytes
-own_fault store.Memory = store.Memory
-
--- the fault of a call over such a store, as a refusal
+-- the fault of a call over a store of the generator's own, as a refusal
 abbrev pub RefusesOwn : MfsFault → Refusal → Type 0
 RefusesOwn (fault.Rule rule) why = why ≡ refusal.Rule rule
 RefusesOwn (fault.Ready ready) why = ⊥
 RefusesOwn fault.Sink why = ⊥
-RefusesOwn (fault.Store f) why = why ≡ refusal.Store (own_fault f)
+RefusesOwn (fault.Store f) why = why ≡ own_refusal f
 
 -- a directory isn't built for the store's own fault
 abbrev pub IsOfStore : DirFault → Type 0
@@ -93,7 +71,24 @@ IsOfStore (dir.Store f) = ⊤
 abbrev pub RefusesFresh : DirFault → Refusal → Type 0
 RefusesFresh (dir.Collision first second) why = ⊥
 RefusesFresh dir.TooBig why = ⊥
-RefusesFresh (dir.Store f) why = why ≡ refusal.Store (own_fault f)
+RefusesFresh (dir.Store f) why = why ≡ own_refusal f
+
+module _ (X : List ℕ → List ℕ) where
+  -- two different blocks have one digest, which this CID has
+  pub record TwoGenerated (cid : Cid) (first second : List ℕ) : Type 0 where
+    pub clash : IsClash X first second
+    pub digest : X first ≡ cid.digest
+
+  -- a clash is of two such blocks
+  abbrev pub IsShownClash : StoreFault → Type 0
+  IsShownClash (store.Clash cid held bytes) = TwoGenerated cid held bytes
+  IsShownClash other = ⊤
+
+  -- the store tells, and each block that it holds has its CID's digest
+  pub record TellsDigests (told : Told) : Type 0 where
+    pub contents : Contents
+    pub tells : told ≡ Some contents
+    pub digests : (cid : Cid) (bytes : List ℕ) → held_at contents cid ≡ Some bytes → X bytes ≡ cid.digest
 
 module _ (X : List ℕ → List ℕ) (N : List ℕ → ℕ) where
   -- the tree in memory stands for these entries, over a store that never failed or met a clash
@@ -101,6 +96,7 @@ module _ (X : List ℕ → List ℕ) (N : List ℕ → ℕ) where
     pub stands : StandsAt X N seen.told tree small_profile es
     pub faults : seen.faults ≡ 0
     pub clashes : seen.clashes ≡ 0
+    pub digests : TellsDigests X seen.told
 
   -- so it stands for what steps make, none of which a rule refused
   abbrev pub StandsFor : Result Entries Rule → Seen → Mfs → Type 0
@@ -129,19 +125,19 @@ module _ (X : List ℕ → List ℕ) (N : List ℕ → ℕ) where
   generated_text n seed es =
       generated_lines n seed (entry X N small_profile (Dir es)) (entry X N small_profile (left_tree seed n)).cid
 
-  -- a fault of a store of one's own: a clash is shown, and any other comes as want of memory
-  abbrev pub IsOwnFault : StoreFault → Type 0
-  IsOwnFault store.Failed = ⊥
-  IsOwnFault (store.Damaged c) = ⊥
-  IsOwnFault (store.Missing c) = ⊥
-  IsOwnFault (store.BadBlock c role) = ⊥
-  IsOwnFault (store.Clash c held bytes) = IsClash X held bytes
-  IsOwnFault store.Memory = ⊤
+  -- what is said of what the steps make
+  abbrev pub growth_told : (n seed : ℕ) → Result Entries Rule → Result (List ℕ) Refusal
+  growth_told n seed (Ok es) = Ok (generated_text n seed es)
+  growth_told n seed (Err rule) = Err (refusal.Rule rule)
 
-  -- what is printed of the tree that the steps make, or the rule that refuses the first of them, or a clash
+  -- the lines of the tree that the steps make, or the rule that refuses the first of them
+  abbrev pub generated_ends : (n seed : ℕ) → Result (List ℕ) Refusal
+  generated_ends n seed = growth_told n seed (grown X N small_profile seed n)
+
+  -- so a tree is generated, unless two blocks clash in a store of its own, or there was no memory
   abbrev pub IsGenerated : (n seed : ℕ) → Result (List ℕ) Refusal → Type 0
-  IsGenerated n seed (Ok text) = (es : Entries) × (grown X N small_profile seed n ≡ Ok es)
-      × (text ≡ generated_text n seed es)
-  IsGenerated n seed (Err (refusal.Rule rule)) = grown X N small_profile seed n ≡ Err rule
-  IsGenerated n seed (Err (refusal.Store f)) = IsOwnFault f
+  IsGenerated n seed (Ok text) = Ok text ≡ generated_ends n seed
+  IsGenerated n seed (Err (refusal.Rule rule)) = Err (refusal.Rule rule) ≡ generated_ends n seed
+  IsGenerated n seed (Err (refusal.OwnClash cid first second)) = TwoGenerated X cid first second
+  IsGenerated n seed (Err (refusal.Store f)) = f ≡ store.Memory
   IsGenerated n seed (Err why) = ⊥

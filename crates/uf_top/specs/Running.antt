@@ -8,8 +8,8 @@ use Rattle.uf_cid.specs.declared.cid.Cid.{Cid}
 use Rattle.uf_edge.specs.Counts.{Stood}
 use Rattle.uf_mfs.specs.Reading.{AreHeights}
 use Rattle.uf_mfs.specs.Standing.{NamesOver, TellsAs, head_in}
-use Rattle.uf_reply.specs.Commands.{HasInput, compares, is_idle, of_command, only_reads, reads_tree_alone, uses_host, writes_host}
-use Rattle.uf_reply.specs.Commands.{streams as flows}
+use Rattle.uf_reply.specs.Commands.{HasInput, NoStore, is_idle, of_command, only_reads, own_store, reads_tree_alone, uses_host}
+use Rattle.uf_reply.specs.Commands.{streams as flows, writes_host}
 use Rattle.uf_reply.specs.Kinds.{family_of}
 use Rattle.uf_reply.specs.Lines.{bad_block_line, clash_line, missing_line}
 use Rattle.uf_reply.specs.declared.status.Status.{Status}
@@ -39,10 +39,11 @@ use Rattle.uf_tree.specs.declared.profile.Profile.{Profile}
 module _ (Says : List ℕ → Type 0) (X : List ℕ → List ℕ) (N : List ℕ → ℕ) where
   pub record Runs (asked : Result Command Refusal) (given : Status) (before now : Around) : Type 0 where
     -- over a store that stands as the command needs it and, where the command uses it, an input or a host that tells,
-    -- with no count risen and no clash met, the answer is the reply, or want of memory; over a store that stands for a
-    -- tree no block of a command on it alone is missing or bad, whatever the input and the output do
+    -- with no count risen and no clash met, be it in a store of the command's own, the answer is the reply, or want of
+    -- memory; over a store that stands for a tree no block of a command on it alone is missing or bad, whatever the input
+    -- and the output do
     pub replies : (w : World) → FindsWorld X N asked before.store.told w → HasOutside asked (outside_of w) before now
-        → StaysQuiet asked before now
+        → StaysQuiet asked given before now
         → EndsAs Says X N asked w given before.held now.held now.store.told now.host.told
     pub whole : (standing : Standing) → of_command reads_tree_alone true asked ≡ true
         → TellsAs X N before.store.told standing → Calm before.store now.store → FindsAll given
@@ -50,10 +51,10 @@ module _ (Says : List ℕ → Type 0) (X : List ℕ → List ℕ) (N : List ℕ 
     -- blocks that the command needs is lost; after Ok the new tree lacks no block that was held or is new
     pub lost : (p : Profile) (es : Entries) (rows : ℕ → ℕ) (held : Lookup) (outside : Outside)
         → StaysNamed X N before.store.told now.store.told p es → TellsBlocks before.store.told held
-        → AreHeights p rows → HasOutside asked outside before now → StaysQuiet asked before now
+        → AreHeights p rows → HasOutside asked outside before now → StaysQuiet asked given before now
         → EndsOver X N before.store.told now.store.told p es (words_need X N rows asked p es) Says
         (reply_to X N asked (in_world p es held outside)) given before.held now.held
-    -- `init` and `add` look for no block, over every store
+    -- `init`, `add`, `dag import` and `gen` look for no block, over every store
     pub looks : (command : Command) → asked ≡ Ok command → FindsBy (family_of command) given
     -- words that are no command, and texts that are no paths, are refused
     pub words : (why : Refusal) → asked ≡ Err why → IsRefusedBy Says why given
@@ -63,13 +64,13 @@ module _ (Says : List ℕ → Type 0) (X : List ℕ → List ℕ) (N : List ℕ 
     pub usage : given ≡ status.Usage → asked ≡ Err refusal.Usage
     pub store_fault : given ≡ status.StoreFault → ShowsFailure before.store now.store
     pub missing : given ≡ status.Missing → (cid : Cid)
-        × IsMissing X (of_command compares false asked) before.left cid before.store now.store
+        × IsMissing X (of_command own_store NoStore asked) before.left cid before.store now.store
         × Says (missing_line cid)
     pub bad_block : given ≡ status.BadBlock → (cid : Cid) × (role : Role)
         × ShowsBadBlock X (IsBadIn X N before.store.told now.store.told) cid role before.store now.store
         × Says (bad_block_line cid role)
     pub clash : given ≡ status.Clash → (cid : Cid) × (held : List ℕ) × (bytes : List ℕ)
-        × IsClashing X (of_command compares false asked) before.left cid held bytes before.store now.store
+        × IsClashing X (of_command own_store NoStore asked) before.left cid held bytes before.store now.store
         × Says (clash_line cid held bytes)
     pub read : given ≡ status.ReadFault
         → RoseAt (of_command uses_host false asked) before.reads now.reads before.host.reads now.host.reads

@@ -127,12 +127,12 @@ module _ (X : List ℕ → List ℕ) (N : List ℕ → ℕ) where
   -- what it leaves
   pub record Does (command : Command) (done : Result (Unit {0}) Refusal) (before now : Around) : Type 0 where
     pub answers : (w : World) → FindsWorld X N (Ok command) before.store.told w
-        → HasOutside (Ok command) (outside_of w) before now → StaysQuiet (Ok command) before now
+        → HasOutside (Ok command) (outside_of w) before now → StaysQuiet (Ok command) (ended done) before now
         → DoesAnswer X N command w done before.held now.held now.store.told now.host.told
     pub lost : (p : Profile) (es : Entries) (rows : ℕ → ℕ) (held : Lookup) (outside : Outside)
         → StaysNamed X N before.store.told now.store.told p es → TellsBlocks before.store.told held
         → AreHeights p rows
-        → HasOutside (Ok command) outside before now → StaysQuiet (Ok command) before now
+        → HasOutside (Ok command) outside before now → StaysQuiet (Ok command) (ended done) before now
         → DoesOver X N before.store.told now.store.told p es (command_needs X N rows command p es)
         (reply X N command (in_world p es held outside)) done before.held now.held
     pub prefix : (w : World) → FindsOver X N before.store.told now.store.told (Ok command) w

@@ -1,9 +1,10 @@
 // CARs written from what is held, read into the store, and compared with what is held.
-ghost use Rattle.std.specs.Prelude.{◌≡◌, IfErr, IfOk, List, ℕ, true};
+ghost use Rattle.std.specs.Prelude.{◌≡◌, IfErr, IfOk, List, ℕ};
 ghost use Rattle.uf_edge.specs.Streams.{Told as Left};
+ghost use Rattle.uf_reply.specs.Commands.{OfCarSections};
 ghost use Rattle.uf_reply.specs.declared.types.Command.TheVariants as commands;
 ghost use Rattle.uf_top.specs.Around.{HostSide, around};
-ghost use Rattle.uf_top.specs.Cars.{BySections, ComparesCar, ComparesStores, KeepsCar, TakesRoot};
+ghost use Rattle.uf_top.specs.Cars.{ByOwnStore, ComparesCar, ComparesStores, KeepsCar, TakesRoot};
 ghost use Rattle.uf_top.specs.Reply.{compared_text as text_of_compared, same_refusal as refusal_of_same};
 ghost use Rattle.uf_top.specs.Working.{Does};
 
@@ -98,7 +99,7 @@ pub fn compare_car<S: Store, I: Source, O: Sink, L: Ledger>(
         touches.old side)
         (around (S.seen store.new) (I.left input.new) (I.faults input.new) (O.holds output.new) (O.faults output.new)
         touches.new side) }
-    ensures sections { IfErr result (BySections S.X.block32 true (I.left input.old) (S.seen store.old)
+    ensures own { IfErr result (ByOwnStore S.X.block32 OfCarSections (I.left input.old) (S.seen store.old)
         (S.seen store.new)) }
 {
     match comparison(alloc, cid, store, input, touches) {

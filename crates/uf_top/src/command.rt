@@ -1,24 +1,23 @@
 // One command.
-ghost use Rattle.std.specs.Prelude.{◌≡◌, ◌<◌, IfErr, ℕ, true, false, Err, Ok};
+ghost use Rattle.std.specs.Prelude.{◌≡◌, ◌<◌, IfErr, ℕ, true, false};
 ghost use Rattle.std.specs.Prelude.{map, string_bytes};
 ghost use Rattle.uf_edge.specs.Streams.{Told};
 ghost use Rattle.uf_mfs.specs.Standing.{TellsAs};
 ghost use Rattle.uf_tree.specs.Standing.{Standing};
-ghost use Rattle.uf_top.specs.Cars.{BySections};
+ghost use Rattle.uf_top.specs.Cars.{ByOwnStore};
 ghost use Rattle.uf_top.specs.Causes.{IsSent};
-ghost use Rattle.uf_reply.specs.Commands.{IsAccepted, command_in, compares, of_command};
-ghost use Rattle.uf_reply.specs.Commands.{only_hashes, reads_input, reads_tree_alone, streams as flows};
-ghost use Rattle.uf_reply.specs.Commands.{uses_host};
+ghost use Rattle.uf_reply.specs.Commands.{IsAccepted, NoStore, command_in, generates, of_command, own_store};
+ghost use Rattle.uf_reply.specs.Commands.{reads_input, reads_tree_alone, streams as flows, touches_nothing, uses_host};
 ghost use Rattle.uf_top.specs.Around.{around, host_side};
 ghost use Rattle.uf_top.specs.Endings.{Prints, TellsEnd, TellsWhy};
 ghost use Rattle.uf_top.specs.Endings.{has_details};
 ghost use Rattle.uf_top.specs.Running.{Runs};
 ghost use Rattle.uf_top.specs.Working.{Does, MakesText, Serves};
-ghost use Rattle.uf_reply.specs.declared.types.Refusal.{Refusal as TheRefusal};
 
 use crate::adding::adds;
 use crate::cars::{compare_car, export_car, import_car};
 use crate::foreign::cat;
+use crate::generating::print_generated;
 use crate::getting::get;
 use crate::grafting::graft;
 use crate::hosted::add_from;
@@ -38,9 +37,9 @@ use uf_store::{Steps, Store};
 /// `init` makes a store ready; `files mkdir`, `files ls`, `files stat`, `files read`, `files write`, `files truncate`,
 /// `files cp`, `files mv` and `files rm` work on the tree that its Head names; `add` prints the CID of its input as a file (UnixFS
 /// v1; Kubo's balanced layout with raw leaves), or those of a file of the host or of a folder and everything in it, and,
-/// without `-n`, keeps their blocks; `cat` prints a file of a DAG, and `get` writes what is in one to the host. Refused are
-/// first words that are none, then texts that are no paths, then a Head that doesn't do, then an input that is too long, and then what
-/// the rules of the command refuse. The status says how the command ended; after a refusal its line goes to `errors`,
+/// without `-n`, keeps their blocks; `cat` prints a file of a DAG, and `get` writes what is in one to the host; `gen` makes a
+/// tree on stores of its own and says its root. Refused are first words that are none, then texts that are no paths, then
+/// a Head that doesn't do, then an input that is too long, and then what the rules of the command refuse. The status says how the command ended; after a refusal its line goes to `errors`,
 /// and a failed write of that line changes no status.
 pub fn run<S: Store, N: NameHash, W: Host, I: Source, O: Sink, E: Sink, L: Ledger>(
     alloc: Global,
@@ -64,13 +63,13 @@ pub fn run<S: Store, N: NameHash, W: Host, I: Source, O: Sink, E: Sink, L: Ledge
     ensures one { (standing other : Standing) → TellsAs S.X.block32 N.name64 (S.seen store.new).told standing
         → TellsAs S.X.block32 N.name64 (S.seen store.new).told other → standing ≡ other }
 
-    // Refused words do nothing to the store, a command that doesn't use the input or the host leaves it as it was, and
-    // `add -n` makes no touch.
-    ensures left { (why : TheRefusal) → command_in (map string_bytes words.now) ≡ Err why → store.new ≡ store.old }
+    // Refused words do nothing to the store, nor does a command that works on stores of its own; a command that doesn't use
+    // the input or the host leaves it as it was; and `add -n` and `gen` make no touch.
+    ensures left { of_command generates true (command_in (map string_bytes words.now)) ≡ true → store.new ≡ store.old }
     ensures input { of_command reads_input false (command_in (map string_bytes words.now)) ≡ false
         → input.new ≡ input.old }
     ensures host { of_command uses_host false (command_in (map string_bytes words.now)) ≡ false → host.new ≡ host.old }
-    ensures untouched { of_command only_hashes true (command_in (map string_bytes words.now)) ≡ true
+    ensures untouched { of_command touches_nothing true (command_in (map string_bytes words.now)) ≡ true
         → touches.new ≡ touches.old }
 {
     let done = serve::<S, N, W, I, O, L>(alloc, words, store, host, input, output, touches);
@@ -92,14 +91,14 @@ fn serve<S: Store, N: NameHash, W: Host, I: Source, O: Sink, L: Ledger>(
         touches.old (host_side (W.tree host.old) (W.read_faults host.old) (W.write_faults host.old)))
         (around (S.seen store.new) (I.left input.new) (I.faults input.new) (O.holds output.new) (O.faults output.new)
         touches.new (host_side (W.tree host.new) (W.read_faults host.new) (W.write_faults host.new))) }
-    ensures sections { IfErr result (BySections S.X.block32
-        (of_command compares false (command_in (map string_bytes words.now))) (I.left input.old) (S.seen store.old)
+    ensures own { IfErr result (ByOwnStore S.X.block32
+        (of_command own_store NoStore (command_in (map string_bytes words.now))) (I.left input.old) (S.seen store.old)
         (S.seen store.new)) }
-    ensures left { (why : TheRefusal) → command_in (map string_bytes words.now) ≡ Err why → store.new ≡ store.old }
+    ensures left { of_command generates true (command_in (map string_bytes words.now)) ≡ true → store.new ≡ store.old }
     ensures input { of_command reads_input false (command_in (map string_bytes words.now)) ≡ false
         → input.new ≡ input.old }
     ensures host { of_command uses_host false (command_in (map string_bytes words.now)) ≡ false → host.new ≡ host.old }
-    ensures untouched { of_command only_hashes true (command_in (map string_bytes words.now)) ≡ true
+    ensures untouched { of_command touches_nothing true (command_in (map string_bytes words.now)) ≡ true
         → touches.new ≡ touches.old }
 {
     match read_command(alloc, words) {
@@ -126,11 +125,12 @@ fn work<S: Store, N: NameHash, W: Host, I: Source, O: Sink, L: Ledger>(
         touches.old (host_side (W.tree host.old) (W.read_faults host.old) (W.write_faults host.old)))
         (around (S.seen store.new) (I.left input.new) (I.faults input.new) (O.holds output.new) (O.faults output.new)
         touches.new (host_side (W.tree host.new) (W.read_faults host.new) (W.write_faults host.new))) }
-    ensures sections { IfErr result (BySections S.X.block32 (compares command.now) (I.left input.old)
+    ensures own { IfErr result (ByOwnStore S.X.block32 (own_store command.now) (I.left input.old)
         (S.seen store.old) (S.seen store.new)) }
     ensures input { reads_input command.now ≡ false → input.new ≡ input.old }
+    ensures left { generates command.now ≡ true → store.new ≡ store.old }
     ensures host { uses_host command.now ≡ false → host.new ≡ host.old }
-    ensures untouched { only_hashes command.now ≡ true → touches.new ≡ touches.old }
+    ensures untouched { touches_nothing command.now ≡ true → touches.new ≡ touches.old }
 {
     match command {
         Command::Read {
@@ -144,6 +144,7 @@ fn work<S: Store, N: NameHash, W: Host, I: Source, O: Sink, L: Ledger>(
         Command::Export { cid } => export_car(alloc, cid, store, output, touches),
         Command::Import => import_car(alloc, store, input, output, touches),
         Command::Same { cid } => compare_car(alloc, cid, store, input, output, touches),
+        Command::Gen { n, seed } => print_generated::<S::X, N, O>(alloc, *n, *seed, output),
         _ => match text_of::<S, N, W, I, L>(alloc, command, store, host, input, touches) {
             Err(why) => Err(why),
             Ok(text) => print(&text, output),
@@ -170,7 +171,7 @@ fn text_of<S: Store, N: NameHash, W: Host, I: Source, L: Ledger>(
         (host_side (W.tree host.new) (W.read_faults host.new) (W.write_faults host.new))) }
     ensures input { reads_input command.now ≡ false → input.new ≡ input.old }
     ensures host { uses_host command.now ≡ false → host.new ≡ host.old }
-    ensures untouched { only_hashes command.now ≡ true → touches.new ≡ touches.old }
+    ensures untouched { touches_nothing command.now ≡ true → touches.new ≡ touches.old }
 {
     match command {
         Command::Init { profile } => init::<S, N, L>(alloc, *profile, store, touches),
@@ -190,7 +191,8 @@ fn text_of<S: Store, N: NameHash, W: Host, I: Source, L: Ledger>(
         | Command::Export { .. }
         | Command::Import
         | Command::Same { .. }
-        | Command::Adopt { .. } => unreachable!(),
+        | Command::Adopt { .. }
+        | Command::Gen { .. } => unreachable!(),
     }
 }
 

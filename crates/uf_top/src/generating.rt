@@ -1,32 +1,42 @@
 // A large tree is generated, changed and built afresh, each on a store of its own.
-ghost use Rattle.std.specs.Prelude.{◌≡◌, ◌≤◌, ℕ, IfOk, Ok};
-ghost use Rattle.uf_gen.specs.Grown.{after_change, after_make, changed_files, file_path as path_of, made_files};
+ghost use Rattle.std.specs.Prelude.{◌≡◌, ◌≤◌, ◌<◌, ℕ, false, IfErr, IfOk, Ok};
+ghost use Rattle.std.specs.declared.result.Result.{Result as TheResult};
+ghost use Rattle.uf_edge.specs.Streams.{Told as Left};
+ghost use Rattle.uf_gen.specs.Grown.{after_step, file_path as path_of, stepped};
 ghost use Rattle.uf_mfs.specs.Standing.{IsMfs};
 ghost use Rattle.uf_plain.specs.Moves.{then_go};
 ghost use Rattle.uf_plain.specs.declared.rule.Rule.{Rule as TheRule};
+ghost use Rattle.uf_store.specs.InMemory.{new_seen};
+ghost use Rattle.uf_store.specs.Seen.{Seen as TheSeen};
 ghost use Rattle.uf_tree.specs.Tree.{Entries};
-ghost use Rattle.uf_top.specs.Generated.{Grows, GrowsRoot, IsGenerated, IsHeadless, StandsFor, small_profile};
-ghost use Rattle.uf_gen.specs.Grown.{making as makes};
-ghost use Rattle.uf_gen.specs.Rules.{first_bytes as bytes_first};
-ghost use Rattle.std.specs.declared.result.Result.{Result as TheResult};
+ghost use Rattle.uf_reply.specs.Commands.{OfTree};
+ghost use Rattle.uf_reply.specs.declared.types.Command.TheVariants as commands;
 ghost use Rattle.uf_reply.specs.declared.types.Edit.TheVariants as edits;
+ghost use Rattle.uf_top.specs.Around.{HostSide, around};
+ghost use Rattle.uf_top.specs.Cars.{ByOwnStore};
 ghost use Rattle.uf_top.specs.Causes.{IsTreeFault};
-ghost use Rattle.uf_top.specs.Generated.{IsOfStore, RefusesFresh, RefusesOwn, change_of, generated_lines as generated_lines_of, own_fault as own_fault_of};
+ghost use Rattle.uf_top.specs.Generated.{Grows, GrowsRoot, IsGenerated, IsOfStore, RefusesFresh, RefusesOwn, StandsFor};
+ghost use Rattle.uf_top.specs.Generated.{generated_lines as generated_lines_of, small_profile, step_edit};
 ghost use Rattle.uf_top.specs.Reply.{edited_by};
+ghost use Rattle.uf_top.specs.Working.{Does};
 
+use crate::command::print;
 use crate::tree::edited;
 use std::alloc::Global;
-use std::sync::ledger::Ledger;
+use std::marker::Brand;
+use std::sync::ledger::{Blank, Ledger};
 use uf_cid::{Block, BlockHash, Cid, Memory};
-use uf_gen::{file_name, first_bytes, fresh_root, late_offset, late_piece, left_count, left_size};
+use uf_edge::Sink;
+use uf_gen::{
+    Step, file_path, first_bytes, fresh_root, late_offset, late_piece, left_count, left_size,
+};
 use uf_mfs::{Mfs, MfsFault};
 use uf_murmur::NameHash;
-use uf_path::Path;
 use uf_plain::WriteHow;
-use uf_reply::{Edit, Refusal, put_line, put_number};
+use uf_reply::{Edit, Refusal, own_refusal, put_line, put_number};
 use uf_shard::DirFault;
 use uf_store::{MemStore, Steps, Store, StoreFault};
-use uf_tree::{Entry, Names, Profile};
+use uf_tree::{Entry, Profile};
 
 // The profile of the generated tree.
 const SMALL: Profile = Profile {
@@ -35,20 +45,57 @@ const SMALL: Profile = Profile {
     threshold: 4096,
 };
 
-/// What is printed of the tree that the generator's steps make of `n` files, on a store in memory, and of the same tree built
-/// afresh on another one: the first rule that refuses a step, else five lines. A clash of two blocks is shown.
-pub fn generated<X: BlockHash, N: NameHash, L: Ledger>(
+// Prints what is said of the tree that the generator's steps make of `n` files, on a store in memory, and of the same tree
+// built afresh on another one: the first rule that refuses a step, else five lines. A clash of two blocks is shown.
+pub fn print_generated<X: BlockHash, N: NameHash, O: Sink>(
+    alloc: Global,
+    n: u64,
+    seed: u64,
+    output: &mut O,
+) -> Result<(), Refusal>
+    requires { n ≤ 20000 }
+    ensures does { (seen : TheSeen) (left : Left) (reads touches : ℕ) (side : HostSide)
+        → Does X.block32 N.name64 (commands.Gen n seed) result
+        (around seen left reads (O.holds output.old) (O.faults output.old) touches side)
+        (around seen left reads (O.holds output.new) (O.faults output.new) touches side) }
+    ensures own { (seen : TheSeen) (left : Left) → IfErr result (ByOwnStore X.block32 OfTree left seen seen) }
+{
+    match counted::<X, N, Brand>(alloc, n, seed, Blank::new(1)) {
+        Err(why) => Err(why),
+        Ok(text) => print(&text, output),
+    }
+}
+
+// What is printed, with a count of its own for the touches of the stores.
+fn counted<X: BlockHash, N: NameHash, L: Ledger>(
+    alloc: Global,
+    n: u64,
+    seed: u64,
+    blank: Blank,
+) -> Result<Block, Refusal>
+    requires few { n ≤ 20000 }
+    requires name { blank.name ≡ L.name }
+    requires parts { blank.parts ≡ L.parts }
+    requires some { 0 < blank.parts }
+    ensures { IsGenerated X.block32 N.name64 n seed result }
+{
+    let mut touches = Steps::<L>::new(blank);
+    generated::<X, N, L>(alloc, n, seed, &mut touches)
+}
+
+// The same, with the touches of the store on which the steps are made.
+fn generated<X: BlockHash, N: NameHash, L: Ledger>(
     alloc: Global,
     n: u64,
     seed: u64,
     touches: &mut Steps<L>,
 ) -> Result<Block, Refusal>
-    requires { n ≤ 100000000 }
+    requires { n ≤ 20000 }
     ensures { IsGenerated X.block32 N.name64 n seed result }
 {
     let mut store = MemStore::<X>::new(alloc);
     match grown_root::<MemStore<X>, N, L>(alloc, n, seed, &mut store, touches) {
-        Err(fault) => Err(own_refusal(fault)),
+        Err(fault) => Err(grown_refusal(fault)),
         Ok(root) => generated_beside::<X, N, L>(alloc, n, seed, &root, touches),
     }
 }
@@ -61,7 +108,7 @@ fn generated_beside<X: BlockHash, N: NameHash, L: Ledger>(
     root: &Entry,
     touches: &mut Steps<L>,
 ) -> Result<Block, Refusal>
-    requires few { n ≤ 100000000 }
+    requires few { n ≤ 20000 }
     requires grown { GrowsRoot X.block32 N.name64 n seed (Ok root.now) }
     ensures { IsGenerated X.block32 N.name64 n seed result }
 {
@@ -83,7 +130,7 @@ fn generated_lines(
     root: &Entry,
     fresh: &Cid,
 ) -> Result<Block, Memory>
-    requires { n ≤ 100000000 }
+    requires { n ≤ 20000 }
     ensures { IfOk result (λ text. text ≡ generated_lines_of n seed root.now fresh.now) }
 {
     let mut out = Block::new(alloc);
@@ -95,14 +142,14 @@ fn generated_lines(
     Ok(out)
 }
 
-// The fault of a call over a store of one's own, as a refusal.
-fn own_refusal(fault: MfsFault) -> Refusal
+// The fault of a call over a store of the generator's own, as a refusal.
+fn grown_refusal(fault: MfsFault) -> Refusal
     requires { IsTreeFault fault }
     ensures { RefusesOwn fault result }
 {
     match fault {
         MfsFault::Rule(rule) => Refusal::Rule(rule),
-        MfsFault::Store(fault) => Refusal::Store(own_fault(fault)),
+        MfsFault::Store(fault) => own_refusal(fault),
         MfsFault::Ready(_) | MfsFault::Sink => unreachable!(),
     }
 }
@@ -113,22 +160,12 @@ fn fresh_refusal(fault: DirFault) -> Refusal
     ensures { RefusesFresh fault result }
 {
     match fault {
-        DirFault::Store(fault) => Refusal::Store(own_fault(fault)),
+        DirFault::Store(fault) => own_refusal(fault),
         DirFault::Collision(..) | DirFault::TooBig => unreachable!(),
     }
 }
 
-// The fault of a store of one's own: it holds what it was given and doesn't fail, so what is no clash is want of memory.
-fn own_fault(fault: StoreFault) -> StoreFault
-    ensures { result ≡ own_fault_of fault }
-{
-    match fault {
-        StoreFault::Clash(cid, held, bytes) => StoreFault::Clash(cid, held, bytes),
-        _ => StoreFault::Memory,
-    }
-}
-
-// The root of the tree that the generator's steps make on a store without a Head.
+// The root of the tree that the generator's steps make on a new store.
 fn grown_root<S: Store, N: NameHash, L: Ledger>(
     alloc: Global,
     n: u64,
@@ -136,17 +173,18 @@ fn grown_root<S: Store, N: NameHash, L: Ledger>(
     store: &mut S,
     touches: &mut Steps<L>,
 ) -> Result<Entry, MfsFault>
-    ensures { IsHeadless (S.seen store.old) → GrowsRoot S.X.block32 N.name64 n seed result }
+    ensures { S.seen store.old ≡ new_seen → GrowsRoot S.X.block32 N.name64 n seed result }
 {
     let mut tree = Mfs::init::<S, N, L>(alloc, store, SMALL, touches)?;
-    make_files::<S, N, L>(alloc, n, seed, &mut tree, store, touches)?;
-    change_files::<S, N, L>(alloc, n, seed, &mut tree, store, touches)?;
+    step_all::<S, N, L>(alloc, Step::Make, n, seed, &mut tree, store, touches)?;
+    step_all::<S, N, L>(alloc, Step::Change, n, seed, &mut tree, store, touches)?;
     Ok(tree.root)
 }
 
-// Makes so many files.
-fn make_files<S: Store, N: NameHash, L: Ledger>(
+// Does a step to so many files.
+fn step_all<S: Store, N: NameHash, L: Ledger>(
     alloc: Global,
+    step: Step,
     n: u64,
     seed: u64,
     tree: &mut Mfs,
@@ -154,43 +192,22 @@ fn make_files<S: Store, N: NameHash, L: Ledger>(
     touches: &mut Steps<L>,
 ) -> Result<(), MfsFault>
     requires { IsMfs tree.old }
-    ensures grows { StandsFor S.X.block32 N.name64 (made_files S.X.block32 N.name64 small_profile seed 0)
+    ensures grows { StandsFor S.X.block32 N.name64 (stepped S.X.block32 N.name64 small_profile seed step n 0)
         (S.seen store.old) tree.old
-        → Grows S.X.block32 N.name64 (made_files S.X.block32 N.name64 small_profile seed n) (S.seen store.new)
+        → Grows S.X.block32 N.name64 (stepped S.X.block32 N.name64 small_profile seed step n n) (S.seen store.new)
         tree.new result }
     ensures mfs { IsMfs tree.new }
 {
     for i in 0..n {
-        make_file::<S, N, L>(alloc, seed, i, tree, store, touches)?;
+        step_one::<S, N, L>(alloc, step, seed, i, tree, store, touches)?;
     }
     Ok(())
 }
 
-// Changes so many of the files.
-fn change_files<S: Store, N: NameHash, L: Ledger>(
+// Does a step to a file.
+fn step_one<S: Store, N: NameHash, L: Ledger>(
     alloc: Global,
-    n: u64,
-    seed: u64,
-    tree: &mut Mfs,
-    store: &mut S,
-    touches: &mut Steps<L>,
-) -> Result<(), MfsFault>
-    requires { IsMfs tree.old }
-    ensures grows { StandsFor S.X.block32 N.name64 (changed_files S.X.block32 N.name64 small_profile seed n 0)
-        (S.seen store.old) tree.old
-        → Grows S.X.block32 N.name64 (changed_files S.X.block32 N.name64 small_profile seed n n)
-        (S.seen store.new) tree.new result }
-    ensures mfs { IsMfs tree.new }
-{
-    for i in 0..n {
-        change_file::<S, N, L>(alloc, seed, i, tree, store, touches)?;
-    }
-    Ok(())
-}
-
-// Makes a file.
-fn make_file<S: Store, N: NameHash, L: Ledger>(
-    alloc: Global,
+    step: Step,
     seed: u64,
     i: u64,
     tree: &mut Mfs,
@@ -200,33 +217,11 @@ fn make_file<S: Store, N: NameHash, L: Ledger>(
     requires { IsMfs tree.old }
     ensures grows { (made : TheResult Entries TheRule)
         → StandsFor S.X.block32 N.name64 made (S.seen store.old) tree.old
-        → Grows S.X.block32 N.name64 (then_go made (after_make S.X.block32 N.name64 small_profile seed i))
+        → Grows S.X.block32 N.name64 (then_go made (after_step S.X.block32 N.name64 small_profile seed step i))
         (S.seen store.new) tree.new result }
     ensures mfs { IsMfs tree.new }
 {
-    match making(alloc, seed, i) {
-        Err(_) => Err(MfsFault::Store(StoreFault::Memory)),
-        Ok(edit) => edit_file::<S, N, L>(alloc, i, &edit, tree, store, touches),
-    }
-}
-
-// Changes a file: each third is removed, and into the one behind it a byte is written.
-fn change_file<S: Store, N: NameHash, L: Ledger>(
-    alloc: Global,
-    seed: u64,
-    i: u64,
-    tree: &mut Mfs,
-    store: &mut S,
-    touches: &mut Steps<L>,
-) -> Result<(), MfsFault>
-    requires { IsMfs tree.old }
-    ensures grows { (made : TheResult Entries TheRule)
-        → StandsFor S.X.block32 N.name64 made (S.seen store.old) tree.old
-        → Grows S.X.block32 N.name64 (then_go made (after_change S.X.block32 N.name64 small_profile seed i))
-        (S.seen store.new) tree.new result }
-    ensures mfs { IsMfs tree.new }
-{
-    match changing(alloc, seed, i) {
+    match edit_of(alloc, step, seed, i) {
         Err(_) => Err(MfsFault::Store(StoreFault::Memory)),
         Ok(None) => Ok(()),
         Ok(Some(edit)) => edit_file::<S, N, L>(alloc, i, &edit, tree, store, touches),
@@ -256,44 +251,28 @@ fn edit_file<S: Store, N: NameHash, L: Ledger>(
     }
 }
 
-// The path of a file.
-fn file_path(alloc: Global, i: u64) -> Result<Path, Memory>
-    ensures { IfOk result (λ path. path.names ≡ path_of i) }
+// The edit of a step to a file, if there is any.
+fn edit_of(alloc: Global, step: Step, seed: u64, i: u64) -> Result<Option<Edit>, Memory>
+    ensures { IfOk result (λ edit. edit ≡ step_edit step seed i) }
 {
-    let name = file_name(alloc, i)?;
-    let mut names = Names::new(alloc);
-    names.push(name)?;
-    Ok(Path { names, into: false })
+    match step {
+        Step::Make => Ok(Some(write_at(0, true, first_bytes(alloc, seed, i)?))),
+        Step::Change if i % 3 == 0 => Ok(Some(Edit::Rm { recursive: false })),
+        Step::Change if i % 3 == 1 => {
+            Ok(Some(write_at(late_offset(seed, i), false, late_piece(alloc)?)))
+        }
+        Step::Change => Ok(None),
+    }
 }
 
-// The edit that makes a file.
-fn making(alloc: Global, seed: u64, i: u64) -> Result<Edit, Memory>
-    ensures { IfOk result (λ edit. edit ≡ edits.Write makes (bytes_first seed i)) }
+// A write of a piece into a file.
+fn write_at(offset: u64, create: bool, piece: Block) -> Edit
+    ensures { result ≡ edits.Write (record { offset = offset; create = create; cut = false }) piece }
 {
-    let piece = first_bytes(alloc, seed, i)?;
     let how = WriteHow {
-        offset: 0,
-        create: true,
+        offset,
+        create,
         cut: false,
     };
-    Ok(Edit::Write { how, piece })
-}
-
-// The edit that changes a file, if any does.
-fn changing(alloc: Global, seed: u64, i: u64) -> Result<Option<Edit>, Memory>
-    ensures { IfOk result (λ edit. edit ≡ change_of seed i) }
-{
-    if i % 3 == 0 {
-        return Ok(Some(Edit::Rm { recursive: false }));
-    }
-    if i % 3 == 1 {
-        let piece = late_piece(alloc)?;
-        let how = WriteHow {
-            offset: late_offset(seed, i),
-            create: false,
-            cut: false,
-        };
-        return Ok(Some(Edit::Write { how, piece }));
-    }
-    Ok(None)
+    Edit::Write { how, piece }
 }

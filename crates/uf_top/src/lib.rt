@@ -16,7 +16,6 @@ mod taking;
 mod tree;
 
 pub use command::run;
-pub use generating::generated;
 pub use uf_reply::Status;
 
 #[cfg(test)]

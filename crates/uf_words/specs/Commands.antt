@@ -1,6 +1,6 @@
 -- Which command a list of words is: the first words are compared exactly, and behind them stand the options and
 -- arguments of the command, as `clap` reads them.
-use Rattle.std.specs.Prelude.{◌≡◌, ◌&&◌, ◌||◌, ℕ, Bool, true, not, List, [], ◌∷◌, ◌++◌, codes, nat_le, if◌then◌else◌, IsTrue, is_some, unwrap_or, slice_index, length, ◌-◌}
+use Rattle.std.specs.Prelude.{◌≡◌, ◌≤◌, ◌&&◌, ◌||◌, ℕ, Bool, true, not, List, [], ◌∷◌, ◌++◌, codes, nat_le, if◌then◌else◌, IsTrue, is_some, unwrap_or, slice_index, length, ◌-◌}
 use Rattle.std.specs.Str.{bytes_eq}
 use Rattle.std.specs.Option.{option_map, option_and_then}
 use Rattle.std.specs.declared.option.Option.{Option}
@@ -196,7 +196,8 @@ command_of (name ∷ rest) =
     else if bytes_eq name (codes "gen") then gen_words rest
     else None
 
--- the profile of an `init` is accepted; no other command has one
-abbrev pub HasAcceptedProfile : Cmd → Type 0
-HasAcceptedProfile (cmd.Init profile) = IsTrue (is_profile profile)
-HasAcceptedProfile other = Unit {0}
+-- the profile of an `init` is accepted, and `gen` makes at most 20000 files; no other command has a limit
+abbrev pub IsWithinLimits : Cmd → Type 0
+IsWithinLimits (cmd.Init profile) = IsTrue (is_profile profile)
+IsWithinLimits (cmd.Gen n seed) = n ≤ 20000
+IsWithinLimits other = Unit {0}

@@ -2,7 +2,7 @@
 ghost use Rattle.std.specs.Prelude.{◌≡◌, [], map, string_bytes, IfOk};
 ghost use Rattle.clap.specs.Matches.{found_of};
 ghost use Rattle.clap.specs.Walk.{rows_of, first_of};
-ghost use Rattle.uf_words.specs.Commands.{HasAcceptedProfile, ReadsWords, add_of, add_words, bare, bytes_or_none, command_of, dag_words, decoded_hex, ends_with_slash, files_words, flag_and_argument, gen_words, init_of, init_words, ls_words, one_argument, places_well, read_words_of, truncate_words, two_arguments, write_words_of};
+ghost use Rattle.uf_words.specs.Commands.{IsWithinLimits, ReadsWords, add_of, add_words, bare, bytes_or_none, command_of, dag_words, decoded_hex, ends_with_slash, files_words, flag_and_argument, gen_words, init_of, init_words, ls_words, one_argument, places_well, read_words_of, truncate_words, two_arguments, write_words_of};
 ghost use Rattle.uf_words.specs.Options.{found_in};
 
 use crate::options::{
@@ -24,7 +24,7 @@ use uf_tree::Profile;
 #[tactic(auto, unfolding(crate::specs::Commands::command_of))]
 pub fn read_words(alloc: Global, words: &[String]) -> Result<Cmd, WordFault>
     ensures exact { ReadsWords result (command_of (map string_bytes words.now)) }
-    ensures profile { IfOk result HasAcceptedProfile }
+    ensures limits { IfOk result IsWithinLimits }
 {
     let [first, rest @ ..] = words else {
         return Err(WordFault::Usage);
@@ -58,7 +58,7 @@ pub fn read_words(alloc: Global, words: &[String]) -> Result<Cmd, WordFault>
 #[tactic(auto, unfolding(crate::specs::Commands::files_words))]
 fn read_files(alloc: Global, words: &[String]) -> Result<Cmd, WordFault>
     ensures exact { ReadsWords result (files_words (map string_bytes words.now)) }
-    ensures profile { IfOk result HasAcceptedProfile }
+    ensures limits { IfOk result IsWithinLimits }
 {
     let [first, rest @ ..] = words else {
         return Err(WordFault::Usage);
@@ -96,7 +96,7 @@ fn read_files(alloc: Global, words: &[String]) -> Result<Cmd, WordFault>
 #[tactic(auto, unfolding(crate::specs::Commands::dag_words))]
 fn read_dag(alloc: Global, words: &[String]) -> Result<Cmd, WordFault>
     ensures exact { ReadsWords result (dag_words (map string_bytes words.now)) }
-    ensures profile { IfOk result HasAcceptedProfile }
+    ensures limits { IfOk result IsWithinLimits }
 {
     let [first, rest @ ..] = words else {
         return Err(WordFault::Usage);
@@ -120,7 +120,7 @@ fn read_dag(alloc: Global, words: &[String]) -> Result<Cmd, WordFault>
 #[tactic(auto, unfolding(crate::specs::Commands::init_words))]
 fn read_init(alloc: Global, words: &[String]) -> Result<Cmd, WordFault>
     ensures exact { ReadsWords result (init_words (map string_bytes words.now)) }
-    ensures profile { IfOk result HasAcceptedProfile }
+    ensures limits { IfOk result IsWithinLimits }
 {
     let found = find(init_command(alloc)?, words)?;
     let chunk = number_in(&found, "chunk", 262144)?;
@@ -132,7 +132,7 @@ fn read_init(alloc: Global, words: &[String]) -> Result<Cmd, WordFault>
 // `init` with these numbers, where they are a profile.
 fn init(chunk: u64, width: u64, threshold: u64) -> Result<Cmd, WordFault>
     ensures exact { ReadsWords result (init_of (record { chunk = chunk; width = width; threshold = threshold })) }
-    ensures profile { IfOk result HasAcceptedProfile }
+    ensures limits { IfOk result IsWithinLimits }
 {
     let (Ok(chunk), Ok(width), Ok(threshold)) = (
         u32::try_from(chunk),
@@ -151,7 +151,7 @@ fn init(chunk: u64, width: u64, threshold: u64) -> Result<Cmd, WordFault>
 #[tactic(auto, unfolding(crate::specs::Commands::add_words))]
 fn read_add(alloc: Global, words: &[String]) -> Result<Cmd, WordFault>
     ensures exact { ReadsWords result (add_words (map string_bytes words.now)) }
-    ensures profile { IfOk result HasAcceptedProfile }
+    ensures limits { IfOk result IsWithinLimits }
 {
     let found = find(add_command(alloc)?, words)?;
     let to_files = text_or_none(alloc, &found, "to-files")?;
@@ -172,7 +172,7 @@ fn add(
     host_path: Option<Text>,
 ) -> Result<Cmd, WordFault>
     ensures exact { ReadsWords result (add_of recursive only_hash to_files host_path) }
-    ensures profile { IfOk result HasAcceptedProfile }
+    ensures limits { IfOk result IsWithinLimits }
 {
     if is_placed_well(only_hash, &to_files, host_path.is_some()) {
         Ok(Cmd::Add {
@@ -207,7 +207,7 @@ fn ends_in_slash(text: &str) -> bool
 #[tactic(auto, unfolding(crate::specs::Commands::ls_words))]
 fn read_ls(alloc: Global, words: &[String]) -> Result<Cmd, WordFault>
     ensures exact { ReadsWords result (ls_words (map string_bytes words.now)) }
-    ensures profile { IfOk result HasAcceptedProfile }
+    ensures limits { IfOk result IsWithinLimits }
 {
     let found = find(ls_command(alloc)?, words)?;
     let path = owned(alloc, value_of(&found, "PATH").unwrap_or("/"))?;
@@ -221,7 +221,7 @@ fn read_ls(alloc: Global, words: &[String]) -> Result<Cmd, WordFault>
 #[tactic(auto, unfolding(crate::specs::Commands::read_words_of))]
 fn read_read(alloc: Global, words: &[String]) -> Result<Cmd, WordFault>
     ensures exact { ReadsWords result (read_words_of (map string_bytes words.now)) }
-    ensures profile { IfOk result HasAcceptedProfile }
+    ensures limits { IfOk result IsWithinLimits }
 {
     let found = find(read_command(alloc)?, words)?;
     let offset = number_in(&found, "offset", 0)?;
@@ -238,7 +238,7 @@ fn read_read(alloc: Global, words: &[String]) -> Result<Cmd, WordFault>
 #[tactic(auto, unfolding(crate::specs::Commands::write_words_of))]
 fn read_write(alloc: Global, words: &[String]) -> Result<Cmd, WordFault>
     ensures exact { ReadsWords result (write_words_of (map string_bytes words.now)) }
-    ensures profile { IfOk result HasAcceptedProfile }
+    ensures limits { IfOk result IsWithinLimits }
 {
     let found = find(write_command(alloc)?, words)?;
     let offset = number_in(&found, "offset", 0)?;
@@ -282,7 +282,7 @@ fn bytes_of(alloc: Global, digits: &str) -> Result<Block, WordFault>
 #[tactic(auto, unfolding(crate::specs::Commands::truncate_words))]
 fn read_truncate(alloc: Global, words: &[String]) -> Result<Cmd, WordFault>
     ensures exact { ReadsWords result (truncate_words (map string_bytes words.now)) }
-    ensures profile { IfOk result HasAcceptedProfile }
+    ensures limits { IfOk result IsWithinLimits }
 {
     let (path, length) = read_arguments(alloc, "PATH", "LENGTH", words)?;
     let length = number(length.as_str())?;
@@ -293,7 +293,7 @@ fn read_truncate(alloc: Global, words: &[String]) -> Result<Cmd, WordFault>
 #[tactic(auto, unfolding(crate::specs::Commands::gen_words))]
 fn read_gen(alloc: Global, words: &[String]) -> Result<Cmd, WordFault>
     ensures exact { ReadsWords result (gen_words (map string_bytes words.now)) }
-    ensures profile { IfOk result HasAcceptedProfile }
+    ensures limits { IfOk result IsWithinLimits }
 {
     let (n, seed) = read_arguments(alloc, "N", "SEED", words)?;
     let n = number(n.as_str())?;

@@ -13,7 +13,7 @@ returns-clause-runs g c =
     runs-told (λ line. IsSent line (g.E.Sink.holds c.args.errors.now) (g.E.Sink.holds c.tell_end.new.errors) (g.E.Sink.faults c.args.errors.now) (g.E.Sink.faults c.tell_end.new.errors)) c.tell_end.result g.S.X.BlockHash.block32 g.N.NameHash.name64
     (around (g.S.Store.seen c.args.store.now) (g.I.Source.left c.args.input.now) (g.I.Source.faults c.args.input.now) (g.O.Sink.holds c.args.output.now) (g.O.Sink.faults c.args.output.now) c.args.touches.now (host_side (g.W.Host.tree c.args.host.now) (g.W.Host.read_faults c.args.host.now) (g.W.Host.write_faults c.args.host.now)))
     (around (g.S.Store.seen c.serve-done.new.store) (g.I.Source.left c.serve-done.new.input) (g.I.Source.faults c.serve-done.new.input) (g.O.Sink.holds c.serve-done.new.output) (g.O.Sink.faults c.serve-done.new.output) c.serve-done.new.touches (host_side (g.W.Host.tree c.serve-done.new.host) (g.W.Host.read_faults c.serve-done.new.host) (g.W.Host.write_faults c.serve-done.new.host)))
-    (command_in (map string_bytes c.args.words.now)) c.serve-done.result (words-only (command_of (map string_bytes c.args.words.now))) c.serve-done.ensures.serves c.serve-done.ensures.sections c.tell_end.ensures
+    (command_in (map string_bytes c.args.words.now)) c.serve-done.result (words-only (command_of (map string_bytes c.args.words.now))) c.serve-done.ensures.serves c.serve-done.ensures.own c.tell_end.ensures
 
 pub returns-clause-one : goal.returns-clause-one
 returns-clause-one g c = λ s r stands other.

@@ -1,33 +1,45 @@
-use Rattle.std.proofs.Common.{◌≡◌, sym}
 use Rattle.std.proofs.lemmas.Result.{err_from_is_err_and}
-use Rattle.uf_top.specs.Generated.{IsHeadless}
-use Rattle.uf_top.proofs.Grown.{begun, made-changed, root-after-change, root-after-make, root-stands}
+use Rattle.uf_tree.specs.Heads.{head_text}
+use Rattle.uf_gen.specs.declared.step.Step.TheVariants.{Make, Change}
+use Rattle.uf_top.proofs.Grown.{begun, made-changed, root-refused, root-stands, unready}
 use Rattle.uf_top.proofs.generating.grown_root.Goals as goal
 
-pub returns-in_err-make_files : goal.returns-in_err-make_files
-returns-in_err-make_files g c = λ headless.
-    let X = g.S.X.BlockHash.block32 in
-    let N = g.N.NameHash.name64 in
-    let first = begun X N c.args.seed (g.S.Store.seen c.args.store.now) (g.S.Store.seen c.init.new.store) c.in_ok-tree.tree headless c.in_ok-tree.ensures.cause c.in_ok-tree.ensures.answer in
-    let out = err_from_is_err_and c.from_residual-in_err-make_files.result c.from_residual-in_err-make_files.ensures.1 in
+pub returns-in_err-tree : goal.returns-in_err-tree
+returns-in_err-tree g c = λ new.
+    let f = c.in_err-tree.field-0.0 in
+    let out = err_from_is_err_and c.from_residual.result c.from_residual.ensures.1 in
     rw (out.1, out.2)
-    (root-after-make X N c.args.seed c.args.n (g.S.Store.seen c.make_files.new.store) c.make_files.new.tree c.in_err-make_files.field-0.0
-    (c.in_err-make_files.ensures.grows first))
+    (unready g.S.X.BlockHash.block32 g.N.NameHash.name64 c.args.seed c.args.n (g.S.Store.seen c.args.store.now) (g.S.Store.seen c.init.new.store) f new
+    c.in_err-tree.ensures.cause c.in_err-tree.ensures.leaves c.in_err-tree.ensures.finds)
 
-pub returns-in_err-change_files : goal.returns-in_err-change_files
-returns-in_err-change_files g c = λ headless.
+pub returns-in_err-step_all : goal.returns-in_err-step_all
+returns-in_err-step_all g c = λ new.
     let X = g.S.X.BlockHash.block32 in
     let N = g.N.NameHash.name64 in
-    let first = begun X N c.args.seed (g.S.Store.seen c.args.store.now) (g.S.Store.seen c.init.new.store) c.in_ok-tree.tree headless c.in_ok-tree.ensures.cause c.in_ok-tree.ensures.answer in
-    let out = err_from_is_err_and c.from_residual-in_err-change_files.result c.from_residual-in_err-change_files.ensures.1 in
+    let e = c.in_ok-tree.ensures in
+    let first = begun X N c.args.seed (g.S.Store.seen c.args.store.now) (g.S.Store.seen c.init.new.store) c.in_ok-tree.tree (head_text c.in_ok-tree.tree.profile c.in_ok-tree.tree.root.cid) new e.cause e.writes e.answer in
+    let out = err_from_is_err_and c.from_residual-in_err-step_all.result c.from_residual-in_err-step_all.ensures.1 in
     rw (out.1, out.2)
-    (root-after-change X N c.args.seed c.args.n (g.S.Store.seen c.change_files.new.store) c.change_files.new.tree c.in_err-change_files.field-0.0
-    (c.in_err-change_files.ensures.grows (made-changed X N c.args.seed c.args.n (g.S.Store.seen c.make_files.new.store) c.make_files.new.tree (c.in_ok-make_files.ensures.grows first))))
+    (root-refused X N Make c.args.n c.args.seed (g.S.Store.seen c.step_all.new.store) c.step_all.new.tree c.in_err-step_all.field-0.0
+    (c.in_err-step_all.ensures.grows first))
+
+pub returns-in_err-step_all-2 : goal.returns-in_err-step_all-2
+returns-in_err-step_all-2 g c = λ new.
+    let X = g.S.X.BlockHash.block32 in
+    let N = g.N.NameHash.name64 in
+    let e = c.in_ok-tree.ensures in
+    let first = begun X N c.args.seed (g.S.Store.seen c.args.store.now) (g.S.Store.seen c.init.new.store) c.in_ok-tree.tree (head_text c.in_ok-tree.tree.profile c.in_ok-tree.tree.root.cid) new e.cause e.writes e.answer in
+    let made = made-changed X N c.args.seed c.args.n (g.S.Store.seen c.step_all.new.store) c.step_all.new.tree (c.in_ok-step_all.ensures.grows first) in
+    let out = err_from_is_err_and c.from_residual-in_err-step_all-2.result c.from_residual-in_err-step_all-2.ensures.1 in
+    rw (out.1, out.2)
+    (root-refused X N Change c.args.n c.args.seed (g.S.Store.seen c.step_all-2.new.store) c.step_all-2.new.tree c.in_err-step_all-2.field-0.0
+    (c.in_err-step_all-2.ensures.grows made))
 
 pub returns : goal.returns
-returns g c = λ headless.
+returns g c = λ new.
     let X = g.S.X.BlockHash.block32 in
     let N = g.N.NameHash.name64 in
-    let first = begun X N c.args.seed (g.S.Store.seen c.args.store.now) (g.S.Store.seen c.init.new.store) c.in_ok-tree.tree headless c.in_ok-tree.ensures.cause c.in_ok-tree.ensures.answer in
-    root-stands X N c.args.seed c.args.n (g.S.Store.seen c.change_files.new.store) c.change_files.new.tree
-    (c.in_ok-change_files.ensures.grows (made-changed X N c.args.seed c.args.n (g.S.Store.seen c.make_files.new.store) c.make_files.new.tree (c.in_ok-make_files.ensures.grows first)))
+    let e = c.in_ok-tree.ensures in
+    let first = begun X N c.args.seed (g.S.Store.seen c.args.store.now) (g.S.Store.seen c.init.new.store) c.in_ok-tree.tree (head_text c.in_ok-tree.tree.profile c.in_ok-tree.tree.root.cid) new e.cause e.writes e.answer in
+    let made = made-changed X N c.args.seed c.args.n (g.S.Store.seen c.step_all.new.store) c.step_all.new.tree (c.in_ok-step_all.ensures.grows first) in
+    root-stands X N c.args.n c.args.seed (g.S.Store.seen c.step_all-2.new.store) c.step_all-2.new.tree (c.in_ok-step_all-2.ensures.grows made)
