@@ -110,7 +110,7 @@ fn serve<S: Store, N: NameHash, W: Host, I: Source, O: Sink, L: Ledger>(
 }
 
 // Does a command and prints what it says, or says why it is refused.
-fn work<S: Store, N: NameHash, W: Host, I: Source, O: Sink, L: Ledger>(
+pub fn work<S: Store, N: NameHash, W: Host, I: Source, O: Sink, L: Ledger>(
     alloc: Global,
     command: &Command,
     store: &mut S,
@@ -211,7 +211,7 @@ pub fn print<O: Sink>(text: &Block, output: &mut O) -> Result<(), Refusal>
 }
 
 // The status with which a command ends, whose line goes to `errors`.
-fn tell_end<E: Sink>(alloc: Global, done: Result<(), Refusal>, errors: &mut E) -> Status
+pub fn tell_end<E: Sink>(alloc: Global, done: Result<(), Refusal>, errors: &mut E) -> Status
     ensures { TellsEnd (λ line. IsSent line (E.holds errors.old) (E.holds errors.new) (E.faults errors.old)
         (E.faults errors.new))
         done result }
@@ -223,7 +223,7 @@ fn tell_end<E: Sink>(alloc: Global, done: Result<(), Refusal>, errors: &mut E) -
 }
 
 // The status of a refusal, whose line goes to `errors`. A line without details takes no memory.
-fn tell<E: Sink>(alloc: Global, why: &Refusal, errors: &mut E) -> Status
+pub fn tell<E: Sink>(alloc: Global, why: &Refusal, errors: &mut E) -> Status
     ensures { TellsWhy (λ line. IsSent line (E.holds errors.old) (E.holds errors.new) (E.faults errors.old)
         (E.faults errors.new))
         why.now result }

@@ -2,6 +2,8 @@
 #![tactic(auto)]
 
 mod adding;
+mod batch_laws;
+mod batching;
 mod cars;
 mod command;
 mod foreign;
@@ -15,11 +17,15 @@ mod sending;
 mod taking;
 mod tree;
 
+pub use batch_laws::{a_batch_keeps_good_blocks, a_batch_leaves_the_host};
+pub use batching::batch;
 pub use command::run;
 pub use uf_reply::Status;
 
 #[cfg(test)]
 mod adopt_tests;
+#[cfg(test)]
+mod batch_tests;
 #[cfg(test)]
 mod car_tests;
 #[cfg(test)]

@@ -67,10 +67,10 @@ pub enum Step {
 // The room of an output, and the calls that are to fail.
 #[derive(Clone, Copy)]
 pub struct Streams {
-    room: usize,
-    input_fails: Option<u64>,
-    output_fails: Option<u64>,
-    errors_fail: Option<u64>,
+    pub room: usize,
+    pub input_fails: Option<u64>,
+    pub output_fails: Option<u64>,
+    pub errors_fail: Option<u64>,
 }
 
 pub const FINE: Streams = Streams {

@@ -1,0 +1,69 @@
+-- What a batch keeps, from what each of its lines keeps.
+use Rattle.std.proofs.Common.{◌≡◌, ◌∙◌, ℕ, List, [], ◌∷◌, false, refl, sym, ap, subst, inl, inr, Option, Some, Result, Ok, Err}
+use Rattle.std.specs.Prelude.{◌⊎◌}
+use Rattle.uf_edge.specs.Host.{HostTold}
+use Rattle.uf_edge.specs.Streams as streams
+use Rattle.uf_store.specs.Keeping.{KeepsGood}
+use Rattle.uf_store.proofs.Keeping.{KeepsGood-refl, KeepsGood-trans}
+use Rattle.uf_reply.specs.declared.status.Status.{Status}
+use Rattle.uf_reply.specs.declared.types.Refusal.{Refusal}
+use Rattle.uf_top.specs.Around.{Around}
+use Rattle.uf_top.proofs.LineHosts.{asks-leaves}
+use Rattle.uf_top.specs.Batch.{AtLine, Batches, ByMemory, ByReading, EndsSo, Ending, LineCut, LineDone, LineEnds, LineGone, LinesDone, Scene, Tells, TooLong, WithInput}
+
+module _ (X : List ℕ → List ℕ) (N : List ℕ → ℕ) where
+  abbrev GoodStays : Scene → Scene → Type 0
+  GoodStays a b = KeepsGood X a.around.store.told b.around.store.told
+
+  same-good : (a b : Scene) → b ≡ a → GoodStays a b
+  same-good a b same = subst (λ s. GoodStays a s) (sym same) (KeepsGood-refl X a.around.store.told)
+
+  gone-good : (line : List ℕ) (a b : Scene) → LineGone X N line a b → GoodStays a b
+  gone-good line a b (inl none) = same-good a b none.1
+  gone-good line a b (inr passed) = passed.done.runs.good
+
+  lines-good : (lines : List (List ℕ)) (a b : Scene) → LinesDone X N lines a b → GoodStays a b
+  lines-good [] a b same = same-good a b same
+  lines-good (line ∷ lines) a b done = KeepsGood-trans X a.around.store.told done.0.around.store.told b.around.store.told (gone-good line a done.0 done.1) (lines-good lines done.0 b done.2)
+
+  tells-good : (why : Refusal) (given : Status) (a b : Scene) → Tells X N why given a b → GoodStays a b
+  tells-good why given a b t = subst (λ s. KeepsGood X a.around.store.told s.store.told) (sym t.same) (KeepsGood-refl X a.around.store.told)
+
+  ends-good : (ending : Ending X N) (given : Status) (a b : Scene) → EndsSo X N ending given a b → GoodStays a b
+  ends-good WithInput given a b e = same-good a b e.1
+  ends-good TooLong given a b e = tells-good _ given a b e
+  ends-good ByReading given a b e = tells-good _ given a b e
+  ends-good ByMemory given a b e = tells-good _ given a b e
+  ends-good (AtLine line) given a b (inl e) = e.done.runs.good
+  ends-good (AtLine line) given a b (inr e) = e.done.runs.good
+
+  pub batch-good : (most limit : ℕ) (given : Status) (a b : Scene) (left left_now : streams.Told) (reads reads_now : ℕ) → Batches X N most limit given a b left left_now reads reads_now → GoodStays a b
+  batch-good most limit given a b left left_now reads reads_now did =
+      KeepsGood-trans X a.around.store.told did.between.around.store.told b.around.store.told (lines-good did.lines a did.between did.done) (ends-good did.ending given did.between b did.ends)
+
+  -- ---- the host
+
+  abbrev HostStays : Scene → Scene → Type 0
+  HostStays a b = b.around.host.told ≡ a.around.host.told
+
+  done-host : (line : List ℕ) (given : Status) (a b : Scene) → LineDone X N line given a b → HostStays a b
+  done-host line given a b done = done.runs.host_told (asks-leaves line done.asked done.asks)
+
+  gone-host : (line : List ℕ) (a b : Scene) → LineGone X N line a b → HostStays a b
+  gone-host line a b (inl none) = ap (λ (s : Scene). s.around.host.told) none.1
+  gone-host line a b (inr passed) = done-host line passed.given a _ passed.done
+
+  lines-host : (lines : List (List ℕ)) (a b : Scene) → LinesDone X N lines a b → HostStays a b
+  lines-host [] a b same = ap (λ (s : Scene). s.around.host.told) same
+  lines-host (line ∷ lines) a b done = lines-host lines done.0 b done.2 ∙ gone-host line a done.0 done.1
+
+  ends-host : (ending : Ending X N) (given : Status) (a b : Scene) → EndsSo X N ending given a b → HostStays a b
+  ends-host WithInput given a b e = ap (λ (s : Scene). s.around.host.told) e.1
+  ends-host TooLong given a b e = ap (λ (s : Around). s.host.told) e.same
+  ends-host ByReading given a b e = ap (λ (s : Around). s.host.told) e.same
+  ends-host ByMemory given a b e = ap (λ (s : Around). s.host.told) e.same
+  ends-host (AtLine line) given a b (inl e) = done-host line given a _ e.done
+  ends-host (AtLine line) given a b (inr e) = done-host line e.was a _ e.done
+
+  pub batch-host : (most limit : ℕ) (given : Status) (a b : Scene) (left left_now : streams.Told) (reads reads_now : ℕ) → Batches X N most limit given a b left left_now reads reads_now → HostStays a b
+  batch-host most limit given a b left left_now reads reads_now did = ends-host did.ending given did.between b did.ends ∙ lines-host did.lines a did.between did.done

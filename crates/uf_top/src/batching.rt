@@ -1,0 +1,182 @@
+// The commands that the lines of an input ask for.
+ghost use Rattle.std.specs.Prelude.{◌≡◌, ◌<◌, [], length, None, Some};
+ghost use Rattle.uf_reply.specs.Batches.{line_in};
+ghost use Rattle.uf_top.specs.Around.{around, host_side};
+ghost use Rattle.uf_top.specs.Batch.{Batches, ClosesInBatch, DoesLine, LineServed, ends_batch as does_end, mark as mark_text, scene};
+
+use crate::command::{tell, tell_end, work};
+use std::alloc::Global;
+use std::sync::ledger::Ledger;
+use uf_edge::{Host, Read, Sent, Sink, Source, write_all};
+use uf_lines::{Line, Lines};
+use uf_murmur::NameHash;
+use uf_reply::{Refusal, Status, read_line};
+use uf_store::{Steps, Store, StoreFault};
+
+// A line has at most so many bytes.
+const MOST_OF_LINE: usize = 1048576;
+
+// An input that is at its end: what the commands of a batch find in place of the lines that follow.
+#[derive(Drop)]
+struct NoInput {}
+
+impl Source for NoInput {
+    ghost use Rattle.uf_edge.specs.Counts.{Counts};
+    ghost use Rattle.uf_edge.specs.Streams.{Reads, is_read_fault};
+
+    ghost left = { λ s. Some [] };
+
+    ghost faults = { λ s. 0 };
+
+    fn read(&mut self, buf: &mut [u8]) -> Read
+        requires { 0 < length buf.old }
+        ensures bytes { Reads result buf.new (Some []) (Some []) }
+        ensures counts { Counts (is_read_fault result) 0 0 }
+    {
+        Read::End
+    }
+}
+
+/// Does the commands that the lines of an input ask for, one after the other: what each prints is followed by its status. It
+/// ends with the input, at a line that fails, and at one, or an input, that is too long.
+pub fn batch<S: Store, N: NameHash, W: Host, I: Source, O: Sink, E: Sink, L: Ledger>(
+    alloc: Global,
+    limit: u64,
+    store: &mut S,
+    host: &mut W,
+    input: &mut I,
+    output: &mut O,
+    errors: &mut E,
+    touches: &mut Steps<L>,
+) -> Status
+    ensures { Batches S.X.block32 N.name64 MOST_OF_LINE limit result
+        (scene (S.seen store.old) (O.holds output.old) (O.faults output.old) touches.old
+        (host_side (W.tree host.old) (W.read_faults host.old) (W.write_faults host.old)) (E.holds errors.old) (E.faults errors.old))
+        (scene (S.seen store.new) (O.holds output.new) (O.faults output.new) touches.new
+        (host_side (W.tree host.new) (W.read_faults host.new) (W.write_faults host.new)) (E.holds errors.new) (E.faults errors.new))
+        (I.left input.old) (I.left input.new) (I.faults input.old) (I.faults input.new) }
+{
+    let mut lines = Lines::new(alloc, MOST_OF_LINE, limit);
+    'rest: loop {
+        match lines.next(input) {
+            Line::Given => {}
+            Line::End => return Status::Ok,
+            Line::TooLong => return tell(alloc, &Refusal::InputTooLong, errors),
+            Line::Failed => return tell(alloc, &Refusal::Read, errors),
+            Line::Memory => return tell(alloc, &Refusal::Store(StoreFault::Memory), errors),
+        }
+        let line = lines.line();
+        let done = do_line::<S, N, W, O, E, L>(alloc, line, store, host, output, errors, touches);
+        if let Some(status) = done {
+            return status;
+        }
+    }
+}
+
+// Does what a line asks for, where it has a word, and prints its status. The answer comes where the batch ends with it.
+fn do_line<S: Store, N: NameHash, W: Host, O: Sink, E: Sink, L: Ledger>(
+    alloc: Global,
+    line: &[u8],
+    store: &mut S,
+    host: &mut W,
+    output: &mut O,
+    errors: &mut E,
+    touches: &mut Steps<L>,
+) -> Option<Status>
+    ensures { DoesLine S.X.block32 N.name64 line.now result
+        (scene (S.seen store.old) (O.holds output.old) (O.faults output.old) touches.old
+        (host_side (W.tree host.old) (W.read_faults host.old) (W.write_faults host.old)) (E.holds errors.old) (E.faults errors.old))
+        (scene (S.seen store.new) (O.holds output.new) (O.faults output.new) touches.new
+        (host_side (W.tree host.new) (W.read_faults host.new) (W.write_faults host.new)) (E.holds errors.new) (E.faults errors.new)) }
+{
+    match serve_line::<S, N, W, O, L>(alloc, line, store, host, output, touches) {
+        None => None,
+        Some(done) => close_line(alloc, done, output, errors),
+    }
+}
+
+// Does what a line asks for, where it has a word.
+fn serve_line<S: Store, N: NameHash, W: Host, O: Sink, L: Ledger>(
+    alloc: Global,
+    line: &[u8],
+    store: &mut S,
+    host: &mut W,
+    output: &mut O,
+    touches: &mut Steps<L>,
+) -> Option<Result<(), Refusal>>
+    ensures { LineServed S.X.block32 N.name64 (line_in line.now) result
+        (around (S.seen store.old) (Some []) 0 (O.holds output.old) (O.faults output.old) touches.old
+        (host_side (W.tree host.old) (W.read_faults host.old) (W.write_faults host.old)))
+        (around (S.seen store.new) (Some []) 0 (O.holds output.new) (O.faults output.new) touches.new
+        (host_side (W.tree host.new) (W.read_faults host.new) (W.write_faults host.new))) }
+{
+    match read_line(alloc, line) {
+        None => None,
+        Some(Err(why)) => Some(Err(why)),
+        Some(Ok(command)) => {
+            let mut nothing = NoInput {};
+            Some(work::<S, N, W, NoInput, O, L>(
+                alloc,
+                &command,
+                store,
+                host,
+                &mut nothing,
+                output,
+                touches,
+            ))
+        }
+    }
+}
+
+// Tells how a line's command ended, and prints its status. The answer comes where the batch ends with it.
+fn close_line<O: Sink, E: Sink>(
+    alloc: Global,
+    done: Result<(), Refusal>,
+    output: &mut O,
+    errors: &mut E,
+) -> Option<Status>
+    ensures { ClosesInBatch done result (O.holds output.old) (O.holds output.new) (O.faults output.old) (O.faults output.new)
+        (E.holds errors.old) (E.holds errors.new) (E.faults errors.old) (E.faults errors.new) }
+{
+    let status = tell_end(alloc, done, errors);
+    if status == Status::WriteFault {
+        return Some(status);
+    }
+    let sent = write_all(output, mark(status));
+    if ends_batch(status) {
+        return Some(status);
+    }
+    match sent {
+        Sent::Done => None,
+        Sent::Failed => Some(tell(alloc, &Refusal::Write, errors)),
+    }
+}
+
+// Whether a batch ends at a line with this status.
+fn ends_batch(status: Status) -> bool
+    ensures { result ≡ does_end status }
+{
+    !matches!(
+        status,
+        Status::Ok | Status::Rule | Status::Usage | Status::Missing | Status::NotReady
+    )
+}
+
+// What is printed behind a line's command.
+fn mark(status: Status) -> &'static [u8]
+    ensures { result.now ≡ mark_text status }
+{
+    match status {
+        Status::Ok => b"[0]\n",
+        Status::Rule => b"[1]\n",
+        Status::Usage => b"[2]\n",
+        Status::StoreFault => b"[3]\n",
+        Status::Missing => b"[4]\n",
+        Status::BadBlock => b"[5]\n",
+        Status::ReadFault => b"[6]\n",
+        Status::WriteFault => b"[7]\n",
+        Status::Clash => b"[8]\n",
+        Status::Memory => b"[9]\n",
+        Status::NotReady => b"[10]\n",
+    }
+}
