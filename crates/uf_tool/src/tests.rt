@@ -1,10 +1,11 @@
 // Commands over the store in the folder that the test runs in.
-use crate::serve;
+use crate::{ENTRIES, serve};
 use std::alloc::Global;
 use std::fs::Files;
 use std::marker::Brand;
 use std::random::RandomSource;
 use std::sync::ledger::Blank;
+use uf_cache::Cached;
 use uf_cid::{Block, Memory};
 use uf_disk::{DiskHost, DiskStore};
 use uf_edge::{Calls, MemSink, MemSource};
@@ -88,7 +89,7 @@ fn ends<R: Files + RandomSource>(alloc: Global, files: &R, row: &Row) -> Result<
     let mut input = MemSource::new(bytes, 65536, Calls::new(alloc));
     let mut output = MemSink::new(alloc, 1000, Calls::new(alloc))?;
     let mut errors = MemSink::new(alloc, 1000, Calls::new(alloc))?;
-    let mut store = DiskStore::new(alloc, files);
+    let mut store = Cached::new(alloc, DiskStore::new(alloc, files), ENTRIES)?;
     let mut host = DiskHost::new(alloc, files);
     let status = serve::<Brand, &R, DiskHost<&R>, MemSource, MemSink, MemSink>(
         alloc,
