@@ -1,7 +1,7 @@
-"""CARs that go from one folder to another: a tree is exported, imported and compared, a byte of it is changed, and blocks
-are lost.
+"""CARs that go from one folder to another: a folder of the host is added, exported, imported and compared, a byte of it is
+changed, and blocks are lost.
 
-The word says how many files the tree has: two hundred where it isn't given.
+The word says how many files the folder has: two hundred where it isn't given.
 """
 
 import base64
@@ -39,9 +39,10 @@ def cid_text(car, place):
 class Cars:
     """Two folders with a store each, and what was compared."""
 
-    def __init__(self, program, folder):
+    def __init__(self, program, folder, files):
         self.program = program
         self.folder = folder
+        self.files = files
         self.count = self.wrong = 0
         for name in ("from", "to", "spoiled"):
             os.mkdir(os.path.join(folder, name))
@@ -50,7 +51,7 @@ class Cars:
         """The status of a command in a folder, and what it prints on standard output and on standard error."""
         done = subprocess.run(
             [self.program, *words.split()], cwd=os.path.join(self.folder, where), input=data,
-            stdout=subprocess.PIPE, stderr=subprocess.PIPE, timeout=60, check=False)
+            stdout=subprocess.PIPE, stderr=subprocess.PIPE, timeout=60 + self.files // 20, check=False)
         return done.returncode, done.stdout, done.stderr.decode()
 
     def expect(self, name, got, wanted):
@@ -87,14 +88,22 @@ class Cars:
         self.lose("to", last, words, f"error: missing {last}\n", car)
         self.expect("nothing is kept", len(self.blocks("to")), before)
 
-    def all(self, files):
-        """A tree of so many files goes round."""
+    def add(self):
+        """The CIDs of a folder of the host that was added, and of its first file."""
+        folder = os.path.join(self.folder, "from", "files")
+        os.mkdir(folder)
+        for number in range(self.files):
+            with open(os.path.join(folder, str(number)), "wb") as file:
+                file.write(b"%d " % number * 300)
         self.expect("init", self.run("from", "init --chunk 1024 --threshold 4096"), (0, b"", ""))
-        for number in range(files):
-            data = b"%d " % number * 300
-            self.expect("write", self.run("from", f"files write -e /{number}", data), (0, b"", ""))
-        root = self.run("from", "files stat /")[1].split()[0].decode()
-        last = self.run("from", "files stat /0")[1].split()[0].decode()
+        status, rows, line = self.run("from", "add -r files")
+        cids = [row.split()[1].decode() for row in rows.splitlines()]
+        self.expect("add", (status, len(cids), line), (0, self.files + 1, ""))
+        return cids[-1], cids[0]
+
+    def all(self):
+        """A folder goes round."""
+        root, last = self.add()
         status, car, line = self.run("from", f"dag export {root}")
         self.expect("export", (status, line), (0, ""))
         told = (0, f"root {root}\n".encode(), "")
@@ -116,8 +125,9 @@ def main():
     top = os.path.dirname(os.path.dirname(os.path.abspath(__file__)))
     subprocess.run([os.path.join(top, "unixfs"), "add", "-n"], stdin=subprocess.DEVNULL, stdout=subprocess.DEVNULL, check=True)
     with tempfile.TemporaryDirectory() as folder:
-        cars = Cars(os.path.join(top, "crates", "uf_tool", "out", "uf_tool"), folder)
-        cars.all(int(sys.argv[1]) if len(sys.argv) > 1 else 200)
+        files = int(sys.argv[1]) if len(sys.argv) > 1 else 200
+        cars = Cars(os.path.join(top, "crates", "uf_tool", "out", "uf_tool"), folder, files)
+        cars.all()
         print(f"cars: {cars.count - cars.wrong} passed, {cars.wrong} failed")
     sys.exit(1 if cars.wrong else 0)
 

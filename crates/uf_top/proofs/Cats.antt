@@ -20,6 +20,7 @@ use Rattle.uf_store.proofs.Keeping.{KeepsGood-same}
 use Rattle.uf_tree.specs.Tree.{Tree, File, Dir, Entries}
 use Rattle.uf_tree.specs.declared.profile.Profile.{Profile}
 use Rattle.uf_lenient.specs.Answers.{IsFault, IsOwn, store_fault_of}
+use Rattle.uf_lenient.specs.Good.{ByGoodBlocks}
 use Rattle.uf_lenient.specs.Reading.{denotes, file_of, resolve_from}
 use Rattle.uf_lenient.specs.Steps.{IsRead}
 use Rattle.uf_lenient.specs.Streams.{IsFileFront, Streams}
@@ -31,7 +32,7 @@ use Rattle.uf_lenient.specs.declared.shapes.Shape.TheVariants.{File as FileShape
 use Rattle.uf_varint.specs.Fields.{◌>>=◌}
 use Rattle.uf_lenient.specs.Denoted.{DenotesBy}
 use Rattle.uf_lenient.proofs.Denoting.{denoted-step}
-use Rattle.uf_reply.specs.Dags.{IsToldAs, dag_refusal, file_at, tree_at, usual_limits}
+use Rattle.uf_reply.specs.Dags.{IsToldAs, by_dag, dag_refusal, file_at, tree_at, usual_limits}
 use Rattle.uf_reply.specs.Kinds.{OfWrite, ReadsDag, fault_behind, may_end, refusal_kind}
 use Rattle.uf_top.specs.Reply.{Outside, World, in_world, reply}
 use Rattle.uf_reply.specs.Statuses.{no_memory, status_of}
@@ -46,7 +47,7 @@ use Rattle.uf_top.specs.Answering.{DoesAnswer}
 use Rattle.uf_top.specs.Around.{HostSide, RisesFor, around}
 use Rattle.uf_top.specs.Causes.{IsBadIn, IsReadyBy, is_read}
 use Rattle.uf_top.specs.Endings.{EndsBy, PrintsPart}
-use Rattle.uf_top.specs.Foreign.{FindsFile, IsFileIn, IsOfReading, IsOwnRefusal, LeadsTo}
+use Rattle.uf_top.specs.Foreign.{FindsFile, FindsShape, IsFileIn, IsOfReading, IsOwnRefusal, IsShapeIn}
 use Rattle.uf_top.specs.Losing.{DoesOver}
 use Rattle.uf_top.specs.Naming.{StaysNamed, TellsBlocks}
 use Rattle.uf_top.specs.Working.{Does}
@@ -408,14 +409,43 @@ module _ (path : DagPath) (told : Told) (cid : Cid) (h h2 : streams.Told) (found
 
 -- ---- over what a store tells
 
-pub file-told : (told : Told) (path : DagPath) (cid : Cid) (shape : Shape) → shape ≡ FileShape → IfSome told (λ t. IsRead (held_at t) usual_limits cid shape) → IfSome told (λ t. LeadsTo (held_at t) path cid → FindsFile (held_at t) path (Ok cid))
-file-told None path cid shape is read = tt
-file-told (Some t) path cid shape is read = λ leads. file-found (held_at t) path cid leads (subst (λ s. IsRead (held_at t) usual_limits cid s) is read)
+-- what is found by the good blocks of a store is found by its blocks
+module _ (X : List ℕ → List ℕ) (told : Told) (path : DagPath) where
+  by_told : (A : Lookup → Type 0) → ByGoodBlocks X told A → IfSome told (λ t. A (held_at t))
+  by_told A h = by told h
+    where
+      by : (told : Told) → ByGoodBlocks X told A → IfSome told (λ t. A (held_at t))
+      by None h = tt
+      by (Some t) h = h (held_at t) (record { holds = λ c block is same. is; misses = λ c none. none })
 
-pub folder-told : (told : Told) (path : DagPath) (cid : Cid) (shape : Shape) (ways : List (List ℕ × Cid)) (why : Refusal) → shape ≡ FolderShape ways → IfSome told (λ t. IsRead (held_at t) usual_limits cid shape) → IsToldAs (refusal.Dag (rule.IsADirectory path)) why
-    → IfSome told (λ t. LeadsTo (held_at t) path cid → FindsFile (held_at t) path (Err why))
-folder-told None path cid shape ways why same read is = tt
-folder-told (Some t) path cid shape ways why same read is = λ leads. folder-found (held_at t) path cid leads ways why (subst (λ s. IsRead (held_at t) usual_limits cid s) same read) is
+  if_told : (A B : Lookup → Type 0) → ((held : Lookup) → A held → B held) → IfSome told (λ t. A (held_at t)) → IfSome told (λ t. B (held_at t))
+  if_told A B f h = by told h
+    where
+      by : (told : Told) → IfSome told (λ t. A (held_at t)) → IfSome told (λ t. B (held_at t))
+      by None h = tt
+      by (Some t) h = f (held_at t) h
+
+  pub file-told : (cid : Cid) (shape : Shape) → shape ≡ FileShape → ByGoodBlocks X told (λ held. FindsShape held path (Ok (cid, shape))) → IfSome told (λ t. FindsFile (held_at t) path (Ok cid))
+  file-told cid shape is found =
+      if_told (λ held. IsShapeIn held path cid shape) (λ held. IsFileIn held path cid) (λ held h. file-found held path cid h.leads (subst (λ s. IsRead held usual_limits cid s) is h.read))
+      (by_told (λ held. IsShapeIn held path cid shape) found)
+
+  pub folder-told : (cid : Cid) (shape : Shape) (ways : List (List ℕ × Cid)) (why : Refusal) → shape ≡ FolderShape ways → ByGoodBlocks X told (λ held. FindsShape held path (Ok (cid, shape)))
+      → IsToldAs (refusal.Dag (rule.IsADirectory path)) why → IfSome told (λ t. FindsFile (held_at t) path (Err why))
+  folder-told cid shape ways why same found is =
+      if_told (λ held. IsShapeIn held path cid shape) (λ held. FindsFile held path (Err why)) (λ held h. folder-found held path cid h.leads ways why (subst (λ s. IsRead held usual_limits cid s) same h.read) is)
+      (by_told (λ held. IsShapeIn held path cid shape) found)
+
+  pub unfound-told : (why : Refusal) → ByGoodBlocks X told (λ held. FindsShape held path (Err why)) → IfSome told (λ t. FindsFile (held_at t) path (Err why))
+  unfound-told why found = if_told (λ held. FindsShape held path (Err why)) (λ held. FindsFile held path (Err why)) no-file (by_told (λ held. FindsShape held path (Err why)) found)
+    where
+      said : (r : Result Tree DagFault) → by_dag path r ≡ Err why → file_at path r ≡ Err why
+      said (Ok t) is = absurd cc
+      said (Err f) is = (let e : dag_refusal path f ≡ why = cc in ap (λ (r : Refusal). Err r) e)
+
+      no-file : (held : Lookup) → FindsShape held path (Err why) → FindsFile held path (Err why)
+      no-file held (inl own) = inl own
+      no-file held (inr is) = inr (said (tree_at held path) is)
 
 -- what is found so is said so, and nothing is printed
 pub refusal-told : (told : Told) (path : DagPath) (why : Refusal) (h : streams.Told) → IfSome told (λ t. FindsFile (held_at t) path (Err why)) → IfSome told (λ t. IsOwnRefusal why ⊎ ((file_at path (tree_at (held_at t) path) ≡ Err why) × (h ≡ h)))

@@ -1,7 +1,7 @@
 -- How what is held is compared with a CAR.
-use Rattle.std.proofs.Common.{◌≡◌, ◌⊎◌, ℕ, ◌<◌, ◌≤◌, List, slice_index_or, [], ◌∷◌, ◌++◌, true, false, arith, refl, sym, ap, subst, ◌∙◌, inl, inr, length, take, drop, append-nil, Some, None, Option, Result, Ok, Err}
+use Rattle.std.proofs.Common.{◌≡◌, ◌⊎◌, ℕ, List, [], ◌∷◌, ◌++◌, false, arith, refl, sym, ap, subst, ◌∙◌, inl, inr, take, drop, append-nil, Some, None, Option, Result, Ok, Err}
 use Rattle.std.proofs.lemmas.List.{take-append-drop, take_all}
-use Rattle.std.specs.Prelude.{Contains, IfErr, IfSome, nat_lt}
+use Rattle.std.specs.Prelude.{Contains, IfErr, IfSome}
 use Rattle.uf_car.specs.Clashing.{HasTwo, TwoBlocks, first_clash, sections_clash, sections_held}
 use Rattle.uf_car.specs.Importing.{ImportsCar, RefusesCar, car_fault, is_source_fault, stops, with_saves}
 use Rattle.uf_car.specs.Reading.{Read, car_read}
@@ -36,7 +36,7 @@ use Rattle.uf_reply.specs.Kinds.{ComparesCar as OfComparing, IsOf, may_answer, r
 use Rattle.uf_reply.specs.Statuses.{no_memory}
 use Rattle.uf_reply.specs.declared.types.Refusal.{Refusal}
 use Rattle.uf_reply.specs.declared.types.Refusal.TheVariants as refusal
-use Rattle.uf_top.specs.Cars.{ByOwnStore, ComparesCar, ComparesStores, IsRootOf, LacksSection, SparesStore, TakesRoot, TellsRoot, TwoSections}
+use Rattle.uf_top.specs.Cars.{ByOwnStore, ComparesCar, ComparesStores, IsRootOf, LacksSection, SparesStore, TakesRoot, TellsRoot, TwoSections, root_alone}
 use Rattle.uf_top.specs.Causes.{is_read}
 use Rattle.uf_top.specs.Naming.{TellsBlocks}
 use Rattle.uf_top.specs.Reply.{by_answer, by_roots, car_compared, compared_text, not_one_root, same_refusal, unless_two, verdict_told}
@@ -51,21 +51,6 @@ each-text A (Some bytes) f = f bytes refl
 text-at : (A : List ℕ → Type 0) (left : streams.Told) → IfSome left A → (bytes : List ℕ) → left ≡ Some bytes → A bytes
 text-at A None h bytes is = absurd cc
 text-at A (Some text) h bytes is = subst A (let e : text ≡ bytes = cc in e) h
-
--- a list of one, and any other list of roots
-pub one-list : (roots xs : List Cid) (d : Cid) → xs ≡ roots → 1 ≤ length xs → length xs < 2 → roots ≡ slice_index_or xs 0 d ∷ []
-one-list roots [] d is some few = absurd (omega (arith, some))
-one-list roots (x ∷ []) d is some few = sym is
-one-list roots (x ∷ y ∷ xs) d is some few = absurd (omega (arith, few))
-
-pub other-list : (roots xs : List Cid) → xs ≡ roots → (nat_lt (length xs) 1 ≡ true) ⊎ (nat_lt (length xs) 2 ≡ false) → (held sections : Lookup) (cid : Cid) → by_roots held sections cid roots ≡ Err not_one_root
-other-list roots xs is other held sections cid = subst (λ (r : List Cid). by_roots held sections cid r ≡ Err not_one_root) is (by xs other)
-  where
-    by : (xs : List Cid) → (nat_lt (length xs) 1 ≡ true) ⊎ (nat_lt (length xs) 2 ≡ false) → by_roots held sections cid xs ≡ Err not_one_root
-    by [] other = refl
-    by (x ∷ []) (inl few) = absurd cc
-    by (x ∷ []) (inr many) = absurd cc
-    by (x ∷ y ∷ xs) other = refl
 
 spared : (s : Seen) → SparesStore s s
 spared s = record { calm = StaysCalm-refl s; misses = refl; told = refl }
@@ -201,7 +186,7 @@ module _ (X : List ℕ → List ℕ) (a b : Seen) (l : streams.Told) (i j : ℕ)
         ap (λ t. unless_two t (by_answer held (sections_held r.sections) cid r.answer)) (sound-all X a.told b.told empty saves r.sections keeps.kept)
         ∙ ap (by_answer held (sections_held r.sections) cid) keeps.said
 
-    pub one-root : (root : Cid) → imported.roots ≡ root ∷ [] → Taken (Ok root)
+    one-root : (root : Cid) → imported.roots ≡ root ∷ [] → Taken (Ok root)
     one-root root is = record {
       root = λ bytes given empty. found (car_read X most_car bytes) empty (reads bytes given);
       kinds = tt;
@@ -217,7 +202,7 @@ module _ (X : List ℕ → List ℕ) (a b : Seen) (l : streams.Told) (i j : ℕ)
           kept = now-is X a.told b.told empty saves r.sections keeps.kept;
         }
 
-    pub other-roots : ((held sections : Lookup) (cid : Cid) → by_roots held sections cid imported.roots ≡ Err not_one_root) → Taken (Err not_one_root)
+    other-roots : ((held sections : Lookup) (cid : Cid) → by_roots held sections cid imported.roots ≡ Err not_one_root) → Taken (Err not_one_root)
     other-roots none = record {
       root = λ bytes given empty stood. inr (λ held cid. by-roots-of (car_read X most_car bytes) empty (reads bytes given) held cid ∙ none held (sections_held (car_read X most_car bytes).sections) cid);
       kinds = refl;
@@ -225,6 +210,15 @@ module _ (X : List ℕ → List ℕ) (a b : Seen) (l : streams.Told) (i j : ℕ)
       fault = tt;
       sections = λ empty seen. tt;
     }
+
+    -- there is one root, or the CAR is refused
+    pub roots-judged : (r : Result Cid Refusal) → r ≡ root_alone imported.roots → Taken r
+    roots-judged r is = subst (λ (r : Result Cid Refusal). Taken r) (sym is) (by imported.roots refl)
+      where
+        by : (roots : List Cid) → imported.roots ≡ roots → Taken (root_alone roots)
+        by [] e = other-roots (λ held sections cid. ap (by_roots held sections cid) e)
+        by (root ∷ []) e = one-root root e
+        by (first ∷ second ∷ roots) e = other-roots (λ held sections cid. ap (by_roots held sections cid) e)
 
 -- ---- two stores are compared
 

@@ -47,7 +47,7 @@ use Rattle.uf_reply.specs.Kinds.{fault_behind, fault_kind, refusal_kind}
 use Rattle.uf_top.specs.Reply.{adopted, by_rule, grafted, with_plan}
 use Rattle.uf_reply.specs.declared.types.Refusal.{Refusal}
 use Rattle.uf_reply.specs.declared.types.Refusal.TheVariants as refusal
-use Rattle.uf_top.specs.Foreign.{FindsTree, IsOfReading, IsOwnRefusal, IsTreeIn, LeadsTo}
+use Rattle.uf_top.specs.Foreign.{FindsShape, FindsTree, IsOfReading, IsOwnRefusal, IsTreeIn, LeadsTo}
 use Rattle.uf_top.specs.Grafts.{BuildsPlanned, FollowsOr, IsFailingRefusal, IsLostBy, PutsTree, TouchesUp, adopt_refusal, graft_kinds, put_tree}
 use Rattle.uf_top.specs.Naming.{TellsBlocks}
 use Rattle.uf_top.proofs.Cats.{below-fault, way-fault}
@@ -189,16 +189,21 @@ below-told X None path cid f why said is = tt
 below-told X (Some t) path cid f why said is =
     λ good has leads. fault-tree good path f why (below-fault good path cid leads f (said good has)) is
 
-pub tree-told : (X : List ℕ → List ℕ) (told : Told) (path : DagPath) (cid : Cid) (shape : Shape)
+pub shape-told : (X : List ℕ → List ℕ) (told : Told) (path : DagPath) (cid : Cid) (shape : Shape)
     → ByGoodBlocks X told (λ held. IsRead held usual_limits cid shape)
-    → ByGoodBlocks X told (λ held. LeadsTo held path cid → FindsTree held path (Ok cid))
-tree-told X None path cid shape read = tt
-tree-told X (Some t) path cid shape read = λ good has leads.
-    let r = read good has in
+    → ByGoodBlocks X told (λ held. LeadsTo held path cid → FindsShape held path (Ok (cid, shape)))
+shape-told X None path cid shape read = tt
+shape-told X (Some t) path cid shape read = λ good has leads. record { leads = leads; read = read good has }
+
+pub tree-told : (X : List ℕ → List ℕ) (told : Told) (path : DagPath) (cid : Cid) (shape : Shape)
+    → ByGoodBlocks X told (λ held. FindsShape held path (Ok (cid, shape))) → ByGoodBlocks X told (λ held. FindsTree held path (Ok cid))
+tree-told X None path cid shape found = tt
+tree-told X (Some t) path cid shape found = λ good has.
+    let f = found good has in
     record {
-      tree = r.tree;
-      leads = ap (λ (r : Result Cid DagFault). r >>= λ c. denotes good usual_limits c) leads ∙ r.denoted;
-      denoted = r.denoted;
+      tree = f.read.tree;
+      leads = ap (λ (r : Result Cid DagFault). r >>= λ c. denotes good usual_limits c) f.leads ∙ f.read.denoted;
+      denoted = f.read.denoted;
     }
 
 -- what is found of the blocks that the store tells, and of the good ones among them

@@ -23,7 +23,6 @@ use Rattle.uf_store.specs.Writing.{SavesOnly}
 use Rattle.uf_store.specs.declared.store.StoreFault.{StoreFault}
 use Rattle.uf_store.specs.declared.store.StoreFault.TheVariants as fault
 use Rattle.uf_store.proofs.Calls.{shown-after, shown-by, stood-back}
-use Rattle.uf_store.proofs.Causes.{calm-rises}
 use Rattle.uf_store.proofs.Keeping.{KeepsGood-trans}
 use Rattle.uf_tree.specs.Tree.{Dir, Entries}
 use Rattle.uf_tree.specs.TreePlan.{blocks}
@@ -161,22 +160,11 @@ module _ (X : List ℕ → List ℕ) where
       writes = writes;
     }
 
-    -- the lines of the roots find no memory
-    pub roots-unmade : StaysCalm a b → Counts false i j → KeepsCar X (Err no_memory) a b l i j
-    roots-unmade calm counts = record {
-      roots = λ held bytes tells given stood quiet. inl refl;
-      kinds = refl;
-      counts = counts;
-      cause = calm-rises a b calm;
-      good = good;
-      writes = writes;
-    }
-
-    -- they are made, and the blocks outlive a stop
+    -- the lines of the roots are made, and the blocks outlive a stop
     module _ (c : Seen) (calm : StaysCalm a b) (counts : Counts false i j) where
-      pub roots-synced : (imported : Imported) (text : List ℕ) (r : Result (List ℕ) Refusal) → Reads (Ok imported) → text ≡ flat_map root_line imported.roots → IfOk r (λ t. t ≡ text) → Stops r
+      pub roots-synced : (imported : Imported) (r : Result (List ℕ) Refusal) → Reads (Ok imported) → IfOk r (λ t. t ≡ flat_map root_line imported.roots) → Stops r
           → OnOk r (c.told ≡ changed with_sync b.told) → OnErr r (LeavesHead b.told c.told) → Shown X NoneIsBad (refusal_fault r) b c → KeepsCar X r a c l i j
-      roots-synced imported text (Ok line) reads is same stopped synced failed cause = record {
+      roots-synced imported (Ok line) reads is stopped synced failed cause = record {
         roots = λ held bytes tells given stood quiet. inr (told held bytes tells (reads bytes given));
         kinds = tt;
         counts = counts;
@@ -187,10 +175,10 @@ module _ (X : List ℕ → List ℕ) where
         where
           told : (held : Lookup) (bytes : List ℕ) → TellsBlocks a.told held → ImportsCar (car_read X most_car bytes) (Ok imported) a.told b.told → TellsRoots (car_read X most_car bytes) (Ok line) c.told
           told held bytes tells r = record {
-            is = ap (λ (t : List ℕ). Ok t) (same ∙ is) ∙ sym (ap roots_told r.said);
+            is = ap (λ (t : List ℕ). Ok t) is ∙ sym (ap roots_told r.said);
             held = subst (λ t. TellsHeld t (car_read X most_car bytes).sections) (sym synced) (sync-tells b.told (car_read X most_car bytes).sections (held-after (car_read X most_car bytes).sections a.told b.told held tells r.kept saves));
           }
-      roots-synced imported text (Err why) reads is same stopped synced failed cause =
+      roots-synced imported (Err why) reads is stopped synced failed cause =
           let of = stops-store why stopped in
           by of.fault of.is of.saving
         where

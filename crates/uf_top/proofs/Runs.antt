@@ -1,5 +1,5 @@
 -- From how a command was done to what it did.
-use Rattle.std.proofs.Common.{subst, Result}
+use Rattle.std.proofs.Common.{subst, Result, false}
 use Rattle.std.specs.Prelude.{ℕ, List, IfErr}
 use Rattle.uf_reply.specs.Commands.{IsOfWords, NoStore, of_command, own_store}
 use Rattle.uf_reply.specs.declared.status.Status.{Status}

@@ -27,7 +27,7 @@ use Rattle.uf_store.specs.Seen.{Seen}
 use Rattle.uf_top.specs.Causes.{is_read}
 use Rattle.uf_top.specs.Generated.{TwoGenerated}
 use Rattle.uf_top.specs.Naming.{TellsBlocks}
-use Rattle.uf_top.specs.Reply.{car_compared, verdict_told}
+use Rattle.uf_top.specs.Reply.{car_compared, not_one_root, verdict_told}
 use Rattle.uf_same.specs.Verdict.{verdict}
 use Rattle.uf_top.specs.Shapes.{WritesAs, is_ok}
 
@@ -95,6 +95,12 @@ ByOwnStore X own left before now (refusal.CarLacks cid) = (own ≡ OfCarSections
 ByOwnStore X own left before now (refusal.OwnClash cid first second) =
     IsOwnClash X own left cid first second before now
 ByOwnStore X own left before now other = ⊤
+
+-- the one root of a CAR: with none, or with more, it is refused
+abbrev pub root_alone : List Cid → Result Cid Refusal
+root_alone [] = Err not_one_root
+root_alone (root ∷ []) = Ok root
+root_alone (root ∷ other ∷ roots) = Err not_one_root
 
 -- the one root of a CAR whose sections don't clash and are kept, or why it is refused whatever it is compared with
 pub record IsRootOf (car : Read (List Cid)) (root : Cid) (now : Told) : Type 0 where

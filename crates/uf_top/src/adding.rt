@@ -12,13 +12,14 @@ ghost use Rattle.uf_top.specs.Shapes.{WritesAs, is_ok};
 ghost use Rattle.uf_top.specs.Working.{Makes};
 ghost use Rattle.uf_reply.specs.declared.types.Command.TheVariants as commands;
 
-use crate::intake::file_of;
 use std::alloc::Global;
 use std::marker::Brand;
 use std::sync::ledger::{Blank, Ledger};
 use uf_cid::{Block, BlockHash};
 use uf_edge::{Put, Source};
+use uf_intake::{IntakeFault, file_of};
 use uf_mfs::Ready;
+use uf_plain::Rule;
 use uf_reply::{Refusal, added_row};
 use uf_store::{Discard, Note, NoteRead, Steps, Store, StoreFault};
 use uf_tree::{HeadFault, Profile, read_head};
@@ -125,9 +126,15 @@ fn add_by<S: Store, I: Source, L: Ledger>(
     ensures good { KeepsGood S.X.block32 (S.seen store.old).told (S.seen store.new).told }
     ensures writes { WritesAs S.X.block32 SyncsBlocks (is_ok result) (S.seen store.old).told (S.seen store.new).told }
 {
-    let entry = file_of(alloc, profile, store, input, touches)?;
-    let row = added_row(alloc, &entry.cid)?;
-    synced(store, row)
+    match file_of(alloc, profile, store, input, touches) {
+        Ok(entry) => {
+            let row = added_row(alloc, &entry.cid)?;
+            synced(store, row)
+        }
+        Err(IntakeFault::Read) => Err(Refusal::Read),
+        Err(IntakeFault::FileTooLong) => Err(Refusal::Rule(Rule::FileTooLong)),
+        Err(IntakeFault::Store(fault)) => Err(Refusal::Store(fault)),
+    }
 }
 
 // The row, once all that was saved is made to outlive a stop.
@@ -192,8 +199,9 @@ fn hash_over<X: BlockHash, I: Source, L: Ledger>(
 {
     let mut store = Discard::<X>::new();
     match file_of(alloc, profile, &mut store, input, touches) {
-        Err(Refusal::Store(_)) => Err(Refusal::Store(StoreFault::Memory)),
-        Err(why) => Err(why),
+        Err(IntakeFault::Read) => Err(Refusal::Read),
+        Err(IntakeFault::FileTooLong) => Err(Refusal::Rule(Rule::FileTooLong)),
+        Err(IntakeFault::Store(_)) => Err(Refusal::Store(StoreFault::Memory)),
         Ok(entry) => match added_row(alloc, &entry.cid) {
             Err(_) => Err(Refusal::Store(StoreFault::Memory)),
             Ok(row) => Ok(row),

@@ -1,10 +1,15 @@
 // CARs written from what is held, read into the store, and compared with what is held.
-ghost use Rattle.std.specs.Prelude.{◌≡◌, IfErr, IfOk, List, ℕ};
+ghost use Rattle.std.specs.Prelude.{◌≡◌, IfErr, IfOk, List, OnErr, OnOk, flat_map, ℕ, true};
 ghost use Rattle.uf_edge.specs.Streams.{Told as Left};
 ghost use Rattle.uf_reply.specs.Commands.{OfCarSections};
 ghost use Rattle.uf_reply.specs.declared.types.Command.TheVariants as commands;
 ghost use Rattle.uf_top.specs.Around.{HostSide, around};
-ghost use Rattle.uf_top.specs.Cars.{ByOwnStore, ComparesCar, ComparesStores, KeepsCar, TakesRoot};
+ghost use Rattle.uf_mfs.specs.Standing.{LeavesHead};
+ghost use Rattle.uf_reply.specs.Cars.{root_line};
+ghost use Rattle.uf_store.specs.Contents.{changed, with_sync};
+ghost use Rattle.uf_top.specs.Causes.{Stops};
+ghost use Rattle.uf_top.specs.Cars.{ByOwnStore, ComparesCar, ComparesStores, KeepsCar, TakesRoot, root_alone};
+ghost use Rattle.uf_top.specs.Intake.{ShownIn};
 ghost use Rattle.uf_top.specs.Reply.{compared_text as text_of_compared, same_refusal as refusal_of_same};
 ghost use Rattle.uf_top.specs.Working.{Does};
 
@@ -13,7 +18,7 @@ use crate::command::print;
 use std::alloc::Global;
 use std::sync::ledger::Ledger;
 use uf_car::{export, import};
-use uf_cid::{Block, Cid, Memory};
+use uf_cid::{Block, Cid, Cids, Memory};
 use uf_edge::{Sink, Source};
 use uf_reply::{
     DagRule, Refusal, car_refusal, export_refusal, kept_refusal, plain, root_lines,
@@ -78,11 +83,20 @@ fn roots_of<S: Store, I: Source, L: Ledger>(
 {
     match import(alloc, store, input, MOST_BYTES, touches) {
         Err(fault) => Err(car_refusal(fault)),
-        Ok(imported) => {
-            let text = root_lines(alloc, &imported.roots)?;
-            synced(store, text)
-        }
+        Ok(imported) => firm_lines(alloc, &imported.roots, store),
     }
+}
+
+// The roots of a CAR, each in a line, once what was kept of it outlives a stop.
+fn firm_lines<S: Store>(alloc: Global, roots: &Cids, store: &mut S) -> Result<Block, Refusal>
+    ensures lines { IfOk result (λ text. text ≡ flat_map root_line roots.now) }
+    ensures stopped { Stops result }
+    ensures synced { OnOk result ((S.seen store.new).told ≡ changed with_sync (S.seen store.old).told) }
+    ensures failed { OnErr result (LeavesHead (S.seen store.old).told (S.seen store.new).told) }
+    ensures cause { ShownIn S.X.block32 result (S.seen store.old) (S.seen store.new) }
+{
+    let text = root_lines(alloc, roots)?;
+    synced(store, text)
 }
 
 // Compares what is below a CID with the CAR that the input has, and prints how they compare.
@@ -138,13 +152,20 @@ fn one_root<S: Store, I: Source, L: Ledger>(
 {
     match import(alloc, store, input, MOST_BYTES, touches) {
         Err(fault) => Err(kept_refusal(fault)),
-        Ok(imported) => match imported.roots.as_slice() {
-            [root] => Ok(*root),
-            [..] => Err(Refusal::Car {
-                number: 7,
-                place: 0,
-            }),
-        },
+        Ok(imported) => only_root(&imported.roots),
+    }
+}
+
+// The one root of a CAR.
+fn only_root(roots: &Cids) -> Result<Cid, Refusal>
+    ensures { result ≡ root_alone roots.now }
+{
+    match roots.as_slice() {
+        [root] => Ok(*root),
+        [..] => Err(Refusal::Car {
+            number: 7,
+            place: 0,
+        }),
     }
 }
 

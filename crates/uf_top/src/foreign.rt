@@ -8,7 +8,7 @@ ghost use Rattle.uf_store.specs.Calls.{OnlyReads};
 ghost use Rattle.uf_store.specs.Contents.{held_at};
 ghost use Rattle.uf_store.specs.Faults.{NoneIsBad};
 ghost use Rattle.uf_top.specs.Around.{HostSide, around};
-ghost use Rattle.uf_top.specs.Foreign.{FindsFile, FindsTree, IsOfReading, LeadsTo};
+ghost use Rattle.uf_top.specs.Foreign.{FindsFile, FindsShape, FindsTree, IsOfReading, LeadsTo};
 ghost use Rattle.uf_top.specs.Working.{Does};
 
 use std::alloc::Global;
@@ -61,33 +61,14 @@ fn file_in<S: Store, L: Ledger>(
     ensures refuses { IfErr result IsOfReading }
     ensures reads { OnlyReads S.X.block32 NoneIsBad (refusal_fault result) (S.seen store.old) (S.seen store.new) }
 {
-    match resolve(alloc, store, path, &USUAL, touches) {
-        Err(fault) => Err(dag_refusal(alloc, path, fault)),
-        Ok(cid) => file_under(alloc, path, cid, store, touches),
-    }
+    let (cid, shape) = found_in(alloc, path, store, touches)?;
+    let Shape::File = shape else {
+        return Err(no_file(alloc, path));
+    };
+    Ok(cid)
 }
 
-// The same CID, where it is a file's below which everything can be read.
-fn file_under<S: Store, L: Ledger>(
-    alloc: Global,
-    path: &DagPath,
-    cid: Cid,
-    store: &mut S,
-    touches: &mut Steps<L>,
-) -> Result<Cid, Refusal>
-    ensures finds { IfSome (S.seen store.old).told (λ t. LeadsTo (held_at t) path.now cid
-        → FindsFile (held_at t) path.now result) }
-    ensures refuses { IfErr result IsOfReading }
-    ensures reads { OnlyReads S.X.block32 NoneIsBad (refusal_fault result) (S.seen store.old) (S.seen store.new) }
-{
-    match survey(alloc, store, &cid, &USUAL, touches) {
-        Err(fault) => Err(dag_refusal(alloc, path, fault)),
-        Ok(Shape::File) => Ok(cid),
-        Ok(Shape::Folder(_)) => Err(no_file(alloc, path)),
-    }
-}
-
-// The CID of the tree to which a path leads, below which everything can be read.
+// The CID of the tree to which a path leads.
 pub fn tree_in<S: Store, L: Ledger>(
     alloc: Global,
     path: &DagPath,
@@ -100,28 +81,45 @@ pub fn tree_in<S: Store, L: Ledger>(
     ensures reads { OnlyReads S.X.block32 NoneIsBad (refusal_fault result) (S.seen store.old) (S.seen store.new) }
     ensures touched { touches.old ≤ touches.new }
 {
+    let (cid, _) = found_in(alloc, path, store, touches)?;
+    Ok(cid)
+}
+
+// The CID to which a path leads and the shape of the tree that it denotes, below which everything can be read.
+fn found_in<S: Store, L: Ledger>(
+    alloc: Global,
+    path: &DagPath,
+    store: &mut S,
+    touches: &mut Steps<L>,
+) -> Result<(Cid, Shape), Refusal>
+    requires { length path.now.names < 2 ^ 32 }
+    ensures finds { ByGoodBlocks S.X.block32 (S.seen store.old).told (λ held. FindsShape held path.now result) }
+    ensures refuses { IfErr result IsOfReading }
+    ensures reads { OnlyReads S.X.block32 NoneIsBad (refusal_fault result) (S.seen store.old) (S.seen store.new) }
+    ensures touched { touches.old ≤ touches.new }
+{
     match resolve(alloc, store, path, &USUAL, touches) {
         Err(fault) => Err(dag_refusal(alloc, path, fault)),
-        Ok(cid) => tree_under(alloc, path, cid, store, touches),
+        Ok(cid) => shape_under(alloc, path, cid, store, touches),
     }
 }
 
-// The same CID, where everything below it can be read.
-fn tree_under<S: Store, L: Ledger>(
+// The same CID and its shape, where everything below it can be read.
+fn shape_under<S: Store, L: Ledger>(
     alloc: Global,
     path: &DagPath,
     cid: Cid,
     store: &mut S,
     touches: &mut Steps<L>,
-) -> Result<Cid, Refusal>
+) -> Result<(Cid, Shape), Refusal>
     ensures finds { ByGoodBlocks S.X.block32 (S.seen store.old).told (λ held. LeadsTo held path.now cid
-        → FindsTree held path.now result) }
+        → FindsShape held path.now result) }
     ensures refuses { IfErr result IsOfReading }
     ensures reads { OnlyReads S.X.block32 NoneIsBad (refusal_fault result) (S.seen store.old) (S.seen store.new) }
     ensures touched { touches.old ≤ touches.new }
 {
     match survey(alloc, store, &cid, &USUAL, touches) {
         Err(fault) => Err(dag_refusal(alloc, path, fault)),
-        Ok(_) => Ok(cid),
+        Ok(shape) => Ok((cid, shape)),
     }
 }

@@ -27,8 +27,9 @@ const ADDED: &[u8] =
 const GOTTEN: &[u8] =
     b"added bafkreifzjut3te2nhyekklss27nh3k72ysco7y32koao5eei66wof36n5e e/a\nadded bafkreihdwdcefgh4dqkjv67uzcmw7ojee6xedzdetojuzjevtenxquvyku e/b\nadded bafkreibopuwahkkqplrgl3hvwu2wrbnfgoj2eau5eqjzjglsmwq2ewxpyy e/c\nadded bafybeifnhxr4cruj23aonpu7rrm4c4x7xhypv2zubtrruolypz4sj4t45y e\n";
 
-// What is done in turn with one store and one host, which has a folder of three files.
-const LINES: [Line; 27] = [
+// What is done in turn with one store and one host, which has a folder of three files. First a file is written, where
+// nothing is and its parent is there.
+const FILES: [Line; 12] = [
     (
         "get bafkreifzjut3te2nhyekklss27nh3k72ysco7y32koao5eei66wof36n5e d",
         4,
@@ -81,6 +82,10 @@ const LINES: [Line; 27] = [
         b"error: rule HostAbsent //r\n",
     ),
     ("add -n out", 0, OUT, b""),
+];
+
+// Then a folder is written, and files into it.
+const FOLDERS: [Line; 5] = [
     (
         "get bafybeifnhxr4cruj23aonpu7rrm4c4x7xhypv2zubtrruolypz4sj4t45y e/",
         0,
@@ -101,6 +106,10 @@ const LINES: [Line; 27] = [
         b"",
     ),
     ("add -n e/d", 0, LAST, b""),
+];
+
+// Then what can't be read is refused, and words are.
+const REFUSALS: [Line; 10] = [
     (
         "get bafybeifnhxr4cruj23aonpu7rrm4c4x7xhypv2zubtrruolypz4sj4t45y/x out",
         1,
@@ -154,18 +163,35 @@ const LINES: [Line; 27] = [
 ];
 
 // The number of the first line that doesn't end as it is to.
-fn first_wrong<L: Ledger>(alloc: Global, touches: &mut Steps<L>) -> Result<Option<usize>, Memory> {
+fn first_wrong<L: Ledger>(
+    alloc: Global,
+    lines: &[Line],
+    store: &mut MemStore<Sha256Hash>,
+    host: &mut MemHost,
+    touches: &mut Steps<L>,
+) -> Result<Option<usize>, Memory> {
+    for at in 0..lines.len() {
+        if !ends(alloc, &lines[at], 2000, store, host, touches)? {
+            return Ok(Some(at));
+        }
+    }
+    Ok(None)
+}
+
+// The same for each of the tables.
+fn wrong_lines<L: Ledger>(
+    alloc: Global,
+    touches: &mut Steps<L>,
+) -> Result<[Option<usize>; 3], Memory> {
     let mut store = MemStore::<Sha256Hash>::new(alloc);
     let mut host = host_of(alloc, &THREE, None)?;
     for node in [LINK, BROKEN, TWICE, BAD_NAME] {
         plants(alloc, &mut store, node, node)?;
     }
-    for at in 0..LINES.len() {
-        if !ends(alloc, &LINES[at], 2000, &mut store, &mut host, touches)? {
-            return Ok(Some(at));
-        }
-    }
-    Ok(None)
+    let files = first_wrong(alloc, &FILES, &mut store, &mut host, touches)?;
+    let folders = first_wrong(alloc, &FOLDERS, &mut store, &mut host, touches)?;
+    let refusals = first_wrong(alloc, &REFUSALS, &mut store, &mut host, touches)?;
+    Ok([files, folders, refusals])
 }
 
 // What is at the paths of the three files of a folder that is written.
@@ -208,25 +234,25 @@ fn failures_are_told<L: Ledger>(alloc: Global, touches: &mut Steps<L>) -> Result
     Ok(true)
 }
 
-fn all<L: Ledger>(alloc: Global, blank: Blank) -> Result<(Option<usize>, bool), Memory>
+fn all<L: Ledger>(alloc: Global, blank: Blank) -> Result<([Option<usize>; 3], bool), Memory>
     requires name { blank.name ≡ L.name }
     requires parts { blank.parts ≡ L.parts }
     requires some { 0 < blank.parts }
 {
     let mut touches = Steps::<L>::new(blank);
-    let wrong = first_wrong(alloc, &mut touches)?;
+    let wrong = wrong_lines(alloc, &mut touches)?;
     let failures = failures_are_told(alloc, &mut touches)?;
     Ok((wrong, failures))
 }
 
-fn all_hold(alloc: Global) -> Result<(Option<usize>, bool), Memory> {
+fn all_hold(alloc: Global) -> Result<([Option<usize>; 3], bool), Memory> {
     all::<Brand>(alloc, Blank::new(1))
 }
 
 #[test]
 fn trees_are_written_to_a_host_or_refused(rt: HostRuntime) -> Result<(), Memory> {
     let (wrong, failures) = all_hold(rt.alloc())?;
-    assert_eq!(rt; wrong, None);
+    assert_eq!(rt; wrong, [None; 3]);
     assert!(rt; failures);
     Ok(())
 }

@@ -11,7 +11,6 @@ mod generating;
 mod getting;
 mod grafting;
 mod hosted;
-mod intake;
 pub mod laws;
 mod sending;
 mod taking;

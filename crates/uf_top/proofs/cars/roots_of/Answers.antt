@@ -1,7 +1,6 @@
-use Rattle.std.proofs.Common.{subst, sym, Err}
-use Rattle.std.proofs.lemmas.Result.{err_from_is_err_and}
+use Rattle.std.proofs.Common.{refl, subst, sym, Err}
 use Rattle.uf_top.specs.Cars.{KeepsCar}
-use Rattle.uf_top.proofs.Imported.{car-refused, roots-synced, roots-unmade}
+use Rattle.uf_top.proofs.Imported.{car-refused, roots-synced}
 use Rattle.uf_top.proofs.cars.roots_of.Goals as goal
 
 pub returns-in-Err : goal.returns-in-Err
@@ -11,16 +10,9 @@ returns-in-Err g c =
     subst (λ why. KeepsCar g.S.X.BlockHash.block32 (Err why) a b l i j) (sym c.car_refusal.ensures)
     (car-refused g.S.X.BlockHash.block32 a b l i j e.good e.saves c.in-Err.fault e.reads e.cause e.fault e.counts)
 
-pub returns-in_err-text-in-Ok : goal.returns-in_err-text-in-Ok
-returns-in_err-text-in-Ok g c =
-    let out = err_from_is_err_and c.from_residual.result c.from_residual.ensures.1 in
-    let e = c.in-Ok.ensures in
-    rw (out.1, out.2) (roots-unmade g.S.X.BlockHash.block32 (g.S.Store.seen c.args.store.now) (g.S.Store.seen c.import.new.store) (g.I.Source.left c.args.input.now)
-    (g.I.Source.faults c.args.input.now) (g.I.Source.faults c.import.new.input) e.good e.saves e.cause e.counts)
-
-pub returns-in_ok-text-in-Ok : goal.returns-in_ok-text-in-Ok
-returns-in_ok-text-in-Ok g c =
-    let e = c.in-Ok.ensures in let s = c.synced.ensures in
+pub returns-in-Ok : goal.returns-in-Ok
+returns-in-Ok g c =
+    let e = c.in-Ok.ensures in let s = c.firm_lines.ensures in
     roots-synced g.S.X.BlockHash.block32 (g.S.Store.seen c.args.store.now) (g.S.Store.seen c.import.new.store) (g.I.Source.left c.args.input.now)
-    (g.I.Source.faults c.args.input.now) (g.I.Source.faults c.import.new.input) e.good e.saves (g.S.Store.seen c.synced.new.store) e.cause e.counts
-    c.in-Ok.imported c.in_ok-text-in-Ok.text c.synced.result e.reads c.in_ok-text-in-Ok.ensures s.row s.stopped s.synced s.failed s.cause
+    (g.I.Source.faults c.args.input.now) (g.I.Source.faults c.import.new.input) e.good e.saves (g.S.Store.seen c.firm_lines.new.store) e.cause e.counts
+    c.in-Ok.imported c.firm_lines.result e.reads s.lines s.stopped s.synced s.failed s.cause
