@@ -15,6 +15,7 @@ pub use adding::add;
 pub use fault::HostFault;
 pub use getting::get;
 pub use import::{AddedRow, AddedRows};
+pub use paths::last_name;
 
 #[cfg(test)]
 mod get_tests;

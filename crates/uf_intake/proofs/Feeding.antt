@@ -86,7 +86,7 @@ module _ (hash : List ℕ → List ℕ) (p : Profile) where
   -- ---- the whole file
 
   pub new-fed : (t : store.Told) (b : Building) → HasFed hash [] b → HoldsFed hash [] t b → b.fed ≡ 0 → b.profile ≡ p → IsFedBy hash p t [] b
-  new-fed t b fed held count profile = record { fed = fed; held = held; count = count; few = omega arith; profile = profile }
+  new-fed t b fed held count profile = record { fed = fed; held = held; count = count; few = omega arith; profile = profile; are_bytes = tt }
 
   -- the file of all that was fed
   pub file-of : (entry : Entry) (t u v : store.Told) (a b : Building) (l m : Told) → FeedsLast hash p t u a b l m → IsFedBy hash p t [] a → IsClosed hash entry u v b → IsFileOf hash p v (Ok entry) l m
@@ -101,6 +101,7 @@ module _ (hash : List ℕ → List ℕ) (p : Profile) where
         few = whole.few;
         is = subst (λ (p : Profile). entry ≡ (file_plan hash p fed.bytes).entry) whole.profile entry_is;
         held = subst (λ (p : Profile). Holds v (file_plan hash p fed.bytes).blocks) whole.profile held;
+        are_bytes = whole.are_bytes;
       }
 
   -- no file of a source that has too much

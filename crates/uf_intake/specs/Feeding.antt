@@ -3,6 +3,7 @@ use Rattle.std.specs.Prelude.{◌≡◌, ℕ, ◌+◌, ◌<◌, ◌≤◌, List,
 use Rattle.std.specs.declared.result.Result.{Result}
 use Rattle.std.specs.declared.result.Result.TheVariants.{Ok, Err}
 use Rattle.uf_build.specs.Building.{Building, HasFed, HoldsFed}
+use Rattle.uf_cid.specs.Bytes.{IsBytes}
 use Rattle.uf_edge.specs.Streams.{Told, before, IsAtEnd}
 use Rattle.uf_store.specs.Contents as store
 use Rattle.uf_store.specs.Keeping.{Holds}
@@ -21,6 +22,7 @@ pub record IsFedBy (hash : List ℕ → List ℕ) (p : Profile) (told : store.To
   pub count : b.fed ≡ length bytes
   pub few : length bytes ≤ most_bytes p
   pub profile : b.profile ≡ p
+  pub are_bytes : IsBytes bytes
 
 -- the builder was fed these bytes, which the source gave, behind what it was fed before, and has not given up
 pub record FeedsFrom (hash : List ℕ → List ℕ) (p : Profile) (bytes : List ℕ) (told told_now : store.Told)

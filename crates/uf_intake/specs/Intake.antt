@@ -2,6 +2,7 @@
 use Rattle.std.specs.Prelude.{◌≡◌, ℕ, ◌<◌, ◌≤◌, List, length}
 use Rattle.std.specs.declared.result.Result.{Result}
 use Rattle.std.specs.declared.result.Result.TheVariants.{Ok, Err}
+use Rattle.uf_cid.specs.Bytes.{IsBytes}
 use Rattle.uf_edge.specs.Streams.{Told, before, IsAtEnd}
 use Rattle.uf_store.specs.Contents as store
 use Rattle.uf_store.specs.Keeping.{Holds}
@@ -28,6 +29,7 @@ pub record IsWholeFile (hash : List ℕ → List ℕ) (p : Profile) (told_now : 
   pub few : length bytes ≤ most_bytes p
   pub is : entry ≡ (file_plan hash p bytes).entry
   pub held : Holds told_now (file_plan hash p bytes).blocks
+  pub are_bytes : IsBytes bytes
 
 -- the file of a source, or why there is none
 abbrev pub IsFileOf : (List ℕ → List ℕ) → Profile → store.Told → Result Entry IntakeFault → Told → Told → Type 0

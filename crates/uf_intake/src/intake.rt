@@ -17,6 +17,7 @@ use crate::IntakeFault;
 use std::alloc::Global;
 use std::sync::ledger::Ledger;
 use uf_build::{BuildFault, Builder};
+use uf_cid::slices_hold_bytes;
 use uf_edge::{Filled, Source, fill};
 use uf_store::{Steps, Store, StoreFault};
 use uf_tree::{Entry, Profile};
@@ -154,6 +155,7 @@ fn feed_piece<S: Store, L: Ledger>(
     ensures reads { fails_reading result ≡ false }
     ensures saves { OnlySaves S.X.block32 NoneIsBad (intake_fault result) (S.seen store.old) (S.seen store.new) }
 {
+    slices_hold_bytes(piece);
     match builder.feed(store, piece, touches) {
         Ok(()) => Ok(()),
         Err(BuildFault::FileTooLong) => Err(IntakeFault::FileTooLong),

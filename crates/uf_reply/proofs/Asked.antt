@@ -16,7 +16,7 @@ use Rattle.uf_reply.specs.declared.types.Edit.TheVariants.{Cp, Mv}
 use Rattle.uf_reply.specs.declared.types.Refusal.{Refusal}
 use Rattle.uf_reply.specs.declared.types.Refusal.TheVariants as refusal
 use Rattle.uf_reply.specs.Cids.{cid_reads}
-use Rattle.uf_reply.specs.Commands.{IsAsked, IsOfWords, add_asked, adopt_asked, asked, asked_of, at_path, both_paths, below_asked, cat_asked, from_to, get_asked, path_refusal, read_asked, write_asked}
+use Rattle.uf_reply.specs.Commands.{IsAsked, IsOfWords, add_asked, add_to_asked, adopt_asked, asked, asked_of, at_path, both_paths, below_asked, cat_asked, from_to, get_asked, path_refusal, read_asked, write_asked}
 
 at-only : (ask : Ask) (r : Result Path PathFault) → IsOfWords (at_path ask r)
 at-only ask (Ok path) = tt
@@ -26,10 +26,19 @@ at-only ask (Err path.TooLong) = refl
 at-only ask (Err (path.BadCid why)) = refl
 at-only ask (Err path.Memory) = refl
 
+add-to-only : (recursive : Bool) (host_path : Option (List ℕ)) (r : Result Path PathFault) → IsOfWords (add_to_asked recursive host_path r)
+add-to-only recursive None (Ok dest) = tt
+add-to-only recursive (Some path) (Ok dest) = tt
+add-to-only recursive host_path (Err path.NotAbsolute) = refl
+add-to-only recursive host_path (Err (path.BadName place)) = refl
+add-to-only recursive host_path (Err path.TooLong) = refl
+add-to-only recursive host_path (Err (path.BadCid why)) = refl
+add-to-only recursive host_path (Err path.Memory) = refl
+
 add-only : (recursive only_hash : Bool) (to_files host_path : Option (List ℕ)) → IsOfWords (add_asked recursive only_hash to_files host_path)
 add-only recursive only_hash None None = tt
 add-only recursive only_hash None (Some path) = tt
-add-only recursive only_hash (Some dest) host_path = refl
+add-only recursive only_hash (Some dest) host_path = add-to-only recursive host_path (path_reads dest)
 
 read-only : (offset count : ℕ) (r : Result Path PathFault) → IsOfWords (read_asked offset count r)
 read-only offset count (Ok path) = tt

@@ -27,7 +27,7 @@ use Rattle.uf_words.specs.declared.command.Cmd.TheVariants as cmd
 use Rattle.uf_reply.specs.declared.types.Ask.{Ask}
 use Rattle.uf_reply.specs.declared.types.Ask.TheVariants.{Ls, Stat, Edit as Edits}
 use Rattle.uf_reply.specs.declared.types.Command.{Command}
-use Rattle.uf_reply.specs.declared.types.Command.TheVariants.{Init, Add, AddFrom, WriteInput, At, Read, Cat, Get, Export, Import, Same, Adopt, Gen}
+use Rattle.uf_reply.specs.declared.types.Command.TheVariants.{Init, Add, AddFrom, WriteInput, At, Read, Cat, Get, Export, Import, Same, Adopt, Gen, AddTo, AddFromTo}
 use Rattle.uf_reply.specs.declared.types.Edit.{Edit}
 use Rattle.uf_reply.specs.declared.types.Edit.TheVariants.{Mkdir, Rm, Write, Truncate, Cp, Mv}
 use Rattle.uf_reply.specs.declared.types.Refusal.{Refusal}
@@ -49,11 +49,17 @@ abbrev pub at_path : Ask → Result Path PathFault → Result Command Refusal
 at_path ask (Ok path) = Ok (At ask path)
 at_path ask (Err why) = Err (path_refusal why)
 
--- `add` of the input, or of what the host has at a path; nothing is put into the tree of the Head yet
+-- `add --to-files`: the input, or what the host has at a path, is put where a path of the tree leads
+abbrev pub add_to_asked : Bool → Option (List ℕ) → Result Path PathFault → Result Command Refusal
+add_to_asked recursive host_path (Err why) = Err (path_refusal why)
+add_to_asked recursive None (Ok dest) = Ok (AddTo dest)
+add_to_asked recursive (Some path) (Ok dest) = Ok (AddFromTo recursive path dest)
+
+-- `add` of the input, or of what the host has at a path; words never have `-n` beside `--to-files`
 abbrev pub add_asked : Bool → Bool → Option (List ℕ) → Option (List ℕ) → Result Command Refusal
 add_asked recursive only_hash None None = Ok (Add only_hash)
 add_asked recursive only_hash None (Some path) = Ok (AddFrom recursive only_hash path)
-add_asked recursive only_hash (Some dest) host_path = Err refusal.Usage
+add_asked recursive only_hash (Some dest) host_path = add_to_asked recursive host_path (path_reads dest)
 
 -- `files write` of bytes that stand in the words, or else of the input
 abbrev pub write_asked : WriteHow → Option (List ℕ) → Result Path PathFault → Result Command Refusal
@@ -160,6 +166,7 @@ IsAccepted other = Unit {0}
 -- the command reads the input
 abbrev pub reads_input : Command → Bool
 reads_input (Add only_hash) = true
+reads_input (AddTo dest) = true
 reads_input (WriteInput how path) = true
 reads_input Import = true
 reads_input (Same cid) = true
@@ -177,6 +184,8 @@ abbrev pub needs_standing : Command → Bool
 needs_standing (Init profile) = true
 needs_standing (Add only_hash) = true
 needs_standing (AddFrom recursive only_hash path) = true
+needs_standing (AddTo dest) = true
+needs_standing (AddFromTo recursive path dest) = true
 needs_standing (WriteInput how path) = true
 needs_standing (At ask path) = true
 needs_standing (Read offset count path) = true
@@ -210,6 +219,7 @@ generates other = false
 -- the command reads or writes files and folders of the host
 abbrev pub uses_host : Command → Bool
 uses_host (AddFrom recursive only_hash path) = true
+uses_host (AddFromTo recursive path dest) = true
 uses_host (Get path host_path) = true
 uses_host other = false
 
@@ -254,6 +264,8 @@ command_writes (Add true) = NoWrites
 command_writes (Add false) = SyncsBlocks
 command_writes (AddFrom recursive true path) = NoWrites
 command_writes (AddFrom recursive false path) = SyncsBlocks
+command_writes (AddTo dest) = MovesHead
+command_writes (AddFromTo recursive path dest) = MovesHead
 command_writes (WriteInput how path) = MovesHead
 command_writes (At ask path) = ask_writes ask
 command_writes Import = SyncsBlocks
@@ -266,6 +278,12 @@ touches_nothing (Add only_hash) = only_hash
 touches_nothing (AddFrom recursive only_hash path) = only_hash
 touches_nothing (Gen n seed) = true
 touches_nothing other = false
+
+-- the command puts what it adds into the tree, and prints its rows once the Head is written
+abbrev pub prints_after : Command → Bool
+prints_after (AddTo dest) = true
+prints_after (AddFromTo recursive path dest) = true
+prints_after other = false
 
 -- a lookup found a file
 abbrev pub is_file_at : Result Tree Refused → Bool

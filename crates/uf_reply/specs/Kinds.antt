@@ -7,7 +7,7 @@ use Rattle.std.specs.declared.result.Result.TheVariants.{Ok, Err}
 use Rattle.uf_store.specs.declared.store.StoreFault.{StoreFault}
 use Rattle.uf_store.specs.declared.store.StoreFault.TheVariants as fault
 use Rattle.uf_reply.specs.declared.types.Command.{Command}
-use Rattle.uf_reply.specs.declared.types.Command.TheVariants.{Init, Add, AddFrom, WriteInput, At, Read, Cat, Get, Export, Import, Same, Adopt, Gen}
+use Rattle.uf_reply.specs.declared.types.Command.TheVariants.{Init, Add, AddFrom, WriteInput, At, Read, Cat, Get, Export, Import, Same, Adopt, Gen, AddTo, AddFromTo}
 use Rattle.uf_reply.specs.declared.types.Refusal.{Refusal}
 use Rattle.uf_reply.specs.declared.types.Refusal.TheVariants as refusal
 
@@ -52,17 +52,20 @@ abbrev pub refusal_fault : {A : Type 0} → Result A Refusal → Option StoreFau
 refusal_fault (Ok a) = None
 refusal_fault (Err why) = fault_behind why
 
--- the families of commands: those that make a store ready, that add an input or what a host has, that write an input into
--- the tree of the Head, that work on that tree alone, that read DAGs of others, that write them to a host, that keep the
--- blocks of a CAR, that compare with one, that copy from DAGs of others into that tree, and that generate a tree
+-- the families of commands: those that make a store ready, that add an input or what a host has, that put an input or
+-- what a host has into the tree of the Head, that write an input into a file of it, that work on that tree alone, that
+-- read DAGs of others, that write them to a host, that keep the blocks of a CAR, that compare with one, that copy from
+-- DAGs of others into that tree, and that generate a tree
 pub data Family : Type 0 where
-  MakesReady AddsInput AddsHost TakesInput WorksInTree ReadsDag GetsDag KeepsCar ComparesCar AdoptsDag GeneratesTree
-      : Family
+  MakesReady AddsInput AddsHost PlacesInput PlacesHost TakesInput WorksInTree ReadsDag GetsDag KeepsCar ComparesCar
+      AdoptsDag GeneratesTree : Family
 
 abbrev pub family_of : Command → Family
 family_of (Init p) = MakesReady
 family_of (Add only_hash) = AddsInput
 family_of (AddFrom recursive only_hash path) = AddsHost
+family_of (AddTo dest) = PlacesInput
+family_of (AddFromTo recursive path dest) = PlacesHost
 family_of (WriteInput how path) = TakesInput
 family_of (At ask path) = WorksInTree
 family_of (Read offset count path) = WorksInTree
@@ -96,6 +99,25 @@ may_answer AddsHost OfFailure = true
 may_answer AddsHost OfClash = true
 may_answer AddsHost OfMemory = true
 may_answer AddsHost kind = false
+may_answer PlacesInput OfRule = true
+may_answer PlacesInput OfReady = true
+may_answer PlacesInput OfRead = true
+may_answer PlacesInput OfFailure = true
+may_answer PlacesInput OfMissing = true
+may_answer PlacesInput OfBadBlock = true
+may_answer PlacesInput OfClash = true
+may_answer PlacesInput OfMemory = true
+may_answer PlacesInput kind = false
+may_answer PlacesHost OfHost = true
+may_answer PlacesHost OfRule = true
+may_answer PlacesHost OfReady = true
+may_answer PlacesHost OfRead = true
+may_answer PlacesHost OfFailure = true
+may_answer PlacesHost OfMissing = true
+may_answer PlacesHost OfBadBlock = true
+may_answer PlacesHost OfClash = true
+may_answer PlacesHost OfMemory = true
+may_answer PlacesHost kind = false
 may_answer WorksInTree OfRule = true
 may_answer WorksInTree OfReady = true
 may_answer WorksInTree OfFailure = true

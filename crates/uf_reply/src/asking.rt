@@ -3,7 +3,7 @@ ghost use Rattle.std.specs.Prelude.{◌≡◌, ◌≤◌, length, map, string_by
 ghost use Rattle.std.specs.List.{after_first};
 ghost use Rattle.uf_path.specs.Paths.{ReadsAs, dag_path_reads, is_slash, path_reads};
 ghost use Rattle.uf_reply.specs.Cids.{cid_reads, first_name_at as first_name_in, slashes_before as slashes_in_front};
-ghost use Rattle.uf_reply.specs.Commands.{IsAccepted, IsAsked, add_asked, asked, at_path, both_paths, command_in};
+ghost use Rattle.uf_reply.specs.Commands.{IsAccepted, IsAsked, add_asked, add_to_asked, asked, at_path, both_paths, command_in};
 ghost use Rattle.uf_reply.specs.Commands.{adopt_asked, below_asked, cat_asked, cp_asked, get_asked, mv_asked, path_refusal};
 ghost use Rattle.uf_reply.specs.Commands.{read_asked, write_asked};
 ghost use Rattle.uf_reply.specs.declared.types.Ask.TheVariants as asks;
@@ -46,7 +46,7 @@ pub fn read_path(alloc: Global, cmd: Cmd) -> Result<Command, Refusal>
             only_hash,
             to_files,
             host_path,
-        } => read_add(recursive, only_hash, to_files, host_path),
+        } => read_add(alloc, recursive, only_hash, to_files, host_path),
         Cmd::Mkdir { parents, path } => edit_at(alloc, Edit::Mkdir { parents }, &path),
         Cmd::Rm { recursive, path } => edit_at(alloc, Edit::Rm { recursive }, &path),
         Cmd::Write {
@@ -76,8 +76,9 @@ pub fn read_path(alloc: Global, cmd: Cmd) -> Result<Command, Refusal>
     }
 }
 
-// `add` of the input, or of what the host has at a path.
+// `add` of the input, or of what the host has at a path, be it to where a path of the tree leads.
 fn read_add(
+    alloc: Global,
     recursive: bool,
     only_hash: bool,
     to_files: Option<Text>,
@@ -93,7 +94,28 @@ fn read_add(
             only_hash,
             path,
         }),
-        (Some(_), _) => Err(Refusal::Usage),
+        (Some(dest), host_path) => read_add_to(alloc, recursive, &dest, host_path),
+    }
+}
+
+// `add --to-files`.
+fn read_add_to(
+    alloc: Global,
+    recursive: bool,
+    dest: &Text,
+    host_path: Option<Text>,
+) -> Result<Command, Refusal>
+    ensures asked { IsAsked result (add_to_asked recursive host_path (path_reads dest.now)) }
+    ensures profile { IfOk result IsAccepted }
+{
+    match (Path::parse(alloc, dest.as_str()), host_path) {
+        (Err(why), _) => Err(bad_path(why)),
+        (Ok(dest), None) => Ok(Command::AddTo { dest }),
+        (Ok(dest), Some(path)) => Ok(Command::AddFromTo {
+            recursive,
+            path,
+            dest,
+        }),
     }
 }
 

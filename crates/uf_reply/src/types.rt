@@ -27,7 +27,8 @@ pub enum Ask {
 }
 
 /// A command, its paths read. `Get` writes what is at a path in a DAG to a path of the host, and `Adopt` copies it to where
-/// a path of the tree leads. `Gen` makes a tree of `n` files on a store of its own.
+/// a path of the tree leads. `AddTo` puts the input there as a file, and `AddFromTo` what the host has at a path. `Gen` makes
+/// a tree of `n` files on a store of its own.
 #[derive(Drop)]
 pub enum Command {
     Init {
@@ -40,6 +41,14 @@ pub enum Command {
         recursive: bool,
         only_hash: bool,
         path: Text,
+    },
+    AddTo {
+        dest: Path,
+    },
+    AddFromTo {
+        recursive: bool,
+        path: Text,
+        dest: Path,
     },
     WriteInput {
         how: WriteHow,

@@ -65,7 +65,7 @@ given_few bytes given left (Some rest) e taken =
     let sizes : length bytes ≡ length given + length rest = ap length whole ∙ length-append given rest in
     omega (arith, sizes)
 
-left_are : (given : List ℕ) (left left_now : streams.Told) → left ≡ before given left_now → IsAtEnd left_now → IfSome left (λ b. b ≡ given)
+pub left_are : (given : List ℕ) (left left_now : streams.Told) → left ≡ before given left_now → IsAtEnd left_now → IfSome left (λ b. b ≡ given)
 left_are given None left_now taken ended = tt
 left_are given (Some bytes) left_now taken ended = all_given bytes given (Some bytes) left_now refl taken ended
 

@@ -256,7 +256,7 @@ module _ (X : List ℕ → List ℕ) (N : List ℕ → ℕ) (tree new : Mfs) (so
 -- ---- from what some blocks may be lost of to what holds all of them
 
 module _ (X : List ℕ → List ℕ) (N : List ℕ → ℕ) where
-  named-stands : (a b : Told) (p : Profile) (es fs : Entries) → TellsHeld a (blocks X N p (Dir es)) → NamesAfter X N a b (blocks X N p (Dir es)) p fs → TellsAs X N b (Stands p fs)
+  pub named-stands : (a b : Told) (p : Profile) (es fs : Entries) → TellsHeld a (blocks X N p (Dir es)) → NamesAfter X N a b (blocks X N p (Dir es)) p fs → TellsAs X N b (Stands p fs)
   named-stands a None p es fs held named = absurd named.root.after
   named-stands a (Some t) p es fs held named = record {
     profile = named.root.plan.profile;
@@ -266,7 +266,7 @@ module _ (X : List ℕ → List ℕ) (N : List ℕ → ℕ) where
     blocks_held = tells-after a (Some t) (blocks X N p (Dir es)) (blocks X N p (Dir fs)) held named.root.after;
   }
 
-  stands-blocks : (told : Told) (p : Profile) (es : Entries) → TellsAs X N told (Stands p es) → TellsHeld told (blocks X N p (Dir es))
+  pub stands-blocks : (told : Told) (p : Profile) (es : Entries) → TellsAs X N told (Stands p es) → TellsHeld told (blocks X N p (Dir es))
   stands-blocks None p es stands = absurd stands
   stands-blocks (Some t) p es stands = stands.blocks_held
 
@@ -300,6 +300,7 @@ module _ (X : List ℕ → List ℕ) (N : List ℕ → ℕ) where
               (not-opened X N world.standing (adopt_reply X N world.held source dest) f why m.told is (opens world.standing finds.stands quiet2.store.faults) (stands-same X N a.told m.told world.standing told finds.stands));
           lost = λ p es rows held bytes named tells heights input quiet2. over p es held bytes
               (opening-over X N a.told m.told p es (blocks X N p (Dir es)) (adopt_reply X N held source dest p es) f why is (lost p es named.names quiet2.store.faults) (names-same X N a.told m.told p es told named));
+          unprinted = λ world after. absurd cc;
           prefix = λ world finds input room. nothing-printed (reply X N (Adopt source dest) world).ends h h refl;
           prints = quiet.prints h h refl;
           kinds = plain.ends;
@@ -375,6 +376,7 @@ module _ (X : List ℕ → List ℕ) (N : List ℕ → ℕ) where
           record {
             answers = λ world finds input quiet2. answers-opened (Err why) g world.standing world.held (outside_of world) finds.stands finds.held quiet2.store;
             lost = λ p es rows held bytes named tells heights input quiet2. more-over (Err why) g p es held bytes (over-opened (Err why) g p es held named tells quiet2.store);
+            unprinted = λ world after. absurd cc;
             prefix = λ world finds input room. nothing-printed (reply X N (Adopt source dest) world).ends h h refl;
             prints = quiet.prints h h refl;
             kinds = plain.ends;
@@ -401,6 +403,7 @@ module _ (X : List ℕ → List ℕ) (N : List ℕ → ℕ) where
       graft-done g = record {
         answers = λ world finds input quiet2. answers-opened (Ok tt) g world.standing world.held (outside_of world) finds.stands finds.held quiet2.store;
         lost = λ p es rows held bytes named tells heights input quiet2. more-over (Ok tt) g p es held bytes (over-opened (Ok tt) g p es held named tells quiet2.store);
+        unprinted = λ world after. absurd cc;
         prefix = λ world finds input room. nothing-printed (reply X N (Adopt source dest) world).ends h h refl;
         prints = ([], tt, after-nothing h);
         kinds = tt;

@@ -397,6 +397,7 @@ module _ (X : List ℕ → List ℕ) (N : List ℕ → ℕ) (offset count : ℕ)
           (subst (λ t. tree.AnswersOr (IsLossOf t needs) (λ bytes n. SendsAll h h2 bytes n) path.names (range_at offset count path.names es) r) told
           (lost p es (rows (length (to_read (plain_bytes_at path.names es)))) at (height-of p rows (plain_bytes_at path.names es) heights) (back stood) (not-sink w w2 X (IsBadRead X N m.told found.root.cid) m b r cause quiet.written.output)))
           (prefix p es at (room stood)) (names-same X N a.told b.told p es same named);
+      unprinted = λ world after. absurd cc;
       prefix = λ world finds input had. printed world.standing finds.names had.faults;
       prints = sent-prints (λ text. ⊤) h h2 sends.appends.bytes tt sends.appends.appended done kind;
       kinds = sent-kinds done kind;

@@ -245,6 +245,7 @@ module _ (X : List ℕ → List ℕ) (N : List ℕ → ℕ) (a b : Seen) (l m : 
       record {
         answers = λ world finds input calm. answered world finds.stands (k.roots world.held world.input finds.held (input.0 refl).0 (input.0 refl).1 calm.store);
         lost = λ p es rows held outside named tells heights input calm. over p es held outside (names-kept X N a.told b.told p es k.good head named) (k.roots held outside.input tells (input.0 refl).0 (input.0 refl).1 calm.store);
+        unprinted = λ world after. absurd cc;
         prefix = λ world finds input room. nothing-printed (reply X N Import world).ends h h refl;
         prints = quiet.prints h h (else-same false h);
         kinds = may-end Import why k.kinds;
@@ -285,6 +286,7 @@ module _ (X : List ℕ → List ℕ) (N : List ℕ → ℕ) (a b : Seen) (l m : 
     printed is counts = record {
       answers = λ world finds input calm. answered world finds.stands (k.roots world.held world.input finds.held (input.0 refl).0 (input.0 refl).1 calm.store);
       lost = λ p es rows held outside named tells heights input calm. over p es held outside (names-kept X N a.told b.told p es k.good head-same named) (k.roots held outside.input tells (input.0 refl).0 (input.0 refl).1 calm.store);
+      unprinted = λ world after. absurd cc;
       prefix = λ world finds input room. subst (λ e. PrintsPart e h h2) (ends-so world finds.held input.0 room) (whole-printed text h h2 is);
       prints = (text, tt, is);
       kinds = tt;
@@ -314,6 +316,7 @@ module _ (X : List ℕ → List ℕ) (N : List ℕ → ℕ) (a b : Seen) (l m : 
     cut c = record {
       answers = λ world finds input calm. absurd (not-rose w v (c.counts.rose refl) calm.written.output);
       lost = λ p es rows held outside named tells heights input calm. absurd (not-rose w v (c.counts.rose refl) calm.written.output);
+      unprinted = λ world after. absurd cc;
       prefix = λ world finds input room. subst (λ e. PrintsPart e h h2) (ends-so world finds.held input.0 room) c.printed;
       prints = (text, tt, c.printed);
       kinds = refl;

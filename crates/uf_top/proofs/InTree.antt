@@ -1,5 +1,5 @@
 -- From calls on the tree to replies.
-use Rattle.std.proofs.Common.{◌≡◌, ℕ, List, [], ◌∷◌, refl, sym, ap, subst, ◌∙◌, inl, inr, Option, Some, None, Result, Ok, Err}
+use Rattle.std.proofs.Common.{◌≡◌, ℕ, List, [], ◌∷◌, false, refl, sym, ap, subst, ◌∙◌, inl, inr, Option, Some, None, Result, Ok, Err}
 use Rattle.std.specs.Prelude.{IfOk, IfSome}
 use Rattle.uf_mfs.specs.Answers as tree
 use Rattle.uf_mfs.specs.Moving.{Gives}
@@ -173,10 +173,10 @@ init-ready told p mfs.Sink w is h = absurd is
 init-ready told p (mfs.Store f) w is h = subst (λ w. IsReady {A = List ℕ} told (Init p) (Err w)) (sym is) tt
 
 -- the Head stays where a fault refuses
-pub stays-same : (r : Result (List ℕ) Refusal) (a b : Told) → head_in b ≡ head_in a → HeadStays r a b
+pub stays-same : (r : Result (List ℕ) Refusal) (a b : Told) → head_in b ≡ head_in a → HeadStays r false a b
 stays-same (Ok []) a b h = tt
 stays-same (Ok (x ∷ text)) a b h = h
 stays-same (Err why) a b h = h
 
-pub stays-nothing : (text : List ℕ) (a b : Told) → text ≡ [] → HeadStays (Ok text) a b
-stays-nothing text a b nothing = subst (λ text. HeadStays (Ok text) a b) (sym nothing) tt
+pub stays-nothing : (text : List ℕ) (a b : Told) → text ≡ [] → HeadStays (Ok text) false a b
+stays-nothing text a b nothing = subst (λ text. HeadStays (Ok text) false a b) (sym nothing) tt

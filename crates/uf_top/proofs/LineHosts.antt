@@ -9,7 +9,7 @@ use Rattle.uf_path.specs.declared.path.Path.{Path}
 use Rattle.uf_plain.specs.declared.file.WriteHow.{WriteHow}
 use Rattle.uf_reply.specs.Batches.{asked_in_batch, is_for_batch, line_asks, line_in}
 use Rattle.uf_reply.specs.Cids.{cid_reads}
-use Rattle.uf_reply.specs.Commands.{add_asked, adopt_asked, asked, at_path, below_asked, both_paths, cat_asked, from_to, of_command, read_asked, write_asked, writes_host}
+use Rattle.uf_reply.specs.Commands.{add_asked, add_to_asked, adopt_asked, asked, at_path, below_asked, both_paths, cat_asked, from_to, of_command, read_asked, write_asked, writes_host}
 use Rattle.uf_reply.specs.Statuses.{no_memory}
 use Rattle.uf_reply.specs.declared.types.Ask.{Ask}
 use Rattle.uf_reply.specs.declared.types.Command.{Command}
@@ -29,10 +29,15 @@ at-leaves : (ask : Ask) (r : Result Path PathFault) → LeavesHost (at_path ask 
 at-leaves ask (Ok path) = refl
 at-leaves ask (Err why) = refl
 
+to-leaves : (recursive : Bool) (host : Option (List ℕ)) (r : Result Path PathFault) → LeavesHost (add_to_asked recursive host r)
+to-leaves recursive host (Err why) = refl
+to-leaves recursive None (Ok dest) = refl
+to-leaves recursive (Some path) (Ok dest) = refl
+
 add-leaves : (recursive only_hash : Bool) (to host : Option (List ℕ)) → LeavesHost (add_asked recursive only_hash to host)
 add-leaves recursive only_hash None None = refl
 add-leaves recursive only_hash None (Some path) = refl
-add-leaves recursive only_hash (Some dest) host = refl
+add-leaves recursive only_hash (Some dest) host = to-leaves recursive host (path_reads dest)
 
 write-leaves : (how : WriteHow) (hex : Option (List ℕ)) (r : Result Path PathFault) → LeavesHost (write_asked how hex r)
 write-leaves how None (Ok path) = refl

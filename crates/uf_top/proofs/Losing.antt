@@ -37,13 +37,13 @@ use Rattle.uf_top.specs.Naming.{NamesAfter, StaysNamed}
 -- ---- what a commit leaves of what is held
 
 -- it holds what was held before
-commits-agrees : (m b : Told) (text : List ℕ) (l : List Held) → Commits text m b → Agrees b l → Agrees m l
+pub commits-agrees : (m b : Told) (text : List ℕ) (l : List Held) → Commits text m b → Agrees b l → Agrees m l
 commits-agrees m b text l (Idle head same) h = subst (λ u. Agrees u l) same h
 commits-agrees None b text l (Written head same) h = subst (λ u. Agrees u l) same h
 commits-agrees (Some t) b text l (Written head same) h = subst (λ u. Agrees u l) same h
 
 -- so does one that is refused
-leaves-agrees : (m b : Told) (l : List Held) → LeavesHead m b → Agrees b l → Agrees m l
+pub leaves-agrees : (m b : Told) (l : List Held) → LeavesHead m b → Agrees b l → Agrees m l
 leaves-agrees m b l (Same same) h = subst (λ u. Agrees u l) same h
 leaves-agrees None b l (OnlySynced same) h = subst (λ u. Agrees u l) same h
 leaves-agrees (Some t) b l (OnlySynced same) h = subst (λ u. Agrees u l) same h
@@ -164,7 +164,7 @@ module _ (X : List ℕ → List ℕ) (N : List ℕ → ℕ) where
 
     -- ---- an edited tree is committed
 
-    became : (m : Told) (text : List ℕ) (new : Mfs) (next : Entries) → Commits text m b → text ≡ head_text new.profile new.root.cid → StandsAfter X N a m (blocks X N p (Dir es)) new p next
+    pub became : (m : Told) (text : List ℕ) (new : Mfs) (next : Entries) → Commits text m b → text ≡ head_text new.profile new.root.cid → StandsAfter X N a m (blocks X N p (Dir es)) new p next
         → NamesAfter X N a b (blocks X N p (Dir es)) p next
     became m text new next commits is h =
         let old = blocks X N p (Dir es) in

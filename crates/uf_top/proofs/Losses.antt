@@ -1,6 +1,6 @@
 -- How a command ends over a tree of whose blocks some may be lost.
-use Rattle.std.proofs.Common.{◌≡◌, ◌⊎◌, ℕ, ◌+◌, ◌≤◌, List, arith, refl, ap, subst, ◌∙◌, inl, inr, Result, Ok, Err}
-use Rattle.std.specs.Prelude.{IfErr, IfSome}
+use Rattle.std.proofs.Common.{◌≡◌, ◌⊎◌, ℕ, ◌+◌, ◌≤◌, List, true, arith, refl, ap, subst, ◌∙◌, inl, inr, Result, Ok, Err}
+use Rattle.std.specs.Prelude.{IfSome}
 use Rattle.uf_cid.specs.Blocks.{Held, Lookup}
 use Rattle.uf_mfs.specs.Reading.{AreHeights}
 use Rattle.uf_mfs.specs.Standing.{head_in}
@@ -9,7 +9,7 @@ use Rattle.uf_store.specs.declared.store.StoreFault.TheVariants.{Memory}
 use Rattle.uf_tree.specs.Tree.{Dir, Entries}
 use Rattle.uf_tree.specs.TreePlan.{blocks}
 use Rattle.uf_tree.specs.declared.profile.Profile.{Profile}
-use Rattle.uf_reply.specs.Commands.{HasInput}
+use Rattle.uf_reply.specs.Commands.{HasInput, prints_after}
 use Rattle.uf_reply.specs.Lines.{line_of, said}
 use Rattle.uf_top.specs.Reply.{Outside, Reply, in_world, reply_to}
 use Rattle.uf_reply.specs.Statuses.{ended, no_memory, status_of}
@@ -19,12 +19,13 @@ use Rattle.uf_reply.specs.declared.types.Refusal.{Refusal}
 use Rattle.uf_reply.specs.declared.types.Refusal.TheVariants as refusal
 use Rattle.uf_top.specs.Around.{AllWritten, Around, HasOutside, MetNone}
 use Rattle.uf_top.specs.Bounds.{words_touch}
-use Rattle.uf_top.specs.Endings.{TellsEnd}
+use Rattle.uf_top.specs.Causes.{KeepsHead}
+use Rattle.uf_top.specs.Endings.{TellsEnd, has_details}
 use Rattle.uf_top.specs.Losing.{DoesOver, EndsOver, words_need}
 use Rattle.uf_top.specs.Naming.{NamesAfter, StaysNamed, TellsBlocks}
 use Rattle.uf_top.specs.Working.{Serves}
 use Rattle.uf_top.proofs.Losing.{names-kept, names-same}
-use Rattle.uf_top.proofs.Telling.{err-ends, ok-ends, printed-all}
+use Rattle.uf_top.proofs.Telling.{detailed-kept, err-ends, ok-ends, printed-all}
 
 module _ (Says : List ℕ → Type 0) (given : Status) (X : List ℕ → List ℕ) (N : List ℕ → ℕ) (a b : Around) (p : Profile) (es : Entries) where
   abbrev StillNamed : Type 0
@@ -47,9 +48,9 @@ module _ (Says : List ℕ → Type 0) (given : Status) (X : List ℕ → List �
 
   ends-over : (asked : Result Command Refusal) (needs : List Held) (reply : Reply) (done : Result (Unit {0}) Refusal) → MetNone asked given → TellsEnd Says done given
       → (MetNone asked (ended done) → DoesOver X N a.store.told b.store.told p es needs reply done a.held b.held)
-      → ((why : Refusal) → done ≡ Err why → StillNamed) → EndsOver X N a.store.told b.store.told p es needs Says reply given a.held b.held
+      → ((why : Refusal) → done ≡ Err why → has_details (status_of why) ≡ true → StillNamed) → EndsOver X N a.store.told b.store.told p es needs Says reply given a.held b.held
   ends-over asked needs reply (Ok done) none t over stays = ok-over needs reply done t (over (λ generated e. cc))
-  ends-over asked needs reply (Err why) none (inr told) over stays = inl (record { fault = Memory; loss = tt; status_is = told.1; says = told.2; stands = stays why refl })
+  ends-over asked needs reply (Err why) none (inr told) over stays = inl (record { fault = Memory; loss = tt; status_is = told.1; says = told.2; stands = stays why refl told.0 })
   ends-over asked needs reply (Err why) none (inl told) over stays = err-over needs reply why told (over (λ generated e. none generated (told.0 ∙ e)))
 
   over-of : (asked : Result Command Refusal) (done : Result (Unit {0}) Refusal) → Serves X N asked done a b → (rows : ℕ → ℕ) (held : Lookup) (outside : Outside) → StaysNamed X N a.store.told b.store.told p es → TellsBlocks a.store.told held → AreHeights p rows
@@ -64,10 +65,10 @@ module _ (Says : List ℕ → Type 0) (given : Status) (X : List ℕ → List �
       by (inl is) = inr (record { ends = (is, ap (λ (x : Around). x.held) h.same); stands = now })
       by (inr is) = inl (record { fault = Memory; ends_are = is; loss = tt; stands = now })
 
-  still-of : (asked : Result Command Refusal) (done : Result (Unit {0}) Refusal) → Serves X N asked done a b → StaysNamed X N a.store.told b.store.told p es → (why : Refusal) → done ≡ Err why → StillNamed
-  still-of (Err asked) done h named why is = names-same X N a.store.told b.store.told p es (ap (λ (x : Around). x.store.told) h.same) named
-  still-of (Ok command) done h named why is =
-      names-kept X N a.store.told b.store.told p es h.leaves.good (subst (λ d. IfErr d (λ why. head_in b.store.told ≡ head_in a.store.told)) is h.leaves.head) named
+  still-of : (asked : Result Command Refusal) (done : Result (Unit {0}) Refusal) → Serves X N asked done a b → StaysNamed X N a.store.told b.store.told p es → (why : Refusal) → done ≡ Err why → has_details (status_of why) ≡ true → StillNamed
+  still-of (Err asked) done h named why is detailed = names-same X N a.store.told b.store.told p es (ap (λ (x : Around). x.store.told) h.same) named
+  still-of (Ok command) done h named why is detailed =
+      names-kept X N a.store.told b.store.told p es h.leaves.good (detailed-kept why (prints_after command) a.store.told b.store.told detailed (subst (λ d. KeepsHead d (prints_after command) a.store.told b.store.told) is h.leaves.head)) named
 
   pub lost-told : (asked : Result Command Refusal) (done : Result (Unit {0}) Refusal) → Serves X N asked done a b → TellsEnd Says done given
       → (rows : ℕ → ℕ) (held : Lookup) (outside : Outside) → StaysNamed X N a.store.told b.store.told p es → TellsBlocks a.store.told held → AreHeights p rows → HasOutside asked outside a b → Calm a.store b.store → AllWritten asked a.writes b.writes a.host.writes b.host.writes → MetNone asked given

@@ -111,7 +111,7 @@ module _ (X : List ℕ → List ℕ) (N : List ℕ → ℕ) where
           touched = (counts-then up works.touched).risen;
           leaves = record {
             good = subst (λ t. KeepsGood X t b.told) told works.good;
-            head = subst (λ t. HeadStays r t b.told) told works.head;
+            head = subst (λ t. HeadStays r false t b.told) told works.head;
             writes = subst (λ t. WritesAs X (ask_writes ask) (is_ok r) t b.told) told works.writes;
             idle = λ p es bytes names given same.
                 let at = lost p es names (stood-front a.faults m.faults b.faults calm.faults rises.faults given.1) in

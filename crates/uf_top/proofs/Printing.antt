@@ -1,6 +1,6 @@
 -- From the text of a command that is made before anything is printed to the command that is done.
 use Rattle.std.proofs.Common.{◌≡◌, ◌≢◌, ◌⊎◌, ℕ, ◌<◌, ◌≤◌, ◌+◌, List, [], ◌∷◌, ◌++◌, length, take, true, false, arith, refl, sym, ap, subst, ◌∙◌, inl, inr, append-nil, Some, None, Bool, Result, Ok, Err}
-use Rattle.std.specs.Prelude.{◌&&◌, not, IfOk, ⊤}
+use Rattle.std.specs.Prelude.{◌&&◌, not, IfErr, IfOk, ⊤}
 use Rattle.uf_cid.specs.Blocks.{Held, Lookup}
 use Rattle.uf_cid.specs.declared.cid.Cid.{Cid}
 use Rattle.uf_edge.specs.Counts.{Counts, Stood}
@@ -26,14 +26,14 @@ use Rattle.uf_reply.specs.Statuses.{ended, no_memory, status_of}
 use Rattle.uf_reply.specs.declared.status.Status.{Status}
 use Rattle.uf_reply.specs.declared.status.Status.TheVariants as status
 use Rattle.uf_reply.specs.declared.types.Command.{Command}
-use Rattle.uf_reply.specs.declared.types.Command.TheVariants.{Init, Add, AddFrom, WriteInput, At, Read, Cat, Get, Export, Import, Same, Adopt, Gen}
+use Rattle.uf_reply.specs.declared.types.Command.TheVariants.{Init, Add, AddFrom, WriteInput, At, Read, Cat, Get, Export, Import, Same, Adopt, Gen, AddTo, AddFromTo}
 use Rattle.uf_reply.specs.declared.types.HostRule.{HostRule}
 use Rattle.uf_reply.specs.declared.types.Refusal.{Refusal}
 use Rattle.uf_reply.specs.declared.types.Refusal.TheVariants as refusal
 use Rattle.uf_store.specs.declared.store.StoreFault.TheVariants as fault
-use Rattle.uf_top.specs.Answering.{Answers, DoesAnswer}
+use Rattle.uf_top.specs.Answering.{Answers, DoesAnswer, LeavesNext}
 use Rattle.uf_top.specs.Around.{Around, CountsCanRise, HasOutside, HostSide, RisesFor, StaysQuiet, TakesHost, UsesHost, around}
-use Rattle.uf_top.specs.Causes.{HeadStays, is_read, is_write}
+use Rattle.uf_top.specs.Causes.{HeadStays, KeepsHead, is_read, is_write}
 use Rattle.uf_top.specs.Endings.{AddsFor, EndsBy, FindsAll, IsCut, IsTextOf, PrintsAt, PrintsElse, PrintsPart, Prints, RuleOf}
 use Rattle.uf_top.specs.Getting.{GetsFor}
 use Rattle.uf_top.specs.Hosted.{IsHostedText}
@@ -57,6 +57,8 @@ no-write Import h = cc
 no-write (Same cid) h = cc
 no-write (Adopt source dest) h = cc
 no-write (Gen n seed) h = cc
+no-write (AddTo dest) h = cc
+no-write (AddFromTo recursive path dest) h = cc
 no-write (AddFrom recursive only_hash path) h = cc
 
 -- a command that waits with its output, and reads the tree of the Head alone
@@ -69,6 +71,8 @@ pub standing-of : (command : Command) → ((offset count : ℕ) (path : Path) �
     → ((source : DagPath) (dest : Path) → command ≡ Adopt source dest → ⊥) → ((n seed : ℕ) → command ≡ Gen n seed → ⊥) → IsStanding command
 standing-of (Init p) other cat get export import compare adopt generate = record { waits = refl; alone = refl }
 standing-of (Add only_hash) other cat get export import compare adopt generate = record { waits = refl; alone = refl }
+standing-of (AddTo dest) other cat get export import compare adopt generate = record { waits = refl; alone = refl }
+standing-of (AddFromTo recursive path dest) other cat get export import compare adopt generate = record { waits = refl; alone = refl }
 standing-of (AddFrom recursive only_hash path) other cat get export import compare adopt generate = record { waits = refl; alone = refl }
 standing-of (WriteInput how path) other cat get export import compare adopt generate = record { waits = refl; alone = refl }
 standing-of (At ask path) other cat get export import compare adopt generate = record { waits = refl; alone = refl }
@@ -85,6 +89,8 @@ standing-of (Gen n seed) other cat get export import compare adopt generate = ab
 alone-needs : (command : Command) → commands.reads_tree_alone command ≡ true → needs_standing command ≡ true
 alone-needs (Init p) h = refl
 alone-needs (Add only_hash) h = refl
+alone-needs (AddTo dest) h = refl
+alone-needs (AddFromTo recursive path dest) h = refl
 alone-needs (AddFrom recursive only_hash path) h = refl
 alone-needs (WriteInput how path) h = refl
 alone-needs (At ask path) h = refl
@@ -101,6 +107,8 @@ alone-needs (Gen n seed) h = absurd cc
 alone-reads : (command : Command) → commands.reads_tree_alone command ≡ true → writes_host command ≡ false
 alone-reads (Init p) h = refl
 alone-reads (Add only_hash) h = refl
+alone-reads (AddTo dest) h = refl
+alone-reads (AddFromTo recursive path dest) h = refl
 alone-reads (AddFrom recursive only_hash path) h = refl
 alone-reads (WriteInput how path) h = refl
 alone-reads (At ask path) h = refl
@@ -116,6 +124,8 @@ alone-reads (Gen n seed) h = absurd cc
 alone-stays : (command : Command) → commands.reads_tree_alone command ≡ true → (world : World) → host_after (Ok command) world ≡ world.host
 alone-stays (Init p) h world = refl
 alone-stays (Add only_hash) h world = refl
+alone-stays (AddTo dest) h world = refl
+alone-stays (AddFromTo recursive path dest) h world = refl
 alone-stays (AddFrom recursive only_hash path) h world = refl
 alone-stays (WriteInput how path) h world = refl
 alone-stays (At ask path) h world = refl
@@ -132,6 +142,8 @@ alone-stays (Gen n seed) h world = absurd cc
 alone-gets : (command : Command) → commands.reads_tree_alone command ≡ true → (given : Status) (told : Told) (host now : HostTold) → GetsFor (Ok command) given told host now
 alone-gets (Init p) h given told host now = tt
 alone-gets (Add only_hash) h given told host now = tt
+alone-gets (AddTo dest) h given told host now = tt
+alone-gets (AddFromTo recursive path dest) h given told host now = tt
 alone-gets (AddFrom recursive only_hash path) h given told host now = tt
 alone-gets (WriteInput how path) h given told host now = tt
 alone-gets (At ask path) h given told host now = tt
@@ -234,9 +246,18 @@ calm-of a b room calm = record {
   clashes = (let e = calm.clashes in let r = room.clashes in omega (arith, e, r));
 }
 
-some-stays : (text : List ℕ) (a b : Told) → (text ≢ []) → HeadStays (Ok text) a b → head_in b ≡ head_in a
-some-stays [] a b some stays = absurd (some refl)
-some-stays (x ∷ text) a b some stays = stays
+-- the Head stays where it does so whatever the command
+pub keeps-head : (done : Result (Unit {0}) Refusal) (after : Bool) (a b : Told) → IfErr done (λ why. head_in b ≡ head_in a) → KeepsHead done after a b
+keeps-head (Ok done) true a b h = tt
+keeps-head (Ok done) false a b h = tt
+keeps-head (Err why) true a b h = λ other. h
+keeps-head (Err why) false a b h = h
+
+-- so it does where the output of a text failed that was made before the Head moved
+some-stays : (text : List ℕ) (after : Bool) (a b : Told) → (text ≢ []) → HeadStays (Ok text) after a b → KeepsHead (Err refusal.Write) after a b
+some-stays [] after a b some stays = absurd (some refl)
+some-stays (x ∷ text) true a b some stays = λ other. absurd (other refl)
+some-stays (x ∷ text) false a b some stays = stays
 
 module _ (X : List ℕ → List ℕ) (N : List ℕ → ℕ) where
   text-of : (command : Command) → commands.reads_tree_alone command ≡ true → (told : Told) (host : HostTold) (l m : streams.Told) (text : List ℕ) → AddsFor X told (Ok command) (Ok text) l m → IsHostedText X N told host command text → IsTextOf X N told host (Ok command) l text
@@ -246,6 +267,8 @@ module _ (X : List ℕ → List ℕ) (N : List ℕ → ℕ) where
   text-of (At ask path) alone told host l m text h rows = tt
   text-of (Read offset count path) alone told host l m text h rows = tt
   text-of (Cat path) alone told host l m text h rows = tt
+  text-of (AddTo dest) alone told host l m text h rows = h
+  text-of (AddFromTo recursive path dest) alone told host l m text h rows = rows
   text-of (AddFrom recursive only_hash path) alone told host l m text h rows = rows
   text-of (Get path host_path) alone told host l m text h rows = absurd cc
   text-of (Export cid) alone told host l m text h rows = tt
@@ -268,6 +291,8 @@ module _ (X : List ℕ → List ℕ) (N : List ℕ → ℕ) where
   rule-in (Same cid) told l m rule h adds = absurd cc
   rule-in (Adopt source dest) told l m rule h adds = inr (rule, refl)
   rule-in (Gen n seed) told l m rule h adds = (rule, refl)
+  rule-in (AddTo dest) told l m rule h adds = (rule, refl)
+  rule-in (AddFromTo recursive path dest) told l m rule h adds = inr (rule, refl)
   rule-in (AddFrom recursive only_hash path) told l m rule h adds = inr (rule, refl)
 
   long-in : (command : Command) (told : Told) (l m : streams.Told) → may_answer (family_of command) OfLongInput ≡ true → AddsFor X told (Ok command) (Err refusal.InputTooLong) l m
@@ -284,6 +309,8 @@ module _ (X : List ℕ → List ℕ) (N : List ℕ → ℕ) where
   long-in (Same cid) told l m h adds = absurd cc
   long-in (Adopt source dest) told l m h adds = absurd cc
   long-in (Gen n seed) told l m h adds = absurd cc
+  long-in (AddTo dest) told l m h adds = absurd cc
+  long-in (AddFromTo recursive path dest) told l m h adds = absurd cc
   long-in (AddFrom recursive only_hash path) told l m h adds = absurd cc
 
   no-path : (command : Command) → may_answer (family_of command) OfPath ≡ true → ⊥
@@ -299,11 +326,15 @@ module _ (X : List ℕ → List ℕ) (N : List ℕ → ℕ) where
   no-path (Same cid) h = cc
   no-path (Adopt source dest) h = cc
   no-path (Gen n seed) h = cc
+  no-path (AddTo dest) h = cc
+  no-path (AddFromTo recursive path dest) h = cc
   no-path (AddFrom recursive only_hash path) h = cc
 
   no-dag : (command : Command) → commands.reads_tree_alone command ≡ true → may_answer (family_of command) OfDag ≡ true → ⊥
   no-dag (Init p) needs h = cc
   no-dag (Add only_hash) needs h = cc
+  no-dag (AddTo dest) needs h = cc
+  no-dag (AddFromTo recursive path dest) needs h = cc
   no-dag (AddFrom recursive only_hash path) needs h = cc
   no-dag (WriteInput how path) needs h = cc
   no-dag (At ask path) needs h = cc
@@ -319,6 +350,8 @@ module _ (X : List ℕ → List ℕ) (N : List ℕ → ℕ) where
   no-car : (command : Command) → commands.reads_tree_alone command ≡ true → may_answer (family_of command) OfCar ≡ true → ⊥
   no-car (Init p) needs h = cc
   no-car (Add only_hash) needs h = cc
+  no-car (AddTo dest) needs h = cc
+  no-car (AddFromTo recursive path dest) needs h = cc
   no-car (AddFrom recursive only_hash path) needs h = cc
   no-car (WriteInput how path) needs h = cc
   no-car (At ask path) needs h = cc
@@ -334,6 +367,8 @@ module _ (X : List ℕ → List ℕ) (N : List ℕ → ℕ) where
   host-in : (command : Command) (told : Told) (l m : streams.Told) (rule : HostRule) → may_answer (family_of command) OfHost ≡ true → RuleOf (Ok command) (refusal.Host rule) told l m
   host-in (Init p) told l m rule h = absurd cc
   host-in (Add only_hash) told l m rule h = absurd cc
+  host-in (AddTo dest) told l m rule h = absurd cc
+  host-in (AddFromTo recursive path dest) told l m rule h = inl (rule, refl)
   host-in (AddFrom recursive only_hash path) told l m rule h = inl (rule, refl)
   host-in (WriteInput how path) told l m rule h = absurd cc
   host-in (At ask path) told l m rule h = absurd cc
@@ -425,6 +460,7 @@ module _ (X : List ℕ → List ℕ) (N : List ℕ → ℕ) where
         record {
           answers = λ world finds input calm. answered world (λ uses. (input.1 uses).0) (mk.answers world (stands-in a.told world.standing finds.stands) input calm.store);
           lost = λ p es rows held bytes named tells heights input calm. over p es (mk.lost p es rows held bytes named input calm.store);
+          unprinted = λ world after is. absurd (let e : is_done (status_of why) ≡ true = ap is_done is in let f = quiet.undone in cc);
           prefix = λ world finds input room. nothing-printed (reply X N command world).ends h h refl;
           prints = quiet.prints h h (else-same (commands.streams command) h);
           kinds = may-end command why mk.kinds;
@@ -440,7 +476,7 @@ module _ (X : List ℕ → List ℕ) (N : List ℕ → ℕ) where
           touched = mk.touched;
           leaves = record {
             good = mk.leaves.good;
-            head = mk.leaves.head;
+            head = keeps-head (Err why) (commands.prints_after command) a.told b.told mk.leaves.head;
             writes = subst (λ d. WritesAs X (command_writes command) d a.told b.told) (sym quiet.undone) mk.leaves.writes;
             idle = mk.leaves.idle;
           };
@@ -497,6 +533,7 @@ module _ (X : List ℕ → List ℕ) (N : List ℕ → ℕ) where
         printed-does is counts = record {
           answers = λ world finds input calm. answered world (λ uses. (input.1 uses).0) (mk.answers world (stands-in a.told world.standing finds.stands) input calm.store);
           lost = λ p es rows held bytes named tells heights input calm. over p es (mk.lost p es rows held bytes named input calm.store);
+          unprinted = λ world after is. absurd cc;
           prefix = λ world finds input room. subst (λ e. PrintsPart e h h2) (text-is world finds input room) (whole-printed text h h2 is);
           prints = (text, text-of command alone a.told side.told l m text mk.adds mk.rows, is);
           kinds = tt;
@@ -510,7 +547,7 @@ module _ (X : List ℕ → List ℕ) (N : List ℕ → ℕ) where
           whole = λ s needs stands calm. mk.whole s stands calm;
           touches = λ p es bytes rows named input heights calm. mk.touches p es bytes rows named input heights calm;
           touched = mk.touched;
-          leaves = record { good = mk.leaves.good; head = tt; writes = mk.leaves.writes; idle = mk.leaves.idle };
+          leaves = record { good = mk.leaves.good; head = keeps-head (Ok tt) (commands.prints_after command) a.told b.told tt; writes = mk.leaves.writes; idle = mk.leaves.idle };
         }
           where
             answered : (world : World) → (uses_host command ≡ true → side.told ≡ Some world.host) → Answers X N world.standing (reply X N command world) (Ok text) b.told → DoesAnswer X N command world (Ok tt) h h2 b.told side2.told
@@ -529,12 +566,17 @@ module _ (X : List ℕ → List ℕ) (N : List ℕ → ℕ) where
             over p es (inl x) = absurd (let e = x.ends_are in cc)
             over p es (inr x) = inr (record { ends = subst (λ e. EndsBy e (Ok tt) h h2) x.ends_are (refl, is); stands = x.stands })
 
+        left-next : (world : World) → Answers X N world.standing (reply X N command world) (Ok text) b.told → LeavesNext X N (reply X N command world) b.told
+        left-next world (inl x) = absurd (let e = x.ends_are in cc)
+        left-next world (inr x) = record { stands = x.stands; blocks = x.held }
+
         cut-does : IsCut text refusal.Write h h2 w v → Does X N command (Err refusal.Write) (around a l i h w t0 side) (around b m j h2 v t1 side2)
         cut-does c =
             let rose = c.counts.rose refl in
             record {
               answers = λ world finds input calm. absurd (let stood = calm.written.output in omega (arith, rose, stood));
               lost = λ p es rows held bytes named tells heights input calm. absurd (let stood = calm.written.output in omega (arith, rose, stood));
+              unprinted = λ world after is finds input calm. left-next world (mk.answers world (stands-in a.told world.standing finds.stands) input calm);
               prefix = λ world finds input room. subst (λ e. PrintsPart e h h2) (text-is world finds input room) c.printed;
               prints = (text, text-of command alone a.told side.told l m text mk.adds mk.rows, c.printed);
               kinds = refl;
@@ -548,7 +590,7 @@ module _ (X : List ℕ → List ℕ) (N : List ℕ → ℕ) where
               whole = λ s needs stands calm. (λ e. cc, λ e. cc);
               touches = λ p es bytes rows named input heights calm. mk.touches p es bytes rows named input heights calm;
               touched = λ blames. absurd blames;
-              leaves = record { good = mk.leaves.good; head = some-stays text a.told b.told c.some mk.leaves.head; writes = mk.leaves.writes; idle = mk.leaves.idle };
+              leaves = record { good = mk.leaves.good; head = some-stays text (commands.prints_after command) a.told b.told c.some mk.leaves.head; writes = mk.leaves.writes; idle = mk.leaves.idle };
             }
 
         -- or the output failed

@@ -116,7 +116,7 @@ module _ (X : List ℕ → List ℕ) (N : List ℕ → ℕ) (was is : Mfs) where
 
   module _ {Bad : Role → List ℕ → Type 0} {fault : Option StoreFault} {a b c : Seen} (first : OnlySaves X NoneIsBad None a b) (second : OnlySaves X Bad fault b c) (ok : (e : Entry) (t : Tree) → IsBuilt X N was.profile b.told t e → IsPlanOf X N was.profile e t) where
     -- what came of the put came of both
-    put_gives : (spot : Spot) (planned : Tree) (e : Entry) (es : Entries) (r : Result (Unit {0}) MfsFault) → IsBuilt X N was.profile b.told planned e
+    pub put_gives : (spot : Spot) (planned : Tree) (e : Entry) (es : Entries) (r : Result (Unit {0}) MfsFault) → IsBuilt X N was.profile b.told planned e
         → MovesTree X N b c (blocks X N was.profile planned) was is (spot_names spot) (λ p es. allowed X N p (put_at_spot spot planned es)) r → IsFolderOver X N was.profile a c [] was.root es
         → GivesOr (IsLossOf a.told (blocks X N was.profile (Dir es))) (λ fs done. StandsAfter X N a.told c.told (blocks X N was.profile (Dir es)) is was.profile fs) (allowed_move X N was.profile (placed_at spot planned es)) r
     put_gives spot planned e es r built moves over =

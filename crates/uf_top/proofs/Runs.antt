@@ -11,7 +11,7 @@ use Rattle.uf_top.specs.Endings.{TellsEnd}
 use Rattle.uf_top.specs.Running.{Runs}
 use Rattle.uf_top.specs.Working.{Serves}
 use Rattle.uf_top.proofs.Losses.{lost-told, touches-told}
-use Rattle.uf_top.proofs.Telling.{StatusShows, blamed-told, clashes-told, faults-told, gets-told, good-told, head-told, host-told, idle-told, is-refused, looks-told, prefix-told, prints-told, read-told, replies-told, says-plain, shows, synced-told, told-same, whole-told, write-told, writes-told}
+use Rattle.uf_top.proofs.Telling.{StatusShows, blamed-told, clashes-told, faults-told, gets-told, good-told, head-told, host-told, idle-told, is-refused, looks-told, prefix-told, prints-told, read-told, replies-told, says-plain, shows, synced-told, told-same, unprinted-told, whole-told, write-told, writes-told}
 
 module _ (Says : List ℕ → Type 0) (given : Status) (X : List ℕ → List ℕ) (N : List ℕ → ℕ) (a b : Around) where
   pub runs-told : (asked : Result Command Refusal) (done : Result (Unit {0}) Refusal) → IsOfWords asked → Serves X N asked done a b
@@ -19,6 +19,7 @@ module _ (Says : List ℕ → Type 0) (given : Status) (X : List ℕ → List �
   runs-told asked done of-words s sections t = record {
     replies = λ w finds outside quiet. replies-told Says given X N a b asked done s t w finds outside quiet.store quiet.written quiet.own;
     whole = λ standing needs stands calm. whole-told Says given X N a b asked done of-words s t standing needs stands calm;
+    unprinted = λ w after is finds outside calm. unprinted-told Says given X N a b asked done s t w after is finds outside calm;
     lost = λ p es rows held outside named tells heights has quiet.
         lost-told Says given X N a b p es asked done s t rows held outside named tells heights has quiet.store quiet.written quiet.own;
     looks = λ command is. looks-told Says given X N a b command done (subst (λ asked. Serves X N asked done a b) is s) t;
@@ -42,7 +43,7 @@ module _ (Says : List ℕ → Type 0) (given : Status) (X : List ℕ → List �
     synced = λ is. synced-told Says given X N a b asked done s t is;
     writes = writes-told Says given X N a b asked done s t;
     good = good-told Says given X N a b asked done s;
-    head = λ not-ok. head-told Says given X N a b asked done s t not-ok;
+    head = λ unmoved. head-told Says given X N a b asked done s t unmoved;
     told = λ is. told-same Says given X N a b asked done s is;
     idle = λ p es bytes names input faults is. idle-told Says given X N a b asked done s p es bytes names input faults is;
     host_told = λ is. host-told Says given X N a b asked done s is;

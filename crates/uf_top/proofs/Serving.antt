@@ -13,13 +13,13 @@ use Rattle.uf_store.specs.declared.store.StoreFault.TheVariants.{Memory}
 use Rattle.uf_store.proofs.Causes.{StaysCalm-refl, calm-rises}
 use Rattle.uf_store.proofs.Keeping.{KeepsGood-refl}
 use Rattle.uf_store.proofs.Writing.{SavesOnly-refl}
-use Rattle.uf_reply.specs.Commands.{IsAsked, IsOfWords, NoStore, OwnStore, command_writes, generates, own_store, reads_tree_alone, streams as flows, uses_host, writes_host}
+use Rattle.uf_reply.specs.Commands.{IsAsked, IsOfWords, NoStore, OwnStore, command_writes, generates, own_store, reads_tree_alone, streams as flows, uses_host, writes_host, prints_after}
 use Rattle.uf_reply.specs.Kinds.{IsOf, OfOwnClash, OfSections, family_of, may_end, refusal_kind, word_kinds}
 use Rattle.uf_top.specs.Reply.{reply}
 use Rattle.uf_reply.specs.Statuses.{no_memory}
 use Rattle.uf_reply.specs.declared.types.Ask.TheVariants.{Ls, Stat, Edit as Edits}
 use Rattle.uf_reply.specs.declared.types.Command.{Command}
-use Rattle.uf_reply.specs.declared.types.Command.TheVariants.{Init, Add, AddFrom, WriteInput, At, Read, Cat, Get, Export, Import, Same, Adopt, Gen}
+use Rattle.uf_reply.specs.declared.types.Command.TheVariants.{Init, Add, AddFrom, WriteInput, At, Read, Cat, Get, Export, Import, Same, Adopt, Gen, AddTo, AddFromTo}
 use Rattle.uf_reply.specs.declared.types.Refusal.{Refusal}
 use Rattle.uf_reply.specs.declared.types.Refusal.TheVariants as refusal
 use Rattle.uf_reply.specs.declared.status.Status.TheVariants as status
@@ -31,7 +31,7 @@ use Rattle.uf_top.specs.Shapes.{WritesAs}
 use Rattle.uf_top.specs.Working.{Does, Serves}
 use Rattle.uf_top.proofs.Gotten.{same-below}
 use Rattle.uf_top.proofs.Losing.{names-same}
-use Rattle.uf_top.proofs.Printing.{else-same, nothing-printed, rises-still}
+use Rattle.uf_top.proofs.Printing.{else-same, nothing-printed, rises-still, keeps-head}
 use Rattle.uf_top.proofs.Shows.{counts-still, no-touch}
 
 -- want of memory may come of each command, which has written nothing then
@@ -48,12 +48,16 @@ memory-kind Import = refl
 memory-kind (Same cid) = refl
 memory-kind (Adopt source dest) = refl
 memory-kind (Gen n seed) = refl
+memory-kind (AddTo dest) = refl
+memory-kind (AddFromTo recursive path dest) = refl
 memory-kind (AddFrom recursive only_hash path) = refl
 
 memory-writes : (X : List ℕ → List ℕ) (command : Command) (a : Told) → WritesAs X (command_writes command) false a a
 memory-writes X (Init p) a = record { between = a; saves = SavesOnly-refl X a; last = StaysSame refl }
 memory-writes X (Add true) a = refl
 memory-writes X (Add false) a = record { between = a; saves = SavesOnly-refl X a; last = StaysSame refl }
+memory-writes X (AddTo dest) a = record { between = a; saves = SavesOnly-refl X a; last = StaysSame refl }
+memory-writes X (AddFromTo recursive path dest) a = record { between = a; saves = SavesOnly-refl X a; last = StaysSame refl }
 memory-writes X (WriteInput how path) a = record { between = a; saves = SavesOnly-refl X a; last = StaysSame refl }
 memory-writes X (At (Ls long) path) a = refl
 memory-writes X (At Stat path) a = refl
@@ -77,6 +81,8 @@ same-left source path (Some t) told = inl refl
 nothing-gotten : (command : Command) (store : Told) (told : HostTold) → GetsFor (Ok command) status.Memory store told told
 nothing-gotten (Init p) store told = tt
 nothing-gotten (Add only_hash) store told = tt
+nothing-gotten (AddTo dest) store told = tt
+nothing-gotten (AddFromTo recursive path dest) store told = tt
 nothing-gotten (AddFrom recursive only_hash path) store told = tt
 nothing-gotten (WriteInput how path) store told = tt
 nothing-gotten (At ask path) store told = tt
@@ -117,6 +123,7 @@ module _ (X : List ℕ → List ℕ) (N : List ℕ → ℕ) (a : Around) where
     answers = λ world finds input calm. inl (record { ends_are = refl; stands = finds.stands });
     lost = λ p es rows held bytes named tells heights input calm.
         inl (record { fault = Memory; ends_are = refl; loss = tt; stands = names-same X N a.store.told a.store.told p es refl named });
+    unprinted = λ world after is. absurd cc;
     prefix = λ world finds input room. nothing-printed (reply X N command world).ends a.held a.held refl;
     prints = else-same (flows command) a.held;
     kinds = memory-kind command;
@@ -130,7 +137,7 @@ module _ (X : List ℕ → List ℕ) (N : List ℕ → ℕ) (a : Around) where
     whole = λ s needs stands calm. (λ e. cc, λ e. cc);
     touches = λ p es bytes rows named input heights calm. no-touch (command_touches X N rows bytes command p es) a.touches;
     touched = λ blames. absurd blames;
-    leaves = record { good = KeepsGood-refl X a.store.told; head = refl; writes = memory-writes X command a.store.told; idle = λ p es bytes stands calm same. refl };
+    leaves = record { good = KeepsGood-refl X a.store.told; head = keeps-head (Err no_memory) (prints_after command) a.store.told a.store.told refl; writes = memory-writes X command a.store.told; idle = λ p es bytes stands calm same. refl };
   }
 
   -- words that are refused
@@ -145,6 +152,8 @@ module _ (X : List ℕ → List ℕ) (N : List ℕ → ℕ) (a : Around) where
 may-section : (command : Command) → may_end (family_of command) OfSections ≡ true → own_store command ≡ NoStore → ⊥
 may-section (Init p) h none = cc
 may-section (Add only_hash) h none = cc
+may-section (AddTo dest) h none = cc
+may-section (AddFromTo recursive path dest) h none = cc
 may-section (AddFrom recursive only_hash path) h none = cc
 may-section (WriteInput how path) h none = cc
 may-section (At ask path) h none = cc
@@ -160,6 +169,8 @@ may-section (Gen n seed) h none = cc
 may-clash : (command : Command) → may_end (family_of command) OfOwnClash ≡ true → own_store command ≡ NoStore → ⊥
 may-clash (Init p) h none = cc
 may-clash (Add only_hash) h none = cc
+may-clash (AddTo dest) h none = cc
+may-clash (AddFromTo recursive path dest) h none = cc
 may-clash (AddFrom recursive only_hash path) h none = cc
 may-clash (WriteInput how path) h none = cc
 may-clash (At ask path) h none = cc
@@ -205,6 +216,8 @@ module _ (X : List ℕ → List ℕ) (left : streams.Told) (a b : Seen) where
 pub alone-spares : (command : Command) → reads_tree_alone command ≡ true → own_store command ≡ NoStore
 alone-spares (Init p) h = refl
 alone-spares (Add only_hash) h = refl
+alone-spares (AddTo dest) h = refl
+alone-spares (AddFromTo recursive path dest) h = refl
 alone-spares (AddFrom recursive only_hash path) h = refl
 alone-spares (WriteInput how path) h = refl
 alone-spares (At ask path) h = refl

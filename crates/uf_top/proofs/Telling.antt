@@ -18,8 +18,7 @@ use Rattle.uf_store.proofs.Keeping.{KeepsGood-same}
 use Rattle.uf_tree.specs.Standing.{Standing}
 use Rattle.uf_tree.specs.Tree.{Entries}
 use Rattle.uf_tree.specs.declared.profile.Profile.{Profile}
-use Rattle.uf_reply.specs.Commands.{HasInput, IsOfWords, command_writes, generates, is_idle, needs_standing, of_command, only_reads, own_store, reads_tree_alone, uses_host, writes_host}
-use Rattle.uf_reply.specs.Commands.{OwnStore, NoStore, OfCarSections, OfTree}
+use Rattle.uf_reply.specs.Commands.{HasInput, IsOfWords, command_writes, generates, is_idle, needs_standing, of_command, only_reads, own_store, reads_tree_alone, uses_host, writes_host, OwnStore, NoStore, OfCarSections, OfTree, prints_after}
 use Rattle.uf_reply.specs.Commands.{streams as flows}
 use Rattle.uf_reply.specs.Kinds.{AddsHost, AddsInput, GeneratesTree, IsOf, KeepsCar, MakesReady, OfBadBlock, OfClash, OfSections, OfMissing, OfPath, OfUsage, OfWrite, family_of, fault_behind, may_end, refusal_kind, word_kinds}
 use Rattle.uf_reply.specs.Lines.{bad_block_line, clash_line, line_of, missing_line, said}
@@ -29,14 +28,14 @@ use Rattle.uf_reply.specs.declared.status.Status.{Status}
 use Rattle.uf_reply.specs.declared.status.Status.TheVariants as status
 use Rattle.uf_reply.specs.declared.types.Ask.TheVariants.{Ls, Stat, Edit as Edits}
 use Rattle.uf_reply.specs.declared.types.Command.{Command}
-use Rattle.uf_reply.specs.declared.types.Command.TheVariants.{Init, Add, AddFrom, WriteInput, At, Read, Cat, Get, Export, Import, Same, Adopt, Gen}
+use Rattle.uf_reply.specs.declared.types.Command.TheVariants.{Init, Add, AddFrom, WriteInput, At, Read, Cat, Get, Export, Import, Same, Adopt, Gen, AddTo, AddFromTo}
 use Rattle.uf_reply.specs.declared.types.Refusal.{Refusal}
 use Rattle.uf_reply.specs.declared.types.Refusal.TheVariants as refusal
-use Rattle.uf_top.specs.Answering.{DoesAnswer}
+use Rattle.uf_top.specs.Answering.{DoesAnswer, LeavesNext}
 use Rattle.uf_top.specs.Around.{AllWritten, Around, CountsCanRise, HasOutside, HostSide, MetNone, RisesFor, RoseAt, TakesHost}
-use Rattle.uf_top.specs.Cars.{ByOwnStore, IsClashing, IsMissing, IsOwnClash, LacksSection}
-use Rattle.uf_top.specs.Causes.{IsBadIn, IsSynced, is_read, is_write}
-use Rattle.uf_top.specs.Endings.{EndsAs, EndsBy, FindsAll, FindsBy, IsNotReady, IsRefusedBy, IsRule, IsSyncedFor, IsTextOf, PrintsAll, PrintsAt, PrintsPart, SaysPlain, TellsEnd, TellsWhy, has_details}
+use Rattle.uf_top.specs.Cars.{ByOwnStore, IsClashing, IsMissing, IsOwnClash, LacksSection, TwoSections}
+use Rattle.uf_top.specs.Causes.{IsBadIn, IsSynced, is_read, is_write, KeepsHead}
+use Rattle.uf_top.specs.Endings.{EndsAs, EndsBy, FindsAll, FindsBy, IsNotReady, IsRefusedBy, IsRule, IsSyncedFor, IsTextOf, PrintsAll, PrintsAt, PrintsPart, SaysPlain, TellsEnd, TellsWhy, has_details, may_move}
 use Rattle.uf_top.specs.Getting.{GetsFor, LeavesAt}
 use Rattle.uf_top.specs.Naming.{FindsOver, FindsWorld, StandsIf}
 use Rattle.uf_top.specs.Shapes.{SyncsAfter, WritesAs, WritesFor, is_done}
@@ -61,6 +60,8 @@ no-path Import h = cc
 no-path (Same cid) h = cc
 no-path (Adopt source dest) h = cc
 no-path (Gen n seed) h = cc
+no-path (AddTo dest) h = cc
+no-path (AddFromTo recursive path dest) h = cc
 no-path (AddFrom recursive only_hash path) h = cc
 
 no-usage : (command : Command) → may_end (family_of command) OfUsage ≡ true → ⊥
@@ -76,6 +77,8 @@ no-usage Import h = cc
 no-usage (Same cid) h = cc
 no-usage (Adopt source dest) h = cc
 no-usage (Gen n seed) h = cc
+no-usage (AddTo dest) h = cc
+no-usage (AddFromTo recursive path dest) h = cc
 no-usage (AddFrom recursive only_hash path) h = cc
 
 -- a command that generates a tree meets no clash in the store
@@ -183,6 +186,8 @@ reading-rose false false is_write i j s t both counts used = counts.rose refl
 writing-uses : (command : Command) → writes_host command ≡ true → uses_host command ≡ true
 writing-uses (Init p) h = absurd cc
 writing-uses (Add only_hash) h = absurd cc
+writing-uses (AddTo dest) h = absurd cc
+writing-uses (AddFromTo recursive path dest) h = absurd cc
 writing-uses (AddFrom recursive only_hash path) h = absurd cc
 writing-uses (WriteInput how path) h = absurd cc
 writing-uses (At ask path) h = absurd cc
@@ -359,6 +364,11 @@ hosts-finds (Ok done) h = (λ e. cc, λ e. cc)
 hosts-finds (Err why) h = kind-finds why (of-none (may_end AddsHost) (refusal_kind why) OfMissing h refl) (of-none (may_end AddsHost) (refusal_kind why) OfBadBlock h refl) (of-none (may_end AddsHost) (refusal_kind why) OfSections h refl)
 
 -- ---- what goes to `errors`
+
+-- a refusal whose line has details is none of an output, so the Head stays
+pub detailed-kept : (why : Refusal) (after : Bool) (a b : Told) → has_details (status_of why) ≡ true → KeepsHead (Err why) after a b → head_in b ≡ head_in a
+detailed-kept why true a b detailed h = h (λ is. let e : has_details status.WriteFault ≡ true = subst (λ g. has_details g ≡ true) is detailed in cc)
+detailed-kept why false a b detailed h = h
 
 module _ (Says : List ℕ → Type 0) where
   why-plain : (why : Refusal) (given : Status) → TellsWhy Says why given → SaysPlain Says given
@@ -554,6 +564,8 @@ module _ (Says : List ℕ → Type 0) where
       detailed-gets : (command : Command) (store : Told) (host now : HostTold) (s : Status) → has_details s ≡ true → GetsFor (Ok command) s store host now → GetsFor (Ok command) status.Memory store host now
       detailed-gets (Init p) store host now s h gets = tt
       detailed-gets (Add only_hash) store host now s h gets = tt
+      detailed-gets (AddTo dest) store host now s h gets = tt
+      detailed-gets (AddFromTo recursive path dest) store host now s h gets = tt
       detailed-gets (AddFrom recursive only_hash path) store host now s h gets = tt
       detailed-gets (WriteInput how path) store host now s h gets = tt
       detailed-gets (At ask path) store host now s h gets = tt
@@ -621,10 +633,18 @@ module _ (Says : List ℕ → Type 0) where
       writes-told (Err asked) done s t = ap (λ (x : Around). x.store.told) s.same
       writes-told (Ok command) done s t = subst (λ d. WritesAs X (command_writes command) d a.store.told b.store.told) (sym (same-done done t)) s.leaves.writes
 
-      pub head-told : (asked : Result Command Refusal) (done : Result (Unit {0}) Refusal) → Serves X N asked done a b → TellsEnd Says done given → given ≢ status.Ok → head_in b.store.told ≡ head_in a.store.told
+      pub head-told : (asked : Result Command Refusal) (done : Result (Unit {0}) Refusal) → Serves X N asked done a b → TellsEnd Says done given → may_move asked given ≡ false → head_in b.store.told ≡ head_in a.store.told
       head-told (Err asked) done s t not = ap (λ (x : Around). head_in x.store.told) s.same
-      head-told (Ok command) (Ok done) s t not = absurd (not t.0)
-      head-told (Ok command) (Err why) s t not = s.leaves.head
+      head-told (Ok command) (Ok done) s t not = absurd (let e : may_move (Ok command) status.Ok ≡ false = subst (λ g. may_move (Ok command) g ≡ false) t.0 not in cc)
+      head-told (Ok command) (Err why) s t not = kept (prints_after command) refl s.leaves.head
+        where
+          cut : TellsWhy Says why given → status_of why ≡ status.WriteFault → prints_after command ≡ false
+          cut (inl t) is = subst (λ g. may_move (Ok command) g ≡ false) (t.0 ∙ is) not
+          cut (inr t) is = absurd (let e : has_details status.WriteFault ≡ true = subst (λ g. has_details g ≡ true) is t.0 in cc)
+
+          kept : (after : Bool) → prints_after command ≡ after → KeepsHead (Err why) after a.store.told b.store.told → head_in b.store.told ≡ head_in a.store.told
+          kept true e h = h (λ is. let f = cut t is in cc)
+          kept false e h = h
 
       was-ok : (done : Result (Unit {0}) Refusal) → TellsEnd Says done given → given ≡ status.Ok → is_done (ended done) ≡ true
       was-ok (Ok done) t is = refl
@@ -640,6 +660,8 @@ module _ (Says : List ℕ → Type 0) where
       synced-told (Ok (AddFrom recursive true path)) done s t is = tt
       synced-told (Ok (AddFrom recursive false path)) done s t is =
           synced-of X a.store.told b.store.told (subst (λ d. WritesAs X (command_writes (AddFrom recursive false path)) d a.store.told b.store.told) (was-ok done t is) s.leaves.writes)
+      synced-told (Ok (AddTo dest)) done s t is = tt
+      synced-told (Ok (AddFromTo recursive path dest)) done s t is = tt
       synced-told (Ok (WriteInput how path)) done s t is = tt
       synced-told (Ok (At ask path)) done s t is = tt
       synced-told (Ok (Read offset count path)) done s t is = tt
@@ -661,6 +683,8 @@ module _ (Says : List ℕ → Type 0) where
       told-same (Ok (Init p)) done s is = absurd cc
       told-same (Ok (Add true)) done s is = s.leaves.writes
       told-same (Ok (Add false)) done s is = absurd cc
+      told-same (Ok (AddTo dest)) done s is = absurd cc
+      told-same (Ok (AddFromTo recursive path dest)) done s is = absurd cc
       told-same (Ok (WriteInput how path)) done s is = absurd cc
       told-same (Ok (At (Ls long) path)) done s is = s.leaves.writes
       told-same (Ok (At Stat path)) done s is = s.leaves.writes
@@ -688,8 +712,8 @@ module _ (Says : List ℕ → Type 0) where
       replies-told (Ok command) done s t world finds input calm write none =
           by done (λ own. s.answers world finds input (record { store = calm; written = write; own = own })) t (stays done s)
         where
-          stays : (done : Result (Unit {0}) Refusal) → Does X N command done a b → (why : Refusal) → done ≡ Err why → StandsIf X N (needs_standing command) b.store.told world.standing
-          stays done h why is = still-stands X N a.store.told b.store.told (needs_standing command) world.standing h.leaves.good (subst (λ d. IfErr d (λ why. head_in b.store.told ≡ head_in a.store.told)) is h.leaves.head) finds.stands
+          stays : (done : Result (Unit {0}) Refusal) → Does X N command done a b → (why : Refusal) → done ≡ Err why → has_details (status_of why) ≡ true → StandsIf X N (needs_standing command) b.store.told world.standing
+          stays done h why is detailed = still-stands X N a.store.told b.store.told (needs_standing command) world.standing h.leaves.good (detailed-kept why (prints_after command) a.store.told b.store.told detailed (subst (λ d. KeepsHead d (prints_after command) a.store.told b.store.told) is h.leaves.head)) finds.stands
 
           ok-by : (done : Unit {0}) → DoesAnswer X N command world (Ok done) a.held b.held b.store.told b.host.told → TellsEnd Says (Ok done) given → EndsAs Says X N (Ok command) world given a.held b.held b.store.told b.host.told
           ok-by done (inl x) t = absurd (let e = x.ends_are in cc)
@@ -704,11 +728,11 @@ module _ (Says : List ℕ → Type 0) where
               let is = err-ends (reply X N command world).ends why a.held b.held x.0.ends in
               inr (record { status_is = t.0 ∙ ap ended is; says = subst (λ e. Says (said e)) is t.1; printed = printed-all (reply X N command world).ends (Err why) a.held b.held x.0.ends; stands = x.0.stands; blocks = x.0.blocks }, x.1)
 
-          by : (done : Result (Unit {0}) Refusal) → (MetNone (Ok command) (ended done) → DoesAnswer X N command world done a.held b.held b.store.told b.host.told) → TellsEnd Says done given → ((why : Refusal) → done ≡ Err why → StandsIf X N (needs_standing command) b.store.told world.standing)
+          by : (done : Result (Unit {0}) Refusal) → (MetNone (Ok command) (ended done) → DoesAnswer X N command world done a.held b.held b.store.told b.host.told) → TellsEnd Says done given → ((why : Refusal) → done ≡ Err why → has_details (status_of why) ≡ true → StandsIf X N (needs_standing command) b.store.told world.standing)
               → EndsAs Says X N (Ok command) world given a.held b.held b.store.told b.host.told
           by (Ok done) answers t stays = ok-by done (answers (λ generated e. cc)) t
           by (Err why) answers (inl told) stays = err-by why (answers (λ generated e. none generated (told.0 ∙ e))) told
-          by (Err why) answers (inr told) stays = inl (record { status_is = told.1; says = told.2; stands = stays why refl })
+          by (Err why) answers (inr told) stays = inl (record { status_is = told.1; says = told.2; stands = stays why refl told.0 })
       replies-told (Err asked) done s t world finds input calm write none = by s.refused
         where
           held-same : b.held ≡ a.held
@@ -724,6 +748,15 @@ module _ (Says : List ℕ → Type 0) where
               refused (inl told) = inr (record { status_is = told.0; says = told.1; printed = held-same; stands = stands; blocks = tells-none X N b.store.told world.standing stands }, tt)
               refused (inr told) = inl (record { status_is = told.1; says = told.2; stands = stands })
           by (inr is) = (let told = memory-told given (subst (λ d. TellsEnd Says d given) is t) in inl (record { status_is = told.0; says = told.1; stands = stands }))
+
+      -- where only the output failed that follows the commit, what the reply says stands
+      pub unprinted-told : (asked : Result Command Refusal) (done : Result (Unit {0}) Refusal) → Serves X N asked done a b → TellsEnd Says done given
+          → (world : World) → of_command prints_after false asked ≡ true → given ≡ status.WriteFault → FindsWorld X N asked a.store.told world → HasOutside asked (outside_of world) a b → Calm a.store b.store
+          → LeavesNext X N (reply_to X N asked world) b.store.told
+      unprinted-told (Err asked) done s t world after is finds input calm = absurd cc
+      unprinted-told (Ok command) (Ok done) s t world after is finds input calm = absurd (let e : status.Ok ≡ status.WriteFault = sym t.0 ∙ is in cc)
+      unprinted-told (Ok command) (Err why) s (inl t) world after is finds input calm = s.unprinted world after (sym t.0 ∙ is) finds input calm
+      unprinted-told (Ok command) (Err why) s (inr t) world after is finds input calm = absurd (let e : status.Memory ≡ status.WriteFault = sym t.1 ∙ is in cc)
 
       -- nothing but the beginning of the reply's text is printed
       pub prefix-told : (asked : Result Command Refusal) (done : Result (Unit {0}) Refusal) → Serves X N asked done a b
@@ -755,4 +788,6 @@ module _ (Says : List ℕ → Type 0) where
       looks-told (Same cid) done h t = tt
       looks-told (Adopt source dest) done h t = tt
       looks-told (Gen n seed) done h t = ended-told FindsAll done t (trees-find done h.kinds) (λ e. cc, λ e. cc)
+      looks-told (AddTo dest) done h t = tt
+      looks-told (AddFromTo recursive path dest) done h t = tt
       looks-told (AddFrom recursive only_hash path) done h t = ended-told FindsAll done t (hosts-finds done h.kinds) (λ e. cc, λ e. cc)

@@ -44,6 +44,11 @@ module _ (X : List ℕ → List ℕ) (N : List ℕ → ℕ) where
     pub stands : StandsIf X N needs now given.next
     pub blocks : TellsHeld now given.held
 
+  -- what a reply says stands and is held
+  pub record LeavesNext (given : Reply) (now : Told) : Type 0 where
+    pub stands : TellsAs X N now given.next
+    pub blocks : TellsHeld now given.held
+
   -- and the host tells what it has then, where it is used
   abbrev pub DoesAnswer : Command → World → Result (Unit {0}) Refusal → streams.Told → streams.Told → Told → HostTold
       → Type 0

@@ -1,5 +1,5 @@
 -- What each answer of a command shows.
-use Rattle.std.specs.Prelude.{◌≡◌, ◌⊎◌, ℕ, ◌<◌, List, [], ◌∷◌, ◌++◌, length, Bool, true, false, IfSome, ⊤}
+use Rattle.std.specs.Prelude.{◌≡◌, ◌≢◌, ◌⊎◌, ℕ, ◌<◌, List, [], ◌∷◌, ◌++◌, length, Bool, true, false, IfErr, IfSome, ⊤}
 use Rattle.std.specs.declared.option.Option.{Option}
 use Rattle.std.specs.declared.option.Option.TheVariants.{None, Some}
 use Rattle.std.specs.declared.result.Result.{Result}
@@ -30,12 +30,13 @@ use Rattle.uf_tree.specs.declared.head_fault.HeadFault.{HeadFault}
 use Rattle.uf_tree.specs.declared.profile.Head.{Head}
 use Rattle.uf_tree.specs.declared.profile.Profile.{Profile}
 use Rattle.uf_reply.specs.declared.types.Command.{Command}
-use Rattle.uf_reply.specs.declared.types.Command.TheVariants.{Init, Add, AddFrom, WriteInput, At, Read, Cat, Get, Export, Import, Same, Adopt, Gen}
+use Rattle.uf_reply.specs.declared.types.Command.TheVariants.{Init, Add, AddFrom, WriteInput, At, Read, Cat, Get, Export, Import, Same, Adopt, Gen, AddTo, AddFromTo}
 use Rattle.uf_reply.specs.declared.types.Refusal.{Refusal}
 use Rattle.uf_reply.specs.declared.types.Refusal.TheVariants as refusal
 use Rattle.uf_reply.specs.Kinds.{is_of, read_kind, refusal_fault, write_kind}
 use Rattle.uf_reply.specs.Lines.{added_line}
-use Rattle.uf_reply.specs.Statuses.{no_memory}
+use Rattle.uf_reply.specs.Statuses.{no_memory, status_of}
+use Rattle.uf_reply.specs.declared.status.Status.TheVariants as status
 use Rattle.uf_top.specs.Reply.{file_cid, most_input}
 
 -- the faults of calls that open a tree: no rule refuses that, and nothing is printed there
@@ -111,6 +112,8 @@ IsReason (Add false) why told = IsReasonInTree why told
 IsReason (AddFrom recursive true path) ready.BadHead told = IfSome told (λ t. IsUnread t.notes.head)
 IsReason (AddFrom recursive true path) why told = ⊥
 IsReason (AddFrom recursive false path) why told = IsReasonInTree why told
+IsReason (AddTo dest) why told = IsReasonInTree why told
+IsReason (AddFromTo recursive path dest) why told = IsReasonInTree why told
 IsReason (WriteInput how path) why told = IsReasonInTree why told
 IsReason (At ask path) why told = IsReasonInTree why told
 IsReason (Read offset count path) why told = IsReasonInTree why told
@@ -133,11 +136,17 @@ IsBadIn X N before now role bytes = IsBadInHead X N before role bytes
     ⊎ ((file : Cid) × IsBadInFile before file role bytes)
     ⊎ ((head : Head) × IsHeadTold before head × IsBadWrittenIn X N head.profile now head.root role bytes)
 
--- the Head moves only where a command is done that prints nothing
-abbrev pub HeadStays : Result (List ℕ) Refusal → Told → Told → Type 0
-HeadStays (Ok []) before now = ⊤
-HeadStays (Ok (b ∷ text)) before now = head_in now ≡ head_in before
-HeadStays (Err why) before now = head_in now ≡ head_in before
+-- the Head moves only where a command is done that prints nothing, or that prints after that
+abbrev pub HeadStays : Result (List ℕ) Refusal → (prints_after : Bool) → Told → Told → Type 0
+HeadStays (Ok []) prints_after before now = ⊤
+HeadStays (Ok (b ∷ text)) true before now = ⊤
+HeadStays (Ok (b ∷ text)) false before now = head_in now ≡ head_in before
+HeadStays (Err why) prints_after before now = head_in now ≡ head_in before
+
+-- the Head stays where a command is refused, unless it prints after it moved the Head and only its output failed
+abbrev pub KeepsHead : Result (Unit {0}) Refusal → (prints_after : Bool) → Told → Told → Type 0
+KeepsHead done true before now = IfErr done (λ why. status_of why ≢ status.WriteFault → head_in now ≡ head_in before)
+KeepsHead done false before now = IfErr done (λ why. head_in now ≡ head_in before)
 
 -- the output failed
 abbrev pub is_write : {A : Type 0} → Result A Refusal → Bool

@@ -1,5 +1,5 @@
 -- What becomes of what a host has at a path, where it is added.
-use Rattle.std.specs.Prelude.{◌≡◌, ℕ, List, Bool, IfSome, IsTrue, None, ⊤}
+use Rattle.std.specs.Prelude.{◌≡◌, ℕ, List, Bool, false, IfSome, IsTrue, None, ⊤}
 use Rattle.std.specs.declared.result.Result.{Result}
 use Rattle.std.specs.declared.result.Result.TheVariants.{Ok, Err}
 use Rattle.uf_edge.specs.Host.{HostTold}
@@ -13,7 +13,7 @@ use Rattle.uf_tree.specs.Tree.{Tree, is_tree}
 use Rattle.uf_tree.specs.TreePlan as plan
 use Rattle.uf_tree.specs.declared.profile.Profile.{Profile}
 use Rattle.uf_reply.specs.declared.types.Command.{Command}
-use Rattle.uf_reply.specs.declared.types.Command.TheVariants.{AddFrom}
+use Rattle.uf_reply.specs.declared.types.Command.TheVariants.{AddFrom, AddFromTo}
 use Rattle.uf_reply.specs.declared.types.Refusal.{Refusal}
 use Rattle.uf_reply.specs.declared.types.Refusal.TheVariants as refusal
 use Rattle.uf_top.specs.Causes.{AddsBy}
@@ -66,4 +66,5 @@ module _ (X : List ℕ → List ℕ) (N : List ℕ → ℕ) where
   abbrev pub IsHostedText : Told → HostTold → Command → List ℕ → Type 0
   IsHostedText told host (AddFrom recursive only_hash path) text =
       AreHostRows told host recursive only_hash path text
+  IsHostedText told host (AddFromTo recursive path dest) text = AreHostRows told host recursive false path text
   IsHostedText told host command text = ⊤

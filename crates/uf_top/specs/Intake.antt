@@ -2,6 +2,10 @@
 use Rattle.std.specs.Prelude.{◌≡◌, ℕ, ◌≤◌, List, length, ⊤}
 use Rattle.std.specs.declared.result.Result.{Result}
 use Rattle.std.specs.declared.result.Result.TheVariants.{Ok, Err}
+use Rattle.uf_cid.specs.Bytes.{IsBytes}
+use Rattle.uf_tree.specs.Profiles.{most_bytes}
+use Rattle.uf_store.specs.Clashes.{IsSaving}
+use Rattle.uf_build.specs.Building.{Building, HasFed, HoldsFed}
 use Rattle.uf_edge.specs.Streams.{Told, before, IsAtEnd}
 use Rattle.uf_intake.specs.Intake.{PassesMost}
 use Rattle.uf_plain.specs.declared.rule.Rule.TheVariants.{FileTooLong}

@@ -1,6 +1,6 @@
 -- What one command did: what it answered, the cause of each answer, and what it left. `run`, and each line of a batch, is
 -- so.
-use Rattle.std.specs.Prelude.{◌≡◌, ◌≢◌, ◌⊎◌, ℕ, ◌+◌, ◌<◌, ◌≤◌, List, true, false, IfSome}
+use Rattle.std.specs.Prelude.{◌≡◌, ◌⊎◌, ℕ, ◌+◌, ◌<◌, ◌≤◌, List, true, false, IfSome}
 use Rattle.std.specs.declared.result.Result.{Result}
 use Rattle.std.specs.declared.result.Result.TheVariants.{Ok, Err}
 use Rattle.uf_cid.specs.Blocks.{Lookup}
@@ -8,8 +8,7 @@ use Rattle.uf_cid.specs.declared.cid.Cid.{Cid}
 use Rattle.uf_edge.specs.Counts.{Stood}
 use Rattle.uf_mfs.specs.Reading.{AreHeights}
 use Rattle.uf_mfs.specs.Standing.{NamesOver, TellsAs, head_in}
-use Rattle.uf_reply.specs.Commands.{HasInput, NoStore, is_idle, of_command, only_reads, own_store, reads_tree_alone, uses_host}
-use Rattle.uf_reply.specs.Commands.{streams as flows, writes_host}
+use Rattle.uf_reply.specs.Commands.{HasInput, NoStore, is_idle, of_command, only_reads, own_store, reads_tree_alone, uses_host, streams as flows, writes_host, prints_after}
 use Rattle.uf_reply.specs.Kinds.{family_of}
 use Rattle.uf_reply.specs.Lines.{bad_block_line, clash_line, missing_line}
 use Rattle.uf_reply.specs.declared.status.Status.{Status}
@@ -21,11 +20,12 @@ use Rattle.uf_store.specs.Calls.{Calm}
 use Rattle.uf_store.specs.Faults.{ShowsBadBlock, ShowsFailure}
 use Rattle.uf_store.specs.Keeping.{KeepsGood}
 use Rattle.uf_store.specs.declared.store.Role.{Role}
+use Rattle.uf_top.specs.Answering.{LeavesNext}
 use Rattle.uf_top.specs.Around.{Around, CountsCanRise, HasOutside, RoseAt, StaysQuiet}
 use Rattle.uf_top.specs.Bounds.{words_touch}
 use Rattle.uf_top.specs.Cars.{IsClashing, IsMissing}
 use Rattle.uf_top.specs.Causes.{IsBadIn}
-use Rattle.uf_top.specs.Endings.{EndsAs, FindsAll, FindsBy, IsNotReady, IsRefusedBy, IsRule, IsSyncedFor, IsTextOf, PrintsAt, PrintsPart, SaysPlain}
+use Rattle.uf_top.specs.Endings.{EndsAs, FindsAll, FindsBy, IsNotReady, IsRefusedBy, IsRule, IsSyncedFor, IsTextOf, PrintsAt, PrintsPart, SaysPlain, may_move}
 use Rattle.uf_top.specs.Getting.{GetsFor}
 use Rattle.uf_top.specs.Losing.{EndsOver, words_need}
 use Rattle.uf_top.specs.Naming.{FindsOver, FindsWorld, StaysNamed, TellsBlocks}
@@ -45,6 +45,11 @@ module _ (Says : List ℕ → Type 0) (X : List ℕ → List ℕ) (N : List ℕ 
     pub replies : (w : World) → FindsWorld X N asked before.store.told w → HasOutside asked (outside_of w) before now
         → StaysQuiet asked given before now
         → EndsAs Says X N asked w given before.held now.held now.store.told now.host.told
+    -- where `add --to-files` has put what it adds into the tree and only the output of its rows failed, the tree is the
+    -- new one: the one refusal that leaves what the reply says that stands next
+    pub unprinted : (w : World) → of_command prints_after false asked ≡ true → given ≡ status.WriteFault
+        → FindsWorld X N asked before.store.told w → HasOutside asked (outside_of w) before now
+        → Calm before.store now.store → LeavesNext X N (reply_to X N asked w) now.store.told
     pub whole : (standing : Standing) → of_command reads_tree_alone true asked ≡ true
         → TellsAs X N before.store.told standing → Calm before.store now.store → FindsAll given
     -- over a tree that the Head names and of whose blocks some may be lost, the answer is the reply too, or one of the
@@ -95,10 +100,10 @@ module _ (Says : List ℕ → Type 0) (X : List ℕ → List ℕ) (N : List ℕ 
     pub synced : given ≡ status.Ok → IsSyncedFor asked now.store.told
     -- what was written
     pub writes : WritesFor X asked (is_done given) before.store.told now.store.told
-    -- what is good stays, only a command that is done moves the Head, and some commands leave all as it was; so does an
-    -- edit that has nothing to do
+    -- what is good stays, only a command that is done moves the Head, be it that only the output of an `add --to-files`
+    -- failed, and some commands leave all as it was; so does an edit that has nothing to do
     pub good : KeepsGood X before.store.told now.store.told
-    pub head : given ≢ status.Ok → head_in now.store.told ≡ head_in before.store.told
+    pub head : may_move asked given ≡ false → head_in now.store.told ≡ head_in before.store.told
     pub told : of_command only_reads true asked ≡ true → now.store.told ≡ before.store.told
     pub idle : (p : Profile) (es : Entries) (bytes : List ℕ) → NamesOver X N before.store.told p es
         → HasInput asked before.left bytes before.reads now.reads → Stood before.store.faults now.store.faults

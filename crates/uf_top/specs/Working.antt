@@ -1,5 +1,5 @@
 -- How a command was done, before anything of it is printed: what it answers, why, and what it leaves.
-use Rattle.std.specs.Prelude.{◌≡◌, ◌⊎◌, ℕ, ◌+◌, ◌<◌, ◌≤◌, List, [], true, IfErr, IfOk, IfSome}
+use Rattle.std.specs.Prelude.{◌≡◌, ◌⊎◌, ℕ, ◌+◌, ◌<◌, ◌≤◌, List, [], false, true, IfErr, IfOk, IfSome}
 use Rattle.uf_cid.specs.Blocks.{Lookup}
 use Rattle.std.specs.declared.result.Result.{Result}
 use Rattle.std.specs.declared.result.Result.TheVariants.{Ok, Err}
@@ -30,16 +30,16 @@ use Rattle.uf_reply.specs.declared.types.Command.TheVariants.{At}
 use Rattle.uf_reply.specs.declared.types.Edit.{Edit}
 use Rattle.uf_reply.specs.declared.types.Refusal.{Refusal}
 use Rattle.uf_reply.specs.Commands.{HasInput, ask_writes, command_writes, has_nothing_to_do, is_idle}
-use Rattle.uf_reply.specs.Commands.{reads_tree_alone, streams as flows, uses_host, writes_host}
+use Rattle.uf_reply.specs.Commands.{prints_after, reads_tree_alone, streams as flows, uses_host, writes_host}
 use Rattle.uf_reply.specs.Kinds.{IsOf, family_of, may_answer, may_end, opened_kinds, refusal_fault}
 use Rattle.uf_top.specs.Reply.{Outside, World, edited_by, in_world, outside_of, reply, tree_reply}
 use Rattle.uf_reply.specs.Statuses.{ended, no_memory, status_of}
 use Rattle.uf_reply.specs.declared.status.Status.TheVariants as status
-use Rattle.uf_top.specs.Answering.{Answers, DoesAnswer}
+use Rattle.uf_top.specs.Answering.{Answers, DoesAnswer, LeavesNext}
 use Rattle.uf_top.specs.Around.{Around, CountsCanRise, HasOutside, RisesFor, StaysQuiet, TakesHost, UsesHost, is_input_read}
 use Rattle.uf_top.specs.Around.{is_output_write}
 use Rattle.uf_top.specs.Bounds.{ask_touches, command_touches, touches_of_edit}
-use Rattle.uf_top.specs.Causes.{HeadStays, IsBadIn, IsReady, is_read, is_write}
+use Rattle.uf_top.specs.Causes.{HeadStays, IsBadIn, IsReady, KeepsHead, is_read, is_write}
 use Rattle.uf_top.specs.Endings.{AddsFor, FindsAll, IsTextOf, PrintsAt, PrintsPart, RuleOf}
 use Rattle.uf_top.specs.Getting.{GetsFor}
 use Rattle.uf_top.specs.Hosted.{IsHostedText}
@@ -48,12 +48,12 @@ use Rattle.uf_top.specs.Naming.{FindsOver, FindsWorld, StaysNamed, TellsBlocks}
 use Rattle.uf_top.specs.Shapes.{WritesAs, is_done, is_ok}
 
 module _ (X : List ℕ → List ℕ) (N : List ℕ → ℕ) where
-  -- what a command leaves before anything is printed: good blocks, the Head where it prints or is refused, all where
-  -- nothing is to be done, and what it wrote
+  -- what a command leaves before anything is printed: good blocks, the Head where it is refused or prints what it hasn't put
+  -- into the tree, all where nothing is to be done, and what it wrote
   pub record MakesLeaving (command : Command) (done : Result (List ℕ) Refusal) (before now : Told)
       (calm : List ℕ → Type 0) : Type 0 where
     pub good : KeepsGood X before now
-    pub head : HeadStays done before now
+    pub head : HeadStays done (prints_after command) before now
     pub writes : WritesAs X (command_writes command) (is_ok done) before now
     pub idle : (p : Profile) (es : Entries) (bytes : List ℕ) → NamesOver X N before p es → calm bytes
         → is_idle bytes es command ≡ true → now ≡ before
@@ -113,22 +113,26 @@ module _ (X : List ℕ → List ℕ) (N : List ℕ → ℕ) where
         (λ bytes. HasInput (Ok command) before.left bytes before.reads now.reads
         × Stood before.store.faults now.store.faults)
 
-  -- what a command leaves: good blocks, the Head where it is refused, all where nothing is to be done, and what it wrote
+  -- what a command leaves: good blocks, the Head where it may not have moved, all where nothing is to be done, and what it
+  -- wrote
   pub record DoesLeave (command : Command) (done : Result (Unit {0}) Refusal) (before now : Told)
       (calm : List ℕ → Type 0) : Type 0 where
     pub good : KeepsGood X before now
-    pub head : IfErr done (λ why. head_in now ≡ head_in before)
+    pub head : KeepsHead done (prints_after command) before now
     pub writes : WritesAs X (command_writes command) (is_done (ended done)) before now
     pub idle : (p : Profile) (es : Entries) (bytes : List ℕ) → NamesOver X N before p es → calm bytes
         → is_idle bytes es command ≡ true → now ≡ before
 
   -- how a command was done and its text printed: its answer is the reply, over lost blocks too, what is printed begins
-  -- the reply's text, each refusal is one of its family's and has its cause, it keeps within its touches, and it leaves
-  -- what it leaves
+  -- the reply's text, the reply's tree stands where its rows follow the Head and only they failed, each refusal is one of
+  -- its family's and has its cause, it keeps within its touches, and it leaves what it leaves
   pub record Does (command : Command) (done : Result (Unit {0}) Refusal) (before now : Around) : Type 0 where
     pub answers : (w : World) → FindsWorld X N (Ok command) before.store.told w
         → HasOutside (Ok command) (outside_of w) before now → StaysQuiet (Ok command) (ended done) before now
         → DoesAnswer X N command w done before.held now.held now.store.told now.host.told
+    pub unprinted : (w : World) → prints_after command ≡ true → ended done ≡ status.WriteFault
+        → FindsWorld X N (Ok command) before.store.told w → HasOutside (Ok command) (outside_of w) before now
+        → Calm before.store now.store → LeavesNext X N (reply X N command w) now.store.told
     pub lost : (p : Profile) (es : Entries) (rows : ℕ → ℕ) (held : Lookup) (outside : Outside)
         → StaysNamed X N before.store.told now.store.told p es → TellsBlocks before.store.told held
         → AreHeights p rows
@@ -188,7 +192,7 @@ module _ (X : List ℕ → List ℕ) (N : List ℕ → ℕ) where
         → is ≤ was + ask_touches X N rows ask path.names p es
     pub touched : CountsUp (refusal_fault done) was is
     pub good : KeepsGood X before.told now.told
-    pub head : HeadStays done before.told now.told
+    pub head : HeadStays done false before.told now.told
     pub writes : WritesAs X (ask_writes ask) (is_ok done) before.told now.told
     pub idle : (p : Profile) (es : Entries) → StandsOver X N before.told tree p es
         → NamesOver X N before.told p es → Stood before.faults now.faults

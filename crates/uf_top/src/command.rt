@@ -21,6 +21,7 @@ use crate::generating::print_generated;
 use crate::getting::get;
 use crate::grafting::graft;
 use crate::hosted::add_from;
+use crate::placing::{add_from_to, add_to};
 use crate::sending::send_part;
 use crate::taking::write_input;
 use crate::tree::{at, init};
@@ -37,9 +38,10 @@ use uf_store::{Steps, Store};
 /// `init` makes a store ready; `files mkdir`, `files ls`, `files stat`, `files read`, `files write`, `files truncate`,
 /// `files cp`, `files mv` and `files rm` work on the tree that its Head names; `add` prints the CID of its input as a file (UnixFS
 /// v1; Kubo's balanced layout with raw leaves), or those of a file of the host or of a folder and everything in it, and,
-/// without `-n`, keeps their blocks; `cat` prints a file of a DAG, and `get` writes what is in one to the host; `gen` makes a
-/// tree on stores of its own and says its root. Refused are first words that are none, then texts that are no paths, then
-/// a Head that doesn't do, then an input that is too long, and then what the rules of the command refuse. The status says how the command ended; after a refusal its line goes to `errors`,
+/// without `-n`, keeps their blocks, and with `--to-files` puts them into the tree; `cat` prints a file of a DAG, and `get`
+/// writes what is in one to the host; `gen` makes a tree on stores of its own and says its root. Refused are first words
+/// that are none, then texts that are no paths, then a Head that doesn't do, then an input that is too long, and then what
+/// the rules of the command refuse. The status says how the command ended; after a refusal its line goes to `errors`,
 /// and a failed write of that line changes no status.
 pub fn run<S: Store, N: NameHash, W: Host, I: Source, O: Sink, E: Sink, L: Ledger>(
     alloc: Global,
@@ -181,6 +183,12 @@ fn text_of<S: Store, N: NameHash, W: Host, I: Source, L: Ledger>(
             only_hash,
             path,
         } => add_from::<S, N, W, L>(alloc, *recursive, *only_hash, path, store, host, touches),
+        Command::AddTo { dest } => add_to::<S, N, I, L>(alloc, dest, store, input, touches),
+        Command::AddFromTo {
+            recursive,
+            path,
+            dest,
+        } => add_from_to::<S, N, W, L>(alloc, *recursive, path, dest, store, host, touches),
         Command::WriteInput { how, path } => {
             write_input::<S, N, I, L>(alloc, *how, path, store, input, touches)
         }

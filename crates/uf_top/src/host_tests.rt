@@ -82,7 +82,7 @@ const LINES: [Line; 19] = [
     ("add -r n", 1, b"", b"error: rule HostName n\n"),
     ("add\tx y", 0, SPACED, b""),
     ("add -r e/d", 0, EMPTY, b""),
-    ("add --to-files /x hw", 2, b"", b"error: usage\n"),
+    ("add --to-files x hw", 1, b"", b"error: rule BadPath 1 0\n"),
     ("add -n hw d", 2, b"", b"error: usage\n"),
     ("files ls /", 0, b"", b""),
 ];

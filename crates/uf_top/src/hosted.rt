@@ -157,7 +157,7 @@ fn rows_by<S: Store, N: NameHash, W: Host, L: Ledger>(
 }
 
 // The rows, each in a line.
-fn row_lines(alloc: Global, rows: &AddedRows) -> Result<Block, Memory>
+pub fn row_lines(alloc: Global, rows: &AddedRows) -> Result<Block, Memory>
     ensures { IfOk result (λ out. out ≡ flat_map host_row rows.now) }
 {
     let mut out = Block::new(alloc);

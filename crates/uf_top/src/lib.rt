@@ -9,9 +9,11 @@ mod command;
 mod foreign;
 mod generating;
 mod getting;
+mod given;
 mod grafting;
 mod hosted;
 pub mod laws;
+mod placing;
 mod sending;
 mod taking;
 mod tree;
@@ -41,6 +43,8 @@ mod get_tests;
 mod host_tests;
 #[cfg(test)]
 mod move_tests;
+#[cfg(test)]
+mod placing_tests;
 #[cfg(test)]
 mod same_tests;
 #[cfg(test)]

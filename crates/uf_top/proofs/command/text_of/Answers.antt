@@ -1,6 +1,6 @@
 use Rattle.std.proofs.Common.{◌≡◌, ◌∙◌, false, true, ap, refl, sym, subst}
-use Rattle.uf_reply.specs.Commands.{uses_host}
-use Rattle.uf_reply.specs.declared.types.Command.TheVariants.{Init, Add, AddFrom, WriteInput, At}
+use Rattle.uf_reply.specs.Commands.{touches_nothing, reads_input, uses_host}
+use Rattle.uf_reply.specs.declared.types.Command.TheVariants.{Init, Add, AddFrom, AddTo, AddFromTo, WriteInput, At}
 use Rattle.uf_top.specs.Around.{around, host_side}
 use Rattle.uf_top.specs.Working.{MakesText}
 use Rattle.uf_top.proofs.Printing.{made-as}
@@ -28,6 +28,34 @@ returns-in-AddFrom-clause-makes g c = λ held writes.
 
 pub returns-in-AddFrom-clause-host : goal.returns-in-AddFrom-clause-host
 returns-in-AddFrom-clause-host g c = λ e. absurd (let k : uses_host (AddFrom c.in-AddFrom.recursive c.in-AddFrom.only_hash c.in-AddFrom.path) ≡ false = ap uses_host (sym c.in-AddFrom.is) ∙ e in cc)
+
+pub returns-in-AddTo-clause-makes : goal.returns-in-AddTo-clause-makes
+returns-in-AddTo-clause-makes g c = λ held writes.
+    let s = host_side (g.W.Host.tree c.args.host.now) (g.W.Host.read_faults c.args.host.now) (g.W.Host.write_faults c.args.host.now) in
+    subst (λ command. MakesText g.S.X.BlockHash.block32 g.N.NameHash.name64 command c.add_to.result
+    (around (g.S.Store.seen c.args.store.now) (g.I.Source.left c.args.input.now) (g.I.Source.faults c.args.input.now) held writes c.args.touches.now s)
+    (around (g.S.Store.seen c.add_to.new.store) (g.I.Source.left c.add_to.new.input) (g.I.Source.faults c.add_to.new.input) held writes c.add_to.new.touches s))
+    (sym c.in-AddTo.is) (c.add_to.ensures held writes s)
+
+pub returns-in-AddTo-clause-input : goal.returns-in-AddTo-clause-input
+returns-in-AddTo-clause-input g c = λ e. absurd (let k : reads_input (AddTo c.in-AddTo.dest) ≡ false = ap reads_input (sym c.in-AddTo.is) ∙ e in cc)
+
+pub returns-in-AddTo-clause-untouched : goal.returns-in-AddTo-clause-untouched
+returns-in-AddTo-clause-untouched g c = λ e. absurd (let k : touches_nothing (AddTo c.in-AddTo.dest) ≡ true = ap touches_nothing (sym c.in-AddTo.is) ∙ e in cc)
+
+pub returns-in-AddFromTo-clause-makes : goal.returns-in-AddFromTo-clause-makes
+returns-in-AddFromTo-clause-makes g c = λ held writes.
+    let l = g.I.Source.left c.args.input.now in let i = g.I.Source.faults c.args.input.now in
+    subst (λ command. MakesText g.S.X.BlockHash.block32 g.N.NameHash.name64 command c.add_from_to.result
+    (around (g.S.Store.seen c.args.store.now) l i held writes c.args.touches.now (host_side (g.W.Host.tree c.args.host.now) (g.W.Host.read_faults c.args.host.now) (g.W.Host.write_faults c.args.host.now)))
+    (around (g.S.Store.seen c.add_from_to.new.store) l i held writes c.add_from_to.new.touches (host_side (g.W.Host.tree c.add_from_to.new.host) (g.W.Host.read_faults c.add_from_to.new.host) (g.W.Host.write_faults c.add_from_to.new.host))))
+    (sym c.in-AddFromTo.is) (c.add_from_to.ensures l i held writes)
+
+pub returns-in-AddFromTo-clause-host : goal.returns-in-AddFromTo-clause-host
+returns-in-AddFromTo-clause-host g c = λ e. absurd (let k : uses_host (AddFromTo c.in-AddFromTo.recursive c.in-AddFromTo.path c.in-AddFromTo.dest) ≡ false = ap uses_host (sym c.in-AddFromTo.is) ∙ e in cc)
+
+pub returns-in-AddFromTo-clause-untouched : goal.returns-in-AddFromTo-clause-untouched
+returns-in-AddFromTo-clause-untouched g c = λ e. absurd (let k : touches_nothing (AddFromTo c.in-AddFromTo.recursive c.in-AddFromTo.path c.in-AddFromTo.dest) ≡ true = ap touches_nothing (sym c.in-AddFromTo.is) ∙ e in cc)
 
 pub returns-in-At-clause-makes : goal.returns-in-At-clause-makes
 returns-in-At-clause-makes g c =

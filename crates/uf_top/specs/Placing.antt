@@ -1,0 +1,163 @@
+-- What is put into the tree that the Head names: the input as a file, or what the host has at a path.
+use Rattle.std.specs.Prelude.{◌≡◌, ◌⊎◌, ℕ, ◌<◌, List, [], ◌∷◌, ◌++◌, Bool, false, IfOk, IfErr, IfSome, OnErr, ⊤}
+use Rattle.std.specs.List.{flat_map}
+use Rattle.std.specs.declared.option.Option.{Option}
+use Rattle.std.specs.declared.option.Option.TheVariants.{None, Some}
+use Rattle.std.specs.declared.result.Result.{Result}
+use Rattle.std.specs.declared.result.Result.TheVariants.{Ok, Err}
+use Rattle.uf_edge.specs.Host.{HostTold}
+use Rattle.uf_edge.specs.Streams as streams
+use Rattle.uf_edge.specs.Counts.{Stood}
+use Rattle.uf_host.specs.Adding.{HasHeldPlan}
+use Rattle.uf_host.specs.HostTree.{tree_on_host}
+use Rattle.uf_host.specs.declared.import.AddedRow.{AddedRow}
+use Rattle.uf_mfs.specs.Bad.{IsBadInHead, IsBadInTree}
+use Rattle.uf_mfs.specs.Standing.{IsMfs, NamesOver, ReadsHead, StandsOver, TellsAs, head_in}
+use Rattle.uf_mfs.specs.Steps.{IsFolderOver}
+use Rattle.uf_mfs.specs.Touches.{CountsUp, IsBlaming}
+use Rattle.uf_path.specs.declared.path.Path.{Path}
+use Rattle.uf_plain.specs.Moves.{allowed_move, placed_at}
+use Rattle.uf_plain.specs.Needs.{root_of}
+use Rattle.uf_plain.specs.declared.ready.Ready.{Ready}
+use Rattle.uf_plain.specs.declared.ready.Ready.TheVariants as ready
+use Rattle.uf_plain.specs.declared.spot.Spot.{Spot}
+use Rattle.uf_store.specs.Calls.{OnlyReads, OnlySaves}
+use Rattle.uf_store.specs.Clashes.{IsSaving}
+use Rattle.uf_store.specs.Contents.{Told}
+use Rattle.uf_store.specs.Faults.{NoneIsBad, Shown}
+use Rattle.uf_store.specs.Keeping.{KeepsGood}
+use Rattle.uf_store.specs.Seen.{Seen}
+use Rattle.uf_tree.specs.Standing.{Standing, NoHead, BadHead, Stands}
+use Rattle.uf_tree.specs.Tree.{Dir, Entries, Tree}
+use Rattle.uf_tree.specs.TreePlan.{blocks, entry}
+use Rattle.uf_tree.specs.declared.nodes.Entry.{Entry}
+use Rattle.uf_tree.specs.declared.profile.Profile.{Profile}
+use Rattle.uf_reply.specs.Commands.{MovesHead}
+use Rattle.uf_reply.specs.Kinds.{Family, IsOf, PlacesHost, PlacesInput, may_answer, opened_kinds, refusal_fault}
+use Rattle.uf_reply.specs.Statuses.{no_memory}
+use Rattle.uf_reply.specs.declared.types.Refusal.{Refusal}
+use Rattle.uf_reply.specs.declared.types.Refusal.TheVariants as refusal
+use Rattle.uf_top.specs.Causes.{AreLeft, IsReasonInTree, is_read}
+use Rattle.uf_top.specs.Grafts.{FollowsOr, IsLostBy}
+use Rattle.uf_top.specs.HostTexts.{host_row}
+use Rattle.uf_top.specs.Naming.{NamesAfter}
+use Rattle.uf_top.specs.Reply.{added_spot, by_rule, host_tree, input_tree}
+use Rattle.uf_top.specs.Shapes.{WritesAs, is_ok}
+use Rattle.uf_top.specs.declared.given.Given.{Given}
+use Rattle.uf_top.specs.declared.given.Found.{Found}
+
+-- the family of a command that puts what the host has at a path into the tree, or the input where there is no path
+abbrev pub place_family : Option (List ℕ) → Family
+place_family None = PlacesInput
+place_family (Some path) = PlacesHost
+
+-- rows of which this is the last
+pub record EndsWith (rows : List AddedRow) (row : AddedRow) : Type 0 where
+  pub front : List AddedRow
+  pub are : rows ≡ front ++ row ∷ []
+
+-- there is a last row
+abbrev pub HasLast : List AddedRow → Type 0
+HasLast rows = (row : AddedRow) × EndsWith rows row
+
+-- the entry is that of the last row
+abbrev pub IsLastEntry : List AddedRow → Entry → Type 0
+IsLastEntry rows e = (row : AddedRow) → EndsWith rows row → e ≡ row.entry
+
+-- the entry of the last row and the text of all, or there was no memory
+abbrev pub GivesRows : List AddedRow → Result Given Refusal → Type 0
+GivesRows rows (Ok given) = IsLastEntry rows given.entry × (given.text ≡ flat_map host_row rows)
+GivesRows rows (Err why) = why ≡ no_memory
+
+-- the input has this tree as its file, or is refused so: where it tells, by the bytes that it has left
+pub record SaysInput (p : Profile) (left : streams.Told) (given : Result Tree Refusal) : Type 0 where
+  pub bytes : List ℕ
+  pub are_left : AreLeft left bytes
+  pub is : given ≡ input_tree p bytes
+
+-- a store that isn't ready refuses for this reason, or there was no memory
+abbrev pub IsUnready : {A : Type 0} → Ready → Result A Refusal → Type 0
+IsUnready why (Ok a) = ⊥
+IsUnready why (Err given) = (given ≡ no_memory) ⊎ (given ≡ refusal.Ready why)
+
+-- what is opened of a store that stands so
+abbrev pub OpensFound : {A : Type 0} → Standing → Result A Refusal → Type 0
+OpensFound NoHead result = IsUnready ready.NoHead result
+OpensFound BadHead result = IsUnready ready.BadHead result
+OpensFound (Stands p es) result = ⊤
+
+-- the refusal that the store isn't ready has its reason in the Head
+abbrev pub IsReadyIn : Told → Refusal → Type 0
+IsReadyIn told (refusal.Ready why) = IsReasonInTree why told
+IsReadyIn told why = ⊤
+
+-- what is refused where something is read: by what is there, by a failed reading, or by what saves alone can have
+abbrev pub IsUngiven : (Result Tree Refusal → Type 0) → Refusal → Type 0
+IsUngiven Says (refusal.Rule rule) = Says (Err (refusal.Rule rule))
+IsUngiven Says (refusal.Host rule) = Says (Err (refusal.Host rule))
+IsUngiven Says refusal.Read = ⊤
+IsUngiven Says (refusal.Store fault) = IsSaving fault
+IsUngiven Says why = ⊥
+
+module _ (X : List ℕ → List ℕ) (N : List ℕ → ℕ) where
+  -- the host has this tree at a path, or is refused so, where it tells
+  abbrev pub SaysHost : Profile → HostTold → (recursive : Bool) → List ℕ → Result Tree Refusal → Type 0
+  SaysHost p host recursive path given =
+      IfSome host (λ h. host_tree path (tree_on_host X N p h recursive path) ≡ given)
+
+  -- this is the spot, in the tree of these entries
+  pub record IsFoundAt (told : Told) (p : Profile) (es : Entries) (spot : Spot) (found : Found) : Type 0 where
+    pub spot_is : found.spot ≡ spot
+    pub stands : StandsOver X N told found.tree p es
+
+  -- the tree that the Head names was opened, and the spot found in it for what is added
+  pub record FindsSpot (dest : Path) (path : Option (List ℕ)) (result : Result Found Refusal) (before now : Seen)
+      (was is : ℕ) : Type 0 where
+    pub opens : (standing : Standing) → TellsAs X N before.told standing → Stood before.faults now.faults
+        → OpensFound standing result
+    pub lost : (p : Profile) (es : Entries) → NamesOver X N before.told p es → Stood before.faults now.faults
+        → FollowsOr (IsLostBy before.told (root_of X N p (Dir es) ++ blocks X N p (Dir es)))
+        (λ spot found. IsFoundAt before.told p es spot found) (added_spot dest path es) result
+    pub head : IfOk result (λ found. ReadsHead before.told (Ok found.tree))
+    pub mfs : IfOk result (λ found. IsMfs found.tree)
+    pub ready : IfErr result (λ why. IsReadyIn before.told why)
+    pub kinds : IsOf (may_answer (place_family path)) result
+    pub unread : is_read result ≡ false
+    pub reads : OnlyReads X (IsBadInHead X N before.told) (refusal_fault result) before now
+    pub touched : CountsUp (refusal_fault result) was is
+
+  -- the entry and the rows of a tree that is there and has a plan, whose blocks are held
+  pub record IsGiven (p : Profile) (now : Told) (Says : Result Tree Refusal → Type 0) (say : Tree → List ℕ)
+      (given : Given) : Type 0 where
+    pub tree : Tree
+    pub said : Says (Ok tree)
+    pub plan : HasHeldPlan X N p now tree
+    pub entry_is : given.entry ≡ entry X N p tree
+    pub text_is : given.text ≡ say tree
+
+  -- that, or why there is nothing to put
+  abbrev pub GivesFor : Profile → Told → (Result Tree Refusal → Type 0) → (Tree → List ℕ) → Result Given Refusal
+      → Type 0
+  GivesFor p now Says say (Ok given) = IsGiven p now Says say given
+  GivesFor p now Says say (Err why) = IsUngiven Says why
+
+  -- what was given is put at its spot, and the tree committed, after its blocks were saved from a moment on
+  abbrev pub PutsFrom : Found → Given → Result (List ℕ) Refusal → (start before now : Seen) → Type 0
+  PutsFrom found given done start before now = (t : Tree) (p : Profile) (es : Entries)
+      → OnlySaves X NoneIsBad None start before → found.tree.profile ≡ p → HasHeldPlan X N p before.told t
+      → given.entry ≡ entry X N p t → IsFolderOver X N p start now [] found.tree.root es
+      → FollowsOr (IsLostBy start.told (blocks X N p (Dir es)))
+      (λ next text. NamesAfter X N start.told now.told (blocks X N p (Dir es)) p next)
+      (by_rule (allowed_move X N p (placed_at found.spot t es))) done
+
+  -- how what was given was put into an opened tree, which was committed
+  pub record PutsGiven (found : Found) (given : Given) (done : Result (List ℕ) Refusal) (before now : Seen)
+      (was is : ℕ) : Type 0 where
+    pub puts : (start : Seen) → PutsFrom found given done start before now
+    pub text : IfOk done (λ text. text ≡ given.text)
+    pub kinds : IsOf opened_kinds done
+    pub cause : Shown X (IsBadInTree X N (Some found.tree.profile) found.tree.root.cid) (refusal_fault done) before now
+    pub good : KeepsGood X before.told now.told
+    pub touched : IsBlaming (refusal_fault done) → was < is
+    pub head : OnErr done (head_in now.told ≡ head_in before.told)
+    pub writes : WritesAs X MovesHead (is_ok done) before.told now.told
