@@ -138,7 +138,7 @@ asked (cmd.Export cid) = below_asked false (cid_reads cid)
 asked cmd.Import = Ok Import
 asked (cmd.Same cid) = below_asked true (cid_reads cid)
 asked (cmd.Gen n seed) = Ok (Gen n seed)
--- this isn't answered yet
+-- a batch is no command of one reply, and none of its lines asks for another
 asked cmd.Batch = Err refusal.Usage
 
 abbrev pub asked_of : Option Cmd → Result Command Refusal

@@ -1,9 +1,9 @@
 // What words ask for.
-ghost use Rattle.std.specs.Prelude.{◌≡◌, ◌≤◌, length, map, string_bytes, IfOk};
+ghost use Rattle.std.specs.Prelude.{◌≡◌, ◌≤◌, length, IfOk};
 ghost use Rattle.std.specs.List.{after_first};
 ghost use Rattle.uf_path.specs.Paths.{ReadsAs, dag_path_reads, is_slash, path_reads};
 ghost use Rattle.uf_reply.specs.Cids.{cid_reads, first_name_at as first_name_in, slashes_before as slashes_in_front};
-ghost use Rattle.uf_reply.specs.Commands.{IsAccepted, IsAsked, add_asked, add_to_asked, asked, at_path, both_paths, command_in};
+ghost use Rattle.uf_reply.specs.Commands.{IsAccepted, IsAsked, add_asked, add_to_asked, asked, at_path, both_paths};
 ghost use Rattle.uf_reply.specs.Commands.{adopt_asked, below_asked, cat_asked, cp_asked, get_asked, mv_asked, path_refusal};
 ghost use Rattle.uf_reply.specs.Commands.{read_asked, write_asked};
 ghost use Rattle.uf_reply.specs.declared.types.Ask.TheVariants as asks;
@@ -15,25 +15,12 @@ use uf_cid::{Block, Cid, Text};
 use uf_path::{DagPath, Path, PathFault};
 use uf_plain::WriteHow;
 use uf_store::StoreFault;
-use uf_words::{Cmd, WordFault, read_words};
+use uf_words::Cmd;
 
 // What a path in a DAG starts with.
 const DAG_FRONT: &str = "/ipfs/";
 
-/// The command that words ask for: its words are read first, and then its path. Commands that aren't answered yet are
-/// refused as words that are none.
-pub fn read_command(alloc: Global, words: &[String]) -> Result<Command, Refusal>
-    ensures asked { IsAsked result (command_in (map string_bytes words.now)) }
-    ensures profile { IfOk result IsAccepted }
-{
-    match read_words(alloc, words) {
-        Ok(cmd) => read_path(alloc, cmd),
-        Err(WordFault::Usage) => Err(Refusal::Usage),
-        Err(WordFault::Memory) => Err(Refusal::Store(StoreFault::Memory)),
-    }
-}
-
-// The same command with its path read.
+// The command that words were read as, with its paths read.
 pub fn read_path(alloc: Global, cmd: Cmd) -> Result<Command, Refusal>
     requires { IsWithinLimits cmd }
     ensures asked { IsAsked result (asked cmd) }

@@ -12,8 +12,7 @@ mod rows;
 mod status;
 mod types;
 
-pub use asking::read_command;
-pub use batches::read_line;
+pub use batches::{Request, read_line, read_request};
 pub use cars::{
     car_refusal, export_refusal, kept_refusal, own_refusal, root_lines, section_refusal,
 };

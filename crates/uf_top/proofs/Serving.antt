@@ -234,6 +234,8 @@ alone-spares (Gen n seed) h = absurd cc
 pub alone-given : (command : Command) → reads_tree_alone command ≡ true → generates command ≡ true → ⊥
 alone-given (Init p) h own = cc
 alone-given (Add only_hash) h own = cc
+alone-given (AddTo dest) h own = cc
+alone-given (AddFromTo recursive path dest) h own = cc
 alone-given (AddFrom recursive only_hash path) h own = cc
 alone-given (WriteInput how path) h own = cc
 alone-given (At ask path) h own = cc
@@ -245,3 +247,8 @@ alone-given Import h own = cc
 alone-given (Same cid) h own = cc
 alone-given (Adopt source dest) h own = cc
 alone-given (Gen n seed) h own = cc
+
+-- nor where what was asked for was refused
+pub asked-spare : (X : List ℕ → List ℕ) (left : streams.Told) (a : Seen) (own : OwnStore) (why : Refusal) (told : Result Command Refusal) → IsOfWords told → IsAsked (Err why) told → ByOwnStore X own left a a why
+asked-spare X left a own why told words (inl memory) = subst (ByOwnStore X own left a a) (sym memory) (words-spare X left a a own no_memory refl)
+asked-spare X left a own why told words (inr same) = words-spare X left a a own why (subst IsOfWords same words)

@@ -95,6 +95,8 @@ tree-clashes Import h own = cc
 tree-clashes (Same cid) h own = cc
 tree-clashes (Adopt source dest) h own = cc
 tree-clashes (Gen n seed) h own = cc
+tree-clashes (AddTo dest) h own = cc
+tree-clashes (AddFromTo recursive path dest) h own = cc
 tree-clashes (AddFrom recursive only_hash path) h own = cc
 
 -- a line without details is the status's

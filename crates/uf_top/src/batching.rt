@@ -14,7 +14,10 @@ use uf_reply::{Refusal, Status, read_line};
 use uf_store::{Steps, Store, StoreFault};
 
 // A line has at most so many bytes.
-const MOST_OF_LINE: usize = 1048576;
+pub const MOST_OF_LINE: usize = 1048576;
+
+// And so many bytes are read of an input.
+pub const MOST_OF_BATCH: u64 = 1073741824;
 
 // An input that is at its end: what the commands of a batch find in place of the lines that follow.
 #[derive(Drop)]

@@ -1,20 +1,26 @@
 // One command.
-ghost use Rattle.std.specs.Prelude.{◌≡◌, ◌<◌, IfErr, ℕ, true, false};
+ghost use Rattle.std.specs.Prelude.{◌≡◌, ◌<◌, IfErr, IfOk, ℕ, true, false};
+ghost use Rattle.std.specs.declared.result.Result.{Result as TheResult};
 ghost use Rattle.std.specs.Prelude.{map, string_bytes};
 ghost use Rattle.uf_edge.specs.Streams.{Told};
 ghost use Rattle.uf_mfs.specs.Standing.{TellsAs};
 ghost use Rattle.uf_tree.specs.Standing.{Standing};
 ghost use Rattle.uf_top.specs.Cars.{ByOwnStore};
 ghost use Rattle.uf_top.specs.Causes.{IsSent};
-ghost use Rattle.uf_reply.specs.Commands.{IsAccepted, NoStore, command_in, generates, of_command, own_store};
+ghost use Rattle.uf_reply.specs.Batches.{asks_batch};
+ghost use Rattle.uf_reply.specs.Commands.{IsAccepted, IsAsked, IsOfWords, NoStore, command_in, generates, of_command, own_store};
 ghost use Rattle.uf_reply.specs.Commands.{reads_input, reads_tree_alone, streams as flows, touches_nothing, uses_host};
+ghost use Rattle.uf_reply.specs.declared.types.Command.{Command as TheCommand};
+ghost use Rattle.uf_reply.specs.declared.types.Refusal.{Refusal as TheRefusal};
 ghost use Rattle.uf_top.specs.Around.{around, host_side};
+ghost use Rattle.uf_top.specs.Batch.{Batches, scene};
 ghost use Rattle.uf_top.specs.Endings.{Prints, TellsEnd, TellsWhy};
 ghost use Rattle.uf_top.specs.Endings.{has_details};
 ghost use Rattle.uf_top.specs.Running.{Runs};
 ghost use Rattle.uf_top.specs.Working.{Does, MakesText, Serves};
 
 use crate::adding::adds;
+use crate::batching::{MOST_OF_BATCH, MOST_OF_LINE, batch};
 use crate::cars::{compare_car, export_car, import_car};
 use crate::foreign::cat;
 use crate::generating::print_generated;
@@ -30,7 +36,7 @@ use std::sync::ledger::Ledger;
 use uf_cid::Block;
 use uf_edge::{Host, Sent, Sink, Source, write_all};
 use uf_murmur::NameHash;
-use uf_reply::{Command, Refusal, Status, line, read_command, refusal_status};
+use uf_reply::{Command, Refusal, Request, Status, line, read_request, refusal_status};
 use uf_store::{Steps, Store};
 
 /// Does one command, which the words after the program's name say.
@@ -53,13 +59,26 @@ pub fn run<S: Store, N: NameHash, W: Host, I: Source, O: Sink, E: Sink, L: Ledge
     errors: &mut E,
     touches: &mut Steps<L>,
 ) -> Status
-    // The answer, the cause of each answer, what is printed, and what is left: each fact is a field of its own.
-    ensures runs { Runs (λ line. IsSent line (E.holds errors.old) (E.holds errors.new) (E.faults errors.old)
+    // Of every command but `batch`: the answer, the cause of each answer, what is printed, and what is left. Each fact is a
+    // field of its own.
+    ensures runs { asks_batch (map string_bytes words.now) ≡ false
+        → Runs (λ line. IsSent line (E.holds errors.old) (E.holds errors.new) (E.faults errors.old)
         (E.faults errors.new)) S.X.block32 N.name64 (command_in (map string_bytes words.now)) result
         (around (S.seen store.old) (I.left input.old) (I.faults input.old) (O.holds output.old) (O.faults output.old)
         touches.old (host_side (W.tree host.old) (W.read_faults host.old) (W.write_faults host.old)))
         (around (S.seen store.new) (I.left input.new) (I.faults input.new) (O.holds output.new) (O.faults output.new)
         touches.new (host_side (W.tree host.new) (W.read_faults host.new) (W.write_faults host.new))) }
+
+    // Of `batch`: every line that has a word did what is said of a command, one after the other.
+    ensures batch { asks_batch (map string_bytes words.now) ≡ true
+        → Batches S.X.block32 N.name64 MOST_OF_LINE MOST_OF_BATCH result
+        (scene (S.seen store.old) (O.holds output.old) (O.faults output.old) touches.old
+        (host_side (W.tree host.old) (W.read_faults host.old) (W.write_faults host.old)) (E.holds errors.old)
+        (E.faults errors.old))
+        (scene (S.seen store.new) (O.holds output.new) (O.faults output.new) touches.new
+        (host_side (W.tree host.new) (W.read_faults host.new) (W.write_faults host.new)) (E.holds errors.new)
+        (E.faults errors.new))
+        (I.left input.old) (I.left input.new) (I.faults input.old) (I.faults input.new) }
 
     // Equal roots mean equal trees: what the store tells stands for one tree at most.
     ensures one { (standing other : Standing) → TellsAs S.X.block32 N.name64 (S.seen store.new).told standing
@@ -67,43 +86,64 @@ pub fn run<S: Store, N: NameHash, W: Host, I: Source, O: Sink, E: Sink, L: Ledge
 
     // Refused words do nothing to the store, nor does a command that works on stores of its own; a command that doesn't use
     // the input or the host leaves it as it was; and `add -n` and `gen` make no touch.
-    ensures left { of_command generates true (command_in (map string_bytes words.now)) ≡ true → store.new ≡ store.old }
-    ensures input { of_command reads_input false (command_in (map string_bytes words.now)) ≡ false
-        → input.new ≡ input.old }
-    ensures host { of_command uses_host false (command_in (map string_bytes words.now)) ≡ false → host.new ≡ host.old }
-    ensures untouched { of_command touches_nothing true (command_in (map string_bytes words.now)) ≡ true
+    ensures left { asks_batch (map string_bytes words.now) ≡ false
+        → of_command generates true (command_in (map string_bytes words.now)) ≡ true → store.new ≡ store.old }
+    ensures input { asks_batch (map string_bytes words.now) ≡ false
+        → of_command reads_input false (command_in (map string_bytes words.now)) ≡ false → input.new ≡ input.old }
+    ensures host { asks_batch (map string_bytes words.now) ≡ false
+        → of_command uses_host false (command_in (map string_bytes words.now)) ≡ false → host.new ≡ host.old }
+    ensures untouched { asks_batch (map string_bytes words.now) ≡ false
+        → of_command touches_nothing true (command_in (map string_bytes words.now)) ≡ true
         → touches.new ≡ touches.old }
 {
-    let done = serve::<S, N, W, I, O, L>(alloc, words, store, host, input, output, touches);
-    tell_end(alloc, done, errors)
+    match read_request(alloc, words) {
+        Request::Batch => batch::<S, N, W, I, O, E, L>(
+            alloc,
+            MOST_OF_BATCH,
+            store,
+            host,
+            input,
+            output,
+            errors,
+            touches,
+        ),
+        Request::One { asked } => {
+            let done = serve::<S, N, W, I, O, L>(alloc, asked, store, host, input, output, touches);
+            tell_end(alloc, done, errors)
+        }
+    }
 }
 
-// Reads the words and does the command, or says why it is refused.
+// Does the command that was asked for, or says why there is none.
 fn serve<S: Store, N: NameHash, W: Host, I: Source, O: Sink, L: Ledger>(
     alloc: Global,
-    words: &[String],
+    asked: Result<Command, Refusal>,
     store: &mut S,
     host: &mut W,
     input: &mut I,
     output: &mut O,
     touches: &mut Steps<L>,
 ) -> Result<(), Refusal>
-    ensures serves { Serves S.X.block32 N.name64 (command_in (map string_bytes words.now)) result
+    requires { IfOk asked IsAccepted }
+    ensures serves { (told : TheResult TheCommand TheRefusal) → IsAsked asked told
+        → Serves S.X.block32 N.name64 told result
         (around (S.seen store.old) (I.left input.old) (I.faults input.old) (O.holds output.old) (O.faults output.old)
         touches.old (host_side (W.tree host.old) (W.read_faults host.old) (W.write_faults host.old)))
         (around (S.seen store.new) (I.left input.new) (I.faults input.new) (O.holds output.new) (O.faults output.new)
         touches.new (host_side (W.tree host.new) (W.read_faults host.new) (W.write_faults host.new))) }
-    ensures own { IfErr result (ByOwnStore S.X.block32
-        (of_command own_store NoStore (command_in (map string_bytes words.now))) (I.left input.old) (S.seen store.old)
-        (S.seen store.new)) }
-    ensures left { of_command generates true (command_in (map string_bytes words.now)) ≡ true → store.new ≡ store.old }
-    ensures input { of_command reads_input false (command_in (map string_bytes words.now)) ≡ false
-        → input.new ≡ input.old }
-    ensures host { of_command uses_host false (command_in (map string_bytes words.now)) ≡ false → host.new ≡ host.old }
-    ensures untouched { of_command touches_nothing true (command_in (map string_bytes words.now)) ≡ true
-        → touches.new ≡ touches.old }
+    ensures own { (told : TheResult TheCommand TheRefusal) → IsAsked asked told → IsOfWords told
+        → IfErr result (ByOwnStore S.X.block32 (of_command own_store NoStore told) (I.left input.old)
+        (S.seen store.old) (S.seen store.new)) }
+    ensures left { (told : TheResult TheCommand TheRefusal) → IsAsked asked told
+        → of_command generates true told ≡ true → store.new ≡ store.old }
+    ensures input { (told : TheResult TheCommand TheRefusal) → IsAsked asked told
+        → of_command reads_input false told ≡ false → input.new ≡ input.old }
+    ensures host { (told : TheResult TheCommand TheRefusal) → IsAsked asked told
+        → of_command uses_host false told ≡ false → host.new ≡ host.old }
+    ensures untouched { (told : TheResult TheCommand TheRefusal) → IsAsked asked told
+        → of_command touches_nothing true told ≡ true → touches.new ≡ touches.old }
 {
-    match read_command(alloc, words) {
+    match asked {
         Err(why) => Err(why),
         Ok(command) => work::<S, N, W, I, O, L>(
             alloc, &command, store, host, input, output, touches,

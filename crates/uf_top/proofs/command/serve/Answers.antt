@@ -1,45 +1,53 @@
-use Rattle.std.proofs.Common.{◌≡◌, false, true, sym, subst, ap, ◌∙◌}
-use Rattle.std.specs.Prelude.{IfErr, map, string_bytes}
-use Rattle.uf_words.specs.Commands.{command_of}
-use Rattle.uf_reply.proofs.Asked.{asked-only}
-use Rattle.uf_reply.specs.Commands.{NoStore, command_in, generates, of_command, own_store, reads_input, touches_nothing, uses_host}
+use Rattle.std.proofs.Common.{◌≡◌, false, true, sym, subst, ap, ◌∙◌, Ok}
+use Rattle.std.specs.Prelude.{IfErr}
+use Rattle.uf_reply.specs.Commands.{IsAsked, NoStore, generates, of_command, own_store, reads_input, touches_nothing, uses_host}
 use Rattle.uf_top.specs.Around.{around, host_side}
 use Rattle.uf_top.specs.Working.{Serves}
 use Rattle.uf_top.specs.Cars.{ByOwnStore}
-use Rattle.uf_top.proofs.Serving.{words-serve, words-spare}
+use Rattle.uf_top.proofs.Serving.{asked-spare, words-serve}
 use Rattle.uf_top.proofs.command.serve.Goals as goal
 
 pub returns-in-Err-clause-serves : goal.returns-in-Err-clause-serves
-returns-in-Err-clause-serves g c =
+returns-in-Err-clause-serves g c = λ told h.
     words-serve g.S.X.BlockHash.block32 g.N.NameHash.name64
     (around (g.S.Store.seen c.args.store.now) (g.I.Source.left c.args.input.now) (g.I.Source.faults c.args.input.now) (g.O.Sink.holds c.args.output.now) (g.O.Sink.faults c.args.output.now) c.args.touches.now (host_side (g.W.Host.tree c.args.host.now) (g.W.Host.read_faults c.args.host.now) (g.W.Host.write_faults c.args.host.now)))
-    (command_in (map string_bytes c.args.words.now)) c.in-Err.why c.in-Err.ensures.asked
+    told c.in-Err.why (subst (λ asked. IsAsked asked told) c.in-Err.is h)
 
 pub returns-in-Ok-clause-serves : goal.returns-in-Ok-clause-serves
-returns-in-Ok-clause-serves g c =
+returns-in-Ok-clause-serves g c = λ told h.
+    let e : told ≡ Ok c.in-Ok.command = subst (λ asked. IsAsked asked told) c.in-Ok.is h in
     subst (λ asked. Serves g.S.X.BlockHash.block32 g.N.NameHash.name64 asked c.work.result
     (around (g.S.Store.seen c.args.store.now) (g.I.Source.left c.args.input.now) (g.I.Source.faults c.args.input.now) (g.O.Sink.holds c.args.output.now) (g.O.Sink.faults c.args.output.now) c.args.touches.now (host_side (g.W.Host.tree c.args.host.now) (g.W.Host.read_faults c.args.host.now) (g.W.Host.write_faults c.args.host.now)))
     (around (g.S.Store.seen c.work.new.store) (g.I.Source.left c.work.new.input) (g.I.Source.faults c.work.new.input) (g.O.Sink.holds c.work.new.output) (g.O.Sink.faults c.work.new.output) c.work.new.touches (host_side (g.W.Host.tree c.work.new.host) (g.W.Host.read_faults c.work.new.host) (g.W.Host.write_faults c.work.new.host))))
-    (sym c.in-Ok.ensures.asked) c.work.ensures.does
+    (sym e) c.work.ensures.does
 
 pub returns-in-Err-clause-own : goal.returns-in-Err-clause-own
-returns-in-Err-clause-own g c =
-    words-spare g.S.X.BlockHash.block32 (g.I.Source.left c.args.input.now) (g.S.Store.seen c.args.store.now) (g.S.Store.seen c.args.store.now) (of_command own_store NoStore (command_in (map string_bytes c.args.words.now))) c.in-Err.why
-    (asked-only (command_of (map string_bytes c.args.words.now)) c.in-Err.why c.in-Err.ensures.asked)
+returns-in-Err-clause-own g c = λ told h words.
+    asked-spare g.S.X.BlockHash.block32 (g.I.Source.left c.args.input.now) (g.S.Store.seen c.args.store.now) (of_command own_store NoStore told) c.in-Err.why told words
+    (subst (λ asked. IsAsked asked told) c.in-Err.is h)
 
 pub returns-in-Ok-clause-own : goal.returns-in-Ok-clause-own
-returns-in-Ok-clause-own g c =
+returns-in-Ok-clause-own g c = λ told h words.
+    let e : told ≡ Ok c.in-Ok.command = subst (λ asked. IsAsked asked told) c.in-Ok.is h in
     subst (λ asked. IfErr c.work.result (ByOwnStore g.S.X.BlockHash.block32 (of_command own_store NoStore asked) (g.I.Source.left c.args.input.now) (g.S.Store.seen c.args.store.now) (g.S.Store.seen c.work.new.store)))
-    (sym c.in-Ok.ensures.asked) c.work.ensures.own
+    (sym e) c.work.ensures.own
 
 pub returns-in-Ok-clause-left : goal.returns-in-Ok-clause-left
-returns-in-Ok-clause-left g c = λ is. c.work.ensures.left (ap (of_command generates true) (sym c.in-Ok.ensures.asked) ∙ is)
+returns-in-Ok-clause-left g c = λ told h is.
+    let e : told ≡ Ok c.in-Ok.command = subst (λ asked. IsAsked asked told) c.in-Ok.is h in
+    c.work.ensures.left (ap (of_command generates true) (sym e) ∙ is)
 
 pub returns-in-Ok-clause-input : goal.returns-in-Ok-clause-input
-returns-in-Ok-clause-input g c = λ is. c.work.ensures.input (ap (of_command reads_input false) (sym c.in-Ok.ensures.asked) ∙ is)
+returns-in-Ok-clause-input g c = λ told h is.
+    let e : told ≡ Ok c.in-Ok.command = subst (λ asked. IsAsked asked told) c.in-Ok.is h in
+    c.work.ensures.input (ap (of_command reads_input false) (sym e) ∙ is)
 
 pub returns-in-Ok-clause-untouched : goal.returns-in-Ok-clause-untouched
-returns-in-Ok-clause-untouched g c = λ is. c.work.ensures.untouched (ap (of_command touches_nothing true) (sym c.in-Ok.ensures.asked) ∙ is)
+returns-in-Ok-clause-untouched g c = λ told h is.
+    let e : told ≡ Ok c.in-Ok.command = subst (λ asked. IsAsked asked told) c.in-Ok.is h in
+    c.work.ensures.untouched (ap (of_command touches_nothing true) (sym e) ∙ is)
 
 pub returns-in-Ok-clause-host : goal.returns-in-Ok-clause-host
-returns-in-Ok-clause-host g c = λ is. c.work.ensures.host (ap (of_command uses_host false) (sym c.in-Ok.ensures.asked) ∙ is)
+returns-in-Ok-clause-host g c = λ told h is.
+    let e : told ≡ Ok c.in-Ok.command = subst (λ asked. IsAsked asked told) c.in-Ok.is h in
+    c.work.ensures.host (ap (of_command uses_host false) (sym e) ∙ is)
