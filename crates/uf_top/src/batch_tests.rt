@@ -1,4 +1,6 @@
 // Batches over streams and a store in memory.
+ghost use Rattle.std.specs.Prelude.{◌≡◌, ◌<◌};
+
 use crate::batch;
 use crate::tests::{DONE, FINE, Row, Streams, ends, sink, source};
 use std::alloc::Global;
@@ -44,7 +46,11 @@ fn all_end_by<L: Ledger>(
     alloc: Global,
     rows: &[(u64, Row, Streams)],
     blank: Blank,
-) -> Result<bool, Memory> {
+) -> Result<bool, Memory>
+    requires name { blank.name ≡ L.name }
+    requires parts { blank.parts ≡ L.parts }
+    requires some { 0 < blank.parts }
+{
     let mut touches = Steps::<L>::new(blank);
     let mut store = MemStore::<Sha256Hash>::new(alloc);
     let init = Row {
