@@ -1,4 +1,6 @@
 // Commands over a store with a cache.
+ghost use Rattle.std.specs.Prelude.{◌≡◌, ◌<◌};
+
 use crate::run_cached;
 use std::alloc::Global;
 use std::marker::Brand;
@@ -120,17 +122,13 @@ fn all_print<L: Ledger>(
     alloc: Global,
     lines: &[Line],
     entries: usize,
-    blank: Blank,
+    touches: &mut Steps<L>,
 ) -> Result<bool, Memory>
-    requires some { 0 < entries }
-    requires name { blank.name ≡ L.name }
-    requires parts { blank.parts ≡ L.parts }
-    requires full { 0 < blank.parts }
+    requires { 0 < entries }
 {
-    let mut touches = Steps::<L>::new(blank);
     let mut store = Cached::new(alloc, MemStore::<Sha256Hash>::new(alloc), entries)?;
     for line in lines {
-        if !prints(alloc, line, &mut store, &mut touches)? {
+        if !prints(alloc, line, &mut store, touches)? {
             return Ok(false);
         }
     }
@@ -138,27 +136,35 @@ fn all_print<L: Ledger>(
 }
 
 // How a block is found that the store below, whose second load fails, gives only once.
-fn second_load<L: Ledger>(alloc: Global, blank: Blank) -> Result<Load, Memory>
-    requires name { blank.name ≡ L.name }
-    requires parts { blank.parts ≡ L.parts }
-    requires full { 0 < blank.parts }
-{
-    let mut touches = Steps::<L>::new(blank);
+fn second_load<L: Ledger>(alloc: Global, touches: &mut Steps<L>) -> Result<Load, Memory> {
     let mut below = MemStore::<Sha256Hash>::new(alloc);
     let cid = Cid::of::<Sha256Hash>(uf_cid::Codec::Raw, b"block");
+    let _ = below.save(&cid, b"block", touches);
     below.fail_at(CallKind::Load, 1)?;
     let mut store = Cached::new(alloc, below, 1)?;
-    let _ = store.save(&cid, b"block", &mut touches);
-    let _ = store.load(&cid, &mut touches);
-    Ok(store.load(&cid, &mut touches))
+    let _ = store.load(&cid, touches);
+    Ok(store.load(&cid, touches))
+}
+
+fn all<L: Ledger>(alloc: Global, blank: Blank) -> Result<[bool; 4], Memory>
+    requires name { blank.name ≡ L.name }
+    requires parts { blank.parts ≡ L.parts }
+    requires some { 0 < blank.parts }
+{
+    let mut touches = Steps::<L>::new(blank);
+    let file = all_print(alloc, &FILE, 1, &mut touches)?;
+    let sharded = all_print(alloc, &SHARDED, 1, &mut touches)?;
+    let deep = all_print(alloc, &DEEP, 64, &mut touches)?;
+    let found = second_load(alloc, &mut touches)? == Load::Found;
+    Ok([file, sharded, deep, found])
+}
+
+fn all_hold(alloc: Global) -> Result<[bool; 4], Memory> {
+    all::<Brand>(alloc, Blank::new(1))
 }
 
 #[test]
 fn commands_are_done_over_a_cache(rt: HostRuntime) -> Result<(), Memory> {
-    let alloc = rt.alloc();
-    assert!(rt; all_print::<Brand>(alloc, &FILE, 1, Blank::new(1))?);
-    assert!(rt; all_print::<Brand>(alloc, &SHARDED, 1, Blank::new(1))?);
-    assert!(rt; all_print::<Brand>(alloc, &DEEP, 64, Blank::new(1))?);
-    assert!(rt; second_load::<Brand>(alloc, Blank::new(1))? == Load::Found);
+    assert_eq!(rt; all_hold(rt.alloc())?, [true; 4]);
     Ok(())
 }
