@@ -42,6 +42,7 @@ ready() {
         git -C work init -q
         git -C work config core.compression 0
         git -C work config core.fsync loose-object
+        git -C work config gc.auto 0
         git -C work config user.name bench
         git -C work config user.email bench@localhost
         cp -r "$2" work/files

@@ -8,8 +8,8 @@ use Rattle.uf_cid.specs.Cid.{cid_bytes}
 use Rattle.uf_store.specs.Contents.{Told}
 use Rattle.uf_store.specs.Keeping.{KeepsGood}
 use Rattle.uf_store.proofs.Keeping.{KeepsGood-same}
-use Rattle.uf_cache.specs.Entries.{AreKept, Entries, IsKept, MayKeep, is_spelled, used}
-use Rattle.uf_cache.proofs.Finding.{same_cid, spelled}
+use Rattle.uf_cache.specs.Entries.{AreKept, Entries, IsKept, MayKeep, MayPut, is_spelled, used}
+use Rattle.uf_cache.proofs.Finding.{may_put, same_cid, spelled}
 
 module _ (hash : List ℕ → List ℕ) where
   -- a store that keeps good blocks holds the entries still
@@ -39,7 +39,7 @@ module _ (hash : List ℕ → List ℕ) where
           subst (IsKept hash told c) (sym is) one
 
       -- a block may have been put
-      pub AreKept-put : MayKeep cid bytes es now → AreKept hash told now
+      AreKept-put : MayPut cid bytes es now → AreKept hash told now
       AreKept-put (inl is) c b there =
           let e : List ℕ × List ℕ = (cid_bytes c, b) in
           elim (Contains-put_entries (pointwise nat_eq) es (cid_bytes cid) bytes e (moved _ is e there)) [
@@ -50,3 +50,7 @@ module _ (hash : List ℕ → List ℕ) where
             ]
           ]
       AreKept-put (inr is) c b there = kept c b (moved es is (cid_bytes c, b) there)
+
+      -- a node may have been put, and a leaf wasn't
+      pub AreKept-kept : MayKeep cid bytes es now → AreKept hash told now
+      AreKept-kept may = AreKept-put (may_put cid bytes es now may)

@@ -5,6 +5,8 @@ use Rattle.std.specs.Cmp.Lexicographic.{pointwise}
 use Rattle.std.specs.Map.{lookup}
 use Rattle.lru.specs.LruCache.{LruCache, lru_cache, promoted, put_entries}
 use Rattle.uf_cid.specs.declared.cid.Cid.{Cid}
+use Rattle.uf_cid.specs.declared.cid.Codec.{Codec}
+use Rattle.uf_cid.specs.declared.cid.Codec.TheVariants.{DagPb, Raw}
 use Rattle.uf_cid.specs.Blocks.{Lookup}
 use Rattle.uf_cid.specs.Cid.{cid_bytes}
 use Rattle.uf_store.specs.Contents.{Told, held_at}
@@ -29,8 +31,16 @@ abbrev pub with_entry : Cid → List ℕ → Entries → Entries
 with_entry cid bytes es = lru_cache (put_entries (pointwise nat_eq) es (cid_bytes cid) bytes) es.cap
 
 -- the block is the first entry now, or there was no memory for it and the entries are as before
+abbrev pub MayPut : Cid → List ℕ → Entries → Entries → Type 0
+MayPut cid bytes before now = (now ≡ with_entry cid bytes before) ⊎ (now ≡ before)
+
+-- a node may be put so, and a leaf of raw bytes isn't
+abbrev pub MayPutBy : Codec → Cid → List ℕ → Entries → Entries → Type 0
+MayPutBy DagPb cid bytes before now = MayPut cid bytes before now
+MayPutBy Raw cid bytes before now = now ≡ before
+
 abbrev pub MayKeep : Cid → List ℕ → Entries → Entries → Type 0
-MayKeep cid bytes before now = (now ≡ with_entry cid bytes before) ⊎ (now ≡ before)
+MayKeep cid bytes before now = MayPutBy cid.codec cid bytes before now
 
 -- the block of the first entry, where there is one
 abbrev pub first_block : List (List ℕ × List ℕ) → List ℕ → List ℕ

@@ -14,7 +14,7 @@ use uf_cid::{Block, Cid, Memory};
 use uf_edge::Put;
 use uf_store::{Load, Note, NoteRead, Save, Steps, Store};
 
-/// A store that keeps the blocks which it found last in memory, and hands all else to another store.
+/// A store that keeps the nodes which it found last in memory, and hands all else to another store.
 ///
 /// An entry is whole, and the other store holds it under its CID, where that one tells. A block that is found is lent
 /// by the store that found it: after a hit that is the first entry.

@@ -1,4 +1,4 @@
-//! A store over another one, whose blocks that were found last are kept in memory.
+//! A store over another one, whose nodes that were found last are kept in memory.
 #![tactic(auto)]
 
 mod cached;

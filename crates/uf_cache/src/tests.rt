@@ -1,7 +1,7 @@
 // Rows of stores with entries in memory over a store that fails, lies and clashes.
 ghost use Rattle.std.specs.Prelude.{◌≡◌, ◌<◌};
 ghost use Rattle.uf_cid.specs.Cid.{cid_of};
-ghost use Rattle.uf_cid.specs.declared.cid.Codec.TheVariants.{Raw};
+ghost use Rattle.uf_cid.specs.declared.cid.Codec.TheVariants.{DagPb, Raw};
 
 use crate::Cached;
 use std::alloc::Global;
@@ -15,6 +15,7 @@ use uf_store::{CallKind, Load, MemStore, Note, NoteRead, Save, Steps, Store};
 #[derive(Clone, Copy)]
 enum Step {
     Loads(&'static [u8], Load),
+    LoadsLeaf(&'static [u8], Load),
     Lends(&'static [u8]),
     Saves(&'static [u8], Save),
     Notes,
@@ -86,6 +87,18 @@ const CLASHES: [Step; 11] = [
     Step::Keeps(2),
 ];
 
+// A leaf of raw bytes is found below each time, and isn't kept.
+const LEAVES: [Step; 8] = [
+    Step::LoadsLeaf(b"a", Load::Found),
+    Step::Keeps(0),
+    Step::Loads(b"a", Load::Found),
+    Step::Keeps(1),
+    Step::LoadsLeaf(b"a", Load::Found),
+    Step::Lends(b"a"),
+    Step::LoadsLeaf(b"a", Load::Failed),
+    Step::Keeps(1),
+];
+
 // All else goes to the store below and leaves what is kept and lent.
 const PASSES_ON: [Step; 7] = [
     Step::Loads(b"b", Load::Found),
@@ -103,19 +116,27 @@ fn block(alloc: Global, bytes: &[u8]) -> Result<Block, Memory> {
     Ok(block)
 }
 
-fn raw<X: BlockHash>(bytes: &[u8]) -> Cid
+fn node<X: BlockHash>(bytes: &[u8]) -> Cid
+    ensures { result ≡ cid_of X.block32 DagPb bytes.now }
+{
+    Cid::of::<X>(Codec::DagPb, bytes)
+}
+
+fn leaf<X: BlockHash>(bytes: &[u8]) -> Cid
     ensures { result ≡ cid_of X.block32 Raw bytes.now }
 {
     Cid::of::<X>(Codec::Raw, bytes)
 }
 
-// A store that holds `a`, `b`, `ab`, and other bytes in the place of `c`. One of its later loads fails.
+// A store that holds the nodes `a`, `b` and `ab`, the leaf `a`, and other bytes in the place of the node `c`. One of its
+// later loads fails.
 fn below(alloc: Global, failing: u64) -> Result<MemStore<Sum8Hash>, Memory> {
     let mut store = MemStore::new(alloc);
-    store.plant(&raw::<Sum8Hash>(b"a"), block(alloc, b"a")?)?;
-    store.plant(&raw::<Sum8Hash>(b"b"), block(alloc, b"b")?)?;
-    store.plant(&raw::<Sum8Hash>(b"ab"), block(alloc, b"ab")?)?;
-    store.plant(&raw::<Sum8Hash>(b"c"), block(alloc, b"x")?)?;
+    store.plant(&node::<Sum8Hash>(b"a"), block(alloc, b"a")?)?;
+    store.plant(&node::<Sum8Hash>(b"b"), block(alloc, b"b")?)?;
+    store.plant(&node::<Sum8Hash>(b"ab"), block(alloc, b"ab")?)?;
+    store.plant(&node::<Sum8Hash>(b"c"), block(alloc, b"x")?)?;
+    store.plant(&leaf::<Sum8Hash>(b"a"), block(alloc, b"a")?)?;
     store.fail_at(CallKind::Load, failing)?;
     Ok(store)
 }
@@ -128,7 +149,7 @@ fn saves<L: Ledger>(
     if bytes.len() > 2 {
         return Save::Failed;
     }
-    store.save(&raw::<Sum8Hash>(bytes), bytes, touches)
+    store.save(&node::<Sum8Hash>(bytes), bytes, touches)
 }
 
 fn lends(store: &Cached<MemStore<Sum8Hash>>, bytes: &[u8]) -> bool {
@@ -153,7 +174,8 @@ fn goes<L: Ledger>(
     touches: &mut Steps<L>,
 ) -> bool {
     match step {
-        Step::Loads(bytes, answer) => store.load(&raw::<Sum8Hash>(*bytes), touches) == *answer,
+        Step::Loads(bytes, answer) => store.load(&node::<Sum8Hash>(*bytes), touches) == *answer,
+        Step::LoadsLeaf(bytes, answer) => store.load(&leaf::<Sum8Hash>(*bytes), touches) == *answer,
         Step::Lends(bytes) => lends(store, *bytes),
         Step::Saves(bytes, answer) => saves(store, *bytes, touches) == *answer,
         Step::Notes => notes(store),
@@ -181,7 +203,7 @@ fn first_wrong_step<L: Ledger>(
     Ok(None)
 }
 
-fn first_wrong_steps<L: Ledger>(alloc: Global, blank: Blank) -> Result<[Option<usize>; 6], Memory>
+fn first_wrong_steps<L: Ledger>(alloc: Global, blank: Blank) -> Result<[Option<usize>; 7], Memory>
     requires name { blank.name ≡ L.name }
     requires parts { blank.parts ≡ L.parts }
     requires some { 0 < blank.parts }
@@ -194,15 +216,16 @@ fn first_wrong_steps<L: Ledger>(alloc: Global, blank: Blank) -> Result<[Option<u
         first_wrong_step(alloc, 64, 100, &NOT_FOUND, &mut touches)?,
         first_wrong_step(alloc, 2, 3, &CLASHES, &mut touches)?,
         first_wrong_step(alloc, 64, 100, &PASSES_ON, &mut touches)?,
+        first_wrong_step(alloc, 64, 4, &LEAVES, &mut touches)?,
     ])
 }
 
-fn first_wrong_step_of_each(alloc: Global) -> Result<[Option<usize>; 6], Memory> {
+fn first_wrong_step_of_each(alloc: Global) -> Result<[Option<usize>; 7], Memory> {
     first_wrong_steps::<Brand>(alloc, Blank::new(1))
 }
 
 #[test]
 fn blocks_are_kept_lent_and_let_go(rt: HostRuntime) -> Result<(), Memory> {
-    assert_eq!(rt; first_wrong_step_of_each(rt.alloc())?, [None; 6]);
+    assert_eq!(rt; first_wrong_step_of_each(rt.alloc())?, [None; 7]);
     Ok(())
 }

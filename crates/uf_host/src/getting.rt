@@ -19,10 +19,11 @@ use uf_edge::{Host, Kind};
 use uf_lenient::{Limits, survey};
 use uf_store::{Steps, Store, StoreFault};
 
-/// Writes the file or the directory that a CID denotes to a path of a host, where nothing is there and the path's folder
-/// is. Slashes at the end of the path are taken off. All of it is read first, so that nothing is written of what denotes
-/// no tree. Then each folder is made before its members, which are written in byte order of their names, a file piece by
-/// piece. After a failed write all that was written stays. Depth and visits are counted anew for each file and directory.
+/// Writes the file or the directory that a CID denotes to a path of a host, where nothing is there and the path's
+/// folder is. Slashes at the end of the path are taken off. All of it is read first, so that nothing is written of what
+/// denotes no tree. Then each folder is made before its members, which are written in byte order of their names, a file
+/// piece by piece. After a failed write all that was written stays. Depth and visits are counted anew for each file and
+/// directory.
 pub fn get<S: Store, W: Host, L: Ledger>(
     alloc: Global,
     store: &mut S,
@@ -32,8 +33,8 @@ pub fn get<S: Store, W: Host, L: Ledger>(
     limits: &Limits,
     touches: &mut Steps<L>,
 ) -> Result<(), HostFault>
-    // Over a store that tells: the denoted tree stands at the path, or a front of it where the host or the store failed,
-    // or nothing was written and this is why.
+    // Over a store that tells: the denoted tree stands at the path, or a front of it where the host or the store
+    // failed, or nothing was written and this is why.
     ensures gets { (t : Contents) → (S.seen store.old).told ≡ Some t
         → Gets (held_at t) limits.now cid.now (trimmed path.now) (W.tree host.old) (W.tree host.new) result }
 

@@ -2,6 +2,7 @@
 #![tactic(auto)]
 
 mod adding;
+mod apart;
 mod fault;
 mod getting;
 mod import;
@@ -12,6 +13,7 @@ mod site;
 mod walking;
 
 pub use adding::add;
+pub use apart::{add_apart, hash_rows};
 pub use fault::HostFault;
 pub use getting::get;
 pub use import::{AddedRow, AddedRows};

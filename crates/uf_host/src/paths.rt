@@ -26,8 +26,8 @@ pub fn row_of(path: &str) -> &str
     if last.is_empty() { "/" } else { last }
 }
 
-/// The last name of a path as the last row of what is added there has it: slashes at its end are taken off, and it is `/`
-/// where nothing else is left.
+/// The last name of a path as the last row of what is added there has it: slashes at its end are taken off, and it is
+/// `/` where nothing else is left.
 pub fn last_name(path: &str) -> &str
     ensures { result.now ≡ first_row (trimmed path.now) }
 {

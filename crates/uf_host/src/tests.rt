@@ -5,7 +5,7 @@ ghost use Rattle.uf_edge.specs.Host.{is_member_name};
 ghost use Rattle.uf_tree.specs.Profiles.{is_profile};
 
 use crate::site::path_of;
-use crate::{AddedRows, HostFault, add};
+use crate::{AddedRows, HostFault, add, add_apart, hash_rows};
 use std::alloc::Global;
 use std::marker::Brand;
 use std::sync::ledger::{Blank, Ledger};
@@ -299,6 +299,40 @@ fn depths_hold<L: Ledger>(alloc: Global, touches: &mut Steps<L>) -> Result<bool,
     Ok(whole.as_str().starts_with("d/d/") && is_deep)
 }
 
+// The lines of what is added of a folder with touches that are counted apart.
+fn adds_apart(alloc: Global, host: &mut MemHost, path: &Text) -> Result<Text, Memory> {
+    let mut store = MemStore::<Sha256Hash>::new(alloc);
+    let p = profile(262144);
+    let answer = add_apart::<MemStore<Sha256Hash>, FirstEight, MemHost>(
+        alloc, &mut store, &p, host, path, true,
+    );
+    lines_of(alloc, &answer)
+}
+
+// The lines of what would be added of it, with nothing kept.
+fn hashes(alloc: Global, host: &mut MemHost, path: &Text) -> Result<Text, Memory> {
+    let p = profile(262144);
+    let answer = hash_rows::<Sha256Hash, FirstEight, MemHost>(alloc, &p, host, path, true);
+    lines_of(alloc, &answer)
+}
+
+// Whether a folder has these rows in both ways.
+fn is_apart(alloc: Global, nodes: &[Node<'_>], path: &str, wanted: &str) -> Result<bool, Memory> {
+    let mut host = host_of(alloc, nodes, Calls::new(alloc))?;
+    let path = text_of(alloc, &[path])?;
+    let kept = adds_apart(alloc, &mut host, &path)?;
+    let hashed = hashes(alloc, &mut host, &path)?;
+    Ok(kept.as_str() == wanted && hashed.as_str() == wanted)
+}
+
+fn apart_holds(alloc: Global) -> Result<bool, Memory> {
+    let wanted = text_of(
+        alloc,
+        &["d/a ", NOTHING, "\nd/b ", NOTHING, "\nd ", A_AND_B, "\n"],
+    )?;
+    is_apart(alloc, &FOLDER, "d", wanted.as_str())
+}
+
 fn all<L: Ledger>(alloc: Global, blank: Blank) -> Result<(bool, bool, bool), Memory>
     requires name { blank.name ≡ L.name }
     requires parts { blank.parts ≡ L.parts }
@@ -322,4 +356,9 @@ fn files_and_folders_are_added_or_refused(rt: HostRuntime) -> Result<(), Memory>
     assert!(rt; failures);
     assert!(rt; depths);
     Ok(())
+}
+
+#[test]
+fn touches_are_counted_apart(rt: HostRuntime) {
+    assert_eq!(rt; apart_holds(rt.alloc()), Ok(true));
 }

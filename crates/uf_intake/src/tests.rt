@@ -1,7 +1,7 @@
 // Sources in memory that are read as files. Each CID was computed outside of this program.
 ghost use Rattle.std.specs.Prelude.{◌≡◌, ◌<◌};
 
-use crate::{IntakeFault, file_of};
+use crate::{IntakeFault, file_apart, file_of, hash_of};
 use std::alloc::Global;
 use std::marker::Brand;
 use std::sync::ledger::{Blank, Ledger};
@@ -82,7 +82,37 @@ fn all_are_so(alloc: Global) -> Result<bool, Memory> {
     are_so::<Brand>(alloc, Blank::new(1))
 }
 
+// A source of these bytes.
+fn source_of(alloc: Global, bytes: &[u8]) -> Result<MemSource, Memory> {
+    let mut piece = Block::new(alloc);
+    piece.extend(bytes)?;
+    Ok(MemSource::new(piece, 4, Calls::new(alloc)))
+}
+
+// Whether a file has its CID where its touches are counted apart, and where nothing is kept.
+fn apart_is_so(alloc: Global) -> Result<bool, Memory> {
+    let (bytes, _, said) = ROWS[1];
+    let mut store = MemStore::<Sha256Hash>::new(alloc);
+    let mut input = source_of(alloc, bytes)?;
+    let mut again = source_of(alloc, bytes)?;
+    let kept = file_apart(alloc, Profile::usual(), &mut store, &mut input);
+    let hashed = hash_of::<Sha256Hash, MemSource>(alloc, Profile::usual(), &mut again);
+    Ok(match (kept, hashed) {
+        (Ok(kept), Ok(hashed)) => {
+            kept.cid.text().as_slice() == said
+                && hashed.cid.text().as_slice() == said
+                && store.count() == 1
+        }
+        _ => false,
+    })
+}
+
 #[test]
 fn sources_are_files_or_told_to_fail(rt: HostRuntime) {
     assert_eq!(rt; all_are_so(rt.alloc()), Ok(true));
+}
+
+#[test]
+fn touches_are_counted_apart(rt: HostRuntime) {
+    assert_eq!(rt; apart_is_so(rt.alloc()), Ok(true));
 }

@@ -201,8 +201,8 @@ adopts other = false
 abbrev pub reads_tree_alone : Command → Bool
 reads_tree_alone command = needs_standing command && not (adopts command)
 
--- a store of a command's own: none, one of the sections of a CAR with which it compares what is held, or one in which it
--- generates a tree
+-- a store of a command's own: none, one of the sections of a CAR with which it compares what is held, or one in which
+-- it generates a tree
 pub data OwnStore : Type 0 where
   NoStore OfCarSections OfTree : OwnStore
 
@@ -247,7 +247,8 @@ only_reads (Same cid) = true
 only_reads (Gen n seed) = true
 only_reads other = false
 
--- what a command may write to the store: nothing; blocks and a sync; a Head where there was none; blocks, a sync and the Head
+-- what a command may write to the store: nothing; blocks and a sync; a Head where there was none; blocks, a sync and
+-- the Head
 pub data WriteShape : Type 0 where
   NoWrites SyncsBlocks MakesHead MovesHead : WriteShape
 

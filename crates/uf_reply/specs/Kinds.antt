@@ -11,8 +11,8 @@ use Rattle.uf_reply.specs.declared.types.Command.TheVariants.{Init, Add, AddFrom
 use Rattle.uf_reply.specs.declared.types.Refusal.{Refusal}
 use Rattle.uf_reply.specs.declared.types.Refusal.TheVariants as refusal
 
--- the kinds of refusals: a damaged block is a failure of the store, the sections of a CAR may lack a block, and blocks may
--- clash in a store of the command's own
+-- the kinds of refusals: a damaged block is a failure of the store, the sections of a CAR may lack a block, and blocks
+-- may clash in a store of the command's own
 pub data RefusalKind : Type 0 where
   OfRule OfDag OfHost OfPath OfLongInput OfUsage OfReady OfRead OfWrite OfFailure OfMissing OfBadBlock OfClash OfMemory
       OfCar OfSections OfOwnClash : RefusalKind

@@ -6,3 +6,4 @@ pub mod Dags
 pub mod Kinds
 pub mod Lines
 pub mod Statuses
+pub mod Telling

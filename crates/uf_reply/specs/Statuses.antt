@@ -1,5 +1,5 @@
 -- The statuses of commands.
-use Rattle.std.specs.Prelude.{ℕ, List, [], codes}
+use Rattle.std.specs.Prelude.{ℕ, List, [], Bool, true, false, codes}
 use Rattle.std.specs.declared.result.Result.{Result}
 use Rattle.std.specs.declared.result.Result.TheVariants.{Ok, Err}
 use Rattle.uf_store.specs.declared.store.StoreFault.{StoreFault}
@@ -36,6 +36,29 @@ plain_line status.WriteFault = codes "error: write\n"
 plain_line status.Clash = []
 plain_line status.Memory = codes "error: memory\n"
 plain_line status.NotReady = []
+
+-- the batch ends at a line with this status
+abbrev pub ends_batch : Status → Bool
+ends_batch status.Ok = false
+ends_batch status.Rule = false
+ends_batch status.Usage = false
+ends_batch status.Missing = false
+ends_batch status.NotReady = false
+ends_batch other = true
+
+-- what is printed behind a line's command
+abbrev pub mark : Status → List ℕ
+mark status.Ok = codes "[0]\n"
+mark status.Rule = codes "[1]\n"
+mark status.Usage = codes "[2]\n"
+mark status.StoreFault = codes "[3]\n"
+mark status.Missing = codes "[4]\n"
+mark status.BadBlock = codes "[5]\n"
+mark status.ReadFault = codes "[6]\n"
+mark status.WriteFault = codes "[7]\n"
+mark status.Clash = codes "[8]\n"
+mark status.Memory = codes "[9]\n"
+mark status.NotReady = codes "[10]\n"
 
 -- the status of a fault of the store
 abbrev pub fault_status : StoreFault → Status

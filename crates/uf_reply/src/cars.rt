@@ -41,8 +41,8 @@ pub fn kept_refusal(fault: CarFault) -> Refusal
     }
 }
 
-/// A fault of the store into which a CAR was read, as a refusal: its sections lack a block, or two of them clash. Such a
-/// store is made for the CAR, and fails for want of memory alone.
+/// A fault of the store into which a CAR was read, as a refusal: its sections lack a block, or two of them clash. Such
+/// a store is made for the CAR, and fails for want of memory alone.
 pub fn section_refusal(fault: StoreFault) -> Refusal
     ensures { result ≡ refusal_of_section fault }
 {
@@ -52,8 +52,8 @@ pub fn section_refusal(fault: StoreFault) -> Refusal
     }
 }
 
-/// A fault of a store of a command's own, as a refusal. Such a store holds what it was given and doesn't fail: what is no
-/// clash is want of memory.
+/// A fault of a store of a command's own, as a refusal. Such a store holds what it was given and doesn't fail: what is
+/// no clash is want of memory.
 pub fn own_refusal(fault: StoreFault) -> Refusal
     ensures { result ≡ refusal_of_own fault }
 {

@@ -1,5 +1,5 @@
-//! Commands and what is said of them, with no store: words read as a command, refusals, statuses, and the texts that are
-//! printed.
+//! Commands and what is said of them, with no store: words read as a command, refusals, statuses, and the texts that
+//! are printed.
 #![tactic(auto)]
 
 mod asking;
@@ -10,6 +10,7 @@ mod from;
 mod lines;
 mod rows;
 mod status;
+mod telling;
 mod types;
 
 pub use batches::{Request, read_line, read_request};
@@ -20,4 +21,5 @@ pub use dags::{adopted_name, dag_refusal, no_file};
 pub use lines::{line, plain, refusal_status, two_blocks};
 pub use rows::{added_row, name_lines, put_added, put_line, put_number, row_lines, stat_text};
 pub use status::Status;
+pub use telling::{print, tell, tell_end};
 pub use types::{Ask, Command, DagRule, Edit, HostRule, Refusal};

@@ -18,7 +18,7 @@ pub enum Status {
 }
 
 impl Status {
-    ghost use Rattle.uf_reply.specs.Statuses.{plain_line, status_number};
+    ghost use Rattle.uf_reply.specs.Statuses.{ends_batch, mark, plain_line, status_number};
 
     /// The exit status of the process, 0 to 10 in the order of the variants.
     pub fn number(&self) -> u8
@@ -27,8 +27,8 @@ impl Status {
         *self as u8
     }
 
-    /// The line that goes to `errors`, with its end, where the status alone says it; nothing where there is none, or where
-    /// it has details.
+    /// The line that goes to `errors`, with its end, where the status alone says it; nothing where there is none, or
+    /// where it has details.
     pub fn plain_line(&self) -> &'static [u8]
         ensures { result.now ≡ plain_line self.now }
     {
@@ -44,6 +44,35 @@ impl Status {
             | Status::BadBlock
             | Status::Clash
             | Status::NotReady => b"",
+        }
+    }
+
+    /// Whether a batch ends at a line with this status.
+    pub fn ends_batch(&self) -> bool
+        ensures { result ≡ ends_batch self.now }
+    {
+        !matches!(
+            self,
+            Status::Ok | Status::Rule | Status::Usage | Status::Missing | Status::NotReady
+        )
+    }
+
+    /// What is printed behind a line's command.
+    pub fn mark(&self) -> &'static [u8]
+        ensures { result.now ≡ mark self.now }
+    {
+        match self {
+            Status::Ok => b"[0]\n",
+            Status::Rule => b"[1]\n",
+            Status::Usage => b"[2]\n",
+            Status::StoreFault => b"[3]\n",
+            Status::Missing => b"[4]\n",
+            Status::BadBlock => b"[5]\n",
+            Status::ReadFault => b"[6]\n",
+            Status::WriteFault => b"[7]\n",
+            Status::Clash => b"[8]\n",
+            Status::Memory => b"[9]\n",
+            Status::NotReady => b"[10]\n",
         }
     }
 }

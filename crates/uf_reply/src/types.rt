@@ -26,9 +26,9 @@ pub enum Ask {
     Edit { edit: Edit },
 }
 
-/// A command, its paths read. `Get` writes what is at a path in a DAG to a path of the host, and `Adopt` copies it to where
-/// a path of the tree leads. `AddTo` puts the input there as a file, and `AddFromTo` what the host has at a path. `Gen` makes
-/// a tree of `n` files on a store of its own.
+/// A command, its paths read. `Get` writes what is at a path in a DAG to a path of the host, and `Adopt` copies it to
+/// where a path of the tree leads. `AddTo` puts the input there as a file, and `AddFromTo` what the host has at a path.
+/// `Gen` makes a tree of `n` files on a store of its own.
 #[derive(Drop)]
 pub enum Command {
     Init {
@@ -87,8 +87,8 @@ pub enum Command {
     },
 }
 
-/// The rules by which what is asked of the DAGs of others is refused: a path leads to nothing, goes on behind a file, or
-/// leads to a directory; a block is none of UnixFS, for a numbered reason; a directory has a name twice, or one that
+/// The rules by which what is asked of the DAGs of others is refused: a path leads to nothing, goes on behind a file,
+/// or leads to a directory; a block is none of UnixFS, for a numbered reason; a directory has a name twice, or one that
 /// isn't good; a block is of a kind that isn't read, or too many links away; or there are too many blocks.
 #[derive(Drop)]
 pub enum DagRule {
@@ -103,9 +103,9 @@ pub enum DagRule {
     TooMany,
 }
 
-/// The rules by which what is asked of the host is refused, each with a path in it: nothing is there, or no folder that is
-/// there has it; it is neither a file nor a folder; something is there already; a name isn't good; or a folder is too many
-/// folders down.
+/// The rules by which what is asked of the host is refused, each with a path in it: nothing is there, or no folder that
+/// is there has it; it is neither a file nor a folder; something is there already; a name isn't good; or a folder is
+/// too many folders down.
 #[derive(Drop)]
 pub enum HostRule {
     Absent(Text),
@@ -116,8 +116,8 @@ pub enum HostRule {
 }
 
 /// Why a command is refused. A fault of a CAR has its number, and the byte with which the header or the section begins.
-/// The sections of one that is compared may lack the block of a CID. In a store of a command's own, of such sections or of
-/// what it generates, two blocks may clash, the earlier one first.
+/// The sections of one that is compared may lack the block of a CID. In a store of a command's own, of such sections or
+/// of what it generates, two blocks may clash, the earlier one first.
 #[derive(Drop)]
 pub enum Refusal {
     Rule(Rule),

@@ -6,7 +6,7 @@ ghost use Rattle.uf_reply.specs.Batches.{asks_batch};
 ghost use Rattle.uf_reply.specs.Commands.{command_in, generates, of_command, reads_input, touches_nothing, uses_host};
 ghost use Rattle.uf_top.specs.Around.{around, host_side};
 ghost use Rattle.uf_top.specs.Batch.{Batches, scene};
-ghost use Rattle.uf_top.specs.Causes.{IsSent};
+ghost use Rattle.uf_reply.specs.Telling.{IsSent};
 ghost use Rattle.uf_top.specs.Running.{Runs};
 ghost use Rattle.uf_tree.specs.Standing.{Standing};
 

@@ -1,5 +1,5 @@
 // Commands over the store in the folder that the test runs in.
-use crate::{ENTRIES, serve};
+use crate::{Around, ENTRIES, serve};
 use std::alloc::Global;
 use std::fs::Files;
 use std::marker::Brand;
@@ -73,7 +73,7 @@ const RUNS: [Row; 8] = [
     },
 ];
 
-fn split(alloc: Global, line: &str) -> Result<Vec<String>, Memory> {
+pub fn split(alloc: Global, line: &str) -> Result<Vec<String>, Memory> {
     let mut words = Vec::new(alloc);
     for word in line.split(' ') {
         words.push(String::from_str(alloc, word)?)?;
@@ -86,25 +86,24 @@ fn ends<R: Files + RandomSource>(alloc: Global, files: &R, row: &Row) -> Result<
     let words = split(alloc, row.words)?;
     let mut bytes = Block::new(alloc);
     bytes.extend(row.input)?;
-    let mut input = MemSource::new(bytes, 65536, Calls::new(alloc));
-    let mut output = MemSink::new(alloc, 1000, Calls::new(alloc))?;
-    let mut errors = MemSink::new(alloc, 1000, Calls::new(alloc))?;
+    let mut around = Around {
+        host: DiskHost::new(alloc, files),
+        input: MemSource::new(bytes, 65536, Calls::new(alloc)),
+        output: MemSink::new(alloc, 1000, Calls::new(alloc))?,
+        errors: MemSink::new(alloc, 1000, Calls::new(alloc))?,
+    };
     let mut store = Cached::new(alloc, DiskStore::new(alloc, files), ENTRIES)?;
-    let mut host = DiskHost::new(alloc, files);
     let status = serve::<Brand, &R, DiskHost<&R>, MemSource, MemSink, MemSink>(
         alloc,
         &words,
         &mut store,
-        &mut host,
-        &mut input,
-        &mut output,
-        &mut errors,
+        &mut around,
         Blank::new(1),
     );
     Ok(
         status.number() == row.status
-            && output.bytes() == row.output
-            && errors.bytes() == row.errors,
+            && around.output.bytes() == row.output
+            && around.errors.bytes() == row.errors,
     )
 }
 

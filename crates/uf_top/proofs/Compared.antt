@@ -1,5 +1,5 @@
 -- How it is printed how what is held compares with a CAR.
-use Rattle.std.proofs.Common.{◌≡◌, ◌≢◌, ◌⊎◌, ℕ, List, [], true, false, arith, refl, sym, ap, subst, ◌∙◌, inl, inr, Some, None, Result, Ok, Err}
+use Rattle.std.proofs.Common.{◌≡◌, ◌≢◌, ◌⊎◌, ℕ, List, [], true, false, refl, sym, ap, subst, inl, inr, Some, None, Result, Ok, Err}
 use Rattle.std.specs.Prelude.{IfErr, IsSome, ⊤}
 use Rattle.uf_car.specs.Reading.{car_read}
 use Rattle.uf_cid.specs.Blocks.{Lookup}
@@ -9,7 +9,6 @@ use Rattle.uf_edge.specs.Streams.{after}
 use Rattle.uf_edge.specs.Streams as streams
 use Rattle.uf_mfs.specs.Standing.{TellsHeld, head_in}
 use Rattle.uf_mfs.specs.Touches.{IsBlaming}
-use Rattle.uf_store.specs.Calls.{Calm}
 use Rattle.uf_store.specs.Contents.{Told}
 use Rattle.uf_store.specs.Faults.{NoneIsBad}
 use Rattle.uf_store.specs.Seen.{Seen}
@@ -31,7 +30,8 @@ use Rattle.uf_top.specs.Answering.{DoesAnswer}
 use Rattle.uf_top.specs.Around.{HostSide, RisesFor, around}
 use Rattle.uf_top.specs.Cars.{ByOwnStore, ComparesCar}
 use Rattle.uf_top.specs.Causes.{IsBadIn, IsReadyBy}
-use Rattle.uf_top.specs.Endings.{EndsBy, IsCut, Prints, PrintsPart}
+use Rattle.uf_top.specs.Endings.{EndsBy, PrintsPart}
+use Rattle.uf_reply.specs.Telling.{IsCut, Prints}
 use Rattle.uf_top.specs.Losing.{DoesOver}
 use Rattle.uf_top.specs.Naming.{StaysNamed, TellsBlocks}
 use Rattle.uf_top.specs.Reply.{Outside, World, car_compared, in_world, reply}

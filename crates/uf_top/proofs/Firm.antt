@@ -38,7 +38,7 @@ pub added-is : (front added done rest ws : List Write) → ws ≡ front ++ added
 added-is front added done rest ws is cut = behind front added (done ++ rest) (sym is ∙ cut ∙ append_assoc front done rest)
 
 -- a front of two lists ends in the first or in the second
-cut : (xs ys done rest : List Write) → xs ++ ys ≡ done ++ rest → ((more : List Write) × (xs ≡ done ++ more)) ⊎ ((past : List Write) × (done ≡ xs ++ past) × (ys ≡ past ++ rest))
+pub cut : (xs ys done rest : List Write) → xs ++ ys ≡ done ++ rest → ((more : List Write) × (xs ≡ done ++ more)) ⊎ ((past : List Write) × (done ≡ xs ++ past) × (ys ≡ past ++ rest))
 cut [] ys done rest e = inr (done, refl, e)
 cut (x ∷ xs) ys [] rest e = inl (x ∷ xs, refl)
 cut (x ∷ xs) ys (d ∷ done) rest e =

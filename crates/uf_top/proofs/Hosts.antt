@@ -508,7 +508,7 @@ module _ (X : List ℕ → List ℕ) (N : List ℕ → ℕ) (p : Profile) (host 
   synced-text a b text (Err refusal.Write) synced is stops h = absurd stops
   synced-text a b text (Err (refusal.Store fault)) synced is stops h = stops
 
-stops-read : (r : Result (List ℕ) Refusal) → Stops r → is_read r ≡ false
+pub stops-read : (r : Result (List ℕ) Refusal) → Stops r → is_read r ≡ false
 stops-read (Ok text) h = refl
 stops-read (Err (refusal.Rule rule)) h = absurd h
 stops-read (Err (refusal.Dag rule)) h = absurd h

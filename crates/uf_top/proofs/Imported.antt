@@ -40,7 +40,8 @@ use Rattle.uf_top.specs.Answering.{DoesAnswer}
 use Rattle.uf_top.specs.Around.{CountsCanRise, HostSide, RisesFor, around}
 use Rattle.uf_top.specs.Cars.{KeepsCar, TellsRoots}
 use Rattle.uf_top.specs.Causes.{IsBadIn, IsReadyBy, Stops, is_read}
-use Rattle.uf_top.specs.Endings.{EndsBy, IsCut, Prints, PrintsPart}
+use Rattle.uf_top.specs.Endings.{EndsBy, PrintsPart}
+use Rattle.uf_reply.specs.Telling.{IsCut, Prints}
 use Rattle.uf_top.specs.Losing.{DoesOver}
 use Rattle.uf_top.specs.Naming.{NamesAfter, TellsBlocks}
 use Rattle.uf_top.specs.Shapes.{WritesAs}

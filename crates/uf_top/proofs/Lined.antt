@@ -1,15 +1,15 @@
 -- From what a line did to what a batch did.
-use Rattle.std.proofs.Common.{◌≡◌, ◌∙◌, ℕ, ◌+◌, ◌<◌, List, [], ◌∷◌, ◌++◌, Bool, true, false, refl, sym, ap, subst, inl, inr, append_assoc, append-nil, arith, Option, None, Some, Result, Ok, Err}
-use Rattle.std.specs.Prelude.{◌⊎◌, IfErr, IfSome, if◌then◌else◌}
-use Rattle.uf_edge.specs.Counts.{Counts, Rose}
+use Rattle.std.proofs.Common.{◌≡◌, ◌∙◌, ℕ, ◌+◌, List, [], ◌∷◌, ◌++◌, Bool, true, false, refl, sym, ap, subst, inl, inr, append_assoc, append-nil, Option, None, Some, Result, Err}
+use Rattle.std.specs.Prelude.{◌⊎◌, IfSome, if◌then◌else◌}
+use Rattle.uf_edge.specs.Counts.{Counts}
 use Rattle.uf_edge.specs.Streams as streams
 use Rattle.uf_edge.specs.declared.streams.Sent.{Sent}
 use Rattle.uf_edge.specs.declared.streams.Sent.TheVariants.{Done, Failed}
-use Rattle.uf_lines.specs.LinesIn.{LinesIn, last_line, lines_in, long_lines, with_lines}
+use Rattle.uf_lines.specs.LinesIn.{LinesIn, lines_in, with_lines}
 use Rattle.uf_lines.specs.Reading.{lines_told, with_line_told}
 use Rattle.uf_reply.proofs.Asked.{words-only}
 use Rattle.uf_reply.specs.Batches.{IsAskedBy, asked_in_batch, is_for_batch, line_asks, line_in}
-use Rattle.uf_reply.specs.Commands.{IsOfWords, NoStore, asked, of_command, own_store}
+use Rattle.uf_reply.specs.Commands.{IsOfWords, NoStore, asked}
 use Rattle.uf_reply.specs.Statuses.{no_memory}
 use Rattle.uf_reply.specs.declared.status.Status.{Status}
 use Rattle.uf_reply.specs.declared.status.Status.TheVariants as status
@@ -20,8 +20,8 @@ use Rattle.uf_words.specs.Commands.{command_of}
 use Rattle.uf_words.specs.Lines.{line_words}
 use Rattle.uf_words.specs.declared.command.Cmd.{Cmd}
 use Rattle.uf_top.specs.Around.{Around}
-use Rattle.uf_top.specs.Batch.{AreOf, AtLine, ByMemory, ByReading, DoesLine, LineCut, LineDone, LineEnds, LineGone, LinePassed, LineServed, LinesDone, MarksCut, MarksLast, MarksOn, PrintsCut, PrintsWhole, Said, Scene, ServesLine, SinkSide, TooLong, WithInput, ClosesLine, mark}
-use Rattle.uf_top.specs.Endings.{TellsEnd}
+use Rattle.uf_top.specs.Batch.{DoesLine, LineDone, LineGone, LineServed, LinesDone, PrintsCut, PrintsWhole, Said, Scene, ServesLine, SinkSide, ClosesLine}
+use Rattle.uf_reply.specs.Telling.{TellsEnd}
 use Rattle.uf_top.proofs.Runs.{runs-told}
 use Rattle.uf_top.proofs.Serving.{words-spare}
 

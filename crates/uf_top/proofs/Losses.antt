@@ -3,7 +3,6 @@ use Rattle.std.proofs.Common.{◌≡◌, ◌⊎◌, ℕ, ◌+◌, ◌≤◌, Lis
 use Rattle.std.specs.Prelude.{IfSome}
 use Rattle.uf_cid.specs.Blocks.{Held, Lookup}
 use Rattle.uf_mfs.specs.Reading.{AreHeights}
-use Rattle.uf_mfs.specs.Standing.{head_in}
 use Rattle.uf_store.specs.Calls.{Calm}
 use Rattle.uf_store.specs.declared.store.StoreFault.TheVariants.{Memory}
 use Rattle.uf_tree.specs.Tree.{Dir, Entries}
@@ -20,7 +19,7 @@ use Rattle.uf_reply.specs.declared.types.Refusal.TheVariants as refusal
 use Rattle.uf_top.specs.Around.{AllWritten, Around, HasOutside, MetNone}
 use Rattle.uf_top.specs.Bounds.{words_touch}
 use Rattle.uf_top.specs.Causes.{KeepsHead}
-use Rattle.uf_top.specs.Endings.{TellsEnd, has_details}
+use Rattle.uf_reply.specs.Telling.{TellsEnd, has_details}
 use Rattle.uf_top.specs.Losing.{DoesOver, EndsOver, words_need}
 use Rattle.uf_top.specs.Naming.{NamesAfter, StaysNamed, TellsBlocks}
 use Rattle.uf_top.specs.Working.{Serves}

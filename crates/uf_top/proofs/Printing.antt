@@ -1,9 +1,9 @@
 -- From the text of a command that is made before anything is printed to the command that is done.
-use Rattle.std.proofs.Common.{◌≡◌, ◌≢◌, ◌⊎◌, ℕ, ◌<◌, ◌≤◌, ◌+◌, List, [], ◌∷◌, ◌++◌, length, take, true, false, arith, refl, sym, ap, subst, ◌∙◌, inl, inr, append-nil, Some, None, Bool, Result, Ok, Err}
+use Rattle.std.proofs.Common.{◌≡◌, ◌≢◌, ◌⊎◌, ℕ, List, [], ◌∷◌, length, take, true, false, arith, refl, sym, ap, subst, ◌∙◌, inl, inr, append-nil, Some, None, Bool, Result, Ok, Err}
 use Rattle.std.specs.Prelude.{◌&&◌, not, IfErr, IfOk, ⊤}
 use Rattle.uf_cid.specs.Blocks.{Held, Lookup}
 use Rattle.uf_cid.specs.declared.cid.Cid.{Cid}
-use Rattle.uf_edge.specs.Counts.{Counts, Stood}
+use Rattle.uf_edge.specs.Counts.{Counts}
 use Rattle.uf_edge.specs.Host.{HostTold, HostTree}
 use Rattle.uf_edge.specs.Streams.{after, AppendsPrefix}
 use Rattle.uf_edge.specs.Streams as streams
@@ -20,7 +20,7 @@ use Rattle.uf_tree.specs.Tree.{Entries}
 use Rattle.uf_tree.specs.declared.profile.Profile.{Profile}
 use Rattle.uf_reply.specs.Commands.{command_writes, needs_standing, uses_host, writes_host}
 use Rattle.uf_reply.specs.Commands as commands
-use Rattle.uf_reply.specs.Kinds.{IsOf, OfCar, OfDag, OfHost, OfLongInput, OfPath, OfWrite, family_of, fault_behind, may_answer, may_end, refusal_kind}
+use Rattle.uf_reply.specs.Kinds.{OfCar, OfDag, OfHost, OfLongInput, OfPath, OfWrite, family_of, may_answer, may_end, refusal_kind}
 use Rattle.uf_top.specs.Reply.{Outside, Reply, World, host_after, outside_of, reply, world_of}
 use Rattle.uf_reply.specs.Statuses.{ended, no_memory, status_of}
 use Rattle.uf_reply.specs.declared.status.Status.{Status}
@@ -32,14 +32,15 @@ use Rattle.uf_reply.specs.declared.types.Refusal.{Refusal}
 use Rattle.uf_reply.specs.declared.types.Refusal.TheVariants as refusal
 use Rattle.uf_store.specs.declared.store.StoreFault.TheVariants as fault
 use Rattle.uf_top.specs.Answering.{Answers, DoesAnswer, LeavesNext}
-use Rattle.uf_top.specs.Around.{Around, CountsCanRise, HasOutside, HostSide, RisesFor, StaysQuiet, TakesHost, UsesHost, around}
+use Rattle.uf_top.specs.Around.{CountsCanRise, HasOutside, HostSide, RisesFor, TakesHost, UsesHost, around}
 use Rattle.uf_top.specs.Causes.{HeadStays, KeepsHead, is_read, is_write}
-use Rattle.uf_top.specs.Endings.{AddsFor, EndsBy, FindsAll, IsCut, IsTextOf, PrintsAt, PrintsElse, PrintsPart, Prints, RuleOf}
+use Rattle.uf_top.specs.Endings.{AddsFor, EndsBy, IsTextOf, PrintsAt, PrintsElse, PrintsPart, RuleOf}
+use Rattle.uf_reply.specs.Telling.{IsCut, Prints}
 use Rattle.uf_top.specs.Getting.{GetsFor}
 use Rattle.uf_top.specs.Hosted.{IsHostedText}
 use Rattle.uf_top.specs.Losing.{AnswersOver, DoesOver}
-use Rattle.uf_top.specs.Naming.{FindsOver, FindsWorld, NamesIf, NamesAs, StandsIf, StandsNamed, StaysNamed, TellsHost}
-use Rattle.uf_top.specs.Shapes.{WritesAs, is_done, is_ok}
+use Rattle.uf_top.specs.Naming.{FindsOver, NamesIf, NamesAs, StandsIf, TellsHost}
+use Rattle.uf_top.specs.Shapes.{WritesAs, is_done}
 use Rattle.uf_top.specs.Working.{Does, Makes, MakesText}
 
 -- ---- which kinds no command that waits has

@@ -1,5 +1,5 @@
 -- From how a command was done to what it did.
-use Rattle.std.proofs.Common.{subst, Result, false}
+use Rattle.std.proofs.Common.{subst, Result}
 use Rattle.std.specs.Prelude.{ℕ, List, IfErr}
 use Rattle.uf_reply.specs.Commands.{IsOfWords, NoStore, of_command, own_store}
 use Rattle.uf_reply.specs.declared.status.Status.{Status}
@@ -7,9 +7,10 @@ use Rattle.uf_reply.specs.declared.types.Command.{Command}
 use Rattle.uf_reply.specs.declared.types.Refusal.{Refusal}
 use Rattle.uf_top.specs.Around.{Around}
 use Rattle.uf_top.specs.Cars.{ByOwnStore}
-use Rattle.uf_top.specs.Endings.{TellsEnd}
+use Rattle.uf_reply.specs.Telling.{TellsEnd}
 use Rattle.uf_top.specs.Running.{Runs}
 use Rattle.uf_top.specs.Working.{Serves}
+use Rattle.uf_top.proofs.Counted.{counted-of}
 use Rattle.uf_top.proofs.Losses.{lost-told, touches-told}
 use Rattle.uf_top.proofs.Telling.{StatusShows, blamed-told, clashes-told, faults-told, gets-told, good-told, head-told, host-told, idle-told, is-refused, looks-told, prefix-told, prints-told, read-told, replies-told, says-plain, shows, synced-told, told-same, unprinted-told, whole-told, write-told, writes-told}
 
@@ -38,6 +39,7 @@ module _ (Says : List ℕ → Type 0) (given : Status) (X : List ℕ → List �
     clashes_told = λ more. clashes-told Says given X N a b asked done s t more;
     read_told = λ more. read-told Says given X N a b asked done s t more;
     write_told = λ more. write-told Says given X N a b asked done s t more;
+    counted = counted-of X N a b asked done s;
     prefix = λ w finds outside room. prefix-told Says given X N a b asked done s w finds outside room;
     prints = prints-told Says given X N a b asked done of-words s t;
     synced = λ is. synced-told Says given X N a b asked done s t is;

@@ -442,14 +442,14 @@ module _ (X : List ℕ → List ℕ) (N : List ℕ → ℕ) (p : Profile) where
   many-tree : (bytes : List ℕ) → most_bytes p < length bytes → Err (refusal.Rule FileTooLong) ≡ input_tree p bytes
   many-tree bytes many = sym (ap (λ (b : Bool). if b then Ok (File bytes) else Err (refusal.Rule FileTooLong)) (lt-leb (length bytes) (most_bytes p) many))
 
-  pub file-given : (told : Told) (left left_now : streams.Told) (e : Entry) (text : List ℕ) → IsWholeFile X p told e left left_now → text ≡ added_line e.cid
-      → IsGiven X N p told (SaysInput p left) (input_row X N p) (record { entry = e; text = text })
-  file-given told left left_now e text h is = record {
+  pub file-given : (told : Told) (left left_now : streams.Told) (e : Entry) (given : Given) → IsWholeFile X p told e left left_now → given.entry ≡ e → given.text ≡ added_line e.cid
+      → IsGiven X N p told (SaysInput p left) (input_row X N p) given
+  file-given told left left_now e given h entry_is text_is = record {
     tree = File h.bytes;
     said = record { bytes = h.bytes; are_left = left_are h.bytes left left_now h.taken h.nothing_left; is = few-tree h.bytes h.few };
     plan = file-whole told h.bytes h.are_bytes h.few h.held;
-    entry_is = h.is ∙ file-entry h.bytes;
-    text_is = is ∙ ap (λ (e : Entry). added_line e.cid) (h.is ∙ file-entry h.bytes);
+    entry_is = entry_is ∙ h.is ∙ file-entry h.bytes;
+    text_is = text_is ∙ ap (λ (e : Entry). added_line e.cid) (h.is ∙ file-entry h.bytes);
   }
 
   pub long-said : (left left_now : streams.Told) → PassesMost p left left_now → SaysInput p left (Err (refusal.Rule FileTooLong))

@@ -1,5 +1,5 @@
 -- How it is printed what is said of a generated tree.
-use Rattle.std.proofs.Common.{◌≡◌, ◌≢◌, ◌⊎◌, ℕ, ◌+◌, List, [], true, false, arith, refl, sym, ap, subst, inl, inr, Result, Ok, Err}
+use Rattle.std.proofs.Common.{◌≡◌, ◌≢◌, ◌⊎◌, ℕ, List, [], true, false, arith, refl, sym, ap, subst, inl, inr, Result, Ok, Err}
 use Rattle.std.specs.Prelude.{IfErr}
 use Rattle.uf_cid.specs.Blocks.{Lookup}
 use Rattle.uf_edge.specs.Counts.{Counts}
@@ -26,7 +26,8 @@ use Rattle.uf_top.specs.Answering.{DoesAnswer}
 use Rattle.uf_top.specs.Around.{HostSide, MetNone, RisesFor, around}
 use Rattle.uf_top.specs.Cars.{ByOwnStore}
 use Rattle.uf_top.specs.Causes.{IsBadIn, IsReadyBy, is_read}
-use Rattle.uf_top.specs.Endings.{EndsBy, IsCut, IsTextOf, Prints, PrintsPart}
+use Rattle.uf_top.specs.Endings.{EndsBy, IsTextOf, PrintsPart}
+use Rattle.uf_reply.specs.Telling.{IsCut, Prints}
 use Rattle.uf_top.specs.Generated.{IsGenerated, generated_ends}
 use Rattle.uf_top.specs.Losing.{DoesOver}
 use Rattle.uf_top.specs.Naming.{FindsWorld, StaysNamed}

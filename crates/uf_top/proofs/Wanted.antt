@@ -1,5 +1,5 @@
 -- A batch for whose words there was no memory.
-use Rattle.std.proofs.Common.{◌≡◌, ◌⊎◌, ℕ, List, [], true, false, refl, ap, subst, sym, inl, inr, Option, None, Some, Result, Ok, Err}
+use Rattle.std.proofs.Common.{◌≡◌, ◌⊎◌, ℕ, List, [], refl, ap, subst, inl, inr, None, Some, Result, Err}
 use Rattle.std.specs.Prelude.{IfSome}
 use Rattle.uf_edge.specs.Streams.{Told}
 use Rattle.uf_lines.specs.LinesIn.{lines_in}
@@ -9,8 +9,7 @@ use Rattle.uf_reply.specs.declared.types.Refusal.{Refusal}
 use Rattle.uf_store.specs.Seen.{Seen}
 use Rattle.uf_top.specs.Around.{Around, HostSide, around}
 use Rattle.uf_top.specs.Batch.{AreOf, Batches, ByMemory, scene}
-use Rattle.uf_top.specs.Causes.{IsSent}
-use Rattle.uf_top.specs.Endings.{TellsEnd, TellsWhy}
+use Rattle.uf_reply.specs.Telling.{IsSent, TellsEnd, TellsWhy}
 use Rattle.uf_top.specs.Working.{IsIdle}
 
 some-of : (X : List ℕ → List ℕ) (N : List ℕ → ℕ) (most limit : ℕ) (left : Told) → IfSome left (λ bytes. AreOf X N ByMemory [] (lines_in most limit bytes))

@@ -1,11 +1,12 @@
 -- What is told around a command, before it or after it.
-use Rattle.std.specs.Prelude.{◌≡◌, ◌≢◌, ℕ, Bool, true, false, ◌&&◌, not}
+use Rattle.std.specs.Prelude.{◌≡◌, ◌≢◌, ◌⊎◌, ◌≤◌, ℕ, Bool, true, false, ◌&&◌, not}
 use Rattle.std.specs.declared.result.Result.{Result}
 use Rattle.uf_edge.specs.Counts.{Counts, Rose, Stood}
 use Rattle.uf_edge.specs.Host.{HostTold}
 use Rattle.uf_edge.specs.Streams as streams
 use Rattle.uf_mfs.specs.Reading.{CanRise}
 use Rattle.uf_store.specs.Calls.{Calm}
+use Rattle.uf_store.specs.Faults.{Rises}
 use Rattle.uf_store.specs.Seen.{Seen}
 use Rattle.uf_reply.specs.Commands.{HasHost, HasInput, generates, of_command, uses_host, writes_host}
 use Rattle.uf_reply.specs.declared.status.Status.{Status}
@@ -102,3 +103,15 @@ pub record StaysQuiet (asked : Result Command Refusal) (given : Status) (before 
   pub store : Calm before.store now.store
   pub written : AllWritten asked before.writes now.writes before.host.writes now.host.writes
   pub own : MetNone asked given
+
+-- the count stands as it was, or it rose
+abbrev pub StandsOrRose : ℕ → ℕ → Type 0
+StandsOrRose before now = (now ≡ before) ⊎ Rose before now
+
+-- no count has fallen: of the store, and of failed readings and writings
+pub record NoneFalls (before now : Around) : Type 0 where
+  pub store : Rises before.store now.store
+  pub reads : before.reads ≤ now.reads
+  pub writes : StandsOrRose before.writes now.writes
+  pub host_reads : before.host.reads ≤ now.host.reads
+  pub host_writes : before.host.writes ≤ now.host.writes

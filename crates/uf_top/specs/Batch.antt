@@ -1,5 +1,5 @@
 -- A batch: the commands that the lines of an input ask for, one after the other.
-use Rattle.std.specs.Prelude.{◌≡◌, ◌⊎◌, ℕ, List, [], ◌∷◌, ◌++◌, Bool, true, false, codes, IfErr, IfSome}
+use Rattle.std.specs.Prelude.{◌≡◌, ◌⊎◌, ℕ, List, [], ◌∷◌, ◌++◌, true, false, IfErr, IfSome}
 use Rattle.std.specs.declared.option.Option.{Option}
 use Rattle.std.specs.declared.option.Option.TheVariants.{None, Some}
 use Rattle.std.specs.declared.result.Result.{Result}
@@ -10,7 +10,8 @@ use Rattle.uf_edge.specs.Streams as streams
 use Rattle.uf_lines.specs.LinesIn.{LinesIn, lines_in}
 use Rattle.uf_reply.specs.Batches.{line_in}
 use Rattle.uf_reply.specs.Commands.{NoStore, of_command, own_store}
-use Rattle.uf_reply.specs.Statuses.{no_memory}
+use Rattle.uf_reply.specs.Statuses.{ends_batch, mark, no_memory}
+use Rattle.uf_reply.specs.Telling.{IsSent, TellsEnd, TellsWhy}
 use Rattle.uf_reply.specs.declared.status.Status.{Status}
 use Rattle.uf_reply.specs.declared.status.Status.TheVariants as status
 use Rattle.uf_reply.specs.declared.types.Command.{Command}
@@ -19,33 +20,8 @@ use Rattle.uf_reply.specs.declared.types.Refusal.TheVariants as refusal
 use Rattle.uf_store.specs.Seen.{Seen}
 use Rattle.uf_top.specs.Around.{Around, HostSide, around}
 use Rattle.uf_top.specs.Cars.{ByOwnStore}
-use Rattle.uf_top.specs.Causes.{IsSent}
-use Rattle.uf_top.specs.Endings.{TellsEnd, TellsWhy}
 use Rattle.uf_top.specs.Running.{Runs}
 use Rattle.uf_top.specs.Working.{Serves}
-
--- the batch ends at a line with this status
-abbrev pub ends_batch : Status → Bool
-ends_batch status.Ok = false
-ends_batch status.Rule = false
-ends_batch status.Usage = false
-ends_batch status.Missing = false
-ends_batch status.NotReady = false
-ends_batch other = true
-
--- what is printed behind a line's command
-abbrev pub mark : Status → List ℕ
-mark status.Ok = codes "[0]\n"
-mark status.Rule = codes "[1]\n"
-mark status.Usage = codes "[2]\n"
-mark status.StoreFault = codes "[3]\n"
-mark status.Missing = codes "[4]\n"
-mark status.BadBlock = codes "[5]\n"
-mark status.ReadFault = codes "[6]\n"
-mark status.WriteFault = codes "[7]\n"
-mark status.Clash = codes "[8]\n"
-mark status.Memory = codes "[9]\n"
-mark status.NotReady = codes "[10]\n"
 
 -- what a text sink holds, and how often its writing failed
 pub record SinkSide : Type 0 where

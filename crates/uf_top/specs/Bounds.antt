@@ -44,8 +44,8 @@ module _ (X : List ℕ → List ℕ) (N : List ℕ → ℕ) (rows : ℕ → ℕ)
   ask_touches (Edits edit) names p es = touches_of_edit edit names p es
 
   -- and for a command with this input, which opens the tree first; `add -n` and `gen` need none; nothing is promised of
-  -- `init`, of an `add` that keeps its blocks, be it with `--to-files`, of `cat` and `get`, of what has to do with CARs,
-  -- and of a copy from a DAG
+  -- `init`, of an `add` that keeps its blocks, be it with `--to-files`, of `cat` and `get`, of what has to do with
+  -- CARs, and of a copy from a DAG
   abbrev pub command_touches : List ℕ → Command → Profile → Entries → Option ℕ
   command_touches bytes (Add true) p es = Some 0
   command_touches bytes (Add false) p es = None

@@ -6,9 +6,7 @@ use Rattle.std.specs.declared.result.Result.{Result}
 use Rattle.std.specs.declared.result.Result.TheVariants.{Ok, Err}
 use Rattle.uf_tree.specs.Profiles.{most_bytes, usual}
 use Rattle.uf_cid.specs.declared.cid.Cid.{Cid}
-use Rattle.uf_edge.specs.declared.streams.Sent.{Sent}
-use Rattle.uf_edge.specs.Counts.{Counts}
-use Rattle.uf_edge.specs.Streams.{before, Exceeds, IsWhole, Sends, is_unsent}
+use Rattle.uf_edge.specs.Streams.{before, Exceeds, IsWhole}
 use Rattle.uf_edge.specs.Streams as streams
 use Rattle.uf_fileread.specs.Bad.{IsBadInFile}
 use Rattle.uf_mfs.specs.Bad.{IsBadInHead, IsHeadTold}
@@ -30,7 +28,7 @@ use Rattle.uf_tree.specs.declared.head_fault.HeadFault.{HeadFault}
 use Rattle.uf_tree.specs.declared.profile.Head.{Head}
 use Rattle.uf_tree.specs.declared.profile.Profile.{Profile}
 use Rattle.uf_reply.specs.declared.types.Command.{Command}
-use Rattle.uf_reply.specs.declared.types.Command.TheVariants.{Init, Add, AddFrom, WriteInput, At, Read, Cat, Get, Export, Import, Same, Adopt, Gen, AddTo, AddFromTo}
+use Rattle.uf_reply.specs.declared.types.Command.TheVariants.{Init, Add, AddFrom, WriteInput, At, Read, Adopt, AddTo, AddFromTo}
 use Rattle.uf_reply.specs.declared.types.Refusal.{Refusal}
 use Rattle.uf_reply.specs.declared.types.Refusal.TheVariants as refusal
 use Rattle.uf_reply.specs.Kinds.{is_of, read_kind, refusal_fault, write_kind}
@@ -202,12 +200,6 @@ TakesAll (Err why) left left_now = ⊥
 abbrev pub IsLongAt : Result (List ℕ) Refusal → streams.Told → streams.Told → Type 0
 IsLongAt (Err refusal.InputTooLong) left left_now = Exceeds most_input left left_now
 IsLongAt ends left left_now = ⊤
-
--- a line was written, or a part of it where the count rose
-pub record IsSent (line : List ℕ) (held held_now : streams.Told) (faults faults_now : ℕ) : Type 0 where
-  pub sent : Sent
-  pub bytes : Sends sent line held held_now
-  pub counts : Counts (is_unsent sent) faults faults_now
 
 -- the profile that was found is the Head's, or there is no Head
 abbrev pub IsProfileIn : Option Profile → Option (List ℕ) → Type 0

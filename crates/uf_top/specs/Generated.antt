@@ -103,7 +103,8 @@ module _ (X : List ℕ → List ℕ) (N : List ℕ → ℕ) where
   StandsFor (Ok es) seen tree = StandsCalm es seen tree
   StandsFor (Err rule) seen tree = ⊥
 
-  -- steps were made: the tree in memory stands for what they make, or a rule refuses that, or the store's own fault came
+  -- steps were made: the tree in memory stands for what they make, or a rule refuses that, or the store's own fault
+  -- came
   abbrev pub Grows : Result Entries Rule → Seen → Mfs → Result Unit MfsFault → Type 0
   Grows made seen tree (Ok done) = StandsFor made seen tree
   Grows made seen tree (Err (fault.Rule rule)) = made ≡ Err rule

@@ -55,9 +55,10 @@ module _ (held : Lookup) (source : DagPath) (path : List ℕ) (told now : HostTo
   LeavesAt status.Memory = (now ≡ told) ⊎ IsGottenInPart
   LeavesAt other = now ≡ told
 
--- over every store nothing but what is at the path of the host and below it has changed, and over one that tells this stands
--- there
-pub record GetsTo (source : DagPath) (path : List ℕ) (given : Status) (store : Told) (told now : HostTold) : Type 0 where
+-- over every store nothing but what is at the path of the host and below it has changed, and over one that tells this
+-- stands there
+pub record GetsTo (source : DagPath) (path : List ℕ) (given : Status) (store : Told) (told now : HostTold)
+    : Type 0 where
   pub below : ChangesAt (trimmed path) told now
   pub leaves : IfSome store (λ t. LeavesAt (held_at t) source path told now given)
 

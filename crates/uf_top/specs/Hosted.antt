@@ -37,7 +37,8 @@ IsHostRefused path Said (refusal.Store why) = IsSaving why
 IsHostRefused path Said why = ⊥
 
 module _ (X : List ℕ → List ℕ) (N : List ℕ → ℕ) where
-  -- the rows of a tree that has a plan, whose blocks are held, and where the host tells of the one that it has at the path
+  -- the rows of a tree that has a plan, whose blocks are held, and where the host tells of the one that it has at the
+  -- path
   pub record IsHostText (p : Profile) (told : Told) (host : HostTold) (recursive : Bool) (path text : List ℕ)
       : Type 0 where
     pub tree : Tree
@@ -51,7 +52,8 @@ module _ (X : List ℕ → List ℕ) (N : List ℕ → ℕ) where
   MakesHostText p told host recursive path (Err why) =
       IsHostRefused path (λ fault. IsSaid host (λ h. tree_on_host X N p h recursive path) (Err fault)) why
 
-  -- the rows of what the host has at a path, by the profile of the Head, and with `-n` by the usual one where there is none
+  -- the rows of what the host has at a path, by the profile of the Head, and with `-n` by the usual one where there is
+  -- none
   pub record AreHostRows (told : Told) (host : HostTold) (recursive only_hash : Bool) (path text : List ℕ)
       : Type 0 where
     pub profile : Profile

@@ -2,12 +2,10 @@
 use Rattle.std.specs.Prelude.{◌≡◌, ℕ, ◌≤◌, List, length, ⊤}
 use Rattle.std.specs.declared.result.Result.{Result}
 use Rattle.std.specs.declared.result.Result.TheVariants.{Ok, Err}
-use Rattle.uf_cid.specs.Bytes.{IsBytes}
-use Rattle.uf_tree.specs.Profiles.{most_bytes}
-use Rattle.uf_store.specs.Clashes.{IsSaving}
-use Rattle.uf_build.specs.Building.{Building, HasFed, HoldsFed}
 use Rattle.uf_edge.specs.Streams.{Told, before, IsAtEnd}
 use Rattle.uf_intake.specs.Intake.{PassesMost}
+use Rattle.uf_intake.specs.declared.fault.IntakeFault.{IntakeFault}
+use Rattle.uf_intake.specs.declared.fault.IntakeFault.TheVariants as faults
 use Rattle.uf_plain.specs.declared.rule.Rule.TheVariants.{FileTooLong}
 use Rattle.uf_store.specs.Clashes.{IsSaving}
 use Rattle.uf_store.specs.Contents as store
@@ -16,12 +14,15 @@ use Rattle.uf_store.specs.Keeping.{Holds}
 use Rattle.uf_store.specs.Seen.{Seen}
 use Rattle.uf_tree.specs.FilePlan.{file_plan}
 use Rattle.uf_tree.specs.Profiles.{most_bytes}
+use Rattle.uf_tree.specs.declared.nodes.Entry.{Entry}
 use Rattle.uf_tree.specs.declared.profile.Profile.{Profile}
 use Rattle.uf_reply.specs.declared.types.Refusal.{Refusal}
 use Rattle.uf_reply.specs.declared.types.Refusal.TheVariants as refusal
 use Rattle.uf_reply.specs.Lines.{added_line}
 use Rattle.uf_reply.specs.Kinds.{refusal_fault}
+use Rattle.uf_reply.specs.Statuses.{no_memory}
 use Rattle.uf_top.specs.Reply.{file_cid}
+use Rattle.uf_top.specs.declared.given.Given.{Given}
 
 -- no fault was passed over by a call that reads no block's content
 abbrev pub ShownIn : {A : Type 0} → (List ℕ → List ℕ) → Result A Refusal → Seen → Seen → Type 0
@@ -48,3 +49,15 @@ pub record IsWholeRow (hash : List ℕ → List ℕ) (p : Profile) (told_now : s
 abbrev pub IsRowOf : (List ℕ → List ℕ) → Profile → store.Told → Result (List ℕ) Refusal → Told → Told → Type 0
 IsRowOf hash p told_now (Ok text) left left_now = IsWholeRow hash p told_now text left left_now
 IsRowOf hash p told_now (Err why) left left_now = IsStopped (PassesMost p left left_now) why
+
+-- why no file was made of the input, as a refusal
+abbrev pub intake_refusal : IntakeFault → Refusal
+intake_refusal faults.Read = refusal.Read
+intake_refusal faults.FileTooLong = refusal.Rule FileTooLong
+intake_refusal (faults.Store fault) = refusal.Store fault
+
+-- the entry of a file that was read is given with its row, or there was no memory; or why there is no file
+abbrev pub GivesEntry : Result Entry IntakeFault → Result Given Refusal → Type 0
+GivesEntry (Ok e) (Ok given) = (given.entry ≡ e) × (given.text ≡ added_line e.cid)
+GivesEntry (Ok e) (Err why) = why ≡ no_memory
+GivesEntry (Err fault) result = result ≡ Err (intake_refusal fault)

@@ -10,6 +10,7 @@ use Rattle.uf_edge.specs.Streams as streams
 use Rattle.uf_edge.specs.Counts.{Stood}
 use Rattle.uf_host.specs.Adding.{HasHeldPlan}
 use Rattle.uf_host.specs.HostTree.{tree_on_host}
+use Rattle.uf_host.specs.declared.fault.HostFault.{HostFault}
 use Rattle.uf_host.specs.declared.import.AddedRow.{AddedRow}
 use Rattle.uf_mfs.specs.Bad.{IsBadInHead, IsBadInTree}
 use Rattle.uf_mfs.specs.Standing.{IsMfs, NamesOver, ReadsHead, StandsOver, TellsAs, head_in}
@@ -39,7 +40,7 @@ use Rattle.uf_reply.specs.declared.types.Refusal.{Refusal}
 use Rattle.uf_reply.specs.declared.types.Refusal.TheVariants as refusal
 use Rattle.uf_top.specs.Causes.{AreLeft, IsReasonInTree, is_read}
 use Rattle.uf_top.specs.Grafts.{FollowsOr, IsLostBy}
-use Rattle.uf_top.specs.HostTexts.{host_row}
+use Rattle.uf_top.specs.HostTexts.{host_refusal, host_row}
 use Rattle.uf_top.specs.Naming.{NamesAfter}
 use Rattle.uf_top.specs.Reply.{added_spot, by_rule, host_tree, input_tree}
 use Rattle.uf_top.specs.Shapes.{WritesAs, is_ok}
@@ -68,6 +69,11 @@ IsLastEntry rows e = (row : AddedRow) → EndsWith rows row → e ≡ row.entry
 abbrev pub GivesRows : List AddedRow → Result Given Refusal → Type 0
 GivesRows rows (Ok given) = IsLastEntry rows given.entry × (given.text ≡ flat_map host_row rows)
 GivesRows rows (Err why) = why ≡ no_memory
+
+-- the same of what was added of a host at a path, or the refusal by its fault
+abbrev pub GivesHost : List ℕ → Result (List AddedRow) HostFault → Result Given Refusal → Type 0
+GivesHost path (Ok rows) result = GivesRows rows result
+GivesHost path (Err fault) result = result ≡ Err (host_refusal path fault)
 
 -- the input has this tree as its file, or is refused so: where it tells, by the bytes that it has left
 pub record SaysInput (p : Profile) (left : streams.Told) (given : Result Tree Refusal) : Type 0 where

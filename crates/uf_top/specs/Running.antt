@@ -1,5 +1,5 @@
--- What one command did: what it answered, the cause of each answer, and what it left. `run`, and each line of a batch, is
--- so.
+-- What one command did: what it answered, the cause of each answer, and what it left. `run`, and each line of a batch,
+-- is so.
 use Rattle.std.specs.Prelude.{◌≡◌, ◌⊎◌, ℕ, ◌+◌, ◌<◌, ◌≤◌, List, true, false, IfSome}
 use Rattle.std.specs.declared.result.Result.{Result}
 use Rattle.std.specs.declared.result.Result.TheVariants.{Ok, Err}
@@ -21,7 +21,7 @@ use Rattle.uf_store.specs.Faults.{ShowsBadBlock, ShowsFailure}
 use Rattle.uf_store.specs.Keeping.{KeepsGood}
 use Rattle.uf_store.specs.declared.store.Role.{Role}
 use Rattle.uf_top.specs.Answering.{LeavesNext}
-use Rattle.uf_top.specs.Around.{Around, CountsCanRise, HasOutside, RoseAt, StaysQuiet}
+use Rattle.uf_top.specs.Around.{Around, CountsCanRise, HasOutside, NoneFalls, RoseAt, StaysQuiet}
 use Rattle.uf_top.specs.Bounds.{words_touch}
 use Rattle.uf_top.specs.Cars.{IsClashing, IsMissing}
 use Rattle.uf_top.specs.Causes.{IsBadIn}
@@ -40,8 +40,8 @@ module _ (Says : List ℕ → Type 0) (X : List ℕ → List ℕ) (N : List ℕ 
   pub record Runs (asked : Result Command Refusal) (given : Status) (before now : Around) : Type 0 where
     -- over a store that stands as the command needs it and, where the command uses it, an input or a host that tells,
     -- with no count risen and no clash met, be it in a store of the command's own, the answer is the reply, or want of
-    -- memory; over a store that stands for a tree no block of a command on it alone is missing or bad, whatever the input
-    -- and the output do
+    -- memory; over a store that stands for a tree no block of a command on it alone is missing or bad, whatever the
+    -- input and the output do
     pub replies : (w : World) → FindsWorld X N asked before.store.told w → HasOutside asked (outside_of w) before now
         → StaysQuiet asked given before now
         → EndsAs Says X N asked w given before.held now.held now.store.told now.host.told
@@ -88,6 +88,7 @@ module _ (Says : List ℕ → Type 0) (X : List ℕ → List ℕ) (N : List ℕ 
     pub read_told : (before.reads < now.reads) ⊎ (before.host.reads < now.host.reads) → given ≡ status.ReadFault
     pub write_told : (before.writes < now.writes) ⊎ (before.host.writes < now.host.writes)
         → given ≡ status.WriteFault
+    pub counted : NoneFalls before now
     -- what is printed is printed whole at Ok, in part after a failed write, and else not at all, unless the command
     -- writes while it reads blocks; of `add` it is the row of the input or the rows of what the host has, whose blocks
     -- have been made to outlive a stop. Whatever the answer and whatever blocks are lost, nothing is printed but the

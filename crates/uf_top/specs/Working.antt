@@ -48,8 +48,8 @@ use Rattle.uf_top.specs.Naming.{FindsOver, FindsWorld, StaysNamed, TellsBlocks}
 use Rattle.uf_top.specs.Shapes.{WritesAs, is_done, is_ok}
 
 module _ (X : List ℕ → List ℕ) (N : List ℕ → ℕ) where
-  -- what a command leaves before anything is printed: good blocks, the Head where it is refused or prints what it hasn't put
-  -- into the tree, all where nothing is to be done, and what it wrote
+  -- what a command leaves before anything is printed: good blocks, the Head where it is refused or prints what it
+  -- hasn't put into the tree, all where nothing is to be done, and what it wrote
   pub record MakesLeaving (command : Command) (done : Result (List ℕ) Refusal) (before now : Told)
       (calm : List ℕ → Type 0) : Type 0 where
     pub good : KeepsGood X before now
@@ -113,8 +113,8 @@ module _ (X : List ℕ → List ℕ) (N : List ℕ → ℕ) where
         (λ bytes. HasInput (Ok command) before.left bytes before.reads now.reads
         × Stood before.store.faults now.store.faults)
 
-  -- what a command leaves: good blocks, the Head where it may not have moved, all where nothing is to be done, and what it
-  -- wrote
+  -- what a command leaves: good blocks, the Head where it may not have moved, all where nothing is to be done, and what
+  -- it wrote
   pub record DoesLeave (command : Command) (done : Result (Unit {0}) Refusal) (before now : Told)
       (calm : List ℕ → Type 0) : Type 0 where
     pub good : KeepsGood X before now
@@ -124,8 +124,8 @@ module _ (X : List ℕ → List ℕ) (N : List ℕ → ℕ) where
         → is_idle bytes es command ≡ true → now ≡ before
 
   -- how a command was done and its text printed: its answer is the reply, over lost blocks too, what is printed begins
-  -- the reply's text, the reply's tree stands where its rows follow the Head and only they failed, each refusal is one of
-  -- its family's and has its cause, it keeps within its touches, and it leaves what it leaves
+  -- the reply's text, the reply's tree stands where its rows follow the Head and only they failed, each refusal is one
+  -- of its family's and has its cause, it keeps within its touches, and it leaves what it leaves
   pub record Does (command : Command) (done : Result (Unit {0}) Refusal) (before now : Around) : Type 0 where
     pub answers : (w : World) → FindsWorld X N (Ok command) before.store.told w
         → HasOutside (Ok command) (outside_of w) before now → StaysQuiet (Ok command) (ended done) before now

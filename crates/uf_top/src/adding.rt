@@ -7,22 +7,22 @@ ghost use Rattle.uf_store.specs.Keeping.{KeepsGood};
 ghost use Rattle.uf_tree.specs.Profiles.{is_profile};
 ghost use Rattle.uf_reply.specs.Commands.{SyncsBlocks};
 ghost use Rattle.uf_top.specs.Causes.{IsProfileRead, OnlyWants, ReadsProfile, Stops, is_read, or_usual as usual_or};
-ghost use Rattle.uf_top.specs.Intake.{IsRowOf, ShownIn};
+ghost use Rattle.uf_top.specs.Intake.{GivesEntry, IsRowOf, ShownIn};
 ghost use Rattle.uf_top.specs.Shapes.{WritesAs, is_ok};
 ghost use Rattle.uf_top.specs.Working.{Makes};
 ghost use Rattle.uf_reply.specs.declared.types.Command.TheVariants as commands;
 
+use crate::given::Given;
 use std::alloc::Global;
-use std::marker::Brand;
-use std::sync::ledger::{Blank, Ledger};
+use std::sync::ledger::Ledger;
 use uf_cid::{Block, BlockHash};
 use uf_edge::{Put, Source};
-use uf_intake::{IntakeFault, file_of};
+use uf_intake::{IntakeFault, file_of, hash_of};
 use uf_mfs::Ready;
 use uf_plain::Rule;
 use uf_reply::{Refusal, added_row};
-use uf_store::{Discard, Note, NoteRead, Steps, Store, StoreFault};
-use uf_tree::{HeadFault, Profile, read_head};
+use uf_store::{Note, NoteRead, Steps, Store, StoreFault};
+use uf_tree::{Entry, HeadFault, Profile, read_head};
 
 // Adds the input, or only makes its row.
 pub fn adds<S: Store, I: Source, L: Ledger>(
@@ -126,11 +126,19 @@ fn add_by<S: Store, I: Source, L: Ledger>(
     ensures good { KeepsGood S.X.block32 (S.seen store.old).told (S.seen store.new).told }
     ensures writes { WritesAs S.X.block32 SyncsBlocks (is_ok result) (S.seen store.old).told (S.seen store.new).told }
 {
-    match file_of(alloc, profile, store, input, touches) {
-        Ok(entry) => {
-            let row = added_row(alloc, &entry.cid)?;
-            synced(store, row)
-        }
+    let given = file_given(alloc, file_of(alloc, profile, store, input, touches))?;
+    synced(store, given.text)
+}
+
+// The entry of a file that was read and its row, or why there is none.
+pub fn file_given(alloc: Global, answer: Result<Entry, IntakeFault>) -> Result<Given, Refusal>
+    ensures { GivesEntry answer result }
+{
+    match answer {
+        Ok(entry) => Ok(Given {
+            entry,
+            text: added_row(alloc, &entry.cid)?,
+        }),
         Err(IntakeFault::Read) => Err(Refusal::Read),
         Err(IntakeFault::FileTooLong) => Err(Refusal::Rule(Rule::FileTooLong)),
         Err(IntakeFault::Store(fault)) => Err(Refusal::Store(fault)),
@@ -163,48 +171,6 @@ fn hash_by<X: BlockHash, I: Source>(
     ensures wants { OnlyWants result }
     ensures counts { Counts (is_read result) (I.faults input.old) (I.faults input.new) }
 {
-    counted_hash_by::<X, I, Brand>(alloc, profile, input, Blank::new(1))
-}
-
-// The same, with a count of its own for the touches of the store that keeps nothing.
-fn counted_hash_by<X: BlockHash, I: Source, L: Ledger>(
-    alloc: Global,
-    profile: Profile,
-    input: &mut I,
-    blank: Blank,
-) -> Result<Block, Refusal>
-    requires profile { IsTrue (is_profile profile) }
-    requires name { blank.name ≡ L.name }
-    requires parts { blank.parts ≡ L.parts }
-    requires some { 0 < blank.parts }
-    ensures row { IsRowOf X.block32 profile None result (I.left input.old) (I.left input.new) }
-    ensures wants { OnlyWants result }
-    ensures counts { Counts (is_read result) (I.faults input.old) (I.faults input.new) }
-{
-    let mut touches = Steps::<L>::new(blank);
-    hash_over::<X, I, L>(alloc, profile, input, &mut touches)
-}
-
-// The same, with the touches that a builder over a store that keeps nothing makes.
-fn hash_over<X: BlockHash, I: Source, L: Ledger>(
-    alloc: Global,
-    profile: Profile,
-    input: &mut I,
-    touches: &mut Steps<L>,
-) -> Result<Block, Refusal>
-    requires { IsTrue (is_profile profile) }
-    ensures row { IsRowOf X.block32 profile None result (I.left input.old) (I.left input.new) }
-    ensures wants { OnlyWants result }
-    ensures counts { Counts (is_read result) (I.faults input.old) (I.faults input.new) }
-{
-    let mut store = Discard::<X>::new();
-    match file_of(alloc, profile, &mut store, input, touches) {
-        Err(IntakeFault::Read) => Err(Refusal::Read),
-        Err(IntakeFault::FileTooLong) => Err(Refusal::Rule(Rule::FileTooLong)),
-        Err(IntakeFault::Store(_)) => Err(Refusal::Store(StoreFault::Memory)),
-        Ok(entry) => match added_row(alloc, &entry.cid) {
-            Err(_) => Err(Refusal::Store(StoreFault::Memory)),
-            Ok(row) => Ok(row),
-        },
-    }
+    let given = file_given(alloc, hash_of::<X, I>(alloc, profile, input))?;
+    Ok(given.text)
 }

@@ -1,20 +1,99 @@
 // Laws of batches.
-ghost use Rattle.std.specs.Prelude.{◌≡◌, ℕ, List};
-ghost use Rattle.uf_edge.specs.Streams.{Told};
+ghost use Rattle.std.specs.Prelude.{◌≡◌, ◌≢◌, ◌⊎◌, ◌+◌, ◌<◌, ◌≤◌, ◌^◌, ◌++◌, ℕ, IfSome, List, Some};
+ghost use Rattle.uf_edge.specs.Counts.{Stood};
+ghost use Rattle.uf_edge.specs.Host.{HostTree};
+ghost use Rattle.uf_edge.specs.Streams.{Told, after};
+ghost use Rattle.uf_mfs.specs.Standing.{TellsAs, head_in};
 ghost use Rattle.uf_reply.specs.declared.status.Status.{Status as TheStatus};
+ghost use Rattle.uf_reply.specs.declared.status.Status.TheVariants as status;
+ghost use Rattle.uf_store.specs.Contents.{Contents};
 ghost use Rattle.uf_store.specs.Keeping.{KeepsGood};
-ghost use Rattle.uf_top.specs.Batch.{Batches, Scene};
+ghost use Rattle.uf_store.specs.declared.store.Write.{Write as TheWrite};
+ghost use Rattle.uf_tree.specs.Standing.{Standing};
+ghost use Rattle.uf_tree.specs.Tree.{Entries};
+ghost use Rattle.uf_tree.specs.Validity.{IsHash};
+ghost use Rattle.uf_tree.specs.declared.profile.Profile.{Profile};
+ghost use Rattle.uf_top.specs.Batch.{Batches, Ending, Scene};
+ghost use Rattle.uf_top.specs.BatchLines.{BeginsSafe, MovesByLine, StopsAtFirst, StopsInLine};
+ghost use Rattle.uf_top.specs.BatchReplies.{BatchReplied, HasHeights, NothingFails, batch_bound, batch_printed};
+ghost use Rattle.uf_top.specs.Outcomes.{IsSafeFor};
 
 /// A batch keeps each good block, whatever its lines do and however it ends.
 pub fn a_batch_keeps_good_blocks()
-    ensures { (X : List ℕ → List ℕ) (N : List ℕ → ℕ) (most limit : ℕ) (given : TheStatus) (before now : Scene) (left left_now : Told) (reads reads_now : ℕ)
+    ensures { (X : List ℕ → List ℕ) (N : List ℕ → ℕ) (most limit : ℕ) (given : TheStatus) (before now : Scene)
+        (left left_now : Told) (reads reads_now : ℕ)
         → Batches X N most limit given before now left left_now reads reads_now
         → KeepsGood X before.around.store.told now.around.store.told }
 {}
 
 /// No line of a batch changes what the host tells.
 pub fn a_batch_leaves_the_host()
-    ensures { (X : List ℕ → List ℕ) (N : List ℕ → ℕ) (most limit : ℕ) (given : TheStatus) (before now : Scene) (left left_now : Told) (reads reads_now : ℕ)
+    ensures { (X : List ℕ → List ℕ) (N : List ℕ → ℕ) (most limit : ℕ) (given : TheStatus) (before now : Scene)
+        (left left_now : Told) (reads reads_now : ℕ)
         → Batches X N most limit given before now left left_now reads reads_now
         → now.around.host.told ≡ before.around.host.told }
+{}
+
+/// The Head is as before a batch, or one of its lines, whose status says that it may have moved it, left it as it is.
+pub fn a_batch_moves_the_head_by_its_lines()
+    ensures { (X : List ℕ → List ℕ) (N : List ℕ → ℕ) (most limit : ℕ) (given : TheStatus) (before now : Scene)
+        (left left_now : Told) (reads reads_now : ℕ)
+        → (did : Batches X N most limit given before now left left_now reads reads_now)
+        → (head_in now.around.store.told ≡ head_in before.around.store.told)
+        ⊎ MovesByLine X N did.lines did.ending before now.around.store.told }
+{}
+
+/// Over a store that stands for a tree (or has no Head, or one that isn't read), and a host that tells, where nothing
+/// failed and no clash was met, each line of a batch that has a word is answered with the reply to what it asks for,
+/// over what the line before it left, or for want of memory, and its status is printed behind its text. The batch ends
+/// with its input, at a line with such a status, at what is too long, or for want of memory.
+pub fn a_batch_answers_line_by_line()
+    ensures { (X : List ℕ → List ℕ) (N : List ℕ → ℕ) (host : HostTree) (most limit : ℕ) (given : TheStatus)
+        (before now : Scene) (left left_now : Told) (reads reads_now : ℕ) (standing : Standing)
+        → (did : Batches X N most limit given before now left left_now reads reads_now)
+        → before.around.host.told ≡ Some host → TellsAs X N before.around.store.told standing
+        → NothingFails before.around now.around → Stood reads reads_now
+        → BatchReplied X N host did.lines did.ending given standing before did.between now }
+{}
+
+/// Where a batch whose lines are answered so doesn't end for want of memory, the output has got of each line that has a
+/// word the text of its reply and its status, in order, and nothing else.
+pub fn a_batch_prints_its_replies()
+    ensures { (X : List ℕ → List ℕ) (N : List ℕ → ℕ) (host : HostTree) (lines : List (List ℕ))
+        (ending : Ending X N) (given : TheStatus) (standing : Standing) (before between now : Scene)
+        → (did : BatchReplied X N host lines ending given standing before between now) → given ≢ status.Memory
+        → now.around.held
+        ≡ after before.around.held (batch_printed X N host lines ending given standing before between now did) }
+{}
+
+/// A batch whose lines are answered so makes no more touches than the bounds of its lines together, each over what
+/// stood where the line began, if each has one.
+pub fn a_batch_keeps_within_the_sum_of_its_bounds()
+    ensures { (X : List ℕ → List ℕ) (N : List ℕ → ℕ) (host : HostTree) (rows : Profile → ℕ → ℕ)
+        (lines : List (List ℕ)) (ending : Ending X N) (given : TheStatus) (standing : Standing)
+        (before between now : Scene)
+        → HasHeights rows → (did : BatchReplied X N host lines ending given standing before between now)
+        → IfSome (batch_bound X N host rows lines ending given standing before between now did)
+        (λ most. now.around.touches ≤ before.around.touches + most) }
+{}
+
+/// Where a batch begins over contents that are safe for a tree, the host tells, and no count is at its last value,
+/// whatever fails then: a front of what was written that isn't empty ends during one of the lines, and what a stop
+/// after it leaves stands for the tree before that line or the tree after it; and at the end the store is safe for the
+/// tree for which it then stands.
+pub fn a_stop_of_a_batch_leaves_the_tree_before_or_after_a_line()
+    ensures stops { (X : List ℕ → List ℕ) (N : List ℕ → ℕ) (host : HostTree) (most limit : ℕ) (given : TheStatus)
+        (before now : Scene) (left left_now : Told) (reads reads_now : ℕ) (a b : Contents) (p : Profile)
+        (es : Entries) → IsHash X → ((name : List ℕ) → N name < 2 ^ 64)
+        → (did : Batches X N most limit given before now left left_now reads reads_now)
+        → BeginsSafe X N host before a p es → now.around.store.told ≡ Some b
+        → (done rest : List TheWrite) → b.writes ≡ a.writes ++ done ++ rest
+        → StopsAtFirst X N a p es (a.writes ++ done)
+        ⊎ StopsInLine X N did.lines did.ending before (a.writes ++ done) }
+    ensures safe { (X : List ℕ → List ℕ) (N : List ℕ → ℕ) (host : HostTree) (most limit : ℕ) (given : TheStatus)
+        (before now : Scene) (left left_now : Told) (reads reads_now : ℕ) (a b : Contents) (p : Profile)
+        (es : Entries) → IsHash X → ((name : List ℕ) → N name < 2 ^ 64)
+        → (did : Batches X N most limit given before now left left_now reads reads_now)
+        → BeginsSafe X N host before a p es → now.around.store.told ≡ Some b
+        → (q : Profile) × (fs : Entries) × IsSafeFor X N b q fs }
 {}

@@ -1,16 +1,16 @@
 // The commands that the lines of an input ask for.
-ghost use Rattle.std.specs.Prelude.{◌≡◌, ◌<◌, [], length, None, Some};
+ghost use Rattle.std.specs.Prelude.{◌<◌, [], length, None, Some};
 ghost use Rattle.uf_reply.specs.Batches.{line_in};
 ghost use Rattle.uf_top.specs.Around.{around, host_side};
-ghost use Rattle.uf_top.specs.Batch.{Batches, ClosesInBatch, DoesLine, LineServed, ends_batch as does_end, mark as mark_text, scene};
+ghost use Rattle.uf_top.specs.Batch.{Batches, ClosesInBatch, DoesLine, LineServed, scene};
 
-use crate::command::{tell, tell_end, work};
+use crate::command::work;
 use std::alloc::Global;
 use std::sync::ledger::Ledger;
 use uf_edge::{Host, Read, Sent, Sink, Source, write_all};
 use uf_lines::{Line, Lines};
 use uf_murmur::NameHash;
-use uf_reply::{Refusal, Status, read_line};
+use uf_reply::{Refusal, Status, read_line, tell, tell_end};
 use uf_store::{Steps, Store, StoreFault};
 
 // A line has at most so many bytes.
@@ -40,8 +40,8 @@ impl Source for NoInput {
     }
 }
 
-/// Does the commands that the lines of an input ask for, one after the other: what each prints is followed by its status. It
-/// ends with the input, at a line that fails, and at one, or an input, that is too long.
+/// Does the commands that the lines of an input ask for, one after the other: what each prints is followed by its
+/// status. It ends with the input, at a line that fails, and at one, or an input, that is too long.
 pub fn batch<S: Store, N: NameHash, W: Host, I: Source, O: Sink, E: Sink, L: Ledger>(
     alloc: Global,
     limit: u64,
@@ -54,9 +54,11 @@ pub fn batch<S: Store, N: NameHash, W: Host, I: Source, O: Sink, E: Sink, L: Led
 ) -> Status
     ensures { Batches S.X.block32 N.name64 MOST_OF_LINE limit result
         (scene (S.seen store.old) (O.holds output.old) (O.faults output.old) touches.old
-        (host_side (W.tree host.old) (W.read_faults host.old) (W.write_faults host.old)) (E.holds errors.old) (E.faults errors.old))
+        (host_side (W.tree host.old) (W.read_faults host.old) (W.write_faults host.old)) (E.holds errors.old)
+        (E.faults errors.old))
         (scene (S.seen store.new) (O.holds output.new) (O.faults output.new) touches.new
-        (host_side (W.tree host.new) (W.read_faults host.new) (W.write_faults host.new)) (E.holds errors.new) (E.faults errors.new))
+        (host_side (W.tree host.new) (W.read_faults host.new) (W.write_faults host.new)) (E.holds errors.new)
+        (E.faults errors.new))
         (I.left input.old) (I.left input.new) (I.faults input.old) (I.faults input.new) }
 {
     let mut lines = Lines::new(alloc, MOST_OF_LINE, limit);
@@ -88,9 +90,11 @@ fn do_line<S: Store, N: NameHash, W: Host, O: Sink, E: Sink, L: Ledger>(
 ) -> Option<Status>
     ensures { DoesLine S.X.block32 N.name64 line.now result
         (scene (S.seen store.old) (O.holds output.old) (O.faults output.old) touches.old
-        (host_side (W.tree host.old) (W.read_faults host.old) (W.write_faults host.old)) (E.holds errors.old) (E.faults errors.old))
+        (host_side (W.tree host.old) (W.read_faults host.old) (W.write_faults host.old)) (E.holds errors.old)
+        (E.faults errors.old))
         (scene (S.seen store.new) (O.holds output.new) (O.faults output.new) touches.new
-        (host_side (W.tree host.new) (W.read_faults host.new) (W.write_faults host.new)) (E.holds errors.new) (E.faults errors.new)) }
+        (host_side (W.tree host.new) (W.read_faults host.new) (W.write_faults host.new)) (E.holds errors.new)
+        (E.faults errors.new)) }
 {
     match serve_line::<S, N, W, O, L>(alloc, line, store, host, output, touches) {
         None => None,
@@ -138,48 +142,19 @@ fn close_line<O: Sink, E: Sink>(
     output: &mut O,
     errors: &mut E,
 ) -> Option<Status>
-    ensures { ClosesInBatch done result (O.holds output.old) (O.holds output.new) (O.faults output.old) (O.faults output.new)
-        (E.holds errors.old) (E.holds errors.new) (E.faults errors.old) (E.faults errors.new) }
+    ensures { ClosesInBatch done result (O.holds output.old) (O.holds output.new) (O.faults output.old)
+        (O.faults output.new) (E.holds errors.old) (E.holds errors.new) (E.faults errors.old) (E.faults errors.new) }
 {
     let status = tell_end(alloc, done, errors);
     if status == Status::WriteFault {
         return Some(status);
     }
-    let sent = write_all(output, mark(status));
-    if ends_batch(status) {
+    let sent = write_all(output, status.mark());
+    if status.ends_batch() {
         return Some(status);
     }
     match sent {
         Sent::Done => None,
         Sent::Failed => Some(tell(alloc, &Refusal::Write, errors)),
-    }
-}
-
-// Whether a batch ends at a line with this status.
-fn ends_batch(status: Status) -> bool
-    ensures { result ≡ does_end status }
-{
-    !matches!(
-        status,
-        Status::Ok | Status::Rule | Status::Usage | Status::Missing | Status::NotReady
-    )
-}
-
-// What is printed behind a line's command.
-fn mark(status: Status) -> &'static [u8]
-    ensures { result.now ≡ mark_text status }
-{
-    match status {
-        Status::Ok => b"[0]\n",
-        Status::Rule => b"[1]\n",
-        Status::Usage => b"[2]\n",
-        Status::StoreFault => b"[3]\n",
-        Status::Missing => b"[4]\n",
-        Status::BadBlock => b"[5]\n",
-        Status::ReadFault => b"[6]\n",
-        Status::WriteFault => b"[7]\n",
-        Status::Clash => b"[8]\n",
-        Status::Memory => b"[9]\n",
-        Status::NotReady => b"[10]\n",
     }
 }

@@ -8,7 +8,7 @@ use std::marker::Brand;
 use std::sync::ledger::{Blank, Ledger};
 use uf_cid::{Block, BlockHash, Cid, Codec, Memory, Sha256Hash};
 use uf_murmur::{Murmur3, NameHash};
-use uf_store::{MemStore, Steps};
+use uf_store::{CallKind, MemStore, Steps};
 use uf_varint::write;
 
 // The line of the root of the block `hello world`.
@@ -113,9 +113,41 @@ const CARS: [Step; 16] = [
     ),
 ];
 
+// An import whose store fails prints nothing.
+const IMPORT_BREAKS: Row<'static> = Row {
+    words: "dag import",
+    input: &CAR,
+    status: 3,
+    errors: b"error: store\n",
+    ..DONE
+};
+
+// Each call of the store that an import makes fails, which are a save for the block and a sync; and then calls that it
+// doesn't make.
+const FAULTS: [Step; 13] = [
+    Step::Breaks(CallKind::Save, 1),
+    Step::Meets(IMPORT_BREAKS),
+    Step::Holds(0),
+    Step::Breaks(CallKind::Sync, 1),
+    Step::Meets(IMPORT_BREAKS),
+    Step::Adds("dag import", &CAR, ROOT),
+    Step::Holds(1),
+    Step::Breaks(CallKind::Save, 2),
+    Step::Breaks(CallKind::Sync, 2),
+    Step::Breaks(CallKind::Load, 1),
+    Step::Adds("dag import", &CAR, ROOT),
+    Step::Meets(IMPORT_BREAKS),
+    Step::Refuses(
+        "dag export bafkreifzjut3te2nhyekklss27nh3k72ysco7y32koao5eei66wof36n5e",
+        3,
+        b"error: store\n",
+    ),
+];
+
 #[test]
 fn cars_have_their_rows(rt: HostRuntime) {
     assert_eq!(rt; first_wrong(rt.alloc(), &CARS), None);
+    assert_eq!(rt; first_wrong(rt.alloc(), &FAULTS), None);
 }
 
 // ---- trees

@@ -1,5 +1,5 @@
 // CARs written from what is held, read into the store, and compared with what is held.
-ghost use Rattle.std.specs.Prelude.{◌≡◌, IfErr, IfOk, List, OnErr, OnOk, flat_map, ℕ, true};
+ghost use Rattle.std.specs.Prelude.{◌≡◌, IfErr, IfOk, List, OnErr, OnOk, flat_map, ℕ};
 ghost use Rattle.uf_edge.specs.Streams.{Told as Left};
 ghost use Rattle.uf_reply.specs.Commands.{OfCarSections};
 ghost use Rattle.uf_reply.specs.declared.types.Command.TheVariants as commands;
@@ -14,14 +14,13 @@ ghost use Rattle.uf_top.specs.Reply.{compared_text as text_of_compared, same_ref
 ghost use Rattle.uf_top.specs.Working.{Does};
 
 use crate::adding::synced;
-use crate::command::print;
 use std::alloc::Global;
 use std::sync::ledger::Ledger;
 use uf_car::{export, import};
 use uf_cid::{Block, Cid, Cids, Memory};
 use uf_edge::{Sink, Source};
 use uf_reply::{
-    DagRule, Refusal, car_refusal, export_refusal, kept_refusal, plain, root_lines,
+    DagRule, Refusal, car_refusal, export_refusal, kept_refusal, plain, print, root_lines,
     section_refusal, two_blocks,
 };
 use uf_same::{Compared, SameFault, same};
@@ -41,7 +40,8 @@ pub fn export_car<S: Store, O: Sink, L: Ledger>(
     output: &mut O,
     touches: &mut Steps<L>,
 ) -> Result<(), Refusal>
-    ensures { (N : List ℕ → ℕ) (left : Left) (reads : ℕ) (side : HostSide) → Does S.X.block32 N (commands.Export cid.now) result
+    ensures { (N : List ℕ → ℕ) (left : Left) (reads : ℕ) (side : HostSide)
+        → Does S.X.block32 N (commands.Export cid.now) result
         (around (S.seen store.old) left reads (O.holds output.old) (O.faults output.old) touches.old side)
         (around (S.seen store.new) left reads (O.holds output.new) (O.faults output.new) touches.new side) }
 {

@@ -6,7 +6,7 @@ ghost use Rattle.uf_edge.specs.Streams.{Told};
 ghost use Rattle.uf_mfs.specs.Standing.{TellsAs};
 ghost use Rattle.uf_tree.specs.Standing.{Standing};
 ghost use Rattle.uf_top.specs.Cars.{ByOwnStore};
-ghost use Rattle.uf_top.specs.Causes.{IsSent};
+ghost use Rattle.uf_reply.specs.Telling.{IsSent};
 ghost use Rattle.uf_reply.specs.Batches.{asks_batch};
 ghost use Rattle.uf_reply.specs.Commands.{IsAccepted, IsAsked, IsOfWords, NoStore, command_in, generates, of_command, own_store};
 ghost use Rattle.uf_reply.specs.Commands.{reads_input, reads_tree_alone, streams as flows, touches_nothing, uses_host};
@@ -14,8 +14,6 @@ ghost use Rattle.uf_reply.specs.declared.types.Command.{Command as TheCommand};
 ghost use Rattle.uf_reply.specs.declared.types.Refusal.{Refusal as TheRefusal};
 ghost use Rattle.uf_top.specs.Around.{around, host_side};
 ghost use Rattle.uf_top.specs.Batch.{Batches, scene};
-ghost use Rattle.uf_top.specs.Endings.{Prints, TellsEnd, TellsWhy};
-ghost use Rattle.uf_top.specs.Endings.{has_details};
 ghost use Rattle.uf_top.specs.Running.{Runs};
 ghost use Rattle.uf_top.specs.Working.{Does, MakesText, Serves};
 
@@ -34,21 +32,21 @@ use crate::tree::{at, init};
 use std::alloc::Global;
 use std::sync::ledger::Ledger;
 use uf_cid::Block;
-use uf_edge::{Host, Sent, Sink, Source, write_all};
+use uf_edge::{Host, Sink, Source};
 use uf_murmur::NameHash;
-use uf_reply::{Command, Refusal, Request, Status, line, read_request, refusal_status};
+use uf_reply::{Command, Refusal, Request, Status, print, read_request, tell_end};
 use uf_store::{Steps, Store};
 
 /// Does one command, which the words after the program's name say.
 ///
 /// `init` makes a store ready; `files mkdir`, `files ls`, `files stat`, `files read`, `files write`, `files truncate`,
-/// `files cp`, `files mv` and `files rm` work on the tree that its Head names; `add` prints the CID of its input as a file (UnixFS
-/// v1; Kubo's balanced layout with raw leaves), or those of a file of the host or of a folder and everything in it, and,
-/// without `-n`, keeps their blocks, and with `--to-files` puts them into the tree; `cat` prints a file of a DAG, and `get`
-/// writes what is in one to the host; `gen` makes a tree on stores of its own and says its root. Refused are first words
-/// that are none, then texts that are no paths, then a Head that doesn't do, then an input that is too long, and then what
-/// the rules of the command refuse. The status says how the command ended; after a refusal its line goes to `errors`,
-/// and a failed write of that line changes no status.
+/// `files cp`, `files mv` and `files rm` work on the tree that its Head names; `add` prints the CID of its input as a
+/// file (UnixFS v1; Kubo's balanced layout with raw leaves), or those of a file of the host or of a folder and
+/// everything in it, and, without `-n`, keeps their blocks, and with `--to-files` puts them into the tree; `cat` prints
+/// a file of a DAG, and `get` writes what is in one to the host; `gen` makes a tree on stores of its own and says its
+/// root. Refused are first words that are none, then texts that are no paths, then a Head that doesn't do, then an
+/// input that is too long, and then what the rules of the command refuse. The status says how the command ended; after
+/// a refusal its line goes to `errors`, and a failed write of that line changes no status.
 pub fn run<S: Store, N: NameHash, W: Host, I: Source, O: Sink, E: Sink, L: Ledger>(
     alloc: Global,
     words: &[String],
@@ -59,8 +57,8 @@ pub fn run<S: Store, N: NameHash, W: Host, I: Source, O: Sink, E: Sink, L: Ledge
     errors: &mut E,
     touches: &mut Steps<L>,
 ) -> Status
-    // Of every command but `batch`: the answer, the cause of each answer, what is printed, and what is left. Each fact is a
-    // field of its own.
+    // Of every command but `batch`: the answer, the cause of each answer, what is printed, and what is left. Each fact
+    // is a field of its own.
     ensures runs { asks_batch (map string_bytes words.now) ≡ false
         → Runs (λ line. IsSent line (E.holds errors.old) (E.holds errors.new) (E.faults errors.old)
         (E.faults errors.new)) S.X.block32 N.name64 (command_in (map string_bytes words.now)) result
@@ -84,8 +82,8 @@ pub fn run<S: Store, N: NameHash, W: Host, I: Source, O: Sink, E: Sink, L: Ledge
     ensures one { (standing other : Standing) → TellsAs S.X.block32 N.name64 (S.seen store.new).told standing
         → TellsAs S.X.block32 N.name64 (S.seen store.new).told other → standing ≡ other }
 
-    // Refused words do nothing to the store, nor does a command that works on stores of its own; a command that doesn't use
-    // the input or the host leaves it as it was; and `add -n` and `gen` make no touch.
+    // Refused words do nothing to the store, nor does a command that works on stores of its own; a command that doesn't
+    // use the input or the host leaves it as it was; and `add -n` and `gen` make no touch.
     ensures left { asks_batch (map string_bytes words.now) ≡ false
         → of_command generates true (command_in (map string_bytes words.now)) ≡ true → store.new ≡ store.old }
     ensures input { asks_batch (map string_bytes words.now) ≡ false
@@ -242,66 +240,4 @@ fn text_of<S: Store, N: NameHash, W: Host, I: Source, L: Ledger>(
         | Command::Adopt { .. }
         | Command::Gen { .. } => unreachable!(),
     }
-}
-
-// Prints a text; of nothing, nothing is written.
-pub fn print<O: Sink>(text: &Block, output: &mut O) -> Result<(), Refusal>
-    ensures { Prints text.now result (O.holds output.old) (O.holds output.new) (O.faults output.old)
-        (O.faults output.new) }
-{
-    if text.as_slice().is_empty() {
-        return Ok(());
-    }
-    match write_all(output, text.as_slice()) {
-        Sent::Done => Ok(()),
-        Sent::Failed => Err(Refusal::Write),
-    }
-}
-
-// The status with which a command ends, whose line goes to `errors`.
-pub fn tell_end<E: Sink>(alloc: Global, done: Result<(), Refusal>, errors: &mut E) -> Status
-    ensures { TellsEnd (λ line. IsSent line (E.holds errors.old) (E.holds errors.new) (E.faults errors.old)
-        (E.faults errors.new))
-        done result }
-{
-    match done {
-        Ok(()) => said(Status::Ok, b"", errors),
-        Err(why) => tell(alloc, &why, errors),
-    }
-}
-
-// The status of a refusal, whose line goes to `errors`. A line without details takes no memory.
-pub fn tell<E: Sink>(alloc: Global, why: &Refusal, errors: &mut E) -> Status
-    ensures { TellsWhy (λ line. IsSent line (E.holds errors.old) (E.holds errors.new) (E.faults errors.old)
-        (E.faults errors.new))
-        why.now result }
-{
-    let status = refusal_status(why);
-    if !is_detailed(status) {
-        return said(status, status.plain_line(), errors);
-    }
-    match line(alloc, why) {
-        Ok(text) => said(status, text.as_slice(), errors),
-        Err(_) => said(Status::Memory, Status::Memory.plain_line(), errors),
-    }
-}
-
-// Whether the error line of a status has details.
-fn is_detailed(status: Status) -> bool
-    ensures { result ≡ has_details status }
-{
-    matches!(
-        status,
-        Status::Rule | Status::Missing | Status::BadBlock | Status::Clash | Status::NotReady
-    )
-}
-
-// The status, once a line went to `errors`.
-fn said<E: Sink>(status: Status, line: &[u8], errors: &mut E) -> Status
-    ensures status { result ≡ status }
-    ensures sent { IsSent line.now (E.holds errors.old) (E.holds errors.new) (E.faults errors.old)
-        (E.faults errors.new) }
-{
-    let _ = write_all(errors, line);
-    status
 }

@@ -35,7 +35,8 @@ pub fn cat<S: Store, O: Sink, L: Ledger>(
     touches: &mut Steps<L>,
 ) -> Result<(), Refusal>
     requires { length path.now.names < 2 ^ 32 }
-    ensures { (N : List ℕ → ℕ) (left : Left) (reads : ℕ) (side : HostSide) → Does S.X.block32 N (commands.Cat path.now) result
+    ensures { (N : List ℕ → ℕ) (left : Left) (reads : ℕ) (side : HostSide)
+        → Does S.X.block32 N (commands.Cat path.now) result
         (around (S.seen store.old) left reads (O.holds output.old) (O.faults output.old) touches.old side)
         (around (S.seen store.new) left reads (O.holds output.new) (O.faults output.new) touches.new side) }
 {

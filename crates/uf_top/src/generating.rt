@@ -20,7 +20,6 @@ ghost use Rattle.uf_top.specs.Generated.{generated_lines as generated_lines_of, 
 ghost use Rattle.uf_top.specs.Reply.{edited_by};
 ghost use Rattle.uf_top.specs.Working.{Does};
 
-use crate::command::print;
 use crate::tree::edited;
 use std::alloc::Global;
 use std::marker::Brand;
@@ -33,7 +32,7 @@ use uf_gen::{
 use uf_mfs::{Mfs, MfsFault};
 use uf_murmur::NameHash;
 use uf_plain::WriteHow;
-use uf_reply::{Edit, Refusal, own_refusal, put_line, put_number};
+use uf_reply::{Edit, Refusal, own_refusal, print, put_line, put_number};
 use uf_shard::DirFault;
 use uf_store::{MemStore, Steps, Store, StoreFault};
 use uf_tree::{Entry, Profile};
@@ -45,8 +44,9 @@ const SMALL: Profile = Profile {
     threshold: 4096,
 };
 
-// Prints what is said of the tree that the generator's steps make of `n` files, on a store in memory, and of the same tree
-// built afresh on another one: the first rule that refuses a step, else five lines. A clash of two blocks is shown.
+// Prints what is said of the tree that the generator's steps make of `n` files, on a store in memory, and of the same
+// tree built afresh on another one: the first rule that refuses a step, else five lines. A clash of two blocks is
+// shown.
 pub fn print_generated<X: BlockHash, N: NameHash, O: Sink>(
     alloc: Global,
     n: u64,

@@ -1,33 +1,33 @@
 // Files and folders of the host added.
-ghost use Rattle.std.specs.Prelude.{◌≡◌, ◌<◌, ℕ, false, true, None, IfOk, IsTrue};
+ghost use Rattle.std.specs.Prelude.{◌≡◌, ℕ, false, true, None, IfErr, IfOk, IsTrue};
 ghost use Rattle.std.specs.List.{flat_map};
 ghost use Rattle.uf_edge.specs.Streams.{Told};
 ghost use Rattle.uf_reply.specs.Commands.{SyncsBlocks};
 ghost use Rattle.uf_reply.specs.declared.types.Command.TheVariants as commands;
 ghost use Rattle.uf_store.specs.Keeping.{KeepsGood};
-ghost use Rattle.uf_store.specs.Writing.{SavesOnly};
 ghost use Rattle.uf_top.specs.Around.{OnlyReadsHost, around, host_side};
 ghost use Rattle.uf_top.specs.Causes.{OnlyWants, is_read};
 ghost use Rattle.uf_top.specs.Hosted.{IsNoReading, MakesHostText};
 ghost use Rattle.uf_top.specs.HostTexts.{host_refusal, host_row};
 ghost use Rattle.uf_top.specs.Intake.{ShownIn};
+ghost use Rattle.uf_top.specs.Placing.{GivesHost, HasLast, IsLastEntry};
 ghost use Rattle.uf_top.specs.Shapes.{WritesAs, is_ok};
 ghost use Rattle.uf_top.specs.Working.{MakesText};
 ghost use Rattle.uf_tree.specs.Profiles.{is_profile};
 
 use crate::adding::{head_profile, or_usual, synced};
+use crate::given::Given;
 use std::alloc::Global;
-use std::marker::Brand;
-use std::sync::ledger::{Blank, Ledger};
+use std::sync::ledger::Ledger;
 use uf_cid::{Block, BlockHash, Memory, Text};
 use uf_edge::Host;
-use uf_host::{AddedRows, HostFault};
+use uf_host::{AddedRows, HostFault, add, hash_rows};
 use uf_mfs::Ready;
 use uf_murmur::NameHash;
 use uf_plain::Rule;
 use uf_reply::{HostRule, Refusal, put_added};
-use uf_store::{Discard, Steps, Store, StoreFault};
-use uf_tree::Profile;
+use uf_store::{Steps, Store};
+use uf_tree::{Entry, Profile};
 
 // Adds what the host has at a path, or only makes its rows.
 pub fn add_from<S: Store, N: NameHash, W: Host, L: Ledger>(
@@ -108,8 +108,8 @@ fn keep_by<S: Store, N: NameHash, W: Host, L: Ledger>(
     touches: &mut Steps<L>,
 ) -> Result<Block, Refusal>
     requires { IsTrue (is_profile profile) }
-    ensures text { MakesHostText S.X.block32 N.name64 profile (S.seen store.new).told (W.tree host.old) recursive path.now
-        result }
+    ensures text { MakesHostText S.X.block32 N.name64 profile (S.seen store.new).told (W.tree host.old) recursive
+        path.now result }
     ensures host { OnlyReadsHost (is_read result)
         (host_side (W.tree host.old) (W.read_faults host.old) (W.write_faults host.old))
         (host_side (W.tree host.new) (W.read_faults host.new) (W.write_faults host.new)) }
@@ -117,47 +117,45 @@ fn keep_by<S: Store, N: NameHash, W: Host, L: Ledger>(
     ensures good { KeepsGood S.X.block32 (S.seen store.old).told (S.seen store.new).told }
     ensures writes { WritesAs S.X.block32 SyncsBlocks (is_ok result) (S.seen store.old).told (S.seen store.new).told }
 {
-    let text = rows_by::<S, N, W, L>(alloc, profile, recursive, path, store, host, touches)?;
-    synced(store, text)
+    let own = path.copy()?;
+    let text = path.as_str();
+    let answer = add::<S, N, W, L>(alloc, store, &profile, host, text, recursive, touches);
+    let given = rows_given(alloc, own, answer)?;
+    synced(store, given.text)
 }
 
-// The rows of what the host has at a path by a profile, whose blocks are saved.
-fn rows_by<S: Store, N: NameHash, W: Host, L: Ledger>(
+// What is given by the rows that were added: the entry of the last one, and the text of all.
+pub fn rows_given(
     alloc: Global,
-    profile: Profile,
-    recursive: bool,
-    path: &Text,
-    store: &mut S,
-    host: &mut W,
-    touches: &mut Steps<L>,
-) -> Result<Block, Refusal>
-    requires { IsTrue (is_profile profile) }
-    ensures text { MakesHostText S.X.block32 N.name64 profile (S.seen store.new).told (W.tree host.old) recursive path.now
-        result }
-    ensures host { OnlyReadsHost (is_read result)
-        (host_side (W.tree host.old) (W.read_faults host.old) (W.write_faults host.old))
-        (host_side (W.tree host.new) (W.read_faults host.new) (W.write_faults host.new)) }
-    ensures cause { ShownIn S.X.block32 result (S.seen store.old) (S.seen store.new) }
-    ensures good { KeepsGood S.X.block32 (S.seen store.old).told (S.seen store.new).told }
-    ensures saves { SavesOnly S.X.block32 (S.seen store.old).told (S.seen store.new).told }
+    path: Text,
+    answer: Result<AddedRows, HostFault>,
+) -> Result<Given, Refusal>
+    requires last { IfOk answer HasLast }
+    requires walked { IfErr answer IsNoReading }
+    ensures { GivesHost path answer result }
 {
-    let given = path.copy()?;
-    match uf_host::add::<S, N, W, L>(
-        alloc,
-        store,
-        &profile,
-        host,
-        path.as_str(),
-        recursive,
-        touches,
-    ) {
-        Ok(rows) => Ok(row_lines(alloc, &rows)?),
-        Err(fault) => Err(refused(given, fault)),
+    match answer {
+        Err(fault) => Err(refused(path, fault)),
+        Ok(rows) => Ok(Given {
+            entry: last_entry(&rows),
+            text: row_lines(alloc, &rows)?,
+        }),
+    }
+}
+
+// The entry of the last row.
+fn last_entry(rows: &AddedRows) -> Entry
+    requires { HasLast rows.now }
+    ensures { IsLastEntry rows.now result }
+{
+    match rows.as_slice().last() {
+        Some(row) => row.entry,
+        None => unreachable!(),
     }
 }
 
 // The rows, each in a line.
-pub fn row_lines(alloc: Global, rows: &AddedRows) -> Result<Block, Memory>
+fn row_lines(alloc: Global, rows: &AddedRows) -> Result<Block, Memory>
     ensures { IfOk result (λ out. out ≡ flat_map host_row rows.now) }
 {
     let mut out = Block::new(alloc);
@@ -204,54 +202,8 @@ fn hash_by<X: BlockHash, N: NameHash, W: Host>(
         (host_side (W.tree host.old) (W.read_faults host.old) (W.write_faults host.old))
         (host_side (W.tree host.new) (W.read_faults host.new) (W.write_faults host.new)) }
 {
-    counted_hash_by::<X, N, W, Brand>(alloc, profile, recursive, path, host, Blank::new(1))
-}
-
-// The same, with a count of its own for the touches of the store that keeps nothing.
-fn counted_hash_by<X: BlockHash, N: NameHash, W: Host, L: Ledger>(
-    alloc: Global,
-    profile: Profile,
-    recursive: bool,
-    path: &Text,
-    host: &mut W,
-    blank: Blank,
-) -> Result<Block, Refusal>
-    requires profile { IsTrue (is_profile profile) }
-    requires name { blank.name ≡ L.name }
-    requires parts { blank.parts ≡ L.parts }
-    requires some { 0 < blank.parts }
-    ensures text { MakesHostText X.block32 N.name64 profile None (W.tree host.old) recursive path.now result }
-    ensures wants { OnlyWants result }
-    ensures host { OnlyReadsHost (is_read result)
-        (host_side (W.tree host.old) (W.read_faults host.old) (W.write_faults host.old))
-        (host_side (W.tree host.new) (W.read_faults host.new) (W.write_faults host.new)) }
-{
-    let mut touches = Steps::<L>::new(blank);
-    hash_over::<X, N, W, L>(alloc, profile, recursive, path, host, &mut touches)
-}
-
-// The same, with the touches that an import into a store that keeps nothing makes.
-fn hash_over<X: BlockHash, N: NameHash, W: Host, L: Ledger>(
-    alloc: Global,
-    profile: Profile,
-    recursive: bool,
-    path: &Text,
-    host: &mut W,
-    touches: &mut Steps<L>,
-) -> Result<Block, Refusal>
-    requires { IsTrue (is_profile profile) }
-    ensures text { MakesHostText X.block32 N.name64 profile None (W.tree host.old) recursive path.now result }
-    ensures wants { OnlyWants result }
-    ensures host { OnlyReadsHost (is_read result)
-        (host_side (W.tree host.old) (W.read_faults host.old) (W.write_faults host.old))
-        (host_side (W.tree host.new) (W.read_faults host.new) (W.write_faults host.new)) }
-{
-    let mut store = Discard::<X>::new();
-    match rows_by::<Discard<X>, N, W, L>(
-        alloc, profile, recursive, path, &mut store, host, touches,
-    ) {
-        Ok(text) => Ok(text),
-        Err(Refusal::Store(_)) => Err(Refusal::Store(StoreFault::Memory)),
-        Err(why) => Err(why),
-    }
+    let own = path.copy()?;
+    let answer = hash_rows::<X, N, W>(alloc, &profile, host, path, recursive);
+    let given = rows_given(alloc, own, answer)?;
+    Ok(given.text)
 }

@@ -26,8 +26,8 @@ pub fn what_stands_is_named()
         → TellsAs X N a (Stands p es) → KeepsGood X a b → StaysNamed X N a b p es }
 {}
 
-/// What a store stands for stays where good blocks are kept and the Head is as before: so of each command that is refused,
-/// whatever failed, but for `add --to-files` of which only the output failed, which leaves the new tree.
+/// What a store stands for stays where good blocks are kept and the Head is as before: so of each command that is
+/// refused, whatever failed, but for `add --to-files` of which only the output failed, which leaves the new tree.
 pub fn what_stands_stays()
     ensures { (X : List ℕ → List ℕ) (N : List ℕ → ℕ) (a b : Told) (standing : Standing) → TellsAs X N a standing
         → KeepsGood X a b → head_in b ≡ head_in a → TellsAs X N b standing }
@@ -39,16 +39,17 @@ pub fn what_is_safe_outlives_stops()
         → EachOutcome (LeavesTree X N p es) t.writes }
 {}
 
-/// Where a store is safe for a tree, a command has written what `run` says that it writes, and the store then stands for
-/// a tree, be it the same, as it does where only the output of an `add --to-files` failed: the store is safe for the tree after, and a stop after any of these writes leaves the tree
-/// before or the tree after. The same of a `commit` alone.
+/// Where a store is safe for a tree, a command has written what `run` says that it writes, and the store then stands
+/// for a tree, be it the same, as it does where only the output of an `add --to-files` failed: the store is safe for
+/// the tree after, and a stop after any of these writes leaves the tree before or the tree after. The same of a
+/// `commit` alone.
 pub fn a_stop_leaves_the_tree_before_or_after()
     ensures commit { (X : List ℕ → List ℕ) (N : List ℕ → ℕ) (text : List ℕ) (a b : Contents) (p q : Profile)
         (es fs : Entries) → IsHash X → ((name : List ℕ) → N name < 2 ^ 64)
         → IsSafeFor X N a p es → Commits text (Some a) (Some b) → LeavesTree X N q fs b.held b.notes
         → IsSafeFor X N b q fs × EachStop (LeavesEither X N p es q fs) a b }
-    ensures command { (X : List ℕ → List ℕ) (N : List ℕ → ℕ) (asked : Result Command Refusal) (done : Bool) (a b : Contents)
-        (p q : Profile) (es fs : Entries) → IsHash X → ((name : List ℕ) → N name < 2 ^ 64)
+    ensures command { (X : List ℕ → List ℕ) (N : List ℕ → ℕ) (asked : Result Command Refusal) (done : Bool)
+        (a b : Contents) (p q : Profile) (es fs : Entries) → IsHash X → ((name : List ℕ) → N name < 2 ^ 64)
         → IsSafeFor X N a p es → WritesFor X asked done (Some a) (Some b) → LeavesTree X N q fs b.held b.notes
         → IsSafeFor X N b q fs × EachStop (LeavesEither X N p es q fs) a b }
 {}

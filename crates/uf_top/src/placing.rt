@@ -13,28 +13,27 @@ ghost use Rattle.uf_top.specs.Around.{HostSide, OnlyReadsHost, around, host_side
 ghost use Rattle.uf_top.specs.Causes.{is_read};
 ghost use Rattle.uf_top.specs.Grafts.{FollowsOr};
 ghost use Rattle.uf_top.specs.HostTexts.{host_text};
-ghost use Rattle.uf_top.specs.Placing.{FindsSpot, GivesFor, GivesRows, HasLast, IsLastEntry, PutsGiven};
+ghost use Rattle.uf_top.specs.Placing.{FindsSpot, GivesFor, PutsGiven};
 ghost use Rattle.uf_top.specs.Placing.{SaysHost, SaysInput};
 ghost use Rattle.uf_top.specs.Reply.{added_name as name_added, input_row};
 ghost use Rattle.uf_top.specs.Working.{MakesText};
 
+use crate::adding::file_given;
 use crate::given::{Found, Given};
-use crate::hosted::{refused, row_lines};
+use crate::hosted::rows_given;
 use crate::tree::{opening, refusal};
 use std::alloc::Global;
-use std::marker::Brand;
-use std::sync::ledger::{Blank, Ledger};
+use std::sync::ledger::Ledger;
 use uf_cid::{Block, Text};
 use uf_edge::{Host, Source};
-use uf_host::{AddedRows, last_name};
-use uf_intake::{IntakeFault, file_of};
+use uf_host::{add_apart, last_name};
+use uf_intake::file_apart;
 use uf_mfs::Mfs;
 use uf_murmur::NameHash;
 use uf_path::Path;
-use uf_plain::Rule;
-use uf_reply::{HostRule, Refusal, added_row};
+use uf_reply::{HostRule, Refusal};
 use uf_store::{Steps, Store, StoreFault};
-use uf_tree::{Entry, Name, NameFault, Profile};
+use uf_tree::{Name, NameFault, Profile};
 
 // Puts the input as a file where a path of the tree leads, writes the Head, and gives its row.
 pub fn add_to<S: Store, N: NameHash, I: Source, L: Ledger>(
@@ -44,17 +43,14 @@ pub fn add_to<S: Store, N: NameHash, I: Source, L: Ledger>(
     input: &mut I,
     touches: &mut Steps<L>,
 ) -> Result<Block, Refusal>
-    ensures { (held : Told) (writes : ℕ) (host : HostSide) → MakesText S.X.block32 N.name64 (commands.AddTo dest.now) result
+    ensures { (held : Told) (writes : ℕ) (host : HostSide)
+        → MakesText S.X.block32 N.name64 (commands.AddTo dest.now) result
         (around (S.seen store.old) (I.left input.old) (I.faults input.old) held writes touches.old host)
         (around (S.seen store.new) (I.left input.new) (I.faults input.new) held writes touches.new host) }
 {
-    match find::<S, N, L>(alloc, dest, None, store, touches) {
-        Err(why) => Err(why),
-        Ok(found) => match read_input::<S, I>(alloc, found.tree.profile, store, input) {
-            Err(why) => Err(why),
-            Ok(given) => put::<S, N, L>(alloc, found, given, store, touches),
-        },
-    }
+    let found = find::<S, N, L>(alloc, dest, None, store, touches)?;
+    let given = read_input::<S, I>(alloc, found.tree.profile, store, input)?;
+    put::<S, N, L>(alloc, found, given, store, touches)
 }
 
 // Puts what the host has at a path where a path of the tree leads, writes the Head, and gives its rows.
@@ -74,15 +70,9 @@ pub fn add_from_to<S: Store, N: NameHash, W: Host, L: Ledger>(
         (around (S.seen store.new) left reads held writes touches.new
         (host_side (W.tree host.new) (W.read_faults host.new) (W.write_faults host.new))) }
 {
-    match find::<S, N, L>(alloc, dest, Some(path), store, touches) {
-        Err(why) => Err(why),
-        Ok(found) => {
-            match read_host::<S, N, W>(alloc, found.tree.profile, recursive, path, store, host) {
-                Err(why) => Err(why),
-                Ok(given) => put::<S, N, L>(alloc, found, given, store, touches),
-            }
-        }
-    }
+    let found = find::<S, N, L>(alloc, dest, Some(path), store, touches)?;
+    let given = read_host::<S, N, W>(alloc, found.tree.profile, recursive, path, store, host)?;
+    put::<S, N, L>(alloc, found, given, store, touches)
 }
 
 // The tree that the Head names, and the spot in it of what is added.
@@ -158,53 +148,7 @@ fn read_input<S: Store, I: Source>(
     ensures counts { Counts (is_read result) (I.faults input.old) (I.faults input.new) }
     ensures saves { OnlySaves S.X.block32 NoneIsBad (refusal_fault result) (S.seen store.old) (S.seen store.new) }
 {
-    counted_input::<S, I, Brand>(alloc, profile, store, input, Blank::new(1))
-}
-
-// The same, with a count of its own.
-fn counted_input<S: Store, I: Source, L: Ledger>(
-    alloc: Global,
-    profile: Profile,
-    store: &mut S,
-    input: &mut I,
-    blank: Blank,
-) -> Result<Given, Refusal>
-    requires profile { IsTrue (is_profile profile) }
-    requires name { blank.name ≡ L.name }
-    requires parts { blank.parts ≡ L.parts }
-    requires some { 0 < blank.parts }
-    ensures gives { (N : List ℕ → ℕ) → GivesFor S.X.block32 N profile (S.seen store.new).told
-        (SaysInput profile (I.left input.old)) (input_row S.X.block32 N profile) result }
-    ensures counts { Counts (is_read result) (I.faults input.old) (I.faults input.new) }
-    ensures saves { OnlySaves S.X.block32 NoneIsBad (refusal_fault result) (S.seen store.old) (S.seen store.new) }
-{
-    let mut touches = Steps::<L>::new(blank);
-    input_given(alloc, profile, store, input, &mut touches)
-}
-
-// The same, with the touches that a builder makes.
-fn input_given<S: Store, I: Source, L: Ledger>(
-    alloc: Global,
-    profile: Profile,
-    store: &mut S,
-    input: &mut I,
-    touches: &mut Steps<L>,
-) -> Result<Given, Refusal>
-    requires { IsTrue (is_profile profile) }
-    ensures gives { (N : List ℕ → ℕ) → GivesFor S.X.block32 N profile (S.seen store.new).told
-        (SaysInput profile (I.left input.old)) (input_row S.X.block32 N profile) result }
-    ensures counts { Counts (is_read result) (I.faults input.old) (I.faults input.new) }
-    ensures saves { OnlySaves S.X.block32 NoneIsBad (refusal_fault result) (S.seen store.old) (S.seen store.new) }
-{
-    match file_of(alloc, profile, store, input, touches) {
-        Err(IntakeFault::Read) => Err(Refusal::Read),
-        Err(IntakeFault::FileTooLong) => Err(Refusal::Rule(Rule::FileTooLong)),
-        Err(IntakeFault::Store(fault)) => Err(Refusal::Store(fault)),
-        Ok(entry) => match added_row(alloc, &entry.cid) {
-            Err(why) => Err(Refusal::from(why)),
-            Ok(text) => Ok(Given { entry, text }),
-        },
-    }
+    file_given(alloc, file_apart(alloc, profile, store, input))
 }
 
 // What the host has at a path, whose blocks are saved; they are counted apart.
@@ -225,83 +169,7 @@ fn read_host<S: Store, N: NameHash, W: Host>(
         (host_side (W.tree host.new) (W.read_faults host.new) (W.write_faults host.new)) }
     ensures saves { OnlySaves S.X.block32 NoneIsBad (refusal_fault result) (S.seen store.old) (S.seen store.new) }
 {
-    counted_host::<S, N, W, Brand>(alloc, profile, recursive, path, store, host, Blank::new(1))
-}
-
-// The same, with a count of its own.
-fn counted_host<S: Store, N: NameHash, W: Host, L: Ledger>(
-    alloc: Global,
-    profile: Profile,
-    recursive: bool,
-    path: &Text,
-    store: &mut S,
-    host: &mut W,
-    blank: Blank,
-) -> Result<Given, Refusal>
-    requires profile { IsTrue (is_profile profile) }
-    requires name { blank.name ≡ L.name }
-    requires parts { blank.parts ≡ L.parts }
-    requires some { 0 < blank.parts }
-    ensures gives { GivesFor S.X.block32 N.name64 profile (S.seen store.new).told
-        (SaysHost S.X.block32 N.name64 profile (W.tree host.old) recursive path.now)
-        (host_text S.X.block32 N.name64 profile path.now) result }
-    ensures host { OnlyReadsHost (is_read result)
-        (host_side (W.tree host.old) (W.read_faults host.old) (W.write_faults host.old))
-        (host_side (W.tree host.new) (W.read_faults host.new) (W.write_faults host.new)) }
-    ensures saves { OnlySaves S.X.block32 NoneIsBad (refusal_fault result) (S.seen store.old) (S.seen store.new) }
-{
-    let mut touches = Steps::<L>::new(blank);
-    host_given::<S, N, W, L>(alloc, profile, recursive, path, store, host, &mut touches)
-}
-
-// The same, with the touches that an import makes.
-fn host_given<S: Store, N: NameHash, W: Host, L: Ledger>(
-    alloc: Global,
-    profile: Profile,
-    recursive: bool,
-    path: &Text,
-    store: &mut S,
-    host: &mut W,
-    touches: &mut Steps<L>,
-) -> Result<Given, Refusal>
-    requires { IsTrue (is_profile profile) }
-    ensures gives { GivesFor S.X.block32 N.name64 profile (S.seen store.new).told
-        (SaysHost S.X.block32 N.name64 profile (W.tree host.old) recursive path.now)
-        (host_text S.X.block32 N.name64 profile path.now) result }
-    ensures host { OnlyReadsHost (is_read result)
-        (host_side (W.tree host.old) (W.read_faults host.old) (W.write_faults host.old))
-        (host_side (W.tree host.new) (W.read_faults host.new) (W.write_faults host.new)) }
-    ensures saves { OnlySaves S.X.block32 NoneIsBad (refusal_fault result) (S.seen store.old) (S.seen store.new) }
-{
     let own = path.copy()?;
-    let text = path.as_str();
-    match uf_host::add::<S, N, W, L>(alloc, store, &profile, host, text, recursive, touches) {
-        Err(fault) => Err(refused(own, fault)),
-        Ok(rows) => given_of(alloc, &rows),
-    }
-}
-
-// What is given by rows: the entry of the last one, and the text of all.
-fn given_of(alloc: Global, rows: &AddedRows) -> Result<Given, Refusal>
-    requires { HasLast rows.now }
-    ensures { GivesRows rows.now result }
-{
-    match row_lines(alloc, rows) {
-        Err(why) => Err(Refusal::from(why)),
-        Ok(text) => Ok(Given {
-            entry: last_entry(rows),
-            text,
-        }),
-    }
-}
-
-// The entry of the last row.
-fn last_entry(rows: &AddedRows) -> Entry
-    requires { HasLast rows.now }
-    ensures { IsLastEntry rows.now result }
-{
-    match rows.as_slice().last() {
-        Some(row) => row.entry,
-        None => unreachable!(),
-    }
+    let answer = add_apart::<S, N, W>(alloc, store, &profile, host, path, recursive);
+    rows_given(alloc, own, answer)
 }

@@ -25,7 +25,8 @@ pub fn send_part<S: Store, N: NameHash, O: Sink, L: Ledger>(
     output: &mut O,
     touches: &mut Steps<L>,
 ) -> Result<(), Refusal>
-    ensures { (left : Left) (reads : ℕ) (side : HostSide) → Does S.X.block32 N.name64 (commands.Read offset count path.now) result
+    ensures { (left : Left) (reads : ℕ) (side : HostSide)
+        → Does S.X.block32 N.name64 (commands.Read offset count path.now) result
         (around (S.seen store.old) left reads (O.holds output.old) (O.faults output.old) touches.old side)
         (around (S.seen store.new) left reads (O.holds output.new) (O.faults output.new) touches.new side) }
 {

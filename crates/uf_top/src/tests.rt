@@ -553,7 +553,7 @@ fn writes_so(step: &Step, writes: bool) -> bool {
 
 // Whether this is told of the store after a stop behind so many writes, where all saves outlived it or where all that
 // could be lost are lost.
-fn stops_so<X: BlockHash, N: NameHash, L: Ledger>(
+pub fn stops_so<X: BlockHash, N: NameHash, L: Ledger>(
     alloc: Global,
     at: usize,
     row: &Row,

@@ -256,7 +256,7 @@ pub const NOTHING_THERE: Row<'static> = Row {
     ..DONE
 };
 
-const D_THERE: Row<'static> = Row {
+pub const D_THERE: Row<'static> = Row {
     words: "files stat /",
     output: STAT_D,
     ..DONE

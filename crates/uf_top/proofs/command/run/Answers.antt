@@ -6,7 +6,7 @@ use Rattle.uf_reply.specs.Commands.{IsAsked, command_in}
 use Rattle.uf_reply.specs.Statuses.{no_memory}
 use Rattle.uf_reply.proofs.Asked.{words-only}
 use Rattle.uf_top.specs.Around.{around, host_side}
-use Rattle.uf_top.specs.Causes.{IsSent}
+use Rattle.uf_reply.specs.Telling.{IsSent}
 use Rattle.uf_top.proofs.Runs.{runs-told}
 use Rattle.uf_top.proofs.Standings.{stands-one}
 use Rattle.uf_top.proofs.Wanted.{batch-wants}

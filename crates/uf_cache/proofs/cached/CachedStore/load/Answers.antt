@@ -4,7 +4,7 @@ use Rattle.uf_cache.specs.Entries.{lent_by}
 use Rattle.uf_cache.proofs.Answering.{found_kept, hit_finds, hits, is_found, is_other, keeps_found, keeps_none}
 use Rattle.uf_cache.proofs.Answering.{may_keep, unfound}
 use Rattle.uf_cache.proofs.Finding.{among, each_some, is_absent, is_first, is_left, is_there, promotes}
-use Rattle.uf_cache.proofs.Kept.{AreKept-put, AreKept-same, AreKept-used}
+use Rattle.uf_cache.proofs.Kept.{AreKept-kept, AreKept-same, AreKept-used}
 use Rattle.uf_cache.proofs.cached.CachedStore.load.Goals as goal
 
 pub invariant_of-self : goal.invariant_of-self
@@ -47,7 +47,7 @@ invariant_of-self-then-eq g c =
     let whole = found_kept hash cid _ _ _ found c.load-answer.ensures.seen in
     let put = may_keep _ _ _ _ _ _ (is_left p c.if-promote.false) c.block.ensures c.keep.ensures in
     let kept = AreKept-same hash _ _ self.entries same self.kept in
-    record { kept = AreKept-put hash _ self.entries _ cid kept _ whole put }
+    record { kept = AreKept-kept hash _ self.entries _ cid kept _ whole put }
 
 pub invariant_of-self-else-eq : goal.invariant_of-self-else-eq
 invariant_of-self-else-eq g c =

@@ -1,6 +1,6 @@
 use Rattle.std.proofs.Common.{ℕ, List, ◌++◌, ap, sym, ◌∙◌}
 use Rattle.uf_cache.proofs.Finding.{put_or_left, where_ok}
-use Rattle.uf_cache.proofs.keep.keep.Goals as goal
+use Rattle.uf_cache.proofs.keep.put.Goals as goal
 
 pub returns-then-is_ok : goal.returns-then-is_ok
 returns-then-is_ok c =

@@ -1,0 +1,369 @@
+-- What the lines of a batch answer, where nothing fails.
+use Rattle.std.proofs.Common.{◌≡◌, ◌∙◌, ℕ, ◌+◌, ◌≤◌, List, [], ◌∷◌, ◌++◌, Bool, true, false, arith, refl, sym, ap, subst, inl, inr, append_assoc, append-nil, Option, None, Some, Result, Ok, Err}
+use Rattle.std.specs.Prelude.{◌⊎◌, IfSome, IsTrue}
+use Rattle.uf_cid.specs.Blocks.{Lookup}
+use Rattle.uf_edge.specs.Counts.{Stood}
+use Rattle.uf_edge.specs.Host.{HostTree}
+use Rattle.uf_edge.specs.Streams as streams
+use Rattle.uf_mfs.specs.Standing.{TellsAs}
+use Rattle.uf_store.specs.Contents.{Told, held_at}
+use Rattle.uf_store.specs.Keeping.{KeepsGood}
+use Rattle.uf_tree.specs.Profiles.{is_profile}
+use Rattle.uf_tree.specs.Standing.{Standing, NoHead, BadHead, Stands}
+use Rattle.uf_tree.specs.Tree.{Entries}
+use Rattle.uf_tree.specs.declared.profile.Profile.{Profile}
+use Rattle.uf_reply.specs.Commands.{needs_standing, of_command}
+use Rattle.uf_reply.specs.Statuses.{ends_batch, mark}
+use Rattle.uf_reply.specs.declared.status.Status.{Status}
+use Rattle.uf_reply.specs.declared.status.Status.TheVariants as status
+use Rattle.uf_reply.specs.declared.types.Command.{Command}
+use Rattle.uf_reply.specs.declared.types.Command.TheVariants.{Init, Add, AddFrom, WriteInput, At, Read, Cat, Get, Export, Import, Same, Adopt, Gen, AddTo, AddFromTo}
+use Rattle.uf_reply.specs.declared.types.Refusal.{Refusal}
+use Rattle.uf_top.specs.Around.{Around, CountsCanRise, HasOutside, NoneFalls, RoseAt, StaysQuiet}
+use Rattle.uf_top.specs.Batch.{AtLine, Batches, ByMemory, ByReading, EndsSo, Ending, LineCut, LineDone, LineEnds, LineGone, LinePassed, LinesDone, PrintsCut, PrintsWhole, ReadingFails, Said, Scene, SinkSide, TooLong, WithInput, output_of, with_sinks}
+use Rattle.uf_top.specs.BatchReplies.{BatchReplied, EndsReplied, GoesOnReplied, HasHeights, LineAnswered, LineReplied, LinesReplied, NothingFails, added_bounds, batch_bound, batch_printed, going_bound, going_printed, last_bound, last_printed, line_bound, line_printed, line_world, lines_bound, lines_printed, printed_by}
+use Rattle.uf_top.specs.Endings.{EndsAs, PrintsAll, PrintsPart}
+use Rattle.uf_top.specs.Naming.{FindsOver, FindsWorld, NamesIf, StandsIf, TellsBlocks}
+use Rattle.uf_top.specs.Reply.{World, outside_of, reply_to}
+use Rattle.uf_top.specs.Shapes.{WritesFor, is_done}
+use Rattle.uf_top.proofs.BatchCounts.{ends-counted, fails-first, fails-last, gone-counted, last-counted, lines-counted, whole-counted, cut-counted}
+use Rattle.uf_top.proofs.Counted.{rose-not-stood}
+use Rattle.uf_top.proofs.LineHosts.{Suits, asks-suits}
+use Rattle.uf_top.proofs.Losing.{named-of}
+
+-- ---- what stands after a command that suits a batch
+
+module _ (X : List ℕ → List ℕ) (N : List ℕ → ℕ) where
+  pub held-of : (told : Told) (s : Standing) → TellsAs X N told s → (held : Lookup) × TellsBlocks told held
+  held-of None s stands = absurd stands
+  held-of (Some t) s stands = (held_at t, refl)
+
+  pub if-needed : (needs : Bool) (told : Told) (s : Standing) → TellsAs X N told s → StandsIf X N needs told s
+  if-needed true told s stands = stands
+  if-needed false None s stands = absurd stands
+  if-needed false (Some t) s stands = refl
+
+  names-if : (needs : Bool) (a b : Told) (s : Standing) → KeepsGood X a b → TellsAs X N a s → NamesIf X N a b needs s
+  names-if true a b NoHead good stands = stands
+  names-if true a b BadHead good stands = stands
+  names-if true a b (Stands p es) good stands = named-of X N a b p es stands good
+  names-if false None b s good stands = absurd stands
+  names-if false (Some t) b s good stands = refl
+
+  profile-of : (told : Told) (p : Profile) (es : Entries) → TellsAs X N told (Stands p es) → IsTrue (is_profile p)
+  profile-of None p es stands = absurd stands
+  profile-of (Some t) p es stands = stands.profile
+
+  -- a command that needs no standing leaves it
+  pub next-same : (asked : Result Command Refusal) (w : World) → of_command needs_standing true asked ≡ false → (reply_to X N asked w).next ≡ w.standing
+  next-same (Err why) w none = refl
+  next-same (Ok (Init p)) w none = absurd cc
+  next-same (Ok (Add only_hash)) w none = absurd cc
+  next-same (Ok (AddFrom recursive only_hash path)) w none = absurd cc
+  next-same (Ok (AddTo dest)) w none = absurd cc
+  next-same (Ok (AddFromTo recursive path dest)) w none = absurd cc
+  next-same (Ok (WriteInput how path)) w none = absurd cc
+  next-same (Ok (At ask path)) w none = absurd cc
+  next-same (Ok (Read offset count path)) w none = absurd cc
+  next-same (Ok (Cat path)) w none = refl
+  next-same (Ok (Get path host_path)) w none = refl
+  next-same (Ok (Export cid)) w none = refl
+  next-same (Ok Import) w none = refl
+  next-same (Ok (Same cid)) w none = refl
+  next-same (Ok (Adopt source dest)) w none = absurd cc
+  next-same (Ok (Gen n seed)) w none = refl
+
+  module _ (done : Bool) (s t : Standing) (a b : Told) where
+    -- nothing was written
+    untouched : b ≡ a → t ≡ s → TellsAs X N a s → TellsAs X N b t
+    untouched same is stands = subst (TellsAs X N b) (sym is) (subst (λ x. TellsAs X N x s) (sym same) stands)
+
+    pub stands-now : (asked : Result Command Refusal) → Suits asked → WritesFor X asked done a b → (of_command needs_standing true asked ≡ false → t ≡ s) → TellsAs X N a s
+        → StandsIf X N (of_command needs_standing true asked) b t → TellsAs X N b t
+    stands-now (Err why) suits writes same stands now = now
+    stands-now (Ok (Init p)) suits writes same stands now = now
+    stands-now (Ok (Add only_hash)) suits writes same stands now = now
+    stands-now (Ok (AddFrom recursive only_hash path)) suits writes same stands now = now
+    stands-now (Ok (AddTo dest)) suits writes same stands now = now
+    stands-now (Ok (AddFromTo recursive path dest)) suits writes same stands now = now
+    stands-now (Ok (WriteInput how path)) suits writes same stands now = now
+    stands-now (Ok (At ask path)) suits writes same stands now = now
+    stands-now (Ok (Read offset count path)) suits writes same stands now = now
+    stands-now (Ok (Cat path)) suits writes same stands now = untouched writes (same refl) stands
+    stands-now (Ok (Get path host_path)) suits writes same stands now = untouched writes (same refl) stands
+    stands-now (Ok (Export cid)) suits writes same stands now = untouched writes (same refl) stands
+    stands-now (Ok Import) suits writes same stands now = absurd (let e : true ≡ false = suits.0 in cc)
+    stands-now (Ok (Same cid)) suits writes same stands now = untouched writes (same refl) stands
+    stands-now (Ok (Adopt source dest)) suits writes same stands now = now
+    stands-now (Ok (Gen n seed)) suits writes same stands now = untouched writes (same refl) stands
+
+  -- ---- a line
+
+  module _ (host : HostTree) (line : List ℕ) (given : Status) (a b : Scene) (done : LineDone X N line given a b) where
+    suits : Suits done.asked
+    suits = asks-suits line done.asked done.asks
+
+    pub outside-of : (s : Standing) (held : Lookup) → a.around.host.told ≡ Some host → Stood a.around.host.reads b.around.host.reads → HasOutside done.asked (outside_of (line_world host s held)) a.around b.around
+    outside-of s held tells stood = (λ reads. absurd (let e : true ≡ false = sym reads ∙ suits.0 in cc), λ uses. (tells, stood))
+
+    pub quiet-of : NothingFails a.around b.around → StaysQuiet done.asked given a.around b.around
+    quiet-of h = record {
+      store = h.store;
+      written = record { output = h.output; host = λ writes. absurd (let e : true ≡ false = sym writes ∙ suits.1 in cc) };
+      own = λ own. absurd (let e : true ≡ false = sym own ∙ suits.2 in cc);
+    }
+
+    pub host-same : b.around.host.told ≡ a.around.host.told
+    host-same = done.runs.host_told suits.1
+
+    pub finds-of : (s : Standing) (held : Lookup) → TellsAs X N a.around.store.told s → TellsBlocks a.around.store.told held → FindsWorld X N done.asked a.around.store.told (line_world host s held)
+    finds-of s held stands blocks = record { stands = if-needed (of_command needs_standing true done.asked) a.around.store.told s stands; held = blocks }
+
+    pub stands-next : (s t : Standing) → (of_command needs_standing true done.asked ≡ false → t ≡ s) → TellsAs X N a.around.store.told s → StandsIf X N (of_command needs_standing true done.asked) b.around.store.told t
+        → TellsAs X N b.around.store.told t
+    stands-next s t same stands now = stands-now (is_done given) s t a.around.store.told b.around.store.told done.asked suits done.runs.writes same stands now
+
+    module _ (tells : a.around.host.told ≡ Some host) (h : NothingFails a.around b.around) where
+      touched : (s : Standing) → TellsAs X N a.around.store.told s → (rows : Profile → ℕ → ℕ) → HasHeights rows → IfSome (line_bound X N rows s done.asked) (λ most. b.around.touches ≤ a.around.touches + most)
+      touched NoHead stands rows heights = tt
+      touched BadHead stands rows heights = tt
+      touched (Stands p es) stands rows heights =
+          done.runs.touches p es [] (rows p) (named-of X N a.around.store.told b.around.store.told p es stands done.runs.good) (λ reads. absurd (let e : true ≡ false = sym reads ∙ suits.0 in cc))
+          (heights p (profile-of a.around.store.told p es stands)) h.store
+
+      room : CountsCanRise a.around.store
+      room = record { faults = omega (arith, done.runs.counted.store.faults, h.store.faults); clashes = omega (arith, done.runs.counted.store.clashes, h.store.clashes) }
+
+      names-over : (s : Standing) (held : Lookup) → TellsAs X N a.around.store.told s → TellsBlocks a.around.store.told held → FindsOver X N a.around.store.told b.around.store.told done.asked (line_world host s held)
+      names-over s held stands blocks = record { names = names-if (of_command needs_standing true done.asked) a.around.store.told b.around.store.told s done.runs.good stands; held = blocks }
+
+      prints-front : (s : Standing) (held : Lookup) → TellsAs X N a.around.store.told s → TellsBlocks a.around.store.told held → PrintsPart (reply_to X N done.asked (line_world host s held)).ends a.around.held b.around.held
+      prints-front s held stands blocks = done.runs.prefix (line_world host s held) (names-over s held stands blocks) (outside-of s held tells h.host) room
+
+      answered-by : (s : Standing) (held : Lookup) → TellsBlocks a.around.store.told held → TellsAs X N a.around.store.told s
+          → EndsAs (Said a.errors b.errors) X N done.asked (line_world host s held) given a.around.held b.around.held b.around.store.told b.around.host.told → (next : Standing) × LineAnswered X N host line given s next a b
+      answered-by s held blocks stands (inl wants) = (
+        s,
+        record {
+          asked = done.asked;
+          asks = done.asks;
+          held = held;
+          blocks = blocks;
+          stood = stands;
+          ends = inl wants;
+          prints = prints-front s held stands blocks;
+          next_is = inr (wants.status_is, refl);
+          stands = stands-next s s (λ none. refl) stands wants.stands;
+          touches = touched s stands;
+        },
+      )
+      answered-by s held blocks stands (inr replies) = (
+        (reply_to X N done.asked (line_world host s held)).next,
+        record {
+          asked = done.asked;
+          asks = done.asks;
+          held = held;
+          blocks = blocks;
+          stood = stands;
+          ends = inr replies;
+          prints = prints-front s held stands blocks;
+          next_is = inl refl;
+          stands = stands-next s (reply_to X N done.asked (line_world host s held)).next (λ none. next-same done.asked (line_world host s held) none) stands replies.0.stands;
+          touches = touched s stands;
+        },
+      )
+
+      pub answered : (s : Standing) → TellsAs X N a.around.store.told s → (next : Standing) × LineAnswered X N host line given s next a b
+      answered s stands = by (held-of a.around.store.told s stands)
+        where
+          by : ((held : Lookup) × TellsBlocks a.around.store.told held) → (next : Standing) × LineAnswered X N host line given s next a b
+          by h0 = answered-by s h0.0 h0.1 stands (done.runs.replies (line_world host s h0.0) (finds-of s h0.0 stands h0.1) (outside-of s h0.0 tells h.host) (quiet-of h))
+
+    -- no writing of the output failed
+    pub wrote : Stood a.around.writes b.around.writes → given ≡ status.WriteFault → ⊥
+    wrote stood is = rose-not-stood a.around.writes b.around.writes (subst (λ u. RoseAt u a.around.writes b.around.writes a.around.host.writes b.around.host.writes) suits.1 (done.runs.write is)) stood
+
+  -- ---- lines
+
+  module _ (host : HostTree) where
+    -- what is so where the lines go on
+    abbrev GoesOn : Scene → Standing → Type 0
+    GoesOn a s = (a.around.host.told ≡ Some host) × TellsAs X N a.around.store.told s
+
+    goes-same : (a b : Scene) (s : Standing) → b.around ≡ a.around → GoesOn a s → GoesOn b s
+    goes-same a b s same h = subst (λ (x : Around). (x.host.told ≡ Some host) × TellsAs X N x.store.told s) (sym same) h
+
+    -- before a line's status was printed
+    abbrev before-mark : SinkSide → Scene → Scene
+    before-mark printed b = with_sinks printed b.errors b
+
+    passed-replied : (line : List ℕ) (a b : Scene) (s : Standing) (p : LinePassed X N line a b) → GoesOn a s → NothingFails a.around b.around → (next : Standing) × LineReplied X N host line false p.given s next a b × GoesOn b next
+    passed-replied line a b s p on h =
+        by (answered host line p.given a (before-mark p.printed b) p.done on.0 (fails-first a.around (before-mark p.printed b).around b.around p.done.runs.counted (whole-counted (mark p.given) p.printed b.errors b p.marked) h) s on.1)
+      where
+        by : ((next : Standing) × LineAnswered X N host line p.given s next a (before-mark p.printed b)) → (next : Standing) × LineReplied X N host line false p.given s next a b × GoesOn b next
+        by r = (r.0, record { printed = p.printed; answered = r.1; ends = p.goes_on; marked = p.marked }, (host-same host line p.given a (before-mark p.printed b) p.done ∙ on.0, r.1.stands))
+
+    gone-replied : (line : List ℕ) (a b : Scene) (s : Standing) → LineGone X N line a b → GoesOn a s → NothingFails a.around b.around → (next : Standing) × GoesOnReplied X N host line s next a b × GoesOn b next
+    gone-replied line a b s (inl none) on h = (s, inl (none.0, refl, none.1), goes-same a b s (ap (λ (x : Scene). x.around) none.1) on)
+    gone-replied line a b s (inr passed) on h = (let r = passed-replied line a b s passed on h in (r.0, inr (passed.given, r.1), r.2))
+
+    lines-replied : (lines : List (List ℕ)) (a b : Scene) (s : Standing) → LinesDone X N lines a b → GoesOn a s → NothingFails a.around b.around → (next : Standing) × LinesReplied X N host lines s next a b × GoesOn b next
+    lines-replied [] a b s same on h = (s, (refl, same), goes-same a b s (ap (λ (x : Scene). x.around) same) on)
+    lines-replied (line ∷ lines) a b s done on h =
+        rest first (lines-replied lines done.0 b first.0 done.2 first.2 (fails-last a.around done.0.around b.around early late h))
+      where
+        early : NoneFalls a.around done.0.around
+        early = gone-counted X N line a done.0 done.1
+
+        late : NoneFalls done.0.around b.around
+        late = lines-counted X N lines done.0 b done.2
+
+        first : (next : Standing) × GoesOnReplied X N host line s next a done.0 × GoesOn done.0 next
+        first = gone-replied line a done.0 s done.1 on (fails-first a.around done.0.around b.around early late h)
+
+        rest : (f : (next : Standing) × GoesOnReplied X N host line s next a done.0 × GoesOn done.0 next) → ((next : Standing) × LinesReplied X N host lines f.0 next done.0 b × GoesOn b next)
+            → (next : Standing) × LinesReplied X N host (line ∷ lines) s next a b × GoesOn b next
+        rest f r = (r.0, (f.0, done.0, f.1, r.1), r.2)
+
+    -- ---- the end
+
+    last-replied : (line : List ℕ) (given : Status) (a b : Scene) (s : Standing) → LineEnds X N line given a b → GoesOn a s → NothingFails a.around b.around → (next : Standing) × LineReplied X N host line true given s next a b × TellsAs X N b.around.store.told next
+    last-replied line given a b s e on h = by (answered host line given a (before-mark e.printed b) e.done on.0 early s on.1) (e.marked (wrote host line given a (before-mark e.printed b) e.done early.output))
+      where
+        late : NoneFalls (before-mark e.printed b).around b.around
+        late = last-counted X N line given a b e
+
+        early : NothingFails a.around (before-mark e.printed b).around
+        early = fails-first a.around (before-mark e.printed b).around b.around e.done.runs.counted late h
+
+        by : ((next : Standing) × LineAnswered X N host line given s next a (before-mark e.printed b)) → PrintsWhole (mark given) e.printed (output_of b) ⊎ PrintsCut (mark given) e.printed (output_of b)
+            → (next : Standing) × LineReplied X N host line true given s next a b × TellsAs X N b.around.store.told next
+        by r (inl whole) = (r.0, record { printed = e.printed; answered = r.1; ends = e.ends; marked = whole }, r.1.stands)
+        by r (inr cut) = absurd (rose-not-stood e.printed.faults b.around.writes cut.counted (fails-last a.around (before-mark e.printed b).around b.around e.done.runs.counted late h).output)
+
+    never-cut : (line : List ℕ) (given : Status) (a b : Scene) → LineCut X N line given a b → NothingFails a.around b.around → ⊥
+    never-cut line given a b e h =
+        rose-not-stood e.printed.faults b.around.writes e.cut.counted (fails-last a.around (with_sinks e.printed e.between b).around b.around e.done.runs.counted (cut-counted (mark e.was) e.printed e.between b e.cut) h).output
+
+    ends-replied : (ending : Ending X N) (given : Status) (a b : Scene) (s : Standing) → EndsSo X N ending given a b → GoesOn a s → NothingFails a.around b.around → (ending ≡ ByReading → ⊥)
+        → (next : Standing) × EndsReplied X N host ending given s next a b × TellsAs X N b.around.store.told next
+    ends-replied WithInput given a b s e on h reads = (s, (e.0, refl, e.1), (goes-same a b s (ap (λ (x : Scene). x.around) e.1) on).1)
+    ends-replied TooLong given a b s e on h reads = (s, (refl, e), (goes-same a b s e.same on).1)
+    ends-replied ByReading given a b s e on h reads = absurd (reads refl)
+    ends-replied ByMemory given a b s e on h reads = (s, (refl, e), (goes-same a b s e.same on).1)
+    ends-replied (AtLine line) given a b s (inl e) on h reads = last-replied line given a b s e on h
+    ends-replied (AtLine line) given a b s (inr e) on h reads = absurd (never-cut line given a b e h)
+
+    -- ---- the whole batch
+
+    module _ (most limit : ℕ) (given : Status) (a b : Scene) (left left_now : streams.Told) (reads reads_now : ℕ) (s : Standing) where
+      pub batch-replied : (did : Batches X N most limit given a b left left_now reads reads_now) → a.around.host.told ≡ Some host → TellsAs X N a.around.store.told s → NothingFails a.around b.around → Stood reads reads_now
+          → BatchReplied X N host did.lines did.ending given s a did.between b
+      batch-replied did tells stands h stood = whole first (ends-replied did.ending given did.between b first.0 did.ends first.2 (fails-last a.around did.between.around b.around early late h) no-reading)
+        where
+          early : NoneFalls a.around did.between.around
+          early = lines-counted X N did.lines a did.between did.done
+
+          late : NoneFalls did.between.around b.around
+          late = ends-counted X N did.ending given did.between b did.ends
+
+          first : (next : Standing) × LinesReplied X N host did.lines s next a did.between × GoesOn did.between next
+          first = lines-replied did.lines a did.between s did.done (tells, stands) (fails-first a.around did.between.around b.around early late h)
+
+          no-reading : did.ending ≡ ByReading → ⊥
+          no-reading is = rose-not-stood reads reads_now (subst (λ e. ReadingFails X N e reads reads_now) is did.fails) stood
+
+          whole : (f : (next : Standing) × LinesReplied X N host did.lines s next a did.between × GoesOn did.between next) → ((next : Standing) × EndsReplied X N host did.ending given f.0 next did.between b × TellsAs X N b.around.store.told next)
+              → BatchReplied X N host did.lines did.ending given s a did.between b
+          whole f r = record { stood = f.0; next = r.0; each = f.1; last = r.1; stands = r.2 }
+
+    -- ---- touches
+
+    sum-of : (x y : Option ℕ) (i j k : ℕ) → IfSome x (λ m. j ≤ i + m) → IfSome y (λ n. k ≤ j + n) → IfSome (added_bounds x y) (λ t. k ≤ i + t)
+    sum-of (Some m) (Some n) i j k p q = omega (arith, p, q)
+    sum-of (Some m) None i j k p q = tt
+    sum-of None y i j k p q = tt
+
+    same-touches : (a b : Scene) → b.around ≡ a.around → b.around.touches ≤ a.around.touches + 0
+    same-touches a b same = (let e = ap (λ (x : Around). x.touches) same in omega (arith, e))
+
+    module _ (rows : Profile → ℕ → ℕ) (heights : HasHeights rows) where
+      going-touches : (line : List ℕ) (s next : Standing) (a b : Scene) (each : GoesOnReplied X N host line s next a b) → IfSome (going_bound X N host rows line s next a b each) (λ most. b.around.touches ≤ a.around.touches + most)
+      going-touches line s next a b (inl none) = same-touches a b (ap (λ (x : Scene). x.around) none.2)
+      going-touches line s next a b (inr gone) = gone.1.answered.touches rows heights
+
+      lines-touches : (lines : List (List ℕ)) (s next : Standing) (a b : Scene) (each : LinesReplied X N host lines s next a b) → IfSome (lines_bound X N host rows lines s next a b each) (λ most. b.around.touches ≤ a.around.touches + most)
+      lines-touches [] s next a b each = same-touches a b (ap (λ (x : Scene). x.around) each.1)
+      lines-touches (line ∷ lines) s next a b each =
+          sum-of (going_bound X N host rows line s each.0 a each.1 each.2) (lines_bound X N host rows lines each.0 next each.1 b each.3) a.around.touches each.1.around.touches b.around.touches
+          (going-touches line s each.0 a each.1 each.2) (lines-touches lines each.0 next each.1 b each.3)
+
+      last-touches : (ending : Ending X N) (given : Status) (s next : Standing) (a b : Scene) (last : EndsReplied X N host ending given s next a b)
+          → IfSome (last_bound X N host rows ending given s next a b last) (λ most. b.around.touches ≤ a.around.touches + most)
+      last-touches WithInput given s next a b last = same-touches a b (ap (λ (x : Scene). x.around) last.2)
+      last-touches TooLong given s next a b last = same-touches a b last.1.same
+      last-touches ByReading given s next a b last = absurd last
+      last-touches ByMemory given s next a b last = same-touches a b last.1.same
+      last-touches (AtLine line) given s next a b last = last.answered.touches rows heights
+
+      pub batch-touches : (lines : List (List ℕ)) (ending : Ending X N) (given : Status) (s : Standing) (a m b : Scene) (did : BatchReplied X N host lines ending given s a m b)
+          → IfSome (batch_bound X N host rows lines ending given s a m b did) (λ most. b.around.touches ≤ a.around.touches + most)
+      batch-touches lines ending given s a m b did =
+          sum-of (lines_bound X N host rows lines s did.stood a m did.each) (last_bound X N host rows ending given did.stood did.next m b did.last) a.around.touches m.around.touches b.around.touches
+          (lines-touches lines s did.stood a m did.each) (last-touches ending given did.stood did.next m b did.last)
+
+    -- ---- what is printed
+
+    after-then : (held : streams.Told) (x y : List ℕ) → streams.after (streams.after held x) y ≡ streams.after held (x ++ y)
+    after-then None x y = refl
+    after-then (Some h) x y = ap (λ (l : List ℕ). Some l) (append_assoc h x y)
+
+    after-nothing : (held : streams.Told) → held ≡ streams.after held []
+    after-nothing None = refl
+    after-nothing (Some h) = ap (λ (l : List ℕ). Some l) (sym (append-nil h))
+
+    all-printed : (ends : Result (List ℕ) Refusal) (held now : streams.Told) → PrintsAll ends held now → now ≡ streams.after held (printed_by ends)
+    all-printed (Ok text) held now is = is
+    all-printed (Err why) held now is = is ∙ after-nothing held
+
+    line-prints : (line : List ℕ) (last : Bool) (given : Status) (s next : Standing) (a b : Scene) (r : LineReplied X N host line last given s next a b) → (given ≡ status.Memory → ⊥)
+        → b.around.held ≡ streams.after a.around.held (line_printed X N host line given s next a (before-mark r.printed b) r.answered)
+    line-prints line last given s next a b r not = by r.answered.ends
+      where
+        by : EndsAs (Said a.errors b.errors) X N r.answered.asked (line_world host s r.answered.held) given a.around.held r.printed.held b.around.store.told b.around.host.told
+            → b.around.held ≡ streams.after a.around.held (line_printed X N host line given s next a (before-mark r.printed b) r.answered)
+        by (inl wants) = absurd (not wants.status_is)
+        by (inr replies) =
+            r.marked.printed ∙ ap (λ (h : streams.Told). streams.after h (mark given)) (all-printed (reply_to X N r.answered.asked (line_world host s r.answered.held)).ends a.around.held r.printed.held replies.0.printed)
+            ∙ after-then a.around.held (printed_by (reply_to X N r.answered.asked (line_world host s r.answered.held)).ends) (mark given)
+
+    same-prints : (a b : Scene) → b.around ≡ a.around → b.around.held ≡ streams.after a.around.held []
+    same-prints a b same = ap (λ (x : Around). x.held) same ∙ after-nothing a.around.held
+
+    going-prints : (line : List ℕ) (s next : Standing) (a b : Scene) (each : GoesOnReplied X N host line s next a b) → b.around.held ≡ streams.after a.around.held (going_printed X N host line s next a b each)
+    going-prints line s next a b (inl none) = same-prints a b (ap (λ (x : Scene). x.around) none.2)
+    going-prints line s next a b (inr gone) = line-prints line false gone.0 s next a b gone.1 (λ e. (let k : true ≡ false = subst (λ g. ends_batch g ≡ false) e gone.1.ends in cc))
+
+    then-prints : (a m b : streams.Told) (x y : List ℕ) → m ≡ streams.after a x → b ≡ streams.after m y → b ≡ streams.after a (x ++ y)
+    then-prints a m b x y first then = then ∙ ap (λ (h : streams.Told). streams.after h y) first ∙ after-then a x y
+
+    lines-print : (lines : List (List ℕ)) (s next : Standing) (a b : Scene) (each : LinesReplied X N host lines s next a b) → b.around.held ≡ streams.after a.around.held (lines_printed X N host lines s next a b each)
+    lines-print [] s next a b each = same-prints a b (ap (λ (x : Scene). x.around) each.1)
+    lines-print (line ∷ lines) s next a b each =
+        then-prints a.around.held each.1.around.held b.around.held (going_printed X N host line s each.0 a each.1 each.2) (lines_printed X N host lines each.0 next each.1 b each.3)
+        (going-prints line s each.0 a each.1 each.2) (lines-print lines each.0 next each.1 b each.3)
+
+    last-prints : (ending : Ending X N) (given : Status) (s next : Standing) (a b : Scene) (last : EndsReplied X N host ending given s next a b) → (given ≡ status.Memory → ⊥)
+        → b.around.held ≡ streams.after a.around.held (last_printed X N host ending given s next a b last)
+    last-prints WithInput given s next a b last not = same-prints a b (ap (λ (x : Scene). x.around) last.2)
+    last-prints TooLong given s next a b last not = same-prints a b last.1.same
+    last-prints ByReading given s next a b last not = absurd last
+    last-prints ByMemory given s next a b last not = same-prints a b last.1.same
+    last-prints (AtLine line) given s next a b last not = line-prints line true given s next a b last not
+
+    pub batch-prints : (lines : List (List ℕ)) (ending : Ending X N) (given : Status) (s : Standing) (a m b : Scene) (did : BatchReplied X N host lines ending given s a m b) → (given ≡ status.Memory → ⊥)
+        → b.around.held ≡ streams.after a.around.held (batch_printed X N host lines ending given s a m b did)
+    batch-prints lines ending given s a m b did not =
+        then-prints a.around.held m.around.held b.around.held (lines_printed X N host lines s did.stood a m did.each) (last_printed X N host ending given did.stood did.next m b did.last)
+        (lines-print lines s did.stood a m did.each) (last-prints ending given did.stood did.next m b did.last not)

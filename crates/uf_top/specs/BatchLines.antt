@@ -1,0 +1,79 @@
+-- The lines of a batch that move the Head, and those during which a stop leaves one of two trees.
+use Rattle.std.specs.Prelude.{◌≡◌, ◌⊎◌, ℕ, List, ◌∷◌, ◌++◌, true}
+use Rattle.std.specs.declared.option.Option.TheVariants.{None, Some}
+use Rattle.uf_edge.specs.Host.{HostTree}
+use Rattle.uf_mfs.specs.Reading.{CanRise}
+use Rattle.uf_mfs.specs.Standing.{TellsAs, head_in}
+use Rattle.uf_reply.specs.declared.status.Status.{Status}
+use Rattle.uf_store.specs.Contents.{Contents, Told}
+use Rattle.uf_store.specs.declared.store.Write.{Write}
+use Rattle.uf_top.specs.Around.{Around, CountsCanRise}
+use Rattle.uf_top.specs.Batch.{AtLine, Ending, LineDone, LinesDone, Scene}
+use Rattle.uf_top.specs.Endings.{may_move}
+use Rattle.uf_top.specs.Outcomes.{EachOutcome, IsSafeFor, LeavesEither, LeavesTree}
+use Rattle.uf_tree.specs.Standing.{Stands}
+use Rattle.uf_tree.specs.Tree.{Entries}
+use Rattle.uf_tree.specs.declared.profile.Profile.{Profile}
+
+-- no count that a line may raise is at its last value, at which it would hide a failure or a clash
+pub record AllCanRise (before : Around) : Type 0 where
+  pub store : CountsCanRise before.store
+  pub output : CanRise before.writes
+  pub host : CanRise before.host.reads
+
+-- these writes end during what led from the first contents to the second
+abbrev pub EndsDuring : Told → Told → List Write → Type 0
+EndsDuring (Some a) (Some b) ws =
+    (done : List Write) × (rest : List Write) × (ws ≡ a.writes ++ done) × (b.writes ≡ ws ++ rest)
+EndsDuring (Some a) None ws = ⊥
+EndsDuring None b ws = ⊥
+
+module _ (X : List ℕ → List ℕ) (N : List ℕ → ℕ) where
+  -- a line stands behind these of a batch: as one of those that were done, or as the one that ended it
+  abbrev pub IsBehind : List (List ℕ) → List ℕ → List (List ℕ) → Ending X N → Type 0
+  IsBehind front line lines ending = ((back : List (List ℕ)) × (lines ≡ front ++ line ∷ back))
+      ⊎ ((lines ≡ front) × (ending ≡ AtLine line))
+
+  -- a line of a batch that has a word: those in front of it were done, and then it, which left this before its status
+  -- was printed
+  pub record LineOf (lines : List (List ℕ)) (ending : Ending X N) (before : Scene) : Type 0 where
+    pub front : List (List ℕ)
+    pub line : List ℕ
+    pub given : Status
+    pub found : Scene
+    pub left : Scene
+    pub behind : IsBehind front line lines ending
+    pub first : LinesDone X N front before found
+    pub done : LineDone X N line given found left
+
+  -- a line of a batch moved the Head to where it is in the end: by its status it may
+  pub record MovesByLine (lines : List (List ℕ)) (ending : Ending X N) (before : Scene) (now : Told) : Type 0 where
+    pub one : LineOf lines ending before
+    pub may : may_move one.done.asked one.given ≡ true
+    pub head : head_in now ≡ head_in one.left.around.store.told
+
+  -- writes end during a line of a batch, and what a stop after them leaves stands for the tree before that line or the
+  -- tree after it
+  pub record StopsInLine (lines : List (List ℕ)) (ending : Ending X N) (before : Scene) (ws : List Write) : Type 0 where
+    pub one : LineOf lines ending before
+    pub p : Profile
+    pub es : Entries
+    pub q : Profile
+    pub fs : Entries
+    pub stood : TellsAs X N one.found.around.store.told (Stands p es)
+    pub stands : TellsAs X N one.left.around.store.told (Stands q fs)
+    pub during : EndsDuring one.found.around.store.told one.left.around.store.told ws
+    pub leaves : EachOutcome (LeavesEither X N p es q fs) ws
+
+  -- nothing was written yet, and what a stop leaves stands for the tree before the batch
+  pub record StopsAtFirst (a : Contents) (p : Profile) (es : Entries) (ws : List Write) : Type 0 where
+    pub none : ws ≡ a.writes
+    pub leaves : EachOutcome (LeavesTree X N p es) ws
+
+  -- a line or a batch begins over contents that are safe for this tree, the host tells these files and folders, and no
+  -- count is at its last value
+  pub record BeginsSafe (host : HostTree) (before : Scene) (a : Contents) (p : Profile) (es : Entries) : Type 0 where
+    pub told : before.around.store.told ≡ Some a
+    pub safe : IsSafeFor X N a p es
+    pub host_told : before.around.host.told ≡ Some host
+    pub room : AllCanRise before.around

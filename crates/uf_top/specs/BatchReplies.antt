@@ -1,0 +1,188 @@
+-- What the lines of a batch answer where nothing fails.
+use Rattle.std.specs.Prelude.{◌≡◌, ◌⊎◌, ◌+◌, ◌≤◌, ℕ, List, [], ◌∷◌, ◌++◌, Bool, true, false, IfSome, IsTrue}
+use mathlib.Core.Logic.{inl, inr}
+use Rattle.std.specs.declared.option.Option.{Option}
+use Rattle.std.specs.declared.option.Option.TheVariants.{None, Some}
+use Rattle.std.specs.declared.result.Result.{Result}
+use Rattle.std.specs.declared.result.Result.TheVariants.{Ok, Err}
+use Rattle.uf_cid.specs.Blocks.{Lookup}
+use Rattle.uf_edge.specs.Counts.{Stood}
+use Rattle.uf_edge.specs.Host.{HostTree}
+use Rattle.uf_mfs.specs.Reading.{AreHeights}
+use Rattle.uf_mfs.specs.Standing.{TellsAs}
+use Rattle.uf_reply.specs.Batches.{line_in}
+use Rattle.uf_reply.specs.Statuses.{ends_batch, mark, no_memory}
+use Rattle.uf_reply.specs.declared.status.Status.{Status}
+use Rattle.uf_reply.specs.declared.status.Status.TheVariants as status
+use Rattle.uf_reply.specs.declared.types.Command.{Command}
+use Rattle.uf_reply.specs.declared.types.Refusal.{Refusal}
+use Rattle.uf_reply.specs.declared.types.Refusal.TheVariants as refusal
+use Rattle.uf_store.specs.Calls.{Calm}
+use Rattle.uf_top.specs.Around.{Around}
+use Rattle.uf_top.specs.Batch.{AtLine, ByMemory, ByReading, Ending, PrintsWhole, Said, Scene, SinkSide, Tells, TooLong, WithInput, output_of, with_sinks}
+use Rattle.uf_top.specs.Bounds.{words_touch}
+use Rattle.uf_top.specs.Endings.{EndsAs, PrintsPart}
+use Rattle.uf_top.specs.Naming.{TellsBlocks}
+use Rattle.uf_top.specs.Reply.{World, reply_to, world_of}
+use Rattle.uf_tree.specs.Profiles.{is_profile}
+use Rattle.uf_tree.specs.Standing.{Standing, NoHead, BadHead, Stands}
+use Rattle.uf_tree.specs.declared.profile.Profile.{Profile}
+
+-- nothing of the store, of the output or of the host failed meanwhile, and no clash was met
+pub record NothingFails (before now : Around) : Type 0 where
+  pub store : Calm before.store now.store
+  pub output : Stood before.writes now.writes
+  pub host : Stood before.host.reads now.host.reads
+
+-- what a line of a batch finds: what the store stands for and holds, no input, and the host
+abbrev pub line_world : HostTree → Standing → Lookup → World
+line_world host standing held = world_of standing held (record { input = []; host = host })
+
+-- by each accepted profile these are the rows of nodes of a file, by its length
+abbrev pub HasHeights : (Profile → ℕ → ℕ) → Type 0
+HasHeights rows = (p : Profile) → IsTrue (is_profile p) → AreHeights p (rows p)
+
+-- what a reply prints
+abbrev pub printed_by : Result (List ℕ) Refusal → List ℕ
+printed_by (Ok text) = text
+printed_by (Err why) = []
+
+-- the sum of two bounds, where both are stated
+abbrev pub added_bounds : Option ℕ → Option ℕ → Option ℕ
+added_bounds (Some m) (Some n) = Some (m + n)
+added_bounds (Some m) None = None
+added_bounds None n = None
+
+module _ (X : List ℕ → List ℕ) (N : List ℕ → ℕ) where
+  -- how many touches a line may take over what stands where it begins
+  abbrev pub line_bound : (Profile → ℕ → ℕ) → Standing → Result Command Refusal → Option ℕ
+  line_bound rows NoHead asked = None
+  line_bound rows BadHead asked = None
+  line_bound rows (Stands p es) asked = words_touch X N (rows p) [] asked p es
+
+  module _ (host : HostTree) where
+    -- a line was answered: over what the store stood for and held where it began, it ended as the reply to what it asks
+    -- for, or for want of memory, and printed no more than the reply's text; the store stands for what the reply says,
+    -- and the line kept within its touches
+    pub record LineAnswered (line : List ℕ) (given : Status) (standing next : Standing) (before now : Scene)
+        : Type 0 where
+      pub asked : Result Command Refusal
+      pub asks : (line_in line ≡ Some asked) ⊎ (asked ≡ Err no_memory)
+      pub held : Lookup
+      pub blocks : TellsBlocks before.around.store.told held
+      pub stood : TellsAs X N before.around.store.told standing
+      pub ends : EndsAs (Said before.errors now.errors) X N asked (line_world host standing held) given
+          before.around.held now.around.held now.around.store.told now.around.host.told
+      pub prints : PrintsPart (reply_to X N asked (line_world host standing held)).ends before.around.held
+          now.around.held
+      pub next_is : (next ≡ (reply_to X N asked (line_world host standing held)).next)
+          ⊎ ((given ≡ status.Memory) × (next ≡ standing))
+      pub stands : TellsAs X N now.around.store.told next
+      pub touches : (rows : Profile → ℕ → ℕ) → HasHeights rows → IfSome (line_bound rows standing asked)
+          (λ most. now.around.touches ≤ before.around.touches + most)
+
+    -- and its status was printed behind its text; the batch ends with it, or goes on
+    pub record LineReplied (line : List ℕ) (last : Bool) (given : Status) (standing next : Standing)
+        (before now : Scene) : Type 0 where
+      pub printed : SinkSide
+      pub answered : LineAnswered line given standing next before (with_sinks printed now.errors now)
+      pub ends : ends_batch given ≡ last
+      pub marked : PrintsWhole (mark given) printed (output_of now)
+
+    -- a line where the batch goes on: one without a word does nothing
+    abbrev pub GoesOnReplied : List ℕ → Standing → Standing → Scene → Scene → Type 0
+    GoesOnReplied line standing next before now = ((line_in line ≡ None) × (next ≡ standing) × (now ≡ before))
+        ⊎ ((given : Status) × LineReplied line false given standing next before now)
+
+    -- lines that were answered one after the other, each over what the ones before left
+    abbrev pub LinesReplied : List (List ℕ) → Standing → Standing → Scene → Scene → Type 0
+    LinesReplied [] standing next before now = (next ≡ standing) × (now ≡ before)
+    LinesReplied (line ∷ lines) standing next before now = (stood : Standing) × (between : Scene)
+        × GoesOnReplied line standing stood before between × LinesReplied lines stood next between now
+
+    -- how a batch ends where nothing fails: with its input, at a line with such a status, at what is too long, or for
+    -- want of memory
+    abbrev pub EndsReplied : Ending X N → Status → Standing → Standing → Scene → Scene → Type 0
+    EndsReplied WithInput given standing next before now = (given ≡ status.Ok) × (next ≡ standing) × (now ≡ before)
+    EndsReplied TooLong given standing next before now =
+        (next ≡ standing) × Tells X N refusal.InputTooLong given before now
+    EndsReplied ByReading given standing next before now = ⊥
+    EndsReplied ByMemory given standing next before now = (next ≡ standing) × Tells X N no_memory given before now
+    EndsReplied (AtLine line) given standing next before now = LineReplied line true given standing next before now
+
+    -- each line of a batch was answered so, and it ended so; then the store stands for what the last reply says
+    pub record BatchReplied (lines : List (List ℕ)) (ending : Ending X N) (given : Status) (standing : Standing)
+        (before between now : Scene) : Type 0 where
+      pub stood : Standing
+      pub next : Standing
+      pub each : LinesReplied lines standing stood before between
+      pub last : EndsReplied ending given stood next between now
+      pub stands : TellsAs X N now.around.store.told next
+
+    -- what is printed of a line: the text of its reply, and its status
+    abbrev pub line_printed : (line : List ℕ) (given : Status) (standing next : Standing) (before now : Scene)
+        → LineAnswered line given standing next before now → List ℕ
+    line_printed line given standing next before now did =
+        printed_by (reply_to X N did.asked (line_world host standing did.held)).ends ++ mark given
+
+    -- and of a line where the batch goes on, of which one without a word prints nothing
+    abbrev pub going_printed : (line : List ℕ) (standing next : Standing) (before now : Scene)
+        → GoesOnReplied line standing next before now → List ℕ
+    going_printed line standing next before now (inl none) = []
+    going_printed line standing next before now (inr gone) = line_printed line gone.0 standing next before
+        (with_sinks gone.1.printed now.errors now) gone.1.answered
+
+    -- of lines, one after the other
+    abbrev pub lines_printed : (lines : List (List ℕ)) (standing next : Standing) (before now : Scene)
+        → LinesReplied lines standing next before now → List ℕ
+    lines_printed [] standing next before now each = []
+    lines_printed (line ∷ lines) standing next before now each =
+        going_printed line standing each.0 before each.1 each.2
+        ++ lines_printed lines each.0 next each.1 now each.3
+
+    -- of the line that ends a batch, where one does
+    abbrev pub last_printed : (ending : Ending X N) (given : Status) (standing next : Standing) (before now : Scene)
+        → EndsReplied ending given standing next before now → List ℕ
+    last_printed WithInput given standing next before now last = []
+    last_printed TooLong given standing next before now last = []
+    last_printed ByReading given standing next before now last = []
+    last_printed ByMemory given standing next before now last = []
+    last_printed (AtLine line) given standing next before now last = line_printed line given standing next before
+        (with_sinks last.printed now.errors now) last.answered
+
+    -- of all lines of a batch
+    abbrev pub batch_printed : (lines : List (List ℕ)) (ending : Ending X N) (given : Status) (standing : Standing)
+        (before between now : Scene) → BatchReplied lines ending given standing before between now → List ℕ
+    batch_printed lines ending given standing before between now did =
+        lines_printed lines standing did.stood before between did.each
+        ++ last_printed ending given did.stood did.next between now did.last
+
+    module _ (rows : Profile → ℕ → ℕ) where
+      -- the bound of a line where the batch goes on: one without a word takes no touch
+      abbrev pub going_bound : (line : List ℕ) (standing next : Standing) (before now : Scene)
+          → GoesOnReplied line standing next before now → Option ℕ
+      going_bound line standing next before now (inl none) = Some 0
+      going_bound line standing next before now (inr gone) = line_bound rows standing gone.1.answered.asked
+
+      -- the sum of the bounds of lines, each over what stood where it began
+      abbrev pub lines_bound : (lines : List (List ℕ)) (standing next : Standing) (before now : Scene)
+          → LinesReplied lines standing next before now → Option ℕ
+      lines_bound [] standing next before now each = Some 0
+      lines_bound (line ∷ lines) standing next before now each =
+          added_bounds (going_bound line standing each.0 before each.1 each.2)
+          (lines_bound lines each.0 next each.1 now each.3)
+
+      -- the bound of the line that ends a batch, where one does
+      abbrev pub last_bound : (ending : Ending X N) (given : Status) (standing next : Standing) (before now : Scene)
+          → EndsReplied ending given standing next before now → Option ℕ
+      last_bound WithInput given standing next before now last = Some 0
+      last_bound TooLong given standing next before now last = Some 0
+      last_bound ByReading given standing next before now last = Some 0
+      last_bound ByMemory given standing next before now last = Some 0
+      last_bound (AtLine line) given standing next before now last = line_bound rows standing last.answered.asked
+
+      abbrev pub batch_bound : (lines : List (List ℕ)) (ending : Ending X N) (given : Status) (standing : Standing)
+          (before between now : Scene) → BatchReplied lines ending given standing before between now → Option ℕ
+      batch_bound lines ending given standing before between now did =
+          added_bounds (lines_bound lines standing did.stood before between did.each)
+          (last_bound ending given did.stood did.next between now did.last)
