@@ -4,7 +4,7 @@ with the program. Without words it compares them with those that the tests of uf
 
 import sys
 
-FILE = "crates/uf_words/src/tests/generated.rt"
+FILE = "crates/uf_tests_words/src/words_tests/generated.rt"
 ROWS = 520
 MOST = 2**64
 

@@ -10,6 +10,3 @@ mod laws;
 pub use adopting::{adopt, adopt_surveyed};
 pub use fault::AdoptFault;
 pub use laws::a_calm_store_lacks_memory_alone;
-
-#[cfg(test)]
-mod tests;

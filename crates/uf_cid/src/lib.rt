@@ -17,6 +17,3 @@ pub use laws::{
     text_is_read_again,
 };
 pub use seq::{Cids, Copied, Seq, Sizes, Texts};
-
-#[cfg(test)]
-mod tests;

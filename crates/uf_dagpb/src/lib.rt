@@ -16,6 +16,3 @@ pub use node::{Link, Links, Node};
 pub use reading::decode_lenient;
 pub use strict::{decode_strict, links_are_valid};
 pub use writing::{encode, encoded_len};
-
-#[cfg(test)]
-mod tests;

@@ -7,8 +7,6 @@ mod mem_host;
 mod memory;
 mod places;
 mod streams;
-#[cfg(test)]
-mod tests;
 
 pub use host::{Fetched, Host, Kind, Listing, Place, Put};
 pub use meeting::{Met, meet};

@@ -14,8 +14,3 @@ pub use lengths::{length, measure};
 pub use parts::read_parts;
 pub use ranges::read_range;
 pub use size::FileSize;
-
-#[cfg(test)]
-mod range_tests;
-#[cfg(test)]
-mod tests;

@@ -18,8 +18,3 @@ pub use fault::HostFault;
 pub use getting::get;
 pub use import::{AddedRow, AddedRows};
 pub use paths::last_name;
-
-#[cfg(test)]
-mod get_tests;
-#[cfg(test)]
-mod tests;

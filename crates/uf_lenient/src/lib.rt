@@ -38,6 +38,3 @@ pub use rows::{
 pub use shapes::{Limits, Shape, Way, Ways};
 pub use streaming::stream;
 pub use surveying::survey;
-
-#[cfg(test)]
-mod tests;

@@ -14,6 +14,3 @@ pub use message::{Message, MsgFault, MsgKind, Mtime};
 pub use reading::decode_lenient;
 pub use strict::decode_strict;
 pub use writing::encode;
-
-#[cfg(test)]
-mod tests;

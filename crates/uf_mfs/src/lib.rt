@@ -23,14 +23,3 @@ pub use fault::{MfsFault, Stop};
 pub use mfs::Mfs;
 pub use thing::Thing;
 pub use uf_plain::Ready;
-
-#[cfg(test)]
-mod file_tests;
-#[cfg(test)]
-mod loss_tests;
-#[cfg(test)]
-mod move_tests;
-#[cfg(test)]
-mod tests;
-#[cfg(test)]
-mod tree_tests;

@@ -4,8 +4,6 @@
 mod answer;
 mod comparing;
 mod laws;
-#[cfg(test)]
-mod tests;
 
 pub use answer::{Compared, SameFault};
 pub use comparing::same;

@@ -31,12 +31,3 @@ pub use putting::put;
 pub use removed::Removed;
 pub use removing::remove;
 pub use weighing::weight_over;
-
-#[cfg(test)]
-mod build_tests;
-#[cfg(test)]
-mod edit_tests;
-#[cfg(test)]
-mod list_tests;
-#[cfg(test)]
-mod tests;

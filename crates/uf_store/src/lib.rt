@@ -9,8 +9,6 @@ mod memory;
 mod shelf;
 mod steps;
 mod store;
-#[cfg(test)]
-mod tests;
 
 pub use callers::{need, save_block, save_under};
 pub use discard::Discard;

@@ -22,34 +22,3 @@ pub use batch_laws::{a_batch_keeps_good_blocks, a_batch_leaves_the_host};
 pub use batching::batch;
 pub use command::run;
 pub use uf_reply::Status;
-
-#[cfg(test)]
-mod adopt_tests;
-#[cfg(test)]
-mod batch_tests;
-#[cfg(test)]
-mod car_tests;
-#[cfg(test)]
-mod dag_tests;
-#[cfg(test)]
-mod fault_tests;
-#[cfg(test)]
-mod file_tests;
-#[cfg(test)]
-mod gen_tests;
-#[cfg(test)]
-mod get_tests;
-#[cfg(test)]
-mod host_tests;
-#[cfg(test)]
-mod move_tests;
-#[cfg(test)]
-mod placing_tests;
-#[cfg(test)]
-mod same_tests;
-#[cfg(test)]
-mod shard_tests;
-#[cfg(test)]
-mod tests;
-#[cfg(test)]
-mod tree_tests;

@@ -28,6 +28,3 @@ pub use nodes::{Entry, FileNode, Item, Items, Pair, Pairs, Part, Parts, Placed};
 pub use profile::{Head, Profile};
 pub use shard_codec::shard_node;
 pub use shard_read::read_shard_node;
-
-#[cfg(test)]
-mod tests;

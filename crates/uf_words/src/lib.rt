@@ -12,6 +12,3 @@ pub use command::{Cmd, WordFault};
 pub use printing::{a_shown_text_is_one_word, shown};
 pub use reading::read_words;
 pub use splitting::split_line;
-
-#[cfg(test)]
-mod tests;

@@ -1,4 +1,0 @@
-use Rattle.uf_shard.proofs.list_tests.listed.Given as goal
-
-abbrev pub ghosts-entries_counted : goal.ghosts-entries_counted
-ghosts-entries_counted a = record { name = a.blank.name; parts = a.blank.parts }

@@ -1,0 +1,348 @@
+// Edits counted: each makes the entry of the new bytes imported afresh, within its bound of touches.
+ghost use Rattle.std.specs.Prelude.{◌≡◌, ◌<◌, ◌≤◌, ◌^◌, IsTrue};
+ghost use Rattle.uf_tree.specs.Profiles.{is_profile};
+
+use crate::edit_tests::{Kept, Trouble, built, is_built, model, next, profile, size_with};
+use std::alloc::Global;
+use std::marker::Brand;
+use std::sync::ledger::{Blank, Ledger};
+use uf_cid::Cid;
+use uf_fileedit::{truncate, write_at};
+use uf_store::{CallKind, Load, Steps, Store};
+use uf_tree::{Entry, Profile};
+
+// What is done to a file.
+#[derive(Clone, Copy)]
+enum Edit {
+    Write(usize, usize),
+    Cut(usize),
+}
+
+// Files of fewer bytes are edited, at each place before with each shorter piece.
+const MOST: usize = 41;
+
+// The pieces and the nodes of a file have these sizes.
+#[derive(Clone, Copy)]
+struct Sizes {
+    chunk: u32,
+    width: u32,
+}
+
+// How many chunks have one of the bytes from one place up to another.
+fn chunks_of(p: &Profile, from: usize, to: usize) -> u64 {
+    let chunk = u64::from(p.chunk).max(1);
+    let end = (to as u64).saturating_add(chunk - 1) / chunk;
+    end.saturating_sub(from as u64 / chunk)
+}
+
+// How many bytes the file has after an edit, and how many chunks it changes.
+fn outcome(p: &Profile, size: usize, edit: Edit) -> (usize, u64) {
+    match edit {
+        Edit::Write(_, 0) => (size, 0),
+        Edit::Write(offset, more) => {
+            let end = offset.saturating_add(more);
+            let from = offset.min(size.saturating_sub(1));
+            (size.max(end), chunks_of(p, from, end))
+        }
+        Edit::Cut(new) if new == size => (new, 0),
+        Edit::Cut(new) => {
+            let from = new.min(size).saturating_sub(1);
+            (new, chunks_of(p, from, new.max(1)))
+        }
+    }
+}
+
+// How many rows of nodes stand over the leaves of a file of so many bytes.
+fn height(p: &Profile, size: usize) -> u64 {
+    let mut span = u64::from(p.chunk);
+    for height in 0..64 {
+        if size as u64 <= span {
+            return height;
+        }
+        span = span.saturating_mul(u64::from(p.width));
+    }
+    64
+}
+
+// How often an edit may touch the store.
+fn most_touches(p: &Profile, size: usize, edit: Edit) -> u64 {
+    let (new, chunks) = outcome(p, size, edit);
+    let each = height(p, size).max(height(p, new)).saturating_add(2);
+    chunks
+        .saturating_add(2)
+        .saturating_mul(each)
+        .saturating_mul(2)
+}
+
+// So many bytes, none of them zero.
+fn bytes_of(alloc: Global, size: usize) -> Result<Vec<u8>, Trouble> {
+    let mut bytes = Vec::new(alloc);
+    for place in 0..size {
+        if bytes.push((place % 7) as u8 + 1).is_err() {
+            return Err(Trouble::Memory);
+        }
+    }
+    Ok(bytes)
+}
+
+// The entry after an edit.
+fn done<L: Ledger>(
+    alloc: Global,
+    store: &mut Kept,
+    p: &Profile,
+    entry: &Entry,
+    edit: Edit,
+    touches: &mut Steps<L>,
+) -> Result<Entry, Trouble>
+    requires { IsTrue (is_profile p.now) }
+{
+    match edit {
+        Edit::Write(offset, more) => {
+            let piece = bytes_of(alloc, more)?;
+            let at = offset as u64;
+            Ok(write_at(alloc, store, p, entry, at, piece.as_slice(), touches)?)
+        }
+        Edit::Cut(size) => Ok(truncate(alloc, store, p, entry, size as u64, touches)?),
+    }
+}
+
+// How many loads are left until one fails, at most so many.
+fn loads_left<L: Ledger>(store: &mut Kept, cid: &Cid, most: u64, touches: &mut Steps<L>) -> u64
+    requires { most < 2 ^ 63 }
+{
+    for left in 0..most {
+        if let Load::Failed = store.load(cid, touches) {
+            return left;
+        }
+    }
+    most
+}
+
+// The entry after an edit, and how often it touched the store; where it loads more often than it may, it fails.
+fn counted<L: Ledger>(
+    alloc: Global,
+    store: &mut Kept,
+    p: &Profile,
+    entry: &Entry,
+    edit: Edit,
+    most: u64,
+    touches: &mut Steps<L>,
+) -> Result<(Entry, u64), Trouble>
+    requires { IsTrue (is_profile p.now) }
+{
+    let most = most.min(1000000);
+    let before = store.writes();
+    store.fail_at(CallKind::Load, most + 1)?;
+    let new = done(alloc, store, p, entry, edit, touches)?;
+    let saves = store.writes().saturating_sub(before) as u64;
+    let left = loads_left(store, &entry.cid, most + 1, touches);
+    Ok((new, saves.saturating_add(most.saturating_sub(left))))
+}
+
+// The bytes after an edit.
+fn model_after(alloc: Global, bytes: &[u8], edit: Edit) -> Result<Vec<u8>, Trouble> {
+    match edit {
+        Edit::Write(offset, more) => {
+            let piece = bytes_of(alloc, more)?;
+            let size = size_with(bytes.len(), offset, more);
+            model(alloc, bytes, size, offset, piece.as_slice())
+        }
+        Edit::Cut(size) => model(alloc, bytes, size, 0, &[]),
+    }
+}
+
+// Does an edit of a file, and checks the entry and the count.
+fn check_edit<L: Ledger>(
+    alloc: Global,
+    store: &mut Kept,
+    p: &Profile,
+    entry: &Entry,
+    bytes: &[u8],
+    edit: Edit,
+    touches: &mut Steps<L>,
+) -> Result<(), Trouble>
+    requires { IsTrue (is_profile p.now) }
+{
+    let most = most_touches(p, bytes.len(), edit);
+    let (new, taken) = counted(alloc, store, p, entry, edit, most, touches)?;
+    let after = model_after(alloc, bytes, edit)?;
+    if taken > most {
+        return Err(Trouble::Touches);
+    }
+    if !is_built(p, alloc, &new, after.as_slice(), touches) {
+        return Err(Trouble::Entry);
+    }
+    Ok(())
+}
+
+// Writes pieces of all lengths at one place of a file.
+fn check_pieces<L: Ledger>(
+    alloc: Global,
+    store: &mut Kept,
+    sizes: Sizes,
+    entry: &Entry,
+    bytes: &[u8],
+    offset: usize,
+    touches: &mut Steps<L>,
+) -> Result<(), Trouble> {
+    let p = profile(sizes.chunk, sizes.width);
+    for more in 0..MOST {
+        let edit = Edit::Write(offset, more);
+        check_edit(alloc, store, &p, entry, bytes, edit, touches)?;
+    }
+    Ok(())
+}
+
+// All edits of a file of one length.
+fn check_length<L: Ledger>(
+    alloc: Global,
+    sizes: Sizes,
+    length: usize,
+    touches: &mut Steps<L>,
+) -> Result<(), Trouble> {
+    let p = profile(sizes.chunk, sizes.width);
+    let bytes = bytes_of(alloc, length)?;
+    let mut store = Kept::new(alloc);
+    let entry = built(p, alloc, &mut store, bytes.as_slice(), touches)?;
+    for place in 0..MOST {
+        let kept = &mut store;
+        let edit = Edit::Cut(place);
+        check_edit(alloc, kept, &p, &entry, bytes.as_slice(), edit, touches)?;
+        check_pieces(alloc, kept, sizes, &entry, bytes.as_slice(), place, touches)?;
+    }
+    Ok(())
+}
+
+// All edits of files of all lengths.
+fn check_all<L: Ledger>(
+    alloc: Global,
+    sizes: Sizes,
+    touches: &mut Steps<L>,
+) -> Result<(), Trouble> {
+    for length in 0..MOST {
+        check_length(alloc, sizes, length, touches)?;
+    }
+    Ok(())
+}
+
+// An edit of a file of up to 250 bytes, as a number says.
+fn check_one_of_many<L: Ledger>(
+    alloc: Global,
+    sizes: Sizes,
+    n: u64,
+    touches: &mut Steps<L>,
+) -> Result<(), Trouble> {
+    let p = profile(sizes.chunk, sizes.width);
+    let bytes = bytes_of(alloc, (n % 251) as usize)?;
+    let mut store = Kept::new(alloc);
+    let entry = built(p, alloc, &mut store, bytes.as_slice(), touches)?;
+    let place = (n / 256 % 300) as usize;
+    let more = (n / 131072 % 90) as usize;
+    let edit = if n / 16777216 % 4 == 0 {
+        Edit::Cut(place)
+    } else {
+        Edit::Write(place, more)
+    };
+    let bytes = bytes.as_slice();
+    check_edit(alloc, &mut store, &p, &entry, bytes, edit, touches)
+}
+
+// Edits of larger files at random places.
+fn check_many<L: Ledger>(
+    alloc: Global,
+    sizes: Sizes,
+    touches: &mut Steps<L>,
+) -> Result<(), Trouble> {
+    let mut n = 88172645463325252;
+    for _ in 0..60 {
+        n = next(n);
+        check_one_of_many(alloc, sizes, n, touches)?;
+    }
+    Ok(())
+}
+
+// One byte written at 500 into a file of 1000, in pieces of one byte under nodes of two links: 72 touches at most.
+fn check_middle<L: Ledger>(alloc: Global, touches: &mut Steps<L>) -> Result<(), Trouble> {
+    let p = profile(1, 2);
+    let bytes = bytes_of(alloc, 1000)?;
+    let mut store = Kept::new(alloc);
+    let entry = built(p, alloc, &mut store, bytes.as_slice(), touches)?;
+    let edit = Edit::Write(500, 1);
+    if most_touches(&p, 1000, edit) != 72 {
+        return Err(Trouble::Touches);
+    }
+    check_edit(
+        alloc,
+        &mut store,
+        &p,
+        &entry,
+        bytes.as_slice(),
+        edit,
+        touches,
+    )
+}
+
+// Whether each edit of files of up to 40 bytes is right, at places up to 40 with pieces of up to 40 bytes, and some of
+// larger files.
+fn all_right<L: Ledger>(alloc: Global, blank: Blank, sizes: Sizes) -> bool
+    requires name { blank.name ≡ L.name }
+    requires parts { blank.parts ≡ L.parts }
+    requires some { 0 < blank.parts }
+{
+    let mut touches = Steps::<L>::new(blank);
+    check_all(alloc, sizes, &mut touches).is_ok() && check_many(alloc, sizes, &mut touches).is_ok()
+}
+
+// The same of files in pieces and nodes of these sizes.
+fn are_right(alloc: Global, chunk: u32, width: u32) -> bool {
+    all_right::<Brand>(alloc, Blank::new(1), Sizes { chunk, width })
+}
+
+// Whether an edit in the middle of a large file is right.
+fn middle_right<L: Ledger>(alloc: Global, blank: Blank) -> bool
+    requires name { blank.name ≡ L.name }
+    requires parts { blank.parts ≡ L.parts }
+    requires some { 0 < blank.parts }
+{
+    let mut touches = Steps::<L>::new(blank);
+    check_middle(alloc, &mut touches).is_ok()
+}
+
+fn middle_is_right(alloc: Global) -> bool {
+    middle_right::<Brand>(alloc, Blank::new(1))
+}
+
+#[test]
+fn an_edit_of_a_large_file_costs_what_its_rows_cost(rt: HostRuntime) {
+    assert!(rt; middle_is_right(rt.alloc()));
+}
+
+#[test]
+fn edits_of_pieces_of_one_under_two(rt: HostRuntime) {
+    assert!(rt; are_right(rt.alloc(), 1, 2));
+}
+
+#[test]
+fn edits_of_pieces_of_one_under_three(rt: HostRuntime) {
+    assert!(rt; are_right(rt.alloc(), 1, 3));
+}
+
+#[test]
+fn edits_of_pieces_of_two_under_two(rt: HostRuntime) {
+    assert!(rt; are_right(rt.alloc(), 2, 2));
+}
+
+#[test]
+fn edits_of_pieces_of_two_under_three(rt: HostRuntime) {
+    assert!(rt; are_right(rt.alloc(), 2, 3));
+}
+
+#[test]
+fn edits_of_pieces_of_three_under_two(rt: HostRuntime) {
+    assert!(rt; are_right(rt.alloc(), 3, 2));
+}
+
+#[test]
+fn edits_of_pieces_of_three_under_three(rt: HostRuntime) {
+    assert!(rt; are_right(rt.alloc(), 3, 3));
+}
