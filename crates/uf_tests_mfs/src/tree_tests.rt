@@ -182,10 +182,14 @@ fn with_file<L: Ledger>(
     ensures { IfSome result IsMfs }
 {
     let cid = save_block(alloc, store, Codec::Raw, b"hello world", touches).ok()?;
-    let spot = tree.spot::<Kept, Murmur3, L>(alloc, store, path, None, touches).ok()?;
+    let spot = tree
+        .spot::<Kept, Murmur3, L>(alloc, store, path, None, touches)
+        .ok()?;
     let entry = Entry { cid, tsize: 11 };
     let mut grown = tree;
-    grown.place::<Kept, Murmur3, L>(alloc, store, &spot, &entry, touches).ok()?;
+    grown
+        .place::<Kept, Murmur3, L>(alloc, store, &spot, &entry, touches)
+        .ok()?;
     Some(grown)
 }
 

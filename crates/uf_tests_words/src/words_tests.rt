@@ -1,7 +1,7 @@
-use uf_words::*;
 use std::alloc::{AllocError, Global};
 use std::test::*;
 use uf_cid::{Block, Text};
+use uf_words::*;
 
 mod generated;
 mod rows;
