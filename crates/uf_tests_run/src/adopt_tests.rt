@@ -1,6 +1,6 @@
 // Rows of copies from DAGs into the tree. CIDs were computed outside of this program.
 use crate::tests::{HELLO, Step, first_wrong, first_wrong_by_letters};
-use uf_testing::{DONE, Row};
+use uf_testing::{BAD_NAME, DONE, LINK, Row, TWICE};
 
 // A file's leaf with the content `hi` in it, as others write it.
 const LEAF: &[u8] = b"\x0a\x08\x08\x02\x12\x02\x68\x69\x18\x02";
