@@ -31,26 +31,17 @@ fn is_done(put: Put) -> Result<(), Memory> {
     }
 }
 
-/// The path of a member of a folder.
-pub fn path_of(alloc: Global, folder: &str, name: &str) -> Result<Text, Memory>
+// The path of a member of a folder.
+fn path_of(alloc: Global, folder: &str, name: &str) -> Result<Text, Memory>
     ensures { IfOk result (λ text. text ≡ front folder.now ++ name.now) }
 {
-    if folder == "/" {
-        joined(alloc, folder, "", name)
-    } else {
-        joined(alloc, folder, "/", name)
+    let mut path = Text::new(alloc);
+    path.push_str(folder)?;
+    if folder != "/" {
+        path.push_str("/")?;
     }
-}
-
-// Three texts in a row.
-fn joined(alloc: Global, first: &str, second: &str, third: &str) -> Result<Text, Memory>
-    ensures { IfOk result (λ text. text ≡ first.now ++ second.now ++ third.now) }
-{
-    let mut text = Text::new(alloc);
-    text.push_str(first)?;
-    text.push_str(second)?;
-    text.push_str(third)?;
-    Ok(text)
+    path.push_str(name)?;
+    Ok(path)
 }
 
 /// Several texts in a row.

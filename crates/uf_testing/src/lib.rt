@@ -7,7 +7,7 @@ mod nodes;
 mod rows;
 mod streams;
 
-pub use hosts::{Node, host_of, path_of, put_first, put_in, text_of};
+pub use hosts::{Node, host_of, put_first, put_in, text_of};
 pub use nodes::{BAD_NAME, LINK, TWICE};
 pub use rows::{DONE, FINE, Line, ROOMY, Row, Streams};
 pub use streams::{block_of, calls, plant_node, sink, source, words_of};
