@@ -29,24 +29,24 @@ const ZEROS: [u8; 36] = [
 ];
 
 // What an import answered: the numbers of roots and blocks, or the number of the fault and what it says.
-#[derive(Clone, Copy, Debug, PartialEq, Eq)]
+#[derive(Clone, Copy, PartialEq, Eq)]
 enum Said {
     Roots(usize, u64),
     Fault(u8, u64),
     Store,
 }
 
-fn answer_of(answer: Result<Imported, CarFault>) -> Said {
+fn answer_of(answer: &Result<Imported, CarFault>) -> Said {
     match answer {
         Ok(imported) => Said::Roots(imported.roots.len(), imported.blocks),
-        Err(CarFault::Truncated(place)) => Said::Fault(1, place),
+        Err(CarFault::Truncated(place)) => Said::Fault(1, *place),
         Err(CarFault::Header) => Said::Fault(2, 0),
-        Err(CarFault::Version(version)) => Said::Fault(3, u64::from(version)),
-        Err(CarFault::BadCid(place)) => Said::Fault(4, place),
-        Err(CarFault::WrongDigest(place, _)) => Said::Fault(5, place),
-        Err(CarFault::TooBigBlock(_, size)) => Said::Fault(6, size),
-        Err(CarFault::TooManyRoots(count)) => Said::Fault(7, count),
-        Err(CarFault::BadLength(place)) => Said::Fault(8, place),
+        Err(CarFault::Version(version)) => Said::Fault(3, u64::from(*version)),
+        Err(CarFault::BadCid(place)) => Said::Fault(4, *place),
+        Err(CarFault::WrongDigest(place, _)) => Said::Fault(5, *place),
+        Err(CarFault::TooBigBlock(_, size)) => Said::Fault(6, *size),
+        Err(CarFault::TooManyRoots(count)) => Said::Fault(7, *count),
+        Err(CarFault::BadLength(place)) => Said::Fault(8, *place),
         Err(CarFault::TooLong) => Said::Fault(9, 0),
         Err(CarFault::Read) => Said::Fault(10, 0),
         Err(CarFault::Store(_)) => Said::Store,
@@ -73,7 +73,8 @@ fn reads<L: Ledger>(
 {
     let mut store = MemStore::<Sha256Hash>::new(alloc);
     let mut source = MemSource::new(car, step, Calls::new(alloc));
-    let said = answer_of(import(alloc, &mut store, &mut source, limit, touches));
+    let answer = import(alloc, &mut store, &mut source, limit, touches);
+    let said = answer_of(&answer);
     (said, store.count())
 }
 
@@ -181,7 +182,7 @@ fn first_misread<L: Ledger>(alloc: Global, t: &mut Steps<L>) -> Option<usize> {
 }
 
 // What an export answered: the number of bytes, or the number of the fault.
-#[derive(Clone, Copy, Debug, PartialEq, Eq)]
+#[derive(Clone, Copy, PartialEq, Eq)]
 enum Told {
     Bytes(u64),
     Fault(u8),
@@ -198,13 +199,8 @@ fn told_of(answer: Result<u64, ExportFault>) -> Told {
     }
 }
 
-// A directory with the links `a` and `b` to one block.
-fn saved_twice<L: Ledger>(
-    alloc: Global,
-    store: &mut MemStore<Sha256Hash>,
-    cid: &Cid,
-    touches: &mut Steps<L>,
-) -> Result<Cid, StoreFault> {
+// A directory that has one CID under two names.
+fn twice(alloc: Global, cid: &Cid) -> Result<Block, Memory> {
     let binary = cid.to_binary();
     let mut node = Block::new(alloc);
     for name in [b'a', b'b'] {
@@ -213,10 +209,22 @@ fn saved_twice<L: Ledger>(
         node.extend(&[0x12, 1, name, 0x18, 0])?;
     }
     node.extend(b"\x0a\x02\x08\x01")?;
-    if node.as_slice().len() > 100 {
-        return Err(StoreFault::Failed);
+    Ok(node)
+}
+
+// A directory with the links `a` and `b` to one block.
+fn saved_twice<L: Ledger>(
+    alloc: Global,
+    store: &mut MemStore<Sha256Hash>,
+    cid: &Cid,
+    touches: &mut Steps<L>,
+) -> Result<Cid, StoreFault> {
+    match twice(alloc, cid) {
+        Ok(node) if node.as_slice().len() <= 100 => {
+            save_block(alloc, store, Codec::DagPb, node.as_slice(), touches)
+        }
+        _ => Err(StoreFault::Memory),
     }
-    save_block(alloc, store, Codec::DagPb, node.as_slice(), touches)
 }
 
 // A store with so many directories over a block, each twice in the next, and the CID of the last.

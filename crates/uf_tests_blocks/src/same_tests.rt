@@ -16,7 +16,7 @@ const NODE: [u8; 40] = [
 ];
 
 // What a comparison answered.
-#[derive(Clone, Copy, Debug, PartialEq, Eq)]
+#[derive(Clone, Copy, PartialEq, Eq)]
 enum Answer {
     Equal,
     Differ,
@@ -71,6 +71,22 @@ fn refused(fault: SameFault) -> Answer {
     }
 }
 
+// What the comparison of two stores answers below two CIDs, of one CID at most; these blocks may be shown.
+fn answered<X: BlockHash, L: Ledger>(
+    alloc: Global,
+    stores: (&mut MemStore<X>, &mut MemStore<X>),
+    roots: (&Cid, &Cid),
+    left: &[u8],
+    right: &[u8],
+    touches: &mut Steps<L>,
+) -> Answer {
+    let (one, two) = stores;
+    match same(alloc, one, two, roots.0, roots.1, 1, touches) {
+        Ok(found) => shown(found, left, right),
+        Err(fault) => refused(fault),
+    }
+}
+
 // What the comparison of two stores of a block each answers, below the CIDs of two blocks, of one CID at most.
 fn compared<X: BlockHash, L: Ledger>(
     alloc: Global,
@@ -86,12 +102,8 @@ fn compared<X: BlockHash, L: Ledger>(
 {
     let mut one = holding::<X, L>(alloc, codec, left, touches);
     let mut two = holding::<X, L>(alloc, codec, right, touches);
-    let a = Cid::of::<X>(codec, below);
-    let b = Cid::of::<X>(codec, and);
-    match same(alloc, &mut one, &mut two, &a, &b, 1, touches) {
-        Ok(found) => shown(found, left, right),
-        Err(fault) => refused(fault),
-    }
+    let roots = (&Cid::of::<X>(codec, below), &Cid::of::<X>(codec, and));
+    answered(alloc, (&mut one, &mut two), roots, left, right, touches)
 }
 
 // The place of the first row that is wrong.

@@ -31,16 +31,22 @@ fn is_text(note: NoteRead, text: &[u8]) -> bool {
 fn keeps<L: Ledger>(alloc: Global, touches: &mut Steps<L>) -> bool {
     let mut store = MemStore::<Sha256Hash>::new(alloc);
     let cid = raw::<Sha256Hash>(b"a");
-    store.load(&cid, touches) == Load::Missing
-        && save_under(alloc, &mut store, &cid, b"a", touches).is_ok()
-        && need(&mut store, &cid, touches).is_ok()
-        && store.block() == b"a".as_slice()
-        && store.sync() == Put::Done
-        && store.write_note(Note::Head, b"text") == Put::Done
-        && is_text(store.read_note(Note::Head), b"text")
-        && matches!(store.read_note(Note::Pins), NoteRead::Absent)
-        && store.count() == 1
-        && store.writes() == 3
+    let missing = store.load(&cid, touches) == Load::Missing;
+    let saved = save_under(alloc, &mut store, &cid, b"a", touches).is_ok();
+    let found = need(&mut store, &cid, touches).is_ok();
+    let lent = store.block() == b"a".as_slice();
+    let synced = store.sync() == Put::Done;
+    let wrote = store.write_note(Note::Head, b"text") == Put::Done;
+    let read = is_text(store.read_note(Note::Head), b"text");
+    let absent = matches!(store.read_note(Note::Pins), NoteRead::Absent);
+    let counted = store.count() == 1;
+    let listed = store.writes() == 3;
+    missing & saved & found & lent & synced & wrote & read & absent & counted & listed
+}
+
+// Whether a call of one kind tells that it failed exactly where a call of this kind is to fail now.
+fn is_told(told: bool, failed: bool, what: CallKind, kind: CallKind) -> bool {
+    told == (failed && what == kind)
 }
 
 // The second call of a kind fails, and no other.
@@ -56,12 +62,11 @@ fn fails<L: Ledger>(alloc: Global, what: CallKind, touches: &mut Steps<L>) -> Re
         let synced = store.sync() == Put::Failed;
         let wrote = store.write_note(Note::Pins, b"") == Put::Failed;
         let read = matches!(store.read_note(Note::Pins), NoteRead::Failed);
-        right = right
-            && saved == (failed && what == CallKind::Save)
-            && loaded == (failed && what == CallKind::Load)
-            && synced == (failed && what == CallKind::Sync)
-            && wrote == (failed && what == CallKind::WriteNote)
-            && read == (failed && what == CallKind::ReadNote);
+        right &= is_told(saved, failed, what, CallKind::Save)
+            & is_told(loaded, failed, what, CallKind::Load)
+            & is_told(synced, failed, what, CallKind::Sync)
+            & is_told(wrote, failed, what, CallKind::WriteNote)
+            & is_told(read, failed, what, CallKind::ReadNote);
     }
     Ok(right)
 }

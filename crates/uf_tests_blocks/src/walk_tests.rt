@@ -6,7 +6,7 @@ use uf_cid::{Block, Cid, Codec, Memory, Seq};
 use uf_walk::{Turn, Walk, WalkFault};
 
 // What a walk did: the first byte of the digest of each CID that it handed out, and why it ended.
-#[derive(Clone, Copy, Debug, PartialEq, Eq)]
+#[derive(Clone, Copy, PartialEq, Eq)]
 enum Ending {
     Whole,
     TooMany,

@@ -21,7 +21,21 @@ fn profile(chunk: u32, width: u32) -> Profile
     }
 }
 
-// The entry of some bytes that are fed in pieces of so many, and how many blocks are held then.
+// The entry of some bytes that are fed in pieces of so many.
+fn fed<X: BlockHash, L: Ledger>(
+    mut builder: Builder,
+    store: &mut MemStore<X>,
+    bytes: &[u8],
+    by: usize,
+    touches: &mut Steps<L>,
+) -> Result<Entry, BuildFault> {
+    for piece in bytes.chunks(by.max(1)) {
+        builder.feed(store, piece, touches)?;
+    }
+    builder.finish(store, touches)
+}
+
+// The same over a store of its own, and how many blocks are held then.
 fn built<X: BlockHash, L: Ledger>(
     alloc: Global,
     p: Profile,
@@ -36,12 +50,10 @@ fn built<X: BlockHash, L: Ledger>(
 {
     let mut touches = Steps::<L>::new(blank);
     let mut store = MemStore::<X>::new(alloc);
-    let mut builder = Builder::new(alloc, p);
-    for piece in bytes.chunks(by.max(1)) {
-        builder.feed(&mut store, piece, &mut touches)?;
+    match fed(Builder::new(alloc, p), &mut store, bytes, by, &mut touches) {
+        Ok(entry) => Ok((entry, store.count())),
+        Err(fault) => Err(fault),
     }
-    let entry = builder.finish(&mut store, &mut touches)?;
-    Ok((entry, store.count()))
 }
 
 fn built_by<X: BlockHash>(

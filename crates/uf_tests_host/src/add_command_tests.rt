@@ -4,11 +4,13 @@ ghost use Rattle.std.specs.Prelude.{◌≡◌, ◌<◌};
 use std::alloc::Global;
 use std::marker::Brand;
 use std::sync::ledger::{Blank, Ledger};
-use uf_cid::{Memory, Sha256Hash};
+use uf_cid::{Memory, Sha256Hash, Text};
 use uf_edge::{Fetched, Host, Kind, Listing, MemHost, MemSink, MemSource, Put};
 use uf_murmur::FirstEight;
 use uf_store::{MemStore, Steps};
-use uf_testing::{Line, Node, calls, host_of, put_first, put_in, sink, source, text_of, words_of};
+use uf_testing::{
+    DONE, Line, Node, Row, calls, host_of, put_first, put_in, sink, source, text_of, words_of,
+};
 use uf_top::run;
 
 const NODES: [Node<'static>; 9] = [
@@ -125,18 +127,17 @@ impl Host for Devices {
     ghost rooted = { λ h. tt };
 }
 
-// Whether a command over a host ends so.
-pub fn ends<W: Host, L: Ledger>(
+// Whether a command over a host ends so, with room for so many bytes of its output.
+fn row_ends<W: Host, L: Ledger>(
     alloc: Global,
-    line: &Line,
+    row: &Row,
     room: usize,
     store: &mut MemStore<Sha256Hash>,
     host: &mut W,
     touches: &mut Steps<L>,
 ) -> Result<bool, Memory> {
-    let (words, status, printed, said) = *line;
-    let words = words_of(alloc, words)?;
-    let mut input = source(alloc, b"hello world", None)?;
+    let words = words_of(alloc, row.words)?;
+    let mut input = source(alloc, row.input, None)?;
     let mut output = sink(alloc, room, None)?;
     let mut errors = sink(alloc, 1000, None)?;
     let given = run::<MemStore<Sha256Hash>, FirstEight, W, MemSource, MemSink, MemSink, L>(
@@ -149,7 +150,43 @@ pub fn ends<W: Host, L: Ledger>(
         &mut errors,
         touches,
     );
-    Ok(given.number() == status && output.bytes() == printed && errors.bytes() == said)
+    Ok(given.number() == row.status && output.bytes() == row.output && errors.bytes() == row.errors)
+}
+
+// The same of a line, with the input `hello world`.
+pub fn ends<W: Host, L: Ledger>(
+    alloc: Global,
+    line: &Line,
+    room: usize,
+    store: &mut MemStore<Sha256Hash>,
+    host: &mut W,
+    touches: &mut Steps<L>,
+) -> Result<bool, Memory> {
+    let (words, status, output, errors) = *line;
+    let row = Row {
+        words,
+        input: b"hello world",
+        status,
+        output,
+        errors,
+    };
+    row_ends(alloc, &row, room, store, host, touches)
+}
+
+// Whether each of these lines ends so, one after the other.
+pub fn all_end<W: Host, L: Ledger>(
+    alloc: Global,
+    lines: &[(Line, usize)],
+    store: &mut MemStore<Sha256Hash>,
+    host: &mut W,
+    touches: &mut Steps<L>,
+) -> Result<bool, Memory> {
+    for (line, room) in lines {
+        if !ends(alloc, line, *room, store, host, touches)? {
+            return Ok(false);
+        }
+    }
+    Ok(true)
 }
 
 // The number of the first line that doesn't end as it is to.
@@ -178,63 +215,95 @@ fn failures_are_told<L: Ledger>(alloc: Global, touches: &mut Steps<L>) -> Result
     Ok(true)
 }
 
-// Whether a file of the host and the same bytes of the input have one CID, an output that fails is told, two names of one
-// hash collide in a sharded folder, and a device is refused.
-fn others_hold<L: Ledger>(alloc: Global, touches: &mut Steps<L>) -> Result<bool, Memory> {
+// A file of the host and the same bytes of the input have one CID, and an output that fails is told.
+const READ: [(Line, usize); 3] = [
+    (("init --threshold 0", 0, b"", b""), 2000),
+    (("add -r", 0, HELLO_READ, b""), 2000),
+    (("add hw", 7, b"added", b"error: write\n"), 5),
+];
+
+// Two names of one hash collide in a sharded folder.
+const COLLIDES: [(Line, usize); 2] = [
+    (("init --threshold 0", 0, b"", b""), 2000),
+    (
+        (
+            "add -r d",
+            1,
+            b"",
+            b"error: rule Collision samename1 samename2\n",
+        ),
+        2000,
+    ),
+];
+
+// A device is refused.
+const DEVICE: Line = (
+    "add -r -n /dev/null/",
+    1,
+    b"",
+    b"error: rule HostOther /dev/null\n",
+);
+
+// Whether these lines end so over a host that has these.
+fn all_end_over<L: Ledger>(
+    alloc: Global,
+    nodes: &[Node<'_>],
+    lines: &[(Line, usize)],
+    touches: &mut Steps<L>,
+) -> Result<bool, Memory> {
+    let mut host = host_of(alloc, nodes, calls(alloc, None)?)?;
     let mut store = MemStore::<Sha256Hash>::new(alloc);
-    let mut host = host_of(alloc, &TWINS, calls(alloc, None)?)?;
-    let mut nodes = host_of(alloc, &NODES, calls(alloc, None)?)?;
+    all_end(alloc, lines, &mut store, &mut host, touches)
+}
+
+fn device_is_refused<L: Ledger>(alloc: Global, touches: &mut Steps<L>) -> Result<bool, Memory> {
+    let mut store = MemStore::<Sha256Hash>::new(alloc);
     let mut devices = Devices { asked: 0 };
-    let init: Line = ("init --threshold 0", 0, b"", b"");
-    let read: Line = ("add -r", 0, HELLO_READ, b"");
-    let cut: Line = ("add hw", 7, b"added", b"error: write\n");
-    let twins: Line = (
-        "add -r d",
-        1,
-        b"",
-        b"error: rule Collision samename1 samename2\n",
-    );
-    let device: Line = (
-        "add -r /dev/null/",
-        1,
-        b"",
-        b"error: rule HostOther /dev/null\n",
-    );
+    ends(alloc, &DEVICE, 2000, &mut store, &mut devices, touches)
+}
+
+// Whether all of that holds.
+fn others_hold<L: Ledger>(alloc: Global, touches: &mut Steps<L>) -> Result<bool, Memory> {
     Ok(
-        ends(alloc, &init, 2000, &mut store, &mut nodes, touches)?
-            && ends(alloc, &read, 2000, &mut store, &mut nodes, touches)?
-            && ends(alloc, &cut, 5, &mut store, &mut nodes, touches)?
-            && ends(alloc, &twins, 2000, &mut store, &mut host, touches)?
-            && ends(alloc, &device, 2000, &mut store, &mut devices, touches)?,
+        all_end_over(alloc, &NODES, &READ, touches)?
+            && all_end_over(alloc, &TWINS, &COLLIDES, touches)?
+            && device_is_refused(alloc, touches)?,
     )
 }
 
-// Whether folders may be 256 folders below, and no deeper.
-fn depths_hold<L: Ledger>(alloc: Global, touches: &mut Steps<L>) -> Result<bool, Memory> {
-    let mut store = MemStore::<Sha256Hash>::new(alloc);
-    let mut host = MemHost::new(alloc, calls(alloc, None)?);
-    put_first(&mut host, "d", None)?;
+// Puts so many folders into each other, and gives the path of the last.
+fn nest(alloc: Global, host: &mut MemHost, count: usize) -> Result<Text, Memory> {
+    put_first(host, "d", None)?;
     let mut path = text_of(alloc, &["d"])?;
-    for _ in 1..258 {
-        put_in(alloc, &mut host, path.as_str(), "d", None)?;
+    for _ in 1..count {
+        put_in(alloc, host, path.as_str(), "d", None)?;
         path.push_str("/d")?;
     }
+    Ok(path)
+}
+
+// Whether folders may be 256 folders below, and no deeper: `path` is that of the folder below.
+fn too_deep_ends<L: Ledger>(
+    alloc: Global,
+    path: &Text,
+    host: &mut MemHost,
+    touches: &mut Steps<L>,
+) -> Result<bool, Memory> {
     let deep = text_of(alloc, &["error: rule HostDeep ", path.as_str(), "\n"])?;
-    let words = words_of(alloc, "add -r -n d")?;
-    let mut input = source(alloc, b"", None)?;
-    let mut output = sink(alloc, 200000, None)?;
-    let mut errors = sink(alloc, 1000, None)?;
-    let given = run::<MemStore<Sha256Hash>, FirstEight, MemHost, MemSource, MemSink, MemSink, L>(
-        alloc,
-        &words,
-        &mut store,
-        &mut host,
-        &mut input,
-        &mut output,
-        &mut errors,
-        touches,
-    );
-    Ok(given.number() == 1 && errors.bytes() == deep.as_str().as_bytes())
+    let row = Row {
+        words: "add -r -n d",
+        status: 1,
+        errors: deep.as_str().as_bytes(),
+        ..DONE
+    };
+    let mut store = MemStore::<Sha256Hash>::new(alloc);
+    row_ends(alloc, &row, 200000, &mut store, host, touches)
+}
+
+fn depths_hold<L: Ledger>(alloc: Global, touches: &mut Steps<L>) -> Result<bool, Memory> {
+    let mut host = MemHost::new(alloc, calls(alloc, None)?);
+    let path = nest(alloc, &mut host, 258)?;
+    too_deep_ends(alloc, &path, &mut host, touches)
 }
 
 fn all<L: Ledger>(alloc: Global, blank: Blank) -> Result<(Option<usize>, bool, bool, bool), Memory>

@@ -95,82 +95,111 @@ fn adds<L: Ledger>(
     lines_of(alloc, &answer)
 }
 
-fn is_row<L: Ledger>(
-    alloc: Global,
-    nodes: &[Node<'_>],
-    threshold: u32,
-    path: &str,
-    recursive: bool,
-    wanted: &str,
-    touches: &mut Steps<L>,
-) -> Result<bool, Memory> {
+// What is in a host, the threshold, the path and whether folders are taken, and the texts in a row that are to come.
+type Row = (
+    &'static [Node<'static>],
+    u32,
+    &'static str,
+    bool,
+    &'static [&'static str],
+);
+
+const HW: [Node<'static>; 1] = [("", "hw", Some(b"hello world"))];
+
+const TOP: [Node<'static>; 1] = [("/", "a", Some(b""))];
+
+const BOTH: [Node<'static>; 4] = [
+    ("", "d", None),
+    ("d", "e", None),
+    ("d/e", "a", Some(b"")),
+    ("d", "f", Some(b"hello world")),
+];
+
+const BAD: [Node<'static>; 4] = [
+    ("", "d", None),
+    ("d", "..", None),
+    ("d/..", "x", Some(b"")),
+    ("d", "a", Some(b"")),
+];
+
+const LATE: [Node<'static>; 5] = [
+    ("", "d", None),
+    ("d", "e", None),
+    ("d/e", ".", Some(b"")),
+    ("d", "f", None),
+    ("d/f", "..", None),
+];
+
+const TWINS: [Node<'static>; 3] = [
+    ("", "d", None),
+    ("d", "samename2", Some(b"")),
+    ("d", "samename1", Some(b"")),
+];
+
+const AFTER: [Node<'static>; 5] = [
+    ("", "d", None),
+    ("d", "samename2", Some(b"")),
+    ("d", "samename1", Some(b"")),
+    ("d", "z", None),
+    ("d/z", ".", None),
+];
+
+const TWO: [&str; 7] = ["d/a ", NOTHING, "\nd/b ", NOTHING, "\nd ", A_AND_B, "\n"];
+
+const ROWS: [Row; 17] = [
+    (&HW, 262144, "hw", false, &["hw ", HELLO, "\n"]),
+    (&HW, 262144, "hw//", true, &["hw ", HELLO, "\n"]),
+    (&HW, 262144, "no", true, &["absent"]),
+    (&HW, 262144, "hw/x", true, &["absent"]),
+    (&HW, 262144, "", true, &["absent"]),
+    (&FOLDER, 262144, "d", true, &TWO),
+    (&FOLDER, 262144, "d/", true, &TWO),
+    (&FOLDER, 262144, "d", false, &["recursive"]),
+    (
+        &TOP,
+        262144,
+        "/",
+        true,
+        &["//a ", NOTHING, "\n/ ", JUST_A, "\n"],
+    ),
+    (
+        &TOP,
+        262144,
+        "///",
+        true,
+        &["//a ", NOTHING, "\n/ ", JUST_A, "\n"],
+    ),
+    (&HW, 262144, "/", true, &["/ ", EMPTY, "\n"]),
+    (
+        &BOTH,
+        262144,
+        "d/e",
+        true,
+        &["e/a ", NOTHING, "\ne ", JUST_A, "\n"],
+    ),
+    (&BAD, 262144, "d", true, &["name d/.."]),
+    (&LATE, 262144, "d", true, &["name d/e/."]),
+    (&TWINS, 0, "d", true, &["collision samename1"]),
+    (&AFTER, 0, "d", true, &["name d/z/."]),
+    (&TWINS, 0, "d", false, &["recursive"]),
+];
+
+fn is_row<L: Ledger>(alloc: Global, row: &Row, touches: &mut Steps<L>) -> Result<bool, Memory> {
+    let (nodes, threshold, path, recursive, parts) = *row;
     let mut host = host_of(alloc, nodes, Calls::new(alloc))?;
     let text = adds(alloc, threshold, &mut host, path, recursive, touches)?;
-    Ok(text.as_str() == wanted)
+    let wanted = text_of(alloc, parts)?;
+    Ok(text.as_str() == wanted.as_str())
 }
 
 // Whether each row is as it is wanted.
 fn rows_hold<L: Ledger>(alloc: Global, touches: &mut Steps<L>) -> Result<bool, Memory> {
-    let hello: &[Node<'_>] = &[("", "hw", Some(b"hello world"))];
-    let top: &[Node<'_>] = &[("/", "a", Some(b""))];
-    let both: &[Node<'_>] = &[
-        ("", "d", None),
-        ("d", "e", None),
-        ("d/e", "a", Some(b"")),
-        ("d", "f", Some(b"hello world")),
-    ];
-    let bad: &[Node<'_>] = &[
-        ("", "d", None),
-        ("d", "..", None),
-        ("d/..", "x", Some(b"")),
-        ("d", "a", Some(b"")),
-    ];
-    let late: &[Node<'_>] = &[
-        ("", "d", None),
-        ("d", "e", None),
-        ("d/e", ".", Some(b"")),
-        ("d", "f", None),
-        ("d/f", "..", None),
-    ];
-    let twins: &[Node<'_>] = &[
-        ("", "d", None),
-        ("d", "samename2", Some(b"")),
-        ("d", "samename1", Some(b"")),
-    ];
-    let after: &[Node<'_>] = &[
-        ("", "d", None),
-        ("d", "samename2", Some(b"")),
-        ("d", "samename1", Some(b"")),
-        ("d", "z", None),
-        ("d/z", ".", None),
-    ];
-    let one = text_of(alloc, &["hw ", HELLO, "\n"])?;
-    let two = text_of(
-        alloc,
-        &["d/a ", NOTHING, "\nd/b ", NOTHING, "\nd ", A_AND_B, "\n"],
-    )?;
-    let root = text_of(alloc, &["//a ", NOTHING, "\n/ ", JUST_A, "\n"])?;
-    let inner = text_of(alloc, &["e/a ", NOTHING, "\ne ", JUST_A, "\n"])?;
-    let none = text_of(alloc, &["/ ", EMPTY, "\n"])?;
-    Ok(
-        is_row(alloc, hello, 262144, "hw", false, one.as_str(), touches)?
-            && is_row(alloc, hello, 262144, "hw//", true, one.as_str(), touches)?
-            && is_row(alloc, hello, 262144, "no", true, "absent", touches)?
-            && is_row(alloc, hello, 262144, "hw/x", true, "absent", touches)?
-            && is_row(alloc, hello, 262144, "", true, "absent", touches)?
-            && is_row(alloc, &FOLDER, 262144, "d", true, two.as_str(), touches)?
-            && is_row(alloc, &FOLDER, 262144, "d/", true, two.as_str(), touches)?
-            && is_row(alloc, &FOLDER, 262144, "d", false, "recursive", touches)?
-            && is_row(alloc, top, 262144, "/", true, root.as_str(), touches)?
-            && is_row(alloc, top, 262144, "///", true, root.as_str(), touches)?
-            && is_row(alloc, hello, 262144, "/", true, none.as_str(), touches)?
-            && is_row(alloc, both, 262144, "d/e", true, inner.as_str(), touches)?
-            && is_row(alloc, bad, 262144, "d", true, "name d/..", touches)?
-            && is_row(alloc, late, 262144, "d", true, "name d/e/.", touches)?
-            && is_row(alloc, twins, 0, "d", true, "collision samename1", touches)?
-            && is_row(alloc, after, 0, "d", true, "name d/z/.", touches)?
-            && is_row(alloc, twins, 0, "d", false, "recursive", touches)?,
-    )
+    for row in &ROWS {
+        if !is_row(alloc, row, touches)? {
+            return Ok(false);
+        }
+    }
+    Ok(true)
 }
 
 // The text of what is added of a folder of three files, where the call of this number fails, counted from the first of
@@ -245,10 +274,7 @@ fn is_apart(alloc: Global, nodes: &[Node<'_>], path: &str, wanted: &str) -> Resu
 }
 
 fn apart_holds(alloc: Global) -> Result<bool, Memory> {
-    let wanted = text_of(
-        alloc,
-        &["d/a ", NOTHING, "\nd/b ", NOTHING, "\nd ", A_AND_B, "\n"],
-    )?;
+    let wanted = text_of(alloc, &TWO)?;
     is_apart(alloc, &FOLDER, "d", wanted.as_str())
 }
 

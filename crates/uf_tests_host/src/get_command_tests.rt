@@ -1,7 +1,7 @@
 // Rows of `get`. CIDs were computed outside of this program.
 ghost use Rattle.std.specs.Prelude.{◌≡◌, ◌<◌};
 
-use crate::add_command_tests::{THREE, ends};
+use crate::add_command_tests::{THREE, all_end, ends};
 use std::alloc::Global;
 use std::marker::Brand;
 use std::sync::ledger::{Blank, Ledger};
@@ -201,36 +201,55 @@ fn kinds(host: &mut MemHost) -> [bool; 3] {
     [first, second, third]
 }
 
-// Whether each call of the host that fails under `get` of three files is told, with what was written before it.
-fn failures_are_told<L: Ledger>(alloc: Global, touches: &mut Steps<L>) -> Result<bool, Memory> {
-    let words = "get bafybeifnhxr4cruj23aonpu7rrm4c4x7xhypv2zubtrruolypz4sj4t45y e";
-    let mut store = MemStore::<Sha256Hash>::new(alloc);
+const WORDS: &str = "get bafybeifnhxr4cruj23aonpu7rrm4c4x7xhypv2zubtrruolypz4sj4t45y e";
+
+// A store that is ready and holds the three files.
+const KEEPS: [(Line, usize); 2] = [
+    (("init", 0, b"", b""), 2000),
+    (("add -r d", 0, ADDED, b""), 2000),
+];
+
+// The number of the call that fails, the status and the error line, and which of the files are there then.
+const WAYS: [(u64, u8, &[u8], [bool; 3]); 6] = [
+    (0, 6, b"error: read\n", [false, false, false]),
+    (1, 7, b"error: write\n", [false, false, false]),
+    (2, 7, b"error: write\n", [false, false, false]),
+    (3, 7, b"error: write\n", [true, false, false]),
+    (4, 7, b"error: write\n", [true, true, false]),
+    (9, 0, b"", [true, true, true]),
+];
+
+fn keeps<L: Ledger>(
+    alloc: Global,
+    store: &mut MemStore<Sha256Hash>,
+    touches: &mut Steps<L>,
+) -> Result<bool, Memory> {
     let mut three = host_of(alloc, &THREE, calls(alloc, None)?)?;
-    let init: Line = ("init", 0, b"", b"");
-    let add: Line = ("add -r d", 0, ADDED, b"");
-    if !ends(alloc, &init, 2000, &mut store, &mut three, touches)?
-        || !ends(alloc, &add, 2000, &mut store, &mut three, touches)?
-    {
-        return Ok(false);
+    all_end(alloc, &KEEPS, store, &mut three, touches)
+}
+
+// Whether a failed call of the host is told, with what was written before it.
+fn failure_is_told<L: Ledger>(
+    alloc: Global,
+    way: (u64, u8, &'static [u8], [bool; 3]),
+    store: &mut MemStore<Sha256Hash>,
+    touches: &mut Steps<L>,
+) -> Result<bool, Memory> {
+    let (call, status, said, there) = way;
+    let line: Line = (WORDS, status, b"", said);
+    let mut host = host_of(alloc, &[], calls(alloc, Some(call))?)?;
+    let told = ends(alloc, &line, 2000, store, &mut host, touches)?;
+    Ok(told && kinds(&mut host) == there)
+}
+
+// Whether each call of the host that fails under `get` of three files is told.
+fn failures_are_told<L: Ledger>(alloc: Global, touches: &mut Steps<L>) -> Result<bool, Memory> {
+    let mut store = MemStore::<Sha256Hash>::new(alloc);
+    let mut told = keeps(alloc, &mut store, touches)?;
+    for way in WAYS {
+        told &= failure_is_told(alloc, way, &mut store, touches)?;
     }
-    let ways: [(u64, u8, &[u8], [bool; 3]); 6] = [
-        (0, 6, b"error: read\n", [false, false, false]),
-        (1, 7, b"error: write\n", [false, false, false]),
-        (2, 7, b"error: write\n", [false, false, false]),
-        (3, 7, b"error: write\n", [true, false, false]),
-        (4, 7, b"error: write\n", [true, true, false]),
-        (9, 0, b"", [true, true, true]),
-    ];
-    for way in ways {
-        let (call, status, said, there) = way;
-        let line: Line = (words, status, b"", said);
-        let mut host = host_of(alloc, &[], calls(alloc, Some(call))?)?;
-        let told = ends(alloc, &line, 2000, &mut store, &mut host, touches)?;
-        if !told || kinds(&mut host) != there {
-            return Ok(false);
-        }
-    }
-    Ok(true)
+    Ok(told)
 }
 
 fn all<L: Ledger>(alloc: Global, blank: Blank) -> Result<([Option<usize>; 3], bool), Memory>

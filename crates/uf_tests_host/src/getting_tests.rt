@@ -8,7 +8,7 @@ use std::marker::Brand;
 use std::sync::ledger::{Blank, Ledger};
 use uf_cid::{Cid, Memory, Sha256Hash, Text};
 use uf_edge::{Calls, MemHost};
-use uf_host::{add, get};
+use uf_host::{HostFault, add, get};
 use uf_lenient::Limits;
 use uf_murmur::FirstEight;
 use uf_store::{MemStore, Steps};
@@ -73,6 +73,41 @@ struct Row<'a> {
     fail: Option<u64>,
 }
 
+// Has a store hold the source, and gives its CID.
+fn held<L: Ledger>(
+    alloc: Global,
+    store: &mut MemStore<Sha256Hash>,
+    touches: &mut Steps<L>,
+) -> Result<Cid, Memory> {
+    let mut source = host_of(alloc, &SOURCE, Calls::new(alloc))?;
+    match added(alloc, store, &mut source, "d", touches)?.1 {
+        Some(root) => Ok(root),
+        None => Err(Memory),
+    }
+}
+
+fn told_of(alloc: Global, answer: &Result<(), HostFault>) -> Result<Text, Memory> {
+    let mut text = Text::new(alloc);
+    match answer {
+        Ok(()) => text.push_str("ok")?,
+        Err(fault) => push_fault(&mut text, fault)?,
+    }
+    Ok(text)
+}
+
+// The answer where a tree is written into a host.
+fn got<L: Ledger>(
+    alloc: Global,
+    row: &Row<'_>,
+    root: &Cid,
+    store: &mut MemStore<Sha256Hash>,
+    host: &mut MemHost,
+    touches: &mut Steps<L>,
+) -> Result<Text, Memory> {
+    let answer = get(alloc, store, root, host, row.path, &row.limits, touches);
+    told_of(alloc, &answer)
+}
+
 // The answer where the source is written into a host, and whether the host has it then.
 fn written<L: Ledger>(
     alloc: Global,
@@ -80,27 +115,12 @@ fn written<L: Ledger>(
     touches: &mut Steps<L>,
 ) -> Result<(Text, bool), Memory> {
     let mut store = MemStore::<Sha256Hash>::new(alloc);
-    let mut source = host_of(alloc, &SOURCE, Calls::new(alloc))?;
-    let Some(root) = added(alloc, &mut store, &mut source, "d", touches)?.1 else {
-        return Err(Memory);
-    };
+    let root = held(alloc, &mut store, touches)?;
     if row.lost {
         store.forget(&root);
     }
     let mut host = host_of(alloc, row.nodes, calls(alloc, row.fail)?)?;
-    let mut text = Text::new(alloc);
-    match get(
-        alloc,
-        &mut store,
-        &root,
-        &mut host,
-        row.path,
-        &row.limits,
-        touches,
-    ) {
-        Ok(()) => text.push_str("ok")?,
-        Err(fault) => push_fault(&mut text, &fault)?,
-    }
+    let text = got(alloc, row, &root, &mut store, &mut host, touches)?;
     let back = added(alloc, &mut store, &mut host, row.path, touches)?.1;
     Ok((text, back == Some(root)))
 }

@@ -24,7 +24,7 @@ enum Call {
 }
 
 // What a call answers: the new root, how many bytes were written out, a rule, or the block that is missing.
-#[derive(Clone, Copy, Debug, PartialEq, Eq)]
+#[derive(Clone, Copy, PartialEq, Eq)]
 enum Answer {
     Moved(Cid),
     Sent(u64),

@@ -27,7 +27,7 @@ enum Call {
 }
 
 // What a call answers: the new root, how many names or rows, what is said, a rule, or the block that is missing.
-#[derive(Clone, Copy, Debug, PartialEq, Eq)]
+#[derive(Clone, Copy, PartialEq, Eq)]
 enum Answer {
     Moved(Cid),
     Listed(usize),
