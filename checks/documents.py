@@ -2,7 +2,8 @@
 
 Each link of a document leads to a file. Each definition that docs/TRUST.md lists is in the file that it names. Each
 clause (or fact of a record that is one) and each edit that a table of the README names is there: a row is a claim, its
-clauses, and the edits that it refuses, under a heading that names the crate.
+clauses, and the edits that it refuses, under a heading that names the crate. An edit in brackets is one of those that
+checks/edits tries.
 """
 
 import os
@@ -69,9 +70,11 @@ def wrong_rows():
             for word in words(cells[1]):
                 if not re.search(rf"\b(ensures|ghost|fn|pub) {re.escape(word)}\b", source):
                     yield f"README.md: {crate} has no clause {word}"
+            apart = re.findall(r"\(`([^`]+)`\)", cells[2])
             for word in words(cells[2]):
-                if not os.path.exists(os.path.join(TOP, "crates", crate, "must-fail", word + ".edit")):
-                    yield f"README.md: {crate} has no edit {word}"
+                folder = "edits" if word in apart else "must-fail"
+                if not os.path.exists(os.path.join(TOP, "crates", crate, folder, word + ".edit")):
+                    yield f"README.md: {crate} has no edit {word} in {folder}"
 
 
 def main():
