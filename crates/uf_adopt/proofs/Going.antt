@@ -14,7 +14,7 @@ use Rattle.uf_store.specs.Contents.{Told, held_at}
 use Rattle.uf_store.specs.Faults.{NoneIsBad}
 use Rattle.uf_store.specs.Seen.{Seen}
 use Rattle.uf_store.specs.declared.store.StoreFault.TheVariants.{Memory}
-use Rattle.uf_store.proofs.Causes.{calm-rises}
+use Rattle.uf_store.proofs.Causes.{calm-memory}
 use Rattle.uf_tree.specs.Names.{names_cmp}
 use Rattle.uf_tree.specs.Nodes.{Named}
 use Rattle.uf_tree.specs.Tree.{Dir, Entries, File, Tree}
@@ -43,7 +43,7 @@ use Rattle.uf_adopt.proofs.Fed.{map-all, own-fault}
 -- ---- what is shown
 
 pub memory-adopts : {A : Type 0} (hash : List ℕ → List ℕ) (a b : Seen) → OnlySaves hash NoneIsBad None a b → OnlyAdopts {A = A} hash (Err (Store Memory)) a b
-memory-adopts hash a b h = record { saves = record { cause = calm-rises a b h.cause; good = h.good; saves = h.saves }; apart = tt }
+memory-adopts hash a b h = record { saves = record { cause = calm-memory a b h.cause; good = h.good; saves = h.saves }; apart = tt }
 
 pub dir-adopts : {A : Type 0} (hash : List ℕ → List ℕ) (fault : DirFault) (a b : Seen) → OnlySaves hash NoneIsBad (dir_fault {A = A} (Err fault)) a b → OnlyAdopts {A = A} hash (Err (of_directory fault)) a b
 dir-adopts hash (dir.Collision x y) a b h = record { saves = h; apart = tt }

@@ -6,7 +6,7 @@ use Rattle.uf_store.specs.Calls.{LoadsNothing}
 use Rattle.uf_store.specs.Faults.{NoneIsBad}
 use Rattle.uf_store.specs.Seen.{Seen}
 use Rattle.uf_store.proofs.Calls.{shown-after}
-use Rattle.uf_store.proofs.Causes.{calm-rises}
+use Rattle.uf_store.proofs.Causes.{calm-memory}
 use Rattle.uf_store.proofs.Keeping.{KeepsGood-trans}
 use Rattle.uf_store.proofs.Writing.{SavesOnly-trans}
 use Rattle.uf_build.specs.Answers.{OnlyBuilds}
@@ -28,7 +28,7 @@ builds-builds {hash} {f} {a} {b} {c} p q = record {
 -- a call that then finds no memory
 pub builds-memory : {hash : List ℕ → List ℕ} {a b : Seen} → OnlyBuilds hash None a b → OnlyBuilds hash (Some Memory) a b
 builds-memory {hash} {a} {b} h = record {
-  cause = calm-rises a b h.cause;
+  cause = calm-memory a b h.cause;
   good = h.good;
   saves = h.saves;
   saving = tt;

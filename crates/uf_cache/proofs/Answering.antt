@@ -12,8 +12,8 @@ use Rattle.uf_store.specs.contracts.store.LoadPartialEq.TheImpl.{eq-value}
 use Rattle.uf_store.specs.Contents.{Told, held_at}
 use Rattle.uf_store.specs.Seen.{Counted, Finds, Loads, Seen, Stays}
 use Rattle.uf_cache.specs.declared.cached.Cached.{Cached}
-use Rattle.uf_cache.specs.Cached.{Hits, KeepsFound, cached_seen, entry_of}
-use Rattle.uf_cache.specs.Entries.{Entries, IsKept, MayKeep, used}
+use Rattle.uf_cache.specs.Cached.{Hits, KeepsFound, Rests, cached_seen, entry_of}
+use Rattle.uf_cache.specs.Entries.{Entries, IsKept, MayKeep, lent_by, used}
 use Rattle.uf_cache.proofs.Finding.{each_some}
 
 -- an answer that equals Found, and one that doesn't
@@ -29,14 +29,14 @@ is_other answer e is =
     let same : eq-value.it Found Found ≡ false = ap (λ (x : Load). eq-value.it x Found) (sym is) ∙ sym e in absurd cc
 
 -- a count that stands still, and one that rises
-still : (n : ℕ) → Counts false n n
+pub still : (n : ℕ) → Counts false n n
 still n = record { later = omega arith; rose = λ h. absurd cc; still = λ h. refl }
 
 risen : (n m : ℕ) → m ≡ min (n + 1) (2 ^ 64 - 1) → n ≤ 2 ^ 64 - 1 → Counts true n m
 risen n m is fits = record { later = omega (arith, is, fits); rose = λ h. omega (arith, is); still = λ h. absurd cc }
 
 -- what is seen with another block lent and another count of finds
-abbrev seen_with : Seen → List ℕ → ℕ → Seen
+abbrev pub seen_with : Seen → List ℕ → ℕ → Seen
 seen_with seen lent finds = record seen { lent = lent; finds = finds }
 
 module _ (hash : List ℕ → List ℕ) (cid : Cid) where
@@ -99,6 +99,15 @@ module _ {S X : Type 0} {G : Ghosts S X} {H : HashGhosts X} (before now : Cached
   hits first untouched lent =
       each_some (entry_of before cid) (λ bytes. Hits cid bytes Found before now)
       (λ bytes is. record { found = refl; lent = lent bytes is; first = first; untouched = untouched })
+
+  -- the block that is lent is lent on
+  pub rests : now.entries ≡ before.entries → now.inner ≡ before.inner → now.lends_first ≡ before.lends_first → Rests Found before now
+  rests same untouched first = record {
+    found = refl;
+    same_lent = λ i. lent_by (first i) (same i) (G.seen (untouched i)).lent;
+    same_entries = same;
+    untouched = untouched;
+  }
 
   pub keeps_found : (answer : Load) → answer ≡ Found → MayKeep cid (cached_seen now).lent before.entries now.entries
       → KeepsFound cid answer before now

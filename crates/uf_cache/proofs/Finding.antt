@@ -15,7 +15,7 @@ use Rattle.uf_cid.specs.declared.cid.Codec.{Codec}
 use Rattle.uf_cid.specs.declared.cid.Codec.TheVariants.{Raw, DagPb}
 use Rattle.uf_cid.specs.declared.cid.Cid.{Cid}
 use Rattle.uf_cid.specs.Cid.{cid_bytes, codec_byte}
-use Rattle.uf_cache.specs.Entries.{Entries, MayKeep, MayPut, MayPutBy, entry_at, first_block, is_spelled, used}
+use Rattle.uf_cache.specs.Entries.{Entries, MayPut, entry_at, first_block, is_spelled, used}
 
 -- ---- CIDs by their bytes
 
@@ -103,14 +103,6 @@ module _ {A E : Type 0} (es now : Entries) (key block bytes : List ℕ) (cid : C
   put_or_left (Ok a) key_is is ok err =
       inl (ok ∙ λ i. lru_cache (put_entries (pointwise nat_eq) es (key_is i) (is i)) es.cap)
   put_or_left (Err e) key_is is ok err = inr err
-
--- a block that may be kept may have been put
-put_by : (codec : Codec) (cid : Cid) (bytes : List ℕ) (es now : Entries) → MayPutBy codec cid bytes es now → MayPut cid bytes es now
-put_by DagPb cid bytes es now may = may
-put_by Raw cid bytes es now same = inr same
-
-pub may_put : (cid : Cid) (bytes : List ℕ) (es now : Entries) → MayKeep cid bytes es now → MayPut cid bytes es now
-may_put cid bytes es now may = put_by cid.codec cid bytes es now may
 
 -- what `promote` did with the entry of a CID
 pub record Promotes (es now : Entries) (cid : Cid) (answer : Bool) : Type 0 where

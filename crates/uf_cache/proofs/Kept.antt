@@ -9,7 +9,7 @@ use Rattle.uf_store.specs.Contents.{Told}
 use Rattle.uf_store.specs.Keeping.{KeepsGood}
 use Rattle.uf_store.proofs.Keeping.{KeepsGood-same}
 use Rattle.uf_cache.specs.Entries.{AreKept, Entries, IsKept, MayKeep, MayPut, is_spelled, used}
-use Rattle.uf_cache.proofs.Finding.{may_put, same_cid, spelled}
+use Rattle.uf_cache.proofs.Finding.{same_cid, spelled}
 
 module _ (hash : List ℕ → List ℕ) where
   -- a store that keeps good blocks holds the entries still
@@ -51,6 +51,6 @@ module _ (hash : List ℕ → List ℕ) where
           ]
       AreKept-put (inr is) c b there = kept c b (moved es is (cid_bytes c, b) there)
 
-      -- a node may have been put, and a leaf wasn't
+      -- a block that was found may have been put
       pub AreKept-kept : MayKeep cid bytes es now → AreKept hash told now
-      AreKept-kept may = AreKept-put (may_put cid bytes es now may)
+      AreKept-kept may = AreKept-put may.put

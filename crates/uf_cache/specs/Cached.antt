@@ -1,5 +1,6 @@
 -- What is seen of a store with a cache over it.
 use Rattle.std.specs.Prelude.{◌≡◌, ℕ, List}
+use Rattle.std.specs.declared.option.Option.{Option}
 use Rattle.uf_cid.specs.declared.cid.Cid.{Cid}
 use Rattle.uf_cid.specs.Blocks.{Lookup}
 use Rattle.uf_cid.specs.declared.hash.BlockHash.{Ghosts as HashGhosts}
@@ -32,6 +33,17 @@ module _ {S X : Type 0} {G : Ghosts S X} {H : HashGhosts X} where
     pub found : answer ≡ Found
     pub lent : (cached_seen now).lent ≡ bytes
     pub first : now.entries ≡ used cid before.entries
+    pub untouched : now.inner ≡ before.inner
+
+  -- the CID of the block that is lent, where it is known
+  abbrev pub lent_cid : Cached S X G H → Option Cid
+  lent_cid c = c.lent
+
+  -- the block that is lent was found, and it is lent on; the entries and the other store are as they were
+  pub record Rests (answer : Load) (before now : Cached S X G H) : Type 0 where
+    pub found : answer ≡ Found
+    pub same_lent : (cached_seen now).lent ≡ (cached_seen before).lent
+    pub same_entries : now.entries ≡ before.entries
     pub untouched : now.inner ≡ before.inner
 
   -- what was found may be kept, and else the entries stay

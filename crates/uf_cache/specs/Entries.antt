@@ -1,12 +1,11 @@
 -- The entries of a cache: blocks under the bytes of their CIDs, the most recently used first.
-use Rattle.std.specs.Prelude.{◌≡◌, ℕ, ◌≤◌, ◌⊎◌, Bool, true, false, List, [], ◌∷◌, length, nat_eq}
+use Rattle.std.specs.Prelude.{◌≡◌, ℕ, ◌≤◌, ◌<◌, ◌⊎◌, Bool, true, false, List, [], ◌∷◌, length, nat_eq}
 use Rattle.std.specs.Prelude.{Contains, Some, IfSome}
 use Rattle.std.specs.Cmp.Lexicographic.{pointwise}
 use Rattle.std.specs.Map.{lookup}
 use Rattle.lru.specs.LruCache.{LruCache, lru_cache, promoted, put_entries}
 use Rattle.uf_cid.specs.declared.cid.Cid.{Cid}
-use Rattle.uf_cid.specs.declared.cid.Codec.{Codec}
-use Rattle.uf_cid.specs.declared.cid.Codec.TheVariants.{DagPb, Raw}
+use Rattle.uf_cid.specs.declared.cid.Codec.TheVariants.{Raw}
 use Rattle.uf_cid.specs.Blocks.{Lookup}
 use Rattle.uf_cid.specs.Cid.{cid_bytes}
 use Rattle.uf_store.specs.Contents.{Told, held_at}
@@ -34,13 +33,15 @@ with_entry cid bytes es = lru_cache (put_entries (pointwise nat_eq) es (cid_byte
 abbrev pub MayPut : Cid → List ℕ → Entries → Entries → Type 0
 MayPut cid bytes before now = (now ≡ with_entry cid bytes before) ⊎ (now ≡ before)
 
--- a node may be put so, and a leaf of raw bytes isn't
-abbrev pub MayPutBy : Codec → Cid → List ℕ → Entries → Entries → Type 0
-MayPutBy DagPb cid bytes before now = MayPut cid bytes before now
-MayPutBy Raw cid bytes before now = now ≡ before
+-- a leaf of raw bytes that is longer than 4 KiB
+pub record IsLongLeaf (cid : Cid) (bytes : List ℕ) : Type 0 where
+  pub raw : cid.codec ≡ Raw
+  pub long : 4096 < length bytes
 
-abbrev pub MayKeep : Cid → List ℕ → Entries → Entries → Type 0
-MayKeep cid bytes before now = MayPutBy cid.codec cid bytes before now
+-- a block that was found may be put so, and a long leaf isn't
+pub record MayKeep (cid : Cid) (bytes : List ℕ) (before now : Entries) : Type 0 where
+  pub put : MayPut cid bytes before now
+  pub long : IsLongLeaf cid bytes → now ≡ before
 
 -- the block of the first entry, where there is one
 abbrev pub first_block : List (List ℕ × List ℕ) → List ℕ → List ℕ

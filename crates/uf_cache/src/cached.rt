@@ -1,31 +1,40 @@
 // A store over another one, with entries in memory.
-ghost use Rattle.std.specs.Prelude.{◌≡◌, ◌≤◌, ◌<◌, ◌+◌, [], None, IfOk, IfSome, length};
+ghost use Rattle.std.specs.Prelude.{◌≡◌, ◌≢◌, ◌≤◌, ◌<◌, ◌+◌, [], None, Some, IfOk, IfSome, length};
 ghost use Rattle.std.proofs.Props.{props};
 ghost use Rattle.lru.specs.LruCache.{lru_cache};
-ghost use Rattle.uf_cache.specs.Entries.{AreKept};
+ghost use Rattle.uf_cache.specs.Entries.{AreKept, IsKept, lent_by};
 ghost use Rattle.uf_store.specs.Seen.{Loads, ReadsNote, Saves, Syncs, WritesNote};
+ghost use Rattle.uf_store.specs.Sweeping.{Sweeps};
 
-use crate::keep::keep;
+use crate::keep::{keep, let_go};
 use lru::LruCache;
 use std::alloc::Global;
 use std::num::NonZeroUsize;
 use std::sync::ledger::Ledger;
-use uf_cid::{Block, Cid, Memory};
+use uf_cid::{Block, Cid, Cids, Codec, Memory};
 use uf_edge::Put;
-use uf_store::{Load, Note, NoteRead, Save, Steps, Store};
+use uf_store::{Load, Note, NoteRead, Save, Steps, Store, Sweep, Swept};
 
-/// A store that keeps the nodes which it found last in memory, and hands all else to another store.
+/// How many CIDs of blocks that will probably be loaded next are handed on at most.
+const MOST_AHEAD: usize = 8;
+
+/// A store that keeps the blocks which it found last in memory, and hands all else to another store.
 ///
 /// An entry is whole, and the other store holds it under its CID, where that one tells. A block that is found is lent
-/// by the store that found it: after a hit that is the first entry.
+/// by the store that found it: after a hit that is the first entry. While it is lent, it is found again without that store,
+/// whether it was kept or not.
 #[derive(Drop)]
 pub struct Cached<S: Store> {
     alloc: Global,
     inner: S,
     entries: LruCache<[u8; 36], Block>,
     lends_first: bool,
+    // The CID of the block that is lent, where it was found and nothing else was asked for since.
+    lent: Option<Cid>,
     finds: u64,
     ghost kept: { AreKept S.X.block32 (S.seen inner).told entries } by { Prim.hlevel props },
+    ghost rests: { IfSome lent (λ cid. IsKept S.X.block32 (S.seen inner).told cid
+        (lent_by lends_first entries (S.seen inner).lent)) } by { Prim.hlevel props },
 }
 
 impl<S: Store + Drop> Cached<S> {
@@ -43,6 +52,7 @@ impl<S: Store + Drop> Cached<S> {
             inner,
             entries: LruCache::new(alloc, most)?,
             lends_first: false,
+            lent: None,
             finds: 0,
         })
     }
@@ -62,7 +72,7 @@ impl<S: Store> Cached<S> {
 }
 
 impl<S: Store> Store for Cached<S> {
-    ghost use Rattle.uf_cache.specs.Cached.{AsksBelow, Hits, PassesOn, cached_seen, entry_of};
+    ghost use Rattle.uf_cache.specs.Cached.{AsksBelow, Hits, PassesOn, Rests, cached_seen, entry_of, lent_cid};
 
     type X = S::X;
 
@@ -72,19 +82,34 @@ impl<S: Store> Store for Cached<S> {
         ensures seen { Loads S.X.block32 cid.now result (cached_seen self.old) (cached_seen self.new) }
         ensures touch { touches.new ≡ touches.old + 1 }
 
-        // A block among the entries is lent from there, and nothing is asked of the other store. All else it answers.
+        // A block among the entries is lent from there, the one that is lent is lent on, and nothing is asked of the other
+        // store. All else it answers.
         ensures hit { IfSome (entry_of self.old cid.now) (λ bytes. Hits cid.now bytes result self.old self.new) }
-        ensures miss { entry_of self.old cid.now ≡ None → AsksBelow S.X.block32 cid.now result self.old self.new }
+        ensures again { entry_of self.old cid.now ≡ None → lent_cid self.old ≡ Some cid.now →
+            Rests result self.old self.new }
+        ensures miss { entry_of self.old cid.now ≡ None → lent_cid self.old ≢ Some cid.now →
+            AsksBelow S.X.block32 cid.now result self.old self.new }
+
+        // A block that is found is the one that is lent.
+        ensures lends { result ≡ Load.Found → lent_cid self.new ≡ Some cid.now }
     {
         if self.entries.promote(&cid.to_binary()) {
             touches.tick();
             self.lends_first = true;
+            self.lent = Some(*cid);
             self.finds = self.finds.saturating_add(1);
             return Load::Found;
         }
+        if self.lent == Some(*cid) {
+            touches.tick();
+            self.finds = self.finds.saturating_add(1);
+            return Load::Found;
+        }
+        self.lent = None;
         let answer = self.inner.load(cid, touches);
         if answer == Load::Found {
             self.lends_first = false;
+            self.lent = Some(*cid);
             self.finds = self.finds.saturating_add(1);
             keep(self.alloc, &mut self.entries, cid, self.inner.block());
         }
@@ -105,6 +130,7 @@ impl<S: Store> Store for Cached<S> {
         ensures touch { touches.new ≡ touches.old + 1 }
         ensures below { PassesOn (Saves S.X.block32 cid.now bytes.now result) self.old self.new }
     {
+        self.lent = None;
         let answer = self.inner.save(cid, bytes, touches);
         if answer == Save::Clash {
             self.lends_first = false;
@@ -116,6 +142,7 @@ impl<S: Store> Store for Cached<S> {
         ensures seen { Syncs result (cached_seen self.old) (cached_seen self.new) }
         ensures below { PassesOn (Syncs result) self.old self.new }
     {
+        self.lent = None;
         self.inner.sync()
     }
 
@@ -123,6 +150,7 @@ impl<S: Store> Store for Cached<S> {
         ensures seen { ReadsNote which result (cached_seen self.old) (cached_seen self.new) }
         ensures below { PassesOn (ReadsNote which result) self.old self.new }
     {
+        self.lent = None;
         self.inner.read_note(which)
     }
 
@@ -130,6 +158,42 @@ impl<S: Store> Store for Cached<S> {
         ensures seen { WritesNote which bytes.now result (cached_seen self.old) (cached_seen self.new) }
         ensures below { PassesOn (WritesNote which bytes.now result) self.old self.new }
     {
+        self.lent = None;
         self.inner.write_note(which, bytes)
+    }
+
+    fn foresee(&mut self, cids: &[Cid])
+        ensures seen { cached_seen self.new ≡ cached_seen self.old }
+        ensures below { PassesOn (λ before now. now ≡ before) self.old self.new }
+    {
+        let mut next = [Cid {
+            codec: Codec::Raw,
+            digest: [0u8; 32],
+        }; MOST_AHEAD];
+        let mut count = 0;
+        for cid in cids {
+            if count < MOST_AHEAD && !self.entries.contains(&cid.to_binary()) {
+                next[count] = *cid;
+                count += 1;
+            }
+        }
+        self.inner.foresee(&next[..count]);
+    }
+}
+
+impl<S: Sweep> Sweep for Cached<S> {
+    ghost use Rattle.uf_cache.specs.Cached.{cached_seen, entries_of, inner_seen};
+
+    fn sweep(&mut self, kept: &Cids) -> Swept
+        ensures swept { Sweeps kept.now result (cached_seen self.old) (cached_seen self.new) }
+
+        // The other store is swept, and whatever it answers, no block is among the entries.
+        ensures below { Sweeps kept.now result (inner_seen self.old) (inner_seen self.new) }
+        ensures entries { (entries_of self.new).entries ≡ [] }
+    {
+        let_go(&mut self.entries);
+        self.lends_first = false;
+        self.lent = None;
+        self.inner.sweep(kept)
     }
 }

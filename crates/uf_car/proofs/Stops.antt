@@ -10,7 +10,7 @@ use Rattle.uf_store.specs.declared.store.StoreFault.TheVariants.{Memory}
 use Rattle.uf_store.specs.declared.store.StoreFault.TheVariants as store
 use Rattle.uf_store.specs.Keeping.{HoldsOne}
 use Rattle.uf_store.proofs.Calls.{shown-after}
-use Rattle.uf_store.proofs.Causes.{StaysCalm-refl, calm-rises}
+use Rattle.uf_store.proofs.Causes.{StaysCalm-refl, calm-memory}
 use Rattle.uf_store.proofs.Keeping.{KeepsGood-refl, KeepsGood-trans}
 use Rattle.uf_store.proofs.Writing.{SavesOnly-refl, SavesOnly-trans}
 use Rattle.uf_car.specs.declared.fault.CarFault.{CarFault}
@@ -57,7 +57,7 @@ module _ (hash : List ℕ → List ℕ) where
   nothing_asked s = record { cause = StaysCalm-refl s; saving = tt; good = KeepsGood-refl hash s.told; saves = SavesOnly-refl hash s.told }
 
   no_memory : (s : Seen) → OnlyImports hash (Some Memory) s s
-  no_memory s = record { cause = calm-rises s s (StaysCalm-refl s); saving = tt; good = KeepsGood-refl hash s.told; saves = SavesOnly-refl hash s.told }
+  no_memory s = record { cause = calm-memory s s (StaysCalm-refl s); saving = tt; good = KeepsGood-refl hash s.told; saves = SavesOnly-refl hash s.told }
 
   -- nor where a fault is one of the bytes, or there was no memory
   pub unasked : (f : CarFault) (s : Seen) → IsOfInput f → OnlyImports hash (store_fault f) s s

@@ -9,7 +9,7 @@ use uf_cid::Memory;
 use uf_edge::{Read, Source};
 
 // Whether a source may give more.
-#[derive(Clone, Copy, Debug, PartialEq, Eq)]
+#[derive(Clone, Copy, PartialEq, Eq)]
 pub enum Supply {
     Open,
     // It has ended.
@@ -19,7 +19,7 @@ pub enum Supply {
 }
 
 // Whether as many bytes are there as were wanted.
-#[derive(Clone, Copy, Debug, PartialEq, Eq)]
+#[derive(Clone, Copy, PartialEq, Eq)]
 pub enum Fill {
     Enough,
     Short,

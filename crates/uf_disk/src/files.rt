@@ -1,5 +1,5 @@
 // Whole files and folders of the machine.
-ghost use Rattle.std.specs.Prelude.{◌≡◌, ◌≤◌, length, vec_len, IfOk, OnOk};
+ghost use Rattle.std.specs.Prelude.{◌≡◌, ◌≤◌, ◌+◌, length, vec_len, IfOk, OnOk};
 
 use std::alloc::{AllocError, AllocFailed};
 use std::fs::{Files, OpenFile, OpenOptions};
@@ -64,6 +64,24 @@ pub fn read_file<R: Files>(
     buffer.resize(length, 0)?;
     let mut file = fs::open(files, path)?;
     file.read_exact(buffer.as_mut_slice())?;
+    Ok(())
+}
+
+/// Reads so many bytes of a file behind those of a buffer.
+pub fn append_from<R: Files>(
+    files: &R,
+    path: &str,
+    size: usize,
+    buffer: &mut Vec<u8>,
+) -> Result<(), Trouble>
+    requires small { size ≤ 2097152 }
+    ensures ok { OnOk result (vec_len buffer.new ≡ vec_len buffer.old + size) }
+    ensures more { vec_len buffer.old ≤ vec_len buffer.new }
+{
+    let before = buffer.len();
+    buffer.resize(before + size, 0)?;
+    let mut file = fs::open(files, path)?;
+    file.read_exact(&mut buffer[before..])?;
     Ok(())
 }
 
@@ -137,4 +155,26 @@ pub fn sync_folder<R: Files>(files: &R, path: &str) -> Result<(), Trouble> {
     let folder = fs::open(files, path)?;
     folder.sync_all()?;
     Ok(())
+}
+
+/// Takes the file at a path away: whether one was there. A link to a file goes, and the file stays; anything else that is
+/// there stays.
+pub fn remove_file<R: Files>(files: &R, path: &str) -> Result<bool, Trouble> {
+    if !is_file(files, path)? {
+        return Ok(false);
+    }
+    match fs::remove_file(files, path) {
+        Ok(()) => Ok(true),
+        Err(error) if error.kind() == ErrorKind::NotFound => Ok(false),
+        Err(error) => Err(Trouble::from(error)),
+    }
+}
+
+// Whether there is a file at a path.
+fn is_file<R: Files>(files: &R, path: &str) -> Result<bool, Trouble> {
+    match fs::metadata(files, path) {
+        Ok(found) => Ok(found.is_file()),
+        Err(error) if error.kind() == ErrorKind::NotFound => Ok(false),
+        Err(error) => Err(Trouble::from(error)),
+    }
 }

@@ -2,6 +2,7 @@
 //! streams. They count what fails, and tell nothing of what they hold.
 #![tactic(auto)]
 
+mod ahead;
 #[cfg(test)]
 mod failing;
 mod files;

@@ -3,6 +3,7 @@ ghost use Rattle.std.specs.Prelude.{◌≡◌, ◌≤◌, ◌+◌, length, IfOk,
 ghost use Rattle.uf_store.specs.Contents.{Contents};
 ghost use Rattle.uf_store.specs.Seen.{Loads, ReadsNote, Saves, Syncs, Writes, WritesNote};
 
+use crate::ahead::Ahead;
 use crate::files::Trouble;
 use crate::folder::{Folder, Held};
 use std::alloc::Global;
@@ -11,9 +12,9 @@ use std::marker::PhantomData;
 use std::mem;
 use std::random::RandomSource;
 use std::sync::ledger::Ledger;
-use uf_cid::{Block, BlockHash, Cid};
+use uf_cid::{Block, BlockHash, Cid, Cids};
 use uf_edge::Put;
-use uf_store::{Load, Note, NoteRead, Save, Steps, Store};
+use uf_store::{Load, Note, NoteRead, Save, Steps, Store, Sweep, Swept};
 
 /// Keeps blocks and notes in the folder `.unixfs` of the working folder, which it makes at the first write. It tells
 /// nothing of what is there.
@@ -28,6 +29,7 @@ pub struct DiskStore<X: BlockHash, R> {
     alloc: Global,
     lent: Vec<u8>,
     read: Vec<u8>,
+    ahead: Ahead<X>,
     finds: u64,
     misses: u64,
     faults: u64,
@@ -48,6 +50,7 @@ impl<X: BlockHash, R> DiskStore<X, R> {
             alloc,
             lent: Vec::new(alloc),
             read: Vec::new(alloc),
+            ahead: Ahead::new(alloc),
             finds: 0,
             misses: 0,
             faults: 0,
@@ -117,6 +120,11 @@ impl<X: BlockHash, R: Files + RandomSource> Store for DiskStore<X, R> {
 
     fn load<L: Ledger>(&mut self, cid: &Cid, touches: &mut Steps<L>) -> Load {
         touches.tick();
+        if self.ahead.copy(cid, &mut self.read) {
+            mem::swap(&mut self.lent, &mut self.read);
+            self.finds = self.finds.saturating_add(1);
+            return Load::Found;
+        }
         match self.folder.read_block(cid, &mut self.read) {
             Ok(Held::Nothing) => {
                 self.misses = self.misses.saturating_add(1);
@@ -175,5 +183,24 @@ impl<X: BlockHash, R: Files + RandomSource> Store for DiskStore<X, R> {
     fn write_note(&mut self, which: Note, bytes: &[u8]) -> Put {
         let put = self.folder.put_note(which, bytes);
         self.answer(put)
+    }
+
+    fn foresee(&mut self, cids: &[Cid]) {
+        self.ahead.read(&self.folder, cids);
+    }
+}
+
+impl<X: BlockHash, R: Files + RandomSource> Sweep for DiskStore<X, R> {
+    fn sweep(&mut self, kept: &Cids) -> Swept {
+        self.lent.clear();
+        self.ahead.forget();
+        match self.folder.sweep(kept) {
+            Ok(count) => Swept::Done(count),
+            Err(Trouble::Failed) => {
+                self.faults = self.faults.saturating_add(1);
+                Swept::Failed
+            }
+            Err(Trouble::Memory) => Swept::Memory,
+        }
     }
 }

@@ -12,9 +12,9 @@ use std::marker::Brand;
 use std::random::RandomSource;
 use std::sync::ledger::{Blank, Ledger};
 use std::{fs, io};
-use uf_cid::{BlockHash, Cid, Codec, Sha256Hash, Sum8Hash};
+use uf_cid::{BlockHash, Cid, Cids, Codec, Sha256Hash, Sum8Hash};
 use uf_edge::{Fetched, Host, Kind, Listing, Put};
-use uf_store::{Load, Note, NoteRead, Save, Steps, Store};
+use uf_store::{Load, Note, NoteRead, Save, Steps, Store, Sweep, Swept};
 
 // What is done with a store or with its files, and what is to come of it.
 #[derive(Clone, Copy)]
@@ -27,11 +27,18 @@ enum Step {
     Syncs(Put),
     Reads(Note, Text),
     Writes(Put),
+    // The blocks `a` and `b` are foreseen.
+    Foresees,
+    // All goes but for these blocks.
+    Sweeps(&'static [&'static [u8]], Swept),
     // A text is put in the place of the file of the block `a`, or the file is made too long, or a folder stands there.
     Spoils,
     Lengthens,
     Blocks,
     Frees,
+    // A file of another name stands beside the block `a`, and it is still there.
+    Adds,
+    IsThere,
     // A file that a killed run left half written, and that there is none.
     Leaves,
     IsClean,
@@ -90,6 +97,46 @@ const CLEARS: [Step; 4] = [
     Step::IsClean,
 ];
 
+// Blocks that are foreseen are found without their files; one whose file isn't its CID's isn't.
+const FORESEES: [Step; 13] = [
+    Step::Saves(b"a", Save::Done),
+    Step::Saves(b"b", Save::Done),
+    Step::Foresees,
+    Step::Spoils,
+    Step::Loads(b"a", Load::Found),
+    Step::Lends(b"a"),
+    Step::Loads(b"b", Load::Found),
+    Step::Lends(b"b"),
+    Step::Anew,
+    Step::Foresees,
+    Step::Loads(b"a", Load::Damaged),
+    Step::Saves(b"a", Save::Done),
+    Step::Loads(b"a", Load::Found),
+];
+
+// A sweep takes away what isn't kept, also what was foreseen, and leaves what is no block's file.
+const SWEEPS: [Step; 19] = [
+    Step::Saves(b"a", Save::Done),
+    Step::Saves(b"b", Save::Done),
+    Step::Adds,
+    Step::Foresees,
+    Step::Loads(b"b", Load::Found),
+    Step::Sweeps(&[b"b"], Swept::Done(1)),
+    Step::Lends(b""),
+    Step::Loads(b"a", Load::Missing),
+    Step::Loads(b"b", Load::Found),
+    Step::IsThere,
+    Step::Anew,
+    Step::Loads(b"a", Load::Missing),
+    Step::Saves(b"a", Save::Done),
+    Step::Blocks,
+    Step::Sweeps(&[], Swept::Done(1)),
+    Step::Loads(b"a", Load::Failed),
+    Step::Frees,
+    Step::Loads(b"b", Load::Missing),
+    Step::IsThere,
+];
+
 // Another block of the same digest is met and lent.
 const CLASHES: [Step; 3] = [
     Step::Saves(b"ab", Save::Done),
@@ -120,6 +167,16 @@ const TORN: [Step; 3] = [
     Step::Loads(b"a", Load::Failed),
     Step::Reads(Note::Head, Text::Unread),
 ];
+
+// Two blocks, of which `b` is to go.
+const TWO: [Step; 3] = [
+    Step::Saves(b"a", Save::Done),
+    Step::Saves(b"b", Save::Done),
+    Step::Syncs(Put::Done),
+];
+
+// The one that is kept stays.
+const STAYS: [Step; 1] = [Step::Loads(b"a", Load::Found)];
 
 // They can be done again, and nothing that was begun is left.
 const AGAIN: [Step; 6] = [
@@ -153,6 +210,15 @@ fn path_of_a(alloc: Global) -> io::Result<String> {
     }
 }
 
+// The path of a file beside it that has no block's name.
+fn path_beside_a(alloc: Global) -> io::Result<String> {
+    let mut path = path_of_a(alloc)?;
+    if path.push('x').is_err() {
+        return Err(io::Error::from(io::ErrorKind::OutOfMemory));
+    }
+    Ok(path)
+}
+
 // Does what is done with the files.
 fn sets<R: Files>(alloc: Global, files: &R, step: &Step) -> io::Result<bool> {
     let path = path_of_a(alloc)?;
@@ -165,6 +231,8 @@ fn sets<R: Files>(alloc: Global, files: &R, step: &Step) -> io::Result<bool> {
             fs::create_dir(files, path)?;
         }
         Step::Frees => fs::remove_dir(files, path)?,
+        Step::Adds => fs::write(files, path_beside_a(alloc)?.as_str(), "text")?,
+        Step::IsThere => return fs::exists(files, path_beside_a(alloc)?.as_str()),
         Step::Leaves => fs::write(files, HALF_WRITTEN, "half")?,
         Step::IsClean => return Ok(!fs::exists(files, HALF_WRITTEN)?),
         Step::Closes => {
@@ -188,6 +256,21 @@ fn saves<X: BlockHash, L: Ledger, R: Files + RandomSource>(
     store.save(&cid_of_raw::<X>(bytes), bytes, touches)
 }
 
+// Sweeps all away but for these blocks.
+fn sweeps<X: BlockHash, R: Files + RandomSource>(
+    alloc: Global,
+    store: &mut DiskStore<X, &R>,
+    blocks: &[&[u8]],
+) -> io::Result<Swept> {
+    let mut kept = Cids::new(alloc);
+    for bytes in blocks {
+        if kept.push(cid_of_raw::<X>(*bytes)).is_err() {
+            return Err(io::Error::from(io::ErrorKind::OutOfMemory));
+        }
+    }
+    Ok(store.sweep(&kept))
+}
+
 // Whether a step goes so.
 fn goes<'a, X: BlockHash, L: Ledger, R: Files + RandomSource>(
     alloc: Global,
@@ -203,6 +286,8 @@ fn goes<'a, X: BlockHash, L: Ledger, R: Files + RandomSource>(
         }
         Step::Lends(bytes) => return Ok(store.block() == *bytes),
         Step::Saves(bytes, answer) => return Ok(saves(store, *bytes, touches) == *answer),
+        Step::Foresees => store.foresee(&[cid_of_raw::<X>(b"a"), cid_of_raw::<X>(b"b")]),
+        Step::Sweeps(kept, answer) => return Ok(sweeps(alloc, store, *kept)? == *answer),
         Step::Syncs(answer) => return Ok(store.sync() == *answer),
         Step::Reads(which, text) => return Ok(text_of(store.read_note(*which)) == *text),
         Step::Writes(answer) => return Ok(store.write_note(Note::Head, b"text") == *answer),
@@ -268,12 +353,46 @@ fn first_lost<L: Ledger, R: Files + RandomSource>(
     Ok(None)
 }
 
-// Which tables are right, and the first call of the machine whose failure isn't survived.
+// Where the call of the machine with this number fails, a sweep fails, and the block that is kept stays.
+fn survives_sweep<L: Ledger, R: Files + RandomSource>(
+    alloc: Global,
+    files: &R,
+    number: u64,
+    touches: &mut Steps<L>,
+) -> io::Result<bool> {
+    let stood = are_right::<Sha256Hash, L, R>(alloc, files, &TWO, touches)?;
+    let failing = Failing::new(files, number);
+    let mut store = DiskStore::<Sha256Hash, &Failing<'_, R>>::new(alloc, &failing);
+    let swept = sweeps(alloc, &mut store, &[b"a"])?;
+    let wanted = if failing.has_failed() {
+        Swept::Failed
+    } else {
+        Swept::Done(1)
+    };
+    let stays = are_right::<Sha256Hash, L, R>(alloc, files, &STAYS, touches)?;
+    Ok(stood && swept == wanted && stays)
+}
+
+// The first call of the machine whose failure a sweep doesn't survive. It looks into 256 folders.
+fn first_lost_by_sweep<L: Ledger, R: Files + RandomSource>(
+    alloc: Global,
+    files: &R,
+    touches: &mut Steps<L>,
+) -> io::Result<Option<u64>> {
+    for number in 0..264 {
+        if !survives_sweep(alloc, files, number, touches)? {
+            return Ok(Some(number));
+        }
+    }
+    Ok(None)
+}
+
+// Which tables are right, and the first calls of the machine whose failure isn't survived.
 fn outcome_by<L: Ledger, R: Files + RandomSource>(
     alloc: Global,
     files: &R,
     blank: Blank,
-) -> io::Result<([bool; 5], Option<u64>)>
+) -> io::Result<([bool; 7], Option<u64>, Option<u64>)>
     requires name { blank.name ≡ L.name }
     requires parts { blank.parts ≡ L.parts }
     requires some { 0 < blank.parts }
@@ -282,22 +401,31 @@ fn outcome_by<L: Ledger, R: Files + RandomSource>(
     let keeps = are_right::<Sha256Hash, L, R>(alloc, files, &KEEPS, &mut touches)?;
     let mends = are_right::<Sha256Hash, L, R>(alloc, files, &MENDS, &mut touches)?;
     let clears = are_right::<Sha256Hash, L, R>(alloc, files, &CLEARS, &mut touches)?;
+    let foresees = are_right::<Sha256Hash, L, R>(alloc, files, &FORESEES, &mut touches)?;
+    let sweeps = are_right::<Sha256Hash, L, R>(alloc, files, &SWEEPS, &mut touches)?;
+    let lost_by_sweep = first_lost_by_sweep(alloc, files, &mut touches)?;
     let clashes = are_right::<Sum8Hash, L, R>(alloc, files, &CLASHES, &mut touches)?;
     let lost = first_lost(alloc, files, &mut touches)?;
     let refuses = are_right::<Sha256Hash, L, R>(alloc, files, &REFUSES, &mut touches)?;
-    Ok(([keeps, mends, clears, clashes, refuses], lost))
+    Ok((
+        [keeps, mends, clears, foresees, sweeps, clashes, refuses],
+        lost_by_sweep,
+        lost,
+    ))
 }
 
 fn outcome<R: Files + RandomSource>(
     alloc: Global,
     files: &R,
-) -> io::Result<([bool; 5], Option<u64>)> {
+) -> io::Result<([bool; 7], Option<u64>, Option<u64>)> {
     outcome_by::<Brand, R>(alloc, files, Blank::new(1))
 }
 
 #[test]
-fn a_store_keeps_mends_clears_clashes_refuses_and_survives(rt: HostRuntime) -> io::Result<()> {
-    assert_eq!(rt; outcome(rt.alloc(), &rt)?, ([true; 5], None));
+fn a_store_keeps_mends_clears_foresees_sweeps_clashes_refuses_and_survives(
+    rt: HostRuntime,
+) -> io::Result<()> {
+    assert_eq!(rt; outcome(rt.alloc(), &rt)?, ([true; 7], None, None));
     Ok(())
 }
 

@@ -1,7 +1,7 @@
 // What the root block of a file says of it.
 
 /// How many bytes a file has, and how many links its root block: none where that is a raw block.
-#[derive(Clone, Copy, Debug, PartialEq, Eq, Drop)]
+#[derive(Clone, Copy, PartialEq, Eq, Drop)]
 pub struct FileSize {
     pub length: u64,
     pub links: u64,

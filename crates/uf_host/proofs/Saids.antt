@@ -15,7 +15,7 @@ use Rattle.uf_store.specs.Faults.{NoneIsBad, Shown}
 use Rattle.uf_store.specs.Seen.{Seen}
 use Rattle.uf_store.specs.declared.store.StoreFault.{StoreFault}
 use Rattle.uf_store.specs.declared.store.StoreFault.TheVariants.{Failed, Damaged, Missing, BadBlock, Clash, Memory}
-use Rattle.uf_store.proofs.Causes.{StaysCalm-refl, calm-rises}
+use Rattle.uf_store.proofs.Causes.{StaysCalm-refl, calm-memory}
 use Rattle.uf_store.proofs.Keeping.{KeepsGood-refl}
 use Rattle.uf_store.proofs.Writing.{SavesOnly-refl}
 use Rattle.uf_host.specs.Adding.{IsRefusal, IsSaid}
@@ -82,7 +82,7 @@ pub bare-saves : (P : HostFault → Type 0) (X : List ℕ → List ℕ) (f : Hos
 bare-saves P X f a h = record { cause = by f h; good = KeepsGood-refl X a.told; saves = SavesOnly-refl X a.told }
   where
     memory-shown : (s : StoreFault) → s ≡ Memory → Shown X NoneIsBad (Some s) a a
-    memory-shown s e = subst (λ (s : StoreFault). Shown X NoneIsBad (Some s) a a) (sym e) (calm-rises a a (StaysCalm-refl a))
+    memory-shown s e = subst (λ (s : StoreFault). Shown X NoneIsBad (Some s) a a) (sym e) (calm-memory a a (StaysCalm-refl a))
 
     by : (f : HostFault) → IsSaidOrBare P f → Shown X NoneIsBad (store_part f) a a
     by Absent h = StaysCalm-refl a
@@ -108,7 +108,7 @@ directory-saves A B X (directory.Store fault) a b cause good saves = record { ca
 
 -- what was saved, and then want of memory
 pub memory-stop : (X : List ℕ → List ℕ) (a b : Seen) → OnlySaves X NoneIsBad None a b → OnlySaves X NoneIsBad (Some Memory) a b
-memory-stop X a b h = record { cause = calm-rises a b h.cause; good = h.good; saves = h.saves }
+memory-stop X a b h = record { cause = calm-memory a b h.cause; good = h.good; saves = h.saves }
 
 -- ---- where folders aren't asked for
 

@@ -21,7 +21,7 @@ use Rattle.uf_store.specs.Contents.{Contents, Told}
 use Rattle.uf_store.specs.Faults.{NoneIsBad}
 use Rattle.uf_store.specs.Seen.{Seen}
 use Rattle.uf_store.specs.declared.store.StoreFault.{StoreFault}
-use Rattle.uf_store.proofs.Causes.{calm-rises}
+use Rattle.uf_store.proofs.Causes.{calm-memory}
 use Rattle.uf_tree.specs.Tree.{Dir, Entries, File, Tree}
 use Rattle.uf_host.specs.Faults.{edge_fault, fault_of_reading}
 use Rattle.uf_host.specs.Places.{ChangesAt, ChangesIn, IsBelow, IsOfHost, MakesFolderAt, Puts, PutsFile, PutsFirst, PutAt, StopsWriting, places_in, places_of, with_places}
@@ -73,7 +73,7 @@ host-stops (faults.Dag fault) own = absurd own
 
 pub host-shown : (hash : List ℕ → List ℕ) (why : HostFault) (a b : Seen) → IsOfHost why → OnlyReads hash NoneIsBad None a b → OnlyReads hash NoneIsBad (edge_fault {A = Unit {0}} (Err why)) a b
 host-shown hash faults.Write a b own h = h
-host-shown hash (faults.Store fault) a b own h = subst (λ f. OnlyReads hash NoneIsBad (Some f) a b) (sym own) (record { cause = calm-rises a b h.cause; told = h.told })
+host-shown hash (faults.Store fault) a b own h = subst (λ f. OnlyReads hash NoneIsBad (Some f) a b) (sym own) (record { cause = calm-memory a b h.cause; told = h.told })
 host-shown hash faults.Absent a b own h = absurd own
 host-shown hash faults.NeedsRecursive a b own h = absurd own
 host-shown hash (faults.Other path) a b own h = absurd own

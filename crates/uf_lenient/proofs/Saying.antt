@@ -11,7 +11,7 @@ use Rattle.uf_store.specs.Faults.{NoneIsBad, Shown, Shows, StaysCalm}
 use Rattle.uf_store.specs.declared.store.StoreFault.{StoreFault}
 use Rattle.uf_store.specs.declared.store.StoreFault.TheVariants.{Memory}
 use Rattle.uf_store.specs.Seen.{Seen}
-use Rattle.uf_store.proofs.Causes.{StaysCalm-refl, calm-rises}
+use Rattle.uf_store.proofs.Causes.{StaysCalm-refl, calm-memory}
 use Rattle.uf_lenient.specs.declared.fault.DagFault.{DagFault}
 use Rattle.uf_lenient.specs.declared.fault.DagFault.TheVariants.{Store}
 use Rattle.uf_lenient.specs.Answers.{IsBare, IsFault, dag_fault, store_fault_of}
@@ -74,7 +74,7 @@ held-so P hash (Some t) p = p (held_at t) (record { holds = λ c block is same. 
 
 -- a fault that isn't the store's shows nothing but that the store has stayed calm, and want of memory no more
 memory_shown : (hash : List ℕ → List ℕ) (fault : StoreFault) (a b : Seen) → fault ≡ Memory → StaysCalm a b → Shows hash NoneIsBad fault a b
-memory_shown hash fault a b is p = subst (λ f. Shows hash NoneIsBad f a b) (sym is) (calm-rises a b p)
+memory_shown hash fault a b is p = subst (λ f. Shows hash NoneIsBad f a b) (sym is) (calm-memory a b p)
 
 bare_shown : (hash : List ℕ → List ℕ) (fault : DagFault) (a b : Seen) → IsBare fault → StaysCalm a b → Shown hash NoneIsBad (store_fault_of fault) a b
 bare_shown hash (Store fault) a b bare p = memory_shown hash fault a b bare p
@@ -87,7 +87,7 @@ bare-reads hash (Err fault) a b bare h = record { cause = bare_shown hash fault 
 
 -- want of memory behind a call that had no fault
 pub memory-reads : (hash : List ℕ → List ℕ) (a b : Seen) → OnlyReads hash NoneIsBad None a b → OnlyReads hash NoneIsBad (Some Memory) a b
-memory-reads hash a b h = record { cause = calm-rises a b h.cause; told = h.told }
+memory-reads hash a b h = record { cause = calm-memory a b h.cause; told = h.told }
 
 -- nothing was read
 pub none-read : (hash : List ℕ → List ℕ) (a : Seen) → OnlyReads hash NoneIsBad None a a

@@ -5,7 +5,7 @@ use uf_tree::Name;
 
 /// How far a reading goes: at most so many links below its start, and so many visits, where a block that is linked
 /// twice counts twice.
-#[derive(Clone, Copy, Debug, PartialEq, Eq)]
+#[derive(Clone, Copy, PartialEq, Eq)]
 pub struct Limits {
     pub depth: u32,
     pub visits: u32,

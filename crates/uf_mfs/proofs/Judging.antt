@@ -13,7 +13,7 @@ use Rattle.uf_store.specs.Contents.{Told}
 use Rattle.uf_store.specs.Faults.{Shown, Shows, StaysCalm}
 use Rattle.uf_store.specs.Seen.{Seen}
 use Rattle.uf_store.proofs.Calls.{shown-by}
-use Rattle.uf_store.proofs.Causes.{Shows-after, StaysCalm-trans, calm-rises}
+use Rattle.uf_store.proofs.Causes.{Shows-after, StaysCalm-trans, calm-memory}
 use Rattle.uf_tree.specs.declared.nodes.Entry.{Entry}
 use Rattle.uf_tree.specs.declared.profile.Head.{Head}
 use Rattle.uf_tree.specs.declared.profile.Profile.{Profile}
@@ -159,5 +159,5 @@ pub in-tree-told : (A B : Type 0) (X : List ℕ → List ℕ) (P : Role → List
 in-tree-told A B X P names (stop.Refused why) (fault.Rule rule) a b t h = h
 in-tree-told A B X P names (stop.Refused why) (fault.Ready ready) a b t h = absurd t
 in-tree-told A B X P names (stop.Refused why) fault.Sink a b t h = absurd t
-in-tree-told A B X P names (stop.Refused why) (fault.Store f) a b t h = subst (λ (f : StoreFault). Shows X P f a b) (sym t) (calm-rises a b h)
+in-tree-told A B X P names (stop.Refused why) (fault.Store f) a b t h = subst (λ (f : StoreFault). Shows X P f a b) (sym t) (calm-memory a b h)
 in-tree-told A B X P names (stop.Store g) f a b t h = subst (λ (f : MfsFault). ShownInTree X P {A = B} (Err f) a b) (sym t) h

@@ -19,7 +19,7 @@ use Rattle.uf_store.specs.Faults.{Shown, Shows, StaysCalm}
 use Rattle.uf_store.specs.Keeping.{Agrees}
 use Rattle.uf_store.specs.Lost.{IsFirstLost, IsLossOf, IsLost}
 use Rattle.uf_store.specs.Seen.{Seen}
-use Rattle.uf_store.proofs.Causes.{Shows-after, Shows-by, Shows-rises, calm-rises}
+use Rattle.uf_store.proofs.Causes.{Shows-after, Shows-by, Shows-rises, calm-memory}
 use Rattle.uf_tree.specs.declared.nodes.Entry.{Entry}
 use Rattle.uf_tree.specs.declared.profile.Profile.{Profile}
 use Rattle.uf_tree.specs.FilePlan.{file_plan, groups}
@@ -280,7 +280,7 @@ module _ (hash : List ℕ → List ℕ) (N : List ℕ → ℕ) (told : Told) (ro
   stopped-shows names (stop.Refused why) (fault.Ready ready) a b n t h = absurd t
   stopped-shows names (stop.Refused why) fault.Sink a b n t h = absurd t
   stopped-shows names (stop.Refused why) (fault.Store f) a b n t h =
-      subst (λ f. ShownSending {A = ℕ} hash (IsBadRead hash N told root) (Err (fault.Store f)) a b n n) (sym t) (calm-rises a b h, refl)
+      subst (λ f. ShownSending {A = ℕ} hash (IsBadRead hash N told root) (Err (fault.Store f)) a b n n) (sym t) (calm-memory a b h, refl)
   stopped-shows names (stop.Store g) f a b n t h = subst (λ f. ShownSending {A = ℕ} hash (IsBadRead hash N told root) (Err f) a b n n) (sym t) (way-shows g a b h, refl)
 
   pub calm-calm : (a b c : Seen) → StaysCalm a b → StaysCalm b c → StaysCalm a c

@@ -9,7 +9,7 @@ use Rattle.uf_store.specs.declared.store.Role.{Role}
 use Rattle.uf_store.specs.Calls.{OnlyReads, OnlySaves}
 use Rattle.uf_store.specs.Contents.{Told}
 use Rattle.uf_store.specs.Faults.{Shows}
-use Rattle.uf_store.proofs.Causes.{calm-rises}
+use Rattle.uf_store.proofs.Causes.{calm-memory}
 use Rattle.uf_store.proofs.Calls.{reads-by, reads-reads, shown-rises}
 use Rattle.uf_store.specs.Lost.{IsLossOf}
 use Rattle.uf_store.specs.Seen.{Seen}
@@ -133,7 +133,7 @@ tells-fault A B hash Bad names (stop.Refused why) (fault.Rule rule) a b t h = re
 tells-fault A B hash Bad names (stop.Refused why) (fault.Ready ready) a b t h = absurd t
 tells-fault A B hash Bad names (stop.Refused why) fault.Sink a b t h = absurd t
 tells-fault A B hash Bad names (stop.Refused why) (fault.Store f) a b t h = record {
-  reads = record { cause = subst (λ f. Shows hash Bad f a b) (sym t) (calm-rises a b h.cause); told = h.told };
+  reads = record { cause = subst (λ f. Shows hash Bad f a b) (sym t) (calm-memory a b h.cause); told = h.told };
   in_tree = tt;
 }
 tells-fault A B hash Bad names (stop.Store g) f a b t h = subst (λ f. ReadsTree {A = B} hash Bad (Err f) a b) (sym t) (record { reads = h; in_tree = tt })
@@ -145,7 +145,7 @@ tells-saves A B hash Bad names (stop.Refused why) (fault.Rule rule) a b t h = re
 tells-saves A B hash Bad names (stop.Refused why) (fault.Ready ready) a b t h = absurd t
 tells-saves A B hash Bad names (stop.Refused why) fault.Sink a b t h = absurd t
 tells-saves A B hash Bad names (stop.Refused why) (fault.Store f) a b t h = record {
-  saves = record { cause = subst (λ f. Shows hash Bad f a b) (sym t) (calm-rises a b h.cause); good = h.good; saves = h.saves };
+  saves = record { cause = subst (λ f. Shows hash Bad f a b) (sym t) (calm-memory a b h.cause); good = h.good; saves = h.saves };
   in_tree = tt;
 }
 tells-saves A B hash Bad names (stop.Store g) f a b t h = subst (λ f. EditsTree {A = B} hash Bad (Err f) a b) (sym t) (record { saves = h; in_tree = tt })

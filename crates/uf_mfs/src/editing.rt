@@ -34,7 +34,7 @@ use uf_store::{Steps, Store};
 use uf_tree::{Entry, Name, Profile};
 
 /// An edit on its way: how blocks are made, what is done, and how many names led here.
-#[derive(Clone, Copy, Debug, PartialEq, Eq)]
+#[derive(Clone, Copy, PartialEq, Eq)]
 pub(crate) struct Site {
     pub profile: Profile,
     pub what: Change,

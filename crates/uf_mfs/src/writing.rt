@@ -50,7 +50,7 @@ use uf_store::{Steps, Store, StoreFault, save_block};
 use uf_tree::{Entry, Name, Profile};
 
 /// An edit of a file on its way: how blocks are made, what is done, with which piece, and how many names led here.
-#[derive(Clone, Copy, Debug, PartialEq, Eq)]
+#[derive(Clone, Copy, PartialEq, Eq)]
 pub(crate) struct FileSite<'a> {
     pub profile: Profile,
     pub what: FileEdit,

@@ -1,5 +1,5 @@
 -- Paths in DAGs of others (`/ipfs/CID/name`, as Kubo writes them), and the rules by which such DAGs are refused.
-use Rattle.std.specs.Prelude.{◌≡◌, ◌⊎◌, ◌+◌, ℕ, List, ◌∷◌, ◌++◌, codes, length, take}
+use Rattle.std.specs.Prelude.{◌≡◌, ◌⊎◌, ◌+◌, ℕ, List, ◌∷◌, ◌++◌, codes, length, take, ⊤}
 use Rattle.std.specs.Fmt.{decimal}
 use Rattle.std.specs.List.{flat_map}
 use Rattle.std.specs.declared.option.Option.TheVariants.{None, Some}
@@ -62,9 +62,14 @@ dag_refusal path (fault.NotFound place) = refusal.Dag (rule.NotFound (front_of (
 dag_refusal path (fault.NotADirectory place) = refusal.Dag (rule.NotADirectory (front_of place path))
 dag_refusal path (fault.Store f) = refusal.Store f
 
--- the call answers this refusal, or for want of memory
+-- the refusal isn't a fault of the store
+abbrev pub IsApart : Refusal → Type 0
+IsApart (refusal.Store f) = ⊥
+IsApart other = ⊤
+
+-- the call answers this refusal, or for want of memory, which hides no fault of the store
 abbrev pub IsToldAs : Refusal → Refusal → Type 0
-IsToldAs why given = (given ≡ no_memory) ⊎ (given ≡ why)
+IsToldAs why given = ((given ≡ no_memory) × IsApart why) ⊎ (given ≡ why)
 
 -- the tree to which a path leads, or the first fault of the reading
 abbrev pub tree_at : Lookup → DagPath → Result Tree DagFault

@@ -3,7 +3,7 @@ use uf_cid::Cid;
 use uf_tree::Entry;
 
 /// What a shard says of a name: its entry or that it isn't there, or the CID of the shard below that decides it.
-#[derive(Clone, Copy, Debug, PartialEq, Eq)]
+#[derive(Clone, Copy, PartialEq, Eq)]
 pub enum Spot {
     Here(Option<Entry>),
     Below(Cid),

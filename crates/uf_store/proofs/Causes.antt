@@ -6,7 +6,7 @@ use Rattle.uf_store.specs.declared.store.Role.{Role}
 use Rattle.uf_store.specs.declared.store.StoreFault.{StoreFault}
 use Rattle.uf_store.specs.declared.store.StoreFault.TheVariants.{Failed, Damaged, Missing, BadBlock, Clash, Memory}
 use Rattle.uf_store.specs.Seen.{Seen}
-use Rattle.uf_store.specs.Faults.{Rises, StaysCalm, Shows, Answers, NoneIsBad}
+use Rattle.uf_store.specs.Faults.{Rises, StaysCalm, HasNotFailed, Shows, Answers, NoneIsBad}
 
 pub StaysCalm-refl : (a : Seen) → StaysCalm a a
 StaysCalm-refl a = record { finds = omega arith; misses = omega arith; faults = refl; clashes = refl }
@@ -22,6 +22,23 @@ StaysCalm-trans a b c p q = record {
 -- where no count but those of what was found and missed rose, none has fallen
 pub calm-rises : (a b : Seen) → StaysCalm a b → Rises a b
 calm-rises a b h = record { finds = h.finds; misses = h.misses; faults = omega (arith, h.faults); clashes = omega (arith, h.clashes) }
+
+-- a store that has stayed calm has not failed
+pub calm-memory : (a b : Seen) → StaysCalm a b → HasNotFailed a b
+calm-memory a b h = record { finds = h.finds; misses = h.misses; faults = h.faults; clashes = omega (arith, h.clashes) }
+
+-- where the store has not failed, no count has fallen
+pub memory-rises : (a b : Seen) → HasNotFailed a b → Rises a b
+memory-rises a b h = record { finds = h.finds; misses = h.misses; faults = omega (arith, h.faults); clashes = h.clashes }
+
+-- it hasn't failed from an earlier moment on either
+pub memory-after : (a b c : Seen) → HasNotFailed a b → HasNotFailed b c → HasNotFailed a c
+memory-after a b c p q = record {
+  finds = omega (arith, p.finds, q.finds);
+  misses = omega (arith, p.misses, q.misses);
+  faults = q.faults ∙ p.faults;
+  clashes = omega (arith, p.clashes, q.clashes);
+}
 
 rises-after : (a b c : Seen) → StaysCalm a b → Rises b c → Rises a c
 rises-after a b c p q = record {
@@ -52,7 +69,7 @@ Shows-after hash IsBad (Clash cid held bytes) a b c p q = record {
   rises = rises-after a b c p q.rises;
   faults = q.faults ∙ p.faults;
 }
-Shows-after hash IsBad Memory a b c p q = rises-after a b c p q
+Shows-after hash IsBad Memory a b c p q = memory-after a b c (calm-memory a b p) q
 
 pub Answers-after : {A : Type 0} (hash : List ℕ → List ℕ) (IsBad : Role → List ℕ → Type 0) (answer : Result A StoreFault) (a b c : Seen)
     → StaysCalm a b → Answers hash IsBad answer b c → Answers hash IsBad answer a c
@@ -85,4 +102,4 @@ Shows-rises hash IsBad (Damaged cid) a b h = h.rises
 Shows-rises hash IsBad (Missing cid) a b h = calm-rises a b h.calm
 Shows-rises hash IsBad (BadBlock cid role) a b h = calm-rises a b h.calm
 Shows-rises hash IsBad (Clash cid held bytes) a b h = h.rises
-Shows-rises hash IsBad Memory a b h = h
+Shows-rises hash IsBad Memory a b h = memory-rises a b h

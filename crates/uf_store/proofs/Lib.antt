@@ -6,3 +6,5 @@ pub mod Lost
 pub mod Plain
 pub mod Stopping
 pub mod Writing
+pub mod Sweeping
+pub mod Relisting

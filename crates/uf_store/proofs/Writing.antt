@@ -12,9 +12,9 @@ use Rattle.uf_cid.specs.Cid.{cid_cmp}
 use Rattle.uf_store.specs.declared.store.Note.{Note}
 use Rattle.uf_store.specs.declared.store.Write.{Write}
 use Rattle.uf_store.specs.declared.store.Write.TheVariants.{Saved, Synced, Noted}
-use Rattle.uf_store.specs.Contents.{Contents, HeldMap, Notes, Told, changed, held_after, held_at, notes_after, with_save, with_sync, with_text}
+use Rattle.uf_store.specs.Contents.{Contents, HeldMap, Notes, Told, changed, held_after, held_at, notes_after, with_all, with_save, with_sync, with_text}
 use Rattle.uf_store.specs.Keeping.{Agrees, KeepsGood, StaysAgreed}
-use Rattle.uf_store.specs.Writing.{Appends, IsAny, IsSave, MeetsNoOther, ReplaceNone, SavesOnly, WritesOnly, Wrote}
+use Rattle.uf_store.specs.Writing.{Appends, IsAny, IsSave, IsSaveOrSync, MeetsNoOther, ReplaceNone, SavesOnly, WritesOnly, Wrote}
 use Rattle.uf_store.proofs.Holding.{cid_cmp_total}
 use Rattle.uf_store.proofs.Keeping.{KeepsGood-refl, get_kept, same_of}
 
@@ -31,6 +31,16 @@ each-append IsOne (x ∷ xs) ys p q = (p.0, each-append IsOne xs ys p.1 q)
 each-by : (P Q : Write → Type 0) → ((w : Write) → P w → Q w) → (ws : List Write) → AllByRecursion P ws → AllByRecursion Q ws
 each-by P Q more [] h = tt
 each-by P Q more (w ∷ ws) h = (more w h.0, each-by P Q more ws h.1)
+
+pub save_or_sync : (w : Write) → IsSave w → IsSaveOrSync w
+save_or_sync (Saved cid bytes) h = tt
+save_or_sync Synced h = tt
+save_or_sync (Noted which text) h = absurd h
+
+-- blocks that were saved behind others
+pub with_all-append : (xs ys : List Held) (t : Contents) → with_all (xs ++ ys) t ≡ with_all ys (with_all xs t)
+with_all-append [] ys t = refl
+with_all-append (b ∷ xs) ys t = with_all-append xs ys (with_save b.0 b.1 t)
 
 module _ (hash : List ℕ → List ℕ) where
   replace-append : (m : HeldMap) (xs ys : List Write) → ReplaceNone hash m xs → ReplaceNone hash (fold held_after m xs) ys → ReplaceNone hash m (xs ++ ys)
@@ -89,6 +99,12 @@ module _ (hash : List ℕ → List ℕ) where
 
   pub SavesOnly-trans : (a b c : Told) → SavesOnly hash a b → SavesOnly hash b c → SavesOnly hash a c
   SavesOnly-trans a b c p q = Wrote-trans IsSave a b c p q
+
+  -- a sync is one
+  pub synced : (told told_now : Told) → told_now ≡ changed with_sync told → Wrote hash IsSaveOrSync told told_now
+  synced None told_now is = subst (Wrote hash IsSaveOrSync None) (sym is) tt
+  synced (Some t) told_now is =
+      subst (Wrote hash IsSaveOrSync (Some t)) (sym is) (record { added = Synced ∷ []; each = (tt, tt); writes = refl; held = refl; notes = refl; replace_none = tt })
 
   no_notes_in : (ws : List Write) (n : Notes) → AllByRecursion IsSave ws → fold notes_after n ws ≡ n
   no_notes_in [] n h = refl

@@ -3,7 +3,7 @@ use Rattle.std.specs.Prelude.{ℕ, List, [], ◌∷◌, ◌++◌, Some, None}
 use Rattle.std.specs.declared.option.Option.{Option}
 use Rattle.std.specs.FinMap.{FinMap, get, insert}
 use Rattle.uf_cid.specs.declared.cid.Cid.{Cid}
-use Rattle.uf_cid.specs.Blocks.{Lookup}
+use Rattle.uf_cid.specs.Blocks.{Held, Lookup}
 use Rattle.uf_cid.specs.Cid.{cid_cmp}
 use Rattle.uf_store.specs.declared.store.Note.{Note}
 use Rattle.uf_store.specs.declared.store.Note.TheVariants.{Head, Pins}
@@ -58,6 +58,11 @@ held_at t = λ cid. get t.held cid
 -- a block was saved
 abbrev pub with_save : Cid → List ℕ → Contents → Contents
 with_save cid bytes t = record { held = insert t.held cid bytes; notes = t.notes; writes = t.writes ++ Saved cid bytes ∷ [] }
+
+-- blocks were saved, one after another
+abbrev pub with_all : List Held → Contents → Contents
+with_all [] t = t
+with_all (b ∷ blocks) t = with_all blocks (with_save b.0 b.1 t)
 
 -- the saves were made to outlive a stop
 abbrev pub with_sync : Contents → Contents

@@ -1,7 +1,7 @@
 -- Which calls of a store in memory are to fail.
 use Rattle.std.specs.Prelude.{ℕ, ◌+◌, ◌-◌, ◌^◌, min, [], ◌∷◌, ◌++◌, Contains}
 use Rattle.uf_store.specs.declared.failing.CallKind.{CallKind}
-use Rattle.uf_store.specs.declared.failing.CallKind.TheVariants.{Load, Save, Sync, ReadNote, WriteNote}
+use Rattle.uf_store.specs.declared.failing.CallKind.TheVariants.{Load, Save, Sync, ReadNote, WriteNote, Sweep}
 use Rattle.uf_store.specs.declared.failing.Failing.{Failing}
 use Rattle.uf_store.specs.declared.failing.Failures.{Failures}
 
@@ -28,6 +28,7 @@ failing_of Save f = f.save
 failing_of Sync f = f.sync
 failing_of ReadNote f = f.read_note
 failing_of WriteNote f = f.write_note
+failing_of Sweep f = f.sweep
 
 -- what is to fail, with a change at the calls of one kind
 abbrev pub failures_with : CallKind → (Failing → Failing) → Failures → Failures
@@ -36,6 +37,7 @@ failures_with Save change f = record f { save = change f.save }
 failures_with Sync change f = record f { sync = change f.sync }
 failures_with ReadNote change f = record f { read_note = change f.read_note }
 failures_with WriteNote change f = record f { write_note = change f.write_note }
+failures_with Sweep change f = record f { sweep = change f.sweep }
 
 -- the call of a kind that comes as number n from now on is to fail too
 abbrev pub with_failure : CallKind → ℕ → Failures → Failures
@@ -46,4 +48,4 @@ none_fails = record { made = 0; numbers = [] }
 
 -- no call was made, and none is to fail
 abbrev pub no_failures : Failures
-no_failures = record { load = none_fails; save = none_fails; sync = none_fails; read_note = none_fails; write_note = none_fails }
+no_failures = record { load = none_fails; save = none_fails; sync = none_fails; read_note = none_fails; write_note = none_fails; sweep = none_fails }

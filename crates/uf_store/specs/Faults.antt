@@ -27,6 +27,13 @@ pub record StaysCalm (before now : Seen) : Type 0 where
   pub faults : now.faults ≡ before.faults
   pub clashes : now.clashes ≡ before.clashes
 
+-- the store has not failed, but it may have met a clash
+pub record HasNotFailed (before now : Seen) : Type 0 where
+  pub finds : before.finds ≤ now.finds
+  pub misses : before.misses ≤ now.misses
+  pub faults : now.faults ≡ before.faults
+  pub clashes : before.clashes ≤ now.clashes
+
 -- the store failed, or met a damaged block
 pub record ShowsFailure (before now : Seen) : Type 0 where
   pub rose : Rose before.faults now.faults
@@ -60,14 +67,15 @@ pub record ShowsClash (hash : List ℕ → List ℕ) (cid : Cid) (held bytes : L
 abbrev pub NoneIsBad : Role → List ℕ → Type 0
 NoneIsBad role bytes = ⊥
 
--- what a fault shows; which blocks are bad in a role, since they aren't canonical in it, is said by the layer that reads them
+-- what a fault shows; which blocks are bad in a role, since they aren't canonical in it, is said by the layer that reads them.
+-- Want of memory hides no failure; it may come in place of a clash, since showing one takes memory
 abbrev pub Shows : (List ℕ → List ℕ) → (Role → List ℕ → Type 0) → StoreFault → Seen → Seen → Type 0
 Shows hash IsBad Failed before now = ShowsFailure before now
 Shows hash IsBad (Damaged cid) before now = ShowsFailure before now
 Shows hash IsBad (Missing cid) before now = ShowsMissing cid before now
 Shows hash IsBad (BadBlock cid role) before now = ShowsBadBlock hash IsBad cid role before now
 Shows hash IsBad (Clash cid held bytes) before now = ShowsClash hash cid held bytes before now
-Shows hash IsBad Memory before now = Rises before now
+Shows hash IsBad Memory before now = HasNotFailed before now
 
 -- no fault of the store was passed over: with none it has stayed calm, and a fault shows its cause
 abbrev pub Shown : (List ℕ → List ℕ) → (Role → List ℕ → Type 0) → Option StoreFault → Seen → Seen → Type 0

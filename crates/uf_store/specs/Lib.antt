@@ -10,5 +10,6 @@ pub mod Keeping
 pub mod Lost
 pub mod Seen
 pub mod Stops
+pub mod Sweeping
 pub mod Whole
 pub mod Writing

@@ -24,6 +24,12 @@ IsSave (Saved cid bytes) = ⊤
 IsSave Synced = ⊥
 IsSave (Noted which text) = ⊥
 
+-- the write is a save or a sync
+abbrev pub IsSaveOrSync : Write → Type 0
+IsSaveOrSync (Saved cid bytes) = ⊤
+IsSaveOrSync Synced = ⊤
+IsSaveOrSync (Noted which text) = ⊥
+
 -- any write will do: a save, a sync or a note
 abbrev pub IsAny : Write → Type 0
 IsAny write = ⊤

@@ -1,11 +1,12 @@
 // A store that keeps nothing.
 ghost use Rattle.std.specs.Prelude.{◌≡◌, ◌≤◌, ◌+◌, [], None, length};
 ghost use Rattle.uf_store.specs.Seen.{Loads, ReadsNote, Saves, Syncs, WritesNote};
+ghost use Rattle.uf_store.specs.Sweeping.{Sweeps};
 
-use crate::{Load, Note, NoteRead, Save, Steps, Store};
+use crate::{Load, Note, NoteRead, Save, Steps, Store, Sweep, Swept};
 use std::marker::PhantomData;
 use std::sync::ledger::Ledger;
-use uf_cid::{BlockHash, Cid};
+use uf_cid::{BlockHash, Cid, Cids};
 use uf_edge::Put;
 
 /// Takes every block and keeps none. It has no note, and it tells nothing.
@@ -86,5 +87,17 @@ impl<X: BlockHash> Store for Discard<X> {
         let _ = which;
         let _ = bytes;
         Put::Done
+    }
+}
+
+impl<X: BlockHash> Sweep for Discard<X> {
+    ghost use Rattle.uf_store.specs.Discarded.{discard_seen};
+
+    fn sweep(&mut self, kept: &Cids) -> Swept
+        ensures done { result ≡ Swept.Done 0 }
+        ensures swept { Sweeps kept.now result (discard_seen self.old) (discard_seen self.new) }
+    {
+        let _ = kept;
+        Swept::Done(0)
     }
 }

@@ -14,6 +14,7 @@ pub enum CallKind {
     Sync,
     ReadNote,
     WriteNote,
+    Sweep,
 }
 
 /// How many calls of one kind were made, and the numbers of those that are to fail, counted from 1.
@@ -62,6 +63,7 @@ pub struct Failures {
     pub sync: Failing,
     pub read_note: Failing,
     pub write_note: Failing,
+    pub sweep: Failing,
 }
 
 impl Failures {
@@ -75,6 +77,7 @@ impl Failures {
             sync: Failing::new(alloc),
             read_note: Failing::new(alloc),
             write_note: Failing::new(alloc),
+            sweep: Failing::new(alloc),
         }
     }
 
@@ -89,6 +92,7 @@ impl Failures {
             CallKind::Sync => self.sync.add(number),
             CallKind::ReadNote => self.read_note.add(number),
             CallKind::WriteNote => self.write_note.add(number),
+            CallKind::Sweep => self.sweep.add(number),
         }
     }
 }

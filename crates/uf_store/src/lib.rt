@@ -5,10 +5,12 @@ mod callers;
 mod discard;
 mod failing;
 mod laws;
+mod leaving;
 mod memory;
 mod shelf;
 mod steps;
 mod store;
+mod sweep;
 
 pub use callers::{need, save_block, save_under};
 pub use discard::Discard;
@@ -20,3 +22,4 @@ pub use laws::{
 pub use memory::MemStore;
 pub use steps::Steps;
 pub use store::{Load, MOST_BYTES, Note, NoteRead, Role, Save, Store, StoreFault, Write};
+pub use sweep::{Sweep, Swept, a_swept_store_tells_what_was_written};

@@ -1,5 +1,5 @@
 // A store in memory. It tells, and it can be made to fail, to lose blocks and to hold wrong ones.
-ghost use Rattle.std.specs.Prelude.{◌≡◌, ◌≢◌, ◌≤◌, ◌<◌, ◌+◌, ◌^◌, ◌==◌, ◌↔◌, ◌⊎◌, ℕ, List, ◌∷◌, [], ◌++◌, length, take, Some, None, Contains, OnOk, OnErr, IfOk, IsTrue};
+ghost use Rattle.std.specs.Prelude.{◌≡◌, ◌≢◌, ◌≤◌, ◌<◌, ◌+◌, ◌^◌, ◌==◌, ◌↔◌, ◌⊎◌, ℕ, List, ◌∷◌, [], ◌++◌, length, take, Some, None, Contains, OnOk, OnErr, IfOk, IsTrue, true};
 ghost use Rattle.std.specs.List.{list_any};
 ghost use Rattle.std.specs.FinMap.{from_entries, insert, len};
 ghost use Rattle.uf_store.specs.Whole.{IsWhole};
@@ -7,16 +7,18 @@ ghost use Rattle.uf_cid.specs.Cid.{cid_cmp};
 ghost use Rattle.uf_store.specs.Contents.{changed, held_at};
 ghost use Rattle.uf_store.specs.Stops.{behind_sync as place_behind_sync, behind_with as place_behind, survives as write_survives};
 ghost use Rattle.uf_store.specs.Failing.{IsDue, failures_with, ticked, with_failure, no_failures};
+ghost use Rattle.uf_store.specs.Sweeping.{Sweeps, is_among, part_of, swept};
 ghost use Rattle.uf_store.specs.Seen.{Loads, NoOther, ReadsNote, Saves, Seen, Syncs, WritesNote};
 
 use crate::callers::block_of;
 use crate::failing::Failures;
+use crate::leaving::writes_again;
 use crate::shelf::{Shelf, is_whole};
-use crate::{CallKind, Load, Note, NoteRead, Save, Steps, Store, Write};
+use crate::{CallKind, Load, Note, NoteRead, Save, Steps, Store, Sweep, Swept, Write};
 use std::alloc::Global;
 use std::marker::PhantomData;
 use std::sync::ledger::Ledger;
-use uf_cid::{Block, BlockHash, Cid, Memory};
+use uf_cid::{Block, BlockHash, Cid, Cids, Memory};
 use uf_edge::{Calls, Put};
 
 /// Keeps blocks and notes in memory, and the list of what was written.
@@ -143,6 +145,41 @@ impl<X: BlockHash> MemStore<X> {
                 Ok(())
             }
         }
+    }
+
+    // Lets go of the blocks whose CIDs aren't among these, and makes the list of writes anew: how many went.
+    fn leave(&mut self, kept: &Cids) -> Result<u64, Memory>
+        ensures ok { OnOk result (memory_seen self.new ≡
+            record (memory_seen self.old) { told = Some (swept (is_among kept.now) (contents_of self.old)) }) }
+        ensures count { IfOk result (λ n.
+            len (part_of (contents_of self.old).held (is_among kept.now)) + n ≡ len (contents_of self.old).held) }
+        ensures err { OnErr result (memory_seen self.new ≡ memory_seen self.old) }
+        ensures failures { failures_of self.new ≡ failures_of self.old }
+    {
+        let blocks = self.blocks.only(self.alloc, kept)?;
+        let writes = writes_again(self.alloc, &blocks, &self.head, &self.pins, &self.writes)?;
+        let dropped = self.blocks.len() - blocks.len();
+        self.blocks = blocks;
+        self.writes = writes;
+        Ok(dropped as u64)
+    }
+
+    // Makes the list of writes anew, of all blocks.
+    fn relist(&mut self) -> Result<(), Memory>
+        ensures ok { OnOk result (memory_seen self.new ≡
+            record (memory_seen self.old) { told = Some (swept (λ cid. true) (contents_of self.old)) }) }
+        ensures err { OnErr result (memory_seen self.new ≡ memory_seen self.old) }
+        ensures failures { failures_of self.new ≡ failures_of self.old }
+    {
+        let writes = writes_again(
+            self.alloc,
+            &self.blocks,
+            &self.head,
+            &self.pins,
+            &self.writes,
+        )?;
+        self.writes = writes;
+        Ok(())
     }
 
     /// How many blocks are held.
@@ -371,5 +408,33 @@ impl<X: BlockHash> Store for MemStore<X> {
             Note::Pins => self.pins = Some(text),
         }
         Put::Done
+    }
+}
+
+impl<X: BlockHash> Sweep for MemStore<X> {
+    ghost use Rattle.uf_store.specs.InMemory.{failures_of, memory_seen};
+
+    fn sweep(&mut self, kept: &Cids) -> Swept
+        ensures swept { Sweeps kept.now result (memory_seen self.old) (memory_seen self.new) }
+
+        // It fails only where it is to fail, with all blocks there, and then doesn't come to its end.
+        ensures fails { result ≡ Swept.Failed → IsDue (failures_of self.old).sweep }
+        ensures due { IsDue (failures_of self.old).sweep → (result ≡ Swept.Failed) ⊎ (result ≡ Swept.Memory) }
+        ensures counted { failures_of self.new ≡ failures_with CallKind.Sweep ticked (failures_of self.old) }
+    {
+        self.lent = Block::new(self.alloc);
+        if self.failures.sweep.tick() {
+            return match self.relist() {
+                Ok(()) => {
+                    self.faults = self.faults.saturating_add(1);
+                    Swept::Failed
+                }
+                Err(_) => Swept::Memory,
+            };
+        }
+        match self.leave(kept) {
+            Ok(count) => Swept::Done(count),
+            Err(_) => Swept::Memory,
+        }
     }
 }

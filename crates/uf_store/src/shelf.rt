@@ -1,15 +1,16 @@
 // Blocks by their CIDs, in memory.
-ghost use Rattle.std.specs.Prelude.{◌≡◌, ◌↔◌, IsTrue, OnErr, OnOk, Some, true};
+ghost use Rattle.std.specs.Prelude.{◌≡◌, ◌↔◌, IfOk, IsTrue, OnErr, OnOk, Some, true};
 ghost use Rattle.std.specs.FinMap.{empty, from_entries, get, insert, len, remove};
 ghost use Rattle.std.specs.Option.{option_copied};
 ghost use Rattle.uf_cid.specs.Cid.{cid_cmp};
+ghost use Rattle.uf_store.specs.Sweeping.{is_among, part_of, with_block_of};
 ghost use Rattle.uf_store.specs.Whole.{AreWhole, IsDamaged, IsWhole};
 
 use crate::MOST_BYTES;
 use std::alloc::Global;
 use std::collections::BTreeMap;
 use std::marker::PhantomData;
-use uf_cid::{Block, BlockHash, Cid, Memory};
+use uf_cid::{Block, BlockHash, Cid, Cids, Memory};
 
 /// Blocks by their CIDs. It knows whether a damaged one may be among them; else none is hashed when it is lent.
 #[derive(Drop)]
@@ -66,6 +67,31 @@ impl<X: BlockHash> Shelf<X> {
         ensures { from_entries {R = cid_cmp} self.new.blocks.entries ≡ remove (from_entries {R = cid_cmp} self.old.blocks.entries) cid.now }
     {
         let _ = self.blocks.remove(cid);
+    }
+
+    /// The same blocks, of these CIDs alone.
+    pub(crate) fn only(&self, alloc: Global, kept: &Cids) -> Result<Self, Memory>
+        ensures { IfOk result (λ shelf. from_entries {R = cid_cmp} shelf.blocks.entries ≡
+            part_of (from_entries {R = cid_cmp} self.now.blocks.entries) (is_among kept.now)) }
+    {
+        let cids = kept.as_slice();
+        let mut shelf = Shelf::new(alloc);
+        for place in 0..cids.len() {
+            self.hand(&mut shelf, &cids[place])?;
+        }
+        Ok(shelf)
+    }
+
+    // Puts a copy of the block under a CID into another shelf, where it is here.
+    fn hand(&self, other: &mut Shelf<X>, cid: &Cid) -> Result<(), Memory>
+        ensures { OnOk result (from_entries {R = cid_cmp} other.new.blocks.entries ≡
+            with_block_of (from_entries {R = cid_cmp} self.now.blocks.entries) cid.now
+            (from_entries {R = cid_cmp} other.old.blocks.entries)) }
+    {
+        if let Some(block) = self.blocks.get(cid) {
+            other.insert(*cid, block.copy()?, self.is_whole)?;
+        }
+        Ok(())
     }
 
     /// How many blocks there are.

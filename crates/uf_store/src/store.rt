@@ -122,4 +122,11 @@ pub trait Store {
     /// Writes a note, as one act that outlives a stop.
     fn write_note(&mut self, which: Note, bytes: &[u8]) -> Put
         ensures seen { WritesNote which bytes.now result (seen self.old) (seen self.new) };
+
+    /// Says which blocks will probably be loaded next, so that a store may read them ahead. It changes nothing that is seen.
+    fn foresee(&mut self, cids: &[Cid])
+        ensures seen { seen self.new ≡ seen self.old }
+    {
+        let _ = cids;
+    }
 }

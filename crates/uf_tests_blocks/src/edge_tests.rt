@@ -137,13 +137,13 @@ fn lists(host: &mut MemHost, path: &str, wanted: &[&str]) -> bool {
 fn a_host_makes_grows_lists_reads_and_fails(rt: HostRuntime) -> Result<(), Memory> {
     let alloc = rt.alloc();
     let mut host = MemHost::new(alloc, calls(alloc, &[9])?);
-    assert_eq!(rt; make(&mut host, "d"), Some(Put::Done));
-    assert_eq!(rt; grow(&mut host, "d", "f", "d/f", b"0123"), Some(Put::Done));
-    assert_eq!(rt; grow(&mut host, "d", "f", "d/f", b"45"), Some(Put::Done));
-    assert_eq!(rt; host.kind("d/f/g"), Kind::Absent);
-    assert_eq!(rt; host.kind("d"), Kind::Failed);
-    assert_eq!(rt; grow(&mut host, "d", "e", "d/e", b""), Some(Put::Done));
-    assert_eq!(rt; make(&mut host, "d"), None);
+    assert!(rt; make(&mut host, "d") == Some(Put::Done));
+    assert!(rt; grow(&mut host, "d", "f", "d/f", b"0123") == Some(Put::Done));
+    assert!(rt; grow(&mut host, "d", "f", "d/f", b"45") == Some(Put::Done));
+    assert!(rt; host.kind("d/f/g") == Kind::Absent);
+    assert!(rt; host.kind("d") == Kind::Failed);
+    assert!(rt; grow(&mut host, "d", "e", "d/e", b"") == Some(Put::Done));
+    assert!(rt; make(&mut host, "d") == None);
     assert!(rt; lists(&mut host, "d", &["e", "f"]));
     assert!(rt; lists(&mut host, "/", &[]));
     assert!(rt; reads_at(&mut host, "d/f", 3, b"345"));

@@ -202,7 +202,7 @@ module _ (X : List ℕ → List ℕ) (N : List ℕ → ℕ) (host : HostTree) wh
 
     calm : Quiet given → Calm a.around.store b.around.store
     calm quiet = record {
-      faults = still-stood a.around.store.faults b.around.store.faults done.runs.counted.store.faults (λ more. never status.StoreFault quiet.0 quiet.1 (done.runs.faults_told more)) begin.room.store.faults;
+      faults = still-stood a.around.store.faults b.around.store.faults done.runs.counted.store.faults (λ more. quiet.0 (done.runs.faults_told more)) begin.room.store.faults;
       clashes = still-stood a.around.store.clashes b.around.store.clashes done.runs.counted.store.clashes (λ more. never status.Clash quiet.2 quiet.1 (done.runs.clashes_told more)) begin.room.store.clashes;
     }
 

@@ -14,8 +14,8 @@ use Rattle.uf_store.specs.Contents.{Told, held_at}
 use Rattle.uf_store.specs.Faults.{NoneIsBad, Shown, StaysCalm}
 use Rattle.uf_store.specs.Seen.{Seen}
 use Rattle.uf_store.specs.declared.store.StoreFault.TheVariants as fault
-use Rattle.uf_store.proofs.Calls.{shown-by, shown-rises}
-use Rattle.uf_store.proofs.Causes.{calm-rises}
+use Rattle.uf_store.proofs.Calls.{shown-by}
+use Rattle.uf_store.proofs.Causes.{calm-memory}
 use Rattle.uf_store.proofs.Keeping.{KeepsGood-same}
 use Rattle.uf_tree.specs.Tree.{Tree, File, Dir, Entries}
 use Rattle.uf_tree.specs.declared.profile.Profile.{Profile}
@@ -32,7 +32,7 @@ use Rattle.uf_lenient.specs.declared.shapes.Shape.TheVariants.{File as FileShape
 use Rattle.uf_varint.specs.Fields.{◌>>=◌}
 use Rattle.uf_lenient.specs.Denoted.{DenotesBy}
 use Rattle.uf_lenient.proofs.Denoting.{denoted-step}
-use Rattle.uf_reply.specs.Dags.{IsToldAs, by_dag, dag_refusal, file_at, tree_at, usual_limits}
+use Rattle.uf_reply.specs.Dags.{IsApart, IsToldAs, by_dag, dag_refusal, file_at, tree_at, usual_limits}
 use Rattle.uf_reply.specs.Kinds.{OfWrite, ReadsDag, fault_behind, may_end, refusal_kind}
 use Rattle.uf_top.specs.Reply.{Outside, World, in_world, reply}
 use Rattle.uf_reply.specs.Statuses.{no_memory, status_of}
@@ -58,7 +58,7 @@ use Rattle.uf_top.proofs.Shows.{counts-still, not-rose}
 -- ---- refusals of a reading
 
 pub of-reading : (path : DagPath) (f : DagFault) (why : Refusal) → IsToldAs (dag_refusal path f) why → IsOfReading why
-of-reading path f why (inl is) = subst IsOfReading (sym is) tt
+of-reading path f why (inl is) = subst IsOfReading (sym is.0) tt
 of-reading path f why (inr is) = subst IsOfReading (sym is) (by f)
   where
     by : (f : DagFault) → IsOfReading (dag_refusal path f)
@@ -73,15 +73,23 @@ of-reading path f why (inr is) = subst IsOfReading (sym is) (by f)
     by (dag.Store s) = tt
 
 pub no-file-of-reading : (path : DagPath) (why : Refusal) → IsToldAs (refusal.Dag (rule.IsADirectory path)) why → IsOfReading why
-no-file-of-reading path why (inl is) = subst IsOfReading (sym is) tt
+no-file-of-reading path why (inl is) = subst IsOfReading (sym is.0) tt
 no-file-of-reading path why (inr is) = subst IsOfReading (sym is) tt
 
 -- the store's own fault is the refusal's
 pub same-fault : (path : DagPath) (f : DagFault) (hash : List ℕ → List ℕ) (a b : Seen) (why : Refusal) → IsToldAs (dag_refusal path f) why → Shown hash NoneIsBad (store_fault_of f) a b → Shown hash NoneIsBad (fault_behind why) a b
-same-fault path f hash a b why (inl is) h = subst (λ w. Shown hash NoneIsBad (fault_behind w) a b) (sym is) (rises f h)
+same-fault path f hash a b why (inl is) h = subst (λ w. Shown hash NoneIsBad (fault_behind w) a b) (sym is.0) (wants f is.1 h)
   where
-    rises : (f : DagFault) → Shown hash NoneIsBad (store_fault_of f) a b → Shown hash NoneIsBad (Some fault.Memory) a b
-    rises f h = shown-rises hash NoneIsBad (store_fault_of f) a b h
+    wants : (f : DagFault) → IsApart (dag_refusal path f) → Shown hash NoneIsBad (store_fault_of f) a b → Shown hash NoneIsBad (Some fault.Memory) a b
+    wants (dag.NotUnixfs cid n) apart h = calm-memory a b h
+    wants (dag.DuplicateName cid name) apart h = calm-memory a b h
+    wants (dag.BadName cid) apart h = calm-memory a b h
+    wants (dag.Unsupported cid) apart h = calm-memory a b h
+    wants (dag.TooDeep cid) apart h = calm-memory a b h
+    wants dag.TooMany apart h = calm-memory a b h
+    wants (dag.NotFound place) apart h = calm-memory a b h
+    wants (dag.NotADirectory place) apart h = calm-memory a b h
+    wants (dag.Store s) apart h = absurd apart
 same-fault path f hash a b why (inr is) h = subst (λ w. Shown hash NoneIsBad (fault_behind w) a b) (sym is) (by f h)
   where
     by : (f : DagFault) → Shown hash NoneIsBad (store_fault_of f) a b → Shown hash NoneIsBad (fault_behind (dag_refusal path f)) a b
@@ -96,14 +104,14 @@ same-fault path f hash a b why (inr is) h = subst (λ w. Shown hash NoneIsBad (f
     by (dag.Store s) h = h
 
 pub no-file-fault : (path : DagPath) (hash : List ℕ → List ℕ) (a b : Seen) (why : Refusal) → IsToldAs (refusal.Dag (rule.IsADirectory path)) why → StaysCalm a b → Shown hash NoneIsBad (fault_behind why) a b
-no-file-fault path hash a b why (inl is) h = subst (λ w. Shown hash NoneIsBad (fault_behind w) a b) (sym is) (calm-rises a b h)
+no-file-fault path hash a b why (inl is) h = subst (λ w. Shown hash NoneIsBad (fault_behind w) a b) (sym is.0) (calm-memory a b h)
 no-file-fault path hash a b why (inr is) h = subst (λ w. Shown hash NoneIsBad (fault_behind w) a b) (sym is) h
 
 -- ---- where a path leads
 
 -- a fault of a reading is the refusal that it says, or the store's own
 pub fault-found : (held : Lookup) (path : DagPath) (f : DagFault) (why : Refusal) → IsFault (tree_at held path) f → IsToldAs (dag_refusal path f) why → FindsFile held path (Err why)
-fault-found held path f why said (inl is) = inl (subst IsOwnRefusal (sym is) tt)
+fault-found held path f why said (inl is) = inl (subst IsOwnRefusal (sym is.0) tt)
 fault-found held path f why (inr said) (inr is) = inr (ap (file_at path) said ∙ ap (λ (r : Refusal). Err r) (sym is))
 fault-found held path f why (inl own) (inr is) = inl (subst IsOwnRefusal (sym is) (by f own))
   where
@@ -145,7 +153,7 @@ module _ (held : Lookup) (path : DagPath) (cid : Cid) (resolved : resolve_from h
           is-file (Dir es) denoted file = absurd file
 
   pub folder-found : (ways : List (List ℕ × Cid)) (why : Refusal) → IsRead held usual_limits cid (FolderShape ways) → IsToldAs (refusal.Dag (rule.IsADirectory path)) why → FindsFile held path (Err why)
-  folder-found ways why read (inl is) = inl (subst IsOwnRefusal (sym is) tt)
+  folder-found ways why read (inl is) = inl (subst IsOwnRefusal (sym is.0) tt)
   folder-found ways why read (inr is) = by read.tree read.denoted
     where
       by : (t : Tree) → denotes held usual_limits cid ≡ Ok t → FindsFile held path (Err why)

@@ -30,7 +30,7 @@ use Rattle.uf_store.specs.Seen.{Seen}
 use Rattle.uf_store.specs.Writing.{ReplaceNone, SavesOnly}
 use Rattle.uf_store.specs.declared.store.StoreFault.{StoreFault}
 use Rattle.uf_store.specs.declared.store.StoreFault.TheVariants as fault
-use Rattle.uf_store.proofs.Causes.{StaysCalm-refl, calm-rises}
+use Rattle.uf_store.proofs.Causes.{StaysCalm-refl, calm-memory}
 use Rattle.uf_reply.specs.Cars.{car_refusal, kept_refusal, most_blocks, most_car}
 use Rattle.uf_reply.specs.Kinds.{ComparesCar as OfComparing, IsOf, may_answer, refusal_fault}
 use Rattle.uf_reply.specs.Statuses.{no_memory}
@@ -249,7 +249,7 @@ module _ (X : List ℕ → List ℕ) (cid root : Cid) (a b : Seen) (r s : Seen) 
     verdict_is = λ held u tells given quiet. inl refl;
     kinds = refl;
     unread = refl;
-    cause = calm-rises a b calm;
+    cause = calm-memory a b calm;
     told = told;
     sections = λ left u given kept. tt;
   }
@@ -346,7 +346,7 @@ module _ (X : List ℕ → List ℕ) (cid : Cid) (a b : Seen) (l : streams.Told)
   -- a fault that is want of memory shows nothing more
   wants-none : (o : Option StoreFault) → IfSome o (λ f. f ≡ fault.Memory) → Shown X NoneIsBad o a a
   wants-none None h = StaysCalm-refl a
-  wants-none (Some f) h = subst (λ (o : StoreFault). Shown X NoneIsBad (Some o) a a) (sym h) (calm-rises a a (StaysCalm-refl a))
+  wants-none (Some f) h = subst (λ (o : StoreFault). Shown X NoneIsBad (Some o) a a) (sym h) (calm-memory a a (StaysCalm-refl a))
 
   module _ (s t : Told) (empty : s ≡ Some no_contents) where
     pub unrooted : (why : Refusal) → TakesRoot X (Err why) s t l i j → ComparesCar X cid (Err why) a a l i j

@@ -19,7 +19,7 @@ use Rattle.uf_store.specs.Contents.{Told, changed, with_sync}
 use Rattle.uf_store.specs.Faults.{NoneIsBad, Shown}
 use Rattle.uf_store.specs.Seen.{Seen}
 use Rattle.uf_store.specs.declared.store.StoreFault.TheVariants as fault
-use Rattle.uf_store.proofs.Causes.{calm-rises}
+use Rattle.uf_store.proofs.Causes.{calm-memory}
 use Rattle.uf_tree.specs.Tree.{Tree}
 use Rattle.uf_tree.specs.declared.nodes.Entry.{Entry}
 use Rattle.uf_tree.specs.declared.profile.Profile.{Profile}
@@ -87,7 +87,7 @@ as-shown X a b (faults.Store f) h = h
 
 pub entry-shown : (X : List ℕ → List ℕ) (a b : Seen) (r : Result Entry IntakeFault) (g : Result Given Refusal) → GivesEntry r g → Shown X NoneIsBad (intake_fault r) a b → Shown X NoneIsBad (refusal_fault g) a b
 entry-shown X a b (Ok e) (Ok given) h shown = shown
-entry-shown X a b (Ok e) (Err why) h shown = subst (λ w. Shown X NoneIsBad (refusal_fault {A = List ℕ} (Err w)) a b) (sym h) (calm-rises a b shown)
+entry-shown X a b (Ok e) (Err why) h shown = subst (λ w. Shown X NoneIsBad (refusal_fault {A = List ℕ} (Err w)) a b) (sym h) (calm-memory a b shown)
 entry-shown X a b (Err f) (Ok given) h shown = (let e = not-given-entry f given h in absurd cc)
 entry-shown X a b (Err f) (Err why) h shown = subst (λ w. Shown X NoneIsBad (refusal_fault {A = List ℕ} (Err w)) a b) (sym (refused-as f why h)) (as-shown X a b f shown)
 
@@ -160,7 +160,7 @@ module _ (path : List ℕ) where
   pub rows-shown : (X : List ℕ → List ℕ) (a b : Seen) (r : Result (List AddedRow) HostFault) (g : Result Given Refusal) → GivesHost path r g → IfErr r IsNoReading
       → Shown X NoneIsBad (edge_fault r) a b → Shown X NoneIsBad (refusal_fault g) a b
   rows-shown X a b (Ok rows) (Ok given) h none shown = shown
-  rows-shown X a b (Ok rows) (Err why) h none shown = subst (λ w. Shown X NoneIsBad (refusal_fault {A = Given} (Err w)) a b) (sym h) (calm-rises a b shown)
+  rows-shown X a b (Ok rows) (Err why) h none shown = subst (λ w. Shown X NoneIsBad (refusal_fault {A = Given} (Err w)) a b) (sym h) (calm-memory a b shown)
   rows-shown X a b (Err f) g h none shown = subst (λ (g : Result Given Refusal). Shown X NoneIsBad (refusal_fault g) a b) (sym (refused-from f g h)) (host-shown path (List AddedRow) X a b f none shown)
 
   fault-wants : (f : HostFault) → IsNoReading f → IfSome (edge_fault {A = List AddedRow} (Err f)) (λ f. f ≡ fault.Memory) → OnlyWants {A = Given} (Err (host_refusal path f))

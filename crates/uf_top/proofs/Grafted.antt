@@ -36,13 +36,13 @@ use Rattle.uf_store.specs.Seen.{Seen}
 use Rattle.uf_store.specs.declared.store.Role.{Role}
 use Rattle.uf_store.specs.declared.store.StoreFault.{StoreFault}
 use Rattle.uf_store.specs.declared.store.StoreFault.TheVariants as fault
-use Rattle.uf_store.proofs.Calls.{shown-rises}
+use Rattle.uf_store.proofs.Causes.{calm-memory}
 use Rattle.uf_tree.specs.Tree.{Dir, Entries, Tree}
 use Rattle.uf_tree.specs.TreePlan.{Refusal as NoPlan, blocks, refusal as refusal_of}
 use Rattle.uf_tree.specs.declared.nodes.Entry.{Entry}
 use Rattle.uf_tree.specs.declared.profile.Profile.{Profile}
 use Rattle.uf_varint.specs.Fields.{◌>>=◌}
-use Rattle.uf_reply.specs.Dags.{IsToldAs, adopted_name, by_dag, dag_refusal, tree_at, usual_limits}
+use Rattle.uf_reply.specs.Dags.{IsApart, IsToldAs, adopted_name, by_dag, dag_refusal, tree_at, usual_limits}
 use Rattle.uf_reply.specs.Kinds.{fault_behind, fault_kind, refusal_kind}
 use Rattle.uf_top.specs.Reply.{adopted, by_rule, grafted, with_plan}
 use Rattle.uf_reply.specs.declared.types.Refusal.{Refusal}
@@ -82,7 +82,7 @@ adopt-graft path adopt.TooBig = refl
 adopt-graft path (adopt.Store f) = store-graft f
 
 pub adopted-kind : (path : DagPath) (f : AdoptFault) (why : Refusal) → IsToldAs (adopt_refusal path f) why → graft_kinds (refusal_kind why) ≡ true
-adopted-kind path f why (inl is) = subst (λ w. graft_kinds (refusal_kind w) ≡ true) (sym is) refl
+adopted-kind path f why (inl is) = subst (λ w. graft_kinds (refusal_kind w) ≡ true) (sym is.0) refl
 adopted-kind path f why (inr is) = subst (λ w. graft_kinds (refusal_kind w) ≡ true) (sym is) (adopt-graft path f)
 
 pub reading-kind : (why : Refusal) → IsOfReading why → graft_kinds (refusal_kind why) ≡ true
@@ -108,7 +108,7 @@ built-planned X N p now t e h =
 
 pub refused-planned : (X : List ℕ → List ℕ) (N : List ℕ → ℕ) (p : Profile) (held : Lookup) (path : DagPath) (now : Told) (c : Cid) (t : Tree) (f : AdoptFault) (why : Refusal) → IsToldAs (adopt_refusal path f) why → BuildsTree X N p held usual_limits now c t (Err f)
     → BuildsPlanned X N p now t (Err why)
-refused-planned X N p held path now c t f why (inl is) h = inl (subst IsFailingRefusal (sym is) (inl tt))
+refused-planned X N p held path now c t f why (inl is) h = inl (subst IsFailingRefusal (sym is.0) (inl tt))
 refused-planned X N p held path now c t f why (inr is) h = by f is h
   where
     said : (o : NoPlan) → refusal_of X N p t ≡ Some o → by_rule (with_plan X N p t) ≡ by_rule (told_of [] (unless t (Some o)))
@@ -124,7 +124,22 @@ refused-planned X N p held path now c t f why (inr is) h = by f is h
 -- the store's own fault is the refusal's
 pub adopted-fault : (path : DagPath) (f : AdoptFault) (hash : List ℕ → List ℕ) (a b : Seen) (why : Refusal) → IsToldAs (adopt_refusal path f) why → TellsStoreApart {A = Entry} (Err f) → Shown hash NoneIsBad (adopt_fault {A = Entry} (Err f)) a b
     → Shown hash NoneIsBad (fault_behind why) a b
-adopted-fault path f hash a b why (inl is) apart h = subst (λ w. Shown hash NoneIsBad (fault_behind w) a b) (sym is) (shown-rises hash NoneIsBad (adopt_fault {A = Entry} (Err f)) a b h)
+adopted-fault path f hash a b why (inl is) apart h = subst (λ w. Shown hash NoneIsBad (fault_behind w) a b) (sym is.0) (wants f is.1 h)
+  where
+    wants : (f : AdoptFault) → IsApart (adopt_refusal path f) → Shown hash NoneIsBad (adopt_fault {A = Entry} (Err f)) a b → Shown hash NoneIsBad (Some fault.Memory) a b
+    wants (adopt.Dag (dag.NotUnixfs cid n)) other h = calm-memory a b h
+    wants (adopt.Dag (dag.DuplicateName cid name)) other h = calm-memory a b h
+    wants (adopt.Dag (dag.BadName cid)) other h = calm-memory a b h
+    wants (adopt.Dag (dag.Unsupported cid)) other h = calm-memory a b h
+    wants (adopt.Dag (dag.TooDeep cid)) other h = calm-memory a b h
+    wants (adopt.Dag dag.TooMany) other h = calm-memory a b h
+    wants (adopt.Dag (dag.NotFound place)) other h = calm-memory a b h
+    wants (adopt.Dag (dag.NotADirectory place)) other h = calm-memory a b h
+    wants (adopt.Dag (dag.Store s)) other h = absurd other
+    wants (adopt.FileTooLong cid) other h = calm-memory a b h
+    wants (adopt.Collision first second) other h = calm-memory a b h
+    wants adopt.TooBig other h = calm-memory a b h
+    wants (adopt.Store s) other h = absurd other
 adopted-fault path f hash a b why (inr is) apart h = subst (λ w. Shown hash NoneIsBad (fault_behind w) a b) (sym is) (by f apart h)
   where
     by : (f : AdoptFault) → TellsStoreApart {A = Entry} (Err f) → Shown hash NoneIsBad (adopt_fault {A = Entry} (Err f)) a b → Shown hash NoneIsBad (fault_behind (adopt_refusal path f)) a b
@@ -161,7 +176,7 @@ own-failing (refusal.Store f) own = inl own
 
 -- a fault of a reading is the refusal that it says, or the store's own
 pub fault-tree : (held : Lookup) (path : DagPath) (f : DagFault) (why : Refusal) → IsFault (tree_at held path) f → IsToldAs (dag_refusal path f) why → FindsTree held path (Err why)
-fault-tree held path f why said (inl is) = inl (subst IsOwnRefusal (sym is) tt)
+fault-tree held path f why said (inl is) = inl (subst IsOwnRefusal (sym is.0) tt)
 fault-tree held path f why (inr said) (inr is) = inr (ap (by_dag path) said ∙ ap (λ (r : Refusal). Err r) (sym is))
 fault-tree held path f why (inl own) (inr is) = inl (subst IsOwnRefusal (sym is) (by f own))
   where

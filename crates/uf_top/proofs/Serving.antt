@@ -10,7 +10,7 @@ use Rattle.uf_store.specs.Contents.{Told, held_at}
 use Rattle.uf_store.specs.Seen.{Seen}
 use Rattle.uf_edge.specs.Streams as streams
 use Rattle.uf_store.specs.declared.store.StoreFault.TheVariants.{Memory}
-use Rattle.uf_store.proofs.Causes.{StaysCalm-refl, calm-rises}
+use Rattle.uf_store.proofs.Causes.{StaysCalm-refl, calm-memory}
 use Rattle.uf_store.proofs.Keeping.{KeepsGood-refl}
 use Rattle.uf_store.proofs.Writing.{SavesOnly-refl}
 use Rattle.uf_reply.specs.Commands.{IsAsked, IsOfWords, NoStore, OwnStore, command_writes, generates, own_store, reads_tree_alone, streams as flows, uses_host, writes_host, prints_after}
@@ -133,7 +133,7 @@ module _ (X : List ℕ → List ℕ) (N : List ℕ → ℕ) (a : Around) where
     host = still-host command;
     gets = nothing-gotten command a.store.told a.host.told;
     writes = still-written command;
-    cause = calm-rises a.store a.store (StaysCalm-refl a.store);
+    cause = calm-memory a.store a.store (StaysCalm-refl a.store);
     whole = λ s needs stands calm. (λ e. cc, λ e. cc);
     touches = λ p es bytes rows named input heights calm. no-touch (command_touches X N rows bytes command p es) a.touches;
     touched = λ blames. absurd blames;

@@ -47,7 +47,7 @@ use Rattle.uf_store.specs.declared.store.StoreFault.{StoreFault}
 use Rattle.uf_store.specs.declared.store.StoreFault.TheVariants as fault
 use Rattle.uf_store.specs.Writing.{SavesOnly}
 use Rattle.uf_store.proofs.Calls.{shown-after, shown-by, shown-rises, stood-back, stood-front}
-use Rattle.uf_store.proofs.Causes.{StaysCalm-trans, calm-rises}
+use Rattle.uf_store.proofs.Causes.{StaysCalm-trans, calm-memory, calm-rises}
 use Rattle.uf_store.proofs.Keeping.{KeepsGood-trans}
 use Rattle.uf_tree.specs.FilePlan.{file_plan}
 use Rattle.uf_tree.specs.Heads.{head_text}
@@ -175,7 +175,7 @@ module _ (X : List ℕ → List ℕ) (N : List ℕ → ℕ) (dest : Path) (path 
       up : CountsUp (fault_behind why) t0 t1
 
     memory-name : IsOfName no_memory
-    memory-name = record { tree_or = (tree-store path fault.Memory).kind; ready = tt; unread = refl; shown = calm-rises a m calm; up = record { kept = low; risen = λ blames. absurd blames } }
+    memory-name = record { tree_or = (tree-store path fault.Memory).kind; ready = tt; unread = refl; shown = calm-memory a m calm; up = record { kept = low; risen = λ blames. absurd blames } }
 
     name-refused : (q : Option (List ℕ)) (why : Refusal) → path ≡ q → added_name dest q ≡ Err why → IsOfName why
     name-refused None why e is = absurd cc

@@ -22,7 +22,7 @@ use Rattle.uf_store.specs.declared.store.Role.{Role}
 use Rattle.uf_store.specs.declared.store.StoreFault.{StoreFault}
 use Rattle.uf_store.specs.declared.store.StoreFault.TheVariants.{Failed, Damaged, Missing, BadBlock, Clash, Memory}
 use Rattle.uf_store.proofs.Calls.{shown-by}
-use Rattle.uf_store.proofs.Causes.{calm-rises}
+use Rattle.uf_store.proofs.Causes.{calm-memory}
 use Rattle.uf_tree.specs.declared.profile.Profile.{Profile}
 use Rattle.uf_reply.specs.Kinds.{AddsInput, IsOf, fault_behind, may_answer, refusal_fault}
 use Rattle.uf_reply.specs.Statuses.{status_of}
@@ -110,7 +110,7 @@ wants-shown hash (Err refusal.InputTooLong) a b w h = h
 wants-shown hash (Err (refusal.Ready why)) a b w h = h
 wants-shown hash (Err refusal.Read) a b w h = h
 wants-shown hash (Err refusal.Write) a b w h = h
-wants-shown hash (Err (refusal.Store f)) a b w h = subst (λ f. Shows hash NoneIsBad f a b) (sym w) (calm-rises a b h)
+wants-shown hash (Err (refusal.Store f)) a b w h = subst (λ f. Shows hash NoneIsBad f a b) (sym w) (calm-memory a b h)
 
 -- what is bad on a way in a tree is so where a file of it is edited
 pub bad-way : (X : List ℕ → List ℕ) (N : List ℕ → ℕ) (p : Profile) (now : Told) (root : Cid) (role : Role) (bytes : List ℕ) → IsBadInTree X N None root role bytes → IsBadWrittenIn X N p now root role bytes
@@ -119,7 +119,7 @@ bad-way X N p now root role bytes bad = inl (tree-more X N p root role bytes bad
 -- a text that was made, or want of memory, after which the store is as calm as before
 pub made-shown : (M : Type 0) (hash : List ℕ → List ℕ) (P : Role → List ℕ → Type 0) (text : Result (List ℕ) M) (r : Result (List ℕ) Refusal) (a b : Seen) → IsMade text r → StaysCalm a b → Shown hash P (refusal_fault r) a b
 made-shown M hash P (Ok x) r a b made h = subst (λ (r : Result (List ℕ) Refusal). Shown hash P (refusal_fault r) a b) (sym made) h
-made-shown M hash P (Err m) r a b made h = subst (λ (r : Result (List ℕ) Refusal). Shown hash P (refusal_fault r) a b) (sym made) (calm-rises a b h)
+made-shown M hash P (Err m) r a b made h = subst (λ (r : Result (List ℕ) Refusal). Shown hash P (refusal_fault r) a b) (sym made) (calm-memory a b h)
 
 -- ---- how the count of touches moved
 

@@ -248,7 +248,7 @@ write-of (refusal.Store fault.Memory) is = absurd cc
 
 -- a risen count of the store is behind its fault
 module _ (hash : List ℕ → List ℕ) (P : Role → List ℕ → Type 0) (a b : Seen) where
-  failure-of : (why : Refusal) → Shown hash P (fault_behind why) a b → a.faults < b.faults → (status_of why ≡ status.StoreFault) ⊎ (status_of why ≡ status.Memory)
+  failure-of : (why : Refusal) → Shown hash P (fault_behind why) a b → a.faults < b.faults → status_of why ≡ status.StoreFault
   failure-of (refusal.Rule rule) h more = (let e = h.faults in absurd (omega (arith, e, more)))
   failure-of (refusal.Dag rule) h more = (let e = h.faults in absurd (omega (arith, e, more)))
   failure-of (refusal.Car number place) h more = (let e = h.faults in absurd (omega (arith, e, more)))
@@ -261,12 +261,12 @@ module _ (hash : List ℕ → List ℕ) (P : Role → List ℕ → Type 0) (a b 
   failure-of (refusal.Ready reason) h more = (let e = h.faults in absurd (omega (arith, e, more)))
   failure-of refusal.Read h more = (let e = h.faults in absurd (omega (arith, e, more)))
   failure-of refusal.Write h more = (let e = h.faults in absurd (omega (arith, e, more)))
-  failure-of (refusal.Store fault.Failed) h more = inl refl
-  failure-of (refusal.Store (fault.Damaged cid)) h more = inl refl
+  failure-of (refusal.Store fault.Failed) h more = refl
+  failure-of (refusal.Store (fault.Damaged cid)) h more = refl
   failure-of (refusal.Store (fault.Missing cid)) h more = (let e = h.calm.faults in absurd (omega (arith, e, more)))
   failure-of (refusal.Store (fault.BadBlock cid role)) h more = (let e = h.calm.faults in absurd (omega (arith, e, more)))
   failure-of (refusal.Store (fault.Clash cid first second)) h more = (let e = h.faults in absurd (omega (arith, e, more)))
-  failure-of (refusal.Store fault.Memory) h more = inr refl
+  failure-of (refusal.Store fault.Memory) h more = (let e = h.faults in absurd (omega (arith, e, more)))
 
   clash-of : (why : Refusal) → Shown hash P (fault_behind why) a b → a.clashes < b.clashes → (status_of why ≡ status.Clash) ⊎ (status_of why ≡ status.Memory)
   clash-of (refusal.Rule rule) h more = (let e = h.clashes in absurd (omega (arith, e, more)))
@@ -508,11 +508,15 @@ module _ (Says : List ℕ → Type 0) where
       by-fault why want (inl t) (inr is) = inr (t.0 ∙ is)
       by-fault why want (inr t) is = inr t.1
 
+      storing : (why : Refusal) → TellsWhy Says why given → status_of why ≡ status.StoreFault → given ≡ status.StoreFault
+      storing why (inl t) is = t.0 ∙ is
+      storing why (inr t) is = (let e : false ≡ true = ap has_details (sym is) ∙ t.0 in absurd cc)
+
       pub faults-told : (asked : Result Command Refusal) (done : Result (Unit {0}) Refusal) → Serves X N asked done a b → TellsEnd Says done given → a.store.faults < b.store.faults
-          → (given ≡ status.StoreFault) ⊎ (given ≡ status.Memory)
+          → given ≡ status.StoreFault
       faults-told (Err asked) done s t more = (let e = ap (λ (x : Around). x.store.faults) s.same in absurd (omega (arith, e, more)))
       faults-told (Ok command) (Ok done) s t more = (let e = s.cause.faults in absurd (omega (arith, e, more)))
-      faults-told (Ok command) (Err why) s t more = by-fault why status.StoreFault t (failure-of X (IsBadIn X N a.store.told b.store.told) a.store b.store why s.cause more)
+      faults-told (Ok command) (Err why) s t more = storing why t (failure-of X (IsBadIn X N a.store.told b.store.told) a.store b.store why s.cause more)
 
       pub clashes-told : (asked : Result Command Refusal) (done : Result (Unit {0}) Refusal) → Serves X N asked done a b → TellsEnd Says done given → a.store.clashes < b.store.clashes
           → (given ≡ status.Clash) ⊎ (given ≡ status.Memory)

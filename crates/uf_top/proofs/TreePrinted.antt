@@ -11,7 +11,7 @@ use Rattle.uf_store.specs.Faults.{Shown}
 use Rattle.uf_store.specs.Seen.{Seen}
 use Rattle.uf_store.specs.declared.store.StoreFault.{StoreFault}
 use Rattle.uf_store.specs.declared.store.StoreFault.TheVariants as fault
-use Rattle.uf_store.proofs.Causes.{StaysCalm-refl, calm-rises}
+use Rattle.uf_store.proofs.Causes.{StaysCalm-refl, calm-memory}
 use Rattle.uf_store.proofs.Keeping.{KeepsGood-refl}
 use Rattle.uf_tree.specs.Tree.{Entries}
 use Rattle.uf_tree.specs.declared.profile.Profile.{Profile}
@@ -83,7 +83,7 @@ module _ (X : List ℕ → List ℕ) (N : List ℕ → ℕ) (n seed : ℕ) (s : 
     unread = refl;
     rule = λ e. absurd cc;
     blames = λ b. b;
-    cause = calm-rises s s (StaysCalm-refl s);
+    cause = calm-memory s s (StaysCalm-refl s);
     says = λ none. inl refl;
   }
 

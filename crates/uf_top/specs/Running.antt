@@ -83,7 +83,7 @@ module _ (Says : List ℕ → Type 0) (X : List ℕ → List ℕ) (N : List ℕ 
         → RoseAt (of_command writes_host false asked) before.writes now.writes before.host.writes now.host.writes
     pub not_ready : given ≡ status.NotReady → IsNotReady Says asked before.store.told
     -- no fault is passed over
-    pub faults_told : before.store.faults < now.store.faults → (given ≡ status.StoreFault) ⊎ (given ≡ status.Memory)
+    pub faults_told : before.store.faults < now.store.faults → given ≡ status.StoreFault
     pub clashes_told : before.store.clashes < now.store.clashes → (given ≡ status.Clash) ⊎ (given ≡ status.Memory)
     pub read_told : (before.reads < now.reads) ⊎ (before.host.reads < now.host.reads) → given ≡ status.ReadFault
     pub write_told : (before.writes < now.writes) ⊎ (before.host.writes < now.host.writes)

@@ -11,31 +11,31 @@ use Rattle.uf_walk.proofs.Members.{among, not_among}
 use Rattle.uf_walk.proofs.Visits.{visit-end, visit-full, visit-new, visit-passed}
 
 -- each of these has the property
-abbrev Each : (Cid → Type 0) → List Cid → Type 0
+abbrev pub Each : (Cid → Type 0) → List Cid → Type 0
 Each P xs = (c : Cid) → Contains xs c → P c
 
-each_none : (P : Cid → Type 0) → Each P []
+pub each_none : (P : Cid → Type 0) → Each P []
 each_none P c h = absurd (let k : ℕ = h.0 in omega (arith, h.1))
 
-each_append : (P : Cid → Type 0) (xs ys : List Cid) → Each P xs → Each P ys → Each P (xs ++ ys)
+pub each_append : (P : Cid → Type 0) (xs ys : List Cid) → Each P xs → Each P ys → Each P (xs ++ ys)
 each_append P xs ys p q c h = elim (Contains-append_cases xs ys c h) [ inl a ↦ p c a | inr b ↦ q c b ]
 
-each_one : (P : Cid → Type 0) (d : Cid) → P d → Each P (d ∷ [])
+pub each_one : (P : Cid → Type 0) (d : Cid) → P d → Each P (d ∷ [])
 each_one P d p c h = elim (Contains-push_cases [] d c h) [ inl none ↦ each_none P c none | inr e ↦ subst P e p ]
 
 each_tail : (P : Cid → Type 0) (d : Cid) (xs : List Cid) → Each P (d ∷ xs) → Each P xs
 each_tail P d xs p c h = p c (Contains-append_right (d ∷ []) xs c h)
 
-each_head : (P : Cid → Type 0) (d : Cid) (xs : List Cid) → Each P (d ∷ xs) → P d
+pub each_head : (P : Cid → Type 0) (d : Cid) (xs : List Cid) → Each P (d ∷ xs) → P d
 each_head P d xs p = p d (Contains-append_left (d ∷ []) xs d (Contains-push [] d))
 
 module _ (follow : Follow) where
   -- what a walk meets: all that was met and all that is ahead, and what each new CID links
-  record Meets (met ahead list : List Cid) : Type 0 where
-    rest : List Cid
-    extends : list ≡ met ++ rest
-    ahead_met : Each (Contains list) ahead
-    closed : (c : Cid) → Contains rest c → (links : List Cid) × (follow c ≡ Some links) × Each (Contains list) links
+  pub record Meets (met ahead list : List Cid) : Type 0 where
+    pub rest : List Cid
+    pub extends : list ≡ met ++ rest
+    pub ahead_met : Each (Contains list) ahead
+    pub closed : (c : Cid) → Contains rest c → (links : List Cid) × (follow c ≡ Some links) × Each (Contains list) links
 
   nothing_ahead : (met list : List Cid) → Whole met ≡ Whole list → Meets met [] list
   nothing_ahead met list e =
@@ -85,7 +85,7 @@ module _ (follow : Follow) where
       by true is then = passed met ahead list c is (then (sym (visit-passed follow 0 met (c ∷ []) ahead (is, tt)) ∙ e))
       by false is then = absurd (let no : TooMany ≡ Whole list = sym (visit-full follow met c ahead is) ∙ e in cc)
 
-  meets : (more : ℕ) (met list ahead : List Cid) → visit follow more met ahead ≡ Whole list → Meets met ahead list
+  pub meets : (more : ℕ) (met list ahead : List Cid) → visit follow more met ahead ≡ Whole list → Meets met ahead list
   meets zero met list ahead e = meets_full met list ahead e
   meets (suc more) met list ahead e = meets_along more met list (λ c next. meets more (met ++ c ∷ []) list next) ahead e
 
@@ -98,7 +98,7 @@ module _ (follow : Follow) where
   chain_more root c e [] chain linked = (subst (λ (d : Cid). IsLinked follow d e) (sym chain) linked, refl)
   chain_more root c e (d ∷ path) chain linked = (chain.0, chain_more d c e path chain.1 linked)
 
-  reached_more : (root c e : Cid) → IsReachedBy follow root c → IsLinked follow c e → IsReachedBy follow root e
+  pub reached_more : (root c e : Cid) → IsReachedBy follow root c → IsLinked follow c e → IsReachedBy follow root e
   reached_more root c e r linked = record { path = r.path ++ e ∷ []; chain = chain_more root c e r.path r.chain linked }
 
   module _ (P : Cid → Type 0) (closed : (c : Cid) (links : List Cid) → P c → follow c ≡ Some links → Each P links) where
@@ -124,7 +124,7 @@ module _ (follow : Follow) where
         by true is then = then (sym (visit-passed follow 0 met (c ∷ []) ahead (is, tt)) ∙ e)
         by false is then = absurd (let no : TooMany ≡ Whole list = sym (visit-full follow met c ahead is) ∙ e in cc)
 
-    kept : (more : ℕ) (met list ahead : List Cid) → Each P met → Each P ahead → visit follow more met ahead ≡ Whole list → Each P list
+    pub kept : (more : ℕ) (met list ahead : List Cid) → Each P met → Each P ahead → visit follow more met ahead ≡ Whole list → Each P list
     kept zero met list ahead of_met of_ahead e = kept_full met list ahead of_met e
     kept (suc more) met list ahead of_met of_ahead e =
         kept_along more met list (λ c next p of_next is. kept more (met ++ c ∷ []) list next (each_append P met (c ∷ []) of_met (each_one P c p)) of_next is) of_met ahead of_ahead e

@@ -2,7 +2,7 @@
 use uf_cid::{Cid, Memory};
 
 /// What comes next in a walk.
-#[derive(Clone, Copy, Debug, PartialEq, Eq)]
+#[derive(Clone, Copy, PartialEq, Eq)]
 pub enum Turn {
     /// The next CID. Its block is to be taken before the walk goes on.
     At(Cid),
@@ -14,7 +14,7 @@ pub enum Turn {
 
 /// Why a block was not taken: it is no node, with the number of its fault (its place among the faults of
 /// `uf_dagpb::PbFault`, from 1), or there was no memory.
-#[derive(Clone, Copy, Debug, PartialEq, Eq)]
+#[derive(Clone, Copy, PartialEq, Eq)]
 pub enum WalkFault {
     NotDagPb(Cid, u8),
     Memory,

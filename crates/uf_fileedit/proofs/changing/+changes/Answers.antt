@@ -5,7 +5,7 @@ use Rattle.std.proofs.lemmas.List.{length_push}
 use Rattle.uf_edge.specs.Counts.{Stood}
 use Rattle.uf_store.specs.Keeping.{Agrees}
 use Rattle.uf_store.specs.Lost.{IsLossOf}
-use Rattle.uf_store.proofs.Causes.{StaysCalm-refl, StaysCalm-trans, calm-rises}
+use Rattle.uf_store.proofs.Causes.{StaysCalm-refl, StaysCalm-trans, calm-memory}
 use Rattle.uf_store.proofs.Keeping.{KeepsGood-refl, KeepsGood-trans}
 use Rattle.uf_store.specs.Contents.{Told}
 use Rattle.uf_store.specs.Writing.{IsSave, SavesOnly}
@@ -161,7 +161,7 @@ pub change_parts-returns-in_err-push-clause-saves : goal.change_parts-returns-in
 change_parts-returns-in_err-push-clause-saves g t c = SavesOnly-trans g.S.X.BlockHash.block32 ((g.S.Store.seen c.args.store.now).told) ((g.S.Store.seen c.parts.store).told) ((g.S.Store.seen c.change_one.new.store).told) c.parts.invariant.saves c.in_ok-part.ensures.saves
 
 pub change_parts-returns-in_err-push-clause-cause : goal.change_parts-returns-in_err-push-clause-cause
-change_parts-returns-in_err-push-clause-cause g t c = let out = err_from_is_err_and c.from_residual-in_err-push.result c.from_residual-in_err-push.ensures.1 in rw (out.1, out.2) (calm-rises (g.S.Store.seen c.args.store.now) (g.S.Store.seen c.change_one.new.store) (StaysCalm-trans (g.S.Store.seen c.args.store.now) (g.S.Store.seen c.parts.store) (g.S.Store.seen c.change_one.new.store) c.parts.invariant.calm c.in_ok-part.ensures.cause))
+change_parts-returns-in_err-push-clause-cause g t c = let out = err_from_is_err_and c.from_residual-in_err-push.result c.from_residual-in_err-push.ensures.1 in rw (out.1, out.2) (calm-memory (g.S.Store.seen c.args.store.now) (g.S.Store.seen c.change_one.new.store) (StaysCalm-trans (g.S.Store.seen c.args.store.now) (g.S.Store.seen c.parts.store) (g.S.Store.seen c.change_one.new.store) c.parts.invariant.calm c.in_ok-part.ensures.cause))
 
 pub change_parts-overflow_add-at : goal.change_parts-overflow_add-at
 change_parts-overflow_add-at g t c = let a = c.parts.invariant.at_is in let s = c.parts-test.true in let m : c.args.target.size < 2 ^ 63 = c.requires.size.small in omega arith

@@ -18,3 +18,8 @@ returns-in-Err-clause-touched g c =
     let a = g.S.Store.seen c.args.store.now in let b = g.S.Store.seen c.adopt_surveyed.new.store in
     up-none Entry g.S.X.BlockHash.block32 c.adopting.result a b c.args.touches.now c.adopt_surveyed.new.touches
     (adopted-fault c.args.source.now c.in-Err.fault g.S.X.BlockHash.block32 a b c.adopting.result c.adopting.ensures c.in-Err.ensures.apart c.in-Err.ensures.cause)
+
+pub returns-in-Err-clause-saves : goal.returns-in-Err-clause-saves
+returns-in-Err-clause-saves g c =
+    let a = g.S.Store.seen c.args.store.now in let b = g.S.Store.seen c.adopt_surveyed.new.store in let e = c.in-Err.ensures in
+    record { cause = adopted-fault c.args.source.now c.in-Err.fault g.S.X.BlockHash.block32 a b c.adopting.result c.adopting.ensures e.apart e.cause; good = e.good; saves = e.saves }
