@@ -3,6 +3,7 @@ ghost use Rattle.std.specs.Prelude.{◌≡◌, ◌++◌, ◌==◌, IfOk, IsTrue}
 ghost use Rattle.std.specs.List.{list_any};
 ghost use Rattle.uf_edge.specs.Host.{front, is_member_name};
 
+use crate::streams::block_of;
 use std::alloc::Global;
 use uf_cid::{Memory, Text};
 use uf_edge::{Calls, Host, Kind, MemHost, Put};
@@ -80,6 +81,67 @@ pub fn put_in(
         (Kind::Folder, Kind::Absent, None) => is_done(host.make_folder(path.as_str())),
         _ => Err(Memory),
     }
+}
+
+// Puts a file or a folder into the working folder, without a call that writes.
+fn plant_first(
+    alloc: Global,
+    host: &mut MemHost,
+    name: &str,
+    content: Option<&[u8]>,
+) -> Result<(), Memory>
+    requires { IsTrue (is_member_name name.now) }
+{
+    match (host.kind(name), content) {
+        (Kind::Absent, Some(bytes)) => host.plant_file(name, block_of(alloc, bytes)?),
+        (Kind::Absent, None) => host.plant_folder(name),
+        _ => Err(Memory),
+    }
+}
+
+// The same into a folder.
+fn plant_in(
+    alloc: Global,
+    host: &mut MemHost,
+    folder: &str,
+    name: &str,
+    content: Option<&[u8]>,
+) -> Result<(), Memory>
+    requires { IsTrue (is_member_name name.now) }
+{
+    let path = path_of(alloc, folder, name)?;
+    let path = path.as_str();
+    match (host.kind(folder), host.kind(path), content) {
+        (Kind::Folder, Kind::Absent, Some(bytes)) => {
+            host.plant_file(path, block_of(alloc, bytes)?)
+        }
+        (Kind::Folder, Kind::Absent, None) => host.plant_folder(path),
+        _ => Err(Memory),
+    }
+}
+
+/// Puts a file or a folder at a path, whose parent is there, without a call that writes. It makes one call in the working
+/// folder, and two in another one.
+pub fn plant(
+    alloc: Global,
+    host: &mut MemHost,
+    path: &str,
+    content: Option<&[u8]>,
+) -> Result<(), Memory> {
+    let (folder, name) = path.rsplit_once('/').unwrap_or(("", path));
+    if !is_member(name.as_bytes()) {
+        return Err(Memory);
+    }
+    if !path.contains('/') {
+        return plant_first(alloc, host, name, content);
+    }
+    plant_in(
+        alloc,
+        host,
+        if folder.is_empty() { "/" } else { folder },
+        name,
+        content,
+    )
 }
 
 /// A host that has these, and fails at these calls, counted from its first.

@@ -5,6 +5,23 @@ use uf_cid::{Block, BlockHash, Cid, Codec, Memory};
 use uf_edge::{Calls, MemSink, MemSource};
 use uf_store::MemStore;
 
+/// The room of an output, and the calls that are to fail, counted from 0.
+#[derive(Clone, Copy)]
+pub struct Streams {
+    pub room: usize,
+    pub input_fails: Option<u64>,
+    pub output_fails: Option<u64>,
+    pub errors_fail: Option<u64>,
+}
+
+/// Room for many lines, and no call that fails.
+pub const ROOMY: Streams = Streams {
+    room: 65536,
+    input_fails: None,
+    output_fails: None,
+    errors_fail: None,
+};
+
 /// The words of a line, which end at tabs where it has some.
 pub fn words_of(alloc: Global, line: &str) -> Result<Vec<String>, Memory> {
     let end = if line.contains('\t') { '\t' } else { ' ' };

@@ -175,20 +175,23 @@ fn check_edit<L: Ledger>(
     Ok(())
 }
 
-// Writes pieces of all lengths at one place of a file.
-fn check_pieces<L: Ledger>(
+// All edits of a file at one place. Their store is their own: each counted edit leaves the number of a call that was to
+// fail, and each load looks through those.
+fn check_place<L: Ledger>(
     alloc: Global,
-    store: &mut Kept,
     sizes: Sizes,
-    entry: &Entry,
     bytes: &[u8],
-    offset: usize,
+    place: usize,
     touches: &mut Steps<L>,
 ) -> Result<(), Trouble> {
     let p = profile(sizes.chunk, sizes.width);
+    let mut kept = Kept::new(alloc);
+    let entry = built(p, alloc, &mut kept, bytes, touches)?;
+    let cut = Edit::Cut(place);
+    check_edit(alloc, &mut kept, &p, &entry, bytes, cut, touches)?;
     for more in 0..MOST {
-        let edit = Edit::Write(offset, more);
-        check_edit(alloc, store, &p, entry, bytes, edit, touches)?;
+        let write = Edit::Write(place, more);
+        check_edit(alloc, &mut kept, &p, &entry, bytes, write, touches)?;
     }
     Ok(())
 }
@@ -200,15 +203,9 @@ fn check_length<L: Ledger>(
     length: usize,
     touches: &mut Steps<L>,
 ) -> Result<(), Trouble> {
-    let p = profile(sizes.chunk, sizes.width);
     let bytes = bytes_of(alloc, length)?;
-    let mut store = Kept::new(alloc);
-    let entry = built(p, alloc, &mut store, bytes.as_slice(), touches)?;
     for place in 0..MOST {
-        let kept = &mut store;
-        let edit = Edit::Cut(place);
-        check_edit(alloc, kept, &p, &entry, bytes.as_slice(), edit, touches)?;
-        check_pieces(alloc, kept, sizes, &entry, bytes.as_slice(), place, touches)?;
+        check_place(alloc, sizes, bytes.as_slice(), place, touches)?;
     }
     Ok(())
 }
