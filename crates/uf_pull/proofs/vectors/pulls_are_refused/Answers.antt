@@ -1,0 +1,32 @@
+use Rattle.std.proofs.Common.{refl}
+use Rattle.std.specs.Str.{chars, is_utf8}
+use Rattle.sha2.specs.Sha256.{sha256, compress, rounds, hash_after, digest_bytes, schedule, first_words}
+use Rattle.uf_varint.specs.Varint.{multi_within, read_multi_of, varint, varint_within}
+use Rattle.uf_cid.specs.Base32.{base32}
+use Rattle.uf_cid.specs.Read.{cid_at, cid_of_text}
+use Rattle.uf_lines.specs.LinesIn.{lines_from}
+use Rattle.uf_walk.specs.Order.{visit}
+use Rattle.uf_pull.specs.Due.{answer_to, due_within}
+use Rattle.uf_pull.specs.Frames.{begins, frames_within}
+use Rattle.uf_pull.specs.Wants.{ask_of, asked_from}
+use Rattle.uf_pull.proofs.vectors.pulls_are_refused.Goals as goal
+
+pub returns-clause-lacks : goal.returns-clause-lacks
+unfolding sha256 compress rounds hash_after digest_bytes schedule first_words is_utf8 chars varint varint_within multi_within read_multi_of cid_at cid_of_text base32 visit answer_to due_within begins frames_within lines_from ask_of asked_from
+returns-clause-lacks c = refl
+
+pub returns-clause-none : goal.returns-clause-none
+unfolding sha256 compress rounds hash_after digest_bytes schedule first_words is_utf8 chars varint varint_within multi_within read_multi_of cid_at cid_of_text base32 visit answer_to due_within begins frames_within lines_from ask_of asked_from
+returns-clause-none c = refl
+
+pub returns-clause-part : goal.returns-clause-part
+unfolding sha256 compress rounds hash_after digest_bytes schedule first_words is_utf8 chars varint varint_within multi_within read_multi_of cid_at cid_of_text base32 visit answer_to due_within begins frames_within lines_from ask_of asked_from
+returns-clause-part c = refl
+
+pub returns-clause-form : goal.returns-clause-form
+unfolding sha256 compress rounds hash_after digest_bytes schedule first_words is_utf8 chars varint varint_within multi_within read_multi_of cid_at cid_of_text base32 visit answer_to due_within begins frames_within lines_from ask_of asked_from
+returns-clause-form c = refl
+
+pub returns-clause-later : goal.returns-clause-later
+unfolding sha256 compress rounds hash_after digest_bytes schedule first_words is_utf8 chars varint varint_within multi_within read_multi_of cid_at cid_of_text base32 visit answer_to due_within begins frames_within lines_from ask_of asked_from
+returns-clause-later c = refl

@@ -1,0 +1,10 @@
+pub mod Due
+pub mod Frames
+pub mod Laws
+pub mod Pulling
+pub mod Reading
+pub mod Serving
+pub mod Untaken
+pub mod Vectors
+pub mod Wants
+pub mod Wholes
