@@ -1,0 +1,3 @@
+mod Batched
+pub mod Histories
+pub mod Places

@@ -1,0 +1,25 @@
+// A batch as steps of a history.
+ghost use Rattle.std.specs.Prelude.{◌≡◌, ◌≢◌, ℕ, List, Some};
+ghost use Rattle.uf_edge.specs.Host.{HostTree};
+ghost use Rattle.uf_edge.specs.Streams.{Told};
+ghost use Rattle.uf_mfs.specs.Standing.{TellsAs};
+ghost use Rattle.uf_reply.specs.declared.status.Status.{Status as TheStatus};
+ghost use Rattle.uf_reply.specs.declared.status.Status.TheVariants as status;
+ghost use Rattle.uf_top.specs.Batch.{Batches, Scene};
+ghost use Rattle.uf_top.specs.BatchReplies.{NothingFails};
+ghost use Rattle.uf_tree.specs.Standing.{Standing};
+ghost use Rattle.uf_headline.specs.Batched.{AreOfLines, with_last};
+ghost use Rattle.uf_headline.specs.History.{History, Step};
+
+/// A batch, over a store that stands for a tree (or has no Head, or one that isn't read) and a host that tells, is a
+/// history, where nothing of the store, the output or the host failed, no clash was met, and it doesn't end for want of
+/// memory: a step for each line that has a word, that of the line which ended it too, each with no input.
+pub fn a_batch_is_a_history()
+    ensures { (X : List ℕ → List ℕ) (N : List ℕ → ℕ) (host : HostTree) (most limit : ℕ) (given : TheStatus)
+        (before now : Scene) (left left_now : Told) (reads reads_now : ℕ) (standing : Standing)
+        → (did : Batches X N most limit given before now left left_now reads reads_now)
+        → before.around.host.told ≡ Some host → TellsAs X N before.around.store.told standing
+        → NothingFails before.around now.around → given ≢ status.Memory
+        → (steps : List Step) × History X N steps before.around.store.told now.around.store.told
+        × AreOfLines host (with_last X N did.lines did.ending) steps }
+{}

@@ -1,0 +1,59 @@
+//! The headline: after any list of commands in which nothing fails, the root CID is that of adding the same names and
+//! bytes afresh.
+#![tactic(auto)]
+
+mod batches;
+mod steps;
+
+ghost use Rattle.std.specs.Prelude.{◌≡◌, ℕ, List, Some, IsTrue};
+ghost use Rattle.uf_cid.specs.declared.cid.Cid.{Cid};
+ghost use Rattle.uf_mfs.specs.Standing.{TellsAs, head_in};
+ghost use Rattle.uf_store.specs.Contents.{Told};
+ghost use Rattle.uf_tree.specs.Heads.{head_text};
+ghost use Rattle.uf_tree.specs.Standing.{Standing, Stands};
+ghost use Rattle.uf_tree.specs.Tree.{Dir, Entries, is_tree};
+ghost use Rattle.uf_tree.specs.TreePlan.{entry};
+ghost use Rattle.uf_tree.specs.declared.profile.Profile.{Profile};
+ghost use Rattle.uf_headline.specs.History.{AddsAfresh, History, Makes, PrintsLast, Step, standing_after};
+ghost use Rattle.uf_headline.specs.Places.{place_at};
+
+pub use batches::a_batch_is_a_history;
+pub use steps::run_a_step;
+
+/// Commands done in turn, each as `run` says, over a store that stands for a tree, or has no Head or a bad one, where
+/// nothing failed, no clash was met and memory wasn't wanting: the store then stands for what the same commands make of
+/// the plain tree.
+pub fn a_history_gives_its_tree()
+    ensures { (X : List ℕ → List ℕ) (N : List ℕ → ℕ) (steps : List Step) (before now : Told) (standing : Standing)
+        → TellsAs X N before standing → History X N steps before now
+        → TellsAs X N now (standing_after X N steps standing) }
+{}
+
+/// Two histories that make one tree by one profile, wherever they began and whatever came between, end with one Head,
+/// byte for byte: the text of the profile and of the CID of the tree's plan.
+pub fn same_names_and_bytes_have_one_root()
+    ensures same { (X : List ℕ → List ℕ) (N : List ℕ → ℕ) (steps others : List Step) (a b c d : Told)
+        (first other : Standing) (p : Profile) (es : Entries)
+        → Makes X N steps a b first (Stands p es) → Makes X N others c d other (Stands p es)
+        → head_in b ≡ head_in d }
+    ensures is { (X : List ℕ → List ℕ) (N : List ℕ → ℕ) (steps : List Step) (a b : Told) (first : Standing)
+        (p : Profile) (es : Entries) → Makes X N steps a b first (Stands p es)
+        → head_in b ≡ Some (head_text p (entry X N p (Dir es)).cid) }
+{}
+
+/// Where a history makes a tree, and a folder of a host has the same names and bytes, `add -r -n` of that folder, over a
+/// store whose Head has the same profile, or one with no Head where that profile is the usual one, prints last the CID
+/// that is in the history's Head.
+pub fn a_tree_added_afresh_has_its_root()
+    ensures { (X : List ℕ → List ℕ) (N : List ℕ → ℕ) (steps : List Step) (a b : Told) (first : Standing) (p : Profile)
+        (es : Entries) (fresh : Step) (standing : Standing) (path : List ℕ)
+        → Makes X N steps a b first (Stands p es) → AddsAfresh X N fresh standing path p es
+        → (cid : Cid) × (head_in b ≡ Some (head_text p cid)) × PrintsLast fresh path cid }
+{}
+
+/// The names and bytes at all paths determine the tree: two trees with the same folders, and the same files of the same
+/// bytes, are one.
+pub fn names_and_bytes_are_one_tree()
+    ensures { (es fs : Entries) → IsTrue (is_tree (Dir es)) → IsTrue (is_tree (Dir fs))
+        → ((names : List (List ℕ)) → place_at names es ≡ place_at names fs) → es ≡ fs }
+{}
