@@ -73,7 +73,7 @@ const RUNS: [Row; 8] = [
     },
 ];
 
-pub fn split(alloc: Global, line: &str) -> Result<Vec<String>, Memory> {
+fn split(alloc: Global, line: &str) -> Result<Vec<String>, Memory> {
     let mut words = Vec::new(alloc);
     for word in line.split(' ') {
         words.push(String::from_str(alloc, word)?)?;

@@ -1,0 +1,141 @@
+// Commands over a store with a cache.
+
+use crate::playing::{begins_row, play_lines};
+use crate::setting::feed;
+use crate::sheet::Sheet;
+use crate::words::{number_of, word_of};
+use crate::world::{Ends, World, words_in};
+use std::alloc::Global;
+use std::mem;
+use std::sync::ledger::Ledger;
+use uf_cache::Cached;
+use uf_cached::run_cached;
+use uf_cid::{Block, BlockHash, Memory};
+use uf_edge::{MemHost, MemSink, MemSource};
+use uf_murmur::NameHash;
+use uf_store::{MemStore, Steps};
+
+fn act_over<X: BlockHash, N: NameHash, L: Ledger>(
+    world: &mut World<X>,
+    store: &mut Cached<MemStore<X>>,
+    words: &[String],
+    ends: &mut Ends,
+    touches: &mut Steps<L>,
+) -> Result<(), Memory> {
+    let status = run_cached::<MemStore<X>, N, MemHost, MemSource, MemSink, MemSink, L>(
+        world.alloc,
+        words,
+        store,
+        &mut world.host,
+        &mut ends.input,
+        &mut ends.output,
+        &mut ends.errors,
+        touches,
+    );
+    world.note(ends, status, false)
+}
+
+// Does a command over the cache, and tells what came of it, but not whether it wrote.
+fn act_cached<X: BlockHash, N: NameHash, L: Ledger>(
+    world: &mut World<X>,
+    store: &mut Cached<MemStore<X>>,
+    line: &str,
+    told: &mut Block,
+    touches: &mut Steps<L>,
+) -> Result<(), Memory> {
+    let words = words_in(world.alloc, line)?;
+    let mut ends = world.take_ends()?;
+    act_over::<X, N, L>(world, store, &words, &mut ends, touches)?;
+    world.tell(b"", told)
+}
+
+// Sets the input.
+fn change<X: BlockHash>(world: &mut World<X>, line: &str, told: &mut Block) -> Result<(), Memory> {
+    let is_done = match word_of(line) {
+        (Some(word), rest) => feed(world, word, rest)?,
+        _ => false,
+    };
+    if is_done {
+        return Ok(());
+    }
+    told.extend(b"> no such line\n")
+}
+
+fn step<X: BlockHash, N: NameHash, L: Ledger>(
+    world: &mut World<X>,
+    store: &mut Cached<MemStore<X>>,
+    line: &str,
+    told: &mut Block,
+    touches: &mut Steps<L>,
+) -> Result<(), Memory> {
+    let (mark, rest) = line.split_once(' ').unwrap_or((line, ""));
+    match mark {
+        "$" => act_cached::<X, N, L>(world, store, rest, told, touches),
+        "!" => change(world, rest, told),
+        _ => Ok(()),
+    }
+}
+
+// Does lines over a cache.
+fn play_behind<X: BlockHash, N: NameHash, L: Ledger>(
+    world: &mut World<X>,
+    store: &mut Cached<MemStore<X>>,
+    part: (&str, &str),
+    sheet: &mut Sheet,
+    touches: &mut Steps<L>,
+) -> Result<(), Memory> {
+    let (title, lines) = part;
+    for line in lines.lines() {
+        if begins_row(title, line, sheet)? {
+            step::<X, N, L>(world, store, line, &mut sheet.came, touches)?;
+        }
+    }
+    sheet.settle(title)
+}
+
+// Puts a cache of so many entries over the store of a world, and does lines over it.
+fn play_over<X: BlockHash, N: NameHash, L: Ledger>(
+    world: &mut World<X>,
+    entries: usize,
+    part: (&str, &str),
+    sheet: &mut Sheet,
+    touches: &mut Steps<L>,
+) -> Result<(), Memory> {
+    let below = mem::replace(&mut world.store, MemStore::new(world.alloc));
+    let mut store = Cached::new(world.alloc, below, entries.max(1))?;
+    play_behind::<X, N, L>(world, &mut store, part, sheet, touches)
+}
+
+fn play_halves<X: BlockHash, N: NameHash, L: Ledger>(
+    world: &mut World<X>,
+    title: &str,
+    lines: &str,
+    sheet: &mut Sheet,
+    touches: &mut Steps<L>,
+) -> Result<(), Memory> {
+    let (first, second) = lines.split_once("\n! cache ").unwrap_or((lines, ""));
+    let (entries, rest) = second.split_once('\n').unwrap_or((second, ""));
+    play_lines::<X, N, L>(world, title, first, sheet, touches)?;
+    sheet.count_line();
+    let line = format!(in world.alloc; "! cache {entries}")?;
+    sheet.tell(line.as_str())?;
+    play_over::<X, N, L>(
+        world,
+        number_of(entries).min(1024) as usize,
+        (title, rest),
+        sheet,
+        touches,
+    )
+}
+
+/// Does a part with a line `cache N`: the lines behind it over a cache of so many entries.
+pub fn play_cached<X: BlockHash, N: NameHash, L: Ledger>(
+    alloc: Global,
+    title: &str,
+    lines: &str,
+    sheet: &mut Sheet,
+    touches: &mut Steps<L>,
+) -> Result<(), Memory> {
+    let mut world = World::<X>::over(alloc, MemStore::new(alloc));
+    play_halves::<X, N, L>(&mut world, title, lines, sheet, touches)
+}

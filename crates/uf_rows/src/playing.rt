@@ -1,0 +1,161 @@
+// The parts of a transcript, and their lines.
+
+use crate::caching::play_cached;
+use crate::setting::{set, tell_blocks};
+use crate::sheet::Sheet;
+use crate::trying::{Tries, fail_all, repeat, stop_all, try_fronts, try_rooms, try_within};
+use crate::words::{Word, number_of, word_of};
+use crate::world::{World, act_and_tell, act_in_batch};
+use std::alloc::Global;
+use std::sync::ledger::Ledger;
+use uf_cid::{Block, BlockHash, Memory, Sha256Hash, Sum8Hash, Text};
+use uf_murmur::{FirstEight, Murmur3, NameHash};
+use uf_store::{MemStore, Steps};
+
+// Asks this of what is left from now on: in the place of all, or behind them. Nothing asks nothing.
+fn set_asks<X: BlockHash>(world: &mut World<X>, word: Word, rest: &str) -> Result<(), Memory> {
+    if word == Word::Asks {
+        world.asks = Text::new(world.alloc);
+    }
+    if rest.is_empty() {
+        return Ok(());
+    }
+    world.asks.push_str(rest)?;
+    world.asks.push_str("\n")
+}
+
+// Does what a word asks for.
+fn do_word<X: BlockHash, N: NameHash, L: Ledger>(
+    world: &mut World<X>,
+    word: Word,
+    rest: &str,
+    told: &mut Block,
+    touches: &mut Steps<L>,
+) -> Result<bool, Memory> {
+    let mut tries = Tries::new(world.alloc);
+    match word {
+        Word::Asks | Word::And => set_asks(world, word, rest)?,
+        Word::Blocks => tell_blocks(world, told)?,
+        Word::Repeat => repeat::<X, N, L>(world, rest, &mut tries, told, touches)?,
+        Word::Within => try_within::<X, N, L>(world, rest, &mut tries, told, touches)?,
+        Word::Fails => fail_all::<X, N, L>(world, rest, &mut tries, told, touches)?,
+        Word::Stops => stop_all::<X, N, L>(world, rest, &mut tries, told, touches)?,
+        Word::Rooms => try_rooms::<X, N, L>(world, rest, &mut tries, told, touches)?,
+        Word::Fronts => try_fronts::<X, N, L>(world, rest, &mut tries, told, touches)?,
+        Word::Batch => act_in_batch::<X, N, L>(world, number_of(rest), told, touches)?,
+        _ => return Ok(false),
+    }
+    Ok(true)
+}
+
+// Does what a line behind a `!` asks for.
+fn change<X: BlockHash, N: NameHash, L: Ledger>(
+    world: &mut World<X>,
+    line: &str,
+    told: &mut Block,
+    touches: &mut Steps<L>,
+) -> Result<(), Memory> {
+    let (word, rest) = word_of(line);
+    let is_done = match word {
+        Some(word) => {
+            do_word::<X, N, L>(world, word, rest, told, touches)? || set(world, word, line, rest)?
+        }
+        None => false,
+    };
+    if is_done {
+        return Ok(());
+    }
+    told.extend(b"> no such line\n")
+}
+
+// Does a line, and tells what comes of it.
+fn step<X: BlockHash, N: NameHash, L: Ledger>(
+    world: &mut World<X>,
+    line: &str,
+    told: &mut Block,
+    touches: &mut Steps<L>,
+) -> Result<(), Memory> {
+    let (mark, rest) = line.split_once(' ').unwrap_or((line, ""));
+    match mark {
+        "$" => act_and_tell::<X, N, L>(world, rest, told, touches),
+        "!" => change::<X, N, L>(world, rest, told, touches),
+        _ => Ok(()),
+    }
+}
+
+/// Reads a line of what is wanted, or ends the row before this line and tells it: whether it begins a row.
+pub fn begins_row(part: &str, line: &str, sheet: &mut Sheet) -> Result<bool, Memory> {
+    sheet.count_line();
+    if line.starts_with('>') || line.starts_with('?') || line.starts_with('=') {
+        sheet.want(line)?;
+        return Ok(false);
+    }
+    sheet.settle(part)?;
+    sheet.tell(line)?;
+    Ok(true)
+}
+
+/// Does the lines of a part.
+pub fn play_lines<X: BlockHash, N: NameHash, L: Ledger>(
+    world: &mut World<X>,
+    title: &str,
+    lines: &str,
+    sheet: &mut Sheet,
+    touches: &mut Steps<L>,
+) -> Result<(), Memory> {
+    for line in lines.lines() {
+        if begins_row(title, line, sheet)? {
+            step::<X, N, L>(world, line, &mut sheet.came, touches)?;
+        }
+    }
+    sheet.settle(title)
+}
+
+fn play<X: BlockHash, N: NameHash, L: Ledger>(
+    alloc: Global,
+    title: &str,
+    lines: &str,
+    sheet: &mut Sheet,
+    touches: &mut Steps<L>,
+) -> Result<(), Memory> {
+    let mut world = World::<X>::over(alloc, MemStore::new(alloc));
+    play_lines::<X, N, L>(&mut world, title, lines, sheet, touches)
+}
+
+// Does a part, whose first line says of what kind the store is.
+fn play_part<L: Ledger>(
+    alloc: Global,
+    part: &str,
+    sheet: &mut Sheet,
+    touches: &mut Steps<L>,
+) -> Result<(), Memory> {
+    let title = part.lines().next().unwrap_or("");
+    let (kind, _) = title.split_once(':').unwrap_or((title, ""));
+    match kind {
+        "@ sha256 letters" => play::<Sha256Hash, FirstEight, L>(alloc, title, part, sheet, touches),
+        "@ sum8 murmur3" => play::<Sum8Hash, Murmur3, L>(alloc, title, part, sheet, touches),
+        "@ sha256 letters cached" => {
+            play_cached::<Sha256Hash, FirstEight, L>(alloc, title, part, sheet, touches)
+        }
+        _ => play::<Sha256Hash, Murmur3, L>(alloc, title, part, sheet, touches),
+    }
+}
+
+/// Does all parts, between which there are empty lines.
+pub fn play_all<L: Ledger>(
+    alloc: Global,
+    script: &str,
+    sheet: &mut Sheet,
+    touches: &mut Steps<L>,
+) -> Result<(), Memory> {
+    let mut is_first = true;
+    for part in script.split("\n\n") {
+        if !is_first {
+            sheet.count_line();
+            sheet.tell("")?;
+        }
+        is_first = false;
+        play_part::<L>(alloc, part, sheet, touches)?;
+    }
+    Ok(())
+}

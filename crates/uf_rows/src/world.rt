@@ -1,0 +1,217 @@
+// A store, a host and streams in memory, and commands over them. What owns several of them leaves at one place, since
+// each way out of it has to be proved.
+
+use crate::hosting::host_with;
+use crate::outcome::{tell_bytes, tell_status};
+use crate::words::number_and_rest;
+use std::alloc::Global;
+use std::mem;
+use std::sync::ledger::Ledger;
+use uf_cid::{Block, BlockHash, Memory, Text};
+use uf_edge::{Calls, MemHost, MemSink, MemSource};
+use uf_murmur::NameHash;
+use uf_store::{MemStore, Steps};
+use uf_testing::{ROOMY, Streams, block_of, calls, sink, words_of};
+use uf_top::{Status, batch, run};
+
+/// What commands are done over, and what came of the last one.
+#[derive(Drop)]
+pub struct World<X: BlockHash> {
+    pub alloc: Global,
+    pub store: MemStore<X>,
+    pub other: MemStore<X>,
+    pub host: MemHost,
+    // The lines that say what was put into the host.
+    pub planted: Text,
+    pub input: Block,
+    pub streams: Streams,
+    // The commands that are asked what is left.
+    pub asks: Text,
+    pub output: Block,
+    errors: Block,
+    status: u8,
+    wrote: bool,
+}
+
+/// The streams of one command.
+#[derive(Drop)]
+pub struct Ends {
+    pub input: MemSource,
+    pub output: MemSink,
+    pub errors: MemSink,
+}
+
+impl<X: BlockHash> World<X> {
+    /// One over this store, with nothing else in it.
+    pub fn over(alloc: Global, store: MemStore<X>) -> Self {
+        World {
+            alloc,
+            store,
+            other: MemStore::new(alloc),
+            host: MemHost::new(alloc, Calls::new(alloc)),
+            planted: Text::new(alloc),
+            input: Block::new(alloc),
+            streams: ROOMY,
+            asks: Text::new(alloc),
+            output: Block::new(alloc),
+            errors: Block::new(alloc),
+            status: 0,
+            wrote: false,
+        }
+    }
+
+    /// A store that holds the same, and of which no call is to fail.
+    pub fn store_copied(&self) -> Result<MemStore<X>, Memory> {
+        self.store_after(self.store.writes(), false)
+    }
+
+    /// What a stop behind so many writes leaves, where all saves outlived it or all that could be lost are lost.
+    pub fn store_after(&self, at: usize, is_lossy: bool) -> Result<MemStore<X>, Memory> {
+        let lost = places(self.alloc, if is_lossy { at as u64 } else { 0 })?;
+        self.store.after_stop(at.min(self.store.writes()), &lost)
+    }
+
+    /// A host anew that has what was put into it, and of which a call may fail.
+    pub fn renew_host(&mut self, fails: Option<u64>) -> Result<(), Memory> {
+        self.host = host_with(self.alloc, self.planted.as_str(), fails)?;
+        Ok(())
+    }
+
+    /// The streams of the next command. They take the input.
+    pub fn take_ends(&mut self) -> Result<Ends, Memory> {
+        let streams = self.streams;
+        let output = sink(self.alloc, streams.room, streams.output_fails)?;
+        let errors = sink(self.alloc, 65536, streams.errors_fail)?;
+        let fails = calls(self.alloc, streams.input_fails)?;
+        let input = mem::replace(&mut self.input, Block::new(self.alloc));
+        Ok(Ends {
+            input: MemSource::new(input, 65536, fails),
+            output,
+            errors,
+        })
+    }
+
+    /// Notes what came of a command.
+    pub fn note(&mut self, ends: &Ends, status: Status, wrote: bool) -> Result<(), Memory> {
+        self.output = block_of(self.alloc, ends.output.bytes())?;
+        self.errors = block_of(self.alloc, ends.errors.bytes())?;
+        self.status = status.number();
+        self.wrote = wrote;
+        Ok(())
+    }
+
+    /// Tells what came of the last command. Nothing is told of what it printed where that is a front of this.
+    pub fn tell(&self, whole: &[u8], told: &mut Block) -> Result<(), Memory> {
+        let printed = self.output.as_slice();
+        if whole.len() <= printed.len() || !whole.starts_with(printed) {
+            tell_bytes(told, self.alloc, b"> ", printed)?;
+        }
+        tell_bytes(told, self.alloc, b"? ", self.errors.as_slice())?;
+        tell_status(told, self.alloc, self.status, self.wrote)
+    }
+}
+
+// The places below this one.
+fn places(alloc: Global, end: u64) -> Result<Calls, Memory> {
+    let mut places = Calls::new(alloc);
+    for place in 0..end {
+        places.push(place)?;
+    }
+    Ok(places)
+}
+
+// A line in which `{N TEXT}` stands for so many times that text.
+fn expanded(alloc: Global, line: &str) -> Result<Text, Memory> {
+    let (front, rest) = line.split_once('{').unwrap_or((line, ""));
+    let (inner, behind) = rest.split_once('}').unwrap_or((rest, ""));
+    let (count, text) = number_and_rest(inner);
+    let mut whole = Text::new(alloc);
+    whole.push_str(front)?;
+    for _ in 0..count {
+        whole.push_str(text)?;
+    }
+    whole.push_str(behind)?;
+    Ok(whole)
+}
+
+/// The words of a line, in which `{N TEXT}` stands for so many times that text.
+pub fn words_in(alloc: Global, line: &str) -> Result<Vec<String>, Memory> {
+    let line = expanded(alloc, line)?;
+    words_of(alloc, line.as_str())
+}
+
+/// Does a command.
+pub fn act<X: BlockHash, N: NameHash, L: Ledger>(
+    world: &mut World<X>,
+    line: &str,
+    touches: &mut Steps<L>,
+) -> Result<(), Memory> {
+    let words = words_in(world.alloc, line)?;
+    let mut ends = world.take_ends()?;
+    act_over::<X, N, L>(world, &words, &mut ends, touches)
+}
+
+fn act_over<X: BlockHash, N: NameHash, L: Ledger>(
+    world: &mut World<X>,
+    words: &[String],
+    ends: &mut Ends,
+    touches: &mut Steps<L>,
+) -> Result<(), Memory> {
+    let before = world.store.writes();
+    let status = run::<MemStore<X>, N, MemHost, MemSource, MemSink, MemSink, L>(
+        world.alloc,
+        words,
+        &mut world.store,
+        &mut world.host,
+        &mut ends.input,
+        &mut ends.output,
+        &mut ends.errors,
+        touches,
+    );
+    let wrote = before < world.store.writes();
+    world.note(ends, status, wrote)
+}
+
+/// Does a command, and tells what came of it.
+pub fn act_and_tell<X: BlockHash, N: NameHash, L: Ledger>(
+    world: &mut World<X>,
+    line: &str,
+    told: &mut Block,
+    touches: &mut Steps<L>,
+) -> Result<(), Memory> {
+    act::<X, N, L>(world, line, touches)?;
+    world.tell(b"", told)
+}
+
+/// Does the lines of the input as a batch of at most so many bytes, and tells what came of it.
+pub fn act_in_batch<X: BlockHash, N: NameHash, L: Ledger>(
+    world: &mut World<X>,
+    limit: u64,
+    told: &mut Block,
+    touches: &mut Steps<L>,
+) -> Result<(), Memory> {
+    let mut ends = world.take_ends()?;
+    batch_over::<X, N, L>(world, limit, &mut ends, touches)?;
+    world.tell(b"", told)
+}
+
+fn batch_over<X: BlockHash, N: NameHash, L: Ledger>(
+    world: &mut World<X>,
+    limit: u64,
+    ends: &mut Ends,
+    touches: &mut Steps<L>,
+) -> Result<(), Memory> {
+    let before = world.store.writes();
+    let status = batch::<MemStore<X>, N, MemHost, MemSource, MemSink, MemSink, L>(
+        world.alloc,
+        limit,
+        &mut world.store,
+        &mut world.host,
+        &mut ends.input,
+        &mut ends.output,
+        &mut ends.errors,
+        touches,
+    );
+    let wrote = before < world.store.writes();
+    world.note(ends, status, wrote)
+}
