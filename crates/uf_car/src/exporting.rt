@@ -11,6 +11,7 @@ ghost use Rattle.uf_car.specs.Exporting.{export_fault, is_sink_fault};
 ghost use Rattle.uf_car.specs.Text.{car_text, section_bytes};
 
 use crate::ExportFault;
+use crate::foreseeing::{foresee_met, foresee_next};
 use crate::parts::{car_head, car_section};
 use std::alloc::Global;
 use std::sync::ledger::Ledger;
@@ -81,6 +82,7 @@ fn take_block<S: Store, L: Ledger>(
     ensures reads { OnlyReads S.X.block32 NoneIsBad (export_fault result) (S.seen store.old) (S.seen store.new) }
     ensures no_sink { is_sink_fault result ≡ false }
 {
+    foresee_next(store, cid, walk.next_ones());
     need(store, cid, touches)?;
     walk.take(store.block())?;
     Ok(())
@@ -112,7 +114,7 @@ fn write_car<S: Store, O: Sink, L: Ledger>(
         match walk.met(place) {
             None => return Ok(written),
             Some(cid) => {
-                let count = write_block(store, &cid, out, touches)?;
+                let count = write_block(store, walk, place, &cid, out, touches)?;
                 written += count;
             }
         }
@@ -120,9 +122,11 @@ fn write_car<S: Store, O: Sink, L: Ledger>(
     Ok(written)
 }
 
-// Loads a block, writes it as a section, and says how many bytes that has.
+// Loads the block that a walk has handed out at a place, writes it as a section, and says how many bytes that has.
 fn write_block<S: Store, O: Sink, L: Ledger>(
     store: &mut S,
+    walk: &Walk,
+    place: u32,
     cid: &Cid,
     out: &mut O,
     touches: &mut Steps<L>,
@@ -134,6 +138,7 @@ fn write_block<S: Store, O: Sink, L: Ledger>(
     ensures reads { OnlyReads S.X.block32 NoneIsBad (export_fault result) (S.seen store.old) (S.seen store.new) }
     ensures counts { Counts (is_sink_fault result) (O.faults out.old) (O.faults out.new) }
 {
+    foresee_met(store, walk, place);
     need(store, cid, touches)?;
     let block = store.block();
     match car_section(cid, block, out) {

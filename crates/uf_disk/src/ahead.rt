@@ -45,7 +45,7 @@ impl<X: BlockHash> Ahead<X> {
     }
 
     /// Reads the files of the first of these blocks in the place of those that are here, but where the first one is here.
-    /// A file of another length than the first one's, and one that can't be read, is left out.
+    /// A file of another length than the first one's, or one that can't be read, is left out with those behind it.
     pub fn read<R: Files + RandomSource>(&mut self, folder: &Folder<R>, cids: &[Cid]) {
         let Some(first) = cids.first() else {
             return;
@@ -105,8 +105,8 @@ fn no_cids() -> [Cid; 8] {
     }; 8]
 }
 
-// Reads the files of at most eight blocks that are as long as the first one's, one after another, and notes their CIDs:
-// how many, and how long they are.
+// Reads the files of at most eight blocks, one after another, as far as they are as long as the first one's, and notes
+// their CIDs: how many, and how long they are.
 fn gather<R: Files + RandomSource>(
     folder: &Folder<R>,
     cids: &[Cid],
@@ -119,13 +119,16 @@ fn gather<R: Files + RandomSource>(
 {
     bytes.clear();
     let mut count = 0;
+    let mut is_alike = true;
     let size = match cids.first() {
         Some(cid) => folder.length_of_block(cid),
         None => 0,
     };
     for at in 0..cids.len().min(GROUP) {
-        let has_room = bytes.len() + size <= MOST_AHEAD;
-        if has_room && folder.append_block(&cids[at], size, bytes) {
+        is_alike = is_alike
+            && bytes.len() + size <= MOST_AHEAD
+            && folder.append_block(&cids[at], size, bytes);
+        if is_alike {
             found[count] = cids[at];
             count += 1;
         }

@@ -1,6 +1,7 @@
 //! DAGs of UnixFS that others wrote, read leniently within limits (UnixFS v1, "Data Format").
 #![tactic(auto)]
 
+mod ahead;
 mod due;
 mod fault;
 mod found;

@@ -12,8 +12,9 @@ ghost use Rattle.uf_lenient.specs.Reading.{file_of};
 ghost use Rattle.uf_lenient.specs.Steps.{IsNextPiece, IsPiece, start_of, to_come};
 ghost use Rattle.uf_lenient.specs.Visited.{VisitsNext};
 
+use crate::ahead::read_ahead;
 use crate::due::{Due, Visited};
-use crate::parts::{put_parts, read_node};
+use crate::parts::put_parts;
 use crate::pile::Pile;
 use crate::{DagFault, Limits};
 use std::alloc::Global;
@@ -111,10 +112,19 @@ impl Pieces {
         ensures touched { touches.old ≤ touches.new }
     {
         let mut visits = self.visits;
-        let (bytes, links) = read_node(self.alloc, store, next, &mut visits, touches)?;
+        let rest = self.rest();
+        let (bytes, links) = read_ahead(self.alloc, store, next, rest, &mut visits, touches)?;
         self.replace(&links, next.left - 1)?;
         self.visits = visits;
         Ok(bytes)
+    }
+
+    // What comes after the block on top, which is the last of it.
+    fn rest(&self) -> &[Due] {
+        match self.due.as_slice() {
+            [rest @ .., _] => rest,
+            [] => &[],
+        }
     }
 
     // Puts the parts that the node on top links in its place.

@@ -51,6 +51,15 @@ impl<V: Drop> Pile<V> {
 }
 
 impl Pile<Due> {
+    ghost use Rattle.std.proofs.Common.{reverse};
+
+    /// All of it, what is on top last.
+    pub fn as_slice(&self) -> &[Due]
+        ensures { reverse result.now ≡ self.now }
+    {
+        self.items.as_slice()
+    }
+
     /// What is on top.
     pub fn top(&self) -> Option<&Due>
         ensures { option_copied result ≡ slice_get self.now 0 }

@@ -10,6 +10,7 @@ ghost use Rattle.uf_lenient.specs.Pending.{all_end, gathered_due, way_due};
 ghost use Rattle.uf_lenient.specs.Reading.{shape_of as shape_is};
 ghost use Rattle.uf_lenient.specs.Steps.{IsInOrder, StepsTo, Surveys};
 
+use crate::ahead::enter_ahead;
 use crate::due::{Due, Visited};
 use crate::gathered::Gathered;
 use crate::gathering::gather;
@@ -17,7 +18,6 @@ use crate::looking::shape_of;
 use crate::met::Met;
 use crate::parts::{put_parts, read_node};
 use crate::pile::Pile;
-use crate::visiting::enter;
 use crate::{DagFault, Limits, Shape};
 use std::alloc::Global;
 use std::sync::ledger::Ledger;
@@ -108,7 +108,7 @@ fn read_one<S: Store, L: Ledger>(
     ensures touched { touches.old ≤ touches.new }
 {
     match next.cid.codec {
-        Codec::Raw => enter(store, &next.cid, next.left, visits, touches),
+        Codec::Raw => enter_ahead(store, next, due.as_slice(), visits, touches),
         Codec::DagPb => match next.visited {
             Visited::Whole => read_whole(alloc, store, next, due, visits, touches),
             Visited::File => read_part(alloc, store, next, due, visits, touches),

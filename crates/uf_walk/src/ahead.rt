@@ -31,6 +31,9 @@ impl Model for Ahead {
 }
 
 impl Ahead {
+    ghost use Rattle.std.specs.Prelude.{length, take};
+    ghost use Rattle.std.proofs.Common.{reverse};
+
     /// Nothing is ahead.
     pub fn new(alloc: Global) -> Self
         ensures { result ≡ [] }
@@ -78,6 +81,13 @@ impl Ahead {
             Some(cid) => Some(*cid),
             None => front_of(&self.roots),
         }
+    }
+
+    /// Some of the first CIDs, the first one last.
+    pub fn some_first(&self) -> &[Cid]
+        ensures { take (length result.now) self.now ≡ reverse result.now }
+    {
+        self.top.as_slice()
     }
 
     /// Takes so many CIDs away from the front.

@@ -12,10 +12,10 @@ returns-in_err-bytes-clause-says g c =
 
 pub returns-clause-says : goal.returns-clause-says
 returns-clause-says g c = by-good g.S.X.BlockHash.block32 (g.S.Store.seen c.args.store.now).told
-    (λ held says. comes-next held c.args.self.now (c.self-2.inside.due, c.read_node.new.visits) c.args.next.now c.self.inside.visits c.in_ok-bytes.bytes c.in_ok-bytes.links c.read_node.new.visits (ap (λ (r : Rest). r.1) c.self.view_is) c.requires.top says
+    (λ held says. comes-next held c.args.self.now (c.self-2.inside.due, c.read_ahead.new.visits) c.args.next.now c.self.inside.visits c.in_ok-bytes.bytes c.in_ok-bytes.links c.read_ahead.new.visits (ap (λ (r : Rest). r.1) c.self.view_is) c.requires.top says
     (ap (λ (r : Rest). r.0) c.self-2.view_is ∙ c.in_ok-replace.ensures.ok) refl) c.in_ok-bytes.ensures.says
 
 pub returns-clause-visits : goal.returns-clause-visits
 returns-clause-visits g c = by-good g.S.X.BlockHash.block32 (g.S.Store.seen c.args.store.now).told
-    (λ held says. visits-next held c.args.self.now (c.self-2.inside.due, c.read_node.new.visits) c.args.next.now c.self.inside.visits c.in_ok-bytes.bytes c.in_ok-bytes.links c.read_node.new.visits (ap (λ (r : Rest). r.1) c.self.view_is) c.requires.top says
+    (λ held says. visits-next held c.args.self.now (c.self-2.inside.due, c.read_ahead.new.visits) c.args.next.now c.self.inside.visits c.in_ok-bytes.bytes c.in_ok-bytes.links c.read_ahead.new.visits (ap (λ (r : Rest). r.1) c.self.view_is) c.requires.top says
     (ap (λ (r : Rest). r.0) c.self-2.view_is ∙ c.in_ok-replace.ensures.ok) refl) c.in_ok-bytes.ensures.says

@@ -1,0 +1,54 @@
+// Raw blocks that a store is told of before they are loaded: the leaves of a file lie side by side in a walk.
+ghost use Rattle.std.specs.Prelude.{◌≡◌};
+
+use uf_cid::{Cid, Codec};
+use uf_store::Store;
+use uf_walk::Walk;
+
+// How many blocks a store is told of at most.
+const MOST_AHEAD: usize = 8;
+
+/// Tells a store of a raw block that is loaded next, and of those that come right after it, the next one last.
+pub(crate) fn foresee_next<S: Store>(store: &mut S, next: &Cid, rest: &[Cid])
+    ensures { S.seen store.new ≡ S.seen store.old }
+{
+    if next.codec != Codec::Raw {
+        return;
+    }
+    let mut cids = [*next; MOST_AHEAD];
+    let mut count = 1;
+    for cid in rest.iter().rev() {
+        if count == MOST_AHEAD || cid.codec != Codec::Raw {
+            break;
+        }
+        cids[count] = *cid;
+        count += 1;
+    }
+    if count > 1 {
+        store.foresee(&cids[..count]);
+    }
+}
+
+/// Tells a store of the raw blocks that a walk has handed out from a place on.
+pub(crate) fn foresee_met<S: Store>(store: &mut S, walk: &Walk, place: u32)
+    ensures { S.seen store.new ≡ S.seen store.old }
+{
+    let mut cids = [NO_CID; MOST_AHEAD];
+    let mut count = 0;
+    for at in 0..MOST_AHEAD {
+        match walk.met(place.saturating_add(at as u32)) {
+            Some(cid) if cid.codec == Codec::Raw => cids[at] = cid,
+            _ => break,
+        }
+        count = at + 1;
+    }
+    if count > 1 {
+        store.foresee(&cids[..count]);
+    }
+}
+
+// What stands where there is none.
+const NO_CID: Cid = Cid {
+    codec: Codec::Raw,
+    digest: [0u8; 32],
+};
