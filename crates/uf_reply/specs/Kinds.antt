@@ -1,13 +1,12 @@
--- The kinds of refusals, and which of them a command may answer.
-use Rattle.std.specs.Prelude.{◌≡◌, Bool, true, false, ⊤}
+-- The kinds of refusals, and which of them commands may answer.
+use Rattle.std.specs.Prelude.{◌≡◌, ◌==◌, ℕ, Bool, true, false, List, [], ◌∷◌, ⊤}
+use Rattle.std.specs.List.{list_any}
 use Rattle.std.specs.declared.option.Option.{Option}
 use Rattle.std.specs.declared.option.Option.TheVariants.{None, Some}
 use Rattle.std.specs.declared.result.Result.{Result}
 use Rattle.std.specs.declared.result.Result.TheVariants.{Ok, Err}
 use Rattle.uf_store.specs.declared.store.StoreFault.{StoreFault}
 use Rattle.uf_store.specs.declared.store.StoreFault.TheVariants as fault
-use Rattle.uf_reply.specs.declared.types.Command.{Command}
-use Rattle.uf_reply.specs.declared.types.Command.TheVariants.{Init, Add, AddFrom, WriteInput, At, Read, Cat, Get, Export, Import, Same, Adopt, Gen, AddTo, AddFromTo}
 use Rattle.uf_reply.specs.declared.types.Refusal.{Refusal}
 use Rattle.uf_reply.specs.declared.types.Refusal.TheVariants as refusal
 
@@ -16,6 +15,30 @@ use Rattle.uf_reply.specs.declared.types.Refusal.TheVariants as refusal
 pub data RefusalKind : Type 0 where
   OfRule OfDag OfHost OfPath OfLongInput OfUsage OfReady OfRead OfWrite OfFailure OfMissing OfBadBlock OfClash OfMemory
       OfCar OfSections OfOwnClash : RefusalKind
+
+-- its place among them, by which two are compared
+abbrev pub place_of : RefusalKind → ℕ
+place_of OfRule = 0
+place_of OfDag = 1
+place_of OfHost = 2
+place_of OfPath = 3
+place_of OfLongInput = 4
+place_of OfUsage = 5
+place_of OfReady = 6
+place_of OfRead = 7
+place_of OfWrite = 8
+place_of OfFailure = 9
+place_of OfMissing = 10
+place_of OfBadBlock = 11
+place_of OfClash = 12
+place_of OfMemory = 13
+place_of OfCar = 14
+place_of OfSections = 15
+place_of OfOwnClash = 16
+
+-- the kind is one of these
+abbrev pub is_among : RefusalKind → List RefusalKind → Bool
+is_among kind kinds = list_any (λ other. place_of other == place_of kind) kinds
 
 -- the kind of a fault of the store
 abbrev pub fault_kind : StoreFault → RefusalKind
@@ -52,142 +75,63 @@ abbrev pub refusal_fault : {A : Type 0} → Result A Refusal → Option StoreFau
 refusal_fault (Ok a) = None
 refusal_fault (Err why) = fault_behind why
 
--- the families of commands: those that make a store ready, that add an input or what a host has, that put an input or
--- what a host has into the tree of the Head, that write an input into a file of it, that work on that tree alone, that
--- read DAGs of others, that write them to a host, that keep the blocks of a CAR, that compare with one, that copy from
--- DAGs of others into that tree, and that generate a tree
-pub data Family : Type 0 where
-  MakesReady AddsInput AddsHost PlacesInput PlacesHost TakesInput WorksInTree ReadsDag GetsDag KeepsCar ComparesCar
-      AdoptsDag GeneratesTree : Family
+-- the kinds that a command may answer once its words are read, before it prints, beside want of memory and a clash: of
+-- `init`; `add` of the input, and of what a host has; `add --to-files` of either; `files write` of the input; the other
+-- commands on the tree alone; `cat` and `dag export`; `get`; `dag import`; `dag same`; `files cp` from a DAG; and `gen`
+abbrev pub init_kinds : List RefusalKind
+init_kinds = OfReady ∷ OfFailure ∷ []
 
-abbrev pub family_of : Command → Family
-family_of (Init p) = MakesReady
-family_of (Add only_hash) = AddsInput
-family_of (AddFrom recursive only_hash path) = AddsHost
-family_of (AddTo dest) = PlacesInput
-family_of (AddFromTo recursive path dest) = PlacesHost
-family_of (WriteInput how path) = TakesInput
-family_of (At ask path) = WorksInTree
-family_of (Read offset count path) = WorksInTree
-family_of (Cat path) = ReadsDag
-family_of (Get path host_path) = GetsDag
-family_of (Export cid) = ReadsDag
-family_of Import = KeepsCar
-family_of (Same cid) = ComparesCar
-family_of (Adopt source dest) = AdoptsDag
-family_of (Gen n seed) = GeneratesTree
+abbrev pub add_kinds : List RefusalKind
+add_kinds = OfRule ∷ OfReady ∷ OfRead ∷ OfFailure ∷ []
 
--- the kinds that a command of a family may answer once its words are read, before it prints
-abbrev pub may_answer : Family → RefusalKind → Bool
-may_answer MakesReady OfReady = true
-may_answer MakesReady OfFailure = true
-may_answer MakesReady OfClash = true
-may_answer MakesReady OfMemory = true
-may_answer MakesReady kind = false
-may_answer AddsInput OfRule = true
-may_answer AddsInput OfReady = true
-may_answer AddsInput OfRead = true
-may_answer AddsInput OfFailure = true
-may_answer AddsInput OfClash = true
-may_answer AddsInput OfMemory = true
-may_answer AddsInput kind = false
-may_answer AddsHost OfHost = true
-may_answer AddsHost OfRule = true
-may_answer AddsHost OfReady = true
-may_answer AddsHost OfRead = true
-may_answer AddsHost OfFailure = true
-may_answer AddsHost OfClash = true
-may_answer AddsHost OfMemory = true
-may_answer AddsHost kind = false
-may_answer PlacesInput OfRule = true
-may_answer PlacesInput OfReady = true
-may_answer PlacesInput OfRead = true
-may_answer PlacesInput OfFailure = true
-may_answer PlacesInput OfMissing = true
-may_answer PlacesInput OfBadBlock = true
-may_answer PlacesInput OfClash = true
-may_answer PlacesInput OfMemory = true
-may_answer PlacesInput kind = false
-may_answer PlacesHost OfHost = true
-may_answer PlacesHost OfRule = true
-may_answer PlacesHost OfReady = true
-may_answer PlacesHost OfRead = true
-may_answer PlacesHost OfFailure = true
-may_answer PlacesHost OfMissing = true
-may_answer PlacesHost OfBadBlock = true
-may_answer PlacesHost OfClash = true
-may_answer PlacesHost OfMemory = true
-may_answer PlacesHost kind = false
-may_answer WorksInTree OfRule = true
-may_answer WorksInTree OfReady = true
-may_answer WorksInTree OfFailure = true
-may_answer WorksInTree OfMissing = true
-may_answer WorksInTree OfBadBlock = true
-may_answer WorksInTree OfClash = true
-may_answer WorksInTree OfMemory = true
-may_answer WorksInTree kind = false
-may_answer TakesInput OfDag = false
-may_answer TakesInput OfHost = false
-may_answer TakesInput OfPath = false
-may_answer TakesInput OfUsage = false
-may_answer TakesInput OfWrite = false
-may_answer TakesInput OfCar = false
-may_answer TakesInput OfSections = false
-may_answer TakesInput OfOwnClash = false
-may_answer TakesInput kind = true
-may_answer ReadsDag OfDag = true
-may_answer ReadsDag OfFailure = true
-may_answer ReadsDag OfMissing = true
-may_answer ReadsDag OfClash = true
-may_answer ReadsDag OfMemory = true
-may_answer ReadsDag kind = false
-may_answer GetsDag OfDag = true
-may_answer GetsDag OfHost = true
-may_answer GetsDag OfRead = true
-may_answer GetsDag OfFailure = true
-may_answer GetsDag OfMissing = true
-may_answer GetsDag OfClash = true
-may_answer GetsDag OfMemory = true
-may_answer GetsDag kind = false
-may_answer KeepsCar OfCar = true
-may_answer KeepsCar OfRead = true
-may_answer KeepsCar OfFailure = true
-may_answer KeepsCar OfClash = true
-may_answer KeepsCar OfMemory = true
-may_answer KeepsCar kind = false
-may_answer ComparesCar OfDag = true
-may_answer ComparesCar OfCar = true
-may_answer ComparesCar OfSections = true
-may_answer ComparesCar OfOwnClash = true
-may_answer ComparesCar OfRead = true
-may_answer ComparesCar OfFailure = true
-may_answer ComparesCar OfMissing = true
-may_answer ComparesCar OfMemory = true
-may_answer ComparesCar kind = false
-may_answer AdoptsDag OfHost = false
-may_answer AdoptsDag OfCar = false
-may_answer AdoptsDag OfSections = false
-may_answer AdoptsDag OfOwnClash = false
-may_answer AdoptsDag OfPath = false
-may_answer AdoptsDag OfLongInput = false
-may_answer AdoptsDag OfUsage = false
-may_answer AdoptsDag OfRead = false
-may_answer AdoptsDag OfWrite = false
-may_answer AdoptsDag kind = true
-may_answer GeneratesTree OfRule = true
-may_answer GeneratesTree OfOwnClash = true
-may_answer GeneratesTree OfMemory = true
-may_answer GeneratesTree kind = false
+abbrev pub add_host_kinds : List RefusalKind
+add_host_kinds = OfRule ∷ OfHost ∷ OfReady ∷ OfRead ∷ OfFailure ∷ []
 
--- the same when it has printed or written to the host: that may have failed
-abbrev pub may_end : Family → RefusalKind → Bool
-may_end family OfWrite = true
-may_end family kind = may_answer family kind
+abbrev pub place_kinds : List RefusalKind
+place_kinds = OfRule ∷ OfReady ∷ OfRead ∷ OfFailure ∷ OfMissing ∷ OfBadBlock ∷ []
+
+abbrev pub place_host_kinds : List RefusalKind
+place_host_kinds = OfRule ∷ OfHost ∷ OfReady ∷ OfRead ∷ OfFailure ∷ OfMissing ∷ OfBadBlock ∷ []
+
+abbrev pub write_input_kinds : List RefusalKind
+write_input_kinds = OfRule ∷ OfLongInput ∷ OfReady ∷ OfRead ∷ OfFailure ∷ OfMissing ∷ OfBadBlock ∷ []
+
+abbrev pub tree_kinds : List RefusalKind
+tree_kinds = OfRule ∷ OfReady ∷ OfFailure ∷ OfMissing ∷ OfBadBlock ∷ []
+
+abbrev pub dag_kinds : List RefusalKind
+dag_kinds = OfDag ∷ OfFailure ∷ OfMissing ∷ []
+
+abbrev pub get_kinds : List RefusalKind
+get_kinds = OfDag ∷ OfHost ∷ OfRead ∷ OfFailure ∷ OfMissing ∷ []
+
+abbrev pub import_kinds : List RefusalKind
+import_kinds = OfCar ∷ OfRead ∷ OfFailure ∷ []
+
+abbrev pub same_kinds : List RefusalKind
+same_kinds = OfDag ∷ OfCar ∷ OfRead ∷ OfFailure ∷ OfMissing ∷ OfSections ∷ OfOwnClash ∷ []
+
+abbrev pub adopt_kinds : List RefusalKind
+adopt_kinds = OfRule ∷ OfDag ∷ OfReady ∷ OfFailure ∷ OfMissing ∷ OfBadBlock ∷ []
+
+abbrev pub gen_kinds : List RefusalKind
+gen_kinds = OfRule ∷ OfOwnClash ∷ []
+
+-- one of these kinds, want of memory or a clash: what calls on a store may answer
+abbrev pub may_meet : List RefusalKind → RefusalKind → Bool
+may_meet kinds OfMemory = true
+may_meet kinds OfClash = true
+may_meet kinds kind = is_among kind kinds
+
+-- the same when something was printed or written to the host: that may have failed
+abbrev pub may_close : List RefusalKind → RefusalKind → Bool
+may_close kinds OfWrite = true
+may_close kinds kind = may_meet kinds kind
 
 -- the same of a command whose tree is opened: that is ready
 abbrev pub opened_kinds : RefusalKind → Bool
 opened_kinds OfReady = false
-opened_kinds kind = may_answer WorksInTree kind
+opened_kinds kind = may_meet tree_kinds kind
 
 -- the kinds that words may be refused by
 abbrev pub word_kinds : RefusalKind → Bool

@@ -5,5 +5,6 @@ pub mod Commands
 pub mod Dags
 pub mod Kinds
 pub mod Lines
+pub mod Natures
 pub mod Statuses
 pub mod Telling

@@ -13,7 +13,9 @@ use uf_words::{Cmd, WordFault, read_words, split_line};
 /// What words ask for: the commands that the lines of the input ask for, or one, where it can be read.
 #[derive(Drop)]
 pub enum Request {
+    /// `batch`
     Batch,
+    /// Any other words: their command, or why they ask for none.
     One { asked: Result<Command, Refusal> },
 }
 

@@ -8,6 +8,7 @@ mod cars;
 mod dags;
 mod from;
 mod lines;
+mod natures;
 mod rows;
 mod status;
 mod telling;

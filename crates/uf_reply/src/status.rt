@@ -4,16 +4,27 @@ ghost use Rattle.std.specs.Prelude.{◌≡◌};
 /// How a command ended.
 #[derive(Clone, Copy, PartialEq, Eq)]
 pub enum Status {
+    /// 0: it was done.
     Ok,
+    /// 1: a rule refuses it.
     Rule,
+    /// 2: its words are none of a command.
     Usage,
+    /// 3: the store failed, or has a damaged block.
     StoreFault,
+    /// 4: a block is missing.
     Missing,
+    /// 5: a block isn't canonical.
     BadBlock,
+    /// 6: a reading failed.
     ReadFault,
+    /// 7: a writing failed.
     WriteFault,
+    /// 8: two blocks clash.
     Clash,
+    /// 9: memory was wanting.
     Memory,
+    /// 10: the store isn't ready for it.
     NotReady,
 }
 

@@ -34,8 +34,8 @@ use Rattle.uf_tree.specs.Standing.{Standing, NoHead, BadHead, Stands}
 use Rattle.uf_tree.specs.Tree.{Dir, Entries}
 use Rattle.uf_tree.specs.TreePlan.{blocks}
 use Rattle.uf_tree.specs.declared.profile.Profile.{Profile}
-use Rattle.uf_reply.specs.Commands.{MovesHead}
-use Rattle.uf_reply.specs.Kinds.{AdoptsDag, OfWrite, fault_behind, may_end, refusal_fault, refusal_kind}
+use Rattle.uf_reply.specs.Natures.{MovesHead}
+use Rattle.uf_reply.specs.Kinds.{adopt_kinds, OfWrite, fault_behind, may_close, refusal_fault, refusal_kind}
 use Rattle.uf_top.specs.Reply.{Outside, World, adopt_reply, adopted, grown, in_world, moved, outside_of, reply, world_of}
 use Rattle.uf_reply.specs.Statuses.{status_of}
 use Rattle.uf_reply.specs.declared.status.Status.TheVariants as status
@@ -61,7 +61,7 @@ use Rattle.uf_top.proofs.Standings.{stands-same, tells-none}
 
 -- ---- kinds
 
-graft-end : (why : Refusal) → graft_kinds (refusal_kind why) ≡ true → may_end AdoptsDag (refusal_kind why) ≡ true
+graft-end : (why : Refusal) → graft_kinds (refusal_kind why) ≡ true → may_close adopt_kinds (refusal_kind why) ≡ true
 graft-end (refusal.Rule r) h = refl
 graft-end (refusal.Dag r) h = refl
 graft-end (refusal.BadPath p) h = absurd cc
@@ -98,7 +98,7 @@ tree-kind (mfs.Store f) w is = subst (λ w. graft_kinds (refusal_kind w) ≡ tru
 -- what a refusal that may come has
 record IsGrafting (source : DagPath) (dest : Path) (told : Told) (l m : streams.Told) (i : ℕ) (why : Refusal) : Type 0 where
   other : refusal_kind why ≢ OfWrite
-  ends : may_end AdoptsDag (refusal_kind why) ≡ true
+  ends : may_close adopt_kinds (refusal_kind why) ≡ true
   rule : status_of why ≡ status.Rule → RuleOf (Ok (Adopt source dest)) why told l m
   reads : Counts (is_read {A = Unit {0}} (Err why)) i i
 

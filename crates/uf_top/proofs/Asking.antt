@@ -28,7 +28,8 @@ use Rattle.uf_tree.specs.Standing.{Stands}
 use Rattle.uf_tree.specs.Tree.{Tree, Dir, Entries}
 use Rattle.uf_tree.specs.TreePlan.{blocks}
 use Rattle.uf_tree.specs.declared.profile.Profile.{Profile}
-use Rattle.uf_reply.specs.Commands.{NoWrites, ask_writes, is_idle}
+use Rattle.uf_reply.specs.Commands.{is_idle}
+use Rattle.uf_reply.specs.Natures.{NoWrites, ask_writes}
 use Rattle.uf_reply.specs.Kinds.{fault_behind}
 use Rattle.uf_top.specs.Reply.{edited_by, looked, tree_reply}
 use Rattle.uf_reply.specs.declared.types.Ask.{Ask}

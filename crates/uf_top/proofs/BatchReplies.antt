@@ -12,7 +12,8 @@ use Rattle.uf_tree.specs.Profiles.{is_profile}
 use Rattle.uf_tree.specs.Standing.{Standing, NoHead, BadHead, Stands}
 use Rattle.uf_tree.specs.Tree.{Entries}
 use Rattle.uf_tree.specs.declared.profile.Profile.{Profile}
-use Rattle.uf_reply.specs.Commands.{needs_standing, of_command}
+use Rattle.uf_reply.specs.Commands.{of_command}
+use Rattle.uf_reply.specs.Natures.{needs_standing}
 use Rattle.uf_reply.specs.Statuses.{ends_batch, mark}
 use Rattle.uf_reply.specs.declared.status.Status.{Status}
 use Rattle.uf_reply.specs.declared.status.Status.TheVariants as status

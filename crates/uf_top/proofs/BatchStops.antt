@@ -26,7 +26,8 @@ use Rattle.uf_tree.specs.Tree.{Tree, Dir, Entries}
 use Rattle.uf_tree.specs.TreePlan.{blocks}
 use Rattle.uf_tree.specs.Validity.{IsHash}
 use Rattle.uf_tree.specs.declared.profile.Profile.{Profile}
-use Rattle.uf_reply.specs.Commands.{WriteShape, MakesHead, MovesHead, NoWrites, SyncsBlocks, command_writes, of_command, prints_after}
+use Rattle.uf_reply.specs.Commands.{of_command}
+use Rattle.uf_reply.specs.Natures.{WriteShape, MakesHead, MovesHead, NoWrites, SyncsBlocks, command_writes, prints_after}
 use Rattle.uf_reply.specs.Lines.{stat_text}
 use Rattle.uf_reply.specs.Statuses.{ends_batch}
 use Rattle.uf_reply.specs.declared.status.Status.{Status}

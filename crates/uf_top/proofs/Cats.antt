@@ -33,7 +33,7 @@ use Rattle.uf_varint.specs.Fields.{◌>>=◌}
 use Rattle.uf_lenient.specs.Denoted.{DenotesBy}
 use Rattle.uf_lenient.proofs.Denoting.{denoted-step}
 use Rattle.uf_reply.specs.Dags.{IsApart, IsToldAs, by_dag, dag_refusal, file_at, tree_at, usual_limits}
-use Rattle.uf_reply.specs.Kinds.{OfWrite, ReadsDag, fault_behind, may_end, refusal_kind}
+use Rattle.uf_reply.specs.Kinds.{OfWrite, dag_kinds, fault_behind, may_close, refusal_kind}
 use Rattle.uf_top.specs.Reply.{Outside, World, in_world, reply}
 use Rattle.uf_reply.specs.Statuses.{no_memory, status_of}
 use Rattle.uf_reply.specs.declared.status.Status.TheVariants as status
@@ -168,7 +168,7 @@ module _ (held : Lookup) (path : DagPath) (cid : Cid) (resolved : resolve_from h
 
 -- ---- what every answer of `cat` has
 
-pub reading-kinds : (hash : List ℕ → List ℕ) (a b : Seen) (why : Refusal) → IsOfReading why → Shown hash NoneIsBad (fault_behind why) a b → may_end ReadsDag (refusal_kind why) ≡ true
+pub reading-kinds : (hash : List ℕ → List ℕ) (a b : Seen) (why : Refusal) → IsOfReading why → Shown hash NoneIsBad (fault_behind why) a b → may_close dag_kinds (refusal_kind why) ≡ true
 reading-kinds hash a b (refusal.Rule r) of h = absurd of
 reading-kinds hash a b (refusal.Dag r) of h = refl
 reading-kinds hash a b (refusal.Car number place) of h = absurd of

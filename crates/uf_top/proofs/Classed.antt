@@ -10,7 +10,7 @@ use Rattle.uf_store.specs.Contents.{Told}
 use Rattle.uf_store.specs.declared.store.StoreFault.{StoreFault}
 use Rattle.uf_store.specs.declared.store.StoreFault.TheVariants.{Failed, Damaged, Missing, BadBlock, Clash, Memory}
 use Rattle.uf_tree.specs.declared.profile.Profile.{Profile}
-use Rattle.uf_reply.specs.Kinds.{IsOf, RefusalKind, OfRule, OfDag, OfHost, OfPath, OfLongInput, OfUsage, OfReady, OfRead, OfWrite, OfFailure, OfMissing, OfBadBlock, OfClash, OfMemory, OfCar, OfSections, OfOwnClash, MakesReady, AddsInput, WorksInTree, fault_kind, may_answer, opened_kinds, read_kind, refusal_kind}
+use Rattle.uf_reply.specs.Kinds.{IsOf, RefusalKind, OfRule, OfDag, OfHost, OfPath, OfLongInput, OfUsage, OfReady, OfRead, OfWrite, OfFailure, OfMissing, OfBadBlock, OfClash, OfMemory, OfCar, OfSections, OfOwnClash, init_kinds, add_kinds, tree_kinds, fault_kind, may_meet, opened_kinds, read_kind, refusal_kind}
 use Rattle.uf_reply.specs.declared.types.Command.{Command}
 use Rattle.uf_reply.specs.declared.types.Refusal.{Refusal}
 use Rattle.uf_reply.specs.declared.types.Refusal.TheVariants as refusal
@@ -19,7 +19,7 @@ use Rattle.uf_top.specs.Intake.{IsRowOf}
 use Rattle.uf_top.proofs.Shows.{counts-still}
 
 -- a fault that saves alone can have is one of `add`
-saving-kind : (f : StoreFault) → IsSaving f → may_answer AddsInput (fault_kind f) ≡ true
+saving-kind : (f : StoreFault) → IsSaving f → may_meet add_kinds (fault_kind f) ≡ true
 saving-kind Failed h = refl
 saving-kind (Damaged cid) h = absurd h
 saving-kind (Missing cid) h = absurd h
@@ -28,7 +28,7 @@ saving-kind (Clash cid held bytes) h = refl
 saving-kind Memory h = refl
 
 -- so is what becomes of an input
-pub row-kinds : (X : List ℕ → List ℕ) (p : Profile) (held : Told) (r : Result (List ℕ) Refusal) (l m : streams.Told) → IsRowOf X p held r l m → IsOf (may_answer AddsInput) r
+pub row-kinds : (X : List ℕ → List ℕ) (p : Profile) (held : Told) (r : Result (List ℕ) Refusal) (l m : streams.Told) → IsRowOf X p held r l m → IsOf (may_meet add_kinds) r
 row-kinds X p held (Ok text) l m row = tt
 row-kinds X p held (Err (refusal.Rule rule)) l m row = refl
 row-kinds X p held (Err (refusal.Dag rule)) l m row = absurd row
@@ -45,7 +45,7 @@ row-kinds X p held (Err refusal.Write) l m row = absurd row
 row-kinds X p held (Err (refusal.Store f)) l m row = saving-kind f row
 
 -- and what is read of the Head
-pub read-kinds : (why : Refusal) (told : Told) → IsProfileRead (Err why) told → may_answer AddsInput (refusal_kind why) ≡ true
+pub read-kinds : (why : Refusal) (told : Told) → IsProfileRead (Err why) told → may_meet add_kinds (refusal_kind why) ≡ true
 read-kinds (refusal.Rule rule) told read = refl
 read-kinds (refusal.Dag rule) told read = absurd read
 read-kinds (refusal.Car number place) told read = absurd read
@@ -61,7 +61,7 @@ read-kinds refusal.Write told read = absurd read
 read-kinds (refusal.Store f) told read = saving-kind f read
 
 -- a call that makes a store ready
-store-ready : (f : StoreFault) → IsSaving f → may_answer MakesReady (fault_kind f) ≡ true
+store-ready : (f : StoreFault) → IsSaving f → may_meet init_kinds (fault_kind f) ≡ true
 store-ready Failed h = refl
 store-ready (Damaged cid) h = refl
 store-ready (Missing cid) h = absurd h
@@ -69,14 +69,14 @@ store-ready (BadBlock cid role) h = absurd h
 store-ready (Clash cid held bytes) h = refl
 store-ready Memory h = refl
 
-pub init-kinds : (f : MfsFault) (w : Refusal) → RefusesOpening f w → IsOfMaking f → may_answer MakesReady (refusal_kind w) ≡ true
+pub init-kinds : (f : MfsFault) (w : Refusal) → RefusesOpening f w → IsOfMaking f → may_meet init_kinds (refusal_kind w) ≡ true
 init-kinds (mfs.Rule rule) w is h = absurd is
-init-kinds (mfs.Ready why) w is h = subst (λ w. may_answer MakesReady (refusal_kind w) ≡ true) (sym is) refl
+init-kinds (mfs.Ready why) w is h = subst (λ w. may_meet init_kinds (refusal_kind w) ≡ true) (sym is) refl
 init-kinds mfs.Sink w is h = absurd is
-init-kinds (mfs.Store f) w is h = subst (λ w. may_answer MakesReady (refusal_kind w) ≡ true) (sym is) (store-ready f h)
+init-kinds (mfs.Store f) w is h = subst (λ w. may_meet init_kinds (refusal_kind w) ≡ true) (sym is) (store-ready f h)
 
 -- one that opens a tree
-store-tree : (f : StoreFault) → may_answer WorksInTree (fault_kind f) ≡ true
+store-tree : (f : StoreFault) → may_meet tree_kinds (fault_kind f) ≡ true
 store-tree Failed = refl
 store-tree (Damaged cid) = refl
 store-tree (Missing cid) = refl
@@ -84,11 +84,11 @@ store-tree (BadBlock cid role) = refl
 store-tree (Clash cid held bytes) = refl
 store-tree Memory = refl
 
-pub opening-kinds : (f : MfsFault) (w : Refusal) → RefusesOpening f w → may_answer WorksInTree (refusal_kind w) ≡ true
+pub opening-kinds : (f : MfsFault) (w : Refusal) → RefusesOpening f w → may_meet tree_kinds (refusal_kind w) ≡ true
 opening-kinds (mfs.Rule rule) w is = absurd is
-opening-kinds (mfs.Ready why) w is = subst (λ w. may_answer WorksInTree (refusal_kind w) ≡ true) (sym is) refl
+opening-kinds (mfs.Ready why) w is = subst (λ w. may_meet tree_kinds (refusal_kind w) ≡ true) (sym is) refl
 opening-kinds mfs.Sink w is = absurd is
-opening-kinds (mfs.Store f) w is = subst (λ w. may_answer WorksInTree (refusal_kind w) ≡ true) (sym is) (store-tree f)
+opening-kinds (mfs.Store f) w is = subst (λ w. may_meet tree_kinds (refusal_kind w) ≡ true) (sym is) (store-tree f)
 
 -- a call on an opened tree
 store-opened : (f : StoreFault) → opened_kinds (fault_kind f) ≡ true
@@ -110,7 +110,7 @@ made-kinds M (Ok x) r made = subst (λ (r : Result (List ℕ) Refusal). IsOf ope
 made-kinds M (Err m) r made = subst (λ (r : Result (List ℕ) Refusal). IsOf opened_kinds r) (sym made) refl
 
 -- what an opened tree refuses, a command at a path may refuse, and such a tree is ready
-pub opened-of : (r : Result (List ℕ) Refusal) → IsOf opened_kinds r → IsOf (may_answer WorksInTree) r
+pub opened-of : (r : Result (List ℕ) Refusal) → IsOf opened_kinds r → IsOf (may_meet tree_kinds) r
 opened-of (Ok x) h = tt
 opened-of (Err (refusal.Rule rule)) h = refl
 opened-of (Err (refusal.Dag rule)) h = h
@@ -143,7 +143,7 @@ opened-ready told command (Err refusal.Write) h = tt
 opened-ready told command (Err (refusal.Store f)) h = tt
 
 -- only `add` reads the input
-tree-reads : (k : RefusalKind) → may_answer WorksInTree k ≡ true → read_kind k ≡ false
+tree-reads : (k : RefusalKind) → may_meet tree_kinds k ≡ true → read_kind k ≡ false
 tree-reads OfRule h = refl
 tree-reads OfDag h = refl
 tree-reads OfHost h = refl
@@ -162,7 +162,7 @@ tree-reads OfCar h = refl
 tree-reads OfSections h = refl
 tree-reads OfOwnClash h = refl
 
-init-reads : (k : RefusalKind) → may_answer MakesReady k ≡ true → read_kind k ≡ false
+init-reads : (k : RefusalKind) → may_meet init_kinds k ≡ true → read_kind k ≡ false
 init-reads OfRule h = refl
 init-reads OfDag h = refl
 init-reads OfHost h = refl
@@ -181,11 +181,11 @@ init-reads OfCar h = refl
 init-reads OfSections h = refl
 init-reads OfOwnClash h = refl
 
-pub tree-counts : (r : Result (List ℕ) Refusal) (i : ℕ) → IsOf (may_answer WorksInTree) r → Counts (is_read r) i i
+pub tree-counts : (r : Result (List ℕ) Refusal) (i : ℕ) → IsOf (may_meet tree_kinds) r → Counts (is_read r) i i
 tree-counts (Ok text) i h = counts-still i
 tree-counts (Err why) i h = subst (λ b. Counts b i i) (sym (tree-reads (refusal_kind why) h)) (counts-still i)
 
-pub init-counts : (r : Result (List ℕ) Refusal) (i : ℕ) → IsOf (may_answer MakesReady) r → Counts (is_read r) i i
+pub init-counts : (r : Result (List ℕ) Refusal) (i : ℕ) → IsOf (may_meet init_kinds) r → Counts (is_read r) i i
 init-counts (Ok text) i h = counts-still i
 init-counts (Err why) i h = subst (λ b. Counts b i i) (sym (init-reads (refusal_kind why) h)) (counts-still i)
 

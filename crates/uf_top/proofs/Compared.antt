@@ -18,8 +18,8 @@ use Rattle.uf_store.proofs.Keeping.{KeepsGood-same}
 use Rattle.uf_tree.specs.Tree.{Entries}
 use Rattle.uf_tree.specs.declared.profile.Profile.{Profile}
 use Rattle.uf_reply.specs.Cars.{most_car}
-use Rattle.uf_reply.specs.Commands.{OfCarSections}
-use Rattle.uf_reply.specs.Kinds.{ComparesCar as OfComparing, OfWrite, fault_behind, may_answer, refusal_kind}
+use Rattle.uf_reply.specs.Natures.{OfCarSections}
+use Rattle.uf_reply.specs.Kinds.{same_kinds, OfWrite, fault_behind, may_meet, refusal_kind}
 use Rattle.uf_reply.specs.Statuses.{no_memory, status_of}
 use Rattle.uf_reply.specs.declared.status.Status.TheVariants as status
 use Rattle.uf_reply.specs.declared.types.Command.TheVariants.{Same}
@@ -49,7 +49,7 @@ record IsOfComparing (told : Told) (cid : Cid) (why : Refusal) : Type 0 where
   rule : status_of why ≡ status.Rule → ((rule : DagRule) × (why ≡ refusal.Dag rule)) ⊎ ((number : ℕ) × (place : ℕ) × (why ≡ refusal.Car number place))
   blames : IsBlaming (fault_behind why) → ⊥
 
-of-comparing : (told : Told) (cid : Cid) (why : Refusal) → may_answer OfComparing (refusal_kind why) ≡ true → IsOfComparing told cid why
+of-comparing : (told : Told) (cid : Cid) (why : Refusal) → may_meet same_kinds (refusal_kind why) ≡ true → IsOfComparing told cid why
 of-comparing told cid (refusal.Rule rule) h = absurd cc
 of-comparing told cid (refusal.Dag rule) h = record { other = λ e. cc; ready = tt; rule = λ e. inl (rule, refl); blames = λ b. b }
 of-comparing told cid (refusal.Host rule) h = absurd cc
@@ -63,7 +63,7 @@ of-comparing told cid (refusal.Store fault.Failed) h = record { other = λ e. cc
 of-comparing told cid (refusal.Store (fault.Damaged c)) h = record { other = λ e. cc; ready = tt; rule = λ e. absurd cc; blames = λ b. b }
 of-comparing told cid (refusal.Store (fault.Missing c)) h = record { other = λ e. cc; ready = tt; rule = λ e. absurd cc; blames = λ b. b }
 of-comparing told cid (refusal.Store (fault.BadBlock c role)) h = absurd cc
-of-comparing told cid (refusal.Store (fault.Clash c first second)) h = absurd cc
+of-comparing told cid (refusal.Store (fault.Clash c first second)) h = record { other = λ e. cc; ready = tt; rule = λ e. absurd cc; blames = λ b. b }
 of-comparing told cid (refusal.Store fault.Memory) h = record { other = λ e. cc; ready = tt; rule = λ e. absurd cc; blames = λ b. b }
 of-comparing told cid (refusal.Car number place) h = record { other = λ e. cc; ready = tt; rule = λ e. inr (number, place, refl); blames = λ b. b }
 of-comparing told cid (refusal.CarLacks c) h = record { other = λ e. cc; ready = tt; rule = λ e. absurd cc; blames = λ b. b }

@@ -32,7 +32,7 @@ use Rattle.uf_store.specs.declared.store.StoreFault.{StoreFault}
 use Rattle.uf_store.specs.declared.store.StoreFault.TheVariants as fault
 use Rattle.uf_store.proofs.Causes.{StaysCalm-refl, calm-memory}
 use Rattle.uf_reply.specs.Cars.{car_refusal, kept_refusal, most_blocks, most_car}
-use Rattle.uf_reply.specs.Kinds.{ComparesCar as OfComparing, IsOf, may_answer, refusal_fault}
+use Rattle.uf_reply.specs.Kinds.{same_kinds, IsOf, may_meet, refusal_fault}
 use Rattle.uf_reply.specs.Statuses.{no_memory}
 use Rattle.uf_reply.specs.declared.types.Refusal.{Refusal}
 use Rattle.uf_reply.specs.declared.types.Refusal.TheVariants as refusal

@@ -4,7 +4,7 @@ use Rattle.uf_edge.specs.Counts.{Rose, Stood}
 use Rattle.uf_store.specs.Faults.{Rises}
 use Rattle.uf_store.specs.Seen.{Seen}
 use Rattle.uf_store.proofs.Calls.{shown-rises}
-use Rattle.uf_reply.specs.Commands.{uses_host, writes_host}
+use Rattle.uf_reply.specs.Natures.{uses_host, writes_host}
 use Rattle.uf_reply.specs.Kinds.{refusal_fault}
 use Rattle.uf_reply.specs.declared.types.Command.{Command}
 use Rattle.uf_reply.specs.declared.types.Refusal.{Refusal}

@@ -39,8 +39,8 @@ use Rattle.uf_tree.specs.Standing.{Standing, NoHead, BadHead, Stands}
 use Rattle.uf_tree.specs.Tree.{Dir, Entries}
 use Rattle.uf_tree.specs.TreePlan.{blocks}
 use Rattle.uf_tree.specs.declared.profile.Profile.{Profile}
-use Rattle.uf_reply.specs.Commands.{NoWrites}
-use Rattle.uf_reply.specs.Kinds.{IsOf, WorksInTree, fault_kind, may_end, refusal_fault}
+use Rattle.uf_reply.specs.Natures.{NoWrites}
+use Rattle.uf_reply.specs.Kinds.{IsOf, tree_kinds, fault_kind, may_close, refusal_fault}
 use Rattle.uf_top.specs.Reply.{in_tree, looked, read_reply}
 use Rattle.uf_reply.specs.Statuses.{ended, fault_status, no_memory, status_of}
 use Rattle.uf_reply.specs.declared.status.Status.TheVariants as status
@@ -157,13 +157,13 @@ kind-of (Err (mfs.Ready why)) done sent = absurd sent.2
 kind-of (Err mfs.Sink) done sent = BySink (by-why done sent.0 refusal.Write sent.1 sent.2)
 kind-of (Err (mfs.Store f)) done sent = ByStore f (by-why done sent.0 (refusal.Store f) sent.1 sent.2)
 
-sent-kinds : (done : Result (Unit {0}) Refusal) → SentKind done → IsOf (may_end WorksInTree) done
-sent-kinds done (Whole e) = subst (IsOf (may_end WorksInTree)) (sym e) tt
-sent-kinds done (ByRule rule e) = subst (IsOf (may_end WorksInTree)) (sym e) refl
-sent-kinds done (BySink e) = subst (IsOf (may_end WorksInTree)) (sym e) refl
-sent-kinds done (ByStore f e) = subst (IsOf (may_end WorksInTree)) (sym e) (by f)
+sent-kinds : (done : Result (Unit {0}) Refusal) → SentKind done → IsOf (may_close tree_kinds) done
+sent-kinds done (Whole e) = subst (IsOf (may_close tree_kinds)) (sym e) tt
+sent-kinds done (ByRule rule e) = subst (IsOf (may_close tree_kinds)) (sym e) refl
+sent-kinds done (BySink e) = subst (IsOf (may_close tree_kinds)) (sym e) refl
+sent-kinds done (ByStore f e) = subst (IsOf (may_close tree_kinds)) (sym e) (by f)
   where
-    by : (f : StoreFault) → may_end WorksInTree (fault_kind f) ≡ true
+    by : (f : StoreFault) → may_close tree_kinds (fault_kind f) ≡ true
     by fault.Failed = refl
     by (fault.Damaged cid) = refl
     by (fault.Missing cid) = refl

@@ -18,7 +18,7 @@ use Rattle.uf_reply.specs.declared.types.Ask.{Ask}
 use Rattle.uf_reply.specs.declared.types.Ask.TheVariants.{Ls, Stat, Edit as Edits}
 use Rattle.uf_reply.specs.declared.types.Refusal.{Refusal}
 use Rattle.uf_reply.specs.declared.types.Refusal.TheVariants as refusal
-use Rattle.uf_reply.specs.Kinds.{IsOf, RefusalKind, OfMissing, OfBadBlock, OfSections, MakesReady, AddsInput, may_answer, refusal_kind, word_kinds}
+use Rattle.uf_reply.specs.Kinds.{IsOf, RefusalKind, OfMissing, OfBadBlock, OfSections, init_kinds, add_kinds, may_meet, refusal_kind, word_kinds}
 use Rattle.uf_reply.specs.Commands.{IsOfWords}
 use Rattle.uf_top.specs.Endings.{FindsAll}
 use Rattle.uf_top.specs.Answering.{Answers}
@@ -74,14 +74,14 @@ pub words-whole : (why : Refusal) → IsOfWords (Err why) → Finds (Err why)
 words-whole why h = kind-finds why (of-none word_kinds (refusal_kind why) OfMissing h refl) (of-none word_kinds (refusal_kind why) OfBadBlock h refl) (of-none word_kinds (refusal_kind why) OfSections h refl)
 
 -- `add` looks for no block
-pub add-whole : (r : Result (List ℕ) Refusal) → IsOf (may_answer AddsInput) r → Finds r
+pub add-whole : (r : Result (List ℕ) Refusal) → IsOf (may_meet add_kinds) r → Finds r
 add-whole (Ok text) h = done-finds
-add-whole (Err why) h = kind-finds why (of-none (may_answer AddsInput) (refusal_kind why) OfMissing h refl) (of-none (may_answer AddsInput) (refusal_kind why) OfBadBlock h refl) (of-none (may_answer AddsInput) (refusal_kind why) OfSections h refl)
+add-whole (Err why) h = kind-finds why (of-none (may_meet add_kinds) (refusal_kind why) OfMissing h refl) (of-none (may_meet add_kinds) (refusal_kind why) OfBadBlock h refl) (of-none (may_meet add_kinds) (refusal_kind why) OfSections h refl)
 
 -- nor does `init`
-pub init-looks : (r : Result (List ℕ) Refusal) → IsOf (may_answer MakesReady) r → Finds r
+pub init-looks : (r : Result (List ℕ) Refusal) → IsOf (may_meet init_kinds) r → Finds r
 init-looks (Ok text) h = done-finds
-init-looks (Err why) h = kind-finds why (of-none (may_answer MakesReady) (refusal_kind why) OfMissing h refl) (of-none (may_answer MakesReady) (refusal_kind why) OfBadBlock h refl) (of-none (may_answer MakesReady) (refusal_kind why) OfSections h refl)
+init-looks (Err why) h = kind-finds why (of-none (may_meet init_kinds) (refusal_kind why) OfMissing h refl) (of-none (may_meet init_kinds) (refusal_kind why) OfBadBlock h refl) (of-none (may_meet init_kinds) (refusal_kind why) OfSections h refl)
 
 module _ (X : List ℕ → List ℕ) (N : List ℕ → ℕ) where
   answered : (s : Standing) (given : Reply) (r : Result (List ℕ) Refusal) (now : Told) → Answers X N s given r now → Finds given.ends → Finds r

@@ -34,7 +34,7 @@ use Rattle.uf_tree.specs.Tree.{Entries, Tree}
 use Rattle.uf_tree.specs.declared.profile.Profile.{Profile}
 use Rattle.uf_varint.specs.Fields.{◌>>=◌}
 use Rattle.uf_reply.specs.Dags.{IsToldAs, by_dag, dag_refusal, tree_at, usual_limits}
-use Rattle.uf_reply.specs.Kinds.{GetsDag, IsOf, fault_behind, may_end, refusal_fault, refusal_kind}
+use Rattle.uf_reply.specs.Kinds.{get_kinds, IsOf, fault_behind, may_close, refusal_fault, refusal_kind}
 use Rattle.uf_reply.specs.Statuses.{ended, no_memory, status_of}
 use Rattle.uf_reply.specs.declared.status.Status.TheVariants as status
 use Rattle.uf_reply.specs.declared.types.Command.TheVariants.{Get}
@@ -371,7 +371,7 @@ module _ (source : DagPath) (path : List ℕ) (f : HostFault) (why : Refusal) (i
 
 -- what every refusal of `get` has
 pub record IsRefused (why : Refusal) (told : Told) (source : DagPath) (path : List ℕ) (l : streams.Told) : Type 0 where
-  pub kinds : may_end GetsDag (refusal_kind why) ≡ true
+  pub kinds : may_close get_kinds (refusal_kind why) ≡ true
   pub ready : IsReadyBy told (Get source path) why
   pub rule : status_of why ≡ status.Rule → RuleOf (Ok (Get source path)) why told l l
   pub prints : (held : streams.Told) → PrintsAt (λ text. text ≡ []) false (status_of why) held held
@@ -437,7 +437,7 @@ module _ (X : List ℕ → List ℕ) (N : List ℕ → ℕ) (source : DagPath) (
 
   -- what every answer of `get` has
   pub record IsEnded (done : Result (Unit {0}) Refusal) : Type 0 where
-    pub kinds : IsOf (may_end GetsDag) done
+    pub kinds : IsOf (may_close get_kinds) done
     pub ready : IsReady a.told (Get source path) done
     pub rule : IfErr done (λ why. status_of why ≡ status.Rule → RuleOf (Ok (Get source path)) why a.told l l)
     pub prints : PrintsAt (λ text. text ≡ []) false (ended done) h h

@@ -30,8 +30,8 @@ use Rattle.uf_tree.specs.Tree.{Tree, Dir, Entries}
 use Rattle.uf_tree.specs.TreePlan.{blocks}
 use Rattle.uf_tree.specs.Validity.{IsHash}
 use Rattle.uf_tree.specs.declared.profile.Profile.{Profile}
-use Rattle.uf_reply.specs.Commands.{SyncsBlocks, command_writes}
-use Rattle.uf_reply.specs.Kinds.{AddsHost, IsOf, OfBadBlock, OfSections, OfMissing, fault_kind, may_answer, refusal_fault, refusal_kind}
+use Rattle.uf_reply.specs.Natures.{SyncsBlocks, command_writes}
+use Rattle.uf_reply.specs.Kinds.{add_host_kinds, IsOf, OfBadBlock, OfSections, OfMissing, fault_kind, may_meet, refusal_fault, refusal_kind}
 use Rattle.uf_reply.specs.Statuses.{ended, no_memory}
 use Rattle.uf_reply.specs.declared.types.Command.TheVariants.{AddFrom}
 use Rattle.uf_reply.specs.declared.types.HostRule.{HostRule}
@@ -81,7 +81,7 @@ end-of path Said refusal.Read h = ByRead refl
 end-of path Said refusal.Write h = absurd h
 end-of path Said (refusal.Store f) h = ByStore f refl h
 
-saving-kind : (f : StoreFault) → IsSaving f → may_answer AddsHost (fault_kind f) ≡ true
+saving-kind : (f : StoreFault) → IsSaving f → may_meet add_host_kinds (fault_kind f) ≡ true
 saving-kind Failed h = refl
 saving-kind (Damaged cid) h = absurd h
 saving-kind (Missing cid) h = absurd h
@@ -89,11 +89,11 @@ saving-kind (BadBlock cid role) h = absurd h
 saving-kind (Clash cid held bytes) h = refl
 saving-kind Memory h = refl
 
-end-kind : (path : List ℕ) (Said : HostFault → Type 0) (why : Refusal) → HostEnd path Said why → may_answer AddsHost (refusal_kind why) ≡ true
-end-kind path Said why (ByRead e) = subst (λ w. may_answer AddsHost (refusal_kind w) ≡ true) (sym e) refl
-end-kind path Said why (ByStore f e saving) = subst (λ w. may_answer AddsHost (refusal_kind w) ≡ true) (sym e) (saving-kind f saving)
-end-kind path Said why (ByHost rule e is) = subst (λ w. may_answer AddsHost (refusal_kind w) ≡ true) (sym e) refl
-end-kind path Said why (ByRule rule e is) = subst (λ w. may_answer AddsHost (refusal_kind w) ≡ true) (sym e) refl
+end-kind : (path : List ℕ) (Said : HostFault → Type 0) (why : Refusal) → HostEnd path Said why → may_meet add_host_kinds (refusal_kind why) ≡ true
+end-kind path Said why (ByRead e) = subst (λ w. may_meet add_host_kinds (refusal_kind w) ≡ true) (sym e) refl
+end-kind path Said why (ByStore f e saving) = subst (λ w. may_meet add_host_kinds (refusal_kind w) ≡ true) (sym e) (saving-kind f saving)
+end-kind path Said why (ByHost rule e is) = subst (λ w. may_meet add_host_kinds (refusal_kind w) ≡ true) (sym e) refl
+end-kind path Said why (ByRule rule e is) = subst (λ w. may_meet add_host_kinds (refusal_kind w) ≡ true) (sym e) refl
 
 -- a refusal by the Head, or the store's
 data HeadEnd (told : Told) (why : Refusal) : Type 0 where
@@ -115,9 +115,9 @@ head-end told refusal.Read read = absurd read
 head-end told refusal.Write read = absurd read
 head-end told (refusal.Store f) read = OfStore f refl read
 
-head-kind : (told : Told) (why : Refusal) → HeadEnd told why → may_answer AddsHost (refusal_kind why) ≡ true
-head-kind told why (Unread e h) = subst (λ w. may_answer AddsHost (refusal_kind w) ≡ true) (sym e) refl
-head-kind told why (OfStore f e saving) = subst (λ w. may_answer AddsHost (refusal_kind w) ≡ true) (sym e) (saving-kind f saving)
+head-kind : (told : Told) (why : Refusal) → HeadEnd told why → may_meet add_host_kinds (refusal_kind why) ≡ true
+head-kind told why (Unread e h) = subst (λ w. may_meet add_host_kinds (refusal_kind w) ≡ true) (sym e) refl
+head-kind told why (OfStore f e saving) = subst (λ w. may_meet add_host_kinds (refusal_kind w) ≡ true) (sym e) (saving-kind f saving)
 
 store-unread : (f : StoreFault) (i : ℕ) → Counts (is_read {A = List ℕ} (Err (refusal.Store f))) i i
 store-unread Failed i = counts-still i
@@ -133,7 +133,7 @@ head-reads told why s (OfStore f e saving) = subst (λ w. OnlyReadsHost (is_read
 
 -- ---- what it is refused by
 
-kind-blames : (why : Refusal) → may_answer AddsHost (refusal_kind why) ≡ true → IsBlaming (refusal_fault {A = List ℕ} (Err why)) → ⊥
+kind-blames : (why : Refusal) → may_meet add_host_kinds (refusal_kind why) ≡ true → IsBlaming (refusal_fault {A = List ℕ} (Err why)) → ⊥
 kind-blames (refusal.Rule rule) h blames = blames
 kind-blames (refusal.Dag rule) h blames = blames
 kind-blames (refusal.Car number place) h blames = blames
@@ -153,13 +153,13 @@ kind-blames (refusal.Store (BadBlock cid role)) h blames = (let e : false ≡ tr
 kind-blames (refusal.Store (Clash cid held bytes)) h blames = blames
 kind-blames (refusal.Store Memory) h blames = blames
 
-host-blames : (r : Result (List ℕ) Refusal) → IsOf (may_answer AddsHost) r → IsBlaming (refusal_fault r) → ⊥
+host-blames : (r : Result (List ℕ) Refusal) → IsOf (may_meet add_host_kinds) r → IsBlaming (refusal_fault r) → ⊥
 host-blames (Ok text) h blames = blames
 host-blames (Err why) h blames = kind-blames why h blames
 
-host-finds : (r : Result (List ℕ) Refusal) → IsOf (may_answer AddsHost) r → FindsAll (ended r)
+host-finds : (r : Result (List ℕ) Refusal) → IsOf (may_meet add_host_kinds) r → FindsAll (ended r)
 host-finds (Ok text) h = (λ e. cc, λ e. cc)
-host-finds (Err why) h = kind-finds why (of-none (may_answer AddsHost) (refusal_kind why) OfMissing h refl) (of-none (may_answer AddsHost) (refusal_kind why) OfBadBlock h refl) (of-none (may_answer AddsHost) (refusal_kind why) OfSections h refl)
+host-finds (Err why) h = kind-finds why (of-none (may_meet add_host_kinds) (refusal_kind why) OfMissing h refl) (of-none (may_meet add_host_kinds) (refusal_kind why) OfBadBlock h refl) (of-none (may_meet add_host_kinds) (refusal_kind why) OfSections h refl)
 
 unread-reason : (told : Told) (recursive only_hash : Bool) (path : List ℕ) → IfSome told (λ t. IsUnread t.notes.head) → IsReason (AddFrom recursive only_hash path) ready.BadHead told
 unread-reason told recursive true path h = h
@@ -181,7 +181,7 @@ from-touch recursive only_hash path bytes X N rows p es t0 = no-touch (command_t
 -- ---- by what the host tells
 
 module _ (X : List ℕ → List ℕ) (N : List ℕ → ℕ) where
-  text-kinds : (p : Profile) (held : Told) (host : HostTold) (recursive : Bool) (path : List ℕ) (r : Result (List ℕ) Refusal) → MakesHostText X N p held host recursive path r → IsOf (may_answer AddsHost) r
+  text-kinds : (p : Profile) (held : Told) (host : HostTold) (recursive : Bool) (path : List ℕ) (r : Result (List ℕ) Refusal) → MakesHostText X N p held host recursive path r → IsOf (may_meet add_host_kinds) r
   text-kinds p held host recursive path (Ok text) h = tt
   text-kinds p held host recursive path (Err why) h = end-kind path _ why (end-of path _ why h)
 

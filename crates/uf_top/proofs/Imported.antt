@@ -28,8 +28,9 @@ use Rattle.uf_tree.specs.Tree.{Dir, Entries}
 use Rattle.uf_tree.specs.TreePlan.{blocks}
 use Rattle.uf_tree.specs.declared.profile.Profile.{Profile}
 use Rattle.uf_reply.specs.Cars.{car_refusal, most_car, root_line, roots_told}
-use Rattle.uf_reply.specs.Commands.{HasInput, SyncsBlocks}
-use Rattle.uf_reply.specs.Kinds.{KeepsCar as OfCars, OfWrite, fault_behind, fault_kind, may_answer, read_kind, refusal_fault, refusal_kind}
+use Rattle.uf_reply.specs.Commands.{HasInput}
+use Rattle.uf_reply.specs.Natures.{SyncsBlocks}
+use Rattle.uf_reply.specs.Kinds.{import_kinds, OfWrite, fault_behind, fault_kind, may_meet, read_kind, refusal_fault, refusal_kind}
 use Rattle.uf_top.specs.Reply.{Outside, World, in_world, reply}
 use Rattle.uf_reply.specs.Statuses.{no_memory, status_of}
 use Rattle.uf_reply.specs.declared.status.Status.TheVariants as status
@@ -54,7 +55,7 @@ use Rattle.uf_top.proofs.Shows.{not-rose, saving-wants}
 use Rattle.uf_top.proofs.Standings.{leaves-good}
 
 -- a fault that saves alone can have is one of `dag import`
-saving-kind : (f : StoreFault) → IsSaving f → may_answer OfCars (fault_kind f) ≡ true
+saving-kind : (f : StoreFault) → IsSaving f → may_meet import_kinds (fault_kind f) ≡ true
 saving-kind fault.Failed h = refl
 saving-kind (fault.Damaged cid) h = absurd h
 saving-kind (fault.Missing cid) h = absurd h
@@ -204,7 +205,7 @@ record IsOfCar (told : Told) (why : Refusal) : Type 0 where
   rule : status_of why ≡ status.Rule → (number : ℕ) × (place : ℕ) × (why ≡ refusal.Car number place)
   blames : IsBlaming (fault_behind why) → ⊥
 
-of-car : (told : Told) (why : Refusal) → may_answer OfCars (refusal_kind why) ≡ true → IsOfCar told why
+of-car : (told : Told) (why : Refusal) → may_meet import_kinds (refusal_kind why) ≡ true → IsOfCar told why
 of-car told (refusal.Rule rule) h = absurd cc
 of-car told (refusal.Dag rule) h = absurd cc
 of-car told (refusal.Host rule) h = absurd cc

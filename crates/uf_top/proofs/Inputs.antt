@@ -17,7 +17,7 @@ use Rattle.uf_tree.specs.Standing.{Stands}
 use Rattle.uf_tree.specs.Validity.{IsHash}
 use Rattle.uf_tree.specs.declared.profile.Profile.{Profile}
 use Rattle.uf_plain.specs.declared.ready.Ready.TheVariants as ready
-use Rattle.uf_reply.specs.Commands.{SyncsBlocks, command_writes}
+use Rattle.uf_reply.specs.Natures.{SyncsBlocks, command_writes}
 use Rattle.uf_reply.specs.Kinds.{refusal_fault}
 use Rattle.uf_top.specs.Reply.{add_reply}
 use Rattle.uf_reply.specs.declared.types.Command.TheVariants.{Add}

@@ -9,7 +9,8 @@ use Rattle.uf_path.specs.declared.path.Path.{Path}
 use Rattle.uf_plain.specs.declared.file.WriteHow.{WriteHow}
 use Rattle.uf_reply.specs.Batches.{asked_in_batch, is_for_batch, line_asks, line_in}
 use Rattle.uf_reply.specs.Cids.{cid_reads}
-use Rattle.uf_reply.specs.Commands.{add_asked, add_to_asked, adopt_asked, asked, at_path, below_asked, both_paths, cat_asked, from_to, generates, of_command, read_asked, reads_input, write_asked, writes_host}
+use Rattle.uf_reply.specs.Commands.{add_asked, add_to_asked, adopt_asked, asked, at_path, below_asked, both_paths, cat_asked, from_to, of_command, read_asked, write_asked}
+use Rattle.uf_reply.specs.Natures.{generates, reads_input, writes_host}
 use Rattle.uf_reply.specs.Statuses.{no_memory}
 use Rattle.uf_reply.specs.declared.types.Ask.{Ask}
 use Rattle.uf_reply.specs.declared.types.Command.{Command}

@@ -9,7 +9,8 @@ use Rattle.uf_lines.specs.LinesIn.{LinesIn, lines_in, with_lines}
 use Rattle.uf_lines.specs.Reading.{lines_told, with_line_told}
 use Rattle.uf_reply.proofs.Asked.{words-only}
 use Rattle.uf_reply.specs.Batches.{IsAskedBy, asked_in_batch, is_for_batch, line_asks, line_in}
-use Rattle.uf_reply.specs.Commands.{IsOfWords, NoStore, asked}
+use Rattle.uf_reply.specs.Commands.{IsOfWords, asked}
+use Rattle.uf_reply.specs.Natures.{NoStore}
 use Rattle.uf_reply.specs.Statuses.{no_memory}
 use Rattle.uf_reply.specs.declared.status.Status.{Status}
 use Rattle.uf_reply.specs.declared.status.Status.TheVariants as status
@@ -55,12 +56,14 @@ module _ (X : List ℕ → List ℕ) (N : List ℕ → ℕ) where
         asks = e;
         serves = record { refused = inl refl; same = refl };
         own = words-spare X a.left a.store a.store NoStore why (asks-words line (Err why) e);
+        kinds = tt;
       }
       by (inr is) = record {
         asked = Err why;
         asks = inl is;
         serves = record { refused = inl refl; same = refl };
         own = words-spare X a.left a.store a.store NoStore why (asks-words line (Err why) (inl is));
+        kinds = tt;
       }
 
 -- ---- a line
@@ -76,7 +79,7 @@ module _ (X : List ℕ → List ℕ) (N : List ℕ → ℕ) (line : List ℕ) (d
   line-done err_now given told = record {
     asked = serves.asked;
     asks = serves.asks;
-    runs = runs-told (Said err err_now) given X N a m serves.asked done (asks-words line serves.asked serves.asks) serves.serves serves.own told;
+    runs = runs-told (Said err err_now) given X N a m serves.asked done (asks-words line serves.asked serves.asks) serves.serves serves.own serves.kinds told;
   }
 
   pub closes-on : (out_now err_now : SinkSide) → ClosesLine done None (record { held = m.held; faults = m.writes }) out_now err err_now

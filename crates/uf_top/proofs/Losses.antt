@@ -8,7 +8,8 @@ use Rattle.uf_store.specs.declared.store.StoreFault.TheVariants.{Memory}
 use Rattle.uf_tree.specs.Tree.{Dir, Entries}
 use Rattle.uf_tree.specs.TreePlan.{blocks}
 use Rattle.uf_tree.specs.declared.profile.Profile.{Profile}
-use Rattle.uf_reply.specs.Commands.{HasInput, prints_after}
+use Rattle.uf_reply.specs.Commands.{HasInput}
+use Rattle.uf_reply.specs.Natures.{prints_after}
 use Rattle.uf_reply.specs.Lines.{line_of, said}
 use Rattle.uf_top.specs.Reply.{Outside, Reply, in_world, reply_to}
 use Rattle.uf_reply.specs.Statuses.{ended, no_memory, status_of}

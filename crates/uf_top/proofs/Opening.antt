@@ -26,7 +26,7 @@ use Rattle.uf_store.proofs.Writing.{SavesOnly-refl}
 use Rattle.uf_tree.specs.Standing.{Standing}
 use Rattle.uf_tree.specs.Tree.{Dir, Entries}
 use Rattle.uf_tree.specs.declared.profile.Profile.{Profile}
-use Rattle.uf_reply.specs.Commands.{ask_writes}
+use Rattle.uf_reply.specs.Natures.{ask_writes}
 use Rattle.uf_reply.specs.Kinds.{fault_behind, refusal_fault}
 use Rattle.uf_top.specs.Reply.{tree_reply}
 use Rattle.uf_reply.specs.declared.types.Ask.{Ask}

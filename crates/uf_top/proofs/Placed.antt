@@ -47,8 +47,8 @@ use Rattle.uf_tree.specs.Tree.{Tree, File, Dir, Entries, fold}
 use Rattle.uf_tree.specs.TreePlan.{blocks, entry, planned}
 use Rattle.uf_tree.specs.declared.profile.Profile.{Profile}
 use Rattle.uf_varint.specs.Fields.{◌>>=◌}
-use Rattle.uf_reply.specs.Commands.{MovesHead}
-use Rattle.uf_reply.specs.Kinds.{IsOf, OfHost, OfRead, OfReady, PlacesHost, PlacesInput, fault_behind, fault_kind, may_answer, opened_kinds, refusal_fault, refusal_kind}
+use Rattle.uf_reply.specs.Natures.{MovesHead}
+use Rattle.uf_reply.specs.Kinds.{IsOf, OfHost, OfRead, OfReady, place_host_kinds, place_kinds, fault_behind, fault_kind, may_meet, opened_kinds, refusal_fault, refusal_kind}
 use Rattle.uf_reply.specs.Lines.{added_line}
 use Rattle.uf_reply.specs.Statuses.{ended, no_memory, status_of}
 use Rattle.uf_reply.specs.declared.status.Status.TheVariants as status
@@ -67,7 +67,7 @@ use Rattle.uf_top.specs.HostTexts.{host_refusal, host_text}
 use Rattle.uf_top.specs.Hosted.{AreHostRows}
 use Rattle.uf_top.specs.Losing.{AnswersOver}
 use Rattle.uf_top.specs.Naming.{NamesAfter, StandsNamed, StaysNamed}
-use Rattle.uf_top.specs.Placing.{FindsSpot, GivesFor, IsFoundAt, IsGiven, IsReadyIn, IsUngiven, IsUnready, OpensFound, PutsFrom, PutsGiven, SaysHost, SaysInput, place_family}
+use Rattle.uf_top.specs.Placing.{FindsSpot, GivesFor, IsFoundAt, IsGiven, IsReadyIn, IsUngiven, IsUnready, OpensFound, PutsFrom, PutsGiven, SaysHost, SaysInput, kinds_placing}
 use Rattle.uf_top.specs.Reply.{Reply, World, added_spot, by_rule, file_cid, good_name, host_tree, in_tree, input_row, input_tree, not_ready, outside_of, placed, reply, settled, unchanged}
 use Rattle.uf_top.specs.Shapes.{WritesAs, is_ok}
 use Rattle.uf_top.specs.Working.{MakesText}
@@ -206,7 +206,7 @@ ready-by command told more (refusal.Store f) h = tt
 
 -- what a call on the opened tree may refuse
 pub record IsOfTree (path : Option (List ℕ)) (why : Refusal) : Type 0 where
-  pub kind : may_answer (place_family path) (refusal_kind why) ≡ true
+  pub kind : may_meet (kinds_placing path) (refusal_kind why) ≡ true
   pub unready : refusal_kind why ≢ OfReady
   pub unread : is_read {A = List ℕ} (Err why) ≡ false
 
@@ -291,7 +291,7 @@ module _ (X : List ℕ → List ℕ) (N : List ℕ → ℕ) (dest : Path) (path 
     pub unready : (s : Standing) → TellsAs X N a.told s → Calm a d → OpensFound s done
     pub whole : (s : Standing) → TellsAs X N a.told s → Calm a d → FindsAll (ended done)
     pub ready : IfErr done (λ why. IsReadyIn a.told why)
-    pub kinds : IsOf (may_answer (place_family path)) done
+    pub kinds : IsOf (may_meet (kinds_placing path)) done
     pub rows : IfOk done (PrintsFor a.told)
     pub cause : Shown X (IsBadIn X N a.told d.told) (refusal_fault done) a d
     pub good : KeepsGood X a.told d.told
@@ -396,7 +396,7 @@ module _ (X : List ℕ → List ℕ) (N : List ℕ → ℕ) (dest : Path) (path 
 
       -- ---- there is nothing to put
 
-      pub not-given : (b : Seen) (t2 : ℕ) (why : Refusal) → IsUngiven (Says q) why → OnlySaves X NoneIsBad (fault_behind why) m b → IsOf {A = List ℕ} (may_answer (place_family path)) (Err why) → (IsBlaming (fault_behind why) → ⊥) → Ended (Err why) a b t0 t2
+      pub not-given : (b : Seen) (t2 : ℕ) (why : Refusal) → IsUngiven (Says q) why → OnlySaves X NoneIsBad (fault_behind why) m b → IsOf {A = List ℕ} (may_meet (kinds_placing path)) (Err why) → (IsBlaming (fault_behind why) → ⊥) → Ended (Err why) a b t0 t2
       not-given b t2 why ungiven saves kind blameless = record {
         over = λ p es named calm read. over p es named calm read (at-spot p es named.names (front calm)) (ungiven-end (Says q) why ungiven);
         unready = λ s stands calm. opened-stands b (Err why) s stands (front calm);
@@ -501,7 +501,7 @@ module _ (X : List ℕ → List ℕ) (N : List ℕ → ℕ) (dest : Path) (path 
         put-ready (Ok text) h = tt
         put-ready (Err why) h = ready-of a.told why (of-tree path why h).unready
 
-        put-kinds : (r : Result (List ℕ) Refusal) → IsOf opened_kinds r → IsOf (may_answer (place_family path)) r
+        put-kinds : (r : Result (List ℕ) Refusal) → IsOf opened_kinds r → IsOf (may_meet (kinds_placing path)) r
         put-kinds (Ok text) h = tt
         put-kinds (Err why) h = (of-tree path why h).kind
 
@@ -725,8 +725,8 @@ ungiven-blameless Says (refusal.Store (fault.BadBlock cid role)) h blames = h
 ungiven-blameless Says (refusal.Store (fault.Clash cid held bytes)) h blames = blames
 ungiven-blameless Says (refusal.Store fault.Memory) h blames = blames
 
-ungiven-kinds : (path : Option (List ℕ)) (Says : Result Tree Refusal → Type 0) (why : Refusal) → ((rule : HostRule) → Says (Err (refusal.Host rule)) → may_answer (place_family path) OfHost ≡ true) → may_answer (place_family path) OfRead ≡ true
-    → IsUngiven Says why → may_answer (place_family path) (refusal_kind why) ≡ true
+ungiven-kinds : (path : Option (List ℕ)) (Says : Result Tree Refusal → Type 0) (why : Refusal) → ((rule : HostRule) → Says (Err (refusal.Host rule)) → may_meet (kinds_placing path) OfHost ≡ true) → may_meet (kinds_placing path) OfRead ≡ true
+    → IsUngiven Says why → may_meet (kinds_placing path) (refusal_kind why) ≡ true
 ungiven-kinds path Says (refusal.Rule rule) host read h = (tree-rule path rule).kind
 ungiven-kinds path Says (refusal.Dag rule) host read h = absurd h
 ungiven-kinds path Says (refusal.Car number place) host read h = absurd h
@@ -748,10 +748,10 @@ no-host-input p bytes rule is = by (nat_le (length bytes) (most_bytes p)) is
     by true is = cc
     by false is = cc
 
-pub input-kinds : (p : Profile) (l : streams.Told) (why : Refusal) → IsUngiven (SaysInput p l) why → may_answer PlacesInput (refusal_kind why) ≡ true
+pub input-kinds : (p : Profile) (l : streams.Told) (why : Refusal) → IsUngiven (SaysInput p l) why → may_meet place_kinds (refusal_kind why) ≡ true
 input-kinds p l why h = ungiven-kinds None (SaysInput p l) why (λ rule said. absurd (no-host-input p said.bytes rule said.is)) refl h
 
-pub host-kinds : (Says : Result Tree Refusal → Type 0) (path : List ℕ) (why : Refusal) → IsUngiven Says why → may_answer PlacesHost (refusal_kind why) ≡ true
+pub host-kinds : (Says : Result Tree Refusal → Type 0) (path : List ℕ) (why : Refusal) → IsUngiven Says why → may_meet place_host_kinds (refusal_kind why) ≡ true
 host-kinds Says path why h = ungiven-kinds (Some path) Says why (λ rule said. refl) refl h
 
 -- ---- how the counts of readings moved

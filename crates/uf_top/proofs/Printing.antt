@@ -18,9 +18,10 @@ use Rattle.uf_store.specs.Seen.{Seen}
 use Rattle.uf_tree.specs.Standing.{Standing, NoHead, BadHead, Stands}
 use Rattle.uf_tree.specs.Tree.{Entries}
 use Rattle.uf_tree.specs.declared.profile.Profile.{Profile}
-use Rattle.uf_reply.specs.Commands.{command_writes, needs_standing, uses_host, writes_host}
-use Rattle.uf_reply.specs.Commands as commands
-use Rattle.uf_reply.specs.Kinds.{OfCar, OfDag, OfHost, OfLongInput, OfPath, OfWrite, family_of, may_answer, may_end, refusal_kind}
+use Rattle.uf_reply.specs.Natures.{command_writes, needs_standing, uses_host, writes_host}
+use Rattle.uf_reply.specs.Natures as natures
+use Rattle.uf_reply.specs.Kinds.{OfCar, OfDag, OfHost, OfLongInput, OfPath, OfWrite, may_meet, may_close, refusal_kind}
+use Rattle.uf_reply.specs.Natures.{kinds_of}
 use Rattle.uf_top.specs.Reply.{Outside, Reply, World, host_after, outside_of, reply, world_of}
 use Rattle.uf_reply.specs.Statuses.{ended, no_memory, status_of}
 use Rattle.uf_reply.specs.declared.status.Status.{Status}
@@ -45,7 +46,7 @@ use Rattle.uf_top.specs.Working.{Does, Makes, MakesText}
 
 -- ---- which kinds no command that waits has
 
-pub no-write : (command : Command) → may_answer (family_of command) OfWrite ≡ true → ⊥
+pub no-write : (command : Command) → may_meet (kinds_of command) OfWrite ≡ true → ⊥
 no-write (Init p) h = cc
 no-write (Add only_hash) h = cc
 no-write (WriteInput how path) h = cc
@@ -64,8 +65,8 @@ no-write (AddFrom recursive only_hash path) h = cc
 
 -- a command that waits with its output, and reads the tree of the Head alone
 pub record IsStanding (command : Command) : Type 0 where
-  pub waits : commands.streams command ≡ false
-  pub alone : commands.reads_tree_alone command ≡ true
+  pub waits : natures.streams command ≡ false
+  pub alone : natures.reads_tree_alone command ≡ true
 
 -- so is each that isn't one of those with a way of their own
 pub standing-of : (command : Command) → ((offset count : ℕ) (path : Path) → command ≡ Read offset count path → ⊥) → ((path : DagPath) → command ≡ Cat path → ⊥) → ((path : DagPath) (host_path : List ℕ) → command ≡ Get path host_path → ⊥) → ((cid : Cid) → command ≡ Export cid → ⊥) → (command ≡ Import → ⊥) → ((cid : Cid) → command ≡ Same cid → ⊥)
@@ -87,7 +88,7 @@ standing-of (Adopt source dest) other cat get export import compare adopt genera
 standing-of (Gen n seed) other cat get export import compare adopt generate = absurd (generate n seed refl)
 
 -- such a command needs what the store stands for
-alone-needs : (command : Command) → commands.reads_tree_alone command ≡ true → needs_standing command ≡ true
+alone-needs : (command : Command) → natures.reads_tree_alone command ≡ true → needs_standing command ≡ true
 alone-needs (Init p) h = refl
 alone-needs (Add only_hash) h = refl
 alone-needs (AddTo dest) h = refl
@@ -105,7 +106,7 @@ alone-needs (Adopt source dest) h = absurd cc
 alone-needs (Gen n seed) h = absurd cc
 
 -- it only reads the host, whose files and folders stay
-alone-reads : (command : Command) → commands.reads_tree_alone command ≡ true → writes_host command ≡ false
+alone-reads : (command : Command) → natures.reads_tree_alone command ≡ true → writes_host command ≡ false
 alone-reads (Init p) h = refl
 alone-reads (Add only_hash) h = refl
 alone-reads (AddTo dest) h = refl
@@ -122,7 +123,7 @@ alone-reads (Same cid) h = absurd cc
 alone-reads (Adopt source dest) h = absurd cc
 alone-reads (Gen n seed) h = absurd cc
 
-alone-stays : (command : Command) → commands.reads_tree_alone command ≡ true → (world : World) → host_after (Ok command) world ≡ world.host
+alone-stays : (command : Command) → natures.reads_tree_alone command ≡ true → (world : World) → host_after (Ok command) world ≡ world.host
 alone-stays (Init p) h world = refl
 alone-stays (Add only_hash) h world = refl
 alone-stays (AddTo dest) h world = refl
@@ -140,7 +141,7 @@ alone-stays (Adopt source dest) h world = absurd cc
 alone-stays (Gen n seed) h world = absurd cc
 
 -- and gets nothing
-alone-gets : (command : Command) → commands.reads_tree_alone command ≡ true → (given : Status) (told : Told) (host now : HostTold) → GetsFor (Ok command) given told host now
+alone-gets : (command : Command) → natures.reads_tree_alone command ≡ true → (given : Status) (told : Told) (host now : HostTold) → GetsFor (Ok command) given told host now
 alone-gets (Init p) h given told host now = tt
 alone-gets (Add only_hash) h given told host now = tt
 alone-gets (AddTo dest) h given told host now = tt
@@ -168,7 +169,7 @@ host-tells true is_fault s t tree used tells = used.told ∙ tells refl
 host-tells false is_fault s t tree used tells = tt
 
 -- what may be answered before anything is printed may be answered after it
-pub may-end : (command : Command) (k : Refusal) → may_answer (family_of command) (refusal_kind k) ≡ true → may_end (family_of command) (refusal_kind k) ≡ true
+pub may-end : (command : Command) (k : Refusal) → may_meet (kinds_of command) (refusal_kind k) ≡ true → may_close (kinds_of command) (refusal_kind k) ≡ true
 may-end command (refusal.Rule rule) h = h
 may-end command (refusal.Dag rule) h = h
 may-end command (refusal.Car number place) h = h
@@ -261,7 +262,7 @@ some-stays (x ∷ text) true a b some stays = λ other. absurd (other refl)
 some-stays (x ∷ text) false a b some stays = stays
 
 module _ (X : List ℕ → List ℕ) (N : List ℕ → ℕ) where
-  text-of : (command : Command) → commands.reads_tree_alone command ≡ true → (told : Told) (host : HostTold) (l m : streams.Told) (text : List ℕ) → AddsFor X told (Ok command) (Ok text) l m → IsHostedText X N told host command text → IsTextOf X N told host (Ok command) l text
+  text-of : (command : Command) → natures.reads_tree_alone command ≡ true → (told : Told) (host : HostTold) (l m : streams.Told) (text : List ℕ) → AddsFor X told (Ok command) (Ok text) l m → IsHostedText X N told host command text → IsTextOf X N told host (Ok command) l text
   text-of (Init p) alone told host l m text h rows = tt
   text-of (Add only_hash) alone told host l m text h rows = h
   text-of (WriteInput how path) alone told host l m text h rows = tt
@@ -278,7 +279,7 @@ module _ (X : List ℕ → List ℕ) (N : List ℕ → ℕ) where
   text-of (Adopt source dest) alone told host l m text h rows = tt
   text-of (Gen n seed) alone told host l m text h rows = absurd cc
 
-  rule-in : (command : Command) (told : Told) (l m : streams.Told) (rule : Rule) → may_answer (family_of command) (refusal_kind (refusal.Rule rule)) ≡ true → AddsFor X told (Ok command) (Err (refusal.Rule rule)) l m
+  rule-in : (command : Command) (told : Told) (l m : streams.Told) (rule : Rule) → may_meet (kinds_of command) (refusal_kind (refusal.Rule rule)) ≡ true → AddsFor X told (Ok command) (Err (refusal.Rule rule)) l m
       → RuleOf (Ok command) (refusal.Rule rule) told l m
   rule-in (Init p) told l m rule h adds = absurd cc
   rule-in (Add only_hash) told l m rule h adds = (ap refusal.Rule adds.0, adds.1)
@@ -296,7 +297,7 @@ module _ (X : List ℕ → List ℕ) (N : List ℕ → ℕ) where
   rule-in (AddFromTo recursive path dest) told l m rule h adds = inr (rule, refl)
   rule-in (AddFrom recursive only_hash path) told l m rule h adds = inr (rule, refl)
 
-  long-in : (command : Command) (told : Told) (l m : streams.Told) → may_answer (family_of command) OfLongInput ≡ true → AddsFor X told (Ok command) (Err refusal.InputTooLong) l m
+  long-in : (command : Command) (told : Told) (l m : streams.Told) → may_meet (kinds_of command) OfLongInput ≡ true → AddsFor X told (Ok command) (Err refusal.InputTooLong) l m
       → RuleOf (Ok command) refusal.InputTooLong told l m
   long-in (Init p) told l m h adds = absurd cc
   long-in (Add only_hash) told l m h adds = absurd cc
@@ -314,7 +315,7 @@ module _ (X : List ℕ → List ℕ) (N : List ℕ → ℕ) where
   long-in (AddFromTo recursive path dest) told l m h adds = absurd cc
   long-in (AddFrom recursive only_hash path) told l m h adds = absurd cc
 
-  no-path : (command : Command) → may_answer (family_of command) OfPath ≡ true → ⊥
+  no-path : (command : Command) → may_meet (kinds_of command) OfPath ≡ true → ⊥
   no-path (Init p) h = cc
   no-path (Add only_hash) h = cc
   no-path (WriteInput how path) h = cc
@@ -331,7 +332,7 @@ module _ (X : List ℕ → List ℕ) (N : List ℕ → ℕ) where
   no-path (AddFromTo recursive path dest) h = cc
   no-path (AddFrom recursive only_hash path) h = cc
 
-  no-dag : (command : Command) → commands.reads_tree_alone command ≡ true → may_answer (family_of command) OfDag ≡ true → ⊥
+  no-dag : (command : Command) → natures.reads_tree_alone command ≡ true → may_meet (kinds_of command) OfDag ≡ true → ⊥
   no-dag (Init p) needs h = cc
   no-dag (Add only_hash) needs h = cc
   no-dag (AddTo dest) needs h = cc
@@ -348,7 +349,7 @@ module _ (X : List ℕ → List ℕ) (N : List ℕ → ℕ) where
   no-dag (Adopt source dest) needs h = cc
   no-dag (Gen n seed) needs h = cc
 
-  no-car : (command : Command) → commands.reads_tree_alone command ≡ true → may_answer (family_of command) OfCar ≡ true → ⊥
+  no-car : (command : Command) → natures.reads_tree_alone command ≡ true → may_meet (kinds_of command) OfCar ≡ true → ⊥
   no-car (Init p) needs h = cc
   no-car (Add only_hash) needs h = cc
   no-car (AddTo dest) needs h = cc
@@ -365,7 +366,7 @@ module _ (X : List ℕ → List ℕ) (N : List ℕ → ℕ) where
   no-car (Adopt source dest) needs h = cc
   no-car (Gen n seed) needs h = cc
 
-  host-in : (command : Command) (told : Told) (l m : streams.Told) (rule : HostRule) → may_answer (family_of command) OfHost ≡ true → RuleOf (Ok command) (refusal.Host rule) told l m
+  host-in : (command : Command) (told : Told) (l m : streams.Told) (rule : HostRule) → may_meet (kinds_of command) OfHost ≡ true → RuleOf (Ok command) (refusal.Host rule) told l m
   host-in (Init p) told l m rule h = absurd cc
   host-in (Add only_hash) told l m rule h = absurd cc
   host-in (AddTo dest) told l m rule h = absurd cc
@@ -382,7 +383,7 @@ module _ (X : List ℕ → List ℕ) (N : List ℕ → ℕ) where
   host-in (Adopt source dest) told l m rule h = absurd cc
   host-in (Gen n seed) told l m rule h = absurd cc
 
-  rules : (command : Command) → commands.reads_tree_alone command ≡ true → (told : Told) (l m : streams.Told) (why : Refusal) → may_answer (family_of command) (refusal_kind why) ≡ true → AddsFor X told (Ok command) (Err why) l m
+  rules : (command : Command) → natures.reads_tree_alone command ≡ true → (told : Told) (l m : streams.Told) (why : Refusal) → may_meet (kinds_of command) (refusal_kind why) ≡ true → AddsFor X told (Ok command) (Err why) l m
       → status_of why ≡ status.Rule → RuleOf (Ok command) why told l m
   rules command needs told l m (refusal.Rule rule) h adds is = rule-in command told l m rule h adds
   rules command needs told l m (refusal.Dag rule) h adds is = absurd (no-dag command needs h)
@@ -432,7 +433,7 @@ module _ (X : List ℕ → List ℕ) (N : List ℕ → ℕ) where
   made-as given command is none a b l m i j t0 t1 s hostless done mk h w =
       subst (λ given. MakesText X N given done (around a l i h w t0 s) (around b m j h w t1 s)) (sym is) (made-text command none a b l m i j t0 t1 h w s hostless done mk)
 
-  module _ (command : Command) (alone : commands.reads_tree_alone command ≡ true) (a b : Seen) (l m : streams.Told) (i j t0 t1 : ℕ) (h : streams.Told) (w : ℕ) (side side2 : HostSide) where
+  module _ (command : Command) (alone : natures.reads_tree_alone command ≡ true) (a b : Seen) (l m : streams.Told) (i j t0 t1 : ℕ) (h : streams.Told) (w : ℕ) (side side2 : HostSide) where
     needs : needs_standing command ≡ true
     needs = alone-needs command alone
 
@@ -457,13 +458,13 @@ module _ (X : List ℕ → List ℕ) (N : List ℕ → ℕ) where
     -- a command that is refused before anything is printed
     pub refused-does : (why : Refusal) → MakesText X N command (Err why) (around a l i h w t0 side) (around b m j h w t1 side2) → Does X N command (Err why) (around a l i h w t0 side) (around b m j h w t1 side2)
     refused-does why mk =
-        let quiet = quiet-of (IsTextOf X N a.told side.told (Ok command) l) (commands.streams command) why (λ e. no-write command (subst (λ k. may_answer (family_of command) k ≡ true) e mk.kinds)) in
+        let quiet = quiet-of (IsTextOf X N a.told side.told (Ok command) l) (natures.streams command) why (λ e. no-write command (subst (λ k. may_meet (kinds_of command) k ≡ true) e mk.kinds)) in
         record {
           answers = λ world finds input calm. answered world (λ uses. (input.1 uses).0) (mk.answers world (stands-in a.told world.standing finds.stands) input calm.store);
           lost = λ p es rows held bytes named tells heights input calm. over p es (mk.lost p es rows held bytes named input calm.store);
           unprinted = λ world after is. absurd (let e : is_done (status_of why) ≡ true = ap is_done is in let f = quiet.undone in cc);
           prefix = λ world finds input room. nothing-printed (reply X N command world).ends h h refl;
-          prints = quiet.prints h h (else-same (commands.streams command) h);
+          prints = quiet.prints h h (else-same (natures.streams command) h);
           kinds = may-end command why mk.kinds;
           ready = mk.ready;
           rule = λ is. rules command alone a.told l m why mk.kinds mk.adds is;
@@ -477,7 +478,7 @@ module _ (X : List ℕ → List ℕ) (N : List ℕ → ℕ) where
           touched = mk.touched;
           leaves = record {
             good = mk.leaves.good;
-            head = keeps-head (Err why) (commands.prints_after command) a.told b.told mk.leaves.head;
+            head = keeps-head (Err why) (natures.prints_after command) a.told b.told mk.leaves.head;
             writes = subst (λ d. WritesAs X (command_writes command) d a.told b.told) (sym quiet.undone) mk.leaves.writes;
             idle = mk.leaves.idle;
           };
@@ -548,7 +549,7 @@ module _ (X : List ℕ → List ℕ) (N : List ℕ → ℕ) where
           whole = λ s needs stands calm. mk.whole s stands calm;
           touches = λ p es bytes rows named input heights calm. mk.touches p es bytes rows named input heights calm;
           touched = mk.touched;
-          leaves = record { good = mk.leaves.good; head = keeps-head (Ok tt) (commands.prints_after command) a.told b.told tt; writes = mk.leaves.writes; idle = mk.leaves.idle };
+          leaves = record { good = mk.leaves.good; head = keeps-head (Ok tt) (natures.prints_after command) a.told b.told tt; writes = mk.leaves.writes; idle = mk.leaves.idle };
         }
           where
             answered : (world : World) → (uses_host command ≡ true → side.told ≡ Some world.host) → Answers X N world.standing (reply X N command world) (Ok text) b.told → DoesAnswer X N command world (Ok tt) h h2 b.told side2.told
@@ -591,7 +592,7 @@ module _ (X : List ℕ → List ℕ) (N : List ℕ → ℕ) where
               whole = λ s needs stands calm. (λ e. cc, λ e. cc);
               touches = λ p es bytes rows named input heights calm. mk.touches p es bytes rows named input heights calm;
               touched = λ blames. absurd blames;
-              leaves = record { good = mk.leaves.good; head = some-stays text (commands.prints_after command) a.told b.told c.some mk.leaves.head; writes = mk.leaves.writes; idle = mk.leaves.idle };
+              leaves = record { good = mk.leaves.good; head = some-stays text (natures.prints_after command) a.told b.told c.some mk.leaves.head; writes = mk.leaves.writes; idle = mk.leaves.idle };
             }
 
         -- or the output failed

@@ -1,7 +1,8 @@
 -- From how a command was done to what it did.
 use Rattle.std.proofs.Common.{subst, Result}
 use Rattle.std.specs.Prelude.{ℕ, List, IfErr}
-use Rattle.uf_reply.specs.Commands.{IsOfWords, NoStore, of_command, own_store}
+use Rattle.uf_reply.specs.Commands.{IsOfWords, of_command}
+use Rattle.uf_reply.specs.Natures.{IsOfCommand, NoStore, own_store}
 use Rattle.uf_reply.specs.declared.status.Status.{Status}
 use Rattle.uf_reply.specs.declared.types.Command.{Command}
 use Rattle.uf_reply.specs.declared.types.Refusal.{Refusal}
@@ -12,18 +13,18 @@ use Rattle.uf_top.specs.Running.{Runs}
 use Rattle.uf_top.specs.Working.{Serves}
 use Rattle.uf_top.proofs.Counted.{counted-of}
 use Rattle.uf_top.proofs.Losses.{lost-told, touches-told}
-use Rattle.uf_top.proofs.Telling.{StatusShows, blamed-told, clashes-told, faults-told, gets-told, good-told, head-told, host-told, idle-told, is-refused, looks-told, prefix-told, prints-told, read-told, replies-told, says-plain, shows, synced-told, told-same, unprinted-told, whole-told, write-told, writes-told}
+use Rattle.uf_top.proofs.Telling.{StatusShows, blamed-told, clashes-told, faults-told, gets-told, good-told, head-told, host-told, idle-told, is-refused, kinds-told, prefix-told, prints-told, read-told, replies-told, says-plain, shows, synced-told, told-same, unprinted-told, whole-told, write-told, writes-told}
 
 module _ (Says : List ℕ → Type 0) (given : Status) (X : List ℕ → List ℕ) (N : List ℕ → ℕ) (a b : Around) where
   pub runs-told : (asked : Result Command Refusal) (done : Result (Unit {0}) Refusal) → IsOfWords asked → Serves X N asked done a b
-      → IfErr done (ByOwnStore X (of_command own_store NoStore asked) a.left a.store b.store) → TellsEnd Says done given → Runs Says X N asked given a b
-  runs-told asked done of-words s sections t = record {
+      → IfErr done (ByOwnStore X (of_command own_store NoStore asked) a.left a.store b.store) → IsOfCommand asked done → TellsEnd Says done given → Runs Says X N asked given a b
+  runs-told asked done of-words s sections kinds t = record {
     replies = λ w finds outside quiet. replies-told Says given X N a b asked done s t w finds outside quiet.store quiet.written quiet.own;
     whole = λ standing needs stands calm. whole-told Says given X N a b asked done of-words s t standing needs stands calm;
     unprinted = λ w after is finds outside calm. unprinted-told Says given X N a b asked done s t w after is finds outside calm;
     lost = λ p es rows held outside named tells heights has quiet.
         lost-told Says given X N a b p es asked done s t rows held outside named tells heights has quiet.store quiet.written quiet.own;
-    looks = λ command is. looks-told Says given X N a b command done (subst (λ asked. Serves X N asked done a b) is s) t;
+    kinds = kinds-told Says given asked done kinds t;
     words = λ why is. (let idle = subst (λ asked. Serves X N asked done a b) is s in is-refused Says given done why t idle.refused);
     lines = says-plain Says given done t;
     rule = λ is. subst (StatusShows Says given X N a b asked) is shown;
@@ -55,4 +56,4 @@ module _ (Says : List ℕ → Type 0) (given : Status) (X : List ℕ → List �
   }
     where
       shown : StatusShows Says given X N a b asked given
-      shown = shows Says given X N a b asked done of-words s sections t
+      shown = shows Says given X N a b asked done of-words s sections kinds t

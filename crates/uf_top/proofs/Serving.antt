@@ -13,8 +13,10 @@ use Rattle.uf_store.specs.declared.store.StoreFault.TheVariants.{Memory}
 use Rattle.uf_store.proofs.Causes.{StaysCalm-refl, calm-memory}
 use Rattle.uf_store.proofs.Keeping.{KeepsGood-refl}
 use Rattle.uf_store.proofs.Writing.{SavesOnly-refl}
-use Rattle.uf_reply.specs.Commands.{IsAsked, IsOfWords, NoStore, OwnStore, command_writes, generates, own_store, reads_tree_alone, streams as flows, uses_host, writes_host, prints_after}
-use Rattle.uf_reply.specs.Kinds.{IsOf, OfOwnClash, OfSections, family_of, may_end, refusal_kind, word_kinds}
+use Rattle.uf_reply.specs.Commands.{IsAsked, IsOfWords}
+use Rattle.uf_reply.specs.Natures.{IsOfCommand, NoStore, OwnStore, command_writes, generates, own_store, reads_tree_alone, streams as flows, uses_host, writes_host, prints_after}
+use Rattle.uf_reply.specs.Kinds.{IsOf, OfOwnClash, OfSections, may_close, refusal_kind, word_kinds}
+use Rattle.uf_reply.specs.Natures.{kinds_of, may_end}
 use Rattle.uf_top.specs.Reply.{reply}
 use Rattle.uf_reply.specs.Statuses.{no_memory}
 use Rattle.uf_reply.specs.declared.types.Ask.TheVariants.{Ls, Stat, Edit as Edits}
@@ -35,7 +37,7 @@ use Rattle.uf_top.proofs.Printing.{else-same, nothing-printed, rises-still, keep
 use Rattle.uf_top.proofs.Shows.{counts-still, no-touch}
 
 -- want of memory may come of each command, which has written nothing then
-memory-kind : (command : Command) → may_end (family_of command) (refusal_kind no_memory) ≡ true
+memory-kind : (command : Command) → may_close (kinds_of command) (refusal_kind no_memory) ≡ true
 memory-kind (Init p) = refl
 memory-kind (Add only_hash) = refl
 memory-kind (WriteInput how path) = refl
@@ -149,7 +151,7 @@ module _ (X : List ℕ → List ℕ) (N : List ℕ → ℕ) (a : Around) where
 
 -- ---- no store of a command's own is to blame but where it has one
 
-may-section : (command : Command) → may_end (family_of command) OfSections ≡ true → own_store command ≡ NoStore → ⊥
+may-section : (command : Command) → may_close (kinds_of command) OfSections ≡ true → own_store command ≡ NoStore → ⊥
 may-section (Init p) h none = cc
 may-section (Add only_hash) h none = cc
 may-section (AddTo dest) h none = cc
@@ -166,7 +168,7 @@ may-section (Same cid) h none = cc
 may-section (Adopt source dest) h none = cc
 may-section (Gen n seed) h none = cc
 
-may-clash : (command : Command) → may_end (family_of command) OfOwnClash ≡ true → own_store command ≡ NoStore → ⊥
+may-clash : (command : Command) → may_close (kinds_of command) OfOwnClash ≡ true → own_store command ≡ NoStore → ⊥
 may-clash (Init p) h none = cc
 may-clash (Add only_hash) h none = cc
 may-clash (AddTo dest) h none = cc
@@ -200,12 +202,12 @@ module _ (X : List ℕ → List ℕ) (left : streams.Told) (a b : Seen) where
   by-none own (refusal.OwnClash cid first second) none free = absurd (free refl)
 
   -- any other command
-  pub spares-own : (command : Command) (done : Result (Unit {0}) Refusal) → own_store command ≡ NoStore → IsOf (may_end (family_of command)) done → IfErr done (ByOwnStore X (own_store command) left a b)
+  pub spares-own : (command : Command) (done : Result (Unit {0}) Refusal) → own_store command ≡ NoStore → IsOf (may_close (kinds_of command)) done → IfErr done (ByOwnStore X (own_store command) left a b)
   spares-own command (Ok done) other kinds = tt
   spares-own command (Err why) other kinds =
       by-none (own_store command) why
-      (λ is. may-section command (ap (may_end (family_of command)) (sym is) ∙ kinds) other)
-      (λ is. may-clash command (ap (may_end (family_of command)) (sym is) ∙ kinds) other)
+      (λ is. may-section command (ap (may_close (kinds_of command)) (sym is) ∙ kinds) other)
+      (λ is. may-clash command (ap (may_close (kinds_of command)) (sym is) ∙ kinds) other)
 
   -- words that are refused
   pub words-spare : (own : OwnStore) (why : Refusal) → IsOfWords (Err why) → ByOwnStore X own left a b why
@@ -248,7 +250,13 @@ alone-given (Same cid) h own = cc
 alone-given (Adopt source dest) h own = cc
 alone-given (Gen n seed) h own = cc
 
--- nor where what was asked for was refused
+-- where what was asked for was refused, memory was wanting for a command
+pub asked-kinds : (told : Result Command Refusal) (why : Refusal) → IsAsked (Err why) told → IsOfCommand told (Err why)
+asked-kinds (Ok command) why (inl memory) = subst (λ w. may_end command (refusal_kind w) ≡ true) (sym memory) refl
+asked-kinds (Ok command) why (inr same) = absurd cc
+asked-kinds (Err asked) why h = tt
+
+-- no store of a command's own is to blame where what was asked for was refused
 pub asked-spare : (X : List ℕ → List ℕ) (left : streams.Told) (a : Seen) (own : OwnStore) (why : Refusal) (told : Result Command Refusal) → IsOfWords told → IsAsked (Err why) told → ByOwnStore X own left a a why
 asked-spare X left a own why told words (inl memory) = subst (ByOwnStore X own left a a) (sym memory) (words-spare X left a a own no_memory refl)
 asked-spare X left a own why told words (inr same) = words-spare X left a a own why (subst IsOfWords same words)

@@ -61,7 +61,7 @@ use Rattle.uf_tree.specs.declared.nodes.Entry.{Entry}
 use Rattle.uf_tree.specs.declared.profile.Profile.{Profile}
 use Rattle.uf_varint.specs.Fields.{◌>>=◌}
 use Rattle.uf_reply.specs.Lines.{added_line}
-use Rattle.uf_reply.specs.Kinds.{IsOf, OfHost, OfReady, fault_behind, may_answer, opened_kinds, refusal_kind}
+use Rattle.uf_reply.specs.Kinds.{IsOf, OfHost, OfReady, fault_behind, may_meet, opened_kinds, refusal_kind}
 use Rattle.uf_reply.specs.Statuses.{no_memory}
 use Rattle.uf_reply.specs.declared.types.Ask.TheVariants.{Ls}
 use Rattle.uf_reply.specs.declared.types.HostRule.TheVariants as rules
@@ -73,7 +73,7 @@ use Rattle.uf_top.specs.HostTexts.{host_refusal, host_row, host_text}
 use Rattle.uf_top.specs.Hosted.{IsHostRefused}
 use Rattle.uf_intake.specs.Intake.{IsWholeFile, PassesMost}
 use Rattle.uf_top.specs.Naming.{NamesAfter}
-use Rattle.uf_top.specs.Placing.{EndsWith, FindsSpot, GivesFor, GivesRows, HasLast, IsFoundAt, IsGiven, IsReadyIn, IsUngiven, OpensFound, PutsFrom, PutsGiven, SaysHost, SaysInput, place_family}
+use Rattle.uf_top.specs.Placing.{EndsWith, FindsSpot, GivesFor, GivesRows, HasLast, IsFoundAt, IsGiven, IsReadyIn, IsUngiven, OpensFound, PutsFrom, PutsGiven, SaysHost, SaysInput, kinds_placing}
 use Rattle.uf_top.specs.Reply.{added_name, added_spot, by_rule, good_name, host_tree, input_row, input_tree}
 use Rattle.uf_top.specs.declared.given.Found.{Found}
 use Rattle.uf_top.specs.declared.given.Given.{Given}
@@ -103,7 +103,7 @@ not-ready-in told (mfs.Store f) why is = subst (IsReadyIn told) (sym is) tt
 -- ---- the spot
 
 module _ (X : List ℕ → List ℕ) (N : List ℕ → ℕ) (dest : Path) (path : Option (List ℕ)) (a m : Seen) (told : m.told ≡ a.told) (t0 t1 : ℕ) where
-  ready-kind : (p : Option (List ℕ)) → may_answer (place_family p) OfReady ≡ true
+  ready-kind : (p : Option (List ℕ)) → may_meet (kinds_placing p) OfReady ≡ true
   ready-kind None = refl
   ready-kind (Some path) = refl
 
@@ -146,11 +146,11 @@ module _ (X : List ℕ → List ℕ) (N : List ℕ → ℕ) (dest : Path) (path 
       by-ready mfs.Sink is h = absurd is
       by-ready (mfs.Store g) is h = subst (IsReadyIn a.told) (sym is) tt
 
-      by-kind : (f : MfsFault) → RefusesOpening f why → may_answer (place_family path) (refusal_kind why) ≡ true
+      by-kind : (f : MfsFault) → RefusesOpening f why → may_meet (kinds_placing path) (refusal_kind why) ≡ true
       by-kind (mfs.Rule rule) is = absurd is
-      by-kind (mfs.Ready r) is = subst (λ w. may_answer (place_family path) (refusal_kind w) ≡ true) (sym is) (ready-kind path)
+      by-kind (mfs.Ready r) is = subst (λ w. may_meet (kinds_placing path) (refusal_kind w) ≡ true) (sym is) (ready-kind path)
       by-kind mfs.Sink is = absurd is
-      by-kind (mfs.Store g) is = subst (λ w. may_answer (place_family path) (refusal_kind w) ≡ true) (sym is) (tree-store path g).kind
+      by-kind (mfs.Store g) is = subst (λ w. may_meet (kinds_placing path) (refusal_kind w) ≡ true) (sym is) (tree-store path g).kind
 
       by-read : (f : MfsFault) → RefusesOpening f why → is_read {A = Found} (Err why) ≡ false
       by-read (mfs.Rule rule) is = absurd is
@@ -168,7 +168,7 @@ module _ (X : List ℕ → List ℕ) (N : List ℕ → ℕ) (dest : Path) (path 
 
     -- the name isn't good
     record IsOfName (why : Refusal) : Type 0 where
-      tree_or : may_answer (place_family path) (refusal_kind why) ≡ true
+      tree_or : may_meet (kinds_placing path) (refusal_kind why) ≡ true
       ready : IsReadyIn a.told why
       unread : is_read {A = Found} (Err why) ≡ false
       shown : Shown X (IsBadInHead X N a.told) (fault_behind why) a m
@@ -182,7 +182,7 @@ module _ (X : List ℕ → List ℕ) (N : List ℕ → ℕ) (dest : Path) (path 
     name-refused (Some given) why e is = by dest.into is
       where
         host : IsOfName (refusal.Host (rules.Name given))
-        host = record { tree_or = subst (λ p. may_answer (place_family p) OfHost ≡ true) (sym e) refl; ready = tt; unread = refl; shown = calm; up = record { kept = low; risen = λ blames. absurd blames } }
+        host = record { tree_or = subst (λ p. may_meet (kinds_placing p) OfHost ≡ true) (sym e) refl; ready = tt; unread = refl; shown = calm; up = record { kept = low; risen = λ blames. absurd blames } }
 
         good : (b : Bool) → (if b then Ok (Some (first_row (trimmed given))) else Err (refusal.Host (rules.Name given))) ≡ Err why → IsOfName why
         good true is = absurd cc

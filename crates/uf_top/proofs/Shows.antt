@@ -24,7 +24,7 @@ use Rattle.uf_store.specs.declared.store.StoreFault.TheVariants.{Failed, Damaged
 use Rattle.uf_store.proofs.Calls.{shown-by}
 use Rattle.uf_store.proofs.Causes.{calm-memory}
 use Rattle.uf_tree.specs.declared.profile.Profile.{Profile}
-use Rattle.uf_reply.specs.Kinds.{AddsInput, IsOf, fault_behind, may_answer, refusal_fault}
+use Rattle.uf_reply.specs.Kinds.{add_kinds, IsOf, fault_behind, may_meet, refusal_fault}
 use Rattle.uf_reply.specs.Statuses.{status_of}
 use Rattle.uf_reply.specs.declared.status.Status.TheVariants as status
 use Rattle.uf_reply.specs.declared.types.Refusal.{Refusal}
@@ -141,7 +141,7 @@ made-touched M (Ok x) r t0 t1 made h = subst (λ (r : Result (List ℕ) Refusal)
 made-touched M (Err m) r t0 t1 made h = subst (λ (r : Result (List ℕ) Refusal). CountsUp (refusal_fault r) t0 t1) (sym made) (record { kept = h.kept; risen = λ blames. absurd blames })
 
 -- `add` blames no block
-pub add-blames : (r : Result (List ℕ) Refusal) → IsOf (may_answer AddsInput) r → IsBlaming (refusal_fault r) → ⊥
+pub add-blames : (r : Result (List ℕ) Refusal) → IsOf (may_meet add_kinds) r → IsBlaming (refusal_fault r) → ⊥
 add-blames (Ok text) h blames = blames
 add-blames (Err (refusal.Rule rule)) h blames = blames
 add-blames (Err (refusal.Dag rule)) h blames = blames

@@ -17,7 +17,7 @@ use Rattle.uf_tree.specs.Tree.{Entries}
 use Rattle.uf_tree.specs.Validity.{IsHash}
 use Rattle.uf_tree.specs.declared.profile.Profile.{Profile}
 use Rattle.uf_unique.proofs.Heads.{one_standing}
-use Rattle.uf_reply.specs.Commands.{WriteShape, MakesHead, MovesHead, NoWrites, SyncsBlocks, command_writes}
+use Rattle.uf_reply.specs.Natures.{WriteShape, MakesHead, MovesHead, NoWrites, SyncsBlocks, command_writes}
 use Rattle.uf_reply.specs.declared.types.Command.{Command}
 use Rattle.uf_reply.specs.declared.types.Refusal.{Refusal}
 use Rattle.uf_top.specs.Outcomes.{EachOutcome, EachStop, IsSafeFor, LeavesEither, LeavesNoneOr, LeavesTree}

@@ -1,6 +1,6 @@
 -- From how a command was done to what is told of it.
 use Rattle.std.proofs.Common.{◌≡◌, ◌≢◌, ◌⊎◌, ℕ, ◌<◌, List, [], true, false, arith, refl, sym, ap, subst, ◌∙◌, inl, inr, Some, None, Bool, Result, Ok, Err}
-use Rattle.std.specs.Prelude.{◌&&◌, not, IfErr, IfSome, ⊤}
+use Rattle.std.specs.Prelude.{◌&&◌, ◌||◌, not, IfErr, IfSome, ⊤}
 use Rattle.uf_cid.specs.declared.cid.Cid.{Cid}
 use Rattle.uf_edge.specs.Counts.{Counts, Stood}
 use Rattle.uf_edge.specs.Host.{HostTold}
@@ -18,9 +18,11 @@ use Rattle.uf_store.proofs.Keeping.{KeepsGood-same}
 use Rattle.uf_tree.specs.Standing.{Standing}
 use Rattle.uf_tree.specs.Tree.{Entries}
 use Rattle.uf_tree.specs.declared.profile.Profile.{Profile}
-use Rattle.uf_reply.specs.Commands.{HasInput, IsOfWords, command_writes, is_idle, needs_standing, of_command, only_reads, own_store, reads_tree_alone, uses_host, writes_host, OwnStore, NoStore, OfCarSections, OfTree, prints_after}
-use Rattle.uf_reply.specs.Commands.{streams as flows}
-use Rattle.uf_reply.specs.Kinds.{AddsHost, AddsInput, GeneratesTree, IsOf, KeepsCar, MakesReady, OfBadBlock, OfClash, OfSections, OfMissing, OfPath, OfUsage, OfWrite, family_of, fault_behind, may_end, refusal_kind, word_kinds}
+use Rattle.uf_reply.specs.Commands.{HasInput, IsOfWords, is_idle, of_command}
+use Rattle.uf_reply.specs.Natures.{command_writes, needs_standing, only_reads, own_store, reads_tree_alone, uses_host, writes_host, OwnStore, NoStore, OfCarSections, OfTree, prints_after}
+use Rattle.uf_reply.specs.Natures.{streams as flows}
+use Rattle.uf_reply.specs.Kinds.{OfCar, OfClash, OfHost, OfLongInput, OfMissing, OfPath, OfRule, OfUsage, OfWrite, fault_behind, may_close, refusal_kind, word_kinds}
+use Rattle.uf_reply.specs.Natures.{IsOfCommand, kinds_of, may_end, may_give}
 use Rattle.uf_reply.specs.Lines.{bad_block_line, clash_line, line_of, missing_line, said}
 use Rattle.uf_top.specs.Reply.{World, outside_of, reply, reply_to}
 use Rattle.uf_reply.specs.Statuses.{ended, no_memory, plain_line, status_of}
@@ -35,20 +37,20 @@ use Rattle.uf_top.specs.Answering.{DoesAnswer, LeavesNext}
 use Rattle.uf_top.specs.Around.{AllWritten, Around, CountsCanRise, HasOutside, HostSide, MetNone, RisesFor, RoseAt, TakesHost}
 use Rattle.uf_top.specs.Cars.{ByOwnStore, IsClashing, IsMissing, IsOwnClash, LacksSection}
 use Rattle.uf_top.specs.Causes.{IsBadIn, IsSynced, is_read, is_write, KeepsHead}
-use Rattle.uf_top.specs.Endings.{EndsAs, EndsBy, FindsAll, FindsBy, IsNotReady, IsRefusedBy, IsRule, IsSyncedFor, IsTextOf, PrintsAll, PrintsAt, PrintsPart, SaysPlain, may_move}
+use Rattle.uf_top.specs.Endings.{EndsAs, EndsBy, FindsAll, IsNotReady, IsRefusedBy, IsRule, IsSyncedFor, IsTextOf, PrintsAll, PrintsAt, PrintsPart, SaysPlain, may_move}
 use Rattle.uf_reply.specs.Telling.{TellsEnd, TellsWhy, has_details}
 use Rattle.uf_top.specs.Getting.{GetsFor, LeavesAt}
 use Rattle.uf_top.specs.Naming.{FindsOver, FindsWorld, StandsIf}
 use Rattle.uf_top.specs.Shapes.{SyncsAfter, WritesAs, WritesFor, is_done}
 use Rattle.uf_top.specs.Working.{Does, Serves}
-use Rattle.uf_top.proofs.Finding.{kind-finds, of-none, words-whole}
+use Rattle.uf_top.proofs.Finding.{words-whole}
 use Rattle.uf_top.proofs.Printing.{quiet-of}
 use Rattle.uf_top.proofs.Shows.{blaming-of}
 use Rattle.uf_top.proofs.Standings.{stands-kept, tells-none}
 
 -- ---- which kinds no command has
 
-no-path : (command : Command) → may_end (family_of command) OfPath ≡ true → ⊥
+no-path : (command : Command) → may_close (kinds_of command) OfPath ≡ true → ⊥
 no-path (Init p) h = cc
 no-path (Add only_hash) h = cc
 no-path (WriteInput how path) h = cc
@@ -65,7 +67,7 @@ no-path (AddTo dest) h = cc
 no-path (AddFromTo recursive path dest) h = cc
 no-path (AddFrom recursive only_hash path) h = cc
 
-no-usage : (command : Command) → may_end (family_of command) OfUsage ≡ true → ⊥
+no-usage : (command : Command) → may_close (kinds_of command) OfUsage ≡ true → ⊥
 no-usage (Init p) h = cc
 no-usage (Add only_hash) h = cc
 no-usage (WriteInput how path) h = cc
@@ -83,7 +85,7 @@ no-usage (AddFromTo recursive path dest) h = cc
 no-usage (AddFrom recursive only_hash path) h = cc
 
 -- a command that generates a tree meets no clash in the store
-tree-clashes : (command : Command) → may_end (family_of command) OfClash ≡ true → own_store command ≡ OfTree → ⊥
+tree-clashes : (command : Command) → may_end command OfClash ≡ true → own_store command ≡ OfTree → ⊥
 tree-clashes (Init p) h own = cc
 tree-clashes (Add only_hash) h own = cc
 tree-clashes (WriteInput how path) h own = cc
@@ -99,6 +101,36 @@ tree-clashes (Gen n seed) h own = cc
 tree-clashes (AddTo dest) h own = cc
 tree-clashes (AddFromTo recursive path dest) h own = cc
 tree-clashes (AddFrom recursive only_hash path) h own = cc
+
+-- ---- a refusal of a kind with which a command may end gives a status that it may give
+
+or-left : (a b : Bool) → a ≡ true → (a || b) ≡ true
+or-left true b h = refl
+or-left false b h = absurd cc
+
+or-right : (a b : Bool) → b ≡ true → (a || b) ≡ true
+or-right true b h = refl
+or-right false b h = h
+
+gives : (command : Command) (why : Refusal) → may_end command (refusal_kind why) ≡ true → may_give command (status_of why) ≡ true
+gives command (refusal.Rule rule) h = or-left _ _ (or-left _ _ (or-left _ _ (or-left _ _ (or-left _ _ h))))
+gives command (refusal.Dag rule) h = or-left _ _ (or-left _ _ (or-left _ _ (or-left _ _ (or-right (may_end command OfRule) _ h))))
+gives command (refusal.Host rule) h = or-left _ _ (or-left _ _ (or-left _ _ (or-right _ (may_end command OfHost) h)))
+gives command (refusal.BadPath path) h = or-left _ _ (or-left _ _ (or-right _ (may_end command OfPath) h))
+gives command refusal.InputTooLong h = or-left _ _ (or-right _ (may_end command OfLongInput) h)
+gives command (refusal.Car number place) h = or-right _ (may_end command OfCar) h
+gives command refusal.Usage h = h
+gives command (refusal.Ready reason) h = h
+gives command refusal.Read h = h
+gives command refusal.Write h = h
+gives command (refusal.Store fault.Failed) h = h
+gives command (refusal.Store (fault.Damaged cid)) h = h
+gives command (refusal.Store (fault.Missing cid)) h = or-left _ _ h
+gives command (refusal.Store (fault.BadBlock cid role)) h = h
+gives command (refusal.Store (fault.Clash cid first second)) h = or-left _ _ h
+gives command (refusal.Store fault.Memory) h = h
+gives command (refusal.CarLacks cid) h = or-right (may_end command OfMissing) _ h
+gives command (refusal.OwnClash cid first second) h = or-right (may_end command OfClash) _ h
 
 -- a line without details is the status's
 plain-of : (why : Refusal) → has_details (status_of why) ≡ false → plain_line (status_of why) ≡ line_of why
@@ -343,29 +375,6 @@ pub printed-all : (e : Result (List ℕ) Refusal) (done : Result (Unit {0}) Refu
 printed-all (Ok text) done held now h = h.1
 printed-all (Err why) done held now h = h.1
 
--- neither `init` nor `add` looks for a block
-makes-finds : (done : Result (Unit {0}) Refusal) → IsOf (may_end MakesReady) done → FindsAll (ended done)
-makes-finds (Ok done) h = (λ e. cc, λ e. cc)
-makes-finds (Err why) h = kind-finds why (of-none (may_end MakesReady) (refusal_kind why) OfMissing h refl) (of-none (may_end MakesReady) (refusal_kind why) OfBadBlock h refl) (of-none (may_end MakesReady) (refusal_kind why) OfSections h refl)
-
-adds-finds : (done : Result (Unit {0}) Refusal) → IsOf (may_end AddsInput) done → FindsAll (ended done)
-adds-finds (Ok done) h = (λ e. cc, λ e. cc)
-adds-finds (Err why) h = kind-finds why (of-none (may_end AddsInput) (refusal_kind why) OfMissing h refl) (of-none (may_end AddsInput) (refusal_kind why) OfBadBlock h refl) (of-none (may_end AddsInput) (refusal_kind why) OfSections h refl)
-
--- nor does `dag import`
-cars-find : (done : Result (Unit {0}) Refusal) → IsOf (may_end KeepsCar) done → FindsAll (ended done)
-cars-find (Ok done) h = (λ e. cc, λ e. cc)
-cars-find (Err why) h = kind-finds why (of-none (may_end KeepsCar) (refusal_kind why) OfMissing h refl) (of-none (may_end KeepsCar) (refusal_kind why) OfBadBlock h refl) (of-none (may_end KeepsCar) (refusal_kind why) OfSections h refl)
-
--- nor does `gen`
-trees-find : (done : Result (Unit {0}) Refusal) → IsOf (may_end GeneratesTree) done → FindsAll (ended done)
-trees-find (Ok done) h = (λ e. cc, λ e. cc)
-trees-find (Err why) h = kind-finds why (of-none (may_end GeneratesTree) (refusal_kind why) OfMissing h refl) (of-none (may_end GeneratesTree) (refusal_kind why) OfBadBlock h refl) (of-none (may_end GeneratesTree) (refusal_kind why) OfSections h refl)
-
-hosts-finds : (done : Result (Unit {0}) Refusal) → IsOf (may_end AddsHost) done → FindsAll (ended done)
-hosts-finds (Ok done) h = (λ e. cc, λ e. cc)
-hosts-finds (Err why) h = kind-finds why (of-none (may_end AddsHost) (refusal_kind why) OfMissing h refl) (of-none (may_end AddsHost) (refusal_kind why) OfBadBlock h refl) (of-none (may_end AddsHost) (refusal_kind why) OfSections h refl)
-
 -- ---- what goes to `errors`
 
 -- a refusal whose line has details is none of an output, so the Head stays
@@ -411,6 +420,12 @@ module _ (Says : List ℕ → Type 0) where
     ended-told A (Ok done) t h memory = subst A (sym t.0) h
     ended-told A (Err why) t h memory = by-why A why given t (λ says. h) memory
 
+    -- each answer of a command is of a kind that it may answer
+    pub kinds-told : (asked : Result Command Refusal) (done : Result (Unit {0}) Refusal) → IsOfCommand asked done → TellsEnd Says done given → of_command (λ command. may_give command given) true asked ≡ true
+    kinds-told (Err asked) done of t = refl
+    kinds-told (Ok command) (Ok done) of t = subst (λ g. may_give command g ≡ true) (sym t.0) refl
+    kinds-told (Ok command) (Err why) of t = by-why (λ g. may_give command g ≡ true) why given t (λ says. gives command why of) refl
+
     module _ (X : List ℕ → List ℕ) (N : List ℕ → ℕ) (a b : Around) where
       -- what each status shows
       abbrev pub StatusShows : Result Command Refusal → Status → Type 0
@@ -447,25 +462,25 @@ module _ (Says : List ℕ → Type 0) where
       clashing OfCarSections cid first second h = inr h
       clashing OfTree cid first second h = h
 
-      does-show : (command : Command) (why : Refusal) → Does X N command (Err why) a b → ByOwnStore X (own_store command) a.left a.store b.store why → Says (line_of why) → StatusShows (Ok command) (status_of why)
-      does-show command (refusal.Rule rule) h sections says = (refusal.Rule rule, refl, says, h.rule refl)
-      does-show command (refusal.Dag rule) h sections says = (refusal.Dag rule, refl, says, h.rule refl)
-      does-show command (refusal.Car number place) h sections says = (refusal.Car number place, refl, says, h.rule refl)
-      does-show command (refusal.CarLacks cid) h sections says = (cid, lacking (own_store command) cid sections, says)
-      does-show command (refusal.OwnClash cid first second) h sections says = (cid, first, second, clashing (own_store command) cid first second sections, says)
-      does-show command (refusal.Host rule) h sections says = (refusal.Host rule, refl, says, h.rule refl)
-      does-show command (refusal.BadPath path) h sections says = absurd (no-path command h.kinds)
-      does-show command refusal.Usage h sections says = absurd (no-usage command h.kinds)
-      does-show command refusal.InputTooLong h sections says = (refusal.InputTooLong, refl, says, h.rule refl)
-      does-show command (refusal.Ready reason) h sections says = (reason, says, h.ready)
-      does-show command refusal.Read h sections says = reading-rose (writes_host command) (uses_host command) false a.reads b.reads a.host b.host (writing-uses command) h.reads h.host
-      does-show command refusal.Write h sections says = writing-rose (writes_host command) (uses_host command) false a.writes b.writes a.host b.host h.writes h.host
-      does-show command (refusal.Store fault.Failed) h sections says = h.cause
-      does-show command (refusal.Store (fault.Damaged cid)) h sections says = h.cause
-      does-show command (refusal.Store (fault.Missing cid)) h sections says = (cid, missing (own_store command) cid h.cause, says)
-      does-show command (refusal.Store (fault.BadBlock cid role)) h sections says = (cid, role, h.cause, says)
-      does-show command (refusal.Store (fault.Clash cid first second)) h sections says = (cid, first, second, meeting (own_store command) cid first second (tree-clashes command h.kinds) h.cause, says)
-      does-show command (refusal.Store fault.Memory) h sections says = tt
+      does-show : (command : Command) (why : Refusal) → Does X N command (Err why) a b → may_end command (refusal_kind why) ≡ true → ByOwnStore X (own_store command) a.left a.store b.store why → Says (line_of why) → StatusShows (Ok command) (status_of why)
+      does-show command (refusal.Rule rule) h of sections says = (refusal.Rule rule, refl, says, h.rule refl)
+      does-show command (refusal.Dag rule) h of sections says = (refusal.Dag rule, refl, says, h.rule refl)
+      does-show command (refusal.Car number place) h of sections says = (refusal.Car number place, refl, says, h.rule refl)
+      does-show command (refusal.CarLacks cid) h of sections says = (cid, lacking (own_store command) cid sections, says)
+      does-show command (refusal.OwnClash cid first second) h of sections says = (cid, first, second, clashing (own_store command) cid first second sections, says)
+      does-show command (refusal.Host rule) h of sections says = (refusal.Host rule, refl, says, h.rule refl)
+      does-show command (refusal.BadPath path) h of sections says = absurd (no-path command h.kinds)
+      does-show command refusal.Usage h of sections says = absurd (no-usage command h.kinds)
+      does-show command refusal.InputTooLong h of sections says = (refusal.InputTooLong, refl, says, h.rule refl)
+      does-show command (refusal.Ready reason) h of sections says = (reason, says, h.ready)
+      does-show command refusal.Read h of sections says = reading-rose (writes_host command) (uses_host command) false a.reads b.reads a.host b.host (writing-uses command) h.reads h.host
+      does-show command refusal.Write h of sections says = writing-rose (writes_host command) (uses_host command) false a.writes b.writes a.host b.host h.writes h.host
+      does-show command (refusal.Store fault.Failed) h of sections says = h.cause
+      does-show command (refusal.Store (fault.Damaged cid)) h of sections says = h.cause
+      does-show command (refusal.Store (fault.Missing cid)) h of sections says = (cid, missing (own_store command) cid h.cause, says)
+      does-show command (refusal.Store (fault.BadBlock cid role)) h of sections says = (cid, role, h.cause, says)
+      does-show command (refusal.Store (fault.Clash cid first second)) h of sections says = (cid, first, second, meeting (own_store command) cid first second (tree-clashes command of) h.cause, says)
+      does-show command (refusal.Store fault.Memory) h of sections says = tt
 
       word-shows : (why : Refusal) → word_kinds (refusal_kind why) ≡ true → Says (line_of why) → StatusShows (Err why) (status_of why)
       word-shows (refusal.Rule rule) h says = absurd cc
@@ -496,10 +511,10 @@ module _ (Says : List ℕ → Type 0) where
           let e : why ≡ no_memory = cc in
           subst (λ w. StatusShows (Err asked) (status_of w)) (sym e) tt
 
-      pub shows : (asked : Result Command Refusal) (done : Result (Unit {0}) Refusal) → IsOfWords asked → Serves X N asked done a b → IfErr done (ByOwnStore X (of_command own_store NoStore asked) a.left a.store b.store) → TellsEnd Says done given → StatusShows asked given
-      shows asked (Ok done) words s sections t = subst (StatusShows asked) (sym t.0) tt
-      shows (Ok command) (Err why) words s sections t = by-why (StatusShows (Ok command)) why given t (does-show command why s sections) tt
-      shows (Err asked) (Err why) words s sections t = by-why (StatusShows (Err asked)) why given t (idle-shows asked why (Err why) refl words s.refused) tt
+      pub shows : (asked : Result Command Refusal) (done : Result (Unit {0}) Refusal) → IsOfWords asked → Serves X N asked done a b → IfErr done (ByOwnStore X (of_command own_store NoStore asked) a.left a.store b.store) → IsOfCommand asked done → TellsEnd Says done given → StatusShows asked given
+      shows asked (Ok done) words s sections of t = subst (StatusShows asked) (sym t.0) tt
+      shows (Ok command) (Err why) words s sections of t = by-why (StatusShows (Ok command)) why given t (does-show command why s of sections) tt
+      shows (Err asked) (Err why) words s sections of t = by-why (StatusShows (Err asked)) why given t (idle-shows asked why (Err why) refl words s.refused) tt
 
       -- ---- no fault is passed over
 
@@ -568,7 +583,7 @@ module _ (Says : List ℕ → Type 0) where
       detailed-left (Some t) source path host now status.Memory h left = absurd cc
       detailed-left (Some t) source path host now status.NotReady h left = inl left
 
-      detailed-gets : (command : Command) (store : Told) (host now : HostTold) (s : Status) → has_details s ≡ true → GetsFor (Ok command) s store host now → GetsFor (Ok command) status.Memory store host now
+      pub detailed-gets : (command : Command) (store : Told) (host now : HostTold) (s : Status) → has_details s ≡ true → GetsFor (Ok command) s store host now → GetsFor (Ok command) status.Memory store host now
       detailed-gets (Init p) store host now s h gets = tt
       detailed-gets (Add only_hash) store host now s h gets = tt
       detailed-gets (AddTo dest) store host now s h gets = tt
@@ -781,20 +796,3 @@ module _ (Says : List ℕ → Type 0) where
           by : (done ≡ Err asked) ⊎ (done ≡ Err no_memory) → FindsAll (ended done)
           by (inl is) = subst (λ d. FindsAll (ended d)) (sym is) (words-whole asked words)
           by (inr is) = subst (λ d. FindsAll (ended d)) (sym is) (λ e. cc, λ e. cc)
-
-      pub looks-told : (command : Command) (done : Result (Unit {0}) Refusal) → Does X N command done a b → TellsEnd Says done given → FindsBy (family_of command) given
-      looks-told (Init p) done h t = ended-told FindsAll done t (makes-finds done h.kinds) (λ e. cc, λ e. cc)
-      looks-told (Add only_hash) done h t = ended-told FindsAll done t (adds-finds done h.kinds) (λ e. cc, λ e. cc)
-      looks-told (WriteInput how path) done h t = tt
-      looks-told (At ask path) done h t = tt
-      looks-told (Read offset count path) done h t = tt
-      looks-told (Cat path) done h t = tt
-      looks-told (Get path host_path) done h t = tt
-      looks-told (Export cid) done h t = tt
-      looks-told Import done h t = ended-told FindsAll done t (cars-find done h.kinds) (λ e. cc, λ e. cc)
-      looks-told (Same cid) done h t = tt
-      looks-told (Adopt source dest) done h t = tt
-      looks-told (Gen n seed) done h t = ended-told FindsAll done t (trees-find done h.kinds) (λ e. cc, λ e. cc)
-      looks-told (AddTo dest) done h t = tt
-      looks-told (AddFromTo recursive path dest) done h t = tt
-      looks-told (AddFrom recursive only_hash path) done h t = ended-told FindsAll done t (hosts-finds done h.kinds) (λ e. cc, λ e. cc)

@@ -15,8 +15,8 @@ use Rattle.uf_store.proofs.Causes.{StaysCalm-refl, calm-memory}
 use Rattle.uf_store.proofs.Keeping.{KeepsGood-refl}
 use Rattle.uf_tree.specs.Tree.{Entries}
 use Rattle.uf_tree.specs.declared.profile.Profile.{Profile}
-use Rattle.uf_reply.specs.Commands.{OfTree}
-use Rattle.uf_reply.specs.Kinds.{GeneratesTree, OfWrite, fault_behind, may_answer, refusal_kind}
+use Rattle.uf_reply.specs.Natures.{OfTree}
+use Rattle.uf_reply.specs.Kinds.{gen_kinds, OfWrite, fault_behind, may_meet, refusal_kind}
 use Rattle.uf_reply.specs.Statuses.{no_memory, status_of}
 use Rattle.uf_reply.specs.declared.status.Status.TheVariants as status
 use Rattle.uf_reply.specs.declared.types.Command.TheVariants.{Gen}
@@ -68,7 +68,7 @@ module _ (X : List ℕ → List ℕ) (N : List ℕ → ℕ) (n seed : ℕ) (s : 
   -- ---- what every refusal of `gen` has
 
   record IsOfGenerating (why : Refusal) : Type 0 where
-    kinds : may_answer GeneratesTree (refusal_kind why) ≡ true
+    kinds : may_meet gen_kinds (refusal_kind why) ≡ true
     other : refusal_kind why ≢ OfWrite
     unread : is_read {A = Unit {0}} (Err why) ≡ false
     rule : status_of why ≡ status.Rule → (rule : Rule) × (why ≡ refusal.Rule rule)

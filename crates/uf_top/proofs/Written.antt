@@ -26,7 +26,7 @@ use Rattle.uf_tree.specs.Tree.{Dir, Entries}
 use Rattle.uf_tree.specs.TreePlan.{blocks}
 use Rattle.uf_tree.specs.declared.profile.Profile.{Profile}
 use Rattle.uf_reply.specs.Commands.{HasInput, has_nothing_to_do}
-use Rattle.uf_reply.specs.Kinds.{IsOf, TakesInput, WorksInTree, fault_behind, fault_kind, may_answer, refusal_kind}
+use Rattle.uf_reply.specs.Kinds.{IsOf, write_input_kinds, tree_kinds, fault_behind, fault_kind, may_meet, refusal_kind}
 use Rattle.uf_top.specs.Reply.{Reply, in_tree, input_reply, most_input, tree_reply, unchanged}
 use Rattle.uf_reply.specs.declared.types.Ask.TheVariants.{Edit as Edits}
 use Rattle.uf_reply.specs.declared.types.Command.TheVariants.{WriteInput, At}
@@ -48,7 +48,7 @@ use Rattle.uf_top.proofs.Shows.{Shown-opening, bad-of-none, opening-touched, sho
 use Rattle.uf_top.proofs.Standings.{stands-same, tells-none}
 
 -- what a command at a path may refuse, one that takes the input may refuse
-tree-taken : (r : Result (List ℕ) Refusal) → IsOf (may_answer WorksInTree) r → IsOf (may_answer TakesInput) r
+tree-taken : (r : Result (List ℕ) Refusal) → IsOf (may_meet tree_kinds) r → IsOf (may_meet write_input_kinds) r
 tree-taken (Ok text) h = tt
 tree-taken (Err (refusal.Rule rule)) h = refl
 tree-taken (Err (refusal.Dag rule)) h = h
@@ -64,7 +64,7 @@ tree-taken (Err refusal.Read) h = refl
 tree-taken (Err refusal.Write) h = h
 tree-taken (Err (refusal.Store f)) h = by f
   where
-    by : (f : StoreFault) → may_answer TakesInput (fault_kind f) ≡ true
+    by : (f : StoreFault) → may_meet write_input_kinds (fault_kind f) ≡ true
     by fault.Failed = refl
     by (fault.Damaged cid) = refl
     by (fault.Missing cid) = refl
@@ -73,7 +73,7 @@ tree-taken (Err (refusal.Store f)) h = by f
     by fault.Memory = refl
 
 -- and none of it is that an input is too long
-not-long : (r : Result (List ℕ) Refusal) (l m : streams.Told) → IsOf (may_answer WorksInTree) r → IsLongAt r l m
+not-long : (r : Result (List ℕ) Refusal) (l m : streams.Told) → IsOf (may_meet tree_kinds) r → IsLongAt r l m
 not-long (Ok text) l m h = tt
 not-long (Err (refusal.Rule rule)) l m h = tt
 not-long (Err (refusal.Dag rule)) l m h = tt
@@ -196,7 +196,7 @@ module _ (how : WriteHow) (path : Path) where
       taken-over (refusal.Store f) bytes p es takes counts input stands =
           lost-wants X N a.told m.told p es (command_needs X N (λ n. 0) (WriteInput how path) p es) (input_reply X N how path.names bytes p es) (refusal.Store f) (ap refusal.Store takes) stands
 
-      taken-kinds : (why : Refusal) → TakesAll (Err why) l k → may_answer TakesInput (refusal_kind why) ≡ true
+      taken-kinds : (why : Refusal) → TakesAll (Err why) l k → may_meet write_input_kinds (refusal_kind why) ≡ true
       taken-kinds (refusal.Rule rule) takes = absurd takes
       taken-kinds (refusal.Dag rule) takes = absurd takes
       taken-kinds (refusal.Car number place) takes = absurd takes
@@ -209,7 +209,7 @@ module _ (how : WriteHow) (path : Path) where
       taken-kinds (refusal.Ready ready) takes = absurd takes
       taken-kinds refusal.Read takes = refl
       taken-kinds refusal.Write takes = absurd takes
-      taken-kinds (refusal.Store f) takes = subst (λ f. may_answer TakesInput (fault_kind f) ≡ true) (sym takes) refl
+      taken-kinds (refusal.Store f) takes = subst (λ f. may_meet write_input_kinds (fault_kind f) ≡ true) (sym takes) refl
 
       taken-finds : (why : Refusal) → TakesAll (Err why) l k → Finds (Err why)
       taken-finds (refusal.Rule rule) takes = absurd takes

@@ -8,7 +8,8 @@ use Rattle.uf_mfs.specs.Reading.{CanRise}
 use Rattle.uf_store.specs.Calls.{Calm}
 use Rattle.uf_store.specs.Faults.{Rises}
 use Rattle.uf_store.specs.Seen.{Seen}
-use Rattle.uf_reply.specs.Commands.{HasHost, HasInput, generates, of_command, uses_host, writes_host}
+use Rattle.uf_reply.specs.Commands.{HasHost, HasInput, of_command}
+use Rattle.uf_reply.specs.Natures.{generates, uses_host, writes_host}
 use Rattle.uf_reply.specs.declared.status.Status.{Status}
 use Rattle.uf_reply.specs.declared.status.Status.TheVariants as status
 use Rattle.uf_reply.specs.declared.types.Command.{Command}

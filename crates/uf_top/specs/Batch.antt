@@ -9,7 +9,8 @@ use Rattle.uf_edge.specs.Streams.{AppendsPrefix, after}
 use Rattle.uf_edge.specs.Streams as streams
 use Rattle.uf_lines.specs.LinesIn.{LinesIn, lines_in}
 use Rattle.uf_reply.specs.Batches.{line_in}
-use Rattle.uf_reply.specs.Commands.{NoStore, of_command, own_store}
+use Rattle.uf_reply.specs.Commands.{of_command}
+use Rattle.uf_reply.specs.Natures.{IsOfCommand, NoStore, own_store}
 use Rattle.uf_reply.specs.Statuses.{ends_batch, mark, no_memory}
 use Rattle.uf_reply.specs.Telling.{IsSent, TellsEnd, TellsWhy}
 use Rattle.uf_reply.specs.declared.status.Status.{Status}
@@ -105,6 +106,7 @@ module _ (X : List ℕ → List ℕ) (N : List ℕ → ℕ) where
     pub asks : (told ≡ Some asked) ⊎ (asked ≡ Err no_memory)
     pub serves : Serves X N asked done before now
     pub own : IfErr done (ByOwnStore X (of_command own_store NoStore asked) before.left before.store now.store)
+    pub kinds : IsOfCommand asked done
 
   abbrev pub LineServed : Option (Result Command Refusal) → Option (Result (Unit {0}) Refusal) → Around → Around → Type 0
   LineServed told None before now = (told ≡ None) × (now ≡ before)

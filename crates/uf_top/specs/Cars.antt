@@ -12,8 +12,8 @@ use Rattle.uf_edge.specs.Counts.{Counts, Stood}
 use Rattle.uf_edge.specs.Streams as streams
 use Rattle.uf_mfs.specs.Standing.{TellsHeld}
 use Rattle.uf_reply.specs.Cars.{most_blocks, most_car, roots_told}
-use Rattle.uf_reply.specs.Commands.{OwnStore, NoStore, OfCarSections, OfTree, SyncsBlocks}
-use Rattle.uf_reply.specs.Kinds.{IsOf, ComparesCar as OfComparing, KeepsCar as OfCars, may_answer, refusal_fault}
+use Rattle.uf_reply.specs.Natures.{OwnStore, NoStore, OfCarSections, OfTree, SyncsBlocks}
+use Rattle.uf_reply.specs.Kinds.{IsOf, same_kinds, import_kinds, may_meet, refusal_fault}
 use Rattle.uf_reply.specs.Statuses.{no_memory}
 use Rattle.uf_reply.specs.declared.types.Refusal.{Refusal}
 use Rattle.uf_reply.specs.declared.types.Refusal.TheVariants as refusal
@@ -42,7 +42,7 @@ pub record KeepsCar (X : List ℕ → List ℕ) (done : Result (List ℕ) Refusa
   pub roots : (held : Lookup) (bytes : List ℕ) → TellsBlocks before.told held → left ≡ Some bytes
       → Stood reads reads_now → Calm before now
       → (done ≡ Err no_memory) ⊎ TellsRoots (car_read X most_car bytes) done now.told
-  pub kinds : IsOf (may_answer OfCars) done
+  pub kinds : IsOf (may_meet import_kinds) done
   pub counts : Counts (is_read done) reads reads_now
   pub cause : Shown X NoneIsBad (refusal_fault done) before now
   pub good : KeepsGood X before.told now.told
@@ -118,7 +118,7 @@ pub record TakesRoot (X : List ℕ → List ℕ) (done : Result Cid Refusal) (be
     (reads reads_now : ℕ) : Type 0 where
   pub root : (bytes : List ℕ) → left ≡ Some bytes → before ≡ Some no_contents
       → TellsRoot (car_read X most_car bytes) done now reads reads_now
-  pub kinds : IsOf (may_answer OfComparing) done
+  pub kinds : IsOf (may_meet same_kinds) done
   pub counts : Counts (is_read done) reads reads_now
   pub fault : IfSome (refusal_fault done) (λ fault. fault ≡ Memory)
   pub sections : before ≡ Some no_contents → (other : Seen) → IfErr done (ByOwnStore X OfCarSections left other other)
@@ -128,7 +128,7 @@ pub record ComparesStores (X : List ℕ → List ℕ) (cid root : Cid) (done : R
     (right : Told) : Type 0 where
   pub verdict_is : (held : Lookup) (u : Contents) → TellsBlocks before.told held → right ≡ Some u → Calm before now
       → (done ≡ Err no_memory) ⊎ (done ≡ verdict_told (verdict held (held_at u) most_blocks cid root))
-  pub kinds : IsOf (may_answer OfComparing) done
+  pub kinds : IsOf (may_meet same_kinds) done
   pub unread : is_read done ≡ false
   pub cause : Shown X NoneIsBad (refusal_fault done) before now
   pub told : now.told ≡ before.told
@@ -142,7 +142,7 @@ pub record ComparesCar (X : List ℕ → List ℕ) (cid : Cid) (done : Result (L
   pub says : (held : Lookup) (bytes : List ℕ) → TellsBlocks before.told held → left ≡ Some bytes
       → Stood reads reads_now → Calm before now
       → (done ≡ Err no_memory) ⊎ (done ≡ car_compared held cid (car_read X most_car bytes))
-  pub kinds : IsOf (may_answer OfComparing) done
+  pub kinds : IsOf (may_meet same_kinds) done
   pub counts : Counts (is_read done) reads reads_now
   pub cause : Shown X NoneIsBad (refusal_fault done) before now
   pub told : now.told ≡ before.told

@@ -28,11 +28,11 @@ use Rattle.uf_tree.specs.declared.head_fault.HeadFault.{HeadFault}
 use Rattle.uf_tree.specs.declared.profile.Head.{Head}
 use Rattle.uf_tree.specs.declared.profile.Profile.{Profile}
 use Rattle.uf_reply.specs.declared.types.Command.{Command}
-use Rattle.uf_reply.specs.declared.types.Command.TheVariants.{Init, Add, AddFrom, WriteInput, At, Read, Adopt, AddTo, AddFromTo}
 use Rattle.uf_reply.specs.declared.types.Refusal.{Refusal}
 use Rattle.uf_reply.specs.declared.types.Refusal.TheVariants as refusal
 use Rattle.uf_reply.specs.Kinds.{is_of, read_kind, refusal_fault, write_kind}
 use Rattle.uf_reply.specs.Lines.{added_line}
+use Rattle.uf_reply.specs.Natures.{HeadNeed, AnyHead, NoHeadYet, AHead, nature}
 use Rattle.uf_reply.specs.Statuses.{no_memory, status_of}
 use Rattle.uf_reply.specs.declared.status.Status.TheVariants as status
 use Rattle.uf_top.specs.Reply.{file_cid, most_input}
@@ -100,23 +100,19 @@ IsReasonInTree ready.NoHead told = IfSome told (λ t. t.notes.head ≡ None)
 IsReasonInTree ready.HeadThere told = ⊥
 IsReasonInTree ready.BadHead told = IfSome told (λ t. IsUnread t.notes.head)
 
--- for this reason the Head doesn't do for a command, where the store tells: it is there at `init`, isn't read, or isn't
--- there where one is needed
+-- for this reason the Head doesn't do where it is needed so, where the store tells: it is there, isn't read, or isn't
+-- there
+abbrev pub IsReasonFor : HeadNeed → Ready → Told → Type 0
+IsReasonFor AnyHead why told = ⊥
+IsReasonFor NoHeadYet ready.HeadThere told = IfSome told (λ t. (text : List ℕ) × (t.notes.head ≡ Some text))
+IsReasonFor NoHeadYet why told = ⊥
+IsReasonFor (AHead true) ready.BadHead told = IfSome told (λ t. IsUnread t.notes.head)
+IsReasonFor (AHead true) why told = ⊥
+IsReasonFor (AHead false) why told = IsReasonInTree why told
+
+-- for this reason the Head doesn't do for a command
 abbrev pub IsReason : Command → Ready → Told → Type 0
-IsReason (Init p) ready.HeadThere told = IfSome told (λ t. (text : List ℕ) × (t.notes.head ≡ Some text))
-IsReason (Add true) ready.BadHead told = IfSome told (λ t. IsUnread t.notes.head)
-IsReason (Add true) why told = ⊥
-IsReason (Add false) why told = IsReasonInTree why told
-IsReason (AddFrom recursive true path) ready.BadHead told = IfSome told (λ t. IsUnread t.notes.head)
-IsReason (AddFrom recursive true path) why told = ⊥
-IsReason (AddFrom recursive false path) why told = IsReasonInTree why told
-IsReason (AddTo dest) why told = IsReasonInTree why told
-IsReason (AddFromTo recursive path dest) why told = IsReasonInTree why told
-IsReason (WriteInput how path) why told = IsReasonInTree why told
-IsReason (At ask path) why told = IsReasonInTree why told
-IsReason (Read offset count path) why told = IsReasonInTree why told
-IsReason (Adopt source dest) why told = IsReasonInTree why told
-IsReason other why told = ⊥
+IsReason command why told = IsReasonFor (nature command).head why told
 
 -- the refusal that the store isn't ready has its reason in the Head
 abbrev pub IsReadyBy : Told → Command → Refusal → Type 0

@@ -18,9 +18,9 @@ use Rattle.uf_path.specs.declared.path.Path.{Path}
 use Rattle.uf_plain.specs.Moves.{allowed_move, placed_at}
 use Rattle.uf_plain.specs.declared.rule.Rule.TheVariants as rule
 use Rattle.uf_plain.specs.declared.spot.Spot.{Spot}
-use Rattle.uf_reply.specs.Commands.{MovesHead}
+use Rattle.uf_reply.specs.Natures.{MovesHead}
 use Rattle.uf_reply.specs.Dags.{dag_refusal}
-use Rattle.uf_reply.specs.Kinds.{AdoptsDag, IsOf, OfReady, RefusalKind, may_answer, refusal_fault}
+use Rattle.uf_reply.specs.Kinds.{adopt_kinds, IsOf, OfReady, RefusalKind, may_meet, refusal_fault}
 use Rattle.uf_top.specs.Reply.{adopt_reply, by_rule, with_plan}
 use Rattle.uf_reply.specs.declared.types.Refusal.{Refusal}
 use Rattle.uf_reply.specs.declared.types.Refusal.TheVariants as refusal
@@ -72,7 +72,7 @@ adopt_refusal path (adopt.Store fault) = refusal.Store fault
 -- the kinds that such a copy may answer over an opened tree, which is ready
 abbrev pub graft_kinds : RefusalKind → Bool
 graft_kinds OfReady = false
-graft_kinds kind = may_answer AdoptsDag kind
+graft_kinds kind = may_meet adopt_kinds kind
 
 -- the count of touches doesn't fall where there is no fault, and it has risen where a block is blamed
 pub record TouchesUp {A : Type 0} (result : Result A Refusal) (was is : ℕ) : Type 0 where

@@ -12,7 +12,8 @@ use Rattle.uf_tree.specs.Standing.{Standing, NoHead, BadHead, Stands}
 use Rattle.uf_tree.specs.Tree.{Dir, Entries}
 use Rattle.uf_tree.specs.TreePlan.{blocks, entry}
 use Rattle.uf_tree.specs.declared.profile.Profile.{Profile}
-use Rattle.uf_reply.specs.Commands.{needs_standing, of_command}
+use Rattle.uf_reply.specs.Commands.{of_command}
+use Rattle.uf_reply.specs.Natures.{needs_standing}
 use Rattle.uf_top.specs.Reply.{World}
 use Rattle.uf_reply.specs.declared.types.Command.{Command}
 use Rattle.uf_reply.specs.declared.types.Refusal.{Refusal}

@@ -33,8 +33,8 @@ use Rattle.uf_tree.specs.Tree.{Dir, Entries, Tree}
 use Rattle.uf_tree.specs.TreePlan.{blocks, entry}
 use Rattle.uf_tree.specs.declared.nodes.Entry.{Entry}
 use Rattle.uf_tree.specs.declared.profile.Profile.{Profile}
-use Rattle.uf_reply.specs.Commands.{MovesHead}
-use Rattle.uf_reply.specs.Kinds.{Family, IsOf, PlacesHost, PlacesInput, may_answer, opened_kinds, refusal_fault}
+use Rattle.uf_reply.specs.Natures.{MovesHead}
+use Rattle.uf_reply.specs.Kinds.{IsOf, RefusalKind, place_host_kinds, place_kinds, may_meet, opened_kinds, refusal_fault}
 use Rattle.uf_reply.specs.Statuses.{no_memory}
 use Rattle.uf_reply.specs.declared.types.Refusal.{Refusal}
 use Rattle.uf_reply.specs.declared.types.Refusal.TheVariants as refusal
@@ -47,10 +47,10 @@ use Rattle.uf_top.specs.Shapes.{WritesAs, is_ok}
 use Rattle.uf_top.specs.declared.given.Given.{Given}
 use Rattle.uf_top.specs.declared.given.Found.{Found}
 
--- the family of a command that puts what the host has at a path into the tree, or the input where there is no path
-abbrev pub place_family : Option (List ℕ) → Family
-place_family None = PlacesInput
-place_family (Some path) = PlacesHost
+-- the kinds of a command that puts what the host has at a path into the tree, or the input where there is no path
+abbrev pub kinds_placing : Option (List ℕ) → List RefusalKind
+kinds_placing None = place_kinds
+kinds_placing (Some path) = place_host_kinds
 
 -- rows of which this is the last
 pub record EndsWith (rows : List AddedRow) (row : AddedRow) : Type 0 where
@@ -127,7 +127,7 @@ module _ (X : List ℕ → List ℕ) (N : List ℕ → ℕ) where
     pub head : IfOk result (λ found. ReadsHead before.told (Ok found.tree))
     pub mfs : IfOk result (λ found. IsMfs found.tree)
     pub ready : IfErr result (λ why. IsReadyIn before.told why)
-    pub kinds : IsOf (may_answer (place_family path)) result
+    pub kinds : IsOf (may_meet (kinds_placing path)) result
     pub unread : is_read result ≡ false
     pub reads : OnlyReads X (IsBadInHead X N before.told) (refusal_fault result) before now
     pub touched : CountsUp (refusal_fault result) was is

@@ -8,8 +8,9 @@ use Rattle.uf_cid.specs.declared.cid.Cid.{Cid}
 use Rattle.uf_edge.specs.Counts.{Stood}
 use Rattle.uf_mfs.specs.Reading.{AreHeights}
 use Rattle.uf_mfs.specs.Standing.{NamesOver, TellsAs, head_in}
-use Rattle.uf_reply.specs.Commands.{HasInput, NoStore, is_idle, of_command, only_reads, own_store, reads_tree_alone, uses_host, streams as flows, writes_host, prints_after}
-use Rattle.uf_reply.specs.Kinds.{family_of}
+use Rattle.uf_reply.specs.Commands.{HasInput, is_idle, of_command}
+use Rattle.uf_reply.specs.Natures.{NoStore, may_give, only_reads, own_store, prints_after, reads_tree_alone}
+use Rattle.uf_reply.specs.Natures.{streams as flows, uses_host, writes_host}
 use Rattle.uf_reply.specs.Lines.{bad_block_line, clash_line, missing_line}
 use Rattle.uf_reply.specs.declared.status.Status.{Status}
 use Rattle.uf_reply.specs.declared.status.Status.TheVariants as status
@@ -25,7 +26,7 @@ use Rattle.uf_top.specs.Around.{Around, CountsCanRise, HasOutside, NoneFalls, Ro
 use Rattle.uf_top.specs.Bounds.{words_touch}
 use Rattle.uf_top.specs.Cars.{IsClashing, IsMissing}
 use Rattle.uf_top.specs.Causes.{IsBadIn}
-use Rattle.uf_top.specs.Endings.{EndsAs, FindsAll, FindsBy, IsNotReady, IsRefusedBy, IsRule, IsSyncedFor, IsTextOf, PrintsAt, PrintsPart, SaysPlain, may_move}
+use Rattle.uf_top.specs.Endings.{EndsAs, FindsAll, IsNotReady, IsRefusedBy, IsRule, IsSyncedFor, IsTextOf, PrintsAt, PrintsPart, SaysPlain, may_move}
 use Rattle.uf_top.specs.Getting.{GetsFor}
 use Rattle.uf_top.specs.Losing.{EndsOver, words_need}
 use Rattle.uf_top.specs.Naming.{FindsOver, FindsWorld, StaysNamed, TellsBlocks}
@@ -59,8 +60,9 @@ module _ (Says : List ℕ → Type 0) (X : List ℕ → List ℕ) (N : List ℕ 
         → AreHeights p rows → HasOutside asked outside before now → StaysQuiet asked given before now
         → EndsOver X N before.store.told now.store.told p es (words_need X N rows asked p es) Says
         (reply_to X N asked (in_world p es held outside)) given before.held now.held
-    -- `init`, `add`, `dag import` and `gen` look for no block, over every store
-    pub looks : (command : Command) → asked ≡ Ok command → FindsBy (family_of command) given
+    -- over every store each answer is of a kind that the command may answer: so `init`, `add`, `dag import` and `gen`
+    -- look for no block, and one that writes nothing to the store meets no clash there
+    pub kinds : of_command (λ command. may_give command given) true asked ≡ true
     -- words that are no command, and texts that are no paths, are refused
     pub words : (why : Refusal) → asked ≡ Err why → IsRefusedBy Says why given
     -- each other answer has its cause, and its line goes to `errors`

@@ -4,7 +4,7 @@ use Rattle.std.specs.declared.result.Result.{Result}
 use Rattle.std.specs.declared.result.Result.TheVariants.{Ok, Err}
 use Rattle.uf_mfs.specs.Standing.{Commits, LeavesHead, SavesThen}
 use Rattle.uf_store.specs.Contents.{Told, changed, with_sync}
-use Rattle.uf_reply.specs.Commands.{WriteShape, NoWrites, SyncsBlocks, MakesHead, MovesHead, command_writes}
+use Rattle.uf_reply.specs.Natures.{WriteShape, NoWrites, SyncsBlocks, MakesHead, MovesHead, command_writes}
 use Rattle.uf_reply.specs.declared.types.Command.{Command}
 use Rattle.uf_reply.specs.declared.types.Refusal.{Refusal}
 use Rattle.uf_reply.specs.declared.status.Status.{Status}

@@ -29,9 +29,10 @@ use Rattle.uf_reply.specs.declared.types.Command.{Command}
 use Rattle.uf_reply.specs.declared.types.Command.TheVariants.{At}
 use Rattle.uf_reply.specs.declared.types.Edit.{Edit}
 use Rattle.uf_reply.specs.declared.types.Refusal.{Refusal}
-use Rattle.uf_reply.specs.Commands.{HasInput, ask_writes, command_writes, has_nothing_to_do, is_idle}
-use Rattle.uf_reply.specs.Commands.{prints_after, reads_tree_alone, streams as flows, uses_host, writes_host}
-use Rattle.uf_reply.specs.Kinds.{IsOf, family_of, may_answer, may_end, opened_kinds, refusal_fault}
+use Rattle.uf_reply.specs.Commands.{HasInput, has_nothing_to_do, is_idle}
+use Rattle.uf_reply.specs.Natures.{ask_writes, command_writes, kinds_of, prints_after, reads_tree_alone}
+use Rattle.uf_reply.specs.Natures.{streams as flows, uses_host, writes_host}
+use Rattle.uf_reply.specs.Kinds.{IsOf, may_meet, may_close, opened_kinds, refusal_fault}
 use Rattle.uf_top.specs.Reply.{Outside, World, edited_by, in_world, outside_of, reply, tree_reply}
 use Rattle.uf_reply.specs.Statuses.{ended, no_memory, status_of}
 use Rattle.uf_reply.specs.declared.status.Status.TheVariants as status
@@ -59,7 +60,7 @@ module _ (X : List ℕ → List ℕ) (N : List ℕ → ℕ) where
         → is_idle bytes es command ≡ true → now ≡ before
 
   -- how the text of a command was made: its answer is the reply, over lost blocks too, each refusal is one of its
-  -- family's and has its cause, it keeps within its touches, and it leaves what it leaves
+  -- kinds and has its cause, it keeps within its touches, and it leaves what it leaves
   pub record Makes (command : Command) (done : Result (List ℕ) Refusal) (before now : Seen)
       (left left_now : streams.Told) (reads reads_now was is : ℕ) : Type 0 where
     pub answers : (w : World) → TellsAs X N before.told w.standing
@@ -70,7 +71,7 @@ module _ (X : List ℕ → List ℕ) (N : List ℕ → ℕ) where
         → Calm before now
         → AnswersOver X N before.told now.told p es (command_needs X N rows command p es)
         (reply X N command (in_world p es held outside)) done
-    pub kinds : IsOf (may_answer (family_of command)) done
+    pub kinds : IsOf (may_meet (kinds_of command)) done
     pub ready : IsReady before.told command done
     pub adds : AddsFor X before.told (Ok command) done left left_now
     pub counts : Counts (is_read done) reads reads_now
@@ -94,7 +95,7 @@ module _ (X : List ℕ → List ℕ) (N : List ℕ → ℕ) where
         → Calm before.store now.store
         → AnswersOver X N before.store.told now.store.told p es (command_needs X N rows command p es)
         (reply X N command (in_world p es held outside)) done
-    pub kinds : IsOf (may_answer (family_of command)) done
+    pub kinds : IsOf (may_meet (kinds_of command)) done
     pub ready : IsReady before.store.told command done
     pub adds : AddsFor X before.store.told (Ok command) done before.left now.left
     pub reads : Counts (is_input_read command done) before.reads now.reads
@@ -125,7 +126,7 @@ module _ (X : List ℕ → List ℕ) (N : List ℕ → ℕ) where
 
   -- how a command was done and its text printed: its answer is the reply, over lost blocks too, what is printed begins
   -- the reply's text, the reply's tree stands where its rows follow the Head and only they failed, each refusal is one
-  -- of its family's and has its cause, it keeps within its touches, and it leaves what it leaves
+  -- of its kinds and has its cause, it keeps within its touches, and it leaves what it leaves
   pub record Does (command : Command) (done : Result (Unit {0}) Refusal) (before now : Around) : Type 0 where
     pub answers : (w : World) → FindsWorld X N (Ok command) before.store.told w
         → HasOutside (Ok command) (outside_of w) before now → StaysQuiet (Ok command) (ended done) before now
@@ -144,7 +145,7 @@ module _ (X : List ℕ → List ℕ) (N : List ℕ → ℕ) where
         → PrintsPart (reply X N command w).ends before.held now.held
     pub prints : PrintsAt (IsTextOf X N before.store.told before.host.told (Ok command) before.left) (flows command)
         (ended done) before.held now.held
-    pub kinds : IsOf (may_end (family_of command)) done
+    pub kinds : IsOf (may_close (kinds_of command)) done
     pub ready : IsReady before.store.told command done
     pub rule : IfErr done (λ why. status_of why ≡ status.Rule → RuleOf (Ok command) why before.store.told before.left
         now.left)

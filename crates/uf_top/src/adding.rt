@@ -5,7 +5,7 @@ ghost use Rattle.uf_mfs.specs.Standing.{LeavesHead};
 ghost use Rattle.uf_store.specs.Contents.{changed, with_sync};
 ghost use Rattle.uf_store.specs.Keeping.{KeepsGood};
 ghost use Rattle.uf_tree.specs.Profiles.{is_profile};
-ghost use Rattle.uf_reply.specs.Commands.{SyncsBlocks};
+ghost use Rattle.uf_reply.specs.Natures.{SyncsBlocks};
 ghost use Rattle.uf_top.specs.Causes.{IsProfileRead, OnlyWants, ReadsProfile, Stops, is_read, or_usual as usual_or};
 ghost use Rattle.uf_top.specs.Intake.{GivesEntry, IsRowOf, ShownIn};
 ghost use Rattle.uf_top.specs.Shapes.{WritesAs, is_ok};

@@ -1,7 +1,7 @@
 // CARs written from what is held, read into the store, and compared with what is held.
 ghost use Rattle.std.specs.Prelude.{◌≡◌, IfErr, IfOk, List, OnErr, OnOk, flat_map, ℕ};
 ghost use Rattle.uf_edge.specs.Streams.{Told as Left};
-ghost use Rattle.uf_reply.specs.Commands.{OfCarSections};
+ghost use Rattle.uf_reply.specs.Natures.{OfCarSections};
 ghost use Rattle.uf_reply.specs.declared.types.Command.TheVariants as commands;
 ghost use Rattle.uf_top.specs.Around.{HostSide, around};
 ghost use Rattle.uf_mfs.specs.Standing.{LeavesHead};

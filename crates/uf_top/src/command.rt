@@ -8,8 +8,10 @@ ghost use Rattle.uf_tree.specs.Standing.{Standing};
 ghost use Rattle.uf_top.specs.Cars.{ByOwnStore};
 ghost use Rattle.uf_reply.specs.Telling.{IsSent};
 ghost use Rattle.uf_reply.specs.Batches.{asks_batch};
-ghost use Rattle.uf_reply.specs.Commands.{IsAccepted, IsAsked, IsOfWords, NoStore, command_in, generates, of_command, own_store};
-ghost use Rattle.uf_reply.specs.Commands.{reads_input, reads_tree_alone, streams as flows, touches_nothing, uses_host};
+ghost use Rattle.uf_reply.specs.Commands.{IsAccepted, IsAsked, IsOfWords, command_in, of_command};
+ghost use Rattle.uf_reply.specs.Kinds.{IsOf};
+ghost use Rattle.uf_reply.specs.Natures.{IsOfCommand, NoStore, generates, may_end, own_store};
+ghost use Rattle.uf_reply.specs.Natures.{reads_input, reads_tree_alone, streams as flows, touches_nothing, uses_host};
 ghost use Rattle.uf_reply.specs.declared.types.Command.{Command as TheCommand};
 ghost use Rattle.uf_reply.specs.declared.types.Refusal.{Refusal as TheRefusal};
 ghost use Rattle.uf_top.specs.Around.{around, host_side};
@@ -132,6 +134,7 @@ fn serve<S: Store, N: NameHash, W: Host, I: Source, O: Sink, L: Ledger>(
     ensures own { (told : TheResult TheCommand TheRefusal) → IsAsked asked told → IsOfWords told
         → IfErr result (ByOwnStore S.X.block32 (of_command own_store NoStore told) (I.left input.old)
         (S.seen store.old) (S.seen store.new)) }
+    ensures kinds { (told : TheResult TheCommand TheRefusal) → IsAsked asked told → IsOfCommand told result }
     ensures left { (told : TheResult TheCommand TheRefusal) → IsAsked asked told
         → of_command generates true told ≡ true → store.new ≡ store.old }
     ensures input { (told : TheResult TheCommand TheRefusal) → IsAsked asked told
@@ -149,8 +152,37 @@ fn serve<S: Store, N: NameHash, W: Host, I: Source, O: Sink, L: Ledger>(
     }
 }
 
-// Does a command and prints what it says, or says why it is refused.
+// Does a command and prints what it says, or says why it is refused. One that writes nothing to the store meets no
+// clash.
 pub fn work<S: Store, N: NameHash, W: Host, I: Source, O: Sink, L: Ledger>(
+    alloc: Global,
+    command: &Command,
+    store: &mut S,
+    host: &mut W,
+    input: &mut I,
+    output: &mut O,
+    touches: &mut Steps<L>,
+) -> Result<(), Refusal>
+    requires { IsAccepted command.now }
+    ensures does { Does S.X.block32 N.name64 command.now result
+        (around (S.seen store.old) (I.left input.old) (I.faults input.old) (O.holds output.old) (O.faults output.old)
+        touches.old (host_side (W.tree host.old) (W.read_faults host.old) (W.write_faults host.old)))
+        (around (S.seen store.new) (I.left input.new) (I.faults input.new) (O.holds output.new) (O.faults output.new)
+        touches.new (host_side (W.tree host.new) (W.read_faults host.new) (W.write_faults host.new))) }
+    ensures own { IfErr result (ByOwnStore S.X.block32 (own_store command.now) (I.left input.old)
+        (S.seen store.old) (S.seen store.new)) }
+    ensures kinds { IsOf (may_end command.now) result }
+    ensures input { reads_input command.now ≡ false → input.new ≡ input.old }
+    ensures left { generates command.now ≡ true → store.new ≡ store.old }
+    ensures host { uses_host command.now ≡ false → host.new ≡ host.old }
+    ensures untouched { touches_nothing command.now ≡ true → touches.new ≡ touches.old }
+{
+    let done = carry_out::<S, N, W, I, O, L>(alloc, command, store, host, input, output, touches);
+    command.settle(done)
+}
+
+// Does a command and prints what it says, or says why it is refused.
+fn carry_out<S: Store, N: NameHash, W: Host, I: Source, O: Sink, L: Ledger>(
     alloc: Global,
     command: &Command,
     store: &mut S,

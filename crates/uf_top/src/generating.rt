@@ -9,7 +9,7 @@ ghost use Rattle.uf_plain.specs.declared.rule.Rule.{Rule as TheRule};
 ghost use Rattle.uf_store.specs.InMemory.{new_seen};
 ghost use Rattle.uf_store.specs.Seen.{Seen as TheSeen};
 ghost use Rattle.uf_tree.specs.Tree.{Entries};
-ghost use Rattle.uf_reply.specs.Commands.{OfTree};
+ghost use Rattle.uf_reply.specs.Natures.{OfTree};
 ghost use Rattle.uf_reply.specs.declared.types.Command.TheVariants as commands;
 ghost use Rattle.uf_reply.specs.declared.types.Edit.TheVariants as edits;
 ghost use Rattle.uf_top.specs.Around.{HostSide, around};

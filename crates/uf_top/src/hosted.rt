@@ -2,7 +2,7 @@
 ghost use Rattle.std.specs.Prelude.{◌≡◌, ℕ, false, true, None, IfErr, IfOk, IsTrue};
 ghost use Rattle.std.specs.List.{flat_map};
 ghost use Rattle.uf_edge.specs.Streams.{Told};
-ghost use Rattle.uf_reply.specs.Commands.{SyncsBlocks};
+ghost use Rattle.uf_reply.specs.Natures.{SyncsBlocks};
 ghost use Rattle.uf_reply.specs.declared.types.Command.TheVariants as commands;
 ghost use Rattle.uf_store.specs.Keeping.{KeepsGood};
 ghost use Rattle.uf_top.specs.Around.{OnlyReadsHost, around, host_side};

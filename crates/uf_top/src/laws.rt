@@ -11,7 +11,7 @@ ghost use Rattle.uf_tree.specs.Standing.{Standing, Stands};
 ghost use Rattle.uf_tree.specs.Tree.{Entries};
 ghost use Rattle.uf_tree.specs.Validity.{IsHash};
 ghost use Rattle.uf_tree.specs.declared.profile.Profile.{Profile};
-ghost use Rattle.uf_reply.specs.Commands.{MakesHead};
+ghost use Rattle.uf_reply.specs.Natures.{MakesHead};
 ghost use Rattle.uf_reply.specs.declared.types.Command.{Command};
 ghost use Rattle.uf_reply.specs.declared.types.Refusal.{Refusal};
 ghost use Rattle.uf_top.specs.Naming.{StaysNamed};

@@ -18,7 +18,7 @@ returns-in-One-clause-runs g c = λ alone.
     runs-told (λ line. IsSent line (g.E.Sink.holds c.args.errors.now) (g.E.Sink.holds c.tell_end.new.errors) (g.E.Sink.faults c.args.errors.now) (g.E.Sink.faults c.tell_end.new.errors)) c.tell_end.result g.S.X.BlockHash.block32 g.N.NameHash.name64
     (around (g.S.Store.seen c.args.store.now) (g.I.Source.left c.args.input.now) (g.I.Source.faults c.args.input.now) (g.O.Sink.holds c.args.output.now) (g.O.Sink.faults c.args.output.now) c.args.touches.now (host_side (g.W.Host.tree c.args.host.now) (g.W.Host.read_faults c.args.host.now) (g.W.Host.write_faults c.args.host.now)))
     (around (g.S.Store.seen c.serve-done.new.store) (g.I.Source.left c.serve-done.new.input) (g.I.Source.faults c.serve-done.new.input) (g.O.Sink.holds c.serve-done.new.output) (g.O.Sink.faults c.serve-done.new.output) c.serve-done.new.touches (host_side (g.W.Host.tree c.serve-done.new.host) (g.W.Host.read_faults c.serve-done.new.host) (g.W.Host.write_faults c.serve-done.new.host)))
-    (command_in (map string_bytes c.args.words.now)) c.serve-done.result (words-only (command_of (map string_bytes c.args.words.now))) (c.serve-done.ensures.serves (command_in (map string_bytes c.args.words.now)) h) (c.serve-done.ensures.own (command_in (map string_bytes c.args.words.now)) h (words-only (command_of (map string_bytes c.args.words.now)))) c.tell_end.ensures
+    (command_in (map string_bytes c.args.words.now)) c.serve-done.result (words-only (command_of (map string_bytes c.args.words.now))) (c.serve-done.ensures.serves (command_in (map string_bytes c.args.words.now)) h) (c.serve-done.ensures.own (command_in (map string_bytes c.args.words.now)) h (words-only (command_of (map string_bytes c.args.words.now)))) (c.serve-done.ensures.kinds (command_in (map string_bytes c.args.words.now)) h) c.tell_end.ensures
 
 pub returns-in-One-clause-batch : goal.returns-in-One-clause-batch
 returns-in-One-clause-batch g c = λ batch.

@@ -1,10 +1,11 @@
 use Rattle.std.proofs.Common.{◌≡◌, false, true, sym, subst, ap, ◌∙◌, Ok}
 use Rattle.std.specs.Prelude.{IfErr}
-use Rattle.uf_reply.specs.Commands.{IsAsked, NoStore, generates, of_command, own_store, reads_input, touches_nothing, uses_host}
+use Rattle.uf_reply.specs.Commands.{IsAsked, of_command}
+use Rattle.uf_reply.specs.Natures.{IsOfCommand, NoStore, generates, own_store, reads_input, touches_nothing, uses_host}
 use Rattle.uf_top.specs.Around.{around, host_side}
 use Rattle.uf_top.specs.Working.{Serves}
 use Rattle.uf_top.specs.Cars.{ByOwnStore}
-use Rattle.uf_top.proofs.Serving.{asked-spare, words-serve}
+use Rattle.uf_top.proofs.Serving.{asked-kinds, asked-spare, words-serve}
 use Rattle.uf_top.proofs.command.serve.Goals as goal
 
 pub returns-in-Err-clause-serves : goal.returns-in-Err-clause-serves
@@ -31,6 +32,14 @@ returns-in-Ok-clause-own g c = λ told h words.
     let e : told ≡ Ok c.in-Ok.command = subst (λ asked. IsAsked asked told) c.in-Ok.is h in
     subst (λ asked. IfErr c.work.result (ByOwnStore g.S.X.BlockHash.block32 (of_command own_store NoStore asked) (g.I.Source.left c.args.input.now) (g.S.Store.seen c.args.store.now) (g.S.Store.seen c.work.new.store)))
     (sym e) c.work.ensures.own
+
+pub returns-in-Err-clause-kinds : goal.returns-in-Err-clause-kinds
+returns-in-Err-clause-kinds g c = λ told h. asked-kinds told c.in-Err.why (subst (λ asked. IsAsked asked told) c.in-Err.is h)
+
+pub returns-in-Ok-clause-kinds : goal.returns-in-Ok-clause-kinds
+returns-in-Ok-clause-kinds g c = λ told h.
+    let e : told ≡ Ok c.in-Ok.command = subst (λ asked. IsAsked asked told) c.in-Ok.is h in
+    subst (λ asked. IsOfCommand asked c.work.result) (sym e) c.work.ensures.kinds
 
 pub returns-in-Ok-clause-left : goal.returns-in-Ok-clause-left
 returns-in-Ok-clause-left g c = λ told h is.

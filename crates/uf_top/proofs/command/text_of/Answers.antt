@@ -1,5 +1,5 @@
-use Rattle.std.proofs.Common.{◌≡◌, ◌∙◌, false, true, ap, refl, sym, subst}
-use Rattle.uf_reply.specs.Commands.{touches_nothing, reads_input, uses_host}
+use Rattle.std.proofs.Common.{◌≡◌, ◌∙◌, ℕ, List, Bool, false, true, ap, refl, sym, subst}
+use Rattle.uf_reply.specs.Natures.{touches_nothing, reads_input, uses_host}
 use Rattle.uf_reply.specs.declared.types.Command.TheVariants.{Init, Add, AddFrom, AddTo, AddFromTo, WriteInput, At}
 use Rattle.uf_top.specs.Around.{around, host_side}
 use Rattle.uf_top.specs.Working.{MakesText}
@@ -17,6 +17,21 @@ returns-in-Add-clause-makes g c =
     made-as g.S.X.BlockHash.block32 g.N.NameHash.name64 c.args.command.now (Add c.in-Add.only_hash) c.in-Add.is refl (g.S.Store.seen c.args.store.now) (g.S.Store.seen c.adds.new.store)
     (g.I.Source.left c.args.input.now) (g.I.Source.left c.adds.new.input) (g.I.Source.faults c.args.input.now) (g.I.Source.faults c.adds.new.input) c.args.touches.now c.adds.new.touches
     (host_side (g.W.Host.tree c.args.host.now) (g.W.Host.read_faults c.args.host.now) (g.W.Host.write_faults c.args.host.now)) (λ text. tt) c.adds.result (c.adds.ensures.works g.N.NameHash.name64)
+
+-- what counts no touch is only hashed
+only-hashed : (only_hash : Bool) → touches_nothing (Add only_hash) ≡ true → only_hash ≡ true
+only-hashed true e = refl
+only-hashed false e = absurd cc
+
+only-hashed-from : (recursive only_hash : Bool) (path : List ℕ) → touches_nothing (AddFrom recursive only_hash path) ≡ true → only_hash ≡ true
+only-hashed-from recursive true path e = refl
+only-hashed-from recursive false path e = absurd cc
+
+pub returns-in-Add-clause-untouched : goal.returns-in-Add-clause-untouched
+returns-in-Add-clause-untouched g c = λ e. c.adds.ensures.untouched (only-hashed c.in-Add.only_hash (ap touches_nothing (sym c.in-Add.is) ∙ e))
+
+pub returns-in-AddFrom-clause-untouched : goal.returns-in-AddFrom-clause-untouched
+returns-in-AddFrom-clause-untouched g c = λ e. c.add_from.ensures.untouched (only-hashed-from c.in-AddFrom.recursive c.in-AddFrom.only_hash c.in-AddFrom.path (ap touches_nothing (sym c.in-AddFrom.is) ∙ e))
 
 pub returns-in-AddFrom-clause-makes : goal.returns-in-AddFrom-clause-makes
 returns-in-AddFrom-clause-makes g c = λ held writes.

@@ -1,0 +1,180 @@
+use Rattle.std.proofs.Common.{◌≡◌, ◌∙◌, false, true, ap, refl, sym, subst, Err}
+use Rattle.std.specs.Prelude.{IfErr}
+use Rattle.uf_reply.specs.Natures.{OfTree, generates, own_store, reads_input, touches_nothing, uses_host}
+use Rattle.uf_reply.specs.declared.types.Command.TheVariants.{Adopt, Cat, Export, Gen, Get, Import, Read, Same}
+use Rattle.uf_top.specs.Around.{around, host_side}
+use Rattle.uf_top.specs.Cars.{ByOwnStore}
+use Rattle.uf_top.specs.Working.{Does}
+use Rattle.uf_top.proofs.Printing.{prints-does, refused-does, standing-of}
+use Rattle.uf_top.proofs.Serving.{alone-given, alone-spares, spares-own}
+use Rattle.uf_top.proofs.command.carry_out.Goals as goal
+
+pub returns-in-Read-clause-does : goal.returns-in-Read-clause-does
+returns-in-Read-clause-does g c =
+    let l = g.I.Source.left c.args.input.now in let i = g.I.Source.faults c.args.input.now in
+    let s = (host_side (g.W.Host.tree c.args.host.now) (g.W.Host.read_faults c.args.host.now) (g.W.Host.write_faults c.args.host.now)) in
+    subst (λ command. Does g.S.X.BlockHash.block32 g.N.NameHash.name64 command c.send_part.result
+    (around (g.S.Store.seen c.args.store.now) l i (g.O.Sink.holds c.args.output.now) (g.O.Sink.faults c.args.output.now) c.args.touches.now s)
+    (around (g.S.Store.seen c.send_part.new.store) l i (g.O.Sink.holds c.send_part.new.output) (g.O.Sink.faults c.send_part.new.output) c.send_part.new.touches s))
+    (sym c.in-Read.is) (c.send_part.ensures l i s)
+
+pub returns-in-Read-clause-own : goal.returns-in-Read-clause-own
+returns-in-Read-clause-own g c =
+    let l = g.I.Source.left c.args.input.now in let i = g.I.Source.faults c.args.input.now in
+    let s = (host_side (g.W.Host.tree c.args.host.now) (g.W.Host.read_faults c.args.host.now) (g.W.Host.write_faults c.args.host.now)) in
+    subst (λ command. IfErr c.send_part.result (ByOwnStore g.S.X.BlockHash.block32 (own_store command) l (g.S.Store.seen c.args.store.now) (g.S.Store.seen c.send_part.new.store))) (sym c.in-Read.is)
+    (spares-own g.S.X.BlockHash.block32 l (g.S.Store.seen c.args.store.now) (g.S.Store.seen c.send_part.new.store) (Read c.in-Read.offset c.in-Read.count c.in-Read.path) c.send_part.result refl (c.send_part.ensures l i s).kinds)
+
+pub returns-in-Err : goal.returns-in-Err
+returns-in-Err g c =
+    let h = g.O.Sink.holds c.args.output.now in let w = g.O.Sink.faults c.args.output.now in
+    let is = standing-of c.args.command.now c.in_default.not-Read c.in_default.not-Cat c.in_default.not-Get c.in_default.not-Export c.in_default.not-Import c.in_default.not-Same c.in_default.not-Adopt c.in_default.not-Gen in
+    let does = refused-does g.S.X.BlockHash.block32 g.N.NameHash.name64 c.args.command.now is.alone
+    (g.S.Store.seen c.args.store.now) (g.S.Store.seen c.text_of.new.store) (g.I.Source.left c.args.input.now) (g.I.Source.left c.text_of.new.input) (g.I.Source.faults c.args.input.now) (g.I.Source.faults c.text_of.new.input)
+    c.args.touches.now c.text_of.new.touches h w
+    (host_side (g.W.Host.tree c.args.host.now) (g.W.Host.read_faults c.args.host.now) (g.W.Host.write_faults c.args.host.now))
+    (host_side (g.W.Host.tree c.text_of.new.host) (g.W.Host.read_faults c.text_of.new.host) (g.W.Host.write_faults c.text_of.new.host)) c.in-Err.why (c.in-Err.ensures.makes h w) in
+    record {
+      does = does;
+      own = spares-own g.S.X.BlockHash.block32 (g.I.Source.left c.args.input.now) (g.S.Store.seen c.args.store.now) (g.S.Store.seen c.text_of.new.store) c.args.command.now (Err c.in-Err.why) (alone-spares c.args.command.now is.alone) does.kinds;
+      input = c.in-Err.ensures.input;
+      left = λ e. absurd (alone-given c.args.command.now is.alone e);
+      host = c.in-Err.ensures.host;
+      untouched = c.in-Err.ensures.untouched;
+    }
+
+pub returns-in-Ok : goal.returns-in-Ok
+returns-in-Ok g c =
+    let h = g.O.Sink.holds c.args.output.now in let w = g.O.Sink.faults c.args.output.now in
+    let is = standing-of c.args.command.now c.in_default.not-Read c.in_default.not-Cat c.in_default.not-Get c.in_default.not-Export c.in_default.not-Import c.in_default.not-Same c.in_default.not-Adopt c.in_default.not-Gen in
+    let does = prints-does g.S.X.BlockHash.block32 g.N.NameHash.name64 c.args.command.now is.alone
+    (g.S.Store.seen c.args.store.now) (g.S.Store.seen c.text_of.new.store) (g.I.Source.left c.args.input.now) (g.I.Source.left c.text_of.new.input) (g.I.Source.faults c.args.input.now) (g.I.Source.faults c.text_of.new.input)
+    c.args.touches.now c.text_of.new.touches h w
+    (host_side (g.W.Host.tree c.args.host.now) (g.W.Host.read_faults c.args.host.now) (g.W.Host.write_faults c.args.host.now))
+    (host_side (g.W.Host.tree c.text_of.new.host) (g.W.Host.read_faults c.text_of.new.host) (g.W.Host.write_faults c.text_of.new.host)) c.in-Ok.text (c.in-Ok.ensures.makes h w) (g.O.Sink.holds c.print.new.output) (g.O.Sink.faults c.print.new.output) c.print.result c.print.ensures in
+    record {
+      does = does;
+      own = spares-own g.S.X.BlockHash.block32 (g.I.Source.left c.args.input.now) (g.S.Store.seen c.args.store.now) (g.S.Store.seen c.text_of.new.store) c.args.command.now c.print.result (alone-spares c.args.command.now is.alone) does.kinds;
+      input = c.in-Ok.ensures.input;
+      left = λ e. absurd (alone-given c.args.command.now is.alone e);
+      host = c.in-Ok.ensures.host;
+      untouched = c.in-Ok.ensures.untouched;
+    }
+
+pub returns-in-Cat : goal.returns-in-Cat
+returns-in-Cat g c =
+    let l = g.I.Source.left c.args.input.now in let i = g.I.Source.faults c.args.input.now in
+    let s = (host_side (g.W.Host.tree c.args.host.now) (g.W.Host.read_faults c.args.host.now) (g.W.Host.write_faults c.args.host.now)) in
+    record {
+      does = subst (λ command. Does g.S.X.BlockHash.block32 g.N.NameHash.name64 command c.cat.result
+          (around (g.S.Store.seen c.args.store.now) l i (g.O.Sink.holds c.args.output.now) (g.O.Sink.faults c.args.output.now) c.args.touches.now s)
+          (around (g.S.Store.seen c.cat.new.store) l i (g.O.Sink.holds c.cat.new.output) (g.O.Sink.faults c.cat.new.output) c.cat.new.touches s))
+          (sym c.in-Cat.is) (c.cat.ensures g.N.NameHash.name64 l i s);
+      own = subst (λ command. IfErr c.cat.result (ByOwnStore g.S.X.BlockHash.block32 (own_store command) (g.I.Source.left c.args.input.now) (g.S.Store.seen c.args.store.now) (g.S.Store.seen c.cat.new.store))) (sym c.in-Cat.is)
+          (spares-own g.S.X.BlockHash.block32 (g.I.Source.left c.args.input.now) (g.S.Store.seen c.args.store.now) (g.S.Store.seen c.cat.new.store) (Cat c.in-Cat.path) c.cat.result refl (c.cat.ensures g.N.NameHash.name64 l i s).kinds);
+      input = λ e. refl;
+      host = λ e. refl;
+      left = λ e. absurd (let k : generates (Cat c.in-Cat.path) ≡ true = ap generates (sym c.in-Cat.is) ∙ e in cc);
+      untouched = λ e. absurd (let k : touches_nothing (Cat c.in-Cat.path) ≡ true = ap touches_nothing (sym c.in-Cat.is) ∙ e in cc);
+    }
+
+pub returns-in-Get : goal.returns-in-Get
+returns-in-Get g c =
+    let l = g.I.Source.left c.args.input.now in let i = g.I.Source.faults c.args.input.now in
+    let h = g.O.Sink.holds c.args.output.now in let w = g.O.Sink.faults c.args.output.now in
+    record {
+      does = subst (λ command. Does g.S.X.BlockHash.block32 g.N.NameHash.name64 command c.get.result
+          (around (g.S.Store.seen c.args.store.now) l i h w c.args.touches.now (host_side (g.W.Host.tree c.args.host.now) (g.W.Host.read_faults c.args.host.now) (g.W.Host.write_faults c.args.host.now)))
+          (around (g.S.Store.seen c.get.new.store) l i h w c.get.new.touches (host_side (g.W.Host.tree c.get.new.host) (g.W.Host.read_faults c.get.new.host) (g.W.Host.write_faults c.get.new.host))))
+          (sym c.in-Get.is) (c.get.ensures g.N.NameHash.name64 l i h w);
+      own = subst (λ command. IfErr c.get.result (ByOwnStore g.S.X.BlockHash.block32 (own_store command) l (g.S.Store.seen c.args.store.now) (g.S.Store.seen c.get.new.store))) (sym c.in-Get.is)
+          (spares-own g.S.X.BlockHash.block32 l (g.S.Store.seen c.args.store.now) (g.S.Store.seen c.get.new.store) (Get c.in-Get.path c.in-Get.host_path) c.get.result refl (c.get.ensures g.N.NameHash.name64 l i h w).kinds);
+      input = λ e. refl;
+      host = λ e. absurd (let k : uses_host (Get c.in-Get.path c.in-Get.host_path) ≡ false = ap uses_host (sym c.in-Get.is) ∙ e in cc);
+      left = λ e. absurd (let k : generates (Get c.in-Get.path c.in-Get.host_path) ≡ true = ap generates (sym c.in-Get.is) ∙ e in cc);
+      untouched = λ e. absurd (let k : touches_nothing (Get c.in-Get.path c.in-Get.host_path) ≡ true = ap touches_nothing (sym c.in-Get.is) ∙ e in cc);
+    }
+
+pub returns-in-Export : goal.returns-in-Export
+returns-in-Export g c =
+    let l = g.I.Source.left c.args.input.now in let i = g.I.Source.faults c.args.input.now in
+    let s = (host_side (g.W.Host.tree c.args.host.now) (g.W.Host.read_faults c.args.host.now) (g.W.Host.write_faults c.args.host.now)) in
+    record {
+      does = subst (λ command. Does g.S.X.BlockHash.block32 g.N.NameHash.name64 command c.export_car.result
+          (around (g.S.Store.seen c.args.store.now) l i (g.O.Sink.holds c.args.output.now) (g.O.Sink.faults c.args.output.now) c.args.touches.now s)
+          (around (g.S.Store.seen c.export_car.new.store) l i (g.O.Sink.holds c.export_car.new.output) (g.O.Sink.faults c.export_car.new.output) c.export_car.new.touches s))
+          (sym c.in-Export.is) (c.export_car.ensures g.N.NameHash.name64 l i s);
+      own = subst (λ command. IfErr c.export_car.result (ByOwnStore g.S.X.BlockHash.block32 (own_store command) (g.I.Source.left c.args.input.now) (g.S.Store.seen c.args.store.now) (g.S.Store.seen c.export_car.new.store))) (sym c.in-Export.is)
+          (spares-own g.S.X.BlockHash.block32 (g.I.Source.left c.args.input.now) (g.S.Store.seen c.args.store.now) (g.S.Store.seen c.export_car.new.store) (Export c.in-Export.cid) c.export_car.result refl (c.export_car.ensures g.N.NameHash.name64 l i s).kinds);
+      input = λ e. refl;
+      host = λ e. refl;
+      left = λ e. absurd (let k : generates (Export c.in-Export.cid) ≡ true = ap generates (sym c.in-Export.is) ∙ e in cc);
+      untouched = λ e. absurd (let k : touches_nothing (Export c.in-Export.cid) ≡ true = ap touches_nothing (sym c.in-Export.is) ∙ e in cc);
+    }
+
+pub returns-in-Import : goal.returns-in-Import
+returns-in-Import g c =
+    let s = (host_side (g.W.Host.tree c.args.host.now) (g.W.Host.read_faults c.args.host.now) (g.W.Host.write_faults c.args.host.now)) in
+    record {
+      does = subst (λ command. Does g.S.X.BlockHash.block32 g.N.NameHash.name64 command c.import_car.result
+          (around (g.S.Store.seen c.args.store.now) (g.I.Source.left c.args.input.now) (g.I.Source.faults c.args.input.now) (g.O.Sink.holds c.args.output.now) (g.O.Sink.faults c.args.output.now) c.args.touches.now s)
+          (around (g.S.Store.seen c.import_car.new.store) (g.I.Source.left c.import_car.new.input) (g.I.Source.faults c.import_car.new.input) (g.O.Sink.holds c.import_car.new.output) (g.O.Sink.faults c.import_car.new.output) c.import_car.new.touches s))
+          (sym c.in-Import.is) (c.import_car.ensures g.N.NameHash.name64 s);
+      own = subst (λ command. IfErr c.import_car.result (ByOwnStore g.S.X.BlockHash.block32 (own_store command) (g.I.Source.left c.args.input.now) (g.S.Store.seen c.args.store.now) (g.S.Store.seen c.import_car.new.store))) (sym c.in-Import.is)
+          (spares-own g.S.X.BlockHash.block32 (g.I.Source.left c.args.input.now) (g.S.Store.seen c.args.store.now) (g.S.Store.seen c.import_car.new.store) Import c.import_car.result refl (c.import_car.ensures g.N.NameHash.name64 s).kinds);
+      input = λ e. absurd (let k : reads_input Import ≡ false = ap reads_input (sym c.in-Import.is) ∙ e in cc);
+      host = λ e. refl;
+      left = λ e. absurd (let k : generates Import ≡ true = ap generates (sym c.in-Import.is) ∙ e in cc);
+      untouched = λ e. absurd (let k : touches_nothing Import ≡ true = ap touches_nothing (sym c.in-Import.is) ∙ e in cc);
+    }
+
+pub returns-in-Same : goal.returns-in-Same
+returns-in-Same g c =
+    let l = g.I.Source.left c.args.input.now in
+    let s = (host_side (g.W.Host.tree c.args.host.now) (g.W.Host.read_faults c.args.host.now) (g.W.Host.write_faults c.args.host.now)) in
+    record {
+      does = subst (λ command. Does g.S.X.BlockHash.block32 g.N.NameHash.name64 command c.compare_car.result
+          (around (g.S.Store.seen c.args.store.now) l (g.I.Source.faults c.args.input.now) (g.O.Sink.holds c.args.output.now) (g.O.Sink.faults c.args.output.now) c.args.touches.now s)
+          (around (g.S.Store.seen c.compare_car.new.store) (g.I.Source.left c.compare_car.new.input) (g.I.Source.faults c.compare_car.new.input) (g.O.Sink.holds c.compare_car.new.output) (g.O.Sink.faults c.compare_car.new.output) c.compare_car.new.touches s))
+          (sym c.in-Same.is) (c.compare_car.ensures.does g.N.NameHash.name64 s);
+      own = subst (λ command. IfErr c.compare_car.result (ByOwnStore g.S.X.BlockHash.block32 (own_store command) l (g.S.Store.seen c.args.store.now) (g.S.Store.seen c.compare_car.new.store))) (sym c.in-Same.is) c.compare_car.ensures.own;
+      input = λ e. absurd (let k : reads_input (Same c.in-Same.cid) ≡ false = ap reads_input (sym c.in-Same.is) ∙ e in cc);
+      host = λ e. refl;
+      left = λ e. absurd (let k : generates (Same c.in-Same.cid) ≡ true = ap generates (sym c.in-Same.is) ∙ e in cc);
+      untouched = λ e. absurd (let k : touches_nothing (Same c.in-Same.cid) ≡ true = ap touches_nothing (sym c.in-Same.is) ∙ e in cc);
+    }
+
+pub returns-in-Adopt : goal.returns-in-Adopt
+returns-in-Adopt g c =
+    let l = g.I.Source.left c.args.input.now in let i = g.I.Source.faults c.args.input.now in
+    let h = g.O.Sink.holds c.args.output.now in let w = g.O.Sink.faults c.args.output.now in
+    let s = (host_side (g.W.Host.tree c.args.host.now) (g.W.Host.read_faults c.args.host.now) (g.W.Host.write_faults c.args.host.now)) in
+    record {
+      does = subst (λ command. Does g.S.X.BlockHash.block32 g.N.NameHash.name64 command c.graft.result
+          (around (g.S.Store.seen c.args.store.now) l i h w c.args.touches.now s) (around (g.S.Store.seen c.graft.new.store) l i h w c.graft.new.touches s))
+          (sym c.in-Adopt.is) (c.graft.ensures l i h w s);
+      own = subst (λ command. IfErr c.graft.result (ByOwnStore g.S.X.BlockHash.block32 (own_store command) (g.I.Source.left c.args.input.now) (g.S.Store.seen c.args.store.now) (g.S.Store.seen c.graft.new.store))) (sym c.in-Adopt.is)
+          (spares-own g.S.X.BlockHash.block32 (g.I.Source.left c.args.input.now) (g.S.Store.seen c.args.store.now) (g.S.Store.seen c.graft.new.store) (Adopt c.in-Adopt.source c.in-Adopt.dest) c.graft.result refl (c.graft.ensures l i h w s).kinds);
+      input = λ e. refl;
+      host = λ e. refl;
+      left = λ e. absurd (let k : generates (Adopt c.in-Adopt.source c.in-Adopt.dest) ≡ true = ap generates (sym c.in-Adopt.is) ∙ e in cc);
+      untouched = λ e. absurd (let k : touches_nothing (Adopt c.in-Adopt.source c.in-Adopt.dest) ≡ true = ap touches_nothing (sym c.in-Adopt.is) ∙ e in cc);
+    }
+
+pub returns-in-Gen : goal.returns-in-Gen
+returns-in-Gen g c =
+    let l = g.I.Source.left c.args.input.now in let i = g.I.Source.faults c.args.input.now in
+    let b = g.S.Store.seen c.args.store.now in
+    let s = (host_side (g.W.Host.tree c.args.host.now) (g.W.Host.read_faults c.args.host.now) (g.W.Host.write_faults c.args.host.now)) in
+    record {
+      does = subst (λ command. Does g.S.X.BlockHash.block32 g.N.NameHash.name64 command c.print_generated.result
+          (around b l i (g.O.Sink.holds c.args.output.now) (g.O.Sink.faults c.args.output.now) c.args.touches.now s)
+          (around b l i (g.O.Sink.holds c.print_generated.new.output) (g.O.Sink.faults c.print_generated.new.output) c.args.touches.now s))
+          (sym c.in-Gen.is) (c.print_generated.ensures.does b l i c.args.touches.now s);
+      own = subst (λ command. IfErr c.print_generated.result (ByOwnStore g.S.X.BlockHash.block32 (own_store command) l b b)) (sym c.in-Gen.is)
+          (c.print_generated.ensures.own b l);
+      input = λ e. refl;
+      left = λ e. refl;
+      host = λ e. refl;
+      untouched = λ e. refl;
+    }
