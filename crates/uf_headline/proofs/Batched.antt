@@ -1,6 +1,6 @@
 -- A batch in which nothing fails is a history.
-use Rattle.std.proofs.Common.{◌≡◌, ◌≢◌, ◌∙◌, ℕ, List, [], ◌∷◌, true, false, refl, sym, ap, subst, inl, inr, None, Some, Result, Ok, Err}
-use Rattle.std.specs.Prelude.{◌⊎◌, map}
+use Rattle.std.proofs.Common.{◌≡◌, ◌≢◌, ◌∙◌, ℕ, List, [], ◌∷◌, true, false, refl, sym, ap, subst, inl, inr, None, Some, Err}
+use Rattle.std.specs.Prelude.{◌⊎◌}
 use Rattle.uf_cid.specs.Blocks.{Lookup}
 use Rattle.uf_edge.specs.Host.{HostTree}
 use Rattle.uf_edge.specs.Streams as streams
@@ -9,21 +9,19 @@ use Rattle.uf_reply.specs.Batches.{line_in}
 use Rattle.uf_reply.specs.Statuses.{ended, ends_batch, mark, no_memory}
 use Rattle.uf_reply.specs.declared.status.Status.{Status}
 use Rattle.uf_reply.specs.declared.status.Status.TheVariants as status
-use Rattle.uf_reply.specs.declared.types.Command.{Command}
-use Rattle.uf_reply.specs.declared.types.Refusal.{Refusal}
 use Rattle.uf_tree.specs.Standing.{Standing, NoHead, BadHead, Stands}
 use Rattle.uf_top.specs.Around.{Around, NoneFalls}
-use Rattle.uf_top.specs.Batch.{AtLine, Batches, ByMemory, ByReading, EndsSo, Ending, LineCut, LineDone, LineEnds, LineGone, LinePassed, LinesDone, Said, Scene, SinkSide, TooLong, WithInput, with_sinks}
+use Rattle.uf_top.specs.Batch.{AtLine, Batches, ByMemory, ByReading, EndsSo, Ending, LineCut, LineDone, LinePassed, LinesDone, Said, Scene, SinkSide, TooLong, WithInput, with_sinks}
 use Rattle.uf_top.specs.BatchReplies.{NothingFails, line_world}
 use Rattle.uf_top.specs.Endings.{EndsAs}
 use Rattle.uf_top.specs.Naming.{TellsBlocks}
-use Rattle.uf_top.specs.Reply.{reply_to, world_of}
+use Rattle.uf_top.specs.Reply.{reply_to}
 use Rattle.uf_top.proofs.BatchCounts.{cut-counted, ends-counted, fails-first, fails-last, gone-counted, last-counted, lines-counted, whole-counted}
 use Rattle.uf_top.proofs.BatchReplies.{finds-of, held-of, host-same, outside-of, quiet-of}
 use Rattle.uf_top.proofs.Counted.{none-then, rose-not-stood}
 use Rattle.uf_headline.specs.Batched.{AreOfLines, asked_by, outside_line, with_last, with_word}
-use Rattle.uf_headline.specs.History.{History, IsDone, Step, made_by, step_of, told_after, told_before}
-use Rattle.uf_headline.proofs.Histories.{step-stands}
+use Rattle.uf_headline.specs.History.{History, IsDone, Step, step_of, told_after, told_before}
+use Rattle.uf_headline.proofs.Doing.{after_step, step-stands}
 
 module _ (X : List ℕ → List ℕ) (N : List ℕ → ℕ) (host : HostTree) where
   -- what is so where the lines go on
@@ -76,7 +74,7 @@ module _ (X : List ℕ → List ℕ) (N : List ℕ → ℕ) (host : HostTree) wh
       done = is_done;
       asks = asks-line s held on blocks;
       outside = refl;
-      stood = made_by X N step.asked step.outside step.held s;
+      stood = after_step X N step s;
       on = (host-same X N host line given a b done ∙ on.0, step-stands X N step is_done s on.1);
     }
       where

@@ -1,3 +1,10 @@
 mod Batched
+pub mod Afresh
+pub mod Back
+pub mod Calling
+pub mod Doing
 pub mod Histories
+pub mod Lines
+pub mod Made
+pub mod Opened
 pub mod Places

@@ -1,3 +1,6 @@
 pub mod Batched
+pub mod Calls
 pub mod History
+pub mod Made
 pub mod Places
+pub mod Replies

@@ -1,14 +1,17 @@
 // A batch as steps of a history.
-ghost use Rattle.std.specs.Prelude.{◌≡◌, ◌≢◌, ℕ, List, Some};
+ghost use Rattle.std.specs.Prelude.{◌≡◌, ◌≢◌, ℕ, List, Some, true};
 ghost use Rattle.uf_edge.specs.Host.{HostTree};
 ghost use Rattle.uf_edge.specs.Streams.{Told};
 ghost use Rattle.uf_mfs.specs.Standing.{TellsAs};
 ghost use Rattle.uf_reply.specs.declared.status.Status.{Status as TheStatus};
 ghost use Rattle.uf_reply.specs.declared.status.Status.TheVariants as status;
+ghost use Rattle.uf_store.specs.Keeping.{tells};
 ghost use Rattle.uf_top.specs.Batch.{Batches, Scene};
+ghost use Rattle.uf_top.specs.BatchLines.{AllCanRise};
 ghost use Rattle.uf_top.specs.BatchReplies.{NothingFails};
 ghost use Rattle.uf_tree.specs.Standing.{Standing};
-ghost use Rattle.uf_headline.specs.Batched.{AreOfLines, with_last};
+ghost use Rattle.uf_headline.specs.Batched.{AreCallsOf, AreOfLines, with_last};
+ghost use Rattle.uf_headline.specs.Calls.{Calls};
 ghost use Rattle.uf_headline.specs.History.{History, Step};
 
 /// A batch, over a store that stands for a tree (or has no Head, or one that isn't read) and a host that tells, is a
@@ -22,4 +25,16 @@ pub fn a_batch_is_a_history()
         → NothingFails before.around now.around → given ≢ status.Memory
         → (steps : List Step) × History X N steps before.around.store.told now.around.store.told
         × AreOfLines host (with_last X N did.lines did.ending) steps }
+{}
+
+/// A batch, whatever its lines do and however it ends, over a store and a host that tell and with no count of
+/// failures at its last value, is a list of calls: one for each line that has a word, that of the line which ended it
+/// too, each with no input.
+pub fn a_batch_is_a_list_of_calls()
+    ensures { (X : List ℕ → List ℕ) (N : List ℕ → ℕ) (host : HostTree) (most limit : ℕ) (given : TheStatus)
+        (before now : Scene) (left left_now : Told) (reads reads_now : ℕ)
+        → (did : Batches X N most limit given before now left left_now reads reads_now)
+        → tells before.around.store.told ≡ true → before.around.host.told ≡ Some host → AllCanRise before.around
+        → (steps : List Step) × Calls X N steps before.around.store.told now.around.store.told
+        × AreCallsOf host (with_last X N did.lines did.ending) steps }
 {}

@@ -1,8 +1,11 @@
 //! The headline: after any list of commands in which nothing fails, the root CID is that of adding the same names and
-//! bytes afresh.
+//! bytes afresh; and what calls leave that fail, are stopped or meet lost blocks.
 #![tactic(auto)]
 
 mod batches;
+mod failing;
+mod paths;
+mod replies;
 mod steps;
 
 ghost use Rattle.std.specs.Prelude.{◌≡◌, ℕ, List, Some, IsTrue};
@@ -17,12 +20,17 @@ ghost use Rattle.uf_tree.specs.declared.profile.Profile.{Profile};
 ghost use Rattle.uf_headline.specs.History.{AddsAfresh, History, Makes, PrintsLast, Step, standing_after};
 ghost use Rattle.uf_headline.specs.Places.{place_at};
 
-pub use batches::a_batch_is_a_history;
+pub use batches::{a_batch_is_a_history, a_batch_is_a_list_of_calls};
+pub use failing::{
+    what_fails_leaves_the_tree, what_is_lost_leaves_the_tree_named, what_is_stopped_is_done_or_not,
+};
+pub use paths::each_path_has_the_cid_of_its_tree;
+pub use replies::a_history_makes_what_its_replies_say;
 pub use steps::run_a_step;
 
-/// Commands done in turn, each as `run` says, over a store that stands for a tree, or has no Head or a bad one, where
-/// nothing failed, no clash was met and memory wasn't wanting: the store then stands for what the same commands make of
-/// the plain tree.
+/// Commands given in turn, each answered as `run` says, over a store that stands for a tree, or has no Head or a bad
+/// one, where nothing failed, no clash was met and memory wasn't wanting: the store then stands for what those that
+/// were done make of the plain tree.
 pub fn a_history_gives_its_tree()
     ensures { (X : List ℕ → List ℕ) (N : List ℕ → ℕ) (steps : List Step) (before now : Told) (standing : Standing)
         → TellsAs X N before standing → History X N steps before now
@@ -41,13 +49,13 @@ pub fn same_names_and_bytes_have_one_root()
         → head_in b ≡ Some (head_text p (entry X N p (Dir es)).cid) }
 {}
 
-/// Where a history makes a tree, and a folder of a host has the same names and bytes, `add -r -n` of that folder, over a
-/// store whose Head has the same profile, or one with no Head where that profile is the usual one, prints last the CID
-/// that is in the history's Head.
+/// Where a history makes a tree, and a folder of a host has the same names and bytes, `add -r -n` of that folder,
+/// over a store whose Head has the same profile, or one with no Head where that profile is the usual one, prints last
+/// the CID that is in the history's Head.
 pub fn a_tree_added_afresh_has_its_root()
     ensures { (X : List ℕ → List ℕ) (N : List ℕ → ℕ) (steps : List Step) (a b : Told) (first : Standing) (p : Profile)
         (es : Entries) (fresh : Step) (standing : Standing) (path : List ℕ)
-        → Makes X N steps a b first (Stands p es) → AddsAfresh X N fresh standing path p es
+        → Makes X N steps a b first (Stands p es) → AddsAfresh X N fresh standing path p (Dir es)
         → (cid : Cid) × (head_in b ≡ Some (head_text p cid)) × PrintsLast fresh path cid }
 {}
 
