@@ -1,153 +1,120 @@
-// Trees of shards that are planted in a store, and rows of what they answer. CIDs and sizes were computed outside of
-// this program.
+// Trees of shards that are planted in a store: what they weigh, with weights that were computed outside of this program,
+// and blocks that are no directories, of which no command tells.
 ghost use Rattle.std.specs.Prelude.{◌≡◌, ◌<◌};
 
-use crate::shard_list_tests::{Listing, lists, weighs};
 use std::alloc::Global;
 use std::marker::Brand;
 use std::sync::ledger::{Blank, Ledger};
 use uf_cid::{Block, Cid, Codec, Sha256Hash};
-use uf_murmur::{FirstEight, NameHash};
-use uf_shard::find;
+use uf_dir::find as find_in_directory;
+use uf_murmur::FirstEight;
+use uf_shard::{entries, find, weight_over};
 use uf_store::{MemStore, Role, Steps, StoreFault};
 use uf_tree::{Entry, Item, Items, Name, Placed, is_shard, shard_node};
 
-pub type Kept = MemStore<Sha256Hash>;
+type Kept = MemStore<Sha256Hash>;
 
 // What a slot has: a name with the entry of an empty file, one with that of another file, or the block before its
 // shard.
-pub enum What {
+enum What {
     Empty(&'static str),
     Other(&'static str),
     Below,
 }
 
-// A block of a tree: the slots of a shard, or bytes that are no shard.
-pub enum Made {
-    Slots(&'static [(u8, What)]),
-    Bytes(&'static [u8]),
-}
+// A block of a tree: the slots of a shard.
+type Made = &'static [(u8, What)];
 
-// What a search answers: the entry of an empty file, none, or that a block is missing or no shard of level 0.
-#[derive(Clone, Copy, PartialEq, Eq)]
-pub enum Answer {
-    Found,
-    Absent,
-    Missing,
-    Bad,
-    Other,
-}
-
-// What a tree is asked, and what it answers.
-pub enum Ask {
-    // The CID and the Tsize of its root.
-    Root(&'static [u8], u64),
-    // An entry by its name.
-    Find(&'static str, Answer),
-    // All names and entries.
-    List(Listing),
-    // Whether it weighs more than a limit, where that can be said.
-    Weigh(u64, Option<bool>),
-}
-
-// The blocks of a tree, the lowest first; which of them the row is about; whether that is lost; and what is asked.
-pub type Row = (&'static [Made], usize, bool, Ask);
+// The blocks of a tree, the lowest first; whether that is lost; a limit, and whether the tree weighs more, where that can
+// be said.
+type Row = (&'static [Made], bool, u64, Option<bool>);
 
 // Three names in one block.
-pub const THREE: [Made; 1] = [Made::Slots(&[
+const THREE: [Made; 1] = [&[
     (b'a', What::Empty("a")),
     (b'b', What::Empty("b")),
     (b'c', What::Empty("c")),
-])];
+]];
 
 // Two names below eight shards.
-pub const EIGHT: [Made; 8] = [
-    Made::Slots(&[
+const EIGHT: [Made; 8] = [
+    &[
         (b'X', What::Empty("abcdefgX")),
         (b'Y', What::Empty("abcdefgY")),
-    ]),
-    Made::Slots(&[(b'g', What::Below)]),
-    Made::Slots(&[(b'f', What::Below)]),
-    Made::Slots(&[(b'e', What::Below)]),
-    Made::Slots(&[(b'd', What::Below)]),
-    Made::Slots(&[(b'c', What::Below)]),
-    Made::Slots(&[(b'b', What::Below)]),
-    Made::Slots(&[(b'a', What::Below)]),
+    ],
+    &[(b'g', What::Below)],
+    &[(b'f', What::Below)],
+    &[(b'e', What::Below)],
+    &[(b'd', What::Below)],
+    &[(b'c', What::Below)],
+    &[(b'b', What::Below)],
+    &[(b'a', What::Below)],
 ];
 
-// A block that is no shard.
-pub const NONE: [Made; 1] = [Made::Bytes(b"none")];
+// A name that comes twice, which no plan gives: `a`, a shard below with a `b`, and a `b` with an entry of its own.
+const REPEATED: [Made; 2] = [
+    &[(7, What::Empty("b"))],
+    &[
+        (1, What::Empty("a")),
+        (2, What::Below),
+        (3, What::Other("b")),
+    ],
+];
 
-// A name that stands in the slot of another.
-const TURNED: [Made; 1] = [Made::Slots(&[(b'b', What::Empty("a"))])];
+// A lost shard counts as the two lightest names, and where these and the others weigh too much it is said without it.
+static WEIGHED: [Row; 10] = [
+    (&THREE, false, 0, Some(true)),
+    (&THREE, false, 110, Some(true)),
+    (&THREE, false, 111, Some(false)),
+    (&THREE, false, 112, Some(false)),
+    (&EIGHT, false, 87, Some(true)),
+    (&EIGHT, false, 88, Some(false)),
+    (&EIGHT, true, 73, Some(true)),
+    (&EIGHT, true, 74, None),
+    (&REPEATED, true, 147, Some(true)),
+    (&REPEATED, true, 148, None),
+];
 
-pub fn empty_file() -> Entry {
+// The node of a file of the one byte `c`.
+const FILE: &[u8] =
+    b"\x12\x2a\x0a\x24\x01\x55\x12\x20\x2e\x7d\x2c\x03\xa9\x50\x7a\xe2\x65\xec\xf5\xb5\x35\x68\x85\xa5\x33\x93\xa2\
+    \x02\x9d\x24\x13\x94\x99\x72\x65\xa1\xa2\x5a\xef\xc6\x12\x00\x18\x01\x0a\x06\x08\x02\x18\x01\x20\x01";
+
+fn entry_of(bytes: &[u8]) -> Entry {
     Entry {
-        cid: Cid::of::<Sha256Hash>(Codec::Raw, b""),
-        tsize: 0,
-    }
-}
-
-pub fn other_file() -> Entry {
-    Entry {
-        cid: Cid::of::<Sha256Hash>(Codec::Raw, b"other"),
-        tsize: 5,
+        cid: Cid::of::<Sha256Hash>(Codec::Raw, bytes),
+        tsize: bytes.len() as u64,
     }
 }
 
 fn leaf(alloc: Global, text: &str, entry: Entry) -> Option<Item> {
-    match Name::parse(alloc, text) {
-        Ok(name) => Some(Item::Leaf(name, entry)),
-        Err(_) => None,
-    }
+    let name = Name::parse(alloc, text).ok()?;
+    Some(Item::Leaf(name, entry))
 }
 
 fn item(alloc: Global, what: &What, below: Entry) -> Option<Item> {
     match what {
-        What::Empty(text) => leaf(alloc, *text, empty_file()),
-        What::Other(text) => leaf(alloc, *text, other_file()),
+        What::Empty(text) => leaf(alloc, *text, entry_of(b"")),
+        What::Other(text) => leaf(alloc, *text, entry_of(b"other")),
         What::Below => Some(Item::Sub(below)),
     }
 }
 
-fn add(alloc: Global, items: &mut Items, slot: u8, what: &What, below: Entry) -> bool {
-    match item(alloc, what, below) {
-        Some(item) => items.push(Placed { slot, item }).is_ok(),
-        None => false,
+fn fill(alloc: Global, items: &mut Items, slots: &[(u8, What)], below: Entry) -> Option<()> {
+    for (slot, what) in slots {
+        let item = item(alloc, what, below)?;
+        items.push(Placed { slot: *slot, item }).ok()?;
     }
-}
-
-fn fill(alloc: Global, items: &mut Items, slots: &[(u8, What)], below: Entry) -> bool {
-    for i in 0..slots.len() {
-        let (slot, what) = &slots[i];
-        if !add(alloc, items, *slot, what, below) {
-            return false;
-        }
-    }
-    true
+    Some(())
 }
 
 fn shard(alloc: Global, slots: &[(u8, What)], below: Entry) -> Option<Block> {
     let mut items = Items::new(alloc);
-    if fill(alloc, &mut items, slots, below) && is_shard(&items) {
+    fill(alloc, &mut items, slots, below)?;
+    if is_shard(&items) {
         shard_node(alloc, &items).ok()
     } else {
         None
-    }
-}
-
-fn copied(alloc: Global, bytes: &[u8]) -> Option<Block> {
-    let mut block = Block::new(alloc);
-    match block.extend(bytes) {
-        Ok(()) => Some(block),
-        Err(_) => None,
-    }
-}
-
-fn block(alloc: Global, made: &Made, below: Entry) -> Option<Block> {
-    match made {
-        Made::Slots(slots) => shard(alloc, *slots, below),
-        Made::Bytes(bytes) => copied(alloc, *bytes),
     }
 }
 
@@ -156,163 +123,94 @@ fn keep(store: &mut Kept, block: Block, below: u64) -> Option<Entry> {
     let bytes = block.as_slice();
     let cid = Cid::of::<Sha256Hash>(Codec::DagPb, bytes);
     let tsize = below.saturating_add(bytes.len() as u64);
-    match store.plant(&cid, block) {
-        Ok(()) => Some(Entry { cid, tsize }),
-        Err(_) => None,
-    }
+    store.plant(&cid, block).ok()?;
+    Some(Entry { cid, tsize })
 }
 
-fn plant(alloc: Global, store: &mut Kept, made: &Made, below: Entry) -> Option<Entry> {
-    match block(alloc, made, below) {
-        Some(block) => keep(store, block, below.tsize),
-        None => None,
-    }
-}
-
-// The root of a tree, and the CID of the block that a row is about.
-#[derive(Clone, Copy)]
-pub struct Planted {
-    pub root: Entry,
-    pub about: Cid,
-}
-
-fn plant_tree(alloc: Global, store: &mut Kept, tree: &[Made], about: usize) -> Option<Planted> {
-    let mut root = empty_file();
-    let mut named = root.cid;
-    for i in 0..tree.len() {
-        root = plant(alloc, store, &tree[i], root)?;
-        if i == about {
-            named = root.cid;
+// Puts a tree into a store, of which the lowest block may be lost, and answers its root.
+fn plant(alloc: Global, store: &mut Kept, tree: &[Made], is_lost: bool) -> Option<Entry> {
+    let mut root = entry_of(b"");
+    let mut lowest = root.cid;
+    for place in 0..tree.len() {
+        let block = shard(alloc, tree[place], root)?;
+        root = keep(store, block, root.tsize)?;
+        if place == 0 {
+            lowest = root.cid;
         }
     }
-    Some(Planted { root, about: named })
-}
-
-fn find_counted<N: NameHash, L: Ledger>(
-    alloc: Global,
-    store: &mut Kept,
-    root: &Cid,
-    name: &Name,
-    blank: Blank,
-) -> Result<Option<Entry>, StoreFault>
-    requires name { blank.name ≡ L.name }
-    requires parts { blank.parts ≡ L.parts }
-    requires some { 0 < blank.parts }
-{
-    let mut touches = Steps::<L>::new(blank);
-    find::<Kept, N, L>(alloc, store, root, name, &mut touches)
-}
-
-// The entry of a name, with no count of touches.
-pub fn found<N: NameHash>(
-    alloc: Global,
-    store: &mut Kept,
-    root: &Cid,
-    name: &Name,
-) -> Result<Option<Entry>, StoreFault> {
-    find_counted::<N, Brand>(alloc, store, root, name, Blank::new(1))
-}
-
-fn answer_of(found: &Result<Option<Entry>, StoreFault>, about: &Cid) -> Answer {
-    match found {
-        Ok(Some(entry)) if *entry == empty_file() => Answer::Found,
-        Ok(None) => Answer::Absent,
-        Err(StoreFault::Missing(cid)) if cid == about => Answer::Missing,
-        Err(StoreFault::BadBlock(cid, Role::Shard(0))) if cid == about => Answer::Bad,
-        _ => Answer::Other,
+    if is_lost {
+        store.forget(&lowest);
     }
+    Some(root)
 }
 
-fn sought(alloc: Global, store: &mut Kept, planted: &Planted, name: &Name) -> Answer {
-    let found = found::<FirstEight>(alloc, store, &planted.root.cid, name);
-    answer_of(&found, &planted.about)
-}
-
-fn finds(alloc: Global, store: &mut Kept, planted: &Planted, text: &str, wanted: Answer) -> bool {
-    match Name::parse(alloc, text) {
-        Ok(name) => sought(alloc, store, planted, &name) == wanted,
-        Err(_) => false,
-    }
-}
-
-fn is_root(root: &Entry, text: &[u8], tsize: u64) -> bool {
-    root.cid.text().as_slice() == text && root.tsize == tsize
-}
-
-fn answers(alloc: Global, store: &mut Kept, planted: &Planted, ask: &Ask) -> bool {
-    match ask {
-        Ask::Root(text, tsize) => is_root(&planted.root, *text, *tsize),
-        Ask::Find(text, wanted) => finds(alloc, store, planted, *text, *wanted),
-        Ask::List(wanted) => lists(alloc, store, planted, wanted),
-        Ask::Weigh(limit, wanted) => weighs(alloc, store, &planted.root.cid, *limit, *wanted),
-    }
-}
-
-fn is_right(alloc: Global, store: &mut Kept, row: &Row) -> bool {
-    let (tree, about, is_lost, ask) = row;
-    match plant_tree(alloc, store, *tree, *about) {
-        Some(planted) => {
-            if *is_lost {
-                store.forget(&planted.about);
-            }
-            answers(alloc, store, &planted, ask)
-        }
-        None => false,
-    }
-}
-
-fn is_row(alloc: Global, row: &Row) -> bool {
+fn is_weighed<L: Ledger>(alloc: Global, row: &Row, touches: &mut Steps<L>) -> Option<bool> {
+    let (tree, is_lost, limit, wanted) = row;
     let mut store = Kept::new(alloc);
-    is_right(alloc, &mut store, row)
+    let root = plant(alloc, &mut store, *tree, *is_lost)?;
+    let weighs = weight_over::<Kept, L>(alloc, &mut store, &root.cid, *limit, touches).ok();
+    Some(weighs == *wanted)
 }
 
-// The number of the first row that is wrong.
-pub fn first_wrong(alloc: Global, rows: &[Row]) -> Option<usize> {
-    for i in 0..rows.len() {
-        if !is_row(alloc, &rows[i]) {
-            return Some(i);
+// The place of the first row that is wrong.
+fn first_wrong<L: Ledger>(alloc: Global, touches: &mut Steps<L>) -> Option<usize> {
+    for place in 0..WEIGHED.len() {
+        if is_weighed(alloc, &WEIGHED[place], touches) != Some(true) {
+            return Some(place);
         }
     }
     None
 }
 
-static ROWS: [Row; 17] = [
-    (
-        &THREE,
-        0,
-        false,
-        Ask::Root(
-            b"bafybeifh47sgh7jevtsuzroog5oow4y736vejdvyiyo3rjcjl7bg5pu2la",
-            165,
-        ),
-    ),
-    (&THREE, 0, false, Ask::Find("a", Answer::Found)),
-    (&THREE, 0, false, Ask::Find("b", Answer::Found)),
-    (&THREE, 0, false, Ask::Find("c", Answer::Found)),
-    (&THREE, 0, false, Ask::Find("d", Answer::Absent)),
-    (&THREE, 0, false, Ask::Find("ab", Answer::Absent)),
-    (
-        &EIGHT,
-        0,
-        false,
-        Ask::Root(
-            b"bafybeiebkftuyely6co7jdi3vgdmtaqfjvqkspruabz7malta6ivjrlvny",
-            628,
-        ),
-    ),
-    (&EIGHT, 0, false, Ask::Find("abcdefgX", Answer::Found)),
-    (&EIGHT, 0, false, Ask::Find("abcdefgY", Answer::Found)),
-    (&EIGHT, 0, false, Ask::Find("abcdefgZ", Answer::Absent)),
-    (&EIGHT, 0, false, Ask::Find("abcd", Answer::Absent)),
-    (&EIGHT, 0, true, Ask::Find("abcdefgX", Answer::Missing)),
-    (&EIGHT, 0, true, Ask::Find("abcdefgZ", Answer::Missing)),
-    (&EIGHT, 0, true, Ask::Find("abcd", Answer::Absent)),
-    (&NONE, 0, false, Ask::Find("a", Answer::Bad)),
-    (&TURNED, 0, false, Ask::Find("a", Answer::Bad)),
-    (&TURNED, 0, false, Ask::Find("c", Answer::Bad)),
-];
+fn is_blamed(fault: &StoreFault, block: &Cid, role: Role) -> bool {
+    match fault {
+        StoreFault::BadBlock(cid, given) => cid == block && *given == role,
+        _ => false,
+    }
+}
+
+// Puts bytes into a store as a node, whatever they are.
+fn planted(alloc: Global, store: &mut Kept, bytes: &[u8]) -> Option<Cid> {
+    let mut block = Block::new(alloc);
+    block.extend(bytes).ok()?;
+    let entry = keep(store, block, 0)?;
+    Some(entry.cid)
+}
+
+// Whether a block that is no shard is blamed by a search and by a listing, and a file by a search in a directory.
+fn are_blamed<L: Ledger>(alloc: Global, touches: &mut Steps<L>) -> Option<bool> {
+    let mut store = Kept::new(alloc);
+    let name = Name::parse(alloc, "a").ok()?;
+    let none = planted(alloc, &mut store, b"none")?;
+    let file = planted(alloc, &mut store, FILE)?;
+    let found = find::<Kept, FirstEight, L>(alloc, &mut store, &none, &name, touches).err()?;
+    let listed = entries::<Kept, L>(alloc, &mut store, &none, touches).err()?;
+    let inside = find_in_directory::<Kept, FirstEight, L>(
+        alloc, &mut store, &file, &name, touches,
+    ).err()?;
+    Some(
+        is_blamed(&found, &none, Role::Shard(0))
+            && is_blamed(&listed, &none, Role::Shard(0))
+            && is_blamed(&inside, &file, Role::Directory),
+    )
+}
+
+fn answers<L: Ledger>(alloc: Global, blank: Blank) -> (Option<usize>, Option<bool>)
+    requires name { blank.name ≡ L.name }
+    requires parts { blank.parts ≡ L.parts }
+    requires some { 0 < blank.parts }
+{
+    let mut touches = Steps::<L>::new(blank);
+    let wrong = first_wrong(alloc, &mut touches);
+    let blamed = are_blamed(alloc, &mut touches);
+    (wrong, blamed)
+}
+
+fn answered(alloc: Global) -> (Option<usize>, Option<bool>) {
+    answers::<Brand>(alloc, Blank::new(1))
+}
 
 #[test]
-fn names_are_found(rt: HostRuntime) {
-    assert_eq!(rt; first_wrong(rt.alloc(), &ROWS), None);
+fn shards_are_weighed_and_other_blocks_blamed(rt: HostRuntime) {
+    assert_eq!(rt; answered(rt.alloc()), (None, Some(true)));
 }

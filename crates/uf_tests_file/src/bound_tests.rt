@@ -2,9 +2,10 @@
 ghost use Rattle.std.specs.Prelude.{◌≡◌, ◌<◌, ◌≤◌, ◌^◌, IsTrue};
 ghost use Rattle.uf_tree.specs.Profiles.{is_profile};
 
-use crate::edit_tests::{Kept, Trouble, built, is_built, model, next, profile, size_with};
+use crate::models::{Kept, Trouble, built, is_built, model, next, profile, size_with};
 use std::alloc::Global;
 use std::marker::Brand;
+use std::ops::Range;
 use std::sync::ledger::{Blank, Ledger};
 use uf_cid::Cid;
 use uf_fileedit::{truncate, write_at};
@@ -20,6 +21,9 @@ enum Edit {
 
 // Files of fewer bytes are edited, at each place before with each shorter piece.
 const MOST: usize = 41;
+
+// Files of pieces of one byte have the most blocks: those of fewer bytes than this are edited by a test of their own.
+const HALF: usize = 21;
 
 // The pieces and the nodes of a file have these sizes.
 #[derive(Clone, Copy)]
@@ -210,13 +214,14 @@ fn check_length<L: Ledger>(
     Ok(())
 }
 
-// All edits of files of all lengths.
-fn check_all<L: Ledger>(
+// All edits of files of these lengths.
+fn check_lengths<L: Ledger>(
     alloc: Global,
     sizes: Sizes,
+    lengths: Range<usize>,
     touches: &mut Steps<L>,
 ) -> Result<(), Trouble> {
-    for length in 0..MOST {
+    for length in lengths {
         check_length(alloc, sizes, length, touches)?;
     }
     Ok(())
@@ -279,20 +284,21 @@ fn check_middle<L: Ledger>(alloc: Global, touches: &mut Steps<L>) -> Result<(), 
     )
 }
 
-// Whether each edit of files of up to 40 bytes is right, at places up to 40 with pieces of up to 40 bytes, and some of
+// Whether each edit of files of these lengths is right, at places up to 40 with pieces of up to 40 bytes, and some of
 // larger files.
-fn all_right<L: Ledger>(alloc: Global, blank: Blank, sizes: Sizes) -> bool
+fn all_right<L: Ledger>(alloc: Global, blank: Blank, sizes: Sizes, lengths: Range<usize>) -> bool
     requires name { blank.name ≡ L.name }
     requires parts { blank.parts ≡ L.parts }
     requires some { 0 < blank.parts }
 {
     let mut touches = Steps::<L>::new(blank);
-    check_all(alloc, sizes, &mut touches).is_ok() && check_many(alloc, sizes, &mut touches).is_ok()
+    check_lengths(alloc, sizes, lengths, &mut touches).is_ok()
+        && check_many(alloc, sizes, &mut touches).is_ok()
 }
 
 // The same of files in pieces and nodes of these sizes.
-fn are_right(alloc: Global, chunk: u32, width: u32) -> bool {
-    all_right::<Brand>(alloc, Blank::new(1), Sizes { chunk, width })
+fn are_right(alloc: Global, chunk: u32, width: u32, lengths: Range<usize>) -> bool {
+    all_right::<Brand>(alloc, Blank::new(1), Sizes { chunk, width }, lengths)
 }
 
 // Whether an edit in the middle of a large file is right.
@@ -315,31 +321,41 @@ fn an_edit_of_a_large_file_costs_what_its_rows_cost(rt: HostRuntime) {
 }
 
 #[test]
+fn edits_of_short_files_of_pieces_of_one_under_two(rt: HostRuntime) {
+    assert!(rt; are_right(rt.alloc(), 1, 2, 0..HALF));
+}
+
+#[test]
 fn edits_of_pieces_of_one_under_two(rt: HostRuntime) {
-    assert!(rt; are_right(rt.alloc(), 1, 2));
+    assert!(rt; are_right(rt.alloc(), 1, 2, HALF..MOST));
+}
+
+#[test]
+fn edits_of_short_files_of_pieces_of_one_under_three(rt: HostRuntime) {
+    assert!(rt; are_right(rt.alloc(), 1, 3, 0..HALF));
 }
 
 #[test]
 fn edits_of_pieces_of_one_under_three(rt: HostRuntime) {
-    assert!(rt; are_right(rt.alloc(), 1, 3));
+    assert!(rt; are_right(rt.alloc(), 1, 3, HALF..MOST));
 }
 
 #[test]
 fn edits_of_pieces_of_two_under_two(rt: HostRuntime) {
-    assert!(rt; are_right(rt.alloc(), 2, 2));
+    assert!(rt; are_right(rt.alloc(), 2, 2, 0..MOST));
 }
 
 #[test]
 fn edits_of_pieces_of_two_under_three(rt: HostRuntime) {
-    assert!(rt; are_right(rt.alloc(), 2, 3));
+    assert!(rt; are_right(rt.alloc(), 2, 3, 0..MOST));
 }
 
 #[test]
 fn edits_of_pieces_of_three_under_two(rt: HostRuntime) {
-    assert!(rt; are_right(rt.alloc(), 3, 2));
+    assert!(rt; are_right(rt.alloc(), 3, 2, 0..MOST));
 }
 
 #[test]
 fn edits_of_pieces_of_three_under_three(rt: HostRuntime) {
-    assert!(rt; are_right(rt.alloc(), 3, 3));
+    assert!(rt; are_right(rt.alloc(), 3, 3, 0..MOST));
 }

@@ -1,4 +1,4 @@
-//! Rows of files that are built, read, changed and taken over.
+//! Rows of files that are built, read, changed and taken over, of which no command tells.
 #![tactic(auto)]
 
 #[cfg(test)]
@@ -6,12 +6,8 @@ mod bound_tests;
 #[cfg(test)]
 mod build_tests;
 #[cfg(test)]
-mod edit_tests;
-#[cfg(test)]
 mod lenient_tests;
 #[cfg(test)]
-mod range_tests;
+mod models;
 #[cfg(test)]
 mod read_tests;
-#[cfg(test)]
-mod row_tests;

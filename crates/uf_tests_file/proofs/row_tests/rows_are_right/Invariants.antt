@@ -1,4 +1,0 @@
-use Rattle.uf_tests_file.proofs.row_tests.rows_are_right.Given as goal
-
-abbrev pub ghosts-are_right : goal.ghosts-are_right
-ghosts-are_right a = record { name = a.blank.name; parts = a.blank.parts }
