@@ -47,7 +47,7 @@ for turn in 1 2 3; do
     done
 done
 
-python3 - "$folder/lines" "$mib" <<'PYTHON'
+python3 - "$folder/lines" "$mib" <<'PYTHON' | "$top/bench/record"
 import statistics, sys
 runs = {}
 for line in open(sys.argv[1], encoding="ascii"):
@@ -58,4 +58,5 @@ print(f"{sys.argv[2]} MiB, medians of three")
 for name, rows in runs.items():
     print(f"{name}: {medians[name]:.2f} user seconds, peak {max(memory for _, memory in rows) / 1024:.1f} MiB, "
           f"{medians['unixfs'] / medians[name]:.2f} for unixfs against it")
+print(f"ratio add -n of {sys.argv[2]} MiB to sha256sum, user seconds: {medians['unixfs'] / medians['sha256sum']:.2f}")
 PYTHON

@@ -26,7 +26,7 @@ for ((n = 0; n < count; n++)); do printf 'files write -e -x %08x /b%05d\n' "$n" 
 head -n 100 lines > few
 sync -f .
 
-taskset -c "$core" python3 - "$program" "$count" "$names" "$folder" $memory <<'PYTHON'
+taskset -c "$core" python3 - "$program" "$count" "$names" "$folder" $memory <<'PYTHON' | "$top/bench/record"
 import os, re, shutil, statistics, subprocess, sys, time
 
 PROGRAM, COUNT, NAMES, FOLDERS = sys.argv[1], int(sys.argv[2]), sys.argv[3], sys.argv[4:]
@@ -91,6 +91,10 @@ for _ in range(3):
 print(f"medians of three batches of {COUNT} lines: lines a second; of a line ms, user ms, system ms")
 for (names, where), runs in rows.items():
     print(f"{names} names, {where}:", *(f"{statistics.median(column):.2f}" for column in zip(*runs)))
+for where in ("disk", "/dev/shm"):
+    if (NAMES, where) in rows:
+        wide, few = (statistics.median(run[2] for run in rows[names, where]) for names in (NAMES, "100"))
+        print(f"ratio a line of a batch beside {NAMES} names to one beside 100, {where}, user seconds: {wide / few:.2f}")
 print("ms of a sync of a new file, and of its folder:", *(f"{some:.3f}" for some in synced()))
 for names in ("100", NAMES) if shutil.which("strace") else ():
     print(f"{names} names: %.1f system calls a line, of which %.2f are syncs" % traced(names))

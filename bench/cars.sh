@@ -1,8 +1,9 @@
 #!/usr/bin/env bash
-# Measures CARs over the store on the disk, each row three times in turn on one core, and prints the medians and their
+# Measures CARs and `cat` over the store on the disk, each row three times in turn on one core, and prints the medians and their
 # ratios.
 # - `dag export` of a file of MIB MiB (1024 if unset)
 # - `dag import` of that CAR into another store
+# - `cat` of the file
 # - `cp` of the same bytes with `sync`, and sha256sum of them
 # CORE says which core (the last one if unset), FOLDER on which disk (that of the temporary files if unset).
 set -eu
@@ -37,11 +38,12 @@ PYTHON
 for turn in 1 2 3; do
     measure export 'cd from && "$UNIXFS" dag export "$CID" > ../large.car && sync -f ..'
     measure import 'cd work && "$UNIXFS" dag import < ../large.car > ../roots'
+    measure cat 'cd from && "$UNIXFS" cat "$CID" > ../again'
     measure cp 'cp large.car work/copy && sync -f .'
     measure sha256sum 'sha256sum large.car > sum'
 done
 [ "$(cat roots)" = "root $CID" ]
-python3 - "$mib" <<'PYTHON'
+python3 - "$mib" <<'PYTHON' | "$top/bench/record"
 import statistics, sys
 rows = {}
 for line in open("lines", encoding="ascii"):
@@ -52,8 +54,11 @@ print(f"medians of three: seconds, user seconds, system seconds ({sys.argv[1]} M
 for name, numbers in medians.items():
     print(name, *(f"{number:.3f}" for number in numbers))
 print("ratios of unixfs to others: seconds, user seconds")
-for name in ("export", "import"):
+for name in ("export", "import", "cat"):
     for other in ("cp", "sha256sum"):
         pairs = zip(medians[name][:2], medians[other][:2])
         print(f"{name}:{other}", *(f"{ours / theirs:.2f}" if theirs else "-" for ours, theirs in pairs))
+for name in ("export", "import", "cat"):
+    for other, at, seconds in (("sha256sum", 1, "user seconds"), ("cp", 0, "seconds")):
+        print(f"ratio {'cat' if name == 'cat' else 'dag ' + name} of {sys.argv[1]} MiB to {other}, {seconds}: {medians[name][at] / medians[other][at]:.2f}")
 PYTHON

@@ -55,7 +55,7 @@ many 10
 many "$names"
 sync -f .
 
-taskset -c "$core" python3 - "$program" "$mib" "$names" "${RUNS:-9}" <<'PYTHON'
+taskset -c "$core" python3 - "$program" "$mib" "$names" "${RUNS:-9}" <<'PYTHON' | "$top/bench/record"
 import os, re, shutil, statistics, subprocess, sys, time
 
 PROGRAM, MIB, NAMES, RUNS = sys.argv[1], int(sys.argv[2]), int(sys.argv[3]), int(sys.argv[4])
@@ -124,6 +124,7 @@ def measure(title, folder, task):
             turns.append(run(words, folder))
     medians = [f"{statistics.median(column):.1f}" for column in zip(*turns)]
     row(title, *medians, *traced(words, folder))
+    return float(medians[0])
 
 
 def row(title, *cells):
@@ -133,11 +134,13 @@ def row(title, *cells):
 row(f"medians of {RUNS}", "ms", "user", "system", "calls", "read", "written")
 measure("start", "start", start)
 for mib in (1, MIB):
-    measure(f"a byte into a file of {mib} MiB", f"file-{mib}", write(mib))
+    byte = measure(f"a byte into a file of {mib} MiB", f"file-{mib}", write(mib))
 for names in (10, NAMES):
-    measure(f"mkdir in a directory of {names} names", f"directory-{names}", make)
+    name = measure(f"mkdir in a directory of {names} names", f"directory-{names}", make)
 for mib in (1, MIB):
-    measure(f"git update-index: file of {mib} MiB", f"git-file-{mib}", changed(mib))
+    git_byte = measure(f"git update-index: file of {mib} MiB", f"git-file-{mib}", changed(mib))
 for names in (10, NAMES):
-    measure(f"git update-index: {names} names", f"git-directory-{names}", named)
+    git_name = measure(f"git update-index: {names} names", f"git-directory-{names}", named)
+print(f"ratio a byte written into a file of {MIB} MiB to git update-index, seconds: {byte / git_byte:.4f}")
+print(f"ratio files mkdir beside {NAMES} names to git update-index, seconds: {name / git_name:.2f}")
 PYTHON

@@ -101,7 +101,7 @@ for turn in 1 2 3; do
     go_round small
     go_round large
 done
-python3 - "$small" "$mib" <<'PYTHON'
+python3 - "$small" "$mib" <<'PYTHON' | "$top/bench/record"
 import statistics, sys
 rows = {}
 for line in open("lines", encoding="ascii"):
@@ -117,4 +117,13 @@ for name, numbers in medians.items():
     if who != "unixfs":
         ours = medians[what + ":unixfs"]
         print(name, *(f"{ours[at] / numbers[at]:.2f}" if numbers[at] else "-" for at in (0, 1)))
+FILES = {"small": f"{sys.argv[1]} files of 5 KB", "large": f"four files of {sys.argv[2]} MiB together"}
+WORDS = {"hash": "add -r -n", "add": "add -r", "get": "get"}
+KINDS = {"sha256sum": (1, "user seconds")}
+for name, numbers in medians.items():
+    what, who = name.split(":")
+    folder, act = what.split("-")
+    at, seconds = KINDS.get(who, (0, "seconds"))
+    if who != "unixfs" and numbers[at]:
+        print(f"ratio {WORDS[act]} of {FILES[folder]} to {who}, {seconds}: {medians[what + ':unixfs'][at] / numbers[at]:.2f}")
 PYTHON

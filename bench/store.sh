@@ -66,7 +66,7 @@ for turn in 1 2 3; do
     measure start:unixfs start 'for n in 0 1 2 3 4 5 6 7 8 9; do "$UNIXFS" || true; done'
     measure start:true start 'for n in 0 1 2 3 4 5 6 7 8 9; do /bin/true; done'
 done
-python3 - "$mib" <<'PYTHON'
+python3 - "$mib" <<'PYTHON' | "$top/bench/record"
 import statistics, sys
 rows = {}
 for line in open("lines", encoding="ascii"):
@@ -75,6 +75,10 @@ for line in open("lines", encoding="ascii"):
 print(f"medians of three: seconds, user seconds, system seconds (blocks: 10000 of 5200 bytes; large: {sys.argv[1]} MiB; start: ten)")
 for name, runs in rows.items():
     print(name, *(f"{statistics.median(column):.3f}" for column in zip(*runs)))
+spent = {name: statistics.median(run[0] for run in runs) for name, runs in rows.items()}
+for ours, theirs, what in (("blocks:unixfs", "blocks:git", "add of 10000 blocks to git add"),
+                           ("large:unixfs", "large:sha256sum", f"add of {sys.argv[1]} MiB to sha256sum")):
+    print(f"ratio {what}, seconds: {spent[ours] / spent[theirs]:.2f}")
 PYTHON
 
 if command -v strace > /dev/null; then
