@@ -1,8 +1,11 @@
-"""Runs the examples of a manual and compares what they print.
+"""Runs the examples of documents and compares what they print.
 
-An example is a fenced block marked `console`. Each line that begins with `$ ` is done by sh in an empty folder of the
-example's own, with the program `unixfs` on the path; the lines below it, up to the next such line, are what it must
-print on standard output and standard error together. A last line `[N]` is the exit status, where it isn't 0.
+    examples.py FILE..
+
+An example is a fenced block marked `console`, one session of sh in an empty folder of its own, with the program `unixfs` on
+the path: the repository's own, or what PROGRAM names. Each line that begins with `$ ` is a command, whose variables and
+folder the next one has too; the lines below it, up to the next such line, are what it must print on standard output and
+standard error together. A last line `[N]` is the exit status, where it isn't 0.
 """
 
 import os
@@ -10,6 +13,8 @@ import re
 import subprocess
 import sys
 import tempfile
+
+TOP = os.path.dirname(os.path.dirname(os.path.abspath(__file__)))
 
 
 def examples(text):
@@ -28,33 +33,61 @@ def steps(lines):
     return found
 
 
-def printed(command, folder, path):
-    """What a command prints, and its status where that isn't 0."""
-    environment = dict(os.environ, PATH=path + os.pathsep + os.environ["PATH"])
-    done = subprocess.run(
-        ["sh", "-c", command], cwd=folder, env=environment, stdin=subprocess.DEVNULL,
-        stdout=subprocess.PIPE, stderr=subprocess.STDOUT, timeout=60, check=False)
-    lines = done.stdout.decode("utf-8", "replace").splitlines()
-    return lines + ([f"[{done.returncode}]"] if done.returncode else [])
+def session(commands, program):
+    """What each command of a session prints, and its status where that isn't 0."""
+    with tempfile.TemporaryDirectory() as folder:
+        work, told = os.path.join(folder, "work"), os.path.join(folder, "told")
+        for it in (work, told, os.path.join(folder, "bin")):
+            os.mkdir(it)
+        os.symlink(program, os.path.join(folder, "bin", "unixfs"))
+        script = ""
+        for number, command in enumerate(commands):
+            with open(os.path.join(told, f"{number}.sh"), "w", encoding="utf-8") as file:
+                file.write(command + "\n")
+            script += f". {told}/{number}.sh > {told}/{number} 2>&1 < /dev/null\necho $? > {told}/{number}.status\n"
+        environment = dict(os.environ, PATH=os.path.join(folder, "bin") + os.pathsep + os.environ["PATH"])
+        subprocess.run(["sh", "-c", script], cwd=work, env=environment, stdin=subprocess.DEVNULL, timeout=600, check=False)
+        return [printed(os.path.join(told, str(number))) for number in range(len(commands))]
+
+
+def printed(path):
+    """The lines that a command printed, with its status where that isn't 0."""
+    try:
+        with open(path, encoding="utf-8", errors="replace") as out, open(path + ".status", encoding="utf-8") as status:
+            number = status.read().strip()
+            return out.read().splitlines() + ([f"[{number}]"] if number != "0" else [])
+    except OSError:
+        return ["(not run)"]
+
+
+def the_program():
+    """The program to run: the repository's own, built where it isn't there."""
+    program = os.environ.get("PROGRAM")
+    if not program:
+        program = os.path.join(TOP, "unixfs")
+        subprocess.run([program, "add", "-n"], stdin=subprocess.DEVNULL, stdout=subprocess.DEVNULL, check=True)
+    return os.path.abspath(program)
 
 
 def main():
-    """Checks the examples of the file that the first word names."""
-    top = os.path.dirname(os.path.dirname(os.path.abspath(__file__)))
-    subprocess.run([os.path.join(top, "unixfs"), "add", "-n"], stdin=subprocess.DEVNULL, stdout=subprocess.DEVNULL, check=True)
+    """Checks the examples of the files that the words name."""
+    program = the_program()
     wrong = count = 0
-    with open(sys.argv[1], encoding="utf-8") as manual:
-        blocks = examples(manual.read())
-    for block in blocks:
-        with tempfile.TemporaryDirectory() as folder:
-            for command, wanted in steps(block):
+    for name in sys.argv[1:]:
+        with open(name, encoding="utf-8") as manual:
+            blocks = [steps(block) for block in examples(manual.read())]
+        if not blocks:
+            wrong += 1
+            print(f"examples: {name} has none")
+        for block in blocks:
+            for (command, wanted), got in zip(block, session([command for command, _ in block], program)):
                 count += 1
-                got = printed(command, folder, top)
                 if got != wanted:
                     wrong += 1
-                    print(f"examples: $ {command}\n  wanted: {wanted}\n  got:    {got}")
+                    print(f"examples: {name}: $ {command}\n  wanted: {wanted}\n  got:    {got}")
     print(f"examples: {count - wrong} passed, {wrong} failed")
     sys.exit(1 if wrong or not count else 0)
 
 
-main()
+if __name__ == "__main__":
+    main()
