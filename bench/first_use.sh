@@ -25,7 +25,7 @@ folder, kit = sys.argv[1:]
 def taken_over():
     """How many crates of other checkouts the kit could take over."""
     found = set()
-    for name in glob.glob(f"{kit}-kept/work/uf_*"):
+    for name in glob.glob(os.path.join(kit + "-kept", "work", "uf_*")):
         try:
             with open(name, encoding="utf-8") as file:
                 said = json.load(file)
