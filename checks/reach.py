@@ -167,4 +167,5 @@ def main():
     print("%d definitions in %d lines" % specs.size(reached))
 
 
-main()
+if __name__ == "__main__":
+    main()
