@@ -97,7 +97,8 @@ def printed_lines():
     """The error lines that the definitions of uf_reply can say, each up to its details."""
     lines = text_of("crates", "uf_reply", "specs", "Lines.antt")
     found = set(re.findall(r'codes "(error: [^"\\]*?) ?(?:\\n)?"', lines + text_of("crates", "uf_reply", "specs", "Statuses.antt")))
-    rules = re.findall(r'^(?:rule|host|dag)_words .*codes "(\w+)', lines + text_of("crates", "uf_reply", "specs", "Dags.antt"), re.M)
+    apart = "".join(text_of("crates", "uf_reply", "specs", name) for name in ("Dags.antt", "Peers.antt"))
+    rules = re.findall(r'^(?:rule|host|dag|peer)_words .*codes "(\w+)', lines + apart, re.M)
     found |= {"error: rule " + name for name in rules}
     return found - {"error: rule"}
 

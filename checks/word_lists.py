@@ -27,6 +27,8 @@ TABLE = {
     "dag same": ([], [], ["text"]),
     "dag import": ([], [], []),
     "batch": ([], [], []),
+    "pull": ([], [], ["text"]),
+    "serve": ([], [], []),
     "gen": ([], [], ["number", "number"]),
 }
 

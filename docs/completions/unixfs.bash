@@ -3,7 +3,7 @@ _unixfs() {
     local current=${COMP_WORDS[COMP_CWORD]} last=${COMP_WORDS[COMP_CWORD - 1]} first=${COMP_WORDS[1]} words='' host=0
     COMPREPLY=()
     if [ "$COMP_CWORD" -eq 1 ]; then
-        mapfile -t COMPREPLY < <(compgen -W 'init add cat get dag batch gen files' -- "$current")
+        mapfile -t COMPREPLY < <(compgen -W 'init add cat get dag pull serve batch gen files' -- "$current")
         return
     fi
     case $first in
@@ -26,6 +26,8 @@ _unixfs() {
     'dag export') words='' host=0 ;;
     'dag import') words='' host=0 ;;
     'dag same') words='' host=0 ;;
+    'pull') words='' host=0 ;;
+    'serve') words='' host=0 ;;
     'batch') words='' host=0 ;;
     'gen') words='' host=0 ;;
     'files mkdir') words='-p --parents' host=0 ;;

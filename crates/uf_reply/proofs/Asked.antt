@@ -1,6 +1,6 @@
 -- Why words are refused.
-use Rattle.std.proofs.Common.{ℕ, List, Bool, true, false, refl, sym, subst, inl, inr, Option, Some, None, Result, Ok, Err}
-use Rattle.std.specs.Prelude.{if◌then◌else◌}
+use Rattle.std.proofs.Common.{ℕ, List, Bool, true, false, refl, Option, Some, None, Result, Ok, Err}
+use Rattle.std.specs.Prelude.{if◌then◌else◌, ⊤}
 use Rattle.uf_cid.specs.declared.cid.Cid.{Cid}
 use Rattle.uf_path.specs.Paths.{dag_path_reads, names_a_dag, path_reads}
 use Rattle.uf_path.specs.declared.faults.PathFault.{PathFault}
@@ -13,10 +13,11 @@ use Rattle.uf_plain.specs.declared.file.WriteHow.{WriteHow}
 use Rattle.uf_reply.specs.declared.types.Ask.{Ask}
 use Rattle.uf_reply.specs.declared.types.Edit.{Edit}
 use Rattle.uf_reply.specs.declared.types.Edit.TheVariants.{Cp, Mv}
-use Rattle.uf_reply.specs.declared.types.Refusal.{Refusal}
-use Rattle.uf_reply.specs.declared.types.Refusal.TheVariants as refusal
 use Rattle.uf_reply.specs.Cids.{cid_reads}
-use Rattle.uf_reply.specs.Commands.{IsAsked, IsOfWords, add_asked, add_to_asked, adopt_asked, asked, asked_of, at_path, both_paths, below_asked, cat_asked, from_to, get_asked, path_refusal, read_asked, write_asked}
+use Rattle.uf_reply.specs.Commands.{IsOfWords, add_asked, add_to_asked, adopt_asked, asked, at_path, both_paths, below_asked, cat_asked, from_to, get_asked, path_refusal, read_asked, write_asked}
+use Rattle.uf_reply.specs.Requests.{pull_asked, request_of}
+use Rattle.uf_reply.specs.declared.requests.Request.{Request}
+use Rattle.uf_reply.specs.declared.requests.Request.TheVariants.{One}
 
 at-only : (ask : Ask) (r : Result Path PathFault) → IsOfWords (at_path ask r)
 at-only ask (Ok path) = tt
@@ -110,7 +111,8 @@ cp-only : (in_dag : Bool) (d : Result DagPath PathFault) (r s : Result Path Path
 cp-only true d r s = adopt-only d s
 cp-only false d r s = from-to-only (λ to. Cp to) r s
 
-cmd-only : (c : Cmd) → IsOfWords (asked c)
+-- words are refused as no command, by a path, or never
+pub cmd-only : (c : Cmd) → IsOfWords (asked c)
 cmd-only (cmd.Init profile) = tt
 cmd-only (cmd.Add recursive only_hash to_files host_path) = add-only recursive only_hash to_files host_path
 cmd-only (cmd.Cat target) = cat-only (dag_path_reads target)
@@ -129,13 +131,30 @@ cmd-only (cmd.Same cid) = below-only true (cid_reads cid)
 cmd-only cmd.Import = tt
 cmd-only cmd.Batch = refl
 cmd-only (cmd.Gen n seed) = tt
+cmd-only (cmd.Chmod mode path) = refl
+cmd-only (cmd.Touch nanos seconds path) = refl
+cmd-only (cmd.Strip path) = refl
+cmd-only (cmd.PinAdd cid) = refl
+cmd-only (cmd.PinRm cid) = refl
+cmd-only cmd.PinLs = refl
+cmd-only cmd.Gc = refl
+cmd-only (cmd.Prove absent path) = refl
+cmd-only (cmd.Check absent cid path) = refl
+cmd-only (cmd.Pull cid) = refl
+cmd-only cmd.Serve = refl
 
--- words are refused as no command, by a path, or never
-pub words-only : (o : Option Cmd) → IsOfWords (asked_of o)
+-- where words ask for one command, they are refused as none, by a path, or never
+abbrev pub IsOfWordsAlone : Request → Type 0
+IsOfWordsAlone (One told) = IsOfWords told
+IsOfWordsAlone other = ⊤
+
+pull-only : (r : Result Cid PathFault) → IsOfWordsAlone (pull_asked r)
+pull-only (Ok cid) = tt
+pull-only (Err why) = adopt-bad why
+
+pub words-only : (o : Option Cmd) → IsOfWordsAlone (request_of o)
 words-only None = refl
-words-only (Some c) = cmd-only c
-
--- so is what the call that reads them answers
-pub asked-only : (o : Option Cmd) (why : Refusal) → IsAsked (Err why) (asked_of o) → IsOfWords (Err why)
-asked-only o why (inl memory) = subst (λ w. IsOfWords (Err w)) (sym memory) refl
-asked-only o why (inr same) = subst IsOfWords same (words-only o)
+words-only (Some cmd.Batch) = tt
+words-only (Some (cmd.Pull cid)) = pull-only (cid_reads cid)
+words-only (Some cmd.Serve) = tt
+words-only (Some other) = cmd-only other

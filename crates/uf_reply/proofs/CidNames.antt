@@ -1,6 +1,6 @@
 -- The text of a CID is a good name.
-use Rattle.std.proofs.Common.{◌≡◌, ℕ, zero, suc, ◌+◌, ◌*◌, ◌/◌, ◌%◌, ◌<◌, ◌≤◌, List, [], ◌∷◌, ◌++◌, Bool, true, false, length, arith, refl, sym, ap, subst, ◌∙◌, inl, inr}
-use Rattle.std.specs.Prelude.{IsTrue, ◌==◌, ◌||◌, ◌&&◌, map, flat_map, nat_lt, nat_le, not}
+use Rattle.std.proofs.Common.{◌≡◌, ℕ, zero, suc, ◌+◌, ◌*◌, ◌<◌, ◌≤◌, List, [], ◌∷◌, true, false, length, arith, refl, inl, inr}
+use Rattle.std.specs.Prelude.{◌==◌, ◌||◌, map, flat_map, nat_lt, nat_le}
 use Rattle.std.specs.List.{AllByRecursion, list_any}
 use Rattle.std.specs.Str.{IsAscii, IsUtf8}
 use Rattle.std.proofs.lemmas.Bool.{cases_lt, le-leb}
@@ -11,7 +11,7 @@ use Rattle.uf_cid.specs.Cid.{cid_bytes, cid_text}
 use Rattle.uf_cid.specs.Read.{IsCid}
 use Rattle.uf_cid.specs.Unbase32.{AreBits, are_bits}
 use Rattle.uf_cid.specs.declared.cid.Cid.{Cid}
-use Rattle.uf_tree.specs.Names.{is_dots, is_good, is_name}
+use Rattle.uf_tree.specs.Names.{is_dots, is_name}
 
 -- a byte that is a letter or a digit
 abbrev IsPlain : ℕ → Type 0

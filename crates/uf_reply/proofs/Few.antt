@@ -1,5 +1,5 @@
 -- How many names a path in a DAG has.
-use Rattle.std.proofs.Common.{◌≡◌, ℕ, zero, suc, ◌+◌, ◌-◌, ◌<◌, ◌≤◌, ◌^◌, List, [], ◌∷◌, ◌++◌, length, length-append, drop, Bool, true, false, cond, arith, refl, sym, ap, subst, ◌∙◌, Result, Ok, Err}
+use Rattle.std.proofs.Common.{◌≡◌, ℕ, zero, suc, ◌+◌, ◌<◌, ◌≤◌, ◌^◌, List, [], ◌∷◌, ◌++◌, length, length-append, drop, Bool, true, false, cond, arith, refl, ap, subst, Result, Ok, Err}
 use Rattle.std.specs.Prelude.{nat_lt, ◌==◌, if◌then◌else◌}
 use Rattle.std.specs.List.{after_first, before_first, onto_first, position_or_len, slice_split}
 use Rattle.std.proofs.lemmas.Bool.{ltb-false}

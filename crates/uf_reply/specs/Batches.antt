@@ -1,5 +1,5 @@
--- Batches, and what their lines ask for.
-use Rattle.std.specs.Prelude.{◌≡◌, ◌⊎◌, ℕ, List, [], ◌∷◌, Bool, true, false, if◌then◌else◌, IfOk, ⊤}
+-- What the lines of a batch ask for.
+use Rattle.std.specs.Prelude.{◌≡◌, ◌⊎◌, ℕ, List, [], ◌∷◌, Bool, true, false, if◌then◌else◌, is_some}
 use Rattle.std.specs.List.{list_all}
 use Rattle.std.specs.Str.{is_utf8}
 use Rattle.std.specs.declared.option.Option.{Option}
@@ -10,47 +10,44 @@ use Rattle.uf_words.specs.Commands.{command_of}
 use Rattle.uf_words.specs.Lines.{line_words}
 use Rattle.uf_words.specs.declared.command.Cmd.{Cmd}
 use Rattle.uf_words.specs.declared.command.Cmd.TheVariants as cmd
-use Rattle.uf_reply.specs.Commands.{IsAccepted, IsAsked, asked, command_in}
+use Rattle.uf_reply.specs.Commands.{asked}
 use Rattle.uf_reply.specs.Statuses.{no_memory}
-use Rattle.uf_reply.specs.declared.batches.Request.{Request}
-use Rattle.uf_reply.specs.declared.batches.Request.TheVariants.{Batch, One}
 use Rattle.uf_reply.specs.declared.types.Command.{Command}
 use Rattle.uf_reply.specs.declared.types.Refusal.{Refusal}
 use Rattle.uf_reply.specs.declared.types.Refusal.TheVariants as refusal
 
--- the words ask for a batch
-abbrev pub is_batch : Option Cmd → Bool
-is_batch (Some cmd.Batch) = true
-is_batch other = false
-
-abbrev pub asks_batch : List (List ℕ) → Bool
-asks_batch words = is_batch (command_of words)
-
--- the command that words ask for was read, or why there is none; of a batch there is none but for want of memory
-abbrev pub IsAskedAlone : (batch : Bool) → Result Command Refusal → Result Command Refusal → Type 0
-IsAskedAlone false given told = IsAsked given told
-IsAskedAlone true given told = given ≡ Err no_memory
-
--- the call answers what the words ask for
-abbrev pub IsRequested : Request → List (List ℕ) → Type 0
-IsRequested Batch words = asks_batch words ≡ true
-IsRequested (One given) words = IsAskedAlone (asks_batch words) given (command_in words)
-
--- what the words have made sure of
-abbrev pub IsAcceptedAlone : Request → Type 0
-IsAcceptedAlone Batch = ⊤
-IsAcceptedAlone (One given) = IfOk given IsAccepted
-
--- the command may stand in a batch: it neither reads the input nor writes to the host, and has no other store
+-- the command may stand in a batch: it neither reads the input nor writes to the host, has no other store, and drops no
+-- block
 abbrev pub is_for_batch : Cmd → Bool
-is_for_batch (cmd.Add recursive only_hash to_files None) = false
+is_for_batch (cmd.Init profile) = true
+is_for_batch (cmd.Add recursive only_hash to_files host_path) = is_some host_path
+is_for_batch (cmd.Cat target) = true
 is_for_batch (cmd.Get target host_path) = false
-is_for_batch (cmd.Write offset create cut None path) = false
-is_for_batch cmd.Import = false
+is_for_batch (cmd.Mkdir parents path) = true
+is_for_batch (cmd.Ls long path) = true
+is_for_batch (cmd.Stat path) = true
+is_for_batch (cmd.Read offset count path) = true
+is_for_batch (cmd.Write offset create cut hex path) = is_some hex
+is_for_batch (cmd.Truncate path length) = true
+is_for_batch (cmd.Cp source dest) = true
+is_for_batch (cmd.Mv source dest) = true
+is_for_batch (cmd.Rm recursive path) = true
+is_for_batch (cmd.Chmod mode path) = true
+is_for_batch (cmd.Touch nanos seconds path) = true
+is_for_batch (cmd.Strip path) = true
+is_for_batch (cmd.Export cid) = true
 is_for_batch (cmd.Same cid) = false
+is_for_batch cmd.Import = false
+is_for_batch (cmd.PinAdd cid) = true
+is_for_batch (cmd.PinRm cid) = true
+is_for_batch cmd.PinLs = true
+is_for_batch cmd.Gc = false
+is_for_batch (cmd.Prove absent path) = true
+is_for_batch (cmd.Check absent cid path) = false
+is_for_batch (cmd.Pull cid) = false
+is_for_batch cmd.Serve = false
 is_for_batch cmd.Batch = false
 is_for_batch (cmd.Gen n seed) = false
-is_for_batch other = true
 
 -- what words ask for in a batch
 abbrev pub asked_in_batch : Option Cmd → Result Command Refusal

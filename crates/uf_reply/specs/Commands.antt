@@ -1,5 +1,5 @@
 -- What words ask for, once their paths are read.
-use Rattle.std.specs.Prelude.{◌≡◌, ◌≢◌, ◌⊎◌, ◌<◌, ◌≤◌, ◌^◌, ◌&&◌, length, ℕ, List, [], ◌∷◌, Bool, true, false, not, IsTrue, if◌then◌else◌}
+use Rattle.std.specs.Prelude.{◌≡◌, ◌⊎◌, ◌<◌, ◌≤◌, ◌^◌, ◌&&◌, length, ℕ, List, [], ◌∷◌, Bool, true, false, not, IsTrue, if◌then◌else◌}
 use Rattle.std.specs.declared.option.Option.{Option}
 use Rattle.std.specs.declared.option.Option.TheVariants.{None, Some}
 use Rattle.std.specs.declared.result.Result.{Result}
@@ -21,7 +21,6 @@ use Rattle.uf_path.specs.declared.path.DagPath.{DagPath}
 use Rattle.uf_path.specs.declared.path.Path.{Path}
 use Rattle.uf_tree.specs.Profiles.{is_profile}
 use Rattle.uf_tree.specs.Tree.{Tree, File, Dir, Entries}
-use Rattle.uf_words.specs.Commands.{command_of}
 use Rattle.uf_words.specs.declared.command.Cmd.{Cmd}
 use Rattle.uf_words.specs.declared.command.Cmd.TheVariants as cmd
 use Rattle.uf_reply.specs.declared.types.Ask.{Ask}
@@ -139,16 +138,20 @@ asked (cmd.Export cid) = below_asked false (cid_reads cid)
 asked cmd.Import = Ok Import
 asked (cmd.Same cid) = below_asked true (cid_reads cid)
 asked (cmd.Gen n seed) = Ok (Gen n seed)
--- a batch is no command of one reply, and none of its lines asks for another
+-- a batch and a talk with a peer are no commands of one reply, and no line of a batch asks for one
 asked cmd.Batch = Err refusal.Usage
-
-abbrev pub asked_of : Option Cmd → Result Command Refusal
-asked_of None = Err refusal.Usage
-asked_of (Some cmd) = asked cmd
-
--- the command that words ask for: refused are first words that are none, and then texts that are no paths
-abbrev pub command_in : List (List ℕ) → Result Command Refusal
-command_in words = asked_of (command_of words)
+asked (cmd.Pull cid) = Err refusal.Usage
+asked cmd.Serve = Err refusal.Usage
+-- these are read, and don't stand yet
+asked (cmd.Chmod mode path) = Err refusal.Usage
+asked (cmd.Touch nanos seconds path) = Err refusal.Usage
+asked (cmd.Strip path) = Err refusal.Usage
+asked (cmd.PinAdd cid) = Err refusal.Usage
+asked (cmd.PinRm cid) = Err refusal.Usage
+asked cmd.PinLs = Err refusal.Usage
+asked cmd.Gc = Err refusal.Usage
+asked (cmd.Prove absent path) = Err refusal.Usage
+asked (cmd.Check absent cid path) = Err refusal.Usage
 
 -- the call answers as the words ask, or for want of memory
 abbrev pub IsAsked : {A : Type 0} → Result A Refusal → Result A Refusal → Type 0

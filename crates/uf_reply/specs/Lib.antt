@@ -6,5 +6,7 @@ pub mod Dags
 pub mod Kinds
 pub mod Lines
 pub mod Natures
+pub mod Peers
+pub mod Requests
 pub mod Statuses
 pub mod Telling

@@ -59,7 +59,18 @@ pub fn read_path(alloc: Global, cmd: Cmd) -> Result<Command, Refusal>
         Cmd::Import => Ok(Command::Import),
         Cmd::Same { cid } => read_below(alloc, &cid, true),
         Cmd::Gen { n, seed } => Ok(Command::Gen { n, seed }),
-        _ => Err(Refusal::Usage),
+        Cmd::Batch
+        | Cmd::Chmod { .. }
+        | Cmd::Touch { .. }
+        | Cmd::Strip { .. }
+        | Cmd::PinAdd { .. }
+        | Cmd::PinRm { .. }
+        | Cmd::PinLs
+        | Cmd::Gc
+        | Cmd::Prove { .. }
+        | Cmd::Check { .. }
+        | Cmd::Pull { .. }
+        | Cmd::Serve => Err(Refusal::Usage),
     }
 }
 
@@ -168,7 +179,7 @@ fn read_below(alloc: Global, cid: &Text, compared: bool) -> Result<Command, Refu
 }
 
 // The CID that a text is: a path in a DAG without names.
-fn read_cid(alloc: Global, text: &str) -> Result<Cid, PathFault>
+pub fn read_cid(alloc: Global, text: &str) -> Result<Cid, PathFault>
     ensures { ReadsAs result (cid_reads text.now) }
 {
     match DagPath::parse(alloc, text) {
@@ -311,7 +322,7 @@ fn ask_at(alloc: Global, ask: Ask, path: &Text) -> Result<Command, Refusal>
 }
 
 // Why a text is no path, as a refusal.
-fn bad_path(why: PathFault) -> Refusal
+pub fn bad_path(why: PathFault) -> Refusal
     ensures { result ≡ path_refusal why }
 {
     match why {

@@ -1,6 +1,6 @@
-// Batches, and what their lines ask for.
+// What the lines of a batch ask for.
 ghost use Rattle.std.specs.Prelude.{◌≡◌, map, string_bytes, IfOk, IfSome};
-ghost use Rattle.uf_reply.specs.Batches.{IsAcceptedAlone, IsAskedBy, IsRequested, asked_in_batch, is_for_batch, line_in};
+ghost use Rattle.uf_reply.specs.Batches.{IsAskedBy, asked_in_batch, is_for_batch, line_in};
 ghost use Rattle.uf_reply.specs.Commands.{IsAccepted, IsAsked};
 ghost use Rattle.uf_words.specs.Commands.{command_of};
 
@@ -9,34 +9,6 @@ use crate::{Command, Refusal};
 use std::alloc::Global;
 use uf_store::StoreFault;
 use uf_words::{Cmd, WordFault, read_words, split_line};
-
-/// What words ask for: the commands that the lines of the input ask for, or one, where it can be read.
-#[derive(Drop)]
-pub enum Request {
-    /// `batch`
-    Batch,
-    /// Any other words: their command, or why they ask for none.
-    One { asked: Result<Command, Refusal> },
-}
-
-/// What words ask for: their words are read first, and then the paths of a command.
-pub fn read_request(alloc: Global, words: &[String]) -> Request
-    ensures asked { IsRequested result (map string_bytes words.now) }
-    ensures profile { IsAcceptedAlone result }
-{
-    match read_words(alloc, words) {
-        Ok(Cmd::Batch) => Request::Batch,
-        Ok(cmd) => Request::One {
-            asked: read_path(alloc, cmd),
-        },
-        Err(WordFault::Usage) => Request::One {
-            asked: Err(Refusal::Usage),
-        },
-        Err(WordFault::Memory) => Request::One {
-            asked: Err(Refusal::Store(StoreFault::Memory)),
-        },
-    }
-}
 
 /// What a line of a batch asks for; nothing where it has no word. Refused are commands that read the input or write to the
 /// host, and those that have a store of their own.
@@ -72,7 +44,32 @@ fn suits_batch(cmd: &Cmd) -> bool
     match cmd {
         Cmd::Add { host_path, .. } => host_path.is_some(),
         Cmd::Write { hex, .. } => hex.is_some(),
-        Cmd::Get { .. } | Cmd::Import | Cmd::Same { .. } | Cmd::Batch | Cmd::Gen { .. } => false,
-        _ => true,
+        Cmd::Init { .. }
+        | Cmd::Cat { .. }
+        | Cmd::Mkdir { .. }
+        | Cmd::Ls { .. }
+        | Cmd::Stat { .. }
+        | Cmd::Read { .. }
+        | Cmd::Truncate { .. }
+        | Cmd::Cp { .. }
+        | Cmd::Mv { .. }
+        | Cmd::Rm { .. }
+        | Cmd::Chmod { .. }
+        | Cmd::Touch { .. }
+        | Cmd::Strip { .. }
+        | Cmd::Export { .. }
+        | Cmd::PinAdd { .. }
+        | Cmd::PinRm { .. }
+        | Cmd::PinLs
+        | Cmd::Prove { .. } => true,
+        Cmd::Get { .. }
+        | Cmd::Same { .. }
+        | Cmd::Import
+        | Cmd::Gc
+        | Cmd::Check { .. }
+        | Cmd::Pull { .. }
+        | Cmd::Serve
+        | Cmd::Batch
+        | Cmd::Gen { .. } => false,
     }
 }

@@ -118,7 +118,7 @@ pub(crate) fn dag_words(alloc: Global, rule: &DagRule) -> Result<Block, Memory>
 }
 
 // A word and a CID.
-fn with_cid(alloc: Global, word: &[u8], cid: &Cid) -> Result<Block, Memory>
+pub fn with_cid(alloc: Global, word: &[u8], cid: &Cid) -> Result<Block, Memory>
     ensures { IfOk result (λ b. b ≡ word.now ++ cid_text cid.now) }
 {
     let mut out = plain(alloc, word)?;

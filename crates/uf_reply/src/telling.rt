@@ -61,7 +61,7 @@ fn is_detailed(status: Status) -> bool
 }
 
 // The status, once a line went to `errors`.
-fn said<E: Sink>(status: Status, line: &[u8], errors: &mut E) -> Status
+pub fn said<E: Sink>(status: Status, line: &[u8], errors: &mut E) -> Status
     ensures status { result ≡ status }
     ensures sent { IsSent line.now (E.holds errors.old) (E.holds errors.new) (E.faults errors.old)
         (E.faults errors.new) }

@@ -176,3 +176,27 @@ pub enum Refusal {
     /// one first.
     OwnClash(Cid, Block, Block),
 }
+
+/// The rules by which a peer is refused.
+#[derive(Drop)]
+pub enum PeerRule {
+    /// `PeerLacks`: the peer lacks this block.
+    Lacks(Cid),
+    /// `PeerEnded`: its bytes ended before this block came.
+    Ended(Cid),
+    /// `PeerBad`: its frame that begins at this byte, counted from 0, deviates from the form.
+    Bad(u64),
+    /// `PeerNoise`: too many of its frames answered for nothing that was asked.
+    Noise,
+    /// `BadWant`: its line with this number, counted from 1, asks for nothing.
+    BadWant(u64),
+}
+
+/// Why a talk with a peer ended early.
+#[derive(Drop)]
+pub enum PeerRefusal {
+    /// A rule for peers.
+    Peer(PeerRule),
+    /// What other commands are refused for as well.
+    Other(Refusal),
+}

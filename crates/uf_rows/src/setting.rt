@@ -88,6 +88,15 @@ fn add_hex(alloc: Global, input: &mut Block, rest: &str) -> Result<(), Memory> {
     input.extend(bytes.as_slice())
 }
 
+// The input so far, so many times.
+fn add_times(alloc: Global, input: &mut Block, rest: &str) -> Result<(), Memory> {
+    let once = block_of(alloc, input.as_slice())?;
+    for _ in 1..number_of(rest) {
+        input.extend(once.as_slice())?;
+    }
+    Ok(())
+}
+
 // Another input; whether the word asks for one.
 fn set_input<X: BlockHash>(world: &mut World<X>, word: Word, rest: &str) -> Result<bool, Memory> {
     match word {
@@ -110,6 +119,7 @@ fn add_input(alloc: Global, input: &mut Block, word: Word, rest: &str) -> Result
         Word::Spaces => add_spaces(input, rest)?,
         Word::Hex => add_hex(alloc, input, rest)?,
         Word::Various => add_various(input, rest)?,
+        Word::Times => add_times(alloc, input, rest)?,
         _ => return Ok(false),
     }
     Ok(true)

@@ -12,6 +12,7 @@ pub enum Word {
     Spaces,
     Hex,
     Various,
+    Times,
     Pipe,
     // The streams of the commands that follow.
     Room,
@@ -51,7 +52,7 @@ pub enum Word {
     Batch,
 }
 
-const WORDS: [(&str, Word); 41] = [
+const WORDS: [(&str, Word); 42] = [
     ("input", Word::Input),
     ("zeros", Word::Zeros),
     ("text", Word::Text),
@@ -60,6 +61,7 @@ const WORDS: [(&str, Word); 41] = [
     ("spaces", Word::Spaces),
     ("hex", Word::Hex),
     ("various", Word::Various),
+    ("times", Word::Times),
     ("pipe", Word::Pipe),
     ("room", Word::Room),
     ("input-fails", Word::InputFails),

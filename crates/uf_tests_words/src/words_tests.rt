@@ -57,6 +57,17 @@ fn spelled(alloc: Global, cmd: &Cmd) -> Result<String, AllocError> {
         Cmd::Gen { n, seed } => format!(in alloc; "gen|{n}|{seed}"),
         Cmd::Export { cid } => with_text(alloc, "export", cid),
         Cmd::Same { cid } => with_text(alloc, "same", cid),
+        Cmd::PinAdd { cid } => with_text(alloc, "pin-add", cid),
+        Cmd::PinRm { cid } => with_text(alloc, "pin-rm", cid),
+        Cmd::PinLs => format!(in alloc; "pin-ls"),
+        Cmd::Gc => format!(in alloc; "gc"),
+        Cmd::Prove { absent, path } => with_flag(alloc, "prove", *absent, path),
+        Cmd::Check { absent, cid, path } => {
+            let (cid, path) = (cid.as_str(), path.as_str());
+            format!(in alloc; "check|{absent}|{cid}|{path}")
+        }
+        Cmd::Pull { cid } => with_text(alloc, "pull", cid),
+        Cmd::Serve => format!(in alloc; "serve"),
         cmd => spelled_of_files(alloc, cmd),
     }
 }
@@ -92,6 +103,19 @@ fn spelled_of_files(alloc: Global, cmd: &Cmd) -> Result<String, AllocError> {
         Cmd::Cp { source, dest } => with_texts(alloc, "cp", source, dest),
         Cmd::Mv { source, dest } => with_texts(alloc, "mv", source, dest),
         Cmd::Rm { recursive, path } => with_flag(alloc, "rm", *recursive, path),
+        Cmd::Chmod { mode, path } => {
+            let path = path.as_str();
+            format!(in alloc; "chmod|{mode}|{path}")
+        }
+        Cmd::Touch {
+            nanos,
+            seconds,
+            path,
+        } => {
+            let path = path.as_str();
+            format!(in alloc; "touch|{nanos}|{seconds}|{path}")
+        }
+        Cmd::Strip { path } => with_text(alloc, "strip", path),
         _ => format!(in alloc; "another"),
     }
 }

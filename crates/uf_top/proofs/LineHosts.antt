@@ -93,6 +93,17 @@ cmd-suits (cmd.Same cid) h = absurd cc
 cmd-suits cmd.Import h = absurd cc
 cmd-suits cmd.Batch h = absurd cc
 cmd-suits (cmd.Gen n seed) h = absurd cc
+cmd-suits (cmd.Chmod mode path) h = refused-suits refusal.Usage
+cmd-suits (cmd.Touch nanos seconds path) h = refused-suits refusal.Usage
+cmd-suits (cmd.Strip path) h = refused-suits refusal.Usage
+cmd-suits (cmd.PinAdd cid) h = refused-suits refusal.Usage
+cmd-suits (cmd.PinRm cid) h = refused-suits refusal.Usage
+cmd-suits cmd.PinLs h = refused-suits refusal.Usage
+cmd-suits cmd.Gc h = refused-suits refusal.Usage
+cmd-suits (cmd.Prove absent path) h = refused-suits refusal.Usage
+cmd-suits (cmd.Check absent cid path) h = refused-suits refusal.Usage
+cmd-suits (cmd.Pull cid) h = refused-suits refusal.Usage
+cmd-suits cmd.Serve h = refused-suits refusal.Usage
 
 in-batch-suits : (o : Option Cmd) → Suits (asked_in_batch o)
 in-batch-suits None = (refl, refl, refl)

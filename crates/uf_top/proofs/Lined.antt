@@ -7,7 +7,7 @@ use Rattle.uf_edge.specs.declared.streams.Sent.{Sent}
 use Rattle.uf_edge.specs.declared.streams.Sent.TheVariants.{Done, Failed}
 use Rattle.uf_lines.specs.LinesIn.{LinesIn, lines_in, with_lines}
 use Rattle.uf_lines.specs.Reading.{lines_told, with_line_told}
-use Rattle.uf_reply.proofs.Asked.{words-only}
+use Rattle.uf_reply.proofs.Asked.{cmd-only}
 use Rattle.uf_reply.specs.Batches.{IsAskedBy, asked_in_batch, is_for_batch, line_asks, line_in}
 use Rattle.uf_reply.specs.Commands.{IsOfWords, asked}
 use Rattle.uf_reply.specs.Natures.{NoStore}
@@ -29,7 +29,7 @@ use Rattle.uf_top.proofs.Serving.{words-spare}
 -- ---- words of a line
 
 in-batch : (c : Cmd) (b : Bool) → IsOfWords (if b then asked c else Err refusal.Usage)
-in-batch c true = words-only (Some c)
+in-batch c true = cmd-only c
 in-batch c false = refl
 
 in-batch-only : (o : Option Cmd) → IsOfWords (asked_in_batch o)

@@ -17,7 +17,7 @@ some-of X N most limit None = tt
 some-of X N most limit (Some bytes) = ((lines_in most limit bytes).lines, refl)
 
 module _ (Says : List ℕ → Type 0) (given : Status) (done : Result (Unit {0}) Refusal) where
-  wants : (done ≡ Err no_memory) ⊎ (done ≡ Err no_memory) → TellsEnd Says done given → TellsWhy Says no_memory given
+  pub wants : (done ≡ Err no_memory) ⊎ (done ≡ Err no_memory) → TellsEnd Says done given → TellsWhy Says no_memory given
   wants (inl is) t = subst (λ d. TellsEnd Says d given) is t
   wants (inr is) t = subst (λ d. TellsEnd Says d given) is t
 

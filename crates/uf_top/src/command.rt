@@ -2,21 +2,24 @@
 ghost use Rattle.std.specs.Prelude.{◌≡◌, ◌<◌, IfErr, IfOk, ℕ, true, false};
 ghost use Rattle.std.specs.declared.result.Result.{Result as TheResult};
 ghost use Rattle.std.specs.Prelude.{map, string_bytes};
+ghost use Rattle.uf_cid.specs.declared.cid.Cid.{Cid as TheCid};
 ghost use Rattle.uf_edge.specs.Streams.{Told};
 ghost use Rattle.uf_mfs.specs.Standing.{TellsAs};
 ghost use Rattle.uf_tree.specs.Standing.{Standing};
 ghost use Rattle.uf_top.specs.Cars.{ByOwnStore};
 ghost use Rattle.uf_reply.specs.Telling.{IsSent};
-ghost use Rattle.uf_reply.specs.Batches.{asks_batch};
-ghost use Rattle.uf_reply.specs.Commands.{IsAccepted, IsAsked, IsOfWords, command_in, of_command};
+ghost use Rattle.uf_reply.specs.Commands.{IsAccepted, IsAsked, IsOfWords, of_command};
 ghost use Rattle.uf_reply.specs.Kinds.{IsOf};
 ghost use Rattle.uf_reply.specs.Natures.{IsOfCommand, NoStore, generates, may_end, own_store};
 ghost use Rattle.uf_reply.specs.Natures.{reads_input, reads_tree_alone, streams as flows, touches_nothing, uses_host};
+ghost use Rattle.uf_reply.specs.Requests.{request_in};
+ghost use Rattle.uf_reply.specs.declared.requests.Request.TheVariants as requests;
 ghost use Rattle.uf_reply.specs.declared.types.Command.{Command as TheCommand};
 ghost use Rattle.uf_reply.specs.declared.types.Refusal.{Refusal as TheRefusal};
 ghost use Rattle.uf_top.specs.Around.{around, host_side};
 ghost use Rattle.uf_top.specs.Batch.{Batches, scene};
 ghost use Rattle.uf_top.specs.Running.{Runs};
+ghost use Rattle.uf_top.specs.Talking.{RunsPull, RunsServe};
 ghost use Rattle.uf_top.specs.Working.{Does, MakesText, Serves};
 
 use crate::adding::adds;
@@ -36,8 +39,18 @@ use std::sync::ledger::Ledger;
 use uf_cid::Block;
 use uf_edge::{Host, Sink, Source};
 use uf_murmur::NameHash;
-use uf_reply::{Command, Refusal, Request, Status, print, read_request, tell_end};
+use uf_pull::{pull, serve as serve_peer};
+use uf_reply::{
+    Command, Refusal, Request, Status, print, pull_end, read_request, serve_end, tell_end,
+    tell_talk,
+};
 use uf_store::{Steps, Store};
+
+// A DAG is pulled up to so many CIDs.
+const MOST_PULLED: u32 = 16777216;
+
+// And so many bytes of a peer's lines are read.
+const MOST_OF_WANTS: u64 = 1073741824;
 
 /// Does one command, which the words after the program's name say.
 ///
@@ -46,7 +59,7 @@ use uf_store::{Steps, Store};
 /// file (UnixFS v1; Kubo's balanced layout with raw leaves), or those of a file of the host or of a folder and
 /// everything in it, and, without `-n`, keeps their blocks, and with `--to-files` puts them into the tree; `cat` prints
 /// a file of a DAG, and `get` writes what is in one to the host; `gen` makes a tree on stores of its own and says its
-/// root. Refused are first words that are none, then texts that are no paths, then a Head that doesn't do, then an
+/// root; `pull` fetches what is below a CID from a peer, and `serve` is one. Refused are first words that are none, then texts that are no paths, then a Head that doesn't do, then an
 /// input that is too long, and then what the rules of the command refuse. The status says how the command ended; after
 /// a refusal its line goes to `errors`, and a failed write of that line changes no status.
 pub fn run<S: Store, N: NameHash, W: Host, I: Source, O: Sink, E: Sink, L: Ledger>(
@@ -59,18 +72,19 @@ pub fn run<S: Store, N: NameHash, W: Host, I: Source, O: Sink, E: Sink, L: Ledge
     errors: &mut E,
     touches: &mut Steps<L>,
 ) -> Status
-    // Of every command but `batch`: the answer, the cause of each answer, what is printed, and what is left. Each fact
-    // is a field of its own.
-    ensures runs { asks_batch (map string_bytes words.now) ≡ false
+    // Of one command: the answer, the cause of each answer, what is printed, and what is left. Each fact is a field of
+    // its own.
+    ensures runs { (asked : TheResult TheCommand TheRefusal)
+        → request_in (map string_bytes words.now) ≡ requests.One asked
         → Runs (λ line. IsSent line (E.holds errors.old) (E.holds errors.new) (E.faults errors.old)
-        (E.faults errors.new)) S.X.block32 N.name64 (command_in (map string_bytes words.now)) result
+        (E.faults errors.new)) S.X.block32 N.name64 asked result
         (around (S.seen store.old) (I.left input.old) (I.faults input.old) (O.holds output.old) (O.faults output.old)
         touches.old (host_side (W.tree host.old) (W.read_faults host.old) (W.write_faults host.old)))
         (around (S.seen store.new) (I.left input.new) (I.faults input.new) (O.holds output.new) (O.faults output.new)
         touches.new (host_side (W.tree host.new) (W.read_faults host.new) (W.write_faults host.new))) }
 
-    // Of `batch`: every line that has a word did what is said of a command, one after the other.
-    ensures batch { asks_batch (map string_bytes words.now) ≡ true
+    // Of `batch`: every line that has a word did what was said of a command, one after the other.
+    ensures batch { request_in (map string_bytes words.now) ≡ requests.Batch
         → Batches S.X.block32 N.name64 MOST_OF_LINE MOST_OF_BATCH result
         (scene (S.seen store.old) (O.holds output.old) (O.faults output.old) touches.old
         (host_side (W.tree host.old) (W.read_faults host.old) (W.write_faults host.old)) (E.holds errors.old)
@@ -80,21 +94,42 @@ pub fn run<S: Store, N: NameHash, W: Host, I: Source, O: Sink, E: Sink, L: Ledge
         (E.faults errors.new))
         (I.left input.old) (I.left input.new) (I.faults input.old) (I.faults input.new) }
 
+    // Of `pull`: what is due over the peer's bytes was asked for and kept, and the tree stands as before.
+    ensures pull { (cid : TheCid) → request_in (map string_bytes words.now) ≡ requests.Pull cid
+        → RunsPull (λ line. IsSent line (E.holds errors.old) (E.holds errors.new) (E.faults errors.old)
+        (E.faults errors.new)) S.X.block32 N.name64 cid result
+        (around (S.seen store.old) (I.left input.old) (I.faults input.old) (O.holds output.old) (O.faults output.old)
+        touches.old (host_side (W.tree host.old) (W.read_faults host.old) (W.write_faults host.old)))
+        (around (S.seen store.new) (I.left input.new) (I.faults input.new) (O.holds output.new) (O.faults output.new)
+        touches.new (host_side (W.tree host.new) (W.read_faults host.new) (W.write_faults host.new))) }
+
+    // Of `serve`: each line of the peer that asks for a block was answered by one frame, and nothing was kept.
+    ensures serve { request_in (map string_bytes words.now) ≡ requests.Serve
+        → RunsServe (λ line. IsSent line (E.holds errors.old) (E.holds errors.new) (E.faults errors.old)
+        (E.faults errors.new)) S.X.block32 N.name64 result
+        (around (S.seen store.old) (I.left input.old) (I.faults input.old) (O.holds output.old) (O.faults output.old)
+        touches.old (host_side (W.tree host.old) (W.read_faults host.old) (W.write_faults host.old)))
+        (around (S.seen store.new) (I.left input.new) (I.faults input.new) (O.holds output.new) (O.faults output.new)
+        touches.new (host_side (W.tree host.new) (W.read_faults host.new) (W.write_faults host.new))) }
+
     // Equal roots mean equal trees: what the store tells stands for one tree at most.
     ensures one { (standing other : Standing) → TellsAs S.X.block32 N.name64 (S.seen store.new).told standing
         → TellsAs S.X.block32 N.name64 (S.seen store.new).told other → standing ≡ other }
 
     // Refused words do nothing to the store, nor does a command that works on stores of its own; a command that doesn't
     // use the input or the host leaves it as it was; and `add -n` and `gen` make no touch.
-    ensures left { asks_batch (map string_bytes words.now) ≡ false
-        → of_command generates true (command_in (map string_bytes words.now)) ≡ true → store.new ≡ store.old }
-    ensures input { asks_batch (map string_bytes words.now) ≡ false
-        → of_command reads_input false (command_in (map string_bytes words.now)) ≡ false → input.new ≡ input.old }
-    ensures host { asks_batch (map string_bytes words.now) ≡ false
-        → of_command uses_host false (command_in (map string_bytes words.now)) ≡ false → host.new ≡ host.old }
-    ensures untouched { asks_batch (map string_bytes words.now) ≡ false
-        → of_command touches_nothing true (command_in (map string_bytes words.now)) ≡ true
-        → touches.new ≡ touches.old }
+    ensures left { (asked : TheResult TheCommand TheRefusal)
+        → request_in (map string_bytes words.now) ≡ requests.One asked
+        → of_command generates true asked ≡ true → store.new ≡ store.old }
+    ensures input { (asked : TheResult TheCommand TheRefusal)
+        → request_in (map string_bytes words.now) ≡ requests.One asked
+        → of_command reads_input false asked ≡ false → input.new ≡ input.old }
+    ensures host { (asked : TheResult TheCommand TheRefusal)
+        → request_in (map string_bytes words.now) ≡ requests.One asked
+        → of_command uses_host false asked ≡ false → host.new ≡ host.old }
+    ensures untouched { (asked : TheResult TheCommand TheRefusal)
+        → request_in (map string_bytes words.now) ≡ requests.One asked
+        → of_command touches_nothing true asked ≡ true → touches.new ≡ touches.old }
 {
     match read_request(alloc, words) {
         Request::Batch => batch::<S, N, W, I, O, E, L>(
@@ -107,6 +142,14 @@ pub fn run<S: Store, N: NameHash, W: Host, I: Source, O: Sink, E: Sink, L: Ledge
             errors,
             touches,
         ),
+        Request::Pull { cid } => {
+            let done = pull(alloc, store, &cid, MOST_PULLED, input, output, touches);
+            tell_talk(alloc, pull_end(done), errors)
+        }
+        Request::Serve => {
+            let done = serve_peer(alloc, store, MOST_OF_WANTS, input, output, touches);
+            tell_talk(alloc, serve_end(done), errors)
+        }
         Request::One { asked } => {
             let done = serve::<S, N, W, I, O, L>(alloc, asked, store, host, input, output, touches);
             tell_end(alloc, done, errors)

@@ -1,6 +1,6 @@
 -- Which command a list of words is: the first words are compared exactly, and behind them stand the options and
 -- arguments of the command, as `clap` reads them.
-use Rattle.std.specs.Prelude.{◌≡◌, ◌≤◌, ◌&&◌, ◌||◌, ℕ, Bool, true, not, List, [], ◌∷◌, ◌++◌, codes, nat_le, if◌then◌else◌, IsTrue, is_some, unwrap_or, slice_index, length, ◌-◌}
+use Rattle.std.specs.Prelude.{◌≡◌, ◌≤◌, ◌&&◌, ◌||◌, ℕ, Bool, true, not, List, [], ◌∷◌, ◌++◌, codes, ◌^◌, nat_le, nat_lt, if◌then◌else◌, IsTrue, is_some, unwrap_or, slice_index, length, ◌-◌}
 use Rattle.std.specs.Str.{bytes_eq}
 use Rattle.std.specs.Option.{option_map, option_and_then}
 use Rattle.std.specs.declared.option.Option.{Option}
@@ -13,7 +13,7 @@ use Rattle.hex.specs.Hex.{decode_of}
 use Rattle.uf_path.specs.Paths.{is_slash}
 use Rattle.uf_tree.specs.Profiles.{is_profile}
 use Rattle.uf_tree.specs.declared.profile.Profile.{Profile}
-use Rattle.uf_words.specs.Options.{argument, flag, found_by, found_in, is_flagged, simple_command, numeral_value, number_or, optional_argument, valued, valued_short}
+use Rattle.uf_words.specs.Options.{argument, flag, found_by, found_in, is_flagged, long_flag, mode_value, simple_command, numeral_value, number_or, optional_argument, valued, valued_short}
 use Rattle.uf_words.specs.declared.command.Cmd.{Cmd}
 use Rattle.uf_words.specs.declared.command.Cmd.TheVariants as cmd
 use Rattle.uf_words.specs.declared.command.WordFault.{WordFault}
@@ -149,6 +149,50 @@ gen_words words = do
   seed ← numeral_value given.1
   only_where (nat_le n 20000) (cmd.Gen n seed)
 
+-- `files chmod MODE PATH`
+unfoldable pub chmod_words : List (List ℕ) → Option Cmd
+chmod_words words = do
+  given ← two_arguments (codes "MODE") (codes "PATH") words
+  mode ← mode_value given.0
+  Some (cmd.Chmod mode given.1)
+
+-- `files touch`: at most 999999999 nanoseconds, and none where there are 0, and fewer than 2 ^ 63 seconds
+unfoldable pub touch_options : App
+touch_options = simple_command (valued (codes "nanos") ∷ argument (codes "SECONDS") ∷ argument (codes "PATH") ∷ [])
+
+abbrev pub touch_of : (nanos seconds : ℕ) → List ℕ → Option Cmd
+touch_of nanos seconds path =
+    only_where (nat_le nanos 999999999 && nat_lt seconds (2 ^ 63)) (cmd.Touch nanos seconds path)
+
+unfoldable pub touch_words : List (List ℕ) → Option Cmd
+touch_words words = do
+  found ← found_by touch_options words
+  nanos ← number_or 0 (first_of (codes "nanos") found)
+  seconds ← first_of (codes "SECONDS") found >>= numeral_value
+  path ← first_of (codes "PATH") found
+  touch_of nanos seconds path
+
+-- `prove`
+unfoldable pub prove_options : App
+prove_options = simple_command (long_flag (codes "absent") ∷ argument (codes "PATH") ∷ [])
+
+unfoldable pub prove_words : List (List ℕ) → Option Cmd
+prove_words words = do
+  found ← found_by prove_options words
+  path ← first_of (codes "PATH") found
+  Some (cmd.Prove (is_flagged (codes "absent") found) path)
+
+-- `check`
+unfoldable pub check_options : App
+check_options = simple_command (long_flag (codes "absent") ∷ argument (codes "CID") ∷ argument (codes "PATH") ∷ [])
+
+unfoldable pub check_words : List (List ℕ) → Option Cmd
+check_words words = do
+  found ← found_by check_options words
+  cid ← first_of (codes "CID") found
+  path ← first_of (codes "PATH") found
+  Some (cmd.Check (is_flagged (codes "absent") found) cid path)
+
 -- no options and no arguments
 unfoldable pub bare : List (List ℕ) → Option (Unit {0})
 bare words = option_map (λ found. tt) (found_in [] words)
@@ -170,6 +214,9 @@ files_words (name ∷ rest) =
     option_map (λ given. cmd.Mv given.0 given.1) (two_arguments (codes "SOURCE") (codes "DEST") rest)
     else if bytes_eq name (codes "rm") then
     option_map (λ given. cmd.Rm given.0 given.1) (flag_and_argument (codes "recursive") 114 (codes "PATH") rest)
+    else if bytes_eq name (codes "chmod") then chmod_words rest
+    else if bytes_eq name (codes "touch") then touch_words rest
+    else if bytes_eq name (codes "strip") then option_map (λ path. cmd.Strip path) (one_argument (codes "PATH") rest)
     else None
 
 -- the commands of the group `dag`
@@ -179,6 +226,30 @@ dag_words (name ∷ rest) =
     if bytes_eq name (codes "export") then option_map (λ cid. cmd.Export cid) (one_argument (codes "CID") rest)
     else if bytes_eq name (codes "import") then option_map (λ nothing. cmd.Import) (bare rest)
     else if bytes_eq name (codes "same") then option_map (λ cid. cmd.Same cid) (one_argument (codes "CID") rest)
+    else None
+
+-- the commands of the group `pin`
+unfoldable pub pin_words : List (List ℕ) → Option Cmd
+pin_words [] = None
+pin_words (name ∷ rest) =
+    if bytes_eq name (codes "add") then option_map (λ cid. cmd.PinAdd cid) (one_argument (codes "CID") rest)
+    else if bytes_eq name (codes "rm") then option_map (λ cid. cmd.PinRm cid) (one_argument (codes "CID") rest)
+    else if bytes_eq name (codes "ls") then option_map (λ nothing. cmd.PinLs) (bare rest)
+    else None
+
+-- the commands of the group `repo`
+unfoldable pub repo_words : List (List ℕ) → Option Cmd
+repo_words [] = None
+repo_words (name ∷ rest) =
+    if bytes_eq name (codes "gc") then option_map (λ nothing. cmd.Gc) (bare rest) else None
+
+-- the commands that prove and check what a path has, and those that speak with a peer
+unfoldable pub other_words : List ℕ → List (List ℕ) → Option Cmd
+other_words name rest =
+    if bytes_eq name (codes "prove") then prove_words rest
+    else if bytes_eq name (codes "check") then check_words rest
+    else if bytes_eq name (codes "pull") then option_map (λ cid. cmd.Pull cid) (one_argument (codes "CID") rest)
+    else if bytes_eq name (codes "serve") then option_map (λ nothing. cmd.Serve) (bare rest)
     else None
 
 -- the command that the words are
@@ -194,7 +265,9 @@ command_of (name ∷ rest) =
     else if bytes_eq name (codes "dag") then dag_words rest
     else if bytes_eq name (codes "batch") then option_map (λ nothing. cmd.Batch) (bare rest)
     else if bytes_eq name (codes "gen") then gen_words rest
-    else None
+    else if bytes_eq name (codes "pin") then pin_words rest
+    else if bytes_eq name (codes "repo") then repo_words rest
+    else other_words name rest
 
 -- the profile of an `init` is accepted, and `gen` makes at most 20000 files; no other command has a limit
 abbrev pub IsWithinLimits : Cmd → Type 0

@@ -21,6 +21,10 @@ use Rattle.clap.specs.Faults.{fault_of}
 abbrev pub flag : List ℕ → ℕ → Rule
 flag name letter = record (new_rule name) { long = Some name; short = Some letter; action = Some SetTrue }
 
+-- a flag, by its name alone
+abbrev pub long_flag : List ℕ → Rule
+long_flag name = record (new_rule name) { long = Some name; action = Some SetTrue }
+
 -- an option with a value, by its name alone
 abbrev pub valued : List ℕ → Rule
 valued name = record (new_rule name) { long = Some name; action = Some Set }
@@ -75,6 +79,23 @@ is_numeral word = nat_le 1 (length word) && nat_le (length word) 20 && list_all 
 unfoldable pub numeral_value : List ℕ → Option ℕ
 numeral_value word =
     if is_numeral word && nat_lt (decimal_from 0 word) (2 ^ 64) then Some (decimal_from 0 word) else None
+
+-- the byte is an octal digit
+abbrev pub is_octal_digit : ℕ → Bool
+is_octal_digit b = nat_le 48 b && nat_le b 55
+
+-- the number that octal digits stand for, behind the number `n` of the digits before them
+abbrev pub octal_from : ℕ → List ℕ → ℕ
+octal_from n [] = n
+octal_from n (digit ∷ digits) = octal_from (n * 8 + (digit - 48)) digits
+
+-- the word has one to four bytes, all octal digits
+abbrev pub is_mode : List ℕ → Bool
+is_mode word = nat_le 1 (length word) && nat_le (length word) 4 && list_all is_octal_digit word
+
+-- the number of a word of one to four octal digits
+unfoldable pub mode_value : List ℕ → Option ℕ
+mode_value word = if is_mode word then Some (octal_from 0 word) else None
 
 -- the number of a value, or the one that stands for none
 abbrev pub number_or : ℕ → Option (List ℕ) → Option ℕ

@@ -1,6 +1,6 @@
 // Options, arguments and numbers in the words of a command, read by the crate `clap`.
-ghost use Rattle.std.specs.Prelude.{◌≡◌, [], true, false, map, string_bytes, IfOk};
-ghost use Rattle.std.specs.Option.{option_map};
+ghost use Rattle.std.specs.Prelude.{◌≡◌, ◌<◌, ◌+◌, ◌-◌, ◌*◌, ◌^◌, [], true, false, map, string_bytes, IfOk};
+ghost use Rattle.std.specs.Option.{option_and_then, option_map};
 ghost use Rattle.std.specs.List.{list_all};
 ghost use Rattle.std.specs.Char.{is_ascii_digit};
 ghost use Rattle.clap.specs.Walk.{first_of, rows_of, rule_of};
@@ -8,7 +8,7 @@ ghost use Rattle.clap.specs.Matches.{found_of};
 ghost use Rattle.clap.specs.Simple.{app_of, with_rule};
 ghost use Rattle.clap.specs.Faults.{is_simple_and_free};
 ghost use Rattle.uf_words.specs.Commands.{ReadsWords};
-ghost use Rattle.uf_words.specs.Options.{FindsIn, argument, flag, found_by, is_flagged, is_numeral, numeral_value, number_or, optional_argument, simple_command, valued, valued_short};
+ghost use Rattle.uf_words.specs.Options.{FindsIn, argument, flag, found_by, is_flagged, is_mode, is_numeral, is_octal_digit, long_flag, mode_value, numeral_value, number_or, optional_argument, simple_command, valued, valued_short};
 
 use crate::WordFault;
 use clap::error::ErrorKind;
@@ -42,6 +42,14 @@ pub fn flag_arg<'a>(alloc: Global, name: &'a str, letter: char) -> Arg<'a>
         .long(name)
         .short(letter)
         .action(ArgAction::SetTrue)
+}
+
+// A flag, by its name alone.
+pub fn long_flag_arg<'a>(alloc: Global, name: &'a str) -> Arg<'a>
+    ensures rule { rule_of result ≡ long_flag name.entry.now }
+    ensures own { result.global ≡ false }
+{
+    Arg::new(alloc, name).long(name).action(ArgAction::SetTrue)
 }
 
 // An option with a value, by its name alone.
@@ -150,6 +158,16 @@ pub fn number_in(found: &ArgMatches<'_>, name: &str, absent: u64) -> Result<u64,
     }
 }
 
+// The number of the value, which has to be there.
+pub fn number_of(found: &ArgMatches<'_>, name: &str) -> Result<u64, WordFault>
+    ensures { ReadsWords result (option_and_then numeral_value (first_of name.now (rows_of (found_of found.now)))) }
+{
+    match value_of(found, name) {
+        Some(value) => number(value),
+        None => Err(WordFault::Usage),
+    }
+}
+
 // The number of a word of 1 to 20 decimal digits.
 #[tactic(auto, unfolding(crate::specs::Options::numeral_value))]
 pub fn number(word: &str) -> Result<u64, WordFault>
@@ -162,6 +180,45 @@ pub fn number(word: &str) -> Result<u64, WordFault>
         Ok(value) => Ok(value),
         Err(_) => Err(WordFault::Usage),
     }
+}
+
+// The number of a word of one to four octal digits.
+#[tactic(auto, unfolding(crate::specs::Options::mode_value))]
+pub fn mode(word: &str) -> Result<u64, WordFault>
+    ensures { ReadsWords result (mode_value word.now) }
+{
+    if !is_mode_text(word) {
+        return Err(WordFault::Usage);
+    }
+    match word.as_bytes() {
+        [a] => Ok(octal(0, *a)),
+        [a, b] => Ok(octal(octal(0, *a), *b)),
+        [a, b, c] => Ok(octal(octal(octal(0, *a), *b), *c)),
+        [a, b, c, d] => Ok(octal(octal(octal(octal(0, *a), *b), *c), *d)),
+        _ => unreachable!(),
+    }
+}
+
+// The number of some octal digits and one more.
+fn octal(number: u64, digit: u8) -> u64
+    requires { number < 2 ^ 32 }
+    ensures { result ≡ number * 8 + (digit - 48) }
+{
+    number * 8 + u64::from(digit.saturating_sub(b'0'))
+}
+
+// Whether the word has one to four bytes, all octal digits.
+fn is_mode_text(word: &str) -> bool
+    ensures { result ≡ is_mode word.now }
+{
+    !word.is_empty() && word.len() <= 4 && is_octal(word.as_bytes())
+}
+
+// Whether all bytes are octal digits.
+fn is_octal(bytes: &[u8]) -> bool
+    ensures { result ≡ list_all is_octal_digit bytes.now }
+{
+    bytes.iter().all(|byte| (b'0'..=b'7').contains(byte))
 }
 
 // Whether the word has 1 to 20 bytes, all decimal digits.

@@ -2,15 +2,16 @@
 ghost use Rattle.std.specs.Prelude.{◌≡◌, [], map, string_bytes, IfOk};
 ghost use Rattle.clap.specs.Matches.{found_of};
 ghost use Rattle.clap.specs.Walk.{rows_of, first_of};
-ghost use Rattle.uf_words.specs.Commands.{IsWithinLimits, ReadsWords, add_of, add_words, bare, bytes_or_none, command_of, dag_words, decoded_hex, ends_with_slash, files_words, flag_and_argument, gen_words, init_of, init_words, ls_words, one_argument, places_well, read_words_of, truncate_words, two_arguments, write_words_of};
+ghost use Rattle.uf_words.specs.Commands.{IsWithinLimits, ReadsWords, add_of, add_words, bare, bytes_or_none, check_words, chmod_words, command_of, dag_words, decoded_hex, ends_with_slash, files_words, flag_and_argument, gen_words, init_of, init_words, ls_words, one_argument, other_words, pin_words, places_well, prove_words, read_words_of, repo_words, touch_words, truncate_words, two_arguments, write_words_of};
 ghost use Rattle.uf_words.specs.Options.{found_in};
 
 use crate::options::{
-    bare_command, find, is_given, number, number_in, owned, text_of, text_or_none, value_of,
+    bare_command, find, is_given, mode, number, number_in, number_of, owned, text_of, text_or_none,
+    value_of,
 };
 use crate::table::{
-    add_command, flagged_command, init_command, ls_command, one_argument_command, read_command,
-    two_arguments_command, write_command,
+    add_command, check_command, flagged_command, init_command, ls_command, one_argument_command,
+    prove_command, read_command, touch_command, two_arguments_command, write_command,
 };
 use crate::{Cmd, WordFault};
 use clap::ArgMatches;
@@ -49,8 +50,12 @@ pub fn read_words(alloc: Global, words: &[String]) -> Result<Cmd, WordFault>
         Ok(Cmd::Batch)
     } else if name == "gen" {
         read_gen(alloc, rest)
+    } else if name == "pin" {
+        read_pin(alloc, rest)
+    } else if name == "repo" {
+        read_repo(alloc, rest)
     } else {
-        Err(WordFault::Usage)
+        read_other(alloc, name, rest)
     }
 }
 
@@ -87,6 +92,13 @@ fn read_files(alloc: Global, words: &[String]) -> Result<Cmd, WordFault>
     } else if name == "rm" {
         let (recursive, path) = read_flagged(alloc, "recursive", 'r', "PATH", rest)?;
         Ok(Cmd::Rm { recursive, path })
+    } else if name == "chmod" {
+        read_chmod(alloc, rest)
+    } else if name == "touch" {
+        read_touch(alloc, rest)
+    } else if name == "strip" {
+        let path = read_argument(alloc, "PATH", rest)?;
+        Ok(Cmd::Strip { path })
     } else {
         Err(WordFault::Usage)
     }
@@ -111,6 +123,68 @@ fn read_dag(alloc: Global, words: &[String]) -> Result<Cmd, WordFault>
     } else if name == "same" {
         let cid = read_argument(alloc, "CID", rest)?;
         Ok(Cmd::Same { cid })
+    } else {
+        Err(WordFault::Usage)
+    }
+}
+
+// A command of the group `pin`.
+#[tactic(auto, unfolding(crate::specs::Commands::pin_words))]
+fn read_pin(alloc: Global, words: &[String]) -> Result<Cmd, WordFault>
+    ensures exact { ReadsWords result (pin_words (map string_bytes words.now)) }
+    ensures limits { IfOk result IsWithinLimits }
+{
+    let [first, rest @ ..] = words else {
+        return Err(WordFault::Usage);
+    };
+    let name = first.as_str();
+    if name == "add" {
+        let cid = read_argument(alloc, "CID", rest)?;
+        Ok(Cmd::PinAdd { cid })
+    } else if name == "rm" {
+        let cid = read_argument(alloc, "CID", rest)?;
+        Ok(Cmd::PinRm { cid })
+    } else if name == "ls" {
+        read_bare(alloc, rest)?;
+        Ok(Cmd::PinLs)
+    } else {
+        Err(WordFault::Usage)
+    }
+}
+
+// A command of the group `repo`.
+#[tactic(auto, unfolding(crate::specs::Commands::repo_words))]
+fn read_repo(alloc: Global, words: &[String]) -> Result<Cmd, WordFault>
+    ensures exact { ReadsWords result (repo_words (map string_bytes words.now)) }
+    ensures limits { IfOk result IsWithinLimits }
+{
+    let [first, rest @ ..] = words else {
+        return Err(WordFault::Usage);
+    };
+    if first.as_str() == "gc" {
+        read_bare(alloc, rest)?;
+        Ok(Cmd::Gc)
+    } else {
+        Err(WordFault::Usage)
+    }
+}
+
+// A command that proves or checks what a path has, or one that speaks with a peer.
+#[tactic(auto, unfolding(crate::specs::Commands::other_words))]
+fn read_other(alloc: Global, name: &str, words: &[String]) -> Result<Cmd, WordFault>
+    ensures exact { ReadsWords result (other_words name.now (map string_bytes words.now)) }
+    ensures limits { IfOk result IsWithinLimits }
+{
+    if name == "prove" {
+        read_prove(alloc, words)
+    } else if name == "check" {
+        read_check(alloc, words)
+    } else if name == "pull" {
+        let cid = read_argument(alloc, "CID", words)?;
+        Ok(Cmd::Pull { cid })
+    } else if name == "serve" {
+        read_bare(alloc, words)?;
+        Ok(Cmd::Serve)
     } else {
         Err(WordFault::Usage)
     }
@@ -287,6 +361,67 @@ fn read_truncate(alloc: Global, words: &[String]) -> Result<Cmd, WordFault>
     let (path, length) = read_arguments(alloc, "PATH", "LENGTH", words)?;
     let length = number(length.as_str())?;
     Ok(Cmd::Truncate { path, length })
+}
+
+// `files chmod MODE PATH`
+#[tactic(auto, unfolding(crate::specs::Commands::chmod_words))]
+fn read_chmod(alloc: Global, words: &[String]) -> Result<Cmd, WordFault>
+    ensures exact { ReadsWords result (chmod_words (map string_bytes words.now)) }
+    ensures limits { IfOk result IsWithinLimits }
+{
+    let (digits, path) = read_arguments(alloc, "MODE", "PATH", words)?;
+    let mode = mode(digits.as_str())?;
+    Ok(Cmd::Chmod { mode, path })
+}
+
+// `files touch [--nanos N] SECONDS PATH`
+#[tactic(auto, unfolding(crate::specs::Commands::touch_words))]
+fn read_touch(alloc: Global, words: &[String]) -> Result<Cmd, WordFault>
+    ensures exact { ReadsWords result (touch_words (map string_bytes words.now)) }
+    ensures limits { IfOk result IsWithinLimits }
+{
+    let found = find(touch_command(alloc)?, words)?;
+    let nanos = number_in(&found, "nanos", 0)?;
+    let seconds = number_of(&found, "SECONDS")?;
+    let path = text_of(alloc, &found, "PATH")?;
+    if nanos > 999999999 || seconds >= 1 << 63 {
+        return Err(WordFault::Usage);
+    }
+    Ok(Cmd::Touch {
+        nanos,
+        seconds,
+        path,
+    })
+}
+
+// `prove [--absent] PATH`
+#[tactic(auto, unfolding(crate::specs::Commands::prove_words))]
+fn read_prove(alloc: Global, words: &[String]) -> Result<Cmd, WordFault>
+    ensures exact { ReadsWords result (prove_words (map string_bytes words.now)) }
+    ensures limits { IfOk result IsWithinLimits }
+{
+    let found = find(prove_command(alloc)?, words)?;
+    let path = text_of(alloc, &found, "PATH")?;
+    Ok(Cmd::Prove {
+        absent: is_given(&found, "absent"),
+        path,
+    })
+}
+
+// `check [--absent] CID PATH`
+#[tactic(auto, unfolding(crate::specs::Commands::check_words))]
+fn read_check(alloc: Global, words: &[String]) -> Result<Cmd, WordFault>
+    ensures exact { ReadsWords result (check_words (map string_bytes words.now)) }
+    ensures limits { IfOk result IsWithinLimits }
+{
+    let found = find(check_command(alloc)?, words)?;
+    let cid = text_of(alloc, &found, "CID")?;
+    let path = text_of(alloc, &found, "PATH")?;
+    Ok(Cmd::Check {
+        absent: is_given(&found, "absent"),
+        cid,
+        path,
+    })
 }
 
 // `gen N SEED`

@@ -2,11 +2,12 @@
 ghost use Rattle.std.specs.Prelude.{◌≡◌, [], ◌∷◌, true, IfOk};
 ghost use Rattle.clap.specs.Faults.{is_simple_and_free};
 ghost use Rattle.clap.specs.Simple.{app_of};
-ghost use Rattle.uf_words.specs.Commands.{add_options, init_options, ls_options, read_options, write_options, write_place};
+ghost use Rattle.uf_words.specs.Commands.{add_options, check_options, init_options, ls_options, prove_options, read_options, touch_options, write_options, write_place};
 ghost use Rattle.uf_words.specs.Options.{argument, flag, simple_command};
 
 use crate::options::{
-    argument_arg, bare_command, flag_arg, optional_arg, valued_arg, valued_short_arg, with,
+    argument_arg, bare_command, flag_arg, long_flag_arg, optional_arg, valued_arg,
+    valued_short_arg, with,
 };
 use clap::Command;
 use std::alloc::{AllocError, Global};
@@ -75,6 +76,38 @@ fn write_place_command<'a>(alloc: Global) -> Result<Command<'a>, AllocError>
     let command = with(bare_command(alloc), valued_short_arg(alloc, "offset", 'o'))?;
     let command = with(command, flag_arg(alloc, "create", 'e'))?;
     with(command, flag_arg(alloc, "truncate", 't'))
+}
+
+// The option and the arguments of `files touch`.
+#[tactic(auto, unfolding(crate::specs::Commands::touch_options))]
+pub fn touch_command<'a>(alloc: Global) -> Result<Command<'a>, AllocError>
+    ensures made { IfOk result (λ command. app_of command ≡ touch_options) }
+    ensures simple { IfOk result (λ command. is_simple_and_free (app_of command) ≡ true) }
+{
+    let command = with(bare_command(alloc), valued_arg(alloc, "nanos"))?;
+    let command = with(command, argument_arg(alloc, "SECONDS"))?;
+    with(command, argument_arg(alloc, "PATH"))
+}
+
+// The flag and the argument of `prove`.
+#[tactic(auto, unfolding(crate::specs::Commands::prove_options))]
+pub fn prove_command<'a>(alloc: Global) -> Result<Command<'a>, AllocError>
+    ensures made { IfOk result (λ command. app_of command ≡ prove_options) }
+    ensures simple { IfOk result (λ command. is_simple_and_free (app_of command) ≡ true) }
+{
+    let command = with(bare_command(alloc), long_flag_arg(alloc, "absent"))?;
+    with(command, argument_arg(alloc, "PATH"))
+}
+
+// The flag and the arguments of `check`.
+#[tactic(auto, unfolding(crate::specs::Commands::check_options))]
+pub fn check_command<'a>(alloc: Global) -> Result<Command<'a>, AllocError>
+    ensures made { IfOk result (λ command. app_of command ≡ check_options) }
+    ensures simple { IfOk result (λ command. is_simple_and_free (app_of command) ≡ true) }
+{
+    let command = with(bare_command(alloc), long_flag_arg(alloc, "absent"))?;
+    let command = with(command, argument_arg(alloc, "CID"))?;
+    with(command, argument_arg(alloc, "PATH"))
 }
 
 // One argument.

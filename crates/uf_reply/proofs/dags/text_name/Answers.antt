@@ -1,4 +1,4 @@
-use Rattle.std.proofs.Common.{◌≡◌, ◌⊎◌, List, ℕ, true, false, sym, ap, subst, ◌∙◌, inl, inr}
+use Rattle.std.proofs.Common.{◌≡◌, ◌⊎◌, true, false, sym, ap, subst, ◌∙◌, inl, inr}
 use Rattle.std.specs.Str.{IsUtf8}
 use Rattle.uf_tree.specs.Names.{is_name}
 use Rattle.uf_tree.specs.declared.name.NameFault.{NameFault}

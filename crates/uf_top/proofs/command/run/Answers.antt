@@ -1,69 +1,141 @@
-use Rattle.std.proofs.Common.{◌≡◌, true, false, refl, sym, subst, ◌∙◌, inl, Err}
-use Rattle.std.specs.Prelude.{map, string_bytes}
+use Rattle.std.proofs.Common.{◌≡◌, refl, sym, subst, ◌∙◌, inl, Err, Result}
+use Rattle.std.specs.Prelude.{ℕ, List, map, string_bytes}
 use Rattle.uf_words.specs.Commands.{command_of}
-use Rattle.uf_reply.specs.Batches.{IsAskedAlone}
-use Rattle.uf_reply.specs.Commands.{IsAsked, command_in}
+use Rattle.uf_reply.specs.Commands.{IsAsked, IsOfWords}
+use Rattle.uf_reply.specs.Requests.{IsAskedAlone, request_in}
 use Rattle.uf_reply.specs.Statuses.{no_memory}
-use Rattle.uf_reply.proofs.Asked.{words-only}
+use Rattle.uf_reply.specs.declared.requests.Request.TheVariants as requests
+use Rattle.uf_reply.specs.declared.types.Command.{Command}
+use Rattle.uf_reply.specs.declared.types.Refusal.{Refusal}
+use Rattle.uf_reply.proofs.Asked.{IsOfWordsAlone, words-only}
 use Rattle.uf_top.specs.Around.{around, host_side}
+use Rattle.uf_reply.specs.Peers.{TellsTalk}
 use Rattle.uf_reply.specs.Telling.{IsSent}
+use Rattle.uf_top.specs.Talking.{RunsPull}
 use Rattle.uf_top.proofs.Runs.{runs-told}
-use Rattle.uf_top.proofs.Standings.{stands-one}
+use Rattle.uf_top.proofs.Standings.{stands-kept, stands-one}
+use Rattle.uf_top.proofs.Talks.{head-stays, pull-wants, serve-wants}
 use Rattle.uf_top.proofs.Wanted.{batch-wants}
 use Rattle.uf_top.proofs.command.run.Goals as goal
 
+-- the one command that is asked for was read
+read-alone : (words : List (List ℕ)) (given asked : Result Command Refusal) → request_in words ≡ requests.One asked → IsAskedAlone given (request_in words) → IsAsked given asked
+read-alone words given asked is = subst (IsAskedAlone given) is
+
+-- and is refused as no command, by a path, or never
+of-words : (words : List (List ℕ)) (asked : Result Command Refusal) → request_in words ≡ requests.One asked → IsOfWords asked
+of-words words asked is = subst IsOfWordsAlone is (words-only (command_of words))
+
 pub returns-in-One-clause-runs : goal.returns-in-One-clause-runs
-returns-in-One-clause-runs g c = λ alone.
-    let h : IsAsked c.in-One.asked (command_in (map string_bytes c.args.words.now)) = subst (λ batch. IsAskedAlone batch c.in-One.asked (command_in (map string_bytes c.args.words.now))) alone c.in-One.ensures.asked in
+returns-in-One-clause-runs g c = λ asked is.
+    let h : IsAsked c.in-One.asked asked = read-alone (map string_bytes c.args.words.now) c.in-One.asked asked is c.in-One.ensures.asked in
+    let w : IsOfWords asked = of-words (map string_bytes c.args.words.now) asked is in
     runs-told (λ line. IsSent line (g.E.Sink.holds c.args.errors.now) (g.E.Sink.holds c.tell_end.new.errors) (g.E.Sink.faults c.args.errors.now) (g.E.Sink.faults c.tell_end.new.errors)) c.tell_end.result g.S.X.BlockHash.block32 g.N.NameHash.name64
     (around (g.S.Store.seen c.args.store.now) (g.I.Source.left c.args.input.now) (g.I.Source.faults c.args.input.now) (g.O.Sink.holds c.args.output.now) (g.O.Sink.faults c.args.output.now) c.args.touches.now (host_side (g.W.Host.tree c.args.host.now) (g.W.Host.read_faults c.args.host.now) (g.W.Host.write_faults c.args.host.now)))
-    (around (g.S.Store.seen c.serve-done.new.store) (g.I.Source.left c.serve-done.new.input) (g.I.Source.faults c.serve-done.new.input) (g.O.Sink.holds c.serve-done.new.output) (g.O.Sink.faults c.serve-done.new.output) c.serve-done.new.touches (host_side (g.W.Host.tree c.serve-done.new.host) (g.W.Host.read_faults c.serve-done.new.host) (g.W.Host.write_faults c.serve-done.new.host)))
-    (command_in (map string_bytes c.args.words.now)) c.serve-done.result (words-only (command_of (map string_bytes c.args.words.now))) (c.serve-done.ensures.serves (command_in (map string_bytes c.args.words.now)) h) (c.serve-done.ensures.own (command_in (map string_bytes c.args.words.now)) h (words-only (command_of (map string_bytes c.args.words.now)))) (c.serve-done.ensures.kinds (command_in (map string_bytes c.args.words.now)) h) c.tell_end.ensures
+    (around (g.S.Store.seen c.serve-done-in-One.new.store) (g.I.Source.left c.serve-done-in-One.new.input) (g.I.Source.faults c.serve-done-in-One.new.input) (g.O.Sink.holds c.serve-done-in-One.new.output) (g.O.Sink.faults c.serve-done-in-One.new.output) c.serve-done-in-One.new.touches (host_side (g.W.Host.tree c.serve-done-in-One.new.host) (g.W.Host.read_faults c.serve-done-in-One.new.host) (g.W.Host.write_faults c.serve-done-in-One.new.host)))
+    asked c.serve-done-in-One.result w (c.serve-done-in-One.ensures.serves asked h) (c.serve-done-in-One.ensures.own asked h w) (c.serve-done-in-One.ensures.kinds asked h) c.tell_end.ensures
 
 pub returns-in-One-clause-batch : goal.returns-in-One-clause-batch
-returns-in-One-clause-batch g c = λ batch.
-    let m : c.in-One.asked ≡ Err no_memory = subst (λ batch. IsAskedAlone batch c.in-One.asked (command_in (map string_bytes c.args.words.now))) batch c.in-One.ensures.asked in
-    batch-wants g.S.X.BlockHash.block32 g.N.NameHash.name64 1048576 1073741824 c.tell_end.result c.serve-done.result (g.S.Store.seen c.args.store.now) (g.S.Store.seen c.serve-done.new.store) (g.I.Source.left c.args.input.now) (g.I.Source.left c.serve-done.new.input) (g.I.Source.faults c.args.input.now) (g.I.Source.faults c.serve-done.new.input)
-    (g.O.Sink.holds c.args.output.now) (g.O.Sink.holds c.serve-done.new.output) (g.O.Sink.faults c.args.output.now) (g.O.Sink.faults c.serve-done.new.output) c.args.touches.now c.serve-done.new.touches
-    (host_side (g.W.Host.tree c.args.host.now) (g.W.Host.read_faults c.args.host.now) (g.W.Host.write_faults c.args.host.now)) (host_side (g.W.Host.tree c.serve-done.new.host) (g.W.Host.read_faults c.serve-done.new.host) (g.W.Host.write_faults c.serve-done.new.host))
+returns-in-One-clause-batch g c = λ is.
+    let m : c.in-One.asked ≡ Err no_memory = subst (IsAskedAlone c.in-One.asked) is c.in-One.ensures.asked in
+    batch-wants g.S.X.BlockHash.block32 g.N.NameHash.name64 1048576 1073741824 c.tell_end.result c.serve-done-in-One.result (g.S.Store.seen c.args.store.now) (g.S.Store.seen c.serve-done-in-One.new.store) (g.I.Source.left c.args.input.now) (g.I.Source.left c.serve-done-in-One.new.input) (g.I.Source.faults c.args.input.now) (g.I.Source.faults c.serve-done-in-One.new.input)
+    (g.O.Sink.holds c.args.output.now) (g.O.Sink.holds c.serve-done-in-One.new.output) (g.O.Sink.faults c.args.output.now) (g.O.Sink.faults c.serve-done-in-One.new.output) c.args.touches.now c.serve-done-in-One.new.touches
+    (host_side (g.W.Host.tree c.args.host.now) (g.W.Host.read_faults c.args.host.now) (g.W.Host.write_faults c.args.host.now)) (host_side (g.W.Host.tree c.serve-done-in-One.new.host) (g.W.Host.read_faults c.serve-done-in-One.new.host) (g.W.Host.write_faults c.serve-done-in-One.new.host))
     (g.E.Sink.holds c.args.errors.now) (g.E.Sink.holds c.tell_end.new.errors) (g.E.Sink.faults c.args.errors.now) (g.E.Sink.faults c.tell_end.new.errors)
-    (c.serve-done.ensures.serves (Err no_memory) (subst (λ asked. IsAsked asked (Err no_memory)) (sym m) (inl refl))) c.tell_end.ensures
+    (c.serve-done-in-One.ensures.serves (Err no_memory) (subst (λ asked. IsAsked asked (Err no_memory)) (sym m) (inl refl))) c.tell_end.ensures
 
 pub returns-in-One-clause-one : goal.returns-in-One-clause-one
 returns-in-One-clause-one g c = λ s r stands other.
-    stands-one g.S.X.BlockHash.block32 g.N.NameHash.name64 (record { size = g.met.S.X.BlockHash.size; are_bytes = g.met.S.X.BlockHash.are_bytes }) g.met.N.NameHash.fits (g.S.Store.seen c.serve-done.new.store).told s r stands other
+    stands-one g.S.X.BlockHash.block32 g.N.NameHash.name64 (record { size = g.met.S.X.BlockHash.size; are_bytes = g.met.S.X.BlockHash.are_bytes }) g.met.N.NameHash.fits (g.S.Store.seen c.serve-done-in-One.new.store).told s r stands other
 
 pub returns-in-Batch-clause-one : goal.returns-in-Batch-clause-one
 returns-in-Batch-clause-one g c = λ s r stands other.
     stands-one g.S.X.BlockHash.block32 g.N.NameHash.name64 (record { size = g.met.S.X.BlockHash.size; are_bytes = g.met.S.X.BlockHash.are_bytes }) g.met.N.NameHash.fits (g.S.Store.seen c.batch.new.store).told s r stands other
 
 pub returns-in-Batch-clause-runs : goal.returns-in-Batch-clause-runs
-returns-in-Batch-clause-runs g c = λ alone. absurd (let k : true ≡ false = sym c.in-Batch.ensures.asked ∙ alone in cc)
+returns-in-Batch-clause-runs g c = λ asked is. absurd (let k : requests.Batch ≡ requests.One asked = sym c.in-Batch.ensures.asked ∙ is in cc)
 
 pub returns-in-One-clause-left : goal.returns-in-One-clause-left
-returns-in-One-clause-left g c = λ alone is.
-    c.serve-done.ensures.left (command_in (map string_bytes c.args.words.now)) (subst (λ batch. IsAskedAlone batch c.in-One.asked (command_in (map string_bytes c.args.words.now))) alone c.in-One.ensures.asked) is
+returns-in-One-clause-left g c = λ asked is.
+    c.serve-done-in-One.ensures.left asked (read-alone (map string_bytes c.args.words.now) c.in-One.asked asked is c.in-One.ensures.asked)
 
 pub returns-in-Batch-clause-left : goal.returns-in-Batch-clause-left
-returns-in-Batch-clause-left g c = λ alone. absurd (let k : true ≡ false = sym c.in-Batch.ensures.asked ∙ alone in cc)
+returns-in-Batch-clause-left g c = λ asked is. absurd (let k : requests.Batch ≡ requests.One asked = sym c.in-Batch.ensures.asked ∙ is in cc)
 
 pub returns-in-One-clause-input : goal.returns-in-One-clause-input
-returns-in-One-clause-input g c = λ alone is.
-    c.serve-done.ensures.input (command_in (map string_bytes c.args.words.now)) (subst (λ batch. IsAskedAlone batch c.in-One.asked (command_in (map string_bytes c.args.words.now))) alone c.in-One.ensures.asked) is
+returns-in-One-clause-input g c = λ asked is.
+    c.serve-done-in-One.ensures.input asked (read-alone (map string_bytes c.args.words.now) c.in-One.asked asked is c.in-One.ensures.asked)
 
 pub returns-in-Batch-clause-input : goal.returns-in-Batch-clause-input
-returns-in-Batch-clause-input g c = λ alone. absurd (let k : true ≡ false = sym c.in-Batch.ensures.asked ∙ alone in cc)
+returns-in-Batch-clause-input g c = λ asked is. absurd (let k : requests.Batch ≡ requests.One asked = sym c.in-Batch.ensures.asked ∙ is in cc)
 
 pub returns-in-One-clause-host : goal.returns-in-One-clause-host
-returns-in-One-clause-host g c = λ alone is.
-    c.serve-done.ensures.host (command_in (map string_bytes c.args.words.now)) (subst (λ batch. IsAskedAlone batch c.in-One.asked (command_in (map string_bytes c.args.words.now))) alone c.in-One.ensures.asked) is
+returns-in-One-clause-host g c = λ asked is.
+    c.serve-done-in-One.ensures.host asked (read-alone (map string_bytes c.args.words.now) c.in-One.asked asked is c.in-One.ensures.asked)
 
 pub returns-in-Batch-clause-host : goal.returns-in-Batch-clause-host
-returns-in-Batch-clause-host g c = λ alone. absurd (let k : true ≡ false = sym c.in-Batch.ensures.asked ∙ alone in cc)
+returns-in-Batch-clause-host g c = λ asked is. absurd (let k : requests.Batch ≡ requests.One asked = sym c.in-Batch.ensures.asked ∙ is in cc)
 
 pub returns-in-One-clause-untouched : goal.returns-in-One-clause-untouched
-returns-in-One-clause-untouched g c = λ alone is.
-    c.serve-done.ensures.untouched (command_in (map string_bytes c.args.words.now)) (subst (λ batch. IsAskedAlone batch c.in-One.asked (command_in (map string_bytes c.args.words.now))) alone c.in-One.ensures.asked) is
+returns-in-One-clause-untouched g c = λ asked is.
+    c.serve-done-in-One.ensures.untouched asked (read-alone (map string_bytes c.args.words.now) c.in-One.asked asked is c.in-One.ensures.asked)
 
 pub returns-in-Batch-clause-untouched : goal.returns-in-Batch-clause-untouched
-returns-in-Batch-clause-untouched g c = λ alone. absurd (let k : true ≡ false = sym c.in-Batch.ensures.asked ∙ alone in cc)
+returns-in-Batch-clause-untouched g c = λ asked is. absurd (let k : requests.Batch ≡ requests.One asked = sym c.in-Batch.ensures.asked ∙ is in cc)
+
+-- ---- talks with a peer
+
+pub returns-in-Pull-clause-pull : goal.returns-in-Pull-clause-pull
+returns-in-Pull-clause-pull g c = λ cid is.
+    let same : requests.Pull c.in-Pull.cid ≡ requests.Pull cid = sym c.in-Pull.ensures.asked ∙ is in
+    let one : c.in-Pull.cid ≡ cid = cc in
+    subst (λ cid. RunsPull (λ line. IsSent line (g.E.Sink.holds c.args.errors.now) (g.E.Sink.holds c.tell_talk.new.errors) (g.E.Sink.faults c.args.errors.now) (g.E.Sink.faults c.tell_talk.new.errors)) g.S.X.BlockHash.block32 g.N.NameHash.name64 cid c.tell_talk.result (around (g.S.Store.seen c.args.store.now) (g.I.Source.left c.args.input.now) (g.I.Source.faults c.args.input.now) (g.O.Sink.holds c.args.output.now) (g.O.Sink.faults c.args.output.now) c.args.touches.now (host_side (g.W.Host.tree c.args.host.now) (g.W.Host.read_faults c.args.host.now) (g.W.Host.write_faults c.args.host.now))) (around (g.S.Store.seen c.pull-done.new.store) (g.I.Source.left c.pull-done.new.input) (g.I.Source.faults c.pull-done.new.input) (g.O.Sink.holds c.pull-done.new.out) (g.O.Sink.faults c.pull-done.new.out) c.pull-done.new.touches (host_side (g.W.Host.tree c.args.host.now) (g.W.Host.read_faults c.args.host.now) (g.W.Host.write_faults c.args.host.now)))) one (record {
+      done = c.pull-done.result;
+      tells = subst (λ done. TellsTalk (λ line. IsSent line (g.E.Sink.holds c.args.errors.now) (g.E.Sink.holds c.tell_talk.new.errors) (g.E.Sink.faults c.args.errors.now) (g.E.Sink.faults c.tell_talk.new.errors)) done c.tell_talk.result) c.pull_end.ensures c.tell_talk.ensures;
+      pulls = c.pull-done.ensures.pulls;
+      wants = c.pull-done.ensures.wants;
+      some = c.pull-done.ensures.some;
+      cause = c.pull-done.ensures.cause;
+      fault = c.pull-done.ensures.fault;
+      reads = c.pull-done.ensures.reads;
+      writes = c.pull-done.ensures.writes;
+      good = c.pull-done.ensures.good;
+      saves = c.pull-done.ensures.saves;
+      head = head-stays g.S.X.BlockHash.block32 _ _ c.pull-done.ensures.saves;
+      stands = λ standing stands. stands-kept g.S.X.BlockHash.block32 g.N.NameHash.name64 _ _ standing c.pull-done.ensures.good (head-stays g.S.X.BlockHash.block32 _ _ c.pull-done.ensures.saves) stands;
+      host = refl;
+    })
+
+pub returns-in-Serve-clause-serve : goal.returns-in-Serve-clause-serve
+returns-in-Serve-clause-serve g c = λ is. record {
+  done = c.serve-done.result;
+  tells = subst (λ done. TellsTalk (λ line. IsSent line (g.E.Sink.holds c.args.errors.now) (g.E.Sink.holds c.tell_talk-in-Serve.new.errors) (g.E.Sink.faults c.args.errors.now) (g.E.Sink.faults c.tell_talk-in-Serve.new.errors)) done c.tell_talk-in-Serve.result) c.serve_end.ensures c.tell_talk-in-Serve.ensures;
+  frames = c.serve-done.ensures.frames;
+  some = c.serve-done.ensures.some;
+  cause = c.serve-done.ensures.cause;
+  fault = c.serve-done.ensures.fault;
+  reads = c.serve-done.ensures.reads;
+  writes = c.serve-done.ensures.writes;
+  told = c.serve-done.ensures.told;
+  host = refl;
+}
+
+pub returns-in-One-clause-pull : goal.returns-in-One-clause-pull
+returns-in-One-clause-pull g c = λ cid is.
+    let m : c.in-One.asked ≡ Err no_memory = subst (IsAskedAlone c.in-One.asked) is c.in-One.ensures.asked in
+    pull-wants (λ line. IsSent line (g.E.Sink.holds c.args.errors.now) (g.E.Sink.holds c.tell_end.new.errors) (g.E.Sink.faults c.args.errors.now) (g.E.Sink.faults c.tell_end.new.errors)) g.S.X.BlockHash.block32 g.N.NameHash.name64 c.tell_end.result c.serve-done-in-One.result (around (g.S.Store.seen c.args.store.now) (g.I.Source.left c.args.input.now) (g.I.Source.faults c.args.input.now) (g.O.Sink.holds c.args.output.now) (g.O.Sink.faults c.args.output.now) c.args.touches.now (host_side (g.W.Host.tree c.args.host.now) (g.W.Host.read_faults c.args.host.now) (g.W.Host.write_faults c.args.host.now))) (around (g.S.Store.seen c.serve-done-in-One.new.store) (g.I.Source.left c.serve-done-in-One.new.input) (g.I.Source.faults c.serve-done-in-One.new.input) (g.O.Sink.holds c.serve-done-in-One.new.output) (g.O.Sink.faults c.serve-done-in-One.new.output) c.serve-done-in-One.new.touches (host_side (g.W.Host.tree c.serve-done-in-One.new.host) (g.W.Host.read_faults c.serve-done-in-One.new.host) (g.W.Host.write_faults c.serve-done-in-One.new.host)))
+    (c.serve-done-in-One.ensures.serves (Err no_memory) (subst (λ asked. IsAsked asked (Err no_memory)) (sym m) (inl refl))) c.tell_end.ensures cid
+
+pub returns-in-One-clause-serve : goal.returns-in-One-clause-serve
+returns-in-One-clause-serve g c = λ is.
+    let m : c.in-One.asked ≡ Err no_memory = subst (IsAskedAlone c.in-One.asked) is c.in-One.ensures.asked in
+    serve-wants (λ line. IsSent line (g.E.Sink.holds c.args.errors.now) (g.E.Sink.holds c.tell_end.new.errors) (g.E.Sink.faults c.args.errors.now) (g.E.Sink.faults c.tell_end.new.errors)) g.S.X.BlockHash.block32 g.N.NameHash.name64 c.tell_end.result c.serve-done-in-One.result (around (g.S.Store.seen c.args.store.now) (g.I.Source.left c.args.input.now) (g.I.Source.faults c.args.input.now) (g.O.Sink.holds c.args.output.now) (g.O.Sink.faults c.args.output.now) c.args.touches.now (host_side (g.W.Host.tree c.args.host.now) (g.W.Host.read_faults c.args.host.now) (g.W.Host.write_faults c.args.host.now))) (around (g.S.Store.seen c.serve-done-in-One.new.store) (g.I.Source.left c.serve-done-in-One.new.input) (g.I.Source.faults c.serve-done-in-One.new.input) (g.O.Sink.holds c.serve-done-in-One.new.output) (g.O.Sink.faults c.serve-done-in-One.new.output) c.serve-done-in-One.new.touches (host_side (g.W.Host.tree c.serve-done-in-One.new.host) (g.W.Host.read_faults c.serve-done-in-One.new.host) (g.W.Host.write_faults c.serve-done-in-One.new.host)))
+    (c.serve-done-in-One.ensures.serves (Err no_memory) (subst (λ asked. IsAsked asked (Err no_memory)) (sym m) (inl refl))) c.tell_end.ensures
+
+pub returns-in-Pull-clause-one : goal.returns-in-Pull-clause-one
+returns-in-Pull-clause-one g c = λ s r stands other.
+    stands-one g.S.X.BlockHash.block32 g.N.NameHash.name64 (record { size = g.met.S.X.BlockHash.size; are_bytes = g.met.S.X.BlockHash.are_bytes }) g.met.N.NameHash.fits (g.S.Store.seen c.pull-done.new.store).told s r stands other
+
+pub returns-in-Serve-clause-one : goal.returns-in-Serve-clause-one
+returns-in-Serve-clause-one g c = λ s r stands other.
+    stands-one g.S.X.BlockHash.block32 g.N.NameHash.name64 (record { size = g.met.S.X.BlockHash.size; are_bytes = g.met.S.X.BlockHash.are_bytes }) g.met.N.NameHash.fits (g.S.Store.seen c.serve-done.new.store).told s r stands other
