@@ -131,6 +131,7 @@ COMMANDS = {
     "Same": "`dag same`",
     "Adopt": "`files cp /ipfs/..`",
     "Gen": "`gen`",
+    "Pin": "`pin add`, `rm`, `ls`",
 }
 CELLS = {
     "NoInput": "",
@@ -148,6 +149,7 @@ CELLS = {
     "MovesHead": "blocks, a sync, the Head",
     "(saves_unless only_hash)": "blocks, a sync; with `-n` nothing",
     "(ask_writes ask)": "blocks, a sync, the Head; `ls` and `stat` nothing",
+    "(pin_writes ask)": "a sync, the note of pins; `rm` that note, `ls` nothing",
     "AtEnd": "at its end",
     "WhileReading": "while it reads",
     "AfterHead": "after the Head",
@@ -168,6 +170,7 @@ KINDS = {
     "OfCar": "CAR",
     "OfSections": "missing section",
     "OfOwnClash": "clash",
+    "OfPins": "pins",
 }
 
 

@@ -225,7 +225,7 @@ def wrong_commands(manual):
 
 
 COMPLETED = {
-    "": "init add cat get dag pull serve batch gen files",
+    "": "init add cat get dag pin pull serve batch gen files",
     "fi": "files",
     "files m": "mkdir mv",
     "files write --t": "--truncate",

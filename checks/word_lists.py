@@ -26,6 +26,9 @@ TABLE = {
     "dag export": ([], [], ["text"]),
     "dag same": ([], [], ["text"]),
     "dag import": ([], [], []),
+    "pin add": ([], [], ["text"]),
+    "pin rm": ([], [], ["text"]),
+    "pin ls": ([], [], []),
     "batch": ([], [], []),
     "pull": ([], [], ["text"]),
     "serve": ([], [], []),
@@ -158,7 +161,7 @@ def told(command, words):
         if found[0] > 20000:
             raise Refused
         return f"gen|{found[0]}|{found[1]}"
-    name = command.split(" ")[-1]
+    name = command.replace(" ", "-") if command.startswith("pin ") else command.split(" ")[-1]
     if command == "files ls":
         return f"ls|{flag_told(values, 'long')}|{found[0] if found else '/'}"
     if command == "files read":

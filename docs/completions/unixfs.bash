@@ -3,11 +3,12 @@ _unixfs() {
     local current=${COMP_WORDS[COMP_CWORD]} last=${COMP_WORDS[COMP_CWORD - 1]} first=${COMP_WORDS[1]} words='' host=0
     COMPREPLY=()
     if [ "$COMP_CWORD" -eq 1 ]; then
-        mapfile -t COMPREPLY < <(compgen -W 'init add cat get dag pull serve batch gen files' -- "$current")
+        mapfile -t COMPREPLY < <(compgen -W 'init add cat get dag pin pull serve batch gen files' -- "$current")
         return
     fi
     case $first in
     dag) words='export import same' ;;
+    pin) words='add rm ls' ;;
     files) words='mkdir ls stat read write truncate cp mv rm' ;;
     esac
     if [ -n "$words" ]; then
@@ -26,6 +27,9 @@ _unixfs() {
     'dag export') words='' host=0 ;;
     'dag import') words='' host=0 ;;
     'dag same') words='' host=0 ;;
+    'pin add') words='' host=0 ;;
+    'pin rm') words='' host=0 ;;
+    'pin ls') words='' host=0 ;;
     'pull') words='' host=0 ;;
     'serve') words='' host=0 ;;
     'batch') words='' host=0 ;;

@@ -1,5 +1,5 @@
 -- A batch in which nothing fails is a history.
-use Rattle.std.proofs.Common.{◌≡◌, ◌≢◌, ◌∙◌, ℕ, List, [], ◌∷◌, true, false, refl, sym, ap, subst, inl, inr, None, Some, Err}
+use Rattle.std.proofs.Common.{◌≡◌, ◌≢◌, ◌∙◌, ℕ, List, [], ◌∷◌, true, false, refl, sym, ap, subst, inl, inr, Option, None, Some, Err}
 use Rattle.std.specs.Prelude.{◌⊎◌}
 use Rattle.uf_cid.specs.Blocks.{Lookup}
 use Rattle.uf_edge.specs.Host.{HostTree}
@@ -19,6 +19,8 @@ use Rattle.uf_top.specs.Reply.{reply_to}
 use Rattle.uf_top.proofs.BatchCounts.{cut-counted, ends-counted, fails-first, fails-last, gone-counted, last-counted, lines-counted, whole-counted}
 use Rattle.uf_top.proofs.BatchReplies.{finds-of, held-of, host-same, outside-of, quiet-of}
 use Rattle.uf_top.proofs.Counted.{none-then, rose-not-stood}
+use Rattle.uf_cid.specs.declared.cid.Cid.{Cid}
+use Rattle.uf_top.proofs.Pins.{noted-pins}
 use Rattle.uf_headline.specs.Batched.{AreOfLines, asked_by, outside_line, with_last, with_word}
 use Rattle.uf_headline.specs.History.{History, IsDone, Step, step_of, told_after, told_before}
 use Rattle.uf_headline.proofs.Doing.{after_step, step-stands}
@@ -33,10 +35,10 @@ module _ (X : List ℕ → List ℕ) (N : List ℕ → ℕ) (host : HostTree) wh
   before-mark printed b = with_sinks printed b.errors b
 
   -- words that were refused for want of memory end with that status
-  refused-ends : (s : Standing) (held : Lookup) → ended (reply_to X N (Err no_memory) (line_world host s held)).ends ≡ status.Memory
-  refused-ends NoHead held = refl
-  refused-ends BadHead held = refl
-  refused-ends (Stands p es) held = refl
+  refused-ends : (s : Standing) (held : Lookup) (listed : Option (List Cid)) → ended (reply_to X N (Err no_memory) (line_world host s held listed)).ends ≡ status.Memory
+  refused-ends NoHead held listed = refl
+  refused-ends BadHead held listed = refl
+  refused-ends (Stands p es) held listed = refl
 
   -- ---- one line
 
@@ -47,7 +49,7 @@ module _ (X : List ℕ → List ℕ) (N : List ℕ → ℕ) (host : HostTree) wh
     last : told_after step ≡ b.around.store.told
     done : IsDone X N step
     asks : line_in line ≡ Some step.asked
-    outside : step.outside ≡ outside_line host
+    outside : step.outside ≡ outside_line host step.outside.pins
     stood : Standing
     on : GoesOn b stood
 
@@ -55,12 +57,12 @@ module _ (X : List ℕ → List ℕ) (N : List ℕ → ℕ) (host : HostTree) wh
     asks-line : (s : Standing) (held : Lookup) → GoesOn a s → TellsBlocks a.around.store.told held → line_in line ≡ Some done.asked
     asks-line s held on blocks = by done.asks
       where
-        replies : EndsAs (Said a.errors b.errors) X N done.asked (line_world host s held) given a.around.held b.around.held b.around.store.told b.around.host.told
-        replies = done.runs.replies (line_world host s held) (finds-of X N host line given a b done s held on.1 blocks) (outside-of X N host line given a b done s held on.0 h.host) (quiet-of X N host line given a b done h)
+        replies : EndsAs (Said a.errors b.errors) X N done.asked (line_world host s held (noted-pins a.around.store.told).0) given a.around.held b.around.held b.around.store.told b.around.host.told
+        replies = done.runs.replies (line_world host s held (noted-pins a.around.store.told).0) (finds-of X N host line given a b done s held on.1 blocks) (outside-of X N host line given a b done s held on.0 h.host) (quiet-of X N host line given a b done h)
 
-        wanted : done.asked ≡ Err no_memory → EndsAs (Said a.errors b.errors) X N done.asked (line_world host s held) given a.around.held b.around.held b.around.store.told b.around.host.told → ⊥
+        wanted : done.asked ≡ Err no_memory → EndsAs (Said a.errors b.errors) X N done.asked (line_world host s held (noted-pins a.around.store.told).0) given a.around.held b.around.held b.around.store.told b.around.host.told → ⊥
         wanted is (inl wants) = memory wants.status_is
-        wanted is (inr r) = memory (r.0.status_is ∙ ap (λ x. ended (reply_to X N x (line_world host s held)).ends) is ∙ refused-ends s held)
+        wanted is (inr r) = memory (r.0.status_is ∙ ap (λ x. ended (reply_to X N x (line_world host s held (noted-pins a.around.store.told).0)).ends) is ∙ refused-ends s held (noted-pins a.around.store.told).0)
 
         by : (line_in line ≡ Some done.asked) ⊎ (done.asked ≡ Err no_memory) → line_in line ≡ Some done.asked
         by (inl is) = is
@@ -79,7 +81,7 @@ module _ (X : List ℕ → List ℕ) (N : List ℕ → ℕ) (host : HostTree) wh
     }
       where
         step : Step
-        step = step_of done.asked (outside_line host) held given a b
+        step = step_of done.asked (outside_line host (noted-pins a.around.store.told).0) held given a b
 
         is_done : IsDone X N step
         is_done = record {

@@ -93,6 +93,7 @@ module _ (X : List ℕ → List ℕ) (N : List ℕ → ℕ) where
         outside = (
           λ reads. ((c.tells.input reads).0, stood-still _ _ c.runs.counted.reads (λ more. not-both step.given g status.ReadFault given (c.runs.read_told (inl more)) read) (c.tells.input reads).1),
           λ uses. ((c.tells.host uses).0, stood-still _ _ c.runs.counted.host_reads (λ more. not-both step.given g status.ReadFault given (c.runs.read_told (inr more)) read) (c.tells.host uses).1),
+          c.tells.pins,
         )
 
         quiet : (g ≡ status.WriteFault → ⊥) → StaysQuiet step.asked step.given step.before.around step.now.around

@@ -22,7 +22,7 @@ use Rattle.uf_reply.specs.declared.status.Status.TheVariants as status
 use Rattle.uf_reply.specs.declared.types.Ask.{Ask}
 use Rattle.uf_reply.specs.declared.types.Ask.TheVariants.{Ls, Stat, Edit as Edits}
 use Rattle.uf_reply.specs.declared.types.Command.{Command}
-use Rattle.uf_reply.specs.declared.types.Command.TheVariants.{Init, Add, AddFrom, WriteInput, At, Read, Cat, Get, Export, Import, Same, Adopt, Gen, AddTo, AddFromTo}
+use Rattle.uf_reply.specs.declared.types.Command.TheVariants.{Init, Add, AddFrom, WriteInput, At, Read, Cat, Get, Export, Import, Same, Adopt, Gen, AddTo, AddFromTo, Pin}
 use Rattle.uf_reply.specs.declared.types.Edit.TheVariants.{Write}
 use Rattle.uf_reply.specs.declared.types.HostRule.TheVariants as rules
 use Rattle.uf_reply.specs.declared.types.Refusal.{Refusal}
@@ -69,6 +69,7 @@ not-done (refusal.Dag rule) s t = refl
 not-done (refusal.Host rule) s t = refl
 not-done (refusal.BadPath why) s t = refl
 not-done refusal.InputTooLong s t = refl
+not-done refusal.BadPins s t = refl
 not-done refusal.Usage s t = refl
 not-done (refusal.Ready why) s t = refl
 not-done refusal.Read s t = refl
@@ -275,6 +276,7 @@ module _ (X : List ℕ → List ℕ) (N : List ℕ → ℕ) where
   tree-leaves (Adopt source dest) o held p es tree =
       grown-leaves p es (put_there (tree_at held source) (lands dest.into dest.names (Some (adopted_name source))) es) (adopted X N held source dest p es) (adopted-only held source dest p es)
   tree-leaves (Gen n seed) o held p es tree = same-in (Stands p es) (Gen n seed) o held refl refl
+  tree-leaves (Pin ask) o held p es tree = same-in (Stands p es) (Pin ask) o held refl refl
 
   none-leaves : (command : Command) (o : Outside) (held : Lookup) → LeavesIn NoHead command o held
   none-leaves (Init q) o held = refl
@@ -292,6 +294,7 @@ module _ (X : List ℕ → List ℕ) (N : List ℕ → ℕ) where
   none-leaves (Same cid) o held = same-in NoHead (Same cid) o held refl refl
   none-leaves (Adopt source dest) o held = refl
   none-leaves (Gen n seed) o held = same-in NoHead (Gen n seed) o held refl refl
+  none-leaves (Pin ask) o held = same-in NoHead (Pin ask) o held refl refl
 
   bad-leaves : (command : Command) (o : Outside) (held : Lookup) → LeavesIn BadHead command o held
   bad-leaves (Init q) o held = refl
@@ -309,6 +312,7 @@ module _ (X : List ℕ → List ℕ) (N : List ℕ → ℕ) where
   bad-leaves (Same cid) o held = same-in BadHead (Same cid) o held refl refl
   bad-leaves (Adopt source dest) o held = refl
   bad-leaves (Gen n seed) o held = same-in BadHead (Gen n seed) o held refl refl
+  bad-leaves (Pin ask) o held = same-in BadHead (Pin ask) o held refl refl
 
   -- what stands is a tree, where one stands
   abbrev IsGood : Standing → Type 0

@@ -17,6 +17,7 @@ use Rattle.uf_top.specs.Batch.{AtLine, Batches, ByMemory, ByReading, EndsSo, End
 use Rattle.uf_top.specs.BatchLines.{AllCanRise}
 use Rattle.uf_top.specs.Naming.{TellsBlocks}
 use Rattle.uf_top.proofs.LineHosts.{Suits, asks-suits}
+use Rattle.uf_top.proofs.Pins.{noted-pins}
 use Rattle.uf_headline.specs.Batched.{AreCallsOf, IsOfLine, outside_line, with_last}
 use Rattle.uf_headline.specs.Calls.{Calls, IsCall}
 use Rattle.uf_headline.specs.History.{Step, step_of, told_after, told_before}
@@ -56,7 +57,7 @@ module _ (X : List ℕ → List ℕ) (N : List ℕ → ℕ) (host : HostTree) wh
     last : told_after step ≡ b.around.store.told
     call : IsCall X N step
     of : IsOfLine line step
-    outside : step.outside ≡ outside_line host
+    outside : step.outside ≡ outside_line host step.outside.pins
 
   module _ (line : List ℕ) (given : Status) (a b : Scene) (done : LineDone X N line given a b) (begin : Begins a) where
     suits : Suits done.asked
@@ -64,7 +65,7 @@ module _ (X : List ℕ → List ℕ) (N : List ℕ → ℕ) (host : HostTree) wh
 
     line-call : CallOf line a b
     line-call = record {
-      step = step_of done.asked (outside_line host) held.0 given a b;
+      step = step_of done.asked (outside_line host (noted-pins a.around.store.told).0) held.0 given a b;
       first = refl;
       last = refl;
       call = record {
@@ -76,6 +77,7 @@ module _ (X : List ℕ → List ℕ) (N : List ℕ → ℕ) (host : HostTree) wh
           host = λ uses. (begin.told, begin.room.host);
           output = begin.room.output;
           written = λ writes. absurd (let e : true ≡ false = sym writes ∙ suits.1 in cc);
+          pins = λ uses. (noted-pins a.around.store.told).1;
         };
       };
       of = done.asks;

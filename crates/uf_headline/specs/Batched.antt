@@ -5,6 +5,7 @@ use Rattle.std.specs.declared.option.Option.{Option}
 use Rattle.std.specs.declared.option.Option.TheVariants.{None, Some}
 use Rattle.std.specs.declared.result.Result.{Result}
 use Rattle.std.specs.declared.result.Result.TheVariants.{Err}
+use Rattle.uf_cid.specs.declared.cid.Cid.{Cid}
 use Rattle.uf_edge.specs.Host.{HostTree}
 use Rattle.uf_reply.specs.Batches.{line_in}
 use Rattle.uf_reply.specs.Statuses.{no_memory}
@@ -24,14 +25,14 @@ abbrev pub asked_by : List (List ℕ) → List (Result Command Refusal)
 asked_by [] = []
 asked_by (line ∷ lines) = with_word (line_in line) (asked_by lines)
 
--- what a line finds outside of the store: no input, and the host
-abbrev pub outside_line : HostTree → Outside
-outside_line host = record { input = []; host = host }
+-- what a line finds outside of the tree: no input, the host, and the pins
+abbrev pub outside_line : HostTree → Option (List Cid) → Outside
+outside_line host pins = record { input = []; host = host; pins = pins }
 
 -- the steps are those of the lines, one for each that has a word
 pub record AreOfLines (host : HostTree) (lines : List (List ℕ)) (steps : List Step) : Type 0 where
   pub asked : map (λ (s : Step). s.asked) steps ≡ asked_by lines
-  pub outside : AllByRecursion (λ (s : Step). s.outside ≡ outside_line host) steps
+  pub outside : AllByRecursion (λ (s : Step). s.outside ≡ outside_line host s.outside.pins) steps
 
 -- a call is of a line: of what it asks for, or, where there was no memory to read it, of words that are refused for
 -- that
@@ -43,7 +44,7 @@ abbrev pub AreCallsOf : HostTree → List (List ℕ) → List Step → Type 0
 AreCallsOf host [] steps = steps ≡ []
 AreCallsOf host (line ∷ lines) steps = ((line_in line ≡ None) × AreCallsOf host lines steps)
     ⊎ ((step : Step) × (rest : List Step) × (steps ≡ step ∷ rest) × IsOfLine line step
-    × (step.outside ≡ outside_line host) × AreCallsOf host lines rest)
+    × (step.outside ≡ outside_line host step.outside.pins) × AreCallsOf host lines rest)
 
 module _ (X : List ℕ → List ℕ) (N : List ℕ → ℕ) where
   -- the lines of a batch that were done: with the one that ended it, where one did

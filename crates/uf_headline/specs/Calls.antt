@@ -7,6 +7,7 @@ use Rattle.uf_cid.specs.declared.cid.Cid.{Cid}
 use Rattle.uf_mfs.specs.Reading.{CanRise}
 use Rattle.uf_mfs.specs.Standing.{NamesOver}
 use Rattle.uf_reply.specs.Commands.{of_command}
+use Rattle.uf_reply.specs.Pins.{HasPins}
 use Rattle.uf_reply.specs.Natures.{prints_after, reads_input, uses_host, writes_host}
 use Rattle.uf_reply.specs.declared.status.Status.TheVariants as status
 use Rattle.uf_reply.specs.declared.types.Command.{Command}
@@ -27,7 +28,7 @@ use Rattle.uf_tree.specs.TreePlan.{blocks}
 use Rattle.uf_headline.specs.History.{DidRun, Step, told_after, told_before}
 use Rattle.uf_headline.specs.Replies.{replied_by}
 
--- the input and the host tell what is said of them, where the command uses them, and no count that a failure raises is
+-- the input, the host and the note of pins tell what is said of them, where the command uses them, and no count that a failure raises is
 -- at its last value, 2^64 - 1, at which it would hide one
 pub record CanTell (asked : Result Command Refusal) (outside : Outside) (before : Around) : Type 0 where
   pub store : CountsCanRise before.store
@@ -36,6 +37,7 @@ pub record CanTell (asked : Result Command Refusal) (outside : Outside) (before 
       → (before.host.told ≡ Some outside.host) × CanRise before.host.reads
   pub output : CanRise before.writes
   pub written : of_command writes_host false asked ≡ true → CanRise before.host.writes
+  pub pins : HasPins asked before.store.told outside.pins
 
 -- the call was done, be it that only the output of an `add --to-files` failed
 abbrev pub was_done : Step → Bool

@@ -8,7 +8,7 @@ use Rattle.uf_store.specs.declared.store.StoreFault.{StoreFault}
 use Rattle.uf_store.specs.declared.store.StoreFault.TheVariants as store
 use Rattle.uf_pins.specs.declared.fault.PinFault.{PinFault}
 use Rattle.uf_pins.specs.declared.fault.PinFault.TheVariants as fault
-use Rattle.uf_pins.specs.Calls.{AddsPin, AreFull, FailsAlone, GivesText, IsFailure, IsFull, IsNewText, IsSyncedAtMost, RemovesPin, StopsAtNote, StopsPinning, StopsUnpinning, WasThere}
+use Rattle.uf_pins.specs.Calls.{AddsPin, FailsAlone, GivesText, IsFailure, IsFull, IsNewText, IsSyncedAtMost, RemovesPin, StopsAtNote, StopsByStoreUnder, StopsPinning, StopsUnpinning, WasThere, WritesMore}
 use Rattle.uf_pins.specs.Notes.{IsWith, IsWithout, Lists}
 use Rattle.uf_pins.specs.Reach.{StopsReach, reach}
 use Rattle.uf_pins.specs.Texts.{ArePins, text_of}
@@ -21,20 +21,25 @@ err-by : {P Q : Type 0} (r : Result Unit PinFault) → (P → Q) → OnErr r P �
 err-by (Ok u) f h = h
 err-by (Err e) f h = f h
 
+-- what a pin more has written, whatever the store tells
+pub more-written : (a m n b : Told) (text : List ℕ) (r : Result Unit PinFault) → m ≡ a → n ≡ changed with_sync m → OnOk r (b ≡ changed (with_text Pins text) n) → OnErr r (b ≡ n) → WritesMore r a b
+more-written a m n b text (Ok u) same synced ok err = inr (text, ok ∙ ap (changed (with_text Pins text)) (synced ∙ ap (changed with_sync) same))
+more-written a m n b text (Err f) same synced ok err = inr (err ∙ synced ∙ ap (changed with_sync) same)
+
 module _ (t : Contents) (cid : Cid) where
   -- ---- a pin less
 
   pub note-refuses : (told : Told) (f : PinFault) → StopsAtNote t.notes.pins f → told ≡ Some t → RemovesPin t cid (Err f) told
   note-refuses told fault.BadPins h is = (h, is)
   note-refuses told fault.TooManyPins h is = absurd h
-  note-refuses told fault.NotPinned h is = absurd h
+  note-refuses told (fault.NotPinned c) h is = absurd h
   note-refuses told (fault.NotDagPb c why) h is = absurd h
   note-refuses told fault.TooMany h is = absurd h
   note-refuses told (fault.Store f) h is = (h, is)
 
   module _ (pins : List Cid) (listed : Lists t.notes.pins pins) where
-    pub is-unpinned : (told : Told) → (Contains pins cid → ⊥) → told ≡ Some t → RemovesPin t cid (Err fault.NotPinned) told
-    is-unpinned told none is = (record { pins = pins; listed = listed; not_there = none }, is)
+    pub is-unpinned : (told : Told) → (Contains pins cid → ⊥) → told ≡ Some t → RemovesPin t cid (Err (fault.NotPinned cid)) told
+    is-unpinned told none is = ((refl, record { pins = pins; listed = listed; not_there = none }), is)
 
     unpins : (told : Told) (left : List Cid) (text : List ℕ) (r : Result Unit PinFault) → Contains pins cid → IsWithout cid pins left → text ≡ text_of left
         → OnOk r (told ≡ Some (with_text Pins text t)) → OnErr r (told ≡ Some t) → FailsAlone r → RemovesPin t cid r told
@@ -42,7 +47,7 @@ module _ (t : Contents) (cid : Cid) where
         record { pins = pins; listed = listed; was = was; left = left; without = without; told_now = ok ∙ ap (λ (x : List ℕ). Some (with_text Pins x t)) is }
     unpins told left text (Err fault.BadPins) was without is ok err fails = absurd fails
     unpins told left text (Err fault.TooManyPins) was without is ok err fails = absurd fails
-    unpins told left text (Err fault.NotPinned) was without is ok err fails = absurd fails
+    unpins told left text (Err (fault.NotPinned c)) was without is ok err fails = absurd fails
     unpins told left text (Err (fault.NotDagPb c why)) was without is ok err fails = absurd fails
     unpins told left text (Err fault.TooMany) was without is ok err fails = absurd fails
     unpins told left text (Err (fault.Store f)) was without is ok err fails = (fails, err)
@@ -66,23 +71,31 @@ module _ (t : Contents) (cid : Cid) where
     pub note-stops-pinning : (told : Told) (f : PinFault) → StopsAtNote t.notes.pins f → told ≡ Some t → AddsPin t most cid (Err f) told
     note-stops-pinning told fault.BadPins h is = (h, inl is)
     note-stops-pinning told fault.TooManyPins h is = absurd h
-    note-stops-pinning told fault.NotPinned h is = absurd h
+    note-stops-pinning told (fault.NotPinned c) h is = absurd h
     note-stops-pinning told (fault.NotDagPb c why) h is = absurd h
     note-stops-pinning told fault.TooMany h is = absurd h
     note-stops-pinning told (fault.Store f) h is = (failed-stops f h, inl is)
 
-    pub reach-stops-pinning : (told : Told) (f : PinFault) → StopsReach (reach (held_at t) most (cid ∷ [])) f → told ≡ Some t → AddsPin t most cid (Err f) told
-    reach-stops-pinning told fault.BadPins h is = absurd h
-    reach-stops-pinning told fault.TooManyPins h is = absurd h
-    reach-stops-pinning told fault.NotPinned h is = absurd h
-    reach-stops-pinning told (fault.NotDagPb c why) h is = (h, inl is)
-    reach-stops-pinning told fault.TooMany h is = (h, inl is)
-    reach-stops-pinning told (fault.Store f) h is = (h, inl is)
+    pub reach-stops-pinning : (pins : List Cid) → Lists t.notes.pins pins → (told : Told) (f : PinFault) → StopsReach (reach (held_at t) most (cid ∷ [])) f → told ≡ Some t → AddsPin t most cid (Err f) told
+    reach-stops-pinning pins listed told fault.BadPins h is = absurd h
+    reach-stops-pinning pins listed told fault.TooManyPins h is = absurd h
+    reach-stops-pinning pins listed told (fault.NotPinned c) h is = absurd h
+    reach-stops-pinning pins listed told (fault.NotDagPb c why) h is = (record { pins = pins; listed = listed; stops = h }, inl is)
+    reach-stops-pinning pins listed told fault.TooMany h is = (record { pins = pins; listed = listed; stops = h }, inl is)
+    reach-stops-pinning pins listed told (fault.Store f) h is = (by f h, inl is)
+      where
+        by : (f : StoreFault) → StopsReach (reach (held_at t) most (cid ∷ [])) (fault.Store f) → StopsByStoreUnder t most cid f
+        by store.Failed h = tt
+        by (store.Damaged c) h = tt
+        by (store.Missing c) h = record { pins = pins; listed = listed; stops = h }
+        by (store.BadBlock c role) h = absurd h
+        by (store.Clash c x y) h = absurd h
+        by store.Memory h = tt
 
     alone-stops : (told : Told) (f : PinFault) → FailsAlone {A = Unit {0}} (Err f) → IsSyncedAtMost t told → AddsPin t most cid (Err f) told
     alone-stops told fault.BadPins h is = absurd h
     alone-stops told fault.TooManyPins h is = absurd h
-    alone-stops told fault.NotPinned h is = absurd h
+    alone-stops told (fault.NotPinned c) h is = absurd h
     alone-stops told (fault.NotDagPb c why) h is = absurd h
     alone-stops told fault.TooMany h is = absurd h
     alone-stops told (fault.Store f) h is = (failed-stops f h, is)
@@ -91,13 +104,13 @@ module _ (t : Contents) (cid : Cid) where
     sync-stops-pinning told f h is = alone-stops told f h (inl is)
 
     module _ (pins : List Cid) (listed : Lists t.notes.pins pins) where
-      pub text-stops-pinning : (told : Told) (f : PinFault) → GivesText cid pins (Err f) → told ≡ Some t → AddsPin t most cid (Err f) told
-      text-stops-pinning told fault.BadPins h is = absurd h
-      text-stops-pinning told fault.TooManyPins h is = (record { pins = pins; listed = listed; others = h.others; without = h.without; many = h.many }, inl is)
-      text-stops-pinning told fault.NotPinned h is = absurd h
-      text-stops-pinning told (fault.NotDagPb c why) h is = absurd h
-      text-stops-pinning told fault.TooMany h is = absurd h
-      text-stops-pinning told (fault.Store f) h is = (subst (λ x. StopsPinning t most cid (fault.Store x)) (sym h) tt, inl is)
+      pub text-stops-pinning : (list : List Cid) → reach (held_at t) most (cid ∷ []) ≡ Ok list → (told : Told) (f : PinFault) → GivesText cid pins (Err f) → told ≡ Some t → AddsPin t most cid (Err f) told
+      text-stops-pinning list reached told fault.BadPins h is = absurd h
+      text-stops-pinning list reached told fault.TooManyPins h is = (record { pins = pins; listed = listed; list = list; reached = reached; many = h }, inl is)
+      text-stops-pinning list reached told (fault.NotPinned c) h is = absurd h
+      text-stops-pinning list reached told (fault.NotDagPb c why) h is = absurd h
+      text-stops-pinning list reached told fault.TooMany h is = absurd h
+      text-stops-pinning list reached told (fault.Store f) h is = (subst (λ x. StopsPinning t most cid (fault.Store x)) (sym h) tt, inl is)
 
       module _ (list : List Cid) (reached : reach (held_at t) most (cid ∷ []) ≡ Ok list) where
         pub was-pinned : (told : Told) → WasThere cid pins → told ≡ Some (with_sync t) → AddsPin t most cid (Ok tt) told
@@ -106,8 +119,6 @@ module _ (t : Contents) (cid : Cid) where
           listed = listed;
           list = list;
           reached = reached;
-          others = h.others;
-          without = h.without;
           few = h.few;
           told_now = inl (record { was = h.was; synced = is });
         }
@@ -119,8 +130,6 @@ module _ (t : Contents) (cid : Cid) where
           listed = listed;
           list = list;
           reached = reached;
-          others = h.others;
-          without = h.without;
           few = h.few;
           told_now = inr (record { now = h.now; with_it = h.with_it; noted = ok ∙ ap (λ (x : List ℕ). Some (with_text Pins x (with_sync t))) h.text_is });
         }

@@ -12,7 +12,12 @@ use Rattle.std.proofs.lemmas.List.Elements.{Contains-append_cases, Contains-appe
 use Rattle.uf_cid.specs.Cid.{cid_text}
 use Rattle.uf_cid.specs.Read.{IsCid}
 use Rattle.uf_cid.specs.declared.cid.Cid.{Cid}
-use Rattle.uf_pins.specs.Calls.{IsFront, IsPlaceOf}
+use Rattle.std.specs.Cmp.{eq_by_cmp_equiv}
+use Rattle.std.specs.Ordering.{eq_by_cmp}
+use Rattle.uf_cid.specs.Cid.{cid_cmp}
+use Rattle.uf_store.proofs.Holding.{cid_cmp_total}
+use Rattle.uf_walk.proofs.Members.{ties}
+use Rattle.uf_pins.specs.Calls.{IsFront, IsPlaceOf, others}
 use Rattle.uf_pins.specs.Notes.{IsWith, IsWithout}
 use Rattle.uf_pins.specs.Texts.{AreAscending, ArePins, IsAbove, IsBefore}
 use Rattle.uf_pins.proofs.Placed.{there-at}
@@ -96,6 +101,28 @@ contains-with front behind c d = (
   ],
 )
 
+-- ---- how many are others
+
+module _ (c : Cid) where
+  others-none : (pins : List Cid) → (Contains pins c → ⊥) → others c pins ≡ length pins
+  others-none [] none = refl
+  others-none (p ∷ pins) none = by (others-none pins (λ h. none (Contains-append_right (p ∷ []) pins c h))) (eq_by_cmp cid_cmp c p) refl
+    where
+      by : others c pins ≡ length pins → (b : Bool) → eq_by_cmp cid_cmp c p ≡ b → cond b (others c pins) (1 + others c pins) ≡ length (p ∷ pins)
+      by all true same = absurd (none (subst (Contains (p ∷ pins)) (sym (ties c p same)) (Contains-append_left (p ∷ []) pins p (Contains-push [] p))))
+      by all false differ = omega (arith, all)
+
+  others-append : (xs ys : List Cid) → others c (xs ++ ys) ≡ others c xs + others c ys
+  others-append [] ys = omega arith
+  others-append (x ∷ xs) ys = by (others-append xs ys) (eq_by_cmp cid_cmp c x)
+    where
+      by : others c (xs ++ ys) ≡ others c xs + others c ys → (b : Bool) → cond b (others c (xs ++ ys)) (1 + others c (xs ++ ys)) ≡ cond b (others c xs) (1 + others c xs) + others c ys
+      by sum true = sum
+      by sum false = omega (arith, sum)
+
+  others-self : (pins : List Cid) → others c (c ∷ pins) ≡ others c pins
+  others-self pins = ap (λ b. cond b (others c pins) (1 + others c pins)) ((eq_by_cmp_equiv cid_cmp_total).refl c)
+
 -- ---- one more
 
 all-after : (c d : Cid) → IsBefore c d → (xs : List Cid) → AllByRecursion (IsBefore d) xs → AllByRecursion (IsBefore c) xs
@@ -174,17 +201,16 @@ module _ (pins : List Cid) (c : Cid) (at : ℕ) (are : ArePins pins) (rest : Lis
     );
   }
 
-  pub without-size : (now : List Cid) → now ≡ take at pins ++ rest → length now + 1 ≡ length pins
-  without-size now is =
-      let one = length-append (take at pins) rest in
-      let two = length-append (take at pins) (c ∷ rest) in
-      let same : length now ≡ length (take at pins ++ rest) = ap length is in
-      let all : length (take at pins ++ c ∷ rest) ≡ length pins = ap length whole-list in
-      omega (arith, one, two, same, all)
-
--- pins without one that isn't there are the same pins
-pub without-none : (pins : List Cid) (c : Cid) → ArePins pins → (Contains pins c → ⊥) → IsWithout c pins pins
-without-none pins c are none = record { are = are; each = λ d. (λ h. (h, λ e. none (subst (Contains pins) e h)), λ h. h.0) }
+  others-one : others c pins + 1 ≡ length pins
+  others-one =
+      let front = others-none c (take at pins) (above-not (take at pins) c (above-of (take at pins) rest c ascends)) in
+      let behind = others-none c rest (below-not rest c (ascending-back (take at pins) (c ∷ rest) ascends).0) in
+      let sum = others-append c (take at pins) (c ∷ rest) in
+      let mine = others-self c rest in
+      let all = length-append (take at pins) (c ∷ rest) in
+      let long : length (take at pins ++ c ∷ rest) ≡ length pins = ap length whole-list in
+      let same : others c (take at pins ++ c ∷ rest) ≡ others c pins = ap (others c) whole-list in
+      omega (arith, front, behind, sum, mine, all, long, same)
 
 -- what was pushed, piece by piece
 pub three : (none front behind first second third : List Cid) (c : Cid) → none ≡ [] → first ≡ none ++ front → second ≡ first ++ c ∷ [] → third ≡ second ++ behind → third ≡ front ++ c ∷ behind
@@ -194,21 +220,13 @@ three none front behind first second third c n a b d =
 pub two : (none front behind first second : List Cid) → none ≡ [] → first ≡ none ++ front → second ≡ first ++ behind → second ≡ front ++ behind
 two none front behind first second n a b = b ∙ ap (λ (l : List Cid). l ++ behind) (a ∙ ap (λ (l : List Cid). l ++ front) n)
 
--- the pins but one CID, wherever that is
-pub record Others (pins : List Cid) (c : Cid) (o : Option ℕ) : Type 0 where
-  pub others : List Cid
-  pub without : IsWithout c pins others
-  pub size : length others + cond (is_some o) 1 0 ≡ length pins
-
-pub others-of : (pins : List Cid) (c : Cid) (o : Option ℕ) → ArePins pins → IsPlaceOf c pins o → Others pins c o
-others-of pins c None are none = record { others = pins; without = without-none pins c are none; size = omega arith }
+-- how many of the pins are other CIDs, wherever the CID is
+pub others-of : (pins : List Cid) (c : Cid) (o : Option ℕ) → ArePins pins → IsPlaceOf c pins o → others c pins + cond (is_some o) 1 0 ≡ length pins
+others-of pins c None are none = (let all = others-none c pins none in omega (arith, all))
 others-of pins c (Some at) are there =
     let cut = cut-at pins at c there in
-    record {
-      others = take at pins ++ cut.0;
-      without = without-one pins c at are cut.0 cut.1 (take at pins ++ cut.0) refl;
-      size = without-size pins c at are cut.0 cut.1 (take at pins ++ cut.0) refl;
-    }
+    let one = others-one pins c at are cut.0 cut.1 in
+    omega (arith, one)
 
 pub contains-of : (pins : List Cid) (c : Cid) (o : Option ℕ) → IsPlaceOf c pins o → is_some o ≡ true → Contains pins c
 contains-of pins c None none is = cc

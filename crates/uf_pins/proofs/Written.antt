@@ -125,7 +125,7 @@ one-list bytes a b p q =
     by [] list left = sym (list ∙ append-nil a)
     by (c ∷ more) list left = absurd (some-line c (lines_of more) left)
 
-line-no-text : (bytes : List ℕ) (n : ℕ) → StopsAtLine bytes n → IsNoText bytes
+pub line-no-text : (bytes : List ℕ) (n : ℕ) → StopsAtLine bytes n → IsNoText bytes
 line-no-text bytes n s q also is =
     let m = text-more bytes s.rest s.pins q s.front also is in
     by m.more m.whole m.left
@@ -142,7 +142,7 @@ above-front (d ∷ p) c more h = (at-end p h.0, above-front p c more h.1)
     at-end [] k = k.0
     at-end (x ∷ xs) k = at-end xs k.1
 
-order-no-text : (bytes : List ℕ) (n : ℕ) → StopsAtOrder bytes n → IsNoText bytes
+pub order-no-text : (bytes : List ℕ) (n : ℕ) → StopsAtOrder bytes n → IsNoText bytes
 order-no-text bytes n s q also is =
     let m = text-more bytes (line_of s.cid ++ s.behind) s.pins q s.front also is in
     by m.more m.list m.whole m.left
@@ -153,7 +153,7 @@ order-no-text bytes n s q also is =
         let one = same_line s.cid d s.behind (lines_of more) s.whole whole.0 left in
         s.not_above (above-front s.pins s.cid more (subst AreAscending (list ∙ λ i. s.pins ++ sym one.0 i ∷ more) also.ascending))
 
-version-no-text : (bytes : List ℕ) → ((rest : List ℕ) → bytes ≢ first_line ++ rest) → IsNoText bytes
+pub version-no-text : (bytes : List ℕ) → ((rest : List ℕ) → bytes ≢ first_line ++ rest) → IsNoText bytes
 version-no-text bytes h q also is = h (lines_of q) is
 
 -- a fault of the reader is that of no text

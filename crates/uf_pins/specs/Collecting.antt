@@ -61,7 +61,7 @@ abbrev pub CollectsAll : Contents → ℕ → List Cid → Result ℕ PinFault �
 CollectsAll t most roots (Ok n) told = Collects t most roots n told
 CollectsAll t most roots (Err fault.BadPins) told = IsBadNote t.notes.pins × (told ≡ Some t)
 CollectsAll t most roots (Err fault.TooManyPins) told = ⊥
-CollectsAll t most roots (Err fault.NotPinned) told = ⊥
+CollectsAll t most roots (Err (fault.NotPinned c)) told = ⊥
 CollectsAll t most roots (Err (fault.NotDagPb c why)) told =
     StopsBelow t most roots (fault.NotDagPb c why) × (told ≡ Some t)
 CollectsAll t most roots (Err fault.TooMany) told = StopsBelow t most roots fault.TooMany × (told ≡ Some t)

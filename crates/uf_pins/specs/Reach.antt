@@ -42,7 +42,7 @@ StopsByStore said store.Memory = ⊤
 abbrev pub StopsReach : Result (List Cid) OrderFault → PinFault → Type 0
 StopsReach said fault.BadPins = ⊥
 StopsReach said fault.TooManyPins = ⊥
-StopsReach said fault.NotPinned = ⊥
+StopsReach said (fault.NotPinned c) = ⊥
 StopsReach said (fault.NotDagPb c why) = said ≡ Err (NotDagPb c why)
 StopsReach said fault.TooMany = said ≡ Err OverMost
 StopsReach said (fault.Store f) = StopsByStore said f

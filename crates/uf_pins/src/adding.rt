@@ -2,7 +2,7 @@
 ghost use Rattle.std.specs.Prelude.{◌≡◌, Some};
 ghost use Rattle.uf_store.specs.Contents.{Contents};
 ghost use Rattle.uf_store.specs.Faults.{NoneIsBad, Shown};
-ghost use Rattle.uf_pins.specs.Calls.{AddsPin, GivesText, pin_fault};
+ghost use Rattle.uf_pins.specs.Calls.{AddsPin, GivesText, WritesMore, pin_fault};
 ghost use Rattle.uf_pins.specs.Texts.{ArePins};
 
 use crate::below::reach_one;
@@ -28,6 +28,7 @@ pub fn add_pin<S: Store, L: Ledger>(
 ) -> Result<(), PinFault>
     ensures added { (t : Contents) → (S.seen store.old).told ≡ Some t
         → AddsPin t most cid.now result (S.seen store.new).told }
+    ensures writes { WritesMore result (S.seen store.old).told (S.seen store.new).told }
     ensures cause { Shown S.X.block32 NoneIsBad (pin_fault result) (S.seen store.old) (S.seen store.new) }
 {
     let pins = list_pins(alloc, store)?;

@@ -166,7 +166,7 @@ fn cids_named(alloc: Global, names: &[Named]) -> Result<Cids, Memory> {
 fn word_of(fault: PinFault) -> Said {
     match fault {
         PinFault::BadPins => Said::BadPins,
-        PinFault::NotPinned => Said::NotPinned,
+        PinFault::NotPinned(_) => Said::NotPinned,
         PinFault::NotDagPb(_, _) => Said::NotDagPb,
         PinFault::TooMany => Said::TooMany,
         PinFault::Store(StoreFault::Missing(_)) => Said::Missing,

@@ -14,7 +14,7 @@ use Rattle.uf_reply.specs.declared.types.Ask.{Ask}
 use Rattle.uf_reply.specs.declared.types.Edit.{Edit}
 use Rattle.uf_reply.specs.declared.types.Edit.TheVariants.{Cp, Mv}
 use Rattle.uf_reply.specs.Cids.{cid_reads}
-use Rattle.uf_reply.specs.Commands.{IsOfWords, add_asked, add_to_asked, adopt_asked, asked, at_path, both_paths, below_asked, cat_asked, from_to, get_asked, path_refusal, read_asked, write_asked}
+use Rattle.uf_reply.specs.Commands.{IsOfWords, add_asked, add_to_asked, adopt_asked, asked, at_path, both_paths, below_asked, cat_asked, from_to, get_asked, path_refusal, pin_asked, read_asked, write_asked}
 use Rattle.uf_reply.specs.Requests.{pull_asked, request_of}
 use Rattle.uf_reply.specs.declared.requests.Request.{Request}
 use Rattle.uf_reply.specs.declared.requests.Request.TheVariants.{One}
@@ -72,6 +72,14 @@ below-only compared (Err (path.BadName place)) = refl
 below-only compared (Err path.TooLong) = refl
 below-only compared (Err (path.BadCid why)) = refl
 below-only compared (Err path.Memory) = refl
+
+pin-only : (added : Bool) (r : Result Cid PathFault) → IsOfWords (pin_asked added r)
+pin-only added (Ok cid) = tt
+pin-only added (Err path.NotAbsolute) = refl
+pin-only added (Err (path.BadName place)) = refl
+pin-only added (Err path.TooLong) = refl
+pin-only added (Err (path.BadCid why)) = refl
+pin-only added (Err path.Memory) = refl
 
 write-only : (how : WriteHow) (hex : Option (List ℕ)) (r : Result Path PathFault) → IsOfWords (write_asked how hex r)
 write-only how None (Ok path) = tt
@@ -134,9 +142,9 @@ cmd-only (cmd.Gen n seed) = tt
 cmd-only (cmd.Chmod mode path) = refl
 cmd-only (cmd.Touch nanos seconds path) = refl
 cmd-only (cmd.Strip path) = refl
-cmd-only (cmd.PinAdd cid) = refl
-cmd-only (cmd.PinRm cid) = refl
-cmd-only cmd.PinLs = refl
+cmd-only (cmd.PinAdd cid) = pin-only true (cid_reads cid)
+cmd-only (cmd.PinRm cid) = pin-only false (cid_reads cid)
+cmd-only cmd.PinLs = tt
 cmd-only cmd.Gc = refl
 cmd-only (cmd.Prove absent path) = refl
 cmd-only (cmd.Check absent cid path) = refl

@@ -26,7 +26,9 @@ use Rattle.uf_words.specs.declared.command.Cmd.TheVariants as cmd
 use Rattle.uf_reply.specs.declared.types.Ask.{Ask}
 use Rattle.uf_reply.specs.declared.types.Ask.TheVariants.{Ls, Stat, Edit as Edits}
 use Rattle.uf_reply.specs.declared.types.Command.{Command}
-use Rattle.uf_reply.specs.declared.types.Command.TheVariants.{Init, Add, AddFrom, WriteInput, At, Read, Cat, Get, Export, Import, Same, Adopt, Gen, AddTo, AddFromTo}
+use Rattle.uf_reply.specs.declared.types.Command.TheVariants.{Init, Add, AddFrom, WriteInput, At, Read, Cat, Get, Export, Import, Same, Adopt, Gen, AddTo, AddFromTo, Pin}
+use Rattle.uf_reply.specs.declared.types.PinAsk.{PinAsk}
+use Rattle.uf_reply.specs.declared.types.PinAsk.TheVariants as pins
 use Rattle.uf_reply.specs.declared.types.Edit.{Edit}
 use Rattle.uf_reply.specs.declared.types.Edit.TheVariants.{Mkdir, Rm, Write, Truncate, Cp, Mv}
 use Rattle.uf_reply.specs.declared.types.Refusal.{Refusal}
@@ -91,6 +93,15 @@ abbrev pub below_asked : Bool → Result Cid PathFault → Result Command Refusa
 below_asked compared (Ok cid) = Ok (below compared cid)
 below_asked compared (Err why) = Err (path_refusal why)
 
+-- `pin add`, or else `pin rm`, of a CID
+abbrev pub pin_ask : (added : Bool) → Cid → PinAsk
+pin_ask true cid = pins.Add cid
+pin_ask false cid = pins.Remove cid
+
+abbrev pub pin_asked : (added : Bool) → Result Cid PathFault → Result Command Refusal
+pin_asked added (Ok cid) = Ok (Pin (pin_ask added cid))
+pin_asked added (Err why) = Err (path_refusal why)
+
 -- two paths, or why the first text that is none is none
 abbrev pub both_paths : Result Path PathFault → Result Path PathFault → Result (Path × Path) Refusal
 both_paths (Err why) dest = Err (path_refusal why)
@@ -138,6 +149,9 @@ asked (cmd.Export cid) = below_asked false (cid_reads cid)
 asked cmd.Import = Ok Import
 asked (cmd.Same cid) = below_asked true (cid_reads cid)
 asked (cmd.Gen n seed) = Ok (Gen n seed)
+asked (cmd.PinAdd cid) = pin_asked true (cid_reads cid)
+asked (cmd.PinRm cid) = pin_asked false (cid_reads cid)
+asked cmd.PinLs = Ok (Pin pins.List)
 -- a batch and a talk with a peer are no commands of one reply, and no line of a batch asks for one
 asked cmd.Batch = Err refusal.Usage
 asked (cmd.Pull cid) = Err refusal.Usage
@@ -146,9 +160,6 @@ asked cmd.Serve = Err refusal.Usage
 asked (cmd.Chmod mode path) = Err refusal.Usage
 asked (cmd.Touch nanos seconds path) = Err refusal.Usage
 asked (cmd.Strip path) = Err refusal.Usage
-asked (cmd.PinAdd cid) = Err refusal.Usage
-asked (cmd.PinRm cid) = Err refusal.Usage
-asked cmd.PinLs = Err refusal.Usage
 asked cmd.Gc = Err refusal.Usage
 asked (cmd.Prove absent path) = Err refusal.Usage
 asked (cmd.Check absent cid path) = Err refusal.Usage

@@ -10,11 +10,11 @@ use Rattle.uf_store.specs.declared.store.StoreFault.TheVariants as fault
 use Rattle.uf_reply.specs.declared.types.Refusal.{Refusal}
 use Rattle.uf_reply.specs.declared.types.Refusal.TheVariants as refusal
 
--- the kinds of refusals: a damaged block is a failure of the store, the sections of a CAR may lack a block, and blocks
--- may clash in a store of the command's own
+-- the kinds of refusals: a damaged block is a failure of the store, the sections of a CAR may lack a block, blocks may
+-- clash in a store of the command's own, and the note of pins may be none that is read
 pub data RefusalKind : Type 0 where
   OfRule OfDag OfHost OfPath OfLongInput OfUsage OfReady OfRead OfWrite OfFailure OfMissing OfBadBlock OfClash OfMemory
-      OfCar OfSections OfOwnClash : RefusalKind
+      OfCar OfSections OfOwnClash OfPins : RefusalKind
 
 -- its place among them, by which two are compared
 abbrev pub place_of : RefusalKind → ℕ
@@ -35,6 +35,7 @@ place_of OfMemory = 13
 place_of OfCar = 14
 place_of OfSections = 15
 place_of OfOwnClash = 16
+place_of OfPins = 17
 
 -- the kind is one of these
 abbrev pub is_among : RefusalKind → List RefusalKind → Bool
@@ -58,6 +59,7 @@ refusal_kind (refusal.BadPath why) = OfPath
 refusal_kind refusal.InputTooLong = OfLongInput
 refusal_kind refusal.Usage = OfUsage
 refusal_kind (refusal.Ready why) = OfReady
+refusal_kind refusal.BadPins = OfPins
 refusal_kind refusal.Read = OfRead
 refusal_kind refusal.Write = OfWrite
 refusal_kind (refusal.Store fault) = fault_kind fault
@@ -77,7 +79,8 @@ refusal_fault (Err why) = fault_behind why
 
 -- the kinds that a command may answer once its words are read, before it prints, beside want of memory and a clash: of
 -- `init`; `add` of the input, and of what a host has; `add --to-files` of either; `files write` of the input; the other
--- commands on the tree alone; `cat` and `dag export`; `get`; `dag import`; `dag same`; `files cp` from a DAG; and `gen`
+-- commands on the tree alone; `cat` and `dag export`; `get`; `dag import`; `dag same`; `files cp` from a DAG; `gen`;
+-- and the commands on pins
 abbrev pub init_kinds : List RefusalKind
 init_kinds = OfReady ∷ OfFailure ∷ []
 
@@ -116,6 +119,9 @@ adopt_kinds = OfRule ∷ OfDag ∷ OfReady ∷ OfFailure ∷ OfMissing ∷ OfBad
 
 abbrev pub gen_kinds : List RefusalKind
 gen_kinds = OfRule ∷ OfOwnClash ∷ []
+
+abbrev pub pin_kinds : List RefusalKind
+pin_kinds = OfDag ∷ OfPins ∷ OfFailure ∷ OfMissing ∷ []
 
 -- one of these kinds, want of memory or a clash: what calls on a store may answer
 abbrev pub may_meet : List RefusalKind → RefusalKind → Bool

@@ -7,6 +7,7 @@ pub mod Kinds
 pub mod Lines
 pub mod Natures
 pub mod Peers
+pub mod Pins
 pub mod Requests
 pub mod Statuses
 pub mod Telling

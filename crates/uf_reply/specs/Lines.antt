@@ -76,6 +76,10 @@ ready_line NoHead = codes "error: not ready 1\n"
 ready_line HeadThere = codes "error: not ready 2\n"
 ready_line BadHead = codes "error: not ready 3\n"
 
+-- a fourth: the note of pins isn't read
+abbrev pub bad_pins_line : List ℕ
+bad_pins_line = codes "error: not ready 4\n"
+
 abbrev pub role_word : Role → List ℕ
 role_word Directory = codes "directory"
 role_word (Shard level) = codes "shard"
@@ -139,6 +143,7 @@ line_of (refusal.BadPath why) = bad_path_line why
 line_of refusal.InputTooLong = codes "error: rule InputTooLong\n"
 line_of refusal.Usage = plain_line status.Usage
 line_of (refusal.Ready why) = ready_line why
+line_of refusal.BadPins = bad_pins_line
 line_of refusal.Read = plain_line status.ReadFault
 line_of refusal.Write = plain_line status.WriteFault
 line_of (refusal.Store why) = fault_line why

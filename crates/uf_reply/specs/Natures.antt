@@ -1,8 +1,8 @@
 -- The nature of each command: what it takes, what it leaves, when it prints, and what it may answer. A command is one
 -- row of `nature`; the words below it are fields of that row.
 use Rattle.std.specs.Prelude.{◌&&◌, ◌||◌, not, Bool, true, false, List, ⊤}
-use Rattle.uf_reply.specs.Kinds.{RefusalKind, OfRule, OfDag, OfHost, OfPath, OfLongInput, OfUsage, OfReady, OfRead, OfWrite, OfFailure, OfMissing, OfBadBlock, OfClash, OfMemory, OfCar, OfSections, OfOwnClash}
-use Rattle.uf_reply.specs.Kinds.{IsOf, is_among, init_kinds, add_kinds, add_host_kinds, place_kinds, place_host_kinds, write_input_kinds, tree_kinds, dag_kinds, get_kinds, import_kinds, same_kinds, adopt_kinds, gen_kinds}
+use Rattle.uf_reply.specs.Kinds.{RefusalKind, OfRule, OfDag, OfHost, OfPath, OfLongInput, OfUsage, OfReady, OfRead, OfWrite, OfFailure, OfMissing, OfBadBlock, OfClash, OfMemory, OfCar, OfSections, OfOwnClash, OfPins}
+use Rattle.uf_reply.specs.Kinds.{IsOf, is_among, init_kinds, add_kinds, add_host_kinds, place_kinds, place_host_kinds, write_input_kinds, tree_kinds, dag_kinds, get_kinds, import_kinds, same_kinds, adopt_kinds, gen_kinds, pin_kinds}
 use Rattle.std.specs.declared.result.Result.{Result}
 use Rattle.std.specs.declared.result.Result.TheVariants.{Ok, Err}
 use Rattle.uf_store.specs.declared.store.StoreFault.{StoreFault}
@@ -12,7 +12,9 @@ use Rattle.uf_reply.specs.declared.status.Status.TheVariants as status
 use Rattle.uf_reply.specs.declared.types.Ask.{Ask}
 use Rattle.uf_reply.specs.declared.types.Ask.TheVariants.{Ls, Stat, Edit as Edits}
 use Rattle.uf_reply.specs.declared.types.Command.{Command}
-use Rattle.uf_reply.specs.declared.types.Command.TheVariants.{Init, Add, AddFrom, WriteInput, At, Read, Cat, Get, Export, Import, Same, Adopt, Gen, AddTo, AddFromTo}
+use Rattle.uf_reply.specs.declared.types.Command.TheVariants.{Init, Add, AddFrom, WriteInput, At, Read, Cat, Get, Export, Import, Same, Adopt, Gen, AddTo, AddFromTo, Pin}
+use Rattle.uf_reply.specs.declared.types.PinAsk.{PinAsk}
+use Rattle.uf_reply.specs.declared.types.PinAsk.TheVariants as pins
 use Rattle.uf_reply.specs.declared.types.Refusal.{Refusal}
 use Rattle.uf_reply.specs.declared.types.Refusal.TheVariants as refusal
 
@@ -30,9 +32,10 @@ pub data HeadNeed : Type 0 where
   AnyHead NoHeadYet : HeadNeed
   AHead : (or_none : Bool) → HeadNeed
 
--- what it may write to the store: nothing; blocks and a sync; a Head where there was none; blocks, a sync and the Head
+-- what it may write to the store: nothing; blocks and a sync; a Head where there was none; blocks, a sync and the Head;
+-- a sync and the note of pins; that note alone
 pub data WriteShape : Type 0 where
-  NoWrites SyncsBlocks MakesHead MovesHead : WriteShape
+  NoWrites SyncsBlocks MakesHead MovesHead SyncsPins NotesPins : WriteShape
 
 -- when it prints: at its end; while it reads blocks; or once the Head is written that has what it added
 pub data Printing : Type 0 where
@@ -75,6 +78,12 @@ ask_writes (Ls long) = NoWrites
 ask_writes Stat = NoWrites
 ask_writes (Edits edit) = MovesHead
 
+-- a pin more has all below it synced first, and a list of the pins writes nothing
+abbrev pub pin_writes : PinAsk → WriteShape
+pin_writes (pins.Add cid) = SyncsPins
+pin_writes (pins.Remove cid) = NotesPins
+pin_writes pins.List = NoWrites
+
 -- one row for each command
 abbrev pub nature : Command → Nature
 nature (Init profile) = row NoInput NoHost NoHeadYet MakesHead AtEnd NoStore init_kinds
@@ -94,6 +103,7 @@ nature Import = row ReadsInput NoHost AnyHead SyncsBlocks AtEnd NoStore import_k
 nature (Same cid) = row ReadsInput NoHost AnyHead NoWrites AtEnd OfCarSections same_kinds
 nature (Adopt source dest) = row NoInput NoHost (AHead false) MovesHead AtEnd NoStore adopt_kinds
 nature (Gen n seed) = row NoInput NoHost AnyHead NoWrites AtEnd OfTree gen_kinds
+nature (Pin ask) = row NoInput NoHost AnyHead (pin_writes ask) AtEnd NoStore pin_kinds
 
 -- ---- its fields as tests
 
@@ -121,6 +131,8 @@ is_nothing_written NoWrites = true
 is_nothing_written SyncsBlocks = false
 is_nothing_written MakesHead = false
 is_nothing_written MovesHead = false
+is_nothing_written SyncsPins = false
+is_nothing_written NotesPins = false
 
 abbrev pub is_while_reading : Printing → Bool
 is_while_reading AtEnd = false
@@ -180,6 +192,10 @@ generates command = is_of_tree (nature command).own
 abbrev pub kinds_of : Command → List RefusalKind
 kinds_of command = (nature command).kinds
 
+-- it reads the note of pins
+abbrev pub uses_pins : Command → Bool
+uses_pins command = is_among OfPins (kinds_of command)
+
 -- it needs a Head, or that there is none, and reads no block but those of the tree that the Head names: no rule for
 -- DAGs of others refuses it
 abbrev pub reads_tree_alone : Command → Bool
@@ -216,7 +232,7 @@ may_give command status.ReadFault = may_end command OfRead
 may_give command status.WriteFault = may_end command OfWrite
 may_give command status.Clash = may_end command OfClash || may_end command OfOwnClash
 may_give command status.Memory = may_end command OfMemory
-may_give command status.NotReady = may_end command OfReady
+may_give command status.NotReady = may_end command OfReady || may_end command OfPins
 
 -- ---- how it is told that it ended
 

@@ -78,6 +78,7 @@ status_of (refusal.BadPath why) = status.Rule
 status_of refusal.InputTooLong = status.Rule
 status_of refusal.Usage = status.Usage
 status_of (refusal.Ready why) = status.NotReady
+status_of refusal.BadPins = status.NotReady
 status_of refusal.Read = status.ReadFault
 status_of refusal.Write = status.WriteFault
 status_of (refusal.Store why) = fault_status why

@@ -5,11 +5,11 @@ ghost use Rattle.uf_path.specs.Paths.{ReadsAs, dag_path_reads, is_slash, path_re
 ghost use Rattle.uf_reply.specs.Cids.{cid_reads, first_name_at as first_name_in, slashes_before as slashes_in_front};
 ghost use Rattle.uf_reply.specs.Commands.{IsAccepted, IsAsked, add_asked, add_to_asked, asked, at_path, both_paths};
 ghost use Rattle.uf_reply.specs.Commands.{adopt_asked, below_asked, cat_asked, cp_asked, get_asked, mv_asked, path_refusal};
-ghost use Rattle.uf_reply.specs.Commands.{read_asked, write_asked};
+ghost use Rattle.uf_reply.specs.Commands.{pin_asked, read_asked, write_asked};
 ghost use Rattle.uf_reply.specs.declared.types.Ask.TheVariants as asks;
 ghost use Rattle.uf_words.specs.Commands.{IsWithinLimits};
 
-use crate::{Ask, Command, Edit, Refusal};
+use crate::{Ask, Command, Edit, PinAsk, Refusal};
 use std::alloc::Global;
 use uf_cid::{Block, Cid, Text};
 use uf_path::{DagPath, Path, PathFault};
@@ -59,18 +59,10 @@ pub fn read_path(alloc: Global, cmd: Cmd) -> Result<Command, Refusal>
         Cmd::Import => Ok(Command::Import),
         Cmd::Same { cid } => read_below(alloc, &cid, true),
         Cmd::Gen { n, seed } => Ok(Command::Gen { n, seed }),
-        Cmd::Batch
-        | Cmd::Chmod { .. }
-        | Cmd::Touch { .. }
-        | Cmd::Strip { .. }
-        | Cmd::PinAdd { .. }
-        | Cmd::PinRm { .. }
-        | Cmd::PinLs
-        | Cmd::Gc
-        | Cmd::Prove { .. }
-        | Cmd::Check { .. }
-        | Cmd::Pull { .. }
-        | Cmd::Serve => Err(Refusal::Usage),
+        Cmd::PinAdd { cid } => read_pin(alloc, &cid, true),
+        Cmd::PinRm { cid } => read_pin(alloc, &cid, false),
+        Cmd::PinLs => Ok(Command::Pin { ask: PinAsk::List }),
+        _ => Err(Refusal::Usage),
     }
 }
 
@@ -176,6 +168,19 @@ fn read_below(alloc: Global, cid: &Text, compared: bool) -> Result<Command, Refu
         Ok(cid) => Ok(Command::Export { cid }),
         Err(why) => Err(bad_path(why)),
     }
+}
+
+// `pin add`, or else `pin rm`, of a CID.
+fn read_pin(alloc: Global, cid: &Text, added: bool) -> Result<Command, Refusal>
+    ensures asked { IsAsked result (pin_asked added (cid_reads cid.now)) }
+    ensures profile { IfOk result IsAccepted }
+{
+    let ask = match read_cid(alloc, cid.as_str()) {
+        Ok(cid) if added => PinAsk::Add { cid },
+        Ok(cid) => PinAsk::Remove { cid },
+        Err(why) => return Err(bad_path(why)),
+    };
+    Ok(Command::Pin { ask })
 }
 
 // The CID that a text is: a path in a DAG without names.

@@ -114,6 +114,8 @@ pub(crate) fn dag_words(alloc: Global, rule: &DagRule) -> Result<Block, Memory>
         DagRule::Unsupported(cid) => with_cid(alloc, b"Unsupported ", cid),
         DagRule::TooDeep(cid) => with_cid(alloc, b"TooDeep ", cid),
         DagRule::TooMany => plain(alloc, b"TooMany"),
+        DagRule::TooManyPins => plain(alloc, b"TooManyPins"),
+        DagRule::NotPinned(cid) => with_cid(alloc, b"NotPinned ", cid),
     }
 }
 

@@ -10,6 +10,7 @@ mod from;
 mod lines;
 mod natures;
 mod peers;
+mod pins;
 mod requests;
 mod rows;
 mod status;
@@ -23,8 +24,9 @@ pub use cars::{
 pub use dags::{adopted_name, dag_refusal, no_file};
 pub use lines::{line, plain, refusal_status, two_blocks};
 pub use peers::{pull_end, serve_end, tell_talk};
+pub use pins::cid_lines;
 pub use requests::{Request, read_request};
 pub use rows::{added_row, name_lines, put_added, put_line, put_number, row_lines, stat_text};
 pub use status::Status;
 pub use telling::{print, tell, tell_end};
-pub use types::{Ask, Command, DagRule, Edit, HostRule, PeerRefusal, PeerRule, Refusal};
+pub use types::{Ask, Command, DagRule, Edit, HostRule, PeerRefusal, PeerRule, PinAsk, Refusal};

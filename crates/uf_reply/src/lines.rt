@@ -27,7 +27,7 @@ pub fn refusal_status(refusal: &Refusal) -> Status
         | Refusal::InputTooLong
         | Refusal::Car { .. } => Status::Rule,
         Refusal::Usage => Status::Usage,
-        Refusal::Ready(_) => Status::NotReady,
+        Refusal::Ready(_) | Refusal::BadPins => Status::NotReady,
         Refusal::Read => Status::ReadFault,
         Refusal::Write => Status::WriteFault,
         Refusal::Store(fault) => status_of_fault(fault),
@@ -61,6 +61,7 @@ pub fn line(alloc: Global, refusal: &Refusal) -> Result<Block, Memory>
         Refusal::InputTooLong => plain(alloc, b"error: rule InputTooLong\n"),
         Refusal::Usage => plain(alloc, Status::Usage.plain_line()),
         Refusal::Ready(why) => plain(alloc, ready_line(*why)),
+        Refusal::BadPins => plain(alloc, b"error: not ready 4\n"),
         Refusal::Read => plain(alloc, Status::ReadFault.plain_line()),
         Refusal::Write => plain(alloc, Status::WriteFault.plain_line()),
         Refusal::Store(fault) => store_line(alloc, fault),

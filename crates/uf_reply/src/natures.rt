@@ -2,7 +2,7 @@
 ghost use Rattle.std.specs.Prelude.{◌≡◌};
 ghost use Rattle.uf_reply.specs.Natures.{calm_fault, only_reads, settled, without_clash as refusal_without_clash};
 
-use crate::{Ask, Command, Refusal};
+use crate::{Ask, Command, PinAsk, Refusal};
 use uf_store::StoreFault;
 
 impl Command {
@@ -25,7 +25,8 @@ impl Command {
             | Command::Get { .. }
             | Command::Export { .. }
             | Command::Same { .. }
-            | Command::Gen { .. } => true,
+            | Command::Gen { .. }
+            | Command::Pin { ask: PinAsk::List } => true,
             Command::Init { .. }
             | Command::Add { only_hash: false }
             | Command::AddFrom {
@@ -40,7 +41,10 @@ impl Command {
                 ..
             }
             | Command::Import
-            | Command::Adopt { .. } => false,
+            | Command::Adopt { .. }
+            | Command::Pin {
+                ask: PinAsk::Add { .. } | PinAsk::Remove { .. },
+            } => false,
         }
     }
 

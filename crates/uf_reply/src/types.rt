@@ -33,6 +33,17 @@ pub enum Ask {
     Edit { edit: Edit },
 }
 
+/// What is asked of the pins.
+#[derive(Drop)]
+pub enum PinAsk {
+    /// `pin add`: a CID is pinned.
+    Add { cid: Cid },
+    /// `pin rm`: it is pinned no more.
+    Remove { cid: Cid },
+    /// `pin ls`: the CIDs that are pinned.
+    List,
+}
+
 /// A command, its paths read.
 #[derive(Drop)]
 pub enum Command {
@@ -105,6 +116,10 @@ pub enum Command {
         n: u64,
         seed: u64,
     },
+    /// `pin add`, `pin rm` and `pin ls`: what is asked of the pins.
+    Pin {
+        ask: PinAsk,
+    },
 }
 
 /// The rules by which what is asked of the DAGs of others is refused.
@@ -128,6 +143,10 @@ pub enum DagRule {
     TooDeep(Cid),
     /// `TooMany`: there are too many blocks.
     TooMany,
+    /// `TooManyPins`: so many CIDs are pinned that no more may be.
+    TooManyPins,
+    /// `NotPinned`: the CID isn't pinned.
+    NotPinned(Cid),
 }
 
 /// The rules by which what is asked of the host is refused, each with a path in it.
@@ -162,6 +181,8 @@ pub enum Refusal {
     Usage,
     /// The store isn't ready for the command.
     Ready(Ready),
+    /// The note of pins isn't read.
+    BadPins,
     /// A reading of the input or of the host failed.
     Read,
     /// A writing of the output or to the host failed.

@@ -192,6 +192,7 @@ fn set_block<X: BlockHash>(world: &mut World<X>, word: Word, node: &[u8]) -> Res
         Word::Spoil => plant_node(world.alloc, &mut world.store, node, b"other")?,
         Word::Keep => plant_node(world.alloc, &mut world.store, node, node)?,
         Word::Head => return Ok(world.store.write_note(Note::Head, node) == Put::Done),
+        Word::Pins => return Ok(world.store.write_note(Note::Pins, node) == Put::Done),
         _ => return Ok(false),
     }
     Ok(true)

@@ -28,6 +28,7 @@ pub enum Word {
     WriteNote,
     Mend,
     Head,
+    Pins,
     Forget,
     ForgetLeaf,
     Spoil,
@@ -52,7 +53,7 @@ pub enum Word {
     Batch,
 }
 
-const WORDS: [(&str, Word); 42] = [
+const WORDS: [(&str, Word); 43] = [
     ("input", Word::Input),
     ("zeros", Word::Zeros),
     ("text", Word::Text),
@@ -75,6 +76,7 @@ const WORDS: [(&str, Word); 42] = [
     ("write-note-fails", Word::WriteNote),
     ("mend", Word::Mend),
     ("head", Word::Head),
+    ("pins", Word::Pins),
     ("forget", Word::Forget),
     ("forget-leaf", Word::ForgetLeaf),
     ("spoil", Word::Spoil),

@@ -119,6 +119,7 @@ module _ (X : List ℕ → List ℕ) where
   added-answers N s blocks p bytes (Err (refusal.BadPath why)) held a b l m i j stands stays row e shown f c counts read = absurd row
   added-answers N s blocks p bytes (Err refusal.Usage) held a b l m i j stands stays row e shown f c counts read = absurd row
   added-answers N s blocks p bytes (Err refusal.InputTooLong) held a b l m i j stands stays row e shown f c counts read = absurd row
+  added-answers N s blocks p bytes (Err refusal.BadPins) held a b l m i j stands stays row e shown f c counts read = absurd row
   added-answers N s blocks p bytes (Err (refusal.Ready why)) held a b l m i j stands stays row e shown f c counts read = absurd row
   added-answers N s blocks p bytes (Err refusal.Read) held a b l m i j stands stays row e shown f c counts read = absurd (not-rose i j (counts.rose refl) read)
   added-answers N s blocks p bytes (Err refusal.Write) held a b l m i j stands stays row e shown f c counts read = absurd row
@@ -154,6 +155,7 @@ module _ (X : List ℕ → List ℕ) where
   added-over N c d p es held_blocks bytes (Err (refusal.BadPath why)) held a b l m i j stands row e shown f g counts read = absurd row
   added-over N c d p es held_blocks bytes (Err refusal.Usage) held a b l m i j stands row e shown f g counts read = absurd row
   added-over N c d p es held_blocks bytes (Err refusal.InputTooLong) held a b l m i j stands row e shown f g counts read = absurd row
+  added-over N c d p es held_blocks bytes (Err refusal.BadPins) held a b l m i j stands row e shown f g counts read = absurd row
   added-over N c d p es held_blocks bytes (Err (refusal.Ready why)) held a b l m i j stands row e shown f g counts read = absurd row
   added-over N c d p es held_blocks bytes (Err refusal.Read) held a b l m i j stands row e shown f g counts read = absurd (not-rose i j (counts.rose refl) read)
   added-over N c d p es held_blocks bytes (Err refusal.Write) held a b l m i j stands row e shown f g counts read = absurd row
@@ -174,6 +176,7 @@ module _ (X : List ℕ → List ℕ) where
   unread-over good N p es given (refusal.BadPath why) a b names stands read shown f g = absurd read
   unread-over good N p es given refusal.Usage a b names stands read shown f g = absurd read
   unread-over good N p es given refusal.InputTooLong a b names stands read shown f g = absurd read
+  unread-over good N p es given refusal.BadPins a b names stands read shown f g = absurd read
   unread-over good N p es given (refusal.Ready why) a b names stands read shown f g = absurd (names-read X N good a.told p es names read.1)
   unread-over good N p es given refusal.Read a b names stands read shown f g = absurd read
   unread-over good N p es given refusal.Write a b names stands read shown f g = absurd read
@@ -203,6 +206,7 @@ module _ (X : List ℕ → List ℕ) where
   head-refused good N s only_hash bytes (refusal.BadPath why) a b told now read shown f c = absurd read
   head-refused good N s only_hash bytes refusal.Usage a b told now read shown f c = absurd read
   head-refused good N s only_hash bytes refusal.InputTooLong a b told now read shown f c = absurd read
+  head-refused good N s only_hash bytes refusal.BadPins a b told now read shown f c = absurd read
   head-refused good N s only_hash bytes (refusal.Ready why) a b told now read shown f c =
       let bad = standing-bad X N good a.told s told read.1 in
       subst (λ s. Answers X N s (add_reply X only_hash s bytes) (Err (refusal.Ready why)) b.told) (sym bad)
@@ -257,6 +261,7 @@ module _ (X : List ℕ → List ℕ) where
   adds-of only_hash told held p (Err (refusal.BadPath why)) l m by row = tt
   adds-of only_hash told held p (Err refusal.Usage) l m by row = tt
   adds-of only_hash told held p (Err refusal.InputTooLong) l m by row = tt
+  adds-of only_hash told held p (Err refusal.BadPins) l m by row = tt
   adds-of only_hash told held p (Err (refusal.Ready why)) l m by row = tt
   adds-of only_hash told held p (Err refusal.Read) l m by row = tt
   adds-of only_hash told held p (Err refusal.Write) l m by row = tt
@@ -272,6 +277,7 @@ module _ (X : List ℕ → List ℕ) where
   adds-read only_hash told (refusal.BadPath why) l m read = tt
   adds-read only_hash told refusal.Usage l m read = tt
   adds-read only_hash told refusal.InputTooLong l m read = tt
+  adds-read only_hash told refusal.BadPins l m read = tt
   adds-read only_hash told (refusal.Ready why) l m read = tt
   adds-read only_hash told refusal.Read l m read = tt
   adds-read only_hash told refusal.Write l m read = tt
@@ -288,6 +294,7 @@ module _ (X : List ℕ → List ℕ) where
   row-ready only_hash told held p (Err (refusal.BadPath why)) l m row = tt
   row-ready only_hash told held p (Err refusal.Usage) l m row = tt
   row-ready only_hash told held p (Err refusal.InputTooLong) l m row = tt
+  row-ready only_hash told held p (Err refusal.BadPins) l m row = tt
   row-ready only_hash told held p (Err (refusal.Ready why)) l m row = absurd row
   row-ready only_hash told held p (Err refusal.Read) l m row = tt
   row-ready only_hash told held p (Err refusal.Write) l m row = tt
@@ -325,6 +332,7 @@ read-ready only_hash told (refusal.Host rule) read = tt
 read-ready only_hash told (refusal.BadPath why) read = tt
 read-ready only_hash told refusal.Usage read = tt
 read-ready only_hash told refusal.InputTooLong read = tt
+read-ready only_hash told refusal.BadPins read = tt
 read-ready only_hash told (refusal.Ready why) read = subst (λ why. IsReason (Add only_hash) why told) (sym read.0) (unread-reason told only_hash read.1)
 read-ready only_hash told refusal.Read read = tt
 read-ready only_hash told refusal.Write read = tt
@@ -343,6 +351,7 @@ synced-row X p a b entry row (Err (refusal.Host rule)) l m leaves is row_is stop
 synced-row X p a b entry row (Err (refusal.BadPath why)) l m leaves is row_is stops file = absurd stops
 synced-row X p a b entry row (Err refusal.Usage) l m leaves is row_is stops file = absurd stops
 synced-row X p a b entry row (Err refusal.InputTooLong) l m leaves is row_is stops file = absurd stops
+synced-row X p a b entry row (Err refusal.BadPins) l m leaves is row_is stops file = absurd stops
 synced-row X p a b entry row (Err (refusal.Ready why)) l m leaves is row_is stops file = absurd stops
 synced-row X p a b entry row (Err refusal.Read) l m leaves is row_is stops file = absurd stops
 synced-row X p a b entry row (Err refusal.Write) l m leaves is row_is stops file = absurd stops

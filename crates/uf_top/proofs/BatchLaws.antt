@@ -1,7 +1,5 @@
 -- What a batch keeps, from what each of its lines keeps.
-use Rattle.std.proofs.Common.{◌≡◌, ◌∙◌, ℕ, List, [], ◌∷◌, false, refl, sym, ap, subst, inl, inr, Option, Some, Result, Ok, Err}
-use Rattle.std.specs.Prelude.{◌⊎◌}
-use Rattle.uf_edge.specs.Host.{HostTold}
+use Rattle.std.proofs.Common.{◌≡◌, ◌∙◌, ℕ, List, [], ◌∷◌, sym, ap, subst, inl, inr}
 use Rattle.uf_edge.specs.Streams as streams
 use Rattle.uf_store.specs.Keeping.{KeepsGood}
 use Rattle.uf_store.proofs.Keeping.{KeepsGood-refl, KeepsGood-trans}
@@ -9,7 +7,7 @@ use Rattle.uf_reply.specs.declared.status.Status.{Status}
 use Rattle.uf_reply.specs.declared.types.Refusal.{Refusal}
 use Rattle.uf_top.specs.Around.{Around}
 use Rattle.uf_top.proofs.LineHosts.{asks-leaves}
-use Rattle.uf_top.specs.Batch.{AtLine, Batches, ByMemory, ByReading, EndsSo, Ending, LineCut, LineDone, LineEnds, LineGone, LinesDone, Scene, Tells, TooLong, WithInput}
+use Rattle.uf_top.specs.Batch.{AtLine, Batches, ByMemory, ByReading, EndsSo, Ending, LineDone, LineGone, LinesDone, Scene, Tells, TooLong, WithInput}
 
 module _ (X : List ℕ → List ℕ) (N : List ℕ → ℕ) where
   abbrev GoodStays : Scene → Scene → Type 0

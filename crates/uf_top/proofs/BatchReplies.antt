@@ -18,7 +18,7 @@ use Rattle.uf_reply.specs.Statuses.{ends_batch, mark}
 use Rattle.uf_reply.specs.declared.status.Status.{Status}
 use Rattle.uf_reply.specs.declared.status.Status.TheVariants as status
 use Rattle.uf_reply.specs.declared.types.Command.{Command}
-use Rattle.uf_reply.specs.declared.types.Command.TheVariants.{Init, Add, AddFrom, WriteInput, At, Read, Cat, Get, Export, Import, Same, Adopt, Gen, AddTo, AddFromTo}
+use Rattle.uf_reply.specs.declared.types.Command.TheVariants.{Init, Add, AddFrom, WriteInput, At, Read, Cat, Get, Export, Import, Same, Adopt, Gen, AddTo, AddFromTo, Pin}
 use Rattle.uf_reply.specs.declared.types.Refusal.{Refusal}
 use Rattle.uf_top.specs.Around.{Around, CountsCanRise, HasOutside, NoneFalls, RoseAt, StaysQuiet}
 use Rattle.uf_top.specs.Batch.{AtLine, Batches, ByMemory, ByReading, EndsSo, Ending, LineCut, LineDone, LineEnds, LineGone, LinePassed, LinesDone, PrintsCut, PrintsWhole, ReadingFails, Said, Scene, SinkSide, TooLong, WithInput, output_of, with_sinks}
@@ -31,6 +31,8 @@ use Rattle.uf_top.proofs.BatchCounts.{ends-counted, fails-first, fails-last, gon
 use Rattle.uf_top.proofs.Counted.{rose-not-stood}
 use Rattle.uf_top.proofs.LineHosts.{Suits, asks-suits}
 use Rattle.uf_top.proofs.Losing.{named-of}
+use Rattle.uf_top.proofs.Pins.{noted-pins, pins-good, pins-head}
+use Rattle.uf_top.proofs.Standings.{stands-kept}
 
 -- ---- what stands after a command that suits a batch
 
@@ -73,6 +75,7 @@ module _ (X : List ℕ → List ℕ) (N : List ℕ → ℕ) where
   next-same (Ok (Same cid)) w none = refl
   next-same (Ok (Adopt source dest)) w none = absurd cc
   next-same (Ok (Gen n seed)) w none = refl
+  next-same (Ok (Pin ask)) w none = refl
 
   module _ (done : Bool) (s t : Standing) (a b : Told) where
     -- nothing was written
@@ -97,6 +100,7 @@ module _ (X : List ℕ → List ℕ) (N : List ℕ → ℕ) where
     stands-now (Ok (Same cid)) suits writes same stands now = untouched writes (same refl) stands
     stands-now (Ok (Adopt source dest)) suits writes same stands now = now
     stands-now (Ok (Gen n seed)) suits writes same stands now = untouched writes (same refl) stands
+    stands-now (Ok (Pin ask)) suits writes same stands now = subst (TellsAs X N b) (sym (same refl)) (stands-kept X N a b s (pins-good X ask done a b writes) (pins-head X ask done a b writes) stands)
 
   -- ---- a line
 
@@ -104,8 +108,8 @@ module _ (X : List ℕ → List ℕ) (N : List ℕ → ℕ) where
     suits : Suits done.asked
     suits = asks-suits line done.asked done.asks
 
-    pub outside-of : (s : Standing) (held : Lookup) → a.around.host.told ≡ Some host → Stood a.around.host.reads b.around.host.reads → HasOutside done.asked (outside_of (line_world host s held)) a.around b.around
-    outside-of s held tells stood = (λ reads. absurd (let e : true ≡ false = sym reads ∙ suits.0 in cc), λ uses. (tells, stood))
+    pub outside-of : (s : Standing) (held : Lookup) → a.around.host.told ≡ Some host → Stood a.around.host.reads b.around.host.reads → HasOutside done.asked (outside_of (line_world host s held (noted-pins a.around.store.told).0)) a.around b.around
+    outside-of s held tells stood = (λ reads. absurd (let e : true ≡ false = sym reads ∙ suits.0 in cc), λ uses. (tells, stood), λ uses. (noted-pins a.around.store.told).1)
 
     pub quiet-of : NothingFails a.around b.around → StaysQuiet done.asked given a.around b.around
     quiet-of h = record {
@@ -117,7 +121,7 @@ module _ (X : List ℕ → List ℕ) (N : List ℕ → ℕ) where
     pub host-same : b.around.host.told ≡ a.around.host.told
     host-same = done.runs.host_told suits.1
 
-    pub finds-of : (s : Standing) (held : Lookup) → TellsAs X N a.around.store.told s → TellsBlocks a.around.store.told held → FindsWorld X N done.asked a.around.store.told (line_world host s held)
+    pub finds-of : (s : Standing) (held : Lookup) → TellsAs X N a.around.store.told s → TellsBlocks a.around.store.told held → FindsWorld X N done.asked a.around.store.told (line_world host s held (noted-pins a.around.store.told).0)
     finds-of s held stands blocks = record { stands = if-needed (of_command needs_standing true done.asked) a.around.store.told s stands; held = blocks }
 
     pub stands-next : (s t : Standing) → (of_command needs_standing true done.asked ≡ false → t ≡ s) → TellsAs X N a.around.store.told s → StandsIf X N (of_command needs_standing true done.asked) b.around.store.told t
@@ -135,14 +139,14 @@ module _ (X : List ℕ → List ℕ) (N : List ℕ → ℕ) where
       room : CountsCanRise a.around.store
       room = record { faults = omega (arith, done.runs.counted.store.faults, h.store.faults); clashes = omega (arith, done.runs.counted.store.clashes, h.store.clashes) }
 
-      names-over : (s : Standing) (held : Lookup) → TellsAs X N a.around.store.told s → TellsBlocks a.around.store.told held → FindsOver X N a.around.store.told b.around.store.told done.asked (line_world host s held)
+      names-over : (s : Standing) (held : Lookup) → TellsAs X N a.around.store.told s → TellsBlocks a.around.store.told held → FindsOver X N a.around.store.told b.around.store.told done.asked (line_world host s held (noted-pins a.around.store.told).0)
       names-over s held stands blocks = record { names = names-if (of_command needs_standing true done.asked) a.around.store.told b.around.store.told s done.runs.good stands; held = blocks }
 
-      prints-front : (s : Standing) (held : Lookup) → TellsAs X N a.around.store.told s → TellsBlocks a.around.store.told held → PrintsPart (reply_to X N done.asked (line_world host s held)).ends a.around.held b.around.held
-      prints-front s held stands blocks = done.runs.prefix (line_world host s held) (names-over s held stands blocks) (outside-of s held tells h.host) room
+      prints-front : (s : Standing) (held : Lookup) → TellsAs X N a.around.store.told s → TellsBlocks a.around.store.told held → PrintsPart (reply_to X N done.asked (line_world host s held (noted-pins a.around.store.told).0)).ends a.around.held b.around.held
+      prints-front s held stands blocks = done.runs.prefix (line_world host s held (noted-pins a.around.store.told).0) (names-over s held stands blocks) (outside-of s held tells h.host) room
 
       answered-by : (s : Standing) (held : Lookup) → TellsBlocks a.around.store.told held → TellsAs X N a.around.store.told s
-          → EndsAs (Said a.errors b.errors) X N done.asked (line_world host s held) given a.around.held b.around.held b.around.store.told b.around.host.told → (next : Standing) × LineAnswered X N host line given s next a b
+          → EndsAs (Said a.errors b.errors) X N done.asked (line_world host s held (noted-pins a.around.store.told).0) given a.around.held b.around.held b.around.store.told b.around.host.told → (next : Standing) × LineAnswered X N host line given s next a b
       answered-by s held blocks stands (inl wants) = (
         s,
         record {
@@ -150,26 +154,32 @@ module _ (X : List ℕ → List ℕ) (N : List ℕ → ℕ) where
           asks = done.asks;
           held = held;
           blocks = blocks;
+          pins = (noted-pins a.around.store.told).0;
+          noted = (noted-pins a.around.store.told).1;
           stood = stands;
           ends = inl wants;
           prints = prints-front s held stands blocks;
           next_is = inr (wants.status_is, refl);
+          moved = done.runs.pins;
           stands = stands-next s s (λ none. refl) stands wants.stands;
           touches = touched s stands;
         },
       )
       answered-by s held blocks stands (inr replies) = (
-        (reply_to X N done.asked (line_world host s held)).next,
+        (reply_to X N done.asked (line_world host s held (noted-pins a.around.store.told).0)).next,
         record {
           asked = done.asked;
           asks = done.asks;
           held = held;
           blocks = blocks;
+          pins = (noted-pins a.around.store.told).0;
+          noted = (noted-pins a.around.store.told).1;
           stood = stands;
           ends = inr replies;
           prints = prints-front s held stands blocks;
           next_is = inl refl;
-          stands = stands-next s (reply_to X N done.asked (line_world host s held)).next (λ none. next-same done.asked (line_world host s held) none) stands replies.0.stands;
+          moved = done.runs.pins;
+          stands = stands-next s (reply_to X N done.asked (line_world host s held (noted-pins a.around.store.told).0)).next (λ none. next-same done.asked (line_world host s held (noted-pins a.around.store.told).0) none) stands replies.0.stands;
           touches = touched s stands;
         },
       )
@@ -178,7 +188,7 @@ module _ (X : List ℕ → List ℕ) (N : List ℕ → ℕ) where
       answered s stands = by (held-of a.around.store.told s stands)
         where
           by : ((held : Lookup) × TellsBlocks a.around.store.told held) → (next : Standing) × LineAnswered X N host line given s next a b
-          by h0 = answered-by s h0.0 h0.1 stands (done.runs.replies (line_world host s h0.0) (finds-of s h0.0 stands h0.1) (outside-of s h0.0 tells h.host) (quiet-of h))
+          by h0 = answered-by s h0.0 h0.1 stands (done.runs.replies (line_world host s h0.0 (noted-pins a.around.store.told).0) (finds-of s h0.0 stands h0.1) (outside-of s h0.0 tells h.host) (quiet-of h))
 
     -- no writing of the output failed
     pub wrote : Stood a.around.writes b.around.writes → given ≡ status.WriteFault → ⊥
@@ -332,12 +342,12 @@ module _ (X : List ℕ → List ℕ) (N : List ℕ → ℕ) where
         → b.around.held ≡ streams.after a.around.held (line_printed X N host line given s next a (before-mark r.printed b) r.answered)
     line-prints line last given s next a b r not = by r.answered.ends
       where
-        by : EndsAs (Said a.errors b.errors) X N r.answered.asked (line_world host s r.answered.held) given a.around.held r.printed.held b.around.store.told b.around.host.told
+        by : EndsAs (Said a.errors b.errors) X N r.answered.asked (line_world host s r.answered.held r.answered.pins) given a.around.held r.printed.held b.around.store.told b.around.host.told
             → b.around.held ≡ streams.after a.around.held (line_printed X N host line given s next a (before-mark r.printed b) r.answered)
         by (inl wants) = absurd (not wants.status_is)
         by (inr replies) =
-            r.marked.printed ∙ ap (λ (h : streams.Told). streams.after h (mark given)) (all-printed (reply_to X N r.answered.asked (line_world host s r.answered.held)).ends a.around.held r.printed.held replies.0.printed)
-            ∙ after-then a.around.held (printed_by (reply_to X N r.answered.asked (line_world host s r.answered.held)).ends) (mark given)
+            r.marked.printed ∙ ap (λ (h : streams.Told). streams.after h (mark given)) (all-printed (reply_to X N r.answered.asked (line_world host s r.answered.held r.answered.pins)).ends a.around.held r.printed.held replies.0.printed)
+            ∙ after-then a.around.held (printed_by (reply_to X N r.answered.asked (line_world host s r.answered.held r.answered.pins)).ends) (mark given)
 
     same-prints : (a b : Scene) → b.around ≡ a.around → b.around.held ≡ streams.after a.around.held []
     same-prints a b same = ap (λ (x : Around). x.held) same ∙ after-nothing a.around.held

@@ -1,8 +1,9 @@
 -- What a stop during a batch leaves.
-use Rattle.std.proofs.Common.{◌≡◌, ◌∙◌, ℕ, ◌≤◌, ◌<◌, ◌^◌, List, [], ◌∷◌, ◌++◌, Bool, true, false, arith, refl, sym, ap, subst, inl, inr, append_assoc, append-nil, None, Some, Result, Ok, Err}
+use Rattle.std.proofs.Common.{◌≡◌, ◌∙◌, ℕ, ◌≤◌, ◌<◌, ◌^◌, List, [], ◌∷◌, ◌++◌, Bool, true, false, arith, refl, sym, ap, subst, inl, inr, append_assoc, append-nil, Option, None, Some, Result, Ok, Err}
 use Rattle.std.proofs.lemmas.Bool.{cases_lt}
 use Rattle.std.specs.Prelude.{◌⊎◌}
 use Rattle.uf_cid.specs.Blocks.{Held, Lookup}
+use Rattle.uf_cid.specs.declared.cid.Cid.{Cid}
 use Rattle.uf_edge.specs.Counts.{Stood}
 use Rattle.uf_edge.specs.Host.{HostTree}
 use Rattle.uf_edge.specs.Streams as streams
@@ -27,7 +28,7 @@ use Rattle.uf_tree.specs.TreePlan.{blocks}
 use Rattle.uf_tree.specs.Validity.{IsHash}
 use Rattle.uf_tree.specs.declared.profile.Profile.{Profile}
 use Rattle.uf_reply.specs.Commands.{of_command}
-use Rattle.uf_reply.specs.Natures.{WriteShape, MakesHead, MovesHead, NoWrites, SyncsBlocks, command_writes, prints_after}
+use Rattle.uf_reply.specs.Natures.{WriteShape, MakesHead, MovesHead, NoWrites, NotesPins, SyncsBlocks, SyncsPins, command_writes, prints_after}
 use Rattle.uf_reply.specs.Lines.{stat_text}
 use Rattle.uf_reply.specs.Statuses.{ends_batch}
 use Rattle.uf_reply.specs.declared.status.Status.{Status}
@@ -35,7 +36,7 @@ use Rattle.uf_reply.specs.declared.status.Status.TheVariants as status
 use Rattle.uf_reply.specs.declared.types.Ask.{Ask}
 use Rattle.uf_reply.specs.declared.types.Ask.TheVariants.{Ls, Stat, Edit as Edits}
 use Rattle.uf_reply.specs.declared.types.Command.{Command}
-use Rattle.uf_reply.specs.declared.types.Command.TheVariants.{Init, Add, AddFrom, WriteInput, At, Read, Cat, Get, Export, Import, Same, Adopt, Gen, AddTo, AddFromTo}
+use Rattle.uf_reply.specs.declared.types.Command.TheVariants.{Init, Add, AddFrom, WriteInput, At, Read, Cat, Get, Export, Import, Same, Adopt, Gen, AddTo, AddFromTo, Pin}
 use Rattle.uf_reply.specs.declared.types.Refusal.{Refusal}
 use Rattle.uf_store.specs.Seen.{Seen}
 use Rattle.uf_top.specs.Answering.{LeavesNext}
@@ -53,6 +54,7 @@ use Rattle.uf_top.proofs.BatchHeads.{first-of, head-or, last-of, more-of}
 use Rattle.uf_top.proofs.BatchReplies.{finds-of, held-of, host-same, next-same, outside-of, quiet-of, stands-next}
 use Rattle.uf_top.proofs.Firm.{added-is, cut, firm-leaves, safe-firm}
 use Rattle.uf_top.proofs.LineHosts.{Suits, asks-suits}
+use Rattle.uf_top.proofs.Pins.{noted-pins, notes-wrote, syncs-wrote}
 use Rattle.uf_top.proofs.Standings.{stands-kept}
 use Rattle.uf_top.proofs.Stopped.{words-end}
 
@@ -110,6 +112,8 @@ module _ (X : List ℕ → List ℕ) where
   shape-wrote MakesHead false a b h = left-wrote a b h
   shape-wrote MovesHead true a b h = head-wrote a b h
   shape-wrote MovesHead false a b h = left-wrote a b h
+  shape-wrote SyncsPins done a b h = syncs-wrote X done a b h
+  shape-wrote NotesPins done a b h = notes-wrote X done a b h
 
   words-wrote : (asked : Result Command Refusal) (done : Bool) (a b : Told) → WritesFor X asked done a b → WritesOnly X a b
   words-wrote (Ok command) done a b h = shape-wrote (command_writes command) done a b h
@@ -146,25 +150,26 @@ module _ (X : List ℕ → List ℕ) (N : List ℕ → ℕ) (p : Profile) (es : 
   ask-tree Stat names = looked-tree p es names (λ t. stat_text (stat_of X N p t)) (at 0 names (Dir es))
   ask-tree (Edits edit) names = moved-tree (edited_by X N edit names p es)
 
-  reply-tree : (host : HostTree) (held : Lookup) (asked : Result Command Refusal) → Suits asked → IsTreeOf (reply_to X N asked (line_world host (Stands p es) held)).next
-  reply-tree host held (Err why) suits = (p, es, refl)
-  reply-tree host held (Ok (Init q)) suits = (p, es, refl)
-  reply-tree host held (Ok (Add only_hash)) suits = absurd (let e : true ≡ false = suits.0 in cc)
-  reply-tree host held (Ok (AddFrom recursive true path)) suits = hosted-tree (λ t. []) path (tree_on_host X N p host recursive path)
-  reply-tree host held (Ok (AddFrom recursive false path)) suits = hosted-tree (blocks X N p) path (tree_on_host X N p host recursive path)
-  reply-tree host held (Ok (AddTo dest)) suits = absurd (let e : true ≡ false = suits.0 in cc)
-  reply-tree host held (Ok (AddFromTo recursive path dest)) suits =
+  reply-tree : (host : HostTree) (held : Lookup) (listed : Option (List Cid)) (asked : Result Command Refusal) → Suits asked → IsTreeOf (reply_to X N asked (line_world host (Stands p es) held listed)).next
+  reply-tree host held listed (Err why) suits = (p, es, refl)
+  reply-tree host held listed (Ok (Init q)) suits = (p, es, refl)
+  reply-tree host held listed (Ok (Add only_hash)) suits = absurd (let e : true ≡ false = suits.0 in cc)
+  reply-tree host held listed (Ok (AddFrom recursive true path)) suits = hosted-tree (λ t. []) path (tree_on_host X N p host recursive path)
+  reply-tree host held listed (Ok (AddFrom recursive false path)) suits = hosted-tree (blocks X N p) path (tree_on_host X N p host recursive path)
+  reply-tree host held listed (Ok (AddTo dest)) suits = absurd (let e : true ≡ false = suits.0 in cc)
+  reply-tree host held listed (Ok (AddFromTo recursive path dest)) suits =
       settled-tree (host_text X N p path) (placed X N (added_spot dest (Some path) es) (host_tree path (tree_on_host X N p host recursive path)) p es)
-  reply-tree host held (Ok (WriteInput how path)) suits = absurd (let e : true ≡ false = suits.0 in cc)
-  reply-tree host held (Ok (At ask path)) suits = ask-tree ask path.names
-  reply-tree host held (Ok (Read offset count path)) suits = looked-tree p es path.names (λ bytes. bytes) (read offset count path.names es)
-  reply-tree host held (Ok (Cat path)) suits = (p, es, refl)
-  reply-tree host held (Ok (Get path host_path)) suits = (p, es, refl)
-  reply-tree host held (Ok (Export cid)) suits = (p, es, refl)
-  reply-tree host held (Ok Import) suits = (p, es, refl)
-  reply-tree host held (Ok (Same cid)) suits = (p, es, refl)
-  reply-tree host held (Ok (Adopt source dest)) suits = grown-tree (adopted X N held source dest p es)
-  reply-tree host held (Ok (Gen n seed)) suits = (p, es, refl)
+  reply-tree host held listed (Ok (WriteInput how path)) suits = absurd (let e : true ≡ false = suits.0 in cc)
+  reply-tree host held listed (Ok (At ask path)) suits = ask-tree ask path.names
+  reply-tree host held listed (Ok (Read offset count path)) suits = looked-tree p es path.names (λ bytes. bytes) (read offset count path.names es)
+  reply-tree host held listed (Ok (Cat path)) suits = (p, es, refl)
+  reply-tree host held listed (Ok (Get path host_path)) suits = (p, es, refl)
+  reply-tree host held listed (Ok (Export cid)) suits = (p, es, refl)
+  reply-tree host held listed (Ok Import) suits = (p, es, refl)
+  reply-tree host held listed (Ok (Same cid)) suits = (p, es, refl)
+  reply-tree host held listed (Ok (Adopt source dest)) suits = grown-tree (adopted X N held source dest p es)
+  reply-tree host held listed (Ok (Gen n seed)) suits = (p, es, refl)
+  reply-tree host held listed (Ok (Pin ask)) suits = (p, es, refl)
 
 -- ---- a line
 
@@ -231,18 +236,18 @@ module _ (X : List ℕ → List ℕ) (N : List ℕ → ℕ) (host : HostTree) wh
     abbrev NextTree : Type 0
     NextTree = (q : Profile) × (fs : Entries) × TellsAs X N b.around.store.told (Stands q fs)
 
-    by-reply : (held : Lookup) → TellsAs X N b.around.store.told (reply_to X N done.asked (line_world host (Stands p es) held)).next → NextTree
-    by-reply held now = (let r = reply-tree X N p es host held done.asked (asks-suits line done.asked done.asks) in (r.0, r.1, subst (TellsAs X N b.around.store.told) r.2 now))
+    by-reply : (held : Lookup) → TellsAs X N b.around.store.told (reply_to X N done.asked (line_world host (Stands p es) held (noted-pins a.around.store.told).0)).next → NextTree
+    by-reply held now = (let r = reply-tree X N p es host held (noted-pins a.around.store.told).0 done.asked (asks-suits line done.asked done.asks) in (r.0, r.1, subst (TellsAs X N b.around.store.told) r.2 now))
 
     after-ok : given ≡ status.Ok → ((held : Lookup) × TellsBlocks a.around.store.told held) → NextTree
-    after-ok is h0 = by (done.runs.replies (line_world host (Stands p es) h0.0) (finds-of X N host line given a b done (Stands p es) h0.0 stands h0.1) (outside-of X N host line given a b done (Stands p es) h0.0 begin.host_told fails.host) (quiet-of X N host line given a b done fails))
+    after-ok is h0 = by (done.runs.replies (line_world host (Stands p es) h0.0 (noted-pins a.around.store.told).0) (finds-of X N host line given a b done (Stands p es) h0.0 stands h0.1) (outside-of X N host line given a b done (Stands p es) h0.0 begin.host_told fails.host) (quiet-of X N host line given a b done fails))
       where
         fails : NothingFails a.around b.around
         fails = nothing-fails (quiet-status given status.Ok is (λ e. cc, λ e. cc, λ e. cc, λ e. cc)) (λ e. (let k : status.Ok ≡ status.WriteFault = sym is ∙ e in cc))
 
-        by : EndsAs (Said a.errors b.errors) X N done.asked (line_world host (Stands p es) h0.0) given a.around.held b.around.held b.around.store.told b.around.host.told → NextTree
+        by : EndsAs (Said a.errors b.errors) X N done.asked (line_world host (Stands p es) h0.0 (noted-pins a.around.store.told).0) given a.around.held b.around.held b.around.store.told b.around.host.told → NextTree
         by (inl wants) = absurd (let k : status.Ok ≡ status.Memory = sym is ∙ wants.status_is in cc)
-        by (inr replies) = by-reply h0.0 (stands-next X N host line given a b done (Stands p es) (reply_to X N done.asked (line_world host (Stands p es) h0.0)).next (λ none. next-same X N done.asked (line_world host (Stands p es) h0.0) none) stands replies.0.stands)
+        by (inr replies) = by-reply h0.0 (stands-next X N host line given a b done (Stands p es) (reply_to X N done.asked (line_world host (Stands p es) h0.0 (noted-pins a.around.store.told).0)).next (λ none. next-same X N done.asked (line_world host (Stands p es) h0.0 (noted-pins a.around.store.told).0) none) stands replies.0.stands)
 
     after-unprinted : given ≡ status.WriteFault → of_command prints_after false done.asked ≡ true → ((held : Lookup) × TellsBlocks a.around.store.told held) → NextTree
     after-unprinted is after h0 = by-reply h0.0 left.stands
@@ -250,8 +255,8 @@ module _ (X : List ℕ → List ℕ) (N : List ℕ → ℕ) (host : HostTree) wh
         quiet : Quiet given
         quiet = quiet-status given status.WriteFault is (λ e. cc, λ e. cc, λ e. cc, λ e. cc)
 
-        left : LeavesNext X N (reply_to X N done.asked (line_world host (Stands p es) h0.0)) b.around.store.told
-        left = done.runs.unprinted (line_world host (Stands p es) h0.0) after is (finds-of X N host line given a b done (Stands p es) h0.0 stands h0.1) (outside-of X N host line given a b done (Stands p es) h0.0 begin.host_told (host-read quiet)) (calm quiet)
+        left : LeavesNext X N (reply_to X N done.asked (line_world host (Stands p es) h0.0 (noted-pins a.around.store.told).0)) b.around.store.told
+        left = done.runs.unprinted (line_world host (Stands p es) h0.0 (noted-pins a.around.store.told).0) after is (finds-of X N host line given a b done (Stands p es) h0.0 stands h0.1) (outside-of X N host line given a b done (Stands p es) h0.0 begin.host_told (host-read quiet)) (calm quiet)
 
     -- a status by which the line may move the Head
     after-moved : (is : Status) → given ≡ is → may_move done.asked is ≡ true → NextTree

@@ -177,6 +177,7 @@ reading-kinds hash a b (refusal.OwnClash cid first second) of h = absurd of
 reading-kinds hash a b (refusal.Host r) of h = absurd of
 reading-kinds hash a b (refusal.BadPath p) of h = absurd of
 reading-kinds hash a b refusal.InputTooLong of h = absurd of
+reading-kinds hash a b refusal.BadPins of h = absurd of
 reading-kinds hash a b refusal.Usage of h = absurd of
 reading-kinds hash a b (refusal.Ready r) of h = absurd of
 reading-kinds hash a b refusal.Read of h = absurd of
@@ -197,6 +198,7 @@ no-blame hash a b (refusal.OwnClash cid first second) of h blames = of
 no-blame hash a b (refusal.Host r) of h blames = blames
 no-blame hash a b (refusal.BadPath p) of h blames = of
 no-blame hash a b refusal.InputTooLong of h blames = of
+no-blame hash a b refusal.BadPins of h blames = of
 no-blame hash a b refusal.Usage of h blames = of
 no-blame hash a b (refusal.Ready r) of h blames = of
 no-blame hash a b refusal.Read of h blames = of
@@ -223,6 +225,7 @@ plain-of command told l m i (refusal.CarLacks cid) of = absurd of
 plain-of command told l m i (refusal.OwnClash cid first second) of = absurd of
 plain-of command told l m i (refusal.BadPath p) of = absurd of
 plain-of path told l m i refusal.InputTooLong of = absurd of
+plain-of path told l m i refusal.BadPins of = absurd of
 plain-of path told l m i refusal.Usage of = absurd of
 plain-of command told l m i (refusal.Ready r) of = absurd of
 plain-of path told l m i refusal.Read of = absurd of
@@ -244,6 +247,7 @@ own-wants hash a b (refusal.OwnClash cid first second) own h calm = absurd own
 own-wants hash a b (refusal.Host r) own h calm = absurd own
 own-wants hash a b (refusal.BadPath p) own h calm = absurd own
 own-wants hash a b refusal.InputTooLong own h calm = absurd own
+own-wants hash a b refusal.BadPins own h calm = absurd own
 own-wants hash a b refusal.Usage own h calm = absurd own
 own-wants hash a b (refusal.Ready r) own h calm = absurd own
 own-wants hash a b refusal.Read own h calm = absurd own
@@ -310,6 +314,7 @@ module _ (X : List ℕ → List ℕ) (N : List ℕ → ℕ) (path : DagPath) (a 
         reads = plain.reads;
         host = refl;
         gets = tt;
+        pins = tt;
         writes = subst (λ f. RisesFor f w w2) (sym quiet.unwritten) (record { rose = λ e. absurd cc; still = λ e. still });
         cause = shown-by X NoneIsBad (IsBadIn X N a.told b.told) (fault_behind why) a b (λ role bytes bad. absurd bad) cause;
         whole = λ s needs stands calm. absurd cc;
@@ -341,6 +346,7 @@ module _ (X : List ℕ → List ℕ) (N : List ℕ → ℕ) (path : DagPath) (a 
     reads = counts-still i;
     host = refl;
     gets = tt;
+    pins = tt;
     writes = record { rose = λ e. absurd cc; still = λ e. still };
     cause = calm;
     whole = λ s needs stands quiet. absurd cc;
@@ -373,6 +379,7 @@ module _ (X : List ℕ → List ℕ) (N : List ℕ → ℕ) (path : DagPath) (a 
     reads = counts-still i;
     host = refl;
     gets = tt;
+    pins = tt;
     writes = record { rose = counts.rose; still = λ e. absurd cc };
     cause = calm;
     whole = λ s needs stands quiet. absurd cc;

@@ -10,7 +10,7 @@ use Rattle.uf_store.specs.Contents.{Told}
 use Rattle.uf_store.specs.declared.store.StoreFault.{StoreFault}
 use Rattle.uf_store.specs.declared.store.StoreFault.TheVariants.{Failed, Damaged, Missing, BadBlock, Clash, Memory}
 use Rattle.uf_tree.specs.declared.profile.Profile.{Profile}
-use Rattle.uf_reply.specs.Kinds.{IsOf, RefusalKind, OfRule, OfDag, OfHost, OfPath, OfLongInput, OfUsage, OfReady, OfRead, OfWrite, OfFailure, OfMissing, OfBadBlock, OfClash, OfMemory, OfCar, OfSections, OfOwnClash, init_kinds, add_kinds, tree_kinds, fault_kind, may_meet, opened_kinds, read_kind, refusal_kind}
+use Rattle.uf_reply.specs.Kinds.{IsOf, RefusalKind, OfRule, OfDag, OfHost, OfPath, OfLongInput, OfUsage, OfReady, OfRead, OfWrite, OfFailure, OfMissing, OfBadBlock, OfClash, OfMemory, OfCar, OfSections, OfOwnClash, OfPins, init_kinds, add_kinds, tree_kinds, fault_kind, may_meet, opened_kinds, read_kind, refusal_kind}
 use Rattle.uf_reply.specs.declared.types.Command.{Command}
 use Rattle.uf_reply.specs.declared.types.Refusal.{Refusal}
 use Rattle.uf_reply.specs.declared.types.Refusal.TheVariants as refusal
@@ -39,6 +39,7 @@ row-kinds X p held (Err (refusal.Host rule)) l m row = absurd row
 row-kinds X p held (Err (refusal.BadPath why)) l m row = absurd row
 row-kinds X p held (Err refusal.Usage) l m row = absurd row
 row-kinds X p held (Err refusal.InputTooLong) l m row = absurd row
+row-kinds X p held (Err refusal.BadPins) l m row = absurd row
 row-kinds X p held (Err (refusal.Ready why)) l m row = refl
 row-kinds X p held (Err refusal.Read) l m row = refl
 row-kinds X p held (Err refusal.Write) l m row = absurd row
@@ -55,6 +56,7 @@ read-kinds (refusal.Host rule) told read = absurd read
 read-kinds (refusal.BadPath why) told read = absurd read
 read-kinds refusal.Usage told read = absurd read
 read-kinds refusal.InputTooLong told read = absurd read
+read-kinds refusal.BadPins told read = absurd read
 read-kinds (refusal.Ready why) told read = refl
 read-kinds refusal.Read told read = refl
 read-kinds refusal.Write told read = absurd read
@@ -121,6 +123,7 @@ opened-of (Err (refusal.Host rule)) h = h
 opened-of (Err (refusal.BadPath why)) h = h
 opened-of (Err refusal.Usage) h = h
 opened-of (Err refusal.InputTooLong) h = h
+opened-of (Err refusal.BadPins) h = h
 opened-of (Err (refusal.Ready why)) h = refl
 opened-of (Err refusal.Read) h = h
 opened-of (Err refusal.Write) h = h
@@ -137,6 +140,7 @@ opened-ready told command (Err (refusal.Host rule)) h = tt
 opened-ready told command (Err (refusal.BadPath why)) h = tt
 opened-ready told command (Err refusal.Usage) h = tt
 opened-ready told command (Err refusal.InputTooLong) h = tt
+opened-ready told command (Err refusal.BadPins) h = tt
 opened-ready told command (Err (refusal.Ready why)) h = absurd cc
 opened-ready told command (Err refusal.Read) h = tt
 opened-ready told command (Err refusal.Write) h = tt
@@ -161,6 +165,7 @@ tree-reads OfMemory h = refl
 tree-reads OfCar h = refl
 tree-reads OfSections h = refl
 tree-reads OfOwnClash h = refl
+tree-reads OfPins h = refl
 
 init-reads : (k : RefusalKind) → may_meet init_kinds k ≡ true → read_kind k ≡ false
 init-reads OfRule h = refl
@@ -180,6 +185,7 @@ init-reads OfMemory h = refl
 init-reads OfCar h = refl
 init-reads OfSections h = refl
 init-reads OfOwnClash h = refl
+init-reads OfPins h = refl
 
 pub tree-counts : (r : Result (List ℕ) Refusal) (i : ℕ) → IsOf (may_meet tree_kinds) r → Counts (is_read r) i i
 tree-counts (Ok text) i h = counts-still i
@@ -200,6 +206,7 @@ head-counts (refusal.Host rule) told i read = absurd read
 head-counts (refusal.BadPath why) told i read = absurd read
 head-counts refusal.Usage told i read = absurd read
 head-counts refusal.InputTooLong told i read = absurd read
+head-counts refusal.BadPins told i read = absurd read
 head-counts (refusal.Ready why) told i read = counts-still i
 head-counts refusal.Read told i read = absurd read
 head-counts refusal.Write told i read = absurd read

@@ -55,6 +55,7 @@ of-comparing told cid (refusal.Dag rule) h = record { other = λ e. cc; ready = 
 of-comparing told cid (refusal.Host rule) h = absurd cc
 of-comparing told cid (refusal.BadPath why) h = absurd cc
 of-comparing told cid refusal.InputTooLong h = absurd cc
+of-comparing told cid refusal.BadPins h = absurd cc
 of-comparing told cid refusal.Usage h = absurd cc
 of-comparing told cid (refusal.Ready why) h = absurd cc
 of-comparing told cid refusal.Read h = record { other = λ e. cc; ready = tt; rule = λ e. absurd cc; blames = λ b. b }
@@ -103,6 +104,7 @@ module _ (X : List ℕ → List ℕ) (N : List ℕ → ℕ) (cid : Cid) (a b : S
         reads = k.counts;
         host = refl;
         gets = tt;
+        pins = tt;
         writes = subst (λ f. RisesFor f w w) (sym quiet.unwritten) (rises-still w);
         cause = shown-by X NoneIsBad (IsBadIn X N a.told b.told) (fault_behind why) a b (λ role bytes bad. absurd bad) k.cause;
         whole = λ s needs stands calm. absurd cc;
@@ -139,6 +141,7 @@ module _ (X : List ℕ → List ℕ) (N : List ℕ → ℕ) (cid : Cid) (a b : S
       reads = k.counts;
       host = refl;
       gets = tt;
+      pins = tt;
       writes = record { rose = counts.rose; still = counts.still };
       cause = k.cause;
       whole = λ s needs stands calm. absurd cc;
@@ -167,6 +170,7 @@ module _ (X : List ℕ → List ℕ) (N : List ℕ → ℕ) (cid : Cid) (a b : S
       reads = k.counts;
       host = refl;
       gets = tt;
+      pins = tt;
       writes = record { rose = c.counts.rose; still = c.counts.still };
       cause = k.cause;
       whole = λ s needs stands calm. absurd cc;

@@ -1,8 +1,8 @@
 -- How what is held is compared with a CAR.
 use Rattle.std.proofs.Common.{◌≡◌, ◌⊎◌, ℕ, List, [], ◌∷◌, ◌++◌, false, arith, refl, sym, ap, subst, ◌∙◌, inl, inr, take, drop, append-nil, Some, None, Option, Result, Ok, Err}
 use Rattle.std.proofs.lemmas.List.{take-append-drop, take_all}
-use Rattle.std.specs.Prelude.{Contains, IfErr, IfSome}
-use Rattle.uf_car.specs.Clashing.{HasTwo, TwoBlocks, first_clash, sections_clash, sections_held}
+use Rattle.std.specs.Prelude.{Contains, IfSome}
+use Rattle.uf_car.specs.Clashing.{HasTwo, sections_clash, sections_held}
 use Rattle.uf_car.specs.Importing.{ImportsCar, RefusesCar, car_fault, is_source_fault, stops, with_saves}
 use Rattle.uf_car.specs.Reading.{Read, car_read}
 use Rattle.uf_car.specs.declared.fault.CarFault.{CarFault}
@@ -13,14 +13,13 @@ use Rattle.uf_cid.specs.Blocks.{Held, IsClash, Lookup}
 use Rattle.uf_cid.specs.Cid.{cid_cmp}
 use Rattle.uf_cid.specs.declared.cid.Cid.{Cid}
 use Rattle.std.specs.FinMap.{get-empty}
-use Rattle.uf_edge.specs.Counts.{Counts, Stood}
+use Rattle.uf_edge.specs.Counts.{Counts}
 use Rattle.uf_edge.specs.Streams as streams
 use Rattle.uf_same.specs.Comparing.{IsOfLoads, Judges, MissesNone, left_fault, right_fault}
 use Rattle.uf_same.specs.Verdict.{Verdict, verdict}
 use Rattle.uf_same.specs.declared.answer.Compared.{Compared}
 use Rattle.uf_same.specs.declared.answer.SameFault.{SameFault}
 use Rattle.uf_same.specs.declared.answer.SameFault.TheVariants as same
-use Rattle.uf_store.specs.Calls.{Calm}
 use Rattle.uf_store.specs.Clashes.{IsSaving}
 use Rattle.uf_store.specs.Contents.{Contents, Told, changed, held_at}
 use Rattle.uf_store.specs.Faults.{NoneIsBad, Shown, StaysCalm}
@@ -32,12 +31,11 @@ use Rattle.uf_store.specs.declared.store.StoreFault.{StoreFault}
 use Rattle.uf_store.specs.declared.store.StoreFault.TheVariants as fault
 use Rattle.uf_store.proofs.Causes.{StaysCalm-refl, calm-memory}
 use Rattle.uf_reply.specs.Cars.{car_refusal, kept_refusal, most_blocks, most_car}
-use Rattle.uf_reply.specs.Kinds.{same_kinds, IsOf, may_meet, refusal_fault}
+use Rattle.uf_reply.specs.Kinds.{refusal_fault}
 use Rattle.uf_reply.specs.Statuses.{no_memory}
 use Rattle.uf_reply.specs.declared.types.Refusal.{Refusal}
 use Rattle.uf_reply.specs.declared.types.Refusal.TheVariants as refusal
-use Rattle.uf_top.specs.Cars.{ByOwnStore, ComparesCar, ComparesStores, IsRootOf, LacksSection, SparesStore, TakesRoot, TellsRoot, TwoSections, root_alone}
-use Rattle.uf_top.specs.Causes.{is_read}
+use Rattle.uf_top.specs.Cars.{ComparesCar, ComparesStores, IsRootOf, SparesStore, TakesRoot, root_alone}
 use Rattle.uf_top.specs.Naming.{TellsBlocks}
 use Rattle.uf_top.specs.Reply.{by_answer, by_roots, car_compared, compared_text, not_one_root, same_refusal, unless_two, verdict_told}
 use Rattle.uf_top.proofs.Kept.{free-of}

@@ -75,6 +75,7 @@ ready-read offset count path told (refusal.OwnClash cid first second) h = tt
 ready-read offset count path told (refusal.Host rule) h = tt
 ready-read offset count path told (refusal.BadPath why) h = tt
 ready-read offset count path told refusal.InputTooLong h = tt
+ready-read offset count path told refusal.BadPins h = tt
 ready-read offset count path told refusal.Usage h = tt
 ready-read offset count path told (refusal.Ready why) h = h
 ready-read offset count path told refusal.Read h = tt
@@ -406,6 +407,7 @@ module _ (X : List ℕ → List ℕ) (N : List ℕ → ℕ) (offset count : ℕ)
       reads = sent-reads done i kind;
       host = refl;
       gets = tt;
+      pins = tt;
       writes = sending-counts X (IsBadRead X N m.told found.root.cid) m b w w2 r done sent cause;
       cause = shown-after X (IsBadIn X N a.told b.told) (refusal_fault done) a m b calm
           (shown-by X (IsBadRead X N m.told found.root.cid) (IsBadIn X N a.told b.told) (refusal_fault done) m b (λ role bytes bad. bad-of-read (subst (λ t. IsBadRead X N t found.root.cid role bytes) told bad)) (sending-shown X (IsBadRead X N m.told found.root.cid) m b w w2 r done sent cause));

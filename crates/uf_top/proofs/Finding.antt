@@ -9,7 +9,7 @@ use Rattle.uf_store.specs.declared.store.StoreFault.TheVariants as fault
 use Rattle.uf_store.specs.Contents.{Told}
 use Rattle.uf_tree.specs.Heads.{head_text}
 use Rattle.uf_tree.specs.Standing.{Standing, NoHead, BadHead, Stands}
-use Rattle.uf_tree.specs.Tree.{Tree, Dir, Entries}
+use Rattle.uf_tree.specs.Tree.{Dir, Entries}
 use Rattle.uf_tree.specs.TreePlan.{entry}
 use Rattle.uf_tree.specs.declared.nodes.Entry.{Entry}
 use Rattle.uf_tree.specs.declared.profile.Profile.{Profile}
@@ -55,6 +55,7 @@ kind-finds (refusal.Host rule) missing bad sections = rule-finds
 kind-finds (refusal.BadPath why) missing bad sections = rule-finds
 kind-finds refusal.Usage missing bad sections = (λ e. cc, λ e. cc)
 kind-finds refusal.InputTooLong missing bad sections = (λ e. cc, λ e. cc)
+kind-finds refusal.BadPins missing bad sections = (λ e. cc, λ e. cc)
 kind-finds (refusal.Ready why) missing bad sections = unready-finds
 kind-finds refusal.Read missing bad sections = (λ e. cc, λ e. cc)
 kind-finds refusal.Write missing bad sections = (λ e. cc, λ e. cc)

@@ -9,7 +9,7 @@ use Rattle.uf_store.specs.Contents.{Contents, HeldMap, Notes, held_after, no_not
 use Rattle.uf_store.specs.Stops.{IsPart, IsPlain, firm, firm_after, held_by, notes_by, written}
 use Rattle.uf_store.specs.Writing.{Appends, IsAny, IsSave, ReplaceNone}
 use Rattle.uf_store.specs.declared.store.Note.{Note}
-use Rattle.uf_store.specs.declared.store.Note.TheVariants.{Head}
+use Rattle.uf_store.specs.declared.store.Note.TheVariants.{Head, Pins}
 use Rattle.uf_store.specs.declared.store.Write.{Write}
 use Rattle.uf_store.specs.declared.store.Write.TheVariants.{Saved, Synced, Noted}
 use Rattle.uf_store.proofs.Keeping.{Holds-kept}
@@ -148,6 +148,9 @@ plain-synced hash m plain = stays_plain hash IsAny (Some m) (Some (with_sync m))
 pub plain-noted : (hash : List ℕ → List ℕ) (m : Contents) (text : List ℕ) → IsPlain m → IsPlain (with_text Head text m)
 plain-noted hash m text plain = stays_plain hash IsAny (Some m) (Some (with_text Head text m)) plain (WritesOnly-noted hash Head text (Some m) (Some (with_text Head text m)) refl)
 
+pub plain-pinned : (hash : List ℕ → List ℕ) (m : Contents) (text : List ℕ) → IsPlain m → IsPlain (with_text Pins text m)
+plain-pinned hash m text plain = stays_plain hash IsAny (Some m) (Some (with_text Pins text m)) plain (WritesOnly-noted hash Pins text (Some m) (Some (with_text Pins text m)) refl)
+
 -- ---- trees that no stop takes away
 
 module _ (X : List ℕ → List ℕ) (N : List ℕ → ℕ) (p : Profile) (es : Entries) where
@@ -205,3 +208,13 @@ module _ (X : List ℕ → List ℕ) (N : List ℕ → ℕ) (p : Profile) (es : 
   -- a sync leaves it so
   pub firm-synced : (m : Contents) → IsPlain m → IsFirm m.writes → IsFirm (with_sync m).writes
   firm-synced m plain f = firm-of (with_sync m) (plain-synced X m plain) (synced-firm m.writes ∙ sym plain.held ∙ (plain-synced X m plain).held) (firm-stands m plain f)
+
+  -- so does a note of pins
+  pub firm-pinned : (m : Contents) (text : List ℕ) → IsPlain m → IsFirm m.writes → IsFirm (with_text Pins text m).writes
+  firm-pinned m text plain f =
+      let n = with_text Pins text m in
+      let plain_n = plain-pinned X m text plain in
+      record {
+        stands = subst (λ (k : Notes). LeavesTree X N p es (held_by n.writes) k) plain_n.notes (subst (λ (h : HeldMap). LeavesTree X N p es h n.notes) plain_n.held (firm-stands m plain f));
+        firm_too = subst (λ (h : HeldMap). blocks.Holds (λ cid. get h cid) (blocks_of X N p (Dir es))) (sym (noted-firm m.writes Pins text)) f.firm_too;
+      }

@@ -1,7 +1,7 @@
 -- How what is at a path in a DAG is written to the host.
 use Rattle.std.proofs.Common.{◌≡◌, ◌⊎◌, ℕ, List, [], true, false, refl, sym, ap, subst, ◌∙◌, inl, inr, Option, Some, None, Result, Ok, Err}
 use Rattle.std.specs.FinMap.{get}
-use Rattle.std.specs.Prelude.{IfErr, IfSome, IsSome, ⊤}
+use Rattle.std.specs.Prelude.{IfErr, IfSome, IsSome}
 use Rattle.uf_cid.specs.Blocks.{Lookup}
 use Rattle.uf_cid.specs.declared.cid.Cid.{Cid}
 use Rattle.uf_edge.specs.Counts.{Counts, Stood}
@@ -26,9 +26,8 @@ use Rattle.uf_store.specs.Calls.{Calm}
 use Rattle.uf_store.specs.Contents.{Contents, Told, held_at}
 use Rattle.uf_store.specs.Faults.{NoneIsBad, Shown}
 use Rattle.uf_store.specs.Seen.{Seen}
-use Rattle.uf_store.specs.declared.store.StoreFault.{StoreFault}
 use Rattle.uf_store.specs.declared.store.StoreFault.TheVariants as fault
-use Rattle.uf_store.proofs.Calls.{shown-by, shown-rises}
+use Rattle.uf_store.proofs.Calls.{shown-by}
 use Rattle.uf_store.proofs.Keeping.{KeepsGood-same}
 use Rattle.uf_tree.specs.Tree.{Entries, Tree}
 use Rattle.uf_tree.specs.declared.profile.Profile.{Profile}
@@ -53,7 +52,7 @@ use Rattle.uf_top.specs.Losing.{DoesOver}
 use Rattle.uf_top.specs.Naming.{StaysNamed, TellsBlocks}
 use Rattle.uf_top.specs.Reply.{Outside, World, gotten, in_silence, in_world, or_before, put_on_host, reply, where_room}
 use Rattle.uf_top.specs.Working.{Does}
-use Rattle.uf_top.proofs.Cats.{below-fault, no-blame, of-reading, own-wants, same-fault, tells-some, way-fault}
+use Rattle.uf_top.proofs.Cats.{below-fault, of-reading, own-wants, same-fault, tells-some, way-fault}
 use Rattle.uf_top.proofs.Grafted.{fault-tree}
 use Rattle.uf_top.proofs.Losing.{names-same}
 use Rattle.uf_top.proofs.Printing.{after-nothing, nothing-printed, rises-still, whole-printed}
@@ -101,6 +100,7 @@ wider (refusal.OwnClash cid first second) of = absurd of
 wider (refusal.Host r) of = absurd of
 wider (refusal.BadPath p) of = absurd of
 wider refusal.InputTooLong of = absurd of
+wider refusal.BadPins of = absurd of
 wider refusal.Usage of = absurd of
 wider (refusal.Ready r) of = absurd of
 wider refusal.Read of = absurd of
@@ -121,6 +121,7 @@ no-edge (refusal.OwnClash cid first second) of = absurd of
 no-edge (refusal.Host r) of = absurd of
 no-edge (refusal.BadPath p) of = absurd of
 no-edge refusal.InputTooLong of = absurd of
+no-edge refusal.BadPins of = absurd of
 no-edge refusal.Usage of = absurd of
 no-edge (refusal.Ready r) of = absurd of
 no-edge refusal.Read of = absurd of
@@ -143,6 +144,7 @@ module _ (held : Lookup) (source : DagPath) (path : List ℕ) (told now : HostTo
   refused-gets (refusal.Host r) of n = absurd of
   refused-gets (refusal.BadPath p) of n = absurd of
   refused-gets refusal.InputTooLong of n = absurd of
+  refused-gets refusal.BadPins of n = absurd of
   refused-gets refusal.Usage of n = absurd of
   refused-gets (refusal.Ready r) of n = absurd of
   refused-gets refusal.Read of n = absurd of
@@ -170,7 +172,9 @@ module _ (held : Lookup) (source : DagPath) (path : List ℕ) (told now : HostTo
   ways-of (refusal.BadPath p) (inl n) = inr (inl n)
   ways-of (refusal.BadPath p) (inr q) = inr (inr q.0)
   ways-of refusal.InputTooLong (inl n) = inr (inl n)
+  ways-of refusal.BadPins (inl n) = inr (inl n)
   ways-of refusal.InputTooLong (inr p) = inr (inr p.0)
+  ways-of refusal.BadPins (inr p) = inr (inr p.0)
   ways-of refusal.Usage (inl n) = inr (inl n)
   ways-of refusal.Usage (inr p) = inr (inr p.0)
   ways-of (refusal.Ready r) (inl n) = inr (inl n)
@@ -193,6 +197,7 @@ module _ (held : Lookup) (source : DagPath) (path : List ℕ) (told now : HostTo
   leaves-of (Err (refusal.Host r)) of (inr p) = absurd p.0
   leaves-of (Err (refusal.BadPath p)) of g = absurd of
   leaves-of (Err refusal.InputTooLong) of g = absurd of
+  leaves-of (Err refusal.BadPins) of g = absurd of
   leaves-of (Err refusal.Usage) of g = absurd of
   leaves-of (Err (refusal.Ready r)) of g = absurd of
   leaves-of (Err refusal.Read) of (inl n) = n.same
@@ -386,6 +391,7 @@ of-getting hash a b told source path l (refusal.OwnClash cid first second) of h 
 of-getting hash a b told source path l (refusal.Host r) of h = record { kinds = refl; ready = tt; rule = λ e. inl (r, refl); prints = λ held. refl; blames = λ blames. blames }
 of-getting hash a b told source path l (refusal.BadPath p) of h = absurd of
 of-getting hash a b told source path l refusal.InputTooLong of h = absurd of
+of-getting hash a b told source path l refusal.BadPins of h = absurd of
 of-getting hash a b told source path l refusal.Usage of h = absurd of
 of-getting hash a b told source path l (refusal.Ready r) of h = absurd of
 of-getting hash a b told source path l refusal.Read of h = record { kinds = refl; ready = tt; rule = λ e. absurd cc; prints = λ held. refl; blames = λ blames. blames }
@@ -499,6 +505,7 @@ module _ (X : List ℕ → List ℕ) (N : List ℕ → ℕ) (source : DagPath) (
       reads = counts-still i;
       host = record { reads = reads; writes = writes };
       gets = record { below = below; leaves = stands-left a.told gets };
+      pins = tt;
       writes = rises-still w;
       cause = shown-by X NoneIsBad (IsBadIn X N a.told b.told) (refusal_fault done) a b (λ role bytes bad. absurd bad) cause;
       whole = λ s needs stands calm. absurd cc;

@@ -1,5 +1,5 @@
 -- The steps of the generator, over a store that never failed.
-use Rattle.std.proofs.Common.{◌≡◌, ℕ, suc, ◌+◌, ◌<◌, ◌≤◌, ◌^◌, refl, ap, sym, ◌∙◌, subst, arith, zero, List, Result, Ok, Err, None, Some, ◌⊎◌, inl, inr}
+use Rattle.std.proofs.Common.{◌≡◌, ℕ, suc, ◌+◌, ◌<◌, ◌≤◌, refl, ap, sym, ◌∙◌, subst, arith, zero, List, Result, Ok, Err, None, Some, ◌⊎◌, inl, inr}
 use Rattle.std.proofs.Math.Nat.{eq-or-lt_of_le}
 use Rattle.uf_edge.specs.Counts.{Stood}
 use Rattle.uf_gen.specs.Fresh.{left_tree}
@@ -17,7 +17,7 @@ use Rattle.uf_plain.specs.Edits.{removed}
 use Rattle.uf_plain.specs.Moves.{then_go, told_of}
 use Rattle.uf_plain.specs.declared.ready.Ready.TheVariants as ready
 use Rattle.uf_plain.specs.declared.rule.Rule.{Rule}
-use Rattle.std.specs.Prelude.{Bool, IfSome, Option, true, false, ◌%◌, ◌==◌, if◌then◌else◌}
+use Rattle.std.specs.Prelude.{Bool, IfSome, true, false, ◌%◌, ◌==◌, if◌then◌else◌}
 use Rattle.uf_cid.specs.declared.cid.Cid.{Cid}
 use Rattle.uf_car.proofs.Clashing.{none-good}
 use Rattle.uf_store.specs.Calls.{Calm}
@@ -42,7 +42,6 @@ use Rattle.uf_reply.specs.Statuses.{own_refusal}
 use Rattle.uf_reply.specs.declared.types.Edit.{Edit}
 use Rattle.uf_reply.specs.declared.types.Edit.TheVariants.{Rm, Write as Writes}
 use Rattle.uf_reply.specs.declared.types.Refusal.{Refusal}
-use Rattle.uf_reply.specs.declared.types.Refusal.TheVariants as refusal
 use Rattle.uf_gen.specs.declared.step.Step.{Step}
 use Rattle.uf_gen.specs.declared.step.Step.TheVariants.{Make, Change}
 use Rattle.uf_top.specs.Causes.{IsTreeFault}

@@ -5,7 +5,6 @@ use Rattle.uf_cid.specs.Blocks.{Held}
 use Rattle.uf_edge.specs.Counts.{Counts, Stood}
 use Rattle.uf_edge.specs.Host.{HostTold, HostTree}
 use Rattle.uf_edge.specs.Streams as streams
-use Rattle.uf_host.specs.Adding.{IsSaid}
 use Rattle.uf_host.specs.Faults.{IsSaidOr, edge_fault, is_read_fault}
 use Rattle.uf_host.specs.HostTree.{tree_on_host}
 use Rattle.uf_host.specs.declared.fault.HostFault.{HostFault}
@@ -76,6 +75,7 @@ end-of path Said (refusal.Host rule) h = ByHost rule refl h
 end-of path Said (refusal.BadPath why) h = absurd h
 end-of path Said refusal.Usage h = absurd h
 end-of path Said refusal.InputTooLong h = absurd h
+end-of path Said refusal.BadPins h = absurd h
 end-of path Said (refusal.Ready why) h = absurd h
 end-of path Said refusal.Read h = ByRead refl
 end-of path Said refusal.Write h = absurd h
@@ -110,6 +110,7 @@ head-end told (refusal.Host rule) read = absurd read
 head-end told (refusal.BadPath why) read = absurd read
 head-end told refusal.Usage read = absurd read
 head-end told refusal.InputTooLong read = absurd read
+head-end told refusal.BadPins read = absurd read
 head-end told (refusal.Ready why) read = Unread (ap refusal.Ready read.0) read.1
 head-end told refusal.Read read = absurd read
 head-end told refusal.Write read = absurd read
@@ -143,6 +144,7 @@ kind-blames (refusal.Host rule) h blames = blames
 kind-blames (refusal.BadPath why) h blames = blames
 kind-blames refusal.Usage h blames = blames
 kind-blames refusal.InputTooLong h blames = blames
+kind-blames refusal.BadPins h blames = blames
 kind-blames (refusal.Ready why) h blames = blames
 kind-blames refusal.Read h blames = blames
 kind-blames refusal.Write h blames = blames
@@ -503,6 +505,7 @@ module _ (X : List ℕ → List ℕ) (N : List ℕ → ℕ) (p : Profile) (host 
   synced-text a b text (Err (refusal.BadPath why)) synced is stops h = absurd stops
   synced-text a b text (Err refusal.Usage) synced is stops h = absurd stops
   synced-text a b text (Err refusal.InputTooLong) synced is stops h = absurd stops
+  synced-text a b text (Err refusal.BadPins) synced is stops h = absurd stops
   synced-text a b text (Err (refusal.Ready why)) synced is stops h = absurd stops
   synced-text a b text (Err refusal.Read) synced is stops h = absurd stops
   synced-text a b text (Err refusal.Write) synced is stops h = absurd stops
@@ -519,6 +522,7 @@ stops-read (Err (refusal.Host rule)) h = absurd h
 stops-read (Err (refusal.BadPath why)) h = absurd h
 stops-read (Err refusal.Usage) h = absurd h
 stops-read (Err refusal.InputTooLong) h = absurd h
+stops-read (Err refusal.BadPins) h = absurd h
 stops-read (Err (refusal.Ready why)) h = absurd h
 stops-read (Err refusal.Read) h = absurd h
 stops-read (Err refusal.Write) h = absurd h

@@ -87,6 +87,7 @@ stops-store (refusal.Dag rule) h = absurd h
 stops-store (refusal.Host rule) h = absurd h
 stops-store (refusal.BadPath why) h = absurd h
 stops-store refusal.InputTooLong h = absurd h
+stops-store refusal.BadPins h = absurd h
 stops-store refusal.Usage h = absurd h
 stops-store (refusal.Ready why) h = absurd h
 stops-store refusal.Read h = absurd h
@@ -211,6 +212,7 @@ of-car told (refusal.Dag rule) h = absurd cc
 of-car told (refusal.Host rule) h = absurd cc
 of-car told (refusal.BadPath why) h = absurd cc
 of-car told refusal.InputTooLong h = absurd cc
+of-car told refusal.BadPins h = absurd cc
 of-car told refusal.Usage h = absurd cc
 of-car told (refusal.Ready why) h = absurd cc
 of-car told refusal.Read h = record { other = λ e. cc; ready = tt; rule = λ e. absurd cc; blames = λ b. b }
@@ -256,6 +258,7 @@ module _ (X : List ℕ → List ℕ) (N : List ℕ → ℕ) (a b : Seen) (l m : 
         reads = k.counts;
         host = refl;
         gets = tt;
+        pins = tt;
         writes = subst (λ f. RisesFor f w w) (sym quiet.unwritten) (rises-still w);
         cause = shown-by X NoneIsBad (IsBadIn X N a.told b.told) (fault_behind why) a b (λ role bytes bad. absurd bad) k.cause;
         whole = λ s needs stands calm. absurd cc;
@@ -297,6 +300,7 @@ module _ (X : List ℕ → List ℕ) (N : List ℕ → ℕ) (a b : Seen) (l m : 
       reads = k.counts;
       host = refl;
       gets = tt;
+      pins = tt;
       writes = record { rose = counts.rose; still = counts.still };
       cause = k.cause;
       whole = λ s needs stands calm. absurd cc;
@@ -327,6 +331,7 @@ module _ (X : List ℕ → List ℕ) (N : List ℕ → ℕ) (a b : Seen) (l m : 
       reads = k.counts;
       host = refl;
       gets = tt;
+      pins = tt;
       writes = record { rose = c.counts.rose; still = c.counts.still };
       cause = k.cause;
       whole = λ s needs stands calm. absurd cc;

@@ -1,5 +1,5 @@
 -- What the sections of a CAR leave in a store.
-use Rattle.std.proofs.Common.{◌≡◌, ℕ, List, [], ◌∷◌, ◌++◌, length, take, refl, sym, ap, subst, ◌∙◌, append_assoc, append-nil, Some, None}
+use Rattle.std.proofs.Common.{◌≡◌, ℕ, List, [], ◌∷◌, ◌++◌, refl, sym, subst, ◌∙◌, append_assoc, append-nil, Some}
 use Rattle.std.proofs.lemmas.List.{append_cancel_left}
 use Rattle.uf_car.specs.Importing.{with_saves}
 use Rattle.uf_car.proofs.Clashing.{saves_of}

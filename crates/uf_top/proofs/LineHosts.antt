@@ -9,7 +9,7 @@ use Rattle.uf_path.specs.declared.path.Path.{Path}
 use Rattle.uf_plain.specs.declared.file.WriteHow.{WriteHow}
 use Rattle.uf_reply.specs.Batches.{asked_in_batch, is_for_batch, line_asks, line_in}
 use Rattle.uf_reply.specs.Cids.{cid_reads}
-use Rattle.uf_reply.specs.Commands.{add_asked, add_to_asked, adopt_asked, asked, at_path, below_asked, both_paths, cat_asked, from_to, of_command, read_asked, write_asked}
+use Rattle.uf_reply.specs.Commands.{add_asked, add_to_asked, adopt_asked, asked, at_path, below_asked, both_paths, cat_asked, from_to, of_command, pin_asked, read_asked, write_asked}
 use Rattle.uf_reply.specs.Natures.{generates, reads_input, writes_host}
 use Rattle.uf_reply.specs.Statuses.{no_memory}
 use Rattle.uf_reply.specs.declared.types.Ask.{Ask}
@@ -57,6 +57,10 @@ below-suits : (r : Result Cid PathFault) → Suits (below_asked false r)
 below-suits (Ok cid) = (refl, refl, refl)
 below-suits (Err why) = (refl, refl, refl)
 
+pin-suits : (added : Bool) (r : Result Cid PathFault) → Suits (pin_asked added r)
+pin-suits added (Ok cid) = (refl, refl, refl)
+pin-suits added (Err why) = (refl, refl, refl)
+
 adopt-suits : (r : Result DagPath PathFault) (s : Result Path PathFault) → Suits (adopt_asked r s)
 adopt-suits (Err why) s = (refl, refl, refl)
 adopt-suits (Ok source) (Err why) = (refl, refl, refl)
@@ -96,9 +100,9 @@ cmd-suits (cmd.Gen n seed) h = absurd cc
 cmd-suits (cmd.Chmod mode path) h = refused-suits refusal.Usage
 cmd-suits (cmd.Touch nanos seconds path) h = refused-suits refusal.Usage
 cmd-suits (cmd.Strip path) h = refused-suits refusal.Usage
-cmd-suits (cmd.PinAdd cid) h = refused-suits refusal.Usage
-cmd-suits (cmd.PinRm cid) h = refused-suits refusal.Usage
-cmd-suits cmd.PinLs h = refused-suits refusal.Usage
+cmd-suits (cmd.PinAdd cid) h = pin-suits true (cid_reads cid)
+cmd-suits (cmd.PinRm cid) h = pin-suits false (cid_reads cid)
+cmd-suits cmd.PinLs h = (refl, refl, refl)
 cmd-suits cmd.Gc h = refused-suits refusal.Usage
 cmd-suits (cmd.Prove absent path) h = refused-suits refusal.Usage
 cmd-suits (cmd.Check absent cid path) h = refused-suits refusal.Usage

@@ -1,5 +1,5 @@
 -- From what a line did to what a batch did.
-use Rattle.std.proofs.Common.{◌≡◌, ◌∙◌, ℕ, ◌+◌, List, [], ◌∷◌, ◌++◌, Bool, true, false, refl, sym, ap, subst, inl, inr, append_assoc, append-nil, Option, None, Some, Result, Err}
+use Rattle.std.proofs.Common.{◌≡◌, ◌∙◌, ℕ, List, [], ◌∷◌, ◌++◌, Bool, true, false, refl, sym, ap, subst, inl, inr, append_assoc, append-nil, Option, None, Some, Result, Err}
 use Rattle.std.specs.Prelude.{◌⊎◌, IfSome, if◌then◌else◌}
 use Rattle.uf_edge.specs.Counts.{Counts}
 use Rattle.uf_edge.specs.Streams as streams
@@ -13,7 +13,6 @@ use Rattle.uf_reply.specs.Commands.{IsOfWords, asked}
 use Rattle.uf_reply.specs.Natures.{NoStore}
 use Rattle.uf_reply.specs.Statuses.{no_memory}
 use Rattle.uf_reply.specs.declared.status.Status.{Status}
-use Rattle.uf_reply.specs.declared.status.Status.TheVariants as status
 use Rattle.uf_reply.specs.declared.types.Command.{Command}
 use Rattle.uf_reply.specs.declared.types.Refusal.{Refusal}
 use Rattle.uf_reply.specs.declared.types.Refusal.TheVariants as refusal

@@ -2,8 +2,8 @@
 use Rattle.std.proofs.Common.{◌≡◌, ◌≢◌, ◌⊎◌, ℕ, ◌≤◌, ◌<◌, List, [], ◌∷◌, ◌++◌, length, arith, Bool, true, false, refl, sym, ap, subst, ◌∙◌, inl, inr, Option, Some, None, Result, Ok, Err}
 use Rattle.std.specs.Prelude.{IfErr, IfOk, IfSome, OnErr, if◌then◌else◌, nat_le, ⊤}
 use Rattle.std.specs.List.{AllByRecursion}
-use Rattle.uf_cid.specs.Blocks.{Held, Lookup}
-use Rattle.uf_edge.specs.Counts.{Counts, Rose, Stood}
+use Rattle.uf_cid.specs.Blocks.{Held}
+use Rattle.uf_edge.specs.Counts.{Counts, Stood}
 use Rattle.uf_edge.specs.Host.{HostTold, HostTree}
 use Rattle.uf_edge.specs.Streams as streams
 use Rattle.uf_host.specs.Adding.{HasHeldPlan, IsSaid}
@@ -11,9 +11,8 @@ use Rattle.uf_host.specs.HostTree.{tree_on_host}
 use Rattle.uf_host.specs.Paths.{first_row, trimmed}
 use Rattle.uf_host.specs.declared.fault.HostFault.{HostFault}
 use Rattle.uf_mfs.specs.Bad.{IsBadInHead, IsBadInTree}
-use Rattle.uf_mfs.specs.Standing.{NamesOver, ReadsHead, Same, StandsOver, TellsAs, TellsHeld, head_in}
-use Rattle.uf_mfs.specs.Steps.{IsFolderOver}
-use Rattle.uf_mfs.specs.Touches.{CountsUp, IsBlaming}
+use Rattle.uf_mfs.specs.Standing.{NamesOver, ReadsHead, Same, TellsAs, TellsHeld, head_in}
+use Rattle.uf_mfs.specs.Touches.{IsBlaming}
 use Rattle.uf_mfs.specs.declared.mfs.Mfs.{Mfs}
 use Rattle.uf_mfs.proofs.Holding.{loss-back, loss-fault, tells-among}
 use Rattle.uf_mfs.proofs.Needed.{root-of-among}
@@ -26,17 +25,15 @@ use Rattle.uf_plain.specs.declared.ready.Ready.TheVariants as ready
 use Rattle.uf_plain.specs.declared.rule.Rule.{Rule}
 use Rattle.uf_plain.specs.declared.rule.Rule.TheVariants.{FileTooLong}
 use Rattle.uf_plain.specs.declared.spot.Spot.{Spot}
-use Rattle.uf_store.specs.Calls.{Calm, OnlyReads, OnlySaves}
+use Rattle.uf_store.specs.Calls.{Calm, OnlySaves}
 use Rattle.uf_store.specs.Clashes.{IsSaving}
 use Rattle.uf_store.specs.Contents.{Told}
-use Rattle.uf_store.specs.Faults.{NoneIsBad, Shown, StaysCalm}
+use Rattle.uf_store.specs.Faults.{NoneIsBad, Shown}
 use Rattle.uf_store.specs.Keeping.{KeepsGood}
 use Rattle.uf_store.specs.Seen.{Seen}
-use Rattle.uf_store.specs.Writing.{SavesOnly}
-use Rattle.uf_store.specs.declared.store.Role.{Role}
 use Rattle.uf_store.specs.declared.store.StoreFault.{StoreFault}
 use Rattle.uf_store.specs.declared.store.StoreFault.TheVariants as fault
-use Rattle.uf_store.proofs.Calls.{reads-saves, saves-saves, shown-after, shown-by, shown-rises, stood-back, stood-front}
+use Rattle.uf_store.proofs.Calls.{reads-saves, saves-saves, shown-after, shown-by, shown-rises, stood-front}
 use Rattle.uf_store.proofs.Keeping.{KeepsGood-same, KeepsGood-trans}
 use Rattle.uf_store.proofs.Writing.{SavesOnly-refl, SavesOnly-trans}
 use Rattle.uf_tree.specs.HeadReading.{head_reads}
@@ -62,13 +59,13 @@ use Rattle.uf_top.specs.Answering.{Answers}
 use Rattle.uf_top.specs.Around.{HostSide, OnlyReadsHost, around}
 use Rattle.uf_top.specs.Causes.{AddsBy, AreLeft, HeadStays, IsBadIn, IsReady, IsReadyBy, IsReason, IsReasonInTree, IsRow, is_read}
 use Rattle.uf_top.specs.Endings.{FindsAll}
-use Rattle.uf_top.specs.Grafts.{FollowsOr, IsLostBy, IsOkFor}
-use Rattle.uf_top.specs.HostTexts.{host_refusal, host_text}
+use Rattle.uf_top.specs.Grafts.{FollowsOr, IsLostBy}
+use Rattle.uf_top.specs.HostTexts.{host_text}
 use Rattle.uf_top.specs.Hosted.{AreHostRows}
 use Rattle.uf_top.specs.Losing.{AnswersOver}
 use Rattle.uf_top.specs.Naming.{NamesAfter, StandsNamed, StaysNamed}
-use Rattle.uf_top.specs.Placing.{FindsSpot, GivesFor, IsFoundAt, IsGiven, IsReadyIn, IsUngiven, IsUnready, OpensFound, PutsFrom, PutsGiven, SaysHost, SaysInput, kinds_placing}
-use Rattle.uf_top.specs.Reply.{Reply, World, added_spot, by_rule, file_cid, good_name, host_tree, in_tree, input_row, input_tree, not_ready, outside_of, placed, reply, settled, unchanged}
+use Rattle.uf_top.specs.Placing.{FindsSpot, IsFoundAt, IsGiven, IsReadyIn, IsUngiven, IsUnready, OpensFound, PutsGiven, SaysHost, SaysInput, kinds_placing}
+use Rattle.uf_top.specs.Reply.{added_spot, by_rule, file_cid, good_name, host_tree, in_tree, input_row, input_tree, not_ready, placed, settled}
 use Rattle.uf_top.specs.Shapes.{WritesAs, is_ok}
 use Rattle.uf_top.specs.Working.{MakesText}
 use Rattle.uf_top.specs.declared.given.Found.{Found}
@@ -102,6 +99,7 @@ lost-finds told l (refusal.CarLacks cid) held lost = absurd lost
 lost-finds told l (refusal.OwnClash cid first second) held lost = absurd lost
 lost-finds told l refusal.InputTooLong held lost = absurd lost
 lost-finds told l refusal.Usage held lost = absurd lost
+lost-finds told l refusal.BadPins held lost = absurd lost
 lost-finds told l (refusal.Ready r) held lost = absurd lost
 lost-finds told l refusal.Read held lost = absurd lost
 lost-finds told l refusal.Write held lost = absurd lost
@@ -141,6 +139,7 @@ ungiven-end Says (refusal.CarLacks cid) h = absurd h
 ungiven-end Says (refusal.OwnClash cid first second) h = absurd h
 ungiven-end Says refusal.InputTooLong h = absurd h
 ungiven-end Says refusal.Usage h = absurd h
+ungiven-end Says refusal.BadPins h = absurd h
 ungiven-end Says (refusal.Ready why) h = absurd h
 ungiven-end Says refusal.Read h = ByRead refl
 ungiven-end Says refusal.Write h = absurd h
@@ -170,6 +169,7 @@ ready-of told (refusal.CarLacks cid) other = tt
 ready-of told (refusal.OwnClash cid first second) other = tt
 ready-of told refusal.InputTooLong other = tt
 ready-of told refusal.Usage other = tt
+ready-of told refusal.BadPins other = tt
 ready-of told (refusal.Ready r) other = absurd (other refl)
 ready-of told refusal.Read other = tt
 ready-of told refusal.Write other = tt
@@ -199,6 +199,7 @@ ready-by command told more (refusal.CarLacks cid) h = tt
 ready-by command told more (refusal.OwnClash cid first second) h = tt
 ready-by command told more refusal.InputTooLong h = tt
 ready-by command told more refusal.Usage h = tt
+ready-by command told more refusal.BadPins h = tt
 ready-by command told more (refusal.Ready r) h = more r h
 ready-by command told more refusal.Read h = tt
 ready-by command told more refusal.Write h = tt
@@ -238,6 +239,7 @@ of-tree path (refusal.CarLacks cid) h = absurd cc
 of-tree path (refusal.OwnClash cid first second) h = absurd cc
 of-tree path refusal.InputTooLong h = absurd cc
 of-tree path refusal.Usage h = absurd cc
+of-tree path refusal.BadPins h = absurd cc
 of-tree path (refusal.Ready r) h = absurd cc
 of-tree path refusal.Read h = absurd cc
 of-tree path refusal.Write h = absurd cc
@@ -263,6 +265,7 @@ lost-behind told k l (refusal.CarLacks cid) lost = absurd lost
 lost-behind told k l (refusal.OwnClash cid first second) lost = absurd lost
 lost-behind told k l refusal.InputTooLong lost = absurd lost
 lost-behind told k l refusal.Usage lost = absurd lost
+lost-behind told k l refusal.BadPins lost = absurd lost
 lost-behind told k l (refusal.Ready r) lost = absurd lost
 lost-behind told k l refusal.Read lost = absurd lost
 lost-behind told k l refusal.Write lost = absurd lost
@@ -314,6 +317,7 @@ module _ (X : List ℕ → List ℕ) (N : List ℕ → ℕ) (dest : Path) (path 
   stopped a d p es needs w (refusal.OwnClash cid first second) (inl lost) stands = absurd lost
   stopped a d p es needs w refusal.InputTooLong (inl lost) stands = absurd lost
   stopped a d p es needs w refusal.Usage (inl lost) stands = absurd lost
+  stopped a d p es needs w refusal.BadPins (inl lost) stands = absurd lost
   stopped a d p es needs w (refusal.Ready r) (inl lost) stands = absurd lost
   stopped a d p es needs w refusal.Read (inl lost) stands = absurd lost
   stopped a d p es needs w refusal.Write (inl lost) stands = absurd lost
@@ -714,6 +718,7 @@ ungiven-blameless Says (refusal.OwnClash cid first second) h blames = blames
 ungiven-blameless Says (refusal.Host rule) h blames = blames
 ungiven-blameless Says (refusal.BadPath why) h blames = blames
 ungiven-blameless Says refusal.Usage h blames = blames
+ungiven-blameless Says refusal.BadPins h blames = blames
 ungiven-blameless Says refusal.InputTooLong h blames = blames
 ungiven-blameless Says (refusal.Ready why) h blames = blames
 ungiven-blameless Says refusal.Read h blames = blames
@@ -735,6 +740,7 @@ ungiven-kinds path Says (refusal.OwnClash cid first second) host read h = absurd
 ungiven-kinds path Says (refusal.Host rule) host read h = host rule h
 ungiven-kinds path Says (refusal.BadPath why) host read h = absurd h
 ungiven-kinds path Says refusal.Usage host read h = absurd h
+ungiven-kinds path Says refusal.BadPins host read h = absurd h
 ungiven-kinds path Says refusal.InputTooLong host read h = absurd h
 ungiven-kinds path Says (refusal.Ready why) host read h = absurd h
 ungiven-kinds path Says refusal.Read host read h = read

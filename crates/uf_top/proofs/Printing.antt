@@ -27,7 +27,9 @@ use Rattle.uf_reply.specs.Statuses.{ended, no_memory, status_of}
 use Rattle.uf_reply.specs.declared.status.Status.{Status}
 use Rattle.uf_reply.specs.declared.status.Status.TheVariants as status
 use Rattle.uf_reply.specs.declared.types.Command.{Command}
-use Rattle.uf_reply.specs.declared.types.Command.TheVariants.{Init, Add, AddFrom, WriteInput, At, Read, Cat, Get, Export, Import, Same, Adopt, Gen, AddTo, AddFromTo}
+use Rattle.uf_reply.specs.declared.types.Command.TheVariants.{Init, Add, AddFrom, WriteInput, At, Read, Cat, Get, Export, Import, Same, Adopt, Gen, AddTo, AddFromTo, Pin}
+use Rattle.uf_reply.specs.declared.types.PinAsk.{PinAsk}
+use Rattle.uf_reply.specs.declared.types.PinAsk.TheVariants as pins
 use Rattle.uf_reply.specs.declared.types.HostRule.{HostRule}
 use Rattle.uf_reply.specs.declared.types.Refusal.{Refusal}
 use Rattle.uf_reply.specs.declared.types.Refusal.TheVariants as refusal
@@ -39,6 +41,7 @@ use Rattle.uf_top.specs.Endings.{AddsFor, EndsBy, IsTextOf, PrintsAt, PrintsElse
 use Rattle.uf_reply.specs.Telling.{IsCut, Prints}
 use Rattle.uf_top.specs.Getting.{GetsFor}
 use Rattle.uf_top.specs.Hosted.{IsHostedText}
+use Rattle.uf_top.specs.Pins.{PinsFor}
 use Rattle.uf_top.specs.Losing.{AnswersOver, DoesOver}
 use Rattle.uf_top.specs.Naming.{FindsOver, NamesIf, NamesAs, StandsIf, TellsHost}
 use Rattle.uf_top.specs.Shapes.{WritesAs, is_done}
@@ -59,6 +62,9 @@ no-write Import h = cc
 no-write (Same cid) h = cc
 no-write (Adopt source dest) h = cc
 no-write (Gen n seed) h = cc
+no-write (Pin (pins.Add cid)) h = cc
+no-write (Pin (pins.Remove cid)) h = cc
+no-write (Pin pins.List) h = cc
 no-write (AddTo dest) h = cc
 no-write (AddFromTo recursive path dest) h = cc
 no-write (AddFrom recursive only_hash path) h = cc
@@ -70,22 +76,23 @@ pub record IsStanding (command : Command) : Type 0 where
 
 -- so is each that isn't one of those with a way of their own
 pub standing-of : (command : Command) → ((offset count : ℕ) (path : Path) → command ≡ Read offset count path → ⊥) → ((path : DagPath) → command ≡ Cat path → ⊥) → ((path : DagPath) (host_path : List ℕ) → command ≡ Get path host_path → ⊥) → ((cid : Cid) → command ≡ Export cid → ⊥) → (command ≡ Import → ⊥) → ((cid : Cid) → command ≡ Same cid → ⊥)
-    → ((source : DagPath) (dest : Path) → command ≡ Adopt source dest → ⊥) → ((n seed : ℕ) → command ≡ Gen n seed → ⊥) → IsStanding command
-standing-of (Init p) other cat get export import compare adopt generate = record { waits = refl; alone = refl }
-standing-of (Add only_hash) other cat get export import compare adopt generate = record { waits = refl; alone = refl }
-standing-of (AddTo dest) other cat get export import compare adopt generate = record { waits = refl; alone = refl }
-standing-of (AddFromTo recursive path dest) other cat get export import compare adopt generate = record { waits = refl; alone = refl }
-standing-of (AddFrom recursive only_hash path) other cat get export import compare adopt generate = record { waits = refl; alone = refl }
-standing-of (WriteInput how path) other cat get export import compare adopt generate = record { waits = refl; alone = refl }
-standing-of (At ask path) other cat get export import compare adopt generate = record { waits = refl; alone = refl }
-standing-of (Read offset count path) other cat get export import compare adopt generate = absurd (other offset count path refl)
-standing-of (Cat path) other cat get export import compare adopt generate = absurd (cat path refl)
-standing-of (Get path host_path) other cat get export import compare adopt generate = absurd (get path host_path refl)
-standing-of (Export cid) other cat get export import compare adopt generate = absurd (export cid refl)
-standing-of Import other cat get export import compare adopt generate = absurd (import refl)
-standing-of (Same cid) other cat get export import compare adopt generate = absurd (compare cid refl)
-standing-of (Adopt source dest) other cat get export import compare adopt generate = absurd (adopt source dest refl)
-standing-of (Gen n seed) other cat get export import compare adopt generate = absurd (generate n seed refl)
+    → ((source : DagPath) (dest : Path) → command ≡ Adopt source dest → ⊥) → ((n seed : ℕ) → command ≡ Gen n seed → ⊥) → ((ask : PinAsk) → command ≡ Pin ask → ⊥) → IsStanding command
+standing-of (Init p) other cat get export import compare adopt generate pin = record { waits = refl; alone = refl }
+standing-of (Add only_hash) other cat get export import compare adopt generate pin = record { waits = refl; alone = refl }
+standing-of (AddTo dest) other cat get export import compare adopt generate pin = record { waits = refl; alone = refl }
+standing-of (AddFromTo recursive path dest) other cat get export import compare adopt generate pin = record { waits = refl; alone = refl }
+standing-of (AddFrom recursive only_hash path) other cat get export import compare adopt generate pin = record { waits = refl; alone = refl }
+standing-of (WriteInput how path) other cat get export import compare adopt generate pin = record { waits = refl; alone = refl }
+standing-of (At ask path) other cat get export import compare adopt generate pin = record { waits = refl; alone = refl }
+standing-of (Read offset count path) other cat get export import compare adopt generate pin = absurd (other offset count path refl)
+standing-of (Cat path) other cat get export import compare adopt generate pin = absurd (cat path refl)
+standing-of (Get path host_path) other cat get export import compare adopt generate pin = absurd (get path host_path refl)
+standing-of (Export cid) other cat get export import compare adopt generate pin = absurd (export cid refl)
+standing-of Import other cat get export import compare adopt generate pin = absurd (import refl)
+standing-of (Same cid) other cat get export import compare adopt generate pin = absurd (compare cid refl)
+standing-of (Adopt source dest) other cat get export import compare adopt generate pin = absurd (adopt source dest refl)
+standing-of (Gen n seed) other cat get export import compare adopt generate pin = absurd (generate n seed refl)
+standing-of (Pin ask) other cat get export import compare adopt generate pin = absurd (pin ask refl)
 
 -- such a command needs what the store stands for
 alone-needs : (command : Command) → natures.reads_tree_alone command ≡ true → needs_standing command ≡ true
@@ -104,6 +111,7 @@ alone-needs Import h = absurd cc
 alone-needs (Same cid) h = absurd cc
 alone-needs (Adopt source dest) h = absurd cc
 alone-needs (Gen n seed) h = absurd cc
+alone-needs (Pin ask) h = absurd cc
 
 -- it only reads the host, whose files and folders stay
 alone-reads : (command : Command) → natures.reads_tree_alone command ≡ true → writes_host command ≡ false
@@ -122,6 +130,7 @@ alone-reads Import h = absurd cc
 alone-reads (Same cid) h = absurd cc
 alone-reads (Adopt source dest) h = absurd cc
 alone-reads (Gen n seed) h = absurd cc
+alone-reads (Pin ask) h = absurd cc
 
 alone-stays : (command : Command) → natures.reads_tree_alone command ≡ true → (world : World) → host_after (Ok command) world ≡ world.host
 alone-stays (Init p) h world = refl
@@ -139,6 +148,7 @@ alone-stays Import h world = absurd cc
 alone-stays (Same cid) h world = absurd cc
 alone-stays (Adopt source dest) h world = absurd cc
 alone-stays (Gen n seed) h world = absurd cc
+alone-stays (Pin ask) h world = absurd cc
 
 -- and gets nothing
 alone-gets : (command : Command) → natures.reads_tree_alone command ≡ true → (given : Status) (told : Told) (host now : HostTold) → GetsFor (Ok command) given told host now
@@ -157,6 +167,26 @@ alone-gets Import h given told host now = absurd cc
 alone-gets (Same cid) h given told host now = absurd cc
 alone-gets (Adopt source dest) h given told host now = absurd cc
 alone-gets (Gen n seed) h given told host now = absurd cc
+alone-gets (Pin ask) h given told host now = absurd cc
+
+-- and is none on pins
+alone-pins : (command : Command) → natures.reads_tree_alone command ≡ true → (done : Result (Unit {0}) Refusal) (told now : Told) → PinsFor command done told now
+alone-pins (Init p) h done told now = tt
+alone-pins (Add only_hash) h done told now = tt
+alone-pins (AddTo dest) h done told now = tt
+alone-pins (AddFromTo recursive path dest) h done told now = tt
+alone-pins (AddFrom recursive only_hash path) h done told now = tt
+alone-pins (WriteInput how path) h done told now = tt
+alone-pins (At ask path) h done told now = tt
+alone-pins (Read offset count path) h done told now = tt
+alone-pins (Cat path) h done told now = tt
+alone-pins (Get path host_path) h done told now = tt
+alone-pins (Export cid) h done told now = tt
+alone-pins Import h done told now = tt
+alone-pins (Same cid) h done told now = tt
+alone-pins (Adopt source dest) h done told now = tt
+alone-pins (Gen n seed) h done told now = tt
+alone-pins (Pin ask) h done told now = absurd cc
 
 -- a command that doesn't use the host says nothing of it
 pub of-no-host : {A B : Type 0} → A ⊎ B → A ⊎ (B × ⊤)
@@ -178,6 +208,7 @@ may-end command (refusal.OwnClash cid first second) h = h
 may-end command (refusal.Host rule) h = h
 may-end command (refusal.BadPath why) h = h
 may-end command refusal.InputTooLong h = h
+may-end command refusal.BadPins h = h
 may-end command refusal.Usage h = h
 may-end command (refusal.Ready why) h = h
 may-end command refusal.Read h = h
@@ -206,6 +237,7 @@ quiet-of T f (refusal.Host rule) other = record { prints = λ h n e. e; undone =
 quiet-of T f (refusal.BadPath path) other = record { prints = λ h n e. e; undone = refl; unwritten = refl }
 quiet-of T f refusal.Usage other = record { prints = λ h n e. e; undone = refl; unwritten = refl }
 quiet-of T f refusal.InputTooLong other = record { prints = λ h n e. e; undone = refl; unwritten = refl }
+quiet-of T f refusal.BadPins other = record { prints = λ h n e. e; undone = refl; unwritten = refl }
 quiet-of T f (refusal.Ready reason) other = record { prints = λ h n e. e; undone = refl; unwritten = refl }
 quiet-of T f refusal.Read other = record { prints = λ h n e. e; undone = refl; unwritten = refl }
 quiet-of T f refusal.Write other = absurd (other refl)
@@ -278,6 +310,7 @@ module _ (X : List ℕ → List ℕ) (N : List ℕ → ℕ) where
   text-of (Same cid) alone told host l m text h rows = tt
   text-of (Adopt source dest) alone told host l m text h rows = tt
   text-of (Gen n seed) alone told host l m text h rows = absurd cc
+  text-of (Pin ask) alone told host l m text h rows = absurd cc
 
   rule-in : (command : Command) (told : Told) (l m : streams.Told) (rule : Rule) → may_meet (kinds_of command) (refusal_kind (refusal.Rule rule)) ≡ true → AddsFor X told (Ok command) (Err (refusal.Rule rule)) l m
       → RuleOf (Ok command) (refusal.Rule rule) told l m
@@ -293,6 +326,9 @@ module _ (X : List ℕ → List ℕ) (N : List ℕ → ℕ) where
   rule-in (Same cid) told l m rule h adds = absurd cc
   rule-in (Adopt source dest) told l m rule h adds = inr (rule, refl)
   rule-in (Gen n seed) told l m rule h adds = (rule, refl)
+  rule-in (Pin (pins.Add cid)) told l m rule h adds = absurd cc
+  rule-in (Pin (pins.Remove cid)) told l m rule h adds = absurd cc
+  rule-in (Pin pins.List) told l m rule h adds = absurd cc
   rule-in (AddTo dest) told l m rule h adds = (rule, refl)
   rule-in (AddFromTo recursive path dest) told l m rule h adds = inr (rule, refl)
   rule-in (AddFrom recursive only_hash path) told l m rule h adds = inr (rule, refl)
@@ -311,6 +347,9 @@ module _ (X : List ℕ → List ℕ) (N : List ℕ → ℕ) where
   long-in (Same cid) told l m h adds = absurd cc
   long-in (Adopt source dest) told l m h adds = absurd cc
   long-in (Gen n seed) told l m h adds = absurd cc
+  long-in (Pin (pins.Add cid)) told l m h adds = absurd cc
+  long-in (Pin (pins.Remove cid)) told l m h adds = absurd cc
+  long-in (Pin pins.List) told l m h adds = absurd cc
   long-in (AddTo dest) told l m h adds = absurd cc
   long-in (AddFromTo recursive path dest) told l m h adds = absurd cc
   long-in (AddFrom recursive only_hash path) told l m h adds = absurd cc
@@ -328,6 +367,9 @@ module _ (X : List ℕ → List ℕ) (N : List ℕ → ℕ) where
   no-path (Same cid) h = cc
   no-path (Adopt source dest) h = cc
   no-path (Gen n seed) h = cc
+  no-path (Pin (pins.Add cid)) h = cc
+  no-path (Pin (pins.Remove cid)) h = cc
+  no-path (Pin pins.List) h = cc
   no-path (AddTo dest) h = cc
   no-path (AddFromTo recursive path dest) h = cc
   no-path (AddFrom recursive only_hash path) h = cc
@@ -348,6 +390,7 @@ module _ (X : List ℕ → List ℕ) (N : List ℕ → ℕ) where
   no-dag (Same cid) needs h = cc
   no-dag (Adopt source dest) needs h = cc
   no-dag (Gen n seed) needs h = cc
+  no-dag (Pin ask) needs h = cc
 
   no-car : (command : Command) → natures.reads_tree_alone command ≡ true → may_meet (kinds_of command) OfCar ≡ true → ⊥
   no-car (Init p) needs h = cc
@@ -365,6 +408,7 @@ module _ (X : List ℕ → List ℕ) (N : List ℕ → ℕ) where
   no-car (Same cid) needs h = cc
   no-car (Adopt source dest) needs h = cc
   no-car (Gen n seed) needs h = cc
+  no-car (Pin ask) needs h = cc
 
   host-in : (command : Command) (told : Told) (l m : streams.Told) (rule : HostRule) → may_meet (kinds_of command) OfHost ≡ true → RuleOf (Ok command) (refusal.Host rule) told l m
   host-in (Init p) told l m rule h = absurd cc
@@ -382,6 +426,9 @@ module _ (X : List ℕ → List ℕ) (N : List ℕ → ℕ) where
   host-in (Same cid) told l m rule h = absurd cc
   host-in (Adopt source dest) told l m rule h = absurd cc
   host-in (Gen n seed) told l m rule h = absurd cc
+  host-in (Pin (pins.Add cid)) told l m rule h = absurd cc
+  host-in (Pin (pins.Remove cid)) told l m rule h = absurd cc
+  host-in (Pin pins.List) told l m rule h = absurd cc
 
   rules : (command : Command) → natures.reads_tree_alone command ≡ true → (told : Told) (l m : streams.Told) (why : Refusal) → may_meet (kinds_of command) (refusal_kind why) ≡ true → AddsFor X told (Ok command) (Err why) l m
       → status_of why ≡ status.Rule → RuleOf (Ok command) why told l m
@@ -393,6 +440,7 @@ module _ (X : List ℕ → List ℕ) (N : List ℕ → ℕ) where
   rules command needs told l m (refusal.Host rule) h adds is = host-in command told l m rule h
   rules command needs told l m (refusal.BadPath why) h adds is = absurd (no-path command h)
   rules command needs told l m refusal.InputTooLong h adds is = long-in command told l m h adds
+  rules command needs told l m refusal.BadPins h adds is = absurd cc
   rules command needs told l m refusal.Usage h adds is = absurd cc
   rules command needs told l m (refusal.Ready why) h adds is = absurd cc
   rules command needs told l m refusal.Read h adds is = absurd cc
@@ -471,6 +519,7 @@ module _ (X : List ℕ → List ℕ) (N : List ℕ → ℕ) where
           reads = mk.reads;
           host = takes (is_read {A = Unit {0}} (Err why)) (is_write {A = Unit {0}} (Err why)) mk.host;
           gets = alone-gets command alone (ended {A = Unit {0}} (Err why)) a.told side.told side2.told;
+          pins = alone-pins command alone (Err why) a.told b.told;
           writes = rises (is_write {A = Unit {0}} (Err why)) w (subst (λ f. RisesFor f w w) (sym quiet.unwritten) (rises-still w));
           cause = mk.cause;
           whole = λ s needs stands calm. mk.whole s stands calm;
@@ -544,6 +593,7 @@ module _ (X : List ℕ → List ℕ) (N : List ℕ → ℕ) where
           reads = mk.reads;
           host = takes false false mk.host;
           gets = alone-gets command alone status.Ok a.told side.told side2.told;
+          pins = alone-pins command alone (Ok tt) a.told b.told;
           writes = rises false v (record { rose = counts.rose; still = counts.still });
           cause = mk.cause;
           whole = λ s needs stands calm. mk.whole s stands calm;
@@ -587,6 +637,7 @@ module _ (X : List ℕ → List ℕ) (N : List ℕ → ℕ) where
               reads = mk.reads;
               host = takes false true mk.host;
               gets = alone-gets command alone status.WriteFault a.told side.told side2.told;
+              pins = alone-pins command alone (Err refusal.Write) a.told b.told;
               writes = rises true v (record { rose = c.counts.rose; still = c.counts.still });
               cause = mk.cause;
               whole = λ s needs stands calm. (λ e. cc, λ e. cc);

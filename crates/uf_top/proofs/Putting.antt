@@ -1,9 +1,7 @@
 -- A tree put at a spot, step by step.
 use Rattle.std.proofs.Common.{◌≡◌, ◌⊎◌, ℕ, List, [], ◌++◌, refl, sym, ap, subst, ◌∙◌, inl, inr, Option, Some, None, Result, Ok, Err}
 use Rattle.uf_adopt.specs.Adopting.{IsBuilt}
-use Rattle.uf_adopt.specs.Faults.{IsStoreFailing}
-use Rattle.uf_cid.specs.Blocks.{Held, Lookup}
-use Rattle.uf_lenient.specs.Answers.{IsStoreOwn}
+use Rattle.uf_cid.specs.Blocks.{Held}
 use Rattle.uf_mfs.specs.Moving.{GivesOr}
 use Rattle.uf_mfs.specs.Standing.{IsPlanOf, StandsAfter, TellsHeld}
 use Rattle.uf_mfs.specs.Steps.{IsFolderOver, MovesTree}
@@ -83,6 +81,7 @@ failing-lost hash told l a b (refusal.Car number place) h shown calm = absurd h
 failing-lost hash told l a b (refusal.CarLacks cid) h shown calm = absurd h
 failing-lost hash told l a b (refusal.OwnClash cid first second) h shown calm = absurd h
 failing-lost hash told l a b refusal.InputTooLong h shown calm = absurd h
+failing-lost hash told l a b refusal.BadPins h shown calm = absurd h
 failing-lost hash told l a b refusal.Usage h shown calm = absurd h
 failing-lost hash told l a b (refusal.Ready r) h shown calm = absurd h
 failing-lost hash told l a b refusal.Read h shown calm = absurd h

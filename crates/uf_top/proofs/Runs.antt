@@ -13,7 +13,7 @@ use Rattle.uf_top.specs.Running.{Runs}
 use Rattle.uf_top.specs.Working.{Serves}
 use Rattle.uf_top.proofs.Counted.{counted-of}
 use Rattle.uf_top.proofs.Losses.{lost-told, touches-told}
-use Rattle.uf_top.proofs.Telling.{StatusShows, blamed-told, clashes-told, faults-told, gets-told, good-told, head-told, host-told, idle-told, is-refused, kinds-told, prefix-told, prints-told, read-told, replies-told, says-plain, shows, synced-told, told-same, unprinted-told, whole-told, write-told, writes-told}
+use Rattle.uf_top.proofs.Telling.{StatusShows, blamed-told, clashes-told, faults-told, gets-told, good-told, head-told, host-told, idle-told, is-refused, kinds-told, pins-told, prefix-told, prints-told, read-told, replies-told, says-plain, shows, synced-told, told-same, unprinted-told, whole-told, write-told, writes-told}
 
 module _ (Says : List ℕ → Type 0) (given : Status) (X : List ℕ → List ℕ) (N : List ℕ → ℕ) (a b : Around) where
   pub runs-told : (asked : Result Command Refusal) (done : Result (Unit {0}) Refusal) → IsOfWords asked → Serves X N asked done a b
@@ -51,6 +51,7 @@ module _ (Says : List ℕ → Type 0) (given : Status) (X : List ℕ → List �
     idle = λ p es bytes names input faults is. idle-told Says given X N a b asked done s p es bytes names input faults is;
     host_told = λ is. host-told Says given X N a b asked done s is;
     gets = gets-told Says given X N a b asked done s t;
+    pins = pins-told Says given X N a b asked done s t;
     touches = λ p es bytes rows named input heights calm. touches-told Says given X N a b p es bytes rows asked done s named input heights calm;
     touched = λ is. blamed-told Says given X N a b asked done of-words s t is;
   }

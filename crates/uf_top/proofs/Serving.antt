@@ -1,5 +1,5 @@
 -- From words to a command that is done.
-use Rattle.std.proofs.Common.{◌≡◌, ◌∙◌, ℕ, List, Bool, true, false, refl, sym, ap, subst, inl, inr, Option, None, Some, Result, Ok, Err}
+use Rattle.std.proofs.Common.{◌≡◌, ◌∙◌, ℕ, List, Bool, true, false, refl, sym, ap, subst, inl, inr, None, Some, Result, Ok, Err}
 use Rattle.std.specs.Prelude.{◌&&◌, not, IfErr, IfSome}
 use Rattle.uf_edge.specs.Counts.{Counts}
 use Rattle.uf_edge.specs.Host.{HostTold}
@@ -21,12 +21,14 @@ use Rattle.uf_top.specs.Reply.{reply}
 use Rattle.uf_reply.specs.Statuses.{no_memory}
 use Rattle.uf_reply.specs.declared.types.Ask.TheVariants.{Ls, Stat, Edit as Edits}
 use Rattle.uf_reply.specs.declared.types.Command.{Command}
-use Rattle.uf_reply.specs.declared.types.Command.TheVariants.{Init, Add, AddFrom, WriteInput, At, Read, Cat, Get, Export, Import, Same, Adopt, Gen, AddTo, AddFromTo}
+use Rattle.uf_reply.specs.declared.types.Command.TheVariants.{Init, Add, AddFrom, WriteInput, At, Read, Cat, Get, Export, Import, Same, Adopt, Gen, AddTo, AddFromTo, Pin}
+use Rattle.uf_reply.specs.declared.types.PinAsk.TheVariants as pins
 use Rattle.uf_reply.specs.declared.types.Refusal.{Refusal}
 use Rattle.uf_reply.specs.declared.types.Refusal.TheVariants as refusal
 use Rattle.uf_reply.specs.declared.status.Status.TheVariants as status
 use Rattle.uf_top.specs.Around.{Around, RisesFor, TakesHost, is_input_read, is_output_write}
 use Rattle.uf_top.specs.Getting.{GetsFor, LeavesAt}
+use Rattle.uf_top.specs.Pins.{PinsFor}
 use Rattle.uf_top.specs.Bounds.{command_touches}
 use Rattle.uf_top.specs.Cars.{ByOwnStore}
 use Rattle.uf_top.specs.Shapes.{WritesAs}
@@ -50,6 +52,9 @@ memory-kind Import = refl
 memory-kind (Same cid) = refl
 memory-kind (Adopt source dest) = refl
 memory-kind (Gen n seed) = refl
+memory-kind (Pin (pins.Add cid)) = refl
+memory-kind (Pin (pins.Remove cid)) = refl
+memory-kind (Pin pins.List) = refl
 memory-kind (AddTo dest) = refl
 memory-kind (AddFromTo recursive path dest) = refl
 memory-kind (AddFrom recursive only_hash path) = refl
@@ -72,6 +77,9 @@ memory-writes X Import a = record { between = a; saves = SavesOnly-refl X a; las
 memory-writes X (Same cid) a = refl
 memory-writes X (Adopt source dest) a = record { between = a; saves = SavesOnly-refl X a; last = StaysSame refl }
 memory-writes X (Gen n seed) a = refl
+memory-writes X (Pin (pins.Add cid)) a = inl refl
+memory-writes X (Pin (pins.Remove cid)) a = refl
+memory-writes X (Pin pins.List) a = refl
 memory-writes X (AddFrom recursive true path) a = refl
 memory-writes X (AddFrom recursive false path) a = record { between = a; saves = SavesOnly-refl X a; last = StaysSame refl }
 
@@ -96,6 +104,28 @@ nothing-gotten Import store told = tt
 nothing-gotten (Same cid) store told = tt
 nothing-gotten (Adopt source dest) store told = tt
 nothing-gotten (Gen n seed) store told = tt
+nothing-gotten (Pin ask) store told = tt
+
+-- and the note of pins stays
+nothing-pinned : (command : Command) (told : Told) → PinsFor command (Err no_memory) told told
+nothing-pinned (Init p) told = tt
+nothing-pinned (Add only_hash) told = tt
+nothing-pinned (AddTo dest) told = tt
+nothing-pinned (AddFromTo recursive path dest) told = tt
+nothing-pinned (AddFrom recursive only_hash path) told = tt
+nothing-pinned (WriteInput how path) told = tt
+nothing-pinned (At ask path) told = tt
+nothing-pinned (Read offset count path) told = tt
+nothing-pinned (Cat path) told = tt
+nothing-pinned (Get path host_path) told = tt
+nothing-pinned (Export cid) told = tt
+nothing-pinned Import told = tt
+nothing-pinned (Same cid) told = tt
+nothing-pinned (Adopt source dest) told = tt
+nothing-pinned (Gen n seed) told = tt
+nothing-pinned (Pin (pins.Add cid)) told = (refl, tt)
+nothing-pinned (Pin (pins.Remove cid)) told = (refl, tt)
+nothing-pinned (Pin pins.List) told = (refl, tt)
 
 module _ (X : List ℕ → List ℕ) (N : List ℕ → ℕ) (a : Around) where
   still-reads : (command : Command) → Counts (is_input_read {A = Unit {0}} command (Err no_memory)) a.reads a.reads
@@ -134,6 +164,7 @@ module _ (X : List ℕ → List ℕ) (N : List ℕ → ℕ) (a : Around) where
     reads = still-reads command;
     host = still-host command;
     gets = nothing-gotten command a.store.told a.host.told;
+    pins = nothing-pinned command a.store.told;
     writes = still-written command;
     cause = calm-memory a.store a.store (StaysCalm-refl a.store);
     whole = λ s needs stands calm. (λ e. cc, λ e. cc);
@@ -167,6 +198,9 @@ may-section Import h none = cc
 may-section (Same cid) h none = cc
 may-section (Adopt source dest) h none = cc
 may-section (Gen n seed) h none = cc
+may-section (Pin (pins.Add cid)) h none = cc
+may-section (Pin (pins.Remove cid)) h none = cc
+may-section (Pin pins.List) h none = cc
 
 may-clash : (command : Command) → may_close (kinds_of command) OfOwnClash ≡ true → own_store command ≡ NoStore → ⊥
 may-clash (Init p) h none = cc
@@ -184,6 +218,9 @@ may-clash Import h none = cc
 may-clash (Same cid) h none = cc
 may-clash (Adopt source dest) h none = cc
 may-clash (Gen n seed) h none = cc
+may-clash (Pin (pins.Add cid)) h none = cc
+may-clash (Pin (pins.Remove cid)) h none = cc
+may-clash (Pin pins.List) h none = cc
 
 module _ (X : List ℕ → List ℕ) (left : streams.Told) (a b : Seen) where
   by-none : (own : OwnStore) (why : Refusal) → (refusal_kind why ≡ OfSections → ⊥) → (refusal_kind why ≡ OfOwnClash → ⊥) → ByOwnStore X own left a b why
@@ -192,6 +229,7 @@ module _ (X : List ℕ → List ℕ) (left : streams.Told) (a b : Seen) where
   by-none own (refusal.Host rule) none free = tt
   by-none own (refusal.BadPath path) none free = tt
   by-none own refusal.InputTooLong none free = tt
+  by-none own refusal.BadPins none free = tt
   by-none own refusal.Usage none free = tt
   by-none own (refusal.Ready reason) none free = tt
   by-none own refusal.Read none free = tt
@@ -231,6 +269,7 @@ alone-spares Import h = refl
 alone-spares (Same cid) h = absurd cc
 alone-spares (Adopt source dest) h = refl
 alone-spares (Gen n seed) h = absurd cc
+alone-spares (Pin ask) h = refl
 
 -- and generates nothing
 pub alone-given : (command : Command) → reads_tree_alone command ≡ true → generates command ≡ true → ⊥
@@ -249,6 +288,7 @@ alone-given Import h own = cc
 alone-given (Same cid) h own = cc
 alone-given (Adopt source dest) h own = cc
 alone-given (Gen n seed) h own = cc
+alone-given (Pin ask) h own = cc
 
 -- where what was asked for was refused, memory was wanting for a command
 pub asked-kinds : (told : Result Command Refusal) (why : Refusal) → IsAsked (Err why) told → IsOfCommand told (Err why)

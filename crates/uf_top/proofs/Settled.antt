@@ -1,52 +1,48 @@
 -- The steps of what is added to where a path of the tree leads: the spot, what is read, and what is put.
-use Rattle.std.proofs.Common.{◌≡◌, ◌≢◌, ◌⊎◌, ℕ, ◌≤◌, ◌<◌, List, [], ◌∷◌, ◌++◌, length, arith, Bool, true, false, cond, nat_lt, refl, sym, ap, subst, ◌∙◌, inl, inr, Option, Some, None, Result, Ok, Err}
-use Rattle.std.specs.Prelude.{IfErr, IfOk, IfSome, if◌then◌else◌, nat_le, IsTrue}
+use Rattle.std.proofs.Common.{◌≡◌, ◌⊎◌, ℕ, ◌≤◌, ◌<◌, List, [], ◌++◌, length, arith, Bool, true, false, cond, nat_lt, refl, sym, ap, subst, ◌∙◌, inl, inr, Option, Some, None, Result, Ok, Err}
+use Rattle.std.specs.Prelude.{if◌then◌else◌, IsTrue}
 use Rattle.std.specs.List.{flat_map}
 use Rattle.std.proofs.lemmas.Bool.{le-leb, lt-leb}
 use Rattle.std.proofs.lemmas.Bool.Decides.{nat_tests}
-use Rattle.uf_cid.specs.Blocks.{Held}
 use Rattle.uf_cid.specs.Bytes.{IsBytes}
 use Rattle.uf_edge.specs.Counts.{Stood}
 use Rattle.uf_edge.specs.Streams as streams
-use Rattle.uf_host.specs.Adding.{AddsFromHost, AreRowsOf, HasHeldPlan, IsSaid}
+use Rattle.uf_host.specs.Adding.{AddsFromHost, HasHeldPlan, IsSaid}
 use Rattle.uf_host.specs.HostTree.{row_with, rows_in, rows_of, tree_on_host}
 use Rattle.uf_host.specs.Paths.{first_row, trimmed}
 use Rattle.uf_host.specs.declared.fault.HostFault.{HostFault}
 use Rattle.uf_host.specs.declared.import.AddedRow.{AddedRow}
 use Rattle.uf_host.proofs.Bytes.{bytes-all}
 use Rattle.uf_adopt.specs.Adopting.{IsBuilt}
-use Rattle.uf_edge.specs.Host.{HostTold, HostTree}
+use Rattle.uf_edge.specs.Host.{HostTold}
 use Rattle.uf_mfs.specs.Answers.{ShownInTree, ShownOpening}
 use Rattle.uf_mfs.specs.Bad.{IsBadInHead, IsBadInTree}
 use Rattle.uf_mfs.specs.Moving.{GivesOr, GivesOver}
-use Rattle.uf_mfs.specs.Standing.{Commits, IsPlanOf, IsWanting, LeavesHead, NamesOver, Opens, OpensOver, ReadsHead, Same, StandsAfter, StandsOver, TellsAs, head_in}
+use Rattle.uf_mfs.specs.Standing.{Commits, IsPlanOf, IsWanting, LeavesHead, NamesOver, Opens, OpensOver, ReadsHead, Same, StandsAfter, StandsOver, TellsAs}
 use Rattle.uf_mfs.specs.Steps.{IsFolderOver, MovesTree, tree_fault}
-use Rattle.uf_mfs.specs.Touches.{CountsUp, IsBlaming}
+use Rattle.uf_mfs.specs.Touches.{CountsUp}
 use Rattle.uf_mfs.specs.declared.fault.MfsFault.{MfsFault}
 use Rattle.uf_mfs.specs.declared.fault.MfsFault.TheVariants as mfs
 use Rattle.uf_mfs.specs.declared.mfs.Mfs.{Mfs}
-use Rattle.uf_mfs.proofs.Holding.{loss-back, loss-front}
-use Rattle.uf_mfs.proofs.Judging.{tree-more}
+use Rattle.uf_mfs.proofs.Holding.{loss-front}
 use Rattle.uf_mfs.proofs.Starting.{leaves-head, saves-head}
 use Rattle.uf_path.specs.declared.path.Path.{Path}
 use Rattle.uf_plain.specs.Moves.{allowed_move, placed_at, put_at_spot, spot_names, spotted}
 use Rattle.uf_plain.specs.Needs.{root_of}
 use Rattle.uf_plain.specs.Rules.{allowed}
 use Rattle.uf_plain.specs.declared.ready.Ready.TheVariants as ready
-use Rattle.uf_plain.specs.declared.rule.Rule.{Rule}
 use Rattle.uf_plain.specs.declared.rule.Rule.TheVariants.{FileTooLong}
 use Rattle.uf_plain.specs.declared.spot.Spot.{Spot}
-use Rattle.uf_store.specs.Calls.{Calm, OnlyReads, OnlySaves}
+use Rattle.uf_store.specs.Calls.{OnlySaves}
 use Rattle.uf_store.specs.Contents.{Told}
 use Rattle.uf_store.specs.Faults.{NoneIsBad, Shown, StaysCalm}
 use Rattle.uf_store.specs.Keeping.{Holds, KeepsGood}
 use Rattle.uf_store.specs.Lost.{IsLossOf}
 use Rattle.uf_store.specs.Seen.{Seen}
-use Rattle.uf_store.specs.declared.store.Role.{Role}
 use Rattle.uf_store.specs.declared.store.StoreFault.{StoreFault}
 use Rattle.uf_store.specs.declared.store.StoreFault.TheVariants as fault
 use Rattle.uf_store.specs.Writing.{SavesOnly}
-use Rattle.uf_store.proofs.Calls.{shown-after, shown-by, shown-rises, stood-back, stood-front}
+use Rattle.uf_store.proofs.Calls.{shown-after, shown-rises, stood-back, stood-front}
 use Rattle.uf_store.proofs.Causes.{StaysCalm-trans, calm-memory, calm-rises}
 use Rattle.uf_store.proofs.Keeping.{KeepsGood-trans}
 use Rattle.uf_tree.specs.FilePlan.{file_plan}
@@ -61,7 +57,7 @@ use Rattle.uf_tree.specs.declared.nodes.Entry.{Entry}
 use Rattle.uf_tree.specs.declared.profile.Profile.{Profile}
 use Rattle.uf_varint.specs.Fields.{◌>>=◌}
 use Rattle.uf_reply.specs.Lines.{added_line}
-use Rattle.uf_reply.specs.Kinds.{IsOf, OfHost, OfReady, fault_behind, may_meet, opened_kinds, refusal_kind}
+use Rattle.uf_reply.specs.Kinds.{OfHost, OfReady, fault_behind, may_meet, refusal_kind}
 use Rattle.uf_reply.specs.Statuses.{no_memory}
 use Rattle.uf_reply.specs.declared.types.Ask.TheVariants.{Ls}
 use Rattle.uf_reply.specs.declared.types.HostRule.TheVariants as rules
@@ -69,7 +65,7 @@ use Rattle.uf_reply.specs.declared.types.Refusal.{Refusal}
 use Rattle.uf_reply.specs.declared.types.Refusal.TheVariants as refusal
 use Rattle.uf_top.specs.Causes.{RefusesInTree, RefusesOpening, is_read}
 use Rattle.uf_top.specs.Grafts.{FollowsOr, IsLostBy, IsOkFor}
-use Rattle.uf_top.specs.HostTexts.{host_refusal, host_row, host_text}
+use Rattle.uf_top.specs.HostTexts.{host_row, host_text}
 use Rattle.uf_top.specs.Hosted.{IsHostRefused}
 use Rattle.uf_intake.specs.Intake.{IsWholeFile, PassesMost}
 use Rattle.uf_top.specs.Naming.{NamesAfter}
@@ -80,7 +76,7 @@ use Rattle.uf_top.specs.declared.given.Given.{Given}
 use Rattle.uf_top.proofs.Added.{given_few, left_are}
 use Rattle.uf_top.proofs.Classed.{tree-kinds}
 use Rattle.uf_top.proofs.InTree.{opening-ready, tree-wants}
-use Rattle.uf_top.proofs.Losing.{became, commits-agrees, leaves-agrees}
+use Rattle.uf_top.proofs.Losing.{became, commits-agrees}
 use Rattle.uf_top.proofs.Placed.{IsOfTree, lost-behind, tree-rule, tree-store}
 use Rattle.uf_top.proofs.Putting.{gives-ok, gives-stop, ok-for, ok-value, put_gives}
 use Rattle.uf_top.proofs.Shows.{head_of, Shown-opening, Shown-tree, opening-touched, tree-touched}
@@ -414,6 +410,7 @@ module _ (X : List ℕ → List ℕ) (N : List ℕ → ℕ) (p : Profile) where
   host-ungiven host recursive path (refusal.CarLacks cid) h = absurd h
   host-ungiven host recursive path (refusal.OwnClash cid first second) h = absurd h
   host-ungiven host recursive path refusal.InputTooLong h = absurd h
+  host-ungiven host recursive path refusal.BadPins h = absurd h
   host-ungiven host recursive path refusal.Usage h = absurd h
   host-ungiven host recursive path (refusal.Ready w) h = absurd h
   host-ungiven host recursive path refusal.Read h = tt

@@ -1,5 +1,5 @@
 -- What a stop during a command leaves, by what the command writes.
-use Rattle.std.proofs.Common.{◌≡◌, ℕ, ◌<◌, ◌^◌, List, [], ◌∷◌, ◌++◌, Bool, true, false, refl, sym, ap, subst, ◌∙◌, inl, inr, append_assoc, Some, None, Result, Ok, Err}
+use Rattle.std.proofs.Common.{◌≡◌, ℕ, ◌<◌, ◌^◌, List, [], ◌∷◌, ◌++◌, Bool, true, false, refl, sym, ap, subst, ◌∙◌, inl, inr, append_assoc, append-nil, Some, None, Result, Ok, Err}
 use Rattle.std.specs.FinMap.{get}
 use Rattle.std.specs.List.{AllByRecursion}
 use Rattle.uf_cid.specs.Blocks.{Held}
@@ -8,7 +8,7 @@ use Rattle.uf_mfs.specs.Standing.{Commits, Idle, LeavesHead, OnlySynced, Same, S
 use Rattle.uf_store.specs.Contents.{Contents, HeldMap, Notes, Told, changed, held_at, no_notes, notes_after, with_sync, with_text}
 use Rattle.uf_store.specs.Stops.{IsPlain, firm, held_by, notes_by, written}
 use Rattle.uf_store.specs.Writing.{Appends, IsSave, ReplaceNone, SavesOnly}
-use Rattle.uf_store.specs.declared.store.Note.TheVariants.{Head}
+use Rattle.uf_store.specs.declared.store.Note.TheVariants.{Head, Pins}
 use Rattle.uf_store.specs.declared.store.Write.{Write}
 use Rattle.uf_store.specs.declared.store.Write.TheVariants.{Synced, Noted}
 use Rattle.uf_store.proofs.Writing.{SavesOnly-refl, fold-append, saves-notes}
@@ -17,12 +17,12 @@ use Rattle.uf_tree.specs.Tree.{Entries}
 use Rattle.uf_tree.specs.Validity.{IsHash}
 use Rattle.uf_tree.specs.declared.profile.Profile.{Profile}
 use Rattle.uf_unique.proofs.Heads.{one_standing}
-use Rattle.uf_reply.specs.Natures.{WriteShape, MakesHead, MovesHead, NoWrites, SyncsBlocks, command_writes}
+use Rattle.uf_reply.specs.Natures.{WriteShape, MakesHead, MovesHead, NoWrites, NotesPins, SyncsBlocks, SyncsPins, command_writes}
 use Rattle.uf_reply.specs.declared.types.Command.{Command}
 use Rattle.uf_reply.specs.declared.types.Refusal.{Refusal}
 use Rattle.uf_top.specs.Outcomes.{EachOutcome, EachStop, IsSafeFor, LeavesEither, LeavesNoneOr, LeavesTree}
 use Rattle.uf_top.specs.Shapes.{HeadAfter, SyncsAfter, WritesAs, WritesFor}
-use Rattle.uf_top.proofs.Firm.{IsFirm, firm-leaves, firm-of, firm-safe, firm-saved, firm-stands, firm-synced, holds-part, noted-firm, plain-noted, plain-saves, plain-synced, safe-firm, saves-append, stops-none, stops-one, stops-saves, stops-then, synced-firm}
+use Rattle.uf_top.proofs.Firm.{IsFirm, firm-leaves, firm-of, firm-pinned, plain-pinned, firm-safe, firm-saved, firm-stands, firm-synced, holds-part, noted-firm, plain-noted, plain-saves, plain-synced, safe-firm, saves-append, stops-none, stops-one, stops-saves, stops-then, synced-firm}
 
 told-is : (a b : Contents) → ◌≡◌ {A = Told} (Some a) (Some b) → a ≡ b
 told-is a b e = cc
@@ -30,6 +30,10 @@ told-is a b e = cc
 -- what the Head is after saves, a sync and a text
 abbrev noted : List ℕ → Contents → Contents
 noted text m = with_text Head text (with_sync m)
+
+-- and after a note of pins
+abbrev pinned : List ℕ → Contents → Contents
+pinned text m = with_text Pins text m
 
 module _ (X : List ℕ → List ℕ) where
   -- after a sync all that is told is firm
@@ -223,6 +227,18 @@ module _ (X : List ℕ → List ℕ) where
       pub commit-ends : (text : List ℕ) (b : Contents) → Commits text (Some a) (Some b) → IsNext b → EndsWell b
       commit-ends text b commits next = head-ends b (text, record { between = Some a; saves = SavesOnly-refl X (Some a); last = commits }) next
 
+      -- a note of pins that is written changes no tree
+      none-saved-yet : Appends X IsSave a a
+      none-saved-yet = SavesOnly-refl X (Some a)
+
+      pinned-ends : (m : Contents) (xs : List Write) → m.writes ≡ a.writes ++ xs → IsPlain m → IsFirm X N p es m.writes → EachStop Either a m → (text : List ℕ) → IsNext (pinned text m) → EndsWell (pinned text m)
+      pinned-ends m xs is plain firm_m early text next =
+          let plain_n = plain-pinned X m text plain in
+          let firm_n = firm-pinned X N p es m text plain firm_m in
+          ends-same (pinned text m) plain_n firm_n next
+          (stops-then Either a m (pinned text m) xs (Noted Pins text ∷ []) is refl early
+          (stops-one Either m (pinned text m) (Noted Pins text) refl (before-too m.writes firm_m) (before-too (pinned text m).writes firm_n)))
+
       shape-ends : (shape : WriteShape) (done : Bool) (b : Contents) → WritesAs X shape done (Some a) (Some b) → IsNext b → EndsWell b
       shape-ends NoWrites done b written next = along b a (told-is b a written) next nothing-ends
       shape-ends SyncsBlocks true b written next = syncs-ends b written next
@@ -231,6 +247,12 @@ module _ (X : List ℕ → List ℕ) where
       shape-ends MakesHead false b written next = leaves-ends b written next
       shape-ends MovesHead true b written next = head-ends b written next
       shape-ends MovesHead false b written next = leaves-ends b written next
+      shape-ends SyncsPins true b (inl written) next = leaves-ends b (record { between = Some a; saves = SavesOnly-refl X (Some a); last = OnlySynced written }) next
+      shape-ends SyncsPins true b (inr written) next = along b (pinned written.0 (with_sync a)) (told-is b (pinned written.0 (with_sync a)) written.1) next (pinned-ends (with_sync a) (Synced ∷ []) refl (plain-synced X a safe.safe.plain) (synced-firm-too a none-saved-yet) (synced-stops a none-saved-yet) written.0)
+      shape-ends SyncsPins false b (inl written) next = along b a (told-is b a written) next nothing-ends
+      shape-ends SyncsPins false b (inr written) next = leaves-ends b (record { between = Some a; saves = SavesOnly-refl X (Some a); last = OnlySynced written }) next
+      shape-ends NotesPins true b written next = along b (pinned written.0 a) (told-is b (pinned written.0 a) written.1) next (pinned-ends a [] (sym (append-nil a.writes)) safe.safe.plain first-firm (stops-none Either a a refl (before-too a.writes first-firm)) written.0)
+      shape-ends NotesPins false b written next = along b a (told-is b a written) next nothing-ends
 
       pub words-end : (asked : Result Command Refusal) (done : Bool) (b : Contents) → WritesFor X asked done (Some a) (Some b) → IsNext b → EndsWell b
       words-end (Ok command) done b written next = shape-ends (command_writes command) done b written next

@@ -1,6 +1,6 @@
 -- Talks with a peer: what they leave, and one for whose words there was no memory.
 use Rattle.std.proofs.Common.{◌≡◌, ℕ, List, [], ◌∷◌, refl, sym, ap, subst, ◌∙◌, arith, inl, append-nil, None, Some, Result, Err}
-use Rattle.std.specs.Prelude.{fold, take}
+use Rattle.std.specs.Prelude.{fold}
 use Rattle.std.specs.List.{AllByRecursion}
 use Rattle.uf_cid.specs.declared.cid.Cid.{Cid}
 use Rattle.uf_edge.specs.Streams.{AppendsPrefix, Told, after}

@@ -21,7 +21,7 @@ use Rattle.uf_tree.specs.declared.profile.Profile.{Profile}
 use Rattle.uf_reply.specs.Commands.{HasInput, IsOfWords, is_idle, of_command}
 use Rattle.uf_reply.specs.Natures.{command_writes, needs_standing, only_reads, own_store, reads_tree_alone, uses_host, writes_host, OwnStore, NoStore, OfCarSections, OfTree, prints_after}
 use Rattle.uf_reply.specs.Natures.{streams as flows}
-use Rattle.uf_reply.specs.Kinds.{OfCar, OfClash, OfHost, OfLongInput, OfMissing, OfPath, OfRule, OfUsage, OfWrite, fault_behind, may_close, refusal_kind, word_kinds}
+use Rattle.uf_reply.specs.Kinds.{OfCar, OfClash, OfHost, OfLongInput, OfMissing, OfPath, OfPins, OfReady, OfRule, OfUsage, OfWrite, fault_behind, may_close, refusal_kind, word_kinds}
 use Rattle.uf_reply.specs.Natures.{IsOfCommand, kinds_of, may_end, may_give}
 use Rattle.uf_reply.specs.Lines.{bad_block_line, clash_line, line_of, missing_line, said}
 use Rattle.uf_top.specs.Reply.{World, outside_of, reply, reply_to}
@@ -30,20 +30,24 @@ use Rattle.uf_reply.specs.declared.status.Status.{Status}
 use Rattle.uf_reply.specs.declared.status.Status.TheVariants as status
 use Rattle.uf_reply.specs.declared.types.Ask.TheVariants.{Ls, Stat, Edit as Edits}
 use Rattle.uf_reply.specs.declared.types.Command.{Command}
-use Rattle.uf_reply.specs.declared.types.Command.TheVariants.{Init, Add, AddFrom, WriteInput, At, Read, Cat, Get, Export, Import, Same, Adopt, Gen, AddTo, AddFromTo}
+use Rattle.uf_reply.specs.declared.types.Command.TheVariants.{Init, Add, AddFrom, WriteInput, At, Read, Cat, Get, Export, Import, Same, Adopt, Gen, AddTo, AddFromTo, Pin}
+use Rattle.uf_reply.specs.declared.types.PinAsk.{PinAsk}
+use Rattle.uf_reply.specs.declared.types.PinAsk.TheVariants as pins
 use Rattle.uf_reply.specs.declared.types.Refusal.{Refusal}
 use Rattle.uf_reply.specs.declared.types.Refusal.TheVariants as refusal
 use Rattle.uf_top.specs.Answering.{DoesAnswer, LeavesNext}
 use Rattle.uf_top.specs.Around.{AllWritten, Around, CountsCanRise, HasOutside, HostSide, MetNone, RisesFor, RoseAt, TakesHost}
 use Rattle.uf_top.specs.Cars.{ByOwnStore, IsClashing, IsMissing, IsOwnClash, LacksSection}
 use Rattle.uf_top.specs.Causes.{IsBadIn, IsSynced, is_read, is_write, KeepsHead}
-use Rattle.uf_top.specs.Endings.{EndsAs, EndsBy, FindsAll, IsNotReady, IsRefusedBy, IsRule, IsSyncedFor, IsTextOf, PrintsAll, PrintsAt, PrintsPart, SaysPlain, may_move}
+use Rattle.uf_top.specs.Endings.{EndsAs, EndsBy, FindsAll, IsNotReady, IsRefusedBy, IsRule, IsSyncedFor, IsTextOf, PinsUnread, PrintsAll, PrintsAt, PrintsPart, SaysPlain, may_move}
 use Rattle.uf_reply.specs.Telling.{TellsEnd, TellsWhy, has_details}
 use Rattle.uf_top.specs.Getting.{GetsFor, LeavesAt}
 use Rattle.uf_top.specs.Naming.{FindsOver, FindsWorld, StandsIf}
+use Rattle.uf_top.specs.Pins.{PinsAfter, PinsFor, PinsLeft, pins_in}
 use Rattle.uf_top.specs.Shapes.{SyncsAfter, WritesAs, WritesFor, is_done}
 use Rattle.uf_top.specs.Working.{Does, Serves}
 use Rattle.uf_top.proofs.Finding.{words-whole}
+use Rattle.uf_top.proofs.Pins.{pins-after}
 use Rattle.uf_top.proofs.Printing.{quiet-of}
 use Rattle.uf_top.proofs.Shows.{blaming-of}
 use Rattle.uf_top.proofs.Standings.{stands-kept, tells-none}
@@ -63,6 +67,9 @@ no-path Import h = cc
 no-path (Same cid) h = cc
 no-path (Adopt source dest) h = cc
 no-path (Gen n seed) h = cc
+no-path (Pin (pins.Add cid)) h = cc
+no-path (Pin (pins.Remove cid)) h = cc
+no-path (Pin pins.List) h = cc
 no-path (AddTo dest) h = cc
 no-path (AddFromTo recursive path dest) h = cc
 no-path (AddFrom recursive only_hash path) h = cc
@@ -80,6 +87,9 @@ no-usage Import h = cc
 no-usage (Same cid) h = cc
 no-usage (Adopt source dest) h = cc
 no-usage (Gen n seed) h = cc
+no-usage (Pin (pins.Add cid)) h = cc
+no-usage (Pin (pins.Remove cid)) h = cc
+no-usage (Pin pins.List) h = cc
 no-usage (AddTo dest) h = cc
 no-usage (AddFromTo recursive path dest) h = cc
 no-usage (AddFrom recursive only_hash path) h = cc
@@ -98,6 +108,7 @@ tree-clashes Import h own = cc
 tree-clashes (Same cid) h own = cc
 tree-clashes (Adopt source dest) h own = cc
 tree-clashes (Gen n seed) h own = cc
+tree-clashes (Pin ask) h own = cc
 tree-clashes (AddTo dest) h own = cc
 tree-clashes (AddFromTo recursive path dest) h own = cc
 tree-clashes (AddFrom recursive only_hash path) h own = cc
@@ -118,9 +129,10 @@ gives command (refusal.Dag rule) h = or-left _ _ (or-left _ _ (or-left _ _ (or-l
 gives command (refusal.Host rule) h = or-left _ _ (or-left _ _ (or-left _ _ (or-right _ (may_end command OfHost) h)))
 gives command (refusal.BadPath path) h = or-left _ _ (or-left _ _ (or-right _ (may_end command OfPath) h))
 gives command refusal.InputTooLong h = or-left _ _ (or-right _ (may_end command OfLongInput) h)
+gives command refusal.BadPins h = or-right (may_end command OfReady) _ h
 gives command (refusal.Car number place) h = or-right _ (may_end command OfCar) h
 gives command refusal.Usage h = h
-gives command (refusal.Ready reason) h = h
+gives command (refusal.Ready reason) h = or-left _ _ h
 gives command refusal.Read h = h
 gives command refusal.Write h = h
 gives command (refusal.Store fault.Failed) h = h
@@ -143,6 +155,7 @@ plain-of (refusal.Host rule) e = absurd cc
 plain-of (refusal.BadPath path) e = absurd cc
 plain-of refusal.Usage e = refl
 plain-of refusal.InputTooLong e = absurd cc
+plain-of refusal.BadPins e = absurd cc
 plain-of (refusal.Ready reason) e = absurd cc
 plain-of refusal.Read e = refl
 plain-of refusal.Write e = refl
@@ -164,6 +177,7 @@ not-ok (refusal.Host rule) e = cc
 not-ok (refusal.BadPath path) e = cc
 not-ok refusal.Usage e = cc
 not-ok refusal.InputTooLong e = cc
+not-ok refusal.BadPins e = cc
 not-ok (refusal.Ready reason) e = cc
 not-ok refusal.Read e = cc
 not-ok refusal.Write e = cc
@@ -185,6 +199,7 @@ read-of (refusal.Host rule) is = absurd cc
 read-of (refusal.BadPath path) is = absurd cc
 read-of refusal.Usage is = absurd cc
 read-of refusal.InputTooLong is = absurd cc
+read-of refusal.BadPins is = absurd cc
 read-of (refusal.Ready reason) is = absurd cc
 read-of refusal.Read is = refl
 read-of refusal.Write is = absurd cc
@@ -234,6 +249,7 @@ writing-uses Import h = absurd cc
 writing-uses (Same cid) h = absurd cc
 writing-uses (Adopt source dest) h = absurd cc
 writing-uses (Gen n seed) h = absurd cc
+writing-uses (Pin ask) h = absurd cc
 
 -- where the output's count or the host's rose, a writing failed
 output-written : (writes is_fault : Bool) (i j : ℕ) → RisesFor (not writes && is_fault) i j → i < j → is_fault ≡ true
@@ -268,6 +284,7 @@ write-of (refusal.Host rule) is = absurd cc
 write-of (refusal.BadPath path) is = absurd cc
 write-of refusal.Usage is = absurd cc
 write-of refusal.InputTooLong is = absurd cc
+write-of refusal.BadPins is = absurd cc
 write-of (refusal.Ready reason) is = absurd cc
 write-of refusal.Read is = absurd cc
 write-of refusal.Write is = refl
@@ -290,6 +307,7 @@ module _ (hash : List ℕ → List ℕ) (P : Role → List ℕ → Type 0) (a b 
   failure-of (refusal.BadPath path) h more = (let e = h.faults in absurd (omega (arith, e, more)))
   failure-of refusal.Usage h more = (let e = h.faults in absurd (omega (arith, e, more)))
   failure-of refusal.InputTooLong h more = (let e = h.faults in absurd (omega (arith, e, more)))
+  failure-of refusal.BadPins h more = (let e = h.faults in absurd (omega (arith, e, more)))
   failure-of (refusal.Ready reason) h more = (let e = h.faults in absurd (omega (arith, e, more)))
   failure-of refusal.Read h more = (let e = h.faults in absurd (omega (arith, e, more)))
   failure-of refusal.Write h more = (let e = h.faults in absurd (omega (arith, e, more)))
@@ -310,6 +328,7 @@ module _ (hash : List ℕ → List ℕ) (P : Role → List ℕ → Type 0) (a b 
   clash-of (refusal.BadPath path) h more = (let e = h.clashes in absurd (omega (arith, e, more)))
   clash-of refusal.Usage h more = (let e = h.clashes in absurd (omega (arith, e, more)))
   clash-of refusal.InputTooLong h more = (let e = h.clashes in absurd (omega (arith, e, more)))
+  clash-of refusal.BadPins h more = (let e = h.clashes in absurd (omega (arith, e, more)))
   clash-of (refusal.Ready reason) h more = (let e = h.clashes in absurd (omega (arith, e, more)))
   clash-of refusal.Read h more = (let e = h.clashes in absurd (omega (arith, e, more)))
   clash-of refusal.Write h more = (let e = h.clashes in absurd (omega (arith, e, more)))
@@ -319,6 +338,79 @@ module _ (hash : List ℕ → List ℕ) (P : Role → List ℕ → Type 0) (a b 
   clash-of (refusal.Store (fault.BadBlock cid role)) h more = (let e = h.calm.clashes in absurd (omega (arith, e, more)))
   clash-of (refusal.Store (fault.Clash cid first second)) h more = inl refl
   clash-of (refusal.Store fault.Memory) h more = inr refl
+
+-- a command that may say that the note of pins isn't read is one on pins
+pins-unread : (Says : List ℕ → Type 0) (command : Command) (a b : Told) → may_close (kinds_of command) OfPins ≡ true → PinsFor command (Err refusal.BadPins) a b → PinsUnread Says (Ok command) a
+pins-unread Says (Init profile) a b h p = absurd cc
+pins-unread Says (Add only_hash) a b h p = absurd cc
+pins-unread Says (AddTo dest) a b h p = absurd cc
+pins-unread Says (AddFromTo recursive path dest) a b h p = absurd cc
+pins-unread Says (AddFrom recursive only_hash path) a b h p = absurd cc
+pins-unread Says (WriteInput how path) a b h p = absurd cc
+pins-unread Says (At ask path) a b h p = absurd cc
+pins-unread Says (Read offset count path) a b h p = absurd cc
+pins-unread Says (Cat path) a b h p = absurd cc
+pins-unread Says (Get path host_path) a b h p = absurd cc
+pins-unread Says (Export cid) a b h p = absurd cc
+pins-unread Says Import a b h p = absurd cc
+pins-unread Says (Same cid) a b h p = absurd cc
+pins-unread Says (Adopt source dest) a b h p = absurd cc
+pins-unread Says (Gen n seed) a b h p = absurd cc
+pins-unread Says (Pin ask) a b h p = p.1
+
+-- what a detailed status leaves of the note of pins, want of memory leaves too
+detailed-left-pins : (ask : PinAsk) (a b : Told) (s : Status) → has_details s ≡ true → PinsLeft ask s a b → PinsLeft ask status.Memory a b
+detailed-left-pins (pins.Add cid) a b status.Ok h left = absurd cc
+detailed-left-pins (pins.Add cid) a b status.Rule h left = left
+detailed-left-pins (pins.Add cid) a b status.Usage h left = left
+detailed-left-pins (pins.Add cid) a b status.StoreFault h left = left
+detailed-left-pins (pins.Add cid) a b status.Missing h left = left
+detailed-left-pins (pins.Add cid) a b status.BadBlock h left = left
+detailed-left-pins (pins.Add cid) a b status.ReadFault h left = left
+detailed-left-pins (pins.Add cid) a b status.WriteFault h left = left
+detailed-left-pins (pins.Add cid) a b status.Clash h left = left
+detailed-left-pins (pins.Add cid) a b status.Memory h left = left
+detailed-left-pins (pins.Add cid) a b status.NotReady h left = left
+detailed-left-pins (pins.Remove cid) a b status.Ok h left = absurd cc
+detailed-left-pins (pins.Remove cid) a b status.Rule h left = left
+detailed-left-pins (pins.Remove cid) a b status.Usage h left = left
+detailed-left-pins (pins.Remove cid) a b status.StoreFault h left = left
+detailed-left-pins (pins.Remove cid) a b status.Missing h left = left
+detailed-left-pins (pins.Remove cid) a b status.BadBlock h left = left
+detailed-left-pins (pins.Remove cid) a b status.ReadFault h left = left
+detailed-left-pins (pins.Remove cid) a b status.WriteFault h left = left
+detailed-left-pins (pins.Remove cid) a b status.Clash h left = left
+detailed-left-pins (pins.Remove cid) a b status.Memory h left = left
+detailed-left-pins (pins.Remove cid) a b status.NotReady h left = left
+detailed-left-pins pins.List a b status.Ok h left = absurd cc
+detailed-left-pins pins.List a b status.Rule h left = left
+detailed-left-pins pins.List a b status.Usage h left = left
+detailed-left-pins pins.List a b status.StoreFault h left = left
+detailed-left-pins pins.List a b status.Missing h left = left
+detailed-left-pins pins.List a b status.BadBlock h left = left
+detailed-left-pins pins.List a b status.ReadFault h left = left
+detailed-left-pins pins.List a b status.WriteFault h left = left
+detailed-left-pins pins.List a b status.Clash h left = left
+detailed-left-pins pins.List a b status.Memory h left = left
+detailed-left-pins pins.List a b status.NotReady h left = left
+
+pub detailed-pins : (command : Command) (why : Refusal) (a b : Told) → has_details (status_of why) ≡ true → PinsFor command (Err why) a b → PinsFor command (Err no_memory) a b
+detailed-pins (Init profile) why a b h p = tt
+detailed-pins (Add only_hash) why a b h p = tt
+detailed-pins (AddTo dest) why a b h p = tt
+detailed-pins (AddFromTo recursive path dest) why a b h p = tt
+detailed-pins (AddFrom recursive only_hash path) why a b h p = tt
+detailed-pins (WriteInput how path) why a b h p = tt
+detailed-pins (At ask path) why a b h p = tt
+detailed-pins (Read offset count path) why a b h p = tt
+detailed-pins (Cat path) why a b h p = tt
+detailed-pins (Get path host_path) why a b h p = tt
+detailed-pins (Export cid) why a b h p = tt
+detailed-pins Import why a b h p = tt
+detailed-pins (Same cid) why a b h p = tt
+detailed-pins (Adopt source dest) why a b h p = tt
+detailed-pins (Gen n seed) why a b h p = tt
+detailed-pins (Pin ask) why a b h p = (detailed-left-pins ask a b (status_of why) h p.0, tt)
 
 -- what was synced last is
 synced-last : (mid now : Told) → now ≡ changed with_sync mid → IsSynced now
@@ -472,7 +564,8 @@ module _ (Says : List ℕ → Type 0) where
       does-show command (refusal.BadPath path) h of sections says = absurd (no-path command h.kinds)
       does-show command refusal.Usage h of sections says = absurd (no-usage command h.kinds)
       does-show command refusal.InputTooLong h of sections says = (refusal.InputTooLong, refl, says, h.rule refl)
-      does-show command (refusal.Ready reason) h of sections says = (reason, says, h.ready)
+      does-show command refusal.BadPins h of sections says = inr (says, pins-unread Says command a.store.told b.store.told h.kinds h.pins)
+      does-show command (refusal.Ready reason) h of sections says = inl (reason, says, h.ready)
       does-show command refusal.Read h of sections says = reading-rose (writes_host command) (uses_host command) false a.reads b.reads a.host b.host (writing-uses command) h.reads h.host
       does-show command refusal.Write h of sections says = writing-rose (writes_host command) (uses_host command) false a.writes b.writes a.host b.host h.writes h.host
       does-show command (refusal.Store fault.Failed) h of sections says = h.cause
@@ -492,6 +585,7 @@ module _ (Says : List ℕ → Type 0) where
       word-shows (refusal.BadPath path) h says = (refusal.BadPath path, refl, says, refl)
       word-shows refusal.Usage h says = refl
       word-shows refusal.InputTooLong h says = absurd cc
+      word-shows refusal.BadPins h says = absurd cc
       word-shows (refusal.Ready reason) h says = absurd cc
       word-shows refusal.Read h says = absurd cc
       word-shows refusal.Write h says = absurd cc
@@ -599,6 +693,7 @@ module _ (Says : List ℕ → Type 0) where
       detailed-gets (Same cid) store host now s h gets = tt
       detailed-gets (Adopt source dest) store host now s h gets = tt
       detailed-gets (Gen n seed) store host now s h gets = tt
+      detailed-gets (Pin ask) store host now s h gets = tt
 
       pub gets-told : (asked : Result Command Refusal) (done : Result (Unit {0}) Refusal) → Serves X N asked done a b → TellsEnd Says done given → GetsFor asked given a.store.told a.host.told b.host.told
       gets-told (Err asked) done s t = tt
@@ -606,6 +701,19 @@ module _ (Says : List ℕ → Type 0) where
       gets-told (Ok command) (Err why) s (inl t) = subst (λ g. GetsFor (Ok command) g a.store.told a.host.told b.host.told) (sym t.0) s.gets
       gets-told (Ok command) (Err why) s (inr t) =
           subst (λ g. GetsFor (Ok command) g a.store.told a.host.told b.host.told) (sym t.1) (detailed-gets command a.store.told a.host.told b.host.told (status_of why) t.0 s.gets)
+
+      -- the note of pins: what a command on them leaves of it, and that any other leaves it
+      by-pins : (command : Command) (done : Result (Unit {0}) Refusal) → PinsFor command done a.store.told b.store.told → WritesAs X (command_writes command) (is_done (ended done)) a.store.told b.store.told
+          → PinsAfter (Ok command) (ended done) a.store.told b.store.told
+      by-pins command done p w = pins-after X command done a.store.told b.store.told p w
+
+      pub pins-told : (asked : Result Command Refusal) (done : Result (Unit {0}) Refusal) → Serves X N asked done a b → TellsEnd Says done given → PinsAfter asked given a.store.told b.store.told
+      pins-told (Err asked) done s t = ap (λ (x : Around). pins_in x.store.told) s.same
+      pins-told (Ok command) (Ok done) s t = subst (λ g. PinsAfter (Ok command) g a.store.told b.store.told) (sym t.0) (by-pins command (Ok done) s.pins s.leaves.writes)
+      pins-told (Ok command) (Err why) s (inl t) = subst (λ g. PinsAfter (Ok command) g a.store.told b.store.told) (sym t.0) (by-pins command (Err why) s.pins s.leaves.writes)
+      pins-told (Ok command) (Err why) s (inr t) =
+          subst (λ g. PinsAfter (Ok command) g a.store.told b.store.told) (sym t.1)
+          (by-pins command (Err no_memory) (detailed-pins command why a.store.told b.store.told t.0 s.pins) (subst (λ d. WritesAs X (command_writes command) d a.store.told b.store.told) (detailed-undone (status_of why) t.0) s.leaves.writes))
 
       -- ---- no block is called bad before one was touched
 
@@ -695,6 +803,7 @@ module _ (Says : List ℕ → Type 0) where
       synced-told (Ok (Same cid)) done s t is = tt
       synced-told (Ok (Adopt source dest)) done s t is = tt
       synced-told (Ok (Gen n seed)) done s t is = tt
+      synced-told (Ok (Pin ask)) done s t is = tt
 
       pub good-told : (asked : Result Command Refusal) (done : Result (Unit {0}) Refusal) → Serves X N asked done a b → KeepsGood X a.store.told b.store.told
       good-told (Err asked) done s = KeepsGood-same X a.store.told b.store.told (ap (λ (x : Around). x.store.told) s.same)
@@ -719,6 +828,9 @@ module _ (Says : List ℕ → Type 0) where
       told-same (Ok (Same cid)) done s is = s.leaves.writes
       told-same (Ok (Adopt source dest)) done s is = absurd cc
       told-same (Ok (Gen n seed)) done s is = s.leaves.writes
+      told-same (Ok (Pin (pins.Add cid))) done s is = absurd cc
+      told-same (Ok (Pin (pins.Remove cid))) done s is = absurd cc
+      told-same (Ok (Pin pins.List)) done s is = s.leaves.writes
       told-same (Ok (AddFrom recursive true path)) done s is = s.leaves.writes
       told-same (Ok (AddFrom recursive false path)) done s is = absurd cc
 

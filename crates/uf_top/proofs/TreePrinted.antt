@@ -47,6 +47,7 @@ module _ (X : List ℕ → List ℕ) (N : List ℕ → ℕ) (n seed : ℕ) (left
   refused-own (refusal.Host rule) h = tt
   refused-own (refusal.BadPath path) h = tt
   refused-own refusal.InputTooLong h = tt
+  refused-own refusal.BadPins h = tt
   refused-own refusal.Usage h = tt
   refused-own (refusal.Ready reason) h = tt
   refused-own refusal.Read h = tt
@@ -101,6 +102,7 @@ module _ (X : List ℕ → List ℕ) (N : List ℕ → ℕ) (n seed : ℕ) (s : 
   of-generating (refusal.Host rule) g = absurd g
   of-generating (refusal.BadPath why) g = absurd g
   of-generating refusal.InputTooLong g = absurd g
+  of-generating refusal.BadPins g = absurd g
   of-generating refusal.Usage g = absurd g
   of-generating (refusal.Ready why) g = absurd g
   of-generating refusal.Read g = absurd g
@@ -134,6 +136,7 @@ module _ (X : List ℕ → List ℕ) (N : List ℕ → ℕ) (n seed : ℕ) (s : 
         reads = subst (λ u. Counts u i i) (sym of.unread) (counts-still i);
         host = refl;
         gets = tt;
+        pins = tt;
         writes = subst (λ f. RisesFor f w w) (sym quiet.unwritten) (rises-still w);
         cause = of.cause;
         whole = λ s needs stands calm. absurd cc;
@@ -148,6 +151,7 @@ module _ (X : List ℕ → List ℕ) (N : List ℕ → ℕ) (n seed : ℕ) (s : 
       ready (refusal.Host rule) g = tt
       ready (refusal.BadPath path) g = tt
       ready refusal.InputTooLong g = tt
+      ready refusal.BadPins g = tt
       ready refusal.Usage g = tt
       ready (refusal.Ready reason) g = absurd g
       ready refusal.Read g = tt
@@ -182,6 +186,7 @@ module _ (X : List ℕ → List ℕ) (N : List ℕ → ℕ) (n seed : ℕ) (s : 
       reads = counts-still i;
       host = refl;
       gets = tt;
+      pins = tt;
       writes = record { rose = counts.rose; still = counts.still };
       cause = StaysCalm-refl s;
       whole = λ s needs stands calm. absurd cc;
@@ -210,6 +215,7 @@ module _ (X : List ℕ → List ℕ) (N : List ℕ → ℕ) (n seed : ℕ) (s : 
       reads = counts-still i;
       host = refl;
       gets = tt;
+      pins = tt;
       writes = record { rose = c.counts.rose; still = c.counts.still };
       cause = StaysCalm-refl s;
       whole = λ s needs stands calm. absurd cc;

@@ -18,7 +18,7 @@ use Rattle.uf_top.specs.Cars.{ByOwnStore}
 use Rattle.uf_top.specs.Causes.{KeepsHead}
 use Rattle.uf_top.specs.Working.{Does}
 use Rattle.uf_top.proofs.Shows.{not-rose}
-use Rattle.uf_top.proofs.Telling.{detailed-gets}
+use Rattle.uf_top.proofs.Telling.{detailed-gets, detailed-pins}
 
 -- the Head stays as well
 memory-head : (cid : Cid) (first second : List ℕ) (after : Bool) (a b : Told) → KeepsHead (Err (refusal.Store (fault.Clash cid first second))) after a b → KeepsHead (Err no_memory) after a b
@@ -39,6 +39,7 @@ module _ (X : List ℕ → List ℕ) (N : List ℕ → ℕ) (command : Command) 
     reads = h.reads;
     host = h.host;
     gets = detailed-gets (λ line. ⊤) status.Ok X N a b command a.store.told a.host.told b.host.told status.Clash refl h.gets;
+    pins = detailed-pins command (refusal.Store (fault.Clash cid first second)) a.store.told b.store.told refl h.pins;
     writes = h.writes;
     cause = record { finds = h.cause.rises.finds; misses = h.cause.rises.misses; faults = h.cause.faults; clashes = h.cause.rises.clashes };
     whole = λ s needs stands calm. (λ e. cc, λ e. cc);
@@ -53,6 +54,7 @@ module _ (X : List ℕ → List ℕ) (N : List ℕ → ℕ) (command : Command) 
   unclashed (refusal.Host r) h = h
   unclashed (refusal.BadPath p) h = h
   unclashed refusal.InputTooLong h = h
+  unclashed refusal.BadPins h = h
   unclashed refusal.Usage h = h
   unclashed (refusal.Ready r) h = h
   unclashed refusal.Read h = h
@@ -81,6 +83,7 @@ module _ (X : List ℕ → List ℕ) (own : OwnStore) (left : streams.Told) (a b
   still-own (refusal.Host r) h = h
   still-own (refusal.BadPath p) h = h
   still-own refusal.InputTooLong h = h
+  still-own refusal.BadPins h = h
   still-own refusal.Usage h = h
   still-own (refusal.Ready r) h = h
   still-own refusal.Read h = h
@@ -109,6 +112,7 @@ module _ (command : Command) where
   reading (refusal.Host r) h = h
   reading (refusal.BadPath p) h = h
   reading refusal.InputTooLong h = h
+  reading refusal.BadPins h = h
   reading refusal.Usage h = h
   reading (refusal.Ready r) h = h
   reading refusal.Read h = h
@@ -129,6 +133,7 @@ module _ (command : Command) where
   saving saves (refusal.Host r) h = h
   saving saves (refusal.BadPath p) h = h
   saving saves refusal.InputTooLong h = h
+  saving saves refusal.BadPins h = h
   saving saves refusal.Usage h = h
   saving saves (refusal.Ready r) h = h
   saving saves refusal.Read h = h

@@ -59,6 +59,7 @@ tree-taken (Err (refusal.Host rule)) h = h
 tree-taken (Err (refusal.BadPath why)) h = h
 tree-taken (Err refusal.InputTooLong) h = refl
 tree-taken (Err refusal.Usage) h = h
+tree-taken (Err refusal.BadPins) h = h
 tree-taken (Err (refusal.Ready why)) h = refl
 tree-taken (Err refusal.Read) h = refl
 tree-taken (Err refusal.Write) h = h
@@ -84,6 +85,7 @@ not-long (Err (refusal.Host rule)) l m h = tt
 not-long (Err (refusal.BadPath why)) l m h = tt
 not-long (Err refusal.InputTooLong) l m h = absurd (let e : false ≡ true = h in cc)
 not-long (Err refusal.Usage) l m h = tt
+not-long (Err refusal.BadPins) l m h = tt
 not-long (Err (refusal.Ready why)) l m h = tt
 not-long (Err refusal.Read) l m h = tt
 not-long (Err refusal.Write) l m h = tt
@@ -101,6 +103,7 @@ module _ (how : WriteHow) (path : Path) where
   ready-taken told piece (Err (refusal.BadPath why)) h = tt
   ready-taken told piece (Err refusal.InputTooLong) h = tt
   ready-taken told piece (Err refusal.Usage) h = tt
+  ready-taken told piece (Err refusal.BadPins) h = tt
   ready-taken told piece (Err (refusal.Ready why)) h = h
   ready-taken told piece (Err refusal.Read) h = tt
   ready-taken told piece (Err refusal.Write) h = tt
@@ -171,6 +174,7 @@ module _ (how : WriteHow) (path : Path) where
           subst (λ given. Answers X N (Stands p es) given (Err refusal.InputTooLong) m.told) (sym (exceeds bytes p es (omega (arith, few, many))))
           (inr (record { ends_are = refl; stands = stands; held = tells-none X N m.told (Stands p es) stands }))
       taken-answers refusal.Usage bytes p es takes counts input stands = absurd takes
+      taken-answers refusal.BadPins bytes p es takes counts input stands = absurd takes
       taken-answers (refusal.Ready ready) bytes p es takes counts input stands = absurd takes
       taken-answers refusal.Read bytes p es takes counts input stands = (let rose = counts.rose refl in let stood = (input refl).1 in absurd (omega (arith, rose, stood)))
       taken-answers refusal.Write bytes p es takes counts input stands = absurd takes
@@ -190,6 +194,7 @@ module _ (how : WriteHow) (path : Path) where
           subst (λ given. AnswersOver X N a.told m.told p es (command_needs X N (λ n. 0) (WriteInput how path) p es) given (Err refusal.InputTooLong)) (sym (exceeds bytes p es (omega (arith, few, many))))
           (inr (record { ends_are = refl; stands = stands }))
       taken-over refusal.Usage bytes p es takes counts input stands = absurd takes
+      taken-over refusal.BadPins bytes p es takes counts input stands = absurd takes
       taken-over (refusal.Ready ready) bytes p es takes counts input stands = absurd takes
       taken-over refusal.Read bytes p es takes counts input stands = (let rose = counts.rose refl in let stood = (input refl).1 in absurd (omega (arith, rose, stood)))
       taken-over refusal.Write bytes p es takes counts input stands = absurd takes
@@ -206,6 +211,7 @@ module _ (how : WriteHow) (path : Path) where
       taken-kinds (refusal.BadPath path) takes = absurd takes
       taken-kinds refusal.InputTooLong takes = refl
       taken-kinds refusal.Usage takes = absurd takes
+      taken-kinds refusal.BadPins takes = absurd takes
       taken-kinds (refusal.Ready ready) takes = absurd takes
       taken-kinds refusal.Read takes = refl
       taken-kinds refusal.Write takes = absurd takes
@@ -221,6 +227,7 @@ module _ (how : WriteHow) (path : Path) where
       taken-finds (refusal.BadPath path) takes = absurd takes
       taken-finds refusal.InputTooLong takes = (λ e. cc, λ e. cc)
       taken-finds refusal.Usage takes = absurd takes
+      taken-finds refusal.BadPins takes = absurd takes
       taken-finds (refusal.Ready ready) takes = absurd takes
       taken-finds refusal.Read takes = (λ e. cc, λ e. cc)
       taken-finds refusal.Write takes = absurd takes
@@ -236,6 +243,7 @@ module _ (how : WriteHow) (path : Path) where
       taken-long (refusal.BadPath path) takes = tt
       taken-long refusal.InputTooLong takes = takes
       taken-long refusal.Usage takes = tt
+      taken-long refusal.BadPins takes = tt
       taken-long (refusal.Ready ready) takes = tt
       taken-long refusal.Read takes = tt
       taken-long refusal.Write takes = tt
@@ -251,6 +259,7 @@ module _ (how : WriteHow) (path : Path) where
       taken-ready (refusal.BadPath path) takes = tt
       taken-ready refusal.InputTooLong takes = tt
       taken-ready refusal.Usage takes = tt
+      taken-ready refusal.BadPins takes = tt
       taken-ready (refusal.Ready ready) takes = absurd takes
       taken-ready refusal.Read takes = tt
       taken-ready refusal.Write takes = tt
@@ -266,6 +275,7 @@ module _ (how : WriteHow) (path : Path) where
       taken-wants (refusal.BadPath path) takes = tt
       taken-wants refusal.InputTooLong takes = tt
       taken-wants refusal.Usage takes = tt
+      taken-wants refusal.BadPins takes = tt
       taken-wants (refusal.Ready ready) takes = tt
       taken-wants refusal.Read takes = tt
       taken-wants refusal.Write takes = tt
@@ -281,6 +291,7 @@ module _ (how : WriteHow) (path : Path) where
       taken-blames (refusal.BadPath path) takes blames = blames
       taken-blames refusal.InputTooLong takes blames = blames
       taken-blames refusal.Usage takes blames = blames
+      taken-blames refusal.BadPins takes blames = blames
       taken-blames (refusal.Ready ready) takes blames = blames
       taken-blames refusal.Read takes blames = blames
       taken-blames refusal.Write takes blames = blames

@@ -9,6 +9,7 @@ use Rattle.uf_store.specs.Calls.{Calm}
 use Rattle.uf_store.specs.Faults.{Rises}
 use Rattle.uf_store.specs.Seen.{Seen}
 use Rattle.uf_reply.specs.Commands.{HasHost, HasInput, of_command}
+use Rattle.uf_reply.specs.Pins.{HasPins}
 use Rattle.uf_reply.specs.Natures.{generates, uses_host, writes_host}
 use Rattle.uf_reply.specs.declared.status.Status.{Status}
 use Rattle.uf_reply.specs.declared.status.Status.TheVariants as status
@@ -41,10 +42,11 @@ abbrev pub around : Seen → streams.Told → ℕ → streams.Told → ℕ → �
 around store left reads held writes touches host =
     record { store = store; left = left; reads = reads; held = held; writes = writes; touches = touches; host = host }
 
--- what is outside of the store is so, where the command asks for it
+-- what is outside of the tree is so, where the command asks for it
 abbrev pub HasOutside : Result Command Refusal → Outside → Around → Around → Type 0
 HasOutside asked outside before now = HasInput asked before.left outside.input before.reads now.reads
     × HasHost asked before.host.told outside.host before.host.reads now.host.reads
+    × HasPins asked before.store.told outside.pins
 
 -- the answer is a failed reading of the input: a command that uses the host reads no input
 abbrev pub is_input_read : {A : Type 0} → Command → Result A Refusal → Bool

@@ -6,6 +6,9 @@ use Rattle.std.specs.declared.option.Option.TheVariants.{None, Some}
 use Rattle.std.specs.declared.result.Result.{Result}
 use Rattle.std.specs.declared.result.Result.TheVariants.{Ok, Err}
 use Rattle.uf_cid.specs.Blocks.{Lookup}
+use Rattle.uf_cid.specs.declared.cid.Cid.{Cid}
+use Rattle.uf_pins.specs.Notes.{IsReadAs}
+use Rattle.uf_top.specs.Pins.{PinsAfter}
 use Rattle.uf_edge.specs.Counts.{Stood}
 use Rattle.uf_edge.specs.Host.{HostTree}
 use Rattle.uf_mfs.specs.Reading.{AreHeights}
@@ -34,9 +37,9 @@ pub record NothingFails (before now : Around) : Type 0 where
   pub output : Stood before.writes now.writes
   pub host : Stood before.host.reads now.host.reads
 
--- what a line of a batch finds: what the store stands for and holds, no input, and the host
-abbrev pub line_world : HostTree → Standing → Lookup → World
-line_world host standing held = world_of standing held (record { input = []; host = host })
+-- what a line of a batch finds: what the store stands for and holds, no input, the host, and the pins
+abbrev pub line_world : HostTree → Standing → Lookup → Option (List Cid) → World
+line_world host standing held pins = world_of standing held (record { input = []; host = host; pins = pins })
 
 -- by each accepted profile these are the rows of nodes of a file, by its length
 abbrev pub HasHeights : (Profile → ℕ → ℕ) → Type 0
@@ -63,20 +66,23 @@ module _ (X : List ℕ → List ℕ) (N : List ℕ → ℕ) where
   module _ (host : HostTree) where
     -- a line was answered: over what the store stood for and held where it began, it ended as the reply to what it asks
     -- for, or for want of memory, and printed no more than the reply's text; the store stands for what the reply says,
-    -- and the line kept within its touches
+    -- its note of pins is as the command leaves it, and the line kept within its touches
     pub record LineAnswered (line : List ℕ) (given : Status) (standing next : Standing) (before now : Scene)
         : Type 0 where
       pub asked : Result Command Refusal
       pub asks : (line_in line ≡ Some asked) ⊎ (asked ≡ Err no_memory)
       pub held : Lookup
       pub blocks : TellsBlocks before.around.store.told held
+      pub pins : Option (List Cid)
+      pub noted : IfSome before.around.store.told (λ t. IsReadAs t.notes.pins pins)
       pub stood : TellsAs X N before.around.store.told standing
-      pub ends : EndsAs (Said before.errors now.errors) X N asked (line_world host standing held) given
+      pub ends : EndsAs (Said before.errors now.errors) X N asked (line_world host standing held pins) given
           before.around.held now.around.held now.around.store.told now.around.host.told
-      pub prints : PrintsPart (reply_to X N asked (line_world host standing held)).ends before.around.held
+      pub prints : PrintsPart (reply_to X N asked (line_world host standing held pins)).ends before.around.held
           now.around.held
-      pub next_is : (next ≡ (reply_to X N asked (line_world host standing held)).next)
+      pub next_is : (next ≡ (reply_to X N asked (line_world host standing held pins)).next)
           ⊎ ((given ≡ status.Memory) × (next ≡ standing))
+      pub moved : PinsAfter asked given before.around.store.told now.around.store.told
       pub stands : TellsAs X N now.around.store.told next
       pub touches : (rows : Profile → ℕ → ℕ) → HasHeights rows → IfSome (line_bound rows standing asked)
           (λ most. now.around.touches ≤ before.around.touches + most)
@@ -123,7 +129,7 @@ module _ (X : List ℕ → List ℕ) (N : List ℕ → ℕ) where
     abbrev pub line_printed : (line : List ℕ) (given : Status) (standing next : Standing) (before now : Scene)
         → LineAnswered line given standing next before now → List ℕ
     line_printed line given standing next before now did =
-        printed_by (reply_to X N did.asked (line_world host standing did.held)).ends ++ mark given
+        printed_by (reply_to X N did.asked (line_world host standing did.held did.pins)).ends ++ mark given
 
     -- and of a line where the batch goes on, of which one without a word prints nothing
     abbrev pub going_printed : (line : List ℕ) (standing next : Standing) (before now : Scene)

@@ -15,7 +15,8 @@ use Rattle.uf_tree.specs.declared.profile.Profile.{Profile}
 use Rattle.uf_reply.specs.declared.types.Ask.{Ask}
 use Rattle.uf_reply.specs.declared.types.Ask.TheVariants.{Ls, Stat, Edit as Edits}
 use Rattle.uf_reply.specs.declared.types.Command.{Command}
-use Rattle.uf_reply.specs.declared.types.Command.TheVariants.{Init, Add, AddFrom, WriteInput, At, Read, Cat, Get, Export, Import, Same, Adopt, Gen, AddTo, AddFromTo}
+use Rattle.uf_reply.specs.declared.types.Command.TheVariants.{Add, AddFrom, WriteInput, At, Read, Gen, Pin}
+use Rattle.uf_reply.specs.declared.types.PinAsk.TheVariants as pins
 use Rattle.uf_reply.specs.declared.types.Edit.{Edit}
 use Rattle.uf_reply.specs.declared.types.Edit.TheVariants.{Mkdir, Rm, Write, Truncate, Cp, Mv}
 use Rattle.uf_reply.specs.declared.types.Refusal.{Refusal}
@@ -43,7 +44,8 @@ module _ (X : List ℕ → List ℕ) (N : List ℕ → ℕ) (rows : ℕ → ℕ)
   ask_touches Stat names p es = max (11 * length names) 1
   ask_touches (Edits edit) names p es = touches_of_edit edit names p es
 
-  -- and for a command with this input, which opens the tree first; `add -n` and `gen` need none; nothing is promised of
+  -- and for a command with this input, which opens the tree first; `add -n`, `gen`, `pin rm`
+  -- and `pin ls` need none; nothing is promised of
   -- `init`, of an `add` that keeps its blocks, be it with `--to-files`, of `cat` and `get`, of what has to do with
   -- CARs, and of a copy from a DAG
   abbrev pub command_touches : List ℕ → Command → Profile → Entries → Option ℕ
@@ -51,6 +53,8 @@ module _ (X : List ℕ → List ℕ) (N : List ℕ → ℕ) (rows : ℕ → ℕ)
   command_touches bytes (Add false) p es = None
   command_touches bytes (AddFrom recursive true path) p es = Some 0
   command_touches bytes (Gen n seed) p es = Some 0
+  command_touches bytes (Pin (pins.Remove cid)) p es = Some 0
+  command_touches bytes (Pin pins.List) p es = Some 0
   command_touches bytes (WriteInput how path) p es = Some (1 + touches_of_edit (Write how bytes) path.names p es)
   command_touches bytes (At ask path) p es = Some (1 + ask_touches ask path.names p es)
   command_touches bytes (Read offset count path) p es =

@@ -20,7 +20,7 @@ use Rattle.uf_reply.specs.declared.status.Status.{Status}
 use Rattle.uf_reply.specs.declared.types.Ask.{Ask}
 use Rattle.uf_reply.specs.declared.types.Ask.TheVariants.{Ls, Stat, Edit as Edits}
 use Rattle.uf_reply.specs.declared.types.Command.{Command}
-use Rattle.uf_reply.specs.declared.types.Command.TheVariants.{Init, Add, AddFrom, WriteInput, At, Read, Cat, Get, Export, Import, Same, Adopt, Gen, AddTo, AddFromTo}
+use Rattle.uf_reply.specs.declared.types.Command.TheVariants.{WriteInput, At, Read, Adopt, AddTo, AddFromTo}
 use Rattle.uf_reply.specs.declared.types.Refusal.{Refusal}
 use Rattle.uf_reply.specs.declared.types.Refusal.TheVariants as refusal
 use Rattle.uf_top.specs.Endings.{EndsBy, PrintsAll}

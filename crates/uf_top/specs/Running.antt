@@ -2,7 +2,7 @@
 -- is so.
 use Rattle.std.specs.Prelude.{◌≡◌, ◌⊎◌, ℕ, ◌+◌, ◌<◌, ◌≤◌, List, true, false, IfSome}
 use Rattle.std.specs.declared.result.Result.{Result}
-use Rattle.std.specs.declared.result.Result.TheVariants.{Ok, Err}
+use Rattle.std.specs.declared.result.Result.TheVariants.{Err}
 use Rattle.uf_cid.specs.Blocks.{Lookup}
 use Rattle.uf_cid.specs.declared.cid.Cid.{Cid}
 use Rattle.uf_edge.specs.Counts.{Stood}
@@ -29,6 +29,7 @@ use Rattle.uf_top.specs.Causes.{IsBadIn}
 use Rattle.uf_top.specs.Endings.{EndsAs, FindsAll, IsNotReady, IsRefusedBy, IsRule, IsSyncedFor, IsTextOf, PrintsAt, PrintsPart, SaysPlain, may_move}
 use Rattle.uf_top.specs.Getting.{GetsFor}
 use Rattle.uf_top.specs.Losing.{EndsOver, words_need}
+use Rattle.uf_top.specs.Pins.{PinsAfter}
 use Rattle.uf_top.specs.Naming.{FindsOver, FindsWorld, StaysNamed, TellsBlocks}
 use Rattle.uf_top.specs.Reply.{Outside, World, in_world, outside_of, reply_to}
 use Rattle.uf_top.specs.Shapes.{WritesFor, is_done}
@@ -114,6 +115,8 @@ module _ (Says : List ℕ → Type 0) (X : List ℕ → List ℕ) (N : List ℕ 
     pub host_told : of_command writes_host false asked ≡ false → now.host.told ≡ before.host.told
     -- what `get` leaves on the host, also where it is refused or stopped
     pub gets : GetsFor asked given before.store.told before.host.told now.host.told
+    -- `pin add` and `pin rm` that are done move the note of pins, and whatever else leaves it
+    pub pins : PinsAfter asked given before.store.told now.store.told
     -- the commands that work on a tree keep within their touches, also where they are refused, and no block is called
     -- bad before one was touched
     pub touches : (p : Profile) (es : Entries) (bytes : List ℕ) (rows : ℕ → ℕ)

@@ -1,10 +1,11 @@
 -- What a command writes to the store, by what it may write and whether it was done.
-use Rattle.std.specs.Prelude.{◌≡◌, ℕ, List, Bool, true, false}
+use Rattle.std.specs.Prelude.{◌≡◌, ◌⊎◌, ℕ, List, Bool, true, false}
 use Rattle.std.specs.declared.result.Result.{Result}
 use Rattle.std.specs.declared.result.Result.TheVariants.{Ok, Err}
 use Rattle.uf_mfs.specs.Standing.{Commits, LeavesHead, SavesThen}
+use Rattle.uf_pins.specs.Calls.{NotesPins as NotesPinsIn}
 use Rattle.uf_store.specs.Contents.{Told, changed, with_sync}
-use Rattle.uf_reply.specs.Natures.{WriteShape, NoWrites, SyncsBlocks, MakesHead, MovesHead, command_writes}
+use Rattle.uf_reply.specs.Natures.{WriteShape, NoWrites, SyncsBlocks, MakesHead, MovesHead, NotesPins, SyncsPins, command_writes}
 use Rattle.uf_reply.specs.declared.types.Command.{Command}
 use Rattle.uf_reply.specs.declared.types.Refusal.{Refusal}
 use Rattle.uf_reply.specs.declared.status.Status.{Status}
@@ -18,7 +19,7 @@ SyncsAfter hash before now = SavesThen hash (λ between now. now ≡ changed wit
 abbrev pub HeadAfter : (List ℕ → List ℕ) → Told → Told → Type 0
 HeadAfter hash before now = (text : List ℕ) × SavesThen hash (Commits text) before now
 
--- what was written, by whether the command was done: one that is refused has written no Head
+-- what was written, by whether the command was done: one that is refused has written no Head, and no note of pins
 abbrev pub WritesAs : (List ℕ → List ℕ) → WriteShape → Bool → Told → Told → Type 0
 WritesAs hash NoWrites done before now = now ≡ before
 WritesAs hash SyncsBlocks true before now = SyncsAfter hash before now
@@ -27,6 +28,11 @@ WritesAs hash MakesHead true before now = HeadAfter hash before now
 WritesAs hash MakesHead false before now = SavesThen hash LeavesHead before now
 WritesAs hash MovesHead true before now = HeadAfter hash before now
 WritesAs hash MovesHead false before now = SavesThen hash LeavesHead before now
+WritesAs hash SyncsPins true before now =
+    (now ≡ changed with_sync before) ⊎ NotesPinsIn (changed with_sync before) now
+WritesAs hash SyncsPins false before now = (now ≡ before) ⊎ (now ≡ changed with_sync before)
+WritesAs hash NotesPins true before now = NotesPinsIn before now
+WritesAs hash NotesPins false before now = now ≡ before
 
 -- the command was done
 abbrev pub is_ok : {A B : Type 0} → Result A B → Bool

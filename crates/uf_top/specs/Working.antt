@@ -8,7 +8,7 @@ use Rattle.uf_edge.specs.Streams as streams
 use Rattle.uf_mfs.specs.Answers.{ShownInTree}
 use Rattle.uf_mfs.specs.Moving.{Gives, MovesBy}
 use Rattle.uf_mfs.specs.Reading.{AreHeights}
-use Rattle.uf_mfs.specs.Standing.{NamesOver, StandsAt, StandsOver, TellsAs, head_in}
+use Rattle.uf_mfs.specs.Standing.{NamesOver, StandsAt, StandsOver, TellsAs}
 use Rattle.uf_mfs.specs.Steps.{tree_fault}
 use Rattle.uf_mfs.specs.Touches.{CountsUp, IsBlaming, TouchesFolder}
 use Rattle.uf_mfs.specs.Writes.{IsBadWrittenIn}
@@ -45,6 +45,7 @@ use Rattle.uf_top.specs.Endings.{AddsFor, FindsAll, IsTextOf, PrintsAt, PrintsPa
 use Rattle.uf_top.specs.Getting.{GetsFor}
 use Rattle.uf_top.specs.Hosted.{IsHostedText}
 use Rattle.uf_top.specs.Losing.{AnswersOver, DoesOver, ask_needs, command_needs}
+use Rattle.uf_top.specs.Pins.{PinsFor}
 use Rattle.uf_top.specs.Naming.{FindsOver, FindsWorld, StaysNamed, TellsBlocks}
 use Rattle.uf_top.specs.Shapes.{WritesAs, is_done, is_ok}
 
@@ -152,6 +153,7 @@ module _ (X : List ℕ → List ℕ) (N : List ℕ → ℕ) where
     pub reads : Counts (is_input_read command done) before.reads now.reads
     pub host : TakesHost (writes_host command) (uses_host command) (is_read done) (is_write done) before.host now.host
     pub gets : GetsFor (Ok command) (ended done) before.store.told before.host.told now.host.told
+    pub pins : PinsFor command done before.store.told now.store.told
     pub writes : RisesFor (is_output_write command done) before.writes now.writes
     pub cause : Shown X (IsBadIn X N before.store.told now.store.told) (refusal_fault done) before.store now.store
     pub whole : (standing : Standing) → reads_tree_alone command ≡ true → TellsAs X N before.store.told standing

@@ -26,8 +26,8 @@ use uf_reply::{
 use uf_same::{Compared, SameFault, same};
 use uf_store::{MemStore, Steps, Store, StoreFault};
 
-// A CAR is written of at most so many blocks.
-const MOST_BLOCKS: u32 = 16777216;
+// At most so many blocks are walked, be they written as a CAR, compared with one or pinned.
+pub const MOST_BLOCKS: u32 = 16777216;
 
 // And so many bytes are read of one.
 const MOST_BYTES: u64 = 1099511627776;

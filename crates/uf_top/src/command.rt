@@ -30,6 +30,7 @@ use crate::generating::print_generated;
 use crate::getting::get;
 use crate::grafting::graft;
 use crate::hosted::add_from;
+use crate::pinning::pin;
 use crate::placing::{add_from_to, add_to};
 use crate::sending::send_part;
 use crate::taking::write_input;
@@ -57,11 +58,12 @@ const MOST_OF_WANTS: u64 = 1073741824;
 /// `init` makes a store ready; `files mkdir`, `files ls`, `files stat`, `files read`, `files write`, `files truncate`,
 /// `files cp`, `files mv` and `files rm` work on the tree that its Head names; `add` prints the CID of its input as a
 /// file (UnixFS v1; Kubo's balanced layout with raw leaves), or those of a file of the host or of a folder and
-/// everything in it, and, without `-n`, keeps their blocks, and with `--to-files` puts them into the tree; `cat` prints
-/// a file of a DAG, and `get` writes what is in one to the host; `gen` makes a tree on stores of its own and says its
-/// root; `pull` fetches what is below a CID from a peer, and `serve` is one. Refused are first words that are none, then texts that are no paths, then a Head that doesn't do, then an
-/// input that is too long, and then what the rules of the command refuse. The status says how the command ended; after
-/// a refusal its line goes to `errors`, and a failed write of that line changes no status.
+/// everything in it, and, without `-n`, keeps their blocks, and with `--to-files` puts them into the tree; `cat`
+/// prints a file of a DAG, and `get` writes what is in one to the host; `gen` makes a tree on stores of its own and
+/// says its root; `pin add`, `pin rm` and `pin ls` work on the note of pins; `pull` fetches what is below a CID from a
+/// peer, and `serve` is one. Refused are first words that are none, then texts that are no paths, then a Head that
+/// doesn't do, then an input that is too long, and then what the rules of the command refuse. The status says how the
+/// command ended; after a refusal its line goes to `errors`, and a failed write of that line changes no status.
 pub fn run<S: Store, N: NameHash, W: Host, I: Source, O: Sink, E: Sink, L: Ledger>(
     alloc: Global,
     words: &[String],
@@ -260,6 +262,7 @@ fn carry_out<S: Store, N: NameHash, W: Host, I: Source, O: Sink, L: Ledger>(
         Command::Import => import_car(alloc, store, input, output, touches),
         Command::Same { cid } => compare_car(alloc, cid, store, input, output, touches),
         Command::Gen { n, seed } => print_generated::<S::X, N, O>(alloc, *n, *seed, output),
+        Command::Pin { ask } => pin(alloc, ask, store, output, touches),
         _ => match text_of::<S, N, W, I, L>(alloc, command, store, host, input, touches) {
             Err(why) => Err(why),
             Ok(text) => print(&text, output),
@@ -313,6 +316,7 @@ fn text_of<S: Store, N: NameHash, W: Host, I: Source, L: Ledger>(
         | Command::Import
         | Command::Same { .. }
         | Command::Adopt { .. }
-        | Command::Gen { .. } => unreachable!(),
+        | Command::Gen { .. }
+        | Command::Pin { .. } => unreachable!(),
     }
 }

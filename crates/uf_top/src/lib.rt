@@ -13,6 +13,7 @@ mod given;
 mod grafting;
 mod hosted;
 pub mod laws;
+mod pinning;
 mod placing;
 mod sending;
 mod taking;

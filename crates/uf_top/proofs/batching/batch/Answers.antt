@@ -1,9 +1,8 @@
-use Rattle.std.proofs.Common.{◌∙◌, ◌≡◌, ◌++◌, ◌∷◌, [], ap, refl, subst, sym}
-use Rattle.uf_edge.specs.Counts.{Rose}
+use Rattle.std.proofs.Common.{◌∙◌, ◌++◌, ◌∷◌, [], ap, refl, sym}
 use Rattle.uf_lines.specs.Reading.{lines_ahead, with_line_told}
 use Rattle.uf_top.specs.Around.{host_side}
-use Rattle.uf_top.specs.Batch.{AtLine, ByMemory, ByReading, TooLong, WithInput, scene}
-use Rattle.uf_top.proofs.Lined.{ahead-first, goes-all, goes-line, goes-more, goes-some, lines-more}
+use Rattle.uf_top.specs.Batch.{AtLine, ByMemory, scene}
+use Rattle.uf_top.proofs.Lined.{goes-line, goes-more, goes-some, lines-more}
 use Rattle.uf_top.proofs.batching.batch.Goals as goal
 
 pub returns-in-Memory : goal.returns-in-Memory

@@ -1,5 +1,5 @@
 use Rattle.std.proofs.Common.{◌≡◌, List, ℕ}
-use Rattle.uf_lines.specs.Reading.{HasEnded, line_most, line_room, lines_ahead, lines_told}
+use Rattle.uf_lines.specs.Reading.{HasEnded, line_room, lines_ahead, lines_told}
 use Rattle.uf_top.specs.Around.{host_side}
 use Rattle.uf_top.specs.Batch.{LinesDone, scene}
 use Rattle.uf_top.proofs.Lined.{goes}

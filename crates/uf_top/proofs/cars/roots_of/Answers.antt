@@ -1,4 +1,4 @@
-use Rattle.std.proofs.Common.{refl, subst, sym, Err}
+use Rattle.std.proofs.Common.{subst, sym, Err}
 use Rattle.uf_top.specs.Cars.{KeepsCar}
 use Rattle.uf_top.proofs.Imported.{car-refused, roots-synced}
 use Rattle.uf_top.proofs.cars.roots_of.Goals as goal

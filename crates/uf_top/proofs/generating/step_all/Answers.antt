@@ -1,5 +1,5 @@
 use Rattle.uf_gen.specs.Grown.{stepped}
-use Rattle.std.proofs.Common.{◌≡◌, ◌+◌, sym, subst, arith, Result, Err, Ok}
+use Rattle.std.proofs.Common.{sym, subst, arith, Result, Err}
 use Rattle.std.proofs.lemmas.Result.{err_from_is_err_and}
 use Rattle.uf_plain.specs.declared.rule.Rule.{Rule}
 use Rattle.uf_tree.specs.Tree.{Entries}

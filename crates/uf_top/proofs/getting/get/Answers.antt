@@ -1,4 +1,4 @@
-use Rattle.std.proofs.Common.{◌∙◌, subst, Err}
+use Rattle.std.proofs.Common.{◌∙◌, Err}
 use Rattle.uf_host.specs.Paths.{trimmed}
 use Rattle.uf_store.specs.Faults.{NoneIsBad}
 use Rattle.uf_store.proofs.Calls.{shown-after}
