@@ -94,10 +94,10 @@ def wrong_rows(crate):
 
 
 def printed_lines():
-    """The error lines that the definitions of uf_reply can say, each up to its details."""
-    lines = text_of("crates", "uf_reply", "specs", "Lines.antt")
-    found = set(re.findall(r'codes "(error: [^"\\]*?) ?(?:\\n)?"', lines + text_of("crates", "uf_reply", "specs", "Statuses.antt")))
-    apart = "".join(text_of("crates", "uf_reply", "specs", name) for name in ("Dags.antt", "Peers.antt"))
+    """The error lines that the definitions of uf_command can say, each up to its details."""
+    lines = text_of("crates", "uf_command", "specs", "Lines.antt")
+    found = set(re.findall(r'codes "(error: [^"\\]*?) ?(?:\\n)?"', lines + text_of("crates", "uf_command", "specs", "Statuses.antt")))
+    apart = "".join(text_of("crates", "uf_command", "specs", name) for name in ("Dags.antt", "Peers.antt"))
     rules = re.findall(r'^(?:rule|host|dag|peer)_words .*codes "(\w+)', lines + apart, re.M)
     found |= {"error: rule " + name for name in rules}
     return found - {"error: rule"}
@@ -122,7 +122,7 @@ COMMANDS = {
     "AddTo": "`add --to-files DEST`",
     "AddFromTo": "`add --to-files DEST HOSTPATH`",
     "WriteInput": "`files write` without `-x`",
-    "At": "`files ls`, `stat`, `mkdir`, `rm`, `truncate`, `cp`, `mv`, `write -x`",
+    "At": "`files ls`, `stat`, `mkdir`, `rm`, `truncate`, `cp`, `mv`, `write -x`, `chmod`, `touch`, `strip`",
     "Read": "`files read`",
     "Cat": "`cat`",
     "Get": "`get`",
@@ -176,9 +176,9 @@ KINDS = {
 
 def natures():
     """The rows of the definition of what each command is."""
-    lists = text_of("crates", "uf_reply", "specs", "Kinds.antt")
+    lists = text_of("crates", "uf_command", "specs", "Kinds.antt")
     kinds = dict(re.findall(r"^(\w+_kinds) = (.*) ∷ \[\]$", lists, flags=re.M))
-    text = re.sub(r"=\n +", "= ", text_of("crates", "uf_reply", "specs", "Natures.antt"))
+    text = re.sub(r"=\n +", "= ", text_of("crates", "uf_command", "specs", "Natures.antt"))
     for name, row in re.findall(r"^nature \(?(\w+)[^=]*= row (.*)$", text, flags=re.M):
         *cells, last = re.findall(r"\([^)]*\)|\S+", row)
         answers = ", ".join(KINDS.get(kind, kind) for kind in kinds[last].split(" ∷ "))

@@ -13,7 +13,7 @@ import tempfile
 TOP = os.path.dirname(os.path.dirname(os.path.abspath(__file__)))
 PAGE, BASH, ZSH = "docs/unixfs.1", "docs/completions/unixfs.bash", "docs/completions/_unixfs"
 VALUES = {"N": "number", "HEX": "hex", "DEST": "text"}
-NUMBERS = ("N", "SEED", "LENGTH")
+KINDS = {"N": "number", "SEED": "number", "LENGTH": "number", "SECONDS": "number", "MODE": "mode"}
 
 
 def text_of(name):
@@ -62,7 +62,7 @@ class Command:
         """As checks/word_lists.py has it: flags, options and arguments."""
         flags = [(short or "", long) for short, long, value in self.options if not value]
         options = [(short or "", long, VALUES[value]) for short, long, value in self.options if value]
-        kinds = [("number" if it.strip("[]") in NUMBERS else "text") + "?" * it.startswith("[") for it in self.arguments]
+        kinds = [KINDS.get(it.strip("[]"), "text") + "?" * it.startswith("[") for it in self.arguments]
         return flags, options, kinds
 
 
@@ -225,7 +225,7 @@ def wrong_commands(manual):
 
 
 COMPLETED = {
-    "": "init add cat get dag pin pull serve batch gen files",
+    "": "init add cat get dag pin repo pull serve batch gen files",
     "fi": "files",
     "files m": "mkdir mv",
     "files write --t": "--truncate",

@@ -269,6 +269,61 @@ class Checks:
         self.survives(f"mkdir {count}, killed after {moment:.4f} s", store, trees)
         shutil.rmtree(store.folder)
 
+    def garbage(self):
+        """A store with a file in its tree, a pinned folder, and as many blocks to which nothing leads; what both print."""
+        store = self.anew()
+        folder = os.path.join(self.folder, "pinned")
+        if not os.path.isdir(folder):
+            os.mkdir(folder)
+            for n in range(300):
+                put(os.path.join(folder, f"{n:03}"), os.urandom(200))
+        self.expect("gc: write", store.run("files write -e /d/file", b"0123456789" * 3000), DONE)
+        pinned = store.run(f"add -r {folder}")[1].split("\n")[-2].split()[1]
+        self.expect("gc: pin", store.run(f"pin add {pinned}"), DONE)
+        lines = "".join(f"files write -e -x {n:08x} /d/{n}\n" for n in range(150))
+        self.expect("gc: batch", store.run("batch", lines.encode())[0], 0)
+        self.expect("gc: rm", store.run("batch", "".join(f"files rm /d/{n}\n" for n in range(150)).encode())[0], 0)
+        return store, pinned
+
+    def kept(self, name, store, pinned, before):
+        """The tree and the pinned folder are whole, and so are the notes; no block is torn."""
+        self.expect(f"{name}: file", store.run("files read /d/file"), before[0])
+        self.expect(f"{name}: tree", store.run("files stat /"), before[1])
+        self.expect(f"{name}: pinned", whole(store, pinned), before[2])
+        self.expect(f"{name}: root", whole(store, before[1][1].split()[0]), before[3])
+        self.expect(f"{name}: pins", store.run("pin ls"), (0, f"{pinned}\n"))
+        self.expect(f"{name}: torn", store.torn(), [])
+
+    def collected(self, moments):
+        """A `repo gc` that is done, and so many that are killed at a random moment, after which the next one takes the rest."""
+        first, pinned = self.garbage()
+        before = (first.run("files read /d/file"), first.run("files stat /"), whole(first, pinned),
+                  whole(first, first.run("files stat /")[1].split()[0]))
+        copy = os.path.join(self.folder, "collected")
+        shutil.copytree(first.folder, copy)
+        count = len(first.files())
+        start = time.monotonic()
+        status, line = first.run("repo gc")
+        most = time.monotonic() - start
+        left = first.files()
+        self.expect("gc: removed", (status, line), (0, f"removed {count - len(left)}\n"))
+        self.expect("gc: some went", count - len(left) > 300, True)
+        self.kept("gc", first, pinned, before)
+        self.expect("gc: again", first.run("repo gc"), (0, "removed 0\n"))
+        for _ in range(moments):
+            store = Store(self.program, tempfile.mkdtemp(dir=self.folder))
+            shutil.copytree(copy, store.folder, dirs_exist_ok=True)
+            moment = random.uniform(0, most)
+            with subprocess.Popen([self.program, "repo", "gc"], cwd=store.folder, stdout=subprocess.DEVNULL) as child:
+                time.sleep(moment)
+                child.kill()
+            name = f"gc, killed after {moment:.4f} s"
+            self.kept(name, store, pinned, before)
+            self.expect(f"{name}: rest", store.run("repo gc")[0], 0)
+            self.expect(f"{name}: left", sorted(os.path.relpath(path, store.folder) for path in store.files()),
+                        sorted(os.path.relpath(path, first.folder) for path in left))
+            shutil.rmtree(store.folder)
+
     def killed(self, moments):
         """So many commands of each kind that are killed."""
         long = os.path.join(self.folder, "long")
@@ -280,6 +335,12 @@ class Checks:
         for _ in range(moments):
             self.killed_add(long, most)
             self.killed_mkdir(0.5)
+
+
+def whole(store, cid):
+    """The status of an export of all that is below a CID, and the hash of what it printed."""
+    done = subprocess.run([store.program, "dag", "export", cid], cwd=store.folder, stdout=subprocess.PIPE, timeout=60, check=False)
+    return done.returncode, hashlib.sha256(done.stdout).hexdigest()
 
 
 def other_user(store):
@@ -313,7 +374,9 @@ def main():
         checks.mended()
         checks.forbidden()
         checks.full()
-        checks.killed(int(sys.argv[1]) if len(sys.argv) > 1 else 50)
+        moments = int(sys.argv[1]) if len(sys.argv) > 1 else 50
+        checks.killed(moments)
+        checks.collected(moments)
         print(f"store: {checks.count - checks.wrong} passed, {checks.wrong} failed")
     sys.exit(1 if checks.wrong else 0)
 

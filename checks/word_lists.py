@@ -23,12 +23,16 @@ TABLE = {
     "files cp": ([], [], ["text", "text"]),
     "files mv": ([], [], ["text", "text"]),
     "files rm": ([("r", "recursive")], [], ["text"]),
+    "files chmod": ([], [], ["mode", "text"]),
+    "files touch": ([], [("", "nanos", "number")], ["number", "text"]),
+    "files strip": ([], [], ["text"]),
     "dag export": ([], [], ["text"]),
     "dag same": ([], [], ["text"]),
     "dag import": ([], [], []),
     "pin add": ([], [], ["text"]),
     "pin rm": ([], [], ["text"]),
     "pin ls": ([], [], []),
+    "repo gc": ([], [], []),
     "batch": ([], [], []),
     "pull": ([], [], ["text"]),
     "serve": ([], [], []),
@@ -38,6 +42,8 @@ TABLE = {
 NUMBERS = ["0", "5", "7", "20000", "20001", "18446744073709551615", "18446744073709551616", "00000000000000000001",
            "000000000000000000001", "", "x", "-1", "+1", "1_0"]
 HEX = ["00fF", "", "0", "0g", "a1b2", "ABC"]
+MODES = ["644", "0755", "7777", "0", "8", "77777", "", "64x", "-1"]
+TIMES = ["5", "0", "999999999", "1000000000", "9223372036854775807", "9223372036854775808"]
 TEXTS = ["/f", "/a/b", "a=b", "", "-", "/d/", "x", "-f", "--", "=", "/"]
 
 
@@ -69,6 +75,13 @@ def number(text):
     return int(text)
 
 
+def mode(text):
+    """The value of one to four octal digits."""
+    if not 1 <= len(text) <= 4 or any(letter not in "01234567" for letter in text):
+        raise Refused
+    return int(text, 8)
+
+
 def hexadecimal(text):
     """The bytes of a text, in lower case."""
     if len(text) % 2 or any(letter not in "0123456789abcdefABCDEF" for letter in text):
@@ -78,7 +91,7 @@ def hexadecimal(text):
 
 def value_of(kind, text):
     """The value of an option or argument of this kind."""
-    return {"number": number, "hex": hexadecimal, "text": lambda same: same}[kind.rstrip("?")](text)
+    return {"number": number, "mode": mode, "hex": hexadecimal, "text": lambda same: same}[kind.rstrip("?")](text)
 
 
 def parsed(command, words):
@@ -161,6 +174,11 @@ def told(command, words):
         if found[0] > 20000:
             raise Refused
         return f"gen|{found[0]}|{found[1]}"
+    if command == "files touch":
+        nanos = values.get("nanos", 0)
+        if nanos > 999999999 or found[0] >= 2**63:
+            raise Refused
+        return f"touch|{nanos}|{found[0]}|{found[1]}"
     name = command.replace(" ", "-") if command.startswith("pin ") else command.split(" ")[-1]
     if command == "files ls":
         return f"ls|{flag_told(values, 'long')}|{found[0] if found else '/'}"
@@ -188,7 +206,9 @@ def pieces(chance, command):
     for short, long, kind in options:
         for _ in range(chance.of([0, 0, 1, 1, 1, 1, 1, 2 if chance.once_in(3) else 1])):
             value = chance.of({"number": NUMBERS, "hex": HEX, "text": TEXTS}[kind])
-            if kind == "number" and chance.once_in(2):
+            if command == "files touch":
+                value = chance.of(TIMES)
+            elif kind == "number" and chance.once_in(2):
                 value = chance.of(NUMBERS[1:5])
             shapes = [["--" + long, value], [f"--{long}={value}"]]
             if short:
@@ -197,7 +217,11 @@ def pieces(chance, command):
     count = len(arguments) if not chance.once_in(6) else chance.below(len(arguments) + 2)
     for place in range(count):
         kind = arguments[place] if place < len(arguments) else "text"
-        likely = NUMBERS[:6] if kind == "number" and not chance.once_in(4) else TEXTS[:7]
+        if kind == "mode":
+            made.append([chance.of(MODES)])
+            continue
+        numbers = TIMES if command == "files touch" else NUMBERS[:6]
+        likely = numbers if kind == "number" and not chance.once_in(4) else TEXTS[:7]
         made.append([chance.of(likely if not chance.once_in(6) else TEXTS + NUMBERS)])
     return made
 

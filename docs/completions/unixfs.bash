@@ -3,13 +3,14 @@ _unixfs() {
     local current=${COMP_WORDS[COMP_CWORD]} last=${COMP_WORDS[COMP_CWORD - 1]} first=${COMP_WORDS[1]} words='' host=0
     COMPREPLY=()
     if [ "$COMP_CWORD" -eq 1 ]; then
-        mapfile -t COMPREPLY < <(compgen -W 'init add cat get dag pin pull serve batch gen files' -- "$current")
+        mapfile -t COMPREPLY < <(compgen -W 'init add cat get dag pin repo pull serve batch gen files' -- "$current")
         return
     fi
     case $first in
     dag) words='export import same' ;;
     pin) words='add rm ls' ;;
-    files) words='mkdir ls stat read write truncate cp mv rm' ;;
+    repo) words='gc' ;;
+    files) words='mkdir ls stat read write truncate cp mv rm chmod touch strip' ;;
     esac
     if [ -n "$words" ]; then
         if [ "$COMP_CWORD" -eq 2 ]; then
@@ -30,6 +31,7 @@ _unixfs() {
     'pin add') words='' host=0 ;;
     'pin rm') words='' host=0 ;;
     'pin ls') words='' host=0 ;;
+    'repo gc') words='' host=0 ;;
     'pull') words='' host=0 ;;
     'serve') words='' host=0 ;;
     'batch') words='' host=0 ;;
@@ -43,9 +45,12 @@ _unixfs() {
     'files cp') words='' host=0 ;;
     'files mv') words='' host=0 ;;
     'files rm') words='-r --recursive' host=0 ;;
+    'files chmod') words='' host=0 ;;
+    'files touch') words='--nanos' host=0 ;;
+    'files strip') words='' host=0 ;;
     esac
     case $last in
-    --chunk | --count | --hex | --offset | --threshold | --to-files | --width | -n | -o | -x) [ "$first $last" = 'add -n' ] || return ;;
+    --chunk | --count | --hex | --nanos | --offset | --threshold | --to-files | --width | -n | -o | -x) [ "$first $last" = 'add -n' ] || return ;;
     esac
     case $current in
     -*) mapfile -t COMPREPLY < <(compgen -W "$words" -- "$current") ;;

@@ -15,12 +15,14 @@ use Rattle.uf_store.specs.Contents.{Told}
 use Rattle.uf_store.specs.Keeping.{AreGood, Holds, KeepsGood}
 use Rattle.uf_store.proofs.Keeping.{Holds-append, Holds-kept}
 use Rattle.uf_dir.specs.Planned.{dir_entry, own_blocks}
+use Rattle.uf_tree.specs.Metas.{is_meta}
 use Rattle.uf_tree.specs.Names.{is_name, names_cmp}
 use Rattle.uf_tree.specs.Nodes.{Named}
 use Rattle.uf_tree.specs.Profiles.{most_bytes}
-use Rattle.uf_tree.specs.Tree.{Dir, Entries, File, Nothing, Tree, With, are_trees, fold, is_tree, pairs}
+use Rattle.uf_tree.specs.Tree.{Dir, Entries, File, Nothing, Tree, With, are_trees, fold, is_tree, own_meta, pairs}
 use Rattle.uf_tree.specs.TreePlan.{blocks as blocks_of, dir_refusal, entry, first_refusal, members, or_else, planned, refusal}
 use Rattle.uf_tree.specs.TreePlan.{FileTooLong as IsTooLong}
+use Rattle.uf_tree.specs.declared.meta.Meta.{Meta}
 use Rattle.uf_tree.specs.declared.nodes.Entry.{Entry}
 use Rattle.uf_tree.specs.declared.profile.Profile.{Profile}
 use Rattle.uf_laws.proofs.Held.{Digested, trees-digested}
@@ -70,10 +72,10 @@ sorted-by-names (x ∷ xs) (y ∷ ys) same =
 
 module _ (X : List ℕ → List ℕ) (N : List ℕ → ℕ) (p : Profile) where
   -- the file that a CID denotes
-  pub file-built : (held : Lookup) (limits : Limits) (now : Told) (c : Cid) (bytes : List ℕ) (r : Result Entry AdoptFault) → AdoptsFile X p c bytes now r → BuildsTree X N p held limits now c (File bytes) r
+  pub file-built : (held : Lookup) (limits : Limits) (now : Told) (c : Cid) (m : Meta) (bytes : List ℕ) (r : Result Entry AdoptFault) → IsTrue (is_meta m) → AdoptsFile X p m c bytes now r → BuildsTree X N p held limits now c (File m bytes) r
   unfolding planned fold is_tree IsFirstTooLong
-  file-built held limits now c bytes (Ok e) h = record {
-    tree = bytes_all bytes h.are_bytes;
+  file-built held limits now c m bytes (Ok e) good h = record {
+    tree = true_both (is_meta m) (list_all (λ b. nat_lt b 256) bytes) good (bytes_all bytes h.are_bytes);
     planned = fits (nat_lt (most_bytes p) (length bytes)) refl;
     is = h.is;
     held = h.held;
@@ -82,15 +84,15 @@ module _ (X : List ℕ → List ℕ) (N : List ℕ → ℕ) (p : Profile) where
       fits : (b : Bool) → nat_lt (most_bytes p) (length bytes) ≡ b → (if b then Some IsTooLong else None) ≡ None
       fits true e = absurd (let few = h.few in grind (arith, nat_tests))
       fits false e = refl
-  file-built held limits now c bytes (Err (FileTooLong node)) h = (long (nat_lt (most_bytes p) (length bytes)) refl, h)
+  file-built held limits now c m bytes (Err (FileTooLong node)) good h = (long (nat_lt (most_bytes p) (length bytes)) refl, h)
     where
       long : (b : Bool) → nat_lt (most_bytes p) (length bytes) ≡ b → (if b then Some IsTooLong else None) ≡ Some IsTooLong
       long true e = refl
       long false e = absurd (let many = h.1 in grind (arith, nat_tests))
-  file-built held limits now c bytes (Err (Store fault)) h = h
-  file-built held limits now c bytes (Err (Dag fault)) h = absurd h
-  file-built held limits now c bytes (Err (Collision x y)) h = absurd h
-  file-built held limits now c bytes (Err TooBig) h = absurd h
+  file-built held limits now c m bytes (Err (Store fault)) good h = h
+  file-built held limits now c m bytes (Err (Dag fault)) good h = absurd h
+  file-built held limits now c m bytes (Err (Collision x y)) good h = absurd h
+  file-built held limits now c m bytes (Err TooBig) good h = absurd h
 
   -- ---- members
 
@@ -104,6 +106,7 @@ module _ (X : List ℕ → List ℕ) (N : List ℕ → ℕ) (p : Profile) where
   -- some of a directory's members are built: what is left of the directory, and of what its ways lead to
   pub record Went (held : Lookup) (limits : Limits) (room : ℕ) (told : Told) (ways : List (List ℕ × Cid)) (es : Entries) (left : List (List ℕ × Cid)) (l : List Named) : Type 0 where
     pub rest : Entries
+    pub own : own_meta rest ≡ own_meta es
     pub denoted : AreDenoted held limits room left rest
     pub are : members X N p (planned_each X N p es) ≡ l ++ members X N p (planned_each X N p rest)
     pub refused : first_refusal (planned_each X N p es) ≡ first_refusal (planned_each X N p rest)
@@ -118,7 +121,7 @@ module _ (X : List ℕ → List ℕ) (N : List ℕ → ℕ) (p : Profile) where
     Gone told left l = Went held limits room told ways es left l
 
     pub went-none : (told : Told) → AreDenoted held limits room ways es → Went held limits room told ways es ways []
-    went-none told d = record { rest = es; denoted = d; are = refl; refused = refl; front = []; blocks = refl; is_held = nothing told; trees = λ h. h; long = λ node h. h }
+    went-none told d = record { rest = es; own = refl; denoted = d; are = refl; refused = refl; front = []; blocks = refl; is_held = nothing told; trees = λ h. h; long = λ node h. h }
       where
         nothing : (t : Told) → Holds t []
         nothing None = tt
@@ -129,6 +132,7 @@ module _ (X : List ℕ → List ℕ) (N : List ℕ → ℕ) (p : Profile) where
       pub tree : Tree
       pub denoted : denotes_within held limits room w.1 ≡ Ok tree
       pub others : Entries
+      pub own : own_meta others ≡ own_meta es
       pub denoted_others : AreDenoted held limits room left others
       pub are : members X N p (planned_each X N p es) ≡ l ++ (w.0, entry X N p tree) ∷ members X N p (planned_each X N p others)
       pub refused : first_refusal (planned_each X N p es) ≡ or_else (refusal X N p tree) (first_refusal (planned_each X N p others))
@@ -141,15 +145,16 @@ module _ (X : List ℕ → List ℕ) (N : List ℕ → ℕ) (p : Profile) where
 
     pub next-of : (told : Told) (w : List ℕ × Cid) (left : List (List ℕ × Cid)) (l : List Named) → Went held limits room told ways es (w ∷ left) l → Next told w left l
     unfolding planned fold is_tree IsFirstTooLong
-    next-of told w left l g = by g.rest g.denoted g.are g.refused g.blocks g.trees g.long
+    next-of told w left l g = by g.rest g.own g.denoted g.are g.refused g.blocks g.trees g.long
       where
-        by : (rest : Entries) → AreDenoted held limits room (w ∷ left) rest → members X N p (planned_each X N p es) ≡ l ++ members X N p (planned_each X N p rest) → first_refusal (planned_each X N p es) ≡ first_refusal (planned_each X N p rest)
+        by : (rest : Entries) → own_meta rest ≡ own_meta es → AreDenoted held limits room (w ∷ left) rest → members X N p (planned_each X N p es) ≡ l ++ members X N p (planned_each X N p rest) → first_refusal (planned_each X N p es) ≡ first_refusal (planned_each X N p rest)
             → each_blocks X N p es ≡ g.front ++ each_blocks X N p rest → (are_trees rest ≡ true → are_trees es ≡ true) → ((node : Cid) → IsFirstAmong X N p held limits rest (w ∷ left) node → IsFirstAmong X N p held limits es ways node) → Next told w left l
-        by Nothing d are refused blocks trees long = absurd d
-        by (With name t others) d are refused blocks trees long = record {
+        by (Nothing m) own d are refused blocks trees long = absurd d
+        by (With name t others) own d are refused blocks trees long = record {
           tree = t;
           denoted = d.1;
           others = others;
+          own = own;
           denoted_others = d.2;
           are = subst (λ (n : List ℕ). members X N p (planned_each X N p es) ≡ l ++ (n, entry X N p t) ∷ members X N p (planned_each X N p others)) d.0 are;
           refused = refused;
@@ -165,6 +170,7 @@ module _ (X : List ℕ → List ℕ) (N : List ℕ → ℕ) (p : Profile) where
     pub went-more : (told now : Told) (w : List ℕ × Cid) (left : List (List ℕ × Cid)) (l : List Named) (e : Entry) (n : Next told w left l) → KeepsGood X told now → IsTrue (is_name w.0) → IsBuilt X N p now n.tree e → Went held limits room now ways es left (l ++ (w.0, e) ∷ [])
     went-more told now w left l e n keeps name b = record {
       rest = n.others;
+      own = n.own;
       denoted = n.denoted_others;
       are = n.are ∙ ap (λ (x : Entry). l ++ (w.0, x) ∷ members X N p (planned_each X N p n.others)) (sym b.is) ∙ sym (append_assoc l ((w.0, e) ∷ []) (members X N p (planned_each X N p n.others)));
       refused = n.refused ∙ ap (λ r. or_else r (first_refusal (planned_each X N p n.others))) b.planned;
@@ -186,13 +192,13 @@ module _ (X : List ℕ → List ℕ) (N : List ℕ → ℕ) (p : Profile) where
     -- all are built
     pub went-all : (told : Told) (l : List Named) → Went held limits room told ways es [] l → AreBuilt X N p told es l
     unfolding planned fold is_tree
-    went-all told l g = by g.rest g.denoted g.are g.refused g.blocks g.trees
+    went-all told l g = by g.rest g.own g.denoted g.are g.refused g.blocks g.trees
       where
-        by : (rest : Entries) → AreDenoted held limits room [] rest → members X N p (planned_each X N p es) ≡ l ++ members X N p (planned_each X N p rest) → first_refusal (planned_each X N p es) ≡ first_refusal (planned_each X N p rest)
+        by : (rest : Entries) → own_meta rest ≡ own_meta es → AreDenoted held limits room [] rest → members X N p (planned_each X N p es) ≡ l ++ members X N p (planned_each X N p rest) → first_refusal (planned_each X N p es) ≡ first_refusal (planned_each X N p rest)
             → each_blocks X N p es ≡ g.front ++ each_blocks X N p rest → (are_trees rest ≡ true → are_trees es ≡ true) → AreBuilt X N p told es l
-        by (With name t others) d are refused blocks trees = absurd d
-        by Nothing d are refused blocks trees = record {
-          trees = trees refl;
+        by (With name t others) own d are refused blocks trees = absurd d
+        by (Nothing m) own d are refused blocks trees = record {
+          trees = λ good. trees (ap is_meta own ∙ good);
           planned = refused;
           are = sym (are ∙ append-nil l);
           held = subst (Holds told) (sym (blocks ∙ append-nil g.front)) g.is_held;
@@ -200,37 +206,37 @@ module _ (X : List ℕ → List ℕ) (N : List ℕ → ℕ) (p : Profile) where
 
   -- ---- directories
 
-  module _ (held : Lookup) (limits : Limits) (room : ℕ) (c : Cid) (ways : List (List ℕ × Cid)) (es : Entries) where
+  module _ (held : Lookup) (limits : Limits) (room : ℕ) (c : Cid) (meta : Meta) (ways : List (List ℕ × Cid)) (es : Entries) (its : own_meta es ≡ meta) where
     -- a member is refused
-    pub folder-err : (now : Told) (why : AdoptFault) → shallow_of held limits c ≡ Ok (FolderShape ways) → BuildsEach X N p held limits now ways es (Err why) → BuildsTree X N p held limits now c (Dir es) (Err why)
+    pub folder-err : (now : Told) (why : AdoptFault) → shallow_of held limits c ≡ Ok (FolderShape meta ways) → BuildsEach X N p held limits now ways es (Err why) → BuildsTree X N p held limits now c (Dir es) (Err why)
     unfolding planned fold IsFirstTooLong
-    folder-err now (FileTooLong node) shape h = (ap (λ r. or_else r (dir_refusal X N p (members X N p (planned_each X N p es)))) h.0, (ways, shape, h.1))
-    folder-err now (Collision x y) shape h = ap (λ r. or_else r (dir_refusal X N p (members X N p (planned_each X N p es)))) h
-    folder-err now TooBig shape h = ap (λ r. or_else r (dir_refusal X N p (members X N p (planned_each X N p es)))) h
+    folder-err now (FileTooLong node) shape h = (ap (λ r. or_else r (dir_refusal X N p (own_meta es) (members X N p (planned_each X N p es)))) h.0, (meta, ways, shape, h.1))
+    folder-err now (Collision x y) shape h = ap (λ r. or_else r (dir_refusal X N p (own_meta es) (members X N p (planned_each X N p es)))) h
+    folder-err now TooBig shape h = ap (λ r. or_else r (dir_refusal X N p (own_meta es) (members X N p (planned_each X N p es)))) h
     folder-err now (Store fault) shape h = h
     folder-err now (Dag fault) shape h = absurd h
 
-    own_refused : (l : List Named) → first_refusal (planned_each X N p es) ≡ None → l ≡ members X N p (planned_each X N p es) → refusal X N p (Dir es) ≡ dir_refusal X N p l
+    own_refused : (l : List Named) → first_refusal (planned_each X N p es) ≡ None → l ≡ members X N p (planned_each X N p es) → refusal X N p (Dir es) ≡ dir_refusal X N p meta l
     unfolding planned fold
-    own_refused l none are = ap (λ r. or_else r (dir_refusal X N p (members X N p (planned_each X N p es)))) none ∙ sym (ap (dir_refusal X N p) are)
+    own_refused l none are = ap (λ r. or_else r (dir_refusal X N p (own_meta es) (members X N p (planned_each X N p es)))) none ∙ ap (λ (m : Meta). dir_refusal X N p m (members X N p (planned_each X N p es))) its ∙ sym (ap (dir_refusal X N p meta) are)
 
     -- all members are built, and the directory is refused
-    pub folder-refused : (told now : Told) (l : List Named) (fault : DirFault) → AreBuilt X N p told es l → Gives (dir_refusal X N p l) (dir_entry X N p l) (Err fault) → BuildsTree X N p held limits now c (Dir es) (Err (of_directory fault))
+    pub folder-refused : (told now : Told) (l : List Named) (fault : DirFault) → AreBuilt X N p told es l → Gives (dir_refusal X N p meta l) (dir_entry X N p meta l) (Err fault) → BuildsTree X N p held limits now c (Dir es) (Err (of_directory fault))
     folder-refused told now l (dir.Collision x y) b g = own_refused l b.planned b.are ∙ g
     folder-refused told now l dir.TooBig b g = own_refused l b.planned b.are ∙ g
     folder-refused told now l (dir.Store fault) b g = inr g
 
     -- or it is built
-    pub folder-built : (told now : Told) (l : List Named) (e : Entry) → KeepsGood X told now → IsTrue (is_sorted names_cmp l) → AreBuilt X N p told es l → Gives (dir_refusal X N p l) (dir_entry X N p l) (Ok e) → Holds now (own_blocks X N p l) → BuildsTree X N p held limits now c (Dir es) (Ok e)
+    pub folder-built : (told now : Told) (l : List Named) (e : Entry) → KeepsGood X told now → IsTrue (is_meta meta) → IsTrue (is_sorted names_cmp l) → AreBuilt X N p told es l → Gives (dir_refusal X N p meta l) (dir_entry X N p meta l) (Ok e) → Holds now (own_blocks X N p meta l) → BuildsTree X N p held limits now c (Dir es) (Ok e)
     unfolding planned fold is_tree
-    folder-built told now l e keeps sorted b g own = record {
-      tree = (true_both (is_sorted names_cmp (pairs es)) (are_trees es) (sorted-by-names (pairs es) l (pair_names es ∙ sym (ap names_of b.are)) ∙ sorted) b.trees);
+    folder-built told now l e keeps good sorted b g own = record {
+      tree = (true_both (is_sorted names_cmp (pairs es)) (are_trees es) (sorted-by-names (pairs es) l (pair_names es ∙ sym (ap names_of b.are)) ∙ sorted) (b.trees (subst (λ (m : Meta). IsTrue (is_meta m)) (sym its) good)));
       planned = own_refused l b.planned b.are ∙ g.0;
-      is = g.1 ∙ ap (dir_entry X N p) b.are;
-      held = Holds-append now (each_blocks X N p es) (own_blocks X N p (members X N p (planned_each X N p es))) (Holds-kept X told now (each_blocks X N p es) (front_good (each_blocks X N p es) [] (subst (AllByRecursion (Digested X N)) (sym (append-nil (each_blocks X N p es))) (good_blocks es))) keeps b.held)
-          (subst (λ (m : List Named). Holds now (own_blocks X N p m)) b.are own);
+      is = g.1 ∙ ap (dir_entry X N p meta) b.are ∙ ap (λ (m : Meta). dir_entry X N p m (members X N p (planned_each X N p es))) (sym its);
+      held = Holds-append now (each_blocks X N p es) (own_blocks X N p (own_meta es) (members X N p (planned_each X N p es))) (Holds-kept X told now (each_blocks X N p es) (front_good (each_blocks X N p es) [] (subst (AllByRecursion (Digested X N)) (sym (append-nil (each_blocks X N p es))) (good_blocks es))) keeps b.held)
+          (subst (λ (m : Meta). Holds now (own_blocks X N p m (members X N p (planned_each X N p es)))) (sym its) (subst (λ (k : List Named). Holds now (own_blocks X N p meta k)) b.are own));
     }
       where
         pair_names : (fs : Entries) → names_of (pairs fs) ≡ names_of (members X N p (planned_each X N p fs))
-        pair_names Nothing = refl
+        pair_names (Nothing m) = refl
         pair_names (With name t fs) = ap (λ l. name ∷ l) (pair_names fs)

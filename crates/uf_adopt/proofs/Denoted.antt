@@ -1,5 +1,5 @@
 -- What is adopted of what a CID denotes.
-use Rattle.std.proofs.Common.{◌≡◌, inl, inr, ℕ, ◌+◌, List, [], ◌∷◌, subst, sym, Result, Ok, Err}
+use Rattle.std.proofs.Common.{◌≡◌, inl, inr, ℕ, ◌+◌, List, [], ◌∷◌, refl, subst, sym, Result, Ok, Err}
 use Rattle.std.specs.Prelude.{Some, None}
 use Rattle.uf_cid.specs.Blocks.{Lookup}
 use Rattle.uf_cid.specs.declared.cid.Cid.{Cid}
@@ -21,8 +21,10 @@ use Rattle.uf_lenient.specs.declared.shapes.Shape.{Shape}
 use Rattle.uf_lenient.specs.declared.shapes.Shape.TheVariants.{Folder as FolderShape}
 use Rattle.uf_lenient.specs.Reading.{shallow_of}
 use Rattle.uf_adopt.specs.Adopting.{Adopts, BuildsTree, IsFirstAmong, IsFirstTooLong}
+use Rattle.uf_store.specs.Writing.{SavesOnly}
+use Rattle.uf_store.specs.declared.store.StoreFault.TheVariants as stores
 use Rattle.uf_lenient.specs.Denoted.{denotes_within}
-use Rattle.uf_adopt.specs.Faults.{of_reading}
+use Rattle.uf_adopt.specs.Faults.{SavesNone, of_reading}
 use Rattle.uf_adopt.specs.Feeding.{HoldsGoodMap}
 use Rattle.uf_adopt.specs.declared.fault.AdoptFault.{AdoptFault}
 use Rattle.uf_adopt.specs.declared.fault.AdoptFault.TheVariants.{Dag, FileTooLong, Collision, TooBig, Store}
@@ -48,7 +50,67 @@ module _ (X : List ℕ → List ℕ) (N : List ℕ → ℕ) (p : Profile) (held 
   is-denoted t (Err (Store fault)) is h = inl h
   is-denoted t (Err (Dag fault)) is h = absurd h
 
+-- a reading writes nothing, whatever its fault
+pub reading-unsaved : (fault : DagFault) (before now : Told) → now ≡ before → SavesNone {A = Entry} (Err (of_reading fault)) before now
+reading-unsaved (dag.Store (stores.Missing cid)) before now same = same
+reading-unsaved (dag.Store stores.Failed) before now same = tt
+reading-unsaved (dag.Store (stores.Damaged cid)) before now same = tt
+reading-unsaved (dag.Store (stores.BadBlock cid role)) before now same = tt
+reading-unsaved (dag.Store (stores.Clash cid held bytes)) before now same = tt
+reading-unsaved (dag.Store stores.Memory) before now same = tt
+reading-unsaved (dag.NotUnixfs cid why) before now same = same
+reading-unsaved (dag.DuplicateName cid name) before now same = same
+reading-unsaved (dag.BadName cid) before now same = same
+reading-unsaved (dag.Unsupported cid) before now same = same
+reading-unsaved (dag.TooDeep cid) before now same = same
+reading-unsaved dag.TooMany before now same = same
+reading-unsaved (dag.NotFound place) before now same = same
+reading-unsaved (dag.NotADirectory place) before now same = same
+
+-- where nothing is told, nothing is told afterwards
+untold-unsaved : (r : Result Entry AdoptFault) (now : Told) → now ≡ None → SavesNone r None now
+untold-unsaved (Ok a) now same = tt
+untold-unsaved (Err (Dag fault)) now same = same
+untold-unsaved (Err (FileTooLong node)) now same = tt
+untold-unsaved (Err (Collision x y)) now same = tt
+untold-unsaved (Err TooBig) now same = tt
+untold-unsaved (Err (Store (stores.Missing cid))) now same = same
+untold-unsaved (Err (Store stores.Failed)) now same = tt
+untold-unsaved (Err (Store (stores.Damaged cid))) now same = tt
+untold-unsaved (Err (Store (stores.BadBlock cid role))) now same = tt
+untold-unsaved (Err (Store (stores.Clash cid held bytes))) now same = tt
+untold-unsaved (Err (Store stores.Memory)) now same = tt
+
 module _ (X : List ℕ → List ℕ) (N : List ℕ → ℕ) (p : Profile) (limits : Limits) where
+  -- what is there to be built is never refused for its reading
+  built-unsaved : (held : Lookup) (before now : Told) (c : Cid) (t : Tree) (r : Result Entry AdoptFault) → BuildsTree X N p held limits now c t r → SavesNone r before now
+  built-unsaved held before now c t (Ok e) h = tt
+  built-unsaved held before now c t (Err (Dag fault)) h = absurd h
+  built-unsaved held before now c t (Err (FileTooLong node)) h = tt
+  built-unsaved held before now c t (Err (Collision x y)) h = tt
+  built-unsaved held before now c t (Err TooBig) h = tt
+  built-unsaved held before now c t (Err (Store (stores.Missing cid))) (inl h) = absurd h
+  built-unsaved held before now c t (Err (Store (stores.Missing cid))) (inr h) = absurd h
+  built-unsaved held before now c t (Err (Store stores.Failed)) h = tt
+  built-unsaved held before now c t (Err (Store (stores.Damaged cid))) h = tt
+  built-unsaved held before now c t (Err (Store (stores.BadBlock cid role))) h = tt
+  built-unsaved held before now c t (Err (Store (stores.Clash cid block bytes))) h = tt
+  built-unsaved held before now c t (Err (Store stores.Memory)) h = tt
+
+  pub surveyed-unsaved : (told read now : Told) (c : Cid) (shape : Shape) (r : Result Entry AdoptFault) → read ≡ told
+      → ByGoodBlocks X told (λ held. Surveys held limits c (Ok shape))
+      → ((held : Lookup) (t : Tree) → HoldsGoodMap X held read → denotes held limits c ≡ Ok t
+      → BuildsTree X N p held limits now c t r) → SavesOnly X read now → SavesNone r told now
+  surveyed-unsaved None read now c shape r told_same says builds saves = untold-unsaved r now (by now (subst (λ (t : Told). SavesOnly X t now) told_same saves))
+    where
+      by : (now : Told) → SavesOnly X None now → now ≡ None
+      by None saves = refl
+      by (Some t) saves = absurd saves
+  surveyed-unsaved (Some t) read now c shape r told_same says builds saves =
+      let own = good_blocks X (held_at t) in
+      let said = says own (good-has X (held_at t)) in
+      built-unsaved own (Some t) now c said.tree r (builds own said.tree (subst (HoldsGoodMap X own) (sym told_same) (good-map X t)) said.denoted)
+
   pub says-fault : (told now : Told) (c : Cid) (fault : DagFault)
       → ByGoodBlocks X told (λ held. Surveys held limits c (Err fault))
       → ByGoodBlocks X told (λ held. Adopts X N p held limits now c (Err (of_reading fault)))
@@ -70,12 +132,12 @@ module _ (X : List ℕ → List ℕ) (N : List ℕ → ℕ) (p : Profile) (limit
 
       long_there : (t : Tree) (c node : Cid) → IsFirstTooLong X N p held limits t c node
           → IsFirstTooLong X N p more limits t c node
-      long_there (File bytes) c node h = h
-      long_there (Dir es) c node h = (h.0, shape_there c (FolderShape h.0) h.1, among_there es h.0 node h.2)
+      long_there (File m bytes) c node h = h
+      long_there (Dir es) c node h = (h.0, h.1, shape_there c (FolderShape h.0 h.1) h.2, among_there es h.1 node h.3)
 
       among_there : (es : Entries) (ways : List (List ℕ × Cid)) (node : Cid)
           → IsFirstAmong X N p held limits es ways node → IsFirstAmong X N p more limits es ways node
-      among_there Nothing ways node h = absurd h
+      among_there (Nothing m) ways node h = absurd h
       among_there (With name t es) [] node h = absurd h
       among_there (With name t es) (w ∷ ways) node (inl h) = inl (long_there t w.1 node h)
       among_there (With name t es) (w ∷ ways) node (inr h) = inr (h.0, among_there es ways node h.1)

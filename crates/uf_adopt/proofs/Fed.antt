@@ -12,6 +12,7 @@ use Rattle.uf_store.specs.Calls.{OnlySaves}
 use Rattle.uf_store.specs.Faults.{NoneIsBad}
 use Rattle.uf_tree.specs.FilePlan.{file_plan}
 use Rattle.uf_tree.specs.Profiles.{most_bytes}
+use Rattle.uf_tree.specs.declared.meta.Meta.{Meta}
 use Rattle.uf_tree.specs.declared.nodes.Entry.{Entry}
 use Rattle.uf_tree.specs.declared.profile.Profile.{Profile}
 use Rattle.uf_build.specs.Building.{Building, HasFed, HoldsFed}
@@ -158,13 +159,13 @@ module _ (hash : List ℕ → List ℕ) where
   pub new-front : (told : Told) (b : Building) → HasFed hash [] b → HoldsFed hash [] told b → b.fed ≡ 0 → b.is_spent ≡ false → HasFront hash told [] b
   new-front told b fed held count spent = record { fed = fed; held = held; count = count; few = omega arith; are_bytes = tt; not_spent = spent }
 
-  pub closes : (c : Cid) (bytes : List ℕ) (told now : Told) (b : Building) (e : Entry) → HasFront hash told bytes b → ((l : List ℕ) → HasFed hash l b → e ≡ (file_plan hash b.profile l).entry) → ((l : List ℕ) → HoldsFed hash l told b → Holds now (file_plan hash b.profile l).blocks) → AdoptsFile hash b.profile c bytes now (Ok e)
-  closes c bytes told now b e h entry held = record { few = h.few; are_bytes = h.are_bytes; is = entry bytes h.fed; held = held bytes h.held }
+  pub closes : (m : Meta) (c : Cid) (bytes : List ℕ) (told now : Told) (b : Building) (e : Entry) → HasFront hash told bytes b → ((l : List ℕ) → HasFed hash l b → e ≡ (file_plan hash b.profile m l).entry) → ((l : List ℕ) → HoldsFed hash l told b → Holds now (file_plan hash b.profile m l).blocks) → AdoptsFile hash b.profile m c bytes now (Ok e)
+  closes m c bytes told now b e h entry held = record { few = h.few; are_bytes = h.are_bytes; is = entry bytes h.fed; held = held bytes h.held }
 
   -- why not all was fed is why there is no file
-  pub no-file : (c : Cid) (p : Profile) (bytes : List ℕ) (now : Told) (b : Building) (why : AdoptFault) → b.profile ≡ p → FeedsAll hash c bytes now b (Err why) → AdoptsFile hash p c bytes now (Err why)
-  no-file c p bytes now b (FileTooLong node) same h = (h.0, subst (λ (q : Profile). most_bytes q < length bytes) same h.1)
-  no-file c p bytes now b (Store fault) same h = h
-  no-file c p bytes now b (Dag fault) same h = absurd h
-  no-file c p bytes now b (Collision x y) same h = absurd h
-  no-file c p bytes now b TooBig same h = absurd h
+  pub no-file : (m : Meta) (c : Cid) (p : Profile) (bytes : List ℕ) (now : Told) (b : Building) (why : AdoptFault) → b.profile ≡ p → FeedsAll hash c bytes now b (Err why) → AdoptsFile hash p m c bytes now (Err why)
+  no-file m c p bytes now b (FileTooLong node) same h = (h.0, subst (λ (q : Profile). most_bytes q < length bytes) same h.1)
+  no-file m c p bytes now b (Store fault) same h = h
+  no-file m c p bytes now b (Dag fault) same h = absurd h
+  no-file m c p bytes now b (Collision x y) same h = absurd h
+  no-file m c p bytes now b TooBig same h = absurd h

@@ -17,8 +17,10 @@ use Rattle.uf_store.specs.declared.store.StoreFault.TheVariants.{Memory}
 use Rattle.uf_store.proofs.Causes.{calm-memory}
 use Rattle.uf_tree.specs.Names.{names_cmp}
 use Rattle.uf_tree.specs.Nodes.{Named}
-use Rattle.uf_tree.specs.Tree.{Dir, Entries, File, Tree}
+use Rattle.uf_tree.specs.Metas.{is_meta}
+use Rattle.uf_tree.specs.Tree.{Dir, Entries, File, Tree, own_meta}
 use Rattle.uf_tree.specs.Validity.{IsDirectory, IsNamed}
+use Rattle.uf_tree.specs.declared.meta.Meta.{Meta}
 use Rattle.uf_tree.specs.declared.nodes.Entry.{Entry}
 use Rattle.uf_tree.specs.declared.profile.Profile.{Profile}
 use Rattle.uf_lenient.specs.Answers.{FollowsReading, IsOwn}
@@ -120,30 +122,31 @@ module _ (X : List ℕ → List ℕ) (N : List ℕ → ℕ) (p : Profile) (held 
   shape-fault told now room c t fault some good is says = let s = step_at room c t some is in own_builds now c t fault (fault_read told c s.shape fault good s.shaped says)
 
   -- it is a file
-  pub file-case : (told now : Told) (room : ℕ) (c : Cid) (t : Tree) (shape : Shape) (r : Result Entry AdoptFault) → 1 ≤ room → HoldsGoodMap X held told → denotes_within held limits room c ≡ Ok t → IfSome told (λ t. FollowsReading (λ s. s) (shallow_of (held_at t) limits c) (Ok shape)) → shape ≡ FileShape
-      → ((bytes : List ℕ) → file_of held limits c ≡ Ok bytes → AdoptsFile X p c bytes now r) → BuildsTree X N p held limits now c t r
-  file-case told now room c t shape r some good is says same adopts =
+  pub file-case : (told now : Told) (room : ℕ) (c : Cid) (t : Tree) (shape : Shape) (meta : Meta) (r : Result Entry AdoptFault) → 1 ≤ room → HoldsGoodMap X held told → denotes_within held limits room c ≡ Ok t → IfSome told (λ t. FollowsReading (λ s. s) (shallow_of (held_at t) limits c) (Ok shape)) → shape ≡ FileShape meta → IsTrue (is_meta meta)
+      → ((bytes : List ℕ) → file_of held limits c ≡ Ok bytes → AdoptsFile X p meta c bytes now r) → BuildsTree X N p held limits now c t r
+  file-case told now room c t shape meta r some good is says same its adopts =
       let s = step_at room c t some is in
       by t (subst (DenotesBy held limits (room - 1) c t) (sym (shape_read told c s.shape shape good s.shaped says) ∙ same) s.by)
     where
-      by : (u : Tree) → DenotesBy held limits (room - 1) c u FileShape → BuildsTree X N p held limits now c u r
-      by (File bytes) d = file-built X N p held limits now c bytes r (adopts bytes d)
+      by : (u : Tree) → DenotesBy held limits (room - 1) c u (FileShape meta) → BuildsTree X N p held limits now c u r
+      by (File m bytes) d = file-built X N p held limits now c m bytes r (subst (λ (n : Meta). IsTrue (is_meta n)) (sym d.0) its) (subst (λ (n : Meta). AdoptsFile X p n c bytes now r) (sym d.0) (adopts bytes d.1))
       by (Dir es) d = absurd d
 
   -- it is a directory
-  pub record IsFolderAt (room : ℕ) (c : Cid) (t : Tree) (ways : List (List ℕ × Cid)) : Type 0 where
+  pub record IsFolderAt (room : ℕ) (c : Cid) (t : Tree) (meta : Meta) (ways : List (List ℕ × Cid)) : Type 0 where
     pub es : Entries
     pub is : Dir es ≡ t
-    pub shaped : shallow_of held limits c ≡ Ok (FolderShape ways)
+    pub its : own_meta es ≡ meta
+    pub shaped : shallow_of held limits c ≡ Ok (FolderShape meta ways)
     pub denoted : AreDenoted held limits room ways es
 
-  pub folder-case : (told : Told) (room : ℕ) (c : Cid) (t : Tree) (shape : Shape) (ways list : List (List ℕ × Cid)) → 1 ≤ room → HoldsGoodMap X held told → denotes_within held limits room c ≡ Ok t → IfSome told (λ t. FollowsReading (λ s. s) (shallow_of (held_at t) limits c) (Ok shape)) → shape ≡ FolderShape ways → list ≡ ways
-      → IsFolderAt (room - 1) c t list
-  folder-case told room c t shape ways list some good is says same same_list =
+  pub folder-case : (told : Told) (room : ℕ) (c : Cid) (t : Tree) (shape : Shape) (meta : Meta) (ways list : List (List ℕ × Cid)) → 1 ≤ room → HoldsGoodMap X held told → denotes_within held limits room c ≡ Ok t → IfSome told (λ t. FollowsReading (λ s. s) (shallow_of (held_at t) limits c) (Ok shape)) → shape ≡ FolderShape meta ways → list ≡ ways
+      → IsFolderAt (room - 1) c t meta list
+  folder-case told room c t shape meta ways list some good is says same same_list =
       let s = step_at room c t some is in
-      let whole : s.shape ≡ FolderShape list = sym (shape_read told c s.shape shape good s.shaped says) ∙ same ∙ ap FolderShape (sym same_list) in
+      let whole : s.shape ≡ FolderShape meta list = sym (shape_read told c s.shape shape good s.shaped says) ∙ same ∙ ap (FolderShape meta) (sym same_list) in
       by t (s.shaped ∙ ap Ok whole) (subst (DenotesBy held limits (room - 1) c t) whole s.by)
     where
-      by : (u : Tree) → shallow_of held limits c ≡ Ok (FolderShape list) → DenotesBy held limits (room - 1) c u (FolderShape list) → IsFolderAt (room - 1) c u list
-      by (File bytes) shaped d = absurd d
-      by (Dir es) shaped d = record { es = es; is = refl; shaped = shaped; denoted = d }
+      by : (u : Tree) → shallow_of held limits c ≡ Ok (FolderShape meta list) → DenotesBy held limits (room - 1) c u (FolderShape meta list) → IsFolderAt (room - 1) c u meta list
+      by (File m bytes) shaped d = absurd d
+      by (Dir es) shaped d = record { es = es; is = refl; its = d.0; shaped = shaped; denoted = d.1 }

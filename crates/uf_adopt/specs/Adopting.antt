@@ -10,10 +10,12 @@ use Rattle.uf_store.specs.Contents.{Told}
 use Rattle.uf_store.specs.Keeping.{Holds}
 use Rattle.uf_tree.specs.Nodes.{Named}
 use Rattle.uf_tree.specs.Profiles.{most_bytes}
-use Rattle.uf_tree.specs.Tree.{Dir, Entries, File, Nothing, Tree, With, are_trees, fold_each, is_tree}
+use Rattle.uf_tree.specs.Metas.{is_meta}
+use Rattle.uf_tree.specs.Tree.{Dir, Entries, File, Nothing, Tree, With, are_trees, fold_each, is_tree, own_meta}
 use Rattle.uf_tree.specs.TreePlan.{Planned, Refusal, blocks as blocks_of, entry, first_refusal, members}
 use Rattle.uf_tree.specs.TreePlan.{planned_dir, planned_file, refusal}
 use Rattle.uf_tree.specs.TreePlan.{FileTooLong as IsTooLong, Collision as Collides, TooBig as IsTooBig}
+use Rattle.uf_tree.specs.declared.meta.Meta.{Meta}
 use Rattle.uf_tree.specs.declared.nodes.Entry.{Entry}
 use Rattle.uf_tree.specs.declared.profile.Profile.{Profile}
 use Rattle.uf_lenient.specs.Reading.{denotes, shallow_of}
@@ -40,9 +42,10 @@ module _ (X : List ℕ → List ℕ) (N : List ℕ → ℕ) (p : Profile) where
     pub is : e ≡ entry X N p t
     pub held : Holds told (blocks_of X N p t)
 
-  -- the pairs are the names and entries of these members, which nothing refuses, and whose blocks are held
+  -- the pairs are the names and entries of these members, which nothing refuses, and whose blocks are held; they are
+  -- trees where the directory's metadata may be one's
   pub record AreBuilt (told : Told) (es : Entries) (l : List Named) : Type 0 where
-    pub trees : are_trees es ≡ true
+    pub trees : IsTrue (is_meta (own_meta es)) → are_trees es ≡ true
     pub planned : first_refusal (planned_each es) ≡ None
     pub are : l ≡ members X N p (planned_each es)
     pub held : Holds told (each_blocks es)
@@ -52,13 +55,14 @@ module _ (X : List ℕ → List ℕ) (N : List ℕ → ℕ) (p : Profile) where
       -- the CID `node` is that of the first node of the file in a tree that is too long, in front of which nothing is
       -- refused; another CID denotes the tree
       pub IsFirstTooLong : Tree → Cid → Cid → Type 0
-      IsFirstTooLong (File bytes) c node = (node ≡ c) × (most_bytes p < length bytes)
+      IsFirstTooLong (File m bytes) c node = (node ≡ c) × (most_bytes p < length bytes)
       IsFirstTooLong (Dir es) c node =
-          (ways : List (List ℕ × Cid)) × (shallow_of held limits c ≡ Ok (FolderShape ways)) × IsFirstAmong es ways node
+          (meta : Meta) × (ways : List (List ℕ × Cid)) × (shallow_of held limits c ≡ Ok (FolderShape meta ways))
+          × IsFirstAmong es ways node
 
       -- the same of members, to which these ways lead
       pub IsFirstAmong : Entries → List (List ℕ × Cid) → Cid → Type 0
-      IsFirstAmong Nothing ways node = ⊥
+      IsFirstAmong (Nothing m) ways node = ⊥
       IsFirstAmong (With name t es) [] node = ⊥
       IsFirstAmong (With name t es) (w ∷ ways) node =
           IsFirstTooLong t w.1 node ⊎ ((refusal X N p t ≡ None) × IsFirstAmong es ways node)

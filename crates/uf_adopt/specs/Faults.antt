@@ -1,5 +1,5 @@
 -- The faults of an adoption.
-use Rattle.std.specs.Prelude.{◌⊎◌, ℕ, List, Some, None, ⊤}
+use Rattle.std.specs.Prelude.{◌≡◌, ◌⊎◌, ℕ, List, Some, None, ⊤}
 use Rattle.std.specs.declared.option.Option.{Option}
 use Rattle.std.specs.declared.result.Result.{Result}
 use Rattle.std.specs.declared.result.Result.TheVariants.{Ok, Err}
@@ -7,9 +7,11 @@ use Rattle.uf_shard.specs.declared.fault.DirFault.{DirFault}
 use Rattle.uf_shard.specs.declared.fault.DirFault.TheVariants as dir
 use Rattle.uf_store.specs.Calls.{OnlySaves}
 use Rattle.uf_store.specs.Clashes.{IsSaving}
+use Rattle.uf_store.specs.Contents.{Told}
 use Rattle.uf_store.specs.Faults.{NoneIsBad}
 use Rattle.uf_store.specs.Seen.{Seen}
 use Rattle.uf_store.specs.declared.store.StoreFault.{StoreFault}
+use Rattle.uf_store.specs.declared.store.StoreFault.TheVariants.{Missing}
 use Rattle.uf_lenient.specs.Answers.{IsStoreOwn}
 use Rattle.uf_lenient.specs.declared.fault.DagFault.{DagFault}
 use Rattle.uf_lenient.specs.declared.fault.DagFault.TheVariants as dag
@@ -40,6 +42,12 @@ adopt_fault (Err (Store fault)) = Some fault
 abbrev pub TellsStoreApart : {A : Type 0} → Result A AdoptFault → Type 0
 TellsStoreApart (Err (Dag (dag.Store fault))) = ⊥
 TellsStoreApart other = ⊤
+
+-- where a CID denotes no tree, also for want of a block, nothing is written
+abbrev pub SavesNone : {A : Type 0} → Result A AdoptFault → Told → Told → Type 0
+SavesNone (Err (Dag fault)) before now = now ≡ before
+SavesNone (Err (Store (Missing cid))) before now = now ≡ before
+SavesNone other before now = ⊤
 
 -- a fault of the store itself, and no block that is missing: the store failed, met other bytes of one digest, or there
 -- was no memory

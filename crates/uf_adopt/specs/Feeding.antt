@@ -10,6 +10,7 @@ use Rattle.uf_store.specs.Contents.{Told, held_at}
 use Rattle.uf_store.specs.Keeping.{Holds}
 use Rattle.uf_tree.specs.FilePlan.{file_plan}
 use Rattle.uf_tree.specs.Profiles.{most_bytes}
+use Rattle.uf_tree.specs.declared.meta.Meta.{Meta}
 use Rattle.uf_tree.specs.declared.nodes.Entry.{Entry}
 use Rattle.uf_tree.specs.declared.profile.Profile.{Profile}
 use Rattle.uf_build.specs.Building.{Building, HasFed, HoldsFed}
@@ -63,16 +64,17 @@ module _ (hash : List ℕ → List ℕ) where
   FeedsAll c bytes now b (Err (Store fault)) = IsStoreFailing fault
   FeedsAll c bytes now b (Err other) = ⊥
 
-  -- the entry is that of the file of these bytes, whose blocks are held
-  pub record IsFileOver (p : Profile) (bytes : List ℕ) (now : Told) (e : Entry) : Type 0 where
+  -- the entry is that of the file of this metadata and these bytes, whose blocks are held
+  pub record IsFileOver (p : Profile) (m : Meta) (bytes : List ℕ) (now : Told) (e : Entry) : Type 0 where
     pub few : length bytes ≤ most_bytes p
     pub are_bytes : IsBytes bytes
-    pub is : e ≡ (file_plan hash p bytes).entry
-    pub held : Holds now (file_plan hash p bytes).blocks
+    pub is : e ≡ (file_plan hash p m bytes).entry
+    pub held : Holds now (file_plan hash p m bytes).blocks
 
-  -- the file of these bytes, whose first node has this CID; or it is too long, or the store itself fails
-  abbrev pub AdoptsFile : Profile → Cid → List ℕ → Told → Result Entry AdoptFault → Type 0
-  AdoptsFile p c bytes now (Ok e) = IsFileOver p bytes now e
-  AdoptsFile p c bytes now (Err (FileTooLong node)) = (node ≡ c) × (most_bytes p < length bytes)
-  AdoptsFile p c bytes now (Err (Store fault)) = IsStoreFailing fault
-  AdoptsFile p c bytes now (Err other) = ⊥
+  -- the file of this metadata and these bytes, whose first node has this CID; or it is too long, or the store itself
+  -- fails
+  abbrev pub AdoptsFile : Profile → Meta → Cid → List ℕ → Told → Result Entry AdoptFault → Type 0
+  AdoptsFile p m c bytes now (Ok e) = IsFileOver p m bytes now e
+  AdoptsFile p m c bytes now (Err (FileTooLong node)) = (node ≡ c) × (most_bytes p < length bytes)
+  AdoptsFile p m c bytes now (Err (Store fault)) = IsStoreFailing fault
+  AdoptsFile p m c bytes now (Err other) = ⊥

@@ -10,7 +10,7 @@ ghost use Rattle.uf_tree.specs.Profiles.{is_profile};
 ghost use Rattle.uf_tree.specs.Tree.{Tree};
 ghost use Rattle.uf_adopt.specs.Adopting.{Adopts, BuildsTree};
 ghost use Rattle.uf_adopt.specs.Feeding.{HoldsGoodMap};
-ghost use Rattle.uf_adopt.specs.Faults.{TellsStoreApart, adopt_fault};
+ghost use Rattle.uf_adopt.specs.Faults.{SavesNone, TellsStoreApart, adopt_fault};
 
 use crate::AdoptFault;
 use crate::folders::adopt_within;
@@ -38,6 +38,7 @@ pub fn adopt<S: Store, N: NameHash, L: Ledger>(
     ensures says { ByGoodBlocks S.X.block32 (S.seen store.old).told (λ held. Adopts S.X.block32 N.name64 p.now held
         limits.now (S.seen store.new).told cid.now result) }
     ensures apart { TellsStoreApart result }
+    ensures refused { SavesNone result (S.seen store.old).told (S.seen store.new).told }
     ensures cause { Shown S.X.block32 NoneIsBad (adopt_fault result) (S.seen store.old) (S.seen store.new) }
     ensures good { KeepsGood S.X.block32 (S.seen store.old).told (S.seen store.new).told }
     ensures saves { SavesOnly S.X.block32 (S.seen store.old).told (S.seen store.new).told }

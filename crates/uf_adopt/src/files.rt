@@ -6,6 +6,7 @@ ghost use Rattle.uf_cid.specs.declared.cid.Cid.{Cid as TheCid};
 ghost use Rattle.uf_lenient.specs.declared.shapes.Limits.{Limits as TheLimits};
 ghost use Rattle.uf_lenient.specs.Reading.{file_of};
 ghost use Rattle.uf_lenient.specs.Steps.{start_of};
+ghost use Rattle.uf_tree.specs.Metas.{is_meta};
 ghost use Rattle.uf_tree.specs.Profiles.{is_profile};
 ghost use Rattle.uf_adopt.specs.Faults.{OnlyAdopts};
 ghost use Rattle.uf_adopt.specs.Feeding.{AdoptsFile, FeedsAll, FeedsOne, HasFront, HoldsGoodMap, WasFed};
@@ -17,28 +18,30 @@ use uf_build::{BuildFault, Builder};
 use uf_cid::{Cid, slices_hold_bytes};
 use uf_lenient::{Limits, Pieces};
 use uf_store::{Steps, Store};
-use uf_tree::{Entry, Profile};
+use uf_tree::{Entry, Meta, Profile};
 
-// Builds the file that a CID denotes, of which one node is in memory at a time.
+// Builds the file that a CID denotes, with its metadata; one node of it is in memory at a time.
 pub fn adopt_file<S: Store, L: Ledger>(
     alloc: Global,
     store: &mut S,
     p: &Profile,
     cid: &Cid,
     limits: &Limits,
+    meta: &Meta,
     touches: &mut Steps<L>,
 ) -> Result<Entry, AdoptFault>
     requires profile { IsTrue (is_profile p.now) }
+    requires meta { IsTrue (is_meta meta.now) }
     ensures file { (held : Lookup) (bytes : List ℕ) → HoldsGoodMap S.X.block32 held (S.seen store.old).told
         → file_of held limits.now cid.now ≡ Ok bytes
-        → AdoptsFile S.X.block32 p.now cid.now bytes (S.seen store.new).told result }
+        → AdoptsFile S.X.block32 p.now meta.now cid.now bytes (S.seen store.new).told result }
     ensures adopts { OnlyAdopts S.X.block32 result (S.seen store.old) (S.seen store.new) }
     ensures touched { OnOk result (touches.old ≤ touches.new) }
 {
     let mut builder = Builder::new(alloc, *p);
     let mut pieces = Pieces::new(alloc, cid, limits)?;
     feed_all(store, cid, &mut pieces, &mut builder, touches)?;
-    close(store, builder, touches)
+    close(store, builder, meta, touches)
 }
 
 // Feeds the builder all pieces of the file whose first node has this CID.
@@ -92,19 +95,21 @@ fn feed_one<S: Store, L: Ledger>(
     }
 }
 
-// Saves what is left of the file that the builder was fed.
+// Saves what is left of the file that the builder was fed, with this metadata.
 fn close<S: Store, L: Ledger>(
     store: &mut S,
     builder: Builder,
+    meta: &Meta,
     touches: &mut Steps<L>,
 ) -> Result<Entry, AdoptFault>
     requires not_spent { builder.is_spent ≡ false }
+    requires meta { IsTrue (is_meta meta.now) }
     ensures file { (c : TheCid) (bytes : List ℕ) → HasFront S.X.block32 (S.seen store.old).told bytes builder
-        → AdoptsFile S.X.block32 builder.profile c bytes (S.seen store.new).told result }
+        → AdoptsFile S.X.block32 builder.profile meta.now c bytes (S.seen store.new).told result }
     ensures adopts { OnlyAdopts S.X.block32 result (S.seen store.old) (S.seen store.new) }
     ensures touched { OnOk result (WasFed S.X.block32 builder → touches.old ≤ touches.new + saved_by builder) }
 {
-    match builder.finish(store, touches) {
+    match builder.finish_with(meta, store, touches) {
         Ok(entry) => Ok(entry),
         Err(BuildFault::FileTooLong) => unreachable!(),
         Err(BuildFault::Spent) => unreachable!(),

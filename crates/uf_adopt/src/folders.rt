@@ -43,11 +43,11 @@ pub fn adopt_within<S: Store, N: NameHash, L: Ledger>(
         return Err(AdoptFault::Dag(DagFault::TooDeep(*cid)));
     }
     match shallow(alloc, store, cid, limits, touches)? {
-        Shape::File => adopt_file(alloc, store, p, cid, limits, touches),
-        Shape::Folder(ways) => {
+        Shape::File(meta) => adopt_file(alloc, store, p, cid, limits, &meta, touches),
+        Shape::Folder(meta, ways) => {
             let ways = ways.as_slice();
             let pairs = adopt_each::<S, N, L>(alloc, store, p, ways, limits, room - 1, touches)?;
-            Ok(uf_dir::build::<S, N, L>(alloc, store, p, &pairs, touches)?)
+            Ok(uf_dir::build::<S, N, L>(alloc, store, p, &pairs, &meta, touches)?)
         }
     }
 }

@@ -7,13 +7,13 @@ use Rattle.std.proofs.lemmas.Bool.{cases_lt}
 use Rattle.std.proofs.lemmas.Bool.Decides.{nat_tests}
 use Rattle.uf_cid.specs.Blocks.{Held}
 use Rattle.uf_tree.specs.Cutting.{joined}
-use Rattle.uf_tree.specs.FilePlan.{split_from, groups, climb, node_part, node_held, leaf_part}
+use Rattle.uf_tree.specs.FilePlan.{groups, climb, with_row, node_part, node_held, top_part, top_held}
+use Rattle.uf_tree.specs.declared.meta.Meta.{Meta}
 use Rattle.uf_tree.specs.declared.nodes.Part.{Part}
-use Rattle.uf_tree.proofs.Climb.{climb-fuel}
+use Rattle.uf_tree.proofs.Climb.{climb-fuel, climb-more, climb-one, groups-fewer}
 use Rattle.uf_tree.proofs.Each.{both}
-use Rattle.uf_tree.proofs.Groups.{fewer}
-use Rattle.uf_build.proofs.Cutting.{groups-full, groups-exact}
-use Rattle.uf_build.specs.Rows.{push_row, push_held, carry, carry_held, close, close_held, is_none, members, saved_over, AreRows}
+use Rattle.uf_build.proofs.Cutting.{groups-full}
+use Rattle.uf_build.specs.Rows.{push_row, push_held, add_row, add_held, close, close_held, close_all, close_all_held, members, saved_over, saved_all, AreAll, AreRows}
 
 pub is_below : (n m : ℕ) → n < m → nat_lt n m ≡ true
 is_below n m h = grind (arith, nat_tests)
@@ -28,48 +28,13 @@ pub joined-push : {A : Type 0} (full : List (List A)) (f : List A) → joined (f
 joined-push [] f = append-nil f
 joined-push (e ∷ full) f = ap (λ l. e ++ l) (joined-push full f) ∙ sym (append_assoc e (joined full) f)
 
--- the rows above a row and the part that stands in the end
-abbrev pub over : (List ℕ → List ℕ) → ℕ → List Part → List Held × Part
-over X w [] = ([], leaf_part X [])
-over X w (m ∷ ms) = climb X w (length ms) m ms
+-- the blocks above a row and the part that stands in the end
+abbrev pub over : (List ℕ → List ℕ) → Meta → ℕ → List Part → List Held × Part
+over X meta w row = let under = climb X w (length row) row in (under.0 ++ top_held X meta under.1, top_part X meta under.1)
 
 module _ (X : List ℕ → List ℕ) (w : ℕ) (two : 2 ≤ w) where
   abbrev IsFull : List Part → Type 0
   IsFull f = length f ≡ w
-
-  -- what stands over the nodes of some groups, with those nodes
-  abbrev above : List (List Part) → List Held × Part
-  above gs = (map (node_held X) gs ++ (over X w (map (node_part X) gs)).0, (over X w (map (node_part X) gs)).1)
-
-  -- one row up
-  over-two : (row : List Part) → 2 ≤ length row
-      → over X w row ≡ above (groups w row)
-  unfolding climb
-  over-two [] h = absurd (omega arith)
-  over-two (m ∷ []) h = absurd (omega arith)
-  over-two (m ∷ n ∷ ms) h = let s = split_from w w (m ∷ n ∷ ms) in
-      ap (λ (z : List Held × Part). (map (node_held X) (s.0 ∷ s.1) ++ z.0, z.1)) (climb-fuel X w (length ms) (length (map (node_part X) s.1)) (node_part X s.0) (map (node_part X) s.1) two
-      (omega (arith, length-map s.1 (node_part X), fewer w m n ms two)) (omega arith))
-
-  over-one : (m : Part) → over X w (m ∷ []) ≡ ([], m)
-  unfolding climb
-  over-one m = refl
-
-  many-joined : (full : List (List Part)) → AllByRecursion IsFull full → 2 * length full ≤ length (joined full)
-  many-joined [] h = omega arith
-  many-joined (f ∷ full) h = omega (arith, many-joined full h.1, length-append f (joined full), h.0)
-
-  some-full : (full : List (List Part)) → 1 ≤ length (joined full) → 1 ≤ length full
-  some-full [] h = absurd (omega arith)
-  some-full (f ∷ full) h = omega arith
-
-  over-exact : (full : List (List Part)) → AllByRecursion IsFull full → 1 ≤ length (joined full) → over X w (joined full) ≡ above full
-  over-exact [] h j = absurd (omega arith)
-  over-exact (f ∷ full) h j = over-two (joined (f ∷ full)) (omega (arith, many-joined (f ∷ full) h)) ∙ ap above (groups-exact w (omega arith) f full h)
-
-  over-full : (full : List (List Part)) (o : List Part) → AllByRecursion IsFull full → 1 ≤ length o → length o ≤ w → 2 ≤ length (joined full ++ o)
-      → over X w (joined full ++ o) ≡ above (full ++ o ∷ [])
-  over-full full o h j k l = over-two (joined full ++ o) l ∙ ap above (groups-full w (omega arith) full o h j k)
 
   length-full : (full : List (List Part)) → AllByRecursion IsFull full → length (joined full) ≡ w * length full
   length-full [] h = omega arith
@@ -137,78 +102,105 @@ module _ (X : List ℕ → List ℕ) (w : ℕ) (two : 2 ≤ w) where
               subst (λ r. AreRows X w P r (push_row X w node gs)) (sym (map-append (node_part X) h.0 ((g ++ m ∷ []) ∷ []))) (later held.1),
             )
 
-    -- the part that stands over a row, and P of the nodes above it, of which there are so many
-    abbrev Stands : List Part → ℕ → List Part → Type 0
-    Stands row n top = (top ≡ (over X w row).1 ∷ []) × Each (over X w row).0 × (length (over X w row).0 ≡ n)
+    -- all rows after one more part
+    pub all-add : (rows : List (List Part)) (row : List Part) (m : Part) → Each (add_held X w m rows) → AreAll X w P row rows → AreAll X w P (row ++ m ∷ []) (add_row X w m rows)
+    all-add [] row m each h = ([], ap (λ r. r ++ m ∷ []) h, omega arith, λ some. omega arith, refl)
+    all-add ([] ∷ gs) row m each h = (row, refl, omega arith, λ some. omega arith, subst (λ r. AreRows X w P r gs) (sym (h.1 ∙ append-nil h.0)) h.4)
+    all-add ((n ∷ []) ∷ gs) row m each h =
+        (row, refl, omega arith, λ some. omega arith, subst (λ r. AreRows X w P r (push_row X w n gs)) (sym h.1) (rows-push gs h.0 n each h.4))
+    all-add ((n ∷ k ∷ ns) ∷ gs) row m each h = absurd (omega (arith, h.2))
 
-    Stands-one : (m : Part) → Stands (m ∷ []) 0 (m ∷ [])
-    Stands-one m = subst (λ (z : List Held × Part). ((m ∷ []) ≡ z.1 ∷ []) × Each z.0 × (length z.0 ≡ 0)) (sym (over-one m)) (refl, tt, refl)
+    module _ (meta : Meta) where
+      -- what stands over the nodes of some groups, with those nodes
+      abbrev above : List (List Part) → List Held × Part
+      above gs = (map (node_held X) gs ++ (over X meta w (map (node_part X) gs)).0, (over X meta w (map (node_part X) gs)).1)
 
-    Stands-above : (row : List Part) (gs : List (List Part)) (n k : ℕ) (top : List Part) → over X w row ≡ above gs → Each (map (node_held X) gs) → length gs + n ≡ k
-        → Stands (map (node_part X) gs) n top → Stands row k top
-    Stands-above row gs n k top e held sum stands =
-        subst (λ (z : List Held × Part). (top ≡ z.1 ∷ []) × Each z.0 × (length z.0 ≡ k)) (sym e) (
-          stands.0,
-          both P (map (node_held X) gs) _ held stands.1,
-          length-append (map (node_held X) gs) (over X w (map (node_part X) gs)).0 ∙ omega (arith, length-map gs (node_held X), stands.2, sum),
-        )
+      abbrev with_top : List Held × List Part → List Held × Part
+      with_top under = (under.0 ++ top_held X meta under.1, top_part X meta under.1)
 
-    -- how many nodes stand above a row after it was closed
-    abbrev closed : List (List Part) → List Part → ℕ
-    closed rows c = saved_above rows + length (close_held X w rows c)
+      -- one row up
+      over-more : (row : List Part) → w < length row → over X meta w row ≡ above (groups w row)
+      over-more row more =
+          let up : List Part = map (node_part X) (groups w row) in
+          let less : length up < length row = omega (arith, length-map (groups w row) (node_part X), groups-fewer w row two (omega arith)) in
+          let climbs : climb X w (length row) row ≡ with_row (map (node_held X) (groups w row)) (climb X w (length up) up) =
+          climb-fuel X w (length row) (suc (length row)) row two (omega arith) (omega arith)
+          ∙ climb-more X w (length row) row (omega arith) more
+          ∙ ap (with_row (map (node_held X) (groups w row))) (climb-fuel X w (length row) (length up) up two (omega arith) (omega arith)) in
+          ap with_top climbs
+          ∙ ap (λ (l : List Held). (l, (over X meta w up).1)) (append_assoc (map (node_held X) (groups w row)) (climb X w (length up) up).0 (top_held X meta (climb X w (length up) up).1))
 
-    -- what the builder answers is what stands over the whole row
-    pub close-over : (rows : List (List Part)) (row c : List Part) → AreRows X w P row rows → length c ≤ 1 → 1 ≤ length row + length c
-        → Each (close_held X w rows c) → Stands (row ++ c) (closed rows c) (close X w rows c)
-    close-over [] row [] h k j each = absurd (omega (arith, ap length h))
-    close-over [] row (m ∷ []) h k j each = subst (λ r. Stands (r ++ m ∷ []) 0 (m ∷ [])) (sym h) (Stands-one m)
-    close-over [] row (m ∷ n ∷ c) h k j each = absurd (omega arith)
-    close-over (g ∷ gs) row c h k j each = by (g ++ c) gs refl refl each (λ d p q later. close-over gs (map (node_part X) h.0) d h.6 p q later)
-      where
-        full : List (List Part)
-        full = h.0
+      over-one : (row : List Part) → length row ≤ w → over X meta w row ≡ (top_held X meta row, top_part X meta row)
+      over-one row le = ap with_top (climb-one X w (length row) row le)
 
-        again : row ++ c ≡ joined full ++ (g ++ c)
-        again = ap (λ r. r ++ c) h.1 ∙ append_assoc (joined full) g c
+      over-full : (full : List (List Part)) (o : List Part) → AllByRecursion IsFull full → 1 ≤ length o → length o ≤ w → 1 ≤ length full
+          → over X meta w (joined full ++ o) ≡ above (full ++ o ∷ [])
+      over-full full o h j k some = over-more (joined full ++ o) (longer full h some) ∙ ap above (groups-full w (omega arith) full o h j k)
+        where
+          longer : (full : List (List Part)) → AllByRecursion IsFull full → 1 ≤ length full → w < length (joined full ++ o)
+          longer [] h some = absurd (omega arith)
+          longer (f ∷ full) h some = omega (arith, h.0, j, length-append f (joined full), length-append (joined (f ∷ full)) o)
 
-        size : length (g ++ c) ≤ w
-        size = omega (arith, length-append g c, h.3)
+      -- the part that stands over a row, and P of the nodes above it, of which there are so many
+      abbrev pub Stands : List Part → ℕ → Part → Type 0
+      Stands row n top = (top ≡ (over X meta w row).1) × Each (over X meta w row).0 × (length (over X meta w row).0 ≡ n)
 
-        count : saved_over w gs ≡ length full + saved_above gs
-        count = saved-split gs ∙ ap (λ n. n + saved_above gs) (sym (row-members P gs (map (node_part X) full) h.6) ∙ length-map full (node_part X))
+      Stands-one : (row : List Part) → length row ≤ w → Each (top_held X meta row) → Stands row (length (top_held X meta row)) (top_part X meta row)
+      Stands-one row le each =
+          subst (λ (z : List Held × Part). (top_part X meta row ≡ z.1) × Each z.0 × (length z.0 ≡ length (top_held X meta row))) (sym (over-one row le)) (refl, each, refl)
 
-        -- a last group goes up as a node
-        goes_up : (o : List Part) (d : List Part) → g ++ c ≡ o → 1 ≤ length o → 2 ≤ length (joined full ++ o) → P (node_held X o)
-            → Stands (map (node_part X) full ++ node_part X o ∷ []) (closed gs d) (close X w gs d) → Stands (row ++ c) (saved_over w gs + suc (length (close_held X w gs d))) (close X w gs d)
-        goes_up o d e some many held stands =
-            let whole : row ++ c ≡ joined full ++ o = again ∙ ap (λ o. joined full ++ o) e in
-            let fits : length o ≤ w = omega (arith, ap length e, size) in
-            subst (λ r. Stands r (saved_over w gs + suc (length (close_held X w gs d))) (close X w gs d)) (sym whole)
-            (Stands-above (joined full ++ o) (full ++ o ∷ []) (closed gs d) _ (close X w gs d) (over-full full o h.2 some fits many) (Each-push full o h.5 held)
-            (omega (arith, count, length-push full o))
-            (subst (λ r. Stands r (closed gs d) (close X w gs d)) (sym (map-append (node_part X) full (o ∷ []))) stands))
+      Stands-above : (row : List Part) (gs : List (List Part)) (n k : ℕ) (top : Part) → over X meta w row ≡ above gs → Each (map (node_held X) gs) → length gs + n ≡ k
+          → Stands (map (node_part X) gs) n top → Stands row k top
+      Stands-above row gs n k top e held sum stands =
+          subst (λ (z : List Held × Part). (top ≡ z.1) × Each z.0 × (length z.0 ≡ k)) (sym e) (
+            stands.0,
+            both P (map (node_held X) gs) _ held stands.1,
+            length-append (map (node_held X) gs) (over X meta w (map (node_part X) gs)).0 ∙ omega (arith, length-map gs (node_held X), stands.2, sum),
+          )
 
-        by : (o : List Part) (rest : List (List Part)) → g ++ c ≡ o → gs ≡ rest → Each (carry_held X (is_none rest) o ++ close_held X w gs (carry X (is_none rest) o))
-            → ((d : List Part) → length d ≤ 1 → 1 ≤ length (map (node_part X) full) + length d → Each (close_held X w gs d) → Stands (map (node_part X) full ++ d) (closed gs d) (close X w gs d))
-            → Stands (row ++ c) (saved_over w gs + length (carry_held X (is_none rest) o ++ close_held X w gs (carry X (is_none rest) o))) (close X w gs (carry X (is_none rest) o))
-        by [] rest e f now later =
-            let whole : row ++ c ≡ joined full = again ∙ ap (λ o. joined full ++ o) e ∙ append-nil (joined full) in
-            let some : 1 ≤ length (joined full) = omega (arith, ap length whole, length-append row c, j) in
-            let row_some : 1 ≤ length (map (node_part X) full) = omega (arith, length-map full (node_part X), some-full full some) in
-            let stands = later [] (omega arith) (omega arith) now in
-            subst (λ r. Stands r (saved_over w gs + length (close_held X w gs [])) (close X w gs [])) (sym whole)
-            (Stands-above (joined full) full (closed gs []) _ (close X w gs []) (over-exact full h.2 some) h.5 (omega (arith, count))
-            (subst (λ r. Stands r (closed gs []) (close X w gs [])) (append-nil (map (node_part X) full)) stands))
-        by (m ∷ []) [] e f now later =
-            let none : full ≡ [] = none-above full (subst (λ gs. AreRows X w P (map (node_part X) full) gs) f h.6) in
-            let whole : row ++ c ≡ m ∷ [] = again ∙ ap (λ full. joined full ++ (g ++ c)) none ∙ e in
-            subst (λ r. Stands r (saved_over w gs + length (close_held X w gs (m ∷ []))) (close X w gs (m ∷ []))) (sym whole)
-            (subst (λ gs. Stands (m ∷ []) (saved_over w gs + length (close_held X w gs (m ∷ []))) (close X w gs (m ∷ []))) (sym f) (Stands-one m))
-        by (m ∷ []) (g' ∷ gs') e f now later =
-            let above = (subst (λ gs. AreRows X w P (map (node_part X) full) gs) f h.6).4 in
-            goes_up (m ∷ []) (node_part X (m ∷ []) ∷ []) e (omega arith)
-            (omega (arith, length-append (joined full) (m ∷ []), many-joined full h.2, length-map full (node_part X), above))
-            now.0 (later (node_part X (m ∷ []) ∷ []) (omega arith) (omega arith) now.1)
-        by (m ∷ n ∷ ms) rest e f now later =
-            goes_up (m ∷ n ∷ ms) (node_part X (m ∷ n ∷ ms) ∷ []) e (omega arith) (omega (arith, length-append (joined full) (m ∷ n ∷ ms)))
-            now.0 (later (node_part X (m ∷ n ∷ ms) ∷ []) (omega arith) (omega arith) now.1)
+      -- how many nodes stand above a row after it was closed
+      abbrev closed : List (List Part) → Part → ℕ
+      closed rows c = saved_above rows + length (close_held X meta rows c)
+
+      -- what the builder answers is what stands over the whole row
+      close-over : (g : List Part) (gs : List (List Part)) (row : List Part) (c : Part) → AreRows X w P row (g ∷ gs) → Each (close_held X meta (g ∷ gs) c)
+          → Stands (row ++ c ∷ []) (closed (g ∷ gs) c) (close X meta (g ∷ gs) c)
+      close-over g [] row c h each =
+          let none : h.0 ≡ [] = none-above h.0 h.6 in
+          let whole : row ++ c ∷ [] ≡ g ++ c ∷ [] = ap (λ r. r ++ c ∷ []) (h.1 ∙ ap (λ full. joined full ++ g) none) in
+          let same : top_held X meta (g ++ c ∷ []) ++ [] ≡ top_held X meta (g ++ c ∷ []) = append-nil _ in
+          let stands = Stands-one (g ++ c ∷ []) (omega (arith, length-push g c, h.3)) (subst Each same each) in
+          let sum : length (top_held X meta (g ++ c ∷ []) ++ []) ≡ closed (g ∷ []) c = omega arith in
+          subst (λ r. Stands r (closed (g ∷ []) c) (top_part X meta (g ++ c ∷ []))) (sym whole)
+          (subst (λ n. Stands (g ++ c ∷ []) n (top_part X meta (g ++ c ∷ []))) sum
+          (subst (λ (l : List Held). Stands (g ++ c ∷ []) (length l) (top_part X meta (g ++ c ∷ []))) (sym same) stands))
+      close-over g (g' ∷ gs') row c h each =
+          let full : List (List Part) = h.0 in
+          let o : List Part = g ++ c ∷ [] in
+          let d : Part = node_part X o in
+          let gs : List (List Part) = g' ∷ gs' in
+          let again : row ++ c ∷ [] ≡ joined full ++ o = ap (λ r. r ++ c ∷ []) h.1 ∙ append_assoc (joined full) g (c ∷ []) in
+          let count : saved_over w gs ≡ length full + saved_above gs =
+          saved-split gs ∙ ap (λ n. n + saved_above gs) (sym (row-members P gs (map (node_part X) full) h.6) ∙ length-map full (node_part X)) in
+          let many : 1 ≤ length full = omega (arith, length-map full (node_part X), h.6.4) in
+          let stands : Stands (map (node_part X) full ++ d ∷ []) (closed gs d) (close X meta gs d) = close-over g' gs' (map (node_part X) full) d h.6 each.1 in
+          subst (λ r. Stands r (saved_over w gs + suc (length (close_held X meta gs d))) (close X meta gs d)) (sym again)
+          (Stands-above (joined full ++ o) (full ++ o ∷ []) (closed gs d) _ (close X meta gs d)
+          (over-full full o h.2 (omega (arith, length-push g c)) (omega (arith, length-push g c, h.3)) many) (Each-push full o h.5 each.0)
+          (omega (arith, count, length-push full o))
+          (subst (λ r. Stands r (closed gs d) (close X meta gs d)) (sym (map-append (node_part X) full (o ∷ []))) stands))
+
+      -- the same of all rows behind the last part
+      pub all-over : (rows : List (List Part)) (row : List Part) → AreAll X w P row rows → 1 ≤ length row → Each (close_all_held X meta rows)
+          → (close_all X meta rows ≡ (over X meta w row).1 ∷ []) × Each (over X meta w row).0 × (saved_all w rows + length (close_all_held X meta rows) ≡ length row + length (over X meta w row).0)
+      all-over [] row h some each = absurd (omega (arith, ap length h))
+      all-over ([] ∷ gs) row h some each = absurd (omega (arith, h.3 some))
+      all-over ((m ∷ []) ∷ []) row h some each =
+          let whole : row ≡ m ∷ [] = h.1 ∙ ap (λ r. r ++ m ∷ []) h.4 in
+          let same : top_held X meta (m ∷ []) ++ [] ≡ top_held X meta (m ∷ []) = append-nil _ in
+          let stands = subst (λ r. Stands r (length (top_held X meta (m ∷ []))) (top_part X meta (m ∷ []))) (sym whole) (Stands-one (m ∷ []) (omega arith) (subst Each same each)) in
+          (ap (λ (t : Part). t ∷ []) stands.0, stands.1, omega (arith, ap length whole, ap length same, stands.2))
+      all-over ((m ∷ []) ∷ g ∷ gs) row h some each =
+          let stands = subst (λ r. Stands r (closed (g ∷ gs) m) (close X meta (g ∷ gs) m)) (sym h.1) (close-over g gs h.0 m h.4 each) in
+          (ap (λ (t : Part). t ∷ []) stands.0, stands.1, omega (arith, ap length h.1, length-push h.0 m, row-members P (g ∷ gs) h.0 h.4, stands.2))
+      all-over ((m ∷ n ∷ ms) ∷ gs) row h some each = absurd (omega (arith, h.2))

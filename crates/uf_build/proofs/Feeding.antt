@@ -14,9 +14,9 @@ use Rattle.uf_tree.specs.declared.nodes.Part.{Part}
 use Rattle.uf_tree.specs.declared.profile.Profile.{Profile}
 use Rattle.uf_tree.proofs.Each.{both}
 use Rattle.uf_build.specs.Building.{ArePieces, Builds, Any, IsHeld, Adds, Feeds}
-use Rattle.uf_build.specs.Rows.{AreRows, AreShort, AreOpen, members, saved_over, size_of, sizes_of, push_row, push_held, push_up, held_up}
-use Rattle.uf_build.proofs.Carry.{rows-push, joined-push, length-push, is_below, not_below}
-use Rattle.uf_build.proofs.Counting.{members-push, saved-push}
+use Rattle.uf_build.specs.Rows.{AreAll, AreRows, AreShort, AreShortBehind, AreOpen, last_in, saved_all, size_of, sizes_of, push_row, add_row, add_held}
+use Rattle.uf_build.proofs.Carry.{all-add, joined-push, length-push, is_below, not_below}
+use Rattle.uf_build.proofs.Counting.{saved-add}
 use Rattle.uf_build.proofs.Holding.{each-held}
 use Rattle.uf_build.proofs.Up.{size-push}
 
@@ -41,6 +41,23 @@ module _ (X : List ℕ → List ℕ) (w : ℕ) (two : 2 ≤ w) where
           ap (λ b. sizes_of (cond b ((g ++ m ∷ []) ∷ gs) ([] ∷ push_row X w (node_part X (g ++ m ∷ [])) gs))) (not_below _ w long)
           ∙ omega (arith, later, sum_by-cons size_of [] (push_row X w (node_part X (g ++ m ∷ [])) gs), sum_by-cons size_of g gs, size-push g m)
 
+  pub short-add : (rows : List (List Part)) (m : Part) → AreShortBehind w rows → AreShortBehind w (add_row X w m rows)
+  short-add [] m h = (omega arith, tt)
+  short-add ([] ∷ gs) m h = (omega arith, h.1)
+  short-add ((n ∷ ns) ∷ gs) m h = (omega arith, short-push gs n h.1)
+
+  pub sizes-add : (rows : List (List Part)) (m : Part) → AreShortBehind w rows → sizes_of (add_row X w m rows) ≡ sizes_of rows + m.size
+  sizes-add [] m h = omega (arith, sum_by-cons size_of (m ∷ []) [], sum_by-cons (λ (m : Part). m.size) m [])
+  sizes-add ([] ∷ gs) m h = omega (arith, sum_by-cons size_of (m ∷ []) gs, sum_by-cons size_of [] gs, sum_by-cons (λ (m : Part). m.size) m [])
+  sizes-add ((n ∷ []) ∷ gs) m h =
+      omega (arith, sizes-push gs n, sum_by-cons size_of (m ∷ []) (push_row X w n gs), sum_by-cons size_of (n ∷ []) gs, sum_by-cons (λ (m : Part). m.size) m [], sum_by-cons (λ (m : Part). m.size) n [])
+  sizes-add ((n ∷ k ∷ ns) ∷ gs) m h = absurd (omega (arith, h.0))
+
+  pub last-add : (rows : List (List Part)) (m : Part) → length (last_in (add_row X w m rows)) ≡ 1
+  last-add [] m = refl
+  last-add ([] ∷ gs) m = refl
+  last-add ((n ∷ ns) ∷ gs) m = refl
+
 module _ (X : List ℕ → List ℕ) (w : ℕ) (P Q : Held → Type 0) (up : (b : Held) → X b.1 ≡ b.0.digest → P b → Q b) where
   nodes-mono : (full : List (List Part)) → AllByRecursion P (map (node_held X) full) → AllByRecursion Q (map (node_held X) full)
   nodes-mono [] h = tt
@@ -54,10 +71,14 @@ module _ (X : List ℕ → List ℕ) (w : ℕ) (P Q : Held → Type 0) (up : (b 
   rows-mono [] row h = h
   rows-mono (g ∷ gs) row h = (h.0, h.1, h.2, h.3, h.4, nodes-mono h.0 h.5, rows-mono gs (map (node_part X) h.0) h.6)
 
+  all-mono : (rows : List (List Part)) (row : List Part) → AreAll X w P row rows → AreAll X w Q row rows
+  all-mono [] row h = h
+  all-mono (g ∷ gs) row h = (h.0, h.1, h.2, h.3, rows-mono gs h.0 h.4)
+
 module _ (X : List ℕ → List ℕ) (p : Profile) where
   pub pieces-mono : (P Q : Held → Type 0) → ((b : Held) → X b.1 ≡ b.0.digest → P b → Q b) → (pieces : List (List ℕ)) (rows : List (List Part))
       → ArePieces X P p pieces rows → ArePieces X Q p pieces rows
-  pieces-mono P Q up pieces rows h = record { held = leaves-mono X p.width P Q up pieces h.held; rows_are = rows-mono X p.width P Q up rows (map (leaf_part X) pieces) h.rows_are }
+  pieces-mono P Q up pieces rows h = record { held = leaves-mono X p.width P Q up pieces h.held; rows_are = all-mono X p.width P Q up rows (map (leaf_part X) pieces) h.rows_are }
 
   pub builds-mono : (P Q : Held → Type 0) → ((b : Held) → X b.1 ≡ b.0.digest → P b → Q b) → (bytes begun : List ℕ) (rows : List (List Part)) → Builds X P p bytes begun rows → Builds X Q p bytes begun rows
   builds-mono P Q up bytes begun rows h = record { pieces = h.pieces; cut = h.cut; whole = h.whole; are_pieces = pieces-mono P Q up h.pieces rows h.are_pieces }
@@ -67,40 +88,38 @@ module _ (X : List ℕ → List ℕ) (p : Profile) where
 
 module _ (X : List ℕ → List ℕ) (p : Profile) (two : 2 ≤ p.width) where
   -- one piece more
-  pub pieces-push : (P : Held → Type 0) (pieces : List (List ℕ)) (piece : List ℕ) (rows : List (List Part)) → P (leaf_held X piece) → AllByRecursion P (push_held X p.width (leaf_part X piece) rows)
-      → ArePieces X P p pieces rows → ArePieces X P p (pieces ++ piece ∷ []) (push_row X p.width (leaf_part X piece) rows)
-  pieces-push P pieces piece rows leaf nodes h = record {
+  pub pieces-add : (P : Held → Type 0) (pieces : List (List ℕ)) (piece : List ℕ) (rows : List (List Part)) → P (leaf_held X piece) → AllByRecursion P (add_held X p.width (leaf_part X piece) rows)
+      → ArePieces X P p pieces rows → ArePieces X P p (pieces ++ piece ∷ []) (add_row X p.width (leaf_part X piece) rows)
+  pieces-add P pieces piece rows leaf nodes h = record {
     held = subst (AllByRecursion P) (sym (map-append (leaf_held X) pieces (piece ∷ []))) (both P (map (leaf_held X) pieces) (leaf_held X piece ∷ []) h.held (leaf, tt));
-    rows_are = subst (λ r. AreRows X p.width P r (push_row X p.width (leaf_part X piece) rows)) (sym (map-append (leaf_part X) pieces (piece ∷ [])))
-        (rows-push X p.width two P rows (map (leaf_part X) pieces) (leaf_part X piece) nodes h.rows_are);
+    rows_are = subst (λ r. AreAll X p.width P r (add_row X p.width (leaf_part X piece) rows)) (sym (map-append (leaf_part X) pieces (piece ∷ [])))
+        (all-add X p.width two P rows (map (leaf_part X) pieces) (leaf_part X piece) nodes h.rows_are);
   }
 
   pub any : (l : List Held) → AllByRecursion Any l
   any [] = tt
   any (b ∷ l) = (tt, any l)
 
-  pub Adds-push : (piece : List ℕ) (part : Part) (rows rows_now : List (List Part)) (told told_mid told_now : Told) (touches touches_now : ℕ) → AreOpen p.width rows → part ≡ leaf_part X piece
-      → rows_now ≡ push_up X p.width 0 part rows → KeepsGood X told told_mid → KeepsGood X told_mid told_now → Holds told_mid (leaf_held X piece ∷ []) → Holds told_now (held_up X p.width 0 part rows)
-      → touches_now ≡ touches + 1 + length (held_up X p.width 0 part rows) → Adds X p piece rows rows_now told told_now touches touches_now
-  Adds-push piece part rows rows_now told told_mid told_now touches touches_now are_open made pushed first then leaf nodes count =
-      let now : rows_now ≡ push_row X p.width (leaf_part X piece) rows = pushed ∙ ap (λ m. push_row X p.width m rows) made in
-      let held = subst (λ m. Holds told_now (push_held X p.width m rows)) made nodes in
-      let more = members-push X p.width rows (leaf_part X piece) are_open.short in
-      let count_now : touches_now ≡ touches + 1 + length (push_held X p.width (leaf_part X piece) rows) = subst (λ m. touches_now ≡ touches + 1 + length (push_held X p.width m rows)) made count in
-      let some : length (push_row X p.width (leaf_part X piece) rows) ≤ members p.width (push_row X p.width (leaf_part X piece) rows) = omega (arith, more.0, more.1, are_open.some) in
+  pub Adds-add : (piece : List ℕ) (part : Part) (rows rows_now : List (List Part)) (told told_mid told_now : Told) (touches touches_now : ℕ) → AreOpen p.width rows → part ≡ leaf_part X piece
+      → rows_now ≡ add_row X p.width part rows → KeepsGood X told told_mid → KeepsGood X told_mid told_now → Holds told_mid (leaf_held X piece ∷ []) → Holds told_now (add_held X p.width part rows)
+      → touches_now ≡ touches + 1 + length (add_held X p.width part rows) → Adds X p piece rows rows_now told told_now touches touches_now
+  Adds-add piece part rows rows_now told told_mid told_now touches touches_now are_open made added first then leaf nodes count =
+      let now : rows_now ≡ add_row X p.width (leaf_part X piece) rows = added ∙ ap (λ m. add_row X p.width m rows) made in
+      let held = subst (λ m. Holds told_now (add_held X p.width m rows)) made nodes in
+      let count_now : touches_now ≡ touches + 1 + length (add_held X p.width (leaf_part X piece) rows) = subst (λ m. touches_now ≡ touches + 1 + length (add_held X p.width m rows)) made count in
       record {
-        are_open = subst (AreOpen p.width) (sym now) (record { short = short-push X p.width two rows (leaf_part X piece) are_open.short; some = some });
+        are_open = subst (AreOpen p.width) (sym now) (record { short = short-add X p.width two rows (leaf_part X piece) are_open.short });
         saves = omega (
           arith,
           count_now,
-          ap (saved_over p.width) now,
-          saved-push X p.width rows (leaf_part X piece) are_open.short,
+          ap (saved_all p.width) now,
+          saved-add X p.width rows (leaf_part X piece) are_open.short,
         );
-        some = omega (arith, ap (members p.width) now, more.0);
-        sizes = ap sizes_of now ∙ sizes-push X p.width two rows (leaf_part X piece);
-        fed = λ pieces h. subst (ArePieces X Any p (pieces ++ piece ∷ [])) (sym now) (pieces-push Any pieces piece rows tt (any _) h);
+        some = omega (arith, ap (λ rows. length (last_in rows)) now, last-add X p.width two rows (leaf_part X piece));
+        sizes = ap sizes_of now ∙ sizes-add X p.width two rows (leaf_part X piece) are_open.short;
+        fed = λ pieces h. subst (ArePieces X Any p (pieces ++ piece ∷ [])) (sym now) (pieces-add Any pieces piece rows tt (any _) h);
         held = λ pieces h. subst (ArePieces X (IsHeld told_now) p (pieces ++ piece ∷ [])) (sym now)
-            (pieces-push (IsHeld told_now) pieces piece rows (held-mono X p told_mid told_now then (leaf_held X piece) refl leaf) (each-held told_now _ held)
+            (pieces-add (IsHeld told_now) pieces piece rows (held-mono X p told_mid told_now then (leaf_held X piece) refl leaf) (each-held told_now _ held)
             (pieces-mono X p (IsHeld told) (IsHeld told_now) (held-mono X p told told_now (KeepsGood-trans X told told_mid told_now first then)) pieces rows h));
       }
 
@@ -157,10 +176,10 @@ module _ (X : List ℕ → List ℕ) (p : Profile) (two : 2 ≤ p.width) where
   }
 
 -- at first
-pub builds-new : (X : List ℕ → List ℕ) (P : Held → Type 0) (p : Profile) (begun : List ℕ) (rows : List (List Part)) → begun ≡ [] → rows ≡ [] → Builds X P p [] begun rows
+pub builds-new : (X : List ℕ → List ℕ) (P : Held → Type 0) (p : Profile) (begun : List ℕ) (rows : List (List Part)) → begun ≡ [] → rows ≡ [] ∷ [] → Builds X P p [] begun rows
 builds-new X P p begun rows none no_rows = record {
   pieces = [];
   cut = sym none;
   whole = tt;
-  are_pieces = record { held = tt; rows_are = subst (λ rows. AreRows X p.width P [] rows) (sym no_rows) refl };
+  are_pieces = record { held = tt; rows_are = subst (λ rows. AreAll X p.width P [] rows) (sym no_rows) ([], refl, omega arith, λ some. some, refl) };
 }

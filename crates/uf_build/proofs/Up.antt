@@ -6,7 +6,9 @@ use Rattle.std.proofs.Math.ListN.{length-set}
 use Rattle.std.proofs.lemmas.Bool.{cases_eq}
 use Rattle.std.proofs.lemmas.Bool.Decides.{nat_tests}
 use Rattle.uf_cid.specs.Blocks.{Held}
-use Rattle.uf_tree.specs.FilePlan.{node_part, node_held}
+use Rattle.uf_tree.specs.FilePlan.{node_part, node_held, root_part, root_held}
+use Rattle.uf_tree.specs.Metas.{is_bare}
+use Rattle.uf_tree.specs.declared.meta.Meta.{Meta}
 use Rattle.uf_tree.specs.declared.nodes.Part.{Part}
 use Rattle.uf_build.specs.Rows.{push_row, push_held, push_up, held_up, carry, carry_held, close_up, close_held_up, is_none, size_of, sizes_of, AreShort}
 use Rattle.uf_build.proofs.Carry.{is_below, not_below, length-push}
@@ -71,17 +73,17 @@ module _ (X : List ℕ → List ℕ) (w : ℕ) where
       by (suc level) [] h e = absurd (omega arith)
       by (suc level) (f ∷ gs) h e = by level gs (omega arith) e
 
-  pub close-past : (level : ℕ) (c : List Part) (rows : List (List Part)) → level ≡ length rows → c ≡ close_up X w level rows c
-  close-past zero c [] e = refl
-  close-past zero c (g ∷ gs) e = absurd (omega arith)
-  close-past (suc k) c [] e = refl
-  close-past (suc k) c (g ∷ gs) e = close-past k c gs (omega arith)
+  pub close-past : (meta : Meta) (level : ℕ) (c : Part) (rows : List (List Part)) → level ≡ length rows → c ≡ close_up X meta level rows c
+  close-past meta zero c [] e = refl
+  close-past meta zero c (g ∷ gs) e = absurd (omega arith)
+  close-past meta (suc k) c [] e = refl
+  close-past meta (suc k) c (g ∷ gs) e = close-past meta k c gs (omega arith)
 
-  pub close_held-past : (level : ℕ) (c : List Part) (rows : List (List Part)) → level ≡ length rows → [] ≡ close_held_up X w level rows c
-  close_held-past zero c [] e = refl
-  close_held-past zero c (g ∷ gs) e = absurd (omega arith)
-  close_held-past (suc k) c [] e = refl
-  close_held-past (suc k) c (g ∷ gs) e = close_held-past k c gs (omega arith)
+  pub close_held-past : (meta : Meta) (level : ℕ) (c : Part) (rows : List (List Part)) → level ≡ length rows → [] ≡ close_held_up X meta level rows c
+  close_held-past meta zero c [] e = refl
+  close_held-past meta zero c (g ∷ gs) e = absurd (omega arith)
+  close_held-past meta (suc k) c [] e = refl
+  close_held-past meta (suc k) c (g ∷ gs) e = close_held-past meta k c gs (omega arith)
 
   none_at : (is_top : Bool) (gs : List (List Part)) → ((is_top ≡ true) × (length gs ≡ 0)) ⊎ ((is_top ≡ false) × (1 ≤ length gs)) → is_top ≡ is_none gs
   none_at is_top [] (inl h) = h.0
@@ -89,39 +91,39 @@ module _ (X : List ℕ → List ℕ) (w : ℕ) where
   none_at is_top (g ∷ gs) (inl h) = absurd (omega (arith, h.1))
   none_at is_top (g ∷ gs) (inr h) = h.0
 
-  pub close-step : (level : ℕ) (is_top : Bool) (c : List Part) (rows : List (List Part)) (g : List Part) → level < length rows → g ≡ get_or rows level g
+  pub close-step : (meta : Meta) (level : ℕ) (is_top : Bool) (c : Part) (rows : List (List Part)) (g : List Part) → level < length rows → g ≡ get_or rows level g
       → ((is_top ≡ true) × (level + 1 ≡ length rows)) ⊎ ((is_top ≡ false) × (level + 1 < length rows))
-      → close_up X w (level + 1) (set rows level []) (carry X is_top (g ++ c)) ≡ close_up X w level rows c
-  close-step level is_top c rows g h e k = ap (λ n. close_up X w n (set rows level []) (carry X is_top (g ++ c))) (next level) ∙ by level rows h e k
+      → close_up X meta (level + 1) (set rows level []) (carry X meta is_top (g ++ c ∷ [])) ≡ close_up X meta level rows c
+  close-step meta level is_top c rows g h e k = ap (λ n. close_up X meta n (set rows level []) (carry X meta is_top (g ++ c ∷ []))) (next level) ∙ by level rows h e k
     where
       next : (n : ℕ) → n + 1 ≡ suc n
       next n = omega arith
 
       by : (level : ℕ) (rows : List (List Part)) → level < length rows → g ≡ get_or rows level g
           → ((is_top ≡ true) × (level + 1 ≡ length rows)) ⊎ ((is_top ≡ false) × (level + 1 < length rows))
-          → close_up X w (suc level) (set rows level []) (carry X is_top (g ++ c)) ≡ close_up X w level rows c
+          → close_up X meta (suc level) (set rows level []) (carry X meta is_top (g ++ c ∷ [])) ≡ close_up X meta level rows c
       by zero [] h e k = absurd (omega arith)
       by zero (f ∷ gs) h e k =
-          ap (λ b. close_up X w zero gs (carry X b (g ++ c))) (none_at is_top gs (elim k [ inl p ↦ inl (p.0, omega (arith, p.1)) | inr p ↦ inr (p.0, omega (arith, p.1)) ]))
-          ∙ ap (λ f. close_up X w zero gs (carry X (is_none gs) (f ++ c))) e
+          ap (λ b. close_up X meta zero gs (carry X meta b (g ++ c ∷ []))) (none_at is_top gs (elim k [ inl p ↦ inl (p.0, omega (arith, p.1)) | inr p ↦ inr (p.0, omega (arith, p.1)) ]))
+          ∙ ap (λ f. close_up X meta zero gs (carry X meta (is_none gs) (f ++ c ∷ []))) e
       by (suc level) [] h e k = absurd (omega arith)
       by (suc level) (f ∷ gs) h e k = by level gs (omega arith) e (elim k [ inl p ↦ inl (p.0, omega (arith, p.1)) | inr p ↦ inr (p.0, omega (arith, p.1)) ])
 
-  pub close_held-step : (level : ℕ) (is_top : Bool) (c : List Part) (rows : List (List Part)) (g : List Part) → level < length rows → g ≡ get_or rows level g
+  pub close_held-step : (meta : Meta) (level : ℕ) (is_top : Bool) (c : Part) (rows : List (List Part)) (g : List Part) → level < length rows → g ≡ get_or rows level g
       → ((is_top ≡ true) × (level + 1 ≡ length rows)) ⊎ ((is_top ≡ false) × (level + 1 < length rows))
-      → carry_held X is_top (g ++ c) ++ close_held_up X w (level + 1) (set rows level []) (carry X is_top (g ++ c)) ≡ close_held_up X w level rows c
-  close_held-step level is_top c rows g h e k = ap (λ n. carry_held X is_top (g ++ c) ++ close_held_up X w n (set rows level []) (carry X is_top (g ++ c))) (next level) ∙ by level rows h e k
+      → carry_held X meta is_top (g ++ c ∷ []) ++ close_held_up X meta (level + 1) (set rows level []) (carry X meta is_top (g ++ c ∷ [])) ≡ close_held_up X meta level rows c
+  close_held-step meta level is_top c rows g h e k = ap (λ n. carry_held X meta is_top (g ++ c ∷ []) ++ close_held_up X meta n (set rows level []) (carry X meta is_top (g ++ c ∷ []))) (next level) ∙ by level rows h e k
     where
       next : (n : ℕ) → n + 1 ≡ suc n
       next n = omega arith
 
       by : (level : ℕ) (rows : List (List Part)) → level < length rows → g ≡ get_or rows level g
           → ((is_top ≡ true) × (level + 1 ≡ length rows)) ⊎ ((is_top ≡ false) × (level + 1 < length rows))
-          → carry_held X is_top (g ++ c) ++ close_held_up X w (suc level) (set rows level []) (carry X is_top (g ++ c)) ≡ close_held_up X w level rows c
+          → carry_held X meta is_top (g ++ c ∷ []) ++ close_held_up X meta (suc level) (set rows level []) (carry X meta is_top (g ++ c ∷ [])) ≡ close_held_up X meta level rows c
       by zero [] h e k = absurd (omega arith)
       by zero (f ∷ gs) h e k =
-          ap (λ b. carry_held X b (g ++ c) ++ close_held_up X w zero gs (carry X b (g ++ c))) (none_at is_top gs (elim k [ inl p ↦ inl (p.0, omega (arith, p.1)) | inr p ↦ inr (p.0, omega (arith, p.1)) ]))
-          ∙ ap (λ f. carry_held X (is_none gs) (f ++ c) ++ close_held_up X w zero gs (carry X (is_none gs) (f ++ c))) e
+          ap (λ b. carry_held X meta b (g ++ c ∷ []) ++ close_held_up X meta zero gs (carry X meta b (g ++ c ∷ []))) (none_at is_top gs (elim k [ inl p ↦ inl (p.0, omega (arith, p.1)) | inr p ↦ inr (p.0, omega (arith, p.1)) ]))
+          ∙ ap (λ f. carry_held X meta (is_none gs) (f ++ c ∷ []) ++ close_held_up X meta zero gs (carry X meta (is_none gs) (f ++ c ∷ []))) e
       by (suc level) [] h e k = absurd (omega arith)
       by (suc level) (f ∷ gs) h e k = by level gs (omega arith) e (elim k [ inl p ↦ inl (p.0, omega (arith, p.1)) | inr p ↦ inr (p.0, omega (arith, p.1)) ])
 
@@ -145,11 +147,18 @@ short-at w (suc level) (f ∷ gs) g all h e = short-at w level gs g all.1 (omega
 pub size-push : (g : List Part) (m : Part) → size_of (g ++ m ∷ []) ≡ size_of g + m.size
 size-push g m = omega (arith, sum_by-append (λ (m : Part). m.size) g (m ∷ []), sum_by-cons (λ (m : Part). m.size) m [])
 
-pub size-above : (X : List ℕ → List ℕ) (is_top : Bool) (g : List Part) → size_of (carry X is_top g) ≡ size_of g
-size-above X is_top [] = refl
-size-above X true (m ∷ []) = refl
-size-above X false (m ∷ []) = omega (arith, sum_by-cons (λ (m : Part). m.size) (node_part X (m ∷ [])) [])
-size-above X is_top (m ∷ n ∷ ms) = omega (arith, sum_by-cons (λ (m : Part). m.size) (node_part X (m ∷ n ∷ ms)) [])
+size-one : (m : Part) → m.size ≡ size_of (m ∷ [])
+size-one m = omega (arith, sum_by-cons (λ (m : Part). m.size) m [])
+
+pub size-above : (X : List ℕ → List ℕ) (meta : Meta) (is_top : Bool) (g : List Part) → (carry X meta is_top g).size ≡ size_of g
+size-above X meta false g = refl
+size-above X meta true [] = refl
+size-above X meta true (m ∷ []) = by (is_bare meta)
+  where
+    by : (b : Bool) → (cond b m (root_part X meta (m ∷ []))).size ≡ size_of (m ∷ [])
+    by true = size-one m
+    by false = refl
+size-above X meta true (m ∷ n ∷ ms) = refl
 
 module _ (X : List ℕ → List ℕ) (w : ℕ) where
   -- the same, by what the code has at hand
@@ -186,20 +195,20 @@ module _ (X : List ℕ → List ℕ) (w : ℕ) where
       by (inl e) = inl (grind (arith, nat_tests), e)
       by (inr e) = inr (grind (arith, nat_tests), omega arith)
 
-  pub close-next : (level n : ℕ) (c up : List Part) (rows : List (List Part)) (g row empty : List Part) → level < length rows → g ≡ get_or rows level g → row ≡ g → n ≡ length rows
-      → up ≡ carry X (nat_eq (level + 1) n) (row ++ c) → empty ≡ []
-      → (close_up X w (level + 1) (set rows level empty) up ≡ close_up X w level rows c)
-      × (carry_held X (nat_eq (level + 1) n) (row ++ c) ++ close_held_up X w (level + 1) (set rows level empty) up ≡ close_held_up X w level rows c)
-  close-next level n c up rows g row empty lt at is count made none =
+  pub close-next : (meta : Meta) (level n : ℕ) (c up : Part) (rows : List (List Part)) (g row empty : List Part) → level < length rows → g ≡ get_or rows level g → row ≡ g → n ≡ length rows
+      → up ≡ carry X meta (nat_eq (level + 1) n) (row ++ c ∷ []) → empty ≡ []
+      → (close_up X meta (level + 1) (set rows level empty) up ≡ close_up X meta level rows c)
+      × (carry_held X meta (nat_eq (level + 1) n) (row ++ c ∷ []) ++ close_held_up X meta (level + 1) (set rows level empty) up ≡ close_held_up X meta level rows c)
+  close-next meta level n c up rows g row empty lt at is count made none =
       let top = tops (level + 1) (length rows) (omega arith) in
-      let same : up ≡ carry X (nat_eq (level + 1) (length rows)) (g ++ c) = made ∙ ap (λ n. carry X (nat_eq (level + 1) n) (row ++ c)) count ∙ ap (λ g. carry X (nat_eq (level + 1) (length rows)) (g ++ c)) is in (
-        ap (λ e. close_up X w (level + 1) (set rows level e) up) none ∙ ap (close_up X w (level + 1) (set rows level [])) same
-            ∙ close-step X w level (nat_eq (level + 1) (length rows)) c rows g lt at top,
-        ap (λ n. carry_held X (nat_eq (level + 1) n) (row ++ c) ++ close_held_up X w (level + 1) (set rows level empty) up) count
-            ∙ ap (λ g. carry_held X (nat_eq (level + 1) (length rows)) (g ++ c) ++ close_held_up X w (level + 1) (set rows level empty) up) is
-            ∙ ap (λ e. carry_held X (nat_eq (level + 1) (length rows)) (g ++ c) ++ close_held_up X w (level + 1) (set rows level e) up) none
-            ∙ ap (λ up. carry_held X (nat_eq (level + 1) (length rows)) (g ++ c) ++ close_held_up X w (level + 1) (set rows level []) up) same
-            ∙ close_held-step X w level (nat_eq (level + 1) (length rows)) c rows g lt at top,
+      let same : up ≡ carry X meta (nat_eq (level + 1) (length rows)) (g ++ c ∷ []) = made ∙ ap (λ n. carry X meta (nat_eq (level + 1) n) (row ++ c ∷ [])) count ∙ ap (λ g. carry X meta (nat_eq (level + 1) (length rows)) (g ++ c ∷ [])) is in (
+        ap (λ e. close_up X meta (level + 1) (set rows level e) up) none ∙ ap (close_up X meta (level + 1) (set rows level [])) same
+            ∙ close-step X w meta level (nat_eq (level + 1) (length rows)) c rows g lt at top,
+        ap (λ n. carry_held X meta (nat_eq (level + 1) n) (row ++ c ∷ []) ++ close_held_up X meta (level + 1) (set rows level empty) up) count
+            ∙ ap (λ g. carry_held X meta (nat_eq (level + 1) (length rows)) (g ++ c ∷ []) ++ close_held_up X meta (level + 1) (set rows level empty) up) is
+            ∙ ap (λ e. carry_held X meta (nat_eq (level + 1) (length rows)) (g ++ c ∷ []) ++ close_held_up X meta (level + 1) (set rows level e) up) none
+            ∙ ap (λ up. carry_held X meta (nat_eq (level + 1) (length rows)) (g ++ c ∷ []) ++ close_held_up X meta (level + 1) (set rows level []) up) same
+            ∙ close_held-step X w meta level (nat_eq (level + 1) (length rows)) c rows g lt at top,
       )
 
   -- the bytes of a group go up with its node
@@ -210,11 +219,11 @@ module _ (X : List ℕ → List ℕ) (w : ℕ) where
       let size : node.size ≡ size_of g + m.size = ap (λ (p : Part). p.size) made ∙ ap size_of is ∙ size-push g m in
       omega arith
 
-  pub sizes-closed : (level : ℕ) (is_top : Bool) (c up : List Part) (rows : List (List Part)) (g row empty : List Part) → level < length rows → g ≡ get_or rows level g → row ≡ g
-      → up ≡ carry X is_top (row ++ c) → empty ≡ [] → sizes_of (set rows level empty) + size_of up ≡ sizes_of rows + size_of c
-  sizes-closed level is_top c up rows g row empty lt at is made none =
+  pub sizes-closed : (meta : Meta) (level : ℕ) (is_top : Bool) (c up : Part) (rows : List (List Part)) (g row empty : List Part) → level < length rows → g ≡ get_or rows level g → row ≡ g
+      → up ≡ carry X meta is_top (row ++ c ∷ []) → empty ≡ [] → sizes_of (set rows level empty) + up.size ≡ sizes_of rows + c.size
+  sizes-closed meta level is_top c up rows g row empty lt at is made none =
       let emptied : sizes_of (set rows level empty) + size_of g ≡ sizes_of rows = ap (λ e. sizes_of (set rows level e) + size_of g) none ∙ sizes-emptied level rows g lt at in
-      let size : size_of up ≡ size_of g + size_of c = ap size_of made ∙ size-above X is_top (row ++ c) ∙ ap (λ g. size_of (g ++ c)) is ∙ sum_by-append (λ (m : Part). m.size) g c in
+      let size : up.size ≡ size_of g + c.size = ap (λ (p : Part). p.size) made ∙ size-above X meta is_top (row ++ c ∷ []) ∙ ap (λ g. size_of (g ++ c ∷ [])) is ∙ size-push g c in
       omega arith
 
   pub short-up : (level : ℕ) (rows : List (List Part)) (empty : List Part) → 1 ≤ w → empty ≡ [] → AreShort w rows → AreShort w (set rows level empty)
@@ -227,8 +236,12 @@ pub next-level : (level : ℕ) (rows : List (List Part)) (empty : List Part) →
 next-level level rows empty h = omega (arith, length-set rows level empty)
 
 -- what a row saves as it ends is under its digest
-pub carry-good : (X : List ℕ → List ℕ) (is_top : Bool) (g : List Part) → AllByRecursion (λ (b : Held). X b.1 ≡ b.0.digest) (carry_held X is_top g)
-carry-good X is_top [] = tt
-carry-good X true (m ∷ []) = tt
-carry-good X false (m ∷ []) = (refl, tt)
-carry-good X is_top (m ∷ n ∷ ms) = (refl, tt)
+pub carry-good : (X : List ℕ → List ℕ) (meta : Meta) (is_top : Bool) (g : List Part) → AllByRecursion (λ (b : Held). X b.1 ≡ b.0.digest) (carry_held X meta is_top g)
+carry-good X meta false g = (refl, tt)
+carry-good X meta true [] = tt
+carry-good X meta true (m ∷ []) = by (is_bare meta)
+  where
+    by : (b : Bool) → AllByRecursion (λ (b : Held). X b.1 ≡ b.0.digest) (cond b [] (root_held X meta (m ∷ []) ∷ []))
+    by true = tt
+    by false = (refl, tt)
+carry-good X meta true (m ∷ n ∷ ms) = (refl, tt)

@@ -6,12 +6,14 @@ use Rattle.uf_cid.specs.Blocks.{Held}
 use Rattle.uf_store.specs.Contents.{Told}
 use Rattle.uf_store.specs.Keeping.{Holds}
 use Rattle.uf_tree.specs.Cutting.{joined}
+use Rattle.uf_tree.specs.Metas.{none}
 use Rattle.uf_tree.specs.FilePlan.{chunks, file_plan, leaf_part, leaf_held}
 use Rattle.uf_tree.specs.declared.nodes.Part.{Part}
 use Rattle.uf_tree.specs.declared.profile.Profile.{Profile}
-use Rattle.uf_build.specs.Rows.{AreRows, AreOpen, members, saved_over, sizes_of}
+use Rattle.uf_build.specs.Rows.{AreAll, AreOpen, last_in, saved_all, sizes_of}
 
--- a builder: its profile, how many bytes it was fed, whether it gave up, the piece that it has begun, and its open groups
+-- a builder: its profile, how many bytes it was fed, whether it gave up, the piece that it has begun, and its open groups with
+-- the last part in front of them
 pub record Building : Type 0 where
   pub profile : Profile
   pub fed : ℕ
@@ -22,7 +24,7 @@ pub record Building : Type 0 where
 -- pieces of a file and the open groups over them, of whose saved blocks P holds
 pub record ArePieces (X : List ℕ → List ℕ) (P : Held → Type 0) (p : Profile) (pieces : List (List ℕ)) (rows : List (List Part)) : Type 0 where
   pub held : AllByRecursion P (map (leaf_held X) pieces)
-  pub rows_are : AreRows X p.width P (map (leaf_part X) pieces) rows
+  pub rows_are : AreAll X p.width P (map (leaf_part X) pieces) rows
 
 -- these bytes are whole pieces, and the piece that was begun
 pub record Builds (X : List ℕ → List ℕ) (P : Held → Type 0) (p : Profile) (bytes begun : List ℕ) (rows : List (List Part)) : Type 0 where
@@ -49,12 +51,12 @@ HoldsFed X bytes told b = Builds X (IsHeld told) b.profile bytes b.begun b.rows
 
 -- how many blocks a builder that didn't give up has saved: a part of each row is one
 unfoldable pub saved_by : Building → ℕ
-saved_by b = saved_over b.profile.width b.rows
+saved_by b = saved_all b.profile.width b.rows
 
 -- a call that takes these bytes touches the store no more often than the plan of all bytes has blocks, with what was saved
 abbrev pub SavesUpTo : (List ℕ → List ℕ) → Profile → List ℕ → List ℕ → List (List Part) → ℕ → ℕ → Type 0
 SavesUpTo X p bytes begun rows touches touches_now =
-    (front : List ℕ) → Builds X Any p front begun rows → touches_now + saved_over p.width rows ≤ touches + length (file_plan X p (front ++ bytes)).blocks
+    (front : List ℕ) → Builds X Any p front begun rows → touches_now + saved_all p.width rows ≤ touches + length (file_plan X p none (front ++ bytes)).blocks
 
 -- what every builder keeps that has not given up: room in its piece and in its groups, and no more bytes than it was fed
 pub record IsReady (p : Profile) (fed : ℕ) (begun : List ℕ) (rows : List (List Part)) : Type 0 where
@@ -67,8 +69,8 @@ pub record IsReady (p : Profile) (fed : ℕ) (begun : List ℕ) (rows : List (Li
 pub record Adds (X : List ℕ → List ℕ) (p : Profile) (piece : List ℕ) (rows rows_now : List (List Part)) (told told_now : Told) (touches touches_now : ℕ) : Type 0 where
   pub are_open : AreOpen p.width rows_now
   pub sizes : sizes_of rows_now ≡ sizes_of rows + length piece
-  pub saves : touches_now + saved_over p.width rows ≡ touches + saved_over p.width rows_now
-  pub some : 1 ≤ members p.width rows_now
+  pub saves : touches_now + saved_all p.width rows ≡ touches + saved_all p.width rows_now
+  pub some : 1 ≤ length (last_in rows_now)
   pub fed : (pieces : List (List ℕ)) → ArePieces X Any p pieces rows → ArePieces X Any p (pieces ++ piece ∷ []) rows_now
   pub held : (pieces : List (List ℕ)) → ArePieces X (IsHeld told) p pieces rows → ArePieces X (IsHeld told_now) p (pieces ++ piece ∷ []) rows_now
 
@@ -76,7 +78,7 @@ pub record Adds (X : List ℕ → List ℕ) (p : Profile) (piece : List ℕ) (ro
 pub record Feeds (X : List ℕ → List ℕ) (p : Profile) (bytes begun begun_now : List ℕ) (rows rows_now : List (List Part)) (told told_now : Told) (touches touches_now : ℕ) : Type 0 where
   pub are_open : AreOpen p.width rows_now
   pub sizes : sizes_of rows_now + length begun_now ≡ sizes_of rows + length begun + length bytes
-  pub saves : touches_now + saved_over p.width rows ≡ touches + saved_over p.width rows_now
+  pub saves : touches_now + saved_all p.width rows ≡ touches + saved_all p.width rows_now
   pub fed : (front : List ℕ) → Builds X Any p front begun rows → Builds X Any p (front ++ bytes) begun_now rows_now
   pub held : (front : List ℕ) → Builds X (IsHeld told) p front begun rows → Builds X (IsHeld told_now) p (front ++ bytes) begun_now rows_now
 
@@ -84,7 +86,7 @@ pub record Feeds (X : List ℕ → List ℕ) (p : Profile) (bytes begun begun_no
 pub record Ends (X : List ℕ → List ℕ) (p : Profile) (begun : List ℕ) (rows rows_now : List (List Part)) (told told_now : Told) (touches touches_now : ℕ) : Type 0 where
   pub are_open : AreOpen p.width rows_now
   pub sizes : sizes_of rows_now ≡ sizes_of rows + length begun
-  pub saves : touches_now + saved_over p.width rows ≡ touches + saved_over p.width rows_now
-  pub some : 1 ≤ members p.width rows_now
+  pub saves : touches_now + saved_all p.width rows ≡ touches + saved_all p.width rows_now
+  pub some : 1 ≤ length (last_in rows_now)
   pub fed : (bytes : List ℕ) → Builds X Any p bytes begun rows → ArePieces X Any p (chunks p bytes) rows_now
   pub held : (bytes : List ℕ) → Builds X (IsHeld told) p bytes begun rows → ArePieces X (IsHeld told_now) p (chunks p bytes) rows_now

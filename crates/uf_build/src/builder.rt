@@ -6,17 +6,19 @@ ghost use Rattle.uf_store.specs.Faults.{NoneIsBad, Shown};
 ghost use Rattle.uf_store.specs.Keeping.{Holds, KeepsGood};
 ghost use Rattle.uf_store.specs.Writing.{SavesOnly};
 ghost use Rattle.uf_tree.specs.FilePlan.{file_plan};
+ghost use Rattle.uf_tree.specs.Metas.{is_meta, none};
 ghost use Rattle.uf_tree.specs.Profiles.{is_profile};
 ghost use Rattle.uf_build.specs.Answers.{IsFeedAnswer, IsFinishAnswer, LeavesAlone, build_fault};
 ghost use Rattle.uf_build.specs.Building.{HasFed, HoldsFed, saved_by};
 
 use crate::BuildFault;
 use crate::layout::Layout;
+use crate::open::Open;
 use std::alloc::Global;
 use std::marker::Model;
 use std::sync::ledger::Ledger;
 use uf_store::{Steps, Store};
-use uf_tree::{Entry, Profile};
+use uf_tree::{Entry, Meta, Profile};
 
 /// Builds a file of the bytes that it is fed, in pieces of any sizes. It keeps one piece of the file and one group of links
 /// for each row, however long the file is. Contracts see its profile, how many bytes it was fed, and whether it gave up.
@@ -54,7 +56,10 @@ impl Builder {
             alloc,
             profile: p,
             begun: Vec::new(alloc),
-            rows: Vec::new(alloc),
+            opened: Open {
+                last: None,
+                rows: Vec::new(alloc),
+            },
         };
         Builder {
             layout,
@@ -86,7 +91,7 @@ impl Builder {
         // One touch for each block that is saved, and whatever came, no more than the plan of all bytes has blocks.
         ensures saved { OnOk result (touches.new + saved_by self.old ≡ touches.old + saved_by self.new) }
         ensures most { (bytes : List ℕ) → HasFed S.X.block32 bytes self.old
-            → touches.new + saved_by self.old ≤ touches.old + length (file_plan S.X.block32 self.old.profile (bytes ++ piece.now)).blocks }
+            → touches.new + saved_by self.old ≤ touches.old + length (file_plan S.X.block32 self.old.profile none (bytes ++ piece.now)).blocks }
         ensures alone { LeavesAlone result (S.seen store.old) (S.seen store.new) touches.old touches.new }
     {
         if self.is_spent {
@@ -104,24 +109,50 @@ impl Builder {
         Ok(())
     }
 
-    /// Saves what is left of the file's blocks, and answers its entry.
+    /// Saves what is left of the file's blocks, and answers the entry of the file without metadata.
     pub fn finish<S: Store, L: Ledger>(
         self,
         store: &mut S,
         touches: &mut Steps<L>,
     ) -> Result<Entry, BuildFault>
         ensures answer { IsFinishAnswer self result }
-        ensures entry { IfOk result (λ e. (bytes : List ℕ) → HasFed S.X.block32 bytes self → e ≡ (file_plan S.X.block32 self.profile bytes).entry) }
+        ensures entry { IfOk result (λ e. (bytes : List ℕ) → HasFed S.X.block32 bytes self → e ≡ (file_plan S.X.block32 self.profile none bytes).entry) }
         ensures held { OnOk result ((bytes : List ℕ) → HoldsFed S.X.block32 bytes (S.seen store.old).told self
-            → Holds (S.seen store.new).told (file_plan S.X.block32 self.profile bytes).blocks) }
+            → Holds (S.seen store.new).told (file_plan S.X.block32 self.profile none bytes).blocks) }
         ensures cause { Shown S.X.block32 NoneIsBad (build_fault result) (S.seen store.old) (S.seen store.new) }
         ensures good { KeepsGood S.X.block32 (S.seen store.old).told (S.seen store.new).told }
         ensures saves { SavesOnly S.X.block32 (S.seen store.old).told (S.seen store.new).told }
         ensures unread { LoadsNothing (build_fault result) (S.seen store.old) (S.seen store.new) }
         ensures saved { OnOk result ((bytes : List ℕ) → HasFed S.X.block32 bytes self
-            → touches.new + saved_by self ≡ touches.old + length (file_plan S.X.block32 self.profile bytes).blocks) }
+            → touches.new + saved_by self ≡ touches.old + length (file_plan S.X.block32 self.profile none bytes).blocks) }
         ensures most { (bytes : List ℕ) → HasFed S.X.block32 bytes self
-            → touches.new + saved_by self ≤ touches.old + length (file_plan S.X.block32 self.profile bytes).blocks }
+            → touches.new + saved_by self ≤ touches.old + length (file_plan S.X.block32 self.profile none bytes).blocks }
+        ensures alone { LeavesAlone result (S.seen store.old) (S.seen store.new) touches.old touches.new }
+    {
+        self.finish_with(&Meta::none(), store, touches)
+    }
+
+    /// Saves what is left of the blocks of the file with this metadata, and answers its entry. The condition on the metadata is
+    /// `is_good`.
+    pub fn finish_with<S: Store, L: Ledger>(
+        self,
+        meta: &Meta,
+        store: &mut S,
+        touches: &mut Steps<L>,
+    ) -> Result<Entry, BuildFault>
+        requires { IsTrue (is_meta meta.now) }
+        ensures answer { IsFinishAnswer self result }
+        ensures entry { IfOk result (λ e. (bytes : List ℕ) → HasFed S.X.block32 bytes self → e ≡ (file_plan S.X.block32 self.profile meta.now bytes).entry) }
+        ensures held { OnOk result ((bytes : List ℕ) → HoldsFed S.X.block32 bytes (S.seen store.old).told self
+            → Holds (S.seen store.new).told (file_plan S.X.block32 self.profile meta.now bytes).blocks) }
+        ensures cause { Shown S.X.block32 NoneIsBad (build_fault result) (S.seen store.old) (S.seen store.new) }
+        ensures good { KeepsGood S.X.block32 (S.seen store.old).told (S.seen store.new).told }
+        ensures saves { SavesOnly S.X.block32 (S.seen store.old).told (S.seen store.new).told }
+        ensures unread { LoadsNothing (build_fault result) (S.seen store.old) (S.seen store.new) }
+        ensures saved { OnOk result ((bytes : List ℕ) → HasFed S.X.block32 bytes self
+            → touches.new + saved_by self ≡ touches.old + length (file_plan S.X.block32 self.profile meta.now bytes).blocks) }
+        ensures most { (bytes : List ℕ) → HasFed S.X.block32 bytes self
+            → touches.new + saved_by self ≤ touches.old + length (file_plan S.X.block32 self.profile meta.now bytes).blocks }
         ensures alone { LeavesAlone result (S.seen store.old) (S.seen store.new) touches.old touches.new }
     {
         let Builder {
@@ -132,7 +163,7 @@ impl Builder {
         if is_spent {
             return Err(BuildFault::Spent);
         }
-        let entry = layout.close(store, touches)?;
+        let entry = layout.close(meta, store, touches)?;
         Ok(entry)
     }
 }

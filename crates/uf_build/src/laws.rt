@@ -3,6 +3,7 @@ ghost use Rattle.std.specs.Prelude.{◌≤◌, ◌++◌, List, ℕ, length};
 ghost use Rattle.uf_store.specs.Contents.{Told};
 ghost use Rattle.uf_store.specs.Keeping.{KeepsGood};
 ghost use Rattle.uf_tree.specs.FilePlan.{file_plan};
+ghost use Rattle.uf_tree.specs.declared.meta.Meta.{Meta};
 ghost use Rattle.uf_tree.specs.declared.profile.Profile.{Profile};
 ghost use Rattle.uf_build.specs.Building.{Building, HasFed, HoldsFed};
 
@@ -14,5 +15,5 @@ pub fn what_was_saved_stays_held()
 
 /// A file of more bytes has no fewer blocks: what bounds the saves for a part of a file bounds them for the whole.
 pub fn more_bytes_have_no_fewer_blocks()
-    ensures { (X : List ℕ → List ℕ) (p : Profile) (bytes more : List ℕ) → length (file_plan X p bytes).blocks ≤ length (file_plan X p (bytes ++ more)).blocks }
+    ensures { (X : List ℕ → List ℕ) (p : Profile) (m : Meta) (bytes more : List ℕ) → length (file_plan X p m bytes).blocks ≤ length (file_plan X p m (bytes ++ more)).blocks }
 {}

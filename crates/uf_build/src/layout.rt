@@ -5,17 +5,20 @@ ghost use Rattle.uf_cid.specs.Cid.{cid_of};
 ghost use Rattle.uf_cid.specs.declared.cid.Codec.TheVariants.{Raw};
 ghost use Rattle.uf_store.specs.Faults.{fault_in};
 ghost use Rattle.uf_tree.specs.FilePlan.{leaf_part};
+ghost use Rattle.uf_tree.specs.Metas.{is_meta};
 ghost use Rattle.uf_tree.specs.Profiles.{is_profile};
+ghost use Rattle.uf_tree.specs.declared.meta.Meta.{Meta};
 ghost use Rattle.uf_build.specs.Answers.{OnlyBuilds};
 ghost use Rattle.uf_build.specs.Building.{Adds};
-ghost use Rattle.uf_build.specs.Rows.{AreOpen, push_row, saved_over, sizes_of};
+ghost use Rattle.uf_build.specs.Rows.{AreOpen, add_row, groups_in, saved_all, sizes_of};
 
+use crate::open::Open;
 use crate::rows;
 use std::alloc::Global;
 use std::sync::ledger::Ledger;
 use uf_cid::{BlockHash, Cid, Codec, Memory};
 use uf_store::{Steps, Store, StoreFault, save_under};
-use uf_tree::{Entry, Part, Parts, Profile};
+use uf_tree::{Entry, Meta, Part, Profile};
 
 // How many pieces are hashed side by side.
 const GROUP: usize = 8;
@@ -26,7 +29,7 @@ pub struct Layout {
     pub alloc: Global,
     pub profile: Profile,
     pub begun: Vec<u8>,
-    pub rows: Vec<Parts>,
+    pub opened: Open,
 }
 
 impl Layout {
@@ -85,19 +88,32 @@ impl Layout {
     // Saves the last piece, which an empty file has too, and closes the rows. Answers the file's entry.
     pub fn close<S: Store, L: Ledger>(
         mut self,
+        meta: &Meta,
         store: &mut S,
         touches: &mut Steps<L>,
     ) -> Result<Entry, StoreFault>
         requires can { CanTake 0 self }
-        ensures closed { IfOk result (λ e. ClosesFile S.X.block32 self e
+        requires good { IsTrue (is_meta meta.now) }
+        ensures closed { IfOk result (λ e. ClosesFile S.X.block32 meta.now self e
             (S.seen store.old).told (S.seen store.new).told touches.old touches.new) }
-        ensures most { EndsUpTo S.X.block32 self touches.old touches.new }
+        ensures most { EndsUpTo S.X.block32 meta.now self touches.old touches.new }
         ensures builds { OnlyBuilds S.X.block32 (fault_in result) (S.seen store.old) (S.seen store.new) }
     {
         let width = self.profile.width as usize;
         self.end_last(store, touches)?;
-        match rows::close(self.alloc, width, &mut self.rows, 0, None, store, touches)? {
-            Some(part) => Ok(part.entry),
+        match self.opened.last {
+            Some(last) => {
+                let part = rows::close_all(
+                    self.alloc,
+                    width,
+                    &mut self.opened.rows,
+                    last,
+                    meta,
+                    store,
+                    touches,
+                )?;
+                Ok(part.entry)
+            }
             None => unreachable!(),
         }
     }
@@ -111,10 +127,10 @@ impl Layout {
         requires can { CanTake 0 self.old }
         ensures ends { OnOk result (EndsLast S.X.block32 self.old self.new
             (S.seen store.old).told (S.seen store.new).told touches.old touches.new) }
-        ensures most { OnErr result (EndsUpTo S.X.block32 self.old touches.old touches.new) }
+        ensures most { OnErr result ((m : Meta) → EndsUpTo S.X.block32 m self.old touches.old touches.new) }
         ensures builds { OnlyBuilds S.X.block32 (fault_in result) (S.seen store.old) (S.seen store.new) }
     {
-        if self.rows.is_empty() {
+        if self.opened.last.is_none() {
             return self.end_piece(store, touches);
         }
         if self.begun.is_empty() {
@@ -139,7 +155,7 @@ impl Layout {
         save_leaf(
             self.alloc,
             self.profile,
-            &mut self.rows,
+            &mut self.opened,
             cid,
             self.begun.as_slice(),
             store,
@@ -206,7 +222,7 @@ impl Layout {
             save_leaf(
                 self.alloc,
                 self.profile,
-                &mut self.rows,
+                &mut self.opened,
                 cid,
                 piece,
                 store,
@@ -241,7 +257,7 @@ fn digests_of<X: BlockHash>(bytes: &[u8], size: usize, count: usize) -> [[u8; 32
 fn save_leaf<S: Store, L: Ledger>(
     alloc: Global,
     profile: Profile,
-    rows: &mut Vec<Parts>,
+    opened: &mut Open,
     cid: Cid,
     piece: &[u8],
     store: &mut S,
@@ -250,12 +266,12 @@ fn save_leaf<S: Store, L: Ledger>(
     requires profile { IsTrue (is_profile profile) }
     requires cid { cid ≡ cid_of S.X.block32 Raw piece.now }
     requires size { length piece.now ≤ profile.chunk }
-    requires rows { AreOpen profile.width rows.old.items }
-    requires most { sizes_of rows.old.items + length piece.now < 2 ^ 63 }
-    ensures adds { OnOk result (Adds S.X.block32 profile piece.now rows.old.items rows.new.items
+    requires opened { AreOpen profile.width (groups_in opened.old) }
+    requires most { sizes_of (groups_in opened.old) + length piece.now < 2 ^ 63 }
+    ensures adds { OnOk result (Adds S.X.block32 profile piece.now (groups_in opened.old) (groups_in opened.new)
         (S.seen store.old).told (S.seen store.new).told touches.old touches.new) }
-    ensures most { touches.new + saved_over profile.width rows.old.items ≤ touches.old + saved_over profile.width
-        (push_row S.X.block32 profile.width (leaf_part S.X.block32 piece.now) rows.old.items) }
+    ensures most { touches.new + saved_all profile.width (groups_in opened.old) ≤ touches.old + saved_all profile.width
+        (add_row S.X.block32 profile.width (leaf_part S.X.block32 piece.now) (groups_in opened.old)) }
     ensures builds { OnlyBuilds S.X.block32 (fault_in result) (S.seen store.old) (S.seen store.new) }
 {
     save_under(alloc, store, &cid, piece, touches)?;
@@ -264,5 +280,5 @@ fn save_leaf<S: Store, L: Ledger>(
         entry: Entry { cid, tsize: size },
         size,
     };
-    rows::push(alloc, profile.width as usize, rows, 0, part, store, touches)
+    rows::add(alloc, profile.width as usize, opened, part, store, touches)
 }

@@ -1,5 +1,5 @@
 // The node over a group of parts.
-ghost use Rattle.std.specs.Prelude.{◌≡◌, ◌+◌, ◌<◌, ◌≤◌, ◌^◌, ◌∷◌, [], length, IfOk, OnOk, IfErr, OnErr};
+ghost use Rattle.std.specs.Prelude.{◌≡◌, ◌+◌, ◌<◌, ◌≤◌, ◌^◌, ◌∷◌, [], length, IfOk, IsTrue, OnOk, IfErr, OnErr};
 ghost use Rattle.std.specs.List.{AllByRecursion, sum_by};
 ghost use Rattle.uf_store.specs.Calls.{LoadsNothing};
 ghost use Rattle.uf_store.specs.Clashes.{IsSaving};
@@ -7,7 +7,9 @@ ghost use Rattle.uf_store.specs.Faults.{Answers, NoneIsBad, fault_in};
 ghost use Rattle.uf_store.specs.Seen.{KeepsHeld};
 ghost use Rattle.uf_store.specs.Keeping.{Holds, KeepsGood};
 ghost use Rattle.uf_store.specs.Writing.{SavesOnly};
-ghost use Rattle.uf_tree.specs.FilePlan.{node_over, node_part, node_held};
+ghost use Rattle.uf_tree.specs.FilePlan.{node_part, node_held, root_node, root_part, root_held, top_part, top_held};
+ghost use Rattle.uf_build.specs.Answers.{OnlyBuilds};
+ghost use Rattle.uf_tree.specs.Metas.{is_meta};
 ghost use Rattle.uf_tree.specs.Nodes.{capped, link_of};
 ghost use Rattle.uf_tree.specs.Validity.{IsPartLink};
 
@@ -16,7 +18,7 @@ use std::sync::ledger::Ledger;
 use uf_cid::{Cid, Codec, Memory, Seq, Text, cids_are_whole};
 use uf_dagpb::Link;
 use uf_store::{Steps, Store, StoreFault, save_under};
-use uf_tree::{Entry, FileNode, Part, file_node};
+use uf_tree::{Entry, FileNode, Meta, Part, file_node};
 
 /// Saves the node over a group of parts, and answers it as a part of the row above. At most one touch.
 pub fn save_node<S: Store, L: Ledger>(
@@ -41,7 +43,35 @@ pub fn save_node<S: Store, L: Ledger>(
     ensures touch { OnOk result (touches.new ≡ touches.old + 1) }
     ensures rises { touches.old ≤ touches.new }
 {
-    let node = node_of(alloc, parts)?;
+    save_root(alloc, store, parts, &Meta::none(), touches)
+}
+
+/// The same of the node at a file's root, which carries the file's metadata.
+pub fn save_root<S: Store, L: Ledger>(
+    alloc: Global,
+    store: &mut S,
+    parts: &[Part],
+    meta: &Meta,
+    touches: &mut Steps<L>,
+) -> Result<Part, StoreFault>
+    requires some { 1 ≤ length parts.now }
+    requires few { length parts.now ≤ 1024 }
+    requires size { sum_by (λ m. m.size) parts.now < 2 ^ 63 }
+    requires good { IsTrue (is_meta meta.now) }
+    ensures part { IfOk result (λ part. part ≡ root_part S.X.block32 meta.now parts.now) }
+    ensures kept { OnOk result (KeepsHeld S.X.block32 (root_held S.X.block32 meta.now parts.now) (S.seen store.old) (S.seen store.new)) }
+    ensures held { OnOk result (Holds (S.seen store.new).told (root_held S.X.block32 meta.now parts.now ∷ [])) }
+    ensures cause { Answers S.X.block32 NoneIsBad result (S.seen store.old) (S.seen store.new) }
+    ensures fault { IfErr result IsSaving }
+    ensures err { OnErr result ((S.seen store.new).told ≡ (S.seen store.old).told) }
+    ensures good { KeepsGood S.X.block32 (S.seen store.old).told (S.seen store.new).told }
+    ensures saves { SavesOnly S.X.block32 (S.seen store.old).told (S.seen store.new).told }
+    ensures unread { LoadsNothing (fault_in result) (S.seen store.old) (S.seen store.new) }
+    ensures touches { touches.new ≤ touches.old + 1 }
+    ensures touch { OnOk result (touches.new ≡ touches.old + 1) }
+    ensures rises { touches.old ≤ touches.new }
+{
+    let node = node_of(alloc, parts, meta)?;
     let block = file_node(alloc, &node)?;
     let bytes = block.as_slice();
     let cid = Cid::of::<S::X>(Codec::DagPb, bytes);
@@ -55,9 +85,36 @@ pub fn save_node<S: Store, L: Ledger>(
     })
 }
 
+// Saves what stands over the topmost row: the root over its parts, or nothing where it is a single piece without metadata.
+pub fn save_top<S: Store, L: Ledger>(
+    alloc: Global,
+    store: &mut S,
+    parts: &[Part],
+    meta: &Meta,
+    touches: &mut Steps<L>,
+) -> Result<Part, StoreFault>
+    requires some { 1 ≤ length parts.now }
+    requires few { length parts.now ≤ 1024 }
+    requires size { sum_by (λ m. m.size) parts.now < 2 ^ 63 }
+    requires good { IsTrue (is_meta meta.now) }
+    ensures part { IfOk result (λ part. part ≡ top_part S.X.block32 meta.now parts.now) }
+    ensures held { OnOk result (Holds (S.seen store.new).told (top_held S.X.block32 meta.now parts.now)) }
+    ensures builds { OnlyBuilds S.X.block32 (fault_in result) (S.seen store.old) (S.seen store.new) }
+    ensures touches { touches.new ≤ touches.old + length (top_held S.X.block32 meta.now parts.now) }
+    ensures touch { OnOk result (touches.new ≡ touches.old + length (top_held S.X.block32 meta.now parts.now)) }
+{
+    if parts.len() > 1 {
+        return save_root(alloc, store, parts, meta, touches);
+    }
+    if meta.is_bare() {
+        return Ok(parts[0]);
+    }
+    save_root(alloc, store, parts, meta, touches)
+}
+
 // The links of a group's node, and the sizes.
-fn node_of(alloc: Global, parts: &[Part]) -> Result<FileNode, Memory>
-    ensures node { IfOk result (λ node. node ≡ node_over parts.now) }
+fn node_of(alloc: Global, parts: &[Part], meta: &Meta) -> Result<FileNode, Memory>
+    ensures node { IfOk result (λ node. node ≡ root_node meta.now parts.now) }
     ensures valid { IfOk result (λ node. AllByRecursion IsPartLink node.parts) }
 {
     let mut links = Seq::new(alloc);
@@ -69,6 +126,7 @@ fn node_of(alloc: Global, parts: &[Part]) -> Result<FileNode, Memory>
     Ok(FileNode {
         parts: links,
         sizes,
+        meta: *meta,
     })
 }
 

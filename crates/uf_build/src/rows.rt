@@ -1,17 +1,41 @@
 // The open groups of a file's rows, the lowest row first.
-ghost use Rattle.std.specs.Prelude.{◌≡◌, ◌+◌, ◌<◌, ◌≤◌, ◌^◌, ◌++◌, ◌∷◌, [], length, IfOk, OnOk};
-ghost use Rattle.std.specs.Option.{option_to_list};
+ghost use Rattle.std.specs.Prelude.{◌≡◌, ◌+◌, ◌<◌, ◌≤◌, ◌^◌, ◌++◌, ◌∷◌, [], length, IfOk, IsTrue, OnOk};
 ghost use Rattle.uf_store.specs.Faults.{fault_in};
+ghost use Rattle.uf_tree.specs.Metas.{is_meta};
 ghost use Rattle.uf_build.specs.Answers.{OnlyBuilds};
-ghost use Rattle.uf_build.specs.Rows.{PushesPart, ClosesRows, EndsRow, held_up, close_held_up, carry_held, size_of, sizes_of, IsWidth, AreShort};
+ghost use Rattle.uf_build.specs.Rows.{AddsPart, PushesPart, ClosesRows, EndsRow, add_held, groups_in, held_up, close_held, close_held_up, carry_held, size_of, sizes_of, some_row, AreOpen, IsWidth, AreShort};
 
-use crate::nodes::save_node;
+use crate::nodes::{save_node, save_top};
+use crate::open::Open;
 use std::alloc::Global;
 use std::mem;
 use std::sync::ledger::Ledger;
 use uf_cid::{Memory, Seq};
 use uf_store::{Steps, Store, StoreFault};
-use uf_tree::{Part, Parts};
+use uf_tree::{Meta, Part, Parts};
+
+// Makes a part the last one. The part that was the last comes into the lowest row.
+pub fn add<S: Store, L: Ledger>(
+    alloc: Global,
+    width: usize,
+    opened: &mut Open,
+    part: Part,
+    store: &mut S,
+    touches: &mut Steps<L>,
+) -> Result<(), StoreFault>
+    requires width { IsWidth width }
+    requires opened { AreOpen width (groups_in opened.old) }
+    requires size { sizes_of (groups_in opened.old) < 2 ^ 63 }
+    ensures added { OnOk result (AddsPart S.X.block32 width part (groups_in opened.old) (groups_in opened.new)
+        (S.seen store.new).told touches.old touches.new) }
+    ensures touches { touches.new ≤ touches.old + length (add_held S.X.block32 width part (groups_in opened.old)) }
+    ensures builds { OnlyBuilds S.X.block32 (fault_in result) (S.seen store.old) (S.seen store.new) }
+{
+    match mem::replace(&mut opened.last, Some(part)) {
+        Some(before) => push(alloc, width, &mut opened.rows, 0, before, store, touches),
+        None => Ok(()),
+    }
+}
 
 // Puts a part into the open group of a row, and the node of each group that this fills into the row above.
 pub fn push<S: Store, L: Ledger>(
@@ -56,25 +80,60 @@ fn push_first(alloc: Global, rows: &mut Vec<Parts>, part: Part) -> Result<(), Me
     Ok(())
 }
 
-// Closes the open groups from a row on, the lowest first, where a part may be carried into that row. Answers the part that
-// stands over all rows in the end.
-pub fn close<S: Store, L: Ledger>(
+// Closes all open groups behind this last part. Answers the part that stands over all rows, with the file's metadata.
+pub fn close_all<S: Store, L: Ledger>(
+    alloc: Global,
+    width: usize,
+    rows: &mut Vec<Parts>,
+    last: Part,
+    meta: &Meta,
+    store: &mut S,
+    touches: &mut Steps<L>,
+) -> Result<Part, StoreFault>
+    requires width { IsWidth width }
+    requires short { AreShort width rows.old.items }
+    requires size { sizes_of rows.old.items + last.size < 2 ^ 63 }
+    requires good { IsTrue (is_meta meta.now) }
+    ensures closed { IfOk result (λ part. ClosesRows S.X.block32 meta.now 0 (some_row rows.old.items) last part
+        (S.seen store.new).told touches.old touches.new) }
+    ensures touches { touches.new ≤ touches.old + length (close_held S.X.block32 meta.now (some_row rows.old.items) last) }
+    ensures builds { OnlyBuilds S.X.block32 (fault_in result) (S.seen store.old) (S.seen store.new) }
+{
+    with_row(alloc, rows)?;
+    close(alloc, width, rows, 0, last, meta, store, touches)
+}
+
+// At least one row.
+fn with_row(alloc: Global, rows: &mut Vec<Parts>) -> Result<(), Memory>
+    ensures { OnOk result (rows.new.items ≡ some_row rows.old.items) }
+{
+    if rows.is_empty() {
+        rows.push(Seq::new(alloc))?;
+    }
+    Ok(())
+}
+
+// Closes the open groups from a row on, the lowest first, where a part is carried into that row. Answers the part that
+// stands over all rows in the end, with the file's metadata.
+fn close<S: Store, L: Ledger>(
     alloc: Global,
     width: usize,
     rows: &mut Vec<Parts>,
     level: usize,
-    carried: Option<Part>,
+    carried: Part,
+    meta: &Meta,
     store: &mut S,
     touches: &mut Steps<L>,
-) -> Result<Option<Part>, StoreFault>
+) -> Result<Part, StoreFault>
     requires width { IsWidth width }
     requires level { level ≤ length rows.old.items }
     requires short { AreShort width rows.old.items }
-    requires size { sizes_of rows.old.items + size_of (option_to_list carried) < 2 ^ 63 }
-    ensures closed { IfOk result (λ part. ClosesRows S.X.block32 width level rows.old.items carried part
+    requires size { sizes_of rows.old.items + carried.size < 2 ^ 63 }
+    requires good { IsTrue (is_meta meta.now) }
+    ensures closed { IfOk result (λ part. ClosesRows S.X.block32 meta.now level rows.old.items carried part
         (S.seen store.new).told touches.old touches.new) }
     ensures touches { touches.new
-        ≤ touches.old + length (close_held_up S.X.block32 width level rows.old.items (option_to_list carried)) }
+        ≤ touches.old + length (close_held_up S.X.block32 meta.now level rows.old.items carried) }
     ensures builds { OnlyBuilds S.X.block32 (fault_in result) (S.seen store.old) (S.seen store.new) }
 {
     if level == rows.len() {
@@ -82,32 +141,31 @@ pub fn close<S: Store, L: Ledger>(
     }
     let is_top = level + 1 == rows.len();
     let row = mem::replace(&mut rows[level], Seq::new(alloc));
-    let up = close_row(alloc, row, carried, is_top, store, touches)?;
-    close(alloc, width, rows, level + 1, up, store, touches)
+    let up = close_row(alloc, row, carried, is_top, meta, store, touches)?;
+    close(alloc, width, rows, level + 1, up, meta, store, touches)
 }
 
 // What a row hands up as it ends.
 fn close_row<S: Store, L: Ledger>(
     alloc: Global,
     mut row: Parts,
-    carried: Option<Part>,
+    carried: Part,
     is_top: bool,
+    meta: &Meta,
     store: &mut S,
     touches: &mut Steps<L>,
-) -> Result<Option<Part>, StoreFault>
+) -> Result<Part, StoreFault>
     requires few { length row < 1024 }
-    requires size { size_of row + size_of (option_to_list carried) < 2 ^ 63 }
-    ensures ends { IfOk result (λ up. EndsRow S.X.block32 is_top (row ++ option_to_list carried) up
+    requires size { size_of row + carried.size < 2 ^ 63 }
+    requires good { IsTrue (is_meta meta.now) }
+    ensures ends { IfOk result (λ up. EndsRow S.X.block32 meta.now is_top (row ++ carried ∷ []) up
         (S.seen store.new).told touches.old touches.new) }
-    ensures touches { touches.new ≤ touches.old + length (carry_held S.X.block32 is_top (row ++ option_to_list carried)) }
+    ensures touches { touches.new ≤ touches.old + length (carry_held S.X.block32 meta.now is_top (row ++ carried ∷ [])) }
     ensures builds { OnlyBuilds S.X.block32 (fault_in result) (S.seen store.old) (S.seen store.new) }
 {
-    if let Some(part) = carried {
-        row.push(part)?;
+    row.push(carried)?;
+    if is_top {
+        return save_top(alloc, store, row.as_slice(), meta, touches);
     }
-    match row.as_slice() {
-        [] => Ok(None),
-        [part] if is_top => Ok(Some(*part)),
-        parts => Ok(Some(save_node(alloc, store, parts, touches)?)),
-    }
+    save_node(alloc, store, row.as_slice(), touches)
 }

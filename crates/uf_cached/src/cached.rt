@@ -2,16 +2,17 @@
 ghost use Rattle.std.specs.Prelude.{◌≡◌, false, map, string_bytes, true};
 ghost use Rattle.uf_cache.specs.Cached.{cached_seen};
 ghost use Rattle.uf_mfs.specs.Standing.{TellsAs};
-ghost use Rattle.uf_reply.specs.Commands.{of_command};
-ghost use Rattle.uf_reply.specs.Natures.{generates, reads_input, touches_nothing, uses_host};
-ghost use Rattle.uf_reply.specs.Requests.{request_in};
-ghost use Rattle.uf_reply.specs.declared.requests.Request.TheVariants as requests;
-ghost use Rattle.uf_reply.specs.declared.types.Command.{Command as TheCommand};
-ghost use Rattle.uf_reply.specs.declared.types.Refusal.{Refusal as TheRefusal};
+ghost use Rattle.uf_command.specs.Commands.{of_command};
+ghost use Rattle.uf_command.specs.Natures.{generates, reads_input, touches_nothing, uses_host};
+ghost use Rattle.uf_command.specs.Requests.{request_in};
+ghost use Rattle.uf_command.specs.declared.requests.Request.TheVariants as requests;
+ghost use Rattle.uf_command.specs.declared.types.Command.{Command as TheCommand};
+ghost use Rattle.uf_command.specs.declared.types.Refusal.{Refusal as TheRefusal};
 ghost use Rattle.std.specs.declared.result.Result.{Result as TheResult};
 ghost use Rattle.uf_top.specs.Around.{around, host_side};
 ghost use Rattle.uf_top.specs.Batch.{Batches, scene};
-ghost use Rattle.uf_reply.specs.Telling.{IsSent};
+ghost use Rattle.uf_command.specs.Telling.{IsSent};
+ghost use Rattle.uf_top.specs.Collecting.{RunsGc};
 ghost use Rattle.uf_top.specs.Running.{Runs};
 ghost use Rattle.uf_top.specs.Talking.{RunsPull, RunsServe};
 ghost use Rattle.uf_cid.specs.declared.cid.Cid.{Cid as TheCid};
@@ -22,13 +23,13 @@ use std::sync::ledger::Ledger;
 use uf_cache::Cached;
 use uf_edge::{Host, Sink, Source};
 use uf_murmur::NameHash;
-use uf_store::{Steps, Store};
+use uf_store::{Steps, Sweep};
 use uf_top::{Status, run};
 
 /// Does one command, as `run` does, over a store whose blocks that were found last are kept in memory.
 ///
 /// A block that is in memory is lent from there, and the store below isn't asked.
-pub fn run_cached<S: Store, N: NameHash, W: Host, I: Source, O: Sink, E: Sink, L: Ledger>(
+pub fn run_cached<S: Sweep, N: NameHash, W: Host, I: Source, O: Sink, E: Sink, L: Ledger>(
     alloc: Global,
     words: &[String],
     store: &mut Cached<S>,
@@ -69,6 +70,15 @@ pub fn run_cached<S: Store, N: NameHash, W: Host, I: Source, O: Sink, E: Sink, L
         (host_side (W.tree host.new) (W.read_faults host.new) (W.write_faults host.new))) }
     ensures serve { request_in (map string_bytes words.now) ≡ requests.Serve
         → RunsServe (λ line. IsSent line (E.holds errors.old) (E.holds errors.new) (E.faults errors.old)
+        (E.faults errors.new)) S.X.block32 N.name64 result
+        (around (cached_seen store.old) (I.left input.old) (I.faults input.old) (O.holds output.old)
+        (O.faults output.old) touches.old
+        (host_side (W.tree host.old) (W.read_faults host.old) (W.write_faults host.old)))
+        (around (cached_seen store.new) (I.left input.new) (I.faults input.new) (O.holds output.new)
+        (O.faults output.new) touches.new
+        (host_side (W.tree host.new) (W.read_faults host.new) (W.write_faults host.new))) }
+    ensures collect { request_in (map string_bytes words.now) ≡ requests.Gc
+        → RunsGc (λ line. IsSent line (E.holds errors.old) (E.holds errors.new) (E.faults errors.old)
         (E.faults errors.new)) S.X.block32 N.name64 result
         (around (cached_seen store.old) (I.left input.old) (I.faults input.old) (O.holds output.old)
         (O.faults output.old) touches.old

@@ -1,6 +1,6 @@
 -- Directories changed in place, in one block or in shards.
 use Rattle.std.proofs.Common.{◌≡◌, ℕ, suc, ◌+◌, ◌≤◌, List, [], ◌∷◌, length, refl, ap, arith, sym, ◌∙◌, subst, inl, inr, Option, Some, None, Ordering, Bool, true, false, cond}
-use Rattle.std.specs.Prelude.{IfErr, IfOk, IfSome, OnOk, nat_lt, not}
+use Rattle.std.specs.Prelude.{IfErr, IfOk, IfSome, IsTrue, OnOk, nat_lt, not}
 use Rattle.std.specs.declared.cmp.Ordering.TheVariants.{Less, Equal, Greater}
 use Rattle.std.specs.declared.result.Result.{Result}
 use Rattle.std.specs.declared.result.Result.TheVariants.{Ok, Err}
@@ -29,14 +29,18 @@ use Rattle.uf_store.specs.declared.store.StoreFault.{StoreFault}
 use Rattle.uf_store.specs.declared.store.StoreFault.TheVariants.{Failed, Damaged, Missing, BadBlock, Clash, Memory}
 use Rattle.uf_store.proofs.Causes.{StaysCalm-trans, Shows-after}
 use Rattle.uf_tree.specs.declared.nodes.Entry.{Entry}
+use Rattle.uf_tree.specs.declared.meta.Meta.{Meta}
 use Rattle.uf_tree.specs.declared.profile.Profile.{Profile}
 use Rattle.uf_tree.specs.Changes.{with_name, without}
 use Rattle.uf_tree.specs.DirPlan.{basic_dir, is_sharded, weight}
 use Rattle.uf_tree.specs.Names.{names_cmp}
-use Rattle.uf_tree.specs.Nodes.{InSlot, Named}
+use Rattle.uf_tree.specs.declared.nodes.DirNode.{DirNode}
+use Rattle.uf_tree.specs.declared.nodes.ShardNode.{ShardNode}
+use Rattle.uf_tree.specs.Metas.{is_meta}
+use Rattle.uf_tree.specs.Nodes.{Named}
 use Rattle.uf_tree.specs.ShardPlan.{same_slots, shard, shard_plan, twins}
 use Rattle.uf_tree.specs.TreePlan.{Refusal, collision, dir_refusal, or_else, too_big}
-use Rattle.uf_tree.specs.Validity.{IsDirectory, IsHash}
+use Rattle.uf_tree.specs.Validity.{IsDirNode, IsDirectory, IsHash}
 use Rattle.uf_shard.specs.declared.fault.DirFault.{DirFault}
 use Rattle.uf_shard.specs.declared.fault.DirFault.TheVariants.{Collision, TooBig, Store}
 use Rattle.uf_shard.specs.Answers.{Gives, GivesOver, Shown, shard_refusal}
@@ -48,7 +52,7 @@ use Rattle.uf_dir.specs.Roots.{IsRootCid, IsRootOf, IsThere}
 use Rattle.uf_dir.specs.declared.root.Root.{Root}
 use Rattle.uf_dir.specs.declared.root.Root.TheVariants as root
 use Rattle.uf_dir.proofs.Causes.{Shows-wider}
-use Rattle.uf_dir.proofs.Looked.{agrees_mid, sharded_is}
+use Rattle.uf_dir.proofs.Looked.{agrees_mid, sharded-meta, sharded_is}
 use Rattle.uf_dir.proofs.Planning.{blocks-sharded, light-entry, light-held, planned-sharded}
 use Rattle.uf_dir.proofs.Edited.{after-held, after-same, left-some, without-absent}
 use Rattle.uf_dir.proofs.Listing.{directory-without}
@@ -132,110 +136,122 @@ gives-over hash told old refusal entry (Err TooBig) before mid now gives calm sh
 gives-over hash told old refusal entry (Err (Store fault)) before mid now gives calm shown faults clashes = saving-loss hash NoneIsBad told old fault mid now gives shown (stood-mid before mid now calm faults) (stood-clash before mid now calm clashes)
 
 -- what a removal from shards answers, by what it takes
-takes-reads : (X : List ℕ → List ℕ) (N : List ℕ → ℕ) (p : Profile) (name : List ℕ) (l : List Named) (before now : Told) (r : Result (Option Entry) StoreFault) → TakesOver X N p name l before now r
-    → ReadsOver before (shard X N 7 l).blocks (entry_without X N p name l) r
-takes-reads X N p name l before now (Ok None) takes = takes
-takes-reads X N p name l before now (Ok (Some e)) takes = takes.0
-takes-reads X N p name l before now (Err fault) takes = takes
+takes-reads : (X : List ℕ → List ℕ) (N : List ℕ → ℕ) (p : Profile) (meta : Meta) (name : List ℕ) (l : List Named) (before now : Told) (r : Result (Option Entry) StoreFault) → TakesOver X N p meta name l before now r
+    → ReadsOver before (shard X N 7 meta l).blocks (entry_without X N p meta name l) r
+takes-reads X N p meta name l before now (Ok None) takes = takes
+takes-reads X N p meta name l before now (Ok (Some e)) takes = takes.0
+takes-reads X N p meta name l before now (Err fault) takes = takes
 
-module _ (X : List ℕ → List ℕ) (good : IsHash X) (N : List ℕ → ℕ) (p : Profile) (cid : Cid) (l : List Named) (is : IsPlanned X N p cid l)
-    (before mid : Seen) (found : Root) (items : List InSlot) (at : found ≡ root.Sharded items) (looks : IsThere cid before mid × IsRootOf mid.lent found) (same : mid.told ≡ before.told) (agrees : Agrees before.told (own_blocks X N p l)) where
+module _ (X : List ℕ → List ℕ) (good : IsHash X) (N : List ℕ → ℕ) (p : Profile) (meta : Meta) (cid : Cid) (l : List Named) (is : IsPlanned X N p meta cid l)
+    (before mid : Seen) (found : Root) (node : ShardNode) (at : found ≡ root.Sharded node) (looks : IsThere cid before mid × IsRootOf mid.lent found) (same : mid.told ≡ before.told) (agrees : Agrees before.told (own_blocks X N p meta l)) where
   pub in_shards : is_sharded p l ≡ true
-  in_shards = sharded_is X good N p cid l is before mid found items at looks same agrees
+  in_shards = sharded_is X good N p meta cid l is before mid found node at looks same agrees
 
-  pub plan_there : shards.IsPlanned X N cid l
-  plan_there = planned-sharded X N p l cid is in_shards
+  pub plan_there : shards.IsPlanned X N cid meta l
+  plan_there = planned-sharded X N p meta l cid is in_shards
 
-  pub agrees_there : Agrees mid.told (shard X N 7 l).blocks
-  agrees_there = agrees_mid X good N p cid l is before mid found items at looks same agrees
+  pub agrees_there : Agrees mid.told (shard X N 7 meta l).blocks
+  agrees_there = agrees_mid X good N p meta cid l is before mid found node at looks same agrees
 
-  over_as : (b : Bool) (m : List Named) (r : Result Entry DirFault) → is_sharded p m ≡ b → b ≡ true → GivesOver before.told (own_blocks X N p l) (shard_refusal X N m) (shard X N 7 m).entry r → GivesOver before.told (own_blocks X N p l) (dir_refusal X N p m) (dir_entry X N p m) r
-  over_as b m r is holds h = subst (λ (b : Bool). GivesOver before.told (own_blocks X N p l) (or_else (cond b (collision N m) None) (too_big (cond b (shard X N 7 m) (basic_dir X N m)).entry.tsize)) (cond b (shard X N 7 m) (basic_dir X N m)).entry r) (sym (is ∙ holds)) h
+  over_as : (b : Bool) (m : List Named) (r : Result Entry DirFault) → is_sharded p m ≡ b → b ≡ true → GivesOver before.told (own_blocks X N p meta l) (shard_refusal X N meta m) (shard X N 7 meta m).entry r → GivesOver before.told (own_blocks X N p meta l) (dir_refusal X N p meta m) (dir_entry X N p meta m) r
+  over_as b m r is holds h = subst (λ (b : Bool). GivesOver before.told (own_blocks X N p meta l) (or_else (cond b (collision N m) None) (too_big (cond b (shard X N 7 meta m) (basic_dir X N meta m)).entry.tsize)) (cond b (shard X N 7 meta m) (basic_dir X N meta m)).entry r) (sym (is ∙ holds)) h
 
   pub put-sharded : (name : List ℕ) (e : Entry) (now : Seen) (r : Result Entry DirFault) → StaysCalm before mid
-      → ((k : List Named) → shards.IsPlanned X N cid k → Agrees mid.told (shard X N 7 k).blocks → Stood mid.faults now.faults → Stood mid.clashes now.clashes
-      → GivesOver mid.told (shard X N 7 k).blocks (shard_refusal X N (with_name name e k)) (shard X N 7 (with_name name e k)).entry r)
-      → Stood before.faults now.faults → Stood before.clashes now.clashes → GivesOver before.told (own_blocks X N p l) (dir_refusal X N p (with_name name e l)) (dir_entry X N p (with_name name e l)) r
+      → ((n : Meta) (k : List Named) → shards.IsPlanned X N cid n k → Agrees mid.told (shard X N 7 n k).blocks → Stood mid.faults now.faults → Stood mid.clashes now.clashes
+      → GivesOver mid.told (shard X N 7 n k).blocks (shard_refusal X N n (with_name name e k)) (shard X N 7 n (with_name name e k)).entry r)
+      → Stood before.faults now.faults → Stood before.clashes now.clashes → GivesOver before.told (own_blocks X N p meta l) (dir_refusal X N p meta (with_name name e l)) (dir_entry X N p meta (with_name name e l)) r
   put-sharded name e now r calm value faults clashes =
       over_as true (with_name name e l) r (heavier p name e l in_shards) refl
-      (subst (λ (old : List Held). GivesOver before.told old (shard_refusal X N (with_name name e l)) (shard X N 7 (with_name name e l)).entry r) (sym (blocks-sharded X N p l in_shards))
-      (subst (λ (told : Told). GivesOver told (shard X N 7 l).blocks (shard_refusal X N (with_name name e l)) (shard X N 7 (with_name name e l)).entry r) same
-      (value l plan_there agrees_there (stood-mid before mid now calm faults) (stood-clash before mid now calm clashes))))
+      (subst (λ (old : List Held). GivesOver before.told old (shard_refusal X N meta (with_name name e l)) (shard X N 7 meta (with_name name e l)).entry r) (sym (blocks-sharded X N p meta l in_shards))
+      (subst (λ (told : Told). GivesOver told (shard X N 7 meta l).blocks (shard_refusal X N meta (with_name name e l)) (shard X N 7 meta (with_name name e l)).entry r) same
+      (value meta l plan_there agrees_there (stood-mid before mid now calm faults) (stood-clash before mid now calm clashes))))
 
-  pub stays_there : (now : Told) → Agrees now (own_blocks X N p l) → StaysAgreed mid.told now (shard X N 7 l).blocks
-  stays_there now agrees_now = record { first = agrees_there; last = subst (Agrees now) (blocks-sharded X N p l in_shards) agrees_now }
+  pub stays_there : (now : Told) → Agrees now (own_blocks X N p meta l) → StaysAgreed mid.told now (shard X N 7 meta l).blocks
+  stays_there now agrees_now = record { first = agrees_there; last = subst (Agrees now) (blocks-sharded X N p meta l in_shards) agrees_now }
 
   pub put-sharded-after : (name : List ℕ) (e : Entry) (now : Told)
-      → ((k : List Named) → shards.IsPlanned X N cid k → StaysAgreed mid.told now (shard X N 7 k).blocks → AgreesAfter mid.told now (shard X N 7 k).blocks (shard X N 7 (with_name name e k)).blocks)
-      → Agrees now (own_blocks X N p l) → AgreesAfter before.told now (own_blocks X N p l) (own_blocks X N p (with_name name e l))
+      → ((n : Meta) (k : List Named) → shards.IsPlanned X N cid n k → StaysAgreed mid.told now (shard X N 7 n k).blocks → AgreesAfter mid.told now (shard X N 7 n k).blocks (shard X N 7 n (with_name name e k)).blocks)
+      → Agrees now (own_blocks X N p meta l) → AgreesAfter before.told now (own_blocks X N p meta l) (own_blocks X N p meta (with_name name e l))
   put-sharded-after name e now after safe =
-      subst (AgreesAfter before.told now (own_blocks X N p l)) (sym (blocks-sharded X N p (with_name name e l) (heavier p name e l in_shards)))
-      (subst (λ (old : List Held). AgreesAfter before.told now old (shard X N 7 (with_name name e l)).blocks) (sym (blocks-sharded X N p l in_shards))
-      (subst (λ (told : Told). AgreesAfter told now (shard X N 7 l).blocks (shard X N 7 (with_name name e l)).blocks) same (after l plan_there (stays_there now safe))))
+      subst (AgreesAfter before.told now (own_blocks X N p meta l)) (sym (blocks-sharded X N p meta (with_name name e l) (heavier p name e l in_shards)))
+      (subst (λ (old : List Held). AgreesAfter before.told now old (shard X N 7 meta (with_name name e l)).blocks) (sym (blocks-sharded X N p meta l in_shards))
+      (subst (λ (told : Told). AgreesAfter told now (shard X N 7 meta l).blocks (shard X N 7 meta (with_name name e l)).blocks) same (after meta l plan_there (stays_there now safe))))
 
   -- ---- a removal
 
   -- the shards stay
-  pub stay-there : (now : Seen) → StaysCalm before mid → Agrees now.told (own_blocks X N p l) → Calm before now → StayShards X N cid mid now l
+  pub stay-there : (now : Seen) → StaysCalm before mid → Agrees now.told (own_blocks X N p meta l) → Calm before now → StayShards X N meta cid mid now l
   stay-there now stays safe calm = record { plan = plan_there; stays = stays_there now.told safe; calm = then-calm before mid now stays calm }
 
-  pub take-sharded : (name : List ℕ) (now : Seen) (r : Result (Option Entry) StoreFault) → StaysCalm before mid → TakesSharded X N p cid name mid now r
-      → Agrees now.told (own_blocks X N p l) → Calm before now → ReadsOver before.told (own_blocks X N p l) (entry_without X N p name l) r
+  -- the metadata that was read is the directory's
+  pub read_there : node.meta ≡ meta
+  read_there = sharded-meta X good N p meta cid l is before mid found node at looks same agrees
+
+  pub stay-read : (now : Seen) → StaysCalm before mid → Agrees now.told (own_blocks X N p meta l) → Calm before now → StayShards X N node.meta cid mid now l
+  stay-read now stays safe calm = subst (λ (n : Meta). StayShards X N n cid mid now l) (sym read_there) (stay-there now stays safe calm)
+
+  pub takes_there : (name : List ℕ) (now : Seen) (r : Result (Option Entry) StoreFault) → TakesSharded X N p node.meta cid name mid now r → TakesSharded X N p meta cid name mid now r
+  takes_there name now r takes = subst (λ (n : Meta). TakesSharded X N p n cid name mid now r) read_there takes
+
+  pub take-sharded : (name : List ℕ) (now : Seen) (r : Result (Option Entry) StoreFault) → StaysCalm before mid → TakesSharded X N p node.meta cid name mid now r
+      → Agrees now.told (own_blocks X N p meta l) → Calm before now → ReadsOver before.told (own_blocks X N p meta l) (entry_without X N p meta name l) r
   take-sharded name now r stays takes safe calm =
-      subst (λ (old : List Held). ReadsOver before.told old (entry_without X N p name l) r) (sym (blocks-sharded X N p l in_shards))
-      (subst (λ (told : Told). ReadsOver told (shard X N 7 l).blocks (entry_without X N p name l) r) same
-      (takes-reads X N p name l mid.told now.told r (takes.over l (stay-there now stays safe calm))))
+      subst (λ (old : List Held). ReadsOver before.told old (entry_without X N p meta name l) r) (sym (blocks-sharded X N p meta l in_shards))
+      (subst (λ (told : Told). ReadsOver told (shard X N 7 meta l).blocks (entry_without X N p meta name l) r) same
+      (takes-reads X N p meta name l mid.told now.told r ((takes_there name now r takes).over l (stay-there now stays safe calm))))
 
 -- ---- what is left of a directory in shards
 
-module _ (X : List ℕ → List ℕ) (N : List ℕ → ℕ) (p : Profile) (name : List ℕ) (l : List Named) where
-  pub absent-none : Absent ≡ left_without X N name l → None ≡ entry_without X N p name l
+module _ (X : List ℕ → List ℕ) (N : List ℕ → ℕ) (p : Profile) (meta : Meta) (name : List ℕ) (l : List Named) where
+  pub absent-none : Absent ≡ left_without X N name meta l → None ≡ entry_without X N p meta name l
   absent-none h = by (find names_cmp name l) h
     where
-      left : (m : List Named) → Absent ≡ left_of X N m → ⊥
+      left : (m : List Named) → Absent ≡ left_of X N meta m → ⊥
       left [] h = let no : Absent ≡ Empty = h in cc
-      left (e ∷ m) h = let no : Absent ≡ Left (shard X N 7 (e ∷ m)).entry = h in cc
+      left (e ∷ m) h = let no : Absent ≡ Left (shard X N 7 meta (e ∷ m)).entry = h in cc
 
-      by : (o : Option Entry) → Absent ≡ elim o [ None ↦ Absent | Some old ↦ left_of X N (without name l) ] → ◌≡◌ {A = Option Entry} None (elim o [ None ↦ None | Some old ↦ Some (dir_entry X N p (without name l)) ])
+      by : (o : Option Entry) → Absent ≡ elim o [ None ↦ Absent | Some old ↦ left_of X N meta (without name l) ] → ◌≡◌ {A = Option Entry} None (elim o [ None ↦ None | Some old ↦ Some (dir_entry X N p meta (without name l)) ])
       by None h = refl
       by (Some old) h = absurd (left (without name l) h)
 
   -- something is left, or nothing
   pub record IsEmptied : Type 0 where
     pub nothing : without name l ≡ []
-    pub entry : entry_without X N p name l ≡ Some (dir_entry X N p (without name l))
+    pub entry : entry_without X N p meta name l ≡ Some (dir_entry X N p meta (without name l))
 
-  pub emptied : Empty ≡ left_without X N name l → IsEmptied
+  pub emptied : Empty ≡ left_without X N name meta l → IsEmptied
   emptied h = by (find names_cmp name l) refl h
     where
-      none : (m : List Named) → Empty ≡ left_of X N m → m ≡ []
+      none : (m : List Named) → Empty ≡ left_of X N meta m → m ≡ []
       none [] h = refl
-      none (e ∷ m) h = absurd (let no : Empty ≡ Left (shard X N 7 (e ∷ m)).entry = h in cc)
+      none (e ∷ m) h = absurd (let no : Empty ≡ Left (shard X N 7 meta (e ∷ m)).entry = h in cc)
 
-      by : (o : Option Entry) → find names_cmp name l ≡ o → Empty ≡ elim o [ None ↦ Absent | Some old ↦ left_of X N (without name l) ] → IsEmptied
+      by : (o : Option Entry) → find names_cmp name l ≡ o → Empty ≡ elim o [ None ↦ Absent | Some old ↦ left_of X N meta (without name l) ] → IsEmptied
       by None is h = absurd (let no : Empty ≡ Absent = h in cc)
-      by (Some old) is h = record { nothing = none (without name l) h; entry = ap (λ (o : Option Entry). elim o [ None ↦ None | Some old ↦ Some (dir_entry X N p (without name l)) ]) is }
+      by (Some old) is h = record { nothing = none (without name l) h; entry = ap (λ (o : Option Entry). elim o [ None ↦ None | Some old ↦ Some (dir_entry X N p meta (without name l)) ]) is }
 
-  pub emptied-value : (e : Entry) → e ≡ dir_entry X N p [] → Empty ≡ left_without X N name l → Some e ≡ entry_without X N p name l
-  emptied-value e is h = let empty = emptied h in ap (λ (x : Entry). Some x) (is ∙ ap (dir_entry X N p) (sym empty.nothing)) ∙ sym empty.entry
+  pub emptied-value : (e : Entry) → e ≡ dir_entry X N p meta [] → Empty ≡ left_without X N name meta l → Some e ≡ entry_without X N p meta name l
+  emptied-value e is h = let empty = emptied h in ap (λ (x : Entry). Some x) (is ∙ ap (dir_entry X N p meta) (sym empty.nothing)) ∙ sym empty.entry
 
   pub record IsShortened (e : Entry) : Type 0 where
     pub some : 1 ≤ length (without name l)
-    pub shards : e ≡ (shard X N 7 (without name l)).entry
-    pub entry : entry_without X N p name l ≡ Some (dir_entry X N p (without name l))
+    pub old : Entry
+    pub there : find names_cmp name l ≡ Some old
+    pub shards : e ≡ (shard X N 7 meta (without name l)).entry
+    pub entry : entry_without X N p meta name l ≡ Some (dir_entry X N p meta (without name l))
 
-  pub shortened : (e : Entry) → Left e ≡ left_without X N name l → IsShortened e
+  pub shortened : (e : Entry) → Left e ≡ left_without X N name meta l → IsShortened e
   shortened e h = by (find names_cmp name l) refl h
     where
-      some : (m : List Named) → Left e ≡ left_of X N m → (1 ≤ length m) × (e ≡ (shard X N 7 m).entry)
+      some : (m : List Named) → Left e ≡ left_of X N meta m → (1 ≤ length m) × (e ≡ (shard X N 7 meta m).entry)
       some [] h = absurd (let no : Left e ≡ Empty = h in cc)
-      some (x ∷ m) h = (let one : 1 ≤ suc (length m) = omega arith in one, let same : Left e ≡ Left (shard X N 7 (x ∷ m)).entry = h in cc)
+      some (x ∷ m) h = (let one : 1 ≤ suc (length m) = omega arith in one, let same : Left e ≡ Left (shard X N 7 meta (x ∷ m)).entry = h in cc)
 
-      by : (o : Option Entry) → find names_cmp name l ≡ o → Left e ≡ elim o [ None ↦ Absent | Some old ↦ left_of X N (without name l) ] → IsShortened e
+      by : (o : Option Entry) → find names_cmp name l ≡ o → Left e ≡ elim o [ None ↦ Absent | Some old ↦ left_of X N meta (without name l) ] → IsShortened e
       by None is h = absurd (let no : Left e ≡ Absent = h in cc)
       by (Some old) is h =
           let parts = some (without name l) h in
-          record { some = parts.0; shards = parts.1; entry = ap (λ (o : Option Entry). elim o [ None ↦ None | Some old ↦ Some (dir_entry X N p (without name l)) ]) is }
+          record { some = parts.0; old = old; there = is; shards = parts.1; entry = ap (λ (o : Option Entry). elim o [ None ↦ None | Some old ↦ Some (dir_entry X N p meta (without name l)) ]) is }
 
   -- what is left has a plan
   alone_kept : (same : List ℕ → List ℕ → Bool) (a : List ℕ) (test : List ℕ → Bool) (m : List Named) → Alone same a m → Alone same a (where_key names_cmp test m)
@@ -248,22 +264,23 @@ module _ (X : List ℕ → List ℕ) (N : List ℕ → ℕ) (p : Profile) (name 
     | false ↦ apart_kept same test m h.1
   ]
 
-  plan_some : (m : List Named) → 1 ≤ length m → twins (same_slots N 7) m ≡ None → shard_plan X N 0 m ≡ Some (shard X N 7 m)
+  plan_some : (m : List Named) → 1 ≤ length m → twins (same_slots N 7) m ≡ None → shard_plan X N 0 meta m ≡ Some (shard X N 7 meta m)
   plan_some [] some h = absurd (omega arith)
-  plan_some (e ∷ m) some h = ap (λ (o : Option (List ℕ × List ℕ)). elim o [ None ↦ Some (shard X N 7 (e ∷ m)) | Some names ↦ None ]) h
+  plan_some (e ∷ m) some h = ap (λ (o : Option (List ℕ × List ℕ)). elim o [ None ↦ Some (shard X N 7 meta (e ∷ m)) | Some names ↦ None ]) h
 
-  plan_apart : (m : List Named) (plan : Plan) → shard_plan X N 0 m ≡ Some plan → twins (same_slots N 7) m ≡ None
+  plan_apart : (m : List Named) (plan : Plan) → shard_plan X N 0 meta m ≡ Some plan → twins (same_slots N 7) m ≡ None
   plan_apart [] plan h = absurd (let no : None ≡ Some plan = h in cc)
   plan_apart (e ∷ m) plan h = by (twins (same_slots N 7) (e ∷ m)) h
     where
-      by : (o : Option (List ℕ × List ℕ)) → elim o [ None ↦ Some (shard X N 7 (e ∷ m)) | Some names ↦ None ] ≡ Some plan → o ≡ None
+      by : (o : Option (List ℕ × List ℕ)) → elim o [ None ↦ Some (shard X N 7 meta (e ∷ m)) | Some names ↦ None ] ≡ Some plan → o ≡ None
       by None h = refl
       by (Some names) h = absurd (let no : None ≡ Some plan = h in cc)
 
-  pub shortened-plan : (cid : Cid) (e : Entry) → shards.IsPlanned X N cid l → IsShortened e → shards.IsPlanned X N e.cid (without name l)
+  pub shortened-plan : (cid : Cid) (e : Entry) → shards.IsPlanned X N cid meta l → IsShortened e → shards.IsPlanned X N e.cid meta (without name l)
   shortened-plan cid e is h = record {
+    good = is.good;
     valid = directory-without name l is.valid;
-    plan = shard X N 7 (without name l);
+    plan = shard X N 7 meta (without name l);
     is_plan = plan_some (without name l) h.some (Apart-twins (same_slots N 7) (without name l) (apart_kept (same_slots N 7) (λ other. not (eq_by_cmp names_cmp name other)) l (twins-Apart (same_slots N 7) l (plan_apart l is.plan is.is_plan))));
     cid = ap (λ (x : Entry). x.cid) h.shards;
   }
@@ -288,70 +305,70 @@ agrees-of before None old new after = absurd after
 agrees-of before (Some u) old new after = after.0
 
 -- where what is left stays as it was saved, or is held in another form
-pub settled-after : (X : List ℕ → List ℕ) (N : List ℕ → ℕ) (p : Profile) (m : List Named) (before mid now : Told) (old : List Held) → Agrees before old → SavesOnly X before now → AgreesAfter before mid old (shard X N 7 m).blocks
-    → IsLeftOrHeld X N p m mid now → AgreesAfter before now old (own_blocks X N p m)
-settled-after X N p m before mid now old agrees saves after (inl stays) =
-    subst (AgreesAfter before now old) (sym (blocks-sharded X N p m stays.0)) (subst (λ (told : Told). AgreesAfter before told old (shard X N 7 m).blocks) (sym stays.1) after)
-settled-after X N p m before mid now old agrees saves after (inr held) = after-held X before now old (own_blocks X N p m) agrees saves held
+pub settled-after : (X : List ℕ → List ℕ) (N : List ℕ → ℕ) (p : Profile) (meta : Meta) (m : List Named) (before mid now : Told) (old : List Held) → Agrees before old → SavesOnly X before now → AgreesAfter before mid old (shard X N 7 meta m).blocks
+    → IsLeftOrHeld X N p meta m mid now → AgreesAfter before now old (own_blocks X N p meta m)
+settled-after X N p meta m before mid now old agrees saves after (inl stays) =
+    subst (AgreesAfter before now old) (sym (blocks-sharded X N p meta m stays.0)) (subst (λ (told : Told). AgreesAfter before told old (shard X N 7 meta m).blocks) (sym stays.1) after)
+settled-after X N p meta m before mid now old agrees saves after (inr held) = after-held X before now old (own_blocks X N p meta m) agrees saves held
 
 -- ---- the form that what is left has
 
 -- the pairs that were listed, saved in one block where they aren't too heavy
-module _ (X : List ℕ → List ℕ) (p : Profile) (entry : Entry) where
-  sharded-entry : (N : List ℕ → ℕ) (l : List Named) → is_sharded p l ≡ true → entry ≡ (shard X N 7 l).entry → entry ≡ dir_entry X N p l
-  sharded-entry N l heavy is = is ∙ ap (λ (b : Bool). (cond b (shard X N 7 l) (basic_dir X N l)).entry) (sym heavy)
+module _ (X : List ℕ → List ℕ) (p : Profile) (meta : Meta) (entry : Entry) where
+  sharded-entry : (N : List ℕ → ℕ) (l : List Named) → is_sharded p l ≡ true → entry ≡ (shard X N 7 meta l).entry → entry ≡ dir_entry X N p meta l
+  sharded-entry N l heavy is = is ∙ ap (λ (b : Bool). (cond b (shard X N 7 meta l) (basic_dir X N meta l)).entry) (sym heavy)
 
   -- shards that are too heavy for one block stay
   pub stays-settled : (before now : Seen) → IsShardCid X entry.cid → now.told ≡ before.told
-      → ((N : List ℕ → ℕ) (l : List Named) → AreShards X N entry before now l → true ≡ nat_lt p.threshold (weight l)) → SettlesShards X p entry before now (Ok entry)
+      → ((N : List ℕ → ℕ) (l : List Named) → AreShards X N meta entry before now l → true ≡ nat_lt p.threshold (weight l)) → SettlesShards X p meta entry before now (Ok entry)
   stays-settled before now shard same heavy = record {
     made = shard-root X (Some p) entry.cid shard;
     over = λ N l are. let is : is_sharded p l ≡ true = sym (heavy N l are) in (sharded-entry N l is are.same, inl (is, same));
   }
 
   -- the same over two calls, of which the first left all as it was
-  pub later-shards : (N : List ℕ → ℕ) (before mid now : Seen) (l : List Named) → StaysCalm before mid → mid.told ≡ before.told → AreShards X N entry before now l → AreShards X N entry mid now l
+  pub later-shards : (N : List ℕ → ℕ) (before mid now : Seen) (l : List Named) → StaysCalm before mid → mid.told ≡ before.told → AreShards X N meta entry before now l → AreShards X N meta entry mid now l
   later-shards N before mid now l stays same are = record {
     plan = are.plan;
     same = are.same;
-    agrees = subst (λ (told : Told). Agrees told (shard X N 7 l).blocks) (sym same) are.agrees;
+    agrees = subst (λ (told : Told). Agrees told (shard X N 7 meta l).blocks) (sym same) are.agrees;
     calm = then-calm before mid now stays are.calm;
   }
 
-  pub settles-later : (before mid now : Seen) (r : Result Entry StoreFault) → StaysCalm before mid → mid.told ≡ before.told → SettlesShards X p entry mid now r → SettlesShards X p entry before now r
+  pub settles-later : (before mid now : Seen) (r : Result Entry StoreFault) → StaysCalm before mid → mid.told ≡ before.told → SettlesShards X p meta entry mid now r → SettlesShards X p meta entry before now r
   settles-later before mid now r stays same settles = record {
     made = settles.made;
-    over = λ N l are. subst (λ (told : Told). SettlesOver X N p l told now.told r) same (settles.over N l (later-shards N before mid now l stays same are));
+    over = λ N l are. subst (λ (told : Told). SettlesOver X N p meta l told now.told r) same (settles.over N l (later-shards N before mid now l stays same are));
   }
 
   module _ (pairs : List Named) where
     -- what was saved of pairs that aren't too heavy
-    pub saved-fits : (N : List ℕ → ℕ) (r : Result Entry StoreFault) (mid now : Told) → is_sharded p pairs ≡ false → IfOk r (λ e. (N : List ℕ → ℕ) → e ≡ (basic_dir X N pairs).entry) → OnOk r (Holds now (basic_dir X N pairs).blocks) → IfErr r IsSaving
-        → Fits X N p entry pairs mid now r
-    saved-fits N (Ok e) mid now light is held fault = inr (is N ∙ light-entry X N p pairs light, light-held X N p pairs now light held)
+    pub saved-fits : (N : List ℕ → ℕ) (r : Result Entry StoreFault) (mid now : Told) → is_sharded p pairs ≡ false → IfOk r (λ e. (N : List ℕ → ℕ) → e ≡ (basic_dir X N meta pairs).entry) → OnOk r (Holds now (basic_dir X N meta pairs).blocks) → IfErr r IsSaving
+        → Fits X N p meta entry pairs mid now r
+    saved-fits N (Ok e) mid now light is held fault = inr (is N ∙ light-entry X N p meta pairs light, light-held X N p meta pairs now light held)
     saved-fits N (Err fault) mid now light is held saving = saving
 
-    fits-made : IsHash X → IsDirectory pairs → (r : Result Entry StoreFault) (before now : Told) → IsShardCid X entry.cid → Fits X (λ name. 0) p entry pairs before now r → IfOk r (λ e. IsRootCid X (Some p) e.cid)
-    fits-made good valid (Ok e) before now shard (inl heavy) = subst (λ (x : Entry). IsRootCid X (Some p) x.cid) (sym heavy.2) (shard-root X (Some p) entry.cid shard)
-    fits-made good valid (Ok e) before now shard (inr light) = subst (λ (x : Entry). IsRootCid X (Some p) x.cid) (sym light.0) (planned-root X good (λ name. 0) p pairs valid)
-    fits-made good valid (Err fault) before now shard fits = tt
+    fits-made : IsHash X → IsTrue (is_meta meta) → IsDirectory pairs → (r : Result Entry StoreFault) (before now : Told) → IsShardCid X entry.cid → Fits X (λ name. 0) p meta entry pairs before now r → IfOk r (λ e. IsRootCid X (Some p) e.cid)
+    fits-made good carried valid (Ok e) before now shard (inl heavy) = subst (λ (x : Entry). IsRootCid X (Some p) x.cid) (sym heavy.2) (shard-root X (Some p) entry.cid shard)
+    fits-made good carried valid (Ok e) before now shard (inr light) = subst (λ (x : Entry). IsRootCid X (Some p) x.cid) (sym light.0) (planned-root X good (λ name. 0) p meta pairs carried valid)
+    fits-made good carried valid (Err fault) before now shard fits = tt
 
-    fits-over : (N : List ℕ → ℕ) (l : List Named) (r : Result Entry StoreFault) (before mid now : Seen) → pairs ≡ l → entry ≡ (shard X N 7 l).entry → mid.told ≡ before.told → Fits X N p entry pairs mid.told now.told r
-        → faults.Shown X NoneIsBad (fault_in r) mid now → Calm mid now → SettlesOver X N p l before.told now.told r
+    fits-over : (N : List ℕ → ℕ) (l : List Named) (r : Result Entry StoreFault) (before mid now : Seen) → pairs ≡ l → entry ≡ (shard X N 7 meta l).entry → mid.told ≡ before.told → Fits X N p meta entry pairs mid.told now.told r
+        → faults.Shown X NoneIsBad (fault_in r) mid now → Calm mid now → SettlesOver X N p meta l before.told now.told r
     fits-over N l (Ok e) before mid now same is told (inl heavy) shown calm =
         let in_shards : is_sharded p l ≡ true = ap (is_sharded p) (sym same) ∙ heavy.0 in
         (heavy.2 ∙ sharded-entry N l in_shards is, inl (in_shards, heavy.1 ∙ told))
     fits-over N l (Ok e) before mid now same is told (inr light) shown calm =
-        (light.0 ∙ ap (dir_entry X N p) same, inr (subst (λ (m : List Named). Holds now.told (own_blocks X N p m)) same light.1))
-    fits-over N l (Err fault) before mid now same is told fits shown calm = saving-loss X NoneIsBad before.told (shard X N 7 l).blocks fault mid now fits shown calm.faults calm.clashes
+        (light.0 ∙ ap (dir_entry X N p meta) same, inr (subst (λ (m : List Named). Holds now.told (own_blocks X N p meta m)) same light.1))
+    fits-over N l (Err fault) before mid now same is told fits shown calm = saving-loss X NoneIsBad before.told (shard X N 7 meta l).blocks fault mid now fits shown calm.faults calm.clashes
 
-    pub fits-settles : IsHash X → IsDirectory pairs → (r : Result Entry StoreFault) (before mid now : Seen) → IsShardCid X entry.cid → StaysCalm before mid → mid.told ≡ before.told
-        → ((N : List ℕ → ℕ) (l : List Named) → shards.IsPlanned X N entry.cid l → Agrees before.told (shard X N 7 l).blocks → Stood before.faults mid.faults → pairs ≡ l)
-        → ((N : List ℕ → ℕ) → Fits X N p entry pairs mid.told now.told r) → faults.Shown X NoneIsBad (fault_in r) mid now → SettlesShards X p entry before now r
-    fits-settles good valid r before mid now shard stays told same fits shown = record {
-      made = fits-made good valid r mid.told now.told shard (fits (λ name. 0));
+    pub fits-settles : IsHash X → IsTrue (is_meta meta) → IsDirectory pairs → (r : Result Entry StoreFault) (before mid now : Seen) → IsShardCid X entry.cid → StaysCalm before mid → mid.told ≡ before.told
+        → ((N : List ℕ → ℕ) (n : Meta) (l : List Named) → shards.IsPlanned X N entry.cid n l → Agrees before.told (shard X N 7 n l).blocks → Stood before.faults mid.faults → pairs ≡ l)
+        → ((N : List ℕ → ℕ) → Fits X N p meta entry pairs mid.told now.told r) → faults.Shown X NoneIsBad (fault_in r) mid now → SettlesShards X p meta entry before now r
+    fits-settles good carried valid r before mid now shard stays told same fits shown = record {
+      made = fits-made good carried valid r mid.told now.told shard (fits (λ name. 0));
       over = λ N l are. let first = first-calm X NoneIsBad (fault_in r) before mid now stays shown are.calm in
-          fits-over N l r before mid now (same N l are.plan are.agrees first.faults) are.same told (fits N) shown (then-calm before mid now stays are.calm);
+          fits-over N l r before mid now (same N meta l are.plan are.agrees first.faults) are.same told (fits N) shown (then-calm before mid now stays are.calm);
     }
 
 -- the weight of fewer pairs
@@ -366,7 +383,7 @@ lighter name (x ∷ l) = by (not (eq_by_cmp names_cmp name x.0)) (lighter name l
     by true later = omega (arith, whole (without name l), whole l, later)
     by false later = omega (arith, whole l, later)
 
-light_bound : (t n : ℕ) → n ≤ t → nat_lt t n ≡ false
+pub light_bound : (t n : ℕ) → n ≤ t → nat_lt t n ≡ false
 light_bound t n h = grind (arith, nat_tests)
 
 -- the pairs that are left of one block fit one block too
@@ -374,11 +391,11 @@ module _ (name : List ℕ) (pairs m : List Named) (left : Option (List Named)) (
   pub left-light : (most : ℕ) → weight pairs ≤ most → weight m ≤ most
   left-light most light = let rest : weight m ≤ weight pairs = subst (λ (k : List Named). weight k ≤ weight pairs) (sym (left-some name pairs m left some is)) (lighter name pairs) in omega (arith, rest, light)
 
-  pub left-basic : (X : List ℕ → List ℕ) (N : List ℕ → ℕ) (p : Profile) (e : Entry) (now : Told) → weight pairs ≤ p.threshold → e ≡ (basic_dir X N m).entry → Holds now (basic_dir X N m).blocks
-      → (entry_without X N p name pairs ≡ Some e) × Holds now (own_blocks X N p (without name pairs))
-  left-basic X N p e now light entry held = (
-    there (find names_cmp name pairs) (sym some ∙ is) ∙ ap (λ (k : List Named). Some (dir_entry X N p k)) (sym whole) ∙ ap (λ (x : Entry). Some x) (sym (entry ∙ light-entry X N p m one)),
-    subst (λ (k : List Named). Holds now (own_blocks X N p k)) whole (light-held X N p m now one held),
+  pub left-basic : (X : List ℕ → List ℕ) (N : List ℕ → ℕ) (p : Profile) (meta : Meta) (e : Entry) (now : Told) → weight pairs ≤ p.threshold → e ≡ (basic_dir X N meta m).entry → Holds now (basic_dir X N meta m).blocks
+      → (entry_without X N p meta name pairs ≡ Some e) × Holds now (own_blocks X N p meta (without name pairs))
+  left-basic X N p meta e now light entry held = (
+    there (find names_cmp name pairs) (sym some ∙ is) ∙ ap (λ (k : List Named). Some (dir_entry X N p meta k)) (sym whole) ∙ ap (λ (x : Entry). Some x) (sym (entry ∙ light-entry X N p meta m one)),
+    subst (λ (k : List Named). Holds now (own_blocks X N p meta k)) whole (light-held X N p meta m now one held),
   )
     where
       whole : m ≡ without name pairs
@@ -388,25 +405,25 @@ module _ (name : List ℕ) (pairs m : List Named) (left : Option (List Named)) (
       one = light_bound p.threshold (weight m) (left-light p.threshold light)
 
       there : (o : Option Entry) → ◌≡◌ {A = Option (List Named)} (Some m) (elim o [ None ↦ None | Some old ↦ Some (without name pairs) ])
-          → elim o [ None ↦ None | Some old ↦ Some (dir_entry X N p (without name pairs)) ] ≡ Some (dir_entry X N p (without name pairs))
+          → elim o [ None ↦ None | Some old ↦ Some (dir_entry X N p meta (without name pairs)) ] ≡ Some (dir_entry X N p meta (without name pairs))
       there None e = absurd (let no : Some m ≡ None = e in cc)
       there (Some old) e = refl
 
 -- what a removal from one block answers
-pub basic-value : (X : List ℕ → List ℕ) (N : List ℕ → ℕ) (p : Profile) (name : List ℕ) (pairs l : List Named) (told : Told) (old : List Held) (mid now : Told) (r : Result (Option Entry) StoreFault) (before between after : Seen) → pairs ≡ l → TakesBasic X N p name pairs mid now r
-    → StaysCalm before between → Answers X NoneIsBad r between after → Stood before.faults after.faults → Stood before.clashes after.clashes → ReadsOver told old (entry_without X N p name l) r
-basic-value X N p name pairs l told old mid now (Ok None) before between after same takes calm answers faults clashes =
-    sym (ap (λ (m : List Named). entry_without X N p name m) (sym same) ∙ ap (λ (o : Option Entry). elim o [ None ↦ None | Some old ↦ Some (dir_entry X N p (without name pairs)) ]) takes.0)
-basic-value X N p name pairs l told old mid now (Ok (Some e)) before between after same takes calm answers faults clashes = sym takes.0 ∙ ap (λ (m : List Named). entry_without X N p name m) same
-basic-value X N p name pairs l told old mid now (Err fault) before between after same takes calm answers faults clashes = saving-loss X NoneIsBad told old fault between after takes answers (stood-mid before between after calm faults) (stood-clash before between after calm clashes)
+pub basic-value : (X : List ℕ → List ℕ) (N : List ℕ → ℕ) (p : Profile) (meta : Meta) (name : List ℕ) (pairs l : List Named) (told : Told) (old : List Held) (mid now : Told) (r : Result (Option Entry) StoreFault) (before between after : Seen) → pairs ≡ l → TakesBasic X N p meta name pairs mid now r
+    → StaysCalm before between → Answers X NoneIsBad r between after → Stood before.faults after.faults → Stood before.clashes after.clashes → ReadsOver told old (entry_without X N p meta name l) r
+basic-value X N p meta name pairs l told old mid now (Ok None) before between after same takes calm answers faults clashes =
+    sym (ap (λ (m : List Named). entry_without X N p meta name m) (sym same) ∙ ap (λ (o : Option Entry). elim o [ None ↦ None | Some old ↦ Some (dir_entry X N p meta (without name pairs)) ]) takes.0)
+basic-value X N p meta name pairs l told old mid now (Ok (Some e)) before between after same takes calm answers faults clashes = sym takes.0 ∙ ap (λ (m : List Named). entry_without X N p meta name m) same
+basic-value X N p meta name pairs l told old mid now (Err fault) before between after same takes calm answers faults clashes = saving-loss X NoneIsBad told old fault between after takes answers (stood-mid before between after calm faults) (stood-clash before between after calm clashes)
 
-pub basic-after : (X : List ℕ → List ℕ) (N : List ℕ → ℕ) (p : Profile) (name : List ℕ) (pairs l : List Named) (before mid now : Told) (r : Result (Option Entry) StoreFault) → pairs ≡ l → mid ≡ before → TakesBasic X N p name pairs mid now r → SavesOnly X before now
-    → Agrees before (own_blocks X N p l) → OnOk r (AgreesAfter before now (own_blocks X N p l) (own_blocks X N p (without name l)))
-basic-after X N p name pairs l before mid now (Ok None) same calm takes saves agrees =
-    subst (λ (m : List Named). AgreesAfter before now (own_blocks X N p l) (own_blocks X N p m)) (sym (without-absent name l (ap (find names_cmp name) (sym same) ∙ takes.0))) (after-same before now (own_blocks X N p l) agrees (takes.1 ∙ calm))
-basic-after X N p name pairs l before mid now (Ok (Some e)) same calm takes saves agrees =
-    after-held X before now (own_blocks X N p l) (own_blocks X N p (without name l)) agrees saves (subst (λ (m : List Named). Holds now (own_blocks X N p (without name m))) same takes.1)
-basic-after X N p name pairs l before mid now (Err fault) same calm takes saves agrees = tt
+pub basic-after : (X : List ℕ → List ℕ) (N : List ℕ → ℕ) (p : Profile) (meta : Meta) (name : List ℕ) (pairs l : List Named) (before mid now : Told) (r : Result (Option Entry) StoreFault) → pairs ≡ l → mid ≡ before → TakesBasic X N p meta name pairs mid now r → SavesOnly X before now
+    → Agrees before (own_blocks X N p meta l) → OnOk r (AgreesAfter before now (own_blocks X N p meta l) (own_blocks X N p meta (without name l)))
+basic-after X N p meta name pairs l before mid now (Ok None) same calm takes saves agrees =
+    subst (λ (m : List Named). AgreesAfter before now (own_blocks X N p meta l) (own_blocks X N p meta m)) (sym (without-absent name l (ap (find names_cmp name) (sym same) ∙ takes.0))) (after-same before now (own_blocks X N p meta l) agrees (takes.1 ∙ calm))
+basic-after X N p meta name pairs l before mid now (Ok (Some e)) same calm takes saves agrees =
+    after-held X before now (own_blocks X N p meta l) (own_blocks X N p meta (without name l)) agrees saves (subst (λ (m : List Named). Holds now (own_blocks X N p meta (without name m))) same takes.1)
+basic-after X N p meta name pairs l before mid now (Err fault) same calm takes saves agrees = tt
 
 -- ---- what a removal from shards leaves
 
@@ -415,35 +432,35 @@ abbrev pub with_some : Result Entry StoreFault → Result (Option Entry) StoreFa
 with_some (Ok e) = Ok (Some e)
 with_some (Err fault) = Err fault
 
-module _ (X : List ℕ → List ℕ) (N : List ℕ → ℕ) (p : Profile) (name : List ℕ) (l : List Named) where
-  pub emptied-after : (before now : Told) → Agrees before (shard X N 7 l).blocks → SavesOnly X before now → Empty ≡ left_without X N name l → Holds now (own_blocks X N p [])
-      → AgreesAfter before now (shard X N 7 l).blocks (own_blocks X N p (without name l))
+module _ (X : List ℕ → List ℕ) (N : List ℕ → ℕ) (p : Profile) (meta : Meta) (name : List ℕ) (l : List Named) where
+  pub emptied-after : (before now : Told) → Agrees before (shard X N 7 meta l).blocks → SavesOnly X before now → Empty ≡ left_without X N name meta l → Holds now (own_blocks X N p meta [])
+      → AgreesAfter before now (shard X N 7 meta l).blocks (own_blocks X N p meta (without name l))
   emptied-after before now agrees saves is held =
-      let empty = emptied X N p name l is in
-      after-held X before now (shard X N 7 l).blocks (own_blocks X N p (without name l)) agrees saves (subst (λ (m : List Named). Holds now (own_blocks X N p m)) (sym empty.nothing) held)
+      let empty = emptied X N p meta name l is in
+      after-held X before now (shard X N 7 meta l).blocks (own_blocks X N p meta (without name l)) agrees saves (subst (λ (m : List Named). Holds now (own_blocks X N p meta m)) (sym empty.nothing) held)
 
-  module _ (cid : Cid) (is : shards.IsPlanned X N cid l) (e : Entry) (before mid now : Seen) (agrees : Agrees before.told (shard X N 7 l).blocks) (stays : StaysCalm before mid) (calm : Calm before now)
-      (safe : Agrees now.told (shard X N 7 l).blocks) (second : SavesOnly X mid.told now.told) (first : SavesOnly X before.told mid.told) (left : Left e ≡ left_without X N name l)
-      (after : StaysAgreed before.told mid.told (shard X N 7 l).blocks → AgreesAfter before.told mid.told (shard X N 7 l).blocks (shard X N 7 (without name l)).blocks) where
-    after_mid : AgreesAfter before.told mid.told (shard X N 7 l).blocks (shard X N 7 (without name l)).blocks
-    after_mid = after (record { first = agrees; last = agrees-between X IsSave before.told mid.told now.told (shard X N 7 l).blocks first second (record { first = agrees; last = safe }) })
+  module _ (cid : Cid) (is : shards.IsPlanned X N cid meta l) (e : Entry) (before mid now : Seen) (agrees : Agrees before.told (shard X N 7 meta l).blocks) (stays : StaysCalm before mid) (calm : Calm before now)
+      (safe : Agrees now.told (shard X N 7 meta l).blocks) (second : SavesOnly X mid.told now.told) (first : SavesOnly X before.told mid.told) (left : Left e ≡ left_without X N name meta l)
+      (after : StaysAgreed before.told mid.told (shard X N 7 meta l).blocks → AgreesAfter before.told mid.told (shard X N 7 meta l).blocks (shard X N 7 meta (without name l)).blocks) where
+    after_mid : AgreesAfter before.told mid.told (shard X N 7 meta l).blocks (shard X N 7 meta (without name l)).blocks
+    after_mid = after (record { first = agrees; last = agrees-between X IsSave before.told mid.told now.told (shard X N 7 meta l).blocks first second (record { first = agrees; last = safe }) })
 
-    pub left-shards : AreShards X N e mid now (without name l)
+    pub left-shards : AreShards X N meta e mid now (without name l)
     left-shards =
-        let short = shortened X N p name l e left in
+        let short = shortened X N p meta name l e left in
         record {
-          plan = shortened-plan X N p name l cid e is short;
+          plan = shortened-plan X N p meta name l cid e is short;
           same = short.shards;
-          agrees = agrees-of before.told mid.told (shard X N 7 l).blocks (shard X N 7 (without name l)).blocks after_mid;
+          agrees = agrees-of before.told mid.told (shard X N 7 meta l).blocks (shard X N 7 meta (without name l)).blocks after_mid;
           calm = then-calm before mid now stays calm;
         }
 
-    pub left-over : (r : Result Entry StoreFault) → SettlesOver X N p (without name l) mid.told now.told r → TakesOver X N p name l before.told now.told (with_some r)
+    pub left-over : (r : Result Entry StoreFault) → SettlesOver X N p meta (without name l) mid.told now.told r → TakesOver X N p meta name l before.told now.told (with_some r)
     left-over (Ok x) settles = (
-      ap (λ (x : Entry). Some x) settles.0 ∙ sym (shortened X N p name l e left).entry,
-      settled-after X N p (without name l) before.told mid.told now.told (shard X N 7 l).blocks agrees (SavesOnly-trans X before.told mid.told now.told first second) after_mid settles.1,
+      ap (λ (x : Entry). Some x) settles.0 ∙ sym (shortened X N p meta name l e left).entry,
+      settled-after X N p meta (without name l) before.told mid.told now.told (shard X N 7 meta l).blocks agrees (SavesOnly-trans X before.told mid.told now.told first second) after_mid settles.1,
     )
-    left-over (Err fault) settles = loss-back before.told mid.told (shard X N 7 l).blocks (shard X N 7 (without name l)).blocks fault after_mid settles
+    left-over (Err fault) settles = loss-back before.told mid.told (shard X N 7 meta l).blocks (shard X N 7 meta (without name l)).blocks fault after_mid settles
 
 pub saves-same : (X : List ℕ → List ℕ) (a b : Told) → b ≡ a → SavesOnly X a b
 saves-same X a b same = subst (SavesOnly X a) (sym same) (SavesOnly-refl X a)
@@ -451,71 +468,83 @@ saves-same X a b same = subst (SavesOnly X a) (sym same) (SavesOnly-refl X a)
 -- ---- the two calls, where the root is one block
 
 module _ (X : List ℕ → List ℕ) (N : List ℕ → ℕ) (p : Profile) where
-  pub put-basic : (name : List ℕ) (e : Entry) (pairs l : List Named) (told : Told) (old : List Held) (r : Result Entry DirFault) (before mid now : Seen) → pairs ≡ l → Gives (dir_refusal X N p (with_name name e pairs)) (dir_entry X N p (with_name name e pairs)) r
-      → StaysCalm before mid → Shown X NoneIsBad r mid now → Stood before.faults now.faults → Stood before.clashes now.clashes → GivesOver told old (dir_refusal X N p (with_name name e l)) (dir_entry X N p (with_name name e l)) r
-  put-basic name e pairs l told old r before mid now same gives calm shown faults clashes =
-      subst (λ (m : List Named). GivesOver told old (dir_refusal X N p (with_name name e m)) (dir_entry X N p (with_name name e m)) r) same (gives-over X told old _ _ r before mid now gives calm shown faults clashes)
+  pub put-basic : (name : List ℕ) (e : Entry) (meta : Meta) (l : List Named) (node : DirNode) (told : Told) (old : List Held) (r : Result Entry DirFault) (before mid now : Seen) → node ≡ record { pairs = l; meta = meta }
+      → Gives (dir_refusal X N p node.meta (with_name name e node.pairs)) (dir_entry X N p node.meta (with_name name e node.pairs)) r
+      → StaysCalm before mid → Shown X NoneIsBad r mid now → Stood before.faults now.faults → Stood before.clashes now.clashes → GivesOver told old (dir_refusal X N p meta (with_name name e l)) (dir_entry X N p meta (with_name name e l)) r
+  put-basic name e meta l node told old r before mid now same gives calm shown faults clashes =
+      subst (λ (n : DirNode). GivesOver told old (dir_refusal X N p n.meta (with_name name e n.pairs)) (dir_entry X N p n.meta (with_name name e n.pairs)) r) same (gives-over X told old _ _ r before mid now gives calm shown faults clashes)
 
-  pub put-basic-after : (root : Cid) (name : List ℕ) (e : Entry) (pairs : List Named) (before mid now : Told) (r : Result Entry DirFault) → ((l : List Named) → IsPlanned X N p root l → Agrees before (own_blocks X N p l) → pairs ≡ l) → mid ≡ before → SavesOnly X mid now
-      → OnOk r (Holds now (own_blocks X N p (with_name name e pairs)))
-      → OnOk r ((l : List Named) → IsPlanned X N p root l → StaysAgreed before now (own_blocks X N p l) → AgreesAfter before now (own_blocks X N p l) (own_blocks X N p (with_name name e l)))
-  put-basic-after root name e pairs before mid now (Ok x) ok same saves held = λ l is stays.
-      after-held X before now (own_blocks X N p l) (own_blocks X N p (with_name name e l)) stays.first (subst (λ (told : Told). SavesOnly X told now) same saves)
-      (subst (λ (m : List Named). Holds now (own_blocks X N p (with_name name e m))) (ok l is stays.first) held)
-  put-basic-after root name e pairs before mid now (Err fault) ok same saves held = tt
+  pub put-basic-after : (root : Cid) (name : List ℕ) (e : Entry) (node : DirNode) (before mid now : Told) (r : Result Entry DirFault) → ((meta : Meta) (l : List Named) → IsPlanned X N p meta root l → Agrees before (own_blocks X N p meta l) → node ≡ record { pairs = l; meta = meta }) → mid ≡ before → SavesOnly X mid now
+      → OnOk r (Holds now (own_blocks X N p node.meta (with_name name e node.pairs)))
+      → OnOk r ((meta : Meta) (l : List Named) → IsPlanned X N p meta root l → StaysAgreed before now (own_blocks X N p meta l) → AgreesAfter before now (own_blocks X N p meta l) (own_blocks X N p meta (with_name name e l)))
+  put-basic-after root name e node before mid now (Ok x) ok same saves held = λ meta l is stays.
+      after-held X before now (own_blocks X N p meta l) (own_blocks X N p meta (with_name name e l)) stays.first (subst (λ (told : Told). SavesOnly X told now) same saves)
+      (subst (λ (n : DirNode). Holds now (own_blocks X N p n.meta (with_name name e n.pairs))) (ok meta l is stays.first) held)
+  put-basic-after root name e node before mid now (Err fault) ok same saves held = tt
 
-  module _ (good : IsHash X) (name : List ℕ) (pairs : List Named) (valid : IsDirectory pairs) where
-    entry-some : (e : Entry) → entry_without X N p name pairs ≡ Some e → IsRootCid X (Some p) e.cid
-    entry-some e h = by (find names_cmp name pairs) h
+  module _ (good : IsHash X) (name : List ℕ) (node : DirNode) (valid : IsDirNode node) where
+    entry-some : (e : Entry) → entry_without X N p node.meta name node.pairs ≡ Some e → IsRootCid X (Some p) e.cid
+    entry-some e h = by (find names_cmp name node.pairs) h
       where
-        by : (o : Option Entry) → elim o [ None ↦ None | Some old ↦ Some (dir_entry X N p (without name pairs)) ] ≡ Some e → IsRootCid X (Some p) e.cid
+        by : (o : Option Entry) → elim o [ None ↦ None | Some old ↦ Some (dir_entry X N p node.meta (without name node.pairs)) ] ≡ Some e → IsRootCid X (Some p) e.cid
         by None h = absurd (let no : None ≡ Some e = h in cc)
         by (Some old) h =
-            let same : dir_entry X N p (without name pairs) ≡ e = (let some : Some (dir_entry X N p (without name pairs)) ≡ Some e = h in cc) in
-            subst (λ (x : Entry). IsRootCid X (Some p) x.cid) same (planned-root X good N p (without name pairs) (directory-without name pairs valid))
+            let same : dir_entry X N p node.meta (without name node.pairs) ≡ e = (let some : Some (dir_entry X N p node.meta (without name node.pairs)) ≡ Some e = h in cc) in
+            subst (λ (x : Entry). IsRootCid X (Some p) x.cid) same (planned-root X good N p node.meta (without name node.pairs) valid.meta (directory-without name node.pairs valid.pairs))
 
-    pub basic-root : (mid now : Told) (r : Result (Option Entry) StoreFault) → TakesBasic X N p name pairs mid now r → IfOk r (λ left. IfSome left (λ e. IsRootCid X (Some p) e.cid))
+    pub basic-root : (mid now : Told) (r : Result (Option Entry) StoreFault) → TakesBasic X N p node.meta name node.pairs mid now r → IfOk r (λ left. IfSome left (λ e. IsRootCid X (Some p) e.cid))
     basic-root mid now (Ok None) h = tt
     basic-root mid now (Ok (Some e)) h = entry-some e h.0
     basic-root mid now (Err fault) h = tt
 
-  pub basic-ok : (root : Cid) (name : List ℕ) (pairs : List Named) (before mid now : Told) (r : Result (Option Entry) StoreFault) (B C : List Named → Type 0) → ((l : List Named) → IsPlanned X N p root l → Agrees before (own_blocks X N p l) → pairs ≡ l) → mid ≡ before
-      → SavesOnly X mid now → TakesBasic X N p name pairs mid now r
-      → OnOk r ((l : List Named) → IsPlanned X N p root l → StaysAgreed before now (own_blocks X N p l) → B l → C l → AgreesAfter before now (own_blocks X N p l) (own_blocks X N p (without name l)))
-  basic-ok root name pairs before mid now r B C ok same saves takes = by r takes
+  -- the same pairs and metadata
+  takes-of : (name : List ℕ) (meta : Meta) (l : List Named) (node : DirNode) (mid now : Told) (r : Result (Option Entry) StoreFault) → node ≡ record { pairs = l; meta = meta } → TakesBasic X N p node.meta name node.pairs mid now r → TakesBasic X N p meta name l mid now r
+  takes-of name meta l node mid now r same takes = subst (λ (n : DirNode). TakesBasic X N p n.meta name n.pairs mid now r) same takes
+
+  pub basic-answer : (name : List ℕ) (meta : Meta) (l : List Named) (node : DirNode) (told : Told) (old : List Held) (mid now : Told) (r : Result (Option Entry) StoreFault) (before between after : Seen) → node ≡ record { pairs = l; meta = meta }
+      → TakesBasic X N p node.meta name node.pairs mid now r → StaysCalm before between → Answers X NoneIsBad r between after → Stood before.faults after.faults → Stood before.clashes after.clashes → ReadsOver told old (entry_without X N p meta name l) r
+  basic-answer name meta l node told old mid now r before between after same takes = basic-value X N p meta name l l told old mid now r before between after refl (takes-of name meta l node mid now r same takes)
+
+  pub basic-ok : (root : Cid) (name : List ℕ) (node : DirNode) (before mid now : Told) (r : Result (Option Entry) StoreFault) (B C : Meta → List Named → Type 0)
+      → ((meta : Meta) (l : List Named) → IsPlanned X N p meta root l → Agrees before (own_blocks X N p meta l) → node ≡ record { pairs = l; meta = meta }) → mid ≡ before
+      → SavesOnly X mid now → TakesBasic X N p node.meta name node.pairs mid now r
+      → OnOk r ((meta : Meta) (l : List Named) → IsPlanned X N p meta root l → StaysAgreed before now (own_blocks X N p meta l) → B meta l → C meta l → AgreesAfter before now (own_blocks X N p meta l) (own_blocks X N p meta (without name l)))
+  basic-ok root name node before mid now r B C ok same saves takes = by r takes
     where
-      by : (r : Result (Option Entry) StoreFault) → TakesBasic X N p name pairs mid now r
-          → OnOk r ((l : List Named) → IsPlanned X N p root l → StaysAgreed before now (own_blocks X N p l) → B l → C l → AgreesAfter before now (own_blocks X N p l) (own_blocks X N p (without name l)))
-      by (Ok None) takes = λ l is stays b c. basic-after X N p name pairs l before mid now (Ok None) (ok l is stays.first) same takes (subst (λ (told : Told). SavesOnly X told now) same saves) stays.first
-      by (Ok (Some e)) takes = λ l is stays b c. basic-after X N p name pairs l before mid now (Ok (Some e)) (ok l is stays.first) same takes (subst (λ (told : Told). SavesOnly X told now) same saves) stays.first
+      by : (r : Result (Option Entry) StoreFault) → TakesBasic X N p node.meta name node.pairs mid now r
+          → OnOk r ((meta : Meta) (l : List Named) → IsPlanned X N p meta root l → StaysAgreed before now (own_blocks X N p meta l) → B meta l → C meta l → AgreesAfter before now (own_blocks X N p meta l) (own_blocks X N p meta (without name l)))
+      by (Ok left) takes = λ meta l is stays b c. basic-after X N p meta name l l before mid now (Ok left) refl same (takes-of name meta l node mid now (Ok left) (ok meta l is stays.first) takes)
+          (subst (λ (told : Told). SavesOnly X told now) same saves) stays.first
       by (Err fault) takes = tt
 
 -- ---- and where it is a shard
 
 module _ (X : List ℕ → List ℕ) (good : IsHash X) (N : List ℕ → ℕ) (p : Profile) (cid : Cid)
-    (before mid : Seen) (found : Root) (items : List InSlot) (at : found ≡ root.Sharded items) (looks : IsThere cid before mid × IsRootOf mid.lent found) (same : mid.told ≡ before.told) where
+    (before mid : Seen) (found : Root) (node : ShardNode) (at : found ≡ root.Sharded node) (looks : IsThere cid before mid × IsRootOf mid.lent found) (same : mid.told ≡ before.told) where
   pub put-sharded-ok : (name : List ℕ) (e : Entry) (now : Told) (r : Result Entry DirFault)
-      → OnOk r ((k : List Named) → shards.IsPlanned X N cid k → StaysAgreed mid.told now (shard X N 7 k).blocks → AgreesAfter mid.told now (shard X N 7 k).blocks (shard X N 7 (with_name name e k)).blocks)
-      → OnOk r ((l : List Named) → IsPlanned X N p cid l → StaysAgreed before.told now (own_blocks X N p l) → AgreesAfter before.told now (own_blocks X N p l) (own_blocks X N p (with_name name e l)))
-  put-sharded-ok name e now (Ok x) after = λ l is stays. put-sharded-after X good N p cid l is before mid found items at looks same stays.first name e now after stays.last
+      → OnOk r ((n : Meta) (k : List Named) → shards.IsPlanned X N cid n k → StaysAgreed mid.told now (shard X N 7 n k).blocks → AgreesAfter mid.told now (shard X N 7 n k).blocks (shard X N 7 n (with_name name e k)).blocks)
+      → OnOk r ((meta : Meta) (l : List Named) → IsPlanned X N p meta cid l → StaysAgreed before.told now (own_blocks X N p meta l) → AgreesAfter before.told now (own_blocks X N p meta l) (own_blocks X N p meta (with_name name e l)))
+  put-sharded-ok name e now (Ok x) after = λ meta l is stays. put-sharded-after X good N p meta cid l is before mid found node at looks same stays.first name e now after stays.last
   put-sharded-ok name e now (Err fault) after = tt
 
   module _ (name : List ℕ) (now : Seen) (stays : StaysCalm before mid) where
-    not-there : (l : List Named) → None ≡ entry_without X N p name l → find names_cmp name l ≡ None
-    not-there l h = by (find names_cmp name l) h
+    not-there : (meta : Meta) (l : List Named) → None ≡ entry_without X N p meta name l → find names_cmp name l ≡ None
+    not-there meta l h = by (find names_cmp name l) h
       where
-        by : (o : Option Entry) → ◌≡◌ {A = Option Entry} None (elim o [ None ↦ None | Some old ↦ Some (dir_entry X N p (without name l)) ]) → o ≡ None
+        by : (o : Option Entry) → ◌≡◌ {A = Option Entry} None (elim o [ None ↦ None | Some old ↦ Some (dir_entry X N p meta (without name l)) ]) → o ≡ None
         by None h = refl
-        by (Some old) h = absurd (let no : None ≡ Some (dir_entry X N p (without name l)) = h in cc)
+        by (Some old) h = absurd (let no : None ≡ Some (dir_entry X N p meta (without name l)) = h in cc)
 
-    pub take-sharded-ok : (r : Result (Option Entry) StoreFault) → TakesSharded X N p cid name mid now r
-        → OnOk r ((l : List Named) → IsPlanned X N p cid l → StaysAgreed before.told now.told (own_blocks X N p l) → Stood before.faults now.faults → Stood before.clashes now.clashes
-        → AgreesAfter before.told now.told (own_blocks X N p l) (own_blocks X N p (without name l)))
-    take-sharded-ok (Ok None) takes = λ l is keeps faults clashes.
-        let absent : None ≡ entry_without X N p name l = takes.over l (stay-there X good N p cid l is before mid found items at looks same keeps.first now stays keeps.last (record { faults = faults; clashes = clashes })) in
-        subst (λ (m : List Named). AgreesAfter before.told now.told (own_blocks X N p l) (own_blocks X N p m)) (sym (without-absent name l (not-there l absent))) (after-same before.told now.told (own_blocks X N p l) keeps.first (takes.none refl ∙ same))
-    take-sharded-ok (Ok (Some e)) takes = λ l is keeps faults clashes.
-        let over = takes.over l (stay-there X good N p cid l is before mid found items at looks same keeps.first now stays keeps.last (record { faults = faults; clashes = clashes })) in
-        subst (λ (old : List Held). AgreesAfter before.told now.told old (own_blocks X N p (without name l))) (sym (blocks-sharded X N p l (in_shards X good N p cid l is before mid found items at looks same keeps.first)))
-        (subst (λ (told : Told). AgreesAfter told now.told (shard X N 7 l).blocks (own_blocks X N p (without name l))) same over.1)
+    pub take-sharded-ok : (r : Result (Option Entry) StoreFault) → TakesSharded X N p node.meta cid name mid now r
+        → OnOk r ((meta : Meta) (l : List Named) → IsPlanned X N p meta cid l → StaysAgreed before.told now.told (own_blocks X N p meta l) → Stood before.faults now.faults → Stood before.clashes now.clashes
+        → AgreesAfter before.told now.told (own_blocks X N p meta l) (own_blocks X N p meta (without name l)))
+    take-sharded-ok (Ok None) takes = λ meta l is keeps faults clashes.
+        let absent : None ≡ entry_without X N p meta name l = (takes_there X good N p meta cid l is before mid found node at looks same keeps.first name now (Ok None) takes).over l
+        (stay-there X good N p meta cid l is before mid found node at looks same keeps.first now stays keeps.last (record { faults = faults; clashes = clashes })) in
+        subst (λ (m : List Named). AgreesAfter before.told now.told (own_blocks X N p meta l) (own_blocks X N p meta m)) (sym (without-absent name l (not-there meta l absent))) (after-same before.told now.told (own_blocks X N p meta l) keeps.first (takes.none refl ∙ same))
+    take-sharded-ok (Ok (Some e)) takes = λ meta l is keeps faults clashes.
+        let over = (takes_there X good N p meta cid l is before mid found node at looks same keeps.first name now (Ok (Some e)) takes).over l
+        (stay-there X good N p meta cid l is before mid found node at looks same keeps.first now stays keeps.last (record { faults = faults; clashes = clashes })) in
+        subst (λ (old : List Held). AgreesAfter before.told now.told old (own_blocks X N p meta (without name l))) (sym (blocks-sharded X N p meta l (in_shards X good N p meta cid l is before mid found node at looks same keeps.first)))
+        (subst (λ (told : Told). AgreesAfter told now.told (shard X N 7 meta l).blocks (own_blocks X N p meta (without name l))) same over.1)
     take-sharded-ok (Err fault) takes = tt

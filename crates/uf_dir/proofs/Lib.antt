@@ -1,5 +1,6 @@
 pub mod Apart
 pub mod Asked
+pub mod Carried
 pub mod Causes
 pub mod Changing
 pub mod Edited
@@ -12,3 +13,4 @@ pub mod Rooted
 pub mod Roots
 pub mod Taking
 pub mod Touching
+pub mod Trailing

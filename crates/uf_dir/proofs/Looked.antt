@@ -17,14 +17,19 @@ use Rattle.uf_store.specs.Keeping.{Agrees, Holds}
 use Rattle.uf_store.specs.Lost.{FindsOver, IsFirstLost, IsLossOf, IsLost, LosesFirst, ReadsOver}
 use Rattle.uf_store.specs.Seen.{Seen}
 use Rattle.uf_tree.specs.declared.nodes.Entry.{Entry}
+use Rattle.uf_tree.specs.declared.meta.Meta.{Meta}
 use Rattle.uf_tree.specs.declared.profile.Profile.{Profile}
 use Rattle.uf_tree.specs.DirPlan.{is_sharded, trail, weight}
 use Rattle.uf_tree.specs.Names.{names_cmp}
-use Rattle.uf_tree.specs.Nodes.{InSlot, Named, dir_block}
+use Rattle.uf_tree.specs.declared.nodes.DirNode.{DirNode}
+use Rattle.uf_tree.specs.declared.nodes.ShardNode.{ShardNode}
+use Rattle.uf_tree.specs.Codecs.{dir_node_block}
+use Rattle.uf_tree.specs.Metas.{none}
+use Rattle.uf_tree.specs.Nodes.{Named}
 use Rattle.uf_tree.specs.Roles.{IsCanonicalDirectory, WithSome}
 use Rattle.uf_tree.specs.Roots.{dir_root}
 use Rattle.uf_tree.specs.ShardPlan.{shard, shard_items, shard_trail}
-use Rattle.uf_tree.specs.Validity.{IsDirectory, IsHash}
+use Rattle.uf_tree.specs.Validity.{IsDirNode, IsHash}
 use Rattle.uf_shard.specs.Listing.{AreRows, in_order}
 use Rattle.uf_shard.specs.Planned as shards
 use Rattle.uf_shard.proofs.One.{one_shard}
@@ -82,117 +87,133 @@ loss-from_finds told l value (BadBlock c role) h = h
 loss-from_finds told l value (Clash c first second) h = h
 loss-from_finds told l value Memory h = tt
 
-module _ (X : List ℕ → List ℕ) (good : IsHash X) (N : List ℕ → ℕ) (p : Profile) (cid : Cid) (l : List Named) (is : IsPlanned X N p cid l) where
+module _ (X : List ℕ → List ℕ) (good : IsHash X) (N : List ℕ → ℕ) (p : Profile) (meta : Meta) (cid : Cid) (l : List Named) (is : IsPlanned X N p meta cid l) where
   -- ---- the root that was read is that of the plan
 
-  pub read-basic : (rest : List Held) (before now : Seen) (pairs : List Named) → Agrees before.told (dir_root X N p l ∷ rest) → IsThere cid before now → IsRootOf now.lent (root.Basic pairs)
-      → (is_sharded p l ≡ false) × (pairs ≡ l)
-  read-basic rest before now pairs agrees there read = by (root-form X N p l good is.valid)
+  -- the root of a directory in one block, and in shards
+  abbrev pub basic_of : DirNode
+  basic_of = record { pairs = l; meta = meta }
+
+  abbrev pub sharded_of : ShardNode
+  sharded_of = record { items = shard_items N (shard X N 6 none) 0 l; meta = meta }
+
+  basic-valid : IsDirNode basic_of
+  basic-valid = record { pairs = is.valid; meta = is.good }
+
+  pub read-basic : (rest : List Held) (before now : Seen) (node : DirNode) → Agrees before.told (dir_root X N p meta l ∷ rest) → IsThere cid before now → IsRootOf now.lent (root.Basic node)
+      → (is_sharded p l ≡ false) × (node ≡ basic_of)
+  read-basic rest before now node agrees there read = by (root-form X N p meta l good is.valid)
     where
-      block : now.lent ≡ (dir_root X N p l).1
-      block = the_block cid (dir_root X N p l) rest (planned-cid X N p l cid is) before.told now.lent agrees there.held
+      block : now.lent ≡ (dir_root X N p meta l).1
+      block = the_block cid (dir_root X N p meta l) rest (planned-cid X N p meta l cid is) before.told now.lent agrees there.held
 
-      by : RootForm X N p l → (is_sharded p l ≡ false) × (pairs ≡ l)
-      by (InOne e root) = (e, one_basic now.lent pairs l (omega (arith, there.size)) read.0 is.valid read.1 (block ∙ root))
-      by (InShards e root) = absurd (shard-basic _ pairs root.0 read.0 (sym root.1 ∙ sym block ∙ read.1))
+      by : RootForm X N p meta l → (is_sharded p l ≡ false) × (node ≡ basic_of)
+      by (InOne e root) = (e, one_basic now.lent node basic_of (omega (arith, there.size)) read.0 basic-valid read.1 (block ∙ root))
+      by (InShards e root) = absurd (shard-basic sharded_of node (record { items = root.0; meta = is.good }) read.0 (sym root.1 ∙ sym block ∙ read.1))
 
-  pub read-sharded : (rest : List Held) (before now : Seen) (items : List InSlot) → Agrees before.told (dir_root X N p l ∷ rest) → IsThere cid before now → IsRootOf now.lent (root.Sharded items)
-      → (is_sharded p l ≡ true) × (items ≡ shard_items N (shard X N 6) 0 l)
-  read-sharded rest before now items agrees there read = by (root-form X N p l good is.valid)
+  pub read-sharded : (rest : List Held) (before now : Seen) (node : ShardNode) → Agrees before.told (dir_root X N p meta l ∷ rest) → IsThere cid before now → IsRootOf now.lent (root.Sharded node)
+      → (is_sharded p l ≡ true) × (node ≡ sharded_of)
+  read-sharded rest before now node agrees there read = by (root-form X N p meta l good is.valid)
     where
-      block : now.lent ≡ (dir_root X N p l).1
-      block = the_block cid (dir_root X N p l) rest (planned-cid X N p l cid is) before.told now.lent agrees there.held
+      block : now.lent ≡ (dir_root X N p meta l).1
+      block = the_block cid (dir_root X N p meta l) rest (planned-cid X N p meta l cid is) before.told now.lent agrees there.held
 
-      by : RootForm X N p l → (is_sharded p l ≡ true) × (items ≡ shard_items N (shard X N 6) 0 l)
-      by (InOne e root) = absurd (shard-basic items l read.0 is.valid (sym read.1 ∙ block ∙ root))
-      by (InShards e root) = (e, one_shard items (shard_items N (shard X N 6) 0 l) read.0 root.0 (sym read.1 ∙ block ∙ root.1))
+      by : RootForm X N p meta l → (is_sharded p l ≡ true) × (node ≡ sharded_of)
+      by (InOne e root) = absurd (shard-basic node basic_of read.0 basic-valid (sym read.1 ∙ block ∙ root))
+      by (InShards e root) = (e, one_shard node sharded_of read.0 (record { items = root.0; meta = is.good }) (sym read.1 ∙ block ∙ root.1))
 
   -- ---- a name that is looked up
 
   module _ (name : List ℕ) where
     pub find-unread : (IsBad : Role → List ℕ → Type 0) (before now : Seen) (fault : StoreFault) (value : Option Entry) → IsUnread None true cid before now fault → Shows X IsBad fault before now
-        → Agrees before.told (trail X N p l name) → Stood before.faults now.faults → FindsOver before.told (trail X N p l name) value (Err fault)
+        → Agrees before.told (trail X N p meta l name) → Stood before.faults now.faults → FindsOver before.told (trail X N p meta l name) value (Err fault)
     find-unread IsBad before now fault value unread_is shows agrees stood =
-        let from = trail-from_root X N p l name in
+        let from = trail-from_root X N p meta l name in
         subst (λ (path : List Held). FindsOver before.told path value (Err fault)) (sym from.1)
-        (unread cid (dir_root X N p l) from.0 (planned-cid X N p l cid is) X IsBad None true before now fault value (root-canonical X N p l good is.valid None tt) unread_is shows
+        (unread cid (dir_root X N p meta l) from.0 (planned-cid X N p meta l cid is) X IsBad None true before now fault value (root-canonical X N p meta l good is.good is.valid None tt) unread_is shows
         (subst (Agrees before.told) from.1 agrees) stood)
 
-    pub find-basic : (before now : Seen) (found : Root) (pairs : List Named) (value : Option Entry) → found ≡ root.Basic pairs → IsThere cid before now × IsRootOf now.lent found → value ≡ find names_cmp name pairs
-        → Agrees before.told (trail X N p l name) → FindsOver before.told (trail X N p l name) (find names_cmp name l) (Ok value)
-    find-basic before now found pairs value at looks value_is agrees =
-        let from = trail-from_root X N p l name in
-        let begins : Agrees before.told (dir_root X N p l ∷ from.0) = subst (Agrees before.told) from.1 agrees in
-        let read = read-basic from.0 before now pairs begins looks.0 (subst (IsRootOf now.lent) at looks.1) in (
-          value_is ∙ ap (find names_cmp name) read.1,
-          subst (Holds before.told) (sym (trail-basic X N p l name read.0)) (the_held cid (dir_root X N p l) from.0 (planned-cid X N p l cid is) before.told now.lent begins looks.0.held),
+    pub find-basic : (before now : Seen) (found : Root) (node : DirNode) (value : Option Entry) → found ≡ root.Basic node → IsThere cid before now × IsRootOf now.lent found → value ≡ find names_cmp name node.pairs
+        → Agrees before.told (trail X N p meta l name) → FindsOver before.told (trail X N p meta l name) (find names_cmp name l) (Ok value)
+    find-basic before now found node value at looks value_is agrees =
+        let from = trail-from_root X N p meta l name in
+        let begins : Agrees before.told (dir_root X N p meta l ∷ from.0) = subst (Agrees before.told) from.1 agrees in
+        let read = read-basic from.0 before now node begins looks.0 (subst (IsRootOf now.lent) at looks.1) in (
+          value_is ∙ ap (λ (n : DirNode). find names_cmp name n.pairs) read.1,
+          subst (Holds before.told) (sym (trail-basic X N p meta l name read.0)) (the_held cid (dir_root X N p meta l) from.0 (planned-cid X N p meta l cid is) before.told now.lent begins looks.0.held),
         )
 
     -- the answer of a search in the shards
     abbrev pub Deeper : Seen → Seen → Result (Option Entry) StoreFault → Type 0
-    Deeper mid now r = (k : List Named) → shards.IsPlanned X N cid k → Agrees mid.told (shard_trail X N 7 k name) → Stood mid.faults now.faults
-        → FindsOver mid.told (shard_trail X N 7 k name) (find names_cmp name k) r
+    Deeper mid now r = (n : Meta) (k : List Named) → shards.IsPlanned X N cid n k → Agrees mid.told (shard_trail X N 7 n k name) → Stood mid.faults now.faults
+        → FindsOver mid.told (shard_trail X N 7 n k name) (find names_cmp name k) r
 
-    pub find-sharded : (before mid now : Seen) (found : Root) (items : List InSlot) (r : Result (Option Entry) StoreFault) → found ≡ root.Sharded items → IsThere cid before mid × IsRootOf mid.lent found → mid.told ≡ before.told → mid.faults ≡ before.faults
-        → Deeper mid now r → Agrees before.told (trail X N p l name) → Stood before.faults now.faults → FindsOver before.told (trail X N p l name) (find names_cmp name l) r
-    find-sharded before mid now found items r at looks same calm deeper agrees stood =
-        let from = trail-from_root X N p l name in
-        let sharded : is_sharded p l ≡ true = (read-sharded from.0 before mid items (subst (Agrees before.told) from.1 agrees) looks.0 (subst (IsRootOf mid.lent) at looks.1)).0 in
-        let path = trail-sharded X N p l name sharded in
+    pub find-sharded : (before mid now : Seen) (found : Root) (node : ShardNode) (r : Result (Option Entry) StoreFault) → found ≡ root.Sharded node → IsThere cid before mid × IsRootOf mid.lent found → mid.told ≡ before.told → mid.faults ≡ before.faults
+        → Deeper mid now r → Agrees before.told (trail X N p meta l name) → Stood before.faults now.faults → FindsOver before.told (trail X N p meta l name) (find names_cmp name l) r
+    find-sharded before mid now found node r at looks same calm deeper agrees stood =
+        let from = trail-from_root X N p meta l name in
+        let sharded : is_sharded p l ≡ true = (read-sharded from.0 before mid node (subst (Agrees before.told) from.1 agrees) looks.0 (subst (IsRootOf mid.lent) at looks.1)).0 in
+        let path = trail-sharded X N p meta l name sharded in
         subst (λ (t : List Held). FindsOver before.told t (find names_cmp name l) r) (sym path)
-        (subst (λ (told : Told). FindsOver told (shard_trail X N 7 l name) (find names_cmp name l) r) same
-        (deeper l (planned-sharded X N p l cid is sharded) (subst (λ (told : Told). Agrees told (shard_trail X N 7 l name)) (sym same) (subst (Agrees before.told) path agrees))
+        (subst (λ (told : Told). FindsOver told (shard_trail X N 7 meta l name) (find names_cmp name l) r) same
+        (deeper meta l (planned-sharded X N p meta l cid is sharded) (subst (λ (told : Told). Agrees told (shard_trail X N 7 meta l name)) (sym same) (subst (Agrees before.told) path agrees))
         (subst (λ (n : ℕ). Stood n now.faults) (sym calm) stood)))
 
   -- ---- a directory that is read whole
 
   pub entries-unread : {A : Type 0} (IsBad : Role → List ℕ → Type 0) (profile : Option Profile) (before now : Seen) (fault : StoreFault) (value : A) → WithSome profile (λ known. known ≡ p)
-      → IsUnread profile true cid before now fault → Shows X IsBad fault before now → Agrees before.told (own_blocks X N p l) → Stood before.faults now.faults → ReadsOver before.told (own_blocks X N p l) value (Err fault)
+      → IsUnread profile true cid before now fault → Shows X IsBad fault before now → Agrees before.told (own_blocks X N p meta l) → Stood before.faults now.faults → ReadsOver before.told (own_blocks X N p meta l) value (Err fault)
   entries-unread IsBad profile before now fault value known unread_is shows agrees stood =
-      let from = blocks-from_root X N p l in
-      loss-from_finds before.told (own_blocks X N p l) value fault
+      let from = blocks-from_root X N p meta l in
+      loss-from_finds before.told (own_blocks X N p meta l) value fault
       (subst (λ (path : List Held). FindsOver before.told path value (Err fault)) (sym from.1)
-      (unread cid (dir_root X N p l) from.0 (planned-cid X N p l cid is) X IsBad profile true before now fault value (root-canonical X N p l good is.valid profile known) unread_is shows
+      (unread cid (dir_root X N p meta l) from.0 (planned-cid X N p meta l cid is) X IsBad profile true before now fault value (root-canonical X N p meta l good is.good is.valid profile known) unread_is shows
       (subst (Agrees before.told) from.1 agrees) stood))
 
-  pub entries-basic : (before now : Seen) (found : Root) (pairs : List Named) → found ≡ root.Basic pairs → IsThere cid before now × IsRootOf now.lent found → Agrees before.told (own_blocks X N p l) → pairs ≡ l
-  entries-basic before now found pairs at looks agrees =
-      let from = blocks-from_root X N p l in
-      (read-basic from.0 before now pairs (subst (Agrees before.told) from.1 agrees) looks.0 (subst (IsRootOf now.lent) at looks.1)).1
+  pub entries-basic : (before now : Seen) (found : Root) (node : DirNode) → found ≡ root.Basic node → IsThere cid before now × IsRootOf now.lent found → Agrees before.told (own_blocks X N p meta l) → node ≡ basic_of
+  entries-basic before now found node at looks agrees =
+      let from = blocks-from_root X N p meta l in
+      (read-basic from.0 before now node (subst (Agrees before.told) from.1 agrees) looks.0 (subst (IsRootOf now.lent) at looks.1)).1
 
   -- a directory that is read in one block is light
-  pub basic-light : (before now : Seen) (found : Root) (pairs : List Named) → found ≡ root.Basic pairs → IsThere cid before now × IsRootOf now.lent found → Agrees before.told (own_blocks X N p l) → is_sharded p l ≡ false
-  basic-light before now found pairs at looks agrees =
-      let from = blocks-from_root X N p l in
-      (read-basic from.0 before now pairs (subst (Agrees before.told) from.1 agrees) looks.0 (subst (IsRootOf now.lent) at looks.1)).0
+  pub basic-light : (before now : Seen) (found : Root) (node : DirNode) → found ≡ root.Basic node → IsThere cid before now × IsRootOf now.lent found → Agrees before.told (own_blocks X N p meta l) → is_sharded p l ≡ false
+  basic-light before now found node at looks agrees =
+      let from = blocks-from_root X N p meta l in
+      (read-basic from.0 before now node (subst (Agrees before.told) from.1 agrees) looks.0 (subst (IsRootOf now.lent) at looks.1)).0
 
   -- the root was read as a shard
-  module _ (before mid : Seen) (found : Root) (items : List InSlot) (at : found ≡ root.Sharded items) (looks : IsThere cid before mid × IsRootOf mid.lent found) (same : mid.told ≡ before.told) (agrees : Agrees before.told (own_blocks X N p l)) where
+  module _ (before mid : Seen) (found : Root) (node : ShardNode) (at : found ≡ root.Sharded node) (looks : IsThere cid before mid × IsRootOf mid.lent found) (same : mid.told ≡ before.told) (agrees : Agrees before.told (own_blocks X N p meta l)) where
     pub sharded_is : is_sharded p l ≡ true
     sharded_is =
-        let from = blocks-from_root X N p l in
-        (read-sharded from.0 before mid items (subst (Agrees before.told) from.1 agrees) looks.0 (subst (IsRootOf mid.lent) at looks.1)).0
+        let from = blocks-from_root X N p meta l in
+        (read-sharded from.0 before mid node (subst (Agrees before.told) from.1 agrees) looks.0 (subst (IsRootOf mid.lent) at looks.1)).0
 
-    pub agrees_mid : Agrees mid.told (shard X N 7 l).blocks
-    agrees_mid = subst (λ (told : Told). Agrees told (shard X N 7 l).blocks) (sym same) (subst (Agrees before.told) (blocks-sharded X N p l sharded_is) agrees)
+    -- its metadata is the directory's
+    pub sharded-meta : node.meta ≡ meta
+    sharded-meta =
+        let from = blocks-from_root X N p meta l in
+        ap (λ (n : ShardNode). n.meta) (read-sharded from.0 before mid node (subst (Agrees before.told) from.1 agrees) looks.0 (subst (IsRootOf mid.lent) at looks.1)).1
+
+    pub agrees_mid : Agrees mid.told (shard X N 7 meta l).blocks
+    agrees_mid = subst (λ (told : Told). Agrees told (shard X N 7 meta l).blocks) (sym same) (subst (Agrees before.told) (blocks-sharded X N p meta l sharded_is) agrees)
 
     -- what the shards answer where they are read
     abbrev pub ReadBelow : Seen → Result (List Named) StoreFault → Type 0
-    ReadBelow now r = (M : List ℕ → ℕ) (k : List Named) → shards.IsPlanned X M cid k → Agrees mid.told (shard X M 7 k).blocks → Stood mid.faults now.faults → ReadsOver mid.told (shard X M 7 k).blocks k r
+    ReadBelow now r = (M : List ℕ → ℕ) (n : Meta) (k : List Named) → shards.IsPlanned X M cid n k → Agrees mid.told (shard X M 7 n k).blocks → Stood mid.faults now.faults → ReadsOver mid.told (shard X M 7 n k).blocks k r
 
     -- a load for each shard, and one more
-    pub entries-touches : (t0 t1 t2 : ℕ) → t1 ≡ t0 + 1 → ((M : List ℕ → ℕ) (k : List Named) → shards.IsPlanned X M cid k → Agrees mid.told (shard X M 7 k).blocks → t2 ≤ t1 + length (shard X M 7 k).blocks)
-        → t2 ≤ t0 + (length (own_blocks X N p l) + 1)
+    pub entries-touches : (t0 t1 t2 : ℕ) → t1 ≡ t0 + 1 → ((M : List ℕ → ℕ) (n : Meta) (k : List Named) → shards.IsPlanned X M cid n k → Agrees mid.told (shard X M 7 n k).blocks → t2 ≤ t1 + length (shard X M 7 n k).blocks)
+        → t2 ≤ t0 + (length (own_blocks X N p meta l) + 1)
     entries-touches t0 t1 t2 first below =
-        let most = below N l (planned-sharded X N p l cid is sharded_is) agrees_mid in
-        let same = ap (λ (b : List Held). length b) (blocks-sharded X N p l sharded_is) in
+        let most = below N meta l (planned-sharded X N p meta l cid is sharded_is) agrees_mid in
+        let same = ap (λ (b : List Held). length b) (blocks-sharded X N p meta l sharded_is) in
         omega (arith, most, same, first)
 
-    pub entries-sharded : (now : Seen) (r : Result (List Named) StoreFault) → mid.faults ≡ before.faults → ReadBelow now r → Stood before.faults now.faults → ReadsOver before.told (own_blocks X N p l) l r
+    pub entries-sharded : (now : Seen) (r : Result (List Named) StoreFault) → mid.faults ≡ before.faults → ReadBelow now r → Stood before.faults now.faults → ReadsOver before.told (own_blocks X N p meta l) l r
     entries-sharded now r calm below stood =
-        subst (λ (path : List Held). ReadsOver before.told path l r) (sym (blocks-sharded X N p l sharded_is))
-        (subst (λ (told : Told). ReadsOver told (shard X N 7 l).blocks l r) same
-        (below N l (planned-sharded X N p l cid is sharded_is) agrees_mid (subst (λ (n : ℕ). Stood n now.faults) (sym calm) stood)))
+        subst (λ (path : List Held). ReadsOver before.told path l r) (sym (blocks-sharded X N p meta l sharded_is))
+        (subst (λ (told : Told). ReadsOver told (shard X N 7 meta l).blocks l r) same
+        (below N meta l (planned-sharded X N p meta l cid is sharded_is) agrees_mid (subst (λ (n : ℕ). Stood n now.faults) (sym calm) stood)))
 
 -- ---- what is listed of any tree
 
@@ -200,12 +221,12 @@ pub listed-none : (told : Told) → IfSome told (λ t. ⊤)
 listed-none None = tt
 listed-none (Some t) = tt
 
-pub listed-basic : (cid : Cid) (before now : Seen) (found : Root) (pairs : List Named) → found ≡ root.Basic pairs → IsThere cid before now × IsRootOf now.lent found → IfSome before.told (λ t. IsListed (held_at t) cid pairs)
-listed-basic cid before now found pairs at looks = by before.told looks.0.held
+pub listed-basic : (cid : Cid) (before now : Seen) (found : Root) (node : DirNode) → found ≡ root.Basic node → IsThere cid before now × IsRootOf now.lent found → IfSome before.told (λ t. IsListed (held_at t) cid node.pairs)
+listed-basic cid before now found node at looks = by before.told looks.0.held
   where
-    by : (told : Told) → IfSome told (λ t. held_at t cid ≡ Some now.lent) → IfSome told (λ t. IsListed (held_at t) cid pairs)
+    by : (told : Told) → IfSome told (λ t. held_at t cid ≡ Some now.lent) → IfSome told (λ t. IsListed (held_at t) cid node.pairs)
     by None held = tt
-    by (Some t) held = let is = subst (IsRootOf now.lent) at looks.1 in inl (held ∙ ap (λ (b : List ℕ). Some b) is.1)
+    by (Some t) held = let is = subst (IsRootOf now.lent) at looks.1 in inl (node.meta, (is.0.meta, held ∙ ap (λ (b : List ℕ). Some b) is.1))
 
 pub listed-sharded : (cid : Cid) (told mid : Told) (r : Result (List Named) StoreFault) → mid ≡ told → IfSome mid (λ t. IfOk r (λ l. (rows : List Named) × AreRows (held_at t) 7 cid rows × (l ≡ in_order rows)))
     → IfSome told (λ t. IfOk r (IsListed (held_at t) cid))
@@ -220,13 +241,13 @@ listed-sharded cid told mid r same listed = by told r (subst (λ (x : Told). IfS
 pub fitting : (p : Profile) (cid : Cid) (before now : Seen) (found : Root) → IsThere cid before now × IsRootOf now.lent found → IsLight (Some p) found → IsFitting p cid before.told
 fitting p cid before now found looks light = by before.told looks.0.held
   where
-    heavy : (r : Root) → IsRootOf now.lent r → IsLight (Some p) r → (l : List Named) → IsDirectory l → now.lent ≡ dir_block l → weight l ≤ p.threshold
-    heavy (root.Basic pairs) is light l valid same = subst (λ (m : List Named). weight m ≤ p.threshold) (one_basic now.lent pairs l (omega (arith, looks.0.size)) is.0 valid is.1 same) light
-    heavy (root.Sharded items) is light l valid same = absurd (shard-basic items l is.0 valid (sym is.1 ∙ same))
+    heavy : (r : Root) → IsRootOf now.lent r → IsLight (Some p) r → (node : DirNode) → IsDirNode node → now.lent ≡ dir_node_block node → weight node.pairs ≤ p.threshold
+    heavy (root.Basic found) is light node valid same = subst (λ (n : DirNode). weight n.pairs ≤ p.threshold) (one_basic now.lent found node (omega (arith, looks.0.size)) is.0 valid is.1 same) light
+    heavy (root.Sharded found) is light node valid same = absurd (shard-basic found node is.0 valid (sym is.1 ∙ same))
 
     by : (told : Told) → IfSome told (λ t. held_at t cid ≡ Some now.lent) → IsFitting p cid told
     by None held = tt
-    by (Some t) held = λ l valid there. heavy found looks.1 light l valid (let same : Some now.lent ≡ Some (dir_block l) = sym held ∙ there in cc)
+    by (Some t) held = λ node valid there. heavy found looks.1 light node valid (let same : Some now.lent ≡ Some (dir_node_block node) = sym held ∙ there in cc)
 
 pub fitting-at : {A E : Type 0} (r : Result A E) (p : Profile) (cid : Cid) (before now : Seen) (found : Root) → IsThere cid before now × IsRootOf now.lent found → IsLight (Some p) found → OnOk r (IsFitting p cid before.told)
 fitting-at (Ok x) p cid before now found looks light = fitting p cid before now found looks light

@@ -12,6 +12,7 @@ use Rattle.uf_store.specs.Contents.{Told}
 use Rattle.uf_store.specs.Keeping.{Agrees, Holds, StaysAgreed}
 use Rattle.uf_store.specs.Lost.{AgreesAfter, IsLossOf}
 use Rattle.uf_store.specs.Seen.{Seen}
+use Rattle.uf_tree.specs.declared.meta.Meta.{Meta}
 use Rattle.uf_tree.specs.declared.nodes.Entry.{Entry}
 use Rattle.uf_tree.specs.declared.profile.Profile.{Profile}
 use Rattle.uf_tree.specs.DirPlan.{is_sharded}
@@ -29,69 +30,70 @@ pairs_left name l = elim (find names_cmp name l) [ None ↦ None | Some old ↦ 
 
 -- what a removal answers for a directory in one block: None, and nothing is saved, where the name isn't there, and else
 -- the entry of the rest, whose block is held
-abbrev pub TakesBasic : (List ℕ → List ℕ) → (List ℕ → ℕ) → Profile → List ℕ → List Named → (before now : Told)
+abbrev pub TakesBasic : (List ℕ → List ℕ) → (List ℕ → ℕ) → Profile → Meta → List ℕ → List Named → (before now : Told)
     → Result (Option Entry) StoreFault → Type 0
-TakesBasic X N p name l before now (Ok None) = (find names_cmp name l ≡ None) × (now ≡ before)
-TakesBasic X N p name l before now (Ok (Some e)) =
-    (entry_without X N p name l ≡ Some e) × Holds now (own_blocks X N p (without name l))
-TakesBasic X N p name l before now (Err fault) = IsSaving fault
+TakesBasic X N p meta name l before now (Ok None) = (find names_cmp name l ≡ None) × (now ≡ before)
+TakesBasic X N p meta name l before now (Ok (Some e)) =
+    (entry_without X N p meta name l ≡ Some e) × Holds now (own_blocks X N p meta (without name l))
+TakesBasic X N p meta name l before now (Err fault) = IsSaving fault
 
 -- pairs too heavy for one block leave the entry of their shards and what is told as they are; else the entry is that of
 -- their one block, which is held
-abbrev pub Fits : (List ℕ → List ℕ) → (List ℕ → ℕ) → Profile → Entry → List Named → (before now : Told)
+abbrev pub Fits : (List ℕ → List ℕ) → (List ℕ → ℕ) → Profile → Meta → Entry → List Named → (before now : Told)
     → Result Entry StoreFault → Type 0
-Fits X N p entry pairs before now (Ok e) =
+Fits X N p meta entry pairs before now (Ok e) =
     ((is_sharded p pairs ≡ true) × (now ≡ before) × (e ≡ entry))
-    ⊎ ((e ≡ dir_entry X N p pairs) × Holds now (own_blocks X N p pairs))
-Fits X N p entry pairs before now (Err fault) = IsSaving fault
+    ⊎ ((e ≡ dir_entry X N p meta pairs) × Holds now (own_blocks X N p meta pairs))
+Fits X N p meta entry pairs before now (Err fault) = IsSaving fault
 
 module _ (X : List ℕ → List ℕ) (N : List ℕ → ℕ) where
-  -- the entry is that of the shards of these pairs, the store agrees with their blocks, and it stays calm
-  pub record AreShards (entry : Entry) (before now : Seen) (l : List Named) : Type 0 where
-    pub plan : IsShardPlan X N entry.cid l
-    pub same : entry ≡ (shard X N 7 l).entry
-    pub agrees : Agrees before.told (shard X N 7 l).blocks
+  -- the entry is that of the shards with this metadata and these pairs, the store agrees with their blocks, and it
+  -- stays calm
+  pub record AreShards (meta : Meta) (entry : Entry) (before now : Seen) (l : List Named) : Type 0 where
+    pub plan : IsShardPlan X N entry.cid meta l
+    pub same : entry ≡ (shard X N 7 meta l).entry
+    pub agrees : Agrees before.told (shard X N 7 meta l).blocks
     pub calm : Calm before now
 
-  -- the CID is that of the shards of these pairs, the store agrees with their blocks before and after, and it stays
-  -- calm
-  pub record StayShards (root : Cid) (before now : Seen) (l : List Named) : Type 0 where
-    pub plan : IsShardPlan X N root l
-    pub stays : StaysAgreed before.told now.told (shard X N 7 l).blocks
+  -- the CID is that of the shards with this metadata and these pairs, the store agrees with their blocks before and
+  -- after, and it stays calm
+  pub record StayShards (meta : Meta) (root : Cid) (before now : Seen) (l : List Named) : Type 0 where
+    pub plan : IsShardPlan X N root meta l
+    pub stays : StaysAgreed before.told now.told (shard X N 7 meta l).blocks
     pub calm : Calm before now
 
   -- the directory of these pairs is left in shards, or its one block is held
-  abbrev pub IsLeftOrHeld : Profile → List Named → (before now : Told) → Type 0
-  IsLeftOrHeld p l before now = ((is_sharded p l ≡ true) × (now ≡ before)) ⊎ Holds now (own_blocks X N p l)
+  abbrev pub IsLeftOrHeld : Profile → Meta → List Named → (before now : Told) → Type 0
+  IsLeftOrHeld p meta l before now = ((is_sharded p l ≡ true) × (now ≡ before)) ⊎ Holds now (own_blocks X N p meta l)
 
   -- the answer is the entry of the directory of these pairs, which is left or held in one block, or one of their shards
   -- is lost; want of memory is free
-  abbrev pub SettlesOver : Profile → List Named → (before now : Told) → Result Entry StoreFault → Type 0
-  SettlesOver p l before now (Ok e) = (e ≡ dir_entry X N p l) × IsLeftOrHeld p l before now
-  SettlesOver p l before now (Err fault) = IsLossOf before (shard X N 7 l).blocks fault
+  abbrev pub SettlesOver : Profile → Meta → List Named → (before now : Told) → Result Entry StoreFault → Type 0
+  SettlesOver p meta l before now (Ok e) = (e ≡ dir_entry X N p meta l) × IsLeftOrHeld p meta l before now
+  SettlesOver p meta l before now (Err fault) = IsLossOf before (shard X N 7 meta l).blocks fault
 
   -- the answer is what is left of the directory of these pairs without a name, with whose blocks the store agrees
   -- then, or one of the old shards is lost; want of memory is free
-  abbrev pub TakesOver : Profile → List ℕ → List Named → (before now : Told)
+  abbrev pub TakesOver : Profile → Meta → List ℕ → List Named → (before now : Told)
       → Result (Option Entry) StoreFault → Type 0
-  TakesOver p name l before now (Ok None) = None ≡ entry_without X N p name l
-  TakesOver p name l before now (Ok (Some e)) = (Some e ≡ entry_without X N p name l)
-      × AgreesAfter before now (shard X N 7 l).blocks (own_blocks X N p (without name l))
-  TakesOver p name l before now (Err fault) = IsLossOf before (shard X N 7 l).blocks fault
+  TakesOver p meta name l before now (Ok None) = None ≡ entry_without X N p meta name l
+  TakesOver p meta name l before now (Ok (Some e)) = (Some e ≡ entry_without X N p meta name l)
+      × AgreesAfter before now (shard X N 7 meta l).blocks (own_blocks X N p meta (without name l))
+  TakesOver p meta name l before now (Err fault) = IsLossOf before (shard X N 7 meta l).blocks fault
 
--- what a directory in shards of this entry comes to: the entry of a directory's root, and for the pairs of these shards
--- that of their directory
-pub record SettlesShards (X : List ℕ → List ℕ) (p : Profile) (entry : Entry) (before now : Seen)
+-- what a directory in shards of this entry and with this metadata comes to: the entry of a directory's root, and for
+-- the pairs of these shards that of their directory
+pub record SettlesShards (X : List ℕ → List ℕ) (p : Profile) (meta : Meta) (entry : Entry) (before now : Seen)
     (result : Result Entry StoreFault) : Type 0 where
   pub made : IfOk result (λ e. IsRootCid X (Some p) e.cid)
-  pub over : (N : List ℕ → ℕ) (l : List Named) → AreShards X N entry before now l
-      → SettlesOver X N p l before.told now.told result
+  pub over : (N : List ℕ → ℕ) (l : List Named) → AreShards X N meta entry before now l
+      → SettlesOver X N p meta l before.told now.told result
 
 -- what a removal answers for a directory in shards: the entry of a directory's root, or None, and nothing is saved, and
 -- for the pairs of these shards what is left of them
-pub record TakesSharded (X : List ℕ → List ℕ) (N : List ℕ → ℕ) (p : Profile) (root : Cid) (name : List ℕ)
-    (before now : Seen) (result : Result (Option Entry) StoreFault) : Type 0 where
+pub record TakesSharded (X : List ℕ → List ℕ) (N : List ℕ → ℕ) (p : Profile) (meta : Meta) (root : Cid)
+    (name : List ℕ) (before now : Seen) (result : Result (Option Entry) StoreFault) : Type 0 where
   pub made : IfOk result (λ left. IfSome left (λ e. IsRootCid X (Some p) e.cid))
   pub none : IfOk result (λ left. left ≡ None → now.told ≡ before.told)
-  pub over : (l : List Named) → StayShards X N root before now l
-      → TakesOver X N p name l before.told now.told result
+  pub over : (l : List Named) → StayShards X N meta root before now l
+      → TakesOver X N p meta name l before.told now.told result

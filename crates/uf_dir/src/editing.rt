@@ -9,21 +9,23 @@ ghost use Rattle.uf_store.specs.Writing.{SavesOnly};
 ghost use Rattle.uf_store.specs.Lost.{AgreesAfter, ReadsOver};
 ghost use Rattle.uf_tree.specs.Changes.{with_name, without};
 ghost use Rattle.uf_tree.specs.DirPlan.{weight};
+ghost use Rattle.uf_tree.specs.declared.meta.Meta.{Meta as TheMeta};
+ghost use Rattle.uf_tree.specs.Metas.{is_meta};
 ghost use Rattle.uf_tree.specs.Nodes.{Named};
 ghost use Rattle.uf_tree.specs.Profiles.{is_profile};
 ghost use Rattle.uf_tree.specs.TreePlan.{dir_refusal};
-ghost use Rattle.uf_tree.specs.Validity.{IsDirectory};
+ghost use Rattle.uf_tree.specs.Validity.{IsDirNode, IsDirectory};
 ghost use Rattle.uf_shard.specs.Answers.{Gives, GivesOver, Shown, dir_fault};
 ghost use Rattle.uf_shard.specs.Listing.{IsBadShard};
 ghost use Rattle.uf_shard.specs.Planned.{IsShardCid};
 ghost use Rattle.uf_dir.specs.Bad.{BlamesOnly, IsBad, IsBadWeighed};
-ghost use Rattle.uf_dir.specs.Bounds.{IsFree, crossing, gathering, shard_count, weighing, weighing_from};
+ghost use Rattle.uf_dir.specs.Bounds.{IsFree, crossing, gathering, settling, shard_count, weighing, weighing_from};
 ghost use Rattle.uf_dir.specs.Left.{AreShards, Fits, SettlesShards, StayShards};
 ghost use Rattle.uf_dir.specs.Left.{TakesBasic, TakesSharded, pairs_left};
 ghost use Rattle.uf_dir.specs.Planned.{IsFitting, IsPlanned, dir_entry, entry_without, own_blocks};
 ghost use Rattle.uf_dir.specs.Roots.{IsRootCid};
 
-use crate::building::{build, empty, needs_shards, save_basic};
+use crate::building::{build, needs_shards, save_basic};
 use crate::looking::look_at_root;
 use crate::pairs::{entry_of, with_pair, without_name};
 use crate::root::Root;
@@ -33,11 +35,11 @@ use uf_cid::{Cid, Memory};
 use uf_murmur::NameHash;
 use uf_shard::{DirFault, Removed, entries, weight_over};
 use uf_store::{Steps, Store, StoreFault};
-use uf_tree::{Entry, Name, Pairs, Profile};
+use uf_tree::{DirNode, Entry, Meta, Name, Pairs, Profile};
 
 /// Saves the directory with this root and with an entry put under a name, in the place of an older one of that name,
-/// and answers its entry. A directory in shards is changed in place; one in one block goes into shards where it gets
-/// too heavy.
+/// and answers its entry. Its metadata stays. A directory in shards is changed in place; one in one block goes into
+/// shards where it gets too heavy.
 pub fn put<S: Store, N: NameHash, L: Ledger>(
     alloc: Global,
     store: &mut S,
@@ -48,66 +50,67 @@ pub fn put<S: Store, N: NameHash, L: Ledger>(
     touches: &mut Steps<L>,
 ) -> Result<Entry, DirFault>
     requires profile { IsTrue (is_profile p.now) }
-    ensures value { (l : List Named) → IsPlanned S.X.block32 N.name64 p.now root.now l
-        → Agrees (S.seen store.old).told (own_blocks S.X.block32 N.name64 p.now l)
+    ensures value { (m : TheMeta) (l : List Named) → IsPlanned S.X.block32 N.name64 p.now m root.now l
+        → Agrees (S.seen store.old).told (own_blocks S.X.block32 N.name64 p.now m l)
         → Stood (S.seen store.old).faults (S.seen store.new).faults
         → Stood (S.seen store.old).clashes (S.seen store.new).clashes
-        → GivesOver (S.seen store.old).told (own_blocks S.X.block32 N.name64 p.now l)
-        (dir_refusal S.X.block32 N.name64 p.now (with_name name.now entry.now l))
-        (dir_entry S.X.block32 N.name64 p.now (with_name name.now entry.now l)) result }
+        → GivesOver (S.seen store.old).told (own_blocks S.X.block32 N.name64 p.now m l)
+        (dir_refusal S.X.block32 N.name64 p.now m (with_name name.now entry.now l))
+        (dir_entry S.X.block32 N.name64 p.now m (with_name name.now entry.now l)) result }
     ensures made { IfOk result (λ e. IsRootCid S.X.block32 (Some p.now) e.cid) }
     ensures fitting { OnOk result (IsFitting p.now root.now (S.seen store.old).told) }
-    ensures after { OnOk result ((l : List Named) → IsPlanned S.X.block32 N.name64 p.now root.now l
-        → StaysAgreed (S.seen store.old).told (S.seen store.new).told (own_blocks S.X.block32 N.name64 p.now l)
-        → AgreesAfter (S.seen store.old).told (S.seen store.new).told (own_blocks S.X.block32 N.name64 p.now l)
-        (own_blocks S.X.block32 N.name64 p.now (with_name name.now entry.now l))) }
+    ensures after { OnOk result ((m : TheMeta) (l : List Named) → IsPlanned S.X.block32 N.name64 p.now m root.now l
+        → StaysAgreed (S.seen store.old).told (S.seen store.new).told (own_blocks S.X.block32 N.name64 p.now m l)
+        → AgreesAfter (S.seen store.old).told (S.seen store.new).told (own_blocks S.X.block32 N.name64 p.now m l)
+        (own_blocks S.X.block32 N.name64 p.now m (with_name name.now entry.now l))) }
     ensures cause { Shown S.X.block32 (IsBad N.name64 (N.name64 name.now) (Some p.now)) result
         (S.seen store.old) (S.seen store.new) }
     ensures blames { BlamesOnly root.now (dir_fault result) }
     ensures good { KeepsGood S.X.block32 (S.seen store.old).told (S.seen store.new).told }
     ensures saves { SavesOnly S.X.block32 (S.seen store.old).told (S.seen store.new).told }
-    ensures touches { (l : List Named) → IsPlanned S.X.block32 N.name64 p.now root.now l
-        → Agrees (S.seen store.old).told (own_blocks S.X.block32 N.name64 p.now l)
+    ensures touches { (m : TheMeta) (l : List Named) → IsPlanned S.X.block32 N.name64 p.now m root.now l
+        → Agrees (S.seen store.old).told (own_blocks S.X.block32 N.name64 p.now m l)
         → touches.new ≤ touches.old + (17 + crossing S.X.block32 N.name64 p.now l (with_name name.now entry.now l)) }
     ensures touched { touches.old < touches.new }
 {
     let found = look_at_root(alloc, store, Some(*p), root, touches)?;
     match found {
-        Root::Basic(pairs) => put_basic::<S, N, L>(alloc, store, p, &pairs, name, entry, touches),
+        Root::Basic(node) => put_basic::<S, N, L>(alloc, store, p, &node, name, entry, touches),
         Root::Sharded(_) => uf_shard::put::<S, N, L>(alloc, store, root, name, entry, touches),
     }
 }
 
-// Saves the directory of these pairs and of an entry under a name.
+// Saves the directory of this node and of an entry under a name.
 fn put_basic<S: Store, N: NameHash, L: Ledger>(
     alloc: Global,
     store: &mut S,
     p: &Profile,
-    pairs: &Pairs,
+    node: &DirNode,
     name: &Name,
     entry: &Entry,
     touches: &mut Steps<L>,
 ) -> Result<Entry, DirFault>
     requires profile { IsTrue (is_profile p.now) }
-    requires directory { IsDirectory pairs.now }
-    ensures answer { Gives (dir_refusal S.X.block32 N.name64 p.now (with_name name.now entry.now pairs.now))
-        (dir_entry S.X.block32 N.name64 p.now (with_name name.now entry.now pairs.now)) result }
+    requires node { IsDirNode node.now }
+    ensures answer { Gives (dir_refusal S.X.block32 N.name64 p.now node.now.meta
+        (with_name name.now entry.now node.now.pairs))
+        (dir_entry S.X.block32 N.name64 p.now node.now.meta (with_name name.now entry.now node.now.pairs)) result }
     ensures made { IfOk result (λ e. IsRootCid S.X.block32 (Some p.now) e.cid) }
     ensures held { OnOk result (Holds (S.seen store.new).told
-        (own_blocks S.X.block32 N.name64 p.now (with_name name.now entry.now pairs.now))) }
+        (own_blocks S.X.block32 N.name64 p.now node.now.meta (with_name name.now entry.now node.now.pairs))) }
     ensures saves { OnlySaves S.X.block32 NoneIsBad (dir_fault result) (S.seen store.old) (S.seen store.new) }
     ensures touches { touches.new ≤ touches.old
-        + length (own_blocks S.X.block32 N.name64 p.now (with_name name.now entry.now pairs.now)) }
+        + length (own_blocks S.X.block32 N.name64 p.now node.now.meta (with_name name.now entry.now node.now.pairs)) }
     ensures touched { touches.old ≤ touches.new }
-    ensures early { IsFree N.name64 p.now (with_name name.now entry.now pairs.now) touches.old touches.new }
+    ensures early { IsFree N.name64 p.now (with_name name.now entry.now node.now.pairs) touches.old touches.new }
 {
-    let changed = with_pair(alloc, pairs, name, entry)?;
-    build::<S, N, L>(alloc, store, p, &changed, touches)
+    let changed = with_pair(alloc, &node.pairs, name, entry)?;
+    build::<S, N, L>(alloc, store, p, &changed, &node.meta, touches)
 }
 
 /// Saves the directory with this root without a name, and answers its entry; `None`, and nothing is saved, where the
-/// name isn't there. A directory in shards is changed in place, and goes into one block where it isn't too heavy any
-/// more.
+/// name isn't there. Its metadata stays. A directory in shards is changed in place, and goes into one block where it
+/// isn't too heavy any more.
 pub fn remove<S: Store, N: NameHash, L: Ledger>(
     alloc: Global,
     store: &mut S,
@@ -117,118 +120,127 @@ pub fn remove<S: Store, N: NameHash, L: Ledger>(
     touches: &mut Steps<L>,
 ) -> Result<Option<Entry>, StoreFault>
     requires profile { IsTrue (is_profile p.now) }
-    ensures value { (l : List Named) → IsPlanned S.X.block32 N.name64 p.now root.now l
-        → StaysAgreed (S.seen store.old).told (S.seen store.new).told (own_blocks S.X.block32 N.name64 p.now l)
+    ensures value { (m : TheMeta) (l : List Named) → IsPlanned S.X.block32 N.name64 p.now m root.now l
+        → StaysAgreed (S.seen store.old).told (S.seen store.new).told (own_blocks S.X.block32 N.name64 p.now m l)
         → Stood (S.seen store.old).faults (S.seen store.new).faults
         → Stood (S.seen store.old).clashes (S.seen store.new).clashes
-        → ReadsOver (S.seen store.old).told (own_blocks S.X.block32 N.name64 p.now l)
-        (entry_without S.X.block32 N.name64 p.now name.now l) result }
+        → ReadsOver (S.seen store.old).told (own_blocks S.X.block32 N.name64 p.now m l)
+        (entry_without S.X.block32 N.name64 p.now m name.now l) result }
     ensures made { IfOk result (λ left. IfSome left (λ e. IsRootCid S.X.block32 (Some p.now) e.cid)) }
     ensures fitting { OnOk result (IsFitting p.now root.now (S.seen store.old).told) }
     ensures none { IfOk result (λ left. left ≡ None → (S.seen store.new).told ≡ (S.seen store.old).told) }
-    ensures after { OnOk result ((l : List Named) → IsPlanned S.X.block32 N.name64 p.now root.now l
-        → StaysAgreed (S.seen store.old).told (S.seen store.new).told (own_blocks S.X.block32 N.name64 p.now l)
+    ensures after { OnOk result ((m : TheMeta) (l : List Named) → IsPlanned S.X.block32 N.name64 p.now m root.now l
+        → StaysAgreed (S.seen store.old).told (S.seen store.new).told (own_blocks S.X.block32 N.name64 p.now m l)
         → Stood (S.seen store.old).faults (S.seen store.new).faults
         → Stood (S.seen store.old).clashes (S.seen store.new).clashes
-        → AgreesAfter (S.seen store.old).told (S.seen store.new).told (own_blocks S.X.block32 N.name64 p.now l)
-        (own_blocks S.X.block32 N.name64 p.now (without name.now l))) }
+        → AgreesAfter (S.seen store.old).told (S.seen store.new).told (own_blocks S.X.block32 N.name64 p.now m l)
+        (own_blocks S.X.block32 N.name64 p.now m (without name.now l))) }
     ensures cause { Answers S.X.block32 (IsBadWeighed N.name64 (N.name64 name.now) (Some p.now)) result
         (S.seen store.old) (S.seen store.new) }
     ensures blames { BlamesOnly root.now (fault_in result) }
     ensures good { KeepsGood S.X.block32 (S.seen store.old).told (S.seen store.new).told }
     ensures saves { SavesOnly S.X.block32 (S.seen store.old).told (S.seen store.new).told }
-    ensures touches { (l : List Named) → IsPlanned S.X.block32 N.name64 p.now root.now l
-        → StaysAgreed (S.seen store.old).told (S.seen store.new).told (own_blocks S.X.block32 N.name64 p.now l)
+    ensures touches { (m : TheMeta) (l : List Named) → IsPlanned S.X.block32 N.name64 p.now m root.now l
+        → StaysAgreed (S.seen store.old).told (S.seen store.new).told (own_blocks S.X.block32 N.name64 p.now m l)
         → Stood (S.seen store.old).faults (S.seen store.new).faults
         → Stood (S.seen store.old).clashes (S.seen store.new).clashes
-        → touches.new ≤ touches.old + (18 + weighing_from S.X.block32 N.name64 p.now l
+        → touches.new ≤ touches.old + (18 + weighing_from S.X.block32 N.name64 p.now name.now l
         + crossing S.X.block32 N.name64 p.now l (without name.now l)) }
     ensures touched { touches.old < touches.new }
 {
     let found = look_at_root(alloc, store, Some(*p), root, touches)?;
     match found {
-        Root::Basic(pairs) => remove_basic::<S, N, L>(alloc, store, p, &pairs, name, touches),
-        Root::Sharded(_) => remove_sharded::<S, N, L>(alloc, store, p, root, name, touches),
+        Root::Basic(node) => remove_basic::<S, N, L>(alloc, store, p, &node, name, touches),
+        Root::Sharded(node) => {
+            remove_sharded::<S, N, L>(alloc, store, p, root, name, &node.meta, touches)
+        }
     }
 }
 
-// Saves the directory of these pairs, which aren't too heavy for one block, without a name, where the name is there.
+// Saves the directory of this node, whose pairs aren't too heavy for one block, without a name, where the name is
+// there.
 fn remove_basic<S: Store, N: NameHash, L: Ledger>(
     alloc: Global,
     store: &mut S,
     p: &Profile,
-    pairs: &Pairs,
+    node: &DirNode,
     name: &Name,
     touches: &mut Steps<L>,
 ) -> Result<Option<Entry>, StoreFault>
     requires profile { IsTrue (is_profile p.now) }
-    requires directory { IsDirectory pairs.now }
-    requires light { weight pairs.now ≤ p.now.threshold }
-    ensures takes { TakesBasic S.X.block32 N.name64 p.now name.now pairs.now
+    requires node { IsDirNode node.now }
+    requires light { weight node.now.pairs ≤ p.now.threshold }
+    ensures takes { TakesBasic S.X.block32 N.name64 p.now node.now.meta name.now node.now.pairs
         (S.seen store.old).told (S.seen store.new).told result }
     ensures saves { OnlySaves S.X.block32 NoneIsBad (fault_in result) (S.seen store.old) (S.seen store.new) }
     ensures touches { touches.new ≤ touches.old + 1 }
     ensures touched { touches.old ≤ touches.new }
 {
-    let rest = pairs_without(alloc, pairs, name)?;
+    let rest = pairs_without(alloc, &node.pairs, name)?;
     match rest {
         None => Ok(None),
         Some(left) => {
-            let entry = save_basic(alloc, store, &left, touches)?;
+            let entry = save_basic(alloc, store, &left, &node.meta, touches)?;
             Ok(Some(entry))
         }
     }
 }
 
-// Takes a name out of the directory whose shard tree has this root, and answers the entry of what is left.
+// Takes a name out of the directory whose shard tree has this root and this metadata, and answers the entry of what is
+// left.
 fn remove_sharded<S: Store, N: NameHash, L: Ledger>(
     alloc: Global,
     store: &mut S,
     p: &Profile,
     root: &Cid,
     name: &Name,
+    meta: &Meta,
     touches: &mut Steps<L>,
 ) -> Result<Option<Entry>, StoreFault>
     requires profile { IsTrue (is_profile p.now) }
-    ensures takes { TakesSharded S.X.block32 N.name64 p.now root.now name.now
+    requires meta { IsTrue (is_meta meta.now) }
+    ensures takes { TakesSharded S.X.block32 N.name64 p.now meta.now root.now name.now
         (S.seen store.old) (S.seen store.new) result }
     ensures saves { OnlySaves S.X.block32 (IsBadWeighed N.name64 (N.name64 name.now) (Some p.now)) (fault_in result)
         (S.seen store.old) (S.seen store.new) }
     ensures blames { BlamesOnly root.now (fault_in result) }
     ensures touches { (l : List Named)
-        → StayShards S.X.block32 N.name64 root.now (S.seen store.old) (S.seen store.new) l
-        → touches.new ≤ touches.old + (17 + weighing p.now (shard_count S.X.block32 N.name64 l)
-        + gathering p.now (shard_count S.X.block32 N.name64 l) (without name.now l)) }
+        → StayShards S.X.block32 N.name64 meta.now root.now (S.seen store.old) (S.seen store.new) l
+        → touches.new ≤ touches.old + (17 + settling S.X.block32 N.name64 p.now name.now l) }
     ensures touched { touches.old < touches.new }
 {
     let removed = uf_shard::remove::<S, N, L>(alloc, store, root, name, touches)?;
     match removed {
         Removed::Absent => Ok(None),
         Removed::Empty => {
-            let entry = empty(alloc, store, touches)?;
+            let nothing = Pairs::new(alloc);
+            let entry = save_basic(alloc, store, &nothing, meta, touches)?;
             Ok(Some(entry))
         }
         Removed::Left(entry) => {
-            let left = settled(alloc, store, p, entry, touches)?;
+            let left = settled(alloc, store, p, entry, meta, touches)?;
             Ok(Some(left))
         }
     }
 }
 
-// The entry of a directory in shards, or of the same in one block, which is saved, where it isn't too heavy for that.
+// The entry of a directory in shards with this metadata, or of the same in one block, which is saved, where it isn't
+// too heavy for that.
 fn settled<S: Store, L: Ledger>(
     alloc: Global,
     store: &mut S,
     p: &Profile,
     entry: Entry,
+    meta: &Meta,
     touches: &mut Steps<L>,
 ) -> Result<Entry, StoreFault>
     requires profile { IsTrue (is_profile p.now) }
+    requires meta { IsTrue (is_meta meta.now) }
     requires shard { IsShardCid S.X.block32 entry.cid }
-    ensures settles { SettlesShards S.X.block32 p.now entry (S.seen store.old) (S.seen store.new) result }
+    ensures settles { SettlesShards S.X.block32 p.now meta.now entry (S.seen store.old) (S.seen store.new) result }
     ensures saves { OnlySaves S.X.block32 IsBadShard (fault_in result) (S.seen store.old) (S.seen store.new) }
     ensures touches { (N : List ℕ → ℕ) (l : List Named)
-        → AreShards S.X.block32 N entry (S.seen store.old) (S.seen store.new) l
+        → AreShards S.X.block32 N meta.now entry (S.seen store.old) (S.seen store.new) l
         → touches.new ≤ touches.old + (weighing p.now (shard_count S.X.block32 N l)
         + gathering p.now (shard_count S.X.block32 N l) l) }
     ensures touched { touches.old < touches.new }
@@ -237,42 +249,46 @@ fn settled<S: Store, L: Ledger>(
     if is_heavy {
         return Ok(entry);
     }
-    in_one_block(alloc, store, p, entry, touches)
+    in_one_block(alloc, store, p, entry, meta, touches)
 }
 
-// The entry of a directory in shards that were weighed, or of the same in one block, which is saved.
+// The entry of a directory in shards with this metadata that were weighed, or of the same in one block, which is saved.
 fn in_one_block<S: Store, L: Ledger>(
     alloc: Global,
     store: &mut S,
     p: &Profile,
     entry: Entry,
+    meta: &Meta,
     touches: &mut Steps<L>,
 ) -> Result<Entry, StoreFault>
     requires profile { IsTrue (is_profile p.now) }
+    requires meta { IsTrue (is_meta meta.now) }
     requires shard { IsShardCid S.X.block32 entry.cid }
-    ensures settles { SettlesShards S.X.block32 p.now entry (S.seen store.old) (S.seen store.new) result }
+    ensures settles { SettlesShards S.X.block32 p.now meta.now entry (S.seen store.old) (S.seen store.new) result }
     ensures saves { OnlySaves S.X.block32 IsBadShard (fault_in result) (S.seen store.old) (S.seen store.new) }
     ensures touches { (N : List ℕ → ℕ) (l : List Named)
-        → AreShards S.X.block32 N entry (S.seen store.old) (S.seen store.new) l
+        → AreShards S.X.block32 N meta.now entry (S.seen store.old) (S.seen store.new) l
         → touches.new ≤ touches.old + (shard_count S.X.block32 N l + 1) }
     ensures touched { touches.old < touches.new }
 {
     let pairs = entries(alloc, store, &entry.cid, touches)?;
-    fitted(alloc, store, p, entry, &pairs, touches)
+    fitted(alloc, store, p, entry, &pairs, meta, touches)
 }
 
-// Saves these pairs in one block, unless they are too heavy for it: then the entry of their shards.
+// Saves these pairs with this metadata in one block, unless they are too heavy for it: then the entry of their shards.
 fn fitted<S: Store, L: Ledger>(
     alloc: Global,
     store: &mut S,
     p: &Profile,
     entry: Entry,
     pairs: &Pairs,
+    meta: &Meta,
     touches: &mut Steps<L>,
 ) -> Result<Entry, StoreFault>
     requires profile { IsTrue (is_profile p.now) }
+    requires meta { IsTrue (is_meta meta.now) }
     requires directory { IsDirectory pairs.now }
-    ensures fits { (N : List ℕ → ℕ) → Fits S.X.block32 N p.now entry pairs.now
+    ensures fits { (N : List ℕ → ℕ) → Fits S.X.block32 N p.now meta.now entry pairs.now
         (S.seen store.old).told (S.seen store.new).told result }
     ensures saves { OnlySaves S.X.block32 NoneIsBad (fault_in result) (S.seen store.old) (S.seen store.new) }
     ensures touches { touches.new ≤ touches.old + 1 }
@@ -281,7 +297,7 @@ fn fitted<S: Store, L: Ledger>(
     if needs_shards(p, pairs.as_slice()) {
         return Ok(entry);
     }
-    save_basic(alloc, store, pairs, touches)
+    save_basic(alloc, store, pairs, meta, touches)
 }
 
 // The pairs without a name, where the name is there.

@@ -1,5 +1,5 @@
 -- What a call that changes a file shows of a bad block.
-use Rattle.std.proofs.Common.{◌≡◌, ◌≢◌, ℕ, zero, suc, ◌+◌, ◌<◌, ◌≤◌, List, [], ◌∷◌, length, sum, get_or, refl, ap, arith, sym, ◌∙◌, subst, add-one, true, false, Option, None, Some, ◌⊎◌, inl, inr, Result, Ok, Err, IsTrue}
+use Rattle.std.proofs.Common.{◌≡◌, ◌≢◌, ℕ, zero, suc, ◌+◌, ◌-◌, ◌<◌, ◌≤◌, List, [], ◌∷◌, length, get_or, refl, ap, arith, sym, ◌∙◌, subst, add-one, true, false, Option, None, Some, ◌⊎◌, inl, inr, Result, Ok, Err, IsTrue}
 use Rattle.std.specs.Prelude.{IfOk, IfSome, slice_get}
 use Rattle.std.specs.List.{Contains}
 use Rattle.uf_cid.specs.declared.bytes.StrictFault.TheVariants.{NotCanonical, Memory as StrictMemory}
@@ -7,8 +7,8 @@ use Rattle.uf_cid.specs.declared.cid.Cid.{Cid}
 use Rattle.uf_cid.specs.declared.cid.Codec.{Codec}
 use Rattle.uf_cid.specs.declared.cid.Codec.TheVariants.{Raw, DagPb}
 use Rattle.uf_fileread.specs.Parts.{parts_block}
+use Rattle.uf_fileread.specs.declared.node_parts.NodeParts.{NodeParts}
 use Rattle.uf_fileread.specs.Ranges.{IsFile}
-use Rattle.uf_fileread.proofs.Nodes.{node-parts, zipped}
 use Rattle.uf_store.specs.Contents.{Told}
 use Rattle.uf_store.specs.Faults.{Answers, Shows, ShowsBadBlock, StaysCalm}
 use Rattle.uf_store.specs.Keeping.{HoldsOne, KeepsGood}
@@ -16,21 +16,22 @@ use Rattle.uf_store.specs.Seen.{Finds, Seen}
 use Rattle.uf_store.specs.declared.store.Role.{Role}
 use Rattle.uf_store.specs.declared.store.Role.TheVariants.{FileNode as FileRole, Leaf}
 use Rattle.uf_store.specs.declared.store.StoreFault.{StoreFault}
-use Rattle.uf_store.proofs.Causes.{Shows-after, Shows-by, StaysCalm-trans}
+use Rattle.uf_store.specs.declared.store.StoreFault.TheVariants.{Failed, Damaged, Missing, BadBlock, Clash, Memory}
+use Rattle.uf_store.proofs.Causes.{Shows-after, Shows-by, StaysCalm-trans, calm-memory}
 use Rattle.uf_store.proofs.Keeping.{KeepsGood-same}
+use Rattle.uf_tree.specs.declared.meta.Meta.{Meta}
 use Rattle.uf_tree.specs.declared.nodes.Part.{Part}
 use Rattle.uf_tree.specs.declared.profile.Profile.{Profile}
-use Rattle.uf_tree.specs.FileSub.{IsHeight, span}
-use Rattle.uf_tree.specs.Nodes.{file_block}
+use Rattle.uf_tree.specs.FileSub.{IsHeight}
 use Rattle.uf_tree.specs.Profiles.{is_profile}
 use Rattle.uf_tree.specs.Roles.{Below, IsCanonicalFileNode, Root}
-use Rattle.uf_tree.specs.Validity.{IsFileNode}
 use Rattle.uf_tree.proofs.Canonical.{few_rows}
 use Rattle.uf_tree.proofs.Told.{kept}
-use Rattle.uf_fileedit.specs.Bad.{IsBadEdited, IsBadPlaced, IsUnder}
-use Rattle.uf_fileedit.specs.Planned.{IsPlannedNode, IsSize, is_of_height, role_at}
-use Rattle.uf_fileedit.specs.Ways.{IsBadAmongOld, IsBadOld, StandBelow, Stands, StandsFirst}
-use Rattle.uf_fileedit.proofs.Ways.{child-stands, node-bad, some_bytes, under-kept}
+use Rattle.uf_fileedit.specs.Bad.{IsBadEdited, IsBadPlaced, IsUnder, place_at, way_size}
+use Rattle.uf_fileedit.specs.Planned.{IsLaidOut, IsPlannedNode, bytes_over, is_of_height, leaf_alone, role_at}
+use Rattle.uf_fileedit.specs.Roots.{IsRootIn, SaysRoot}
+use Rattle.uf_fileedit.specs.Ways.{IsBadAmongOld, IsBadOld, StandBelow, StandUnderRoot, Stands}
+use Rattle.uf_fileedit.proofs.Ways.{canonical-laid, child-stands, node-bad, node_place, one_total, root-stands-at, some_bytes, under-kept}
 
 -- a block that was found is under its CID
 found-under : (hash : List ℕ → List ℕ) (cid : Cid) (before now : Seen) → Finds hash cid before now → IsUnder hash now.told cid now.lent
@@ -47,56 +48,50 @@ shows-bad hash Bad cid role before now found calm bad = record {
 
 -- ---- the root
 
-bad_root : (p : Profile) (codec : Codec) (lent : List ℕ) → ((size : ℕ) → IsSize p codec lent size → ⊥) → IsBadPlaced p Root None (role_at codec) lent
-unfolding span
-bad_root p Raw lent none = λ canonical. none (length lent) (refl, canonical.short)
-bad_root p DagPb lent none = λ canonical.
-    let same = node-parts canonical.node canonical.valid in
-    none (sum canonical.node.sizes) (record {
-      parts = zipped canonical.node.parts canonical.node.sizes;
-      valid = subst IsFileNode (sym same) canonical.valid;
-      is = canonical.is ∙ ap file_block (sym same);
-      total = ap (λ m. sum m.sizes) (sym same);
-      many = canonical.planned.height.least 0 (omega arith);
-    })
-
-pub root-bad : (hash : List ℕ → List ℕ) (p : Profile) (cid : Cid) (role : Role) (lent : List ℕ) (before now : Seen) → role ≡ role_at cid.codec → Finds hash cid before now → StaysCalm before now → lent ≡ now.lent
-    → ((size : ℕ) → IsSize p cid.codec lent size → ⊥) → ShowsBadBlock hash (IsBadEdited hash p now.told cid) cid role before now
-root-bad hash p cid role lent before now is found calm same none =
+root-first : (hash : List ℕ → List ℕ) (p : Profile) (cid : Cid) (role : Role) (before now : Seen) → role ≡ role_at cid.codec → Finds hash cid before now → StaysCalm before now → IsBadPlaced p Root None (role_at cid.codec) now.lent
+    → ShowsBadBlock hash (IsBadEdited hash p now.told cid) cid role before now
+root-first hash p cid role before now is found calm bad =
     shows-bad hash (IsBadEdited hash p now.told cid) cid role before now found calm (inl (record {
       role_is = is;
       is_under = found-under hash cid before now found;
-      bad = subst (λ (r : Role). IsBadPlaced p Root None r now.lent) (sym is) (subst (IsBadPlaced p Root None (role_at cid.codec)) same (bad_root p cid.codec lent none));
+      bad = subst (λ (r : Role). IsBadPlaced p Root None r now.lent) (sym is) bad;
     }))
 
-root_codec : (p : Profile) (codec : Codec) (lent : List ℕ) (size rows : ℕ) → IsSize p codec lent size → IsHeight p.chunk p.width size rows → is_of_height rows codec ≡ true
-unfolding span
-root_codec p Raw lent size zero says high = refl
-root_codec p Raw lent size (suc k) says high = absurd (let few : p.chunk < size = high.least 0 (omega arith) in omega (arith, says.0, says.1))
-root_codec p DagPb lent size zero says high = absurd (let many : p.chunk < size = says.many in let fits : size ≤ p.chunk = high.fits in omega arith)
-root_codec p DagPb lent size (suc k) says high = refl
+-- a block that isn't a file's root at all
+pub root-unread : (hash : List ℕ → List ℕ) (p : Profile) (cid : Cid) (lent : List ℕ) (before now : Seen) (fault : StoreFault) → Finds hash cid before now → StaysCalm before now → lent ≡ now.lent → SaysRoot cid lent (Err fault)
+    → Shows hash (IsBadEdited hash p now.told cid) fault before now
+root-unread hash p cid lent before now Failed found calm same says = absurd says
+root-unread hash p cid lent before now (Damaged c) found calm same says = absurd says
+root-unread hash p cid lent before now (Missing c) found calm same says = absurd says
+root-unread hash p cid lent before now (BadBlock c role) found calm same says =
+    subst (λ (d : Cid). ShowsBadBlock hash (IsBadEdited hash p now.told cid) d role before now) (sym says.same)
+    (root-first hash p cid role before now (says.role_is ∙ ap role_at (sym says.codec)) found calm
+    (subst (λ (r : Role). IsBadPlaced p Root None r now.lent) (ap role_at (sym says.codec)) (λ canonical. says.none canonical.node canonical.valid (same ∙ canonical.is))))
+root-unread hash p cid lent before now (Clash c x y) found calm same says = absurd says
+root-unread hash p cid lent before now Memory found calm same says = calm-memory before now calm
 
-pub root-stands : (hash : List ℕ → List ℕ) (p : Profile) (cid : Cid) (lent : List ℕ) (part : Part) (before now : Seen) → Finds hash cid before now → lent ≡ now.lent → part.entry.cid ≡ cid → IsSize p cid.codec lent part.size
-    → StandsFirst hash p before.told cid part
-root-stands hash p cid lent part before now found same cid_is says = λ later rows keeps high. record {
-  whole = part.size;
-  says = record {
-    block = lent;
-    is_under = under-kept hash before.told later cid lent keeps (subst (IsUnder hash before.told cid) (sym same) (subst (λ (t : Told). IsUnder hash t cid now.lent) found.same_told (found-under hash cid before now found)));
-    says = says;
-  };
-  high = high;
-  way = [];
-  is_way = tt;
-  count = (let e : 0 + rows ≡ rows = omega arith in e);
-  cid_is = cid_is;
-  size_is = refl;
-  spanned = λ some. (
-      let least : span p.chunk p.width 0 < part.size = high.least 0 some in
-      let fits : part.size ≤ span p.chunk p.width rows = high.fits in
-      record { before = 0; inside = omega arith; is = omega arith });
-  codec = subst (λ (c : Cid). is_of_height rows c.codec ≡ true) (sym cid_is) (root_codec p cid.codec lent part.size rows says high);
-}
+bad_root : (p : Profile) → IsTrue (is_profile p) → (codec : Codec) (cid : Cid) (lent : List ℕ) (root : NodeParts) → cid.codec ≡ codec → IsRootIn codec cid lent root → (IsLaidOut p codec root → ⊥) → IsBadPlaced p Root None (role_at codec) lent
+bad_root p ok Raw cid lent root is says refuses = λ canonical. refuses (record {
+  single = λ few. ap (λ (n : NodeParts). leaf_alone n.parts) says ∙ ap (is_of_height 0) is;
+  many = λ more. absurd (
+      let total : bytes_over root.parts ≡ length lent = ap (λ (n : NodeParts). bytes_over n.parts) says ∙ one_total p ok (record { entry = record { cid = cid; tsize = length lent }; size = length lent }) in
+      let short : length lent ≤ p.chunk = canonical.short in
+      omega arith);
+})
+bad_root p ok DagPb cid lent root is says refuses = λ canonical. refuses (canonical-laid p ok lent root says.0 says.1 canonical)
+
+-- a root that isn't laid out
+pub root-bad : (hash : List ℕ → List ℕ) (p : Profile) → IsTrue (is_profile p) → (cid : Cid) (role : Role) (lent : List ℕ) (root : NodeParts) (before now : Seen) → role ≡ role_at cid.codec → Finds hash cid before now → StaysCalm before now → lent ≡ now.lent
+    → IsRootIn cid.codec cid lent root → (IsLaidOut p cid.codec root → ⊥) → ShowsBadBlock hash (IsBadEdited hash p now.told cid) cid role before now
+root-bad hash p ok cid role lent root before now is found calm same says refuses =
+    root-first hash p cid role before now is found calm (subst (IsBadPlaced p Root None (role_at cid.codec)) same (bad_root p ok cid.codec cid lent root refl says refuses))
+
+pub root-stands : (hash : List ℕ → List ℕ) (p : Profile) → IsTrue (is_profile p) → (cid : Cid) (lent : List ℕ) (root : NodeParts) (before now : Seen) → Finds hash cid before now → lent ≡ now.lent → IsRootIn cid.codec cid lent root → IsLaidOut p cid.codec root
+    → StandUnderRoot hash p before.told cid root
+root-stands hash p ok cid lent root before now found same says laid = λ later rows keeps high m among.
+    root-stands-at hash p ok later cid root lent
+    (under-kept hash before.told later cid lent keeps (subst (IsUnder hash before.told cid) (sym same) (subst (λ (t : Told). IsUnder hash t cid now.lent) found.same_told (found-under hash cid before now found))))
+    rows high m among cid.codec refl says laid
 
 -- ---- nodes and leaves below it
 
@@ -109,18 +104,24 @@ leaf_role Raw h = refl
 leaf_role DagPb h = absurd (let no : false ≡ true = h in cc)
 
 node_blamed : (hash : List ℕ → List ℕ) (p : Profile) (ok : IsTrue (is_profile p)) (told : Told) (root : Cid) (rows k : ℕ) (part : Part) (bytes : List ℕ) → IsUnder hash told part.entry.cid bytes
-    → ((parts : List Part) → IsPlannedNode p rows k part.size parts → bytes ≢ parts_block parts) → Stands hash p told root rows (suc k) part → IsBadEdited hash p told root FileRole bytes
-node_blamed hash p ok told root rows k part bytes is_under none stands = inr (record {
-  whole = stands.whole;
-  says = stands.says;
-  way = stands.way;
-  is_way = stands.is_way;
-  role_is = node_role k part.entry.cid.codec stands.codec ∙ ap (λ (c : Cid). role_at c.codec) stands.cid_is;
-  is_under = subst (λ (c : Cid). IsUnder hash told c bytes) stands.cid_is is_under;
-  bad = λ canonical.
-      node-bad p ok rows (length stands.way) k stands.whole part.size bytes none stands.count (some_bytes hash p ok told root rows k part stands) stands.high
-      (subst (λ n. IsCanonicalFileNode (Some p) (Below (length stands.way) n stands.whole) bytes) (sym stands.size_is) canonical);
-})
+    → ((parts : NodeParts) → IsPlannedNode p rows k part.size parts → bytes ≢ parts_block parts) → Stands hash p told root rows (suc k) part → IsBadEdited hash p told root FileRole bytes
+node_blamed hash p ok told root rows k part bytes is_under refuses stands =
+    let place = node_place hash p ok told root rows k part stands in
+    inr (record {
+      whole = stands.whole;
+      says = stands.says;
+      way = stands.way;
+      is_way = stands.is_way;
+      role_is = node_role k part.entry.cid.codec stands.codec ∙ ap (λ (c : Cid). role_at c.codec) stands.cid_is;
+      is_under = subst (λ (c : Cid). IsUnder hash told c bytes) stands.cid_is is_under;
+      bad = bad_at stands.whole stands.way place.count place.below stands.size_is place.high;
+    })
+  where
+    bad_at : (whole : ℕ) (way : List Part) → length way + suc k ≡ rows → 1 ≤ length way → part.size ≡ way_size whole way → IsHeight p.chunk p.width whole rows → IsCanonicalFileNode (Some p) (place_at whole way) bytes → ⊥
+    bad_at whole [] count below size high canonical = absurd (omega arith)
+    bad_at whole (x ∷ way) count below size high canonical =
+        node-bad p ok rows (length way) k whole part.size bytes refuses count (some_bytes hash p ok told root rows k part stands) high
+        (subst (λ n. IsCanonicalFileNode (Some p) (Below (suc (length way)) n whole) bytes) (sym size) canonical)
 
 leaf_blamed : (hash : List ℕ → List ℕ) (p : Profile) (told : Told) (root : Cid) (rows : ℕ) (part : Part) (bytes : List ℕ) → IsUnder hash told part.entry.cid bytes → length bytes ≢ part.size
     → Stands hash p told root rows zero part → IsBadEdited hash p told root Leaf bytes
@@ -138,17 +139,17 @@ at_node : (hash : List ℕ → List ℕ) (p : Profile) (told : Told) (root : Cid
 at_node hash p told root rows k part h = subst (λ n. Stands hash p told root rows n part) (add-one k) h
 
 pub load-bad : (hash : List ℕ → List ℕ) (p : Profile) (ok : IsTrue (is_profile p)) (rows k : ℕ) (part : Part) (lent : List ℕ) (before now : Seen) → Finds hash part.entry.cid before now → StaysCalm before now → lent ≡ now.lent
-    → (NotCanonical ≡ StrictMemory) ⊎ ((parts : List Part) → IsPlannedNode p rows k part.size parts → lent ≢ parts_block parts)
+    → (NotCanonical ≡ StrictMemory) ⊎ ((parts : NodeParts) → IsPlannedNode p rows k part.size parts → lent ≢ parts_block parts)
     → ShowsBadBlock hash (IsBadOld hash p now.told rows (k + 1) (Some part)) part.entry.cid FileRole before now
-load-bad hash p ok rows k part lent before now found calm same none =
+load-bad hash p ok rows k part lent before now found calm same refuses =
     shows-bad hash (IsBadOld hash p now.told rows (k + 1) (Some part)) part.entry.cid FileRole before now found calm
     (λ root stands. node_blamed hash p ok now.told root rows k part now.lent (found-under hash part.entry.cid before now found)
-    (subst (λ (l : List ℕ). (parts : List Part) → IsPlannedNode p rows k part.size parts → l ≢ parts_block parts) same (by none)) (at_node hash p now.told root rows k part stands))
+    (subst (λ (l : List ℕ). (parts : NodeParts) → IsPlannedNode p rows k part.size parts → l ≢ parts_block parts) same (by refuses)) (at_node hash p now.told root rows k part stands))
   where
     differ : NotCanonical ≡ StrictMemory → ⊥
     differ e = cc
 
-    by : (NotCanonical ≡ StrictMemory) ⊎ ((parts : List Part) → IsPlannedNode p rows k part.size parts → lent ≢ parts_block parts) → (parts : List Part) → IsPlannedNode p rows k part.size parts → lent ≢ parts_block parts
+    by : (NotCanonical ≡ StrictMemory) ⊎ ((parts : NodeParts) → IsPlannedNode p rows k part.size parts → lent ≢ parts_block parts) → (parts : NodeParts) → IsPlannedNode p rows k part.size parts → lent ≢ parts_block parts
     by (inl e) = absurd (differ e)
     by (inr h) = h
 
@@ -160,8 +161,8 @@ leaf-bad hash p rows part lent before now found calm same differs =
 
 -- ---- which parts stand
 
-pub load-stands : (hash : List ℕ → List ℕ) (p : Profile) (ok : IsTrue (is_profile p)) (rows k : ℕ) (part : Part) (parts : List Part) (lent : List ℕ) (before now : Seen) → Finds hash part.entry.cid before now → lent ≡ now.lent
-    → IsPlannedNode p rows k part.size parts × (lent ≡ parts_block parts) → StandBelow hash p before.told rows (k + 1) (Some part) k parts
+pub load-stands : (hash : List ℕ → List ℕ) (p : Profile) (ok : IsTrue (is_profile p)) (rows k : ℕ) (part : Part) (parts : NodeParts) (lent : List ℕ) (before now : Seen) → Finds hash part.entry.cid before now → lent ≡ now.lent
+    → IsPlannedNode p rows k part.size parts × (lent ≡ parts_block parts) → StandBelow hash p before.told rows (k + 1) (Some part) k parts.parts
 load-stands hash p ok rows k part parts lent before now found same read = λ later root keeps stands m among.
     child-stands hash p ok later root rows k part (at_node hash p later root rows k part stands) parts m
     (under-kept hash before.told later part.entry.cid (parts_block parts) keeps
@@ -240,24 +241,30 @@ module _ (hash : List ℕ → List ℕ) (p : Profile) (rows k top : ℕ) (root f
 
 -- ---- a whole edit
 
-module _ (hash : List ℕ → List ℕ) (p : Profile) (cid : Cid) (rows low : ℕ) (root front : Part) (a b c d : Seen) (first : StandsFirst hash p a.told cid root) (high : IsHeight p.chunk p.width root.size rows) (read : b.told ≡ a.told) where
-  root_at : (later : Told) → KeepsGood hash b.told later → Stands hash p later cid rows rows root
-  root_at later keeps = first later rows (subst (λ (t : Told). KeepsGood hash t later) read keeps) high
+-- what is bad among the parts below a root is bad in its file
+pub edit-blamed : (hash : List ℕ → List ℕ) (p : Profile) (cid : Cid) (root : NodeParts) (olds : List Part) (rows j : ℕ) (fault : StoreFault) (a b c : Seen) → StandUnderRoot hash p a.told cid root → b.told ≡ a.told → StaysCalm a b
+    → KeepsGood hash b.told c.told → IsHeight p.chunk p.width (bytes_over root.parts) rows → j ≡ rows - 1 → olds ≡ root.parts → Shows hash (IsBadAmongOld hash p c.told rows j olds) fault b c → Shows hash (IsBadEdited hash p c.told cid) fault a c
+edit-blamed hash p cid root olds rows j fault a b c stand same calm keeps high here is h =
+    Shows-after hash (IsBadEdited hash p c.told cid) fault a b c calm
+    (Shows-by hash (IsBadAmongOld hash p c.told rows j olds) (IsBadEdited hash p c.told cid) fault b c
+    (λ role bytes bad. bad cid (λ m among. subst (λ n. Stands hash p c.told cid rows n m) (sym here)
+    (stand c.told rows (subst (λ (t : Told). KeepsGood hash t c.told) same keeps) high m (subst (λ (l : List Part). Contains l m) is among)))) h)
 
-  -- where the front part is looked for
-  pub front-blamed : (fault : StoreFault) → c.told ≡ b.told → StaysCalm a b → Shows hash (IsBadOld hash p c.told rows rows (Some root)) fault b c → Shows hash (IsBadEdited hash p c.told cid) fault a c
-  front-blamed fault same calm h =
-      Shows-after hash (IsBadEdited hash p c.told cid) fault a b c calm
-      (Shows-by hash (IsBadOld hash p c.told rows rows (Some root)) (IsBadEdited hash p c.told cid) fault b c (λ role bytes bad. bad cid (root_at c.told (KeepsGood-same hash b.told c.told same))) h)
+-- what no part stands under is bad nowhere
+pub none-among : (hash : List ℕ → List ℕ) (p : Profile) (rows j k : ℕ) (none olds : List Part) (fault : StoreFault) (a b c : Seen) → none ≡ [] → StaysCalm a b → Shows hash (IsBadAmongOld hash p c.told rows j none) fault b c
+    → Shows hash (IsBadAmongOld hash p c.told rows k olds) fault a c
+none-among hash p rows j k none olds fault a b c is calm h =
+    Shows-after hash (IsBadAmongOld hash p c.told rows k olds) fault a b c calm
+    (Shows-by hash (IsBadAmongOld hash p c.told rows j none) (IsBadAmongOld hash p c.told rows k olds) fault b c
+    (λ role bytes bad root all. bad root (λ m among. absurd (let low : among.0 < length none = among.1 in let e : length none ≡ 0 = ap length is in omega arith))) h)
 
-  -- where it is changed
-  pub edit-blamed : (j : ℕ) (fault : StoreFault) → low ≡ j → KeepsGood hash b.told d.told → StaysCalm a c → StandBelow hash p b.told rows rows (Some root) low (front ∷ [])
-      → Shows hash (IsBadOld hash p d.told rows j (Some front)) fault c d → Shows hash (IsBadEdited hash p d.told cid) fault a d
-  edit-blamed j fault low_is keeps calm stand h =
-      Shows-after hash (IsBadEdited hash p d.told cid) fault a c d calm
-      (Shows-by hash (IsBadOld hash p d.told rows j (Some front)) (IsBadEdited hash p d.told cid) fault c d
-      (λ role bytes bad. bad cid (subst (λ n. Stands hash p d.told cid rows n front) low_is (stand d.told cid keeps (root_at d.told keeps) front (0, (let e : 0 < length (front ∷ []) = omega arith in e), refl)))) h)
+-- the same list of parts, read at another height
+pub among-same : (hash : List ℕ → List ℕ) (p : Profile) (rows j k : ℕ) (slice olds : List Part) (fault : StoreFault) (a b c : Seen) → slice ≡ olds → j ≡ k → StaysCalm a b → Shows hash (IsBadAmongOld hash p c.told rows j slice) fault b c
+    → Shows hash (IsBadAmongOld hash p c.told rows k olds) fault a c
+among-same hash p rows j k slice olds fault a b c is same calm h =
+    Shows-after hash (IsBadAmongOld hash p c.told rows k olds) fault a b c calm
+    (subst (λ n. Shows hash (IsBadAmongOld hash p c.told rows n olds) fault b c) same (subst (λ (l : List Part). Shows hash (IsBadAmongOld hash p c.told rows j l) fault b c) is h))
 
 -- a file of a plan has few rows of nodes
-pub file-rows : (X : List ℕ → List ℕ) (p : Profile) (b : List ℕ) (cid : Cid) (height : ℕ) → IsFile X p b cid height → (size top : ℕ) → size ≡ length b → IsHeight p.chunk p.width size top → top ≤ 22
-file-rows X p b cid height is size top size_is high = few_rows p.chunk p.width size top (kept p is.profile).two (omega (arith, is.few, size_is)) high
+pub file-rows : (X : List ℕ → List ℕ) (p : Profile) (m : Meta) (b : List ℕ) (cid : Cid) (height : ℕ) → IsFile X p m b cid height → (size top : ℕ) → size ≡ length b → IsHeight p.chunk p.width size top → top ≤ 22
+file-rows X p m b cid height is size top size_is high = few_rows p.chunk p.width size top (kept p is.profile).two (omega (arith, is.few, size_is)) high

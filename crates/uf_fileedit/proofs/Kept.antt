@@ -107,6 +107,12 @@ known-old told l = each-in (IsKnown told l) l (λ b k. inr k)
 pub known-held : (told : Told) (olds : List Held) (b : Held) → Holds told (b ∷ []) → AllByRecursion (IsKnown told olds) (b ∷ [])
 known-held told olds b h = (inl h, tt)
 
+pub known-each : (told : Told) (olds l : List Held) → Holds told l → AllByRecursion (IsKnown told olds) l
+known-each None olds [] h = tt
+known-each None olds (x ∷ l) h = (inl tt, known-each None olds l tt)
+known-each (Some t) olds [] h = tt
+known-each (Some t) olds (x ∷ l) h = (inl (h.0, tt), known-each (Some t) olds l h.1)
+
 good-each : (X : List ℕ → List ℕ) (f : List ℕ → List Held) → ((g : List ℕ) → AreGood X (f g)) → (gs : List (List ℕ)) → AreGood X (flat_map f gs)
 good-each X f h [] = tt
 good-each X f h (g ∷ gs) = all-append (λ (b : Held). X b.1 ≡ b.0.digest) (f g) (flat_map f gs) (h g) (good-each X f h gs)

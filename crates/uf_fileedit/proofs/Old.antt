@@ -1,20 +1,15 @@
 -- The old parts of a file.
-use Rattle.std.proofs.Common.{◌≡◌, ◌≢◌, ℕ, zero, suc, pred, ◌+◌, ◌-◌, ◌*◌, ◌^◌, ◌<◌, ◌≤◌, List, [], ◌∷◌, ◌++◌, length, sum, map, min, refl, ap, arith, sym, ◌∙◌, subst, append-nil, length-append, add-one, Bool, true, false, Option, None, Some, ◌⊎◌, inl, inr, Result, Ok, Err, IsTrue}
-use Rattle.std.specs.Prelude.{◌&&◌, ◌==◌, IfOk, IfSome, nat_lt}
-use Rattle.std.specs.List.{AllByRecursion, flat_map}
+use Rattle.std.proofs.Common.{◌≡◌, ◌≢◌, ℕ, zero, suc, pred, ◌+◌, ◌-◌, ◌^◌, ◌<◌, ◌≤◌, List, [], ◌∷◌, ◌++◌, length, map, min, refl, ap, arith, sym, ◌∙◌, subst, append-nil, length-append, add-one, Bool, true, false, Option, None, Some, ◌⊎◌, inl, inr, Result, Ok, Err, IsTrue}
+use Rattle.std.specs.Prelude.{◌↔◌, ◌&&◌, ◌==◌, IfOk, IfSome, nat_lt}
+use Rattle.std.specs.List.{AllByRecursion}
 use Rattle.std.proofs.lemmas.Bool.Decides.{nat_tests}
 use Rattle.std.proofs.lemmas.Bool.{false≢true}
-use Rattle.std.proofs.lemmas.List.Sums.{sum-map}
 use Rattle.uf_cid.specs.declared.bytes.StrictFault.TheVariants.{NotCanonical, Memory as StrictMemory}
-use Rattle.uf_cid.specs.declared.cid.Codec.{Codec}
-use Rattle.uf_fileread.specs.Ranges.{IsFile}
-use Rattle.uf_fileread.proofs.Sending.{root-agrees}
-use Rattle.uf_tree.specs.declared.nodes.Entry.{Entry}
-use Rattle.uf_tree.specs.Roots.{root_over}
+use Rattle.uf_tree.specs.Metas.{none}
 use Rattle.uf_cid.specs.Blocks.{Held}
 use Rattle.uf_cid.specs.declared.cid.Cid.{Cid}
-use Rattle.uf_cid.specs.declared.cid.Codec.TheVariants.{Raw, DagPb}
 use Rattle.uf_fileread.specs.Parts.{AreParts, parts_block}
+use Rattle.uf_fileread.specs.declared.node_parts.NodeParts.{NodeParts}
 use Rattle.uf_fileread.proofs.Nodes.{same_parts}
 use Rattle.uf_fileread.proofs.Sending.{the_block}
 use Rattle.uf_edge.specs.Counts.{Stood}
@@ -29,22 +24,22 @@ use Rattle.uf_store.specs.Seen.{Seen}
 use Rattle.uf_tree.specs.declared.nodes.Part.{Part}
 use Rattle.uf_tree.specs.declared.profile.Profile.{Profile}
 use Rattle.uf_tree.specs.Cutting.{joined}
-use Rattle.uf_tree.specs.FilePlan.{file_plan, groups, node_held, node_over, split_from}
-use Rattle.uf_tree.specs.FileSub.{IsHeight, blocks_over, part_over, span}
+use Rattle.uf_tree.specs.FilePlan.{groups, node_held, split_from}
+use Rattle.uf_tree.specs.FileSub.{blocks_over, part_over, span}
 use Rattle.uf_tree.specs.Profiles.{is_profile}
 use Rattle.uf_tree.specs.Validity.{IsHash}
 use Rattle.uf_tree.proofs.Groups.{joined-split}
 use Rattle.uf_tree.proofs.Sub.{span-pos}
 use Rattle.uf_tree.proofs.Told.{kept}
-use Rattle.uf_tree.proofs.Valid.{file_node-valid, sub-size, sum_sizes}
+use Rattle.uf_tree.proofs.Valid.{file_node-valid, sub-size}
 use Rattle.uf_fileedit.specs.Changes.{AreCut, AreOld, FitsOld, IsBelow, IsIn, IsOld, IsOldPart, blocks_of_all, old_blocks}
-use Rattle.uf_fileedit.specs.Planned.{IsPlannedNode, IsSize, are_planned, is_of_height}
+use Rattle.uf_fileedit.specs.Planned.{IsPlannedNode, are_planned, is_of_height}
 use Rattle.uf_fileedit.proofs.Numbers.{span-rises}
 
 -- a load that fails while the store stays calm has lost one of the blocks
 pub missing_one : (told : Told) (b : Held) (l : List Held) (cid : Cid) → cid ≡ b.0 → IfSome told (λ t. held_at t cid ≡ None) → LosesOne told cid (b ∷ l)
-missing_one None b l cid is none = tt
-missing_one (Some t) b l cid is none = inl (is, ap (held_at t) (sym is) ∙ none)
+missing_one None b l cid is gone = tt
+missing_one (Some t) b l cid is gone = inl (is, ap (held_at t) (sym is) ∙ gone)
 
 pub need_lost : (X : List ℕ → List ℕ) (before now : Seen) (b : Held) (l : List Held) (cid : Cid) (fault : StoreFault) → cid ≡ b.0 → Shows X NoneIsBad fault before now → IsLoadFault cid fault → now.told ≡ before.told → Stood before.faults now.faults
     → IsLossOf before.told (b ∷ l) fault
@@ -152,6 +147,9 @@ module _ (X : List ℕ → List ℕ) (good : IsHash X) (p : Profile) (ok : IsTru
   abbrev at_parts : ℕ → List ℕ → List Part
   at_parts k b = map (part_over X p.chunk p.width k) (groups (span p.chunk p.width k) b)
 
+  abbrev at_node : ℕ → List ℕ → NodeParts
+  at_node k b = record { parts = at_parts k b; meta = none }
+
   module _ (k : ℕ) (part : Part) (b : List ℕ) (is : IsOldPart X p (suc k) part b) where
     own : Held
     own = node_held X (at_parts k b)
@@ -162,13 +160,14 @@ module _ (X : List ℕ → List ℕ) (good : IsHash X) (p : Profile) (ok : IsTru
     size_is : part.size ≡ length b
     size_is = ap (λ (m : Part). m.size) is.same ∙ sub-size X good p ok (suc k) b
 
-    node_valid : AreParts (at_parts k b)
+    node_valid : AreParts (at_node k b)
     node_valid = file_node-valid X good p ok k b is.fits.few is.fits.small
 
-    planned : (rows : ℕ) → rows ≤ 22 → IsPlannedNode p rows k part.size (at_parts k b)
+    planned : (rows : ℕ) → rows ≤ 22 → IsPlannedNode p rows k part.size (at_node k b)
     planned rows low = record {
       valid = node_valid;
       few = omega arith;
+      carries = refl;
       planned = ap (λ n. are_planned (span p.chunk p.width k) k n (at_parts k b)) (size_is ∙ sym (ap length (joined-split (span p.chunk p.width k) (span p.chunk p.width k) b)))
           ∙ planned-are k (groups (span p.chunk p.width k) b) (groups-cut (span p.chunk p.width k) b (pos k)) (groups-some (span p.chunk p.width k) b (pos k) some_bytes);
     }
@@ -196,28 +195,34 @@ module _ (X : List ℕ → List ℕ) (good : IsHash X) (p : Profile) (ok : IsTru
       cut = groups-cut (span p.chunk p.width k) b (pos k);
     }
 
-    pub loaded : (rows : ℕ) (told : Told) (lent : List ℕ) (parts : List Part) → Agrees told (blocks_over X p.chunk p.width (suc k) b) → IfSome told (λ t. held_at t part.entry.cid ≡ Some lent) → IsPlannedNode p rows k part.size parts → lent ≡ parts_block parts
-        → AreOld X p (span p.chunk p.width k) k parts (groups (span p.chunk p.width k) b)
+    pub loaded : (rows : ℕ) (told : Told) (lent : List ℕ) (parts : NodeParts) → Agrees told (blocks_over X p.chunk p.width (suc k) b) → IfSome told (λ t. held_at t part.entry.cid ≡ Some lent) → IsPlannedNode p rows k part.size parts → lent ≡ parts_block parts
+        → AreOld X p (span p.chunk p.width k) k parts.parts (groups (span p.chunk p.width k) b)
     loaded rows told lent parts agrees held read is_block =
         let block = the_block told (node_held X (at_parts k b)) (blocks_of_all X p k (groups (span p.chunk p.width k) b)) part.entry.cid lent cid_is (agrees_own told agrees) held in
-        let same : parts ≡ at_parts k b = same_parts parts (at_parts k b) read.valid node_valid (sym is_block ∙ block.0) in
-        subst (λ (l : List Part). AreOld X p (span p.chunk p.width k) k l (groups (span p.chunk p.width k) b)) (sym same) are-old
+        let same : parts ≡ at_node k b = same_parts parts (at_node k b) read.valid node_valid (sym is_block ∙ block.0) in
+        subst (λ (n : NodeParts). AreOld X p (span p.chunk p.width k) k n.parts (groups (span p.chunk p.width k) b)) (sym same) are-old
 
     pub no_bad : (rows : ℕ) (told : Told) (lent : List ℕ) → rows ≤ 22 → Agrees told (blocks_over X p.chunk p.width (suc k) b) → IfSome told (λ t. held_at t part.entry.cid ≡ Some lent)
-        → ((parts : List Part) → IsPlannedNode p rows k part.size parts → lent ≢ parts_block parts) → ⊥
-    no_bad rows told lent low agrees held none = none (at_parts k b) (planned rows low) (the_block told (node_held X (at_parts k b)) (blocks_of_all X p k (groups (span p.chunk p.width k) b)) part.entry.cid lent cid_is (agrees_own told agrees) held).0
+        → ((parts : NodeParts) → IsPlannedNode p rows k part.size parts → lent ≢ parts_block parts) → ⊥
+    no_bad rows told lent low agrees held refuses = refuses (at_node k b) (planned rows low) (the_block told (node_held X (at_parts k b)) (blocks_of_all X p k (groups (span p.chunk p.width k) b)) part.entry.cid lent cid_is (agrees_own told agrees) held).0
 
     pub need-lost : (before now : Seen) (fault : StoreFault) → Shows X NoneIsBad fault before now → IsLoadFault part.entry.cid fault → now.told ≡ before.told → Stood before.faults now.faults → IsLossOf before.told (blocks_over X p.chunk p.width (suc k) b) fault
     need-lost before now fault shows load same stood = lost_own before.told fault (need_lost X before now (node_held X (at_parts k b)) (blocks_of_all X p k (groups (span p.chunk p.width k) b)) part.entry.cid fault cid_is shows load same stood)
 
 -- a node that isn't as the layout has it
-pub planned-elsewhere : (p : Profile) (rows k size : ℕ) (bytes : List ℕ) (parts slice : List Part) (b : Bool) → AreParts parts × (bytes ≡ parts_block parts) → slice ≡ parts → b ≡ are_planned (span p.chunk p.width k) k size slice → b ≡ false
-    → (NotCanonical ≡ StrictMemory) ⊎ ((v : List Part) → IsPlannedNode p rows k size v → bytes ≢ parts_block v)
+pub planned-elsewhere : (p : Profile) (rows k size : ℕ) (bytes : List ℕ) (parts : NodeParts) (slice : List Part) (b : Bool) → AreParts parts × (bytes ≡ parts_block parts) → slice ≡ parts.parts → b ≡ are_planned (span p.chunk p.width k) k size slice → b ≡ false
+    → (NotCanonical ≡ StrictMemory) ⊎ ((v : NodeParts) → IsPlannedNode p rows k size v → bytes ≢ parts_block v)
 planned-elsewhere p rows k size bytes parts slice b read same is fails =
-    inr (λ v h e. false≢true (sym fails ∙ is ∙ ap (are_planned (span p.chunk p.width k) k size) (same ∙ same_parts parts v read.0 h.valid (sym read.1 ∙ e)) ∙ h.planned))
+    inr (λ v h e. false≢true (sym fails ∙ is ∙ ap (are_planned (span p.chunk p.width k) k size) (same ∙ ap (λ (n : NodeParts). n.parts) (same_parts parts v read.0 h.valid (sym read.1 ∙ e))) ∙ h.planned))
+
+-- a node that carries metadata which it may not
+pub planned-carried : (p : Profile) (rows k size : ℕ) (bytes : List ℕ) (parts : NodeParts) (b : Bool) → AreParts parts × (bytes ≡ parts_block parts) → IsTrue b ↔ parts.meta ≡ none → b ≡ false
+    → (NotCanonical ≡ StrictMemory) ⊎ ((v : NodeParts) → IsPlannedNode p rows k size v → bytes ≢ parts_block v)
+planned-carried p rows k size bytes parts b read iff fails =
+    inr (λ v h e. false≢true (sym fails ∙ iff.1 (ap (λ (n : NodeParts). n.meta) (same_parts parts v read.0 h.valid (sym read.1 ∙ e)) ∙ h.carries)))
 
 -- below too many nodes none may stand
-pub planned-nowhere : (p : Profile) (rows k size above : ℕ) (bytes : List ℕ) → above ≡ rows - k → 22 < above → (NotCanonical ≡ StrictMemory) ⊎ ((v : List Part) → IsPlannedNode p rows k size v → bytes ≢ parts_block v)
+pub planned-nowhere : (p : Profile) (rows k size above : ℕ) (bytes : List ℕ) → above ≡ rows - k → 22 < above → (NotCanonical ≡ StrictMemory) ⊎ ((v : NodeParts) → IsPlannedNode p rows k size v → bytes ≢ parts_block v)
 planned-nowhere p rows k size above bytes is high = inr (λ v h e. absurd (let few : rows - k ≤ 22 = h.few in omega arith))
 
 -- ---- the parts below an old part
@@ -230,17 +235,17 @@ module _ (X : List ℕ → List ℕ) (good : IsHash X) (p : Profile) (ok : IsTru
     agrees_suc : (told : Told) → Agrees told (blocks_over X p.chunk p.width (k + 1) b) → Agrees told (blocks_over X p.chunk p.width (suc k) b)
     agrees_suc told h = subst (λ n. Agrees told (blocks_over X p.chunk p.width n b)) (add-one k) h
 
-    pub load-gives : (rows : ℕ) (told : Told) (lent : List ℕ) (parts : List Part) → Agrees told (blocks_over X p.chunk p.width (k + 1) b) → IfSome told (λ t. held_at t part.entry.cid ≡ Some lent) → IsPlannedNode p rows k part.size parts × (lent ≡ parts_block parts)
-        → AreOld X p (span p.chunk p.width k) k parts (groups (span p.chunk p.width k) b)
+    pub load-gives : (rows : ℕ) (told : Told) (lent : List ℕ) (parts : NodeParts) → Agrees told (blocks_over X p.chunk p.width (k + 1) b) → IfSome told (λ t. held_at t part.entry.cid ≡ Some lent) → IsPlannedNode p rows k part.size parts × (lent ≡ parts_block parts)
+        → AreOld X p (span p.chunk p.width k) k parts.parts (groups (span p.chunk p.width k) b)
     load-gives rows told lent parts agrees held read = loaded X good p ok k part b at_suc rows told lent parts (agrees_suc told agrees) held read.0 read.1
 
     pub load-no_bad : (rows : ℕ) (told : Told) (lent : List ℕ) → rows ≤ 22 → Agrees told (blocks_over X p.chunk p.width (k + 1) b) → IfSome told (λ t. held_at t part.entry.cid ≡ Some lent)
-        → (NotCanonical ≡ StrictMemory) ⊎ ((parts : List Part) → IsPlannedNode p rows k part.size parts → lent ≢ parts_block parts) → ⊥
+        → (NotCanonical ≡ StrictMemory) ⊎ ((parts : NodeParts) → IsPlannedNode p rows k part.size parts → lent ≢ parts_block parts) → ⊥
     load-no_bad rows told lent low agrees held (inl e) = absurd (differ e)
       where
         differ : NotCanonical ≡ StrictMemory → ⊥
         differ e = cc
-    load-no_bad rows told lent low agrees held (inr none) = no_bad X good p ok k part b at_suc rows told lent low (agrees_suc told agrees) held none
+    load-no_bad rows told lent low agrees held (inr refuses) = no_bad X good p ok k part b at_suc rows told lent low (agrees_suc told agrees) held refuses
 
     pub load-lost : (before now : Seen) (fault : StoreFault) → Shows X NoneIsBad fault before now → IsLoadFault part.entry.cid fault → now.told ≡ before.told → Stood before.faults now.faults → IsLossOf before.told (blocks_over X p.chunk p.width (k + 1) b) fault
     load-lost before now fault shows load same stood = subst (λ n. IsLossOf before.told (blocks_over X p.chunk p.width n b) fault) (sym (add-one k)) (need-lost X good p ok k part b at_suc before now fault shows load same stood)
@@ -285,79 +290,3 @@ module _ (X : List ℕ → List ℕ) (good : IsHash X) (p : Profile) (ok : IsTru
           whole = append-nil b;
           among = λ x h. subst (IsIn x) (append-nil (blocks_over X p.chunk p.width top b) ∙ sym (blocks_at top up)) (subst (λ n. IsIn x (blocks_of_all X p n (b ∷ []))) (sym here) h);
         }
-
--- ---- the root
-
-module _ (X : List ℕ → List ℕ) (good : IsHash X) (p : Profile) (b : List ℕ) (cid : Cid) where
-  abbrev behind_root : ℕ → List Held
-  behind_root zero = []
-  behind_root (suc k) = flat_map (blocks_over X p.chunk p.width k) (groups (span p.chunk p.width k) b)
-
-  root_first : (height : ℕ) → blocks_over X p.chunk p.width height b ≡ root_over X p.chunk p.width height b ∷ behind_root height
-  unfolding blocks_over
-  root_first zero = refl
-  root_first (suc k) = refl
-
-  root_under : (height : ℕ) → (part_over X p.chunk p.width height b).entry.cid ≡ (root_over X p.chunk p.width height b).0
-  unfolding part_over
-  root_under zero = refl
-  root_under (suc k) = refl
-
-  module _ (height : ℕ) (is : IsFile X p b cid height) where
-    root_cid : cid ≡ (root_over X p.chunk p.width height b).0
-    root_cid = is.cid_is ∙ ap (λ (e : Entry). e.cid) is.rooted.entry ∙ root_under height
-
-    root_agrees : (told : Told) → Agrees told (file_plan X p b).blocks → Agrees told (root_over X p.chunk p.width height b ∷ behind_root height)
-    root_agrees told h = subst (Agrees told) (root_first height) (root-agrees X good p cid b height told is h)
-
-    small : length b < 2 ^ 63
-    small = few_bytes p.chunk (length b) is.few (kept p is.profile).short
-      where
-        few_bytes : (c n : ℕ) → n ≤ c * 4194304 → c ≤ 1048576 → n < 2 ^ 63
-        few_bytes c n a b = omega arith
-
-    valid : (k : ℕ) → IsHeight p.chunk p.width (length b) (suc k) → AreParts (map (part_over X p.chunk p.width k) (groups (span p.chunk p.width k) b))
-    valid k height = file_node-valid X good p is.profile k b height.fits small
-
-    total : (k : ℕ) → sum (node_over (map (part_over X p.chunk p.width k) (groups (span p.chunk p.width k) b))).sizes ≡ length b
-    total k = sum-map (λ (m : Part). m.size) (map (part_over X p.chunk p.width k) (groups (span p.chunk p.width k) b)) ∙ sum_sizes X good p is.profile (groups (span p.chunk p.width k) b) (part_over X p.chunk p.width k) (sub-size X good p is.profile k)
-        ∙ ap length (joined-split (span p.chunk p.width k) (span p.chunk p.width k) b)
-
-    size_at : (h : ℕ) (lent : List ℕ) (size : ℕ) → IsHeight p.chunk p.width (length b) h → lent ≡ (root_over X p.chunk p.width h b).1 → IsSize p (root_over X p.chunk p.width h b).0.codec lent size → size ≡ length b
-    size_at zero lent size height e says = says.0 ∙ ap length e
-    size_at (suc k) lent size height e says =
-        says.total ∙ ap (λ (l : List Part). sum (node_over l).sizes) (same_parts says.parts (map (part_over X p.chunk p.width k) (groups (span p.chunk p.width k) b)) says.valid (valid k height) (sym says.is ∙ e)) ∙ total k
-
-    has_size : (h : ℕ) (lent : List ℕ) → IsHeight p.chunk p.width (length b) h → lent ≡ (root_over X p.chunk p.width h b).1 → IsSize p (root_over X p.chunk p.width h b).0.codec lent (length b)
-    unfolding span
-    has_size zero lent height e = (sym (ap length e), omega (arith, ap length e, height.fits))
-    has_size (suc k) lent height e = record {
-      parts = map (part_over X p.chunk p.width k) (groups (span p.chunk p.width k) b);
-      valid = valid k height;
-      is = e;
-      total = sym (total k);
-      many = height.least 0 (omega arith);
-    }
-
-    found_root : (told : Told) (lent : List ℕ) → Agrees told (file_plan X p b).blocks → IfSome told (λ t. held_at t cid ≡ Some lent) → lent ≡ (root_over X p.chunk p.width height b).1
-    found_root told lent agrees held = (the_block told (root_over X p.chunk p.width height b) (behind_root height) cid lent root_cid (root_agrees told agrees) held).0
-
-    pub root-size : (told : Told) (lent : List ℕ) (size : ℕ) → Agrees told (file_plan X p b).blocks → IfSome told (λ t. held_at t cid ≡ Some lent) → IsSize p cid.codec lent size → size ≡ length b
-    root-size told lent size agrees held says = size_at height lent size is.rooted.least (found_root told lent agrees held) (subst (λ (c : Cid). IsSize p c.codec lent size) root_cid says)
-
-    pub root-no_bad : (told : Told) (lent : List ℕ) → Agrees told (file_plan X p b).blocks → IfSome told (λ t. held_at t cid ≡ Some lent) → ((size : ℕ) → IsSize p cid.codec lent size → ⊥) → ⊥
-    root-no_bad told lent agrees held none = none (length b) (subst (λ (c : Cid). IsSize p c.codec lent (length b)) (sym root_cid) (has_size height lent is.rooted.least (found_root told lent agrees held)))
-
-    pub root-lost : (before now : Seen) (fault : StoreFault) → Shows X NoneIsBad fault before now → IsLoadFault cid fault → now.told ≡ before.told → Stood before.faults now.faults → IsLossOf before.told (blocks_over X p.chunk p.width height b) fault
-    root-lost before now fault shows load same stood =
-        subst (λ (l : List Held). IsLossOf before.told l fault) (sym (root_first height)) (need_lost X before now (root_over X p.chunk p.width height b) (behind_root height) cid fault root_cid shows load same stood)
-
-pub not_many : (p : Profile) (codec : Codec) (bytes : List ℕ) (parts slice : List Part) (size sum_is chunk : ℕ) → codec ≡ DagPb → IsSize p codec bytes size → AreParts parts × (bytes ≡ parts_block parts) → slice ≡ parts → sum_is ≡ sum (node_over slice).sizes
-    → sum_is ≤ chunk → chunk ≡ p.chunk → ⊥
-not_many p Raw bytes parts slice size sum_is chunk is says read same total few chunk_is = absurd (let no : Raw ≡ DagPb = is in cc)
-not_many p DagPb bytes parts slice size sum_is chunk is says read same total few chunk_is =
-    let one : parts ≡ says.parts = same_parts parts says.parts read.0 says.valid (sym read.1 ∙ says.is) in
-    let same_sum : sum_is ≡ sum (node_over says.parts).sizes = total ∙ ap (λ (l : List Part). sum (node_over l).sizes) (same ∙ one) in
-    let many : p.chunk < size = says.many in
-    let total_is : size ≡ sum (node_over says.parts).sizes = says.total in
-    omega arith

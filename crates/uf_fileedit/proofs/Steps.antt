@@ -269,7 +269,7 @@ module _ (X : List ℕ → List ℕ) (good : IsHash X) (p : Profile) (ok : IsTru
       (subst (λ l. IsOld X p 0 old b → Agrees before (old_blocks X p 0 old b) → Agrees now (old_blocks X p 0 old b) → IfOk r (λ m. GivesPart X p now (old_blocks X p 0 old b) 0 m l)) same (leaf p b)))
 
   -- a node over new parts
-  made-node : (told : Told) (olds : List Held) (k : ℕ) (m : Part) (news slice : List Part) (bytes : List ℕ) → slice ≡ news → m ≡ node_part X slice → Holds told (node_held X slice ∷ [])
+  pub made-node : (told : Told) (olds : List Held) (k : ℕ) (m : Part) (news slice : List Part) (bytes : List ℕ) → slice ≡ news → m ≡ node_part X slice → Holds told (node_held X slice ∷ [])
       → news ≡ map (part_over X p.chunk p.width k) (groups (span p.chunk p.width k) bytes) → AllByRecursion (IsKnown told olds) (blocks_of_all X p k (groups (span p.chunk p.width k) bytes))
       → GivesPart X p told olds (suc k) m bytes
   unfolding part_over blocks_over

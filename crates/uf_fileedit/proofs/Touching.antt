@@ -1,6 +1,6 @@
 -- How often an edit touches the store, in numbers.
 use Rattle.std.proofs.Common.{◌≡◌, ◌≢◌, ℕ, zero, suc, ◌+◌, ◌-◌, ◌*◌, ◌/◌, ◌<◌, ◌≤◌, ◌^◌, List, [], ◌∷◌, length, take, drop, min, max, refl, ap, arith, sym, ◌∙◌, subst, Bool, true, false, Option, None, Some, ◌⊎◌, inl, inr, mul_assoc, mul_comm, IsTrue}
-use Rattle.std.specs.Prelude.{◌==◌, ◌&&◌, nat_lt, slice_get, get_or, cond, Result, IfErr, IfOk, OnOk, Ok, Err}
+use Rattle.std.specs.Prelude.{◌==◌, ◌&&◌, nat_lt, slice_get, get_or, cond, Result, IfErr, IfOk, Ok, Err}
 use Rattle.std.proofs.Math.Nat.{add-mul, mul-add, mul-sub, mul-le-mul_left, mul-le-mul_right, div-mul-le_self, lt-div-mul-add, lt_of_mul-lt-mul_right}
 use Rattle.std.proofs.lemmas.Bool.{cases_lt}
 use Rattle.std.proofs.lemmas.Bool.Decides.{nat_tests}
@@ -9,8 +9,7 @@ use Rattle.uf_store.specs.declared.store.StoreFault.{StoreFault}
 use Rattle.uf_store.specs.declared.store.StoreFault.TheVariants.{Failed, Damaged, Missing, BadBlock, Clash, Memory}
 use Rattle.uf_tree.specs.declared.nodes.Part.{Part}
 use Rattle.uf_tree.specs.declared.profile.Profile.{Profile}
-use Rattle.uf_tree.specs.FileSub.{IsHeight, span}
-use Rattle.uf_tree.proofs.Rows.{height-unique}
+use Rattle.uf_tree.specs.FileSub.{span}
 use Rattle.uf_tree.specs.Profiles.{is_profile}
 use Rattle.uf_fileedit.specs.Planned.{are_planned, is_of_height}
 use Rattle.uf_fileedit.specs.Touches.{AreBelow, BlamedAfter, Climbs, IsChangeWithin, IsEditWithin, IsLeft, chunks_met, cut_chunks, edit_touches, old_size, written_chunks}
@@ -19,7 +18,7 @@ use Rattle.uf_tree.proofs.Told.{kept}
 use Rattle.std.proofs.lemmas.List.{take_rest, length-drop, length-take}
 use Rattle.uf_fileedit.proofs.Numbers.{Room, last, span-rises}
 
-sub_mul : (a b c : ℕ) → (a - b) * c ≡ a * c - b * c
+pub sub_mul : (a b c : ℕ) → (a - b) * c ≡ a * c - b * c
 sub_mul a b c = mul_comm (a - b) c ∙ mul-sub c a b ∙ (λ i. mul_comm c a i - mul_comm c b i)
 
 -- how many chunks a part of this height has at most
@@ -27,7 +26,7 @@ unfoldable pub chunks_in : ℕ → ℕ → ℕ
 chunks_in w zero = 1
 chunks_in w (suc k) = w * chunks_in w k
 
-span-chunks : (c w k : ℕ) → span c w k ≡ chunks_in w k * c
+pub span-chunks : (c w k : ℕ) → span c w k ≡ chunks_in w k * c
 unfolding span chunks_in
 span-chunks c w zero = let e : c ≡ 1 * c = omega arith in e
 span-chunks c w (suc k) = ap (λ n. w * n) (span-chunks c w k) ∙ sym (mul_assoc w (chunks_in w k) c)
@@ -283,7 +282,7 @@ node-touches p top height k old size offset more a z t0 t1 high is changed node 
     subst (λ n. t1 ≤ t0 + 2 * (n + 1) * (z - a)) (sym high) (node a z (subst (λ n. IsChangeWithin p top n old size offset more a z) high is) some)
 
 -- what an edit costs in all
-pub edit-spent : (rows after d t0 t1 : ℕ) → t1 ≤ t0 + 2 + (rows - after) + 2 * (after + 1) * d → t1 ≤ t0 + edit_touches d (max rows after)
+pub edit-spent : (rows after d t0 t1 : ℕ) → t1 ≤ t0 + 3 + (rows - after) + 2 * (after + 1) * d → t1 ≤ t0 + edit_touches d (max rows after)
 edit-spent rows after d t0 t1 h =
     let few : 2 * (after + 1) ≤ 2 * (max rows after + 2) = omega arith in
     let one = mul-le-mul_right d few in
@@ -320,42 +319,6 @@ cut-within c old size pos differs =
       ends = λ h. (from, omega arith, lt_of_mul-lt-mul_right c {m = (min old size - 1) / c} {n = (max size 1 + c - 1) / c} (omega arith));
     }
 
--- ---- a whole file
-
-module _ (p : Profile) (n size offset more top after : ℕ) (top_is : IsHeight p.chunk p.width n top) (after_is : IsHeight p.chunk p.width size after) (front : Part)
-    (front_is : front.size ≡ min n (span p.chunk p.width (min top after))) where
-  -- a file of the same length is left
-  pub file-left : n ≡ size → IsLeft (min top after) after size (Some front)
-  file-left same =
-      let alike : top ≡ after = height-unique p.chunk p.width n top after top_is (subst (λ m. IsHeight p.chunk p.width m after) (sym same) after_is) in
-      let one : min top after ≡ top = omega arith in
-      let whole : front.size ≡ min n (span p.chunk p.width top) = subst (λ m. front.size ≡ min n (span p.chunk p.width m)) one front_is in
-      let fits : n ≤ span p.chunk p.width top = top_is.fits in
-      (omega arith, omega arith)
-
-  pub file-within : (a z : ℕ) → IsEditWithin p.chunk n size offset more a z → IsChangeWithin p (min top after) after (Some front) size offset more a z
-  file-within a z is = record {
-    fits = subst (λ m. front.size ≤ span p.chunk p.width m) (let e : min top after ≡ min (min top after) after = omega arith in e) (let f = front_is in omega arith);
-    laid = is.laid;
-    ends = λ changed.
-        let ends = is.ends (λ same. changed (file-left same)) in
-        let from : a * p.chunk ≤ min n size - 1 = ends.0 in
-        let same : min front.size size ≡ min n size = by (cases_lt after top) in
-        ((let s = same in omega arith), ends.1, ends.2);
-  }
-    where
-      by : (after < top) ⊎ (top ≤ after) → min front.size size ≡ min n size
-      by (inl lower) =
-          let e : min top after ≡ after = omega arith in
-          let f : front.size ≡ min n (span p.chunk p.width after) = subst (λ m. front.size ≡ min n (span p.chunk p.width m)) e front_is in
-          let fits : size ≤ span p.chunk p.width after = after_is.fits in
-          omega arith
-      by (inr no_lower) =
-          let e : min top after ≡ top = omega arith in
-          let f : front.size ≡ min n (span p.chunk p.width top) = subst (λ m. front.size ≡ min n (span p.chunk p.width m)) e front_is in
-          let fits : n ≤ span p.chunk p.width top = top_is.fits in
-          omega arith
-
 -- the first part of a lesser height
 pub front-size : (p : Profile) → 1 ≤ p.width → (top height below : ℕ) (root first d : Part) (parts : List Part) → height < top → below ≡ top - 1 → first ≡ get_or parts 0 d → 1 ≤ length parts
     → are_planned (span p.chunk p.width below) below root.size parts ≡ true → (r : Result Part StoreFault)
@@ -370,21 +333,7 @@ front-size p some top height below root first d (m ∷ ms) low is first_is few p
     let rises : span p.chunk p.width (min top height) ≤ span p.chunk p.width below = span-rises p.chunk p.width (min top height) below some (omega arith) in
     omega arith
 
-module _ (p : Profile) (n size offset more top height low : ℕ) (top_is : IsHeight p.chunk p.width n top) (height_is : IsHeight p.chunk p.width size height) (low_is : low ≡ min top height) (front : Part)
-    (front_is : front.size ≡ min n (span p.chunk p.width (min top height))) where
-  pub edit-left : n ≡ size → IsLeft low height size (Some front)
-  edit-left same = subst (λ m. IsLeft m height size (Some front)) (sym low_is) (file-left p n size offset more top height top_is height_is front front_is same)
-
-  pub edit-costs : (m new rows after a z t0 t1 t2 t2' t3 : ℕ) → n ≡ m → size ≡ new → IsHeight p.chunk p.width m rows → IsHeight p.chunk p.width new after → IsEditWithin p.chunk m new offset more a z
-      → t1 ≡ t0 + 1 → t2 ≤ t1 + (top - height) → t2' ≤ t2 + 1 → ((a z : ℕ) → IsChangeWithin p low height (Some front) size offset more a z → t3 ≤ t2' + 2 * (height + 1) * (z - a)) → t3 ≤ t0 + 2 + (rows - after) + 2 * (after + 1) * (z - a)
-  edit-costs m new rows after a z t0 t1 t2 t2' t3 n_is size_is rows_is after_is within first second more_is third =
-      let rows_same : top ≡ rows = height-unique p.chunk p.width m top rows (subst (λ x. IsHeight p.chunk p.width x top) n_is top_is) rows_is in
-      let after_same : height ≡ after = height-unique p.chunk p.width new height after (subst (λ x. IsHeight p.chunk p.width x height) size_is height_is) after_is in
-      let here : IsEditWithin p.chunk n size offset more a z = subst (λ x. IsEditWithin p.chunk x size offset more a z) (sym n_is) (subst (λ x. IsEditWithin p.chunk m x offset more a z) (sym size_is) within) in
-      let all : t3 ≤ t2' + 2 * (height + 1) * (z - a) = third a z (subst (λ x. IsChangeWithin p x height (Some front) size offset more a z) (sym low_is) (file-within p n size offset more top height top_is height_is front front_is a z here)) in
-      subst (λ x. t3 ≤ t0 + 2 + (x - after) + 2 * (after + 1) * (z - a)) rows_same (subst (λ x. t3 ≤ t0 + 2 + (top - x) + 2 * (x + 1) * (z - a)) after_same (omega arith))
-
-pub write-costs : (c old size offset more rows after t0 t1 : ℕ) → 1 ≤ c → 1 ≤ more → size ≡ max old (offset + more) → ((a z : ℕ) → IsEditWithin c old size offset more a z → t1 ≤ t0 + 2 + (rows - after) + 2 * (after + 1) * (z - a))
+pub write-costs : (c old size offset more rows after t0 t1 : ℕ) → 1 ≤ c → 1 ≤ more → size ≡ max old (offset + more) → ((a z : ℕ) → IsEditWithin c old size offset more a z → t1 ≤ t0 + 3 + (rows - after) + 2 * (after + 1) * (z - a))
     → t1 ≤ t0 + edit_touches (written_chunks c old offset more) (max rows after)
 write-costs c old size offset more rows after t0 t1 pos some is cost =
     edit-spent rows after (written_chunks c old offset more) t0 t1 (cost (min offset (old - 1) / c) ((offset + more + c - 1) / c) (subst (λ n. IsEditWithin c old n offset more (min offset (old - 1) / c) ((offset + more + c - 1) / c)) (sym is) (write-within c old offset more pos some)))
@@ -392,7 +341,7 @@ write-costs c old size offset more rows after t0 t1 pos some is cost =
 differs_test : (a b : ℕ) → a ≡ b → (a == b) ≡ false → ⊥
 differs_test a b h e = grind (arith, nat_tests)
 
-pub cut-costs : (c old size rows after t0 t1 : ℕ) → 1 ≤ c → ((a z : ℕ) → IsEditWithin c old size 0 0 a z → t1 ≤ t0 + 2 + (rows - after) + 2 * (after + 1) * (z - a))
+pub cut-costs : (c old size rows after t0 t1 : ℕ) → 1 ≤ c → ((a z : ℕ) → IsEditWithin c old size 0 0 a z → t1 ≤ t0 + 3 + (rows - after) + 2 * (after + 1) * (z - a))
     → t1 ≤ t0 + edit_touches (cut_chunks c old size) (max rows after)
 cut-costs c old size rows after t0 t1 pos cost = by (old == size) refl
   where
@@ -405,10 +354,6 @@ cut-costs c old size rows after t0 t1 pos cost = by (old == size) refl
         let differs : old ≢ size = λ same. differs_test old size same (sym e) in
         subst (λ n. t1 ≤ t0 + edit_touches n (max rows after)) (ap (λ (t : Bool). cond t 0 (chunks_met c (min old size - 1) (max size 1))) e)
         (edit-spent rows after (chunks_met c (min old size - 1) (max size 1)) t0 t1 (cost ((min old size - 1) / c) ((max size 1 + c - 1) / c) (cut-within c old size pos differs)))
-
--- where the length stays, there is no gap
-pub no-gap : {old new : ℕ} (root size end : ℕ) → root ≡ old → old ≡ new → size ≡ new → end ≡ size → end ≤ root
-no-gap root size end a b c d = omega arith
 
 -- ---- the count of touches climbs
 
@@ -443,3 +388,13 @@ module _ {A : Type 0} where
   climbs-save (Err (BadBlock cid role)) a b c low more saving = absurd saving
   climbs-save (Err (Clash cid held bytes)) a b c low more saving = omega (arith, low, more)
   climbs-save (Err Memory) a b c low more saving = omega (arith, low, more)
+
+  -- it doesn't fall
+  pub climbs-low : (r : Result A StoreFault) (a b : ℕ) → Climbs r a b → a ≤ b
+  climbs-low (Ok x) a b h = h
+  climbs-low (Err Failed) a b h = h
+  climbs-low (Err (Damaged cid)) a b h = h
+  climbs-low (Err (Missing cid)) a b h = h
+  climbs-low (Err (BadBlock cid role)) a b h = let low : a < b = h in omega arith
+  climbs-low (Err (Clash cid held bytes)) a b h = h
+  climbs-low (Err Memory) a b h = h

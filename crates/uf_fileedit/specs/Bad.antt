@@ -4,6 +4,7 @@ use Rattle.std.specs.List.{Contains}
 use Rattle.std.specs.declared.option.Option.{Option}
 use Rattle.uf_cid.specs.declared.cid.Cid.{Cid}
 use Rattle.uf_fileread.specs.Parts.{AreParts, parts_block}
+use Rattle.uf_fileread.specs.declared.node_parts.NodeParts.{NodeParts}
 use Rattle.uf_store.specs.Contents.{Told}
 use Rattle.uf_store.specs.Keeping.{HoldsOne}
 use Rattle.uf_store.specs.declared.store.Role.{Role}
@@ -36,16 +37,17 @@ way_size whole (m ∷ way) = m.size
 
 -- the place there: as many nodes are above it as the way has parts
 abbrev pub place_at : ℕ → List Part → FilePlace
-place_at whole way = Below (length way) (way_size whole way) whole
+place_at whole [] = Root
+place_at whole (m ∷ way) = Below (length (m ∷ way)) m.size whole
 
 -- the node where a way ends is canonical at its place, and links this part
 pub record IsLinked (hash : List ℕ → List ℕ) (p : Profile) (told : Told) (root : Cid) (whole : ℕ) (way : List Part)
     (part : Part) : Type 0 where
-  pub parts : List Part
+  pub parts : NodeParts
   pub valid : AreParts parts
   pub canonical : IsCanonicalFileNode (Some p) (place_at whole way) (parts_block parts)
   pub is_under : IsUnder hash told (way_end root way) (parts_block parts)
-  pub among : Contains parts part
+  pub among : Contains parts.parts part
 
 -- each part of the way is linked by the node where the way to it ends
 abbrev pub IsWay : (List ℕ → List ℕ) → Profile → Told → Cid → ℕ → List Part → Type 0

@@ -13,6 +13,7 @@ use Rattle.uf_store.specs.Lost.{IsLossOf}
 use Rattle.uf_store.specs.Seen.{Seen}
 use Rattle.uf_store.specs.declared.store.StoreFault.{StoreFault}
 use Rattle.uf_fileedit.specs.declared.changing.Target.{Target}
+use Rattle.uf_tree.specs.declared.meta.Meta.{Meta}
 use Rattle.uf_tree.specs.declared.nodes.Part.{Part}
 use Rattle.uf_tree.specs.declared.profile.Profile.{Profile}
 use Rattle.uf_tree.specs.declared.nodes.Entry.{Entry}
@@ -131,10 +132,10 @@ size_after old None offset more = max old (offset + more)
 size_after old (Some size) offset more = size
 
 -- the entry is that of the file of these bytes, and each block of its plan is held or an old one
-pub record GivesFile (X : List ℕ → List ℕ) (p : Profile) (told : Told) (olds : List Held) (entry : Entry)
+pub record GivesFile (X : List ℕ → List ℕ) (p : Profile) (m : Meta) (told : Told) (olds : List Held) (entry : Entry)
     (bytes : List ℕ) : Type 0 where
-  pub same : entry ≡ (file_plan X p bytes).entry
-  pub known : AllByRecursion (IsKnown told olds) (file_plan X p bytes).blocks
+  pub same : entry ≡ (file_plan X p m bytes).entry
+  pub known : AllByRecursion (IsKnown told olds) (file_plan X p m bytes).blocks
 
 -- over the old part's bytes, with whose blocks the store agrees before and after, the part of this height over the
 -- changed bytes is made
@@ -170,3 +171,33 @@ LosesOfParts X p top k olds before now answer =
     → Agrees before.told (blocks_of_all X p (min top k) gs) → Agrees now.told (blocks_of_all X p (min top k) gs)
     → Stood before.faults now.faults → Stood before.clashes now.clashes
     → IfErr answer (IsLossOf now.told (blocks_of_all X p (min top k) gs))
+
+-- old parts of this height, whose bytes are the first of some bytes: as many as a part of another height has, or all
+pub record IsFirstOf (X : List ℕ → List ℕ) (p : Profile) (high k : ℕ) (olds : List Held) (parts : List Part)
+    (bytes : List ℕ) : Type 0 where
+  pub gs : List (List ℕ)
+  pub are : AreOld X p (span p.chunk p.width k) k parts gs
+  pub same : take (span p.chunk p.width high) (joined gs) ≡ take (span p.chunk p.width high) bytes
+  pub few : length (joined gs) ≤ length bytes
+  pub among : (b : Held) → IsIn b (blocks_of_all X p k gs) → IsIn b olds
+
+-- over the bytes of a file whose root, of height `top`, has these old parts below it, the parts of height k over the
+-- changed bytes are made
+abbrev pub MakesRoot : (List ℕ → List ℕ) → Profile → ℕ → ℕ → ℕ → List Part → Target → List ℕ → Told → Told
+    → Result (List Part) StoreFault → Type 0
+MakesRoot X p top j k olds target piece before now answer =
+    (gs : List (List ℕ)) → AreOld X p (span p.chunk p.width j) j olds gs
+    → length (joined gs) ≤ span p.chunk p.width top
+    → Agrees before (blocks_of_all X p j gs) → Agrees now (blocks_of_all X p j gs)
+    → IfOk answer (λ parts. GivesAll X p now (blocks_of_all X p j gs) k parts
+    (groups (span p.chunk p.width k) (overlaid target.size (joined gs) target.offset piece)))
+
+-- where the store has stayed calm besides, a fault is that one of their blocks is lost, or want of memory
+abbrev pub LosesOfRoot : (List ℕ → List ℕ) → Profile → ℕ → ℕ → List Part → Seen → Seen
+    → Result (List Part) StoreFault → Type 0
+LosesOfRoot X p top j olds before now answer =
+    (gs : List (List ℕ)) → AreOld X p (span p.chunk p.width j) j olds gs
+    → length (joined gs) ≤ span p.chunk p.width top
+    → Agrees before.told (blocks_of_all X p j gs) → Agrees now.told (blocks_of_all X p j gs)
+    → Stood before.faults now.faults → Stood before.clashes now.clashes
+    → IfErr answer (IsLossOf now.told (blocks_of_all X p j gs))

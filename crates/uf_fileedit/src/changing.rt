@@ -175,7 +175,7 @@ fn change_node<S: Store, L: Ledger>(
 // The parts of a layer below a node. Whole parts of zeros are made once, and a piece of zeros that is saved isn't saved
 // again.
 #[cycle(changes)]
-fn change_parts<S: Store, L: Ledger>(
+pub fn change_parts<S: Store, L: Ledger>(
     alloc: Global,
     store: &mut S,
     layer: Layer,
@@ -189,6 +189,8 @@ fn change_parts<S: Store, L: Ledger>(
     requires within { LiesWithin target.size target.offset piece.now }
     ensures some { IfOk result (λ parts. 1 ≤ length parts) }
     ensures few { IfOk result (λ parts. length parts ≤ 1024) }
+    ensures room { IfOk result (λ parts. length parts * span layer.p.chunk layer.p.width layer.height
+        < target.size + span layer.p.chunk layer.p.width layer.height) }
     ensures size { IfOk result (λ parts. sum_by (λ m. m.size) parts ≡ target.size) }
     ensures gives { IsBlank S.X.block32 layer.p (S.seen store.old).told 0 layer.zeros
         → MakesParts S.X.block32 layer.p layer.top layer.height olds.now target piece.now

@@ -1,8 +1,8 @@
 // The balanced layout in numbers.
-ghost use Rattle.std.specs.Prelude.{◌≡◌, ◌-◌, ◌^◌, ◌==◌, ◌&&◌, nat_lt, min, IsTrue};
+ghost use Rattle.std.specs.Prelude.{◌≡◌, ◌-◌, ◌<◌, ◌^◌, ◌==◌, ◌&&◌, nat_lt, min, IsTrue};
 ghost use Rattle.uf_tree.specs.FileSub.{IsHeight, span};
 ghost use Rattle.uf_tree.specs.Profiles.{is_profile};
-ghost use Rattle.uf_fileedit.specs.Planned.{are_planned as planned_of, is_of_height as height_of_codec};
+ghost use Rattle.uf_fileedit.specs.Planned.{AreHeights, are_planned as planned_of, is_of_height as height_of_codec};
 
 use uf_cid::Codec;
 use uf_tree::{Part, Profile};
@@ -16,6 +16,33 @@ pub struct Layer {
     pub top: u8,
     pub height: u8,
     pub zeros: Option<Part>,
+}
+
+// Where the bytes of a changed file stand: how many rows of nodes the old file has, how high an old part stands at
+// most, how high the parts below the new root are, and how many of the old bytes a part as high as that root has room
+// for.
+#[derive(Clone, Copy)]
+pub struct Heights {
+    pub rows: u8,
+    pub top: u8,
+    pub height: u8,
+    pub first: u64,
+}
+
+// Where the bytes stand of a file of `old` bytes that gets `size` ones.
+pub fn heights_of(p: &Profile, old: u64, size: u64) -> Heights
+    requires profile { IsTrue (is_profile p.now) }
+    requires small { old < 2 ^ 63 }
+    ensures { AreHeights p.now old size result }
+{
+    let rows = height_of(p, old);
+    let height = height_of(p, size).saturating_sub(1);
+    Heights {
+        rows,
+        top: rows.max(1),
+        height,
+        first: old.min(span_of(p, height + 1)),
+    }
 }
 
 // How many bytes a part of this height has at most; a greater number counts as the greatest.
@@ -69,7 +96,7 @@ fn is_next(height: u8, rest: u64, most: u64, part: &Part) -> bool
 }
 
 // Whether parts of this height have this codec.
-fn is_of_height(height: u8, codec: Codec) -> bool
+pub fn is_of_height(height: u8, codec: Codec) -> bool
     ensures { result ≡ height_of_codec height codec }
 {
     match codec {

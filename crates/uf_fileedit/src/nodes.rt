@@ -1,28 +1,27 @@
-// Old nodes of a file.
-ghost use Rattle.std.specs.Prelude.{◌≡◌, ◌+◌, ◌<◌, ◌≤◌, ◌^◌, ℕ, List, [], ◌∷◌, length, min, sum, IfErr, IfOk, IsTrue, Some};
+// Old nodes of a file below its root.
+ghost use Rattle.std.specs.Prelude.{◌≡◌, ◌↔◌, ◌+◌, ◌≤◌, ℕ, List, [], ◌∷◌, length, min, IfErr, IfOk, IsTrue, Some};
 ghost use Rattle.uf_edge.specs.Counts.{Stood};
 ghost use Rattle.uf_fileread.specs.Parts.{parts_block};
-ghost use Rattle.uf_fileread.specs.Ranges.{IsFile};
 ghost use Rattle.uf_store.specs.Faults.{Answers};
 ghost use Rattle.uf_store.specs.Keeping.{Agrees};
 ghost use Rattle.uf_store.specs.Lost.{IsLossOf};
 ghost use Rattle.uf_tree.specs.Codecs.{Reads};
-ghost use Rattle.uf_tree.specs.FilePlan.{file_plan, groups, node_over};
+ghost use Rattle.uf_tree.specs.FilePlan.{groups};
 ghost use Rattle.uf_tree.specs.FileSub.{blocks_over, span};
+ghost use Rattle.uf_tree.specs.Metas.{none};
 ghost use Rattle.uf_tree.specs.Profiles.{is_profile};
-ghost use Rattle.uf_fileedit.specs.Bad.{IsBadEdited};
 ghost use Rattle.uf_fileedit.specs.Changes.{AreOld, IsBelow, IsOld, IsOldPart, old_blocks};
-ghost use Rattle.uf_fileedit.specs.Planned.{IsPlannedNode, SaysFileSize, are_planned as planned_of, role_at};
+ghost use Rattle.uf_fileedit.specs.Planned.{IsPlannedNode, are_planned as planned_of};
 ghost use Rattle.uf_fileedit.specs.Touches.{AreBelow, Climbs, old_size};
-ghost use Rattle.uf_fileedit.specs.Ways.{IsBadOld, StandBelow, StandsFirst};
+ghost use Rattle.uf_fileedit.specs.Ways.{IsBadOld, StandBelow};
 
 use crate::layout::{Layer, are_planned};
 use std::alloc::Global;
 use std::sync::ledger::Ledger;
-use uf_cid::{Codec, Memory, StrictFault};
-use uf_fileread::read_parts;
+use uf_cid::{Memory, StrictFault};
+use uf_fileread::{NodeParts, read_parts};
 use uf_store::{Role, Steps, Store, StoreFault, need};
-use uf_tree::{Entry, Part, Parts, Profile};
+use uf_tree::{Meta, Part, Parts, Profile};
 
 // How many nodes of a file may stand one above the other.
 const MOST_ROWS: u8 = 22;
@@ -60,7 +59,7 @@ pub fn load_parts<S: Store, L: Ledger>(
     let cid = part.entry.cid;
     need(store, &cid, touches)?;
     match read_planned(alloc, store.block(), p, rows, height, part.size) {
-        Ok(parts) => Ok(parts),
+        Ok(node) => Ok(node.parts),
         Err(StrictFault::NotCanonical) => Err(StoreFault::BadBlock(cid, Role::FileNode)),
         Err(StrictFault::Memory) => Err(StoreFault::Memory),
     }
@@ -74,17 +73,27 @@ fn read_planned(
     rows: u8,
     height: u8,
     size: u64,
-) -> Result<Parts, StrictFault>
+) -> Result<NodeParts, StrictFault>
     requires profile { IsTrue (is_profile p.now) }
     ensures { Reads (IsPlannedNode p.now rows height size) parts_block bytes.now result }
 {
-    let parts = read_parts(alloc, bytes)?;
+    let node = read_parts(alloc, bytes)?;
+    if !has_none(&node.meta) {
+        return Err(StrictFault::NotCanonical);
+    }
     let above = rows.saturating_sub(height);
-    if above <= MOST_ROWS && are_planned(p, height, size, parts.as_slice()) {
-        Ok(parts)
+    if above <= MOST_ROWS && are_planned(p, height, size, node.parts.as_slice()) {
+        Ok(node)
     } else {
         Err(StrictFault::NotCanonical)
     }
+}
+
+// Whether a node carries no metadata.
+fn has_none(meta: &Meta) -> bool
+    ensures { IsTrue result ↔ meta.now ≡ none }
+{
+    *meta == Meta::none()
 }
 
 // The parts of a layer below an old part, or none where there is no old part. A part that is no higher itself is the
@@ -138,87 +147,10 @@ pub fn parts_below<S: Store, L: Ledger>(
 }
 
 // A list of one part.
-fn just(alloc: Global, part: Part) -> Result<Parts, Memory>
+pub fn just(alloc: Global, part: Part) -> Result<Parts, Memory>
     ensures { IfOk result (λ parts. parts ≡ part ∷ []) }
 {
     let mut parts = Parts::new(alloc);
     parts.push(part)?;
     Ok(parts)
-}
-
-// The root of a file as a part. One touch.
-pub fn root_of<S: Store, L: Ledger>(
-    alloc: Global,
-    store: &mut S,
-    p: &Profile,
-    entry: &Entry,
-    touches: &mut Steps<L>,
-) -> Result<Part, StoreFault>
-    ensures entry { IfOk result (λ m. m.entry ≡ entry.now) }
-    ensures size { (b : List ℕ) (height : ℕ) → IsFile S.X.block32 p.now b entry.now.cid height
-        → Agrees (S.seen store.old).told (file_plan S.X.block32 p.now b).blocks
-        → IfOk result (λ m. m.size ≡ length b) }
-    ensures small { IfOk result (λ m. m.size < 2 ^ 63) }
-    ensures lost { (b : List ℕ) (height : ℕ) → IsFile S.X.block32 p.now b entry.now.cid height
-        → Agrees (S.seen store.old).told (file_plan S.X.block32 p.now b).blocks
-        → Stood (S.seen store.old).faults (S.seen store.new).faults
-        → IfErr result (IsLossOf (S.seen store.old).told (blocks_over S.X.block32 p.now.chunk p.now.width height b)) }
-    ensures cause { Answers S.X.block32 (IsBadEdited S.X.block32 p.now (S.seen store.new).told entry.now.cid) result
-        (S.seen store.old) (S.seen store.new) }
-    ensures stand { IfOk result (StandsFirst S.X.block32 p.now (S.seen store.old).told entry.now.cid) }
-    ensures told { (S.seen store.new).told ≡ (S.seen store.old).told }
-    ensures touches { touches.new ≡ touches.old + 1 }
-{
-    let cid = entry.cid;
-    need(store, &cid, touches)?;
-    match root_size(alloc, store.block(), p, cid.codec) {
-        Ok(size) => Ok(Part {
-            entry: *entry,
-            size,
-        }),
-        Err(StrictFault::NotCanonical) => Err(StoreFault::BadBlock(cid, role_of(cid.codec))),
-        Err(StrictFault::Memory) => Err(StoreFault::Memory),
-    }
-}
-
-// How many bytes a file has whose root has these bytes: a leaf of at most one piece, or a node over more.
-fn root_size(alloc: Global, bytes: &[u8], p: &Profile, codec: Codec) -> Result<u64, StrictFault>
-    ensures { SaysFileSize p.now codec bytes.now result }
-{
-    match codec {
-        Codec::Raw => {
-            if bytes.len() as u64 <= u64::from(p.chunk) {
-                Ok(bytes.len() as u64)
-            } else {
-                Err(StrictFault::NotCanonical)
-            }
-        }
-        Codec::DagPb => {
-            let parts = read_parts(alloc, bytes)?;
-            let size = size_over(parts.as_slice());
-            if size > u64::from(p.chunk) {
-                Ok(size)
-            } else {
-                Err(StrictFault::NotCanonical)
-            }
-        }
-    }
-}
-
-// How many bytes are below these parts.
-fn size_over(parts: &[Part]) -> u64
-    requires { sum (node_over parts.now).sizes < 2 ^ 63 }
-    ensures { result ≡ sum (node_over parts.now).sizes }
-{
-    parts.iter().map(|part| part.size).sum()
-}
-
-// What a block of this codec is in a file.
-fn role_of(codec: Codec) -> Role
-    ensures { result ≡ role_at codec }
-{
-    match codec {
-        Codec::Raw => Role::Leaf,
-        Codec::DagPb => Role::FileNode,
-    }
 }

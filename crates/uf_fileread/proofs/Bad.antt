@@ -1,21 +1,19 @@
 -- Where a bad block stands, and what a reading shows of it.
-use Rattle.std.proofs.Common.{◌≡◌, ℕ, suc, ◌+◌, ◌-◌, ◌<◌, ◌≤◌, List, [], ◌∷◌, length, get_or, refl, arith, sym, ◌∙◌, subst, Option, None, Some, Result, Ok, Err}
+use Rattle.std.proofs.Common.{◌≡◌, ℕ, suc, ◌+◌, ◌-◌, ◌<◌, ◌≤◌, List, [], ◌∷◌, length, get_or, refl, arith, sym, ◌∙◌, subst, Option, Some, Result, Ok, Err}
 use Rattle.std.specs.Prelude.{IfSome}
 use Rattle.std.specs.List.{Contains}
 use Rattle.uf_cid.specs.declared.cid.Cid.{Cid}
 use Rattle.uf_edge.specs.Counts.{Rose}
 use Rattle.uf_fileread.specs.Bad.{IsBadAmong, IsBadAt, IsBadBelow, LinksPart, declared_at}
 use Rattle.uf_fileread.specs.Ranges.{ShowsRange}
-use Rattle.uf_fileread.specs.Parts.{parts_block}
+use Rattle.uf_fileread.specs.declared.node_parts.NodeParts.{NodeParts}
 use Rattle.uf_fileread.specs.Sending.{HasParts}
 use Rattle.uf_fileread.specs.declared.fault.RangeFault.{RangeFault}
 use Rattle.uf_fileread.specs.declared.fault.RangeFault.TheVariants.{Sink, Store}
 use Rattle.uf_store.specs.Contents.{Told, held_at}
-use Rattle.uf_store.specs.Faults.{Shows, StaysCalm}
+use Rattle.uf_store.specs.Faults.{StaysCalm}
 use Rattle.uf_store.specs.Seen.{Seen}
 use Rattle.uf_store.specs.declared.store.Role.{Role}
-use Rattle.uf_store.specs.declared.store.StoreFault.{StoreFault}
-use Rattle.uf_store.specs.declared.store.StoreFault.TheVariants.{Failed, Damaged, Missing, BadBlock, Clash, Memory}
 use Rattle.uf_store.proofs.Causes.{Shows-after, Shows-by, StaysCalm-trans}
 use Rattle.uf_tree.specs.declared.nodes.Part.{Part}
 
@@ -66,7 +64,7 @@ loop-shows hash rows i parts part r a b c before mid now low is same calm still 
     }) h)
 
 -- what the reading of the parts of a loaded node shows
-pub node-shows : (hash : List ℕ → List ℕ) (rows : ℕ) (declared : Option ℕ) (cid : Cid) (parts slice : List Part) (r : Result ℕ RangeFault) (a b c : Seen) (before now : ℕ) → rows ≤ 22 → slice ≡ parts
+pub node-shows : (hash : List ℕ → List ℕ) (rows : ℕ) (declared : Option ℕ) (cid : Cid) (parts : NodeParts) (slice : List Part) (r : Result ℕ RangeFault) (a b c : Seen) (before now : ℕ) → rows ≤ 22 → slice ≡ parts.parts
     → HasParts rows declared cid a parts → b.told ≡ a.told → StaysCalm a b → ShowsRange hash (IsBadAmong b.told (22 - (rows - 1)) slice) r b c before now
     → ShowsRange hash (IsBadBelow a.told (22 - rows) declared cid) r a c before now
 node-shows hash rows declared cid parts slice r a b c before now few sliced has same calm h =
@@ -74,6 +72,6 @@ node-shows hash rows declared cid parts slice r a b c before now few sliced has 
     range-after hash (IsBadBelow a.told (22 - rows) declared cid) r a b c before before now calm refl
     (range-by hash (IsBadAmong b.told (22 - (rows - 1)) slice) (IsBadBelow a.told (22 - rows) declared cid) r b c before now
     (λ role bytes bad.
-    bad-under a.told (22 - rows) (22 - (rows - 1)) declared cid parts role bytes (omega arith)
+    bad-under a.told (22 - rows) (22 - (rows - 1)) declared cid parts.parts role bytes (omega arith)
     (λ part among. record { parts = parts; valid = has.stands.valid; is_held = has.is_held; among = among })
     (subst (λ (l : List Part). IsBadAmong a.told (22 - (rows - 1)) l role bytes) sliced (subst (λ (t : Told). IsBadAmong t (22 - (rows - 1)) slice role bytes) same bad))) h)

@@ -1,10 +1,12 @@
 -- A range needs few blocks.
 use Rattle.std.proofs.Common.{◌≡◌, ◌≢◌, ℕ, zero, suc, ◌+◌, ◌-◌, ◌*◌, ◌<◌, ◌≤◌, List, [], ◌∷◌, ◌++◌, length, map, refl, ap, arith, sym, ◌∙◌, subst, length-append, Bool, true, false}
-use Rattle.std.specs.Prelude.{nat_lt, ◌&&◌, if◌then◌else◌}
+use Rattle.std.specs.Prelude.{if◌then◌else◌}
 use Rattle.std.proofs.lemmas.Bool.Decides.{nat_tests}
+use Rattle.uf_tree.specs.declared.meta.Meta.{Meta}
 use Rattle.uf_tree.specs.Cutting.{joined}
 use Rattle.uf_tree.specs.FilePlan.{groups}
 use Rattle.uf_tree.specs.FileSub.{span}
+use Rattle.uf_tree.specs.Metas.{none}
 use Rattle.uf_tree.proofs.Groups.{joined-split}
 use Rattle.uf_tree.proofs.Nested.{groups-product}
 use Rattle.uf_tree.proofs.Sub.{span-pos}
@@ -65,9 +67,9 @@ pieces_in_groups c w k some wide bytes =
 module _ (X : List ℕ → List ℕ) (c w : ℕ) (some : 1 ≤ c) (wide : 1 ≤ w) where
   -- no more blocks than for each piece one in each row, and the part's own
   abbrev pub IsFew : ℕ → Type 0
-  IsFew k = (o n : ℕ) (g : List ℕ) → length (blocks_read X c w k o n g) ≤ 1 + pieces_met c o n g * k
+  IsFew k = (o n : ℕ) (g : List ℕ) → length (blocks_read X c w none k o n g) ≤ 1 + pieces_met c o n g * k
 
-  one_group : (k : ℕ) → IsFew k → (o n : ℕ) (g : List ℕ) → length (if meets o n g then blocks_read X c w k o n g else []) ≤ pieces_met c o n g * suc k
+  one_group : (k : ℕ) → IsFew k → (o n : ℕ) (g : List ℕ) → length (if meets o n g then blocks_read X c w none k o n g else []) ≤ pieces_met c o n g * suc k
   one_group k few o n g = by (meets o n g) refl
     where
       many : (m l : ℕ) → l ≤ 1 + m * k → 1 ≤ m → l ≤ m * suc k
@@ -79,18 +81,18 @@ module _ (X : List ℕ → List ℕ) (c w : ℕ) (some : 1 ≤ c) (wide : 1 ≤ 
       asked : meets o n g ≡ true → n ≢ 0
       asked e = grind (arith, nat_tests)
 
-      by : (t : Bool) → meets o n g ≡ t → length (if meets o n g then blocks_read X c w k o n g else []) ≤ pieces_met c o n g * suc k
+      by : (t : Bool) → meets o n g ≡ t → length (if meets o n g then blocks_read X c w none k o n g else []) ≤ pieces_met c o n g * suc k
       by true e =
-          subst (λ t. length (if t then blocks_read X c w k o n g else []) ≤ pieces_met c o n g * suc k) (sym e)
-          (many (pieces_met c o n g) (length (blocks_read X c w k o n g)) (few o n g) (some_met o n (groups c g) (low e) (asked e)))
-      by false e = subst (λ t. length (if t then blocks_read X c w k o n g else []) ≤ pieces_met c o n g * suc k) (sym e) (omega arith)
+          subst (λ t. length (if t then blocks_read X c w none k o n g else []) ≤ pieces_met c o n g * suc k) (sym e)
+          (many (pieces_met c o n g) (length (blocks_read X c w none k o n g)) (few o n g) (some_met o n (groups c g) (low e) (asked e)))
+      by false e = subst (λ t. length (if t then blocks_read X c w none k o n g else []) ≤ pieces_met c o n g * suc k) (sym e) (omega arith)
 
   all_groups : (k : ℕ) → IsFew k → (o n : ℕ) (gs : List (List ℕ))
-      → length (blocks_met (λ o n g. blocks_read X c w k o n g) o n gs) ≤ met_among o n (joined (map (groups c) gs)) * suc k
+      → length (blocks_met (λ o n g. blocks_read X c w none k o n g) o n gs) ≤ met_among o n (joined (map (groups c) gs)) * suc k
   all_groups k few o n [] = omega arith
   all_groups k few o n (g ∷ gs) =
-      let front = if meets o n g then blocks_read X c w k o n g else [] in
-      let back = blocks_met (λ o n g. blocks_read X c w k o n g) (o - length g) (n - (length g - o)) gs in
+      let front = if meets o n g then blocks_read X c w none k o n g else [] in
+      let back = blocks_met (λ o n g. blocks_read X c w none k o n g) (o - length g) (n - (length g - o)) gs in
       let rest = joined (map (groups c) gs) in
       let whole : length (joined (groups c g)) ≡ length g = ap length (joined-split c c g) in
       let two = met_append o n (groups c g) rest ∙ ap (λ l. pieces_met c o n g + met_among (o - l) (n - (l - o)) rest) whole in
@@ -102,11 +104,17 @@ module _ (X : List ℕ → List ℕ) (c w : ℕ) (some : 1 ≤ c) (wide : 1 ≤ 
       sums : (a b m l s : ℕ) → a ≤ m * suc k → b ≤ l * suc k → s ≡ a + b → s ≤ (m + l) * suc k
       sums a b m l s p q e = omega arith
 
-  pub few_are_read : (k : ℕ) → IsFew k
+  few_bare : (k : ℕ) → IsFew k
   unfolding blocks_read
-  few_are_read zero o n g = omega arith
-  few_are_read (suc k) o n g =
+  few_bare zero o n g = omega arith
+  few_bare (suc k) o n g =
       let gs = groups (span c w k) g in
-      let below = all_groups k (few_are_read k) o n gs in
+      let below = all_groups k (few_bare k) o n gs in
       let same = ap (λ ps. met_among o n ps * suc k) (pieces_in_groups c w k some wide g) in
       omega (arith, below, same)
+
+  -- metadata changes no number
+  pub few_are_read : (meta : Meta) (k : ℕ) (o n : ℕ) (g : List ℕ) → length (blocks_read X c w meta k o n g) ≤ 1 + pieces_met c o n g * k
+  unfolding blocks_read
+  few_are_read meta zero o n g = omega arith
+  few_are_read meta (suc k) o n g = few_bare (suc k) o n g

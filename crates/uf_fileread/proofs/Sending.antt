@@ -1,8 +1,8 @@
 -- How the reading of a range goes on from part to part.
-use Rattle.std.proofs.Common.{◌≡◌, ◌≢◌, ℕ, zero, suc, ◌+◌, ◌-◌, ◌*◌, ◌^◌, ◌<◌, ◌≤◌, List, [], ◌∷◌, ◌++◌, length, sum, map, take, drop, min, get_or, refl, ap, arith, sym, ◌∙◌, subst, append_assoc, append-nil, length-append, length-take, Bool, true, false, cond, Option, None, Some, ◌⊎◌, inl, inr, Result, Ok, Err, IsTrue}
-use Rattle.std.specs.Prelude.{◌↔◌, IfErr, IfSome}
-use Rattle.std.specs.List.{AllByRecursion, flat_map, sum_by}
-use Rattle.std.proofs.lemmas.List.{drop_all, drop_more, get_or-map, length-map, get_or_read, take_all, take-append-le}
+use Rattle.std.proofs.Common.{◌≡◌, ◌≢◌, ℕ, zero, suc, ◌+◌, ◌-◌, ◌*◌, ◌^◌, ◌<◌, ◌≤◌, List, [], ◌∷◌, ◌++◌, length, sum, map, take, drop, min, get_or, refl, ap, arith, sym, ◌∙◌, subst, append_assoc, append-nil, length-append, Bool, cond, Option, None, Some, ◌⊎◌, inl, inr, Result, Ok, Err, IsTrue}
+use Rattle.std.specs.Prelude.{IfErr, IfSome}
+use Rattle.std.specs.List.{AllByRecursion, flat_map}
+use Rattle.std.proofs.lemmas.List.{drop_all, drop_more, get_or-map, length-map, take-append-le}
 use Rattle.std.proofs.lemmas.List.Sums.{sum-map}
 use Rattle.uf_cid.specs.Blocks.{Held, Lookup}
 use Rattle.uf_cid.specs.Blocks as blocks
@@ -15,29 +15,33 @@ use Rattle.uf_fileread.specs.declared.fault.RangeFault.TheVariants.{Sink, Store}
 use Rattle.uf_store.specs.declared.store.StoreFault.{StoreFault}
 use Rattle.uf_store.specs.declared.store.StoreFault.TheVariants.{Failed, Damaged, Missing, BadBlock, Clash, Memory}
 use Rattle.uf_store.specs.Clashes.{IsLoadFault}
-use Rattle.uf_store.specs.Contents.{Contents, Told, held_at}
+use Rattle.uf_store.specs.Contents.{Told, held_at}
 use Rattle.uf_store.specs.Faults.{Answers, NoneIsBad, Shows}
 use Rattle.uf_store.specs.Keeping.{Agrees, Holds}
 use Rattle.uf_store.specs.Lost.{IsFirstLost, LosesFirst}
 use Rattle.uf_store.specs.Seen.{Seen}
 use Rattle.uf_store.proofs.Keeping.{Holds-append}
+use Rattle.uf_tree.specs.declared.meta.Meta.{Meta}
 use Rattle.uf_tree.specs.declared.nodes.Part.{Part}
 use Rattle.uf_tree.specs.declared.profile.Profile.{Profile}
 use Rattle.uf_tree.specs.Cutting.{joined}
-use Rattle.uf_tree.specs.FilePlan.{file_plan, groups, leaf_held, node_held, node_over, split_from}
-use Rattle.uf_tree.specs.FileSub.{blocks_over, part_over, span}
+use Rattle.uf_tree.specs.FilePlan.{file_plan, groups, leaf_held, node_over, root_held}
+use Rattle.uf_tree.specs.FileSub.{blocks_over, part_over, span, whole_blocks, whole_part}
+use Rattle.uf_tree.specs.Metas.{none}
 use Rattle.uf_tree.specs.Profiles.{is_profile}
 use Rattle.uf_tree.specs.Roles.{WithSome}
 use Rattle.uf_tree.specs.Validity.{IsHash}
 use Rattle.uf_tree.specs.declared.nodes.Entry.{Entry}
-use Rattle.uf_tree.proofs.Canonical.{few_rows}
+use Rattle.uf_tree.proofs.Canonical.{few_file_rows}
 use Rattle.uf_tree.proofs.Groups.{joined-split}
+use Rattle.uf_tree.proofs.MetaNumbers.{none-is_meta}
 use Rattle.uf_tree.proofs.Told.{kept}
-use Rattle.uf_tree.proofs.Valid.{file_node-valid, sub-size, sum_sizes}
+use Rattle.uf_tree.proofs.Valid.{root_node-valid, sub-size, sum_sizes}
 use Rattle.uf_store.specs.declared.store.Role.{Role}
-use Rattle.uf_fileread.specs.Parts.{AreParts, parts_block}
+use Rattle.uf_fileread.specs.Parts.{parts_block}
+use Rattle.uf_fileread.specs.declared.node_parts.NodeParts.{NodeParts}
 use Rattle.uf_fileread.specs.Ranges.{AppendsCount, AppendsAtMost, IsFile, IsFirstLossOf, WritesOver, blocks_met, blocks_read, meets, range_of}
-use Rattle.uf_fileread.specs.Sending.{ArePartsOver, Fits, HasParts, IsFirstLoss, IsNoParts, IsFilePart, LoadsParts, MayStand, ReadsPart, Stopped, WroteRange}
+use Rattle.uf_fileread.specs.Sending.{ArePartsOver, Fits, HasParts, IsFirstLoss, IsFilePart, LoadsParts, MayStand, ReadsPart, Stopped, WroteRange}
 use Rattle.uf_fileread.proofs.Cutting.{groups_fit, is_met, length_range, not_met, range_two}
 use Rattle.uf_fileread.proofs.Nodes.{same_parts}
 
@@ -108,8 +112,8 @@ the_block (Some t) b l cid lent is agrees held =
 
 -- a block that isn't held is the first of those that it stands before
 pub missing-first : (told : Told) (b : Held) (l : List Held) (cid : Cid) → cid ≡ b.0 → IfSome told (λ t. held_at t cid ≡ None) → LosesFirst told cid (b ∷ l)
-missing-first None b l cid is none = tt
-missing-first (Some t) b l cid is none = inl (is, ap (held_at t) (sym is) ∙ none)
+missing-first None b l cid is gone = tt
+missing-first (Some t) b l cid is gone = inl (is, ap (held_at t) (sym is) ∙ gone)
 
 -- a load that fails while the store stays calm has lost the first block
 pub need-lost : (X : List ℕ → List ℕ) (before now : Seen) (b : Held) (l : List Held) (cid : Cid) (fault : StoreFault) → cid ≡ b.0 → Shows X NoneIsBad fault before now → IsLoadFault cid fault → now.told ≡ before.told → Stood before.faults now.faults
@@ -208,6 +212,17 @@ module _ (told : Told) (of : ℕ → ℕ → List ℕ → List Held) (offset cou
 
 -- ---- a part and those below it
 
+-- a whole file without metadata is the part over its bytes
+pub whole-none : (X : List ℕ → List ℕ) (c w k : ℕ) (b : List ℕ) → whole_part X c w none k b ≡ part_over X c w k b
+unfolding whole_part part_over
+whole-none X c w zero b = refl
+whole-none X c w (suc k) b = refl
+
+pub whole-none-blocks : (X : List ℕ → List ℕ) (c w k : ℕ) (b : List ℕ) → whole_blocks X c w none k b ≡ blocks_over X c w k b
+unfolding whole_blocks blocks_over
+whole-none-blocks X c w zero b = refl
+whole-none-blocks X c w (suc k) b = refl
+
 abbrev at_parts : (List ℕ → List ℕ) → Profile → ℕ → List ℕ → List Part
 at_parts X p k bytes = map (part_over X p.chunk p.width k) (groups (span p.chunk p.width k) bytes)
 
@@ -238,22 +253,27 @@ module _ (X : List ℕ → List ℕ) (good : IsHash X) (p : Profile) where
   total ok k bytes = sum-map (λ (m : Part). m.size) (at_parts X p k bytes) ∙ sum_sizes X good p ok (groups (span p.chunk p.width k) bytes) (part_over X p.chunk p.width k) (sub-size X good p ok k)
       ∙ ap length (joined-split (span p.chunk p.width k) (span p.chunk p.width k) bytes)
 
-  module _ (rows : ℕ) (cid : Cid) (declared : Option ℕ) (bytes : List ℕ) where
-    node_cid : (k : ℕ) → IsFilePart X p rows (suc k) cid declared bytes → cid ≡ (node_held X (at_parts X p k bytes)).0
-    unfolding part_over
+  module _ (rows : ℕ) (cid : Cid) (declared : Option ℕ) (meta : Meta) (bytes : List ℕ) where
+    -- the planned node
+    abbrev planned_parts : ℕ → NodeParts
+    planned_parts k = record { parts = at_parts X p k bytes; meta = meta }
+
+    node_cid : (k : ℕ) → IsFilePart X p rows meta (suc k) cid declared bytes → cid ≡ (root_held X meta (at_parts X p k bytes)).0
+    unfolding whole_part
     node_cid k is = is.cid_is
 
-    no_leaf : IsFilePart X p rows zero cid declared bytes → cid.codec ≡ DagPb → ⊥
-    unfolding part_over
+    no_leaf : IsFilePart X p rows meta zero cid declared bytes → cid.codec ≡ DagPb → ⊥
+    unfolding whole_part
     no_leaf is codec = (let no : Raw ≡ DagPb = sym (ap (λ (c : Cid). c.codec) is.cid_is) ∙ codec in cc)
 
-    no_node : (k : ℕ) → IsFilePart X p rows (suc k) cid declared bytes → cid.codec ≡ Raw → ⊥
+    no_node : (k : ℕ) → IsFilePart X p rows meta (suc k) cid declared bytes → cid.codec ≡ Raw → ⊥
     no_node k is codec = (let no : DagPb ≡ Raw = sym (ap (λ (c : Cid). c.codec) (node_cid k is)) ∙ codec in cc)
 
-    stands : (k : ℕ) → IsFilePart X p rows (suc k) cid declared bytes → MayStand rows declared (at_parts X p k bytes)
+    stands : (k : ℕ) → IsFilePart X p rows meta (suc k) cid declared bytes → MayStand rows declared (planned_parts k)
     stands k is = record {
-      valid = file_node-valid X good p is.profile k bytes is.fits.few is.fits.small;
+      valid = root_node-valid X good p is.profile meta is.good k bytes is.fits.few is.fits.small;
       some = omega (arith, is.low);
+      carries = is.carries;
       size = sized declared is.size;
     }
       where
@@ -261,8 +281,8 @@ module _ (X : List ℕ → List ℕ) (good : IsHash X) (p : Profile) where
         sized None h = tt
         sized (Some n) h = total is.profile k bytes ∙ h
 
-    agrees_own : (k : ℕ) (told : Told) → Agrees told (blocks_over X p.chunk p.width (suc k) bytes) → Agrees told (node_held X (at_parts X p k bytes) ∷ flat_map (blocks_over X p.chunk p.width k) (groups (span p.chunk p.width k) bytes))
-    unfolding blocks_over
+    agrees_own : (k : ℕ) (told : Told) → Agrees told (whole_blocks X p.chunk p.width meta (suc k) bytes) → Agrees told (root_held X meta (at_parts X p k bytes) ∷ flat_map (blocks_over X p.chunk p.width k) (groups (span p.chunk p.width k) bytes))
+    unfolding whole_blocks
     agrees_own k told h = h
 
     agrees_below : (told : Told) (b : Held) (l : List Held) → Agrees told (b ∷ l) → Agrees told l
@@ -270,76 +290,76 @@ module _ (X : List ℕ → List ℕ) (good : IsHash X) (p : Profile) where
     agrees_below (Some t) b l h = h.1
 
     -- the node that was loaded is the planned one
-    planned : (k : ℕ) (before : Seen) (parts : List Part) → IsFilePart X p rows (suc k) cid declared bytes → Agrees before.told (blocks_over X p.chunk p.width (suc k) bytes) → HasParts rows declared cid before parts
-        → (parts ≡ at_parts X p k bytes) × Holds before.told (node_held X (at_parts X p k bytes) ∷ [])
+    planned : (k : ℕ) (before : Seen) (parts : NodeParts) → IsFilePart X p rows meta (suc k) cid declared bytes → Agrees before.told (whole_blocks X p.chunk p.width meta (suc k) bytes) → HasParts rows declared cid before parts
+        → (parts.parts ≡ at_parts X p k bytes) × Holds before.told (root_held X meta (at_parts X p k bytes) ∷ [])
     planned k before parts is agrees has =
-        let block = the_block before.told (node_held X (at_parts X p k bytes)) (flat_map (blocks_over X p.chunk p.width k) (groups (span p.chunk p.width k) bytes)) cid (parts_block parts) (node_cid k is) (agrees_own k before.told agrees) has.is_held in
-        (same_parts parts (at_parts X p k bytes) has.stands.valid (stands k is).valid block.0, block.1)
+        let block = the_block before.told (root_held X meta (at_parts X p k bytes)) (flat_map (blocks_over X p.chunk p.width k) (groups (span p.chunk p.width k) bytes)) cid (parts_block parts) (node_cid k is) (agrees_own k before.told agrees) has.is_held in
+        (ap (λ (n : NodeParts). n.parts) (same_parts parts (planned_parts k) has.stands.valid (stands k is).valid block.0), block.1)
 
     -- what is read below a node is read of it
     up : (k : ℕ) (before mid now : Seen) (offset count : ℕ) (held held_now : SinkTold) (touches touches_mid touches_now : ℕ) (r : Result ℕ RangeFault)
-        → mid.told ≡ before.told → mid.faults ≡ before.faults → touches_mid ≡ touches + 1 → Holds before.told (node_held X (at_parts X p k bytes) ∷ [])
-        → ReadsPart mid.told (blocks_met (λ o n g. blocks_read X p.chunk p.width k o n g) offset count (groups (span p.chunk p.width k) bytes)) (range_of offset count (joined (groups (span p.chunk p.width k) bytes)))
+        → mid.told ≡ before.told → mid.faults ≡ before.faults → touches_mid ≡ touches + 1 → Holds before.told (root_held X meta (at_parts X p k bytes) ∷ [])
+        → ReadsPart mid.told (blocks_met (λ o n g. blocks_read X p.chunk p.width none k o n g) offset count (groups (span p.chunk p.width k) bytes)) (range_of offset count (joined (groups (span p.chunk p.width k) bytes)))
         held held_now mid.faults now.faults touches_mid touches_now r
-        → ReadsPart before.told (blocks_read X p.chunk p.width (suc k) offset count bytes) (range_of offset count bytes) held held_now before.faults now.faults touches touches_now r
+        → ReadsPart before.told (blocks_read X p.chunk p.width meta (suc k) offset count bytes) (range_of offset count bytes) held held_now before.faults now.faults touches touches_now r
     unfolding blocks_read
     up k before mid now offset count held held_now touches touches_mid touches_now (Ok n) same calm steps has read =
         let whole = joined-split (span p.chunk p.width k) (span p.chunk p.width k) bytes in
-        let below = blocks_met (λ o n g. blocks_read X p.chunk p.width k o n g) offset count (groups (span p.chunk p.width k) bytes) in
+        let below = blocks_met (λ o n g. blocks_read X p.chunk p.width none k o n g) offset count (groups (span p.chunk p.width k) bytes) in
         let bytes_are : range_of offset count (joined (groups (span p.chunk p.width k) bytes)) ≡ range_of offset count bytes = ap (range_of offset count) whole in
         record {
           count = read.count ∙ ap length bytes_are;
-          blocks = Holds-append before.told (node_held X (at_parts X p k bytes) ∷ []) below has (subst (λ (t : Told). Holds t below) same read.blocks);
+          blocks = Holds-append before.told (root_held X meta (at_parts X p k bytes) ∷ []) below has (subst (λ (t : Told). Holds t below) same read.blocks);
           written = read.written ∙ ap (after held) bytes_are;
           steps = omega (arith, read.steps);
         }
     up k before mid now offset count held held_now touches touches_mid touches_now (Err fault) same calm steps has read =
         let whole = joined-split (span p.chunk p.width k) (span p.chunk p.width k) bytes in
-        let below = blocks_met (λ o n g. blocks_read X p.chunk p.width k o n g) offset count (groups (span p.chunk p.width k) bytes) in
+        let below = blocks_met (λ o n g. blocks_read X p.chunk p.width none k o n g) offset count (groups (span p.chunk p.width k) bytes) in
         record {
-          loss = λ stood. subst (λ (l : List Held). IsFirstLoss before.told (node_held X (at_parts X p k bytes) ∷ l) fault) (append-nil below)
-              (loss-among before.told (node_held X (at_parts X p k bytes) ∷ []) below [] fault has
+          loss = λ stood. subst (λ (l : List Held). IsFirstLoss before.told (root_held X meta (at_parts X p k bytes) ∷ l) fault) (append-nil below)
+              (loss-among before.told (root_held X meta (at_parts X p k bytes) ∷ []) below [] fault has
               (subst (λ (t : Told). IsFirstLoss t below fault) same (read.loss (subst (λ n. Stood n now.faults) (sym calm) stood))));
           written = subst (λ (b : List ℕ). AppendsPrefix b held held_now) (ap (range_of offset count) whole) read.written;
           steps = omega (arith, read.steps);
         }
 
     -- of a node that was loaded, what is read of its parts
-    pub part-node : (k : ℕ) (before mid now : Seen) (parts slice : List Part) (offset count : ℕ) (held held_now : SinkTold) (touches touches_mid touches_now : ℕ) (r : Result ℕ RangeFault)
-        → cid.codec ≡ DagPb → HasParts rows declared cid before parts → slice ≡ parts → mid.told ≡ before.told → mid.faults ≡ before.faults → touches_mid ≡ touches + 1
+    pub part-node : (k : ℕ) (before mid now : Seen) (parts : NodeParts) (slice : List Part) (offset count : ℕ) (held held_now : SinkTold) (touches touches_mid touches_now : ℕ) (r : Result ℕ RangeFault)
+        → cid.codec ≡ DagPb → HasParts rows declared cid before parts → slice ≡ parts.parts → mid.told ≡ before.told → mid.faults ≡ before.faults → touches_mid ≡ touches + 1
         → ((q : Profile) (j : ℕ) (gs : List (List ℕ)) → ArePartsOver X q (rows - 1) j slice gs → Agrees mid.told (flat_map (blocks_over X q.chunk q.width j) gs)
-        → ReadsPart mid.told (blocks_met (λ o n g. blocks_read X q.chunk q.width j o n g) offset count gs) (range_of offset count (joined gs)) held held_now mid.faults now.faults touches_mid touches_now r)
-        → IsFilePart X p rows k cid declared bytes → Agrees before.told (blocks_over X p.chunk p.width k bytes)
-        → ReadsPart before.told (blocks_read X p.chunk p.width k offset count bytes) (range_of offset count bytes) held held_now before.faults now.faults touches touches_now r
+        → ReadsPart mid.told (blocks_met (λ o n g. blocks_read X q.chunk q.width none j o n g) offset count gs) (range_of offset count (joined gs)) held held_now mid.faults now.faults touches_mid touches_now r)
+        → IsFilePart X p rows meta k cid declared bytes → Agrees before.told (whole_blocks X p.chunk p.width meta k bytes)
+        → ReadsPart before.told (blocks_read X p.chunk p.width meta k offset count bytes) (range_of offset count bytes) held held_now before.faults now.faults touches touches_now r
     part-node zero before mid now parts slice offset count held held_now touches touches_mid touches_now r codec has sliced same calm steps below is agrees = absurd (no_leaf is codec)
     part-node (suc k) before mid now parts slice offset count held held_now touches touches_mid touches_now r codec has sliced same calm steps below is agrees =
         let plan = planned k before parts is agrees has in
         up k before mid now offset count held held_now touches touches_mid touches_now r same calm steps plan.1
         (below p k (groups (span p.chunk p.width k) bytes)
         (record { profile = is.profile; low = omega (arith, is.low); same = sliced ∙ plan.0; fits = groups_fit p k bytes (kept p is.profile).some (some_wide is.profile) is.fits.small })
-        (subst (λ (t : Told). Agrees t (flat_map (blocks_over X p.chunk p.width k) (groups (span p.chunk p.width k) bytes))) (sym same) (agrees_below before.told (node_held X (at_parts X p k bytes)) (flat_map (blocks_over X p.chunk p.width k) (groups (span p.chunk p.width k) bytes)) (agrees_own k before.told agrees))))
+        (subst (λ (t : Told). Agrees t (flat_map (blocks_over X p.chunk p.width k) (groups (span p.chunk p.width k) bytes))) (sym same) (agrees_below before.told (root_held X meta (at_parts X p k bytes)) (flat_map (blocks_over X p.chunk p.width k) (groups (span p.chunk p.width k) bytes)) (agrees_own k before.told agrees))))
 
-    node-lost : (Bad : Role → List ℕ → Type 0) (k : ℕ) (before now : Seen) (l : List Held) (fault : StoreFault) → LoadsParts rows declared cid before now (Err fault) → Answers {A = List Part} X Bad (Err fault) before now
-        → IsFilePart X p rows (suc k) cid declared bytes → Agrees before.told (blocks_over X p.chunk p.width (suc k) bytes) → Stood before.faults now.faults
-        → IsFirstLossOf before.told (node_held X (at_parts X p k bytes) ∷ l) fault
+    node-lost : (Bad : Role → List ℕ → Type 0) (k : ℕ) (before now : Seen) (l : List Held) (fault : StoreFault) → LoadsParts rows declared cid before now (Err fault) → Answers {A = NodeParts} X Bad (Err fault) before now
+        → IsFilePart X p rows meta (suc k) cid declared bytes → Agrees before.told (whole_blocks X p.chunk p.width meta (suc k) bytes) → Stood before.faults now.faults
+        → IsFirstLossOf before.told (root_held X meta (at_parts X p k bytes) ∷ l) fault
     node-lost Bad k before now l Failed loads cause is agrees stood = let r = cause.rose in omega (arith, r, stood)
     node-lost Bad k before now l (Damaged c) loads cause is agrees stood = let r = cause.rose in omega (arith, r, stood)
-    node-lost Bad k before now l (Missing c) loads cause is agrees stood = missing-first before.told (node_held X (at_parts X p k bytes)) l c (loads.0 ∙ node_cid k is)
+    node-lost Bad k before now l (Missing c) loads cause is agrees stood = missing-first before.told (root_held X meta (at_parts X p k bytes)) l c (loads.0 ∙ node_cid k is)
         (subst (λ (d : Cid). IfSome before.told (λ t. held_at t d ≡ None)) (sym loads.0) loads.1)
     node-lost Bad k before now l (BadBlock c role) loads cause is agrees stood =
-        loads.none (at_parts X p k bytes) (stands k is) (the_block before.told (node_held X (at_parts X p k bytes)) (flat_map (blocks_over X p.chunk p.width k) (groups (span p.chunk p.width k) bytes)) cid now.lent (node_cid k is) (agrees_own k before.told agrees) loads.is_held).0
+        loads.none (planned_parts k) (stands k is) (the_block before.told (root_held X meta (at_parts X p k bytes)) (flat_map (blocks_over X p.chunk p.width k) (groups (span p.chunk p.width k) bytes)) cid now.lent (node_cid k is) (agrees_own k before.told agrees) loads.is_held).0
     node-lost Bad k before now l (Clash c x y) loads cause is agrees stood = loads
     node-lost Bad k before now l Memory loads cause is agrees stood = tt
 
     -- of a node that was not loaded
     pub part-lost : (Bad : Role → List ℕ → Type 0) (k : ℕ) (before now : Seen) (offset count : ℕ) (held : SinkTold) (touches touches_now : ℕ) (fault : StoreFault)
-        → cid.codec ≡ DagPb → LoadsParts rows declared cid before now (Err fault) → Answers {A = List Part} X Bad (Err fault) before now → touches_now ≡ touches + 1
-        → IsFilePart X p rows k cid declared bytes → Agrees before.told (blocks_over X p.chunk p.width k bytes)
-        → Stopped before.told (blocks_read X p.chunk p.width k offset count bytes) (range_of offset count bytes) held held before.faults now.faults touches touches_now (Store fault)
+        → cid.codec ≡ DagPb → LoadsParts rows declared cid before now (Err fault) → Answers {A = NodeParts} X Bad (Err fault) before now → touches_now ≡ touches + 1
+        → IsFilePart X p rows meta k cid declared bytes → Agrees before.told (whole_blocks X p.chunk p.width meta k bytes)
+        → Stopped before.told (blocks_read X p.chunk p.width meta k offset count bytes) (range_of offset count bytes) held held before.faults now.faults touches touches_now (Store fault)
     unfolding blocks_read
     part-lost Bad zero before now offset count held touches touches_now fault codec loads cause steps is agrees = absurd (no_leaf is codec)
     part-lost Bad (suc k) before now offset count held touches touches_now fault codec loads cause steps is agrees = record {
-      loss = λ stood. node-lost Bad k before now (blocks_met (λ o n g. blocks_read X p.chunk p.width k o n g) offset count (groups (span p.chunk p.width k) bytes)) fault loads cause is agrees stood;
+      loss = λ stood. node-lost Bad k before now (blocks_met (λ o n g. blocks_read X p.chunk p.width none k o n g) offset count (groups (span p.chunk p.width k) bytes)) fault loads cause is agrees stood;
       written = prefix-none (range_of offset count bytes) held;
       steps = omega arith;
     }
@@ -349,20 +369,22 @@ module _ (X : List ℕ → List ℕ) (good : IsHash X) (p : Profile) where
         → cid.codec ≡ Raw
         → ((b : List ℕ) → cid ≡ (leaf_held X b).0 → WithSome declared (λ n. length b ≡ n) → Agrees told (leaf_held X b ∷ [])
         → ReadsPart told (leaf_held X b ∷ []) (range_of offset count b) held held_now faults faults_now touches touches_now r)
-        → IsFilePart X p rows k cid declared bytes → Agrees told (blocks_over X p.chunk p.width k bytes)
-        → ReadsPart told (blocks_read X p.chunk p.width k offset count bytes) (range_of offset count bytes) held held_now faults faults_now touches touches_now r
-    unfolding blocks_read blocks_over part_over
+        → IsFilePart X p rows meta k cid declared bytes → Agrees told (whole_blocks X p.chunk p.width meta k bytes)
+        → ReadsPart told (blocks_read X p.chunk p.width meta k offset count bytes) (range_of offset count bytes) held held_now faults faults_now touches touches_now r
+    unfolding blocks_read whole_blocks whole_part
     part-leaf zero told offset count held held_now faults faults_now touches touches_now r codec read is agrees = read bytes is.cid_is is.size agrees
     part-leaf (suc k) told offset count held held_now faults faults_now touches touches_now r codec read is agrees = absurd (no_node k is codec)
 
   -- one of the parts of a node
-  pub one-part : (rows k : ℕ) (part : Part) (g : List ℕ) → ArePartsOver X p rows k (part ∷ []) (g ∷ []) → IsFilePart X p rows k part.entry.cid (Some part.size) g
+  pub one-part : (rows k : ℕ) (part : Part) (g : List ℕ) → ArePartsOver X p rows k (part ∷ []) (g ∷ []) → IsFilePart X p rows none k part.entry.cid (Some part.size) g
   one-part rows k part g is =
       let same : part ≡ part_over X p.chunk p.width k g = cc in
       record {
         profile = is.profile;
         low = is.low;
-        cid_is = ap (λ (m : Part). m.entry.cid) same;
+        good = none-is_meta;
+        carries = λ lt. refl;
+        cid_is = ap (λ (m : Part). m.entry.cid) (same ∙ sym (whole-none X p.chunk p.width k g));
         size = sym (ap (λ (m : Part). m.size) same ∙ sub-size X good p is.profile k g);
         fits = is.fits.0;
       }
@@ -386,7 +408,7 @@ module _ (X : List ℕ → List ℕ) (good : IsHash X) (p : Profile) where
   -- the loop over the parts of a node
   module _ (rows k i : ℕ) (parts : List Part) (part : Part) (gs : List (List ℕ)) (low : i < length parts) (is : part ≡ get_or parts i part) (over : ArePartsOver X p rows k parts gs) where
     abbrev of : ℕ → ℕ → List ℕ → List Held
-    of o n g = blocks_read X p.chunk p.width k o n g
+    of o n g = blocks_read X p.chunk p.width none k o n g
 
     few_groups : i < length gs
     few_groups = let count : length parts ≡ length gs = ap length over.same ∙ length-map gs (part_over X p.chunk p.width k) in omega arith
@@ -402,7 +424,7 @@ module _ (X : List ℕ → List ℕ) (good : IsHash X) (p : Profile) where
       agrees_one agrees = subst (λ (t : Told). Agrees t (blocks_over X p.chunk p.width k (get_or gs i []))) (sym same) (at-agrees k i before.told gs few_groups agrees)
 
       pub loop-on : (n : ℕ) → ((q : Profile) (j : ℕ) (g : List ℕ) → ArePartsOver X q rows j (part ∷ []) (g ∷ []) → Agrees mid.told (blocks_over X q.chunk q.width j g)
-          → WroteRange mid.told (cond (meets place rest g) (blocks_read X q.chunk q.width j place rest g) []) (range_of place rest g) held_mid held_now touches_mid touches_now n)
+          → WroteRange mid.told (cond (meets place rest g) (blocks_read X q.chunk q.width none j place rest g) []) (range_of place rest g) held_mid held_now touches_mid touches_now n)
           → Agrees before.told (flat_map (blocks_over X p.chunk p.width k) gs)
           → Progress before.told of offset count gs (drop i gs) place rest held held_mid touches touches_mid
           → Progress before.told of offset count gs (drop (i + 1) gs) (place - part.size) (rest - n) held held_now touches touches_now
@@ -416,7 +438,7 @@ module _ (X : List ℕ → List ℕ) (good : IsHash X) (p : Profile) where
 
       pub loop-stops : (fault : RangeFault) → mid.faults ≡ before.faults
           → ((q : Profile) (j : ℕ) (g : List ℕ) → ArePartsOver X q rows j (part ∷ []) (g ∷ []) → Agrees mid.told (blocks_over X q.chunk q.width j g)
-          → Stopped mid.told (cond (meets place rest g) (blocks_read X q.chunk q.width j place rest g) []) (range_of place rest g) held_mid held_now mid.faults now.faults touches_mid touches_now fault)
+          → Stopped mid.told (cond (meets place rest g) (blocks_read X q.chunk q.width none j place rest g) []) (range_of place rest g) held_mid held_now mid.faults now.faults touches_mid touches_now fault)
           → Agrees before.told (flat_map (blocks_over X p.chunk p.width k) gs)
           → Progress before.told of offset count gs (drop i gs) place rest held held_mid touches touches_mid
           → Stopped before.told (blocks_met of offset count gs) (range_of offset count (joined gs)) held held_now before.faults now.faults touches touches_now fault
@@ -429,38 +451,40 @@ module _ (X : List ℕ → List ℕ) (good : IsHash X) (p : Profile) where
 
   -- where the loop has ended nothing is left
   pub loop-ends : (rows k i : ℕ) (parts : List Part) (gs : List (List ℕ)) (told : Told) (offset count place rest : ℕ) (held now : SinkTold) (touches touches_now : ℕ) → length parts ≤ i → ArePartsOver X p rows k parts gs
-      → Progress told (λ o n g. blocks_read X p.chunk p.width k o n g) offset count gs (drop i gs) place rest held now touches touches_now
-      → WroteRange told (blocks_met (λ o n g. blocks_read X p.chunk p.width k o n g) offset count gs) (range_of offset count (joined gs)) held now touches touches_now (count - rest)
+      → Progress told (λ o n g. blocks_read X p.chunk p.width none k o n g) offset count gs (drop i gs) place rest held now touches touches_now
+      → WroteRange told (blocks_met (λ o n g. blocks_read X p.chunk p.width none k o n g) offset count gs) (range_of offset count (joined gs)) held now touches touches_now (count - rest)
   loop-ends rows k i parts gs told offset count place rest held now touches touches_now high over progress =
       let number : length parts ≡ length gs = ap length over.same ∙ length-map gs (part_over X p.chunk p.width k) in
-      ends told (λ o n g. blocks_read X p.chunk p.width k o n g) offset count gs held now now touches touches_now touches_now place rest
-      (subst (λ (l : List (List ℕ)). Progress told (λ o n g. blocks_read X p.chunk p.width k o n g) offset count gs l place rest held now touches touches_now) (drop_all i gs (omega arith)) progress)
+      ends told (λ o n g. blocks_read X p.chunk p.width none k o n g) offset count gs held now now touches touches_now touches_now place rest
+      (subst (λ (l : List (List ℕ)). Progress told (λ o n g. blocks_read X p.chunk p.width none k o n g) offset count gs l place rest held now touches touches_now) (drop_all i gs (omega arith)) progress)
 
   -- a part that the range doesn't meet
   pub unmet : (told : Told) (k offset count : ℕ) (g : List ℕ) (held : SinkTold) (touches : ℕ) → (length g ≤ offset) ⊎ (count ≡ 0)
-      → WroteRange told (cond (meets offset count g) (blocks_read X p.chunk p.width k offset count g) []) (range_of offset count g) held held touches touches 0
+      → WroteRange told (cond (meets offset count g) (blocks_read X p.chunk p.width none k offset count g) []) (range_of offset count g) held held touches touches 0
   unmet told k offset count g held touches h =
-      let none = not_met offset count g h in
-      subst (λ (b : Bool). WroteRange told (cond b (blocks_read X p.chunk p.width k offset count g) []) (range_of offset count g) held held touches touches 0) (sym none.0)
-      (subst (λ (l : List ℕ). WroteRange told [] l held held touches touches 0) (sym none.1) (record { count = refl; blocks = holds-nothing told; written = sym (after-none held); steps = omega arith }))
+      let no = not_met offset count g h in
+      subst (λ (b : Bool). WroteRange told (cond b (blocks_read X p.chunk p.width none k offset count g) []) (range_of offset count g) held held touches touches 0) (sym no.0)
+      (subst (λ (l : List ℕ). WroteRange told [] l held held touches touches 0) (sym no.1) (record { count = refl; blocks = holds-nothing told; written = sym (after-none held); steps = omega arith }))
 
   -- one that it meets
   pub met : (rows k : ℕ) (part : Part) (g : List ℕ) (told : Told) (offset count : ℕ) (held held_now : SinkTold) (faults faults_now touches touches_now : ℕ) (r : Result ℕ RangeFault)
       → offset < part.size → count ≢ 0
-      → ((q : Profile) (j : ℕ) (b : List ℕ) → IsFilePart X q rows j part.entry.cid (Some part.size) b → Agrees told (blocks_over X q.chunk q.width j b)
-      → ReadsPart told (blocks_read X q.chunk q.width j offset count b) (range_of offset count b) held held_now faults faults_now touches touches_now r)
+      → ((q : Profile) (n : Meta) (j : ℕ) (b : List ℕ) → IsFilePart X q rows n j part.entry.cid (Some part.size) b → Agrees told (whole_blocks X q.chunk q.width n j b)
+      → ReadsPart told (blocks_read X q.chunk q.width n j offset count b) (range_of offset count b) held held_now faults faults_now touches touches_now r)
       → ArePartsOver X p rows k (part ∷ []) (g ∷ []) → Agrees told (blocks_over X p.chunk p.width k g)
-      → ReadsPart told (cond (meets offset count g) (blocks_read X p.chunk p.width k offset count g) []) (range_of offset count g) held held_now faults faults_now touches touches_now r
+      → ReadsPart told (cond (meets offset count g) (blocks_read X p.chunk p.width none k offset count g) []) (range_of offset count g) held held_now faults faults_now touches touches_now r
   met rows k part g told offset count held held_now faults faults_now touches touches_now r low some read over agrees =
       let size = size-part rows k part g over in
-      subst (λ (b : Bool). ReadsPart told (cond b (blocks_read X p.chunk p.width k offset count g) []) (range_of offset count g) held held_now faults faults_now touches touches_now r) (sym (is_met offset count g (omega arith) some))
-      (read p k g (one-part rows k part g over) agrees)
+      subst (λ (b : Bool). ReadsPart told (cond b (blocks_read X p.chunk p.width none k offset count g) []) (range_of offset count g) held held_now faults faults_now touches touches_now r) (sym (is_met offset count g (omega arith) some))
+      (read p none k g (one-part rows k part g over) (subst (Agrees told) (sym (whole-none-blocks X p.chunk p.width k g)) agrees))
 
   -- the root of a file
-  pub root-part : (cid : Cid) (bytes : List ℕ) (height : ℕ) → IsFile X p bytes cid height → IsFilePart X p 22 height cid None bytes
-  root-part cid bytes height is = record {
+  pub root-part : (cid : Cid) (meta : Meta) (bytes : List ℕ) (height : ℕ) → IsFile X p meta bytes cid height → IsFilePart X p 22 meta height cid None bytes
+  root-part cid meta bytes height is = record {
     profile = is.profile;
-    low = few_rows p.chunk p.width (length bytes) height (kept p is.profile).two is.few is.rooted.least;
+    low = few_file_rows p.chunk p.width meta (length bytes) height (kept p is.profile).two is.few is.rooted.least;
+    good = is.good;
+    carries = λ lt. absurd (omega (arith, lt));
     cid_is = is.cid_is ∙ ap (λ (e : Entry). e.cid) is.rooted.entry;
     size = tt;
     fits = record { few = is.rooted.least.fits; small = small p.chunk (length bytes) is.few (kept p is.profile).short };
@@ -469,9 +493,10 @@ module _ (X : List ℕ → List ℕ) (good : IsHash X) (p : Profile) where
       small : (c n : ℕ) → n ≤ c * 4194304 → c ≤ 1048576 → n < 2 ^ 63
       small c n a b = omega arith
 
-  pub root-agrees : (cid : Cid) (bytes : List ℕ) (height : ℕ) (told : Told) → IsFile X p bytes cid height → Agrees told (file_plan X p bytes).blocks → Agrees told (blocks_over X p.chunk p.width height bytes)
-  root-agrees cid bytes height None is agrees = agrees
-  root-agrees cid bytes height (Some t) is agrees = (is.rooted.agrees (held_at t)).0 agrees
+  pub root-agrees : (cid : Cid) (meta : Meta) (bytes : List ℕ) (height : ℕ) (told : Told) → IsFile X p meta bytes cid height → Agrees told (file_plan X p meta bytes).blocks
+      → Agrees told (whole_blocks X p.chunk p.width meta height bytes)
+  root-agrees cid meta bytes height None is agrees = agrees
+  root-agrees cid meta bytes height (Some t) is agrees = (is.rooted.agrees (held_at t)).0 agrees
 
 -- the answer of the reading of a range, as three facts
 pub as-value : (told : Told) (l : List Held) (bytes : List ℕ) (held held_now : SinkTold) (faults faults_now touches touches_now : ℕ) (r : Result ℕ RangeFault)

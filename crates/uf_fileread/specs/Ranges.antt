@@ -16,9 +16,11 @@ use Rattle.uf_store.specs.Seen.{Seen}
 use Rattle.uf_store.specs.declared.store.Role.{Role}
 use Rattle.uf_store.specs.declared.store.StoreFault.{StoreFault}
 use Rattle.uf_store.specs.declared.store.StoreFault.TheVariants.{Failed, Damaged, Missing, BadBlock, Clash, Memory}
+use Rattle.uf_tree.specs.declared.meta.Meta.{Meta}
 use Rattle.uf_tree.specs.declared.profile.Profile.{Profile}
-use Rattle.uf_tree.specs.FilePlan.{file_plan, groups, leaf_held, node_held}
+use Rattle.uf_tree.specs.FilePlan.{file_plan, groups, leaf_held, root_held}
 use Rattle.uf_tree.specs.FileSub.{IsRooted, part_over, span}
+use Rattle.uf_tree.specs.Metas.{is_meta, none}
 use Rattle.uf_tree.specs.Profiles.{is_profile, most_bytes}
 
 -- the bytes from a place on, at most so many
@@ -43,23 +45,25 @@ met_among offset count (g ∷ gs) = (if meets offset count g then 1 else 0) + me
 abbrev pub pieces_met : ℕ → ℕ → ℕ → List ℕ → ℕ
 pieces_met c offset count bytes = met_among offset count (groups c bytes)
 
--- the blocks that are needed to read a range of the part of this height over these bytes: its own, and below it those that the
--- range meets, each node before its links and the links from left to right
-unfoldable pub blocks_read : (List ℕ → List ℕ) → ℕ → ℕ → ℕ → ℕ → ℕ → List ℕ → List Held
-blocks_read X c w zero offset count bytes = leaf_held X bytes ∷ []
-blocks_read X c w (suc k) offset count bytes =
-    node_held X (map (part_over X c w k) (groups (span c w k) bytes)) ∷ blocks_met (λ o n g. blocks_read X c w k o n g) offset count (groups (span c w k) bytes)
+-- the blocks that are needed to read a range of the part of this height over these bytes, whose node carries this metadata: its
+-- own, and below it those that the range meets, each node before its links and the links from left to right
+unfoldable pub blocks_read : (List ℕ → List ℕ) → ℕ → ℕ → Meta → ℕ → ℕ → ℕ → List ℕ → List Held
+blocks_read X c w meta zero offset count bytes = leaf_held X bytes ∷ []
+blocks_read X c w meta (suc k) offset count bytes =
+    root_held X meta (map (part_over X c w k) (groups (span c w k) bytes)) ∷ blocks_met (λ o n g. blocks_read X c w none k o n g) offset count (groups (span c w k) bytes)
 
 -- for each piece that a range meets one block in each row is needed, and the root
-abbrev pub FewAreRead : (List ℕ → List ℕ) → ℕ → ℕ → ℕ → ℕ → ℕ → List ℕ → Type 0
-FewAreRead X c w height offset count bytes = length (blocks_read X c w height offset count bytes) ≤ 1 + pieces_met c offset count bytes * height
+abbrev pub FewAreRead : (List ℕ → List ℕ) → ℕ → ℕ → Meta → ℕ → ℕ → ℕ → List ℕ → Type 0
+FewAreRead X c w meta height offset count bytes = length (blocks_read X c w meta height offset count bytes) ≤ 1 + pieces_met c offset count bytes * height
 
--- the CID is that of the plan of these bytes, which a file of this profile may have, and the plan has this height
-pub record IsFile (X : List ℕ → List ℕ) (p : Profile) (bytes : List ℕ) (cid : Cid) (height : ℕ) : Type 0 where
+-- the CID is that of the plan of this metadata and these bytes, which a file of this profile may have, and the plan has this
+-- height
+pub record IsFile (X : List ℕ → List ℕ) (p : Profile) (meta : Meta) (bytes : List ℕ) (cid : Cid) (height : ℕ) : Type 0 where
   pub profile : IsTrue (is_profile p)
+  pub good : IsTrue (is_meta meta)
   pub few : length bytes ≤ most_bytes p
-  pub cid_is : cid ≡ (file_plan X p bytes).entry.cid
-  pub rooted : IsRooted X p bytes (file_plan X p bytes) height
+  pub cid_is : cid ≡ (file_plan X p meta bytes).entry.cid
+  pub rooted : IsRooted X p meta bytes (file_plan X p meta bytes) height
 
 -- the fault is that the first of these blocks that isn't held is missing, or want of memory
 abbrev pub IsFirstLossOf : Told → List Held → StoreFault → Type 0

@@ -1,5 +1,5 @@
 -- A range read part by part.
-use Rattle.std.specs.Prelude.{◌≡◌, ◌≢◌, ℕ, ◌+◌, ◌<◌, ◌≤◌, ◌^◌, List, [], ◌∷◌, length, map, sum, IsTrue, ⊤, IfSome, Some, None}
+use Rattle.std.specs.Prelude.{◌≡◌, ◌≢◌, ℕ, ◌+◌, ◌<◌, ◌≤◌, ◌^◌, List, length, map, sum, IsTrue, ⊤, IfSome, Some, None}
 use Rattle.std.specs.List.{AllByRecursion}
 use Rattle.std.specs.declared.option.Option.{Option}
 use Rattle.std.specs.declared.result.Result.{Result}
@@ -17,31 +17,39 @@ use Rattle.uf_store.specs.declared.store.StoreFault.{StoreFault}
 use Rattle.uf_store.specs.declared.store.StoreFault.TheVariants.{Failed, Damaged, Missing, BadBlock, Clash, Memory}
 use Rattle.uf_tree.specs.declared.nodes.Part.{Part}
 use Rattle.uf_tree.specs.declared.profile.Profile.{Profile}
-use Rattle.uf_tree.specs.FilePlan.{node_over}
-use Rattle.uf_tree.specs.FileSub.{part_over, span}
+use Rattle.uf_tree.specs.declared.meta.Meta.{Meta}
+use Rattle.uf_tree.specs.FilePlan.{root_node}
+use Rattle.uf_tree.specs.FileSub.{part_over, span, whole_part}
+use Rattle.uf_tree.specs.Metas.{is_meta, none}
 use Rattle.uf_tree.specs.Profiles.{is_profile}
 use Rattle.uf_tree.specs.Roles.{WithSome}
 use Rattle.uf_fileread.specs.Parts.{AreParts, parts_block}
+use Rattle.uf_fileread.specs.declared.node_parts.NodeParts.{NodeParts}
 use Rattle.uf_fileread.specs.Ranges.{IsFirstLossOf}
 
+-- metadata that a node may carry where so many nodes may stand: any at the root, where 22 may, and none below it
+abbrev pub CarriesHere : ℕ → Meta → Type 0
+CarriesHere rows meta = rows < 22 → meta ≡ none
+
 -- parts of a node that may stand where so many nodes may, and of which this size is declared
-pub record MayStand (rows : ℕ) (declared : Option ℕ) (parts : List Part) : Type 0 where
+pub record MayStand (rows : ℕ) (declared : Option ℕ) (parts : NodeParts) : Type 0 where
   pub valid : AreParts parts
   pub some : 1 ≤ rows
-  pub size : WithSome declared (λ n. sum (node_over parts).sizes ≡ n)
+  pub carries : CarriesHere rows parts.meta
+  pub size : WithSome declared (λ n. sum (root_node parts.meta parts.parts).sizes ≡ n)
 
 -- the block was found, and it is that of the node over these parts
-pub record HasParts (rows : ℕ) (declared : Option ℕ) (cid : Cid) (before : Seen) (parts : List Part) : Type 0 where
+pub record HasParts (rows : ℕ) (declared : Option ℕ) (cid : Cid) (before : Seen) (parts : NodeParts) : Type 0 where
   pub stands : MayStand rows declared parts
   pub is_held : IfSome before.told (λ t. held_at t cid ≡ Some (parts_block parts))
 
 -- the block was found, and it is that of no such node
 pub record IsNoParts (rows : ℕ) (declared : Option ℕ) (cid : Cid) (before now : Seen) : Type 0 where
   pub is_held : IfSome before.told (λ t. held_at t cid ≡ Some now.lent)
-  pub none : (parts : List Part) → MayStand rows declared parts → now.lent ≢ parts_block parts
+  pub none : (parts : NodeParts) → MayStand rows declared parts → now.lent ≢ parts_block parts
 
 -- a node was loaded, or its block is lost or bad, or the store failed
-abbrev pub LoadsParts : ℕ → Option ℕ → Cid → Seen → Seen → Result (List Part) StoreFault → Type 0
+abbrev pub LoadsParts : ℕ → Option ℕ → Cid → Seen → Seen → Result NodeParts StoreFault → Type 0
 LoadsParts rows declared cid before now (Ok parts) = HasParts rows declared cid before parts
 LoadsParts rows declared cid before now (Err Failed) = ⊤
 LoadsParts rows declared cid before now (Err (Damaged c)) = ⊤
@@ -55,11 +63,14 @@ pub record Fits (p : Profile) (k : ℕ) (bytes : List ℕ) : Type 0 where
   pub few : length bytes ≤ span p.chunk p.width k
   pub small : length bytes < 2 ^ 63
 
--- the CID is that of the part of this height over these bytes, of which the node above declares the number
-pub record IsFilePart (X : List ℕ → List ℕ) (p : Profile) (rows k : ℕ) (cid : Cid) (declared : Option ℕ) (bytes : List ℕ) : Type 0 where
+-- the CID is that of the part of this height over these bytes, of which the node above declares the number; at the root it
+-- is that of the whole file, with its metadata
+pub record IsFilePart (X : List ℕ → List ℕ) (p : Profile) (rows : ℕ) (meta : Meta) (k : ℕ) (cid : Cid) (declared : Option ℕ) (bytes : List ℕ) : Type 0 where
   pub profile : IsTrue (is_profile p)
   pub low : k ≤ rows
-  pub cid_is : cid ≡ (part_over X p.chunk p.width k bytes).entry.cid
+  pub good : IsTrue (is_meta meta)
+  pub carries : CarriesHere rows meta
+  pub cid_is : cid ≡ (whole_part X p.chunk p.width meta k bytes).entry.cid
   pub size : WithSome declared (λ n. length bytes ≡ n)
   pub fits : Fits p k bytes
 

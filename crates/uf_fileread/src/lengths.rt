@@ -6,6 +6,7 @@ ghost use Rattle.uf_edge.specs.Counts.{Stood};
 ghost use Rattle.uf_store.specs.Faults.{Answers};
 ghost use Rattle.uf_store.specs.Keeping.{Agrees};
 ghost use Rattle.uf_store.specs.Lost.{FindsOver};
+ghost use Rattle.uf_tree.specs.declared.meta.Meta.{Meta as TheMeta};
 ghost use Rattle.uf_tree.specs.declared.profile.Profile.{Profile};
 ghost use Rattle.uf_tree.specs.Roots.{IsFileRoot};
 ghost use Rattle.uf_fileread.specs.Bad.{IsBadRoot};
@@ -16,7 +17,7 @@ use std::alloc::Global;
 use std::sync::ledger::Ledger;
 use uf_cid::{Cid, Codec, StrictFault};
 use uf_store::{Role, Steps, Store, StoreFault, need};
-use uf_tree::{Entry, read_file_node};
+use uf_tree::{Entry, Meta, read_file_node};
 
 /// How many bytes the file of this entry has: those of its raw block, or the sum of the sizes that its root node
 /// declares (UnixFS v1, "filesize"). One touch.
@@ -26,7 +27,7 @@ pub fn length<S: Store, L: Ledger>(
     entry: &Entry,
     touches: &mut Steps<L>,
 ) -> Result<u64, StoreFault>
-    ensures value { (p : Profile) (bytes : List ℕ) (root : Held) → IsFileRoot S.X.block32 p bytes entry.now.cid root
+    ensures value { (p : Profile) (m : TheMeta) (bytes : List ℕ) (root : Held) → IsFileRoot S.X.block32 p m bytes entry.now.cid root
         → Agrees (S.seen store.old).told (root ∷ [])
         → Stood (S.seen store.old).faults (S.seen store.new).faults
         → FindsOver (S.seen store.old).told (root ∷ []) (len bytes) result }
@@ -38,18 +39,18 @@ pub fn length<S: Store, L: Ledger>(
     Ok(size.length)
 }
 
-/// The length of the file of this entry, and the number of links of its root block, by one load. One touch.
+/// The length of the file of this entry, the number of links of its root block and its metadata, by one load. One touch.
 pub fn measure<S: Store, L: Ledger>(
     alloc: Global,
     store: &mut S,
     entry: &Entry,
     touches: &mut Steps<L>,
 ) -> Result<FileSize, StoreFault>
-    ensures value { (p : Profile) (bytes : List ℕ) (root : Held)
-        (is : IsFileRoot S.X.block32 p bytes entry.now.cid root) → Agrees (S.seen store.old).told (root ∷ [])
+    ensures value { (p : Profile) (m : TheMeta) (bytes : List ℕ) (root : Held)
+        (is : IsFileRoot S.X.block32 p m bytes entry.now.cid root) → Agrees (S.seen store.old).told (root ∷ [])
         → Stood (S.seen store.old).faults (S.seen store.new).faults
         → FindsOver (S.seen store.old).told (root ∷ []) (record
-        { length = len bytes; links = links_of p is.height bytes }) result }
+        { length = len bytes; links = links_of p is.height bytes; meta = m }) result }
     ensures cause { Answers S.X.block32 IsBadRoot result (S.seen store.old) (S.seen store.new) }
     ensures told { (S.seen store.new).told ≡ (S.seen store.old).told }
     ensures touches { touches.new ≡ touches.old + 1 }
@@ -66,6 +67,7 @@ fn size_of(alloc: Global, cid: &Cid, block: &[u8]) -> Result<FileSize, StoreFaul
         Codec::Raw => Ok(FileSize {
             length: block.len() as u64,
             links: 0,
+            meta: Meta::none(),
         }),
         Codec::DagPb => node_size(alloc, cid, block),
     }
@@ -79,6 +81,7 @@ fn node_size(alloc: Global, cid: &Cid, block: &[u8]) -> Result<FileSize, StoreFa
         Ok(node) => Ok(FileSize {
             length: node.sizes.as_slice().iter().sum(),
             links: node.parts.as_slice().len() as u64,
+            meta: node.meta,
         }),
         Err(StrictFault::NotCanonical) => Err(StoreFault::BadBlock(*cid, Role::FileNode)),
         Err(StrictFault::Memory) => Err(StoreFault::Memory),

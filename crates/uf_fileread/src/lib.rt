@@ -4,6 +4,7 @@
 mod fault;
 mod laws;
 mod lengths;
+mod node_parts;
 mod parts;
 mod ranges;
 mod size;
@@ -11,6 +12,7 @@ mod size;
 pub use fault::RangeFault;
 pub use laws::a_range_needs_few_blocks;
 pub use lengths::{length, measure};
+pub use node_parts::NodeParts;
 pub use parts::read_parts;
 pub use ranges::read_range;
 pub use size::FileSize;

@@ -9,7 +9,9 @@ ghost use Rattle.uf_store.specs.Keeping.{Agrees};
 ghost use Rattle.uf_tree.specs.Codecs.{Reads};
 ghost use Rattle.uf_tree.specs.Cutting.{joined};
 ghost use Rattle.uf_tree.specs.FilePlan.{file_plan, leaf_held, node_over};
-ghost use Rattle.uf_tree.specs.FileSub.{blocks_over, part_over};
+ghost use Rattle.uf_tree.specs.FileSub.{blocks_over, whole_blocks};
+ghost use Rattle.uf_tree.specs.Metas.{none};
+ghost use Rattle.uf_tree.specs.declared.meta.Meta.{Meta as TheMeta};
 ghost use Rattle.uf_tree.specs.declared.profile.Profile.{Profile};
 ghost use Rattle.uf_tree.specs.Roles.{WithSome};
 ghost use Rattle.uf_tree.specs.Profiles.{is_profile};
@@ -17,16 +19,16 @@ ghost use Rattle.std.specs.List.{flat_map};
 ghost use Rattle.uf_fileread.specs.Bad.{IsBadAmong, IsBadBelow, IsBadInFile};
 ghost use Rattle.uf_fileread.specs.Parts.{parts_block};
 ghost use Rattle.uf_fileread.specs.Ranges.{IsFile, SendsAtMost, ShowsRange, WritesOver, blocks_met, blocks_read, meets, range_of};
-ghost use Rattle.uf_fileread.specs.Sending.{ArePartsOver, Fits, IsFilePart, LoadsParts, MayStand, ReadsPart};
+ghost use Rattle.uf_fileread.specs.Sending.{ArePartsOver, CarriesHere, Fits, IsFilePart, LoadsParts, MayStand, ReadsPart};
 
-use crate::RangeFault;
 use crate::parts::read_parts;
+use crate::{NodeParts, RangeFault};
 use std::alloc::Global;
 use std::sync::ledger::Ledger;
 use uf_cid::{Cid, Codec, StrictFault};
 use uf_edge::{Sent, Sink, write_all};
 use uf_store::{Role, Steps, Store, StoreFault, need};
-use uf_tree::{Entry, Part, Parts};
+use uf_tree::{Entry, Meta, Part};
 
 // How many nodes of a file may stand one above the other.
 const MOST_ROWS: u8 = 22;
@@ -59,17 +61,20 @@ pub fn read_range<S: Store, O: Sink, L: Ledger>(
     out: &mut O,
     touches: &mut Steps<L>,
 ) -> Result<u64, RangeFault>
-    ensures value { (p : Profile) (bytes : List ℕ) (height : ℕ) → IsFile S.X.block32 p bytes entry.now.cid height
-        → Agrees (S.seen store.old).told (file_plan S.X.block32 p bytes).blocks
+    ensures value { (p : Profile) (m : TheMeta) (bytes : List ℕ) (height : ℕ)
+        → IsFile S.X.block32 p m bytes entry.now.cid height
+        → Agrees (S.seen store.old).told (file_plan S.X.block32 p m bytes).blocks
         → Stood (S.seen store.old).faults (S.seen store.new).faults
-        → WritesOver (S.seen store.old).told (blocks_read S.X.block32 p.chunk p.width height offset count bytes)
+        → WritesOver (S.seen store.old).told (blocks_read S.X.block32 p.chunk p.width m height offset count bytes)
         (range_of offset count bytes) (O.holds out.old) (O.holds out.new) result }
-    ensures fault { (p : Profile) (bytes : List ℕ) (height : ℕ) → IsFile S.X.block32 p bytes entry.now.cid height
-        → Agrees (S.seen store.old).told (file_plan S.X.block32 p bytes).blocks
+    ensures fault { (p : Profile) (m : TheMeta) (bytes : List ℕ) (height : ℕ)
+        → IsFile S.X.block32 p m bytes entry.now.cid height
+        → Agrees (S.seen store.old).told (file_plan S.X.block32 p m bytes).blocks
         → IfErr result (λ _. AppendsPrefix (range_of offset count bytes) (O.holds out.old) (O.holds out.new)) }
-    ensures touches { (p : Profile) (bytes : List ℕ) (height : ℕ) → IsFile S.X.block32 p bytes entry.now.cid height
-        → Agrees (S.seen store.old).told (file_plan S.X.block32 p bytes).blocks
-        → touches.new ≤ touches.old + length (blocks_read S.X.block32 p.chunk p.width height offset count bytes) }
+    ensures touches { (p : Profile) (m : TheMeta) (bytes : List ℕ) (height : ℕ)
+        → IsFile S.X.block32 p m bytes entry.now.cid height
+        → Agrees (S.seen store.old).told (file_plan S.X.block32 p m bytes).blocks
+        → touches.new ≤ touches.old + length (blocks_read S.X.block32 p.chunk p.width m height offset count bytes) }
     ensures touched { touches.old < touches.new }
     ensures sends { SendsAtMost count (O.holds out.old) (O.holds out.new) result }
     ensures cause { ShowsRange S.X.block32 (IsBadInFile (S.seen store.old).told entry.now.cid) result
@@ -96,9 +101,10 @@ fn send_part<S: Store, O: Sink, L: Ledger>(
 ) -> Result<u64, RangeFault>
     requires few { spot.rows ≤ 22 }
     requires root { spot.declared ≡ None → spot.rows ≡ 22 }
-    ensures reads { (p : Profile) (k : ℕ) (bytes : List ℕ) → IsFilePart S.X.block32 p spot.rows k spot.cid
-        spot.declared bytes → Agrees (S.seen store.old).told (blocks_over S.X.block32 p.chunk p.width k bytes)
-        → ReadsPart (S.seen store.old).told (blocks_read S.X.block32 p.chunk p.width k reach.offset reach.count bytes)
+    ensures reads { (p : Profile) (m : TheMeta) (k : ℕ) (bytes : List ℕ) → IsFilePart S.X.block32 p spot.rows m k
+        spot.cid spot.declared bytes
+        → Agrees (S.seen store.old).told (whole_blocks S.X.block32 p.chunk p.width m k bytes)
+        → ReadsPart (S.seen store.old).told (blocks_read S.X.block32 p.chunk p.width m k reach.offset reach.count bytes)
         (range_of reach.offset reach.count bytes) (O.holds out.old) (O.holds out.new)
         (S.seen store.old).faults (S.seen store.new).faults touches.old touches.new result }
     ensures touched { touches.old < touches.new }
@@ -110,12 +116,12 @@ fn send_part<S: Store, O: Sink, L: Ledger>(
     match spot.cid.codec {
         Codec::Raw => send_leaf(store, &spot.cid, spot.declared, reach, out, touches),
         Codec::DagPb => {
-            let parts = load_parts(alloc, store, &spot, touches)?;
+            let node = load_parts(alloc, store, &spot, touches)?;
             send_parts(
                 alloc,
                 store,
                 spot.rows - 1,
-                parts.as_slice(),
+                node.parts.as_slice(),
                 reach,
                 out,
                 touches,
@@ -138,7 +144,7 @@ fn send_parts<S: Store, O: Sink, L: Ledger>(
     requires few { rows ≤ 22 }
     ensures reads { (p : Profile) (k : ℕ) (gs : List (List ℕ)) → ArePartsOver S.X.block32 p rows k parts.now gs
         → Agrees (S.seen store.old).told (flat_map (blocks_over S.X.block32 p.chunk p.width k) gs)
-        → ReadsPart (S.seen store.old).told (blocks_met (λ o n g. blocks_read S.X.block32 p.chunk p.width k o n g)
+        → ReadsPart (S.seen store.old).told (blocks_met (λ o n g. blocks_read S.X.block32 p.chunk p.width none k o n g)
         reach.offset reach.count gs) (range_of reach.offset reach.count (joined gs)) (O.holds out.old) (O.holds out.new)
         (S.seen store.old).faults (S.seen store.new).faults touches.old touches.new result }
     ensures touched { touches.old ≤ touches.new }
@@ -176,7 +182,7 @@ fn send_met<S: Store, O: Sink, L: Ledger>(
     ensures reads { (p : Profile) (k : ℕ) (g : List ℕ) → ArePartsOver S.X.block32 p rows k (part.now ∷ []) (g ∷ [])
         → Agrees (S.seen store.old).told (blocks_over S.X.block32 p.chunk p.width k g)
         → ReadsPart (S.seen store.old).told (if meets reach.offset reach.count g then blocks_read S.X.block32 p.chunk
-        p.width k reach.offset reach.count g else []) (range_of reach.offset reach.count g) (O.holds out.old)
+        p.width none k reach.offset reach.count g else []) (range_of reach.offset reach.count g) (O.holds out.old)
         (O.holds out.new)
         (S.seen store.old).faults (S.seen store.new).faults touches.old touches.new result }
     ensures touched { touches.old ≤ touches.new }
@@ -202,7 +208,7 @@ fn load_parts<S: Store, L: Ledger>(
     store: &mut S,
     spot: &Spot,
     touches: &mut Steps<L>,
-) -> Result<Parts, StoreFault>
+) -> Result<NodeParts, StoreFault>
     requires few { spot.now.rows ≤ 22 }
     requires root { spot.now.declared ≡ None → spot.now.rows ≡ 22 }
     ensures loads { LoadsParts spot.now.rows spot.now.declared spot.now.cid (S.seen store.old) (S.seen store.new)
@@ -215,7 +221,7 @@ fn load_parts<S: Store, L: Ledger>(
 {
     need(store, &spot.cid, touches)?;
     match read_node(alloc, store.block(), spot.rows, spot.declared) {
-        Ok(parts) => Ok(parts),
+        Ok(node) => Ok(node),
         Err(StrictFault::NotCanonical) => Err(StoreFault::BadBlock(spot.cid, Role::FileNode)),
         Err(StrictFault::Memory) => Err(StoreFault::Memory),
     }
@@ -227,15 +233,31 @@ fn read_node(
     bytes: &[u8],
     rows: u8,
     declared: Option<u64>,
-) -> Result<Parts, StrictFault>
+) -> Result<NodeParts, StrictFault>
     ensures { Reads (MayStand rows declared) parts_block bytes.now result }
 {
-    let parts = read_parts(alloc, bytes)?;
-    if rows > 0 && is_declared(declared, size_over(parts.as_slice())) {
-        Ok(parts)
+    let node = read_parts(alloc, bytes)?;
+    if rows == 0 {
+        return Err(StrictFault::NotCanonical);
+    }
+    if !may_carry(rows, &node.meta) {
+        return Err(StrictFault::NotCanonical);
+    }
+    if is_declared(declared, size_over(node.parts.as_slice())) {
+        Ok(node)
     } else {
         Err(StrictFault::NotCanonical)
     }
+}
+
+// Whether a node may carry this metadata where so many nodes may stand: any at the root, where most may.
+fn may_carry(rows: u8, meta: &Meta) -> bool
+    ensures { IsTrue result ↔ CarriesHere rows meta.now }
+{
+    if rows < MOST_ROWS {
+        return *meta == Meta::none();
+    }
+    true
 }
 
 // How many bytes are below these parts.

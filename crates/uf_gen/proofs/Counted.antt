@@ -1,5 +1,5 @@
 -- The files that are left, counted.
-use Rattle.std.proofs.Common.{◌≡◌, ℕ, zero, suc, ◌+◌, ◌%◌, ◌≤◌, List, [], ◌∷◌, ◌++◌, refl, ap, sym, ◌∙◌, arith, Bool, true, false, length, map, ◌==◌, if◌then◌else◌}
+use Rattle.std.proofs.Common.{◌≡◌, ℕ, suc, ◌+◌, ◌%◌, List, [], ◌∷◌, ◌++◌, ap, ◌∙◌, arith, Bool, true, false, length, ◌==◌, if◌then◌else◌}
 use Rattle.std.specs.Prelude.{◌≢◌, max}
 use Rattle.std.specs.List.{sum_by}
 use Rattle.std.proofs.lemmas.Bool.Decides.{nat_tests}
@@ -8,7 +8,8 @@ use Rattle.std.proofs.lemmas.List.Sums.{sum_by-append}
 use Rattle.uf_bytes.specs.Laying.{laid}
 use Rattle.uf_bytes.proofs.Laid.{length-laid}
 use Rattle.std.proofs.lemmas.List.{length-append}
-use Rattle.uf_tree.specs.Tree.{File, Tree}
+use Rattle.uf_tree.specs.Metas.{none}
+use Rattle.uf_tree.specs.Tree.{File}
 use Rattle.uf_gen.specs.Grown.{file_size, left_file, left_files, left_size}
 use Rattle.uf_gen.specs.Rules.{file_name, first_bytes, last_bytes, late_offset, late_piece, mixed}
 use Rattle.uf_gen.proofs.Places.{Row}
@@ -30,7 +31,7 @@ module _ (seed i : ℕ) where
   size-more = ap (sum_by size) (more-left seed i) ∙ sum_by-append size (left_files seed i) (left_file seed i)
 
   abbrev file_by : Bool → List Row
-  file_by b = if b then [] else ((file_name i, File (last_bytes seed i)) ∷ [])
+  file_by b = if b then [] else ((file_name i, File none (last_bytes seed i)) ∷ [])
 
   is-gone : i % 3 ≡ 0 → (i % 3 == 0) ≡ true
   is-gone gone = grind (arith, nat_tests)

@@ -12,15 +12,17 @@ use Rattle.std.proofs.lemmas.Nat.{mod_below}
 use Rattle.uf_bytes.specs.Laying.{laid}
 use Rattle.uf_bytes.proofs.Laid.{all-laid, length-laid}
 use Rattle.uf_plain.proofs.Plans.{first-none, named, plans, refusal-is}
+use Rattle.uf_tree.specs.Metas.{none}
 use Rattle.uf_tree.specs.FilePlan.{file_plan}
 use Rattle.uf_tree.specs.Names.{is_name, names_cmp}
 use Rattle.uf_tree.specs.Profiles.{is_profile, most_bytes}
-use Rattle.uf_tree.specs.Tree.{File, are_trees, entries, fold, is_tree, pairs}
+use Rattle.uf_tree.specs.Tree.{File, are_trees, entries, fold, is_tree, own_meta, pairs}
 use Rattle.uf_tree.specs.TreePlan.{dir_refusal, first_refusal, named_entries, or_else, planned, refusal, too_long}
 use Rattle.uf_tree.specs.TreePlan.{FileTooLong as IsTooLong}
+use Rattle.uf_tree.specs.declared.meta.Meta.{Meta}
 use Rattle.uf_tree.specs.declared.profile.Profile.{Profile}
 use Rattle.uf_tree.proofs.Told.{kept}
-use Rattle.uf_tree.proofs.TreeLaws.{pairs-entries}
+use Rattle.uf_tree.proofs.TreeLaws.{meta-entries, pairs-entries}
 use Rattle.uf_gen.specs.Fresh.{left_entries, left_entry, left_tree}
 use Rattle.uf_gen.specs.Grown.{left_file, left_files}
 use Rattle.uf_gen.specs.Rules.{file_name, first_bytes, last_bytes, late_offset, late_piece, mixed}
@@ -85,13 +87,13 @@ sorted-left seed a (suc n) most = by (a % 3 == 0) (sorted-left seed (a + 1) n (o
     rest = rows (left_file seed) (a + 1) n
 
     by : (b : Bool) → is_sorted names_cmp rest ≡ true
-        → is_sorted names_cmp ((if b then [] else ((file_name a, File (last_bytes seed a)) ∷ [])) ++ rest) ≡ true
+        → is_sorted names_cmp ((if b then [] else ((file_name a, File none (last_bytes seed a)) ∷ [])) ++ rest) ≡ true
     by true h = h
     by false h =
         true_both (below_all names_cmp (file_name a) rest) (is_sorted names_cmp rest)
         (behind-below (file_name a) rest (rows-behind (left_file seed) (named-left seed) (a + 1) n a (omega arith) (omega arith))) h
 
-trees-all : (l : List Row) → AllByRecursion (λ (e : Row). (is_name e.0 ≡ true) × (is_tree e.1 ≡ true)) l → are_trees (entries l) ≡ true
+trees-all : (l : List Row) → AllByRecursion (λ (e : Row). (is_name e.0 ≡ true) × (is_tree e.1 ≡ true)) l → are_trees (entries none l) ≡ true
 unfolding is_tree
 trees-all [] h = refl
 trees-all (e ∷ l) h = true_both _ _ (true_both _ _ h.0.0 h.0.1) (trees-all l h.1)
@@ -100,13 +102,13 @@ pub tree-left : (seed n : ℕ) → n ≤ 10 ^ 8 → is_tree (left_tree seed n) �
 unfolding is_tree is_byte
 tree-left seed n most =
     true_both _ _
-    (ap (is_sorted names_cmp) (pairs-entries (left_files seed n)) ∙ sorted-left seed 0 n (omega arith))
+    (ap (is_sorted names_cmp) (pairs-entries none (left_files seed n)) ∙ sorted-left seed 0 n (omega arith))
     (trees-all (left_files seed n) (all-rows (λ (e : Row). (is_name e.0 ≡ true) × (is_tree e.1 ≡ true)) (left_file seed) good 0 n))
   where
     good : (i : ℕ) → AllByRecursion (λ (e : Row). (is_name e.0 ≡ true) × (is_tree e.1 ≡ true)) (left_file seed i)
     good i = by (i % 3 == 0)
       where
-        by : (b : Bool) → AllByRecursion (λ (e : Row). (is_name e.0 ≡ true) × (is_tree e.1 ≡ true)) (if b then [] else ((file_name i, File (last_bytes seed i)) ∷ []))
+        by : (b : Bool) → AllByRecursion (λ (e : Row). (is_name e.0 ≡ true) × (is_tree e.1 ≡ true)) (if b then [] else ((file_name i, File none (last_bytes seed i)) ∷ []))
         by true = tt
         by false = ((name-good i, bytes-last seed i), tt)
 
@@ -120,8 +122,8 @@ module _ (X : List ℕ → List ℕ) (N : List ℕ → ℕ) (p : Profile) (seed 
   unfolding planned fold
   entry-left i = by (i % 3 == 0)
     where
-      by : (b : Bool) → named X N p (if b then [] else ((file_name i, File (last_bytes seed i)) ∷ []))
-          ≡ (if b then [] else ((file_name i, (file_plan X p (last_bytes seed i)).entry) ∷ []))
+      by : (b : Bool) → named X N p (if b then [] else ((file_name i, File none (last_bytes seed i)) ∷ []))
+          ≡ (if b then [] else ((file_name i, (file_plan X p none (last_bytes seed i)).entry) ∷ []))
       by true = refl
       by false = refl
 
@@ -132,27 +134,28 @@ module _ (X : List ℕ → List ℕ) (N : List ℕ → ℕ) (p : Profile) (seed 
       ∙ ap (λ l. l ++ named X N p (rows (left_file seed) (a + 1) n)) (entry-left a)
       ∙ ap (λ l. left_entry X p seed a ++ l) (entries-left (a + 1) n)
 
-  pub named-entries : (n : ℕ) → named_entries X N p (entries (left_files seed n)) ≡ left_entries X p seed n
-  named-entries n = ap (named X N p) (pairs-entries (left_files seed n)) ∙ entries-left 0 n
+  pub named-entries : (n : ℕ) → named_entries X N p (entries none (left_files seed n)) ≡ left_entries X p seed n
+  named-entries n = ap (named X N p) (pairs-entries none (left_files seed n)) ∙ entries-left 0 n
 
   fits : IsTrue (is_profile p) → (i : ℕ) → too_long p (last_bytes seed i) ≡ None
   fits ok i = ap (λ b. if b then Some IsTooLong else None) (not-less (most_bytes p) (length (last_bytes seed i)) (omega (arith, few-last seed i, (kept p ok).some)))
 
-  pub refusal-left : IsTrue (is_profile p) → (n : ℕ) → refusal X N p (left_tree seed n) ≡ dir_refusal X N p (left_entries X p seed n)
+  pub refusal-left : IsTrue (is_profile p) → (n : ℕ) → refusal X N p (left_tree seed n) ≡ dir_refusal X N p none (left_entries X p seed n)
   unfolding planned fold
   refusal-left ok n =
-      refusal-is X N p (entries (left_files seed n))
-      ∙ ap (λ o. or_else o (dir_refusal X N p (named X N p (pairs (entries (left_files seed n)))))) none
-      ∙ ap (dir_refusal X N p) (named-entries n)
+      refusal-is X N p (entries none (left_files seed n))
+      ∙ ap (λ o. or_else o (dir_refusal X N p (own_meta (entries none (left_files seed n))) (named X N p (pairs (entries none (left_files seed n)))))) unrefused
+      ∙ ap (λ (m : Meta). dir_refusal X N p m (named X N p (pairs (entries none (left_files seed n))))) (meta-entries none (left_files seed n))
+      ∙ ap (dir_refusal X N p none) (named-entries n)
     where
-      none : first_refusal (plans X N p (pairs (entries (left_files seed n)))) ≡ None
-      none = ap (λ l. first_refusal (plans X N p l)) (pairs-entries (left_files seed n))
+      unrefused : first_refusal (plans X N p (pairs (entries none (left_files seed n)))) ≡ None
+      unrefused = ap (λ l. first_refusal (plans X N p l)) (pairs-entries none (left_files seed n))
           ∙ first-none X N p (left_files seed n) (all-rows (λ (e : Row). refusal X N p e.1 ≡ None) (left_file seed) each 0 n)
         where
           each : (i : ℕ) → AllByRecursion (λ (e : Row). refusal X N p e.1 ≡ None) (left_file seed i)
           each i = by (i % 3 == 0)
             where
-              by : (b : Bool) → AllByRecursion (λ (e : Row). refusal X N p e.1 ≡ None) (if b then [] else ((file_name i, File (last_bytes seed i)) ∷ []))
+              by : (b : Bool) → AllByRecursion (λ (e : Row). refusal X N p e.1 ≡ None) (if b then [] else ((file_name i, File none (last_bytes seed i)) ∷ []))
               by true = tt
               by false = (fits ok i, tt)
 

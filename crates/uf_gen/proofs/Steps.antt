@@ -11,15 +11,17 @@ use Rattle.uf_plain.specs.declared.file.WriteHow.{WriteHow}
 use Rattle.uf_plain.specs.declared.rule.Refused.{Refused}
 use Rattle.uf_plain.specs.declared.rule.Rule.{Rule}
 use Rattle.uf_plain.specs.Edits.{and_then, as_removable, child, removed, with_child, without_child}
-use Rattle.uf_plain.specs.Files.{new_bytes}
+use Rattle.uf_plain.specs.Files.{kept_meta, new_bytes}
 use Rattle.uf_plain.specs.Moves.{then_go, told_of}
 use Rattle.uf_plain.specs.Rules.{allowed, unless}
+use Rattle.uf_tree.specs.Metas.{none}
 use Rattle.uf_tree.specs.Changes.{with_name, without}
 use Rattle.uf_tree.specs.Names.{names_cmp}
+use Rattle.uf_tree.specs.declared.meta.Meta.{Meta}
 use Rattle.uf_tree.specs.declared.profile.Profile.{Profile}
-use Rattle.uf_tree.specs.Tree.{File, Dir, Entries, entries}
+use Rattle.uf_tree.specs.Tree.{File, Dir, Entries, entries, pairs}
 use Rattle.uf_tree.specs.TreePlan.{Refusal, refusal}
-use Rattle.uf_tree.proofs.TreeLaws.{pairs-entries}
+use Rattle.uf_tree.proofs.TreeLaws.{meta-entries, pairs-entries}
 use Rattle.uf_gen.specs.Rules.{file_name, first_bytes, last_bytes, late_offset, late_piece}
 use Rattle.uf_gen.specs.Grown.{after_change, after_make, after_write, changed_files, file_path, first_file, grown, left_file, left_files, made_files, making, writing_at}
 use Rattle.uf_gen.proofs.Order.{names-less}
@@ -94,19 +96,20 @@ laid-new (z ∷ x) = ap (λ l. (z ∷ x) ++ l) (drop-nil (0 + length (z ∷ x)))
 pub named-left : (seed i : ℕ) → AreNamed i (left_file seed i)
 named-left seed i = by (i % 3 == 0)
   where
-    by : (b : Bool) → AreNamed i (if b then [] else ((file_name i, File (last_bytes seed i)) ∷ []))
+    by : (b : Bool) → AreNamed i (if b then [] else ((file_name i, File none (last_bytes seed i)) ∷ []))
     by true = tt
     by false = (refl, tt)
 
 module _ (X : List ℕ → List ℕ) (N : List ℕ → ℕ) (p : Profile) (seed : ℕ) where
   write-row : (how : WriteHow) (piece : List ℕ) (i : ℕ) (es fs : Entries) (b : List ℕ)
-      → new_bytes (Write how) piece 1 (child (file_name i) es) ≡ Ok b → after_write X N p seed how piece i es ≡ Ok fs
-      → with_child (file_name i) (File b) es ≡ fs
-  write-row how piece i es fs b e h =
-      let there = with_child (file_name i) (File b) es in
+      → new_bytes (Write how) piece 1 (child (file_name i) es) ≡ Ok b → kept_meta (child (file_name i) es) ≡ none → after_write X N p seed how piece i es ≡ Ok fs
+      → with_child (file_name i) (File none b) es ≡ fs
+  write-row how piece i es fs b e bare h =
+      let there = with_child (file_name i) (File none b) es in
       told-unless (file_path i) there fs (refusal X N p (Dir there))
-      (ap (λ (r : Result (List ℕ) Refused). told_of (file_path i) (allowed X N p
-      (and_then r (λ bytes. Ok (with_child (file_name i) (File bytes) es))))) (sym e) ∙ h)
+      (ap (λ (m : Meta). told_of (file_path i) (allowed X N p (Ok (with_child (file_name i) (File m b) es)))) (sym bare)
+      ∙ ap (λ (r : Result (List ℕ) Refused). told_of (file_path i) (allowed X N p
+      (and_then r (λ bytes. Ok (with_child (file_name i) (File (kept_meta (child (file_name i) es)) bytes) es))))) (sym e) ∙ h)
 
   -- what follows a step that isn't refused wasn't refused either
   then-parts : (step : Result Entries Rule) (go : Entries → Result Entries Rule) (fs : Entries) → then_go step go ≡ Ok fs
@@ -117,19 +120,20 @@ module _ (X : List ℕ → List ℕ) (N : List ℕ → ℕ) (p : Profile) (seed 
   named-first : (i : ℕ) → AreNamed i (first_file seed i)
   named-first i = (refl, tt)
 
-  after-made : (i : ℕ) (fs : Entries) → i < 10 ^ 8 → after_make X N p seed i (entries (rows (first_file seed) 0 i)) ≡ Ok fs
-      → fs ≡ entries (rows (first_file seed) 0 (suc i))
+  after-made : (i : ℕ) (fs : Entries) → i < 10 ^ 8 → after_make X N p seed i (entries none (rows (first_file seed) 0 i)) ≡ Ok fs
+      → fs ≡ entries none (rows (first_file seed) 0 (suc i))
   after-made i fs lt h =
       let l = rows (first_file seed) 0 i in
       let before = rows-before (first_file seed) named-first 0 i i (omega arith) lt in
-      let none : child (file_name i) (entries l) ≡ None = ap (find names_cmp (file_name i)) (pairs-entries l) ∙ find-end (file_name i) l before in
-      sym (write-row making (first_bytes seed i) i (entries l) fs (laid [] 0 (first_bytes seed i)) (ap (new_bytes (Write making) (first_bytes seed i) 1) none) h)
-      ∙ ap (λ b. with_child (file_name i) (File b) (entries l)) (laid-new (first_bytes seed i))
-      ∙ ap (λ l. entries (with_name (file_name i) (File (first_bytes seed i)) l)) (pairs-entries l)
-      ∙ ap entries (put-end (file_name i) (File (first_bytes seed i)) l before)
-      ∙ ap entries (sym (rows-more (first_file seed) 0 i ∙ ap (λ k. l ++ first_file seed k) {x = 0 + i} {y = i} (omega arith)))
+      let absent : child (file_name i) (entries none l) ≡ None = ap (find names_cmp (file_name i)) (pairs-entries none l) ∙ find-end (file_name i) l before in
+      sym (write-row making (first_bytes seed i) i (entries none l) fs (laid [] 0 (first_bytes seed i)) (ap (new_bytes (Write making) (first_bytes seed i) 1) absent) (ap kept_meta absent) h)
+      ∙ ap (λ b. with_child (file_name i) (File none b) (entries none l)) (laid-new (first_bytes seed i))
+      ∙ ap (λ (m : Meta). entries m (with_name (file_name i) (File none (first_bytes seed i)) (pairs (entries none l)))) (meta-entries none l)
+      ∙ ap (λ l. entries none (with_name (file_name i) (File none (first_bytes seed i)) l)) (pairs-entries none l)
+      ∙ ap (entries none) (put-end (file_name i) (File none (first_bytes seed i)) l before)
+      ∙ ap (entries none) (sym (rows-more (first_file seed) 0 i ∙ ap (λ k. l ++ first_file seed k) {x = 0 + i} {y = i} (omega arith)))
 
-  made : (i : ℕ) (es : Entries) → i ≤ 10 ^ 8 → made_files X N p seed i ≡ Ok es → es ≡ entries (rows (first_file seed) 0 i)
+  made : (i : ℕ) (es : Entries) → i ≤ 10 ^ 8 → made_files X N p seed i ≡ Ok es → es ≡ entries none (rows (first_file seed) 0 i)
   unfolding made_files
   made zero es le e = cc
   made (suc i) es le e =
@@ -141,11 +145,11 @@ module _ (X : List ℕ → List ℕ) (N : List ℕ → ℕ) (p : Profile) (seed 
   half n i = left_files seed i ++ rows (first_file seed) i (n - i)
 
   -- a step of a file that is there, by what is done to it
-  after-changed : (n i : ℕ) (fs : Entries) → i < n → n ≤ 10 ^ 8 → after_change X N p seed i (entries (half n i)) ≡ Ok fs
-      → fs ≡ entries (half n (suc i))
+  after-changed : (n i : ℕ) (fs : Entries) → i < n → n ≤ 10 ^ 8 → after_change X N p seed i (entries none (half n i)) ≡ Ok fs
+      → fs ≡ entries none (half n (suc i))
   after-changed n i fs lt le h =
-      by (i % 3 == 0) (i % 3 == 1) (ap (λ l. after_change X N p seed i (entries l)) (sym now) ∙ h)
-      ∙ ap entries (sym (append_assoc left (left_file seed i) rest)
+      by (i % 3 == 0) (i % 3 == 1) (ap (λ l. after_change X N p seed i (entries none l)) (sym now) ∙ h)
+      ∙ ap (entries none) (sym (append_assoc left (left_file seed i) rest)
       ∙ ap (λ l. l ++ rest) (ap (λ k. left ++ left_file seed k) {x = i} {y = 0 + i} (omega arith) ∙ sym (rows-more (left_file seed) 0 i))
       ∙ ap (λ k. left_files seed (suc i) ++ rows (first_file seed) k (n - suc i)) {x = i + 1} {y = suc i} (omega arith))
     where
@@ -159,7 +163,7 @@ module _ (X : List ℕ → List ℕ) (N : List ℕ → ℕ) (p : Profile) (seed 
       name = file_name i
 
       row : Row
-      row = (name, File (first_bytes seed i))
+      row = (name, File none (first_bytes seed i))
 
       all : List Row
       all = left ++ row ∷ rest
@@ -176,36 +180,38 @@ module _ (X : List ℕ → List ℕ) (N : List ℕ → ℕ) (p : Profile) (seed 
       behind : AreBehind name rest
       behind = rows-behind (first_file seed) named-first (i + 1) (n - suc i) i (omega arith) (omega arith)
 
-      there : child name (entries all) ≡ Some (File (first_bytes seed i))
-      there = ap (find names_cmp name) (pairs-entries all) ∙ find-there name (File (first_bytes seed i)) left rest before
+      there : child name (entries none all) ≡ Some (File none (first_bytes seed i))
+      there = ap (find names_cmp name) (pairs-entries none all) ∙ find-there name (File none (first_bytes seed i)) left rest before
 
       left_by : Bool → Bool → List Row
-      left_by a b = if a then [] else ((name, File (if b then changed_bytes else first_bytes seed i)) ∷ [])
+      left_by a b = if a then [] else ((name, File none (if b then changed_bytes else first_bytes seed i)) ∷ [])
 
-      by : (a b : Bool) → (if a then told_of (file_path i) (removed false (file_path i) (entries all))
-          else (if b then after_write X N p seed (writing_at (late_offset seed i)) late_piece i (entries all) else Ok (entries all))) ≡ Ok fs
-          → fs ≡ entries (left ++ (left_by a b ++ rest))
+      by : (a b : Bool) → (if a then told_of (file_path i) (removed false (file_path i) (entries none all))
+          else (if b then after_write X N p seed (writing_at (late_offset seed i)) late_piece i (entries none all) else Ok (entries none all))) ≡ Ok fs
+          → fs ≡ entries none (left ++ (left_by a b ++ rest))
       by true b h =
-          ok-same (without_child name (entries all)) fs (told_of (file_path i) (removed false (file_path i) (entries all)))
-          (ap (λ o. told_of (file_path i) (and_then (as_removable false 1 o) (λ may. Ok (without_child name (entries all))))) there) h
-          ∙ ap (λ l. entries (without name l)) (pairs-entries all)
-          ∙ ap entries (without-there name (File (first_bytes seed i)) left rest before behind)
+          ok-same (without_child name (entries none all)) fs (told_of (file_path i) (removed false (file_path i) (entries none all)))
+          (ap (λ o. told_of (file_path i) (and_then (as_removable false 1 o) (λ may. Ok (without_child name (entries none all))))) there) h
+          ∙ ap (λ (m : Meta). entries m (without name (pairs (entries none all)))) (meta-entries none all)
+          ∙ ap (λ l. entries none (without name l)) (pairs-entries none all)
+          ∙ ap (entries none) (without-there name (File none (first_bytes seed i)) left rest before behind)
       by false true h =
-          sym (write-row (writing_at (late_offset seed i)) late_piece i (entries all) fs changed_bytes
-          (ap (new_bytes (Write (writing_at (late_offset seed i))) late_piece 1) there) h)
-          ∙ ap (λ l. entries (with_name name (File changed_bytes) l)) (pairs-entries all)
-          ∙ ap entries (put-there name (File (first_bytes seed i)) (File changed_bytes) left rest before)
+          sym (write-row (writing_at (late_offset seed i)) late_piece i (entries none all) fs changed_bytes
+          (ap (new_bytes (Write (writing_at (late_offset seed i))) late_piece 1) there) (ap kept_meta there) h)
+          ∙ ap (λ (m : Meta). entries m (with_name name (File none changed_bytes) (pairs (entries none all)))) (meta-entries none all)
+          ∙ ap (λ l. entries none (with_name name (File none changed_bytes) l)) (pairs-entries none all)
+          ∙ ap (entries none) (put-there name (File none (first_bytes seed i)) (File none changed_bytes) left rest before)
       by false false h = cc
 
-  changed : (n i : ℕ) (es : Entries) → i ≤ n → n ≤ 10 ^ 8 → changed_files X N p seed n i ≡ Ok es → es ≡ entries (half n i)
+  changed : (n i : ℕ) (es : Entries) → i ≤ n → n ≤ 10 ^ 8 → changed_files X N p seed n i ≡ Ok es → es ≡ entries none (half n i)
   unfolding changed_files
-  changed n zero es le most e = made n es most e ∙ ap (λ m. entries (rows (first_file seed) 0 m)) {x = n} {y = n - 0} (omega arith)
+  changed n zero es le most e = made n es most e ∙ ap (λ m. entries none (rows (first_file seed) 0 m)) {x = n} {y = n - 0} (omega arith)
   changed n (suc i) es le most e =
       let parts = then-parts (changed_files X N p seed n i) (after_change X N p seed i) es e in
       after-changed n i es (omega arith) most (ap (after_change X N p seed i) (sym (changed n i parts.0 (omega arith) most parts.1)) ∙ parts.2)
 
-  pub grown-left : (n : ℕ) (es : Entries) → n ≤ 10 ^ 8 → grown X N p seed n ≡ Ok es → es ≡ entries (left_files seed n)
+  pub grown-left : (n : ℕ) (es : Entries) → n ≤ 10 ^ 8 → grown X N p seed n ≡ Ok es → es ≡ entries none (left_files seed n)
   grown-left n es le e =
       changed n n es (omega arith) le e
-      ∙ ap (λ m. entries (left_files seed n ++ rows (first_file seed) n m)) {x = n - n} {y = 0} (omega arith)
-      ∙ ap entries (append-nil (left_files seed n))
+      ∙ ap (λ m. entries none (left_files seed n ++ rows (first_file seed) n m)) {x = n - n} {y = 0} (omega arith)
+      ∙ ap (entries none) (append-nil (left_files seed n))

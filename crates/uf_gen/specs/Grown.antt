@@ -9,6 +9,7 @@ use Rattle.uf_plain.specs.Edits.{removed}
 use Rattle.uf_plain.specs.Files.{written}
 use Rattle.uf_plain.specs.Moves.{then_go, told_of}
 use Rattle.uf_plain.specs.Rules.{allowed}
+use Rattle.uf_tree.specs.Metas.{none}
 use Rattle.uf_tree.specs.declared.profile.Profile.{Profile}
 use Rattle.uf_tree.specs.Tree.{Tree, File, Dir, Entries, Nothing}
 use Rattle.uf_gen.specs.Rules.{file_name, first_bytes, last_bytes, late_offset, late_piece}
@@ -29,11 +30,11 @@ file_path i = file_name i ∷ []
 
 -- a file as it is made
 abbrev pub first_file : (seed i : ℕ) → List (List ℕ × Tree)
-first_file seed i = (file_name i, File (first_bytes seed i)) ∷ []
+first_file seed i = (file_name i, File none (first_bytes seed i)) ∷ []
 
 -- a file in the end: each third is gone
 abbrev pub left_file : (seed i : ℕ) → List (List ℕ × Tree)
-left_file seed i = if i % 3 == 0 then [] else ((file_name i, File (last_bytes seed i)) ∷ [])
+left_file seed i = if i % 3 == 0 then [] else ((file_name i, File none (last_bytes seed i)) ∷ [])
 
 -- the files that are left of the first n
 abbrev pub left_files : (seed n : ℕ) → List (List ℕ × Tree)
@@ -41,7 +42,7 @@ left_files seed n = flat_map (left_file seed) (range_with_len 0 n)
 
 -- how many bytes a file has
 abbrev pub file_size : Tree → ℕ
-file_size (File bytes) = length bytes
+file_size (File m bytes) = length bytes
 file_size (Dir es) = 0
 
 -- how many bytes the files have that are left of the first n
@@ -70,7 +71,7 @@ module _ (X : List ℕ → List ℕ) (N : List ℕ → ℕ) (p : Profile) (seed 
 
   -- the tree once so many files are made
   unfoldable pub made_files : ℕ → Result Entries Rule
-  made_files zero = Ok Nothing
+  made_files zero = Ok (Nothing none)
   made_files (suc i) = then_go (made_files i) (after_make i)
 
   -- the tree once n files are made and so many are changed

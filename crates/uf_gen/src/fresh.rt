@@ -6,6 +6,7 @@ ghost use Rattle.uf_store.specs.Calls.{OnlySaves};
 ghost use Rattle.uf_store.specs.Clashes.{IsSaving};
 ghost use Rattle.uf_store.specs.Faults.{NoneIsBad, fault_in};
 ghost use Rattle.uf_tree.specs.FilePlan.{file_plan};
+ghost use Rattle.uf_tree.specs.Metas.{none};
 ghost use Rattle.uf_tree.specs.Profiles.{is_profile};
 ghost use Rattle.uf_tree.specs.TreePlan.{entry as entry_of, refusal as refusal_of};
 ghost use Rattle.uf_gen.specs.Fresh.{left_entry, left_tree};
@@ -18,7 +19,7 @@ use uf_build::{BuildFault, Builder};
 use uf_murmur::NameHash;
 use uf_shard::DirFault;
 use uf_store::{Steps, Store, StoreFault};
-use uf_tree::{Entry, Pair, Pairs, Profile};
+use uf_tree::{Entry, Meta, Pair, Pairs, Profile};
 
 /// Builds the files that are left of the first `n`, as they are in the end, and the directory of them: its entry, or why it
 /// has none. Nothing is read of what the generator's commands made.
@@ -40,7 +41,7 @@ pub fn fresh_root<S: Store, N: NameHash, L: Ledger>(
     for i in 0..n {
         add_left(alloc, p, seed, i, &mut pairs, store, touches)?;
     }
-    uf_dir::build::<S, N, L>(alloc, store, p, &pairs, touches)
+    uf_dir::build::<S, N, L>(alloc, store, p, &pairs, &Meta::none(), touches)
 }
 
 // Builds a file as it is in the end, where it is left, and puts its entry behind those of the files in front of it.
@@ -78,7 +79,7 @@ fn file_entry<S: Store, L: Ledger>(
 ) -> Result<Entry, StoreFault>
     requires profile { IsTrue (is_profile p.now) }
     requires few { length bytes.now ≤ 4194304 }
-    ensures entry { IfOk result (λ e. e ≡ (file_plan S.X.block32 p.now bytes.now).entry) }
+    ensures entry { IfOk result (λ e. e ≡ (file_plan S.X.block32 p.now none bytes.now).entry) }
     ensures fault { IfErr result IsSaving }
     ensures saves { OnlySaves S.X.block32 NoneIsBad (fault_in result) (S.seen store.old) (S.seen store.new) }
 {
@@ -96,7 +97,7 @@ fn feed<S: Store, L: Ledger>(
 ) -> Result<(), StoreFault>
     requires profile { IsTrue (is_profile builder.old.profile) }
     requires ready { builder.old.is_spent ≡ false }
-    requires none { builder.old.fed ≡ 0 }
+    requires unfed { builder.old.fed ≡ 0 }
     requires few { length bytes.now ≤ 4194304 }
     ensures fed { OnOk result (HasFed S.X.block32 [] builder.old → HasFed S.X.block32 bytes.now builder.new) }
     ensures profile { builder.new.profile ≡ builder.old.profile }
@@ -119,7 +120,7 @@ fn close<S: Store, L: Ledger>(
 ) -> Result<Entry, StoreFault>
     requires { builder.is_spent ≡ false }
     ensures entry { IfOk result (λ e. (bytes : List ℕ) → HasFed S.X.block32 bytes builder
-        → e ≡ (file_plan S.X.block32 builder.profile bytes).entry) }
+        → e ≡ (file_plan S.X.block32 builder.profile none bytes).entry) }
     ensures fault { IfErr result IsSaving }
     ensures saves { OnlySaves S.X.block32 NoneIsBad (fault_in result) (S.seen store.old) (S.seen store.new) }
 {

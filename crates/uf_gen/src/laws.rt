@@ -1,6 +1,7 @@
 // What the commands of the generator make.
 ghost use Rattle.std.specs.Prelude.{◌≡◌, ◌≤◌, ◌^◌, ℕ, List, Ok};
 ghost use Rattle.uf_gen.specs.Grown.{grown, left_files};
+ghost use Rattle.uf_tree.specs.Metas.{none};
 ghost use Rattle.uf_tree.specs.Tree.{Entries, entries};
 ghost use Rattle.uf_tree.specs.declared.profile.Profile.{Profile};
 
@@ -8,5 +9,5 @@ ghost use Rattle.uf_tree.specs.declared.profile.Profile.{Profile};
 /// end.
 pub fn a_grown_tree_is_its_files()
     ensures { (X : List ℕ → List ℕ) (N : List ℕ → ℕ) (p : Profile) (seed n : ℕ) (es : Entries) → n ≤ 10 ^ 8
-        → grown X N p seed n ≡ Ok es → es ≡ entries (left_files seed n) }
+        → grown X N p seed n ≡ Ok es → es ≡ entries none (left_files seed n) }
 {}

@@ -13,7 +13,7 @@ use Rattle.uf_path.specs.declared.path.Path.{Path}
 use Rattle.uf_plain.specs.Edits.{at}
 use Rattle.uf_plain.specs.Replies.{stat_of}
 use Rattle.uf_plain.specs.declared.reply.Stat.{Stat}
-use Rattle.uf_reply.specs.Lines.{from_line, line, stat_text, type_word}
+use Rattle.uf_command.specs.Lines.{from_line, line, mode_line, mtime_line, stat_text, type_word}
 use Rattle.uf_store.specs.Contents.{Told}
 use Rattle.uf_top.specs.Endings.{PrintsAll}
 use Rattle.uf_top.specs.HostTexts.{host_row, host_text}
@@ -30,6 +30,9 @@ use Rattle.uf_headline.proofs.Histories.{replied}
 five : (a b c d e : List ℕ) → a ++ b ++ c ++ d ++ e ≡ a ++ (b ++ c ++ d ++ e)
 five a b c d e = ap (λ l. l ++ d ++ e) (append_assoc a b c) ∙ ap (λ l. l ++ e) (append_assoc a (b ++ c) d) ∙ append_assoc a (b ++ c ++ d) e
 
+seven : (a b c d e f g : List ℕ) → a ++ b ++ c ++ d ++ e ++ f ++ g ≡ a ++ (b ++ c ++ d ++ e ++ f ++ g)
+seven a b c d e f g = ap (λ l. l ++ f ++ g) (five a b c d e) ∙ ap (λ l. l ++ g) (append_assoc a (b ++ c ++ d ++ e) f) ∙ append_assoc a (b ++ c ++ d ++ e ++ f) g
+
 first-line : (cid rest : List ℕ) → line cid [] ++ rest ≡ cid ++ 10 ∷ rest
 first-line cid rest = append_assoc (cid ++ []) (10 ∷ []) rest ∙ ap (λ l. l ++ 10 ∷ rest) (append-nil cid)
 
@@ -37,7 +40,7 @@ first-line cid rest = append_assoc (cid ++ []) (10 ∷ []) rest ∙ ap (λ l. l 
 rows-last : (X : List ℕ → List ℕ) (N : List ℕ → ℕ) (p : Profile) (name : List ℕ) (t : Tree)
     → (front : List ℕ) × (flat_map host_row (rows_of X N p name t) ≡ front ++ from_line (entry X N p t).cid name)
 unfolding rows_of
-rows-last X N p name (File bytes) = ([], append-nil (from_line (entry X N p (File bytes)).cid name))
+rows-last X N p name (File m bytes) = ([], append-nil (from_line (entry X N p (File m bytes)).cid name))
 rows-last X N p name (Dir es) = (
   flat_map host_row (rows_in X N p name es),
   flat_map-append host_row (rows_in X N p name es) (row_with X N p name (Dir es) ∷ [])
@@ -79,10 +82,10 @@ module _ (X : List ℕ → List ℕ) (N : List ℕ → ℕ) where
       stat = stat_of X N p t
 
       rest : List ℕ
-      rest = line (codes "Size: ") (decimal stat.size) ++ line (codes "CumulativeSize: ") (decimal stat.cumulative) ++ line (codes "ChildBlocks: ") (decimal stat.children) ++ line (codes "Type: ") (type_word stat.is_folder)
+      rest = line (codes "Size: ") (decimal stat.size) ++ line (codes "CumulativeSize: ") (decimal stat.cumulative) ++ line (codes "ChildBlocks: ") (decimal stat.children) ++ line (codes "Type: ") (type_word stat.is_folder) ++ mode_line stat.meta.mode ++ mtime_line stat.meta.mtime
 
       said : stat_text stat ≡ cid_text stat.cid ++ 10 ∷ rest
-      said = five (line (cid_text stat.cid) []) (line (codes "Size: ") (decimal stat.size)) (line (codes "CumulativeSize: ") (decimal stat.cumulative)) (line (codes "ChildBlocks: ") (decimal stat.children)) (line (codes "Type: ") (type_word stat.is_folder))
+      said = seven (line (cid_text stat.cid) []) (line (codes "Size: ") (decimal stat.size)) (line (codes "CumulativeSize: ") (decimal stat.cumulative)) (line (codes "ChildBlocks: ") (decimal stat.children)) (line (codes "Type: ") (type_word stat.is_folder)) (mode_line stat.meta.mode) (mtime_line stat.meta.mtime)
           ∙ first-line (cid_text stat.cid) rest
 
       w : World

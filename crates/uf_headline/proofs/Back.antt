@@ -12,10 +12,10 @@ use Rattle.uf_plain.specs.declared.rule.Refused.TheVariants.{NotFound}
 use Rattle.uf_plain.proofs.Edited.{child-tree, with-same}
 use Rattle.uf_tree.specs.Changes.{without}
 use Rattle.uf_tree.specs.Names.{names_cmp}
-use Rattle.uf_tree.specs.Tree.{Tree, File, Dir, Entries, entries, is_tree, pairs}
+use Rattle.uf_tree.specs.Tree.{Tree, File, Dir, Entries, entries, is_tree, own_meta, pairs}
 use Rattle.uf_tree.proofs.ShardLaws.{names_exact, names_total}
 use Rattle.uf_tree.proofs.Told.{as_T}
-use Rattle.uf_tree.proofs.TreeLaws.{entries-pairs, pairs-entries}
+use Rattle.uf_tree.proofs.TreeLaws.{entries-pairs, meta-entries, pairs-entries}
 use Rattle.uf_tree.proofs.Twins.{both_true}
 use Rattle.uf_headline.specs.Made.{changed_at, folder_of, remade}
 
@@ -72,17 +72,21 @@ sorted-of es h = as_T _ (both_true _ _ h).0
 
 child-back : (name : List ℕ) (t : Tree) (es : Entries) → is_tree (Dir es) ≡ true → child name es ≡ Some t → with_child name t (without_child name es) ≡ es
 child-back name t es tree there =
-    ap (λ l. entries (put names_cmp name t l)) (pairs-entries (without name (pairs es)))
-    ∙ ap entries (put-back name (pairs es) (sorted-of es tree) t there) ∙ entries-pairs es
+    let m = own_meta es in let left = without name (pairs es) in
+    ap (λ n. entries n (put names_cmp name t (pairs (entries m left)))) (meta-entries m left)
+    ∙ ap (λ l. entries m (put names_cmp name t l)) (pairs-entries m left)
+    ∙ ap (entries m) (put-back name (pairs es) (sorted-of es tree) t there) ∙ entries-pairs es
 
 child-twice : (name : List ℕ) (t u : Tree) (es : Entries) → is_tree (Dir es) ≡ true → with_child name t (with_child name u es) ≡ with_child name t es
 child-twice name t u es tree =
-    ap (λ l. entries (put names_cmp name t l)) (pairs-entries (put names_cmp name u (pairs es)))
-    ∙ ap entries (put-twice name (pairs es) (sorted-of es tree) t u)
+    let m = own_meta es in let first = put names_cmp name u (pairs es) in
+    ap (λ n. entries n (put names_cmp name t (pairs (entries m first)))) (meta-entries m first)
+    ∙ ap (λ l. entries m (put names_cmp name t l)) (pairs-entries m first)
+    ∙ ap (entries m) (put-twice name (pairs es) (sorted-of es tree) t u)
 
 child-there : (name : List ℕ) (t : Tree) (es : Entries) → child name (with_child name t es) ≡ Some t
 child-there name t es =
-    ap (find names_cmp name) (pairs-entries (put names_cmp name t (pairs es))) ∙ find-put names_cmp names_total name name t (pairs es)
+    ap (find names_cmp name) (pairs-entries (own_meta es) (put names_cmp name t (pairs es))) ∙ find-put names_cmp names_total name name t (pairs es)
     ∙ ap (λ (b : Bool). cond b (Some t) (find names_cmp name (pairs es))) ((eq_by_cmp_equiv names_total).refl name)
 
 same-ok : (t u : Tree) → ◌≡◌ {A = Result Tree Refused} (Ok t) (Ok u) → t ≡ u
@@ -102,7 +106,7 @@ goes-back led name (next ∷ names) t es tree there = by (λ fs deeper found. go
     by : ((fs : Entries) → is_tree (Dir fs) ≡ true → at (led + 1) (next ∷ names) (Dir fs) ≡ Ok t → IsBack t (next ∷ names) fs) → (o : Option Tree) → child name es ≡ o
         → elim o as (λ o. Result Tree Refused) [ None ↦ Err (NotFound (led + 1)) | Some u ↦ at (led + 1) (next ∷ names) u ] ≡ Ok t → IsBack t (name ∷ next ∷ names) es
     by rec None e k = absurd cc
-    by rec (Some (File bytes)) e k = absurd cc
+    by rec (Some (File m bytes)) e k = absurd cc
     by rec (Some (Dir fs)) e k =
         ap (λ (o : Option Tree). remade (λ o. t) (name ∷ next ∷ names) (with_child name (Dir (changed_at without_child (next ∷ names) (folder_of o))) es)) e
         ∙ ap (λ (o : Option Tree). with_child name (Dir (remade (λ o. t) (next ∷ names) (folder_of o))) (with_child name (Dir mid) es)) (child-there name (Dir mid) es)

@@ -5,10 +5,10 @@ use Rattle.uf_cid.specs.Blocks.{Lookup}
 use Rattle.uf_edge.specs.Host.{HostTree}
 use Rattle.uf_edge.specs.Streams as streams
 use Rattle.uf_mfs.specs.Standing.{TellsAs}
-use Rattle.uf_reply.specs.Batches.{line_in}
-use Rattle.uf_reply.specs.Statuses.{ended, ends_batch, mark, no_memory}
-use Rattle.uf_reply.specs.declared.status.Status.{Status}
-use Rattle.uf_reply.specs.declared.status.Status.TheVariants as status
+use Rattle.uf_command.specs.Batches.{line_in}
+use Rattle.uf_command.specs.Statuses.{ended, ends_batch, mark, no_memory}
+use Rattle.uf_command.specs.declared.status.Status.{Status}
+use Rattle.uf_command.specs.declared.status.Status.TheVariants as status
 use Rattle.uf_tree.specs.Standing.{Standing, NoHead, BadHead, Stands}
 use Rattle.uf_top.specs.Around.{Around, NoneFalls}
 use Rattle.uf_top.specs.Batch.{AtLine, Batches, ByMemory, ByReading, EndsSo, Ending, LineCut, LineDone, LinePassed, LinesDone, Said, Scene, SinkSide, TooLong, WithInput, with_sinks}

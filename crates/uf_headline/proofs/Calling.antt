@@ -9,15 +9,15 @@ use Rattle.uf_edge.specs.Counts.{Stood}
 use Rattle.uf_mfs.specs.Reading.{AreHeights, CanRise}
 use Rattle.uf_mfs.specs.Standing.{NamesOver, TellsAs}
 use Rattle.uf_mfs.proofs.Reaching.{heights-of}
-use Rattle.uf_reply.specs.Commands.{of_command}
-use Rattle.uf_reply.specs.Natures.{needs_standing, prints_after}
-use Rattle.uf_reply.specs.Statuses.{status_of}
-use Rattle.uf_reply.specs.declared.status.Status.{Status}
-use Rattle.uf_reply.specs.declared.status.Status.TheVariants as status
-use Rattle.uf_reply.specs.declared.types.Command.{Command}
-use Rattle.uf_reply.specs.declared.types.Command.TheVariants.{Init}
-use Rattle.uf_reply.specs.declared.types.Refusal.{Refusal}
-use Rattle.uf_reply.specs.declared.types.Refusal.TheVariants as refusal
+use Rattle.uf_command.specs.Commands.{of_command}
+use Rattle.uf_command.specs.Natures.{needs_standing, prints_after}
+use Rattle.uf_command.specs.Statuses.{status_of}
+use Rattle.uf_command.specs.declared.status.Status.{Status}
+use Rattle.uf_command.specs.declared.status.Status.TheVariants as status
+use Rattle.uf_command.specs.declared.types.Command.{Command}
+use Rattle.uf_command.specs.declared.types.Command.TheVariants.{Init}
+use Rattle.uf_command.specs.declared.types.Refusal.{Refusal}
+use Rattle.uf_command.specs.declared.types.Refusal.TheVariants as refusal
 use Rattle.uf_store.specs.Calls.{Calm}
 use Rattle.uf_store.specs.Contents.{Contents, HeldMap, Told}
 use Rattle.uf_store.specs.Keeping.{Agrees}
@@ -36,10 +36,11 @@ use Rattle.uf_top.specs.Reply.{Outside, in_world, reply_to, world_of}
 use Rattle.uf_top.specs.Shapes.{WritesFor, is_done}
 use Rattle.uf_top.proofs.BatchReplies.{if-needed}
 use Rattle.uf_top.proofs.Standings.{stands-kept}
+use Rattle.uf_top.proofs.Notes.{note-text}
 use Rattle.uf_top.proofs.Stopped.{words-end}
-use Rattle.uf_tree.specs.Standing.{Standing, NoHead, BadHead, Stands}
+use Rattle.uf_tree.specs.Standing.{IsHeadNote, Standing, NoHead, BadHead, Stands}
 use Rattle.uf_tree.specs.Tree.{Dir, Entries}
-use Rattle.uf_tree.specs.TreePlan.{blocks as tree_blocks}
+use Rattle.uf_tree.specs.TreePlan.{blocks as tree_blocks, entry}
 use Rattle.uf_tree.specs.Validity.{IsHash}
 use Rattle.uf_tree.specs.declared.profile.Profile.{Profile}
 use Rattle.uf_headline.specs.Calls.{AllCallOver, AllHappen, AreDone, Calls, CallsOver, CountsAs, End, Event, IsCall, IsReopened, IsSafeAs, LeftBy, LosesSome, NamesTree, Stopped, Whole, after_call, done_in, was_done}
@@ -173,9 +174,10 @@ module _ (X : List ℕ → List ℕ) (N : List ℕ → ℕ) where
   reopened-safe : (ws : List Write) (t : Contents) (p : Profile) (es : Entries) → IsReopened ws t → LeavesTree X N p es t.held t.notes → IsSafeFor X N t p es
   reopened-safe ws t p es again stands = record {
     stands = stands;
+    text = (note-text t.notes.head p (entry X N p (Dir es)).cid stands.head_is).0;
     safe = record {
       plain = again.plain;
-      head_is = stands.head_is;
+      head_is = (note-text t.notes.head p (entry X N p (Dir es)).cid stands.head_is).1;
       held = stands.blocks_held;
       firm_too = subst (λ (m : HeldMap). blocks.Holds (λ cid. get m cid) (tree_blocks X N p (Dir es))) (sym again.kept) stands.blocks_held;
     };
@@ -256,7 +258,7 @@ module _ (X : List ℕ → List ℕ) (N : List ℕ → ℕ) where
 
   lost-names : (a b : Contents) (p : Profile) (es : Entries) → LosesSome a b → NamesOver X N (Some a) p es → NamesOver X N (Some b) p es
   lost-names a b p es lost names = record {
-    head = lost.head ∙ names.head;
+    head = subst (λ n. IsHeadNote n p (entry X N p (Dir es)).cid) (sym lost.head) names.head;
     root = record { plan = names.root.plan; agrees = part-agrees b.held a.held lost.part (tree_blocks X N p (Dir es)) names.root.agrees };
   }
 
@@ -283,7 +285,7 @@ module _ (X : List ℕ → List ℕ) (N : List ℕ → ℕ) where
     stays = record { names = names; last = agrees }
 
     kept-names : may_move step.asked step.given ≡ false → NamesOver X N (told_after step) p es
-    kept-names may = record { head = c.runs.head may ∙ names.head; root = record { plan = names.root.plan; agrees = agrees } }
+    kept-names may = record { head = subst (λ n. IsHeadNote n p (entry X N p (Dir es)).cid) (sym (c.runs.head may)) names.head; root = record { plan = names.root.plan; agrees = agrees } }
 
     done-names : step.given ≡ status.Ok → NamesTree X N (told_after step) (replied_by X N step.asked step.outside step.held (Stands p es))
     done-names given = by (c.runs.lost p es rows.0 step.held step.outside stays c.held rows.1 (ok-outside step c given) (ok-quiet step c given))

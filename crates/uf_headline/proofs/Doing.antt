@@ -15,27 +15,27 @@ use Rattle.uf_plain.specs.declared.file.WriteHow.{WriteHow}
 use Rattle.uf_plain.specs.declared.rule.Rule.{Rule}
 use Rattle.uf_plain.specs.declared.rule.Rule.TheVariants.{FileTooLong}
 use Rattle.uf_plain.specs.declared.spot.Spot.{Spot}
-use Rattle.uf_reply.specs.Dags.{adopted_name, by_dag, tree_at}
-use Rattle.uf_reply.specs.Statuses.{ended, status_of}
-use Rattle.uf_reply.specs.declared.status.Status.{Status}
-use Rattle.uf_reply.specs.declared.status.Status.TheVariants as status
-use Rattle.uf_reply.specs.declared.types.Ask.{Ask}
-use Rattle.uf_reply.specs.declared.types.Ask.TheVariants.{Ls, Stat, Edit as Edits}
-use Rattle.uf_reply.specs.declared.types.Command.{Command}
-use Rattle.uf_reply.specs.declared.types.Command.TheVariants.{Init, Add, AddFrom, WriteInput, At, Read, Cat, Get, Export, Import, Same, Adopt, Gen, AddTo, AddFromTo, Pin}
-use Rattle.uf_reply.specs.declared.types.Edit.TheVariants.{Write}
-use Rattle.uf_reply.specs.declared.types.HostRule.TheVariants as rules
-use Rattle.uf_reply.specs.declared.types.Refusal.{Refusal}
-use Rattle.uf_reply.specs.declared.types.Refusal.TheVariants as refusal
+use Rattle.uf_command.specs.Dags.{adopted_name, by_dag, tree_at}
+use Rattle.uf_command.specs.Statuses.{ended, status_of}
+use Rattle.uf_command.specs.declared.status.Status.{Status}
+use Rattle.uf_command.specs.declared.status.Status.TheVariants as status
+use Rattle.uf_command.specs.declared.types.Ask.{Ask}
+use Rattle.uf_command.specs.declared.types.Ask.TheVariants.{Ls, Stat, Edit as Edits}
+use Rattle.uf_command.specs.declared.types.Command.{Command}
+use Rattle.uf_command.specs.declared.types.Command.TheVariants.{Init, Add, AddFrom, WriteInput, At, Read, Cat, Get, Export, Import, Same, Adopt, Gen, AddTo, AddFromTo, Pin}
+use Rattle.uf_command.specs.declared.types.Edit.TheVariants.{Write}
+use Rattle.uf_command.specs.declared.types.HostRule.TheVariants as rules
+use Rattle.uf_command.specs.declared.types.Refusal.{Refusal}
+use Rattle.uf_command.specs.declared.types.Refusal.TheVariants as refusal
 use Rattle.uf_store.specs.Contents.{Told}
 use Rattle.uf_store.specs.declared.store.StoreFault.{StoreFault}
 use Rattle.uf_store.specs.declared.store.StoreFault.TheVariants as fault
 use Rattle.uf_top.specs.HostTexts.{host_text}
 use Rattle.uf_top.specs.Reply.{Outside, added_name, added_spot, adopted, by_rule, edited_by, good_name, grafted, grown, host_tree, input_reply, input_row, input_tree, most_input, moved, placed, reply_to, settled, unchanged, with_plan, world_of}
-use Rattle.uf_tree.specs.Heads.{head_text}
+use Rattle.uf_tree.specs.Metas.{none}
 use Rattle.uf_tree.specs.Names.{is_name}
 use Rattle.uf_tree.specs.Profiles.{most_bytes}
-use Rattle.uf_tree.specs.Standing.{Standing, NoHead, BadHead, Stands}
+use Rattle.uf_tree.specs.Standing.{IsHeadNote, Standing, NoHead, BadHead, Stands}
 use Rattle.uf_tree.specs.Tree.{Tree, File, Dir, Entries, is_tree}
 use Rattle.uf_tree.specs.TreePlan.{entry, refusal as refusal_of}
 use Rattle.uf_tree.specs.TreePlan as plan
@@ -166,7 +166,7 @@ module _ (X : List ℕ → List ℕ) (N : List ℕ → ℕ) where
       spotted-lands dest some.0 es spot (rule-same (spotted dest some.0 es) spot some.2) ∙ h some.0 some.1
 
   -- the input
-  file-same : (b : Bool) (bytes : List ℕ) (t : Tree) → ◌≡◌ {A = Result Tree Refusal} (cond b (Ok (File bytes)) (Err (refusal.Rule FileTooLong))) (Ok t) → t ≡ File bytes
+  file-same : (b : Bool) (bytes : List ℕ) (t : Tree) → ◌≡◌ {A = Result Tree Refusal} (cond b (Ok (File none bytes)) (Err (refusal.Rule FileTooLong))) (Ok t) → t ≡ File none bytes
   file-same true bytes t e = cc
   file-same false bytes t e = cc
 
@@ -179,8 +179,8 @@ module _ (X : List ℕ → List ℕ) (N : List ℕ → ℕ) where
   no-name into names (Some name) e = cc
 
   add-to-leaves : (dest : Path) (bytes : List ℕ) (p : Profile) (es : Entries)
-      → (let r = settled X N (input_row X N p) p es (placed X N (added_spot dest None es) (input_tree p bytes) p es) in Leaves r.ends r.next (Stands p es) (Stands p (remade (λ o. File bytes) dest.names es)))
-  add-to-leaves dest bytes p es = settled-leaves (input_row X N p) p es (remade (λ o. File bytes) dest.names es) (placed X N (added_spot dest None es) (input_tree p bytes) p es) (λ put e.
+      → (let r = settled X N (input_row X N p) p es (placed X N (added_spot dest None es) (input_tree p bytes) p es) in Leaves r.ends r.next (Stands p es) (Stands p (remade (λ o. File none bytes) dest.names es)))
+  add-to-leaves dest bytes p es = settled-leaves (input_row X N p) p es (remade (λ o. File none bytes) dest.names es) (placed X N (added_spot dest None es) (input_tree p bytes) p es) (λ put e.
       (let d = placed-is (added_spot dest None es) (input_tree p bytes) p es put e in
       let names : spot_names d.0 ≡ dest.names = named-spot dest None es (Ok None) d.0 (no-name dest.into dest.names) d.1 ∙ lands-none dest.into dest.names in
       put-only X N d.0 dest.names d.2 p es names put.1 d.4
@@ -355,9 +355,9 @@ module _ (X : List ℕ → List ℕ) (N : List ℕ → ℕ) where
   pub makes-stands : (steps : List Step) (a b : Told) (s last : Standing) → Makes X N steps a b s last → TellsAs X N b last
   makes-stands steps a b s last m = subst (TellsAs X N b) m.made (history-stands steps a b s m.stood m.done)
 
-  tells-head : (a : Told) (p : Profile) (es : Entries) → TellsAs X N a (Stands p es) → head_in a ≡ Some (head_text p (entry X N p (Dir es)).cid)
+  tells-head : (a : Told) (p : Profile) (es : Entries) → TellsAs X N a (Stands p es) → IsHeadNote (head_in a) p (entry X N p (Dir es)).cid
   tells-head None p es t = absurd t
   tells-head (Some c) p es t = t.head_is
 
-  pub makes-head : (steps : List Step) (a b : Told) (s : Standing) (p : Profile) (es : Entries) → Makes X N steps a b s (Stands p es) → head_in b ≡ Some (head_text p (entry X N p (Dir es)).cid)
+  pub makes-head : (steps : List Step) (a b : Told) (s : Standing) (p : Profile) (es : Entries) → Makes X N steps a b s (Stands p es) → IsHeadNote (head_in b) p (entry X N p (Dir es)).cid
   makes-head steps a b s p es m = tells-head b p es (makes-stands steps a b s (Stands p es) m)

@@ -8,3 +8,4 @@ pub mod Lines
 pub mod Made
 pub mod Opened
 pub mod Places
+pub mod Versions

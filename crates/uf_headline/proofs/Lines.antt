@@ -6,10 +6,10 @@ use Rattle.uf_cid.specs.Blocks.{Lookup}
 use Rattle.uf_edge.specs.Host.{HostTree}
 use Rattle.uf_edge.specs.Streams as streams
 use Rattle.uf_mfs.specs.Reading.{CanRise}
-use Rattle.uf_reply.specs.Batches.{line_in}
-use Rattle.uf_reply.specs.Statuses.{ends_batch}
-use Rattle.uf_reply.specs.declared.status.Status.{Status}
-use Rattle.uf_reply.specs.declared.status.Status.TheVariants as status
+use Rattle.uf_command.specs.Batches.{line_in}
+use Rattle.uf_command.specs.Statuses.{ends_batch}
+use Rattle.uf_command.specs.declared.status.Status.{Status}
+use Rattle.uf_command.specs.declared.status.Status.TheVariants as status
 use Rattle.uf_store.specs.Contents.{Told, held_at}
 use Rattle.uf_store.specs.Keeping.{tells}
 use Rattle.uf_top.specs.Around.{Around, StandsOrRose}

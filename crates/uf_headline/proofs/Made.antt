@@ -5,24 +5,27 @@ use Rattle.std.specs.Ordering.{eq_by_cmp}
 use Rattle.uf_bytes.specs.Laying.{cut_to, laid}
 use Rattle.uf_path.specs.declared.path.Path.{Path}
 use Rattle.uf_plain.specs.Edits.{and_then, as_folder, as_free, as_removable, at, child, edited, is_folder_at, made, made_all, or_new, put_free, removed, taken, with_child, with_folder, without_child}
-use Rattle.uf_plain.specs.Files.{as_file_or_new, as_file_there, begun, new_bytes, truncated, with_bytes, written}
+use Rattle.uf_plain.specs.Files.{as_file_or_new, as_file_there, begun, kept_meta, new_bytes, truncated, with_bytes, written}
+use Rattle.uf_plain.specs.Metas.{as_there, meta_edited, remade as remade_tree, with_remade}
 use Rattle.uf_plain.specs.Moves.{allowed_move, as_replaceable, as_vacant, carried, copied, edited_at, folder_at, landing, lie_of, moved_along, moved_to, name_of, placed_at, put_at_spot, put_over, shifted, spot_in, spot_names, spotted, target, then_go, told_of}
 use Rattle.uf_plain.specs.Rules.{allowed, unless}
 use Rattle.uf_plain.specs.declared.file.FileEdit.TheVariants as file
 use Rattle.uf_plain.specs.declared.file.WriteHow.{WriteHow}
+use Rattle.uf_plain.specs.declared.meta_edit.MetaEdit.{MetaEdit}
 use Rattle.uf_plain.specs.declared.rule.Refused.{Refused}
 use Rattle.uf_plain.specs.declared.rule.Rule.{Rule}
 use Rattle.uf_plain.specs.declared.spot.Lie.{Lie}
 use Rattle.uf_plain.specs.declared.spot.Lie.TheVariants.{Itself, Below, Apart}
 use Rattle.uf_plain.specs.declared.spot.Spot.{Spot}
-use Rattle.uf_reply.specs.declared.types.Edit.{Edit}
-use Rattle.uf_reply.specs.declared.types.Edit.TheVariants.{Mkdir, Rm, Write, Truncate, Cp, Mv}
+use Rattle.uf_command.specs.declared.types.Edit.{Edit}
+use Rattle.uf_command.specs.declared.types.Edit.TheVariants.{Mkdir, Rm, Write, Truncate, Cp, Mv, SetMeta}
 use Rattle.uf_top.specs.Reply.{edited_by}
 use Rattle.uf_tree.specs.TreePlan.{refusal, Refusal}
+use Rattle.uf_tree.specs.Metas.{none}
 use Rattle.uf_tree.specs.Names.{names_cmp}
 use Rattle.uf_tree.specs.Tree.{Tree, File, Dir, Entries, Nothing, is_tree}
 use Rattle.uf_tree.specs.declared.profile.Profile.{Profile}
-use Rattle.uf_headline.specs.Made.{after_edit, bytes_of, changed_at, folder_of, lands, put_there, remade}
+use Rattle.uf_headline.specs.Made.{after_edit, bytes_of, changed_at, folder_of, lands, meta_changed, put_there, remade, with_meta_at}
 use Rattle.uf_headline.proofs.Back.{goes-back, same-name}
 
 -- ---- answers
@@ -84,7 +87,7 @@ module _ (change : ℕ → List ℕ → Entries → Result Entries Refused) (doe
     where
       by : (o : Option Tree) → ((fs : Entries) → IsOnly (changed_at does (next ∷ names) fs) (edited change (led + 1) next names fs)) → IsOnly (with_child name (Dir (changed_at does (next ∷ names) (folder_of o))) es) (with_folder name es (and_then (as_folder (led + 1) o) (λ below. edited change (led + 1) next names below)))
       by None below = λ c e. cc
-      by (Some (File bytes)) below = λ c e. cc
+      by (Some (File m bytes)) below = λ c e. cc
       by (Some (Dir fs)) below = folder-only name es (changed_at does (next ∷ names) fs) (edited change (led + 1) next names fs) (below fs)
 
   edited-at-only : (names : List (List ℕ)) (es : Entries) → IsOnly (changed_at does names es) (edited_at change names es)
@@ -97,31 +100,31 @@ module _ (change : ℕ → List ℕ → Entries → Result Entries Refused) (doe
 abbrev a_folder : List ℕ → Entries → Entries
 a_folder name es = with_child name (Dir (folder_of (child name es))) es
 
-free-only : (led : ℕ) (name : List ℕ) (es : Entries) → IsOnly (a_folder name es) (put_free (Dir Nothing) led name es)
+free-only : (led : ℕ) (name : List ℕ) (es : Entries) → IsOnly (a_folder name es) (put_free (Dir (Nothing none)) led name es)
 free-only led name es = by (child name es)
   where
-    by : (o : Option Tree) → IsOnly (with_child name (Dir (folder_of o)) es) (and_then (as_free led o) (λ free. Ok (with_child name (Dir Nothing) es)))
-    by None = only-ok (with_child name (Dir Nothing) es)
+    by : (o : Option Tree) → IsOnly (with_child name (Dir (folder_of o)) es) (and_then (as_free led o) (λ free. Ok (with_child name (Dir (Nothing none)) es)))
+    by None = only-ok (with_child name (Dir (Nothing none)) es)
     by (Some t) = λ c e. cc
 
 all-only : (led : ℕ) (name : List ℕ) (names : List (List ℕ)) (es : Entries) → IsOnly (changed_at a_folder (name ∷ names) es) (made_all led (name ∷ names) es)
 all-only led name [] es = by (child name es)
   where
     by : (o : Option Tree) → IsOnly (with_child name (Dir (folder_of o)) es) (with_folder name es (and_then (or_new (led + 1) o) (λ below. made_all (led + 1) [] below)))
-    by None = only-ok (with_child name (Dir Nothing) es)
-    by (Some (File bytes)) = λ c e. cc
+    by None = only-ok (with_child name (Dir (Nothing none)) es)
+    by (Some (File m bytes)) = λ c e. cc
     by (Some (Dir fs)) = only-ok (with_child name (Dir fs) es)
 all-only led name (next ∷ names) es = by (child name es) (λ fs. all-only (led + 1) next names fs)
   where
     by : (o : Option Tree) → ((fs : Entries) → IsOnly (changed_at a_folder (next ∷ names) fs) (made_all (led + 1) (next ∷ names) fs)) → IsOnly (with_child name (Dir (changed_at a_folder (next ∷ names) (folder_of o))) es) (with_folder name es (and_then (or_new (led + 1) o) (λ below. made_all (led + 1) (next ∷ names) below)))
-    by None below = folder-only name es (changed_at a_folder (next ∷ names) Nothing) (made_all (led + 1) (next ∷ names) Nothing) (below Nothing)
-    by (Some (File bytes)) below = λ c e. cc
+    by None below = folder-only name es (changed_at a_folder (next ∷ names) (Nothing none)) (made_all (led + 1) (next ∷ names) (Nothing none)) (below (Nothing none))
+    by (Some (File m bytes)) below = λ c e. cc
     by (Some (Dir fs)) below = folder-only name es (changed_at a_folder (next ∷ names) fs) (made_all (led + 1) (next ∷ names) fs) (below fs)
 
 made-only : (parents : Bool) (names : List (List ℕ)) (es : Entries) → IsOnly (remade (λ o. Dir (folder_of o)) names es) (made parents names es)
 made-only false [] es = λ c e. cc
 made-only true [] es = only-ok es
-made-only false (name ∷ names) es = edited-only (put_free (Dir Nothing)) a_folder free-only 0 name names es
+made-only false (name ∷ names) es = edited-only (put_free (Dir (Nothing none))) a_folder free-only 0 name names es
 made-only true (name ∷ names) es = all-only 0 name names es
 
 taken-only : (recursive : Bool) (led : ℕ) (name : List ℕ) (es : Entries) → IsOnly (without_child name es) (taken recursive led name es)
@@ -135,7 +138,7 @@ removed-only recursive (name ∷ names) es = edited-only (taken recursive) witho
 
 there-only : (led : ℕ) (o : Option Tree) → IsOnly (bytes_of o) (as_file_there led o)
 there-only led None = λ c e. cc
-there-only led (Some (File bytes)) = only-ok bytes
+there-only led (Some (File m bytes)) = only-ok bytes
 there-only led (Some (Dir es)) = λ c e. cc
 
 or-new-only : (create : Bool) (led : ℕ) (o : Option Tree) → IsOnly (bytes_of o) (as_file_or_new create led o)
@@ -150,28 +153,41 @@ with-only a (Ok b) make h = λ c e. sym (same-ok (make b) c e) ∙ ap make (h b 
 with-only a (Err why) make h = λ c e. cc
 
 write-only : (how : WriteHow) (piece : List ℕ) (led : ℕ) (name : List ℕ) (es : Entries)
-    → IsOnly (with_child name (File (laid (cond how.cut [] (bytes_of (child name es))) how.offset piece)) es) (with_bytes (file.Write how) piece led name es)
+    → IsOnly (with_child name (File (kept_meta (child name es)) (laid (cond how.cut [] (bytes_of (child name es))) how.offset piece)) es) (with_bytes (file.Write how) piece led name es)
 write-only how piece led name es = by (child name es)
   where
-    by : (o : Option Tree) → IsOnly (with_child name (File (laid (cond how.cut [] (bytes_of o)) how.offset piece)) es) (and_then (new_bytes (file.Write how) piece led o) (λ bytes. Ok (with_child name (File bytes) es)))
-    by o = with-only (laid (cond how.cut [] (bytes_of o)) how.offset piece) (new_bytes (file.Write how) piece led o) (λ bytes. with_child name (File bytes) es)
+    by : (o : Option Tree) → IsOnly (with_child name (File (kept_meta o) (laid (cond how.cut [] (bytes_of o)) how.offset piece)) es) (and_then (new_bytes (file.Write how) piece led o) (λ bytes. Ok (with_child name (File (kept_meta o) bytes) es)))
+    by o = with-only (laid (cond how.cut [] (bytes_of o)) how.offset piece) (new_bytes (file.Write how) piece led o) (λ bytes. with_child name (File (kept_meta o) bytes) es)
         (with-only (cond how.cut [] (bytes_of o)) (begun (file.Write how) led o) (λ bytes. laid bytes how.offset piece)
         (with-only (bytes_of o) (as_file_or_new how.create led o) (λ bytes. cond how.cut [] bytes) (or-new-only how.create led o)))
 
-truncate-only : (size led : ℕ) (name : List ℕ) (es : Entries) → IsOnly (with_child name (File (cut_to (bytes_of (child name es)) size)) es) (with_bytes (file.Truncate size) [] led name es)
+truncate-only : (size led : ℕ) (name : List ℕ) (es : Entries) → IsOnly (with_child name (File (kept_meta (child name es)) (cut_to (bytes_of (child name es)) size)) es) (with_bytes (file.Truncate size) [] led name es)
 truncate-only size led name es = by (child name es)
   where
-    by : (o : Option Tree) → IsOnly (with_child name (File (cut_to (bytes_of o) size)) es) (and_then (new_bytes (file.Truncate size) [] led o) (λ bytes. Ok (with_child name (File bytes) es)))
-    by o = with-only (cut_to (bytes_of o) size) (new_bytes (file.Truncate size) [] led o) (λ bytes. with_child name (File bytes) es)
+    by : (o : Option Tree) → IsOnly (with_child name (File (kept_meta o) (cut_to (bytes_of o) size)) es) (and_then (new_bytes (file.Truncate size) [] led o) (λ bytes. Ok (with_child name (File (kept_meta o) bytes) es)))
+    by o = with-only (cut_to (bytes_of o) size) (new_bytes (file.Truncate size) [] led o) (λ bytes. with_child name (File (kept_meta o) bytes) es)
         (with-only (bytes_of o) (as_file_there led o) (λ bytes. cut_to bytes size) (there-only led o))
 
-written-only : (how : WriteHow) (piece : List ℕ) (names : List (List ℕ)) (es : Entries) → IsOnly (remade (λ o. File (laid (cond how.cut [] (bytes_of o)) how.offset piece)) names es) (written how piece names es)
+written-only : (how : WriteHow) (piece : List ℕ) (names : List (List ℕ)) (es : Entries) → IsOnly (remade (λ o. File (kept_meta o) (laid (cond how.cut [] (bytes_of o)) how.offset piece)) names es) (written how piece names es)
 written-only how piece [] es = λ c e. cc
-written-only how piece (name ∷ names) es = edited-only (with_bytes (file.Write how) piece) (λ name es. with_child name (File (laid (cond how.cut [] (bytes_of (child name es))) how.offset piece)) es) (write-only how piece) 0 name names es
+written-only how piece (name ∷ names) es = edited-only (with_bytes (file.Write how) piece) (λ name es. with_child name (File (kept_meta (child name es)) (laid (cond how.cut [] (bytes_of (child name es))) how.offset piece)) es) (write-only how piece) 0 name names es
 
-truncated-only : (size : ℕ) (names : List (List ℕ)) (es : Entries) → IsOnly (remade (λ o. File (cut_to (bytes_of o) size)) names es) (truncated size names es)
+truncated-only : (size : ℕ) (names : List (List ℕ)) (es : Entries) → IsOnly (remade (λ o. File (kept_meta o) (cut_to (bytes_of o) size)) names es) (truncated size names es)
 truncated-only size [] es = λ c e. cc
-truncated-only size (name ∷ names) es = edited-only (with_bytes (file.Truncate size) []) (λ name es. with_child name (File (cut_to (bytes_of (child name es)) size)) es) (truncate-only size) 0 name names es
+truncated-only size (name ∷ names) es = edited-only (with_bytes (file.Truncate size) []) (λ name es. with_child name (File (kept_meta (child name es)) (cut_to (bytes_of (child name es)) size)) es) (truncate-only size) 0 name names es
+
+-- ---- metadata
+
+one-only : (what : MetaEdit) (led : ℕ) (name : List ℕ) (es : Entries) → IsOnly (with_child name (meta_changed what (child name es)) es) (with_remade what led name es)
+one-only what led name es = by (child name es)
+  where
+    by : (o : Option Tree) → IsOnly (with_child name (meta_changed what o) es) (and_then (as_there led o) (λ t. Ok (with_child name (remade_tree what t) es)))
+    by None = λ c e. cc
+    by (Some t) = only-ok (with_child name (remade_tree what t) es)
+
+meta-only : (what : MetaEdit) (names : List (List ℕ)) (es : Entries) → IsOnly (with_meta_at what names es) (meta_edited what names es)
+meta-only what [] es = only-ok (with_meta_at what [] es)
+meta-only what (name ∷ names) es = edited-only (with_remade what) (λ name es. with_child name (meta_changed what (child name es)) es) (one-only what) 0 name names es
 
 -- ---- where a destination leads
 
@@ -300,6 +316,7 @@ module _ (X : List ℕ → List ℕ) (N : List ℕ → ℕ) where
   edit-only (Truncate size) names p es tree = told-only names _ (allowed X N p (truncated size names es)) (allowed-only X N p _ (truncated size names es) (truncated-only size names es))
   edit-only (Cp dest) names p es tree = allowed-move-only X N p _ (copied names dest es) (copied-only names dest es)
   edit-only (Mv dest) names p es tree = allowed-move-only X N p _ (carried names dest es) (carried-only names dest es tree)
+  edit-only (SetMeta what) names p es tree = told-only names _ (allowed X N p (meta_edited what names es)) (allowed-only X N p _ (meta_edited what names es) (meta-only what names es))
 
   -- a tree put at a spot
   pub put-only : (spot : Spot) (to : List (List ℕ)) (t : Tree) (p : Profile) (es : Entries) → spot_names spot ≡ to → IsOnly (remade (λ o. t) to es) (allowed_move X N p (placed_at spot t es))

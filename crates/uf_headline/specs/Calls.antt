@@ -6,12 +6,12 @@ use Rattle.uf_cid.specs.Blocks.{Held}
 use Rattle.uf_cid.specs.declared.cid.Cid.{Cid}
 use Rattle.uf_mfs.specs.Reading.{CanRise}
 use Rattle.uf_mfs.specs.Standing.{NamesOver}
-use Rattle.uf_reply.specs.Commands.{of_command}
-use Rattle.uf_reply.specs.Pins.{HasPins}
-use Rattle.uf_reply.specs.Natures.{prints_after, reads_input, uses_host, writes_host}
-use Rattle.uf_reply.specs.declared.status.Status.TheVariants as status
-use Rattle.uf_reply.specs.declared.types.Command.{Command}
-use Rattle.uf_reply.specs.declared.types.Refusal.{Refusal}
+use Rattle.uf_command.specs.Commands.{of_command}
+use Rattle.uf_command.specs.Pins.{HasPins}
+use Rattle.uf_command.specs.Natures.{prints_after, reads_input, uses_host, writes_host}
+use Rattle.uf_command.specs.declared.status.Status.TheVariants as status
+use Rattle.uf_command.specs.declared.types.Command.{Command}
+use Rattle.uf_command.specs.declared.types.Refusal.{Refusal}
 use Rattle.uf_store.specs.Contents.{Contents, Told}
 use Rattle.uf_store.specs.Keeping.{Agrees}
 use Rattle.uf_store.specs.Stops.{IsOutcome, IsPart, IsPlain, firm}
@@ -98,7 +98,7 @@ pub record LosesSome (before now : Contents) : Type 0 where
   pub part : IsPart now.held before.held
 
 module _ (X : List ℕ → List ℕ) (N : List ℕ → ℕ) where
-  -- a call of `run` that isn't `batch`, whatever it answered
+  -- a call of `run` that does one command, whatever it answered
   pub record IsCall (step : Step) : Type 0 where
     pub runs : DidRun X N step
     pub held : TellsBlocks (told_before step) step.held

@@ -5,12 +5,13 @@ use Rattle.std.specs.declared.result.Result.{Result}
 use Rattle.std.specs.declared.result.Result.TheVariants.{Ok, Err}
 use Rattle.uf_cid.specs.Blocks.{Lookup}
 use Rattle.uf_host.specs.HostTree.{tree_on_host}
-use Rattle.uf_reply.specs.declared.types.Command.{Command}
-use Rattle.uf_reply.specs.declared.types.Command.TheVariants.{Init, AddTo, AddFromTo, WriteInput, At, Adopt}
-use Rattle.uf_reply.specs.declared.types.Ask.TheVariants.{Edit as Edits}
-use Rattle.uf_reply.specs.declared.types.Edit.TheVariants.{Write}
-use Rattle.uf_reply.specs.declared.types.Refusal.{Refusal}
+use Rattle.uf_command.specs.declared.types.Command.{Command}
+use Rattle.uf_command.specs.declared.types.Command.TheVariants.{Init, AddTo, AddFromTo, WriteInput, At, Adopt}
+use Rattle.uf_command.specs.declared.types.Ask.TheVariants.{Edit as Edits}
+use Rattle.uf_command.specs.declared.types.Edit.TheVariants.{Write}
+use Rattle.uf_command.specs.declared.types.Refusal.{Refusal}
 use Rattle.uf_top.specs.Reply.{Outside, added_spot, adopted, edited_by, host_tree, input_tree, most_input, placed}
+use Rattle.uf_tree.specs.Metas.{none}
 use Rattle.uf_tree.specs.Standing.{Standing, NoHead, Stands}
 use Rattle.uf_tree.specs.Tree.{Tree, Entries, Nothing}
 use Rattle.uf_tree.specs.declared.profile.Profile.{Profile}
@@ -45,7 +46,7 @@ module _ (X : List ℕ → List ℕ) (N : List ℕ → ℕ) where
 
   -- what stands after what was asked: words that are no command change nothing, and `init` makes the first tree
   abbrev pub replied_by : Result Command Refusal → Outside → Lookup → Standing → Standing
-  replied_by (Ok (Init p)) outside held NoHead = Stands p Nothing
+  replied_by (Ok (Init p)) outside held NoHead = Stands p (Nothing none)
   replied_by (Ok command) outside held (Stands p es) = Stands p (entries_replied command outside held p es)
   replied_by asked outside held standing = standing
 

@@ -3,8 +3,8 @@ ghost use Rattle.std.specs.Prelude.{◌≡◌, ◌≢◌, ℕ, List, Some, true}
 ghost use Rattle.uf_edge.specs.Host.{HostTree};
 ghost use Rattle.uf_edge.specs.Streams.{Told};
 ghost use Rattle.uf_mfs.specs.Standing.{TellsAs};
-ghost use Rattle.uf_reply.specs.declared.status.Status.{Status as TheStatus};
-ghost use Rattle.uf_reply.specs.declared.status.Status.TheVariants as status;
+ghost use Rattle.uf_command.specs.declared.status.Status.{Status as TheStatus};
+ghost use Rattle.uf_command.specs.declared.status.Status.TheVariants as status;
 ghost use Rattle.uf_store.specs.Keeping.{tells};
 ghost use Rattle.uf_top.specs.Batch.{Batches, Scene};
 ghost use Rattle.uf_top.specs.BatchLines.{AllCanRise};

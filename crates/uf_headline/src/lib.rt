@@ -8,16 +8,15 @@ mod paths;
 mod replies;
 mod steps;
 
-ghost use Rattle.std.specs.Prelude.{◌≡◌, ℕ, List, Some, IsTrue};
+ghost use Rattle.std.specs.Prelude.{◌≡◌, ◌⊎◌, ℕ, List, IsTrue};
 ghost use Rattle.uf_cid.specs.declared.cid.Cid.{Cid};
 ghost use Rattle.uf_mfs.specs.Standing.{TellsAs, head_in};
 ghost use Rattle.uf_store.specs.Contents.{Told};
-ghost use Rattle.uf_tree.specs.Heads.{head_text};
-ghost use Rattle.uf_tree.specs.Standing.{Standing, Stands};
+ghost use Rattle.uf_tree.specs.Standing.{IsHeadNote, Standing, Stands};
 ghost use Rattle.uf_tree.specs.Tree.{Dir, Entries, is_tree};
 ghost use Rattle.uf_tree.specs.TreePlan.{entry};
 ghost use Rattle.uf_tree.specs.declared.profile.Profile.{Profile};
-ghost use Rattle.uf_headline.specs.History.{AddsAfresh, History, Makes, PrintsLast, Step, standing_after};
+ghost use Rattle.uf_headline.specs.History.{AddsAfresh, History, IsOfVersion1, Makes, PrintsLast, Step, standing_after};
 ghost use Rattle.uf_headline.specs.Places.{place_at};
 
 pub use batches::{a_batch_is_a_history, a_batch_is_a_list_of_calls};
@@ -38,15 +37,16 @@ pub fn a_history_gives_its_tree()
 {}
 
 /// Two histories that make one tree by one profile, wherever they began and whatever came between, end with one Head,
-/// byte for byte: the text of the profile and of the CID of the tree's plan.
+/// byte for byte: the text of the profile and of the CID of the tree's plan. Only where one began with a Head of version
+/// 1 that names this root does that Head stay.
 pub fn same_names_and_bytes_have_one_root()
     ensures same { (X : List ℕ → List ℕ) (N : List ℕ → ℕ) (steps others : List Step) (a b c d : Told)
         (first other : Standing) (p : Profile) (es : Entries)
         → Makes X N steps a b first (Stands p es) → Makes X N others c d other (Stands p es)
-        → head_in b ≡ head_in d }
+        → (head_in b ≡ head_in d) ⊎ (IsOfVersion1 (head_in b) ⊎ IsOfVersion1 (head_in d)) }
     ensures is { (X : List ℕ → List ℕ) (N : List ℕ → ℕ) (steps : List Step) (a b : Told) (first : Standing)
         (p : Profile) (es : Entries) → Makes X N steps a b first (Stands p es)
-        → head_in b ≡ Some (head_text p (entry X N p (Dir es)).cid) }
+        → IsHeadNote (head_in b) p (entry X N p (Dir es)).cid }
 {}
 
 /// Where a history makes a tree, and a folder of a host has the same names and bytes, `add -r -n` of that folder,
@@ -56,11 +56,11 @@ pub fn a_tree_added_afresh_has_its_root()
     ensures { (X : List ℕ → List ℕ) (N : List ℕ → ℕ) (steps : List Step) (a b : Told) (first : Standing) (p : Profile)
         (es : Entries) (fresh : Step) (standing : Standing) (path : List ℕ)
         → Makes X N steps a b first (Stands p es) → AddsAfresh X N fresh standing path p (Dir es)
-        → (cid : Cid) × (head_in b ≡ Some (head_text p cid)) × PrintsLast fresh path cid }
+        → (cid : Cid) × IsHeadNote (head_in b) p cid × PrintsLast fresh path cid }
 {}
 
-/// The names and bytes at all paths determine the tree: two trees with the same folders, and the same files of the same
-/// bytes, are one.
+/// The names, bytes and metadata at all paths determine the tree: two trees with the same folders, and the same files
+/// of the same bytes, all with the same metadata, are one.
 pub fn names_and_bytes_are_one_tree()
     ensures { (es fs : Entries) → IsTrue (is_tree (Dir es)) → IsTrue (is_tree (Dir fs))
         → ((names : List (List ℕ)) → place_at names es ≡ place_at names fs) → es ≡ fs }

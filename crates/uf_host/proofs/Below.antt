@@ -1,16 +1,13 @@
 -- Paths below other paths.
-use Rattle.std.proofs.Common.{◌≡◌, ◌≢◌, ℕ, zero, suc, ◌+◌, ◌<◌, ◌≤◌, List, [], ◌∷◌, ◌++◌, length, Bool, true, false, ◌&&◌, ◌||◌, ◌==◌, cond, refl, ap, sym, ◌∙◌, subst, arith, inl, inr, length-append, append_assoc}
+use Rattle.std.proofs.Common.{◌≡◌, ◌≢◌, ℕ, ◌<◌, ◌≤◌, List, [], ◌∷◌, ◌++◌, length, Bool, true, false, ◌||◌, ◌==◌, cond, refl, ap, sym, ◌∙◌, subst, arith, inl, inr, length-append, append_assoc}
 use Rattle.std.proofs.Math.Logic.{∥∥₁_elim}
-use Rattle.std.proofs.lemmas.Bool.Decides.{nat_tests}
 use Rattle.std.proofs.lemmas.List.{append_cancel_left}
-use Rattle.std.proofs.lemmas.List.Folds.{list_any-append}
 use Rattle.std.proofs.lemmas.Slice.Eq.{bytes_eq-Decides}
-use Rattle.std.specs.Prelude.{IsTrue, IsSome, None, Some, is_some, not}
+use Rattle.std.specs.Prelude.{IsTrue, None, Some, is_some, not}
 use Rattle.std.specs.FinMap.{get}
 use Rattle.std.specs.List.{list_any}
 use Rattle.std.specs.Str.{bytes_eq}
-use Rattle.uf_edge.specs.Host.{HasParent, HostTree, IsInFolder, IsRooted, front, is_member_name, root}
-use Rattle.uf_edge.specs.declared.host.Place.{Place}
+use Rattle.uf_edge.specs.Host.{HasParent, HostTree, IsRooted, front, is_member_name, root}
 use Rattle.uf_edge.specs.declared.host.Place.TheVariants.{Folder}
 use Rattle.uf_host.specs.Places.{IsBelow}
 

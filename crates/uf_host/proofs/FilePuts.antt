@@ -1,10 +1,10 @@
 -- A file put on a host, piece by piece.
-use Rattle.std.proofs.Common.{◌≡◌, ◌≢◌, inl, inr, ℕ, List, [], ◌∷◌, ◌++◌, length, take, drop, refl, sym, ap, subst, ◌∙◌, append-nil, append_assoc, Result, Ok, Err, ◌⊎◌}
-use Rattle.std.specs.Prelude.{IfSome, None, Some, Option}
+use Rattle.std.proofs.Common.{◌≡◌, inl, inr, ℕ, List, [], ◌∷◌, ◌++◌, length, take, drop, refl, sym, ap, subst, ◌∙◌, append-nil, append_assoc, Result, Ok, Err, ◌⊎◌}
+use Rattle.std.specs.Prelude.{IfSome, None, Some}
 use Rattle.std.specs.FinMap.{insert}
 use Rattle.std.proofs.Math.Seq.{take-append_seam}
 use Rattle.std.proofs.lemmas.List.{take-append-drop}
-use Rattle.uf_edge.specs.Host.{HostTold, HostTree, TakesFile, TakesFolder, host_changed, with_piece}
+use Rattle.uf_edge.specs.Host.{HostTold, TakesFile, TakesFolder, host_changed, with_piece}
 use Rattle.uf_edge.specs.declared.host.Place.TheVariants.{File}
 use Rattle.uf_lenient.specs.Answers.{IsFault}
 use Rattle.uf_lenient.specs.Steps.{IsNextPiece, Rest, prefixed, to_come}

@@ -12,16 +12,18 @@ use Rattle.uf_cid.specs.Blocks.{Held}
 use Rattle.uf_store.specs.Contents.{Told}
 use Rattle.uf_store.specs.Keeping.{AreGood, Holds, KeepsGood}
 use Rattle.uf_store.proofs.Keeping.{Holds-append, Holds-kept}
+use Rattle.uf_tree.specs.Metas.{none}
 use Rattle.uf_tree.specs.declared.profile.Profile.{Profile}
 use Rattle.uf_tree.specs.DirPlan.{own_plan}
 use Rattle.uf_tree.specs.Names.{names_cmp}
 use Rattle.uf_tree.specs.Nodes.{Named}
 use Rattle.uf_tree.specs.Profiles.{is_profile}
-use Rattle.uf_tree.specs.Tree.{Tree, Dir, entries, fold, is_tree, are_trees}
+use Rattle.uf_tree.specs.Tree.{Tree, Dir, entries, fold, fold_each, is_tree, are_trees}
 use Rattle.uf_tree.specs.TreePlan.{Planned, planned, planned_file, planned_dir, members, first_refusal, or_else, dir_refusal, entry, blocks, refusal}
 use Rattle.uf_tree.specs.Validity.{IsDirectory, IsHash, IsNamed}
-use Rattle.uf_tree.proofs.TreeLaws.{fold_each-pairs, pairs-entries}
+use Rattle.uf_tree.proofs.TreeLaws.{fold_each-pairs, meta-entries, pairs-entries}
 use Rattle.uf_tree.proofs.Valid.{entry-valid}
+use Rattle.uf_tree.specs.declared.meta.Meta.{Meta}
 use Rattle.uf_laws.proofs.Held.{tree-digested}
 use Rattle.uf_host.specs.Adding.{HasHeldPlan, IsMember}
 use Rattle.uf_host.specs.HostTree.{Members, with_entries}
@@ -48,22 +50,22 @@ module _ (X : List ℕ → List ℕ) (N : List ℕ → ℕ) (p : Profile) where
   abbrev below_blocks : Members → List Held
   below_blocks ms = flat_map (λ (m : List ℕ × Planned). m.1.plan.blocks) (plans ms)
 
-  planned-dir : (ms : Members) → planned X N p (Dir (entries ms)) ≡ planned_dir X N p (plans ms)
+  planned-dir : (ms : Members) → planned X N p (Dir (entries none ms)) ≡ planned_dir X N p none (plans ms)
   unfolding planned fold
-  planned-dir ms = ap (planned_dir X N p) (fold_each-pairs (planned_file X N p) (planned_dir X N p) (entries ms) ∙ ap plans (pairs-entries ms))
+  planned-dir ms = ap (λ (m : Meta). planned_dir X N p m (fold_each (planned_file X N p) (planned_dir X N p) (entries none ms))) (meta-entries none ms) ∙ ap (planned_dir X N p none) (fold_each-pairs (planned_file X N p) (planned_dir X N p) (entries none ms) ∙ ap plans (pairs-entries none ms))
 
   members-plans : (ms : Members) → members X N p (plans ms) ≡ with_entries X N p ms
   members-plans [] = refl
   members-plans (m ∷ ms) = ap (λ k. (m.0, entry X N p m.1) ∷ k) (members-plans ms)
 
-  pub entry-is : (ms : Members) → entry X N p (Dir (entries ms)) ≡ (own_plan X N p (with_entries X N p ms)).entry
-  entry-is ms = ap (λ (q : Planned). q.plan.entry) (planned-dir ms) ∙ ap (λ l. (own_plan X N p l).entry) (members-plans ms)
+  pub entry-is : (ms : Members) → entry X N p (Dir (entries none ms)) ≡ (own_plan X N p none (with_entries X N p ms)).entry
+  entry-is ms = ap (λ (q : Planned). q.plan.entry) (planned-dir ms) ∙ ap (λ l. (own_plan X N p none l).entry) (members-plans ms)
 
-  blocks-is : (ms : Members) → blocks X N p (Dir (entries ms)) ≡ below_blocks ms ++ (own_plan X N p (with_entries X N p ms)).blocks
-  blocks-is ms = ap (λ (q : Planned). q.plan.blocks) (planned-dir ms) ∙ ap (λ l. below_blocks ms ++ (own_plan X N p l).blocks) (members-plans ms)
+  blocks-is : (ms : Members) → blocks X N p (Dir (entries none ms)) ≡ below_blocks ms ++ (own_plan X N p none (with_entries X N p ms)).blocks
+  blocks-is ms = ap (λ (q : Planned). q.plan.blocks) (planned-dir ms) ∙ ap (λ l. below_blocks ms ++ (own_plan X N p none l).blocks) (members-plans ms)
 
-  refusal-is : (ms : Members) → refusal X N p (Dir (entries ms)) ≡ or_else (first_refusal (plans ms)) (dir_refusal X N p (with_entries X N p ms))
-  refusal-is ms = ap (λ (q : Planned). q.refusal) (planned-dir ms) ∙ ap (λ l. or_else (first_refusal (plans ms)) (dir_refusal X N p l)) (members-plans ms)
+  refusal-is : (ms : Members) → refusal X N p (Dir (entries none ms)) ≡ or_else (first_refusal (plans ms)) (dir_refusal X N p none (with_entries X N p ms))
+  refusal-is ms = ap (λ (q : Planned). q.refusal) (planned-dir ms) ∙ ap (λ l. or_else (first_refusal (plans ms)) (dir_refusal X N p none l)) (members-plans ms)
 
   module _ (told : Told) where
     members-held : (ms : Members) → AllByRecursion (IsMember X N p told) ms → Holds told [] → Holds told (below_blocks ms)
@@ -74,7 +76,7 @@ module _ (X : List ℕ → List ℕ) (N : List ℕ → ℕ) (p : Profile) where
     first-none [] h = refl
     first-none (m ∷ ms) h = ap (λ o. or_else o (first_refusal (plans ms))) h.0.plan.whole ∙ first-none ms h.1
 
-    members-trees : (ms : Members) → AllByRecursion (IsMember X N p told) ms → are_trees (entries ms) ≡ true
+    members-trees : (ms : Members) → AllByRecursion (IsMember X N p told) ms → are_trees (entries none ms) ≡ true
     unfolding is_tree
     members-trees [] h = refl
     members-trees (m ∷ ms) h = and-true _ _ (and-true _ _ h.0.name h.0.plan.tree) (members-trees ms h.1)
@@ -88,12 +90,12 @@ module _ (X : List ℕ → List ℕ) (N : List ℕ → ℕ) (p : Profile) where
 
     -- where nothing refuses the directory of members that have plans, the folder has one
     pub folder-plan : (ms : Members) → AllByRecursion (IsMember X N p told) ms → is_sorted names_cmp ms ≡ true
-        → dir_refusal X N p (with_entries X N p ms) ≡ None → Holds told (own_plan X N p (with_entries X N p ms)).blocks
-        → HasHeldPlan X N p told (Dir (entries ms))
+        → dir_refusal X N p none (with_entries X N p ms) ≡ None → Holds told (own_plan X N p none (with_entries X N p ms)).blocks
+        → HasHeldPlan X N p told (Dir (entries none ms))
     unfolding is_tree
-    folder-plan ms each sorted none held = record {
-      tree = and-true _ _ (ap (is_sorted names_cmp) (pairs-entries ms) ∙ sorted) (members-trees ms each);
-      whole = refusal-is ms ∙ ap (λ o. or_else o (dir_refusal X N p (with_entries X N p ms))) (first-none ms each) ∙ none;
+    folder-plan ms each sorted unrefused held = record {
+      tree = and-true _ _ (ap (is_sorted names_cmp) (pairs-entries none ms) ∙ sorted) (members-trees ms each);
+      whole = refusal-is ms ∙ ap (λ o. or_else o (dir_refusal X N p none (with_entries X N p ms))) (first-none ms each) ∙ unrefused;
       held = subst (Holds told) (sym (blocks-is ms)) (Holds-append told (below_blocks ms) _ (members-held ms each nothing-held) held);
     }
 

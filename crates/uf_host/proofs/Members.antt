@@ -1,21 +1,19 @@
 -- The members of a folder put on a host, one after the other.
-use Rattle.std.proofs.Common.{◌≡◌, ◌≢◌, inl, inr, ℕ, zero, suc, ◌+◌, ◌-◌, ◌<◌, ◌≤◌, List, [], ◌∷◌, ◌++◌, drop, get_or, length, Bool, true, false, ◌&&◌, ◌||◌, ◌==◌, refl, sym, ap, subst, ◌∙◌, arith, append_assoc, append-nil, Ordering, Less, Equal, Greater, Ok, Err}
-use Rattle.std.specs.Prelude.{IfSome, IsTrue, None, Some, Option, not, nat_le}
-use Rattle.std.specs.Ordering.{is_lt, nat_cmp, ordering_reverse}
-use Rattle.std.specs.FinMap.{get}
+use Rattle.std.proofs.Common.{◌≡◌, ◌≢◌, inr, ℕ, zero, suc, ◌+◌, ◌<◌, ◌≤◌, List, [], ◌∷◌, ◌++◌, drop, get_or, length, Bool, true, false, ◌&&◌, ◌||◌, ◌==◌, refl, sym, ap, subst, ◌∙◌, arith, append_assoc, append-nil, Ordering, Less, Equal, Greater, Ok, Err}
+use Rattle.std.specs.Prelude.{IsTrue, None, Some, not}
+use Rattle.std.specs.Ordering.{is_lt, ordering_reverse}
 use Rattle.std.specs.FinMap.Entries.{below_all, is_sorted}
-use Rattle.std.specs.List.{AllByRecursion, list_any}
-use Rattle.std.specs.Cmp.Lexicographic.{slice_cmp, nat_list_cmp_total}
+use Rattle.std.specs.List.{list_any}
+use Rattle.std.specs.Cmp.Lexicographic.{nat_list_cmp_total}
 use Rattle.std.proofs.lemmas.List.{drop_more}
 use Rattle.uf_cid.specs.Blocks.{Lookup}
 use Rattle.uf_cid.specs.declared.cid.Cid.{Cid}
-use Rattle.uf_edge.specs.Host.{HostTold, HostTree, TakesFolder, front, host_changed, is_member_name}
-use Rattle.uf_edge.specs.declared.host.Place.TheVariants.{Folder}
+use Rattle.uf_edge.specs.Host.{HostTold, TakesFolder, front, host_changed, is_member_name}
 use Rattle.uf_lenient.specs.Denoted.{AreDenoted, denotes_within}
 use Rattle.uf_lenient.specs.declared.shapes.Limits.{Limits}
 use Rattle.uf_tree.specs.Names.{is_name, names_cmp}
 use Rattle.uf_tree.specs.Tree.{Entries, Nothing, Tree, With}
-use Rattle.uf_host.specs.Places.{ChangesAt, ChangesIn, ChangesWhere, IsBelow, IsEmptyFolder, Puts, PutsFirst, PutAt, TakesMembers, places_in, places_of, with_places}
+use Rattle.uf_host.specs.Places.{ChangesAt, ChangesIn, ChangesWhere, IsBelow, Puts, PutsFirst, PutAt, TakesMembers, places_in, places_of, with_places}
 use Rattle.uf_host.specs.declared.fault.HostFault.{HostFault}
 use Rattle.uf_host.proofs.Below.{below-folder, folder-above, name-some, sisters-apart}
 use Rattle.uf_host.proofs.Puttings.{changes-both, changes-more, first-all, other-stays, part-behind, part-longer, puts-both, puts-none}
@@ -142,7 +140,7 @@ module _ (held : Lookup) (limits : Limits) (room : ℕ) (folder : List ℕ) wher
   some-next w left es told mid h = by h.rest h.denoted h.whole
     where
       by : (rest : Entries) → AreDenoted held limits room (w ∷ left) rest → h.done ++ places_in folder rest ≡ places_in folder es → NextPut w left es told mid
-      by Nothing denoted whole = absurd denoted
+      by (Nothing m) denoted whole = absurd denoted
       by (With name t more) denoted whole = record {
         tree = t;
         denoted = denoted.1;
@@ -174,7 +172,7 @@ module _ (held : Lookup) (limits : Limits) (room : ℕ) (folder : List ℕ) wher
   some-all es told now h = by h.rest h.denoted h.whole
     where
       by : (rest : Entries) → AreDenoted held limits room [] rest → h.done ++ places_in folder rest ≡ places_in folder es → now ≡ host_changed (with_places (places_in folder es)) told
-      by Nothing denoted whole = h.are_put ∙ ap (λ (l : List PutAt). host_changed (with_places l) told) (sym (append-nil h.done) ∙ whole)
+      by (Nothing m) denoted whole = h.are_put ∙ ap (λ (l : List PutAt). host_changed (with_places l) told) (sym (append-nil h.done) ∙ whole)
       by (With name t more) denoted whole = absurd denoted
 
   pub some-kept : (left : List (List ℕ × Cid)) (es : Entries) (told now : HostTold) → PutSome left es told now → PutsFirst (places_in folder es) told now

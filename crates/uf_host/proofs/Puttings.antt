@@ -1,17 +1,16 @@
 -- What is put on a host, place by place.
-use Rattle.std.proofs.Common.{◌≡◌, ◌≢◌, inl, inr, ℕ, ◌<◌, ◌+◌, List, [], ◌∷◌, ◌++◌, length, take, Bool, true, false, cond, refl, sym, ap, subst, ◌∙◌, append-nil, append_assoc, Result, Ok, Err}
-use Rattle.std.specs.Prelude.{IfSome, IsTrue, None, Some, Option}
+use Rattle.std.proofs.Common.{◌≡◌, ◌≢◌, inl, inr, ℕ, List, [], ◌∷◌, ◌++◌, Bool, true, false, cond, refl, sym, ap, subst, ◌∙◌}
+use Rattle.std.specs.Prelude.{IfSome, None, Some, Option}
 use Rattle.std.specs.FinMap.{get, get-insert, insert, same_map}
 use Rattle.std.specs.List.{AllByRecursion}
 use Rattle.std.specs.Ordering.{eq_by_cmp, nat_cmp}
 use Rattle.std.specs.Cmp.Lexicographic.{slice_cmp, nat_list_cmp_total}
-use Rattle.uf_edge.specs.Host.{HasParent, HostTold, HostTree, IsInFolder, IsRooted, TakesFile, TakesFolder, bytes_of, front, host_changed, is_member_name, with_piece}
+use Rattle.uf_edge.specs.Host.{HasParent, HostTold, HostTree, IsRooted, TakesFile, TakesFolder, bytes_of, front, host_changed, with_piece}
 use Rattle.uf_edge.specs.declared.host.Place.{Place}
 use Rattle.uf_edge.specs.declared.host.Place.TheVariants.{File, Folder}
-use Rattle.uf_edge.proofs.HostPlaces.{not_tied, only_equal, self_tied, tied_same}
-use Rattle.uf_host.specs.Places.{AppendsFirst, AppendsPiece, AreFirstOf, ChangesAt, ChangesIn, ChangesWhere, IsBelow, IsCutShort, IsEmptyFolder, Puts, PutsFile, PutsFirst, PutAt, StopsWriting, TakesMembers, with_places}
-use Rattle.uf_host.specs.declared.fault.HostFault.{HostFault}
-use Rattle.uf_host.proofs.Below.{below-folder, folder-above, member-differs, name-some, nothing-in, sisters-apart}
+use Rattle.uf_edge.proofs.HostPlaces.{not_tied, only_equal, self_tied}
+use Rattle.uf_host.specs.Places.{AreFirstOf, ChangesWhere, PutsFirst, PutAt, TakesMembers, with_places}
+use Rattle.uf_host.proofs.Below.{member-differs, name-some, nothing-in}
 
 -- ---- one place
 

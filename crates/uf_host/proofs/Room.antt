@@ -1,9 +1,7 @@
 -- Room for a tree at a path of a host.
-use Rattle.std.proofs.Common.{◌≡◌, ◌≢◌, ℕ, zero, suc, ◌+◌, ◌-◌, ◌<◌, ◌≤◌, List, [], ◌∷◌, ◌++◌, take, drop, length, Bool, true, false, ◌&&◌, ◌||◌, ◌==◌, cond, refl, sym, ap, subst, ◌∙◌, arith, inl, inr, get_or, append_assoc, Result, Ok, Err, nat_lt, get_or-drop, length-drop}
-use Rattle.std.proofs.lemmas.Bool.{cases_lt}
+use Rattle.std.proofs.Common.{◌≡◌, ◌≢◌, ℕ, zero, suc, ◌+◌, ◌-◌, ◌<◌, List, [], ◌∷◌, ◌++◌, take, drop, length, Bool, true, false, ◌&&◌, ◌||◌, ◌==◌, cond, refl, sym, ap, subst, ◌∙◌, arith, inl, inr, get_or, append_assoc, Result, Ok, Err, get_or-drop, length-drop}
 use Rattle.std.proofs.lemmas.Bool.Decides.{nat_tests}
 use Rattle.std.proofs.lemmas.List.{drop_more, take-append-drop}
-use Rattle.std.proofs.lemmas.Slice.Eq.{bytes_eq-Decides}
 use Rattle.std.proofs.lemmas.Str.{len_utf8_ascii}
 use Rattle.std.proofs.lemmas.Str.Pattern.{NoCharPasses-char}
 use Rattle.std.specs.Prelude.{IfSome, IsTrue, None, Some, Option, not, slice_index}
@@ -13,10 +11,10 @@ use Rattle.std.specs.Option.{option_map}
 use Rattle.std.specs.Path.{rfind_below, rsplit_once}
 use Rattle.std.specs.Str.{NoCharPasses, bytes_eq}
 use Rattle.std.specs.Str.Pattern.{HasCharAt}
-use Rattle.uf_edge.specs.Host.{HasParent, HostTold, HostTree, IsInFolder, TakesFolder, front, is_member_name, root}
+use Rattle.uf_edge.specs.Host.{HasParent, HostTold, HostTree, TakesFolder, is_member_name, root}
 use Rattle.uf_edge.specs.declared.host.Place.{Place}
 use Rattle.uf_edge.specs.declared.host.Place.TheVariants.{File, Folder}
-use Rattle.uf_host.specs.Getting.{FindsFolder, FindsRoom, HasRoom, IsNamedBy, SplitsLast, lacks_slash}
+use Rattle.uf_host.specs.Getting.{FindsFolder, HasRoom, lacks_slash}
 use Rattle.uf_host.specs.Paths.{folder_named, has_folder, has_folder_by, is_folder_there}
 use Rattle.uf_host.specs.Places.{IsFolderThere}
 use Rattle.uf_host.specs.declared.fault.HostFault.{HostFault}

@@ -9,6 +9,7 @@ use Rattle.uf_edge.specs.Host.{HostTold, ReadsAt}
 use Rattle.uf_edge.specs.declared.host.Fetched.TheVariants as fetched
 use Rattle.uf_store.specs.Contents.{Told}
 use Rattle.uf_store.specs.Keeping.{Holds}
+use Rattle.uf_tree.specs.Metas.{none}
 use Rattle.uf_tree.specs.FilePlan.{file_plan}
 use Rattle.uf_tree.specs.Profiles.{most_bytes}
 use Rattle.uf_tree.specs.declared.nodes.Entry.{Entry}
@@ -152,6 +153,6 @@ module _ (X : List ℕ → List ℕ) (p : Profile) where
     are_bytes = all.taken.are_bytes;
     few = all.taken.few;
     is = all.is;
-    entry_is = subst (λ (q : Profile). e ≡ (file_plan X q all.bytes).entry) all.taken.profile (closes.entry_is all.bytes all.taken.fed);
-    held = subst (λ (q : Profile). Holds told_now (file_plan X q all.bytes).blocks) all.taken.profile (closes.held all.bytes all.taken.held);
+    entry_is = subst (λ (q : Profile). e ≡ (file_plan X q none all.bytes).entry) all.taken.profile (closes.entry_is all.bytes all.taken.fed);
+    held = subst (λ (q : Profile). Holds told_now (file_plan X q none all.bytes).blocks) all.taken.profile (closes.held all.bytes all.taken.held);
   }

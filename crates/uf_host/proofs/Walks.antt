@@ -16,6 +16,7 @@ use Rattle.std.specs.List.Sorted.{IsStrictlySortedBy}
 use Rattle.std.specs.Ordering.{nat_cmp}
 use Rattle.std.specs.Cmp.Lexicographic.{slice_cmp}
 use Rattle.uf_cid.specs.Bytes.{IsBytes}
+use Rattle.uf_tree.specs.Metas.{none}
 use Rattle.uf_tree.specs.FilePlan.{file_plan}
 use Rattle.uf_shard.specs.Answers.{Gives}
 use Rattle.uf_shard.specs.declared.fault.DirFault.{DirFault}
@@ -111,16 +112,16 @@ map-last f (y ∷ xs) x = ap (λ l. f y ∷ l) (map-last f xs x)
 
 module _ (X : List ℕ → List ℕ) (N : List ℕ → ℕ) (p : Profile) where
   rows-more : (row : List ℕ) (ms : Members) (name : List ℕ) (t : Tree)
-      → rows_in X N p row (entries (ms ++ (name, t) ∷ [])) ≡ rows_in X N p row (entries ms) ++ rows_of X N p (row ++ 47 ∷ name) t
+      → rows_in X N p row (entries none (ms ++ (name, t) ∷ [])) ≡ rows_in X N p row (entries none ms) ++ rows_of X N p (row ++ 47 ∷ name) t
   unfolding rows_of
   rows-more row [] name t = append-nil _
   rows-more row (m ∷ ms) name t =
       ap (λ xs. rows_of X N p (row ++ 47 ∷ m.0) m.1 ++ xs) (rows-more row ms name t)
-      ∙ sym (append_assoc (rows_of X N p (row ++ 47 ∷ m.0) m.1) (rows_in X N p row (entries ms)) (rows_of X N p (row ++ 47 ∷ name) t))
+      ∙ sym (append_assoc (rows_of X N p (row ++ 47 ∷ m.0) m.1) (rows_in X N p row (entries none ms)) (rows_of X N p (row ++ 47 ∷ name) t))
 
   pub rows-whole : (row : List ℕ) (t : Tree) → rows_of X N p row t ≡ rows_below X N p row t ++ record { path = row; entry = plan.entry X N p t } ∷ []
   unfolding rows_of
-  rows-whole row (File bytes) = refl
+  rows-whole row (File m bytes) = refl
   rows-whole row (Dir es) = refl
 
   module _ (host : HostTold) (levels : ℕ) (site : Site) where
@@ -152,7 +153,7 @@ module _ (X : List ℕ → List ℕ) (N : List ℕ → ℕ) (p : Profile) where
           is = ap (λ xs. xs ++ e ∷ []) are.is ∙ ap (λ (x : Named). with_entries X N p ms ++ x ∷ []) (pair-is e name (plan.entry X N p t) adds.same added.entry_is)
               ∙ sym (map-last (λ (m : List ℕ × Tree). (m.0, plan.entry X N p m.1)) ms (name, t));
           rows_are = added.rows_are ∙ ap (λ xs. xs ++ rows_of X N p (site.row ++ 47 ∷ name) t) are.rows_are
-              ∙ append_assoc rows (rows_in X N p site.row (entries ms)) (rows_of X N p (site.row ++ 47 ∷ name) t)
+              ∙ append_assoc rows (rows_in X N p site.row (entries none ms)) (rows_of X N p (site.row ++ 47 ∷ name) t)
               ∙ ap (λ xs. rows ++ xs) (sym (rows-more site.row ms name t));
           said = told-both host _ _ _ (λ tree h k. each-more (walk_down X N p tree levels) site.path names name ms t h k) are.said said;
         }
@@ -215,7 +216,7 @@ module _ (X : List ℕ → List ℕ) (N : List ℕ → ℕ) (p : Profile) where
   -- ---- a file
 
   file-walk : (tree : HostTree) (levels : ℕ) (path bytes : List ℕ) → get tree path ≡ Some (place.File bytes)
-      → walk_down X N p tree levels path ≡ unless_refused path (File bytes) (plan.too_long p bytes)
+      → walk_down X N p tree levels path ≡ unless_refused path (File none bytes) (plan.too_long p bytes)
   unfolding walk_down
   file-walk tree zero path bytes there = ap (tree_there X N p (Err (faults.TooDeep path)) path) there
   file-walk tree (suc levels) path bytes there =
@@ -229,26 +230,26 @@ module _ (X : List ℕ → List ℕ) (N : List ℕ → ℕ) (p : Profile) where
   long-not bytes h = let test : nat_lt (most_bytes p) (length bytes) ≡ false = grind (arith, nat_tests) in
       ap (λ (b : Bool). cond b (Some plan.FileTooLong) None) test
 
-  file-plan : (told : Told) (bytes : List ℕ) → IsTrue (is_tree (File bytes)) → length bytes ≤ most_bytes p → Holds told (plan.blocks X N p (File bytes)) → HasHeldPlan X N p told (File bytes)
+  file-plan : (told : Told) (bytes : List ℕ) → IsTrue (is_tree (File none bytes)) → length bytes ≤ most_bytes p → Holds told (plan.blocks X N p (File none bytes)) → HasHeldPlan X N p told (File none bytes)
   unfolding planned fold
   file-plan told bytes tree few held = record { tree = tree; whole = long-not bytes few; held = held }
 
-  is-file : (bytes : List ℕ) → IsBytes bytes → IsTrue (is_tree (File bytes))
+  is-file : (bytes : List ℕ) → IsBytes bytes → IsTrue (is_tree (File none bytes))
   unfolding is_tree
   is-file bytes h = bytes-all bytes h
 
-  entry-file : (bytes : List ℕ) → plan.entry X N p (File bytes) ≡ (file_plan X p bytes).entry
+  entry-file : (bytes : List ℕ) → plan.entry X N p (File none bytes) ≡ (file_plan X p none bytes).entry
   unfolding planned fold
   entry-file bytes = refl
 
-  blocks-file : (bytes : List ℕ) → plan.blocks X N p (File bytes) ≡ (file_plan X p bytes).blocks
+  blocks-file : (bytes : List ℕ) → plan.blocks X N p (File none bytes) ≡ (file_plan X p none bytes).blocks
   unfolding planned fold
   blocks-file bytes = refl
 
   pub file-below : (told : Told) (host : HostTold) (levels : ℕ) (site : Site) (rows rows_now : List AddedRow) (r : Result Entry HostFault)
       → IsFileAt host site.path → rows_now ≡ rows → AddsFile X p told host site.path r → AddsBelow X N p told host levels site rows rows_now r
   file-below told host levels site rows rows_now (Ok e) file same adds = (
-    File adds.bytes,
+    File none adds.bytes,
     record {
       plan = file-plan told adds.bytes (is-file adds.bytes adds.are_bytes) adds.few (subst (Holds told) (sym (blocks-file adds.bytes)) adds.held);
       entry_is = adds.entry_is ∙ sym (entry-file adds.bytes);
@@ -258,19 +259,19 @@ module _ (X : List ℕ → List ℕ) (N : List ℕ → ℕ) (p : Profile) where
   )
     where
       by : (h : HostTold) → IsFileAt h site.path → OfFileAt h site.path (λ whole. whole ≡ adds.bytes)
-          → IsSaid h (λ tree. walk_down X N p tree levels site.path) (Ok (File adds.bytes))
+          → IsSaid h (λ tree. walk_down X N p tree levels site.path) (Ok (File none adds.bytes))
       by None file is = tt
       by (Some tree) file is =
           file-walk tree levels site.path file.bytes file.there
-          ∙ ap (λ (b : List ℕ). unless_refused site.path (File b) (plan.too_long p b)) (is file.bytes file.there)
-          ∙ ap (unless_refused site.path (File adds.bytes)) (long-not adds.bytes adds.few)
+          ∙ ap (λ (b : List ℕ). unless_refused site.path (File none b) (plan.too_long p b)) (is file.bytes file.there)
+          ∙ ap (unless_refused site.path (File none adds.bytes)) (long-not adds.bytes adds.few)
   file-below told host levels site rows rows_now (Err f) file same adds = said-more (IsLongFile p host site.path) (λ f. IsSaid host (λ tree. walk_down X N p tree levels site.path) (Err f)) f (λ long. by host file long) adds
     where
       by : (h : HostTold) → IsFileAt h site.path → IsLongFile p h site.path f → IsSaid h (λ tree. walk_down X N p tree levels site.path) (Err f)
       by None file long = tt
       by (Some tree) file long =
           file-walk tree levels site.path file.bytes file.there
-          ∙ ap (unless_refused site.path (File file.bytes)) (long-is file.bytes (long.many file.bytes file.there))
+          ∙ ap (unless_refused site.path (File none file.bytes)) (long-is file.bytes (long.many file.bytes file.there))
           ∙ ap (λ (g : HostFault). Err g) (sym long.is)
 
   -- ---- nothing, and a folder
@@ -286,9 +287,9 @@ module _ (X : List ℕ → List ℕ) (N : List ℕ → ℕ) (p : Profile) where
 
   pub deep-said : (host : HostTold) (levels : ℕ) (path : List ℕ) → levels ≡ 0 → IsFolderAt host path → IsSaid host (λ tree. walk_down X N p tree levels path) (Err (faults.TooDeep path))
   unfolding walk_down
-  deep-said None levels path none folder = tt
-  deep-said (Some tree) levels path none folder =
-      ap (λ n. walk_down X N p tree n path) none ∙ ap (tree_there X N p (Err (faults.TooDeep path)) path) folder
+  deep-said None levels path zero_is folder = tt
+  deep-said (Some tree) levels path zero_is folder =
+      ap (λ n. walk_down X N p tree n path) zero_is ∙ ap (tree_there X N p (Err (faults.TooDeep path)) path) folder
 
   folder-walk : (tree : HostTree) (levels below : ℕ) (path : List ℕ) (names : List (List ℕ)) → levels ≡ suc below → get tree path ≡ Some place.Folder → names ≡ names_in tree path
       → walk_down X N p tree levels path ≡ (each_member (walk_down X N p tree below) path names >>= directory_of X N p path)
@@ -324,32 +325,32 @@ module _ (X : List ℕ → List ℕ) (N : List ℕ → ℕ) (p : Profile) where
   pub folder-below : (a b : Told) (host : HostTold) (levels below : ℕ) (site : Site) (names : List (List ℕ)) (rows rows_now : List AddedRow) (l : List Named) (e : Entry)
       → levels ≡ suc below → IsFolderAt host site.path → AreNames names host site.path → KeepsGood X a b
       → IsOfMembers X N p a host below site names rows rows_now l
-      → Gives (plan.dir_refusal X N p l) (own_plan X N p l).entry (Ok e) → Holds b (own_plan X N p l).blocks
+      → Gives (plan.dir_refusal X N p none l) (own_plan X N p none l).entry (Ok e) → Holds b (own_plan X N p none l).blocks
       → AddsBelow X N p b host levels site rows rows_now (Ok e)
   folder-below a b host levels below site names rows rows_now l e one folder are keeps of gives held =
       let ms = of.members in
-      let none : plan.dir_refusal X N p (with_entries X N p ms) ≡ None = ap (plan.dir_refusal X N p) (sym of.is) ∙ gives.0 in
+      let whole : plan.dir_refusal X N p none (with_entries X N p ms) ≡ None = ap (plan.dir_refusal X N p none) (sym of.is) ∙ gives.0 in
       let sorted = sorted-names ms (subst (IsStrictlySortedBy (slice_cmp nat_cmp)) (sym of.are_named) are.ascend) in (
-        Dir (entries ms),
+        Dir (entries none ms),
         record {
-          plan = folder-plan X N p b ms (members-kept X N p a b ms keeps of.each) sorted none (subst (λ (l : List Named). Holds b (own_plan X N p l).blocks) of.is held);
-          entry_is = gives.1 ∙ ap (λ (l : List Named). (own_plan X N p l).entry) of.is ∙ sym (entry-is X N p ms);
+          plan = folder-plan X N p b ms (members-kept X N p a b ms keeps of.each) sorted whole (subst (λ (l : List Named). Holds b (own_plan X N p none l).blocks) of.is held);
+          entry_is = gives.1 ∙ ap (λ (l : List Named). (own_plan X N p none l).entry) of.is ∙ sym (entry-is X N p ms);
           rows_are = of.rows_are;
         },
-        members-then host levels below site.path names ms (Ok (Dir (entries ms))) one folder are (ap (unless_refused site.path (Dir (entries ms))) none) of.said,
+        members-then host levels below site.path names ms (Ok (Dir (entries none ms))) one folder are (ap (unless_refused site.path (Dir (entries none ms))) whole) of.said,
       )
 
   pub folder-refused : (a : Told) (host : HostTold) (levels below : ℕ) (site : Site) (names : List (List ℕ)) (rows rows_now : List AddedRow) (l : List Named) (why : DirFault)
       → levels ≡ suc below → IsFolderAt host site.path → AreNames names host site.path
       → IsOfMembers X N p a host below site names rows rows_now l
-      → Gives (plan.dir_refusal X N p l) (own_plan X N p l).entry (Err why)
+      → Gives (plan.dir_refusal X N p none l) (own_plan X N p none l).entry (Err why)
       → IsRefusal host (λ tree. walk_down X N p tree levels site.path) (of_directory why)
   folder-refused a host levels below site names rows rows_now l (directory.Collision first second) one folder are of gives =
       members-then host levels below site.path names of.members (Err (faults.Collision first second)) one folder are
-      (ap (λ (l : List Named). unless_refused site.path (Dir (entries of.members)) (plan.dir_refusal X N p l)) (sym of.is) ∙ ap (unless_refused site.path (Dir (entries of.members))) gives) of.said
+      (ap (λ (l : List Named). unless_refused site.path (Dir (entries none of.members)) (plan.dir_refusal X N p none l)) (sym of.is) ∙ ap (unless_refused site.path (Dir (entries none of.members))) gives) of.said
   folder-refused a host levels below site names rows rows_now l directory.TooBig one folder are of gives =
       members-then host levels below site.path names of.members (Err faults.TooBig) one folder are
-      (ap (λ (l : List Named). unless_refused site.path (Dir (entries of.members)) (plan.dir_refusal X N p l)) (sym of.is) ∙ ap (unless_refused site.path (Dir (entries of.members))) gives) of.said
+      (ap (λ (l : List Named). unless_refused site.path (Dir (entries none of.members)) (plan.dir_refusal X N p none l)) (sym of.is) ∙ ap (unless_refused site.path (Dir (entries none of.members))) gives) of.said
   folder-refused a host levels below site names rows rows_now l (directory.Store fault) one folder are of gives = gives
 
   -- ---- a row
@@ -375,7 +376,7 @@ module _ (X : List ℕ → List ℕ) (N : List ℕ → ℕ) (p : Profile) where
   abbrev one : Result Tree HostFault → Result Tree HostFault
   one r = elim r as (λ r. Result Tree HostFault) [ Ok t ↦ Ok t | Err f ↦ Err (for_one f) ]
 
-  one-file : (path bytes : List ℕ) (o : Option plan.Refusal) → unless_refused path (File bytes) o ≡ one (unless_refused path (File bytes) o)
+  one-file : (path bytes : List ℕ) (o : Option plan.Refusal) → unless_refused path (File none bytes) o ≡ one (unless_refused path (File none bytes) o)
   one-file path bytes None = refl
   one-file path bytes (Some plan.FileTooLong) = refl
   one-file path bytes (Some (plan.Collision first second)) = refl

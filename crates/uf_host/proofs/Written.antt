@@ -1,15 +1,14 @@
 -- What of a denoted tree is put on a host.
-use Rattle.std.proofs.Common.{◌≡◌, inl, inr, ℕ, zero, suc, ◌+◌, ◌-◌, ◌≤◌, List, [], ◌∷◌, ◌++◌, refl, sym, ap, subst, ◌∙◌, arith, Result, Ok, Err}
-use Rattle.std.specs.Prelude.{IfSome, None, Some, Option}
+use Rattle.std.proofs.Common.{◌≡◌, inl, inr, ℕ, zero, suc, ◌-◌, ◌≤◌, List, [], ◌∷◌, refl, sym, ap, subst, ◌∙◌, arith, Result, Ok, Err}
+use Rattle.std.specs.Prelude.{IfSome, None, Some}
 use Rattle.std.specs.FinMap.{insert}
-use Rattle.std.specs.List.{AllByRecursion}
 use Rattle.uf_cid.specs.Blocks.{Lookup}
 use Rattle.uf_cid.specs.declared.cid.Cid.{Cid}
-use Rattle.uf_edge.specs.Host.{HostTold, HostTree, front, host_changed}
-use Rattle.uf_edge.specs.declared.host.Place.TheVariants.{File as FileThere, Folder}
+use Rattle.uf_edge.specs.Host.{HostTold, host_changed}
+use Rattle.uf_edge.specs.declared.host.Place.TheVariants.{Folder}
 use Rattle.uf_lenient.specs.Answers.{FollowsReading, IsFault, IsOwn, IsStoreOwn, store_fault_of}
 use Rattle.uf_lenient.specs.Denoted.{AreDenoted, DenotesBy, IsStep, denotes_within}
-use Rattle.uf_lenient.specs.Reading.{file_of, shallow_of, tree_within}
+use Rattle.uf_lenient.specs.Reading.{file_of, shallow_of}
 use Rattle.uf_lenient.specs.declared.fault.DagFault.{DagFault}
 use Rattle.uf_lenient.specs.declared.fault.DagFault.TheVariants as dag
 use Rattle.uf_lenient.specs.declared.shapes.Limits.{Limits}
@@ -20,11 +19,11 @@ use Rattle.uf_store.specs.Calls.{OnlyReads}
 use Rattle.uf_store.specs.Contents.{Contents, Told}
 use Rattle.uf_store.specs.Faults.{NoneIsBad}
 use Rattle.uf_store.specs.Seen.{Seen}
-use Rattle.uf_store.specs.declared.store.StoreFault.{StoreFault}
 use Rattle.uf_store.proofs.Causes.{calm-memory}
 use Rattle.uf_tree.specs.Tree.{Dir, Entries, File, Tree}
+use Rattle.uf_tree.specs.declared.meta.Meta.{Meta}
 use Rattle.uf_host.specs.Faults.{edge_fault, fault_of_reading}
-use Rattle.uf_host.specs.Places.{ChangesAt, ChangesIn, IsBelow, IsOfHost, MakesFolderAt, Puts, PutsFile, PutsFirst, PutAt, StopsWriting, places_in, places_of, with_places}
+use Rattle.uf_host.specs.Places.{ChangesAt, ChangesIn, IsBelow, IsOfHost, Puts, PutsFile, PutAt, StopsWriting, places_in, places_of, with_places}
 use Rattle.uf_host.specs.declared.fault.HostFault.{HostFault}
 use Rattle.uf_host.specs.declared.fault.HostFault.TheVariants as faults
 use Rattle.uf_host.proofs.Puttings.{changes-both, changes-more, changes-one, part-behind, part-none, puts-both}
@@ -106,15 +105,15 @@ module _ (held : Lookup) (limits : Limits) where
   same_shape c shape s is says = let same : Ok s ≡ Ok shape = sym says ∙ is in cc
 
   -- it is a file
-  pub file-puts : (room : ℕ) (c : Cid) (t : Tree) (shape : Shape) (path : List ℕ) (told now : HostTold) (r : Result (Unit {0}) HostFault) → 1 ≤ room → denotes_within held limits room c ≡ Ok t
-      → FollowsReading (λ (s : Shape). s) (shallow_of held limits c) (Ok shape) → shape ≡ FileShape → ((bytes : List ℕ) → file_of held limits c ≡ Ok bytes → PutsFile path bytes told now r) → Puts (places_of path t) told now r
+  pub file-puts : (room : ℕ) (c : Cid) (t : Tree) (shape : Shape) (meta : Meta) (path : List ℕ) (told now : HostTold) (r : Result (Unit {0}) HostFault) → 1 ≤ room → denotes_within held limits room c ≡ Ok t
+      → FollowsReading (λ (s : Shape). s) (shallow_of held limits c) (Ok shape) → shape ≡ FileShape meta → ((bytes : List ℕ) → file_of held limits c ≡ Ok bytes → PutsFile path bytes told now r) → Puts (places_of path t) told now r
   unfolding places_of
-  file-puts room c t shape path told now r some is says same puts =
+  file-puts room c t shape meta path told now r some is says same puts =
       let s = step_at room c t some is in
       by t (subst (DenotesBy held limits (room - 1) c t) (sym (same_shape c s.shape shape s.shaped says) ∙ same) s.by)
     where
-      by : (u : Tree) → DenotesBy held limits (room - 1) c u FileShape → Puts (places_of path u) told now r
-      by (File bytes) d = puts bytes d
+      by : (u : Tree) → DenotesBy held limits (room - 1) c u (FileShape meta) → Puts (places_of path u) told now r
+      by (File m bytes) d = puts bytes d.1
       by (Dir es) d = absurd d
 
   -- it is a directory
@@ -123,16 +122,16 @@ module _ (held : Lookup) (limits : Limits) where
     pub is : Dir es ≡ t
     pub denoted : AreDenoted held limits room ways es
 
-  pub folder-there : (room : ℕ) (c : Cid) (t : Tree) (shape : Shape) (ways list : List (List ℕ × Cid)) → 1 ≤ room → denotes_within held limits room c ≡ Ok t → FollowsReading (λ (s : Shape). s) (shallow_of held limits c) (Ok shape) → shape ≡ FolderShape ways → list ≡ ways
+  pub folder-there : (room : ℕ) (c : Cid) (t : Tree) (shape : Shape) (meta : Meta) (ways list : List (List ℕ × Cid)) → 1 ≤ room → denotes_within held limits room c ≡ Ok t → FollowsReading (λ (s : Shape). s) (shallow_of held limits c) (Ok shape) → shape ≡ FolderShape meta ways → list ≡ ways
       → IsFolder (room - 1) t list
-  folder-there room c t shape ways list some is says same same_list =
+  folder-there room c t shape meta ways list some is says same same_list =
       let s = step_at room c t some is in
-      let whole : s.shape ≡ FolderShape list = sym (same_shape c s.shape shape s.shaped says) ∙ same ∙ ap FolderShape (sym same_list) in
+      let whole : s.shape ≡ FolderShape meta list = sym (same_shape c s.shape shape s.shaped says) ∙ same ∙ ap (FolderShape meta) (sym same_list) in
       by t (subst (DenotesBy held limits (room - 1) c t) whole s.by)
     where
-      by : (u : Tree) → DenotesBy held limits (room - 1) c u (FolderShape list) → IsFolder (room - 1) u list
-      by (File bytes) d = absurd d
-      by (Dir es) d = record { es = es; is = refl; denoted = d }
+      by : (u : Tree) → DenotesBy held limits (room - 1) c u (FolderShape meta list) → IsFolder (room - 1) u list
+      by (File m bytes) d = absurd d
+      by (Dir es) d = record { es = es; is = refl; denoted = d.1 }
 
 -- a folder was made, and its members were put, or some of them
 pub folder-puts : (path : List ℕ) (es : Entries) (told mid now : HostTold) (r : Result (Unit {0}) HostFault) → mid ≡ host_changed (λ tree. insert tree path Folder) told → Puts (places_in path es) mid now r → Puts (places_of path (Dir es)) told now r

@@ -6,6 +6,7 @@ use Rattle.std.specs.List.{AllByRecursion}
 use Rattle.uf_edge.specs.Host.{HostTold, HostTree}
 use Rattle.uf_store.specs.Contents.{Told}
 use Rattle.uf_store.specs.Keeping.{Holds}
+use Rattle.uf_tree.specs.Metas.{none}
 use Rattle.uf_tree.specs.Names.{is_name}
 use Rattle.uf_tree.specs.Nodes.{Named}
 use Rattle.uf_tree.specs.Tree.{Tree, entries, is_tree}
@@ -87,7 +88,7 @@ module _ (X : List ℕ → List ℕ) (N : List ℕ → ℕ) (p : Profile) where
     pub are_named : map (λ (m : List ℕ × Tree). m.0) members ≡ names
     pub each : AllByRecursion (IsMember told) members
     pub is : l ≡ with_entries X N p members
-    pub rows_are : rows_now ≡ rows ++ rows_in X N p site.row (entries members)
+    pub rows_are : rows_now ≡ rows ++ rows_in X N p site.row (entries none members)
     pub said : IsSaid host (λ tree. each_member (walk_down X N p tree levels) site.path names) (Ok members)
 
   abbrev pub AddsMembers : Told → HostTold → ℕ → Site → List (List ℕ) → List AddedRow → List AddedRow

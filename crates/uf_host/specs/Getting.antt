@@ -17,7 +17,7 @@ use Rattle.uf_lenient.specs.declared.shapes.Limits.{Limits}
 use Rattle.uf_store.specs.declared.store.StoreFault.TheVariants.{Memory}
 use Rattle.uf_tree.specs.Tree.{Tree}
 use Rattle.uf_host.specs.Paths.{has_folder}
-use Rattle.uf_host.specs.Places.{PutsFirst, StopsWriting, places_of, with_places}
+use Rattle.uf_host.specs.Places.{PutsFirst, places_of, with_places}
 use Rattle.uf_host.specs.declared.fault.HostFault.{HostFault}
 use Rattle.uf_host.specs.declared.fault.HostFault.TheVariants.{Absent, Dag, Exists, Read, Store, Write}
 

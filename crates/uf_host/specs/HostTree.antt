@@ -1,4 +1,4 @@
--- The tree that a host has at a path, by a profile, or the first fault of a walk over it.
+-- The tree that a host has at a path, by a profile and without metadata, or the first fault of a walk over it.
 use Rattle.std.specs.Prelude.{ℕ, zero, suc, List, [], ◌∷◌, ◌++◌, map, Bool, true, false, Some, None, if◌then◌else◌}
 use Rattle.std.specs.declared.option.Option.{Option}
 use Rattle.std.specs.declared.result.Result.{Result}
@@ -8,6 +8,7 @@ use Rattle.uf_varint.specs.Fields.{◌>>=◌}
 use Rattle.uf_edge.specs.Host as edge
 use Rattle.uf_edge.specs.declared.host.Place.{Place}
 use Rattle.uf_edge.specs.declared.host.Place.TheVariants as place
+use Rattle.uf_tree.specs.Metas.{none}
 use Rattle.uf_tree.specs.declared.profile.Profile.{Profile}
 use Rattle.uf_tree.specs.Names.{is_name}
 use Rattle.uf_tree.specs.Nodes.{Named}
@@ -50,12 +51,12 @@ module _ (X : List ℕ → List ℕ) (N : List ℕ → ℕ) (p : Profile) where
 
   -- the directory of these members, unless it has no plan
   abbrev pub directory_of : List ℕ → Members → Result Tree HostFault
-  directory_of path ms = unless_refused path (Dir (entries ms)) (plan.dir_refusal X N p (with_entries ms))
+  directory_of path ms = unless_refused path (Dir (entries none ms)) (plan.dir_refusal X N p none (with_entries ms))
 
   -- what is at a path, where this is what a folder gives
   abbrev pub tree_there : Result Tree HostFault → List ℕ → Option Place → Result Tree HostFault
   tree_there folder path None = Err Absent
-  tree_there folder path (Some (place.File bytes)) = unless_refused path (File bytes) (plan.too_long p bytes)
+  tree_there folder path (Some (place.File bytes)) = unless_refused path (File none bytes) (plan.too_long p bytes)
   tree_there folder path (Some place.Folder) = folder
 
   module _ (host : edge.HostTree) where
@@ -82,14 +83,14 @@ module _ (X : List ℕ → List ℕ) (N : List ℕ → ℕ) (p : Profile) where
   -- the rows of a tree and of everything in it: what is in a directory before it, in the order of the names
   unfoldable mutual
     pub rows_of : List ℕ → Tree → List AddedRow
-    rows_of path (File bytes) = row_with path (File bytes) ∷ []
+    rows_of path (File m bytes) = row_with path (File m bytes) ∷ []
     rows_of path (Dir es) = rows_in path es ++ row_with path (Dir es) ∷ []
 
     pub rows_in : List ℕ → Entries → List AddedRow
-    rows_in path Nothing = []
+    rows_in path (Nothing m) = []
     rows_in path (With name t es) = rows_of (path ++ 47 ∷ name) t ++ rows_in path es
 
   -- the rows of everything in a tree
   abbrev pub rows_below : List ℕ → Tree → List AddedRow
-  rows_below path (File bytes) = []
+  rows_below path (File m bytes) = []
   rows_below path (Dir es) = rows_in path es

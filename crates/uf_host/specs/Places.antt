@@ -1,6 +1,5 @@
 -- A tree as a host has it, path by path, and how far it was written there.
 use Rattle.std.specs.Prelude.{◌≡◌, ◌≢◌, ◌⊎◌, ℕ, List, [], ◌∷◌, ◌++◌, take, IfSome, IsTrue, None, Some, true, false, ⊤}
-use Rattle.std.specs.declared.option.Option.{Option}
 use Rattle.std.specs.declared.result.Result.{Result}
 use Rattle.std.specs.declared.result.Result.TheVariants.{Ok, Err}
 use Rattle.std.specs.FinMap.{get, insert}
@@ -19,14 +18,15 @@ use Rattle.uf_host.specs.declared.fault.HostFault.TheVariants.{Absent, Read, Sto
 abbrev pub PutAt : Type 0
 PutAt = List ℕ × Place
 
--- what a tree is at a path and below it: a folder in front of what is in it, in the order of the names
+-- what a tree is at a path and below it: a folder in front of what is in it, in the order of the names; metadata
+-- isn't written
 unfoldable mutual
   pub places_of : List ℕ → Tree → List PutAt
-  places_of path (File bytes) = (path, place.File bytes) ∷ []
+  places_of path (File m bytes) = (path, place.File bytes) ∷ []
   places_of path (Dir es) = (path, place.Folder) ∷ places_in path es
 
   pub places_in : List ℕ → Entries → List PutAt
-  places_in folder Nothing = []
+  places_in folder (Nothing m) = []
   places_in folder (With name t es) = places_of (front folder ++ name) t ++ places_in folder es
 
 -- a host on which these were put, one after the other

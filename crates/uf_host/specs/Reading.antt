@@ -9,6 +9,7 @@ use Rattle.uf_edge.specs.declared.host.Place.TheVariants.{File}
 use Rattle.uf_build.specs.Building.{Building, HasFed, HoldsFed}
 use Rattle.uf_store.specs.Contents.{Told}
 use Rattle.uf_store.specs.Keeping.{Holds}
+use Rattle.uf_tree.specs.Metas.{none}
 use Rattle.uf_tree.specs.FilePlan.{file_plan}
 use Rattle.uf_tree.specs.Profiles.{most_bytes}
 use Rattle.uf_tree.specs.declared.nodes.Entry.{Entry}
@@ -90,8 +91,8 @@ pub record IsAddedFile (X : List ℕ → List ℕ) (p : Profile) (told : Told) (
   pub are_bytes : IsBytes bytes
   pub few : length bytes ≤ most_bytes p
   pub is : OfFileAt host path (λ whole. whole ≡ bytes)
-  pub entry_is : e ≡ (file_plan X p bytes).entry
-  pub held : Holds told (file_plan X p bytes).blocks
+  pub entry_is : e ≡ (file_plan X p none bytes).entry
+  pub held : Holds told (file_plan X p none bytes).blocks
 
 -- the file at a path, or why there is none
 abbrev pub AddsFile : (List ℕ → List ℕ) → Profile → Told → HostTold → List ℕ → Result Entry HostFault → Type 0
@@ -100,5 +101,5 @@ AddsFile X p told host path (Err fault) = IsSaidOr (IsLongFile p host path) faul
 
 -- what a builder has taken is a file: its entry, whose blocks are held
 pub record ClosesHostFile (X : List ℕ → List ℕ) (told told_now : Told) (b : Building) (e : Entry) : Type 0 where
-  pub entry_is : (bytes : List ℕ) → HasFed X bytes b → e ≡ (file_plan X b.profile bytes).entry
-  pub held : (bytes : List ℕ) → HoldsFed X bytes told b → Holds told_now (file_plan X b.profile bytes).blocks
+  pub entry_is : (bytes : List ℕ) → HasFed X bytes b → e ≡ (file_plan X b.profile none bytes).entry
+  pub held : (bytes : List ℕ) → HoldsFed X bytes told b → Holds told_now (file_plan X b.profile none bytes).blocks

@@ -56,8 +56,8 @@ pub fn put_tree<S: Store, W: Host, L: Ledger>(
         return Err(HostFault::Dag(DagFault::TooDeep(*cid)));
     }
     match shallow(export.alloc, store, cid, &export.limits, touches)? {
-        Shape::File => put_file(export, store, host, cid, path, touches),
-        Shape::Folder(ways) => {
+        Shape::File(_) => put_file(export, store, host, cid, path, touches),
+        Shape::Folder(_, ways) => {
             make_folder(host, path)?;
             put_members(
                 export,

@@ -17,7 +17,7 @@ use uf_cid::{Memory, Text, Texts};
 use uf_edge::{Host, Kind, Listing};
 use uf_murmur::NameHash;
 use uf_store::{Steps, Store, StoreFault};
-use uf_tree::{Entry, Name, NameFault, Pair, Pairs};
+use uf_tree::{Entry, Meta, Name, NameFault, Pair, Pairs};
 
 // Adds what is at a site, and its rows; so many levels of folders may be walked.
 #[cycle(walk)]
@@ -106,7 +106,15 @@ fn add_folder<S: Store, N: NameHash, W: Host, L: Ledger>(
     }
     let names = names_at(host, site)?;
     let pairs = add_members::<S, N, W, L>(import, store, host, site, &names, levels - 1, touches)?;
-    let entry = uf_dir::build::<S, N, L>(import.alloc, store, &import.profile, &pairs, touches)?;
+    let bare = Meta::none();
+    let entry = uf_dir::build::<S, N, L>(
+        import.alloc,
+        store,
+        &import.profile,
+        &pairs,
+        &bare,
+        touches,
+    )?;
     Ok(entry)
 }
 

@@ -10,6 +10,7 @@ use Rattle.uf_build.specs.Building.{Building, HasFed, HoldsFed}
 use Rattle.uf_store.specs.Contents as store
 use Rattle.uf_store.specs.Keeping.{Holds}
 use Rattle.uf_tree.specs.FilePlan.{file_plan}
+use Rattle.uf_tree.specs.Metas.{none}
 use Rattle.uf_tree.specs.declared.nodes.Entry.{Entry}
 use Rattle.uf_tree.specs.declared.profile.Profile.{Profile}
 use Rattle.uf_intake.specs.Faults.{IsStoppedBy}
@@ -99,8 +100,8 @@ module _ (hash : List ℕ → List ℕ) (p : Profile) where
         taken = fed.feeds.taken;
         nothing_left = fed.nothing_left;
         few = whole.few;
-        is = subst (λ (p : Profile). entry ≡ (file_plan hash p fed.bytes).entry) whole.profile entry_is;
-        held = subst (λ (p : Profile). Holds v (file_plan hash p fed.bytes).blocks) whole.profile held;
+        is = subst (λ (p : Profile). entry ≡ (file_plan hash p none fed.bytes).entry) whole.profile entry_is;
+        held = subst (λ (p : Profile). Holds v (file_plan hash p none fed.bytes).blocks) whole.profile held;
         are_bytes = whole.are_bytes;
       }
 

@@ -8,6 +8,7 @@ use Rattle.uf_edge.specs.Streams.{Told, before, IsAtEnd}
 use Rattle.uf_store.specs.Contents as store
 use Rattle.uf_store.specs.Keeping.{Holds}
 use Rattle.uf_tree.specs.FilePlan.{file_plan}
+use Rattle.uf_tree.specs.Metas.{none}
 use Rattle.uf_tree.specs.Profiles.{most_bytes}
 use Rattle.uf_tree.specs.declared.nodes.Entry.{Entry}
 use Rattle.uf_tree.specs.declared.profile.Profile.{Profile}
@@ -83,5 +84,5 @@ FeedsRest hash p (Err fault) told told_now b now left left_now =
 
 -- the file of what the builder was fed is its plan's, whose blocks are held
 pub record IsClosed (hash : List ℕ → List ℕ) (entry : Entry) (told told_now : store.Told) (b : Building) : Type 0 where
-  pub entry_is : (bytes : List ℕ) → HasFed hash bytes b → entry ≡ (file_plan hash b.profile bytes).entry
-  pub held : (bytes : List ℕ) → HoldsFed hash bytes told b → Holds told_now (file_plan hash b.profile bytes).blocks
+  pub entry_is : (bytes : List ℕ) → HasFed hash bytes b → entry ≡ (file_plan hash b.profile none bytes).entry
+  pub held : (bytes : List ℕ) → HoldsFed hash bytes told b → Holds told_now (file_plan hash b.profile none bytes).blocks

@@ -7,6 +7,7 @@ use Rattle.uf_edge.specs.Streams.{Told, before, IsAtEnd}
 use Rattle.uf_store.specs.Contents as store
 use Rattle.uf_store.specs.Keeping.{Holds}
 use Rattle.uf_tree.specs.FilePlan.{file_plan}
+use Rattle.uf_tree.specs.Metas.{none}
 use Rattle.uf_tree.specs.Profiles.{most_bytes}
 use Rattle.uf_tree.specs.declared.nodes.Entry.{Entry}
 use Rattle.uf_tree.specs.declared.profile.Profile.{Profile}
@@ -27,8 +28,8 @@ pub record IsWholeFile (hash : List ℕ → List ℕ) (p : Profile) (told_now : 
   pub taken : left ≡ before bytes left_now
   pub nothing_left : IsAtEnd left_now
   pub few : length bytes ≤ most_bytes p
-  pub is : entry ≡ (file_plan hash p bytes).entry
-  pub held : Holds told_now (file_plan hash p bytes).blocks
+  pub is : entry ≡ (file_plan hash p none bytes).entry
+  pub held : Holds told_now (file_plan hash p none bytes).blocks
   pub are_bytes : IsBytes bytes
 
 -- the file of a source, or why there is none

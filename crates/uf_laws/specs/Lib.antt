@@ -1,2 +1,3 @@
+pub mod FirstRows
 pub mod Least
 pub mod Vectors

@@ -1,11 +1,22 @@
 -- Public vectors, as other implementations of SHA-256 and of the formats give them.
-use Rattle.std.specs.Prelude.{ℕ, List, [], ◌∷◌, ◌++◌, codes, map, replicate}
+use Rattle.std.specs.Prelude.{ℕ, pos, List, [], ◌∷◌, ◌++◌, codes, map, replicate, Some, None}
+use Rattle.std.specs.declared.option.Option.{Option}
 use Rattle.uf_cid.specs.Blocks.{Held}
 use Rattle.uf_cid.specs.declared.cid.Cid.{Cid}
 use Rattle.uf_cid.specs.declared.cid.Codec.TheVariants.{Raw, DagPb}
+use Rattle.uf_tree.specs.declared.meta.Meta.{Meta}
 use Rattle.uf_tree.specs.declared.profile.Profile.{Profile}
 use Rattle.uf_tree.specs.FilePlan.{Plan}
+use Rattle.uf_tree.specs.Metas.{none}
 use Rattle.uf_tree.specs.Tree.{Tree, File, Dir, entries}
+
+-- a mode, and no mtime
+abbrev pub with_mode : ℕ → Meta
+with_mode mode = record { mode = Some mode; mtime = None }
+
+-- a mode and an mtime
+abbrev pub with_time : ℕ → ℕ → Option ℕ → Meta
+with_time mode seconds nanos = record { mode = Some mode; mtime = Some (record { seconds = pos seconds; nanos = nanos }) }
 
 -- pieces of one byte and nodes of two links
 abbrev pub narrow : Profile
@@ -17,7 +28,7 @@ sharding_above threshold = record { chunk = 262144; width = 174; threshold = thr
 
 -- a directory of empty files with these names
 abbrev pub empty_files : List (List ℕ) → Tree
-empty_files names = Dir (entries (map (λ name. (name, File [])) names))
+empty_files names = Dir (entries none (map (λ name. (name, File none [])) names))
 
 -- SHA-256 of no bytes
 abbrev pub digest_nothing : List ℕ
@@ -42,6 +53,24 @@ abbrev pub digest_c : List ℕ
 digest_c =
     0x2e ∷ 0x7d ∷ 0x2c ∷ 0x03 ∷ 0xa9 ∷ 0x50 ∷ 0x7a ∷ 0xe2 ∷ 0x65 ∷ 0xec ∷ 0xf5 ∷ 0xb5 ∷ 0x35 ∷ 0x68 ∷ 0x85 ∷ 0xa5
     ∷ 0x33 ∷ 0x93 ∷ 0xa2 ∷ 0x02 ∷ 0x9d ∷ 0x24 ∷ 0x13 ∷ 0x94 ∷ 0x99 ∷ 0x72 ∷ 0x65 ∷ 0xa1 ∷ 0xa2 ∷ 0x5a ∷ 0xef ∷ 0xc6 ∷ []
+
+-- SHA-256 of `hi`
+abbrev pub digest_hi : List ℕ
+digest_hi =
+    0x8f ∷ 0x43 ∷ 0x43 ∷ 0x46 ∷ 0x64 ∷ 0x8f ∷ 0x6b ∷ 0x96 ∷ 0xdf ∷ 0x89 ∷ 0xdd ∷ 0xa9 ∷ 0x01 ∷ 0xc5 ∷ 0x17 ∷ 0x6b
+    ∷ 0x10 ∷ 0xa6 ∷ 0xd8 ∷ 0x39 ∷ 0x61 ∷ 0xdd ∷ 0x3c ∷ 0x1a ∷ 0xc8 ∷ 0x8b ∷ 0x59 ∷ 0xb2 ∷ 0xdc ∷ 0x32 ∷ 0x7a ∷ 0xa4 ∷ []
+
+-- SHA-256 of the root of the file `hi` with the mode 0644
+abbrev pub digest_hi_0644 : List ℕ
+digest_hi_0644 =
+    0xf5 ∷ 0x57 ∷ 0x52 ∷ 0x9f ∷ 0x43 ∷ 0x1f ∷ 0xd2 ∷ 0x64 ∷ 0x09 ∷ 0x40 ∷ 0xc9 ∷ 0x23 ∷ 0x40 ∷ 0xbf ∷ 0x0f ∷ 0x08
+    ∷ 0xda ∷ 0xf1 ∷ 0xff ∷ 0xf6 ∷ 0x9c ∷ 0xb6 ∷ 0xfa ∷ 0x72 ∷ 0x53 ∷ 0x49 ∷ 0x24 ∷ 0xf4 ∷ 0x13 ∷ 0xc7 ∷ 0xa0 ∷ 0x63 ∷ []
+
+-- SHA-256 of the empty directory with the mode 0755
+abbrev pub digest_dir_0755 : List ℕ
+digest_dir_0755 =
+    0x35 ∷ 0x4d ∷ 0x70 ∷ 0xb0 ∷ 0x22 ∷ 0x11 ∷ 0xd8 ∷ 0xda ∷ 0x6e ∷ 0xac ∷ 0x46 ∷ 0x2a ∷ 0x38 ∷ 0x42 ∷ 0xa6 ∷ 0xe8
+    ∷ 0xc4 ∷ 0xc4 ∷ 0xe7 ∷ 0x0e ∷ 0x56 ∷ 0x7e ∷ 0x99 ∷ 0xb1 ∷ 0xdf ∷ 0xae ∷ 0xc2 ∷ 0xe8 ∷ 0x34 ∷ 0xf1 ∷ 0xd1 ∷ 0x18 ∷ []
 
 -- SHA-256 of `hello world`
 abbrev pub digest_hello_world : List ℕ
@@ -215,6 +244,14 @@ block_hello =
     ++ (0x12 ∷ 0x09 ∷ 0x68 ∷ 0x65 ∷ 0x6c ∷ 0x6c ∷ 0x6f ∷ 0x2e ∷ 0x74 ∷ 0x78 ∷ 0x74 ∷ 0x18 ∷ 0x0b ∷ [])
     ++ (0x0a ∷ 0x02 ∷ 0x08 ∷ 0x01 ∷ [])
 
+-- the root of the file `hi` with the mode 0644, 55 bytes
+abbrev pub block_hi_0644 : List ℕ
+block_hi_0644 =
+    (0x12 ∷ 0x2a ∷ 0x0a ∷ 0x24 ∷ [])
+    ++ raw digest_hi
+    ++ (0x12 ∷ 0x00 ∷ 0x18 ∷ 0x02 ∷ [])
+    ++ (0x0a ∷ 0x09 ∷ 0x08 ∷ 0x02 ∷ 0x18 ∷ 0x02 ∷ 0x20 ∷ 0x02 ∷ 0x38 ∷ 0xa4 ∷ 0x03 ∷ [])
+
 -- the basic directory of the empty files `a` and `b`, 94 bytes
 abbrev pub block_basic : List ℕ
 block_basic =
@@ -340,4 +377,4 @@ chain_plan = node_plan digest_level_0 628 (
 
 -- two files of 7993 and of 3439 bytes
 abbrev pub generated : Tree
-generated = Dir (entries ((codes "f00000001", File (replicate 7993 0)) ∷ (codes "f00000002", File (replicate 3439 0)) ∷ []))
+generated = Dir (entries none ((codes "f00000001", File none (replicate 7993 0)) ∷ (codes "f00000002", File none (replicate 3439 0)) ∷ []))

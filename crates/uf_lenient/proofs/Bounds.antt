@@ -26,8 +26,8 @@ abbrev AreBelow : ℕ → Visits Ways → Type 0
 AreBelow b r = IfOk r (λ x. Below b x.0)
 
 abbrev IsBelow : ℕ → Gathered → Type 0
-IsBelow b (IsFile bytes links) = ⊤
-IsBelow b (IsFolder ways) = Below b ways
+IsBelow b (IsFile meta bytes links) = ⊤
+IsBelow b (IsFolder meta ways) = Below b ways
 
 put_below : (b : ℕ) (name : List ℕ) (f : Found) (ways : Ways) → f.left ≤ b → Below b ways → Below b (put names_cmp name f ways)
 put_below b name f [] p q = (p, tt)
@@ -93,11 +93,11 @@ module _ (held : Lookup) where
       (λ links k _. slots_below b (sub_ways held left) (λ d more j r. sub_below b left d more j (omega arith) r) c left links ways k (omega arith) q))
 
   gathers_below : (left : ℕ) (c : Cid) (u : Unixfs) (n : ℕ) → IfOk (gathers held left c u n) (λ x. IsBelow left x.0)
-  gathers_below left c (File bytes links) n = tt
-  gathers_below left c (Directory links) n =
-      behind_ok (Below left) (IsBelow left) (unvisited n (meet_all c left links [])) (λ ways m. Ok (IsFolder ways, m)) (still_ok (Below left) n (meet_all c left links []) (all_below left c left links [] (omega arith) tt)) (λ ways m r. r)
-  gathers_below left c (Shard links) n =
-      behind_ok (Below left) (IsBelow left) (shard_ways (sub_ways held left) c left links [] n) (λ ways m. Ok (IsFolder ways, m))
+  gathers_below left c (File meta bytes links) n = tt
+  gathers_below left c (Directory meta links) n =
+      behind_ok (Below left) (IsBelow left) (unvisited n (meet_all c left links [])) (λ ways m. Ok (IsFolder meta ways, m)) (still_ok (Below left) n (meet_all c left links []) (all_below left c left links [] (omega arith) tt)) (λ ways m r. r)
+  gathers_below left c (Shard meta links) n =
+      behind_ok (Below left) (IsBelow left) (shard_ways (sub_ways held left) c left links [] n) (λ ways m. Ok (IsFolder meta ways, m))
       (slots_below left (sub_ways held left) (λ d more j r. sub_below left left d more j (omega arith) r) c left links [] n (omega arith) tt) (λ ways m r. r)
   gathers_below left c OtherShard n = tt
   gathers_below left c Other n = tt
@@ -118,8 +118,8 @@ module _ (held : Lookup) where
       inside (Err e) ih = refl
 
   completed_same : (b : ℕ) (f g : ℕ → Cid → ℕ → Visits Tree) → ((k : ℕ) (c : Cid) (n : ℕ) → k ≤ b → f k c n ≡ g k c n) → (left : ℕ) (x : Gathered) (n : ℕ) → IsBelow b x → completed held f left x n ≡ completed held g left x n
-  completed_same b f g same left (IsFile bytes links) n q = refl
-  completed_same b f g same left (IsFolder ways) n q = ap (λ r. r >> λ es m. Ok (Dir (entries es), m)) (members_same b f g same ways n q)
+  completed_same b f g same left (IsFile meta bytes links) n q = refl
+  completed_same b f g same left (IsFolder meta ways) n q = ap (λ r. r >> λ es m. Ok (Dir (entries meta es), m)) (members_same b f g same ways n q)
 
   behind_same : {A B : Type 0} (P : A → Type 0) (r : Visits A) (f g : A → ℕ → Visits B) → IfOk r (λ x. P x.0) → ((a : A) (n : ℕ) → P a → f a n ≡ g a n) → (r >> f) ≡ (r >> g)
   behind_same P (Ok x) f g p same = same x.0 x.1 p

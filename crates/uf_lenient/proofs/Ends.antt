@@ -6,6 +6,7 @@ use Rattle.uf_cid.specs.Blocks.{Lookup}
 use Rattle.uf_cid.specs.declared.cid.Cid.{Cid}
 use Rattle.uf_cid.specs.declared.cid.Codec.TheVariants as codec
 use Rattle.uf_dagpb.specs.declared.node.Link.{Link}
+use Rattle.uf_tree.specs.Metas.{none}
 use Rattle.uf_tree.specs.Tree.{Tree, Dir, File as FileTree, entries}
 use Rattle.uf_lenient.specs.declared.due.Due.{Due}
 use Rattle.uf_lenient.specs.declared.due.Visited.{Visited}
@@ -113,8 +114,8 @@ module _ (held : Lookup) where
       inside (Err e) ih = refl
 
   pub completed-ends : (left : ℕ) (g : Gathered) (n : ℕ) → how_ends (completed held (tree_under held) left g n) ≡ all_end held (gathered_due left g) n
-  completed-ends left (IsFile bytes links) n = ends-pure (joined_parts (part_bytes held left) links n) (λ more. FileTree (bytes ++ more)) ∙ joined-ends left links n
-  completed-ends left (IsFolder ways) n = ends-pure (member_trees (tree_under held) ways n) (λ es. Dir (entries es)) ∙ members-ends ways n
+  completed-ends left (IsFile meta bytes links) n = ends-pure (joined_parts (part_bytes held left) links n) (λ more. FileTree meta (bytes ++ more)) ∙ joined-ends left links n
+  completed-ends left (IsFolder meta ways) n = ends-pure (member_trees (tree_under held) ways n) (λ es. Dir (entries meta es)) ∙ members-ends ways n
 
   -- ---- a member of a directory is read
 
@@ -178,22 +179,22 @@ module _ (held : Lookup) where
 
   -- ---- a raw block is read
 
-  raw_visit : (left : ℕ) (c : Cid) (n : ℕ) (bytes : List ℕ) (m : ℕ) → c.codec ≡ codec.Raw → loads held left c n ≡ Ok (bytes, m) → visit_of held left c n ≡ Ok (IsRaw bytes [], m)
+  raw_visit : (left : ℕ) (c : Cid) (n : ℕ) (bytes : List ℕ) (m : ℕ) → c.codec ≡ codec.Raw → loads held left c n ≡ Ok (bytes, m) → visit_of held left c n ≡ Ok (IsRaw none bytes [], m)
   unfolding unixfs_of
   raw_visit left c n bytes m raw is = ap (λ r. r >> λ b k. unvisited k (unixfs_of c b)) is ∙ ap (λ x. unvisited m (unixfs_of (record { codec = x; digest = c.digest }) bytes)) raw
 
-  raw_own : (v : Visited) (left : ℕ) (c : Cid) (n : ℕ) (bytes : List ℕ) (m : ℕ) → visit_of held left c n ≡ Ok (IsRaw bytes [], m) → own_part held (record { cid = c; left = left; visited = v }) n ≡ Ok ((bytes, []), m)
+  raw_own : (v : Visited) (left : ℕ) (c : Cid) (n : ℕ) (bytes : List ℕ) (m : ℕ) → visit_of held left c n ≡ Ok (IsRaw none bytes [], m) → own_part held (record { cid = c; left = left; visited = v }) n ≡ Ok ((bytes, []), m)
   raw_own Whole left c n bytes m is = ap (λ r. r >> λ u k. unvisited k (as_file c u)) is
   raw_own File left c n bytes m is = ap (λ r. r >> λ u k. unvisited k (as_file c u)) is
   raw_own Part left c n bytes m is = ap (λ r. r >> λ u k. unvisited k (as_part c u)) is
 
-  raw_whole : (left : ℕ) (c : Cid) (n : ℕ) (bytes : List ℕ) (m : ℕ) → visit_of held left c n ≡ Ok (IsRaw bytes [], m) → gathered held left c n ≡ Ok (IsFile bytes [], m)
+  raw_whole : (left : ℕ) (c : Cid) (n : ℕ) (bytes : List ℕ) (m : ℕ) → visit_of held left c n ≡ Ok (IsRaw none bytes [], m) → gathered held left c n ≡ Ok (IsFile none bytes [], m)
   unfolding gathered
   raw_whole left c n bytes m is = ap (λ r. r >> λ u k. gathers held (pred left) c u k) is
 
-  raw_steps : (v : Visited) (left : ℕ) (c : Cid) (ds : List Due) (n : ℕ) (bytes : List ℕ) (m : ℕ) → 1 ≤ left → visit_of held left c n ≡ Ok (IsRaw bytes [], m)
+  raw_steps : (v : Visited) (left : ℕ) (c : Cid) (ds : List Due) (n : ℕ) (bytes : List ℕ) (m : ℕ) → 1 ≤ left → visit_of held left c n ≡ Ok (IsRaw none bytes [], m)
       → all_end held (record { cid = c; left = left; visited = v } ∷ ds) n ≡ all_end held ds m
-  raw_steps Whole left c ds n bytes m some is = whole-steps (record { cid = c; left = left; visited = Whole }) ds n (IsFile bytes []) m refl some (raw_whole left c n bytes m is)
+  raw_steps Whole left c ds n bytes m some is = whole-steps (record { cid = c; left = left; visited = Whole }) ds n (IsFile none bytes []) m refl some (raw_whole left c n bytes m is)
   raw_steps File left c ds n bytes m some is = part-steps (record { cid = c; left = left; visited = File }) ds n (bytes, []) m file_differs (raw_own File left c n bytes m is)
   raw_steps Part left c ds n bytes m some is = part-steps (record { cid = c; left = left; visited = Part }) ds n (bytes, []) m part_differs (raw_own Part left c n bytes m is)
 

@@ -5,6 +5,7 @@ use Rattle.uf_varint.specs.Fields.{◌>>=◌}
 use Rattle.uf_cid.specs.Blocks.{Lookup}
 use Rattle.uf_cid.specs.declared.cid.Cid.{Cid}
 use Rattle.uf_dagpb.specs.declared.node.Link.{Link}
+use Rattle.uf_tree.specs.declared.meta.Meta.{Meta}
 use Rattle.uf_lenient.specs.declared.due.Frame.{Frame}
 use Rattle.uf_lenient.specs.declared.fault.DagFault.{DagFault}
 use Rattle.uf_lenient.specs.declared.fault.DagFault.TheVariants.{NotUnixfs}
@@ -115,35 +116,35 @@ module _ (held : Lookup) where
       by (Err e) = refl
 
   -- the ways of a shard tree are those of its first shard
-  pub first-frame : (frames : List Frame) (by : Cid) (left : ℕ) (links : List Link) (start : Ways) (n : ℕ) (met : Ways)
+  pub first-frame : (frames : List Frame) (meta : Meta) (by : Cid) (left : ℕ) (links : List Link) (start : Ways) (n : ℕ) (met : Ways)
       (m : ℕ) → frames ≡ record { by = by; left = left; links = links; at = 0 } ∷ [] → start ≡ []
       → frames_ways held frames start n ≡ Ok (met, m)
-      → gathered_folder_behind (shard_ways (sub_ways held left) by left links [] n) ≡ Ok (IsFolder met, m)
-  first-frame frames by left links start n met m one none is =
+      → gathered_folder_behind meta (shard_ways (sub_ways held left) by left links [] n) ≡ Ok (IsFolder meta met, m)
+  first-frame frames meta by left links start n met m one none is =
       let f : Frame = record { by = by; left = left; links = links; at = 0 } in
-      ap gathered_folder_behind (sym (one_frame f [] n) ∙ ap (λ fs. frames_ways held fs [] n) (sym one)
+      ap (gathered_folder_behind meta) (sym (one_frame f [] n) ∙ ap (λ fs. frames_ways held fs [] n) (sym one)
       ∙ ap (λ ways. frames_ways held frames ways n) (sym none) ∙ is)
 
-  pub first-fault : (frames : List Frame) (by : Cid) (left : ℕ) (links : List Link) (start : Ways) (n : ℕ)
+  pub first-fault : (frames : List Frame) (meta : Meta) (by : Cid) (left : ℕ) (links : List Link) (start : Ways) (n : ℕ)
       (fault : DagFault) → frames ≡ record { by = by; left = left; links = links; at = 0 } ∷ [] → start ≡ []
       → IsFault (frames_ways held frames start n) fault
-      → IsFault (gathered_folder_behind (shard_ways (sub_ways held left) by left links [] n)) fault
-  first-fault frames by left links start n fault one none fails =
+      → IsFault (gathered_folder_behind meta (shard_ways (sub_ways held left) by left links [] n)) fault
+  first-fault frames meta by left links start n fault one none fails =
       let f : Frame = record { by = by; left = left; links = links; at = 0 } in
-      fault-behind (shard_ways (sub_ways held left) by left links [] n) (λ all k. Ok (IsFolder all, k)) fault
+      fault-behind (shard_ways (sub_ways held left) by left links [] n) (λ all k. Ok (IsFolder meta all, k)) fault
       (fault-is (frames_ways held frames start n) _ fault (sym (one_frame f [] n) ∙ ap (λ fs. frames_ways held fs [] n) (sym one)
       ∙ ap (λ ways. frames_ways held frames ways n) (sym none)) fails)
 
 -- a directory in one block, behind a visit
-pub folder_still : (n : ℕ) (r : Result Ways DagFault) (result : Result Gathered DagFault) → FollowsReading (λ g. g) (gathered_folder r) result → FollowsReading (λ g. (g, n)) (unvisited n r >> λ ways m. Ok (IsFolder ways, m)) result
-folder_still n r (Ok g) says = by r ∙ ap (unvisited n) says
+pub folder_still : (meta : Meta) (n : ℕ) (r : Result Ways DagFault) (result : Result Gathered DagFault) → FollowsReading (λ g. g) (gathered_folder meta r) result → FollowsReading (λ g. (g, n)) (unvisited n r >> λ ways m. Ok (IsFolder meta ways, m)) result
+folder_still meta n r (Ok g) says = by r ∙ ap (unvisited n) says
   where
-    by : (r : Result Ways DagFault) → (unvisited n r >> λ ways m. Ok (IsFolder ways, m)) ≡ unvisited n (gathered_folder r)
+    by : (r : Result Ways DagFault) → (unvisited n r >> λ ways m. Ok (IsFolder meta ways, m)) ≡ unvisited n (gathered_folder meta r)
     by (Ok ways) = refl
     by (Err e) = refl
-folder_still n r (Err fault) (inl own) = inl own
-folder_still n r (Err fault) (inr says) = inr (by r ∙ ap (unvisited n) says)
+folder_still meta n r (Err fault) (inl own) = inl own
+folder_still meta n r (Err fault) (inr says) = inr (by r ∙ ap (unvisited n) says)
   where
-    by : (r : Result Ways DagFault) → (unvisited n r >> λ ways m. Ok (IsFolder ways, m)) ≡ unvisited n (gathered_folder r)
+    by : (r : Result Ways DagFault) → (unvisited n r >> λ ways m. Ok (IsFolder meta ways, m)) ≡ unvisited n (gathered_folder meta r)
     by (Ok ways) = refl
     by (Err e) = refl

@@ -100,10 +100,10 @@ module _ (held more : Lookup) (all : HoldsAllOf held more) where
       (λ links k. slots_same more (sub_ways held left) (sub_ways more left) below c left links met k))
 
   gathers_same : (left : ℕ) (c : Cid) (u : Unixfs) (n : ℕ) → AnswersSame more (gathers held left c u n) (gathers more left c u n)
-  gathers_same left c (File bytes links) n = refl
-  gathers_same left c (Directory links) n = gives_itself more (unvisited n (meet_all c left links []) >> λ ways m. Ok (IsFolder ways, m))
-  gathers_same left c (Shard links) n =
-      behind_same more (shard_ways (sub_ways held left) c left links [] n) (shard_ways (sub_ways more left) c left links [] n) (λ ways m. Ok (IsFolder ways, m)) (λ ways m. Ok (IsFolder ways, m)) (slots_same more (sub_ways held left) (sub_ways more left) (sub_same left) c left links [] n) (λ ways m. refl)
+  gathers_same left c (File meta bytes links) n = refl
+  gathers_same left c (Directory meta links) n = gives_itself more (unvisited n (meet_all c left links []) >> λ ways m. Ok (IsFolder meta ways, m))
+  gathers_same left c (Shard meta links) n =
+      behind_same more (shard_ways (sub_ways held left) c left links [] n) (shard_ways (sub_ways more left) c left links [] n) (λ ways m. Ok (IsFolder meta ways, m)) (λ ways m. Ok (IsFolder meta ways, m)) (slots_same more (sub_ways held left) (sub_ways more left) (sub_same left) c left links [] n) (λ ways m. refl)
   gathers_same left c OtherShard n = λ gone. refl
   gathers_same left c Other n = λ gone. refl
 
@@ -112,10 +112,10 @@ module _ (held more : Lookup) (all : HoldsAllOf held more) where
   gathered_same left c n = behind_same more (visit_of held left c n) (visit_of more left c n) (λ u m. gathers held (pred left) c u m) (λ u m. gathers more (pred left) c u m) (visit_same left c n) (λ u m. gathers_same (pred left) c u m)
 
   completed_same : (f g : ℕ → Cid → ℕ → Visits Tree) → ((left : ℕ) (c : Cid) (n : ℕ) → AnswersSame more (f left c n) (g left c n)) → (left : ℕ) (x : Gathered) (n : ℕ) → AnswersSame more (completed held f left x n) (completed more g left x n)
-  completed_same f g same left (IsFile bytes links) n =
-      behind_same more (joined_parts (part_bytes held left) links n) (joined_parts (part_bytes more left) links n) (λ rest m. Ok (FileTree (bytes ++ rest), m)) (λ rest m. Ok (FileTree (bytes ++ rest), m)) (joined_same more (part_bytes held left) (part_bytes more left) (part_same left) links n) (λ rest m. refl)
-  completed_same f g same left (IsFolder ways) n =
-      behind_same more (member_trees f ways n) (member_trees g ways n) (λ es m. Ok (Dir (entries es), m)) (λ es m. Ok (Dir (entries es), m)) (members_alike more f g same ways n) (λ es m. refl)
+  completed_same f g same left (IsFile meta bytes links) n =
+      behind_same more (joined_parts (part_bytes held left) links n) (joined_parts (part_bytes more left) links n) (λ rest m. Ok (FileTree meta (bytes ++ rest), m)) (λ rest m. Ok (FileTree meta (bytes ++ rest), m)) (joined_same more (part_bytes held left) (part_bytes more left) (part_same left) links n) (λ rest m. refl)
+  completed_same f g same left (IsFolder meta ways) n =
+      behind_same more (member_trees f ways n) (member_trees g ways n) (λ es m. Ok (Dir (entries meta es), m)) (λ es m. Ok (Dir (entries meta es), m)) (members_alike more f g same ways n) (λ es m. refl)
 
   within_same : (room left : ℕ) (c : Cid) (n : ℕ) → AnswersSame more (tree_within held room left c n) (tree_within more room left c n)
   unfolding tree_within

@@ -88,8 +88,8 @@ module _ (left right : Lookup) (cids : List Cid) (agree : AgreeAmong left right 
   OwnHere own = LinksHere own.1
 
   abbrev GatheredHere : Gathered → Type 0
-  GatheredHere (IsFile bytes links) = LinksHere links
-  GatheredHere (IsFolder ways) = WaysHere ways
+  GatheredHere (IsFile meta bytes links) = LinksHere links
+  GatheredHere (IsFolder meta ways) = WaysHere ways
 
   -- ---- visits
 
@@ -115,16 +115,16 @@ module _ (left right : Lookup) (cids : List Cid) (agree : AgreeAmong left right 
   -- ---- files
 
   part_here : (c : Cid) (u : Unixfs) → NodeHere u → Kept OwnHere (as_part c u)
-  part_here c (File bytes links) h = h
-  part_here c (Directory links) h = tt
-  part_here c (Shard links) h = tt
+  part_here c (File meta bytes links) h = h
+  part_here c (Directory meta links) h = tt
+  part_here c (Shard meta links) h = tt
   part_here c OtherShard h = tt
   part_here c Other h = tt
 
   file_here : (c : Cid) (u : Unixfs) → NodeHere u → Kept OwnHere (as_file c u)
-  file_here c (File bytes links) h = h
-  file_here c (Directory links) h = tt
-  file_here c (Shard links) h = tt
+  file_here c (File meta bytes links) h = h
+  file_here c (Directory meta links) h = tt
+  file_here c (Shard meta links) h = tt
   file_here c OtherShard h = tt
   file_here c Other h = tt
 
@@ -217,9 +217,9 @@ module _ (left right : Lookup) (cids : List Cid) (agree : AgreeAmong left right 
         (slot_alike l met n (behind_slot l.name) links.0 h) (λ more m also. slots_alike ls more m links.1 also)
 
   shard_here : (c : Cid) (u : Unixfs) → NodeHere u → Kept LinksHere (as_shard c u)
-  shard_here c (File bytes links) h = tt
-  shard_here c (Directory links) h = tt
-  shard_here c (Shard links) h = h
+  shard_here c (File meta bytes links) h = tt
+  shard_here c (Directory meta links) h = tt
+  shard_here c (Shard meta links) h = h
   shard_here c OtherShard h = tt
   shard_here c Other h = tt
 
@@ -234,11 +234,11 @@ module _ (left right : Lookup) (cids : List Cid) (agree : AgreeAmong left right 
       (λ links k all. slots_alike (sub_ways left d) (sub_ways right d) below c d links met k all h))
 
   gathers_alike : (d : ℕ) (c : Cid) (u : Unixfs) (n : ℕ) → NodeHere u → Alike GatheredHere (gathers left d c u n) (gathers right d c u n)
-  gathers_alike d c (File bytes links) n h = (refl, h)
-  gathers_alike d c (Directory links) n h =
-      behind WaysHere GatheredHere (unvisited n (meet_all c d links [])) (unvisited n (meet_all c d links [])) (λ ways m. Ok (IsFolder ways, m)) (λ ways m. Ok (IsFolder ways, m)) (still WaysHere n (meet_all c d links []) (all_here c d links [] h tt)) (λ ways m all. (refl, all))
-  gathers_alike d c (Shard links) n h =
-      behind WaysHere GatheredHere (shard_ways (sub_ways left d) c d links [] n) (shard_ways (sub_ways right d) c d links [] n) (λ ways m. Ok (IsFolder ways, m)) (λ ways m. Ok (IsFolder ways, m)) (slots_alike (sub_ways left d) (sub_ways right d) (sub_alike d) c d links [] n h tt) (λ ways m all. (refl, all))
+  gathers_alike d c (File meta bytes links) n h = (refl, h)
+  gathers_alike d c (Directory meta links) n h =
+      behind WaysHere GatheredHere (unvisited n (meet_all c d links [])) (unvisited n (meet_all c d links [])) (λ ways m. Ok (IsFolder meta ways, m)) (λ ways m. Ok (IsFolder meta ways, m)) (still WaysHere n (meet_all c d links []) (all_here c d links [] h tt)) (λ ways m all. (refl, all))
+  gathers_alike d c (Shard meta links) n h =
+      behind WaysHere GatheredHere (shard_ways (sub_ways left d) c d links [] n) (shard_ways (sub_ways right d) c d links [] n) (λ ways m. Ok (IsFolder meta ways, m)) (λ ways m. Ok (IsFolder meta ways, m)) (slots_alike (sub_ways left d) (sub_ways right d) (sub_alike d) c d links [] n h tt) (λ ways m all. (refl, all))
   gathers_alike d c OtherShard n h = (refl, tt)
   gathers_alike d c Other n h = (refl, tt)
 
@@ -255,10 +255,10 @@ module _ (left right : Lookup) (cids : List Cid) (agree : AgreeAmong left right 
       (λ t m any. behind Trees Trees (member_trees f ws m) (member_trees g ws m) (λ more k. Ok ((w.0, t) ∷ more, k)) (λ more k. Ok ((w.0, t) ∷ more, k)) (members_alike f g same ws m h.1) (λ more k any. (refl, tt)))
 
   completed_alike : (f g : ℕ → Cid → ℕ → Visits Tree) → ((d : ℕ) (c : Cid) (n : ℕ) → Here c → Alike OneTree (f d c n) (g d c n)) → (d : ℕ) (x : Gathered) (n : ℕ) → GatheredHere x → Alike OneTree (completed left f d x n) (completed right g d x n)
-  completed_alike f g same d (IsFile bytes links) n h =
-      behind Bytes OneTree (joined_parts (part_bytes left d) links n) (joined_parts (part_bytes right d) links n) (λ more m. Ok (FileTree (bytes ++ more), m)) (λ more m. Ok (FileTree (bytes ++ more), m)) (joined (part_bytes left d) (part_bytes right d) (part_alike d) links n h) (λ more m any. (refl, tt))
-  completed_alike f g same d (IsFolder ways) n h =
-      behind Trees OneTree (member_trees f ways n) (member_trees g ways n) (λ es m. Ok (Dir (entries es), m)) (λ es m. Ok (Dir (entries es), m)) (members_alike f g same ways n h) (λ es m any. (refl, tt))
+  completed_alike f g same d (IsFile meta bytes links) n h =
+      behind Bytes OneTree (joined_parts (part_bytes left d) links n) (joined_parts (part_bytes right d) links n) (λ more m. Ok (FileTree meta (bytes ++ more), m)) (λ more m. Ok (FileTree meta (bytes ++ more), m)) (joined (part_bytes left d) (part_bytes right d) (part_alike d) links n h) (λ more m any. (refl, tt))
+  completed_alike f g same d (IsFolder meta ways) n h =
+      behind Trees OneTree (member_trees f ways n) (member_trees g ways n) (λ es m. Ok (Dir (entries meta es), m)) (λ es m. Ok (Dir (entries meta es), m)) (members_alike f g same ways n h) (λ es m any. (refl, tt))
 
   within_alike : (room d : ℕ) (c : Cid) (n : ℕ) → Here c → Alike OneTree (tree_within left room d c n) (tree_within right room d c n)
   unfolding tree_within
@@ -274,8 +274,8 @@ module _ (left right : Lookup) (cids : List Cid) (agree : AgreeAmong left right 
   LeadsHere ways = AllByRecursion (λ (w : List ℕ × Cid). Contains cids w.1) ways
 
   abbrev ShapeHere : Shape → Type 0
-  ShapeHere FileShape = ⊤
-  ShapeHere (FolderShape ways) = LeadsHere ways
+  ShapeHere (FileShape meta) = ⊤
+  ShapeHere (FolderShape meta ways) = LeadsHere ways
 
   leads_here : (ways : Ways) → WaysHere ways → LeadsHere (leads ways)
   leads_here [] h = tt
@@ -285,8 +285,8 @@ module _ (left right : Lookup) (cids : List Cid) (agree : AgreeAmong left right 
   shape_here (Ok x) h = by x.0 h
     where
       by : (g : Gathered) → GatheredHere g → ShapeHere (shape_of g)
-      by (IsFile bytes links) k = tt
-      by (IsFolder ways) k = leads_here ways k
+      by (IsFile meta bytes links) k = tt
+      by (IsFolder meta ways) k = leads_here ways k
   shape_here (Err e) h = tt
 
   found_here : (place : ℕ) (name : List ℕ) (ways : List (List ℕ × Cid)) → LeadsHere ways → Kept Here (way_at place (find names_cmp name ways))
@@ -298,8 +298,8 @@ module _ (left right : Lookup) (cids : List Cid) (agree : AgreeAmong left right 
       by false later = later
 
   way_here : (place : ℕ) (name : List ℕ) (shape : Shape) → ShapeHere shape → Kept Here (way_in_shape place name shape)
-  way_here place name FileShape h = tt
-  way_here place name (FolderShape ways) h = found_here place name ways h
+  way_here place name (FileShape meta) h = tt
+  way_here place name (FolderShape meta ways) h = found_here place name ways h
 
   module _ (limits : Limits) where
     pub tree-alike : (c : Cid) → Here c → denotes left limits c ≡ denotes right limits c

@@ -8,6 +8,7 @@ use Rattle.uf_cid.specs.Blocks.{Lookup}
 use Rattle.uf_cid.specs.declared.cid.Cid.{Cid}
 use Rattle.uf_dagpb.specs.declared.node.Link.{Link}
 use Rattle.uf_store.specs.declared.store.StoreFault.TheVariants.{Missing}
+use Rattle.uf_tree.specs.declared.meta.Meta.{Meta}
 use Rattle.uf_tree.specs.Names.{is_name, names_cmp}
 use Rattle.uf_tree.specs.Tree.{Tree, Dir, entries, File as FileTree}
 use Rattle.uf_lenient.specs.declared.fault.DagFault.{DagFault}
@@ -55,10 +56,10 @@ AreLike b (w ∷ ws) [] = ⊥
 AreLike b (w ∷ ws) (v ∷ vs) = IsLike b w v × AreLike b ws vs
 
 abbrev pub IsLikeGathered : ℕ → Gathered → Gathered → Type 0
-IsLikeGathered b (IsFile bytes links) (IsFile others more) = (bytes ≡ others) × (links ≡ more)
-IsLikeGathered b (IsFile bytes links) (IsFolder vs) = ⊥
-IsLikeGathered b (IsFolder ws) (IsFile bytes links) = ⊥
-IsLikeGathered b (IsFolder ws) (IsFolder vs) = AreLike b ws vs
+IsLikeGathered b (IsFile meta bytes links) (IsFile other others more) = (meta ≡ other) × (bytes ≡ others) × (links ≡ more)
+IsLikeGathered b (IsFile meta bytes links) (IsFolder other vs) = ⊥
+IsLikeGathered b (IsFolder other ws) (IsFile meta bytes links) = ⊥
+IsLikeGathered b (IsFolder meta ws) (IsFolder other vs) = (meta ≡ other) × AreLike b ws vs
 
 -- ---- the ways of a directory
 
@@ -200,14 +201,14 @@ module _ (held : Lookup) (top : ℕ) where
         (λ links others k l alike less fewer. subst (λ (x : List Link). Follows (AreLike b) top (shard_ways (sub_ways held left) c left links ws k) (shard_ways (sub_ways held deep) c deep x vs l)) alike
         (slots_like (sub_ways held left) (sub_ways held deep) below c left deep links ws vs k l (omega (arith, p)) (omega (arith, q)) h less fewer)))
 
-    folder : (r s : Visits Ways) → Follows (AreLike b) top r s → Follows (IsLikeGathered b) top (r >> λ ways m. Ok (IsFolder ways, m)) (s >> λ ways m. Ok (IsFolder ways, m))
-    folder r s h = behind (AreLike b) (IsLikeGathered b) r s (λ ways m. Ok (IsFolder ways, m)) (λ ways m. Ok (IsFolder ways, m)) h (λ ws vs i j k le few. record { value = IsFolder vs; left = j; is = refl; like = k; more = le; few = few })
+    folder : (meta : Meta) (r s : Visits Ways) → Follows (AreLike b) top r s → Follows (IsLikeGathered b) top (r >> λ ways m. Ok (IsFolder meta ways, m)) (s >> λ ways m. Ok (IsFolder meta ways, m))
+    folder meta r s h = behind (AreLike b) (IsLikeGathered b) r s (λ ways m. Ok (IsFolder meta ways, m)) (λ ways m. Ok (IsFolder meta ways, m)) h (λ ws vs i j k le few. record { value = IsFolder meta vs; left = j; is = refl; like = (refl, k); more = le; few = few })
 
     gathers_like : (left deep : ℕ) (c : Cid) (u : Unixfs) (n m : ℕ) → left ≤ deep → left ≤ b → n ≤ m → n ≤ top → Follows (IsLikeGathered b) top (gathers held left c u n) (gathers held deep c u m)
-    gathers_like left deep c (File bytes links) n m p q r s = record { value = IsFile bytes links; left = m; is = refl; like = (refl, refl); more = r; few = s }
-    gathers_like left deep c (Directory links) n m p q r s = folder (unvisited n (meet_all c left links [])) (unvisited m (meet_all c deep links [])) (still (AreLike b) n m (meet_all c left links []) (meet_all c deep links []) r s (all_like b c left deep links [] [] p q tt))
-    gathers_like left deep c (Shard links) n m p q r s =
-        folder (shard_ways (sub_ways held left) c left links [] n) (shard_ways (sub_ways held deep) c deep links [] m)
+    gathers_like left deep c (File meta bytes links) n m p q r s = record { value = IsFile meta bytes links; left = m; is = refl; like = (refl, refl, refl); more = r; few = s }
+    gathers_like left deep c (Directory meta links) n m p q r s = folder meta (unvisited n (meet_all c left links [])) (unvisited m (meet_all c deep links [])) (still (AreLike b) n m (meet_all c left links []) (meet_all c deep links []) r s (all_like b c left deep links [] [] p q tt))
+    gathers_like left deep c (Shard meta links) n m p q r s =
+        folder meta (shard_ways (sub_ways held left) c left links [] n) (shard_ways (sub_ways held deep) c deep links [] m)
         (slots_like (sub_ways held left) (sub_ways held deep) (λ d xs ys i j k le few. sub_like left deep d xs ys i j p (omega (arith, q)) k le few) c left deep links [] [] n m p q tt r s)
     gathers_like left deep c OtherShard n m p q r s = tt
     gathers_like left deep c Other n m p q r s = tt
@@ -232,17 +233,19 @@ module _ (held : Lookup) (top : ℕ) where
 
     completed_like : (f g : ℕ → Cid → ℕ → Visits Tree) → ((left deep : ℕ) (c : Cid) (n m : ℕ) → left ≤ deep → left ≤ b → n ≤ m → n ≤ top → Follows Same top (f left c n) (g deep c m)) → (left deep : ℕ) (x y : Gathered) (n m : ℕ) → left ≤ deep → IsLikeGathered b x y → n ≤ m → n ≤ top
         → Follows Same top (completed held f left x n) (completed held g deep y m)
-    completed_like f g like left deep (IsFile bytes links) (IsFile others more) n m p h q r =
-        subst (λ (l : List Link). Follows Same top (completed held f left (IsFile bytes links) n) (completed held g deep (IsFile others l) m)) h.1
-        (subst (λ (l : List ℕ). Follows Same top (completed held f left (IsFile bytes links) n) (completed held g deep (IsFile l links) m)) h.0
-        (behind Same Same (joined_parts (part_bytes held left) links n) (joined_parts (part_bytes held deep) links m) (λ rest k. Ok (FileTree (bytes ++ rest), k)) (λ rest k. Ok (FileTree (bytes ++ rest), k))
+    completed_like f g like left deep (IsFile meta bytes links) (IsFile other others more) n m p h q r =
+        subst (λ (x : Meta). Follows Same top (completed held f left (IsFile meta bytes links) n) (completed held g deep (IsFile x others more) m)) h.0
+        (subst (λ (l : List Link). Follows Same top (completed held f left (IsFile meta bytes links) n) (completed held g deep (IsFile meta others l) m)) h.2
+        (subst (λ (l : List ℕ). Follows Same top (completed held f left (IsFile meta bytes links) n) (completed held g deep (IsFile meta l links) m)) h.1
+        (behind Same Same (joined_parts (part_bytes held left) links n) (joined_parts (part_bytes held deep) links m) (λ rest k. Ok (FileTree meta (bytes ++ rest), k)) (λ rest k. Ok (FileTree meta (bytes ++ rest), k))
         (joined_like (part_bytes held left) (part_bytes held deep) (λ c i j le few. part_like left deep c i j p le few) links n m q r)
-        (λ xs ys i j same le few. record { value = FileTree (bytes ++ ys); left = j; is = refl; like = ap (λ l. FileTree (bytes ++ l)) same; more = le; few = few })))
-    completed_like f g like left deep (IsFile bytes links) (IsFolder vs) n m p h q r = absurd h
-    completed_like f g like left deep (IsFolder ws) (IsFile bytes links) n m p h q r = absurd h
-    completed_like f g like left deep (IsFolder ws) (IsFolder vs) n m p h q r =
-        behind Same Same (member_trees f ws n) (member_trees g vs m) (λ es k. Ok (Dir (entries es), k)) (λ es k. Ok (Dir (entries es), k)) (members_like f g like ws vs n m h q r)
-        (λ xs ys i j same le few. record { value = Dir (entries ys); left = j; is = refl; like = ap (λ l. Dir (entries l)) same; more = le; few = few })
+        (λ xs ys i j same le few. record { value = FileTree meta (bytes ++ ys); left = j; is = refl; like = ap (λ l. FileTree meta (bytes ++ l)) same; more = le; few = few }))))
+    completed_like f g like left deep (IsFile meta bytes links) (IsFolder other vs) n m p h q r = absurd h
+    completed_like f g like left deep (IsFolder other ws) (IsFile meta bytes links) n m p h q r = absurd h
+    completed_like f g like left deep (IsFolder meta ws) (IsFolder other vs) n m p h q r =
+        subst (λ (x : Meta). Follows Same top (completed held f left (IsFolder meta ws) n) (completed held g deep (IsFolder x vs) m)) h.0
+        (behind Same Same (member_trees f ws n) (member_trees g vs m) (λ es k. Ok (Dir (entries meta es), k)) (λ es k. Ok (Dir (entries meta es), k)) (members_like f g like ws vs n m h.1 q r)
+        (λ xs ys i j same le few. record { value = Dir (entries meta ys); left = j; is = refl; like = ap (λ l. Dir (entries meta l)) same; more = le; few = few }))
 
     -- a tree that is read within some limits is read within greater ones
     pub within-like : (room left deep : ℕ) (c : Cid) (n m : ℕ) → left ≤ deep → left ≤ suc b → n ≤ m → n ≤ top → Follows Same top (tree_within held room left c n) (tree_within held room deep c m)

@@ -14,14 +14,17 @@ use Rattle.uf_cid.specs.declared.cid.Cid.{Cid}
 use Rattle.uf_cid.specs.declared.cid.Codec.TheVariants.{DagPb}
 use Rattle.uf_dagpb.specs.declared.node.Link.{Link}
 use Rattle.uf_murmur.specs.Slots.{slot}
+use Rattle.uf_tree.specs.declared.meta.Meta.{Meta}
 use Rattle.uf_tree.specs.declared.nodes.Entry.{Entry}
 use Rattle.uf_tree.specs.FilePlan.{Plan}
+use Rattle.uf_tree.specs.Metas.{is_meta, none}
 use Rattle.uf_tree.specs.Names.{is_name, names_cmp}
 use Rattle.uf_tree.specs.Nodes.{InSlot, Named, hex_digit, link_of, shard_block, slot_digits, slot_link}
 use Rattle.uf_tree.specs.Shardable.{HasShard}
 use Rattle.uf_tree.specs.ShardPlan.{bucket, no_shard, shard, shard_items, slot_blocks, slot_item, tabulate}
 use Rattle.uf_tree.specs.Validity.{IsHash, IsEntry, IsNamed, IsShard}
 use Rattle.uf_tree.proofs.Each.{at_flat_tabulate, each_filter}
+use Rattle.uf_tree.proofs.MetaNumbers.{none-is_meta}
 use Rattle.uf_tree.proofs.ShardLaws.{eqb_same, names_exact, names_total, slot-bound, tied}
 use Rattle.uf_tree.proofs.Shards.{digit_bounds}
 use Rattle.uf_tree.proofs.Sizes.{name_length}
@@ -141,8 +144,8 @@ below_none x (e ∷ l) h =
     by (eq_by_cmp names_cmp x e.0) refl parts.0 (below_none x l parts.1)
   where
     by : (b : Bool) → eq_by_cmp names_cmp x e.0 ≡ b → T (is_lt (names_cmp x e.0)) → find names_cmp x l ≡ None → cond (eq_by_cmp names_cmp x e.0) (Some e.1) (find names_cmp x l) ≡ None
-    by true same low none = absurd (lesser (names_cmp x e.0) low (tied (names_cmp x e.0) same))
-    by false other low none = ap (λ b. cond b (Some e.1) (find names_cmp x l)) other ∙ none
+    by true same low gone = absurd (lesser (names_cmp x e.0) low (tied (names_cmp x e.0) same))
+    by false other low gone = ap (λ b. cond b (Some e.1) (find names_cmp x l)) other ∙ gone
 
 -- the first of a directory's pairs and the others
 head_wanted : (e : Named) (l : List Named) (q : List ℕ) → T (below_all names_cmp e.0 l) → option_or (wanted l q) (cond (eq_by_cmp names_cmp q e.0) (Some e.1.cid) None) ≡ wanted (e ∷ l) q
@@ -331,22 +334,24 @@ shared_held held deeper (e ∷ f ∷ l) two h = h
 
 module _ (X : List ℕ → List ℕ) (N : List ℕ → ℕ) (good : IsHash X) (held : Lookup) where
   -- pairs that have a shard with so many levels below it, whose blocks are held
-  pub record ShardHeld (lv : ℕ) (l : List Named) : Type 0 where
+  pub record ShardHeld (lv : ℕ) (m : Meta) (l : List Named) : Type 0 where
+    pub meta : IsTrue (is_meta m)
     pub sorted : T (is_sorted names_cmp l)
     pub named : AllByRecursion IsNamed l
     pub some : 1 ≤ length l
     pub has : HasShard N lv l
-    pub all : Holds held (shard X N lv l).blocks
+    pub all : Holds held (shard X N lv m l).blocks
 
-  pub below_shard : (lv : ℕ) (l : List Named) → ShardHeld (suc lv) l → (s : ℕ) → s < 256 → 2 ≤ length (bucket N (6 - lv) s l) → ShardHeld lv (bucket N (6 - lv) s l)
+  pub below_shard : (lv : ℕ) (m : Meta) (l : List Named) → ShardHeld (suc lv) m l → (s : ℕ) → s < 256 → 2 ≤ length (bucket N (6 - lv) s l) → ShardHeld lv none (bucket N (6 - lv) s l)
   unfolding shard HasShard
-  below_shard lv l h s small two = record {
+  below_shard lv m l h s small two = record {
+    meta = none-is_meta;
     sorted = is_sorted-where_key names_cmp (λ name. slot (N name) (6 - lv) == s) l h.sorted;
     named = each_filter IsNamed (λ (e : Named). slot (N e.0) (6 - lv) == s) l h.named;
     some = omega arith;
     has = by (h.has s);
-    all = shared_held held (shard X N lv) (bucket N (6 - lv) s l) two
-        (at_flat_tabulate (λ (b : Held). held b.0 ≡ Some b.1) 256 0 (λ s. slot_blocks (shard X N lv) (bucket N (6 - lv) s l)) s (omega arith) (omega arith) h.all.1);
+    all = shared_held held (shard X N lv none) (bucket N (6 - lv) s l) two
+        (at_flat_tabulate (λ (b : Held). held b.0 ≡ Some b.1) 256 0 (λ s. slot_blocks (shard X N lv none) (bucket N (6 - lv) s l)) s (omega arith) (omega arith) h.all.1);
   }
     where
       by : (length (bucket N (6 - lv) s l) ≤ 1) ⊎ HasShard N lv (bucket N (6 - lv) s l) → HasShard N lv (bucket N (6 - lv) s l)
@@ -357,41 +362,41 @@ module _ (X : List ℕ → List ℕ) (N : List ℕ → ℕ) (good : IsHash X) (h
   none_valid m = node_entry-valid X good [] []
 
   -- a shard that is held is visited, and its links add its names
-  visited_adds : (w : List ℕ → Option Cid) (met : Ways) (items : List InSlot) (left n : ℕ) → IsShard items → (c : Cid) → c ≡ cid_of X DagPb (shard_block items) → held c ≡ Some (shard_block items)
-      → ((m : ℕ) → Adds w met (shard_ways (sub_ways held left) c left (map slot_link items) met m)) → Adds w met (sub_ways held (suc left) c met n)
+  visited_adds : (w : List ℕ → Option Cid) (met : Ways) (m : Meta) (items : List InSlot) (left n : ℕ) → IsTrue (is_meta m) → IsShard items → (c : Cid) → c ≡ cid_of X DagPb (shard_block m items) → held c ≡ Some (shard_block m items)
+      → ((i : ℕ) → Adds w met (shard_ways (sub_ways held left) c left (map slot_link items) met i)) → Adds w met (sub_ways held (suc left) c met n)
   unfolding sub_ways
-  visited_adds w met items left n valid c is here next =
-      gives-on (Adds w met) (λ e h. h) (Shard (map slot_link items)) (visit_of held (suc left) c n) (λ u m. unvisited m (as_shard c u) >> λ links j. shard_ways (sub_ways held left) c left links met j)
-      (visit-gives held c (shard_block items) (Shard (map slot_link items)) here (ap (λ d. unixfs_of d (shard_block items)) is ∙ shard-reread (X (shard_block items)) items valid) (suc left) n) next
+  visited_adds w met m items left n carried valid c is here next =
+      gives-on (Adds w met) (λ e h. h) (Shard m (map slot_link items)) (visit_of held (suc left) c n) (λ u i. unvisited i (as_shard c u) >> λ links j. shard_ways (sub_ways held left) c left links met j)
+      (visit-gives held c (shard_block m items) (Shard m (map slot_link items)) here (ap (λ d. unixfs_of d (shard_block m items)) is ∙ shard-reread (X (shard_block m items)) m items carried valid) (suc left) n) next
 
-  pub shard-adds : (lv : ℕ) (l : List Named) → ShardHeld lv l → (left : ℕ) (met : Ways) (n : ℕ) → T (is_sorted names_cmp met) → Fresh l met → Adds (wanted l) met (sub_ways held left (shard X N lv l).entry.cid met n)
+  pub shard-adds : (lv : ℕ) (m : Meta) (l : List Named) → ShardHeld lv m l → (left : ℕ) (met : Ways) (n : ℕ) → T (is_sorted names_cmp met) → Fresh l met → Adds (wanted l) met (sub_ways held left (shard X N lv m l).entry.cid met n)
   unfolding shard HasShard sub_ways
-  shard-adds zero l h zero met n sorted fresh = tt
-  shard-adds (suc lv) l h zero met n sorted fresh = tt
-  shard-adds zero l h (suc left) met n sorted fresh =
-      visited_adds (wanted l) met (shard_items N (no_shard X N) 7 l) left n (shard_items-valid N (no_shard X N) none_valid 7 l h.named h.some) (shard X N zero l).entry.cid refl h.all.0
-      (λ m. links-add N held 7 l (no_shard X N) (shard X N zero l).entry.cid left h.named (λ s small two met n sorted fresh. absurd (let few : length (bucket N 7 s l) ≤ 1 = h.has s in omega arith)) met m sorted fresh)
-  shard-adds (suc lv) l h (suc left) met n sorted fresh =
-      let below = shard-adds lv in
-      visited_adds (wanted l) met (shard_items N (shard X N lv) (6 - lv) l) left n (shard_items-valid N (shard X N lv) (shard-valid X good N lv) (6 - lv) l h.named h.some) (shard X N (suc lv) l).entry.cid refl h.all.0
-      (λ m. links-add N held (6 - lv) l (shard X N lv) (shard X N (suc lv) l).entry.cid left h.named (λ s small two met n sorted fresh. below (bucket N (6 - lv) s l) (below_shard lv l h s small two) left met n sorted fresh) met m sorted fresh)
+  shard-adds zero m l h zero met n sorted fresh = tt
+  shard-adds (suc lv) m l h zero met n sorted fresh = tt
+  shard-adds zero m l h (suc left) met n sorted fresh =
+      visited_adds (wanted l) met m (shard_items N (no_shard X N) 7 l) left n h.meta (shard_items-valid N (no_shard X N) none_valid 7 l h.named h.some) (shard X N zero m l).entry.cid refl h.all.0
+      (λ i. links-add N held 7 l (no_shard X N) (shard X N zero m l).entry.cid left h.named (λ s small two met n sorted fresh. absurd (let few : length (bucket N 7 s l) ≤ 1 = h.has s in omega arith)) met i sorted fresh)
+  shard-adds (suc lv) m l h (suc left) met n sorted fresh =
+      let below = shard-adds lv none in
+      visited_adds (wanted l) met m (shard_items N (shard X N lv none) (6 - lv) l) left n h.meta (shard_items-valid N (shard X N lv none) (shard-valid X good N lv none) (6 - lv) l h.named h.some) (shard X N (suc lv) m l).entry.cid refl h.all.0
+      (λ i. links-add N held (6 - lv) l (shard X N lv none) (shard X N (suc lv) m l).entry.cid left h.named (λ s small two met n sorted fresh. below (bucket N (6 - lv) s l) (below_shard lv m l h s small two) left met n sorted fresh) met i sorted fresh)
 
   -- the slots of the root, and its block
   abbrev pub root_items : List Named → List InSlot
-  root_items l = shard_items N (shard X N 6) 0 l
+  root_items l = shard_items N (shard X N 6 none) 0 l
 
-  pub root-valid : (l : List Named) → ShardHeld 7 l → IsShard (root_items l)
-  root-valid l h = shard_items-valid N (shard X N 6) (shard-valid X good N 6) 0 l h.named h.some
+  pub root-valid : (m : Meta) (l : List Named) → ShardHeld 7 m l → IsShard (root_items l)
+  root-valid m l h = shard_items-valid N (shard X N 6 none) (shard-valid X good N 6 none) 0 l h.named h.some
 
-  pub root-held : (l : List Named) → ShardHeld 7 l → held (shard X N 7 l).entry.cid ≡ Some (shard_block (root_items l))
+  pub root-held : (m : Meta) (l : List Named) → ShardHeld 7 m l → held (shard X N 7 m l).entry.cid ≡ Some (shard_block m (root_items l))
   unfolding shard
-  root-held l h = h.all.0
+  root-held m l h = h.all.0
 
-  pub root-cid : (l : List Named) → (shard X N 7 l).entry.cid ≡ cid_of X DagPb (shard_block (root_items l))
+  pub root-cid : (m : Meta) (l : List Named) → (shard X N 7 m l).entry.cid ≡ cid_of X DagPb (shard_block m (root_items l))
   unfolding shard
-  root-cid l = refl
+  root-cid m l = refl
 
-  pub root-adds : (l : List Named) → ShardHeld 7 l → (c : Cid) (left m : ℕ) → Adds (wanted l) [] (shard_ways (sub_ways held left) c left (map slot_link (root_items l)) [] m)
+  pub root-adds : (m : Meta) (l : List Named) → ShardHeld 7 m l → (c : Cid) (left i : ℕ) → Adds (wanted l) [] (shard_ways (sub_ways held left) c left (map slot_link (root_items l)) [] i)
   unfolding HasShard
-  root-adds l h c left m =
-      links-add N held 0 l (shard X N 6) c left h.named (λ s small two met n sorted fresh. shard-adds 6 (bucket N 0 s l) (below_shard 6 l h s small two) left met n sorted fresh) [] m tt (λ q some. refl)
+  root-adds m l h c left i =
+      links-add N held 0 l (shard X N 6 none) c left h.named (λ s small two met n sorted fresh. shard-adds 6 none (bucket N 0 s l) (below_shard 6 m l h s small two) left met n sorted fresh) [] i tt (λ q some. refl)

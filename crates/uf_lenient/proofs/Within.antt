@@ -6,6 +6,7 @@ use Rattle.uf_cid.specs.Blocks.{Lookup}
 use Rattle.uf_cid.specs.declared.cid.Cid.{Cid}
 use Rattle.uf_dagpb.specs.declared.node.Link.{Link}
 use Rattle.uf_store.specs.declared.store.StoreFault.TheVariants.{Missing}
+use Rattle.uf_tree.specs.declared.meta.Meta.{Meta}
 use Rattle.uf_tree.specs.Tree.{File as FileTree}
 use Rattle.uf_lenient.specs.declared.fault.DagFault.{DagFault}
 use Rattle.uf_lenient.specs.declared.fault.DagFault.TheVariants.{Store}
@@ -40,30 +41,30 @@ module _ (held : Lookup) where
   visit-gives c bytes u is says left n =
       gives-then bytes u (loads held left c n) (λ b m. unvisited m (unixfs_of c b)) (load_gives c bytes is left n) (λ m. subst (λ (r : Result Unixfs DagFault). Gives u (unvisited m r)) (sym says) refl)
 
-  -- what is held under a CID is read as the file of these bytes
-  pub record ReadsFile (c : Cid) (b : List ℕ) : Type 0 where
+  -- what is held under a CID is read as the file of this metadata and these bytes
+  pub record ReadsFile (c : Cid) (meta : Meta) (b : List ℕ) : Type 0 where
     pub block : List ℕ
     pub bytes : List ℕ
     pub links : List Link
     pub is_held : held c ≡ Some block
-    pub says : unixfs_of c block ≡ Ok (File bytes links)
+    pub says : unixfs_of c block ≡ Ok (File meta bytes links)
     pub below : (left n : ℕ) → Gives b (joined_parts (part_bytes held left) links n >> λ more j. Ok (bytes ++ more, j))
 
-  pub part-of-file : (c : Cid) (b : List ℕ) → ReadsFile c b → (left n : ℕ) → Gives b (part_bytes held left c n)
+  pub part-of-file : (c : Cid) (meta : Meta) (b : List ℕ) → ReadsFile c meta b → (left n : ℕ) → Gives b (part_bytes held left c n)
   unfolding part_bytes
-  part-of-file c b r zero n = tt
-  part-of-file c b r (suc left) n =
-      gives-then (File r.bytes r.links) b (visit_of held (suc left) c n) (λ u m. unvisited m (as_part c u) >> λ own k. joined_parts (part_bytes held left) own.1 k >> λ more j. Ok (own.0 ++ more, j))
-      (visit-gives c r.block (File r.bytes r.links) r.is_held r.says (suc left) n) (λ m. r.below left m)
+  part-of-file c meta b r zero n = tt
+  part-of-file c meta b r (suc left) n =
+      gives-then (File meta r.bytes r.links) b (visit_of held (suc left) c n) (λ u m. unvisited m (as_part c u) >> λ own k. joined_parts (part_bytes held left) own.1 k >> λ more j. Ok (own.0 ++ more, j))
+      (visit-gives c r.block (File meta r.bytes r.links) r.is_held r.says (suc left) n) (λ m. r.below left m)
 
-  as_tree : (own b : List ℕ) (s : Visits (List ℕ)) → Gives b (s >> λ more j. Ok (own ++ more, j)) → Gives (FileTree b) (s >> λ more m. Ok (FileTree (own ++ more), m))
-  as_tree own b (Ok x) is = ap FileTree is
-  as_tree own b (Err e) is = is
+  as_tree : (meta : Meta) (own b : List ℕ) (s : Visits (List ℕ)) → Gives b (s >> λ more j. Ok (own ++ more, j)) → Gives (FileTree meta b) (s >> λ more m. Ok (FileTree meta (own ++ more), m))
+  as_tree meta own b (Ok x) is = ap (FileTree meta) is
+  as_tree meta own b (Err e) is = is
 
-  pub tree-of-file : (c : Cid) (b : List ℕ) → ReadsFile c b → (room left n : ℕ) → Gives (FileTree b) (tree_within held room left c n)
+  pub tree-of-file : (c : Cid) (meta : Meta) (b : List ℕ) → ReadsFile c meta b → (room left n : ℕ) → Gives (FileTree meta b) (tree_within held room left c n)
   unfolding tree_within gathered
-  tree-of-file c b r zero left n = tt
-  tree-of-file c b r (suc room) left n =
-      gives-then (IsFile r.bytes r.links) (FileTree b) (gathered held left c n) (λ g m. completed held (tree_within held room) (pred left) g m)
-      (gives-then (File r.bytes r.links) (IsFile r.bytes r.links) (visit_of held left c n) (λ u m. gathers held (pred left) c u m) (visit-gives c r.block (File r.bytes r.links) r.is_held r.says left n) (λ m. refl))
-      (λ m. as_tree r.bytes b (joined_parts (part_bytes held (pred left)) r.links m) (r.below (pred left) m))
+  tree-of-file c meta b r zero left n = tt
+  tree-of-file c meta b r (suc room) left n =
+      gives-then (IsFile meta r.bytes r.links) (FileTree meta b) (gathered held left c n) (λ g m. completed held (tree_within held room) (pred left) g m)
+      (gives-then (File meta r.bytes r.links) (IsFile meta r.bytes r.links) (visit_of held left c n) (λ u m. gathers held (pred left) c u m) (visit-gives c r.block (File meta r.bytes r.links) r.is_held r.says left n) (λ m. refl))
+      (λ m. as_tree meta r.bytes b (joined_parts (part_bytes held (pred left)) r.links m) (r.below (pred left) m))

@@ -4,7 +4,7 @@ use Rattle.std.specs.declared.result.Result.{Result}
 use Rattle.std.specs.declared.result.Result.TheVariants.{Ok}
 use Rattle.uf_cid.specs.Blocks.{Lookup}
 use Rattle.uf_cid.specs.declared.cid.Cid.{Cid}
-use Rattle.uf_tree.specs.Tree.{Dir, Entries, File, Nothing, Tree, With}
+use Rattle.uf_tree.specs.Tree.{Dir, Entries, File, Nothing, Tree, With, own_meta}
 use Rattle.uf_lenient.specs.Reading.{answered, file_of, shallow_of, tree_within}
 use Rattle.uf_lenient.specs.declared.fault.DagFault.{DagFault}
 use Rattle.uf_lenient.specs.declared.shapes.Limits.{Limits}
@@ -18,18 +18,18 @@ module _ (held : Lookup) (limits : Limits) where
 
   -- each of these ways leads to what denotes one of these members, in their order
   abbrev pub AreDenoted : ℕ → List (List ℕ × Cid) → Entries → Type 0
-  AreDenoted room [] Nothing = ⊤
-  AreDenoted room (w ∷ ways) Nothing = ⊥
+  AreDenoted room [] (Nothing meta) = ⊤
+  AreDenoted room (w ∷ ways) (Nothing meta) = ⊥
   AreDenoted room [] (With name t es) = ⊥
   AreDenoted room (w ∷ ways) (With name t es) =
       (name ≡ w.0) × (denotes_within room w.1 ≡ Ok t) × AreDenoted room ways es
 
-  -- what a CID denotes is this tree: a file, or a directory whose ways lead to its members
+  -- what a CID denotes is this tree, of the shape's metadata: a file, or a directory whose ways lead to its members
   abbrev pub DenotesBy : ℕ → Cid → Tree → Shape → Type 0
-  DenotesBy room c (File bytes) FileShape = file_of held limits c ≡ Ok bytes
-  DenotesBy room c (File bytes) (FolderShape ways) = ⊥
-  DenotesBy room c (Dir es) FileShape = ⊥
-  DenotesBy room c (Dir es) (FolderShape ways) = AreDenoted room ways es
+  DenotesBy room c (File m bytes) (FileShape meta) = (m ≡ meta) × (file_of held limits c ≡ Ok bytes)
+  DenotesBy room c (File m bytes) (FolderShape meta ways) = ⊥
+  DenotesBy room c (Dir es) (FileShape meta) = ⊥
+  DenotesBy room c (Dir es) (FolderShape meta ways) = (own_meta es ≡ meta) × AreDenoted room ways es
 
   -- what a CID denotes, by the shape that it has
   pub record IsStep (room : ℕ) (c : Cid) (t : Tree) : Type 0 where

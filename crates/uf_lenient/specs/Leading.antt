@@ -12,9 +12,9 @@ use Rattle.uf_lenient.specs.Unixfs.{unixfs_of}
 
 -- the links of a block that a reading may follow
 abbrev pub links_to_read : Unixfs → List Link
-links_to_read (File bytes links) = links
-links_to_read (Directory links) = links
-links_to_read (Shard links) = links
+links_to_read (File meta bytes links) = links
+links_to_read (Directory meta links) = links
+links_to_read (Shard meta links) = links
 links_to_read OtherShard = []
 links_to_read Other = []
 
@@ -26,9 +26,9 @@ pub record AgreeAmong (left right : Lookup) (cids : List Cid) : Type 0 where
 
 -- a reading follows the links of this block
 abbrev pub IsFollowed : Unixfs → Type 0
-IsFollowed (File bytes links) = ⊤
-IsFollowed (Directory links) = ⊤
-IsFollowed (Shard links) = ⊤
+IsFollowed (File meta bytes links) = ⊤
+IsFollowed (Directory meta links) = ⊤
+IsFollowed (Shard meta links) = ⊤
 IsFollowed OtherShard = ⊥
 IsFollowed Other = ⊥
 

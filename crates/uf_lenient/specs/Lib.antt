@@ -3,6 +3,7 @@ pub mod Denoted
 pub mod Good
 pub mod Keyed
 pub mod Leading
+pub mod Metas
 pub mod Pending
 pub mod Reading
 pub mod Rows

@@ -34,8 +34,8 @@ way_due w = record { cid = w.1.cid; left = w.1.left; visited = Whole }
 
 -- what is below the first node of a file, or the members of a directory
 abbrev pub gathered_due : ℕ → Gathered → List Due
-gathered_due left (IsFile bytes links) = parts_due left links
-gathered_due left (IsFolder ways) = map way_due ways
+gathered_due left (IsFile meta bytes links) = parts_due left links
+gathered_due left (IsFolder meta ways) = map way_due ways
 
 module _ (held : Lookup) where
   -- the links of the shard that a shard links, which is visited

@@ -104,8 +104,8 @@ member_trees read (w ∷ ws) n =
 
 -- what was gathered, without how much depth is left
 abbrev pub shape_of : Gathered → Shape
-shape_of (IsFile bytes links) = FileShape
-shape_of (IsFolder ways) = FolderShape (leads ways)
+shape_of (IsFile meta bytes links) = FileShape meta
+shape_of (IsFolder meta ways) = FolderShape meta (leads ways)
 
 -- where a name leads from a directory; the name has this place in its path
 abbrev pub way_at : ℕ → Option Cid → Result Cid DagFault
@@ -113,8 +113,8 @@ way_at place None = Err (NotFound place)
 way_at place (Some c) = Ok c
 
 abbrev pub way_in_shape : ℕ → List ℕ → Shape → Result Cid DagFault
-way_in_shape place name FileShape = Err (NotADirectory place)
-way_in_shape place name (FolderShape ways) = way_at place (find names_cmp name ways)
+way_in_shape place name (FileShape meta) = Err (NotADirectory place)
+way_in_shape place name (FolderShape meta ways) = way_at place (find names_cmp name ways)
 
 module _ (held : Lookup) where
   -- a visit: the block, where a depth and a visit are left for it
@@ -141,11 +141,11 @@ module _ (held : Lookup) where
       visit_of (suc left) c n >> λ u m. unvisited m (as_shard c u) >> λ links k.
       shard_ways (sub_ways left) c left links met k
 
-  -- what a file or a directory is by its first block, and by those of its sub-shards
+  -- what a file or a directory is by its first block, which alone gives its metadata, and by those of its sub-shards
   abbrev pub gathers : ℕ → Cid → Unixfs → ℕ → Visits Gathered
-  gathers left c (File bytes links) n = Ok (IsFile bytes links, n)
-  gathers left c (Directory links) n = unvisited n (meet_all c left links []) >> λ ways m. Ok (IsFolder ways, m)
-  gathers left c (Shard links) n = shard_ways (sub_ways left) c left links [] n >> λ ways m. Ok (IsFolder ways, m)
+  gathers left c (File meta bytes links) n = Ok (IsFile meta bytes links, n)
+  gathers left c (Directory meta links) n = unvisited n (meet_all c left links []) >> λ ways m. Ok (IsFolder meta ways, m)
+  gathers left c (Shard meta links) n = shard_ways (sub_ways left) c left links [] n >> λ ways m. Ok (IsFolder meta ways, m)
   gathers left c OtherShard n = Err (Unsupported c)
   gathers left c Other n = Err (Unsupported c)
 
@@ -155,9 +155,9 @@ module _ (held : Lookup) where
 
   -- the tree of what was gathered, whose members `read` reads
   abbrev pub completed : (ℕ → Cid → ℕ → Visits Tree) → ℕ → Gathered → ℕ → Visits Tree
-  completed read left (IsFile bytes links) n =
-      joined_parts (part_bytes left) links n >> λ more m. Ok (FileTree (bytes ++ more), m)
-  completed read left (IsFolder ways) n = member_trees read ways n >> λ es m. Ok (Dir (entries es), m)
+  completed read left (IsFile meta bytes links) n =
+      joined_parts (part_bytes left) links n >> λ more m. Ok (FileTree meta (bytes ++ more), m)
+  completed read left (IsFolder meta ways) n = member_trees read ways n >> λ es m. Ok (Dir (entries meta es), m)
 
   -- the tree under a CID, with so much depth left; directories nest at most as deep as that, so `room` of as much is
   -- enough

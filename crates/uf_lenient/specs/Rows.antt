@@ -1,5 +1,5 @@
 -- Worked readings: blocks under CIDs of made-up digests, and what they denote.
-use Rattle.std.specs.Prelude.{ℕ, ◌+◌, ◌*◌, ◌/◌, ◌%◌, ◌==◌, List, [], ◌∷◌, ◌++◌, codes, length, replicate, if◌then◌else◌}
+use Rattle.std.specs.Prelude.{ℕ, pos, ◌+◌, ◌*◌, ◌/◌, ◌%◌, ◌==◌, List, [], ◌∷◌, ◌++◌, codes, length, replicate, if◌then◌else◌}
 use Rattle.std.specs.declared.option.Option.{Option}
 use Rattle.std.specs.declared.option.Option.TheVariants.{None, Some}
 use Rattle.std.specs.List.{flat_map}
@@ -7,6 +7,8 @@ use Rattle.uf_cid.specs.Blocks.{Lookup}
 use Rattle.uf_cid.specs.Cid.{cid_bytes}
 use Rattle.uf_cid.specs.declared.cid.Cid.{Cid}
 use Rattle.uf_cid.specs.declared.cid.Codec.TheVariants.{Raw, DagPb}
+use Rattle.uf_message.specs.declared.message.Mtime.{Mtime}
+use Rattle.uf_tree.specs.declared.meta.Meta.{Meta}
 use Rattle.uf_lenient.specs.declared.shapes.Limits.{Limits}
 
 -- the CID of a number, of a node and of a raw block
@@ -39,6 +41,16 @@ file_content = 8 ∷ 2 ∷ []
 
 abbrev pub shard_content : List ℕ
 shard_content = 8 ∷ 5 ∷ 0x28 ∷ 0x22 ∷ 0x30 ∷ 0x80 ∷ 2 ∷ []
+
+-- a mode of 0644 and one of 0755, and an mtime of 1 second and so many nanoseconds, in four bytes from the last one on
+abbrev pub mode_644 : List ℕ
+mode_644 = 0x38 ∷ 0xa4 ∷ 3 ∷ []
+
+abbrev pub mode_755 : List ℕ
+mode_755 = 0x38 ∷ 0xed ∷ 3 ∷ []
+
+abbrev pub mtime_spelled : List ℕ → List ℕ
+mtime_spelled nanos = 0x42 ∷ 7 ∷ 8 ∷ 1 ∷ 0x15 ∷ nanos
 
 -- a file of two bytes with its bytes in its node, and the node of which `x` spells that as a CIDv0
 abbrev pub hi : List ℕ
@@ -94,6 +106,14 @@ some_block n =
     else if n == 27 then Some []
     else if n == 28 then Some (0x0a ∷ 0 ∷ [])
     else if n == 29 then Some (0x1a ∷ 0 ∷ [])
+    else if n == 30 then Some (node_spelled [] (8 ∷ 2 ∷ 0x12 ∷ 2 ∷ 0x68 ∷ 0x69 ∷ 0x18 ∷ 2 ∷ mode_644))
+    else if n == 31 then Some (node_spelled [] (directory_content ++ mode_755))
+    else if n == 32 then
+    Some (node_spelled ((nth_node 30, []) ∷ []) (file_content ++ mtime_spelled (0 ∷ 0 ∷ 0 ∷ 0 ∷ [])))
+    else if n == 33 then Some (node_spelled [] (file_content ++ mode_644 ++ mtime_spelled (0 ∷ 0xca ∷ 0x9a ∷ 0x3b ∷ [])))
+    else if n == 34 then Some (node_spelled [] (file_content ++ mtime_spelled (0xff ∷ 0xc9 ∷ 0x9a ∷ 0x3b ∷ [])))
+    else if n == 35 then Some (node_spelled ((nth_node 36, codes "01") ∷ []) (shard_content ++ mode_755))
+    else if n == 36 then Some (node_spelled ((nth_raw 3, codes "00x") ∷ []) (shard_content ++ mode_644))
     else None
 
 abbrev pub some_blocks : Lookup
@@ -109,6 +129,13 @@ abbrev pub doubled_chain : ℕ → Lookup
 doubled_chain last c =
     under (λ n. Some (if n == last then node_spelled [] directory_content
     else node_spelled ((nth_node (n + 1), codes "a") ∷ (nth_node (n + 1), codes "b") ∷ []) directory_content)) c
+
+-- metadata of a mode alone, and of an mtime alone
+abbrev pub of_mode : ℕ → Meta
+of_mode mode = record { mode = Some mode; mtime = None }
+
+abbrev pub of_mtime : ℕ → Option ℕ → Meta
+of_mtime seconds nanos = record { mode = None; mtime = Some (record { seconds = pos seconds; nanos = nanos }) }
 
 abbrev pub usual_limits : Limits
 usual_limits = record { depth = 256; visits = 1048576 }

@@ -7,6 +7,7 @@ use Rattle.std.specs.FinMap.Entries.{is_sorted}
 use Rattle.uf_varint.specs.Fields.{◌>>=◌}
 use Rattle.uf_cid.specs.declared.cid.Cid.{Cid}
 use Rattle.uf_cid.specs.Blocks.{Lookup}
+use Rattle.uf_tree.specs.declared.meta.Meta.{Meta}
 use Rattle.uf_tree.specs.Names.{names_cmp}
 use Rattle.uf_tree.specs.Tree.{Tree}
 use Rattle.uf_lenient.specs.declared.due.Due.{Due}
@@ -22,17 +23,17 @@ use Rattle.uf_lenient.specs.Answers.{IsFault}
 use Rattle.uf_lenient.specs.Pending.{all_bytes}
 use Rattle.uf_lenient.specs.Reading.{◌>>◌, Visits, Ways, answered, denotes, shallow_of, shard_ways}
 
--- a directory of these ways
-abbrev pub gathered_folder : Result Ways DagFault → Result Gathered DagFault
-gathered_folder ways = ways >>= λ all. Ok (IsFolder all)
+-- a directory of this metadata and these ways
+abbrev pub gathered_folder : Meta → Result Ways DagFault → Result Gathered DagFault
+gathered_folder meta ways = ways >>= λ all. Ok (IsFolder meta all)
 
-abbrev pub gathered_folder_behind : Visits Ways → Visits Gathered
-gathered_folder_behind ways = ways >> λ all n. Ok (IsFolder all, n)
+abbrev pub gathered_folder_behind : Meta → Visits Ways → Visits Gathered
+gathered_folder_behind meta ways = ways >> λ all n. Ok (IsFolder meta all, n)
 
 -- the ways of a directory are in byte order of their names, which are all different
 abbrev pub IsInOrder : Shape → Type 0
-IsInOrder FileShape = ⊤
-IsInOrder (FolderShape ways) = IsTrue (is_sorted names_cmp ways)
+IsInOrder (FileShape meta) = ⊤
+IsInOrder (FolderShape meta ways) = IsTrue (is_sorted names_cmp ways)
 
 -- the entries of a shard from a place on were added, up to the end or to a link to a shard
 abbrev pub AddsEntries : Frame → Ways → Ways → (Cid → Ways → ℕ → Visits Ways) → ℕ

@@ -1,11 +1,13 @@
 // The ways of a directory gathered, with those of its sub-shards in their place.
-ghost use Rattle.std.specs.Prelude.{◌≡◌, ◌≤◌, ◌<◌, ◌+◌, ◌-◌, ◌*◌, [], ◌∷◌, ℕ, IfErr, OnOk, length};
+ghost use Rattle.std.specs.Prelude.{◌≡◌, ◌≤◌, ◌<◌, ◌+◌, ◌-◌, ◌*◌, [], ◌∷◌, ℕ, IfErr, IfOk, IsTrue, OnOk, length};
 ghost use Rattle.std.specs.Option.{option_map};
 ghost use Rattle.uf_cid.specs.declared.cid.Cid.{Cid as TheCid};
 ghost use Rattle.uf_store.specs.Calls.{OnlyReads};
 ghost use Rattle.uf_store.specs.Faults.{NoneIsBad};
 ghost use Rattle.uf_lenient.specs.Answers.{FollowsReading, IsBare, dag_fault};
 ghost use Rattle.uf_lenient.specs.Good.{ByGoodBlocks};
+ghost use Rattle.uf_tree.specs.Metas.{is_meta};
+ghost use Rattle.uf_lenient.specs.Metas.{IsGoodGathered};
 ghost use Rattle.uf_lenient.specs.Pending.{frames_ways, own_shard};
 ghost use Rattle.uf_lenient.specs.Reading.{Visits, Ways, behind_slot, gathered, is_digit, meet, meet_all};
 ghost use Rattle.uf_lenient.specs.Reading.{shard_ways, sub_ways};
@@ -24,6 +26,7 @@ use std::sync::ledger::Ledger;
 use uf_cid::{Cid, Memory};
 use uf_dagpb::Links;
 use uf_store::{Steps, Store};
+use uf_tree::Meta;
 
 /// Visits what a CID names: the first node of a file, or a directory with all its sub-shards. One touch for each visit.
 pub fn gather<S: Store, L: Ledger>(
@@ -36,6 +39,7 @@ pub fn gather<S: Store, L: Ledger>(
 ) -> Result<Gathered, DagFault>
     ensures says { ByGoodBlocks S.X.block32 (S.seen store.old).told (λ held. FollowsReading (λ g. (g, visits.new))
         (gathered held left cid.now visits.old) result) }
+    ensures good { IfOk result IsGoodGathered }
     ensures reads { OnlyReads S.X.block32 NoneIsBad (dag_fault result) (S.seen store.old) (S.seen store.new) }
     ensures depth { OnOk result (1 ≤ left) }
     ensures fewer { OnOk result (visits.new < visits.old) }
@@ -43,19 +47,34 @@ pub fn gather<S: Store, L: Ledger>(
     ensures touched { touches.old ≤ touches.new }
 {
     match visit(alloc, store, cid, left, visits, touches)? {
-        Unixfs::File(bytes, links) => Ok(Gathered::File(bytes, links)),
-        Unixfs::Directory(links) => gather_block(alloc, cid, left - 1, links),
-        Unixfs::Shard(links) => {
-            gather_shards(alloc, store, cid, left - 1, links, visits, touches)
-        }
+        Unixfs::File(meta, bytes, links) => Ok(Gathered::File(meta, bytes, links)),
+        Unixfs::Directory(meta, links) => gather_block(alloc, cid, left - 1, meta, links),
+        Unixfs::Shard(meta, links) => gather_shards(
+            alloc,
+            store,
+            cid,
+            left - 1,
+            meta,
+            links,
+            visits,
+            touches,
+        ),
         Unixfs::OtherShard => Err(DagFault::Unsupported(*cid)),
         Unixfs::Other => Err(DagFault::Unsupported(*cid)),
     }
 }
 
-// The ways of a directory in one block.
-fn gather_block(alloc: Global, by: &Cid, left: u64, links: Links) -> Result<Gathered, DagFault>
-    ensures says { FollowsReading (λ g. g) (gathered_folder (meet_all by.now left links [])) result }
+// The ways of a directory in one block, which has this metadata.
+fn gather_block(
+    alloc: Global,
+    by: &Cid,
+    left: u64,
+    meta: Meta,
+    links: Links,
+) -> Result<Gathered, DagFault>
+    requires good { IsTrue (is_meta meta) }
+    ensures says { FollowsReading (λ g. g) (gathered_folder meta (meet_all by.now left links [])) result }
+    ensures good { IfOk result IsGoodGathered }
     ensures bare { IfErr result IsBare }
 {
     let mut met = Met::new(alloc);
@@ -63,21 +82,24 @@ fn gather_block(alloc: Global, by: &Cid, left: u64, links: Links) -> Result<Gath
     for link in items {
         met.add(alloc, by, left, link.name.as_str(), &link.cid)?;
     }
-    Ok(Gathered::Folder(met))
+    Ok(Gathered::Folder(meta, met))
 }
 
-// The ways of a directory in shards, the first of which has these links.
+// The ways of a directory in shards, the first of which has this metadata and these links.
 fn gather_shards<S: Store, L: Ledger>(
     alloc: Global,
     store: &mut S,
     by: &Cid,
     left: u64,
+    meta: Meta,
     links: Links,
     visits: &mut u32,
     touches: &mut Steps<L>,
 ) -> Result<Gathered, DagFault>
+    requires good { IsTrue (is_meta meta) }
+    ensures good { IfOk result IsGoodGathered }
     ensures says { ByGoodBlocks S.X.block32 (S.seen store.old).told (λ held. FollowsReading (λ g. (g, visits.new))
-        (gathered_folder_behind (shard_ways (sub_ways held left) by.now left links [] visits.old)) result) }
+        (gathered_folder_behind meta (shard_ways (sub_ways held left) by.now left links [] visits.old)) result) }
     ensures reads { OnlyReads S.X.block32 NoneIsBad (dag_fault result) (S.seen store.old) (S.seen store.new) }
     ensures fewer { OnOk result (visits.new ≤ visits.old) }
     ensures touches { touches.new + visits.new ≡ touches.old + visits.old }
@@ -92,7 +114,7 @@ fn gather_shards<S: Store, L: Ledger>(
         at: 0,
     })?;
     gather_frames(alloc, store, &mut frames, &mut met, visits, touches)?;
-    Ok(Gathered::Folder(met))
+    Ok(Gathered::Folder(meta, met))
 }
 
 // Adds the ways of the shards in a pile, from its top down.

@@ -10,6 +10,8 @@ ghost use Rattle.uf_store.specs.Contents.{Contents, held_at};
 ghost use Rattle.uf_store.specs.Keeping.{KeepsGood};
 ghost use Rattle.uf_tree.specs.declared.nodes.FileNode.{FileNode};
 ghost use Rattle.uf_tree.specs.declared.profile.Profile.{Profile};
+ghost use Rattle.uf_tree.specs.declared.meta.Meta.{Meta};
+ghost use Rattle.uf_tree.specs.Metas.{is_meta};
 ghost use Rattle.uf_tree.specs.Nodes.{InSlot, Named, dir_block, file_block, link_of, shard_block, slot_link};
 ghost use Rattle.uf_tree.specs.Profiles.{is_profile};
 ghost use Rattle.uf_tree.specs.Tree.{Tree, is_tree};
@@ -32,12 +34,13 @@ ghost use Rattle.uf_lenient.specs.Within.{AnswersSame, GivesWithinLimits, HoldsA
 /// its own.
 pub fn canonical_nodes_are_read()
     ensures file { (digest : List ℕ) (node : FileNode) → IsFileNode node
-        → unixfs_of (record { codec = DagPb; digest = digest }) (file_block node) ≡ Ok (File [] node.parts) }
-    ensures directory { (digest : List ℕ) (l : List Named) → AllByRecursion IsNamed l → length (dir_block l) < 2 ^ 64
-        → unixfs_of (record { codec = DagPb; digest = digest }) (dir_block l)
-        ≡ Ok (Directory (map (λ (e : Named). link_of e.0 e.1) l)) }
-    ensures shard { (digest : List ℕ) (items : List InSlot) → IsShard items
-        → unixfs_of (record { codec = DagPb; digest = digest }) (shard_block items) ≡ Ok (Shard (map slot_link items)) }
+        → unixfs_of (record { codec = DagPb; digest = digest }) (file_block node) ≡ Ok (File node.meta [] node.parts) }
+    ensures directory { (digest : List ℕ) (m : Meta) (l : List Named) → IsTrue (is_meta m) → AllByRecursion IsNamed l
+        → length (dir_block m l) < 2 ^ 64 → unixfs_of (record { codec = DagPb; digest = digest }) (dir_block m l)
+        ≡ Ok (Directory m (map (λ (e : Named). link_of e.0 e.1) l)) }
+    ensures shard { (digest : List ℕ) (m : Meta) (items : List InSlot) → IsTrue (is_meta m) → IsShard items
+        → unixfs_of (record { codec = DagPb; digest = digest }) (shard_block m items)
+        ≡ Ok (Shard m (map slot_link items)) }
 {}
 
 /// Where the blocks of a tree's plan are held, its root denotes the tree, unless a limit ends the reading.

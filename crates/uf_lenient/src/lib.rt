@@ -33,8 +33,9 @@ pub use looking::shallow;
 pub use pieces::Pieces;
 pub use resolving::resolve;
 pub use rows::{
-    bytes_in_a_node_are_read, deep_chains_are_refused, files_are_of_files, names_come_first,
-    other_blocks_are_refused, paths_are_followed, repeats_count, shards_are_read_in_place,
+    bytes_in_a_node_are_read, deep_chains_are_refused, files_are_of_files,
+    metadata_is_of_the_first_node, names_come_first, other_blocks_are_refused, paths_are_followed,
+    repeats_count, shards_are_read_in_place,
 };
 pub use shapes::{Limits, Shape, Way, Ways};
 pub use streaming::stream;

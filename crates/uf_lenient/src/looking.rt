@@ -4,6 +4,7 @@ ghost use Rattle.uf_store.specs.Contents.{held_at};
 ghost use Rattle.uf_store.specs.Faults.{NoneIsBad, Shown};
 ghost use Rattle.uf_lenient.specs.Answers.{FollowsReading, dag_fault};
 ghost use Rattle.uf_lenient.specs.Good.{ByGoodBlocks};
+ghost use Rattle.uf_lenient.specs.Metas.{IsGoodGathered, IsGoodShape};
 ghost use Rattle.uf_lenient.specs.Reading.{shallow_of, shape_of as shape_is};
 ghost use Rattle.uf_lenient.specs.Steps.{IsInOrder};
 
@@ -29,6 +30,7 @@ pub fn shallow<S: Store, L: Ledger>(
     ensures good { ByGoodBlocks S.X.block32 (S.seen store.old).told (λ held. FollowsReading (λ s. s)
         (shallow_of held limits.now cid.now) result) }
     ensures order { IfOk result IsInOrder }
+    ensures good_meta { IfOk result IsGoodShape }
     ensures cause { Shown S.X.block32 NoneIsBad (dag_fault result) (S.seen store.old) (S.seen store.new) }
     ensures told { (S.seen store.new).told ≡ (S.seen store.old).told }
     ensures touches { touches.new ≤ touches.old + limits.now.visits }
@@ -43,11 +45,13 @@ pub fn shallow<S: Store, L: Ledger>(
 
 /// The shape of what was gathered.
 pub fn shape_of(alloc: Global, gathered: &Gathered) -> Result<Shape, Memory>
+    requires good { IsGoodGathered gathered.now }
     ensures shape { IfOk result (λ s. s ≡ shape_is gathered.now) }
     ensures order { IfOk result IsInOrder }
+    ensures good_meta { IfOk result IsGoodShape }
 {
     match gathered {
-        Gathered::File(_, _) => Ok(Shape::File),
-        Gathered::Folder(met) => Ok(Shape::Folder(met.ways(alloc)?)),
+        Gathered::File(meta, _, _) => Ok(Shape::File(*meta)),
+        Gathered::Folder(meta, met) => Ok(Shape::Folder(*meta, met.ways(alloc)?)),
     }
 }

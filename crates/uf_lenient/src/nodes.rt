@@ -1,9 +1,11 @@
 // Blocks read leniently.
-ghost use Rattle.std.specs.Prelude.{◌≡◌, [], IfErr, IfOk};
+ghost use Rattle.std.specs.Prelude.{◌≡◌, [], IfErr, IfOk, IsTrue};
 ghost use Rattle.std.specs.Option.{unwrap_or};
 ghost use Rattle.uf_message.specs.Reading.{message_reads};
+ghost use Rattle.uf_tree.specs.Metas.{is_meta, is_mode, is_mtime, none};
 ghost use Rattle.uf_lenient.specs.declared.unixfs.Unixfs.TheVariants.{File};
 ghost use Rattle.uf_lenient.specs.Answers.{FollowsReading, IsBare};
+ghost use Rattle.uf_lenient.specs.Metas.{IsGoodUnixfs, meta_read, mtime_read, time_read};
 ghost use Rattle.uf_lenient.specs.Unixfs.{as_file, as_part, as_shard, content_says, is_hamt, message_says, msg_refusal};
 ghost use Rattle.uf_lenient.specs.Unixfs.{of_kind, pb_refusal, unixfs_of};
 
@@ -12,14 +14,16 @@ use crate::unixfs::Unixfs;
 use std::alloc::Global;
 use uf_cid::{Block, Cid, Codec, Memory};
 use uf_dagpb::{Links, Node, PbFault};
-use uf_message::{Message, MsgFault, MsgKind};
+use uf_message::{Message, MsgFault, MsgKind, Mtime};
 use uf_store::StoreFault;
+use uf_tree::Meta;
 
 /// What the block under a CID is, in any spelling (UnixFS v1, "Data Format").
 #[tactic(auto, unfolding(crate::specs::Unixfs::unixfs_of))]
 pub fn read_unixfs(alloc: Global, cid: &Cid, bytes: &[u8]) -> Result<Unixfs, DagFault>
     ensures says { FollowsReading (λ u. u) (unixfs_of cid.now bytes.now) result }
     ensures bare { IfErr result IsBare }
+    ensures good { IfOk result IsGoodUnixfs }
 {
     match cid.codec {
         Codec::Raw => Ok(read_raw(alloc, bytes)?),
@@ -32,15 +36,16 @@ pub fn read_unixfs(alloc: Global, cid: &Cid, bytes: &[u8]) -> Result<Unixfs, Dag
 
 // A raw block: a file of its bytes.
 fn read_raw(alloc: Global, bytes: &[u8]) -> Result<Unixfs, Memory>
-    ensures { IfOk result (λ u. u ≡ File bytes.now []) }
+    ensures { IfOk result (λ u. u ≡ File none bytes.now []) }
 {
-    Ok(Unixfs::File(block_of(alloc, bytes)?, Links::new(alloc)))
+    Ok(Unixfs::File(Meta::none(), block_of(alloc, bytes)?, Links::new(alloc)))
 }
 
 // What a node is by its content.
 fn read_content(alloc: Global, cid: &Cid, node: Node) -> Result<Unixfs, DagFault>
     ensures says { FollowsReading (λ u. u) (content_says cid.now node.links node.content) result }
     ensures bare { IfErr result IsBare }
+    ensures good { IfOk result IsGoodUnixfs }
 {
     let Node { links, content } = node;
     match content {
@@ -53,6 +58,7 @@ fn read_content(alloc: Global, cid: &Cid, node: Node) -> Result<Unixfs, DagFault
 fn read_message(alloc: Global, cid: &Cid, links: Links, bytes: &[u8]) -> Result<Unixfs, DagFault>
     ensures says { FollowsReading (λ u. u) (message_says cid.now links (message_reads bytes.now)) result }
     ensures bare { IfErr result IsBare }
+    ensures good { IfOk result IsGoodUnixfs }
 {
     match uf_message::decode_lenient(alloc, bytes) {
         Err(fault) => Err(message_refusal(cid, fault)),
@@ -62,15 +68,17 @@ fn read_message(alloc: Global, cid: &Cid, links: Links, bytes: &[u8]) -> Result<
 
 // What a node is by its message.
 fn kind_of(alloc: Global, message: Message, links: Links) -> Unixfs
-    ensures { result ≡ of_kind message.kind message links }
+    ensures is { result ≡ of_kind message.kind message links }
+    ensures good { IsGoodUnixfs result }
 {
+    let meta = meta_of(&message);
     match message.kind {
-        MsgKind::Raw => file_of(alloc, message, links),
-        MsgKind::File => file_of(alloc, message, links),
-        MsgKind::Directory => Unixfs::Directory(links),
+        MsgKind::Raw => file_of(alloc, meta, message, links),
+        MsgKind::File => file_of(alloc, meta, message, links),
+        MsgKind::Directory => Unixfs::Directory(meta, links),
         MsgKind::Shard => {
             if is_murmur_shard(&message) {
-                Unixfs::Shard(links)
+                Unixfs::Shard(meta, links)
             } else {
                 Unixfs::OtherShard
             }
@@ -80,12 +88,73 @@ fn kind_of(alloc: Global, message: Message, links: Links) -> Unixfs
     }
 }
 
-// A file of a message's own bytes.
-fn file_of(alloc: Global, message: Message, links: Links) -> Unixfs
-    ensures { result ≡ File (unwrap_or message.content []) links }
+// A file of a message's own bytes, with this metadata.
+fn file_of(alloc: Global, meta: Meta, message: Message, links: Links) -> Unixfs
+    ensures { result ≡ File meta (unwrap_or message.content []) links }
 {
     let bytes = message.content.unwrap_or(Block::new(alloc));
-    Unixfs::File(bytes, links)
+    Unixfs::File(meta, bytes, links)
+}
+
+// The metadata of a message.
+fn meta_of(message: &Message) -> Meta
+    ensures is { result ≡ meta_read message.now }
+    ensures good { IsTrue (is_meta result) }
+{
+    Meta {
+        mode: mode_of(message.mode),
+        mtime: mtime_of(message.mtime),
+    }
+}
+
+// The mode of a message, which has 32 bits.
+fn mode_of(mode: Option<u32>) -> Option<u32>
+    ensures is { result ≡ mode }
+    ensures good { IsTrue (is_mode result) }
+{
+    match mode {
+        None => None,
+        Some(mode) => Some(mode),
+    }
+}
+
+// The mtime of a message, where it has one that a tree may have.
+fn mtime_of(mtime: Option<Mtime>) -> Option<Mtime>
+    ensures is { result ≡ mtime_read mtime }
+    ensures good { IsTrue (is_mtime result) }
+{
+    match mtime {
+        None => None,
+        Some(Mtime { seconds, nanos }) => time_of(seconds, nanos),
+    }
+}
+
+// The mtime of these seconds and nanoseconds: 0 nanoseconds are none, and more than a second has are no mtime.
+fn time_of(seconds: i64, nanos: Option<u32>) -> Option<Mtime>
+    ensures is { result ≡ time_read seconds nanos }
+    ensures good { IsTrue (is_mtime result) }
+{
+    match nanos {
+        None => Some(Mtime {
+            seconds,
+            nanos: None,
+        }),
+        Some(nanos) => {
+            if nanos == 0 {
+                Some(Mtime {
+                    seconds,
+                    nanos: None,
+                })
+            } else if nanos <= 999999999 {
+                Some(Mtime {
+                    seconds,
+                    nanos: Some(nanos),
+                })
+            } else {
+                None
+            }
+        }
+    }
 }
 
 // Whether a shard has 256 slots that MurmurHash3 gives.
@@ -132,7 +201,7 @@ pub fn part_of(cid: &Cid, node: Unixfs) -> Result<(Block, Links), DagFault>
     ensures bare { IfErr result IsBare }
 {
     match node {
-        Unixfs::File(bytes, links) => Ok((bytes, links)),
+        Unixfs::File(_, bytes, links) => Ok((bytes, links)),
         _ => Err(DagFault::NotUnixfs(*cid, 20)),
     }
 }
@@ -143,9 +212,9 @@ pub fn first_of(cid: &Cid, node: Unixfs) -> Result<(Block, Links), DagFault>
     ensures bare { IfErr result IsBare }
 {
     match node {
-        Unixfs::File(bytes, links) => Ok((bytes, links)),
-        Unixfs::Directory(_) => Err(DagFault::NotUnixfs(*cid, 20)),
-        Unixfs::Shard(_) => Err(DagFault::NotUnixfs(*cid, 20)),
+        Unixfs::File(_, bytes, links) => Ok((bytes, links)),
+        Unixfs::Directory(_, _) => Err(DagFault::NotUnixfs(*cid, 20)),
+        Unixfs::Shard(_, _) => Err(DagFault::NotUnixfs(*cid, 20)),
         Unixfs::OtherShard => Err(DagFault::NotUnixfs(*cid, 20)),
         Unixfs::Other => Err(DagFault::Unsupported(*cid)),
     }
@@ -157,7 +226,7 @@ pub fn shard_of(cid: &Cid, node: Unixfs) -> Result<Links, DagFault>
     ensures bare { IfErr result IsBare }
 {
     match node {
-        Unixfs::Shard(links) => Ok(links),
+        Unixfs::Shard(_, links) => Ok(links),
         Unixfs::OtherShard => Err(DagFault::Unsupported(*cid)),
         _ => Err(DagFault::NotUnixfs(*cid, 20)),
     }

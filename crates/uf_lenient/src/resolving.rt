@@ -62,8 +62,8 @@ fn step<S: Store, L: Ledger>(
     ensures touched { touches.old ≤ touches.new }
 {
     match shallow(alloc, store, cid, limits, touches)? {
-        Shape::File => Err(DagFault::NotADirectory(place)),
-        Shape::Folder(ways) => match way_of(ways.as_slice(), name) {
+        Shape::File(_) => Err(DagFault::NotADirectory(place)),
+        Shape::Folder(_, ways) => match way_of(ways.as_slice(), name) {
             None => Err(DagFault::NotFound(place)),
             Some(cid) => Ok(cid),
         },

@@ -1,7 +1,9 @@
 // What the reading of a foreign DAG is given, and what it answers.
+ghost use Rattle.std.specs.Prelude.{◌≡◌, IfOk};
+
 use std::marker::Model;
-use uf_cid::{Cid, Seq};
-use uf_tree::Name;
+use uf_cid::{Cid, Copied, Memory, Seq};
+use uf_tree::{Meta, Name};
 
 /// How far a reading goes: at most so many links below its start, and so many visits, where a block that is linked
 /// twice counts twice.
@@ -27,12 +29,31 @@ impl Model for Way {
     ghost view = { λ w. (w.name, w.cid) };
 }
 
+impl Way {
+    /// The same name and CID again.
+    pub fn copy(&self) -> Result<Self, Memory>
+        ensures { IfOk result (λ way. way ≡ self.now) }
+    {
+        let name = self.name.copy()?;
+        Ok(Way {
+            name,
+            cid: self.cid,
+        })
+    }
+}
+
+impl Copied for Way {
+    fn copied(&self) -> Result<Self, Memory> {
+        self.copy()
+    }
+}
+
 /// The ways of a directory, in byte order of their names.
 pub type Ways = Seq<Way>;
 
-/// What a CID names: a file, or a directory with its ways.
+/// What a CID names: a file, or a directory with its ways; each with its metadata.
 #[derive(Drop)]
 pub enum Shape {
-    File,
-    Folder(Ways),
+    File(Meta),
+    Folder(Meta, Ways),
 }

@@ -6,6 +6,7 @@ ghost use Rattle.uf_store.specs.Contents.{held_at};
 ghost use Rattle.uf_store.specs.Faults.{NoneIsBad, Shown};
 ghost use Rattle.uf_lenient.specs.Answers.{FollowsReading, dag_fault};
 ghost use Rattle.uf_lenient.specs.Good.{ByGoodBlocks};
+ghost use Rattle.uf_lenient.specs.Metas.{IsGoodGathered, IsGoodShape};
 ghost use Rattle.uf_lenient.specs.Pending.{all_end, gathered_due, way_due};
 ghost use Rattle.uf_lenient.specs.Reading.{shape_of as shape_is};
 ghost use Rattle.uf_lenient.specs.Steps.{IsInOrder, StepsTo, Surveys};
@@ -36,6 +37,7 @@ pub fn survey<S: Store, L: Ledger>(
     ensures says { IfSome (S.seen store.old).told (λ t. Surveys (held_at t) limits.now cid.now result) }
     ensures good { ByGoodBlocks S.X.block32 (S.seen store.old).told (λ held. Surveys held limits.now cid.now result) }
     ensures order { IfOk result IsInOrder }
+    ensures good_meta { IfOk result IsGoodShape }
     ensures cause { Shown S.X.block32 NoneIsBad (dag_fault result) (S.seen store.old) (S.seen store.new) }
     ensures told { (S.seen store.new).told ≡ (S.seen store.old).told }
     ensures touches { touches.new ≤ touches.old + limits.now.visits }
@@ -56,11 +58,13 @@ fn complete<S: Store, L: Ledger>(
     visits: &mut u32,
     touches: &mut Steps<L>,
 ) -> Result<Shape, DagFault>
+    requires good { IsGoodGathered gathered }
     ensures says { ByGoodBlocks S.X.block32 (S.seen store.old).told (λ held. FollowsReading (λ _. visits.new)
         (all_end held (gathered_due left gathered) visits.old) result) }
     ensures reads { OnlyReads S.X.block32 NoneIsBad (dag_fault result) (S.seen store.old) (S.seen store.new) }
     ensures shape { IfOk result (λ s. s ≡ shape_is gathered) }
     ensures order { IfOk result IsInOrder }
+    ensures good_meta { IfOk result IsGoodShape }
     ensures touches { touches.new + visits.new ≡ touches.old + visits.old }
     ensures touched { touches.old ≤ touches.new }
 {
@@ -164,8 +168,8 @@ fn put_gathered(due: &mut Pile<Due>, gathered: Gathered, left: u64) -> Result<()
     ensures { OnOk result (due.new ≡ gathered_due left gathered ++ due.old) }
 {
     match gathered {
-        Gathered::File(_, links) => put_parts(due, links.as_slice(), left),
-        Gathered::Folder(met) => put_members(due, met),
+        Gathered::File(_, _, links) => put_parts(due, links.as_slice(), left),
+        Gathered::Folder(_, met) => put_members(due, met),
     }
 }
 

@@ -1,9 +1,10 @@
 // One visit.
-ghost use Rattle.std.specs.Prelude.{◌≡◌, ◌≤◌, ◌+◌, OnOk};
+ghost use Rattle.std.specs.Prelude.{◌≡◌, ◌≤◌, ◌+◌, IfOk, OnOk};
 ghost use Rattle.uf_store.specs.Calls.{OnlyReads};
 ghost use Rattle.uf_store.specs.Faults.{NoneIsBad};
 ghost use Rattle.uf_lenient.specs.Answers.{FollowsReading, dag_fault};
 ghost use Rattle.uf_lenient.specs.Good.{ByGoodBlocks};
+ghost use Rattle.uf_lenient.specs.Metas.{IsGoodUnixfs};
 ghost use Rattle.uf_lenient.specs.Reading.{loads, visit_of};
 
 use crate::DagFault;
@@ -53,6 +54,7 @@ pub fn visit<S: Store, L: Ledger>(
 ) -> Result<Unixfs, DagFault>
     ensures says { ByGoodBlocks S.X.block32 (S.seen store.old).told (λ held. FollowsReading (λ u. (u, visits.new))
         (visit_of held left cid.now visits.old) result) }
+    ensures good { IfOk result IsGoodUnixfs }
     ensures reads { OnlyReads S.X.block32 NoneIsBad (dag_fault result) (S.seen store.old) (S.seen store.new) }
     ensures depth { OnOk result (1 ≤ left) }
     ensures fewer { OnOk result (visits.new + 1 ≡ visits.old) }

@@ -9,7 +9,7 @@ use Rattle.uf_tree.specs.declared.nodes.Entry.{Entry}
 use Rattle.uf_tree.specs.declared.profile.Profile.{Profile}
 use Rattle.uf_tree.specs.DirPlan.{own_plan}
 use Rattle.uf_tree.specs.Profiles.{is_profile}
-use Rattle.uf_tree.specs.Tree.{Tree, Dir, Entries, Nothing, With, pairs, is_tree, are_trees}
+use Rattle.uf_tree.specs.Tree.{own_meta, Tree, Dir, Entries, Nothing, With, pairs, is_tree, are_trees}
 use Rattle.uf_tree.specs.TreePlan.{blocks, entry, first_refusal, named_entries}
 use Rattle.uf_tree.proofs.Twins.{both_true}
 use Rattle.uf_plain.specs.Edits.{child}
@@ -32,7 +32,7 @@ module _ (X : List ℕ → List ℕ) (N : List ℕ → ℕ) (p : Profile) where
 
   -- ---- what is among the blocks of a folder
 
-  pub own-among : (es : Entries) (P : Held → Type 0) → AllByRecursion P (blocks X N p (Dir es)) → AllByRecursion P (own_plan X N p (named_entries X N p es)).blocks
+  pub own-among : (es : Entries) (P : Held → Type 0) → AllByRecursion P (blocks X N p (Dir es)) → AllByRecursion P (own_plan X N p (own_meta es) (named_entries X N p es)).blocks
   own-among es P h = back P (below_blocks X N p (pairs es)) _ (subst (AllByRecursion P) (blocks-is X N p es) h)
 
   below-each : (P : Held → Type 0) (l : List (List ℕ × Tree)) → AllByRecursion P (below_blocks X N p l) → Each (λ t. AllByRecursion P (blocks X N p t)) l
@@ -52,7 +52,7 @@ module _ (X : List ℕ → List ℕ) (N : List ℕ → ℕ) (p : Profile) where
 
   all-plans : IsTrue (is_profile p) → (es : Entries) → first_refusal (plans X N p (pairs es)) ≡ None → are_trees es ≡ true → Each Own (pairs es)
   unfolding is_tree
-  all-plans ok Nothing n t = tt
+  all-plans ok (Nothing m) n t = tt
   all-plans ok (With name u es) n t =
       let parts = both_true _ _ t in
       (record { profile = ok; tree = (both_true _ _ parts.0).1; planned = none-first _ _ n; is = refl }, all-plans ok es (none-second _ _ n) parts.1)
@@ -68,7 +68,7 @@ module _ (X : List ℕ → List ℕ) (N : List ℕ → ℕ) (p : Profile) where
     agrees = agrees-among told _ _ (child-among es name t is) s.agrees;
   }
 
-  pub own-agrees : (told : Told) (e : Entry) (es : Entries) → IsAgreed X N told p e (Dir es) → Agrees told (own_plan X N p (named_entries X N p es)).blocks
+  pub own-agrees : (told : Told) (e : Entry) (es : Entries) → IsAgreed X N told p e (Dir es) → Agrees told (own_plan X N p (own_meta es) (named_entries X N p es)).blocks
   own-agrees told e es s = agrees-among told _ _ (own-among es) s.agrees
 
   abbrev Member : Type 0

@@ -11,10 +11,11 @@ use Rattle.uf_store.specs.Lost.{ReadsOver}
 use Rattle.uf_plain.specs.Needs.{own_needs}
 use Rattle.uf_store.specs.Seen.{Seen}
 use Rattle.uf_tree.specs.declared.nodes.Entry.{Entry}
+use Rattle.uf_tree.specs.declared.meta.Meta.{Meta}
 use Rattle.uf_tree.specs.declared.profile.Profile.{Profile}
 use Rattle.uf_tree.specs.DirPlan.{own_plan}
 use Rattle.uf_tree.specs.Nodes.{Named}
-use Rattle.uf_tree.specs.Tree.{Tree, Dir, Entries, pairs}
+use Rattle.uf_tree.specs.Tree.{own_meta, Tree, Dir, Entries, pairs}
 use Rattle.uf_tree.specs.TreePlan.{entry, named_entries}
 use Rattle.uf_tree.specs.Validity.{IsHash}
 use Rattle.std.specs.declared.option.Option.{Option}
@@ -81,15 +82,15 @@ module _ (hash : List ℕ → List ℕ) (N : List ℕ → ℕ) (root : Cid) wher
 
 -- what is listed of a folder
 pub entries-says : (X : List ℕ → List ℕ) (N : List ℕ → ℕ) → IsHash X → ((name : List ℕ) → N name < 2 ^ 64) → (told : Told) (p : Profile) (e : Entry) (es : Entries) (r : Result (List Named) StoreFault) → IsAgreed X N told p e (Dir es)
-    → ((M : List ℕ → ℕ) (p : Profile) (l : List Named) → IsPlanned X M p e.cid l → Agrees told (own_plan X M p l).blocks → ReadsOver told (own_plan X M p l).blocks l r)
+    → ((M : List ℕ → ℕ) (p : Profile) (meta : Meta) (l : List Named) → IsPlanned X M p meta e.cid l → Agrees told (own_plan X M p meta l).blocks → ReadsOver told (own_plan X M p meta l).blocks l r)
     → ReadsOver told (own_needs X N p (Dir es)) (named_entries X N p es) r
-entries-says X N hash fits told p e es r s reads = reads N p _ (planned-of X N p e es s.plan hash fits) (own-agrees X N p told e es s)
+entries-says X N hash fits told p e es r s reads = reads N p (own_meta es) _ (planned-of X N p e es s.plan hash fits) (own-agrees X N p told e es s)
 
 -- and what listing it takes
 pub entries-touches : (X : List ℕ → List ℕ) (N : List ℕ → ℕ) → IsHash X → ((name : List ℕ) → N name < 2 ^ 64) → (told : Told) (p : Profile) (e : Entry) (es : Entries) (t0 t1 : ℕ) → IsAgreed X N told p e (Dir es)
-    → ((M : List ℕ → ℕ) (p : Profile) (l : List Named) → IsPlanned X M p e.cid l → Agrees told (own_plan X M p l).blocks → t1 ≤ t0 + (length (own_plan X M p l).blocks + 1))
+    → ((M : List ℕ → ℕ) (p : Profile) (meta : Meta) (l : List Named) → IsPlanned X M p meta e.cid l → Agrees told (own_plan X M p meta l).blocks → t1 ≤ t0 + (length (own_plan X M p meta l).blocks + 1))
     → t1 ≤ t0 + (length (own_needs X N p (Dir es)) + 1)
-entries-touches X N hash fits told p e es t0 t1 s takes = takes N p _ (planned-of X N p e es s.plan hash fits) (own-agrees X N p told e es s)
+entries-touches X N hash fits told p e es t0 t1 s takes = takes N p (own_meta es) _ (planned-of X N p e es s.plan hash fits) (own-agrees X N p told e es s)
 
 map-names : (X : List ℕ → List ℕ) (N : List ℕ → ℕ) (p : Profile) (l : List (List ℕ × Tree)) → map (λ (m : Named). m.0) (map (λ (e : List ℕ × Tree). (e.0, entry X N p e.1)) l) ≡ map (λ (m : List ℕ × Tree). m.0) l
 map-names X N p [] = refl

@@ -9,15 +9,19 @@ use Rattle.uf_dagpb.proofs.Again.{node_again}
 use Rattle.uf_store.specs.Contents.{Contents, Told, held_at}
 use Rattle.uf_store.specs.Keeping.{Holds}
 use Rattle.uf_tree.specs.declared.nodes.Entry.{Entry}
+use Rattle.uf_tree.specs.declared.meta.Meta.{Meta}
+use Rattle.uf_tree.specs.declared.nodes.DirNode.{DirNode}
+use Rattle.uf_tree.specs.declared.nodes.ShardNode.{ShardNode}
 use Rattle.uf_tree.specs.declared.profile.Profile.{Profile}
-use Rattle.uf_tree.specs.Codecs.{dir_dag, shard_dag}
+use Rattle.uf_tree.specs.Codecs.{dir_dag, dir_node_block, shard_dag, shard_node_block}
 use Rattle.uf_tree.specs.DirPlan.{is_sharded}
+use Rattle.uf_tree.specs.Metas.{is_meta, none}
 use Rattle.uf_tree.specs.Nodes.{InSlot, Named, dir_block, shard_block}
 use Rattle.uf_tree.specs.Roots.{dir_root}
 use Rattle.uf_tree.specs.ShardPlan.{shard, shard_held, shard_items}
-use Rattle.uf_tree.specs.Tree.{Dir, Entries}
+use Rattle.uf_tree.specs.Tree.{Dir, Entries, own_meta}
 use Rattle.uf_tree.specs.TreePlan.{named_entries}
-use Rattle.uf_tree.specs.Validity.{IsDirectory, IsHash, IsShard}
+use Rattle.uf_tree.specs.Validity.{IsDirNode, IsDirectory, IsHash, IsShard, IsShardNode}
 use Rattle.uf_tree.proofs.Canonical.{heavy}
 use Rattle.uf_tree.proofs.Directories.{dir_dag-node}
 use Rattle.uf_tree.proofs.Shards.{shard_dag-node}
@@ -25,18 +29,20 @@ use Rattle.uf_tree.proofs.Sizes.{dir_length, shard_length}
 use Rattle.uf_tree.proofs.Valid.{directory-valid, shard-valid, shard_items-valid}
 use Rattle.uf_dir.specs.Planned.{root_links}
 use Rattle.uf_plain.specs.Replies.{children}
+use Rattle.std.specs.Prelude.{IsTrue}
+use Rattle.uf_plain.proofs.Kept.{tree-meta}
 use Rattle.uf_plain.proofs.Plans.{entry-is}
 use Rattle.uf_mfs.specs.Standing.{IsAgreed}
 use Rattle.uf_mfs.proofs.Rooting.{children-node, dir-cid}
 use Rattle.uf_mfs.proofs.Seeing.{root-codec}
 
-one-read : (l : List Named) → IsDirectory l → length (dir_block l) < 2 ^ 64 → node_reads (dir_block l) ≡ Ok (dir_dag l)
+one-read : (node : DirNode) → IsDirNode node → length (dir_node_block node) < 2 ^ 64 → node_reads (dir_node_block node) ≡ Ok (dir_dag node)
 unfolding dir_block
-one-read l valid small = node_again (dir_dag l) (dir_dag-node l valid).links small
+one-read node valid small = node_again (dir_dag node) (dir_dag-node node valid).links small
 
-slots-read : (items : List InSlot) → IsShard items → length (shard_block items) < 2 ^ 64 → node_reads (shard_block items) ≡ Ok (shard_dag items)
+slots-read : (node : ShardNode) → IsShardNode node → length (shard_node_block node) < 2 ^ 64 → node_reads (shard_node_block node) ≡ Ok (shard_dag node)
 unfolding shard_block
-slots-read items valid small = node_again (shard_dag items) (shard_dag-node items valid).links small
+slots-read node valid small = node_again (shard_dag node) (shard_dag-node node valid).links small
 
 -- the block is read as a node that has so many links
 record HasLinks (bytes : List ℕ) (n : ℕ) : Type 0 where
@@ -45,7 +51,7 @@ record HasLinks (bytes : List ℕ) (n : ℕ) : Type 0 where
   many : length node.links ≡ n
 
 module _ (X : List ℕ → List ℕ) (N : List ℕ → ℕ) (hash : IsHash X) (p : Profile) where
-  root-has : (e : Entry) (es : Entries) (told : Told) → IsAgreed X N told p e (Dir es) → HasLinks (dir_root X N p (named_entries X N p es)).1 (root_links X N p (named_entries X N p es))
+  root-has : (e : Entry) (es : Entries) (told : Told) → IsAgreed X N told p e (Dir es) → HasLinks (dir_root X N p (own_meta es) (named_entries X N p es)).1 (root_links X N p (named_entries X N p es))
   root-has e es told s = by (is_sharded p l) refl
     where
       l : List Named
@@ -54,27 +60,32 @@ module _ (X : List ℕ → List ℕ) (N : List ℕ → ℕ) (hash : IsHash X) (p
       valid : IsDirectory l
       valid = directory-valid X hash N p s.plan.profile es s.plan.tree
 
-      items : List InSlot
-      items = shard_items N (shard X N 6) 0 l
+      meta : Meta
+      meta = own_meta es
 
-      by : (b : Bool) → is_sharded p l ≡ b → HasLinks (cond b (shard_held X N (shard_items N (shard X N 6) 0 l)) (cid_of X DagPb (dir_block l), dir_block l)).1 (cond b (length (shard_items N (shard X N 6) 0 l)) (length l))
+      fine : IsTrue (is_meta (own_meta es))
+      fine = tree-meta (Dir es) s.plan.tree
+
+      by : (b : Bool) → is_sharded p l ≡ b → HasLinks (cond b (shard_held X N meta (shard_items N (shard X N 6 none) 0 l)) (cid_of X DagPb (dir_block meta l), dir_block meta l)).1 (cond b (length (shard_items N (shard X N 6 none) 0 l)) (length l))
       by true is =
-          let good : IsShard (shard_items N (shard X N 6) 0 l) = shard_items-valid N (shard X N 6) (shard-valid X hash N 6) 0 l valid.each (heavy p l is) in
-          let short = shard_length (shard_items N (shard X N 6) 0 l) good in
-          record { node = shard_dag (shard_items N (shard X N 6) 0 l); read = slots-read _ good (omega (arith, short)); many = simp length-map }
+          let good : IsShard (shard_items N (shard X N 6 none) 0 l) = shard_items-valid N (shard X N 6 none) (shard-valid X hash N 6 none) 0 l valid.each (heavy p l is) in
+          let short = shard_length meta (shard_items N (shard X N 6 none) 0 l) good in
+          let node : ShardNode = record { items = shard_items N (shard X N 6 none) 0 l; meta = meta } in
+          record { node = shard_dag node; read = slots-read node (record { items = good; meta = fine }) (omega (arith, short)); many = simp length-map }
       by false is =
-          let short = dir_length p l s.plan.profile valid.each is in
-          record { node = dir_dag l; read = one-read l valid (omega (arith, short)); many = simp length-map }
+          let short = dir_length p meta l s.plan.profile valid.each is in
+          let node : DirNode = record { pairs = l; meta = meta } in
+          record { node = dir_dag node; read = one-read node (record { pairs = valid; meta = fine }) (omega (arith, short)); many = simp length-map }
 
-  links-held : (u : Contents) (e : Entry) (es : Entries) (s : IsAgreed X N (Some u) p e (Dir es)) → held_at u (dir_root X N p (named_entries X N p es)).0 ≡ Some (dir_root X N p (named_entries X N p es)).1
+  links-held : (u : Contents) (e : Entry) (es : Entries) (s : IsAgreed X N (Some u) p e (Dir es)) → held_at u (dir_root X N p (own_meta es) (named_entries X N p es)).0 ≡ Some (dir_root X N p (own_meta es) (named_entries X N p es)).1
       → root_links X N p (named_entries X N p es) ≡ children X N p (Dir es)
   links-held u e es s there =
       let has = root-has e es (Some u) s in
-      let cid : e.cid ≡ (dir_root X N p (named_entries X N p es)).0 = ap (λ (e : Entry). e.cid) (s.plan.is ∙ entry-is X N p es) ∙ sym (dir-cid X N hash p (named_entries X N p es)) in
-      sym has.many ∙ children-node X N hash (Some u) p e (Dir es) (dir_root X N p (named_entries X N p es)).1 has.node s (root-codec X N p e es s.plan) (ap (held_at u) cid ∙ there) has.read
+      let cid : e.cid ≡ (dir_root X N p (own_meta es) (named_entries X N p es)).0 = ap (λ (e : Entry). e.cid) (s.plan.is ∙ entry-is X N p es) ∙ sym (dir-cid X N hash p (own_meta es) (named_entries X N p es)) in
+      sym has.many ∙ children-node X N hash (Some u) p e (Dir es) (dir_root X N p (own_meta es) (named_entries X N p es)).1 has.node s (root-codec X N p e es s.plan) (ap (held_at u) cid ∙ there) has.read
 
   -- the root block of a directory's plan has as many links as the directory layer says
-  pub links-of-folder : (told : Told) (e : Entry) (es : Entries) (s : IsAgreed X N told p e (Dir es)) → Holds told (dir_root X N p (named_entries X N p es) ∷ [])
+  pub links-of-folder : (told : Told) (e : Entry) (es : Entries) (s : IsAgreed X N told p e (Dir es)) → Holds told (dir_root X N p (own_meta es) (named_entries X N p es) ∷ [])
       → root_links X N p (named_entries X N p es) ≡ children X N p (Dir es)
   links-of-folder None e es s held = absurd s.agrees
   links-of-folder (Some u) e es s held = links-held u e es s held.0

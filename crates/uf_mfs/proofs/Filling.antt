@@ -8,6 +8,7 @@ use Rattle.uf_store.specs.Contents.{Told}
 use Rattle.uf_store.specs.Seen.{Seen}
 use Rattle.uf_tree.specs.declared.nodes.Entry.{Entry}
 use Rattle.uf_tree.specs.declared.profile.Profile.{Profile}
+use Rattle.uf_tree.specs.Metas.{none}
 use Rattle.uf_tree.specs.Tree.{Tree, File, Dir, Entries}
 use Rattle.uf_plain.specs.declared.rule.Refused.{Refused}
 use Rattle.uf_plain.specs.declared.rule.Refused.TheVariants as why
@@ -25,6 +26,7 @@ use Rattle.uf_mfs.proofs.Agreed.{child-among}
 use Rattle.uf_mfs.proofs.Folders.{over-first}
 use Rattle.uf_mfs.proofs.Hinge.{are-good}
 use Rattle.uf_plain.proofs.Edited.{with-same}
+use Rattle.uf_tree.specs.declared.meta.Meta.{Meta}
 
 -- no folder below is new or was changed
 pub unchanged : (found : Entry × Bool) (filled : Option Entry) → changed_below found filled ≡ None → (found.1 ≡ false) × (filled ≡ None)
@@ -40,14 +42,14 @@ pub at-under : (led : ℕ) (name : List ℕ) (more : List (List ℕ)) (es below 
     → (fs : Entries) × (child name es ≡ Some (Dir fs)) × (at (led + 1) more (Dir fs) ≡ Ok (Dir below))
 at-under led name more es below h = by (child name es) refl h
   where
-    file : (more : List (List ℕ)) (bytes : List ℕ) → at (led + 1) more (File bytes) ≡ Ok (Dir below) → ⊥
-    file [] bytes h = cc
-    file (next ∷ more) bytes h = cc
+    file : (more : List (List ℕ)) (m : Meta) (bytes : List ℕ) → at (led + 1) more (File m bytes) ≡ Ok (Dir below) → ⊥
+    file [] m bytes h = cc
+    file (next ∷ more) m bytes h = cc
 
     by : (o : Option Tree) → child name es ≡ o → elim o as (λ o. Result Tree Refused) [ None ↦ Err (why.NotFound (led + 1)) | Some t ↦ at (led + 1) more t ] ≡ Ok (Dir below)
         → (fs : Entries) × (child name es ≡ Some (Dir fs)) × (at (led + 1) more (Dir fs) ≡ Ok (Dir below))
     by None is h = absurd cc
-    by (Some (File bytes)) is h = absurd (file more bytes h)
+    by (Some (File m bytes)) is h = absurd (file more m bytes h)
     by (Some (Dir fs)) is h = (fs, is, h)
 
 module _ (X : List ℕ → List ℕ) (N : List ℕ → ℕ) (p : Profile) where
@@ -61,7 +63,7 @@ module _ (X : List ℕ → List ℕ) (N : List ℕ → ℕ) (p : Profile) where
 
   old-folder : (told : Told) (o : Option Tree) (found : Entry × Bool) → found.1 ≡ false → IsOpened X N told p o found → (fs : Entries) × (o ≡ Some (Dir fs)) × IsAgreed X N told p found.0 (Dir fs)
   old-folder told None found is h = absurd (let clash : true ≡ false = sym h ∙ is in cc)
-  old-folder told (Some (File bytes)) found is h = absurd h
+  old-folder told (Some (File m bytes)) found is h = absurd h
   old-folder told (Some (Dir fs)) found is h = (fs, refl, h.1)
 
   -- an entry of a folder's plan, where the store agrees with its blocks

@@ -10,7 +10,7 @@ use Rattle.uf_tree.specs.TreePlan.{Refusal, entry, planned, refusal, too_long}
 use Rattle.uf_plain.specs.declared.file.FileEdit.{FileEdit}
 use Rattle.uf_plain.specs.declared.rule.Refused.{Refused}
 use Rattle.uf_plain.specs.Edits.{and_then, as_folder, child, edited, with_child, with_folder}
-use Rattle.uf_plain.specs.Files.{fitting, new_bytes, with_bytes}
+use Rattle.uf_plain.specs.Files.{fitting, kept_meta, new_bytes, with_bytes}
 use Rattle.uf_plain.specs.Rules.{allowed, refused_by, unless}
 use Rattle.uf_plain.proofs.Plans.{each-find}
 use Rattle.uf_mfs.specs.declared.fault.Stop.{Stop}
@@ -56,7 +56,7 @@ module _ (X : List ℕ → List ℕ) (N : List ℕ → ℕ) (p : Profile) where
     tight-here folder led name es plan = by (new_bytes what x led (child name es))
       where
         put : List ℕ → Entries
-        put n = with_child name (File n) es
+        put n = with_child name (File (kept_meta (child name es)) n) es
 
         long : (n : List ℕ) (o : Option Refusal) → too_long p n ≡ o
             → Tight (Ok (put n)) (and_then (unless n o) (λ n. Ok (put n)))
@@ -66,7 +66,7 @@ module _ (X : List ℕ → List ℕ) (N : List ℕ → ℕ) (p : Profile) where
           reason = y;
           makes = refl;
           refuses = refl;
-          is = refused-above X N p folder es name (File n) y plan is;
+          is = refused-above X N p folder es name (File (kept_meta (child name es)) n) y plan is;
         })
 
         by : (w : Result (List ℕ) Refused)
@@ -92,7 +92,7 @@ module _ (X : List ℕ → List ℕ) (N : List ℕ → ℕ) (p : Profile) where
             → Tight (with_folder name es (and_then (as_folder (led + 1) o) loose))
             (with_folder name es (and_then (as_folder (led + 1) o) tight))
         by rec None is = inl refl
-        by rec (Some (File bytes)) is = inl refl
+        by rec (Some (File m bytes)) is = inl refl
         by rec (Some (Dir fs)) is = tight-folder folder name es (loose fs) (tight fs) plan
             (rec fs (each-find (Own X N p) name (Dir fs) (pairs es) (members-own X N p folder es plan) is))
 

@@ -11,6 +11,7 @@ use Rattle.uf_store.specs.Seen.{Seen}
 use Rattle.uf_store.proofs.Calls.{calm-first, calm-then, reads-saves, saves-saves}
 use Rattle.uf_tree.specs.declared.nodes.Entry.{Entry}
 use Rattle.uf_tree.specs.declared.profile.Profile.{Profile}
+use Rattle.uf_tree.specs.Metas.{none}
 use Rattle.uf_tree.specs.Tree.{Tree, File, Dir, Entries, Nothing}
 use Rattle.uf_tree.specs.TreePlan.{blocks}
 use Rattle.uf_plain.specs.declared.rule.Refused.{Refused}
@@ -21,6 +22,7 @@ use Rattle.uf_plain.specs.Needs.{member_needs}
 use Rattle.uf_plain.specs.Rules.{allowed}
 use Rattle.uf_mfs.specs.declared.fault.Stop.{Stop}
 use Rattle.uf_mfs.specs.declared.fault.Stop.TheVariants as stop
+use Rattle.uf_mfs.specs.declared.thing.FolderRoot.{FolderRoot}
 use Rattle.uf_mfs.specs.declared.thing.Thing.TheVariants.{Folder as FolderAt}
 use Rattle.uf_mfs.specs.Answers.{Decides, EditsAfter, MeetsOr}
 use Rattle.uf_mfs.specs.Standing.{IsAfter, IsAgreed, IsAgreedMember, IsPlanOf, brought}
@@ -69,19 +71,19 @@ module _ (X : List ℕ → List ℕ) (N : List ℕ → ℕ) (p : Profile) where
       by : (es : Entries) → IsFolderOver X N p a b [] folder es → (m : Option Tree) → child name es ≡ m → Decides (λ es e. IsAgreed X N a.told p e (Dir es)) (as_folder led m) (Ok e)
           → EditsAfter X N a.told b.told (blocks X N p (Dir es)) p (as_folder led m) (Ok e)
       by es o None is h = absurd h
-      by es o (Some (File bytes)) is h = absurd h
+      by es o (Some (File m bytes)) is h = absurd h
       by es o (Some (Dir fs)) is h = child-over folder e es fs name saved o is h.plan
 
-  pub opened-folder : {a b : Seen} {Bad : Role → List ℕ → Type 0} {fault : Option StoreFault} (led : ℕ) (folder e : Entry) (links : Option ℕ) (name : List ℕ) (es : Entries) → OnlySaves X Bad fault a b → IsFolderOver X N p a b [] folder es
+  pub opened-folder : {a b : Seen} {Bad : Role → List ℕ → Type 0} {fault : Option StoreFault} (led : ℕ) (folder e : Entry) (links : Option FolderRoot) (name : List ℕ) (es : Entries) → OnlySaves X Bad fault a b → IsFolderOver X N p a b [] folder es
       → IsAgreedMember X N a.told p (child name es) (Some (FolderAt e links)) → EditsAfter X N a.told b.told (blocks X N p (Dir es)) p (or_new led (child name es)) (Ok e)
   opened-folder {a} {b} led folder e links name es saved o found = by (child name es) refl found
     where
       by : (m : Option Tree) → child name es ≡ m → IsAgreedMember X N a.told p m (Some (FolderAt e links)) → EditsAfter X N a.told b.told (blocks X N p (Dir es)) p (or_new led m) (Ok e)
       by None is h = absurd h
-      by (Some (File bytes)) is h = absurd h
+      by (Some (File m bytes)) is h = absurd h
       by (Some (Dir fs)) is h = child-over folder e es fs name saved o is h.0.plan
 
-  pub opened-new : (a b : Told) (old : List Held) (led : ℕ) (o : Option Tree) (new : Entry) → IsAgreedMember X N a p o None → IsAfter X N a b old p new (Dir Nothing)
+  pub opened-new : (a b : Told) (old : List Held) (led : ℕ) (o : Option Tree) (new : Entry) → IsAgreedMember X N a p o None → IsAfter X N a b old p new (Dir (Nothing none))
       → EditsAfter X N a b old p (or_new led o) (Ok new)
   opened-new a b old led None new h s = s
   opened-new a b old led (Some t) new h s = absurd h

@@ -35,7 +35,7 @@ use Rattle.uf_mfs.specs.Moving.{folder_there}
 
 -- what is bad without a profile is bad with one
 unweighed : (profile : Option Profile) (bytes : List ℕ) → IsCanonicalDirectory profile true bytes → IsCanonicalDirectory None true bytes
-unweighed profile bytes (Basic b) = Basic (record { pairs = b.pairs; valid = b.valid; light = tt; is = b.is })
+unweighed profile bytes (Basic b) = Basic (record { meta = b.meta; pairs = b.pairs; good = b.good; valid = b.valid; light = tt; is = b.is })
 unweighed profile bytes (Sharded s) = Sharded s
 unweighed profile bytes (FileRoot e n) = FileRoot e n
 
@@ -47,7 +47,7 @@ bad-more N p Leaf bytes bad = bad
 
 -- a directory's root is canonical where a file's may be too
 as_kind : (profile : Option Profile) (bytes : List ℕ) → IsCanonicalDirectory profile true bytes → IsCanonicalDirectory None false bytes
-as_kind profile bytes (Basic b) = Basic (record { pairs = b.pairs; valid = b.valid; light = tt; is = b.is })
+as_kind profile bytes (Basic b) = Basic (record { meta = b.meta; pairs = b.pairs; good = b.good; valid = b.valid; light = tt; is = b.is })
 as_kind profile bytes (Sharded s) = Sharded s
 as_kind profile bytes (FileRoot e n) = absurd (false≢true (sym e))
 

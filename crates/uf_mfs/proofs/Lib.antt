@@ -1,3 +1,4 @@
+pub mod Acting
 pub mod After
 pub mod Agreed
 pub mod Answering
@@ -6,6 +7,7 @@ pub mod Counting
 pub mod Judging
 pub mod Files
 pub mod Carrying
+pub mod Emptied
 pub mod Filling
 pub mod Fitting
 pub mod Folders
@@ -20,7 +22,9 @@ pub mod Needed
 pub mod Planning
 pub mod Ranges
 pub mod Reaching
+pub mod Remade
 pub mod Removing
+pub mod Renewing
 pub mod Rooting
 pub mod Seeing
 pub mod Settling
@@ -28,4 +32,5 @@ pub mod Shifting
 pub mod Spots
 pub mod Starting
 pub mod Touching
+pub mod Versions
 pub mod Rewriting

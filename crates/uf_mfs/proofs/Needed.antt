@@ -10,12 +10,13 @@ use Rattle.uf_store.specs.declared.store.StoreFault.TheVariants.{Memory}
 use Rattle.uf_store.specs.Contents.{Told}
 use Rattle.uf_store.specs.Lost.{IsLossOf, IsLost, ReadsOver}
 use Rattle.uf_tree.specs.declared.nodes.Entry.{Entry}
+use Rattle.uf_tree.specs.declared.meta.Meta.{Meta}
 use Rattle.uf_tree.specs.declared.profile.Profile.{Profile}
 use Rattle.uf_tree.specs.DirPlan.{basic_dir, is_sharded, trail}
 use Rattle.uf_tree.specs.Nodes.{Named, dir_block}
 use Rattle.uf_tree.specs.Roots.{dir_root}
 use Rattle.uf_tree.specs.ShardPlan.{shard, shard_held, shard_items, shard_trail}
-use Rattle.uf_tree.specs.Tree.{Tree, File, Dir, Entries, pairs}
+use Rattle.uf_tree.specs.Tree.{own_meta, Tree, File, Dir, Entries, pairs}
 use Rattle.uf_tree.specs.TreePlan.{blocks, entry, named_entries}
 use Rattle.uf_tree.specs.Validity.{IsHash}
 use Rattle.uf_laws.proofs.Held.{trail-among}
@@ -36,6 +37,7 @@ use Rattle.uf_mfs.specs.Standing.{StandsAt, TellsHeld}
 use Rattle.uf_mfs.proofs.Agreed.{child-among, members-among, own-among}
 use Rattle.uf_mfs.proofs.Holding.{append, loss-back, loss-by, loss-fault, loss-front, tells-among}
 use Rattle.uf_mfs.proofs.Rooting.{dir-cid, found-among}
+use Rattle.uf_tree.specs.Metas.{none}
 
 -- a fault that may come, whatever the plain tree gives
 meets-fault : {A B : Type 0} (May : StoreFault → Type 0) (P : A → B → Type 0) (w : Result A Refused) (f : StoreFault) → May f → MeetsOr May P w (Err (stop.Store f))
@@ -69,8 +71,8 @@ module _ (X : List ℕ → List ℕ) (N : List ℕ → ℕ) (p : Profile) where
       by None is = tt
       by (Some bytes) is = (found-among (entry X N p t).cid bytes (blocks X N p t) P is h, tt)
 
-  own-trail : (name : List ℕ) (es : Entries) → Among (trail X N p (named_entries X N p es) name) (blocks X N p (Dir es))
-  own-trail name es P h = trail-among X N P p (named_entries X N p es) name (own-among X N p es P h)
+  own-trail : (name : List ℕ) (es : Entries) → Among (trail X N p (own_meta es) (named_entries X N p es) name) (blocks X N p (Dir es))
+  own-trail name es P h = trail-among X N P p (own_meta es) (named_entries X N p es) name (own-among X N p es P h)
 
   -- the member of a name, by what is needed of it
   below : (need : Tree → List Held) → ((t : Tree) → Among (need t) (blocks X N p t)) → (name : List ℕ) (es : Entries)
@@ -86,12 +88,12 @@ module _ (X : List ℕ → List ℕ) (N : List ℕ → ℕ) (p : Profile) where
 
   pub way-among : (names : List (List ℕ)) (t : Tree) → Among (way X N p names t) (blocks X N p t)
   way-among [] t P h = root-of-among t P h
-  way-among (name ∷ names) (File bytes) P h = root-of-among (File bytes) P h
+  way-among (name ∷ names) (File m bytes) P h = root-of-among (File m bytes) P h
   way-among (name ∷ names) (Dir es) P h = append P _ _ (own-trail name es P h) (below (way X N p names) (way-among names) name es P h)
 
   pub at-among : (led : ℕ) (names : List (List ℕ)) (t found : Tree) → at led names t ≡ Ok found → Among (blocks X N p found) (blocks X N p t)
   at-among led [] t found is P h = subst (λ (t : Tree). AllByRecursion P (blocks X N p t)) (let same : t ≡ found = cc in same) h
-  at-among led (name ∷ names) (File bytes) found is P h = absurd cc
+  at-among led (name ∷ names) (File m bytes) found is P h = absurd cc
   at-among led (name ∷ names) (Dir es) found is P h = by (λ t is h. at-among (led + 1) names t found is P h) (child name es) refl is
     where
       by : ((t : Tree) → at (led + 1) names t ≡ Ok found → AllByRecursion P (blocks X N p t) → AllByRecursion P (blocks X N p found)) → (o : Option Tree) → child name es ≡ o
@@ -107,7 +109,7 @@ module _ (X : List ℕ → List ℕ) (N : List ℕ → ℕ) (p : Profile) where
       by (Err why) is = tt
 
   pub own-needs-among : (t : Tree) → Among (own_needs X N p t) (blocks X N p t)
-  own-needs-among (File bytes) P h = tt
+  own-needs-among (File m bytes) P h = tt
   own-needs-among (Dir es) P h = own-among X N p es P h
 
   roots-among : (P : Held → Type 0) (l : List (List ℕ × Tree)) → Each (λ t. AllByRecursion P (blocks X N p t)) l → AllByRecursion P (flat_map (λ (m : List ℕ × Tree). root_of X N p m.1) l)
@@ -115,7 +117,7 @@ module _ (X : List ℕ → List ℕ) (N : List ℕ → ℕ) (p : Profile) where
   roots-among P (m ∷ l) h = append P _ _ (root-of-among m.1 P h.0) (roots-among P l h.1)
 
   pub rows-need-among : (t : Tree) → Among (rows_need X N p t) (blocks X N p t)
-  rows-need-among (File bytes) P h = tt
+  rows-need-among (File m bytes) P h = tt
   rows-need-among (Dir es) P h = append P _ _ (own-among X N p es P h) (roots-among P (pairs es) (members-among X N p es P h))
 
   -- where the blocks of the tree in memory are held, so is what a call needs
@@ -126,24 +128,24 @@ module _ (X : List ℕ → List ℕ) (N : List ℕ → ℕ) (p : Profile) where
   -- ---- what is lost of one need is lost of another
 
   module _ (hash : IsHash X) where
-    trail-root : (l : List Named) (name : List ℕ) (held : Lookup) (c : Cid) → c ≡ (dir_root X N p l).0 → held (dir_root X N p l).0 ≡ None → IsLost held c (trail X N p l name)
+    trail-root : (meta : Meta) (l : List Named) (name : List ℕ) (held : Lookup) (c : Cid) → c ≡ (dir_root X N p meta l).0 → held (dir_root X N p meta l).0 ≡ None → IsLost held c (trail X N p meta l name)
     unfolding shard shard_trail
-    trail-root l name held c is lost =
-        elim (is_sharded p l) as (λ b. c ≡ (cond b (shard_held X N (shard_items N (shard X N 6) 0 l)) (cid_of X DagPb (dir_block l), dir_block l)).0
-        → held (cond b (shard_held X N (shard_items N (shard X N 6) 0 l)) (cid_of X DagPb (dir_block l), dir_block l)).0 ≡ None
-        → IsLost held c (cond b (shard_trail X N 7 l name) (basic_dir X N l).blocks)) [ true ↦ λ is lost. inl (is, lost) | false ↦ λ is lost. inl (is, lost) ] is lost
+    trail-root meta l name held c is lost =
+        elim (is_sharded p l) as (λ b. c ≡ (cond b (shard_held X N meta (shard_items N (shard X N 6 none) 0 l)) (cid_of X DagPb (dir_block meta l), dir_block meta l)).0
+        → held (cond b (shard_held X N meta (shard_items N (shard X N 6 none) 0 l)) (cid_of X DagPb (dir_block meta l), dir_block meta l)).0 ≡ None
+        → IsLost held c (cond b (shard_trail X N 7 meta l name) (basic_dir X N meta l).blocks)) [ true ↦ λ is lost. inl (is, lost) | false ↦ λ is lost. inl (is, lost) ] is lost
 
     -- the root block of a folder is on the trail of each of its names
     root-way : (names : List (List ℕ)) (t : Tree) (held : Lookup) (c : Cid) → IsLost held c (root_of X N p t) → IsLost held c (way X N p names t)
     root-way [] t held c x = x
-    root-way (name ∷ names) (File bytes) held c x = x
+    root-way (name ∷ names) (File m bytes) held c x = x
     root-way (name ∷ names) (Dir es) held c x = by (root_block X N p (Dir es)) x
       where
         l : List Named
         l = named_entries X N p es
 
-        cid : (entry X N p (Dir es)).cid ≡ (dir_root X N p l).0
-        cid = ap (λ (e : Entry). e.cid) (entry-is X N p es) ∙ sym (dir-cid X N hash p l)
+        cid : (entry X N p (Dir es)).cid ≡ (dir_root X N p (own_meta es) l).0
+        cid = ap (λ (e : Entry). e.cid) (entry-is X N p es) ∙ sym (dir-cid X N hash p (own_meta es) l)
 
         front : (k m : List Held) → IsLost held c k → IsLost held c (k ++ m)
         front [] m x = absurd x
@@ -152,12 +154,12 @@ module _ (X : List ℕ → List ℕ) (N : List ℕ → ℕ) (p : Profile) where
 
         by : (o : Option (List ℕ)) → IsLost held c (elim o as (λ o. List Held) [ None ↦ [] | Some bytes ↦ ((entry X N p (Dir es)).cid, bytes) ∷ [] ]) → IsLost held c (way X N p (name ∷ names) (Dir es))
         by None x = absurd x
-        by (Some bytes) (inl x) = front (trail X N p l name) _ (trail-root l name held c (x.0 ∙ cid) (ap held (sym cid) ∙ x.1))
+        by (Some bytes) (inl x) = front (trail X N p (own_meta es) l name) _ (trail-root (own_meta es) l name held c (x.0 ∙ cid) (ap held (sym cid) ∙ x.1))
         by (Some bytes) (inr x) = absurd x
 
     -- what a member needs, the way to it does
     member-way : (told : Told) (name : List ℕ) (names : List (List ℕ)) (es : Entries) (f : StoreFault) → IsLossOf told (member_needs X N p name es) f → IsLossOf told (way X N p (name ∷ names) (Dir es)) f
-    member-way told name names es f loss = loss-by told _ _ f (λ held c x. by held c (trail X N p (named_entries X N p es) name) x) loss
+    member-way told name names es f loss = loss-by told _ _ f (λ held c x. by held c (trail X N p (own_meta es) (named_entries X N p es) name) x) loss
       where
         rest : (held : Lookup) (c : Cid) (o : Option Tree) → IsLost held c (elim o as (λ o. List Held) [ None ↦ [] | Some t ↦ root_of X N p t ]) → IsLost held c (elim o as (λ o. List Held) [ None ↦ [] | Some t ↦ way X N p names t ])
         rest held c None x = x
@@ -178,16 +180,16 @@ module _ (X : List ℕ → List ℕ) (N : List ℕ → ℕ) (p : Profile) where
   pub look-on : {B : Type 0} (told : Told) (led : ℕ) (name : List ℕ) (names : List (List ℕ)) (es : Entries) (t : Tree) (Q : Tree → B → Type 0) (r : Result B Stop) → child name es ≡ Some t
       → MeetsOr (IsLossOf told (way X N p names t)) Q (at (led + 1) names t) r → MeetsOr (IsLossOf told (way X N p (name ∷ names) (Dir es))) Q (at led (name ∷ names) (Dir es)) r
   look-on {B = B} told led name names es t Q r is h =
-      subst (λ (o : Option Tree). MeetsOr (IsLossOf told (trail X N p (named_entries X N p es) name ++ elim o as (λ o. List Held) [ None ↦ [] | Some t ↦ way X N p names t ])) Q
+      subst (λ (o : Option Tree). MeetsOr (IsLossOf told (trail X N p (own_meta es) (named_entries X N p es) name ++ elim o as (λ o. List Held) [ None ↦ [] | Some t ↦ way X N p names t ])) Q
       (elim o as (λ o. Result Tree Refused) [ None ↦ Err (why.NotFound (led + 1)) | Some t ↦ at (led + 1) names t ]) r) (sym is) (by (at (led + 1) names t) r h)
     where
-      by : (w : Result Tree Refused) (r : Result B Stop) → MeetsOr (IsLossOf told (way X N p names t)) Q w r → MeetsOr (IsLossOf told (trail X N p (named_entries X N p es) name ++ way X N p names t)) Q w r
+      by : (w : Result Tree Refused) (r : Result B Stop) → MeetsOr (IsLossOf told (way X N p names t)) Q w r → MeetsOr (IsLossOf told (trail X N p (own_meta es) (named_entries X N p es) name ++ way X N p names t)) Q w r
       by (Ok a) (Ok b) h = h
       by (Err why) (Ok b) h = h
       by (Ok a) (Err (stop.Refused given)) h = h
       by (Err why) (Err (stop.Refused given)) h = h
-      by (Ok a) (Err (stop.Store f)) h = loss-back told (trail X N p (named_entries X N p es) name) (way X N p names t) f h
-      by (Err why) (Err (stop.Store f)) h = loss-back told (trail X N p (named_entries X N p es) name) (way X N p names t) f h
+      by (Ok a) (Err (stop.Store f)) h = loss-back told (trail X N p (own_meta es) (named_entries X N p es) name) (way X N p names t) f h
+      by (Err why) (Err (stop.Store f)) h = loss-back told (trail X N p (own_meta es) (named_entries X N p es) name) (way X N p names t) f h
 
   -- ---- commands
 

@@ -21,18 +21,20 @@ use Rattle.uf_store.specs.Lost.{IsFirstLost, IsLossOf, IsLost}
 use Rattle.uf_store.specs.Seen.{Seen}
 use Rattle.uf_store.proofs.Causes.{Shows-after, Shows-by, Shows-rises, calm-memory}
 use Rattle.uf_tree.specs.declared.nodes.Entry.{Entry}
+use Rattle.uf_tree.specs.declared.meta.Meta.{Meta}
 use Rattle.uf_tree.specs.declared.profile.Profile.{Profile}
 use Rattle.uf_tree.specs.FilePlan.{file_plan, groups}
-use Rattle.uf_tree.specs.FileSub.{IsHeight, IsRooted, blocks_over, span}
+use Rattle.uf_tree.specs.FileSub.{IsFileHeight, IsRooted, blocks_over, span, whole_blocks}
+use Rattle.uf_tree.specs.Metas.{none}
 use Rattle.uf_tree.specs.Tree.{Tree, File, Dir, Entries, fold}
 use Rattle.uf_tree.specs.TreePlan.{blocks, planned}
 use Rattle.uf_tree.specs.Profiles.{is_profile}
-use Rattle.uf_tree.proofs.Rows.{file_plan-rows, height-unique, plan-sub}
+use Rattle.uf_tree.proofs.Rows.{file-height-unique, file_plan-rows, plan-sub}
 use Rattle.uf_tree.proofs.Told.{kept}
 use Rattle.uf_plain.specs.declared.rule.Refused.{Refused}
 use Rattle.uf_plain.specs.declared.rule.Refused.TheVariants as why
 use Rattle.uf_plain.specs.Edits.{and_then, at}
-use Rattle.uf_plain.specs.Files.{as_plain_file, plain_bytes_at, read as range_at}
+use Rattle.uf_plain.specs.Files.{as_file, as_plain_file, file_at, plain_bytes_at, read as range_at}
 use Rattle.uf_plain.specs.Needs.{needs_at, way}
 use Rattle.uf_plain.specs.Rules.{rule_of}
 use Rattle.uf_fileread.specs.declared.size.FileSize.{FileSize}
@@ -41,6 +43,7 @@ use Rattle.uf_mfs.specs.declared.fault.MfsFault.TheVariants as fault
 use Rattle.uf_mfs.specs.declared.fault.Stop.{Stop}
 use Rattle.uf_mfs.specs.declared.fault.Stop.TheVariants as stop
 use Rattle.uf_mfs.specs.declared.mfs.Mfs.{Mfs}
+use Rattle.uf_mfs.specs.declared.thing.FolderRoot.{FolderRoot}
 use Rattle.uf_mfs.specs.declared.thing.Thing.TheVariants.{File as FileAt, Folder as FolderAt}
 use Rattle.uf_mfs.specs.Answers.{Answers, AnswersOr, MeetsOr, Tells}
 use Rattle.uf_mfs.specs.Bad.{IsBadInTree}
@@ -68,24 +71,32 @@ may-answer : {A B : Type 0} (May : StoreFault → Type 0) (P : A → B → Type 
 may-answer May P names (Ok a) f h = h
 may-answer May P names (Err why) f h = h
 
-pub file-err : {B D : Type 0} (May : StoreFault → Type 0) (P : Tree → B → Type 0) (Q : List ℕ → D → Type 0) (w : Result Tree Refused) (k : ℕ) (s : Stop) → MeetsOr May P w (Err s)
-    → MeetsOr May Q (and_then w (as_plain_file k)) (Err s)
-file-err May P Q w k (stop.Store f) h = may-meet May Q (and_then w (as_plain_file k)) f (fault-of May P w f h)
+pub file-err : {B D : Type 0} (May : StoreFault → Type 0) (P : Tree → B → Type 0) (Q : Tree → D → Type 0) (w : Result Tree Refused) (k : ℕ) (s : Stop) → MeetsOr May P w (Err s)
+    → MeetsOr May Q (and_then w (as_file k)) (Err s)
+file-err May P Q w k (stop.Store f) h = may-meet May Q (and_then w (as_file k)) f (fault-of May P w f h)
 file-err May P Q (Ok t) k (stop.Refused given) h = absurd h
 file-err May P Q (Err why) k (stop.Refused given) h = h
 
+-- what refuses the file refuses its bytes
+bytes-err : {B D : Type 0} (May : StoreFault → Type 0) (P : Tree → B → Type 0) (Q : List ℕ → D → Type 0) (w : Result Tree Refused) (k : ℕ) (s : Stop) → MeetsOr May P (and_then w (as_file k)) (Err s)
+    → MeetsOr May Q (and_then w (as_plain_file k)) (Err s)
+bytes-err May P Q w k (stop.Store f) h = may-meet May Q (and_then w (as_plain_file k)) f (fault-of May P (and_then w (as_file k)) f h)
+bytes-err May P Q (Ok (File m bytes)) k (stop.Refused given) h = absurd h
+bytes-err May P Q (Ok (Dir es)) k (stop.Refused given) h = h
+bytes-err May P Q (Err why) k (stop.Refused given) h = h
+
 module _ (X : List ℕ → List ℕ) (N : List ℕ → ℕ) (told : Told) (p : Profile) (May : StoreFault → Type 0) where
   pub file-found : (w : Result Tree Refused) (k : ℕ) (e : Entry) (size : FileSize) → MeetsOr May (λ t x. IsAgreedThing X N told p t x) w (Ok (FileAt e size))
-      → MeetsOr May (λ bytes e. IsAgreed X N told p e (File bytes)) (and_then w (as_plain_file k)) (Ok e)
-  file-found (Ok (File bytes)) k e size h = h.0
+      → MeetsOr May (λ t e. IsAgreed X N told p e t) (and_then w (as_file k)) (Ok e)
+  file-found (Ok (File m bytes)) k e size h = h.0
   file-found (Ok (Dir es)) k e size h = absurd h
   file-found (Err why) k e size h = absurd h
 
-  pub file-folder : {D : Type 0} (Q : List ℕ → D → Type 0) (w : Result Tree Refused) (k : ℕ) (e : Entry) (links : Option ℕ) → MeetsOr May (λ t x. IsAgreedThing X N told p t x) w (Ok (FolderAt e links))
-      → MeetsOr May Q (and_then w (as_plain_file k)) (Err (stop.Refused (why.IsADirectory k)))
-  file-folder Q (Ok (File bytes)) k e links h = absurd h
-  file-folder Q (Ok (Dir es)) k e links h = refl
-  file-folder Q (Err why) k e links h = absurd h
+  pub file-folder : {D : Type 0} (Q : Tree → D → Type 0) (w : Result Tree Refused) (k : ℕ) (e : Entry) (root : Option FolderRoot) → MeetsOr May (λ t x. IsAgreedThing X N told p t x) w (Ok (FolderAt e root))
+      → MeetsOr May Q (and_then w (as_file k)) (Err (stop.Refused (why.IsADirectory k)))
+  file-folder Q (Ok (File m bytes)) k e root h = absurd h
+  file-folder Q (Ok (Dir es)) k e root h = refl
+  file-folder Q (Err why) k e root h = absurd h
 
 -- ---- the blocks that a range needs
 
@@ -95,22 +106,28 @@ module _ (X : List ℕ → List ℕ) (c w : ℕ) (P : Held → Type 0) where
   met-among true l h = h
   met-among false l h = tt
 
-  pub read-among : (k offset count : ℕ) (bytes : List ℕ) → AllByRecursion P (blocks_over X c w k bytes) → AllByRecursion P (blocks_read X c w k offset count bytes)
-  unfolding blocks_over blocks_read
-  read-among zero offset count bytes h = h
-  read-among (suc k) offset count bytes h = (h.0, mets (λ o n g j. read-among k o n g j) offset count (groups (span c w k) bytes) h.1)
-    where
-      front : (l m : List Held) → AllByRecursion P (l ++ m) → AllByRecursion P l × AllByRecursion P m
-      front [] m h = (tt, h)
-      front (b ∷ l) m h = ((h.0, (front l m h.1).0), (front l m h.1).1)
+  both-of : (l m : List Held) → AllByRecursion P (l ++ m) → AllByRecursion P l × AllByRecursion P m
+  both-of [] m h = (tt, h)
+  both-of (b ∷ l) m h = ((h.0, (both-of l m h.1).0), (both-of l m h.1).1)
 
-      mets : ((o n : ℕ) (g : List ℕ) → AllByRecursion P (blocks_over X c w k g) → AllByRecursion P (blocks_read X c w k o n g)) → (o n : ℕ) (gs : List (List ℕ))
-          → AllByRecursion P (flat_map (blocks_over X c w k) gs) → AllByRecursion P (blocks_met (λ o n g. blocks_read X c w k o n g) o n gs)
-      mets rec o n [] h = tt
-      mets rec o n (g ∷ gs) h =
-          let parts = front (blocks_over X c w k g) (flat_map (blocks_over X c w k) gs) h in
-          append P (cond (meets o n g) (blocks_read X c w k o n g) []) (blocks_met (λ o n g. blocks_read X c w k o n g) (o - length g) (n - (length g - o)) gs)
-          (met-among (meets o n g) (blocks_read X c w k o n g) (rec o n g parts.0)) (mets rec (o - length g) (n - (length g - o)) gs parts.1)
+  mets : (k : ℕ) → ((o n : ℕ) (g : List ℕ) → AllByRecursion P (blocks_over X c w k g) → AllByRecursion P (blocks_read X c w none k o n g)) → (o n : ℕ) (gs : List (List ℕ))
+      → AllByRecursion P (flat_map (blocks_over X c w k) gs) → AllByRecursion P (blocks_met (λ o n g. blocks_read X c w none k o n g) o n gs)
+  mets k rec o n [] h = tt
+  mets k rec o n (g ∷ gs) h =
+      let parts = both-of (blocks_over X c w k g) (flat_map (blocks_over X c w k) gs) h in
+      append P (cond (meets o n g) (blocks_read X c w none k o n g) []) (blocks_met (λ o n g. blocks_read X c w none k o n g) (o - length g) (n - (length g - o)) gs)
+      (met-among (meets o n g) (blocks_read X c w none k o n g) (rec o n g parts.0)) (mets k rec (o - length g) (n - (length g - o)) gs parts.1)
+
+  part-among : (k offset count : ℕ) (bytes : List ℕ) → AllByRecursion P (blocks_over X c w k bytes) → AllByRecursion P (blocks_read X c w none k offset count bytes)
+  unfolding blocks_over blocks_read
+  part-among zero offset count bytes h = h
+  part-among (suc k) offset count bytes h = (h.0, mets k (λ o n g j. part-among k o n g j) offset count (groups (span c w k) bytes) h.1)
+
+  -- and so are those of the whole file
+  pub read-among : (m : Meta) (k offset count : ℕ) (bytes : List ℕ) → AllByRecursion P (whole_blocks X c w m k bytes) → AllByRecursion P (blocks_read X c w m k offset count bytes)
+  unfolding whole_blocks blocks_read
+  read-among m zero offset count bytes h = h
+  read-among m (suc k) offset count bytes h = (h.0, mets k (λ o n g j. part-among k o n g j) offset count (groups (span c w k) bytes) h.1)
 
 first-lost : (look : Lookup) (c : Cid) (l : List Held) → IsFirstLost look c l → IsLost look c l
 first-lost look c [] x = x
@@ -147,15 +164,16 @@ module _ (X : List ℕ → List ℕ) (N : List ℕ → ℕ) (p : Profile) (told 
   abbrev pub found : Result Tree Refused
   found = at 0 names (Dir es)
 
-  abbrev pub w : Result (List ℕ) Refused
-  w = plain_bytes_at names es
+  abbrev pub w : Result Tree Refused
+  w = file_at names es
 
   -- a lookup that stopped stops the call
-  pub read-stopped : {B D : Type 0} (P : List ℕ → B → Type 0) (Q : List ℕ → D → Type 0) (more : Tree → List Held) (offset count : ℕ) (s : Stop) (f : MfsFault) → Tells names s f
+  pub read-stopped : {B D : Type 0} (P : Tree → B → Type 0) (Q : List ℕ → D → Type 0) (more : Tree → List Held) (offset count : ℕ) (s : Stop) (f : MfsFault) → Tells names s f
       → MeetsOr (IsLossOf told (way X N p names (Dir es))) P w (Err s) → AnswersOr (IsLossOf told (needs_at X N p more names (Dir es))) Q names (range_at offset count names es) (Err f)
-  read-stopped P Q more offset count s f tells h = by w (elim found as (λ w. List Held) [ Ok t ↦ more t | Err why ↦ [] ]) s f tells h
+  read-stopped P Q more offset count s f tells h =
+      by (plain_bytes_at names es) (elim found as (λ w. List Held) [ Ok t ↦ more t | Err why ↦ [] ]) s f tells (bytes-err (IsLossOf told (way X N p names (Dir es))) P Q found (length names) s h)
     where
-      by : (w : Result (List ℕ) Refused) (k : List Held) (s : Stop) (f : MfsFault) → Tells names s f → MeetsOr (IsLossOf told (way X N p names (Dir es))) P w (Err s)
+      by : (w : Result (List ℕ) Refused) (k : List Held) (s : Stop) (f : MfsFault) → Tells names s f → MeetsOr (IsLossOf told (way X N p names (Dir es))) Q w (Err s)
           → AnswersOr (IsLossOf told (way X N p names (Dir es) ++ k)) Q names (and_then w (λ bytes. Ok (take count (drop offset bytes)))) (Err f)
       by (Ok a) k (stop.Refused given) f tells h = absurd h
       by (Err why) k (stop.Refused given) (fault.Rule rule) tells h = tells ∙ ap (rule_of names) h
@@ -166,100 +184,108 @@ module _ (X : List ℕ → List ℕ) (N : List ℕ → ℕ) (p : Profile) (told 
           let go = and_then w (λ bytes. Ok (take count (drop offset bytes))) in
           let May = IsLossOf told (way X N p names (Dir es) ++ k) in
           subst (λ f. AnswersOr May Q names go (Err f)) (sym tells)
-          (may-answer May Q names go g (loss-front told (way X N p names (Dir es)) k g (fault-of (IsLossOf told (way X N p names (Dir es))) P w g h)))
+          (may-answer May Q names go g (loss-front told (way X N p names (Dir es)) k g (fault-of (IsLossOf told (way X N p names (Dir es))) Q w g h)))
 
   -- a file of the height
-  pub is-file : (e : Entry) (bytes : List ℕ) (height : ℕ) → IsPlanOf X N p e (File bytes) → IsHeight p.chunk p.width (length bytes) height → IsFile X p bytes e.cid height
-  is-file e bytes height s tall =
-      let r = rooted X p bytes s.profile in
+  pub is-file : (e : Entry) (m : Meta) (bytes : List ℕ) (height : ℕ) → IsPlanOf X N p e (File m bytes) → IsFileHeight p.chunk p.width m (length bytes) height → IsFile X p m bytes e.cid height
+  is-file e m bytes height s tall =
+      let r = rooted X p m bytes s.profile in
+      let root = is-file-root X N p e m bytes s in
       record {
         profile = s.profile;
-        few = (is-file-root X N p e bytes s).few;
-        cid_is = ap (λ (e : Entry). e.cid) (s.is ∙ entry-is X N p e bytes s);
-        rooted = subst (IsRooted X p bytes (file_plan X p bytes)) (height-unique p.chunk p.width (length bytes) r.0 height r.1.least tall) r.1;
+        good = root.good;
+        few = root.few;
+        cid_is = ap (λ (e : Entry). e.cid) (s.is ∙ entry-is X N p e m bytes s);
+        rooted = subst (IsRooted X p m bytes (file_plan X p m bytes)) (file-height-unique p.chunk p.width m (length bytes) r.0 height r.1.least tall) r.1;
       }
 
-  pub file-agrees : (e : Entry) (bytes : List ℕ) → IsAgreed X N told p e (File bytes) → Agrees told (file_plan X p bytes).blocks
+  pub file-agrees : (e : Entry) (m : Meta) (bytes : List ℕ) → IsAgreed X N told p e (File m bytes) → Agrees told (file_plan X p m bytes).blocks
   unfolding planned fold
-  file-agrees e bytes s = s.agrees
+  file-agrees e m bytes s = s.agrees
 
   -- the answer of a range of the file that was found
   pub read-done : (height offset count n : ℕ) (held held_now : SinkTold) (e : Entry)
-      → MeetsOr (IsLossOf told (way X N p names (Dir es))) (λ bytes e. IsAgreed X N told p e (File bytes)) w (Ok e) → IsHeightOf p height w
-      → ((bytes : List ℕ) → IsFile X p bytes e.cid height → Agrees told (file_plan X p bytes).blocks → WritesOver told (blocks_read X p.chunk p.width height offset count bytes) (range_of offset count bytes) held held_now (Ok n))
+      → MeetsOr (IsLossOf told (way X N p names (Dir es))) (λ t e. IsAgreed X N told p e t) w (Ok e) → IsHeightOf p height found
+      → ((m : Meta) (bytes : List ℕ) → IsFile X p m bytes e.cid height → Agrees told (file_plan X p m bytes).blocks → WritesOver told (blocks_read X p.chunk p.width m height offset count bytes) (range_of offset count bytes) held held_now (Ok n))
       → AnswersOr (IsLossOf told (needs_at X N p (range_needs X p height offset count) names (Dir es))) (λ bytes n. SendsAll held held_now bytes n) names (range_at offset count names es) (Ok n)
-  read-done height offset count n held held_now e h tall reads = by w h tall
+  read-done height offset count n held held_now e h tall reads = by found h tall
     where
-      by : (w : Result (List ℕ) Refused) → MeetsOr (IsLossOf told (way X N p names (Dir es))) (λ bytes e. IsAgreed X N told p e (File bytes)) w (Ok e) → IsHeightOf p height w
-          → AnswersOr (IsLossOf told (needs_at X N p (range_needs X p height offset count) names (Dir es))) (λ bytes n. SendsAll held held_now bytes n) names (and_then w (λ bytes. Ok (take count (drop offset bytes)))) (Ok n)
+      by : (t : Result Tree Refused) → MeetsOr (IsLossOf told (way X N p names (Dir es))) (λ t e. IsAgreed X N told p e t) (and_then t (as_file (length names))) (Ok e) → IsHeightOf p height t
+          → AnswersOr (IsLossOf told (needs_at X N p (range_needs X p height offset count) names (Dir es))) (λ bytes n. SendsAll held held_now bytes n) names
+          (and_then (and_then t (as_plain_file (length names))) (λ bytes. Ok (take count (drop offset bytes)))) (Ok n)
       by (Err why) h tall = absurd h
-      by (Ok bytes) h tall = (let r = reads bytes (is-file e bytes height h.plan tall) (file-agrees e bytes h) in (r.0, r.2))
+      by (Ok (Dir fs)) h tall = absurd h
+      by (Ok (File m bytes)) h tall = (let r = reads m bytes (is-file e m bytes height h.plan tall) (file-agrees e m bytes h) in (r.0, r.2))
 
   pub read-lost : (height offset count : ℕ) (held held_now : SinkTold) (e : Entry) (f : RangeFault) (given : MfsFault) → IsRangeFault f given → (f ≡ ranges.Sink → ⊥)
-      → MeetsOr (IsLossOf told (way X N p names (Dir es))) (λ bytes e. IsAgreed X N told p e (File bytes)) w (Ok e) → IsHeightOf p height w
-      → ((bytes : List ℕ) → IsFile X p bytes e.cid height → Agrees told (file_plan X p bytes).blocks → WritesOver told (blocks_read X p.chunk p.width height offset count bytes) (range_of offset count bytes) held held_now (Err f))
+      → MeetsOr (IsLossOf told (way X N p names (Dir es))) (λ t e. IsAgreed X N told p e t) w (Ok e) → IsHeightOf p height found
+      → ((m : Meta) (bytes : List ℕ) → IsFile X p m bytes e.cid height → Agrees told (file_plan X p m bytes).blocks → WritesOver told (blocks_read X p.chunk p.width m height offset count bytes) (range_of offset count bytes) held held_now (Err f))
       → AnswersOr (IsLossOf told (needs_at X N p (range_needs X p height offset count) names (Dir es))) (λ bytes n. SendsAll held held_now bytes n) names (range_at offset count names es) (Err given)
   read-lost height offset count held held_now e ranges.Sink given is calm h tall reads = absurd (calm refl)
   read-lost height offset count held held_now e (ranges.Store f) given is calm h tall reads =
       let May = IsLossOf told (needs_at X N p (range_needs X p height offset count) names (Dir es)) in
       subst (λ given. AnswersOr May (λ bytes n. SendsAll held held_now bytes n) names (range_at offset count names es) (Err given)) (sym is) (by found h tall)
     where
-      by : (t : Result Tree Refused) → MeetsOr (IsLossOf told (way X N p names (Dir es))) (λ bytes e. IsAgreed X N told p e (File bytes)) (and_then t (as_plain_file (length names))) (Ok e)
-          → IsHeightOf p height (and_then t (as_plain_file (length names)))
+      by : (t : Result Tree Refused) → MeetsOr (IsLossOf told (way X N p names (Dir es))) (λ t e. IsAgreed X N told p e t) (and_then t (as_file (length names))) (Ok e)
+          → IsHeightOf p height t
           → AnswersOr (IsLossOf told (way X N p names (Dir es) ++ elim t as (λ t. List Held) [ Ok t ↦ range_needs X p height offset count t | Err why ↦ [] ])) (λ bytes n. SendsAll held held_now bytes n) names
           (and_then (and_then t (as_plain_file (length names))) (λ bytes. Ok (take count (drop offset bytes)))) (Err (fault.Store f))
       by (Err why) h tall = absurd h
       by (Ok (Dir fs)) h tall = absurd h
-      by (Ok (File bytes)) h tall = loss-back told (way X N p names (Dir es)) (blocks_read X p.chunk p.width height offset count bytes) f
-          (first-loss told (blocks_read X p.chunk p.width height offset count bytes) f (reads bytes (is-file e bytes height h.plan tall) (file-agrees e bytes h)))
+      by (Ok (File m bytes)) h tall = loss-back told (way X N p names (Dir es)) (blocks_read X p.chunk p.width m height offset count bytes) f
+          (first-loss told (blocks_read X p.chunk p.width m height offset count bytes) f (reads m bytes (is-file e m bytes height h.plan tall) (file-agrees e m bytes h)))
 
   -- after a fault the sink has a front of the range
   pub read-front : (offset count : ℕ) (held held_now : SinkTold) (e : Entry)
-      → MeetsOr (IsLossOf told (way X N p names (Dir es))) (λ bytes e. IsAgreed X N told p e (File bytes)) w (Ok e)
-      → ((bytes : List ℕ) (height : ℕ) → IsFile X p bytes e.cid height → Agrees told (file_plan X p bytes).blocks → AppendsPrefix (range_of offset count bytes) held held_now)
+      → MeetsOr (IsLossOf told (way X N p names (Dir es))) (λ t e. IsAgreed X N told p e t) w (Ok e)
+      → ((m : Meta) (bytes : List ℕ) (height : ℕ) → IsFile X p m bytes e.cid height → Agrees told (file_plan X p m bytes).blocks → AppendsPrefix (range_of offset count bytes) held held_now)
       → AppendsPrefix (to_read (range_at offset count names es)) held held_now
-  read-front offset count held held_now e h reads = by w h
+  read-front offset count held held_now e h reads = by found h
     where
-      by : (w : Result (List ℕ) Refused) → MeetsOr (IsLossOf told (way X N p names (Dir es))) (λ bytes e. IsAgreed X N told p e (File bytes)) w (Ok e)
-          → AppendsPrefix (to_read (and_then w (λ bytes. Ok (take count (drop offset bytes))))) held held_now
+      by : (t : Result Tree Refused) → MeetsOr (IsLossOf told (way X N p names (Dir es))) (λ t e. IsAgreed X N told p e t) (and_then t (as_file (length names))) (Ok e)
+          → AppendsPrefix (to_read (and_then (and_then t (as_plain_file (length names))) (λ bytes. Ok (take count (drop offset bytes))))) held held_now
       by (Err why) h = absurd h
-      by (Ok bytes) h = reads bytes (rooted X p bytes h.plan.profile).0 (is-file e bytes (rooted X p bytes h.plan.profile).0 h.plan (rooted X p bytes h.plan.profile).1.least) (file-agrees e bytes h)
+      by (Ok (Dir fs)) h = absurd h
+      by (Ok (File m bytes)) h =
+          let tall = rooted X p m bytes h.plan.profile in
+          reads m bytes tall.0 (is-file e m bytes tall.0 h.plan tall.1.least) (file-agrees e m bytes h)
 
   -- where all blocks of the tree are held those that are needed are
-  tall-of : (w : Result (List ℕ) Refused) → ((bytes : List ℕ) → w ≡ Ok bytes → (height : ℕ) × IsHeight p.chunk p.width (length bytes) height) → (height : ℕ) × IsHeightOf p height w
-  tall-of (Ok bytes) h = h bytes refl
-  tall-of (Err why) h = (0, tt)
+  tall-of : (t : Result Tree Refused) → IsTrue (is_profile p) → (height : ℕ) × IsHeightOf p height t
+  tall-of (Ok (File m bytes)) ok = ((rooted X p m bytes ok).0, (rooted X p m bytes ok).1.least)
+  tall-of (Ok (Dir fs)) ok = (0, tt)
+  tall-of (Err why) ok = (0, tt)
 
-  plan-over : (bytes : List ℕ) → IsTrue (is_profile p) → (height : ℕ) → IsHeight p.chunk p.width (length bytes) height → (P : Held → Type 0) → AllByRecursion P (file_plan X p bytes).blocks
-      → AllByRecursion P (blocks_over X p.chunk p.width height bytes)
-  plan-over bytes ok height tall P h =
+  plan-over : (m : Meta) (bytes : List ℕ) → IsTrue (is_profile p) → (height : ℕ) → IsFileHeight p.chunk p.width m (length bytes) height → (P : Held → Type 0) → AllByRecursion P (file_plan X p m bytes).blocks
+      → AllByRecursion P (whole_blocks X p.chunk p.width m height bytes)
+  plan-over m bytes ok height tall P h =
       let pos = (kept p ok).some in
       let two = (kept p ok).two in
-      let r = file_plan-rows X p bytes pos two in
-      subst (λ k. AllByRecursion P (blocks_over X p.chunk p.width k bytes)) (height-unique p.chunk p.width (length bytes) r.0 height r.2 tall) (plan-sub X p bytes pos two P r.0 r.2.fits _ r.3 h)
+      let r = file_plan-rows X p m bytes pos two in
+      subst (λ k. AllByRecursion P (whole_blocks X p.chunk p.width m k bytes)) (file-height-unique p.chunk p.width m (length bytes) r.0 height r.2 tall) (plan-sub X p m bytes pos two P r.0 r.2.fits _ r.3 h)
 
-  file-blocks : (bytes : List ℕ) (P : Held → Type 0) → AllByRecursion P (blocks X N p (File bytes)) → AllByRecursion P (file_plan X p bytes).blocks
+  file-blocks : (m : Meta) (bytes : List ℕ) (P : Held → Type 0) → AllByRecursion P (blocks X N p (File m bytes)) → AllByRecursion P (file_plan X p m bytes).blocks
   unfolding planned fold
-  file-blocks bytes P h = h
+  file-blocks m bytes P h = h
 
-  needs-here : IsTrue (is_profile p) → (height offset count : ℕ) → IsHeightOf p height w → Among (needs_at X N p (range_needs X p height offset count) names (Dir es)) (blocks X N p (Dir es))
+  needs-here : IsTrue (is_profile p) → (height offset count : ℕ) → IsHeightOf p height found → Among (needs_at X N p (range_needs X p height offset count) names (Dir es)) (blocks X N p (Dir es))
   needs-here ok height offset count tall P h = append P (way X N p names (Dir es)) _ (front P (way X N p names (Dir es)) _ (whole P h)) (by found (back P (way X N p names (Dir es)) _ (whole P h)) tall)
     where
       whole : Among (needs_at X N p (blocks X N p) names (Dir es)) (blocks X N p (Dir es))
       whole = needs-among X N p (blocks X N p) (λ t P h. h) names (Dir es)
 
-      by : (t : Result Tree Refused) → AllByRecursion P (elim t as (λ t. List Held) [ Ok t ↦ blocks X N p t | Err why ↦ [] ]) → IsHeightOf p height (and_then t (as_plain_file (length names)))
+      by : (t : Result Tree Refused) → AllByRecursion P (elim t as (λ t. List Held) [ Ok t ↦ blocks X N p t | Err why ↦ [] ]) → IsHeightOf p height t
           → AllByRecursion P (elim t as (λ t. List Held) [ Ok t ↦ range_needs X p height offset count t | Err why ↦ [] ])
       by (Err why) h tall = tt
       by (Ok (Dir fs)) h tall = tt
-      by (Ok (File bytes)) h tall = read-among X p.chunk p.width P height offset count bytes (plan-over bytes ok height tall P (file-blocks bytes P h))
+      by (Ok (File m bytes)) h tall = read-among X p.chunk p.width P m height offset count bytes (plan-over m bytes ok height tall P (file-blocks m bytes P h))
 
   -- a file has a height
-  pub tall : IsTrue (is_profile p) → (height : ℕ) × IsHeightOf p height w
-  tall ok = tall-of w (λ bytes is. ((rooted X p bytes ok).0, (rooted X p bytes ok).1.least))
+  pub tall : IsTrue (is_profile p) → (height : ℕ) × IsHeightOf p height found
+  tall ok = tall-of found ok
 
   pub read-held : {D : Type 0} (Q : List ℕ → D → Type 0) (mfs : Mfs) (offset count : ℕ) (r : Result D MfsFault) → StandsAt X N told mfs p es
-      → ((height : ℕ) → IsHeightOf p height w → AnswersOr (IsLossOf told (needs_at X N p (range_needs X p height offset count) names (Dir es))) Q names (range_at offset count names es) r)
+      → ((height : ℕ) → IsHeightOf p height found → AnswersOr (IsLossOf told (needs_at X N p (range_needs X p height offset count) names (Dir es))) Q names (range_at offset count names es) r)
       → Answers Q names (range_at offset count names es) r
   read-held Q mfs offset count r s lost =
       let ok = s.root.profile in

@@ -1,5 +1,5 @@
 -- A file that an edit makes, over calls in a row.
-use Rattle.std.proofs.Common.{◌≡◌, ℕ, ◌+◌, ◌<◌, ◌≤◌, List, [], ◌∷◌, ◌++◌, length, refl, ap, sym, subst, arith}
+use Rattle.std.proofs.Common.{◌≡◌, ◌∙◌, ℕ, ◌+◌, ◌<◌, ◌≤◌, List, [], ◌∷◌, ◌++◌, length, refl, ap, sym, subst, arith}
 use Rattle.std.proofs.Common.{inl, inr, Bool, true, false, cond, Option, Some, None, Result, Ok, Err}
 use Rattle.std.specs.Prelude.{◌&&◌, IsTrue, OnOk, nat_lt}
 use Rattle.std.specs.List.{list_all}
@@ -10,8 +10,6 @@ use Rattle.uf_bytes.proofs.Laid.{all-cut, all-laid, laid-long, length-cut}
 use Rattle.uf_bytes.specs.Laying.{cut_to, laid}
 use Rattle.uf_cid.specs.Blocks.{Held}
 use Rattle.uf_cid.specs.Bytes.{IsBytes}
-use Rattle.uf_cid.specs.Cid.{cid_of}
-use Rattle.uf_cid.specs.declared.cid.Codec.TheVariants.{Raw}
 use Rattle.uf_edge.specs.Counts.{Stood}
 use Rattle.uf_fileread.specs.Ranges.{IsFile}
 use Rattle.uf_fileedit.specs.Answers.{EditsOver, RefusesTooLong}
@@ -30,9 +28,11 @@ use Rattle.uf_store.specs.Seen.{Seen}
 use Rattle.uf_store.proofs.Calls.{calm-then, saves-by}
 use Rattle.uf_store.proofs.Lost.{after-then}
 use Rattle.uf_tree.specs.declared.nodes.Entry.{Entry}
+use Rattle.uf_tree.specs.declared.meta.Meta.{Meta}
 use Rattle.uf_tree.specs.declared.profile.Profile.{Profile}
-use Rattle.uf_tree.specs.FilePlan.{climb, file_plan}
-use Rattle.uf_tree.specs.FileSub.{IsHeight}
+use Rattle.uf_tree.specs.FilePlan.{file_plan}
+use Rattle.uf_tree.specs.FileSub.{IsFileHeight}
+use Rattle.uf_tree.specs.Metas.{is_meta, none}
 use Rattle.uf_tree.specs.Profiles.{is_profile, most_bytes}
 use Rattle.uf_tree.specs.Tree.{Tree, File, Dir, Entries, Nothing, fold, is_tree}
 use Rattle.uf_tree.specs.TreePlan.{FileTooLong as TooLong, blocks, named_entries, planned, too_long}
@@ -43,8 +43,12 @@ use Rattle.uf_plain.specs.declared.file.FileEdit.{FileEdit}
 use Rattle.uf_plain.specs.declared.file.FileEdit.TheVariants.{Write, Truncate}
 use Rattle.uf_plain.specs.declared.change.Change.TheVariants.{Make}
 use Rattle.uf_plain.specs.Edits.{and_then, as_folder, child, with_child}
-use Rattle.uf_plain.specs.Files.{as_file_or_new, begun, fitting, rewritten}
+use Rattle.uf_plain.specs.Files.{as_file_or_new, begun, fitting, kept_meta, rewritten}
 use Rattle.uf_plain.specs.Rules.{allowed, unless}
+use Rattle.uf_plain.proofs.Edited.{child-tree}
+use Rattle.uf_plain.proofs.Kept.{tree-meta}
+use Rattle.uf_tree.proofs.Twins.{both_true}
+use Rattle.uf_mfs.specs.declared.writing.Start.TheVariants.{Empty, There}
 use Rattle.uf_mfs.specs.declared.fault.Stop.{Stop}
 use Rattle.uf_mfs.specs.declared.fault.Stop.TheVariants as stop
 use Rattle.uf_mfs.specs.Answers.{Decides, EditsAfter}
@@ -64,18 +68,6 @@ use Rattle.uf_mfs.proofs.Moving.{lost-edit}
 use Rattle.uf_mfs.proofs.Ranges.{file-agrees, is-file}
 use Rattle.uf_mfs.proofs.Touching.{folder-leads}
 
--- ---- the file of no bytes
-
-pub empty-entry : (X : List ℕ → List ℕ) (p : Profile) (e : Entry) → e ≡ record { cid = cid_of X Raw []; tsize = 0 }
-    → e ≡ (file_plan X p []).entry
-unfolding file_plan climb
-empty-entry X p e is = is
-
-pub empty-held : (X : List ℕ → List ℕ) (p : Profile) (told : Told) → Holds told ((cid_of X Raw [], []) ∷ [])
-    → Holds told (file_plan X p []).blocks
-unfolding file_plan climb
-empty-held X p told h = h
-
 -- a save over a store that stayed calm only wants memory
 pub save-loss : (X : List ℕ → List ℕ) (f : StoreFault) (a b : Seen) (l : List Held) → IsSaving f
     → Shows X NoneIsBad f a b → Calm a b → IsLossOf a.told l f
@@ -87,6 +79,10 @@ save-loss X (Clash c other bytes) a b l saving h calm = absurd (let rose = h.ros
 save-loss X Memory a b l saving h calm = tt
 
 -- ---- bytes
+
+and-true : {s t : Bool} → s ≡ true → t ≡ true → s && t ≡ true
+and-true {s = true} g h = h
+and-true {s = false} g h = g
 
 bytes-all : (bytes : List ℕ) → IsBytes bytes → list_all (λ b. nat_lt b 256) bytes ≡ true
 bytes-all [] h = refl
@@ -100,8 +96,8 @@ bytes-all (b ∷ bytes) h = both (nat_lt b 256) (list_all (λ b. nat_lt b 256) b
     below b h = grind (arith, nat_tests)
 
 -- which bytes an edit begins with doesn't depend on how many names led there
-abbrev touches-of : Profile → (ℕ → ℕ) → FileEdit → List ℕ → Result (List ℕ) Refused → ℕ
-touches-of p rows what x w = elim w as (λ w. ℕ) [ Ok bytes ↦ rewriting_touches p rows what x bytes | Err why ↦ 0 ]
+abbrev touches-of : Profile → (ℕ → ℕ) → FileEdit → List ℕ → Meta → Result (List ℕ) Refused → ℕ
+touches-of p rows what x m w = elim w as (λ w. ℕ) [ Ok bytes ↦ rewriting_touches p rows what x m bytes | Err why ↦ 0 ]
 
 begun-anyhow : (what : FileEdit) (led : ℕ) (o : Option Tree) (bytes : List ℕ) → begun what led o ≡ Ok bytes
     → begun what 0 o ≡ Ok bytes
@@ -111,11 +107,11 @@ begun-anyhow (Write how) led None bytes is = by how.create is
         → and_then (as_file_or_new create 0 None) (λ bytes. Ok (cond how.cut [] bytes)) ≡ Ok bytes
     by true is = is
     by false is = absurd cc
-begun-anyhow (Write how) led (Some (File old)) bytes is = by how.create is
+begun-anyhow (Write how) led (Some (File m old)) bytes is = by how.create is
   where
     by : (create : Bool)
-        → and_then (as_file_or_new create led (Some (File old))) (λ bytes. Ok (cond how.cut [] bytes)) ≡ Ok bytes
-        → and_then (as_file_or_new create 0 (Some (File old))) (λ bytes. Ok (cond how.cut [] bytes)) ≡ Ok bytes
+        → and_then (as_file_or_new create led (Some (File m old))) (λ bytes. Ok (cond how.cut [] bytes)) ≡ Ok bytes
+        → and_then (as_file_or_new create 0 (Some (File m old))) (λ bytes. Ok (cond how.cut [] bytes)) ≡ Ok bytes
     by true is = is
     by false is = is
 begun-anyhow (Write how) led (Some (Dir es)) bytes is = by how.create is
@@ -126,7 +122,7 @@ begun-anyhow (Write how) led (Some (Dir es)) bytes is = by how.create is
     by true is = absurd cc
     by false is = absurd cc
 begun-anyhow (Truncate size) led None bytes is = absurd cc
-begun-anyhow (Truncate size) led (Some (File old)) bytes is = is
+begun-anyhow (Truncate size) led (Some (File m old)) bytes is = is
 begun-anyhow (Truncate size) led (Some (Dir es)) bytes is = absurd cc
 
 -- ---- the count of touches
@@ -162,9 +158,9 @@ within most n bound r t0 t1 long first short = by (nat_lt most n) r long first
     by true (Err (Store f)) long first = absurd cc
 
 module _ (X : List ℕ → List ℕ) (N : List ℕ → ℕ) (p : Profile) where
-  is-short : (e : Entry) (b : List ℕ) → IsPlanOf X N p e (File b) → nat_lt (most_bytes p) (length b) ≡ false
+  is-short : (e : Entry) (m : Meta) (b : List ℕ) → IsPlanOf X N p e (File m b) → nat_lt (most_bytes p) (length b) ≡ false
   unfolding planned fold
-  is-short e b s = by (nat_lt (most_bytes p) (length b)) s.planned
+  is-short e m b s = by (nat_lt (most_bytes p) (length b)) s.planned
     where
       by : (t : Bool) → cond t (Some TooLong) None ≡ None → t ≡ false
       by true e = absurd cc
@@ -177,11 +173,11 @@ module _ (X : List ℕ → List ℕ) (N : List ℕ → ℕ) (p : Profile) where
   file-long : (n : List ℕ) → nat_lt (most_bytes p) (length n) ≡ true → too_long p n ≡ Some TooLong
   file-long n is = ap (λ (t : Bool). cond t (Some TooLong) None) is
 
-  pub file-plan-of : (e : Entry) (n : List ℕ) → IsTrue (is_profile p) → IsTrue (is_tree (File n))
-      → nat_lt (most_bytes p) (length n) ≡ false → e ≡ (file_plan X p n).entry
-      → IsPlanOf X N p e (File n)
+  pub file-plan-of : (e : Entry) (m : Meta) (n : List ℕ) → IsTrue (is_profile p) → IsTrue (is_tree (File m n))
+      → nat_lt (most_bytes p) (length n) ≡ false → e ≡ (file_plan X p m n).entry
+      → IsPlanOf X N p e (File m n)
   unfolding planned fold
-  file-plan-of e n ok tree short is = record { profile = ok; tree = tree; planned = file-fits n short; is = is }
+  file-plan-of e m n ok tree short is = record { profile = ok; tree = tree; planned = file-fits n short; is = is }
 
   -- ---- what is under the file's name
 
@@ -191,122 +187,140 @@ module _ (X : List ℕ → List ℕ) (N : List ℕ → ℕ) (p : Profile) where
   -- a file that is there, before anything was done
   pub start-there : (a : Seen) (folder e : Entry) (name : List ℕ) (es : Entries) (w : Result (List ℕ) Refused)
       → IsFolderOver X N p a a [] folder es
-      → Decides (λ bytes start. IsStart X N a.told p (child name es) bytes start) w (Ok (Some e))
-      → MakesFile X N p a a (blocks X N p (Dir es)) w (Ok e)
+      → Decides (λ bytes start. IsStart X N a.told p (child name es) bytes start) w (Ok (There e))
+      → MakesFile X N p a a (blocks X N p (Dir es)) (kept_meta (child name es)) w (Ok e)
   start-there a folder e name es (Err why) o h = absurd h
   start-there a folder e name es (Ok bytes) o h = record {
     plan = h.1.plan;
-    after = after-some a.told a.told _ _ _ (λ Q k. child-among X N p es name (File bytes) h.0 Q k)
+    after = after-some a.told a.told _ _ _ (λ Q k. child-among X N p es name (File (kept_meta (child name es)) bytes) h.0 Q k)
         (after-kept X a.told a.told _ (are-good X N p (Dir es)) (keeps-same a.told) o.stays);
   }
 
-  -- and an empty one that was saved
-  pub start-empty : (a b : Seen) (folder e : Entry) (o : Option Tree) (es : Entries) (w : Result (List ℕ) Refused)
-      → IsFolderOver X N p a b [] folder es
-      → Decides (λ bytes start. IsStart X N a.told p o bytes start) w (Ok None) → e ≡ (file_plan X p []).entry
-      → Holds b.told (file_plan X p []).blocks
-      → MakesFile X N p a b (blocks X N p (Dir es)) w (Ok e)
-  unfolding planned fold is_tree
-  start-empty a b folder e o es (Err why) over h is held = absurd h
-  start-empty a b folder e o es (Ok bytes) over h is held = subst (λ n. IsAfter X N a.told b.told (blocks X N p (Dir es)) p e (File n)) (sym h) (record {
-    plan = file-plan-of e [] over.plan.profile refl (short p) is;
-    after = after-held a.told b.told (blocks X N p (Dir es)) _ (tells b.told (blocks X N p (Dir es)) over.stays.last held);
-  })
+  -- the metadata of a member is good, and so is that of none
+  pub kept-good : (folder : Entry) (name : List ℕ) (es : Entries) → IsPlanOf X N p folder (Dir es) → IsTrue (is_meta (kept_meta (child name es)))
+  kept-good folder name es s = by (child name es) refl
     where
+      by : (o : Option Tree) → child name es ≡ o → IsTrue (is_meta (kept_meta o))
+      by None is = refl
+      by (Some t) is = tree-meta t (child-tree name t es s.tree is)
+
+  -- and an empty one that was saved
+  pub start-empty : (a b : Seen) (folder e : Entry) (m kept : Meta) (name : List ℕ) (es : Entries) (w : Result (List ℕ) Refused)
+      → IsFolderOver X N p a b [] folder es
+      → Decides (λ bytes start. IsStart X N a.told p (child name es) bytes start) w (Ok (Empty m))
+      → (IsTrue (is_meta m) → kept ≡ m) → (IsTrue (is_profile p) → e ≡ (file_plan X p kept []).entry)
+      → (IsTrue (is_profile p) → Holds b.told (file_plan X p kept []).blocks)
+      → MakesFile X N p a b (blocks X N p (Dir es)) (kept_meta (child name es)) w (Ok e)
+  unfolding planned fold is_tree
+  start-empty a b folder e m kept name es (Err why) over h good is held = absurd h
+  start-empty a b folder e m kept name es (Ok bytes) over h good is held =
+      let own = kept_meta (child name es) in
+      let fine : IsTrue (is_meta own) = kept-good folder name es over.plan in
+      let same : kept ≡ own = good (subst (λ m. IsTrue (is_meta m)) (sym h.1) fine) ∙ h.1 in
+      subst (λ n. IsAfter X N a.told b.told (blocks X N p (Dir es)) p e (File own n)) (sym h.0)
+      (subst (λ m. IsAfter X N a.told b.told (blocks X N p (Dir es)) p e (File m [])) same (record {
+        plan = file-plan-of e kept [] over.plan.profile (subst (λ m. is_meta m && true ≡ true) (sym same) (with-true (is_meta own) fine)) (short p) (is over.plan.profile);
+        after = after-held a.told b.told (blocks X N p (Dir es)) _ (tells b.told (blocks X N p (Dir es)) kept over.stays.last (held over.plan.profile));
+      }))
+    where
+      with-true : (t : Bool) → t ≡ true → t && true ≡ true
+      with-true true e = refl
+      with-true false e = absurd cc
+
       short : (p : Profile) → nat_lt (most_bytes p) 0 ≡ false
       short p = grind (arith, nat_tests)
 
-      tells : (told : Told) (k : List Held) → Agrees told k → Holds told (file_plan X p []).blocks
-          → TellsHeld told (blocks X N p (File []))
-      tells None k agrees held = absurd agrees
-      tells (Some t) k agrees held = held
+      tells : (told : Told) (k : List Held) (m : Meta) → Agrees told k → Holds told (file_plan X p m []).blocks
+          → TellsHeld told (blocks X N p (File m []))
+      tells None k m agrees held = absurd agrees
+      tells (Some t) k m agrees held = held
 
   -- ---- the file that is made of it
 
   -- a loss that may come, whatever the bytes are
-  pub lost-file : (a c : Seen) (old : List Held) (w : Result (List ℕ) Refused) (f : StoreFault)
-      → IsLossOf a.told old f → MakesFile X N p a c old w (Err (stop.Store f))
-  lost-file a c old (Ok n) f h = h
-  lost-file a c old (Err why) f h = h
+  pub lost-file : (a c : Seen) (old : List Held) (m : Meta) (w : Result (List ℕ) Refused) (f : StoreFault)
+      → IsLossOf a.told old f → MakesFile X N p a c old m w (Err (stop.Store f))
+  lost-file a c old m (Ok n) f h = h
+  lost-file a c old m (Err why) f h = h
 
   -- the answer of an edit of a file as that of a step
-  pub stepped-file : (a c : Seen) (old : Entry) (b n : List ℕ) (r : Result Entry BuildFault) (s : Result Entry Stop)
-      → IsFileOver X N p a c old b → IsTrue (is_tree (File n))
+  pub stepped-file : (a c : Seen) (old : Entry) (m : Meta) (b n : List ℕ) (r : Result Entry BuildFault) (s : Result Entry Stop)
+      → IsFileOver X N p a c old m b → IsTrue (is_tree (File m n))
       → RefusesTooLong (nat_lt (most_bytes p) (length n)) r
-      → EditsOver a.told (file_plan X p b).blocks (file_plan X p n).entry r
-      → OnOk r (AgreesAfter a.told c.told (file_plan X p b).blocks (file_plan X p n).blocks) → IsStepOf r s
-      → MakesFile X N p a c (blocks X N p (File b)) (fitting p n) s
+      → EditsOver a.told (file_plan X p m b).blocks (file_plan X p m n).entry r
+      → OnOk r (AgreesAfter a.told c.told (file_plan X p m b).blocks (file_plan X p m n).blocks) → IsStepOf r s
+      → MakesFile X N p a c (blocks X N p (File m b)) m (fitting p n) s
   unfolding planned fold
-  stepped-file a c old b n (Ok e) s over tree long value after is =
-      subst (λ s. MakesFile X N p a c (blocks X N p (File b)) (fitting p n) s) (sym is)
-      (subst (λ o. MakesFile X N p a c (blocks X N p (File b)) (unless n o) (Ok e)) (sym (file-fits n long))
-      (record { plan = file-plan-of e n over.plan.profile tree long value; after = after }))
-  stepped-file a c old b n (Err FileTooLong) s over tree long value after is =
-      subst (λ s. MakesFile X N p a c (blocks X N p (File b)) (fitting p n) s) (sym is)
-      (subst (λ o. MakesFile X N p a c (blocks X N p (File b)) (unless n o) (Err (stop.Refused why.FileTooLong))) (sym (file-long n long)) refl)
-  stepped-file a c old b n (Err Spent) s over tree long value after is = absurd is
-  stepped-file a c old b n (Err (Store f)) s over tree long value after is =
-      subst (λ s. MakesFile X N p a c (blocks X N p (File b)) (fitting p n) s) (sym is) (lost-file a c _ (fitting p n) f value)
+  stepped-file a c old m b n (Ok e) s over tree long value after is =
+      subst (λ s. MakesFile X N p a c (blocks X N p (File m b)) m (fitting p n) s) (sym is)
+      (subst (λ o. MakesFile X N p a c (blocks X N p (File m b)) m (unless n o) (Ok e)) (sym (file-fits n long))
+      (record { plan = file-plan-of e m n over.plan.profile tree long value; after = after }))
+  stepped-file a c old m b n (Err FileTooLong) s over tree long value after is =
+      subst (λ s. MakesFile X N p a c (blocks X N p (File m b)) m (fitting p n) s) (sym is)
+      (subst (λ o. MakesFile X N p a c (blocks X N p (File m b)) m (unless n o) (Err (stop.Refused why.FileTooLong))) (sym (file-long n long)) refl)
+  stepped-file a c old m b n (Err Spent) s over tree long value after is = absurd is
+  stepped-file a c old m b n (Err (Store f)) s over tree long value after is =
+      subst (λ s. MakesFile X N p a c (blocks X N p (File m b)) m (fitting p n) s) (sym is) (lost-file a c _ m (fitting p n) f value)
 
   -- a file over which nothing failed, as uf_fileedit speaks of it
-  pub over-file : (a c : Seen) (old : Entry) (b : List ℕ) (height : ℕ) → IsFileOver X N p a c old b
-      → IsHeight p.chunk p.width (length b) height → IsFile X p b old.cid height
-  over-file a c old b height over tall = is-file X N p a.told [] Nothing old b height over.plan tall
+  pub over-file : (a c : Seen) (old : Entry) (m : Meta) (b : List ℕ) (height : ℕ) → IsFileOver X N p a c old m b
+      → IsFileHeight p.chunk p.width m (length b) height → IsFile X p m b old.cid height
+  over-file a c old m b height over tall = is-file X N p a.told [] (Nothing none) old m b height over.plan tall
 
-  pub over-agrees : (a c : Seen) (old : Entry) (b : List ℕ) → IsFileOver X N p a c old b
-      → Agrees a.told (file_plan X p b).blocks
-  over-agrees a c old b over = file-agrees X N p a.told [] Nothing old b (record { plan = over.plan; agrees = over.stays.first })
+  pub over-agrees : (a c : Seen) (old : Entry) (m : Meta) (b : List ℕ) → IsFileOver X N p a c old m b
+      → Agrees a.told (file_plan X p m b).blocks
+  over-agrees a c old m b over = file-agrees X N p a.told [] (Nothing none) old m b (record { plan = over.plan; agrees = over.stays.first })
 
-  made-file : (a c : Seen) (old : Entry) (b n : List ℕ) (r : Result Entry BuildFault) (s : Result Entry Stop)
-      → IsFileOver X N p a c old b → IsTrue (is_tree (File n))
+  made-file : (a c : Seen) (old : Entry) (m : Meta) (b n : List ℕ) (r : Result Entry BuildFault) (s : Result Entry Stop)
+      → IsFileOver X N p a c old m b → IsTrue (is_tree (File m n))
       → RefusesTooLong (nat_lt (most_bytes p) (length n)) r
-      → ((height : ℕ) → IsFile X p b old.cid height → old ≡ (file_plan X p b).entry → StaysAgreed a.told c.told (file_plan X p b).blocks → Stood a.faults c.faults → Stood a.clashes c.clashes
-      → EditsOver a.told (file_plan X p b).blocks (file_plan X p n).entry r)
-      → ((height : ℕ) → IsFile X p b old.cid height → old ≡ (file_plan X p b).entry → StaysAgreed a.told c.told (file_plan X p b).blocks
-      → OnOk r (AgreesAfter a.told c.told (file_plan X p b).blocks (file_plan X p n).blocks))
-      → IsStepOf r s → MakesFile X N p a c (blocks X N p (File b)) (fitting p n) s
+      → ((height : ℕ) → IsFile X p m b old.cid height → old ≡ (file_plan X p m b).entry → StaysAgreed a.told c.told (file_plan X p m b).blocks → Stood a.faults c.faults → Stood a.clashes c.clashes
+      → EditsOver a.told (file_plan X p m b).blocks (file_plan X p m n).entry r)
+      → ((height : ℕ) → IsFile X p m b old.cid height → old ≡ (file_plan X p m b).entry → StaysAgreed a.told c.told (file_plan X p m b).blocks
+      → OnOk r (AgreesAfter a.told c.told (file_plan X p m b).blocks (file_plan X p m n).blocks))
+      → IsStepOf r s → MakesFile X N p a c (blocks X N p (File m b)) m (fitting p n) s
   unfolding planned fold
-  made-file a c old b n r s over tree long value after is =
-      let tall = rooted X p b over.plan.profile in
-      let file = over-file a c old b tall.0 over tall.1.least in
-      stepped-file a c old b n r s over tree long (value tall.0 file over.plan.is over.stays over.calm.faults over.calm.clashes) (after tall.0 file over.plan.is over.stays) is
+  made-file a c old m b n r s over tree long value after is =
+      let tall = rooted X p m b over.plan.profile in
+      let file = over-file a c old m b tall.0 over tall.1.least in
+      stepped-file a c old m b n r s over tree long (value tall.0 file over.plan.is over.stays over.calm.faults over.calm.clashes) (after tall.0 file over.plan.is over.stays) is
 
   -- a piece laid over a file
-  pub laid-file : (a c : Seen) (old : Entry) (b : List ℕ) (offset : ℕ) (x : List ℕ) (r : Result Entry BuildFault) (s : Result Entry Stop) → IsFileOver X N p a c old b → IsBytes x
+  pub laid-file : (a c : Seen) (old : Entry) (m : Meta) (b : List ℕ) (offset : ℕ) (x : List ℕ) (r : Result Entry BuildFault) (s : Result Entry Stop) → IsFileOver X N p a c old m b → IsBytes x
       → RefusesTooLong (nat_lt 0 (length x) && nat_lt (most_bytes p) (offset + length x)) r
-      → ((b : List ℕ) (height : ℕ) → IsFile X p b old.cid height → old ≡ (file_plan X p b).entry → StaysAgreed a.told c.told (file_plan X p b).blocks → Stood a.faults c.faults
-      → Stood a.clashes c.clashes → EditsOver a.told (file_plan X p b).blocks (file_plan X p (laid b offset x)).entry r)
-      → ((b : List ℕ) (height : ℕ) → IsFile X p b old.cid height → old ≡ (file_plan X p b).entry → StaysAgreed a.told c.told (file_plan X p b).blocks
-      → OnOk r (AgreesAfter a.told c.told (file_plan X p b).blocks (file_plan X p (laid b offset x)).blocks))
-      → IsStepOf r s → MakesFile X N p a c (blocks X N p (File b)) (fitting p (laid b offset x)) s
+      → ((m : Meta) (b : List ℕ) (height : ℕ) → IsFile X p m b old.cid height → old ≡ (file_plan X p m b).entry → StaysAgreed a.told c.told (file_plan X p m b).blocks → Stood a.faults c.faults
+      → Stood a.clashes c.clashes → EditsOver a.told (file_plan X p m b).blocks (file_plan X p m (laid b offset x)).entry r)
+      → ((m : Meta) (b : List ℕ) (height : ℕ) → IsFile X p m b old.cid height → old ≡ (file_plan X p m b).entry → StaysAgreed a.told c.told (file_plan X p m b).blocks
+      → OnOk r (AgreesAfter a.told c.told (file_plan X p m b).blocks (file_plan X p m (laid b offset x)).blocks))
+      → IsStepOf r s → MakesFile X N p a c (blocks X N p (File m b)) m (fitting p (laid b offset x)) s
   unfolding is_tree
-  laid-file a c old b offset x r s over bytes long value after is =
-      let few = few X N p old b over.plan in
-      made-file a c old b (laid b offset x) r s over (all-laid (λ b. nat_lt b 256) b offset x refl over.plan.tree (bytes-all x bytes))
-      (subst (λ t. RefusesTooLong t r) (laid-long (most_bytes p) offset b x few) long) (value b) (after b) is
+  laid-file a c old m b offset x r s over bytes long value after is =
+      let few = few X N p old m b over.plan in
+      made-file a c old m b (laid b offset x) r s over (and-true (both_true (is_meta m) _ over.plan.tree).0 (all-laid (λ b. nat_lt b 256) b offset x refl (both_true (is_meta m) _ over.plan.tree).1 (bytes-all x bytes)))
+      (subst (λ t. RefusesTooLong t r) (laid-long (most_bytes p) offset b x few) long) (value m b) (after m b) is
 
   -- and a file cut
-  pub cut-file : (a c : Seen) (old : Entry) (b : List ℕ) (size : ℕ) (r : Result Entry BuildFault) (s : Result Entry Stop) → IsFileOver X N p a c old b
+  pub cut-file : (a c : Seen) (old : Entry) (m : Meta) (b : List ℕ) (size : ℕ) (r : Result Entry BuildFault) (s : Result Entry Stop) → IsFileOver X N p a c old m b
       → RefusesTooLong (nat_lt (most_bytes p) size) r
-      → ((b : List ℕ) (height : ℕ) → IsFile X p b old.cid height → old ≡ (file_plan X p b).entry → StaysAgreed a.told c.told (file_plan X p b).blocks → Stood a.faults c.faults
-      → Stood a.clashes c.clashes → EditsOver a.told (file_plan X p b).blocks (file_plan X p (cut_to b size)).entry r)
-      → ((b : List ℕ) (height : ℕ) → IsFile X p b old.cid height → old ≡ (file_plan X p b).entry → StaysAgreed a.told c.told (file_plan X p b).blocks
-      → OnOk r (AgreesAfter a.told c.told (file_plan X p b).blocks (file_plan X p (cut_to b size)).blocks))
-      → IsStepOf r s → MakesFile X N p a c (blocks X N p (File b)) (fitting p (cut_to b size)) s
+      → ((m : Meta) (b : List ℕ) (height : ℕ) → IsFile X p m b old.cid height → old ≡ (file_plan X p m b).entry → StaysAgreed a.told c.told (file_plan X p m b).blocks → Stood a.faults c.faults
+      → Stood a.clashes c.clashes → EditsOver a.told (file_plan X p m b).blocks (file_plan X p m (cut_to b size)).entry r)
+      → ((m : Meta) (b : List ℕ) (height : ℕ) → IsFile X p m b old.cid height → old ≡ (file_plan X p m b).entry → StaysAgreed a.told c.told (file_plan X p m b).blocks
+      → OnOk r (AgreesAfter a.told c.told (file_plan X p m b).blocks (file_plan X p m (cut_to b size)).blocks))
+      → IsStepOf r s → MakesFile X N p a c (blocks X N p (File m b)) m (fitting p (cut_to b size)) s
   unfolding is_tree
-  cut-file a c old b size r s over long value after is =
-      made-file a c old b (cut_to b size) r s over (all-cut (λ b. nat_lt b 256) b size refl over.plan.tree)
-      (subst (λ n. RefusesTooLong (nat_lt (most_bytes p) n) r) (sym (length-cut b size)) long) (value b) (after b) is
+  cut-file a c old m b size r s over long value after is =
+      made-file a c old m b (cut_to b size) r s over (and-true (both_true (is_meta m) _ over.plan.tree).0 (all-cut (λ b. nat_lt b 256) b size refl (both_true (is_meta m) _ over.plan.tree).1))
+      (subst (λ n. RefusesTooLong (nat_lt (most_bytes p) n) r) (sym (length-cut b size)) long) (value m b) (after m b) is
 
   -- how often they touch the store
-  pub laid-touches : (rows : ℕ → ℕ) (a c : Seen) (old : Entry) (b : List ℕ) (offset : ℕ) (x : List ℕ)
-      (r : Result Entry BuildFault) (t0 t1 bound : ℕ) → IsFileOver X N p a c old b
+  pub laid-touches : (rows : ℕ → ℕ) (a c : Seen) (old : Entry) (m : Meta) (b : List ℕ) (offset : ℕ) (x : List ℕ)
+      (r : Result Entry BuildFault) (t0 t1 bound : ℕ) → IsFileOver X N p a c old m b
       → RefusesTooLong (nat_lt 0 (length x) && nat_lt (most_bytes p) (offset + length x)) r
       → TouchedFirst r t0 t1 → t1 ≤ t0 + bound
       → t1 ≤ t0 + cond (nat_lt (most_bytes p) (length (laid b offset x))) 0 bound
-  laid-touches rows a c old b offset x r t0 t1 bound over long first few_touches =
+  laid-touches rows a c old m b offset x r t0 t1 bound over long first few_touches =
       within (most_bytes p) (length (laid b offset x)) bound r t0 t1
-      (subst (λ t. RefusesTooLong t r) (laid-long (most_bytes p) offset b x (few X N p old b over.plan)) long) first few_touches
+      (subst (λ t. RefusesTooLong t r) (laid-long (most_bytes p) offset b x (few X N p old m b over.plan)) long) first few_touches
 
   pub cut-touches : (b : List ℕ) (size : ℕ) (r : Result Entry BuildFault) (t0 t1 bound : ℕ)
       → RefusesTooLong (nat_lt (most_bytes p) size) r → TouchedFirst r t0 t1 → t1 ≤ t0 + bound
@@ -316,71 +330,71 @@ module _ (X : List ℕ → List ℕ) (N : List ℕ → ℕ) (p : Profile) where
       (subst (λ n. RefusesTooLong (nat_lt (most_bytes p) n) r) (sym (length-cut b size)) long) first few_touches
 
   -- what is said from a later moment is said from an earlier one
-  pub later-file : (a b c : Seen) (old mid : List Held) (w : Result (List ℕ) Refused) (r : Result Entry Stop)
+  pub later-file : (a b c : Seen) (old mid : List Held) (m : Meta) (w : Result (List ℕ) Refused) (r : Result Entry Stop)
       → AgreesAfter a.told b.told old mid
-      → MakesFile X N p b c mid w r → MakesFile X N p a c old w r
-  later-file a b c old mid (Ok n) (Ok e) first h = record { plan = h.plan; after = after-then a.told b.told c.told old mid _ first h.after }
-  later-file a b c old mid (Err why) (Ok e) first h = h
-  later-file a b c old mid (Ok n) (Err (stop.Refused given)) first h = h
-  later-file a b c old mid (Err why) (Err (stop.Refused given)) first h = h
-  later-file a b c old mid (Ok n) (Err (stop.Store f)) first h = loss-after a.told b.told old mid f first h
-  later-file a b c old mid (Err why) (Err (stop.Store f)) first h = loss-after a.told b.told old mid f first h
+      → MakesFile X N p b c mid m w r → MakesFile X N p a c old m w r
+  later-file a b c old mid m (Ok n) (Ok e) first h = record { plan = h.plan; after = after-then a.told b.told c.told old mid _ first h.after }
+  later-file a b c old mid m (Err why) (Ok e) first h = h
+  later-file a b c old mid m (Ok n) (Err (stop.Refused given)) first h = h
+  later-file a b c old mid m (Err why) (Err (stop.Refused given)) first h = h
+  later-file a b c old mid m (Ok n) (Err (stop.Store f)) first h = loss-after a.told b.told old mid f first h
+  later-file a b c old mid m (Err why) (Err (stop.Store f)) first h = loss-after a.told b.told old mid f first h
 
   -- ---- what is found under a name, begun with and rewritten
 
   -- what isn't begun with isn't made
-  pub new-stopped : (a b : Seen) (old : List Held) (what : FileEdit) (x : List ℕ) (led : ℕ) (o : Option Tree) (s : Stop) → MakesFile X N p a b old (begun what led o) (Err s)
-      → MakesFile X N p a b old (fitting_bytes p what x led o) (Err s)
-  new-stopped a b old what x led o s h = by (begun what led o) s h
+  pub new-stopped : (a b : Seen) (old : List Held) (m : Meta) (what : FileEdit) (x : List ℕ) (led : ℕ) (o : Option Tree) (s : Stop) → MakesFile X N p a b old m (begun what led o) (Err s)
+      → MakesFile X N p a b old m (fitting_bytes p what x led o) (Err s)
+  new-stopped a b old m what x led o s h = by (begun what led o) s h
     where
-      by : (w : Result (List ℕ) Refused) (s : Stop) → MakesFile X N p a b old w (Err s)
-          → MakesFile X N p a b old (and_then (and_then w (λ bytes. Ok (rewritten what x bytes))) (fitting p)) (Err s)
+      by : (w : Result (List ℕ) Refused) (s : Stop) → MakesFile X N p a b old m w (Err s)
+          → MakesFile X N p a b old m (and_then (and_then w (λ bytes. Ok (rewritten what x bytes))) (fitting p)) (Err s)
       by (Ok bytes) (stop.Refused given) h = absurd h
       by (Err why) (stop.Refused given) h = h
-      by (Ok bytes) (stop.Store f) h = lost-file a b old (fitting p (rewritten what x bytes)) f h
+      by (Ok bytes) (stop.Store f) h = lost-file a b old m (fitting p (rewritten what x bytes)) f h
       by (Err why) (stop.Store f) h = h
 
   module _ {Bad Other : Role → List ℕ → Type 0} {fault : Option StoreFault} {a b c : Seen} (before : OnlySaves X Bad None a b) (after : OnlySaves X Other fault b c) where
     -- the file that is begun with, before it is rewritten
-    begun-over : (folder old : Entry) (es : Entries) (bytes : List ℕ) → IsFolderOver X N p a c [] folder es
-        → IsAfter X N a.told b.told (blocks X N p (Dir es)) p old (File bytes)
-        → IsFileOver X N p b c old bytes
-    begun-over folder old es bytes o h = record {
+    begun-over : (folder old : Entry) (es : Entries) (m : Meta) (bytes : List ℕ) → IsFolderOver X N p a c [] folder es
+        → IsAfter X N a.told b.told (blocks X N p (Dir es)) p old (File m bytes)
+        → IsFileOver X N p b c old m bytes
+    begun-over folder old es m bytes o h = record {
       plan = h.plan;
-      stays = onward X a.told b.told c.told _ _ h.after (are-good X N p (File bytes)) after.good o.stays;
+      stays = onward X a.told b.told c.told _ _ h.after (are-good X N p (File m bytes)) after.good o.stays;
       calm = calm-then before o.calm;
     }
 
     pub new-made : (folder old : Entry) (what : FileEdit) (x : List ℕ) (led : ℕ) (name : List ℕ) (es : Entries) (r : Result Entry Stop) → IsFolderOver X N p a c [] folder es
-        → MakesFile X N p a b (blocks X N p (Dir es)) (begun what led (child name es)) (Ok old)
-        → ((bytes : List ℕ) → IsFileOver X N p b c old bytes → MakesFile X N p b c (blocks X N p (File bytes)) (fitting p (rewritten what x bytes)) r)
-        → MakesFile X N p a c (blocks X N p (Dir es)) (fitting_bytes p what x led (child name es)) r
+        → MakesFile X N p a b (blocks X N p (Dir es)) (kept_meta (child name es)) (begun what led (child name es)) (Ok old)
+        → ((m : Meta) (bytes : List ℕ) → IsFileOver X N p b c old m bytes → MakesFile X N p b c (blocks X N p (File m bytes)) m (fitting p (rewritten what x bytes)) r)
+        → MakesFile X N p a c (blocks X N p (Dir es)) (kept_meta (child name es)) (fitting_bytes p what x led (child name es)) r
     new-made folder old what x led name es r o start makes = by (begun what led (child name es)) start
       where
-        by : (w : Result (List ℕ) Refused) → MakesFile X N p a b (blocks X N p (Dir es)) w (Ok old)
-            → MakesFile X N p a c (blocks X N p (Dir es)) (and_then (and_then w (λ bytes. Ok (rewritten what x bytes))) (fitting p)) r
+        by : (w : Result (List ℕ) Refused) → MakesFile X N p a b (blocks X N p (Dir es)) (kept_meta (child name es)) w (Ok old)
+            → MakesFile X N p a c (blocks X N p (Dir es)) (kept_meta (child name es)) (and_then (and_then w (λ bytes. Ok (rewritten what x bytes))) (fitting p)) r
         by (Err why) h = absurd h
-        by (Ok bytes) h = later-file a b c _ _ (fitting p (rewritten what x bytes)) r h.after (makes bytes (begun-over folder old es bytes o h))
+        by (Ok bytes) h = later-file a b c _ _ (kept_meta (child name es)) (fitting p (rewritten what x bytes)) r h.after (makes (kept_meta (child name es)) bytes (begun-over folder old es (kept_meta (child name es)) bytes o h))
 
     pub new-touches : (folder old : Entry) (what : FileEdit) (x : List ℕ) (rows : ℕ → ℕ) (led : ℕ) (name : List ℕ) (es : Entries) (t0 t1 t2 : ℕ) → IsFolderOver X N p a c [] folder es
-        → MakesFile X N p a b (blocks X N p (Dir es)) (begun what led (child name es)) (Ok old) → t1 ≤ t0 + 1
-        → ((bytes : List ℕ) → IsFileOver X N p b c old bytes → t2 ≤ t1 + rewriting_touches p rows what x bytes)
-        → t2 ≤ t0 + (1 + file_touches p rows what x (child name es))
+        → MakesFile X N p a b (blocks X N p (Dir es)) (kept_meta (child name es)) (begun what led (child name es)) (Ok old) → t1 ≤ t0 + 2
+        → ((m : Meta) (bytes : List ℕ) → IsFileOver X N p b c old m bytes → t2 ≤ t1 + rewriting_touches p rows what x m bytes)
+        → t2 ≤ t0 + (2 + file_touches p rows what x (child name es))
     new-touches folder old what x rows led name es t0 t1 t2 o start first takes = by (begun what led (child name es)) refl start
       where
         by : (w : Result (List ℕ) Refused) → begun what led (child name es) ≡ w
-            → MakesFile X N p a b (blocks X N p (Dir es)) w (Ok old)
-            → t2 ≤ t0 + (1 + file_touches p rows what x (child name es))
+            → MakesFile X N p a b (blocks X N p (Dir es)) (kept_meta (child name es)) w (Ok old)
+            → t2 ≤ t0 + (2 + file_touches p rows what x (child name es))
         by (Err why) is h = absurd h
         by (Ok bytes) is h =
-            let r = takes bytes (begun-over folder old es bytes o h) in
-            subst (λ (w : Result (List ℕ) Refused). t2 ≤ t0 + (1 + touches-of p rows what x w)) (sym (begun-anyhow what led (child name es) bytes is)) (omega (arith, first, r))
+            let r = takes (kept_meta (child name es)) bytes (begun-over folder old es (kept_meta (child name es)) bytes o h) in
+            subst (λ (w : Result (List ℕ) Refused). t2 ≤ t0 + (2 + touches-of p rows what x (kept_meta (child name es)) w)) (sym (begun-anyhow what led (child name es) bytes is)) (omega (arith, first, r))
 
   -- ---- the file put into its folder
 
   -- a file that isn't made stops the edit
   pub member-stopped : (a b : Seen) (what : FileEdit) (x : List ℕ) (led : ℕ) (name : List ℕ) (es : Entries) (s : Stop)
-      → MakesFile X N p a b (blocks X N p (Dir es)) (fitting_bytes p what x led (child name es)) (Err s)
+      → MakesFile X N p a b (blocks X N p (Dir es)) (kept_meta (child name es)) (fitting_bytes p what x led (child name es)) (Err s)
       → EditsAfter X N a.told b.told (blocks X N p (Dir es)) p (allowed X N p (with_fitting p what x led name es)) (Err s)
   member-stopped a b what x led name es s h = by (fitting_bytes p what x led (child name es)) s h
     where
@@ -388,9 +402,9 @@ module _ (X : List ℕ → List ℕ) (N : List ℕ → ℕ) (p : Profile) where
       old = blocks X N p (Dir es)
 
       put : List ℕ → Entries
-      put n = with_child name (File n) es
+      put n = with_child name (File (kept_meta (child name es)) n) es
 
-      by : (w : Result (List ℕ) Refused) (s : Stop) → MakesFile X N p a b old w (Err s)
+      by : (w : Result (List ℕ) Refused) (s : Stop) → MakesFile X N p a b old (kept_meta (child name es)) w (Err s)
           → EditsAfter X N a.told b.told old p (allowed X N p (and_then w (λ n. Ok (put n)))) (Err s)
       by (Ok n) (stop.Refused given) h = absurd h
       by (Ok n) (stop.Store f) h = lost-edit X N p a.told b.told old (allowed X N p (Ok (put n))) f h
@@ -400,47 +414,50 @@ module _ (X : List ℕ → List ℕ) (N : List ℕ → ℕ) (p : Profile) where
   -- the bytes that it has else
   record Makes (a b : Seen) (what : FileEdit) (x : List ℕ) (led : ℕ) (name : List ℕ) (es : Entries) (new : Entry) : Type 0 where
     bytes : List ℕ
-    puts : with_fitting p what x led name es ≡ Ok (with_child name (File bytes) es)
-    is : IsAfter X N a.told b.told (blocks X N p (Dir es)) p new (File bytes)
+    puts : with_fitting p what x led name es ≡ Ok (with_child name (File (kept_meta (child name es)) bytes) es)
+    is : IsAfter X N a.told b.told (blocks X N p (Dir es)) p new (File (kept_meta (child name es)) bytes)
 
   makes : (a b : Seen) (what : FileEdit) (x : List ℕ) (led : ℕ) (name : List ℕ) (es : Entries) (new : Entry)
-      → MakesFile X N p a b (blocks X N p (Dir es)) (fitting_bytes p what x led (child name es)) (Ok new)
+      → MakesFile X N p a b (blocks X N p (Dir es)) (kept_meta (child name es)) (fitting_bytes p what x led (child name es)) (Ok new)
       → Makes a b what x led name es new
   makes a b what x led name es new h = by (fitting_bytes p what x led (child name es)) refl h
     where
       by : (w : Result (List ℕ) Refused) → fitting_bytes p what x led (child name es) ≡ w
-          → MakesFile X N p a b (blocks X N p (Dir es)) w (Ok new) → Makes a b what x led name es new
+          → MakesFile X N p a b (blocks X N p (Dir es)) (kept_meta (child name es)) w (Ok new) → Makes a b what x led name es new
       by (Ok n) is h = record {
         bytes = n;
-        puts = ap (λ (w : Result (List ℕ) Refused). and_then w (λ bytes. Ok (with_child name (File bytes) es))) is;
+        puts = ap (λ (w : Result (List ℕ) Refused). and_then w (λ bytes. Ok (with_child name (File (kept_meta (child name es)) bytes) es))) is;
         is = h;
       }
       by (Err why) is h = absurd h
 
   module _ {Bad Other : Role → List ℕ → Type 0} {fault : Option StoreFault} {a b c : Seen} (before : OnlySaves X Bad None a b) (after : OnlySaves X Other fault b c)
       (folder new : Entry) (what : FileEdit) (x : List ℕ) (led : ℕ) (name : List ℕ) (es : Entries) (o : IsFolderOver X N p a c [] folder es)
-      (made : MakesFile X N p a b (blocks X N p (Dir es)) (fitting_bytes p what x led (child name es)) (Ok new)) where
+      (made : MakesFile X N p a b (blocks X N p (Dir es)) (kept_meta (child name es)) (fitting_bytes p what x led (child name es)) (Ok new)) where
     m : Makes a b what x led name es new
     m = makes a b what x led name es new made
 
-    came : AgreesAfter a.told b.told (blocks X N p (Dir es)) (blocks X N p (File m.bytes) ++ blocks X N p (Dir es))
-    came = beside X N p before after [] (blocks X N p (File m.bytes)) folder es tt o m.is.after
+    abbrev file : Tree
+    file = File (kept_meta (child name es)) m.bytes
 
-    beside-it : IsFolderOver X N p b c (blocks X N p (File m.bytes)) folder es
-    beside-it = over-then X N p before after [] (blocks X N p (File m.bytes)) folder folder es es (are-good X N p (File m.bytes)) o.plan o came
+    came : AgreesAfter a.told b.told (blocks X N p (Dir es)) (blocks X N p file ++ blocks X N p (Dir es))
+    came = beside X N p before after [] (blocks X N p file) folder es tt o m.is.after
+
+    beside-it : IsFolderOver X N p b c (blocks X N p file) folder es
+    beside-it = over-then X N p before after [] (blocks X N p file) folder folder es es (are-good X N p file) o.plan o came
 
     pub member-put : (r : Result Entry Stop)
         → ((t : Tree) → IsPlanOf X N p new t → EditsFolder X N p b c (blocks X N p t) folder (λ es. Ok (with_child name t es)) r)
         → EditsAfter X N a.told c.told (blocks X N p (Dir es)) p (allowed X N p (with_fitting p what x led name es)) r
     member-put r puts = subst (λ (w : Result Entries Refused). EditsAfter X N a.told c.told (blocks X N p (Dir es)) p (allowed X N p w) r) (sym m.puts)
-        (on-over X N p before after [] _ folder es (allowed X N p (Ok (with_child name (File m.bytes) es))) r o came (puts (File m.bytes) m.is.plan es beside-it))
+        (on-over X N p before after [] _ folder es (allowed X N p (Ok (with_child name file es))) r o came (puts file m.is.plan es beside-it))
 
-    pub member-touches : (n t0 t1 t2 : ℕ) → t1 ≤ t0 + (1 + n)
+    pub member-touches : (n t0 t1 t2 : ℕ) → t1 ≤ t0 + (2 + n)
         → ((t : Tree) → IsPlanOf X N p new t → TouchesFolder X N p b c (blocks X N p t) folder (λ es. 17 + crossing X N p (named_entries X N p es) (named_entries X N p (with_child name t es))) t1 t2)
-        → t2 ≤ t0 + (18 + crossings_of X N p (name ∷ []) es (with_fitting p what x led name es) + n)
+        → t2 ≤ t0 + (19 + crossings_of X N p (name ∷ []) es (with_fitting p what x led name es) + n)
     member-touches n t0 t1 t2 first takes =
-        let r = takes (File m.bytes) m.is.plan es beside-it in
-        subst (λ (w : Result Entries Refused). t2 ≤ t0 + (18 + crossings_of X N p (name ∷ []) es w + n)) (sym m.puts) (omega (arith, first, r))
+        let r = takes file m.is.plan es beside-it in
+        subst (λ (w : Result Entries Refused). t2 ≤ t0 + (19 + crossings_of X N p (name ∷ []) es w + n)) (sym m.puts) (omega (arith, first, r))
 
   -- ---- whose blocks are bad
 

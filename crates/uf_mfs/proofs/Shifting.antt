@@ -8,6 +8,7 @@ use Rattle.uf_store.specs.Contents.{Told}
 use Rattle.uf_store.specs.Seen.{Seen}
 use Rattle.uf_tree.specs.declared.nodes.Entry.{Entry}
 use Rattle.uf_tree.specs.declared.profile.Profile.{Profile}
+use Rattle.uf_tree.specs.Metas.{none}
 use Rattle.uf_tree.specs.Tree.{Tree, File, Dir, Entries, Nothing}
 use Rattle.uf_tree.specs.TreePlan.{Refusal, FileTooLong as IsTooLong, Collision as Collides, TooBig as IsTooBig, blocks, refusal}
 use Rattle.uf_plain.specs.declared.change.Change.TheVariants.{Put, Remove}
@@ -60,7 +61,7 @@ module _ (X : List ℕ → List ℕ) (N : List ℕ → ℕ) (p : Profile) where
       → t1 ≤ t0 + (40 * length names + crossings_of X N p names es (edited_at (put_over t) names es))
   put-crossed e t names es t0 t1 h = subst (λ w. t1 ≤ t0 + (40 * length names + crossings_of X N p names es w)) (puts-at e t names es) (omega (arith, h))
 
-  pub taken-crossed : (names : List (List ℕ)) (es : Entries) (t0 t1 : ℕ) → t1 ≤ t0 + (40 * length names + crossings_of X N p names es (changed_at (Remove true) (Dir Nothing) names es) + weighing_at X N p names es)
+  pub taken-crossed : (names : List (List ℕ)) (es : Entries) (t0 t1 : ℕ) → t1 ≤ t0 + (40 * length names + crossings_of X N p names es (changed_at (Remove true) (Dir (Nothing none)) names es) + weighing_at X N p names es)
       → t1 ≤ t0 + (40 * length names + crossings_of X N p names es (removed true names es) + weighing_at X N p names es)
   taken-crossed names es t0 t1 h = subst (λ w. t1 ≤ t0 + (40 * length names + crossings_of X N p names es w + weighing_at X N p names es)) (removes-at true names es) h
 
@@ -86,8 +87,8 @@ module _ (X : List ℕ → List ℕ) (N : List ℕ → ℕ) (p : Profile) where
 
   -- the entry of what was found is that of its tree
   pub thing-plan : (told : Told) (t : Tree) (thing : Thing) → IsAgreedThing X N told p t thing → IsPlanOf X N p (entry_in thing) t
-  thing-plan told (File bytes) (FileAt e size) h = h.0.plan
-  thing-plan told (File bytes) (FolderAt e links) h = absurd h
+  thing-plan told (File m bytes) (FileAt e size) h = h.0.plan
+  thing-plan told (File m bytes) (FolderAt e root) h = absurd h
   thing-plan told (Dir es) (FileAt e size) h = absurd h
   thing-plan told (Dir es) (FolderAt e links) h = h.0.plan
 

@@ -31,6 +31,7 @@ use Rattle.uf_mfs.specs.declared.fault.MfsFault.TheVariants as fault
 use Rattle.uf_mfs.specs.declared.fault.Stop.{Stop}
 use Rattle.uf_mfs.specs.declared.fault.Stop.TheVariants as stop
 use Rattle.uf_mfs.specs.declared.target.Target.{Target}
+use Rattle.uf_mfs.specs.declared.thing.FolderRoot.{FolderRoot}
 use Rattle.uf_mfs.specs.declared.thing.Thing.{Thing}
 use Rattle.uf_mfs.specs.declared.thing.Thing.TheVariants.{File as FileAt, Folder as FolderAt}
 use Rattle.uf_mfs.specs.Answers.{MeetsOr, Tells}
@@ -112,16 +113,16 @@ meets-among told k l P (Err why) (Err (stop.Store f)) more h = loss-among told k
 
 -- what has to be a folder, and is one or a file
 module _ (X : List ℕ → List ℕ) (N : List ℕ → ℕ) (told : Told) (p : Profile) (May : StoreFault → Type 0) where
-  pub folder-found : (w : Result Tree Refused) (n : ℕ) (e : Entry) (links : Option ℕ) → MeetsOr May (λ t x. IsAgreedThing X N told p t x) w (Ok (FolderAt e links))
+  pub folder-found : (w : Result Tree Refused) (n : ℕ) (e : Entry) (links : Option FolderRoot) → MeetsOr May (λ t x. IsAgreedThing X N told p t x) w (Ok (FolderAt e links))
       → MeetsOr May (λ fs e. IsAgreed X N told p e (Dir fs)) (and_then w (λ t. as_folder n (Some t))) (Ok e)
   folder-found (Err why) n e links h = absurd h
-  folder-found (Ok (File bytes)) n e links h = absurd h
+  folder-found (Ok (File m bytes)) n e links h = absurd h
   folder-found (Ok (Dir fs)) n e links h = h.0
 
   pub folder-file : {B : Type 0} (Q : Entries → B → Type 0) (w : Result Tree Refused) (n : ℕ) (e : Entry) (size : FileSize) → MeetsOr May (λ t x. IsAgreedThing X N told p t x) w (Ok (FileAt e size))
       → MeetsOr May Q (and_then w (λ t. as_folder n (Some t))) (Err (stop.Refused (NotADirectory n)))
   folder-file Q (Err why) n e size h = absurd h
-  folder-file Q (Ok (File bytes)) n e size h = refl
+  folder-file Q (Ok (File m bytes)) n e size h = refl
   folder-file Q (Ok (Dir fs)) n e size h = absurd h
 
 -- ---- what a call shows
@@ -166,7 +167,7 @@ module _ (X : List ℕ → List ℕ) (N : List ℕ → ℕ) (p : Profile) where
     where
       by : (w : Result Tree Refused) → at 0 names (Dir es) ≡ w → and_then w (λ t. as_folder (length names) (Some t)) ≡ Ok fs → AllByRecursion P (blocks X N p (Dir fs))
       by (Err why) there is = absurd cc
-      by (Ok (File bytes)) there is = absurd cc
+      by (Ok (File m bytes)) there is = absurd cc
       by (Ok (Dir gs)) there is = at-among X N p 0 names (Dir es) (Dir fs) (there ∙ ap (λ (es : Entries). Ok (Dir es)) (let same : gs ≡ fs = cc in same)) P h
 
   -- a folder that isn't found stops what looks for something in it
@@ -215,7 +216,7 @@ front-last xs x some is = last-at (length xs - 1) xs x (omega (arith, some)) is
 -- a lookup of more names
 at-more : (led : ℕ) (a b : List (List ℕ)) (t : Tree) → at led (a ++ b) t ≡ and_then (at led a t) (λ u. at (led + length a) b u)
 at-more led [] b t = ap (λ k. at k b t) (omega arith)
-at-more led (n ∷ a) b (File bytes) = refl
+at-more led (n ∷ a) b (File m bytes) = refl
 at-more led (n ∷ a) b (Dir es) = by (λ t. at-more (led + 1) a b t) (child n es)
   where
     by : ((t : Tree) → at (led + 1) (a ++ b) t ≡ and_then (at (led + 1) a t) (λ u. at (led + 1 + length a) b u)) → (o : Option Tree)
@@ -239,7 +240,7 @@ at-last folder last es = at-more 0 folder (last ∷ []) (Dir es) ∙ ap (λ k. a
 
     by : (w : Result Tree Refused) → and_then w (λ u. at (length folder) (last ∷ []) u) ≡ and_then (and_then w (λ t. as_folder (length folder) (Some t))) (λ fs. found_under (length folder + 1) (child last fs))
     by (Err why) = refl
-    by (Ok (File bytes)) = refl
+    by (Ok (File m bytes)) = refl
     by (Ok (Dir fs)) = one (child last fs)
 
 module _ (dest : Path) (last name : List ℕ) (es : Entries) (out : dest.into ≡ false) (some : 1 ≤ length dest.names) (is : last ≡ get_or dest.names (length dest.names - 1) last) where
@@ -306,7 +307,7 @@ module _ (X : List ℕ → List ℕ) (N : List ℕ → ℕ) (p : Profile) (told 
     where
       none : (o : Option Tree) (m : Option Thing) → None ≡ folder_there m → IsAgreedMember X N told p o m → is_folder_at (found_under (length (front_names dest last name es out some is) + 1) o) ≡ false
       none None m same i = refl
-      none (Some (File bytes)) m same i = refl
+      none (Some (File meta bytes)) m same i = refl
       none (Some (Dir gs)) None same i = absurd i
       none (Some (Dir gs)) (Some (FileAt e size)) same i = absurd i
       none (Some (Dir gs)) (Some (FolderAt e links)) same i = absurd cc
@@ -329,8 +330,8 @@ module _ (X : List ℕ → List ℕ) (N : List ℕ → ℕ) (p : Profile) (told 
       folder-under None None is i = absurd cc
       folder-under None (Some thing) is i = absurd i
       folder-under (Some t) None is i = absurd i
-      folder-under (Some (File bytes)) (Some (FileAt f size)) is i = absurd cc
-      folder-under (Some (File bytes)) (Some (FolderAt f links)) is i = absurd i
+      folder-under (Some (File meta bytes)) (Some (FileAt f size)) is i = absurd cc
+      folder-under (Some (File meta bytes)) (Some (FolderAt f links)) is i = absurd i
       folder-under (Some (Dir gs)) (Some (FileAt f size)) is i = absurd i
       folder-under (Some (Dir gs)) (Some (FolderAt f links)) is i = (gs, refl, subst (λ (e : Entry). IsAgreed X N told p e (Dir gs)) (let same : f ≡ e = cc in same) i.0)
 

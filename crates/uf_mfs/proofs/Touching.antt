@@ -12,6 +12,7 @@ use Rattle.uf_store.proofs.Calls.{saves-saves}
 use Rattle.uf_tree.specs.declared.nodes.Entry.{Entry}
 use Rattle.uf_tree.specs.declared.profile.Profile.{Profile}
 use Rattle.uf_tree.specs.Names.{names_cmp}
+use Rattle.uf_tree.specs.Metas.{none}
 use Rattle.uf_tree.specs.Tree.{Tree, File, Dir, Entries, Nothing, pairs}
 use Rattle.uf_tree.specs.TreePlan.{blocks, named_entries}
 use Rattle.uf_tree.proofs.ShardLaws.{names_total}
@@ -30,15 +31,16 @@ use Rattle.uf_mfs.proofs.After.{back-among, stays-some}
 use Rattle.uf_mfs.proofs.Folders.{below-over, beside, over-first, over-then, step-edit}
 use Rattle.uf_mfs.proofs.Hinge.{are-good}
 use Rattle.uf_mfs.proofs.Moving.{allowed-ok}
+use Rattle.uf_plain.proofs.Kept.{pairs-with}
 
 -- what was put under a name is there
-child-put : (name : List ℕ) (t : Tree) (es : Entries) → child name (with_child name t es) ≡ Some t
+pub child-put : (name : List ℕ) (t : Tree) (es : Entries) → child name (with_child name t es) ≡ Some t
 child-put name t es =
-    ap (find names_cmp name) (pairs-entries (put names_cmp name t (pairs es))) ∙ find-put names_cmp names_total name name t (pairs es)
+    ap (find names_cmp name) (pairs-with name t es) ∙ find-put names_cmp names_total name name t (pairs es)
     ∙ ap (λ (b : Bool). cond b (Some t) (find names_cmp name (pairs es))) ((eq_by_cmp_equiv names_total).refl name)
 
-entries-put : (name : List ℕ) (new es : Entries) → entries_at name (with_child name (Dir new) es) ≡ new
-entries-put name new es = ap (λ (o : Option Tree). elim o as (λ o. Entries) [ None ↦ Nothing | Some t ↦ entries_in t ]) (child-put name (Dir new) es)
+pub entries-put : (name : List ℕ) (new es : Entries) → entries_at name (with_child name (Dir new) es) ≡ new
+entries-put name new es = ap (λ (o : Option Tree). elim o as (λ o. Entries) [ None ↦ Nothing none | Some t ↦ entries_in t ]) (child-put name (Dir new) es)
 
 -- ---- calls that read
 
@@ -140,16 +142,16 @@ module _ (X : List ℕ → List ℕ) (N : List ℕ → ℕ) (p : Profile) where
   weighs-on (Remove recursive) name next more es below is = subst (λ (x : Entries). weighing_at X N p (next ∷ more) below ≤ weighing_at X N p (next ∷ more) x) (sym is) (omega arith)
 
   abbrev under : Option Tree → Entries
-  under o = elim o as (λ o. Entries) [ None ↦ Nothing | Some t ↦ entries_in t ]
+  under o = elim o as (λ o. Entries) [ None ↦ Nothing none | Some t ↦ entries_in t ]
 
   as-under : (led : ℕ) (o : Option Tree) (below : Entries) → as_folder led o ≡ Ok below → under o ≡ below
   as-under led None below is = absurd cc
-  as-under led (Some (File bytes)) below is = absurd cc
+  as-under led (Some (File m bytes)) below is = absurd cc
   as-under led (Some (Dir fs)) below is = (let same : fs ≡ below = cc in same)
 
   new-under : (led : ℕ) (o : Option Tree) (below : Entries) → or_new led o ≡ Ok below → under o ≡ below
-  new-under led None below is = (let same : Nothing ≡ below = cc in same)
-  new-under led (Some (File bytes)) below is = absurd cc
+  new-under led None below is = (let same : Nothing none ≡ below = cc in same)
+  new-under led (Some (File m bytes)) below is = absurd cc
   new-under led (Some (Dir fs)) below is = (let same : fs ≡ below = cc in same)
 
   pub folder-leads : (what : Change) (led : ℕ) (name next : List ℕ) (more : List (List ℕ)) (es below : Entries) → as_folder led (child name es) ≡ Ok below

@@ -1,8 +1,10 @@
+pub mod Acts
 pub mod Answers
 pub mod Bad
 pub mod Moving
 pub mod Opening
 pub mod Reading
+pub mod Remade
 pub mod Standing
 pub mod Steps
 pub mod Touches

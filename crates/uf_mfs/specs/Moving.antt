@@ -62,13 +62,13 @@ IsInside source names (fault.Store f) = f ≡ Memory
 -- the entry of what is at a path
 abbrev pub entry_in : Thing → Entry
 entry_in (FileAt e size) = e
-entry_in (FolderAt e links) = e
+entry_in (FolderAt e seen) = e
 
 -- the entry of what is there, where that is a folder
 abbrev pub folder_there : Option Thing → Option Entry
 folder_there None = None
 folder_there (Some (FileAt e size)) = None
-folder_there (Some (FolderAt e links)) = Some e
+folder_there (Some (FolderAt e seen)) = Some e
 
 -- this may be put where that is: a file over a file, and anything where nothing is
 abbrev pub replaces : Thing → Option Thing → Bool

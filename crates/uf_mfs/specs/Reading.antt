@@ -1,5 +1,5 @@
 -- A file of the tree read.
-use Rattle.std.specs.Prelude.{◌≡◌, ◌⊎◌, ◌<◌, ◌+◌, ◌*◌, ◌-◌, ◌^◌, ℕ, List, [], length}
+use Rattle.std.specs.Prelude.{◌≡◌, ◌⊎◌, ◌<◌, ◌+◌, ◌*◌, ◌-◌, ◌^◌, ℕ, List, [], length, max}
 use Rattle.std.specs.declared.option.Option.TheVariants.{None}
 use Rattle.std.specs.declared.result.Result.{Result}
 use Rattle.std.specs.declared.result.Result.TheVariants.{Ok, Err}
@@ -15,8 +15,9 @@ use Rattle.uf_store.specs.declared.store.Role.{Role}
 use Rattle.uf_store.specs.Contents.{Told}
 use Rattle.uf_store.specs.Faults.{Shows, StaysCalm}
 use Rattle.uf_store.specs.Seen.{Seen}
+use Rattle.uf_tree.specs.declared.meta.Meta.{Meta}
 use Rattle.uf_tree.specs.declared.profile.Profile.{Profile}
-use Rattle.uf_tree.specs.FileSub.{IsHeight}
+use Rattle.uf_tree.specs.FileSub.{IsFileHeight, IsHeight, lowest}
 use Rattle.uf_tree.specs.Tree.{Tree, File, Dir}
 use Rattle.uf_plain.specs.declared.rule.Refused.{Refused}
 use Rattle.uf_mfs.specs.declared.fault.MfsFault.{MfsFault}
@@ -33,23 +34,28 @@ abbrev pub CanRise : ℕ → Type 0
 CanRise count = count < 2 ^ 64 - 1
 
 -- the height is that of a file, where there is one
-abbrev pub IsHeightOf : Profile → ℕ → Result (List ℕ) Refused → Type 0
-IsHeightOf p height (Ok bytes) = IsHeight p.chunk p.width (length bytes) height
+abbrev pub IsHeightOf : Profile → ℕ → Result Tree Refused → Type 0
+IsHeightOf p height (Ok (File m bytes)) = IsFileHeight p.chunk p.width m (length bytes) height
+IsHeightOf p height (Ok (Dir es)) = Unit {0}
 IsHeightOf p height (Err why) = Unit {0}
 
 -- the blocks that a range of a file of this height needs
 abbrev pub range_needs : (List ℕ → List ℕ) → Profile → (height offset count : ℕ) → Tree → List Held
-range_needs X p height offset count (File bytes) = blocks_read X p.chunk p.width height offset count bytes
+range_needs X p height offset count (File m bytes) = blocks_read X p.chunk p.width m height offset count bytes
 range_needs X p height offset count (Dir es) = []
 
--- so many rows of nodes has a file of so many bytes
+-- so many rows of nodes has a file of so many bytes, where it has no metadata
 abbrev pub AreHeights : Profile → (ℕ → ℕ) → Type 0
 AreHeights p rows = (n : ℕ) → IsHeight p.chunk p.width n (rows n)
 
+-- the same where it has this metadata, which stands in a node
+abbrev pub rows_with : (ℕ → ℕ) → Meta → ℕ → ℕ
+rows_with rows m n = max (lowest m) (rows n)
+
 -- how often a range of a file touches the store at most, by the pieces that it meets and the file's rows
 abbrev pub range_touches : Profile → (ℕ → ℕ) → (offset count : ℕ) → Tree → ℕ
-range_touches p rows offset count (File bytes) =
-    2 * (pieces_met p.chunk offset count bytes + 2) * (rows (length bytes) + 2)
+range_touches p rows offset count (File m bytes) =
+    2 * (pieces_met p.chunk offset count bytes + 2) * (rows_with rows m (length bytes) + 2)
 range_touches p rows offset count (Dir es) = 0
 
 -- all of these bytes are behind what the sink held, and so many they are

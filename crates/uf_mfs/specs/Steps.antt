@@ -92,7 +92,7 @@ opened (Err given) = Err given
 -- what was found under a name: a folder that is there, or a new one where the name is free
 abbrev pub IsOpened : (List ℕ → List ℕ) → (List ℕ → ℕ) → Told → Profile → Option Tree → Entry × Bool → Type 0
 IsOpened X N told p None found = found.1 ≡ true
-IsOpened X N told p (Some (File bytes)) found = ⊥
+IsOpened X N told p (Some (File m bytes)) found = ⊥
 IsOpened X N told p (Some (Dir below)) found = (found.1 ≡ false) × IsAgreed X N told p found.0 (Dir below)
 
 -- the folder below, where it is new or was changed

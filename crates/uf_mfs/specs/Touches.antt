@@ -11,6 +11,7 @@ use Rattle.uf_store.specs.Seen.{Seen}
 use Rattle.uf_tree.specs.declared.nodes.Entry.{Entry}
 use Rattle.uf_tree.specs.declared.profile.Profile.{Profile}
 use Rattle.uf_tree.specs.Tree.{Tree, File, Dir, Entries, Nothing, pairs}
+use Rattle.uf_tree.specs.Metas.{none}
 use Rattle.uf_tree.specs.TreePlan.{named_entries}
 use Rattle.uf_dir.specs.Bounds.{crossing, weighing_from}
 use Rattle.uf_plain.specs.declared.change.Change.{Change}
@@ -41,7 +42,7 @@ pub record CountsUp (fault : Option StoreFault) (before now : ℕ) : Type 0 wher
 abbrev pub unseen : Thing → ℕ
 unseen (FileAt e size) = 0
 unseen (FolderAt e None) = 1
-unseen (FolderAt e (Some links)) = 0
+unseen (FolderAt e (Some root)) = 0
 
 -- the same of what some names lead to from this thing
 abbrev pub unseen_after : List (List ℕ) → Thing → ℕ
@@ -50,7 +51,7 @@ unseen_after (name ∷ names) thing = 0
 
 -- the entries of a directory
 abbrev pub entries_in : Tree → Entries
-entries_in (File bytes) = Nothing
+entries_in (File m bytes) = Nothing none
 entries_in (Dir es) = es
 
 -- the members of a directory, none of a file
@@ -59,7 +60,7 @@ members_in t = pairs (entries_in t)
 
 -- the entries of the directory under a name, none where there is no such directory
 abbrev pub entries_at : List ℕ → Entries → Entries
-entries_at name es = elim (child name es) [ None ↦ Nothing | Some t ↦ entries_in t ]
+entries_at name es = elim (child name es) [ None ↦ Nothing none | Some t ↦ entries_in t ]
 
 -- a call that reads at these names: a few touches for each, and those that what is there takes
 abbrev pub read_bound : (Tree → ℕ) → List (List ℕ) → Tree → ℕ
@@ -80,7 +81,7 @@ module _ (X : List ℕ → List ℕ) (N : List ℕ → ℕ) (p : Profile) where
   -- the weighing of the directory that loses the last of these names
   abbrev pub weighing_at : List (List ℕ) → Entries → ℕ
   weighing_at [] es = 0
-  weighing_at (name ∷ []) es = weighing_from X N p (named_entries X N p es)
+  weighing_at (name ∷ []) es = weighing_from X N p name (named_entries X N p es)
   weighing_at (name ∷ next ∷ names) es = weighing_at (next ∷ names) (entries_at name es)
 
   -- of an edit: only a removal weighs

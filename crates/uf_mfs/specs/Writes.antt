@@ -18,6 +18,7 @@ use Rattle.uf_store.specs.Keeping.{StaysAgreed}
 use Rattle.uf_store.specs.Lost.{IsLossOf}
 use Rattle.uf_store.specs.Seen.{Seen}
 use Rattle.uf_tree.specs.declared.nodes.Entry.{Entry}
+use Rattle.uf_tree.specs.declared.meta.Meta.{Meta}
 use Rattle.uf_tree.specs.declared.profile.Profile.{Profile}
 use Rattle.uf_tree.specs.Profiles.{most_bytes}
 use Rattle.uf_tree.specs.Tree.{Tree, File, Entries}
@@ -27,13 +28,15 @@ use Rattle.uf_plain.specs.declared.file.FileEdit.TheVariants.{Write, Truncate}
 use Rattle.uf_plain.specs.declared.rule.Refused.{Refused}
 use Rattle.uf_plain.specs.declared.rule.Refused.TheVariants as why
 use Rattle.uf_plain.specs.Edits.{and_then, child, edited, with_child}
-use Rattle.uf_plain.specs.Files.{begun, file_edited, fitting, new_bytes, rewritten}
+use Rattle.uf_plain.specs.Files.{begun, file_edited, fitting, kept_meta, new_bytes, rewritten}
 use Rattle.uf_mfs.specs.declared.fault.Stop.{Stop}
 use Rattle.uf_mfs.specs.declared.fault.Stop.TheVariants as stop
+use Rattle.uf_mfs.specs.declared.writing.Start.{Start}
+use Rattle.uf_mfs.specs.declared.writing.Start.TheVariants.{Empty, There}
 use Rattle.uf_mfs.specs.Answers.{MeetsOr}
 use Rattle.uf_mfs.specs.Bad.{IsBadInTree}
 use Rattle.uf_mfs.specs.Standing.{IsAfter, IsAgreed, IsPlanOf}
-use Rattle.uf_mfs.specs.Reading.{AreHeights}
+use Rattle.uf_mfs.specs.Reading.{AreHeights, rows_with}
 use Rattle.uf_mfs.specs.Steps.{EditsFolder}
 use Rattle.uf_mfs.specs.Touches.{TouchesFolder, crossings_of, entries_at, touch_bound}
 
@@ -75,7 +78,8 @@ fitting_bytes p what piece led o = and_then (new_bytes what piece led o) (fittin
 -- what an edit of a file does in its folder, where the new bytes fit
 abbrev pub with_fitting : Profile → FileEdit → List ℕ → ℕ → List ℕ → Entries → Result Entries Refused
 with_fitting p what piece led name es =
-    and_then (fitting_bytes p what piece led (child name es)) (λ bytes. Ok (with_child name (File bytes) es))
+    let o = child name es in
+    and_then (fitting_bytes p what piece led o) (λ bytes. Ok (with_child name (File (kept_meta o) bytes) es))
 
 -- the folder after an edit of the file at these names, where the new bytes fit, before its plan is looked at
 abbrev pub fitting_edit : Profile → FileEdit → List ℕ → List (List ℕ) → Entries → Result Entries Refused
@@ -94,37 +98,39 @@ abbrev pub changed_chunks : Profile → FileEdit → List ℕ → List ℕ → �
 changed_chunks p (Write how) piece bytes = written_chunks p.chunk (length bytes) how.offset (length piece)
 changed_chunks p (Truncate size) piece bytes = cut_chunks p.chunk (length bytes) size
 
--- how often an edit of a file of these bytes touches the store at most, by the chunks that it changes and the rows of
--- the old or the new file, the greater; not at all where the new one is too long
-abbrev pub rewriting_touches : Profile → (ℕ → ℕ) → FileEdit → List ℕ → List ℕ → ℕ
-rewriting_touches p rows what piece bytes =
+-- how often an edit of a file of this metadata and these bytes touches the store at most, by the chunks that it changes
+-- and the rows of the old or the new file, the greater; not at all where the new one is too long
+abbrev pub rewriting_touches : Profile → (ℕ → ℕ) → FileEdit → List ℕ → Meta → List ℕ → ℕ
+rewriting_touches p rows what piece m bytes =
     let new = length (rewritten what piece bytes) in
     if nat_lt (most_bytes p) new then 0
-    else edit_touches (changed_chunks p what piece bytes) (max (rows (length bytes)) (rows new))
+    else edit_touches (changed_chunks p what piece bytes) (max (rows_with rows m (length bytes)) (rows_with rows m new))
 
 -- the same of what is under the file's name, none where that is refused
 abbrev pub file_touches : Profile → (ℕ → ℕ) → FileEdit → List ℕ → Option Tree → ℕ
 file_touches p rows what piece o =
-    elim (begun what 0 o) [ Ok bytes ↦ rewriting_touches p rows what piece bytes | Err why ↦ 0 ]
+    elim (begun what 0 o) [ Ok bytes ↦ rewriting_touches p rows what piece (kept_meta o) bytes | Err why ↦ 0 ]
 
 module _ (X : List ℕ → List ℕ) (N : List ℕ → ℕ) (told : Told) (p : Profile) where
-  -- what an edit of this member begins with: the entry of the file of these bytes that it is, or none, and then they
-  -- are none
-  abbrev pub IsStart : Option Tree → List ℕ → Option Entry → Type 0
-  IsStart o bytes None = bytes ≡ []
-  IsStart o bytes (Some e) = (o ≡ Some (File bytes)) × IsAgreed X N told p e (File bytes)
+  -- what an edit of this member begins with: the file of these bytes that it is, or no bytes and the metadata that
+  -- stays
+  abbrev pub IsStart : Option Tree → List ℕ → Start → Type 0
+  IsStart o bytes (Empty m) = (bytes ≡ []) × (m ≡ kept_meta o)
+  IsStart o bytes (There e) = let file = File (kept_meta o) bytes in (o ≡ Some file) × IsAgreed X N told p e file
 
 module _ (X : List ℕ → List ℕ) (N : List ℕ → ℕ) (p : Profile) (before now : Seen) where
-  -- the entry is that of the file of these bytes, the store agrees with its blocks before and after, and it stayed calm
-  pub record IsFileOver (e : Entry) (bytes : List ℕ) : Type 0 where
-    pub plan : IsPlanOf X N p e (File bytes)
-    pub stays : StaysAgreed before.told now.told (blocks X N p (File bytes))
+  -- the entry is that of the file of this metadata and these bytes, the store agrees with its blocks before and after,
+  -- and it stayed calm
+  pub record IsFileOver (e : Entry) (m : Meta) (bytes : List ℕ) : Type 0 where
+    pub plan : IsPlanOf X N p e (File m bytes)
+    pub stays : StaysAgreed before.told now.told (blocks X N p (File m bytes))
     pub calm : Calm before now
 
-  -- over these old blocks: the file of these bytes, or what refuses it, or one of the old blocks is lost
-  abbrev pub MakesFile : List Held → Result (List ℕ) Refused → Result Entry Stop → Type 0
-  MakesFile old bytes result = MeetsOr (IsLossOf before.told old)
-      (λ bytes e. IsAfter X N before.told now.told old p e (File bytes)) bytes result
+  -- over these old blocks: the file of this metadata and these bytes, or what refuses it, or one of the old blocks is
+  -- lost
+  abbrev pub MakesFile : List Held → Meta → Result (List ℕ) Refused → Result Entry Stop → Type 0
+  MakesFile old m bytes result = MeetsOr (IsLossOf before.told old)
+      (λ bytes e. IsAfter X N before.told now.told old p e (File m bytes)) bytes result
 
   -- an edit of the file that these names lead to from the root
   abbrev pub EditsFileAt : FileEdit → List ℕ → (root : Entry) → List (List ℕ) → Result Entry Stop → Type 0

@@ -17,7 +17,7 @@ ghost use Rattle.uf_mfs.specs.Standing.{IsMeant, IsMfs, StandsAt, StandsOver, br
 ghost use Rattle.uf_mfs.specs.Steps.{EditsFolder, MovesTree, changed_at, refused_root, stop_fault, tree_fault};
 ghost use Rattle.uf_mfs.specs.Touches.{CountsUp, TouchesFolder, crossings_of, touch_bound, weighing_at, weighing_of};
 
-use crate::editing::{Site, edit, fill};
+use crate::editing::{Act, Site, edit, fill};
 use crate::telling::fault_of;
 use crate::{Mfs, MfsFault, Stop};
 use std::alloc::Global;
@@ -224,10 +224,11 @@ impl Mfs {
         };
         let site = Site {
             profile: self.profile,
-            what,
+            what: Act::Change(what),
+            piece: &[],
             led: 0,
         };
-        edit::<S, N, L>(alloc, store, site, name, rest, &self.root, touches)
+        edit::<S, N, L>(alloc, store, &site, name, rest, &self.root, touches)
     }
 }
 

@@ -5,9 +5,9 @@ ghost use Rattle.uf_edge.specs.Streams.{AppendsPrefix};
 ghost use Rattle.uf_store.specs.Calls.{OnlyReads};
 ghost use Rattle.uf_store.specs.Lost.{IsLossOf};
 ghost use Rattle.uf_tree.specs.declared.profile.Profile.{Profile as TheProfile};
-ghost use Rattle.uf_tree.specs.Tree.{Dir, Entries, File};
+ghost use Rattle.uf_tree.specs.Tree.{Dir, Entries};
 ghost use Rattle.uf_plain.specs.Edits.{at};
-ghost use Rattle.uf_plain.specs.Files.{plain_bytes_at, read as range_at};
+ghost use Rattle.uf_plain.specs.Files.{file_at, read as range_at};
 ghost use Rattle.uf_plain.specs.Needs.{needs_at, way};
 ghost use Rattle.uf_mfs.specs.Answers.{Answers, AnswersOr, MeetsOr};
 ghost use Rattle.uf_fileread.specs.Ranges.{AppendsAtMost};
@@ -52,7 +52,7 @@ impl Mfs {
             (range_at offset count path.now.names es) result }
         ensures lost { (p : TheProfile) (es : Entries) (height : ℕ)
             → StandsOver S.X.block32 N.name64 (S.seen store.old).told self.now p es
-            → IsHeightOf p height (plain_bytes_at path.now.names es)
+            → IsHeightOf p height (at 0 path.now.names (Dir es))
             → Stood (S.seen store.old).faults (S.seen store.new).faults → result ≢ Err faults.Sink
             → AnswersOr (IsLossOf (S.seen store.old).told (needs_at S.X.block32 N.name64 p
             (range_needs S.X.block32 p height offset count) path.now.names (Dir es)))
@@ -98,8 +98,7 @@ pub(crate) fn look_at_file<S: Store, N: NameHash, L: Ledger>(
         → IsAgreed S.X.block32 N.name64 (S.seen store.old).told p root.now (Dir es)
         → Stood (S.seen store.old).faults (S.seen store.new).faults
         → MeetsOr (IsLossOf (S.seen store.old).told (way S.X.block32 N.name64 p names.now (Dir es)))
-        (λ bytes e. IsAgreed S.X.block32 N.name64 (S.seen store.old).told p e (File bytes))
-        (plain_bytes_at names.now es) result }
+        (λ t e. IsAgreed S.X.block32 N.name64 (S.seen store.old).told p e t) (file_at names.now es) result }
     ensures touches { touches.new ≤ touches.old + 11 * length names.now }
     ensures reads { OnlyReads S.X.block32 (IsBadInTree S.X.block32 N.name64 None root.now.cid)
         (stop_fault result) (S.seen store.old) (S.seen store.new) }

@@ -5,12 +5,14 @@ ghost use Rattle.std.specs.declared.option.Option.{Option as TheOption};
 ghost use Rattle.uf_edge.specs.Counts.{Stood};
 ghost use Rattle.uf_store.specs.Contents.{Told};
 ghost use Rattle.uf_tree.specs.declared.profile.Profile.{Profile as TheProfile};
+ghost use Rattle.uf_tree.specs.Metas.{none};
 ghost use Rattle.uf_tree.specs.Names.{is_name};
 ghost use Rattle.uf_tree.specs.Profiles.{is_profile};
 ghost use Rattle.uf_tree.specs.Tree.{Dir, Entries, Nothing, Tree};
 ghost use Rattle.uf_tree.specs.TreePlan.{blocks, named_entries};
 ghost use Rattle.uf_dir.specs.Bounds.{crossing, weighing_from};
 ghost use Rattle.uf_dir.specs.Roots.{IsRootCid};
+ghost use Rattle.uf_mfs.specs.Acts.{HasRows, IsActMeant, IsBadActed, act_brought, act_touches, acted, may_act};
 ghost use Rattle.uf_mfs.specs.Answers.{Decides, EditsAfter};
 ghost use Rattle.uf_plain.specs.Rules.{allowed};
 ghost use Rattle.uf_mfs.specs.Bad.{IsBadInTree, RequiresDirectory};
@@ -24,20 +26,29 @@ ghost use Rattle.uf_mfs.specs.Steps.{opened, stop_fault};
 ghost use Rattle.uf_mfs.specs.Touches.{CountsUp, TouchesFolder, crossings_of, weighing_of};
 
 use crate::looking::member;
+use crate::writing::new_file;
 use crate::{Stop, Thing};
 use std::alloc::Global;
 use std::sync::ledger::Ledger;
 use uf_dir::{empty, put, remove};
 use uf_murmur::NameHash;
-use uf_plain::{Change, Refused};
+use uf_plain::{Change, FileEdit, Refused};
 use uf_store::{Steps, Store};
 use uf_tree::{Entry, Name, Profile};
 
-/// An edit on its way: how blocks are made, what is done, and how many names led here.
+/// What is done in the folder that all names but the last lead to: a member is changed, or the bytes of a file.
 #[derive(Clone, Copy, PartialEq, Eq)]
-pub(crate) struct Site {
+pub(crate) enum Act {
+    Change(Change),
+    Rewrite(FileEdit),
+}
+
+/// An edit on its way: how blocks are made, what is done, with which piece, and how many names led here.
+#[derive(Clone, Copy, PartialEq, Eq)]
+pub(crate) struct Site<'a> {
     pub profile: Profile,
-    pub what: Change,
+    pub what: Act,
+    pub piece: &'a [u8],
     pub led: usize,
 }
 
@@ -45,27 +56,30 @@ pub(crate) struct Site {
 pub(crate) fn edit<S: Store, N: NameHash, L: Ledger>(
     alloc: Global,
     store: &mut S,
-    site: Site,
+    site: &Site,
     name: &Name,
     rest: &[Name],
     folder: &Entry,
     touches: &mut Steps<L>,
 ) -> Result<Entry, Stop>
-    requires profile { IsTrue (is_profile site.profile) }
-    requires few { site.led + length rest.now + 1 < 2 ^ 64 }
-    ensures edits { (t : Tree) → IsMeant S.X.block32 N.name64 site.profile site.what t
-        → EditsFolder S.X.block32 N.name64 site.profile (S.seen store.old) (S.seen store.new)
-        (brought S.X.block32 N.name64 site.profile site.what t) folder.now
-        (edited (change site.what t) site.led name.now rest.now) result }
-    ensures made { IfOk result (λ e. IsRootCid S.X.block32 (Some site.profile) e.cid) }
-    ensures saves { OnlySaves S.X.block32 (IsBadInTree S.X.block32 N.name64 (Some site.profile) folder.now.cid)
+    requires profile { IsTrue (is_profile site.now.profile) }
+    requires few { site.now.led + length rest.now + 1 < 2 ^ 64 }
+    ensures edits { (t : Tree) → IsActMeant S.X.block32 N.name64 site.now.profile site.now.what t
+        → EditsFolder S.X.block32 N.name64 site.now.profile (S.seen store.old) (S.seen store.new)
+        (act_brought S.X.block32 N.name64 site.now.profile site.now.what t) folder.now
+        (edited (acted site.now.profile site.now.what site.now.piece.now t) site.now.led name.now rest.now) result }
+    ensures made { IfOk result (λ e. IsRootCid S.X.block32 (Some site.now.profile) e.cid) }
+    ensures saves { OnlySaves S.X.block32
+        (IsBadActed S.X.block32 N.name64 site.now.profile (S.seen store.new).told folder.now.cid site.now.what)
         (stop_fault result) (S.seen store.old) (S.seen store.new) }
-    ensures touches { (t : Tree) → IsMeant S.X.block32 N.name64 site.profile site.what t
-        → TouchesFolder S.X.block32 N.name64 site.profile (S.seen store.old) (S.seen store.new)
-        (brought S.X.block32 N.name64 site.profile site.what t) folder.now
-        (λ es. 40 * (length rest.now + 1) + crossings_of S.X.block32 N.name64 site.profile (name.now ∷ rest.now) es
-        (edited (change site.what t) site.led name.now rest.now es)
-        + weighing_of S.X.block32 N.name64 site.profile site.what (name.now ∷ rest.now) es) touches.old touches.new }
+    ensures touches { (t : Tree) (rows : ℕ → ℕ) → IsActMeant S.X.block32 N.name64 site.now.profile site.now.what t
+        → HasRows S.X.block32 N.name64 site.now.profile site.now.what rows
+        → TouchesFolder S.X.block32 N.name64 site.now.profile (S.seen store.old) (S.seen store.new)
+        (act_brought S.X.block32 N.name64 site.now.profile site.now.what t) folder.now
+        (λ es. 40 * (length rest.now + 1) + crossings_of S.X.block32 N.name64 site.now.profile (name.now ∷ rest.now) es
+        (edited (acted site.now.profile site.now.what site.now.piece.now t) site.now.led name.now rest.now es)
+        + act_touches S.X.block32 N.name64 site.now.profile rows site.now.what site.now.piece.now
+        (name.now ∷ rest.now) es) touches.old touches.new }
     ensures touched { CountsUp (stop_fault result) touches.old touches.new }
 {
     let found = member::<S, N, L>(alloc, store, folder, name, touches)?;
@@ -76,9 +90,10 @@ pub(crate) fn edit<S: Store, N: NameHash, L: Ledger>(
     let under = Site {
         profile: site.profile,
         what: site.what,
+        piece: site.piece,
         led: site.led + 1,
     };
-    let entry = edit::<S, N, L>(alloc, store, under, next, more, &below, touches)?;
+    let entry = edit::<S, N, L>(alloc, store, &under, next, more, &below, touches)?;
     put_in::<S, N, L>(alloc, store, &site.profile, folder, name, &entry, touches)
 }
 
@@ -185,56 +200,69 @@ pub(crate) fn folder_of(led: usize, found: Option<Thing>) -> Result<Entry, Refus
 fn edit_here<S: Store, N: NameHash, L: Ledger>(
     alloc: Global,
     store: &mut S,
-    site: Site,
+    site: &Site,
     name: &Name,
     folder: &Entry,
     found: Option<Thing>,
     touches: &mut Steps<L>,
 ) -> Result<Entry, Stop>
-    requires profile { IsTrue (is_profile site.profile) }
-    requires few { site.led + 1 < 2 ^ 64 }
-    ensures edits { (t : Tree) (es : Entries) → IsMeant S.X.block32 N.name64 site.profile site.what t
-        → IsAgreedMember S.X.block32 N.name64 (S.seen store.old).told site.profile (child name.now es) found
-        → IsFolderOver S.X.block32 N.name64 site.profile (S.seen store.old) (S.seen store.new)
-        (brought S.X.block32 N.name64 site.profile site.what t) folder.now es
+    requires profile { IsTrue (is_profile site.now.profile) }
+    requires few { site.now.led + 1 < 2 ^ 64 }
+    ensures edits { (t : Tree) (es : Entries) → IsActMeant S.X.block32 N.name64 site.now.profile site.now.what t
+        → IsAgreedMember S.X.block32 N.name64 (S.seen store.old).told site.now.profile (child name.now es) found
+        → IsFolderOver S.X.block32 N.name64 site.now.profile (S.seen store.old) (S.seen store.new)
+        (act_brought S.X.block32 N.name64 site.now.profile site.now.what t) folder.now es
         → EditsAfter S.X.block32 N.name64 (S.seen store.old).told (S.seen store.new).told
-        (brought S.X.block32 N.name64 site.profile site.what t ++ blocks S.X.block32 N.name64 site.profile (Dir es))
-        site.profile
-        (allowed S.X.block32 N.name64 site.profile (change site.what t (site.led + 1) name.now es)) result }
-    ensures made { IfOk result (λ e. IsRootCid S.X.block32 (Some site.profile) e.cid) }
-    ensures saves { OnlySaves S.X.block32 (IsBadInTree S.X.block32 N.name64 (Some site.profile) folder.now.cid)
+        (act_brought S.X.block32 N.name64 site.now.profile site.now.what t
+        ++ blocks S.X.block32 N.name64 site.now.profile (Dir es)) site.now.profile
+        (allowed S.X.block32 N.name64 site.now.profile
+        (acted site.now.profile site.now.what site.now.piece.now t (site.now.led + 1) name.now es)) result }
+    ensures made { IfOk result (λ e. IsRootCid S.X.block32 (Some site.now.profile) e.cid) }
+    ensures saves { OnlySaves S.X.block32
+        (IsBadActed S.X.block32 N.name64 site.now.profile (S.seen store.new).told folder.now.cid site.now.what)
         (stop_fault result) (S.seen store.old) (S.seen store.new) }
-    ensures touches { (t : Tree) (es : Entries) → IsMeant S.X.block32 N.name64 site.profile site.what t
-        → IsAgreedMember S.X.block32 N.name64 (S.seen store.old).told site.profile (child name.now es) found
-        → IsFolderOver S.X.block32 N.name64 site.profile (S.seen store.old) (S.seen store.new)
-        (brought S.X.block32 N.name64 site.profile site.what t) folder.now es
-        → touches.new ≤ touches.old + (19 + crossings_of S.X.block32 N.name64 site.profile (name.now ∷ []) es
-        (change site.what t (site.led + 1) name.now es)
-        + weighing_of S.X.block32 N.name64 site.profile site.what (name.now ∷ []) es) }
+    ensures touches { (t : Tree) (rows : ℕ → ℕ) (es : Entries)
+        → IsActMeant S.X.block32 N.name64 site.now.profile site.now.what t
+        → HasRows S.X.block32 N.name64 site.now.profile site.now.what rows
+        → IsAgreedMember S.X.block32 N.name64 (S.seen store.old).told site.now.profile (child name.now es) found
+        → IsFolderOver S.X.block32 N.name64 site.now.profile (S.seen store.old) (S.seen store.new)
+        (act_brought S.X.block32 N.name64 site.now.profile site.now.what t) folder.now es
+        → touches.new ≤ touches.old + (19 + crossings_of S.X.block32 N.name64 site.now.profile (name.now ∷ []) es
+        (acted site.now.profile site.now.what site.now.piece.now t (site.now.led + 1) name.now es)
+        + act_touches S.X.block32 N.name64 site.now.profile rows site.now.what site.now.piece.now (name.now ∷ []) es) }
     ensures touched { CountsUp (stop_fault result) touches.old touches.new }
 {
     let led = site.led + 1;
     let profile = &site.profile;
     may(site.what, led, found)?;
     match site.what {
-        Change::Make => make_in::<S, N, L>(alloc, store, profile, folder, name, touches),
-        Change::Put(new) => put_in::<S, N, L>(alloc, store, profile, folder, name, &new, touches),
-        Change::Remove(_) => {
+        Act::Change(Change::Make) => {
+            make_in::<S, N, L>(alloc, store, profile, folder, name, touches)
+        }
+        Act::Change(Change::Put(new)) => {
+            put_in::<S, N, L>(alloc, store, profile, folder, name, &new, touches)
+        }
+        Act::Change(Change::Remove(_)) => {
             take_out::<S, N, L>(alloc, store, profile, led, folder, name, touches)
+        }
+        Act::Rewrite(what) => {
+            let new = new_file::<S, L>(alloc, store, site, what, found, touches)?;
+            put_in::<S, N, L>(alloc, store, profile, folder, name, &new, touches)
         }
     }
 }
 
 // Whether an edit may be done, by what was found under its name.
-fn may(what: Change, led: usize, found: Option<Thing>) -> Result<(), Refused>
+fn may(what: Act, led: usize, found: Option<Thing>) -> Result<(), Refused>
     ensures { (X : List ℕ → List ℕ) (N : List ℕ → ℕ) (told : Told) (p : TheProfile) (o : TheOption Tree)
         → IsAgreedMember X N told p o found
-        → Decides (λ a b. Unit {0}) (may_be what led o) result }
+        → Decides (λ a b. Unit {0}) (may_act what led o) result }
 {
     match what {
-        Change::Make => may_make(led, found),
-        Change::Put(_) => Ok(()),
-        Change::Remove(recursive) => may_take(recursive, led, found),
+        Act::Change(Change::Make) => may_make(led, found),
+        Act::Change(Change::Put(_)) => Ok(()),
+        Act::Change(Change::Remove(recursive)) => may_take(recursive, led, found),
+        Act::Rewrite(_) => Ok(()),
     }
 }
 
@@ -280,14 +308,14 @@ fn make_in<S: Store, N: NameHash, L: Ledger>(
 ) -> Result<Entry, Stop>
     requires profile { IsTrue (is_profile profile.now) }
     ensures edits { EditsFolder S.X.block32 N.name64 profile.now (S.seen store.old) (S.seen store.new) [] folder.now
-        (λ es. Ok (with_child name.now (Dir Nothing) es)) result }
+        (λ es. Ok (with_child name.now (Dir (Nothing none)) es)) result }
     ensures made { IfOk result (λ e. IsRootCid S.X.block32 (Some profile.now) e.cid) }
     ensures saves { OnlySaves S.X.block32 (IsBadInTree S.X.block32 N.name64 (Some profile.now) folder.now.cid)
         (stop_fault result) (S.seen store.old) (S.seen store.new) }
     ensures touches { TouchesFolder S.X.block32 N.name64 profile.now (S.seen store.old) (S.seen store.new) []
         folder.now (λ es. 18 + crossing S.X.block32 N.name64 profile.now
         (named_entries S.X.block32 N.name64 profile.now es)
-        (named_entries S.X.block32 N.name64 profile.now (with_child name.now (Dir Nothing) es)))
+        (named_entries S.X.block32 N.name64 profile.now (with_child name.now (Dir (Nothing none)) es)))
         touches.old touches.new }
     ensures touched { CountsUp (stop_fault result) touches.old touches.new }
 {
@@ -345,7 +373,7 @@ fn take_out<S: Store, N: NameHash, L: Ledger>(
         (stop_fault result) (S.seen store.old) (S.seen store.new) }
     ensures touches { TouchesFolder S.X.block32 N.name64 profile.now (S.seen store.old) (S.seen store.new) []
         folder.now (λ es. 18
-        + weighing_from S.X.block32 N.name64 profile.now (named_entries S.X.block32 N.name64 profile.now es)
+        + weighing_from S.X.block32 N.name64 profile.now name.now (named_entries S.X.block32 N.name64 profile.now es)
         + crossing S.X.block32 N.name64 profile.now (named_entries S.X.block32 N.name64 profile.now es)
         (named_entries S.X.block32 N.name64 profile.now (without_child name.now es))) touches.old touches.new }
     ensures touched { CountsUp (stop_fault result) touches.old touches.new }

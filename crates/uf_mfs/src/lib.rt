@@ -13,6 +13,7 @@ mod mfs;
 mod opening;
 mod placing;
 mod reading;
+mod remaking;
 mod spotting;
 mod target;
 mod telling;
@@ -21,5 +22,5 @@ mod writing;
 
 pub use fault::{MfsFault, Stop};
 pub use mfs::Mfs;
-pub use thing::Thing;
+pub use thing::{FolderRoot, Thing};
 pub use uf_plain::Ready;

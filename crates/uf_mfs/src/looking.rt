@@ -16,7 +16,7 @@ ghost use Rattle.uf_store.specs.Lost.{IsLossOf};
 ghost use Rattle.uf_mfs.specs.Steps.{stop_fault};
 ghost use Rattle.uf_mfs.specs.Touches.{CountsUp, unseen, unseen_after};
 
-use crate::{Stop, Thing};
+use crate::{FolderRoot, Stop, Thing};
 use std::alloc::Global;
 use std::sync::ledger::Ledger;
 use uf_dir::{Kind, find, kind_of};
@@ -103,7 +103,7 @@ pub(crate) fn thing_of<S: Store, N: NameHash, L: Ledger>(
     ensures seen { IfOk result (λ thing. unseen thing ≡ 0) }
 {
     match kind_of(alloc, store, entry, touches)? {
-        Kind::Folder(links) => Ok(Thing::Folder(*entry, Some(links))),
+        Kind::Folder(links, meta) => Ok(Thing::Folder(*entry, Some(FolderRoot { links, meta }))),
         Kind::File(size) => Ok(Thing::File(*entry, size)),
     }
 }

@@ -12,7 +12,7 @@ ghost use Rattle.uf_store.specs.Lost.{ReadsOver};
 ghost use Rattle.uf_mfs.specs.Standing.{IsAgreed, IsAgreedThing};
 ghost use Rattle.uf_mfs.specs.Touches.{CountsUp, unseen};
 
-use crate::Thing;
+use crate::{FolderRoot, Thing};
 use std::alloc::Global;
 use std::sync::ledger::Ledger;
 use uf_dir::{Kind, kind_of};
@@ -39,7 +39,7 @@ pub(crate) fn stat_of<S: Store, N: NameHash, L: Ledger>(
 {
     match thing {
         Thing::File(entry, size) => Ok(file_stat(&entry, size)),
-        Thing::Folder(entry, Some(links)) => Ok(folder_stat(&entry, links)),
+        Thing::Folder(entry, Some(root)) => Ok(folder_stat(&entry, root)),
         Thing::Folder(entry, None) => stat_at_root::<S, N, L>(alloc, store, &entry, touches),
     }
 }
@@ -61,7 +61,7 @@ fn stat_at_root<S: Store, N: NameHash, L: Ledger>(
 {
     match kind_of(alloc, store, entry, touches)? {
         Kind::File(size) => Ok(file_stat(entry, size)),
-        Kind::Folder(links) => Ok(folder_stat(entry, links)),
+        Kind::Folder(links, meta) => Ok(folder_stat(entry, FolderRoot { links, meta })),
     }
 }
 
@@ -73,6 +73,7 @@ fn file_stat(entry: &Entry, size: FileSize) -> Stat
       cumulative = entry.now.tsize;
       children = size.links;
       is_folder = false;
+      meta = size.meta;
     } }
 {
     Stat {
@@ -81,24 +82,27 @@ fn file_stat(entry: &Entry, size: FileSize) -> Stat
         cumulative: entry.tsize,
         children: size.links,
         is_folder: false,
+        meta: size.meta,
     }
 }
 
-// What is said of a folder whose root block has so many links.
-fn folder_stat(entry: &Entry, links: u64) -> Stat
+// What is said of a folder with this root block.
+fn folder_stat(entry: &Entry, root: FolderRoot) -> Stat
     ensures { result ≡ record {
       cid = entry.now.cid;
       size = 0;
       cumulative = entry.now.tsize;
-      children = links;
+      children = root.links;
       is_folder = true;
+      meta = root.meta;
     } }
 {
     Stat {
         cid: entry.cid,
         size: 0,
         cumulative: entry.tsize,
-        children: links,
+        children: root.links,
         is_folder: true,
+        meta: root.meta,
     }
 }

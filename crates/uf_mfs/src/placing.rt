@@ -310,8 +310,8 @@ fn removed_root<S: Store, N: NameHash, L: Ledger>(
     tree.changed_root::<S, N, L>(alloc, store, Change::Remove(true), names, touches)
 }
 
-// The root with an entry put at the names.
-fn put_root<S: Store, N: NameHash, L: Ledger>(
+/// The root with an entry put at the names.
+pub(crate) fn put_root<S: Store, N: NameHash, L: Ledger>(
     alloc: Global,
     store: &mut S,
     tree: &Mfs,

@@ -7,7 +7,8 @@ ghost use Rattle.uf_edge.specs.Counts.{Stood};
 ghost use Rattle.uf_fileedit.specs.Bad.{IsBadEdited};
 ghost use Rattle.uf_plain.specs.declared.file.FileEdit.TheVariants.{Truncate, Write};
 ghost use Rattle.uf_plain.specs.Edits.{at, child, edited};
-ghost use Rattle.uf_plain.specs.Files.{begun, file_edited, fitting, plain_bytes_at, rewritten, truncated, written};
+ghost use Rattle.uf_plain.specs.Files.{begun, file_edited, fitting, kept_meta, plain_bytes_at, rewritten, truncated};
+ghost use Rattle.uf_plain.specs.Files.{written};
 ghost use Rattle.uf_plain.specs.Needs.{way};
 ghost use Rattle.uf_plain.specs.Rules.{allowed};
 ghost use Rattle.uf_store.specs.Calls.{OnlyReads, OnlySaves};
@@ -17,12 +18,15 @@ ghost use Rattle.uf_store.specs.Faults.{NoneIsBad, fault_in};
 ghost use Rattle.uf_store.specs.Keeping.{Holds, KeepsGood};
 ghost use Rattle.uf_store.specs.Lost.{ReadsOver};
 ghost use Rattle.uf_store.specs.Writing.{SavesOnly};
+ghost use Rattle.uf_tree.specs.declared.meta.Meta.{Meta as TheMeta};
 ghost use Rattle.uf_tree.specs.declared.nodes.Entry.{Entry as TheEntry};
 ghost use Rattle.uf_tree.specs.declared.profile.Profile.{Profile as TheProfile};
 ghost use Rattle.uf_tree.specs.FilePlan.{file_plan};
+ghost use Rattle.uf_tree.specs.Metas.{is_meta};
 ghost use Rattle.uf_tree.specs.Profiles.{is_profile};
 ghost use Rattle.uf_tree.specs.Tree.{Dir, Entries, File, Tree};
 ghost use Rattle.uf_tree.specs.TreePlan.{blocks};
+ghost use Rattle.uf_dir.specs.Roots.{IsRootCid};
 ghost use Rattle.uf_mfs.specs.Answers.{Decides, EditsAfter, Moves, ShownInTree};
 ghost use Rattle.uf_mfs.specs.Bad.{IsBadInTree};
 ghost use Rattle.uf_mfs.specs.Reading.{AreHeights};
@@ -35,27 +39,24 @@ ghost use Rattle.uf_mfs.specs.Writes.{cuts_first, file_touches, fitting_bytes, f
 ghost use Rattle.uf_mfs.specs.Writes.{may_create, member_at, rewriting_touches, with_fitting};
 
 use crate::contents::look_at_file;
-use crate::editing::{folder_of, put_in};
-use crate::looking::member;
+use crate::editing::{Act, Site, edit, put_in};
 use crate::{Mfs, MfsFault, Stop, Thing};
 use std::alloc::Global;
 use std::sync::ledger::Ledger;
-use uf_build::BuildFault;
+use uf_build::{BuildFault, save_root};
 use uf_cid::{Codec, slices_hold_bytes};
 use uf_fileedit::{truncate, write_at};
 use uf_murmur::NameHash;
 use uf_path::Path;
 use uf_plain::{FileEdit, Refused, WriteHow};
 use uf_store::{Steps, Store, StoreFault, save_block};
-use uf_tree::{Entry, Name, Profile};
+use uf_tree::{Entry, Meta, Name, Part, Profile};
 
-/// An edit of a file on its way: how blocks are made, what is done, with which piece, and how many names led here.
+/// What an edit of a file begins with: a file that is there, or no bytes and the metadata that stays.
 #[derive(Clone, Copy, PartialEq, Eq)]
-pub(crate) struct FileSite<'a> {
-    pub profile: Profile,
-    pub what: FileEdit,
-    pub piece: &'a [u8],
-    pub led: usize,
+pub(crate) enum Start {
+    There(Entry),
+    Empty(Meta),
 }
 
 impl Mfs {
@@ -80,10 +81,10 @@ impl Mfs {
         ensures lost { MovesTree S.X.block32 N.name64 (S.seen store.old) (S.seen store.new) [] self.old self.new
             path.now.names
             (λ p es. allowed S.X.block32 N.name64 p (written how.now piece.now path.now.names es)) result }
-        ensures idle { (p : TheProfile) (es : Entries) (bytes : List ℕ)
+        ensures idle { (p : TheProfile) (es : Entries) (m : TheMeta) (bytes : List ℕ)
             → StandsOver S.X.block32 N.name64 (S.seen store.old).told self.old p es
             → Stood (S.seen store.old).faults (S.seen store.new).faults
-            → piece.now ≡ [] → how.now.cut ≡ false → at 0 path.now.names (Dir es) ≡ Ok (File bytes)
+            → piece.now ≡ [] → how.now.cut ≡ false → at 0 path.now.names (Dir es) ≡ Ok (File m bytes)
             → ((S.seen store.new).told ≡ (S.seen store.old).told) × (self.new ≡ self.old) }
         ensures refused { OnErr result (self.new ≡ self.old) }
         ensures mfs { IsMfs self.new }
@@ -100,13 +101,8 @@ impl Mfs {
         ensures touched { CountsUp (tree_fault result) touches.old touches.new }
     {
         let names = path.names.as_slice();
-        let site = FileSite {
-            profile: self.profile,
-            what: FileEdit::Write(*how),
-            piece,
-            led: 0,
-        };
-        let edited = edited_root::<S, N, L>(alloc, store, &site, &self.root, names, touches);
+        let what = FileEdit::Write(*how);
+        let edited = edited_root::<S, N, L>(alloc, store, self, what, piece, names, touches);
         self.settled(alloc, names, edited)
     }
 
@@ -143,13 +139,8 @@ impl Mfs {
         ensures touched { CountsUp (tree_fault result) touches.old touches.new }
     {
         let names = path.names.as_slice();
-        let site = FileSite {
-            profile: self.profile,
-            what: FileEdit::Truncate(length),
-            piece: &[],
-            led: 0,
-        };
-        let edited = edited_root::<S, N, L>(alloc, store, &site, &self.root, names, touches);
+        let what = FileEdit::Truncate(length);
+        let edited = edited_root::<S, N, L>(alloc, store, self, what, &[], names, touches);
         self.settled(alloc, names, edited)
     }
 }
@@ -159,65 +150,73 @@ impl Mfs {
 fn edited_root<S: Store, N: NameHash, L: Ledger>(
     alloc: Global,
     store: &mut S,
-    site: &FileSite,
-    root: &Entry,
+    tree: &Mfs,
+    what: FileEdit,
+    piece: &[u8],
     names: &[Name],
     touches: &mut Steps<L>,
 ) -> Result<Entry, Stop>
-    requires profile { IsTrue (is_profile site.now.profile) }
-    requires start { site.now.led ≡ 0 }
-    ensures edits { EditsFileAt S.X.block32 N.name64 site.now.profile (S.seen store.old) (S.seen store.new)
-        site.now.what site.now.piece.now root.now names.now result }
-    ensures idle { (p : TheProfile) (es : Entries) (bytes : List ℕ)
-        → IsAgreed S.X.block32 N.name64 (S.seen store.old).told p root.now (Dir es)
+    requires profile { IsTrue (is_profile tree.now.profile) }
+    ensures edits { EditsFileAt S.X.block32 N.name64 tree.now.profile (S.seen store.old) (S.seen store.new)
+        what piece.now tree.now.root names.now result }
+    ensures idle { (p : TheProfile) (es : Entries) (m : TheMeta) (bytes : List ℕ)
+        → IsAgreed S.X.block32 N.name64 (S.seen store.old).told p tree.now.root (Dir es)
         → Stood (S.seen store.old).faults (S.seen store.new).faults
-        → leaves_bytes site.now.what site.now.piece.now ≡ true → at 0 names.now (Dir es) ≡ Ok (File bytes)
-        → ((S.seen store.new).told ≡ (S.seen store.old).told) × IfOk result (λ e. e ≡ root.now) }
+        → leaves_bytes what piece.now ≡ true → at 0 names.now (Dir es) ≡ Ok (File m bytes)
+        → ((S.seen store.new).told ≡ (S.seen store.old).told) × IfOk result (λ e. e ≡ tree.now.root) }
     ensures saves { OnlySaves S.X.block32
-        (IsBadWrittenIn S.X.block32 N.name64 site.now.profile (S.seen store.new).told root.now.cid)
+        (IsBadWrittenIn S.X.block32 N.name64 tree.now.profile (S.seen store.new).told tree.now.root.cid)
         (stop_fault result) (S.seen store.old) (S.seen store.new) }
-    ensures touches { TouchesFileAt S.X.block32 N.name64 site.now.profile (S.seen store.old) (S.seen store.new) 51
-        site.now.what site.now.piece.now root.now names.now touches.old touches.new }
+    ensures touches { TouchesFileAt S.X.block32 N.name64 tree.now.profile (S.seen store.old) (S.seen store.new) 51
+        what piece.now tree.now.root names.now touches.old touches.new }
     ensures touched { CountsUp (stop_fault result) touches.old touches.new }
 {
-    if leaves(site) && leads_to_file::<S, N, L>(alloc, store, root, names, touches)? {
-        return Ok(*root);
+    if leaves(what, piece) && leads_to_file::<S, N, L>(alloc, store, &tree.root, names, touches)? {
+        return Ok(tree.root);
     }
-    changed_file::<S, N, L>(alloc, store, site, root, names, touches)
+    changed_file::<S, N, L>(alloc, store, tree, what, piece, names, touches)
 }
 
 // The root after an edit of the file that the names lead to.
 fn changed_file<S: Store, N: NameHash, L: Ledger>(
     alloc: Global,
     store: &mut S,
-    site: &FileSite,
-    root: &Entry,
+    tree: &Mfs,
+    what: FileEdit,
+    piece: &[u8],
     names: &[Name],
     touches: &mut Steps<L>,
 ) -> Result<Entry, Stop>
-    requires profile { IsTrue (is_profile site.now.profile) }
-    requires start { site.now.led ≡ 0 }
-    ensures edits { EditsFileAt S.X.block32 N.name64 site.now.profile (S.seen store.old) (S.seen store.new)
-        site.now.what site.now.piece.now root.now names.now result }
+    requires profile { IsTrue (is_profile tree.now.profile) }
+    ensures edits { EditsFileAt S.X.block32 N.name64 tree.now.profile (S.seen store.old) (S.seen store.new)
+        what piece.now tree.now.root names.now result }
     ensures saves { OnlySaves S.X.block32
-        (IsBadWrittenIn S.X.block32 N.name64 site.now.profile (S.seen store.new).told root.now.cid)
+        (IsBadWrittenIn S.X.block32 N.name64 tree.now.profile (S.seen store.new).told tree.now.root.cid)
         (stop_fault result) (S.seen store.old) (S.seen store.new) }
-    ensures touches { TouchesFileAt S.X.block32 N.name64 site.now.profile (S.seen store.old) (S.seen store.new) 40
-        site.now.what site.now.piece.now root.now names.now touches.old touches.new }
+    ensures touches { TouchesFileAt S.X.block32 N.name64 tree.now.profile (S.seen store.old) (S.seen store.new) 40
+        what piece.now tree.now.root names.now touches.old touches.new }
     ensures touched { CountsUp (stop_fault result) touches.old touches.new }
 {
     match names {
         [] => Err(Stop::Refused(Refused::IsADirectory(0))),
-        [name, rest @ ..] => edit_file::<S, N, L>(alloc, store, site, name, rest, root, touches),
+        [name, rest @ ..] => {
+            let site = Site {
+                profile: tree.profile,
+                what: Act::Rewrite(what),
+                piece,
+                led: 0,
+            };
+            edit::<S, N, L>(alloc, store, &site, name, rest, &tree.root, touches)
+        }
     }
 }
 
 // Whether an edit leaves the bytes of each file as they are.
-fn leaves(site: &FileSite) -> bool
-    ensures { result ≡ leaves_bytes site.now.what site.now.piece.now }
+fn leaves(what: FileEdit, piece: &[u8]) -> bool
+    ensures { result ≡ leaves_bytes what piece.now }
 {
-    match site.what {
-        FileEdit::Write(how) => site.piece.is_empty() && !how.cut,
+    match what {
+        FileEdit::Write(how) => piece.is_empty() && !how.cut,
         FileEdit::Truncate(_) => false,
     }
 }
@@ -247,86 +246,12 @@ fn leads_to_file<S: Store, N: NameHash, L: Ledger>(
     }
 }
 
-// Edits the file that the names lead to from this folder, and answers the entry of this folder then.
-fn edit_file<S: Store, N: NameHash, L: Ledger>(
+/// The entry of the file that an edit makes of what was found under its name.
+pub(crate) fn new_file<S: Store, L: Ledger>(
     alloc: Global,
     store: &mut S,
-    site: &FileSite,
-    name: &Name,
-    rest: &[Name],
-    folder: &Entry,
-    touches: &mut Steps<L>,
-) -> Result<Entry, Stop>
-    requires profile { IsTrue (is_profile site.now.profile) }
-    requires few { site.now.led + length rest.now + 1 < 2 ^ 64 }
-    ensures edits { EditsFolder S.X.block32 N.name64 site.now.profile (S.seen store.old) (S.seen store.new) []
-        folder.now (edited (with_fitting site.now.profile site.now.what site.now.piece.now) site.now.led name.now
-        rest.now) result }
-    ensures saves { OnlySaves S.X.block32
-        (IsBadWrittenIn S.X.block32 N.name64 site.now.profile (S.seen store.new).told folder.now.cid)
-        (stop_fault result) (S.seen store.old) (S.seen store.new) }
-    ensures touches { (rows : ℕ → ℕ) → AreHeights site.now.profile rows
-        → TouchesFolder S.X.block32 N.name64 site.now.profile (S.seen store.old) (S.seen store.new) [] folder.now
-        (λ es. 40 * (length rest.now + 1) + crossings_of S.X.block32 N.name64 site.now.profile (name.now ∷ rest.now) es
-        (edited (with_fitting site.now.profile site.now.what site.now.piece.now) site.now.led name.now rest.now es)
-        + file_touches site.now.profile rows site.now.what site.now.piece.now (member_at (name.now ∷ rest.now) es))
-        touches.old touches.new }
-    ensures touched { CountsUp (stop_fault result) touches.old touches.new }
-{
-    let found = member::<S, N, L>(alloc, store, folder, name, touches)?;
-    let [next, more @ ..] = rest else {
-        return edit_member::<S, N, L>(alloc, store, site, name, folder, found, touches);
-    };
-    let below = folder_of(site.led + 1, found)?;
-    let under = FileSite {
-        profile: site.profile,
-        what: site.what,
-        piece: site.piece,
-        led: site.led + 1,
-    };
-    let entry = edit_file::<S, N, L>(alloc, store, &under, next, more, &below, touches)?;
-    put_in::<S, N, L>(alloc, store, &site.profile, folder, name, &entry, touches)
-}
-
-// Edits the file of a name in this folder, whose member of the name was found.
-fn edit_member<S: Store, N: NameHash, L: Ledger>(
-    alloc: Global,
-    store: &mut S,
-    site: &FileSite,
-    name: &Name,
-    folder: &Entry,
-    found: Option<Thing>,
-    touches: &mut Steps<L>,
-) -> Result<Entry, Stop>
-    requires profile { IsTrue (is_profile site.now.profile) }
-    requires few { site.now.led + 1 < 2 ^ 64 }
-    ensures edits { (es : Entries)
-        → IsAgreedMember S.X.block32 N.name64 (S.seen store.old).told site.now.profile (child name.now es) found
-        → IsFolderOver S.X.block32 N.name64 site.now.profile (S.seen store.old) (S.seen store.new) [] folder.now es
-        → EditsAfter S.X.block32 N.name64 (S.seen store.old).told (S.seen store.new).told
-        (blocks S.X.block32 N.name64 site.now.profile (Dir es)) site.now.profile
-        (allowed S.X.block32 N.name64 site.now.profile
-        (with_fitting site.now.profile site.now.what site.now.piece.now (site.now.led + 1) name.now es)) result }
-    ensures saves { OnlySaves S.X.block32
-        (IsBadWrittenIn S.X.block32 N.name64 site.now.profile (S.seen store.new).told folder.now.cid)
-        (stop_fault result) (S.seen store.old) (S.seen store.new) }
-    ensures touches { (rows : ℕ → ℕ) (es : Entries) → AreHeights site.now.profile rows
-        → IsAgreedMember S.X.block32 N.name64 (S.seen store.old).told site.now.profile (child name.now es) found
-        → IsFolderOver S.X.block32 N.name64 site.now.profile (S.seen store.old) (S.seen store.new) [] folder.now es
-        → touches.new ≤ touches.old + (18 + crossings_of S.X.block32 N.name64 site.now.profile (name.now ∷ []) es
-        (with_fitting site.now.profile site.now.what site.now.piece.now (site.now.led + 1) name.now es)
-        + file_touches site.now.profile rows site.now.what site.now.piece.now (child name.now es)) }
-    ensures touched { CountsUp (stop_fault result) touches.old touches.new }
-{
-    let new = new_file::<S, L>(alloc, store, site, found, touches)?;
-    put_in::<S, N, L>(alloc, store, &site.profile, folder, name, &new, touches)
-}
-
-// The entry of the file that an edit makes of what was found under its name.
-fn new_file<S: Store, L: Ledger>(
-    alloc: Global,
-    store: &mut S,
-    site: &FileSite,
+    site: &Site,
+    what: FileEdit,
     found: Option<Thing>,
     touches: &mut Steps<L>,
 ) -> Result<Entry, Stop>
@@ -336,8 +261,8 @@ fn new_file<S: Store, L: Ledger>(
         → IsAgreedMember S.X.block32 N (S.seen store.old).told site.now.profile (child name es) found
         → IsFolderOver S.X.block32 N site.now.profile (S.seen store.old) (S.seen store.new) [] folder es
         → MakesFile S.X.block32 N site.now.profile (S.seen store.old) (S.seen store.new)
-        (blocks S.X.block32 N site.now.profile (Dir es))
-        (fitting_bytes site.now.profile site.now.what site.now.piece.now (site.now.led + 1) (child name es)) result }
+        (blocks S.X.block32 N site.now.profile (Dir es)) (kept_meta (child name es))
+        (fitting_bytes site.now.profile what site.now.piece.now (site.now.led + 1) (child name es)) result }
     ensures saves { OnlySaves S.X.block32 (IsBadInSome S.X.block32 site.now.profile (S.seen store.new).told)
         (stop_fault result) (S.seen store.old) (S.seen store.new) }
     ensures touches { (N : List ℕ → ℕ) (rows : ℕ → ℕ) (folder : TheEntry) (name : List ℕ) (es : Entries)
@@ -345,11 +270,11 @@ fn new_file<S: Store, L: Ledger>(
         → IsAgreedMember S.X.block32 N (S.seen store.old).told site.now.profile (child name es) found
         → IsFolderOver S.X.block32 N site.now.profile (S.seen store.old) (S.seen store.new) [] folder es
         → touches.new ≤ touches.old
-        + (1 + file_touches site.now.profile rows site.now.what site.now.piece.now (child name es)) }
+        + (2 + file_touches site.now.profile rows what site.now.piece.now (child name es)) }
     ensures touched { CountsUp (stop_fault result) touches.old touches.new }
 {
-    let old = begun_file(alloc, store, site.what, site.led + 1, found, touches)?;
-    rewritten_file(alloc, store, site, &old, touches)
+    let old = begun_file(alloc, store, what, site.led + 1, found, touches)?;
+    rewritten_file(alloc, store, site, what, &old, touches)
 }
 
 // The entry of the file that an edit begins with, by what was found under its name.
@@ -365,22 +290,30 @@ fn begun_file<S: Store, L: Ledger>(
         → IsAgreedMember S.X.block32 N (S.seen store.old).told p (child name es) found
         → IsFolderOver S.X.block32 N p (S.seen store.old) (S.seen store.new) [] folder es
         → MakesFile S.X.block32 N p (S.seen store.old) (S.seen store.new) (blocks S.X.block32 N p (Dir es))
-        (begun what led (child name es)) result }
+        (kept_meta (child name es)) (begun what led (child name es)) result }
     ensures saves { OnlySaves S.X.block32 NoneIsBad (stop_fault result) (S.seen store.old) (S.seen store.new) }
-    ensures touches { touches.new ≤ touches.old + 1 }
+    ensures touches { touches.new ≤ touches.old + 2 }
     ensures touched { CountsUp (stop_fault result) touches.old touches.new }
 {
     match start_of(what, led, found)? {
-        Some(old) => Ok(old),
-        None => {
-            let empty = empty_file(alloc, store, touches)?;
+        Start::There(old) => Ok(old),
+        Start::Empty(meta) => {
+            let empty = empty_file(alloc, store, &good(meta), touches)?;
             Ok(empty)
         }
     }
 }
 
-// The entry of a file that is there and keeps its bytes, or none where an edit begins with no bytes.
-fn start_of(what: FileEdit, led: usize, found: Option<Thing>) -> Result<Option<Entry>, Refused>
+/// This metadata, where it is good: that of a file or a folder is.
+pub(crate) fn good(meta: Meta) -> Meta
+    ensures good { IsTrue (is_meta result) }
+    ensures same { IsTrue (is_meta meta) → result ≡ meta }
+{
+    if meta.is_good() { meta } else { Meta::none() }
+}
+
+// What an edit of a file begins with, by what was found under its name.
+fn start_of(what: FileEdit, led: usize, found: Option<Thing>) -> Result<Start, Refused>
     ensures { (X : List ℕ → List ℕ) (N : List ℕ → ℕ) (told : Told) (p : TheProfile) (o : TheOption Tree)
         → IsAgreedMember X N told p o found
         → Decides (λ bytes start. IsStart X N told p o bytes start) (begun what led o) result }
@@ -388,17 +321,17 @@ fn start_of(what: FileEdit, led: usize, found: Option<Thing>) -> Result<Option<E
     match found {
         None => {
             if creates(what) {
-                Ok(None)
+                Ok(Start::Empty(Meta::none()))
             } else {
                 Err(Refused::NotFound(led))
             }
         }
         Some(Thing::Folder(_, _)) => Err(Refused::IsADirectory(led)),
-        Some(Thing::File(entry, _)) => {
+        Some(Thing::File(entry, size)) => {
             if empties(what) {
-                Ok(None)
+                Ok(Start::Empty(size.meta))
             } else {
-                Ok(Some(entry))
+                Ok(Start::There(entry))
             }
         }
     }
@@ -424,48 +357,58 @@ fn empties(what: FileEdit) -> bool
     }
 }
 
-// The entry of the file of no bytes, whose one block is saved.
+// The entry of the file of this metadata and no bytes, whose blocks are saved.
 fn empty_file<S: Store, L: Ledger>(
     alloc: Global,
     store: &mut S,
+    meta: &Meta,
     touches: &mut Steps<L>,
 ) -> Result<Entry, StoreFault>
-    ensures entry { IfOk result (λ e. (p : TheProfile) → e ≡ (file_plan S.X.block32 p []).entry) }
-    ensures held { OnOk result ((p : TheProfile)
-        → Holds (S.seen store.new).told (file_plan S.X.block32 p []).blocks) }
+    requires good { IsTrue (is_meta meta.now) }
+    ensures entry { IfOk result (λ e. (p : TheProfile) → IsTrue (is_profile p)
+        → e ≡ (file_plan S.X.block32 p meta.now []).entry) }
+    ensures held { OnOk result ((p : TheProfile) → IsTrue (is_profile p)
+        → Holds (S.seen store.new).told (file_plan S.X.block32 p meta.now []).blocks) }
     ensures fault { IfErr result IsSaving }
     ensures saves { OnlySaves S.X.block32 NoneIsBad (fault_in result) (S.seen store.old) (S.seen store.new) }
-    ensures touches { touches.new ≤ touches.old + 1 }
+    ensures touches { touches.new ≤ touches.old + 2 }
     ensures touched { CountsUp (fault_in result) touches.old touches.new }
 {
     let cid = save_block(alloc, store, Codec::Raw, &[], touches)?;
-    Ok(Entry { cid, tsize: 0 })
+    let entry = Entry { cid, tsize: 0 };
+    if meta.is_bare() {
+        return Ok(entry);
+    }
+    let root = save_root(alloc, store, &[Part { entry, size: 0 }], meta, touches)?;
+    Ok(root.entry)
 }
 
 // The entry of the file that an edit makes of this one.
 fn rewritten_file<S: Store, L: Ledger>(
     alloc: Global,
     store: &mut S,
-    site: &FileSite,
+    site: &Site,
+    what: FileEdit,
     old: &Entry,
     touches: &mut Steps<L>,
 ) -> Result<Entry, Stop>
     requires profile { IsTrue (is_profile site.now.profile) }
-    ensures gives { (N : List ℕ → ℕ) (bytes : List ℕ)
-        → IsFileOver S.X.block32 N site.now.profile (S.seen store.old) (S.seen store.new) old.now bytes
+    ensures gives { (N : List ℕ → ℕ) (m : TheMeta) (bytes : List ℕ)
+        → IsFileOver S.X.block32 N site.now.profile (S.seen store.old) (S.seen store.new) old.now m bytes
         → MakesFile S.X.block32 N site.now.profile (S.seen store.old) (S.seen store.new)
-        (blocks S.X.block32 N site.now.profile (File bytes))
-        (fitting site.now.profile (rewritten site.now.what site.now.piece.now bytes)) result }
+        (blocks S.X.block32 N site.now.profile (File m bytes)) m
+        (fitting site.now.profile (rewritten what site.now.piece.now bytes)) result }
     ensures saves { OnlySaves S.X.block32 (IsBadEdited S.X.block32 site.now.profile (S.seen store.new).told old.now.cid)
         (stop_fault result) (S.seen store.old) (S.seen store.new) }
-    ensures touches { (N : List ℕ → ℕ) (rows : ℕ → ℕ) (bytes : List ℕ) → AreHeights site.now.profile rows
-        → IsFileOver S.X.block32 N site.now.profile (S.seen store.old) (S.seen store.new) old.now bytes
-        → touches.new ≤ touches.old + rewriting_touches site.now.profile rows site.now.what site.now.piece.now bytes }
+    ensures touches { (N : List ℕ → ℕ) (rows : ℕ → ℕ) (m : TheMeta) (bytes : List ℕ)
+        → AreHeights site.now.profile rows
+        → IsFileOver S.X.block32 N site.now.profile (S.seen store.old) (S.seen store.new) old.now m bytes
+        → touches.new ≤ touches.old + rewriting_touches site.now.profile rows what site.now.piece.now m bytes }
     ensures touched { CountsUp (stop_fault result) touches.old touches.new }
 {
     slices_hold_bytes(site.piece);
     let p = &site.profile;
-    match site.what {
+    match what {
         FileEdit::Write(how) => {
             stepped(write_at(alloc, store, p, old, how.offset, site.piece, touches))
         }

@@ -8,7 +8,7 @@ use Rattle.std.specs.Ordering.{eq_by_cmp, is_eq}
 use Rattle.std.specs.FinMap.Entries.{find, put, where_key, by_order, is_sorted, find-put, is_sorted-put, is_sorted-where_key, same_entries}
 use Rattle.uf_tree.specs.Changes.{without}
 use Rattle.uf_tree.specs.Names.{names_cmp, is_name}
-use Rattle.uf_tree.specs.Tree.{Tree, File, Dir, Entries, Nothing, With, pairs, entries, is_tree, are_trees}
+use Rattle.uf_tree.specs.Tree.{Tree, File, Dir, Entries, Nothing, With, own_meta, pairs, entries, is_tree, are_trees}
 use Rattle.uf_tree.proofs.ShardLaws.{names_exact, names_total}
 use Rattle.uf_tree.proofs.Told.{as_T, as_true}
 use Rattle.uf_tree.proofs.TreeLaws.{entries-pairs, pairs-entries}
@@ -30,28 +30,24 @@ both false b g h = g
 abbrev Row : Type 0
 Row = List ℕ × Tree
 
-trees-put : (name : List ℕ) (u : Tree) (es : Entries) → is_name name ≡ true → is_tree u ≡ true → are_trees es ≡ true → are_trees (entries (put names_cmp name u (pairs es))) ≡ true
+trees-put : (name : List ℕ) (u : Tree) (es : Entries) → is_name name ≡ true → is_tree u ≡ true → are_trees es ≡ true → are_trees (entries (own_meta es) (put names_cmp name u (pairs es))) ≡ true
 unfolding is_tree
-trees-put name u Nothing n t h = both _ _ (both _ _ n t) refl
+trees-put name u (Nothing m) n t h = both _ _ (both _ _ n t) h
 trees-put name u (With other v es) n t h =
     let parts = both_true _ _ h in
-    let rest = subst (λ fs. are_trees fs ≡ true) (sym (back es)) parts.1 in
-    elim (names_cmp name other) as (λ r. are_trees (entries (by_order r ((name, u) ∷ (other, v) ∷ pairs es) ((other, u) ∷ pairs es) ((other, v) ∷ put names_cmp name u (pairs es)))) ≡ true) [
+    let rest = subst (λ fs. are_trees fs ≡ true) (sym (entries-pairs es)) parts.1 in
+    elim (names_cmp name other) as (λ r. are_trees (entries (own_meta es) (by_order r ((name, u) ∷ (other, v) ∷ pairs es) ((other, u) ∷ pairs es) ((other, v) ∷ put names_cmp name u (pairs es)))) ≡ true) [
       | Less ↦ both _ _ (both _ _ n t) (both _ _ parts.0 rest)
       | Equal ↦ both _ _ (both _ _ (both_true _ _ parts.0).0 t) rest
       | Greater ↦ both _ _ parts.0 (trees-put name u es n t parts.1)
     ]
-  where
-    back : (es : Entries) → entries (pairs es) ≡ es
-    back Nothing = refl
-    back (With name t es) = ap (With name t) (back es)
 
-trees-where : (test : List ℕ → Bool) (es : Entries) → are_trees es ≡ true → are_trees (entries (where_key names_cmp test (pairs es))) ≡ true
+trees-where : (test : List ℕ → Bool) (es : Entries) → are_trees es ≡ true → are_trees (entries (own_meta es) (where_key names_cmp test (pairs es))) ≡ true
 unfolding is_tree
-trees-where test Nothing h = refl
+trees-where test (Nothing m) h = h
 trees-where test (With other v es) h =
     let parts = both_true _ _ h in
-    elim (test other) as (λ b. are_trees (entries (cond b ((other, v) ∷ where_key names_cmp test (pairs es)) (where_key names_cmp test (pairs es)))) ≡ true) [
+    elim (test other) as (λ b. are_trees (entries (own_meta es) (cond b ((other, v) ∷ where_key names_cmp test (pairs es)) (where_key names_cmp test (pairs es)))) ≡ true) [
       | true ↦ both _ _ parts.0 (trees-where test es parts.1)
       | false ↦ trees-where test es parts.1
     ]
@@ -60,13 +56,13 @@ pub tree-with : (name : List ℕ) (u : Tree) (es : Entries) → IsTrue (is_name 
 unfolding is_tree
 tree-with name u es n t h =
     let parts = both_true _ _ h in
-    both _ _ (ap (is_sorted names_cmp) (pairs-entries (put names_cmp name u (pairs es))) ∙ as_true _ (is_sorted-put names_cmp names_total name u (pairs es) (as_T _ parts.0))) (trees-put name u es n t parts.1)
+    both _ _ (ap (is_sorted names_cmp) (pairs-entries (own_meta es) (put names_cmp name u (pairs es))) ∙ as_true _ (is_sorted-put names_cmp names_total name u (pairs es) (as_T _ parts.0))) (trees-put name u es n t parts.1)
 
 pub tree-without : (name : List ℕ) (es : Entries) → IsTrue (is_tree (Dir es)) → IsTrue (is_tree (Dir (without_child name es)))
 unfolding is_tree
 tree-without name es h =
     let parts = both_true _ _ h in
-    both _ _ (ap (is_sorted names_cmp) (pairs-entries (without name (pairs es))) ∙ as_true _ (is_sorted-where_key names_cmp _ (pairs es) (as_T _ parts.0))) (trees-where _ es parts.1)
+    both _ _ (ap (is_sorted names_cmp) (pairs-entries (own_meta es) (without name (pairs es))) ∙ as_true _ (is_sorted-where_key names_cmp _ (pairs es) (as_T _ parts.0))) (trees-where _ es parts.1)
 
 put-same : (name : List ℕ) (t : Tree) (l : List Row) → T (is_sorted names_cmp l) → find names_cmp name l ≡ Some t → put names_cmp name t l ≡ l
 put-same name t l sorted h = same_entries names_cmp names_total names_exact (put names_cmp name t l) l (is_sorted-put names_cmp names_total name t l sorted) sorted
@@ -78,7 +74,7 @@ put-same name t l sorted h = same_entries names_cmp names_total names_exact (put
 
 trees-each : (es : Entries) → are_trees es ≡ true → AllByRecursion (λ (m : Row). is_tree m.1 ≡ true) (pairs es)
 unfolding is_tree
-trees-each Nothing h = tt
+trees-each (Nothing m) h = tt
 trees-each (With name t es) h = (let parts = both_true _ _ h in ((both_true _ _ parts.0).1, trees-each es parts.1))
 
 pub child-tree : (name : List ℕ) (t : Tree) (es : Entries) → is_tree (Dir es) ≡ true → child name es ≡ Some t → is_tree t ≡ true
@@ -88,7 +84,7 @@ child-tree name t es h e = each-find (λ t. is_tree t ≡ true) name t (pairs es
 -- a member put in its own place changes nothing
 pub with-same : (name : List ℕ) (t : Tree) (es : Entries) → is_tree (Dir es) ≡ true → child name es ≡ Some t → with_child name t es ≡ es
 unfolding is_tree
-with-same name t es h e = ap entries (put-same name t (pairs es) (as_T _ (both_true _ _ h).0) e) ∙ entries-pairs es
+with-same name t es h e = ap (entries (own_meta es)) (put-same name t (pairs es) (as_T _ (both_true _ _ h).0) e) ∙ entries-pairs es
 
 pub all-there : (led : ℕ) (names : List (List ℕ)) (es : Entries) → IsTrue (is_tree (Dir es)) → true ≡ is_folder_at (at led names (Dir es)) → made_all led names es ≡ Ok es
 all-there led [] es tree h = refl
@@ -97,9 +93,9 @@ all-there led (name ∷ names) es tree h = by (λ fs deeper found. all-there (le
     by : ((fs : Entries) → IsTrue (is_tree (Dir fs)) → true ≡ is_folder_at (at (led + 1) names (Dir fs)) → made_all (led + 1) names fs ≡ Ok fs) → (o : Option Tree) → child name es ≡ o → true ≡ is_folder_at (elim o as (λ o. Result Tree Refused) [ None ↦ Err (why.NotFound (led + 1)) | Some t ↦ at (led + 1) names t ])
         → with_folder name es (and_then (or_new (led + 1) o) (λ below. made_all (led + 1) names below)) ≡ Ok es
     by rec None e h = absurd cc
-    by rec (Some (File bytes)) e h = absurd (file names h)
+    by rec (Some (File m bytes)) e h = absurd (file names h)
       where
-        file : (names : List (List ℕ)) → true ≡ is_folder_at (at (led + 1) names (File bytes)) → ⊥
+        file : (names : List (List ℕ)) → true ≡ is_folder_at (at (led + 1) names (File m bytes)) → ⊥
         file [] h = cc
         file (next ∷ names) h = cc
     by rec (Some (Dir fs)) e h =

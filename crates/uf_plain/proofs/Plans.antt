@@ -10,7 +10,7 @@ use Rattle.uf_tree.specs.declared.profile.Profile.{Profile}
 use Rattle.uf_tree.specs.DirPlan.{own_plan}
 use Rattle.uf_tree.specs.Names.{names_cmp}
 use Rattle.uf_tree.specs.Nodes.{Named}
-use Rattle.uf_tree.specs.Tree.{Tree, Dir, Entries, pairs, fold}
+use Rattle.uf_tree.specs.Tree.{Tree, Dir, Entries, own_meta, pairs, fold}
 use Rattle.uf_tree.specs.TreePlan.{Refusal, Planned, planned, planned_file, planned_dir, members, first_refusal, or_else, dir_refusal, entry, blocks, refusal, named_entries}
 use Rattle.uf_tree.proofs.TreeLaws.{fold_each-pairs, find-map}
 use Rattle.uf_plain.specs.Edits.{child}
@@ -65,9 +65,9 @@ module _ (X : List ℕ → List ℕ) (N : List ℕ → ℕ) (p : Profile) where
   abbrev pub named : Ms → List Named
   named l = map (λ (m : List ℕ × Tree). (m.0, entry X N p m.1)) l
 
-  pub planned-dir : (es : Entries) → planned X N p (Dir es) ≡ planned_dir X N p (plans (pairs es))
+  pub planned-dir : (es : Entries) → planned X N p (Dir es) ≡ planned_dir X N p (own_meta es) (plans (pairs es))
   unfolding planned fold
-  planned-dir es = ap (planned_dir X N p) (fold_each-pairs (planned_file X N p) (planned_dir X N p) es)
+  planned-dir es = ap (planned_dir X N p (own_meta es)) (fold_each-pairs (planned_file X N p) (planned_dir X N p) es)
 
   pub members-plans : (l : Ms) → members X N p (plans l) ≡ named l
   members-plans [] = refl
@@ -77,14 +77,14 @@ module _ (X : List ℕ → List ℕ) (N : List ℕ → ℕ) (p : Profile) where
   abbrev pub below_blocks : Ms → List Held
   below_blocks l = flat_map (λ (m : List ℕ × Planned). m.1.plan.blocks) (plans l)
 
-  pub entry-is : (es : Entries) → entry X N p (Dir es) ≡ (own_plan X N p (named (pairs es))).entry
-  entry-is es = ap (λ (q : Planned). q.plan.entry) (planned-dir es) ∙ ap (λ l. (own_plan X N p l).entry) (members-plans (pairs es))
+  pub entry-is : (es : Entries) → entry X N p (Dir es) ≡ (own_plan X N p (own_meta es) (named (pairs es))).entry
+  entry-is es = ap (λ (q : Planned). q.plan.entry) (planned-dir es) ∙ ap (λ l. (own_plan X N p (own_meta es) l).entry) (members-plans (pairs es))
 
-  pub blocks-is : (es : Entries) → blocks X N p (Dir es) ≡ below_blocks (pairs es) ++ (own_plan X N p (named (pairs es))).blocks
-  blocks-is es = ap (λ (q : Planned). q.plan.blocks) (planned-dir es) ∙ ap (λ l. below_blocks (pairs es) ++ (own_plan X N p l).blocks) (members-plans (pairs es))
+  pub blocks-is : (es : Entries) → blocks X N p (Dir es) ≡ below_blocks (pairs es) ++ (own_plan X N p (own_meta es) (named (pairs es))).blocks
+  blocks-is es = ap (λ (q : Planned). q.plan.blocks) (planned-dir es) ∙ ap (λ l. below_blocks (pairs es) ++ (own_plan X N p (own_meta es) l).blocks) (members-plans (pairs es))
 
-  pub refusal-is : (es : Entries) → refusal X N p (Dir es) ≡ or_else (first_refusal (plans (pairs es))) (dir_refusal X N p (named (pairs es)))
-  refusal-is es = ap (λ (q : Planned). q.refusal) (planned-dir es) ∙ ap (λ l. or_else (first_refusal (plans (pairs es))) (dir_refusal X N p l)) (members-plans (pairs es))
+  pub refusal-is : (es : Entries) → refusal X N p (Dir es) ≡ or_else (first_refusal (plans (pairs es))) (dir_refusal X N p (own_meta es) (named (pairs es)))
+  refusal-is es = ap (λ (q : Planned). q.refusal) (planned-dir es) ∙ ap (λ l. or_else (first_refusal (plans (pairs es))) (dir_refusal X N p (own_meta es) l)) (members-plans (pairs es))
 
   pub find-child : (es : Entries) (name : List ℕ) → find names_cmp name (named_entries X N p es) ≡ option_map (λ t. entry X N p t) (child name es)
   find-child es name = find-map names_cmp (λ t. entry X N p t) name (pairs es)

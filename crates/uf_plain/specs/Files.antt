@@ -5,8 +5,10 @@ use Rattle.std.specs.declared.option.Option.TheVariants.{None, Some}
 use Rattle.std.specs.declared.result.Result.{Result}
 use Rattle.std.specs.declared.result.Result.TheVariants.{Ok, Err}
 use Rattle.uf_bytes.specs.Laying.{cut_to, laid}
+use Rattle.uf_tree.specs.declared.meta.Meta.{Meta}
 use Rattle.uf_tree.specs.declared.profile.Profile.{Profile}
-use Rattle.uf_tree.specs.Tree.{Tree, File, Dir, Entries}
+use Rattle.uf_tree.specs.Metas.{none}
+use Rattle.uf_tree.specs.Tree.{Tree, File, Dir, Entries, meta_of}
 use Rattle.uf_tree.specs.TreePlan.{too_long}
 use Rattle.uf_plain.specs.declared.file.FileEdit.{FileEdit}
 use Rattle.uf_plain.specs.declared.file.FileEdit.TheVariants.{Write, Truncate}
@@ -18,8 +20,17 @@ use Rattle.uf_plain.specs.Rules.{unless}
 
 -- the bytes of what has to be a file
 abbrev pub as_plain_file : ℕ → Tree → Result (List ℕ) Refused
-as_plain_file led (File bytes) = Ok bytes
+as_plain_file led (File m bytes) = Ok bytes
 as_plain_file led (Dir es) = Err (IsADirectory led)
+
+-- what has to be a file
+abbrev pub as_file : ℕ → Tree → Result Tree Refused
+as_file led (File m bytes) = Ok (File m bytes)
+as_file led (Dir es) = Err (IsADirectory led)
+
+-- the file at these names
+abbrev pub file_at : List (List ℕ) → Entries → Result Tree Refused
+file_at names es = and_then (at 0 names (Dir es)) (as_file (length names))
 
 -- the bytes of the file at these names
 abbrev pub plain_bytes_at : List (List ℕ) → Entries → Result (List ℕ) Refused
@@ -53,10 +64,16 @@ rewritten (Truncate size) piece bytes = cut_to bytes size
 abbrev pub new_bytes : FileEdit → List ℕ → ℕ → Option Tree → Result (List ℕ) Refused
 new_bytes what piece led o = and_then (begun what led o) (λ bytes. Ok (rewritten what piece bytes))
 
+-- the metadata that a file has after an edit: that of the file that is there, or none where it is created
+abbrev pub kept_meta : Option Tree → Meta
+kept_meta None = none
+kept_meta (Some t) = meta_of t
+
 -- what an edit of a file does in its folder
 abbrev pub with_bytes : FileEdit → List ℕ → ℕ → List ℕ → Entries → Result Entries Refused
 with_bytes what piece led name es =
-    and_then (new_bytes what piece led (child name es)) (λ bytes. Ok (with_child name (File bytes) es))
+    let o = child name es in
+    and_then (new_bytes what piece led o) (λ bytes. Ok (with_child name (File (kept_meta o) bytes) es))
 
 -- the folder after an edit of the file at these names below it, to which so many names led, before its plan is looked
 -- at

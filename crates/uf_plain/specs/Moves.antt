@@ -97,7 +97,7 @@ lie_of (a ∷ source) (b ∷ target) = if eq_by_cmp names_cmp a b then lie_of so
 -- a file may be put over a file, and anything where nothing is
 abbrev pub as_replaceable : ℕ → Tree → Option Tree → Result Unit Refused
 as_replaceable led t None = Ok tt
-as_replaceable led (File bytes) (Some (File old)) = Ok tt
+as_replaceable led (File m bytes) (Some (File n old)) = Ok tt
 as_replaceable led t (Some old) = Err (Exists led)
 
 -- where a move goes: a directory that is there is entered

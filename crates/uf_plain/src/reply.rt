@@ -2,7 +2,7 @@
 ghost use Rattle.std.specs.Prelude.{◌≡◌, IfOk};
 
 use uf_cid::{Cid, Copied, Memory, Seq};
-use uf_tree::Name;
+use uf_tree::{Meta, Name};
 
 /// One member of a directory, or a file by its own name. A directory's size is 0.
 #[derive(Drop)]
@@ -36,7 +36,7 @@ impl Copied for Row {
 }
 
 /// What is said of a file or a directory: its CID, the bytes of a file (0 of a directory), its Tsize, the number of
-/// links of its root block (0 of a raw block), and whether it is a directory.
+/// links of its root block (0 of a raw block), whether it is a directory, and its metadata.
 #[derive(Clone, Copy, Debug, PartialEq, Eq)]
 pub struct Stat {
     pub cid: Cid,
@@ -44,4 +44,5 @@ pub struct Stat {
     pub cumulative: u64,
     pub children: u64,
     pub is_folder: bool,
+    pub meta: Meta,
 }

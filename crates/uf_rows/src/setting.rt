@@ -1,4 +1,5 @@
 // What is done with a store, a host and streams but by commands.
+ghost use Rattle.std.specs.Prelude.{◌<◌};
 
 use crate::outcome::tell_count;
 use crate::words::{Word, number_and_rest, number_of};
@@ -154,6 +155,7 @@ fn set_failure<X: BlockHash>(world: &mut World<X>, word: Word, rest: &str) -> Re
         Word::Sync => CallKind::Sync,
         Word::ReadNote => CallKind::ReadNote,
         Word::WriteNote => CallKind::WriteNote,
+        Word::Sweep => CallKind::Sweep,
         _ => return Ok(false),
     };
     world.store.fail_at(kind, number_of(rest))?;
@@ -184,6 +186,35 @@ fn nest<X: BlockHash>(alloc: Global, store: &mut MemStore<X>, rest: &str) -> Res
     plant_node(alloc, store, node.as_slice(), node.as_slice())
 }
 
+// A letter for four bits of a number, from this one on.
+fn letter(number: u64, bits: u32) -> u8
+    requires { bits < 64 }
+{
+    b'a' + ((number >> bits) % 16) as u8
+}
+
+// The line of a CID that has the number in five of its letters.
+fn add_pin_line(note: &mut Block, number: u64) -> Result<(), Memory> {
+    note.extend(b"bafkreihdwdcefgh4dqkjv67uzcmw7ojee6xedzdetojuzjev")?;
+    note.extend(&[
+        letter(number, 16),
+        letter(number, 12),
+        letter(number, 8),
+        letter(number, 4),
+        letter(number, 0),
+    ])?;
+    note.extend(b"uvyku\n")
+}
+
+// A note of so many pins.
+fn many_pins(alloc: Global, count: u64) -> Result<Block, Memory> {
+    let mut note = block_of(alloc, b"unixfs-pins 1\n")?;
+    for number in 0..count.min(1048576) {
+        add_pin_line(&mut note, number)?;
+    }
+    Ok(note)
+}
+
 // A change of what the store holds; whether the word asks for one that can be done.
 fn set_block<X: BlockHash>(world: &mut World<X>, word: Word, node: &[u8]) -> Result<bool, Memory> {
     match word {
@@ -203,6 +234,10 @@ fn set_store<X: BlockHash>(world: &mut World<X>, word: Word, rest: &str) -> Resu
     match word {
         Word::Mend => world.store = world.store_copied()?,
         Word::Nest => nest(world.alloc, &mut world.store, rest)?,
+        Word::ManyPins => {
+            let note = many_pins(world.alloc, number_of(rest))?;
+            return Ok(world.store.write_note(Note::Pins, note.as_slice()) == Put::Done);
+        }
         Word::Other => mem::swap(&mut world.store, &mut world.other),
         _ => {
             let node = bytes_of(world.alloc, rest)?;

@@ -73,12 +73,13 @@ enum Call {
     Output,
 }
 
-const CALLS: [(Call, &str); 8] = [
+const CALLS: [(Call, &str); 9] = [
     (Call::Store(CallKind::Load), "> load fails\n"),
     (Call::Store(CallKind::Save), "> save fails\n"),
     (Call::Store(CallKind::Sync), "> sync fails\n"),
     (Call::Store(CallKind::ReadNote), "> read-note fails\n"),
     (Call::Store(CallKind::WriteNote), "> write-note fails\n"),
+    (Call::Store(CallKind::Sweep), "> sweep fails\n"),
     (Call::Host, "> host fails\n"),
     (Call::Input, "> input fails\n"),
     (Call::Output, "> output fails\n"),
@@ -337,9 +338,10 @@ pub fn stop_all<X: BlockHash, N: NameHash, L: Ledger>(
     told: &mut Block,
     touches: &mut Steps<L>,
 ) -> Result<(), Memory> {
-    let first = world.store.writes();
+    let before = world.store.writes();
     act_and_tell::<X, N, L>(world, words, told, touches)?;
     tries.begin_kind();
+    let first = before.min(world.store.writes());
     for at in first..world.store.writes().saturating_add(1) {
         for is_lossy in [false, true] {
             stop_once::<X, N, L>(world, at, is_lossy, tries, touches)?;

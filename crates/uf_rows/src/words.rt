@@ -26,9 +26,11 @@ pub enum Word {
     Sync,
     ReadNote,
     WriteNote,
+    Sweep,
     Mend,
     Head,
     Pins,
+    ManyPins,
     Forget,
     ForgetLeaf,
     Spoil,
@@ -53,7 +55,7 @@ pub enum Word {
     Batch,
 }
 
-const WORDS: [(&str, Word); 43] = [
+const WORDS: [(&str, Word); 45] = [
     ("input", Word::Input),
     ("zeros", Word::Zeros),
     ("text", Word::Text),
@@ -74,9 +76,11 @@ const WORDS: [(&str, Word); 43] = [
     ("sync-fails", Word::Sync),
     ("read-note-fails", Word::ReadNote),
     ("write-note-fails", Word::WriteNote),
+    ("sweep-fails", Word::Sweep),
     ("mend", Word::Mend),
     ("head", Word::Head),
     ("pins", Word::Pins),
+    ("many-pins", Word::ManyPins),
     ("forget", Word::Forget),
     ("forget-leaf", Word::ForgetLeaf),
     ("spoil", Word::Spoil),

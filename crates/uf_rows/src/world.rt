@@ -168,7 +168,7 @@ fn act_over<X: BlockHash, N: NameHash, L: Ledger>(
         &mut ends.errors,
         touches,
     );
-    let wrote = before < world.store.writes();
+    let wrote = before != world.store.writes();
     world.note(ends, status, wrote)
 }
 

@@ -18,13 +18,15 @@ use Rattle.uf_lenient.specs.declared.unixfs.Unixfs.{Unixfs}
 use Rattle.uf_lenient.specs.declared.unixfs.Unixfs.TheVariants.{Directory, File, Other, OtherShard, Shard}
 use Rattle.uf_lenient.specs.Leading.{links_to_read}
 use Rattle.uf_lenient.specs.Unixfs.{content_says, is_hamt, message_says, node_says, of_kind, unixfs_of}
+use Rattle.uf_lenient.specs.Metas.{meta_read}
+use Rattle.uf_tree.specs.Metas.{none}
 use Rattle.uf_walk.specs.Order.{block_links, linked}
 
 -- no reading goes on from this block
 abbrev pub IsUnread : Unixfs → Type 0
-IsUnread (File bytes links) = ⊥
-IsUnread (Directory links) = ⊥
-IsUnread (Shard links) = ⊥
+IsUnread (File meta bytes links) = ⊥
+IsUnread (Directory meta links) = ⊥
+IsUnread (Shard meta links) = ⊥
 IsUnread OtherShard = ⊤
 IsUnread Other = ⊤
 
@@ -42,7 +44,7 @@ by_kind kind.Metadata m links = inr tt
 by_kind kind.Symlink m links = inr tt
 by_kind kind.Shard m links = hamt (is_hamt m)
   where
-    hamt : (b : Bool) → (links_to_read (if b then Shard links else OtherShard) ≡ links) ⊎ IsUnread (if b then Shard links else OtherShard)
+    hamt : (b : Bool) → (links_to_read (if b then Shard (meta_read m) links else OtherShard) ≡ links) ⊎ IsUnread (if b then Shard (meta_read m) links else OtherShard)
     hamt true = inl refl
     hamt false = inr tt
 
@@ -68,6 +70,6 @@ follows-alike c bytes u says = by c.codec refl says
     node (Ok n) is e = content n.links n.content is e
     node (Err f) is e = absurd (no_value _ u e)
 
-    by : (x : Codec) → c.codec ≡ x → ◌≡◌ {A = Result Unixfs DagFault} (elim x [ codec.Raw ↦ Ok (File bytes []) | codec.DagPb ↦ node_says c (node_reads bytes) ]) (Ok u) → FollowsAlike c bytes u
-    by codec.Raw is e = record { all = []; is = ap (λ x. block_links x bytes) is; read = subst (λ v. (links_to_read v ≡ []) ⊎ IsUnread v) (same_value (File bytes []) u e) (inl refl) }
+    by : (x : Codec) → c.codec ≡ x → ◌≡◌ {A = Result Unixfs DagFault} (elim x [ codec.Raw ↦ Ok (File none bytes []) | codec.DagPb ↦ node_says c (node_reads bytes) ]) (Ok u) → FollowsAlike c bytes u
+    by codec.Raw is e = record { all = []; is = ap (λ x. block_links x bytes) is; read = subst (λ v. (links_to_read v ≡ []) ⊎ IsUnread v) (same_value (File none bytes []) u e) (inl refl) }
     by codec.DagPb is e = node (node_reads bytes) (ap (λ x. block_links x bytes) is) e

@@ -42,9 +42,9 @@ both_of P Q [] h k = tt
 both_of P Q (c ∷ cs) h k = ((h.0, k.0), both_of P Q cs h.1 k.1)
 
 not_unread : (u : Unixfs) → IsFollowed u → IsUnread u → ⊥
-not_unread (File bytes links) h k = k
-not_unread (Directory links) h k = k
-not_unread (Shard links) h k = k
+not_unread (File meta bytes links) h k = k
+not_unread (Directory meta links) h k = k
+not_unread (Shard meta links) h k = k
 not_unread OtherShard h k = h
 not_unread Other h k = h
 

@@ -51,9 +51,9 @@ module _ (held : Lookup) (most : ℕ) (root : Cid) (list : List Cid) (is : order
       all = each_there f.all (λ d among. link-there c d there (record { links = map (λ (l : Link). l.cid) f.all; followed = followed; among = among }))
 
       none : (v : Unixfs) → IsUnread v → AllByRecursion (λ (l : Link). Contains list l.cid) (links_to_read v)
-      none (File bytes links) h = absurd h
-      none (Directory links) h = absurd h
-      none (Shard links) h = absurd h
+      none (File meta bytes links) h = absurd h
+      none (Directory meta links) h = absurd h
+      none (Shard meta links) h = absurd h
       none OtherShard h = tt
       none Other h = tt
 

@@ -10,11 +10,13 @@ use Rattle.uf_cid.specs.declared.cid.Codec.TheVariants.{DagPb}
 use Rattle.uf_cid.specs.Blocks.{Held}
 use Rattle.uf_cid.specs.Cid.{cid_of}
 use Rattle.uf_store.specs.declared.store.StoreFault.{StoreFault}
+use Rattle.uf_tree.specs.declared.meta.Meta.{Meta}
 use Rattle.uf_tree.specs.declared.nodes.Entry.{Entry}
 use Rattle.uf_murmur.specs.Slots.{slot}
 use Rattle.uf_tree.specs.declared.nodes.Item.{Item}
 use Rattle.uf_tree.specs.declared.nodes.Item.TheVariants.{Sub}
 use Rattle.uf_tree.specs.FilePlan.{Plan}
+use Rattle.uf_tree.specs.Metas.{none}
 use Rattle.uf_tree.specs.Nodes.{InSlot, Named, item_entry, node_entry, shard_block}
 use Rattle.uf_tree.specs.Shardable.{HasShard}
 use Rattle.uf_tree.specs.ShardPlan.{bucket, flat_tabulate, shard, shard_at, shard_below, shard_held, shard_items, slot_blocks, slot_item, tabulate}
@@ -146,7 +148,7 @@ for-shard N left less rows h two e =
     record { hashed = h.hashed; named = h.named; some = omega arith; apart = subst (λ (n : ℕ). HasShard N n (pairs_of rows)) same deep.2 }
 
 module _ (X : List ℕ → List ℕ) (N : List ℕ → ℕ) where
-  deeper-is : (left less : ℕ) → left ≡ suc less → (l : List Named) → deeper X N left l ≡ shard X N less l
+  deeper-is : (left less : ℕ) → left ≡ suc less → (l : List Named) → deeper X N left l ≡ shard X N less none l
   deeper-is left less e l = ap (λ n. deeper X N n l) e
 
   shared-item : (d : List Named → Plan) (l : List Named) → 2 ≤ length l → slot_item d l ≡ Some (Sub (d l).entry)
@@ -160,21 +162,21 @@ module _ (X : List ℕ → List ℕ) (N : List ℕ → ℕ) where
   shared-blocks d (e ∷ f ∷ l) h = refl
 
   -- what a slot has of more than one row
-  pub sub-item : (left less : ℕ) (rows : List Hashed) → 1 ≤ left → less ≡ left - 1 → 2 ≤ length rows → slot_item (deeper X N left) (pairs_of rows) ≡ Some (Sub (shard X N less (pairs_of rows)).entry)
+  pub sub-item : (left less : ℕ) (rows : List Hashed) → 1 ≤ left → less ≡ left - 1 → 2 ≤ length rows → slot_item (deeper X N left) (pairs_of rows) ≡ Some (Sub (shard X N less none (pairs_of rows)).entry)
   sub-item left less rows some e two =
       let count : length (pairs_of rows) ≡ length rows = length-map rows _ in
       shared-item (deeper X N left) (pairs_of rows) (omega arith) ∙ ap (λ (p : Plan). Some (Sub p.entry)) (deeper-is left less (omega arith) (pairs_of rows))
 
-  pub sub-blocks : (left less : ℕ) (rows : List Hashed) → 1 ≤ left → less ≡ left - 1 → 2 ≤ length rows → slot_blocks (deeper X N left) (pairs_of rows) ≡ (shard X N less (pairs_of rows)).blocks
+  pub sub-blocks : (left less : ℕ) (rows : List Hashed) → 1 ≤ left → less ≡ left - 1 → 2 ≤ length rows → slot_blocks (deeper X N left) (pairs_of rows) ≡ (shard X N less none (pairs_of rows)).blocks
   sub-blocks left less rows some e two =
       let count : length (pairs_of rows) ≡ length rows = length-map rows _ in
       shared-blocks (deeper X N left) (pairs_of rows) (omega arith) ∙ ap (λ (p : Plan). p.blocks) (deeper-is left less (omega arith) (pairs_of rows))
 
   -- a shard is the one over the shards one level deeper
-  pub shard-is : (left k : ℕ) (l : List Named) → k ≡ 7 - left → shard X N left l ≡ shard_at X N (deeper X N left) k l
+  pub shard-is : (left k : ℕ) (m : Meta) (l : List Named) → k ≡ 7 - left → shard X N left m l ≡ shard_at X N (deeper X N left) k m l
   unfolding shard
-  shard-is zero k l e = let seven : 7 ≡ k = omega arith in ap (λ (n : ℕ). shard_at X N (deeper X N zero) n l) seven
-  shard-is (suc left) k l e = let level : 6 - left ≡ k = omega arith in ap (λ (n : ℕ). shard_at X N (shard X N left) n l) level
+  shard-is zero k m l e = let seven : 7 ≡ k = omega arith in ap (λ (n : ℕ). shard_at X N (deeper X N zero) n m l) seven
+  shard-is (suc left) k m l e = let level : 6 - left ≡ k = omega arith in ap (λ (n : ℕ). shard_at X N (shard X N left none) n m l) level
 
   module _ (left k : ℕ) (rows : List Hashed) (slots : List (List Hashed)) (hashed : AreHashed N rows) (each : (s : ℕ) → s < 256 → get_or slots s [] ≡ rows_at k s rows) where
     pub items-are : tabulate 256 0 (item_at X N left slots) ≡ shard_items N (deeper X N left) k (pairs_of rows)
@@ -185,7 +187,7 @@ module _ (X : List ℕ → List ℕ) (N : List ℕ → ℕ) where
 
   deeper-valid : IsHash X → (left : ℕ) (l : List Named) → IsEntry (deeper X N left l).entry
   deeper-valid good zero l = node_entry-valid X good [] []
-  deeper-valid good (suc left) l = shard-valid X good N left l
+  deeper-valid good (suc left) l = shard-valid X good N left none l
 
   pub items-valid : IsHash X → (left k : ℕ) (rows : List Hashed) → AreForShard N left rows → IsShard (shard_items N (deeper X N left) k (pairs_of rows))
   items-valid good left k rows h =
@@ -203,18 +205,18 @@ module _ (X : List ℕ → List ℕ) (N : List ℕ → ℕ) where
     pub whole-items : (items : List InSlot) → items ≡ tabulate 256 0 (item_at X N left slots) → items ≡ shard_items N (deeper X N left) k (pairs_of rows)
     whole-items items is = is ∙ items-are left k rows slots h.hashed each
 
-    pub whole-blocks : (items : List InSlot) → items ≡ tabulate 256 0 (item_at X N left slots)
-        → shard_held X N items ∷ flat_tabulate 256 0 (blocks_at X N left slots) ≡ (shard X N left (pairs_of rows)).blocks
-    whole-blocks items is =
-        ap (λ (l : List InSlot). shard_held X N l ∷ flat_tabulate 256 0 (blocks_at X N left slots)) (whole-items items is)
-        ∙ ap (λ (l : List Held). shard_held X N (shard_items N (deeper X N left) k (pairs_of rows)) ∷ l) (blocks-are left k rows slots h.hashed each)
-        ∙ ap (λ (p : Plan). p.blocks) (sym (shard-is left k (pairs_of rows) level))
+    pub whole-blocks : (m : Meta) (items : List InSlot) → items ≡ tabulate 256 0 (item_at X N left slots)
+        → shard_held X N m items ∷ flat_tabulate 256 0 (blocks_at X N left slots) ≡ (shard X N left m (pairs_of rows)).blocks
+    whole-blocks m items is =
+        ap (λ (l : List InSlot). shard_held X N m l ∷ flat_tabulate 256 0 (blocks_at X N left slots)) (whole-items items is)
+        ∙ ap (λ (l : List Held). shard_held X N m (shard_items N (deeper X N left) k (pairs_of rows)) ∷ l) (blocks-are left k rows slots h.hashed each)
+        ∙ ap (λ (p : Plan). p.blocks) (sym (shard-is left k m (pairs_of rows) level))
 
-    pub whole-entry : (items : List InSlot) → items ≡ tabulate 256 0 (item_at X N left slots)
-        → node_entry X (shard_block items) (map (λ (p : InSlot). item_entry p.1) items) ≡ (shard X N left (pairs_of rows)).entry
-    whole-entry items is =
-        ap (λ (l : List InSlot). node_entry X (shard_block l) (map (λ (p : InSlot). item_entry p.1) l)) (whole-items items is)
-        ∙ ap (λ (p : Plan). p.entry) (sym (shard-is left k (pairs_of rows) level))
+    pub whole-entry : (m : Meta) (items : List InSlot) → items ≡ tabulate 256 0 (item_at X N left slots)
+        → node_entry X (shard_block m items) (map (λ (p : InSlot). item_entry p.1) items) ≡ (shard X N left m (pairs_of rows)).entry
+    whole-entry m items is =
+        ap (λ (l : List InSlot). node_entry X (shard_block m l) (map (λ (p : InSlot). item_entry p.1) l)) (whole-items items is)
+        ∙ ap (λ (p : Plan). p.entry) (sym (shard-is left k m (pairs_of rows) level))
 
     pub whole-valid : IsHash X → (items : List InSlot) → items ≡ tabulate 256 0 (item_at X N left slots) → IsShard items
     whole-valid good items is = subst IsShard (sym (whole-items items is)) (items-valid good left k rows h)
@@ -227,7 +229,7 @@ module _ (X : List ℕ → List ℕ) (N : List ℕ → ℕ) where
 
   deeper-good : (left : ℕ) (l : List Named) → AreGood X (deeper X N left l).blocks
   deeper-good zero l = tt
-  deeper-good (suc left) l = turned _ (shard-digested X N left l)
+  deeper-good (suc left) l = turned _ (shard-digested X N left none l)
 
   slot-good : (left : ℕ) (l : List Named) → AreGood X (slot_blocks (deeper X N left) l)
   slot-good left [] = tt

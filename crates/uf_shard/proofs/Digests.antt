@@ -2,7 +2,9 @@
 use Rattle.std.proofs.Common.{◌≡◌, ℕ, zero, suc, ◌-◌, List, [], ◌∷◌, refl}
 use Rattle.std.specs.List.{AllByRecursion}
 use Rattle.uf_cid.specs.Blocks.{Held}
+use Rattle.uf_tree.specs.declared.meta.Meta.{Meta}
 use Rattle.uf_tree.specs.FilePlan.{Plan}
+use Rattle.uf_tree.specs.Metas.{none}
 use Rattle.uf_tree.specs.Nodes.{Named}
 use Rattle.uf_tree.specs.ShardPlan.{shard, slot_blocks, bucket, no_shard}
 use Rattle.uf_tree.proofs.Each.{each_flat_tabulate}
@@ -17,7 +19,7 @@ module _ (X : List ℕ → List ℕ) (N : List ℕ → ℕ) where
   slot-digested deeper h (e ∷ []) = tt
   slot-digested deeper h (e ∷ f ∷ l) = h (e ∷ f ∷ l)
 
-  pub shard-digested : (left : ℕ) (l : List Named) → AllByRecursion Digested (shard X N left l).blocks
+  pub shard-digested : (left : ℕ) (m : Meta) (l : List Named) → AllByRecursion Digested (shard X N left m l).blocks
   unfolding shard
-  shard-digested zero l = (refl, each_flat_tabulate Digested 256 0 _ (λ s. slot-digested (no_shard X N) (λ l. tt) (bucket N 7 s l)))
-  shard-digested (suc left) l = (refl, each_flat_tabulate Digested 256 0 _ (λ s. slot-digested (shard X N left) (shard-digested left) (bucket N (6 - left) s l)))
+  shard-digested zero m l = (refl, each_flat_tabulate Digested 256 0 _ (λ s. slot-digested (no_shard X N) (λ l. tt) (bucket N 7 s l)))
+  shard-digested (suc left) m l = (refl, each_flat_tabulate Digested 256 0 _ (λ s. slot-digested (shard X N left none) (shard-digested left none) (bucket N (6 - left) s l)))

@@ -1,9 +1,12 @@
+pub mod Blaming
 pub mod BucketRows
+pub mod Carrying
 pub mod Collisions
 pub mod Ways
 pub mod Readings
 pub mod One
 pub mod Reaching
+pub mod Trails
 pub mod Walks
 pub mod Rows
 pub mod Weights
@@ -12,6 +15,7 @@ pub mod Sorts
 pub mod Touches
 pub mod Digests
 pub mod Alone
+pub mod AtRoot
 pub mod Ends
 pub mod Knowing
 pub mod Pairing

@@ -17,8 +17,12 @@ use Rattle.uf_store.specs.declared.store.StoreFault.{StoreFault}
 use Rattle.uf_store.specs.declared.store.StoreFault.TheVariants.{Failed, Damaged, Missing, BadBlock, Clash, Memory}
 use Rattle.std.specs.declared.result.Result.TheVariants.{Err}
 use Rattle.uf_tree.specs.declared.nodes.Entry.{Entry}
+use Rattle.uf_tree.specs.declared.meta.Meta.{Meta}
 use Rattle.uf_tree.specs.declared.nodes.Item.{Item}
+use Rattle.uf_tree.specs.declared.nodes.ShardNode.{ShardNode}
+use Rattle.uf_tree.specs.Codecs.{shard_node_block}
 use Rattle.uf_tree.specs.FilePlan.{Plan}
+use Rattle.uf_tree.specs.Metas.{none}
 use Rattle.uf_tree.specs.Names.{names_cmp}
 use Rattle.uf_tree.specs.Nodes.{InSlot, Named, item_entry, node_entry, shard_block}
 use Rattle.uf_tree.specs.Roles.{IsCanonicalShard}
@@ -33,7 +37,7 @@ use Rattle.uf_shard.specs.Buckets.{FitsSlot, deeper}
 use Rattle.uf_shard.specs.Placed.{way}
 use Rattle.uf_shard.specs.Reached.{HasPlaced, IsReached, LoadsPlaced}
 use Rattle.uf_shard.proofs.Digests.{shard-digested}
-use Rattle.uf_shard.proofs.One.{one_shard}
+use Rattle.uf_shard.proofs.One.{same-items, same-meta}
 use Rattle.uf_shard.proofs.Ways.{further, way-length}
 use Rattle.uf_shard.specs.Changed.{AreAlong, AreItems, IsSlot, MayLose, below, blocks_of, level, slots_of}
 use Rattle.uf_shard.specs.Known.{IsIn}
@@ -75,20 +79,20 @@ may-more told k l (Clash c x y) more h = h
 may-more told k l Memory more h = h
 
 module _ (X : List ℕ → List ℕ) (N : List ℕ → ℕ) where
-  pub shard-is : (left : ℕ) (l : List Named) → shard X N left l ≡ shard_at X N (deeper X N left) (level left) l
+  pub shard-is : (left : ℕ) (m : Meta) (l : List Named) → shard X N left m l ≡ shard_at X N (deeper X N left) (level left) m l
   unfolding shard
-  shard-is zero l = refl
-  shard-is (suc left) l = refl
+  shard-is zero m l = refl
+  shard-is (suc left) m l = refl
 
   -- the blocks of a shard: its own, and those below it
-  pub blocks-are : (left : ℕ) (l : List Named) → (shard X N left l).blocks ≡ shard_held X N (slots_of X N left l) ∷ below X N left l
-  blocks-are left l = ap (λ (p : Plan). p.blocks) (shard-is left l)
+  pub blocks-are : (left : ℕ) (m : Meta) (l : List Named) → (shard X N left m l).blocks ≡ shard_held X N m (slots_of X N left l) ∷ below X N left l
+  blocks-are left m l = ap (λ (p : Plan). p.blocks) (shard-is left m l)
 
-  pub entry-is : (left : ℕ) (l : List Named) → (shard X N left l).entry ≡ node_entry X (shard_block (slots_of X N left l)) (map (λ (p : InSlot). item_entry p.1) (slots_of X N left l))
-  entry-is left l = ap (λ (p : Plan). p.entry) (shard-is left l)
+  pub entry-is : (left : ℕ) (m : Meta) (l : List Named) → (shard X N left m l).entry ≡ node_entry X (shard_block m (slots_of X N left l)) (map (λ (p : InSlot). item_entry p.1) (slots_of X N left l))
+  entry-is left m l = ap (λ (p : Plan). p.entry) (shard-is left m l)
 
-  pub below-in : (left : ℕ) (l : List Named) → AreIn (below X N left l) (shard X N left l).blocks
-  below-in left l b i = subst (IsIn b) (sym (blocks-are left l)) (inr i)
+  pub below-in : (left : ℕ) (m : Meta) (l : List Named) → AreIn (below X N left l) (shard X N left m l).blocks
+  below-in left m l b i = subst (IsIn b) (sym (blocks-are left m l)) (inr i)
 
   -- the blocks below one of its slots
   pub slot-in : (left : ℕ) (hash : ℕ) (l : List Named) → AreIn (blocks_of X N left (bucket N (level left) (slot hash (level left)) l)) (below X N left l)
@@ -100,12 +104,12 @@ module _ (X : List ℕ → List ℕ) (N : List ℕ → ℕ) where
   turned [] h = tt
   turned (b ∷ l) h = (sym h.0, turned l h.1)
 
-  pub shard-good : (left : ℕ) (l : List Named) → AreGood X (shard X N left l).blocks
-  shard-good left l = turned _ (shard-digested X N left l)
+  pub shard-good : (left : ℕ) (m : Meta) (l : List Named) → AreGood X (shard X N left m l).blocks
+  shard-good left m l = turned _ (shard-digested X N left m l)
 
   deeper-good : (left : ℕ) (l : List Named) → AreGood X (deeper X N left l).blocks
   deeper-good zero l = tt
-  deeper-good (suc left) l = shard-good left l
+  deeper-good (suc left) l = shard-good left none l
 
   pub slot-good : (left : ℕ) (l : List Named) → AreGood X (blocks_of X N left l)
   slot-good left [] = tt
@@ -160,9 +164,9 @@ module _ (X : List ℕ → List ℕ) (N : List ℕ → ℕ) where
   module _ (good : IsHash X) where
     pub deeper-valid : (left : ℕ) (m : List Named) → IsEntry (deeper X N left m).entry
     deeper-valid zero m = node_entry-valid X good [] []
-    deeper-valid (suc left) m = shard-valid X good N left m
+    deeper-valid (suc left) m = shard-valid X good N left none m
 
-    module _ (hash left : ℕ) (root : Cid) (l : List Named) (low : left ≤ 7) (is : IsReached X N hash left root l) where
+    module _ (hash left : ℕ) (root : Cid) (m : Meta) (l : List Named) (low : left ≤ 7) (is : IsReached X N hash left root m l) where
       slots-valid : IsShard (slots_of X N left l)
       slots-valid = shard_items-valid N (deeper X N left) (deeper-valid left) (level left) l is.valid.each is.some
 
@@ -170,51 +174,56 @@ module _ (X : List ℕ → List ℕ) (N : List ℕ → ℕ) where
       along_each [] h = tt
       along_each (e ∷ m) h = (ap (way (N e.0)) (way-length hash (7 - left)) ∙ h.0, along_each m h.1)
 
-      canonical : IsCanonicalShard N (way hash (7 - left)) (shard_block (slots_of X N left l))
-      canonical = subst (λ (k : ℕ). IsCanonicalShard N (way hash (7 - left)) (shard_block (shard_items N (deeper X N left) k l))) (way-length hash (7 - left) ∙ sym (level-is left low))
-          (shard-canonical N (deeper X N left) (deeper-valid left) left (way hash (7 - left)) l (omega (arith, way-length hash (7 - left))) is.valid.each is.some (along_each l is.along) is.apart)
+      canonical : IsCanonicalShard N (way hash (7 - left)) (shard_block m (slots_of X N left l))
+      canonical = subst (λ (k : ℕ). IsCanonicalShard N (way hash (7 - left)) (shard_block m (shard_items N (deeper X N left) k l))) (way-length hash (7 - left) ∙ sym (level-is left low))
+          (shard-canonical N (deeper X N left) (deeper-valid left) left (way hash (7 - left)) m l (omega (arith, way-length hash (7 - left))) is.good is.carries is.valid.each is.some (along_each l is.along) is.apart)
 
-      root-is : root ≡ (shard_held X N (slots_of X N left l)).0
-      root-is = is.cid ∙ ap (λ (e : Entry). e.cid) (entry-is left l)
+      root-is : root ≡ (shard_held X N m (slots_of X N left l)).0
+      root-is = is.cid ∙ ap (λ (e : Entry). e.cid) (entry-is left m l)
 
       -- the block that is held under the CID is the shard's
-      the_block : (told : Told) (lent : List ℕ) → Agrees told (shard X N left l).blocks → IfSome told (λ t. held_at t root ≡ Some lent) → lent ≡ shard_block (slots_of X N left l)
+      the_block : (told : Told) (lent : List ℕ) → Agrees told (shard X N left m l).blocks → IfSome told (λ t. held_at t root ≡ Some lent) → lent ≡ shard_block m (slots_of X N left l)
       the_block None lent agrees held = absurd agrees
-      the_block (Some t) lent agrees held = by (held_at t root) held (subst (λ (c : Cid). IfSome (held_at t c) (λ bytes. bytes ≡ shard_block (slots_of X N left l))) (sym root-is) (first (subst (Agrees (Some t)) (blocks-are left l) agrees)))
+      the_block (Some t) lent agrees held = by (held_at t root) held (subst (λ (c : Cid). IfSome (held_at t c) (λ bytes. bytes ≡ shard_block m (slots_of X N left l))) (sym root-is) (first (subst (Agrees (Some t)) (blocks-are left m l) agrees)))
         where
-          first : Agrees (Some t) (shard_held X N (slots_of X N left l) ∷ below X N left l) → IfSome (held_at t (shard_held X N (slots_of X N left l)).0) (λ bytes. bytes ≡ shard_block (slots_of X N left l))
+          first : Agrees (Some t) (shard_held X N m (slots_of X N left l) ∷ below X N left l) → IfSome (held_at t (shard_held X N m (slots_of X N left l)).0) (λ bytes. bytes ≡ shard_block m (slots_of X N left l))
           first a = a.0
 
-          by : (o : Option (List ℕ)) → o ≡ Some lent → IfSome o (λ bytes. bytes ≡ shard_block (slots_of X N left l)) → lent ≡ shard_block (slots_of X N left l)
+          by : (o : Option (List ℕ)) → o ≡ Some lent → IfSome o (λ bytes. bytes ≡ shard_block m (slots_of X N left l)) → lent ≡ shard_block m (slots_of X N left l)
           by None e h = absurd (let no : None ≡ Some lent = e in cc)
           by (Some b) e h = (let same : b ≡ lent = cc in sym same) ∙ h
 
-      agrees_rest : (told : Told) → Agrees told (shard X N left l).blocks → Agrees told (below X N left l)
+      agrees_rest : (told : Told) → Agrees told (shard X N left m l).blocks → Agrees told (below X N left l)
       agrees_rest None a = a
-      agrees_rest (Some t) a = by (subst (Agrees (Some t)) (blocks-are left l) a)
+      agrees_rest (Some t) a = by (subst (Agrees (Some t)) (blocks-are left m l) a)
         where
-          by : Agrees (Some t) (shard_held X N (slots_of X N left l) ∷ below X N left l) → Agrees (Some t) (below X N left l)
+          by : Agrees (Some t) (shard_held X N m (slots_of X N left l) ∷ below X N left l) → Agrees (Some t) (below X N left l)
           by a = a.1
 
       -- its slots
-      pub items-read : (before : Seen) (told : Told) (items : List InSlot) → told ≡ before.told → Agrees before.told (shard X N left l).blocks → HasPlaced N hash (7 - left) root before items → AreItems X N hash left told items l
-      items-read before told items same agrees has = record {
+      pub items-read : (before : Seen) (told : Told) (node : ShardNode) → told ≡ before.told → Agrees before.told (shard X N left m l).blocks → HasPlaced N hash (7 - left) root before node → AreItems X N hash left told node.items l
+      items-read before told node same agrees has = record {
         valid = is.valid;
         apart = is.apart;
         along = is.along;
-        same = one_shard items (slots_of X N left l) has.placed.valid slots-valid (the_block before.told (shard_block items) agrees has.is_held);
+        same = same-items node m (slots_of X N left l) (record { items = has.is.placed.valid; meta = has.is.good }) is.good slots-valid (the_block before.told (shard_node_block node) agrees has.is_held);
         agrees = subst (λ (t : Told). Agrees t (below X N left l)) (sym same) (agrees_rest before.told agrees);
       }
 
+      -- its metadata
+      pub meta-read : (before : Seen) (node : ShardNode) → Agrees before.told (shard X N left m l).blocks → HasPlaced N hash (7 - left) root before node → node.meta ≡ m
+      meta-read before node agrees has =
+          same-meta node m (slots_of X N left l) (record { items = has.is.placed.valid; meta = has.is.good }) is.good slots-valid (the_block before.told (shard_node_block node) agrees has.is_held)
+
       -- a fault of the load
-      pub load-lost : (before now : Seen) (fault : StoreFault) → LoadsPlaced N hash (7 - left) root before now (Err fault) → Agrees before.told (shard X N left l).blocks → MayLose before.told (shard X N left l).blocks fault
+      pub load-lost : (before now : Seen) (fault : StoreFault) → LoadsPlaced N hash (7 - left) root before now (Err fault) → Agrees before.told (shard X N left m l).blocks → MayLose before.told (shard X N left m l).blocks fault
       load-lost before now Failed looks agrees = tt
       load-lost before now (Damaged c) looks agrees = tt
       load-lost before now (Missing c) looks agrees = lost before.told agrees looks.1
         where
-          lost : (told : Told) → Agrees told (shard X N left l).blocks → IfSome told (λ t. held_at t root ≡ None) → LosesOne told c (shard X N left l).blocks
+          lost : (told : Told) → Agrees told (shard X N left m l).blocks → IfSome told (λ t. held_at t root ≡ None) → LosesOne told c (shard X N left m l).blocks
           lost None a h = tt
-          lost (Some t) a h = subst (IsLost (held_at t) c) (sym (blocks-are left l)) (inl (looks.0 ∙ root-is, ap (held_at t) (sym root-is) ∙ h))
+          lost (Some t) a h = subst (IsLost (held_at t) c) (sym (blocks-are left m l)) (inl (looks.0 ∙ root-is, ap (held_at t) (sym root-is) ∙ h))
       load-lost before now (BadBlock c role) looks agrees = looks.bad (subst (IsCanonicalShard N (way hash (7 - left))) (sym (the_block before.told now.lent agrees looks.held)) canonical)
       load-lost before now (Clash c held bytes) looks agrees = absurd looks
       load-lost before now Memory looks agrees = tt

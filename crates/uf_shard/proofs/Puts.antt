@@ -17,10 +17,12 @@ use Rattle.uf_store.specs.Contents.{Told}
 use Rattle.uf_store.specs.Keeping.{Agrees, Holds, KeepsGood}
 use Rattle.uf_store.specs.declared.store.StoreFault.{StoreFault}
 use Rattle.uf_store.specs.declared.store.StoreFault.TheVariants.{Failed, Damaged, Missing, BadBlock, Clash, Memory}
+use Rattle.uf_tree.specs.declared.meta.Meta.{Meta}
 use Rattle.uf_tree.specs.declared.nodes.Entry.{Entry}
 use Rattle.uf_tree.specs.declared.nodes.Item.{Item}
 use Rattle.uf_tree.specs.declared.nodes.Item.TheVariants.{Leaf, Sub}
 use Rattle.uf_tree.specs.Changes.{set_at, with_name}
+use Rattle.uf_tree.specs.Metas.{none}
 use Rattle.uf_tree.specs.Names.{names_cmp}
 use Rattle.uf_tree.specs.Nodes.{InSlot, Named, item_entry, node_entry, shard_block}
 use Rattle.uf_tree.specs.Roles.{IsOnWay}
@@ -38,6 +40,7 @@ use Rattle.uf_shard.specs.Reached.{IsReached}
 use Rattle.uf_shard.proofs.Ways.{from_way, further, on_way, way-at, way-length}
 use Rattle.uf_shard.specs.Changed.{AreAlong, AreItems, AreTwins, GivesItem, GivesItems, HasNoTwin, IsItemAt, IsOrderedOr, IsSlot, LeafOr, MayLose, PutsSlot, PutsSlots, SavesBelow, below, blocks_of, item_of, level, slots_of}
 use Rattle.uf_shard.specs.Known.{AreKnown, IsIn}
+use Rattle.uf_shard.proofs.Carrying.{none-behind}
 use Rattle.uf_shard.proofs.Knowing.{AreIn, In-flat, known-flat, known-in, known-more, known-old}
 use Rattle.uf_shard.proofs.Pairing.{none_whole, twins_whole}
 use Rattle.uf_shard.proofs.Placing.{below-good, blocks-are, entry-is, level-is, may-more, slot-in, slot-read}
@@ -226,25 +229,25 @@ module _ (X : List ℕ → List ℕ) (N : List ℕ → ℕ) where
 
   -- ---- a shard below
 
-  module _ (before now : Told) (items : List InSlot) (e : Entry) (is : e ≡ node_entry X (shard_block items) (map (λ (p : InSlot). item_entry p.1) items)) (held : Holds now ((e.cid, shard_block items) ∷ []))
+  module _ (before now : Told) (m : Meta) (items : List InSlot) (e : Entry) (is : e ≡ node_entry X (shard_block m items) (map (λ (p : InSlot). item_entry p.1) items)) (held : Holds now ((e.cid, shard_block m items) ∷ []))
       (keeps : KeepsGood X before now) (old : List Held) (left : ℕ) (l : List Named) (gives : GivesItems X N before old left items l) where
     -- the entry of a shard that was saved of its slots
-    pub saved-entry : e ≡ (shard X N left l).entry
-    saved-entry = is ∙ ap (λ (i : List InSlot). node_entry X (shard_block i) (map (λ (p : InSlot). item_entry p.1) i)) gives.same ∙ sym (entry-is X N left l)
+    pub saved-entry : e ≡ (shard X N left m l).entry
+    saved-entry = is ∙ ap (λ (i : List InSlot). node_entry X (shard_block m i) (map (λ (p : InSlot). item_entry p.1) i)) gives.same ∙ sym (entry-is X N left m l)
 
     -- its blocks are held or old ones
-    pub saved-known : AreKnown now old (shard X N left l).blocks
+    pub saved-known : AreKnown now old (shard X N left m l).blocks
     saved-known =
-        let root : ◌≡◌ {A = Held} (e.cid, shard_block items) (shard_held X N (slots_of X N left l)) = λ i. ((ap (λ (x : Entry). x.cid) (saved-entry ∙ entry-is X N left l)) i, shard_block (gives.same i)) in
-        subst (AreKnown now old) (sym (blocks-are X N left l))
+        let root : ◌≡◌ {A = Held} (e.cid, shard_block m items) (shard_held X N m (slots_of X N left l)) = λ i. ((ap (λ (x : Entry). x.cid) (saved-entry ∙ entry-is X N left m l)) i, shard_block m (gives.same i)) in
+        subst (AreKnown now old) (sym (blocks-are X N left m l))
         (inl (subst (λ (b : Held). Holds now (b ∷ [])) root held), known-more X before now old old (below X N left l) (below-good X N left l) keeps (λ b i. i) gives.known)
 
   -- what the slot above has then
-  pub saved-below : (before now : Told) (items : List InSlot) (e : Entry) → e ≡ node_entry X (shard_block items) (map (λ (p : InSlot). item_entry p.1) items) → Holds now ((e.cid, shard_block items) ∷ []) → KeepsGood X before now
+  pub saved-below : (before now : Told) (items : List InSlot) (e : Entry) → e ≡ node_entry X (shard_block none items) (map (λ (p : InSlot). item_entry p.1) items) → Holds now ((e.cid, shard_block none items) ∷ []) → KeepsGood X before now
       → (old : List Held) (left : ℕ) (l : List Named) → 2 ≤ length l → GivesItems X N before old left items l → GivesItem X N now old (suc left) (Some (Sub e)) l
   saved-below before now items e is held keeps old left l many gives = record {
-    same = ap (λ (x : Entry). Some (Sub x)) (saved-entry before now items e is held keeps old left l gives) ∙ sym (many-item (shard X N left) l many);
-    known = subst (AreKnown now old) (sym (many-blocks (shard X N left) l many)) (saved-known before now items e is held keeps old left l gives);
+    same = ap (λ (x : Entry). Some (Sub x)) (saved-entry before now none items e is held keeps old left l gives) ∙ sym (many-item (shard X N left none) l many);
+    known = subst (AreKnown now old) (sym (many-blocks (shard X N left none) l many)) (saved-known before now none items e is held keeps old left l gives);
   }
 
   -- a shard that is saved shows no collision
@@ -276,14 +279,14 @@ module _ (X : List ℕ → List ℕ) (N : List ℕ → ℕ) where
   module _ (hash left : ℕ) (before : Told) (be : Entry) (l : List Named) (low : left ≤ 7) (some : 1 ≤ left) (slotted : IsSlot X N hash left before (Some (Sub be)) l) where
     pub record Deeper : Type 0 where
       pub many : 2 ≤ length l
-      pub reached : IsReached X N hash (left - 1) be.cid l
-      pub blocks : blocks_of X N left l ≡ (shard X N (left - 1) l).blocks
+      pub reached : IsReached X N hash (left - 1) be.cid none l
+      pub blocks : blocks_of X N left l ≡ (shard X N (left - 1) none l).blocks
 
     pub deeper-reached : Deeper
     deeper-reached = by left refl
       where
-        sub : (k : ℕ) → left ≡ suc k → (2 ≤ length l) × (be ≡ (shard X N k l).entry)
-        sub k at = sub-many (shard X N k) be l (subst (λ (n : ℕ). Some (Sub be) ≡ item_of X N n l) at slotted.same)
+        sub : (k : ℕ) → left ≡ suc k → (2 ≤ length l) × (be ≡ (shard X N k none l).entry)
+        sub k at = sub-many (shard X N k none) be l (subst (λ (n : ℕ). Some (Sub be) ≡ item_of X N n l) at slotted.same)
 
         apart : (k : ℕ) → 2 ≤ length l → FitsSlot N (suc k) l → HasShard N k l
         apart k many (inl few) = absurd (omega arith)
@@ -298,33 +301,35 @@ module _ (X : List ℕ → List ℕ) (N : List ℕ → ℕ) where
             record {
               many = parts.0;
               reached = record {
+                good = refl;
+                carries = none-behind (way hash (7 - (left - 1)));
                 valid = slotted.valid;
                 some = omega (arith, parts.0);
                 apart = subst (λ (n : ℕ). HasShard N n l) less (apart k parts.0 (subst (λ (n : ℕ). FitsSlot N n l) at slotted.fits));
                 along = subst (λ (n : ℕ). AreAlong N hash n l) levels slotted.along;
-                cid = ap (λ (x : Entry). x.cid) parts.1 ∙ ap (λ (n : ℕ). (shard X N n l).entry.cid) less;
+                cid = ap (λ (x : Entry). x.cid) parts.1 ∙ ap (λ (n : ℕ). (shard X N n none l).entry.cid) less;
               };
-              blocks = ap (λ (n : ℕ). blocks_of X N n l) at ∙ many-blocks (shard X N k) l parts.0 ∙ ap (λ (n : ℕ). (shard X N n l).blocks) less;
+              blocks = ap (λ (n : ℕ). blocks_of X N n l) at ∙ many-blocks (shard X N k none) l parts.0 ∙ ap (λ (n : ℕ). (shard X N n none l).blocks) less;
             }
 
-    pub deeper-agrees : Agrees before (shard X N (left - 1) l).blocks
+    pub deeper-agrees : Agrees before (shard X N (left - 1) none l).blocks
     deeper-agrees = subst (Agrees before) deeper-reached.blocks slotted.agrees
 
     -- a fault below
     pub sub-err : (mid now : Told) (name : List ℕ) (e : Entry) (fault : DirFault)
-        → ((m : List Named) → IsReached X N hash (left - 1) be.cid m → Agrees before (shard X N (left - 1) m).blocks → PutsSlots X N before mid (shard X N (left - 1) m).blocks (left - 1) name e m (Err fault))
+        → ((m : List Named) → IsReached X N hash (left - 1) be.cid none m → Agrees before (shard X N (left - 1) none m).blocks → PutsSlots X N before mid (shard X N (left - 1) none m).blocks (left - 1) name e m (Err fault))
         → PutsSlot X N before now (blocks_of X N left l) left name e l (Err fault)
     sub-err mid now name e (Collision first second) inner = inner l deeper-reached.reached deeper-agrees
     sub-err mid now name e TooBig inner = absurd (inner l deeper-reached.reached deeper-agrees)
     sub-err mid now name e (Store fault) inner = subst (λ (olds : List Held). MayLose before olds fault) (sym deeper-reached.blocks) (inner l deeper-reached.reached deeper-agrees)
 
     pub sub-ok : (mid now : Told) (name : List ℕ) (e : Entry) (items : List InSlot) (r : Result Item DirFault)
-        → ((m : List Named) → IsReached X N hash (left - 1) be.cid m → Agrees before (shard X N (left - 1) m).blocks → PutsSlots X N before mid (shard X N (left - 1) m).blocks (left - 1) name e m (Ok items))
+        → ((m : List Named) → IsReached X N hash (left - 1) be.cid none m → Agrees before (shard X N (left - 1) none m).blocks → PutsSlots X N before mid (shard X N (left - 1) none m).blocks (left - 1) name e m (Ok items))
         → SavesBelow X N mid now items r → PutsSlot X N before now (blocks_of X N left l) left name e l r
     sub-ok mid now name e items (Ok item) inner saves =
         let given = inner l deeper-reached.reached deeper-agrees in
         let more : 2 ≤ length (with_name name e l) = omega (arith, deeper-reached.many, put-more name e l) in
-        let after = saves (shard X N (left - 1) l).blocks (left - 1) (with_name name e l) more given.1 in
+        let after = saves (shard X N (left - 1) none l).blocks (left - 1) (with_name name e l) more given.1 in
         let level : suc (left - 1) ≡ left = omega arith in (
           given.0,
           subst (λ (n : ℕ). GivesItem X N now (blocks_of X N left l) n (Some item) (with_name name e l)) level

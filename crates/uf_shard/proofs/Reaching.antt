@@ -17,6 +17,9 @@ use Rattle.uf_store.specs.declared.store.StoreFault.{StoreFault}
 use Rattle.uf_store.specs.declared.store.StoreFault.TheVariants.{Failed, Damaged, Missing, BadBlock, Clash, Memory}
 use Rattle.uf_tree.specs.declared.nodes.Entry.{Entry}
 use Rattle.uf_tree.specs.FilePlan.{Plan}
+use Rattle.uf_tree.specs.declared.meta.Meta.{Meta}
+use Rattle.uf_tree.specs.Codecs.{shard_node_block}
+use Rattle.uf_tree.specs.Metas.{none}
 use Rattle.uf_tree.specs.Names.{names_cmp}
 use Rattle.uf_tree.specs.Nodes.{InSlot, Named, shard_block}
 use Rattle.uf_tree.specs.Roles.{IsCanonicalShard}
@@ -35,7 +38,8 @@ use Rattle.uf_shard.specs.Reached.{IsReached, LooksAt, SaysOf}
 use Rattle.uf_shard.specs.Spots.{HasRoom, spot_of}
 use Rattle.uf_shard.specs.declared.spot.Spot.{Spot}
 use Rattle.uf_shard.specs.declared.spot.Spot.TheVariants.{Here, Below}
-use Rattle.uf_shard.proofs.One.{one_shard}
+use Rattle.uf_shard.proofs.Carrying.{none-behind}
+use Rattle.uf_shard.proofs.One.{same-items}
 use Rattle.uf_shard.proofs.Ways.{way-length, further}
 
 -- the level that has so many below it
@@ -61,37 +65,37 @@ module _ (X : List ℕ → List ℕ) (N : List ℕ → ℕ) where
   -- what stands for the pairs that share a slot
   abbrev pub deeper_of : ℕ → List Named → Plan
   deeper_of zero l = no_shard X N l
-  deeper_of (suc left) l = shard X N left l
+  deeper_of (suc left) l = shard X N left none l
 
   -- the items of a shard
   abbrev pub items_of : ℕ → List Named → List InSlot
   items_of left l = shard_items N (deeper_of left) (level_of left) l
 
-  pub shard-is : (left : ℕ) (l : List Named) → shard X N left l ≡ shard_at X N (deeper_of left) (level_of left) l
+  pub shard-is : (left : ℕ) (m : Meta) (l : List Named) → shard X N left m l ≡ shard_at X N (deeper_of left) (level_of left) m l
   unfolding shard
-  shard-is zero l = refl
-  shard-is (suc left) l = refl
+  shard-is zero m l = refl
+  shard-is (suc left) m l = refl
 
   -- the pairs in a name's slot
   abbrev pub slot_of : ℕ → ℕ → List Named → List Named
   slot_of hash left l = bucket N (level_of left) (slot hash (level_of left)) l
 
   -- the trail below a shard
-  abbrev trail_below : ℕ → List Named → List ℕ → List Held
+  abbrev pub trail_below : ℕ → List Named → List ℕ → List Held
   trail_below zero l name = []
-  trail_below (suc left) l name = where_shared (slot_of (N name) (suc left) l) (shard_trail X N left (slot_of (N name) (suc left) l) name)
+  trail_below (suc left) l name = where_shared (slot_of (N name) (suc left) l) (shard_trail X N left none (slot_of (N name) (suc left) l) name)
 
-  trail-is : (left : ℕ) (l : List Named) (name : List ℕ) → shard_trail X N left l name ≡ shard_held X N (items_of left l) ∷ trail_below left l name
+  pub trail-is : (left : ℕ) (m : Meta) (l : List Named) (name : List ℕ) → shard_trail X N left m l name ≡ shard_held X N m (items_of left l) ∷ trail_below left l name
   unfolding shard_trail shard
-  trail-is zero l name = refl
-  trail-is (suc left) l name = refl
+  trail-is zero m l name = refl
+  trail-is (suc left) m l name = refl
 
   module _ (good : IsHash X) where
     deeper-valid : (left : ℕ) (m : List Named) → IsEntry (deeper_of left m).entry
     deeper-valid zero m = node_entry-valid X good [] []
-    deeper-valid (suc left) m = shard-valid X good N left m
+    deeper-valid (suc left) m = shard-valid X good N left none m
 
-    module _ (hash left : ℕ) (root : Cid) (l : List Named) (low : left ≤ 7) (is : IsReached X N hash left root l) where
+    module _ (hash left : ℕ) (root : Cid) (m : Meta) (l : List Named) (low : left ≤ 7) (is : IsReached X N hash left root m l) where
       pub items-valid : IsShard (items_of left l)
       items-valid = shard_items-valid N (deeper_of left) (deeper-valid left) (level_of left) l is.valid.each is.some
 
@@ -100,33 +104,33 @@ module _ (X : List ℕ → List ℕ) (N : List ℕ → ℕ) where
       along_each [] h = tt
       along_each (e ∷ m) h = (ap (way (N e.0)) (way-length hash (7 - left)) ∙ h.0, along_each m h.1)
 
-      canonical : IsCanonicalShard N (way hash (7 - left)) (shard_block (items_of left l))
-      canonical = subst (λ (k : ℕ). IsCanonicalShard N (way hash (7 - left)) (shard_block (shard_items N (deeper_of left) k l))) (way-length hash (7 - left) ∙ sym (level-is left low))
-          (shard-canonical N (deeper_of left) (deeper-valid left) left (way hash (7 - left)) l (omega (arith, way-length hash (7 - left))) is.valid.each is.some (along_each l is.along) is.apart)
+      canonical : IsCanonicalShard N (way hash (7 - left)) (shard_block m (items_of left l))
+      canonical = subst (λ (k : ℕ). IsCanonicalShard N (way hash (7 - left)) (shard_block m (shard_items N (deeper_of left) k l))) (way-length hash (7 - left) ∙ sym (level-is left low))
+          (shard-canonical N (deeper_of left) (deeper-valid left) left (way hash (7 - left)) m l (omega (arith, way-length hash (7 - left))) is.good is.carries is.valid.each is.some (along_each l is.along) is.apart)
 
       -- the block that is held under the CID is the shard's
-      pub the_block : (told : Told) (name lent : List ℕ) → Agrees told (shard_trail X N left l name) → IfSome told (λ t. held_at t root ≡ Some lent) → lent ≡ shard_block (items_of left l)
+      pub the_block : (told : Told) (name lent : List ℕ) → Agrees told (shard_trail X N left m l name) → IfSome told (λ t. held_at t root ≡ Some lent) → lent ≡ shard_block m (items_of left l)
       the_block None name lent agrees held = absurd agrees
-      the_block (Some t) name lent agrees held = by (held_at t root) held (subst (λ (c : Cid). IfSome (held_at t c) (λ bytes. bytes ≡ shard_block (items_of left l))) (sym (is.cid ∙ ap (λ (p : Plan). p.entry.cid) (shard-is left l))) (first (subst (Agrees (Some t)) (trail-is left l name) agrees)))
+      the_block (Some t) name lent agrees held = by (held_at t root) held (subst (λ (c : Cid). IfSome (held_at t c) (λ bytes. bytes ≡ shard_block m (items_of left l))) (sym (is.cid ∙ ap (λ (p : Plan). p.entry.cid) (shard-is left m l))) (first (subst (Agrees (Some t)) (trail-is left m l name) agrees)))
         where
-          first : Agrees (Some t) (shard_held X N (items_of left l) ∷ trail_below left l name) → IfSome (held_at t (shard_held X N (items_of left l)).0) (λ bytes. bytes ≡ shard_block (items_of left l))
+          first : Agrees (Some t) (shard_held X N m (items_of left l) ∷ trail_below left l name) → IfSome (held_at t (shard_held X N m (items_of left l)).0) (λ bytes. bytes ≡ shard_block m (items_of left l))
           first a = a.0
 
-          by : (o : Option (List ℕ)) → o ≡ Some lent → IfSome o (λ bytes. bytes ≡ shard_block (items_of left l)) → lent ≡ shard_block (items_of left l)
+          by : (o : Option (List ℕ)) → o ≡ Some lent → IfSome o (λ bytes. bytes ≡ shard_block m (items_of left l)) → lent ≡ shard_block m (items_of left l)
           by None e h = absurd (let no : None ≡ Some lent = e in cc)
           by (Some b) e h = (let same : b ≡ lent = cc in sym same) ∙ h
 
       -- it isn't bad
-      pub not_bad : (told : Told) (name lent : List ℕ) → Agrees told (shard_trail X N left l name) → IfSome told (λ t. held_at t root ≡ Some lent) → (IsCanonicalShard N (way hash (7 - left)) lent → ⊥) → ⊥
+      pub not_bad : (told : Told) (name lent : List ℕ) → Agrees told (shard_trail X N left m l name) → IfSome told (λ t. held_at t root ≡ Some lent) → (IsCanonicalShard N (way hash (7 - left)) lent → ⊥) → ⊥
       not_bad told name lent agrees held bad = bad (subst (IsCanonicalShard N (way hash (7 - left))) (sym (the_block told name lent agrees held)) canonical)
 
       -- what it says is what its slot has
-      pub it_says : (name : List ℕ) (before : Seen) (spot : Spot) → Agrees before.told (shard_trail X N left l name) → SaysOf N hash (7 - left) root name before spot
+      pub it_says : (name : List ℕ) (before : Seen) (spot : Spot) → Agrees before.told (shard_trail X N left m l name) → SaysOf N hash (7 - left) root name before spot
           → spot ≡ spot_of name (slot_item (deeper_of left) (slot_of hash left l))
       it_says name before spot agrees says =
-          let same : says.items ≡ items_of left l = one_shard says.items (items_of left l) says.has.placed.valid items-valid (the_block before.told name (shard_block says.items) agrees says.has.is_held) in
+          let same : says.node.items ≡ items_of left l = same-items says.node m (items_of left l) (record { items = says.has.is.placed.valid; meta = says.has.is.good }) is.good items-valid (the_block before.told name (shard_node_block says.node) agrees says.has.is_held) in
           says.says
-          ∙ ap (λ (k : ℕ). spot_of name (find nat_cmp (slot hash k) says.items)) (sym (level-is left low))
+          ∙ ap (λ (k : ℕ). spot_of name (find nat_cmp (slot hash k) says.node.items)) (sym (level-is left low))
           ∙ ap (λ (i : List InSlot). spot_of name (find nat_cmp (slot hash (level_of left)) i)) same
           ∙ ap (spot_of name) (find-tabulate 256 0 (λ s. slot_item (deeper_of left) (bucket N (level_of left) s l)) (slot hash (level_of left)) (omega arith) (let b : slot hash (level_of left) < 256 = slot-bound hash (level_of left) in omega arith))
 
@@ -136,7 +140,7 @@ module _ (X : List ℕ → List ℕ) (N : List ℕ → ℕ) where
       ∙ ap (λ b. cond b (find names_cmp name l) None) (eqb_same (slot (N name) k)))
 
   -- an answer here is the value in the slot, and the trail ends
-  here_value : (d : List Named → Plan) (name : List ℕ) (b : List Named) (path : List Held) (e : Option Entry) → Here e ≡ spot_of name (slot_item d b) → (e ≡ find names_cmp name b) × (where_shared b path ≡ [])
+  pub here_value : (d : List Named → Plan) (name : List ℕ) (b : List Named) (path : List Held) (e : Option Entry) → Here e ≡ spot_of name (slot_item d b) → (e ≡ find names_cmp name b) × (where_shared b path ≡ [])
   here_value d name [] path e h = (cc, refl)
   here_value d name (x ∷ []) path e h = (cc, refl)
   here_value d name (x ∷ y ∷ b) path e h = absurd (no h)
@@ -145,13 +149,13 @@ module _ (X : List ℕ → List ℕ) (N : List ℕ → ℕ) where
       no h = cc
 
   -- an answer below is the shard of the slot's pairs
-  record Goes (d : List Named → Plan) (c : Cid) (b : List Named) (path : List Held) : Type 0 where
+  pub record Goes (d : List Named → Plan) (c : Cid) (b : List Named) (path : List Held) : Type 0 where
     pub cid : c ≡ (d b).entry.cid
     pub shared : where_shared b path ≡ path
     pub some : 1 ≤ length b
     pub many : length b ≤ 1 → ⊥
 
-  below_goes : (d : List Named → Plan) (name : List ℕ) (b : List Named) (path : List Held) (c : Cid) → Below c ≡ spot_of name (slot_item d b) → Goes d c b path
+  pub below_goes : (d : List Named → Plan) (name : List ℕ) (b : List Named) (path : List Held) (c : Cid) → Below c ≡ spot_of name (slot_item d b) → Goes d c b path
   below_goes d name [] path c h = absurd (no h)
     where
       no : Below c ≡ Here None → ⊥
@@ -170,46 +174,46 @@ module _ (X : List ℕ → List ℕ) (N : List ℕ → ℕ) where
 
   module _ (good : IsHash X) (name : List ℕ) where
     -- the first block of the trail
-    abbrev head_of : ℕ → List Named → Held
-    head_of left l = shard_held X N (items_of left l)
+    abbrev pub head_of : ℕ → Meta → List Named → Held
+    head_of left m l = shard_held X N m (items_of left l)
 
-    root-is : (left : ℕ) (root : Cid) (l : List Named) → IsReached X N (N name) left root l → root ≡ (head_of left l).0
-    root-is left root l is = is.cid ∙ ap (λ (p : Plan). p.entry.cid) (shard-is left l)
+    pub root-is : (left : ℕ) (root : Cid) (m : Meta) (l : List Named) → IsReached X N (N name) left root m l → root ≡ (head_of left m l).0
+    root-is left root m l is = is.cid ∙ ap (λ (p : Plan). p.entry.cid) (shard-is left m l)
 
-    head-held : (left : ℕ) (root : Cid) (l : List Named) → left ≤ 7 → IsReached X N (N name) left root l → (t : Contents) (lent : List ℕ) → Agrees (Some t) (shard_trail X N left l name) → held_at t root ≡ Some lent
-        → held_at t (head_of left l).0 ≡ Some (head_of left l).1
-    head-held left root l low is t lent agrees held = ap (held_at t) (sym (root-is left root l is)) ∙ held ∙ ap (λ (b : List ℕ). Some b) (the_block good (N name) left root l low is (Some t) name lent agrees held)
+    pub head-held : (left : ℕ) (root : Cid) (m : Meta) (l : List Named) → left ≤ 7 → IsReached X N (N name) left root m l → (t : Contents) (lent : List ℕ) → Agrees (Some t) (shard_trail X N left m l name) → held_at t root ≡ Some lent
+        → held_at t (head_of left m l).0 ≡ Some (head_of left m l).1
+    head-held left root m l low is t lent agrees held = ap (held_at t) (sym (root-is left root m l is)) ∙ held ∙ ap (λ (b : List ℕ). Some b) (the_block good (N name) left root m l low is (Some t) name lent agrees held)
 
     -- a fault that shows its cause while the store stayed calm
-    pub find-err : (left : ℕ) (root : Cid) (l : List Named) → left ≤ 7 → (before now : Seen) (fault : StoreFault) (value : Option Entry)
+    pub find-err : (left : ℕ) (root : Cid) (m : Meta) (l : List Named) → left ≤ 7 → (before now : Seen) (fault : StoreFault) (value : Option Entry)
         → LooksAt N (N name) (7 - left) root name before now (Err fault) → Answers {A = Spot} X (IsBadOnWay N (N name)) (Err fault) before now
-        → IsReached X N (N name) left root l → Agrees before.told (shard_trail X N left l name) → Stood before.faults now.faults
-        → FindsOver before.told (shard_trail X N left l name) value (Err fault)
-    find-err left root l low before now Failed value looks cause is agrees stood = let r = cause.rose in omega (arith, r, stood)
-    find-err left root l low before now (Damaged c) value looks cause is agrees stood = let r = cause.rose in omega (arith, r, stood)
-    find-err left root l low before now (Missing c) value looks cause is agrees stood = lost before.told agrees looks.1
+        → IsReached X N (N name) left root m l → Agrees before.told (shard_trail X N left m l name) → Stood before.faults now.faults
+        → FindsOver before.told (shard_trail X N left m l name) value (Err fault)
+    find-err left root m l low before now Failed value looks cause is agrees stood = let r = cause.rose in omega (arith, r, stood)
+    find-err left root m l low before now (Damaged c) value looks cause is agrees stood = let r = cause.rose in omega (arith, r, stood)
+    find-err left root m l low before now (Missing c) value looks cause is agrees stood = lost before.told agrees looks.1
       where
-        lost : (told : Told) → Agrees told (shard_trail X N left l name) → IfSome told (λ t. held_at t root ≡ None) → FindsOver told (shard_trail X N left l name) value (Err (Missing c))
+        lost : (told : Told) → Agrees told (shard_trail X N left m l name) → IfSome told (λ t. held_at t root ≡ None) → FindsOver told (shard_trail X N left m l name) value (Err (Missing c))
         lost None a h = tt
-        lost (Some t) a h = subst (λ (path : List Held). FindsOver (Some t) path value (Err (Missing c))) (sym (trail-is left l name)) (inl (looks.0 ∙ root-is left root l is, ap (held_at t) (sym (root-is left root l is)) ∙ h))
-    find-err left root l low before now (BadBlock c role) value looks cause is agrees stood = not_bad good (N name) left root l low is before.told name now.lent agrees looks.held looks.bad
-    find-err left root l low before now (Clash c held bytes) value looks cause is agrees stood = looks
-    find-err left root l low before now Memory value looks cause is agrees stood = tt
+        lost (Some t) a h = subst (λ (path : List Held). FindsOver (Some t) path value (Err (Missing c))) (sym (trail-is left m l name)) (inl (looks.0 ∙ root-is left root m l is, ap (held_at t) (sym (root-is left root m l is)) ∙ h))
+    find-err left root m l low before now (BadBlock c role) value looks cause is agrees stood = not_bad good (N name) left root m l low is before.told name now.lent agrees looks.held looks.bad
+    find-err left root m l low before now (Clash c held bytes) value looks cause is agrees stood = looks
+    find-err left root m l low before now Memory value looks cause is agrees stood = tt
 
     -- the name is decided here
-    pub find-here : (left : ℕ) (root : Cid) (l : List Named) → left ≤ 7 → (before : Seen) (e : Option Entry) → SaysOf N (N name) (7 - left) root name before (Here e)
-        → IsReached X N (N name) left root l → Agrees before.told (shard_trail X N left l name) → (e ≡ find names_cmp name l) × Holds before.told (shard_trail X N left l name)
-    find-here left root l low before e says is agrees =
-        let said = it_says good (N name) left root l low is name before (Here e) agrees says in
-        ((here_value (deeper_of left) name (slot_of (N name) left l) [] e said).0 ∙ sym (find-slot (level_of left) name l), subst (Holds before.told) (sym (trail-is left l name)) (all before.told agrees says.has.is_held))
+    pub find-here : (left : ℕ) (root : Cid) (m : Meta) (l : List Named) → left ≤ 7 → (before : Seen) (e : Option Entry) → SaysOf N (N name) (7 - left) root name before (Here e)
+        → IsReached X N (N name) left root m l → Agrees before.told (shard_trail X N left m l name) → (e ≡ find names_cmp name l) × Holds before.told (shard_trail X N left m l name)
+    find-here left root m l low before e says is agrees =
+        let said = it_says good (N name) left root m l low is name before (Here e) agrees says in
+        ((here_value (deeper_of left) name (slot_of (N name) left l) [] e said).0 ∙ sym (find-slot (level_of left) name l), subst (Holds before.told) (sym (trail-is left m l name)) (all before.told agrees says.has.is_held))
       where
         ends : (left : ℕ) (d : List Named → Plan) → Here e ≡ spot_of name (slot_item d (slot_of (N name) left l)) → trail_below left l name ≡ []
         ends zero d h = refl
-        ends (suc left) d h = (here_value d name (slot_of (N name) (suc left) l) (shard_trail X N left (slot_of (N name) (suc left) l) name) e h).1
+        ends (suc left) d h = (here_value d name (slot_of (N name) (suc left) l) (shard_trail X N left none (slot_of (N name) (suc left) l) name) e h).1
 
-        all : (told : Told) → Agrees told (shard_trail X N left l name) → IfSome told (λ t. held_at t root ≡ Some (shard_block says.items)) → Holds told (head_of left l ∷ trail_below left l name)
+        all : (told : Told) → Agrees told (shard_trail X N left m l name) → IfSome told (λ t. held_at t root ≡ Some (shard_node_block says.node)) → Holds told (head_of left m l ∷ trail_below left l name)
         all None a h = absurd a
-        all (Some t) a h = subst (λ (path : List Held). Holds (Some t) (head_of left l ∷ path)) (sym (ends left (deeper_of left) (it_says good (N name) left root l low is name before (Here e) agrees says))) (head-held left root l low is t (shard_block says.items) a h, tt)
+        all (Some t) a h = subst (λ (path : List Held). Holds (Some t) (head_of left m l ∷ path)) (sym (ends left (deeper_of left) (it_says good (N name) left root m l low is name before (Here e) agrees says))) (head-held left root m l low is t (shard_node_block says.node) a h, tt)
 
     -- the names of a slot share one slot more
     along_slot : (left : ℕ) (m : List Named) → left ≤ 6 → AllByRecursion (λ (e : Named). way (N e.0) (7 - suc left) ≡ way (N name) (7 - suc left)) m
@@ -226,9 +230,11 @@ module _ (X : List ℕ → List ℕ) (N : List ℕ → ℕ) where
         by false k later = later
 
     -- the shard below is reached
-    reached_below : (left : ℕ) (root c : Cid) (l : List Named) (path : List Held) → suc left ≤ 7 → IsReached X N (N name) (suc left) root l → Goes (shard X N left) c (slot_of (N name) (suc left) l) path → IsReached X N (N name) left c (slot_of (N name) (suc left) l)
+    pub reached_below : (left : ℕ) (root c : Cid) (m : Meta) (l : List Named) (path : List Held) → suc left ≤ 7 → IsReached X N (N name) (suc left) root m l → Goes (shard X N left none) c (slot_of (N name) (suc left) l) path → IsReached X N (N name) left c none (slot_of (N name) (suc left) l)
     unfolding HasShard
-    reached_below left root c l path low is goes = record {
+    reached_below left root c m l path low is goes = record {
+      good = refl;
+      carries = none-behind (way (N name) (7 - left));
       valid = record {
         sorted = from_T _ (is_sorted-where_key names_cmp (λ n. slot (N n) (6 - left) == slot (N name) (6 - left)) l (as_T _ is.valid.sorted));
         each = each_filter IsNamed (λ (e : Named). slot (N e.0) (6 - left) == slot (N name) (6 - left)) l is.valid.each;
@@ -244,7 +250,7 @@ module _ (X : List ℕ → List ℕ) (N : List ℕ → ℕ) where
         by (inr has) = has
 
     -- what was found further on is found here, one block behind
-    over_more : (told : Told) (b : Held) (path : List Held) (value : Option Entry) (r : Result (Option Entry) StoreFault) → Holds told (b ∷ []) → FindsOver told path value r → FindsOver told (b ∷ path) value r
+    pub over_more : {A : Type 0} (told : Told) (b : Held) (path : List Held) (value : A) (r : Result A StoreFault) → Holds told (b ∷ []) → FindsOver told path value r → FindsOver told (b ∷ path) value r
     over_more None b path value (Ok a) held h = h
     over_more (Some t) b path value (Ok a) held h = (h.0, (held.0, h.1))
     over_more told b path value (Err Failed) held h = h
@@ -257,40 +263,40 @@ module _ (X : List ℕ → List ℕ) (N : List ℕ → ℕ) where
 
     -- the answer of a search that may be one level deeper
     abbrev pub Deeper : ℕ → Cid → Seen → Seen → Result (Option Entry) StoreFault → Type 0
-    Deeper left c mid now r = (k : List Named) → IsReached X N (N name) left c k → Agrees mid.told (shard_trail X N left k name) → Stood mid.faults now.faults
-        → FindsOver mid.told (shard_trail X N left k name) (find names_cmp name k) r
+    Deeper left c mid now r = (k : List Named) → IsReached X N (N name) left c none k → Agrees mid.told (shard_trail X N left none k name) → Stood mid.faults now.faults
+        → FindsOver mid.told (shard_trail X N left none k name) (find names_cmp name k) r
 
-    pub find-below : (left : ℕ) (root c : Cid) (l : List Named) → left ≤ 7 → 7 - left < 7 → (before mid now : Seen) (r : Result (Option Entry) StoreFault)
+    pub find-below : (left : ℕ) (root c : Cid) (m : Meta) (l : List Named) → left ≤ 7 → 7 - left < 7 → (before mid now : Seen) (r : Result (Option Entry) StoreFault)
         → SaysOf N (N name) (7 - left) root name before (Below c) → mid.told ≡ before.told → mid.faults ≡ before.faults → Deeper (left - 1) c mid now r
-        → IsReached X N (N name) left root l → Agrees before.told (shard_trail X N left l name) → Stood before.faults now.faults
-        → FindsOver before.told (shard_trail X N left l name) (find names_cmp name l) r
-    find-below zero root c l low room before mid now r says same calm deeper is agrees stood = absurd (omega arith)
-    find-below (suc left) root c l low room before mid now r says same calm deeper is agrees stood =
-        subst (λ (path : List Held). FindsOver before.told path (find names_cmp name l) r) (sym (trail-is (suc left) l name ∙ ap (λ (path : List Held). head_of (suc left) l ∷ path) goes.shared))
-        (over_more before.told (head_of (suc left) l) path (find names_cmp name l) r (first before.told agrees says.has.is_held)
+        → IsReached X N (N name) left root m l → Agrees before.told (shard_trail X N left m l name) → Stood before.faults now.faults
+        → FindsOver before.told (shard_trail X N left m l name) (find names_cmp name l) r
+    find-below zero root c m l low room before mid now r says same calm deeper is agrees stood = absurd (omega arith)
+    find-below (suc left) root c m l low room before mid now r says same calm deeper is agrees stood =
+        subst (λ (path : List Held). FindsOver before.told path (find names_cmp name l) r) (sym (trail-is (suc left) m l name ∙ ap (λ (path : List Held). head_of (suc left) m l ∷ path) goes.shared))
+        (over_more before.told (head_of (suc left) m l) path (find names_cmp name l) r (first before.told agrees says.has.is_held)
         (subst (λ (v : Option Entry). FindsOver before.told path v r) (sym (find-slot (6 - left) name l))
         (subst (λ (told : Told). FindsOver told path (find names_cmp name b) r) same
-        (subst (λ (n : ℕ). Deeper n c mid now r) less deeper b (reached_below left root c l path low is goes)
-        (subst (λ (told : Told). Agrees told path) (sym same) (rest before.told (subst (Agrees before.told) (trail-is (suc left) l name ∙ ap (λ (path : List Held). head_of (suc left) l ∷ path) goes.shared) agrees)))
+        (subst (λ (n : ℕ). Deeper n c mid now r) less deeper b (reached_below left root c m l path low is goes)
+        (subst (λ (told : Told). Agrees told path) (sym same) (rest before.told (subst (Agrees before.told) (trail-is (suc left) m l name ∙ ap (λ (path : List Held). head_of (suc left) m l ∷ path) goes.shared) agrees)))
         (subst (λ (n : ℕ). Stood n now.faults) (sym calm) stood)))))
       where
         b : List Named
         b = slot_of (N name) (suc left) l
 
         path : List Held
-        path = shard_trail X N left b name
+        path = shard_trail X N left none b name
 
         less : suc left - 1 ≡ left
         less = omega arith
 
-        goes : Goes (shard X N left) c b path
-        goes = below_goes (shard X N left) name b path c (it_says good (N name) (suc left) root l low is name before (Below c) agrees says)
+        goes : Goes (shard X N left none) c b path
+        goes = below_goes (shard X N left none) name b path c (it_says good (N name) (suc left) root m l low is name before (Below c) agrees says)
 
-        first : (told : Told) → Agrees told (shard_trail X N (suc left) l name) → IfSome told (λ t. held_at t root ≡ Some (shard_block says.items)) → Holds told (head_of (suc left) l ∷ [])
+        first : (told : Told) → Agrees told (shard_trail X N (suc left) m l name) → IfSome told (λ t. held_at t root ≡ Some (shard_node_block says.node)) → Holds told (head_of (suc left) m l ∷ [])
         first None a h = absurd a
-        first (Some t) a h = (head-held (suc left) root l low is t (shard_block says.items) a h, tt)
+        first (Some t) a h = (head-held (suc left) root m l low is t (shard_node_block says.node) a h, tt)
 
-        rest : (told : Told) → Agrees told (head_of (suc left) l ∷ path) → Agrees told path
+        rest : (told : Told) → Agrees told (head_of (suc left) m l ∷ path) → Agrees told path
         rest None a = a
         rest (Some t) a = a.1
 
@@ -299,34 +305,36 @@ module _ (X : List ℕ → List ℕ) (N : List ℕ → ℕ) where
     along_none (e ∷ m) = (refl, along_none m)
 
     -- the root of a plan is reached
-    pub reached-root : (root : Cid) (l : List Named) → IsPlanned X N root l → IsReached X N (N name) 7 root l
-    reached-root root [] is = absurd (no is.is_plan)
+    pub reached-root : (root : Cid) (m : Meta) (l : List Named) → IsPlanned X N root m l → IsReached X N (N name) 7 root m l
+    reached-root root m [] is = absurd (no is.is_plan)
       where
         no : None ≡ Some is.plan → ⊥
         no e = cc
-    reached-root root (e ∷ l) is = by (twins (same_slots N 7) (e ∷ l)) refl is.is_plan
+    reached-root root m (e ∷ l) is = by (twins (same_slots N 7) (e ∷ l)) refl is.is_plan
       where
         some : (n : ℕ) → 1 ≤ suc n
         some n = omega arith
 
-        by : (o : Option (List ℕ × List ℕ)) → twins (same_slots N 7) (e ∷ l) ≡ o → elim o [ None ↦ Some (shard X N 7 (e ∷ l)) | Some names ↦ None ] ≡ Some is.plan → IsReached X N (N name) 7 root (e ∷ l)
+        by : (o : Option (List ℕ × List ℕ)) → twins (same_slots N 7) (e ∷ l) ≡ o → elim o [ None ↦ Some (shard X N 7 m (e ∷ l)) | Some names ↦ None ] ≡ Some is.plan → IsReached X N (N name) 7 root m (e ∷ l)
         by None t h = record {
+          good = is.good;
+          carries = tt;
           valid = is.valid;
           some = some (length l);
           apart = Apart-HasShard N 7 (e ∷ l) (twins-Apart (same_slots N 7) (e ∷ l) t);
           along = along_none (e ∷ l);
-          cid = is.cid ∙ ap (λ (p : Plan). p.entry.cid) (let same : shard X N 7 (e ∷ l) ≡ is.plan = cc in sym same);
+          cid = is.cid ∙ ap (λ (p : Plan). p.entry.cid) (let same : shard X N 7 m (e ∷ l) ≡ is.plan = cc in sym same);
         }
         by (Some names) t h = absurd (let no : None ≡ Some is.plan = h in cc)
 
-    pub find-here-at : (left : ℕ) (root : Cid) (l : List Named) → left ≤ 7 → (before : Seen) (spot : Spot) (e : Option Entry) → spot ≡ Here e → SaysOf N (N name) (7 - left) root name before spot
-        → IsReached X N (N name) left root l → Agrees before.told (shard_trail X N left l name) → (e ≡ find names_cmp name l) × Holds before.told (shard_trail X N left l name)
-    find-here-at left root l low before spot e at says is agrees =
-        find-here left root l low before e (subst (λ (s : Spot). SaysOf N (N name) (7 - left) root name before s) at says) is agrees
+    pub find-here-at : (left : ℕ) (root : Cid) (m : Meta) (l : List Named) → left ≤ 7 → (before : Seen) (spot : Spot) (e : Option Entry) → spot ≡ Here e → SaysOf N (N name) (7 - left) root name before spot
+        → IsReached X N (N name) left root m l → Agrees before.told (shard_trail X N left m l name) → (e ≡ find names_cmp name l) × Holds before.told (shard_trail X N left m l name)
+    find-here-at left root m l low before spot e at says is agrees =
+        find-here left root m l low before e (subst (λ (s : Spot). SaysOf N (N name) (7 - left) root name before s) at says) is agrees
 
-    pub find-below-at : (left : ℕ) (root c : Cid) (l : List Named) → left ≤ 7 → (before mid now : Seen) (r : Result (Option Entry) StoreFault) (spot : Spot) → spot ≡ Below c → HasRoom (7 - left) spot
+    pub find-below-at : (left : ℕ) (root c : Cid) (m : Meta) (l : List Named) → left ≤ 7 → (before mid now : Seen) (r : Result (Option Entry) StoreFault) (spot : Spot) → spot ≡ Below c → HasRoom (7 - left) spot
         → SaysOf N (N name) (7 - left) root name before spot → mid.told ≡ before.told → mid.faults ≡ before.faults → Deeper (left - 1) c mid now r
-        → IsReached X N (N name) left root l → Agrees before.told (shard_trail X N left l name) → Stood before.faults now.faults
-        → FindsOver before.told (shard_trail X N left l name) (find names_cmp name l) r
-    find-below-at left root c l low before mid now r spot at room says same calm deeper is agrees stood =
-        find-below left root c l low (subst (HasRoom (7 - left)) at room) before mid now r (subst (λ (s : Spot). SaysOf N (N name) (7 - left) root name before s) at says) same calm deeper is agrees stood
+        → IsReached X N (N name) left root m l → Agrees before.told (shard_trail X N left m l name) → Stood before.faults now.faults
+        → FindsOver before.told (shard_trail X N left m l name) (find names_cmp name l) r
+    find-below-at left root c m l low before mid now r spot at room says same calm deeper is agrees stood =
+        find-below left root c m l low (subst (HasRoom (7 - left)) at room) before mid now r (subst (λ (s : Spot). SaysOf N (N name) (7 - left) root name before s) at says) same calm deeper is agrees stood

@@ -5,30 +5,33 @@ use Rattle.std.specs.List.{AllByRecursion}
 use Rattle.std.proofs.lemmas.Bool.{false≢true}
 use Rattle.uf_cid.specs.declared.bytes.StrictFault.{StrictFault}
 use Rattle.uf_cid.specs.declared.bytes.StrictFault.TheVariants.{NotCanonical}
-use Rattle.uf_tree.specs.Codecs.{Reads}
-use Rattle.uf_tree.specs.Nodes.{InSlot, shard_block}
-use Rattle.uf_tree.specs.Roles.{IsCanonicalShard, IsOnWay}
-use Rattle.uf_tree.specs.Validity.{IsShard}
-use Rattle.uf_shard.specs.Placed.{IsPlaced}
+use Rattle.uf_tree.specs.declared.nodes.ShardNode.{ShardNode}
+use Rattle.uf_tree.specs.Codecs.{Reads, shard_node_block}
+use Rattle.uf_tree.specs.Roles.{IsCanonicalShard, IsOnWay, MayCarry}
+use Rattle.uf_tree.specs.Validity.{IsShardNode}
+use Rattle.uf_shard.specs.Placed.{IsPlacedNode}
 use Rattle.uf_shard.proofs.One.{one_shard}
 
 module _ (N : List ℕ → ℕ) (above : List ℕ) (bytes : List ℕ) where
   -- what is no shard is none anywhere
-  pub placed-refused : (f : StrictFault) → Reads IsShard shard_block bytes (Err f) → Reads (IsPlaced N above) shard_block bytes (Err f)
-  placed-refused f (inl m) = inl m
-  placed-refused f (inr h) = inr (λ v k. h v k.valid)
+  pub placed-refused : (f : StrictFault) → Reads IsShardNode shard_node_block bytes (Err f) → Reads (IsPlacedNode N above) shard_node_block bytes (Err f)
+  placed-refused f (inl memory) = inl memory
+  placed-refused f (inr h) = inr (λ v k. h v (record { items = k.placed.valid; meta = k.good }))
+
+  -- a shard carries no more than it may, and its items are on the way
+  abbrev pub IsRight : ShardNode → Type 0
+  IsRight node = MayCarry above node.meta × AllByRecursion (IsOnWay N above) node.items
 
   -- a shard that isn't on the way is no shard there
-  pub placed-elsewhere : (items slice : List InSlot) (b : Bool) → Reads IsShard shard_block bytes (Ok items) → slice ≡ items → IsTrue b ↔ AllByRecursion (IsOnWay N above) slice → b ≡ false
-      → Reads (IsPlaced N above) shard_block bytes (Err NotCanonical)
-  placed-elsewhere items slice b read same iff fails =
-      inr (λ v k e. false≢true (sym fails ∙ iff.1 (subst (AllByRecursion (IsOnWay N above)) (one_shard v items k.valid read.0 (sym e ∙ read.1) ∙ sym same) k.on_way)))
+  pub placed-elsewhere : (node : ShardNode) (b : Bool) → Reads IsShardNode shard_node_block bytes (Ok node) → IsTrue b ↔ IsRight node → b ≡ false → Reads (IsPlacedNode N above) shard_node_block bytes (Err NotCanonical)
+  placed-elsewhere node b read iff fails =
+      inr (λ v k e. false≢true (sym fails ∙ iff.1 (subst IsRight (one_shard v node (record { items = k.placed.valid; meta = k.good }) read.0 (sym e ∙ read.1)) (k.carries, k.placed.on_way))))
 
-  pub placed-there : (items slice : List InSlot) (b : Bool) → Reads IsShard shard_block bytes (Ok items) → slice ≡ items → IsTrue b ↔ AllByRecursion (IsOnWay N above) slice → b ≡ true
-      → Reads (IsPlaced N above) shard_block bytes (Ok items)
-  placed-there items slice b read same iff holds =
-      (record { valid = read.0; on_way = subst (AllByRecursion (IsOnWay N above)) same (iff.0 holds) }, read.1)
+  pub placed-there : (node : ShardNode) (b : Bool) → Reads IsShardNode shard_node_block bytes (Ok node) → IsTrue b ↔ IsRight node → b ≡ true → Reads (IsPlacedNode N above) shard_node_block bytes (Ok node)
+  placed-there node b read iff holds =
+      let right = iff.0 holds in
+      (record { good = read.0.meta; carries = right.0; placed = record { valid = read.0.items; on_way = right.1 } }, read.1)
 
   -- a block that is refused isn't canonical
-  pub not_canonical : ((v : List InSlot) → IsPlaced N above v → bytes ≢ shard_block v) → IsCanonicalShard N above bytes → ⊥
-  not_canonical h c = h c.items (record { valid = c.valid; on_way = c.on_way }) c.is
+  pub not_canonical : ((v : ShardNode) → IsPlacedNode N above v → bytes ≢ shard_node_block v) → IsCanonicalShard N above bytes → ⊥
+  not_canonical h c = h (record { items = c.items; meta = c.meta }) (record { good = c.good; carries = c.carries; placed = record { valid = c.valid; on_way = c.on_way } }) c.is

@@ -23,6 +23,8 @@ use Rattle.uf_store.specs.declared.store.StoreFault.{StoreFault}
 use Rattle.uf_tree.specs.declared.nodes.Item.{Item}
 use Rattle.uf_tree.specs.declared.nodes.Item.TheVariants.{Leaf, Sub}
 use Rattle.uf_tree.specs.DirPlan.{weight}
+use Rattle.uf_tree.specs.declared.meta.Meta.{Meta}
+use Rattle.uf_tree.specs.Metas.{none}
 use Rattle.uf_tree.specs.Nodes.{InSlot, Named}
 use Rattle.uf_tree.specs.ShardPlan.{shard, shard_held, slot_item}
 use Rattle.uf_tree.specs.Validity.{IsHash, IsNamed}
@@ -183,7 +185,7 @@ module _ (X : List ℕ → List ℕ) (N : List ℕ → ℕ) where
   blocks-over : (left : ℕ) (over : ℕ → List Named) (items : List InSlot) → all_blocks X N (suc left) over items ≡ row_blocks X N left (parts_over over items)
   blocks-over left over [] = refl
   blocks-over left over ((s, Leaf name e) ∷ items) = blocks-over left over items
-  blocks-over left over ((s, Sub e) ∷ items) = ap (λ (b : List Held). (shard X N left (over s)).blocks ++ b) (blocks-over left over items)
+  blocks-over left over ((s, Sub e) ∷ items) = ap (λ (b : List Held). (shard X N left none (over s)).blocks ++ b) (blocks-over left over items)
 
   none-over : (over : ℕ → List Named) (items : List InSlot) → AreOver X N zero over items → parts_over over items ≡ []
   none-over over [] are = refl
@@ -220,29 +222,29 @@ module _ (X : List ℕ → List ℕ) (N : List ℕ → ℕ) where
   abbrev pub one_of : List (List Named) → ℕ → List Named
   one_of ls i = get_or ls i []
 
-  pub root_at : (left : ℕ) (cids : List Cid) (ls : List (List Named)) → AreRoots X N left cids ls → (i : ℕ) (c : Cid) → i < length cids → c ≡ get_or cids i c → IsRoot X N left c (one_of ls i)
+  pub root_at : (left : ℕ) (cids : List Cid) (ls : List (List Named)) → AreRoots X N left cids ls → (i : ℕ) (c : Cid) → i < length cids → c ≡ get_or cids i c → IsRoot X N left c none (one_of ls i)
   root_at left [] ls are i c low is = absurd (omega arith)
   root_at left (d ∷ cids) [] are i c low is = absurd are
-  root_at left (d ∷ cids) (l ∷ ls) are zero c low is = subst (λ (x : Cid). IsRoot X N left x l) (sym is) are.0
+  root_at left (d ∷ cids) (l ∷ ls) are zero c low is = subst (λ (x : Cid). IsRoot X N left x none l) (sym is) are.0
   root_at left (d ∷ cids) (l ∷ ls) are (suc i) c low is = root_at left cids ls are.2 i c (omega arith) is
 
-  pub Agrees_one : (told : Told) (left : ℕ) (ls : List (List Named)) (i : ℕ) → i < length ls → Agrees told (row_blocks X N left ls) → Agrees told (shard X N left (one_of ls i)).blocks
-  Agrees_one told left ls i low h = Agrees_at (λ (l : List Named). (shard X N left l).blocks) told ls i (one_of ls i) low (read_same ls i [] low) h
+  pub Agrees_one : (told : Told) (left : ℕ) (ls : List (List Named)) (i : ℕ) → i < length ls → Agrees told (row_blocks X N left ls) → Agrees told (shard X N left none (one_of ls i)).blocks
+  Agrees_one told left ls i low h = Agrees_at (λ (l : List Named). (shard X N left none l).blocks) told ls i (one_of ls i) low (read_same ls i [] low) h
 
-  pub lost_one : (left : ℕ) (ls : List (List Named)) (i : ℕ) → i < length ls → (held : Lookup) (c : Cid) → IsLost held c (shard X N left (one_of ls i)).blocks → IsLost held c (row_blocks X N left ls)
-  lost_one left ls i low held c h = lost_at (λ (l : List Named). (shard X N left l).blocks) held c ls i (one_of ls i) low (read_same ls i [] low) h
+  pub lost_one : (left : ℕ) (ls : List (List Named)) (i : ℕ) → i < length ls → (held : Lookup) (c : Cid) → IsLost held c (shard X N left none (one_of ls i)).blocks → IsLost held c (row_blocks X N left ls)
+  lost_one left ls i low held c h = lost_at (λ (l : List Named). (shard X N left none l).blocks) held c ls i (one_of ls i) low (read_same ls i [] low) h
 
   module _ (good : IsHash X) where
     -- of a shard
-    module _ (left : ℕ) (root : Cid) (l : List Named) (is : IsRoot X N left root l) where
+    module _ (left : ℕ) (root : Cid) (m : Meta) (l : List Named) (is : IsRoot X N left root m l) where
       are-over : AreOver X N left (pairs_of X N left l) (items_of X N left l)
-      are-over = over_items X N good left root l is (items_of X N left l) refl
+      are-over = over_items X N good left root m l is (items_of X N left l) refl
 
       pub whole-weight : least_of (items_of X N left l) + row_weight (parts left l) ≡ weight l + 74 * length (parts left l)
       whole-weight = weight-over left (pairs_of X N left l) (items_of X N left l) are-over ∙ ap (λ (n : ℕ). n + 74 * length (parts left l)) (planned-weight X N left l)
 
-    pub parts-roots : (left : ℕ) (root : Cid) (l : List Named) → IsRoot X N (suc left) root l → AreRoots X N left (shards_in (items_of X N (suc left) l)) (parts (suc left) l)
-    parts-roots left root l is = roots-over left (pairs_of X N (suc left) l) (items_of X N (suc left) l) (are-over (suc left) root l is) (shared-items (suc left) l)
+    pub parts-roots : (left : ℕ) (root : Cid) (m : Meta) (l : List Named) → IsRoot X N (suc left) root m l → AreRoots X N left (shards_in (items_of X N (suc left) l)) (parts (suc left) l)
+    parts-roots left root m l is = roots-over left (pairs_of X N (suc left) l) (items_of X N (suc left) l) (are-over (suc left) root m l is) (shared-items (suc left) l)
 
     -- a row of shards weighs as two names each at least
     row-heavy : (left : ℕ) (cids : List Cid) (ls : List (List Named)) → AreRoots X N left cids ls → 74 * length ls ≤ row_weight ls
@@ -253,15 +255,15 @@ module _ (X : List ℕ → List ℕ) (N : List ℕ → ℕ) where
         let rest = row-heavy left cids ls are.2 in let one = sum_by-cons weight l ls in let each = heavy l are.0.valid.each in let two : 2 ≤ length l = are.1 in
         omega (arith, rest, one, each, two)
 
-    pub least-most : (left : ℕ) (root : Cid) (l : List Named) → IsRoot X N left root l → least_of (items_of X N left l) ≤ weight l
-    least-most zero root l is =
-        let whole = whole-weight zero root l is in
-        let none = none-over (pairs_of X N zero l) (items_of X N zero l) (are-over zero root l is) in
-        let n : length (parts zero l) ≡ 0 = ap (λ (m : List (List Named)). length m) none in
+    pub least-most : (left : ℕ) (root : Cid) (m : Meta) (l : List Named) → IsRoot X N left root m l → least_of (items_of X N left l) ≤ weight l
+    least-most zero root m l is =
+        let whole = whole-weight zero root m l is in
+        let nothing = none-over (pairs_of X N zero l) (items_of X N zero l) (are-over zero root m l is) in
+        let n : length (parts zero l) ≡ 0 = ap (λ (k : List (List Named)). length k) nothing in
         omega (arith, whole, n)
-    least-most (suc left) root l is =
-        let whole = whole-weight (suc left) root l is in
-        let row = row-heavy left (shards_in (items_of X N (suc left) l)) (parts (suc left) l) (parts-roots left root l is) in
+    least-most (suc left) root m l is =
+        let whole = whole-weight (suc left) root m l is in
+        let row = row-heavy left (shards_in (items_of X N (suc left) l)) (parts (suc left) l) (parts-roots left root m l is) in
         omega (arith, whole, row)
 
     -- what is left of the room behind the first shards of a row and one more
@@ -279,7 +281,7 @@ module _ (X : List ℕ → List ℕ) (N : List ℕ → ℕ) where
               let rest = each cids ls are.2 i (omega arith) in
               let one = sum_by-cons weight l ls in
               let least = sum_by-cons (λ (l : List Named). least_of (slots_of X N left l)) l (take i ls) in
-              let here = least-most left c l are.0 in
+              let here = least-most left c none l are.0 in
               let same = ap least_of (slots-are left l) in
               omega (arith, rest, one, least, here, same)
 
@@ -308,22 +310,22 @@ module _ (X : List ℕ → List ℕ) (N : List ℕ → ℕ) where
       pub low_there : i < length ls
       low_there = let n = roots_length left cids ls are in omega (arith, n, low)
 
-      root_is : IsRoot X N left c (one_of ls i)
+      root_is : IsRoot X N left c none (one_of ls i)
       root_is = root_at left cids ls are i c low is
 
-      agrees_there : (before mid : Told) → mid ≡ before → Agrees before (row_blocks X N left ls) → Agrees mid (shard X N left (one_of ls i)).blocks
-      agrees_there before mid same agrees = subst (λ (told : Told). Agrees told (shard X N left (one_of ls i)).blocks) (sym same) (Agrees_one before left ls i low_there agrees)
+      agrees_there : (before mid : Told) → mid ≡ before → Agrees before (row_blocks X N left ls) → Agrees mid (shard X N left none (one_of ls i)).blocks
+      agrees_there before mid same agrees = subst (λ (told : Told). Agrees told (shard X N left none (one_of ls i)).blocks) (sym same) (Agrees_one before left ls i low_there agrees)
 
       pub loaded-slots : (before mid : Seen) (items slice : List InSlot) → mid.told ≡ before.told → slice ≡ items → HasItems left c mid items → Agrees before.told (row_blocks X N left ls) → slice ≡ slots_of X N left (one_of ls i)
       loaded-slots before mid items slice same is_slice has agrees =
-          is_slice ∙ loaded_items X N good left c (one_of ls i) root_is mid.told items has.above.valid (agrees_there before.told mid.told same agrees) has.is_held ∙ sym (slots-are left (one_of ls i))
+          is_slice ∙ loaded_items X N good left c none (one_of ls i) root_is mid items (agrees_there before.told mid.told same agrees) has ∙ sym (slots-are left (one_of ls i))
 
       pub row-load-lost : (before mid now : Seen) (fault : StoreFault) → mid.told ≡ before.told → StaysCalm before mid → LoadsItems left c mid now (Err fault) → Answers {A = List InSlot} X IsBadShard (Err fault) mid now
           → Agrees before.told (row_blocks X N left ls) → Stood before.faults now.faults → IsLossOf before.told (row_blocks X N left ls) fault
       row-load-lost before mid now fault same calm loads cause agrees stood =
-          loss_more before.told (shard X N left (one_of ls i)).blocks (row_blocks X N left ls) fault (lost_one left ls i low_there)
-          (subst (λ (told : Told). IsLossOf told (shard X N left (one_of ls i)).blocks fault) same
-          (load-lost X N good left c (one_of ls i) root_is mid now fault loads cause (agrees_there before.told mid.told same agrees) (subst (λ (n : ℕ). Stood n now.faults) (sym calm.faults) stood)))
+          loss_more before.told (shard X N left none (one_of ls i)).blocks (row_blocks X N left ls) fault (lost_one left ls i low_there)
+          (subst (λ (told : Told). IsLossOf told (shard X N left none (one_of ls i)).blocks fault) same
+          (load-lost X N good left c none (one_of ls i) root_is mid now fault loads cause (agrees_there before.told mid.told same agrees) (subst (λ (n : ℕ). Stood n now.faults) (sym calm.faults) stood)))
 
     -- ---- from one row to the next
 
@@ -331,7 +333,7 @@ module _ (X : List ℕ → List ℕ) (N : List ℕ → ℕ) where
     row-roots left [] [] are = tt
     row-roots left [] (l ∷ ls) are = absurd are
     row-roots left (c ∷ cids) [] are = absurd are
-    row-roots left (c ∷ cids) (l ∷ ls) are = roots-append left (shards_in (items_of X N (suc left) l)) (row_below X N (suc left) ls) (parts (suc left) l) (row_parts (suc left) ls) (parts-roots left c l are.0) (row-roots left cids ls are.2)
+    row-roots left (c ∷ cids) (l ∷ ls) are = roots-append left (shards_in (items_of X N (suc left) l)) (row_below X N (suc left) ls) (parts (suc left) l) (row_parts (suc left) ls) (parts-roots left c none l are.0) (row-roots left cids ls are.2)
 
     row-whole : (left : ℕ) (cids : List Cid) (ls : List (List Named)) → AreRoots X N left cids ls → row_least X N left ls + row_weight (row_parts left ls) ≡ row_weight ls + 74 * length (row_parts left ls)
     row-whole left [] [] are = refl
@@ -339,7 +341,7 @@ module _ (X : List ℕ → List ℕ) (N : List ℕ → ℕ) where
     row-whole left (c ∷ cids) [] are = absurd are
     row-whole left (c ∷ cids) (l ∷ ls) are =
         let rest = row-whole left cids ls are.2 in
-        let here = whole-weight left c l are.0 in
+        let here = whole-weight left c none l are.0 in
         let least = sum_by-cons (λ (l : List Named). least_of (slots_of X N left l)) l ls in
         let one = sum_by-cons weight l ls in
         let both = sum_by-append weight (parts left l) (row_parts left ls) in
@@ -352,28 +354,28 @@ module _ (X : List ℕ → List ℕ) (N : List ℕ → ℕ) where
     row-last [] (l ∷ ls) are = absurd are
     row-last (c ∷ cids) [] are = absurd are
     row-last (c ∷ cids) (l ∷ ls) are =
-        ap (λ (m : List (List Named)). m ++ row_parts zero ls) (none-over (pairs_of X N zero l) (items_of X N zero l) (are-over zero c l are.0)) ∙ row-last cids ls are.2
+        ap (λ (m : List (List Named)). m ++ row_parts zero ls) (none-over (pairs_of X N zero l) (items_of X N zero l) (are-over zero c none l are.0)) ∙ row-last cids ls are.2
 
   -- ---- the blocks below are among those of a shard, and those of the next row among those of a row
 
-  below-are : (left : ℕ) (l : List Named) → (shard X N (suc left) l).blocks ≡ shard_held X N (items_of X N (suc left) l) ∷ row_blocks X N left (parts (suc left) l)
-  below-are left l = blocks-are X N (suc left) l ∙ ap (λ (b : List Held). shard_held X N (items_of X N (suc left) l) ∷ b) (blocks-over left (pairs_of X N (suc left) l) (items_of X N (suc left) l))
+  below-are : (left : ℕ) (m : Meta) (l : List Named) → (shard X N (suc left) m l).blocks ≡ shard_held X N m (items_of X N (suc left) l) ∷ row_blocks X N left (parts (suc left) l)
+  below-are left m l = blocks-are X N (suc left) m l ∙ ap (λ (b : List Held). shard_held X N m (items_of X N (suc left) l) ∷ b) (blocks-over left (pairs_of X N (suc left) l) (items_of X N (suc left) l))
 
-  pub shard-lost : (left : ℕ) (l : List Named) (held : Lookup) (c : Cid) → IsLost held c (row_blocks X N left (parts (suc left) l)) → IsLost held c (shard X N (suc left) l).blocks
-  shard-lost left l held c h = subst (IsLost held c) (sym (below-are left l)) (inr h)
+  pub shard-lost : (left : ℕ) (m : Meta) (l : List Named) (held : Lookup) (c : Cid) → IsLost held c (row_blocks X N left (parts (suc left) l)) → IsLost held c (shard X N (suc left) m l).blocks
+  shard-lost left m l held c h = subst (IsLost held c) (sym (below-are left m l)) (inr h)
 
-  shard-agrees : (left : ℕ) (l : List Named) (held : Lookup) → blocks.Agrees held (shard X N (suc left) l).blocks → blocks.Agrees held (row_blocks X N left (parts (suc left) l))
-  shard-agrees left l held h = (let all : blocks.Agrees held (shard_held X N (items_of X N (suc left) l) ∷ row_blocks X N left (parts (suc left) l)) = subst (blocks.Agrees held) (below-are left l) h in all.1)
+  shard-agrees : (left : ℕ) (m : Meta) (l : List Named) (held : Lookup) → blocks.Agrees held (shard X N (suc left) m l).blocks → blocks.Agrees held (row_blocks X N left (parts (suc left) l))
+  shard-agrees left m l held h = (let all : blocks.Agrees held (shard_held X N m (items_of X N (suc left) l) ∷ row_blocks X N left (parts (suc left) l)) = subst (blocks.Agrees held) (below-are left m l) h in all.1)
 
-  pub Agrees_parts : (told : Told) (left : ℕ) (l : List Named) → Agrees told (shard X N (suc left) l).blocks → Agrees told (row_blocks X N left (parts (suc left) l))
-  Agrees_parts None left l h = h
-  Agrees_parts (Some t) left l h = shard-agrees left l (held_at t) h
+  pub Agrees_parts : (told : Told) (left : ℕ) (m : Meta) (l : List Named) → Agrees told (shard X N (suc left) m l).blocks → Agrees told (row_blocks X N left (parts (suc left) l))
+  Agrees_parts None left m l h = h
+  Agrees_parts (Some t) left m l h = shard-agrees left m l (held_at t) h
 
-  pub shard-count : (left : ℕ) (l : List Named) → length (shard X N (suc left) l).blocks ≡ suc (length (row_blocks X N left (parts (suc left) l)))
-  shard-count left l = ap (λ (b : List Held). length b) (below-are left l)
+  pub shard-count : (left : ℕ) (m : Meta) (l : List Named) → length (shard X N (suc left) m l).blocks ≡ suc (length (row_blocks X N left (parts (suc left) l)))
+  shard-count left m l = ap (λ (b : List Held). length b) (below-are left m l)
 
   row-split : (left : ℕ) (l : List Named) (ls : List (List Named)) → row_blocks X N left (row_parts (suc left) (l ∷ ls)) ≡ row_blocks X N left (parts (suc left) l) ++ row_blocks X N left (row_parts (suc left) ls)
-  row-split left l ls = flat_map-append (λ (l : List Named). (shard X N left l).blocks) (parts (suc left) l) (row_parts (suc left) ls)
+  row-split left l ls = flat_map-append (λ (l : List Named). (shard X N left none l).blocks) (parts (suc left) l) (row_parts (suc left) ls)
 
   lost-split : (held : Lookup) (c : Cid) (k m : List Held) → IsLost held c (k ++ m) → IsLost held c k ⊎ IsLost held c m
   lost-split held c [] m h = inr h
@@ -389,9 +391,9 @@ module _ (X : List ℕ → List ℕ) (N : List ℕ → ℕ) where
   row-lost left (l ∷ ls) held c h = by (row-lost left ls held c) (lost-split held c (row_blocks X N left (parts (suc left) l)) (row_blocks X N left (row_parts (suc left) ls)) (subst (IsLost held c) (row-split left l ls) h))
     where
       by : (IsLost held c (row_blocks X N left (row_parts (suc left) ls)) → IsLost held c (row_blocks X N (suc left) ls)) → IsLost held c (row_blocks X N left (parts (suc left) l)) ⊎ IsLost held c (row_blocks X N left (row_parts (suc left) ls))
-          → IsLost held c ((shard X N (suc left) l).blocks ++ row_blocks X N (suc left) ls)
-      by later (inl x) = lost_front held c (shard X N (suc left) l).blocks (row_blocks X N (suc left) ls) (shard-lost left l held c x)
-      by later (inr y) = lost_back held c (shard X N (suc left) l).blocks (row_blocks X N (suc left) ls) (later y)
+          → IsLost held c ((shard X N (suc left) none l).blocks ++ row_blocks X N (suc left) ls)
+      by later (inl x) = lost_front held c (shard X N (suc left) none l).blocks (row_blocks X N (suc left) ls) (shard-lost left none l held c x)
+      by later (inr y) = lost_back held c (shard X N (suc left) none l).blocks (row_blocks X N (suc left) ls) (later y)
 
   agrees-both : (held : Lookup) (k m : List Held) → blocks.Agrees held k → blocks.Agrees held m → blocks.Agrees held (k ++ m)
   agrees-both held [] m a b = b
@@ -400,7 +402,7 @@ module _ (X : List ℕ → List ℕ) (N : List ℕ → ℕ) where
   row-agrees : (left : ℕ) (ls : List (List Named)) (held : Lookup) → blocks.Agrees held (row_blocks X N (suc left) ls) → blocks.Agrees held (row_blocks X N left (row_parts (suc left) ls))
   row-agrees left [] held h = h
   row-agrees left (l ∷ ls) held h = subst (blocks.Agrees held) (sym (row-split left l ls)) (agrees-both held (row_blocks X N left (parts (suc left) l)) (row_blocks X N left (row_parts (suc left) ls))
-      (shard-agrees left l held (agrees_front held (shard X N (suc left) l).blocks (row_blocks X N (suc left) ls) h)) (row-agrees left ls held (agrees_back held (shard X N (suc left) l).blocks (row_blocks X N (suc left) ls) h)))
+      (shard-agrees left none l held (agrees_front held (shard X N (suc left) none l).blocks (row_blocks X N (suc left) ls) h)) (row-agrees left ls held (agrees_back held (shard X N (suc left) none l).blocks (row_blocks X N (suc left) ls) h)))
 
   pub Agrees_row : (told : Told) (left : ℕ) (ls : List (List Named)) → Agrees told (row_blocks X N (suc left) ls) → Agrees told (row_blocks X N left (row_parts (suc left) ls))
   Agrees_row None left ls h = h
@@ -410,8 +412,8 @@ module _ (X : List ℕ → List ℕ) (N : List ℕ → ℕ) where
   row-count left [] = refl
   row-count left (l ∷ ls) =
       let rest = row-count left ls in
-      let here = shard-count left l in
-      let all = length-append (shard X N (suc left) l).blocks (row_blocks X N (suc left) ls) in
+      let here = shard-count left none l in
+      let all = length-append (shard X N (suc left) none l).blocks (row_blocks X N (suc left) ls) in
       let both = ap (λ (b : List Held). length b) (row-split left l ls) ∙ length-append (row_blocks X N left (parts (suc left) l)) (row_blocks X N left (row_parts (suc left) ls)) in
       omega (arith, rest, here, all, both)
 
@@ -420,8 +422,8 @@ module _ (X : List ℕ → List ℕ) (N : List ℕ → ℕ) where
   row-some left [] = omega arith
   row-some left (l ∷ ls) =
       let rest = row-some left ls in
-      let own = ap (λ (b : List Held). length b) (blocks-are X N left l) in
-      let all = length-append (shard X N left l).blocks (row_blocks X N left ls) in
+      let own = ap (λ (b : List Held). length b) (blocks-are X N left none l) in
+      let all = length-append (shard X N left none l).blocks (row_blocks X N left ls) in
       omega (arith, rest, own, all)
 
 -- ---- answers
@@ -534,37 +536,37 @@ module _ (X : List ℕ → List ℕ) (N : List ℕ → ℕ) (good : IsHash X) wh
 
   -- ---- at the root
 
-  module _ (left : ℕ) (root : Cid) (l : List Named) (is : IsRoot X N (suc left) root l) (limit : ℕ) (o : Option ℕ) (behind : o ≡ room_after limit (least_of (items_of X N (suc left) l))) where
+  module _ (left : ℕ) (root : Cid) (m : Meta) (l : List Named) (is : IsRoot X N (suc left) root m l) (limit : ℕ) (o : Option ℕ) (behind : o ≡ room_after limit (least_of (items_of X N (suc left) l))) where
     pub root-none : o ≡ None → true ≡ nat_lt limit (weight l)
-    root-none none =
-        let out = none_left limit (least_of (items_of X N (suc left) l)) (sym none ∙ behind) in
-        let most = least-most X N good (suc left) root l is in
+    root-none fails =
+        let out = none_left limit (least_of (items_of X N (suc left) l)) (sym fails ∙ behind) in
+        let most = least-most X N good (suc left) root m l is in
         sym (lt-ltb limit (weight l) (omega (arith, out, most)))
 
     module _ (rest : ℕ) (below : List Cid) (some : o ≡ Some rest) (below_is : below ≡ shards_in (items_of X N (suc left) l)) where
       root-next : AreRoots X N left below (parts X N (suc left) l)
-      root-next = subst (λ (c : List Cid). AreRoots X N left c (parts X N (suc left) l)) (sym below_is) (parts-roots X N good left root l is)
+      root-next = subst (λ (c : List Cid). AreRoots X N left c (parts X N (suc left) l)) (sym below_is) (parts-roots X N good left root m l is)
 
       root-answer : nat_lt (rest + 74 * length below) (row_weight (parts X N (suc left) l)) ≡ nat_lt limit (weight l)
       root-answer =
           let here = left_is limit (least_of (items_of X N (suc left) l)) rest (sym some ∙ behind) in
-          let whole = whole-weight X N good (suc left) root l is in
-          let m = roots_length X N left below (parts X N (suc left) l) root-next in
-          test-same _ _ _ _ (omega (arith, here.is, whole, m))
+          let whole = whole-weight X N good (suc left) root m l is in
+          let n = roots_length X N left below (parts X N (suc left) l) root-next in
+          test-same _ _ _ _ (omega (arith, here.is, whole, n))
 
       pub root-value : (before mid now : Seen) (r : Result Bool StoreFault) → mid.told ≡ before.told → mid.faults ≡ before.faults
           → ((ms : List (List Named)) → AreRoots X N left below ms → Agrees mid.told (row_blocks X N left ms) → Stood mid.faults now.faults → ReadsOver mid.told (row_blocks X N left ms) (nat_lt (rest + 74 * length below) (row_weight ms)) r)
-          → Agrees before.told (shard X N (suc left) l).blocks → Stood before.faults now.faults → ReadsOver before.told (shard X N (suc left) l).blocks (nat_lt limit (weight l)) r
+          → Agrees before.told (shard X N (suc left) m l).blocks → Stood before.faults now.faults → ReadsOver before.told (shard X N (suc left) m l).blocks (nat_lt limit (weight l)) r
       root-value before mid now r same calm value agrees stood =
-          reads-more before.told mid.told (row_blocks X N left (parts X N (suc left) l)) (shard X N (suc left) l).blocks _ _ r same (shard-lost X N left l) root-answer
-          (value (parts X N (suc left) l) root-next (subst (λ (told : Told). Agrees told (row_blocks X N left (parts X N (suc left) l))) (sym same) (Agrees_parts X N before.told left l agrees))
+          reads-more before.told mid.told (row_blocks X N left (parts X N (suc left) l)) (shard X N (suc left) m l).blocks _ _ r same (shard-lost X N left m l) root-answer
+          (value (parts X N (suc left) l) root-next (subst (λ (told : Told). Agrees told (row_blocks X N left (parts X N (suc left) l))) (sym same) (Agrees_parts X N before.told left m l agrees))
           (subst (λ (n : ℕ). Stood n now.faults) (sym calm) stood))
 
       pub root-touches : (before mid : Told) (t0 t1 t2 : ℕ) → mid ≡ before → t1 ≡ t0 + 1 → ((ms : List (List Named)) → AreRoots X N left below ms → Agrees mid (row_blocks X N left ms) → t2 ≤ t1 + length (row_blocks X N left ms))
-          → Agrees before (shard X N (suc left) l).blocks → t2 ≤ t0 + length (shard X N (suc left) l).blocks
+          → Agrees before (shard X N (suc left) m l).blocks → t2 ≤ t0 + length (shard X N (suc left) m l).blocks
       root-touches before mid t0 t1 t2 same first touches agrees =
-          let more = touches (parts X N (suc left) l) root-next (subst (λ (told : Told). Agrees told (row_blocks X N left (parts X N (suc left) l))) (sym same) (Agrees_parts X N before left l agrees)) in
-          omega (arith, first, more, shard-count X N left l)
+          let more = touches (parts X N (suc left) l) root-next (subst (λ (told : Told). Agrees told (row_blocks X N left (parts X N (suc left) l))) (sym same) (Agrees_parts X N before left m l agrees)) in
+          omega (arith, first, more, shard-count X N left m l)
 
 -- ---- few loads
 

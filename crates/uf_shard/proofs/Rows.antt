@@ -16,13 +16,17 @@ use Rattle.uf_store.specs.Contents.{Contents, Told, held_at}
 use Rattle.uf_store.specs.Keeping.{Agrees}
 use Rattle.uf_store.specs.declared.store.StoreFault.{StoreFault}
 use Rattle.uf_tree.specs.declared.nodes.Entry.{Entry}
+use Rattle.uf_tree.specs.declared.meta.Meta.{Meta}
 use Rattle.uf_tree.specs.declared.nodes.Item.{Item}
+use Rattle.uf_tree.specs.declared.nodes.ShardNode.{ShardNode}
+use Rattle.uf_tree.specs.Codecs.{shard_node_block}
 use Rattle.uf_tree.specs.declared.nodes.Item.TheVariants.{Leaf, Sub}
 use Rattle.uf_tree.specs.FilePlan.{Plan}
+use Rattle.uf_tree.specs.Metas.{none}
 use Rattle.uf_tree.specs.Names.{names_cmp}
-use Rattle.uf_tree.specs.Nodes.{InSlot, Named, shard_block}
+use Rattle.uf_tree.specs.Nodes.{InSlot, Named}
 use Rattle.uf_tree.specs.ShardPlan.{bucket, flat_tabulate, shard, slot_item, tabulate}
-use Rattle.uf_tree.specs.Validity.{IsHash, IsShard}
+use Rattle.uf_tree.specs.Validity.{IsHash, IsShardNode}
 use Rattle.uf_tree.proofs.ShardLaws.{eqb_same, names_exact, names_total, slot-bound}
 use Rattle.uf_shard.specs.Listing.{AddsShard, AddsSlot, AddsSlots, AreListed, AreRows, AreRowsBelow, IsListed, in_order}
 use Rattle.uf_shard.specs.Walked.{AreOver, IsOver, IsRoot, all_blocks, blocks_over}
@@ -30,19 +34,19 @@ use Rattle.uf_shard.proofs.Reaching.{deeper_of, items_of, level_of}
 use Rattle.uf_shard.proofs.Walks.{Agrees_below, agrees_back, agrees_front, held_items, over_items, pairs_of}
 
 -- the names of the shard under a CID are those of its slots
-rows_of : (held : Lookup) (left : ℕ) (cid : Cid) (items : List InSlot) (rows : List Named) → IsShard items → held cid ≡ Some (shard_block items) → AreListed (AreRowsBelow held left) items rows → AreRows held left cid rows
-rows_of held zero cid items rows valid is_held are = record { items = items; valid = valid; is_held = is_held; listed = are }
-rows_of held (suc left) cid items rows valid is_held are = record { items = items; valid = valid; is_held = is_held; listed = are }
+rows_of : (held : Lookup) (left : ℕ) (cid : Cid) (node : ShardNode) (rows : List Named) → IsShardNode node → held cid ≡ Some (shard_node_block node) → AreListed (AreRowsBelow held left) node.items rows → AreRows held left cid rows
+rows_of held zero cid node rows valid is_held are = record { meta = node.meta; items = node.items; good = valid.meta; valid = valid.items; is_held = is_held; listed = are }
+rows_of held (suc left) cid node rows valid is_held are = record { meta = node.meta; items = node.items; good = valid.meta; valid = valid.items; is_held = is_held; listed = are }
 
-pub adds-shard : {A : Type 0} (r : Result A StoreFault) (told mid : Told) (left : ℕ) (cid : Cid) (items slice : List InSlot) (before now : List Named) → mid ≡ told → slice ≡ items → IsShard items
-    → IfSome told (λ t. held_at t cid ≡ Some (shard_block items)) → OnOk r (IfSome mid (λ t. AddsSlots (held_at t) left slice before now)) → OnOk r (IfSome told (λ t. AddsShard (held_at t) left cid before now))
-adds-shard (Err fault) told mid left cid items slice before now same is valid held adds = tt
-adds-shard (Ok x) told mid left cid items slice before now same is valid held adds =
-    by told held (subst (λ (told : Told). IfSome told (λ t. AddsSlots (held_at t) left items before now)) same (subst (λ (l : List InSlot). IfSome mid (λ t. AddsSlots (held_at t) left l before now)) is adds))
+pub adds-shard : {A : Type 0} (r : Result A StoreFault) (told mid : Told) (left : ℕ) (cid : Cid) (node : ShardNode) (slice : List InSlot) (before now : List Named) → mid ≡ told → slice ≡ node.items → IsShardNode node
+    → IfSome told (λ t. held_at t cid ≡ Some (shard_node_block node)) → OnOk r (IfSome mid (λ t. AddsSlots (held_at t) left slice before now)) → OnOk r (IfSome told (λ t. AddsShard (held_at t) left cid before now))
+adds-shard (Err fault) told mid left cid node slice before now same is valid held adds = tt
+adds-shard (Ok x) told mid left cid node slice before now same is valid held adds =
+    by told held (subst (λ (told : Told). IfSome told (λ t. AddsSlots (held_at t) left node.items before now)) same (subst (λ (l : List InSlot). IfSome mid (λ t. AddsSlots (held_at t) left l before now)) is adds))
   where
-    by : (told : Told) → IfSome told (λ t. held_at t cid ≡ Some (shard_block items)) → IfSome told (λ t. AddsSlots (held_at t) left items before now) → IfSome told (λ t. AddsShard (held_at t) left cid before now)
+    by : (told : Told) → IfSome told (λ t. held_at t cid ≡ Some (shard_node_block node)) → IfSome told (λ t. AddsSlots (held_at t) left node.items before now) → IfSome told (λ t. AddsShard (held_at t) left cid before now)
     by None h k = tt
-    by (Some t) h k = record { rows = k.rows; are = rows_of (held_at t) left cid items k.rows valid h k.are; added = k.added }
+    by (Some t) h k = record { rows = k.rows; are = rows_of (held_at t) left cid node k.rows valid h k.are; added = k.added }
 
 -- the names of one slot more
 listed_more : (Below : Cid → List Named → Type 0) (items : List InSlot) (p : InSlot) (rows more : List Named) → AreListed Below items rows → IsListed Below p.1 more → AreListed Below (items ++ p ∷ []) (rows ++ more)
@@ -167,23 +171,23 @@ module _ (X : List ℕ → List ℕ) (N : List ℕ → ℕ) where
       ∙ sym (found_append q (over s) (all_pairs over items))
 
   module _ (good : IsHash X) (t : Contents) (q : List ℕ) where
-    found_items : (left : ℕ) (root : Cid) (l : List Named) (is : IsRoot X N left root l) (agrees : Agrees (Some t) (shard X N left l).blocks)
+    found_items : (left : ℕ) (root : Cid) (m : Meta) (l : List Named) (is : IsRoot X N left root m l) (agrees : Agrees (Some t) (shard X N left m l).blocks)
         → ((e : Entry) (front m : List Named) → AreRowsBelow (held_at t) left e.cid front → IsOver X N left (Sub e) m → blocks.Agrees (held_at t) (blocks_over X N left (Sub e) m) → find names_cmp q front ≡ find names_cmp q m)
-        → (items : List InSlot) (rows : List Named) → IsShard items → held_at t root ≡ Some (shard_block items) → AreListed (AreRowsBelow (held_at t) left) items rows → find names_cmp q rows ≡ find names_cmp q l
-    found_items left root l is agrees deeper items rows valid held listed =
-        let same = held_items X N good left root l is t items valid agrees held in
+        → (node : ShardNode) (rows : List Named) → IsShardNode node → held_at t root ≡ Some (shard_node_block node) → AreListed (AreRowsBelow (held_at t) left) node.items rows → find names_cmp q rows ≡ find names_cmp q l
+    found_items left root m l is agrees deeper node rows valid held listed =
+        let same = held_items X N good left root m l is t node valid agrees held in
         found_listed (held_at t) left (pairs_of X N left l) q deeper (items_of X N left l) rows (subst (λ (i : List InSlot). AreListed (AreRowsBelow (held_at t) left) i rows) same listed)
-        (over_items X N good left root l is (items_of X N left l) refl) (Agrees_below X N good left root l is (Some t) agrees)
+        (over_items X N good left root m l is (items_of X N left l) refl) (Agrees_below X N good left root m l is (Some t) agrees)
         ∙ found_slots left q l
 
     -- a name is found among the rows of a planned shard as among its pairs
-    pub found_rows : (left : ℕ) (root : Cid) (l rows : List Named) → IsRoot X N left root l → Agrees (Some t) (shard X N left l).blocks → AreRows (held_at t) left root rows → find names_cmp q rows ≡ find names_cmp q l
-    found_rows zero root l rows is agrees are = found_items zero root l is agrees (λ e front m none over held. absurd none) are.items rows are.valid are.is_held are.listed
-    found_rows (suc left) root l rows is agrees are = found_items (suc left) root l is agrees (λ e front m below over held. found_rows left e.cid m front over held below) are.items rows are.valid are.is_held are.listed
+    pub found_rows : (left : ℕ) (root : Cid) (m : Meta) (l rows : List Named) → IsRoot X N left root m l → Agrees (Some t) (shard X N left m l).blocks → AreRows (held_at t) left root rows → find names_cmp q rows ≡ find names_cmp q l
+    found_rows zero root m l rows is agrees are = found_items zero root m l is agrees (λ e front k absent over held. absurd absent) (record { items = are.items; meta = are.meta }) rows (record { items = are.valid; meta = are.good }) are.is_held are.listed
+    found_rows (suc left) root m l rows is agrees are = found_items (suc left) root m l is agrees (λ e front k below over held. found_rows left e.cid none k front over held below) (record { items = are.items; meta = are.meta }) rows (record { items = are.valid; meta = are.good }) are.is_held are.listed
 
   -- the rows of a plan in order are its pairs
-  pub listed-planned : IsHash X → (told : Told) (root : Cid) (l before rows pairs : List Named) → IsRoot X N 7 root l → Agrees told (shard X N 7 l).blocks → before ≡ [] → IfSome told (λ t. AddsShard (held_at t) 7 root before rows)
+  pub listed-planned : IsHash X → (told : Told) (root : Cid) (m : Meta) (l before rows pairs : List Named) → IsRoot X N 7 root m l → Agrees told (shard X N 7 m l).blocks → before ≡ [] → IfSome told (λ t. AddsShard (held_at t) 7 root before rows)
       → pairs ≡ in_order rows → pairs ≡ l
-  listed-planned good None root l before rows pairs is agrees none adds ordered = absurd agrees
-  listed-planned good (Some t) root l before rows pairs is agrees none adds ordered =
-      ordered ∙ ap in_order (adds.added ∙ ap (λ (b : List Named). b ++ adds.rows) none) ∙ one_order adds.rows l (subst T (sym is.valid.sorted) tt) (λ q. found_rows good t q 7 root l adds.rows is agrees adds.are)
+  listed-planned good None root m l before rows pairs is agrees empty adds ordered = absurd agrees
+  listed-planned good (Some t) root m l before rows pairs is agrees empty adds ordered =
+      ordered ∙ ap in_order (adds.added ∙ ap (λ (b : List Named). b ++ adds.rows) empty) ∙ one_order adds.rows l (subst T (sym is.valid.sorted) tt) (λ q. found_rows good t q 7 root m l adds.rows is agrees adds.are)

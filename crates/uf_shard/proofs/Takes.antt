@@ -11,10 +11,12 @@ use Rattle.uf_murmur.specs.Slots.{slot}
 use Rattle.uf_store.specs.Contents.{Told}
 use Rattle.uf_store.specs.Keeping.{Agrees, Holds, KeepsGood}
 use Rattle.uf_store.specs.declared.store.StoreFault.{StoreFault}
+use Rattle.uf_tree.specs.declared.meta.Meta.{Meta}
 use Rattle.uf_tree.specs.declared.nodes.Entry.{Entry}
 use Rattle.uf_tree.specs.declared.nodes.Item.{Item}
 use Rattle.uf_tree.specs.declared.nodes.Item.TheVariants.{Leaf, Sub}
 use Rattle.uf_tree.specs.Changes.{set_at, without}
+use Rattle.uf_tree.specs.Metas.{none}
 use Rattle.uf_tree.specs.Names.{names_cmp}
 use Rattle.uf_tree.specs.Nodes.{InSlot, Named, item_entry, node_entry, shard_block}
 use Rattle.uf_tree.specs.ShardPlan.{bucket, shard}
@@ -81,7 +83,7 @@ module _ (X : List ℕ → List ℕ) (N : List ℕ → ℕ) where
   small-below before now (a ∷ b ∷ items) o is old left l sorted gives = absurd (let no : Of o ≡ Same = is in cc)
 
   -- where the shard was saved
-  pub big-below : (before now : Told) (items : List InSlot) (e : Entry) → Same ≡ collapsed items → e ≡ node_entry X (shard_block items) (map (λ (p : InSlot). item_entry p.1) items) → Holds now ((e.cid, shard_block items) ∷ []) → KeepsGood X before now
+  pub big-below : (before now : Told) (items : List InSlot) (e : Entry) → Same ≡ collapsed items → e ≡ node_entry X (shard_block none items) (map (λ (p : InSlot). item_entry p.1) items) → Holds now ((e.cid, shard_block none items) ∷ []) → KeepsGood X before now
       → (old : List Held) (left : ℕ) (l : List Named) → IsTrue (is_sorted names_cmp l) → GivesItems X N before old left items l → GivesItem X N now old (suc left) (Some (Sub e)) l
   big-below before now items e stands is held keeps old left l sorted gives = saved-below X N before now items e is held keeps old left l (two_left left l items gives.same (sym stands)) gives
 
@@ -95,22 +97,22 @@ module _ (X : List ℕ → List ℕ) (N : List ℕ → ℕ) where
     deep = deeper-reached X N hash left before be l low some slotted
 
     pub sub-takes-err : (mid now : Told) (name : List ℕ) (fault : StoreFault)
-        → ((m : List Named) → IsReached X N hash (left - 1) be.cid m → Agrees before (shard X N (left - 1) m).blocks → TakesSlots X N before mid (shard X N (left - 1) m).blocks (left - 1) name m (Err fault))
+        → ((m : List Named) → IsReached X N hash (left - 1) be.cid none m → Agrees before (shard X N (left - 1) none m).blocks → TakesSlots X N before mid (shard X N (left - 1) none m).blocks (left - 1) name m (Err fault))
         → TakesSlot X N before now (blocks_of X N left l) left name l (Err fault)
     sub-takes-err mid now name fault inner = subst (λ (olds : List Held). MayLose before olds fault) (sym deep.blocks) (inner l deep.reached (deeper-agrees X N hash left before be l low some slotted))
 
     pub sub-takes-none : (mid now : Told) (name : List ℕ)
-        → ((m : List Named) → IsReached X N hash (left - 1) be.cid m → Agrees before (shard X N (left - 1) m).blocks → TakesSlots X N before mid (shard X N (left - 1) m).blocks (left - 1) name m (Ok None))
+        → ((m : List Named) → IsReached X N hash (left - 1) be.cid none m → Agrees before (shard X N (left - 1) none m).blocks → TakesSlots X N before mid (shard X N (left - 1) none m).blocks (left - 1) name m (Ok None))
         → TakesSlot X N before now (blocks_of X N left l) left name l (Ok Same)
     sub-takes-none mid now name inner = inner l deep.reached (deeper-agrees X N hash left before be l low some slotted)
 
     pub sub-takes-some : (mid now : Told) (name : List ℕ) (items : List InSlot) (r : Result Rest StoreFault)
-        → ((m : List Named) → IsReached X N hash (left - 1) be.cid m → Agrees before (shard X N (left - 1) m).blocks → TakesSlots X N before mid (shard X N (left - 1) m).blocks (left - 1) name m (Ok (Some items)))
+        → ((m : List Named) → IsReached X N hash (left - 1) be.cid none m → Agrees before (shard X N (left - 1) none m).blocks → TakesSlots X N before mid (shard X N (left - 1) none m).blocks (left - 1) name m (Ok (Some items)))
         → LeavesBelow X N mid now items r → TakesSlot X N before now (blocks_of X N left l) left name l r
     sub-takes-some mid now name items (Ok Same) inner leaves = absurd leaves
     sub-takes-some mid now name items (Ok (Of item)) inner leaves =
         let given = inner l deep.reached (deeper-agrees X N hash left before be l low some slotted) in
-        let after = leaves (shard X N (left - 1) l).blocks (left - 1) (without name l) (sorted_without name l slotted.valid.sorted) given.1 in
+        let after = leaves (shard X N (left - 1) none l).blocks (left - 1) (without name l) (sorted_without name l slotted.valid.sorted) given.1 in
         let level : suc (left - 1) ≡ left = omega arith in (
           given.0,
           subst (λ (n : ℕ). GivesItem X N now (blocks_of X N left l) n item (without name l)) level
@@ -232,11 +234,11 @@ unsaved-set X N s (Some item) items [] before now is h =
 unsaved-set X N s (Some item) items (p ∷ changed) before now is h = tt
 
 -- what is left at the root
-pub unsaved-left : (before mid now : Told) (X : List ℕ → List ℕ) (items : List InSlot) (r : Result Removed StoreFault) → UnsavedItems (Some items) before mid → IfOk r (IsLeftOf X mid now items) → IfOk r (λ left. SavesNothing left mid now)
+pub unsaved-left : (before mid now : Told) (X : List ℕ → List ℕ) (m : Meta) (items : List InSlot) (r : Result Removed StoreFault) → UnsavedItems (Some items) before mid → IfOk r (IsLeftOf X mid now m items) → IfOk r (λ left. SavesNothing left mid now)
     → IfOk r (λ left. SavesNothing left before now)
-unsaved-left before mid now X items (Ok Absent) h left nothing = absurd left
-unsaved-left before mid now X items (Ok Empty) h left nothing =
+unsaved-left before mid now X m items (Ok Absent) h left nothing = absurd left
+unsaved-left before mid now X m items (Ok Empty) h left nothing =
     let none : mid ≡ before = subst (λ (i : List InSlot). UnsavedItems (Some i) before mid) left h in
     nothing ∙ none
-unsaved-left before mid now X items (Ok (Left e)) h left nothing = tt
-unsaved-left before mid now X items (Err fault) h left nothing = tt
+unsaved-left before mid now X m items (Ok (Left e)) h left nothing = tt
+unsaved-left before mid now X m items (Err fault) h left nothing = tt

@@ -8,6 +8,7 @@ use Rattle.uf_cid.specs.Blocks.{Held}
 use Rattle.uf_store.specs.Contents.{Told}
 use Rattle.uf_store.specs.Keeping.{Agrees}
 use Rattle.uf_store.specs.Seen.{Seen}
+use Rattle.uf_tree.specs.declared.meta.Meta.{Meta}
 use Rattle.uf_tree.specs.Nodes.{InSlot, Named}
 use Rattle.uf_tree.specs.ShardPlan.{shard}
 use Rattle.uf_tree.specs.Validity.{IsHash}
@@ -18,21 +19,21 @@ use Rattle.uf_shard.proofs.Walks.{Agrees_below, Agrees_slot, blocks-are, each_at
 module _ (X : List ℕ → List ℕ) (N : List ℕ → ℕ) where
   -- ---- loads of a planned shard
 
-  module _ (good : IsHash X) (left : ℕ) (root : Cid) (l : List Named) (is : IsRoot X N left root l) where
+  module _ (good : IsHash X) (left : ℕ) (root : Cid) (m : Meta) (l : List Named) (is : IsRoot X N left root m l) where
     pub all-touches : (items slice : List InSlot) (before mid : Seen) (t0 t1 t2 : ℕ) → mid.told ≡ before.told → slice ≡ items → HasItems left root before items → t1 ≡ t0 + 1
         → ((over : ℕ → List Named) → AreOver X N left over slice → Agrees mid.told (all_blocks X N left over slice) → t2 ≤ t1 + length (all_blocks X N left over slice))
-        → Agrees before.told (shard X N left l).blocks → t2 ≤ t0 + length (shard X N left l).blocks
+        → Agrees before.told (shard X N left m l).blocks → t2 ≤ t0 + length (shard X N left m l).blocks
     all-touches items slice before mid t0 t1 t2 same is_slice has one touches agrees =
-        let planned : slice ≡ items_of X N left l = is_slice ∙ loaded_items X N good left root l is before.told items has.above.valid agrees has.is_held in
-        let below = touches (pairs_of X N left l) (over_items X N good left root l is slice planned)
+        let planned : slice ≡ items_of X N left l = is_slice ∙ loaded_items X N good left root m l is before items agrees has in
+        let below = touches (pairs_of X N left l) (over_items X N good left root m l is slice planned)
         (subst (λ (i : List InSlot). Agrees mid.told (all_blocks X N left (pairs_of X N left l) i)) (sym planned)
-        (subst (λ (told : Told). Agrees told (all_blocks X N left (pairs_of X N left l) (items_of X N left l))) (sym same) (Agrees_below X N good left root l is before.told agrees))) in
-        let blocks = ap (λ (b : List Held). length b) (blocks-are X N left l) in
+        (subst (λ (told : Told). Agrees told (all_blocks X N left (pairs_of X N left l) (items_of X N left l))) (sym same) (Agrees_below X N good left root m l is before.told agrees))) in
+        let blocks = ap (λ (b : List Held). length b) (blocks-are X N left m l) in
         let part = ap (λ (i : List InSlot). length (all_blocks X N left (pairs_of X N left l) i)) planned in
         omega (arith, one, below, blocks, part)
 
-    pub one-touch : (t0 t1 : ℕ) → t1 ≡ t0 + 1 → t1 ≤ t0 + length (shard X N left l).blocks
-    one-touch t0 t1 one = let blocks = ap (λ (b : List Held). length b) (blocks-are X N left l) in omega (arith, one, blocks)
+    pub one-touch : (t0 t1 : ℕ) → t1 ≡ t0 + 1 → t1 ≤ t0 + length (shard X N left m l).blocks
+    one-touch t0 t1 one = let blocks = ap (λ (b : List Held). length b) (blocks-are X N left m l) in omega (arith, one, blocks)
 
   module _ (left : ℕ) (over : ℕ → List Named) (items : List InSlot) (i : ℕ) (p : InSlot) (low : i < length items) (is : p ≡ get_or items i p) where
     -- what a slot touches where the store tells as before

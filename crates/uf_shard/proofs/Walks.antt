@@ -1,5 +1,5 @@
 -- The shards of a plan loaded one by one.
-use Rattle.std.proofs.Common.{◌≡◌, ℕ, zero, suc, get_or, ◌<◌, ◌≤◌, List, [], ◌∷◌, ◌++◌, length, refl, ap, arith, sym, ◌∙◌, subst, Bool, true, false, T, Option, Some, None, ◌⊎◌, inl, inr, Result, Ok, Err}
+use Rattle.std.proofs.Common.{◌≡◌, ℕ, zero, suc, get_or, ◌-◌, ◌<◌, ◌≤◌, List, [], ◌∷◌, ◌++◌, length, refl, ap, arith, sym, ◌∙◌, subst, Bool, true, false, T, Option, Some, None, ◌⊎◌, inl, inr, Result, Ok, Err}
 use Rattle.std.specs.Prelude.{◌==◌, ◌↔◌, IfSome, IfErr, IsTrue}
 use Rattle.std.specs.FinMap.Entries.{is_sorted-where_key}
 use Rattle.std.specs.List.{AllByRecursion, flat_map, cons_option}
@@ -18,20 +18,24 @@ use Rattle.uf_store.specs.Lost.{IsLossOf, IsLost, LosesOne}
 use Rattle.uf_store.specs.Seen.{Seen}
 use Rattle.uf_store.specs.declared.store.StoreFault.{StoreFault}
 use Rattle.uf_store.specs.declared.store.StoreFault.TheVariants.{Failed, Damaged, Missing, BadBlock, Clash, Memory}
-use Rattle.uf_tree.specs.Codecs.{Reads}
+use Rattle.uf_tree.specs.declared.meta.Meta.{Meta}
+use Rattle.uf_tree.specs.declared.nodes.ShardNode.{ShardNode}
+use Rattle.uf_tree.specs.Codecs.{Reads, shard_node_block}
 use Rattle.uf_tree.specs.FilePlan.{Plan}
+use Rattle.uf_tree.specs.Metas.{none}
 use Rattle.uf_tree.specs.Names.{names_cmp}
 use Rattle.uf_tree.specs.Nodes.{InSlot, Named, shard_block}
 use Rattle.uf_tree.specs.Shardable.{HasShard}
 use Rattle.uf_tree.specs.ShardPlan.{bucket, flat_tabulate, same_slots, shard, shard_held, slot_blocks, slot_item, tabulate, twins}
-use Rattle.uf_tree.specs.Validity.{IsDirectory, IsEntry, IsHash, IsNamed, IsShard}
+use Rattle.uf_tree.specs.Validity.{IsDirectory, IsEntry, IsHash, IsNamed, IsShard, IsShardNode}
 use Rattle.uf_tree.proofs.Each.{each_filter, each_tabulate}
 use Rattle.uf_tree.proofs.Twins.{Apart-HasShard, twins-Apart}
 use Rattle.uf_tree.proofs.Valid.{node_entry-valid, shard-valid, shard_items-valid}
 use Rattle.uf_shard.specs.Listing.{IsBadShard}
 use Rattle.uf_shard.specs.Planned.{IsPlanned}
-use Rattle.uf_shard.specs.Walked.{AreOver, HasItems, HasLevel, IsAbove, IsOver, IsRoot, LoadsItems, all_blocks, blocks_over}
-use Rattle.uf_shard.proofs.One.{one_shard}
+use Rattle.uf_shard.specs.Walked.{AreOver, HasItems, HasLevel, IsAbove, IsOver, IsRoot, LoadsItems, MayCarryAt, all_blocks, blocks_over}
+use Rattle.uf_shard.proofs.Carrying.{none-at}
+use Rattle.uf_shard.proofs.One.{one_shard, same-items}
 use Rattle.uf_shard.proofs.Reaching.{deeper_of, items_of, level_of, shard-is}
 
 as_T : (b : Bool) → b ≡ true → T b
@@ -121,7 +125,7 @@ module _ (X : List ℕ → List ℕ) (N : List ℕ → ℕ) where
   over_slot left (e ∷ []) s valid fit = (refl, tt)
   over_slot zero (e ∷ f ∷ m) s valid fit = absurd (few (length m) fit)
   over_slot (suc left) (e ∷ f ∷ m) s valid (inl h) = absurd (few (length m) h)
-  over_slot (suc left) (e ∷ f ∷ m) s valid (inr h) = (record { valid = valid; some = some (length (f ∷ m)); apart = h; cid = refl }, some left)
+  over_slot (suc left) (e ∷ f ∷ m) s valid (inr h) = (record { good = refl; carries = none-at (7 - left); valid = valid; some = some (length (f ∷ m)); apart = h; cid = refl }, some left)
 
   valid_slot : (k s : ℕ) (l : List Named) → IsDirectory l → IsDirectory (bucket N k s l)
   valid_slot k s l valid = record {
@@ -148,41 +152,43 @@ module _ (X : List ℕ → List ℕ) (N : List ℕ → ℕ) where
   below_slot left s over items rest [] is h = h
   below_slot left s over items rest (e ∷ []) is h = h
   below_slot zero s over items rest (e ∷ f ∷ m) is h = h
-  below_slot (suc left) s over items rest (e ∷ f ∷ m) is h = λ i. (shard X N left (is i)).blocks ++ h i
+  below_slot (suc left) s over items rest (e ∷ f ∷ m) is h = λ i. (shard X N left none (is i)).blocks ++ h i
 
   below_all : (left : ℕ) (over : ℕ → List Named) (n a : ℕ) → all_blocks X N left over (tabulate n a (λ s. slot_item (deeper_of X N left) (over s))) ≡ flat_tabulate n a (λ s. slot_blocks (deeper_of X N left) (over s))
   unfolding tabulate flat_tabulate
   below_all left over zero a = refl
   below_all left over (suc n) a = below_slot left a over (tabulate n (suc a) (λ s. slot_item (deeper_of X N left) (over s))) _ (over a) refl (below_all left over n (suc a))
 
-  pub blocks-are : (left : ℕ) (l : List Named) → (shard X N left l).blocks ≡ shard_held X N (items_of X N left l) ∷ all_blocks X N left (pairs_of left l) (items_of X N left l)
-  blocks-are left l = ap (λ (p : Plan). p.blocks) (shard-is X N left l) ∙ ap (λ (b : List Held). shard_held X N (items_of X N left l) ∷ b) (sym (below_all left (pairs_of left l) 256 0))
+  pub blocks-are : (left : ℕ) (m : Meta) (l : List Named) → (shard X N left m l).blocks ≡ shard_held X N m (items_of X N left l) ∷ all_blocks X N left (pairs_of left l) (items_of X N left l)
+  blocks-are left m l = ap (λ (p : Plan). p.blocks) (shard-is X N left m l) ∙ ap (λ (b : List Held). shard_held X N m (items_of X N left l) ∷ b) (sym (below_all left (pairs_of left l) 256 0))
 
   -- the root of a plan
-  pub root-planned : (root : Cid) (l : List Named) → IsPlanned X N root l → IsRoot X N 7 root l
-  root-planned root [] is = absurd (no is.is_plan)
+  pub root-planned : (root : Cid) (m : Meta) (l : List Named) → IsPlanned X N root m l → IsRoot X N 7 root m l
+  root-planned root m [] is = absurd (no is.is_plan)
     where
       no : None ≡ Some is.plan → ⊥
       no e = cc
-  root-planned root (e ∷ l) is = by (twins (same_slots N 7) (e ∷ l)) refl is.is_plan
+  root-planned root m (e ∷ l) is = by (twins (same_slots N 7) (e ∷ l)) refl is.is_plan
     where
-      by : (o : Option (List ℕ × List ℕ)) → twins (same_slots N 7) (e ∷ l) ≡ o → elim o [ None ↦ Some (shard X N 7 (e ∷ l)) | Some names ↦ None ] ≡ Some is.plan → IsRoot X N 7 root (e ∷ l)
+      by : (o : Option (List ℕ × List ℕ)) → twins (same_slots N 7) (e ∷ l) ≡ o → elim o [ None ↦ Some (shard X N 7 m (e ∷ l)) | Some names ↦ None ] ≡ Some is.plan → IsRoot X N 7 root m (e ∷ l)
       by None t h = record {
+        good = is.good;
+        carries = tt;
         valid = is.valid;
         some = some (length l);
         apart = Apart-HasShard N 7 (e ∷ l) (twins-Apart (same_slots N 7) (e ∷ l) t);
-        cid = is.cid ∙ ap (λ (p : Plan). p.entry.cid) (let same : shard X N 7 (e ∷ l) ≡ is.plan = cc in sym same);
+        cid = is.cid ∙ ap (λ (p : Plan). p.entry.cid) (let same : shard X N 7 m (e ∷ l) ≡ is.plan = cc in sym same);
       }
       by (Some names) t h = absurd (let no : None ≡ Some is.plan = h in cc)
 
   module _ (good : IsHash X) where
     deeper-valid : (left : ℕ) (m : List Named) → IsEntry (deeper_of X N left m).entry
     deeper-valid zero m = node_entry-valid X good [] []
-    deeper-valid (suc left) m = shard-valid X good N left m
+    deeper-valid (suc left) m = shard-valid X good N left none m
 
-    module _ (left : ℕ) (root : Cid) (l : List Named) (is : IsRoot X N left root l) where
+    module _ (left : ℕ) (root : Cid) (m : Meta) (l : List Named) (is : IsRoot X N left root m l) where
       abbrev own : Held
-      own = shard_held X N (items_of X N left l)
+      own = shard_held X N m (items_of X N left l)
 
       abbrev below : List Held
       below = all_blocks X N left (pairs_of left l) (items_of X N left l)
@@ -190,51 +196,54 @@ module _ (X : List ℕ → List ℕ) (N : List ℕ → ℕ) where
       items-valid : IsShard (items_of X N left l)
       items-valid = shard_items-valid N (deeper_of X N left) (deeper-valid left) (level_of left) l is.valid.each is.some
 
-      above : IsAbove left (items_of X N left l)
-      above = record { valid = items-valid; levels = are_levels left (pairs_of left l) (items_of X N left l) (over_each left l is.valid is.apart) }
+      above : IsAbove left (record { items = items_of X N left l; meta = m })
+      above = record { valid = record { items = items-valid; meta = is.good }; carries = is.carries; levels = are_levels left (pairs_of left l) (items_of X N left l) (over_each left l is.valid is.apart) }
 
       root-is : root ≡ own.0
-      root-is = is.cid ∙ ap (λ (p : Plan). p.entry.cid) (shard-is X N left l)
+      root-is = is.cid ∙ ap (λ (p : Plan). p.entry.cid) (shard-is X N left m l)
 
       -- the block that is held under its CID
-      pub held_block : (t : Contents) (bytes : List ℕ) → Agrees (Some t) (shard X N left l).blocks → held_at t root ≡ Some bytes → bytes ≡ shard_block (items_of X N left l)
+      pub held_block : (t : Contents) (bytes : List ℕ) → Agrees (Some t) (shard X N left m l).blocks → held_at t root ≡ Some bytes → bytes ≡ shard_block m (items_of X N left l)
       held_block t bytes agrees held =
-          let all : Agrees (Some t) (own ∷ below) = subst (Agrees (Some t)) (blocks-are left l) agrees in
+          let all : Agrees (Some t) (own ∷ below) = subst (Agrees (Some t)) (blocks-are left m l) agrees in
           by (held_at t own.0) (ap (held_at t) (sym root-is) ∙ held) all.0
         where
-          by : (o : Option (List ℕ)) → o ≡ Some bytes → IfSome o (λ b. b ≡ shard_block (items_of X N left l)) → bytes ≡ shard_block (items_of X N left l)
+          by : (o : Option (List ℕ)) → o ≡ Some bytes → IfSome o (λ b. b ≡ shard_block m (items_of X N left l)) → bytes ≡ shard_block m (items_of X N left l)
           by None e h = absurd (let no : None ≡ Some bytes = e in cc)
           by (Some b) e h = (let same : b ≡ bytes = cc in sym same) ∙ h
 
-      pub held_items : (t : Contents) (items : List InSlot) → IsShard items → Agrees (Some t) (shard X N left l).blocks → held_at t root ≡ Some (shard_block items) → items ≡ items_of X N left l
-      held_items t items valid agrees held = one_shard items (items_of X N left l) valid items-valid (held_block t (shard_block items) agrees held)
+      pub held_items : (t : Contents) (node : ShardNode) → IsShardNode node → Agrees (Some t) (shard X N left m l).blocks → held_at t root ≡ Some (shard_node_block node) → node.items ≡ items_of X N left l
+      held_items t node valid agrees held = same-items node m (items_of X N left l) valid is.good items-valid (held_block t (shard_node_block node) agrees held)
 
-      pub loaded_items : (told : Told) (items : List InSlot) → IsShard items → Agrees told (shard X N left l).blocks → IfSome told (λ t. held_at t root ≡ Some (shard_block items)) → items ≡ items_of X N left l
-      loaded_items None items valid agrees held = absurd agrees
-      loaded_items (Some t) items valid agrees held = held_items t items valid agrees held
+      pub loaded_items : (before : Seen) (items : List InSlot) → Agrees before.told (shard X N left m l).blocks → HasItems left root before items → items ≡ items_of X N left l
+      loaded_items before items agrees has = has.are ∙ by before.told agrees has.is_held
+        where
+          by : (told : Told) → Agrees told (shard X N left m l).blocks → IfSome told (λ t. held_at t root ≡ Some (shard_node_block has.node)) → has.node.items ≡ items_of X N left l
+          by None agrees held = absurd agrees
+          by (Some t) agrees held = held_items t has.node has.above.valid agrees held
 
-      pub Agrees_below : (told : Told) → Agrees told (shard X N left l).blocks → Agrees told below
+      pub Agrees_below : (told : Told) → Agrees told (shard X N left m l).blocks → Agrees told below
       Agrees_below None a = absurd a
-      Agrees_below (Some t) a = (let all : Agrees (Some t) (own ∷ below) = subst (Agrees (Some t)) (blocks-are left l) a in all.1)
+      Agrees_below (Some t) a = (let all : Agrees (Some t) (own ∷ below) = subst (Agrees (Some t)) (blocks-are left m l) a in all.1)
 
-      pub lost_below : (held : Lookup) (c : Cid) → IsLost held c below → IsLost held c (shard X N left l).blocks
-      lost_below held c h = subst (IsLost held c) (sym (blocks-are left l)) (inr h)
+      pub lost_below : (held : Lookup) (c : Cid) → IsLost held c below → IsLost held c (shard X N left m l).blocks
+      lost_below held c h = subst (IsLost held c) (sym (blocks-are left m l)) (inr h)
 
       -- a load that fails while the store stays calm has lost a block of the plan
       pub load-lost : (before now : Seen) (fault : StoreFault) → LoadsItems left root before now (Err fault) → Answers {A = List InSlot} X IsBadShard (Err fault) before now
-          → Agrees before.told (shard X N left l).blocks → Stood before.faults now.faults → IsLossOf before.told (shard X N left l).blocks fault
+          → Agrees before.told (shard X N left m l).blocks → Stood before.faults now.faults → IsLossOf before.told (shard X N left m l).blocks fault
       load-lost before now Failed loads cause agrees stood = let r = cause.rose in omega (arith, r, stood)
       load-lost before now (Damaged c) loads cause agrees stood = let r = cause.rose in omega (arith, r, stood)
       load-lost before now (Missing c) loads cause agrees stood = by before.told loads.1
         where
-          by : (told : Told) → IfSome told (λ t. held_at t root ≡ None) → LosesOne told c (shard X N left l).blocks
+          by : (told : Told) → IfSome told (λ t. held_at t root ≡ None) → LosesOne told c (shard X N left m l).blocks
           by None h = tt
-          by (Some t) h = subst (IsLost (held_at t) c) (sym (blocks-are left l)) (inl (loads.0 ∙ root-is, ap (held_at t) (sym root-is) ∙ h))
+          by (Some t) h = subst (IsLost (held_at t) c) (sym (blocks-are left m l)) (inl (loads.0 ∙ root-is, ap (held_at t) (sym root-is) ∙ h))
       load-lost before now (BadBlock c role) loads cause agrees stood = by before.told agrees loads.is_held
         where
-          by : (told : Told) → Agrees told (shard X N left l).blocks → IfSome told (λ t. held_at t root ≡ Some now.lent) → ⊥
+          by : (told : Told) → Agrees told (shard X N left m l).blocks → IfSome told (λ t. held_at t root ≡ Some now.lent) → ⊥
           by None a h = a
-          by (Some t) a h = loads.none (items_of X N left l) above (held_block t now.lent a h)
+          by (Some t) a h = loads.no_shard (record { items = items_of X N left l; meta = m }) above (held_block t now.lent a h)
       load-lost before now (Clash c x y) loads cause agrees stood = loads
       load-lost before now Memory loads cause agrees stood = tt
 
@@ -245,10 +254,10 @@ module _ (X : List ℕ → List ℕ) (N : List ℕ → ℕ) where
       -- a loss below is one here, where the shard was loaded before
       pub all-lost : {A : Type 0} (items slice : List InSlot) (before mid now : Seen) (r : Result A StoreFault) → mid.told ≡ before.told → StaysCalm before mid → slice ≡ items → HasItems left root before items
           → ((over : ℕ → List Named) → AreOver X N left over slice → Agrees mid.told (all_blocks X N left over slice) → Stood mid.faults now.faults → IfErr r (IsLossOf mid.told (all_blocks X N left over slice)))
-          → Agrees before.told (shard X N left l).blocks → Stood before.faults now.faults → IfErr r (IsLossOf before.told (shard X N left l).blocks)
+          → Agrees before.told (shard X N left m l).blocks → Stood before.faults now.faults → IfErr r (IsLossOf before.told (shard X N left m l).blocks)
       all-lost items slice before mid now r same calm is_slice has lost agrees stood =
-          let planned : slice ≡ items_of X N left l = is_slice ∙ loaded_items before.told items has.above.valid agrees has.is_held in
-          loss_of_err before.told below (shard X N left l).blocks r lost_below
+          let planned : slice ≡ items_of X N left l = is_slice ∙ loaded_items before items agrees has in
+          loss_of_err before.told below (shard X N left m l).blocks r lost_below
           (subst (λ (told : Told). IfErr r (IsLossOf told below)) same
           (subst (λ (i : List InSlot). Agrees mid.told (all_blocks X N left (pairs_of left l) i) → Stood mid.faults now.faults → IfErr r (IsLossOf mid.told (all_blocks X N left (pairs_of left l) i))) planned
           (lost (pairs_of left l) (over_items slice planned))
@@ -275,7 +284,7 @@ module _ (X : List ℕ → List ℕ) (N : List ℕ → ℕ) where
         (subst (λ (n : ℕ). Stood n now.faults) (sym calm.faults) stood)))
 
 -- a shard whose levels don't suffice is no such shard
-pub above-elsewhere : (left : ℕ) (bytes : List ℕ) (items slice : List InSlot) (b : Bool) → Reads IsShard shard_block bytes (Ok items) → slice ≡ items → IsTrue b ↔ AllByRecursion (HasLevel left) slice → b ≡ false
-    → Reads (IsAbove left) shard_block bytes (Err NotCanonical)
-above-elsewhere left bytes items slice b read same iff fails =
-    inr (λ v k e. false≢true (sym fails ∙ iff.1 (subst (AllByRecursion (HasLevel left)) (one_shard v items k.valid read.0 (sym e ∙ read.1) ∙ sym same) k.levels)))
+pub above-elsewhere : (left : ℕ) (bytes : List ℕ) (node : ShardNode) (b : Bool) → Reads IsShardNode shard_node_block bytes (Ok node) → IsTrue b ↔ (MayCarryAt (7 - left) node.meta × AllByRecursion (HasLevel left) node.items) → b ≡ false
+    → Reads (IsAbove left) shard_node_block bytes (Err NotCanonical)
+above-elsewhere left bytes node b read iff fails =
+    inr (λ v k e. false≢true (sym fails ∙ iff.1 (subst (λ (n : ShardNode). MayCarryAt (7 - left) n.meta × AllByRecursion (HasLevel left) n.items) (one_shard v node k.valid read.0 (sym e ∙ read.1)) (k.carries, k.levels))))

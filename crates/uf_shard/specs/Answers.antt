@@ -1,5 +1,5 @@
 -- What calls that build or change a directory answer.
-use Rattle.std.specs.Prelude.{◌≡◌, ℕ, List, Some, None, ⊤}
+use Rattle.std.specs.Prelude.{◌≡◌, ℕ, List, map, Some, None, ⊤}
 use Rattle.std.specs.declared.option.Option.{Option}
 use Rattle.std.specs.declared.result.Result.{Result}
 use Rattle.std.specs.declared.result.Result.TheVariants.{Ok, Err}
@@ -11,16 +11,21 @@ use Rattle.uf_store.specs.declared.store.StoreFault.{StoreFault}
 use Rattle.uf_store.specs.Faults.{Shown as ShownOf}
 use Rattle.uf_store.specs.Lost.{IsLossOf}
 use Rattle.uf_store.specs.Seen.{Seen}
+use Rattle.uf_tree.specs.declared.meta.Meta.{Meta}
 use Rattle.uf_tree.specs.declared.nodes.Entry.{Entry}
-use Rattle.uf_tree.specs.Nodes.{Named}
+use Rattle.uf_tree.specs.Nodes.{InSlot, Named, item_entry, node_entry, shard_block}
 use Rattle.uf_tree.specs.ShardPlan.{shard}
 use Rattle.uf_tree.specs.TreePlan.{Refusal, Collision as Collides, TooBig as IsTooBig, collision, or_else, too_big}
 use Rattle.uf_shard.specs.declared.fault.DirFault.{DirFault}
 use Rattle.uf_shard.specs.declared.fault.DirFault.TheVariants.{Collision, TooBig, Store}
 
+-- the entry of the root of a shard tree with this metadata and these slots
+abbrev pub root_entry : (List ℕ → List ℕ) → Meta → List InSlot → Entry
+root_entry X m items = node_entry X (shard_block m items) (map (λ (p : InSlot). item_entry p.1) items)
+
 -- why a directory in shards has no plan: two names of one hash, else its size
-abbrev pub shard_refusal : (List ℕ → List ℕ) → (List ℕ → ℕ) → List Named → Option Refusal
-shard_refusal X N l = or_else (collision N l) (too_big (shard X N 7 l).entry.tsize)
+abbrev pub shard_refusal : (List ℕ → List ℕ) → (List ℕ → ℕ) → Meta → List Named → Option Refusal
+shard_refusal X N m l = or_else (collision N l) (too_big (shard X N 7 m l).entry.tsize)
 
 -- the entry is this one where nothing refuses it, and a refusal is this one; else a save failed
 abbrev pub Gives : Option Refusal → Entry → Result Entry DirFault → Type 0

@@ -6,6 +6,7 @@ use Rattle.uf_cid.specs.Blocks.{Held}
 use Rattle.uf_murmur.specs.Slots.{slot}
 use Rattle.uf_tree.specs.declared.nodes.Item.{Item}
 use Rattle.uf_tree.specs.FilePlan.{Plan}
+use Rattle.uf_tree.specs.Metas.{none}
 use Rattle.uf_tree.specs.Nodes.{Named}
 use Rattle.uf_tree.specs.Shardable.{HasShard}
 use Rattle.uf_tree.specs.ShardPlan.{no_shard, shard, slot_blocks, slot_item}
@@ -43,10 +44,10 @@ pub record AreForShard (N : List ℕ → ℕ) (left : ℕ) (rows : List Hashed) 
   pub apart : HasShard N left (pairs_of rows)
 
 module _ (X : List ℕ → List ℕ) (N : List ℕ → ℕ) where
-  -- the shard below a slot of the shard with so many levels below it
+  -- the shard below a slot of the shard with so many levels below it, which has no metadata
   abbrev pub deeper : ℕ → List Named → Plan
   deeper zero = no_shard X N
-  deeper (suc left) = shard X N left
+  deeper (suc left) = shard X N left none
 
   -- what a slot has of the rows that stand in its place
   abbrev pub item_at : ℕ → List (List Hashed) → ℕ → Option Item

@@ -10,5 +10,6 @@ pub mod Saving
 pub mod Sorting
 pub mod Spots
 pub mod Taken
+pub mod Trails
 pub mod Walked
 pub mod Weighed

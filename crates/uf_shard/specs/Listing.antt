@@ -1,12 +1,14 @@
 -- A shard tree read where it stands, whether a plan gives it or not.
-use Rattle.std.specs.Prelude.{◌≡◌, ◌<◌, ℕ, zero, suc, List, [], ◌∷◌, ◌++◌, length, Some}
+use Rattle.std.specs.Prelude.{◌≡◌, ◌<◌, ℕ, zero, suc, List, [], ◌∷◌, ◌++◌, length, Some, IsTrue}
 use Rattle.uf_cid.specs.declared.cid.Cid.{Cid}
 use Rattle.uf_cid.specs.Blocks.{Lookup}
 use Rattle.uf_store.specs.declared.store.Role.{Role}
 use Rattle.uf_store.specs.declared.store.Role.TheVariants.{Directory, Shard, FileNode, Leaf as LeafRole}
+use Rattle.uf_tree.specs.declared.meta.Meta.{Meta}
 use Rattle.uf_tree.specs.declared.nodes.Item.{Item}
 use Rattle.uf_tree.specs.declared.nodes.Item.TheVariants.{Leaf, Sub}
 use Rattle.uf_tree.specs.Changes.{with_name}
+use Rattle.uf_tree.specs.Metas.{is_meta}
 use Rattle.uf_tree.specs.Nodes.{InSlot, Named, shard_block}
 use Rattle.uf_tree.specs.Roles.{IsCanonicalShard}
 use Rattle.uf_tree.specs.Validity.{IsShard}
@@ -19,11 +21,13 @@ AreListed Below ((s, Leaf name e) ∷ items) rows =
 AreListed Below ((s, Sub e) ∷ items) rows =
     (front rest : List Named) × (rows ≡ front ++ rest) × Below e.cid front × AreListed Below items rest
 
--- the shard under a CID is held, and these are its names in the order of the slots
+-- the shard under a CID is held, and these are its names in the order of the slots; its metadata tells no name
 pub record Lists (Below : Cid → List Named → Type 0) (held : Lookup) (cid : Cid) (rows : List Named) : Type 0 where
+  pub meta : Meta
   pub items : List InSlot
+  pub good : IsTrue (is_meta meta)
   pub valid : IsShard items
-  pub is_held : held cid ≡ Some (shard_block items)
+  pub is_held : held cid ≡ Some (shard_block meta items)
   pub listed : AreListed Below items rows
 
 -- nothing stands below the last level

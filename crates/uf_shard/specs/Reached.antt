@@ -1,5 +1,5 @@
 -- Shards on the way of a name.
-use Rattle.std.specs.Prelude.{◌≡◌, ◌≤◌, ◌-◌, ℕ, List, length, ⊤, Some, None, IfSome}
+use Rattle.std.specs.Prelude.{◌≡◌, ◌≤◌, ◌-◌, ℕ, List, length, ⊤, Some, None, IfSome, IsTrue}
 use Rattle.std.specs.declared.result.Result.{Result}
 use Rattle.std.specs.declared.result.Result.TheVariants.{Ok, Err}
 use Rattle.std.specs.FinMap.Entries.{find}
@@ -13,27 +13,35 @@ use Rattle.uf_store.specs.declared.store.StoreFault.{StoreFault}
 use Rattle.uf_store.specs.declared.store.StoreFault.TheVariants.{Failed, Damaged, Missing, BadBlock, Clash, Memory}
 use Rattle.uf_store.specs.declared.store.Role.{Role}
 use Rattle.uf_store.specs.declared.store.Role.TheVariants.{Shard}
-use Rattle.uf_tree.specs.Nodes.{InSlot, Named, shard_block}
-use Rattle.uf_tree.specs.Roles.{IsCanonicalShard}
+use Rattle.uf_tree.specs.declared.meta.Meta.{Meta}
+use Rattle.uf_tree.specs.declared.nodes.ShardNode.{ShardNode}
+use Rattle.uf_tree.specs.Codecs.{shard_node_block}
+use Rattle.uf_tree.specs.Metas.{is_meta}
+use Rattle.uf_tree.specs.Nodes.{Named}
+use Rattle.uf_tree.specs.Roles.{IsCanonicalShard, MayCarry}
 use Rattle.uf_tree.specs.ShardPlan.{shard}
 use Rattle.uf_tree.specs.Shardable.{HasShard}
 use Rattle.uf_tree.specs.Validity.{IsDirectory}
-use Rattle.uf_shard.specs.Placed.{IsPlaced, way}
+use Rattle.uf_shard.specs.Placed.{IsPlacedNode, way}
 use Rattle.uf_shard.specs.Spots.{spot_of}
 use Rattle.uf_shard.specs.declared.spot.Spot.{Spot}
 
--- the CID is that of the shard of these pairs, which is reached on the way of a hash with so many levels left
-pub record IsReached (X : List ℕ → List ℕ) (N : List ℕ → ℕ) (hash left : ℕ) (root : Cid) (l : List Named) : Type 0 where
+-- the CID is that of the shard with this metadata and these pairs, which is reached on the way of a hash with so many
+-- levels left
+pub record IsReached (X : List ℕ → List ℕ) (N : List ℕ → ℕ) (hash left : ℕ) (root : Cid) (m : Meta) (l : List Named)
+    : Type 0 where
+  pub good : IsTrue (is_meta m)
+  pub carries : MayCarry (way hash (7 - left)) m
   pub valid : IsDirectory l
   pub some : 1 ≤ length l
   pub apart : HasShard N left l
   pub along : AllByRecursion (λ (e : Named). way (N e.0) (7 - left) ≡ way hash (7 - left)) l
-  pub cid : root ≡ (shard X N left l).entry.cid
+  pub cid : root ≡ (shard X N left m l).entry.cid
 
--- the block was found, and it is the shard of these slots on the way of a hash
-pub record HasPlaced (N : List ℕ → ℕ) (hash level : ℕ) (cid : Cid) (before : Seen) (items : List InSlot) : Type 0 where
-  pub placed : IsPlaced N (way hash level) items
-  pub is_held : IfSome before.told (λ t. held_at t cid ≡ Some (shard_block items))
+-- the block was found, and it is this shard on the way of a hash
+pub record HasPlaced (N : List ℕ → ℕ) (hash level : ℕ) (cid : Cid) (before : Seen) (node : ShardNode) : Type 0 where
+  pub is : IsPlacedNode N (way hash level) node
+  pub is_held : IfSome before.told (λ t. held_at t cid ≡ Some (shard_node_block node))
 
 -- the block was found, and isn't canonical as the shard of this level
 pub record IsBadThere (N : List ℕ → ℕ) (hash level : ℕ) (cid : Cid) (r : Role) (before now : Seen) : Type 0 where
@@ -42,8 +50,8 @@ pub record IsBadThere (N : List ℕ → ℕ) (hash level : ℕ) (cid : Cid) (r :
   pub bad : IsCanonicalShard N (way hash level) now.lent → ⊥
 
 -- a shard was loaded, or its block is lost or bad, or the store failed
-abbrev pub LoadsPlaced : (List ℕ → ℕ) → ℕ → ℕ → Cid → Seen → Seen → Result (List InSlot) StoreFault → Type 0
-LoadsPlaced N hash level cid before now (Ok items) = HasPlaced N hash level cid before items
+abbrev pub LoadsPlaced : (List ℕ → ℕ) → ℕ → ℕ → Cid → Seen → Seen → Result ShardNode StoreFault → Type 0
+LoadsPlaced N hash level cid before now (Ok node) = HasPlaced N hash level cid before node
 LoadsPlaced N hash level cid before now (Err Failed) = ⊤
 LoadsPlaced N hash level cid before now (Err (Damaged c)) = ⊤
 LoadsPlaced N hash level cid before now (Err (Missing c)) = (c ≡ cid) × IfSome before.told (λ t. held_at t cid ≡ None)
@@ -54,9 +62,9 @@ LoadsPlaced N hash level cid before now (Err Memory) = ⊤
 -- the block was found, and is a shard that says this of a name
 pub record SaysOf (N : List ℕ → ℕ) (hash level : ℕ) (cid : Cid) (name : List ℕ) (before : Seen) (spot : Spot)
     : Type 0 where
-  pub items : List InSlot
-  pub has : HasPlaced N hash level cid before items
-  pub says : spot ≡ spot_of name (find nat_cmp (slot hash level) items)
+  pub node : ShardNode
+  pub has : HasPlaced N hash level cid before node
+  pub says : spot ≡ spot_of name (find nat_cmp (slot hash level) node.items)
 
 -- the same of a load after which the shard says what it has of a name
 abbrev pub LooksAt : (List ℕ → ℕ) → ℕ → ℕ → Cid → List ℕ → Seen → Seen → Result Spot StoreFault → Type 0

@@ -13,6 +13,7 @@ use Rattle.uf_store.specs.Clashes.{IsSaving}
 use Rattle.uf_store.specs.Lost.{AgreesAfter}
 use Rattle.uf_store.specs.Keeping.{Holds}
 use Rattle.uf_store.specs.declared.store.StoreFault.{StoreFault}
+use Rattle.uf_tree.specs.declared.meta.Meta.{Meta}
 use Rattle.uf_tree.specs.declared.nodes.Item.TheVariants.{Leaf, Sub}
 use Rattle.uf_tree.specs.declared.nodes.Entry.{Entry}
 use Rattle.uf_tree.specs.Changes.{without}
@@ -79,34 +80,34 @@ collapsed ((s, Leaf name e) ∷ []) = Of (Some (Leaf name e))
 collapsed ((s, Sub e) ∷ []) = Same
 collapsed (a ∷ b ∷ items) = Same
 
--- nothing is left of no slots, and else the shard of these, which is held
-abbrev pub IsLeftOf : (List ℕ → List ℕ) → (before now : Told) → List InSlot → Removed → Type 0
-IsLeftOf X before now items Absent = ⊥
-IsLeftOf X before now items Empty = items ≡ []
-IsLeftOf X before now items (Left e) = (1 ≤ length items)
-    × (e ≡ node_entry X (shard_block items) (map (λ (p : InSlot). item_entry p.1) items))
-    × Holds now ((e.cid, shard_block items) ∷ [])
+-- nothing is left of no slots, and else the shard of these with the metadata, which is held
+abbrev pub IsLeftOf : (List ℕ → List ℕ) → (before now : Told) → Meta → List InSlot → Removed → Type 0
+IsLeftOf X before now m items Absent = ⊥
+IsLeftOf X before now m items Empty = items ≡ []
+IsLeftOf X before now m items (Left e) = (1 ≤ length items)
+    × (e ≡ node_entry X (shard_block m items) (map (λ (p : InSlot). item_entry p.1) items))
+    × Holds now ((e.cid, shard_block m items) ∷ [])
 
 -- the list has the name
 abbrev pub HasName : List ℕ → List Named → Type 0
 HasName name l = (e : Entry) × (find names_cmp name l ≡ Some e)
 
 module _ (X : List ℕ → List ℕ) (N : List ℕ → ℕ) where
-  -- what is left of a directory in shards: nothing, or the entry of these pairs
-  abbrev pub left_of : List Named → Removed
-  left_of [] = Empty
-  left_of (e ∷ l) = Left (shard X N 7 (e ∷ l)).entry
+  -- what is left of a directory in shards: nothing, or the entry of the metadata and these pairs
+  abbrev pub left_of : Meta → List Named → Removed
+  left_of m [] = Empty
+  left_of m (e ∷ l) = Left (shard X N 7 m (e ∷ l)).entry
 
   -- the answer where a name is taken out of a directory in shards
-  abbrev pub left_without : List ℕ → List Named → Removed
-  left_without name l = elim (find names_cmp name l) [ None ↦ Absent | Some old ↦ left_of (without name l) ]
+  abbrev pub left_without : List ℕ → Meta → List Named → Removed
+  left_without name m l = elim (find names_cmp name l) [ None ↦ Absent | Some old ↦ left_of m (without name l) ]
 
   -- where something is left, what is told agrees with its blocks, and those that aren't held are old ones that weren't
   -- held before
-  abbrev pub AgreesLeft : (before now : Told) → List Held → List ℕ → List Named → Removed → Type 0
-  AgreesLeft before now old name l Absent = ⊤
-  AgreesLeft before now old name l Empty = ⊤
-  AgreesLeft before now old name l (Left e) = AgreesAfter before now old (shard X N 7 (without name l)).blocks
+  abbrev pub AgreesLeft : (before now : Told) → List Held → List ℕ → Meta → List Named → Removed → Type 0
+  AgreesLeft before now old name m l Absent = ⊤
+  AgreesLeft before now old name m l Empty = ⊤
+  AgreesLeft before now old name m l (Left e) = AgreesAfter before now old (shard X N 7 m (without name l)).blocks
 
   -- what the removal of a name gives in the slots of a shard of these pairs: nothing where the name isn't there
   abbrev pub TakesSlots : (before now : Told) → List Held → ℕ → List ℕ → List Named

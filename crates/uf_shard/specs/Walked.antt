@@ -1,5 +1,6 @@
 -- Shards loaded one by one, and what the shards of a plan have below them.
-use Rattle.std.specs.Prelude.{◌≡◌, ◌≢◌, ◌≤◌, ℕ, zero, suc, List, [], ◌∷◌, length, ⊤, Some, None, IfErr, IfSome}
+use Rattle.std.specs.Prelude.{◌≡◌, ◌≢◌, ◌≤◌, ◌-◌, ℕ, zero, suc, List, [], ◌∷◌, length, ⊤, Some, None}
+use Rattle.std.specs.Prelude.{IfErr, IfSome, IsTrue}
 use Rattle.std.specs.declared.result.Result.{Result}
 use Rattle.std.specs.declared.result.Result.TheVariants.{Ok, Err}
 use Rattle.std.specs.List.{AllByRecursion, flat_map}
@@ -12,31 +13,43 @@ use Rattle.uf_store.specs.Lost.{IsLossOf}
 use Rattle.uf_store.specs.Seen.{Seen}
 use Rattle.uf_store.specs.declared.store.StoreFault.{StoreFault}
 use Rattle.uf_store.specs.declared.store.StoreFault.TheVariants.{Failed, Damaged, Missing, BadBlock, Clash, Memory}
+use Rattle.uf_tree.specs.declared.meta.Meta.{Meta}
 use Rattle.uf_tree.specs.declared.nodes.Item.{Item}
 use Rattle.uf_tree.specs.declared.nodes.Item.TheVariants.{Leaf, Sub}
-use Rattle.uf_tree.specs.Nodes.{InSlot, Named, shard_block}
+use Rattle.uf_tree.specs.declared.nodes.ShardNode.{ShardNode}
+use Rattle.uf_tree.specs.Codecs.{shard_node_block}
+use Rattle.uf_tree.specs.Metas.{is_meta, none}
+use Rattle.uf_tree.specs.Nodes.{InSlot, Named}
 use Rattle.uf_tree.specs.ShardPlan.{shard}
 use Rattle.uf_tree.specs.Shardable.{HasShard}
-use Rattle.uf_tree.specs.Validity.{IsDirectory, IsShard}
+use Rattle.uf_tree.specs.Validity.{IsDirectory, IsShardNode}
 
 -- a shard stands only where a level is left for it
 abbrev pub HasLevel : ℕ → InSlot → Type 0
 HasLevel left p = elim p.1 [ Leaf name e ↦ ⊤ | Sub e ↦ 1 ≤ left ]
 
--- the slots of a shard with so many levels below it
-pub record IsAbove (left : ℕ) (items : List InSlot) : Type 0 where
-  pub valid : IsShard items
-  pub levels : AllByRecursion (HasLevel left) items
+-- the shard of a level may carry metadata: that of level 0 any, and one below it none
+abbrev pub MayCarryAt : ℕ → Meta → Type 0
+MayCarryAt zero m = ⊤
+MayCarryAt (suc level) m = m ≡ none
 
--- the block was found, and it is that of these slots
+-- a shard with so many levels below it
+pub record IsAbove (left : ℕ) (node : ShardNode) : Type 0 where
+  pub valid : IsShardNode node
+  pub carries : MayCarryAt (7 - left) node.meta
+  pub levels : AllByRecursion (HasLevel left) node.items
+
+-- the block was found, and it is a shard of these slots
 pub record HasItems (left : ℕ) (cid : Cid) (before : Seen) (items : List InSlot) : Type 0 where
-  pub above : IsAbove left items
-  pub is_held : IfSome before.told (λ t. held_at t cid ≡ Some (shard_block items))
+  pub node : ShardNode
+  pub are : items ≡ node.items
+  pub above : IsAbove left node
+  pub is_held : IfSome before.told (λ t. held_at t cid ≡ Some (shard_node_block node))
 
 -- the block was found, and it is no shard with so many levels below it
 pub record IsNoShard (left : ℕ) (cid : Cid) (before now : Seen) : Type 0 where
   pub is_held : IfSome before.told (λ t. held_at t cid ≡ Some now.lent)
-  pub none : (items : List InSlot) → IsAbove left items → now.lent ≢ shard_block items
+  pub no_shard : (node : ShardNode) → IsAbove left node → now.lent ≢ shard_node_block node
 
 -- a shard was loaded, or its block is lost or bad, or the store failed
 abbrev pub LoadsItems : ℕ → Cid → Seen → Seen → Result (List InSlot) StoreFault → Type 0
@@ -49,24 +62,26 @@ LoadsItems left cid before now (Err (Clash c held bytes)) = ⊥
 LoadsItems left cid before now (Err Memory) = ⊤
 
 module _ (X : List ℕ → List ℕ) (N : List ℕ → ℕ) where
-  -- the CID is that of the shard of these pairs with so many levels below it
-  pub record IsRoot (left : ℕ) (root : Cid) (l : List Named) : Type 0 where
+  -- the CID is that of the shard with this metadata, these pairs and so many levels below it
+  pub record IsRoot (left : ℕ) (root : Cid) (m : Meta) (l : List Named) : Type 0 where
+    pub good : IsTrue (is_meta m)
+    pub carries : MayCarryAt (7 - left) m
     pub valid : IsDirectory l
     pub some : 1 ≤ length l
     pub apart : HasShard N left l
-    pub cid : root ≡ (shard X N left l).entry.cid
+    pub cid : root ≡ (shard X N left m l).entry.cid
 
   -- a slot of a shard with so many levels below it has these pairs
   abbrev pub IsOver : ℕ → Item → List Named → Type 0
   IsOver left (Leaf name e) l = l ≡ (name, e) ∷ []
   IsOver zero (Sub e) l = ⊥
-  IsOver (suc left) (Sub e) l = IsRoot left e.cid l
+  IsOver (suc left) (Sub e) l = IsRoot left e.cid none l
 
   -- the shard blocks below a slot that has these pairs
   abbrev pub blocks_over : ℕ → Item → List Named → List Held
   blocks_over left (Leaf name e) l = []
   blocks_over zero (Sub e) l = []
-  blocks_over (suc left) (Sub e) l = (shard X N left l).blocks
+  blocks_over (suc left) (Sub e) l = (shard X N left none l).blocks
 
   -- the same for the slots of a shard, where each slot has the pairs that `over` gives
   abbrev pub AreOver : ℕ → (ℕ → List Named) → List InSlot → Type 0
@@ -83,8 +98,8 @@ LosesOnly blocks result before now =
 module _ (X : List ℕ → List ℕ) (told : Told) where
   -- what holds of the pairs and blocks of each plan of the shard under a CID, where what is told agrees with the blocks
   abbrev pub OverShard : ℕ → Cid → (List Named → List Held → Type 0) → Type 0
-  OverShard left cid P = (N : List ℕ → ℕ) (l : List Named) → IsRoot X N left cid l
-      → Agrees told (shard X N left l).blocks → P l (shard X N left l).blocks
+  OverShard left cid P = (N : List ℕ → ℕ) (m : Meta) (l : List Named) → IsRoot X N left cid m l
+      → Agrees told (shard X N left m l).blocks → P l (shard X N left m l).blocks
 
   -- the same of some slots
   abbrev pub OverSlots : ℕ → List InSlot → ((ℕ → List Named) → List Held → Type 0) → Type 0

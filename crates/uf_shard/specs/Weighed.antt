@@ -10,6 +10,7 @@ use Rattle.uf_store.specs.Keeping.{Agrees}
 use Rattle.uf_tree.specs.declared.nodes.Item.{Item}
 use Rattle.uf_tree.specs.declared.nodes.Item.TheVariants.{Leaf, Sub}
 use Rattle.uf_tree.specs.DirPlan.{weight}
+use Rattle.uf_tree.specs.Metas.{none}
 use Rattle.uf_tree.specs.Nodes.{InSlot, Named}
 use Rattle.uf_tree.specs.ShardPlan.{shard}
 use Rattle.uf_shard.specs.Changed.{slots_of}
@@ -46,11 +47,11 @@ module _ (X : List ℕ → List ℕ) (N : List ℕ → ℕ) where
   AreRoots left [] [] = ⊤
   AreRoots left [] (l ∷ ls) = ⊥
   AreRoots left (cid ∷ cids) [] = ⊥
-  AreRoots left (cid ∷ cids) (l ∷ ls) = IsRoot X N left cid l × (2 ≤ length l) × AreRoots left cids ls
+  AreRoots left (cid ∷ cids) (l ∷ ls) = IsRoot X N left cid none l × (2 ≤ length l) × AreRoots left cids ls
 
   -- the blocks of a row of shards
   abbrev pub row_blocks : ℕ → List (List Named) → List Held
-  row_blocks left ls = flat_map (λ (l : List Named). (shard X N left l).blocks) ls
+  row_blocks left ls = flat_map (λ (l : List Named). (shard X N left none l).blocks) ls
 
   -- the least that the slots of a row of shards weigh, and the shards below them
   abbrev pub row_least : ℕ → List (List Named) → ℕ

@@ -1,16 +1,21 @@
 // Shard trees built from lists.
-ghost use Rattle.std.specs.Prelude.{◌≡◌, ◌≢◌, ◌≤◌, ◌<◌, ◌+◌, ℕ, [], None, Some};
-ghost use Rattle.std.specs.Prelude.{IfErr, IfOk, OnOk, length, slice_index_or};
+ghost use Rattle.std.specs.Prelude.{◌≡◌, ◌≢◌, ◌≤◌, ◌<◌, ◌+◌, ◌∷◌, ℕ, [], None, Some};
+ghost use Rattle.std.specs.Prelude.{IfErr, IfOk, IsTrue, OnOk, length, slice_index_or};
+ghost use Rattle.uf_cid.specs.Cid.{cid_of};
+ghost use Rattle.uf_cid.specs.declared.cid.Codec.TheVariants.{DagPb};
 ghost use Rattle.uf_store.specs.Clashes.{IsSaving};
 ghost use Rattle.uf_store.specs.Calls.{OnlySaves};
 ghost use Rattle.uf_store.specs.Faults.{NoneIsBad, fault_in};
 ghost use Rattle.uf_store.specs.Keeping.{Holds, KeepsGood};
 ghost use Rattle.uf_store.specs.Writing.{SavesOnly};
+ghost use Rattle.uf_tree.specs.Metas.{is_meta};
 ghost use Rattle.uf_tree.specs.ShardPlan.{flat_tabulate, shard, slot_blocks, slot_item, tabulate};
-ghost use Rattle.uf_tree.specs.TreePlan.{collision as collision_of};
-ghost use Rattle.uf_tree.specs.Validity.{IsDirectory};
-ghost use Rattle.uf_shard.specs.Answers.{Gives, Shown, shard_refusal};
+ghost use Rattle.uf_tree.specs.Nodes.{shard_block};
+ghost use Rattle.uf_tree.specs.TreePlan.{collision as collision_of, too_big};
+ghost use Rattle.uf_tree.specs.Validity.{IsDirectory, IsShard};
+ghost use Rattle.uf_shard.specs.Answers.{Gives, Shown, dir_fault, root_entry, shard_refusal};
 ghost use Rattle.uf_shard.specs.Buckets.{AreForShard, AreForSlot, blocks_at, deeper, item_at, pairs_of};
+ghost use Rattle.uf_shard.specs.Planned.{IsShardCid};
 ghost use Rattle.uf_shard.specs.Saving.{IsCollisionOr, IsMemory, IsWithin, PutsItem, leaf_of, names_of};
 
 use crate::DirFault;
@@ -23,30 +28,34 @@ use std::sync::ledger::Ledger;
 use uf_cid::Seq;
 use uf_murmur::NameHash;
 use uf_store::{Steps, Store, StoreFault};
-use uf_tree::{Entry, Item, Items, Pairs, Placed};
+use uf_tree::{Entry, Item, Items, Meta, Pairs, Placed};
 
 // The greatest Tsize of a directory.
 const MOST_TSIZE: u64 = 1 << 62;
 
-/// Saves the shard tree of these pairs, at least one, and answers its entry (UnixFS v1, "HAMTDirectory"). Two names of
-/// one 64-bit hash are found before anything is saved or touched. One touch for each shard.
+/// Saves the shard tree of these pairs, at least one, with the directory's metadata in its root, and answers its entry
+/// (UnixFS v1, "HAMTDirectory"). The metadata must be good. Two names of one 64-bit hash are found before anything is
+/// saved or touched. One touch for each shard.
 pub fn build<S: Store, N: NameHash, L: Ledger>(
     alloc: Global,
     store: &mut S,
     pairs: &Pairs,
+    meta: &Meta,
     touches: &mut Steps<L>,
 ) -> Result<Entry, DirFault>
     requires directory { IsDirectory pairs.now }
     requires some { 1 ≤ length pairs.now }
-    ensures answer { Gives (shard_refusal S.X.block32 N.name64 pairs.now)
-        (shard S.X.block32 N.name64 7 pairs.now).entry result }
-    ensures held { OnOk result (Holds (S.seen store.new).told (shard S.X.block32 N.name64 7 pairs.now).blocks) }
+    requires meta { IsTrue (is_meta meta.now) }
+    ensures answer { Gives (shard_refusal S.X.block32 N.name64 meta.now pairs.now)
+        (shard S.X.block32 N.name64 7 meta.now pairs.now).entry result }
+    ensures held { OnOk result (Holds (S.seen store.new).told
+        (shard S.X.block32 N.name64 7 meta.now pairs.now).blocks) }
     ensures early { collision_of N.name64 pairs.now ≢ None
         → (S.seen store.new ≡ S.seen store.old) × (touches.new ≡ touches.old) }
     ensures cause { Shown S.X.block32 NoneIsBad result (S.seen store.old) (S.seen store.new) }
     ensures good { KeepsGood S.X.block32 (S.seen store.old).told (S.seen store.new).told }
     ensures saves { SavesOnly S.X.block32 (S.seen store.old).told (S.seen store.new).told }
-    ensures touches { touches.new ≤ touches.old + length (shard S.X.block32 N.name64 7 pairs.now).blocks }
+    ensures touches { touches.new ≤ touches.old + length (shard S.X.block32 N.name64 7 meta.now pairs.now).blocks }
     ensures touched { touches.old ≤ touches.new }
 {
     let rows = hash_all::<N>(alloc, pairs.as_slice())?;
@@ -55,7 +64,7 @@ pub fn build<S: Store, N: NameHash, L: Ledger>(
         None => {}
         Some(twins) => return Err(collision(twins)),
     }
-    let entry = save_shard::<S, N, L>(alloc, store, 7, rows.as_slice(), touches)?;
+    let entry = save_shard::<S, N, L>(alloc, store, 7, rows.as_slice(), meta, touches)?;
     within(entry)
 }
 
@@ -80,28 +89,56 @@ pub fn within(entry: Entry) -> Result<Entry, DirFault>
     Ok(entry)
 }
 
-// Saves the shards of these rows, of which the highest has so many levels below it, and answers its entry.
+/// Saves the root of a shard tree of these slots with this metadata, which must be good, and answers its entry. The
+/// shards below it stay as they are. At most one touch.
+pub fn save_root<S: Store, L: Ledger>(
+    alloc: Global,
+    store: &mut S,
+    items: &Items,
+    meta: &Meta,
+    touches: &mut Steps<L>,
+) -> Result<Entry, DirFault>
+    requires items { IsShard items.now }
+    requires meta { IsTrue (is_meta meta.now) }
+    ensures answer { Gives (too_big (root_entry S.X.block32 meta.now items.now).tsize)
+        (root_entry S.X.block32 meta.now items.now) result }
+    ensures made { IfOk result (λ e. IsShardCid S.X.block32 e.cid) }
+    ensures held { OnOk result (Holds (S.seen store.new).told
+        ((cid_of S.X.block32 DagPb (shard_block meta.now items.now), shard_block meta.now items.now) ∷ [])) }
+    ensures saves { OnlySaves S.X.block32 NoneIsBad (dir_fault result) (S.seen store.old) (S.seen store.new) }
+    ensures touches { touches.new ≤ touches.old + 1 }
+    ensures touched { touches.old ≤ touches.new }
+{
+    let entry = save_node(alloc, store, items, meta, touches)?;
+    within(entry)
+}
+
+// Saves the shards of these rows, of which the highest has so many levels below it and this metadata, and answers its
+// entry.
 #[cycle(shards)]
 fn save_shard<S: Store, N: NameHash, L: Ledger>(
     alloc: Global,
     store: &mut S,
     left: u8,
     rows: &[Hashed],
+    meta: &Meta,
     touches: &mut Steps<L>,
 ) -> Result<Entry, StoreFault>
     requires left { left ≤ 7 }
+    requires meta { IsTrue (is_meta meta.now) }
     requires rows { AreForShard N.name64 left rows.now }
-    ensures entry { IfOk result (λ e. e ≡ (shard S.X.block32 N.name64 left (pairs_of rows.now)).entry) }
+    ensures entry { IfOk result (λ e. e ≡ (shard S.X.block32 N.name64 left meta.now (pairs_of rows.now)).entry) }
     ensures held { OnOk result (Holds (S.seen store.new).told
-        (shard S.X.block32 N.name64 left (pairs_of rows.now)).blocks) }
+        (shard S.X.block32 N.name64 left meta.now (pairs_of rows.now)).blocks) }
     ensures fault { IfErr result IsSaving }
     ensures saves { OnlySaves S.X.block32 NoneIsBad (fault_in result) (S.seen store.old) (S.seen store.new) }
-    ensures touches { touches.new ≤ touches.old + length (shard S.X.block32 N.name64 left (pairs_of rows.now)).blocks }
+    ensures touches { touches.new ≤ touches.old
+        + length (shard S.X.block32 N.name64 left meta.now (pairs_of rows.now)).blocks }
     ensures touched { touches.old ≤ touches.new }
 {
     let slots = in_slots(alloc, rows, 7 - left)?;
     let items = save_slots::<S, N, L>(alloc, store, left, slots.as_slice(), touches)?;
-    save_node(alloc, store, &items, touches)
+    save_node(alloc, store, &items, meta, touches)
 }
 
 // Saves the shards below each slot of a shard, and answers what the slots have.
@@ -168,7 +205,8 @@ fn save_slot<S: Store, N: NameHash, L: Ledger>(
         [] => Ok(()),
         [row] => put_leaf(items, slot, row),
         _ => {
-            let entry = save_shard::<S, N, L>(alloc, store, left - 1, rows, touches)?;
+            let bare = Meta::none();
+            let entry = save_shard::<S, N, L>(alloc, store, left - 1, rows, &bare, touches)?;
             put_item(items, slot, Item::Sub(entry))
         }
     }

@@ -22,10 +22,10 @@ mod twins;
 mod walking;
 mod weighing;
 
-pub use building::build;
+pub use building::{build, save_root};
 pub use fault::DirFault;
 pub use listing::entries;
-pub use lookup::find;
+pub use lookup::{find, trail};
 pub use nodes::tsize_over_slots;
 pub use putting::put;
 pub use removed::Removed;

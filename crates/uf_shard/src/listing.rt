@@ -5,6 +5,7 @@ ghost use Rattle.uf_store.specs.Contents.{held_at};
 ghost use Rattle.uf_store.specs.Faults.{Answers};
 ghost use Rattle.uf_store.specs.Keeping.{Agrees};
 ghost use Rattle.uf_store.specs.Lost.{ReadsOver};
+ghost use Rattle.uf_tree.specs.declared.meta.Meta.{Meta as TheMeta};
 ghost use Rattle.uf_tree.specs.Nodes.{Named};
 ghost use Rattle.uf_tree.specs.ShardPlan.{shard};
 ghost use Rattle.uf_tree.specs.Validity.{IsDirectory};
@@ -26,18 +27,18 @@ pub fn entries<S: Store, L: Ledger>(
     root: &Cid,
     touches: &mut Steps<L>,
 ) -> Result<Pairs, StoreFault>
-    ensures value { (N : List ℕ → ℕ) (l : List Named) → IsPlanned S.X.block32 N root.now l
-        → Agrees (S.seen store.old).told (shard S.X.block32 N 7 l).blocks
+    ensures value { (N : List ℕ → ℕ) (m : TheMeta) (l : List Named) → IsPlanned S.X.block32 N root.now m l
+        → Agrees (S.seen store.old).told (shard S.X.block32 N 7 m l).blocks
         → Stood (S.seen store.old).faults (S.seen store.new).faults
-        → ReadsOver (S.seen store.old).told (shard S.X.block32 N 7 l).blocks l result }
+        → ReadsOver (S.seen store.old).told (shard S.X.block32 N 7 m l).blocks l result }
     ensures listed { IfSome (S.seen store.old).told (λ t. IfOk result (λ l. (rows : List Named)
         × AreRows (held_at t) 7 root.now rows × (l ≡ in_order rows))) }
     ensures valid { IfOk result IsDirectory }
     ensures cause { Answers S.X.block32 IsBadShard result (S.seen store.old) (S.seen store.new) }
     ensures told { (S.seen store.new).told ≡ (S.seen store.old).told }
-    ensures touches { (N : List ℕ → ℕ) (l : List Named) → IsPlanned S.X.block32 N root.now l
-        → Agrees (S.seen store.old).told (shard S.X.block32 N 7 l).blocks
-        → touches.new ≤ touches.old + length (shard S.X.block32 N 7 l).blocks }
+    ensures touches { (N : List ℕ → ℕ) (m : TheMeta) (l : List Named) → IsPlanned S.X.block32 N root.now m l
+        → Agrees (S.seen store.old).told (shard S.X.block32 N 7 m l).blocks
+        → touches.new ≤ touches.old + length (shard S.X.block32 N 7 m l).blocks }
     ensures touched { touches.old < touches.new }
 {
     let mut rows = Vec::new(alloc);

@@ -12,9 +12,9 @@ use std::sync::ledger::Ledger;
 use uf_cid::{Cid, StrictFault};
 use uf_murmur::{NameHash, slot};
 use uf_store::{Role, Steps, Store, StoreFault, need};
-use uf_tree::{Items, Name};
+use uf_tree::{Name, ShardNode};
 
-// The slots of the shard under a CID, at a level on the way of a name. One touch.
+// The shard under a CID, at a level on the way of a name. One touch.
 pub fn load_shard<S: Store, N: NameHash, L: Ledger>(
     alloc: Global,
     store: &mut S,
@@ -22,7 +22,7 @@ pub fn load_shard<S: Store, N: NameHash, L: Ledger>(
     cid: &Cid,
     name: &Name,
     touches: &mut Steps<L>,
-) -> Result<Items, StoreFault>
+) -> Result<ShardNode, StoreFault>
     requires { level < 8 }
     ensures loads { LoadsPlaced N.name64 (N.name64 name.now) level cid.now
         (S.seen store.old) (S.seen store.new) result }
@@ -33,7 +33,7 @@ pub fn load_shard<S: Store, N: NameHash, L: Ledger>(
     need(store, cid, touches)?;
     let hash = hash_of::<N>(name);
     match read_shard::<N>(alloc, store.block(), hash, level) {
-        Ok(items) => Ok(items),
+        Ok(node) => Ok(node),
         Err(StrictFault::NotCanonical) => Err(StoreFault::BadBlock(*cid, Role::Shard(level))),
         Err(StrictFault::Memory) => Err(StoreFault::Memory),
     }

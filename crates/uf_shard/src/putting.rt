@@ -9,8 +9,10 @@ ghost use Rattle.uf_store.specs.Faults.{NoneIsBad};
 ghost use Rattle.uf_store.specs.Keeping.{Agrees, KeepsGood, StaysAgreed};
 ghost use Rattle.uf_store.specs.Writing.{SavesOnly};
 ghost use Rattle.uf_store.specs.Lost.{AgreesAfter};
+ghost use Rattle.uf_tree.specs.declared.meta.Meta.{Meta as TheMeta};
 ghost use Rattle.uf_tree.specs.declared.nodes.Item.TheVariants.{Leaf};
 ghost use Rattle.uf_tree.specs.Changes.{with_name};
+ghost use Rattle.uf_tree.specs.Metas.{none};
 ghost use Rattle.uf_tree.specs.Names.{names_cmp};
 ghost use Rattle.uf_tree.specs.Nodes.{Named};
 ghost use Rattle.uf_tree.specs.ShardPlan.{shard};
@@ -34,11 +36,12 @@ use std::sync::ledger::Ledger;
 use uf_cid::{Cid, Memory, cids_are_whole};
 use uf_murmur::NameHash;
 use uf_store::{Steps, Store, StoreFault};
-use uf_tree::{Entry, Item, Items, Name, Placed};
+use uf_tree::{Entry, Item, Items, Meta, Name, Placed};
 
 /// Puts an entry under a name into the directory whose shard tree has this root, in the place of an older one of that
-/// name, and answers the entry of what it is then (UnixFS v1, "HAMTDirectory"). Another name of its 64-bit hash is
-/// found before anything is saved. Only the shards on the name's way are loaded and saved: at most 16 touches.
+/// name, and answers the entry of what it is then (UnixFS v1, "HAMTDirectory"). Its metadata stays. Another name of its
+/// 64-bit hash is found before anything is saved. Only the shards on the name's way are loaded and saved: at most 16
+/// touches.
 pub fn put<S: Store, N: NameHash, L: Ledger>(
     alloc: Global,
     store: &mut S,
@@ -47,18 +50,18 @@ pub fn put<S: Store, N: NameHash, L: Ledger>(
     entry: &Entry,
     touches: &mut Steps<L>,
 ) -> Result<Entry, DirFault>
-    ensures value { (l : List Named) → IsPlanned S.X.block32 N.name64 root.now l
-        → Agrees (S.seen store.old).told (shard S.X.block32 N.name64 7 l).blocks
+    ensures value { (m : TheMeta) (l : List Named) → IsPlanned S.X.block32 N.name64 root.now m l
+        → Agrees (S.seen store.old).told (shard S.X.block32 N.name64 7 m l).blocks
         → Stood (S.seen store.old).faults (S.seen store.new).faults
         → Stood (S.seen store.old).clashes (S.seen store.new).clashes
-        → GivesOver (S.seen store.old).told (shard S.X.block32 N.name64 7 l).blocks
-        (shard_refusal S.X.block32 N.name64 (with_name name.now entry.now l))
-        (shard S.X.block32 N.name64 7 (with_name name.now entry.now l)).entry result }
+        → GivesOver (S.seen store.old).told (shard S.X.block32 N.name64 7 m l).blocks
+        (shard_refusal S.X.block32 N.name64 m (with_name name.now entry.now l))
+        (shard S.X.block32 N.name64 7 m (with_name name.now entry.now l)).entry result }
     ensures made { IfOk result (λ e. IsShardCid S.X.block32 e.cid) }
-    ensures after { OnOk result ((l : List Named) → IsPlanned S.X.block32 N.name64 root.now l
-        → StaysAgreed (S.seen store.old).told (S.seen store.new).told (shard S.X.block32 N.name64 7 l).blocks
-        → AgreesAfter (S.seen store.old).told (S.seen store.new).told (shard S.X.block32 N.name64 7 l).blocks
-        (shard S.X.block32 N.name64 7 (with_name name.now entry.now l)).blocks) }
+    ensures after { OnOk result ((m : TheMeta) (l : List Named) → IsPlanned S.X.block32 N.name64 root.now m l
+        → StaysAgreed (S.seen store.old).told (S.seen store.new).told (shard S.X.block32 N.name64 7 m l).blocks
+        → AgreesAfter (S.seen store.old).told (S.seen store.new).told (shard S.X.block32 N.name64 7 m l).blocks
+        (shard S.X.block32 N.name64 7 m (with_name name.now entry.now l)).blocks) }
     ensures early { AtCollision result ((S.seen store.new).told ≡ (S.seen store.old).told) }
     ensures cause { Shown S.X.block32 (IsBadOnWay N.name64 (N.name64 name.now)) result
         (S.seen store.old) (S.seen store.new) }
@@ -67,12 +70,14 @@ pub fn put<S: Store, N: NameHash, L: Ledger>(
     ensures touches { touches.new ≤ touches.old + 16 }
     ensures touched { touches.old < touches.new }
 {
-    let items = items_with::<S, N, L>(alloc, store, 7, root, name, entry, touches)?;
-    let entry = save_node(alloc, store, &items, touches)?;
+    let node = load_shard::<S, N, L>(alloc, store, 0, root, name, touches)?;
+    let items = put_into::<S, N, L>(alloc, store, 7, &node.items, name, entry, touches)?;
+    let entry = save_node(alloc, store, &items, &node.meta, touches)?;
     within(entry)
 }
 
-// The slots of the shard under a CID, which has so many levels below it, after an entry is put under a name.
+// The slots of the shard under a CID, which has so many levels below it and no metadata, after an entry is put under a
+// name.
 #[cycle(puts)]
 fn items_with<S: Store, N: NameHash, L: Ledger>(
     alloc: Global,
@@ -84,10 +89,10 @@ fn items_with<S: Store, N: NameHash, L: Ledger>(
     touches: &mut Steps<L>,
 ) -> Result<Items, DirFault>
     requires { left ≤ 7 }
-    ensures puts { (l : List Named) → IsReached S.X.block32 N.name64 (N.name64 name.now) left cid.now l
-        → Agrees (S.seen store.old).told (shard S.X.block32 N.name64 left l).blocks
+    ensures puts { (l : List Named) → IsReached S.X.block32 N.name64 (N.name64 name.now) left cid.now none l
+        → Agrees (S.seen store.old).told (shard S.X.block32 N.name64 left none l).blocks
         → PutsSlots S.X.block32 N.name64 (S.seen store.old).told (S.seen store.new).told
-        (shard S.X.block32 N.name64 left l).blocks left name.now entry.now l result }
+        (shard S.X.block32 N.name64 left none l).blocks left name.now entry.now l result }
     ensures valid { IfOk result IsShard }
     ensures early { AtCollision result ((S.seen store.new).told ≡ (S.seen store.old).told) }
     ensures saves { OnlySaves S.X.block32 (IsBadOnWay N.name64 (N.name64 name.now)) (dir_fault result)
@@ -95,8 +100,8 @@ fn items_with<S: Store, N: NameHash, L: Ledger>(
     ensures touches { touches.new ≤ touches.old + (2 * left + 1) }
     ensures touched { touches.old < touches.new }
 {
-    let items = load_shard::<S, N, L>(alloc, store, 7 - left, cid, name, touches)?;
-    put_into::<S, N, L>(alloc, store, left, &items, name, entry, touches)
+    let node = load_shard::<S, N, L>(alloc, store, 7 - left, cid, name, touches)?;
+    put_into::<S, N, L>(alloc, store, left, &node.items, name, entry, touches)
 }
 
 // These slots after an entry is put under a name. The shards below them are saved.
@@ -273,7 +278,8 @@ fn save_below<S: Store, L: Ledger>(
     ensures touches { touches.new ≤ touches.old + 1 }
     ensures touched { touches.old ≤ touches.new }
 {
-    let entry = save_node(alloc, store, items, touches)?;
+    let bare = Meta::none();
+    let entry = save_node(alloc, store, items, &bare, touches)?;
     Ok(Item::Sub(entry))
 }
 

@@ -3,36 +3,45 @@ ghost use Rattle.std.specs.Prelude.{◌≡◌, ◌<◌, ◌↔◌, ◌==◌, IsT
 ghost use Rattle.std.specs.FinMap.Entries.{find};
 ghost use Rattle.std.specs.List.{AllByRecursion};
 ghost use Rattle.std.specs.Ordering.{eq_by_cmp, nat_cmp};
-ghost use Rattle.uf_tree.specs.Codecs.{Reads};
+ghost use Rattle.uf_tree.specs.Codecs.{Reads, shard_node_block};
 ghost use Rattle.uf_tree.specs.Names.{names_cmp};
-ghost use Rattle.uf_tree.specs.Nodes.{shard_block};
-ghost use Rattle.uf_tree.specs.Roles.{IsOnWay};
-ghost use Rattle.uf_shard.specs.Placed.{IsPlaced, way};
+ghost use Rattle.uf_tree.specs.Roles.{IsOnWay, MayCarry};
+ghost use Rattle.uf_shard.specs.Placed.{IsPlacedNode, way};
 ghost use Rattle.uf_shard.specs.Spots.{spot_of};
 
 use crate::spot::Spot;
+use crate::walking::may_carry;
 use std::alloc::Global;
 use std::cmp::Ordering;
 use uf_cid::StrictFault;
 use uf_murmur::{NameHash, slot};
-use uf_tree::{Entry, Item, Items, Name, Placed, read_shard_node};
+use uf_tree::{Entry, Item, Name, Placed, ShardNode, read_shard_node};
 
-// The slots of a shard at a level on the way of a hash.
+// The shard of these bytes at a level on the way of a hash.
 pub fn read_shard<N: NameHash>(
     alloc: Global,
     bytes: &[u8],
     hash: u64,
     level: u8,
-) -> Result<Items, StrictFault>
+) -> Result<ShardNode, StrictFault>
     requires { level < 8 }
-    ensures { Reads (IsPlaced N.name64 (way hash level)) shard_block bytes.now result }
+    ensures { Reads (IsPlacedNode N.name64 (way hash level)) shard_node_block bytes.now result }
 {
-    let items = read_shard_node(alloc, bytes)?;
-    if are_on_way::<N>(items.as_slice(), hash, level) {
-        Ok(items)
+    let node = read_shard_node(alloc, bytes)?;
+    if is_placed::<N>(&node, hash, level) {
+        Ok(node)
     } else {
         Err(StrictFault::NotCanonical)
     }
+}
+
+// Whether the shard carries no more than it may, and each of its items stands on the way of the hash.
+fn is_placed<N: NameHash>(node: &ShardNode, hash: u64, level: u8) -> bool
+    requires { level < 8 }
+    ensures { IsTrue result ↔ (MayCarry (way hash level) node.now.meta
+        × AllByRecursion (IsOnWay N.name64 (way hash level)) node.now.items) }
+{
+    may_carry(&node.meta, level) && are_on_way::<N>(node.items.as_slice(), hash, level)
 }
 
 // Whether each item stands on the way of the hash.

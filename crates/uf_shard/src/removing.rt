@@ -1,5 +1,5 @@
 // A name taken out.
-ghost use Rattle.std.specs.Prelude.{◌≡◌, ◌<◌, ◌≤◌, ◌+◌, ◌*◌, ◌-◌, ℕ, List, [], ◌∷◌, IfErr, IfOk, IfSome};
+ghost use Rattle.std.specs.Prelude.{◌≡◌, ◌<◌, ◌≤◌, ◌+◌, ◌*◌, ◌-◌, ℕ, List, [], ◌∷◌, IfErr, IfOk, IfSome, IsTrue};
 ghost use Rattle.std.specs.Ordering.{eq_by_cmp};
 ghost use Rattle.uf_edge.specs.Counts.{Stood};
 ghost use Rattle.uf_murmur.specs.Slots.{slot as slot_of};
@@ -9,6 +9,8 @@ ghost use Rattle.uf_store.specs.Faults.{Answers, NoneIsBad, fault_in};
 ghost use Rattle.uf_store.specs.Keeping.{Agrees, KeepsGood, StaysAgreed};
 ghost use Rattle.uf_store.specs.Writing.{SavesOnly};
 ghost use Rattle.uf_store.specs.Lost.{ReadsOver};
+ghost use Rattle.uf_tree.specs.declared.meta.Meta.{Meta as TheMeta};
+ghost use Rattle.uf_tree.specs.Metas.{is_meta, none};
 ghost use Rattle.uf_tree.specs.Names.{names_cmp};
 ghost use Rattle.uf_tree.specs.Nodes.{Named};
 ghost use Rattle.uf_tree.specs.ShardPlan.{shard};
@@ -30,12 +32,12 @@ use std::sync::ledger::Ledger;
 use uf_cid::{Cid, Memory};
 use uf_murmur::NameHash;
 use uf_store::{Steps, Store, StoreFault};
-use uf_tree::{Item, Items, Name, Placed};
+use uf_tree::{Item, Items, Meta, Name, Placed};
 
 /// Takes a name out of the directory whose shard tree has this root, and answers what is left (UnixFS v1,
-/// "HAMTDirectory"). A shard below the root that is left with one entry gives way to that entry, level by level. Only
-/// the shards on the name's way are loaded and saved: at most 16 touches. Nothing is saved where the name isn't there
-/// or is the only one.
+/// "HAMTDirectory"). The directory's metadata stays. A shard below the root that is left with one entry gives way to that
+/// entry, level by level. Only the shards on the name's way are loaded and saved: at most 16 touches. Nothing is saved
+/// where the name isn't there or is the only one.
 pub fn remove<S: Store, N: NameHash, L: Ledger>(
     alloc: Global,
     store: &mut S,
@@ -43,18 +45,18 @@ pub fn remove<S: Store, N: NameHash, L: Ledger>(
     name: &Name,
     touches: &mut Steps<L>,
 ) -> Result<Removed, StoreFault>
-    ensures value { (l : List Named) → IsPlanned S.X.block32 N.name64 root.now l
-        → Agrees (S.seen store.old).told (shard S.X.block32 N.name64 7 l).blocks
+    ensures value { (m : TheMeta) (l : List Named) → IsPlanned S.X.block32 N.name64 root.now m l
+        → Agrees (S.seen store.old).told (shard S.X.block32 N.name64 7 m l).blocks
         → Stood (S.seen store.old).faults (S.seen store.new).faults
         → Stood (S.seen store.old).clashes (S.seen store.new).clashes
-        → ReadsOver (S.seen store.old).told (shard S.X.block32 N.name64 7 l).blocks
-        (left_without S.X.block32 N.name64 name.now l) result }
+        → ReadsOver (S.seen store.old).told (shard S.X.block32 N.name64 7 m l).blocks
+        (left_without S.X.block32 N.name64 name.now m l) result }
     ensures made { IfOk result (LeavesShard S.X.block32) }
     ensures nothing { IfOk result (λ left. SavesNothing left (S.seen store.old).told (S.seen store.new).told) }
-    ensures after { IfOk result (λ left. (l : List Named) → IsPlanned S.X.block32 N.name64 root.now l
-        → StaysAgreed (S.seen store.old).told (S.seen store.new).told (shard S.X.block32 N.name64 7 l).blocks
+    ensures after { IfOk result (λ left. (m : TheMeta) (l : List Named) → IsPlanned S.X.block32 N.name64 root.now m l
+        → StaysAgreed (S.seen store.old).told (S.seen store.new).told (shard S.X.block32 N.name64 7 m l).blocks
         → AgreesLeft S.X.block32 N.name64 (S.seen store.old).told (S.seen store.new).told
-        (shard S.X.block32 N.name64 7 l).blocks name.now l left) }
+        (shard S.X.block32 N.name64 7 m l).blocks name.now m l left) }
     ensures cause { Answers S.X.block32 (IsBadOnWay N.name64 (N.name64 name.now)) result
         (S.seen store.old) (S.seen store.new) }
     ensures good { KeepsGood S.X.block32 (S.seen store.old).told (S.seen store.new).told }
@@ -62,22 +64,26 @@ pub fn remove<S: Store, N: NameHash, L: Ledger>(
     ensures touches { touches.new ≤ touches.old + 16 }
     ensures touched { touches.old < touches.new }
 {
-    let left = items_without::<S, N, L>(alloc, store, 7, root, name, touches)?;
+    let node = load_shard::<S, N, L>(alloc, store, 0, root, name, touches)?;
+    let left = take_from::<S, N, L>(alloc, store, 7, &node.items, name, touches)?;
     match left {
         None => Ok(Removed::Absent),
-        Some(items) => left_of(alloc, store, &items, touches),
+        Some(items) => left_of(alloc, store, &items, &node.meta, touches),
     }
 }
 
-// Saves the root of what is left, where something is.
+// Saves the root of what is left with its metadata, where something is.
 fn left_of<S: Store, L: Ledger>(
     alloc: Global,
     store: &mut S,
     items: &Items,
+    meta: &Meta,
     touches: &mut Steps<L>,
 ) -> Result<Removed, StoreFault>
-    requires { AreInSlots items.now }
-    ensures left { IfOk result (IsLeftOf S.X.block32 (S.seen store.old).told (S.seen store.new).told items.now) }
+    requires items { AreInSlots items.now }
+    requires meta { IsTrue (is_meta meta.now) }
+    ensures left { IfOk result
+        (IsLeftOf S.X.block32 (S.seen store.old).told (S.seen store.new).told meta.now items.now) }
     ensures made { IfOk result (LeavesShard S.X.block32) }
     ensures nothing { IfOk result (λ left. SavesNothing left (S.seen store.old).told (S.seen store.new).told) }
     ensures fault { IfErr result IsSaving }
@@ -88,11 +94,12 @@ fn left_of<S: Store, L: Ledger>(
     if items.len() == 0 {
         return Ok(Removed::Empty);
     }
-    let entry = save_node(alloc, store, items, touches)?;
+    let entry = save_node(alloc, store, items, meta, touches)?;
     Ok(Removed::Left(entry))
 }
 
-// The slots of the shard under a CID, which has so many levels below it, without a name, where that is there.
+// The slots of the shard under a CID, which has so many levels below it and no metadata, without a name, where that is
+// there.
 #[cycle(takes)]
 fn items_without<S: Store, N: NameHash, L: Ledger>(
     alloc: Global,
@@ -103,10 +110,10 @@ fn items_without<S: Store, N: NameHash, L: Ledger>(
     touches: &mut Steps<L>,
 ) -> Result<Option<Items>, StoreFault>
     requires { left ≤ 7 }
-    ensures takes { (l : List Named) → IsReached S.X.block32 N.name64 (N.name64 name.now) left cid.now l
-        → Agrees (S.seen store.old).told (shard S.X.block32 N.name64 left l).blocks
+    ensures takes { (l : List Named) → IsReached S.X.block32 N.name64 (N.name64 name.now) left cid.now none l
+        → Agrees (S.seen store.old).told (shard S.X.block32 N.name64 left none l).blocks
         → TakesSlots S.X.block32 N.name64 (S.seen store.old).told (S.seen store.new).told
-        (shard S.X.block32 N.name64 left l).blocks left name.now l result }
+        (shard S.X.block32 N.name64 left none l).blocks left name.now l result }
     ensures valid { IfOk result (λ rest. IfSome rest AreInSlots) }
     ensures unsaved { IfOk result (λ rest. UnsavedItems rest (S.seen store.old).told (S.seen store.new).told) }
     ensures saves { OnlySaves S.X.block32 (IsBadOnWay N.name64 (N.name64 name.now)) (fault_in result)
@@ -114,8 +121,8 @@ fn items_without<S: Store, N: NameHash, L: Ledger>(
     ensures touches { touches.new ≤ touches.old + (2 * left + 1) }
     ensures touched { touches.old < touches.new }
 {
-    let items = load_shard::<S, N, L>(alloc, store, 7 - left, cid, name, touches)?;
-    take_from::<S, N, L>(alloc, store, left, &items, name, touches)
+    let node = load_shard::<S, N, L>(alloc, store, 7 - left, cid, name, touches)?;
+    take_from::<S, N, L>(alloc, store, left, &node.items, name, touches)
 }
 
 // These slots without a name, where that is there. The shards below them are saved.
@@ -223,7 +230,8 @@ fn rest_of<S: Store, L: Ledger>(
     match rest {
         Rest::Of(item) => Ok(Rest::Of(item)),
         Rest::Same => {
-            let entry = save_node(alloc, store, items, touches)?;
+            let bare = Meta::none();
+            let entry = save_node(alloc, store, items, &bare, touches)?;
             Ok(Rest::Of(Some(Item::Sub(entry))))
         }
     }

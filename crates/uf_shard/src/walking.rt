@@ -1,18 +1,17 @@
 // Shards loaded one by one, whatever names are below them.
-ghost use Rattle.std.specs.Prelude.{◌≡◌, ◌≤◌, ◌+◌, ◌↔◌, IsTrue};
+ghost use Rattle.std.specs.Prelude.{◌≡◌, ◌≤◌, ◌+◌, ◌-◌, ◌↔◌, IsTrue};
 ghost use Rattle.std.specs.List.{AllByRecursion};
 ghost use Rattle.uf_store.specs.Calls.{OnlyReads};
 ghost use Rattle.uf_store.specs.Faults.{fault_in};
-ghost use Rattle.uf_tree.specs.Codecs.{Reads};
-ghost use Rattle.uf_tree.specs.Nodes.{shard_block};
+ghost use Rattle.uf_tree.specs.Codecs.{Reads, shard_node_block};
 ghost use Rattle.uf_shard.specs.Listing.{IsBadShard};
-ghost use Rattle.uf_shard.specs.Walked.{HasLevel, IsAbove, LoadsItems};
+ghost use Rattle.uf_shard.specs.Walked.{HasLevel, IsAbove, LoadsItems, MayCarryAt};
 
 use std::alloc::Global;
 use std::sync::ledger::Ledger;
 use uf_cid::{Cid, StrictFault};
 use uf_store::{Role, Steps, Store, StoreFault, need};
-use uf_tree::{Item, Items, Placed, read_shard_node};
+use uf_tree::{Item, Items, Meta, Placed, ShardNode, read_shard_node};
 
 // The slots of the shard under a CID, which has so many levels below it.
 pub fn load_items<S: Store, L: Ledger>(
@@ -28,23 +27,39 @@ pub fn load_items<S: Store, L: Ledger>(
     ensures touches { touches.new ≡ touches.old + 1 }
 {
     need(store, cid, touches)?;
-    match read_items(alloc, store.block(), left) {
-        Ok(items) => Ok(items),
+    match read_node(alloc, store.block(), left) {
+        Ok(node) => Ok(node.items),
         Err(StrictFault::NotCanonical) => Err(StoreFault::BadBlock(*cid, Role::Shard(7 - left))),
         Err(StrictFault::Memory) => Err(StoreFault::Memory),
     }
 }
 
-// The slots of a shard with so many levels below it.
-fn read_items(alloc: Global, bytes: &[u8], left: u8) -> Result<Items, StrictFault>
-    ensures { Reads (IsAbove left) shard_block bytes.now result }
+// The shard of these bytes with so many levels below it.
+fn read_node(alloc: Global, bytes: &[u8], left: u8) -> Result<ShardNode, StrictFault>
+    requires { left ≤ 7 }
+    ensures { Reads (IsAbove left) shard_node_block bytes.now result }
 {
-    let items = read_shard_node(alloc, bytes)?;
-    if have_levels(items.as_slice(), left) {
-        Ok(items)
+    let node = read_shard_node(alloc, bytes)?;
+    if is_above(&node, left) {
+        Ok(node)
     } else {
         Err(StrictFault::NotCanonical)
     }
+}
+
+// Whether the shard carries no more than it may, and a level is left for each shard below it.
+fn is_above(node: &ShardNode, left: u8) -> bool
+    requires { left ≤ 7 }
+    ensures { IsTrue result ↔ (MayCarryAt (7 - left) node.now.meta × AllByRecursion (HasLevel left) node.now.items) }
+{
+    may_carry(&node.meta, 7 - left) && have_levels(node.items.as_slice(), left)
+}
+
+// Whether the shard of a level may carry this metadata.
+pub fn may_carry(meta: &Meta, level: u8) -> bool
+    ensures { IsTrue result ↔ MayCarryAt level meta.now }
+{
+    level == 0 || meta.is_bare()
 }
 
 // Whether a level is left for each shard among the items.

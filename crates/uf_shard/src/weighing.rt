@@ -7,6 +7,7 @@ ghost use Rattle.uf_store.specs.Faults.{Answers, fault_in};
 ghost use Rattle.uf_store.specs.Keeping.{Agrees};
 ghost use Rattle.uf_store.specs.Lost.{ReadsOver};
 ghost use Rattle.uf_tree.specs.DirPlan.{weight};
+ghost use Rattle.uf_tree.specs.declared.meta.Meta.{Meta as TheMeta};
 ghost use Rattle.uf_tree.specs.Nodes.{Named};
 ghost use Rattle.uf_tree.specs.ShardPlan.{shard};
 ghost use Rattle.uf_shard.specs.Listing.{IsBadShard};
@@ -35,15 +36,15 @@ pub fn weight_over<S: Store, L: Ledger>(
     limit: u64,
     touches: &mut Steps<L>,
 ) -> Result<bool, StoreFault>
-    ensures value { (N : List ℕ → ℕ) (l : List Named) → IsPlanned S.X.block32 N root.now l
-        → Agrees (S.seen store.old).told (shard S.X.block32 N 7 l).blocks
+    ensures value { (N : List ℕ → ℕ) (m : TheMeta) (l : List Named) → IsPlanned S.X.block32 N root.now m l
+        → Agrees (S.seen store.old).told (shard S.X.block32 N 7 m l).blocks
         → Stood (S.seen store.old).faults (S.seen store.new).faults
-        → ReadsOver (S.seen store.old).told (shard S.X.block32 N 7 l).blocks (nat_lt limit (weight l)) result }
+        → ReadsOver (S.seen store.old).told (shard S.X.block32 N 7 m l).blocks (nat_lt limit (weight l)) result }
     ensures cause { Answers S.X.block32 IsBadShard result (S.seen store.old) (S.seen store.new) }
     ensures told { (S.seen store.new).told ≡ (S.seen store.old).told }
-    ensures touches { (N : List ℕ → ℕ) (l : List Named) → IsPlanned S.X.block32 N root.now l
-        → Agrees (S.seen store.old).told (shard S.X.block32 N 7 l).blocks
-        → touches.new ≤ touches.old + min (length (shard S.X.block32 N 7 l).blocks) (4 * (limit / 37 + 1) + 8) }
+    ensures touches { (N : List ℕ → ℕ) (m : TheMeta) (l : List Named) → IsPlanned S.X.block32 N root.now m l
+        → Agrees (S.seen store.old).told (shard S.X.block32 N 7 m l).blocks
+        → touches.new ≤ touches.old + min (length (shard S.X.block32 N 7 m l).blocks) (4 * (limit / 37 + 1) + 8) }
     ensures touched { touches.old < touches.new }
     ensures few { 74 * touches.new ≤ 74 * (touches.old + 1) + 7 * limit }
 {

@@ -11,14 +11,16 @@ use Rattle.uf_dagpb.specs.declared.node.Link.{Link}
 use Rattle.uf_dagpb.specs.Spelling.{link_bytes, links_bytes, node_bytes}
 use Rattle.uf_dagpb.proofs.Lengths.{length-content_field}
 use Rattle.uf_message.specs.Spelling.{message_bytes}
+use Rattle.uf_tree.specs.declared.meta.Meta.{Meta}
 use Rattle.uf_tree.specs.declared.nodes.Entry.{Entry}
 use Rattle.uf_tree.specs.declared.nodes.Item.{Item}
 use Rattle.uf_tree.specs.FilePlan.{Plan}
+use Rattle.uf_tree.specs.Metas.{none}
 use Rattle.uf_tree.specs.Nodes.{Named, InSlot, link_of, slot_link, slot_digits, item_name, item_entry, without_zeros, bitfield, bitfield_byte, shard_message, dir_message, dir_block, shard_block}
 use Rattle.uf_tree.specs.ShardPlan.{bucket, shard_items, slot_item}
 use Rattle.uf_tree.specs.Validity.{IsNamed}
-use Rattle.uf_tree.proofs.Directories.{dir_content}
 use Rattle.uf_tree.proofs.Each.{each_filter, each_tabulate}
+use Rattle.uf_tree.proofs.Sizes.{meta_fields, meta_length}
 use Rattle.uf_sizes.proofs.Totals.{total, adds, adds-tabulate, of_option}
 use Rattle.uf_sizes.proofs.Widths.{cost, link-cost, one-byte}
 
@@ -37,6 +39,10 @@ links-cost (l ∷ ls) h =
     let size : length (cid_bytes l.cid) ≡ 36 = cid-length (record { cid = l.cid; tsize = l.tsize }) h.0 in
     omega (arith, link-cost l size, links-cost ls h.1, length-append (content_field 0x12 (link_bytes l)) (links_bytes ls))
 
+-- what metadata adds to a block
+abbrev pub meta_size : Meta → ℕ
+meta_size meta = length (meta_fields meta)
+
 -- ---- one block
 
 -- what a pair adds to the Tsize of a directory in one block
@@ -44,8 +50,8 @@ abbrev pub pair_cost : Named → ℕ
 pair_cost e = cost (length e.0) e.1.tsize
 
 -- the Tsize of a directory in one block, before it is capped
-unfoldable pub basic_size : List Named → ℕ
-basic_size l = length (dir_block l) + sum_by (λ (e : Entry). e.tsize) (map (λ (e : Named). e.1) l)
+unfoldable pub basic_size : Meta → List Named → ℕ
+basic_size meta l = length (dir_block meta l) + sum_by (λ (e : Entry). e.tsize) (map (λ (e : Named). e.1) l)
 
 pair_links : (l : List Named) → AllByRecursion IsNamed l → AllByRecursion (λ (l : Link). IsCid l.cid) (map (λ (e : Named). link_of e.0 e.1) l)
 pair_links [] h = tt
@@ -61,16 +67,28 @@ unfolding adds
 pair_costs [] = refl
 pair_costs (e ∷ l) = ap (λ n. pair_cost e + n) (pair_costs l)
 
-four_bytes : length (content_field 0x0a (message_bytes dir_message)) ≡ 4
+dir-begins : number_field 0x08 1 ≡ 0x08 ∷ 0x01 ∷ []
 unfolding varint varint_within
-four_bytes = ap (λ m. length (content_field 0x0a m)) dir_content
+dir-begins = refl
 
-pub basic-size : (l : List Named) → AllByRecursion IsNamed l → basic_size l ≡ 4 + adds pair_cost l
+dir-message-length : (meta : Meta) → length (message_bytes (dir_message meta)) ≡ 2 + meta_size meta
+unfolding message_bytes
+dir-message-length meta =
+    let first : length (number_field 0x08 1) ≡ 2 = ap length dir-begins in
+    omega (arith, first, length-append (number_field 0x08 1) (meta_fields meta))
+
+dir-content-length : (meta : Meta) → length (content_field 0x0a (message_bytes (dir_message meta))) ≡ 4 + meta_size meta
+dir-content-length meta =
+    let inner : length (message_bytes (dir_message meta)) ≡ 2 + meta_size meta = dir-message-length meta in
+    let one : length (varint (length (message_bytes (dir_message meta)))) ≡ 1 = one-byte _ (omega (arith, meta_length meta, inner)) in
+    omega (arith, inner, one, length-content_field 0x0a (message_bytes (dir_message meta)))
+
+pub basic-size : (meta : Meta) (l : List Named) → AllByRecursion IsNamed l → basic_size meta l ≡ 4 + meta_size meta + adds pair_cost l
 unfolding basic_size dir_block node_bytes
-basic-size l h =
+basic-size meta l h =
     let links = map (λ (e : Named). link_of e.0 e.1) l in
     let costs : length (links_bytes links) + adds (λ (l : Link). l.tsize) links ≡ links_cost links = links-cost links (pair_links l h) in
-    omega (arith, four_bytes, costs, pair_sizes l, pair_costs l, length-append (links_bytes links) (content_field 0x0a (message_bytes dir_message)))
+    omega (arith, dir-content-length meta, costs, pair_sizes l, pair_costs l, length-append (links_bytes links) (content_field 0x0a (message_bytes (dir_message meta))))
 
 -- ---- one shard
 
@@ -79,8 +97,8 @@ abbrev pub item_cost : Item → ℕ
 item_cost x = cost (2 + length (item_name x)) (item_entry x).tsize
 
 -- the Tsize of a shard of these items, before it is capped
-unfoldable pub items_size : List InSlot → ℕ
-items_size items = length (shard_block items) + sum_by (λ (e : Entry). e.tsize) (map (λ (p : InSlot). item_entry p.1) items)
+unfoldable pub items_size : Meta → List InSlot → ℕ
+items_size meta items = length (shard_block meta items) + sum_by (λ (e : Entry). e.tsize) (map (λ (p : InSlot). item_entry p.1) items)
 
 abbrev HasCid : InSlot → Type 0
 HasCid p = IsCid (item_entry p.1).cid
@@ -113,38 +131,47 @@ pub bitfield-short : (slots : List ℕ) → length (bitfield slots) ≤ 32
 unfolding bitfield
 bitfield-short slots = fewer_zeros (map (λ k. bitfield_byte slots (31 - k)) (range_with_len 0 32))
 
-ends : number_field 0x28 0x22 ++ (number_field 0x30 256 ++ ([] ++ [])) ≡ 0x28 ∷ 0x22 ∷ 0x30 ∷ 0x80 ∷ 0x02 ∷ []
+ends : (rest : List ℕ) → number_field 0x28 0x22 ++ (number_field 0x30 256 ++ rest) ≡ 0x28 ∷ 0x22 ∷ 0x30 ∷ 0x80 ∷ 0x02 ∷ rest
 unfolding varint varint_within
-ends = refl
+ends rest = refl
 
 begins : number_field 0x08 5 ≡ 0x08 ∷ 0x05 ∷ []
 unfolding varint varint_within
 begins = refl
 
-message-length : (slots : List ℕ) → length (message_bytes (shard_message slots)) ≡ 9 + length (bitfield slots)
+message-length : (meta : Meta) (slots : List ℕ) → length (message_bytes (shard_message meta slots)) ≡ 9 + length (bitfield slots) + meta_size meta
 unfolding message_bytes
-message-length slots =
+message-length meta slots =
     let bits = bitfield slots in
-    let tail = number_field 0x28 0x22 ++ (number_field 0x30 256 ++ ([] ++ [])) in
-    let last : length tail ≡ 5 = ap length ends in
+    let tail = number_field 0x28 0x22 ++ (number_field 0x30 256 ++ meta_fields meta) in
+    let last : length tail ≡ 5 + meta_size meta = omega (arith, ap length (ends (meta_fields meta))) in
     let first : length (number_field 0x08 5) ≡ 2 = ap length begins in
     let one : length (varint (length bits)) ≡ 1 = one-byte (length bits) (omega (arith, bitfield-short slots)) in
     omega (arith, last, first, one, length-content_field 0x12 bits, length-append (content_field 0x12 bits) tail, length-append (number_field 0x08 5) (content_field 0x12 bits ++ tail))
 
-content-length : (slots : List ℕ) → length (content_field 0x0a (message_bytes (shard_message slots))) ≡ 11 + length (bitfield slots)
-content-length slots =
+content-length : (meta : Meta) (slots : List ℕ) → length (content_field 0x0a (message_bytes (shard_message meta slots))) ≡ 11 + length (bitfield slots) + meta_size meta
+content-length meta slots =
     let bits = bitfield slots in
-    let inner : length (message_bytes (shard_message slots)) ≡ 9 + length bits = message-length slots in
-    let one : length (varint (length (message_bytes (shard_message slots)))) ≡ 1 = one-byte _ (omega (arith, bitfield-short slots, inner)) in
-    omega (arith, inner, one, length-content_field 0x0a (message_bytes (shard_message slots)))
+    let inner : length (message_bytes (shard_message meta slots)) ≡ 9 + length bits + meta_size meta = message-length meta slots in
+    let one : length (varint (length (message_bytes (shard_message meta slots)))) ≡ 1 = one-byte _ (omega (arith, bitfield-short slots, meta_length meta, inner)) in
+    omega (arith, inner, one, length-content_field 0x0a (message_bytes (shard_message meta slots)))
 
-items-size : (items : List InSlot) → AllByRecursion HasCid items → items_size items ≡ 11 + length (bitfield (slots_of items)) + adds (λ (p : InSlot). item_cost p.1) items
+-- what metadata adds to a shard
+pub items-carried : (meta : Meta) (items : List InSlot) → items_size meta items ≡ items_size none items + meta_size meta
+unfolding items_size shard_block node_bytes
+items-carried meta items =
+    let links = links_bytes (map slot_link items) in
+    let own = content_field 0x0a (message_bytes (shard_message meta (slots_of items))) in
+    let bare = content_field 0x0a (message_bytes (shard_message none (slots_of items))) in
+    omega (arith, content-length meta (slots_of items), content-length none (slots_of items), length-append links own, length-append links bare)
+
+items-size : (items : List InSlot) → AllByRecursion HasCid items → items_size none items ≡ 11 + length (bitfield (slots_of items)) + adds (λ (p : InSlot). item_cost p.1) items
 unfolding items_size shard_block node_bytes
 items-size items h =
     let links = map slot_link items in
-    let content = content_field 0x0a (message_bytes (shard_message (slots_of items))) in
+    let content = content_field 0x0a (message_bytes (shard_message none (slots_of items))) in
     let costs : length (links_bytes links) + adds (λ (l : Link). l.tsize) links ≡ links_cost links = links-cost links (item_links items h) in
-    omega (arith, content-length (slots_of items), costs, item_sizes items, item_costs items, length-append (links_bytes links) content)
+    omega (arith, content-length none (slots_of items), costs, item_sizes items, item_costs items, length-append (links_bytes links) content)
 
 -- what a slot of these pairs adds to the Tsize of its shard
 abbrev pub slot_cost : (List Named → Plan) → List Named → ℕ
@@ -168,9 +195,9 @@ slot-cid deeper good (e ∷ f ∷ l) h = good (e ∷ f ∷ l)
 
 -- the shard at level k over the shards of `deeper`
 module _ (N : List ℕ → ℕ) (deeper : List Named → Plan) (k : ℕ) where
-  -- the Tsize of the shard at level k over shards below it, before it is capped
+  -- the Tsize of the shard at level k over shards below it, without metadata, before it is capped
   abbrev pub shard_size : List Named → ℕ
-  shard_size l = items_size (shard_items N deeper k l)
+  shard_size l = items_size none (shard_items N deeper k l)
 
   -- the bytes of its bitfield
   abbrev pub bits : List Named → ℕ

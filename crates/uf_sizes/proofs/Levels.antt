@@ -1,17 +1,20 @@
 -- A shard is at least as large as its pairs, link for link.
-use Rattle.std.proofs.Common.{◌≡◌, ℕ, zero, suc, ◌+◌, ◌-◌, ◌^◌, ◌<◌, ◌≤◌, List, [], ◌∷◌, length, refl, arith, ◌∙◌, ◌⊎◌, inl, inr}
+use Rattle.std.proofs.Common.{◌≡◌, ℕ, zero, suc, ◌+◌, ◌-◌, ◌^◌, ◌<◌, ◌≤◌, List, [], ◌∷◌, length, map, refl, ap, arith, ◌∙◌, ◌⊎◌, inl, inr}
 use Rattle.std.specs.Prelude.{◌==◌}
-use Rattle.std.specs.List.{AllByRecursion}
+use Rattle.std.specs.List.{AllByRecursion, sum_by}
 use Rattle.uf_murmur.specs.Slots.{slot}
+use Rattle.uf_tree.specs.declared.meta.Meta.{Meta}
+use Rattle.uf_tree.specs.declared.nodes.Entry.{Entry}
 use Rattle.uf_tree.specs.FilePlan.{Plan}
-use Rattle.uf_tree.specs.Nodes.{Named, capped}
-use Rattle.uf_tree.specs.ShardPlan.{bucket, shard, no_shard}
+use Rattle.uf_tree.specs.Metas.{none}
+use Rattle.uf_tree.specs.Nodes.{Named, InSlot, capped, item_entry, shard_block}
+use Rattle.uf_tree.specs.ShardPlan.{bucket, shard, shard_items, no_shard}
 use Rattle.uf_tree.specs.Shardable.{HasShard}
 use Rattle.uf_tree.specs.Validity.{IsHash, IsNamed}
 use Rattle.uf_tree.proofs.Each.{each_filter}
 use Rattle.uf_tree.proofs.ShardLaws.{slot-bound}
 use Rattle.uf_tree.proofs.Valid.{node_entry-valid, shard-valid}
-use Rattle.uf_sizes.proofs.Blocks.{HaveCids, slot_cost, shard_size, bits, slots_cost, shard-size, items_size}
+use Rattle.uf_sizes.proofs.Blocks.{HaveCids, slot_cost, shard_size, bits, slots_cost, shard-size, items_size, items-carried, meta_size}
 use Rattle.uf_sizes.proofs.Totals.{total, total-mono, total-has, adds, adds-parts}
 use Rattle.uf_sizes.proofs.Widths.{cost, cost-least}
 
@@ -51,11 +54,16 @@ slot-leaves deeper [] h = omega (arith, slot-few deeper [] (omega arith))
 slot-leaves deeper (e ∷ []) h = omega (arith, slot-few deeper (e ∷ []) (omega arith))
 slot-leaves deeper (e ∷ f ∷ b) h = omega (arith, h (omega arith), cost-least 2 (deeper (e ∷ f ∷ b)).entry.tsize)
 
+whole-tsize : (meta : Meta) (items : List InSlot)
+    → capped (length (shard_block meta items) + sum_by (λ (e : Entry). e.tsize) (map (λ (p : InSlot). item_entry p.1) items)) ≡ capped (items_size meta items)
+unfolding items_size
+whole-tsize meta items = refl
+
 module _ (X : List ℕ → List ℕ) (N : List ℕ → ℕ) where
   -- the shards below one that has so many levels below it
   abbrev pub below : ℕ → List Named → Plan
   below zero = no_shard X N
-  below (suc left) = shard X N left
+  below (suc left) = shard X N left none
 
   abbrev pub level : ℕ → ℕ
   level zero = 7
@@ -69,15 +77,21 @@ module _ (X : List ℕ → List ℕ) (N : List ℕ → ℕ) where
   abbrev pub pairs_of : ℕ → ℕ → List Named → List Named
   pairs_of left s l = bucket N (level left) s l
 
-  pub shard-tsize : (left : ℕ) (l : List Named) → (shard X N left l).entry.tsize ≡ capped (size left l)
+  pub shard-tsize : (left : ℕ) (l : List Named) → (shard X N left none l).entry.tsize ≡ capped (size left l)
   unfolding shard items_size
   shard-tsize zero l = refl
   shard-tsize (suc left) l = refl
 
+  -- and of one with metadata
+  pub top-tsize : (left : ℕ) (meta : Meta) (l : List Named) → (shard X N left meta l).entry.tsize ≡ capped (size left l + meta_size meta)
+  unfolding shard
+  top-tsize zero meta l = whole-tsize meta (shard_items N (below zero) (level zero) l) ∙ ap capped (items-carried meta (shard_items N (below zero) (level zero) l))
+  top-tsize (suc left) meta l = whole-tsize meta (shard_items N (below (suc left)) (level (suc left)) l) ∙ ap capped (items-carried meta (shard_items N (below (suc left)) (level (suc left)) l))
+
   module _ (good : IsHash X) where
     pub below-cids : (left : ℕ) → HaveCids (below left)
     below-cids zero = λ l. (node_entry-valid X good [] []).cid
-    below-cids (suc left) = λ l. (shard-valid X good N left l).cid
+    below-cids (suc left) = λ l. (shard-valid X good N left none l).cid
 
     pub size-is : (left : ℕ) (l : List Named) → AllByRecursion IsNamed l → size left l ≡ 11 + bits N (below left) (level left) l + slots_cost N (below left) (level left) l
     size-is left l h = shard-size N (below left) (level left) (below-cids left) l h
@@ -93,13 +107,13 @@ module _ (X : List ℕ → List ℕ) (N : List ℕ → ℕ) where
 
     -- so it isn't capped where that one is small
     pub deeper-small : (left s : ℕ) (l : List Named) → s < 256 → AllByRecursion IsNamed l → size (suc left) l ≤ 2 ^ 62 → 2 ≤ length (pairs_of (suc left) s l)
-        → (size left (pairs_of (suc left) s l) ≤ 2 ^ 62) × ((shard X N left (pairs_of (suc left) s l)).entry.tsize ≡ size left (pairs_of (suc left) s l))
+        → (size left (pairs_of (suc left) s l) ≤ 2 ^ 62) × ((shard X N left none (pairs_of (suc left) s l)).entry.tsize ≡ size left (pairs_of (suc left) s l))
     deeper-small left s l less h small two =
         let b = pairs_of (suc left) s l in
-        let has : slot_cost (shard X N left) b ≤ size (suc left) l = slot-small (suc left) s l less h in
-        let is : slot_cost (shard X N left) b ≡ cost 2 (shard X N left b).entry.tsize = slot-deeper (shard X N left) b two in
-        let tsize : (shard X N left b).entry.tsize ≡ capped (size left b) = shard-tsize left b in
-        let most : (shard X N left b).entry.tsize ≤ 2 ^ 62 = omega (arith, cost-least 2 (shard X N left b).entry.tsize) in
+        let has : slot_cost (shard X N left none) b ≤ size (suc left) l = slot-small (suc left) s l less h in
+        let is : slot_cost (shard X N left none) b ≡ cost 2 (shard X N left none b).entry.tsize = slot-deeper (shard X N left none) b two in
+        let tsize : (shard X N left none b).entry.tsize ≡ capped (size left b) = shard-tsize left b in
+        let most : (shard X N left none b).entry.tsize ≤ 2 ^ 62 = omega (arith, cost-least 2 (shard X N left none b).entry.tsize) in
         let same : capped (size left b) ≡ size left b = cap-small (size left b) (omega (arith, tsize, most)) in
         (omega (arith, tsize, most, same), tsize ∙ same)
 
@@ -119,9 +133,9 @@ module _ (X : List ℕ → List ℕ) (N : List ℕ → ℕ) where
         → ((b : List Named) → AllByRecursion IsNamed b → HasShard N left b → size left b ≤ 2 ^ 62 → 11 + adds leaf_cost b ≤ size left b)
         → (s : ℕ) → s < 256 → adds leaf_cost (pairs_of (suc left) s l) ≤ slot_cost (below (suc left)) (pairs_of (suc left) s l)
     unfolding HasShard
-    leaves-above left l h has small later s less = slot-leaves (shard X N left) (pairs_of (suc left) s l) (λ two. by two (has s))
+    leaves-above left l h has small later s less = slot-leaves (shard X N left none) (pairs_of (suc left) s l) (λ two. by two (has s))
       where
-        by : 2 ≤ length (pairs_of (suc left) s l) → (length (pairs_of (suc left) s l) ≤ 1) ⊎ HasShard N left (pairs_of (suc left) s l) → adds leaf_cost (pairs_of (suc left) s l) ≤ (shard X N left (pairs_of (suc left) s l)).entry.tsize
+        by : 2 ≤ length (pairs_of (suc left) s l) → (length (pairs_of (suc left) s l) ≤ 1) ⊎ HasShard N left (pairs_of (suc left) s l) → adds leaf_cost (pairs_of (suc left) s l) ≤ (shard X N left none (pairs_of (suc left) s l)).entry.tsize
         by two (inl few) = absurd (omega (arith, two, few))
         by two (inr deep) =
             let fits = deeper-small left s l less h small two in

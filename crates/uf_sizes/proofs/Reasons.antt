@@ -1,6 +1,7 @@
 -- When a directory has a plan.
 use Rattle.std.proofs.Common.{◌≡◌, ℕ, ◌^◌, ◌<◌, ◌≤◌, List, Bool, cond, Option, Some, None, refl, ap, sym, ◌∙◌, ◌⊎◌, inl, inr}
 use Rattle.std.proofs.lemmas.Bool.{cases_lt, le-ltb, lt-ltb}
+use Rattle.uf_tree.specs.declared.meta.Meta.{Meta}
 use Rattle.uf_tree.specs.declared.profile.Profile.{Profile}
 use Rattle.uf_tree.specs.DirPlan.{own_plan, basic_dir, is_sharded}
 use Rattle.uf_tree.specs.Nodes.{Named, capped}
@@ -31,14 +32,14 @@ small t h = ap (λ b. cond b (Some TooBig) None) (le-ltb (2 ^ 62) t h)
 abbrev pub collides : (List ℕ → ℕ) → Bool → List Named → Option Refusal
 collides N b l = cond b (collision N l) None
 
-module _ (X : List ℕ → List ℕ) (N : List ℕ → ℕ) (p : Profile) (l : List Named) where
-  pub unrefused : dir_refusal X N p l ≡ None → (collides N (is_sharded p l) l ≡ None) × ((own_plan X N p l).entry.tsize ≤ 2 ^ 62)
+module _ (X : List ℕ → List ℕ) (N : List ℕ → ℕ) (p : Profile) (meta : Meta) (l : List Named) where
+  pub unrefused : dir_refusal X N p meta l ≡ None → (collides N (is_sharded p l) l ≡ None) × ((own_plan X N p meta l).entry.tsize ≤ 2 ^ 62)
   unrefused h =
-      let parts = neither (collides N (is_sharded p l) l) (too_big (own_plan X N p l).entry.tsize) h in
-      (parts.0, not_big (own_plan X N p l).entry.tsize parts.1)
+      let parts = neither (collides N (is_sharded p l) l) (too_big (own_plan X N p meta l).entry.tsize) h in
+      (parts.0, not_big (own_plan X N p meta l).entry.tsize parts.1)
 
-  pub allowed : collides N (is_sharded p l) l ≡ None → (own_plan X N p l).entry.tsize ≤ 2 ^ 62 → dir_refusal X N p l ≡ None
-  allowed h k = ap (λ o. or_else o (too_big (own_plan X N p l).entry.tsize)) h ∙ small (own_plan X N p l).entry.tsize k
+  pub allowed : collides N (is_sharded p l) l ≡ None → (own_plan X N p meta l).entry.tsize ≤ 2 ^ 62 → dir_refusal X N p meta l ≡ None
+  allowed h k = ap (λ o. or_else o (too_big (own_plan X N p meta l).entry.tsize)) h ∙ small (own_plan X N p meta l).entry.tsize k
 
 -- no two names have one hash
 pub no-collision : (N : List ℕ → ℕ) (l : List Named) → collision N l ≡ None → Apart (same_hash N) l
@@ -58,6 +59,6 @@ apart-collision N l h = ap {B = Option Refusal} (λ (o : Option (List ℕ × Lis
 pub has-shard : (N : List ℕ → ℕ) → ((name : List ℕ) → N name < 2 ^ 64) → (l : List Named) → twins (same_hash N) l ≡ None → HasShard N 7 l
 has-shard N fits l h = Apart-HasShard N 7 l (twins-Apart (same_slots N 7) l (twins-same (same_slots N 7) (same_hash N) (same_slots-hash N fits) l ∙ h))
 
-pub basic-tsize : (X : List ℕ → List ℕ) (N : List ℕ → ℕ) (l : List Named) → (basic_dir X N l).entry.tsize ≡ capped (basic_size l)
+pub basic-tsize : (X : List ℕ → List ℕ) (N : List ℕ → ℕ) (meta : Meta) (l : List Named) → (basic_dir X N meta l).entry.tsize ≡ capped (basic_size meta l)
 unfolding basic_size
-basic-tsize X N l = refl
+basic-tsize X N meta l = refl

@@ -9,6 +9,7 @@ use Rattle.uf_murmur.specs.Slots.{slot}
 use Rattle.uf_tree.specs.FilePlan.{Plan}
 use Rattle.uf_tree.specs.declared.nodes.Entry.{Entry}
 use Rattle.uf_tree.specs.Changes.{without}
+use Rattle.uf_tree.specs.Metas.{none}
 use Rattle.uf_tree.specs.Names.{names_cmp}
 use Rattle.uf_tree.specs.Nodes.{Named, bitfield}
 use Rattle.uf_tree.specs.ShardPlan.{shard, shard_items, slot_item}
@@ -98,10 +99,10 @@ module _ (X : List ℕ → List ℕ) (N : List ℕ → ℕ) (good : IsHash X) (n
       let after = without name b in
       let both : 2 ≤ length b = omega (arith, two, without-shorter name b) in
       let fits = deeper-small X N good left (own (suc left)) l (slot-bound (N name) (level X N (suc left))) h small both in
-      let fall : (shard X N left after).entry.tsize < (shard X N left b).entry.tsize = omega (arith, cap-less (size X N left after) (size X N left b) less fits.0, shard-tsize X N left after, shard-tsize X N left b) in
-      let links : cost 2 (shard X N left after).entry.tsize < cost 2 (shard X N left b).entry.tsize = cost-less 2 _ _ fall in
-      let all : slots_cost N (shard X N left) (level X N (suc left)) (without name l) + 1 ≤ slots_cost N (shard X N left) (level X N (suc left)) l =
-      falls (suc left) 1 l sorted (omega (arith, links, slot-deeper (shard X N left) after two, slot-deeper (shard X N left) b both)) in
+      let fall : (shard X N left none after).entry.tsize < (shard X N left none b).entry.tsize = omega (arith, cap-less (size X N left after) (size X N left b) less fits.0, shard-tsize X N left after, shard-tsize X N left b) in
+      let links : cost 2 (shard X N left none after).entry.tsize < cost 2 (shard X N left none b).entry.tsize = cost-less 2 _ _ fall in
+      let all : slots_cost N (shard X N left none) (level X N (suc left)) (without name l) + 1 ≤ slots_cost N (shard X N left none) (level X N (suc left)) l =
+      falls (suc left) 1 l sorted (omega (arith, links, slot-deeper (shard X N left none) after two, slot-deeper (shard X N left none) b both)) in
       omega (arith, all, size-is X N good (suc left) l h, size-is X N good (suc left) (without name l) (each_filter IsNamed _ l h), bits-stay (suc left) l sorted (omega (arith, two)))
 
   -- a shard falls

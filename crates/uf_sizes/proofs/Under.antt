@@ -9,6 +9,7 @@ use Rattle.uf_murmur.specs.Slots.{slot}
 use Rattle.uf_tree.specs.declared.nodes.Entry.{Entry}
 use Rattle.uf_tree.specs.DirPlan.{weight}
 use Rattle.uf_tree.specs.FilePlan.{Plan}
+use Rattle.uf_tree.specs.Metas.{none}
 use Rattle.uf_tree.specs.Names.{names_cmp}
 use Rattle.uf_tree.specs.Nodes.{Named, bitfield}
 use Rattle.uf_tree.specs.ShardPlan.{shard, slot_item}
@@ -144,5 +145,5 @@ module _ (X : List ℕ → List ℕ) (N : List ℕ → ℕ) (good : IsHash X) wh
   under-size (suc left) l m h k under = under-level (suc left) l m h k under (λ s. deep s (under-size left (pairs_of X N (suc left) s l) (pairs_of X N (suc left) s m) (pairs-named X N good (suc left) s l h) (pairs-named X N good (suc left) s m k)
       (under-where (λ name. slot (N name) (6 - left) == s) l m under)))
     where
-      deep : (s : ℕ) → size X N left (pairs_of X N (suc left) s l) ≤ size X N left (pairs_of X N (suc left) s m) → (shard X N left (pairs_of X N (suc left) s l)).entry.tsize ≤ (shard X N left (pairs_of X N (suc left) s m)).entry.tsize
+      deep : (s : ℕ) → size X N left (pairs_of X N (suc left) s l) ≤ size X N left (pairs_of X N (suc left) s m) → (shard X N left none (pairs_of X N (suc left) s l)).entry.tsize ≤ (shard X N left none (pairs_of X N (suc left) s m)).entry.tsize
       deep s le = omega (arith, cap-mono _ _ le, shard-tsize X N left (pairs_of X N (suc left) s l), shard-tsize X N left (pairs_of X N (suc left) s m))

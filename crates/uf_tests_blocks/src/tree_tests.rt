@@ -151,13 +151,13 @@ fn file_again(rt: &HostRuntime, bytes: &[u8]) -> Result<bool, StrictFault> {
 }
 
 fn dir_again(rt: &HostRuntime, bytes: &[u8]) -> Result<bool, StrictFault> {
-    let pairs = read_dir_node(rt.alloc(), bytes)?;
-    Ok(dir_node(rt.alloc(), &pairs.copy()?)?.as_slice() == bytes)
+    let node = read_dir_node(rt.alloc(), bytes)?;
+    Ok(dir_node(rt.alloc(), &node)?.as_slice() == bytes)
 }
 
 fn shard_again(rt: &HostRuntime, bytes: &[u8]) -> Result<bool, StrictFault> {
-    let items = read_shard_node(rt.alloc(), bytes)?;
-    Ok(shard_node(rt.alloc(), &items.copy()?)?.as_slice() == bytes)
+    let node = read_shard_node(rt.alloc(), bytes)?;
+    Ok(shard_node(rt.alloc(), &node)?.as_slice() == bytes)
 }
 
 #[test]
@@ -248,13 +248,17 @@ fn heads_are_read_and_written(rt: HostRuntime) -> Result<(), Fail> {
         root: Cid::of::<Sha256Hash>(Codec::DagPb, &EMPTY),
     };
     let text =
+        b"unixfs-head 2\nchunk 262144\nwidth 174\nthreshold 262144\nroot bafybeiczsscdsbs7ffqz55asqdf3smv6klcw3gofszvwlyarci47bgf354\n";
+    let older =
         b"unixfs-head 1\nchunk 262144\nwidth 174\nthreshold 262144\nroot bafybeiczsscdsbs7ffqz55asqdf3smv6klcw3gofszvwlyarci47bgf354\n";
     assert_eq!(rt; head_text(rt.alloc(), &head)?.as_slice(), text.as_slice());
     assert_eq!(rt; read_head(rt.alloc(), text), Ok(head));
-    let rows: [(&[u8], HeadFault); 18] = [
+    assert_eq!(rt; read_head(rt.alloc(), older), Ok(head));
+    let rows: [(&[u8], HeadFault); 19] = [
         (b"", HeadFault::Version),
         (b"unixfs-head 1", HeadFault::Version),
-        (b"unixfs-head 2\nchunk 1\n", HeadFault::Version),
+        (b"unixfs-head 3\nchunk 1\n", HeadFault::Version),
+        (b"unixfs-head 2\nchunk 0\n", HeadFault::Number(2)),
         (b"unixfs-head 1\n", HeadFault::Line(2)),
         (b"unixfs-head 1\nchunk 1", HeadFault::Line(2)),
         (b"unixfs-head 1\nchunk1\n", HeadFault::Line(2)),

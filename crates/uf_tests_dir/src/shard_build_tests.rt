@@ -10,7 +10,7 @@ use uf_cid::{Cid, Codec, Sha256Hash};
 use uf_murmur::{FirstEight, Murmur3, NameHash};
 use uf_shard::{DirFault, build, find};
 use uf_store::{MemStore, Steps, StoreFault};
-use uf_tree::{Entry, Name, Pair, Pairs, is_directory};
+use uf_tree::{Entry, Meta, Name, Pair, Pairs, is_directory};
 
 type Kept = MemStore<Sha256Hash>;
 
@@ -85,7 +85,7 @@ fn build_counted<N: NameHash, L: Ledger>(
     requires some { 0 < blank.parts }
 {
     let mut touches = Steps::<L>::new(blank);
-    build::<Kept, N, L>(alloc, store, pairs, &mut touches)
+    build::<Kept, N, L>(alloc, store, pairs, &Meta::none(), &mut touches)
 }
 
 // What comes of a directory, with no count of touches.

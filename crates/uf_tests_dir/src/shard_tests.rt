@@ -1,16 +1,16 @@
 // Trees of shards that are planted in a store: what they weigh, with weights that were computed outside of this program,
-// and blocks that are no directories, of which no command tells.
+// how many of them decide a name, and blocks that are no directories, of which no command tells.
 ghost use Rattle.std.specs.Prelude.{◌≡◌, ◌<◌};
 
 use std::alloc::Global;
 use std::marker::Brand;
 use std::sync::ledger::{Blank, Ledger};
 use uf_cid::{Block, Cid, Codec, Sha256Hash};
-use uf_dir::find as find_in_directory;
+use uf_dir::{find as find_in_directory, trail as trail_in_directory};
 use uf_murmur::FirstEight;
-use uf_shard::{entries, find, weight_over};
+use uf_shard::{entries, find, trail, weight_over};
 use uf_store::{MemStore, Role, Steps, StoreFault};
-use uf_tree::{Entry, Item, Items, Name, Placed, is_shard, shard_node};
+use uf_tree::{Entry, Item, Items, Meta, Name, Placed, is_shard, node_of_items};
 
 type Kept = MemStore<Sha256Hash>;
 
@@ -112,7 +112,7 @@ fn shard(alloc: Global, slots: &[(u8, What)], below: Entry) -> Option<Block> {
     let mut items = Items::new(alloc);
     fill(alloc, &mut items, slots, below)?;
     if is_shard(&items) {
-        shard_node(alloc, &items).ok()
+        node_of_items(alloc, &items, &Meta::none()).ok()
     } else {
         None
     }
@@ -162,6 +162,37 @@ fn first_wrong<L: Ledger>(alloc: Global, touches: &mut Steps<L>) -> Option<usize
     None
 }
 
+// How many blocks decide a name, where the first of them is the root.
+fn blocks_of<L: Ledger>(
+    alloc: Global,
+    store: &mut Kept,
+    root: &Cid,
+    name: &str,
+    touches: &mut Steps<L>,
+) -> Option<usize> {
+    let name = Name::parse(alloc, name).ok()?;
+    let below = trail::<Kept, FirstEight, L>(alloc, store, root, &name, touches).ok()?;
+    let whole = trail_in_directory::<Kept, FirstEight, L>(alloc, store, root, &name, touches).ok()?;
+    if below.as_slice() == whole.as_slice() && whole.get(0) == Some(root) {
+        Some(whole.len())
+    } else {
+        None
+    }
+}
+
+// Whether the shards on the way of a name are counted, of one that is there and of such that aren't.
+fn are_counted<L: Ledger>(alloc: Global, touches: &mut Steps<L>) -> Option<bool> {
+    let mut store = Kept::new(alloc);
+    let three = plant(alloc, &mut store, &THREE, false)?.cid;
+    let eight = plant(alloc, &mut store, &EIGHT, false)?.cid;
+    Some(
+        blocks_of(alloc, &mut store, &three, "a", touches) == Some(1)
+            && blocks_of(alloc, &mut store, &eight, "abcdefgX", touches) == Some(8)
+            && blocks_of(alloc, &mut store, &eight, "abcx", touches) == Some(4)
+            && blocks_of(alloc, &mut store, &eight, "x", touches) == Some(1),
+    )
+}
+
 fn is_blamed(fault: &StoreFault, block: &Cid, role: Role) -> bool {
     match fault {
         StoreFault::BadBlock(cid, given) => cid == block && *given == role,
@@ -195,7 +226,7 @@ fn are_blamed<L: Ledger>(alloc: Global, touches: &mut Steps<L>) -> Option<bool> 
     )
 }
 
-fn answers<L: Ledger>(alloc: Global, blank: Blank) -> (Option<usize>, Option<bool>)
+fn answers<L: Ledger>(alloc: Global, blank: Blank) -> (Option<usize>, Option<bool>, Option<bool>)
     requires name { blank.name ≡ L.name }
     requires parts { blank.parts ≡ L.parts }
     requires some { 0 < blank.parts }
@@ -203,14 +234,15 @@ fn answers<L: Ledger>(alloc: Global, blank: Blank) -> (Option<usize>, Option<boo
     let mut touches = Steps::<L>::new(blank);
     let wrong = first_wrong(alloc, &mut touches);
     let blamed = are_blamed(alloc, &mut touches);
-    (wrong, blamed)
+    let counted = are_counted(alloc, &mut touches);
+    (wrong, blamed, counted)
 }
 
-fn answered(alloc: Global) -> (Option<usize>, Option<bool>) {
+fn answered(alloc: Global) -> (Option<usize>, Option<bool>, Option<bool>) {
     answers::<Brand>(alloc, Blank::new(1))
 }
 
 #[test]
-fn shards_are_weighed_and_other_blocks_blamed(rt: HostRuntime) {
-    assert_eq!(rt; answered(rt.alloc()), (None, Some(true)));
+fn shards_are_weighed_and_counted_and_other_blocks_blamed(rt: HostRuntime) {
+    assert_eq!(rt; answered(rt.alloc()), (None, Some(true), Some(true)));
 }

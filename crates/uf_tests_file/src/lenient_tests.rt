@@ -1,93 +1,19 @@
 // Rows of foreign DAGs of which no command tells: readings of one directory alone, and other limits than the usual ones.
-ghost use Rattle.std.specs.Prelude.{◌≡◌, ◌<◌, ◌≤◌, ◌^◌, length};
+ghost use Rattle.std.specs.Prelude.{◌≡◌, ◌<◌};
 
+use crate::foreign::{DIRECTORY, FILE, Kept, SHARD, put, put_node, raw};
 use std::alloc::Global;
 use std::marker::Brand;
 use std::sync::ledger::{Blank, Ledger};
-use uf_cid::{Block, Cid, Codec, Memory, Sha256Hash};
+use uf_cid::{Cid, Codec, Memory};
 use uf_edge::{Calls, MemSink};
 use uf_lenient::{DagFault, Limits, Shape, StreamFault, shallow, stream, survey};
-use uf_store::{MemStore, Steps, StoreFault};
-
-type Kept = MemStore<Sha256Hash>;
-
-// A link under a name of fewer than 64 bytes.
-type Linked<'a> = (Cid, &'a [u8]);
+use uf_store::{Steps, StoreFault};
 
 const USUAL: Limits = Limits {
     depth: 256,
     visits: 1048576,
 };
-
-// A message of a directory, of a file, and of a shard of 256 slots that MurmurHash3 gives.
-const DIRECTORY: [u8; 2] = [8, 1];
-
-const FILE: [u8; 2] = [8, 2];
-
-const SHARD: [u8; 7] = [8, 5, 0x28, 0x22, 0x30, 0x80, 2];
-
-fn put_link(block: &mut Block, cid: &Cid, name: &[u8]) -> Result<(), Memory>
-    requires { length name.now < 64 }
-{
-    let count = name.len() as u8;
-    block.extend(&[0x12, 42 + count, 0x0a, 0x24])?;
-    block.extend(&cid.to_binary())?;
-    block.extend(&[0x12, count])?;
-    block.extend(name)?;
-    block.extend(&[0x18, 0])
-}
-
-fn put_short(block: &mut Block, cid: &Cid, name: &[u8]) -> Result<(), Memory> {
-    if name.len() < 64 {
-        put_link(block, cid, name)
-    } else {
-        Err(Memory)
-    }
-}
-
-fn put_content(block: &mut Block, content: &[u8]) -> Result<(), Memory> {
-    if content.len() < 128 {
-        block.extend(&[0x0a, content.len() as u8])?;
-        block.extend(content)
-    } else {
-        Err(Memory)
-    }
-}
-
-// The bytes of a node with these links and this content.
-fn node(alloc: Global, links: &[Linked<'_>], content: &[u8]) -> Result<Block, Memory> {
-    let mut block = Block::new(alloc);
-    for i in 0..links.len() {
-        let (cid, name) = links[i];
-        put_short(&mut block, &cid, name)?;
-    }
-    put_content(&mut block, content)?;
-    Ok(block)
-}
-
-// Puts a block under the CID that its bytes have.
-fn put(alloc: Global, store: &mut Kept, codec: Codec, bytes: &[u8]) -> Result<Cid, Memory> {
-    let cid = Cid::of::<Sha256Hash>(codec, bytes);
-    let mut block = Block::new(alloc);
-    block.extend(bytes)?;
-    store.plant(&cid, block)?;
-    Ok(cid)
-}
-
-fn put_node(
-    alloc: Global,
-    store: &mut Kept,
-    links: &[Linked<'_>],
-    content: &[u8],
-) -> Result<Cid, Memory> {
-    let block = node(alloc, links, content)?;
-    put(alloc, store, Codec::DagPb, block.as_slice())
-}
-
-// The CID of a raw block.
-fn raw(bytes: &[u8]) -> Cid {
-    Cid::of::<Sha256Hash>(Codec::Raw, bytes)
-}
 
 // The number of an answer: that of why it is refused, 100 and more for the other faults, 1000 for a file, and 2000 and
 // the number of ways for a directory.
@@ -108,8 +34,8 @@ fn number_of_fault(fault: &DagFault) -> usize {
 
 fn number_of(shape: &Result<Shape, DagFault>) -> usize {
     match shape {
-        Ok(Shape::File) => 1000,
-        Ok(Shape::Folder(ways)) => ways.len().saturating_add(2000),
+        Ok(Shape::File(_)) => 1000,
+        Ok(Shape::Folder(_, ways)) => ways.len().saturating_add(2000),
         Err(fault) => number_of_fault(fault),
     }
 }

@@ -6,7 +6,13 @@ mod bound_tests;
 #[cfg(test)]
 mod build_tests;
 #[cfg(test)]
+mod foreign;
+#[cfg(test)]
+mod foreign_meta_tests;
+#[cfg(test)]
 mod lenient_tests;
+#[cfg(test)]
+mod meta_tests;
 #[cfg(test)]
 mod models;
 #[cfg(test)]

@@ -17,6 +17,7 @@ pub enum Trouble {
     Build(BuildFault),
     Memory,
     Entry,
+    Bytes,
     Touches,
 }
 

@@ -17,6 +17,7 @@ use Rattle.uf_store.specs.Faults.{NoneIsBad}
 use Rattle.uf_store.specs.Keeping.{Holds}
 use Rattle.uf_store.specs.Seen.{Seen}
 use Rattle.uf_tree.specs.FilePlan.{file_plan}
+use Rattle.uf_tree.specs.Metas.{none}
 use Rattle.uf_tree.specs.Standing.{Standing, NoHead, BadHead, Stands}
 use Rattle.uf_tree.specs.Tree.{Dir, Entries}
 use Rattle.uf_tree.specs.TreePlan.{blocks}
@@ -28,12 +29,12 @@ use Rattle.uf_intake.specs.Intake.{IsFileOf}
 use Rattle.uf_top.specs.Intake.{IsRowOf, ShownIn}
 use Rattle.uf_top.specs.Losing.{AnswersOver}
 use Rattle.uf_top.specs.Naming.{NamesAfter, StandsNamed}
-use Rattle.uf_reply.specs.Lines.{added_line}
+use Rattle.uf_command.specs.Lines.{added_line}
 use Rattle.uf_top.specs.Answering.{Answers}
 use Rattle.uf_top.specs.Reply.{Reply, add_reply, added, file_cid, unchanged}
-use Rattle.uf_reply.specs.declared.types.Command.TheVariants.{Add}
-use Rattle.uf_reply.specs.declared.types.Refusal.{Refusal}
-use Rattle.uf_reply.specs.declared.types.Refusal.TheVariants as refusal
+use Rattle.uf_command.specs.declared.types.Command.TheVariants.{Add}
+use Rattle.uf_command.specs.declared.types.Refusal.{Refusal}
+use Rattle.uf_command.specs.declared.types.Refusal.TheVariants as refusal
 use Rattle.uf_top.proofs.Losing.{lost-wants}
 use Rattle.uf_top.proofs.Shows.{saving-wants, not-rose}
 use Rattle.uf_top.proofs.Standings.{leaves-holds, names-read, names-says, names-there, standing-bad, standing-none, standing-says, tells-none}
@@ -69,9 +70,9 @@ pub left_are : (given : List ℕ) (left left_now : streams.Told) → left ≡ be
 left_are given None left_now taken ended = tt
 left_are given (Some bytes) left_now taken ended = all_given bytes given (Some bytes) left_now refl taken ended
 
--- the blocks of the file of some bytes
+-- the blocks of the file of some bytes without metadata
 abbrev pub plan_blocks : (List ℕ → List ℕ) → Profile → List ℕ → List Held
-plan_blocks X p bytes = (file_plan X p bytes).blocks
+plan_blocks X p bytes = (file_plan X p none bytes).blocks
 
 module _ (X : List ℕ → List ℕ) where
   short : (s : Standing) (blocks : List ℕ → List Held) (p : Profile) (bytes : List ℕ) → length bytes ≤ most_bytes p
@@ -100,7 +101,7 @@ module _ (X : List ℕ → List ℕ) where
       inr (record {
         ends_are = ap Ok (row.is ∙ ap (λ (xs : List ℕ). added_line (file_cid X p xs)) (sym same)) ∙ ap (λ (r : Reply). r.ends) (sym reply);
         stands = subst (λ (r : Reply). TellsAs X N b.told r.next) (sym reply) stands;
-        held = subst (λ (r : Reply). TellsHeld b.told r.held) (sym reply) (stays bytes (subst (λ (xs : List ℕ). Holds held (file_plan X p xs).blocks) (sym same) row.held));
+        held = subst (λ (r : Reply). TellsHeld b.told r.held) (sym reply) (stays bytes (subst (λ (xs : List ℕ). Holds held (file_plan X p none xs).blocks) (sym same) row.held));
       })
   added-answers N s blocks p bytes (Err (refusal.Rule rule)) held a b l m i j stands stays row e shown f c counts read =
       let few = given_few bytes row.1.bytes l m e row.1.taken in

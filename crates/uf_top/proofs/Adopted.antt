@@ -29,20 +29,19 @@ use Rattle.uf_store.proofs.Calls.{shown-after, shown-by, shown-rises, stood-back
 use Rattle.uf_store.proofs.Causes.{StaysCalm-trans, calm-rises}
 use Rattle.uf_store.proofs.Keeping.{KeepsGood-same, KeepsGood-trans}
 use Rattle.uf_store.proofs.Writing.{SavesOnly-refl}
-use Rattle.uf_tree.specs.Heads.{head_text}
 use Rattle.uf_tree.specs.Standing.{Standing, NoHead, BadHead, Stands}
 use Rattle.uf_tree.specs.Tree.{Dir, Entries}
 use Rattle.uf_tree.specs.TreePlan.{blocks}
 use Rattle.uf_tree.specs.declared.profile.Profile.{Profile}
-use Rattle.uf_reply.specs.Natures.{MovesHead}
-use Rattle.uf_reply.specs.Kinds.{adopt_kinds, OfWrite, fault_behind, may_close, refusal_fault, refusal_kind}
+use Rattle.uf_command.specs.Natures.{MovesHead}
+use Rattle.uf_command.specs.Kinds.{adopt_kinds, OfWrite, fault_behind, may_close, refusal_fault, refusal_kind}
 use Rattle.uf_top.specs.Reply.{Outside, World, adopt_reply, adopted, grown, in_world, moved, outside_of, reply, world_of}
-use Rattle.uf_reply.specs.Statuses.{status_of}
-use Rattle.uf_reply.specs.declared.status.Status.TheVariants as status
-use Rattle.uf_reply.specs.declared.types.Ask.TheVariants.{Ls}
-use Rattle.uf_reply.specs.declared.types.Command.TheVariants.{Adopt, At}
-use Rattle.uf_reply.specs.declared.types.Refusal.{Refusal}
-use Rattle.uf_reply.specs.declared.types.Refusal.TheVariants as refusal
+use Rattle.uf_command.specs.Statuses.{status_of}
+use Rattle.uf_command.specs.declared.status.Status.TheVariants as status
+use Rattle.uf_command.specs.declared.types.Ask.TheVariants.{Ls}
+use Rattle.uf_command.specs.declared.types.Command.TheVariants.{Adopt, At}
+use Rattle.uf_command.specs.declared.types.Refusal.{Refusal}
+use Rattle.uf_command.specs.declared.types.Refusal.TheVariants as refusal
 use Rattle.uf_top.specs.Answering.{Answers, DoesAnswer}
 use Rattle.uf_top.specs.Around.{HostSide, RisesFor, around}
 use Rattle.uf_top.specs.Causes.{IsBadIn, IsReadyBy, RefusesInTree, RefusesOpening, is_read}
@@ -237,20 +236,20 @@ module _ (X : List ℕ → List ℕ) (N : List ℕ → ℕ) (tree new : Mfs) (so
         }
 
     -- it is committed
-    pub graft-committed : (text : List ℕ) → text ≡ head_text new.profile new.root.cid → Commits text m.told b.told → StaysCalm m b → (t0 t2 : ℕ) → GraftsIn X N tree source dest (Ok tt) a b t0 t2
-    graft-committed text text_is commits later t0 t2 = record {
+    pub graft-committed : Commits new.profile new.root.cid m.told b.told → StaysCalm m b → (t0 t2 : ℕ) → GraftsIn X N tree source dest (Ok tt) a b t0 t2
+    graft-committed commits later t0 t2 = record {
       lost = λ p es held given over named tells calm.
           let rises = calm-rises m b later in
           let v = ok-value (λ fs. StandsAfter X N a.told m.told (blocks X N p (Dir es)) new p fs) (adopted X N held source dest p es)
-          (puts held tells p es over.profile_is (folder-over a m p es over (named-between X N a.told m.told b.told text p es commits named) (first-calm rises.faults rises.clashes calm))) in
+          (puts held tells p es over.profile_is (folder-over a m p es over (named-between X N a.told m.told b.told new.profile new.root.cid p es commits named) (first-calm rises.faults rises.clashes calm))) in
           subst (λ w. DoesOver X N a.told b.told p es (blocks X N p (Dir es)) (grown X N p es w) (Ok tt) given given) (sym v.1)
-          (done p es v.0 given (move-over X N a.told b.told p es (blocks X N p (Dir es)) m.told (Ok v.0) new [] text v.2 refl commits text_is));
+          (done p es v.0 given (move-over X N a.told b.told p es (blocks X N p (Dir es)) m.told (Ok v.0) new [] v.2 refl commits));
       kinds = tt;
       cause = StaysCalm-trans a m b saves.cause later;
       good = KeepsGood-trans X a.told m.told b.told saves.good kept;
       touched = λ blames. absurd blames;
       head = tt;
-      writes = (text, record { between = m.told; saves = saves.saves; last = commits });
+      writes = (new.profile, new.root.cid, record { between = m.told; saves = saves.saves; last = commits });
     }
       where
         done : (p : Profile) (es fs : Entries) (given : streams.Told) → AnswersOver X N a.told b.told p es (blocks X N p (Dir es)) (moved X N p es (Ok fs)) (Ok [])
@@ -372,7 +371,7 @@ module _ (X : List ℕ → List ℕ) (N : List ℕ → ℕ) where
 
         shown : Shown X (IsBadIn X N a.told b.told) (refusal_fault done) a b
         shown = shown-after X (IsBadIn X N a.told b.told) (refusal_fault done) a m b calm
-            (shown-by X (IsBadInTree X N (Some tree.profile) tree.root.cid) (IsBadIn X N a.told b.told) (refusal_fault done) m b (λ role bytes bad. bad-of-head X N a.told b.told tree head role bytes (inl bad)) grafts.cause)
+            (shown-by X (IsBadInTree X N (Some tree.profile) tree.root.cid) (IsBadIn X N a.told b.told) (refusal_fault done) m b (λ role bytes bad. bad-of-head X N a.told b.told tree head role bytes (inl (inl bad))) grafts.cause)
 
       -- it is refused
       pub graft-stopped : (why : Refusal) → GraftsIn X N tree source dest (Err why) m b t1 t2 → Does X N (Adopt source dest) (Err why) (around a l i h w t0 side) (around b l i h w t2 side)

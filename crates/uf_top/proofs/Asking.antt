@@ -9,7 +9,6 @@ use Rattle.uf_mfs.specs.Standing.{Commits, IsWanting, LeavesHead, NamesOver, Sam
 use Rattle.uf_mfs.specs.Steps.{IsFolderOver, tree_fault}
 use Rattle.uf_mfs.specs.Touches.{CountsUp}
 use Rattle.uf_mfs.specs.declared.fault.MfsFault.{MfsFault}
-use Rattle.uf_mfs.specs.Writes.{IsBadWrittenIn}
 use Rattle.uf_mfs.specs.declared.mfs.Mfs.{Mfs}
 use Rattle.uf_mfs.proofs.Counting.{counts-then}
 use Rattle.uf_mfs.proofs.Starting.{leaves-head, saves-head}
@@ -23,23 +22,22 @@ use Rattle.uf_store.specs.Seen.{Seen}
 use Rattle.uf_store.proofs.Calls.{shown-after, shown-rises, stood-back, stood-front}
 use Rattle.uf_store.proofs.Causes.{StaysCalm-trans, calm-rises}
 use Rattle.uf_store.proofs.Keeping.{KeepsGood-same, KeepsGood-trans}
-use Rattle.uf_tree.specs.Heads.{head_text}
-use Rattle.uf_tree.specs.Standing.{Stands}
+use Rattle.uf_tree.specs.Standing.{IsHeadNote, Stands}
 use Rattle.uf_tree.specs.Tree.{Tree, Dir, Entries}
 use Rattle.uf_tree.specs.TreePlan.{blocks}
 use Rattle.uf_tree.specs.declared.profile.Profile.{Profile}
-use Rattle.uf_reply.specs.Commands.{is_idle}
-use Rattle.uf_reply.specs.Natures.{NoWrites, ask_writes}
-use Rattle.uf_reply.specs.Kinds.{fault_behind}
+use Rattle.uf_command.specs.Commands.{is_idle}
+use Rattle.uf_command.specs.Natures.{NoWrites, ask_writes}
+use Rattle.uf_command.specs.Kinds.{fault_behind}
 use Rattle.uf_top.specs.Reply.{edited_by, looked, tree_reply}
-use Rattle.uf_reply.specs.declared.types.Ask.{Ask}
-use Rattle.uf_reply.specs.declared.types.Ask.TheVariants.{Edit as Edits}
-use Rattle.uf_reply.specs.declared.types.Command.TheVariants.{At}
-use Rattle.uf_reply.specs.declared.types.Edit.{Edit}
-use Rattle.uf_reply.specs.declared.types.Refusal.{Refusal}
+use Rattle.uf_command.specs.declared.types.Ask.{Ask}
+use Rattle.uf_command.specs.declared.types.Ask.TheVariants.{Edit as Edits}
+use Rattle.uf_command.specs.declared.types.Command.TheVariants.{At}
+use Rattle.uf_command.specs.declared.types.Edit.{Edit}
+use Rattle.uf_command.specs.declared.types.Refusal.{Refusal}
 use Rattle.uf_top.specs.Answering.{Answers}
 use Rattle.uf_top.specs.Bounds.{ask_touches}
-use Rattle.uf_top.specs.Causes.{IsMade, RefusesInTree}
+use Rattle.uf_top.specs.Causes.{IsBadAsked, IsMade, RefusesInTree}
 use Rattle.uf_top.specs.Losing.{AnswersOver, ask_needs}
 use Rattle.uf_top.specs.Naming.{StaysNamed}
 use Rattle.uf_top.specs.Shapes.{WritesAs, is_ok}
@@ -68,7 +66,7 @@ module _ (X : List ℕ → List ℕ) (N : List ℕ → ℕ) (mfs : Mfs) (path : 
           (fault-over X N a.told b.told p es (ask_needs X N ask path.names p es) Tree B (P p) path.names (at 0 path.names (Dir es)) (looked (Stands p es) path.names (say p)) f w
           (λ why. refl) is (lost p es over calm.faults) (names-same X N a.told b.told p es told named));
       kinds = tree-kinds f w is;
-      cause = Shown-tree B X (IsBadInTree X N None mfs.root.cid) (IsBadWrittenIn X N mfs.profile b.told mfs.root.cid) (bad-way X N mfs.profile b.told mfs.root.cid) f w a b is cause;
+      cause = Shown-tree B X (IsBadInTree X N None mfs.root.cid) (IsBadAsked X N mfs.profile b.told mfs.root.cid) (bad-way X N mfs.profile b.told mfs.root.cid) f w a b is cause;
       touches = λ p es rows over named heights calm. few p es rows over calm.faults;
       touched = tree-touched B f w t0 t1 is up;
       good = KeepsGood-same X a.told b.told told;
@@ -90,7 +88,7 @@ module _ (X : List ℕ → List ℕ) (N : List ℕ → ℕ) (mfs : Mfs) (path : 
           (look-over X N a.told b.told p es (ask_needs X N ask path.names p es) B M (P p) path.names (say p) (at 0 path.names (Dir es)) found text r
           (lost p es over calm2.faults) (λ t h. says p t over.profile_is h) made (names-same X N a.told b.told p es told named));
       kinds = made-kinds M text r made;
-      cause = made-shown M X (IsBadWrittenIn X N mfs.profile b.told mfs.root.cid) text r a b made calm;
+      cause = made-shown M X (IsBadAsked X N mfs.profile b.told mfs.root.cid) text r a b made calm;
       touches = λ p es rows over named heights calm2. few p es rows over calm2.faults;
       touched = made-touched M text r t0 t1 made up;
       good = KeepsGood-same X a.told b.told told;
@@ -115,7 +113,7 @@ module _ (X : List ℕ → List ℕ) (N : List ℕ → ℕ) (mfs : Mfs) (path : 
           edit-over X N a.told m.told p es (blocks X N p (Dir es)) (λ fs done. StandsAfter X N a.told m.told (blocks X N p (Dir es)) new p fs) (edited_by X N edit path.names p es)
           f w is (e.lost p es over.profile_is (folder-over p es over named calm)) (names-kept X N a.told m.told p es e.good (saves-head X a.told m.told e.saves) named);
       kinds = tree-kinds f w is;
-      cause = Shown-tree (Unit {0}) X (IsBadWrittenIn X N mfs.profile m.told mfs.root.cid) (IsBadWrittenIn X N mfs.profile m.told mfs.root.cid) (λ role bytes h. h) f w a m is e.cause;
+      cause = Shown-tree (Unit {0}) X (IsBadAsked X N mfs.profile m.told mfs.root.cid) (IsBadAsked X N mfs.profile m.told mfs.root.cid) (λ role bytes h. h) f w a m is e.cause;
       touches = λ p es rows over named heights calm. e.touches p rows over.profile_is heights es (folder-over p es over named calm);
       touched = tree-touched (Unit {0}) f w t0 t1 is e.touched;
       good = e.good;
@@ -125,7 +123,7 @@ module _ (X : List ℕ → List ℕ) (N : List ℕ → ℕ) (mfs : Mfs) (path : 
     }
 
     module _ (e : EditsInMemory X N mfs new edit path (Ok tt) a m t0 t1) (b : Seen) (kept : KeepsGood X m.told b.told)
-        (idle : head_in m.told ≡ Some (head_text new.profile new.root.cid) → b.told ≡ m.told) (t2 : ℕ) (still : t2 ≡ t1) where
+        (idle : IsHeadNote (head_in m.told) new.profile new.root.cid → b.told ≡ m.told) (t2 : ℕ) (still : t2 ≡ t1) where
       calm : StaysCalm a m
       calm = e.cause
 
@@ -150,8 +148,8 @@ module _ (X : List ℕ → List ℕ) (N : List ℕ → ℕ) (mfs : Mfs) (path : 
       pub commit-refused : (f : MfsFault) (w : Refusal) → RefusesInTree f w → CountsUp (tree_fault {A = Unit {0}} (Err f)) t1 t2 → (Stood m.faults b.faults → IsWanting f) → LeavesHead m.told b.told
           → ShownInTree X NoneIsBad {A = Unit {0}} (Err f) m b → WorksAt X N mfs (Edits edit) path (Err w) a b t0 t2
       commit-refused f w is later_up wanting leaves cause =
-          let shown = Shown-tree (Unit {0}) X NoneIsBad (IsBadWrittenIn X N mfs.profile b.told mfs.root.cid) (λ role bytes bad. absurd bad) f w m b is cause in
-          let rises = shown-rises X (IsBadWrittenIn X N mfs.profile b.told mfs.root.cid) (fault_behind w) m b shown in
+          let shown = Shown-tree (Unit {0}) X NoneIsBad (IsBadAsked X N mfs.profile b.told mfs.root.cid) (λ role bytes bad. absurd bad) f w m b is cause in
+          let rises = shown-rises X (IsBadAsked X N mfs.profile b.told mfs.root.cid) (fault_behind w) m b shown in
           let head = leaves-head m.told b.told leaves ∙ saves-head X a.told m.told e.saves in
           record {
             answers = λ p es at_tree stands calm2.
@@ -163,7 +161,7 @@ module _ (X : List ℕ → List ℕ) (N : List ℕ → ℕ) (mfs : Mfs) (path : 
                 (tree-wants f w is (wanting (stood-back a.faults m.faults b.faults calm.faults calm2.faults)))
                 (names-kept X N a.told b.told p es both-good head named);
             kinds = tree-kinds f w is;
-            cause = shown-after X (IsBadWrittenIn X N mfs.profile b.told mfs.root.cid) (fault_behind w) a m b calm shown;
+            cause = shown-after X (IsBadAsked X N mfs.profile b.told mfs.root.cid) (fault_behind w) a m b calm shown;
             touches = λ p es rows over named heights calm2.
                 let x = e.touches p rows over.profile_is heights es (folder-over p es over (named-before X N a.told m.told b.told p es leaves named) (first-calm rises.faults rises.clashes calm2)) in
                 omega (arith, x, still);
@@ -175,10 +173,10 @@ module _ (X : List ℕ → List ℕ) (N : List ℕ → ℕ) (mfs : Mfs) (path : 
           }
 
       -- the tree is committed, and nothing is printed
-      pub is-committed : (text given : List ℕ) → text ≡ [] → given ≡ head_text new.profile new.root.cid → Commits given m.told b.told → (last : Mfs)
+      pub is-committed : (text : List ℕ) → text ≡ [] → Commits new.profile new.root.cid m.told b.told → (last : Mfs)
           → ((p : Profile) (es : Entries) → StandsAt X N m.told new p es → StandsAt X N b.told last p es × TellsAs X N b.told (Stands p es))
           → StaysCalm m b → WorksAt X N mfs (Edits edit) path (Ok text) a b t0 t2
-      is-committed text given nothing given_is commits last stands_now later = record {
+      is-committed text nothing commits last stands_now later = record {
         answers = λ p es at_tree stands calm2.
             let rises = calm-rises m b later in
             move-answers X N p es (edited_by X N edit path.names p es) new last m.told b.told text
@@ -187,17 +185,17 @@ module _ (X : List ℕ → List ℕ) (N : List ℕ → ℕ) (mfs : Mfs) (path : 
         lost = λ p es over named calm2.
             let rises = calm-rises m b later in
             let first = first-calm rises.faults rises.clashes calm2 in
-            move-over X N a.told b.told p es (blocks X N p (Dir es)) m.told (edited_by X N edit path.names p es) new text given
-            (e.lost p es over.profile_is (folder-over p es over (named-between X N a.told m.told b.told given p es commits named) first)) nothing commits given_is;
+            move-over X N a.told b.told p es (blocks X N p (Dir es)) m.told (edited_by X N edit path.names p es) new text
+            (e.lost p es over.profile_is (folder-over p es over (named-between X N a.told m.told b.told new.profile new.root.cid p es commits named) first)) nothing commits;
         kinds = tt;
         cause = StaysCalm-trans a m b calm later;
         touches = λ p es rows over named heights calm2.
             let rises = calm-rises m b later in
-            let x = e.touches p rows over.profile_is heights es (folder-over p es over (named-between X N a.told m.told b.told given p es commits named) (first-calm rises.faults rises.clashes calm2)) in
+            let x = e.touches p rows over.profile_is heights es (folder-over p es over (named-between X N a.told m.told b.told new.profile new.root.cid p es commits named) (first-calm rises.faults rises.clashes calm2)) in
             omega (arith, x, still);
         touched = record { kept = (let x = e.touched.kept in omega (arith, x, still)); risen = λ blames. absurd blames };
         good = both-good;
         head = stays-nothing text a.told b.told nothing;
-        writes = (given, record { between = m.told; saves = e.saves; last = commits });
+        writes = (new.profile, new.root.cid, record { between = m.told; saves = e.saves; last = commits });
         idle = both-idle (calm-rises m b later).faults;
       }

@@ -1,9 +1,9 @@
 -- No count falls over the lines of a batch.
 use Rattle.std.proofs.Common.{◌≡◌, ℕ, List, [], ◌∷◌, arith, refl, ap, inl, inr}
 use Rattle.std.specs.Prelude.{◌⊎◌}
-use Rattle.uf_reply.specs.Statuses.{mark}
-use Rattle.uf_reply.specs.declared.status.Status.{Status}
-use Rattle.uf_reply.specs.declared.status.Status.TheVariants as status
+use Rattle.uf_command.specs.Statuses.{mark}
+use Rattle.uf_command.specs.declared.status.Status.{Status}
+use Rattle.uf_command.specs.declared.status.Status.TheVariants as status
 use Rattle.uf_top.specs.Around.{Around, NoneFalls}
 use Rattle.uf_top.specs.Batch.{AtLine, ByMemory, ByReading, EndsSo, Ending, LineEnds, LineGone, LinePassed, LinesDone, PrintsCut, PrintsWhole, Scene, SinkSide, TooLong, WithInput, output_of, with_sinks}
 use Rattle.uf_top.specs.BatchReplies.{NothingFails}

@@ -4,7 +4,7 @@ use Rattle.std.specs.Prelude.{◌⊎◌}
 use Rattle.uf_edge.specs.Streams as streams
 use Rattle.uf_mfs.specs.Standing.{head_in}
 use Rattle.uf_store.specs.Contents.{Told}
-use Rattle.uf_reply.specs.declared.status.Status.{Status}
+use Rattle.uf_command.specs.declared.status.Status.{Status}
 use Rattle.uf_top.specs.Around.{Around}
 use Rattle.uf_top.specs.Batch.{AtLine, Batches, ByMemory, ByReading, EndsSo, Ending, LineDone, LineGone, LinesDone, Scene, TooLong, WithInput, with_sinks}
 use Rattle.uf_top.specs.BatchLines.{IsBehind, LineOf, MovesByLine}

@@ -3,8 +3,8 @@ use Rattle.std.proofs.Common.{◌≡◌, ◌∙◌, ℕ, List, [], ◌∷◌, sy
 use Rattle.uf_edge.specs.Streams as streams
 use Rattle.uf_store.specs.Keeping.{KeepsGood}
 use Rattle.uf_store.proofs.Keeping.{KeepsGood-refl, KeepsGood-trans}
-use Rattle.uf_reply.specs.declared.status.Status.{Status}
-use Rattle.uf_reply.specs.declared.types.Refusal.{Refusal}
+use Rattle.uf_command.specs.declared.status.Status.{Status}
+use Rattle.uf_command.specs.declared.types.Refusal.{Refusal}
 use Rattle.uf_top.specs.Around.{Around}
 use Rattle.uf_top.proofs.LineHosts.{asks-leaves}
 use Rattle.uf_top.specs.Batch.{AtLine, Batches, ByMemory, ByReading, EndsSo, Ending, LineDone, LineGone, LinesDone, Scene, Tells, TooLong, WithInput}

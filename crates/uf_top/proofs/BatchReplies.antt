@@ -12,14 +12,14 @@ use Rattle.uf_tree.specs.Profiles.{is_profile}
 use Rattle.uf_tree.specs.Standing.{Standing, NoHead, BadHead, Stands}
 use Rattle.uf_tree.specs.Tree.{Entries}
 use Rattle.uf_tree.specs.declared.profile.Profile.{Profile}
-use Rattle.uf_reply.specs.Commands.{of_command}
-use Rattle.uf_reply.specs.Natures.{needs_standing}
-use Rattle.uf_reply.specs.Statuses.{ends_batch, mark}
-use Rattle.uf_reply.specs.declared.status.Status.{Status}
-use Rattle.uf_reply.specs.declared.status.Status.TheVariants as status
-use Rattle.uf_reply.specs.declared.types.Command.{Command}
-use Rattle.uf_reply.specs.declared.types.Command.TheVariants.{Init, Add, AddFrom, WriteInput, At, Read, Cat, Get, Export, Import, Same, Adopt, Gen, AddTo, AddFromTo, Pin}
-use Rattle.uf_reply.specs.declared.types.Refusal.{Refusal}
+use Rattle.uf_command.specs.Commands.{of_command}
+use Rattle.uf_command.specs.Natures.{needs_standing}
+use Rattle.uf_command.specs.Statuses.{ends_batch, mark}
+use Rattle.uf_command.specs.declared.status.Status.{Status}
+use Rattle.uf_command.specs.declared.status.Status.TheVariants as status
+use Rattle.uf_command.specs.declared.types.Command.{Command}
+use Rattle.uf_command.specs.declared.types.Command.TheVariants.{Init, Add, AddFrom, WriteInput, At, Read, Cat, Get, Export, Import, Same, Adopt, Gen, AddTo, AddFromTo, Pin}
+use Rattle.uf_command.specs.declared.types.Refusal.{Refusal}
 use Rattle.uf_top.specs.Around.{Around, CountsCanRise, HasOutside, NoneFalls, RoseAt, StaysQuiet}
 use Rattle.uf_top.specs.Batch.{AtLine, Batches, ByMemory, ByReading, EndsSo, Ending, LineCut, LineDone, LineEnds, LineGone, LinePassed, LinesDone, PrintsCut, PrintsWhole, ReadingFails, Said, Scene, SinkSide, TooLong, WithInput, output_of, with_sinks}
 use Rattle.uf_top.specs.BatchReplies.{BatchReplied, EndsReplied, GoesOnReplied, HasHeights, LineAnswered, LineReplied, LinesReplied, NothingFails, added_bounds, batch_bound, batch_printed, going_bound, going_printed, last_bound, last_printed, line_bound, line_printed, line_world, lines_bound, lines_printed, printed_by}

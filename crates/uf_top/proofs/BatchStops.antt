@@ -22,22 +22,23 @@ use Rattle.uf_store.specs.Writing.{IsAny, WritesOnly}
 use Rattle.uf_store.specs.declared.store.Note.TheVariants.{Head}
 use Rattle.uf_store.specs.declared.store.Write.{Write}
 use Rattle.uf_store.proofs.Writing.{WritesOnly-noted, WritesOnly-synced, Wrote-same, Wrote-trans, saves-write}
+use Rattle.uf_tree.specs.Heads.{head_text}
 use Rattle.uf_tree.specs.Standing.{Standing, Stands}
 use Rattle.uf_tree.specs.Tree.{Tree, Dir, Entries}
 use Rattle.uf_tree.specs.TreePlan.{blocks}
 use Rattle.uf_tree.specs.Validity.{IsHash}
 use Rattle.uf_tree.specs.declared.profile.Profile.{Profile}
-use Rattle.uf_reply.specs.Commands.{of_command}
-use Rattle.uf_reply.specs.Natures.{WriteShape, MakesHead, MovesHead, NoWrites, NotesPins, SyncsBlocks, SyncsPins, command_writes, prints_after}
-use Rattle.uf_reply.specs.Lines.{stat_text}
-use Rattle.uf_reply.specs.Statuses.{ends_batch}
-use Rattle.uf_reply.specs.declared.status.Status.{Status}
-use Rattle.uf_reply.specs.declared.status.Status.TheVariants as status
-use Rattle.uf_reply.specs.declared.types.Ask.{Ask}
-use Rattle.uf_reply.specs.declared.types.Ask.TheVariants.{Ls, Stat, Edit as Edits}
-use Rattle.uf_reply.specs.declared.types.Command.{Command}
-use Rattle.uf_reply.specs.declared.types.Command.TheVariants.{Init, Add, AddFrom, WriteInput, At, Read, Cat, Get, Export, Import, Same, Adopt, Gen, AddTo, AddFromTo, Pin}
-use Rattle.uf_reply.specs.declared.types.Refusal.{Refusal}
+use Rattle.uf_command.specs.Commands.{of_command}
+use Rattle.uf_command.specs.Natures.{WriteShape, MakesHead, MovesHead, NoWrites, NotesPins, SyncsBlocks, SyncsPins, command_writes, prints_after}
+use Rattle.uf_command.specs.Lines.{stat_text}
+use Rattle.uf_command.specs.Statuses.{ends_batch}
+use Rattle.uf_command.specs.declared.status.Status.{Status}
+use Rattle.uf_command.specs.declared.status.Status.TheVariants as status
+use Rattle.uf_command.specs.declared.types.Ask.{Ask}
+use Rattle.uf_command.specs.declared.types.Ask.TheVariants.{Ls, Stat, Edit as Edits}
+use Rattle.uf_command.specs.declared.types.Command.{Command}
+use Rattle.uf_command.specs.declared.types.Command.TheVariants.{Init, Add, AddFrom, WriteInput, At, Read, Cat, Get, Export, Import, Same, Adopt, Gen, AddTo, AddFromTo, Pin}
+use Rattle.uf_command.specs.declared.types.Refusal.{Refusal}
 use Rattle.uf_store.specs.Seen.{Seen}
 use Rattle.uf_top.specs.Answering.{LeavesNext}
 use Rattle.uf_top.specs.Around.{Around, StandsOrRose}
@@ -90,16 +91,16 @@ module _ (X : List ℕ → List ℕ) where
   leaves-wrote a b (StaysSame same) = Wrote-same X IsAny a b same
   leaves-wrote a b (OnlySynced same) = WritesOnly-synced X a b same
 
-  commits-wrote : (text : List ℕ) (a b : Told) → Commits text a b → WritesOnly X a b
-  commits-wrote text a b (Idle head same) = Wrote-same X IsAny a b same
-  commits-wrote text a b (Written head same) =
-      Wrote-trans X IsAny a (changed with_sync a) b (WritesOnly-synced X a (changed with_sync a) refl) (WritesOnly-noted X Head text (changed with_sync a) b same)
+  commits-wrote : (p : Profile) (root : Cid) (a b : Told) → Commits p root a b → WritesOnly X a b
+  commits-wrote p root a b (Idle head same) = Wrote-same X IsAny a b same
+  commits-wrote p root a b (Written head same) =
+      Wrote-trans X IsAny a (changed with_sync a) b (WritesOnly-synced X a (changed with_sync a) refl) (WritesOnly-noted X Head (head_text p root) (changed with_sync a) b same)
 
   then-wrote : (Last : Told → Told → Type 0) (a b : Told) → ((m : Told) → Last m b → WritesOnly X m b) → SavesThen X Last a b → WritesOnly X a b
   then-wrote Last a b last h = Wrote-trans X IsAny a h.between b (saves-write X a h.between h.saves) (last h.between h.last)
 
   head-wrote : (a b : Told) → HeadAfter X a b → WritesOnly X a b
-  head-wrote a b h = then-wrote (Commits h.0) a b (λ m last. commits-wrote h.0 m b last) h.1
+  head-wrote a b h = then-wrote (Commits h.0 h.1) a b (λ m last. commits-wrote h.0 h.1 m b last) h.2
 
   left-wrote : (a b : Told) → SavesThen X LeavesHead a b → WritesOnly X a b
   left-wrote a b h = then-wrote LeavesHead a b (λ m last. leaves-wrote m b last) h

@@ -18,6 +18,7 @@ use Rattle.uf_store.proofs.Calls.{shown-by}
 use Rattle.uf_store.proofs.Causes.{calm-memory}
 use Rattle.uf_store.proofs.Keeping.{KeepsGood-same}
 use Rattle.uf_tree.specs.Tree.{Tree, File, Dir, Entries}
+use Rattle.uf_tree.specs.declared.meta.Meta.{Meta}
 use Rattle.uf_tree.specs.declared.profile.Profile.{Profile}
 use Rattle.uf_lenient.specs.Answers.{IsFault, IsOwn, store_fault_of}
 use Rattle.uf_lenient.specs.Good.{ByGoodBlocks}
@@ -32,17 +33,17 @@ use Rattle.uf_lenient.specs.declared.shapes.Shape.TheVariants.{File as FileShape
 use Rattle.uf_varint.specs.Fields.{◌>>=◌}
 use Rattle.uf_lenient.specs.Denoted.{DenotesBy}
 use Rattle.uf_lenient.proofs.Denoting.{denoted-step}
-use Rattle.uf_reply.specs.Dags.{IsApart, IsToldAs, by_dag, dag_refusal, file_at, tree_at, usual_limits}
-use Rattle.uf_reply.specs.Kinds.{OfWrite, dag_kinds, fault_behind, may_close, refusal_kind}
+use Rattle.uf_command.specs.Dags.{IsApart, IsToldAs, by_dag, dag_refusal, file_at, tree_at, usual_limits}
+use Rattle.uf_command.specs.Kinds.{OfWrite, dag_kinds, fault_behind, may_close, refusal_kind}
 use Rattle.uf_top.specs.Reply.{Outside, World, in_world, reply}
-use Rattle.uf_reply.specs.Statuses.{no_memory, status_of}
-use Rattle.uf_reply.specs.declared.status.Status.TheVariants as status
-use Rattle.uf_reply.specs.declared.types.Command.{Command}
-use Rattle.uf_reply.specs.declared.types.Command.TheVariants.{Cat}
-use Rattle.uf_reply.specs.declared.types.DagRule.{DagRule}
-use Rattle.uf_reply.specs.declared.types.DagRule.TheVariants as rule
-use Rattle.uf_reply.specs.declared.types.Refusal.{Refusal}
-use Rattle.uf_reply.specs.declared.types.Refusal.TheVariants as refusal
+use Rattle.uf_command.specs.Statuses.{no_memory, status_of}
+use Rattle.uf_command.specs.declared.status.Status.TheVariants as status
+use Rattle.uf_command.specs.declared.types.Command.{Command}
+use Rattle.uf_command.specs.declared.types.Command.TheVariants.{Cat}
+use Rattle.uf_command.specs.declared.types.DagRule.{DagRule}
+use Rattle.uf_command.specs.declared.types.DagRule.TheVariants as rule
+use Rattle.uf_command.specs.declared.types.Refusal.{Refusal}
+use Rattle.uf_command.specs.declared.types.Refusal.TheVariants as refusal
 use Rattle.uf_top.specs.Answering.{DoesAnswer}
 use Rattle.uf_top.specs.Around.{HostSide, RisesFor, around}
 use Rattle.uf_top.specs.Causes.{IsBadIn, IsReadyBy, is_read}
@@ -139,31 +140,31 @@ module _ (held : Lookup) (path : DagPath) (cid : Cid) (resolved : resolve_from h
   below-fault f (inl own) = inl own
   below-fault f (inr said) = inr (ap (λ (r : Result Cid DagFault). r >>= λ c. denotes held usual_limits c) resolved ∙ said)
 
-  pub file-found : IsRead held usual_limits cid FileShape → IsFileIn held path cid
-  file-found read = by read.tree read.denoted
+  pub file-found : (meta : Meta) → IsRead held usual_limits cid (FileShape meta) → IsFileIn held path cid
+  file-found meta read = by read.tree read.denoted
     where
       by : (t : Tree) → denotes held usual_limits cid ≡ Ok t → IsFileIn held path cid
       by t denoted =
           let step = denoted-step held usual_limits 256 cid t denoted in
-          let same : step.shape ≡ FileShape = (let e : Ok step.shape ≡ Ok FileShape = sym step.shaped ∙ read.shaped in cc) in
+          let same : step.shape ≡ FileShape meta = (let e : Ok step.shape ≡ Ok (FileShape meta) = sym step.shaped ∙ read.shaped in cc) in
           is-file t denoted (subst (λ s. DenotesBy held usual_limits 256 cid t s) same step.by)
         where
-          is-file : (t : Tree) → denotes held usual_limits cid ≡ Ok t → DenotesBy held usual_limits 256 cid t FileShape → IsFileIn held path cid
-          is-file (File bytes) denoted file = record { bytes = bytes; leads = tree-is (File bytes) denoted; file = file }
+          is-file : (t : Tree) → denotes held usual_limits cid ≡ Ok t → DenotesBy held usual_limits 256 cid t (FileShape meta) → IsFileIn held path cid
+          is-file (File m bytes) denoted file = record { meta = m; bytes = bytes; leads = tree-is (File m bytes) denoted; file = file.1 }
           is-file (Dir es) denoted file = absurd file
 
-  pub folder-found : (ways : List (List ℕ × Cid)) (why : Refusal) → IsRead held usual_limits cid (FolderShape ways) → IsToldAs (refusal.Dag (rule.IsADirectory path)) why → FindsFile held path (Err why)
-  folder-found ways why read (inl is) = inl (subst IsOwnRefusal (sym is.0) tt)
-  folder-found ways why read (inr is) = by read.tree read.denoted
+  pub folder-found : (meta : Meta) (ways : List (List ℕ × Cid)) (why : Refusal) → IsRead held usual_limits cid (FolderShape meta ways) → IsToldAs (refusal.Dag (rule.IsADirectory path)) why → FindsFile held path (Err why)
+  folder-found meta ways why read (inl is) = inl (subst IsOwnRefusal (sym is.0) tt)
+  folder-found meta ways why read (inr is) = by read.tree read.denoted
     where
       by : (t : Tree) → denotes held usual_limits cid ≡ Ok t → FindsFile held path (Err why)
       by t denoted =
           let step = denoted-step held usual_limits 256 cid t denoted in
-          let same : step.shape ≡ FolderShape ways = (let e : Ok step.shape ≡ Ok (FolderShape ways) = sym step.shaped ∙ read.shaped in cc) in
+          let same : step.shape ≡ FolderShape meta ways = (let e : Ok step.shape ≡ Ok (FolderShape meta ways) = sym step.shaped ∙ read.shaped in cc) in
           is-folder t denoted (subst (λ s. DenotesBy held usual_limits 256 cid t s) same step.by)
         where
-          is-folder : (t : Tree) → denotes held usual_limits cid ≡ Ok t → DenotesBy held usual_limits 256 cid t (FolderShape ways) → FindsFile held path (Err why)
-          is-folder (File bytes) denoted folder = absurd folder
+          is-folder : (t : Tree) → denotes held usual_limits cid ≡ Ok t → DenotesBy held usual_limits 256 cid t (FolderShape meta ways) → FindsFile held path (Err why)
+          is-folder (File m bytes) denoted folder = absurd folder
           is-folder (Dir es) denoted folder = inr (ap (file_at path) (tree-is (Dir es) denoted) ∙ ap (λ (r : Refusal). Err r) (sym is))
 
 -- ---- what every answer of `cat` has
@@ -415,14 +416,14 @@ module _ (path : DagPath) (told : Told) (cid : Cid) (h h2 : streams.Told) (found
       → IfSome told (λ t. IsOwnRefusal why ⊎ ((file_at path (tree_at (held_at t) path) ≡ Err why) × (h2 ≡ h)))
   own-said f why is streamed = by told found streamed
     where
-      own : (held : Lookup) → FindsFile held path (Err why) → (bytes : List ℕ) → tree_at held path ≡ Ok (File bytes) → IsOwnRefusal why
-      own held (inl o) bytes leads = o
-      own held (inr said) bytes leads = absurd (let e : Ok bytes ≡ Err why = sym (ap (file_at path) leads) ∙ said in cc)
+      own : (held : Lookup) → FindsFile held path (Err why) → (m : Meta) (bytes : List ℕ) → tree_at held path ≡ Ok (File m bytes) → IsOwnRefusal why
+      own held (inl o) m bytes leads = o
+      own held (inr said) m bytes leads = absurd (let e : Ok bytes ≡ Err why = sym (ap (file_at path) leads) ∙ said in cc)
 
       by : (told : Told) → IfSome told (λ t. FindsFile (held_at t) path (Ok cid)) → IfSome told (λ t. Streams (file_of (held_at t) usual_limits cid) h h2 (Err (stream.Dag f)))
           → IfSome told (λ t. IsOwnRefusal why ⊎ ((file_at path (tree_at (held_at t) path) ≡ Err why) × (h2 ≡ h)))
       by None found streamed = tt
-      by (Some t) found (inl o) = inl (own (held_at t) (fault-found (held_at t) path f why (inl o) is) found.bytes found.leads)
+      by (Some t) found (inl o) = inl (own (held_at t) (fault-found (held_at t) path f why (inl o) is) found.meta found.bytes found.leads)
       by (Some t) found (inr said) = absurd (let e : Ok found.bytes ≡ Err f = sym found.file ∙ said in cc)
 
 -- ---- over what a store tells
@@ -443,15 +444,15 @@ module _ (X : List ℕ → List ℕ) (told : Told) (path : DagPath) where
       by None h = tt
       by (Some t) h = f (held_at t) h
 
-  pub file-told : (cid : Cid) (shape : Shape) → shape ≡ FileShape → ByGoodBlocks X told (λ held. FindsShape held path (Ok (cid, shape))) → IfSome told (λ t. FindsFile (held_at t) path (Ok cid))
-  file-told cid shape is found =
-      if_told (λ held. IsShapeIn held path cid shape) (λ held. IsFileIn held path cid) (λ held h. file-found held path cid h.leads (subst (λ s. IsRead held usual_limits cid s) is h.read))
+  pub file-told : (cid : Cid) (shape : Shape) (meta : Meta) → shape ≡ FileShape meta → ByGoodBlocks X told (λ held. FindsShape held path (Ok (cid, shape))) → IfSome told (λ t. FindsFile (held_at t) path (Ok cid))
+  file-told cid shape meta is found =
+      if_told (λ held. IsShapeIn held path cid shape) (λ held. IsFileIn held path cid) (λ held h. file-found held path cid h.leads meta (subst (λ s. IsRead held usual_limits cid s) is h.read))
       (by_told (λ held. IsShapeIn held path cid shape) found)
 
-  pub folder-told : (cid : Cid) (shape : Shape) (ways : List (List ℕ × Cid)) (why : Refusal) → shape ≡ FolderShape ways → ByGoodBlocks X told (λ held. FindsShape held path (Ok (cid, shape)))
+  pub folder-told : (cid : Cid) (shape : Shape) (meta : Meta) (ways : List (List ℕ × Cid)) (why : Refusal) → shape ≡ FolderShape meta ways → ByGoodBlocks X told (λ held. FindsShape held path (Ok (cid, shape)))
       → IsToldAs (refusal.Dag (rule.IsADirectory path)) why → IfSome told (λ t. FindsFile (held_at t) path (Err why))
-  folder-told cid shape ways why same found is =
-      if_told (λ held. IsShapeIn held path cid shape) (λ held. FindsFile held path (Err why)) (λ held h. folder-found held path cid h.leads ways why (subst (λ s. IsRead held usual_limits cid s) same h.read) is)
+  folder-told cid shape meta ways why same found is =
+      if_told (λ held. IsShapeIn held path cid shape) (λ held. FindsFile held path (Err why)) (λ held h. folder-found held path cid h.leads meta ways why (subst (λ s. IsRead held usual_limits cid s) same h.read) is)
       (by_told (λ held. IsShapeIn held path cid shape) found)
 
   pub unfound-told : (why : Refusal) → ByGoodBlocks X told (λ held. FindsShape held path (Err why)) → IfSome told (λ t. FindsFile (held_at t) path (Err why))

@@ -10,10 +10,10 @@ use Rattle.uf_store.specs.Contents.{Told}
 use Rattle.uf_store.specs.declared.store.StoreFault.{StoreFault}
 use Rattle.uf_store.specs.declared.store.StoreFault.TheVariants.{Failed, Damaged, Missing, BadBlock, Clash, Memory}
 use Rattle.uf_tree.specs.declared.profile.Profile.{Profile}
-use Rattle.uf_reply.specs.Kinds.{IsOf, RefusalKind, OfRule, OfDag, OfHost, OfPath, OfLongInput, OfUsage, OfReady, OfRead, OfWrite, OfFailure, OfMissing, OfBadBlock, OfClash, OfMemory, OfCar, OfSections, OfOwnClash, OfPins, init_kinds, add_kinds, tree_kinds, fault_kind, may_meet, opened_kinds, read_kind, refusal_kind}
-use Rattle.uf_reply.specs.declared.types.Command.{Command}
-use Rattle.uf_reply.specs.declared.types.Refusal.{Refusal}
-use Rattle.uf_reply.specs.declared.types.Refusal.TheVariants as refusal
+use Rattle.uf_command.specs.Kinds.{IsOf, RefusalKind, OfRule, OfDag, OfHost, OfPath, OfLongInput, OfUsage, OfReady, OfRead, OfWrite, OfFailure, OfMissing, OfBadBlock, OfClash, OfMemory, OfCar, OfSections, OfOwnClash, OfPins, init_kinds, add_kinds, tree_kinds, fault_kind, may_meet, opened_kinds, read_kind, refusal_kind}
+use Rattle.uf_command.specs.declared.types.Command.{Command}
+use Rattle.uf_command.specs.declared.types.Refusal.{Refusal}
+use Rattle.uf_command.specs.declared.types.Refusal.TheVariants as refusal
 use Rattle.uf_top.specs.Causes.{IsMade, IsProfileRead, IsReady, RefusesInTree, RefusesOpening, is_read}
 use Rattle.uf_top.specs.Intake.{IsRowOf}
 use Rattle.uf_top.proofs.Shows.{counts-still}

@@ -17,21 +17,21 @@ use Rattle.uf_store.proofs.Calls.{shown-by}
 use Rattle.uf_store.proofs.Keeping.{KeepsGood-same}
 use Rattle.uf_tree.specs.Tree.{Entries}
 use Rattle.uf_tree.specs.declared.profile.Profile.{Profile}
-use Rattle.uf_reply.specs.Cars.{most_car}
-use Rattle.uf_reply.specs.Natures.{OfCarSections}
-use Rattle.uf_reply.specs.Kinds.{same_kinds, OfWrite, fault_behind, may_meet, refusal_kind}
-use Rattle.uf_reply.specs.Statuses.{no_memory, status_of}
-use Rattle.uf_reply.specs.declared.status.Status.TheVariants as status
-use Rattle.uf_reply.specs.declared.types.Command.TheVariants.{Same}
-use Rattle.uf_reply.specs.declared.types.DagRule.{DagRule}
-use Rattle.uf_reply.specs.declared.types.Refusal.{Refusal}
-use Rattle.uf_reply.specs.declared.types.Refusal.TheVariants as refusal
+use Rattle.uf_command.specs.Cars.{most_car}
+use Rattle.uf_command.specs.Natures.{OfCarSections}
+use Rattle.uf_command.specs.Kinds.{same_kinds, OfWrite, fault_behind, may_meet, refusal_kind}
+use Rattle.uf_command.specs.Statuses.{no_memory, status_of}
+use Rattle.uf_command.specs.declared.status.Status.TheVariants as status
+use Rattle.uf_command.specs.declared.types.Command.TheVariants.{Same}
+use Rattle.uf_command.specs.declared.types.DagRule.{DagRule}
+use Rattle.uf_command.specs.declared.types.Refusal.{Refusal}
+use Rattle.uf_command.specs.declared.types.Refusal.TheVariants as refusal
 use Rattle.uf_top.specs.Answering.{DoesAnswer}
 use Rattle.uf_top.specs.Around.{HostSide, RisesFor, around}
 use Rattle.uf_top.specs.Cars.{ByOwnStore, ComparesCar}
 use Rattle.uf_top.specs.Causes.{IsBadIn, IsReadyBy}
 use Rattle.uf_top.specs.Endings.{EndsBy, PrintsPart}
-use Rattle.uf_reply.specs.Telling.{IsCut, Prints}
+use Rattle.uf_command.specs.Telling.{IsCut, Prints}
 use Rattle.uf_top.specs.Losing.{DoesOver}
 use Rattle.uf_top.specs.Naming.{StaysNamed, TellsBlocks}
 use Rattle.uf_top.specs.Reply.{Outside, World, car_compared, in_world, reply}

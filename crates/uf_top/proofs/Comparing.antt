@@ -30,11 +30,11 @@ use Rattle.uf_store.specs.Writing.{ReplaceNone, SavesOnly}
 use Rattle.uf_store.specs.declared.store.StoreFault.{StoreFault}
 use Rattle.uf_store.specs.declared.store.StoreFault.TheVariants as fault
 use Rattle.uf_store.proofs.Causes.{StaysCalm-refl, calm-memory}
-use Rattle.uf_reply.specs.Cars.{car_refusal, kept_refusal, most_blocks, most_car}
-use Rattle.uf_reply.specs.Kinds.{refusal_fault}
-use Rattle.uf_reply.specs.Statuses.{no_memory}
-use Rattle.uf_reply.specs.declared.types.Refusal.{Refusal}
-use Rattle.uf_reply.specs.declared.types.Refusal.TheVariants as refusal
+use Rattle.uf_command.specs.Cars.{car_refusal, kept_refusal, most_blocks, most_car}
+use Rattle.uf_command.specs.Kinds.{refusal_fault}
+use Rattle.uf_command.specs.Statuses.{no_memory}
+use Rattle.uf_command.specs.declared.types.Refusal.{Refusal}
+use Rattle.uf_command.specs.declared.types.Refusal.TheVariants as refusal
 use Rattle.uf_top.specs.Cars.{ComparesCar, ComparesStores, IsRootOf, SparesStore, TakesRoot, root_alone}
 use Rattle.uf_top.specs.Naming.{TellsBlocks}
 use Rattle.uf_top.specs.Reply.{by_answer, by_roots, car_compared, compared_text, not_one_root, same_refusal, unless_two, verdict_told}

@@ -4,10 +4,10 @@ use Rattle.uf_edge.specs.Counts.{Rose, Stood}
 use Rattle.uf_store.specs.Faults.{Rises}
 use Rattle.uf_store.specs.Seen.{Seen}
 use Rattle.uf_store.proofs.Calls.{shown-rises}
-use Rattle.uf_reply.specs.Natures.{uses_host, writes_host}
-use Rattle.uf_reply.specs.Kinds.{refusal_fault}
-use Rattle.uf_reply.specs.declared.types.Command.{Command}
-use Rattle.uf_reply.specs.declared.types.Refusal.{Refusal}
+use Rattle.uf_command.specs.Natures.{uses_host, writes_host}
+use Rattle.uf_command.specs.Kinds.{refusal_fault}
+use Rattle.uf_command.specs.declared.types.Command.{Command}
+use Rattle.uf_command.specs.declared.types.Refusal.{Refusal}
 use Rattle.uf_top.specs.Around.{Around, HostSide, NoneFalls, RisesFor, StandsOrRose, TakesHost, is_output_write}
 use Rattle.uf_top.specs.Causes.{IsBadIn, is_read, is_write}
 use Rattle.uf_top.specs.Working.{Serves}

@@ -1,5 +1,5 @@
 -- How the tree in memory is edited, by the calls on it.
-use Rattle.std.proofs.Common.{◌≡◌, ℕ, List, [], ◌∷◌, Bool, true, false, refl, sym, subst, inl, Some, Result, Ok, Err}
+use Rattle.std.proofs.Common.{◌≡◌, ℕ, List, [], ◌∷◌, Bool, true, false, refl, sym, subst, inl, inr, Some, Result, Ok, Err}
 use Rattle.std.specs.Prelude.{◌&&◌, not}
 use Rattle.uf_edge.specs.Counts.{Stood}
 use Rattle.uf_mfs.specs.Answers as tree
@@ -9,6 +9,7 @@ use Rattle.uf_mfs.specs.Bad.{IsBadInTree}
 use Rattle.uf_mfs.specs.Moving.{GivesOr, IsOntoItself}
 use Rattle.uf_mfs.specs.Reading.{AreHeights}
 use Rattle.uf_mfs.specs.Standing.{StandsAfter, StandsAt, StandsOver}
+use Rattle.uf_mfs.specs.Remade.{IsBadRemadeIn}
 use Rattle.uf_mfs.specs.Steps.{MovesTree, tree_fault}
 use Rattle.uf_mfs.specs.Touches.{CountsUp, TouchesFolder}
 use Rattle.uf_mfs.specs.Writes.{IsBadWrittenIn}
@@ -34,13 +35,15 @@ use Rattle.uf_store.specs.declared.store.StoreFault.TheVariants.{Memory}
 use Rattle.uf_store.proofs.Calls.{shown-by}
 use Rattle.uf_tree.specs.Tree.{Tree, File, Dir, Entries}
 use Rattle.uf_tree.specs.TreePlan.{blocks}
+use Rattle.uf_tree.specs.declared.meta.Meta.{Meta}
 use Rattle.uf_tree.specs.declared.profile.Profile.{Profile}
-use Rattle.uf_reply.specs.Commands.{has_nothing_to_do, is_file_at, is_itself, is_onto_itself}
+use Rattle.uf_command.specs.Commands.{has_nothing_to_do, is_file_at, is_itself, is_onto_itself}
 use Rattle.uf_top.specs.Reply.{edited_by}
-use Rattle.uf_reply.specs.declared.types.Edit.{Edit}
-use Rattle.uf_reply.specs.declared.types.Edit.TheVariants.{Mkdir, Write}
+use Rattle.uf_command.specs.declared.types.Edit.{Edit}
+use Rattle.uf_command.specs.declared.types.Edit.TheVariants.{Mkdir, Write}
 use Rattle.uf_top.specs.Bounds.{touches_of_edit}
 use Rattle.uf_top.specs.Working.{EditsInMemory}
+use Rattle.uf_top.specs.Causes.{IsBadAsked}
 
 -- ---- edits that have nothing to do
 
@@ -55,12 +58,12 @@ not-true true h = absurd cc
 not-true false h = refl
 
 folder-at : (r : Result Tree Refused) → is_folder_at r ≡ true → (below : Entries) × (r ≡ Ok (Dir below))
-folder-at (Ok (File bytes)) is = absurd cc
+folder-at (Ok (File m bytes)) is = absurd cc
 folder-at (Ok (Dir below)) is = (below, refl)
 folder-at (Err why) is = absurd cc
 
-file-at : (r : Result Tree Refused) → is_file_at r ≡ true → (bytes : List ℕ) × (r ≡ Ok (File bytes))
-file-at (Ok (File bytes)) is = (bytes, refl)
+file-at : (r : Result Tree Refused) → is_file_at r ≡ true → (m : Meta) × (bytes : List ℕ) × (r ≡ Ok (File m bytes))
+file-at (Ok (File m bytes)) is = (m, bytes, refl)
 file-at (Ok (Dir below)) is = absurd cc
 file-at (Err why) is = absurd cc
 
@@ -71,10 +74,10 @@ idle-mkdir parents names es is =
     let f = folder-at (at 0 names (Dir es)) b.1 in (f.0, b.0, f.1)
 
 pub idle-write : (how : WriteHow) (piece : List ℕ) (names : List (List ℕ)) (es : Entries) → has_nothing_to_do (Write how piece) names es ≡ true
-    → (bytes : List ℕ) × (piece ≡ []) × (how.cut ≡ false) × (at 0 names (Dir es) ≡ Ok (File bytes))
+    → (m : Meta) × (bytes : List ℕ) × (piece ≡ []) × (how.cut ≡ false) × (at 0 names (Dir es) ≡ Ok (File m bytes))
 idle-write how [] names es is =
     let b = both-true (not how.cut) (is_file_at (at 0 names (Dir es))) is in
-    let f = file-at (at 0 names (Dir es)) b.1 in (f.0, refl, not-true how.cut b.0, f.1)
+    let f = file-at (at 0 names (Dir es)) b.1 in (f.0, f.1, refl, not-true how.cut b.0, f.2)
 idle-write how (x ∷ piece) names es is = absurd cc
 
 itself-of : (lie : Lie) → is_itself lie ≡ true → lie ≡ Itself
@@ -99,11 +102,23 @@ shown-tree-by X P Q more (Err mfs.Sink) a b h = h
 shown-tree-by X P Q more (Err (mfs.Store f)) a b h = shown-by X P Q (Some f) a b more h
 
 module _ (X : List ℕ → List ℕ) (N : List ℕ → ℕ) (p : Profile) (r : Result (Unit {0}) MfsFault) (a b : Seen) where
-  pub way-shown : (root : Cid) → ShownInTree X (IsBadInTree X N (Some p) root) r a b → ShownInTree X (IsBadWrittenIn X N p b.told root) r a b
-  way-shown root h = shown-tree-by X (IsBadInTree X N (Some p) root) (IsBadWrittenIn X N p b.told root) (λ role bytes bad. inl bad) r a b h
+  pub way-shown : (root : Cid) → ShownInTree X (IsBadInTree X N (Some p) root) r a b → ShownInTree X (IsBadAsked X N p b.told root) r a b
+  way-shown root h = shown-tree-by X (IsBadInTree X N (Some p) root) (IsBadAsked X N p b.told root) (λ role bytes bad. inl (inl bad)) r a b h
+
+  -- and so is what is bad in a file that is edited
+  pub file-shown : (root : Cid) → ShownInTree X (IsBadWrittenIn X N p b.told root) r a b → ShownInTree X (IsBadAsked X N p b.told root) r a b
+  file-shown root h = shown-tree-by X (IsBadWrittenIn X N p b.told root) (IsBadAsked X N p b.told root) (λ role bytes bad. inl bad) r a b h
+
+  -- or as the root of a file whose metadata is changed
+  pub root-shown : (root : Cid) → ShownInTree X (IsBadRemadeIn X N p root) r a b → ShownInTree X (IsBadAsked X N p b.told root) r a b
+  root-shown root h = shown-tree-by X (IsBadRemadeIn X N p root) (IsBadAsked X N p b.told root) by r a b h
+    where
+      by : (role : Role) (bytes : List ℕ) → IsBadRemadeIn X N p root role bytes → IsBadAsked X N p b.told root role bytes
+      by role bytes (inl way) = inl (inl way)
+      by role bytes (inr first) = inr first
 
 module _ (X : List ℕ → List ℕ) (N : List ℕ → ℕ) (was is : Mfs) (path : Path) (a b : Seen) (t0 t1 : ℕ) (r : Result (Unit {0}) MfsFault)
-    (cause : ShownInTree X (IsBadWrittenIn X N was.profile b.told was.root.cid) r a b) (up : CountsUp (tree_fault r) t0 t1)
+    (cause : ShownInTree X (IsBadAsked X N was.profile b.told was.root.cid) r a b) (up : CountsUp (tree_fault r) t0 t1)
     (good : KeepsGood X a.told b.told) (saves : SavesOnly X a.told b.told) where
   -- an edit that is told with its path
   pub told-edit : (edit : Edit) (next : Profile → Entries → Result Entries Refused)

@@ -23,12 +23,12 @@ use Rattle.uf_store.proofs.Keeping.{KeepsGood-same}
 use Rattle.uf_tree.specs.Tree.{Entries}
 use Rattle.uf_tree.specs.declared.profile.Profile.{Profile}
 use Rattle.uf_walk.specs.Order.{OrderFault, order}
-use Rattle.uf_reply.specs.Cars.{car_of, export_refusal, most_blocks}
-use Rattle.uf_reply.specs.Kinds.{fault_behind}
+use Rattle.uf_command.specs.Cars.{car_of, export_refusal, most_blocks}
+use Rattle.uf_command.specs.Kinds.{fault_behind}
 use Rattle.uf_top.specs.Reply.{Outside, World, in_world, reply}
-use Rattle.uf_reply.specs.declared.types.Command.TheVariants.{Export}
-use Rattle.uf_reply.specs.declared.types.Refusal.{Refusal}
-use Rattle.uf_reply.specs.declared.types.Refusal.TheVariants as refusal
+use Rattle.uf_command.specs.declared.types.Command.TheVariants.{Export}
+use Rattle.uf_command.specs.declared.types.Refusal.{Refusal}
+use Rattle.uf_command.specs.declared.types.Refusal.TheVariants as refusal
 use Rattle.uf_top.specs.Answering.{DoesAnswer}
 use Rattle.uf_top.specs.Around.{HostSide, RisesFor, around}
 use Rattle.uf_top.specs.Causes.{IsBadIn}

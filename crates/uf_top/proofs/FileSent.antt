@@ -1,6 +1,6 @@
 -- How a file of the tree that the Head names is sent to the output.
 use Rattle.std.proofs.Common.{◌≡◌, ◌≢◌, ◌⊎◌, ℕ, zero, suc, ◌<◌, ◌≤◌, ◌+◌, List, [], ◌++◌, length, take, true, arith, refl, sym, ap, subst, ◌∙◌, inl, inr, None, Result, Ok, Err}
-use Rattle.std.specs.Prelude.{IfErr, ⊤}
+use Rattle.std.specs.Prelude.{IfErr, IsTrue, ⊤}
 use Rattle.uf_cid.specs.Blocks.{Held}
 use Rattle.uf_edge.specs.Counts.{Counts, Stood}
 use Rattle.uf_edge.specs.Streams.{after, AppendsPrefix}
@@ -19,8 +19,10 @@ use Rattle.uf_mfs.specs.declared.mfs.Mfs.{Mfs}
 use Rattle.uf_mfs.proofs.Counting.{counts-then}
 use Rattle.uf_mfs.proofs.Holding.{loss-back}
 use Rattle.uf_mfs.proofs.Ranges.{stood-calm, tall}
+use Rattle.uf_mfs.proofs.Reaching.{heights-with}
 use Rattle.uf_path.specs.declared.path.Path.{Path}
-use Rattle.uf_plain.specs.Files.{plain_bytes_at, read as range_at}
+use Rattle.uf_plain.specs.Edits.{at}
+use Rattle.uf_plain.specs.Files.{read as range_at}
 use Rattle.uf_plain.specs.Needs.{needs_at, root_of}
 use Rattle.uf_plain.specs.Rules.{rule_of}
 use Rattle.uf_plain.specs.declared.rule.Refused.{Refused}
@@ -36,24 +38,25 @@ use Rattle.uf_store.proofs.Calls.{shown-after, shown-by, stood-back, stood-front
 use Rattle.uf_store.proofs.Causes.{Shows-rises, calm-rises}
 use Rattle.uf_store.proofs.Keeping.{KeepsGood-same}
 use Rattle.uf_tree.specs.Standing.{Standing, NoHead, BadHead, Stands}
-use Rattle.uf_tree.specs.Tree.{Dir, Entries}
+use Rattle.uf_tree.specs.Profiles.{is_profile}
+use Rattle.uf_tree.specs.Tree.{Dir, Entries, File, Tree}
 use Rattle.uf_tree.specs.TreePlan.{blocks}
 use Rattle.uf_tree.specs.declared.profile.Profile.{Profile}
-use Rattle.uf_reply.specs.Natures.{NoWrites}
-use Rattle.uf_reply.specs.Kinds.{IsOf, tree_kinds, fault_kind, may_close, refusal_fault}
+use Rattle.uf_command.specs.Natures.{NoWrites}
+use Rattle.uf_command.specs.Kinds.{IsOf, tree_kinds, fault_kind, may_close, refusal_fault}
 use Rattle.uf_top.specs.Reply.{in_tree, looked, read_reply}
-use Rattle.uf_reply.specs.Statuses.{ended, fault_status, no_memory, status_of}
-use Rattle.uf_reply.specs.declared.status.Status.TheVariants as status
-use Rattle.uf_reply.specs.declared.types.Ask.TheVariants.{Stat}
-use Rattle.uf_reply.specs.declared.types.Command.{Command}
-use Rattle.uf_reply.specs.declared.types.Command.TheVariants.{At, Read}
-use Rattle.uf_reply.specs.declared.types.Refusal.{Refusal}
-use Rattle.uf_reply.specs.declared.types.Refusal.TheVariants as refusal
+use Rattle.uf_command.specs.Statuses.{ended, fault_status, no_memory, status_of}
+use Rattle.uf_command.specs.declared.status.Status.TheVariants as status
+use Rattle.uf_command.specs.declared.types.Ask.TheVariants.{Stat}
+use Rattle.uf_command.specs.declared.types.Command.{Command}
+use Rattle.uf_command.specs.declared.types.Command.TheVariants.{At, Read}
+use Rattle.uf_command.specs.declared.types.Refusal.{Refusal}
+use Rattle.uf_command.specs.declared.types.Refusal.TheVariants as refusal
 use Rattle.uf_top.specs.Answering.{DoesReply, DoesWant}
 use Rattle.uf_top.specs.Around.{HostSide, RisesFor, around}
 use Rattle.uf_top.specs.Causes.{IsBadIn, IsReady, IsReadyBy, IsSendingFault, RefusesOpening, RefusesSending, is_read, is_write}
 use Rattle.uf_top.specs.Endings.{FindsAll, PrintsAt, PrintsPart, RuleOf}
-use Rattle.uf_top.specs.Losing.{DoesOver, part_needs}
+use Rattle.uf_top.specs.Losing.{DoesOver, part_needs, rows_found}
 use Rattle.uf_top.specs.Naming.{NamesAfter, NamesAs}
 use Rattle.uf_top.specs.Shapes.{WritesAs, is_done}
 use Rattle.uf_top.specs.Working.{Does, Makes}
@@ -103,9 +106,10 @@ none-printed : (held now : streams.Told) → AppendsPrefix [] held now → now �
 none-printed held now p = p.appended ∙ ap (λ (l : List ℕ). after held l) (take-none p.count) ∙ sym (after-nothing held)
 
 -- the rows of a file are its height
-height-of : (p : Profile) (rows : ℕ → ℕ) (v : Result (List ℕ) Refused) → AreHeights p rows → IsHeightOf p (rows (length (to_read v))) v
-height-of p rows (Ok bytes) heights = heights (length bytes)
-height-of p rows (Err why) heights = tt
+height-of : (p : Profile) (rows : ℕ → ℕ) (v : Result Tree Refused) → IsTrue (is_profile p) → AreHeights p rows → IsHeightOf p (rows_found rows v) v
+height-of p rows (Ok (File m bytes)) ok heights = heights-with p rows ok heights m (length bytes)
+height-of p rows (Ok (Dir es)) ok heights = tt
+height-of p rows (Err why) ok heights = tt
 
 by-why : (done : Result (Unit {0}) Refusal) (why is : Refusal) → done ≡ Err why → why ≡ is → done ≡ Err is
 by-why done why is e h = e ∙ ap (λ (r : Refusal). Err r) h
@@ -332,7 +336,7 @@ module _ (X : List ℕ → List ℕ) (N : List ℕ → ℕ) (offset count : ℕ)
       (b : Seen) (h2 : streams.Told) (w2 t2 : ℕ) (r : Result ℕ MfsFault) (done : Result (Unit {0}) Refusal) (sent : SentAs r done)
       (answer : (p : Profile) (es : Entries) → StandsAt X N m.told found p es → Stood m.faults b.faults → r ≢ Err mfs.Sink
       → tree.Answers (λ bytes n. SendsAll h h2 bytes n) path.names (range_at offset count path.names es) r)
-      (lost : (p : Profile) (es : Entries) (height : ℕ) → StandsOver X N m.told found p es → IsHeightOf p height (plain_bytes_at path.names es) → Stood m.faults b.faults → r ≢ Err mfs.Sink
+      (lost : (p : Profile) (es : Entries) (height : ℕ) → StandsOver X N m.told found p es → IsHeightOf p height (at 0 path.names (Dir es)) → Stood m.faults b.faults → r ≢ Err mfs.Sink
       → tree.AnswersOr (IsLossOf m.told (needs_at X N p (range_needs X p height offset count) path.names (Dir es))) (λ bytes n. SendsAll h h2 bytes n) path.names (range_at offset count path.names es) r)
       (prefix : (p : Profile) (es : Entries) → StandsOver X N m.told found p es → CanRise m.faults → IfErr r (λ _. AppendsPrefix (to_read (range_at offset count path.names es)) h h2))
       (sends : AppendsAtMost count h h2) (cause : ShownSending X (IsBadRead X N m.told found.root.cid) r m b w w2) (told2 : b.told ≡ m.told)
@@ -382,7 +386,7 @@ module _ (X : List ℕ → List ℕ) (N : List ℕ → ℕ) (offset count : ℕ)
         part-printed X N path.names h h2 (IsLossOf m.told (needs_at X N p (range_needs X p high.0 offset count) path.names (Dir es))) (Stands p es) (range_at offset count path.names es) r
         (λ n is. whole-lost p es high.0 at high.1 had n is) (prefix p es at (room-kept had))
       where
-        whole-lost : (p : Profile) (es : Entries) (height : ℕ) → StandsOver X N m.told found p es → IsHeightOf p height (plain_bytes_at path.names es) → CanRise a.faults → (n : ℕ) → r ≡ Ok n
+        whole-lost : (p : Profile) (es : Entries) (height : ℕ) → StandsOver X N m.told found p es → IsHeightOf p height (at 0 path.names (Dir es)) → CanRise a.faults → (n : ℕ) → r ≡ Ok n
             → tree.AnswersOr (IsLossOf m.told (needs_at X N p (range_needs X p height offset count) path.names (Dir es))) (λ bytes n. SendsAll h h2 bytes n) path.names (range_at offset count path.names es) r
         whole-lost p es height at high had n is =
             let calm2 = subst (λ q. ShownSending X (IsBadRead X N m.told found.root.cid) q m b w w2) is cause in
@@ -392,12 +396,12 @@ module _ (X : List ℕ → List ℕ) (N : List ℕ → ℕ) (offset count : ℕ)
     sends-does = record {
       answers = λ world finds input quiet. of-no-host (ok-answer world.standing finds.stands quiet.store.faults (not-sink w w2 X (IsBadRead X N m.told found.root.cid) m b r cause quiet.written.output));
       lost = λ p es rows held bytes named tells heights input quiet.
-          let stood = quiet.store.faults in let at = opened-over p es named.names (front stood) in
+          let stood = quiet.store.faults in let opened = opened-over p es named.names (front stood) in
           let needs = part_needs X N rows offset count path.names p es in
           answered-over X N path.names h h2 a.told b.told p es (root_of X N p (Dir es)) needs (range_at offset count path.names es) r done sent
           (subst (λ t. tree.AnswersOr (IsLossOf t needs) (λ bytes n. SendsAll h h2 bytes n) path.names (range_at offset count path.names es) r) told
-          (lost p es (rows (length (to_read (plain_bytes_at path.names es)))) at (height-of p rows (plain_bytes_at path.names es) heights) (back stood) (not-sink w w2 X (IsBadRead X N m.told found.root.cid) m b r cause quiet.written.output)))
-          (prefix p es at (room stood)) (names-same X N a.told b.told p es same named);
+          (lost p es (rows_found rows (at 0 path.names (Dir es))) opened (height-of p rows (at 0 path.names (Dir es)) opened.root.plan.profile heights) (back stood) (not-sink w w2 X (IsBadRead X N m.told found.root.cid) m b r cause quiet.written.output)))
+          (prefix p es opened (room stood)) (names-same X N a.told b.told p es same named);
       unprinted = λ world after. absurd cc;
       prefix = λ world finds input had. printed world.standing finds.names had.faults;
       prints = sent-prints (λ text. ⊤) h h2 sends.appends.bytes tt sends.appends.appended done kind;

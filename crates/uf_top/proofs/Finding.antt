@@ -7,24 +7,23 @@ use Rattle.uf_plain.specs.declared.rule.Refused.{Refused}
 use Rattle.uf_plain.specs.declared.rule.Rule.{Rule}
 use Rattle.uf_store.specs.declared.store.StoreFault.TheVariants as fault
 use Rattle.uf_store.specs.Contents.{Told}
-use Rattle.uf_tree.specs.Heads.{head_text}
-use Rattle.uf_tree.specs.Standing.{Standing, NoHead, BadHead, Stands}
+use Rattle.uf_tree.specs.Standing.{IsHeadNote, Standing, NoHead, BadHead, Stands}
 use Rattle.uf_tree.specs.Tree.{Dir, Entries}
 use Rattle.uf_tree.specs.TreePlan.{entry}
 use Rattle.uf_tree.specs.declared.nodes.Entry.{Entry}
 use Rattle.uf_tree.specs.declared.profile.Profile.{Profile}
-use Rattle.uf_reply.specs.declared.status.Status.TheVariants as status
-use Rattle.uf_reply.specs.declared.types.Ask.{Ask}
-use Rattle.uf_reply.specs.declared.types.Ask.TheVariants.{Ls, Stat, Edit as Edits}
-use Rattle.uf_reply.specs.declared.types.Refusal.{Refusal}
-use Rattle.uf_reply.specs.declared.types.Refusal.TheVariants as refusal
-use Rattle.uf_reply.specs.Kinds.{IsOf, RefusalKind, OfMissing, OfBadBlock, OfSections, init_kinds, add_kinds, may_meet, refusal_kind, word_kinds}
-use Rattle.uf_reply.specs.Commands.{IsOfWords}
+use Rattle.uf_command.specs.declared.status.Status.TheVariants as status
+use Rattle.uf_command.specs.declared.types.Ask.{Ask}
+use Rattle.uf_command.specs.declared.types.Ask.TheVariants.{Ls, Stat, Edit as Edits}
+use Rattle.uf_command.specs.declared.types.Refusal.{Refusal}
+use Rattle.uf_command.specs.declared.types.Refusal.TheVariants as refusal
+use Rattle.uf_command.specs.Kinds.{IsOf, RefusalKind, OfMissing, OfBadBlock, OfSections, init_kinds, add_kinds, may_meet, refusal_kind, word_kinds}
+use Rattle.uf_command.specs.Commands.{IsOfWords}
 use Rattle.uf_top.specs.Endings.{FindsAll}
 use Rattle.uf_top.specs.Answering.{Answers}
 use Rattle.uf_plain.specs.Files.{read}
 use Rattle.uf_top.specs.Reply.{Reply, edited_by, in_tree, looked, moved, tree_reply, read_reply}
-use Rattle.uf_reply.specs.Statuses.{ended}
+use Rattle.uf_command.specs.Statuses.{ended}
 
 -- ---- no block is missing or bad
 
@@ -121,13 +120,13 @@ module _ (X : List ℕ → List ℕ) (N : List ℕ → ℕ) where
   -- ---- what changes nothing writes nothing
 
   -- the Head of a store that names a tree is that of the tree that is opened of it
-  names-head : (told : Told) (mfs : Mfs) (p : Profile) (es : Entries) → StandsOver X N told mfs p es → NamesOver X N told p es → head_in told ≡ Some (head_text mfs.profile mfs.root.cid)
+  names-head : (told : Told) (mfs : Mfs) (p : Profile) (es : Entries) → StandsOver X N told mfs p es → NamesOver X N told p es → IsHeadNote (head_in told) mfs.profile mfs.root.cid
   names-head told mfs p es opened names =
-      names.head
-      ∙ ap (λ (q : Profile). Some (head_text q (entry X N p (Dir es)).cid)) (sym opened.profile_is)
-      ∙ ap (λ (e : Entry). Some (head_text mfs.profile e.cid)) (sym opened.root.plan.is)
+      subst (λ (e : Entry). IsHeadNote (head_in told) mfs.profile e.cid) (sym opened.root.plan.is)
+      (subst (λ (q : Profile). IsHeadNote (head_in told) q (entry X N p (Dir es)).cid) (sym opened.profile_is) names.head)
 
   -- so it is where neither has changed
-  pub idle-head : (told mid : Told) (mfs new : Mfs) (p : Profile) (es : Entries) → StandsOver X N told mfs p es → NamesOver X N told p es → mid ≡ told → new ≡ mfs → head_in mid ≡ Some (head_text new.profile new.root.cid)
+  pub idle-head : (told mid : Told) (mfs new : Mfs) (p : Profile) (es : Entries) → StandsOver X N told mfs p es → NamesOver X N told p es → mid ≡ told → new ≡ mfs → IsHeadNote (head_in mid) new.profile new.root.cid
   idle-head told mid mfs new p es opened names same unchanged =
-      ap head_in same ∙ names-head told mfs p es opened names ∙ ap (λ (m : Mfs). Some (head_text m.profile m.root.cid)) (sym unchanged)
+      subst (λ (m : Mfs). IsHeadNote (head_in mid) m.profile m.root.cid) (sym unchanged)
+      (subst (λ (t : Told). IsHeadNote (head_in t) mfs.profile mfs.root.cid) (sym same) (names-head told mfs p es opened names))

@@ -15,11 +15,13 @@ use Rattle.uf_store.specs.declared.store.Write.TheVariants.{Saved, Synced, Noted
 use Rattle.uf_store.proofs.Keeping.{Holds-kept}
 use Rattle.uf_store.proofs.Plain.{stays_plain}
 use Rattle.uf_store.proofs.Writing.{WritesOnly-noted, WritesOnly-synced, Wrote-good, fold-append, saves-notes}
+use Rattle.uf_tree.specs.Standing.{IsHeadNote}
 use Rattle.uf_tree.specs.Tree.{Dir, Entries}
-use Rattle.uf_tree.specs.TreePlan.{blocks as blocks_of}
+use Rattle.uf_tree.specs.TreePlan.{blocks as blocks_of, entry}
 use Rattle.uf_tree.specs.declared.profile.Profile.{Profile}
 use Rattle.uf_mfs.proofs.Hinge.{are-good}
 use Rattle.uf_top.specs.Outcomes.{EachOutcome, EachStop, IsSafeFor, LeavesTree}
+use Rattle.uf_top.proofs.Notes.{note-text}
 
 -- ---- lists of writes
 
@@ -164,7 +166,7 @@ module _ (X : List ℕ → List ℕ) (N : List ℕ → ℕ) (p : Profile) (es : 
     profile = f.stands.profile;
     tree = f.stands.tree;
     planned = f.stands.planned;
-    head_is = ap (λ (n : Notes). n.head) left.notes_are ∙ f.stands.head_is;
+    head_is = subst (λ (n : Notes). IsHeadNote n.head p (entry X N p (Dir es)).cid) (sym left.notes_are) f.stands.head_is;
     blocks_held = holds-part (firm ws) held (blocks_of X N p (Dir es)) left.firm_stays f.firm_too;
   }
 
@@ -178,7 +180,7 @@ module _ (X : List ℕ → List ℕ) (N : List ℕ → ℕ) (p : Profile) (es : 
           profile = f.stands.profile;
           tree = f.stands.tree;
           planned = f.stands.planned;
-          head_is = ap (λ (n : Notes). n.head) (saves-notes X (written ws) (written (ws ++ us)) saves) ∙ f.stands.head_is;
+          head_is = subst (λ (n : Notes). IsHeadNote n.head p (entry X N p (Dir es)).cid) (sym (saves-notes X (written ws) (written (ws ++ us)) saves)) f.stands.head_is;
           blocks_held = Holds-kept X (Some (written ws)) (Some (written (ws ++ us))) l (are-good X N p (Dir es)) (Wrote-good X IsSave (Some (written ws)) (Some (written (ws ++ us))) saves) f.stands.blocks_held;
         };
         firm_too = subst (λ (m : HeldMap). blocks.Holds (λ cid. get m cid) l) (sym (saved-firm ws us each)) f.firm_too;
@@ -203,7 +205,8 @@ module _ (X : List ℕ → List ℕ) (N : List ℕ → ℕ) (p : Profile) (es : 
   pub firm-safe : (t : Contents) → IsPlain t → IsFirm t.writes → IsSafeFor X N t p es
   firm-safe t plain f =
       let now = firm-stands t plain f in
-      record { stands = now; safe = record { plain = plain; head_is = now.head_is; held = now.blocks_held; firm_too = f.firm_too } }
+      let note = note-text t.notes.head p (entry X N p (Dir es)).cid now.head_is in
+      record { stands = now; text = note.0; safe = record { plain = plain; head_is = note.1; held = now.blocks_held; firm_too = f.firm_too } }
 
   -- a sync leaves it so
   pub firm-synced : (m : Contents) → IsPlain m → IsFirm m.writes → IsFirm (with_sync m).writes

@@ -23,8 +23,8 @@ use Rattle.uf_store.proofs.Causes.{calm-memory}
 use Rattle.uf_tree.specs.Tree.{Tree}
 use Rattle.uf_tree.specs.declared.nodes.Entry.{Entry}
 use Rattle.uf_tree.specs.declared.profile.Profile.{Profile}
-use Rattle.uf_reply.specs.Kinds.{refusal_fault}
-use Rattle.uf_reply.specs.declared.types.Refusal.{Refusal}
+use Rattle.uf_command.specs.Kinds.{refusal_fault}
+use Rattle.uf_command.specs.declared.types.Refusal.{Refusal}
 use Rattle.uf_top.specs.Around.{HostSide, OnlyReadsHost}
 use Rattle.uf_top.specs.Causes.{OnlyWants, Stops, is_read}
 use Rattle.uf_top.specs.HostTexts.{host_refusal, host_row, host_text}

@@ -32,14 +32,14 @@ use Rattle.uf_store.proofs.Keeping.{KeepsGood-same}
 use Rattle.uf_tree.specs.Tree.{Entries, Tree}
 use Rattle.uf_tree.specs.declared.profile.Profile.{Profile}
 use Rattle.uf_varint.specs.Fields.{◌>>=◌}
-use Rattle.uf_reply.specs.Dags.{IsToldAs, by_dag, dag_refusal, tree_at, usual_limits}
-use Rattle.uf_reply.specs.Kinds.{get_kinds, IsOf, fault_behind, may_close, refusal_fault, refusal_kind}
-use Rattle.uf_reply.specs.Statuses.{ended, no_memory, status_of}
-use Rattle.uf_reply.specs.declared.status.Status.TheVariants as status
-use Rattle.uf_reply.specs.declared.types.Command.TheVariants.{Get}
-use Rattle.uf_reply.specs.declared.types.HostRule.TheVariants as rules
-use Rattle.uf_reply.specs.declared.types.Refusal.{Refusal}
-use Rattle.uf_reply.specs.declared.types.Refusal.TheVariants as refusal
+use Rattle.uf_command.specs.Dags.{IsToldAs, by_dag, dag_refusal, tree_at, usual_limits}
+use Rattle.uf_command.specs.Kinds.{get_kinds, IsOf, fault_behind, may_close, refusal_fault, refusal_kind}
+use Rattle.uf_command.specs.Statuses.{ended, no_memory, status_of}
+use Rattle.uf_command.specs.declared.status.Status.TheVariants as status
+use Rattle.uf_command.specs.declared.types.Command.TheVariants.{Get}
+use Rattle.uf_command.specs.declared.types.HostRule.TheVariants as rules
+use Rattle.uf_command.specs.declared.types.Refusal.{Refusal}
+use Rattle.uf_command.specs.declared.types.Refusal.TheVariants as refusal
 use Rattle.uf_top.specs.Answering.{DoesAnswer}
 use Rattle.uf_top.specs.Around.{HostSide, around}
 use Rattle.uf_top.specs.Causes.{IsBadIn, IsReady, IsReadyBy, is_read, is_write}

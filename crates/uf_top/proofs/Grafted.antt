@@ -42,11 +42,11 @@ use Rattle.uf_tree.specs.TreePlan.{Refusal as NoPlan, blocks, refusal as refusal
 use Rattle.uf_tree.specs.declared.nodes.Entry.{Entry}
 use Rattle.uf_tree.specs.declared.profile.Profile.{Profile}
 use Rattle.uf_varint.specs.Fields.{◌>>=◌}
-use Rattle.uf_reply.specs.Dags.{IsApart, IsToldAs, adopted_name, by_dag, dag_refusal, tree_at, usual_limits}
-use Rattle.uf_reply.specs.Kinds.{fault_behind, fault_kind, refusal_kind}
+use Rattle.uf_command.specs.Dags.{IsApart, IsToldAs, adopted_name, by_dag, dag_refusal, tree_at, usual_limits}
+use Rattle.uf_command.specs.Kinds.{fault_behind, fault_kind, refusal_kind}
 use Rattle.uf_top.specs.Reply.{adopted, by_rule, grafted, with_plan}
-use Rattle.uf_reply.specs.declared.types.Refusal.{Refusal}
-use Rattle.uf_reply.specs.declared.types.Refusal.TheVariants as refusal
+use Rattle.uf_command.specs.declared.types.Refusal.{Refusal}
+use Rattle.uf_command.specs.declared.types.Refusal.TheVariants as refusal
 use Rattle.uf_top.specs.Foreign.{FindsShape, FindsTree, IsOfReading, IsOwnRefusal, IsTreeIn, LeadsTo}
 use Rattle.uf_top.specs.Grafts.{BuildsPlanned, FollowsOr, IsFailingRefusal, IsLostBy, PutsTree, TouchesUp, adopt_refusal, graft_kinds, put_tree}
 use Rattle.uf_top.specs.Naming.{TellsBlocks}

@@ -35,13 +35,15 @@ use Rattle.uf_store.specs.declared.store.Note.TheVariants.{Head}
 use Rattle.uf_store.specs.declared.store.Role.{Role}
 use Rattle.uf_store.specs.declared.store.StoreFault.{StoreFault}
 use Rattle.uf_store.specs.declared.store.StoreFault.TheVariants as store
+use Rattle.uf_tree.specs.Heads.{head_text}
 use Rattle.uf_tree.specs.Tree.{Dir, Entries}
 use Rattle.uf_tree.specs.TreePlan.{entry, refusal as refusal-of}
 use Rattle.uf_tree.specs.declared.nodes.Entry.{Entry}
-use Rattle.uf_reply.specs.Statuses.{own_refusal}
-use Rattle.uf_reply.specs.declared.types.Edit.{Edit}
-use Rattle.uf_reply.specs.declared.types.Edit.TheVariants.{Rm, Write as Writes}
-use Rattle.uf_reply.specs.declared.types.Refusal.{Refusal}
+use Rattle.uf_tree.specs.declared.profile.Profile.{Profile}
+use Rattle.uf_command.specs.Statuses.{own_refusal}
+use Rattle.uf_command.specs.declared.types.Edit.{Edit}
+use Rattle.uf_command.specs.declared.types.Edit.TheVariants.{Rm, Write as Writes}
+use Rattle.uf_command.specs.declared.types.Refusal.{Refusal}
 use Rattle.uf_gen.specs.declared.step.Step.{Step}
 use Rattle.uf_gen.specs.declared.step.Step.TheVariants.{Make, Change}
 use Rattle.uf_top.specs.Causes.{IsTreeFault}
@@ -73,11 +75,11 @@ module _ (X : List ℕ → List ℕ) where
   new-digests : (seen : Seen) → seen ≡ new_seen → TellsDigests X seen.told
   new-digests seen e = subst (λ (s : Seen). TellsDigests X s.told) (sym e) (record { contents = no_contents; tells = refl; digests = none-good X })
 
-  committed-digests : (text : List ℕ) (a b : Told) → Commits text a b → TellsDigests X a → TellsDigests X b
-  committed-digests text a b (Idle head same) d = subst (TellsDigests X) (sym same) d
-  committed-digests text None b (Written head same) d = absurd (let e = d.tells in cc)
-  committed-digests text (Some t) b (Written head same) d =
-      subst (TellsDigests X) (sym same) (record { contents = with_text Head text (with_sync t); tells = refl; digests = λ cid bytes is. digest-of cid bytes (Some t) d is })
+  committed-digests : (p : Profile) (root : Cid) (a b : Told) → Commits p root a b → TellsDigests X a → TellsDigests X b
+  committed-digests p root a b (Idle head same) d = subst (TellsDigests X) (sym same) d
+  committed-digests p root None b (Written head same) d = absurd (let e = d.tells in cc)
+  committed-digests p root (Some t) b (Written head same) d =
+      subst (TellsDigests X) (sym same) (record { contents = with_text Head (head_text p root) (with_sync t); tells = refl; digests = λ cid bytes is. digest-of cid bytes (Some t) d is })
 
   left-digests : (a b : Told) → LeavesHead a b → TellsDigests X a → TellsDigests X b
   left-digests a b (Same same) d = subst (TellsDigests X) (sym same) d
@@ -192,13 +194,13 @@ module _ (X : List ℕ → List ℕ) (N : List ℕ → ℕ) where
   zero-changed seed n = refl
 
   -- a new store is made ready
-  pub begun : (seed : ℕ) (before now : Seen) (mfs : Mfs) (text : List ℕ) → before ≡ new_seen → StaysCalm before now
-      → SavesThen X (Commits text) before.told now.told
+  pub begun : (seed : ℕ) (before now : Seen) (mfs : Mfs) → before ≡ new_seen → StaysCalm before now
+      → SavesThen X (Commits mfs.profile mfs.root.cid) before.told now.told
       → IfSome before.told (λ t. Stood before.faults now.faults → Stood before.clashes now.clashes
       → Inits X N now.told small_profile t.notes.head (Ok mfs))
       → StandsFor X N (made_files X N small_profile seed 0) now mfs
   unfolding made_files
-  begun seed before now mfs text e c writes answer =
+  begun seed before now mfs e c writes answer =
       let faults : before.faults ≡ 0 = ap (λ (s : Seen). s.faults) e in
       let clashes : before.clashes ≡ 0 = ap (λ (s : Seen). s.clashes) e in
       let inits : Inits X N now.told small_profile None (Ok mfs) =
@@ -208,7 +210,7 @@ module _ (X : List ℕ → List ℕ) (N : List ℕ → ℕ) where
         stands = inits.0;
         faults = c.faults ∙ faults;
         clashes = c.clashes ∙ clashes;
-        digests = committed-digests X text writes.between now.told writes.last (digests-kept X IsSave before.told writes.between writes.saves (new-digests X before e));
+        digests = committed-digests X mfs.profile mfs.root.cid writes.between now.told writes.last (digests-kept X IsSave before.told writes.between writes.saves (new-digests X before e));
       }
 
   -- or it isn't

@@ -29,13 +29,13 @@ use Rattle.uf_tree.specs.Tree.{Tree, Dir, Entries}
 use Rattle.uf_tree.specs.TreePlan.{blocks}
 use Rattle.uf_tree.specs.Validity.{IsHash}
 use Rattle.uf_tree.specs.declared.profile.Profile.{Profile}
-use Rattle.uf_reply.specs.Natures.{SyncsBlocks, command_writes}
-use Rattle.uf_reply.specs.Kinds.{add_host_kinds, IsOf, OfBadBlock, OfSections, OfMissing, fault_kind, may_meet, refusal_fault, refusal_kind}
-use Rattle.uf_reply.specs.Statuses.{ended, no_memory}
-use Rattle.uf_reply.specs.declared.types.Command.TheVariants.{AddFrom}
-use Rattle.uf_reply.specs.declared.types.HostRule.{HostRule}
-use Rattle.uf_reply.specs.declared.types.Refusal.{Refusal}
-use Rattle.uf_reply.specs.declared.types.Refusal.TheVariants as refusal
+use Rattle.uf_command.specs.Natures.{SyncsBlocks, command_writes}
+use Rattle.uf_command.specs.Kinds.{add_host_kinds, IsOf, OfBadBlock, OfSections, OfMissing, fault_kind, may_meet, refusal_fault, refusal_kind}
+use Rattle.uf_command.specs.Statuses.{ended, no_memory}
+use Rattle.uf_command.specs.declared.types.Command.TheVariants.{AddFrom}
+use Rattle.uf_command.specs.declared.types.HostRule.{HostRule}
+use Rattle.uf_command.specs.declared.types.Refusal.{Refusal}
+use Rattle.uf_command.specs.declared.types.Refusal.TheVariants as refusal
 use Rattle.uf_top.specs.Answering.{Answers}
 use Rattle.uf_top.specs.Around.{HostSide, OnlyReadsHost, around}
 use Rattle.uf_top.specs.Bounds.{command_touches}

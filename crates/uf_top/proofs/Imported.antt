@@ -27,22 +27,22 @@ use Rattle.uf_store.proofs.Keeping.{KeepsGood-trans}
 use Rattle.uf_tree.specs.Tree.{Dir, Entries}
 use Rattle.uf_tree.specs.TreePlan.{blocks}
 use Rattle.uf_tree.specs.declared.profile.Profile.{Profile}
-use Rattle.uf_reply.specs.Cars.{car_refusal, most_car, root_line, roots_told}
-use Rattle.uf_reply.specs.Commands.{HasInput}
-use Rattle.uf_reply.specs.Natures.{SyncsBlocks}
-use Rattle.uf_reply.specs.Kinds.{import_kinds, OfWrite, fault_behind, fault_kind, may_meet, read_kind, refusal_fault, refusal_kind}
+use Rattle.uf_command.specs.Cars.{car_refusal, most_car, root_line, roots_told}
+use Rattle.uf_command.specs.Commands.{HasInput}
+use Rattle.uf_command.specs.Natures.{SyncsBlocks}
+use Rattle.uf_command.specs.Kinds.{import_kinds, OfWrite, fault_behind, fault_kind, may_meet, read_kind, refusal_fault, refusal_kind}
 use Rattle.uf_top.specs.Reply.{Outside, World, in_world, reply}
-use Rattle.uf_reply.specs.Statuses.{no_memory, status_of}
-use Rattle.uf_reply.specs.declared.status.Status.TheVariants as status
-use Rattle.uf_reply.specs.declared.types.Command.TheVariants.{Import}
-use Rattle.uf_reply.specs.declared.types.Refusal.{Refusal}
-use Rattle.uf_reply.specs.declared.types.Refusal.TheVariants as refusal
+use Rattle.uf_command.specs.Statuses.{no_memory, status_of}
+use Rattle.uf_command.specs.declared.status.Status.TheVariants as status
+use Rattle.uf_command.specs.declared.types.Command.TheVariants.{Import}
+use Rattle.uf_command.specs.declared.types.Refusal.{Refusal}
+use Rattle.uf_command.specs.declared.types.Refusal.TheVariants as refusal
 use Rattle.uf_top.specs.Answering.{DoesAnswer}
 use Rattle.uf_top.specs.Around.{CountsCanRise, HostSide, RisesFor, around}
 use Rattle.uf_top.specs.Cars.{KeepsCar, TellsRoots}
 use Rattle.uf_top.specs.Causes.{IsBadIn, IsReadyBy, Stops, is_read}
 use Rattle.uf_top.specs.Endings.{EndsBy, PrintsPart}
-use Rattle.uf_reply.specs.Telling.{IsCut, Prints}
+use Rattle.uf_command.specs.Telling.{IsCut, Prints}
 use Rattle.uf_top.specs.Losing.{DoesOver}
 use Rattle.uf_top.specs.Naming.{NamesAfter, TellsBlocks}
 use Rattle.uf_top.specs.Shapes.{WritesAs}

@@ -14,18 +14,20 @@ use Rattle.uf_plain.specs.declared.rule.Rule.{Rule}
 use Rattle.uf_store.specs.Contents.{Contents, Told}
 use Rattle.uf_tree.specs.HeadReading.{head_reads}
 use Rattle.uf_tree.specs.Standing.{Standing, NoHead, BadHead, Stands, IsBadHead}
-use Rattle.uf_tree.specs.Tree.{Tree, Entries}
+use Rattle.uf_tree.specs.Tree.{Dir, Tree, Entries}
+use Rattle.uf_tree.specs.TreePlan.{entry}
 use Rattle.uf_tree.specs.declared.head_fault.HeadFault.{HeadFault}
 use Rattle.uf_tree.specs.declared.profile.Profile.{Profile}
 use Rattle.uf_path.specs.declared.path.Path.{Path}
 use Rattle.uf_top.specs.Causes.{HeadStays, IsMade, IsReady, IsReason, IsUnread, RefusesInTree, RefusesOpening}
 use Rattle.uf_top.specs.Answering.{Answers}
 use Rattle.uf_top.specs.Reply.{Reply, in_tree, init_reply, looked, moved, not_ready, refused}
-use Rattle.uf_reply.specs.Statuses.{no_memory}
-use Rattle.uf_reply.specs.declared.types.Ask.{Ask}
-use Rattle.uf_reply.specs.declared.types.Command.TheVariants.{Init, At}
-use Rattle.uf_reply.specs.declared.types.Refusal.{Refusal}
-use Rattle.uf_reply.specs.declared.types.Refusal.TheVariants as refusal
+use Rattle.uf_command.specs.Statuses.{no_memory}
+use Rattle.uf_command.specs.declared.types.Ask.{Ask}
+use Rattle.uf_command.specs.declared.types.Command.TheVariants.{Init, At}
+use Rattle.uf_command.specs.declared.types.Refusal.{Refusal}
+use Rattle.uf_command.specs.declared.types.Refusal.TheVariants as refusal
+use Rattle.uf_top.proofs.Notes.{note-text}
 use Rattle.uf_top.proofs.Standings.{tells-none}
 
 -- want of memory, as a refusal
@@ -76,7 +78,7 @@ module _ (X : List ℕ → List ℕ) (N : List ℕ → ℕ) where
   init-err : (s : Standing) (p : Profile) (a : Contents) (f : MfsFault) (w : Refusal) (b : Told) → RefusesOpening f w → TellsAs X N (Some a) s → Inits X N b p a.notes.head (Err f) → TellsAs X N b s → Answers X N s (init_reply X N p s) (Err w) b
   init-err NoHead p a f w b is stands h now = wants NoHead (init_reply X N p NoHead) w b (opening-wants f w is (subst (λ head. Inits X N b p head (Err f)) stands h)) now
   init-err BadHead p a f w b is stands h now = (let t = bad-there a.notes.head stands in unready BadHead ready.HeadThere f w b is (subst (λ head. Inits X N b p head (Err f)) t.1 h) now)
-  init-err (Stands q es) p a f w b is stands h now = unready (Stands q es) ready.HeadThere f w b is (subst (λ head. Inits X N b p head (Err f)) stands.head_is h) now
+  init-err (Stands q es) p a f w b is stands h now = (let t = note-text a.notes.head q (entry X N q (Dir es)).cid stands.head_is in unready (Stands q es) ready.HeadThere f w b is (subst (λ head. Inits X N b p head (Err f)) t.1 h) now)
 
   pub inits-err : (A B : Type 0) (s : Standing) (p : Profile) (a : Told) (f : MfsFault) (w : Refusal) (b : Told) → RefusesOpening f w → A → B → TellsAs X N a s → IfSome a (λ t. A → B → Inits X N b p t.notes.head (Err f)) → TellsAs X N b s
       → Answers X N s (init_reply X N p s) (Err w) b
@@ -87,7 +89,7 @@ module _ (X : List ℕ → List ℕ) (N : List ℕ → ℕ) where
   init-ok : (s : Standing) (p : Profile) (a : Contents) (m : Mfs) (b : Told) → TellsAs X N (Some a) s → Inits X N b p a.notes.head (Ok m) → Answers X N s (init_reply X N p s) (Ok []) b
   init-ok NoHead p a m b stands h = (let i = subst (λ head. Inits X N b p head (Ok m)) stands h in inr (record { ends_are = refl; stands = i.1; held = i.0.root.held }))
   init-ok BadHead p a m b stands h = (let t = bad-there a.notes.head stands in absurd (subst (λ head. Inits X N b p head (Ok m)) t.1 h))
-  init-ok (Stands q es) p a m b stands h = absurd (subst (λ head. Inits X N b p head (Ok m)) stands.head_is h)
+  init-ok (Stands q es) p a m b stands h = (let t = note-text a.notes.head q (entry X N q (Dir es)).cid stands.head_is in absurd (subst (λ head. Inits X N b p head (Ok m)) t.1 h))
 
   pub inits-ok : (A B : Type 0) (s : Standing) (p : Profile) (a : Told) (m : Mfs) (text : List ℕ) (b : Told) → A → B → text ≡ [] → TellsAs X N a s → IfSome a (λ t. A → B → Inits X N b p t.notes.head (Ok m))
       → Answers X N s (init_reply X N p s) (Ok text) b

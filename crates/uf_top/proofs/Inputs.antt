@@ -17,12 +17,12 @@ use Rattle.uf_tree.specs.Standing.{Stands}
 use Rattle.uf_tree.specs.Validity.{IsHash}
 use Rattle.uf_tree.specs.declared.profile.Profile.{Profile}
 use Rattle.uf_plain.specs.declared.ready.Ready.TheVariants as ready
-use Rattle.uf_reply.specs.Natures.{SyncsBlocks, command_writes}
-use Rattle.uf_reply.specs.Kinds.{refusal_fault}
+use Rattle.uf_command.specs.Natures.{SyncsBlocks, command_writes}
+use Rattle.uf_command.specs.Kinds.{refusal_fault}
 use Rattle.uf_top.specs.Reply.{add_reply}
-use Rattle.uf_reply.specs.declared.types.Command.TheVariants.{Add}
-use Rattle.uf_reply.specs.declared.types.Refusal.{Refusal}
-use Rattle.uf_reply.specs.declared.types.Refusal.TheVariants as refusal
+use Rattle.uf_command.specs.declared.types.Command.TheVariants.{Add}
+use Rattle.uf_command.specs.declared.types.Refusal.{Refusal}
+use Rattle.uf_command.specs.declared.types.Refusal.TheVariants as refusal
 use Rattle.uf_top.specs.Bounds.{command_touches}
 use Rattle.uf_top.specs.Causes.{AddsBy, IsBadIn, IsProfileIn, IsProfileRead, OnlyWants, is_read, or_usual}
 use Rattle.uf_top.specs.Intake.{IsRowOf, ShownIn}

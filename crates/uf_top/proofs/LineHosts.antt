@@ -7,17 +7,17 @@ use Rattle.uf_path.specs.declared.faults.PathFault.{PathFault}
 use Rattle.uf_path.specs.declared.path.DagPath.{DagPath}
 use Rattle.uf_path.specs.declared.path.Path.{Path}
 use Rattle.uf_plain.specs.declared.file.WriteHow.{WriteHow}
-use Rattle.uf_reply.specs.Batches.{asked_in_batch, is_for_batch, line_asks, line_in}
-use Rattle.uf_reply.specs.Cids.{cid_reads}
-use Rattle.uf_reply.specs.Commands.{add_asked, add_to_asked, adopt_asked, asked, at_path, below_asked, both_paths, cat_asked, from_to, of_command, pin_asked, read_asked, write_asked}
-use Rattle.uf_reply.specs.Natures.{generates, reads_input, writes_host}
-use Rattle.uf_reply.specs.Statuses.{no_memory}
-use Rattle.uf_reply.specs.declared.types.Ask.{Ask}
-use Rattle.uf_reply.specs.declared.types.Command.{Command}
-use Rattle.uf_reply.specs.declared.types.Edit.{Edit}
-use Rattle.uf_reply.specs.declared.types.Edit.TheVariants.{Cp, Mv}
-use Rattle.uf_reply.specs.declared.types.Refusal.{Refusal}
-use Rattle.uf_reply.specs.declared.types.Refusal.TheVariants as refusal
+use Rattle.uf_command.specs.Batches.{asked_in_batch, is_for_batch, line_asks, line_in}
+use Rattle.uf_command.specs.Cids.{cid_reads}
+use Rattle.uf_command.specs.Commands.{add_asked, add_to_asked, adopt_asked, asked, at_path, below_asked, both_paths, cat_asked, from_to, of_command, pin_asked, read_asked, write_asked}
+use Rattle.uf_command.specs.Natures.{generates, reads_input, writes_host}
+use Rattle.uf_command.specs.Statuses.{no_memory}
+use Rattle.uf_command.specs.declared.types.Ask.{Ask}
+use Rattle.uf_command.specs.declared.types.Command.{Command}
+use Rattle.uf_command.specs.declared.types.Edit.{Edit}
+use Rattle.uf_command.specs.declared.types.Edit.TheVariants.{Cp, Mv}
+use Rattle.uf_command.specs.declared.types.Refusal.{Refusal}
+use Rattle.uf_command.specs.declared.types.Refusal.TheVariants as refusal
 use Rattle.uf_words.specs.Commands.{command_of}
 use Rattle.uf_words.specs.Lines.{line_words}
 use Rattle.uf_words.specs.declared.command.Cmd.{Cmd}
@@ -97,9 +97,9 @@ cmd-suits (cmd.Same cid) h = absurd cc
 cmd-suits cmd.Import h = absurd cc
 cmd-suits cmd.Batch h = absurd cc
 cmd-suits (cmd.Gen n seed) h = absurd cc
-cmd-suits (cmd.Chmod mode path) h = refused-suits refusal.Usage
-cmd-suits (cmd.Touch nanos seconds path) h = refused-suits refusal.Usage
-cmd-suits (cmd.Strip path) h = refused-suits refusal.Usage
+cmd-suits (cmd.Chmod mode path) h = at-suits _ (path_reads path)
+cmd-suits (cmd.Touch nanos seconds path) h = at-suits _ (path_reads path)
+cmd-suits (cmd.Strip path) h = at-suits _ (path_reads path)
 cmd-suits (cmd.PinAdd cid) h = pin-suits true (cid_reads cid)
 cmd-suits (cmd.PinRm cid) h = pin-suits false (cid_reads cid)
 cmd-suits cmd.PinLs h = (refl, refl, refl)

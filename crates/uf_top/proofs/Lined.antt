@@ -7,21 +7,21 @@ use Rattle.uf_edge.specs.declared.streams.Sent.{Sent}
 use Rattle.uf_edge.specs.declared.streams.Sent.TheVariants.{Done, Failed}
 use Rattle.uf_lines.specs.LinesIn.{LinesIn, lines_in, with_lines}
 use Rattle.uf_lines.specs.Reading.{lines_told, with_line_told}
-use Rattle.uf_reply.proofs.Asked.{cmd-only}
-use Rattle.uf_reply.specs.Batches.{IsAskedBy, asked_in_batch, is_for_batch, line_asks, line_in}
-use Rattle.uf_reply.specs.Commands.{IsOfWords, asked}
-use Rattle.uf_reply.specs.Natures.{NoStore}
-use Rattle.uf_reply.specs.Statuses.{no_memory}
-use Rattle.uf_reply.specs.declared.status.Status.{Status}
-use Rattle.uf_reply.specs.declared.types.Command.{Command}
-use Rattle.uf_reply.specs.declared.types.Refusal.{Refusal}
-use Rattle.uf_reply.specs.declared.types.Refusal.TheVariants as refusal
+use Rattle.uf_command.proofs.Asked.{cmd-only}
+use Rattle.uf_command.specs.Batches.{IsAskedBy, asked_in_batch, is_for_batch, line_asks, line_in}
+use Rattle.uf_command.specs.Commands.{IsOfWords, asked}
+use Rattle.uf_command.specs.Natures.{NoStore}
+use Rattle.uf_command.specs.Statuses.{no_memory}
+use Rattle.uf_command.specs.declared.status.Status.{Status}
+use Rattle.uf_command.specs.declared.types.Command.{Command}
+use Rattle.uf_command.specs.declared.types.Refusal.{Refusal}
+use Rattle.uf_command.specs.declared.types.Refusal.TheVariants as refusal
 use Rattle.uf_words.specs.Commands.{command_of}
 use Rattle.uf_words.specs.Lines.{line_words}
 use Rattle.uf_words.specs.declared.command.Cmd.{Cmd}
 use Rattle.uf_top.specs.Around.{Around}
 use Rattle.uf_top.specs.Batch.{DoesLine, LineDone, LineGone, LineServed, LinesDone, PrintsCut, PrintsWhole, Said, Scene, ServesLine, SinkSide, ClosesLine}
-use Rattle.uf_reply.specs.Telling.{TellsEnd}
+use Rattle.uf_command.specs.Telling.{TellsEnd}
 use Rattle.uf_top.proofs.Runs.{runs-told}
 use Rattle.uf_top.proofs.Serving.{words-spare}
 

@@ -20,27 +20,28 @@ use Rattle.uf_store.specs.Keeping.{Agrees, KeepsGood}
 use Rattle.uf_store.specs.Lost.{AgreesAfter, IsLossOf}
 use Rattle.uf_store.specs.declared.store.StoreFault.TheVariants.{Memory}
 use Rattle.uf_store.proofs.Keeping.{Holds-kept, KeepsGood-same}
-use Rattle.uf_tree.specs.Heads.{head_text}
-use Rattle.uf_tree.specs.Standing.{Stands}
+use Rattle.uf_cid.specs.declared.cid.Cid.{Cid}
+use Rattle.uf_tree.specs.Standing.{IsHeadNote, Stands}
 use Rattle.uf_tree.specs.Tree.{Tree, Dir, Entries}
 use Rattle.uf_tree.specs.TreePlan.{blocks, entry}
 use Rattle.uf_tree.specs.declared.nodes.Entry.{Entry}
 use Rattle.uf_tree.specs.declared.profile.Profile.{Profile}
 use Rattle.uf_top.specs.Reply.{Reply, init_reply, looked, moved, refused}
-use Rattle.uf_reply.specs.Statuses.{no_memory}
-use Rattle.uf_reply.specs.declared.types.Refusal.{Refusal}
-use Rattle.uf_reply.specs.declared.types.Refusal.TheVariants as refusal
+use Rattle.uf_command.specs.Statuses.{no_memory}
+use Rattle.uf_command.specs.declared.types.Refusal.{Refusal}
+use Rattle.uf_command.specs.declared.types.Refusal.TheVariants as refusal
 use Rattle.uf_top.specs.Causes.{IsMade, RefusesInTree, RefusesOpening}
 use Rattle.uf_top.specs.Losing.{AnswersOver}
 use Rattle.uf_top.specs.Naming.{NamesAfter, StaysNamed}
+use Rattle.uf_top.proofs.Notes.{note-text}
 
 -- ---- what a commit leaves of what is held
 
 -- it holds what was held before
-pub commits-agrees : (m b : Told) (text : List ℕ) (l : List Held) → Commits text m b → Agrees b l → Agrees m l
-commits-agrees m b text l (Idle head same) h = subst (λ u. Agrees u l) same h
-commits-agrees None b text l (Written head same) h = subst (λ u. Agrees u l) same h
-commits-agrees (Some t) b text l (Written head same) h = subst (λ u. Agrees u l) same h
+pub commits-agrees : (m b : Told) (q : Profile) (root : Cid) (l : List Held) → Commits q root m b → Agrees b l → Agrees m l
+commits-agrees m b q root l (Idle head same) h = subst (λ u. Agrees u l) same h
+commits-agrees None b q root l (Written head same) h = subst (λ u. Agrees u l) same h
+commits-agrees (Some t) b q root l (Written head same) h = subst (λ u. Agrees u l) same h
 
 -- so does one that is refused
 pub leaves-agrees : (m b : Told) (l : List Held) → LeavesHead m b → Agrees b l → Agrees m l
@@ -48,22 +49,22 @@ leaves-agrees m b l (Same same) h = subst (λ u. Agrees u l) same h
 leaves-agrees None b l (OnlySynced same) h = subst (λ u. Agrees u l) same h
 leaves-agrees (Some t) b l (OnlySynced same) h = subst (λ u. Agrees u l) same h
 
-commits-after : (a m b : Told) (text : List ℕ) (old l : List Held) → Commits text m b → AgreesAfter a m old l → AgreesAfter a b old l
-commits-after a m b text old l (Idle head same) h = subst (λ u. AgreesAfter a u old l) (sym same) h
-commits-after a None b text old l (Written head same) h = absurd h
-commits-after a (Some t) b text old l (Written head same) h = subst (λ u. AgreesAfter a u old l) (sym same) h
+commits-after : (a m b : Told) (q : Profile) (root : Cid) (old l : List Held) → Commits q root m b → AgreesAfter a m old l → AgreesAfter a b old l
+commits-after a m b q root old l (Idle head same) h = subst (λ u. AgreesAfter a u old l) (sym same) h
+commits-after a None b q root old l (Written head same) h = absurd h
+commits-after a (Some t) b q root old l (Written head same) h = subst (λ u. AgreesAfter a u old l) (sym same) h
 
--- and the Head is its text
-commits-head : (a m b : Told) (text : List ℕ) (old l : List Held) → Commits text m b → AgreesAfter a m old l → head_in b ≡ Some text
-commits-head a m b text old l (Idle head same) h = ap head_in same ∙ head
-commits-head a None b text old l (Written head same) h = absurd h
-commits-head a (Some t) b text old l (Written head same) h = ap head_in same
+-- and the Head names its root
+commits-head : (a m b : Told) (q : Profile) (root : Cid) (old l : List Held) → Commits q root m b → AgreesAfter a m old l → IsHeadNote (head_in b) q root
+commits-head a m b q root old l (Idle head same) h = subst (λ u. IsHeadNote (head_in u) q root) (sym same) head
+commits-head a None b q root old l (Written head same) h = absurd h
+commits-head a (Some t) b q root old l (Written head same) h = subst (λ u. IsHeadNote (head_in u) q root) (sym same) (inl refl)
 
 module _ (X : List ℕ → List ℕ) (N : List ℕ → ℕ) where
   -- what was named stays so where the Head is as before and good blocks are kept
   pub names-kept : (a b : Told) (p : Profile) (es : Entries) → KeepsGood X a b → head_in b ≡ head_in a → StaysNamed X N a b p es → NamesAfter X N a b (blocks X N p (Dir es)) p es
   names-kept a b p es good head named = record {
-    head = head ∙ named.names.head;
+    head = subst (λ n. IsHeadNote n p (entry X N p (Dir es)).cid) (sym head) named.names.head;
     root = record {
       plan = named.names.root.plan;
       after = after-kept X a b (blocks X N p (Dir es)) (are-good X N p (Dir es)) good (record { first = named.names.root.agrees; last = named.last });
@@ -97,8 +98,8 @@ module _ (X : List ℕ → List ℕ) (N : List ℕ → ℕ) where
   named-from a m b p es same named = subst (λ t. StaysNamed X N t b p es) (sym same) named
 
   -- an edit that is committed later is over blocks with which the store agrees before and after it
-  pub named-between : (a m b : Told) (text : List ℕ) (p : Profile) (es : Entries) → Commits text m b → StaysNamed X N a b p es → StaysNamed X N a m p es
-  named-between a m b text p es commits named = record { names = named.names; last = commits-agrees m b text (blocks X N p (Dir es)) commits named.last }
+  pub named-between : (a m b : Told) (q : Profile) (root : Cid) (p : Profile) (es : Entries) → Commits q root m b → StaysNamed X N a b p es → StaysNamed X N a m p es
+  named-between a m b q root p es commits named = record { names = named.names; last = commits-agrees m b q root (blocks X N p (Dir es)) commits named.last }
 
   -- so it is where the commit is refused
   pub named-before : (a m b : Told) (p : Profile) (es : Entries) → LeavesHead m b → StaysNamed X N a b p es → StaysNamed X N a m p es
@@ -164,24 +165,23 @@ module _ (X : List ℕ → List ℕ) (N : List ℕ → ℕ) where
 
     -- ---- an edited tree is committed
 
-    pub became : (m : Told) (text : List ℕ) (new : Mfs) (next : Entries) → Commits text m b → text ≡ head_text new.profile new.root.cid → StandsAfter X N a m (blocks X N p (Dir es)) new p next
+    pub became : (m : Told) (new : Mfs) (next : Entries) → Commits new.profile new.root.cid m b → StandsAfter X N a m (blocks X N p (Dir es)) new p next
         → NamesAfter X N a b (blocks X N p (Dir es)) p next
-    became m text new next commits is h =
+    became m new next commits h =
         let old = blocks X N p (Dir es) in
-        let same : head_text new.profile new.root.cid ≡ head_text p (entry X N p (Dir next)).cid =
-        ap (λ (q : Profile). head_text q new.root.cid) h.profile_is ∙ ap (λ (e : Entry). head_text p e.cid) h.root.plan.is in
+        let names = commits-head a m b new.profile new.root.cid old (blocks X N p (Dir next)) commits h.root.after in
         let plan : IsPlanOf X N p (entry X N p (Dir next)) (Dir next) = record { profile = h.root.plan.profile; tree = h.root.plan.tree; planned = h.root.plan.planned; is = refl } in
         record {
-          head = commits-head a m b text old (blocks X N p (Dir next)) commits h.root.after ∙ ap (λ (x : List ℕ). Some x) (is ∙ same);
-          root = record { plan = plan; after = commits-after a m b text old (blocks X N p (Dir next)) commits h.root.after };
+          head = subst (λ (e : Entry). IsHeadNote (head_in b) p e.cid) h.root.plan.is (subst (λ (q : Profile). IsHeadNote (head_in b) q new.root.cid) h.profile_is names);
+          root = record { plan = plan; after = commits-after a m b new.profile new.root.cid old (blocks X N p (Dir next)) commits h.root.after };
         }
 
-    pub move-over : (m : Told) (w : Result Entries Rule) (new : Mfs) (text given : List ℕ)
-        → GivesOr {B = Unit {0}} (IsLossOf a (blocks X N p (Dir es))) (λ fs done. StandsAfter X N a m (blocks X N p (Dir es)) new p fs) w (Ok tt) → text ≡ [] → Commits given m b → given ≡ head_text new.profile new.root.cid
+    pub move-over : (m : Told) (w : Result Entries Rule) (new : Mfs) (text : List ℕ)
+        → GivesOr {B = Unit {0}} (IsLossOf a (blocks X N p (Dir es))) (λ fs done. StandsAfter X N a m (blocks X N p (Dir es)) new p fs) w (Ok tt) → text ≡ [] → Commits new.profile new.root.cid m b
         → AnswersOver X N a b p es needs (moved X N p es w) (Ok text)
-    move-over m (Err why) new text given h nothing commits is = absurd h
-    move-over m (Ok next) new text given h nothing commits is =
-        inr (record { ends_are = ap (λ (x : List ℕ). Ok x) nothing; stands = became m given new next commits is h })
+    move-over m (Err why) new text h nothing commits = absurd h
+    move-over m (Ok next) new text h nothing commits =
+        inr (record { ends_are = ap (λ (x : List ℕ). Ok x) nothing; stands = became m new next commits h })
 
   -- ---- `init`
 
@@ -199,8 +199,9 @@ module _ (X : List ℕ → List ℕ) (N : List ℕ → ℕ) where
       → IfSome a (λ t. F → G → Inits X N b p t.notes.head (Err f)) → NamesAfter X N a b (blocks X N q (Dir es)) q es → AnswersOver X N a b q es [] (init_reply X N p (Stands q es)) (Err w)
   inits-over F G None b p q es f w is x y names h stands = absurd names.root.agrees
   inits-over F G (Some t) b p q es f w is x y names h stands =
-      unready-over (Some t) b p q es f w (head_text q (entry X N q (Dir es)).cid) is (subst (λ head. Inits X N b p head (Err f)) names.head (h x y)) stands
+      let note = note-text t.notes.head q (entry X N q (Dir es)).cid names.head in
+      unready-over (Some t) b p q es f w note.0 is (subst (λ head. Inits X N b p head (Err f)) note.1 (h x y)) stands
 
   pub not-inited : (F G : Type 0) (a b : Told) (p q : Profile) (es : Entries) (m : Mfs) → F → G → NamesOver X N a q es → IfSome a (λ t. F → G → Inits X N b p t.notes.head (Ok m)) → ⊥
   not-inited F G None b p q es m x y names h = names.root.agrees
-  not-inited F G (Some t) b p q es m x y names h = subst (λ head. Inits X N b p head (Ok m)) names.head (h x y)
+  not-inited F G (Some t) b p q es m x y names h = subst (λ head. Inits X N b p head (Ok m)) (note-text t.notes.head q (entry X N q (Dir es)).cid names.head).1 (h x y)

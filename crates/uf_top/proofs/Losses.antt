@@ -8,19 +8,19 @@ use Rattle.uf_store.specs.declared.store.StoreFault.TheVariants.{Memory}
 use Rattle.uf_tree.specs.Tree.{Dir, Entries}
 use Rattle.uf_tree.specs.TreePlan.{blocks}
 use Rattle.uf_tree.specs.declared.profile.Profile.{Profile}
-use Rattle.uf_reply.specs.Commands.{HasInput}
-use Rattle.uf_reply.specs.Natures.{prints_after}
-use Rattle.uf_reply.specs.Lines.{line_of, said}
+use Rattle.uf_command.specs.Commands.{HasInput}
+use Rattle.uf_command.specs.Natures.{prints_after}
+use Rattle.uf_command.specs.Lines.{line_of, said}
 use Rattle.uf_top.specs.Reply.{Outside, Reply, in_world, reply_to}
-use Rattle.uf_reply.specs.Statuses.{ended, no_memory, status_of}
-use Rattle.uf_reply.specs.declared.status.Status.{Status}
-use Rattle.uf_reply.specs.declared.types.Command.{Command}
-use Rattle.uf_reply.specs.declared.types.Refusal.{Refusal}
-use Rattle.uf_reply.specs.declared.types.Refusal.TheVariants as refusal
+use Rattle.uf_command.specs.Statuses.{ended, no_memory, status_of}
+use Rattle.uf_command.specs.declared.status.Status.{Status}
+use Rattle.uf_command.specs.declared.types.Command.{Command}
+use Rattle.uf_command.specs.declared.types.Refusal.{Refusal}
+use Rattle.uf_command.specs.declared.types.Refusal.TheVariants as refusal
 use Rattle.uf_top.specs.Around.{AllWritten, Around, HasOutside, MetNone}
 use Rattle.uf_top.specs.Bounds.{words_touch}
 use Rattle.uf_top.specs.Causes.{KeepsHead}
-use Rattle.uf_reply.specs.Telling.{TellsEnd, has_details}
+use Rattle.uf_command.specs.Telling.{TellsEnd, has_details}
 use Rattle.uf_top.specs.Losing.{DoesOver, EndsOver, words_need}
 use Rattle.uf_top.specs.Naming.{NamesAfter, StaysNamed, TellsBlocks}
 use Rattle.uf_top.specs.Working.{Serves}

@@ -9,7 +9,6 @@ use Rattle.uf_mfs.specs.Opening.{IsOfMaking}
 use Rattle.uf_mfs.specs.Steps.{tree_fault}
 use Rattle.uf_mfs.specs.Touches.{CountsUp}
 use Rattle.uf_mfs.specs.Standing.{Commits, FindsHead, Inits, LeavesHead, NamesOver, Opens, OpensOver, ReadsHead, Same, SavesThen, StandsOver, TellsAs, head_in}
-use Rattle.uf_mfs.specs.Writes.{IsBadWrittenIn}
 use Rattle.uf_mfs.specs.declared.fault.MfsFault.{MfsFault}
 use Rattle.uf_mfs.specs.declared.mfs.Mfs.{Mfs}
 use Rattle.uf_mfs.proofs.Counting.{counts-then}
@@ -26,14 +25,14 @@ use Rattle.uf_store.proofs.Writing.{SavesOnly-refl}
 use Rattle.uf_tree.specs.Standing.{Standing}
 use Rattle.uf_tree.specs.Tree.{Dir, Entries}
 use Rattle.uf_tree.specs.declared.profile.Profile.{Profile}
-use Rattle.uf_reply.specs.Natures.{ask_writes}
-use Rattle.uf_reply.specs.Kinds.{fault_behind, refusal_fault}
+use Rattle.uf_command.specs.Natures.{ask_writes}
+use Rattle.uf_command.specs.Kinds.{fault_behind, refusal_fault}
 use Rattle.uf_top.specs.Reply.{tree_reply}
-use Rattle.uf_reply.specs.declared.types.Ask.{Ask}
-use Rattle.uf_reply.specs.declared.types.Ask.TheVariants.{Ls, Stat, Edit as Edits}
-use Rattle.uf_reply.specs.declared.types.Command.TheVariants.{Init, At}
-use Rattle.uf_reply.specs.declared.types.Refusal.{Refusal}
-use Rattle.uf_top.specs.Causes.{HeadStays, IsBadIn, RefusesOpening}
+use Rattle.uf_command.specs.declared.types.Ask.{Ask}
+use Rattle.uf_command.specs.declared.types.Ask.TheVariants.{Ls, Stat, Edit as Edits}
+use Rattle.uf_command.specs.declared.types.Command.TheVariants.{Init, At}
+use Rattle.uf_command.specs.declared.types.Refusal.{Refusal}
+use Rattle.uf_top.specs.Causes.{HeadStays, IsBadAsked, IsBadIn, RefusesOpening}
 use Rattle.uf_top.specs.Losing.{AnswersOver, ask_needs}
 use Rattle.uf_top.specs.Shapes.{WritesAs, is_ok}
 use Rattle.uf_top.specs.Working.{Makes, WorksAt}
@@ -80,7 +79,7 @@ module _ (X : List ℕ → List ℕ) (N : List ℕ → ℕ) where
         → ((p : Profile) (es : Entries) → NamesOver X N a.told p es → Stood a.faults m.faults → OpensOver X N a.told p es (Ok mfs))
         → ReadsHead a.told (Ok mfs) → CountsUp None t0 t1 → StaysCalm a m → WorksAt X N mfs ask path r m b t1 t2 → Makes X N (At ask path) r a b left left reads reads t0 t2
     at-opened mfs r b t2 opens lost head up calm works =
-        let rises = shown-rises X (IsBadWrittenIn X N mfs.profile b.told mfs.root.cid) (refusal_fault r) m b works.cause in
+        let rises = shown-rises X (IsBadAsked X N mfs.profile b.told mfs.root.cid) (refusal_fault r) m b works.cause in
         let kinds = opened-of r works.kinds in
         record {
           answers = λ world stands input calm2. let s = world.standing in let bytes = world.input in
@@ -98,7 +97,7 @@ module _ (X : List ℕ → List ℕ) (N : List ℕ → ℕ) where
           adds = tt;
           counts = tree-counts r reads kinds;
           cause = shown-after X (IsBadIn X N a.told b.told) (refusal_fault r) a m b calm
-              (shown-by X (IsBadWrittenIn X N mfs.profile b.told mfs.root.cid) (IsBadIn X N a.told b.told) (refusal_fault r) m b (bad-of-head X N a.told b.told mfs head) works.cause);
+              (shown-by X (IsBadAsked X N mfs.profile b.told mfs.root.cid) (IsBadIn X N a.told b.told) (refusal_fault r) m b (bad-of-head X N a.told b.told mfs head) works.cause);
           touches = λ p es bytes rows named input heights calm2.
               let at = lost p es named.names (stood-front a.faults m.faults b.faults calm.faults rises.faults calm2.faults) in
               let more = works.touches p es rows (subst (λ t. StandsOver X N t mfs p es) (sym told) at) (named-from X N a.told m.told b.told p es told named) heights
@@ -150,10 +149,10 @@ module _ (X : List ℕ → List ℕ) (N : List ℕ → ℕ) where
         }
 
     -- the store is made ready
-    pub is-ready : (mfs : Mfs) (text given : List ℕ) → text ≡ []
+    pub is-ready : (mfs : Mfs) (text : List ℕ) → text ≡ []
         → IfSome a.told (λ t. Stood a.faults b.faults → Stood a.clashes b.clashes → Inits X N b.told p t.notes.head (Ok mfs))
-        → SavesThen X (Commits given) a.told b.told → StaysCalm a b → Makes X N (Init p) (Ok text) a b left left reads reads t0 t1
-    is-ready mfs text given nothing answer writes calm = record {
+        → SavesThen X (Commits mfs.profile mfs.root.cid) a.told b.told → StaysCalm a b → Makes X N (Init p) (Ok text) a b left left reads reads t0 t1
+    is-ready mfs text nothing answer writes calm = record {
       answers = λ world stands input calm2. let s = world.standing in let bytes = world.input in inits-ok X N (Stood a.faults b.faults) (Stood a.clashes b.clashes) s p a.told mfs text b.told calm2.faults calm2.clashes nothing stands answer;
       lost = λ q es heights held bytes named input calm2. absurd (not-inited X N (Stood a.faults b.faults) (Stood a.clashes b.clashes) a.told b.told p q es mfs calm2.faults calm2.clashes named.names answer);
       kinds = tt;
@@ -164,5 +163,5 @@ module _ (X : List ℕ → List ℕ) (N : List ℕ → ℕ) where
       touches = λ q es bytes rows named input heights calm2. tt;
       whole = λ s stands calm2. init-looks (Ok text) tt;
       touched = λ blames. absurd blames;
-      leaves = record { good = good; head = stays-nothing text a.told b.told nothing; writes = (given, writes); idle = λ q es bytes stands calm same. absurd cc };
+      leaves = record { good = good; head = stays-nothing text a.told b.told nothing; writes = (mfs.profile, mfs.root.cid, writes); idle = λ q es bytes stands calm same. absurd cc };
     }

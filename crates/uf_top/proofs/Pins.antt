@@ -34,26 +34,27 @@ use Rattle.uf_store.proofs.Calls.{shown-by}
 use Rattle.uf_store.proofs.Causes.{calm-memory}
 use Rattle.uf_store.proofs.Keeping.{KeepsGood-same}
 use Rattle.uf_store.proofs.Writing.{WritesOnly-noted, WritesOnly-synced, Wrote-good, Wrote-same, Wrote-trans, saves-notes}
+use Rattle.uf_tree.specs.Heads.{head_text}
 use Rattle.uf_tree.specs.Tree.{Entries}
 use Rattle.uf_tree.specs.declared.profile.Profile.{Profile}
 use Rattle.uf_walk.specs.Order.{OrderFault, OverMost, Missing, NotDagPb}
-use Rattle.uf_reply.specs.Cars.{most_blocks}
-use Rattle.uf_reply.specs.Kinds.{OfWrite, fault_behind, may_close, pin_kinds, refusal_kind}
-use Rattle.uf_reply.specs.Natures.{MakesHead, MovesHead, NoWrites, NotesPins, SyncsBlocks, SyncsPins, WriteShape, command_writes, pin_writes}
-use Rattle.uf_reply.specs.Pins.{cid_line, most_pins, pin_refusal, pinning, pins_told}
-use Rattle.uf_reply.specs.Statuses.{ended, no_memory, status_of}
-use Rattle.uf_reply.specs.Telling.{IsCut, Prints}
-use Rattle.uf_reply.specs.declared.status.Status.{Status}
-use Rattle.uf_reply.specs.declared.status.Status.TheVariants as status
-use Rattle.uf_reply.specs.declared.types.Ask.TheVariants.{Ls, Stat, Edit as Edits}
-use Rattle.uf_reply.specs.declared.types.Command.{Command}
-use Rattle.uf_reply.specs.declared.types.Command.TheVariants.{Init, Add, AddFrom, WriteInput, At, Read, Cat, Get, Export, Import, Same, Adopt, Gen, AddTo, AddFromTo, Pin}
-use Rattle.uf_reply.specs.declared.types.DagRule.{DagRule}
-use Rattle.uf_reply.specs.declared.types.DagRule.TheVariants as rule
-use Rattle.uf_reply.specs.declared.types.PinAsk.{PinAsk}
-use Rattle.uf_reply.specs.declared.types.PinAsk.TheVariants as pins
-use Rattle.uf_reply.specs.declared.types.Refusal.{Refusal}
-use Rattle.uf_reply.specs.declared.types.Refusal.TheVariants as refusal
+use Rattle.uf_command.specs.Cars.{most_blocks}
+use Rattle.uf_command.specs.Kinds.{OfWrite, fault_behind, may_close, pin_kinds, refusal_kind}
+use Rattle.uf_command.specs.Natures.{MakesHead, MovesHead, NoWrites, NotesPins, SyncsBlocks, SyncsPins, WriteShape, command_writes, pin_writes}
+use Rattle.uf_command.specs.Pins.{cid_line, most_pins, pin_refusal, pinning, pins_told}
+use Rattle.uf_command.specs.Statuses.{ended, no_memory, status_of}
+use Rattle.uf_command.specs.Telling.{IsCut, Prints}
+use Rattle.uf_command.specs.declared.status.Status.{Status}
+use Rattle.uf_command.specs.declared.status.Status.TheVariants as status
+use Rattle.uf_command.specs.declared.types.Ask.TheVariants.{Ls, Stat, Edit as Edits}
+use Rattle.uf_command.specs.declared.types.Command.{Command}
+use Rattle.uf_command.specs.declared.types.Command.TheVariants.{Init, Add, AddFrom, WriteInput, At, Read, Cat, Get, Export, Import, Same, Adopt, Gen, AddTo, AddFromTo, Pin}
+use Rattle.uf_command.specs.declared.types.DagRule.{DagRule}
+use Rattle.uf_command.specs.declared.types.DagRule.TheVariants as rule
+use Rattle.uf_command.specs.declared.types.PinAsk.{PinAsk}
+use Rattle.uf_command.specs.declared.types.PinAsk.TheVariants as pins
+use Rattle.uf_command.specs.declared.types.Refusal.{Refusal}
+use Rattle.uf_command.specs.declared.types.Refusal.TheVariants as refusal
 use Rattle.uf_top.specs.Answering.{DoesAnswer}
 use Rattle.uf_top.specs.Around.{Around, HostSide, RisesFor, around}
 use Rattle.uf_top.specs.Bounds.{command_touches}
@@ -133,9 +134,9 @@ module _ (X : List ℕ → List ℕ) where
   leaves-pins m b (StaysSame h) = ap pins_in h
   leaves-pins m b (OnlySynced h) = ap pins_in h ∙ sync-pins m
 
-  commits-pins : (text : List ℕ) (m b : Told) → Commits text m b → pins_in b ≡ pins_in m
-  commits-pins text m b (Idle head h) = ap pins_in h
-  commits-pins text m b (Written head h) = ap pins_in h ∙ head-pins text (changed with_sync m) ∙ sync-pins m
+  commits-pins : (p : Profile) (root : Cid) (m b : Told) → Commits p root m b → pins_in b ≡ pins_in m
+  commits-pins p root m b (Idle head h) = ap pins_in h
+  commits-pins p root m b (Written head h) = ap pins_in h ∙ head-pins (head_text p root) (changed with_sync m) ∙ sync-pins m
 
   abbrev IsOther : WriteShape → Type 0
   IsOther NoWrites = ⊤
@@ -149,7 +150,7 @@ module _ (X : List ℕ → List ℕ) where
   left-pins a b h = leaves-pins h.between b h.last ∙ saves-pins a h.between h.saves
 
   after-pins : (a b : Told) → HeadAfter X a b → pins_in b ≡ pins_in a
-  after-pins a b h = commits-pins h.0 h.1.between b h.1.last ∙ saves-pins a h.1.between h.1.saves
+  after-pins a b h = commits-pins h.0 h.1 h.2.between b h.2.last ∙ saves-pins a h.2.between h.2.saves
 
   shape-pins : (shape : WriteShape) (done : Bool) (a b : Told) → IsOther shape → WritesAs X shape done a b → pins_in b ≡ pins_in a
   shape-pins NoWrites done a b other h = ap pins_in h
@@ -240,11 +241,11 @@ same-lists : (noted : Option (List ℕ)) (x y : List Cid) → Lists noted x → 
 same-lists None x y p q = p ∙ sym q
 same-lists (Some text) x y p q = one-list text x y p q
 
-read-same : (noted : Option (List ℕ)) (x : List Cid) (listed : Option (List Cid)) → Lists noted x → IsReadAs noted listed → listed ≡ Some x
+pub read-same : (noted : Option (List ℕ)) (x : List Cid) (listed : Option (List Cid)) → Lists noted x → IsReadAs noted listed → listed ≡ Some x
 read-same noted x None lists read = absurd (bad-lists noted x read lists)
 read-same noted x (Some y) lists read = ap (λ (l : List Cid). Some l) (same-lists noted y x read lists)
 
-read-bad : (noted : Option (List ℕ)) (listed : Option (List Cid)) → IsBadNote noted → IsReadAs noted listed → listed ≡ None
+pub read-bad : (noted : Option (List ℕ)) (listed : Option (List Cid)) → IsBadNote noted → IsReadAs noted listed → listed ≡ None
 read-bad noted None bad read = refl
 read-bad noted (Some y) bad read = absurd (bad-lists noted y bad read)
 

@@ -37,6 +37,7 @@ use Rattle.uf_store.proofs.Calls.{reads-saves, saves-saves, shown-after, shown-b
 use Rattle.uf_store.proofs.Keeping.{KeepsGood-same, KeepsGood-trans}
 use Rattle.uf_store.proofs.Writing.{SavesOnly-refl, SavesOnly-trans}
 use Rattle.uf_tree.specs.HeadReading.{head_reads}
+use Rattle.uf_tree.specs.Metas.{none}
 use Rattle.uf_tree.specs.Names.{is_name}
 use Rattle.uf_tree.specs.Standing.{Standing, NoHead, BadHead, Stands}
 use Rattle.uf_tree.specs.Profiles.{most_bytes}
@@ -44,17 +45,17 @@ use Rattle.uf_tree.specs.Tree.{Tree, File, Dir, Entries, fold}
 use Rattle.uf_tree.specs.TreePlan.{blocks, entry, planned}
 use Rattle.uf_tree.specs.declared.profile.Profile.{Profile}
 use Rattle.uf_varint.specs.Fields.{◌>>=◌}
-use Rattle.uf_reply.specs.Natures.{MovesHead}
-use Rattle.uf_reply.specs.Kinds.{IsOf, OfHost, OfRead, OfReady, place_host_kinds, place_kinds, fault_behind, fault_kind, may_meet, opened_kinds, refusal_fault, refusal_kind}
-use Rattle.uf_reply.specs.Lines.{added_line}
-use Rattle.uf_reply.specs.Statuses.{ended, no_memory, status_of}
-use Rattle.uf_reply.specs.declared.status.Status.TheVariants as status
-use Rattle.uf_reply.specs.declared.types.Command.{Command}
-use Rattle.uf_reply.specs.declared.types.Command.TheVariants.{AddFromTo, AddTo}
-use Rattle.uf_reply.specs.declared.types.HostRule.{HostRule}
-use Rattle.uf_reply.specs.declared.types.HostRule.TheVariants as rules
-use Rattle.uf_reply.specs.declared.types.Refusal.{Refusal}
-use Rattle.uf_reply.specs.declared.types.Refusal.TheVariants as refusal
+use Rattle.uf_command.specs.Natures.{MovesHead}
+use Rattle.uf_command.specs.Kinds.{IsOf, OfHost, OfRead, OfReady, place_host_kinds, place_kinds, fault_behind, fault_kind, may_meet, opened_kinds, refusal_fault, refusal_kind}
+use Rattle.uf_command.specs.Lines.{added_line}
+use Rattle.uf_command.specs.Statuses.{ended, no_memory, status_of}
+use Rattle.uf_command.specs.declared.status.Status.TheVariants as status
+use Rattle.uf_command.specs.declared.types.Command.{Command}
+use Rattle.uf_command.specs.declared.types.Command.TheVariants.{AddFromTo, AddTo}
+use Rattle.uf_command.specs.declared.types.HostRule.{HostRule}
+use Rattle.uf_command.specs.declared.types.HostRule.TheVariants as rules
+use Rattle.uf_command.specs.declared.types.Refusal.{Refusal}
+use Rattle.uf_command.specs.declared.types.Refusal.TheVariants as refusal
 use Rattle.uf_top.specs.Answering.{Answers}
 use Rattle.uf_top.specs.Around.{HostSide, OnlyReadsHost, around}
 use Rattle.uf_top.specs.Causes.{AddsBy, AreLeft, HeadStays, IsBadIn, IsReady, IsReadyBy, IsReason, IsReasonInTree, IsRow, is_read}
@@ -514,7 +515,7 @@ module _ (X : List ℕ → List ℕ) (N : List ℕ → ℕ) (dest : Path) (path 
         put-rows (Err why) is = tt
 
         put-writes : (r : Result (List ℕ) Refusal) → WritesAs X MovesHead (is_ok r) b.told d.told → WritesAs X MovesHead (is_ok r) a.told d.told
-        put-writes (Ok text) w = (w.0, record { between = w.1.between; saves = SavesOnly-trans X a.told b.told w.1.between start.saves w.1.saves; last = w.1.last })
+        put-writes (Ok text) w = (w.0, w.1, record { between = w.2.between; saves = SavesOnly-trans X a.told b.told w.2.between start.saves w.2.saves; last = w.2.last })
         put-writes (Err why) w = record { between = w.between; saves = SavesOnly-trans X a.told b.told w.between start.saves w.saves; last = w.last }
 
         pub is-put-there : Ended done a d t0 t2
@@ -538,7 +539,7 @@ module _ (X : List ℕ → List ℕ) (N : List ℕ → ℕ) (dest : Path) (path 
           kinds = put-kinds done put.kinds;
           rows = put-rows done put.text;
           cause = shown-after X (IsBadIn X N a.told d.told) (refusal_fault done) a b d start.cause
-              (shown-by X (IsBadInTree X N (Some q) found.tree.root.cid) (IsBadIn X N a.told d.told) (refusal_fault done) b d (λ role bytes bad. bad-of-head X N a.told d.told found.tree f.head role bytes (inl bad)) put.cause);
+              (shown-by X (IsBadInTree X N (Some q) found.tree.root.cid) (IsBadIn X N a.told d.told) (refusal_fault done) b d (λ role bytes bad. bad-of-head X N a.told d.told found.tree f.head role bytes (inl (inl bad))) put.cause);
           good = all_good;
           touched = λ blames. let more = put.touched blames in omega (arith, low, more);
           head = kept done put.head;
@@ -617,15 +618,15 @@ host-is-said path None say t h = tt
 host-is-said path (Some tree) say t h = host-ok path (say tree) t h
 
 -- the tree of an input is its file
-file-of : (p : Profile) (bytes : List ℕ) (t : Tree) → Ok t ≡ input_tree p bytes → t ≡ File bytes
+file-of : (p : Profile) (bytes : List ℕ) (t : Tree) → Ok t ≡ input_tree p bytes → t ≡ File none bytes
 file-of p bytes t is = by (nat_le (length bytes) (most_bytes p)) is
   where
-    by : (few : Bool) → Ok t ≡ (if few then Ok (File bytes) else Err (refusal.Rule FileTooLong)) → t ≡ File bytes
+    by : (few : Bool) → Ok t ≡ (if few then Ok (File none bytes) else Err (refusal.Rule FileTooLong)) → t ≡ File none bytes
     by true is = cc
     by false is = absurd cc
 
 module _ (X : List ℕ → List ℕ) (N : List ℕ → ℕ) where
-  row-of : (p : Profile) (bytes : List ℕ) → added_line (entry X N p (File bytes)).cid ≡ added_line (file_cid X p bytes)
+  row-of : (p : Profile) (bytes : List ℕ) → added_line (entry X N p (File none bytes)).cid ≡ added_line (file_cid X p bytes)
   unfolding planned fold
   row-of p bytes = refl
 
@@ -750,7 +751,7 @@ ungiven-kinds path Says (refusal.Store f) host read h = (tree-store path f).kind
 no-host-input : (p : Profile) (bytes : List ℕ) (rule : HostRule) → Err (refusal.Host rule) ≡ input_tree p bytes → ⊥
 no-host-input p bytes rule is = by (nat_le (length bytes) (most_bytes p)) is
   where
-    by : (few : Bool) → Err (refusal.Host rule) ≡ (if few then Ok (File bytes) else Err (refusal.Rule FileTooLong)) → ⊥
+    by : (few : Bool) → Err (refusal.Host rule) ≡ (if few then Ok (File none bytes) else Err (refusal.Rule FileTooLong)) → ⊥
     by true is = cc
     by false is = cc
 

@@ -18,27 +18,27 @@ use Rattle.uf_store.specs.Seen.{Seen}
 use Rattle.uf_tree.specs.Standing.{Standing, NoHead, BadHead, Stands}
 use Rattle.uf_tree.specs.Tree.{Entries}
 use Rattle.uf_tree.specs.declared.profile.Profile.{Profile}
-use Rattle.uf_reply.specs.Natures.{command_writes, needs_standing, uses_host, writes_host}
-use Rattle.uf_reply.specs.Natures as natures
-use Rattle.uf_reply.specs.Kinds.{OfCar, OfDag, OfHost, OfLongInput, OfPath, OfWrite, may_meet, may_close, refusal_kind}
-use Rattle.uf_reply.specs.Natures.{kinds_of}
+use Rattle.uf_command.specs.Natures.{command_writes, needs_standing, uses_host, writes_host}
+use Rattle.uf_command.specs.Natures as natures
+use Rattle.uf_command.specs.Kinds.{OfCar, OfDag, OfHost, OfLongInput, OfPath, OfWrite, may_meet, may_close, refusal_kind}
+use Rattle.uf_command.specs.Natures.{kinds_of}
 use Rattle.uf_top.specs.Reply.{Outside, Reply, World, host_after, outside_of, reply, world_of}
-use Rattle.uf_reply.specs.Statuses.{ended, no_memory, status_of}
-use Rattle.uf_reply.specs.declared.status.Status.{Status}
-use Rattle.uf_reply.specs.declared.status.Status.TheVariants as status
-use Rattle.uf_reply.specs.declared.types.Command.{Command}
-use Rattle.uf_reply.specs.declared.types.Command.TheVariants.{Init, Add, AddFrom, WriteInput, At, Read, Cat, Get, Export, Import, Same, Adopt, Gen, AddTo, AddFromTo, Pin}
-use Rattle.uf_reply.specs.declared.types.PinAsk.{PinAsk}
-use Rattle.uf_reply.specs.declared.types.PinAsk.TheVariants as pins
-use Rattle.uf_reply.specs.declared.types.HostRule.{HostRule}
-use Rattle.uf_reply.specs.declared.types.Refusal.{Refusal}
-use Rattle.uf_reply.specs.declared.types.Refusal.TheVariants as refusal
+use Rattle.uf_command.specs.Statuses.{ended, no_memory, status_of}
+use Rattle.uf_command.specs.declared.status.Status.{Status}
+use Rattle.uf_command.specs.declared.status.Status.TheVariants as status
+use Rattle.uf_command.specs.declared.types.Command.{Command}
+use Rattle.uf_command.specs.declared.types.Command.TheVariants.{Init, Add, AddFrom, WriteInput, At, Read, Cat, Get, Export, Import, Same, Adopt, Gen, AddTo, AddFromTo, Pin}
+use Rattle.uf_command.specs.declared.types.PinAsk.{PinAsk}
+use Rattle.uf_command.specs.declared.types.PinAsk.TheVariants as pins
+use Rattle.uf_command.specs.declared.types.HostRule.{HostRule}
+use Rattle.uf_command.specs.declared.types.Refusal.{Refusal}
+use Rattle.uf_command.specs.declared.types.Refusal.TheVariants as refusal
 use Rattle.uf_store.specs.declared.store.StoreFault.TheVariants as fault
 use Rattle.uf_top.specs.Answering.{Answers, DoesAnswer, LeavesNext}
 use Rattle.uf_top.specs.Around.{CountsCanRise, HasOutside, HostSide, RisesFor, TakesHost, UsesHost, around}
 use Rattle.uf_top.specs.Causes.{HeadStays, KeepsHead, is_read, is_write}
 use Rattle.uf_top.specs.Endings.{AddsFor, EndsBy, IsTextOf, PrintsAt, PrintsElse, PrintsPart, RuleOf}
-use Rattle.uf_reply.specs.Telling.{IsCut, Prints}
+use Rattle.uf_command.specs.Telling.{IsCut, Prints}
 use Rattle.uf_top.specs.Getting.{GetsFor}
 use Rattle.uf_top.specs.Hosted.{IsHostedText}
 use Rattle.uf_top.specs.Pins.{PinsFor}

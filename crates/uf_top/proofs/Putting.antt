@@ -32,10 +32,10 @@ use Rattle.uf_tree.specs.TreePlan.{blocks}
 use Rattle.uf_tree.specs.declared.nodes.Entry.{Entry}
 use Rattle.uf_tree.specs.declared.profile.Profile.{Profile}
 use Rattle.uf_varint.specs.Fields.{◌>>=◌}
-use Rattle.uf_reply.specs.Kinds.{fault_behind}
+use Rattle.uf_command.specs.Kinds.{fault_behind}
 use Rattle.uf_top.specs.Reply.{by_rule, with_plan}
-use Rattle.uf_reply.specs.declared.types.Refusal.{Refusal}
-use Rattle.uf_reply.specs.declared.types.Refusal.TheVariants as refusal
+use Rattle.uf_command.specs.declared.types.Refusal.{Refusal}
+use Rattle.uf_command.specs.declared.types.Refusal.TheVariants as refusal
 use Rattle.uf_top.specs.Causes.{RefusesInTree}
 use Rattle.uf_top.specs.Grafts.{BuildsPlanned, FollowsOr, IsFailingRefusal, IsLostBy, IsOkFor, PutsTree, put_tree}
 use Rattle.uf_top.proofs.Shows.{not-rose, saving-wants}

@@ -1,14 +1,14 @@
 -- From how a command was done to what it did.
 use Rattle.std.proofs.Common.{subst, Result}
 use Rattle.std.specs.Prelude.{ℕ, List, IfErr}
-use Rattle.uf_reply.specs.Commands.{IsOfWords, of_command}
-use Rattle.uf_reply.specs.Natures.{IsOfCommand, NoStore, own_store}
-use Rattle.uf_reply.specs.declared.status.Status.{Status}
-use Rattle.uf_reply.specs.declared.types.Command.{Command}
-use Rattle.uf_reply.specs.declared.types.Refusal.{Refusal}
+use Rattle.uf_command.specs.Commands.{IsOfWords, of_command}
+use Rattle.uf_command.specs.Natures.{IsOfCommand, NoStore, own_store}
+use Rattle.uf_command.specs.declared.status.Status.{Status}
+use Rattle.uf_command.specs.declared.types.Command.{Command}
+use Rattle.uf_command.specs.declared.types.Refusal.{Refusal}
 use Rattle.uf_top.specs.Around.{Around}
 use Rattle.uf_top.specs.Cars.{ByOwnStore}
-use Rattle.uf_reply.specs.Telling.{TellsEnd}
+use Rattle.uf_command.specs.Telling.{TellsEnd}
 use Rattle.uf_top.specs.Running.{Runs}
 use Rattle.uf_top.specs.Working.{Serves}
 use Rattle.uf_top.proofs.Counted.{counted-of}

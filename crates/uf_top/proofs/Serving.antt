@@ -13,19 +13,19 @@ use Rattle.uf_store.specs.declared.store.StoreFault.TheVariants.{Memory}
 use Rattle.uf_store.proofs.Causes.{StaysCalm-refl, calm-memory}
 use Rattle.uf_store.proofs.Keeping.{KeepsGood-refl}
 use Rattle.uf_store.proofs.Writing.{SavesOnly-refl}
-use Rattle.uf_reply.specs.Commands.{IsAsked, IsOfWords}
-use Rattle.uf_reply.specs.Natures.{IsOfCommand, NoStore, OwnStore, command_writes, generates, own_store, reads_tree_alone, streams as flows, uses_host, writes_host, prints_after}
-use Rattle.uf_reply.specs.Kinds.{IsOf, OfOwnClash, OfSections, may_close, refusal_kind, word_kinds}
-use Rattle.uf_reply.specs.Natures.{kinds_of, may_end}
+use Rattle.uf_command.specs.Commands.{IsAsked, IsOfWords}
+use Rattle.uf_command.specs.Natures.{IsOfCommand, NoStore, OwnStore, command_writes, generates, own_store, reads_tree_alone, streams as flows, uses_host, writes_host, prints_after}
+use Rattle.uf_command.specs.Kinds.{IsOf, OfOwnClash, OfSections, may_close, refusal_kind, word_kinds}
+use Rattle.uf_command.specs.Natures.{kinds_of, may_end}
 use Rattle.uf_top.specs.Reply.{reply}
-use Rattle.uf_reply.specs.Statuses.{no_memory}
-use Rattle.uf_reply.specs.declared.types.Ask.TheVariants.{Ls, Stat, Edit as Edits}
-use Rattle.uf_reply.specs.declared.types.Command.{Command}
-use Rattle.uf_reply.specs.declared.types.Command.TheVariants.{Init, Add, AddFrom, WriteInput, At, Read, Cat, Get, Export, Import, Same, Adopt, Gen, AddTo, AddFromTo, Pin}
-use Rattle.uf_reply.specs.declared.types.PinAsk.TheVariants as pins
-use Rattle.uf_reply.specs.declared.types.Refusal.{Refusal}
-use Rattle.uf_reply.specs.declared.types.Refusal.TheVariants as refusal
-use Rattle.uf_reply.specs.declared.status.Status.TheVariants as status
+use Rattle.uf_command.specs.Statuses.{no_memory}
+use Rattle.uf_command.specs.declared.types.Ask.TheVariants.{Ls, Stat, Edit as Edits}
+use Rattle.uf_command.specs.declared.types.Command.{Command}
+use Rattle.uf_command.specs.declared.types.Command.TheVariants.{Init, Add, AddFrom, WriteInput, At, Read, Cat, Get, Export, Import, Same, Adopt, Gen, AddTo, AddFromTo, Pin}
+use Rattle.uf_command.specs.declared.types.PinAsk.TheVariants as pins
+use Rattle.uf_command.specs.declared.types.Refusal.{Refusal}
+use Rattle.uf_command.specs.declared.types.Refusal.TheVariants as refusal
+use Rattle.uf_command.specs.declared.status.Status.TheVariants as status
 use Rattle.uf_top.specs.Around.{Around, RisesFor, TakesHost, is_input_read, is_output_write}
 use Rattle.uf_top.specs.Getting.{GetsFor, LeavesAt}
 use Rattle.uf_top.specs.Pins.{PinsFor}

@@ -46,7 +46,7 @@ use Rattle.uf_store.proofs.Calls.{shown-after, shown-rises, stood-back, stood-fr
 use Rattle.uf_store.proofs.Causes.{StaysCalm-trans, calm-memory, calm-rises}
 use Rattle.uf_store.proofs.Keeping.{KeepsGood-trans}
 use Rattle.uf_tree.specs.FilePlan.{file_plan}
-use Rattle.uf_tree.specs.Heads.{head_text}
+use Rattle.uf_tree.specs.Metas.{none}
 use Rattle.uf_tree.specs.Names.{is_name}
 use Rattle.uf_tree.specs.Profiles.{is_profile, most_bytes}
 use Rattle.uf_tree.specs.Standing.{Standing, NoHead, BadHead, Stands}
@@ -56,13 +56,13 @@ use Rattle.uf_tree.specs.TreePlan as plan
 use Rattle.uf_tree.specs.declared.nodes.Entry.{Entry}
 use Rattle.uf_tree.specs.declared.profile.Profile.{Profile}
 use Rattle.uf_varint.specs.Fields.{◌>>=◌}
-use Rattle.uf_reply.specs.Lines.{added_line}
-use Rattle.uf_reply.specs.Kinds.{OfHost, OfReady, fault_behind, may_meet, refusal_kind}
-use Rattle.uf_reply.specs.Statuses.{no_memory}
-use Rattle.uf_reply.specs.declared.types.Ask.TheVariants.{Ls}
-use Rattle.uf_reply.specs.declared.types.HostRule.TheVariants as rules
-use Rattle.uf_reply.specs.declared.types.Refusal.{Refusal}
-use Rattle.uf_reply.specs.declared.types.Refusal.TheVariants as refusal
+use Rattle.uf_command.specs.Lines.{added_line}
+use Rattle.uf_command.specs.Kinds.{OfHost, OfReady, fault_behind, may_meet, refusal_kind}
+use Rattle.uf_command.specs.Statuses.{no_memory}
+use Rattle.uf_command.specs.declared.types.Ask.TheVariants.{Ls}
+use Rattle.uf_command.specs.declared.types.HostRule.TheVariants as rules
+use Rattle.uf_command.specs.declared.types.Refusal.{Refusal}
+use Rattle.uf_command.specs.declared.types.Refusal.TheVariants as refusal
 use Rattle.uf_top.specs.Causes.{RefusesInTree, RefusesOpening, is_read}
 use Rattle.uf_top.specs.Grafts.{FollowsOr, IsLostBy, IsOkFor}
 use Rattle.uf_top.specs.HostTexts.{host_row, host_text}
@@ -342,14 +342,14 @@ module _ (X : List ℕ → List ℕ) (N : List ℕ → ℕ) (tree new : Mfs) (sp
         }
 
     -- it is committed
-    pub committed : (text : List ℕ) → text ≡ head_text new.profile new.root.cid → Commits text c.told d.told → StaysCalm c d → PutsGiven X N at_spot given (Ok given.text) b d t0 t2
-    committed text text_is commits later = record {
+    pub committed : Commits new.profile new.root.cid c.told d.told → StaysCalm c d → PutsGiven X N at_spot given (Ok given.text) b d t0 t2
+    committed commits later = record {
       puts = λ start. puts-by (Ok given.text) start d (λ t es first plan is2 over.
           let old = blocks X N tree.profile (Dir es) in
           let rises = calm-rises c d later in
           let up-to : IsFolderOver X N tree.profile start c [] tree.root es = record {
             plan = over.plan;
-            stays = record { first = over.stays.first; last = commits-agrees c.told d.told text old commits over.stays.last };
+            stays = record { first = over.stays.first; last = commits-agrees c.told d.told new.profile new.root.cid old commits over.stays.last };
             calm = record {
               faults = stood-front start.faults c.faults d.faults (calm.faults ∙ first.cause.faults) rises.faults over.calm.faults;
               clashes = stood-front start.clashes c.clashes d.clashes (calm.clashes ∙ first.cause.clashes) rises.clashes over.calm.clashes;
@@ -358,14 +358,14 @@ module _ (X : List ℕ → List ℕ) (N : List ℕ → ℕ) (tree new : Mfs) (sp
           let v = ok-value (λ fs. StandsAfter X N start.told c.told old new tree.profile fs) (by_rule (allowed_move X N tree.profile (placed_at spot t es)))
           (gives-ok {B = Unit {0}} (IsLossOf start.told old) (λ fs done. StandsAfter X N start.told c.told old new tree.profile fs) (allowed_move X N tree.profile (placed_at spot t es)) tt (gives (Ok tt) moves t es start first placed_by plan is2 up-to)) in
           ok-for (λ next. NamesAfter X N start.told d.told old tree.profile next) (by_rule (allowed_move X N tree.profile (placed_at spot t es))) v.0 v.1
-          (became X N start.told d.told tree.profile es [] c.told text new v.0 commits text_is v.2));
+          (became X N start.told d.told tree.profile es [] c.told new v.0 commits v.2));
       text = refl;
       kinds = tt;
       cause = StaysCalm-trans b c d calm later;
       good = KeepsGood-trans X b.told c.told d.told good kept;
       touched = λ blames. absurd blames;
       head = tt;
-      writes = (text, record { between = c.told; saves = saves; last = commits });
+      writes = (new.profile, new.root.cid, record { between = c.told; saves = saves; last = commits });
     }
 
 -- ---- what is read
@@ -373,7 +373,7 @@ module _ (X : List ℕ → List ℕ) (N : List ℕ → ℕ) (tree new : Mfs) (sp
 -- the last row of a tree is its own
 pub last-row : (X : List ℕ → List ℕ) (N : List ℕ → ℕ) (p : Profile) (path : List ℕ) (t : Tree) → EndsWith (rows_of X N p path t) (row_with X N p path t)
 unfolding rows_of
-last-row X N p path (File bytes) = record { front = []; are = refl }
+last-row X N p path (File m bytes) = record { front = []; are = refl }
 last-row X N p path (Dir es) = record { front = rows_in X N p path es; are = refl }
 
 module _ (X : List ℕ → List ℕ) (N : List ℕ → ℕ) (p : Profile) where
@@ -417,11 +417,11 @@ module _ (X : List ℕ → List ℕ) (N : List ℕ → ℕ) (p : Profile) where
   host-ungiven host recursive path refusal.Write h = absurd h
   host-ungiven host recursive path (refusal.Store f) h = h
 
-  is-file : (bytes : List ℕ) → IsBytes bytes → IsTrue (is_tree (File bytes))
+  is-file : (bytes : List ℕ) → IsBytes bytes → IsTrue (is_tree (File none bytes))
   unfolding is_tree
   is-file bytes h = bytes-all bytes h
 
-  file-whole : (told : Told) (bytes : List ℕ) → IsBytes bytes → length bytes ≤ most_bytes p → Holds told (file_plan X p bytes).blocks → HasHeldPlan X N p told (File bytes)
+  file-whole : (told : Told) (bytes : List ℕ) → IsBytes bytes → length bytes ≤ most_bytes p → Holds told (file_plan X p none bytes).blocks → HasHeldPlan X N p told (File none bytes)
   unfolding planned fold
   file-whole told bytes are few held = record {
     tree = is-file bytes are;
@@ -429,20 +429,20 @@ module _ (X : List ℕ → List ℕ) (N : List ℕ → ℕ) (p : Profile) where
     held = held;
   }
 
-  file-entry : (bytes : List ℕ) → (file_plan X p bytes).entry ≡ entry X N p (File bytes)
+  file-entry : (bytes : List ℕ) → (file_plan X p none bytes).entry ≡ entry X N p (File none bytes)
   unfolding planned fold
   file-entry bytes = refl
 
-  few-tree : (bytes : List ℕ) → length bytes ≤ most_bytes p → Ok (File bytes) ≡ input_tree p bytes
-  few-tree bytes few = sym (ap (λ (b : Bool). if b then Ok (File bytes) else Err (refusal.Rule FileTooLong)) (le-leb (length bytes) (most_bytes p) few))
+  few-tree : (bytes : List ℕ) → length bytes ≤ most_bytes p → Ok (File none bytes) ≡ input_tree p bytes
+  few-tree bytes few = sym (ap (λ (b : Bool). if b then Ok (File none bytes) else Err (refusal.Rule FileTooLong)) (le-leb (length bytes) (most_bytes p) few))
 
   many-tree : (bytes : List ℕ) → most_bytes p < length bytes → Err (refusal.Rule FileTooLong) ≡ input_tree p bytes
-  many-tree bytes many = sym (ap (λ (b : Bool). if b then Ok (File bytes) else Err (refusal.Rule FileTooLong)) (lt-leb (length bytes) (most_bytes p) many))
+  many-tree bytes many = sym (ap (λ (b : Bool). if b then Ok (File none bytes) else Err (refusal.Rule FileTooLong)) (lt-leb (length bytes) (most_bytes p) many))
 
   pub file-given : (told : Told) (left left_now : streams.Told) (e : Entry) (given : Given) → IsWholeFile X p told e left left_now → given.entry ≡ e → given.text ≡ added_line e.cid
       → IsGiven X N p told (SaysInput p left) (input_row X N p) given
   file-given told left left_now e given h entry_is text_is = record {
-    tree = File h.bytes;
+    tree = File none h.bytes;
     said = record { bytes = h.bytes; are_left = left_are h.bytes left left_now h.taken h.nothing_left; is = few-tree h.bytes h.few };
     plan = file-whole told h.bytes h.are_bytes h.few h.held;
     entry_is = entry_is ∙ h.is ∙ file-entry h.bytes;

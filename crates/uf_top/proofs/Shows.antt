@@ -10,7 +10,6 @@ use Rattle.uf_mfs.specs.declared.mfs.Mfs.{Mfs}
 use Rattle.uf_tree.specs.declared.profile.Head.{Head}
 use Rattle.uf_mfs.specs.Steps.{tree_fault}
 use Rattle.uf_mfs.specs.Touches.{CountsUp, IsBlaming}
-use Rattle.uf_mfs.specs.Writes.{IsBadWrittenIn}
 use Rattle.uf_mfs.proofs.Judging.{tree-more}
 use Rattle.uf_mfs.specs.declared.fault.MfsFault.{MfsFault}
 use Rattle.uf_mfs.specs.declared.fault.MfsFault.TheVariants as mfs
@@ -24,12 +23,12 @@ use Rattle.uf_store.specs.declared.store.StoreFault.TheVariants.{Failed, Damaged
 use Rattle.uf_store.proofs.Calls.{shown-by}
 use Rattle.uf_store.proofs.Causes.{calm-memory}
 use Rattle.uf_tree.specs.declared.profile.Profile.{Profile}
-use Rattle.uf_reply.specs.Kinds.{add_kinds, IsOf, fault_behind, may_meet, refusal_fault}
-use Rattle.uf_reply.specs.Statuses.{status_of}
-use Rattle.uf_reply.specs.declared.status.Status.TheVariants as status
-use Rattle.uf_reply.specs.declared.types.Refusal.{Refusal}
-use Rattle.uf_reply.specs.declared.types.Refusal.TheVariants as refusal
-use Rattle.uf_top.specs.Causes.{IsBadIn, IsMade, IsOpeningFault, IsTreeFault, OnlyWants, RefusesInTree, RefusesOpening}
+use Rattle.uf_command.specs.Kinds.{add_kinds, IsOf, fault_behind, may_meet, refusal_fault}
+use Rattle.uf_command.specs.Statuses.{status_of}
+use Rattle.uf_command.specs.declared.status.Status.TheVariants as status
+use Rattle.uf_command.specs.declared.types.Refusal.{Refusal}
+use Rattle.uf_command.specs.declared.types.Refusal.TheVariants as refusal
+use Rattle.uf_top.specs.Causes.{IsBadAsked, IsBadIn, IsMade, IsOpeningFault, IsTreeFault, OnlyWants, RefusesInTree, RefusesOpening}
 use Rattle.uf_top.specs.Intake.{ShownIn}
 
 -- a count that stands
@@ -80,7 +79,7 @@ head_of tree = record { profile = tree.profile; root = tree.root.cid }
 pub bad-of-none : (X : List ℕ → List ℕ) (N : List ℕ → ℕ) (told now : Told) (role : Role) (bytes : List ℕ) → IsBadInHead X N told role bytes → IsBadIn X N told now role bytes
 bad-of-none X N told now role bytes h = inl h
 
-pub bad-of-head : (X : List ℕ → List ℕ) (N : List ℕ → ℕ) (told now : Told) (tree : Mfs) → ReadsHead told (Ok tree) → (role : Role) (bytes : List ℕ) → IsBadWrittenIn X N tree.profile now tree.root.cid role bytes → IsBadIn X N told now role bytes
+pub bad-of-head : (X : List ℕ → List ℕ) (N : List ℕ → ℕ) (told now : Told) (tree : Mfs) → ReadsHead told (Ok tree) → (role : Role) (bytes : List ℕ) → IsBadAsked X N tree.profile now tree.root.cid role bytes → IsBadIn X N told now role bytes
 bad-of-head X N told now tree is role bytes h = inr (inr (head_of tree, is, h))
 
 -- with no count risen, a fault that saves alone can have is want of memory
@@ -114,8 +113,8 @@ wants-shown hash (Err refusal.Write) a b w h = h
 wants-shown hash (Err (refusal.Store f)) a b w h = subst (λ f. Shows hash NoneIsBad f a b) (sym w) (calm-memory a b h)
 
 -- what is bad on a way in a tree is so where a file of it is edited
-pub bad-way : (X : List ℕ → List ℕ) (N : List ℕ → ℕ) (p : Profile) (now : Told) (root : Cid) (role : Role) (bytes : List ℕ) → IsBadInTree X N None root role bytes → IsBadWrittenIn X N p now root role bytes
-bad-way X N p now root role bytes bad = inl (tree-more X N p root role bytes bad)
+pub bad-way : (X : List ℕ → List ℕ) (N : List ℕ → ℕ) (p : Profile) (now : Told) (root : Cid) (role : Role) (bytes : List ℕ) → IsBadInTree X N None root role bytes → IsBadAsked X N p now root role bytes
+bad-way X N p now root role bytes bad = inl (inl (tree-more X N p root role bytes bad))
 
 -- a text that was made, or want of memory, after which the store is as calm as before
 pub made-shown : (M : Type 0) (hash : List ℕ → List ℕ) (P : Role → List ℕ → Type 0) (text : Result (List ℕ) M) (r : Result (List ℕ) Refusal) (a b : Seen) → IsMade text r → StaysCalm a b → Shown hash P (refusal_fault r) a b

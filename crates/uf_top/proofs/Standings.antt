@@ -10,18 +10,17 @@ use Rattle.uf_store.specs.Keeping.{AreGood, Holds, KeepsGood}
 use Rattle.uf_store.proofs.Keeping.{Holds-kept, KeepsGood-refl}
 use Rattle.uf_tree.specs.DirPlan.{basic_dir, is_sharded, own_plan}
 use Rattle.uf_tree.specs.HeadReading.{head_reads}
-use Rattle.uf_tree.specs.Heads.{head_text}
 use Rattle.uf_tree.specs.Nodes.{Named}
 use Rattle.uf_tree.specs.ShardPlan.{shard}
-use Rattle.uf_tree.specs.Standing.{Standing, NoHead, BadHead, Stands, IsBadHead}
-use Rattle.uf_tree.specs.Tree.{Dir, Entries}
+use Rattle.uf_tree.specs.Standing.{IsHeadNote, Standing, NoHead, BadHead, Stands, IsBadHead}
+use Rattle.uf_tree.specs.Tree.{Dir, Entries, own_meta}
 use Rattle.uf_tree.specs.TreePlan.{blocks, entry, named_entries}
 use Rattle.uf_tree.specs.Validity.{IsHash}
 use Rattle.uf_tree.specs.declared.head_fault.HeadFault.{HeadFault}
+use Rattle.uf_tree.specs.declared.meta.Meta.{Meta}
 use Rattle.uf_tree.specs.declared.nodes.Entry.{Entry}
 use Rattle.uf_tree.specs.declared.profile.Head.{Head}
 use Rattle.uf_tree.specs.declared.profile.Profile.{Profile}
-use Rattle.uf_tree.proofs.HeadAgain.{head_again}
 use Rattle.uf_tree.proofs.HeadIs.{head_is}
 use Rattle.uf_tree.proofs.TreeLaws.{entry-dir}
 use Rattle.uf_tree.proofs.Valid.{entry-valid}
@@ -29,6 +28,7 @@ use Rattle.uf_laws.proofs.Held.{tree-digested}
 use Rattle.uf_unique.proofs.Heads.{one_standing}
 use Rattle.uf_mfs.specs.Standing.{LeavesHead, NamesOver, Same, OnlySynced, TellsAs, TellsHeld, head_in}
 use Rattle.uf_top.specs.Causes.{HeadSays, IsProfileOf, IsUnread}
+use Rattle.uf_top.proofs.Notes.{note-reads, note-there}
 
 flip : (X : List ℕ → List ℕ) (l : List Held) → AllByRecursion (λ (b : Held). b.0.digest ≡ X b.1) l → AreGood X l
 flip X [] h = tt
@@ -63,7 +63,7 @@ module _ (X : List ℕ → List ℕ) (N : List ℕ → ℕ) where
     profile = t.profile;
     tree = t.tree;
     planned = t.planned;
-    head_is = h ∙ t.head_is;
+    head_is = subst (λ n. IsHeadNote n p (entry X N p (Dir es)).cid) (sym h) t.head_is;
     blocks_held = Holds-kept X (Some a) (Some b) (blocks X N p (Dir es)) (flip X _ (tree-digested X N p (Dir es))) k t.blocks_held;
   }
 
@@ -80,21 +80,21 @@ module _ (X : List ℕ → List ℕ) (N : List ℕ → ℕ) where
 
   -- ---- what the Head says of what stands
 
-  shard-codec : (left : ℕ) (l : List Named) → (shard X N left l).entry.cid.codec ≡ DagPb
+  shard-codec : (left : ℕ) (m : Meta) (l : List Named) → (shard X N left m l).entry.cid.codec ≡ DagPb
   unfolding shard
-  shard-codec ℕ.zero l = refl
-  shard-codec (ℕ.suc left) l = refl
+  shard-codec ℕ.zero m l = refl
+  shard-codec (ℕ.suc left) m l = refl
 
-  own-codec : (p : Profile) (l : List Named) → (own_plan X N p l).entry.cid.codec ≡ DagPb
-  own-codec p l = elim (is_sharded p l) as (λ b. (cond b (shard X N 7 l) (basic_dir X N l)).entry.cid.codec ≡ DagPb) [ true ↦ shard-codec 7 l | false ↦ refl ]
+  own-codec : (p : Profile) (m : Meta) (l : List Named) → (own_plan X N p m l).entry.cid.codec ≡ DagPb
+  own-codec p m l = elim (is_sharded p l) as (λ b. (cond b (shard X N 7 m l) (basic_dir X N m l)).entry.cid.codec ≡ DagPb) [ true ↦ shard-codec 7 m l | false ↦ refl ]
 
   dir-codec : (p : Profile) (es : Entries) → (entry X N p (Dir es)).cid.codec ≡ DagPb
-  dir-codec p es = ap (λ (e : Entry). e.cid.codec) (entry-dir X N p es) ∙ own-codec p (named_entries X N p es)
+  dir-codec p es = ap (λ (e : Entry). e.cid.codec) (entry-dir X N p es) ∙ own-codec p (own_meta es) (named_entries X N p es)
 
   -- the Head of a tree is read
-  stands-reads : (good : IsHash X) (t : Contents) (p : Profile) (es : Entries) → TellsAs X N (Some t) (Stands p es)
-      → (t.notes.head ≡ Some (head_text p (entry X N p (Dir es)).cid)) × (head_reads (head_text p (entry X N p (Dir es)).cid) ≡ Ok (record { profile = p; root = (entry X N p (Dir es)).cid }))
-  stands-reads good t p es s = (s.head_is, head_again p _ s.profile (entry-valid X good N p s.profile (Dir es)).cid (dir-codec p es))
+  pub stands-reads : (good : IsHash X) (t : Contents) (p : Profile) (es : Entries) → TellsAs X N (Some t) (Stands p es)
+      → (text : List ℕ) × (t.notes.head ≡ Some text) × (head_reads text ≡ Ok (record { profile = p; root = (entry X N p (Dir es)).cid }))
+  stands-reads good t p es s = note-reads t.notes.head p (entry X N p (Dir es)).cid s.profile (entry-valid X good N p s.profile (Dir es)).cid (dir-codec p es) s.head_is
 
   profile_in : Profile → Result Head HeadFault → Profile
   profile_in p (Ok head) = head.profile
@@ -130,40 +130,43 @@ module _ (X : List ℕ → List ℕ) (N : List ℕ → ℕ) where
   standing-none None s t h = absurd t
   standing-none (Some c) NoHead t h = refl
   standing-none (Some c) BadHead t h = absurd (not-bad c.notes.head t h)
-  standing-none (Some c) (Stands p es) t h = (let e = t.head_is in absurd cc)
+  standing-none (Some c) (Stands p es) t h = absurd (note-there c.notes.head p (entry X N p (Dir es)).cid t.head_is h)
 
   -- the Head isn't read
   pub standing-bad : IsHash X → (told : Told) (s : Standing) → TellsAs X N told s → IfSome told (λ t. IsUnread t.notes.head) → s ≡ BadHead
   standing-bad good None s t h = absurd t
   standing-bad good (Some c) NoHead t h = absurd (none-read c.notes.head t h)
   standing-bad good (Some c) BadHead t h = refl
-  standing-bad good (Some c) (Stands p es) t h = (let r = stands-reads good c p es t in absurd (unread c.notes.head _ p _ r.0 r.1 h))
+  standing-bad good (Some c) (Stands p es) t h = (let r = stands-reads good c p es t in absurd (unread c.notes.head r.0 p _ r.1 r.2 h))
 
   -- the Head says a profile
   pub standing-says : IsHash X → (told : Told) (s : Standing) (p : Profile) → TellsAs X N told s → IsProfileOf told p → (es : Entries) × (s ≡ Stands p es)
   standing-says good None s p t h = absurd t
   standing-says good (Some c) NoHead p t h = absurd (not-none c.notes.head p t h)
   standing-says good (Some c) BadHead p t h = absurd (bad-says c.notes.head p t h)
-  standing-says good (Some c) (Stands q es) p t h = (let r = stands-reads good c q es t in (es, ap (λ (x : Profile). Stands x es) (says c.notes.head _ q p _ r.0 r.1 h)))
+  standing-says good (Some c) (Stands q es) p t h = (let r = stands-reads good c q es t in (es, ap (λ (x : Profile). Stands x es) (says c.notes.head r.0 q p _ r.1 r.2 h)))
 
   -- ---- what the Head says of a tree of whose blocks some may be lost
 
-  names-reads : IsHash X → (t : Contents) (p : Profile) (es : Entries) → NamesOver X N (Some t) p es → head_reads (head_text p (entry X N p (Dir es)).cid) ≡ Ok (record { profile = p; root = (entry X N p (Dir es)).cid })
-  names-reads good t p es names = (let ok = names.root.plan.profile in head_again p _ ok (entry-valid X good N p ok (Dir es)).cid (dir-codec p es))
+  names-reads : IsHash X → (t : Contents) (p : Profile) (es : Entries) → NamesOver X N (Some t) p es
+      → (text : List ℕ) × (t.notes.head ≡ Some text) × (head_reads text ≡ Ok (record { profile = p; root = (entry X N p (Dir es)).cid }))
+  names-reads good t p es names =
+      let ok = names.root.plan.profile in
+      note-reads t.notes.head p (entry X N p (Dir es)).cid ok (entry-valid X good N p ok (Dir es)).cid (dir-codec p es) names.head
 
   -- no profile but its own
   pub names-says : IsHash X → (told : Told) (p q : Profile) (es : Entries) → NamesOver X N told p es → IsProfileOf told q → p ≡ q
   names-says good None p q es names h = absurd names.root.agrees
-  names-says good (Some t) p q es names h = says t.notes.head _ p q _ names.head (names-reads good t p es names) h
+  names-says good (Some t) p q es names h = (let r = names-reads good t p es names in says t.notes.head r.0 p q _ r.1 r.2 h)
 
   -- it is there, and read
   pub names-read : IsHash X → (told : Told) (p : Profile) (es : Entries) → NamesOver X N told p es → IfSome told (λ t. IsUnread t.notes.head) → ⊥
   names-read good None p es names h = names.root.agrees
-  names-read good (Some t) p es names h = unread t.notes.head _ p _ names.head (names-reads good t p es names) h
+  names-read good (Some t) p es names h = (let r = names-reads good t p es names in unread t.notes.head r.0 p _ r.1 r.2 h)
 
   pub names-there : (told : Told) (p : Profile) (es : Entries) → NamesOver X N told p es → IfSome told (λ t. t.notes.head ≡ None) → ⊥
   names-there None p es names h = names.root.agrees
-  names-there (Some t) p es names h = (let e = sym names.head ∙ h in cc)
+  names-there (Some t) p es names h = note-there t.notes.head p (entry X N p (Dir es)).cid names.head h
 
 -- what is told stands for one tree at most
 pub stands-one : (X : List ℕ → List ℕ) (N : List ℕ → ℕ) → IsHash X → ((name : List ℕ) → N name < 2 ^ 64) → (told : Told) (s r : Standing) → TellsAs X N told s → TellsAs X N told r → s ≡ r

@@ -12,14 +12,17 @@ use Rattle.uf_store.specs.declared.store.Note.TheVariants.{Head, Pins}
 use Rattle.uf_store.specs.declared.store.Write.{Write}
 use Rattle.uf_store.specs.declared.store.Write.TheVariants.{Synced, Noted}
 use Rattle.uf_store.proofs.Writing.{SavesOnly-refl, fold-append, saves-notes}
+use Rattle.uf_cid.specs.declared.cid.Cid.{Cid}
+use Rattle.uf_tree.specs.Heads.{head_text}
 use Rattle.uf_tree.specs.Standing.{Standing, NoHead, BadHead, Stands}
 use Rattle.uf_tree.specs.Tree.{Entries}
 use Rattle.uf_tree.specs.Validity.{IsHash}
 use Rattle.uf_tree.specs.declared.profile.Profile.{Profile}
 use Rattle.uf_unique.proofs.Heads.{one_standing}
-use Rattle.uf_reply.specs.Natures.{WriteShape, MakesHead, MovesHead, NoWrites, NotesPins, SyncsBlocks, SyncsPins, command_writes}
-use Rattle.uf_reply.specs.declared.types.Command.{Command}
-use Rattle.uf_reply.specs.declared.types.Refusal.{Refusal}
+use Rattle.uf_command.specs.Natures.{WriteShape, MakesHead, MovesHead, NoWrites, NotesPins, SyncsBlocks, SyncsPins, command_writes}
+use Rattle.uf_command.specs.declared.types.Command.{Command}
+use Rattle.uf_command.specs.declared.types.Refusal.{Refusal}
+use Rattle.uf_top.proofs.Notes.{note-there}
 use Rattle.uf_top.specs.Outcomes.{EachOutcome, EachStop, IsSafeFor, LeavesEither, LeavesNoneOr, LeavesTree}
 use Rattle.uf_top.specs.Shapes.{HeadAfter, SyncsAfter, WritesAs, WritesFor}
 use Rattle.uf_top.proofs.Firm.{IsFirm, firm-leaves, firm-of, firm-pinned, plain-pinned, firm-safe, firm-saved, firm-stands, firm-synced, holds-part, noted-firm, plain-noted, plain-saves, plain-synced, safe-firm, saves-append, stops-none, stops-one, stops-saves, stops-then, synced-firm}
@@ -101,30 +104,32 @@ module _ (X : List ℕ → List ℕ) where
 
       -- the store was made ready, and no stop takes that away
       pub init-safe : (a b : Contents) → IsPlain a → a.notes.head ≡ None → HeadAfter X (Some a) (Some b) → LeavesTree X N p es b.held b.notes → IsSafeFor X N b p es
-      init-safe a b plain none written stands = by written.1.between written.1.saves written.1.last
+      init-safe a b plain none written stands = by written.2.between written.2.saves written.2.last
         where
-          by : (between : Told) → SavesOnly X (Some a) between → Commits written.0 between (Some b) → IsSafeFor X N b p es
+          by : (between : Told) → SavesOnly X (Some a) between → Commits written.0 written.1 between (Some b) → IsSafeFor X N b p es
           by None saves last = absurd saves
-          by (Some m) saves (Idle head same) = absurd (let k : None ≡ Some written.0 = sym (ap (λ (n : Notes). n.head) (saves-notes X a m saves) ∙ none) ∙ head in cc)
+          by (Some m) saves (Idle head same) = absurd (note-there m.notes.head written.0 written.1 head (ap (λ (n : Notes). n.head) (saves-notes X a m saves) ∙ none))
           by (Some m) saves (Written head same) =
-              let is : b ≡ noted written.0 m = told-is b (noted written.0 m) same in
-              let plain_n = plain-noted X (with_sync m) written.0 (plain-synced X m (plain-saves X a m plain saves)) in
+              let text = head_text written.0 written.1 in
+              let is : b ≡ noted text m = told-is b (noted text m) same in
+              let plain_n = plain-noted X (with_sync m) text (plain-synced X m (plain-saves X a m plain saves)) in
               subst (λ (t : Contents). IsSafeFor X N t p es) (sym is)
-              (firm-safe X N p es (noted written.0 m) plain_n (noted-firm-too a m plain none saves written.0 (subst (λ (t : Contents). LeavesTree X N p es t.held t.notes) is stands)))
+              (firm-safe X N p es (noted text m) plain_n (noted-firm-too a m plain none saves text (subst (λ (t : Contents). LeavesTree X N p es t.held t.notes) is stands)))
 
       pub init-stops : (done : Bool) (a b : Contents) → IsPlain a → a.notes.head ≡ None → WritesAs X MakesHead done (Some a) (Some b) → LeavesNoneOr X N p es b.held b.notes → EachStop (LeavesNoneOr X N p es) a b
-      init-stops true a b plain none written now = by written.1.between written.1.saves written.1.last
+      init-stops true a b plain none written now = by written.2.between written.2.saves written.2.last
         where
           is-tree : (text : List ℕ) (m : Contents) → b ≡ noted text m → LeavesNoneOr X N p es b.held b.notes → LeavesTree X N p es m.held (noted text m).notes
           is-tree text m is (inl gone) = absurd (let k : Some text ≡ None = ap (λ (t : Contents). t.notes.head) (sym is) ∙ gone in cc)
           is-tree text m is (inr stands) = subst (λ (t : Contents). LeavesTree X N p es t.held t.notes) is stands
 
-          by : (between : Told) → SavesOnly X (Some a) between → Commits written.0 between (Some b) → EachStop (LeavesNoneOr X N p es) a b
+          by : (between : Told) → SavesOnly X (Some a) between → Commits written.0 written.1 between (Some b) → EachStop (LeavesNoneOr X N p es) a b
           by None saves last = absurd saves
-          by (Some m) saves (Idle head same) = absurd (let k : None ≡ Some written.0 = sym (ap (λ (n : Notes). n.head) (saves-notes X a m saves) ∙ none) ∙ head in cc)
+          by (Some m) saves (Idle head same) = absurd (note-there m.notes.head written.0 written.1 head (ap (λ (n : Notes). n.head) (saves-notes X a m saves) ∙ none))
           by (Some m) saves (Written head same) =
-              let is : b ≡ noted written.0 m = told-is b (noted written.0 m) same in
-              subst (EachStop (LeavesNoneOr X N p es) a) (sym is) (noted-none a m plain none saves written.0 (is-tree written.0 m is now))
+              let text = head_text written.0 written.1 in
+              let is : b ≡ noted text m = told-is b (noted text m) same in
+              subst (EachStop (LeavesNoneOr X N p es) a) (sym is) (noted-none a m plain none saves text (is-tree text m is now))
       init-stops false a b plain none written now = by written.between written.saves written.last
         where
           by : (between : Told) → SavesOnly X (Some a) between → LeavesHead between (Some b) → EachStop (LeavesNoneOr X N p es) a b
@@ -217,15 +222,17 @@ module _ (X : List ℕ → List ℕ) where
       syncs-ends b written next = leaves-ends b (record { between = written.between; saves = written.saves; last = OnlySynced written.last }) next
 
       head-ends : (b : Contents) → HeadAfter X (Some a) (Some b) → IsNext b → EndsWell b
-      head-ends b written next = by written.1.between written.1.saves written.1.last
+      head-ends b written next = by written.2.between written.2.saves written.2.last
         where
-          by : (between : Told) → SavesOnly X (Some a) between → Commits written.0 between (Some b) → EndsWell b
+          by : (between : Told) → SavesOnly X (Some a) between → Commits written.0 written.1 between (Some b) → EndsWell b
           by None saves last = absurd saves
           by (Some m) saves (Idle head same) = along b m (told-is b m same) next (saved-ends m saves)
-          by (Some m) saves (Written head same) = along b (noted written.0 m) (told-is b (noted written.0 m) same) next (noted-ends m saves written.0)
+          by (Some m) saves (Written head same) =
+              let text = head_text written.0 written.1 in
+              along b (noted text m) (told-is b (noted text m) same) next (noted-ends m saves text)
 
-      pub commit-ends : (text : List ℕ) (b : Contents) → Commits text (Some a) (Some b) → IsNext b → EndsWell b
-      commit-ends text b commits next = head-ends b (text, record { between = Some a; saves = SavesOnly-refl X (Some a); last = commits }) next
+      pub commit-ends : (r : Profile) (root : Cid) (b : Contents) → Commits r root (Some a) (Some b) → IsNext b → EndsWell b
+      commit-ends r root b commits next = head-ends b (r, root, record { between = Some a; saves = SavesOnly-refl X (Some a); last = commits }) next
 
       -- a note of pins that is written changes no tree
       none-saved-yet : Appends X IsSave a a

@@ -8,10 +8,10 @@ use Rattle.uf_mfs.specs.Standing.{head_in}
 use Rattle.uf_pull.specs.Pulling.{IsSaveOrSync}
 use Rattle.uf_pull.specs.declared.fault.PullFault.TheVariants as pull
 use Rattle.uf_pull.specs.declared.fault.ServeFault.TheVariants as serve
-use Rattle.uf_reply.specs.Statuses.{no_memory}
-use Rattle.uf_reply.specs.Telling.{TellsEnd}
-use Rattle.uf_reply.specs.declared.status.Status.{Status}
-use Rattle.uf_reply.specs.declared.types.Refusal.{Refusal}
+use Rattle.uf_command.specs.Statuses.{no_memory}
+use Rattle.uf_command.specs.Telling.{TellsEnd}
+use Rattle.uf_command.specs.declared.status.Status.{Status}
+use Rattle.uf_command.specs.declared.types.Refusal.{Refusal}
 use Rattle.uf_store.specs.Contents.{Notes, notes_after}
 use Rattle.uf_store.specs.Contents as contents
 use Rattle.uf_store.specs.Writing.{Wrote}

@@ -3,13 +3,13 @@ use Rattle.std.proofs.Common.{◌≡◌, ◌⊎◌, ℕ, List, [], refl, ap, sub
 use Rattle.std.specs.Prelude.{IfSome}
 use Rattle.uf_edge.specs.Streams.{Told}
 use Rattle.uf_lines.specs.LinesIn.{lines_in}
-use Rattle.uf_reply.specs.Statuses.{no_memory}
-use Rattle.uf_reply.specs.declared.status.Status.{Status}
-use Rattle.uf_reply.specs.declared.types.Refusal.{Refusal}
+use Rattle.uf_command.specs.Statuses.{no_memory}
+use Rattle.uf_command.specs.declared.status.Status.{Status}
+use Rattle.uf_command.specs.declared.types.Refusal.{Refusal}
 use Rattle.uf_store.specs.Seen.{Seen}
 use Rattle.uf_top.specs.Around.{Around, HostSide, around}
 use Rattle.uf_top.specs.Batch.{AreOf, Batches, ByMemory, scene}
-use Rattle.uf_reply.specs.Telling.{IsSent, TellsEnd, TellsWhy}
+use Rattle.uf_command.specs.Telling.{IsSent, TellsEnd, TellsWhy}
 use Rattle.uf_top.specs.Working.{IsIdle}
 
 some-of : (X : List ℕ → List ℕ) (N : List ℕ → ℕ) (most limit : ℕ) (left : Told) → IfSome left (λ bytes. AreOf X N ByMemory [] (lines_in most limit bytes))

@@ -25,14 +25,14 @@ use Rattle.uf_tree.specs.Standing.{Standing, NoHead, BadHead, Stands}
 use Rattle.uf_tree.specs.Tree.{Dir, Entries}
 use Rattle.uf_tree.specs.TreePlan.{blocks}
 use Rattle.uf_tree.specs.declared.profile.Profile.{Profile}
-use Rattle.uf_reply.specs.Commands.{HasInput, has_nothing_to_do}
-use Rattle.uf_reply.specs.Kinds.{IsOf, write_input_kinds, tree_kinds, fault_behind, fault_kind, may_meet, refusal_kind}
+use Rattle.uf_command.specs.Commands.{HasInput, has_nothing_to_do}
+use Rattle.uf_command.specs.Kinds.{IsOf, write_input_kinds, tree_kinds, fault_behind, fault_kind, may_meet, refusal_kind}
 use Rattle.uf_top.specs.Reply.{Reply, in_tree, input_reply, most_input, tree_reply, unchanged}
-use Rattle.uf_reply.specs.declared.types.Ask.TheVariants.{Edit as Edits}
-use Rattle.uf_reply.specs.declared.types.Command.TheVariants.{WriteInput, At}
-use Rattle.uf_reply.specs.declared.types.Edit.TheVariants.{Write}
-use Rattle.uf_reply.specs.declared.types.Refusal.{Refusal}
-use Rattle.uf_reply.specs.declared.types.Refusal.TheVariants as refusal
+use Rattle.uf_command.specs.declared.types.Ask.TheVariants.{Edit as Edits}
+use Rattle.uf_command.specs.declared.types.Command.TheVariants.{WriteInput, At}
+use Rattle.uf_command.specs.declared.types.Edit.TheVariants.{Write}
+use Rattle.uf_command.specs.declared.types.Refusal.{Refusal}
+use Rattle.uf_command.specs.declared.types.Refusal.TheVariants as refusal
 use Rattle.uf_top.specs.Answering.{Answers}
 use Rattle.uf_top.specs.Bounds.{command_touches}
 use Rattle.uf_top.specs.Causes.{IsBadIn, IsLongAt, IsReady, OnlyWants, RefusesOpening, TakesAll, is_read}

@@ -7,11 +7,11 @@ use Rattle.uf_edge.specs.Streams as streams
 use Rattle.uf_mfs.specs.Standing.{TellsAs, TellsHeld}
 use Rattle.uf_store.specs.Contents.{Told}
 use Rattle.uf_tree.specs.Standing.{Standing}
-use Rattle.uf_reply.specs.Natures.{needs_standing, uses_host}
+use Rattle.uf_command.specs.Natures.{needs_standing, uses_host}
 use Rattle.uf_top.specs.Reply.{Reply, World, host_after, reply}
-use Rattle.uf_reply.specs.Statuses.{no_memory}
-use Rattle.uf_reply.specs.declared.types.Command.{Command}
-use Rattle.uf_reply.specs.declared.types.Refusal.{Refusal}
+use Rattle.uf_command.specs.Statuses.{no_memory}
+use Rattle.uf_command.specs.declared.types.Command.{Command}
+use Rattle.uf_command.specs.declared.types.Refusal.{Refusal}
 use Rattle.uf_top.specs.Endings.{EndsBy}
 use Rattle.uf_top.specs.Naming.{StandsIf, TellsHost}
 

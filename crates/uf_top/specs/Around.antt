@@ -8,13 +8,13 @@ use Rattle.uf_mfs.specs.Reading.{CanRise}
 use Rattle.uf_store.specs.Calls.{Calm}
 use Rattle.uf_store.specs.Faults.{Rises}
 use Rattle.uf_store.specs.Seen.{Seen}
-use Rattle.uf_reply.specs.Commands.{HasHost, HasInput, of_command}
-use Rattle.uf_reply.specs.Pins.{HasPins}
-use Rattle.uf_reply.specs.Natures.{generates, uses_host, writes_host}
-use Rattle.uf_reply.specs.declared.status.Status.{Status}
-use Rattle.uf_reply.specs.declared.status.Status.TheVariants as status
-use Rattle.uf_reply.specs.declared.types.Command.{Command}
-use Rattle.uf_reply.specs.declared.types.Refusal.{Refusal}
+use Rattle.uf_command.specs.Commands.{HasHost, HasInput, of_command}
+use Rattle.uf_command.specs.Pins.{HasPins}
+use Rattle.uf_command.specs.Natures.{generates, uses_host, writes_host}
+use Rattle.uf_command.specs.declared.status.Status.{Status}
+use Rattle.uf_command.specs.declared.status.Status.TheVariants as status
+use Rattle.uf_command.specs.declared.types.Command.{Command}
+use Rattle.uf_command.specs.declared.types.Refusal.{Refusal}
 use Rattle.uf_top.specs.Causes.{is_read, is_write}
 use Rattle.uf_top.specs.Reply.{Outside}
 

@@ -8,16 +8,16 @@ use Rattle.uf_edge.specs.Counts.{Rose}
 use Rattle.uf_edge.specs.Streams.{AppendsPrefix, after}
 use Rattle.uf_edge.specs.Streams as streams
 use Rattle.uf_lines.specs.LinesIn.{LinesIn, lines_in}
-use Rattle.uf_reply.specs.Batches.{line_in}
-use Rattle.uf_reply.specs.Commands.{of_command}
-use Rattle.uf_reply.specs.Natures.{IsOfCommand, NoStore, own_store}
-use Rattle.uf_reply.specs.Statuses.{ends_batch, mark, no_memory}
-use Rattle.uf_reply.specs.Telling.{IsSent, TellsEnd, TellsWhy}
-use Rattle.uf_reply.specs.declared.status.Status.{Status}
-use Rattle.uf_reply.specs.declared.status.Status.TheVariants as status
-use Rattle.uf_reply.specs.declared.types.Command.{Command}
-use Rattle.uf_reply.specs.declared.types.Refusal.{Refusal}
-use Rattle.uf_reply.specs.declared.types.Refusal.TheVariants as refusal
+use Rattle.uf_command.specs.Batches.{line_in}
+use Rattle.uf_command.specs.Commands.{of_command}
+use Rattle.uf_command.specs.Natures.{IsOfCommand, NoStore, own_store}
+use Rattle.uf_command.specs.Statuses.{ends_batch, mark, no_memory}
+use Rattle.uf_command.specs.Telling.{IsSent, TellsEnd, TellsWhy}
+use Rattle.uf_command.specs.declared.status.Status.{Status}
+use Rattle.uf_command.specs.declared.status.Status.TheVariants as status
+use Rattle.uf_command.specs.declared.types.Command.{Command}
+use Rattle.uf_command.specs.declared.types.Refusal.{Refusal}
+use Rattle.uf_command.specs.declared.types.Refusal.TheVariants as refusal
 use Rattle.uf_store.specs.Seen.{Seen}
 use Rattle.uf_top.specs.Around.{Around, HostSide, around}
 use Rattle.uf_top.specs.Cars.{ByOwnStore}

@@ -4,7 +4,7 @@ use Rattle.std.specs.declared.option.Option.TheVariants.{None, Some}
 use Rattle.uf_edge.specs.Host.{HostTree}
 use Rattle.uf_mfs.specs.Reading.{CanRise}
 use Rattle.uf_mfs.specs.Standing.{TellsAs, head_in}
-use Rattle.uf_reply.specs.declared.status.Status.{Status}
+use Rattle.uf_command.specs.declared.status.Status.{Status}
 use Rattle.uf_store.specs.Contents.{Contents, Told}
 use Rattle.uf_store.specs.declared.store.Write.{Write}
 use Rattle.uf_top.specs.Around.{Around, CountsCanRise}

@@ -13,13 +13,13 @@ use Rattle.uf_edge.specs.Counts.{Stood}
 use Rattle.uf_edge.specs.Host.{HostTree}
 use Rattle.uf_mfs.specs.Reading.{AreHeights}
 use Rattle.uf_mfs.specs.Standing.{TellsAs}
-use Rattle.uf_reply.specs.Batches.{line_in}
-use Rattle.uf_reply.specs.Statuses.{ends_batch, mark, no_memory}
-use Rattle.uf_reply.specs.declared.status.Status.{Status}
-use Rattle.uf_reply.specs.declared.status.Status.TheVariants as status
-use Rattle.uf_reply.specs.declared.types.Command.{Command}
-use Rattle.uf_reply.specs.declared.types.Refusal.{Refusal}
-use Rattle.uf_reply.specs.declared.types.Refusal.TheVariants as refusal
+use Rattle.uf_command.specs.Batches.{line_in}
+use Rattle.uf_command.specs.Statuses.{ends_batch, mark, no_memory}
+use Rattle.uf_command.specs.declared.status.Status.{Status}
+use Rattle.uf_command.specs.declared.status.Status.TheVariants as status
+use Rattle.uf_command.specs.declared.types.Command.{Command}
+use Rattle.uf_command.specs.declared.types.Refusal.{Refusal}
+use Rattle.uf_command.specs.declared.types.Refusal.TheVariants as refusal
 use Rattle.uf_store.specs.Calls.{Calm}
 use Rattle.uf_top.specs.Around.{Around}
 use Rattle.uf_top.specs.Batch.{AtLine, ByMemory, ByReading, Ending, PrintsWhole, Said, Scene, SinkSide, Tells, TooLong, WithInput, output_of, with_sinks}

@@ -12,14 +12,14 @@ use Rattle.uf_plain.specs.Edits.{made, removed}
 use Rattle.uf_plain.specs.declared.file.FileEdit.TheVariants as file
 use Rattle.uf_tree.specs.Tree.{Dir, Entries}
 use Rattle.uf_tree.specs.declared.profile.Profile.{Profile}
-use Rattle.uf_reply.specs.declared.types.Ask.{Ask}
-use Rattle.uf_reply.specs.declared.types.Ask.TheVariants.{Ls, Stat, Edit as Edits}
-use Rattle.uf_reply.specs.declared.types.Command.{Command}
-use Rattle.uf_reply.specs.declared.types.Command.TheVariants.{Add, AddFrom, WriteInput, At, Read, Gen, Pin}
-use Rattle.uf_reply.specs.declared.types.PinAsk.TheVariants as pins
-use Rattle.uf_reply.specs.declared.types.Edit.{Edit}
-use Rattle.uf_reply.specs.declared.types.Edit.TheVariants.{Mkdir, Rm, Write, Truncate, Cp, Mv}
-use Rattle.uf_reply.specs.declared.types.Refusal.{Refusal}
+use Rattle.uf_command.specs.declared.types.Ask.{Ask}
+use Rattle.uf_command.specs.declared.types.Ask.TheVariants.{Ls, Stat, Edit as Edits}
+use Rattle.uf_command.specs.declared.types.Command.{Command}
+use Rattle.uf_command.specs.declared.types.Command.TheVariants.{Add, AddFrom, WriteInput, At, Read, Gen, Pin}
+use Rattle.uf_command.specs.declared.types.PinAsk.TheVariants as pins
+use Rattle.uf_command.specs.declared.types.Edit.{Edit}
+use Rattle.uf_command.specs.declared.types.Edit.TheVariants.{Mkdir, Rm, Write, Truncate, Cp, Mv, SetMeta}
+use Rattle.uf_command.specs.declared.types.Refusal.{Refusal}
 
 -- a file of n bytes has rows n rows of nodes
 module _ (X : List ℕ → List ℕ) (N : List ℕ → ℕ) (rows : ℕ → ℕ) where
@@ -36,6 +36,7 @@ module _ (X : List ℕ → List ℕ) (N : List ℕ → ℕ) (rows : ℕ → ℕ)
       + file_touches p rows (file.Truncate size) [] (member_at names es)
   touches_of_edit (Cp dest) names p es = copy_bound X N p names dest es
   touches_of_edit (Mv dest) names p es = move_bound X N p names dest es
+  touches_of_edit (SetMeta what) names p es = 64 * (length names + 3)
 
   -- and for what is asked at these names
   abbrev pub ask_touches : Ask → List (List ℕ) → Profile → Entries → ℕ

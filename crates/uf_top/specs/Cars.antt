@@ -11,12 +11,12 @@ use Rattle.uf_cid.specs.declared.cid.Cid.{Cid}
 use Rattle.uf_edge.specs.Counts.{Counts, Stood}
 use Rattle.uf_edge.specs.Streams as streams
 use Rattle.uf_mfs.specs.Standing.{TellsHeld}
-use Rattle.uf_reply.specs.Cars.{most_blocks, most_car, roots_told}
-use Rattle.uf_reply.specs.Natures.{OwnStore, NoStore, OfCarSections, OfTree, SyncsBlocks}
-use Rattle.uf_reply.specs.Kinds.{IsOf, same_kinds, import_kinds, may_meet, refusal_fault}
-use Rattle.uf_reply.specs.Statuses.{no_memory}
-use Rattle.uf_reply.specs.declared.types.Refusal.{Refusal}
-use Rattle.uf_reply.specs.declared.types.Refusal.TheVariants as refusal
+use Rattle.uf_command.specs.Cars.{most_blocks, most_car, roots_told}
+use Rattle.uf_command.specs.Natures.{OwnStore, NoStore, OfCarSections, OfTree, SyncsBlocks}
+use Rattle.uf_command.specs.Kinds.{IsOf, same_kinds, import_kinds, may_meet, refusal_fault}
+use Rattle.uf_command.specs.Statuses.{no_memory}
+use Rattle.uf_command.specs.declared.types.Refusal.{Refusal}
+use Rattle.uf_command.specs.declared.types.Refusal.TheVariants as refusal
 use Rattle.uf_store.specs.Calls.{Calm}
 use Rattle.uf_store.specs.Contents.{Contents, Told, held_at}
 use Rattle.uf_store.specs.Faults.{NoneIsBad, Shown, ShowsClash, ShowsMissing, StaysCalm}

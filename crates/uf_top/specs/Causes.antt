@@ -8,7 +8,7 @@ use Rattle.uf_tree.specs.Profiles.{most_bytes, usual}
 use Rattle.uf_cid.specs.declared.cid.Cid.{Cid}
 use Rattle.uf_edge.specs.Streams.{before, Exceeds, IsWhole}
 use Rattle.uf_edge.specs.Streams as streams
-use Rattle.uf_fileread.specs.Bad.{IsBadInFile}
+use Rattle.uf_fileread.specs.Bad.{IsBadInFile, IsBadRoot}
 use Rattle.uf_mfs.specs.Bad.{IsBadInHead, IsHeadTold}
 use Rattle.uf_mfs.specs.Standing.{head_in}
 use Rattle.uf_mfs.specs.Writes.{IsBadWrittenIn}
@@ -27,14 +27,14 @@ use Rattle.uf_tree.specs.HeadReading.{head_reads}
 use Rattle.uf_tree.specs.declared.head_fault.HeadFault.{HeadFault}
 use Rattle.uf_tree.specs.declared.profile.Head.{Head}
 use Rattle.uf_tree.specs.declared.profile.Profile.{Profile}
-use Rattle.uf_reply.specs.declared.types.Command.{Command}
-use Rattle.uf_reply.specs.declared.types.Refusal.{Refusal}
-use Rattle.uf_reply.specs.declared.types.Refusal.TheVariants as refusal
-use Rattle.uf_reply.specs.Kinds.{is_of, read_kind, refusal_fault, write_kind}
-use Rattle.uf_reply.specs.Lines.{added_line}
-use Rattle.uf_reply.specs.Natures.{HeadNeed, AnyHead, NoHeadYet, AHead, nature}
-use Rattle.uf_reply.specs.Statuses.{no_memory, status_of}
-use Rattle.uf_reply.specs.declared.status.Status.TheVariants as status
+use Rattle.uf_command.specs.declared.types.Command.{Command}
+use Rattle.uf_command.specs.declared.types.Refusal.{Refusal}
+use Rattle.uf_command.specs.declared.types.Refusal.TheVariants as refusal
+use Rattle.uf_command.specs.Kinds.{is_of, read_kind, refusal_fault, write_kind}
+use Rattle.uf_command.specs.Lines.{added_line}
+use Rattle.uf_command.specs.Natures.{HeadNeed, AnyHead, NoHeadYet, AHead, nature}
+use Rattle.uf_command.specs.Statuses.{no_memory, status_of}
+use Rattle.uf_command.specs.declared.status.Status.TheVariants as status
 use Rattle.uf_top.specs.Reply.{file_cid, most_input}
 
 -- the faults of calls that open a tree: no rule refuses that, and nothing is printed there
@@ -123,12 +123,17 @@ abbrev pub IsReady : {A : Type 0} → Told → Command → Result A Refusal → 
 IsReady told command (Ok a) = ⊤
 IsReady told command (Err why) = IsReadyBy told command why
 
+-- the block isn't canonical in the tree with this root, in a file that is edited, or as the root of a file whose
+-- metadata is changed
+abbrev pub IsBadAsked : (List ℕ → List ℕ) → (List ℕ → ℕ) → Profile → Told → Cid → Role → List ℕ → Type 0
+IsBadAsked X N p told root role bytes = IsBadWrittenIn X N p told root role bytes ⊎ IsBadRoot role bytes
+
 -- the block isn't canonical in its role: in the tree that the Head names, in a file that is read, or, where the profile
--- of the Head is required, in that tree or in a file that is edited
+-- of the Head is required, in that tree, in a file that is edited, or as the root of a file whose metadata is changed
 abbrev pub IsBadIn : (List ℕ → List ℕ) → (List ℕ → ℕ) → (before now : Told) → Role → List ℕ → Type 0
 IsBadIn X N before now role bytes = IsBadInHead X N before role bytes
     ⊎ ((file : Cid) × IsBadInFile before file role bytes)
-    ⊎ ((head : Head) × IsHeadTold before head × IsBadWrittenIn X N head.profile now head.root role bytes)
+    ⊎ ((head : Head) × IsHeadTold before head × IsBadAsked X N head.profile now head.root role bytes)
 
 -- the Head moves only where a command is done that prints nothing, or that prints after that
 abbrev pub HeadStays : Result (List ℕ) Refusal → (prints_after : Bool) → Told → Told → Type 0

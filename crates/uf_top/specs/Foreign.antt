@@ -9,10 +9,11 @@ use Rattle.uf_lenient.specs.Reading.{denotes, file_of, resolve_from}
 use Rattle.uf_lenient.specs.Steps.{IsRead}
 use Rattle.uf_lenient.specs.declared.shapes.Shape.{Shape}
 use Rattle.uf_path.specs.declared.path.DagPath.{DagPath}
-use Rattle.uf_reply.specs.Dags.{by_dag, file_at, tree_at, usual_limits}
-use Rattle.uf_reply.specs.declared.types.Refusal.{Refusal}
-use Rattle.uf_reply.specs.declared.types.Refusal.TheVariants as refusal
+use Rattle.uf_command.specs.Dags.{by_dag, file_at, tree_at, usual_limits}
+use Rattle.uf_command.specs.declared.types.Refusal.{Refusal}
+use Rattle.uf_command.specs.declared.types.Refusal.TheVariants as refusal
 use Rattle.uf_tree.specs.Tree.{Tree, File}
+use Rattle.uf_tree.specs.declared.meta.Meta.{Meta}
 
 -- a path leads to this CID
 abbrev pub LeadsTo : Lookup → DagPath → Cid → Type 0
@@ -39,10 +40,11 @@ abbrev pub FindsShape : Lookup → DagPath → Result (Cid × Shape) Refusal →
 FindsShape held path (Ok found) = IsShapeIn held path found.0 found.1
 FindsShape held path (Err why) = IsOwnRefusal why ⊎ (by_dag path (tree_at held path) ≡ Err why)
 
--- a path leads to a file of these bytes
+-- a path leads to a file of some metadata and these bytes
 pub record IsFileIn (held : Lookup) (path : DagPath) (cid : Cid) : Type 0 where
+  pub meta : Meta
   pub bytes : List ℕ
-  pub leads : tree_at held path ≡ Ok (File bytes)
+  pub leads : tree_at held path ≡ Ok (File meta bytes)
   pub file : file_of held usual_limits cid ≡ Ok bytes
 
 -- a path leads to a file with this CID, or why it doesn't

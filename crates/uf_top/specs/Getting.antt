@@ -11,13 +11,13 @@ use Rattle.uf_host.specs.Places.{ChangesAt}
 use Rattle.uf_host.specs.declared.fault.HostFault.{HostFault}
 use Rattle.uf_host.specs.declared.fault.HostFault.TheVariants.{Dag}
 use Rattle.uf_path.specs.declared.path.DagPath.{DagPath}
-use Rattle.uf_reply.specs.Dags.{IsToldAs, dag_refusal, usual_limits}
-use Rattle.uf_reply.specs.declared.status.Status.{Status}
-use Rattle.uf_reply.specs.declared.status.Status.TheVariants as status
-use Rattle.uf_reply.specs.declared.types.Command.{Command}
-use Rattle.uf_reply.specs.declared.types.Command.TheVariants.{Get}
-use Rattle.uf_reply.specs.declared.types.Refusal.{Refusal}
-use Rattle.uf_reply.specs.declared.types.Refusal.TheVariants as refusal
+use Rattle.uf_command.specs.Dags.{IsToldAs, dag_refusal, usual_limits}
+use Rattle.uf_command.specs.declared.status.Status.{Status}
+use Rattle.uf_command.specs.declared.status.Status.TheVariants as status
+use Rattle.uf_command.specs.declared.types.Command.{Command}
+use Rattle.uf_command.specs.declared.types.Command.TheVariants.{Get}
+use Rattle.uf_command.specs.declared.types.Refusal.{Refusal}
+use Rattle.uf_command.specs.declared.types.Refusal.TheVariants as refusal
 use Rattle.uf_store.specs.Contents.{Told, held_at}
 use Rattle.uf_top.specs.Foreign.{IsOwnRefusal, LeadsTo}
 use Rattle.uf_top.specs.HostTexts.{host_refusal}

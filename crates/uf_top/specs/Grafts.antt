@@ -18,12 +18,12 @@ use Rattle.uf_path.specs.declared.path.Path.{Path}
 use Rattle.uf_plain.specs.Moves.{allowed_move, placed_at}
 use Rattle.uf_plain.specs.declared.rule.Rule.TheVariants as rule
 use Rattle.uf_plain.specs.declared.spot.Spot.{Spot}
-use Rattle.uf_reply.specs.Natures.{MovesHead}
-use Rattle.uf_reply.specs.Dags.{dag_refusal}
-use Rattle.uf_reply.specs.Kinds.{adopt_kinds, IsOf, OfReady, RefusalKind, may_meet, refusal_fault}
+use Rattle.uf_command.specs.Natures.{MovesHead}
+use Rattle.uf_command.specs.Dags.{dag_refusal}
+use Rattle.uf_command.specs.Kinds.{adopt_kinds, IsOf, OfReady, RefusalKind, may_meet, refusal_fault}
 use Rattle.uf_top.specs.Reply.{adopt_reply, by_rule, with_plan}
-use Rattle.uf_reply.specs.declared.types.Refusal.{Refusal}
-use Rattle.uf_reply.specs.declared.types.Refusal.TheVariants as refusal
+use Rattle.uf_command.specs.declared.types.Refusal.{Refusal}
+use Rattle.uf_command.specs.declared.types.Refusal.TheVariants as refusal
 use Rattle.uf_store.specs.Calls.{Calm}
 use Rattle.uf_store.specs.Contents.{Told}
 use Rattle.uf_store.specs.Faults.{Shown}

@@ -9,11 +9,11 @@ use Rattle.uf_host.specs.declared.import.AddedRow.{AddedRow}
 use Rattle.uf_plain.specs.declared.rule.Rule.TheVariants as rule
 use Rattle.uf_tree.specs.Tree.{Tree}
 use Rattle.uf_tree.specs.declared.profile.Profile.{Profile}
-use Rattle.uf_reply.specs.Lines.{from_line}
-use Rattle.uf_reply.specs.Statuses.{no_memory}
-use Rattle.uf_reply.specs.declared.types.HostRule.TheVariants as host
-use Rattle.uf_reply.specs.declared.types.Refusal.{Refusal}
-use Rattle.uf_reply.specs.declared.types.Refusal.TheVariants as refusal
+use Rattle.uf_command.specs.Lines.{from_line}
+use Rattle.uf_command.specs.Statuses.{no_memory}
+use Rattle.uf_command.specs.declared.types.HostRule.TheVariants as host
+use Rattle.uf_command.specs.declared.types.Refusal.{Refusal}
+use Rattle.uf_command.specs.declared.types.Refusal.TheVariants as refusal
 
 -- a row as it is printed
 abbrev pub host_row : AddedRow → List ℕ

@@ -12,10 +12,10 @@ use Rattle.uf_store.specs.Contents.{Told}
 use Rattle.uf_tree.specs.Tree.{Tree, is_tree}
 use Rattle.uf_tree.specs.TreePlan as plan
 use Rattle.uf_tree.specs.declared.profile.Profile.{Profile}
-use Rattle.uf_reply.specs.declared.types.Command.{Command}
-use Rattle.uf_reply.specs.declared.types.Command.TheVariants.{AddFrom, AddFromTo}
-use Rattle.uf_reply.specs.declared.types.Refusal.{Refusal}
-use Rattle.uf_reply.specs.declared.types.Refusal.TheVariants as refusal
+use Rattle.uf_command.specs.declared.types.Command.{Command}
+use Rattle.uf_command.specs.declared.types.Command.TheVariants.{AddFrom, AddFromTo}
+use Rattle.uf_command.specs.declared.types.Refusal.{Refusal}
+use Rattle.uf_command.specs.declared.types.Refusal.TheVariants as refusal
 use Rattle.uf_top.specs.Causes.{AddsBy}
 use Rattle.uf_top.specs.HostTexts.{host_refusal, host_text}
 

@@ -13,14 +13,15 @@ use Rattle.uf_store.specs.Faults.{NoneIsBad, Shown}
 use Rattle.uf_store.specs.Keeping.{Holds}
 use Rattle.uf_store.specs.Seen.{Seen}
 use Rattle.uf_tree.specs.FilePlan.{file_plan}
+use Rattle.uf_tree.specs.Metas.{none}
 use Rattle.uf_tree.specs.Profiles.{most_bytes}
 use Rattle.uf_tree.specs.declared.nodes.Entry.{Entry}
 use Rattle.uf_tree.specs.declared.profile.Profile.{Profile}
-use Rattle.uf_reply.specs.declared.types.Refusal.{Refusal}
-use Rattle.uf_reply.specs.declared.types.Refusal.TheVariants as refusal
-use Rattle.uf_reply.specs.Lines.{added_line}
-use Rattle.uf_reply.specs.Kinds.{refusal_fault}
-use Rattle.uf_reply.specs.Statuses.{no_memory}
+use Rattle.uf_command.specs.declared.types.Refusal.{Refusal}
+use Rattle.uf_command.specs.declared.types.Refusal.TheVariants as refusal
+use Rattle.uf_command.specs.Lines.{added_line}
+use Rattle.uf_command.specs.Kinds.{refusal_fault}
+use Rattle.uf_command.specs.Statuses.{no_memory}
 use Rattle.uf_top.specs.Reply.{file_cid}
 use Rattle.uf_top.specs.declared.given.Given.{Given}
 
@@ -43,7 +44,7 @@ pub record IsWholeRow (hash : List ℕ → List ℕ) (p : Profile) (told_now : s
   pub nothing_left : IsAtEnd left_now
   pub few : length bytes ≤ most_bytes p
   pub is : text ≡ added_line (file_cid hash p bytes)
-  pub held : Holds told_now (file_plan hash p bytes).blocks
+  pub held : Holds told_now (file_plan hash p none bytes).blocks
 
 -- the row of an input, or why there is none
 abbrev pub IsRowOf : (List ℕ → List ℕ) → Profile → store.Told → Result (List ℕ) Refusal → Told → Told → Type 0

@@ -4,27 +4,34 @@ use Rattle.std.specs.declared.result.Result.{Result}
 use Rattle.std.specs.declared.result.Result.TheVariants.{Ok, Err}
 use Rattle.uf_cid.specs.Blocks.{Held}
 use Rattle.uf_edge.specs.Streams as streams
-use Rattle.uf_mfs.specs.Reading.{range_needs, to_read}
-use Rattle.uf_plain.specs.Files.{plain_bytes_at}
+use Rattle.uf_mfs.specs.Reading.{range_needs, rows_with}
+use Rattle.uf_plain.specs.Edits.{at}
 use Rattle.uf_plain.specs.Needs.{needs_at, own_needs, root_of, rows_need}
+use Rattle.uf_plain.specs.declared.rule.Refused.{Refused}
 use Rattle.uf_store.specs.Contents.{Told}
 use Rattle.uf_store.specs.Lost.{IsLossOf}
 use Rattle.uf_store.specs.declared.store.StoreFault.{StoreFault}
-use Rattle.uf_tree.specs.Tree.{Dir, Entries}
+use Rattle.uf_tree.specs.Tree.{Dir, Entries, File, Tree}
 use Rattle.uf_tree.specs.TreePlan.{blocks}
 use Rattle.uf_tree.specs.declared.profile.Profile.{Profile}
-use Rattle.uf_reply.specs.Lines.{line_of, said}
+use Rattle.uf_command.specs.Lines.{line_of, said}
 use Rattle.uf_top.specs.Reply.{Reply}
-use Rattle.uf_reply.specs.Statuses.{ended, status_of}
-use Rattle.uf_reply.specs.declared.status.Status.{Status}
-use Rattle.uf_reply.specs.declared.types.Ask.{Ask}
-use Rattle.uf_reply.specs.declared.types.Ask.TheVariants.{Ls, Stat, Edit as Edits}
-use Rattle.uf_reply.specs.declared.types.Command.{Command}
-use Rattle.uf_reply.specs.declared.types.Command.TheVariants.{WriteInput, At, Read, Adopt, AddTo, AddFromTo}
-use Rattle.uf_reply.specs.declared.types.Refusal.{Refusal}
-use Rattle.uf_reply.specs.declared.types.Refusal.TheVariants as refusal
+use Rattle.uf_command.specs.Statuses.{ended, status_of}
+use Rattle.uf_command.specs.declared.status.Status.{Status}
+use Rattle.uf_command.specs.declared.types.Ask.{Ask}
+use Rattle.uf_command.specs.declared.types.Ask.TheVariants.{Ls, Stat, Edit as Edits}
+use Rattle.uf_command.specs.declared.types.Command.{Command}
+use Rattle.uf_command.specs.declared.types.Command.TheVariants.{WriteInput, At, Read, Adopt, AddTo, AddFromTo}
+use Rattle.uf_command.specs.declared.types.Refusal.{Refusal}
+use Rattle.uf_command.specs.declared.types.Refusal.TheVariants as refusal
 use Rattle.uf_top.specs.Endings.{EndsBy, PrintsAll}
 use Rattle.uf_top.specs.Naming.{NamesAfter, StandsNamed}
+
+-- so many rows of nodes has a file that was found, where one of n bytes has rows n rows without metadata
+abbrev pub rows_found : (ℕ → ℕ) → Result Tree Refused → ℕ
+rows_found rows (Ok (File m bytes)) = rows_with rows m (length bytes)
+rows_found rows (Ok (Dir es)) = 0
+rows_found rows (Err why) = 0
 
 module _ (X : List ℕ → List ℕ) (N : List ℕ → ℕ) where
   -- the blocks that what is asked at these names needs of a tree
@@ -34,10 +41,10 @@ module _ (X : List ℕ → List ℕ) (N : List ℕ → ℕ) where
   ask_needs Stat names p es = needs_at X N p (root_of X N p) names (Dir es)
   ask_needs (Edits edit) names p es = blocks X N p (Dir es)
 
-  -- the blocks that a range of what is at these names needs, where a file of n bytes has rows n rows of nodes
+  -- the blocks that a range of what is at these names needs
   abbrev pub part_needs : (ℕ → ℕ) → (offset count : ℕ) → List (List ℕ) → Profile → Entries → List Held
   part_needs rows offset count names p es =
-      needs_at X N p (range_needs X p (rows (length (to_read (plain_bytes_at names es)))) offset count) names (Dir es)
+      needs_at X N p (range_needs X p (rows_found rows (at 0 names (Dir es))) offset count) names (Dir es)
 
   -- the blocks that a command needs of the tree that the Head names: those of what is asked, and the root block
   abbrev pub command_needs : (ℕ → ℕ) → Command → Profile → Entries → List Held

@@ -7,16 +7,15 @@ use Rattle.uf_edge.specs.Host.{HostTold, HostTree}
 use Rattle.uf_mfs.specs.Standing.{IsAfter, NamesOver, TellsAs, head_in}
 use Rattle.uf_store.specs.Contents.{Told, held_at}
 use Rattle.uf_store.specs.Keeping.{Agrees}
-use Rattle.uf_tree.specs.Heads.{head_text}
-use Rattle.uf_tree.specs.Standing.{Standing, NoHead, BadHead, Stands}
+use Rattle.uf_tree.specs.Standing.{IsHeadNote, Standing, NoHead, BadHead, Stands}
 use Rattle.uf_tree.specs.Tree.{Dir, Entries}
 use Rattle.uf_tree.specs.TreePlan.{blocks, entry}
 use Rattle.uf_tree.specs.declared.profile.Profile.{Profile}
-use Rattle.uf_reply.specs.Commands.{of_command}
-use Rattle.uf_reply.specs.Natures.{needs_standing}
+use Rattle.uf_command.specs.Commands.{of_command}
+use Rattle.uf_command.specs.Natures.{needs_standing}
 use Rattle.uf_top.specs.Reply.{World}
-use Rattle.uf_reply.specs.declared.types.Command.{Command}
-use Rattle.uf_reply.specs.declared.types.Refusal.{Refusal}
+use Rattle.uf_command.specs.declared.types.Command.{Command}
+use Rattle.uf_command.specs.declared.types.Refusal.{Refusal}
 
 -- the store tells these blocks
 abbrev pub TellsBlocks : Told → Lookup → Type 0
@@ -49,7 +48,7 @@ module _ (X : List ℕ → List ℕ) (N : List ℕ → ℕ) where
     -- the Head has come to name the tree of these entries, and the store agrees with its blocks: each of them that
     -- isn't held is one of these old blocks, and wasn't held before
     pub record NamesAfter (old : List Held) (p : Profile) (es : Entries) : Type 0 where
-      pub head : head_in now ≡ Some (head_text p (entry X N p (Dir es)).cid)
+      pub head : IsHeadNote (head_in now) p (entry X N p (Dir es)).cid
       pub root : IsAfter X N before now old p (entry X N p (Dir es)) (Dir es)
 
     -- what stands then is such a tree

@@ -5,10 +5,9 @@ use Rattle.std.specs.FinMap.{get}
 use Rattle.uf_store.specs.Contents.{Contents, HeldMap, Notes}
 use Rattle.uf_store.specs.Stops.{IsOutcome, IsSafe}
 use Rattle.uf_store.specs.declared.store.Write.{Write}
-use Rattle.uf_tree.specs.Heads.{head_text}
 use Rattle.uf_tree.specs.Standing.{StandsFor}
 use Rattle.uf_tree.specs.Tree.{Dir, Entries}
-use Rattle.uf_tree.specs.TreePlan.{blocks, entry}
+use Rattle.uf_tree.specs.TreePlan.{blocks}
 use Rattle.uf_tree.specs.declared.profile.Profile.{Profile}
 
 -- whatever a stop after these writes leaves is so
@@ -33,7 +32,8 @@ module _ (X : List ℕ → List ℕ) (N : List ℕ → ℕ) where
   abbrev pub LeavesNoneOr : Profile → Entries → HeldMap → Notes → Type 0
   LeavesNoneOr p es held notes = (notes.head ≡ None) ⊎ LeavesTree p es held notes
 
-  -- what is told stands for this tree, and no stop takes any of that away
+  -- what is told stands for this tree, and no stop takes its Head or a block of it away
   pub record IsSafeFor (t : Contents) (p : Profile) (es : Entries) : Type 0 where
     pub stands : LeavesTree p es t.held t.notes
-    pub safe : IsSafe t (head_text p (entry X N p (Dir es)).cid) (blocks X N p (Dir es))
+    pub text : List ℕ
+    pub safe : IsSafe t text (blocks X N p (Dir es))

@@ -6,16 +6,16 @@ use Rattle.std.specs.declared.result.Result.{Result}
 use Rattle.std.specs.declared.result.Result.TheVariants.{Ok, Err}
 use Rattle.uf_pins.specs.Calls.{PinsBelow, Unpins}
 use Rattle.uf_pins.specs.Notes.{IsBadNote}
-use Rattle.uf_reply.specs.Cars.{most_blocks}
-use Rattle.uf_reply.specs.declared.status.Status.{Status}
-use Rattle.uf_reply.specs.declared.status.Status.TheVariants as status
-use Rattle.uf_reply.specs.declared.types.Command.{Command}
-use Rattle.uf_reply.specs.declared.types.Command.TheVariants.{Pin}
-use Rattle.uf_reply.specs.declared.types.PinAsk.{PinAsk}
-use Rattle.uf_reply.specs.declared.types.PinAsk.TheVariants as pins
-use Rattle.uf_reply.specs.Statuses.{ended}
-use Rattle.uf_reply.specs.declared.types.Refusal.{Refusal}
-use Rattle.uf_reply.specs.declared.types.Refusal.TheVariants as refusal
+use Rattle.uf_command.specs.Cars.{most_blocks}
+use Rattle.uf_command.specs.declared.status.Status.{Status}
+use Rattle.uf_command.specs.declared.status.Status.TheVariants as status
+use Rattle.uf_command.specs.declared.types.Command.{Command}
+use Rattle.uf_command.specs.declared.types.Command.TheVariants.{Pin}
+use Rattle.uf_command.specs.declared.types.PinAsk.{PinAsk}
+use Rattle.uf_command.specs.declared.types.PinAsk.TheVariants as pins
+use Rattle.uf_command.specs.Statuses.{ended}
+use Rattle.uf_command.specs.declared.types.Refusal.{Refusal}
+use Rattle.uf_command.specs.declared.types.Refusal.TheVariants as refusal
 use Rattle.uf_store.specs.Contents.{Told}
 
 -- the text of the note of pins, where it is told and there

@@ -33,11 +33,11 @@ use Rattle.uf_tree.specs.Tree.{Dir, Entries, Tree}
 use Rattle.uf_tree.specs.TreePlan.{blocks, entry}
 use Rattle.uf_tree.specs.declared.nodes.Entry.{Entry}
 use Rattle.uf_tree.specs.declared.profile.Profile.{Profile}
-use Rattle.uf_reply.specs.Natures.{MovesHead}
-use Rattle.uf_reply.specs.Kinds.{IsOf, RefusalKind, place_host_kinds, place_kinds, may_meet, opened_kinds, refusal_fault}
-use Rattle.uf_reply.specs.Statuses.{no_memory}
-use Rattle.uf_reply.specs.declared.types.Refusal.{Refusal}
-use Rattle.uf_reply.specs.declared.types.Refusal.TheVariants as refusal
+use Rattle.uf_command.specs.Natures.{MovesHead}
+use Rattle.uf_command.specs.Kinds.{IsOf, RefusalKind, place_host_kinds, place_kinds, may_meet, opened_kinds, refusal_fault}
+use Rattle.uf_command.specs.Statuses.{no_memory}
+use Rattle.uf_command.specs.declared.types.Refusal.{Refusal}
+use Rattle.uf_command.specs.declared.types.Refusal.TheVariants as refusal
 use Rattle.uf_top.specs.Causes.{AreLeft, IsReasonInTree, is_read}
 use Rattle.uf_top.specs.Grafts.{FollowsOr, IsLostBy}
 use Rattle.uf_top.specs.HostTexts.{host_refusal, host_row}

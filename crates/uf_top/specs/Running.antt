@@ -8,15 +8,15 @@ use Rattle.uf_cid.specs.declared.cid.Cid.{Cid}
 use Rattle.uf_edge.specs.Counts.{Stood}
 use Rattle.uf_mfs.specs.Reading.{AreHeights}
 use Rattle.uf_mfs.specs.Standing.{NamesOver, TellsAs, head_in}
-use Rattle.uf_reply.specs.Commands.{HasInput, is_idle, of_command}
-use Rattle.uf_reply.specs.Natures.{NoStore, may_give, only_reads, own_store, prints_after, reads_tree_alone}
-use Rattle.uf_reply.specs.Natures.{streams as flows, uses_host, writes_host}
-use Rattle.uf_reply.specs.Lines.{bad_block_line, clash_line, missing_line}
-use Rattle.uf_reply.specs.declared.status.Status.{Status}
-use Rattle.uf_reply.specs.declared.status.Status.TheVariants as status
-use Rattle.uf_reply.specs.declared.types.Command.{Command}
-use Rattle.uf_reply.specs.declared.types.Refusal.{Refusal}
-use Rattle.uf_reply.specs.declared.types.Refusal.TheVariants as refusal
+use Rattle.uf_command.specs.Commands.{HasInput, is_idle, of_command}
+use Rattle.uf_command.specs.Natures.{NoStore, may_give, only_reads, own_store, prints_after, reads_tree_alone}
+use Rattle.uf_command.specs.Natures.{streams as flows, uses_host, writes_host}
+use Rattle.uf_command.specs.Lines.{bad_block_line, clash_line, missing_line}
+use Rattle.uf_command.specs.declared.status.Status.{Status}
+use Rattle.uf_command.specs.declared.status.Status.TheVariants as status
+use Rattle.uf_command.specs.declared.types.Command.{Command}
+use Rattle.uf_command.specs.declared.types.Refusal.{Refusal}
+use Rattle.uf_command.specs.declared.types.Refusal.TheVariants as refusal
 use Rattle.uf_store.specs.Calls.{Calm}
 use Rattle.uf_store.specs.Faults.{ShowsBadBlock, ShowsFailure}
 use Rattle.uf_store.specs.Keeping.{KeepsGood}

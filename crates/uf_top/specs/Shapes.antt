@@ -5,19 +5,21 @@ use Rattle.std.specs.declared.result.Result.TheVariants.{Ok, Err}
 use Rattle.uf_mfs.specs.Standing.{Commits, LeavesHead, SavesThen}
 use Rattle.uf_pins.specs.Calls.{NotesPins as NotesPinsIn}
 use Rattle.uf_store.specs.Contents.{Told, changed, with_sync}
-use Rattle.uf_reply.specs.Natures.{WriteShape, NoWrites, SyncsBlocks, MakesHead, MovesHead, NotesPins, SyncsPins, command_writes}
-use Rattle.uf_reply.specs.declared.types.Command.{Command}
-use Rattle.uf_reply.specs.declared.types.Refusal.{Refusal}
-use Rattle.uf_reply.specs.declared.status.Status.{Status}
-use Rattle.uf_reply.specs.declared.status.Status.TheVariants as status
+use Rattle.uf_command.specs.Natures.{WriteShape, NoWrites, SyncsBlocks, MakesHead, MovesHead, NotesPins, SyncsPins, command_writes}
+use Rattle.uf_command.specs.declared.types.Command.{Command}
+use Rattle.uf_command.specs.declared.types.Refusal.{Refusal}
+use Rattle.uf_cid.specs.declared.cid.Cid.{Cid}
+use Rattle.uf_tree.specs.declared.profile.Profile.{Profile}
+use Rattle.uf_command.specs.declared.status.Status.{Status}
+use Rattle.uf_command.specs.declared.status.Status.TheVariants as status
 
 -- blocks were saved and made to outlive a stop
 abbrev pub SyncsAfter : (List ℕ → List ℕ) → Told → Told → Type 0
 SyncsAfter hash before now = SavesThen hash (λ between now. now ≡ changed with_sync between) before now
 
--- blocks were saved, made to outlive a stop, and then a Head was written, unless it said so already
+-- blocks were saved, made to outlive a stop, and then a Head was written, unless it named this root already
 abbrev pub HeadAfter : (List ℕ → List ℕ) → Told → Told → Type 0
-HeadAfter hash before now = (text : List ℕ) × SavesThen hash (Commits text) before now
+HeadAfter hash before now = (p : Profile) × (root : Cid) × SavesThen hash (Commits p root) before now
 
 -- what was written, by whether the command was done: one that is refused has written no Head, and no note of pins
 abbrev pub WritesAs : (List ℕ → List ℕ) → WriteShape → Bool → Told → Told → Type 0

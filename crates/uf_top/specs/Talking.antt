@@ -13,8 +13,8 @@ use Rattle.uf_pull.specs.Wants.{asked_in}
 use Rattle.uf_pull.specs.Wholes.{AsksForUnheld}
 use Rattle.uf_pull.specs.declared.fault.PullFault.{PullFault}
 use Rattle.uf_pull.specs.declared.fault.ServeFault.{ServeFault}
-use Rattle.uf_reply.specs.Peers.{TellsTalk, most_of_wants, most_pulled, pull_end, serve_end}
-use Rattle.uf_reply.specs.declared.status.Status.{Status}
+use Rattle.uf_command.specs.Peers.{TellsTalk, most_of_wants, most_pulled, pull_end, serve_end}
+use Rattle.uf_command.specs.declared.status.Status.{Status}
 use Rattle.uf_store.specs.Contents.{Contents, held_at}
 use Rattle.uf_store.specs.Faults.{NoneIsBad, Shown}
 use Rattle.uf_store.specs.Keeping.{KeepsGood}

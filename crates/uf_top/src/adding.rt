@@ -5,22 +5,22 @@ ghost use Rattle.uf_mfs.specs.Standing.{LeavesHead};
 ghost use Rattle.uf_store.specs.Contents.{changed, with_sync};
 ghost use Rattle.uf_store.specs.Keeping.{KeepsGood};
 ghost use Rattle.uf_tree.specs.Profiles.{is_profile};
-ghost use Rattle.uf_reply.specs.Natures.{SyncsBlocks};
+ghost use Rattle.uf_command.specs.Natures.{SyncsBlocks};
 ghost use Rattle.uf_top.specs.Causes.{IsProfileRead, OnlyWants, ReadsProfile, Stops, is_read, or_usual as usual_or};
 ghost use Rattle.uf_top.specs.Intake.{GivesEntry, IsRowOf, ShownIn};
 ghost use Rattle.uf_top.specs.Shapes.{WritesAs, is_ok};
 ghost use Rattle.uf_top.specs.Working.{Makes};
-ghost use Rattle.uf_reply.specs.declared.types.Command.TheVariants as commands;
+ghost use Rattle.uf_command.specs.declared.types.Command.TheVariants as commands;
 
 use crate::given::Given;
 use std::alloc::Global;
 use std::sync::ledger::Ledger;
 use uf_cid::{Block, BlockHash};
+use uf_command::{Refusal, added_row};
 use uf_edge::{Put, Source};
 use uf_intake::{IntakeFault, file_of, hash_of};
 use uf_mfs::Ready;
 use uf_plain::Rule;
-use uf_reply::{Refusal, added_row};
 use uf_store::{Note, NoteRead, Steps, Store, StoreFault};
 use uf_tree::{Entry, HeadFault, Profile, read_head};
 

@@ -1,16 +1,16 @@
 // The commands that the lines of an input ask for.
 ghost use Rattle.std.specs.Prelude.{◌<◌, [], length, None, Some};
-ghost use Rattle.uf_reply.specs.Batches.{line_in};
+ghost use Rattle.uf_command.specs.Batches.{line_in};
 ghost use Rattle.uf_top.specs.Around.{around, host_side};
 ghost use Rattle.uf_top.specs.Batch.{Batches, ClosesInBatch, DoesLine, LineServed, scene};
 
 use crate::command::work;
 use std::alloc::Global;
 use std::sync::ledger::Ledger;
+use uf_command::{Refusal, Status, read_line, tell, tell_end};
 use uf_edge::{Host, Read, Sent, Sink, Source, write_all};
 use uf_lines::{Line, Lines};
 use uf_murmur::NameHash;
-use uf_reply::{Refusal, Status, read_line, tell, tell_end};
 use uf_store::{Steps, Store, StoreFault};
 
 // A line has at most so many bytes.

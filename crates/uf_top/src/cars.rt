@@ -1,11 +1,11 @@
 // CARs written from what is held, read into the store, and compared with what is held.
 ghost use Rattle.std.specs.Prelude.{◌≡◌, IfErr, IfOk, List, OnErr, OnOk, flat_map, ℕ};
 ghost use Rattle.uf_edge.specs.Streams.{Told as Left};
-ghost use Rattle.uf_reply.specs.Natures.{OfCarSections};
-ghost use Rattle.uf_reply.specs.declared.types.Command.TheVariants as commands;
+ghost use Rattle.uf_command.specs.Natures.{OfCarSections};
+ghost use Rattle.uf_command.specs.declared.types.Command.TheVariants as commands;
 ghost use Rattle.uf_top.specs.Around.{HostSide, around};
 ghost use Rattle.uf_mfs.specs.Standing.{LeavesHead};
-ghost use Rattle.uf_reply.specs.Cars.{root_line};
+ghost use Rattle.uf_command.specs.Cars.{root_line};
 ghost use Rattle.uf_store.specs.Contents.{changed, with_sync};
 ghost use Rattle.uf_top.specs.Causes.{Stops};
 ghost use Rattle.uf_top.specs.Cars.{ByOwnStore, ComparesCar, ComparesStores, KeepsCar, TakesRoot, root_alone};
@@ -18,11 +18,11 @@ use std::alloc::Global;
 use std::sync::ledger::Ledger;
 use uf_car::{export, import};
 use uf_cid::{Block, Cid, Cids, Memory};
-use uf_edge::{Sink, Source};
-use uf_reply::{
+use uf_command::{
     DagRule, Refusal, car_refusal, export_refusal, kept_refusal, plain, print, root_lines,
     section_refusal, two_blocks,
 };
+use uf_edge::{Sink, Source};
 use uf_same::{Compared, SameFault, same};
 use uf_store::{MemStore, Steps, Store, StoreFault};
 

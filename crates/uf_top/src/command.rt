@@ -7,17 +7,18 @@ ghost use Rattle.uf_edge.specs.Streams.{Told};
 ghost use Rattle.uf_mfs.specs.Standing.{TellsAs};
 ghost use Rattle.uf_tree.specs.Standing.{Standing};
 ghost use Rattle.uf_top.specs.Cars.{ByOwnStore};
-ghost use Rattle.uf_reply.specs.Telling.{IsSent};
-ghost use Rattle.uf_reply.specs.Commands.{IsAccepted, IsAsked, IsOfWords, of_command};
-ghost use Rattle.uf_reply.specs.Kinds.{IsOf};
-ghost use Rattle.uf_reply.specs.Natures.{IsOfCommand, NoStore, generates, may_end, own_store};
-ghost use Rattle.uf_reply.specs.Natures.{reads_input, reads_tree_alone, streams as flows, touches_nothing, uses_host};
-ghost use Rattle.uf_reply.specs.Requests.{request_in};
-ghost use Rattle.uf_reply.specs.declared.requests.Request.TheVariants as requests;
-ghost use Rattle.uf_reply.specs.declared.types.Command.{Command as TheCommand};
-ghost use Rattle.uf_reply.specs.declared.types.Refusal.{Refusal as TheRefusal};
+ghost use Rattle.uf_command.specs.Telling.{IsSent};
+ghost use Rattle.uf_command.specs.Commands.{IsAccepted, IsAsked, IsOfWords, of_command};
+ghost use Rattle.uf_command.specs.Kinds.{IsOf};
+ghost use Rattle.uf_command.specs.Natures.{IsOfCommand, NoStore, generates, may_end, own_store};
+ghost use Rattle.uf_command.specs.Natures.{reads_input, reads_tree_alone, streams as flows, touches_nothing, uses_host};
+ghost use Rattle.uf_command.specs.Requests.{request_in};
+ghost use Rattle.uf_command.specs.declared.requests.Request.TheVariants as requests;
+ghost use Rattle.uf_command.specs.declared.types.Command.{Command as TheCommand};
+ghost use Rattle.uf_command.specs.declared.types.Refusal.{Refusal as TheRefusal};
 ghost use Rattle.uf_top.specs.Around.{around, host_side};
 ghost use Rattle.uf_top.specs.Batch.{Batches, scene};
+ghost use Rattle.uf_top.specs.Collecting.{RunsGc};
 ghost use Rattle.uf_top.specs.Running.{Runs};
 ghost use Rattle.uf_top.specs.Talking.{RunsPull, RunsServe};
 ghost use Rattle.uf_top.specs.Working.{Does, MakesText, Serves};
@@ -25,6 +26,7 @@ ghost use Rattle.uf_top.specs.Working.{Does, MakesText, Serves};
 use crate::adding::adds;
 use crate::batching::{MOST_OF_BATCH, MOST_OF_LINE, batch};
 use crate::cars::{compare_car, export_car, import_car};
+use crate::collecting::collect_rest;
 use crate::foreign::cat;
 use crate::generating::print_generated;
 use crate::getting::get;
@@ -38,14 +40,14 @@ use crate::tree::{at, init};
 use std::alloc::Global;
 use std::sync::ledger::Ledger;
 use uf_cid::Block;
-use uf_edge::{Host, Sink, Source};
-use uf_murmur::NameHash;
-use uf_pull::{pull, serve as serve_peer};
-use uf_reply::{
+use uf_command::{
     Command, Refusal, Request, Status, print, pull_end, read_request, serve_end, tell_end,
     tell_talk,
 };
-use uf_store::{Steps, Store};
+use uf_edge::{Host, Sink, Source};
+use uf_murmur::NameHash;
+use uf_pull::{pull, serve as serve_peer};
+use uf_store::{Steps, Store, Sweep};
 
 // A DAG is pulled up to so many CIDs.
 const MOST_PULLED: u32 = 16777216;
@@ -61,10 +63,11 @@ const MOST_OF_WANTS: u64 = 1073741824;
 /// everything in it, and, without `-n`, keeps their blocks, and with `--to-files` puts them into the tree; `cat`
 /// prints a file of a DAG, and `get` writes what is in one to the host; `gen` makes a tree on stores of its own and
 /// says its root; `pin add`, `pin rm` and `pin ls` work on the note of pins; `pull` fetches what is below a CID from a
-/// peer, and `serve` is one. Refused are first words that are none, then texts that are no paths, then a Head that
-/// doesn't do, then an input that is too long, and then what the rules of the command refuse. The status says how the
-/// command ended; after a refusal its line goes to `errors`, and a failed write of that line changes no status.
-pub fn run<S: Store, N: NameHash, W: Host, I: Source, O: Sink, E: Sink, L: Ledger>(
+/// peer, and `serve` is one; `repo gc` lets go of what neither the tree nor a pin leads to. Refused are first words
+/// that are none, then texts that are no paths, then a Head that doesn't do, then an input that is too long, and then
+/// what the rules of the command refuse. The status says how the command ended; after a refusal its line goes to
+/// `errors`, and a failed write of that line changes no status.
+pub fn run<S: Sweep, N: NameHash, W: Host, I: Source, O: Sink, E: Sink, L: Ledger>(
     alloc: Global,
     words: &[String],
     store: &mut S,
@@ -114,6 +117,15 @@ pub fn run<S: Store, N: NameHash, W: Host, I: Source, O: Sink, E: Sink, L: Ledge
         (around (S.seen store.new) (I.left input.new) (I.faults input.new) (O.holds output.new) (O.faults output.new)
         touches.new (host_side (W.tree host.new) (W.read_faults host.new) (W.write_faults host.new))) }
 
+    // Of `repo gc`: what neither the Head's root nor a pin leads to went; what they lead to stays, whatever failed.
+    ensures collect { request_in (map string_bytes words.now) ≡ requests.Gc
+        → RunsGc (λ line. IsSent line (E.holds errors.old) (E.holds errors.new) (E.faults errors.old)
+        (E.faults errors.new)) S.X.block32 N.name64 result
+        (around (S.seen store.old) (I.left input.old) (I.faults input.old) (O.holds output.old) (O.faults output.old)
+        touches.old (host_side (W.tree host.old) (W.read_faults host.old) (W.write_faults host.old)))
+        (around (S.seen store.new) (I.left input.new) (I.faults input.new) (O.holds output.new) (O.faults output.new)
+        touches.new (host_side (W.tree host.new) (W.read_faults host.new) (W.write_faults host.new))) }
+
     // Equal roots mean equal trees: what the store tells stands for one tree at most.
     ensures one { (standing other : Standing) → TellsAs S.X.block32 N.name64 (S.seen store.new).told standing
         → TellsAs S.X.block32 N.name64 (S.seen store.new).told other → standing ≡ other }
@@ -154,6 +166,10 @@ pub fn run<S: Store, N: NameHash, W: Host, I: Source, O: Sink, E: Sink, L: Ledge
         }
         Request::One { asked } => {
             let done = serve::<S, N, W, I, O, L>(alloc, asked, store, host, input, output, touches);
+            tell_end(alloc, done, errors)
+        }
+        Request::Gc => {
+            let done = collect_rest(alloc, store, output, touches);
             tell_end(alloc, done, errors)
         }
     }

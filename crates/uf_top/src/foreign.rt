@@ -2,8 +2,8 @@
 ghost use Rattle.std.specs.Prelude.{◌<◌, ◌≤◌, ◌^◌, IfErr, IfSome, List, ℕ, length};
 ghost use Rattle.uf_edge.specs.Streams.{Told as Left};
 ghost use Rattle.uf_lenient.specs.Good.{ByGoodBlocks};
-ghost use Rattle.uf_reply.specs.Kinds.{refusal_fault};
-ghost use Rattle.uf_reply.specs.declared.types.Command.TheVariants as commands;
+ghost use Rattle.uf_command.specs.Kinds.{refusal_fault};
+ghost use Rattle.uf_command.specs.declared.types.Command.TheVariants as commands;
 ghost use Rattle.uf_store.specs.Calls.{OnlyReads};
 ghost use Rattle.uf_store.specs.Contents.{held_at};
 ghost use Rattle.uf_store.specs.Faults.{NoneIsBad};
@@ -14,10 +14,10 @@ ghost use Rattle.uf_top.specs.Working.{Does};
 use std::alloc::Global;
 use std::sync::ledger::Ledger;
 use uf_cid::Cid;
+use uf_command::{Refusal, dag_refusal, no_file};
 use uf_edge::Sink;
 use uf_lenient::{Limits, Shape, StreamFault, resolve, stream, survey};
 use uf_path::DagPath;
-use uf_reply::{Refusal, dag_refusal, no_file};
 use uf_store::{Steps, Store};
 
 // How far DAGs of others are read.
@@ -63,7 +63,7 @@ fn file_in<S: Store, L: Ledger>(
     ensures reads { OnlyReads S.X.block32 NoneIsBad (refusal_fault result) (S.seen store.old) (S.seen store.new) }
 {
     let (cid, shape) = found_in(alloc, path, store, touches)?;
-    let Shape::File = shape else {
+    let Shape::File(_) = shape else {
         return Err(no_file(alloc, path));
     };
     Ok(cid)

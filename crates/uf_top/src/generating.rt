@@ -1,5 +1,5 @@
 // A large tree is generated, changed and built afresh, each on a store of its own.
-ghost use Rattle.std.specs.Prelude.{◌≡◌, ◌≤◌, ◌<◌, ℕ, false, IfErr, IfOk, Ok};
+ghost use Rattle.std.specs.Prelude.{◌≡◌, ◌≤◌, ◌<◌, ℕ, false, IfErr, IfOk, IfSome, Ok};
 ghost use Rattle.std.specs.declared.result.Result.{Result as TheResult};
 ghost use Rattle.uf_edge.specs.Streams.{Told as Left};
 ghost use Rattle.uf_gen.specs.Grown.{after_step, file_path as path_of, stepped};
@@ -9,9 +9,11 @@ ghost use Rattle.uf_plain.specs.declared.rule.Rule.{Rule as TheRule};
 ghost use Rattle.uf_store.specs.InMemory.{new_seen};
 ghost use Rattle.uf_store.specs.Seen.{Seen as TheSeen};
 ghost use Rattle.uf_tree.specs.Tree.{Entries};
-ghost use Rattle.uf_reply.specs.Natures.{OfTree};
-ghost use Rattle.uf_reply.specs.declared.types.Command.TheVariants as commands;
-ghost use Rattle.uf_reply.specs.declared.types.Edit.TheVariants as edits;
+ghost use Rattle.uf_command.specs.Commands.{IsGoodAsk};
+ghost use Rattle.uf_command.specs.Natures.{OfTree};
+ghost use Rattle.uf_command.specs.declared.types.Ask.TheVariants as asks;
+ghost use Rattle.uf_command.specs.declared.types.Command.TheVariants as commands;
+ghost use Rattle.uf_command.specs.declared.types.Edit.TheVariants as edits;
 ghost use Rattle.uf_top.specs.Around.{HostSide, around};
 ghost use Rattle.uf_top.specs.Cars.{ByOwnStore};
 ghost use Rattle.uf_top.specs.Causes.{IsTreeFault};
@@ -25,6 +27,7 @@ use std::alloc::Global;
 use std::marker::Brand;
 use std::sync::ledger::{Blank, Ledger};
 use uf_cid::{Block, BlockHash, Cid, Memory};
+use uf_command::{Edit, Refusal, own_refusal, print, put_line, put_number};
 use uf_edge::Sink;
 use uf_gen::{
     Step, file_path, first_bytes, fresh_root, late_offset, late_piece, left_count, left_size,
@@ -32,7 +35,6 @@ use uf_gen::{
 use uf_mfs::{Mfs, MfsFault};
 use uf_murmur::NameHash;
 use uf_plain::WriteHow;
-use uf_reply::{Edit, Refusal, own_refusal, print, put_line, put_number};
 use uf_shard::DirFault;
 use uf_store::{MemStore, Steps, Store, StoreFault};
 use uf_tree::{Entry, Profile};
@@ -237,7 +239,8 @@ fn edit_file<S: Store, N: NameHash, L: Ledger>(
     store: &mut S,
     touches: &mut Steps<L>,
 ) -> Result<(), MfsFault>
-    requires { IsMfs tree.old }
+    requires mfs { IsMfs tree.old }
+    requires good { IsGoodAsk (asks.Edit edit.now) }
     ensures grows { (made : TheResult Entries TheRule)
         → StandsFor S.X.block32 N.name64 made (S.seen store.old) tree.old
         → Grows S.X.block32 N.name64
@@ -253,7 +256,8 @@ fn edit_file<S: Store, N: NameHash, L: Ledger>(
 
 // The edit of a step to a file, if there is any.
 fn edit_of(alloc: Global, step: Step, seed: u64, i: u64) -> Result<Option<Edit>, Memory>
-    ensures { IfOk result (λ edit. edit ≡ step_edit step seed i) }
+    ensures edit { IfOk result (λ edit. edit ≡ step_edit step seed i) }
+    ensures good { IfOk result (λ edit. IfSome edit (λ edit. IsGoodAsk (asks.Edit edit))) }
 {
     match step {
         Step::Make => Ok(Some(write_at(0, true, first_bytes(alloc, seed, i)?))),

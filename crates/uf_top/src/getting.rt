@@ -4,8 +4,8 @@ ghost use Rattle.uf_edge.specs.Counts.{Counts};
 ghost use Rattle.uf_edge.specs.Streams.{Told as Left};
 ghost use Rattle.uf_host.specs.Paths.{trimmed};
 ghost use Rattle.uf_host.specs.Places.{ChangesAt};
-ghost use Rattle.uf_reply.specs.Kinds.{refusal_fault};
-ghost use Rattle.uf_reply.specs.declared.types.Command.TheVariants as commands;
+ghost use Rattle.uf_command.specs.Kinds.{refusal_fault};
+ghost use Rattle.uf_command.specs.declared.types.Command.TheVariants as commands;
 ghost use Rattle.uf_store.specs.Calls.{OnlyReads};
 ghost use Rattle.uf_store.specs.Contents.{held_at};
 ghost use Rattle.uf_store.specs.Faults.{NoneIsBad};
@@ -20,11 +20,11 @@ use crate::hosted::refused;
 use std::alloc::Global;
 use std::sync::ledger::Ledger;
 use uf_cid::{Cid, Text};
+use uf_command::{Refusal, dag_refusal};
 use uf_edge::Host;
 use uf_host::HostFault;
 use uf_lenient::resolve;
 use uf_path::DagPath;
-use uf_reply::{Refusal, dag_refusal};
 use uf_store::{Steps, Store};
 
 // Writes what is at a path in a DAG to a path of the host, once everything below it was read.

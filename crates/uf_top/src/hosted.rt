@@ -2,8 +2,8 @@
 ghost use Rattle.std.specs.Prelude.{◌≡◌, ℕ, false, true, None, IfErr, IfOk, IsTrue};
 ghost use Rattle.std.specs.List.{flat_map};
 ghost use Rattle.uf_edge.specs.Streams.{Told};
-ghost use Rattle.uf_reply.specs.Natures.{SyncsBlocks};
-ghost use Rattle.uf_reply.specs.declared.types.Command.TheVariants as commands;
+ghost use Rattle.uf_command.specs.Natures.{SyncsBlocks};
+ghost use Rattle.uf_command.specs.declared.types.Command.TheVariants as commands;
 ghost use Rattle.uf_store.specs.Keeping.{KeepsGood};
 ghost use Rattle.uf_top.specs.Around.{OnlyReadsHost, around, host_side};
 ghost use Rattle.uf_top.specs.Causes.{OnlyWants, is_read};
@@ -20,12 +20,12 @@ use crate::given::Given;
 use std::alloc::Global;
 use std::sync::ledger::Ledger;
 use uf_cid::{Block, BlockHash, Memory, Text};
+use uf_command::{HostRule, Refusal, put_added};
 use uf_edge::Host;
 use uf_host::{AddedRows, HostFault, add, hash_rows};
 use uf_mfs::Ready;
 use uf_murmur::NameHash;
 use uf_plain::Rule;
-use uf_reply::{HostRule, Refusal, put_added};
 use uf_store::{Steps, Store};
 use uf_tree::{Entry, Profile};
 

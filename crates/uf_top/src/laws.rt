@@ -1,8 +1,10 @@
 // Laws of stores that stand, and of what a stop during a command leaves, by what the command writes.
-ghost use Rattle.std.specs.Prelude.{◌≡◌, ◌<◌, ◌^◌, ℕ, Bool, List, None, Some};
+ghost use Rattle.std.specs.Prelude.{◌≡◌, ◌<◌, ◌^◌, ℕ, Bool, List, None, Ok, Some};
 ghost use Rattle.std.specs.FinMap.{get};
+ghost use Rattle.std.specs.declared.option.Option.{Option};
 ghost use Rattle.std.specs.declared.result.Result.{Result};
 ghost use Rattle.uf_cid.specs.Blocks.{Held, Holds};
+ghost use Rattle.uf_cid.specs.declared.cid.Cid.{Cid};
 ghost use Rattle.uf_mfs.specs.Standing.{Commits, NamesOver, TellsAs, head_in};
 ghost use Rattle.uf_store.specs.Contents.{Contents, Told, held_at};
 ghost use Rattle.uf_store.specs.Keeping.{KeepsGood};
@@ -11,9 +13,10 @@ ghost use Rattle.uf_tree.specs.Standing.{Standing, Stands};
 ghost use Rattle.uf_tree.specs.Tree.{Entries};
 ghost use Rattle.uf_tree.specs.Validity.{IsHash};
 ghost use Rattle.uf_tree.specs.declared.profile.Profile.{Profile};
-ghost use Rattle.uf_reply.specs.Natures.{MakesHead};
-ghost use Rattle.uf_reply.specs.declared.types.Command.{Command};
-ghost use Rattle.uf_reply.specs.declared.types.Refusal.{Refusal};
+ghost use Rattle.uf_command.specs.Natures.{MakesHead};
+ghost use Rattle.uf_command.specs.declared.types.Command.{Command};
+ghost use Rattle.uf_command.specs.declared.types.Refusal.{Refusal};
+ghost use Rattle.uf_top.specs.Collecting.{EachSweepOutcome, kept_in};
 ghost use Rattle.uf_top.specs.Naming.{StaysNamed};
 ghost use Rattle.uf_top.specs.Outcomes.{EachOutcome, EachStop, IsSafeFor, LeavesEither, LeavesNoneOr, LeavesTree};
 ghost use Rattle.uf_top.specs.Shapes.{HeadAfter, SyncsAfter, WritesAs, WritesFor};
@@ -44,9 +47,9 @@ pub fn what_is_safe_outlives_stops()
 /// the tree after, and a stop after any of these writes leaves the tree before or the tree after. The same of a
 /// `commit` alone.
 pub fn a_stop_leaves_the_tree_before_or_after()
-    ensures commit { (X : List ℕ → List ℕ) (N : List ℕ → ℕ) (text : List ℕ) (a b : Contents) (p q : Profile)
+    ensures commit { (X : List ℕ → List ℕ) (N : List ℕ → ℕ) (r : Profile) (root : Cid) (a b : Contents) (p q : Profile)
         (es fs : Entries) → IsHash X → ((name : List ℕ) → N name < 2 ^ 64)
-        → IsSafeFor X N a p es → Commits text (Some a) (Some b) → LeavesTree X N q fs b.held b.notes
+        → IsSafeFor X N a p es → Commits r root (Some a) (Some b) → LeavesTree X N q fs b.held b.notes
         → IsSafeFor X N b q fs × EachStop (LeavesEither X N p es q fs) a b }
     ensures command { (X : List ℕ → List ℕ) (N : List ℕ → ℕ) (asked : Result Command Refusal) (done : Bool)
         (a b : Contents) (p q : Profile) (es fs : Entries) → IsHash X → ((name : List ℕ) → N name < 2 ^ 64)
@@ -70,4 +73,12 @@ pub fn a_stop_of_init_leaves_no_head_or_its_tree()
 pub fn a_stop_after_add_leaves_its_blocks()
     ensures { (X : List ℕ → List ℕ) (a b : Contents) (blocks : List Held) → IsPlain a → SyncsAfter X (Some a) (Some b)
         → Holds (held_at b) blocks → EachOutcome (λ held notes. Holds (λ cid. get held cid) blocks) b.writes }
+{}
+
+/// Where a store is safe for a tree, each stop in the course of a collection's sweep, which keeps what the notes lead
+/// to, leaves the tree. Each stop before the sweep does so too, and after the sweep the store is safe for it again.
+pub fn a_stop_of_a_collection_leaves_the_tree()
+    ensures { (X : List ℕ → List ℕ) (N : List ℕ → ℕ) (t : Contents) (listed : Option (List Cid)) (list : List Cid)
+        (p : Profile) (es : Entries) → IsHash X → ((name : List ℕ) → N name < 2 ^ 64)
+        → IsSafeFor X N t p es → kept_in t listed ≡ Ok list → EachSweepOutcome (LeavesTree X N p es) list t }
 {}

@@ -1,16 +1,16 @@
 // CIDs pinned, pinned no more, and listed.
 ghost use Rattle.std.specs.Prelude.{List, ℕ};
 ghost use Rattle.uf_edge.specs.Streams.{Told as Left};
-ghost use Rattle.uf_reply.specs.declared.types.Command.TheVariants as commands;
+ghost use Rattle.uf_command.specs.declared.types.Command.TheVariants as commands;
 ghost use Rattle.uf_top.specs.Around.{HostSide, around};
 ghost use Rattle.uf_top.specs.Working.{Does};
 
 use crate::cars::MOST_BLOCKS;
 use std::alloc::Global;
 use std::sync::ledger::Ledger;
+use uf_command::{PinAsk, Refusal, cid_lines, print};
 use uf_edge::Sink;
 use uf_pins::{add_pin, list_pins, remove_pin};
-use uf_reply::{PinAsk, Refusal, cid_lines, print};
 use uf_store::{Steps, Store};
 
 // Does what is asked of the pins. A CID is pinned once all that is below it was found and synced.

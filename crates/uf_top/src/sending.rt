@@ -3,16 +3,16 @@ ghost use Rattle.std.specs.Prelude.{ℕ};
 ghost use Rattle.uf_edge.specs.Streams.{Told as Left};
 ghost use Rattle.uf_top.specs.Around.{HostSide, around};
 ghost use Rattle.uf_top.specs.Working.{Does};
-ghost use Rattle.uf_reply.specs.declared.types.Command.TheVariants as commands;
+ghost use Rattle.uf_command.specs.declared.types.Command.TheVariants as commands;
 
 use crate::tree::{opening, sending};
 use std::alloc::Global;
 use std::sync::ledger::Ledger;
+use uf_command::Refusal;
 use uf_edge::Sink;
 use uf_mfs::Mfs;
 use uf_murmur::NameHash;
 use uf_path::Path;
-use uf_reply::Refusal;
 use uf_store::{Steps, Store};
 
 // Writes the bytes of a file from an offset on, at most so many.

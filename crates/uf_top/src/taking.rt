@@ -2,18 +2,18 @@
 ghost use Rattle.uf_edge.specs.Counts.{Counts};
 ghost use Rattle.uf_top.specs.Causes.{TakesAll, is_read};
 ghost use Rattle.uf_top.specs.Working.{Makes};
-ghost use Rattle.uf_reply.specs.declared.types.Command.TheVariants as commands;
+ghost use Rattle.uf_command.specs.declared.types.Command.TheVariants as commands;
 
 use crate::tree::{edit_at, opening};
 use std::alloc::Global;
 use std::sync::ledger::Ledger;
 use uf_cid::Block;
+use uf_command::{Edit, Refusal};
 use uf_edge::{Intake, Source, read_all};
 use uf_mfs::Mfs;
 use uf_murmur::NameHash;
 use uf_path::Path;
 use uf_plain::WriteHow;
-use uf_reply::{Edit, Refusal};
 use uf_store::{Steps, Store, StoreFault};
 
 // The most bytes of an input that is written into a file.

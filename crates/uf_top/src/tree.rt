@@ -2,20 +2,24 @@
 ghost use Rattle.std.specs.Prelude.{ℕ, false, true, IsTrue};
 ghost use Rattle.uf_edge.specs.Streams.{Told as Left};
 ghost use Rattle.uf_mfs.specs.Standing.{IsMfs};
+ghost use Rattle.uf_plain.specs.Metas.{is_meta_edit};
 ghost use Rattle.uf_tree.specs.Profiles.{is_profile};
+ghost use Rattle.uf_command.specs.Commands.{IsGoodAsk};
 ghost use Rattle.uf_top.specs.Causes.{IsMade, IsOpeningFault, IsSendingFault, IsTreeFault};
 ghost use Rattle.uf_top.specs.Causes.{RefusesInTree, RefusesOpening, RefusesSending};
 ghost use Rattle.uf_top.specs.Working.{EditsInMemory, Makes, WorksAt};
-ghost use Rattle.uf_reply.specs.declared.types.Ask.TheVariants as asks;
-ghost use Rattle.uf_reply.specs.declared.types.Command.TheVariants as commands;
+ghost use Rattle.uf_command.specs.declared.types.Ask.TheVariants as asks;
+ghost use Rattle.uf_command.specs.declared.types.Command.TheVariants as commands;
+ghost use Rattle.uf_command.specs.declared.types.Edit.TheVariants as edits;
 
 use std::alloc::Global;
 use std::sync::ledger::Ledger;
 use uf_cid::{Block, Memory};
+use uf_command::{Ask, Edit, Refusal, name_lines, row_lines, stat_text};
 use uf_mfs::{Mfs, MfsFault};
 use uf_murmur::NameHash;
 use uf_path::Path;
-use uf_reply::{Ask, Edit, Refusal, name_lines, row_lines, stat_text};
+use uf_plain::MetaEdit;
 use uf_store::{Steps, Store};
 use uf_tree::Profile;
 
@@ -47,6 +51,7 @@ pub fn at<S: Store, N: NameHash, L: Ledger>(
     store: &mut S,
     touches: &mut Steps<L>,
 ) -> Result<Block, Refusal>
+    requires { IsGoodAsk ask.now }
     ensures { (left : Left) (reads : ℕ)
         → Makes S.X.block32 N.name64 (commands.At ask.now path.now) result (S.seen store.old)
         (S.seen store.new) left left reads reads touches.old touches.new }
@@ -66,7 +71,8 @@ fn in_tree<S: Store, N: NameHash, L: Ledger>(
     store: &mut S,
     touches: &mut Steps<L>,
 ) -> Result<Block, Refusal>
-    requires { IsMfs tree }
+    requires mfs { IsMfs tree }
+    requires good { IsGoodAsk ask.now }
     ensures { WorksAt S.X.block32 N.name64 tree ask.now path.now result (S.seen store.old) (S.seen store.new)
         touches.old touches.new }
 {
@@ -138,7 +144,8 @@ pub fn edit_at<S: Store, N: NameHash, L: Ledger>(
     store: &mut S,
     touches: &mut Steps<L>,
 ) -> Result<Block, Refusal>
-    requires { IsMfs tree }
+    requires mfs { IsMfs tree }
+    requires good { IsGoodAsk (asks.Edit edit.now) }
     ensures { WorksAt S.X.block32 N.name64 tree (asks.Edit edit.now) path.now result (S.seen store.old)
         (S.seen store.new) touches.old touches.new }
 {
@@ -161,7 +168,8 @@ pub fn edited<S: Store, N: NameHash, L: Ledger>(
     store: &mut S,
     touches: &mut Steps<L>,
 ) -> Result<(), MfsFault>
-    requires { IsMfs tree.old }
+    requires mfs { IsMfs tree.old }
+    requires good { IsGoodAsk (asks.Edit edit.now) }
     ensures edits { EditsInMemory S.X.block32 N.name64 tree.old tree.new edit.now path.now result (S.seen store.old)
         (S.seen store.new) touches.old touches.new }
     ensures mfs { IsMfs tree.new }
@@ -177,6 +185,31 @@ pub fn edited<S: Store, N: NameHash, L: Ledger>(
         }
         Edit::Cp { dest } => tree.cp::<S, N, L>(alloc, store, path, dest, touches),
         Edit::Mv { dest } => tree.mv::<S, N, L>(alloc, store, path, dest, touches),
+        Edit::SetMeta { what } => remade::<S, N, L>(alloc, tree, *what, path, store, touches),
+    }
+}
+
+// Changes the metadata of what is at a path of the tree, in memory.
+fn remade<S: Store, N: NameHash, L: Ledger>(
+    alloc: Global,
+    tree: &mut Mfs,
+    what: MetaEdit,
+    path: &Path,
+    store: &mut S,
+    touches: &mut Steps<L>,
+) -> Result<(), MfsFault>
+    requires mfs { IsMfs tree.old }
+    requires good { IsTrue (is_meta_edit what) }
+    ensures edits { EditsInMemory S.X.block32 N.name64 tree.old tree.new (edits.SetMeta what) path.now result
+        (S.seen store.old) (S.seen store.new) touches.old touches.new }
+    ensures mfs { IsMfs tree.new }
+{
+    match what {
+        MetaEdit::Mode(mode) => tree.set_mode::<S, N, L>(alloc, store, path, mode, touches),
+        MetaEdit::Modified(mtime) => {
+            tree.set_mtime::<S, N, L>(alloc, store, path, &mtime, touches)
+        }
+        MetaEdit::Strip => tree.strip::<S, N, L>(alloc, store, path, touches),
     }
 }
 

@@ -10,21 +10,24 @@ use Rattle.std.proofs.lemmas.List.{length-map, map-append}
 use Rattle.std.proofs.lemmas.List.Sums.{sum-map}
 use Rattle.uf_dagpb.specs.declared.node.Link.{Link}
 use Rattle.uf_murmur.specs.Slots.{slot}
+use Rattle.uf_tree.specs.declared.meta.Meta.{Meta}
 use Rattle.uf_tree.specs.declared.nodes.Part.{Part}
 use Rattle.uf_tree.specs.declared.profile.Profile.{Profile}
 use Rattle.uf_tree.specs.DirPlan.{is_sharded, weight}
-use Rattle.uf_tree.specs.FilePlan.{Plan, groups, node_over}
-use Rattle.uf_tree.specs.FileSub.{span, part_over, IsHeight}
+use Rattle.uf_tree.specs.FilePlan.{Plan, groups, node_over, root_node}
+use Rattle.uf_tree.specs.FileSub.{span, part_over, IsFileHeight, IsHeight, lowest}
+use Rattle.uf_tree.specs.Metas.{is_meta, none}
 use Rattle.uf_tree.specs.Nodes.{Named, file_block, dir_block, shard_block}
 use Rattle.uf_tree.specs.Profiles.{is_profile}
-use Rattle.uf_tree.specs.Roles.{IsCanonicalDirectory, Basic, Sharded, IsCanonicalShard, IsOnWay, IsCanonicalFileNode, IsSpanned, Root, Below, part_sizes, part_codec}
+use Rattle.uf_tree.specs.Roles.{CarriesAt, IsHeightAt, IsCanonicalDirectory, Basic, Sharded, IsCanonicalShard, IsOnWay, IsCanonicalFileNode, IsSpanned, MayCarry, Root, Below, part_sizes, part_codec}
 use Rattle.uf_tree.specs.Shardable.{HasShard}
 use Rattle.uf_tree.specs.ShardPlan.{shard, shard_items, slot_item, bucket}
 use Rattle.uf_tree.specs.Validity.{IsHash, IsEntry, IsNamed, IsDirectory}
 use Rattle.uf_tree.proofs.Each.{each_tabulate}
 use Rattle.uf_tree.proofs.Groups.{joined-split}
 use Rattle.uf_tree.proofs.Nested.{groups-map}
-use Rattle.uf_tree.proofs.Valid.{shard-valid, shard_items-valid, file_node-valid, sub-size, sum_sizes}
+use Rattle.uf_tree.proofs.Rows.{lowest-one}
+use Rattle.uf_tree.proofs.Valid.{shard-valid, shard_items-valid, file_node-valid, root_node-valid, sub-size, sum_sizes}
 
 pub light : (p : Profile) (l : List Named) → is_sharded p l ≡ false → weight l ≤ p.threshold
 light p l h = grind (arith, nat_tests)
@@ -36,11 +39,18 @@ heavy p [] h = absurd (no p h)
     no p h = grind (arith, nat_tests)
 heavy p (e ∷ l) h = omega arith
 
-pub basic-canonical : (p : Profile) (l : List Named) → IsDirectory l → is_sharded p l ≡ false → IsCanonicalDirectory (Some p) true (dir_block l)
-basic-canonical p l valid h = Basic (record { pairs = l; valid = valid; light = light p l h; is = refl })
+pub basic-canonical : (p : Profile) (m : Meta) (l : List Named) → IsTrue (is_meta m) → IsDirectory l → is_sharded p l ≡ false → IsCanonicalDirectory (Some p) true (dir_block m l)
+basic-canonical p m l good valid h = Basic (record { meta = m; pairs = l; good = good; valid = valid; light = light p l h; is = refl })
 
-pub sharded-canonical : (X : List ℕ → List ℕ) → IsHash X → (N : List ℕ → ℕ) (p : Profile) (l : List Named) → IsDirectory l → is_sharded p l ≡ true → IsCanonicalDirectory (Some p) true (shard_block (shard_items N (shard X N 6) 0 l))
-sharded-canonical X good N p l valid h = Sharded (record { items = shard_items N (shard X N 6) 0 l; valid = shard_items-valid N (shard X N 6) (shard-valid X good N 6) 0 l valid.each (heavy p l h); is = refl })
+pub sharded-canonical : (X : List ℕ → List ℕ) → IsHash X → (N : List ℕ → ℕ) (p : Profile) (m : Meta) (l : List Named) → IsTrue (is_meta m) → IsDirectory l → is_sharded p l ≡ true
+    → IsCanonicalDirectory (Some p) true (shard_block m (shard_items N (shard X N 6 none) 0 l))
+sharded-canonical X good N p m l carried valid h = Sharded (record {
+  meta = m;
+  items = shard_items N (shard X N 6 none) 0 l;
+  good = carried;
+  valid = shard_items-valid N (shard X N 6 none) (shard-valid X good N 6 none) 0 l valid.each (heavy p l h);
+  is = refl;
+})
 
 module _ (N : List ℕ → ℕ) where
   -- the slots of a name down to a level are these
@@ -85,10 +95,13 @@ module _ (N : List ℕ → ℕ) where
   few_last zero way l e h s seven = subst (λ k. length (bucket N k s l) ≤ 1) (sym seven) (h s)
   few_last (suc left) way l e h s seven = absurd (omega arith)
 
-  pub shard-canonical : (deeper : List Named → Plan) → ((m : List Named) → IsEntry (deeper m).entry) → (left : ℕ) (way : List ℕ) (l : List Named) → length way + left ≡ 7
-      → AllByRecursion IsNamed l → 1 ≤ length l → AllByRecursion (Along way) l → HasShard N left l
-      → IsCanonicalShard N way (shard_block (shard_items N deeper (length way) l))
-  shard-canonical deeper good left way l e named some along has = record {
+  pub shard-canonical : (deeper : List Named → Plan) → ((m : List Named) → IsEntry (deeper m).entry) → (left : ℕ) (way : List ℕ) (meta : Meta) (l : List Named) → length way + left ≡ 7
+      → IsTrue (is_meta meta) → MayCarry way meta → AllByRecursion IsNamed l → 1 ≤ length l → AllByRecursion (Along way) l → HasShard N left l
+      → IsCanonicalShard N way (shard_block meta (shard_items N deeper (length way) l))
+  shard-canonical deeper good left way meta l e carried may named some along has = record {
+    meta = meta;
+    good = carried;
+    carries = may;
     items = shard_items N deeper (length way) l;
     valid = shard_items-valid N deeper good (length way) l named some;
     on_way = each_tabulate (IsOnWay N way) 256 0 256 (λ s. slot_item deeper (bucket N (length way) s l)) (omega arith)
@@ -133,6 +146,15 @@ module _ (X : List ℕ → List ℕ) (good : IsHash X) (p : Profile) (ok : IsTru
       ∙ ap (λ zs. map (λ (g : List ℕ). length g) (groups (span p.chunk p.width k) zs)) (zeros bytes)
       ∙ ap (part_sizes p k) (sym (total k bytes))
 
+  -- what has no metadata may stand at every place
+  carries-none : (above declared whole : ℕ) → CarriesAt (Below above declared whole) none
+  carries-none zero declared whole = tt
+  carries-none (suc above) declared whole = refl
+
+  height-none : (above declared whole total height : ℕ) → IsHeight p.chunk p.width whole height → IsHeightAt p (Below above declared whole) none total height
+  height-none zero declared whole total height h = record { fits = h.fits; enough = omega arith; least = λ k low less. h.least k less }
+  height-none (suc above) declared whole total height h = h
+
   -- a node of a file at its place
   pub node-canonical : (above k whole : ℕ) (bytes : List ℕ) → IsHeight p.chunk p.width whole (above + suc k) → above < 22
       → IsSpanned p (suc k) whole (length bytes) → length bytes < 2 ^ 63
@@ -141,22 +163,24 @@ module _ (X : List ℕ → List ℕ) (good : IsHash X) (p : Profile) (ok : IsTru
     node = node_over (node_at k bytes);
     valid = file_node-valid X good p ok k bytes fit small;
     few = few;
+    carries = carries-none above (length bytes) whole;
     declared = total k bytes;
-    planned = record { below = k; height = height; has_place = place; sizes = planned_sizes k bytes; codecs = codecs_are k (groups (span p.chunk p.width k) bytes) };
+    planned = record { below = k; height = height-none above (length bytes) whole (sum (node_over (node_at k bytes)).sizes) (above + suc k) height; has_place = place; sizes = planned_sizes k bytes; codecs = codecs_are k (groups (span p.chunk p.width k) bytes) };
     is = refl;
   }
 
   -- the root of a file that has a node
-  pub root-canonical : (k : ℕ) (bytes : List ℕ) → IsHeight p.chunk p.width (length bytes) (suc k) → length bytes < 2 ^ 63
-      → IsCanonicalFileNode (Some p) Root (file_block (node_over (node_at k bytes)))
-  root-canonical k bytes height small = record {
-    node = node_over (node_at k bytes);
-    valid = file_node-valid X good p ok k bytes height.fits small;
+  pub root-canonical : (m : Meta) → IsTrue (is_meta m) → (k : ℕ) (bytes : List ℕ) → IsFileHeight p.chunk p.width m (length bytes) (suc k) → length bytes < 2 ^ 63
+      → IsCanonicalFileNode (Some p) Root (file_block (root_node m (node_at k bytes)))
+  root-canonical m carried k bytes height small = record {
+    node = root_node m (node_at k bytes);
+    valid = root_node-valid X good p ok m carried k bytes height.fits small;
     few = omega arith;
+    carries = tt;
     declared = tt;
     planned = record {
       below = k;
-      height = subst (λ n. IsHeight p.chunk p.width n (0 + suc k)) (sym (total k bytes)) (subst (λ h. IsHeight p.chunk p.width (length bytes) h) (let z : suc k ≡ 0 + suc k = omega arith in z) height);
+      height = subst (λ n. IsFileHeight p.chunk p.width m n (0 + suc k)) (sym (total k bytes)) (subst (λ h. IsFileHeight p.chunk p.width m (length bytes) h) (let z : suc k ≡ 0 + suc k = omega arith in z) height);
       has_place = tt;
       sizes = planned_sizes k bytes;
       codecs = codecs_are k (groups (span p.chunk p.width k) bytes);
@@ -179,4 +203,14 @@ few_rows c w n h two short height = by (cases_lt 22 h)
   where
     by : (22 < h) ⊎ (h ≤ 22) → h ≤ 22
     by (inl high) = let past : span c w 22 < n = height.least 22 high in let big : c * 4194304 ≤ span c w 22 = doubles c w 22 two in absurd (omega arith)
+    by (inr le) = le
+
+pub few_file_rows : (c w : ℕ) (m : Meta) (n h : ℕ) → 2 ≤ w → n ≤ c * 4194304 → IsFileHeight c w m n h → h ≤ 22
+few_file_rows c w m n h two short height = by (cases_lt 22 h)
+  where
+    low : lowest m ≤ 22
+    low = let one : lowest m ≤ 1 = lowest-one m in omega arith
+
+    by : (22 < h) ⊎ (h ≤ 22) → h ≤ 22
+    by (inl high) = let past : span c w 22 < n = height.least 22 low high in let big : c * 4194304 ≤ span c w 22 = doubles c w 22 two in absurd (omega arith)
     by (inr le) = le

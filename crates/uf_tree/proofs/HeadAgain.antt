@@ -3,7 +3,7 @@ use Rattle.std.proofs.Common.{◌≡◌, ℕ, zero, suc, ◌+◌, ◌%◌, ◌^�
 use Rattle.std.specs.Prelude.{◌&&◌, ◌==◌, codes, flat_map, nat_le, IsTrue}
 use Rattle.std.specs.Fmt.{decimal}
 use Rattle.std.specs.List.{AllByRecursion}
-use Rattle.std.specs.Option.{option_and_then, option_map, ok_or}
+use Rattle.std.specs.Option.{option_and_then, option_map, option_or, ok_or}
 use Rattle.std.specs.Str.{bytes_eq, IsUtf8}
 use Rattle.std.proofs.lemmas.Bool.{cases_lt, le-ltb, lt-ltb}
 use Rattle.std.proofs.lemmas.Bool.Decides.{nat_tests}
@@ -21,8 +21,8 @@ use Rattle.uf_cid.proofs.Again.{text_again}
 use Rattle.uf_tree.specs.declared.head_fault.HeadFault.TheVariants as heads
 use Rattle.uf_tree.specs.declared.profile.Head.{Head}
 use Rattle.uf_tree.specs.declared.profile.Profile.{Profile}
-use Rattle.uf_tree.specs.HeadReading.{behind, first_line, head_reads, is_node, line_at, number_in, number_line, root_in, root_line, worded_at}
-use Rattle.uf_tree.specs.Heads.{head_text, line}
+use Rattle.uf_tree.specs.HeadReading.{behind, version_line, first_line, head_reads, is_node, line_at, number_in, number_line, root_in, root_line, worded_at}
+use Rattle.uf_tree.specs.Heads.{text_in, line, IsHeadText}
 use Rattle.uf_tree.specs.Profiles.{is_profile}
 use Rattle.uf_tree.proofs.Each.{both}
 use Rattle.uf_tree.proofs.HeadLines.{behind-front, number_some, root_read}
@@ -131,9 +131,23 @@ root_again c rest h node =
     ap (λ o. ok_or o (heads.Line 5) >>= λ (x : List ℕ × List ℕ). ok_or (root_in x.0) heads.Root >>= λ k. Ok (k, x.1)) (worded_again (codes "root ") (cid_text c) rest (refl, (refl, (refl, (refl, (refl, tt))))) (cid_plain c))
     ∙ ap (λ o. ok_or o heads.Root >>= λ k. Ok (k, rest)) (root_in-text c h node)
 
-first_again : (rest : List ℕ) → first_line (line (codes "unixfs-head ") (codes "1") ++ rest) ≡ Ok rest
+-- the first line of a version is read
+abbrev IsFirst : List ℕ → Type 0
+IsFirst version = (rest : List ℕ) → first_line (line (codes "unixfs-head ") version ++ rest) ≡ Ok rest
+
+second_first : IsFirst (codes "2")
 unfolding first_line
-first_again rest = ap (λ o. ok_or o heads.Version) (behind-front (line (codes "unixfs-head ") (codes "1")) rest)
+second_first rest = ap (λ o. ok_or (option_or o (version_line (codes "1") (line (codes "unixfs-head ") (codes "2") ++ rest))) heads.Version) (behind-front (line (codes "unixfs-head ") (codes "2")) rest)
+
+not_second : (rest : List ℕ) → version_line (codes "2") (line (codes "unixfs-head ") (codes "1") ++ rest) ≡ None
+unfolding behind
+not_second rest = refl
+
+first_first : IsFirst (codes "1")
+unfolding first_line
+first_first rest =
+    ap (λ o. ok_or (option_or o (version_line (codes "1") (line (codes "unixfs-head ") (codes "1") ++ rest))) heads.Version) (not_second rest)
+    ∙ ap (λ o. ok_or o heads.Version) (behind-front (line (codes "unixfs-head ") (codes "1")) rest)
 
 abbrev head_of : ℕ → ℕ → ℕ → Cid → Head
 head_of chunk width threshold root = record { profile = record { chunk = chunk; width = width; threshold = threshold }; root = root }
@@ -147,9 +161,9 @@ in_turn bytes one two three four chunk width threshold root a b c d e = rw (a, b
 behind_one_another : (a b c d e : List ℕ) → (((a ++ b) ++ c) ++ d) ++ e ≡ a ++ (b ++ (c ++ (d ++ (e ++ []))))
 behind_one_another a b c d e = simp (append_assoc, append-nil)
 
-pub head_again : (p : Profile) (c : Cid) → IsTrue (is_profile p) → IsCid c → c.codec ≡ DagPb → head_reads (head_text p c) ≡ Ok (record { profile = p; root = c })
-unfolding head_text
-head_again p c ok h node =
+version_again : (version : List ℕ) → IsFirst version → (p : Profile) (c : Cid) → IsTrue (is_profile p) → IsCid c → c.codec ≡ DagPb → head_reads (text_in version p c) ≡ Ok (record { profile = p; root = c })
+unfolding text_in
+version_again version first p c ok h node =
     let k = kept p ok in
     let chunk : p.chunk ≤ 1048576 = k.short in
     let width : p.width ≤ 1024 = k.few in
@@ -158,10 +172,14 @@ head_again p c ok h node =
     let d = line (codes "threshold ") (decimal p.threshold) in
     let w = line (codes "width ") (decimal p.width) in
     let s = line (codes "chunk ") (decimal p.chunk) in
-    ap head_reads (behind_one_another (line (codes "unixfs-head ") (codes "1")) s w d (line (codes "root ") (cid_text c)))
-    ∙ in_turn (line (codes "unixfs-head ") (codes "1") ++ (s ++ (w ++ (d ++ e)))) (s ++ (w ++ (d ++ e))) (w ++ (d ++ e)) (d ++ e) e p.chunk p.width p.threshold c
-    (first_again (s ++ (w ++ (d ++ e))))
+    ap head_reads (behind_one_another (line (codes "unixfs-head ") version) s w d (line (codes "root ") (cid_text c)))
+    ∙ in_turn (line (codes "unixfs-head ") version ++ (s ++ (w ++ (d ++ e)))) (s ++ (w ++ (d ++ e))) (w ++ (d ++ e)) (d ++ e) e p.chunk p.width p.threshold c
+    (first (s ++ (w ++ (d ++ e))))
     (number_again 2 1 1048576 p.chunk (codes "chunk ") (w ++ (d ++ e)) (refl, (refl, (refl, (refl, (refl, (refl, tt)))))) (omega arith) k.some chunk)
     (number_again 3 2 1024 p.width (codes "width ") (d ++ e) (refl, (refl, (refl, (refl, (refl, (refl, tt)))))) (omega arith) k.two width)
     (number_again 4 0 1048576 p.threshold (codes "threshold ") e (refl, (refl, (refl, (refl, (refl, (refl, (refl, (refl, (refl, (refl, tt)))))))))) (omega arith) (omega arith) threshold)
     (root_again c [] h node)
+
+pub head_again : (text : List ℕ) (p : Profile) (c : Cid) → IsTrue (is_profile p) → IsCid c → c.codec ≡ DagPb → IsHeadText text p c → head_reads text ≡ Ok (record { profile = p; root = c })
+head_again text p c ok h node (inl e) = ap head_reads e ∙ version_again (codes "2") second_first p c ok h node
+head_again text p c ok h node (inr e) = ap head_reads e ∙ version_again (codes "1") first_first p c ok h node

@@ -2,7 +2,7 @@
 use Rattle.std.proofs.Common.{◌≡◌, ℕ, ◌≤◌, List, [], ◌∷◌, ◌++◌, length, refl, ap, append_assoc, arith, subst, sym, ◌∙◌, ◌⊎◌, inl, inr, Result, Ok, Err, Bool, true, false, cond, Option, None, Some}
 use Rattle.std.specs.Prelude.{◌&&◌, ◌==◌, codes, flat_map, nat_le, IsTrue}
 use Rattle.std.specs.Fmt.{decimal}
-use Rattle.std.specs.Option.{option_and_then, option_map, ok_or}
+use Rattle.std.specs.Option.{option_and_then, option_map, option_or, ok_or}
 use Rattle.std.specs.Str.{bytes_eq, is_utf8}
 use Rattle.std.specs.Str.Parse.{digits_value}
 use Rattle.std.proofs.lemmas.Bool.{cases_Bool, eqb-true}
@@ -24,8 +24,8 @@ use Rattle.uf_cid.proofs.Again.{read_whole}
 use Rattle.uf_tree.specs.declared.head_fault.HeadFault.{HeadFault}
 use Rattle.uf_tree.specs.declared.head_fault.HeadFault.TheVariants as heads
 use Rattle.uf_tree.specs.declared.profile.Head.{Head}
-use Rattle.uf_tree.specs.HeadReading.{behind, first_line, head_reads, is_node, line_at, node_of, number_in, number_line, root_in, root_line, worded_at}
-use Rattle.uf_tree.specs.Heads.{head_text, line, IsHeadOf}
+use Rattle.uf_tree.specs.HeadReading.{behind, version_line, first_line, head_reads, is_node, line_at, node_of, number_in, number_line, root_in, root_line, worded_at}
+use Rattle.uf_tree.specs.Heads.{text_in, line, IsHeadOf}
 use Rattle.uf_tree.specs.Profiles.{is_profile}
 use Rattle.uf_tree.specs.Standing.{IsRefusedText}
 use Rattle.uf_tree.proofs.HeadAgain.{head_again}
@@ -230,11 +230,15 @@ root_line_is bytes x e =
 
 -- ---- the whole
 
-first_line_is : (bytes rest : List ℕ) → first_line bytes ≡ Ok rest → bytes ≡ line (codes "unixfs-head ") (codes "1") ++ rest
+first_line_is : (bytes rest : List ℕ) → first_line bytes ≡ Ok rest
+    → (bytes ≡ line (codes "unixfs-head ") (codes "2") ++ rest) ⊎ (bytes ≡ line (codes "unixfs-head ") (codes "1") ++ rest)
 unfolding first_line
-first_line_is bytes rest e =
-    let one = line (codes "unixfs-head ") (codes "1") in
-    behind_is one bytes rest (found (behind one bytes) heads.Version rest e)
+first_line_is bytes rest e = by (version_line (codes "2") bytes) refl (found (option_or (version_line (codes "2") bytes) (version_line (codes "1") bytes)) heads.Version rest e)
+  where
+    by : (o : Option (List ℕ)) → version_line (codes "2") bytes ≡ o → option_or o (version_line (codes "1") bytes) ≡ Some rest
+        → (bytes ≡ line (codes "unixfs-head ") (codes "2") ++ rest) ⊎ (bytes ≡ line (codes "unixfs-head ") (codes "1") ++ rest)
+    by (Some r) is k = inl (behind_is (line (codes "unixfs-head ") (codes "2")) bytes rest (is ∙ k))
+    by None is k = inr (behind_is (line (codes "unixfs-head ") (codes "1")) bytes rest k)
 
 accepted : (chunk width threshold : ℕ) → InRange 1 1048576 chunk → InRange 2 1024 width → InRange 0 1048576 threshold → IsTrue (is_profile (record { chunk = chunk; width = width; threshold = threshold }))
 accepted chunk width threshold a b c = grind (arith, nat_tests, a.least, a.most, b.least, b.most, c.most)
@@ -277,7 +281,7 @@ after_first one = number_line 2 (codes "chunk ") 1 1048576 one >>= after_chunk
 in_turn : (bytes one two three four rest : List ℕ) (chunk width threshold : ℕ) (root : Cid) (head : Head) → first_line bytes ≡ Ok one → number_line 2 (codes "chunk ") 1 1048576 one ≡ Ok (chunk, two)
     → number_line 3 (codes "width ") 2 1024 two ≡ Ok (width, three) → number_line 4 (codes "threshold ") 0 1048576 three ≡ Ok (threshold, four) → root_line four ≡ Ok (root, rest)
     → after_root chunk width threshold (root, rest) ≡ Ok head → IsHeadOf bytes head
-unfolding head_text
+unfolding text_in
 in_turn bytes one two three four rest chunk width threshold root head first second third fourth fifth last =
     let ended = end_is chunk width threshold root rest head last in
     let c = number_line_is 2 1 1048576 (codes "chunk ") one (chunk, two) second in
@@ -288,8 +292,12 @@ in_turn bytes one two three four rest chunk width threshold root head first seco
       profile = accepted chunk width threshold c.1 w.1 t.1;
       root = r.1.whole;
       node = r.1.node;
-      text = behind_one_another bytes (line (codes "unixfs-head ") (codes "1")) one (line (codes "chunk ") (decimal chunk)) two (line (codes "width ") (decimal width)) three
-          (line (codes "threshold ") (decimal threshold)) four (line (codes "root ") (cid_text root)) rest (first_line_is bytes one first) c.0 w.0 t.0 r.0 ended.0;
+      text = elim (first_line_is bytes one first) [
+        | inl q ↦ inl (behind_one_another bytes (line (codes "unixfs-head ") (codes "2")) one (line (codes "chunk ") (decimal chunk)) two (line (codes "width ") (decimal width)) three
+            (line (codes "threshold ") (decimal threshold)) four (line (codes "root ") (cid_text root)) rest q c.0 w.0 t.0 r.0 ended.0)
+        | inr q ↦ inr (behind_one_another bytes (line (codes "unixfs-head ") (codes "1")) one (line (codes "chunk ") (decimal chunk)) two (line (codes "width ") (decimal width)) three
+            (line (codes "threshold ") (decimal threshold)) four (line (codes "root ") (cid_text root)) rest q c.0 w.0 t.0 r.0 ended.0)
+      ];
     })
 
 pub head_is : (bytes : List ℕ) (head : Head) → head_reads bytes ≡ Ok head → IsHeadOf bytes head
@@ -304,7 +312,7 @@ head_is bytes head e =
 
 -- a text that isn't read is none of a Head
 pub head_is_not : (bytes : List ℕ) (fault : HeadFault) → head_reads bytes ≡ Err fault → IsRefusedText bytes
-head_is_not bytes fault e p c ok whole node is = absurd (not_ok fault (record { profile = p; root = c }) (sym e ∙ ap head_reads is ∙ head_again p c ok whole node))
+head_is_not bytes fault e p c ok whole node is = absurd (not_ok fault (record { profile = p; root = c }) (sym e ∙ head_again bytes p c ok whole node is))
 
 -- ---- line by line
 

@@ -11,6 +11,7 @@ pub mod Groups
 pub mod HeadAgain
 pub mod HeadIs
 pub mod HeadLines
+pub mod MetaNumbers
 pub mod Naming
 pub mod Nested
 pub mod Reading

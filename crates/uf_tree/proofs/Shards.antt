@@ -1,6 +1,6 @@
 -- Blocks of shards.
-use Rattle.std.proofs.Common.{◌≡◌, ◌≢◌, ℕ, zero, suc, get_or, ◌+◌, ◌/◌, ◌%◌, ◌^◌, ◌<◌, ◌≤◌, List, [], ◌∷◌, ◌++◌, length, map, refl, ap, arith, subst, sym, ◌∙◌, ◌⊎◌, inl, inr, Ok, Err, Result, Bool, true, cond, Some, nat_eq, Less, Equal, Greater}
-use Rattle.std.specs.Prelude.{◌&&◌, IfOk, MatchResult}
+use Rattle.std.proofs.Common.{◌≡◌, ◌≢◌, ℕ, zero, suc, get_or, ◌+◌, ◌/◌, ◌%◌, ◌^◌, ◌<◌, ◌≤◌, List, [], ◌∷◌, ◌++◌, length, map, refl, ap, arith, subst, sym, ◌∙◌, ◌⊎◌, inl, inr, Ok, Err, Result, Bool, true, cond, Some, None, nat_eq, Less, Equal, Greater}
+use Rattle.std.specs.Prelude.{◌&&◌, IfOk, IsTrue, MatchResult}
 use Rattle.std.specs.Cmp.{nat_cmp_total}
 use Rattle.std.specs.Cmp.Lexicographic.{slice_cmp}
 use Rattle.std.specs.List.{AllByRecursion}
@@ -15,30 +15,38 @@ use Rattle.uf_cid.specs.declared.bytes.StrictFault.TheVariants as strict
 use Rattle.uf_dagpb.specs.declared.node.Link.{Link}
 use Rattle.uf_dagpb.specs.declared.node.Node.{Node}
 use Rattle.uf_dagpb.specs.Spelling.{node_bytes, are_sorted, AreLinks, IsLink, IsNode}
-use Rattle.uf_tree.specs.Codecs.{Reads, shard_dag, shard_spelling}
-use Rattle.uf_tree.specs.Nodes.{InSlot, hex_digit, item_entry, item_name, shard_block, slot_digits, slot_link}
+use Rattle.uf_message.specs.Spelling.{message_bytes, IsMessage}
+use Rattle.uf_message.specs.Strict.{GivesValue}
+use Rattle.uf_message.proofs.Again.{one_message}
+use Rattle.uf_message.specs.declared.message.Message.{Message}
+use Rattle.uf_tree.specs.declared.meta.Meta.{Meta}
+use Rattle.uf_tree.specs.declared.nodes.ShardNode.{ShardNode}
+use Rattle.uf_tree.specs.Codecs.{MetaOf, Reads, meta_in, shard_dag, shard_node_block, shard_spelling}
+use Rattle.uf_tree.specs.Metas.{is_meta}
+use Rattle.uf_tree.specs.Nodes.{InSlot, bitfield, hex_digit, item_entry, item_name, shard_block, shard_message, slot_digits, slot_link}
 use Rattle.uf_tree.specs.Rising.{rises}
-use Rattle.uf_tree.specs.Validity.{IsEntry, IsInSlot, IsItem, IsShard}
+use Rattle.uf_tree.specs.Validity.{IsEntry, IsInSlot, IsItem, IsShard, IsShardNode}
 use Rattle.uf_tree.specs.declared.nodes.Item.{Item}
 use Rattle.uf_tree.specs.declared.nodes.Item.TheVariants.{Leaf, Sub}
 use Rattle.uf_tree.proofs.Reading.{node_refused, node_read}
 use Rattle.uf_tree.proofs.Rises.{rises-sorted}
-use Rattle.uf_tree.proofs.Sizes.{shard_length, name_length}
+use Rattle.uf_tree.proofs.MetaNumbers.{mode_fits, nanos_fit, seconds_fit}
+use Rattle.uf_tree.proofs.Sizes.{bitfield_length, shard_length, name_length}
 use Rattle.uf_tree.proofs.Twins.{both_true}
 
 -- ---- written
 
-pub shard_is : (r : Result (List ℕ) Memory) (items first second : List InSlot) (content slice : List ℕ) → first ≡ items → second ≡ items → content ≡ shard_spelling first → slice ≡ content
-    → IfOk r (λ b. b ≡ node_bytes (record { links = map slot_link second; content = Some slice })) → IfOk r (λ b. b ≡ shard_block items)
+pub shard_is : (r : Result (List ℕ) Memory) (m : Meta) (items first second : List InSlot) (content slice : List ℕ) → first ≡ items → second ≡ items → content ≡ shard_spelling m first → slice ≡ content
+    → IfOk r (λ b. b ≡ node_bytes (record { links = map slot_link second; content = Some slice })) → IfOk r (λ b. b ≡ shard_block m items)
 unfolding shard_block
-shard_is (Err e) items first second content slice a b c s k = tt
-shard_is (Ok x) items first second content slice a b c s k =
+shard_is (Err e) m items first second content slice a b c s k = tt
+shard_is (Ok x) m items first second content slice a b c s k =
     k ∙ ap (λ (l : List InSlot). node_bytes (record { links = map slot_link l; content = Some slice })) b
-    ∙ ap (λ (y : List ℕ). node_bytes (record { links = map slot_link items; content = Some y })) (s ∙ c ∙ ap shard_spelling a)
+    ∙ ap (λ (y : List ℕ). node_bytes (record { links = map slot_link items; content = Some y })) (s ∙ c ∙ ap (shard_spelling m) a)
 
-pub shard_small : (r : Result (List ℕ) Memory) (items : List InSlot) → IsShard items → IfOk r (λ b. b ≡ shard_block items) → IfOk r (λ b. length b ≤ 2097152)
-shard_small (Err e) items h k = tt
-shard_small (Ok b) items h k = omega (arith, shard_length items h, ap length k)
+pub shard_small : (r : Result (List ℕ) Memory) (m : Meta) (items : List InSlot) → IsShard items → IfOk r (λ b. b ≡ shard_block m items) → IfOk r (λ b. length b ≤ 2097152)
+shard_small (Err e) m items h k = tt
+shard_small (Ok b) m items h k = omega (arith, shard_length m items h, ap length k)
 
 -- ---- digits
 
@@ -142,18 +150,49 @@ slots_sorted (a ∷ b ∷ l) h all =
     let again = slots_sorted (b ∷ l) parts.1 all.1 in
     ap (λ (x : Bool). x && are_sorted (map slot_link (b ∷ l))) (names_in_order a.0 b.0 (item_name a.1) (item_name b.1) (lower a.0 b.0 parts.0) all.1.0.slot) ∙ again
 
-pub shard_dag-node : (l : List InSlot) → IsShard l → IsNode (shard_dag l)
-shard_dag-node l h = record { links = slots_are_links l h.each; sorted = slots_sorted l (rises-sorted nat_cmp_total l ∙ h.sorted) h.each }
+pub shard_dag-node : (node : ShardNode) → IsShardNode node → IsNode (shard_dag node)
+shard_dag-node node h = record {
+  links = slots_are_links node.items h.items.each;
+  sorted = slots_sorted node.items (rises-sorted nat_cmp_total node.items ∙ h.items.sorted) h.items.each;
+}
+
+-- ---- the message of the metadata
+
+abbrev slots_of : List InSlot → List ℕ
+slots_of items = map (λ (p : InSlot). p.0) items
+
+-- a bitfield is no longer than 64 bits can tell
+short_bits : (slots : List ℕ) → length (bitfield slots) < 2 ^ 64
+short_bits slots = let few : length (bitfield slots) ≤ 32 = bitfield_length slots in omega arith
+
+fits : (m : Meta) (items : List InSlot) → IsTrue (is_meta m) → IsMessage (shard_message m (map (λ (p : InSlot). p.0) items))
+fits m items h = record {
+  content = short_bits (map (λ (p : InSlot). p.0) items);
+  filesize = tt;
+  blocksizes = tt;
+  hash_type = omega arith;
+  fanout = omega arith;
+  mode = mode_fits m h;
+  seconds = seconds_fit m h;
+  nanos = nanos_fit m h;
+}
+
+pub meta_refused : (content : List ℕ) (f : StrictFault) → ((n : Message) → IsMessage n → content ≡ message_bytes n → GivesValue (Err f) n) → MetaOf content (Err f)
+meta_refused content strict.Memory only = inl refl
+meta_refused content strict.NotCanonical only = inr (λ m items h e. only (shard_message m (map (λ (p : InSlot). p.0) items)) (fits m items h) e)
+
+pub the_meta : (content : List ℕ) (n : Message) (meta : Meta) → ((n' : Message) → IsMessage n' → content ≡ message_bytes n' → GivesValue (Ok n) n') → meta ≡ meta_in n → MetaOf content (Ok meta)
+the_meta content n meta only its m items h e = sym (its ∙ ap meta_in (only (shard_message m (map (λ (p : InSlot). p.0) items)) (fits m items h) e))
 
 -- ---- read
 
-pub shard_refused : (bytes : List ℕ) (f : StrictFault) → (f ≡ strict.Memory) ⊎ ((n : Node) → IsNode n → bytes ≢ node_bytes n) → Reads IsShard shard_block bytes (Err f)
+pub shard_refused : (bytes : List ℕ) (f : StrictFault) → (f ≡ strict.Memory) ⊎ ((n : Node) → IsNode n → bytes ≢ node_bytes n) → Reads IsShardNode shard_node_block bytes (Err f)
 unfolding shard_block
-shard_refused bytes f h = node_refused IsShard shard_dag shard_dag-node bytes f h
+shard_refused bytes f h = node_refused IsShardNode shard_dag shard_dag-node bytes f h
 
-pub shard_read : (bytes : List ℕ) (node : Node) (r : Result (List InSlot) StrictFault) → length bytes < 2 ^ 64 → IsNode node × (bytes ≡ node_bytes node) → Reads IsShard shard_dag node r → Reads IsShard shard_block bytes r
+pub shard_read : (bytes : List ℕ) (node : Node) (r : Result ShardNode StrictFault) → length bytes < 2 ^ 64 → IsNode node × (bytes ≡ node_bytes node) → Reads IsShardNode shard_dag node r → Reads IsShardNode shard_node_block bytes r
 unfolding shard_block
-shard_read bytes node r small h k = node_read IsShard shard_dag shard_dag-node bytes node small h.0 h.1 r k
+shard_read bytes node r small h k = node_read IsShardNode shard_dag shard_dag-node bytes node small h.0 h.1 r k
 
 same_item : (x y : Item) → IsItem x → IsItem y → item_name x ≡ item_name y → item_entry x ≡ item_entry y → x ≡ y
 same_item (Leaf n e) (Leaf m f) h k a b = λ i. Leaf (a i) (b i)
@@ -201,14 +240,59 @@ one_shard (p ∷ l) (q ∷ m) h k e =
     tails : (a b : Link) (x y : List Link) → a ∷ x ≡ b ∷ y → x ≡ y
     tails a b x y e = cc
 
-pub shard_of_parts : (node : Node) (slice : List Link) (items : List InSlot) (r : Result (List InSlot) StrictFault) → slice ≡ node.links → AllByRecursion IsInSlot items × (slice ≡ map slot_link items)
-    → MatchResult r (λ v. (v ≡ items) × IsShard items × (node.content ≡ Some (shard_spelling items))) (λ f. (f ≡ strict.Memory) ⊎ (IsShard items → node.content ≢ Some (shard_spelling items)))
-    → Reads IsShard shard_dag node r
-shard_of_parts node slice items (Ok v) s h k =
-    let built : node ≡ shard_dag items = λ i. record { links = (sym s ∙ h.1) i; content = k.2 i } in
-    (subst IsShard (sym k.0) k.1, built ∙ ap shard_dag (sym k.0))
-shard_of_parts node slice items (Err f) s h (inl m) = inl m
-shard_of_parts node slice items (Err f) s h (inr no_shard) = inr (λ v j e. by v j e (one_shard v items j.each h.0 (sym (ap (λ (n : Node). n.links) e) ∙ sym s ∙ h.1)))
+abbrev of_parts : List InSlot → Meta → ShardNode
+of_parts items meta = record { items = items; meta = meta }
+
+some_is : (x y : List ℕ) → Some x ≡ Some y → x ≡ y
+some_is x y e = cc
+
+-- the content that a shard's node has
+content_is : (node : Node) (content slice : List ℕ) (v : ShardNode) → node.content ≡ Some content → slice ≡ content → node ≡ shard_dag v → slice ≡ shard_spelling v.meta v.items
+content_is node content slice v c s e = s ∙ some_is content (shard_spelling v.meta v.items) (sym c ∙ ap (λ (n : Node). n.content) e)
+
+pub bare_node : (node : Node) → node.content ≡ None → Reads IsShardNode shard_dag node (Err strict.NotCanonical)
+bare_node node c = inr (λ v h e. by (shard_spelling v.meta v.items) (sym c ∙ ap (λ (n : Node). n.content) e))
   where
-    by : (v : List InSlot) → IsShard v → node ≡ shard_dag v → v ≡ items → ⊥
-    by v j e same = no_shard (subst IsShard same j) (ap (λ (n : Node). n.content) e ∙ ap (λ (l : List InSlot). Some (shard_spelling l)) same)
+    by : (x : List ℕ) → None ≡ Some x → ⊥
+    by x e = cc
+
+pub content_refused : (node : Node) (content slice : List ℕ) (f : StrictFault) → node.content ≡ Some content → slice ≡ content → MetaOf slice (Err f) → Reads IsShardNode shard_dag node (Err f)
+content_refused node content slice f c s (inl m) = inl m
+content_refused node content slice f c s (inr h) = inr (λ v k e. h v.meta v.items k.meta (content_is node content slice v c s e))
+
+pub links_refused : (node : Node) (links : List Link) (f : StrictFault) → links ≡ node.links → Reads (AllByRecursion IsInSlot) (map slot_link) links (Err f) → Reads IsShardNode shard_dag node (Err f)
+links_refused node links f s (inl m) = inl m
+links_refused node links f s (inr h) = inr (λ v k e. h v.items k.items.each (s ∙ ap (λ (n : Node). n.links) e))
+
+pub shard_of_parts : (node : Node) (content slice again : List ℕ) (links : List Link) (items : List InSlot) (meta : Meta) (r : Result ShardNode StrictFault) → node.content ≡ Some content → slice ≡ content → again ≡ content
+    → links ≡ node.links → MetaOf slice (Ok meta) → AllByRecursion IsInSlot items × (links ≡ map slot_link items)
+    → MatchResult r
+    (λ v. (v ≡ of_parts items meta) × IsShardNode (of_parts items meta) × (again ≡ shard_spelling meta items))
+    (λ f. (f ≡ strict.Memory) ⊎ (IsShardNode (of_parts items meta) → again ≢ shard_spelling meta items))
+    → Reads IsShardNode shard_dag node r
+shard_of_parts node content slice again links items meta (Ok v) c s a l h k whole =
+    let spelt : node.content ≡ Some (shard_spelling meta items) = c ∙ ap (λ (x : List ℕ). Some x) (sym a ∙ whole.2) in
+    let linked : node.links ≡ map slot_link items = sym l ∙ k.1 in
+    let built : node ≡ shard_dag (of_parts items meta) = λ i. record { links = linked i; content = spelt i } in
+    (subst IsShardNode (sym whole.0) whole.1, built ∙ ap shard_dag (sym whole.0))
+shard_of_parts node content slice again links items meta (Err f) c s a l h k (inl m) = inl m
+shard_of_parts node content slice again links items meta (Err f) c s a l h k (inr none) = inr (λ v j e. by v j e (same v j e))
+  where
+    same : (v : ShardNode) → IsShardNode v → node ≡ shard_dag v → v ≡ of_parts items meta
+    same v j e =
+        let listed : v.items ≡ items = one_shard v.items items j.items.each k.0 (sym (ap (λ (n : Node). n.links) e) ∙ sym l ∙ k.1) in
+        let carried : v.meta ≡ meta = h v.meta v.items j.meta (content_is node content slice v c s e) in
+        λ i. record { items = listed i; meta = carried i }
+
+    by : (v : ShardNode) → IsShardNode v → node ≡ shard_dag v → v ≡ of_parts items meta → ⊥
+    by v j e same = none (subst IsShardNode same j) (a ∙ sym s ∙ content_is node content slice v c s e ∙ ap (λ (x : ShardNode). shard_spelling x.meta x.items) same)
+
+-- a node of DAG-PB is that of one shard
+pub one_shard_node : (a b : ShardNode) → IsShardNode a → IsShardNode b → shard_dag a ≡ shard_dag b → a ≡ b
+one_shard_node a b h k e =
+    let listed : a.items ≡ b.items = one_shard a.items b.items h.items.each k.items.each (ap (λ (n : Node). n.links) e) in
+    let spelt : shard_spelling a.meta a.items ≡ shard_spelling b.meta b.items = some_is (shard_spelling a.meta a.items) (shard_spelling b.meta b.items) (ap (λ (n : Node). n.content) e) in
+    let message : shard_message a.meta (slots_of a.items) ≡ shard_message b.meta (slots_of b.items) =
+    one_message (shard_message a.meta (slots_of a.items)) (shard_message b.meta (slots_of b.items)) (fits a.meta a.items h.meta) (fits b.meta b.items k.meta) spelt in
+    let carried : a.meta ≡ b.meta = ap meta_in message in
+    λ i. record { items = listed i; meta = carried i }

@@ -1,6 +1,7 @@
 -- How long canonical blocks are.
-use Rattle.std.proofs.Common.{◌≡◌, ℕ, zero, suc, ◌+◌, ◌-◌, ◌*◌, ◌/◌, ◌%◌, ◌<◌, ◌≤◌, List, [], ◌∷◌, ◌++◌, length, map, refl, ap, arith, ◌⊎◌, inl, inr, Bool, true, false, cond, length-append}
+use Rattle.std.proofs.Common.{◌≡◌, ℕ, zero, suc, ◌+◌, ◌-◌, ◌*◌, ◌/◌, ◌%◌, ◌<◌, ◌≤◌, List, [], ◌∷◌, ◌++◌, length, map, refl, ap, arith, ◌⊎◌, inl, inr, Bool, true, false, cond, length-append, Option, None, Some}
 use Rattle.std.specs.Prelude.{◌&&◌, ◌==◌, IsTrue, nat_lt, flat_map, sum}
+use Rattle.std.specs.Int.{w64, cast_unsigned}
 use Rattle.std.specs.List.{AllByRecursion, range_with_len}
 use Rattle.std.specs.Ordering.{nat_cmp, is_lt}
 use Rattle.std.specs.FinMap.Entries.{is_sorted, below_all}
@@ -11,11 +12,13 @@ use Rattle.std.proofs.lemmas.List.Sums.{sum_by-cons}
 use Rattle.uf_cid.specs.Read.{IsCid}
 use Rattle.uf_cid.specs.Cid.{cid_bytes}
 use Rattle.uf_varint.specs.Varint.{varint, varint_within}
-use Rattle.uf_varint.specs.Fields.{content_field, number_field}
+use Rattle.uf_varint.specs.Fields.{content_field, number_field, optional}
 use Rattle.uf_varint.proofs.Varints.{below, not_below}
 use Rattle.uf_dagpb.specs.declared.node.Link.{Link}
 use Rattle.uf_dagpb.specs.Spelling.{link_bytes, node_bytes}
-use Rattle.uf_message.specs.Spelling.{message_bytes}
+use Rattle.uf_message.specs.Spelling.{fixed_field, message_bytes, mtime_bytes}
+use Rattle.uf_message.specs.declared.message.Mtime.{Mtime}
+use Rattle.uf_tree.specs.declared.meta.Meta.{Meta}
 use Rattle.uf_tree.specs.declared.nodes.FileNode.{FileNode}
 use Rattle.uf_tree.specs.declared.nodes.Item.{Item}
 use Rattle.uf_tree.specs.declared.nodes.Item.TheVariants.{Leaf, Sub}
@@ -64,6 +67,40 @@ content_length key v bytes h = let e : length (content_field key bytes) ≡ suc 
 number_length : (key n : ℕ) → length (number_field key n) ≤ 11
 number_length key n = let t : length (varint n) ≤ 10 = ten_bytes n in omega arith
 
+-- the metadata of a message
+abbrev pub meta_fields : Meta → List ℕ
+meta_fields m = optional (number_field 0x38) m.mode ++ optional (λ t. content_field 0x42 (mtime_bytes t)) m.mtime
+
+mode_length : (o : Option ℕ) → length (optional (number_field 0x38) o) ≤ 11
+mode_length None = omega arith
+mode_length (Some n) = number_length 0x38 n
+
+nanos_length : (o : Option ℕ) → length (optional (fixed_field 0x15) o) ≤ 5
+nanos_length None = omega arith
+nanos_length (Some n) = let e : length (fixed_field 0x15 n) ≡ 5 = refl in omega arith
+
+time_length : (t : Mtime) → length (content_field 0x42 (mtime_bytes t)) ≤ 27
+unfolding mtime_bytes
+time_length t =
+    let a : length (number_field 0x08 (cast_unsigned w64 t.seconds)) ≤ 11 = number_length 0x08 (cast_unsigned w64 t.seconds) in
+    let b : length (optional (fixed_field 0x15) t.nanos) ≤ 5 = nanos_length t.nanos in
+    let all : length (mtime_bytes t) ≡ length (number_field 0x08 (cast_unsigned w64 t.seconds)) + length (optional (fixed_field 0x15) t.nanos) =
+    length-append (number_field 0x08 (cast_unsigned w64 t.seconds)) (optional (fixed_field 0x15) t.nanos) in
+    let field : length (content_field 0x42 (mtime_bytes t)) ≤ 1 + 10 + length (mtime_bytes t) = content_length 0x42 10 (mtime_bytes t) (ten_bytes _) in
+    omega arith
+
+mtime_length : (o : Option Mtime) → length (optional (λ t. content_field 0x42 (mtime_bytes t)) o) ≤ 27
+mtime_length None = omega arith
+mtime_length (Some t) = time_length t
+
+pub meta_length : (m : Meta) → length (meta_fields m) ≤ 38
+meta_length m =
+    let a : length (optional (number_field 0x38) m.mode) ≤ 11 = mode_length m.mode in
+    let b : length (optional (λ t. content_field 0x42 (mtime_bytes t)) m.mtime) ≤ 27 = mtime_length m.mtime in
+    let all : length (meta_fields m) ≡ length (optional (number_field 0x38) m.mode) + length (optional (λ t. content_field 0x42 (mtime_bytes t)) m.mtime) =
+    length-append (optional (number_field 0x38) m.mode) (optional (λ t. content_field 0x42 (mtime_bytes t)) m.mtime) in
+    omega arith
+
 -- a link, whose name has a length of so many bytes
 link_length : (v : ℕ) (l : Link) → IsCid l.cid → length (varint (length l.name)) ≤ v → length (link_bytes l) ≤ 50 + v + length l.name
 unfolding varint
@@ -105,18 +142,23 @@ dir_links (e ∷ l) h =
     let more : weight (e ∷ l) ≡ length e.0 + 36 + weight l = sum_by-cons (λ (e : Named). length e.0 + 36) e l in
     omega arith
 
-dir_content : length (content_field 0x0a (message_bytes dir_message)) ≡ 4
-unfolding message_bytes varint
-dir_content = refl
+pub dir_content : (m : Meta) → length (content_field 0x0a (message_bytes (dir_message m))) ≤ 60
+unfolding message_bytes
+dir_content m =
+    let kind : length (number_field 0x08 1) ≤ 11 = number_length 0x08 1 in
+    let fields : length (meta_fields m) ≤ 38 = meta_length m in
+    let all : length (message_bytes (dir_message m)) ≡ length (number_field 0x08 1) + length (meta_fields m) = length-append (number_field 0x08 1) (meta_fields m) in
+    let field : length (content_field 0x0a (message_bytes (dir_message m))) ≤ 1 + 10 + length (message_bytes (dir_message m)) = content_length 0x0a 10 (message_bytes (dir_message m)) (ten_bytes _) in
+    omega arith
 
-pub dir_length : (p : Profile) (l : List Named) → IsTrue (is_profile p) → AllByRecursion IsNamed l → is_sharded p l ≡ false → length (dir_block l) ≤ 2097152
+pub dir_length : (p : Profile) (m : Meta) (l : List Named) → IsTrue (is_profile p) → AllByRecursion IsNamed l → is_sharded p l ≡ false → length (dir_block m l) ≤ 2097152
 unfolding dir_block node_bytes
-dir_length p l ok h basic =
+dir_length p m l ok h basic =
     let links : 37 * length (links_bytes (map (λ (e : Named). link_of e.0 e.1) l)) ≤ 56 * weight l = dir_links l h in
     let few : weight l ≤ p.threshold = light p l basic in
     let most : p.threshold ≤ 1048576 = (kept p ok).threshold in
-    let content : length (content_field 0x0a (message_bytes dir_message)) ≡ 4 = dir_content in
-    let all : length (dir_block l) ≡ length (links_bytes (map (λ (e : Named). link_of e.0 e.1) l)) + length (content_field 0x0a (message_bytes dir_message)) = length-append (links_bytes (map (λ (e : Named). link_of e.0 e.1) l)) (content_field 0x0a (message_bytes dir_message)) in
+    let content : length (content_field 0x0a (message_bytes (dir_message m))) ≤ 60 = dir_content m in
+    let all : length (dir_block m l) ≡ length (links_bytes (map (λ (e : Named). link_of e.0 e.1) l)) + length (content_field 0x0a (message_bytes (dir_message m))) = length-append (links_bytes (map (λ (e : Named). link_of e.0 e.1) l)) (content_field 0x0a (message_bytes (dir_message m))) in
     omega arith
 
 -- links of at most so many bytes each
@@ -185,34 +227,38 @@ fewer_zeros (b ∷ bytes) = elim (b == 0) as (λ t. length (cond t (without_zero
   | false ↦ omega arith
 ]
 
-bitfield_length : (slots : List ℕ) → length (bitfield slots) ≤ 32
+pub bitfield_length : (slots : List ℕ) → length (bitfield slots) ≤ 32
 unfolding bitfield
 bitfield_length slots = fewer_zeros (map (λ k. bitfield_byte slots (31 - k)) (range_with_len 0 32))
 
-shard_content : (slots : List ℕ) → length (message_bytes (shard_message slots)) ≤ 76
+shard_content : (m : Meta) (slots : List ℕ) → length (message_bytes (shard_message m slots)) ≤ 114
 unfolding message_bytes
-shard_content slots =
+shard_content m slots =
+    let fields : length (meta_fields m) ≤ 38 = meta_length m in
     let bits : length (bitfield slots) ≤ 32 = bitfield_length slots in
     let a : length (number_field 0x08 5) ≤ 11 = number_length 0x08 5 in
     let b : length (content_field 0x12 (bitfield slots)) ≤ 1 + 10 + length (bitfield slots) = content_length 0x12 10 (bitfield slots) (ten_bytes _) in
     let c : length (number_field 0x28 0x22) ≤ 11 = number_length 0x28 0x22 in
     let d : length (number_field 0x30 256) ≤ 11 = number_length 0x30 256 in
-    let last : length (number_field 0x30 256 ++ ([] ++ [])) ≡ length (number_field 0x30 256) + 0 = length-append (number_field 0x30 256) [] in
-    let hash : length (number_field 0x28 0x22 ++ (number_field 0x30 256 ++ ([] ++ []))) ≡ length (number_field 0x28 0x22) + length (number_field 0x30 256 ++ ([] ++ [])) = length-append (number_field 0x28 0x22) (number_field 0x30 256 ++ ([] ++ [])) in
-    let field : length (content_field 0x12 (bitfield slots) ++ (number_field 0x28 0x22 ++ (number_field 0x30 256 ++ ([] ++ [])))) ≡ length (content_field 0x12 (bitfield slots)) + length (number_field 0x28 0x22 ++ (number_field 0x30 256 ++ ([] ++ []))) = length-append (content_field 0x12 (bitfield slots)) (number_field 0x28 0x22 ++ (number_field 0x30 256 ++ ([] ++ []))) in
-    let all : length (message_bytes (shard_message slots)) ≡ length (number_field 0x08 5) + length (content_field 0x12 (bitfield slots) ++ (number_field 0x28 0x22 ++ (number_field 0x30 256 ++ ([] ++ [])))) = length-append (number_field 0x08 5) (content_field 0x12 (bitfield slots) ++ (number_field 0x28 0x22 ++ (number_field 0x30 256 ++ ([] ++ [])))) in
+    let fan = number_field 0x30 256 ++ meta_fields m in
+    let hashed = number_field 0x28 0x22 ++ fan in
+    let bits_on = content_field 0x12 (bitfield slots) ++ hashed in
+    let last : length fan ≡ length (number_field 0x30 256) + length (meta_fields m) = length-append (number_field 0x30 256) (meta_fields m) in
+    let hash : length hashed ≡ length (number_field 0x28 0x22) + length fan = length-append (number_field 0x28 0x22) fan in
+    let field : length bits_on ≡ length (content_field 0x12 (bitfield slots)) + length hashed = length-append (content_field 0x12 (bitfield slots)) hashed in
+    let all : length (message_bytes (shard_message m slots)) ≡ length (number_field 0x08 5) + length bits_on = length-append (number_field 0x08 5) bits_on in
     omega arith
 
-pub shard_length : (items : List InSlot) → IsShard items → length (shard_block items) ≤ 2097152
+pub shard_length : (m : Meta) (items : List InSlot) → IsShard items → length (shard_block m items) ≤ 2097152
 unfolding shard_block node_bytes
-shard_length items h =
+shard_length m items h =
     let slots = map (λ (p : InSlot). p.0) items in
     let few : length items ≤ 256 = shard_count items h in
     let count : length (map slot_link items) ≡ length items = length-map items slot_link in
     let links : length (links_bytes (map slot_link items)) ≤ (317 + 11) * length (map slot_link items) = many_links 317 (map slot_link items) (slot_lengths items h.each) in
-    let message : length (message_bytes (shard_message slots)) ≤ 76 = shard_content slots in
-    let content : length (content_field 0x0a (message_bytes (shard_message slots))) ≤ 1 + 10 + length (message_bytes (shard_message slots)) = content_length 0x0a 10 (message_bytes (shard_message slots)) (ten_bytes _) in
-    let all : length (shard_block items) ≡ length (links_bytes (map slot_link items)) + length (content_field 0x0a (message_bytes (shard_message slots))) = length-append (links_bytes (map slot_link items)) (content_field 0x0a (message_bytes (shard_message slots))) in
+    let message : length (message_bytes (shard_message m slots)) ≤ 114 = shard_content m slots in
+    let content : length (content_field 0x0a (message_bytes (shard_message m slots))) ≤ 1 + 10 + length (message_bytes (shard_message m slots)) = content_length 0x0a 10 (message_bytes (shard_message m slots)) (ten_bytes _) in
+    let all : length (shard_block m items) ≡ length (links_bytes (map slot_link items)) + length (content_field 0x0a (message_bytes (shard_message m slots))) = length-append (links_bytes (map slot_link items)) (content_field 0x0a (message_bytes (shard_message m slots))) in
     omega arith
 
 part_lengths : (ls : List Link) → AllByRecursion IsPartLink ls → AllByRecursion (λ (l : Link). length (link_bytes l) ≤ 60) ls
@@ -230,16 +276,19 @@ size_lengths (n ∷ sizes) =
     let all : length (flat_map (number_field 0x20) (n ∷ sizes)) ≡ length (number_field 0x20 n) + length (flat_map (number_field 0x20) sizes) = length-append (number_field 0x20 n) (flat_map (number_field 0x20) sizes) in
     omega arith
 
-file_content : (sizes : List ℕ) → length (message_bytes (file_message sizes)) ≤ 22 + 11 * length sizes
+file_content : (m : Meta) (sizes : List ℕ) → length (message_bytes (file_message m sizes)) ≤ 60 + 11 * length sizes
 unfolding message_bytes
-file_content sizes =
+file_content m sizes =
+    let fields : length (meta_fields m) ≤ 38 = meta_length m in
     let list = flat_map (number_field 0x20) sizes in
     let a : length (number_field 0x08 2) ≤ 11 = number_length 0x08 2 in
     let b : length (number_field 0x18 (sum sizes)) ≤ 11 = number_length 0x18 (sum sizes) in
     let c : length list ≤ 11 * length sizes = size_lengths sizes in
-    let last : length (list ++ ([] ++ ([] ++ ([] ++ [])))) ≡ length list + 0 = length-append list [] in
-    let size : length (number_field 0x18 (sum sizes) ++ (list ++ ([] ++ ([] ++ ([] ++ []))))) ≡ length (number_field 0x18 (sum sizes)) + length (list ++ ([] ++ ([] ++ ([] ++ [])))) = length-append (number_field 0x18 (sum sizes)) (list ++ ([] ++ ([] ++ ([] ++ [])))) in
-    let all : length (message_bytes (file_message sizes)) ≡ length (number_field 0x08 2) + length (number_field 0x18 (sum sizes) ++ (list ++ ([] ++ ([] ++ ([] ++ []))))) = length-append (number_field 0x08 2) (number_field 0x18 (sum sizes) ++ (list ++ ([] ++ ([] ++ ([] ++ []))))) in
+    let listed = list ++ meta_fields m in
+    let sized = number_field 0x18 (sum sizes) ++ listed in
+    let last : length listed ≡ length list + length (meta_fields m) = length-append list (meta_fields m) in
+    let size : length sized ≡ length (number_field 0x18 (sum sizes)) + length listed = length-append (number_field 0x18 (sum sizes)) listed in
+    let all : length (message_bytes (file_message m sizes)) ≡ length (number_field 0x08 2) + length sized = length-append (number_field 0x08 2) sized in
     omega arith
 
 pub file_length : (node : FileNode) → IsFileNode node → length (file_block node) ≤ 2097152
@@ -248,7 +297,7 @@ file_length node h =
     let few : length node.parts ≤ 1024 = h.few in
     let same : length node.sizes ≡ length node.parts = h.sizes in
     let links : length (links_bytes node.parts) ≤ (60 + 11) * length node.parts = many_links 60 node.parts (part_lengths node.parts h.each) in
-    let message : length (message_bytes (file_message node.sizes)) ≤ 22 + 11 * length node.sizes = file_content node.sizes in
-    let content : length (content_field 0x0a (message_bytes (file_message node.sizes))) ≤ 1 + 10 + length (message_bytes (file_message node.sizes)) = content_length 0x0a 10 (message_bytes (file_message node.sizes)) (ten_bytes _) in
-    let all : length (file_block node) ≡ length (links_bytes node.parts) + length (content_field 0x0a (message_bytes (file_message node.sizes))) = length-append (links_bytes node.parts) (content_field 0x0a (message_bytes (file_message node.sizes))) in
+    let message : length (message_bytes (file_message node.meta node.sizes)) ≤ 60 + 11 * length node.sizes = file_content node.meta node.sizes in
+    let content : length (content_field 0x0a (message_bytes (file_message node.meta node.sizes))) ≤ 1 + 10 + length (message_bytes (file_message node.meta node.sizes)) = content_length 0x0a 10 (message_bytes (file_message node.meta node.sizes)) (ten_bytes _) in
+    let all : length (file_block node) ≡ length (links_bytes node.parts) + length (content_field 0x0a (message_bytes (file_message node.meta node.sizes))) = length-append (links_bytes node.parts) (content_field 0x0a (message_bytes (file_message node.meta node.sizes))) in
     omega arith

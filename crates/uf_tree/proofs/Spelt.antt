@@ -12,10 +12,12 @@ use Rattle.uf_dagpb.specs.declared.node.Link.{Link}
 use Rattle.uf_dagpb.specs.Spelling.{link_bytes, links_bytes, node_bytes}
 use Rattle.uf_dagpb.proofs.Lengths.{length-content_field, length-link_bytes}
 use Rattle.uf_message.specs.Spelling.{message_bytes}
+use Rattle.uf_tree.specs.declared.meta.Meta.{Meta}
 use Rattle.uf_tree.specs.declared.nodes.Entry.{Entry}
 use Rattle.uf_tree.specs.declared.nodes.FileNode.{FileNode}
 use Rattle.uf_tree.specs.Nodes.{link_of, file_block, file_message}
 use Rattle.uf_tree.specs.Validity.{IsPartLink, IsFileNode}
+use Rattle.uf_tree.proofs.Sizes.{meta_fields, meta_length}
 
 -- a varint has at most so many bytes
 pub varint_is_short : (room n : ℕ) → length (varint_within room n) ≤ room + 1
@@ -52,25 +54,26 @@ sizes_short : (sizes : List ℕ) → length (flat_map (number_field 0x20) sizes)
 sizes_short [] = omega arith
 sizes_short (n ∷ sizes) = omega (arith, varint_short n, sizes_short sizes, length-append (number_field 0x20 n) (flat_map (number_field 0x20) sizes))
 
-pub message_short : (sizes : List ℕ) → length (message_bytes (file_message sizes)) ≤ 11 * length sizes + 22
+pub message_short : (m : Meta) (sizes : List ℕ) → length (message_bytes (file_message m sizes)) ≤ 11 * length sizes + 60
 unfolding message_bytes
-message_short sizes =
+message_short m sizes =
+    let behind = meta_fields m in
     let fields = flat_map (number_field 0x20) sizes in
     let front = varint 2 in
     let total = varint (sum sizes) in
-    omega (arith, varint_short 2, varint_short (sum sizes), sizes_short sizes, length-append front (24 ∷ (total ++ (fields ++ []))), length-append total (fields ++ []), length-append fields [])
+    omega (arith, varint_short 2, varint_short (sum sizes), sizes_short sizes, meta_length m, length-append front (24 ∷ (total ++ (fields ++ behind))), length-append total (fields ++ behind), length-append fields behind)
 
 pub file_short : (node : FileNode) → IsFileNode node → length (file_block node) ≤ 131072
 unfolding file_block node_bytes
 file_short node h =
-    let content = message_bytes (file_message node.sizes) in
-    omega (arith, h.some, h.few, h.sizes, parts_short node.parts h.each, message_short node.sizes, length-content_field 0x0a content, varint_short (length content), length-append (links_bytes node.parts) (content_field 0x0a content))
+    let content = message_bytes (file_message node.meta node.sizes) in
+    omega (arith, h.some, h.few, h.sizes, parts_short node.parts h.each, message_short node.meta node.sizes, length-content_field 0x0a content, varint_short (length content), length-append (links_bytes node.parts) (content_field 0x0a content))
 
 pub file_small : (r : Result (List ℕ) Memory) (node : FileNode) → IsFileNode node → IfOk r (λ b. b ≡ file_block node) → IfOk r (λ b. length b ≤ 131072)
 file_small (Err e) node h k = tt
 file_small (Ok b) node h k = omega (arith, file_short node h, ap length k)
 
-pub file_is : (r : Result (List ℕ) Memory) (node : FileNode) (links : List Link) (slice content : List ℕ) → links ≡ node.parts → slice ≡ content → content ≡ message_bytes (file_message node.sizes)
+pub file_is : (r : Result (List ℕ) Memory) (node : FileNode) (links : List Link) (slice content : List ℕ) → links ≡ node.parts → slice ≡ content → content ≡ message_bytes (file_message node.meta node.sizes)
     → IfOk r (λ b. b ≡ node_bytes (record { links = links; content = Some slice })) → IfOk r (λ b. b ≡ file_block node)
 unfolding file_block
 file_is (Err e) node links slice content l s c k = tt

@@ -1,14 +1,12 @@
 -- A file from the root down.
 use Rattle.std.proofs.Common.{◌≡◌, ℕ, zero, suc, ◌+◌, ◌*◌, ◌<◌, ◌≤◌, List, [], ◌∷◌, ◌++◌, length, refl, ap, arith, sym, ◌∙◌, map, subst}
 use Rattle.std.proofs.Math.Nat.{mul-le-mul, mul-le-mul_left}
-use Rattle.std.proofs.lemmas.List.{length-map, append-nil}
-use Rattle.uf_tree.specs.FilePlan.{split_from, groups, climb, node_part, leaf_part}
-use Rattle.uf_cid.specs.Blocks.{Held}
+use Rattle.std.proofs.lemmas.List.{append-nil}
+use Rattle.uf_tree.specs.FilePlan.{split_from, groups, node_part}
 use Rattle.uf_tree.specs.Cutting.{joined, room_after}
-use Rattle.uf_tree.specs.declared.nodes.Part.{Part}
 use Rattle.uf_tree.specs.FileSub.{span, part_over}
-use Rattle.uf_tree.proofs.Groups.{fewer, length-split, width-split, joined-split, room-below}
-use Rattle.uf_tree.proofs.Nested.{groups-product, groups-map, whole}
+use Rattle.uf_tree.proofs.Groups.{length-split, width-split, joined-split, room-below}
+use Rattle.uf_tree.proofs.Nested.{groups-product, groups-map}
 
 pub span-pos : (c w k : ℕ) → 1 ≤ c → 1 ≤ w → 1 ≤ span c w k
 unfolding span
@@ -27,17 +25,6 @@ module _ (X : List ℕ → List ℕ) (c w : ℕ) (pos : 1 ≤ c) (two : 2 ≤ w)
   row-up k b =
       ap (map (node_part X)) (groups-map (part_over X c w k) w (groups (span c w k) b) ∙ ap (map (map (part_over X c w k))) (groups-product w (span c w k) (omega arith) (span-pos c w k pos (omega arith)) b))
       ∙ fuse k (groups (span c w (suc k)) b)
-
-  abbrev pub climb_list : ℕ → List Part → List Held × Part
-  climb_list fuel [] = ([], leaf_part X [])
-  climb_list fuel (m ∷ ms) = climb X w fuel m ms
-
-  pub same_length : (fuel k : ℕ) (a g : List ℕ) (rest : List (List ℕ)) (us : List ℕ × List (List ℕ)) → length rest ≤ fuel
-      → map (node_part X) (groups w (map (part_over X c w k) (a ∷ g ∷ rest))) ≡ map (part_over X c w (suc k)) (whole us) → length us.1 ≤ fuel
-  same_length fuel k a g rest us few e =
-      let counts = sym (length-map (groups w (map (part_over X c w k) (a ∷ g ∷ rest))) (node_part X)) ∙ ap length e ∙ length-map (whole us) (part_over X c w (suc k)) in
-      let less = fewer w (part_over X c w k a) (part_over X c w k g) (map (part_over X c w k) rest) two in
-      omega (arith, counts, less, length-map rest (part_over X c w k))
 
   pub all : (k : ℕ) (b a : List ℕ) → split_from (span c w k) (span c w k) b ≡ (a, []) → a ≡ b
   all k b a e = sym (append-nil a) ∙ ap (λ (s : List ℕ × List (List ℕ)). s.0 ++ joined s.1) (sym e) ∙ joined-split (span c w k) (span c w k) b

@@ -4,7 +4,8 @@ use Rattle.std.specs.declared.cmp.Ordering.TheVariants.{Less, Equal, Greater}
 use Rattle.std.specs.Option.{option_map}
 use Rattle.std.specs.Ordering.{eq_by_cmp}
 use Rattle.std.specs.FinMap.Entries.{find, put, where_key, by_order}
-use Rattle.uf_tree.specs.Tree.{Tree, Dir, Entries, Nothing, With, pairs, entries, fold, fold_each}
+use Rattle.uf_tree.specs.declared.meta.Meta.{Meta}
+use Rattle.uf_tree.specs.Tree.{Tree, Dir, Entries, Nothing, With, own_meta, pairs, entries, fold, fold_each}
 use Rattle.uf_tree.specs.Changes.{with_name, without}
 use Rattle.uf_tree.specs.DirPlan.{own_plan}
 use Rattle.uf_tree.specs.Names.{names_cmp}
@@ -12,18 +13,22 @@ use Rattle.uf_tree.specs.TreePlan.{planned, planned_file, planned_dir, members, 
 use Rattle.uf_tree.specs.declared.profile.Profile.{Profile}
 
 -- entries and pairs undo each other
-pub pairs-entries : (l : List (List ℕ × Tree)) → pairs (entries l) ≡ l
-pairs-entries [] = refl
-pairs-entries (e ∷ l) = ap (λ l. e ∷ l) (pairs-entries l)
+pub pairs-entries : (m : Meta) (l : List (List ℕ × Tree)) → pairs (entries m l) ≡ l
+pairs-entries m [] = refl
+pairs-entries m (e ∷ l) = ap (λ l. e ∷ l) (pairs-entries m l)
 
-pub entries-pairs : (es : Entries) → entries (pairs es) ≡ es
-entries-pairs Nothing = refl
+pub entries-pairs : (es : Entries) → entries (own_meta es) (pairs es) ≡ es
+entries-pairs (Nothing m) = refl
 entries-pairs (With name t es) = ap (With name t) (entries-pairs es)
 
+pub meta-entries : (m : Meta) (l : List (List ℕ × Tree)) → own_meta (entries m l) ≡ m
+meta-entries m [] = refl
+meta-entries m (e ∷ l) = meta-entries m l
+
 -- the members' own results, as a map over the pairs
-pub fold_each-pairs : {R : Type 0} (file : List ℕ → R) (dir : List (List ℕ × R) → R) (es : Entries) → fold_each file dir es ≡ map (λ (e : List ℕ × Tree). (e.0, fold file dir e.1)) (pairs es)
+pub fold_each-pairs : {R : Type 0} (file : Meta → List ℕ → R) (dir : Meta → List (List ℕ × R) → R) (es : Entries) → fold_each file dir es ≡ map (λ (e : List ℕ × Tree). (e.0, fold file dir e.1)) (pairs es)
 unfolding fold
-fold_each-pairs file dir Nothing = refl
+fold_each-pairs file dir (Nothing m) = refl
 fold_each-pairs file dir (With name t es) = ap (λ l. (name, fold file dir t) ∷ l) (fold_each-pairs file dir es)
 
 module _ {K A B : Type 0} (R : K → K → Ordering) (f : A → B) where
@@ -56,13 +61,13 @@ module _ (X : List ℕ → List ℕ) (N : List ℕ → ℕ) (p : Profile) where
   map-over f g (x ∷ l) = ap (λ l. g (f x) ∷ l) (map-over f g l)
 
   -- a directory's entry is that of its members' names and entries
-  pub entry-dir : (es : Entries) → entry X N p (Dir es) ≡ (own_plan X N p (named_entries X N p es)).entry
+  pub entry-dir : (es : Entries) → entry X N p (Dir es) ≡ (own_plan X N p (own_meta es) (named_entries X N p es)).entry
   unfolding planned fold
-  entry-dir es = ap (λ l. (own_plan X N p l).entry) (ap (members X N p) (fold_each-pairs (planned_file X N p) (planned_dir X N p) es) ∙ map-over _ _ (pairs es))
+  entry-dir es = ap (λ l. (own_plan X N p (own_meta es) l).entry) (ap (members X N p) (fold_each-pairs (planned_file X N p) (planned_dir X N p) es) ∙ map-over _ _ (pairs es))
 
   -- after a member is put, it is that of the pairs after its entry is put
-  pub named_entries-with : (name : List ℕ) (t : Tree) (es : Entries) → named_entries X N p (entries (with_name name t (pairs es))) ≡ with_name name (entry X N p t) (named_entries X N p es)
-  named_entries-with name t es = ap (map _) (pairs-entries (with_name name t (pairs es))) ∙ map-put names_cmp (λ t. entry X N p t) name t (pairs es)
+  pub named_entries-with : (m : Meta) (name : List ℕ) (t : Tree) (es : Entries) → named_entries X N p (entries m (with_name name t (pairs es))) ≡ with_name name (entry X N p t) (named_entries X N p es)
+  named_entries-with m name t es = ap (map _) (pairs-entries m (with_name name t (pairs es))) ∙ map-put names_cmp (λ t. entry X N p t) name t (pairs es)
 
-  pub named_entries-without : (name : List ℕ) (es : Entries) → named_entries X N p (entries (without name (pairs es))) ≡ without name (named_entries X N p es)
-  named_entries-without name es = ap (map _) (pairs-entries (without name (pairs es))) ∙ map-where_key names_cmp (λ t. entry X N p t) _ (pairs es)
+  pub named_entries-without : (m : Meta) (name : List ℕ) (es : Entries) → named_entries X N p (entries m (without name (pairs es))) ≡ without name (named_entries X N p es)
+  named_entries-without m name es = ap (map _) (pairs-entries m (without name (pairs es))) ∙ map-where_key names_cmp (λ t. entry X N p t) _ (pairs es)

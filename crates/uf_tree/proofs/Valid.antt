@@ -9,6 +9,7 @@ use Rattle.std.proofs.lemmas.List.{length-map}
 use Rattle.std.proofs.lemmas.Bool.{cases_lt}
 use Rattle.std.proofs.lemmas.List.Sums.{sum-map, sum_by-cons}
 use Rattle.uf_murmur.specs.Slots.{slot}
+use Rattle.uf_tree.specs.declared.meta.Meta.{Meta}
 use Rattle.uf_tree.specs.declared.nodes.Entry.{Entry}
 use Rattle.uf_tree.specs.declared.nodes.Item.{Item}
 use Rattle.uf_tree.specs.declared.nodes.Item.TheVariants.{Leaf, Sub}
@@ -16,17 +17,19 @@ use Rattle.uf_tree.specs.declared.nodes.Part.{Part}
 use Rattle.uf_tree.specs.declared.profile.Profile.{Profile}
 use Rattle.uf_tree.specs.Cutting.{joined, room_after}
 use Rattle.uf_tree.specs.DirPlan.{own_plan, basic_dir, is_sharded}
-use Rattle.uf_tree.specs.FilePlan.{Plan, file_plan, groups, split_from, node_over, leaf_part}
-use Rattle.uf_tree.specs.FileSub.{span, part_over}
+use Rattle.uf_tree.specs.FilePlan.{Plan, file_plan, groups, split_from, node_over, root_node, leaf_part}
+use Rattle.uf_tree.specs.FileSub.{span, part_over, whole_part}
+use Rattle.uf_tree.specs.Metas.{is_meta, none}
 use Rattle.uf_tree.specs.Names.{names_cmp}
 use Rattle.uf_tree.specs.Nodes.{Named, InSlot, node_entry}
 use Rattle.uf_tree.specs.Profiles.{is_profile}
 use Rattle.uf_tree.specs.ShardPlan.{shard, shard_items, slot_item, bucket}
-use Rattle.uf_tree.specs.Tree.{Tree, File, Dir, Entries, Nothing, With, pairs, is_tree, are_trees, fold}
+use Rattle.uf_tree.specs.Tree.{Tree, File, Dir, Entries, Nothing, With, own_meta, pairs, is_tree, are_trees, fold}
 use Rattle.uf_tree.specs.TreePlan.{entry, named_entries, planned}
 use Rattle.uf_tree.specs.Validity.{IsHash, IsEntry, IsNamed, IsDirectory, IsItem, IsInSlot, IsShard, IsPartLink, IsFileNode}
 use Rattle.uf_tree.proofs.Each.{each_filter, each_tabulate}
 use Rattle.uf_tree.proofs.Groups.{joined-split, length-split, width-split, room-below}
+use Rattle.uf_tree.proofs.MetaNumbers.{none-is_meta}
 use Rattle.uf_tree.proofs.Rows.{file_plan-rows}
 use Rattle.uf_tree.proofs.ShardLaws.{slot-bound, sorted-tabulate, find-tabulate}
 use Rattle.uf_tree.proofs.Sub.{span-pos}
@@ -44,14 +47,14 @@ module _ (X : List ℕ → List ℕ) (good : IsHash X) where
   pub leaf-valid : (bytes : List ℕ) → length bytes < 2 ^ 64 → IsEntry (leaf_part X bytes).entry
   leaf-valid bytes h = record { cid = record { size = good.size bytes; bytes = good.are_bytes bytes }; tsize = h }
 
-  pub shard-valid : (N : List ℕ → ℕ) (left : ℕ) (l : List Named) → IsEntry (shard X N left l).entry
+  pub shard-valid : (N : List ℕ → ℕ) (left : ℕ) (m : Meta) (l : List Named) → IsEntry (shard X N left m l).entry
   unfolding shard
-  shard-valid N zero l = record { cid = record { size = good.size _; bytes = good.are_bytes _ }; tsize = below_cap _ }
-  shard-valid N (suc left) l = record { cid = record { size = good.size _; bytes = good.are_bytes _ }; tsize = below_cap _ }
+  shard-valid N zero m l = record { cid = record { size = good.size _; bytes = good.are_bytes _ }; tsize = below_cap _ }
+  shard-valid N (suc left) m l = record { cid = record { size = good.size _; bytes = good.are_bytes _ }; tsize = below_cap _ }
 
-  pub own_plan-valid : (N : List ℕ → ℕ) (p : Profile) (l : List Named) → IsEntry (own_plan X N p l).entry
-  own_plan-valid N p l = elim (is_sharded p l) as (λ b. IsEntry (cond b (shard X N 7 l) (basic_dir X N l)).entry) [
-    | true ↦ shard-valid N 7 l
+  pub own_plan-valid : (N : List ℕ → ℕ) (p : Profile) (m : Meta) (l : List Named) → IsEntry (own_plan X N p m l).entry
+  own_plan-valid N p m l = elim (is_sharded p l) as (λ b. IsEntry (cond b (shard X N 7 m l) (basic_dir X N m l)).entry) [
+    | true ↦ shard-valid N 7 m l
     | false ↦ record { cid = record { size = good.size _; bytes = good.are_bytes _ }; tsize = below_cap _ }
   ]
 
@@ -61,15 +64,20 @@ module _ (X : List ℕ → List ℕ) (good : IsHash X) where
   sub-valid p ok zero bytes h = leaf-valid bytes (let short : p.chunk ≤ 1048576 = (kept p ok).short in omega arith)
   sub-valid p ok (suc k) bytes h = record { cid = record { size = good.size _; bytes = good.are_bytes _ }; tsize = below_cap _ }
 
-  pub file-valid : (p : Profile) → IsTrue (is_profile p) → (bytes : List ℕ) → IsEntry (file_plan X p bytes).entry
-  file-valid p ok bytes = let r = file_plan-rows X p bytes (kept p ok).some (kept p ok).two in
-      subst IsEntry (sym r.1) (sub-valid p ok r.0 bytes r.2.fits)
+  whole-valid : (p : Profile) → IsTrue (is_profile p) → (m : Meta) (k : ℕ) (bytes : List ℕ) → length bytes ≤ span p.chunk p.width k → IsEntry (whole_part X p.chunk p.width m k bytes).entry
+  unfolding whole_part part_over span
+  whole-valid p ok m zero bytes h = sub-valid p ok zero bytes h
+  whole-valid p ok m (suc k) bytes h = record { cid = record { size = good.size _; bytes = good.are_bytes _ }; tsize = below_cap _ }
+
+  pub file-valid : (p : Profile) → IsTrue (is_profile p) → (m : Meta) (bytes : List ℕ) → IsEntry (file_plan X p m bytes).entry
+  file-valid p ok m bytes = let r = file_plan-rows X p m bytes (kept p ok).some (kept p ok).two in
+      subst IsEntry (sym r.1) (whole-valid p ok m r.0 bytes r.2.fits)
 
   -- the entry of every tree
   pub entry-valid : (N : List ℕ → ℕ) (p : Profile) → IsTrue (is_profile p) → (t : Tree) → IsEntry (entry X N p t)
   unfolding planned fold
-  entry-valid N p ok (File bytes) = file-valid p ok bytes
-  entry-valid N p ok (Dir es) = subst IsEntry (sym (entry-dir X N p es)) (own_plan-valid N p (named_entries X N p es))
+  entry-valid N p ok (File m bytes) = file-valid p ok m bytes
+  entry-valid N p ok (Dir es) = subst IsEntry (sym (entry-dir X N p es)) (own_plan-valid N p (own_meta es) (named_entries X N p es))
 
 module _ {K A B : Type 0} (R : K → K → Ordering) (f : A → B) where
   abbrev over : K × A → K × B
@@ -86,7 +94,7 @@ module _ {K A B : Type 0} (R : K → K → Ordering) (f : A → B) where
 -- the names and entries of a directory
 pub named-valid : (X : List ℕ → List ℕ) → IsHash X → (N : List ℕ → ℕ) (p : Profile) → IsTrue (is_profile p) → (es : Entries) → are_trees es ≡ true → AllByRecursion IsNamed (named_entries X N p es)
 unfolding is_tree
-named-valid X good N p ok Nothing h = tt
+named-valid X good N p ok (Nothing m) h = tt
 named-valid X good N p ok (With name t es) h =
     let parts = both_true _ _ h in
     (record { name = (both_true _ _ parts.0).0; entry = entry-valid X good N p ok t }, named-valid X good N p ok es parts.1)
@@ -167,15 +175,15 @@ module _ (X : List ℕ → List ℕ) (good : IsHash X) (p : Profile) (ok : IsTru
           by_cases (inl le) = omega arith
           by_cases (inr less) = let more : s * w ≤ s * n = mul-le-mul_left s less in let turned : w * s ≡ s * w = mul_comm w s in absurd (omega arith)
 
-  links-valid : (f : List ℕ → Part) (gs : List (List ℕ)) (s : ℕ) → ((g : List ℕ) → length g ≤ s → IsEntry (f g).entry) → AllByRecursion (λ g. length g ≤ s) gs → AllByRecursion IsPartLink (node_over (map f gs)).parts
+  pub links-valid : (f : List ℕ → Part) (gs : List (List ℕ)) (s : ℕ) → ((g : List ℕ) → length g ≤ s → IsEntry (f g).entry) → AllByRecursion (λ g. length g ≤ s) gs → AllByRecursion IsPartLink (node_over (map f gs)).parts
   links-valid f [] s h all = tt
   links-valid f (g ∷ gs) s h all = (record { name = refl; cid = (h g all.0).cid; tsize = (h g all.0).tsize }, links-valid f gs s h all.1)
 
-  -- a node over no more bytes than its height can have
-  pub file_node-valid : (k : ℕ) (bytes : List ℕ) → length bytes ≤ span p.chunk p.width (suc k) → length bytes < 2 ^ 63
-      → IsFileNode (node_over (map (part_over X p.chunk p.width k) (groups (span p.chunk p.width k) bytes)))
+  -- a node over no more bytes than its height can have, with the file's metadata at its root
+  pub root_node-valid : (m : Meta) → IsTrue (is_meta m) → (k : ℕ) (bytes : List ℕ) → length bytes ≤ span p.chunk p.width (suc k) → length bytes < 2 ^ 63
+      → IsFileNode (root_node m (map (part_over X p.chunk p.width k) (groups (span p.chunk p.width k) bytes)))
   unfolding span
-  file_node-valid k bytes fit small =
+  root_node-valid m carried k bytes fit small =
       let s = span p.chunk p.width k in
       let pos : 1 ≤ s = span-pos p.chunk p.width k (kept p ok).some (let two : 2 ≤ p.width = (kept p ok).two in omega arith) in
       let gs = groups s bytes in
@@ -193,4 +201,9 @@ module _ (X : List ℕ → List ℕ) (good : IsHash X) (p : Profile) (ok : IsTru
         sizes = sizes ∙ sym links;
         total = omega arith;
         each = links-valid (part_over X p.chunk p.width k) gs s (λ g h. sub-valid X good p ok k g h) (widths.0, widths.1);
+        meta = carried;
       }
+
+  pub file_node-valid : (k : ℕ) (bytes : List ℕ) → length bytes ≤ span p.chunk p.width (suc k) → length bytes < 2 ^ 63
+      → IsFileNode (node_over (map (part_over X p.chunk p.width k) (groups (span p.chunk p.width k) bytes)))
+  file_node-valid k bytes fit small = root_node-valid none none-is_meta k bytes fit small

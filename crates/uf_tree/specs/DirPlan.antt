@@ -6,6 +6,7 @@ use Rattle.std.specs.List.{sum_by}
 use Rattle.uf_cid.specs.Blocks.{Held}
 use Rattle.uf_cid.specs.Cid.{cid_of}
 use Rattle.uf_cid.specs.declared.cid.Codec.TheVariants.{DagPb}
+use Rattle.uf_tree.specs.declared.meta.Meta.{Meta}
 use Rattle.uf_tree.specs.declared.profile.Profile.{Profile}
 use Rattle.uf_tree.specs.FilePlan.{Plan}
 use Rattle.uf_tree.specs.Nodes.{Named, node_entry, dir_block}
@@ -21,17 +22,17 @@ is_sharded p l = nat_lt p.threshold (weight l)
 
 module _ (X : List ℕ → List ℕ) (N : List ℕ → ℕ) where
   -- the plan of a directory in one block
-  abbrev pub basic_dir : List Named → Plan
-  basic_dir l = record { entry = node_entry X (dir_block l) (map (λ (e : Named). e.1) l); blocks = (cid_of X DagPb (dir_block l), dir_block l) ∷ [] }
+  abbrev pub basic_dir : Meta → List Named → Plan
+  basic_dir m l = record { entry = node_entry X (dir_block m l) (map (λ (e : Named). e.1) l); blocks = (cid_of X DagPb (dir_block m l), dir_block m l) ∷ [] }
 
   -- the entry and the own blocks of a directory; where two names share all slots it has no plan, and this stands in
-  abbrev pub own_plan : Profile → List Named → Plan
-  own_plan p l = if is_sharded p l then shard X N 7 l else basic_dir l
+  abbrev pub own_plan : Profile → Meta → List Named → Plan
+  own_plan p m l = if is_sharded p l then shard X N 7 m l else basic_dir m l
 
   -- the plan of a directory: the shard at level 0 where it is sharded, else the one block
-  abbrev pub dir_plan : Profile → List Named → Option Plan
-  dir_plan p l = if is_sharded p l then shard_plan X N 0 l else Some (basic_dir l)
+  abbrev pub dir_plan : Profile → Meta → List Named → Option Plan
+  dir_plan p m l = if is_sharded p l then shard_plan X N 0 m l else Some (basic_dir m l)
 
   -- the blocks that decide a name: the one block, or those of the shards on the name's way
-  abbrev pub trail : Profile → List Named → List ℕ → List Held
-  trail p l name = if is_sharded p l then shard_trail X N 7 l name else (basic_dir l).blocks
+  abbrev pub trail : Profile → Meta → List Named → List ℕ → List Held
+  trail p m l name = if is_sharded p l then shard_trail X N 7 m l name else (basic_dir m l).blocks

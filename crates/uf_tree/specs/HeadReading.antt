@@ -1,7 +1,7 @@
 -- What the reader of a Head answers: the lines from the first on, and the first fault.
 use Rattle.std.specs.Prelude.{◌≡◌, ◌⊎◌, ℕ, List, [], ◌∷◌, codes, length, Bool, true, false, ◌&&◌, ◌==◌, nat_le, if◌then◌else◌}
 use Rattle.std.specs.Fmt.{decimal}
-use Rattle.std.specs.Option.{option_and_then, option_map, ok_or}
+use Rattle.std.specs.Option.{option_and_then, option_map, option_or, ok_or}
 use Rattle.std.specs.Str.{bytes_eq, is_utf8}
 use Rattle.std.specs.Str.Parse.{digits_value}
 use Rattle.std.specs.declared.option.Option.{Option}
@@ -65,9 +65,12 @@ root_line bytes =
     ok_or (worded_at (codes "root ") bytes) (heads.Line 5) >>= λ x.
     ok_or (root_in x.0) heads.Root >>= λ c. Ok (c, x.1)
 
--- line 1, of version 1
+-- line 1, of version 2 or 1
+abbrev pub version_line : List ℕ → List ℕ → Option (List ℕ)
+version_line version bytes = behind (line (codes "unixfs-head ") version) bytes
+
 unfoldable pub first_line : List ℕ → Result (List ℕ) HeadFault
-first_line bytes = ok_or (behind (line (codes "unixfs-head ") (codes "1")) bytes) heads.Version
+first_line bytes = ok_or (option_or (version_line (codes "2") bytes) (version_line (codes "1") bytes)) heads.Version
 
 -- the Head that the bytes spell, or their first fault
 unfoldable pub head_reads : List ℕ → Result Head HeadFault

@@ -7,6 +7,7 @@ pub mod FilePlan
 pub mod FileSub
 pub mod HeadReading
 pub mod Heads
+pub mod Metas
 pub mod Names
 pub mod Nodes
 pub mod Profiles

@@ -14,6 +14,7 @@ use Rattle.uf_tree.specs.declared.nodes.Entry.{Entry}
 use Rattle.uf_tree.specs.declared.nodes.FileNode.{FileNode}
 use Rattle.uf_tree.specs.declared.nodes.Item.{Item}
 use Rattle.uf_tree.specs.declared.nodes.Item.TheVariants.{Leaf, Sub}
+use Rattle.uf_tree.specs.declared.meta.Meta.{Meta}
 
 -- a name and what it names
 abbrev pub Named : Type 0
@@ -35,39 +36,39 @@ node_entry X bytes below = record { cid = cid_of X DagPb bytes; tsize = capped (
 abbrev pub link_of : List ℕ → Entry → Link
 link_of name e = record { cid = e.cid; name = name; tsize = e.tsize }
 
--- the message of a file's node: all bytes below it, and the bytes below each link
-abbrev pub file_message : List ℕ → Message
-file_message sizes = record {
+-- the message of a file's node: all bytes below it, the bytes below each link, and its metadata
+abbrev pub file_message : Meta → List ℕ → Message
+file_message m sizes = record {
   kind = File;
   content = None;
   filesize = Some (sum sizes);
   blocksizes = sizes;
   hash_type = None;
   fanout = None;
-  mode = None;
-  mtime = None;
+  mode = m.mode;
+  mtime = m.mtime;
 }
 
 -- the block of a file's node
 unfoldable pub file_block : FileNode → List ℕ
-file_block node = node_bytes (record { links = node.parts; content = Some (message_bytes (file_message node.sizes)) })
+file_block node = node_bytes (record { links = node.parts; content = Some (message_bytes (file_message node.meta node.sizes)) })
 
--- the message of a basic directory: nothing but its kind
-abbrev pub dir_message : Message
-dir_message = record {
+-- the message of a basic directory: its kind and its metadata
+abbrev pub dir_message : Meta → Message
+dir_message m = record {
   kind = Directory;
   content = None;
   filesize = None;
   blocksizes = [];
   hash_type = None;
   fanout = None;
-  mode = None;
-  mtime = None;
+  mode = m.mode;
+  mtime = m.mtime;
 }
 
 -- the block of a basic directory: one link for each name
-unfoldable pub dir_block : List Named → List ℕ
-dir_block l = node_bytes (record { links = map (λ (e : Named). link_of e.0 e.1) l; content = Some (message_bytes dir_message) })
+unfoldable pub dir_block : Meta → List Named → List ℕ
+dir_block m l = node_bytes (record { links = map (λ (e : Named). link_of e.0 e.1) l; content = Some (message_bytes (dir_message m)) })
 
 -- a digit of a slot, in upper case
 abbrev pub hex_digit : ℕ → ℕ
@@ -108,19 +109,19 @@ without_zeros (b ∷ bs) = if b == 0 then without_zeros bs else b ∷ bs
 unfoldable pub bitfield : List ℕ → List ℕ
 bitfield slots = without_zeros (map (λ k. bitfield_byte slots (31 - k)) (range_with_len 0 32))
 
--- the message of a shard: the bitfield, hash type 0x22 and fanout 256
-abbrev pub shard_message : List ℕ → Message
-shard_message slots = record {
+-- the message of a shard: the bitfield, hash type 0x22, fanout 256, and its metadata
+abbrev pub shard_message : Meta → List ℕ → Message
+shard_message m slots = record {
   kind = Shard;
   content = Some (bitfield slots);
   filesize = None;
   blocksizes = [];
   hash_type = Some 0x22;
   fanout = Some 256;
-  mode = None;
-  mtime = None;
+  mode = m.mode;
+  mtime = m.mtime;
 }
 
 -- the block of a shard: one link for each slot that has something
-unfoldable pub shard_block : List InSlot → List ℕ
-shard_block items = node_bytes (record { links = map slot_link items; content = Some (message_bytes (shard_message (map (λ (p : InSlot). p.0) items))) })
+unfoldable pub shard_block : Meta → List InSlot → List ℕ
+shard_block m items = node_bytes (record { links = map slot_link items; content = Some (message_bytes (shard_message m (map (λ (p : InSlot). p.0) items))) })

@@ -11,7 +11,9 @@ use Rattle.uf_cid.specs.declared.cid.Codec.TheVariants.{DagPb}
 use Rattle.uf_murmur.specs.Slots.{slot}
 use Rattle.uf_tree.specs.declared.nodes.Item.{Item}
 use Rattle.uf_tree.specs.declared.nodes.Item.TheVariants.{Leaf, Sub}
+use Rattle.uf_tree.specs.declared.meta.Meta.{Meta}
 use Rattle.uf_tree.specs.FilePlan.{Plan}
+use Rattle.uf_tree.specs.Metas.{none}
 use Rattle.uf_tree.specs.Names.{names_cmp}
 use Rattle.uf_tree.specs.Nodes.{Named, InSlot, node_entry, item_entry, shard_block}
 
@@ -71,36 +73,36 @@ module _ (N : List ℕ → ℕ) where
   same_hash a b = N a == N b
 
 module _ (X : List ℕ → List ℕ) (N : List ℕ → ℕ) where
-  -- the block of a shard with these slots
-  abbrev pub shard_held : List InSlot → Held
-  shard_held items = (cid_of X DagPb (shard_block items), shard_block items)
+  -- the block of a shard with this metadata and these slots
+  abbrev pub shard_held : Meta → List InSlot → Held
+  shard_held m items = (cid_of X DagPb (shard_block m items), shard_block m items)
 
   -- one shard at level k: the entry of its block, its block, and the blocks below it
-  abbrev pub shard_at : (List Named → Plan) → ℕ → List Named → Plan
-  shard_at deeper k l = let items = shard_items N deeper k l in record {
-    entry = node_entry X (shard_block items) (map (λ (p : InSlot). item_entry p.1) items);
-    blocks = shard_held items ∷ shard_below N deeper k l;
+  abbrev pub shard_at : (List Named → Plan) → ℕ → Meta → List Named → Plan
+  shard_at deeper k m l = let items = shard_items N deeper k l in record {
+    entry = node_entry X (shard_block m items) (map (λ (p : InSlot). item_entry p.1) items);
+    blocks = shard_held m items ∷ shard_below N deeper k l;
   }
 
   -- below level 7 no shard stands; this fills its place where two names share all slots
   abbrev pub no_shard : List Named → Plan
   no_shard l = record { entry = node_entry X [] []; blocks = [] }
 
-  -- the shard that has so many levels below it: level 7 has none, level 0 has 7
-  unfoldable pub shard : ℕ → List Named → Plan
+  -- the shard that has so many levels below it: level 7 has none, level 0 has 7; the shards below it have no metadata
+  unfoldable pub shard : ℕ → Meta → List Named → Plan
   unfolding tabulate flat_tabulate
-  shard zero l = shard_at no_shard 7 l
-  shard (suc left) l = shard_at (shard left) (6 - left) l
+  shard zero m l = shard_at no_shard 7 m l
+  shard (suc left) m l = shard_at (shard left none) (6 - left) m l
 
   -- the plan of the shard at level k: none of no pairs, and none where two names share all slots from level k on
-  abbrev pub shard_plan : ℕ → List Named → Option Plan
-  shard_plan k [] = None
-  shard_plan k (e ∷ l) = elim (twins (same_slots N (7 - k)) (e ∷ l)) [ None ↦ Some (shard (7 - k) (e ∷ l)) | Some names ↦ None ]
+  abbrev pub shard_plan : ℕ → Meta → List Named → Option Plan
+  shard_plan k m [] = None
+  shard_plan k m (e ∷ l) = elim (twins (same_slots N (7 - k)) (e ∷ l)) [ None ↦ Some (shard (7 - k) m (e ∷ l)) | Some names ↦ None ]
 
   -- the blocks that decide a name in a shard: its own, and those of the shard below in the name's slot, where one stands
-  unfoldable pub shard_trail : ℕ → List Named → List ℕ → List Held
+  unfoldable pub shard_trail : ℕ → Meta → List Named → List ℕ → List Held
   unfolding shard
-  shard_trail zero l name = shard_held (shard_items N no_shard 7 l) ∷ []
-  shard_trail (suc left) l name =
+  shard_trail zero m l name = shard_held m (shard_items N no_shard 7 l) ∷ []
+  shard_trail (suc left) m l name =
       let shared = bucket N (6 - left) (slot (N name) (6 - left)) l in
-      shard_held (shard_items N (shard left) (6 - left) l) ∷ where_shared shared (shard_trail left shared name)
+      shard_held m (shard_items N (shard left none) (6 - left) l) ∷ where_shared shared (shard_trail left none shared name)

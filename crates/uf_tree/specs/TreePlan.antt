@@ -5,6 +5,7 @@ use Rattle.std.specs.declared.option.Option.TheVariants.{None, Some}
 use Rattle.std.specs.List.{flat_map}
 use Rattle.uf_cid.specs.Blocks.{Held}
 use Rattle.uf_tree.specs.declared.nodes.Entry.{Entry}
+use Rattle.uf_tree.specs.declared.meta.Meta.{Meta}
 use Rattle.uf_tree.specs.declared.profile.Profile.{Profile}
 use Rattle.uf_tree.specs.Tree.{Tree, Entries, fold, pairs}
 use Rattle.uf_tree.specs.FilePlan.{Plan, file_plan}
@@ -48,22 +49,22 @@ collision N l = elim (twins (same_hash N) l) [ None ↦ None | Some names ↦ So
 
 module _ (X : List ℕ → List ℕ) (N : List ℕ → ℕ) (p : Profile) where
   -- of a file: its plan, or it is too long
-  abbrev pub planned_file : List ℕ → Planned
-  planned_file bytes = record { plan = file_plan X p bytes; refusal = too_long p bytes }
+  abbrev pub planned_file : Meta → List ℕ → Planned
+  planned_file m bytes = record { plan = file_plan X p m bytes; refusal = too_long p bytes }
 
   -- the names and entries of a directory's members
   abbrev pub members : List (List ℕ × Planned) → List Named
   members ms = map (λ (m : List ℕ × Planned). (m.0, m.1.plan.entry)) ms
 
   -- why a directory of these has no plan, where its members have: a collision, else its size
-  abbrev pub dir_refusal : List Named → Option Refusal
-  dir_refusal l = or_else (if is_sharded p l then collision N l else None) (too_big (own_plan X N p l).entry.tsize)
+  abbrev pub dir_refusal : Meta → List Named → Option Refusal
+  dir_refusal m l = or_else (if is_sharded p l then collision N l else None) (too_big (own_plan X N p m l).entry.tsize)
 
   -- of a directory: the members' blocks and its own; its members' reasons come before its own
-  abbrev pub planned_dir : List (List ℕ × Planned) → Planned
-  planned_dir ms = let own = own_plan X N p (members ms) in record {
+  abbrev pub planned_dir : Meta → List (List ℕ × Planned) → Planned
+  planned_dir m ms = let own = own_plan X N p m (members ms) in record {
     plan = record { entry = own.entry; blocks = flat_map (λ (m : List ℕ × Planned). m.1.plan.blocks) ms ++ own.blocks };
-    refusal = or_else (first_refusal ms) (dir_refusal (members ms));
+    refusal = or_else (first_refusal ms) (dir_refusal m (members ms));
   }
 
   -- of a tree, from its leaves up

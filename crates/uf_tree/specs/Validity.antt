@@ -7,9 +7,12 @@ use Rattle.uf_cid.specs.Bytes.{IsBytes}
 use Rattle.uf_cid.specs.Read.{IsCid}
 use Rattle.uf_dagpb.specs.declared.node.Link.{Link}
 use Rattle.uf_tree.specs.declared.nodes.Entry.{Entry}
+use Rattle.uf_tree.specs.declared.nodes.DirNode.{DirNode}
 use Rattle.uf_tree.specs.declared.nodes.FileNode.{FileNode}
 use Rattle.uf_tree.specs.declared.nodes.Item.{Item}
 use Rattle.uf_tree.specs.declared.nodes.Item.TheVariants.{Leaf, Sub}
+use Rattle.uf_tree.specs.declared.nodes.ShardNode.{ShardNode}
+use Rattle.uf_tree.specs.Metas.{is_meta}
 use Rattle.uf_tree.specs.Names.{names_cmp, is_name}
 use Rattle.uf_tree.specs.Nodes.{Named, InSlot}
 
@@ -55,10 +58,21 @@ pub record IsPartLink (l : Link) : Type 0 where
   pub cid : IsCid l.cid
   pub tsize : l.tsize < 2 ^ 64
 
--- a node of a file: 1 to 1024 links, a size for each, and together less than 2 ^ 63 bytes
+-- a node of a file: 1 to 1024 links, a size for each, together less than 2 ^ 63 bytes, and its metadata
 pub record IsFileNode (node : FileNode) : Type 0 where
   pub some : 1 ≤ length node.parts
   pub few : length node.parts ≤ 1024
   pub sizes : length node.sizes ≡ length node.parts
   pub total : sum node.sizes < 2 ^ 63
   pub each : AllByRecursion IsPartLink node.parts
+  pub meta : IsTrue (is_meta node.meta)
+
+-- a basic directory: its pairs, and its metadata
+pub record IsDirNode (node : DirNode) : Type 0 where
+  pub pairs : IsDirectory node.pairs
+  pub meta : IsTrue (is_meta node.meta)
+
+-- a shard: its slots, and its metadata
+pub record IsShardNode (node : ShardNode) : Type 0 where
+  pub items : IsShard node.items
+  pub meta : IsTrue (is_meta node.meta)

@@ -4,9 +4,9 @@ ghost use Rattle.std.specs.List.{AllByRecursion};
 ghost use Rattle.std.specs.Ordering.{is_lt, nat_cmp};
 ghost use Rattle.uf_tree.specs.Names.{names_cmp};
 ghost use Rattle.uf_tree.specs.Rising.{rises};
-ghost use Rattle.uf_tree.specs.Validity.{IsDirectory, IsFileNode, IsInSlot, IsNamed, IsPartLink, IsShard};
+ghost use Rattle.uf_tree.specs.Validity.{IsDirNode, IsDirectory, IsFileNode, IsInSlot, IsNamed, IsPartLink, IsShard, IsShardNode};
 
-use crate::{FileNode, Item, Items, Pair, Pairs, Placed};
+use crate::{DirNode, FileNode, Item, Items, Pair, Pairs, Placed, ShardNode};
 use std::cmp::Ordering;
 use uf_cid::cids_are_whole;
 use uf_dagpb::{Link, links_are_valid};
@@ -18,6 +18,13 @@ pub fn is_directory(pairs: &Pairs) -> bool
     let entries = pairs.as_slice();
     pairs_are_named(entries);
     names_rise(entries)
+}
+
+/// Whether the node is a basic directory's: its pairs are a directory's, and its metadata is good.
+pub fn is_dir_node(node: &DirNode) -> bool
+    ensures { IsTrue result ↔ IsDirNode node.now }
+{
+    is_directory(&node.pairs) && node.meta.is_good()
 }
 
 // Each pair has a good name and an entry.
@@ -70,6 +77,13 @@ pub fn is_shard(items: &Items) -> bool
     !slots.is_empty() && slots_rise(slots)
 }
 
+/// Whether the node is a shard's: its items are a shard's, and its metadata is good.
+pub fn is_shard_node(node: &ShardNode) -> bool
+    ensures { IsTrue result ↔ IsShardNode node.now }
+{
+    is_shard(&node.items) && node.meta.is_good()
+}
+
 // Each item has a slot, and what stands there.
 fn items_are_placed(items: &[Placed])
     ensures { AllByRecursion IsInSlot items.now }
@@ -115,7 +129,8 @@ fn is_below(a: &Placed, b: &Placed) -> bool
     a.slot < b.slot
 }
 
-/// Whether the node is a file's: 1 to 1024 links without names, a size for each, and together less than 2^63 bytes.
+/// Whether the node is a file's: 1 to 1024 links without names, a size for each, together less than 2^63 bytes, and good
+/// metadata.
 pub fn is_file_node(node: &FileNode) -> bool
     ensures { IsTrue result ↔ IsFileNode node.now }
 {
@@ -126,6 +141,7 @@ pub fn is_file_node(node: &FileNode) -> bool
         && sizes.len() == links.len()
         && total(sizes).is_some()
         && are_parts(links)
+        && node.meta.is_good()
 }
 
 // The sum of the sizes, where it is below 2 ^ 63.

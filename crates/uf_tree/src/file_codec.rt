@@ -4,14 +4,15 @@ ghost use Rattle.uf_cid.specs.declared.bytes.StrictFault.TheVariants as strict;
 ghost use Rattle.std.specs.List.{AllByRecursion};
 ghost use Rattle.uf_dagpb.specs.Spelling.{link_bytes, links_bytes, node_bytes};
 ghost use Rattle.uf_message.specs.Spelling.{message_bytes};
-ghost use Rattle.uf_tree.specs.Codecs.{FitSizes, Reads, file_dag, file_spelling};
+ghost use Rattle.uf_tree.specs.Codecs.{FitSizes, IsContent, Reads, content_spelling, file_dag, meta_in};
 ghost use Rattle.uf_tree.specs.Nodes.{file_block, file_message};
 ghost use Rattle.uf_tree.specs.Validity.{IsFileNode, IsPartLink};
 ghost use Rattle.uf_varint.specs.Fields.{content_field};
 
 use crate::checks::{is_file_node, total};
+use crate::metas::metadata;
 use crate::spelling::{put_bytes, put_link};
-use crate::{Entry, FileNode};
+use crate::{Entry, FileNode, Meta};
 use std::alloc::Global;
 use uf_cid::{Block, Memory, Sizes, StrictFault};
 use uf_dagpb::{Link, Node, decode_strict};
@@ -24,7 +25,7 @@ pub fn file_node(alloc: Global, node: &FileNode) -> Result<Block, Memory>
     ensures block { IfOk result (λ b. b ≡ file_block node.now) }
     ensures small { IfOk result (λ b. length b ≤ 131072) }
 {
-    let content = file_content(alloc, &node.sizes)?;
+    let content = file_content(alloc, &node.sizes, &node.meta)?;
     node_of_parts(alloc, node.parts.as_slice(), content.as_slice())
 }
 
@@ -43,9 +44,9 @@ fn node_of_parts(alloc: Global, links: &[Link], content: &[u8]) -> Result<Block,
 }
 
 // The message of a file's node.
-fn file_content(alloc: Global, sizes: &Sizes) -> Result<Block, Memory>
+fn file_content(alloc: Global, sizes: &Sizes, meta: &Meta) -> Result<Block, Memory>
     requires { sum sizes.now < 2 ^ 63 }
-    ensures { IfOk result (λ b. b ≡ message_bytes (file_message sizes.now)) }
+    ensures { IfOk result (λ b. b ≡ message_bytes (file_message meta.now sizes.now)) }
 {
     let message = Message {
         kind: MsgKind::File,
@@ -54,8 +55,8 @@ fn file_content(alloc: Global, sizes: &Sizes) -> Result<Block, Memory>
         blocksizes: sizes.copy()?,
         hash_type: None,
         fanout: None,
-        mode: None,
-        mtime: None,
+        mode: meta.mode,
+        mtime: meta.mtime,
     };
     encode(alloc, &message)
 }
@@ -100,11 +101,12 @@ fn file_node_of(alloc: Global, node: Node) -> Result<FileNode, StrictFault>
     let Node { links, content } = node;
     match content {
         None => Err(StrictFault::NotCanonical),
-        Some(content) => match sizes_of(alloc, content.as_slice()) {
+        Some(content) => match content_of(alloc, content.as_slice()) {
             Err(fault) => Err(fault),
-            Ok(sizes) => whole(FileNode {
+            Ok((sizes, meta)) => whole(FileNode {
                 parts: links,
                 sizes,
+                meta,
             }),
         },
     }
@@ -121,16 +123,17 @@ fn whole(node: FileNode) -> Result<FileNode, StrictFault>
     }
 }
 
-// The sizes of which the bytes are the message of a file's node.
-fn sizes_of(alloc: Global, content: &[u8]) -> Result<Sizes, StrictFault>
-    ensures { Reads FitSizes file_spelling content.now result }
+// The sizes and the metadata of which the bytes are the message of a file's node.
+fn content_of(alloc: Global, content: &[u8]) -> Result<(Sizes, Meta), StrictFault>
+    ensures { Reads IsContent content_spelling content.now result }
 {
     match decode_message(alloc, content) {
         Err(fault) => Err(fault),
         Ok(message) => {
+            let meta = metadata(&message);
             if is_file_message(&message) {
                 let Message { blocksizes, .. } = message;
-                Ok(blocksizes)
+                Ok((blocksizes, meta))
             } else {
                 Err(StrictFault::NotCanonical)
             }
@@ -140,21 +143,19 @@ fn sizes_of(alloc: Global, content: &[u8]) -> Result<Sizes, StrictFault>
 
 // Whether the message is that of a file's node.
 fn is_file_message(message: &Message) -> bool
-    ensures { IsTrue result ↔ ((message.now ≡ file_message message.now.blocksizes) × FitSizes message.now.blocksizes) }
+    ensures { IsTrue result ↔ ((message.now ≡ file_message (meta_in message.now) message.now.blocksizes) × FitSizes message.now.blocksizes) }
 {
     is_bare_file(message) && is_total(message.filesize, message.blocksizes.as_slice())
 }
 
 // Whether the message is a file's, and has no part that a file's node hasn't.
 fn is_bare_file(message: &Message) -> bool
-    ensures { IsTrue result ↔ (message.now ≡ record (file_message message.now.blocksizes) { filesize = message.now.filesize }) }
+    ensures { IsTrue result ↔ (message.now ≡ record (file_message (meta_in message.now) message.now.blocksizes) { filesize = message.now.filesize }) }
 {
     message.kind == MsgKind::File
         && message.content.is_none()
         && message.hash_type.is_none()
         && message.fanout.is_none()
-        && message.mode.is_none()
-        && message.mtime.is_none()
 }
 
 // Whether the number is the sum of the sizes, and below 2 ^ 63.

@@ -1,9 +1,9 @@
 // Why a text is no Head.
 
-/// Why a text is no Head of version 1: the first fault from left to right, or there was no memory.
+/// Why a text is no Head: the first fault from left to right, or there was no memory.
 #[derive(Clone, Copy, Debug, PartialEq, Eq)]
 pub enum HeadFault {
-    /// The first line isn't that of version 1.
+    /// The first line isn't that of version 2 or 1.
     Version,
     /// The line of this number, counted from 1, is absent or has not its word; line 6 is there.
     Line(u8),

@@ -1,4 +1,4 @@
-// The note Head, version 1, written and read (this project's own format).
+// The note Head, written and read (this project's own format).
 ghost use Rattle.std.specs.Prelude.{◌≡◌, ℕ, List, ◌<◌, ◌≤◌, ◌^◌, ◌++◌, ◌↔◌, ◌&&◌, ◌⊎◌, IfErr, IfOk, IsTrue, OnOk, codes, length, nat_le, if◌then◌else◌};
 ghost use Rattle.std.specs.Fmt.{decimal};
 ghost use Rattle.std.specs.Option.{option_copied, option_map};
@@ -6,7 +6,7 @@ ghost use Rattle.uf_cid.specs.Read.{IsCid};
 ghost use Rattle.uf_cid.specs.declared.cid.Cid.{Cid as TheCid};
 ghost use Rattle.uf_cid.specs.declared.cid.Codec.TheVariants.{DagPb as NodeCodec};
 ghost use Rattle.uf_tree.specs.HeadReading.{GivesHead, behind as behind_word, first_line as first_line_of, head_reads, is_node as is_node_codec, line_at, number_in, number_line as number_line_of, root_in, root_line as root_line_of, worded_at};
-ghost use Rattle.uf_tree.specs.Heads.{head_text as text_of_head, line as the_line, IsHeadOf};
+ghost use Rattle.uf_tree.specs.Heads.{head_text as text_of_head, line as the_line, IsHeadOf, IsHeadText};
 ghost use Rattle.uf_tree.specs.Profiles.{is_profile};
 ghost use Rattle.uf_tree.specs.Standing.{IsRefusedText};
 ghost use Rattle.uf_tree.specs.declared.head_fault.HeadFault.{HeadFault as TheFault};
@@ -18,14 +18,14 @@ use crate::{Head, HeadFault, Profile};
 use std::alloc::Global;
 use uf_cid::{Block, Cid, Codec, Memory};
 
-/// The text of a Head: five lines, each ended by a line feed.
-#[tactic(auto, unfolding(crate::specs::Heads::head_text))]
+/// The text of a Head, of version 2: five lines, each ended by a line feed.
+#[tactic(auto, unfolding(crate::specs::Heads::text_in))]
 pub fn head_text(alloc: Global, head: &Head) -> Result<Block, Memory>
     requires { IsTrue (is_profile head.now.profile) }
     ensures { IfOk result (λ b. b ≡ text_of_head head.now.profile head.now.root) }
 {
     let mut out = Block::with_capacity(alloc, 144)?;
-    put_line(&mut out, b"unixfs-head ", b"1")?;
+    put_line(&mut out, b"unixfs-head ", b"2")?;
     put_number(alloc, &mut out, b"chunk ", head.profile.chunk)?;
     put_number(alloc, &mut out, b"width ", head.profile.width)?;
     put_number(alloc, &mut out, b"threshold ", head.profile.threshold)?;
@@ -53,7 +53,7 @@ fn put_line(out: &mut Block, word: &[u8], rest: &[u8]) -> Result<(), Memory>
 }
 
 /// The Head that a text spells, or its first fault from left to right. The texts that are read are those that `head_text`
-/// writes, and no other.
+/// writes, the same with version 1 in their first line, and no other.
 #[tactic(auto, unfolding(crate::specs::HeadReading::head_reads))]
 pub fn read_head(alloc: Global, bytes: &[u8]) -> Result<Head, HeadFault>
     ensures read { GivesHead (λ h. h) result (head_reads bytes.now) }
@@ -99,9 +99,12 @@ pub fn read_head(alloc: Global, bytes: &[u8]) -> Result<Head, HeadFault>
 fn first_line(bytes: &[u8]) -> Result<&[u8], HeadFault>
     ensures { GivesHead (λ x. x.now) result (first_line_of bytes.now) }
 {
-    match behind(b"unixfs-head 1\n", bytes) {
-        None => Err(HeadFault::Version),
+    match behind(b"unixfs-head 2\n", bytes) {
         Some(rest) => Ok(rest),
+        None => match behind(b"unixfs-head 1\n", bytes) {
+            Some(rest) => Ok(rest),
+            None => Err(HeadFault::Version),
+        },
     }
 }
 
@@ -241,12 +244,13 @@ fn is_node(codec: Codec) -> bool
     }
 }
 
-/// The text of a Head is read as that Head.
+/// Each text of a Head is read as that Head.
 pub fn heads_are_read_again()
-    ensures { (p : TheProfile) (c : TheCid) → IsTrue (is_profile p) → IsCid c → c.codec ≡ NodeCodec → head_reads (text_of_head p c) ≡ Ok (record { profile = p; root = c }) }
+    ensures { (text : List ℕ) (p : TheProfile) (c : TheCid) → IsTrue (is_profile p) → IsCid c → c.codec ≡ NodeCodec → IsHeadText text p c
+        → head_reads text ≡ Ok (record { profile = p; root = c }) }
 {}
 
-/// A text that is read as a Head is the text of that Head, and a text that isn't read is that of none.
+/// A text that is read as a Head is a text of that Head, and a text that isn't read is that of none.
 pub fn heads_are_their_texts()
     ensures read { (bytes : List ℕ) (head : TheHead) → head_reads bytes ≡ Ok head → IsHeadOf bytes head }
     ensures refused { (bytes : List ℕ) (fault : TheFault) → head_reads bytes ≡ Err fault → IsRefusedText bytes }

@@ -10,6 +10,8 @@ mod file_codec;
 mod head_fault;
 mod heads;
 mod limits;
+mod meta;
+mod metas;
 mod name;
 mod nodes;
 mod profile;
@@ -17,14 +19,17 @@ mod shard_codec;
 mod shard_read;
 mod spelling;
 
-pub use checks::{is_directory, is_file_node, is_shard};
-pub use dir_codec::{dir_node, read_dir_node};
+pub use checks::{is_dir_node, is_directory, is_file_node, is_shard, is_shard_node};
+pub use dir_codec::{dir_node, node_of_pairs, read_dir_node};
 pub use file_codec::{file_node, read_file_node};
 pub use head_fault::HeadFault;
 pub use heads::{head_text, heads_are_read_again, heads_are_their_texts, read_head};
 pub use limits::BadProfile;
+pub use meta::Meta;
 pub use name::{Name, NameFault, Names};
-pub use nodes::{Entry, FileNode, Item, Items, Pair, Pairs, Part, Parts, Placed};
+pub use nodes::{
+    DirNode, Entry, FileNode, Item, Items, Pair, Pairs, Part, Parts, Placed, ShardNode,
+};
 pub use profile::{Head, Profile};
-pub use shard_codec::shard_node;
+pub use shard_codec::{node_of_items, shard_node};
 pub use shard_read::read_shard_node;

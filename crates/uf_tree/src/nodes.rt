@@ -1,5 +1,5 @@
 // What files, directories and shards are made of.
-use crate::Name;
+use crate::{Meta, Name};
 use std::marker::Model;
 use uf_cid::{Cid, Seq, Sizes};
 use uf_dagpb::Links;
@@ -41,11 +41,19 @@ pub struct Part {
 /// A list of parts: one row of a file, or what one node links.
 pub type Parts = Seq<Part>;
 
-/// A node of a file: its links, and how many bytes of the file are below each.
+/// A node of a file: its links, how many bytes of the file are below each, and at the file's root its metadata.
 #[derive(Drop)]
 pub struct FileNode {
     pub parts: Links,
     pub sizes: Sizes,
+    pub meta: Meta,
+}
+
+/// A directory in one block: its pairs, and its metadata.
+#[derive(Drop)]
+pub struct DirNode {
+    pub pairs: Pairs,
+    pub meta: Meta,
 }
 
 /// What a slot of a shard has: an entry under its name, or the shard of the entries that share the slots so far.
@@ -73,3 +81,10 @@ impl Model for Placed {
 
 /// A list of slots: of a shard, in ascending order.
 pub type Items = Seq<Placed>;
+
+/// A shard: its slots, and at level 0 the directory's metadata.
+#[derive(Drop)]
+pub struct ShardNode {
+    pub items: Items,
+    pub meta: Meta,
+}

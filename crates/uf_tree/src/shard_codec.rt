@@ -1,31 +1,42 @@
 // Shards written.
-ghost use Rattle.std.specs.Prelude.{◌≡◌, ◌<◌, ◌≤◌, ◌++◌, [], ◌∷◌, IfOk, OnOk, Some, length, map};
+ghost use Rattle.std.specs.Prelude.{◌≡◌, ◌<◌, ◌≤◌, ◌++◌, [], ◌∷◌, IfOk, IsTrue, OnOk, Some, length, map};
 ghost use Rattle.uf_dagpb.specs.Spelling.{link_bytes, links_bytes, node_bytes};
-ghost use Rattle.uf_message.specs.Spelling.{message_bytes};
-ghost use Rattle.uf_tree.specs.Nodes.{InSlot, hex_digit, shard_block, shard_message, slot_digits, slot_link};
-ghost use Rattle.uf_tree.specs.Validity.{IsShard};
+ghost use Rattle.uf_tree.specs.Codecs.{shard_spelling};
+ghost use Rattle.uf_tree.specs.Metas.{is_meta};
+ghost use Rattle.uf_tree.specs.Nodes.{hex_digit, shard_block, slot_digits, slot_link};
+ghost use Rattle.uf_tree.specs.Validity.{IsShard, IsShardNode};
 ghost use Rattle.uf_varint.specs.Fields.{content_field};
 
 use crate::bits::bitfield;
 use crate::spelling::{put_bytes, put_link};
-use crate::{Item, Items, Placed};
+use crate::{Item, Items, Meta, Placed, ShardNode};
 use std::alloc::Global;
 use uf_cid::{Block, Memory, Sizes};
 use uf_message::{Message, MsgKind, encode};
 
-/// The block of a shard (UnixFS v1, "HAMTDirectory"). Its condition is that the items are a shard's, which `is_shard` tests.
-pub fn shard_node(alloc: Global, items: &Items) -> Result<Block, Memory>
-    requires { IsShard items.now }
-    ensures block { IfOk result (λ b. b ≡ shard_block items.now) }
+/// The block of a shard (UnixFS v1, "HAMTDirectory"). Its condition is that the node is one, which `is_shard_node` tests.
+pub fn shard_node(alloc: Global, node: &ShardNode) -> Result<Block, Memory>
+    requires { IsShardNode node.now }
+    ensures block { IfOk result (λ b. b ≡ shard_block node.now.meta node.now.items) }
     ensures small { IfOk result (λ b. length b ≤ 2097152) }
 {
-    let content = shard_content(alloc, items.as_slice())?;
-    node_of_items(alloc, items.as_slice(), content.as_slice())
+    node_of_items(alloc, &node.items, &node.meta)
+}
+
+/// The same of items and metadata apart.
+pub fn node_of_items(alloc: Global, items: &Items, meta: &Meta) -> Result<Block, Memory>
+    requires items { IsShard items.now }
+    requires meta { IsTrue (is_meta meta.now) }
+    ensures block { IfOk result (λ b. b ≡ shard_block meta.now items.now) }
+    ensures small { IfOk result (λ b. length b ≤ 2097152) }
+{
+    let content = shard_content(alloc, items.as_slice(), meta)?;
+    node_of(alloc, items.as_slice(), content.as_slice())
 }
 
 // The message of a shard.
-pub fn shard_content(alloc: Global, items: &[Placed]) -> Result<Block, Memory>
-    ensures { IfOk result (λ b. b ≡ message_bytes (shard_message (map (λ (p : InSlot). p.0) items.now))) }
+pub fn shard_content(alloc: Global, items: &[Placed], meta: &Meta) -> Result<Block, Memory>
+    ensures { IfOk result (λ b. b ≡ shard_spelling meta.now items.now) }
 {
     let message = Message {
         kind: MsgKind::Shard,
@@ -34,15 +45,15 @@ pub fn shard_content(alloc: Global, items: &[Placed]) -> Result<Block, Memory>
         blocksizes: Sizes::new(alloc),
         hash_type: Some(0x22),
         fanout: Some(256),
-        mode: None,
-        mtime: None,
+        mode: meta.mode,
+        mtime: meta.mtime,
     };
     encode(alloc, &message)
 }
 
 // The node of the items' links and a content.
 #[tactic(auto, unfolding(uf_dagpb::specs::Spelling::node_bytes))]
-fn node_of_items(alloc: Global, items: &[Placed], content: &[u8]) -> Result<Block, Memory>
+fn node_of(alloc: Global, items: &[Placed], content: &[u8]) -> Result<Block, Memory>
     ensures { IfOk result (λ b. b ≡ node_bytes (record { links = map slot_link items.now; content = Some content.now })) }
 {
     let mut out = Block::with_capacity(alloc, room(items))?;
@@ -53,7 +64,7 @@ fn node_of_items(alloc: Global, items: &[Placed], content: &[u8]) -> Result<Bloc
 
 // As many bytes as the block has, or a few more.
 fn room(items: &[Placed]) -> usize {
-    let mut room = 56usize;
+    let mut room = 96usize;
     for placed in items {
         room = room.saturating_add(item_room(&placed.item));
     }

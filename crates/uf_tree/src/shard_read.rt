@@ -1,69 +1,75 @@
 // Shards read.
-ghost use Rattle.std.specs.Prelude.{◌≡◌, ◌≢◌, ◌⊎◌, ◌↔◌, ◌<◌, ◌∷◌, [], IfOk, IsTrue, MatchOption, MatchResult, Some, ℕ, length, map};
+ghost use Rattle.std.specs.Prelude.{◌≡◌, ◌≢◌, ◌⊎◌, ◌↔◌, ◌<◌, ◌∷◌, [], IfOk, IsTrue, List, MatchOption, MatchResult, Some, ℕ, map};
 ghost use Rattle.std.specs.List.{AllByRecursion};
 ghost use Rattle.uf_cid.specs.declared.bytes.StrictFault.TheVariants as strict;
-ghost use Rattle.uf_tree.specs.Codecs.{Reads, shard_dag, shard_spelling};
-ghost use Rattle.uf_tree.specs.Nodes.{hex_digit, item_entry, item_name, shard_block, slot_digits, slot_link};
-ghost use Rattle.uf_tree.specs.Validity.{IsEntry, IsInSlot, IsItem, IsShard};
+ghost use Rattle.uf_tree.specs.Codecs.{MetaOf, Reads, shard_dag, shard_node_block, shard_spelling};
+ghost use Rattle.uf_tree.specs.Nodes.{hex_digit, item_entry, item_name, slot_digits, slot_link};
+ghost use Rattle.uf_tree.specs.Validity.{IsEntry, IsInSlot, IsItem, IsShardNode};
 ghost use Rattle.uf_tree.specs.declared.nodes.Item.{Item as TheItem};
 
-use crate::checks::is_shard;
+use crate::checks::is_shard_node;
+use crate::metas::metadata;
 use crate::shard_codec::shard_content;
-use crate::{Entry, Item, Items, Name, NameFault, Placed};
+use crate::{Entry, Item, Items, Meta, Name, NameFault, Placed, ShardNode};
 use std::alloc::Global;
 use uf_cid::{Block, Memory, StrictFault};
 use uf_dagpb::{Link, Node, decode_strict, links_are_valid};
+use uf_message::decode_strict as decode_message;
 
-/// The items of which the bytes are the shard's block.
-pub fn read_shard_node(alloc: Global, bytes: &[u8]) -> Result<Items, StrictFault>
-    ensures { Reads IsShard shard_block bytes.now result }
+/// The node of which the bytes are the shard's block.
+pub fn read_shard_node(alloc: Global, bytes: &[u8]) -> Result<ShardNode, StrictFault>
+    ensures { Reads IsShardNode shard_node_block bytes.now result }
 {
     match decode_strict(alloc, bytes) {
         Err(fault) => Err(fault),
-        Ok(node) => items_of(alloc, &node),
+        Ok(node) => shard_node_of(alloc, &node),
     }
 }
 
-// The items of which this is the shard's node.
-fn items_of(alloc: Global, node: &Node) -> Result<Items, StrictFault>
-    ensures { Reads IsShard shard_dag node.now result }
+// The shard of which this is the node.
+fn shard_node_of(alloc: Global, node: &Node) -> Result<ShardNode, StrictFault>
+    ensures { Reads IsShardNode shard_dag node.now result }
 {
-    match items_of_links(alloc, node.links.as_slice()) {
+    match &node.content {
+        None => Err(StrictFault::NotCanonical),
+        Some(content) => match meta_of(alloc, content.as_slice()) {
+            Err(fault) => Err(fault),
+            Ok(meta) => match items_of_links(alloc, node.links.as_slice()) {
+                Err(fault) => Err(fault),
+                Ok(items) => whole(alloc, ShardNode { items, meta }, content.as_slice()),
+            },
+        },
+    }
+}
+
+// The metadata that the bytes have, where they are the message of some shard.
+fn meta_of(alloc: Global, content: &[u8]) -> Result<Meta, StrictFault>
+    ensures { MetaOf content.now result }
+{
+    match decode_message(alloc, content) {
         Err(fault) => Err(fault),
-        Ok(items) => with_content(alloc, items, &node.content),
+        Ok(message) => Ok(metadata(&message)),
     }
 }
 
-// The items, where they are a shard's and this is its content.
-fn with_content(alloc: Global, items: Items, content: &Option<Block>) -> Result<Items, StrictFault>
+// The node, where it is one and this is its content.
+fn whole(alloc: Global, node: ShardNode, content: &[u8]) -> Result<ShardNode, StrictFault>
     ensures { MatchResult result
-        (λ v. (v ≡ items) × IsShard items × (content.now ≡ Some (shard_spelling items)))
-        (λ f. (f ≡ strict.Memory) ⊎ (IsShard items → content.now ≢ Some (shard_spelling items))) }
+        (λ v. (v ≡ node) × IsShardNode node × (content.now ≡ shard_spelling node.meta node.items))
+        (λ f. (f ≡ strict.Memory) ⊎ (IsShardNode node → content.now ≢ shard_spelling node.meta node.items)) }
 {
-    if !is_shard(&items) {
+    if !is_shard_node(&node) {
         return Err(StrictFault::NotCanonical);
     }
-    match is_shard_content(alloc, items.as_slice(), content) {
+    match shard_content(alloc, node.items.as_slice(), &node.meta) {
         Err(_) => Err(StrictFault::Memory),
-        Ok(false) => Err(StrictFault::NotCanonical),
-        Ok(true) => Ok(items),
-    }
-}
-
-// Whether the content is the message of a shard of these items.
-fn is_shard_content(
-    alloc: Global,
-    items: &[Placed],
-    content: &Option<Block>,
-) -> Result<bool, Memory>
-    ensures { IfOk result (λ b. IsTrue b ↔ (content.now ≡ Some (shard_spelling items.now))) }
-{
-    match content {
-        None => Ok(false),
-        Some(block) => match shard_content(alloc, items) {
-            Err(fault) => Err(fault),
-            Ok(spelled) => Ok(block.as_slice() == spelled.as_slice()),
-        },
+        Ok(spelled) => {
+            if content == spelled.as_slice() {
+                Ok(node)
+            } else {
+                Err(StrictFault::NotCanonical)
+            }
+        }
     }
 }
 

@@ -7,20 +7,24 @@ use Rattle.uf_cid.specs.Blocks.{Held, Lookup, Holds}
 use Rattle.uf_cid.specs.Cid.{codec_byte}
 use Rattle.uf_cid.specs.declared.cid.Cid.{Cid}
 use Rattle.uf_dagpb.specs.declared.node.Link.{Link}
+use Rattle.uf_tree.specs.declared.meta.Meta.{Meta}
+use Rattle.uf_tree.specs.declared.nodes.FileNode.{FileNode}
 use Rattle.uf_tree.specs.declared.nodes.Part.{Part}
 use Rattle.uf_tree.specs.declared.profile.Profile.{Profile}
 use Rattle.uf_tree.specs.Cutting.{joined}
-use Rattle.uf_tree.specs.FilePlan.{file_plan, groups, node_over}
-use Rattle.uf_tree.specs.FileSub.{span, part_over, blocks_over}
+use Rattle.uf_tree.specs.FilePlan.{file_plan, groups, node_over, root_node}
+use Rattle.uf_tree.specs.FileSub.{span, part_over, blocks_over, whole_part, whole_blocks, IsFileHeight, lowest}
+use Rattle.uf_tree.specs.Metas.{is_bare, is_meta, none}
 use Rattle.uf_tree.specs.Profiles.{is_profile}
 use Rattle.uf_tree.specs.TreePlan.{Refusal, FileTooLong, too_long}
 use Rattle.uf_tree.specs.Validity.{IsHash, IsFileNode}
 use Rattle.uf_tree.proofs.Each.{front, back}
 use Rattle.uf_tree.proofs.Groups.{joined-split, width-split}
-use Rattle.uf_tree.proofs.Rows.{file_plan-rows, plan-sub}
+use Rattle.uf_tree.proofs.MetaNumbers.{bare-none}
+use Rattle.uf_tree.proofs.Rows.{file_plan-rows, lowest-carried, plan-sub}
 use Rattle.uf_tree.proofs.Sub.{span-pos}
 use Rattle.uf_tree.proofs.Told.{kept}
-use Rattle.uf_tree.proofs.Valid.{file_node-valid}
+use Rattle.uf_tree.proofs.Valid.{file_node-valid, root_node-valid}
 use Rattle.uf_unique.proofs.Unique.{one_block, one_file_node}
 
 module _ (X : List ℕ → List ℕ) (good : IsHash X) (held : Lookup) where
@@ -35,10 +39,10 @@ module _ (X : List ℕ → List ℕ) (good : IsHash X) (held : Lookup) where
     pub all : Holds held (blocks_over X p.chunk p.width h b)
 
   -- the node at the root of a part that has nodes
-  abbrev pub root_node : Profile → ℕ → List ℕ → List Part
-  root_node p h b = map (part p h) (groups (span p.chunk p.width h) b)
+  abbrev pub root_parts : Profile → ℕ → List ℕ → List Part
+  root_parts p h b = map (part p h) (groups (span p.chunk p.width h) b)
 
-  pub root_valid : (p : Profile) (h : ℕ) (b : List ℕ) → Stood p (suc h) b → IsFileNode (node_over (root_node p h b))
+  pub root_valid : (p : Profile) (h : ℕ) (b : List ℕ) → Stood p (suc h) b → IsFileNode (node_over (root_parts p h b))
   root_valid p h b s = file_node-valid X good p s.profile h b s.fits s.few
 
   each_stood : (p : Profile) → IsTrue (is_profile p) → (h : ℕ) (gs : List (List ℕ)) → AllByRecursion (λ g. length g ≤ span p.chunk p.width h) gs → length (joined gs) < 2 ^ 63
@@ -95,15 +99,63 @@ module _ (X : List ℕ → List ℕ) (good : IsHash X) (held : Lookup) where
   same_bytes p q (suc h) (suc k) a b s r e =
       let one = same_bytes p q h k in
       let blocks = one_block held (part p (suc h) a).entry.cid (part q (suc k) b).entry.cid _ _ e s.all.0 r.all.0 in
-      let nodes = one_file_node (node_over (root_node p h a)) (node_over (root_node q k b)) (root_valid p h a s) (root_valid q k b r) blocks in
-      let groups_same = same_groups p q h k one (groups (span p.chunk p.width h) a) (groups (span q.chunk q.width k) b) (below_stood p h a s) (below_stood q k b r) (ap cids nodes) in
+      let nodes = one_file_node (node_over (root_parts p h a)) (node_over (root_parts q k b)) (root_valid p h a s) (root_valid q k b r) blocks in
+      let groups_same = same_groups p q h k one (groups (span p.chunk p.width h) a) (groups (span q.chunk q.width k) b) (below_stood p h a s) (below_stood q k b r) (ap (λ (n : FileNode). cids n.parts) nodes) in
       sym (joined-split (span p.chunk p.width h) (span p.chunk p.width h) a) ∙ ap joined groups_same ∙ joined-split (span q.chunk q.width k) (span q.chunk q.width k) b
 
+  abbrev pub whole : Profile → Meta → ℕ → List ℕ → Part
+  whole p m h b = whole_part X p.chunk p.width m h b
+
+  -- the blocks of a whole file of this height are held
+  pub record StoodWhole (p : Profile) (m : Meta) (h : ℕ) (b : List ℕ) : Type 0 where
+    pub profile : IsTrue (is_profile p)
+    pub carried : IsTrue (is_meta m)
+    pub height : IsFileHeight p.chunk p.width m (length b) h
+    pub few : length b < 2 ^ 63
+    pub all : Holds held (whole_blocks X p.chunk p.width m h b)
+
+  pub whole_valid : (p : Profile) (m : Meta) (h : ℕ) (b : List ℕ) → StoodWhole p m (suc h) b → IsFileNode (root_node m (root_parts p h b))
+  whole_valid p m h b s = root_node-valid X good p s.profile m s.carried h b s.height.fits s.few
+
+  -- the parts under the root stand
+  under_stood : (p : Profile) (m : Meta) (h : ℕ) (b : List ℕ) → StoodWhole p m (suc h) b → AllByRecursion (Stood p h) (groups (span p.chunk p.width h) b)
+  unfolding whole_blocks
+  under_stood p m h b s =
+      let cut = span p.chunk p.width h in
+      let k = kept p s.profile in
+      let two : 2 ≤ p.width = k.two in
+      let pos : 1 ≤ cut = span-pos p.chunk p.width h k.some (omega arith) in
+      let widths = width-split cut cut b pos (omega arith) in
+      let joined_is : joined (groups cut b) ≡ b = joined-split cut cut b in
+      each_stood p s.profile h (groups cut b) (widths.0, widths.1) (omega (arith, s.few, ap length joined_is)) s.all.1
+
+  -- a file of one piece alone has no metadata
+  no_meta : (p : Profile) (m : Meta) (b : List ℕ) → StoodWhole p m 0 b → m ≡ none
+  no_meta p m b s = by (is_bare m) refl
+    where
+      by : (t : Bool) → is_bare m ≡ t → m ≡ none
+      by true e = bare-none m e
+      by false e = let one : lowest m ≡ 1 = lowest-carried m e in let low : lowest m ≤ 0 = s.height.enough in absurd (omega arith)
+
+  -- the metadata and the bytes are one where the roots have one CID, of whatever profiles and heights
+  pub same_whole : (p q : Profile) (m n : Meta) (h k : ℕ) (a b : List ℕ) → StoodWhole p m h a → StoodWhole q n k b → (whole p m h a).entry.cid ≡ (whole q n k b).entry.cid → (m ≡ n) × (a ≡ b)
+  unfolding whole_part whole_blocks
+  same_whole p q m n zero zero a b s r e = (no_meta p m a s ∙ sym (no_meta q n b r), one_block held (whole p m zero a).entry.cid (whole q n zero b).entry.cid a b e s.all.0 r.all.0)
+  same_whole p q m n zero (suc k) a b s r e = absurd (leaf_or_node (ap (λ (c : Cid). codec_byte c.codec) e))
+  same_whole p q m n (suc h) zero a b s r e = absurd (leaf_or_node (sym (ap (λ (c : Cid). codec_byte c.codec) e)))
+  same_whole p q m n (suc h) (suc k) a b s r e =
+      let blocks = one_block held (whole p m (suc h) a).entry.cid (whole q n (suc k) b).entry.cid _ _ e s.all.0 r.all.0 in
+      let nodes = one_file_node (root_node m (root_parts p h a)) (root_node n (root_parts q k b)) (whole_valid p m h a s) (whole_valid q n k b r) blocks in
+      let groups_same = same_groups p q h k (same_bytes p q h k) (groups (span p.chunk p.width h) a) (groups (span q.chunk q.width k) b) (under_stood p m h a s) (under_stood q n k b r) (ap (λ (n : FileNode). cids n.parts) nodes) in (
+        ap (λ (n : FileNode). n.meta) nodes,
+        sym (joined-split (span p.chunk p.width h) (span p.chunk p.width h) a) ∙ ap joined groups_same ∙ joined-split (span q.chunk q.width k) (span q.chunk q.width k) b,
+      )
+
   -- a file whose plan's blocks are held stands, with the height of its plan
-  pub record Rooted (p : Profile) (b : List ℕ) : Type 0 where
+  pub record Rooted (p : Profile) (m : Meta) (b : List ℕ) : Type 0 where
     pub height : ℕ
-    pub entry : (file_plan X p b).entry ≡ (part p height b).entry
-    pub stood : Stood p height b
+    pub entry : (file_plan X p m b).entry ≡ (whole p m height b).entry
+    pub stood : StoodWhole p m height b
 
   not_long : (p : Profile) (b : List ℕ) → too_long p b ≡ None → length b ≤ p.chunk * 4194304
   not_long p b e = by (nat_lt (p.chunk * 4194304) (length b)) refl
@@ -115,10 +167,10 @@ module _ (X : List ℕ → List ℕ) (good : IsHash X) (held : Lookup) where
           some e = cc
       by false k = grind (arith, nat_tests)
 
-  pub file_rooted : (p : Profile) (b : List ℕ) → IsTrue (is_profile p) → too_long p b ≡ None → Holds held (file_plan X p b).blocks → Rooted p b
-  file_rooted p b ok fits all =
+  pub file_rooted : (p : Profile) (m : Meta) (b : List ℕ) → IsTrue (is_profile p) → IsTrue (is_meta m) → too_long p b ≡ None → Holds held (file_plan X p m b).blocks → Rooted p m b
+  file_rooted p m b ok carried fits all =
       let k = kept p ok in
-      let r = file_plan-rows X p b k.some k.two in
+      let r = file_plan-rows X p m b k.some k.two in
       let short : p.chunk ≤ 1048576 = k.short in
       let few : length b ≤ p.chunk * 4194304 = not_long p b fits in
       record {
@@ -126,8 +178,9 @@ module _ (X : List ℕ → List ℕ) (good : IsHash X) (held : Lookup) where
         entry = r.1;
         stood = record {
           profile = ok;
-          fits = r.2.fits;
+          carried = carried;
+          height = r.2;
           few = omega arith;
-          all = plan-sub X p b k.some k.two (λ (x : Held). held x.0 ≡ Some x.1) r.0 r.2.fits _ r.3 all;
+          all = plan-sub X p m b k.some k.two (λ (x : Held). held x.0 ≡ Some x.1) r.0 r.2.fits _ r.3 all;
         };
       }

@@ -13,6 +13,7 @@ use Rattle.uf_store.specs.Contents.{Contents, Told}
 use Rattle.uf_store.specs.Faults.{StaysCalm}
 use Rattle.uf_store.specs.Seen.{Seen}
 use Rattle.uf_tree.specs.Profiles.{usual}
+use Rattle.uf_tree.specs.Metas.{none}
 use Rattle.uf_tree.specs.Tree.{Dir, Entries, Nothing}
 use Rattle.uf_tree.specs.TreePlan.{entry}
 use Rattle.uf_tree.specs.declared.nodes.Entry.{Entry}
@@ -37,11 +38,11 @@ module _ (X : List ℕ → List ℕ) (N : List ℕ → ℕ) (names : List (List 
       → cid ≡ last.root.cid
       → IfSome told (λ t. t.notes.head ≡ None → before.faults < 2 ^ 64 - 1 → before.clashes < 2 ^ 64 - 1 → IsRootWith X N names cid)
   root-over p None before ready now first last done cid same inits calm still moves is = tt
-  root-over p (Some t) before ready now first last done cid same inits calm still moves is = λ none faults clashes.
+  root-over p (Some t) before ready now first last done cid same inits calm still moves is = λ unset faults clashes.
       let ready-is = inits (stood-same before.faults ready.faults calm.faults faults) (stood-same before.clashes ready.clashes calm.clashes clashes) in
-      let stands = subst (λ head. Inits X N ready.told usual head (Ok first)) none (subst (λ q. Inits X N ready.told q t.notes.head (Ok first)) same ready-is) in
+      let stands = subst (λ head. Inits X N ready.told usual head (Ok first)) unset (subst (λ q. Inits X N ready.told q t.notes.head (Ok first)) same ready-is) in
       let can = subst (λ n. n < 2 ^ 64 - 1) (sym calm.faults) faults in
       let may = subst (λ n. n < 2 ^ 64 - 1) (sym calm.clashes) clashes in
-      let moved = moves usual Nothing stands.0 (stood-same ready.faults now.faults still.faults can) (stood-same ready.clashes now.clashes still.clashes may) in
-      let root = made-root now.told last (allowed X N usual (made false names Nothing)) done moved in
+      let moved = moves usual (Nothing none) stands.0 (stood-same ready.faults now.faults still.faults can) (stood-same ready.clashes now.clashes still.clashes may) in
+      let root = made-root now.told last (allowed X N usual (made false names (Nothing none))) done moved in
       (root.0, root.1, is ∙ root.2)

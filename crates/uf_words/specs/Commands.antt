@@ -1,6 +1,6 @@
 -- Which command a list of words is: the first words are compared exactly, and behind them stand the options and
 -- arguments of the command, as `clap` reads them.
-use Rattle.std.specs.Prelude.{◌≡◌, ◌≤◌, ◌&&◌, ◌||◌, ℕ, Bool, true, not, List, [], ◌∷◌, ◌++◌, codes, ◌^◌, nat_le, nat_lt, if◌then◌else◌, IsTrue, is_some, unwrap_or, slice_index, length, ◌-◌}
+use Rattle.std.specs.Prelude.{◌≡◌, ◌<◌, ◌≤◌, ◌&&◌, ◌||◌, ℕ, Bool, true, not, List, [], ◌∷◌, ◌++◌, codes, ◌^◌, nat_le, nat_lt, if◌then◌else◌, IsTrue, is_some, unwrap_or, slice_index, length, ◌-◌}
 use Rattle.std.specs.Str.{bytes_eq}
 use Rattle.std.specs.Option.{option_map, option_and_then}
 use Rattle.std.specs.declared.option.Option.{Option}
@@ -269,8 +269,11 @@ command_of (name ∷ rest) =
     else if bytes_eq name (codes "repo") then repo_words rest
     else other_words name rest
 
--- the profile of an `init` is accepted, and `gen` makes at most 20000 files; no other command has a limit
+-- the profile of an `init` is accepted, `gen` makes at most 20000 files, a mode has twelve bits, and seconds and
+-- nanoseconds are in their ranges; no other command has a limit
 abbrev pub IsWithinLimits : Cmd → Type 0
 IsWithinLimits (cmd.Init profile) = IsTrue (is_profile profile)
 IsWithinLimits (cmd.Gen n seed) = n ≤ 20000
+IsWithinLimits (cmd.Chmod mode path) = mode < 4096
+IsWithinLimits (cmd.Touch nanos seconds path) = (nanos ≤ 999999999) × (seconds < 2 ^ 63)
 IsWithinLimits other = Unit {0}

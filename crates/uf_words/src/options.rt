@@ -1,5 +1,5 @@
 // Options, arguments and numbers in the words of a command, read by the crate `clap`.
-ghost use Rattle.std.specs.Prelude.{◌≡◌, ◌<◌, ◌+◌, ◌-◌, ◌*◌, ◌^◌, [], true, false, map, string_bytes, IfOk};
+ghost use Rattle.std.specs.Prelude.{◌≡◌, ◌<◌, ◌≤◌, ◌+◌, ◌-◌, ◌*◌, ◌^◌, [], true, false, map, string_bytes, IfOk};
 ghost use Rattle.std.specs.Option.{option_and_then, option_map};
 ghost use Rattle.std.specs.List.{list_all};
 ghost use Rattle.std.specs.Char.{is_ascii_digit};
@@ -185,7 +185,8 @@ pub fn number(word: &str) -> Result<u64, WordFault>
 // The number of a word of one to four octal digits.
 #[tactic(auto, unfolding(crate::specs::Options::mode_value))]
 pub fn mode(word: &str) -> Result<u64, WordFault>
-    ensures { ReadsWords result (mode_value word.now) }
+    ensures exact { ReadsWords result (mode_value word.now) }
+    ensures limit { IfOk result (λ mode. mode < 4096) }
 {
     if !is_mode_text(word) {
         return Err(WordFault::Usage);
@@ -201,8 +202,10 @@ pub fn mode(word: &str) -> Result<u64, WordFault>
 
 // The number of some octal digits and one more.
 fn octal(number: u64, digit: u8) -> u64
-    requires { number < 2 ^ 32 }
-    ensures { result ≡ number * 8 + (digit - 48) }
+    requires few { number < 2 ^ 32 }
+    requires digit { digit ≤ 55 }
+    ensures exact { result ≡ number * 8 + (digit - 48) }
+    ensures limit { result ≤ number * 8 + 7 }
 {
     number * 8 + u64::from(digit.saturating_sub(b'0'))
 }

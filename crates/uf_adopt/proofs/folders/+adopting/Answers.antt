@@ -13,6 +13,7 @@ use Rattle.uf_tree.specs.Names.{names_cmp}
 use Rattle.uf_tree.specs.Nodes.{Named}
 use Rattle.uf_tree.specs.Tree.{Tree}
 use Rattle.uf_tree.specs.Validity.{IsDirectory, IsNamed}
+use Rattle.uf_lenient.specs.Metas.{IsGoodShape}
 use Rattle.uf_lenient.specs.Steps.{IsInOrder}
 use Rattle.uf_tree.specs.declared.nodes.Entry.{Entry}
 use Rattle.uf_adopt.specs.Adopting.{BuildsTree}
@@ -105,45 +106,45 @@ pub adopt_within-returns-then-room-eq0-clause-builds :
     goal.adopt_within-returns-then-room-eq0-clause-builds
 adopt_within-returns-then-room-eq0-clause-builds g t c = λ held tree good is. no-room g.S.X.BlockHash.block32 g.N.NameHash.name64 c.args.p.now held c.args.limits.now c.args.room c.args.cid.now tree (let none = c.if-room-eq0.true in omega arith) is
 
-pub adopt_within-returns-in_err-shallow-clause-builds :
-    goal.adopt_within-returns-in_err-shallow-clause-builds
-adopt_within-returns-in_err-shallow-clause-builds g t c = λ held tree good is.
+pub adopt_within-returns-in_err-meta-clause-builds :
+    goal.adopt_within-returns-in_err-meta-clause-builds
+adopt_within-returns-in_err-meta-clause-builds g t c = λ held tree good is.
     let out = err_from_is_err_and c.from_residual.result c.from_residual.ensures.1 in
-    rw (out.1, out.2) (shape-fault g.S.X.BlockHash.block32 g.N.NameHash.name64 c.args.p.now held c.args.limits.now (g.S.Store.seen c.args.store.now).told (g.S.Store.seen c.shallow.new.store).told c.args.room c.args.cid.now tree c.in_err-shallow.field-0.0 (let some = c.if-room-eq0.false in omega arith) good is c.in_err-shallow.ensures.says)
+    rw (out.1, out.2) (shape-fault g.S.X.BlockHash.block32 g.N.NameHash.name64 c.args.p.now held c.args.limits.now (g.S.Store.seen c.args.store.now).told (g.S.Store.seen c.shallow.new.store).told c.args.room c.args.cid.now tree c.in_err-meta.field-0.0 (let some = c.if-room-eq0.false in omega arith) good is c.in_err-meta.ensures.says)
 
 pub adopt_within-returns-in-File-clause-builds : goal.adopt_within-returns-in-File-clause-builds
 adopt_within-returns-in-File-clause-builds g t c = λ held tree good is.
     let X = g.S.X.BlockHash.block32 in
-    file-case X g.N.NameHash.name64 c.args.p.now held c.args.limits.now (g.S.Store.seen c.args.store.now).told (g.S.Store.seen c.adopt_file.new.store).told c.args.room c.args.cid.now tree c.in_ok-shallow.field-0 c.adopt_file.result (let some = c.if-room-eq0.false in omega arith) good is c.in_ok-shallow.ensures.says c.in-File.is
-    (λ bytes file. c.adopt_file.ensures.file held bytes (subst (HoldsGoodMap X held) (sym c.in_ok-shallow.ensures.told) good) file)
+    file-case X g.N.NameHash.name64 c.args.p.now held c.args.limits.now (g.S.Store.seen c.args.store.now).told (g.S.Store.seen c.adopt_file.new.store).told c.args.room c.args.cid.now tree c.in_ok-meta.field-0 c.in-File.meta c.adopt_file.result (let some = c.if-room-eq0.false in omega arith) good is c.in_ok-meta.ensures.says c.in-File.is (subst IsGoodShape c.in-File.is c.in_ok-meta.ensures.good_meta)
+    (λ bytes file. c.adopt_file.ensures.file held bytes (subst (HoldsGoodMap X held) (sym c.in_ok-meta.ensures.told) good) file)
 
 pub adopt_within-returns-in_err-pairs-in-Folder-clause-builds :
     goal.adopt_within-returns-in_err-pairs-in-Folder-clause-builds
 adopt_within-returns-in_err-pairs-in-Folder-clause-builds g t c = λ held tree good is.
     let X = g.S.X.BlockHash.block32 in let N = g.N.NameHash.name64 in let p = c.args.p.now in
-    let f = folder-case X N p held c.args.limits.now (g.S.Store.seen c.args.store.now).told c.args.room c.args.cid.now tree c.in_ok-shallow.field-0 c.in-Folder.ways c.as_slice-ways.result.now (let some = c.if-room-eq0.false in omega arith) good is c.in_ok-shallow.ensures.says c.in-Folder.is c.as_slice-ways.ensures in
+    let f = folder-case X N p held c.args.limits.now (g.S.Store.seen c.args.store.now).told c.args.room c.args.cid.now tree c.in_ok-meta.field-0 c.in-Folder.meta c.in-Folder.ways c.as_slice-ways.result.now (let some = c.if-room-eq0.false in omega arith) good is c.in_ok-meta.ensures.says c.in-Folder.is c.as_slice-ways.ensures in
     let out = err_from_is_err_and c.from_residual-in_err-pairs-in-Folder.result c.from_residual-in_err-pairs-in-Folder.ensures.1 in
     rw (out.1, out.2)
     (subst (λ (x : Tree). BuildsTree X N p held c.args.limits.now (g.S.Store.seen c.adopt_each.new.store).told c.args.cid.now x (Err c.in_err-pairs-in-Folder.field-0.0)) f.is
-    (folder-err X N p held c.args.limits.now (c.args.room - 1) c.args.cid.now c.as_slice-ways.result.now f.es (g.S.Store.seen c.adopt_each.new.store).told c.in_err-pairs-in-Folder.field-0.0 f.shaped
-    (c.in_err-pairs-in-Folder.ensures.builds held f.es (subst (HoldsGoodMap X held) (sym c.in_ok-shallow.ensures.told) good) f.denoted)))
+    (folder-err X N p held c.args.limits.now (c.args.room - 1) c.args.cid.now c.in-Folder.meta c.as_slice-ways.result.now f.es f.its (g.S.Store.seen c.adopt_each.new.store).told c.in_err-pairs-in-Folder.field-0.0 f.shaped
+    (c.in_err-pairs-in-Folder.ensures.builds held f.es (subst (HoldsGoodMap X held) (sym c.in_ok-meta.ensures.told) good) f.denoted)))
 
 pub adopt_within-returns-in_err-build-in-Folder-clause-builds :
     goal.adopt_within-returns-in_err-build-in-Folder-clause-builds
 adopt_within-returns-in_err-build-in-Folder-clause-builds g t c = λ held tree good is.
     let X = g.S.X.BlockHash.block32 in let N = g.N.NameHash.name64 in let p = c.args.p.now in
-    let f = folder-case X N p held c.args.limits.now (g.S.Store.seen c.args.store.now).told c.args.room c.args.cid.now tree c.in_ok-shallow.field-0 c.in-Folder.ways c.as_slice-ways.result.now (let some = c.if-room-eq0.false in omega arith) good is c.in_ok-shallow.ensures.says c.in-Folder.is c.as_slice-ways.ensures in
+    let f = folder-case X N p held c.args.limits.now (g.S.Store.seen c.args.store.now).told c.args.room c.args.cid.now tree c.in_ok-meta.field-0 c.in-Folder.meta c.in-Folder.ways c.as_slice-ways.result.now (let some = c.if-room-eq0.false in omega arith) good is c.in_ok-meta.ensures.says c.in-Folder.is c.as_slice-ways.ensures in
     let out = err_from_is_err_and c.from_residual-in_err-build-in-Folder.result c.from_residual-in_err-build-in-Folder.ensures.1 in
     rw (out.1, out.2)
     (subst (λ (x : Tree). BuildsTree X N p held c.args.limits.now (g.S.Store.seen c.build.new.store).told c.args.cid.now x (Err (of_directory c.in_err-build-in-Folder.field-0.0))) f.is
-    (folder-refused X N p held c.args.limits.now (c.args.room - 1) c.args.cid.now c.as_slice-ways.result.now f.es (g.S.Store.seen c.adopt_each.new.store).told (g.S.Store.seen c.build.new.store).told c.in_ok-pairs-in-Folder.pairs c.in_err-build-in-Folder.field-0.0
-    (c.in_ok-pairs-in-Folder.ensures.builds held f.es (subst (HoldsGoodMap X held) (sym c.in_ok-shallow.ensures.told) good) f.denoted) c.in_err-build-in-Folder.ensures.answer))
+    (folder-refused X N p held c.args.limits.now (c.args.room - 1) c.args.cid.now c.in-Folder.meta c.as_slice-ways.result.now f.es f.its (g.S.Store.seen c.adopt_each.new.store).told (g.S.Store.seen c.build.new.store).told c.in_ok-pairs-in-Folder.pairs c.in_err-build-in-Folder.field-0.0
+    (c.in_ok-pairs-in-Folder.ensures.builds held f.es (subst (HoldsGoodMap X held) (sym c.in_ok-meta.ensures.told) good) f.denoted) c.in_err-build-in-Folder.ensures.answer))
 
 pub adopt_within-returns-in_err-build-in-Folder-clause-adopts :
     goal.adopt_within-returns-in_err-build-in-Folder-clause-adopts
 adopt_within-returns-in_err-build-in-Folder-clause-adopts g t c =
     let X = g.S.X.BlockHash.block32 in
-    let reads : OnlyReads X NoneIsBad None (g.S.Store.seen c.args.store.now) (g.S.Store.seen c.shallow.new.store) = record { cause = c.in_ok-shallow.ensures.cause; told = c.in_ok-shallow.ensures.told } in
+    let reads : OnlyReads X NoneIsBad None (g.S.Store.seen c.args.store.now) (g.S.Store.seen c.shallow.new.store) = record { cause = c.in_ok-meta.ensures.cause; told = c.in_ok-meta.ensures.told } in
     let builds : OnlySaves X NoneIsBad (dir_fault {A = Entry} (Err c.in_err-build-in-Folder.field-0.0)) (g.S.Store.seen c.adopt_each.new.store) (g.S.Store.seen c.build.new.store) = record { cause = c.in_err-build-in-Folder.ensures.cause; good = c.in_err-build-in-Folder.ensures.good; saves = c.in_err-build-in-Folder.ensures.saves } in
     let out = err_from_is_err_and c.from_residual-in_err-build-in-Folder.result c.from_residual-in_err-build-in-Folder.ensures.1 in
     rw (out.1, out.2) (dir-adopts X c.in_err-build-in-Folder.field-0.0 (g.S.Store.seen c.args.store.now) (g.S.Store.seen c.build.new.store) (saves-saves (reads-saves reads) (saves-saves c.in_ok-pairs-in-Folder.ensures.adopts.saves builds)))
@@ -152,17 +153,23 @@ pub adopt_within-returns-in_ok-build-in-Folder-clause-builds :
     goal.adopt_within-returns-in_ok-build-in-Folder-clause-builds
 adopt_within-returns-in_ok-build-in-Folder-clause-builds g t c = λ held tree good is.
     let X = g.S.X.BlockHash.block32 in let N = g.N.NameHash.name64 in let p = c.args.p.now in
-    let f = folder-case X N p held c.args.limits.now (g.S.Store.seen c.args.store.now).told c.args.room c.args.cid.now tree c.in_ok-shallow.field-0 c.in-Folder.ways c.as_slice-ways.result.now (let some = c.if-room-eq0.false in omega arith) good is c.in_ok-shallow.ensures.says c.in-Folder.is c.as_slice-ways.ensures in
-    let order : IsTrue (is_sorted names_cmp c.in-Folder.ways) = subst IsInOrder c.in-Folder.is c.in_ok-shallow.ensures.order in
+    let f = folder-case X N p held c.args.limits.now (g.S.Store.seen c.args.store.now).told c.args.room c.args.cid.now tree c.in_ok-meta.field-0 c.in-Folder.meta c.in-Folder.ways c.as_slice-ways.result.now (let some = c.if-room-eq0.false in omega arith) good is c.in_ok-meta.ensures.says c.in-Folder.is c.as_slice-ways.ensures in
+    let order : IsTrue (is_sorted names_cmp c.in-Folder.ways) = subst IsInOrder c.in-Folder.is c.in_ok-meta.ensures.order in
     let sorted : IsDirectory c.in_ok-pairs-in-Folder.pairs = c.in_ok-pairs-in-Folder.ensures.directory (subst (λ (l : List (List ℕ × Cid)). IsTrue (is_sorted names_cmp l)) (sym c.as_slice-ways.ensures) order) in
     subst (λ (x : Tree). BuildsTree X N p held c.args.limits.now (g.S.Store.seen c.build.new.store).told c.args.cid.now x (Ok c.in_ok-build-in-Folder.field-0)) f.is
-    (folder-built X N p held c.args.limits.now (c.args.room - 1) c.args.cid.now c.as_slice-ways.result.now f.es (g.S.Store.seen c.adopt_each.new.store).told (g.S.Store.seen c.build.new.store).told c.in_ok-pairs-in-Folder.pairs c.in_ok-build-in-Folder.field-0 c.in_ok-build-in-Folder.ensures.good sorted.sorted
-    (c.in_ok-pairs-in-Folder.ensures.builds held f.es (subst (HoldsGoodMap X held) (sym c.in_ok-shallow.ensures.told) good) f.denoted) c.in_ok-build-in-Folder.ensures.answer c.in_ok-build-in-Folder.ensures.held)
+    (folder-built X N p held c.args.limits.now (c.args.room - 1) c.args.cid.now c.in-Folder.meta c.as_slice-ways.result.now f.es f.its (g.S.Store.seen c.adopt_each.new.store).told (g.S.Store.seen c.build.new.store).told c.in_ok-pairs-in-Folder.pairs c.in_ok-build-in-Folder.field-0 c.in_ok-build-in-Folder.ensures.good (subst IsGoodShape c.in-Folder.is c.in_ok-meta.ensures.good_meta) sorted.sorted
+    (c.in_ok-pairs-in-Folder.ensures.builds held f.es (subst (HoldsGoodMap X held) (sym c.in_ok-meta.ensures.told) good) f.denoted) c.in_ok-build-in-Folder.ensures.answer c.in_ok-build-in-Folder.ensures.held)
 
 pub adopt_within-returns-in_ok-build-in-Folder-clause-adopts :
     goal.adopt_within-returns-in_ok-build-in-Folder-clause-adopts
 adopt_within-returns-in_ok-build-in-Folder-clause-adopts g t c =
     let X = g.S.X.BlockHash.block32 in
-    let reads : OnlyReads X NoneIsBad None (g.S.Store.seen c.args.store.now) (g.S.Store.seen c.shallow.new.store) = record { cause = c.in_ok-shallow.ensures.cause; told = c.in_ok-shallow.ensures.told } in
+    let reads : OnlyReads X NoneIsBad None (g.S.Store.seen c.args.store.now) (g.S.Store.seen c.shallow.new.store) = record { cause = c.in_ok-meta.ensures.cause; told = c.in_ok-meta.ensures.told } in
     let builds : OnlySaves X NoneIsBad None (g.S.Store.seen c.adopt_each.new.store) (g.S.Store.seen c.build.new.store) = record { cause = c.in_ok-build-in-Folder.ensures.cause; good = c.in_ok-build-in-Folder.ensures.good; saves = c.in_ok-build-in-Folder.ensures.saves } in
     record { saves = saves-saves (reads-saves reads) (saves-saves c.in_ok-pairs-in-Folder.ensures.adopts.saves builds); apart = tt }
+
+pub adopt_within-adopt_file-requires-clause-meta : goal.adopt_within-adopt_file-requires-clause-meta
+adopt_within-adopt_file-requires-clause-meta g t c = subst IsGoodShape c.in-File.is c.in_ok-meta.ensures.good_meta
+
+pub adopt_within-build-requires-clause-meta : goal.adopt_within-build-requires-clause-meta
+adopt_within-build-requires-clause-meta g t c = subst IsGoodShape c.in-Folder.is c.in_ok-meta.ensures.good_meta

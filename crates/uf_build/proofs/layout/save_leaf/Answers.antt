@@ -5,31 +5,31 @@ use Rattle.uf_store.specs.Keeping.{Holds}
 use Rattle.uf_tree.specs.FilePlan.{leaf_part}
 use Rattle.uf_tree.specs.declared.nodes.Part.{Part}
 use Rattle.uf_tree.proofs.Told.{kept}
-use Rattle.uf_build.specs.Rows.{push_held}
-use Rattle.uf_build.proofs.Counting.{saved-push}
-use Rattle.uf_build.proofs.Feeding.{Adds-push}
+use Rattle.uf_build.specs.Rows.{add_held, groups_in}
+use Rattle.uf_build.proofs.Counting.{saved-add}
+use Rattle.uf_build.proofs.Feeding.{Adds-add}
 use Rattle.uf_build.proofs.layout.save_leaf.Goals as goal
 
 pub returns-clause-adds : goal.returns-clause-adds
 returns-clause-adds g c =
-    on_ok_weaker c.push.result (λ h. Adds-push g.S.X.BlockHash.block32 c.args.profile (kept c.args.profile c.requires.profile).two c.args.piece.now _ c.args.rows.now.items c.push.new.rows.items
-    (g.S.Store.seen c.args.store.now).told (g.S.Store.seen c.save_under.new.store).told (g.S.Store.seen c.push.new.store).told c.args.touches.now c.push.new.touches c.requires.rows
+    on_ok_weaker c.add.result (λ h. Adds-add g.S.X.BlockHash.block32 c.args.profile (kept c.args.profile c.requires.profile).two c.args.piece.now _ (groups_in c.args.opened.now) (groups_in c.add.new.opened)
+    (g.S.Store.seen c.args.store.now).told (g.S.Store.seen c.save_under.new.store).told (g.S.Store.seen c.add.new.store).told c.args.touches.now c.add.new.touches c.requires.opened
     (ap (λ (cid : Cid). record { entry = record { cid = cid; tsize = length c.args.piece.now }; size = length c.args.piece.now }) c.requires.cid)
-    h.pushed c.save_under.ensures.good c.push.ensures.builds.good
+    h.added c.save_under.ensures.good c.add.ensures.builds.good
     (subst (λ (cid : Cid). Holds (g.S.Store.seen c.save_under.new.store).told ((cid, c.args.piece.now) ∷ [])) c.requires.cid c.in_ok-save_under.ensures.held)
-    h.held (omega (arith, h.count, c.save_under.ensures.touches))) c.push.ensures.pushed
+    h.held (omega (arith, h.count, c.save_under.ensures.touches))) c.add.ensures.added
 
 pub returns-in_err-save_under-clause-most : goal.returns-in_err-save_under-clause-most
 returns-in_err-save_under-clause-most g c =
     let hash : List ℕ → List ℕ = g.S.X.BlockHash.block32 in
-    let more = saved-push hash c.args.profile.width c.args.rows.now.items (leaf_part hash c.args.piece.now) c.requires.rows.short in
+    let more = saved-add hash c.args.profile.width (groups_in c.args.opened.now) (leaf_part hash c.args.piece.now) c.requires.opened.short in
     omega (arith, more, c.save_under.ensures.touches)
 
 pub returns-clause-most : goal.returns-clause-most
 returns-clause-most g c =
     let hash : List ℕ → List ℕ = g.S.X.BlockHash.block32 in
-    let more = saved-push hash c.args.profile.width c.args.rows.now.items (leaf_part hash c.args.piece.now) c.requires.rows.short in
+    let more = saved-add hash c.args.profile.width (groups_in c.args.opened.now) (leaf_part hash c.args.piece.now) c.requires.opened.short in
     let part = ap (λ (cid : Cid). record { entry = record { cid = cid; tsize = length c.args.piece.now }; size = length c.args.piece.now }) c.requires.cid in
-    let nodes : c.push.new.touches ≤ c.save_under.new.touches + length (push_held hash c.args.profile.width (leaf_part hash c.args.piece.now) c.args.rows.now.items) =
-    subst (λ (m : Part). c.push.new.touches ≤ c.save_under.new.touches + length (push_held hash c.args.profile.width m c.args.rows.now.items)) part c.push.ensures.touches in
+    let nodes : c.add.new.touches ≤ c.save_under.new.touches + length (add_held hash c.args.profile.width (leaf_part hash c.args.piece.now) (groups_in c.args.opened.now)) =
+    subst (λ (m : Part). c.add.new.touches ≤ c.save_under.new.touches + length (add_held hash c.args.profile.width m (groups_in c.args.opened.now))) part c.add.ensures.touches in
     omega (arith, more, nodes, c.save_under.ensures.touches)

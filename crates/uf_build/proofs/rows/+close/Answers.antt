@@ -1,5 +1,4 @@
-use Rattle.std.proofs.Common.{◌≡◌, ℕ, ◌+◌, ◌<◌, List, [], ◌++◌, length, refl, arith, rules, ap, ◌∙◌, subst, nat_eq, length-append}
-use Rattle.std.specs.Option.{option_to_list}
+use Rattle.std.proofs.Common.{◌≡◌, ℕ, ◌+◌, ◌<◌, List, [], ◌∷◌, ◌++◌, length, refl, arith, rules, ap, ◌∙◌, subst, nat_eq, length-append}
 use Rattle.std.proofs.lemmas.Grind.{common_steps}
 use Rattle.std.proofs.lemmas.Result.{IfOk-weaker}
 use Rattle.uf_cid.specs.Blocks.{Held}
@@ -16,9 +15,9 @@ pub returns-then-level-len-clause-closed : goal.returns-then-level-len-clause-cl
 returns-then-level-len-clause-closed g t c =
     let hash : List ℕ → List ℕ = g.S.X.BlockHash.block32 in
     let top : c.args.level ≡ length c.args.rows.now.items = grind (arith, common_steps) in
-    let none = close_held-past hash c.args.width c.args.level (option_to_list c.args.carried) c.args.rows.now.items top in
+    let none = close_held-past hash c.args.width c.args.meta.now c.args.level c.args.carried c.args.rows.now.items top in
     record {
-      stands = close-past hash c.args.width c.args.level _ c.args.rows.now.items top;
+      stands = close-past hash c.args.width c.args.meta.now c.args.level _ c.args.rows.now.items top;
       held = subst (λ (l : List Held). Holds (g.S.Store.seen c.args.store.now).told l) none (Holds-nil _);
       count = omega (arith, ap length none);
     }
@@ -28,16 +27,16 @@ returns-in_err-up-clause-touches g t c =
     let lt : c.args.level < length c.args.rows.now.items = grind (arith, common_steps) in
     let count : c.len-2.result ≡ length c.args.rows.now.items = grind (arith, common_steps) in
     let hash : List ℕ → List ℕ = g.S.X.BlockHash.block32 in
-    let same = close-next hash c.args.width c.args.level c.len-2.result (option_to_list c.args.carried) _ c.args.rows.now.items c.index_mut.result.now c.replace-row.result [] lt
+    let same = close-next hash c.args.width c.args.meta.now c.args.level c.len-2.result c.args.carried _ c.args.rows.now.items c.index_mut.result.now c.replace-row.result [] lt
     c.index_mut.ensures.value c.replace-row.ensures.value count refl refl in
-    omega (arith, ap length same.1, length-append (carry_held hash (nat_eq (c.args.level + 1) c.len-2.result) (c.replace-row.result ++ option_to_list c.args.carried)), c.close_row.ensures.touches)
+    omega (arith, ap length same.1, length-append (carry_held hash c.args.meta.now (nat_eq (c.args.level + 1) c.len-2.result) (c.replace-row.result ++ c.args.carried ∷ [])), c.close_row.ensures.touches)
 
 pub close-requires : goal.close-requires
 close-requires g t c κs within =
     let lt : c.args.level < length c.args.rows.now.items = grind (arith, common_steps) in
     let hash : List ℕ → List ℕ = g.S.X.BlockHash.block32 in
     let none : c.replace-row.new.dest ≡ [] = c.replace-row.ensures.after ∙ c.new.ensures in
-    let size = sizes-closed hash c.args.width c.args.level (nat_eq (c.args.level + 1) c.len-2.result) (option_to_list c.args.carried) (option_to_list c.in_ok-up.up) c.args.rows.now.items
+    let size = sizes-closed hash c.args.width c.args.meta.now c.args.level (nat_eq (c.args.level + 1) c.len-2.result) c.args.carried c.in_ok-up.up c.args.rows.now.items
     c.index_mut.result.now c.replace-row.result c.replace-row.new.dest lt c.index_mut.ensures.value c.replace-row.ensures.value c.in_ok-up.ensures.ends.goes_up none in
     let less = falls c.args.level c.args.rows.now.items c.replace-row.new.dest lt in (
       search rules,
@@ -53,7 +52,7 @@ close-requires g t c κs within =
                 next-level c.args.level c.args.rows.now.items c.replace-row.new.dest lt,
                 (
                   short-up hash c.args.width c.args.level c.args.rows.now.items c.replace-row.new.dest (omega (arith, c.requires.width.two)) none c.requires.short,
-                  omega (arith, size, c.requires.size),
+                  (omega (arith, size, c.requires.size), c.requires.good),
                 ),
               ),
             ),
@@ -69,14 +68,14 @@ returns-clause-closed g t c =
     let hash : List ℕ → List ℕ = g.S.X.BlockHash.block32 in
     let none : c.replace-row.new.dest ≡ [] = c.replace-row.ensures.after ∙ c.new.ensures in
     let is_top = nat_eq (c.args.level + 1) c.len-2.result in
-    let row : List Part = c.replace-row.result ++ option_to_list c.args.carried in
-    let same = close-next hash c.args.width c.args.level c.len-2.result (option_to_list c.args.carried) (option_to_list c.in_ok-up.up) c.args.rows.now.items c.index_mut.result.now c.replace-row.result
+    let row : List Part = c.replace-row.result ++ c.args.carried ∷ [] in
+    let same = close-next hash c.args.width c.args.meta.now c.args.level c.len-2.result c.args.carried c.in_ok-up.up c.args.rows.now.items c.index_mut.result.now c.replace-row.result
     c.replace-row.new.dest lt c.index_mut.ensures.value c.replace-row.ensures.value count c.in_ok-up.ensures.ends.goes_up none in
     IfOk-weaker c.close.result _ _ (λ part h. record {
       stands = h.stands ∙ same.0;
       held = subst (λ (l : List Held). Holds (g.S.Store.seen c.close.new.store).told l) same.1
-          (Holds-append _ (carry_held hash is_top row) _ (Holds-kept hash _ _ _ (carry-good hash is_top row) c.close.ensures.builds.good c.in_ok-up.ensures.ends.held) h.held);
-      count = omega (arith, ap length same.1, length-append (carry_held hash is_top row), c.in_ok-up.ensures.ends.count, h.count);
+          (Holds-append _ (carry_held hash c.args.meta.now is_top row) _ (Holds-kept hash _ _ _ (carry-good hash c.args.meta.now is_top row) c.close.ensures.builds.good c.in_ok-up.ensures.ends.held) h.held);
+      count = omega (arith, ap length same.1, length-append (carry_held hash c.args.meta.now is_top row), c.in_ok-up.ensures.ends.count, h.count);
     }) c.close.ensures.closed
 
 pub returns-clause-touches : goal.returns-clause-touches
@@ -85,12 +84,12 @@ returns-clause-touches g t c =
     let count : c.len-2.result ≡ length c.args.rows.now.items = grind (arith, common_steps) in
     let hash : List ℕ → List ℕ = g.S.X.BlockHash.block32 in
     let none : c.replace-row.new.dest ≡ [] = c.replace-row.ensures.after ∙ c.new.ensures in
-    let same = close-next hash c.args.width c.args.level c.len-2.result (option_to_list c.args.carried) (option_to_list c.in_ok-up.up) c.args.rows.now.items c.index_mut.result.now c.replace-row.result
+    let same = close-next hash c.args.width c.args.meta.now c.args.level c.len-2.result c.args.carried c.in_ok-up.up c.args.rows.now.items c.index_mut.result.now c.replace-row.result
     c.replace-row.new.dest lt c.index_mut.ensures.value c.replace-row.ensures.value count c.in_ok-up.ensures.ends.goes_up none in
     omega (
       arith,
       ap length same.1,
-      length-append (carry_held hash (nat_eq (c.args.level + 1) c.len-2.result) (c.replace-row.result ++ option_to_list c.args.carried)),
+      length-append (carry_held hash c.args.meta.now (nat_eq (c.args.level + 1) c.len-2.result) (c.replace-row.result ++ c.args.carried ∷ [])),
       c.close_row.ensures.touches,
       c.close.ensures.touches,
     )

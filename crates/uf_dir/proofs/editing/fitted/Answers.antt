@@ -4,5 +4,5 @@ use Rattle.uf_dir.proofs.Changing.{saved-fits}
 use Rattle.uf_dir.proofs.editing.fitted.Goals as goal
 
 pub returns-clause-fits : goal.returns-clause-fits
-returns-clause-fits g c = λ N. saved-fits g.S.X.BlockHash.block32 c.args.p.now c.args.entry c.args.pairs.now N c.save_basic.result _ (g.S.Store.seen c.save_basic.new.store).told
+returns-clause-fits g c = λ N. saved-fits g.S.X.BlockHash.block32 c.args.p.now c.args.meta.now c.args.entry c.args.pairs.now N c.save_basic.result _ (g.S.Store.seen c.save_basic.new.store).told
     (sym (c.needs_shards.ensures ∙ ap (is_sharded c.args.p.now) c.as_slice.ensures) ∙ c.if-needs_shards.false) c.save_basic.ensures.entry c.save_basic.ensures.held c.save_basic.ensures.fault

@@ -12,22 +12,22 @@ use Rattle.uf_dir.proofs.Touching.{basic-touches}
 use Rattle.uf_dir.proofs.editing.put.Goals as goal
 
 pub returns-in_err-found-clause-value : goal.returns-in_err-found-clause-value
-returns-in_err-found-clause-value g c = λ l is agrees faults clashes.
-    let out = err_from_is_err_and c.from_residual.result c.from_residual.ensures.1 in rw (out.1, out.2) (entries-unread g.S.X.BlockHash.block32 (record { size = g.met.S.X.BlockHash.size; are_bytes = g.met.S.X.BlockHash.are_bytes }) g.N.NameHash.name64 c.args.p.now c.args.root.now l is _ (Some c.args.p.now) _ _ _ l refl c.in_err-found.ensures.looks c.in_err-found.ensures.reads.cause agrees faults)
+returns-in_err-found-clause-value g c = λ meta l is agrees faults clashes.
+    let out = err_from_is_err_and c.from_residual.result c.from_residual.ensures.1 in rw (out.1, out.2) (entries-unread g.S.X.BlockHash.block32 (record { size = g.met.S.X.BlockHash.size; are_bytes = g.met.S.X.BlockHash.are_bytes }) g.N.NameHash.name64 c.args.p.now meta c.args.root.now l is _ (Some c.args.p.now) _ _ _ l refl c.in_err-found.ensures.looks c.in_err-found.ensures.reads.cause agrees faults)
 
 pub returns-in_err-found-clause-saves : goal.returns-in_err-found-clause-saves
 returns-in_err-found-clause-saves g c = saves-same _ _ _ c.look_at_root.ensures.reads.told
 
 pub returns-in-Basic-clause-value : goal.returns-in-Basic-clause-value
-returns-in-Basic-clause-value g c = λ l is agrees faults clashes. put-basic g.S.X.BlockHash.block32 g.N.NameHash.name64 c.args.p.now c.args.name.now c.args.entry.now c.in-Basic.pairs l (g.S.Store.seen c.args.store.now).told _ c.put_basic.result (g.S.Store.seen c.args.store.now) (g.S.Store.seen c.look_at_root.new.store) (g.S.Store.seen c.put_basic.new.store)
-    (entries-basic g.S.X.BlockHash.block32 (record { size = g.met.S.X.BlockHash.size; are_bytes = g.met.S.X.BlockHash.are_bytes }) g.N.NameHash.name64 c.args.p.now c.args.root.now l is _ _ _ _ c.in-Basic.is c.in_ok-found.ensures.looks agrees) c.put_basic.ensures.answer c.in_ok-found.ensures.reads.cause c.put_basic.ensures.saves.cause faults clashes
+returns-in-Basic-clause-value g c = λ meta l is agrees faults clashes. put-basic g.S.X.BlockHash.block32 g.N.NameHash.name64 c.args.p.now c.args.name.now c.args.entry.now meta l c.in-Basic.node (g.S.Store.seen c.args.store.now).told _ c.put_basic.result (g.S.Store.seen c.args.store.now) (g.S.Store.seen c.look_at_root.new.store) (g.S.Store.seen c.put_basic.new.store)
+    (entries-basic g.S.X.BlockHash.block32 (record { size = g.met.S.X.BlockHash.size; are_bytes = g.met.S.X.BlockHash.are_bytes }) g.N.NameHash.name64 c.args.p.now meta c.args.root.now l is _ _ _ _ c.in-Basic.is c.in_ok-found.ensures.looks agrees) c.put_basic.ensures.answer c.in_ok-found.ensures.reads.cause c.put_basic.ensures.saves.cause faults clashes
 
 pub returns-in-Basic-clause-after : goal.returns-in-Basic-clause-after
-returns-in-Basic-clause-after g c = put-basic-after g.S.X.BlockHash.block32 g.N.NameHash.name64 c.args.p.now c.args.root.now c.args.name.now c.args.entry.now c.in-Basic.pairs (g.S.Store.seen c.args.store.now).told (g.S.Store.seen c.look_at_root.new.store).told (g.S.Store.seen c.put_basic.new.store).told c.put_basic.result
-    (λ l is agrees. entries-basic g.S.X.BlockHash.block32 (record { size = g.met.S.X.BlockHash.size; are_bytes = g.met.S.X.BlockHash.are_bytes }) g.N.NameHash.name64 c.args.p.now c.args.root.now l is _ _ _ _ c.in-Basic.is c.in_ok-found.ensures.looks agrees) c.look_at_root.ensures.reads.told c.put_basic.ensures.saves.saves c.put_basic.ensures.held
+returns-in-Basic-clause-after g c = put-basic-after g.S.X.BlockHash.block32 g.N.NameHash.name64 c.args.p.now c.args.root.now c.args.name.now c.args.entry.now c.in-Basic.node (g.S.Store.seen c.args.store.now).told (g.S.Store.seen c.look_at_root.new.store).told (g.S.Store.seen c.put_basic.new.store).told c.put_basic.result
+    (λ meta l is agrees. entries-basic g.S.X.BlockHash.block32 (record { size = g.met.S.X.BlockHash.size; are_bytes = g.met.S.X.BlockHash.are_bytes }) g.N.NameHash.name64 c.args.p.now meta c.args.root.now l is _ _ _ _ c.in-Basic.is c.in_ok-found.ensures.looks agrees) c.look_at_root.ensures.reads.told c.put_basic.ensures.saves.saves c.put_basic.ensures.held
 
 pub returns-clause-value : goal.returns-clause-value
-returns-clause-value g c = λ l is agrees faults clashes. put-sharded g.S.X.BlockHash.block32 (record { size = g.met.S.X.BlockHash.size; are_bytes = g.met.S.X.BlockHash.are_bytes }) g.N.NameHash.name64 c.args.p.now c.args.root.now l is (g.S.Store.seen c.args.store.now) (g.S.Store.seen c.look_at_root.new.store) _ _ c.in-Sharded.is c.in_ok-found.ensures.looks c.look_at_root.ensures.reads.told agrees
+returns-clause-value g c = λ meta l is agrees faults clashes. put-sharded g.S.X.BlockHash.block32 (record { size = g.met.S.X.BlockHash.size; are_bytes = g.met.S.X.BlockHash.are_bytes }) g.N.NameHash.name64 c.args.p.now meta c.args.root.now l is (g.S.Store.seen c.args.store.now) (g.S.Store.seen c.look_at_root.new.store) _ _ c.in-Sharded.is c.in_ok-found.ensures.looks c.look_at_root.ensures.reads.told agrees
     c.args.name.now c.args.entry.now (g.S.Store.seen c.put.new.store) c.put.result c.in_ok-found.ensures.reads.cause c.put.ensures.value faults clashes
 
 pub returns-clause-made : goal.returns-clause-made
@@ -41,7 +41,7 @@ pub returns-clause-cause : goal.returns-clause-cause
 returns-clause-cause g c = Shown-wider g.S.X.BlockHash.block32 (IsBadOnWay g.N.NameHash.name64 (g.N.NameHash.name64 c.args.name.now)) (IsBad g.N.NameHash.name64 (g.N.NameHash.name64 c.args.name.now) (Some c.args.p.now)) (way-bad g.N.NameHash.name64 (g.N.NameHash.name64 c.args.name.now) (Some c.args.p.now)) c.put.result _ _ _ c.in_ok-found.ensures.reads.cause c.put.ensures.cause
 
 pub returns-in-Basic-clause-touches : goal.returns-in-Basic-clause-touches
-returns-in-Basic-clause-touches g c = λ l is agrees. basic-touches g.S.X.BlockHash.block32 g.N.NameHash.name64 c.args.p.now c.in-Basic.pairs l (with_name c.args.name.now c.args.entry.now) c.args.touches.now c.look_at_root.new.touches _ (entries-basic g.S.X.BlockHash.block32 (record { size = g.met.S.X.BlockHash.size; are_bytes = g.met.S.X.BlockHash.are_bytes }) g.N.NameHash.name64 c.args.p.now c.args.root.now l is _ _ _ _ c.in-Basic.is c.in_ok-found.ensures.looks agrees) (basic-light g.S.X.BlockHash.block32 (record { size = g.met.S.X.BlockHash.size; are_bytes = g.met.S.X.BlockHash.are_bytes }) g.N.NameHash.name64 c.args.p.now c.args.root.now l is _ _ _ _ c.in-Basic.is c.in_ok-found.ensures.looks agrees) c.look_at_root.ensures.touches c.put_basic.ensures.touches c.put_basic.ensures.early
+returns-in-Basic-clause-touches g c = λ meta l is agrees. basic-touches g.S.X.BlockHash.block32 g.N.NameHash.name64 c.args.p.now meta c.in-Basic.node l (with_name c.args.name.now c.args.entry.now) c.args.touches.now c.look_at_root.new.touches _ (entries-basic g.S.X.BlockHash.block32 (record { size = g.met.S.X.BlockHash.size; are_bytes = g.met.S.X.BlockHash.are_bytes }) g.N.NameHash.name64 c.args.p.now meta c.args.root.now l is _ _ _ _ c.in-Basic.is c.in_ok-found.ensures.looks agrees) (basic-light g.S.X.BlockHash.block32 (record { size = g.met.S.X.BlockHash.size; are_bytes = g.met.S.X.BlockHash.are_bytes }) g.N.NameHash.name64 c.args.p.now meta c.args.root.now l is _ _ _ _ c.in-Basic.is c.in_ok-found.ensures.looks agrees) c.look_at_root.ensures.touches c.put_basic.ensures.touches c.put_basic.ensures.early
 
 pub returns-in-Basic-clause-fitting : goal.returns-in-Basic-clause-fitting
 returns-in-Basic-clause-fitting g c = fitting-at c.put_basic.result c.args.p.now c.args.root.now (g.S.Store.seen c.args.store.now) (g.S.Store.seen c.look_at_root.new.store) _ c.in_ok-found.ensures.looks c.in_ok-found.ensures.light

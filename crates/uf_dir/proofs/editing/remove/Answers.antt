@@ -1,7 +1,7 @@
 use Rattle.std.proofs.Common.{Some, refl}
 use Rattle.uf_dir.specs.Planned.{entry_without}
 use Rattle.std.proofs.lemmas.Result.{err_from_is_err_and}
-use Rattle.uf_dir.proofs.Changing.{basic-ok, basic-root, basic-value, in_shards, saves-same, stay-there, take-sharded, take-sharded-ok}
+use Rattle.uf_dir.proofs.Changing.{basic-ok, basic-root, basic-answer, in_shards, saves-same, stay-read, take-sharded, take-sharded-ok}
 use Rattle.uf_store.specs.Faults.{NoneIsBad}
 use Rattle.uf_dir.proofs.Causes.{blames-none}
 use Rattle.uf_dir.proofs.Looked.{entries-basic, entries-unread, fitting-at}
@@ -11,45 +11,45 @@ use Rattle.uf_tree.specs.Changes.{without}
 use Rattle.uf_dir.proofs.editing.remove.Goals as goal
 
 pub returns-in_err-found-clause-value : goal.returns-in_err-found-clause-value
-returns-in_err-found-clause-value g c = λ l is stays faults clashes.
-    let out = err_from_is_err_and c.from_residual.result c.from_residual.ensures.1 in rw (out.1, out.2) (entries-unread g.S.X.BlockHash.block32 (record { size = g.met.S.X.BlockHash.size; are_bytes = g.met.S.X.BlockHash.are_bytes }) g.N.NameHash.name64 c.args.p.now c.args.root.now l is _ (Some c.args.p.now) _ _ _ (entry_without g.S.X.BlockHash.block32 g.N.NameHash.name64 c.args.p.now c.args.name.now l) refl c.in_err-found.ensures.looks c.in_err-found.ensures.reads.cause stays.first faults)
+returns-in_err-found-clause-value g c = λ meta l is stays faults clashes.
+    let out = err_from_is_err_and c.from_residual.result c.from_residual.ensures.1 in rw (out.1, out.2) (entries-unread g.S.X.BlockHash.block32 (record { size = g.met.S.X.BlockHash.size; are_bytes = g.met.S.X.BlockHash.are_bytes }) g.N.NameHash.name64 c.args.p.now meta c.args.root.now l is _ (Some c.args.p.now) _ _ _ (entry_without g.S.X.BlockHash.block32 g.N.NameHash.name64 c.args.p.now meta c.args.name.now l) refl c.in_err-found.ensures.looks c.in_err-found.ensures.reads.cause stays.first faults)
 
 pub returns-in_err-found-clause-saves : goal.returns-in_err-found-clause-saves
 returns-in_err-found-clause-saves g c = saves-same _ _ _ c.look_at_root.ensures.reads.told
 
 pub returns-in-Basic-clause-value : goal.returns-in-Basic-clause-value
-returns-in-Basic-clause-value g c = λ l is stays faults clashes. basic-value g.S.X.BlockHash.block32 g.N.NameHash.name64 c.args.p.now c.args.name.now c.in-Basic.pairs l (g.S.Store.seen c.args.store.now).told _ _ _ c.remove_basic.result (g.S.Store.seen c.args.store.now) (g.S.Store.seen c.look_at_root.new.store) (g.S.Store.seen c.remove_basic.new.store)
-    (entries-basic g.S.X.BlockHash.block32 (record { size = g.met.S.X.BlockHash.size; are_bytes = g.met.S.X.BlockHash.are_bytes }) g.N.NameHash.name64 c.args.p.now c.args.root.now l is _ _ _ _ c.in-Basic.is c.in_ok-found.ensures.looks stays.first) c.remove_basic.ensures.takes c.in_ok-found.ensures.reads.cause c.remove_basic.ensures.saves.cause faults clashes
+returns-in-Basic-clause-value g c = λ meta l is stays faults clashes. basic-answer g.S.X.BlockHash.block32 g.N.NameHash.name64 c.args.p.now c.args.name.now meta l c.in-Basic.node (g.S.Store.seen c.args.store.now).told _ _ _ c.remove_basic.result (g.S.Store.seen c.args.store.now) (g.S.Store.seen c.look_at_root.new.store) (g.S.Store.seen c.remove_basic.new.store)
+    (entries-basic g.S.X.BlockHash.block32 (record { size = g.met.S.X.BlockHash.size; are_bytes = g.met.S.X.BlockHash.are_bytes }) g.N.NameHash.name64 c.args.p.now meta c.args.root.now l is _ _ _ _ c.in-Basic.is c.in_ok-found.ensures.looks stays.first) c.remove_basic.ensures.takes c.in_ok-found.ensures.reads.cause c.remove_basic.ensures.saves.cause faults clashes
 
 pub returns-in-Basic-clause-made : goal.returns-in-Basic-clause-made
-returns-in-Basic-clause-made g c = basic-root g.S.X.BlockHash.block32 g.N.NameHash.name64 c.args.p.now (record { size = g.met.S.X.BlockHash.size; are_bytes = g.met.S.X.BlockHash.are_bytes }) c.args.name.now c.in-Basic.pairs (rw c.in-Basic.is at c.in_ok-found.ensures.looks).1.0 _ _ c.remove_basic.result c.remove_basic.ensures.takes
+returns-in-Basic-clause-made g c = basic-root g.S.X.BlockHash.block32 g.N.NameHash.name64 c.args.p.now (record { size = g.met.S.X.BlockHash.size; are_bytes = g.met.S.X.BlockHash.are_bytes }) c.args.name.now c.in-Basic.node (rw c.in-Basic.is at c.in_ok-found.ensures.looks).1.0 _ _ c.remove_basic.result c.remove_basic.ensures.takes
 
 pub returns-in-Basic-clause-after : goal.returns-in-Basic-clause-after
-returns-in-Basic-clause-after g c = basic-ok g.S.X.BlockHash.block32 g.N.NameHash.name64 c.args.p.now c.args.root.now c.args.name.now c.in-Basic.pairs (g.S.Store.seen c.args.store.now).told (g.S.Store.seen c.look_at_root.new.store).told (g.S.Store.seen c.remove_basic.new.store).told c.remove_basic.result _ _
-    (λ l is agrees. entries-basic g.S.X.BlockHash.block32 (record { size = g.met.S.X.BlockHash.size; are_bytes = g.met.S.X.BlockHash.are_bytes }) g.N.NameHash.name64 c.args.p.now c.args.root.now l is _ _ _ _ c.in-Basic.is c.in_ok-found.ensures.looks agrees) c.look_at_root.ensures.reads.told c.remove_basic.ensures.saves.saves c.remove_basic.ensures.takes
+returns-in-Basic-clause-after g c = basic-ok g.S.X.BlockHash.block32 g.N.NameHash.name64 c.args.p.now c.args.root.now c.args.name.now c.in-Basic.node (g.S.Store.seen c.args.store.now).told (g.S.Store.seen c.look_at_root.new.store).told (g.S.Store.seen c.remove_basic.new.store).told c.remove_basic.result _ _
+    (λ meta l is agrees. entries-basic g.S.X.BlockHash.block32 (record { size = g.met.S.X.BlockHash.size; are_bytes = g.met.S.X.BlockHash.are_bytes }) g.N.NameHash.name64 c.args.p.now meta c.args.root.now l is _ _ _ _ c.in-Basic.is c.in_ok-found.ensures.looks agrees) c.look_at_root.ensures.reads.told c.remove_basic.ensures.saves.saves c.remove_basic.ensures.takes
 
-pub returns-clause-value : goal.returns-clause-value
-returns-clause-value g c = λ l is stays faults clashes. take-sharded g.S.X.BlockHash.block32 (record { size = g.met.S.X.BlockHash.size; are_bytes = g.met.S.X.BlockHash.are_bytes }) g.N.NameHash.name64 c.args.p.now c.args.root.now l is (g.S.Store.seen c.args.store.now) (g.S.Store.seen c.look_at_root.new.store) _ _ c.in-Sharded.is c.in_ok-found.ensures.looks c.look_at_root.ensures.reads.told stays.first
+pub returns-in-Sharded-clause-value : goal.returns-in-Sharded-clause-value
+returns-in-Sharded-clause-value g c = λ meta l is stays faults clashes. take-sharded g.S.X.BlockHash.block32 (record { size = g.met.S.X.BlockHash.size; are_bytes = g.met.S.X.BlockHash.are_bytes }) g.N.NameHash.name64 c.args.p.now meta c.args.root.now l is (g.S.Store.seen c.args.store.now) (g.S.Store.seen c.look_at_root.new.store) _ _ c.in-Sharded.is c.in_ok-found.ensures.looks c.look_at_root.ensures.reads.told stays.first
     c.args.name.now (g.S.Store.seen c.remove_sharded.new.store) c.remove_sharded.result c.in_ok-found.ensures.reads.cause c.remove_sharded.ensures.takes stays.last (record { faults = faults; clashes = clashes })
 
-pub returns-clause-after : goal.returns-clause-after
-returns-clause-after g c = take-sharded-ok g.S.X.BlockHash.block32 (record { size = g.met.S.X.BlockHash.size; are_bytes = g.met.S.X.BlockHash.are_bytes }) g.N.NameHash.name64 c.args.p.now c.args.root.now (g.S.Store.seen c.args.store.now) (g.S.Store.seen c.look_at_root.new.store) _ _ c.in-Sharded.is c.in_ok-found.ensures.looks c.look_at_root.ensures.reads.told
+pub returns-in-Sharded-clause-after : goal.returns-in-Sharded-clause-after
+returns-in-Sharded-clause-after g c = take-sharded-ok g.S.X.BlockHash.block32 (record { size = g.met.S.X.BlockHash.size; are_bytes = g.met.S.X.BlockHash.are_bytes }) g.N.NameHash.name64 c.args.p.now c.args.root.now (g.S.Store.seen c.args.store.now) (g.S.Store.seen c.look_at_root.new.store) _ _ c.in-Sharded.is c.in_ok-found.ensures.looks c.look_at_root.ensures.reads.told
     c.args.name.now (g.S.Store.seen c.remove_sharded.new.store) c.in_ok-found.ensures.reads.cause c.remove_sharded.result c.remove_sharded.ensures.takes
 
 pub returns-in-Basic-clause-touches : goal.returns-in-Basic-clause-touches
-returns-in-Basic-clause-touches g c = λ l is stays faults clashes. basic-takes g.S.X.BlockHash.block32 g.N.NameHash.name64 c.args.p.now l (without c.args.name.now l) c.args.touches.now c.look_at_root.new.touches _ c.look_at_root.ensures.touches c.remove_basic.ensures.touches
+returns-in-Basic-clause-touches g c = λ meta l is stays faults clashes. basic-takes g.S.X.BlockHash.block32 g.N.NameHash.name64 c.args.p.now meta c.args.name.now l (without c.args.name.now l) c.args.touches.now c.look_at_root.new.touches _ c.look_at_root.ensures.touches c.remove_basic.ensures.touches
 
 pub returns-in-Basic-clause-fitting : goal.returns-in-Basic-clause-fitting
 returns-in-Basic-clause-fitting g c = fitting-at c.remove_basic.result c.args.p.now c.args.root.now (g.S.Store.seen c.args.store.now) (g.S.Store.seen c.look_at_root.new.store) _ c.in_ok-found.ensures.looks c.in_ok-found.ensures.light
 
-pub returns-clause-fitting : goal.returns-clause-fitting
-returns-clause-fitting g c = fitting-at c.remove_sharded.result c.args.p.now c.args.root.now (g.S.Store.seen c.args.store.now) (g.S.Store.seen c.look_at_root.new.store) _ c.in_ok-found.ensures.looks c.in_ok-found.ensures.light
+pub returns-in-Sharded-clause-fitting : goal.returns-in-Sharded-clause-fitting
+returns-in-Sharded-clause-fitting g c = fitting-at c.remove_sharded.result c.args.p.now c.args.root.now (g.S.Store.seen c.args.store.now) (g.S.Store.seen c.look_at_root.new.store) _ c.in_ok-found.ensures.looks c.in_ok-found.ensures.light
 
-pub returns-clause-touches : goal.returns-clause-touches
-returns-clause-touches g c = λ l is stays faults clashes.
-    let heavy = in_shards g.S.X.BlockHash.block32 (record { size = g.met.S.X.BlockHash.size; are_bytes = g.met.S.X.BlockHash.are_bytes }) g.N.NameHash.name64 c.args.p.now c.args.root.now l is (g.S.Store.seen c.args.store.now) (g.S.Store.seen c.look_at_root.new.store) _ _ c.in-Sharded.is c.in_ok-found.ensures.looks c.look_at_root.ensures.reads.told stays.first in
-    sharded-takes g.S.X.BlockHash.block32 g.N.NameHash.name64 c.args.p.now l (without c.args.name.now l) c.args.touches.now c.look_at_root.new.touches _ heavy (sharded-apart g.S.X.BlockHash.block32 g.N.NameHash.name64 g.met.N.NameHash.fits c.args.p.now l c.args.root.now is heavy) c.look_at_root.ensures.touches
-    (c.remove_sharded.ensures.touches l (stay-there g.S.X.BlockHash.block32 (record { size = g.met.S.X.BlockHash.size; are_bytes = g.met.S.X.BlockHash.are_bytes }) g.N.NameHash.name64 c.args.p.now c.args.root.now l is (g.S.Store.seen c.args.store.now) (g.S.Store.seen c.look_at_root.new.store) _ _ c.in-Sharded.is c.in_ok-found.ensures.looks c.look_at_root.ensures.reads.told stays.first
+pub returns-in-Sharded-clause-touches : goal.returns-in-Sharded-clause-touches
+returns-in-Sharded-clause-touches g c = λ meta l is stays faults clashes.
+    let heavy = in_shards g.S.X.BlockHash.block32 (record { size = g.met.S.X.BlockHash.size; are_bytes = g.met.S.X.BlockHash.are_bytes }) g.N.NameHash.name64 c.args.p.now meta c.args.root.now l is (g.S.Store.seen c.args.store.now) (g.S.Store.seen c.look_at_root.new.store) _ _ c.in-Sharded.is c.in_ok-found.ensures.looks c.look_at_root.ensures.reads.told stays.first in
+    sharded-takes g.S.X.BlockHash.block32 g.N.NameHash.name64 c.args.p.now meta c.args.name.now l c.args.touches.now c.look_at_root.new.touches _ heavy (sharded-apart g.S.X.BlockHash.block32 g.N.NameHash.name64 g.met.N.NameHash.fits c.args.p.now meta l c.args.root.now is heavy) c.look_at_root.ensures.touches
+    (c.remove_sharded.ensures.touches l (stay-read g.S.X.BlockHash.block32 (record { size = g.met.S.X.BlockHash.size; are_bytes = g.met.S.X.BlockHash.are_bytes }) g.N.NameHash.name64 c.args.p.now meta c.args.root.now l is (g.S.Store.seen c.args.store.now) (g.S.Store.seen c.look_at_root.new.store) _ _ c.in-Sharded.is c.in_ok-found.ensures.looks c.look_at_root.ensures.reads.told stays.first
     (g.S.Store.seen c.remove_sharded.new.store) c.in_ok-found.ensures.reads.cause stays.last (record { faults = faults; clashes = clashes })))
 
 pub returns-in-Basic-clause-blames : goal.returns-in-Basic-clause-blames

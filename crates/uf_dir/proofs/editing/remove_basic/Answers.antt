@@ -5,8 +5,8 @@ use Rattle.uf_dir.proofs.editing.remove_basic.Goals as goal
 
 pub save_basic-requires-clause-light : goal.save_basic-requires-clause-light
 save_basic-requires-clause-light g c = let most : c.args.p.now.threshold ≤ 1048576 = (kept c.args.p.now c.requires.profile).threshold in
-    left-light c.args.name.now c.args.pairs.now c.in-Some.left _ c.in-Some.is c.in_ok-rest.ensures.pairs 1048576 (omega (arith, most, c.requires.light))
+    left-light c.args.name.now c.args.node.now.pairs c.in-Some.left _ c.in-Some.is c.in_ok-rest.ensures.pairs 1048576 (omega (arith, most, c.requires.light))
 
 pub returns-in_ok-entry-in-Some-clause-takes : goal.returns-in_ok-entry-in-Some-clause-takes
-returns-in_ok-entry-in-Some-clause-takes g c = left-basic c.args.name.now c.args.pairs.now c.in-Some.left _ c.in-Some.is c.in_ok-rest.ensures.pairs g.S.X.BlockHash.block32 g.N.NameHash.name64 c.args.p.now c.in_ok-entry-in-Some.entry (g.S.Store.seen c.save_basic.new.store).told
+returns-in_ok-entry-in-Some-clause-takes g c = left-basic c.args.name.now c.args.node.now.pairs c.in-Some.left _ c.in-Some.is c.in_ok-rest.ensures.pairs g.S.X.BlockHash.block32 g.N.NameHash.name64 c.args.p.now c.args.node.now.meta c.in_ok-entry-in-Some.entry (g.S.Store.seen c.save_basic.new.store).told
     c.requires.light (c.in_ok-entry-in-Some.ensures.entry g.N.NameHash.name64) c.in_ok-entry-in-Some.ensures.held

@@ -1,21 +1,20 @@
-use Rattle.std.proofs.Common.{Some}
+use Rattle.std.proofs.Common.{Some, arith}
 use Rattle.std.specs.declared.result.Result.TheVariants.{Ok, Err}
 use Rattle.std.proofs.lemmas.Result.{err_from_is_err_and}
 use Rattle.uf_store.proofs.Calls.{saves-by, saves-saves}
 use Rattle.uf_tree.specs.Changes.{without}
 use Rattle.uf_dir.specs.Bad.{IsBadWeighed}
-use Rattle.uf_store.specs.Faults.{NoneIsBad}
 use Rattle.uf_shard.specs.Listing.{IsBadShard}
 use Rattle.uf_shard.specs.Placed.{IsBadOnWay}
 use Rattle.uf_dir.proofs.Causes.{blames-none, shard-weighed, way-weighed}
-use Rattle.uf_dir.proofs.Taking.{absent-takes, emptied-takes, settled-takes, shards-left, unread-takes}
-use Rattle.uf_dir.proofs.Touching.{left-takes}
+use Rattle.uf_dir.proofs.Taking.{absent-takes, emptied-basic, settled-takes, shards-left, unread-takes, was-there}
+use Rattle.uf_dir.proofs.Touching.{few-takes, left-takes}
 use Rattle.uf_dir.proofs.editing.remove_sharded.Goals as goal
 
 pub returns-in_err-removed-clause-takes : goal.returns-in_err-removed-clause-takes
 returns-in_err-removed-clause-takes g c =
     let out = err_from_is_err_and c.from_residual.result c.from_residual.ensures.1 in
-    rw (out.1, out.2) (unread-takes g.S.X.BlockHash.block32 g.N.NameHash.name64 c.args.p.now c.args.root.now c.args.name.now (g.S.Store.seen c.args.store.now) (g.S.Store.seen c.remove.new.store) c.in_err-removed.field-0.0 c.in_err-removed.ensures.value)
+    rw (out.1, out.2) (unread-takes g.S.X.BlockHash.block32 g.N.NameHash.name64 c.args.p.now c.args.meta.now c.args.root.now c.args.name.now (g.S.Store.seen c.args.store.now) (g.S.Store.seen c.remove.new.store) c.in_err-removed.field-0.0 (c.in_err-removed.ensures.value c.args.meta.now))
 
 pub returns-in_err-removed-clause-saves : goal.returns-in_err-removed-clause-saves
 returns-in_err-removed-clause-saves g c =
@@ -24,18 +23,19 @@ returns-in_err-removed-clause-saves g c =
     (record { cause = c.in_err-removed.ensures.cause; good = c.in_err-removed.ensures.good; saves = c.in_err-removed.ensures.saves }))
 
 pub returns-in-Absent-clause-takes : goal.returns-in-Absent-clause-takes
-returns-in-Absent-clause-takes g c = absent-takes g.S.X.BlockHash.block32 g.N.NameHash.name64 c.args.p.now c.args.root.now c.args.name.now (g.S.Store.seen c.args.store.now) (g.S.Store.seen c.remove.new.store)
-    (rw c.in-Absent.is at c.in_ok-removed.ensures.nothing) (rw c.in-Absent.is at c.in_ok-removed.ensures.value)
+returns-in-Absent-clause-takes g c = absent-takes g.S.X.BlockHash.block32 g.N.NameHash.name64 c.args.p.now c.args.meta.now c.args.root.now c.args.name.now (g.S.Store.seen c.args.store.now) (g.S.Store.seen c.remove.new.store)
+    (rw c.in-Absent.is at c.in_ok-removed.ensures.nothing) ((rw c.in-Absent.is at c.in_ok-removed.ensures.value) c.args.meta.now)
 
 pub returns-in_ok-entry-in-Empty-clause-takes : goal.returns-in_ok-entry-in-Empty-clause-takes
-returns-in_ok-entry-in-Empty-clause-takes g c = emptied-takes g.S.X.BlockHash.block32 g.N.NameHash.name64 c.args.p.now c.args.root.now c.args.name.now (g.S.Store.seen c.args.store.now) (g.S.Store.seen c.remove.new.store) (g.S.Store.seen c.empty.new.store) c.in_ok-removed.ensures.cause
-    c.remove.ensures.saves c.empty.ensures.saves c.in_ok-entry-in-Empty.entry c.in_ok-entry-in-Empty.ensures.made c.in_ok-entry-in-Empty.ensures.entry c.in_ok-entry-in-Empty.ensures.held c.in_ok-entry-in-Empty.ensures.cause (rw c.in-Empty.is at c.in_ok-removed.ensures.value)
+returns-in_ok-entry-in-Empty-clause-takes g c = emptied-basic g.S.X.BlockHash.block32 g.N.NameHash.name64 c.args.p.now c.args.meta.now c.args.root.now c.args.name.now (g.S.Store.seen c.args.store.now) (g.S.Store.seen c.remove.new.store) (g.S.Store.seen c.save_basic.new.store) c.in_ok-removed.ensures.cause
+    c.remove.ensures.saves c.save_basic.ensures.saves.saves (record { size = g.met.S.X.BlockHash.size; are_bytes = g.met.S.X.BlockHash.are_bytes }) c.requires.meta c.in_ok-entry-in-Empty.entry c.new-nothing.result c.new-nothing.ensures
+    c.in_ok-entry-in-Empty.ensures.entry c.in_ok-entry-in-Empty.ensures.held c.in_ok-entry-in-Empty.ensures.saves.cause ((rw c.in-Empty.is at c.in_ok-removed.ensures.value) c.args.meta.now)
 
 pub returns-in_err-left-in-Left-clause-takes : goal.returns-in_err-left-in-Left-clause-takes
 returns-in_err-left-in-Left-clause-takes g c =
     let out = err_from_is_err_and c.from_residual-in_err-left-in-Left.result c.from_residual-in_err-left-in-Left.ensures.1 in
-    rw (out.1, out.2) (settled-takes g.S.X.BlockHash.block32 g.N.NameHash.name64 c.args.p.now c.args.root.now c.args.name.now (g.S.Store.seen c.args.store.now) (g.S.Store.seen c.remove.new.store) (g.S.Store.seen c.settled.new.store) c.in_ok-removed.ensures.cause
-    c.remove.ensures.saves c.settled.ensures.saves.saves c.in-Left.entry (rw c.in-Left.is at c.in_ok-removed.ensures.value) (rw c.in-Left.is at c.in_ok-removed.ensures.after)
+    rw (out.1, out.2) (settled-takes g.S.X.BlockHash.block32 g.N.NameHash.name64 c.args.p.now c.args.meta.now c.args.root.now c.args.name.now (g.S.Store.seen c.args.store.now) (g.S.Store.seen c.remove.new.store) (g.S.Store.seen c.settled.new.store) c.in_ok-removed.ensures.cause
+    c.remove.ensures.saves c.settled.ensures.saves.saves c.in-Left.entry ((rw c.in-Left.is at c.in_ok-removed.ensures.value) c.args.meta.now) ((rw c.in-Left.is at c.in_ok-removed.ensures.after) c.args.meta.now)
     (Err c.in_err-left-in-Left.field-0.0) c.in_err-left-in-Left.ensures.saves.cause c.in_err-left-in-Left.ensures.settles)
 
 pub returns-in_err-left-in-Left-clause-saves : goal.returns-in_err-left-in-Left-clause-saves
@@ -47,14 +47,16 @@ returns-in_err-left-in-Left-clause-saves g c =
     (saves-by (IsBadWeighed g.N.NameHash.name64 (g.N.NameHash.name64 c.args.name.now) (Some c.args.p.now)) (shard-weighed g.N.NameHash.name64 (g.N.NameHash.name64 c.args.name.now) (Some c.args.p.now)) c.in_err-left-in-Left.ensures.saves))
 
 pub returns-in_err-left-in-Left-clause-touches : goal.returns-in_err-left-in-Left-clause-touches
-returns-in_err-left-in-Left-clause-touches g c = λ l stay. left-takes g.S.X.BlockHash.block32 g.N.NameHash.name64 c.args.p.now c.args.name.now l c.args.touches.now c.remove.new.touches _ stay.plan.valid.sorted c.remove.ensures.touches
-    (c.settled.ensures.touches g.N.NameHash.name64 (without c.args.name.now l) (shards-left g.S.X.BlockHash.block32 g.N.NameHash.name64 c.args.p.now c.args.root.now c.args.name.now (g.S.Store.seen c.args.store.now) (g.S.Store.seen c.remove.new.store) (g.S.Store.seen c.settled.new.store) c.in_ok-removed.ensures.cause
-    c.remove.ensures.saves c.settled.ensures.saves.saves c.in-Left.entry (rw c.in-Left.is at c.in_ok-removed.ensures.value) (rw c.in-Left.is at c.in_ok-removed.ensures.after)
+returns-in_err-left-in-Left-clause-touches g c = λ l stay. let was = was-there g.S.X.BlockHash.block32 g.N.NameHash.name64 c.args.p.now c.args.meta.now c.args.root.now c.args.name.now (g.S.Store.seen c.args.store.now) (g.S.Store.seen c.remove.new.store) (g.S.Store.seen c.settled.new.store) c.in_ok-removed.ensures.cause
+    c.remove.ensures.saves c.settled.ensures.saves.saves c.in-Left.entry ((rw c.in-Left.is at c.in_ok-removed.ensures.value) c.args.meta.now) ((rw c.in-Left.is at c.in_ok-removed.ensures.after) c.args.meta.now)
+    c.settled.result c.settled.ensures.saves.cause l stay in left-takes g.S.X.BlockHash.block32 g.N.NameHash.name64 c.args.p.now c.args.meta.now c.args.name.now l was.old c.args.touches.now c.remove.new.touches _ was.there stay.plan.valid.sorted c.remove.ensures.touches
+    (c.settled.ensures.touches g.N.NameHash.name64 (without c.args.name.now l) (shards-left g.S.X.BlockHash.block32 g.N.NameHash.name64 c.args.p.now c.args.meta.now c.args.root.now c.args.name.now (g.S.Store.seen c.args.store.now) (g.S.Store.seen c.remove.new.store) (g.S.Store.seen c.settled.new.store) c.in_ok-removed.ensures.cause
+    c.remove.ensures.saves c.settled.ensures.saves.saves c.in-Left.entry ((rw c.in-Left.is at c.in_ok-removed.ensures.value) c.args.meta.now) ((rw c.in-Left.is at c.in_ok-removed.ensures.after) c.args.meta.now)
     c.settled.result c.settled.ensures.saves.cause l stay))
 
 pub returns-in_ok-left-in-Left-clause-takes : goal.returns-in_ok-left-in-Left-clause-takes
-returns-in_ok-left-in-Left-clause-takes g c = settled-takes g.S.X.BlockHash.block32 g.N.NameHash.name64 c.args.p.now c.args.root.now c.args.name.now (g.S.Store.seen c.args.store.now) (g.S.Store.seen c.remove.new.store) (g.S.Store.seen c.settled.new.store) c.in_ok-removed.ensures.cause
-    c.remove.ensures.saves c.settled.ensures.saves.saves c.in-Left.entry (rw c.in-Left.is at c.in_ok-removed.ensures.value) (rw c.in-Left.is at c.in_ok-removed.ensures.after)
+returns-in_ok-left-in-Left-clause-takes g c = settled-takes g.S.X.BlockHash.block32 g.N.NameHash.name64 c.args.p.now c.args.meta.now c.args.root.now c.args.name.now (g.S.Store.seen c.args.store.now) (g.S.Store.seen c.remove.new.store) (g.S.Store.seen c.settled.new.store) c.in_ok-removed.ensures.cause
+    c.remove.ensures.saves c.settled.ensures.saves.saves c.in-Left.entry ((rw c.in-Left.is at c.in_ok-removed.ensures.value) c.args.meta.now) ((rw c.in-Left.is at c.in_ok-removed.ensures.after) c.args.meta.now)
     (Ok c.in_ok-left-in-Left.left) c.in_ok-left-in-Left.ensures.saves.cause c.in_ok-left-in-Left.ensures.settles
 
 pub returns-in_ok-left-in-Left-clause-saves : goal.returns-in_ok-left-in-Left-clause-saves
@@ -64,9 +66,11 @@ returns-in_ok-left-in-Left-clause-saves g c = saves-saves
     (saves-by (IsBadWeighed g.N.NameHash.name64 (g.N.NameHash.name64 c.args.name.now) (Some c.args.p.now)) (shard-weighed g.N.NameHash.name64 (g.N.NameHash.name64 c.args.name.now) (Some c.args.p.now)) c.in_ok-left-in-Left.ensures.saves)
 
 pub returns-in_ok-left-in-Left-clause-touches : goal.returns-in_ok-left-in-Left-clause-touches
-returns-in_ok-left-in-Left-clause-touches g c = λ l stay. left-takes g.S.X.BlockHash.block32 g.N.NameHash.name64 c.args.p.now c.args.name.now l c.args.touches.now c.remove.new.touches _ stay.plan.valid.sorted c.remove.ensures.touches
-    (c.settled.ensures.touches g.N.NameHash.name64 (without c.args.name.now l) (shards-left g.S.X.BlockHash.block32 g.N.NameHash.name64 c.args.p.now c.args.root.now c.args.name.now (g.S.Store.seen c.args.store.now) (g.S.Store.seen c.remove.new.store) (g.S.Store.seen c.settled.new.store) c.in_ok-removed.ensures.cause
-    c.remove.ensures.saves c.settled.ensures.saves.saves c.in-Left.entry (rw c.in-Left.is at c.in_ok-removed.ensures.value) (rw c.in-Left.is at c.in_ok-removed.ensures.after)
+returns-in_ok-left-in-Left-clause-touches g c = λ l stay. let was = was-there g.S.X.BlockHash.block32 g.N.NameHash.name64 c.args.p.now c.args.meta.now c.args.root.now c.args.name.now (g.S.Store.seen c.args.store.now) (g.S.Store.seen c.remove.new.store) (g.S.Store.seen c.settled.new.store) c.in_ok-removed.ensures.cause
+    c.remove.ensures.saves c.settled.ensures.saves.saves c.in-Left.entry ((rw c.in-Left.is at c.in_ok-removed.ensures.value) c.args.meta.now) ((rw c.in-Left.is at c.in_ok-removed.ensures.after) c.args.meta.now)
+    c.settled.result c.settled.ensures.saves.cause l stay in left-takes g.S.X.BlockHash.block32 g.N.NameHash.name64 c.args.p.now c.args.meta.now c.args.name.now l was.old c.args.touches.now c.remove.new.touches _ was.there stay.plan.valid.sorted c.remove.ensures.touches
+    (c.settled.ensures.touches g.N.NameHash.name64 (without c.args.name.now l) (shards-left g.S.X.BlockHash.block32 g.N.NameHash.name64 c.args.p.now c.args.meta.now c.args.root.now c.args.name.now (g.S.Store.seen c.args.store.now) (g.S.Store.seen c.remove.new.store) (g.S.Store.seen c.settled.new.store) c.in_ok-removed.ensures.cause
+    c.remove.ensures.saves c.settled.ensures.saves.saves c.in-Left.entry ((rw c.in-Left.is at c.in_ok-removed.ensures.value) c.args.meta.now) ((rw c.in-Left.is at c.in_ok-removed.ensures.after) c.args.meta.now)
     c.settled.result c.settled.ensures.saves.cause l stay))
 
 pub returns-in_err-removed-clause-blames : goal.returns-in_err-removed-clause-blames
@@ -78,3 +82,15 @@ pub returns-in_err-left-in-Left-clause-blames : goal.returns-in_err-left-in-Left
 returns-in_err-left-in-Left-clause-blames g c =
     let out = err_from_is_err_and c.from_residual-in_err-left-in-Left.result c.from_residual-in_err-left-in-Left.ensures.1 in
     rw (out.1, out.2) (blames-none g.S.X.BlockHash.block32 IsBadShard c.args.root.now (Some c.in_err-left-in-Left.field-0.0) _ _ (λ bytes h. h) c.in_err-left-in-Left.ensures.saves.cause)
+
+pub returns-in_err-removed-clause-touches : goal.returns-in_err-removed-clause-touches
+returns-in_err-removed-clause-touches g c = λ l stay. few-takes g.S.X.BlockHash.block32 g.N.NameHash.name64 c.args.p.now c.args.meta.now c.args.name.now l c.args.touches.now _ (omega (arith, c.remove.ensures.touches))
+
+pub returns-in-Absent-clause-touches : goal.returns-in-Absent-clause-touches
+returns-in-Absent-clause-touches g c = λ l stay. few-takes g.S.X.BlockHash.block32 g.N.NameHash.name64 c.args.p.now c.args.meta.now c.args.name.now l c.args.touches.now _ (omega (arith, c.remove.ensures.touches))
+
+pub returns-in_err-entry-in-Empty-clause-touches : goal.returns-in_err-entry-in-Empty-clause-touches
+returns-in_err-entry-in-Empty-clause-touches g c = λ l stay. few-takes g.S.X.BlockHash.block32 g.N.NameHash.name64 c.args.p.now c.args.meta.now c.args.name.now l c.args.touches.now _ (omega (arith, c.remove.ensures.touches, c.save_basic.ensures.touches))
+
+pub returns-in_ok-entry-in-Empty-clause-touches : goal.returns-in_ok-entry-in-Empty-clause-touches
+returns-in_ok-entry-in-Empty-clause-touches g c = λ l stay. few-takes g.S.X.BlockHash.block32 g.N.NameHash.name64 c.args.p.now c.args.meta.now c.args.name.now l c.args.touches.now _ (omega (arith, c.remove.ensures.touches, c.save_basic.ensures.touches))

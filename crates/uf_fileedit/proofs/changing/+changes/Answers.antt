@@ -176,6 +176,9 @@ change_parts-returns-clause-some g t c = let low = c.parts-test.false in let som
 pub change_parts-returns-clause-few : goal.change_parts-returns-clause-few
 change_parts-returns-clause-few g t c = let few : length c.parts.news ≤ c.args.layer.p.width = node-few g.S.X.BlockHash.block32 (record { size = g.met.S.X.BlockHash.size; are_bytes = g.met.S.X.BlockHash.are_bytes }) c.args.layer.p c.requires.profile c.args.layer.height c.args.target.size (length c.parts.news) c.requires.size c.parts.invariant.room.within in let w : c.args.layer.p.width ≤ 1024 = (kept c.args.layer.p c.requires.profile).few in omega arith
 
+pub change_parts-returns-clause-room : goal.change_parts-returns-clause-room
+change_parts-returns-clause-room g t c = c.parts.invariant.room.within
+
 pub change_parts-returns-clause-size : goal.change_parts-returns-clause-size
 change_parts-returns-clause-size g t c = let low = c.parts-test.false in let total = c.parts.invariant.total in omega arith
 

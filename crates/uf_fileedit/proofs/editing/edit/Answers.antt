@@ -1,97 +1,156 @@
+use Rattle.std.proofs.Common.{◌≡◌, ◌≤◌, ◌<◌, ◌+◌, ◌-◌, ◌^◌, ℕ, [], ◌∷◌, length, ap, arith, refl, subst, sym, ◌∙◌, Err}
+use Rattle.std.proofs.lemmas.Bool.{false≢true}
 use Rattle.std.proofs.lemmas.Result.{err_from_is_err_and}
-use Rattle.std.proofs.Common.{arith, ap, ◌∙◌, sym, subst, ℕ, length, min}
 use Rattle.uf_edge.specs.Counts.{Stood}
 use Rattle.uf_store.specs.Contents.{Told}
-use Rattle.uf_store.specs.Keeping.{Agrees}
 use Rattle.uf_store.specs.Lost.{IsLossOf}
-use Rattle.uf_store.specs.Keeping.{KeepsGood}
 use Rattle.uf_store.specs.Writing.{IsSave, SavesOnly}
 use Rattle.uf_store.proofs.Causes.{StaysCalm-trans}
-use Rattle.uf_store.proofs.Keeping.{KeepsGood-trans}
-use Rattle.uf_store.proofs.Writing.{SavesOnly-trans, agrees-between}
-use Rattle.uf_fileedit.proofs.Steps.{save-lost}
+use Rattle.uf_store.proofs.Writing.{SavesOnly-trans, Wrote-good}
 use Rattle.uf_tree.specs.FilePlan.{file_plan}
-use Rattle.uf_fileedit.specs.Changes.{GivesFile, overlaid, size_after}
-use Rattle.uf_fileedit.proofs.Blames.{edit-blamed, file-rows, front-blamed}
-use Rattle.uf_fileedit.proofs.Files.{agrees-top, edit-gives, edit-lost, file-lost, root-old, top-lost}
-use Rattle.uf_fileedit.proofs.Touching.{blamed-after, blamed-then, edit-costs, edit-left, no-gap}
+use Rattle.uf_tree.specs.FileSub.{IsHeight}
+use Rattle.uf_tree.specs.Roots.{root_over}
+use Rattle.uf_tree.specs.declared.nodes.Part.{Part}
+use Rattle.uf_fileedit.specs.Bad.{IsBadEdited}
+use Rattle.uf_fileedit.specs.Changes.{LiesWithin, size_after}
+use Rattle.uf_fileedit.specs.Planned.{bytes_over}
+use Rattle.uf_fileedit.proofs.Blames.{edit-blamed}
+use Rattle.uf_fileedit.proofs.Edited.{after-small, after-within, bytes-small, differs, edit-gives, edit-loses, new-length, old-length, root-lost, same-gives}
+use Rattle.uf_fileedit.proofs.Remade.{edit-costs, fits-new, more-bytes, no-bytes}
+use Rattle.uf_fileedit.proofs.Roots.{root-alone}
+use Rattle.uf_fileedit.proofs.Steps.{saved-lost, saved-shows}
+use Rattle.uf_fileedit.proofs.Touching.{blamed-then}
 use Rattle.uf_fileedit.proofs.editing.edit.Goals as goal
 
+-- ---- the root
+
 pub returns-in_err-root-clause-lost : goal.returns-in_err-root-clause-lost
-returns-in_err-root-clause-lost g c = λ b height is entry before now stood clash.
-    let out = err_from_is_err_and c.from_residual.result c.from_residual.ensures.1 in rw (out.1, out.2) (subst (λ (t : Told). IsLossOf t (file_plan g.S.X.BlockHash.block32 c.args.p.now b).blocks c.in_err-root.field-0.0) (sym c.in_err-root.ensures.told) (file-lost g.S.X.BlockHash.block32 (record { size = g.met.S.X.BlockHash.size; are_bytes = g.met.S.X.BlockHash.are_bytes }) c.args.p.now b c.args.entry.now.cid height is ((g.S.Store.seen c.args.store.now).told) c.in_err-root.field-0.0 (c.in_err-root.ensures.lost b height is before stood)))
-
-pub returns-in_err-front-clause-lost : goal.returns-in_err-front-clause-lost
-returns-in_err-front-clause-lost g c = λ b height is entry before now stood clash.
-    let out = err_from_is_err_and c.from_residual-in_err-front.result c.from_residual-in_err-front.ensures.1 in rw (out.1, out.2) (subst (λ (t : Told). IsLossOf t (file_plan g.S.X.BlockHash.block32 c.args.p.now b).blocks c.in_err-front.field-0.0) (sym c.in_err-front.ensures.told)
-    (top-lost g.S.X.BlockHash.block32 (record { size = g.met.S.X.BlockHash.size; are_bytes = g.met.S.X.BlockHash.are_bytes }) c.args.p.now b c.args.entry.now.cid height is c.in_ok-root.root c.height_of-top.result (c.in_ok-root.ensures.entry ∙ entry) (c.in_ok-root.ensures.size b height is before) c.height_of-top.ensures ((g.S.Store.seen c.root_of.new.store).told) c.in_err-front.field-0.0 (c.in_err-front.ensures.lost b (file-rows g.S.X.BlockHash.block32 c.args.p.now b c.args.entry.now.cid height is c.in_ok-root.root.size c.height_of-top.result (c.in_ok-root.ensures.size b height is before) c.height_of-top.ensures) (root-old g.S.X.BlockHash.block32 (record { size = g.met.S.X.BlockHash.size; are_bytes = g.met.S.X.BlockHash.are_bytes }) c.args.p.now b c.args.entry.now.cid height is c.in_ok-root.root c.height_of-top.result (c.in_ok-root.ensures.entry ∙ entry) (c.in_ok-root.ensures.size b height is before) c.height_of-top.ensures) (agrees-top g.S.X.BlockHash.block32 (record { size = g.met.S.X.BlockHash.size; are_bytes = g.met.S.X.BlockHash.are_bytes }) c.args.p.now b c.args.entry.now.cid height is c.in_ok-root.root c.height_of-top.result (c.in_ok-root.ensures.entry ∙ entry) (c.in_ok-root.ensures.size b height is before) c.height_of-top.ensures ((g.S.Store.seen c.root_of.new.store).told) (subst (λ (t : Told). Agrees t (file_plan g.S.X.BlockHash.block32 c.args.p.now b).blocks) (sym c.in_ok-root.ensures.told) before)) (subst (λ (n : ℕ). Stood n (g.S.Store.seen c.front_of.new.store).faults) (sym c.in_ok-root.ensures.cause.faults) stood))))
-
-pub returns-clause-gives : goal.returns-clause-gives
-returns-clause-gives g c = λ b height is entry before now.
-    subst (λ (n : ℕ). GivesFile g.S.X.BlockHash.block32 c.args.p.now ((g.S.Store.seen c.change.new.store).told) (file_plan g.S.X.BlockHash.block32 c.args.p.now b).blocks c.in_ok-part.part.entry (overlaid n b c.args.extent.offset c.args.piece.now))
-    (c.size_after-size.ensures ∙ ap (λ (n : ℕ). size_after n c.args.extent.wanted c.args.extent.offset (length c.args.piece.now)) (c.in_ok-root.ensures.size b height is before))
-    (edit-gives g.S.X.BlockHash.block32 (record { size = g.met.S.X.BlockHash.size; are_bytes = g.met.S.X.BlockHash.are_bytes }) c.args.p.now b c.args.entry.now.cid height is c.in_ok-root.root c.height_of-top.result (c.in_ok-root.ensures.entry ∙ entry) (c.in_ok-root.ensures.size b height is before) c.height_of-top.ensures c.size_after-size.result c.height_of-height.result c.args.extent.offset c.args.piece.now c.height_of-height.ensures c.in_ok-front.front (c.in_ok-front.ensures.gives b (root-old g.S.X.BlockHash.block32 (record { size = g.met.S.X.BlockHash.size; are_bytes = g.met.S.X.BlockHash.are_bytes }) c.args.p.now b c.args.entry.now.cid height is c.in_ok-root.root c.height_of-top.result (c.in_ok-root.ensures.entry ∙ entry) (c.in_ok-root.ensures.size b height is before) c.height_of-top.ensures) (agrees-top g.S.X.BlockHash.block32 (record { size = g.met.S.X.BlockHash.size; are_bytes = g.met.S.X.BlockHash.are_bytes }) c.args.p.now b c.args.entry.now.cid height is c.in_ok-root.root c.height_of-top.result (c.in_ok-root.ensures.entry ∙ entry) (c.in_ok-root.ensures.size b height is before) c.height_of-top.ensures ((g.S.Store.seen c.root_of.new.store).told) (subst (λ (t : Told). Agrees t (file_plan g.S.X.BlockHash.block32 c.args.p.now b).blocks) (sym c.in_ok-root.ensures.told) before))) c.min.result c.min.ensures ((g.S.Store.seen c.save_zeros.new.store).told) ((g.S.Store.seen c.change.new.store).told) c.in_ok-part.part (c.in_ok-part.ensures.gives (c.in_ok-zeros.ensures.blank c.args.p.now)) (agrees-between g.S.X.BlockHash.block32 IsSave ((g.S.Store.seen c.front_of.new.store).told) ((g.S.Store.seen c.save_zeros.new.store).told) ((g.S.Store.seen c.change.new.store).told) (file_plan g.S.X.BlockHash.block32 c.args.p.now b).blocks c.in_ok-zeros.ensures.saves c.in_ok-part.ensures.saves (record { first = (subst (λ (t : Told). Agrees t (file_plan g.S.X.BlockHash.block32 c.args.p.now b).blocks) (sym (c.in_ok-front.ensures.told ∙ c.in_ok-root.ensures.told)) before); last = now })) now)
-
-pub returns-in_err-part-clause-lost : goal.returns-in_err-part-clause-lost
-returns-in_err-part-clause-lost g c = λ b height is entry before now stood clash.
-    let out = err_from_is_err_and c.from_residual-in_err-part.result c.from_residual-in_err-part.ensures.1 in rw (out.1, out.2) (edit-lost g.S.X.BlockHash.block32 (record { size = g.met.S.X.BlockHash.size; are_bytes = g.met.S.X.BlockHash.are_bytes }) c.args.p.now b c.args.entry.now.cid height is c.in_ok-root.root c.height_of-top.result (c.in_ok-root.ensures.entry ∙ entry) (c.in_ok-root.ensures.size b height is before) c.height_of-top.ensures c.size_after-size.result c.height_of-height.result c.args.extent.offset c.args.piece.now c.height_of-height.ensures c.in_ok-front.front (c.in_ok-front.ensures.gives b (root-old g.S.X.BlockHash.block32 (record { size = g.met.S.X.BlockHash.size; are_bytes = g.met.S.X.BlockHash.are_bytes }) c.args.p.now b c.args.entry.now.cid height is c.in_ok-root.root c.height_of-top.result (c.in_ok-root.ensures.entry ∙ entry) (c.in_ok-root.ensures.size b height is before) c.height_of-top.ensures) (agrees-top g.S.X.BlockHash.block32 (record { size = g.met.S.X.BlockHash.size; are_bytes = g.met.S.X.BlockHash.are_bytes }) c.args.p.now b c.args.entry.now.cid height is c.in_ok-root.root c.height_of-top.result (c.in_ok-root.ensures.entry ∙ entry) (c.in_ok-root.ensures.size b height is before) c.height_of-top.ensures ((g.S.Store.seen c.root_of.new.store).told) (subst (λ (t : Told). Agrees t (file_plan g.S.X.BlockHash.block32 c.args.p.now b).blocks) (sym c.in_ok-root.ensures.told) before))) c.min.result c.min.ensures ((g.S.Store.seen c.save_zeros.new.store).told) ((g.S.Store.seen c.change.new.store).told) c.in_err-part.field-0.0 (λ l old_is a d. c.in_err-part.ensures.lost (file-rows g.S.X.BlockHash.block32 c.args.p.now b c.args.entry.now.cid height is c.in_ok-root.root.size c.height_of-top.result (c.in_ok-root.ensures.size b height is before) c.height_of-top.ensures) l old_is a d (subst (λ (n : ℕ). Stood n (g.S.Store.seen c.change.new.store).faults) (sym (c.in_ok-zeros.ensures.cause.faults ∙ c.in_ok-front.ensures.cause.faults ∙ c.in_ok-root.ensures.cause.faults)) stood) (subst (λ (n : ℕ). Stood n (g.S.Store.seen c.change.new.store).clashes) (sym (c.in_ok-zeros.ensures.cause.clashes ∙ c.in_ok-front.ensures.cause.clashes ∙ c.in_ok-root.ensures.cause.clashes)) clash)) (agrees-between g.S.X.BlockHash.block32 IsSave ((g.S.Store.seen c.front_of.new.store).told) ((g.S.Store.seen c.save_zeros.new.store).told) ((g.S.Store.seen c.change.new.store).told) (file_plan g.S.X.BlockHash.block32 c.args.p.now b).blocks c.in_ok-zeros.ensures.saves c.in_err-part.ensures.saves (record { first = (subst (λ (t : Told). Agrees t (file_plan g.S.X.BlockHash.block32 c.args.p.now b).blocks) (sym (c.in_ok-front.ensures.told ∙ c.in_ok-root.ensures.told)) before); last = now })) now)
-
-pub returns-clause-touches : goal.returns-clause-touches
-returns-clause-touches g c = λ b rows after a z is agrees after_is within. edit-costs c.args.p.now c.in_ok-root.root.size c.size_after-size.result c.args.extent.offset (length c.args.piece.now) c.height_of-top.result c.height_of-height.result c.min.result c.height_of-top.ensures c.height_of-height.ensures c.min.ensures c.in_ok-front.front (c.in_ok-front.ensures.size (c.height_of-top.ensures.fits)) _ _ rows after a z c.args.touches.now c.root_of.new.touches c.front_of.new.touches c.save_zeros.new.touches c.change.new.touches (c.in_ok-root.ensures.size b rows is agrees) (c.size_after-size.ensures ∙ ap (λ (n : ℕ). size_after n c.args.extent.wanted c.args.extent.offset (length c.args.piece.now)) (c.in_ok-root.ensures.size b rows is agrees)) is.rooted.least after_is within c.in_ok-root.ensures.touches c.in_ok-front.ensures.touches c.in_ok-zeros.ensures.touches c.in_ok-part.ensures.touches
-
-pub returns-in_err-part-clause-touches : goal.returns-in_err-part-clause-touches
-returns-in_err-part-clause-touches g c = λ b rows after a z is agrees after_is within. edit-costs c.args.p.now c.in_ok-root.root.size c.size_after-size.result c.args.extent.offset (length c.args.piece.now) c.height_of-top.result c.height_of-height.result c.min.result c.height_of-top.ensures c.height_of-height.ensures c.min.ensures c.in_ok-front.front (c.in_ok-front.ensures.size (c.height_of-top.ensures.fits)) _ _ rows after a z c.args.touches.now c.root_of.new.touches c.front_of.new.touches c.save_zeros.new.touches c.change.new.touches (c.in_ok-root.ensures.size b rows is agrees) (c.size_after-size.ensures ∙ ap (λ (n : ℕ). size_after n c.args.extent.wanted c.args.extent.offset (length c.args.piece.now)) (c.in_ok-root.ensures.size b rows is agrees)) is.rooted.least after_is within c.in_ok-root.ensures.touches c.in_ok-front.ensures.touches c.in_ok-zeros.ensures.touches c.in_err-part.ensures.touches
-
-pub returns-clause-same : goal.returns-clause-same
-returns-clause-same g c = λ b rows is agrees alike none. c.in_ok-part.ensures.left (edit-left c.args.p.now c.in_ok-root.root.size c.size_after-size.result c.args.extent.offset (length c.args.piece.now) c.height_of-top.result c.height_of-height.result c.min.result c.height_of-top.ensures c.height_of-height.ensures c.min.ensures c.in_ok-front.front (c.in_ok-front.ensures.size (c.height_of-top.ensures.fits)) ((c.in_ok-root.ensures.size b rows is agrees) ∙ alike ∙ sym (c.size_after-size.ensures ∙ ap (λ (n : ℕ). size_after n c.args.extent.wanted c.args.extent.offset (length c.args.piece.now)) (c.in_ok-root.ensures.size b rows is agrees)))) none ∙ c.in_ok-zeros.ensures.none (no-gap _ _ _ (c.in_ok-root.ensures.size b rows is agrees) alike (c.size_after-size.ensures ∙ ap (λ (n : ℕ). size_after n c.args.extent.wanted c.args.extent.offset (length c.args.piece.now)) (c.in_ok-root.ensures.size b rows is agrees)) (c.gap_end-end.ensures none)) ∙ c.in_ok-front.ensures.told ∙ c.in_ok-root.ensures.told
-
-pub returns-in_err-part-clause-same : goal.returns-in_err-part-clause-same
-returns-in_err-part-clause-same g c = λ b rows is agrees alike none. c.in_err-part.ensures.left (edit-left c.args.p.now c.in_ok-root.root.size c.size_after-size.result c.args.extent.offset (length c.args.piece.now) c.height_of-top.result c.height_of-height.result c.min.result c.height_of-top.ensures c.height_of-height.ensures c.min.ensures c.in_ok-front.front (c.in_ok-front.ensures.size (c.height_of-top.ensures.fits)) ((c.in_ok-root.ensures.size b rows is agrees) ∙ alike ∙ sym (c.size_after-size.ensures ∙ ap (λ (n : ℕ). size_after n c.args.extent.wanted c.args.extent.offset (length c.args.piece.now)) (c.in_ok-root.ensures.size b rows is agrees)))) none ∙ c.in_ok-zeros.ensures.none (no-gap _ _ _ (c.in_ok-root.ensures.size b rows is agrees) alike (c.size_after-size.ensures ∙ ap (λ (n : ℕ). size_after n c.args.extent.wanted c.args.extent.offset (length c.args.piece.now)) (c.in_ok-root.ensures.size b rows is agrees)) (c.gap_end-end.ensures none)) ∙ c.in_ok-front.ensures.told ∙ c.in_ok-root.ensures.told
+returns-in_err-root-clause-lost g c = λ m b height is entry before now stood clash.
+    let out = err_from_is_err_and c.from_residual.result c.from_residual.ensures.1 in rw (out.1, out.2) (root-lost g.S.X.BlockHash.block32 (record { size = g.met.S.X.BlockHash.size; are_bytes = g.met.S.X.BlockHash.are_bytes }) c.args.p.now m b c.args.entry.now.cid height is ((g.S.Store.seen c.root_of.new.store).told) c.in_err-root.field-0.0
+    (subst (λ (t : Told). IsLossOf t (root_over g.S.X.BlockHash.block32 c.args.p.now.chunk c.args.p.now.width m height b ∷ []) c.in_err-root.field-0.0) (sym c.in_err-root.ensures.told) (c.in_err-root.ensures.lost m b height is (root-alone g.S.X.BlockHash.block32 (record { size = g.met.S.X.BlockHash.size; are_bytes = g.met.S.X.BlockHash.are_bytes }) c.args.p.now m b c.args.entry.now.cid height is ((g.S.Store.seen c.args.store.now).told) before) stood)))
 
 pub returns-in_err-root-clause-touched : goal.returns-in_err-root-clause-touched
 returns-in_err-root-clause-touched g c = let out = err_from_is_err_and c.from_residual.result c.from_residual.ensures.1 in rw (out.1, out.2) (blamed-then c.in_err-root.field-0.0 c.args.touches.now c.root_of.new.touches (let t = c.in_err-root.ensures.touches in omega arith))
 
-pub returns-in_err-front-clause-touched : goal.returns-in_err-front-clause-touched
-returns-in_err-front-clause-touched g c = let out = err_from_is_err_and c.from_residual-in_err-front.result c.from_residual-in_err-front.ensures.1 in rw (out.1, out.2) (blamed-then c.in_err-front.field-0.0 c.args.touches.now c.front_of.new.touches (let t = c.in_ok-root.ensures.touches in let r = c.in_err-front.ensures.rises in omega arith))
+-- ---- nothing changes
 
-pub returns-in_err-part-clause-touched : goal.returns-in_err-part-clause-touched
-returns-in_err-part-clause-touched g c = let out = err_from_is_err_and c.from_residual-in_err-part.result c.from_residual-in_err-part.ensures.1 in rw (out.1, out.2) (blamed-after c.in_err-part.field-0.0 c.args.touches.now c.save_zeros.new.touches c.change.new.touches (let t = c.in_ok-root.ensures.touches in let r = c.in_ok-front.ensures.rises in let z = c.in_ok-zeros.ensures.rises in omega arith) c.in_err-part.ensures.rises)
+pub returns-then-is_same-clause-gives : goal.returns-then-is_same-clause-gives
+returns-then-is_same-clause-gives g c = λ m b height is entry before now.
+    let same = c.is_same.ensures.0 c.if-is_same.true in
+    same-gives g.S.X.BlockHash.block32 (record { size = g.met.S.X.BlockHash.size; are_bytes = g.met.S.X.BlockHash.are_bytes }) c.args.p.now m b c.args.entry.now.cid height is ((g.S.Store.seen c.args.store.now).told) before c.in_ok-root.root c.in_ok-root.ensures.gives c.size_over-old.result (c.size_over-old.ensures ∙ ap bytes_over c.as_slice.ensures)
+    ((g.S.Store.seen c.root_of.new.store).told) c.args.entry.now c.size_after-size.result c.args.extent.wanted c.args.extent.offset c.args.piece.now entry c.size_after-size.ensures same.0 same.1
 
-pub returns-clause-touched : goal.returns-clause-touched
-returns-clause-touched g c = let t = c.in_ok-root.ensures.touches in let r = c.in_ok-front.ensures.rises in let z = c.in_ok-zeros.ensures.rises in let m = c.in_ok-part.ensures.rises in omega arith
+-- ---- where the bytes stand
 
-pub returns-in_err-front-clause-cause : goal.returns-in_err-front-clause-cause
-returns-in_err-front-clause-cause g c =
-    let out = err_from_is_err_and c.from_residual-in_err-front.result c.from_residual-in_err-front.ensures.1 in rw (out.1, out.2) (front-blamed g.S.X.BlockHash.block32 c.args.p.now c.args.entry.now.cid c.height_of-top.result 0 c.in_ok-root.root c.in_ok-root.root (g.S.Store.seen c.args.store.now) (g.S.Store.seen c.root_of.new.store) (g.S.Store.seen c.front_of.new.store) (g.S.Store.seen c.front_of.new.store)
-    c.in_ok-root.ensures.stand c.height_of-top.ensures c.in_ok-root.ensures.told c.in_err-front.field-0.0 c.in_err-front.ensures.told c.in_ok-root.ensures.cause c.in_err-front.ensures.cause)
+pub heights_of-at-requires-clause-small : goal.heights_of-at-requires-clause-small
+heights_of-at-requires-clause-small g c = bytes-small c.in_ok-root.root.parts c.size_over-old.result (c.size_over-old.ensures ∙ ap bytes_over c.as_slice.ensures) c.in_ok-root.ensures.base.small
+
+-- ---- what is made of the parts below the root
+
+pub returns-clause-gives : goal.returns-clause-gives
+returns-clause-gives g c = λ m b height is entry before now.
+    edit-gives g.S.X.BlockHash.block32 (record { size = g.met.S.X.BlockHash.size; are_bytes = g.met.S.X.BlockHash.are_bytes }) c.args.p.now m b c.args.entry.now.cid height is ((g.S.Store.seen c.args.store.now).told) before c.in_ok-root.root c.in_ok-root.ensures.gives c.size_over-old.result (c.size_over-old.ensures ∙ ap bytes_over c.as_slice.ensures)
+    c.size_after-size.result c.heights_of-at.result c.heights_of-at.ensures ((g.S.Store.seen c.root_of.new.store).told) ((g.S.Store.seen c.remade.new.store).told) ((g.S.Store.seen c.save_over.new.store).told) c.in_ok-root.ensures.told c.in_ok-news.ensures.saves
+    c.args.extent.wanted c.args.extent.offset c.args.piece.now c.in_ok-news.news c.as_slice-2.result.now c.in_ok-part.part c.size_after-size.ensures c.in_ok-part.ensures.saves c.in_ok-part.ensures.good now c.in_ok-news.ensures.gives c.as_slice-2.ensures c.in_ok-part.ensures.part c.in_ok-part.ensures.held
+
+pub returns-in_err-news-clause-lost : goal.returns-in_err-news-clause-lost
+returns-in_err-news-clause-lost g c = λ m b height is entry before now stood clash.
+    let out = err_from_is_err_and c.from_residual-in_err-news.result c.from_residual-in_err-news.ensures.1 in rw (out.1, out.2) (edit-loses g.S.X.BlockHash.block32 (record { size = g.met.S.X.BlockHash.size; are_bytes = g.met.S.X.BlockHash.are_bytes }) c.args.p.now m b c.args.entry.now.cid height is ((g.S.Store.seen c.args.store.now).told) before c.in_ok-root.root c.in_ok-root.ensures.gives c.size_over-old.result (c.size_over-old.ensures ∙ ap bytes_over c.as_slice.ensures)
+    c.size_after-size.result c.heights_of-at.result c.heights_of-at.ensures ((g.S.Store.seen c.root_of.new.store).told) ((g.S.Store.seen c.remade.new.store).told) ((g.S.Store.seen c.remade.new.store).told) c.in_ok-root.ensures.told c.in_err-news.ensures.saves c.in_err-news.field-0.0 now
+    (λ few gs are fits x y. c.in_err-news.ensures.lost few gs are fits x y (subst (λ (n : ℕ). Stood n (g.S.Store.seen c.remade.new.store).faults) (sym c.in_ok-root.ensures.cause.faults) stood) (subst (λ (n : ℕ). Stood n (g.S.Store.seen c.remade.new.store).clashes) (sym c.in_ok-root.ensures.cause.clashes) clash)))
+
+pub returns-in_err-part-clause-lost : goal.returns-in_err-part-clause-lost
+returns-in_err-part-clause-lost g c = λ m b height is entry before now stood clash.
+    let out = err_from_is_err_and c.from_residual-in_err-part.result c.from_residual-in_err-part.ensures.1 in rw (out.1, out.2) (saved-lost g.S.X.BlockHash.block32 (g.S.Store.seen c.args.store.now) (g.S.Store.seen c.remade.new.store) (g.S.Store.seen c.save_over.new.store) (StaysCalm-trans (g.S.Store.seen c.args.store.now) (g.S.Store.seen c.root_of.new.store) (g.S.Store.seen c.remade.new.store) c.in_ok-root.ensures.cause c.in_ok-news.ensures.cause) {A = Part}
+    (file_plan g.S.X.BlockHash.block32 c.args.p.now m b).blocks (Err c.in_err-part.field-0.0) c.in_err-part.ensures.cause c.in_err-part.ensures.fault stood clash)
+
+pub returns-in_err-news-clause-cause : goal.returns-in_err-news-clause-cause
+returns-in_err-news-clause-cause g c =
+    let out = err_from_is_err_and c.from_residual-in_err-news.result c.from_residual-in_err-news.ensures.1 in rw (out.1, out.2) (edit-blamed g.S.X.BlockHash.block32 c.args.p.now c.args.entry.now.cid c.in_ok-root.root c.in_ok-root.root.parts c.heights_of-at.result.rows (c.heights_of-at.result.top - 1) c.in_err-news.field-0.0 (g.S.Store.seen c.args.store.now) (g.S.Store.seen c.root_of.new.store) (g.S.Store.seen c.remade.new.store)
+    c.in_ok-root.ensures.stand c.in_ok-root.ensures.told c.in_ok-root.ensures.cause c.in_err-news.ensures.good (subst (λ n. IsHeight c.args.p.now.chunk c.args.p.now.width n c.heights_of-at.result.rows) (c.size_over-old.ensures ∙ ap bytes_over c.as_slice.ensures) c.heights_of-at.ensures.before)
+    (let t = c.heights_of-at.ensures.top_is in let e : c.heights_of-at.result.top - 1 ≡ c.heights_of-at.result.rows - 1 = omega arith in e) refl c.in_err-news.ensures.cause)
 
 pub returns-in_err-part-clause-cause : goal.returns-in_err-part-clause-cause
 returns-in_err-part-clause-cause g c =
-    let out = err_from_is_err_and c.from_residual-in_err-part.result c.from_residual-in_err-part.ensures.1 in rw (out.1, out.2) (edit-blamed g.S.X.BlockHash.block32 c.args.p.now c.args.entry.now.cid c.height_of-top.result (min c.height_of-top.result c.height_of-height.result) c.in_ok-root.root c.in_ok-front.front (g.S.Store.seen c.args.store.now) (g.S.Store.seen c.root_of.new.store) (g.S.Store.seen c.save_zeros.new.store) (g.S.Store.seen c.change.new.store)
-    c.in_ok-root.ensures.stand c.height_of-top.ensures c.in_ok-root.ensures.told (min c.min.result c.height_of-height.result) c.in_err-part.field-0.0 (let m = c.min.ensures in omega arith)
-    (KeepsGood-trans g.S.X.BlockHash.block32 (g.S.Store.seen c.root_of.new.store).told (g.S.Store.seen c.save_zeros.new.store).told (g.S.Store.seen c.change.new.store).told
-    (subst (λ (t : Told). KeepsGood g.S.X.BlockHash.block32 t (g.S.Store.seen c.save_zeros.new.store).told) c.in_ok-front.ensures.told c.in_ok-zeros.ensures.good) c.in_err-part.ensures.good)
-    (StaysCalm-trans (g.S.Store.seen c.args.store.now) (g.S.Store.seen c.root_of.new.store) (g.S.Store.seen c.save_zeros.new.store) c.in_ok-root.ensures.cause
-    (StaysCalm-trans (g.S.Store.seen c.root_of.new.store) (g.S.Store.seen c.front_of.new.store) (g.S.Store.seen c.save_zeros.new.store) c.in_ok-front.ensures.cause c.in_ok-zeros.ensures.cause))
-    c.in_ok-front.ensures.stand c.in_err-part.ensures.cause)
+    let out = err_from_is_err_and c.from_residual-in_err-part.result c.from_residual-in_err-part.ensures.1 in rw (out.1, out.2) (saved-shows g.S.X.BlockHash.block32 (g.S.Store.seen c.args.store.now) (g.S.Store.seen c.remade.new.store) (g.S.Store.seen c.save_over.new.store) (StaysCalm-trans (g.S.Store.seen c.args.store.now) (g.S.Store.seen c.root_of.new.store) (g.S.Store.seen c.remade.new.store) c.in_ok-root.ensures.cause c.in_ok-news.ensures.cause) {A = Part}
+    (IsBadEdited g.S.X.BlockHash.block32 c.args.p.now ((g.S.Store.seen c.save_over.new.store).told) c.args.entry.now.cid) (Err c.in_err-part.field-0.0) c.in_err-part.ensures.cause)
 
-pub returns-in_err-zeros-clause-lost : goal.returns-in_err-zeros-clause-lost
-returns-in_err-zeros-clause-lost g c = λ b height is entry before now stood clash.
-    let out = err_from_is_err_and c.from_residual-in_err-zeros.result c.from_residual-in_err-zeros.ensures.1 in rw (out.1, out.2) (save-lost g.S.X.BlockHash.block32 (g.S.Store.seen c.front_of.new.store) (g.S.Store.seen c.save_zeros.new.store) (file_plan g.S.X.BlockHash.block32 c.args.p.now b).blocks c.in_err-zeros.field-0.0 c.in_err-zeros.ensures.cause c.in_err-zeros.ensures.fault
-    (subst (λ (n : ℕ). Stood n (g.S.Store.seen c.save_zeros.new.store).faults) (sym (c.in_ok-front.ensures.cause.faults ∙ c.in_ok-root.ensures.cause.faults)) stood)
-    (subst (λ (n : ℕ). Stood n (g.S.Store.seen c.save_zeros.new.store).clashes) (sym (c.in_ok-front.ensures.cause.clashes ∙ c.in_ok-root.ensures.cause.clashes)) clash))
+-- ---- what is asked of the calls
 
-pub returns-in_err-zeros-clause-touched : goal.returns-in_err-zeros-clause-touched
-returns-in_err-zeros-clause-touched g c = let out = err_from_is_err_and c.from_residual-in_err-zeros.result c.from_residual-in_err-zeros.ensures.1 in rw (out.1, out.2) (blamed-then c.in_err-zeros.field-0.0 c.args.touches.now c.save_zeros.new.touches (let t = c.in_ok-root.ensures.touches in let r = c.in_ok-front.ensures.rises in let z = c.in_err-zeros.ensures.rises in omega arith))
+pub remade-requires-clause-fits : goal.remade-requires-clause-fits
+remade-requires-clause-fits g c = fits-new c.args.p.now c.requires.profile c.size_over-old.result c.size_after-size.result c.args.extent.offset (length c.args.piece.now) c.heights_of-at.result c.heights_of-at.ensures
+
+pub remade-requires-clause-low : goal.remade-requires-clause-low
+remade-requires-clause-low g c = no-bytes c.args.p.now c.requires.profile c.size_over-old.result c.size_after-size.result c.args.extent.offset (length c.args.piece.now) c.heights_of-at.result c.heights_of-at.ensures
+
+pub remade-requires-clause-more : goal.remade-requires-clause-more
+remade-requires-clause-more g c = more-bytes c.args.p.now c.requires.profile c.size_over-old.result c.size_after-size.result c.args.extent.offset (length c.args.piece.now) c.heights_of-at.result c.heights_of-at.ensures
+
+pub remade-requires-clause-small : goal.remade-requires-clause-small
+remade-requires-clause-small g c = subst (λ n. n < 2 ^ 63) (sym c.size_after-size.ensures)
+    (after-small c.size_over-old.result c.args.extent.wanted c.args.extent.offset (length c.args.piece.now) (bytes-small c.in_ok-root.root.parts c.size_over-old.result (c.size_over-old.ensures ∙ ap bytes_over c.as_slice.ensures) c.in_ok-root.ensures.base.small) c.requires.small c.requires.end)
+
+pub remade-requires-clause-within : goal.remade-requires-clause-within
+remade-requires-clause-within g c = subst (λ n. LiesWithin n c.args.extent.offset c.args.piece.now) (sym c.size_after-size.ensures) (after-within c.size_over-old.result c.args.extent.wanted c.args.extent.offset c.args.piece.now c.requires.within)
+
+-- ---- what is kept
 
 pub returns-clause-good : goal.returns-clause-good
-returns-clause-good g c = KeepsGood-trans g.S.X.BlockHash.block32 ((g.S.Store.seen c.args.store.now).told) ((g.S.Store.seen c.save_zeros.new.store).told) ((g.S.Store.seen c.change.new.store).told)
-    (subst (λ (t : Told). KeepsGood g.S.X.BlockHash.block32 t ((g.S.Store.seen c.save_zeros.new.store).told)) (c.in_ok-front.ensures.told ∙ c.in_ok-root.ensures.told) c.in_ok-zeros.ensures.good) c.in_ok-part.ensures.good
+returns-clause-good g c = Wrote-good g.S.X.BlockHash.block32 IsSave ((g.S.Store.seen c.args.store.now).told) ((g.S.Store.seen c.save_over.new.store).told)
+    (subst (λ (x : Told). SavesOnly g.S.X.BlockHash.block32 x ((g.S.Store.seen c.save_over.new.store).told)) c.in_ok-root.ensures.told (SavesOnly-trans g.S.X.BlockHash.block32 ((g.S.Store.seen c.root_of.new.store).told) ((g.S.Store.seen c.remade.new.store).told) ((g.S.Store.seen c.save_over.new.store).told) c.in_ok-news.ensures.saves c.in_ok-part.ensures.saves))
 
 pub returns-clause-saves : goal.returns-clause-saves
-returns-clause-saves g c = SavesOnly-trans g.S.X.BlockHash.block32 ((g.S.Store.seen c.args.store.now).told) ((g.S.Store.seen c.save_zeros.new.store).told) ((g.S.Store.seen c.change.new.store).told)
-    (subst (λ (t : Told). SavesOnly g.S.X.BlockHash.block32 t ((g.S.Store.seen c.save_zeros.new.store).told)) (c.in_ok-front.ensures.told ∙ c.in_ok-root.ensures.told) c.in_ok-zeros.ensures.saves) c.in_ok-part.ensures.saves
+returns-clause-saves g c = subst (λ (x : Told). SavesOnly g.S.X.BlockHash.block32 x ((g.S.Store.seen c.save_over.new.store).told)) c.in_ok-root.ensures.told (SavesOnly-trans g.S.X.BlockHash.block32 ((g.S.Store.seen c.root_of.new.store).told) ((g.S.Store.seen c.remade.new.store).told) ((g.S.Store.seen c.save_over.new.store).told) c.in_ok-news.ensures.saves c.in_ok-part.ensures.saves)
+
+pub returns-in_err-part-clause-good : goal.returns-in_err-part-clause-good
+returns-in_err-part-clause-good g c = Wrote-good g.S.X.BlockHash.block32 IsSave ((g.S.Store.seen c.args.store.now).told) ((g.S.Store.seen c.save_over.new.store).told)
+    (subst (λ (x : Told). SavesOnly g.S.X.BlockHash.block32 x ((g.S.Store.seen c.save_over.new.store).told)) c.in_ok-root.ensures.told (SavesOnly-trans g.S.X.BlockHash.block32 ((g.S.Store.seen c.root_of.new.store).told) ((g.S.Store.seen c.remade.new.store).told) ((g.S.Store.seen c.save_over.new.store).told) c.in_ok-news.ensures.saves c.in_err-part.ensures.saves))
 
 pub returns-in_err-part-clause-saves : goal.returns-in_err-part-clause-saves
-returns-in_err-part-clause-saves g c = SavesOnly-trans g.S.X.BlockHash.block32 ((g.S.Store.seen c.args.store.now).told) ((g.S.Store.seen c.save_zeros.new.store).told) ((g.S.Store.seen c.change.new.store).told)
-    (subst (λ (t : Told). SavesOnly g.S.X.BlockHash.block32 t ((g.S.Store.seen c.save_zeros.new.store).told)) (c.in_ok-front.ensures.told ∙ c.in_ok-root.ensures.told) c.in_ok-zeros.ensures.saves) c.in_err-part.ensures.saves
+returns-in_err-part-clause-saves g c = subst (λ (x : Told). SavesOnly g.S.X.BlockHash.block32 x ((g.S.Store.seen c.save_over.new.store).told)) c.in_ok-root.ensures.told (SavesOnly-trans g.S.X.BlockHash.block32 ((g.S.Store.seen c.root_of.new.store).told) ((g.S.Store.seen c.remade.new.store).told) ((g.S.Store.seen c.save_over.new.store).told) c.in_ok-news.ensures.saves c.in_err-part.ensures.saves)
+
+-- ---- how often the store is touched
+
+pub returns-in_err-news-clause-touched : goal.returns-in_err-news-clause-touched
+returns-in_err-news-clause-touched g c = let out = err_from_is_err_and c.from_residual-in_err-news.result c.from_residual-in_err-news.ensures.1 in rw (out.1, out.2) (blamed-then c.in_err-news.field-0.0 c.args.touches.now c.remade.new.touches (let t = c.in_ok-root.ensures.touches in let r = c.in_err-news.ensures.rises in omega arith))
+
+pub returns-in_err-part-clause-touched : goal.returns-in_err-part-clause-touched
+returns-in_err-part-clause-touched g c = let out = err_from_is_err_and c.from_residual-in_err-part.result c.from_residual-in_err-part.ensures.1 in rw (out.1, out.2) (blamed-then c.in_err-part.field-0.0 c.args.touches.now c.save_over.new.touches (let t = c.in_ok-root.ensures.touches in let r = c.in_ok-news.ensures.rises in let s = c.in_err-part.ensures.rises in omega arith))
+
+pub returns-clause-touches : goal.returns-clause-touches
+returns-clause-touches g c = λ m b height rows after a z is agrees rows_is after_is within.
+    edit-costs c.args.p.now c.requires.profile c.size_over-old.result c.size_after-size.result c.args.extent.offset (length c.args.piece.now) c.heights_of-at.result c.heights_of-at.ensures c.args.entry.now.cid.codec c.in_ok-root.root c.args.entry.now c.in_ok-root.ensures.laid (c.size_over-old.ensures ∙ ap bytes_over c.as_slice.ensures) (λ same. false≢true (sym c.if-is_same.false ∙ c.is_same.ensures.1 same))
+    (length b) (size_after (length b) c.args.extent.wanted c.args.extent.offset (length c.args.piece.now)) rows after a z c.args.touches.now c.root_of.new.touches c.remade.new.touches c.save_over.new.touches
+    (old-length g.S.X.BlockHash.block32 (record { size = g.met.S.X.BlockHash.size; are_bytes = g.met.S.X.BlockHash.are_bytes }) c.args.p.now m b c.args.entry.now.cid height is ((g.S.Store.seen c.args.store.now).told) agrees c.in_ok-root.root c.in_ok-root.ensures.gives c.size_over-old.result (c.size_over-old.ensures ∙ ap bytes_over c.as_slice.ensures))
+    (new-length g.S.X.BlockHash.block32 (record { size = g.met.S.X.BlockHash.size; are_bytes = g.met.S.X.BlockHash.are_bytes }) c.args.p.now m b c.args.entry.now.cid height is ((g.S.Store.seen c.args.store.now).told) agrees c.in_ok-root.root c.in_ok-root.ensures.gives c.size_over-old.result (c.size_over-old.ensures ∙ ap bytes_over c.as_slice.ensures) c.size_after-size.result c.args.extent.wanted c.args.extent.offset (length c.args.piece.now) c.size_after-size.ensures)
+    rows_is after_is within c.in_ok-root.ensures.touches c.in_ok-news.ensures.touches c.in_ok-part.ensures.touches
+
+pub returns-in_err-part-clause-touches : goal.returns-in_err-part-clause-touches
+returns-in_err-part-clause-touches g c = λ m b height rows after a z is agrees rows_is after_is within.
+    edit-costs c.args.p.now c.requires.profile c.size_over-old.result c.size_after-size.result c.args.extent.offset (length c.args.piece.now) c.heights_of-at.result c.heights_of-at.ensures c.args.entry.now.cid.codec c.in_ok-root.root c.args.entry.now c.in_ok-root.ensures.laid (c.size_over-old.ensures ∙ ap bytes_over c.as_slice.ensures) (λ same. false≢true (sym c.if-is_same.false ∙ c.is_same.ensures.1 same))
+    (length b) (size_after (length b) c.args.extent.wanted c.args.extent.offset (length c.args.piece.now)) rows after a z c.args.touches.now c.root_of.new.touches c.remade.new.touches c.save_over.new.touches
+    (old-length g.S.X.BlockHash.block32 (record { size = g.met.S.X.BlockHash.size; are_bytes = g.met.S.X.BlockHash.are_bytes }) c.args.p.now m b c.args.entry.now.cid height is ((g.S.Store.seen c.args.store.now).told) agrees c.in_ok-root.root c.in_ok-root.ensures.gives c.size_over-old.result (c.size_over-old.ensures ∙ ap bytes_over c.as_slice.ensures))
+    (new-length g.S.X.BlockHash.block32 (record { size = g.met.S.X.BlockHash.size; are_bytes = g.met.S.X.BlockHash.are_bytes }) c.args.p.now m b c.args.entry.now.cid height is ((g.S.Store.seen c.args.store.now).told) agrees c.in_ok-root.root c.in_ok-root.ensures.gives c.size_over-old.result (c.size_over-old.ensures ∙ ap bytes_over c.as_slice.ensures) c.size_after-size.result c.args.extent.wanted c.args.extent.offset (length c.args.piece.now) c.size_after-size.ensures)
+    rows_is after_is within c.in_ok-root.ensures.touches c.in_ok-news.ensures.touches c.in_err-part.ensures.touches
+
+pub returns-in_err-news-clause-touches : goal.returns-in_err-news-clause-touches
+returns-in_err-news-clause-touches g c = λ m b height rows after a z is agrees rows_is after_is within.
+    edit-costs c.args.p.now c.requires.profile c.size_over-old.result c.size_after-size.result c.args.extent.offset (length c.args.piece.now) c.heights_of-at.result c.heights_of-at.ensures c.args.entry.now.cid.codec c.in_ok-root.root c.args.entry.now c.in_ok-root.ensures.laid (c.size_over-old.ensures ∙ ap bytes_over c.as_slice.ensures) (λ same. false≢true (sym c.if-is_same.false ∙ c.is_same.ensures.1 same))
+    (length b) (size_after (length b) c.args.extent.wanted c.args.extent.offset (length c.args.piece.now)) rows after a z c.args.touches.now c.root_of.new.touches c.remade.new.touches c.remade.new.touches
+    (old-length g.S.X.BlockHash.block32 (record { size = g.met.S.X.BlockHash.size; are_bytes = g.met.S.X.BlockHash.are_bytes }) c.args.p.now m b c.args.entry.now.cid height is ((g.S.Store.seen c.args.store.now).told) agrees c.in_ok-root.root c.in_ok-root.ensures.gives c.size_over-old.result (c.size_over-old.ensures ∙ ap bytes_over c.as_slice.ensures))
+    (new-length g.S.X.BlockHash.block32 (record { size = g.met.S.X.BlockHash.size; are_bytes = g.met.S.X.BlockHash.are_bytes }) c.args.p.now m b c.args.entry.now.cid height is ((g.S.Store.seen c.args.store.now).told) agrees c.in_ok-root.root c.in_ok-root.ensures.gives c.size_over-old.result (c.size_over-old.ensures ∙ ap bytes_over c.as_slice.ensures) c.size_after-size.result c.args.extent.wanted c.args.extent.offset (length c.args.piece.now) c.size_after-size.ensures)
+    rows_is after_is within c.in_ok-root.ensures.touches c.in_err-news.ensures.touches (let e : c.remade.new.touches ≤ c.remade.new.touches + 1 = omega arith in e)
+
+-- ---- nothing is saved where nothing changes
+
+pub returns-clause-same : goal.returns-clause-same
+returns-clause-same g c = λ m b height is agrees alike none. absurd (differs g.S.X.BlockHash.block32 (record { size = g.met.S.X.BlockHash.size; are_bytes = g.met.S.X.BlockHash.are_bytes }) c.args.p.now m b c.args.entry.now.cid height is ((g.S.Store.seen c.args.store.now).told) agrees c.in_ok-root.root c.in_ok-root.ensures.gives c.size_over-old.result (c.size_over-old.ensures ∙ ap bytes_over c.as_slice.ensures)
+    c.size_after-size.result c.args.extent.wanted c.args.extent.offset (length c.args.piece.now) c.size_after-size.ensures (λ same. false≢true (sym c.if-is_same.false ∙ c.is_same.ensures.1 same)) alike none)
+
+pub returns-in_err-part-clause-same : goal.returns-in_err-part-clause-same
+returns-in_err-part-clause-same g c = λ m b height is agrees alike none. absurd (differs g.S.X.BlockHash.block32 (record { size = g.met.S.X.BlockHash.size; are_bytes = g.met.S.X.BlockHash.are_bytes }) c.args.p.now m b c.args.entry.now.cid height is ((g.S.Store.seen c.args.store.now).told) agrees c.in_ok-root.root c.in_ok-root.ensures.gives c.size_over-old.result (c.size_over-old.ensures ∙ ap bytes_over c.as_slice.ensures)
+    c.size_after-size.result c.args.extent.wanted c.args.extent.offset (length c.args.piece.now) c.size_after-size.ensures (λ same. false≢true (sym c.if-is_same.false ∙ c.is_same.ensures.1 same)) alike none)
+
+pub returns-in_err-news-clause-same : goal.returns-in_err-news-clause-same
+returns-in_err-news-clause-same g c = λ m b height is agrees alike none. absurd (differs g.S.X.BlockHash.block32 (record { size = g.met.S.X.BlockHash.size; are_bytes = g.met.S.X.BlockHash.are_bytes }) c.args.p.now m b c.args.entry.now.cid height is ((g.S.Store.seen c.args.store.now).told) agrees c.in_ok-root.root c.in_ok-root.ensures.gives c.size_over-old.result (c.size_over-old.ensures ∙ ap bytes_over c.as_slice.ensures)
+    c.size_after-size.result c.args.extent.wanted c.args.extent.offset (length c.args.piece.now) c.size_after-size.ensures (λ same. false≢true (sym c.if-is_same.false ∙ c.is_same.ensures.1 same)) alike none)

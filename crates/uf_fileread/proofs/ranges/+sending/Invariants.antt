@@ -1,10 +1,10 @@
-use Rattle.std.proofs.Common.{◌≡◌, ◌≤◌, ◌+◌, ◌-◌, ◌*◌, ℕ, List, drop, length}
+use Rattle.std.proofs.Common.{◌≡◌, ◌≤◌, ◌+◌, ◌-◌, ◌*◌, ℕ, List, drop}
 use Rattle.std.specs.List.{flat_map}
-use Rattle.uf_edge.specs.Streams.{after}
 use Rattle.uf_store.specs.Faults.{StaysCalm}
 use Rattle.uf_store.specs.Keeping.{Agrees}
 use Rattle.uf_tree.specs.declared.profile.Profile.{Profile}
 use Rattle.uf_tree.specs.FileSub.{blocks_over}
+use Rattle.uf_tree.specs.Metas.{none}
 use Rattle.uf_fileread.specs.Ranges.{AppendsCount, blocks_read}
 use Rattle.uf_fileread.specs.Sending.{ArePartsOver}
 use Rattle.uf_fileread.proofs.Sending.{Progress}
@@ -23,7 +23,7 @@ abbrev pub invariant-send_parts-loop-part : goal.invariant-send_parts-loop-part
 invariant-send_parts-loop-part g l = record {
   reads : (p : Profile) (k : ℕ) (gs : List (List ℕ)) → ArePartsOver g.S.X.BlockHash.block32 p l.rows k l.parts gs
       → Agrees (g.S.Store.seen l.initial.store).told (flat_map (blocks_over g.S.X.BlockHash.block32 p.chunk p.width k) gs)
-      → Progress (g.S.Store.seen l.initial.store).told (λ o n b. blocks_read g.S.X.BlockHash.block32 p.chunk p.width k o n b) l.reach.offset l.reach.count gs (drop l.part-index gs)
+      → Progress (g.S.Store.seen l.initial.store).told (λ o n b. blocks_read g.S.X.BlockHash.block32 p.chunk p.width none k o n b) l.reach.offset l.reach.count gs (drop l.part-index gs)
       l.place l.rest (g.O.Sink.holds l.initial.out) (g.O.Sink.holds l.out) l.initial.touches l.touches;
   few : l.rest ≤ l.reach.count;
   steps : l.initial.touches ≤ l.touches;

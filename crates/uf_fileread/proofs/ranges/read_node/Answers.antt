@@ -1,9 +1,12 @@
-use Rattle.uf_fileread.proofs.Reading.{high, undeclared}
+use Rattle.std.proofs.Common.{arith, rules}
+use Rattle.uf_fileread.proofs.Reading.{high, uncarried, undeclared}
 use Rattle.uf_fileread.proofs.ranges.read_node.Goals as goal
-use Rattle.uf_fileread.proofs.ranges.read_node.Goals.{else-rows-gt0-via-then-rows-gt0+else-is_declared, else-rows-gt0-via-else-rows-gt0}
 
-pub returns-else-rows-gt0 : goal.returns-else-rows-gt0
-returns-else-rows-gt0 c = elim c.else-rows-gt0.branch [
-  | else-rows-gt0-via-then-rows-gt0+else-is_declared w ↦ undeclared c.args.rows c.args.declared c.args.bytes.now c.in_ok-parts.parts w.as_slice.result.now w.size_over.result w.is_declared.result c.in_ok-parts.ensures w.as_slice.ensures w.size_over.ensures w.is_declared.ensures w.if-is_declared.false
-  | else-rows-gt0-via-else-rows-gt0 w ↦ high c.args.rows c.args.declared c.args.bytes.now w.if-rows-gt0.false
-]
+pub returns-then-rows-eq0 : goal.returns-then-rows-eq0
+returns-then-rows-eq0 c = high c.args.rows c.args.declared c.args.bytes.now (omega (arith, c.if-rows-eq0.true))
+
+pub returns-then-not-may_carry : goal.returns-then-not-may_carry
+returns-then-not-may_carry c = uncarried c.args.rows c.args.declared c.args.bytes.now c.in_ok-node.node c.may_carry.result c.in_ok-node.ensures c.may_carry.ensures (search rules)
+
+pub returns-else-is_declared : goal.returns-else-is_declared
+returns-else-is_declared c = undeclared c.args.rows c.args.declared c.args.bytes.now c.in_ok-node.node c.as_slice.result.now c.size_over.result c.is_declared.result c.in_ok-node.ensures c.as_slice.ensures c.size_over.ensures c.is_declared.ensures c.if-is_declared.false

@@ -2,13 +2,15 @@ use Rattle.std.proofs.Common.{◌≡◌, ◌∙◌, ◌++◌, ap, sym, subst, ar
 use Rattle.std.proofs.lemmas.Result.{err_from_is_err_and}
 use Rattle.uf_shard.specs.Answers.{Gives}
 use Rattle.uf_store.proofs.Calls.{saves-saves}
+use Rattle.uf_tree.specs.Metas.{none}
 use Rattle.uf_tree.specs.Nodes.{Named}
 use Rattle.uf_tree.specs.Tree.{entries}
-use Rattle.uf_tree.specs.TreePlan.{Refusal, dir_refusal, entry as entry_of, refusal as refusal_of}
+use Rattle.uf_tree.specs.TreePlan.{Refusal, dir_refusal, named_entries, entry as entry_of, refusal as refusal_of}
+use Rattle.uf_tree.specs.declared.meta.Meta.{Meta}
 use Rattle.uf_tree.specs.declared.nodes.Entry.{Entry}
 use Rattle.uf_tree.specs.Validity.{IsDirectory, IsHash}
 use Rattle.uf_dir.specs.Planned.{dir_entry}
-use Rattle.uf_tree.proofs.TreeLaws.{entry-dir}
+use Rattle.uf_tree.proofs.TreeLaws.{entry-dir, meta-entries}
 use Rattle.uf_tree.proofs.Valid.{directory-valid}
 use Rattle.uf_gen.specs.Fresh.{left_entries, left_entry, left_tree}
 use Rattle.uf_gen.specs.Grown.{left_files}
@@ -32,7 +34,7 @@ build-requires-clause-directory g c =
     let n : c.loop-i.i ≡ c.args.n = omega (arith, c.loop-i-test.false, c.loop-i.auto.i-end) in
     subst IsDirectory
     (named-entries X N c.args.p.now c.args.seed c.args.n ∙ sym (c.loop-i.invariant.0 ∙ ap (left_entries X c.args.p.now c.args.seed) n))
-    (directory-valid X hash N c.args.p.now c.requires.profile (entries (left_files c.args.seed c.args.n)) (tree-left c.args.seed c.args.n c.requires.few))
+    (directory-valid X hash N c.args.p.now c.requires.profile (entries none (left_files c.args.seed c.args.n)) (tree-left c.args.seed c.args.n c.requires.few))
 
 pub returns-in_err-add_left-clause-saves : goal.returns-in_err-add_left-clause-saves
 returns-in_err-add_left-clause-saves g c =
@@ -47,12 +49,15 @@ returns-clause-answer g c =
     let seed = c.args.seed in
     let n : c.loop-i.i ≡ c.args.n = omega (arith, c.loop-i-test.false, c.loop-i.auto.i-end) in
     let all : c.loop-i.pairs ≡ left_entries X p seed c.args.n = c.loop-i.invariant.0 ∙ ap (left_entries X p seed) n in
-    let refusal : dir_refusal X N p c.loop-i.pairs ≡ refusal_of X N p (left_tree seed c.args.n) =
-    ap (dir_refusal X N p) all ∙ sym (refusal-left X N p seed c.requires.profile c.args.n) in
-    let entry : dir_entry X N p c.loop-i.pairs ≡ entry_of X N p (left_tree seed c.args.n) =
-    ap (dir_entry X N p) (all ∙ sym (named-entries X N p seed c.args.n)) ∙ sym (entry-dir X N p (entries (left_files seed c.args.n))) in
+    let refusal : dir_refusal X N p none c.loop-i.pairs ≡ refusal_of X N p (left_tree seed c.args.n) =
+    ap (dir_refusal X N p none) all ∙ sym (refusal-left X N p seed c.requires.profile c.args.n) in
+    let entry : dir_entry X N p none c.loop-i.pairs ≡ entry_of X N p (left_tree seed c.args.n) =
+    ap (dir_entry X N p none) (all ∙ sym (named-entries X N p seed c.args.n))
+    ∙ ap (λ (m : Meta). dir_entry X N p m (named_entries X N p (entries none (left_files seed c.args.n)))) (sym (meta-entries none (left_files seed c.args.n)))
+    ∙ sym (entry-dir X N p (entries none (left_files seed c.args.n))) in
     subst (λ (e : Entry). Gives (refusal_of X N p (left_tree seed c.args.n)) e c.build.result) entry
-    (subst (λ (r : Option Refusal). Gives r (dir_entry X N p c.loop-i.pairs) c.build.result) refusal c.build.ensures.answer)
+    (subst (λ (r : Option Refusal). Gives r (dir_entry X N p none c.loop-i.pairs) c.build.result) refusal
+    (subst (λ (m : Meta). Gives (dir_refusal X N p m c.loop-i.pairs) (dir_entry X N p m c.loop-i.pairs) c.build.result) c.none.ensures c.build.ensures.answer))
 
 pub returns-clause-saves : goal.returns-clause-saves
 returns-clause-saves g c = saves-saves c.loop-i.invariant.1

@@ -1,4 +1,4 @@
-use Rattle.std.proofs.Common.{◌≡◌, ◌∙◌, ◌+◌, ◌%◌, ap, sym}
+use Rattle.std.proofs.Common.{◌∙◌, ◌+◌, ◌%◌, ap}
 use Rattle.uf_gen.specs.Rules.{mixed}
 use Rattle.std.specs.Prelude.{max}
 use Rattle.uf_gen.proofs.Counted.{length-changed, length-kept}

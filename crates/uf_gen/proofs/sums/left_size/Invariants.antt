@@ -1,4 +1,4 @@
-use Rattle.std.proofs.Common.{◌≡◌, ◌≤◌, ◌*◌, ℕ}
+use Rattle.std.proofs.Common.{◌≡◌, ◌≤◌, ◌*◌}
 use Rattle.uf_gen.specs.Grown.{left_size}
 use Rattle.uf_gen.proofs.sums.left_size.Given as goal
 

@@ -1,10 +1,9 @@
-use Rattle.std.proofs.Common.{◌≡◌, ◌∙◌, ◌+◌, ℕ, List, Ok, Some, subst, sym, ap}
-use Rattle.std.specs.Prelude.{IfSome}
+use Rattle.std.proofs.Common.{◌≡◌, ◌∙◌, ◌+◌, ℕ, List, Ok, subst, sym, ap}
 use Rattle.uf_edge.specs.Host.{HostTold, TakesFolder}
 use Rattle.uf_lenient.specs.Denoted.{denotes_within}
 use Rattle.uf_lenient.specs.Steps.{Surveys}
 use Rattle.uf_store.specs.Contents.{held_at}
-use Rattle.uf_host.specs.Getting.{Gets, HasRoom}
+use Rattle.uf_host.specs.Getting.{Gets}
 use Rattle.uf_host.specs.Places.{Puts, places_of}
 use Rattle.uf_host.proofs.Gotten.{gets-of}
 use Rattle.uf_host.proofs.Room.{room-takes}

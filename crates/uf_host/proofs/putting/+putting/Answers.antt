@@ -1,25 +1,22 @@
-use Rattle.std.proofs.Common.{◌≡◌, ◌∙◌, ◌+◌, ◌-◌, ◌++◌, ◌∷◌, ◌≤◌, List, ℕ, [], drop, Err, None, Ok, Some, ap, arith, length, refl, rules, subst, sym}
-use Rattle.std.specs.Prelude.{IfSome, IsTrue}
+use Rattle.std.proofs.Common.{◌≡◌, ◌∙◌, ◌+◌, ◌++◌, List, ℕ, drop, Err, Ok, ap, arith, refl, rules, subst, sym}
+use Rattle.std.specs.Prelude.{IsTrue}
 use Rattle.std.specs.FinMap.Entries.{is_sorted}
 use Rattle.std.proofs.lemmas.Result.{err_from_is_err_and}
 use Rattle.uf_cid.specs.declared.cid.Cid.{Cid}
-use Rattle.uf_edge.specs.Counts.{Counts}
-use Rattle.uf_edge.specs.Host.{HostTold, TakesFolder, front}
+use Rattle.uf_edge.specs.Host.{TakesFolder, front}
 use Rattle.uf_lenient.specs.Answers.{FollowsReading}
 use Rattle.uf_lenient.specs.Denoted.{denotes_within}
 use Rattle.uf_lenient.specs.Reading.{shallow_of}
 use Rattle.uf_lenient.specs.Steps.{IsInOrder}
 use Rattle.uf_lenient.specs.declared.shapes.Shape.{Shape}
 use Rattle.uf_store.proofs.Calls.{reads-reads}
-use Rattle.uf_store.specs.Calls.{OnlyReads}
-use Rattle.uf_store.specs.Contents.{Contents, Told, held_at}
-use Rattle.uf_store.specs.Faults.{NoneIsBad}
+use Rattle.uf_store.specs.Contents.{held_at}
 use Rattle.uf_tree.specs.Names.{is_name, names_cmp}
 use Rattle.uf_tree.specs.Tree.{Tree}
 use Rattle.uf_host.specs.Places.{ChangesAt, Puts, places_of}
 use Rattle.uf_host.proofs.Members.{PutSome, Went, at_drop, past_drop, some-all, some-kept, some-more, some-next, some-none, some-stopped, went-in, went-more, went-none, went-stopped, went-takes}
 use Rattle.uf_host.proofs.Puttings.{empty-made}
-use Rattle.uf_host.proofs.Written.{file-puts, folder-changes, folder-puts, folder-there, host-shown, host-stops, no-room, puts-stopped, says-of, shape-stops}
+use Rattle.uf_host.proofs.Written.{file-puts, folder-changes, folder-puts, folder-there, no-room, puts-stopped, says-of, shape-stops}
 use Rattle.uf_host.proofs.putting.+putting.Goals as goal
 
 pub put_members-loop-way-init : goal.put_members-loop-way-init
@@ -167,14 +164,14 @@ put_tree-put_members-requires g t c κs within =
 pub put_tree-returns-in-File-clause-puts : goal.put_tree-returns-in-File-clause-puts
 put_tree-returns-in-File-clause-puts g t c = λ t tree tells is.
     let says = says-of (g.S.Store.seen c.args.store.now).told t (λ t. FollowsReading (λ (s : Shape). s) (shallow_of (held_at t) c.args.export.now.limits c.args.cid.now) (Ok c.in_ok-shallow.field-0)) tells c.in_ok-shallow.ensures.says in
-    file-puts (held_at t) c.args.export.now.limits c.args.room c.args.cid.now tree c.in_ok-shallow.field-0 c.args.path.now (g.W.Host.tree c.args.host.now) (g.W.Host.tree c.put_file.new.host) c.put_file.result (let some = c.if-room-eq0.false in omega arith) is says c.in-File.is
+    file-puts (held_at t) c.args.export.now.limits c.args.room c.args.cid.now tree c.in_ok-shallow.field-0 c.in-File.field-0 c.args.path.now (g.W.Host.tree c.args.host.now) (g.W.Host.tree c.put_file.new.host) c.put_file.result (let some = c.if-room-eq0.false in omega arith) is says c.in-File.is
     (λ bytes file. c.put_file.ensures.puts t bytes (c.in_ok-shallow.ensures.told ∙ tells) file)
 
 pub put_tree-returns-in_ok-make_folder-in-Folder-clause-puts :
     goal.put_tree-returns-in_ok-make_folder-in-Folder-clause-puts
 put_tree-returns-in_ok-make_folder-in-Folder-clause-puts g t c = λ t tree tells is.
     let says = says-of (g.S.Store.seen c.args.store.now).told t (λ t. FollowsReading (λ (s : Shape). s) (shallow_of (held_at t) c.args.export.now.limits c.args.cid.now) (Ok c.in_ok-shallow.field-0)) tells c.in_ok-shallow.ensures.says in
-    let f = folder-there (held_at t) c.args.export.now.limits c.args.room c.args.cid.now tree c.in_ok-shallow.field-0 c.in-Folder.ways c.as_slice.result.now (let some = c.if-room-eq0.false in omega arith) is says c.in-Folder.is c.as_slice.ensures in
+    let f = folder-there (held_at t) c.args.export.now.limits c.args.room c.args.cid.now tree c.in_ok-shallow.field-0 c.in-Folder.field-0 c.in-Folder.ways c.as_slice.result.now (let some = c.if-room-eq0.false in omega arith) is says c.in-Folder.is c.as_slice.ensures in
     subst (λ (u : Tree). Puts (places_of c.args.path.now u) (g.W.Host.tree c.args.host.now) (g.W.Host.tree c.put_members.new.host) c.put_members.result) f.is
     (folder-puts c.args.path.now f.es (g.W.Host.tree c.args.host.now) (g.W.Host.tree c.make_folder.new.host) (g.W.Host.tree c.put_members.new.host) c.put_members.result c.in_ok-make_folder-in-Folder.ensures.makes
     (c.put_members.ensures.puts t f.es (c.in_ok-shallow.ensures.told ∙ tells) f.denoted))

@@ -1,4 +1,4 @@
-use Rattle.std.proofs.Common.{◌≡◌, ◌∙◌, rules, sym}
+use Rattle.std.proofs.Common.{◌∙◌}
 use Rattle.uf_store.specs.Contents.{held_at}
 use Rattle.uf_host.proofs.putting.put_file.Goals as goal
 

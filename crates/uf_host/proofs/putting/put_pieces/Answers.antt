@@ -1,12 +1,9 @@
-use Rattle.std.proofs.Common.{◌≡◌, ◌∙◌, List, ℕ, [], Err, None, Ok, Some, ap, refl, rules, subst, sym}
+use Rattle.std.proofs.Common.{◌≡◌, ◌∙◌, List, ℕ, Err, None, Ok, ap, refl, rules, subst, sym}
 use Rattle.std.specs.Prelude.{IfSome, Option}
 use Rattle.std.proofs.lemmas.Result.{err_from_is_err_and}
-use Rattle.uf_edge.specs.Counts.{Counts}
 use Rattle.uf_lenient.specs.Steps.{IsNextPiece}
 use Rattle.uf_store.proofs.Calls.{reads-reads}
-use Rattle.uf_store.specs.Calls.{OnlyReads}
-use Rattle.uf_store.specs.Contents.{Contents, held_at}
-use Rattle.uf_store.specs.Faults.{NoneIsBad}
+use Rattle.uf_store.specs.Contents.{held_at}
 use Rattle.uf_host.specs.Places.{AppendsPiece}
 use Rattle.uf_host.proofs.FilePuts.{made-changes, made-takes, so-far-all, so-far-fault, so-far-more, so-far-none, so-far-stopped, stopped-changes}
 use Rattle.uf_host.proofs.Written.{host-shown, reading-shown}

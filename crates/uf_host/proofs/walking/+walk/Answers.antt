@@ -6,8 +6,10 @@ use Rattle.uf_shard.specs.Answers.{Gives}
 use Rattle.uf_store.specs.Keeping.{Holds}
 use Rattle.uf_store.proofs.Calls.{saves-saves}
 use Rattle.uf_shard.proofs.Saves.{saves-none}
+use Rattle.uf_tree.specs.Metas.{none}
 use Rattle.uf_tree.specs.Names.{is_name}
 use Rattle.uf_tree.specs.Nodes.{Named}
+use Rattle.uf_tree.specs.declared.meta.Meta.{Meta}
 use Rattle.uf_tree.specs.declared.nodes.Entry.{Entry}
 use Rattle.uf_tree.specs.DirPlan.{own_plan}
 use Rattle.uf_tree.specs.TreePlan.{dir_refusal}
@@ -75,7 +77,8 @@ add_folder-returns-in_err-entry-clause-adds g t c =
     let one : c.args.levels ≡ suc below = omega (arith, c.if-levels-eq0.false) in
     rw (out.1, out.2) (folder-refused X N p a host c.args.levels below site names rows rows_now l why one c.requires.folder c.in_ok-names.ensures.names
     (subst (λ (h : HostTold). IsOfMembers X N p a h below site names rows rows_now l) c.in_ok-names.ensures.told c.in_ok-pairs.ensures.adds)
-    (subst (λ (q : Profile). Gives (dir_refusal X N q l) (own_plan X N q l).entry (Err why)) c.in_ok-pairs.ensures.profile c.in_err-entry.ensures.answer))
+    (subst (λ (q : Profile). Gives (dir_refusal X N q none l) (own_plan X N q none l).entry (Err why)) c.in_ok-pairs.ensures.profile
+    (subst (λ (m : Meta). Gives (dir_refusal X N c.add_members.new.import.profile m l) (own_plan X N c.add_members.new.import.profile m l).entry (Err why)) c.none-bare.ensures c.in_err-entry.ensures.answer)))
 
 pub add_folder-returns-in_err-entry-clause-saves : goal.add_folder-returns-in_err-entry-clause-saves
 add_folder-returns-in_err-entry-clause-saves g t c =
@@ -93,8 +96,10 @@ add_folder-returns-clause-adds g t c =
     let one : c.args.levels ≡ suc below = omega (arith, c.if-levels-eq0.false) in
     folder-below X N p a b host c.args.levels below site names rows rows_now l e one c.requires.folder c.in_ok-names.ensures.names c.in_ok-entry.ensures.good
     (subst (λ (h : HostTold). IsOfMembers X N p a h below site names rows rows_now l) c.in_ok-names.ensures.told c.in_ok-pairs.ensures.adds)
-    (subst (λ (q : Profile). Gives (dir_refusal X N q l) (own_plan X N q l).entry (Ok e)) c.in_ok-pairs.ensures.profile c.in_ok-entry.ensures.answer)
-    (subst (λ (q : Profile). Holds b (own_plan X N q l).blocks) c.in_ok-pairs.ensures.profile c.in_ok-entry.ensures.held)
+    (subst (λ (q : Profile). Gives (dir_refusal X N q none l) (own_plan X N q none l).entry (Ok e)) c.in_ok-pairs.ensures.profile
+    (subst (λ (m : Meta). Gives (dir_refusal X N c.add_members.new.import.profile m l) (own_plan X N c.add_members.new.import.profile m l).entry (Ok e)) c.none-bare.ensures c.in_ok-entry.ensures.answer))
+    (subst (λ (q : Profile). Holds b (own_plan X N q none l).blocks) c.in_ok-pairs.ensures.profile
+    (subst (λ (m : Meta). Holds b (own_plan X N c.add_members.new.import.profile m l).blocks) c.none-bare.ensures c.in_ok-entry.ensures.held))
 
 pub add_folder-returns-clause-saves : goal.add_folder-returns-clause-saves
 add_folder-returns-clause-saves g t c = saves-saves {f = None} c.in_ok-pairs.ensures.saves

@@ -5,6 +5,6 @@ use Rattle.uf_laws.proofs.laws.a_trail_is_among_the_blocks.Goals as goal
 
 pub returns : goal.returns
 returns c = record {
-  holds = λ X N p l name held. trail-among X N (λ b. held b.0 ≡ Some b.1) p l name;
-  agrees = λ X N p l name held. trail-among X N (λ b. IfSome (held b.0) (λ found. found ≡ b.1)) p l name;
+  holds = λ X N p m l name held. trail-among X N (λ b. held b.0 ≡ Some b.1) p m l name;
+  agrees = λ X N p m l name held. trail-among X N (λ b. IfSome (held b.0) (λ found. found ≡ b.1)) p m l name;
 }

@@ -10,8 +10,8 @@ use Rattle.uf_tree.specs.Nodes.{file_block, dir_block, bitfield, shard_block}
 use Rattle.uf_tree.specs.FilePlan.{file_plan}
 use Rattle.uf_tree.specs.ShardPlan.{shard, twins}
 use Rattle.uf_tree.specs.TreePlan.{planned}
-use Rattle.uf_tree.specs.Heads.{head_text}
+use Rattle.uf_tree.specs.Heads.{text_in}
 
 pub returns : goal.returns
-unfolding sha256 compress rounds hash_after digest_bytes schedule first_words base32 varint node_bytes murmur3 message_bytes file_block dir_block bitfield shard_block file_plan shard twins planned head_text
+unfolding sha256 compress rounds hash_after digest_bytes schedule first_words base32 varint node_bytes murmur3 message_bytes file_block dir_block bitfield shard_block file_plan shard twins planned text_in
 returns c = refl

@@ -1,7 +1,7 @@
 use Rattle.std.proofs.Common.{Ok, subst}
 use Rattle.std.proofs.lemmas.Result.{err_from_is_err_and}
 use Rattle.uf_store.specs.Lost.{IsLossOf}
-use Rattle.uf_tree.specs.Tree.{Dir, File}
+use Rattle.uf_tree.specs.Tree.{Dir}
 use Rattle.uf_plain.specs.Edits.{at}
 use Rattle.uf_plain.specs.Needs.{way}
 use Rattle.uf_mfs.specs.Answers.{MeetsOr}
@@ -13,7 +13,7 @@ pub returns-in_err-entry-clause-looks : goal.returns-in_err-entry-clause-looks
 returns-in_err-entry-clause-looks g c = λ p es s stood.
     let X = g.S.X.BlockHash.block32 in let N = g.N.NameHash.name64 in let told = (g.S.Store.seen c.args.store.now).told in
     let out = err_from_is_err_and c.from_residual.result c.from_residual.ensures.1 in
-    rw (out.1, out.2) (file-err (IsLossOf told (way X N p c.args.names.now (Dir es))) (λ t x. IsAgreedThing X N told p t x) (λ bytes e. IsAgreed X N told p e (File bytes)) (at 0 c.args.names.now (Dir es)) _ c.in_err-entry.field-0.0
+    rw (out.1, out.2) (file-err (IsLossOf told (way X N p c.args.names.now (Dir es))) (λ t x. IsAgreedThing X N told p t x) (λ t e. IsAgreed X N told p e t) (at 0 c.args.names.now (Dir es)) _ c.in_err-entry.field-0.0
     (c.in_err-entry.ensures.looks p (Dir es) (s, tt) stood))
 
 pub returns-in-File-clause-looks : goal.returns-in-File-clause-looks
@@ -27,5 +27,5 @@ pub returns-in-Folder-clause-looks : goal.returns-in-Folder-clause-looks
 returns-in-Folder-clause-looks g c = λ p es s stood.
     let X = g.S.X.BlockHash.block32 in let N = g.N.NameHash.name64 in let told = (g.S.Store.seen c.args.store.now).told in
     let May = IsLossOf told (way X N p c.args.names.now (Dir es)) in
-    file-folder X N told p May (λ bytes e. IsAgreed X N told p e (File bytes)) (at 0 c.args.names.now (Dir es)) _ c.in-Folder.field-0 _
+    file-folder X N told p May (λ t e. IsAgreed X N told p e t) (at 0 c.args.names.now (Dir es)) _ c.in-Folder.field-0 _
     (subst (λ x. MeetsOr May (λ t x. IsAgreedThing X N told p t x) (at 0 c.args.names.now (Dir es)) (Ok x)) c.in-Folder.is (c.in_ok-entry.ensures.looks p (Dir es) (s, tt) stood))

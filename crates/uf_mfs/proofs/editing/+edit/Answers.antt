@@ -1,140 +1,144 @@
 use Rattle.std.proofs.Common.{◌≡◌, ◌+◌, ◌-◌, ◌∷◌, ◌++◌, List, ℕ, Option, Err, sym, None, Some, drop, length, subst, take, ◌*◌, ◌≤◌, Result, arith}
 use Rattle.std.proofs.lemmas.Result.{err_from_is_err_and}
-use Rattle.uf_plain.specs.Edits.{as_folder, change, child, edited}
-use Rattle.uf_mfs.specs.Standing.{IsAgreedMember, brought}
+use Rattle.uf_plain.specs.Edits.{as_folder, child, edited}
+use Rattle.uf_mfs.specs.Standing.{IsAgreedMember}
 use Rattle.uf_mfs.specs.Answers.{EditsAfter}
 use Rattle.uf_mfs.specs.declared.thing.Thing.{Thing}
 use Rattle.uf_mfs.specs.declared.fault.Stop.TheVariants as stop
 use Rattle.uf_plain.specs.Rules.{allowed}
 use Rattle.uf_tree.specs.Tree.{Dir, Entries, Tree}
 use Rattle.uf_plain.specs.declared.rule.Refused.{Refused}
-use Rattle.uf_mfs.specs.Touches.{TouchesFolder, crossings_of, weighing_of}
-use Rattle.uf_mfs.proofs.Touching.{folder-leads, put-touches, stopped-touches, touches-by}
+use Rattle.uf_mfs.specs.Touches.{TouchesFolder, crossings_of}
+use Rattle.uf_mfs.proofs.Touching.{put-touches, stopped-touches, touches-by}
 use Rattle.uf_tree.specs.TreePlan.{blocks}
 use Rattle.uf_mfs.specs.Steps.{EditsFolder}
 use Rattle.uf_store.proofs.Calls.{reads-saves, saves-by, saves-saves}
 use Rattle.uf_mfs.proofs.Filling.{agreed-beside, agreed-over}
-use Rattle.uf_mfs.proofs.Folders.{brought-good, folder-stops, folder-there, member-stops, over-first, path-put, path-stopped, read-over}
+use Rattle.uf_mfs.proofs.Folders.{folder-stops, folder-there, member-stops, over-first, path-put, path-stopped, read-over}
 use Rattle.uf_mfs.proofs.Meeting.{first-rest, no-names}
 use Rattle.uf_mfs.specs.Bad.{IsBadInTree}
-use Rattle.uf_mfs.proofs.Judging.{bad-below, folder-required, tree-more}
+use Rattle.uf_mfs.proofs.Judging.{folder-required, tree-more}
+use Rattle.uf_mfs.specs.Acts.{act_brought, act_touches, acted}
+use Rattle.uf_mfs.proofs.Acting.{act-below, act-good, act-leads, act-way}
 use Rattle.uf_mfs.proofs.editing.+edit.Goals as goal
 
 pub returns-in_err-entry-clause-edits : goal.returns-in_err-entry-clause-edits
 returns-in_err-entry-clause-edits g t c = λ u meant.
-    let X = g.S.X.BlockHash.block32 in let N = g.N.NameHash.name64 in let p = c.args.site.profile in let name = c.args.name.now in let what = c.args.site.what in let led = c.args.site.led in
+    let X = g.S.X.BlockHash.block32 in let N = g.N.NameHash.name64 in let p = c.args.site.now.profile in let name = c.args.name.now in let what = c.args.site.now.what in let piece = c.args.site.now.piece.now in let led = c.args.site.now.led in
     let a = g.S.Store.seen c.args.store.now in let b = g.S.Store.seen c.member.new.store in let e = g.S.Store.seen c.edit.new.store in
     let found = reads-saves {f = None} c.in_ok-found.ensures.reads in
     let more = take (length c.args.rest.now - 1) (drop 1 c.args.rest.now) in
     let names : c.next-item.result ∷ more ≡ c.args.rest.now = first-rest c.args.rest.now c.next-item.result c.in-len1-up.len_at_least c.next-item.is in
     let out = err_from_is_err_and c.from_residual-in_err-entry.result c.from_residual-in_err-entry.ensures.1 in
-    rw (out.1, out.2) (subst (λ l. EditsFolder X N p a e (brought X N p what u) c.args.folder.now (edited (change what u) led name l) (Err c.in_err-entry.field-0.0)) names
-    (path-stopped X N p c.args.folder.now c.in_ok-below.below (brought X N p what u) name (λ es. as_folder (led + 1) (child name es)) (edited (change what u) (led + 1) c.next-item.result more) c.in_err-entry.field-0.0 (brought-good X N p what u)
+    rw (out.1, out.2) (subst (λ l. EditsFolder X N p a e (act_brought X N p what u) c.args.folder.now (edited (acted p what piece u) led name l) (Err c.in_err-entry.field-0.0)) names
+    (path-stopped X N p c.args.folder.now c.in_ok-below.below (act_brought X N p what u) name (λ es. as_folder (led + 1) (child name es)) (edited (acted p what piece u) (led + 1) c.next-item.result more) c.in_err-entry.field-0.0 (act-good X N p what u)
     found (folder-there X N p (led + 1) c.args.folder.now c.in_ok-below.below name found (λ es o. c.in_ok-below.ensures.decides X N a.told p (child name es) (c.in_ok-found.ensures.member p es (agreed-over X N p c.args.folder.now es o) o.calm.faults)))
     c.in_err-entry.ensures.saves (c.in_err-entry.ensures.edits u meant)))
 
 pub returns-clause-edits : goal.returns-clause-edits
 returns-clause-edits g t c = λ u meant.
-    let X = g.S.X.BlockHash.block32 in let N = g.N.NameHash.name64 in let p = c.args.site.profile in let name = c.args.name.now in let what = c.args.site.what in let led = c.args.site.led in
+    let X = g.S.X.BlockHash.block32 in let N = g.N.NameHash.name64 in let p = c.args.site.now.profile in let name = c.args.name.now in let what = c.args.site.now.what in let piece = c.args.site.now.piece.now in let led = c.args.site.now.led in
     let a = g.S.Store.seen c.args.store.now in let b = g.S.Store.seen c.member.new.store in let d = g.S.Store.seen c.put_in.new.store in
     let found = reads-saves {f = None} c.in_ok-found.ensures.reads in
     let more = take (length c.args.rest.now - 1) (drop 1 c.args.rest.now) in
     let names : c.next-item.result ∷ more ≡ c.args.rest.now = first-rest c.args.rest.now c.next-item.result c.in-len1-up.len_at_least c.next-item.is in
-    subst (λ l. EditsFolder X N p a d (brought X N p what u) c.args.folder.now (edited (change what u) led name l) c.put_in.result) names
-    (path-put X N p c.args.folder.now c.in_ok-below.below c.in_ok-entry.entry (brought X N p what u) name (λ es. as_folder (led + 1) (child name es)) (edited (change what u) (led + 1) c.next-item.result more) c.put_in.result (brought-good X N p what u)
+    subst (λ l. EditsFolder X N p a d (act_brought X N p what u) c.args.folder.now (edited (acted p what piece u) led name l) c.put_in.result) names
+    (path-put X N p c.args.folder.now c.in_ok-below.below c.in_ok-entry.entry (act_brought X N p what u) name (λ es. as_folder (led + 1) (child name es)) (edited (acted p what piece u) (led + 1) c.next-item.result more) c.put_in.result (act-good X N p what u)
     found (folder-there X N p (led + 1) c.args.folder.now c.in_ok-below.below name found (λ es o. c.in_ok-below.ensures.decides X N a.told p (child name es) (c.in_ok-found.ensures.member p es (agreed-over X N p c.args.folder.now es o) o.calm.faults)))
     c.in_ok-entry.ensures.saves (c.in_ok-entry.ensures.edits u meant) c.put_in.ensures.saves c.put_in.ensures.edits)
 
 pub returns-clause-saves : goal.returns-clause-saves
-returns-clause-saves g t c = saves-saves (saves-saves (reads-saves {f = None} c.in_ok-found.ensures.reads) c.in_ok-entry.ensures.saves) c.put_in.ensures.saves
+returns-clause-saves g t c = saves-saves (saves-saves (reads-saves {f = None} c.in_ok-found.ensures.reads) c.in_ok-entry.ensures.saves)
+    (act-way g.S.X.BlockHash.block32 g.N.NameHash.name64 c.args.site.now.profile (g.S.Store.seen c.put_in.new.store).told c.args.folder.now.cid c.args.site.now.what c.put_in.ensures.saves)
 
 pub returns-in_err-found-clause-saves : goal.returns-in_err-found-clause-saves
 returns-in_err-found-clause-saves g t c =
-    let X = g.S.X.BlockHash.block32 in let N = g.N.NameHash.name64 in let p = c.args.site.profile in
+    let X = g.S.X.BlockHash.block32 in let N = g.N.NameHash.name64 in let p = c.args.site.now.profile in
     let out = err_from_is_err_and c.from_residual.result c.from_residual.ensures.1 in
-    rw (out.1, out.2) (saves-by (IsBadInTree X N (Some p) c.args.folder.now.cid) (tree-more X N p c.args.folder.now.cid) (reads-saves c.in_err-found.ensures.reads))
+    rw (out.1, out.2) (act-way X N p (g.S.Store.seen c.member.new.store).told c.args.folder.now.cid c.args.site.now.what
+    (saves-by (IsBadInTree X N (Some p) c.args.folder.now.cid) (tree-more X N p c.args.folder.now.cid) (reads-saves c.in_err-found.ensures.reads)))
 
 pub returns-in_err-found-clause-edits : goal.returns-in_err-found-clause-edits
 returns-in_err-found-clause-edits g t c = λ u meant es o.
-    let X = g.S.X.BlockHash.block32 in let N = g.N.NameHash.name64 in let p = c.args.site.profile in let name = c.args.name.now in let what = c.args.site.what in let led = c.args.site.led in
+    let X = g.S.X.BlockHash.block32 in let N = g.N.NameHash.name64 in let p = c.args.site.now.profile in let name = c.args.name.now in let what = c.args.site.now.what in let piece = c.args.site.now.piece.now in let led = c.args.site.now.led in
     let a = g.S.Store.seen c.args.store.now in let b = g.S.Store.seen c.member.new.store in
     let out = err_from_is_err_and c.from_residual.result c.from_residual.ensures.1 in
-    rw (out.1, out.2) (member-stops X N p a.told b.told (brought X N p what u) (λ (m : Option Tree) (x : Option Thing). IsAgreedMember X N a.told p m x) (child name es) name es (allowed X N p (edited (change what u) led name c.args.rest.now es)) c.in_err-found.field-0.0
-    (c.in_err-found.ensures.member p es (agreed-beside X N p (brought X N p what u) c.args.folder.now es o) o.calm.faults))
+    rw (out.1, out.2) (member-stops X N p a.told b.told (act_brought X N p what u) (λ (m : Option Tree) (x : Option Thing). IsAgreedMember X N a.told p m x) (child name es) name es (allowed X N p (edited (acted p what piece u) led name c.args.rest.now es)) c.in_err-found.field-0.0
+    (c.in_err-found.ensures.member p es (agreed-beside X N p (act_brought X N p what u) c.args.folder.now es o) o.calm.faults))
 
 pub returns-in_default-clause-edits : goal.returns-in_default-clause-edits
 returns-in_default-clause-edits g t c = λ u meant es o.
-    let X = g.S.X.BlockHash.block32 in let N = g.N.NameHash.name64 in let p = c.args.site.profile in let name = c.args.name.now in let what = c.args.site.what in let led = c.args.site.led in
+    let X = g.S.X.BlockHash.block32 in let N = g.N.NameHash.name64 in let p = c.args.site.now.profile in let name = c.args.name.now in let what = c.args.site.now.what in let piece = c.args.site.now.piece.now in let led = c.args.site.now.led in
     let a = g.S.Store.seen c.args.store.now in let b = g.S.Store.seen c.member.new.store in
-    let d = g.S.Store.seen c.edit_here.new.store in let more = brought X N p what u in
+    let d = g.S.Store.seen c.edit_here.new.store in let more = act_brought X N p what u in
     let first = over-first X N p (reads-saves {f = None} c.in_ok-found.ensures.reads) c.edit_here.ensures.saves more c.args.folder.now es o in
     let member = c.in_ok-found.ensures.member p es (agreed-beside X N p more c.args.folder.now es first) first.calm.faults in
     let same = c.in_ok-found.ensures.reads.told in
-    subst (λ (l : List (List ℕ)). EditsAfter X N a.told d.told (more ++ blocks X N p (Dir es)) p (allowed X N p (edited (change what u) led name l es)) c.edit_here.result) (no-names c.args.rest.now c.in_default.len_below)
-    (subst (λ told. EditsAfter X N told d.told (more ++ blocks X N p (Dir es)) p (allowed X N p (change what u (led + 1) name es)) c.edit_here.result) same
+    subst (λ (l : List (List ℕ)). EditsAfter X N a.told d.told (more ++ blocks X N p (Dir es)) p (allowed X N p (edited (acted p what piece u) led name l es)) c.edit_here.result) (no-names c.args.rest.now c.in_default.len_below)
+    (subst (λ told. EditsAfter X N told d.told (more ++ blocks X N p (Dir es)) p (allowed X N p (acted p what piece u (led + 1) name es)) c.edit_here.result) same
     (c.edit_here.ensures.edits u es meant (subst (λ told. IsAgreedMember X N told p (child name es) c.in_ok-found.found) (sym same) member) (read-over X N p more c.args.folder.now es c.in_ok-found.ensures.reads o)))
 
 pub returns-in_err-below-clause-edits : goal.returns-in_err-below-clause-edits
 returns-in_err-below-clause-edits g t c = λ u meant es o.
-    let X = g.S.X.BlockHash.block32 in let N = g.N.NameHash.name64 in let p = c.args.site.profile in let name = c.args.name.now in let what = c.args.site.what in let led = c.args.site.led in
+    let X = g.S.X.BlockHash.block32 in let N = g.N.NameHash.name64 in let p = c.args.site.now.profile in let name = c.args.name.now in let what = c.args.site.now.what in let piece = c.args.site.now.piece.now in let led = c.args.site.now.led in
     let a = g.S.Store.seen c.args.store.now in let b = g.S.Store.seen c.member.new.store in
     let more = take (length c.args.rest.now - 1) (drop 1 c.args.rest.now) in
     let names : c.next-item.result ∷ more ≡ c.args.rest.now = first-rest c.args.rest.now c.next-item.result c.in-len1-up.len_at_least c.next-item.is in
-    let old = brought X N p what u ++ blocks X N p (Dir es) in
-    let member = c.in_ok-found.ensures.member p es (agreed-beside X N p (brought X N p what u) c.args.folder.now es o) o.calm.faults in
+    let old = act_brought X N p what u ++ blocks X N p (Dir es) in
+    let member = c.in_ok-found.ensures.member p es (agreed-beside X N p (act_brought X N p what u) c.args.folder.now es o) o.calm.faults in
     let out = err_from_is_err_and c.from_residual-in_err-below.result c.from_residual-in_err-below.ensures.1 in
-    rw (out.1, out.2) (subst (λ l. EditsAfter X N a.told b.told old p (allowed X N p (edited (change what u) led name l es)) (Err (stop.Refused c.in_err-below.field-0.0))) names
-    (folder-stops X N p a.told b.told old name es (as_folder (led + 1) (child name es)) (edited (change what u) (led + 1) c.next-item.result more) c.in_err-below.field-0.0
+    rw (out.1, out.2) (subst (λ l. EditsAfter X N a.told b.told old p (allowed X N p (edited (acted p what piece u) led name l es)) (Err (stop.Refused c.in_err-below.field-0.0))) names
+    (folder-stops X N p a.told b.told old name es (as_folder (led + 1) (child name es)) (edited (acted p what piece u) (led + 1) c.next-item.result more) c.in_err-below.field-0.0
     (c.in_err-below.ensures.decides X N a.told p (child name es) member)))
 
 pub returns-in_default-clause-touches : goal.returns-in_default-clause-touches
-returns-in_default-clause-touches g t c = λ u meant es o.
-    let X = g.S.X.BlockHash.block32 in let N = g.N.NameHash.name64 in let p = c.args.site.profile in let name = c.args.name.now in let what = c.args.site.what in let led = c.args.site.led in
+returns-in_default-clause-touches g t c = λ u rows meant heights es o.
+    let X = g.S.X.BlockHash.block32 in let N = g.N.NameHash.name64 in let p = c.args.site.now.profile in let name = c.args.name.now in let what = c.args.site.now.what in let piece = c.args.site.now.piece.now in let led = c.args.site.now.led in
     let a = g.S.Store.seen c.args.store.now in let b = g.S.Store.seen c.member.new.store in
-    let more = brought X N p what u in
+    let more = act_brought X N p what u in
     let first = over-first X N p (reads-saves {f = None} c.in_ok-found.ensures.reads) c.edit_here.ensures.saves more c.args.folder.now es o in
     let member = c.in_ok-found.ensures.member p es (agreed-beside X N p more c.args.folder.now es first) first.calm.faults in
     let same = c.in_ok-found.ensures.reads.told in
-    let r = c.edit_here.ensures.touches u es meant (subst (λ told. IsAgreedMember X N told p (child name es) c.in_ok-found.found) (sym same) member) (read-over X N p more c.args.folder.now es c.in_ok-found.ensures.reads o) in
+    let r = c.edit_here.ensures.touches u rows es meant heights (subst (λ told. IsAgreedMember X N told p (child name es) c.in_ok-found.found) (sym same) member) (read-over X N p more c.args.folder.now es c.in_ok-found.ensures.reads o) in
     let t1 = c.in_ok-found.ensures.touches in
-    subst (λ (l : List (List ℕ)). c.edit_here.new.touches ≤ c.args.touches.now + (40 * (length l + 1) + crossings_of X N p (name ∷ l) es (edited (change what u) led name l es) + weighing_of X N p what (name ∷ l) es)) (no-names c.args.rest.now c.in_default.len_below)
+    subst (λ (l : List (List ℕ)). c.edit_here.new.touches ≤ c.args.touches.now + (40 * (length l + 1) + crossings_of X N p (name ∷ l) es (edited (acted p what piece u) led name l es) + act_touches X N p rows what piece (name ∷ l) es)) (no-names c.args.rest.now c.in_default.len_below)
     (omega (arith, r, t1))
 
 pub returns-in_err-entry-clause-touches : goal.returns-in_err-entry-clause-touches
-returns-in_err-entry-clause-touches g t c = λ u meant.
-    let X = g.S.X.BlockHash.block32 in let N = g.N.NameHash.name64 in let p = c.args.site.profile in let name = c.args.name.now in let what = c.args.site.what in let led = c.args.site.led in
+returns-in_err-entry-clause-touches g t c = λ u rows meant heights.
+    let X = g.S.X.BlockHash.block32 in let N = g.N.NameHash.name64 in let p = c.args.site.now.profile in let name = c.args.name.now in let what = c.args.site.now.what in let piece = c.args.site.now.piece.now in let led = c.args.site.now.led in
     let a = g.S.Store.seen c.args.store.now in let b = g.S.Store.seen c.member.new.store in
     let e = g.S.Store.seen c.edit.new.store in
     let found = reads-saves {f = None} c.in_ok-found.ensures.reads in let folder = c.args.folder.now in
     let more = take (length c.args.rest.now - 1) (drop 1 c.args.rest.now) in let next = c.next-item.result in
     let names : next ∷ more ≡ c.args.rest.now = first-rest c.args.rest.now next c.in-len1-up.len_at_least c.next-item.is in
-    let step : Entries → Result Entries Refused = (λ es. as_folder (led + 1) (child name es)) in let go = edited (change what u) (led + 1) next more in
+    let step : Entries → Result Entries Refused = (λ es. as_folder (led + 1) (child name es)) in let go = edited (acted p what piece u) (led + 1) next more in
     let t1 = c.in_ok-found.ensures.touches in
-    subst (λ (l : List (List ℕ)). TouchesFolder X N p a e (brought X N p what u) folder (λ es. 40 * (length l + 1) + crossings_of X N p (name ∷ l) es (edited (change what u) led name l es) + weighing_of X N p what (name ∷ l) es) c.args.touches.now c.edit.new.touches) names
-    (touches-by X N p (brought X N p what u) folder _ _ c.args.touches.now c.edit.new.touches (λ es. omega arith)
-    (stopped-touches X N p folder c.in_ok-below.below (brought X N p what u) name (next ∷ more) step go (weighing_of X N p what (next ∷ more)) (weighing_of X N p what (name ∷ next ∷ more)) (length more + 1) (brought-good X N p what u) (folder-leads X N p what (led + 1) name next more)
+    subst (λ (l : List (List ℕ)). TouchesFolder X N p a e (act_brought X N p what u) folder (λ es. 40 * (length l + 1) + crossings_of X N p (name ∷ l) es (edited (acted p what piece u) led name l es) + act_touches X N p rows what piece (name ∷ l) es) c.args.touches.now c.edit.new.touches) names
+    (touches-by X N p (act_brought X N p what u) folder _ _ c.args.touches.now c.edit.new.touches (λ es. omega arith)
+    (stopped-touches X N p folder c.in_ok-below.below (act_brought X N p what u) name (next ∷ more) step go (act_touches X N p rows what piece (next ∷ more)) (act_touches X N p rows what piece (name ∷ next ∷ more)) (length more + 1) (act-good X N p what u) (act-leads X N p rows what piece (led + 1) name next more)
     c.args.touches.now c.member.new.touches c.edit.new.touches (omega (arith, t1)) found (folder-there X N p (led + 1) folder c.in_ok-below.below name found (λ es o. c.in_ok-below.ensures.decides X N a.told p (child name es) (c.in_ok-found.ensures.member p es (agreed-over X N p folder es o) o.calm.faults)))
-    c.in_err-entry.ensures.saves (c.in_err-entry.ensures.touches u meant)))
+    c.in_err-entry.ensures.saves (c.in_err-entry.ensures.touches u rows meant heights)))
 
 pub returns-clause-touches : goal.returns-clause-touches
-returns-clause-touches g t c = λ u meant.
-    let X = g.S.X.BlockHash.block32 in let N = g.N.NameHash.name64 in let p = c.args.site.profile in let name = c.args.name.now in let what = c.args.site.what in let led = c.args.site.led in
+returns-clause-touches g t c = λ u rows meant heights.
+    let X = g.S.X.BlockHash.block32 in let N = g.N.NameHash.name64 in let p = c.args.site.now.profile in let name = c.args.name.now in let what = c.args.site.now.what in let piece = c.args.site.now.piece.now in let led = c.args.site.now.led in
     let a = g.S.Store.seen c.args.store.now in let b = g.S.Store.seen c.member.new.store in
     let d = g.S.Store.seen c.put_in.new.store in
     let found = reads-saves {f = None} c.in_ok-found.ensures.reads in let folder = c.args.folder.now in
     let more = take (length c.args.rest.now - 1) (drop 1 c.args.rest.now) in let next = c.next-item.result in
     let names : next ∷ more ≡ c.args.rest.now = first-rest c.args.rest.now next c.in-len1-up.len_at_least c.next-item.is in
-    let step : Entries → Result Entries Refused = (λ es. as_folder (led + 1) (child name es)) in let go = edited (change what u) (led + 1) next more in
+    let step : Entries → Result Entries Refused = (λ es. as_folder (led + 1) (child name es)) in let go = edited (acted p what piece u) (led + 1) next more in
     let t1 = c.in_ok-found.ensures.touches in
-    subst (λ (l : List (List ℕ)). TouchesFolder X N p a d (brought X N p what u) folder (λ es. 40 * (length l + 1) + crossings_of X N p (name ∷ l) es (edited (change what u) led name l es) + weighing_of X N p what (name ∷ l) es) c.args.touches.now c.put_in.new.touches) names
-    (touches-by X N p (brought X N p what u) folder _ _ c.args.touches.now c.put_in.new.touches (λ es. omega arith)
-    (put-touches X N p folder c.in_ok-below.below (brought X N p what u) name (next ∷ more) step go (weighing_of X N p what (next ∷ more)) (weighing_of X N p what (name ∷ next ∷ more)) (length more + 1) (brought-good X N p what u) (folder-leads X N p what (led + 1) name next more)
+    subst (λ (l : List (List ℕ)). TouchesFolder X N p a d (act_brought X N p what u) folder (λ es. 40 * (length l + 1) + crossings_of X N p (name ∷ l) es (edited (acted p what piece u) led name l es) + act_touches X N p rows what piece (name ∷ l) es) c.args.touches.now c.put_in.new.touches) names
+    (touches-by X N p (act_brought X N p what u) folder _ _ c.args.touches.now c.put_in.new.touches (λ es. omega arith)
+    (put-touches X N p folder c.in_ok-below.below (act_brought X N p what u) name (next ∷ more) step go (act_touches X N p rows what piece (next ∷ more)) (act_touches X N p rows what piece (name ∷ next ∷ more)) (length more + 1) (act-good X N p what u) (act-leads X N p rows what piece (led + 1) name next more)
     c.in_ok-entry.entry c.args.touches.now c.member.new.touches c.edit.new.touches c.put_in.new.touches (omega (arith, t1)) found (folder-there X N p (led + 1) folder c.in_ok-below.below name found (λ es o. c.in_ok-below.ensures.decides X N a.told p (child name es) (c.in_ok-found.ensures.member p es (agreed-over X N p folder es o) o.calm.faults)))
-    c.in_ok-entry.ensures.saves (c.in_ok-entry.ensures.edits u meant) (c.in_ok-entry.ensures.touches u meant) c.put_in.ensures.saves c.put_in.ensures.touches))
+    c.in_ok-entry.ensures.saves (c.in_ok-entry.ensures.edits u meant) (c.in_ok-entry.ensures.touches u rows meant heights) c.put_in.ensures.saves c.put_in.ensures.touches))
 
 pub returns-in_err-entry-clause-saves : goal.returns-in_err-entry-clause-saves
 returns-in_err-entry-clause-saves g t c =
-    let X = g.S.X.BlockHash.block32 in let N = g.N.NameHash.name64 in let p = c.args.site.profile in let folder = c.args.folder.now.cid in
+    let X = g.S.X.BlockHash.block32 in let N = g.N.NameHash.name64 in let p = c.args.site.now.profile in let folder = c.args.folder.now.cid in
     let out = err_from_is_err_and c.from_residual-in_err-entry.result c.from_residual-in_err-entry.ensures.1 in
     rw (out.1, out.2) (saves-saves (reads-saves {f = None} c.in_ok-found.ensures.reads)
-    (saves-by (IsBadInTree X N (Some p) folder) (bad-below X N (Some p) folder c.in_ok-below.below.cid (folder-required X N folder c.in_ok-found.found c.in_ok-below.below c.in_ok-below.ensures.folder c.in_ok-found.ensures.required)) c.in_err-entry.ensures.saves))
+    (act-below X N p (g.S.Store.seen c.edit.new.store).told folder c.in_ok-below.below.cid c.args.site.now.what ((folder-required X N folder c.in_ok-found.found c.in_ok-below.below c.in_ok-below.ensures.folder c.in_ok-found.ensures.required)) c.in_err-entry.ensures.saves))

@@ -1,4 +1,5 @@
 use Rattle.std.proofs.Common.{None, Ok, [], arith}
+use Rattle.uf_tree.specs.Metas.{none}
 use Rattle.uf_tree.specs.Tree.{Dir, Nothing}
 use Rattle.uf_tree.specs.TreePlan.{blocks}
 use Rattle.uf_plain.specs.Edits.{with_child}
@@ -17,9 +18,9 @@ returns-clause-edits g c = λ es o.
     let a = g.S.Store.seen c.args.store.now in let b = g.S.Store.seen c.empty.new.store in
     let made : OnlySaves X NoneIsBad None a b = record { cause = c.in_ok-new.ensures.cause; good = c.in_ok-new.ensures.good; saves = c.in_ok-new.ensures.saves } in
     let new = empty-after X N p a.told b.told (blocks X N p (Dir es)) (blocks X N p (Dir es)) c.in_ok-new.new o.plan.profile o.stays.first made.saves (c.in_ok-new.ensures.entry N p) (c.in_ok-new.ensures.held N p) in
-    let came = beside X N p made c.put_in.ensures.saves [] (blocks X N p (Dir Nothing)) folder es tt o new.after in
-    on-over X N p made c.put_in.ensures.saves [] _ folder es (allowed X N p (Ok (with_child c.args.name.now (Dir Nothing) es))) c.put_in.result o came
-    (c.put_in.ensures.edits (Dir Nothing) new.plan es (over-then X N p made c.put_in.ensures.saves [] (blocks X N p (Dir Nothing)) folder folder es es (are-good X N p (Dir Nothing)) o.plan o came))
+    let came = beside X N p made c.put_in.ensures.saves [] (blocks X N p (Dir (Nothing none))) folder es tt o new.after in
+    on-over X N p made c.put_in.ensures.saves [] _ folder es (allowed X N p (Ok (with_child c.args.name.now (Dir (Nothing none)) es))) c.put_in.result o came
+    (c.put_in.ensures.edits (Dir (Nothing none)) new.plan es (over-then X N p made c.put_in.ensures.saves [] (blocks X N p (Dir (Nothing none))) folder folder es es (are-good X N p (Dir (Nothing none))) o.plan o came))
 
 pub returns-clause-touches : goal.returns-clause-touches
 returns-clause-touches g c = λ es o.
@@ -27,8 +28,8 @@ returns-clause-touches g c = λ es o.
     let a = g.S.Store.seen c.args.store.now in let b = g.S.Store.seen c.empty.new.store in
     let made : OnlySaves X NoneIsBad None a b = record { cause = c.in_ok-new.ensures.cause; good = c.in_ok-new.ensures.good; saves = c.in_ok-new.ensures.saves } in
     let new = empty-after X N p a.told b.told (blocks X N p (Dir es)) (blocks X N p (Dir es)) c.in_ok-new.new o.plan.profile o.stays.first made.saves (c.in_ok-new.ensures.entry N p) (c.in_ok-new.ensures.held N p) in
-    let came = beside X N p made c.put_in.ensures.saves [] (blocks X N p (Dir Nothing)) folder es tt o new.after in
-    let r = c.put_in.ensures.touches (Dir Nothing) new.plan es (over-then X N p made c.put_in.ensures.saves [] (blocks X N p (Dir Nothing)) folder folder es es (are-good X N p (Dir Nothing)) o.plan o came) in
+    let came = beside X N p made c.put_in.ensures.saves [] (blocks X N p (Dir (Nothing none))) folder es tt o new.after in
+    let r = c.put_in.ensures.touches (Dir (Nothing none)) new.plan es (over-then X N p made c.put_in.ensures.saves [] (blocks X N p (Dir (Nothing none))) folder folder es es (are-good X N p (Dir (Nothing none))) o.plan o came) in
     let first = c.in_ok-new.ensures.touches in
     omega (arith, r, first)
 

@@ -9,13 +9,13 @@ returns-in_err-new-clause-edits g c = λ t new es o.
     let out = err_from_is_err_and c.from_residual.result c.from_residual.ensures.1 in
     rw out.1 (put-err g.S.X.BlockHash.block32 g.N.NameHash.name64 c.args.profile.now (record { size = g.met.S.X.BlockHash.size; are_bytes = g.met.S.X.BlockHash.are_bytes }) g.met.N.NameHash.fits
     _ _ c.args.folder.now es c.args.entry.now c.args.name.now t c.in_err-new.field-0.0 out.0 out.2 o.plan new o.stays
-    (λ l planned agrees. c.in_err-new.ensures.value l planned agrees o.calm.faults o.calm.clashes))
+    (λ m l planned agrees. c.in_err-new.ensures.value m l planned agrees o.calm.faults o.calm.clashes))
 
 pub returns-clause-edits : goal.returns-clause-edits
 returns-clause-edits g c = λ t new es o.
     put-done g.S.X.BlockHash.block32 g.N.NameHash.name64 c.args.profile.now (record { size = g.met.S.X.BlockHash.size; are_bytes = g.met.S.X.BlockHash.are_bytes }) g.met.N.NameHash.fits
     _ _ c.args.folder.now es c.args.entry.now c.args.name.now t c.in_ok-new.new c.names_are_good.ensures o.plan new c.in_ok-new.ensures.good o.stays
-    (λ l planned agrees. c.in_ok-new.ensures.value l planned agrees o.calm.faults o.calm.clashes) c.in_ok-new.ensures.after
+    (λ m l planned agrees. c.in_ok-new.ensures.value m l planned agrees o.calm.faults o.calm.clashes) c.in_ok-new.ensures.after
 
 pub returns-in_err-new-clause-saves : goal.returns-in_err-new-clause-saves
 returns-in_err-new-clause-saves g c =

@@ -22,7 +22,7 @@ returns-in_err-pairs-clause-rows g c = λ p es s stood.
     let X = g.S.X.BlockHash.block32 in let N = g.N.NameHash.name64 in let a = g.S.Store.seen c.args.store.now in
     let out = err_from_is_err_and c.from_residual.result c.from_residual.ensures.1 in let f = c.in_err-pairs.field-0.0 in
     rw (out.1, out.2) (loss-front a.told (own_needs X N p (Dir es)) (roots X N p (pairs es)) f (entries-says X N (record { size = g.met.S.X.BlockHash.size; are_bytes = g.met.S.X.BlockHash.are_bytes }) g.met.N.NameHash.fits a.told p c.args.folder.now es (Err f) s
-    (λ M p l i k. c.in_err-pairs.ensures.value M p l i k stood)))
+    (λ M p m l i k. c.in_err-pairs.ensures.value M p m l i k stood)))
 
 pub returns-in_err-pairs-clause-reads : goal.returns-in_err-pairs-clause-reads
 returns-in_err-pairs-clause-reads g c =
@@ -36,7 +36,7 @@ returns-clause-rows g c = λ p es s stood.
     let front = stood-front a.faults b.faults d.faults c.in_ok-pairs.ensures.cause.faults (shown-rises X IsBadRoot (fault_in c.rows_from.result) b d c.rows_from.ensures.reads.cause).faults stood in
     let back = stood-back a.faults b.faults d.faults c.in_ok-pairs.ensures.cause.faults stood in
     let is = entries-says X N (record { size = g.met.S.X.BlockHash.size; are_bytes = g.met.S.X.BlockHash.are_bytes }) g.met.N.NameHash.fits a.told p c.args.folder.now es (Ok c.in_ok-pairs.pairs) s
-    (λ M p l i k. c.in_ok-pairs.ensures.value M p l i k front) in
+    (λ M p m l i k. c.in_ok-pairs.ensures.value M p m l i k front) in
     let members = folder-members X N p b.told c.args.folder.now es (subst (λ told. IsAgreed X N told p c.args.folder.now (Dir es)) (sym c.in_ok-pairs.ensures.told) s) in
     reads-back a.told (own_needs X N p (Dir es)) (roots X N p (pairs es)) (rows X N p (pairs es)) c.rows_from.result
     (subst (λ told. ReadsOver told (roots X N p (pairs es)) (rows X N p (pairs es)) c.rows_from.result) c.in_ok-pairs.ensures.told
@@ -52,7 +52,7 @@ returns-clause-touches g c = λ p es s stood.
     let X = g.S.X.BlockHash.block32 in let N = g.N.NameHash.name64 in
     let a = g.S.Store.seen c.args.store.now in let b = g.S.Store.seen c.entries.new.store in let d = g.S.Store.seen c.rows_from.new.store in
     let front = stood-front a.faults b.faults d.faults c.in_ok-pairs.ensures.cause.faults (shown-rises X IsBadRoot (fault_in c.rows_from.result) b d c.rows_from.ensures.reads.cause).faults stood in
-    let is = entries-says X N (record { size = g.met.S.X.BlockHash.size; are_bytes = g.met.S.X.BlockHash.are_bytes }) g.met.N.NameHash.fits a.told p c.args.folder.now es (Ok c.in_ok-pairs.pairs) s (λ M p l i k. c.in_ok-pairs.ensures.value M p l i k front) in
+    let is = entries-says X N (record { size = g.met.S.X.BlockHash.size; are_bytes = g.met.S.X.BlockHash.are_bytes }) g.met.N.NameHash.fits a.told p c.args.folder.now es (Ok c.in_ok-pairs.pairs) s (λ M p m l i k. c.in_ok-pairs.ensures.value M p m l i k front) in
     let members = folder-members X N p b.told c.args.folder.now es (subst (λ told. IsAgreed X N told p c.args.folder.now (Dir es)) (sym c.in_ok-pairs.ensures.told) s) in
     let long = same-length X N p b.told c.as_slice.result.now (pairs es) (subst (λ l. AreMembers X N b.told p l (pairs es)) (sym (c.as_slice.ensures ∙ is)) members) in
     let r = entries-touches X N (record { size = g.met.S.X.BlockHash.size; are_bytes = g.met.S.X.BlockHash.are_bytes }) g.met.N.NameHash.fits a.told p c.args.folder.now es c.args.touches.now c.entries.new.touches s c.in_ok-pairs.ensures.touches in

@@ -14,13 +14,14 @@ use Rattle.uf_store.specs.Faults.{NoneIsBad}
 use Rattle.uf_mfs.specs.Bad.{IsBadInTree}
 use Rattle.uf_mfs.proofs.Judging.{root-bad}
 use Rattle.uf_mfs.proofs.looking.member.Goals as goal
+use Rattle.uf_tree.specs.Tree.{own_meta}
 
 pub returns-in_err-entry-clause-member : goal.returns-in_err-entry-clause-member
 returns-in_err-entry-clause-member g c = λ p es s stood.
     let X = g.S.X.BlockHash.block32 in let N = g.N.NameHash.name64 in let a = g.S.Store.seen c.args.store.now in
     let out = err_from_is_err_and c.from_residual.result c.from_residual.ensures.1 in let f = c.in_err-entry.field-0.0 in
-    rw (out.1, out.2) (loss-front a.told (trail X N p (named_entries X N p es) c.args.name.now) _ f
-    (find-says X N (record { size = g.met.S.X.BlockHash.size; are_bytes = g.met.S.X.BlockHash.are_bytes }) g.met.N.NameHash.fits a.told p c.args.folder.now es c.args.name.now (Err f) (Err f) refl s (λ p l i k. c.in_err-entry.ensures.value p l i k stood)))
+    rw (out.1, out.2) (loss-front a.told (trail X N p (own_meta es) (named_entries X N p es) c.args.name.now) _ f
+    (find-says X N (record { size = g.met.S.X.BlockHash.size; are_bytes = g.met.S.X.BlockHash.are_bytes }) g.met.N.NameHash.fits a.told p c.args.folder.now es c.args.name.now (Err f) (Err f) refl s (λ p m l i k. c.in_err-entry.ensures.value p m l i k stood)))
 
 pub returns-in_err-entry-clause-reads : goal.returns-in_err-entry-clause-reads
 returns-in_err-entry-clause-reads g c =
@@ -31,7 +32,7 @@ pub returns-in_default-clause-member : goal.returns-in_default-clause-member
 returns-in_default-clause-member g c = λ p es s stood.
     let X = g.S.X.BlockHash.block32 in let N = g.N.NameHash.name64 in let a = g.S.Store.seen c.args.store.now in
     member-none X N a.told p (child c.args.name.now es)
-    (find-says X N (record { size = g.met.S.X.BlockHash.size; are_bytes = g.met.S.X.BlockHash.are_bytes }) g.met.N.NameHash.fits a.told p c.args.folder.now es c.args.name.now (Ok c.in_ok-entry.field-0) (Ok None) (ap Ok c.in_default.is) s (λ p l i k. c.in_ok-entry.ensures.value p l i k stood))
+    (find-says X N (record { size = g.met.S.X.BlockHash.size; are_bytes = g.met.S.X.BlockHash.are_bytes }) g.met.N.NameHash.fits a.told p c.args.folder.now es c.args.name.now (Ok c.in_ok-entry.field-0) (Ok None) (ap Ok c.in_default.is) s (λ p m l i k. c.in_ok-entry.ensures.value p m l i k stood))
 
 pub returns-in_err-thing-clause-member : goal.returns-in_err-thing-clause-member
 returns-in_err-thing-clause-member g c = λ p es s stood.
@@ -41,7 +42,7 @@ returns-in_err-thing-clause-member g c = λ p es s stood.
     let front = stood-front a.faults b.faults d.faults c.in_ok-entry.ensures.cause.faults rises.faults stood in
     let back = stood-back a.faults b.faults d.faults c.in_ok-entry.ensures.cause.faults stood in
     let is = find-says X N (record { size = g.met.S.X.BlockHash.size; are_bytes = g.met.S.X.BlockHash.are_bytes }) g.met.N.NameHash.fits a.told p c.args.folder.now es c.args.name.now (Ok c.in_ok-entry.field-0) (Ok (Some c.in-Some.entry)) (ap Ok c.in-Some.is) s
-    (λ p l i k. c.in_ok-entry.ensures.value p l i k front) in
+    (λ p m l i k. c.in_ok-entry.ensures.value p m l i k front) in
     let out = err_from_is_err_and c.from_residual-in_err-thing.result c.from_residual-in_err-thing.ensures.1 in
     rw (out.1, out.2) (member-err X N a.told b.told p c.args.folder.now es c.args.name.now c.in-Some.entry c.in_err-thing.field-0.0 c.in_ok-entry.ensures.told s is
     (λ t i. c.in_err-thing.ensures.thing p t i back))
@@ -54,7 +55,7 @@ returns-clause-member g c = λ p es s stood.
     let front = stood-front a.faults b.faults d.faults c.in_ok-entry.ensures.cause.faults rises.faults stood in
     let back = stood-back a.faults b.faults d.faults c.in_ok-entry.ensures.cause.faults stood in
     let is = find-says X N (record { size = g.met.S.X.BlockHash.size; are_bytes = g.met.S.X.BlockHash.are_bytes }) g.met.N.NameHash.fits a.told p c.args.folder.now es c.args.name.now (Ok c.in_ok-entry.field-0) (Ok (Some c.in-Some.entry)) (ap Ok c.in-Some.is) s
-    (λ p l i k. c.in_ok-entry.ensures.value p l i k front) in
+    (λ p m l i k. c.in_ok-entry.ensures.value p m l i k front) in
     member-some X N a.told b.told p c.args.folder.now es c.args.name.now c.in-Some.entry c.in_ok-thing.thing c.in_ok-entry.ensures.told s is
     (λ t i. c.in_ok-thing.ensures.thing p t i back)
 

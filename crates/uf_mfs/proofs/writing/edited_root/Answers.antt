@@ -16,22 +16,22 @@ use Rattle.uf_mfs.proofs.writing.edited_root.Goals as goal
 
 pub returns-in_err-leads_to_file-clause-edits : goal.returns-in_err-leads_to_file-clause-edits
 returns-in_err-leads_to_file-clause-edits g c = λ es o.
-    let X = g.S.X.BlockHash.block32 in let N = g.N.NameHash.name64 in let p = c.args.site.now.profile in let names = c.args.names.now in
+    let X = g.S.X.BlockHash.block32 in let N = g.N.NameHash.name64 in let p = c.args.tree.now.profile in let names = c.args.names.now in
     let a = g.S.Store.seen c.args.store.now in let b = g.S.Store.seen c.leads_to_file.new.store in let f = c.in_err-leads_to_file.field-0.0 in
     let out = err_from_is_err_and c.from_residual.result c.from_residual.ensures.1 in
-    rw (out.1, out.2) (lost-edit X N p a.told b.told _ (allowed X N p (file_edited c.args.site.now.what c.args.site.now.piece.now 0 names es)) f
-    (loss-among a.told _ _ f (way-among X N p names (Dir es)) (c.in_err-leads_to_file.ensures.leads p es (agreed-over X N p c.args.root.now es o) o.calm.faults)))
+    rw (out.1, out.2) (lost-edit X N p a.told b.told _ (allowed X N p (file_edited c.args.what c.args.piece.now 0 names es)) f
+    (loss-among a.told _ _ f (way-among X N p names (Dir es)) (c.in_err-leads_to_file.ensures.leads p es (agreed-over X N p c.args.tree.now.root es o) o.calm.faults)))
 
 pub returns-in_err-leads_to_file-clause-saves : goal.returns-in_err-leads_to_file-clause-saves
 returns-in_err-leads_to_file-clause-saves g c =
-    let X = g.S.X.BlockHash.block32 in let N = g.N.NameHash.name64 in let p = c.args.site.now.profile in let root = c.args.root.now.cid in
+    let X = g.S.X.BlockHash.block32 in let N = g.N.NameHash.name64 in let p = c.args.tree.now.profile in let root = c.args.tree.now.root.cid in
     let out = err_from_is_err_and c.from_residual.result c.from_residual.ensures.1 in
     rw (out.1, out.2) (way-written X N p (g.S.Store.seen c.leads_to_file.new.store).told root (saves-by (IsBadInTree X N (Some p) root) (tree-more X N p root) (reads-saves c.in_err-leads_to_file.ensures.reads)))
 
 pub returns-then-branch-clause-edits : goal.returns-then-branch-clause-edits
 returns-then-branch-clause-edits g c = λ es o.
-    let X = g.S.X.BlockHash.block32 in let N = g.N.NameHash.name64 in let site = c.args.site.now in let p = site.profile in let names = c.args.names.now in
-    let there = c.in_ok-leads_to_file.ensures.leads p es (agreed-over X N p c.args.root.now es o) o.calm.faults in
-    same-folder X N p c.args.root.now es (file_edited site.what site.piece.now 0 names es)
-    (left-whole site.what site.piece.now names es (sym c.leaves.ensures ∙ c.if-leaves.true) o.plan.tree (sym there ∙ c.if-branch.true))
+    let X = g.S.X.BlockHash.block32 in let N = g.N.NameHash.name64 in let p = c.args.tree.now.profile in let names = c.args.names.now in
+    let there = c.in_ok-leads_to_file.ensures.leads p es (agreed-over X N p c.args.tree.now.root es o) o.calm.faults in
+    same-folder X N p c.args.tree.now.root es (file_edited c.args.what c.args.piece.now 0 names es)
+    (left-whole c.args.what c.args.piece.now names es (sym c.leaves.ensures ∙ c.if-leaves.true) o.plan.tree (sym there ∙ c.if-branch.true))
     (reads-saves c.in_ok-leads_to_file.ensures.reads) o

@@ -44,7 +44,7 @@ save_shard-returns-in_err-items-clause-touches g t c =
     let hash : List ℕ → List ℕ = g.S.X.BlockHash.block32 in
     let name : List ℕ → ℕ = g.N.NameHash.name64 in
     let each = subst (AreSlots hash name (7 - c.args.left) c.args.rows.now) (sym c.as_slice.ensures.value) c.in_ok-slots.ensures.rows in
-    let blocks = whole-blocks hash name c.args.left (7 - c.args.left) c.args.rows.now c.as_slice.result.now refl c.requires.rows each (tabulate 256 0 (item_at hash name c.args.left c.as_slice.result.now)) refl in
+    let blocks = whole-blocks hash name c.args.left (7 - c.args.left) c.args.rows.now c.as_slice.result.now refl c.requires.rows each c.args.meta.now (tabulate 256 0 (item_at hash name c.args.left c.as_slice.result.now)) refl in
     omega (arith, ap length blocks, c.save_slots.ensures.touches)
 
 pub save_shard-save_node-requires : goal.save_shard-save_node-requires
@@ -52,22 +52,25 @@ save_shard-save_node-requires g t c =
     let hash : List ℕ → List ℕ = g.S.X.BlockHash.block32 in
     let name : List ℕ → ℕ = g.N.NameHash.name64 in
     let each = subst (AreSlots hash name (7 - c.args.left) c.args.rows.now) (sym c.as_slice.ensures.value) c.in_ok-slots.ensures.rows in
-    whole-valid hash name c.args.left (7 - c.args.left) c.args.rows.now c.as_slice.result.now refl c.requires.rows each
-    (record { size = g.met.S.X.BlockHash.size; are_bytes = g.met.S.X.BlockHash.are_bytes }) c.in_ok-items.items c.in_ok-items.ensures.items
+    record {
+      items = whole-valid hash name c.args.left (7 - c.args.left) c.args.rows.now c.as_slice.result.now refl c.requires.rows each
+          (record { size = g.met.S.X.BlockHash.size; are_bytes = g.met.S.X.BlockHash.are_bytes }) c.in_ok-items.items c.in_ok-items.ensures.items;
+      meta = c.requires.meta;
+    }
 
 pub save_shard-returns-clause-entry : goal.save_shard-returns-clause-entry
 save_shard-returns-clause-entry g t c =
     let hash : List ℕ → List ℕ = g.S.X.BlockHash.block32 in
     let name : List ℕ → ℕ = g.N.NameHash.name64 in
     let each = subst (AreSlots hash name (7 - c.args.left) c.args.rows.now) (sym c.as_slice.ensures.value) c.in_ok-slots.ensures.rows in
-    IfOk-weaker c.save_node.result _ _ (λ e is. is ∙ whole-entry hash name c.args.left (7 - c.args.left) c.args.rows.now c.as_slice.result.now refl c.requires.rows each c.in_ok-items.items c.in_ok-items.ensures.items) c.save_node.ensures.entry
+    IfOk-weaker c.save_node.result _ _ (λ e is. is ∙ whole-entry hash name c.args.left (7 - c.args.left) c.args.rows.now c.as_slice.result.now refl c.requires.rows each c.args.meta.now c.in_ok-items.items c.in_ok-items.ensures.items) c.save_node.ensures.entry
 
 pub save_shard-returns-clause-held : goal.save_shard-returns-clause-held
 save_shard-returns-clause-held g t c =
     let hash : List ℕ → List ℕ = g.S.X.BlockHash.block32 in
     let name : List ℕ → ℕ = g.N.NameHash.name64 in
     let each = subst (AreSlots hash name (7 - c.args.left) c.args.rows.now) (sym c.as_slice.ensures.value) c.in_ok-slots.ensures.rows in
-    let blocks = whole-blocks hash name c.args.left (7 - c.args.left) c.args.rows.now c.as_slice.result.now refl c.requires.rows each c.in_ok-items.items c.in_ok-items.ensures.items in
+    let blocks = whole-blocks hash name c.args.left (7 - c.args.left) c.args.rows.now c.as_slice.result.now refl c.requires.rows each c.args.meta.now c.in_ok-items.items c.in_ok-items.ensures.items in
     on_ok_weaker c.save_node.result (λ held. Holds-over hash name c.args.left c.as_slice.result.now _ _ _ _ blocks c.save_node.ensures.saves.good c.in_ok-items.ensures.held held) (held-own hash _ (map (λ (p : InSlot). item_entry p.1) c.in_ok-items.items) _ c.save_node.result c.save_node.ensures.entry c.save_node.ensures.held)
 
 pub save_shard-returns-clause-touches : goal.save_shard-returns-clause-touches
@@ -75,7 +78,7 @@ save_shard-returns-clause-touches g t c =
     let hash : List ℕ → List ℕ = g.S.X.BlockHash.block32 in
     let name : List ℕ → ℕ = g.N.NameHash.name64 in
     let each = subst (AreSlots hash name (7 - c.args.left) c.args.rows.now) (sym c.as_slice.ensures.value) c.in_ok-slots.ensures.rows in
-    let blocks = whole-blocks hash name c.args.left (7 - c.args.left) c.args.rows.now c.as_slice.result.now refl c.requires.rows each c.in_ok-items.items c.in_ok-items.ensures.items in
+    let blocks = whole-blocks hash name c.args.left (7 - c.args.left) c.args.rows.now c.as_slice.result.now refl c.requires.rows each c.args.meta.now c.in_ok-items.items c.in_ok-items.ensures.items in
     omega (arith, ap length blocks, c.save_slots.ensures.touches, c.save_node.ensures.touches)
 
 pub save_slots-loop-at-init : goal.save_slots-loop-at-init

@@ -1,15 +1,16 @@
 use Rattle.std.specs.FinMap.Entries.{find}
+use Rattle.uf_tree.specs.Metas.{none}
 use Rattle.uf_tree.specs.Names.{names_cmp}
 use Rattle.std.proofs.lemmas.Result.{err_from_is_err_and}
 use Rattle.uf_shard.proofs.Reaching.{find-err, find-here-at, find-below-at}
 use Rattle.uf_shard.proofs.lookup.+find_from.Goals as goal
 
 pub returns-in_err-spot-clause-value : goal.returns-in_err-spot-clause-value
-returns-in_err-spot-clause-value g t c = λ l is agrees stood.
-    let out = err_from_is_err_and c.from_residual.result c.from_residual.ensures.1 in rw (out.1, out.2) (find-err g.S.X.BlockHash.block32 g.N.NameHash.name64 (record { size = g.met.S.X.BlockHash.size; are_bytes = g.met.S.X.BlockHash.are_bytes }) c.args.name.now c.args.left c.args.root.now l c.requires _ _ _ (find names_cmp c.args.name.now l) c.in_err-spot.ensures.looks c.in_err-spot.ensures.reads.cause is agrees stood)
+returns-in_err-spot-clause-value g t c = λ m l is agrees stood.
+    let out = err_from_is_err_and c.from_residual.result c.from_residual.ensures.1 in rw (out.1, out.2) (find-err g.S.X.BlockHash.block32 g.N.NameHash.name64 (record { size = g.met.S.X.BlockHash.size; are_bytes = g.met.S.X.BlockHash.are_bytes }) c.args.name.now c.args.left c.args.root.now m l c.requires _ _ _ (find names_cmp c.args.name.now l) c.in_err-spot.ensures.looks c.in_err-spot.ensures.reads.cause is agrees stood)
 
 pub returns-in-Here-clause-value : goal.returns-in-Here-clause-value
-returns-in-Here-clause-value g t c = λ l is agrees stood. find-here-at g.S.X.BlockHash.block32 g.N.NameHash.name64 (record { size = g.met.S.X.BlockHash.size; are_bytes = g.met.S.X.BlockHash.are_bytes }) c.args.name.now c.args.left c.args.root.now l c.requires _ _ _ c.in-Here.is c.in_ok-spot.ensures.looks is agrees
+returns-in-Here-clause-value g t c = λ m l is agrees stood. find-here-at g.S.X.BlockHash.block32 g.N.NameHash.name64 (record { size = g.met.S.X.BlockHash.size; are_bytes = g.met.S.X.BlockHash.are_bytes }) c.args.name.now c.args.left c.args.root.now m l c.requires _ _ _ c.in-Here.is c.in_ok-spot.ensures.looks is agrees
 
 pub returns-in-Below-clause-value : goal.returns-in-Below-clause-value
-returns-in-Below-clause-value g t c = λ l is agrees stood. find-below-at g.S.X.BlockHash.block32 g.N.NameHash.name64 (record { size = g.met.S.X.BlockHash.size; are_bytes = g.met.S.X.BlockHash.are_bytes }) c.args.name.now c.args.left c.args.root.now c.in-Below.cid l c.requires _ (g.S.Store.seen c.look.new.store) (g.S.Store.seen c.find_from.new.store) _ _ c.in-Below.is c.in_ok-spot.ensures.room c.in_ok-spot.ensures.looks c.in_ok-spot.ensures.reads.told c.in_ok-spot.ensures.reads.cause.faults c.find_from.ensures.value is agrees stood
+returns-in-Below-clause-value g t c = λ m l is agrees stood. find-below-at g.S.X.BlockHash.block32 g.N.NameHash.name64 (record { size = g.met.S.X.BlockHash.size; are_bytes = g.met.S.X.BlockHash.are_bytes }) c.args.name.now c.args.left c.args.root.now c.in-Below.cid m l c.requires _ (g.S.Store.seen c.look.new.store) (g.S.Store.seen c.find_from.new.store) _ _ c.in-Below.is c.in_ok-spot.ensures.room c.in_ok-spot.ensures.looks c.in_ok-spot.ensures.reads.told c.in_ok-spot.ensures.reads.cause.faults (c.find_from.ensures.value none) is agrees stood

@@ -1,5 +1,6 @@
 use Rattle.std.proofs.Common.{◌≤◌, ◌-◌, List, refl, ap, arith, sym, ◌∙◌, subst}
 use Rattle.uf_murmur.specs.Slots.{slot}
+use Rattle.uf_tree.specs.Metas.{none}
 use Rattle.uf_tree.specs.Nodes.{InSlot}
 use Rattle.uf_tree.proofs.ShardLaws.{slot-bound}
 use Rattle.uf_shard.specs.Placed.{IsPlaced, way}
@@ -93,16 +94,16 @@ item_with-returns-in_ok-items-in-Some-Sub-clause-early g t c = early-below g.S.X
 pub item_with-returns-in_ok-items-in-Some-Sub-clause-saves : goal.item_with-returns-in_ok-items-in-Some-Sub-clause-saves
 item_with-returns-in_ok-items-in-Some-Sub-clause-saves g t c = saves-new c.in_ok-items-in-Some-Sub.ensures.saves c.save_below.ensures.saves
 
-pub items_with-returns-in_err-items-clause-puts : goal.items_with-returns-in_err-items-clause-puts
-items_with-returns-in_err-items-clause-puts g t c = λ l is agrees.
-    let out = err_from_is_err_and c.from_residual.result c.from_residual.ensures.1 in rw (out.1, out.2) (load-lost g.S.X.BlockHash.block32 g.N.NameHash.name64 (record { size = g.met.S.X.BlockHash.size; are_bytes = g.met.S.X.BlockHash.are_bytes }) (g.N.NameHash.name64 c.args.name.now) c.args.left c.args.cid.now l c.requires is
-    (g.S.Store.seen c.args.store.now) (g.S.Store.seen c.load_shard.new.store) c.in_err-items.field-0.0 c.in_err-items.ensures.loads agrees)
+pub items_with-returns-in_err-node-clause-puts : goal.items_with-returns-in_err-node-clause-puts
+items_with-returns-in_err-node-clause-puts g t c = λ l is agrees.
+    let out = err_from_is_err_and c.from_residual.result c.from_residual.ensures.1 in rw (out.1, out.2) (load-lost g.S.X.BlockHash.block32 g.N.NameHash.name64 (record { size = g.met.S.X.BlockHash.size; are_bytes = g.met.S.X.BlockHash.are_bytes }) (g.N.NameHash.name64 c.args.name.now) c.args.left c.args.cid.now none l c.requires is
+    (g.S.Store.seen c.args.store.now) (g.S.Store.seen c.load_shard.new.store) c.in_err-node.field-0.0 c.in_err-node.ensures.loads agrees)
 
 pub items_with-returns-clause-puts : goal.items_with-returns-clause-puts
 items_with-returns-clause-puts g t c = λ l is agrees. puts-more g.S.X.BlockHash.block32 g.N.NameHash.name64 (g.S.Store.seen c.args.store.now).told (g.S.Store.seen c.load_shard.new.store).told (g.S.Store.seen c.put_into.new.store).told _ _ c.args.left c.args.name.now c.args.entry.now l c.put_into.result
-    c.in_ok-items.ensures.reads.told (below-in g.S.X.BlockHash.block32 g.N.NameHash.name64 c.args.left l)
-    (c.put_into.ensures.puts l (items-read g.S.X.BlockHash.block32 g.N.NameHash.name64 (record { size = g.met.S.X.BlockHash.size; are_bytes = g.met.S.X.BlockHash.are_bytes }) (g.N.NameHash.name64 c.args.name.now) c.args.left c.args.cid.now l c.requires is
-    (g.S.Store.seen c.args.store.now) (g.S.Store.seen c.load_shard.new.store).told c.in_ok-items.items c.in_ok-items.ensures.reads.told agrees c.in_ok-items.ensures.loads))
+    c.in_ok-node.ensures.reads.told (below-in g.S.X.BlockHash.block32 g.N.NameHash.name64 c.args.left none l)
+    (c.put_into.ensures.puts l (items-read g.S.X.BlockHash.block32 g.N.NameHash.name64 (record { size = g.met.S.X.BlockHash.size; are_bytes = g.met.S.X.BlockHash.are_bytes }) (g.N.NameHash.name64 c.args.name.now) c.args.left c.args.cid.now none l c.requires is
+    (g.S.Store.seen c.args.store.now) (g.S.Store.seen c.load_shard.new.store).told c.in_ok-node.node c.in_ok-node.ensures.reads.told agrees c.in_ok-node.ensures.loads))
 
 pub put_into-item_with-requires : goal.put_into-item_with-requires
 put_into-item_with-requires g t c κs within = (
@@ -142,5 +143,5 @@ pub put_into-returns-clause-valid :
 put_into-returns-clause-valid g t c = valid-put g.S.X.BlockHash.block32 g.N.NameHash.name64 c.slot_at-slot.result c.in_ok-item.item c.args.items.now c.in_ok-changed.changed
     (omega (arith, c.slot_at-slot.ensures, slot-bound (g.N.NameHash.name64 c.args.name.now) (7 - c.args.left))) c.in_ok-item.ensures.valid c.requires.placed.valid (c.in_ok-changed.ensures ∙ ap (set_at c.slot_at-slot.result (Some c.in_ok-item.item)) c.as_slice-2.ensures)
 
-pub items_with-returns-in_err-items-clause-saves : goal.items_with-returns-in_err-items-clause-saves
-items_with-returns-in_err-items-clause-saves g t c = let out = err_from_is_err_and c.from_residual.result c.from_residual.ensures.1 in rw (out.1, out.2) (reads-saves c.in_err-items.ensures.reads)
+pub items_with-returns-in_err-node-clause-saves : goal.items_with-returns-in_err-node-clause-saves
+items_with-returns-in_err-node-clause-saves g t c = let out = err_from_is_err_and c.from_residual.result c.from_residual.ensures.1 in rw (out.1, out.2) (reads-saves c.in_err-node.ensures.reads)

@@ -4,6 +4,7 @@ use Rattle.std.specs.Ordering.{nat_cmp}
 use Rattle.uf_murmur.specs.Slots.{slot}
 use Rattle.uf_tree.specs.declared.nodes.Item.{Item}
 use Rattle.uf_tree.specs.Changes.{set_at}
+use Rattle.uf_tree.specs.Metas.{none}
 use Rattle.uf_tree.specs.Nodes.{InSlot}
 use Rattle.uf_tree.proofs.ShardLaws.{slot-bound}
 use Rattle.uf_shard.specs.Placed.{IsPlaced, way}
@@ -50,16 +51,16 @@ item_without-returns-in-Some-clause-unsaved g t c = unsaved-below g.S.X.BlockHas
 pub item_without-returns-in-Some-clause-saves : goal.item_without-returns-in-Some-clause-saves
 item_without-returns-in-Some-clause-saves g t c = saves-new c.in_ok-rest-in-Some-Sub.ensures.saves c.rest_of.ensures.saves
 
-pub items_without-returns-in_err-items-clause-takes : goal.items_without-returns-in_err-items-clause-takes
-items_without-returns-in_err-items-clause-takes g t c = λ l is agrees.
-    let out = err_from_is_err_and c.from_residual.result c.from_residual.ensures.1 in rw (out.1, out.2) (load-lost g.S.X.BlockHash.block32 g.N.NameHash.name64 (record { size = g.met.S.X.BlockHash.size; are_bytes = g.met.S.X.BlockHash.are_bytes }) (g.N.NameHash.name64 c.args.name.now) c.args.left c.args.cid.now l c.requires is
-    (g.S.Store.seen c.args.store.now) (g.S.Store.seen c.load_shard.new.store) c.in_err-items.field-0.0 c.in_err-items.ensures.loads agrees)
+pub items_without-returns-in_err-node-clause-takes : goal.items_without-returns-in_err-node-clause-takes
+items_without-returns-in_err-node-clause-takes g t c = λ l is agrees.
+    let out = err_from_is_err_and c.from_residual.result c.from_residual.ensures.1 in rw (out.1, out.2) (load-lost g.S.X.BlockHash.block32 g.N.NameHash.name64 (record { size = g.met.S.X.BlockHash.size; are_bytes = g.met.S.X.BlockHash.are_bytes }) (g.N.NameHash.name64 c.args.name.now) c.args.left c.args.cid.now none l c.requires is
+    (g.S.Store.seen c.args.store.now) (g.S.Store.seen c.load_shard.new.store) c.in_err-node.field-0.0 c.in_err-node.ensures.loads agrees)
 
 pub items_without-returns-clause-takes : goal.items_without-returns-clause-takes
 items_without-returns-clause-takes g t c = λ l is agrees. takes-more g.S.X.BlockHash.block32 g.N.NameHash.name64 (g.S.Store.seen c.args.store.now).told (g.S.Store.seen c.load_shard.new.store).told (g.S.Store.seen c.take_from.new.store).told _ _ c.args.left c.args.name.now l c.take_from.result
-    c.in_ok-items.ensures.reads.told (below-in g.S.X.BlockHash.block32 g.N.NameHash.name64 c.args.left l)
-    (c.take_from.ensures.takes l (items-read g.S.X.BlockHash.block32 g.N.NameHash.name64 (record { size = g.met.S.X.BlockHash.size; are_bytes = g.met.S.X.BlockHash.are_bytes }) (g.N.NameHash.name64 c.args.name.now) c.args.left c.args.cid.now l c.requires is
-    (g.S.Store.seen c.args.store.now) (g.S.Store.seen c.load_shard.new.store).told c.in_ok-items.items c.in_ok-items.ensures.reads.told agrees c.in_ok-items.ensures.loads))
+    c.in_ok-node.ensures.reads.told (below-in g.S.X.BlockHash.block32 g.N.NameHash.name64 c.args.left none l)
+    (c.take_from.ensures.takes l (items-read g.S.X.BlockHash.block32 g.N.NameHash.name64 (record { size = g.met.S.X.BlockHash.size; are_bytes = g.met.S.X.BlockHash.are_bytes }) (g.N.NameHash.name64 c.args.name.now) c.args.left c.args.cid.now none l c.requires is
+    (g.S.Store.seen c.args.store.now) (g.S.Store.seen c.load_shard.new.store).told c.in_ok-node.node c.in_ok-node.ensures.reads.told agrees c.in_ok-node.ensures.loads))
 
 pub take_from-item_without-requires : goal.take_from-item_without-requires
 take_from-item_without-requires g t c κs within = (
@@ -105,5 +106,5 @@ pub take_from-returns-in_ok-changed-in-Of-clause-unsaved : goal.take_from-return
 take_from-returns-in_ok-changed-in-Of-clause-unsaved g t c = unsaved-set g.S.X.BlockHash.block32 g.N.NameHash.name64 c.slot_at-slot.result c.in-Of.item c.args.items.now c.in_ok-changed-in-Of.changed _ _
     (c.in_ok-changed-in-Of.ensures ∙ ap (set_at c.slot_at-slot.result c.in-Of.item) c.as_slice-in-Of.ensures) (rw c.in-Of.is at c.in_ok-rest.ensures.unsaved)
 
-pub items_without-returns-in_err-items-clause-saves : goal.items_without-returns-in_err-items-clause-saves
-items_without-returns-in_err-items-clause-saves g t c = let out = err_from_is_err_and c.from_residual.result c.from_residual.ensures.1 in rw (out.1, out.2) (reads-saves c.in_err-items.ensures.reads)
+pub items_without-returns-in_err-node-clause-saves : goal.items_without-returns-in_err-node-clause-saves
+items_without-returns-in_err-node-clause-saves g t c = let out = err_from_is_err_and c.from_residual.result c.from_residual.ensures.1 in rw (out.1, out.2) (reads-saves c.in_err-node.ensures.reads)

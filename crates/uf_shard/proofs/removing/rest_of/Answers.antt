@@ -1,4 +1,7 @@
-use Rattle.std.proofs.Common.{ap, sym, ◌∙◌}
+use Rattle.std.proofs.Common.{◌≡◌, [], ◌∷◌, map, ap, sym, subst, ◌∙◌}
+use Rattle.uf_store.specs.Keeping.{Holds}
+use Rattle.uf_tree.specs.declared.meta.Meta.{Meta}
+use Rattle.uf_tree.specs.Nodes.{InSlot, item_entry, node_entry, shard_block}
 use Rattle.uf_shard.specs.Taken.{collapsed}
 use Rattle.uf_shard.proofs.Takes.{big-below, small-below, unsaved-small}
 use Rattle.uf_shard.proofs.removing.rest_of.Goals as goal
@@ -8,7 +11,8 @@ returns-in-Of-clause-leaves g c = λ N. small-below g.S.X.BlockHash.block32 N (g
 
 pub returns-in_ok-entry-in-Same-clause-leaves : goal.returns-in_ok-entry-in-Same-clause-leaves
 returns-in_ok-entry-in-Same-clause-leaves g c = λ N. big-below g.S.X.BlockHash.block32 N (g.S.Store.seen c.args.store.now).told (g.S.Store.seen c.save_node.new.store).told c.args.items.now c.in_ok-entry-in-Same.entry (sym c.in-Same.is ∙ c.in_ok-rest.ensures ∙ ap collapsed c.as_slice.ensures)
-    c.in_ok-entry-in-Same.ensures.entry c.in_ok-entry-in-Same.ensures.held c.in_ok-entry-in-Same.ensures.saves.good
+    (subst (λ (m : Meta). c.in_ok-entry-in-Same.entry ≡ node_entry g.S.X.BlockHash.block32 (shard_block m c.args.items.now) (map (λ (p : InSlot). item_entry p.1) c.args.items.now)) c.none-bare.ensures c.in_ok-entry-in-Same.ensures.entry)
+    (subst (λ (m : Meta). Holds (g.S.Store.seen c.save_node.new.store).told ((c.in_ok-entry-in-Same.entry.cid, shard_block m c.args.items.now) ∷ [])) c.none-bare.ensures c.in_ok-entry-in-Same.ensures.held) c.in_ok-entry-in-Same.ensures.saves.good
 
 pub returns-in-Of-clause-unsaved : goal.returns-in-Of-clause-unsaved
 returns-in-Of-clause-unsaved g c = unsaved-small c.args.items.now c.in-Of.item _ (sym c.in-Of.is ∙ c.in_ok-rest.ensures ∙ ap collapsed c.as_slice.ensures)

@@ -3,6 +3,6 @@ use Rattle.uf_sizes.proofs.laws.a_removal_leaves_a_plan.Goals as goal
 
 pub returns : goal.returns
 returns c = record {
-  plan = λ X N p name old l good fits dir is h. removed-plan X N name old l good fits dir is p h;
-  smaller = λ X N p name old l good fits dir is h. removed-less X N name old l good fits dir is p h;
+  plan = λ X N p meta name old l good fits dir is h. removed-plan X N meta name old l good fits dir is p h;
+  smaller = λ X N p meta name old l good fits dir is h. removed-less X N meta name old l good fits dir is p h;
 }

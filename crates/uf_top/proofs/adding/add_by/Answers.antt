@@ -1,6 +1,6 @@
 use Rattle.std.proofs.Common.{Ok, Err}
 use Rattle.std.proofs.lemmas.Result.{err_from_is_err_and}
-use Rattle.uf_reply.specs.Kinds.{refusal_fault}
+use Rattle.uf_command.specs.Kinds.{refusal_fault}
 use Rattle.uf_store.specs.Faults.{NoneIsBad}
 use Rattle.uf_store.proofs.Calls.{shown-after}
 use Rattle.uf_top.proofs.Givens.{entry-counts, entry-row, entry-shown, entry-synced, synced-counts}

@@ -1,5 +1,5 @@
 use Rattle.std.proofs.Common.{sym, subst}
-use Rattle.uf_reply.specs.declared.types.Command.TheVariants.{Add}
+use Rattle.uf_command.specs.declared.types.Command.TheVariants.{Add}
 use Rattle.uf_top.specs.Working.{Makes}
 use Rattle.uf_top.proofs.adding.adds.Goals as goal
 

@@ -1,5 +1,5 @@
 use Rattle.std.proofs.Common.{[], Some, subst}
-use Rattle.uf_reply.specs.Batches.{IsAskedBy, line_in}
+use Rattle.uf_command.specs.Batches.{IsAskedBy, line_in}
 use Rattle.uf_top.specs.Around.{around, host_side}
 use Rattle.uf_top.proofs.Lined.{serves-refused}
 use Rattle.uf_top.proofs.batching.serve_line.Goals as goal

@@ -1,5 +1,5 @@
 use Rattle.std.proofs.Common.{subst, sym, Err}
-use Rattle.uf_reply.specs.declared.types.Command.TheVariants.{Export}
+use Rattle.uf_command.specs.declared.types.Command.TheVariants.{Export}
 use Rattle.uf_top.specs.Around.{around}
 use Rattle.uf_top.specs.Working.{Does}
 use Rattle.uf_top.proofs.Exported.{car-sent, car-unsent}

@@ -1,7 +1,7 @@
 use Rattle.std.proofs.Common.{◌≡◌, ◌∙◌, false, true, ap, refl, sym, subst, Err}
 use Rattle.std.specs.Prelude.{IfErr}
-use Rattle.uf_reply.specs.Natures.{generates, own_store, reads_input, touches_nothing, uses_host}
-use Rattle.uf_reply.specs.declared.types.Command.TheVariants.{Adopt, Cat, Export, Get, Import, Pin, Read, Same}
+use Rattle.uf_command.specs.Natures.{generates, own_store, reads_input, touches_nothing, uses_host}
+use Rattle.uf_command.specs.declared.types.Command.TheVariants.{Adopt, Cat, Export, Get, Import, Pin, Read, Same}
 use Rattle.uf_top.specs.Around.{around, host_side}
 use Rattle.uf_top.specs.Cars.{ByOwnStore}
 use Rattle.uf_top.specs.Working.{Does}

@@ -1,17 +1,18 @@
 use Rattle.std.proofs.Common.{◌≡◌, refl, sym, subst, ◌∙◌, inl, Err, Result}
 use Rattle.std.specs.Prelude.{ℕ, List, map, string_bytes}
 use Rattle.uf_words.specs.Commands.{command_of}
-use Rattle.uf_reply.specs.Commands.{IsAsked, IsOfWords}
-use Rattle.uf_reply.specs.Requests.{IsAskedAlone, request_in}
-use Rattle.uf_reply.specs.Statuses.{no_memory}
-use Rattle.uf_reply.specs.declared.requests.Request.TheVariants as requests
-use Rattle.uf_reply.specs.declared.types.Command.{Command}
-use Rattle.uf_reply.specs.declared.types.Refusal.{Refusal}
-use Rattle.uf_reply.proofs.Asked.{IsOfWordsAlone, words-only}
+use Rattle.uf_command.specs.Commands.{IsAsked, IsOfWords}
+use Rattle.uf_command.specs.Requests.{IsAskedAlone, request_in}
+use Rattle.uf_command.specs.Statuses.{no_memory}
+use Rattle.uf_command.specs.declared.requests.Request.TheVariants as requests
+use Rattle.uf_command.specs.declared.types.Command.{Command}
+use Rattle.uf_command.specs.declared.types.Refusal.{Refusal}
+use Rattle.uf_command.proofs.Asked.{IsOfWordsAlone, words-only}
 use Rattle.uf_top.specs.Around.{around, host_side}
-use Rattle.uf_reply.specs.Peers.{TellsTalk}
-use Rattle.uf_reply.specs.Telling.{IsSent}
+use Rattle.uf_command.specs.Peers.{TellsTalk}
+use Rattle.uf_command.specs.Telling.{IsSent}
 use Rattle.uf_top.specs.Talking.{RunsPull}
+use Rattle.uf_top.proofs.Collected.{gc-runs, gc-wants}
 use Rattle.uf_top.proofs.Runs.{runs-told}
 use Rattle.uf_top.proofs.Standings.{stands-kept, stands-one}
 use Rattle.uf_top.proofs.Talks.{head-stays, pull-wants, serve-wants}
@@ -139,3 +140,22 @@ returns-in-Pull-clause-one g c = λ s r stands other.
 pub returns-in-Serve-clause-one : goal.returns-in-Serve-clause-one
 returns-in-Serve-clause-one g c = λ s r stands other.
     stands-one g.S.X.BlockHash.block32 g.N.NameHash.name64 (record { size = g.met.S.X.BlockHash.size; are_bytes = g.met.S.X.BlockHash.are_bytes }) g.met.N.NameHash.fits (g.S.Store.seen c.serve-done.new.store).told s r stands other
+
+-- ---- a collection
+
+pub returns-in-Gc-clause-collect : goal.returns-in-Gc-clause-collect
+returns-in-Gc-clause-collect g c = λ is.
+    gc-runs (λ line. IsSent line (g.E.Sink.holds c.args.errors.now) (g.E.Sink.holds c.tell_end-in-Gc.new.errors) (g.E.Sink.faults c.args.errors.now) (g.E.Sink.faults c.tell_end-in-Gc.new.errors)) g.S.X.BlockHash.block32 g.N.NameHash.name64 c.tell_end-in-Gc.result c.collect_rest-done.result
+    (around (g.S.Store.seen c.args.store.now) (g.I.Source.left c.args.input.now) (g.I.Source.faults c.args.input.now) (g.O.Sink.holds c.args.output.now) (g.O.Sink.faults c.args.output.now) c.args.touches.now (host_side (g.W.Host.tree c.args.host.now) (g.W.Host.read_faults c.args.host.now) (g.W.Host.write_faults c.args.host.now)))
+    (around (g.S.Store.seen c.collect_rest-done.new.store) (g.I.Source.left c.args.input.now) (g.I.Source.faults c.args.input.now) (g.O.Sink.holds c.collect_rest-done.new.output) (g.O.Sink.faults c.collect_rest-done.new.output) c.collect_rest-done.new.touches (host_side (g.W.Host.tree c.args.host.now) (g.W.Host.read_faults c.args.host.now) (g.W.Host.write_faults c.args.host.now)))
+    (record { size = g.met.S.X.BlockHash.size; are_bytes = g.met.S.X.BlockHash.are_bytes }) g.met.N.NameHash.fits c.collect_rest-done.ensures c.tell_end-in-Gc.ensures refl refl refl
+
+pub returns-in-Gc-clause-one : goal.returns-in-Gc-clause-one
+returns-in-Gc-clause-one g c = λ s r stands other.
+    stands-one g.S.X.BlockHash.block32 g.N.NameHash.name64 (record { size = g.met.S.X.BlockHash.size; are_bytes = g.met.S.X.BlockHash.are_bytes }) g.met.N.NameHash.fits (g.S.Store.seen c.collect_rest-done.new.store).told s r stands other
+
+pub returns-in-One-clause-collect : goal.returns-in-One-clause-collect
+returns-in-One-clause-collect g c = λ is.
+    let m : c.in-One.asked ≡ Err no_memory = subst (IsAskedAlone c.in-One.asked) is c.in-One.ensures.asked in
+    gc-wants (λ line. IsSent line (g.E.Sink.holds c.args.errors.now) (g.E.Sink.holds c.tell_end.new.errors) (g.E.Sink.faults c.args.errors.now) (g.E.Sink.faults c.tell_end.new.errors)) g.S.X.BlockHash.block32 g.N.NameHash.name64 c.tell_end.result c.serve-done-in-One.result (around (g.S.Store.seen c.args.store.now) (g.I.Source.left c.args.input.now) (g.I.Source.faults c.args.input.now) (g.O.Sink.holds c.args.output.now) (g.O.Sink.faults c.args.output.now) c.args.touches.now (host_side (g.W.Host.tree c.args.host.now) (g.W.Host.read_faults c.args.host.now) (g.W.Host.write_faults c.args.host.now))) (around (g.S.Store.seen c.serve-done-in-One.new.store) (g.I.Source.left c.serve-done-in-One.new.input) (g.I.Source.faults c.serve-done-in-One.new.input) (g.O.Sink.holds c.serve-done-in-One.new.output) (g.O.Sink.faults c.serve-done-in-One.new.output) c.serve-done-in-One.new.touches (host_side (g.W.Host.tree c.serve-done-in-One.new.host) (g.W.Host.read_faults c.serve-done-in-One.new.host) (g.W.Host.write_faults c.serve-done-in-One.new.host)))
+    (c.serve-done-in-One.ensures.serves (Err no_memory) (subst (λ asked. IsAsked asked (Err no_memory)) (sym m) (inl refl))) c.tell_end.ensures

@@ -1,7 +1,7 @@
 use Rattle.std.proofs.Common.{◌≡◌, false, true, sym, subst, ap, ◌∙◌, Ok}
 use Rattle.std.specs.Prelude.{IfErr}
-use Rattle.uf_reply.specs.Commands.{IsAsked, of_command}
-use Rattle.uf_reply.specs.Natures.{IsOfCommand, NoStore, generates, own_store, reads_input, touches_nothing, uses_host}
+use Rattle.uf_command.specs.Commands.{IsAsked, of_command}
+use Rattle.uf_command.specs.Natures.{IsOfCommand, NoStore, generates, own_store, reads_input, touches_nothing, uses_host}
 use Rattle.uf_top.specs.Around.{around, host_side}
 use Rattle.uf_top.specs.Working.{Serves}
 use Rattle.uf_top.specs.Cars.{ByOwnStore}

@@ -1,6 +1,6 @@
 use Rattle.std.proofs.Common.{◌≡◌, ◌∙◌, ℕ, List, Bool, false, true, ap, refl, sym, subst}
-use Rattle.uf_reply.specs.Natures.{touches_nothing, reads_input, uses_host}
-use Rattle.uf_reply.specs.declared.types.Command.TheVariants.{Init, Add, AddFrom, AddTo, AddFromTo, WriteInput, At}
+use Rattle.uf_command.specs.Natures.{touches_nothing, reads_input, uses_host}
+use Rattle.uf_command.specs.declared.types.Command.TheVariants.{Init, Add, AddFrom, AddTo, AddFromTo, WriteInput, At}
 use Rattle.uf_top.specs.Around.{around, host_side}
 use Rattle.uf_top.specs.Working.{MakesText}
 use Rattle.uf_top.proofs.Printing.{made-as}

@@ -1,7 +1,7 @@
 use Rattle.std.proofs.Common.{subst, sym}
 use Rattle.std.specs.Prelude.{IfErr}
-use Rattle.uf_reply.specs.Kinds.{IsOf}
-use Rattle.uf_reply.specs.Natures.{may_end, only_reads, own_store}
+use Rattle.uf_command.specs.Kinds.{IsOf}
+use Rattle.uf_command.specs.Natures.{may_end, only_reads, own_store}
 use Rattle.uf_top.specs.Around.{around, host_side}
 use Rattle.uf_top.specs.Cars.{ByOwnStore}
 use Rattle.uf_top.specs.Working.{Does}

@@ -4,11 +4,11 @@ use Rattle.uf_edge.specs.Counts.{Counts}
 use Rattle.uf_lenient.specs.Reading.{file_of}
 use Rattle.uf_lenient.specs.Streams.{IsFileFront, Streams, sink_failed, stream_fault}
 use Rattle.uf_lenient.specs.declared.fault.StreamFault.TheVariants as stream
-use Rattle.uf_reply.specs.Dags.{usual_limits}
+use Rattle.uf_command.specs.Dags.{usual_limits}
 use Rattle.uf_store.specs.Contents.{held_at}
 use Rattle.uf_store.specs.Faults.{NoneIsBad, Shown}
 use Rattle.uf_store.proofs.Calls.{shown-after}
-use Rattle.uf_reply.specs.Kinds.{fault_behind}
+use Rattle.uf_command.specs.Kinds.{fault_behind}
 use Rattle.uf_top.proofs.Cats.{all-said, cat-cut, cat-refused, cat-sent, nothing-told, of-reading, own-said, part-said, refusal-told, same-fault, told-back}
 use Rattle.uf_top.proofs.Printing.{after-nothing}
 use Rattle.uf_store.proofs.Causes.{StaysCalm-trans}

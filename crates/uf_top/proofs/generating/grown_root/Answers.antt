@@ -1,5 +1,4 @@
 use Rattle.std.proofs.lemmas.Result.{err_from_is_err_and}
-use Rattle.uf_tree.specs.Heads.{head_text}
 use Rattle.uf_gen.specs.declared.step.Step.TheVariants.{Make, Change}
 use Rattle.uf_top.proofs.Grown.{begun, made-changed, root-refused, root-stands, unready}
 use Rattle.uf_top.proofs.generating.grown_root.Goals as goal
@@ -17,7 +16,7 @@ returns-in_err-step_all g c = λ new.
     let X = g.S.X.BlockHash.block32 in
     let N = g.N.NameHash.name64 in
     let e = c.in_ok-tree.ensures in
-    let first = begun X N c.args.seed (g.S.Store.seen c.args.store.now) (g.S.Store.seen c.init.new.store) c.in_ok-tree.tree (head_text c.in_ok-tree.tree.profile c.in_ok-tree.tree.root.cid) new e.cause e.writes e.answer in
+    let first = begun X N c.args.seed (g.S.Store.seen c.args.store.now) (g.S.Store.seen c.init.new.store) c.in_ok-tree.tree new e.cause e.writes e.answer in
     let out = err_from_is_err_and c.from_residual-in_err-step_all.result c.from_residual-in_err-step_all.ensures.1 in
     rw (out.1, out.2)
     (root-refused X N Make c.args.n c.args.seed (g.S.Store.seen c.step_all.new.store) c.step_all.new.tree c.in_err-step_all.field-0.0
@@ -28,7 +27,7 @@ returns-in_err-step_all-2 g c = λ new.
     let X = g.S.X.BlockHash.block32 in
     let N = g.N.NameHash.name64 in
     let e = c.in_ok-tree.ensures in
-    let first = begun X N c.args.seed (g.S.Store.seen c.args.store.now) (g.S.Store.seen c.init.new.store) c.in_ok-tree.tree (head_text c.in_ok-tree.tree.profile c.in_ok-tree.tree.root.cid) new e.cause e.writes e.answer in
+    let first = begun X N c.args.seed (g.S.Store.seen c.args.store.now) (g.S.Store.seen c.init.new.store) c.in_ok-tree.tree new e.cause e.writes e.answer in
     let made = made-changed X N c.args.seed c.args.n (g.S.Store.seen c.step_all.new.store) c.step_all.new.tree (c.in_ok-step_all.ensures.grows first) in
     let out = err_from_is_err_and c.from_residual-in_err-step_all-2.result c.from_residual-in_err-step_all-2.ensures.1 in
     rw (out.1, out.2)
@@ -40,6 +39,6 @@ returns g c = λ new.
     let X = g.S.X.BlockHash.block32 in
     let N = g.N.NameHash.name64 in
     let e = c.in_ok-tree.ensures in
-    let first = begun X N c.args.seed (g.S.Store.seen c.args.store.now) (g.S.Store.seen c.init.new.store) c.in_ok-tree.tree (head_text c.in_ok-tree.tree.profile c.in_ok-tree.tree.root.cid) new e.cause e.writes e.answer in
+    let first = begun X N c.args.seed (g.S.Store.seen c.args.store.now) (g.S.Store.seen c.init.new.store) c.in_ok-tree.tree new e.cause e.writes e.answer in
     let made = made-changed X N c.args.seed c.args.n (g.S.Store.seen c.step_all.new.store) c.step_all.new.tree (c.in_ok-step_all.ensures.grows first) in
     root-stands X N c.args.n c.args.seed (g.S.Store.seen c.step_all-2.new.store) c.step_all-2.new.tree (c.in_ok-step_all-2.ensures.grows made)

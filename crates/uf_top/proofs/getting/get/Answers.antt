@@ -2,7 +2,7 @@ use Rattle.std.proofs.Common.{◌∙◌, Err}
 use Rattle.uf_host.specs.Paths.{trimmed}
 use Rattle.uf_store.specs.Faults.{NoneIsBad}
 use Rattle.uf_store.proofs.Calls.{shown-after}
-use Rattle.uf_reply.specs.Kinds.{refusal_fault}
+use Rattle.uf_command.specs.Kinds.{refusal_fault}
 use Rattle.uf_top.specs.Around.{host_side}
 use Rattle.uf_top.proofs.Cats.{same-fault}
 use Rattle.uf_top.proofs.Gotten.{get-does, same-below, then-gotten, unread-counts, unwritten-counts, way-gotten, way-kind}

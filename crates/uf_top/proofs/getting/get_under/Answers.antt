@@ -3,7 +3,7 @@ use Rattle.uf_edge.specs.Counts.{Counts}
 use Rattle.uf_host.specs.Getting as export
 use Rattle.uf_host.specs.Paths.{trimmed}
 use Rattle.uf_host.specs.Places.{ChangesAt}
-use Rattle.uf_reply.specs.Dags.{usual_limits}
+use Rattle.uf_command.specs.Dags.{usual_limits}
 use Rattle.uf_store.specs.Contents.{Contents, held_at}
 use Rattle.uf_top.specs.Getting.{IsUnwritten}
 use Rattle.uf_top.proofs.Gotten.{as-of, unwritten-gets}

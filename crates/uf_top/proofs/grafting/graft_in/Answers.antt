@@ -1,6 +1,4 @@
-use Rattle.std.proofs.Common.{refl}
 use Rattle.uf_store.specs.Faults.{NoneIsBad}
-use Rattle.uf_tree.specs.Heads.{head_text}
 use Rattle.uf_top.proofs.Adopted.{graft-committed, graft-refused, graft-uncommitted}
 use Rattle.uf_top.proofs.Shows.{tree-fault}
 use Rattle.uf_top.proofs.grafting.graft_in.Goals as goal
@@ -24,4 +22,4 @@ pub returns-in-Ok-commit : goal.returns-in-Ok-commit
 returns-in-Ok-commit g c =
     let e = c.in-Ok.ensures in let k = c.in-Ok-commit.ensures in
     graft-committed g.S.X.BlockHash.block32 g.N.NameHash.name64 c.args.tree c.grafted.new.tree c.args.source.now c.args.dest.now (g.S.Store.seen c.args.store.now) (g.S.Store.seen c.grafted.new.store) (g.S.Store.seen c.commit.new.store)
-    e.puts e.saves k.good (head_text c.grafted.new.tree.profile c.grafted.new.tree.root.cid) refl k.commits k.cause c.args.touches.now c.commit.new.touches
+    e.puts e.saves k.good k.commits k.cause c.args.touches.now c.commit.new.touches

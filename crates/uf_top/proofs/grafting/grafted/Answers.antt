@@ -1,6 +1,6 @@
 use Rattle.std.proofs.Common.{◌≤◌, ◌∙◌, Some, arith}
 use Rattle.uf_mfs.specs.Bad.{IsBadInTree}
-use Rattle.uf_reply.specs.Kinds.{refusal_fault}
+use Rattle.uf_command.specs.Kinds.{refusal_fault}
 use Rattle.uf_store.proofs.Calls.{reads-reads, shown-rises, stood-back, stood-front}
 use Rattle.uf_top.proofs.Grafted.{nowhere, put-there, up-after, up-counts, up-none}
 use Rattle.uf_top.proofs.grafting.grafted.Goals as goal

@@ -3,7 +3,7 @@ use Rattle.uf_mfs.specs.Bad.{IsBadInTree}
 use Rattle.uf_store.specs.Calls.{OnlySaves}
 use Rattle.uf_store.proofs.Calls.{saves-saves}
 use Rattle.uf_tree.specs.declared.nodes.Entry.{Entry}
-use Rattle.uf_reply.specs.Kinds.{fault_behind}
+use Rattle.uf_command.specs.Kinds.{fault_behind}
 use Rattle.uf_top.proofs.Putting.{is-put, not-put}
 use Rattle.uf_top.proofs.Grafted.{up-counts, up-ok, up-same}
 use Rattle.uf_top.proofs.Shows.{Shown-tree, tree-touched}

@@ -1,5 +1,5 @@
 use Rattle.std.proofs.Common.{sym, subst}
-use Rattle.uf_reply.specs.declared.types.Command.TheVariants.{AddFrom}
+use Rattle.uf_command.specs.declared.types.Command.TheVariants.{AddFrom}
 use Rattle.uf_top.specs.Around.{around, host_side}
 use Rattle.uf_top.specs.Working.{MakesText}
 use Rattle.uf_top.proofs.hosted.add_from.Goals as goal

@@ -2,7 +2,7 @@ use Rattle.std.proofs.Common.{ℕ, List, Ok, Err, refl, subst}
 use Rattle.std.proofs.lemmas.Result.{err_from_is_err_and}
 use Rattle.uf_host.specs.Adding.{AddsFromHost}
 use Rattle.uf_mfs.specs.Standing.{Same}
-use Rattle.uf_reply.specs.Kinds.{refusal_fault}
+use Rattle.uf_command.specs.Kinds.{refusal_fault}
 use Rattle.uf_store.specs.Faults.{NoneIsBad}
 use Rattle.uf_store.proofs.Calls.{shown-after}
 use Rattle.uf_store.proofs.Writing.{SavesOnly-refl}

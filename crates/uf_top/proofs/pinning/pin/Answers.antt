@@ -1,10 +1,10 @@
 use Rattle.std.proofs.Common.{◌∙◌, ap, refl, subst, Err, Ok}
 use Rattle.std.proofs.lemmas.Result.{err_from_is_err_and}
-use Rattle.uf_reply.specs.Pins.{pin_refusal}
-use Rattle.uf_reply.specs.Statuses.{no_memory}
-use Rattle.uf_reply.specs.Telling.{Prints}
-use Rattle.uf_reply.specs.declared.types.PinAsk.TheVariants as pins
-use Rattle.uf_reply.specs.declared.types.Refusal.{Refusal}
+use Rattle.uf_command.specs.Pins.{pin_refusal}
+use Rattle.uf_command.specs.Statuses.{no_memory}
+use Rattle.uf_command.specs.Telling.{Prints}
+use Rattle.uf_command.specs.declared.types.PinAsk.TheVariants as pins
+use Rattle.uf_command.specs.declared.types.Refusal.{Refusal}
 use Rattle.uf_top.specs.Around.{around}
 use Rattle.uf_top.proofs.Pins.{adds, as-asked, lists-done, no-text, removes, unlisted}
 use Rattle.uf_top.proofs.pinning.pin.Goals as goal

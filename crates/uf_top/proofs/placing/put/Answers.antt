@@ -1,7 +1,6 @@
-use Rattle.std.proofs.Common.{Some, refl}
+use Rattle.std.proofs.Common.{Some}
 use Rattle.uf_mfs.specs.Bad.{IsBadInTree}
 use Rattle.uf_store.specs.Faults.{NoneIsBad}
-use Rattle.uf_tree.specs.Heads.{head_text}
 use Rattle.uf_top.proofs.Settled.{committed, uncommitted, unplaced}
 use Rattle.uf_top.proofs.Shows.{tree-fault}
 use Rattle.uf_top.proofs.placing.put.Goals as goal
@@ -30,4 +29,4 @@ returns-in-Ok-commit g c =
     let e = c.in-Ok.ensures in let k = c.in-Ok-commit.ensures in
     committed g.S.X.BlockHash.block32 g.N.NameHash.name64 c.args.found.tree c.place.new.self c.args.found.spot c.args.given (g.S.Store.seen c.args.store.now) (g.S.Store.seen c.place.new.store) c.requires c.args.touches.now c.place.new.touches
     e.cause e.good e.saves e.lost (g.S.Store.seen c.commit.new.store) k.good c.commit.new.touches e.touched.kept
-    (head_text c.place.new.self.profile c.place.new.self.root.cid) refl k.commits k.cause
+    k.commits k.cause

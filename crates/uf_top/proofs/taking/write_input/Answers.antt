@@ -1,7 +1,7 @@
 use Rattle.uf_mfs.specs.Bad.{IsBadInHead}
 use Rattle.uf_mfs.specs.declared.mfs.Mfs.{Mfs}
-use Rattle.uf_reply.specs.declared.types.Ask.TheVariants.{Edit as Edits}
-use Rattle.uf_reply.specs.declared.types.Edit.TheVariants.{Write}
+use Rattle.uf_command.specs.declared.types.Ask.TheVariants.{Edit as Edits}
+use Rattle.uf_command.specs.declared.types.Edit.TheVariants.{Write}
 use Rattle.uf_top.proofs.Opening.{at-opened}
 use Rattle.uf_top.proofs.Shows.{opening-fault}
 use Rattle.uf_top.proofs.Written.{input-refused, input-unopened, input-written}

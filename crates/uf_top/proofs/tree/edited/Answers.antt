@@ -4,10 +4,10 @@ use Rattle.uf_mfs.specs.Touches.{TouchesFolder}
 use Rattle.uf_plain.specs.Edits.{made, removed}
 use Rattle.uf_plain.specs.Files.{truncated, written}
 use Rattle.uf_plain.specs.Rules.{allowed}
-use Rattle.uf_reply.specs.declared.types.Edit.{Edit}
-use Rattle.uf_reply.specs.declared.types.Edit.TheVariants.{Mkdir, Rm, Write, Truncate}
+use Rattle.uf_command.specs.declared.types.Edit.{Edit}
+use Rattle.uf_command.specs.declared.types.Edit.TheVariants.{Mkdir, Rm, Write, Truncate}
 use Rattle.uf_top.specs.Working.{EditsInMemory}
-use Rattle.uf_top.proofs.Edited.{idle-mkdir, idle-move, idle-write, told-edit, way-shown}
+use Rattle.uf_top.proofs.Edited.{file-shown, idle-mkdir, idle-move, idle-write, told-edit, way-shown}
 use Rattle.uf_top.proofs.tree.edited.Goals as goal
 
 pub returns-in-Mkdir-clause-edits : goal.returns-in-Mkdir-clause-edits
@@ -38,9 +38,9 @@ returns-in-Write-clause-edits g c =
     let a = g.S.Store.seen c.args.store.now in let b = g.S.Store.seen c.write.new.store in
     subst (λ (edit : Edit). EditsInMemory X N c.args.tree.now c.write.new.self edit c.args.path.now c.write.result a b c.args.touches.now c.write.new.touches) (sym (c.in-Write.is ∙ ap (λ piece. Write c.in-Write.how piece) (sym c.as_slice.ensures)))
     (told-edit X N c.args.tree.now c.write.new.self c.args.path.now a b c.args.touches.now c.write.new.touches c.write.result
-    e.cause e.touched e.good e.saves (Write c.in-Write.how c.as_slice.result.now)
+    (file-shown X N c.args.tree.now.profile c.write.result a b c.args.tree.now.root.cid e.cause) e.touched e.good e.saves (Write c.in-Write.how c.as_slice.result.now)
     (λ p es. allowed X N p (written c.in-Write.how c.as_slice.result.now names es)) (λ p es. refl) e.answer e.lost
-    (λ p es over stood is. (let i = idle-write c.in-Write.how c.as_slice.result.now names es is in e.idle p es i.0 over stood i.1 i.2 i.3))
+    (λ p es over stood is. (let i = idle-write c.in-Write.how c.as_slice.result.now names es is in e.idle p es i.0 i.1 over stood i.2 i.3 i.4))
     (λ p rows same heights. e.touches p rows same heights))
 
 pub returns-in-Truncate-clause-edits : goal.returns-in-Truncate-clause-edits
@@ -49,7 +49,7 @@ returns-in-Truncate-clause-edits g c =
     let a = g.S.Store.seen c.args.store.now in let b = g.S.Store.seen c.truncate.new.store in
     subst (λ (edit : Edit). EditsInMemory X N c.args.tree.now c.truncate.new.self edit c.args.path.now c.truncate.result a b c.args.touches.now c.truncate.new.touches) (sym c.in-Truncate.is)
     (told-edit X N c.args.tree.now c.truncate.new.self c.args.path.now a b c.args.touches.now c.truncate.new.touches c.truncate.result
-    e.cause e.touched e.good e.saves (Truncate c.in-Truncate.length)
+    (file-shown X N c.args.tree.now.profile c.truncate.result a b c.args.tree.now.root.cid e.cause) e.touched e.good e.saves (Truncate c.in-Truncate.length)
     (λ p es. allowed X N p (truncated c.in-Truncate.length names es)) (λ p es. refl) e.answer e.lost
     (λ p es over stood is. absurd cc)
     (λ p rows same heights. e.touches p rows same heights))
@@ -89,3 +89,9 @@ returns-in-Mv-clause-edits g c =
       good = e.good;
       saves = e.saves;
     })
+
+pub returns-in-SetMeta-clause-edits : goal.returns-in-SetMeta-clause-edits
+returns-in-SetMeta-clause-edits g c =
+    let X = g.S.X.BlockHash.block32 in let N = g.N.NameHash.name64 in
+    let a = g.S.Store.seen c.args.store.now in let b = g.S.Store.seen c.remade.new.store in
+    subst (λ (edit : Edit). EditsInMemory X N c.args.tree.now c.remade.new.tree edit c.args.path.now c.remade.result a b c.args.touches.now c.remade.new.touches) (sym c.in-SetMeta.is) c.remade.ensures.edits

@@ -4,9 +4,9 @@ use Rattle.std.specs.Prelude.{IfOk}
 use Rattle.uf_cid.specs.declared.bytes.Memory.{Memory}
 use Rattle.uf_mfs.specs.Bad.{IsBadInTree}
 use Rattle.uf_plain.specs.Replies.{names_at}
-use Rattle.uf_reply.specs.Lines.{name_line}
+use Rattle.uf_command.specs.Lines.{name_line}
 use Rattle.uf_top.specs.Reply.{listed}
-use Rattle.uf_reply.specs.declared.types.Ask.TheVariants.{Ls}
+use Rattle.uf_command.specs.declared.types.Ask.TheVariants.{Ls}
 use Rattle.uf_top.proofs.Asking.{is-looked, not-looked}
 use Rattle.uf_top.proofs.Shows.{tree-fault}
 use Rattle.uf_top.proofs.tree.names_at.Goals as goal

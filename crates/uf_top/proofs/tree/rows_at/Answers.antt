@@ -5,9 +5,9 @@ use Rattle.uf_cid.specs.declared.bytes.Memory.{Memory}
 use Rattle.uf_mfs.specs.Bad.{IsBadInTree}
 use Rattle.uf_plain.specs.Replies.{rows_at}
 use Rattle.uf_plain.specs.declared.reply.Row.{Row}
-use Rattle.uf_reply.specs.Lines.{row_line}
+use Rattle.uf_command.specs.Lines.{row_line}
 use Rattle.uf_top.specs.Reply.{listed}
-use Rattle.uf_reply.specs.declared.types.Ask.TheVariants.{Ls}
+use Rattle.uf_command.specs.declared.types.Ask.TheVariants.{Ls}
 use Rattle.uf_top.proofs.Asking.{is-looked, not-looked}
 use Rattle.uf_top.proofs.Shows.{tree-fault}
 use Rattle.uf_top.proofs.tree.rows_at.Goals as goal

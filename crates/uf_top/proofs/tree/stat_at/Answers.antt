@@ -4,8 +4,8 @@ use Rattle.uf_cid.specs.declared.bytes.Memory.{Memory}
 use Rattle.uf_mfs.specs.Bad.{IsBadInTree}
 use Rattle.uf_plain.specs.Replies.{stat_of}
 use Rattle.uf_plain.specs.declared.reply.Stat.{Stat as TheStat}
-use Rattle.uf_reply.specs.Lines.{stat_text}
-use Rattle.uf_reply.specs.declared.types.Ask.TheVariants.{Stat}
+use Rattle.uf_command.specs.Lines.{stat_text}
+use Rattle.uf_command.specs.declared.types.Ask.TheVariants.{Stat}
 use Rattle.uf_top.proofs.Asking.{is-looked, not-looked}
 use Rattle.uf_top.proofs.Shows.{tree-fault}
 use Rattle.uf_top.proofs.tree.stat_at.Goals as goal

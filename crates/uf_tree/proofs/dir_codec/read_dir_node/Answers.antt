@@ -6,4 +6,4 @@ pub returns-in-Err : goal.returns-in-Err
 returns-in-Err c = dir_refused c.args.bytes.now c.in-Err.fault c.in-Err.ensures
 
 pub returns-in-Ok : goal.returns-in-Ok
-returns-in-Ok c = dir_read c.args.bytes.now c.in-Ok.node c.pairs_of.result (omega arith) c.in-Ok.ensures c.pairs_of.ensures
+returns-in-Ok c = dir_read c.args.bytes.now c.in-Ok.node c.dir_node_of.result (omega arith) c.in-Ok.ensures c.dir_node_of.ensures

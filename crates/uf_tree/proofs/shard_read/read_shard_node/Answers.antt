@@ -6,4 +6,4 @@ pub returns-in-Err : goal.returns-in-Err
 returns-in-Err c = shard_refused c.args.bytes.now c.in-Err.fault c.in-Err.ensures
 
 pub returns-in-Ok : goal.returns-in-Ok
-returns-in-Ok c = shard_read c.args.bytes.now c.in-Ok.node c.items_of.result (omega arith) c.in-Ok.ensures c.items_of.ensures
+returns-in-Ok c = shard_read c.args.bytes.now c.in-Ok.node c.shard_node_of.result (omega arith) c.in-Ok.ensures c.shard_node_of.ensures

@@ -2,7 +2,7 @@ use Rattle.std.proofs.Common.{◌≡◌, ◌+◌, ℕ, List, ◌++◌, sym, subs
 use Rattle.uf_tree.specs.declared.profile.Profile.{Profile}
 use Rattle.uf_tree.proofs.Told.{kept}
 use Rattle.uf_build.specs.Building.{Any, Building, Builds, IsHeld, HasFed, HoldsFed, SavesUpTo, saved_by}
-use Rattle.uf_build.specs.Rows.{saved_over}
+use Rattle.uf_build.specs.Rows.{saved_all, groups_in}
 use Rattle.uf_build.proofs.Ending.{up-to-none, up-to-done, most-by}
 use Rattle.uf_build.proofs.builder.Builder.feed.Goals as goal
 
@@ -11,7 +11,7 @@ unfolding HasFed
 returns-clause-fed g c = λ bytes h.
     let hash : List ℕ → List ℕ = g.S.X.BlockHash.block32 in
     let before = subst (λ (b : Building). Builds hash Any b.profile bytes b.begun b.rows) (sym c.self.view_is) h in
-    subst (λ (p : Profile). Builds hash Any p (bytes ++ c.args.piece.now) c.take.new.self.begun.items c.take.new.self.rows.items) (sym c.in_ok-take.ensures.took.same_profile)
+    subst (λ (p : Profile). Builds hash Any p (bytes ++ c.args.piece.now) c.take.new.self.begun.items (groups_in c.take.new.self.opened)) (sym c.in_ok-take.ensures.took.same_profile)
     (c.in_ok-take.ensures.took.feeds.fed bytes before)
 
 pub returns-clause-held : goal.returns-clause-held
@@ -21,14 +21,14 @@ returns-clause-held g c = λ bytes h.
     let told = (g.S.Store.seen c.args.store.now).told in
     let told_now = (g.S.Store.seen c.take.new.store).told in
     let before = subst (λ (b : Building). Builds hash (IsHeld told) b.profile bytes b.begun b.rows) (sym c.self.view_is) h in
-    subst (λ (p : Profile). Builds hash (IsHeld told_now) p (bytes ++ c.args.piece.now) c.take.new.self.begun.items c.take.new.self.rows.items) (sym c.in_ok-take.ensures.took.same_profile)
+    subst (λ (p : Profile). Builds hash (IsHeld told_now) p (bytes ++ c.args.piece.now) c.take.new.self.begun.items (groups_in c.take.new.self.opened)) (sym c.in_ok-take.ensures.took.same_profile)
     (c.in_ok-take.ensures.took.feeds.held bytes before)
 
 pub returns-clause-saved : goal.returns-clause-saved
 unfolding saved_by
 returns-clause-saved g c =
-    subst (λ (b : Building). c.take.new.touches + saved_over b.profile.width b.rows ≡ c.args.touches.now + saved_over c.take.new.self.profile.width c.take.new.self.rows.items) c.self.view_is
-    (subst (λ (p : Profile). c.take.new.touches + saved_over c.self.inside.layout.profile.width c.self.inside.layout.rows.items ≡ c.args.touches.now + saved_over p.width c.take.new.self.rows.items)
+    subst (λ (b : Building). c.take.new.touches + saved_all b.profile.width b.rows ≡ c.args.touches.now + saved_all c.take.new.self.profile.width (groups_in c.take.new.self.opened)) c.self.view_is
+    (subst (λ (p : Profile). c.take.new.touches + saved_all c.self.inside.layout.profile.width (groups_in c.self.inside.layout.opened) ≡ c.args.touches.now + saved_all p.width (groups_in c.take.new.self.opened))
     (sym c.in_ok-take.ensures.took.same_profile) c.in_ok-take.ensures.took.feeds.saves)
 
 pub returns-then-self-clause-most : goal.returns-then-self-clause-most
@@ -37,7 +37,7 @@ returns-then-self-clause-most g c =
     let p = kept l.profile c.self.invariant.profile in
     most-by g.S.X.BlockHash.block32 c.args.self.now c.args.piece.now c.args.touches.now c.args.touches.now
     (subst (λ (b : Building). SavesUpTo g.S.X.BlockHash.block32 b.profile c.args.piece.now b.begun b.rows c.args.touches.now c.args.touches.now) c.self.view_is
-    (up-to-none g.S.X.BlockHash.block32 l.profile p.some p.two c.args.piece.now l.begun.items l.rows.items c.args.touches.now))
+    (up-to-none g.S.X.BlockHash.block32 l.profile p.some p.two c.args.piece.now l.begun.items (groups_in l.opened) c.args.touches.now))
 
 pub returns-then-more-most-clause-most : goal.returns-then-more-most-clause-most
 returns-then-more-most-clause-most g c =
@@ -45,7 +45,7 @@ returns-then-more-most-clause-most g c =
     let p = kept l.profile c.self.invariant.profile in
     most-by g.S.X.BlockHash.block32 c.args.self.now c.args.piece.now c.args.touches.now c.args.touches.now
     (subst (λ (b : Building). SavesUpTo g.S.X.BlockHash.block32 b.profile c.args.piece.now b.begun b.rows c.args.touches.now c.args.touches.now) c.self.view_is
-    (up-to-none g.S.X.BlockHash.block32 l.profile p.some p.two c.args.piece.now l.begun.items l.rows.items c.args.touches.now))
+    (up-to-none g.S.X.BlockHash.block32 l.profile p.some p.two c.args.piece.now l.begun.items (groups_in l.opened) c.args.touches.now))
 
 pub returns-clause-most : goal.returns-clause-most
 returns-clause-most g c =
@@ -53,7 +53,7 @@ returns-clause-most g c =
     let p = kept l.profile c.self.invariant.profile in
     most-by g.S.X.BlockHash.block32 c.args.self.now c.args.piece.now c.args.touches.now c.take.new.touches
     (subst (λ (b : Building). SavesUpTo g.S.X.BlockHash.block32 b.profile c.args.piece.now b.begun b.rows c.args.touches.now c.take.new.touches) c.self.view_is
-    (up-to-done g.S.X.BlockHash.block32 l.profile p.some p.two c.args.piece.now l.begun.items c.take.new.self.begun.items l.rows.items c.take.new.self.rows.items _ _ c.args.touches.now c.take.new.touches
+    (up-to-done g.S.X.BlockHash.block32 l.profile p.some p.two c.args.piece.now l.begun.items c.take.new.self.begun.items (groups_in l.opened) (groups_in c.take.new.self.opened) _ _ c.args.touches.now c.take.new.touches
     c.in_ok-take.ensures.took.feeds))
 
 pub returns-in_err-take-clause-most : goal.returns-in_err-take-clause-most

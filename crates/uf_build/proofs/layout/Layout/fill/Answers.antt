@@ -3,6 +3,7 @@ use Rattle.std.proofs.lemmas.Grind.{common_steps}
 use Rattle.std.proofs.lemmas.List.{take-append-drop}
 use Rattle.uf_tree.proofs.Told.{kept}
 use Rattle.uf_build.specs.Building.{SavesUpTo}
+use Rattle.uf_build.specs.Rows.{groups_in}
 use Rattle.uf_build.proofs.Ending.{up-to-none, up-to-piece, up-to-front}
 use Rattle.uf_build.proofs.Feeding.{Feeds-piece}
 use Rattle.uf_build.proofs.Holding.{on_err_given}
@@ -19,7 +20,7 @@ returns-clause-took g c =
         same_profile = c.end_piece.ensures.within.same_profile;
         room = omega (arith, ap length ends.begun, p.some);
         feeds = Feeds-piece g.S.X.BlockHash.block32 c.args.self.now.profile p.two front c.args.self.now.begun.items c.end_piece.new.self.begun.items
-            c.append.new.begun.items c.args.self.now.rows.items c.end_piece.new.self.rows.items _ _ _ _
+            c.append.new.begun.items (groups_in c.args.self.now.opened) (groups_in c.end_piece.new.self.opened) _ _ _ _
             is (let size = ap length is in grind (arith, common_steps)) ends.begun ends.adds;
       };
       fits = grind (arith, common_steps);
@@ -31,7 +32,7 @@ returns-in_err-append-clause-stops g c =
     let p = kept c.args.self.now.profile c.requires.can.profile in
     on_err_given c.from_residual.result (record {
       same_profile = refl;
-      most = up-to-none g.S.X.BlockHash.block32 c.args.self.now.profile p.some p.two c.args.bytes.now c.args.self.now.begun.items c.args.self.now.rows.items c.args.touches.now;
+      most = up-to-none g.S.X.BlockHash.block32 c.args.self.now.profile p.some p.two c.args.bytes.now c.args.self.now.begun.items (groups_in c.args.self.now.opened) c.args.touches.now;
     })
 
 pub returns-in_err-end_piece-clause-stops : goal.returns-in_err-end_piece-clause-stops
@@ -42,10 +43,10 @@ returns-in_err-end_piece-clause-stops g c =
     let begun = c.args.self.now.begun.items in
     let front : List ℕ = take c.min-front.result c.args.bytes.now in
     let is : begun ++ front ≡ c.append.new.begun.items = grind (arith, common_steps, c.in_ok-append.ensures) in
-    let piece = up-to-piece hash q p.some p.two front begun c.append.new.begun.items c.args.self.now.rows.items c.args.touches.now c.end_piece.new.touches
+    let piece = up-to-piece hash q p.some p.two front begun c.append.new.begun.items (groups_in c.args.self.now.opened) c.args.touches.now c.end_piece.new.touches
     is (let size = ap length is in grind (arith, common_steps)) c.end_piece.ensures.within.most in
     on_err_given c.from_residual-in_err-end_piece.result (record {
       same_profile = c.end_piece.ensures.within.same_profile;
-      most = subst (λ (l : List ℕ). SavesUpTo hash q l begun c.args.self.now.rows.items c.args.touches.now c.end_piece.new.touches) (take-append-drop c.min-front.result c.args.bytes.now)
-          (up-to-front hash q p.some p.two front (drop c.min-front.result c.args.bytes.now) begun c.args.self.now.rows.items c.args.touches.now c.end_piece.new.touches piece);
+      most = subst (λ (l : List ℕ). SavesUpTo hash q l begun (groups_in c.args.self.now.opened) c.args.touches.now c.end_piece.new.touches) (take-append-drop c.min-front.result c.args.bytes.now)
+          (up-to-front hash q p.some p.two front (drop c.min-front.result c.args.bytes.now) begun (groups_in c.args.self.now.opened) c.args.touches.now c.end_piece.new.touches piece);
     })

@@ -6,7 +6,7 @@ use Rattle.uf_tree.specs.FilePlan.{leaf_part}
 use Rattle.uf_tree.proofs.Told.{kept}
 use Rattle.uf_build.specs.Building.{Adds, Feeds, SavesUpTo}
 use Rattle.uf_build.specs.Layouts.{Takes}
-use Rattle.uf_build.specs.Rows.{push_row, saved_over}
+use Rattle.uf_build.specs.Rows.{add_row, saved_all, groups_in}
 use Rattle.uf_build.proofs.Calls.{builds-builds}
 use Rattle.uf_build.proofs.Cutting.{more, piece-size, whole}
 use Rattle.uf_build.proofs.Ending.{up-to-behind, up-to-front, up-to-piece}
@@ -32,16 +32,16 @@ loop-i-preserved g c =
     let now = (g.S.Store.seen c.save_leaf.new.store).told in
     let piece : List ℕ = take (i * p.chunk + p.chunk - i * p.chunk) (drop (i * p.chunk) bytes) in
     let size : length piece ≡ p.chunk = piece-size bytes i p.chunk c.args.count (omega arith) c.requires.count in
-    let adds = subst (λ (q : Profile). Adds hash q piece c.loop-i.self.rows.items c.save_leaf.new.rows.items mid now c.loop-i.touches c.save_leaf.new.touches) c.loop-i.invariant.profile c.in_ok-save_leaf.ensures.adds in
+    let adds = subst (λ (q : Profile). Adds hash q piece (groups_in c.loop-i.self.opened) (groups_in c.save_leaf.new.opened) mid now c.loop-i.touches c.save_leaf.new.touches) c.loop-i.invariant.profile c.in_ok-save_leaf.ensures.adds in
     record {
       took = record {
         same_profile = c.loop-i.invariant.profile;
         room = omega (arith, ap length c.loop-i.invariant.begun, is_kept.some);
-        feeds = subst (λ (l : List ℕ). Feeds hash p l c.args.self.now.begun.items c.loop-i.self.begun.items c.args.self.now.rows.items c.save_leaf.new.rows.items before now c.args.touches.now c.save_leaf.new.touches)
+        feeds = subst (λ (l : List ℕ). Feeds hash p l c.args.self.now.begun.items c.loop-i.self.begun.items (groups_in c.args.self.now.opened) (groups_in c.save_leaf.new.opened) before now c.args.touches.now c.save_leaf.new.touches)
             (sym (more bytes i p.chunk))
             (Feeds-trans hash p two (take (i * p.chunk) bytes) piece c.args.self.now.begun.items c.loop-i.self.begun.items c.loop-i.self.begun.items
-            c.args.self.now.rows.items c.loop-i.self.rows.items c.save_leaf.new.rows.items before mid now c.args.touches.now c.loop-i.touches c.save_leaf.new.touches c.loop-i.invariant.took.feeds
-            (Feeds-piece hash p two piece c.loop-i.self.begun.items c.loop-i.self.begun.items piece c.loop-i.self.rows.items c.save_leaf.new.rows.items mid now c.loop-i.touches c.save_leaf.new.touches
+            (groups_in c.args.self.now.opened) (groups_in c.loop-i.self.opened) (groups_in c.save_leaf.new.opened) before mid now c.args.touches.now c.loop-i.touches c.save_leaf.new.touches c.loop-i.invariant.took.feeds
+            (Feeds-piece hash p two piece c.loop-i.self.begun.items c.loop-i.self.begun.items piece (groups_in c.loop-i.self.opened) (groups_in c.save_leaf.new.opened) mid now c.loop-i.touches c.save_leaf.new.touches
             (ap (λ (l : List ℕ). l ++ piece) c.loop-i.invariant.begun) size c.loop-i.invariant.begun adds));
       };
       profile = c.loop-i.invariant.profile;
@@ -69,15 +69,15 @@ returns-in_err-save_leaf-clause-stops g c =
     let mid = (g.S.Store.seen c.loop-i.store).told in
     let piece : List ℕ = take (i * p.chunk + p.chunk - i * p.chunk) (drop (i * p.chunk) bytes) in
     let size : length piece ≡ p.chunk = piece-size bytes i p.chunk c.args.count (omega arith) c.requires.count in
-    let one = subst (λ (q : Profile). c.save_leaf.new.touches + saved_over q.width c.loop-i.self.rows.items ≤ c.loop-i.touches + saved_over q.width (push_row hash q.width (leaf_part hash piece) c.loop-i.self.rows.items))
+    let one = subst (λ (q : Profile). c.save_leaf.new.touches + saved_all q.width (groups_in c.loop-i.self.opened) ≤ c.loop-i.touches + saved_all q.width (add_row hash q.width (leaf_part hash piece) (groups_in c.loop-i.self.opened)))
     c.loop-i.invariant.profile c.save_leaf.ensures.most in
-    let next = up-to-piece hash p is_kept.some is_kept.two piece c.loop-i.self.begun.items piece c.loop-i.self.rows.items c.loop-i.touches c.save_leaf.new.touches
+    let next = up-to-piece hash p is_kept.some is_kept.two piece c.loop-i.self.begun.items piece (groups_in c.loop-i.self.opened) c.loop-i.touches c.save_leaf.new.touches
     (ap (λ (l : List ℕ). l ++ piece) c.loop-i.invariant.begun) size one in
-    let most = up-to-behind hash p is_kept.some is_kept.two (take (i * p.chunk) bytes) piece c.args.self.now.begun.items c.loop-i.self.begun.items c.args.self.now.rows.items c.loop-i.self.rows.items before mid
+    let most = up-to-behind hash p is_kept.some is_kept.two (take (i * p.chunk) bytes) piece c.args.self.now.begun.items c.loop-i.self.begun.items (groups_in c.args.self.now.opened) (groups_in c.loop-i.self.opened) before mid
     c.args.touches.now c.loop-i.touches c.save_leaf.new.touches c.loop-i.invariant.took.feeds next in
     on_err_given c.from_residual.result (record {
       same_profile = c.loop-i.invariant.profile;
-      most = subst (λ (l : List ℕ). SavesUpTo hash p l c.args.self.now.begun.items c.args.self.now.rows.items c.args.touches.now c.save_leaf.new.touches)
+      most = subst (λ (l : List ℕ). SavesUpTo hash p l c.args.self.now.begun.items (groups_in c.args.self.now.opened) c.args.touches.now c.save_leaf.new.touches)
           (ap (λ (l : List ℕ). l ++ drop ((i + 1) * p.chunk) bytes) (sym (more bytes i p.chunk)) ∙ take-append-drop ((i + 1) * p.chunk) bytes)
-          (up-to-front hash p is_kept.some is_kept.two (take (i * p.chunk) bytes ++ piece) (drop ((i + 1) * p.chunk) bytes) c.args.self.now.begun.items c.args.self.now.rows.items c.args.touches.now c.save_leaf.new.touches most);
+          (up-to-front hash p is_kept.some is_kept.two (take (i * p.chunk) bytes ++ piece) (drop ((i + 1) * p.chunk) bytes) c.args.self.now.begun.items (groups_in c.args.self.now.opened) c.args.touches.now c.save_leaf.new.touches most);
     })

@@ -5,6 +5,7 @@ use Rattle.uf_tree.specs.declared.profile.Profile.{Profile}
 use Rattle.uf_tree.proofs.Told.{kept}
 use Rattle.uf_build.specs.Building.{Feeds, SavesUpTo}
 use Rattle.uf_build.specs.Layouts.{Takes}
+use Rattle.uf_build.specs.Rows.{groups_in}
 use Rattle.uf_build.proofs.Calls.{builds-builds}
 use Rattle.uf_build.proofs.Cutting.{goes-on, left-behind, no-length}
 use Rattle.uf_build.proofs.Ending.{up-to-behind, up-to-front}
@@ -26,7 +27,7 @@ loop-left-preserved g c =
     let mid = (g.S.Store.seen c.loop-left.store).told in
     let now = (g.S.Store.seen c.save_group.new.store).told in
     let took = c.loop-left.invariant.took in
-    let group = subst (λ (q : Profile). Feeds hash q c.split_at.result.0.now c.loop-left.self.begun.items c.save_group.new.self.begun.items c.loop-left.self.rows.items c.save_group.new.self.rows.items mid now c.loop-left.touches c.save_group.new.touches)
+    let group = subst (λ (q : Profile). Feeds hash q c.split_at.result.0.now c.loop-left.self.begun.items c.save_group.new.self.begun.items (groups_in c.loop-left.self.opened) (groups_in c.save_group.new.self.opened) mid now c.loop-left.touches c.save_group.new.touches)
     c.loop-left.invariant.profile c.in_ok-save_group.ensures.took.takes.feeds in
     record {
       took = (
@@ -36,7 +37,7 @@ loop-left-preserved g c =
           same_profile = c.in_ok-save_group.ensures.took.takes.same_profile ∙ c.loop-left.invariant.profile;
           room = subst (λ (q : Profile). length c.save_group.new.self.begun.items < q.chunk) c.loop-left.invariant.profile c.in_ok-save_group.ensures.took.takes.room;
           feeds = Feeds-trans hash p two took.0 c.split_at.result.0.now c.args.self.now.begun.items c.loop-left.self.begun.items c.save_group.new.self.begun.items
-              c.args.self.now.rows.items c.loop-left.self.rows.items c.save_group.new.self.rows.items before mid now c.args.touches.now c.loop-left.touches c.save_group.new.touches took.2.feeds group;
+              (groups_in c.args.self.now.opened) (groups_in c.loop-left.self.opened) (groups_in c.save_group.new.self.opened) before mid now c.args.touches.now c.loop-left.touches c.save_group.new.touches took.2.feeds group;
         },
       );
       profile = c.in_ok-save_group.ensures.took.takes.same_profile ∙ c.loop-left.invariant.profile;
@@ -66,13 +67,13 @@ returns-in_err-save_group-clause-stops g c =
     let group : List ℕ = c.split_at.result.0.now in
     let behind : List ℕ = c.split_at.result.1.now in
     let took = c.loop-left.invariant.took in
-    let pieces = subst (λ (q : Profile). SavesUpTo hash q group c.loop-left.self.begun.items c.loop-left.self.rows.items c.loop-left.touches c.save_group.new.touches)
+    let pieces = subst (λ (q : Profile). SavesUpTo hash q group c.loop-left.self.begun.items (groups_in c.loop-left.self.opened) c.loop-left.touches c.save_group.new.touches)
     c.loop-left.invariant.profile c.in_err-save_group.ensures.stops.most in
-    let most = up-to-behind hash p is_kept.some is_kept.two took.0 group c.args.self.now.begun.items c.loop-left.self.begun.items c.args.self.now.rows.items c.loop-left.self.rows.items before mid
+    let most = up-to-behind hash p is_kept.some is_kept.two took.0 group c.args.self.now.begun.items c.loop-left.self.begun.items (groups_in c.args.self.now.opened) (groups_in c.loop-left.self.opened) before mid
     c.args.touches.now c.loop-left.touches c.save_group.new.touches took.2.feeds pieces in
     on_err_given c.from_residual.result (record {
       same_profile = c.in_err-save_group.ensures.stops.same_profile ∙ c.loop-left.invariant.profile;
-      most = subst (λ (l : List ℕ). SavesUpTo hash p l c.args.self.now.begun.items c.args.self.now.rows.items c.args.touches.now c.save_group.new.touches)
+      most = subst (λ (l : List ℕ). SavesUpTo hash p l c.args.self.now.begun.items (groups_in c.args.self.now.opened) c.args.touches.now c.save_group.new.touches)
           (sym (goes-on _ _ _ _ _ _ took.1 c.split_at.ensures.front c.split_at.ensures.back))
-          (up-to-front hash p is_kept.some is_kept.two (took.0 ++ group) behind c.args.self.now.begun.items c.args.self.now.rows.items c.args.touches.now c.save_group.new.touches most);
+          (up-to-front hash p is_kept.some is_kept.two (took.0 ++ group) behind c.args.self.now.begun.items (groups_in c.args.self.now.opened) c.args.touches.now c.save_group.new.touches most);
     })

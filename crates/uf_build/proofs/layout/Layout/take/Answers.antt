@@ -4,6 +4,7 @@ use Rattle.std.proofs.lemmas.Result.{err_from_is_err_and}
 use Rattle.uf_tree.specs.declared.profile.Profile.{Profile}
 use Rattle.uf_tree.proofs.Told.{kept}
 use Rattle.uf_build.specs.Building.{Feeds, SavesUpTo}
+use Rattle.uf_build.specs.Rows.{groups_in}
 use Rattle.uf_build.proofs.Calls.{builds-builds, builds-memory}
 use Rattle.uf_build.proofs.Cutting.{splits}
 use Rattle.uf_build.proofs.Ending.{up-to-behind, up-to-done, up-to-front}
@@ -34,19 +35,19 @@ returns-clause-took g c =
     let now = (g.S.Store.seen c.save_pieces.new.store).told in
     let group : List ℕ = c.split_at.result.0.now in
     let behind : List ℕ = c.split_at.result.1.now in
-    let pieces = subst (λ (q : Profile). Feeds hash q group c.fill.new.self.begun.items c.save_pieces.new.self.begun.items c.fill.new.self.rows.items c.save_pieces.new.self.rows.items mid now c.fill.new.touches c.save_pieces.new.touches)
+    let pieces = subst (λ (q : Profile). Feeds hash q group c.fill.new.self.begun.items c.save_pieces.new.self.begun.items (groups_in c.fill.new.self.opened) (groups_in c.save_pieces.new.self.opened) mid now c.fill.new.touches c.save_pieces.new.touches)
     c.in_ok-front.ensures.took.takes.same_profile c.in_ok-save_pieces.ensures.took.takes.feeds in
     let first = Feeds-trans hash p two (take c.in_ok-front.front c.args.bytes.now) group c.args.self.now.begun.items c.fill.new.self.begun.items c.save_pieces.new.self.begun.items
-    c.args.self.now.rows.items c.fill.new.self.rows.items c.save_pieces.new.self.rows.items before mid now c.args.touches.now c.fill.new.touches c.save_pieces.new.touches c.in_ok-front.ensures.took.takes.feeds pieces in
-    let then = subst (λ (b : List ℕ). Feeds hash p behind c.save_pieces.new.self.begun.items b c.save_pieces.new.self.rows.items c.save_pieces.new.self.rows.items now now c.save_pieces.new.touches c.save_pieces.new.touches)
-    (sym c.in_ok-append.ensures) (Feeds-begun hash p two behind c.save_pieces.new.self.begun.items c.save_pieces.new.self.rows.items now c.save_pieces.new.touches first.are_open) in
+    (groups_in c.args.self.now.opened) (groups_in c.fill.new.self.opened) (groups_in c.save_pieces.new.self.opened) before mid now c.args.touches.now c.fill.new.touches c.save_pieces.new.touches c.in_ok-front.ensures.took.takes.feeds pieces in
+    let then = subst (λ (b : List ℕ). Feeds hash p behind c.save_pieces.new.self.begun.items b (groups_in c.save_pieces.new.self.opened) (groups_in c.save_pieces.new.self.opened) now now c.save_pieces.new.touches c.save_pieces.new.touches)
+    (sym c.in_ok-append.ensures) (Feeds-begun hash p two behind c.save_pieces.new.self.begun.items (groups_in c.save_pieces.new.self.opened) now c.save_pieces.new.touches first.are_open) in
     record {
       same_profile = c.in_ok-save_pieces.ensures.took.takes.same_profile ∙ c.in_ok-front.ensures.took.takes.same_profile;
       room = grind (arith, common_steps, ap length c.in_ok-append.ensures, ap length c.in_ok-save_pieces.ensures.took.begun, c.in_ok-front.ensures.took.all, c.in_ok-front.ensures.took.takes.room);
-      feeds = subst (λ (l : List ℕ). Feeds hash p l c.args.self.now.begun.items c.append.new.begun.items c.args.self.now.rows.items c.save_pieces.new.self.rows.items before now c.args.touches.now c.save_pieces.new.touches)
+      feeds = subst (λ (l : List ℕ). Feeds hash p l c.args.self.now.begun.items c.append.new.begun.items (groups_in c.args.self.now.opened) (groups_in c.save_pieces.new.self.opened) before now c.args.touches.now c.save_pieces.new.touches)
           (sym (splits c.args.bytes.now group behind c.in_ok-front.front _ c.in_ok-front.ensures.took.fits c.split_at.ensures.front c.split_at.ensures.back))
           (Feeds-trans hash p two (take c.in_ok-front.front c.args.bytes.now ++ group) behind c.args.self.now.begun.items c.save_pieces.new.self.begun.items c.append.new.begun.items
-          c.args.self.now.rows.items c.save_pieces.new.self.rows.items c.save_pieces.new.self.rows.items before now now c.args.touches.now c.save_pieces.new.touches c.save_pieces.new.touches first then);
+          (groups_in c.args.self.now.opened) (groups_in c.save_pieces.new.self.opened) (groups_in c.save_pieces.new.self.opened) before now now c.args.touches.now c.save_pieces.new.touches c.save_pieces.new.touches first then);
     }
 
 pub returns-in_err-save_pieces-clause-stops : goal.returns-in_err-save_pieces-clause-stops
@@ -59,15 +60,15 @@ returns-in_err-save_pieces-clause-stops g c =
     let front : List ℕ = take c.in_ok-front.front c.args.bytes.now in
     let group : List ℕ = c.split_at.result.0.now in
     let behind : List ℕ = c.split_at.result.1.now in
-    let pieces = subst (λ (q : Profile). SavesUpTo hash q group c.fill.new.self.begun.items c.fill.new.self.rows.items c.fill.new.touches c.save_pieces.new.touches)
+    let pieces = subst (λ (q : Profile). SavesUpTo hash q group c.fill.new.self.begun.items (groups_in c.fill.new.self.opened) c.fill.new.touches c.save_pieces.new.touches)
     c.in_ok-front.ensures.took.takes.same_profile c.in_err-save_pieces.ensures.stops.most in
-    let most = up-to-behind hash p is_kept.some is_kept.two front group c.args.self.now.begun.items c.fill.new.self.begun.items c.args.self.now.rows.items c.fill.new.self.rows.items before mid
+    let most = up-to-behind hash p is_kept.some is_kept.two front group c.args.self.now.begun.items c.fill.new.self.begun.items (groups_in c.args.self.now.opened) (groups_in c.fill.new.self.opened) before mid
     c.args.touches.now c.fill.new.touches c.save_pieces.new.touches c.in_ok-front.ensures.took.takes.feeds pieces in
     on_err_given c.from_residual-in_err-save_pieces.result (record {
       same_profile = c.in_err-save_pieces.ensures.stops.same_profile ∙ c.in_ok-front.ensures.took.takes.same_profile;
-      most = subst (λ (l : List ℕ). SavesUpTo hash p l c.args.self.now.begun.items c.args.self.now.rows.items c.args.touches.now c.save_pieces.new.touches)
+      most = subst (λ (l : List ℕ). SavesUpTo hash p l c.args.self.now.begun.items (groups_in c.args.self.now.opened) c.args.touches.now c.save_pieces.new.touches)
           (sym (splits c.args.bytes.now group behind c.in_ok-front.front _ c.in_ok-front.ensures.took.fits c.split_at.ensures.front c.split_at.ensures.back))
-          (up-to-front hash p is_kept.some is_kept.two (front ++ group) behind c.args.self.now.begun.items c.args.self.now.rows.items c.args.touches.now c.save_pieces.new.touches most);
+          (up-to-front hash p is_kept.some is_kept.two (front ++ group) behind c.args.self.now.begun.items (groups_in c.args.self.now.opened) c.args.touches.now c.save_pieces.new.touches most);
     })
 
 pub returns-in_err-append-clause-stops : goal.returns-in_err-append-clause-stops
@@ -81,15 +82,15 @@ returns-in_err-append-clause-stops g c =
     let group : List ℕ = c.split_at.result.0.now in
     let behind : List ℕ = c.split_at.result.1.now in
     let now = (g.S.Store.seen c.save_pieces.new.store).told in
-    let pieces = subst (λ (q : Profile). Feeds hash q group c.fill.new.self.begun.items c.save_pieces.new.self.begun.items c.fill.new.self.rows.items c.save_pieces.new.self.rows.items mid now c.fill.new.touches c.save_pieces.new.touches)
+    let pieces = subst (λ (q : Profile). Feeds hash q group c.fill.new.self.begun.items c.save_pieces.new.self.begun.items (groups_in c.fill.new.self.opened) (groups_in c.save_pieces.new.self.opened) mid now c.fill.new.touches c.save_pieces.new.touches)
     c.in_ok-front.ensures.took.takes.same_profile c.in_ok-save_pieces.ensures.took.takes.feeds in
-    let done = up-to-done hash p is_kept.some is_kept.two (front ++ group) c.args.self.now.begun.items c.save_pieces.new.self.begun.items c.args.self.now.rows.items c.save_pieces.new.self.rows.items before now
+    let done = up-to-done hash p is_kept.some is_kept.two (front ++ group) c.args.self.now.begun.items c.save_pieces.new.self.begun.items (groups_in c.args.self.now.opened) (groups_in c.save_pieces.new.self.opened) before now
     c.args.touches.now c.save_pieces.new.touches in
     let most = done (Feeds-trans hash p is_kept.two front group c.args.self.now.begun.items c.fill.new.self.begun.items c.save_pieces.new.self.begun.items
-    c.args.self.now.rows.items c.fill.new.self.rows.items c.save_pieces.new.self.rows.items before mid now c.args.touches.now c.fill.new.touches c.save_pieces.new.touches c.in_ok-front.ensures.took.takes.feeds pieces) in
+    (groups_in c.args.self.now.opened) (groups_in c.fill.new.self.opened) (groups_in c.save_pieces.new.self.opened) before mid now c.args.touches.now c.fill.new.touches c.save_pieces.new.touches c.in_ok-front.ensures.took.takes.feeds pieces) in
     on_err_given c.from_residual-in_err-append.result (record {
       same_profile = c.in_ok-save_pieces.ensures.took.takes.same_profile ∙ c.in_ok-front.ensures.took.takes.same_profile;
-      most = subst (λ (l : List ℕ). SavesUpTo hash p l c.args.self.now.begun.items c.args.self.now.rows.items c.args.touches.now c.save_pieces.new.touches)
+      most = subst (λ (l : List ℕ). SavesUpTo hash p l c.args.self.now.begun.items (groups_in c.args.self.now.opened) c.args.touches.now c.save_pieces.new.touches)
           (sym (splits c.args.bytes.now group behind c.in_ok-front.front _ c.in_ok-front.ensures.took.fits c.split_at.ensures.front c.split_at.ensures.back))
-          (up-to-front hash p is_kept.some is_kept.two (front ++ group) behind c.args.self.now.begun.items c.args.self.now.rows.items c.args.touches.now c.save_pieces.new.touches most);
+          (up-to-front hash p is_kept.some is_kept.two (front ++ group) behind c.args.self.now.begun.items (groups_in c.args.self.now.opened) c.args.touches.now c.save_pieces.new.touches most);
     })

@@ -20,4 +20,4 @@ returns-clause-touches g c = λ t meant.
     let more = take (length c.args.names.now - 1) (drop 1 c.args.names.now) in
     let q : c.name-item.result ∷ more ≡ c.args.names.now = first-rest c.args.names.now c.name-item.result c.in-len1-up.len_at_least c.name-item.is in
     subst (λ l. TouchesFolder X N p a b (brought X N p what t) root (λ es. 40 * length l + crossings_of X N p l es (changed_at what t l es) + weighing_of X N p what l es) c.args.touches.now c.edit.new.touches) q
-    (touches-by X N p (brought X N p what t) root _ _ c.args.touches.now c.edit.new.touches (λ es. omega arith) (c.edit.ensures.touches t meant))
+    (touches-by X N p (brought X N p what t) root _ _ c.args.touches.now c.edit.new.touches (λ es. omega arith) (c.edit.ensures.touches t (λ n. n) meant tt))

@@ -6,8 +6,9 @@ use Rattle.uf_store.specs.Keeping.{Agrees}
 use Rattle.uf_store.specs.Lost.{IsLossOf}
 use Rattle.uf_store.proofs.Calls.{stood-back, stood-front}
 use Rattle.uf_tree.specs.FilePlan.{file_plan}
-use Rattle.uf_tree.specs.Tree.{Dir, File}
-use Rattle.uf_plain.specs.Files.{plain_bytes_at, read as range_at}
+use Rattle.uf_tree.specs.Tree.{Dir}
+use Rattle.uf_plain.specs.Edits.{at}
+use Rattle.uf_plain.specs.Files.{read as range_at}
 use Rattle.uf_plain.specs.Needs.{needs_at}
 use Rattle.uf_mfs.specs.Answers.{AnswersOr}
 use Rattle.uf_mfs.specs.Reading.{IsHeightOf, SendsAll, range_needs, range_touches, to_read}
@@ -26,7 +27,7 @@ returns-in-Err-clause-lost g c = λ p es height s tall stood calm.
     let X = g.S.X.BlockHash.block32 in let N = g.N.NameHash.name64 in let told = (g.S.Store.seen c.args.store.now).told in
     let held = g.O.Sink.holds c.args.out.now in
     subst (λ (ns : List (List ℕ)). AnswersOr (IsLossOf told (needs_at X N p (range_needs X p height c.args.offset c.args.count) ns (Dir es))) (λ bytes n. SendsAll held held bytes n) ns (range_at c.args.offset c.args.count ns es) (Err c.fault_of.result)) c.as_slice-names.ensures
-    (read-stopped X N p told c.as_slice-names.result.now es (λ bytes e. IsAgreed X N told p e (File bytes)) (λ bytes n. SendsAll held held bytes n) (range_needs X p height c.args.offset c.args.count) c.args.offset c.args.count
+    (read-stopped X N p told c.as_slice-names.result.now es (λ t e. IsAgreed X N told p e t) (λ bytes n. SendsAll held held bytes n) (range_needs X p height c.args.offset c.args.count) c.args.offset c.args.count
     c.in-Err.stop c.fault_of.result c.fault_of.ensures (c.in-Err.ensures.looks p es s.root stood))
 
 pub returns-in_err-sent-in-Ok-clause-lost : goal.returns-in_err-sent-in-Ok-clause-lost
@@ -38,12 +39,12 @@ returns-in_err-sent-in-Ok-clause-lost g c = λ p es height s tall stood calm.
     let front = stood-front a.faults b.faults d.faults c.in-Ok.ensures.reads.cause.faults (range-rises X (IsBadInFile b.told c.in-Ok.entry.cid) (Err c.in_err-sent-in-Ok.field-0.0) b d _ _ c.in_err-sent-in-Ok.ensures.cause) stood in
     let back = stood-back a.faults b.faults d.faults c.in-Ok.ensures.reads.cause.faults stood in
     let out = err_from_is_err_and c.from_residual.result c.from_residual.ensures.1 in
-    rw out.1 (subst (λ (ns : List (List ℕ)). IsHeightOf p height (plain_bytes_at ns es) → AnswersOr (IsLossOf told (needs_at X N p (range_needs X p height c.args.offset c.args.count) ns (Dir es))) (λ bytes n. SendsAll held held_now bytes n) ns
+    rw out.1 (subst (λ (ns : List (List ℕ)). IsHeightOf p height (at 0 ns (Dir es)) → AnswersOr (IsLossOf told (needs_at X N p (range_needs X p height c.args.offset c.args.count) ns (Dir es))) (λ bytes n. SendsAll held held_now bytes n) ns
     (range_at c.args.offset c.args.count ns es) (Err out.0)) c.as_slice-names.ensures
     (λ tall. read-lost X N p told c.as_slice-names.result.now es height c.args.offset c.args.count held held_now c.in-Ok.entry c.in_err-sent-in-Ok.field-0.0 out.0 out.2
     (λ is. calm (out.1 ∙ ap (λ (f : MfsFault). Err f) (range-sink c.in_err-sent-in-Ok.field-0.0 out.0 out.2 is))) (c.in-Ok.ensures.looks p es s.root front) tall
-    (λ bytes is agrees. subst (λ t. WritesOver t (blocks_read X p.chunk p.width height c.args.offset c.args.count bytes) (range_of c.args.offset c.args.count bytes) held held_now (Err c.in_err-sent-in-Ok.field-0.0)) same
-    (c.in_err-sent-in-Ok.ensures.value p bytes height is (subst (λ t. Agrees t (file_plan X p bytes).blocks) (sym same) agrees) back))) tall)
+    (λ m bytes is agrees. subst (λ t. WritesOver t (blocks_read X p.chunk p.width m height c.args.offset c.args.count bytes) (range_of c.args.offset c.args.count bytes) held held_now (Err c.in_err-sent-in-Ok.field-0.0)) same
+    (c.in_err-sent-in-Ok.ensures.value p m bytes height is (subst (λ t. Agrees t (file_plan X p m bytes).blocks) (sym same) agrees) back))) tall)
 
 pub returns-in_ok-sent-in-Ok-clause-lost : goal.returns-in_ok-sent-in-Ok-clause-lost
 returns-in_ok-sent-in-Ok-clause-lost g c = λ p es height s tall stood calm.
@@ -53,11 +54,11 @@ returns-in_ok-sent-in-Ok-clause-lost g c = λ p es height s tall stood calm.
     let same = c.in-Ok.ensures.reads.told in
     let front = stood-front a.faults b.faults d.faults c.in-Ok.ensures.reads.cause.faults (range-rises X (IsBadInFile b.told c.in-Ok.entry.cid) (Ok c.in_ok-sent-in-Ok.sent) b d _ _ c.in_ok-sent-in-Ok.ensures.cause) stood in
     let back = stood-back a.faults b.faults d.faults c.in-Ok.ensures.reads.cause.faults stood in
-    subst (λ (ns : List (List ℕ)). IsHeightOf p height (plain_bytes_at ns es) → AnswersOr (IsLossOf told (needs_at X N p (range_needs X p height c.args.offset c.args.count) ns (Dir es))) (λ bytes n. SendsAll held held_now bytes n) ns
+    subst (λ (ns : List (List ℕ)). IsHeightOf p height (at 0 ns (Dir es)) → AnswersOr (IsLossOf told (needs_at X N p (range_needs X p height c.args.offset c.args.count) ns (Dir es))) (λ bytes n. SendsAll held held_now bytes n) ns
     (range_at c.args.offset c.args.count ns es) (Ok c.in_ok-sent-in-Ok.sent)) c.as_slice-names.ensures
     (λ tall. read-done X N p told c.as_slice-names.result.now es height c.args.offset c.args.count c.in_ok-sent-in-Ok.sent held held_now c.in-Ok.entry (c.in-Ok.ensures.looks p es s.root front) tall
-    (λ bytes is agrees. subst (λ t. WritesOver t (blocks_read X p.chunk p.width height c.args.offset c.args.count bytes) (range_of c.args.offset c.args.count bytes) held held_now (Ok c.in_ok-sent-in-Ok.sent)) same
-    (c.in_ok-sent-in-Ok.ensures.value p bytes height is (subst (λ t. Agrees t (file_plan X p bytes).blocks) (sym same) agrees) back))) tall
+    (λ m bytes is agrees. subst (λ t. WritesOver t (blocks_read X p.chunk p.width m height c.args.offset c.args.count bytes) (range_of c.args.offset c.args.count bytes) held held_now (Ok c.in_ok-sent-in-Ok.sent)) same
+    (c.in_ok-sent-in-Ok.ensures.value p m bytes height is (subst (λ t. Agrees t (file_plan X p m bytes).blocks) (sym same) agrees) back))) tall
 
 pub returns-in-Err-clause-answer : goal.returns-in-Err-clause-answer
 returns-in-Err-clause-answer g c = λ p es s stood calm.
@@ -92,7 +93,7 @@ returns-in_err-sent-in-Ok-clause-prefix g c = λ p es s room.
     let out = err_from_is_err_and c.from_residual.result c.from_residual.ensures.1 in
     rw out.1 (subst (λ (ns : List (List ℕ)). AppendsPrefix (to_read (range_at c.args.offset c.args.count ns es)) held held_now) c.as_slice-names.ensures
     (read-front X N p told c.as_slice-names.result.now es c.args.offset c.args.count held held_now c.in-Ok.entry (c.in-Ok.ensures.looks p es s.root front)
-    (λ bytes height is agrees. c.in_err-sent-in-Ok.ensures.fault p bytes height is (subst (λ t. Agrees t (file_plan X p bytes).blocks) (sym same) agrees))))
+    (λ m bytes height is agrees. c.in_err-sent-in-Ok.ensures.fault p m bytes height is (subst (λ t. Agrees t (file_plan X p m bytes).blocks) (sym same) agrees))))
 
 pub returns-in-Err-clause-cause : goal.returns-in-Err-clause-cause
 returns-in-Err-clause-cause g c =
@@ -127,7 +128,7 @@ returns-in_err-sent-in-Ok-clause-touches g c = λ p es rows s heights stood.
     subst (λ (ns : List (List ℕ)). c.read_range.new.touches ≤ c.args.touches.now + read_bound more ns (Dir es)) c.as_slice-names.ensures
     (range-reached X N p a.told names es rows c.args.offset c.args.count c.in-Ok.entry c.args.touches.now c.look_at_file.new.touches c.read_range.new.touches heights
     (c.in-Ok.ensures.looks p es s.root front) c.in-Ok.ensures.touches
-    (λ bytes height is agrees. c.in_err-sent-in-Ok.ensures.touches p bytes height is (subst (λ t. Agrees t (file_plan X p bytes).blocks) (sym same) agrees)))
+    (λ m bytes height is agrees. c.in_err-sent-in-Ok.ensures.touches p m bytes height is (subst (λ t. Agrees t (file_plan X p m bytes).blocks) (sym same) agrees)))
 
 pub returns-in_ok-sent-in-Ok-clause-touches : goal.returns-in_ok-sent-in-Ok-clause-touches
 returns-in_ok-sent-in-Ok-clause-touches g c = λ p es rows s heights stood.
@@ -138,7 +139,7 @@ returns-in_ok-sent-in-Ok-clause-touches g c = λ p es rows s heights stood.
     subst (λ (ns : List (List ℕ)). c.read_range.new.touches ≤ c.args.touches.now + read_bound more ns (Dir es)) c.as_slice-names.ensures
     (range-reached X N p a.told names es rows c.args.offset c.args.count c.in-Ok.entry c.args.touches.now c.look_at_file.new.touches c.read_range.new.touches heights
     (c.in-Ok.ensures.looks p es s.root front) c.in-Ok.ensures.touches
-    (λ bytes height is agrees. c.in_ok-sent-in-Ok.ensures.touches p bytes height is (subst (λ t. Agrees t (file_plan X p bytes).blocks) (sym same) agrees)))
+    (λ m bytes height is agrees. c.in_ok-sent-in-Ok.ensures.touches p m bytes height is (subst (λ t. Agrees t (file_plan X p m bytes).blocks) (sym same) agrees)))
 
 pub returns-in-Err-clause-sends : goal.returns-in-Err-clause-sends
 returns-in-Err-clause-sends g c = none-appended c.args.count (g.O.Sink.holds c.args.out.now)

@@ -1,0 +1,52 @@
+-- What words ask for: a batch, a talk with a peer, a collection, or one command.
+use Rattle.std.specs.Prelude.{◌≡◌, ℕ, List, IfOk, ⊤}
+use Rattle.std.specs.declared.option.Option.{Option}
+use Rattle.std.specs.declared.option.Option.TheVariants.{None, Some}
+use Rattle.std.specs.declared.result.Result.{Result}
+use Rattle.std.specs.declared.result.Result.TheVariants.{Ok, Err}
+use Rattle.uf_cid.specs.declared.cid.Cid.{Cid}
+use Rattle.uf_path.specs.declared.faults.PathFault.{PathFault}
+use Rattle.uf_words.specs.Commands.{command_of}
+use Rattle.uf_words.specs.declared.command.Cmd.{Cmd}
+use Rattle.uf_words.specs.declared.command.Cmd.TheVariants as cmd
+use Rattle.uf_command.specs.Cids.{cid_reads}
+use Rattle.uf_command.specs.Commands.{IsAccepted, IsAsked, asked, path_refusal}
+use Rattle.uf_command.specs.Statuses.{no_memory}
+use Rattle.uf_command.specs.declared.requests.Request.{Request}
+use Rattle.uf_command.specs.declared.requests.Request.TheVariants.{Batch, Pull, Serve, Gc, One}
+use Rattle.uf_command.specs.declared.types.Command.{Command}
+use Rattle.uf_command.specs.declared.types.Refusal.{Refusal}
+use Rattle.uf_command.specs.declared.types.Refusal.TheVariants as refusal
+
+-- what is below a CID is pulled, where the text is one
+abbrev pub pull_asked : Result Cid PathFault → Request
+pull_asked (Ok cid) = Pull cid
+pull_asked (Err why) = One (Err (path_refusal why))
+
+-- what words ask for, once they are read: refused are first words that are none, and then texts that are no paths
+abbrev pub request_of : Option Cmd → Request
+request_of None = One (Err refusal.Usage)
+request_of (Some cmd.Batch) = Batch
+request_of (Some (cmd.Pull cid)) = pull_asked (cid_reads cid)
+request_of (Some cmd.Serve) = Serve
+request_of (Some cmd.Gc) = Gc
+request_of (Some other) = One (asked other)
+
+abbrev pub request_in : List (List ℕ) → Request
+request_in words = request_of (command_of words)
+
+-- the one command that is asked for was read, or why there is none; where no one command is asked for, none was read,
+-- for want of memory
+abbrev pub IsAskedAlone : Result Command Refusal → Request → Type 0
+IsAskedAlone given (One told) = IsAsked given told
+IsAskedAlone given other = given ≡ Err no_memory
+
+-- the call answers what is asked for, or for want of memory
+abbrev pub IsRequested : Request → Request → Type 0
+IsRequested (One given) told = IsAskedAlone given told
+IsRequested other told = told ≡ other
+
+-- what the words have made sure of
+abbrev pub IsAcceptedAlone : Request → Type 0
+IsAcceptedAlone (One given) = IfOk given IsAccepted
+IsAcceptedAlone other = ⊤

@@ -1,0 +1,89 @@
+// The metadata of files.
+ghost use Rattle.std.specs.Prelude.{◌≡◌, ◌+◌, ◌≤◌, ℕ, List, [], ◌∷◌, IsTrue, OnOk};
+ghost use Rattle.uf_cid.specs.Blocks.{Held};
+ghost use Rattle.uf_edge.specs.Counts.{Stood};
+ghost use Rattle.uf_fileread.specs.Bad.{IsBadRoot};
+ghost use Rattle.uf_fileread.specs.Ranges.{IsFile};
+ghost use Rattle.uf_store.specs.Faults.{Answers};
+ghost use Rattle.uf_store.specs.Keeping.{Agrees, Holds, KeepsGood, StaysAgreed};
+ghost use Rattle.uf_store.specs.Lost.{AgreesAfter, FindsOver, ReadsOver};
+ghost use Rattle.uf_store.specs.Writing.{SavesOnly};
+ghost use Rattle.uf_tree.specs.FilePlan.{file_plan};
+ghost use Rattle.uf_tree.specs.Metas.{is_meta};
+ghost use Rattle.uf_tree.specs.Roots.{IsFileRoot, root_over};
+ghost use Rattle.uf_tree.specs.declared.meta.Meta.{Meta as TheMeta};
+ghost use Rattle.uf_tree.specs.declared.profile.Profile.{Profile};
+ghost use Rattle.uf_fileedit.specs.Touches.{Climbs};
+
+use crate::root::{load_root, save_over};
+use std::alloc::Global;
+use std::sync::ledger::Ledger;
+use uf_fileread::measure;
+use uf_store::{Steps, Store, StoreFault};
+use uf_tree::{Entry, Meta};
+
+/// The metadata of the file of this entry. One touch.
+pub fn meta_of<S: Store, L: Ledger>(
+    alloc: Global,
+    store: &mut S,
+    entry: &Entry,
+    touches: &mut Steps<L>,
+) -> Result<Meta, StoreFault>
+    ensures value { (p : Profile) (m : TheMeta) (b : List ℕ) (root : Held)
+        → IsFileRoot S.X.block32 p m b entry.now.cid root
+        → Agrees (S.seen store.old).told (root ∷ [])
+        → Stood (S.seen store.old).faults (S.seen store.new).faults
+        → FindsOver (S.seen store.old).told (root ∷ []) m result }
+    ensures cause { Answers S.X.block32 IsBadRoot result (S.seen store.old) (S.seen store.new) }
+    ensures told { (S.seen store.new).told ≡ (S.seen store.old).told }
+    ensures touches { touches.new ≡ touches.old + 1 }
+{
+    let size = measure(alloc, store, entry, touches)?;
+    Ok(size.meta)
+}
+
+/// Gives a file this metadata, and answers the entry of the new file. Only its root is loaded and saved; where nothing
+/// changes, nothing is saved. At most two touches.
+pub fn set_meta<S: Store, L: Ledger>(
+    alloc: Global,
+    store: &mut S,
+    entry: &Entry,
+    meta: &Meta,
+    touches: &mut Steps<L>,
+) -> Result<Entry, StoreFault>
+    requires good { IsTrue (is_meta meta.now) }
+    ensures value { (p : Profile) (m : TheMeta) (b : List ℕ) (height : ℕ)
+        → IsFile S.X.block32 p m b entry.now.cid height
+        → entry.now ≡ (file_plan S.X.block32 p m b).entry
+        → Agrees (S.seen store.old).told (file_plan S.X.block32 p m b).blocks
+        → Stood (S.seen store.old).faults (S.seen store.new).faults
+        → Stood (S.seen store.old).clashes (S.seen store.new).clashes
+        → ReadsOver (S.seen store.old).told (root_over S.X.block32 p.chunk p.width m height b ∷ [])
+        (file_plan S.X.block32 p meta.now b).entry result }
+    ensures after { (p : Profile) (m : TheMeta) (b : List ℕ) (height : ℕ)
+        → IsFile S.X.block32 p m b entry.now.cid height
+        → entry.now ≡ (file_plan S.X.block32 p m b).entry
+        → StaysAgreed (S.seen store.old).told (S.seen store.new).told (file_plan S.X.block32 p m b).blocks
+        → OnOk result (AgreesAfter (S.seen store.old).told (S.seen store.new).told
+        (file_plan S.X.block32 p m b).blocks (file_plan S.X.block32 p meta.now b).blocks) }
+    ensures held { (p : Profile) (m : TheMeta) (b : List ℕ) (height : ℕ) → IsFile S.X.block32 p m b entry.now.cid height
+        → entry.now ≡ (file_plan S.X.block32 p m b).entry
+        → Agrees (S.seen store.old).told (file_plan S.X.block32 p m b).blocks
+        → Holds (S.seen store.old).told (file_plan S.X.block32 p m b).blocks
+        → OnOk result (Holds (S.seen store.new).told (file_plan S.X.block32 p meta.now b).blocks) }
+    ensures cause { Answers S.X.block32 IsBadRoot result (S.seen store.old) (S.seen store.new) }
+    ensures good { KeepsGood S.X.block32 (S.seen store.old).told (S.seen store.new).told }
+    ensures saves { SavesOnly S.X.block32 (S.seen store.old).told (S.seen store.new).told }
+    ensures touched { Climbs result touches.old touches.new }
+    ensures touches { touches.new ≤ touches.old + 2 }
+    ensures same { (p : Profile) (b : List ℕ) (height : ℕ) → IsFile S.X.block32 p meta.now b entry.now.cid height
+        → Agrees (S.seen store.old).told (file_plan S.X.block32 p meta.now b).blocks
+        → (S.seen store.new).told ≡ (S.seen store.old).told }
+{
+    let root = load_root(alloc, store, entry, touches)?;
+    if root.meta == *meta {
+        return Ok(*entry);
+    }
+    let part = save_over(alloc, store, root.parts.as_slice(), meta, touches)?;
+    Ok(part.entry)
+}

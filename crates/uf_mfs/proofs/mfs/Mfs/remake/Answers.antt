@@ -1,0 +1,19 @@
+use Rattle.std.proofs.Common.{[], List, subst, ℕ}
+use Rattle.uf_plain.specs.Metas.{meta_edited}
+use Rattle.uf_plain.specs.Rules.{allowed}
+use Rattle.uf_mfs.specs.Steps.{MovesTree}
+use Rattle.uf_mfs.proofs.Settling.{moves-held, moves-tree}
+use Rattle.uf_mfs.proofs.mfs.Mfs.remake.Goals as goal
+
+pub returns-clause-lost : goal.returns-clause-lost
+returns-clause-lost g c =
+    let X = g.S.X.BlockHash.block32 in let N = g.N.NameHash.name64 in
+    let a = g.S.Store.seen c.args.store.now in let b = g.S.Store.seen c.remade_root-edited.new.store in
+    subst (λ (ns : List (List ℕ)). MovesTree X N a b [] c.args.self.now c.settled.new.self ns (λ p es. allowed X N p (meta_edited c.args.what ns es)) c.settled.result) c.as_slice-names.ensures
+    (moves-tree X N a b c.as_slice-names.result.now c.args.self.now c.settled.new.self (λ p es. allowed X N p (meta_edited c.args.what c.as_slice-names.result.now es)) c.remade_root-edited.result c.settled.result c.settled.ensures.settles c.remade_root-edited.ensures.edits)
+
+pub returns-clause-answer : goal.returns-clause-answer
+returns-clause-answer g c = λ p es s faults clashes.
+    let X = g.S.X.BlockHash.block32 in let N = g.N.NameHash.name64 in
+    moves-held X N (g.S.Store.seen c.args.store.now) (g.S.Store.seen c.remade_root-edited.new.store) c.args.path.now.names c.args.self.now c.settled.new.self (λ p es. allowed X N p (meta_edited c.args.what c.args.path.now.names es)) c.settled.result c.remade_root-edited.ensures.saves.good
+    (returns-clause-lost g c) p es s faults clashes

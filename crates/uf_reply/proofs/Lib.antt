@@ -1,5 +1,0 @@
-pub mod Asked
-pub mod CidNames
-pub mod Few
-pub mod LineWords
-pub mod Slashes
