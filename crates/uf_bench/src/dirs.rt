@@ -5,7 +5,7 @@ use uf_cid::{Cid, Codec, Sha256Hash};
 use uf_dir::{build, put, remove};
 use uf_murmur::Murmur3;
 use uf_store::{MemStore, Steps};
-use uf_tree::{Entry, Name, Pair, Pairs, Profile, is_directory};
+use uf_tree::{Entry, Meta, Name, Pair, Pairs, Profile, is_directory};
 
 // The entry of the empty file.
 fn empty_file() -> Entry {
@@ -37,7 +37,8 @@ fn built<L: Ledger>(
     if !is_directory(pairs) {
         return None;
     }
-    build::<_, Murmur3, L>(alloc, store, &Profile::usual(), pairs, touches).ok()
+    let meta = Meta::none();
+    build::<_, Murmur3, L>(alloc, store, &Profile::usual(), pairs, &meta, touches).ok()
 }
 
 /// The root of a directory of so many names after so many edits: each even one puts a name, each odd one takes it out again.

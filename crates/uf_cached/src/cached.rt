@@ -9,9 +9,8 @@ ghost use Rattle.uf_command.specs.declared.requests.Request.TheVariants as reque
 ghost use Rattle.uf_command.specs.declared.types.Command.{Command as TheCommand};
 ghost use Rattle.uf_command.specs.declared.types.Refusal.{Refusal as TheRefusal};
 ghost use Rattle.std.specs.declared.result.Result.{Result as TheResult};
-ghost use Rattle.uf_top.specs.Around.{around, host_side};
-ghost use Rattle.uf_top.specs.Batch.{Batches, scene};
-ghost use Rattle.uf_command.specs.Telling.{IsSent};
+ghost use Rattle.uf_top.specs.Lent.{SaidTo, around_at, scene_at};
+ghost use Rattle.uf_top.specs.Batch.{Batches};
 ghost use Rattle.uf_top.specs.Collecting.{RunsGc};
 ghost use Rattle.uf_top.specs.Running.{Runs};
 ghost use Rattle.uf_top.specs.Talking.{RunsPull, RunsServe};
@@ -42,50 +41,26 @@ pub fn run_cached<S: Sweep, N: NameHash, W: Host, I: Source, O: Sink, E: Sink, L
     // What `run` says, over the store with its cache.
     ensures runs { (asked : TheResult TheCommand TheRefusal)
         → request_in (map string_bytes words.now) ≡ requests.One asked
-        → Runs (λ line. IsSent line (E.holds errors.old) (E.holds errors.new) (E.faults errors.old)
-        (E.faults errors.new)) S.X.block32 N.name64 asked result
-        (around (cached_seen store.old) (I.left input.old) (I.faults input.old) (O.holds output.old)
-        (O.faults output.old) touches.old
-        (host_side (W.tree host.old) (W.read_faults host.old) (W.write_faults host.old)))
-        (around (cached_seen store.new) (I.left input.new) (I.faults input.new) (O.holds output.new)
-        (O.faults output.new) touches.new
-        (host_side (W.tree host.new) (W.read_faults host.new) (W.write_faults host.new))) }
+        → Runs (SaidTo E.Sink errors.old errors.new) S.X.block32 N.name64 asked result
+        (around_at I.Source O.Sink W.Host (cached_seen store.old) input.old output.old touches.old host.old)
+        (around_at I.Source O.Sink W.Host (cached_seen store.new) input.new output.new touches.new host.new) }
     ensures batch { request_in (map string_bytes words.now) ≡ requests.Batch
         → Batches S.X.block32 N.name64 1048576 1073741824 result
-        (scene (cached_seen store.old) (O.holds output.old) (O.faults output.old) touches.old
-        (host_side (W.tree host.old) (W.read_faults host.old) (W.write_faults host.old)) (E.holds errors.old)
-        (E.faults errors.old))
-        (scene (cached_seen store.new) (O.holds output.new) (O.faults output.new) touches.new
-        (host_side (W.tree host.new) (W.read_faults host.new) (W.write_faults host.new)) (E.holds errors.new)
-        (E.faults errors.new))
+        (scene_at O.Sink W.Host E.Sink (cached_seen store.old) output.old touches.old host.old errors.old)
+        (scene_at O.Sink W.Host E.Sink (cached_seen store.new) output.new touches.new host.new errors.new)
         (I.left input.old) (I.left input.new) (I.faults input.old) (I.faults input.new) }
     ensures pull { (cid : TheCid) → request_in (map string_bytes words.now) ≡ requests.Pull cid
-        → RunsPull (λ line. IsSent line (E.holds errors.old) (E.holds errors.new) (E.faults errors.old)
-        (E.faults errors.new)) S.X.block32 N.name64 cid result
-        (around (cached_seen store.old) (I.left input.old) (I.faults input.old) (O.holds output.old)
-        (O.faults output.old) touches.old
-        (host_side (W.tree host.old) (W.read_faults host.old) (W.write_faults host.old)))
-        (around (cached_seen store.new) (I.left input.new) (I.faults input.new) (O.holds output.new)
-        (O.faults output.new) touches.new
-        (host_side (W.tree host.new) (W.read_faults host.new) (W.write_faults host.new))) }
+        → RunsPull (SaidTo E.Sink errors.old errors.new) S.X.block32 N.name64 cid result
+        (around_at I.Source O.Sink W.Host (cached_seen store.old) input.old output.old touches.old host.old)
+        (around_at I.Source O.Sink W.Host (cached_seen store.new) input.new output.new touches.new host.new) }
     ensures serve { request_in (map string_bytes words.now) ≡ requests.Serve
-        → RunsServe (λ line. IsSent line (E.holds errors.old) (E.holds errors.new) (E.faults errors.old)
-        (E.faults errors.new)) S.X.block32 N.name64 result
-        (around (cached_seen store.old) (I.left input.old) (I.faults input.old) (O.holds output.old)
-        (O.faults output.old) touches.old
-        (host_side (W.tree host.old) (W.read_faults host.old) (W.write_faults host.old)))
-        (around (cached_seen store.new) (I.left input.new) (I.faults input.new) (O.holds output.new)
-        (O.faults output.new) touches.new
-        (host_side (W.tree host.new) (W.read_faults host.new) (W.write_faults host.new))) }
+        → RunsServe (SaidTo E.Sink errors.old errors.new) S.X.block32 N.name64 result
+        (around_at I.Source O.Sink W.Host (cached_seen store.old) input.old output.old touches.old host.old)
+        (around_at I.Source O.Sink W.Host (cached_seen store.new) input.new output.new touches.new host.new) }
     ensures collect { request_in (map string_bytes words.now) ≡ requests.Gc
-        → RunsGc (λ line. IsSent line (E.holds errors.old) (E.holds errors.new) (E.faults errors.old)
-        (E.faults errors.new)) S.X.block32 N.name64 result
-        (around (cached_seen store.old) (I.left input.old) (I.faults input.old) (O.holds output.old)
-        (O.faults output.old) touches.old
-        (host_side (W.tree host.old) (W.read_faults host.old) (W.write_faults host.old)))
-        (around (cached_seen store.new) (I.left input.new) (I.faults input.new) (O.holds output.new)
-        (O.faults output.new) touches.new
-        (host_side (W.tree host.new) (W.read_faults host.new) (W.write_faults host.new))) }
+        → RunsGc (SaidTo E.Sink errors.old errors.new) S.X.block32 N.name64 result
+        (around_at I.Source O.Sink W.Host (cached_seen store.old) input.old output.old touches.old host.old)
+        (around_at I.Source O.Sink W.Host (cached_seen store.new) input.new output.new touches.new host.new) }
     ensures one { (standing other : Standing) → TellsAs S.X.block32 N.name64 (cached_seen store.new).told standing
         → TellsAs S.X.block32 N.name64 (cached_seen store.new).told other → standing ≡ other }
     ensures left { (asked : TheResult TheCommand TheRefusal)

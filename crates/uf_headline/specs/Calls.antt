@@ -28,8 +28,8 @@ use Rattle.uf_tree.specs.TreePlan.{blocks}
 use Rattle.uf_headline.specs.History.{DidRun, Step, told_after, told_before}
 use Rattle.uf_headline.specs.Replies.{replied_by}
 
--- the input, the host and the note of pins tell what is said of them, where the command uses them, and no count that a failure raises is
--- at its last value, 2^64 - 1, at which it would hide one
+-- the input, the host and the note of pins tell what is said of them, where the command uses them, and no count that a
+-- failure raises is at its last value, 2^64 - 1, at which it would hide one
 pub record CanTell (asked : Result Command Refusal) (outside : Outside) (before : Around) : Type 0 where
   pub store : CountsCanRise before.store
   pub input : of_command reads_input false asked ≡ true → (before.left ≡ Some outside.input) × CanRise before.reads
@@ -39,7 +39,7 @@ pub record CanTell (asked : Result Command Refusal) (outside : Outside) (before 
   pub written : of_command writes_host false asked ≡ true → CanRise before.host.writes
   pub pins : HasPins asked before.store.told outside.pins
 
--- the call was done, be it that only the output of an `add --to-files` failed
+-- the call was done, or only the output of an `add --to-files` failed
 abbrev pub was_done : Step → Bool
 was_done step = may_move step.asked step.given
 

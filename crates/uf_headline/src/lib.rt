@@ -28,7 +28,7 @@ pub use replies::a_history_makes_what_its_replies_say;
 pub use steps::run_a_step;
 
 /// Commands given in turn, each answered as `run` says, over a store that stands for a tree, or has no Head or a bad
-/// one, where nothing failed, no clash was met and memory wasn't wanting: the store then stands for what those that
+/// one, where nothing failed, no clash was met and it wasn't out of memory: the store then stands for what those that
 /// were done make of the plain tree.
 pub fn a_history_gives_its_tree()
     ensures { (X : List ℕ → List ℕ) (N : List ℕ → ℕ) (steps : List Step) (before now : Told) (standing : Standing)
@@ -37,8 +37,8 @@ pub fn a_history_gives_its_tree()
 {}
 
 /// Two histories that make one tree by one profile, wherever they began and whatever came between, end with one Head,
-/// byte for byte: the text of the profile and of the CID of the tree's plan. Only where one began with a Head of version
-/// 1 that names this root does that Head stay.
+/// byte for byte: the text of the profile and of the CID of the tree's plan. Only where one began with a Head of
+/// version 1 that names this root does that Head stay.
 pub fn same_names_and_bytes_have_one_root()
     ensures same { (X : List ℕ → List ℕ) (N : List ℕ → ℕ) (steps others : List Step) (a b c d : Told)
         (first other : Standing) (p : Profile) (es : Entries)

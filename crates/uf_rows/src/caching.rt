@@ -93,7 +93,7 @@ fn play_behind<X: BlockHash, N: NameHash, L: Ledger>(
     sheet.settle(title)
 }
 
-// Puts a cache of so many entries over the store of a world, and does lines over it.
+// Puts a cache of this size over the store of a world, and does lines over it.
 fn play_over<X: BlockHash, N: NameHash, L: Ledger>(
     world: &mut World<X>,
     entries: usize,
@@ -128,7 +128,7 @@ fn play_halves<X: BlockHash, N: NameHash, L: Ledger>(
     )
 }
 
-/// Does a part with a line `cache N`: the lines behind it over a cache of so many entries.
+/// Does a part with a line `cache N`: the lines after it over a cache of N entries.
 pub fn play_cached<X: BlockHash, N: NameHash, L: Ledger>(
     alloc: Global,
     title: &str,

@@ -6,7 +6,7 @@ use uf_cid::{Memory, Text};
 use uf_edge::MemHost;
 use uf_testing::{calls, plant};
 
-// Puts so many folders of one name into each other.
+// Puts folders of one name into each other, this many.
 fn plant_folders(alloc: Global, host: &mut MemHost, rest: &str) -> Result<(), Memory> {
     let (count, name) = number_and_rest(rest);
     let mut path = Text::new(alloc);
@@ -62,7 +62,7 @@ fn plant_all(alloc: Global, host: &mut MemHost, lines: &str) -> Result<(), Memor
     Ok(())
 }
 
-/// A host that has what these lines say. The call behind so many may fail.
+/// A host that has what these lines say. The call after this many may fail.
 pub fn host_with(alloc: Global, lines: &str, fails: Option<u64>) -> Result<MemHost, Memory> {
     let planting = calls_of_all(lines);
     let call = fails.map(|number| planting.saturating_add(number));

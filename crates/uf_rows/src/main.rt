@@ -26,7 +26,7 @@ use uf_disk::{StdSink, StdSource};
 use uf_edge::{Sent, Source, read_all, write_all};
 use uf_store::Steps;
 
-// A transcript has at most so many bytes.
+// The most bytes of a transcript.
 const MOST: u64 = 16777216;
 
 fn main(rt: HostRuntime) -> ExitCode {

@@ -12,7 +12,7 @@ use uf_edge::Put;
 use uf_store::{CallKind, MemStore, Note, Store};
 use uf_testing::{ROOMY, block_of, plant_node};
 
-// Bytes are made in pieces of so many.
+// The bytes of a piece in which bytes are made.
 const PIECE: usize = 65536;
 
 // The bytes that hexadecimal digits spell; none where they are wrong.
@@ -89,7 +89,7 @@ fn add_hex(alloc: Global, input: &mut Block, rest: &str) -> Result<(), Memory> {
     input.extend(bytes.as_slice())
 }
 
-// The input so far, so many times.
+// The input so far, repeated.
 fn add_times(alloc: Global, input: &mut Block, rest: &str) -> Result<(), Memory> {
     let once = block_of(alloc, input.as_slice())?;
     for _ in 1..number_of(rest) {
@@ -174,7 +174,7 @@ fn directory(alloc: Global, letters: &str, cid: &Cid) -> Result<Block, Memory> {
     Ok(node)
 }
 
-// Holds so many nested directories, each with links of these letters to the next one; the last one is empty.
+// Holds nested directories, each with links of these letters to the next one; the last one is empty.
 fn nest<X: BlockHash>(alloc: Global, store: &mut MemStore<X>, rest: &str) -> Result<(), Memory> {
     let (count, letters) = number_and_rest(rest);
     let mut node = block_of(alloc, b"\x0a\x02\x08\x01")?;
@@ -206,7 +206,7 @@ fn add_pin_line(note: &mut Block, number: u64) -> Result<(), Memory> {
     note.extend(b"uvyku\n")
 }
 
-// A note of so many pins.
+// A note of this many pins.
 fn many_pins(alloc: Global, count: u64) -> Result<Block, Memory> {
     let mut note = block_of(alloc, b"unixfs-pins 1\n")?;
     for number in 0..count.min(1048576) {

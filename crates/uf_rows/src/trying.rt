@@ -57,7 +57,7 @@ impl Tries {
         Ok(())
     }
 
-    // The same, but the line stands in front of the first answer alone.
+    // The same, but the line stands before the first answer alone.
     fn tell_next(&mut self, head: &str, told: &mut Block) -> Result<(), Memory> {
         let is_first = self.last.as_slice().is_empty();
         self.tell_new(if is_first { head } else { "" }, told)
@@ -91,11 +91,11 @@ enum Bar {
     Nothing,
     // The call with this number fails, counted from 1.
     Fails(Call, u64),
-    // No load and no save behind so many.
+    // No load and no save after this many.
     Within(u64),
-    // The output has room for so many bytes.
+    // The bytes for which the output has room.
     Room(usize),
-    // The input ends behind so many bytes.
+    // The input ends after this many bytes.
     Front(usize),
 }
 
@@ -263,7 +263,7 @@ fn try_at<X: BlockHash, N: NameHash, L: Ledger>(
     tries.tell_new(head.as_str(), told)
 }
 
-/// Does a command over outputs with room for each front of what it prints.
+/// Does a command over outputs with room for each prefix of what it prints.
 pub fn try_rooms<X: BlockHash, N: NameHash, L: Ledger>(
     world: &World<X>,
     words: &str,
@@ -279,7 +279,7 @@ pub fn try_rooms<X: BlockHash, N: NameHash, L: Ledger>(
     Ok(())
 }
 
-/// Does a command on each front of its input.
+/// Does a command on each prefix of its input.
 pub fn try_fronts<X: BlockHash, N: NameHash, L: Ledger>(
     world: &World<X>,
     words: &str,
@@ -294,7 +294,7 @@ pub fn try_fronts<X: BlockHash, N: NameHash, L: Ledger>(
     Ok(())
 }
 
-/// Does a command with so many loads and so many saves, and leaves the store as it was.
+/// Does a command with this many loads and saves, and leaves the store as it was.
 pub fn try_within<X: BlockHash, N: NameHash, L: Ledger>(
     world: &World<X>,
     rest: &str,
@@ -307,7 +307,7 @@ pub fn try_within<X: BlockHash, N: NameHash, L: Ledger>(
     tries.tell_new("", told)
 }
 
-// What is left by a stop behind so many writes.
+// What is left by a stop after this many writes.
 fn stop_once<X: BlockHash, N: NameHash, L: Ledger>(
     world: &World<X>,
     at: usize,

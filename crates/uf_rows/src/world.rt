@@ -65,7 +65,7 @@ impl<X: BlockHash> World<X> {
         self.store_after(self.store.writes(), false)
     }
 
-    /// What a stop behind so many writes leaves, where all saves outlived it or all that could be lost are lost.
+    /// What a stop after this many writes leaves, where all saves survived it or all that could be lost are lost.
     pub fn store_after(&self, at: usize, is_lossy: bool) -> Result<MemStore<X>, Memory> {
         let lost = places(self.alloc, if is_lossy { at as u64 } else { 0 })?;
         self.store.after_stop(at.min(self.store.writes()), &lost)
@@ -100,7 +100,7 @@ impl<X: BlockHash> World<X> {
         Ok(())
     }
 
-    /// Tells what came of the last command. Nothing is told of what it printed where that is a front of this.
+    /// Tells what came of the last command. Nothing is told of what it printed where that is a prefix of this.
     pub fn tell(&self, whole: &[u8], told: &mut Block) -> Result<(), Memory> {
         let printed = self.output.as_slice();
         if whole.len() <= printed.len() || !whole.starts_with(printed) {
@@ -120,7 +120,7 @@ fn places(alloc: Global, end: u64) -> Result<Calls, Memory> {
     Ok(places)
 }
 
-// A line in which `{N TEXT}` stands for so many times that text.
+// A line in which `{N TEXT}` stands for N times that text.
 fn expanded(alloc: Global, line: &str) -> Result<Text, Memory> {
     let (front, rest) = line.split_once('{').unwrap_or((line, ""));
     let (inner, behind) = rest.split_once('}').unwrap_or((rest, ""));
@@ -134,7 +134,7 @@ fn expanded(alloc: Global, line: &str) -> Result<Text, Memory> {
     Ok(whole)
 }
 
-/// The words of a line, in which `{N TEXT}` stands for so many times that text.
+/// The words of a line, in which `{N TEXT}` stands for N times that text.
 pub fn words_in(alloc: Global, line: &str) -> Result<Vec<String>, Memory> {
     let line = expanded(alloc, line)?;
     words_of(alloc, line.as_str())
@@ -183,7 +183,7 @@ pub fn act_and_tell<X: BlockHash, N: NameHash, L: Ledger>(
     world.tell(b"", told)
 }
 
-/// Does the lines of the input as a batch of at most so many bytes, and tells what came of it.
+/// Does the lines of the input as a batch of at most this many bytes, and tells what came of it.
 pub fn act_in_batch<X: BlockHash, N: NameHash, L: Ledger>(
     world: &mut World<X>,
     limit: u64,

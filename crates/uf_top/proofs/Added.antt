@@ -24,7 +24,7 @@ use Rattle.uf_tree.specs.TreePlan.{blocks}
 use Rattle.uf_tree.specs.Validity.{IsHash}
 use Rattle.uf_tree.specs.declared.nodes.Entry.{Entry}
 use Rattle.uf_tree.specs.declared.profile.Profile.{Profile}
-use Rattle.uf_top.specs.Causes.{Adds, AddsBy, HeadSays, IsProfileIn, IsProfileOf, IsProfileRead, IsReady, IsReason, IsUnread, Stops, is_read, or_usual}
+use Rattle.uf_top.specs.Causes.{Adds, AddsBy, HeadSays, HoldsUnless, IsProfileIn, IsProfileOf, IsProfileRead, IsReady, IsReason, IsUnread, Stops, is_read, or_usual}
 use Rattle.uf_intake.specs.Intake.{IsFileOf}
 use Rattle.uf_top.specs.Intake.{IsRowOf, ShownIn}
 use Rattle.uf_top.specs.Losing.{AnswersOver}
@@ -251,38 +251,40 @@ module _ (X : List ℕ → List ℕ) where
 
   -- ---- over every store
 
-  pub adds-of : (only_hash : Bool) (told held : Told) (p : Profile) (r : Result (List ℕ) Refusal) (l m : streams.Told) → IfSome told (λ t. AddsBy only_hash t.notes.head p) → IsRowOf X p held r l m → Adds X told only_hash r l m
-  adds-of only_hash told held p (Ok text) l m by row = record { profile = p; adds_by = by; bytes = row.bytes; are_left = left_are row.bytes l m row.taken row.nothing_left; is = row.is }
-  adds-of only_hash told held p (Err (refusal.Rule rule)) l m by row = (row.0, record { profile = p; adds_by = by; bytes = row.1.bytes; taken = row.1.taken; many = row.1.many })
-  adds-of only_hash told held p (Err (refusal.Dag rule)) l m by row = tt
-  adds-of only_hash told held p (Err (refusal.Car number place)) l m by row = tt
-  adds-of only_hash told held p (Err (refusal.CarLacks cid)) l m by row = tt
-  adds-of only_hash told held p (Err (refusal.OwnClash cid first second)) l m by row = tt
-  adds-of only_hash told held p (Err (refusal.Host rule)) l m by row = tt
-  adds-of only_hash told held p (Err (refusal.BadPath why)) l m by row = tt
-  adds-of only_hash told held p (Err refusal.Usage) l m by row = tt
-  adds-of only_hash told held p (Err refusal.InputTooLong) l m by row = tt
-  adds-of only_hash told held p (Err refusal.BadPins) l m by row = tt
-  adds-of only_hash told held p (Err (refusal.Ready why)) l m by row = tt
-  adds-of only_hash told held p (Err refusal.Read) l m by row = tt
-  adds-of only_hash told held p (Err refusal.Write) l m by row = tt
-  adds-of only_hash told held p (Err (refusal.Store fault)) l m by row = tt
+  pub adds-of : (only_hash : Bool) (told held now : Told) (p : Profile) (r : Result (List ℕ) Refusal) (l m : streams.Told) → ((list : List Held) → Holds held list → HoldsUnless only_hash now list) → IfSome told (λ t. AddsBy only_hash t.notes.head p)
+      → IsRowOf X p held r l m → Adds X told now only_hash r l m
+  adds-of only_hash told held now p (Ok text) l m keeps by row =
+      record { profile = p; adds_by = by; bytes = row.bytes; are_left = left_are row.bytes l m row.taken row.nothing_left; is = row.is; held = keeps (file_plan X p none row.bytes).blocks row.held }
+  adds-of only_hash told held now p (Err (refusal.Rule rule)) l m keeps by row = (row.0, record { profile = p; adds_by = by; bytes = row.1.bytes; taken = row.1.taken; many = row.1.many })
+  adds-of only_hash told held now p (Err (refusal.Dag rule)) l m keeps by row = tt
+  adds-of only_hash told held now p (Err (refusal.Car number place)) l m keeps by row = tt
+  adds-of only_hash told held now p (Err (refusal.CarLacks cid)) l m keeps by row = tt
+  adds-of only_hash told held now p (Err (refusal.OwnClash cid first second)) l m keeps by row = tt
+  adds-of only_hash told held now p (Err (refusal.Host rule)) l m keeps by row = tt
+  adds-of only_hash told held now p (Err (refusal.BadPath why)) l m keeps by row = tt
+  adds-of only_hash told held now p (Err refusal.Usage) l m keeps by row = tt
+  adds-of only_hash told held now p (Err refusal.InputTooLong) l m keeps by row = tt
+  adds-of only_hash told held now p (Err refusal.BadPins) l m keeps by row = tt
+  adds-of only_hash told held now p (Err (refusal.Ready why)) l m keeps by row = tt
+  adds-of only_hash told held now p (Err refusal.Read) l m keeps by row = tt
+  adds-of only_hash told held now p (Err refusal.Write) l m keeps by row = tt
+  adds-of only_hash told held now p (Err (refusal.Store fault)) l m keeps by row = tt
 
-  pub adds-read : (only_hash : Bool) (told : Told) (why : Refusal) (l m : streams.Told) → IsProfileRead (Err why) told → Adds X told only_hash (Err why) l m
-  adds-read only_hash told (refusal.Rule rule) l m read = absurd read
-  adds-read only_hash told (refusal.Dag rule) l m read = tt
-  adds-read only_hash told (refusal.Car number place) l m read = tt
-  adds-read only_hash told (refusal.CarLacks cid) l m read = tt
-  adds-read only_hash told (refusal.OwnClash cid first second) l m read = tt
-  adds-read only_hash told (refusal.Host rule) l m read = tt
-  adds-read only_hash told (refusal.BadPath why) l m read = tt
-  adds-read only_hash told refusal.Usage l m read = tt
-  adds-read only_hash told refusal.InputTooLong l m read = tt
-  adds-read only_hash told refusal.BadPins l m read = tt
-  adds-read only_hash told (refusal.Ready why) l m read = tt
-  adds-read only_hash told refusal.Read l m read = tt
-  adds-read only_hash told refusal.Write l m read = tt
-  adds-read only_hash told (refusal.Store fault) l m read = tt
+  pub adds-read : (only_hash : Bool) (told now : Told) (why : Refusal) (l m : streams.Told) → IsProfileRead (Err why) told → Adds X told now only_hash (Err why) l m
+  adds-read only_hash told now (refusal.Rule rule) l m read = absurd read
+  adds-read only_hash told now (refusal.Dag rule) l m read = tt
+  adds-read only_hash told now (refusal.Car number place) l m read = tt
+  adds-read only_hash told now (refusal.CarLacks cid) l m read = tt
+  adds-read only_hash told now (refusal.OwnClash cid first second) l m read = tt
+  adds-read only_hash told now (refusal.Host rule) l m read = tt
+  adds-read only_hash told now (refusal.BadPath why) l m read = tt
+  adds-read only_hash told now refusal.Usage l m read = tt
+  adds-read only_hash told now refusal.InputTooLong l m read = tt
+  adds-read only_hash told now refusal.BadPins l m read = tt
+  adds-read only_hash told now (refusal.Ready why) l m read = tt
+  adds-read only_hash told now refusal.Read l m read = tt
+  adds-read only_hash told now refusal.Write l m read = tt
+  adds-read only_hash told now (refusal.Store fault) l m read = tt
 
   pub row-ready : (only_hash : Bool) (told held : Told) (p : Profile) (r : Result (List ℕ) Refusal) (l m : streams.Told) → IsRowOf X p held r l m → IsReady told (Add only_hash) r
   row-ready only_hash told held p (Ok text) l m row = tt

@@ -20,6 +20,7 @@ use Rattle.uf_command.specs.declared.status.Status.TheVariants as status
 use Rattle.uf_command.specs.declared.types.Command.{Command}
 use Rattle.uf_command.specs.declared.types.Command.TheVariants.{Init, Add, AddFrom, WriteInput, At, Read, Cat, Get, Export, Import, Same, Adopt, Gen, AddTo, AddFromTo, Pin}
 use Rattle.uf_command.specs.declared.types.Refusal.{Refusal}
+use Rattle.uf_top.specs.Caused.{StatusShows}
 use Rattle.uf_top.specs.Around.{Around, CountsCanRise, HasOutside, NoneFalls, RoseAt, StaysQuiet}
 use Rattle.uf_top.specs.Batch.{AtLine, Batches, ByMemory, ByReading, EndsSo, Ending, LineCut, LineDone, LineEnds, LineGone, LinePassed, LinesDone, PrintsCut, PrintsWhole, ReadingFails, Said, Scene, SinkSide, TooLong, WithInput, output_of, with_sinks}
 use Rattle.uf_top.specs.BatchReplies.{BatchReplied, EndsReplied, GoesOnReplied, HasHeights, LineAnswered, LineReplied, LinesReplied, NothingFails, added_bounds, batch_bound, batch_printed, going_bound, going_printed, last_bound, last_printed, line_bound, line_printed, line_world, lines_bound, lines_printed, printed_by}
@@ -192,7 +193,7 @@ module _ (X : List ℕ → List ℕ) (N : List ℕ → ℕ) where
 
     -- no writing of the output failed
     pub wrote : Stood a.around.writes b.around.writes → given ≡ status.WriteFault → ⊥
-    wrote stood is = rose-not-stood a.around.writes b.around.writes (subst (λ u. RoseAt u a.around.writes b.around.writes a.around.host.writes b.around.host.writes) suits.1 (done.runs.write is)) stood
+    wrote stood is = rose-not-stood a.around.writes b.around.writes (subst (λ u. RoseAt u a.around.writes b.around.writes a.around.host.writes b.around.host.writes) suits.1 (subst (StatusShows (Said a.errors b.errors) X N a.around b.around done.asked) is done.runs.cause)) stood
 
   -- ---- lines
 

@@ -109,7 +109,7 @@ module _ (X : List ℕ → List ℕ) where
   shape-wrote NoWrites done a b h = Wrote-same X IsAny a b h
   shape-wrote SyncsBlocks true a b h = then-wrote (λ m now. now ≡ changed with_sync m) a b (λ m last. WritesOnly-synced X m b last) h
   shape-wrote SyncsBlocks false a b h = left-wrote a b h
-  shape-wrote MakesHead true a b h = head-wrote a b h
+  shape-wrote MakesHead true a b h = head-wrote a b h.1
   shape-wrote MakesHead false a b h = left-wrote a b h
   shape-wrote MovesHead true a b h = head-wrote a b h
   shape-wrote MovesHead false a b h = left-wrote a b h

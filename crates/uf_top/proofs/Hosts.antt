@@ -39,7 +39,7 @@ use Rattle.uf_command.specs.declared.types.Refusal.TheVariants as refusal
 use Rattle.uf_top.specs.Answering.{Answers}
 use Rattle.uf_top.specs.Around.{HostSide, OnlyReadsHost, around}
 use Rattle.uf_top.specs.Bounds.{command_touches}
-use Rattle.uf_top.specs.Causes.{AddsBy, IsBadIn, IsProfileIn, IsProfileOf, IsProfileRead, IsReady, IsReason, IsUnread, OnlyWants, Stops, is_read, or_usual}
+use Rattle.uf_top.specs.Causes.{AddsBy, HoldsUnless, IsBadIn, IsProfileIn, IsProfileOf, IsProfileRead, IsReady, IsReason, IsUnread, OnlyWants, Stops, is_read, or_usual}
 use Rattle.uf_top.specs.Endings.{FindsAll}
 use Rattle.uf_top.specs.Hosted.{AreHostRows, IsHostRefused, IsHostRule, IsNoReading, MakesHostText}
 use Rattle.uf_top.specs.HostTexts.{host_refusal, host_text}
@@ -198,10 +198,11 @@ module _ (X : List ℕ → List ℕ) (N : List ℕ → ℕ) where
       by (ByHost rule e is) = subst (λ w. IsReady {A = List ℕ} told (AddFrom recursive only_hash path) (Err w)) (sym e) tt
       by (ByRule rule e is) = subst (λ w. IsReady {A = List ℕ} told (AddFrom recursive only_hash path) (Err w)) (sym e) tt
 
-  text-rows : (p : Profile) (held told : Told) (host : HostTold) (recursive only_hash : Bool) (path : List ℕ) (r : Result (List ℕ) Refusal) → IfSome told (λ t. AddsBy only_hash t.notes.head p)
-      → MakesHostText X N p held host recursive path r → IfOk r (λ text. AreHostRows X N told host recursive only_hash path text)
-  text-rows p held told host recursive only_hash path (Ok text) by h = record { profile = p; adds_by = by; tree = h.tree; is_tree = h.plan.tree; whole = h.plan.whole; said = h.said; is = h.is }
-  text-rows p held told host recursive only_hash path (Err why) by h = tt
+  text-rows : (p : Profile) (held told now : Told) (host : HostTold) (recursive only_hash : Bool) (path : List ℕ) (r : Result (List ℕ) Refusal) → ((list : List Held) → Holds held list → HoldsUnless only_hash now list)
+      → IfSome told (λ t. AddsBy only_hash t.notes.head p) → MakesHostText X N p held host recursive path r → IfOk r (λ text. AreHostRows X N told now host recursive only_hash path text)
+  text-rows p held told now host recursive only_hash path (Ok text) keeps by h =
+      record { profile = p; adds_by = by; tree = h.tree; is_tree = h.plan.tree; whole = h.plan.whole; said = h.said; is = h.is; held = keeps (blocks X N p h.tree) h.plan.held }
+  text-rows p held told now host recursive only_hash path (Err why) keeps by h = tt
 
   module _ (s : Standing) (kept : Tree → List Held) (path : List ℕ) (p : Profile) (recursive : Bool) (host : HostTree) where
     abbrev reply_is : Reply
@@ -372,7 +373,7 @@ module _ (X : List ℕ → List ℕ) (N : List ℕ → ℕ) where
             adds = tt;
             reads = counts-still i;
             host = reads;
-            rows = text-rows p b.told a.told side.told recursive false path r (by-told a.told false p says) text;
+            rows = text-rows p b.told a.told b.told side.told recursive false path r (λ list held. held) (by-told a.told false p says) text;
             cause = shown-after X (IsBadIn X N a.told b.told) (refusal_fault r) a m b calm (shown-any X (IsBadIn X N a.told b.told) r m b shown);
             whole = λ s stands calm2. host-finds r kinds;
             touches = λ q es bytes rows named input heights calm2. tt;
@@ -403,7 +404,7 @@ module _ (X : List ℕ → List ℕ) (N : List ℕ → ℕ) where
             adds = tt;
             reads = counts-still i;
             host = reads;
-            rows = text-rows p None a.told side.told recursive true path r (subst (λ p. IfSome a.told (λ t. AddsBy true t.notes.head p)) (sym is) (by-found a.told found says)) text;
+            rows = text-rows p None a.told m.told side.told recursive true path r (λ list held. tt) (subst (λ p. IfSome a.told (λ t. AddsBy true t.notes.head p)) (sym is) (by-found a.told found says)) text;
             cause = shown-any X (IsBadIn X N a.told m.told) r a m shown;
             whole = λ s stands calm2. host-finds r kinds;
             touches = λ q es bytes rows named input heights calm2. no-touch (Some 0) t0;

@@ -39,7 +39,7 @@ use Rattle.uf_command.specs.declared.types.Refusal.{Refusal}
 use Rattle.uf_command.specs.declared.types.Refusal.TheVariants as refusal
 use Rattle.uf_top.specs.Answering.{DoesAnswer}
 use Rattle.uf_top.specs.Around.{CountsCanRise, HostSide, RisesFor, around}
-use Rattle.uf_top.specs.Cars.{KeepsCar, TellsRoots}
+use Rattle.uf_top.specs.Cars.{AddsCar, IsImported, KeepsCar, TellsRoots}
 use Rattle.uf_top.specs.Causes.{IsBadIn, IsReadyBy, Stops, is_read}
 use Rattle.uf_top.specs.Endings.{EndsBy, PrintsPart}
 use Rattle.uf_command.specs.Telling.{IsCut, Prints}
@@ -119,6 +119,7 @@ module _ (X : List ℕ → List ℕ) where
     ruled : (f : CarFault) (number place : ℕ) → stops f ≡ false → car_refusal f ≡ refusal.Car number place → Reads (Err f) → StaysCalm a b → Counts false i j → KeepsCar X (Err (refusal.Car number place)) a b l i j
     ruled f number place other is reads calm counts = record {
       roots = λ held bytes tells given stood quiet. inr (told held bytes tells (reads bytes given));
+      added = tt;
       kinds = refl;
       counts = counts;
       cause = calm;
@@ -148,6 +149,7 @@ module _ (X : List ℕ → List ℕ) where
     car-refused car.TooLong reads cause saving counts = ruled car.TooLong 9 0 refl refl reads cause counts
     car-refused car.Read reads cause saving counts = record {
       roots = λ held bytes tells given stood quiet. absurd (not-rose i j (counts.rose refl) stood);
+      added = tt;
       kinds = refl;
       counts = counts;
       cause = cause;
@@ -156,6 +158,7 @@ module _ (X : List ℕ → List ℕ) where
     }
     car-refused (car.Store f) reads cause saving counts = record {
       roots = λ held bytes tells given stood quiet. inl (ap (λ (f : StoreFault). Err (refusal.Store f)) (saving-wants X NoneIsBad f a b saving cause quiet.faults quiet.clashes));
+      added = tt;
       kinds = saving-kind f saving;
       counts = unread f i j counts;
       cause = cause;
@@ -169,6 +172,7 @@ module _ (X : List ℕ → List ℕ) where
           → OnOk r (c.told ≡ changed with_sync b.told) → OnErr r (LeavesHead b.told c.told) → Shown X NoneIsBad (refusal_fault r) b c → KeepsCar X r a c l i j
       roots-synced imported (Ok line) reads is stopped synced failed cause = record {
         roots = λ held bytes tells given stood quiet. inr (told held bytes tells (reads bytes given));
+        added = imported-told l (λ bytes given. all-added bytes (reads bytes given));
         kinds = tt;
         counts = counts;
         cause = shown-after X NoneIsBad None a b c calm cause;
@@ -181,6 +185,16 @@ module _ (X : List ℕ → List ℕ) where
             is = ap (λ (t : List ℕ). Ok t) is ∙ sym (ap roots_told r.said);
             held = subst (λ t. TellsHeld t (car_read X most_car bytes).sections) (sym synced) (sync-tells b.told (car_read X most_car bytes).sections (held-after (car_read X most_car bytes).sections a.told b.told held tells r.kept saves));
           }
+
+          all-added : (bytes : List ℕ) → ImportsCar (car_read X most_car bytes) (Ok imported) a.told b.told → AddsCar X bytes line a.told c.told
+          all-added bytes r = record {
+            are = ap (λ (t : List ℕ). Ok t) is ∙ sym (ap roots_told r.said);
+            added = synced ∙ ap (changed with_sync) r.kept;
+          }
+
+          imported-told : (l : streams.Told) → ((bytes : List ℕ) → l ≡ Some bytes → AddsCar X bytes line a.told c.told) → IsImported X a.told c.told l line
+          imported-told None h = tt
+          imported-told (Some bytes) h = h bytes refl
       roots-synced imported (Err why) reads is stopped synced failed cause =
           let of = stops-store why stopped in
           by of.fault of.is of.saving
@@ -191,6 +205,7 @@ module _ (X : List ℕ → List ℕ) where
               subst (λ w. KeepsCar X (Err w) a c l i j) (sym e) (record {
                 roots = λ held bytes tells given stood quiet. inl (ap (λ (f : StoreFault). Err (refusal.Store f)) (saving-wants X NoneIsBad f b c saving shown
                     (stood-back a.faults b.faults c.faults calm.faults quiet.faults) (stood-back a.clashes b.clashes c.clashes calm.clashes quiet.clashes)));
+                added = tt;
                 kinds = saving-kind f saving;
                 counts = unread f i j counts;
                 cause = shown-after X NoneIsBad (Some f) a b c calm shown;
@@ -244,7 +259,7 @@ module _ (X : List ℕ → List ℕ) (N : List ℕ → ℕ) (a b : Seen) (l m : 
   pub unkept-does : (why : Refusal) → KeepsCar X (Err why) a b l i j → Does X N Import (Err why) (around a l i h w t0 side) (around b m j h w t1 side)
   unkept-does why k =
       let of = of-car a.told why k.kinds in
-      let quiet = quiet-of (λ text. ⊤) false why of.other in
+      let quiet = quiet-of (IsImported X a.told b.told l) false why of.other in
       let head = add-head X false a.told b.told k.writes in
       record {
         answers = λ world finds input calm. answered world finds.stands (k.roots world.held world.input finds.held (input.0 refl).0 (input.0 refl).1 calm.store);
@@ -293,7 +308,7 @@ module _ (X : List ℕ → List ℕ) (N : List ℕ → ℕ) (a b : Seen) (l m : 
       lost = λ p es rows held outside named tells heights input calm. over p es held outside (names-kept X N a.told b.told p es k.good head-same named) (k.roots held outside.input tells (input.0 refl).0 (input.0 refl).1 calm.store);
       unprinted = λ world after. absurd cc;
       prefix = λ world finds input room. subst (λ e. PrintsPart e h h2) (ends-so world finds.held input.0 room) (whole-printed text h h2 is);
-      prints = (text, tt, is);
+      prints = (text, k.added, is);
       kinds = tt;
       ready = tt;
       rule = tt;
@@ -324,7 +339,7 @@ module _ (X : List ℕ → List ℕ) (N : List ℕ → ℕ) (a b : Seen) (l m : 
       lost = λ p es rows held outside named tells heights input calm. absurd (not-rose w v (c.counts.rose refl) calm.written.output);
       unprinted = λ world after. absurd cc;
       prefix = λ world finds input room. subst (λ e. PrintsPart e h h2) (ends-so world finds.held input.0 room) c.printed;
-      prints = (text, tt, c.printed);
+      prints = (text, k.added, c.printed);
       kinds = refl;
       ready = tt;
       rule = λ is. absurd cc;

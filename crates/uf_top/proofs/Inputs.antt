@@ -63,7 +63,7 @@ module _ (X : List ℕ → List ℕ) (hash : IsHash X) (N : List ℕ → ℕ) (a
         unread-over X hash N p es (add_reply X only_hash (Stands p es) bytes) why a m named.names (names-same X N a.told m.told p es told named) read shown calm.faults calm.clashes;
     kinds = read-kinds why a.told read;
     ready = read-ready only_hash a.told why read;
-    adds = adds-read X only_hash a.told why l l read;
+    adds = adds-read X only_hash a.told m.told why l l read;
     counts = head-counts why a.told i read;
     cause = shown-any X (IsBadIn X N a.told m.told) (Err why) a m shown;
     touches = λ p es bytes rows named input heights calm. no-touch (command_touches X N rows bytes (Add only_hash) p es) t0;
@@ -111,7 +111,7 @@ module _ (X : List ℕ → List ℕ) (hash : IsHash X) (N : List ℕ → ℕ) (a
               (stood-back a.faults m.faults b.faults calm.faults calm2.faults) (stood-back a.clashes m.clashes b.clashes calm.clashes calm2.clashes) counts given.1);
           kinds = row-kinds X p b.told r l k row;
           ready = row-ready X false a.told b.told p r l k row;
-          adds = adds-of X false a.told b.told p r l k (by-told a.told false p says) row;
+          adds = adds-of X false a.told b.told b.told p r l k (λ list held. held) (by-told a.told false p says) row;
           counts = counts;
           cause = shown-after X (IsBadIn X N a.told b.told) (refusal_fault r) a m b calm (shown-any X (IsBadIn X N a.told b.told) r m b shown);
           touches = λ q es bytes rows named input heights calm2. tt;
@@ -138,7 +138,7 @@ module _ (X : List ℕ → List ℕ) (hash : IsHash X) (N : List ℕ → ℕ) (a
               (subst (λ p. IsRowOf X p None r l k) (is ∙ sym same) row) given.0 shown calm2.faults calm2.clashes counts given.1);
           kinds = row-kinds X p None r l k row;
           ready = row-ready X true a.told None p r l k row;
-          adds = adds-of X true a.told None p r l k (subst (λ p. IfSome a.told (λ t. AddsBy true t.notes.head p)) (sym is) (by-found a.told found says)) row;
+          adds = adds-of X true a.told None m.told p r l k (λ list held. tt) (subst (λ p. IfSome a.told (λ t. AddsBy true t.notes.head p)) (sym is) (by-found a.told found says)) row;
           counts = counts;
           cause = shown-any X (IsBadIn X N a.told m.told) r a m shown;
           touches = λ q es bytes rows named input heights calm2. no-touch (Some 0) t0;

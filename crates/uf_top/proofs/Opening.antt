@@ -1,5 +1,5 @@
 -- How a command is done that opens a tree, or makes a store ready for one.
-use Rattle.std.proofs.Common.{◌≡◌, ℕ, ◌+◌, ◌≤◌, List, [], false, arith, sym, ap, subst, ◌∙◌, None, Result, Ok, Err}
+use Rattle.std.proofs.Common.{◌≡◌, ℕ, ◌+◌, ◌≤◌, List, [], false, arith, refl, sym, ap, subst, ◌∙◌, Some, None, Result, Ok, Err}
 use Rattle.std.specs.Prelude.{IfSome}
 use Rattle.uf_edge.specs.Counts.{Stood}
 use Rattle.uf_edge.specs.Streams as streams
@@ -48,6 +48,11 @@ ask-same : (X : List ℕ → List ℕ) (ask : Ask) (a b : Told) → b ≡ a → 
 ask-same X (Ls long) a b e = e
 ask-same X Stat a b e = e
 ask-same X (Edits edit) a b e = record { between = a; saves = SavesOnly-refl X a; last = Same e }
+
+-- no Head is there where a store tells that there is none
+no-head-yet : (told : Told) → IfSome told (λ t. t.notes.head ≡ None) → head_in told ≡ None
+no-head-yet None h = refl
+no-head-yet (Some t) h = h
 
 module _ (X : List ℕ → List ℕ) (N : List ℕ → ℕ) where
   -- ---- at a path
@@ -150,9 +155,9 @@ module _ (X : List ℕ → List ℕ) (N : List ℕ → ℕ) where
 
     -- the store is made ready
     pub is-ready : (mfs : Mfs) (text : List ℕ) → text ≡ []
-        → IfSome a.told (λ t. Stood a.faults b.faults → Stood a.clashes b.clashes → Inits X N b.told p t.notes.head (Ok mfs))
+        → IfSome a.told (λ t. Stood a.faults b.faults → Stood a.clashes b.clashes → Inits X N b.told p t.notes.head (Ok mfs)) → FindsHead a.told (Ok mfs)
         → SavesThen X (Commits mfs.profile mfs.root.cid) a.told b.told → StaysCalm a b → Makes X N (Init p) (Ok text) a b left left reads reads t0 t1
-    is-ready mfs text nothing answer writes calm = record {
+    is-ready mfs text nothing answer finds writes calm = record {
       answers = λ world stands input calm2. let s = world.standing in let bytes = world.input in inits-ok X N (Stood a.faults b.faults) (Stood a.clashes b.clashes) s p a.told mfs text b.told calm2.faults calm2.clashes nothing stands answer;
       lost = λ q es heights held bytes named input calm2. absurd (not-inited X N (Stood a.faults b.faults) (Stood a.clashes b.clashes) a.told b.told p q es mfs calm2.faults calm2.clashes named.names answer);
       kinds = tt;
@@ -163,5 +168,5 @@ module _ (X : List ℕ → List ℕ) (N : List ℕ → ℕ) where
       touches = λ q es bytes rows named input heights calm2. tt;
       whole = λ s stands calm2. init-looks (Ok text) tt;
       touched = λ blames. absurd blames;
-      leaves = record { good = good; head = stays-nothing text a.told b.told nothing; writes = (mfs.profile, mfs.root.cid, writes); idle = λ q es bytes stands calm same. absurd cc };
+      leaves = record { good = good; head = stays-nothing text a.told b.told nothing; writes = (no-head-yet a.told finds, (mfs.profile, mfs.root.cid, writes)); idle = λ q es bytes stands calm same. absurd cc };
     }

@@ -156,7 +156,7 @@ module _ (X : List ℕ → List ℕ) where
   shape-pins NoWrites done a b other h = ap pins_in h
   shape-pins SyncsBlocks true a b other h = ap pins_in h.last ∙ sync-pins h.between ∙ saves-pins a h.between h.saves
   shape-pins SyncsBlocks false a b other h = left-pins a b h
-  shape-pins MakesHead true a b other h = after-pins a b h
+  shape-pins MakesHead true a b other h = after-pins a b h.1
   shape-pins MakesHead false a b other h = left-pins a b h
   shape-pins MovesHead true a b other h = after-pins a b h
   shape-pins MovesHead false a b other h = left-pins a b h
@@ -401,7 +401,7 @@ module _ (X : List ℕ → List ℕ) (N : List ℕ → ℕ) (ask : PinAsk) (a b 
       → Touches X N ask t0 t1 → Does X N (Pin ask) (Err (pin_refusal f)) (around a l i h w t0 side) (around b l i h w t1 side)
   pin-refused A f says cause writes unread touch =
       let is = fault-of A f cause in
-      let quiet = quiet-of (IsTextOf X N a.told side.told (Ok (Pin ask)) l) false (pin_refusal f) is.other in
+      let quiet = quiet-of (IsTextOf X N a.told b.told side.told (Ok (Pin ask)) l) false (pin_refusal f) is.other in
       record {
         answers = λ world finds input calm. answered is world finds.stands calm.store (said-at ask (Err (pin_refusal f)) a.told says world.held finds.held world.pins (input.2 refl));
         lost = λ p es rows held outside named tells heights input calm. over is p es held outside named calm.store (said-at ask (Err (pin_refusal f)) a.told says held tells outside.pins (input.2 refl));

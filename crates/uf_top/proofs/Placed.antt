@@ -29,13 +29,14 @@ use Rattle.uf_store.specs.Calls.{Calm, OnlySaves}
 use Rattle.uf_store.specs.Clashes.{IsSaving}
 use Rattle.uf_store.specs.Contents.{Told}
 use Rattle.uf_store.specs.Faults.{NoneIsBad, Shown}
-use Rattle.uf_store.specs.Keeping.{KeepsGood}
+use Rattle.uf_store.specs.Keeping.{Holds, KeepsGood}
 use Rattle.uf_store.specs.Seen.{Seen}
 use Rattle.uf_store.specs.declared.store.StoreFault.{StoreFault}
 use Rattle.uf_store.specs.declared.store.StoreFault.TheVariants as fault
 use Rattle.uf_store.proofs.Calls.{reads-saves, saves-saves, shown-after, shown-by, shown-rises, stood-front}
-use Rattle.uf_store.proofs.Keeping.{KeepsGood-same, KeepsGood-trans}
+use Rattle.uf_store.proofs.Keeping.{Holds-kept, KeepsGood-same, KeepsGood-trans}
 use Rattle.uf_store.proofs.Writing.{SavesOnly-refl, SavesOnly-trans}
+use Rattle.uf_tree.specs.FilePlan.{file_plan}
 use Rattle.uf_tree.specs.HeadReading.{head_reads}
 use Rattle.uf_tree.specs.Metas.{none}
 use Rattle.uf_tree.specs.Names.{is_name}
@@ -75,7 +76,7 @@ use Rattle.uf_top.proofs.Adopted.{named-stands, stands-blocks}
 use Rattle.uf_top.proofs.Losing.{named-of, names-kept, names-of, names-same}
 use Rattle.uf_top.proofs.Putting.{ok-value}
 use Rattle.uf_top.proofs.Shows.{bad-of-head, bad-of-none, counts-still, not-rose, saving-wants}
-use Rattle.uf_top.proofs.Standings.{stands-kept, tells-none}
+use Rattle.uf_top.proofs.Standings.{stands-kept, tells-none, tree-good}
 
 -- ---- refusals by their kinds
 
@@ -282,11 +283,11 @@ module _ (X : List ℕ → List ℕ) (N : List ℕ → ℕ) (dest : Path) (path 
     pub ends : AnswersOver X N a.told d.told p es (root_of X N p (Dir es) ++ blocks X N p (Dir es)) (settled X N (say p) p es (placed X N (added_spot dest path es) given p es)) done
 
   -- the rows are those of a tree that is there
-  pub record PrintsFor (told : Told) (text : List ℕ) : Type 0 where
+  pub record PrintsFor (told now : Told) (text : List ℕ) : Type 0 where
     pub profile : Profile
     pub adds_by : IfSome told (λ t. AddsBy false t.notes.head profile)
     pub tree : Tree
-    pub plan : (m : Told) × HasHeldPlan X N profile m tree
+    pub plan : HasHeldPlan X N profile now tree
     pub said : Says profile (Ok tree)
     pub is : text ≡ say profile tree
 
@@ -296,7 +297,7 @@ module _ (X : List ℕ → List ℕ) (N : List ℕ → ℕ) (dest : Path) (path 
     pub whole : (s : Standing) → TellsAs X N a.told s → Calm a d → FindsAll (ended done)
     pub ready : IfErr done (λ why. IsReadyIn a.told why)
     pub kinds : IsOf (may_meet (kinds_placing path)) done
-    pub rows : IfOk done (PrintsFor a.told)
+    pub rows : IfOk done (PrintsFor a.told d.told)
     pub cause : Shown X (IsBadIn X N a.told d.told) (refusal_fault done) a d
     pub good : KeepsGood X a.told d.told
     pub touched : IsBlaming (refusal_fault done) → t0 < t2
@@ -510,8 +511,12 @@ module _ (X : List ℕ → List ℕ) (N : List ℕ → ℕ) (dest : Path) (path 
         put-kinds (Ok text) h = tt
         put-kinds (Err why) h = (of-tree path why h).kind
 
-        put-rows : (r : Result (List ℕ) Refusal) → IfOk r (λ text. text ≡ given.text) → IfOk r (PrintsFor a.told)
-        put-rows (Ok text) is = record { profile = q; adds_by = says-profile a.told found.tree f.head; tree = gives.tree; plan = (b.told, gives.plan); said = gives.said; is = is ∙ gives.text_is }
+        -- what was given is held as before
+        still-planned : {t : Tree} → HasHeldPlan X N q b.told t → HasHeldPlan X N q d.told t
+        still-planned {t} plan = record { tree = plan.tree; whole = plan.whole; held = Holds-kept X b.told d.told (blocks X N q t) (tree-good X N q t) put.good plan.held }
+
+        put-rows : (r : Result (List ℕ) Refusal) → IfOk r (λ text. text ≡ given.text) → IfOk r (PrintsFor a.told d.told)
+        put-rows (Ok text) is = record { profile = q; adds_by = says-profile a.told found.tree f.head; tree = gives.tree; plan = still-planned gives.plan; said = gives.said; is = is ∙ gives.text_is }
         put-rows (Err why) is = tt
 
         put-writes : (r : Result (List ℕ) Refusal) → WritesAs X MovesHead (is_ok r) b.told d.told → WritesAs X MovesHead (is_ok r) a.told d.told
@@ -630,25 +635,31 @@ module _ (X : List ℕ → List ℕ) (N : List ℕ → ℕ) where
   unfolding planned fold
   row-of p bytes = refl
 
-  input-row : (dest : Path) (l : streams.Told) (told : Told) (text : List ℕ) → PrintsFor X N dest None (λ p. SaysInput p l) (input_row X N) told text → IsRow X told false l text
-  input-row dest l told text h = record {
+  file-blocks : (p : Profile) (bytes : List ℕ) → blocks X N p (File none bytes) ≡ (file_plan X p none bytes).blocks
+  unfolding planned fold
+  file-blocks p bytes = refl
+
+  input-row : (dest : Path) (l : streams.Told) (told now : Told) (text : List ℕ) → PrintsFor X N dest None (λ p. SaysInput p l) (input_row X N) told now text → IsRow X told now false l text
+  input-row dest l told now text h = record {
     profile = h.profile;
     adds_by = h.adds_by;
     bytes = h.said.bytes;
     are_left = h.said.are_left;
     is = h.is ∙ ap (λ (t : Tree). input_row X N h.profile t) (file-of h.profile h.said.bytes h.tree h.said.is) ∙ row-of h.profile h.said.bytes;
+    held = subst (Holds now) (file-blocks h.profile h.said.bytes) (subst (λ t. Holds now (blocks X N h.profile t)) (file-of h.profile h.said.bytes h.tree h.said.is) h.plan.held);
   }
 
-  host-rows : (recursive : Bool) (path : List ℕ) (dest : Path) (host : HostTold) (told : Told) (text : List ℕ)
-      → PrintsFor X N dest (Some path) (λ p. SaysHost X N p host recursive path) (λ p. host_text X N p path) told text → AreHostRows X N told host recursive false path text
-  host-rows recursive path dest host told text h = record {
+  host-rows : (recursive : Bool) (path : List ℕ) (dest : Path) (host : HostTold) (told now : Told) (text : List ℕ)
+      → PrintsFor X N dest (Some path) (λ p. SaysHost X N p host recursive path) (λ p. host_text X N p path) told now text → AreHostRows X N told now host recursive false path text
+  host-rows recursive path dest host told now text h = record {
     profile = h.profile;
     adds_by = h.adds_by;
     tree = h.tree;
-    is_tree = h.plan.1.tree;
-    whole = h.plan.1.whole;
+    is_tree = h.plan.tree;
+    whole = h.plan.whole;
     said = host-is-said path host (λ tree. tree_on_host X N h.profile tree recursive path) h.tree h.said;
     is = h.is;
+    held = h.plan.held;
   }
 
   pub of-input : (dest : Path) (l m : streams.Told) (i j : ℕ) (held : streams.Told) (w : ℕ) (side : HostSide) (done : Result (List ℕ) Refusal) (a d : Seen) (t0 t2 : ℕ)
@@ -663,7 +674,7 @@ module _ (X : List ℕ → List ℕ) (N : List ℕ → ℕ) where
         subst (λ g. AnswersOver X N a.told d.told p es (root_of X N p (Dir es) ++ blocks X N p (Dir es)) (settled X N (input_row X N p) p es (placed X N (added_spot dest None es) g p es)) done) (input-said p l outside.input o.given (input.0 refl).0 o.said) o.ends;
     kinds = e.kinds;
     ready = is-ready (AddTo dest) a.told done (λ why h. h) e.ready;
-    adds = ok-more (PrintsFor X N dest None (λ p. SaysInput p l) (input_row X N) a.told) (IsRow X a.told false l) done (input-row dest l a.told) e.rows;
+    adds = ok-more (PrintsFor X N dest None (λ p. SaysInput p l) (input_row X N) a.told d.told) (IsRow X a.told d.told false l) done (input-row dest l a.told d.told) e.rows;
     reads = counts;
     host = refl;
     rows = any-text done;
@@ -691,7 +702,7 @@ module _ (X : List ℕ → List ℕ) (N : List ℕ → ℕ) where
     adds = tt;
     reads = counts-still i;
     host = only;
-    rows = ok-more (PrintsFor X N dest (Some path) (λ p. SaysHost X N p side.told recursive path) (λ p. host_text X N p path) a.told) (AreHostRows X N a.told side.told recursive false path) done (host-rows recursive path dest side.told a.told) e.rows;
+    rows = ok-more (PrintsFor X N dest (Some path) (λ p. SaysHost X N p side.told recursive path) (λ p. host_text X N p path) a.told d.told) (AreHostRows X N a.told d.told side.told recursive false path) done (host-rows recursive path dest side.told a.told d.told) e.rows;
     cause = e.cause;
     whole = e.whole;
     touches = λ p es bytes rows named input heights calm. tt;

@@ -294,65 +294,65 @@ some-stays (x ∷ text) true a b some stays = λ other. absurd (other refl)
 some-stays (x ∷ text) false a b some stays = stays
 
 module _ (X : List ℕ → List ℕ) (N : List ℕ → ℕ) where
-  text-of : (command : Command) → natures.reads_tree_alone command ≡ true → (told : Told) (host : HostTold) (l m : streams.Told) (text : List ℕ) → AddsFor X told (Ok command) (Ok text) l m → IsHostedText X N told host command text → IsTextOf X N told host (Ok command) l text
-  text-of (Init p) alone told host l m text h rows = tt
-  text-of (Add only_hash) alone told host l m text h rows = h
-  text-of (WriteInput how path) alone told host l m text h rows = tt
-  text-of (At ask path) alone told host l m text h rows = tt
-  text-of (Read offset count path) alone told host l m text h rows = tt
-  text-of (Cat path) alone told host l m text h rows = tt
-  text-of (AddTo dest) alone told host l m text h rows = h
-  text-of (AddFromTo recursive path dest) alone told host l m text h rows = rows
-  text-of (AddFrom recursive only_hash path) alone told host l m text h rows = rows
-  text-of (Get path host_path) alone told host l m text h rows = absurd cc
-  text-of (Export cid) alone told host l m text h rows = tt
-  text-of Import alone told host l m text h rows = tt
-  text-of (Same cid) alone told host l m text h rows = tt
-  text-of (Adopt source dest) alone told host l m text h rows = tt
-  text-of (Gen n seed) alone told host l m text h rows = absurd cc
-  text-of (Pin ask) alone told host l m text h rows = absurd cc
+  text-of : (command : Command) → natures.reads_tree_alone command ≡ true → (told now : Told) (host : HostTold) (l m : streams.Told) (text : List ℕ) → AddsFor X told now (Ok command) (Ok text) l m → IsHostedText X N told now host command text → IsTextOf X N told now host (Ok command) l text
+  text-of (Init p) alone told now host l m text h rows = tt
+  text-of (Add only_hash) alone told now host l m text h rows = h
+  text-of (WriteInput how path) alone told now host l m text h rows = tt
+  text-of (At ask path) alone told now host l m text h rows = tt
+  text-of (Read offset count path) alone told now host l m text h rows = tt
+  text-of (Cat path) alone told now host l m text h rows = tt
+  text-of (AddTo dest) alone told now host l m text h rows = h
+  text-of (AddFromTo recursive path dest) alone told now host l m text h rows = rows
+  text-of (AddFrom recursive only_hash path) alone told now host l m text h rows = rows
+  text-of (Get path host_path) alone told now host l m text h rows = absurd cc
+  text-of (Export cid) alone told now host l m text h rows = tt
+  text-of Import alone told now host l m text h rows = absurd cc
+  text-of (Same cid) alone told now host l m text h rows = tt
+  text-of (Adopt source dest) alone told now host l m text h rows = tt
+  text-of (Gen n seed) alone told now host l m text h rows = absurd cc
+  text-of (Pin ask) alone told now host l m text h rows = absurd cc
 
-  rule-in : (command : Command) (told : Told) (l m : streams.Told) (rule : Rule) → may_meet (kinds_of command) (refusal_kind (refusal.Rule rule)) ≡ true → AddsFor X told (Ok command) (Err (refusal.Rule rule)) l m
+  rule-in : (command : Command) (told now : Told) (l m : streams.Told) (rule : Rule) → may_meet (kinds_of command) (refusal_kind (refusal.Rule rule)) ≡ true → AddsFor X told now (Ok command) (Err (refusal.Rule rule)) l m
       → RuleOf (Ok command) (refusal.Rule rule) told l m
-  rule-in (Init p) told l m rule h adds = absurd cc
-  rule-in (Add only_hash) told l m rule h adds = (ap refusal.Rule adds.0, adds.1)
-  rule-in (WriteInput how path) told l m rule h adds = inr (rule, refl)
-  rule-in (At ask path) told l m rule h adds = (rule, refl)
-  rule-in (Read offset count path) told l m rule h adds = (rule, refl)
-  rule-in (Cat path) told l m rule h adds = absurd cc
-  rule-in (Get path host_path) told l m rule h adds = absurd cc
-  rule-in (Export cid) told l m rule h adds = absurd cc
-  rule-in Import told l m rule h adds = absurd cc
-  rule-in (Same cid) told l m rule h adds = absurd cc
-  rule-in (Adopt source dest) told l m rule h adds = inr (rule, refl)
-  rule-in (Gen n seed) told l m rule h adds = (rule, refl)
-  rule-in (Pin (pins.Add cid)) told l m rule h adds = absurd cc
-  rule-in (Pin (pins.Remove cid)) told l m rule h adds = absurd cc
-  rule-in (Pin pins.List) told l m rule h adds = absurd cc
-  rule-in (AddTo dest) told l m rule h adds = (rule, refl)
-  rule-in (AddFromTo recursive path dest) told l m rule h adds = inr (rule, refl)
-  rule-in (AddFrom recursive only_hash path) told l m rule h adds = inr (rule, refl)
+  rule-in (Init p) told now l m rule h adds = absurd cc
+  rule-in (Add only_hash) told now l m rule h adds = (ap refusal.Rule adds.0, adds.1)
+  rule-in (WriteInput how path) told now l m rule h adds = inr (rule, refl)
+  rule-in (At ask path) told now l m rule h adds = (rule, refl)
+  rule-in (Read offset count path) told now l m rule h adds = (rule, refl)
+  rule-in (Cat path) told now l m rule h adds = absurd cc
+  rule-in (Get path host_path) told now l m rule h adds = absurd cc
+  rule-in (Export cid) told now l m rule h adds = absurd cc
+  rule-in Import told now l m rule h adds = absurd cc
+  rule-in (Same cid) told now l m rule h adds = absurd cc
+  rule-in (Adopt source dest) told now l m rule h adds = inr (rule, refl)
+  rule-in (Gen n seed) told now l m rule h adds = (rule, refl)
+  rule-in (Pin (pins.Add cid)) told now l m rule h adds = absurd cc
+  rule-in (Pin (pins.Remove cid)) told now l m rule h adds = absurd cc
+  rule-in (Pin pins.List) told now l m rule h adds = absurd cc
+  rule-in (AddTo dest) told now l m rule h adds = (rule, refl)
+  rule-in (AddFromTo recursive path dest) told now l m rule h adds = inr (rule, refl)
+  rule-in (AddFrom recursive only_hash path) told now l m rule h adds = inr (rule, refl)
 
-  long-in : (command : Command) (told : Told) (l m : streams.Told) → may_meet (kinds_of command) OfLongInput ≡ true → AddsFor X told (Ok command) (Err refusal.InputTooLong) l m
+  long-in : (command : Command) (told now : Told) (l m : streams.Told) → may_meet (kinds_of command) OfLongInput ≡ true → AddsFor X told now (Ok command) (Err refusal.InputTooLong) l m
       → RuleOf (Ok command) refusal.InputTooLong told l m
-  long-in (Init p) told l m h adds = absurd cc
-  long-in (Add only_hash) told l m h adds = absurd cc
-  long-in (WriteInput how path) told l m h adds = inl (refl, adds)
-  long-in (At ask path) told l m h adds = absurd cc
-  long-in (Read offset count path) told l m h adds = absurd cc
-  long-in (Cat path) told l m h adds = absurd cc
-  long-in (Get path host_path) told l m h adds = absurd cc
-  long-in (Export cid) told l m h adds = absurd cc
-  long-in Import told l m h adds = absurd cc
-  long-in (Same cid) told l m h adds = absurd cc
-  long-in (Adopt source dest) told l m h adds = absurd cc
-  long-in (Gen n seed) told l m h adds = absurd cc
-  long-in (Pin (pins.Add cid)) told l m h adds = absurd cc
-  long-in (Pin (pins.Remove cid)) told l m h adds = absurd cc
-  long-in (Pin pins.List) told l m h adds = absurd cc
-  long-in (AddTo dest) told l m h adds = absurd cc
-  long-in (AddFromTo recursive path dest) told l m h adds = absurd cc
-  long-in (AddFrom recursive only_hash path) told l m h adds = absurd cc
+  long-in (Init p) told now l m h adds = absurd cc
+  long-in (Add only_hash) told now l m h adds = absurd cc
+  long-in (WriteInput how path) told now l m h adds = inl (refl, adds)
+  long-in (At ask path) told now l m h adds = absurd cc
+  long-in (Read offset count path) told now l m h adds = absurd cc
+  long-in (Cat path) told now l m h adds = absurd cc
+  long-in (Get path host_path) told now l m h adds = absurd cc
+  long-in (Export cid) told now l m h adds = absurd cc
+  long-in Import told now l m h adds = absurd cc
+  long-in (Same cid) told now l m h adds = absurd cc
+  long-in (Adopt source dest) told now l m h adds = absurd cc
+  long-in (Gen n seed) told now l m h adds = absurd cc
+  long-in (Pin (pins.Add cid)) told now l m h adds = absurd cc
+  long-in (Pin (pins.Remove cid)) told now l m h adds = absurd cc
+  long-in (Pin pins.List) told now l m h adds = absurd cc
+  long-in (AddTo dest) told now l m h adds = absurd cc
+  long-in (AddFromTo recursive path dest) told now l m h adds = absurd cc
+  long-in (AddFrom recursive only_hash path) told now l m h adds = absurd cc
 
   no-path : (command : Command) → may_meet (kinds_of command) OfPath ≡ true → ⊥
   no-path (Init p) h = cc
@@ -430,30 +430,30 @@ module _ (X : List ℕ → List ℕ) (N : List ℕ → ℕ) where
   host-in (Pin (pins.Remove cid)) told l m rule h = absurd cc
   host-in (Pin pins.List) told l m rule h = absurd cc
 
-  rules : (command : Command) → natures.reads_tree_alone command ≡ true → (told : Told) (l m : streams.Told) (why : Refusal) → may_meet (kinds_of command) (refusal_kind why) ≡ true → AddsFor X told (Ok command) (Err why) l m
+  rules : (command : Command) → natures.reads_tree_alone command ≡ true → (told now : Told) (l m : streams.Told) (why : Refusal) → may_meet (kinds_of command) (refusal_kind why) ≡ true → AddsFor X told now (Ok command) (Err why) l m
       → status_of why ≡ status.Rule → RuleOf (Ok command) why told l m
-  rules command needs told l m (refusal.Rule rule) h adds is = rule-in command told l m rule h adds
-  rules command needs told l m (refusal.Dag rule) h adds is = absurd (no-dag command needs h)
-  rules command needs told l m (refusal.Car number place) h adds is = absurd (no-car command needs h)
-  rules command needs told l m (refusal.CarLacks cid) h adds is = absurd cc
-  rules command needs told l m (refusal.OwnClash cid first second) h adds is = absurd cc
-  rules command needs told l m (refusal.Host rule) h adds is = host-in command told l m rule h
-  rules command needs told l m (refusal.BadPath why) h adds is = absurd (no-path command h)
-  rules command needs told l m refusal.InputTooLong h adds is = long-in command told l m h adds
-  rules command needs told l m refusal.BadPins h adds is = absurd cc
-  rules command needs told l m refusal.Usage h adds is = absurd cc
-  rules command needs told l m (refusal.Ready why) h adds is = absurd cc
-  rules command needs told l m refusal.Read h adds is = absurd cc
-  rules command needs told l m refusal.Write h adds is = absurd cc
-  rules command needs told l m (refusal.Store fault.Failed) h adds is = absurd cc
-  rules command needs told l m (refusal.Store (fault.Damaged cid)) h adds is = absurd cc
-  rules command needs told l m (refusal.Store (fault.Missing cid)) h adds is = absurd cc
-  rules command needs told l m (refusal.Store (fault.BadBlock cid role)) h adds is = absurd cc
-  rules command needs told l m (refusal.Store (fault.Clash cid first second)) h adds is = absurd cc
-  rules command needs told l m (refusal.Store fault.Memory) h adds is = absurd cc
+  rules command needs told now l m (refusal.Rule rule) h adds is = rule-in command told now l m rule h adds
+  rules command needs told now l m (refusal.Dag rule) h adds is = absurd (no-dag command needs h)
+  rules command needs told now l m (refusal.Car number place) h adds is = absurd (no-car command needs h)
+  rules command needs told now l m (refusal.CarLacks cid) h adds is = absurd cc
+  rules command needs told now l m (refusal.OwnClash cid first second) h adds is = absurd cc
+  rules command needs told now l m (refusal.Host rule) h adds is = host-in command told l m rule h
+  rules command needs told now l m (refusal.BadPath why) h adds is = absurd (no-path command h)
+  rules command needs told now l m refusal.InputTooLong h adds is = long-in command told now l m h adds
+  rules command needs told now l m refusal.BadPins h adds is = absurd cc
+  rules command needs told now l m refusal.Usage h adds is = absurd cc
+  rules command needs told now l m (refusal.Ready why) h adds is = absurd cc
+  rules command needs told now l m refusal.Read h adds is = absurd cc
+  rules command needs told now l m refusal.Write h adds is = absurd cc
+  rules command needs told now l m (refusal.Store fault.Failed) h adds is = absurd cc
+  rules command needs told now l m (refusal.Store (fault.Damaged cid)) h adds is = absurd cc
+  rules command needs told now l m (refusal.Store (fault.Missing cid)) h adds is = absurd cc
+  rules command needs told now l m (refusal.Store (fault.BadBlock cid role)) h adds is = absurd cc
+  rules command needs told now l m (refusal.Store (fault.Clash cid first second)) h adds is = absurd cc
+  rules command needs told now l m (refusal.Store fault.Memory) h adds is = absurd cc
 
   -- a command that doesn't use the host leaves it as it was, whatever that is
-  pub made-text : (command : Command) → uses_host command ≡ false → (a b : Seen) (l m : streams.Told) (i j t0 t1 : ℕ) (h : streams.Told) (w : ℕ) (s : HostSide) → ((text : List ℕ) → IsHostedText X N a.told s.told command text) → (done : Result (List ℕ) Refusal)
+  pub made-text : (command : Command) → uses_host command ≡ false → (a b : Seen) (l m : streams.Told) (i j t0 t1 : ℕ) (h : streams.Told) (w : ℕ) (s : HostSide) → ((text : List ℕ) → IsHostedText X N a.told b.told s.told command text) → (done : Result (List ℕ) Refusal)
       → Makes X N command done a b l m i j t0 t1 → MakesText X N command done (around a l i h w t0 s) (around b m j h w t1 s)
   made-text command none a b l m i j t0 t1 h w s hostless done mk = record {
     answers = λ world stands outside calm. mk.answers world stands outside.0 calm;
@@ -471,12 +471,12 @@ module _ (X : List ℕ → List ℕ) (N : List ℕ → ℕ) where
     leaves = mk.leaves;
   }
     where
-      by : (done : Result (List ℕ) Refusal) → IfOk done (λ text. IsHostedText X N a.told s.told command text)
+      by : (done : Result (List ℕ) Refusal) → IfOk done (λ text. IsHostedText X N a.told b.told s.told command text)
       by (Ok text) = hostless text
       by (Err why) = tt
 
   -- the same of a command that is this one
-  pub made-as : (given command : Command) → given ≡ command → uses_host command ≡ false → (a b : Seen) (l m : streams.Told) (i j t0 t1 : ℕ) (s : HostSide) → ((text : List ℕ) → IsHostedText X N a.told s.told command text) → (done : Result (List ℕ) Refusal)
+  pub made-as : (given command : Command) → given ≡ command → uses_host command ≡ false → (a b : Seen) (l m : streams.Told) (i j t0 t1 : ℕ) (s : HostSide) → ((text : List ℕ) → IsHostedText X N a.told b.told s.told command text) → (done : Result (List ℕ) Refusal)
       → Makes X N command done a b l m i j t0 t1 → (h : streams.Told) (w : ℕ) → MakesText X N given done (around a l i h w t0 s) (around b m j h w t1 s)
   made-as given command is none a b l m i j t0 t1 s hostless done mk h w =
       subst (λ given. MakesText X N given done (around a l i h w t0 s) (around b m j h w t1 s)) (sym is) (made-text command none a b l m i j t0 t1 h w s hostless done mk)
@@ -506,7 +506,7 @@ module _ (X : List ℕ → List ℕ) (N : List ℕ → ℕ) where
     -- a command that is refused before anything is printed
     pub refused-does : (why : Refusal) → MakesText X N command (Err why) (around a l i h w t0 side) (around b m j h w t1 side2) → Does X N command (Err why) (around a l i h w t0 side) (around b m j h w t1 side2)
     refused-does why mk =
-        let quiet = quiet-of (IsTextOf X N a.told side.told (Ok command) l) (natures.streams command) why (λ e. no-write command (subst (λ k. may_meet (kinds_of command) k ≡ true) e mk.kinds)) in
+        let quiet = quiet-of (IsTextOf X N a.told b.told side.told (Ok command) l) (natures.streams command) why (λ e. no-write command (subst (λ k. may_meet (kinds_of command) k ≡ true) e mk.kinds)) in
         record {
           answers = λ world finds input calm. answered world (λ uses. (input.1 uses).0) (mk.answers world (stands-in a.told world.standing finds.stands) input calm.store);
           lost = λ p es rows held bytes named tells heights input calm. over p es (mk.lost p es rows held bytes named input calm.store);
@@ -515,7 +515,7 @@ module _ (X : List ℕ → List ℕ) (N : List ℕ → ℕ) where
           prints = quiet.prints h h (else-same (natures.streams command) h);
           kinds = may-end command why mk.kinds;
           ready = mk.ready;
-          rule = λ is. rules command alone a.told l m why mk.kinds mk.adds is;
+          rule = λ is. rules command alone a.told b.told l m why mk.kinds mk.adds is;
           reads = mk.reads;
           host = takes (is_read {A = Unit {0}} (Err why)) (is_write {A = Unit {0}} (Err why)) mk.host;
           gets = alone-gets command alone (ended {A = Unit {0}} (Err why)) a.told side.told side2.told;
@@ -586,7 +586,7 @@ module _ (X : List ℕ → List ℕ) (N : List ℕ → ℕ) where
           lost = λ p es rows held bytes named tells heights input calm. over p es (mk.lost p es rows held bytes named input calm.store);
           unprinted = λ world after is. absurd cc;
           prefix = λ world finds input room. subst (λ e. PrintsPart e h h2) (text-is world finds input room) (whole-printed text h h2 is);
-          prints = (text, text-of command alone a.told side.told l m text mk.adds mk.rows, is);
+          prints = (text, text-of command alone a.told b.told side.told l m text mk.adds mk.rows, is);
           kinds = tt;
           ready = tt;
           rule = tt;
@@ -630,7 +630,7 @@ module _ (X : List ℕ → List ℕ) (N : List ℕ → ℕ) where
               lost = λ p es rows held bytes named tells heights input calm. absurd (let stood = calm.written.output in omega (arith, rose, stood));
               unprinted = λ world after is finds input calm. left-next world (mk.answers world (stands-in a.told world.standing finds.stands) input calm);
               prefix = λ world finds input room. subst (λ e. PrintsPart e h h2) (text-is world finds input room) c.printed;
-              prints = (text, text-of command alone a.told side.told l m text mk.adds mk.rows, c.printed);
+              prints = (text, text-of command alone a.told b.told side.told l m text mk.adds mk.rows, c.printed);
               kinds = refl;
               ready = tt;
               rule = λ is. absurd cc;

@@ -13,7 +13,7 @@ use Rattle.uf_top.specs.Running.{Runs}
 use Rattle.uf_top.specs.Working.{Serves}
 use Rattle.uf_top.proofs.Counted.{counted-of}
 use Rattle.uf_top.proofs.Losses.{lost-told, touches-told}
-use Rattle.uf_top.proofs.Telling.{StatusShows, blamed-told, clashes-told, faults-told, gets-told, good-told, head-told, host-told, idle-told, is-refused, kinds-told, pins-told, prefix-told, prints-told, read-told, replies-told, says-plain, shows, synced-told, told-same, unprinted-told, whole-told, write-told, writes-told}
+use Rattle.uf_top.proofs.Telling.{blamed-told, clashes-told, faults-told, gets-told, good-told, head-told, host-told, idle-told, is-refused, kinds-told, pins-told, prefix-told, prints-told, read-told, replies-told, says-plain, shows, synced-told, told-same, unprinted-told, whole-told, write-told, writes-told}
 
 module _ (Says : List ℕ → Type 0) (given : Status) (X : List ℕ → List ℕ) (N : List ℕ → ℕ) (a b : Around) where
   pub runs-told : (asked : Result Command Refusal) (done : Result (Unit {0}) Refusal) → IsOfWords asked → Serves X N asked done a b
@@ -27,15 +27,7 @@ module _ (Says : List ℕ → Type 0) (given : Status) (X : List ℕ → List �
     kinds = kinds-told Says given asked done kinds t;
     words = λ why is. (let idle = subst (λ asked. Serves X N asked done a b) is s in is-refused Says given done why t idle.refused);
     lines = says-plain Says given done t;
-    rule = λ is. subst (StatusShows Says given X N a b asked) is shown;
-    usage = λ is. subst (StatusShows Says given X N a b asked) is shown;
-    store_fault = λ is. subst (StatusShows Says given X N a b asked) is shown;
-    missing = λ is. subst (StatusShows Says given X N a b asked) is shown;
-    bad_block = λ is. subst (StatusShows Says given X N a b asked) is shown;
-    clash = λ is. subst (StatusShows Says given X N a b asked) is shown;
-    read = λ is. subst (StatusShows Says given X N a b asked) is shown;
-    write = λ is. subst (StatusShows Says given X N a b asked) is shown;
-    not_ready = λ is. subst (StatusShows Says given X N a b asked) is shown;
+    cause = shows Says given X N a b asked done of-words s sections kinds t;
     faults_told = λ more. faults-told Says given X N a b asked done s t more;
     clashes_told = λ more. clashes-told Says given X N a b asked done s t more;
     read_told = λ more. read-told Says given X N a b asked done s t more;
@@ -55,6 +47,3 @@ module _ (Says : List ℕ → Type 0) (given : Status) (X : List ℕ → List �
     touches = λ p es bytes rows named input heights calm. touches-told Says given X N a b p es bytes rows asked done s named input heights calm;
     touched = λ is. blamed-told Says given X N a b asked done of-words s t is;
   }
-    where
-      shown : StatusShows Says given X N a b asked given
-      shown = shows Says given X N a b asked done of-words s sections kinds t

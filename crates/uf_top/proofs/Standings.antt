@@ -13,7 +13,7 @@ use Rattle.uf_tree.specs.HeadReading.{head_reads}
 use Rattle.uf_tree.specs.Nodes.{Named}
 use Rattle.uf_tree.specs.ShardPlan.{shard}
 use Rattle.uf_tree.specs.Standing.{IsHeadNote, Standing, NoHead, BadHead, Stands, IsBadHead}
-use Rattle.uf_tree.specs.Tree.{Dir, Entries, own_meta}
+use Rattle.uf_tree.specs.Tree.{Dir, Entries, Tree, own_meta}
 use Rattle.uf_tree.specs.TreePlan.{blocks, entry, named_entries}
 use Rattle.uf_tree.specs.Validity.{IsHash}
 use Rattle.uf_tree.specs.declared.head_fault.HeadFault.{HeadFault}
@@ -53,6 +53,10 @@ leaves-holds a b l (Same e) h = subst (λ t. Holds t l) (sym e) h
 leaves-holds a b l (OnlySynced e) h = subst (λ t. Holds t l) (sym e) (sync-holds a l h)
 
 module _ (X : List ℕ → List ℕ) (N : List ℕ → ℕ) where
+  -- the blocks of a tree have the digests of their CIDs
+  pub tree-good : (p : Profile) (t : Tree) → AreGood X (blocks X N p t)
+  tree-good p t = flip X (blocks X N p t) (tree-digested X N p t)
+
   -- what stands stays where the Head is as before and good blocks are kept
   pub stands-kept : (a b : Told) (s : Standing) → KeepsGood X a b → head_in b ≡ head_in a → TellsAs X N a s → TellsAs X N b s
   stands-kept None b s k h t = absurd t

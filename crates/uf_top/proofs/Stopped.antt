@@ -117,7 +117,7 @@ module _ (X : List ℕ → List ℕ) where
               (firm-safe X N p es (noted text m) plain_n (noted-firm-too a m plain none saves text (subst (λ (t : Contents). LeavesTree X N p es t.held t.notes) is stands)))
 
       pub init-stops : (done : Bool) (a b : Contents) → IsPlain a → a.notes.head ≡ None → WritesAs X MakesHead done (Some a) (Some b) → LeavesNoneOr X N p es b.held b.notes → EachStop (LeavesNoneOr X N p es) a b
-      init-stops true a b plain none written now = by written.2.between written.2.saves written.2.last
+      init-stops true a b plain none (none_there, written) now = by written.2.between written.2.saves written.2.last
         where
           is-tree : (text : List ℕ) (m : Contents) → b ≡ noted text m → LeavesNoneOr X N p es b.held b.notes → LeavesTree X N p es m.held (noted text m).notes
           is-tree text m is (inl gone) = absurd (let k : Some text ≡ None = ap (λ (t : Contents). t.notes.head) (sym is) ∙ gone in cc)
@@ -250,7 +250,7 @@ module _ (X : List ℕ → List ℕ) where
       shape-ends NoWrites done b written next = along b a (told-is b a written) next nothing-ends
       shape-ends SyncsBlocks true b written next = syncs-ends b written next
       shape-ends SyncsBlocks false b written next = leaves-ends b written next
-      shape-ends MakesHead true b written next = head-ends b written next
+      shape-ends MakesHead true b written next = head-ends b written.1 next
       shape-ends MakesHead false b written next = leaves-ends b written next
       shape-ends MovesHead true b written next = head-ends b written next
       shape-ends MovesHead false b written next = leaves-ends b written next

@@ -9,7 +9,7 @@ use Rattle.uf_mfs.specs.Standing.{NamesOver, TellsAs, head_in}
 use Rattle.uf_store.specs.Calls.{Calm}
 use Rattle.uf_path.specs.declared.path.DagPath.{DagPath}
 use Rattle.uf_store.specs.Contents.{Told, changed, held_at, with_sync}
-use Rattle.uf_store.specs.Faults.{Shown, ShowsBadBlock, ShowsClash, ShowsFailure, ShowsMissing}
+use Rattle.uf_store.specs.Faults.{Shown, ShowsClash, ShowsMissing}
 use Rattle.uf_store.specs.Keeping.{KeepsGood}
 use Rattle.uf_store.specs.Seen.{Seen}
 use Rattle.uf_store.specs.declared.store.Role.{Role}
@@ -23,7 +23,7 @@ use Rattle.uf_command.specs.Natures.{command_writes, needs_standing, only_reads,
 use Rattle.uf_command.specs.Natures.{streams as flows}
 use Rattle.uf_command.specs.Kinds.{OfCar, OfClash, OfHost, OfLongInput, OfMissing, OfPath, OfPins, OfReady, OfRule, OfUsage, OfWrite, fault_behind, may_close, refusal_kind, word_kinds}
 use Rattle.uf_command.specs.Natures.{IsOfCommand, kinds_of, may_end, may_give}
-use Rattle.uf_command.specs.Lines.{bad_block_line, clash_line, line_of, missing_line, said}
+use Rattle.uf_command.specs.Lines.{line_of, said}
 use Rattle.uf_top.specs.Reply.{World, outside_of, reply, reply_to}
 use Rattle.uf_command.specs.Statuses.{ended, no_memory, plain_line, status_of}
 use Rattle.uf_command.specs.declared.status.Status.{Status}
@@ -38,8 +38,9 @@ use Rattle.uf_command.specs.declared.types.Refusal.TheVariants as refusal
 use Rattle.uf_top.specs.Answering.{DoesAnswer, LeavesNext}
 use Rattle.uf_top.specs.Around.{AllWritten, Around, CountsCanRise, HasOutside, HostSide, MetNone, RisesFor, RoseAt, TakesHost}
 use Rattle.uf_top.specs.Cars.{ByOwnStore, IsClashing, IsMissing, IsOwnClash, LacksSection}
+use Rattle.uf_top.specs.Caused.{StatusShows}
 use Rattle.uf_top.specs.Causes.{IsBadIn, IsSynced, is_read, is_write, KeepsHead}
-use Rattle.uf_top.specs.Endings.{EndsAs, EndsBy, FindsAll, IsNotReady, IsRefusedBy, IsRule, IsSyncedFor, IsTextOf, PinsUnread, PrintsAll, PrintsAt, PrintsPart, SaysPlain, may_move}
+use Rattle.uf_top.specs.Endings.{EndsAs, EndsBy, FindsAll, IsRefusedBy, IsSyncedFor, IsTextOf, PinsUnread, PrintsAll, PrintsAt, PrintsPart, SaysPlain, may_move}
 use Rattle.uf_command.specs.Telling.{TellsEnd, TellsWhy, has_details}
 use Rattle.uf_top.specs.Getting.{GetsFor, LeavesAt}
 use Rattle.uf_top.specs.Naming.{FindsOver, FindsWorld, StandsIf}
@@ -519,20 +520,6 @@ module _ (Says : List ℕ → Type 0) where
     kinds-told (Ok command) (Err why) of t = by-why (λ g. may_give command g ≡ true) why given t (λ says. gives command why of) refl
 
     module _ (X : List ℕ → List ℕ) (N : List ℕ → ℕ) (a b : Around) where
-      -- what each status shows
-      abbrev pub StatusShows : Result Command Refusal → Status → Type 0
-      StatusShows asked status.Ok = ⊤
-      StatusShows asked status.Rule = IsRule Says asked a.store.told a.left b.left
-      StatusShows asked status.Usage = asked ≡ Err refusal.Usage
-      StatusShows asked status.StoreFault = ShowsFailure a.store b.store
-      StatusShows asked status.Missing = (cid : Cid) × IsMissing X (of_command own_store NoStore asked) a.left cid a.store b.store × Says (missing_line cid)
-      StatusShows asked status.BadBlock = (cid : Cid) × (role : Role) × ShowsBadBlock X (IsBadIn X N a.store.told b.store.told) cid role a.store b.store × Says (bad_block_line cid role)
-      StatusShows asked status.ReadFault = RoseAt (of_command uses_host false asked) a.reads b.reads a.host.reads b.host.reads
-      StatusShows asked status.WriteFault = RoseAt (of_command writes_host false asked) a.writes b.writes a.host.writes b.host.writes
-      StatusShows asked status.Clash = (cid : Cid) × (held : List ℕ) × (bytes : List ℕ) × IsClashing X (of_command own_store NoStore asked) a.left cid held bytes a.store b.store × Says (clash_line cid held bytes)
-      StatusShows asked status.Memory = ⊤
-      StatusShows asked status.NotReady = IsNotReady Says asked a.store.told
-
       -- a cause in the store, or in one of the command's own
       missing : (own : OwnStore) (cid : Cid) → ShowsMissing cid a.store b.store → IsMissing X own a.left cid a.store b.store
       missing NoStore cid h = h
@@ -554,7 +541,7 @@ module _ (Says : List ℕ → Type 0) where
       clashing OfCarSections cid first second h = inr h
       clashing OfTree cid first second h = h
 
-      does-show : (command : Command) (why : Refusal) → Does X N command (Err why) a b → may_end command (refusal_kind why) ≡ true → ByOwnStore X (own_store command) a.left a.store b.store why → Says (line_of why) → StatusShows (Ok command) (status_of why)
+      does-show : (command : Command) (why : Refusal) → Does X N command (Err why) a b → may_end command (refusal_kind why) ≡ true → ByOwnStore X (own_store command) a.left a.store b.store why → Says (line_of why) → StatusShows Says X N a b (Ok command) (status_of why)
       does-show command (refusal.Rule rule) h of sections says = (refusal.Rule rule, refl, says, h.rule refl)
       does-show command (refusal.Dag rule) h of sections says = (refusal.Dag rule, refl, says, h.rule refl)
       does-show command (refusal.Car number place) h of sections says = (refusal.Car number place, refl, says, h.rule refl)
@@ -575,7 +562,7 @@ module _ (Says : List ℕ → Type 0) where
       does-show command (refusal.Store (fault.Clash cid first second)) h of sections says = (cid, first, second, meeting (own_store command) cid first second (tree-clashes command of) h.cause, says)
       does-show command (refusal.Store fault.Memory) h of sections says = tt
 
-      word-shows : (why : Refusal) → word_kinds (refusal_kind why) ≡ true → Says (line_of why) → StatusShows (Err why) (status_of why)
+      word-shows : (why : Refusal) → word_kinds (refusal_kind why) ≡ true → Says (line_of why) → StatusShows Says X N a b (Err why) (status_of why)
       word-shows (refusal.Rule rule) h says = absurd cc
       word-shows (refusal.Dag rule) h says = absurd cc
       word-shows (refusal.Car number place) h says = absurd cc
@@ -597,18 +584,18 @@ module _ (Says : List ℕ → Type 0) where
       word-shows (refusal.Store fault.Memory) h says = tt
 
       idle-shows : (asked why : Refusal) (done : Result (Unit {0}) Refusal) → done ≡ Err why → word_kinds (refusal_kind asked) ≡ true → (done ≡ Err asked) ⊎ (done ≡ Err no_memory) → Says (line_of why)
-          → StatusShows (Err asked) (status_of why)
+          → StatusShows Says X N a b (Err asked) (status_of why)
       idle-shows asked why done is h (inl same) says =
           let e : why ≡ asked = cc in
-          subst (λ w. StatusShows (Err asked) (status_of w)) (sym e) (word-shows asked h (subst (λ w. Says (line_of w)) e says))
+          subst (λ w. StatusShows Says X N a b (Err asked) (status_of w)) (sym e) (word-shows asked h (subst (λ w. Says (line_of w)) e says))
       idle-shows asked why done is h (inr same) says =
           let e : why ≡ no_memory = cc in
-          subst (λ w. StatusShows (Err asked) (status_of w)) (sym e) tt
+          subst (λ w. StatusShows Says X N a b (Err asked) (status_of w)) (sym e) tt
 
-      pub shows : (asked : Result Command Refusal) (done : Result (Unit {0}) Refusal) → IsOfWords asked → Serves X N asked done a b → IfErr done (ByOwnStore X (of_command own_store NoStore asked) a.left a.store b.store) → IsOfCommand asked done → TellsEnd Says done given → StatusShows asked given
-      shows asked (Ok done) words s sections of t = subst (StatusShows asked) (sym t.0) tt
-      shows (Ok command) (Err why) words s sections of t = by-why (StatusShows (Ok command)) why given t (does-show command why s of sections) tt
-      shows (Err asked) (Err why) words s sections of t = by-why (StatusShows (Err asked)) why given t (idle-shows asked why (Err why) refl words s.refused) tt
+      pub shows : (asked : Result Command Refusal) (done : Result (Unit {0}) Refusal) → IsOfWords asked → Serves X N asked done a b → IfErr done (ByOwnStore X (of_command own_store NoStore asked) a.left a.store b.store) → IsOfCommand asked done → TellsEnd Says done given → StatusShows Says X N a b asked given
+      shows asked (Ok done) words s sections of t = subst (StatusShows Says X N a b asked) (sym t.0) tt
+      shows (Ok command) (Err why) words s sections of t = by-why (StatusShows Says X N a b (Ok command)) why given t (does-show command why s of sections) tt
+      shows (Err asked) (Err why) words s sections of t = by-why (StatusShows Says X N a b (Err asked)) why given t (idle-shows asked why (Err why) refl words s.refused) tt
 
       -- ---- no fault is passed over
 
@@ -755,8 +742,8 @@ module _ (Says : List ℕ → Type 0) where
       idle-prints why done words (inr is) same = subst (λ d. PrintsAt (λ text. ⊤) false (ended d) a.held b.held) (sym is) (ap (λ (x : Around). x.held) same)
 
       pub prints-told : (asked : Result Command Refusal) (done : Result (Unit {0}) Refusal) → IsOfWords asked → Serves X N asked done a b → TellsEnd Says done given
-          → PrintsAt (IsTextOf X N a.store.told a.host.told asked a.left) (of_command flows false asked) given a.held b.held
-      prints-told (Ok command) done words s t = by-end (IsTextOf X N a.store.told a.host.told (Ok command) a.left) (flows command) done t s.prints
+          → PrintsAt (IsTextOf X N a.store.told b.store.told a.host.told asked a.left) (of_command flows false asked) given a.held b.held
+      prints-told (Ok command) done words s t = by-end (IsTextOf X N a.store.told b.store.told a.host.told (Ok command) a.left) (flows command) done t s.prints
       prints-told (Err why) done words s t = by-end (λ text. ⊤) false done t (idle-prints why done words s.refused s.same)
 
       pub writes-told : (asked : Result Command Refusal) (done : Result (Unit {0}) Refusal) → Serves X N asked done a b → TellsEnd Says done given → WritesFor X asked (is_done given) a.store.told b.store.told

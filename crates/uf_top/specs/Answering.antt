@@ -27,7 +27,7 @@ module _ (X : List ℕ → List ℕ) (N : List ℕ → ℕ) where
     pub stands : TellsAs X N now given.next
     pub held : TellsHeld now given.held
 
-  -- the answer is the reply, or want of memory
+  -- the answer is the reply, or out of memory
   abbrev pub Answers : Standing → Reply → Result (List ℕ) Refusal → Told → Type 0
   Answers standing given ends now = IsWanting standing ends now ⊎ IsReply given ends now
 

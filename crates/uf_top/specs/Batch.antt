@@ -65,20 +65,24 @@ with_sinks output errors s = record {
 }
 
 -- the status of a line where the batch goes on was told and printed
-pub record MarksOn (done : Result (Unit {0}) Refusal) (given : Status) (out out_now err err_now : SinkSide) : Type 0 where
+pub record MarksOn (done : Result (Unit {0}) Refusal) (given : Status) (out out_now err err_now : SinkSide)
+    : Type 0 where
   pub told : TellsEnd (Said err err_now) done given
   pub goes_on : ends_batch given ≡ false
   pub marked : PrintsWhole (mark given) out out_now
 
 -- the status of a line where the batch ends was told, and printed, maybe not whole; after a failed writing nothing is
-pub record MarksLast (done : Result (Unit {0}) Refusal) (given : Status) (out out_now err err_now : SinkSide) : Type 0 where
+pub record MarksLast (done : Result (Unit {0}) Refusal) (given : Status) (out out_now err err_now : SinkSide)
+    : Type 0 where
   pub told : TellsEnd (Said err err_now) done given
   pub ends : ends_batch given ≡ true
   pub unmarked : given ≡ status.WriteFault → out_now ≡ out
-  pub marked : (given ≡ status.WriteFault → ⊥) → PrintsWhole (mark given) out out_now ⊎ PrintsCut (mark given) out out_now
+  pub marked : (given ≡ status.WriteFault → ⊥)
+      → PrintsWhole (mark given) out out_now ⊎ PrintsCut (mark given) out out_now
 
 -- the status of a line couldn't be printed, and the batch ends with that
-pub record MarksCut (done : Result (Unit {0}) Refusal) (given : Status) (out out_now err err_now : SinkSide) : Type 0 where
+pub record MarksCut (done : Result (Unit {0}) Refusal) (given : Status) (out out_now err err_now : SinkSide)
+    : Type 0 where
   pub was : Status
   pub between : SinkSide
   pub told : TellsEnd (Said err between) done was
@@ -92,23 +96,24 @@ ClosesLine done None out out_now err err_now = (given : Status) × MarksOn done 
 ClosesLine done (Some given) out out_now err err_now =
     MarksLast done given out out_now err err_now ⊎ MarksCut done given out out_now err err_now
 
-abbrev pub ClosesInBatch : Result (Unit {0}) Refusal → Option Status → streams.Told → streams.Told → ℕ → ℕ → streams.Told
-    → streams.Told → ℕ → ℕ → Type 0
+abbrev pub ClosesInBatch : Result (Unit {0}) Refusal → Option Status → (held held_now : streams.Told)
+    → (writes writes_now : ℕ) → (said said_now : streams.Told) → (unsaid unsaid_now : ℕ) → Type 0
 ClosesInBatch done given held held_now writes writes_now said said_now unsaid unsaid_now =
     ClosesLine done given (record { held = held; faults = writes }) (record { held = held_now; faults = writes_now })
     (record { held = said; faults = unsaid }) (record { held = said_now; faults = unsaid_now })
 
 -- what became of a line: it has no word and nothing was done, or what it asks for was done
 module _ (X : List ℕ → List ℕ) (N : List ℕ → ℕ) where
-  pub record ServesLine (told : Option (Result Command Refusal)) (done : Result (Unit {0}) Refusal) (before now : Around)
-      : Type 0 where
+  pub record ServesLine (told : Option (Result Command Refusal)) (done : Result (Unit {0}) Refusal)
+      (before now : Around) : Type 0 where
     pub asked : Result Command Refusal
     pub asks : (told ≡ Some asked) ⊎ (asked ≡ Err no_memory)
     pub serves : Serves X N asked done before now
     pub own : IfErr done (ByOwnStore X (of_command own_store NoStore asked) before.left before.store now.store)
     pub kinds : IsOfCommand asked done
 
-  abbrev pub LineServed : Option (Result Command Refusal) → Option (Result (Unit {0}) Refusal) → Around → Around → Type 0
+  abbrev pub LineServed : Option (Result Command Refusal) → Option (Result (Unit {0}) Refusal) → (before now : Around)
+      → Type 0
   LineServed told None before now = (told ≡ None) × (now ≡ before)
   LineServed told (Some done) before now = ServesLine told done before now
 
@@ -158,8 +163,8 @@ module _ (X : List ℕ → List ℕ) (N : List ℕ → ℕ) where
   LinesDone [] before now = now ≡ before
   LinesDone (line ∷ lines) before now = (between : Scene) × LineGone line before between × LinesDone lines between now
 
-  -- the ways in which a batch ends: with its input, at a line that fails or whose status can't be printed, at what is too
-  -- long, by a failed reading, or for want of memory
+  -- the ways in which a batch ends: with its input, at a line that fails or whose status can't be printed, at what is
+  -- too long, by a failed reading, or is out of memory
   pub data Ending : Type 0 where
     WithInput TooLong ByReading ByMemory : Ending
     AtLine : List ℕ → Ending

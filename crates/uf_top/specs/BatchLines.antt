@@ -1,10 +1,12 @@
--- The lines of a batch that move the Head, and those during which a stop leaves one of two trees.
-use Rattle.std.specs.Prelude.{◌≡◌, ◌⊎◌, ℕ, List, ◌∷◌, ◌++◌, true}
+-- The lines of a batch that move the Head, those during which a stop leaves one of two trees, and what fails in them.
+use Rattle.std.specs.Prelude.{◌≡◌, ◌⊎◌, ℕ, ◌<◌, List, ◌∷◌, ◌++◌, true}
 use Rattle.std.specs.declared.option.Option.TheVariants.{None, Some}
 use Rattle.uf_edge.specs.Host.{HostTree}
 use Rattle.uf_mfs.specs.Reading.{CanRise}
 use Rattle.uf_mfs.specs.Standing.{TellsAs, head_in}
+use Rattle.uf_command.specs.Statuses.{ends_batch}
 use Rattle.uf_command.specs.declared.status.Status.{Status}
+use Rattle.uf_command.specs.declared.status.Status.TheVariants as status
 use Rattle.uf_store.specs.Contents.{Contents, Told}
 use Rattle.uf_store.specs.declared.store.Write.{Write}
 use Rattle.uf_top.specs.Around.{Around, CountsCanRise}
@@ -34,7 +36,7 @@ module _ (X : List ℕ → List ℕ) (N : List ℕ → ℕ) where
   IsBehind front line lines ending = ((back : List (List ℕ)) × (lines ≡ front ++ line ∷ back))
       ⊎ ((lines ≡ front) × (ending ≡ AtLine line))
 
-  -- a line of a batch that has a word: those in front of it were done, and then it, which left this before its status
+  -- a line of a batch that has a word: those before it were done, and then it, which left this before its status
   -- was printed
   pub record LineOf (lines : List (List ℕ)) (ending : Ending X N) (before : Scene) : Type 0 where
     pub front : List (List ℕ)
@@ -45,6 +47,21 @@ module _ (X : List ℕ → List ℕ) (N : List ℕ → ℕ) where
     pub behind : IsBehind front line lines ending
     pub first : LinesDone X N front before found
     pub done : LineDone X N line given found left
+
+  -- a batch ended with the status of one of its lines
+  abbrev pub EndsAtLine : Ending X N → Status → Type 0
+  EndsAtLine ending given = (line : List ℕ) × (ending ≡ AtLine line) × (ends_batch given ≡ true)
+
+  -- whatever failed in a batch is its status: a call of the store, a clash that was met (or there was no memory to say
+  -- so), a reading of its input or of the host, a writing to the host or of its output. One exception: a line that ends
+  -- the batch keeps its status where that couldn't be printed
+  pub record PassesNoneOver (ending : Ending X N) (given : Status) (before now : Around) (reads reads_now : ℕ)
+      : Type 0 where
+    pub failed : before.store.faults < now.store.faults → given ≡ status.StoreFault
+    pub clashed : before.store.clashes < now.store.clashes → (given ≡ status.Clash) ⊎ (given ≡ status.Memory)
+    pub read : (reads < reads_now) ⊎ (before.host.reads < now.host.reads) → given ≡ status.ReadFault
+    pub host_written : before.host.writes < now.host.writes → given ≡ status.WriteFault
+    pub written : before.writes < now.writes → (given ≡ status.WriteFault) ⊎ EndsAtLine ending given
 
   -- a line of a batch moved the Head to where it is in the end: by its status it may
   pub record MovesByLine (lines : List (List ℕ)) (ending : Ending X N) (before : Scene) (now : Told) : Type 0 where

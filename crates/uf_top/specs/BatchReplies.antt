@@ -65,7 +65,7 @@ module _ (X : List ℕ → List ℕ) (N : List ℕ → ℕ) where
 
   module _ (host : HostTree) where
     -- a line was answered: over what the store stood for and held where it began, it ended as the reply to what it asks
-    -- for, or for want of memory, and printed no more than the reply's text; the store stands for what the reply says,
+    -- for, or is out of memory, and printed no more than the reply's text; the store stands for what the reply says,
     -- its note of pins is as the command leaves it, and the line kept within its touches
     pub record LineAnswered (line : List ℕ) (given : Status) (standing next : Standing) (before now : Scene)
         : Type 0 where
@@ -107,7 +107,7 @@ module _ (X : List ℕ → List ℕ) (N : List ℕ → ℕ) where
         × GoesOnReplied line standing stood before between × LinesReplied lines stood next between now
 
     -- how a batch ends where nothing fails: with its input, at a line with such a status, at what is too long, or for
-    -- want of memory
+    -- out of memory
     abbrev pub EndsReplied : Ending X N → Status → Standing → Standing → Scene → Scene → Type 0
     EndsReplied WithInput given standing next before now = (given ≡ status.Ok) × (next ≡ standing) × (now ≡ before)
     EndsReplied TooLong given standing next before now =

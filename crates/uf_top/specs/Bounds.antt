@@ -23,7 +23,7 @@ use Rattle.uf_command.specs.declared.types.Refusal.{Refusal}
 
 -- a file of n bytes has rows n rows of nodes
 module _ (X : List ℕ → List ℕ) (N : List ℕ → ℕ) (rows : ℕ → ℕ) where
-  -- so many touches are enough for an edit at these names
+  -- the most touches of an edit at these names
   abbrev pub touches_of_edit : Edit → List (List ℕ) → Profile → Entries → ℕ
   touches_of_edit (Mkdir parents) names p es = touch_bound X N p names es (made parents names es)
   touches_of_edit (Rm recursive) names p es =
@@ -47,7 +47,7 @@ module _ (X : List ℕ → List ℕ) (N : List ℕ → ℕ) (rows : ℕ → ℕ)
 
   -- and for a command with this input, which opens the tree first; `add -n`, `gen`, `pin rm`
   -- and `pin ls` need none; nothing is promised of
-  -- `init`, of an `add` that keeps its blocks, be it with `--to-files`, of `cat` and `get`, of what has to do with
+  -- `init`, of an `add` that keeps its blocks, also with `--to-files`, of `cat` and `get`, of what has to do with
   -- CARs, and of a copy from a DAG
   abbrev pub command_touches : List ℕ → Command → Profile → Entries → Option ℕ
   command_touches bytes (Add true) p es = Some 0

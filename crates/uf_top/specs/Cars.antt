@@ -1,5 +1,5 @@
 -- What becomes of a CAR that is read into the store, or with which what the store holds is compared.
-use Rattle.std.specs.Prelude.{◌≡◌, ◌⊎◌, ℕ, List, [], ◌∷◌, false, IfErr, IfSome, ⊤}
+use Rattle.std.specs.Prelude.{◌≡◌, ◌⊎◌, ℕ, List, [], ◌∷◌, false, IfErr, IfOk, IfSome, ⊤}
 use Rattle.std.specs.declared.option.Option.TheVariants.{None, Some}
 use Rattle.std.specs.declared.result.Result.{Result}
 use Rattle.std.specs.declared.result.Result.TheVariants.{Ok, Err}
@@ -18,7 +18,7 @@ use Rattle.uf_command.specs.Statuses.{no_memory}
 use Rattle.uf_command.specs.declared.types.Refusal.{Refusal}
 use Rattle.uf_command.specs.declared.types.Refusal.TheVariants as refusal
 use Rattle.uf_store.specs.Calls.{Calm}
-use Rattle.uf_store.specs.Contents.{Contents, Told, held_at}
+use Rattle.uf_store.specs.Contents.{Contents, Told, changed, held_at, with_sync}
 use Rattle.uf_store.specs.Faults.{NoneIsBad, Shown, ShowsClash, ShowsMissing, StaysCalm}
 use Rattle.uf_store.specs.InMemory.{no_contents}
 use Rattle.uf_store.specs.declared.store.StoreFault.TheVariants.{Memory}
@@ -36,12 +36,22 @@ pub record TellsRoots (car : Read (List Cid)) (done : Result (List ℕ) Refusal)
   pub is : done ≡ roots_told car.answer
   pub held : TellsHeld now car.sections
 
+-- these roots of a CAR, each in a line, were said once its blocks, and no others, were added and durable
+pub record AddsCar (X : List ℕ → List ℕ) (bytes text : List ℕ) (before now : Told) : Type 0 where
+  pub are : Ok text ≡ roots_told (car_read X most_car bytes).answer
+  pub added : now ≡ changed with_sync (changed (with_saves (car_read X most_car bytes).sections) before)
+
+-- so of the CAR that an input has, where it tells
+abbrev pub IsImported : (List ℕ → List ℕ) → (before now : Told) → streams.Told → List ℕ → Type 0
+IsImported X before now left text = IfSome left (λ bytes. AddsCar X bytes text before now)
+
 -- how a CAR was kept: its roots, each refusal with its cause, and what was written
 pub record KeepsCar (X : List ℕ → List ℕ) (done : Result (List ℕ) Refusal) (before now : Seen) (left : streams.Told)
     (reads reads_now : ℕ) : Type 0 where
   pub roots : (held : Lookup) (bytes : List ℕ) → TellsBlocks before.told held → left ≡ Some bytes
       → Stood reads reads_now → Calm before now
       → (done ≡ Err no_memory) ⊎ TellsRoots (car_read X most_car bytes) done now.told
+  pub added : IfOk done (IsImported X before.told now.told left)
   pub kinds : IsOf (may_meet import_kinds) done
   pub counts : Counts (is_read done) reads reads_now
   pub cause : Shown X NoneIsBad (refusal_fault done) before now

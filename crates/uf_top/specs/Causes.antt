@@ -4,7 +4,10 @@ use Rattle.std.specs.declared.option.Option.{Option}
 use Rattle.std.specs.declared.option.Option.TheVariants.{None, Some}
 use Rattle.std.specs.declared.result.Result.{Result}
 use Rattle.std.specs.declared.result.Result.TheVariants.{Ok, Err}
+use Rattle.uf_tree.specs.FilePlan.{file_plan}
+use Rattle.uf_tree.specs.Metas.{none}
 use Rattle.uf_tree.specs.Profiles.{most_bytes, usual}
+use Rattle.uf_cid.specs.Blocks.{Held}
 use Rattle.uf_cid.specs.declared.cid.Cid.{Cid}
 use Rattle.uf_edge.specs.Streams.{before, Exceeds, IsWhole}
 use Rattle.uf_edge.specs.Streams as streams
@@ -23,6 +26,7 @@ use Rattle.uf_store.specs.declared.store.StoreFault.TheVariants.{Memory}
 use Rattle.uf_store.specs.declared.store.Write.{Write}
 use Rattle.uf_store.specs.declared.store.Write.TheVariants.{Synced}
 use Rattle.uf_store.specs.Contents.{Told}
+use Rattle.uf_store.specs.Keeping.{Holds}
 use Rattle.uf_tree.specs.HeadReading.{head_reads}
 use Rattle.uf_tree.specs.declared.head_fault.HeadFault.{HeadFault}
 use Rattle.uf_tree.specs.declared.profile.Head.{Head}
@@ -93,14 +97,14 @@ abbrev pub IsUnread : Option (List ℕ) → Type 0
 IsUnread None = ⊥
 IsUnread (Some text) = (why : HeadFault) × (head_reads text ≡ Err why)
 
--- for this reason the Head doesn't do for a command that needs it, where the store tells: there is none, or it isn't
+-- for this reason a command that needs the Head refuses it, where the store tells: there is none, or it isn't
 -- read
 abbrev pub IsReasonInTree : Ready → Told → Type 0
 IsReasonInTree ready.NoHead told = IfSome told (λ t. t.notes.head ≡ None)
 IsReasonInTree ready.HeadThere told = ⊥
 IsReasonInTree ready.BadHead told = IfSome told (λ t. IsUnread t.notes.head)
 
--- for this reason the Head doesn't do where it is needed so, where the store tells: it is there, isn't read, or isn't
+-- for this reason the Head is refused where it is needed so, where the store tells: it is there, isn't read, or isn't
 -- there
 abbrev pub IsReasonFor : HeadNeed → Ready → Told → Type 0
 IsReasonFor AnyHead why told = ⊥
@@ -110,7 +114,7 @@ IsReasonFor (AHead true) ready.BadHead told = IfSome told (λ t. IsUnread t.note
 IsReasonFor (AHead true) why told = ⊥
 IsReasonFor (AHead false) why told = IsReasonInTree why told
 
--- for this reason the Head doesn't do for a command
+-- for this reason a command refuses the Head
 abbrev pub IsReason : Command → Ready → Told → Type 0
 IsReason command why told = IsReasonFor (nature command).head why told
 
@@ -165,14 +169,20 @@ AddsBy true None p = p ≡ usual
 AddsBy false None p = ⊥
 AddsBy only_hash (Some text) p = HeadSays (Some text) p
 
--- the row of some input as a file by that profile
-pub record IsRow (hash : List ℕ → List ℕ) (told : Told) (only_hash : Bool) (left : streams.Told)
+-- these blocks are held, unless nothing is kept, as with `-n`
+abbrev pub HoldsUnless : (only_hash : Bool) → Told → List Held → Type 0
+HoldsUnless true now blocks = ⊤
+HoldsUnless false now blocks = Holds now blocks
+
+-- the row of some input as a file by that profile, whose blocks are held
+pub record IsRow (hash : List ℕ → List ℕ) (told now : Told) (only_hash : Bool) (left : streams.Told)
     (text : List ℕ) : Type 0 where
   pub profile : Profile
   pub adds_by : IfSome told (λ t. AddsBy only_hash t.notes.head profile)
   pub bytes : List ℕ
   pub are_left : AreLeft left bytes
   pub is : text ≡ added_line (file_cid hash profile bytes)
+  pub held : HoldsUnless only_hash now (file_plan hash profile none bytes).blocks
 
 -- more bytes were given than a file of that profile may have
 pub record IsTooLong (told : Told) (only_hash : Bool) (left left_now : streams.Told) : Type 0 where
@@ -183,11 +193,12 @@ pub record IsTooLong (told : Told) (only_hash : Bool) (left left_now : streams.T
   pub many : most_bytes profile < length bytes
 
 -- what `add` makes of the input: its row, or that it is too long
-abbrev pub Adds : (List ℕ → List ℕ) → Told → Bool → Result (List ℕ) Refusal → streams.Told → streams.Told → Type 0
-Adds hash told only_hash (Ok text) left left_now = IsRow hash told only_hash left text
-Adds hash told only_hash (Err (refusal.Rule rule)) left left_now =
+abbrev pub Adds : (List ℕ → List ℕ) → (told now : Told) → Bool → Result (List ℕ) Refusal → streams.Told → streams.Told
+    → Type 0
+Adds hash told now only_hash (Ok text) left left_now = IsRow hash told now only_hash left text
+Adds hash told now only_hash (Err (refusal.Rule rule)) left left_now =
     (rule ≡ FileTooLong) × IsTooLong told only_hash left left_now
-Adds hash told only_hash (Err why) left left_now = ⊤
+Adds hash told now only_hash (Err why) left left_now = ⊤
 
 -- an input is taken whole, or why it isn't
 abbrev pub TakesAll : Result (List ℕ) Refusal → streams.Told → streams.Told → Type 0
@@ -219,7 +230,7 @@ abbrev pub or_usual : Option Profile → Profile
 or_usual None = usual
 or_usual (Some p) = p
 
--- a fault of the store is want of memory
+-- a fault of the store is that of no memory
 abbrev pub OnlyWants : {A : Type 0} → Result A Refusal → Type 0
 OnlyWants result = IfSome (refusal_fault result) (λ fault. fault ≡ Memory)
 
@@ -241,7 +252,7 @@ Stops (Ok a) = ⊤
 Stops (Err (refusal.Store fault)) = IsSaving fault
 Stops (Err why) = ⊥
 
--- a text that was made, or want of memory
+-- a text that was made, or out of memory
 abbrev pub IsMade : {A : Type 0} → Result (List ℕ) A → Result (List ℕ) Refusal → Type 0
 IsMade (Ok text) result = result ≡ Ok text
 IsMade (Err why) result = result ≡ Err no_memory

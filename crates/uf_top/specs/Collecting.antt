@@ -80,7 +80,7 @@ kept_in t listed = kept_below (held_at t) (tree_roots t.notes.head) listed
 
 -- ---- what is left
 
--- the blocks under these CIDs were kept, all others went, and so many were these
+-- the blocks under these CIDs were kept, all others went, and their number
 pub record LeavesJust (t : Contents) (list : List Cid) (n : ℕ) (told : Told) : Type 0 where
   pub told_now : told ≡ Some (swept (is_among list) (with_sync t))
   pub count : len (part_of t.held (is_among list)) + n ≡ len t.held
@@ -91,7 +91,7 @@ pub record LeavesSome (t : Contents) (list : List Cid) (told : Told) : Type 0 wh
   pub keeps : (c : Cid) → is_among list c ≡ true → stays c ≡ true
   pub told_now : told ≡ Some (swept stays (with_sync t))
 
--- the store failed, be it in its sweep, or there was no memory before that
+-- the store failed, also in its sweep, or there was no memory before that
 abbrev pub FailsAs : Contents → Result (List Cid) Refusal → Option StoreFault → Told → Type 0
 FailsAs t kept (Some fault.Failed) told =
     KeepsAll t told ⊎ ((list : List Cid) × (kept ≡ Ok list) × LeavesSome t list told)
@@ -99,7 +99,7 @@ FailsAs t kept (Some (fault.Damaged c)) told = told ≡ Some t
 FailsAs t kept (Some fault.Memory) told = KeepsAll t told
 FailsAs t kept other told = ⊥
 
--- by what is to be kept: all else went, and so many blocks did; or the collection is refused for this reason, and
+-- by what is to be kept: all else went, and how many blocks did; or the collection is refused for this reason, and
 -- nothing went; or it failed
 abbrev pub GoesAs : Contents → Result (List Cid) Refusal → Result ℕ Refusal → Told → Type 0
 GoesAs t kept (Ok n) told = (list : List Cid) × (kept ≡ Ok list) × LeavesJust t list n told

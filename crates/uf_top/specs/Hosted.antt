@@ -16,7 +16,7 @@ use Rattle.uf_command.specs.declared.types.Command.{Command}
 use Rattle.uf_command.specs.declared.types.Command.TheVariants.{AddFrom, AddFromTo}
 use Rattle.uf_command.specs.declared.types.Refusal.{Refusal}
 use Rattle.uf_command.specs.declared.types.Refusal.TheVariants as refusal
-use Rattle.uf_top.specs.Causes.{AddsBy}
+use Rattle.uf_top.specs.Causes.{AddsBy, HoldsUnless}
 use Rattle.uf_top.specs.HostTexts.{host_refusal, host_text}
 
 -- the fault is none of a reading of a DAG
@@ -52,9 +52,9 @@ module _ (X : List ℕ → List ℕ) (N : List ℕ → ℕ) where
   MakesHostText p told host recursive path (Err why) =
       IsHostRefused path (λ fault. IsSaid host (λ h. tree_on_host X N p h recursive path) (Err fault)) why
 
-  -- the rows of what the host has at a path, by the profile of the Head, and with `-n` by the usual one where there is
-  -- none
-  pub record AreHostRows (told : Told) (host : HostTold) (recursive only_hash : Bool) (path text : List ℕ)
+  -- the rows of what the host has at a path, whose blocks are held, by the profile of the Head, and with `-n` by the
+  -- usual one where there is none
+  pub record AreHostRows (told now : Told) (host : HostTold) (recursive only_hash : Bool) (path text : List ℕ)
       : Type 0 where
     pub profile : Profile
     pub adds_by : IfSome told (λ t. AddsBy only_hash t.notes.head profile)
@@ -63,10 +63,12 @@ module _ (X : List ℕ → List ℕ) (N : List ℕ → ℕ) where
     pub whole : plan.refusal X N profile tree ≡ None
     pub said : IsSaid host (λ h. tree_on_host X N profile h recursive path) (Ok tree)
     pub is : text ≡ host_text X N profile path tree
+    pub held : HoldsUnless only_hash now (plan.blocks X N profile tree)
 
   -- the text of a command that adds from the host is these rows; of another command nothing is said
-  abbrev pub IsHostedText : Told → HostTold → Command → List ℕ → Type 0
-  IsHostedText told host (AddFrom recursive only_hash path) text =
-      AreHostRows told host recursive only_hash path text
-  IsHostedText told host (AddFromTo recursive path dest) text = AreHostRows told host recursive false path text
-  IsHostedText told host command text = ⊤
+  abbrev pub IsHostedText : (told now : Told) → HostTold → Command → List ℕ → Type 0
+  IsHostedText told now host (AddFrom recursive only_hash path) text =
+      AreHostRows told now host recursive only_hash path text
+  IsHostedText told now host (AddFromTo recursive path dest) text =
+      AreHostRows told now host recursive false path text
+  IsHostedText told now host command text = ⊤

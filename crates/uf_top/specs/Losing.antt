@@ -27,7 +27,7 @@ use Rattle.uf_command.specs.declared.types.Refusal.TheVariants as refusal
 use Rattle.uf_top.specs.Endings.{EndsBy, PrintsAll}
 use Rattle.uf_top.specs.Naming.{NamesAfter, StandsNamed}
 
--- so many rows of nodes has a file that was found, where one of n bytes has rows n rows without metadata
+-- the rows of nodes of a file that was found, where one of n bytes has rows n rows without metadata
 abbrev pub rows_found : (ℕ → ℕ) → Result Tree Refused → ℕ
 rows_found rows (Ok (File m bytes)) = rows_with rows m (length bytes)
 rows_found rows (Ok (Dir es)) = 0
@@ -77,7 +77,7 @@ module _ (X : List ℕ → List ℕ) (N : List ℕ → ℕ) where
         pub ends_are : ends ≡ given.ends
         pub stands : StandsNamed X N before now (blocks X N p (Dir es)) given.next
 
-      -- the answer is the reply, or a needed block is lost, or want of memory
+      -- the answer is the reply, or a needed block is lost, or out of memory
       abbrev pub AnswersOver : Reply → Result (List ℕ) Refusal → Type 0
       AnswersOver given ends = IsLossOver ends ⊎ IsReplyOver given ends
 
@@ -107,6 +107,6 @@ module _ (X : List ℕ → List ℕ) (N : List ℕ → ℕ) where
           pub printed : PrintsAll reply.ends held held_now
           pub stands : StandsNamed X N before now (blocks X N p (Dir es)) reply.next
 
-        -- the answer is the reply, or a needed block is lost, or want of memory
+        -- the answer is the reply, or a needed block is lost, or out of memory
         abbrev pub EndsOver : Reply → Status → streams.Told → streams.Told → Type 0
         EndsOver reply given held held_now = TellsLoss given ⊎ RepliesOver reply given held held_now

@@ -4,29 +4,23 @@ use Rattle.std.specs.Prelude.{◌≡◌, ◌⊎◌, ℕ, ◌+◌, ◌<◌, ◌�
 use Rattle.std.specs.declared.result.Result.{Result}
 use Rattle.std.specs.declared.result.Result.TheVariants.{Err}
 use Rattle.uf_cid.specs.Blocks.{Lookup}
-use Rattle.uf_cid.specs.declared.cid.Cid.{Cid}
 use Rattle.uf_edge.specs.Counts.{Stood}
 use Rattle.uf_mfs.specs.Reading.{AreHeights}
 use Rattle.uf_mfs.specs.Standing.{NamesOver, TellsAs, head_in}
 use Rattle.uf_command.specs.Commands.{HasInput, is_idle, of_command}
-use Rattle.uf_command.specs.Natures.{NoStore, may_give, only_reads, own_store, prints_after, reads_tree_alone}
-use Rattle.uf_command.specs.Natures.{streams as flows, uses_host, writes_host}
-use Rattle.uf_command.specs.Lines.{bad_block_line, clash_line, missing_line}
+use Rattle.uf_command.specs.Natures.{may_give, only_reads, prints_after, reads_tree_alone}
+use Rattle.uf_command.specs.Natures.{streams as flows, writes_host}
 use Rattle.uf_command.specs.declared.status.Status.{Status}
 use Rattle.uf_command.specs.declared.status.Status.TheVariants as status
 use Rattle.uf_command.specs.declared.types.Command.{Command}
 use Rattle.uf_command.specs.declared.types.Refusal.{Refusal}
-use Rattle.uf_command.specs.declared.types.Refusal.TheVariants as refusal
 use Rattle.uf_store.specs.Calls.{Calm}
-use Rattle.uf_store.specs.Faults.{ShowsBadBlock, ShowsFailure}
 use Rattle.uf_store.specs.Keeping.{KeepsGood}
-use Rattle.uf_store.specs.declared.store.Role.{Role}
 use Rattle.uf_top.specs.Answering.{LeavesNext}
-use Rattle.uf_top.specs.Around.{Around, CountsCanRise, HasOutside, NoneFalls, RoseAt, StaysQuiet}
+use Rattle.uf_top.specs.Around.{Around, CountsCanRise, HasOutside, NoneFalls, StaysQuiet}
 use Rattle.uf_top.specs.Bounds.{words_touch}
-use Rattle.uf_top.specs.Cars.{IsClashing, IsMissing}
-use Rattle.uf_top.specs.Causes.{IsBadIn}
-use Rattle.uf_top.specs.Endings.{EndsAs, FindsAll, IsNotReady, IsRefusedBy, IsRule, IsSyncedFor, IsTextOf, PrintsAt, PrintsPart, SaysPlain, may_move}
+use Rattle.uf_top.specs.Caused.{StatusShows}
+use Rattle.uf_top.specs.Endings.{EndsAs, FindsAll, IsRefusedBy, IsSyncedFor, IsTextOf, PrintsAt, PrintsPart, SaysPlain, may_move}
 use Rattle.uf_top.specs.Getting.{GetsFor}
 use Rattle.uf_top.specs.Losing.{EndsOver, words_need}
 use Rattle.uf_top.specs.Pins.{PinsAfter}
@@ -41,7 +35,7 @@ use Rattle.uf_tree.specs.declared.profile.Profile.{Profile}
 module _ (Says : List ℕ → Type 0) (X : List ℕ → List ℕ) (N : List ℕ → ℕ) where
   pub record Runs (asked : Result Command Refusal) (given : Status) (before now : Around) : Type 0 where
     -- over a store that stands as the command needs it and, where the command uses it, an input or a host that tells,
-    -- with no count risen and no clash met, be it in a store of the command's own, the answer is the reply, or want of
+    -- with no count risen and no clash met, also in a store of the command's own, the answer is the reply, or out of
     -- memory; over a store that stands for a tree no block of a command on it alone is missing or bad, whatever the
     -- input and the output do
     pub replies : (w : World) → FindsWorld X N asked before.store.told w → HasOutside asked (outside_of w) before now
@@ -68,23 +62,7 @@ module _ (Says : List ℕ → Type 0) (X : List ℕ → List ℕ) (N : List ℕ 
     pub words : (why : Refusal) → asked ≡ Err why → IsRefusedBy Says why given
     -- each other answer has its cause, and its line goes to `errors`
     pub lines : SaysPlain Says given
-    pub rule : given ≡ status.Rule → IsRule Says asked before.store.told before.left now.left
-    pub usage : given ≡ status.Usage → asked ≡ Err refusal.Usage
-    pub store_fault : given ≡ status.StoreFault → ShowsFailure before.store now.store
-    pub missing : given ≡ status.Missing → (cid : Cid)
-        × IsMissing X (of_command own_store NoStore asked) before.left cid before.store now.store
-        × Says (missing_line cid)
-    pub bad_block : given ≡ status.BadBlock → (cid : Cid) × (role : Role)
-        × ShowsBadBlock X (IsBadIn X N before.store.told now.store.told) cid role before.store now.store
-        × Says (bad_block_line cid role)
-    pub clash : given ≡ status.Clash → (cid : Cid) × (held : List ℕ) × (bytes : List ℕ)
-        × IsClashing X (of_command own_store NoStore asked) before.left cid held bytes before.store now.store
-        × Says (clash_line cid held bytes)
-    pub read : given ≡ status.ReadFault
-        → RoseAt (of_command uses_host false asked) before.reads now.reads before.host.reads now.host.reads
-    pub write : given ≡ status.WriteFault
-        → RoseAt (of_command writes_host false asked) before.writes now.writes before.host.writes now.host.writes
-    pub not_ready : given ≡ status.NotReady → IsNotReady Says asked before.store.told
+    pub cause : StatusShows Says X N before now asked given
     -- no fault is passed over
     pub faults_told : before.store.faults < now.store.faults → given ≡ status.StoreFault
     pub clashes_told : before.store.clashes < now.store.clashes → (given ≡ status.Clash) ⊎ (given ≡ status.Memory)
@@ -94,18 +72,19 @@ module _ (Says : List ℕ → Type 0) (X : List ℕ → List ℕ) (N : List ℕ 
     pub counted : NoneFalls before now
     -- what is printed is printed whole at Ok, in part after a failed write, and else not at all, unless the command
     -- writes while it reads blocks; of `add` it is the row of the input or the rows of what the host has, whose blocks
-    -- have been made to outlive a stop. Whatever the answer and whatever blocks are lost, nothing is printed but the
-    -- beginning of the reply's text
+    -- are held and durable, over every store that tells; of `dag import` the roots of a CAR whose blocks, and no
+    -- others, were added. Whatever the answer and whatever blocks are lost, nothing is printed but a prefix of the
+    -- reply's text
     pub prefix : (w : World) → FindsOver X N before.store.told now.store.told asked w
         → HasOutside asked (outside_of w) before now → CountsCanRise before.store
         → PrintsPart (reply_to X N asked w).ends before.held now.held
-    pub prints : PrintsAt (IsTextOf X N before.store.told before.host.told asked before.left)
+    pub prints : PrintsAt (IsTextOf X N before.store.told now.store.told before.host.told asked before.left)
         (of_command flows false asked) given before.held now.held
     pub synced : given ≡ status.Ok → IsSyncedFor asked now.store.told
     -- what was written
     pub writes : WritesFor X asked (is_done given) before.store.told now.store.told
-    -- what is good stays, only a command that is done moves the Head, be it that only the output of an `add --to-files`
-    -- failed, and some commands leave all as it was; so does an edit that has nothing to do
+    -- what is good stays, only a command that is done moves the Head, or an `add --to-files` of which only the
+    -- output failed, and some commands leave all as it was; so does an edit that has nothing to do
     pub good : KeepsGood X before.store.told now.store.told
     pub head : may_move asked given ≡ false → head_in now.store.told ≡ head_in before.store.told
     pub told : of_command only_reads true asked ≡ true → now.store.told ≡ before.store.told

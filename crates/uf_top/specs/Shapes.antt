@@ -1,8 +1,9 @@
 -- What a command writes to the store, by what it may write and whether it was done.
 use Rattle.std.specs.Prelude.{◌≡◌, ◌⊎◌, ℕ, List, Bool, true, false}
+use Rattle.std.specs.declared.option.Option.TheVariants.{None}
 use Rattle.std.specs.declared.result.Result.{Result}
 use Rattle.std.specs.declared.result.Result.TheVariants.{Ok, Err}
-use Rattle.uf_mfs.specs.Standing.{Commits, LeavesHead, SavesThen}
+use Rattle.uf_mfs.specs.Standing.{Commits, LeavesHead, SavesThen, head_in}
 use Rattle.uf_pins.specs.Calls.{NotesPins as NotesPinsIn}
 use Rattle.uf_store.specs.Contents.{Told, changed, with_sync}
 use Rattle.uf_command.specs.Natures.{WriteShape, NoWrites, SyncsBlocks, MakesHead, MovesHead, NotesPins, SyncsPins, command_writes}
@@ -13,20 +14,21 @@ use Rattle.uf_tree.specs.declared.profile.Profile.{Profile}
 use Rattle.uf_command.specs.declared.status.Status.{Status}
 use Rattle.uf_command.specs.declared.status.Status.TheVariants as status
 
--- blocks were saved and made to outlive a stop
+-- blocks were saved and made durable
 abbrev pub SyncsAfter : (List ℕ → List ℕ) → Told → Told → Type 0
 SyncsAfter hash before now = SavesThen hash (λ between now. now ≡ changed with_sync between) before now
 
--- blocks were saved, made to outlive a stop, and then a Head was written, unless it named this root already
+-- blocks were saved, made durable, and then a Head was written, unless it named this root already
 abbrev pub HeadAfter : (List ℕ → List ℕ) → Told → Told → Type 0
 HeadAfter hash before now = (p : Profile) × (root : Cid) × SavesThen hash (Commits p root) before now
 
--- what was written, by whether the command was done: one that is refused has written no Head, and no note of pins
+-- what was written, by whether the command was done: a first Head only where there was none; one that is refused has
+-- written no Head, and no note of pins
 abbrev pub WritesAs : (List ℕ → List ℕ) → WriteShape → Bool → Told → Told → Type 0
 WritesAs hash NoWrites done before now = now ≡ before
 WritesAs hash SyncsBlocks true before now = SyncsAfter hash before now
 WritesAs hash SyncsBlocks false before now = SavesThen hash LeavesHead before now
-WritesAs hash MakesHead true before now = HeadAfter hash before now
+WritesAs hash MakesHead true before now = (head_in before ≡ None) × HeadAfter hash before now
 WritesAs hash MakesHead false before now = SavesThen hash LeavesHead before now
 WritesAs hash MovesHead true before now = HeadAfter hash before now
 WritesAs hash MovesHead false before now = SavesThen hash LeavesHead before now

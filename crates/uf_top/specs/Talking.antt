@@ -28,7 +28,8 @@ module _ (Says : List ℕ → Type 0) (X : List ℕ → List ℕ) (N : List ℕ 
     -- how the pull ended, which the status and the line tell
     pub done : Result ℕ PullFault
     pub tells : TellsTalk Says (pull_end done) given
-    -- over a store and an input that tell, what is due was asked for and kept, and it ended so; a failure leaves a front
+    -- over a store and an input that tell, what is due was asked for and kept, and it ended so; a failure leaves a
+    -- prefix
     pub pulls : (t : Contents) (bytes : List ℕ) → before.store.told ≡ Some t → before.left ≡ Some bytes
         → Pulls (due X most_pulled cid (held_at t) bytes) bytes done t now.store.told before.held now.held now.left
     -- after Ok all below the CID is held, and exactly what of it wasn't held was asked for
@@ -54,7 +55,7 @@ module _ (Says : List ℕ → Type 0) (X : List ℕ → List ℕ) (N : List ℕ 
     pub done : Result ℕ ServeFault
     pub tells : TellsTalk Says (serve_end done) given
     -- over a store and an input that tell, a frame was written for each block that is asked for, and it ended as the
-    -- lines do; a failure leaves a front
+    -- lines do; a failure leaves a prefix
     pub frames : (t : Contents) (bytes : List ℕ) → before.store.told ≡ Some t → before.left ≡ Some bytes
         → ServesLines (held_at t) (asked_in most_of_wants bytes) done before.held now.held
     -- whatever failed, some bytes were written behind what was there

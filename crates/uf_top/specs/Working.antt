@@ -73,7 +73,7 @@ module _ (X : List ℕ → List ℕ) (N : List ℕ → ℕ) where
         (reply X N command (in_world p es held outside)) done
     pub kinds : IsOf (may_meet (kinds_of command)) done
     pub ready : IsReady before.told command done
-    pub adds : AddsFor X before.told (Ok command) done left left_now
+    pub adds : AddsFor X before.told now.told (Ok command) done left left_now
     pub counts : Counts (is_read done) reads reads_now
     pub cause : Shown X (IsBadIn X N before.told now.told) (refusal_fault done) before now
     pub whole : (standing : Standing) → TellsAs X N before.told standing → Calm before now → FindsAll (ended done)
@@ -97,10 +97,10 @@ module _ (X : List ℕ → List ℕ) (N : List ℕ → ℕ) where
         (reply X N command (in_world p es held outside)) done
     pub kinds : IsOf (may_meet (kinds_of command)) done
     pub ready : IsReady before.store.told command done
-    pub adds : AddsFor X before.store.told (Ok command) done before.left now.left
+    pub adds : AddsFor X before.store.told now.store.told (Ok command) done before.left now.left
     pub reads : Counts (is_input_read command done) before.reads now.reads
     pub host : UsesHost (uses_host command) (is_read done) before.host now.host
-    pub rows : IfOk done (λ text. IsHostedText X N before.store.told before.host.told command text)
+    pub rows : IfOk done (λ text. IsHostedText X N before.store.told now.store.told before.host.told command text)
     pub cause : Shown X (IsBadIn X N before.store.told now.store.told) (refusal_fault done) before.store now.store
     pub whole : (standing : Standing) → TellsAs X N before.store.told standing → Calm before.store now.store
         → FindsAll (ended done)
@@ -143,8 +143,8 @@ module _ (X : List ℕ → List ℕ) (N : List ℕ → ℕ) where
     pub prefix : (w : World) → FindsOver X N before.store.told now.store.told (Ok command) w
         → HasOutside (Ok command) (outside_of w) before now → CountsCanRise before.store
         → PrintsPart (reply X N command w).ends before.held now.held
-    pub prints : PrintsAt (IsTextOf X N before.store.told before.host.told (Ok command) before.left) (flows command)
-        (ended done) before.held now.held
+    pub prints : PrintsAt (IsTextOf X N before.store.told now.store.told before.host.told (Ok command) before.left)
+        (flows command) (ended done) before.held now.held
     pub kinds : IsOf (may_close (kinds_of command)) done
     pub ready : IsReady before.store.told command done
     pub rule : IfErr done (λ why. status_of why ≡ status.Rule → RuleOf (Ok command) why before.store.told before.left

@@ -44,7 +44,7 @@ pub fn adds<S: Store, I: Source, L: Ledger>(
     }
 }
 
-// Adds the input, and makes its blocks outlive a stop.
+// Adds the input, and makes its blocks durable.
 fn add<S: Store, I: Source, L: Ledger>(
     alloc: Global,
     store: &mut S,
@@ -145,7 +145,7 @@ pub fn file_given(alloc: Global, answer: Result<Entry, IntakeFault>) -> Result<G
     }
 }
 
-// The row, once all that was saved is made to outlive a stop.
+// The row, once all that was saved is durable.
 pub fn synced<S: Store>(store: &mut S, row: Block) -> Result<Block, Refusal>
     ensures row { IfOk result (λ text. text ≡ row) }
     ensures stopped { Stops result }

@@ -14,7 +14,7 @@ ghost use Rattle.uf_tree.specs.Tree.{Entries};
 ghost use Rattle.uf_tree.specs.Validity.{IsHash};
 ghost use Rattle.uf_tree.specs.declared.profile.Profile.{Profile};
 ghost use Rattle.uf_top.specs.Batch.{Batches, Ending, Scene};
-ghost use Rattle.uf_top.specs.BatchLines.{BeginsSafe, MovesByLine, StopsAtFirst, StopsInLine};
+ghost use Rattle.uf_top.specs.BatchLines.{BeginsSafe, MovesByLine, PassesNoneOver, StopsAtFirst, StopsInLine};
 ghost use Rattle.uf_top.specs.BatchReplies.{BatchReplied, HasHeights, NothingFails, batch_bound, batch_printed};
 ghost use Rattle.uf_top.specs.Outcomes.{IsSafeFor};
 
@@ -43,10 +43,20 @@ pub fn a_batch_moves_the_head_by_its_lines()
         ⊎ MovesByLine X N did.lines did.ending before now.around.store.told }
 {}
 
+/// A batch passes no failure over: a call of the store that failed, a clash that was met, a failed reading of its input
+/// or of the host, and a failed writing are its status. One exception: a line that ends the batch keeps its status
+/// where that couldn't be printed.
+pub fn a_batch_passes_no_failure_over()
+    ensures { (X : List ℕ → List ℕ) (N : List ℕ → ℕ) (most limit : ℕ) (given : TheStatus) (before now : Scene)
+        (left left_now : Told) (reads reads_now : ℕ)
+        → (did : Batches X N most limit given before now left left_now reads reads_now)
+        → PassesNoneOver X N did.ending given before.around now.around reads reads_now }
+{}
+
 /// Over a store that stands for a tree (or has no Head, or one that isn't read), and a host that tells, where nothing
 /// failed and no clash was met, each line of a batch that has a word is answered with the reply to what it asks for,
-/// over what the line before it left, or for want of memory, and its status is printed behind its text. The batch ends
-/// with its input, at a line with such a status, at what is too long, or for want of memory.
+/// over what the line before it left, or is out of memory, and its status is printed behind its text. The batch ends
+/// with its input, at a line with such a status, at what is too long, or is out of memory.
 pub fn a_batch_answers_line_by_line()
     ensures { (X : List ℕ → List ℕ) (N : List ℕ → ℕ) (host : HostTree) (most limit : ℕ) (given : TheStatus)
         (before now : Scene) (left left_now : Told) (reads reads_now : ℕ) (standing : Standing)
@@ -56,7 +66,7 @@ pub fn a_batch_answers_line_by_line()
         → BatchReplied X N host did.lines did.ending given standing before did.between now }
 {}
 
-/// Where a batch whose lines are answered so doesn't end for want of memory, the output has got of each line that has a
+/// Where a batch whose lines are answered so doesn't end for out of memory, the output has got of each line that has a
 /// word the text of its reply and its status, in order, and nothing else.
 pub fn a_batch_prints_its_replies()
     ensures { (X : List ℕ → List ℕ) (N : List ℕ → ℕ) (host : HostTree) (lines : List (List ℕ))
@@ -78,7 +88,7 @@ pub fn a_batch_keeps_within_the_sum_of_its_bounds()
 {}
 
 /// Where a batch begins over contents that are safe for a tree, the host tells, and no count is at its last value,
-/// whatever fails then: a front of what was written that isn't empty ends during one of the lines, and what a stop
+/// whatever fails then: a prefix of what was written that isn't empty ends during one of the lines, and what a stop
 /// after it leaves stands for the tree before that line or the tree after it; and at the end the store is safe for the
 /// tree for which it then stands.
 pub fn a_stop_of_a_batch_leaves_the_tree_before_or_after_a_line()

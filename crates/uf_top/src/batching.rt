@@ -1,8 +1,9 @@
 // The commands that the lines of an input ask for.
 ghost use Rattle.std.specs.Prelude.{◌<◌, [], length, None, Some};
 ghost use Rattle.uf_command.specs.Batches.{line_in};
-ghost use Rattle.uf_top.specs.Around.{around, host_side};
-ghost use Rattle.uf_top.specs.Batch.{Batches, ClosesInBatch, DoesLine, LineServed, scene};
+ghost use Rattle.uf_top.specs.Around.{around};
+ghost use Rattle.uf_top.specs.Lent.{scene_at, side_at};
+ghost use Rattle.uf_top.specs.Batch.{Batches, ClosesInBatch, DoesLine, LineServed};
 
 use crate::command::work;
 use std::alloc::Global;
@@ -13,10 +14,10 @@ use uf_lines::{Line, Lines};
 use uf_murmur::NameHash;
 use uf_store::{Steps, Store, StoreFault};
 
-// A line has at most so many bytes.
+// The most bytes of a line.
 pub const MOST_OF_LINE: usize = 1048576;
 
-// And so many bytes are read of an input.
+// The most bytes of an input that are read.
 pub const MOST_OF_BATCH: u64 = 1073741824;
 
 // An input that is at its end: what the commands of a batch find in place of the lines that follow.
@@ -53,12 +54,8 @@ pub fn batch<S: Store, N: NameHash, W: Host, I: Source, O: Sink, E: Sink, L: Led
     touches: &mut Steps<L>,
 ) -> Status
     ensures { Batches S.X.block32 N.name64 MOST_OF_LINE limit result
-        (scene (S.seen store.old) (O.holds output.old) (O.faults output.old) touches.old
-        (host_side (W.tree host.old) (W.read_faults host.old) (W.write_faults host.old)) (E.holds errors.old)
-        (E.faults errors.old))
-        (scene (S.seen store.new) (O.holds output.new) (O.faults output.new) touches.new
-        (host_side (W.tree host.new) (W.read_faults host.new) (W.write_faults host.new)) (E.holds errors.new)
-        (E.faults errors.new))
+        (scene_at O.Sink W.Host E.Sink (S.seen store.old) output.old touches.old host.old errors.old)
+        (scene_at O.Sink W.Host E.Sink (S.seen store.new) output.new touches.new host.new errors.new)
         (I.left input.old) (I.left input.new) (I.faults input.old) (I.faults input.new) }
 {
     let mut lines = Lines::new(alloc, MOST_OF_LINE, limit);
@@ -89,12 +86,8 @@ fn do_line<S: Store, N: NameHash, W: Host, O: Sink, E: Sink, L: Ledger>(
     touches: &mut Steps<L>,
 ) -> Option<Status>
     ensures { DoesLine S.X.block32 N.name64 line.now result
-        (scene (S.seen store.old) (O.holds output.old) (O.faults output.old) touches.old
-        (host_side (W.tree host.old) (W.read_faults host.old) (W.write_faults host.old)) (E.holds errors.old)
-        (E.faults errors.old))
-        (scene (S.seen store.new) (O.holds output.new) (O.faults output.new) touches.new
-        (host_side (W.tree host.new) (W.read_faults host.new) (W.write_faults host.new)) (E.holds errors.new)
-        (E.faults errors.new)) }
+        (scene_at O.Sink W.Host E.Sink (S.seen store.old) output.old touches.old host.old errors.old)
+        (scene_at O.Sink W.Host E.Sink (S.seen store.new) output.new touches.new host.new errors.new) }
 {
     match serve_line::<S, N, W, O, L>(alloc, line, store, host, output, touches) {
         None => None,
@@ -113,9 +106,9 @@ fn serve_line<S: Store, N: NameHash, W: Host, O: Sink, L: Ledger>(
 ) -> Option<Result<(), Refusal>>
     ensures { LineServed S.X.block32 N.name64 (line_in line.now) result
         (around (S.seen store.old) (Some []) 0 (O.holds output.old) (O.faults output.old) touches.old
-        (host_side (W.tree host.old) (W.read_faults host.old) (W.write_faults host.old)))
+        (side_at W.Host host.old))
         (around (S.seen store.new) (Some []) 0 (O.holds output.new) (O.faults output.new) touches.new
-        (host_side (W.tree host.new) (W.read_faults host.new) (W.write_faults host.new))) }
+        (side_at W.Host host.new)) }
 {
     match read_line(alloc, line) {
         None => None,

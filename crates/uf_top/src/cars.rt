@@ -26,10 +26,10 @@ use uf_edge::{Sink, Source};
 use uf_same::{Compared, SameFault, same};
 use uf_store::{MemStore, Steps, Store, StoreFault};
 
-// At most so many blocks are walked, be they written as a CAR, compared with one or pinned.
+// The most blocks that are walked, whether written as a CAR, compared with one or pinned.
 pub const MOST_BLOCKS: u32 = 16777216;
 
-// And so many bytes are read of one.
+// The most bytes of a CAR that are read.
 const MOST_BYTES: u64 = 1099511627776;
 
 // Writes the CAR of what is below a CID, once all of that was walked.
@@ -71,7 +71,7 @@ pub fn import_car<S: Store, I: Source, O: Sink, L: Ledger>(
     }
 }
 
-// The roots of the CAR that the input has, each in a line, once its blocks are kept and made to outlive a stop.
+// The roots of the CAR that the input has, each in a line, once its blocks are kept and durable.
 fn roots_of<S: Store, I: Source, L: Ledger>(
     alloc: Global,
     store: &mut S,
@@ -87,7 +87,7 @@ fn roots_of<S: Store, I: Source, L: Ledger>(
     }
 }
 
-// The roots of a CAR, each in a line, once what was kept of it outlives a stop.
+// The roots of a CAR, each in a line, once what was kept of it is durable.
 fn firm_lines<S: Store>(alloc: Global, roots: &Cids, store: &mut S) -> Result<Block, Refusal>
     ensures lines { IfOk result (λ text. text ≡ flat_map root_line roots.now) }
     ensures stopped { Stops result }

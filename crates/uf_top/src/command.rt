@@ -7,7 +7,6 @@ ghost use Rattle.uf_edge.specs.Streams.{Told};
 ghost use Rattle.uf_mfs.specs.Standing.{TellsAs};
 ghost use Rattle.uf_tree.specs.Standing.{Standing};
 ghost use Rattle.uf_top.specs.Cars.{ByOwnStore};
-ghost use Rattle.uf_command.specs.Telling.{IsSent};
 ghost use Rattle.uf_command.specs.Commands.{IsAccepted, IsAsked, IsOfWords, of_command};
 ghost use Rattle.uf_command.specs.Kinds.{IsOf};
 ghost use Rattle.uf_command.specs.Natures.{IsOfCommand, NoStore, generates, may_end, own_store};
@@ -16,8 +15,9 @@ ghost use Rattle.uf_command.specs.Requests.{request_in};
 ghost use Rattle.uf_command.specs.declared.requests.Request.TheVariants as requests;
 ghost use Rattle.uf_command.specs.declared.types.Command.{Command as TheCommand};
 ghost use Rattle.uf_command.specs.declared.types.Refusal.{Refusal as TheRefusal};
-ghost use Rattle.uf_top.specs.Around.{around, host_side};
-ghost use Rattle.uf_top.specs.Batch.{Batches, scene};
+ghost use Rattle.uf_top.specs.Around.{around};
+ghost use Rattle.uf_top.specs.Lent.{SaidTo, around_at, scene_at, side_at};
+ghost use Rattle.uf_top.specs.Batch.{Batches};
 ghost use Rattle.uf_top.specs.Collecting.{RunsGc};
 ghost use Rattle.uf_top.specs.Running.{Runs};
 ghost use Rattle.uf_top.specs.Talking.{RunsPull, RunsServe};
@@ -49,22 +49,23 @@ use uf_murmur::NameHash;
 use uf_pull::{pull, serve as serve_peer};
 use uf_store::{Steps, Store, Sweep};
 
-// A DAG is pulled up to so many CIDs.
+// The most CIDs of a DAG that is pulled.
 const MOST_PULLED: u32 = 16777216;
 
-// And so many bytes of a peer's lines are read.
+// The most bytes of a peer's lines that are read.
 const MOST_OF_WANTS: u64 = 1073741824;
 
 /// Does one command, which the words after the program's name say.
 ///
 /// `init` makes a store ready; `files mkdir`, `files ls`, `files stat`, `files read`, `files write`, `files truncate`,
-/// `files cp`, `files mv` and `files rm` work on the tree that its Head names; `add` prints the CID of its input as a
+/// `files cp`, `files mv`, `files rm`, `files chmod`, `files touch` and `files strip` work on the tree that its Head
+/// names; `add` prints the CID of its input as a
 /// file (UnixFS v1; Kubo's balanced layout with raw leaves), or those of a file of the host or of a folder and
 /// everything in it, and, without `-n`, keeps their blocks, and with `--to-files` puts them into the tree; `cat`
 /// prints a file of a DAG, and `get` writes what is in one to the host; `gen` makes a tree on stores of its own and
 /// says its root; `pin add`, `pin rm` and `pin ls` work on the note of pins; `pull` fetches what is below a CID from a
 /// peer, and `serve` is one; `repo gc` lets go of what neither the tree nor a pin leads to. Refused are first words
-/// that are none, then texts that are no paths, then a Head that doesn't do, then an input that is too long, and then
+/// that are none, then texts that are no paths, then a Head that is refused, then an input that is too long, and then
 /// what the rules of the command refuse. The status says how the command ended; after a refusal its line goes to
 /// `errors`, and a failed write of that line changes no status.
 pub fn run<S: Sweep, N: NameHash, W: Host, I: Source, O: Sink, E: Sink, L: Ledger>(
@@ -81,50 +82,34 @@ pub fn run<S: Sweep, N: NameHash, W: Host, I: Source, O: Sink, E: Sink, L: Ledge
     // its own.
     ensures runs { (asked : TheResult TheCommand TheRefusal)
         → request_in (map string_bytes words.now) ≡ requests.One asked
-        → Runs (λ line. IsSent line (E.holds errors.old) (E.holds errors.new) (E.faults errors.old)
-        (E.faults errors.new)) S.X.block32 N.name64 asked result
-        (around (S.seen store.old) (I.left input.old) (I.faults input.old) (O.holds output.old) (O.faults output.old)
-        touches.old (host_side (W.tree host.old) (W.read_faults host.old) (W.write_faults host.old)))
-        (around (S.seen store.new) (I.left input.new) (I.faults input.new) (O.holds output.new) (O.faults output.new)
-        touches.new (host_side (W.tree host.new) (W.read_faults host.new) (W.write_faults host.new))) }
+        → Runs (SaidTo E.Sink errors.old errors.new) S.X.block32 N.name64 asked result
+        (around_at I.Source O.Sink W.Host (S.seen store.old) input.old output.old touches.old host.old)
+        (around_at I.Source O.Sink W.Host (S.seen store.new) input.new output.new touches.new host.new) }
 
     // Of `batch`: every line that has a word did what was said of a command, one after the other.
     ensures batch { request_in (map string_bytes words.now) ≡ requests.Batch
         → Batches S.X.block32 N.name64 MOST_OF_LINE MOST_OF_BATCH result
-        (scene (S.seen store.old) (O.holds output.old) (O.faults output.old) touches.old
-        (host_side (W.tree host.old) (W.read_faults host.old) (W.write_faults host.old)) (E.holds errors.old)
-        (E.faults errors.old))
-        (scene (S.seen store.new) (O.holds output.new) (O.faults output.new) touches.new
-        (host_side (W.tree host.new) (W.read_faults host.new) (W.write_faults host.new)) (E.holds errors.new)
-        (E.faults errors.new))
+        (scene_at O.Sink W.Host E.Sink (S.seen store.old) output.old touches.old host.old errors.old)
+        (scene_at O.Sink W.Host E.Sink (S.seen store.new) output.new touches.new host.new errors.new)
         (I.left input.old) (I.left input.new) (I.faults input.old) (I.faults input.new) }
 
     // Of `pull`: what is due over the peer's bytes was asked for and kept, and the tree stands as before.
     ensures pull { (cid : TheCid) → request_in (map string_bytes words.now) ≡ requests.Pull cid
-        → RunsPull (λ line. IsSent line (E.holds errors.old) (E.holds errors.new) (E.faults errors.old)
-        (E.faults errors.new)) S.X.block32 N.name64 cid result
-        (around (S.seen store.old) (I.left input.old) (I.faults input.old) (O.holds output.old) (O.faults output.old)
-        touches.old (host_side (W.tree host.old) (W.read_faults host.old) (W.write_faults host.old)))
-        (around (S.seen store.new) (I.left input.new) (I.faults input.new) (O.holds output.new) (O.faults output.new)
-        touches.new (host_side (W.tree host.new) (W.read_faults host.new) (W.write_faults host.new))) }
+        → RunsPull (SaidTo E.Sink errors.old errors.new) S.X.block32 N.name64 cid result
+        (around_at I.Source O.Sink W.Host (S.seen store.old) input.old output.old touches.old host.old)
+        (around_at I.Source O.Sink W.Host (S.seen store.new) input.new output.new touches.new host.new) }
 
     // Of `serve`: each line of the peer that asks for a block was answered by one frame, and nothing was kept.
     ensures serve { request_in (map string_bytes words.now) ≡ requests.Serve
-        → RunsServe (λ line. IsSent line (E.holds errors.old) (E.holds errors.new) (E.faults errors.old)
-        (E.faults errors.new)) S.X.block32 N.name64 result
-        (around (S.seen store.old) (I.left input.old) (I.faults input.old) (O.holds output.old) (O.faults output.old)
-        touches.old (host_side (W.tree host.old) (W.read_faults host.old) (W.write_faults host.old)))
-        (around (S.seen store.new) (I.left input.new) (I.faults input.new) (O.holds output.new) (O.faults output.new)
-        touches.new (host_side (W.tree host.new) (W.read_faults host.new) (W.write_faults host.new))) }
+        → RunsServe (SaidTo E.Sink errors.old errors.new) S.X.block32 N.name64 result
+        (around_at I.Source O.Sink W.Host (S.seen store.old) input.old output.old touches.old host.old)
+        (around_at I.Source O.Sink W.Host (S.seen store.new) input.new output.new touches.new host.new) }
 
     // Of `repo gc`: what neither the Head's root nor a pin leads to went; what they lead to stays, whatever failed.
     ensures collect { request_in (map string_bytes words.now) ≡ requests.Gc
-        → RunsGc (λ line. IsSent line (E.holds errors.old) (E.holds errors.new) (E.faults errors.old)
-        (E.faults errors.new)) S.X.block32 N.name64 result
-        (around (S.seen store.old) (I.left input.old) (I.faults input.old) (O.holds output.old) (O.faults output.old)
-        touches.old (host_side (W.tree host.old) (W.read_faults host.old) (W.write_faults host.old)))
-        (around (S.seen store.new) (I.left input.new) (I.faults input.new) (O.holds output.new) (O.faults output.new)
-        touches.new (host_side (W.tree host.new) (W.read_faults host.new) (W.write_faults host.new))) }
+        → RunsGc (SaidTo E.Sink errors.old errors.new) S.X.block32 N.name64 result
+        (around_at I.Source O.Sink W.Host (S.seen store.old) input.old output.old touches.old host.old)
+        (around_at I.Source O.Sink W.Host (S.seen store.new) input.new output.new touches.new host.new) }
 
     // Equal roots mean equal trees: what the store tells stands for one tree at most.
     ensures one { (standing other : Standing) → TellsAs S.X.block32 N.name64 (S.seen store.new).told standing
@@ -188,10 +173,8 @@ fn serve<S: Store, N: NameHash, W: Host, I: Source, O: Sink, L: Ledger>(
     requires { IfOk asked IsAccepted }
     ensures serves { (told : TheResult TheCommand TheRefusal) → IsAsked asked told
         → Serves S.X.block32 N.name64 told result
-        (around (S.seen store.old) (I.left input.old) (I.faults input.old) (O.holds output.old) (O.faults output.old)
-        touches.old (host_side (W.tree host.old) (W.read_faults host.old) (W.write_faults host.old)))
-        (around (S.seen store.new) (I.left input.new) (I.faults input.new) (O.holds output.new) (O.faults output.new)
-        touches.new (host_side (W.tree host.new) (W.read_faults host.new) (W.write_faults host.new))) }
+        (around_at I.Source O.Sink W.Host (S.seen store.old) input.old output.old touches.old host.old)
+        (around_at I.Source O.Sink W.Host (S.seen store.new) input.new output.new touches.new host.new) }
     ensures own { (told : TheResult TheCommand TheRefusal) → IsAsked asked told → IsOfWords told
         → IfErr result (ByOwnStore S.X.block32 (of_command own_store NoStore told) (I.left input.old)
         (S.seen store.old) (S.seen store.new)) }
@@ -226,10 +209,8 @@ pub fn work<S: Store, N: NameHash, W: Host, I: Source, O: Sink, L: Ledger>(
 ) -> Result<(), Refusal>
     requires { IsAccepted command.now }
     ensures does { Does S.X.block32 N.name64 command.now result
-        (around (S.seen store.old) (I.left input.old) (I.faults input.old) (O.holds output.old) (O.faults output.old)
-        touches.old (host_side (W.tree host.old) (W.read_faults host.old) (W.write_faults host.old)))
-        (around (S.seen store.new) (I.left input.new) (I.faults input.new) (O.holds output.new) (O.faults output.new)
-        touches.new (host_side (W.tree host.new) (W.read_faults host.new) (W.write_faults host.new))) }
+        (around_at I.Source O.Sink W.Host (S.seen store.old) input.old output.old touches.old host.old)
+        (around_at I.Source O.Sink W.Host (S.seen store.new) input.new output.new touches.new host.new) }
     ensures own { IfErr result (ByOwnStore S.X.block32 (own_store command.now) (I.left input.old)
         (S.seen store.old) (S.seen store.new)) }
     ensures kinds { IsOf (may_end command.now) result }
@@ -254,10 +235,8 @@ fn carry_out<S: Store, N: NameHash, W: Host, I: Source, O: Sink, L: Ledger>(
 ) -> Result<(), Refusal>
     requires { IsAccepted command.now }
     ensures does { Does S.X.block32 N.name64 command.now result
-        (around (S.seen store.old) (I.left input.old) (I.faults input.old) (O.holds output.old) (O.faults output.old)
-        touches.old (host_side (W.tree host.old) (W.read_faults host.old) (W.write_faults host.old)))
-        (around (S.seen store.new) (I.left input.new) (I.faults input.new) (O.holds output.new) (O.faults output.new)
-        touches.new (host_side (W.tree host.new) (W.read_faults host.new) (W.write_faults host.new))) }
+        (around_at I.Source O.Sink W.Host (S.seen store.old) input.old output.old touches.old host.old)
+        (around_at I.Source O.Sink W.Host (S.seen store.new) input.new output.new touches.new host.new) }
     ensures own { IfErr result (ByOwnStore S.X.block32 (own_store command.now) (I.left input.old)
         (S.seen store.old) (S.seen store.new)) }
     ensures input { reads_input command.now ≡ false → input.new ≡ input.old }
@@ -300,9 +279,9 @@ fn text_of<S: Store, N: NameHash, W: Host, I: Source, L: Ledger>(
     requires alone { reads_tree_alone command.now ≡ true }
     ensures makes { (held : Told) (writes : ℕ) → MakesText S.X.block32 N.name64 command.now result
         (around (S.seen store.old) (I.left input.old) (I.faults input.old) held writes touches.old
-        (host_side (W.tree host.old) (W.read_faults host.old) (W.write_faults host.old)))
+        (side_at W.Host host.old))
         (around (S.seen store.new) (I.left input.new) (I.faults input.new) held writes touches.new
-        (host_side (W.tree host.new) (W.read_faults host.new) (W.write_faults host.new))) }
+        (side_at W.Host host.new)) }
     ensures input { reads_input command.now ≡ false → input.new ≡ input.old }
     ensures host { uses_host command.now ≡ false → host.new ≡ host.old }
     ensures untouched { touches_nothing command.now ≡ true → touches.new ≡ touches.old }

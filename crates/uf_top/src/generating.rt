@@ -183,7 +183,7 @@ fn grown_root<S: Store, N: NameHash, L: Ledger>(
     Ok(tree.root)
 }
 
-// Does a step to so many files.
+// Does a step to the first n files.
 fn step_all<S: Store, N: NameHash, L: Ledger>(
     alloc: Global,
     step: Step,

@@ -9,7 +9,8 @@ ghost use Rattle.uf_command.specs.declared.types.Command.TheVariants as commands
 ghost use Rattle.uf_store.specs.Calls.{OnlyReads};
 ghost use Rattle.uf_store.specs.Contents.{held_at};
 ghost use Rattle.uf_store.specs.Faults.{NoneIsBad};
-ghost use Rattle.uf_top.specs.Around.{around, host_side};
+ghost use Rattle.uf_top.specs.Around.{around};
+ghost use Rattle.uf_top.specs.Lent.{side_at};
 ghost use Rattle.uf_top.specs.Causes.{is_read, is_write};
 ghost use Rattle.uf_top.specs.Foreign.{LeadsTo};
 ghost use Rattle.uf_top.specs.Getting.{Gets, IsOfGetting, IsUnwritten};
@@ -39,10 +40,8 @@ pub fn get<S: Store, W: Host, L: Ledger>(
     requires { length path.now.names < 2 ^ 32 }
     ensures { (N : List ℕ → ℕ) (left : Left) (reads : ℕ) (held : Left) (writes : ℕ) → Does S.X.block32 N
         (commands.Get path.now host_path.now) result
-        (around (S.seen store.old) left reads held writes touches.old
-        (host_side (W.tree host.old) (W.read_faults host.old) (W.write_faults host.old)))
-        (around (S.seen store.new) left reads held writes touches.new
-        (host_side (W.tree host.new) (W.read_faults host.new) (W.write_faults host.new))) }
+        (around (S.seen store.old) left reads held writes touches.old (side_at W.Host host.old))
+        (around (S.seen store.new) left reads held writes touches.new (side_at W.Host host.new)) }
 {
     match resolve(alloc, store, path, &USUAL, touches) {
         Err(fault) => Err(dag_refusal(alloc, path, fault)),

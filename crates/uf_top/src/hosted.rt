@@ -5,7 +5,8 @@ ghost use Rattle.uf_edge.specs.Streams.{Told};
 ghost use Rattle.uf_command.specs.Natures.{SyncsBlocks};
 ghost use Rattle.uf_command.specs.declared.types.Command.TheVariants as commands;
 ghost use Rattle.uf_store.specs.Keeping.{KeepsGood};
-ghost use Rattle.uf_top.specs.Around.{OnlyReadsHost, around, host_side};
+ghost use Rattle.uf_top.specs.Around.{OnlyReadsHost, around};
+ghost use Rattle.uf_top.specs.Lent.{side_at};
 ghost use Rattle.uf_top.specs.Causes.{OnlyWants, is_read};
 ghost use Rattle.uf_top.specs.Hosted.{IsNoReading, MakesHostText};
 ghost use Rattle.uf_top.specs.HostTexts.{host_refusal, host_row};
@@ -41,10 +42,8 @@ pub fn add_from<S: Store, N: NameHash, W: Host, L: Ledger>(
 ) -> Result<Block, Refusal>
     ensures works { (left : Told) (reads : ℕ) (held : Told) (writes : ℕ) → MakesText S.X.block32 N.name64
         (commands.AddFrom recursive only_hash path.now) result
-        (around (S.seen store.old) left reads held writes touches.old
-        (host_side (W.tree host.old) (W.read_faults host.old) (W.write_faults host.old)))
-        (around (S.seen store.new) left reads held writes touches.new
-        (host_side (W.tree host.new) (W.read_faults host.new) (W.write_faults host.new))) }
+        (around (S.seen store.old) left reads held writes touches.old (side_at W.Host host.old))
+        (around (S.seen store.new) left reads held writes touches.new (side_at W.Host host.new)) }
     ensures untouched { only_hash ≡ true → touches.new ≡ touches.old }
 {
     if only_hash {
@@ -54,7 +53,7 @@ pub fn add_from<S: Store, N: NameHash, W: Host, L: Ledger>(
     }
 }
 
-// Adds what the host has at a path, and makes its blocks outlive a stop.
+// Adds what the host has at a path, and makes its blocks durable.
 fn keep_from<S: Store, N: NameHash, W: Host, L: Ledger>(
     alloc: Global,
     recursive: bool,
@@ -65,10 +64,8 @@ fn keep_from<S: Store, N: NameHash, W: Host, L: Ledger>(
 ) -> Result<Block, Refusal>
     ensures { (left : Told) (reads : ℕ) (held : Told) (writes : ℕ) → MakesText S.X.block32 N.name64
         (commands.AddFrom recursive false path.now) result
-        (around (S.seen store.old) left reads held writes touches.old
-        (host_side (W.tree host.old) (W.read_faults host.old) (W.write_faults host.old)))
-        (around (S.seen store.new) left reads held writes touches.new
-        (host_side (W.tree host.new) (W.read_faults host.new) (W.write_faults host.new))) }
+        (around (S.seen store.old) left reads held writes touches.old (side_at W.Host host.old))
+        (around (S.seen store.new) left reads held writes touches.new (side_at W.Host host.new)) }
 {
     match head_profile(alloc, store)? {
         None => Err(Refusal::Ready(Ready::NoHead)),
@@ -88,16 +85,14 @@ fn hash_from<S: Store, N: NameHash, W: Host>(
 ) -> Result<Block, Refusal>
     ensures { (left : Told) (reads : ℕ) (held : Told) (writes : ℕ) (touches : ℕ) → MakesText S.X.block32 N.name64
         (commands.AddFrom recursive true path.now) result
-        (around (S.seen store.old) left reads held writes touches
-        (host_side (W.tree host.old) (W.read_faults host.old) (W.write_faults host.old)))
-        (around (S.seen store.new) left reads held writes touches
-        (host_side (W.tree host.new) (W.read_faults host.new) (W.write_faults host.new))) }
+        (around (S.seen store.old) left reads held writes touches (side_at W.Host host.old))
+        (around (S.seen store.new) left reads held writes touches (side_at W.Host host.new)) }
 {
     let found = head_profile(alloc, store)?;
     hash_by::<S::X, N, W>(alloc, or_usual(found), recursive, path, host)
 }
 
-// Adds what the host has at a path by a profile, and makes its blocks outlive a stop.
+// Adds what the host has at a path by a profile, and makes its blocks durable.
 fn keep_by<S: Store, N: NameHash, W: Host, L: Ledger>(
     alloc: Global,
     profile: Profile,
@@ -111,8 +106,8 @@ fn keep_by<S: Store, N: NameHash, W: Host, L: Ledger>(
     ensures text { MakesHostText S.X.block32 N.name64 profile (S.seen store.new).told (W.tree host.old) recursive
         path.now result }
     ensures host { OnlyReadsHost (is_read result)
-        (host_side (W.tree host.old) (W.read_faults host.old) (W.write_faults host.old))
-        (host_side (W.tree host.new) (W.read_faults host.new) (W.write_faults host.new)) }
+        (side_at W.Host host.old)
+        (side_at W.Host host.new) }
     ensures cause { ShownIn S.X.block32 result (S.seen store.old) (S.seen store.new) }
     ensures good { KeepsGood S.X.block32 (S.seen store.old).told (S.seen store.new).told }
     ensures writes { WritesAs S.X.block32 SyncsBlocks (is_ok result) (S.seen store.old).told (S.seen store.new).told }
@@ -199,8 +194,8 @@ fn hash_by<X: BlockHash, N: NameHash, W: Host>(
     ensures text { MakesHostText X.block32 N.name64 profile None (W.tree host.old) recursive path.now result }
     ensures wants { OnlyWants result }
     ensures host { OnlyReadsHost (is_read result)
-        (host_side (W.tree host.old) (W.read_faults host.old) (W.write_faults host.old))
-        (host_side (W.tree host.new) (W.read_faults host.new) (W.write_faults host.new)) }
+        (side_at W.Host host.old)
+        (side_at W.Host host.new) }
 {
     let own = path.copy()?;
     let answer = hash_rows::<X, N, W>(alloc, &profile, host, path, recursive);

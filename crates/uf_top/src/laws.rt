@@ -1,25 +1,30 @@
 // Laws of stores that stand, and of what a stop during a command leaves, by what the command writes.
-ghost use Rattle.std.specs.Prelude.{◌≡◌, ◌<◌, ◌^◌, ℕ, Bool, List, None, Ok, Some};
-ghost use Rattle.std.specs.FinMap.{get};
+ghost use Rattle.std.specs.Prelude.{◌≡◌, ◌<◌, ◌^◌, ℕ, Bool, IsTrue, List, None, Ok, Some, false};
 ghost use Rattle.std.specs.declared.option.Option.{Option};
 ghost use Rattle.std.specs.declared.result.Result.{Result};
-ghost use Rattle.uf_cid.specs.Blocks.{Held, Holds};
 ghost use Rattle.uf_cid.specs.declared.cid.Cid.{Cid};
+ghost use Rattle.uf_mfs.specs.Reading.{AreHeights};
 ghost use Rattle.uf_mfs.specs.Standing.{Commits, NamesOver, TellsAs, head_in};
-ghost use Rattle.uf_store.specs.Contents.{Contents, Told, held_at};
+ghost use Rattle.uf_store.specs.Contents.{Contents, Told};
 ghost use Rattle.uf_store.specs.Keeping.{KeepsGood};
 ghost use Rattle.uf_store.specs.Stops.{IsPlain};
+ghost use Rattle.uf_tree.specs.Profiles.{is_profile};
 ghost use Rattle.uf_tree.specs.Standing.{Standing, Stands};
 ghost use Rattle.uf_tree.specs.Tree.{Entries};
 ghost use Rattle.uf_tree.specs.Validity.{IsHash};
 ghost use Rattle.uf_tree.specs.declared.profile.Profile.{Profile};
 ghost use Rattle.uf_command.specs.Natures.{MakesHead};
+ghost use Rattle.uf_command.specs.declared.status.Status.TheVariants as status;
 ghost use Rattle.uf_command.specs.declared.types.Command.{Command};
+ghost use Rattle.uf_command.specs.declared.types.Command.TheVariants as commands;
 ghost use Rattle.uf_command.specs.declared.types.Refusal.{Refusal};
+ghost use Rattle.uf_top.specs.Added.{KeepsHosted, KeepsInput};
+ghost use Rattle.uf_top.specs.Batch.{Said, Scene};
 ghost use Rattle.uf_top.specs.Collecting.{EachSweepOutcome, kept_in};
 ghost use Rattle.uf_top.specs.Naming.{StaysNamed};
 ghost use Rattle.uf_top.specs.Outcomes.{EachOutcome, EachStop, IsSafeFor, LeavesEither, LeavesNoneOr, LeavesTree};
-ghost use Rattle.uf_top.specs.Shapes.{HeadAfter, SyncsAfter, WritesAs, WritesFor};
+ghost use Rattle.uf_top.specs.Running.{Runs};
+ghost use Rattle.uf_top.specs.Shapes.{HeadAfter, WritesAs, WritesFor};
 
 /// A store that stands for a tree names it, and does so throughout a call that keeps good blocks, as each command does.
 pub fn what_stands_is_named()
@@ -27,6 +32,11 @@ pub fn what_stands_is_named()
         → TellsAs X N told (Stands p es) → NamesOver X N told p es }
     ensures throughout { (X : List ℕ → List ℕ) (N : List ℕ → ℕ) (a b : Told) (p : Profile) (es : Entries)
         → TellsAs X N a (Stands p es) → KeepsGood X a b → StaysNamed X N a b p es }
+{}
+
+/// Files of every length have a height, so what `run` says by heights of files is said of some.
+pub fn files_have_heights()
+    ensures { (p : Profile) → IsTrue (is_profile p) → (rows : ℕ → ℕ) × AreHeights p rows }
 {}
 
 /// What a store stands for stays where good blocks are kept and the Head is as before: so of each command that is
@@ -43,9 +53,9 @@ pub fn what_is_safe_outlives_stops()
 {}
 
 /// Where a store is safe for a tree, a command has written what `run` says that it writes, and the store then stands
-/// for a tree, be it the same, as it does where only the output of an `add --to-files` failed: the store is safe for
-/// the tree after, and a stop after any of these writes leaves the tree before or the tree after. The same of a
-/// `commit` alone.
+/// for a tree, even if that is the same, as it does where only the output of an `add --to-files` failed: the store is
+/// safe for the tree after, and a stop after any of these writes leaves the tree before or the tree after. The same of
+/// a `commit` alone.
 pub fn a_stop_leaves_the_tree_before_or_after()
     ensures commit { (X : List ℕ → List ℕ) (N : List ℕ → ℕ) (r : Profile) (root : Cid) (a b : Contents) (p q : Profile)
         (es fs : Entries) → IsHash X → ((name : List ℕ) → N name < 2 ^ 64)
@@ -68,11 +78,18 @@ pub fn a_stop_of_init_leaves_no_head_or_its_tree()
         → LeavesTree X N p es b.held b.notes → IsSafeFor X N b p es }
 {}
 
-/// Where a store tells what was written, blocks that it holds after an `add` that was done are held whatever a stop
-/// leaves.
+/// Where a store tells what was written, whatever its Head, each block of what an `add` that was done says in its rows
+/// is held whatever a stop leaves: of the file of its input, and of the tree that the host has.
 pub fn a_stop_after_add_leaves_its_blocks()
-    ensures { (X : List ℕ → List ℕ) (a b : Contents) (blocks : List Held) → IsPlain a → SyncsAfter X (Some a) (Some b)
-        → Holds (held_at b) blocks → EachOutcome (λ held notes. Holds (λ cid. get held cid) blocks) b.writes }
+    ensures input { (X : List ℕ → List ℕ) (N : List ℕ → ℕ) (before now : Scene) (a b : Contents)
+        → Runs (Said before.errors now.errors) X N (Ok (commands.Add false)) status.Ok before.around now.around
+        → before.around.store.told ≡ Some a → now.around.store.told ≡ Some b → IsPlain a
+        → KeepsInput X before.around now.around a b }
+    ensures host { (X : List ℕ → List ℕ) (N : List ℕ → ℕ) (recursive : Bool) (path : List ℕ) (before now : Scene)
+        (a b : Contents) → Runs (Said before.errors now.errors) X N (Ok (commands.AddFrom recursive false path))
+        status.Ok before.around now.around
+        → before.around.store.told ≡ Some a → now.around.store.told ≡ Some b → IsPlain a
+        → KeepsHosted X N recursive path before.around now.around a b }
 {}
 
 /// Where a store is safe for a tree, each stop in the course of a collection's sweep, which keeps what the notes lead

@@ -9,7 +9,8 @@ ghost use Rattle.uf_store.specs.Calls.{OnlySaves};
 ghost use Rattle.uf_store.specs.Faults.{NoneIsBad};
 ghost use Rattle.uf_tree.specs.Profiles.{is_profile};
 ghost use Rattle.uf_command.specs.Kinds.{refusal_fault};
-ghost use Rattle.uf_top.specs.Around.{HostSide, OnlyReadsHost, around, host_side};
+ghost use Rattle.uf_top.specs.Around.{HostSide, OnlyReadsHost, around};
+ghost use Rattle.uf_top.specs.Lent.{side_at};
 ghost use Rattle.uf_top.specs.Causes.{is_read};
 ghost use Rattle.uf_top.specs.Grafts.{FollowsOr};
 ghost use Rattle.uf_top.specs.HostTexts.{host_text};
@@ -65,10 +66,8 @@ pub fn add_from_to<S: Store, N: NameHash, W: Host, L: Ledger>(
 ) -> Result<Block, Refusal>
     ensures { (left : Told) (reads : ℕ) (held : Told) (writes : ℕ) → MakesText S.X.block32 N.name64
         (commands.AddFromTo recursive path.now dest.now) result
-        (around (S.seen store.old) left reads held writes touches.old
-        (host_side (W.tree host.old) (W.read_faults host.old) (W.write_faults host.old)))
-        (around (S.seen store.new) left reads held writes touches.new
-        (host_side (W.tree host.new) (W.read_faults host.new) (W.write_faults host.new))) }
+        (around (S.seen store.old) left reads held writes touches.old (side_at W.Host host.old))
+        (around (S.seen store.new) left reads held writes touches.new (side_at W.Host host.new)) }
 {
     let found = find::<S, N, L>(alloc, dest, Some(path), store, touches)?;
     let given = read_host::<S, N, W>(alloc, found.tree.profile, recursive, path, store, host)?;
@@ -165,8 +164,8 @@ fn read_host<S: Store, N: NameHash, W: Host>(
         (SaysHost S.X.block32 N.name64 profile (W.tree host.old) recursive path.now)
         (host_text S.X.block32 N.name64 profile path.now) result }
     ensures host { OnlyReadsHost (is_read result)
-        (host_side (W.tree host.old) (W.read_faults host.old) (W.write_faults host.old))
-        (host_side (W.tree host.new) (W.read_faults host.new) (W.write_faults host.new)) }
+        (side_at W.Host host.old)
+        (side_at W.Host host.new) }
     ensures saves { OnlySaves S.X.block32 NoneIsBad (refusal_fault result) (S.seen store.old) (S.seen store.new) }
 {
     let own = path.copy()?;

@@ -15,7 +15,7 @@ use uf_murmur::NameHash;
 use uf_path::Path;
 use uf_store::{Steps, Store};
 
-// Writes the bytes of a file from an offset on, at most so many.
+// Writes at most `count` bytes of a file from an offset on.
 pub fn send_part<S: Store, N: NameHash, O: Sink, L: Ledger>(
     alloc: Global,
     offset: u64,

@@ -250,7 +250,7 @@ pub fn refusal(fault: MfsFault) -> Refusal
     }
 }
 
-// What was made to be printed, or want of memory.
+// What was made to be printed, or out of memory.
 fn made(text: Result<Block, Memory>) -> Result<Block, Refusal>
     ensures { IsMade text result }
 {

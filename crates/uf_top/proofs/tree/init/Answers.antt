@@ -17,4 +17,4 @@ pub returns-in-Ok : goal.returns-in-Ok
 returns-in-Ok g c = λ left reads.
     let e = c.in-Ok.ensures in
     is-ready g.S.X.BlockHash.block32 g.N.NameHash.name64 c.args.profile (g.S.Store.seen c.args.store.now) (g.S.Store.seen c.init.new.store) e.good left reads c.args.touches.now c.init.new.touches
-    c.in-Ok.tree c.new.result c.new.ensures e.answer e.writes e.cause
+    c.in-Ok.tree c.new.result c.new.ensures e.answer e.finds e.writes e.cause

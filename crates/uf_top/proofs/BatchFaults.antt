@@ -1,0 +1,161 @@
+-- A batch passes no failure over: what failed in one of its lines ended it, and is its status.
+use Rattle.std.proofs.Common.{◌≡◌, ◌⊎◌, ◌∙◌, ℕ, ◌<◌, ◌≤◌, List, [], ◌∷◌, arith, true, false, refl, sym, ap, inl, inr, Result, Err}
+use Rattle.std.proofs.lemmas.Bool.{cases_lt}
+use Rattle.uf_edge.specs.Streams as streams
+use Rattle.uf_command.specs.Statuses.{ends_batch}
+use Rattle.uf_command.specs.Telling.{TellsWhy}
+use Rattle.uf_command.specs.declared.status.Status.{Status}
+use Rattle.uf_command.specs.declared.status.Status.TheVariants as status
+use Rattle.uf_command.specs.declared.types.Command.{Command}
+use Rattle.uf_command.specs.declared.types.Refusal.{Refusal}
+use Rattle.uf_command.specs.declared.types.Refusal.TheVariants as refusal
+use Rattle.uf_top.specs.Around.{Around}
+use Rattle.uf_top.specs.Batch.{AtLine, Batches, ByMemory, ByReading, Ending, EndsSo, LineCut, LineEnds, LineGone, LinePassed, LinesDone, ReadingFails, Said, Scene, Tells, TooLong, WithInput, with_sinks}
+use Rattle.uf_top.specs.BatchLines.{EndsAtLine, PassesNoneOver}
+use Rattle.uf_top.specs.Running.{Runs}
+
+-- no count has risen
+record Still (a b : Around) : Type 0 where
+  faults : b.store.faults ≤ a.store.faults
+  clashes : b.store.clashes ≤ a.store.clashes
+  host_reads : b.host.reads ≤ a.host.reads
+  host_writes : b.host.writes ≤ a.host.writes
+  writes : b.writes ≤ a.writes
+
+still-same : (a b : Around) → b ≡ a → Still a b
+still-same a b same = record {
+  faults = let e = ap (λ (s : Around). s.store.faults) same in omega (arith, e);
+  clashes = let e = ap (λ (s : Around). s.store.clashes) same in omega (arith, e);
+  host_reads = let e = ap (λ (s : Around). s.host.reads) same in omega (arith, e);
+  host_writes = let e = ap (λ (s : Around). s.host.writes) same in omega (arith, e);
+  writes = let e = ap (λ (s : Around). s.writes) same in omega (arith, e);
+}
+
+still-then : (a b c : Around) → Still a b → Still b c → Still a c
+still-then a b c p q = record {
+  faults = omega (arith, p.faults, q.faults);
+  clashes = omega (arith, p.clashes, q.clashes);
+  host_reads = omega (arith, p.host_reads, q.host_reads);
+  host_writes = omega (arith, p.host_writes, q.host_writes);
+  writes = omega (arith, p.writes, q.writes);
+}
+
+not-less : (m n : ℕ) → (m < n → ⊥) → n ≤ m
+not-less m n none = by (cases_lt m n)
+  where
+    by : (m < n) ⊎ (n ≤ m) → n ≤ m
+    by (inl less) = absurd (none less)
+    by (inr few) = few
+
+-- a status with which a batch goes on is none with which it ends
+other : (given s : Status) → ends_batch given ≡ false → ends_batch s ≡ true → given ≡ s → ⊥
+other given s on ends is = let e : false ≡ true = sym on ∙ ap ends_batch is ∙ ends in cc
+
+read-told : (Says : List ℕ → Type 0) (given : Status) → TellsWhy Says refusal.Read given → given ≡ status.ReadFault
+read-told Says given (inl t) = t.0
+read-told Says given (inr t) = absurd (let e : false ≡ true = t.0 in cc)
+
+write-told : (Says : List ℕ → Type 0) (given : Status) → TellsWhy Says refusal.Write given → given ≡ status.WriteFault
+write-told Says given (inl t) = t.0
+write-told Says given (inr t) = absurd (let e : false ≡ true = t.0 in cc)
+
+module _ (X : List ℕ → List ℕ) (N : List ℕ → ℕ) where
+  -- nothing failed in a command after which a batch goes on
+  runs-still : (Says : List ℕ → Type 0) (asked : Result Command Refusal) (given : Status) (a b : Around) → Runs Says X N asked given a b → ends_batch given ≡ false → Still a b
+  runs-still Says asked given a b r on = record {
+    faults = not-less a.store.faults b.store.faults (λ less. other given status.StoreFault on refl (r.faults_told less));
+    clashes = not-less a.store.clashes b.store.clashes (λ less. clashed (r.clashes_told less));
+    host_reads = not-less a.host.reads b.host.reads (λ less. other given status.ReadFault on refl (r.read_told (inr less)));
+    host_writes = not-less a.host.writes b.host.writes (λ less. other given status.WriteFault on refl (r.write_told (inr less)));
+    writes = not-less a.writes b.writes (λ less. other given status.WriteFault on refl (r.write_told (inl less)));
+  }
+    where
+      clashed : (given ≡ status.Clash) ⊎ (given ≡ status.Memory) → ⊥
+      clashed (inl is) = other given status.Clash on refl is
+      clashed (inr is) = other given status.Memory on refl is
+
+  passed-still : (line : List ℕ) (a b : Scene) → LinePassed X N line a b → Still a.around b.around
+  passed-still line a b passed =
+      let s = runs-still (Said a.errors b.errors) passed.done.asked passed.given a.around (with_sinks passed.printed b.errors b).around passed.done.runs passed.goes_on in
+      let e : b.around.writes ≡ passed.printed.faults = passed.marked.counted in
+      let w : passed.printed.faults ≤ a.around.writes = s.writes in
+      record { faults = s.faults; clashes = s.clashes; host_reads = s.host_reads; host_writes = s.host_writes; writes = omega (arith, e, w) }
+
+  gone-still : (line : List ℕ) (a b : Scene) → LineGone X N line a b → Still a.around b.around
+  gone-still line a b (inl none) = still-same a.around b.around (ap (λ (s : Scene). s.around) none.1)
+  gone-still line a b (inr passed) = passed-still line a b passed
+
+  lines-still : (lines : List (List ℕ)) (a b : Scene) → LinesDone X N lines a b → Still a.around b.around
+  lines-still [] a b same = still-same a.around b.around (ap (λ (s : Scene). s.around) same)
+  lines-still (line ∷ lines) a b done = still-then a.around done.0.around b.around (gone-still line a done.0 done.1) (lines-still lines done.0 b done.2)
+
+  -- what failed at the end of a batch is its status
+  record EndsTold (ending : Ending X N) (given : Status) (m b : Around) : Type 0 where
+    failed : m.store.faults < b.store.faults → given ≡ status.StoreFault
+    clashed : m.store.clashes < b.store.clashes → (given ≡ status.Clash) ⊎ (given ≡ status.Memory)
+    host_read : m.host.reads < b.host.reads → given ≡ status.ReadFault
+    host_written : m.host.writes < b.host.writes → given ≡ status.WriteFault
+    written : m.writes < b.writes → (given ≡ status.WriteFault) ⊎ EndsAtLine X N ending given
+
+  still-told : (ending : Ending X N) (given : Status) (m b : Around) → Still m b → EndsTold ending given m b
+  still-told ending given m b s = record {
+    failed = λ less. absurd (let e = s.faults in omega (arith, e, less));
+    clashed = λ less. absurd (let e = s.clashes in omega (arith, e, less));
+    host_read = λ less. absurd (let e = s.host_reads in omega (arith, e, less));
+    host_written = λ less. absurd (let e = s.host_writes in omega (arith, e, less));
+    written = λ less. absurd (let e = s.writes in omega (arith, e, less));
+  }
+
+  line-told : (line : List ℕ) (given : Status) (m b : Scene) → LineEnds X N line given m b → EndsTold (AtLine line) given m.around b.around
+  line-told line given m b e = record {
+    failed = λ less. e.done.runs.faults_told less;
+    clashed = λ less. e.done.runs.clashes_told less;
+    host_read = λ less. e.done.runs.read_told (inr less);
+    host_written = λ less. e.done.runs.write_told (inr less);
+    written = λ less. inr (line, refl, e.ends);
+  }
+
+  cut-told : (line : List ℕ) (given : Status) (m b : Scene) → LineCut X N line given m b → EndsTold (AtLine line) given m.around b.around
+  cut-told line given m b e =
+      let s = runs-still (Said m.errors e.between) e.done.asked e.was m.around (with_sinks e.printed e.between b).around e.done.runs e.goes_on in
+      record {
+        failed = λ less. absurd (let k : b.around.store.faults ≤ m.around.store.faults = s.faults in omega (arith, k, less));
+        clashed = λ less. absurd (let k : b.around.store.clashes ≤ m.around.store.clashes = s.clashes in omega (arith, k, less));
+        host_read = λ less. absurd (let k : b.around.host.reads ≤ m.around.host.reads = s.host_reads in omega (arith, k, less));
+        host_written = λ less. absurd (let k : b.around.host.writes ≤ m.around.host.writes = s.host_writes in omega (arith, k, less));
+        written = λ less. inl (write-told (Said e.between b.errors) given e.tells);
+      }
+
+  ends-told : (ending : Ending X N) (given : Status) (m b : Scene) → EndsSo X N ending given m b → EndsTold ending given m.around b.around
+  ends-told WithInput given m b e = still-told WithInput given m.around b.around (still-same m.around b.around (ap (λ (s : Scene). s.around) e.1))
+  ends-told TooLong given m b e = still-told TooLong given m.around b.around (still-same m.around b.around e.same)
+  ends-told ByReading given m b e = still-told ByReading given m.around b.around (still-same m.around b.around e.same)
+  ends-told ByMemory given m b e = still-told ByMemory given m.around b.around (still-same m.around b.around e.same)
+  ends-told (AtLine line) given m b (inl e) = line-told line given m b e
+  ends-told (AtLine line) given m b (inr e) = cut-told line given m b e
+
+  -- the input of a batch fails only where it ends by that
+  input-told : (ending : Ending X N) (given : Status) (m b : Scene) (reads reads_now : ℕ) → EndsSo X N ending given m b → ReadingFails X N ending reads reads_now → reads < reads_now → given ≡ status.ReadFault
+  input-told WithInput given m b reads reads_now e f less = absurd (omega (arith, f, less))
+  input-told TooLong given m b reads reads_now e f less = absurd (omega (arith, f, less))
+  input-told ByReading given m b reads reads_now e f less = read-told (Said m.errors b.errors) given e.told
+  input-told ByMemory given m b reads reads_now e f less = absurd (omega (arith, f, less))
+  input-told (AtLine line) given m b reads reads_now e f less = absurd (omega (arith, f, less))
+
+  pub batch-told : (most limit : ℕ) (given : Status) (a b : Scene) (left left_now : streams.Told) (reads reads_now : ℕ) (did : Batches X N most limit given a b left left_now reads reads_now)
+      → PassesNoneOver X N did.ending given a.around b.around reads reads_now
+  batch-told most limit given a b left left_now reads reads_now did =
+      let s = lines-still did.lines a did.between did.done in
+      let t = ends-told did.ending given did.between b did.ends in
+      record {
+        failed = λ less. t.failed (let k = s.faults in omega (arith, k, less));
+        clashed = λ less. t.clashed (let k = s.clashes in omega (arith, k, less));
+        read = λ rose. by s.host_reads t.host_read rose;
+        host_written = λ less. t.host_written (let k = s.host_writes in omega (arith, k, less));
+        written = λ less. t.written (let k = s.writes in omega (arith, k, less));
+      }
+    where
+      by : did.between.around.host.reads ≤ a.around.host.reads → (did.between.around.host.reads < b.around.host.reads → given ≡ status.ReadFault)
+          → (reads < reads_now) ⊎ (a.around.host.reads < b.around.host.reads) → given ≡ status.ReadFault
+      by still told (inl less) = input-told did.ending given did.between b reads reads_now did.ends did.fails less
+      by still told (inr less) = told (omega (arith, still, less))
