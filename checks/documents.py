@@ -132,6 +132,7 @@ COMMANDS = {
     "Adopt": "`files cp /ipfs/..`",
     "Gen": "`gen`",
     "Pin": "`pin add`, `rm`, `ls`",
+    "Prove": "`prove`",
 }
 CELLS = {
     "NoInput": "",

@@ -225,7 +225,7 @@ def wrong_commands(manual):
 
 
 COMPLETED = {
-    "": "init add cat get dag pin repo pull serve batch gen files",
+    "": "init add cat get dag pin repo prove check pull serve batch gen files",
     "fi": "files",
     "files m": "mkdir mv",
     "files write --t": "--truncate",

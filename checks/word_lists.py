@@ -33,6 +33,8 @@ TABLE = {
     "pin rm": ([], [], ["text"]),
     "pin ls": ([], [], []),
     "repo gc": ([], [], []),
+    "prove": ([("", "absent")], [], ["text"]),
+    "check": ([("", "absent")], [], ["text", "text"]),
     "batch": ([], [], []),
     "pull": ([], [], ["text"]),
     "serve": ([], [], []),
@@ -200,9 +202,10 @@ def pieces(chance, command):
         made.append(["-" + "".join(short for short, _ in reversed(chosen))])
         chosen = []
     for short, long in chosen:
-        made.append([chance.of(["-" + short, "--" + long])])
+        shapes = ["-" + short, "--" + long] if short else ["--" + long]
+        made.append([chance.of(shapes)])
         if chance.once_in(12):
-            made.append([chance.of(["-" + short, "--" + long, f"--{long}=1"])])
+            made.append([chance.of(shapes + [f"--{long}=1"])])
     for short, long, kind in options:
         for _ in range(chance.of([0, 0, 1, 1, 1, 1, 1, 2 if chance.once_in(3) else 1])):
             value = chance.of({"number": NUMBERS, "hex": HEX, "text": TEXTS}[kind])

@@ -3,7 +3,7 @@ _unixfs() {
     local current=${COMP_WORDS[COMP_CWORD]} last=${COMP_WORDS[COMP_CWORD - 1]} first=${COMP_WORDS[1]} words='' host=0
     COMPREPLY=()
     if [ "$COMP_CWORD" -eq 1 ]; then
-        mapfile -t COMPREPLY < <(compgen -W 'init add cat get dag pin repo pull serve batch gen files' -- "$current")
+        mapfile -t COMPREPLY < <(compgen -W 'init add cat get dag pin repo prove check pull serve batch gen files' -- "$current")
         return
     fi
     case $first in
@@ -32,6 +32,8 @@ _unixfs() {
     'pin rm') words='' host=0 ;;
     'pin ls') words='' host=0 ;;
     'repo gc') words='' host=0 ;;
+    'prove') words='--absent' host=0 ;;
+    'check') words='--absent' host=0 ;;
     'pull') words='' host=0 ;;
     'serve') words='' host=0 ;;
     'batch') words='' host=0 ;;

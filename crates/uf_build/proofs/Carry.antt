@@ -57,7 +57,7 @@ module _ (X : List ℕ → List ℕ) (w : ℕ) (two : 2 ≤ w) where
   saved-split [] = refl
   saved-split (g ∷ gs) = refl
 
-  none-above : (full : List (List Part)) → map (node_part X) full ≡ [] → full ≡ []
+  pub none-above : (full : List (List Part)) → map (node_part X) full ≡ [] → full ≡ []
   none-above [] h = refl
   none-above (f ∷ full) h = absurd (no h)
     where
@@ -112,14 +112,14 @@ module _ (X : List ℕ → List ℕ) (w : ℕ) (two : 2 ≤ w) where
 
     module _ (meta : Meta) where
       -- what stands over the nodes of some groups, with those nodes
-      abbrev above : List (List Part) → List Held × Part
+      abbrev pub above : List (List Part) → List Held × Part
       above gs = (map (node_held X) gs ++ (over X meta w (map (node_part X) gs)).0, (over X meta w (map (node_part X) gs)).1)
 
       abbrev with_top : List Held × List Part → List Held × Part
       with_top under = (under.0 ++ top_held X meta under.1, top_part X meta under.1)
 
       -- one row up
-      over-more : (row : List Part) → w < length row → over X meta w row ≡ above (groups w row)
+      pub over-more : (row : List Part) → w < length row → over X meta w row ≡ above (groups w row)
       over-more row more =
           let up : List Part = map (node_part X) (groups w row) in
           let less : length up < length row = omega (arith, length-map (groups w row) (node_part X), groups-fewer w row two (omega arith)) in
@@ -130,7 +130,7 @@ module _ (X : List ℕ → List ℕ) (w : ℕ) (two : 2 ≤ w) where
           ap with_top climbs
           ∙ ap (λ (l : List Held). (l, (over X meta w up).1)) (append_assoc (map (node_held X) (groups w row)) (climb X w (length up) up).0 (top_held X meta (climb X w (length up) up).1))
 
-      over-one : (row : List Part) → length row ≤ w → over X meta w row ≡ (top_held X meta row, top_part X meta row)
+      pub over-one : (row : List Part) → length row ≤ w → over X meta w row ≡ (top_held X meta row, top_part X meta row)
       over-one row le = ap with_top (climb-one X w (length row) row le)
 
       over-full : (full : List (List Part)) (o : List Part) → AllByRecursion IsFull full → 1 ≤ length o → length o ≤ w → 1 ≤ length full

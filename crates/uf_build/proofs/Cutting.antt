@@ -56,6 +56,14 @@ module _ {A : Type 0} (w : ℕ) (pos : 1 ≤ w) where
       ∙ groups-behind w pos f (joined full ++ h) all.0 (omega (arith, length-append (joined full) h))
       ∙ ap (λ gs. f ∷ gs) (groups-full full h all.1 j k)
 
+  -- full groups, and those of what comes behind them
+  pub groups-front : (full : List (List A)) (t : List A) → AllByRecursion IsFull full → 1 ≤ length t → groups w (joined full ++ t) ≡ full ++ groups w t
+  groups-front [] t all j = refl
+  groups-front (f ∷ full) t all j =
+      ap (groups w) (append_assoc f (joined full) t)
+      ∙ groups-behind w pos f (joined full ++ t) all.0 (omega (arith, j, length-append (joined full) t))
+      ∙ ap (λ gs. f ∷ gs) (groups-front full t all.1 j)
+
   -- full groups alone
   pub groups-exact : (f : List A) (full : List (List A)) → AllByRecursion IsFull (f ∷ full) → groups w (joined (f ∷ full)) ≡ f ∷ full
   groups-exact f [] all = ap (groups w) (append-nil f) ∙ ap (λ (s : List A × List (List A)). s.0 ∷ s.1) (split-short w w f (omega (arith, all.0)))

@@ -6,6 +6,7 @@ use Rattle.std.proofs.lemmas.List.{append-nil, length-map}
 use Rattle.uf_cid.specs.Blocks.{Held}
 use Rattle.uf_store.specs.Contents.{Told}
 use Rattle.uf_store.specs.Keeping.{Holds, KeepsGood}
+use Rattle.uf_store.specs.Among.{SavesAmong}
 use Rattle.uf_tree.specs.Cutting.{joined}
 use Rattle.uf_tree.specs.FilePlan.{chunks, groups, climb, file_plan, leaf_part, leaf_held, top_part, top_held}
 use Rattle.uf_tree.specs.Metas.{none}
@@ -15,7 +16,8 @@ use Rattle.uf_tree.specs.declared.profile.Profile.{Profile}
 use Rattle.uf_tree.proofs.Each.{both}
 use Rattle.uf_build.specs.Building.{ArePieces, Builds, Any, IsHeld, Adds, Ends, Feeds, Building, HasFed, SavesUpTo, saved_by}
 use Rattle.uf_build.specs.declared.open.Open.{Open}
-use Rattle.uf_build.specs.Rows.{AreAll, AreOpen, add_row, close_all, close_all_held, groups_in, last_in, saved_all}
+use Rattle.uf_build.specs.Rows.{AreAll, AreOpen, add_held, add_row, close_all, close_all_held, groups_in, last_in, saved_all}
+use Rattle.uf_build.proofs.Among.{piece-saves, plan-over}
 use Rattle.uf_build.proofs.Carry.{over, all-over}
 use Rattle.uf_build.proofs.Counting.{more-blocks}
 use Rattle.uf_build.proofs.Cutting.{groups-full, groups-exact}
@@ -80,17 +82,6 @@ module _ (X : List ℕ → List ℕ) (p : Profile) (pos : 1 ≤ p.chunk) (two : 
       no : b ∷ begun ≡ [] → ⊥
       no e = cc
 
-  plan-over : (meta : Meta) (bytes : List ℕ) → (record {
-    entry = (over X meta p.width (map (leaf_part X) (chunks p bytes))).1.entry;
-    blocks = map (leaf_held X) (chunks p bytes) ++ (over X meta p.width (map (leaf_part X) (chunks p bytes))).0;
-  }) ≡ file_plan X p meta bytes
-  unfolding file_plan
-  plan-over meta bytes =
-      ap (λ n. let under = climb X p.width n (map (leaf_part X) (chunks p bytes)) in record {
-        entry = (top_part X meta under.1).entry;
-        blocks = map (leaf_held X) (chunks p bytes) ++ (under.0 ++ top_held X meta under.1);
-      }) (length-map (chunks p bytes) (leaf_part X))
-
   some-piece : (bytes : List ℕ) → 1 ≤ length (map (leaf_part X) (chunks p bytes))
   some-piece bytes = omega (arith, length-map (chunks p bytes) (leaf_part X))
 
@@ -101,8 +92,8 @@ module _ (X : List ℕ → List ℕ) (p : Profile) (pos : 1 ≤ p.chunk) (two : 
       let top = all-over X p.width two P meta rows row pieces.rows_are (some-piece bytes) nodes in
       let parts : part ∷ [] ≡ (over X meta p.width row).1 ∷ [] = is ∙ top.0 in
       let part_is : part ≡ (over X meta p.width row).1 = cc in (
-        ap (λ (m : Part). m.entry) part_is ∙ ap (λ plan. plan.entry) (plan-over meta bytes),
-        subst (λ plan. AllByRecursion P plan.blocks) (plan-over meta bytes) (both P (map (leaf_held X) (chunks p bytes)) (over X meta p.width row).0 pieces.held top.1),
+        ap (λ (m : Part). m.entry) part_is ∙ ap (λ plan. plan.entry) (plan-over X p meta bytes),
+        subst (λ plan. AllByRecursion P plan.blocks) (plan-over X p meta bytes) (both P (map (leaf_held X) (chunks p bytes)) (over X meta p.width row).0 pieces.held top.1),
       )
 
   -- what was saved and what closing saves are all blocks of the plan
@@ -116,7 +107,7 @@ module _ (X : List ℕ → List ℕ) (p : Profile) (pos : 1 ≤ p.chunk) (two : 
         length-map (chunks p bytes) (leaf_part X),
         length-map (chunks p bytes) (leaf_held X),
         length-append (map (leaf_held X) (chunks p bytes)) (over X meta p.width row).0,
-        ap (λ plan. length plan.blocks) (plan-over meta bytes),
+        ap (λ plan. length plan.blocks) (plan-over X p meta bytes),
       )
 
   -- what was saved so far is no more than the plan of what was fed
@@ -168,6 +159,13 @@ module _ (X : List ℕ → List ℕ) (p : Profile) (pos : 1 ≤ p.chunk) (two : 
       let now = subst (λ pieces. ArePieces X Any p pieces (add_row X p.width (leaf_part X begun) rows)) (cut-last Any begun rows bytes last short h)
       (pieces-add X p two Any h.pieces begun rows tt (any X p two _) h.are_pieces) in
       omega (arith, most, count-is meta bytes (add_row X p.width (leaf_part X begun) rows) now)
+
+  -- the last piece is saved among the blocks of the plan, with the nodes of the groups that it fills
+  pub last-saves : (meta : Meta) (begun : List ℕ) (rows : List (List Part)) (told told_now : Told) → (1 ≤ length begun) ⊎ (last_in rows ≡ []) → length begun < p.chunk
+      → SavesAmong X (leaf_held X begun ∷ add_held X p.width (leaf_part X begun) rows) told told_now
+      → (bytes : List ℕ) → Builds X Any p bytes begun rows → SavesAmong X (file_plan X p meta bytes).blocks told told_now
+  last-saves meta begun rows told told_now last short saves bytes h =
+      piece-saves X p two meta bytes h.pieces [] begun rows told told_now (sym (cut-last Any begun rows bytes last short h)) h.are_pieces saves
 
   -- the nodes that are saved as the rows are closed
   pub closed-most : (meta : Meta) (begun : List ℕ) (rows rows_now : List (List Part)) (told told_mid : Told) (touches touches_mid touches_now : ℕ) → Ends X p begun rows rows_now told told_mid touches touches_mid

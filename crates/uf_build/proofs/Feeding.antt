@@ -7,6 +7,7 @@ use Rattle.std.proofs.lemmas.List.Sums.{sum_by-cons}
 use Rattle.uf_cid.specs.Blocks.{Held}
 use Rattle.uf_store.specs.Contents.{Told}
 use Rattle.uf_store.specs.Keeping.{Holds, KeepsGood}
+use Rattle.uf_store.specs.Among.{SavesAmong}
 use Rattle.uf_store.proofs.Keeping.{Holds-kept, KeepsGood-trans}
 use Rattle.uf_tree.specs.Cutting.{joined}
 use Rattle.uf_tree.specs.FilePlan.{node_part, node_held, leaf_part, leaf_held}
@@ -15,6 +16,7 @@ use Rattle.uf_tree.specs.declared.profile.Profile.{Profile}
 use Rattle.uf_tree.proofs.Each.{both}
 use Rattle.uf_build.specs.Building.{ArePieces, Builds, Any, IsHeld, Adds, Feeds}
 use Rattle.uf_build.specs.Rows.{AreAll, AreRows, AreShort, AreShortBehind, AreOpen, last_in, saved_all, size_of, sizes_of, push_row, add_row, add_held}
+use Rattle.uf_build.proofs.Among.{for-behind, for-none, for-piece}
 use Rattle.uf_build.proofs.Carry.{all-add, joined-push, length-push, is_below, not_below}
 use Rattle.uf_build.proofs.Counting.{saved-add}
 use Rattle.uf_build.proofs.Holding.{each-held}
@@ -137,6 +139,7 @@ module _ (X : List ℕ → List ℕ) (p : Profile) (two : 2 ≤ p.width) where
     are_open = are_open;
     sizes = omega (arith, length-append begun bytes);
     saves = refl;
+    no_other = for-none X p bytes begun rows told;
     fed = λ front h. builds-begun Any front bytes begun rows h;
     held = λ front h. builds-begun (IsHeld told) front bytes begun rows h;
   }
@@ -154,11 +157,12 @@ module _ (X : List ℕ → List ℕ) (p : Profile) (two : 2 ≤ p.width) where
     are_pieces = adds h.pieces h.are_pieces;
   }
 
-  pub Feeds-piece : (bytes begun begun_now piece : List ℕ) (rows rows_now : List (List Part)) (told told_now : Told) (touches touches_now : ℕ) → begun ++ bytes ≡ piece → length piece ≡ p.chunk → begun_now ≡ []
-      → Adds X p piece rows rows_now told told_now touches touches_now → Feeds X p bytes begun begun_now rows rows_now told told_now touches touches_now
-  Feeds-piece bytes begun begun_now piece rows rows_now told told_now touches touches_now is whole none adds = record {
+  pub Feeds-piece : (bytes begun begun_now piece : List ℕ) (rows rows_now : List (List Part)) (told told_now : Told) (touches touches_now : ℕ) → 1 ≤ p.chunk → begun ++ bytes ≡ piece → length piece ≡ p.chunk → begun_now ≡ []
+      → SavesAmong X (leaf_held X piece ∷ add_held X p.width (leaf_part X piece) rows) told told_now → Adds X p piece rows rows_now told told_now touches touches_now → Feeds X p bytes begun begun_now rows rows_now told told_now touches touches_now
+  Feeds-piece bytes begun begun_now piece rows rows_now told told_now touches touches_now pos is whole none among adds = record {
     are_open = adds.are_open;
     saves = adds.saves;
+    no_other = for-piece X p pos two bytes begun piece rows told told_now is whole among;
     sizes = omega (arith, adds.sizes, ap length is, length-append begun bytes, ap length none);
     fed = λ front h. subst (λ b. Builds X Any p (front ++ bytes) b rows_now) (sym none) (builds-piece Any Any front bytes begun piece rows rows_now is whole adds.fed h);
     held = λ front h. subst (λ b. Builds X (IsHeld told_now) p (front ++ bytes) b rows_now) (sym none) (builds-piece (IsHeld told) (IsHeld told_now) front bytes begun piece rows rows_now is whole adds.held h);
@@ -170,6 +174,7 @@ module _ (X : List ℕ → List ℕ) (p : Profile) (two : 2 ≤ p.width) where
   Feeds-trans a b begun begun_mid begun_now rows rows_mid rows_now told told_mid told_now touches touches_mid touches_now first then = record {
     are_open = then.are_open;
     saves = omega (arith, first.saves, then.saves);
+    no_other = for-behind X p a b begun begun_mid rows rows_mid told told_mid told_now first.fed first.no_other then.no_other;
     sizes = omega (arith, first.sizes, then.sizes, length-append a b);
     fed = λ front h. subst (λ l. Builds X Any p l begun_now rows_now) (append_assoc front a b) (then.fed (front ++ a) (first.fed front h));
     held = λ front h. subst (λ l. Builds X (IsHeld told_now) p l begun_now rows_now) (append_assoc front a b) (then.held (front ++ a) (first.held front h));

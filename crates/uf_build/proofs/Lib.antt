@@ -1,3 +1,4 @@
+pub mod Among
 pub mod Calls
 pub mod Carry
 pub mod Counting
@@ -6,3 +7,4 @@ pub mod Ending
 pub mod Feeding
 pub mod Holding
 pub mod Up
+pub mod FeedingAll

@@ -6,7 +6,7 @@ use Rattle.std.proofs.Math.ListN.{length-set}
 use Rattle.std.proofs.lemmas.Bool.{cases_eq}
 use Rattle.std.proofs.lemmas.Bool.Decides.{nat_tests}
 use Rattle.uf_cid.specs.Blocks.{Held}
-use Rattle.uf_tree.specs.FilePlan.{node_part, node_held, root_part, root_held}
+use Rattle.uf_tree.specs.FilePlan.{node_part, node_held, root_part, root_held, top_held}
 use Rattle.uf_tree.specs.Metas.{is_bare}
 use Rattle.uf_tree.specs.declared.meta.Meta.{Meta}
 use Rattle.uf_tree.specs.declared.nodes.Part.{Part}
@@ -245,3 +245,11 @@ carry-good X meta true (m ∷ []) = by (is_bare meta)
     by true = tt
     by false = (refl, tt)
 carry-good X meta true (m ∷ n ∷ ms) = (refl, tt)
+
+-- what stands over more than one part, or over one with metadata, is the root
+pub top-root : (X : List ℕ → List ℕ) (meta : Meta) (ms : List Part) → (1 < length ms) ⊎ ((1 ≤ length ms) × (is_bare meta ≡ false)) → top_held X meta ms ≡ root_held X meta ms ∷ []
+top-root X meta [] (inl h) = absurd (omega arith)
+top-root X meta [] (inr h) = absurd (omega (arith, h.0))
+top-root X meta (m ∷ []) (inl h) = absurd (omega arith)
+top-root X meta (m ∷ []) (inr h) = ap (λ b. cond b [] (root_held X meta (m ∷ []) ∷ [])) h.1
+top-root X meta (m ∷ n ∷ ms) h = refl

@@ -5,9 +5,11 @@ use Rattle.uf_tree.specs.Profiles.{most_bytes}
 use Rattle.uf_cid.specs.Blocks.{Held}
 use Rattle.uf_store.specs.Contents.{Told}
 use Rattle.uf_store.specs.Keeping.{Holds}
+use Rattle.uf_store.specs.Among.{SavesAmong}
 use Rattle.uf_tree.specs.Cutting.{joined}
 use Rattle.uf_tree.specs.Metas.{none}
 use Rattle.uf_tree.specs.FilePlan.{chunks, file_plan, leaf_part, leaf_held}
+use Rattle.uf_tree.specs.declared.meta.Meta.{Meta}
 use Rattle.uf_tree.specs.declared.nodes.Part.{Part}
 use Rattle.uf_tree.specs.declared.profile.Profile.{Profile}
 use Rattle.uf_build.specs.Rows.{AreAll, AreOpen, last_in, saved_all, sizes_of}
@@ -58,6 +60,15 @@ abbrev pub SavesUpTo : (List ℕ → List ℕ) → Profile → List ℕ → List
 SavesUpTo X p bytes begun rows touches touches_now =
     (front : List ℕ) → Builds X Any p front begun rows → touches_now + saved_all p.width rows ≤ touches + length (file_plan X p none (front ++ bytes)).blocks
 
+-- nothing was written but blocks of the plan of each file that begins with these bytes, whatever comes behind them and
+-- whatever its metadata: the blocks of their whole pieces, and the nodes over whole groups that do not end the file
+abbrev pub SavesForFront : (List ℕ → List ℕ) → Profile → List ℕ → Told → Told → Type 0
+SavesForFront X p bytes told told_now = (meta : Meta) (behind : List ℕ) → SavesAmong X (file_plan X p meta (bytes ++ behind)).blocks told told_now
+
+-- a call that takes these bytes saves such blocks alone of what was fed and these bytes
+abbrev pub SavesForBytes : (List ℕ → List ℕ) → Profile → List ℕ → List ℕ → List (List Part) → Told → Told → Type 0
+SavesForBytes X p bytes begun rows told told_now = (front : List ℕ) → Builds X Any p front begun rows → SavesForFront X p (front ++ bytes) told told_now
+
 -- what every builder keeps that has not given up: room in its piece and in its groups, and no more bytes than it was fed
 pub record IsReady (p : Profile) (fed : ℕ) (begun : List ℕ) (rows : List (List Part)) : Type 0 where
   pub room : length begun < p.chunk
@@ -79,6 +90,7 @@ pub record Feeds (X : List ℕ → List ℕ) (p : Profile) (bytes begun begun_no
   pub are_open : AreOpen p.width rows_now
   pub sizes : sizes_of rows_now + length begun_now ≡ sizes_of rows + length begun + length bytes
   pub saves : touches_now + saved_all p.width rows ≡ touches + saved_all p.width rows_now
+  pub no_other : SavesForBytes X p bytes begun rows told told_now
   pub fed : (front : List ℕ) → Builds X Any p front begun rows → Builds X Any p (front ++ bytes) begun_now rows_now
   pub held : (front : List ℕ) → Builds X (IsHeld told) p front begun rows → Builds X (IsHeld told_now) p (front ++ bytes) begun_now rows_now
 

@@ -5,11 +5,12 @@ ghost use Rattle.uf_store.specs.Contents.{Told};
 ghost use Rattle.uf_store.specs.Faults.{NoneIsBad, Shown};
 ghost use Rattle.uf_store.specs.Keeping.{Holds, KeepsGood};
 ghost use Rattle.uf_store.specs.Writing.{SavesOnly};
+ghost use Rattle.uf_store.specs.Among.{SavesAmong};
 ghost use Rattle.uf_tree.specs.FilePlan.{file_plan};
 ghost use Rattle.uf_tree.specs.Metas.{is_meta, none};
 ghost use Rattle.uf_tree.specs.Profiles.{is_profile};
 ghost use Rattle.uf_build.specs.Answers.{IsFeedAnswer, IsFinishAnswer, LeavesAlone, build_fault};
-ghost use Rattle.uf_build.specs.Building.{HasFed, HoldsFed, saved_by};
+ghost use Rattle.uf_build.specs.Building.{HasFed, HoldsFed, SavesForFront, saved_by};
 
 use crate::BuildFault;
 use crate::layout::Layout;
@@ -86,6 +87,9 @@ impl Builder {
         ensures cause { Shown S.X.block32 NoneIsBad (build_fault result) (S.seen store.old) (S.seen store.new) }
         ensures good { KeepsGood S.X.block32 (S.seen store.old).told (S.seen store.new).told }
         ensures saves { SavesOnly S.X.block32 (S.seen store.old).told (S.seen store.new).told }
+        ensures no_other { (bytes : List ℕ) → HasFed S.X.block32 bytes self.old
+            → SavesForFront S.X.block32 self.old.profile (bytes ++ piece.now)
+            (S.seen store.old).told (S.seen store.new).told }
         ensures unread { LoadsNothing (build_fault result) (S.seen store.old) (S.seen store.new) }
 
         // One touch for each block that is saved, and whatever came, no more than the plan of all bytes has blocks.
@@ -122,6 +126,9 @@ impl Builder {
         ensures cause { Shown S.X.block32 NoneIsBad (build_fault result) (S.seen store.old) (S.seen store.new) }
         ensures good { KeepsGood S.X.block32 (S.seen store.old).told (S.seen store.new).told }
         ensures saves { SavesOnly S.X.block32 (S.seen store.old).told (S.seen store.new).told }
+        ensures no_other { (bytes : List ℕ) → HasFed S.X.block32 bytes self
+            → SavesAmong S.X.block32 (file_plan S.X.block32 self.profile none bytes).blocks
+            (S.seen store.old).told (S.seen store.new).told }
         ensures unread { LoadsNothing (build_fault result) (S.seen store.old) (S.seen store.new) }
         ensures saved { OnOk result ((bytes : List ℕ) → HasFed S.X.block32 bytes self
             → touches.new + saved_by self ≡ touches.old + length (file_plan S.X.block32 self.profile none bytes).blocks) }
@@ -148,6 +155,9 @@ impl Builder {
         ensures cause { Shown S.X.block32 NoneIsBad (build_fault result) (S.seen store.old) (S.seen store.new) }
         ensures good { KeepsGood S.X.block32 (S.seen store.old).told (S.seen store.new).told }
         ensures saves { SavesOnly S.X.block32 (S.seen store.old).told (S.seen store.new).told }
+        ensures no_other { (bytes : List ℕ) → HasFed S.X.block32 bytes self
+            → SavesAmong S.X.block32 (file_plan S.X.block32 self.profile meta.now bytes).blocks
+            (S.seen store.old).told (S.seen store.new).told }
         ensures unread { LoadsNothing (build_fault result) (S.seen store.old) (S.seen store.new) }
         ensures saved { OnOk result ((bytes : List ℕ) → HasFed S.X.block32 bytes self
             → touches.new + saved_by self ≡ touches.old + length (file_plan S.X.block32 self.profile meta.now bytes).blocks) }

@@ -1,16 +1,17 @@
 // Pieces of a file, and the open groups over them.
-ghost use Rattle.std.specs.Prelude.{◌≡◌, ◌+◌, ◌<◌, ◌≤◌, ◌*◌, ◌^◌, ◌++◌, ◌⊎◌, ℕ, [], length, IfOk, OnOk, OnErr, IsTrue, slice_index_or};
+ghost use Rattle.std.specs.Prelude.{◌≡◌, ◌+◌, ◌<◌, ◌≤◌, ◌*◌, ◌^◌, ◌++◌, ◌∷◌, ◌⊎◌, ℕ, [], length, IfOk, OnOk, OnErr, IsTrue, slice_index_or};
 ghost use Rattle.uf_cid.specs.Bytes.{piece};
 ghost use Rattle.uf_cid.specs.Cid.{cid_of};
 ghost use Rattle.uf_cid.specs.declared.cid.Codec.TheVariants.{Raw};
 ghost use Rattle.uf_store.specs.Faults.{fault_in};
-ghost use Rattle.uf_tree.specs.FilePlan.{leaf_part};
+ghost use Rattle.uf_store.specs.Among.{SavesAmong};
+ghost use Rattle.uf_tree.specs.FilePlan.{leaf_held, leaf_part};
 ghost use Rattle.uf_tree.specs.Metas.{is_meta};
 ghost use Rattle.uf_tree.specs.Profiles.{is_profile};
 ghost use Rattle.uf_tree.specs.declared.meta.Meta.{Meta};
 ghost use Rattle.uf_build.specs.Answers.{OnlyBuilds};
 ghost use Rattle.uf_build.specs.Building.{Adds};
-ghost use Rattle.uf_build.specs.Rows.{AreOpen, add_row, groups_in, saved_all, sizes_of};
+ghost use Rattle.uf_build.specs.Rows.{AreOpen, add_held, add_row, groups_in, saved_all, sizes_of};
 
 use crate::open::Open;
 use crate::rows;
@@ -33,7 +34,7 @@ pub struct Layout {
 }
 
 impl Layout {
-    ghost use Rattle.uf_build.specs.Layouts.{CanEnd, CanTake, ClosesFile, EndsLast, EndsPiece, EndsUpTo, StaysWithin, StopsTaking, Takes, TakesFront, TakesPieces};
+    ghost use Rattle.uf_build.specs.Layouts.{CanEnd, CanTake, ClosesFile, EndsAmong, EndsLast, EndsPiece, EndsUpTo, StaysWithin, StopsTaking, Takes, TakesFront, TakesPieces};
 
     // Takes bytes behind those that it took before.
     pub fn take<S: Store, L: Ledger>(
@@ -45,7 +46,8 @@ impl Layout {
         requires can { CanTake (length bytes.now) self.old }
         ensures took { OnOk result (Takes S.X.block32 bytes.now self.old self.new
             (S.seen store.old).told (S.seen store.new).told touches.old touches.new) }
-        ensures stops { OnErr result (StopsTaking S.X.block32 bytes.now self.old self.new touches.old touches.new) }
+        ensures stops { OnErr result (StopsTaking S.X.block32 bytes.now self.old self.new
+            (S.seen store.old).told (S.seen store.new).told touches.old touches.new) }
         ensures builds { OnlyBuilds S.X.block32 (fault_in result) (S.seen store.old) (S.seen store.new) }
     {
         let chunk = self.profile.chunk as usize;
@@ -69,7 +71,8 @@ impl Layout {
         requires can { CanTake (length bytes.now) self.old }
         ensures took { IfOk result (λ front. TakesFront S.X.block32 bytes.now front self.old self.new
             (S.seen store.old).told (S.seen store.new).told touches.old touches.new) }
-        ensures stops { OnErr result (StopsTaking S.X.block32 bytes.now self.old self.new touches.old touches.new) }
+        ensures stops { OnErr result (StopsTaking S.X.block32 bytes.now self.old self.new
+            (S.seen store.old).told (S.seen store.new).told touches.old touches.new) }
         ensures builds { OnlyBuilds S.X.block32 (fault_in result) (S.seen store.old) (S.seen store.new) }
     {
         if self.begun.is_empty() {
@@ -98,6 +101,7 @@ impl Layout {
             (S.seen store.old).told (S.seen store.new).told touches.old touches.new) }
         ensures most { EndsUpTo S.X.block32 meta.now self touches.old touches.new }
         ensures builds { OnlyBuilds S.X.block32 (fault_in result) (S.seen store.old) (S.seen store.new) }
+        ensures no_other { EndsAmong S.X.block32 meta.now self (S.seen store.old).told (S.seen store.new).told }
     {
         let width = self.profile.width as usize;
         self.end_last(store, touches)?;
@@ -129,6 +133,8 @@ impl Layout {
             (S.seen store.old).told (S.seen store.new).told touches.old touches.new) }
         ensures most { OnErr result ((m : Meta) → EndsUpTo S.X.block32 m self.old touches.old touches.new) }
         ensures builds { OnlyBuilds S.X.block32 (fault_in result) (S.seen store.old) (S.seen store.new) }
+        ensures no_other { (m : Meta)
+            → EndsAmong S.X.block32 m self.old (S.seen store.old).told (S.seen store.new).told }
     {
         if self.opened.last.is_none() {
             return self.end_piece(store, touches);
@@ -148,7 +154,8 @@ impl Layout {
         requires can { CanEnd self.old }
         ensures ends { OnOk result (EndsPiece S.X.block32 self.old self.new
             (S.seen store.old).told (S.seen store.new).told touches.old touches.new) }
-        ensures within { StaysWithin S.X.block32 self.old self.new touches.old touches.new }
+        ensures within { StaysWithin S.X.block32 self.old self.new
+            (S.seen store.old).told (S.seen store.new).told touches.old touches.new }
         ensures builds { OnlyBuilds S.X.block32 (fault_in result) (S.seen store.old) (S.seen store.new) }
     {
         let cid = Cid::of::<S::X>(Codec::Raw, self.begun.as_slice());
@@ -178,7 +185,8 @@ impl Layout {
         requires count { length bytes.now ≡ count * self.old.profile.chunk }
         ensures took { OnOk result (TakesPieces S.X.block32 bytes.now self.old self.new
             (S.seen store.old).told (S.seen store.new).told touches.old touches.new) }
-        ensures stops { OnErr result (StopsTaking S.X.block32 bytes.now self.old self.new touches.old touches.new) }
+        ensures stops { OnErr result (StopsTaking S.X.block32 bytes.now self.old self.new
+            (S.seen store.old).told (S.seen store.new).told touches.old touches.new) }
         ensures builds { OnlyBuilds S.X.block32 (fault_in result) (S.seen store.old) (S.seen store.new) }
     {
         let chunk = self.profile.chunk as usize;
@@ -208,7 +216,8 @@ impl Layout {
         requires few { count ≤ 8 }
         ensures took { OnOk result (TakesPieces S.X.block32 bytes.now self.old self.new
             (S.seen store.old).told (S.seen store.new).told touches.old touches.new) }
-        ensures stops { OnErr result (StopsTaking S.X.block32 bytes.now self.old self.new touches.old touches.new) }
+        ensures stops { OnErr result (StopsTaking S.X.block32 bytes.now self.old self.new
+            (S.seen store.old).told (S.seen store.new).told touches.old touches.new) }
         ensures builds { OnlyBuilds S.X.block32 (fault_in result) (S.seen store.old) (S.seen store.new) }
     {
         let chunk = self.profile.chunk as usize;
@@ -273,6 +282,9 @@ fn save_leaf<S: Store, L: Ledger>(
     ensures most { touches.new + saved_all profile.width (groups_in opened.old) ≤ touches.old + saved_all profile.width
         (add_row S.X.block32 profile.width (leaf_part S.X.block32 piece.now) (groups_in opened.old)) }
     ensures builds { OnlyBuilds S.X.block32 (fault_in result) (S.seen store.old) (S.seen store.new) }
+    ensures no_other { SavesAmong S.X.block32 (leaf_held S.X.block32 piece.now
+        ∷ add_held S.X.block32 profile.width (leaf_part S.X.block32 piece.now) (groups_in opened.old))
+        (S.seen store.old).told (S.seen store.new).told }
 {
     save_under(alloc, store, &cid, piece, touches)?;
     let size = piece.len() as u64;

@@ -7,6 +7,7 @@ ghost use Rattle.uf_store.specs.Faults.{Answers, NoneIsBad, fault_in};
 ghost use Rattle.uf_store.specs.Seen.{KeepsHeld};
 ghost use Rattle.uf_store.specs.Keeping.{Holds, KeepsGood};
 ghost use Rattle.uf_store.specs.Writing.{SavesOnly};
+ghost use Rattle.uf_store.specs.Among.{SavesAmong};
 ghost use Rattle.uf_tree.specs.FilePlan.{node_part, node_held, root_node, root_part, root_held, top_part, top_held};
 ghost use Rattle.uf_build.specs.Answers.{OnlyBuilds};
 ghost use Rattle.uf_tree.specs.Metas.{is_meta};
@@ -100,6 +101,8 @@ pub fn save_top<S: Store, L: Ledger>(
     ensures part { IfOk result (λ part. part ≡ top_part S.X.block32 meta.now parts.now) }
     ensures held { OnOk result (Holds (S.seen store.new).told (top_held S.X.block32 meta.now parts.now)) }
     ensures builds { OnlyBuilds S.X.block32 (fault_in result) (S.seen store.old) (S.seen store.new) }
+    ensures no_other { SavesAmong S.X.block32 (top_held S.X.block32 meta.now parts.now)
+        (S.seen store.old).told (S.seen store.new).told }
     ensures touches { touches.new ≤ touches.old + length (top_held S.X.block32 meta.now parts.now) }
     ensures touch { OnOk result (touches.new ≡ touches.old + length (top_held S.X.block32 meta.now parts.now)) }
 {

@@ -1,6 +1,7 @@
 // The open groups of a file's rows, the lowest row first.
 ghost use Rattle.std.specs.Prelude.{◌≡◌, ◌+◌, ◌<◌, ◌≤◌, ◌^◌, ◌++◌, ◌∷◌, [], length, IfOk, IsTrue, OnOk};
 ghost use Rattle.uf_store.specs.Faults.{fault_in};
+ghost use Rattle.uf_store.specs.Among.{SavesAmong};
 ghost use Rattle.uf_tree.specs.Metas.{is_meta};
 ghost use Rattle.uf_build.specs.Answers.{OnlyBuilds};
 ghost use Rattle.uf_build.specs.Rows.{AddsPart, PushesPart, ClosesRows, EndsRow, add_held, groups_in, held_up, close_held, close_held_up, carry_held, size_of, sizes_of, some_row, AreOpen, IsWidth, AreShort};
@@ -30,6 +31,8 @@ pub fn add<S: Store, L: Ledger>(
         (S.seen store.new).told touches.old touches.new) }
     ensures touches { touches.new ≤ touches.old + length (add_held S.X.block32 width part (groups_in opened.old)) }
     ensures builds { OnlyBuilds S.X.block32 (fault_in result) (S.seen store.old) (S.seen store.new) }
+    ensures no_other { SavesAmong S.X.block32 (add_held S.X.block32 width part (groups_in opened.old))
+        (S.seen store.old).told (S.seen store.new).told }
 {
     match mem::replace(&mut opened.last, Some(part)) {
         Some(before) => push(alloc, width, &mut opened.rows, 0, before, store, touches),
@@ -55,6 +58,8 @@ pub fn push<S: Store, L: Ledger>(
         (S.seen store.new).told touches.old touches.new) }
     ensures touches { touches.new ≤ touches.old + length (held_up S.X.block32 width level part rows.old.items) }
     ensures builds { OnlyBuilds S.X.block32 (fault_in result) (S.seen store.old) (S.seen store.new) }
+    ensures no_other { SavesAmong S.X.block32 (held_up S.X.block32 width level part rows.old.items)
+        (S.seen store.old).told (S.seen store.new).told }
 {
     if level == rows.len() {
         push_first(alloc, rows, part)?;
@@ -98,6 +103,8 @@ pub fn close_all<S: Store, L: Ledger>(
         (S.seen store.new).told touches.old touches.new) }
     ensures touches { touches.new ≤ touches.old + length (close_held S.X.block32 meta.now (some_row rows.old.items) last) }
     ensures builds { OnlyBuilds S.X.block32 (fault_in result) (S.seen store.old) (S.seen store.new) }
+    ensures no_other { SavesAmong S.X.block32 (close_held S.X.block32 meta.now (some_row rows.old.items) last)
+        (S.seen store.old).told (S.seen store.new).told }
 {
     with_row(alloc, rows)?;
     close(alloc, width, rows, 0, last, meta, store, touches)
@@ -135,6 +142,8 @@ fn close<S: Store, L: Ledger>(
     ensures touches { touches.new
         ≤ touches.old + length (close_held_up S.X.block32 meta.now level rows.old.items carried) }
     ensures builds { OnlyBuilds S.X.block32 (fault_in result) (S.seen store.old) (S.seen store.new) }
+    ensures no_other { SavesAmong S.X.block32 (close_held_up S.X.block32 meta.now level rows.old.items carried)
+        (S.seen store.old).told (S.seen store.new).told }
 {
     if level == rows.len() {
         return Ok(carried);
@@ -162,6 +171,8 @@ fn close_row<S: Store, L: Ledger>(
         (S.seen store.new).told touches.old touches.new) }
     ensures touches { touches.new ≤ touches.old + length (carry_held S.X.block32 meta.now is_top (row ++ carried ∷ [])) }
     ensures builds { OnlyBuilds S.X.block32 (fault_in result) (S.seen store.old) (S.seen store.new) }
+    ensures no_other { SavesAmong S.X.block32 (carry_held S.X.block32 meta.now is_top (row ++ carried ∷ []))
+        (S.seen store.old).told (S.seen store.new).told }
 {
     row.push(carried)?;
     if is_top {

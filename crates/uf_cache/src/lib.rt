@@ -3,7 +3,5 @@
 
 mod cached;
 mod keep;
-#[cfg(test)]
-mod tests;
 
 pub use cached::Cached;

@@ -1,5 +1,5 @@
 // One command over a store with a cache.
-ghost use Rattle.std.specs.Prelude.{◌≡◌, false, map, string_bytes, true};
+ghost use Rattle.std.specs.Prelude.{◌≡◌, Bool, false, map, string_bytes, true};
 ghost use Rattle.uf_cache.specs.Cached.{cached_seen};
 ghost use Rattle.uf_mfs.specs.Standing.{TellsAs};
 ghost use Rattle.uf_command.specs.Commands.{of_command};
@@ -11,10 +11,12 @@ ghost use Rattle.uf_command.specs.declared.types.Refusal.{Refusal as TheRefusal}
 ghost use Rattle.std.specs.declared.result.Result.{Result as TheResult};
 ghost use Rattle.uf_top.specs.Lent.{SaidTo, around_at, scene_at};
 ghost use Rattle.uf_top.specs.Batch.{Batches};
+ghost use Rattle.uf_top.specs.Checking.{RunsCheck};
 ghost use Rattle.uf_top.specs.Collecting.{RunsGc};
 ghost use Rattle.uf_top.specs.Running.{Runs};
 ghost use Rattle.uf_top.specs.Talking.{RunsPull, RunsServe};
 ghost use Rattle.uf_cid.specs.declared.cid.Cid.{Cid as TheCid};
+ghost use Rattle.uf_path.specs.declared.path.Path.{Path as ThePath};
 ghost use Rattle.uf_tree.specs.Standing.{Standing};
 
 use std::alloc::Global;
@@ -59,6 +61,11 @@ pub fn run_cached<S: Sweep, N: NameHash, W: Host, I: Source, O: Sink, E: Sink, L
         (around_at I.Source O.Sink W.Host (cached_seen store.new) input.new output.new touches.new host.new) }
     ensures collect { request_in (map string_bytes words.now) ≡ requests.Gc
         → RunsGc (SaidTo E.Sink errors.old errors.new) S.X.block32 N.name64 result
+        (around_at I.Source O.Sink W.Host (cached_seen store.old) input.old output.old touches.old host.old)
+        (around_at I.Source O.Sink W.Host (cached_seen store.new) input.new output.new touches.new host.new) }
+    ensures check { (absent : Bool) (cid : TheCid) (path : ThePath)
+        → request_in (map string_bytes words.now) ≡ requests.Check absent cid path
+        → RunsCheck (SaidTo E.Sink errors.old errors.new) S.X.block32 N.name64 absent cid path.names result
         (around_at I.Source O.Sink W.Host (cached_seen store.old) input.old output.old touches.old host.old)
         (around_at I.Source O.Sink W.Host (cached_seen store.new) input.new output.new touches.new host.new) }
     ensures one { (standing other : Standing) → TellsAs S.X.block32 N.name64 (cached_seen store.new).told standing

@@ -14,8 +14,8 @@ use Rattle.uf_command.specs.declared.types.Ask.{Ask}
 use Rattle.uf_command.specs.declared.types.Edit.{Edit}
 use Rattle.uf_command.specs.declared.types.Edit.TheVariants.{Cp, Mv}
 use Rattle.uf_command.specs.Cids.{cid_reads}
-use Rattle.uf_command.specs.Commands.{IsOfWords, add_asked, add_to_asked, adopt_asked, asked, at_path, both_paths, below_asked, cat_asked, from_to, get_asked, path_refusal, pin_asked, read_asked, write_asked}
-use Rattle.uf_command.specs.Requests.{pull_asked, request_of}
+use Rattle.uf_command.specs.Commands.{IsOfWords, add_asked, add_to_asked, adopt_asked, asked, at_path, both_paths, below_asked, cat_asked, from_to, get_asked, path_refusal, pin_asked, prove_asked, read_asked, write_asked}
+use Rattle.uf_command.specs.Requests.{check_asked, pull_asked, request_of}
 use Rattle.uf_command.specs.declared.requests.Request.{Request}
 use Rattle.uf_command.specs.declared.requests.Request.TheVariants.{One}
 
@@ -48,6 +48,14 @@ read-only offset count (Err (path.BadName place)) = refl
 read-only offset count (Err path.TooLong) = refl
 read-only offset count (Err (path.BadCid why)) = refl
 read-only offset count (Err path.Memory) = refl
+
+prove-only : (absent : Bool) (r : Result Path PathFault) → IsOfWords (prove_asked absent r)
+prove-only absent (Ok path) = tt
+prove-only absent (Err path.NotAbsolute) = refl
+prove-only absent (Err (path.BadName place)) = refl
+prove-only absent (Err path.TooLong) = refl
+prove-only absent (Err (path.BadCid why)) = refl
+prove-only absent (Err path.Memory) = refl
 
 cat-only : (r : Result DagPath PathFault) → IsOfWords (cat_asked r)
 cat-only (Ok path) = tt
@@ -146,7 +154,7 @@ cmd-only (cmd.PinAdd cid) = pin-only true (cid_reads cid)
 cmd-only (cmd.PinRm cid) = pin-only false (cid_reads cid)
 cmd-only cmd.PinLs = tt
 cmd-only cmd.Gc = refl
-cmd-only (cmd.Prove absent path) = refl
+cmd-only (cmd.Prove absent path) = prove-only absent (path_reads path)
 cmd-only (cmd.Check absent cid path) = refl
 cmd-only (cmd.Pull cid) = refl
 cmd-only cmd.Serve = refl
@@ -160,10 +168,16 @@ pull-only : (r : Result Cid PathFault) → IsOfWordsAlone (pull_asked r)
 pull-only (Ok cid) = tt
 pull-only (Err why) = adopt-bad why
 
+check-only : (absent : Bool) (r : Result Cid PathFault) (s : Result Path PathFault) → IsOfWordsAlone (check_asked absent r s)
+check-only absent (Ok cid) (Ok path) = tt
+check-only absent (Ok cid) (Err why) = adopt-bad why
+check-only absent (Err why) s = adopt-bad why
+
 pub words-only : (o : Option Cmd) → IsOfWordsAlone (request_of o)
 words-only None = refl
 words-only (Some cmd.Batch) = tt
 words-only (Some (cmd.Pull cid)) = pull-only (cid_reads cid)
 words-only (Some cmd.Serve) = tt
 words-only (Some cmd.Gc) = tt
+words-only (Some (cmd.Check absent cid path)) = check-only absent (cid_reads cid) (path_reads path)
 words-only (Some other) = cmd-only other

@@ -1,16 +1,17 @@
--- How many names a path in a DAG has.
-use Rattle.std.proofs.Common.{◌≡◌, ℕ, zero, suc, ◌+◌, ◌<◌, ◌≤◌, ◌^◌, List, [], ◌∷◌, ◌++◌, length, length-append, drop, Bool, true, false, cond, arith, refl, ap, subst, Result, Ok, Err}
-use Rattle.std.specs.Prelude.{nat_lt, ◌==◌, if◌then◌else◌}
+-- How many names a path has.
+use Rattle.std.proofs.Common.{◌≡◌, ℕ, zero, suc, ◌+◌, ◌<◌, ◌≤◌, ◌^◌, List, [], ◌∷◌, ◌++◌, ◌-◌, length, length-append, drop, Bool, true, false, cond, arith, refl, ap, subst, Result, Ok, Err}
+use Rattle.std.specs.Prelude.{nat_lt, slice_index, ◌==◌, if◌then◌else◌}
 use Rattle.std.specs.List.{after_first, before_first, onto_first, position_or_len, slice_split}
 use Rattle.std.proofs.lemmas.Bool.{ltb-false}
 use Rattle.uf_cid.specs.Read.{cid_of_text}
 use Rattle.uf_cid.specs.declared.cid.Cid.{Cid}
 use Rattle.uf_cid.specs.declared.cid.CidFault.{CidFault}
 use Rattle.uf_tree.specs.Names.{is_name}
-use Rattle.uf_path.specs.Paths.{both_read, dag_at, dag_path_of, dag_path_reads, is_slash, names_a_dag, names_in, part_read, parts}
+use Rattle.uf_path.specs.Paths.{both_read, dag_at, dag_path_of, dag_path_reads, is_slash, names_a_dag, names_in, part_read, parts, path_of, path_reads}
 use Rattle.uf_path.specs.declared.faults.PathFault.{PathFault}
 use Rattle.uf_path.specs.declared.faults.PathFault.TheVariants as fault
 use Rattle.uf_path.specs.declared.path.DagPath.{DagPath}
+use Rattle.uf_path.specs.declared.path.Path.{Path}
 
 -- a text has at most one part more than bytes
 onto-few : (x : ℕ) (l : List (List ℕ)) (n : ℕ) → length l ≤ n + 1 → length (onto_first x l) ≤ n + 1
@@ -69,3 +70,19 @@ whole-few false false text path few is = (let a = at-few 0 text path is in let c
 pub dag-few : (text : List ℕ) (path : DagPath) → dag_path_reads text ≡ Ok path → length path.names < 2 ^ 32
 unfolding dag_path_reads
 dag-few text path is = whole-few (nat_lt 4096 (length text)) (names_a_dag text) text path refl is
+
+tree-names : (into : Bool) (n : Result (List (List ℕ)) PathFault) (path : Path) → path_of into n ≡ Ok path → n ≡ Ok path.names
+tree-names into (Err why) path is = absurd cc
+tree-names into (Ok names) path is = (let e : record { names = names; into = into } ≡ path = cc in ap (λ (p : Path). Ok p.names) e)
+
+tree-whole-few : (long absolute into : Bool) (text : List ℕ) (path : Path) → nat_lt 4096 (length text) ≡ long → (if long then Err fault.TooLong else if absolute then path_of into (names_in 0 (parts text)) else Err fault.NotAbsolute) ≡ Ok path → length path.names < 2 ^ 32
+tree-whole-few true absolute into text path few is = absurd cc
+tree-whole-few false false into text path few is = absurd cc
+tree-whole-few false true into text path few is =
+    let a = names-few 0 (parts text) path.names (tree-names into (names_in 0 (parts text)) path is) in
+    let b = split-few is_slash text in let c = ltb-false 4096 (length text) few in omega (arith, a, b, c)
+
+-- and so has a path in the tree
+pub tree-few : (text : List ℕ) (path : Path) → path_reads text ≡ Ok path → length path.names < 2 ^ 32
+unfolding path_reads
+tree-few text path is = tree-whole-few (nat_lt 4096 (length text)) (is_slash (slice_index text 0)) (is_slash (slice_index text (length text - 1))) text path refl is

@@ -33,7 +33,7 @@ use Rattle.uf_words.specs.declared.command.Cmd.TheVariants as cmd
 use Rattle.uf_command.specs.declared.types.Ask.{Ask}
 use Rattle.uf_command.specs.declared.types.Ask.TheVariants.{Ls, Stat, Edit as Edits}
 use Rattle.uf_command.specs.declared.types.Command.{Command}
-use Rattle.uf_command.specs.declared.types.Command.TheVariants.{Init, Add, AddFrom, WriteInput, At, Read, Cat, Get, Export, Import, Same, Adopt, Gen, AddTo, AddFromTo, Pin}
+use Rattle.uf_command.specs.declared.types.Command.TheVariants.{Init, Add, AddFrom, WriteInput, At, Read, Cat, Get, Export, Import, Same, Adopt, Gen, AddTo, AddFromTo, Pin, Prove}
 use Rattle.uf_command.specs.declared.types.PinAsk.{PinAsk}
 use Rattle.uf_command.specs.declared.types.PinAsk.TheVariants as pins
 use Rattle.uf_command.specs.declared.types.Edit.{Edit}
@@ -109,6 +109,11 @@ abbrev pub pin_asked : (added : Bool) → Result Cid PathFault → Result Comman
 pin_asked added (Ok cid) = Ok (Pin (pin_ask added cid))
 pin_asked added (Err why) = Err (path_refusal why)
 
+-- `prove` of what is at a path, or of its absence
+abbrev pub prove_asked : (absent : Bool) → Result Path PathFault → Result Command Refusal
+prove_asked absent (Ok path) = Ok (Prove absent path)
+prove_asked absent (Err why) = Err (path_refusal why)
+
 -- two paths, or why the first text that is none is none
 abbrev pub both_paths : Result Path PathFault → Result Path PathFault → Result (Path × Path) Refusal
 both_paths (Err why) dest = Err (path_refusal why)
@@ -170,13 +175,13 @@ asked (cmd.Gen n seed) = Ok (Gen n seed)
 asked (cmd.PinAdd cid) = pin_asked true (cid_reads cid)
 asked (cmd.PinRm cid) = pin_asked false (cid_reads cid)
 asked cmd.PinLs = Ok (Pin pins.List)
--- a batch, a talk with a peer and a collection are no commands of one reply, and no line of a batch asks for one
+asked (cmd.Prove absent path) = prove_asked absent (path_reads path)
+-- a batch, a talk with a peer, a collection and the check of a proof are no commands of one reply, and no line of a
+-- batch asks for one
 asked cmd.Batch = Err refusal.Usage
 asked (cmd.Pull cid) = Err refusal.Usage
 asked cmd.Serve = Err refusal.Usage
 asked cmd.Gc = Err refusal.Usage
--- these are read, and don't stand yet
-asked (cmd.Prove absent path) = Err refusal.Usage
 asked (cmd.Check absent cid path) = Err refusal.Usage
 
 -- the command is one of the group `files`
@@ -205,8 +210,8 @@ abbrev pub IsGoodAsk : Ask → Type 0
 IsGoodAsk (Edits (SetMeta what)) = IsTrue (is_meta_edit what)
 IsGoodAsk other = Unit {0}
 
--- the profile of an `init` is accepted, a change of metadata is in its ranges, a path in a DAG has fewer than 2^32
--- names, and few files are generated
+-- the profile of an `init` is accepted, a change of metadata is in its ranges, a path in a DAG and one that is proved
+-- have fewer than 2^32 names, and few files are generated
 abbrev pub IsAccepted : Command → Type 0
 IsAccepted (Init profile) = IsTrue (is_profile profile)
 IsAccepted (At ask path) = IsGoodAsk ask
@@ -214,6 +219,7 @@ IsAccepted (Cat path) = length path.names < 2 ^ 32
 IsAccepted (Get path host_path) = length path.names < 2 ^ 32
 IsAccepted (Adopt source dest) = length source.names < 2 ^ 32
 IsAccepted (Gen n seed) = n ≤ 20000
+IsAccepted (Prove absent path) = length path.names < 2 ^ 32
 IsAccepted other = Unit {0}
 
 -- a lookup found a file

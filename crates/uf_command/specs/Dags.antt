@@ -51,6 +51,7 @@ dag_words (rule.TooDeep cid) = codes "TooDeep " ++ cid_text cid
 dag_words rule.TooMany = codes "TooMany"
 dag_words rule.TooManyPins = codes "TooManyPins"
 dag_words (rule.NotPinned cid) = codes "NotPinned " ++ cid_text cid
+dag_words (rule.OtherRoot cid) = codes "OtherRoot " ++ cid_text cid
 
 -- a fault of a reading along a path, as a refusal
 abbrev pub dag_refusal : DagPath → DagFault → Refusal

@@ -12,7 +12,7 @@ use Rattle.uf_command.specs.declared.status.Status.TheVariants as status
 use Rattle.uf_command.specs.declared.types.Ask.{Ask}
 use Rattle.uf_command.specs.declared.types.Ask.TheVariants.{Ls, Stat, Edit as Edits}
 use Rattle.uf_command.specs.declared.types.Command.{Command}
-use Rattle.uf_command.specs.declared.types.Command.TheVariants.{Init, Add, AddFrom, WriteInput, At, Read, Cat, Get, Export, Import, Same, Adopt, Gen, AddTo, AddFromTo, Pin}
+use Rattle.uf_command.specs.declared.types.Command.TheVariants.{Init, Add, AddFrom, WriteInput, At, Read, Cat, Get, Export, Import, Same, Adopt, Gen, AddTo, AddFromTo, Pin, Prove}
 use Rattle.uf_command.specs.declared.types.PinAsk.{PinAsk}
 use Rattle.uf_command.specs.declared.types.PinAsk.TheVariants as pins
 use Rattle.uf_command.specs.declared.types.Refusal.{Refusal}
@@ -104,6 +104,7 @@ nature (Same cid) = row ReadsInput NoHost AnyHead NoWrites AtEnd OfCarSections s
 nature (Adopt source dest) = row NoInput NoHost (AHead false) MovesHead AtEnd NoStore adopt_kinds
 nature (Gen n seed) = row NoInput NoHost AnyHead NoWrites AtEnd OfTree gen_kinds
 nature (Pin ask) = row NoInput NoHost AnyHead (pin_writes ask) AtEnd NoStore pin_kinds
+nature (Prove absent path) = row NoInput NoHost (AHead false) NoWrites WhileReading NoStore tree_kinds
 
 -- ---- its fields as tests
 

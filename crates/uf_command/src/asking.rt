@@ -7,7 +7,7 @@ ghost use Rattle.uf_command.specs.Cids.{cid_reads, first_name_at as first_name_i
 ghost use Rattle.uf_command.specs.Commands.{IsAccepted, IsAsked, IsGoodAsk, add_asked, add_to_asked, asked, at_path};
 ghost use Rattle.uf_command.specs.Commands.{both_paths, is_of_files, mtime_of};
 ghost use Rattle.uf_command.specs.Commands.{adopt_asked, below_asked, cat_asked, cp_asked, get_asked, mv_asked, path_refusal};
-ghost use Rattle.uf_command.specs.Commands.{pin_asked, read_asked, set_meta_asked, write_asked};
+ghost use Rattle.uf_command.specs.Commands.{pin_asked, prove_asked, read_asked, set_meta_asked, write_asked};
 ghost use Rattle.uf_command.specs.declared.types.Ask.TheVariants as asks;
 ghost use Rattle.uf_tree.specs.Metas.{is_mtime};
 ghost use Rattle.uf_words.specs.Commands.{IsWithinLimits};
@@ -47,12 +47,10 @@ pub fn read_path(alloc: Global, cmd: Cmd) -> Result<Command, Refusal>
         Cmd::PinAdd { cid } => read_pin(alloc, &cid, true),
         Cmd::PinRm { cid } => read_pin(alloc, &cid, false),
         Cmd::PinLs => Ok(Command::Pin { ask: PinAsk::List }),
-        Cmd::Batch
-        | Cmd::Pull { .. }
-        | Cmd::Serve
-        | Cmd::Gc
-        | Cmd::Prove { .. }
-        | Cmd::Check { .. } => Err(Refusal::Usage),
+        Cmd::Prove { absent, path } => read_prove(alloc, absent, &path),
+        Cmd::Batch | Cmd::Pull { .. } | Cmd::Serve | Cmd::Gc | Cmd::Check { .. } => {
+            Err(Refusal::Usage)
+        }
         files => read_files(alloc, files),
     }
 }
@@ -226,6 +224,17 @@ fn read_pin(alloc: Global, cid: &Text, added: bool) -> Result<Command, Refusal>
         Err(why) => return Err(bad_path(why)),
     };
     Ok(Command::Pin { ask })
+}
+
+// `prove` of what is at a path, or of its absence.
+fn read_prove(alloc: Global, absent: bool, path: &Text) -> Result<Command, Refusal>
+    ensures asked { IsAsked result (prove_asked absent (path_reads path.now)) }
+    ensures profile { IfOk result IsAccepted }
+{
+    match Path::parse(alloc, path.as_str()) {
+        Ok(path) => Ok(Command::Prove { absent, path }),
+        Err(why) => Err(bad_path(why)),
+    }
 }
 
 // The CID that a text is: a path in a DAG without names.

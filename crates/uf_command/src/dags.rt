@@ -116,6 +116,7 @@ pub(crate) fn dag_words(alloc: Global, rule: &DagRule) -> Result<Block, Memory>
         DagRule::TooMany => plain(alloc, b"TooMany"),
         DagRule::TooManyPins => plain(alloc, b"TooManyPins"),
         DagRule::NotPinned(cid) => with_cid(alloc, b"NotPinned ", cid),
+        DagRule::OtherRoot(cid) => with_cid(alloc, b"OtherRoot ", cid),
     }
 }
 

@@ -26,7 +26,8 @@ impl Command {
             | Command::Export { .. }
             | Command::Same { .. }
             | Command::Gen { .. }
-            | Command::Pin { ask: PinAsk::List } => true,
+            | Command::Pin { ask: PinAsk::List }
+            | Command::Prove { .. } => true,
             Command::Init { .. }
             | Command::Add { only_hash: false }
             | Command::AddFrom {

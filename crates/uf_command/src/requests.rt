@@ -1,17 +1,19 @@
 // What words ask for.
 ghost use Rattle.std.specs.Prelude.{map, string_bytes};
 ghost use Rattle.uf_command.specs.Cids.{cid_reads};
-ghost use Rattle.uf_command.specs.Requests.{IsAcceptedAlone, IsRequested, pull_asked, request_in};
+ghost use Rattle.uf_path.specs.Paths.{path_reads};
+ghost use Rattle.uf_command.specs.Requests.{IsAcceptedAlone, IsRequested, check_asked, pull_asked, request_in};
 
 use crate::asking::{bad_path, read_cid, read_path};
 use crate::{Command, Refusal};
 use std::alloc::Global;
 use uf_cid::{Cid, Text};
+use uf_path::Path;
 use uf_store::StoreFault;
 use uf_words::{Cmd, WordFault, read_words};
 
-/// What words ask for: the commands that the lines of the input ask for, a talk with a peer, a collection, or one
-/// command, where it can be read.
+/// What words ask for: the commands that the lines of the input ask for, a talk with a peer, a collection, the check of
+/// a proof, or one command, where it can be read.
 #[derive(Drop)]
 pub enum Request {
     /// `batch`
@@ -22,6 +24,8 @@ pub enum Request {
     Serve,
     /// `repo gc`: what neither the tree nor a pin leads to is let go.
     Gc,
+    /// `check`: the input is read as the proof of what is at a path below a root; with `absent` nothing is there.
+    Check { absent: bool, cid: Cid, path: Path },
     /// Any other words: their command, or why they ask for none.
     One { asked: Result<Command, Refusal> },
 }
@@ -36,6 +40,7 @@ pub fn read_request(alloc: Global, words: &[String]) -> Request
         Ok(Cmd::Pull { cid }) => read_pull(alloc, &cid),
         Ok(Cmd::Serve) => Request::Serve,
         Ok(Cmd::Gc) => Request::Gc,
+        Ok(Cmd::Check { absent, cid, path }) => read_check(alloc, absent, &cid, &path),
         Ok(cmd) => Request::One {
             asked: read_path(alloc, cmd),
         },
@@ -57,6 +62,24 @@ fn read_pull(alloc: Global, cid: &Text) -> Request
         Ok(cid) => Request::Pull { cid },
         Err(why) => Request::One {
             asked: Err(bad_path(why)),
+        },
+    }
+}
+
+// `check` of what is at a path below a root, or of its absence.
+fn read_check(alloc: Global, absent: bool, cid: &Text, path: &Text) -> Request
+    ensures asked { IsRequested result (check_asked absent (cid_reads cid.now) (path_reads path.now)) }
+    ensures profile { IsAcceptedAlone result }
+{
+    match read_cid(alloc, cid.as_str()) {
+        Err(why) => Request::One {
+            asked: Err(bad_path(why)),
+        },
+        Ok(cid) => match Path::parse(alloc, path.as_str()) {
+            Ok(path) => Request::Check { absent, cid, path },
+            Err(why) => Request::One {
+                asked: Err(bad_path(why)),
+            },
         },
     }
 }

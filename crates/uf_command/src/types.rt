@@ -122,6 +122,11 @@ pub enum Command {
     Pin {
         ask: PinAsk,
     },
+    /// `prove`: a CAR of the blocks that decide a path, and of a file its own; with `absent` nothing is there.
+    Prove {
+        absent: bool,
+        path: Path,
+    },
 }
 
 /// The rules by which what is asked of the DAGs of others is refused.
@@ -149,6 +154,8 @@ pub enum DagRule {
     TooManyPins,
     /// `NotPinned`: the CID isn't pinned.
     NotPinned(Cid),
+    /// `OtherRoot`: a CAR that is read as a proof has this root.
+    OtherRoot(Cid),
 }
 
 /// The rules by which what is asked of the host is refused, each with a path in it.

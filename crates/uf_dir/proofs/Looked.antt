@@ -1,7 +1,6 @@
 -- What a look at the root of a planned directory or file finds.
 use Rattle.std.proofs.Common.{◌≡◌, ℕ, ◌+◌, List, [], ◌∷◌, length, ap, arith, sym, ◌∙◌, subst, inl, inr, Option, Some, None, Bool, true, false}
 use Rattle.std.specs.Prelude.{◌≤◌, IfOk, IfSome, OnOk, ⊤}
-use Rattle.std.specs.FinMap.Entries.{find}
 use Rattle.std.specs.declared.result.Result.{Result}
 use Rattle.std.specs.declared.result.Result.TheVariants.{Ok, Err}
 use Rattle.uf_cid.specs.Blocks as blocks
@@ -20,7 +19,6 @@ use Rattle.uf_tree.specs.declared.nodes.Entry.{Entry}
 use Rattle.uf_tree.specs.declared.meta.Meta.{Meta}
 use Rattle.uf_tree.specs.declared.profile.Profile.{Profile}
 use Rattle.uf_tree.specs.DirPlan.{is_sharded, trail, weight}
-use Rattle.uf_tree.specs.Names.{names_cmp}
 use Rattle.uf_tree.specs.declared.nodes.DirNode.{DirNode}
 use Rattle.uf_tree.specs.declared.nodes.ShardNode.{ShardNode}
 use Rattle.uf_tree.specs.Codecs.{dir_node_block}
@@ -28,7 +26,7 @@ use Rattle.uf_tree.specs.Metas.{none}
 use Rattle.uf_tree.specs.Nodes.{Named}
 use Rattle.uf_tree.specs.Roles.{IsCanonicalDirectory, WithSome}
 use Rattle.uf_tree.specs.Roots.{dir_root}
-use Rattle.uf_tree.specs.ShardPlan.{shard, shard_items, shard_trail}
+use Rattle.uf_tree.specs.ShardPlan.{shard, shard_items}
 use Rattle.uf_tree.specs.Validity.{IsDirNode, IsHash}
 use Rattle.uf_shard.specs.Listing.{AreRows, in_order}
 use Rattle.uf_shard.specs.Planned as shards
@@ -38,7 +36,7 @@ use Rattle.uf_dir.specs.Roots.{IsLight, IsListed, IsRootOf, IsThere, IsUnread}
 use Rattle.uf_dir.specs.declared.root.Root.{Root}
 use Rattle.uf_dir.specs.declared.root.Root.TheVariants as root
 use Rattle.uf_dir.proofs.Apart.{one_basic, shard-basic}
-use Rattle.uf_dir.proofs.Planning.{InOne, InShards, RootForm, blocks-from_root, blocks-sharded, planned-cid, planned-sharded, root-canonical, root-form, trail-basic, trail-from_root, trail-sharded}
+use Rattle.uf_dir.proofs.Planning.{InOne, InShards, RootForm, blocks-from_root, blocks-sharded, planned-cid, planned-sharded, root-canonical, root-form, trail-from_root}
 
 -- ---- the first of some blocks, of which the CID is known
 
@@ -133,32 +131,6 @@ module _ (X : List ℕ → List ℕ) (good : IsHash X) (N : List ℕ → ℕ) (p
         (unread cid (dir_root X N p meta l) from.0 (planned-cid X N p meta l cid is) X IsBad None true before now fault value (root-canonical X N p meta l good is.good is.valid None tt) unread_is shows
         (subst (Agrees before.told) from.1 agrees) stood)
 
-    pub find-basic : (before now : Seen) (found : Root) (node : DirNode) (value : Option Entry) → found ≡ root.Basic node → IsThere cid before now × IsRootOf now.lent found → value ≡ find names_cmp name node.pairs
-        → Agrees before.told (trail X N p meta l name) → FindsOver before.told (trail X N p meta l name) (find names_cmp name l) (Ok value)
-    find-basic before now found node value at looks value_is agrees =
-        let from = trail-from_root X N p meta l name in
-        let begins : Agrees before.told (dir_root X N p meta l ∷ from.0) = subst (Agrees before.told) from.1 agrees in
-        let read = read-basic from.0 before now node begins looks.0 (subst (IsRootOf now.lent) at looks.1) in (
-          value_is ∙ ap (λ (n : DirNode). find names_cmp name n.pairs) read.1,
-          subst (Holds before.told) (sym (trail-basic X N p meta l name read.0)) (the_held cid (dir_root X N p meta l) from.0 (planned-cid X N p meta l cid is) before.told now.lent begins looks.0.held),
-        )
-
-    -- the answer of a search in the shards
-    abbrev pub Deeper : Seen → Seen → Result (Option Entry) StoreFault → Type 0
-    Deeper mid now r = (n : Meta) (k : List Named) → shards.IsPlanned X N cid n k → Agrees mid.told (shard_trail X N 7 n k name) → Stood mid.faults now.faults
-        → FindsOver mid.told (shard_trail X N 7 n k name) (find names_cmp name k) r
-
-    pub find-sharded : (before mid now : Seen) (found : Root) (node : ShardNode) (r : Result (Option Entry) StoreFault) → found ≡ root.Sharded node → IsThere cid before mid × IsRootOf mid.lent found → mid.told ≡ before.told → mid.faults ≡ before.faults
-        → Deeper mid now r → Agrees before.told (trail X N p meta l name) → Stood before.faults now.faults → FindsOver before.told (trail X N p meta l name) (find names_cmp name l) r
-    find-sharded before mid now found node r at looks same calm deeper agrees stood =
-        let from = trail-from_root X N p meta l name in
-        let sharded : is_sharded p l ≡ true = (read-sharded from.0 before mid node (subst (Agrees before.told) from.1 agrees) looks.0 (subst (IsRootOf mid.lent) at looks.1)).0 in
-        let path = trail-sharded X N p meta l name sharded in
-        subst (λ (t : List Held). FindsOver before.told t (find names_cmp name l) r) (sym path)
-        (subst (λ (told : Told). FindsOver told (shard_trail X N 7 meta l name) (find names_cmp name l) r) same
-        (deeper meta l (planned-sharded X N p meta l cid is sharded) (subst (λ (told : Told). Agrees told (shard_trail X N 7 meta l name)) (sym same) (subst (Agrees before.told) path agrees))
-        (subst (λ (n : ℕ). Stood n now.faults) (sym calm) stood)))
-
   -- ---- a directory that is read whole
 
   pub entries-unread : {A : Type 0} (IsBad : Role → List ℕ → Type 0) (profile : Option Profile) (before now : Seen) (fault : StoreFault) (value : A) → WithSome profile (λ known. known ≡ p)
@@ -252,3 +224,8 @@ fitting p cid before now found looks light = by before.told looks.0.held
 pub fitting-at : {A E : Type 0} (r : Result A E) (p : Profile) (cid : Cid) (before now : Seen) (found : Root) → IsThere cid before now × IsRootOf now.lent found → IsLight (Some p) found → OnOk r (IsFitting p cid before.told)
 fitting-at (Ok x) p cid before now found looks light = fitting p cid before now found looks light
 fitting-at (Err e) p cid before now found looks light = tt
+
+-- what holds whatever is answered
+pub always-ok : {A E : Type 0} (r : Result A E) (P : Type 0) → P → OnOk r P
+always-ok (Ok a) P p = p
+always-ok (Err e) P p = tt

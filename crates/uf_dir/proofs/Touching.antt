@@ -1,10 +1,13 @@
 -- How many touches edits of directories need.
 use Rattle.std.proofs.Common.{◌≡◌, ◌≢◌, Option, None, Some, ℕ, zero, suc, ◌+◌, ◌-◌, ◌*◌, ◌/◌, ◌≤◌, List, [], ◌∷◌, length, min, refl, arith, sym, subst, Bool, true, false, cond, T, length-append}
-use Rattle.std.specs.Prelude.{◌==◌, IsTrue, not}
+use Rattle.std.specs.Prelude.{◌==◌, IfOk, IsTrue, not}
+use Rattle.std.specs.declared.result.Result.{Result}
+use Rattle.std.specs.declared.result.Result.TheVariants.{Ok, Err}
 use Rattle.std.specs.FinMap.Entries.{find, is_sorted, is_sorted-where_key}
 use Rattle.std.specs.Ordering.{eq_by_cmp}
 use Rattle.uf_cid.specs.Blocks.{Held}
 use Rattle.uf_murmur.specs.Slots.{slot}
+use Rattle.uf_store.specs.declared.store.StoreFault.{StoreFault}
 use Rattle.uf_tree.specs.declared.meta.Meta.{Meta}
 use Rattle.uf_tree.specs.declared.nodes.DirNode.{DirNode}
 use Rattle.uf_tree.specs.declared.nodes.Entry.{Entry}
@@ -174,3 +177,12 @@ module _ (X : List ℕ → List ℕ) (N : List ℕ → ℕ) (p : Profile) (meta 
     where
       sum : (t0 t1 t2 w v g h : ℕ) → t1 ≤ t0 + 16 → t2 ≤ t1 + (w + g) → w ≤ v → g ≤ h → t2 ≤ t0 + (17 + (v + h))
       sum t0 t1 t2 w v g h a b c d = omega (arith, a, b, c, d)
+
+-- few touches where a name isn't there, behind the load of the root
+pub absent-after : (r : Result (Option Entry) StoreFault) (t0 t1 t2 n : ℕ) → t1 ≡ t0 + 1 → IfOk r (λ left. left ≡ None → t2 ≤ t1 + n) → IfOk r (λ left. left ≡ None → t2 ≤ t0 + (n + 1))
+absent-after (Ok left) t0 t1 t2 n first h = λ none. let few : t2 ≤ t1 + n = h none in omega (arith, first, few)
+absent-after (Err fault) t0 t1 t2 n first h = tt
+
+pub absent-here : (r : Result (Option Entry) StoreFault) (t0 t1 t2 : ℕ) → t1 ≡ t0 + 1 → IfOk r (λ left. left ≡ None → t2 ≡ t1) → IfOk r (λ left. left ≡ None → t2 ≤ t0 + 9)
+absent-here (Ok left) t0 t1 t2 first h = λ none. let same : t2 ≡ t1 = h none in omega (arith, first, same)
+absent-here (Err fault) t0 t1 t2 first h = tt

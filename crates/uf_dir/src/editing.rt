@@ -109,8 +109,8 @@ fn put_basic<S: Store, N: NameHash, L: Ledger>(
 }
 
 /// Saves the directory with this root without a name, and answers its entry; `None`, and nothing is saved, where the
-/// name isn't there. Its metadata stays. A directory in shards is changed in place, and goes into one block where it
-/// isn't too heavy any more.
+/// name isn't there, by at most nine touches, since nothing is weighed then. Its metadata stays. A directory in shards is
+/// changed in place, and goes into one block where it isn't too heavy any more.
 pub fn remove<S: Store, N: NameHash, L: Ledger>(
     alloc: Global,
     store: &mut S,
@@ -146,6 +146,7 @@ pub fn remove<S: Store, N: NameHash, L: Ledger>(
         → Stood (S.seen store.old).clashes (S.seen store.new).clashes
         → touches.new ≤ touches.old + (18 + weighing_from S.X.block32 N.name64 p.now name.now l
         + crossing S.X.block32 N.name64 p.now l (without name.now l)) }
+    ensures absent { IfOk result (λ left. left ≡ None → touches.new ≤ touches.old + 9) }
     ensures touched { touches.old < touches.new }
 {
     let found = look_at_root(alloc, store, Some(*p), root, touches)?;
@@ -174,6 +175,7 @@ fn remove_basic<S: Store, N: NameHash, L: Ledger>(
         (S.seen store.old).told (S.seen store.new).told result }
     ensures saves { OnlySaves S.X.block32 NoneIsBad (fault_in result) (S.seen store.old) (S.seen store.new) }
     ensures touches { touches.new ≤ touches.old + 1 }
+    ensures absent { IfOk result (λ left. left ≡ None → touches.new ≡ touches.old) }
     ensures touched { touches.old ≤ touches.new }
 {
     let rest = pairs_without(alloc, &node.pairs, name)?;
@@ -207,6 +209,7 @@ fn remove_sharded<S: Store, N: NameHash, L: Ledger>(
     ensures touches { (l : List Named)
         → StayShards S.X.block32 N.name64 meta.now root.now (S.seen store.old) (S.seen store.new) l
         → touches.new ≤ touches.old + (17 + settling S.X.block32 N.name64 p.now name.now l) }
+    ensures absent { IfOk result (λ left. left ≡ None → touches.new ≤ touches.old + 8) }
     ensures touched { touches.old < touches.new }
 {
     let removed = uf_shard::remove::<S, N, L>(alloc, store, root, name, touches)?;

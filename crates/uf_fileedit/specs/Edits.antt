@@ -1,2 +1,2 @@
 -- Edits of a file's bytes.
-pub use Rattle.uf_bytes.specs.Laying.{laid, cut_to}
+pub use Rattle.uf_tree.specs.Laying.{laid, cut_to}

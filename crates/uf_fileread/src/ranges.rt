@@ -33,6 +33,15 @@ use uf_tree::{Entry, Meta, Part};
 // How many nodes of a file may stand one above the other.
 const MOST_ROWS: u8 = 22;
 
+// How many leaves a store is told of at most, the next one among them.
+const MOST_AHEAD: usize = 8;
+
+// What stands where there is none.
+const NO_CID: Cid = Cid {
+    codec: Codec::Raw,
+    digest: [0u8; 32],
+};
+
 // The bytes from an offset on, at most so many.
 #[derive(Clone, Copy)]
 struct Reach {
@@ -155,16 +164,43 @@ fn send_parts<S: Store, O: Sink, L: Ledger>(
 {
     let mut place = reach.offset;
     let mut rest = reach.count;
+    let mut at = 0usize;
     for part in parts {
         let left = Reach {
             offset: place,
             count: rest,
         };
+        foresee_leaves(store, parts, at, left);
         let sent = send_met(alloc, store, rows, part, left, out, touches)?;
         rest -= sent;
         place = place.saturating_sub(part.size);
+        at = at.saturating_add(1);
     }
     Ok(reach.count - rest)
+}
+
+// Tells a store of the leaf at a place of these parts, where the range meets it, and of those right after it that the
+// range meets too.
+fn foresee_leaves<S: Store>(store: &mut S, parts: &[Part], at: usize, reach: Reach)
+    ensures { S.seen store.new ≡ S.seen store.old }
+{
+    let mut cids = [NO_CID; MOST_AHEAD];
+    let mut count = 0;
+    let mut offset = reach.offset;
+    let mut left = reach.count;
+    for part in parts.iter().skip(at) {
+        let is_leaf = part.entry.cid.codec == Codec::Raw;
+        if count == MOST_AHEAD || left == 0 || offset >= part.size || !is_leaf {
+            break;
+        }
+        cids[count] = part.entry.cid;
+        count += 1;
+        left = left.saturating_sub(part.size - offset);
+        offset = 0;
+    }
+    if count > 1 {
+        store.foresee(&cids[..count]);
+    }
 }
 
 // Writes a range of a part, and leaves the part alone where the range doesn't meet it.

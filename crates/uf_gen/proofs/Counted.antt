@@ -5,8 +5,8 @@ use Rattle.std.specs.List.{sum_by}
 use Rattle.std.proofs.lemmas.Bool.Decides.{nat_tests}
 use Rattle.std.proofs.lemmas.List.FromFn.{length-map-range_with_len}
 use Rattle.std.proofs.lemmas.List.Sums.{sum_by-append}
-use Rattle.uf_bytes.specs.Laying.{laid}
-use Rattle.uf_bytes.proofs.Laid.{length-laid}
+use Rattle.uf_tree.specs.Laying.{laid}
+use Rattle.uf_tree.proofs.Laid.{length-laid}
 use Rattle.std.proofs.lemmas.List.{length-append}
 use Rattle.uf_tree.specs.Metas.{none}
 use Rattle.uf_tree.specs.Tree.{File}

@@ -9,8 +9,8 @@ use Rattle.std.proofs.lemmas.Grind.{flat_map-append}
 use Rattle.std.proofs.lemmas.List.{append-nil, map-append}
 use Rattle.std.proofs.lemmas.List.FromFn.{length-map-range_with_len}
 use Rattle.std.proofs.lemmas.Nat.{mod_below}
-use Rattle.uf_bytes.specs.Laying.{laid}
-use Rattle.uf_bytes.proofs.Laid.{all-laid, length-laid}
+use Rattle.uf_tree.specs.Laying.{laid}
+use Rattle.uf_tree.proofs.Laid.{all-laid, length-laid}
 use Rattle.uf_plain.proofs.Plans.{first-none, named, plans, refusal-is}
 use Rattle.uf_tree.specs.Metas.{none}
 use Rattle.uf_tree.specs.FilePlan.{file_plan}

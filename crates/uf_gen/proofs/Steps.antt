@@ -5,7 +5,7 @@ use Rattle.std.specs.FinMap.Entries.{find}
 use Rattle.std.proofs.lemmas.List.{append-nil, append_assoc}
 use Rattle.std.proofs.lemmas.Grind.{flat_map-append}
 use Rattle.std.proofs.lemmas.List.Concat.{flat_map-cons}
-use Rattle.uf_bytes.specs.Laying.{laid}
+use Rattle.uf_tree.specs.Laying.{laid}
 use Rattle.uf_plain.specs.declared.file.FileEdit.TheVariants.{Write}
 use Rattle.uf_plain.specs.declared.file.WriteHow.{WriteHow}
 use Rattle.uf_plain.specs.declared.rule.Refused.{Refused}

@@ -1,7 +1,7 @@
 -- The rules of the generated tree: the numbers, the names and the bytes of its files.
 use Rattle.std.specs.Prelude.{ℕ, zero, suc, ◌+◌, ◌*◌, ◌/◌, ◌%◌, ◌==◌, List, [], ◌∷◌, ◌++◌, map, if◌then◌else◌}
 use Rattle.std.specs.List.{range_with_len}
-use Rattle.uf_bytes.specs.Laying.{laid}
+use Rattle.uf_tree.specs.Laying.{laid}
 
 -- the number that a file has by a seed
 abbrev pub mixed : (seed i : ℕ) → ℕ

@@ -3,7 +3,7 @@ ghost use Rattle.std.specs.Prelude.{◌≡◌, ◌<◌, ◌≤◌, ◌+◌, ◌-
 ghost use Rattle.uf_gen.specs.Grown.{file_path as path_of};
 ghost use Rattle.uf_gen.specs.Rules.{file_name as name_of, first_bytes as bytes_first, last_bytes as bytes_last};
 ghost use Rattle.uf_gen.specs.Rules.{late_offset as offset_late, late_piece as piece_late, mixed};
-ghost use Rattle.uf_bytes.specs.Laying.{laid};
+ghost use Rattle.uf_tree.specs.Laying.{laid};
 
 use std::alloc::Global;
 use uf_cid::{Block, Memory};

@@ -22,7 +22,7 @@ use Rattle.uf_command.specs.declared.status.Status.TheVariants as status
 use Rattle.uf_command.specs.declared.types.Ask.{Ask}
 use Rattle.uf_command.specs.declared.types.Ask.TheVariants.{Ls, Stat, Edit as Edits}
 use Rattle.uf_command.specs.declared.types.Command.{Command}
-use Rattle.uf_command.specs.declared.types.Command.TheVariants.{Init, Add, AddFrom, WriteInput, At, Read, Cat, Get, Export, Import, Same, Adopt, Gen, AddTo, AddFromTo, Pin}
+use Rattle.uf_command.specs.declared.types.Command.TheVariants.{Init, Add, AddFrom, WriteInput, At, Read, Cat, Get, Export, Import, Same, Adopt, Gen, AddTo, AddFromTo, Pin, Prove}
 use Rattle.uf_command.specs.declared.types.Edit.TheVariants.{Write}
 use Rattle.uf_command.specs.declared.types.HostRule.TheVariants as rules
 use Rattle.uf_command.specs.declared.types.Refusal.{Refusal}
@@ -268,6 +268,7 @@ module _ (X : List ℕ → List ℕ) (N : List ℕ → ℕ) where
   tree-leaves (WriteInput how path) o held p es tree = input-leaves how path.names o.input p es tree
   tree-leaves (At ask path) o held p es tree = ask-leaves ask path o held p es tree
   tree-leaves (Read offset count path) o held p es tree = same-in (Stands p es) (Read offset count path) o held (command-next X N (Read offset count path) o held p es) refl
+  tree-leaves (Prove absent path) o held p es tree = same-in (Stands p es) (Prove absent path) o held refl refl
   tree-leaves (Cat path) o held p es tree = same-in (Stands p es) (Cat path) o held refl refl
   tree-leaves (Get path host_path) o held p es tree = same-in (Stands p es) (Get path host_path) o held refl refl
   tree-leaves (Export cid) o held p es tree = same-in (Stands p es) (Export cid) o held refl refl
@@ -287,6 +288,7 @@ module _ (X : List ℕ → List ℕ) (N : List ℕ → ℕ) where
   none-leaves (WriteInput how path) o held = refl
   none-leaves (At ask path) o held = refl
   none-leaves (Read offset count path) o held = refl
+  none-leaves (Prove absent path) o held = refl
   none-leaves (Cat path) o held = same-in NoHead (Cat path) o held refl refl
   none-leaves (Get path host_path) o held = same-in NoHead (Get path host_path) o held refl refl
   none-leaves (Export cid) o held = same-in NoHead (Export cid) o held refl refl
@@ -305,6 +307,7 @@ module _ (X : List ℕ → List ℕ) (N : List ℕ → ℕ) where
   bad-leaves (WriteInput how path) o held = refl
   bad-leaves (At ask path) o held = refl
   bad-leaves (Read offset count path) o held = refl
+  bad-leaves (Prove absent path) o held = refl
   bad-leaves (Cat path) o held = same-in BadHead (Cat path) o held refl refl
   bad-leaves (Get path host_path) o held = same-in BadHead (Get path host_path) o held refl refl
   bad-leaves (Export cid) o held = same-in BadHead (Export cid) o held refl refl

@@ -2,7 +2,7 @@
 use Rattle.std.proofs.Common.{◌≡◌, ◌∙◌, ℕ, ◌+◌, ◌-◌, List, [], ◌∷◌, ◌++◌, Bool, true, false, arith, cond, refl, sym, ap, subst, Option, None, Some, Result, Ok, Err}
 use Rattle.std.specs.Prelude.{◌||◌, length, slice_get, take}
 use Rattle.std.specs.Ordering.{eq_by_cmp}
-use Rattle.uf_bytes.specs.Laying.{cut_to, laid}
+use Rattle.uf_tree.specs.Laying.{cut_to, laid}
 use Rattle.uf_path.specs.declared.path.Path.{Path}
 use Rattle.uf_plain.specs.Edits.{and_then, as_folder, as_free, as_removable, at, child, edited, is_folder_at, made, made_all, or_new, put_free, removed, taken, with_child, with_folder, without_child}
 use Rattle.uf_plain.specs.Files.{as_file_or_new, as_file_there, begun, kept_meta, new_bytes, truncated, with_bytes, written}

@@ -4,7 +4,7 @@ use Rattle.std.specs.declared.option.Option.{Option}
 use Rattle.std.specs.declared.option.Option.TheVariants.{None, Some}
 use Rattle.std.specs.declared.result.Result.{Result}
 use Rattle.std.specs.declared.result.Result.TheVariants.{Ok, Err}
-use Rattle.uf_bytes.specs.Laying.{cut_to, laid}
+use Rattle.uf_tree.specs.Laying.{cut_to, laid}
 use Rattle.uf_plain.specs.Edits.{at, child, is_folder_at, with_child, without_child}
 use Rattle.uf_plain.specs.Files.{kept_meta}
 use Rattle.uf_plain.specs.Metas.{meta_after, with_meta}

@@ -1,3 +1,4 @@
 pub mod FirstRows
 pub mod Least
 pub mod Vectors
+pub mod Clashes

@@ -2,4 +2,6 @@
 #![tactic(auto)]
 
 pub mod laws;
+pub mod sizes;
+pub mod unique;
 pub mod vectors;

@@ -3,8 +3,6 @@
 
 mod laws;
 mod lines;
-#[cfg(test)]
-mod tests;
 mod window;
 
 pub use laws::{a_run_goes_on, lines_of_nothing, what_was_written_is_read};

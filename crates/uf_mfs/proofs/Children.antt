@@ -16,7 +16,7 @@ use Rattle.uf_tree.specs.declared.profile.Profile.{Profile}
 use Rattle.uf_tree.specs.Codecs.{dir_dag, dir_node_block, shard_dag, shard_node_block}
 use Rattle.uf_tree.specs.DirPlan.{is_sharded}
 use Rattle.uf_tree.specs.Metas.{is_meta, none}
-use Rattle.uf_tree.specs.Nodes.{InSlot, Named, dir_block, shard_block}
+use Rattle.uf_tree.specs.Nodes.{Named, dir_block, shard_block}
 use Rattle.uf_tree.specs.Roots.{dir_root}
 use Rattle.uf_tree.specs.ShardPlan.{shard, shard_held, shard_items}
 use Rattle.uf_tree.specs.Tree.{Dir, Entries, own_meta}

@@ -8,7 +8,6 @@ use Rattle.uf_store.specs.Contents.{Told}
 use Rattle.uf_store.specs.Keeping.{Holds, KeepsGood}
 use Rattle.uf_store.proofs.Keeping.{Holds-kept}
 use Rattle.uf_tree.specs.declared.meta.Meta.{Meta}
-use Rattle.uf_tree.specs.declared.nodes.Entry.{Entry}
 use Rattle.uf_tree.specs.declared.nodes.Part.{Part}
 use Rattle.uf_tree.specs.declared.profile.Profile.{Profile}
 use Rattle.uf_tree.specs.FilePlan.{climb, file_plan, groups, leaf_held, node_held, node_part, root_held, root_part, split_from, top_held, top_part, with_row}

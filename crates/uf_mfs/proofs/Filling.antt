@@ -12,14 +12,14 @@ use Rattle.uf_tree.specs.Metas.{none}
 use Rattle.uf_tree.specs.Tree.{Tree, File, Dir, Entries}
 use Rattle.uf_plain.specs.declared.rule.Refused.{Refused}
 use Rattle.uf_plain.specs.declared.rule.Refused.TheVariants as why
-use Rattle.uf_store.specs.Calls.{OnlySaves}
+use Rattle.uf_store.specs.Calls.{OnlyReads, OnlySaves}
 use Rattle.uf_tree.specs.TreePlan.{blocks}
-use Rattle.uf_plain.specs.Edits.{and_then, at, child, or_new, with_folder}
+use Rattle.uf_plain.specs.Edits.{and_then, as_folder, at, child, or_new, with_folder}
 use Rattle.uf_plain.specs.Rules.{allowed, unless}
-use Rattle.uf_mfs.specs.Answers.{EditsAfter}
+use Rattle.uf_mfs.specs.Answers.{Decides, EditsAfter}
 use Rattle.uf_mfs.specs.Standing.{IsAgreed, IsAgreedMember}
-use Rattle.uf_mfs.specs.Steps.{EditsFolder, FillsFolder, IsFolderOver, IsOpened, changed_below}
-use Rattle.uf_store.proofs.Calls.{calm-then, shown-rises}
+use Rattle.uf_mfs.specs.Steps.{ChangesFolder, EditsFolder, IsFolderOver, IsOpened, changed_below}
+use Rattle.uf_store.proofs.Calls.{calm-then, reads-saves, shown-rises}
 use Rattle.uf_store.proofs.Calls.{stood-back, stood-front}
 use Rattle.uf_mfs.proofs.After.{after-kept, back-among, stays-some}
 use Rattle.uf_mfs.proofs.Agreed.{child-among}
@@ -86,13 +86,13 @@ module _ (X : List ℕ → List ℕ) (N : List ℕ → ℕ) (p : Profile) where
     pub filled-none : (k : ℕ) (folder : Entry) (name : List ℕ) (go : Entries → Result Entries Refused) (found : Entry × Bool) (filled : Option Entry)
         → changed_below found filled ≡ None → OnlySaves X Bad None a b
         → ((es : Entries) → IsAgreed X N a.told p folder (Dir es) → Stood a.faults b.faults → IsOpened X N b.told p (child name es) found)
-        → OnlySaves X Other None b c → FillsFolder X N b c p found.0 go (Ok filled)
-        → FillsFolder X N a c p folder (λ es. with_folder name es (and_then (or_new k (child name es)) go)) (Ok None)
+        → OnlySaves X Other None b c → ChangesFolder X N p b c [] found.0 go (Ok filled)
+        → ChangesFolder X N p a c [] folder (λ es. with_folder name es (and_then (or_new k (child name es)) go)) (Ok None)
     filled-none k folder name go found filled none before opens after fills = λ es o.
         let was = unchanged found filled none in
         let first = over-first X N p before after [] folder es o in
         let old = old-folder b.told (child name es) found was.0 (opens es (agreed-over folder es first) first.calm.faults) in
-        let fills-none = subst (λ (o : Option Entry). FillsFolder X N b c p found.0 go (Ok o)) was.1 fills in
+        let fills-none = subst (λ (o : Option Entry). ChangesFolder X N p b c [] found.0 go (Ok o)) was.1 fills in
         let below : IsFolderOver X N p b c [] found.0 old.0 = record {
           plan = old.2.plan;
           stays = record { first = old.2.agrees; last = (stays-some a.told c.told _ _ (λ P h. child-among X N p es name (Dir old.0) old.1 P h) o.stays).last };
@@ -104,7 +104,7 @@ module _ (X : List ℕ → List ℕ) (N : List ℕ → ℕ) (p : Profile) where
   module _ {Bad : Role → List ℕ → Type 0} {a b : Seen} where
     -- the folder below that is put is what was filled
     pub filled-edits : (found : Entry × Bool) (filled : Option Entry) (below : Entry) (go : Entries → Result Entries Refused) → changed_below found filled ≡ Some below
-        → OnlySaves X Bad None a b → FillsFolder X N a b p found.0 go (Ok filled) → EditsFolder X N p a b [] found.0 go (Ok below)
+        → OnlySaves X Bad None a b → ChangesFolder X N p a b [] found.0 go (Ok filled) → EditsFolder X N p a b [] found.0 go (Ok below)
     filled-edits found (Some e) below go is saved fills = subst (λ (e : Entry). EditsFolder X N p a b [] found.0 go (Ok e)) (let same : e ≡ below = cc in same) fills
     filled-edits found None below go is saved fills = by found.1 is
       where
@@ -147,3 +147,36 @@ pub stood-before : (hash : List ℕ → List ℕ) (Bad Other : Role → List ℕ
 stood-before hash Bad Other fault a b c before after stood =
     let rises = shown-rises hash Other fault b c after.cause in
     stood-front a.faults b.faults c.faults before.cause.faults rises.faults stood
+
+-- something at two names or more is in a folder
+at-below : (led : ℕ) (name next : List ℕ) (more : List (List ℕ)) (es : Entries) (t : Tree) → at led (name ∷ next ∷ more) (Dir es) ≡ Ok t
+    → (fs : Entries) × (child name es ≡ Some (Dir fs)) × (at (led + 1) (next ∷ more) (Dir fs) ≡ Ok t)
+at-below led name next more es t h = by (child name es) refl h
+  where
+    by : (o : Option Tree) → child name es ≡ o → elim o as (λ o. Result Tree Refused) [ None ↦ Err (why.NotFound (led + 1)) | Some u ↦ at (led + 1) (next ∷ more) u ] ≡ Ok t
+        → (fs : Entries) × (child name es ≡ Some (Dir fs)) × (at (led + 1) (next ∷ more) (Dir fs) ≡ Ok t)
+    by None is h = absurd cc
+    by (Some (File m bytes)) is h = absurd cc
+    by (Some (Dir fs)) is h = (fs, is, h)
+
+-- something at one name is a member
+pub at-one : (led : ℕ) (name : List ℕ) (es : Entries) (t : Tree) → at led (name ∷ []) (Dir es) ≡ Ok t → child name es ≡ Some t
+at-one led name es t h = by (child name es) h
+  where
+    by : (o : Option Tree) → elim o as (λ o. Result Tree Refused) [ None ↦ Err (why.NotFound (led + 1)) | Some u ↦ at (led + 1) [] u ] ≡ Ok t → o ≡ Some t
+    by None h = absurd cc
+    by (Some u) h = (let same : u ≡ t = cc in ap (λ (u : Tree). Some u) same)
+
+module _ (X : List ℕ → List ℕ) (N : List ℕ → ℕ) (p : Profile) {Bad Other : Role → List ℕ → Type 0} {a b c : Seen} where
+  -- what leaves the folder below leaves the folder
+  pub idle-below : {fault : Option StoreFault} {Q : Type 0} (led : ℕ) (name next : List ℕ) (more : List (List ℕ)) (es : Entries) (t : Tree) (below : Entry)
+      → OnlyReads X Bad None a b → OnlySaves X Other fault b c → Stood a.faults c.faults → at led (name ∷ next ∷ more) (Dir es) ≡ Ok t
+      → (Stood a.faults b.faults → Decides (λ es e. IsAgreed X N a.told p e (Dir es)) (as_folder (led + 1) (child name es)) (Ok below))
+      → ((fs : Entries) → IsAgreed X N b.told p below (Dir fs) → Stood b.faults c.faults → at (led + 1) (next ∷ more) (Dir fs) ≡ Ok t → (c.told ≡ b.told) × Q)
+      → (c.told ≡ a.told) × Q
+  idle-below {fault} led name next more es t below reads after stood there decides deeper =
+      let front = stood-before X _ _ fault a b c (reads-saves {f = None} reads) after stood in
+      let under = at-below led name next more es t there in
+      let s = subst (λ (o : Option Tree). Decides (λ es e. IsAgreed X N a.told p e (Dir es)) (as_folder (led + 1) o) (Ok below)) under.1 (decides front) in
+      let rest = deeper under.0 (subst (λ told. IsAgreed X N told p below (Dir under.0)) (sym reads.told) s) (stood-back a.faults b.faults c.faults reads.cause.faults stood) under.2 in
+      (rest.0 ∙ reads.told, rest.1)

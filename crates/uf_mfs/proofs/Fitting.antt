@@ -1,22 +1,28 @@
 -- An edit along a path whose file is too long is refused as the tree that it would make.
-use Rattle.std.proofs.Common.{◌≡◌, ◌⊎◌, ℕ, ◌+◌, List, [], ◌∷◌, refl, ap, sym, ◌∙◌, subst, inl, inr}
+use Rattle.std.proofs.Common.{◌≡◌, ◌⊎◌, ℕ, ◌+◌, ◌*◌, ◌≤◌, length, arith, List, [], ◌∷◌, refl, ap, sym, ◌∙◌, subst, inl, inr}
 use Rattle.std.proofs.Common.{Option, Some, None, Result, Ok, Err}
 use Rattle.uf_cid.specs.Blocks.{Held}
 use Rattle.uf_store.specs.Contents.{Told}
 use Rattle.uf_tree.specs.declared.nodes.Entry.{Entry}
 use Rattle.uf_tree.specs.declared.profile.Profile.{Profile}
-use Rattle.uf_tree.specs.Tree.{Tree, File, Dir, Entries, fold, pairs}
-use Rattle.uf_tree.specs.TreePlan.{Refusal, entry, planned, refusal, too_long}
+use Rattle.uf_store.specs.Seen.{Seen}
+use Rattle.uf_tree.specs.Metas.{none}
+use Rattle.uf_tree.specs.Tree.{Tree, File, Dir, Entries, Nothing, fold, pairs}
+use Rattle.uf_tree.specs.TreePlan.{Refusal, blocks, entry, planned, refusal, too_long}
 use Rattle.uf_plain.specs.declared.file.FileEdit.{FileEdit}
 use Rattle.uf_plain.specs.declared.rule.Refused.{Refused}
 use Rattle.uf_plain.specs.Edits.{and_then, as_folder, child, edited, with_child, with_folder}
-use Rattle.uf_plain.specs.Files.{fitting, kept_meta, new_bytes, with_bytes}
+use Rattle.uf_plain.specs.Files.{file_edited, fitting, kept_meta, new_bytes, with_bytes}
 use Rattle.uf_plain.specs.Rules.{allowed, refused_by, unless}
 use Rattle.uf_plain.proofs.Plans.{each-find}
 use Rattle.uf_mfs.specs.declared.fault.Stop.{Stop}
 use Rattle.uf_mfs.specs.Answers.{EditsAfter}
 use Rattle.uf_mfs.specs.Standing.{IsPlanOf}
-use Rattle.uf_mfs.specs.Writes.{with_fitting}
+use Rattle.uf_mfs.specs.declared.editing.Act.TheVariants.{Rewrite}
+use Rattle.uf_mfs.specs.Acts.{acted_at}
+use Rattle.uf_mfs.specs.Steps.{EditsFolder}
+use Rattle.uf_mfs.specs.Touches.{TouchesFolder, crossings_of}
+use Rattle.uf_mfs.specs.Writes.{file_touches, fitting_edit, member_at, with_fitting, writing_bound}
 use Rattle.uf_mfs.proofs.Agreed.{Own, members-own}
 use Rattle.uf_mfs.proofs.Moving.{refused-above}
 
@@ -104,3 +110,23 @@ module _ (X : List ℕ → List ℕ) (N : List ℕ → ℕ) (p : Profile) where
     loosened a b old folder led name names es r plan h =
         subst (λ (w : Result Entries Refused). EditsAfter X N a b old p w r)
         (tight-allowed _ _ (tight-path folder led name names es plan)) h
+
+  -- ---- the tree at some names
+
+  pub rewrites-at : (what : FileEdit) (x : List ℕ) (names : List (List ℕ)) (es : Entries) → acted_at p (Rewrite what) x (Dir (Nothing none)) names es ≡ fitting_edit p what x names es
+  rewrites-at what x [] es = refl
+  rewrites-at what x (name ∷ names) es = refl
+
+  pub rewritten-edits : (a b : Seen) (root : Entry) (what : FileEdit) (x : List ℕ) (names : List (List ℕ)) (r : Result Entry Stop) → EditsFolder X N p a b [] root (acted_at p (Rewrite what) x (Dir (Nothing none)) names) r
+      → EditsFolder X N p a b [] root (file_edited what x 0 names) r
+  rewritten-edits a b root what x [] r h = h
+  rewritten-edits a b root what x (name ∷ names) r h = λ es o. loosened what x a.told b.told (blocks X N p (Dir es)) root 0 name names es r o.plan (h es o)
+
+pub rewritten-touches : (X : List ℕ → List ℕ) (N : List ℕ → ℕ) (own p : Profile) {a b : Seen} (root : Entry) (what : FileEdit) (x : List ℕ) (rows : ℕ → ℕ) (names path : List (List ℕ)) (t0 t1 : ℕ) → own ≡ p → names ≡ path
+    → TouchesFolder X N own a b [] root (λ es. 40 * length names + crossings_of X N own names es (acted_at own (Rewrite what) x (Dir (Nothing none)) names es) + file_touches own rows what x (member_at names es)) t0 t1
+    → TouchesFolder X N p a b [] root (writing_bound X N p rows what x path) t0 t1
+rewritten-touches X N own p {a} {b} root what x rows names path t0 t1 same named h =
+    subst (λ (q : Profile). TouchesFolder X N q a b [] root (writing_bound X N q rows what x path) t0 t1) same
+    (subst (λ (ns : List (List ℕ)). TouchesFolder X N own a b [] root (writing_bound X N own rows what x ns) t0 t1) named
+    (λ es o. (let r = h es o in
+    subst (λ (w : Result Entries Refused). t1 ≤ t0 + (64 * (length names + 3) + crossings_of X N own names es w + file_touches own rows what x (member_at names es))) (rewrites-at X N own what x names es) (omega (arith, r)))))

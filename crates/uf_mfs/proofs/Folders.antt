@@ -1,5 +1,5 @@
 -- Edits along a path, over calls in a row.
-use Rattle.std.proofs.Common.{◌≡◌, ℕ, List, [], ◌++◌, refl, subst, sym, Option, Some, None, Result, Ok, Err}
+use Rattle.std.proofs.Common.{◌≡◌, ℕ, List, [], ◌++◌, ap, refl, subst, sym, ◌∙◌, Option, Some, None, Result, Ok, Err}
 use Rattle.uf_cid.specs.Blocks.{Held}
 use Rattle.uf_store.specs.declared.store.Role.{Role}
 use Rattle.uf_store.specs.declared.store.StoreFault.{StoreFault}
@@ -26,12 +26,13 @@ use Rattle.uf_mfs.specs.declared.thing.FolderRoot.{FolderRoot}
 use Rattle.uf_mfs.specs.declared.thing.Thing.TheVariants.{Folder as FolderAt}
 use Rattle.uf_mfs.specs.Answers.{Decides, EditsAfter, MeetsOr}
 use Rattle.uf_mfs.specs.Standing.{IsAfter, IsAgreed, IsAgreedMember, IsPlanOf, brought}
-use Rattle.uf_mfs.specs.Steps.{EditsFolder, GivesFolder, IsFolderOver}
+use Rattle.uf_mfs.specs.Steps.{ChangesFolder, ChangesOver, EditsFolder, GivesFolder, IsFolderOver}
 use Rattle.uf_mfs.proofs.After.{after-both, after-kept, after-some, after-wider, among-then, back-among, front-among, loss-among, onward, stays-first, stays-some}
 use Rattle.uf_mfs.proofs.Hinge.{are-good}
 use Rattle.uf_mfs.proofs.Agreed.{child-among}
 use Rattle.uf_mfs.proofs.Moving.{allowed-ok, good-both, later, lost-edit, refused-up}
 use Rattle.uf_mfs.proofs.Needed.{member-among}
+use Rattle.uf_plain.proofs.Edited.{with-same}
 
 module _ (X : List ℕ → List ℕ) (N : List ℕ → ℕ) (p : Profile) where
   -- what an edit brings is good
@@ -98,6 +99,12 @@ module _ (X : List ℕ → List ℕ) (N : List ℕ → ℕ) (p : Profile) where
     calm = calm-then (reads-saves reads) o.calm;
   }
 
+  -- what is said from a moment is said from one at which the store told the same
+  pub changes-since : (a b c : Seen) (more : List Held) (es : Entries) (w : Result Entries Refused) (r : Result (Option Entry) Stop) → b.told ≡ a.told → ChangesOver X N p b c more es w r → ChangesOver X N p a c more es w r
+  changes-since a b c more es w (Ok None) same h = h
+  changes-since a b c more es w (Ok (Some e)) same h = subst (λ told. EditsAfter X N told c.told (more ++ blocks X N p (Dir es)) p (allowed X N p w) (Ok e)) same h
+  changes-since a b c more es w (Err s) same h = subst (λ told. EditsAfter X N told c.told (more ++ blocks X N p (Dir es)) p (allowed X N p w) (Err s)) same h
+
   module _ {Bad Other : Role → List ℕ → Type 0} {fault : Option StoreFault} {a b c : Seen} (before : OnlySaves X Bad None a b) (after : OnlySaves X Other fault b c) where
     -- a folder before calls in a row is one before the first of them
     pub over-first : (more : List Held) (folder : Entry) (es : Entries) → IsFolderOver X N p a c more folder es → IsFolderOver X N p a b more folder es
@@ -136,6 +143,13 @@ module _ (X : List ℕ → List ℕ) (N : List ℕ → ℕ) (p : Profile) where
         → AgreesAfter a.told b.told (more ++ blocks X N p (Dir es)) mid → EditsAfter X N b.told c.told mid p w r → EditsAfter X N a.told c.told (more ++ blocks X N p (Dir es)) p w r
     on-over more mid folder es w r o came h = later X N p a.told b.told c.told _ mid w r came h
 
+    -- the same of an edit that may leave the folder as it is
+    pub changes-over : (more mid : List Held) (folder : Entry) (es : Entries) (w : Result Entries Refused) (r : Result (Option Entry) Stop) → IsFolderOver X N p a c more folder es
+        → AgreesAfter a.told b.told (more ++ blocks X N p (Dir es)) (mid ++ blocks X N p (Dir es)) → ChangesOver X N p b c mid es w r → ChangesOver X N p a c more es w r
+    changes-over more mid folder es w (Ok None) o came h = h
+    changes-over more mid folder es w (Ok (Some e)) o came h = on-over more (mid ++ blocks X N p (Dir es)) folder es (allowed X N p w) (Ok e) o came h
+    changes-over more mid folder es w (Err s) o came h = on-over more (mid ++ blocks X N p (Dir es)) folder es (allowed X N p w) (Err s) o came h
+
   module _ {Bad Other : Role → List ℕ → Type 0} {a b c : Seen} where
     -- the step below and the edit there
     pub step-edit : {fault : Option StoreFault} (folder e : Entry) (more : List Held) (es below : Entries) (go : Entries → Result Entries Refused) (r : Result Entry Stop) → AreGood X more
@@ -158,10 +172,10 @@ module _ (X : List ℕ → List ℕ) (N : List ℕ → ℕ) (p : Profile) where
         by es o (Ok below) h = refused-up X N p a.told c.told _ folder name es (go below) s o.plan (step-edit folder e more es below go (Err s) good before after o h edits)
 
     -- what an edit below gives is put into the folder
-    pub path-put : {d : Seen} {Third : Role → List ℕ → Type 0} {fault : Option StoreFault} (folder e f : Entry) (more : List Held) (name : List ℕ) (step go : Entries → Result Entries Refused) (r : Result Entry Stop) → AreGood X more
+    pub path-put : {d : Seen} {Third : Role → List ℕ → Type 0} {fault : Option StoreFault} (folder e f : Entry) (more : List Held) (name : List ℕ) (step go : Entries → Result Entries Refused) (r : Result (Option Entry) Stop) → AreGood X more
         → OnlySaves X Bad None a b → GivesFolder X N p a b [] folder step (Ok e) → OnlySaves X Other None b c → EditsFolder X N p b c more e go (Ok f)
-        → OnlySaves X Third fault c d → ((t : Tree) → IsPlanOf X N p f t → EditsFolder X N p c d (blocks X N p t) folder (λ es. Ok (with_child name t es)) r)
-        → EditsFolder X N p a d more folder (λ es. with_folder name es (and_then (step es) go)) r
+        → OnlySaves X Third fault c d → ((t : Tree) → IsPlanOf X N p f t → ChangesFolder X N p c d (blocks X N p t) folder (λ es. Ok (with_child name t es)) r)
+        → ChangesFolder X N p a d more folder (λ es. with_folder name es (and_then (step es) go)) r
     path-put {d} {Third} {fault} folder e f more name step go r good before leads middle edits after puts = λ es o. by es o (step es)
         (leads es (over-first before rest [] folder es (record { plan = o.plan; stays = stays-some a.told d.told _ _ (back-among more (blocks X N p (Dir es))) o.stays; calm = o.calm })))
       where
@@ -172,15 +186,33 @@ module _ (X : List ℕ → List ℕ) (N : List ℕ → ℕ) (p : Profile) where
         rest = saves-saves middle after
 
         by2 : (es : Entries) → IsFolderOver X N p a d more folder es → (w : Result Entries Refused) → EditsAfter X N a.told c.told (more ++ blocks X N p (Dir es)) p (allowed X N p w) (Ok f)
-            → EditsAfter X N a.told d.told (more ++ blocks X N p (Dir es)) p (allowed X N p (with_folder name es w)) r
+            → ChangesOver X N p a d more es (with_folder name es w) r
         by2 es o (Err why) h = absurd h
         by2 es o (Ok new) h =
             let is = allowed-ok X N p a.told c.told _ new f h in
             let came = beside both after more (blocks X N p (Dir new)) folder es good o is.after in
-            on-over both after more _ folder es (allowed X N p (Ok (with_child name (Dir new) es))) r o came
+            changes-over both after more (blocks X N p (Dir new)) folder es (Ok (with_child name (Dir new) es)) r o came
             (puts (Dir new) is.plan es (over-then both after more (blocks X N p (Dir new)) folder folder es es (are-good X N p (Dir new)) o.plan o came))
 
         by : (es : Entries) → IsFolderOver X N p a d more folder es → (w : Result Entries Refused) → EditsAfter X N a.told b.told (blocks X N p (Dir es)) p w (Ok e)
-            → EditsAfter X N a.told d.told (more ++ blocks X N p (Dir es)) p (allowed X N p (with_folder name es (and_then w go))) r
+            → ChangesOver X N p a d more es (with_folder name es (and_then w go)) r
         by es o (Err why) h = absurd h
         by es o (Ok below) h = by2 es o (go below) (step-edit folder e more es below go (Ok f) good before middle (over-first both after more folder es o) h edits)
+
+    -- where the folder below stays as it is, so does the folder
+    pub path-none : {fault : Option StoreFault} (folder e : Entry) (more : List Held) (name : List ℕ) (led : ℕ) (go : Entries → Result Entries Refused) → AreGood X more → OnlySaves X Bad None a b
+        → ((es : Entries) → IsFolderOver X N p a b [] folder es → Decides (λ es e. IsAgreed X N a.told p e (Dir es)) (as_folder led (child name es)) (Ok e))
+        → OnlySaves X Other fault b c → ((fs : Entries) → IsFolderOver X N p b c more e fs → go fs ≡ Ok fs)
+        → (es : Entries) → IsFolderOver X N p a c more folder es → with_folder name es (and_then (as_folder led (child name es)) go) ≡ Ok es
+    path-none {fault} folder e more name led go good before found after same es o = by (child name es) refl (found es first) (folder-there led folder e name before found es first)
+      where
+        first : IsFolderOver X N p a b [] folder es
+        first = over-first before after [] folder es (record { plan = o.plan; stays = stays-some a.told c.told _ _ (back-among more (blocks X N p (Dir es))) o.stays; calm = o.calm })
+
+        by : (m : Option Tree) → child name es ≡ m → Decides (λ es e. IsAgreed X N a.told p e (Dir es)) (as_folder led m) (Ok e) → EditsAfter X N a.told b.told (blocks X N p (Dir es)) p (as_folder led m) (Ok e)
+            → with_folder name es (and_then (as_folder led m) go) ≡ Ok es
+        by None is h k = absurd h
+        by (Some (File m bytes)) is h k = absurd h
+        by (Some (Dir fs)) is h k =
+            ap (with_folder name es) (same fs (over-then before after more more folder e es fs good k.plan o (below-over before after more folder e es fs good o k)))
+            ∙ ap (λ (es : Entries). Ok es) (with-same name (Dir fs) es o.plan.tree is)

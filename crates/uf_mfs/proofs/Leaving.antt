@@ -1,16 +1,22 @@
--- An edit that leaves the bytes of a file that is there leaves the tree.
-use Rattle.std.proofs.Common.{◌≡◌, ℕ, ◌+◌, List, [], ◌∷◌, refl, ap, ◌∙◌, Bool, true, false, cond, Option, Some, None, Result, Ok, Err}
-use Rattle.std.specs.Prelude.{IsTrue, is_ok, length, not}
+-- An edit that leaves the bytes of a file that is there leaves its folder.
+use Rattle.std.proofs.Common.{◌≡◌, ℕ, List, [], ◌∷◌, refl, ap, ◌∙◌, Bool, true, false, cond, Option, Some, None, Result, Ok}
+use Rattle.std.specs.Prelude.{IsTrue, not}
+use Rattle.uf_store.specs.Contents.{Told}
 use Rattle.uf_tree.specs.declared.meta.Meta.{Meta}
-use Rattle.uf_tree.specs.Tree.{Tree, File, Dir, Entries, is_tree}
+use Rattle.uf_tree.specs.declared.profile.Profile.{Profile}
+use Rattle.uf_tree.specs.Tree.{Tree, File, Dir, Entries, fold, is_tree}
+use Rattle.uf_tree.specs.TreePlan.{Refusal, planned}
 use Rattle.uf_plain.specs.declared.file.FileEdit.{FileEdit}
 use Rattle.uf_plain.specs.declared.file.FileEdit.TheVariants.{Write, Truncate}
 use Rattle.uf_plain.specs.declared.rule.Refused.{Refused}
-use Rattle.uf_plain.specs.declared.rule.Refused.TheVariants as why
-use Rattle.uf_plain.specs.Edits.{and_then, as_folder, at, child, edited, with_child, with_folder}
-use Rattle.uf_plain.specs.Files.{as_file_or_new, as_plain_file, file_edited, kept_meta, new_bytes, plain_bytes_at, rewritten, with_bytes}
-use Rattle.uf_plain.proofs.Edited.{child-tree, with-same}
-use Rattle.uf_mfs.specs.Writes.{leaves_bytes}
+use Rattle.uf_plain.specs.Edits.{and_then, child, with_child}
+use Rattle.uf_plain.specs.Files.{as_file_or_new, fitting, kept_meta, new_bytes, rewritten}
+use Rattle.uf_plain.specs.Rules.{unless}
+use Rattle.uf_plain.proofs.Edited.{with-same}
+use Rattle.uf_mfs.specs.declared.thing.Thing.{Thing}
+use Rattle.uf_mfs.specs.declared.thing.Thing.TheVariants.{File as FileAt, Folder as FolderAt}
+use Rattle.uf_mfs.specs.Standing.{IsAgreedMember}
+use Rattle.uf_mfs.specs.Writes.{fitting_bytes, leaves_bytes, leaves_found, with_fitting}
 
 -- the file has the bytes that it had
 left-bytes : (what : FileEdit) (x : List ℕ) (led : ℕ) (m : Meta) (old : List ℕ) → leaves_bytes what x ≡ true
@@ -26,42 +32,22 @@ left-bytes (Write how) [] led m old leaves = by how.create how.cut leaves
 left-bytes (Write how) (z ∷ x) led m old leaves = absurd cc
 left-bytes (Truncate size) x led m old leaves = absurd cc
 
-left-edited : (what : FileEdit) (x : List ℕ) (led : ℕ) (name : List ℕ) (names : List (List ℕ)) (es : Entries) (k : Meta) (bytes : List ℕ) → leaves_bytes what x ≡ true → IsTrue (is_tree (Dir es))
-    → at led (name ∷ names) (Dir es) ≡ Ok (File k bytes) → edited (with_bytes what x) led name names es ≡ Ok es
-left-edited what x led name [] es k bytes leaves tree found = by (child name es) refl found
-  where
-    by : (o : Option Tree) → child name es ≡ o
-        → (elim o as (λ o. Result Tree Refused) [ None ↦ Err (why.NotFound (led + 1)) | Some t ↦ at (led + 1) [] t ]) ≡ Ok (File k bytes)
-        → and_then (new_bytes what x (led + 1) o) (λ bytes. Ok (with_child name (File (kept_meta o) bytes) es)) ≡ Ok es
-    by None is h = absurd cc
-    by (Some (File m old)) is h =
-        ap (λ (w : Result (List ℕ) Refused). and_then w (λ bytes. Ok (with_child name (File m bytes) es))) (left-bytes what x (led + 1) m old leaves)
-        ∙ ap (λ (es : Entries). Ok es) (with-same name (File m old) es tree is)
-    by (Some (Dir fs)) is h = absurd cc
-left-edited what x led name (next ∷ names) es k bytes leaves tree found = by (left-edited what x (led + 1) next names) (child name es) refl found
-  where
-    by : ((fs : Entries) (k : Meta) (bytes : List ℕ) → leaves_bytes what x ≡ true → IsTrue (is_tree (Dir fs)) → at (led + 1) (next ∷ names) (Dir fs) ≡ Ok (File k bytes)
-        → edited (with_bytes what x) (led + 1) next names fs ≡ Ok fs)
-        → (o : Option Tree) → child name es ≡ o
-        → (elim o as (λ o. Result Tree Refused) [ None ↦ Err (why.NotFound (led + 1)) | Some t ↦ at (led + 1) (next ∷ names) t ]) ≡ Ok (File k bytes)
-        → with_folder name es (and_then (as_folder (led + 1) o) (λ below. edited (with_bytes what x) (led + 1) next names below)) ≡ Ok es
-    by rec None is h = absurd cc
-    by rec (Some (File m old)) is h = absurd cc
-    by rec (Some (Dir fs)) is h =
-        ap (with_folder name es) (rec fs k bytes leaves (child-tree name (Dir fs) es tree is) h)
-        ∙ ap (λ (es : Entries). Ok es) (with-same name (Dir fs) es tree is)
-
-found-file : (w : Result Tree Refused) (k : ℕ) → is_ok (and_then w (as_plain_file k)) ≡ true
-    → (m : Meta) × (bytes : List ℕ) × (w ≡ Ok (File m bytes))
-found-file (Ok (File m bytes)) k h = (m, bytes, refl)
-found-file (Ok (Dir es)) k h = absurd cc
-found-file (Err given) k h = absurd cc
-
--- where the names lead to a file the tree is as it was
-pub left-whole : (what : FileEdit) (x : List ℕ) (names : List (List ℕ)) (es : Entries) → leaves_bytes what x ≡ true
-    → IsTrue (is_tree (Dir es))
-    → is_ok (plain_bytes_at names es) ≡ true → file_edited what x 0 names es ≡ Ok es
-left-whole what x [] es leaves tree found = absurd cc
-left-whole what x (name ∷ names) es leaves tree found =
-    let file = found-file (at 0 (name ∷ names) (Dir es)) (length (name ∷ names)) found in
-    left-edited what x 0 name names es file.0 file.1 leaves tree file.2
+module _ (X : List ℕ → List ℕ) (N : List ℕ → ℕ) (p : Profile) where
+  -- so its folder stays as it is
+  pub left-file : (told : Told) (what : FileEdit) (x : List ℕ) (led : ℕ) (name : List ℕ) (es : Entries) (found : Option Thing) → IsTrue (is_tree (Dir es))
+      → IsAgreedMember X N told p (child name es) found → leaves_found what x found ≡ true → with_fitting p what x led name es ≡ Ok es
+  unfolding planned fold
+  left-file told what x led name es found tree member leaves = by (child name es) found refl member leaves
+    where
+      by : (o : Option Tree) (found : Option Thing) → child name es ≡ o → IsAgreedMember X N told p o found → leaves_found what x found ≡ true
+          → and_then (fitting_bytes p what x led o) (λ bytes. Ok (with_child name (File (kept_meta o) bytes) es)) ≡ Ok es
+      by None None is h leaves = absurd cc
+      by None (Some thing) is h leaves = absurd h
+      by (Some t) None is h leaves = absurd h
+      by (Some (File m bytes)) (Some (FileAt e size)) is h leaves =
+          ap (λ (w : Result (List ℕ) Refused). and_then (and_then w (fitting p)) (λ bytes. Ok (with_child name (File m bytes) es))) (left-bytes what x led m bytes leaves)
+          ∙ ap (λ (o : Option Refusal). and_then (unless bytes o) (λ bytes. Ok (with_child name (File m bytes) es))) h.0.plan.planned
+          ∙ ap (λ (es : Entries). Ok es) (with-same name (File m bytes) es tree is)
+      by (Some (File m bytes)) (Some (FolderAt e root)) is h leaves = absurd h
+      by (Some (Dir fs)) (Some (FileAt e size)) is h leaves = absurd h
+      by (Some (Dir fs)) (Some (FolderAt e root)) is h leaves = absurd cc

@@ -23,6 +23,7 @@ pub mod Planning
 pub mod Ranges
 pub mod Reaching
 pub mod Remade
+pub mod MetaEdits
 pub mod Removing
 pub mod Renewing
 pub mod Rooting

@@ -21,8 +21,8 @@ use Rattle.uf_tree.specs.Profiles.{is_profile}
 use Rattle.uf_tree.specs.Tree.{own_meta, Tree, Dir, Entries, pairs, is_tree}
 use Rattle.uf_tree.specs.TreePlan.{Refusal, blocks, dir_refusal, entry, first_refusal, named_entries, or_else, refusal}
 use Rattle.uf_tree.specs.Validity.{IsHash}
-use Rattle.uf_tree.proofs.TreeLaws.{pairs-entries, named_entries-with, named_entries-without}
-use Rattle.uf_sizes.proofs.Removed.{removed-plan}
+use Rattle.uf_tree.proofs.TreeLaws.{named_entries-with, named_entries-without}
+use Rattle.uf_laws.proofs.Removed.{removed-plan}
 use Rattle.uf_dir.specs.Bounds.{crossing, weighing_from}
 use Rattle.uf_dir.specs.Planned.{IsPlanned, dir_entry, entry_without, own_blocks}
 use Rattle.uf_plain.specs.declared.rule.Refused.{Refused}

@@ -1,12 +1,11 @@
 -- The plain tree after a change of the metadata of what is at some names.
-use Rattle.std.proofs.Common.{◌≡◌, ℕ, ◌+◌, List, [], ◌∷◌, length, refl, ap, sym, ◌∙◌, subst, arith, Bool, true, false, cond, Option, Some, None, Result, Ok, Err}
+use Rattle.std.proofs.Common.{◌≡◌, ℕ, ◌+◌, List, [], ◌∷◌, length, refl, ap, sym, ◌∙◌, arith, Bool, true, false, cond, Option, Some, None, Result, Ok, Err}
 use Rattle.std.specs.Prelude.{◌&&◌, IsTrue, fold, nat_lt}
 use Rattle.std.specs.declared.cmp.Ordering.TheVariants.{Less, Equal, Greater}
 use Rattle.std.specs.FinMap.Entries.{by_order, is_sorted, put}
 use Rattle.uf_tree.specs.declared.meta.Meta.{Meta}
 use Rattle.uf_tree.specs.declared.nodes.Entry.{Entry}
 use Rattle.uf_tree.specs.declared.profile.Profile.{Profile}
-use Rattle.uf_tree.specs.Changes.{with_name}
 use Rattle.uf_tree.specs.DirPlan.{weight}
 use Rattle.uf_tree.specs.Metas.{is_meta, none}
 use Rattle.uf_tree.specs.Names.{names_cmp}
@@ -22,9 +21,8 @@ use Rattle.uf_plain.specs.declared.rule.Refused.TheVariants as why
 use Rattle.uf_plain.specs.Edits.{and_then, as_folder, at, child, edited, with_child, with_folder}
 use Rattle.uf_plain.specs.Metas.{as_there, meta_after, meta_edited, remade, with_meta, with_remade}
 use Rattle.uf_plain.specs.Moves.{put_over}
-use Rattle.uf_plain.proofs.Edited.{child-tree, with-same}
+use Rattle.uf_plain.proofs.Edited.{with-same}
 use Rattle.uf_plain.proofs.Plans.{each-find}
-use Rattle.uf_mfs.specs.Remade.{with_meta_at}
 use Rattle.uf_mfs.specs.Standing.{IsPlanOf}
 use Rattle.uf_mfs.specs.Touches.{crossings, entries_at, entries_in}
 use Rattle.uf_mfs.proofs.Agreed.{Own, members-own}
@@ -42,7 +40,7 @@ pub remade-same : (what : MetaEdit) (t : Tree) → remade what t ≡ t → meta_
 remade-same what t is = sym (with-meta-of (meta_after what (meta_of t)) t) ∙ ap (λ (t : Tree). meta_of t) is
 
 -- and the other way round
-with-own : (t : Tree) → with_meta (meta_of t) t ≡ t
+pub with-own : (t : Tree) → with_meta (meta_of t) t ≡ t
 with-own (File m bytes) = refl
 with-own (Dir es) = ap (λ (es : Entries). Dir es) (entries-pairs es)
 
@@ -107,42 +105,9 @@ there-edit what led name (next ∷ names) es t is = by (λ fs is. there-edit wha
     by rec (Some (File m bytes)) is = absurd cc
     by rec (Some (Dir fs)) is = ap (with_folder name es) (rec fs is)
 
-pub edit-there : (what : MetaEdit) (names : List (List ℕ)) (es : Entries) (t : Tree) → at 0 names (Dir es) ≡ Ok t
-    → meta_edited what names es ≡ with_meta_at (meta_after what (meta_of t)) t names es
-edit-there what [] es t is = (let same : Dir es ≡ t = cc in ap (λ (t : Tree). Ok (entries (meta_after what (meta_of t)) (pairs es))) same)
-edit-there what (name ∷ names) es t is = there-edit what 0 name names es t is
-
--- ---- a tree that keeps its metadata
-
-left-edit : (what : MetaEdit) (led : ℕ) (name : List ℕ) (names : List (List ℕ)) (es : Entries) (t : Tree) → IsTrue (is_tree (Dir es)) → at led (name ∷ names) (Dir es) ≡ Ok t
-    → remade what t ≡ t → edited (with_remade what) led name names es ≡ Ok es
-left-edit what led name [] es t tree is same = by (child name es) refl is
-  where
-    by : (o : Option Tree) → child name es ≡ o → found (led + 1) [] o ≡ Ok t → and_then (as_there (led + 1) o) (λ t. Ok (with_child name (remade what t) es)) ≡ Ok es
-    by None there is = absurd cc
-    by (Some u) there is =
-        let one : u ≡ t = cc in
-        ap (λ (t : Tree). Ok (with_child name (remade what t) es)) one ∙ ap (λ (t : Tree). Ok (with_child name t es)) same
-        ∙ ap (λ (es : Entries). Ok es) (with-same name t es tree (there ∙ ap (λ (t : Tree). Some t) one))
-left-edit what led name (next ∷ names) es t tree is same = by (λ fs tree is. left-edit what (led + 1) next names fs t tree is same) (child name es) refl is
-  where
-    by : ((fs : Entries) → IsTrue (is_tree (Dir fs)) → at (led + 1) (next ∷ names) (Dir fs) ≡ Ok t → edited (with_remade what) (led + 1) next names fs ≡ Ok fs)
-        → (o : Option Tree) → child name es ≡ o → found (led + 1) (next ∷ names) o ≡ Ok t
-        → with_folder name es (and_then (as_folder (led + 1) o) (λ below. edited (with_remade what) (led + 1) next names below)) ≡ Ok es
-    by rec None there is = absurd cc
-    by rec (Some (File m bytes)) there is = absurd cc
-    by rec (Some (Dir fs)) there is =
-        ap (with_folder name es) (rec fs (child-tree name (Dir fs) es tree there) is)
-        ∙ ap (λ (es : Entries). Ok es) (with-same name (Dir fs) es tree there)
-
-pub edit-left : (what : MetaEdit) (names : List (List ℕ)) (es : Entries) (t : Tree) → IsTrue (is_tree (Dir es)) → at 0 names (Dir es) ≡ Ok t
-    → meta_after what (meta_of t) ≡ meta_of t → meta_edited what names es ≡ Ok es
-edit-left what [] es t tree is same =
-    let one : Dir es ≡ t = cc in
-    let own : meta_after what (own_meta es) ≡ own_meta es = subst (λ (t : Tree). meta_after what (meta_of t) ≡ meta_of t) (sym one) same in
-    ap (λ (m : Meta). Ok (entries m (pairs es))) own ∙ ap (λ (es : Entries). Ok es) (entries-pairs es)
-edit-left what (name ∷ names) es t tree is same =
-    left-edit what 0 name names es t tree is (ap (λ (m : Meta). with_meta m t) same ∙ with-own t)
+pub edit-there : (what : MetaEdit) (name : List ℕ) (names : List (List ℕ)) (es : Entries) (t : Tree) → at 0 (name ∷ names) (Dir es) ≡ Ok t
+    → meta_edited what (name ∷ names) es ≡ edited (put_over (remade what t)) 0 name names es
+edit-there what name names es t is = there-edit what 0 name names es t is
 
 -- ---- a tree put in the place of one that is there
 

@@ -6,8 +6,8 @@ use Rattle.std.specs.List.{list_all}
 use Rattle.std.proofs.lemmas.Bool.Decides.{nat_tests}
 use Rattle.uf_build.specs.declared.fault.BuildFault.{BuildFault}
 use Rattle.uf_build.specs.declared.fault.BuildFault.TheVariants.{FileTooLong, Spent, Store}
-use Rattle.uf_bytes.proofs.Laid.{all-cut, all-laid, laid-long, length-cut}
-use Rattle.uf_bytes.specs.Laying.{cut_to, laid}
+use Rattle.uf_tree.proofs.Laid.{all-cut, all-laid, laid-long, length-cut}
+use Rattle.uf_tree.specs.Laying.{cut_to, laid}
 use Rattle.uf_cid.specs.Blocks.{Held}
 use Rattle.uf_cid.specs.Bytes.{IsBytes}
 use Rattle.uf_edge.specs.Counts.{Stood}
@@ -53,7 +53,7 @@ use Rattle.uf_mfs.specs.declared.fault.Stop.{Stop}
 use Rattle.uf_mfs.specs.declared.fault.Stop.TheVariants as stop
 use Rattle.uf_mfs.specs.Answers.{Decides, EditsAfter}
 use Rattle.uf_mfs.specs.Standing.{IsAfter, IsPlanOf, TellsHeld}
-use Rattle.uf_mfs.specs.Steps.{EditsFolder, IsFolderOver, stop_fault}
+use Rattle.uf_mfs.specs.Steps.{ChangesFolder, ChangesOver, IsFolderOver, stop_fault}
 use Rattle.uf_fileedit.specs.Touches.{BlamedAfter, TouchedFirst}
 use Rattle.uf_mfs.specs.Touches.{CountsUp, TouchesFolder, crossings_of, entries_at}
 use Rattle.uf_mfs.specs.Bad.{IsBadInTree, RequiresDirectory}
@@ -62,7 +62,7 @@ use Rattle.uf_mfs.specs.Writes.{MakesFile, IsBadInSome, IsBadWrittenIn, IsFileOv
 use Rattle.uf_mfs.proofs.After.{after-held, after-kept, after-some, loss-after, onward}
 use Rattle.uf_mfs.proofs.Agreed.{child-among}
 use Rattle.uf_mfs.proofs.Files.{few, rooted}
-use Rattle.uf_mfs.proofs.Folders.{beside, on-over, over-then}
+use Rattle.uf_mfs.proofs.Folders.{beside, changes-over, over-then}
 use Rattle.uf_mfs.proofs.Hinge.{are-good}
 use Rattle.uf_mfs.proofs.Moving.{lost-edit}
 use Rattle.uf_mfs.proofs.Ranges.{file-agrees, is-file}
@@ -446,11 +446,11 @@ module _ (X : List ℕ → List ℕ) (N : List ℕ → ℕ) (p : Profile) where
     beside-it : IsFolderOver X N p b c (blocks X N p file) folder es
     beside-it = over-then X N p before after [] (blocks X N p file) folder folder es es (are-good X N p file) o.plan o came
 
-    pub member-put : (r : Result Entry Stop)
-        → ((t : Tree) → IsPlanOf X N p new t → EditsFolder X N p b c (blocks X N p t) folder (λ es. Ok (with_child name t es)) r)
-        → EditsAfter X N a.told c.told (blocks X N p (Dir es)) p (allowed X N p (with_fitting p what x led name es)) r
-    member-put r puts = subst (λ (w : Result Entries Refused). EditsAfter X N a.told c.told (blocks X N p (Dir es)) p (allowed X N p w) r) (sym m.puts)
-        (on-over X N p before after [] _ folder es (allowed X N p (Ok (with_child name file es))) r o came (puts file m.is.plan es beside-it))
+    pub member-put : (r : Result (Option Entry) Stop)
+        → ((t : Tree) → IsPlanOf X N p new t → ChangesFolder X N p b c (blocks X N p t) folder (λ es. Ok (with_child name t es)) r)
+        → ChangesOver X N p a c [] es (with_fitting p what x led name es) r
+    member-put r puts = subst (λ (w : Result Entries Refused). ChangesOver X N p a c [] es w r) (sym m.puts)
+        (changes-over X N p before after [] (blocks X N p file) folder es (Ok (with_child name file es)) r o came (puts file m.is.plan es beside-it))
 
     pub member-touches : (n t0 t1 t2 : ℕ) → t1 ≤ t0 + (2 + n)
         → ((t : Tree) → IsPlanOf X N p new t → TouchesFolder X N p b c (blocks X N p t) folder (λ es. 17 + crossing X N p (named_entries X N p es) (named_entries X N p (with_child name t es))) t1 t2)

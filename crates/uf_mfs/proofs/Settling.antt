@@ -1,5 +1,6 @@
 -- What an edit of the tree in memory answers, over all blocks held and over some lost.
 use Rattle.std.proofs.Common.{◌≡◌, ℕ, ◌++◌, List, [], refl, ap, sym, ◌∙◌, subst, Result, Ok, Err}
+use Rattle.std.specs.Prelude.{IfOk, OnErr}
 use Rattle.uf_edge.specs.Counts.{Stood}
 use Rattle.uf_cid.specs.Blocks.{Held}
 use Rattle.uf_store.specs.Contents.{Told}
@@ -22,6 +23,13 @@ use Rattle.uf_mfs.specs.Steps.{GivesFolder, IsFolderOver, MovesTree}
 use Rattle.uf_mfs.proofs.Agreed.{plan-of}
 use Rattle.uf_mfs.proofs.Hinge.{are-good}
 use Rattle.uf_mfs.proofs.Holding.{append, loss-fault, tells-after, tells-agrees, tells-append, tells-kept, wants}
+
+-- an edit that leaves the root leaves the tree in memory
+pub settled-same : (names : List (List ℕ)) (e : Result Entry Stop) (was is : Mfs) (r : Result Unit MfsFault) → Settles names e was is r → OnErr r (is ≡ was) → IfOk e (λ root. root ≡ was.root) → is ≡ was
+settled-same names (Ok root) was is (Ok done) s refused h = s ∙ ap (λ (root : Entry). record { profile = was.profile; root = root }) h
+settled-same names (Ok root) was is (Err given) s refused h = absurd s
+settled-same names (Err stopped) was is (Ok done) s refused h = absurd s
+settled-same names (Err stopped) was is (Err given) s refused h = refused
 
 module _ (X : List ℕ → List ℕ) (N : List ℕ → ℕ) where
   -- an edit of the root is one of the tree in memory

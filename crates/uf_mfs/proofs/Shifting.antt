@@ -26,7 +26,9 @@ use Rattle.uf_mfs.specs.declared.thing.Thing.TheVariants.{File as FileAt, Folder
 use Rattle.uf_mfs.specs.Answers.{EditsAfter}
 use Rattle.uf_mfs.specs.Moving.{GivesOr, entry_in, put_crossings, shift_crossings}
 use Rattle.uf_mfs.specs.Standing.{IsAgreedThing, IsPlanOf}
-use Rattle.uf_mfs.specs.Steps.{EditsFolder, GivesFolder, IsFolderOver, changed_at}
+use Rattle.uf_mfs.specs.Acts.{acted_at}
+use Rattle.uf_mfs.specs.declared.editing.Act.TheVariants.{Change}
+use Rattle.uf_mfs.specs.Steps.{EditsFolder, GivesFolder, IsFolderOver}
 use Rattle.uf_mfs.specs.Touches.{crossings_of, weighing_at}
 use Rattle.uf_mfs.proofs.After.{after-both, after-kept, after-some}
 use Rattle.uf_mfs.proofs.Folders.{on-over, over-first, over-then}
@@ -48,22 +50,22 @@ allowed-stop X N p May P Q (Err rule) fault.Sink h = h
 allowed-stop X N p May P Q (Err rule) (fault.Store f) h = h
 
 -- a put at names
-pub puts-at : (e : Entry) (t : Tree) (names : List (List ℕ)) (es : Entries) → changed_at (Put e) t names es ≡ edited_at (put_over t) names es
-puts-at e t [] es = refl
-puts-at e t (name ∷ names) es = refl
+pub puts-at : (p : Profile) (e : Entry) (t : Tree) (names : List (List ℕ)) (es : Entries) → acted_at p (Change (Put e)) [] t names es ≡ edited_at (put_over t) names es
+puts-at p e t [] es = refl
+puts-at p e t (name ∷ names) es = refl
 
 module _ (X : List ℕ → List ℕ) (N : List ℕ → ℕ) (p : Profile) where
-  pub put-after : (a b : Told) (old : List Held) (e : Entry) (t : Tree) (names : List (List ℕ)) (es : Entries) (r : Result Entry Stop) → EditsAfter X N a b old p (allowed X N p (changed_at (Put e) t names es)) r
+  pub put-after : (a b : Told) (old : List Held) (e : Entry) (t : Tree) (names : List (List ℕ)) (es : Entries) (r : Result Entry Stop) → EditsAfter X N a b old p (allowed X N p (acted_at p (Change (Put e)) [] t names es)) r
       → EditsAfter X N a b old p (allowed X N p (edited_at (put_over t) names es)) r
-  put-after a b old e t names es r h = subst (λ w. EditsAfter X N a b old p (allowed X N p w) r) (puts-at e t names es) h
+  put-after a b old e t names es r h = subst (λ w. EditsAfter X N a b old p (allowed X N p w) r) (puts-at p e t names es) h
 
-  pub put-crossed : (e : Entry) (t : Tree) (names : List (List ℕ)) (es : Entries) (t0 t1 : ℕ) → t1 ≤ t0 + (40 * length names + crossings_of X N p names es (changed_at (Put e) t names es) + 0)
+  pub put-crossed : (e : Entry) (t : Tree) (names : List (List ℕ)) (es : Entries) (t0 t1 : ℕ) → t1 ≤ t0 + (40 * length names + crossings_of X N p names es (acted_at p (Change (Put e)) [] t names es) + 0)
       → t1 ≤ t0 + (40 * length names + crossings_of X N p names es (edited_at (put_over t) names es))
-  put-crossed e t names es t0 t1 h = subst (λ w. t1 ≤ t0 + (40 * length names + crossings_of X N p names es w)) (puts-at e t names es) (omega (arith, h))
+  put-crossed e t names es t0 t1 h = subst (λ w. t1 ≤ t0 + (40 * length names + crossings_of X N p names es w)) (puts-at p e t names es) (omega (arith, h))
 
-  pub taken-crossed : (names : List (List ℕ)) (es : Entries) (t0 t1 : ℕ) → t1 ≤ t0 + (40 * length names + crossings_of X N p names es (changed_at (Remove true) (Dir (Nothing none)) names es) + weighing_at X N p names es)
+  pub taken-crossed : (names : List (List ℕ)) (es : Entries) (t0 t1 : ℕ) → t1 ≤ t0 + (40 * length names + crossings_of X N p names es (acted_at p (Change (Remove true)) [] (Dir (Nothing none)) names es) + weighing_at X N p names es)
       → t1 ≤ t0 + (40 * length names + crossings_of X N p names es (removed true names es) + weighing_at X N p names es)
-  taken-crossed names es t0 t1 h = subst (λ w. t1 ≤ t0 + (40 * length names + crossings_of X N p names es w + weighing_at X N p names es)) (removes-at true names es) h
+  taken-crossed names es t0 t1 h = subst (λ w. t1 ≤ t0 + (40 * length names + crossings_of X N p names es w + weighing_at X N p names es)) (removes-at p true names es) h
 
   -- that a tree has no plan is told without a path
   pub told-allowed : (names : List (List ℕ)) (w : Result Entries Refused) → allowed_move X N p (told_of names w) ≡ told_of names (allowed X N p w)

@@ -1,7 +1,7 @@
 -- Touches of edits along a path, over calls in a row.
 use Rattle.std.proofs.Common.{◌≡◌, ℕ, ◌+◌, ◌*◌, ◌≤◌, List, [], ◌∷◌, ◌++◌, Bool, cond, refl, ap, sym, ◌∙◌, subst, arith, Option, Some, None, Result, Ok, Err, length}
 use Rattle.std.specs.Cmp.{eq_by_cmp_equiv}
-use Rattle.std.specs.FinMap.Entries.{find, find-put, put}
+use Rattle.std.specs.FinMap.Entries.{find, find-put}
 use Rattle.uf_cid.specs.Blocks.{Held}
 use Rattle.uf_store.specs.declared.store.Role.{Role}
 use Rattle.uf_store.specs.declared.store.StoreFault.{StoreFault}
@@ -16,7 +16,6 @@ use Rattle.uf_tree.specs.Metas.{none}
 use Rattle.uf_tree.specs.Tree.{Tree, File, Dir, Entries, Nothing, pairs}
 use Rattle.uf_tree.specs.TreePlan.{blocks, named_entries}
 use Rattle.uf_tree.proofs.ShardLaws.{names_total}
-use Rattle.uf_tree.proofs.TreeLaws.{pairs-entries}
 use Rattle.uf_dir.specs.Bounds.{crossing}
 use Rattle.uf_plain.specs.declared.change.Change.{Change}
 use Rattle.uf_plain.specs.declared.change.Change.TheVariants.{Make, Put, Remove}

@@ -1,5 +1,5 @@
 -- Texts of a Head in both versions.
-use Rattle.std.proofs.Common.{Bor, ◌≡◌, ℕ, arith, get_or, List, [], ◌∷◌, ◌++◌, ◌⊎◌, inl, inr, refl, ap, sym, ◌∙◌, Bool, true, Option, None, Some}
+use Rattle.std.proofs.Common.{Bor, ◌≡◌, ℕ, arith, get_or, List, ◌++◌, ◌⊎◌, inl, inr, refl, ap, sym, ◌∙◌, Bool, Option}
 use Rattle.std.specs.Prelude.{Decides, MatchOption, codes, ◌≢◌}
 use Rattle.std.specs.Fmt.{decimal}
 use Rattle.uf_cid.specs.Cid.{cid_text}

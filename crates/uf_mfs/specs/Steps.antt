@@ -1,5 +1,5 @@
 -- Steps below a command: the store's fault in what they answer, and what an edit of a folder does.
-use Rattle.std.specs.Prelude.{◌≡◌, ℕ, List, [], ◌∷◌, ◌++◌, Bool, true, false}
+use Rattle.std.specs.Prelude.{◌≡◌, ℕ, List, ◌++◌, Bool, true, false}
 use Rattle.std.specs.declared.option.Option.{Option}
 use Rattle.std.specs.declared.option.Option.TheVariants.{None, Some}
 use Rattle.std.specs.declared.result.Result.{Result}
@@ -18,7 +18,6 @@ use Rattle.uf_plain.specs.declared.change.Change.{Change}
 use Rattle.uf_plain.specs.declared.change.Change.TheVariants.{Make, Put, Remove}
 use Rattle.uf_plain.specs.declared.rule.Refused.{Refused}
 use Rattle.uf_plain.specs.declared.rule.Refused.TheVariants.{Exists, RootRefused}
-use Rattle.uf_plain.specs.Edits.{change, edited}
 use Rattle.uf_plain.specs.Rules.{allowed}
 use Rattle.uf_mfs.specs.declared.fault.MfsFault.{MfsFault}
 use Rattle.uf_mfs.specs.declared.fault.MfsFault.TheVariants as fault
@@ -59,13 +58,20 @@ module _ (X : List ℕ → List ℕ) (N : List ℕ → ℕ) (p : Profile) (befor
   abbrev pub EditsFolder : Entry → (Entries → Result Entries Refused) → Result Entry Stop → Type 0
   EditsFolder folder edit result = GivesFolder folder (λ es. allowed X N p (edit es)) result
 
-module _ (X : List ℕ → List ℕ) (N : List ℕ → ℕ) (before now : Seen) where
-  -- every missing folder along some names is made: with no entry each was there
-  abbrev pub FillsFolder : Profile → Entry → (Entries → Result Entries Refused) → Result (Option Entry) Stop → Type 0
-  FillsFolder p folder fill (Ok None) = (es : Entries) → IsFolderOver X N p before now [] folder es → fill es ≡ Ok es
-  FillsFolder p folder fill (Ok (Some entry)) = EditsFolder X N p before now [] folder fill (Ok entry)
-  FillsFolder p folder fill (Err given) = EditsFolder X N p before now [] folder fill (Err given)
+  -- of the folder of these entries this edit is answered, with no entry where it stays as it is
+  abbrev pub ChangesOver : Entries → Result Entries Refused → Result (Option Entry) Stop → Type 0
+  ChangesOver es next (Ok None) = next ≡ Ok es
+  ChangesOver es next (Ok (Some e)) =
+      EditsAfter X N before.told now.told (more ++ blocks X N p (Dir es)) p (allowed X N p next) (Ok e)
+  ChangesOver es next (Err given) =
+      EditsAfter X N before.told now.told (more ++ blocks X N p (Dir es)) p (allowed X N p next) (Err given)
 
+  -- the same of each such folder
+  abbrev pub ChangesFolder : Entry → (Entries → Result Entries Refused) → Result (Option Entry) Stop → Type 0
+  ChangesFolder folder edit result =
+      (es : Entries) → IsFolderOver folder es → ChangesOver es (edit es) result
+
+module _ (X : List ℕ → List ℕ) (N : List ℕ → ℕ) (before now : Seen) where
   -- the tree in memory moves to the next one, or is refused, or one of the old tree's blocks or of these others is lost
   abbrev pub MovesTree : List Held → (was is : Mfs) → List (List ℕ) → (Profile → Entries → Result Entries Refused)
       → Result Unit MfsFault → Type 0
@@ -79,10 +85,11 @@ refused_root Make = Exists 0
 refused_root (Put e) = RootRefused
 refused_root (Remove recursive) = RootRefused
 
--- the tree after an edit at these names
-abbrev pub changed_at : Change → Tree → List (List ℕ) → Entries → Result Entries Refused
-changed_at what t [] es = Err (refused_root what)
-changed_at what t (name ∷ names) es = edited (change what t) 0 name names es
+-- the folder after an edit: as it is, where there is no new entry
+abbrev pub entry_or : Entry → Result (Option Entry) Stop → Result Entry Stop
+entry_or folder (Ok None) = Ok folder
+entry_or folder (Ok (Some e)) = Ok e
+entry_or folder (Err given) = Err given
 
 -- a folder that was there or is new, by its entry
 abbrev pub opened : Result (Entry × Bool) Stop → Result Entry Stop

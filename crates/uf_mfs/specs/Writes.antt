@@ -1,5 +1,5 @@
 -- A file of the tree written into and cut.
-use Rattle.std.specs.Prelude.{◌≡◌, ◌⊎◌, ◌+◌, ◌*◌, ℕ, List, [], ◌∷◌, length, max, Bool, false, not, nat_lt}
+use Rattle.std.specs.Prelude.{◌≡◌, ◌⊎◌, ◌+◌, ℕ, List, [], ◌∷◌, length, max, Bool, false, not, nat_lt}
 use Rattle.std.specs.Prelude.{if◌then◌else◌}
 use Rattle.std.specs.declared.option.Option.{Option}
 use Rattle.std.specs.declared.option.Option.TheVariants.{None, Some}
@@ -28,17 +28,18 @@ use Rattle.uf_plain.specs.declared.file.FileEdit.TheVariants.{Write, Truncate}
 use Rattle.uf_plain.specs.declared.rule.Refused.{Refused}
 use Rattle.uf_plain.specs.declared.rule.Refused.TheVariants as why
 use Rattle.uf_plain.specs.Edits.{and_then, child, edited, with_child}
-use Rattle.uf_plain.specs.Files.{begun, file_edited, fitting, kept_meta, new_bytes, rewritten}
+use Rattle.uf_plain.specs.Files.{begun, fitting, kept_meta, new_bytes, rewritten}
 use Rattle.uf_mfs.specs.declared.fault.Stop.{Stop}
 use Rattle.uf_mfs.specs.declared.fault.Stop.TheVariants as stop
+use Rattle.uf_mfs.specs.declared.thing.Thing.{Thing}
+use Rattle.uf_mfs.specs.declared.thing.Thing.TheVariants.{File as FileAt, Folder as FolderAt}
 use Rattle.uf_mfs.specs.declared.writing.Start.{Start}
 use Rattle.uf_mfs.specs.declared.writing.Start.TheVariants.{Empty, There}
 use Rattle.uf_mfs.specs.Answers.{MeetsOr}
 use Rattle.uf_mfs.specs.Bad.{IsBadInTree}
 use Rattle.uf_mfs.specs.Standing.{IsAfter, IsAgreed, IsPlanOf}
-use Rattle.uf_mfs.specs.Reading.{AreHeights, rows_with}
-use Rattle.uf_mfs.specs.Steps.{EditsFolder}
-use Rattle.uf_mfs.specs.Touches.{TouchesFolder, crossings_of, entries_at, touch_bound}
+use Rattle.uf_mfs.specs.Reading.{rows_with}
+use Rattle.uf_mfs.specs.Touches.{entries_at, touch_bound}
 
 -- a block that isn't canonical at its place in some file
 abbrev pub IsBadInSome : (List ℕ → List ℕ) → Profile → Told → Role → List ℕ → Type 0
@@ -64,6 +65,12 @@ abbrev pub leaves_bytes : FileEdit → List ℕ → Bool
 leaves_bytes (Write how) [] = not how.cut
 leaves_bytes (Write how) (z ∷ x) = false
 leaves_bytes (Truncate size) piece = false
+
+-- and so those of what was found under its name, where that is a file
+abbrev pub leaves_found : FileEdit → List ℕ → Option Thing → Bool
+leaves_found what piece None = false
+leaves_found what piece (Some (FileAt e size)) = leaves_bytes what piece
+leaves_found what piece (Some (FolderAt e root)) = false
 
 -- the member of the last of these names
 abbrev pub member_at : List (List ℕ) → Entries → Option Tree
@@ -131,18 +138,6 @@ module _ (X : List ℕ → List ℕ) (N : List ℕ → ℕ) (p : Profile) (befor
   abbrev pub MakesFile : List Held → Meta → Result (List ℕ) Refused → Result Entry Stop → Type 0
   MakesFile old m bytes result = MeetsOr (IsLossOf before.told old)
       (λ bytes e. IsAfter X N before.told now.told old p e (File m bytes)) bytes result
-
-  -- an edit of the file that these names lead to from the root
-  abbrev pub EditsFileAt : FileEdit → List ℕ → (root : Entry) → List (List ℕ) → Result Entry Stop → Type 0
-  EditsFileAt what piece root names result =
-      EditsFolder X N p before now [] root (file_edited what piece 0 names) result
-
-  -- over a tree of this root so many touches are enough for each name, and those of the edit
-  abbrev pub TouchesFileAt : (each : ℕ) → FileEdit → List ℕ → (root : Entry) → List (List ℕ) → (was is : ℕ) → Type 0
-  TouchesFileAt each what piece root names was is = (rows : ℕ → ℕ) → AreHeights p rows
-      → TouchesFolder X N p before now [] root (λ es. each * length names
-      + crossings_of X N p names es (fitting_edit p what piece names es)
-      + file_touches p rows what piece (member_at names es)) was is
 
 -- an edit of the file at these names: a few touches for each, those of directories that become sharded or basic, and
 -- those of the file

@@ -1,25 +1,29 @@
 // Edits of the tree.
-ghost use Rattle.std.specs.Prelude.{◌≡◌, ◌+◌, ◌*◌, [], length, IfOk, IsTrue, None, OnErr, Ok, Some, false, true};
-ghost use Rattle.uf_cid.specs.declared.cid.Codec.TheVariants.{DagPb};
+ghost use Rattle.std.specs.Prelude.{◌≡◌, ◌+◌, ◌*◌, ◌≤◌, [], List, ℕ, length, IfOk, IfSome, IsTrue, None, OnErr, Ok};
+ghost use Rattle.std.specs.Prelude.{Some, true};
 ghost use Rattle.uf_edge.specs.Counts.{Stood};
 ghost use Rattle.uf_store.specs.Keeping.{KeepsGood};
 ghost use Rattle.uf_store.specs.Writing.{SavesOnly};
 ghost use Rattle.uf_tree.specs.declared.profile.Profile.{Profile as TheProfile};
 ghost use Rattle.uf_tree.specs.Profiles.{is_profile};
 ghost use Rattle.uf_tree.specs.Tree.{Dir, Entries, Tree};
+ghost use Rattle.uf_cid.specs.Blocks.{Held};
 ghost use Rattle.uf_dir.specs.Roots.{IsRootCid};
+ghost use Rattle.uf_mfs.specs.Acts.{HasRows, IsActMeant, IsBadActed, LeavesTree, act_brought, act_touches, acted_at};
+ghost use Rattle.uf_mfs.specs.Acts.{acted_root, is_act, root_touches};
 ghost use Rattle.uf_mfs.specs.Answers.{Moves, MovesTo, Settles, ShownInTree};
-ghost use Rattle.uf_mfs.specs.Bad.{IsBadInTree};
+ghost use Rattle.uf_mfs.specs.Bad.{IsBadInTree, RequiresDirectory};
 ghost use Rattle.uf_store.specs.Calls.{OnlySaves};
 ghost use Rattle.uf_plain.specs.Edits.{at, made, removed};
 ghost use Rattle.uf_plain.specs.Rules.{allowed};
-ghost use Rattle.uf_mfs.specs.Standing.{IsMeant, IsMfs, StandsAt, StandsOver, brought};
-ghost use Rattle.uf_mfs.specs.Steps.{EditsFolder, MovesTree, changed_at, refused_root, stop_fault, tree_fault};
-ghost use Rattle.uf_mfs.specs.Touches.{CountsUp, TouchesFolder, crossings_of, touch_bound, weighing_at, weighing_of};
+ghost use Rattle.uf_mfs.specs.Standing.{IsAgreed, IsMfs, StandsAt, StandsOver};
+ghost use Rattle.uf_mfs.specs.Steps.{ChangesFolder, EditsFolder, MovesTree, entry_or, stop_fault, tree_fault};
+ghost use Rattle.uf_mfs.specs.Touches.{CountsUp, TouchesFolder, crossings_of, touch_bound, weighing_at};
 
 use crate::editing::{Act, Site, edit, fill};
+use crate::remaking::remade;
 use crate::telling::fault_of;
-use crate::{Mfs, MfsFault, Stop};
+use crate::{Mfs, MfsFault, Stop, Thing};
 use std::alloc::Global;
 use std::sync::ledger::Ledger;
 use uf_murmur::NameHash;
@@ -105,8 +109,8 @@ impl Mfs {
         ensures touched { CountsUp (tree_fault result) touches.old touches.new }
     {
         let names = path.names.as_slice();
-        let what = Change::Remove(recursive);
-        let edited = self.changed_root::<S, N, L>(alloc, store, what, names, touches);
+        let what = Act::Change(Change::Remove(recursive));
+        let edited = self.edited_root::<S, N, L>(alloc, store, what, &[], names, touches);
         self.settled(alloc, names, edited)
     }
 
@@ -132,7 +136,7 @@ impl Mfs {
         }
     }
 
-    // The root with an empty folder at the names.
+    // The root with an empty folder at the names, or with `parents` at each name that is missing.
     fn made_root<S: Store, N: NameHash, L: Ledger>(
         &self,
         alloc: Global,
@@ -158,87 +162,118 @@ impl Mfs {
         ensures touched { CountsUp (stop_fault result) touches.old touches.new }
     {
         if parents {
-            self.all_made::<S, N, L>(alloc, store, names, touches)
+            let root = &self.root;
+            or_same(
+                root,
+                fill::<S, N, L>(alloc, store, &self.profile, 0, names, root, touches),
+            )
         } else {
-            self.changed_root::<S, N, L>(alloc, store, Change::Make, names, touches)
+            let what = Act::Change(Change::Make);
+            self.edited_root::<S, N, L>(alloc, store, what, &[], names, touches)
         }
     }
 
-    // The root with a folder at each of the names; it is the same where the last is there already.
-    fn all_made<S: Store, N: NameHash, L: Ledger>(
+    /// The root after an edit at the names; it is the same where nothing changes.
+    pub(crate) fn edited_root<S: Store, N: NameHash, L: Ledger>(
         &self,
         alloc: Global,
         store: &mut S,
+        what: Act,
+        piece: &[u8],
         names: &[Name],
         touches: &mut Steps<L>,
     ) -> Result<Entry, Stop>
         requires mfs { IsMfs self.now }
-        ensures edits { EditsFolder S.X.block32 N.name64 self.now.profile (S.seen store.old) (S.seen store.new) []
-            self.now.root (made true names.now) result }
-        ensures there { (p : TheProfile) (es below : Entries)
-            → StandsOver S.X.block32 N.name64 (S.seen store.old).told self.now p es
-            → Stood (S.seen store.old).faults (S.seen store.new).faults
-            → at 0 names.now (Dir es) ≡ Ok (Dir below) → ((S.seen store.new).told ≡ (S.seen store.old).told)
-            × IfOk result (λ e. e ≡ self.now.root) }
-        ensures saves { OnlySaves S.X.block32
-            (IsBadInTree S.X.block32 N.name64 (Some self.now.profile) self.now.root.cid) (stop_fault result)
-            (S.seen store.old) (S.seen store.new) }
-        ensures touches { TouchesFolder S.X.block32 N.name64 self.now.profile (S.seen store.old) (S.seen store.new) []
-            self.now.root (λ es. 40 * length names.now + crossings_of S.X.block32 N.name64 self.now.profile names.now es
-            (made true names.now es)) touches.old touches.new }
-        ensures touched { CountsUp (stop_fault result) touches.old touches.new }
-    {
-        match fill::<S, N, L>(alloc, store, &self.profile, 0, names, &self.root, touches)? {
-            None => Ok(self.root),
-            Some(new) => Ok(new),
-        }
-    }
-
-    /// The root after an edit at the names.
-    pub(crate) fn changed_root<S: Store, N: NameHash, L: Ledger>(
-        &self,
-        alloc: Global,
-        store: &mut S,
-        what: Change,
-        names: &[Name],
-        touches: &mut Steps<L>,
-    ) -> Result<Entry, Stop>
-        requires mfs { IsMfs self.now }
-        ensures edits { (t : Tree) → IsMeant S.X.block32 N.name64 self.now.profile what t
+        requires act { IsTrue (is_act what) }
+        ensures edits { (t : Tree) → IsActMeant S.X.block32 N.name64 self.now.profile what t
             → EditsFolder S.X.block32 N.name64 self.now.profile (S.seen store.old) (S.seen store.new)
-            (brought S.X.block32 N.name64 self.now.profile what t) self.now.root (changed_at what t names.now) result }
-        ensures made { IfOk result (λ e. IsRootCid S.X.block32 (Some self.now.profile) e.cid) }
+            (act_brought S.X.block32 N.name64 self.now.profile what t) self.now.root
+            (acted_at self.now.profile what piece.now t names.now) result }
+        ensures idle { (p : TheProfile) (es : Entries) (t : Tree)
+            → IsAgreed S.X.block32 N.name64 (S.seen store.old).told p self.now.root (Dir es)
+            → Stood (S.seen store.old).faults (S.seen store.new).faults
+            → at 0 names.now (Dir es) ≡ Ok t → LeavesTree what piece.now t
+            → ((S.seen store.new).told ≡ (S.seen store.old).told) × IfOk result (λ e. e ≡ self.now.root) }
+        ensures made { IfOk result (λ e. RequiresDirectory S.X.block32 self.now.root.cid e.cid.digest) }
         ensures saves { OnlySaves S.X.block32
-            (IsBadInTree S.X.block32 N.name64 (Some self.now.profile) self.now.root.cid) (stop_fault result)
-            (S.seen store.old) (S.seen store.new) }
-        ensures touches { (t : Tree) → IsMeant S.X.block32 N.name64 self.now.profile what t
+            (IsBadActed S.X.block32 N.name64 self.now.profile (S.seen store.new).told self.now.root.cid what)
+            (stop_fault result) (S.seen store.old) (S.seen store.new) }
+        ensures touches { (t : Tree) (rows : ℕ → ℕ) → IsActMeant S.X.block32 N.name64 self.now.profile what t
+            → HasRows S.X.block32 N.name64 self.now.profile what rows
             → TouchesFolder S.X.block32 N.name64 self.now.profile (S.seen store.old) (S.seen store.new)
-            (brought S.X.block32 N.name64 self.now.profile what t) self.now.root
+            (act_brought S.X.block32 N.name64 self.now.profile what t) self.now.root
             (λ es. 40 * length names.now + crossings_of S.X.block32 N.name64 self.now.profile names.now es
-            (changed_at what t names.now es)
-            + weighing_of S.X.block32 N.name64 self.now.profile what names.now es) touches.old touches.new }
+            (acted_at self.now.profile what piece.now t names.now es)
+            + act_touches S.X.block32 N.name64 self.now.profile rows what piece.now names.now es)
+            touches.old touches.new }
         ensures touched { CountsUp (stop_fault result) touches.old touches.new }
     {
-        let [name, rest @ ..] = names else {
-            return Err(Stop::Refused(root_refusal(what)));
-        };
         let site = Site {
             profile: self.profile,
-            what: Act::Change(what),
-            piece: &[],
+            what,
+            piece,
             led: 0,
         };
-        edit::<S, N, L>(alloc, store, &site, name, rest, &self.root, touches)
+        let root = &self.root;
+        match names {
+            [] => or_same(
+                root,
+                edit_root::<S, N, L>(alloc, store, &site, root, touches),
+            ),
+            [name, rest @ ..] => {
+                or_same(
+                    root,
+                    edit::<S, N, L>(alloc, store, &site, name, rest, root, touches),
+                )
+            }
+        }
     }
 }
 
-// Why the root isn't edited so.
-fn root_refusal(what: Change) -> Refused
-    ensures { result ≡ refused_root what }
+// Edits the root itself, of which only the metadata can be changed; none where it stays as it is.
+fn edit_root<S: Store, N: NameHash, L: Ledger>(
+    alloc: Global,
+    store: &mut S,
+    site: &Site,
+    root: &Entry,
+    touches: &mut Steps<L>,
+) -> Result<Option<Entry>, Stop>
+    requires profile { IsTrue (is_profile site.now.profile) }
+    requires act { IsTrue (is_act site.now.what) }
+    ensures edits { (more : List Held)
+        → ChangesFolder S.X.block32 N.name64 site.now.profile (S.seen store.old) (S.seen store.new) more root.now
+        (acted_root site.now.what) result }
+    ensures idle { (p : TheProfile) (es : Entries)
+        → IsAgreed S.X.block32 N.name64 (S.seen store.old).told p root.now (Dir es)
+        → Stood (S.seen store.old).faults (S.seen store.new).faults
+        → LeavesTree site.now.what site.now.piece.now (Dir es)
+        → ((S.seen store.new).told ≡ (S.seen store.old).told) × IfOk result (λ new. new ≡ None) }
+    ensures made { IfOk result (λ new. IfSome new (λ e. IsRootCid S.X.block32 (Some site.now.profile) e.cid)) }
+    ensures saves { OnlySaves S.X.block32
+        (IsBadActed S.X.block32 N.name64 site.now.profile (S.seen store.new).told root.now.cid site.now.what)
+        (stop_fault result) (S.seen store.old) (S.seen store.new) }
+    ensures touches { touches.new ≤ touches.old + root_touches site.now.what }
+    ensures touched { CountsUp (stop_fault result) touches.old touches.new }
 {
-    match what {
-        Change::Make => Refused::Exists(0),
-        Change::Put(_) => Refused::RootRefused,
-        Change::Remove(_) => Refused::RootRefused,
+    match site.what {
+        Act::Change(Change::Make) => Err(Stop::Refused(Refused::Exists(0))),
+        Act::Change(Change::Put(_)) => Err(Stop::Refused(Refused::RootRefused)),
+        Act::Change(Change::Remove(_)) => Err(Stop::Refused(Refused::RootRefused)),
+        Act::Rewrite(_) => Err(Stop::Refused(Refused::IsADirectory(0))),
+        Act::Remake(what) => {
+            let thing = Thing::Folder(*root, None);
+            remade::<S, N, L>(alloc, store, &site.profile, what, thing, touches)
+        }
+    }
+}
+
+// The root after an edit that answers none where it stays as it is.
+fn or_same(root: &Entry, new: Result<Option<Entry>, Stop>) -> Result<Entry, Stop>
+    ensures { result ≡ entry_or root.now new }
+{
+    match new {
+        Ok(None) => Ok(*root),
+        Ok(Some(entry)) => Ok(entry),
+        Err(stop) => Err(stop),
     }
 }

@@ -12,35 +12,38 @@ ghost use Rattle.uf_tree.specs.Tree.{Dir, Entries, Nothing, Tree};
 ghost use Rattle.uf_tree.specs.TreePlan.{blocks, named_entries};
 ghost use Rattle.uf_dir.specs.Bounds.{crossing, weighing_from};
 ghost use Rattle.uf_dir.specs.Roots.{IsRootCid};
-ghost use Rattle.uf_mfs.specs.Acts.{HasRows, IsActMeant, IsBadActed, act_brought, act_touches, acted, may_act};
-ghost use Rattle.uf_mfs.specs.Answers.{Decides, EditsAfter};
-ghost use Rattle.uf_plain.specs.Rules.{allowed};
-ghost use Rattle.uf_mfs.specs.Bad.{IsBadInTree, RequiresDirectory};
+ghost use Rattle.uf_mfs.specs.Acts.{HasRows, IsActMeant, IsBadActed, LeavesTree, act_brought, act_touches, acted};
+ghost use Rattle.uf_mfs.specs.Acts.{is_act, may_act};
+ghost use Rattle.uf_mfs.specs.Answers.{Decides};
+ghost use Rattle.uf_mfs.specs.Bad.{IsBadInTree, IsRequired, RequiresDirectory};
 ghost use Rattle.uf_mfs.specs.Moving.{folder_there};
 ghost use Rattle.uf_store.specs.Calls.{OnlySaves};
-ghost use Rattle.uf_plain.specs.Edits.{as_folder, as_free, as_removable, at, change, child, done, edited, made_all};
-ghost use Rattle.uf_plain.specs.Edits.{may_be, or_new, with_child, without_child};
-ghost use Rattle.uf_mfs.specs.Standing.{IsAgreed, IsAgreedMember, IsMeant, IsPlanOf, brought};
-ghost use Rattle.uf_mfs.specs.Steps.{EditsFolder, FillsFolder, GivesFolder, IsFolderOver, IsOpened, changed_below};
-ghost use Rattle.uf_mfs.specs.Steps.{opened, stop_fault};
-ghost use Rattle.uf_mfs.specs.Touches.{CountsUp, TouchesFolder, crossings_of, weighing_of};
+ghost use Rattle.uf_plain.specs.Edits.{as_folder, at, child, done, edited, made_all};
+ghost use Rattle.uf_plain.specs.Edits.{or_new, with_child, without_child};
+ghost use Rattle.uf_mfs.specs.Standing.{IsAgreed, IsAgreedMember, IsPlanOf};
+ghost use Rattle.uf_mfs.specs.Steps.{ChangesFolder, ChangesOver, GivesFolder, IsFolderOver};
+ghost use Rattle.uf_mfs.specs.Steps.{IsOpened, changed_below, opened, stop_fault};
+ghost use Rattle.uf_mfs.specs.Touches.{CountsUp, TouchesFolder, crossings_of};
 
 use crate::looking::member;
-use crate::writing::new_file;
+use crate::remaking::remade_member;
+use crate::writing::{leaves, new_file};
 use crate::{Stop, Thing};
 use std::alloc::Global;
 use std::sync::ledger::Ledger;
 use uf_dir::{empty, put, remove};
 use uf_murmur::NameHash;
-use uf_plain::{Change, FileEdit, Refused};
+use uf_plain::{Change, FileEdit, MetaEdit, Refused};
 use uf_store::{Steps, Store};
 use uf_tree::{Entry, Name, Profile};
 
-/// What is done in the folder that all names but the last lead to: a member is changed, or the bytes of a file.
+/// What is done in the folder that all names but the last lead to: a member is changed, or the bytes of a file, or the
+/// metadata of a file or a directory.
 #[derive(Clone, Copy, PartialEq, Eq)]
 pub(crate) enum Act {
     Change(Change),
     Rewrite(FileEdit),
+    Remake(MetaEdit),
 }
 
 /// An edit on its way: how blocks are made, what is done, with which piece, and how many names led here.
@@ -52,7 +55,9 @@ pub(crate) struct Site<'a> {
     pub led: usize,
 }
 
-/// Edits the folder that all names but the last lead to from this one, and answers the entry of this folder then.
+/// Edits the folder that all names but the last lead to from this one, and answers the entry of this folder then, or
+/// none where the folder stays as it is. It calls itself once a name, and a path has at most 2048 names
+/// (`Path::parse`).
 pub(crate) fn edit<S: Store, N: NameHash, L: Ledger>(
     alloc: Global,
     store: &mut S,
@@ -61,14 +66,20 @@ pub(crate) fn edit<S: Store, N: NameHash, L: Ledger>(
     rest: &[Name],
     folder: &Entry,
     touches: &mut Steps<L>,
-) -> Result<Entry, Stop>
+) -> Result<Option<Entry>, Stop>
     requires profile { IsTrue (is_profile site.now.profile) }
     requires few { site.now.led + length rest.now + 1 < 2 ^ 64 }
+    requires act { IsTrue (is_act site.now.what) }
     ensures edits { (t : Tree) → IsActMeant S.X.block32 N.name64 site.now.profile site.now.what t
-        → EditsFolder S.X.block32 N.name64 site.now.profile (S.seen store.old) (S.seen store.new)
+        → ChangesFolder S.X.block32 N.name64 site.now.profile (S.seen store.old) (S.seen store.new)
         (act_brought S.X.block32 N.name64 site.now.profile site.now.what t) folder.now
         (edited (acted site.now.profile site.now.what site.now.piece.now t) site.now.led name.now rest.now) result }
-    ensures made { IfOk result (λ e. IsRootCid S.X.block32 (Some site.now.profile) e.cid) }
+    ensures idle { (p : TheProfile) (es : Entries) (t : Tree)
+        → IsAgreed S.X.block32 N.name64 (S.seen store.old).told p folder.now (Dir es)
+        → Stood (S.seen store.old).faults (S.seen store.new).faults
+        → at site.now.led (name.now ∷ rest.now) (Dir es) ≡ Ok t → LeavesTree site.now.what site.now.piece.now t
+        → ((S.seen store.new).told ≡ (S.seen store.old).told) × IfOk result (λ new. new ≡ None) }
+    ensures made { IfOk result (λ new. IfSome new (λ e. IsRootCid S.X.block32 (Some site.now.profile) e.cid)) }
     ensures saves { OnlySaves S.X.block32
         (IsBadActed S.X.block32 N.name64 site.now.profile (S.seen store.new).told folder.now.cid site.now.what)
         (stop_fault result) (S.seen store.old) (S.seen store.new) }
@@ -88,17 +99,17 @@ pub(crate) fn edit<S: Store, N: NameHash, L: Ledger>(
     };
     let below = folder_of(site.led + 1, found)?;
     let under = Site {
-        profile: site.profile,
-        what: site.what,
-        piece: site.piece,
         led: site.led + 1,
+        ..*site
     };
-    let entry = edit::<S, N, L>(alloc, store, &under, next, more, &below, touches)?;
+    let Some(entry) = edit::<S, N, L>(alloc, store, &under, next, more, &below, touches)? else {
+        return Ok(None);
+    };
     put_in::<S, N, L>(alloc, store, &site.profile, folder, name, &entry, touches)
 }
 
 /// Makes each folder that is missing along the names from this folder, and answers the entry of this folder then, or
-/// none where each is there.
+/// none where each is there. It calls itself once a name, as `edit`.
 pub(crate) fn fill<S: Store, N: NameHash, L: Ledger>(
     alloc: Global,
     store: &mut S,
@@ -110,7 +121,7 @@ pub(crate) fn fill<S: Store, N: NameHash, L: Ledger>(
 ) -> Result<Option<Entry>, Stop>
     requires profile { IsTrue (is_profile profile.now) }
     requires few { led + length names.now < 2 ^ 64 }
-    ensures fills { FillsFolder S.X.block32 N.name64 (S.seen store.old) (S.seen store.new) profile.now folder.now
+    ensures fills { ChangesFolder S.X.block32 N.name64 profile.now (S.seen store.old) (S.seen store.new) [] folder.now
         (made_all led names.now) result }
     ensures there { (es below : Entries)
         → IsAgreed S.X.block32 N.name64 (S.seen store.old).told profile.now folder.now (Dir es)
@@ -132,8 +143,7 @@ pub(crate) fn fill<S: Store, N: NameHash, L: Ledger>(
     let Some(below) = below_of(start, filled) else {
         return Ok(None);
     };
-    let new = put_in::<S, N, L>(alloc, store, profile, folder, name, &below, touches)?;
-    Ok(Some(new))
+    put_in::<S, N, L>(alloc, store, profile, folder, name, &below, touches)
 }
 
 // The folder below, where it is new or was changed.
@@ -196,7 +206,7 @@ pub(crate) fn folder_of(led: usize, found: Option<Thing>) -> Result<Entry, Refus
     }
 }
 
-// Edits this folder, whose member of the name was found.
+// Edits this folder, whose member of the name was found; none where the folder stays as it is.
 fn edit_here<S: Store, N: NameHash, L: Ledger>(
     alloc: Global,
     store: &mut S,
@@ -205,19 +215,24 @@ fn edit_here<S: Store, N: NameHash, L: Ledger>(
     folder: &Entry,
     found: Option<Thing>,
     touches: &mut Steps<L>,
-) -> Result<Entry, Stop>
+) -> Result<Option<Entry>, Stop>
     requires profile { IsTrue (is_profile site.now.profile) }
     requires few { site.now.led + 1 < 2 ^ 64 }
+    requires act { IsTrue (is_act site.now.what) }
+    requires required { IfSome found (IsRequired S.X.block32 folder.now.cid) }
     ensures edits { (t : Tree) (es : Entries) → IsActMeant S.X.block32 N.name64 site.now.profile site.now.what t
         → IsAgreedMember S.X.block32 N.name64 (S.seen store.old).told site.now.profile (child name.now es) found
         → IsFolderOver S.X.block32 N.name64 site.now.profile (S.seen store.old) (S.seen store.new)
         (act_brought S.X.block32 N.name64 site.now.profile site.now.what t) folder.now es
-        → EditsAfter S.X.block32 N.name64 (S.seen store.old).told (S.seen store.new).told
-        (act_brought S.X.block32 N.name64 site.now.profile site.now.what t
-        ++ blocks S.X.block32 N.name64 site.now.profile (Dir es)) site.now.profile
-        (allowed S.X.block32 N.name64 site.now.profile
-        (acted site.now.profile site.now.what site.now.piece.now t (site.now.led + 1) name.now es)) result }
-    ensures made { IfOk result (λ e. IsRootCid S.X.block32 (Some site.now.profile) e.cid) }
+        → ChangesOver S.X.block32 N.name64 site.now.profile (S.seen store.old) (S.seen store.new)
+        (act_brought S.X.block32 N.name64 site.now.profile site.now.what t) es
+        (acted site.now.profile site.now.what site.now.piece.now t (site.now.led + 1) name.now es) result }
+    ensures idle { (p : TheProfile) (t : Tree)
+        → IsAgreedMember S.X.block32 N.name64 (S.seen store.old).told p (Some t) found
+        → Stood (S.seen store.old).faults (S.seen store.new).faults
+        → LeavesTree site.now.what site.now.piece.now t
+        → ((S.seen store.new).told ≡ (S.seen store.old).told) × IfOk result (λ new. new ≡ None) }
+    ensures made { IfOk result (λ new. IfSome new (λ e. IsRootCid S.X.block32 (Some site.now.profile) e.cid)) }
     ensures saves { OnlySaves S.X.block32
         (IsBadActed S.X.block32 N.name64 site.now.profile (S.seen store.new).told folder.now.cid site.now.what)
         (stop_fault result) (S.seen store.old) (S.seen store.new) }
@@ -233,21 +248,29 @@ fn edit_here<S: Store, N: NameHash, L: Ledger>(
     ensures touched { CountsUp (stop_fault result) touches.old touches.new }
 {
     let led = site.led + 1;
-    let profile = &site.profile;
+    let p = &site.profile;
     may(site.what, led, found)?;
     match site.what {
-        Act::Change(Change::Make) => {
-            make_in::<S, N, L>(alloc, store, profile, folder, name, touches)
-        }
+        Act::Change(Change::Make) => { make_in::<S, N, L>(alloc, store, p, folder, name, touches) }
         Act::Change(Change::Put(new)) => {
-            put_in::<S, N, L>(alloc, store, profile, folder, name, &new, touches)
+            put_in::<S, N, L>(alloc, store, p, folder, name, &new, touches)
         }
         Act::Change(Change::Remove(_)) => {
-            take_out::<S, N, L>(alloc, store, profile, led, folder, name, touches)
+            take_out::<S, N, L>(alloc, store, p, led, folder, name, touches)
         }
         Act::Rewrite(what) => {
+            if leaves(what, site.piece, found) {
+                return Ok(None);
+            }
             let new = new_file::<S, L>(alloc, store, site, what, found, touches)?;
-            put_in::<S, N, L>(alloc, store, profile, folder, name, &new, touches)
+            put_in::<S, N, L>(alloc, store, p, folder, name, &new, touches)
+        }
+        Act::Remake(what) => {
+            let Some(new) = remade_member::<S, N, L>(alloc, store, site, what, found, touches)?
+            else {
+                return Ok(None);
+            };
+            put_in::<S, N, L>(alloc, store, p, folder, name, &new, touches)
         }
     }
 }
@@ -258,42 +281,13 @@ fn may(what: Act, led: usize, found: Option<Thing>) -> Result<(), Refused>
         → IsAgreedMember X N told p o found
         → Decides (λ a b. Unit {0}) (may_act what led o) result }
 {
-    match what {
-        Act::Change(Change::Make) => may_make(led, found),
-        Act::Change(Change::Put(_)) => Ok(()),
-        Act::Change(Change::Remove(recursive)) => may_take(recursive, led, found),
-        Act::Rewrite(_) => Ok(()),
-    }
-}
-
-// Whether a name is free.
-fn may_make(led: usize, found: Option<Thing>) -> Result<(), Refused>
-    ensures { (X : List ℕ → List ℕ) (N : List ℕ → ℕ) (told : Told) (p : TheProfile) (o : TheOption Tree)
-        → IsAgreedMember X N told p o found
-        → Decides (λ a b. Unit {0}) (as_free led o) result }
-{
-    match found {
-        None => Ok(()),
-        Some(_) => Err(Refused::Exists(led)),
-    }
-}
-
-// Whether a member may be taken away.
-fn may_take(recursive: bool, led: usize, found: Option<Thing>) -> Result<(), Refused>
-    ensures { (X : List ℕ → List ℕ) (N : List ℕ → ℕ) (told : Told) (p : TheProfile) (o : TheOption Tree)
-        → IsAgreedMember X N told p o found
-        → Decides (λ a b. Unit {0}) (as_removable recursive led o) result }
-{
-    match found {
-        None => Err(Refused::NotFound(led)),
-        Some(Thing::File(_, _)) => Ok(()),
-        Some(Thing::Folder(_, _)) => {
-            if recursive {
-                Ok(())
-            } else {
-                Err(Refused::NeedsRecursive(led))
-            }
+    match (what, found) {
+        (Act::Change(Change::Make), Some(_)) => Err(Refused::Exists(led)),
+        (Act::Change(Change::Remove(_)), None) => Err(Refused::NotFound(led)),
+        (Act::Change(Change::Remove(false)), Some(Thing::Folder(_, _))) => {
+            Err(Refused::NeedsRecursive(led))
         }
+        _ => Ok(()),
     }
 }
 
@@ -305,11 +299,11 @@ fn make_in<S: Store, N: NameHash, L: Ledger>(
     folder: &Entry,
     name: &Name,
     touches: &mut Steps<L>,
-) -> Result<Entry, Stop>
+) -> Result<Option<Entry>, Stop>
     requires profile { IsTrue (is_profile profile.now) }
-    ensures edits { EditsFolder S.X.block32 N.name64 profile.now (S.seen store.old) (S.seen store.new) [] folder.now
+    ensures edits { ChangesFolder S.X.block32 N.name64 profile.now (S.seen store.old) (S.seen store.new) [] folder.now
         (λ es. Ok (with_child name.now (Dir (Nothing none)) es)) result }
-    ensures made { IfOk result (λ e. IsRootCid S.X.block32 (Some profile.now) e.cid) }
+    ensures made { IfOk result (λ new. IfSome new (λ e. IsRootCid S.X.block32 (Some profile.now) e.cid)) }
     ensures saves { OnlySaves S.X.block32 (IsBadInTree S.X.block32 N.name64 (Some profile.now) folder.now.cid)
         (stop_fault result) (S.seen store.old) (S.seen store.new) }
     ensures touches { TouchesFolder S.X.block32 N.name64 profile.now (S.seen store.old) (S.seen store.new) []
@@ -323,8 +317,8 @@ fn make_in<S: Store, N: NameHash, L: Ledger>(
     put_in::<S, N, L>(alloc, store, profile, folder, name, &new, touches)
 }
 
-/// Puts an entry into this folder.
-pub(crate) fn put_in<S: Store, N: NameHash, L: Ledger>(
+// Puts an entry into this folder.
+fn put_in<S: Store, N: NameHash, L: Ledger>(
     alloc: Global,
     store: &mut S,
     profile: &Profile,
@@ -332,12 +326,12 @@ pub(crate) fn put_in<S: Store, N: NameHash, L: Ledger>(
     name: &Name,
     entry: &Entry,
     touches: &mut Steps<L>,
-) -> Result<Entry, Stop>
+) -> Result<Option<Entry>, Stop>
     requires profile { IsTrue (is_profile profile.now) }
     ensures edits { (t : Tree) → IsPlanOf S.X.block32 N.name64 profile.now entry.now t
-        → EditsFolder S.X.block32 N.name64 profile.now (S.seen store.old) (S.seen store.new)
+        → ChangesFolder S.X.block32 N.name64 profile.now (S.seen store.old) (S.seen store.new)
         (blocks S.X.block32 N.name64 profile.now t) folder.now (λ es. Ok (with_child name.now t es)) result }
-    ensures made { IfOk result (λ e. IsRootCid S.X.block32 (Some profile.now) e.cid) }
+    ensures made { IfOk result (λ new. IfSome new (λ e. IsRootCid S.X.block32 (Some profile.now) e.cid)) }
     ensures saves { OnlySaves S.X.block32 (IsBadInTree S.X.block32 N.name64 (Some profile.now) folder.now.cid)
         (stop_fault result) (S.seen store.old) (S.seen store.new) }
     ensures touches { (t : Tree) → IsPlanOf S.X.block32 N.name64 profile.now entry.now t
@@ -349,7 +343,7 @@ pub(crate) fn put_in<S: Store, N: NameHash, L: Ledger>(
 {
     names_are_good(name);
     let new = put::<S, N, L>(alloc, store, profile, &folder.cid, name, entry, touches)?;
-    Ok(new)
+    Ok(Some(new))
 }
 
 // Takes a member out of this folder.
@@ -361,14 +355,13 @@ fn take_out<S: Store, N: NameHash, L: Ledger>(
     folder: &Entry,
     name: &Name,
     touches: &mut Steps<L>,
-) -> Result<Entry, Stop>
+) -> Result<Option<Entry>, Stop>
     requires profile { IsTrue (is_profile profile.now) }
     ensures edits { (es : Entries) → child name.now es ≢ None
         → IsFolderOver S.X.block32 N.name64 profile.now (S.seen store.old) (S.seen store.new) [] folder.now es
-        → EditsAfter S.X.block32 N.name64 (S.seen store.old).told (S.seen store.new).told
-        (blocks S.X.block32 N.name64 profile.now (Dir es)) profile.now
-        (allowed S.X.block32 N.name64 profile.now (Ok (without_child name.now es))) result }
-    ensures made { IfOk result (λ e. IsRootCid S.X.block32 (Some profile.now) e.cid) }
+        → ChangesOver S.X.block32 N.name64 profile.now (S.seen store.old) (S.seen store.new) [] es
+        (Ok (without_child name.now es)) result }
+    ensures made { IfOk result (λ new. IfSome new (λ e. IsRootCid S.X.block32 (Some profile.now) e.cid)) }
     ensures saves { OnlySaves S.X.block32 (IsBadInTree S.X.block32 N.name64 (Some profile.now) folder.now.cid)
         (stop_fault result) (S.seen store.old) (S.seen store.new) }
     ensures touches { TouchesFolder S.X.block32 N.name64 profile.now (S.seen store.old) (S.seen store.new) []
@@ -381,7 +374,7 @@ fn take_out<S: Store, N: NameHash, L: Ledger>(
     let taken = remove::<S, N, L>(alloc, store, profile, &folder.cid, name, touches)?;
     match taken {
         None => Err(Stop::Refused(Refused::NotFound(led))),
-        Some(new) => Ok(new),
+        Some(new) => Ok(Some(new)),
     }
 }
 

@@ -23,4 +23,4 @@ mod writing;
 pub use fault::{MfsFault, Stop};
 pub use mfs::Mfs;
 pub use thing::{FolderRoot, Thing};
-pub use uf_plain::Ready;
+pub use uf_plain::{Ready, Row, Rows, Rule, Spot, Stat, WriteHow};

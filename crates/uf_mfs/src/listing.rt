@@ -45,10 +45,7 @@ pub(crate) fn names_of<S: Store, N: NameHash, L: Ledger>(
     ensures touched { CountsUp (fault_in result) touches.old touches.new }
 {
     match thing {
-        Thing::File(_, _) => match own_name(alloc, path) {
-            Err(_) => Err(StoreFault::Memory),
-            Ok(names) => Ok(names),
-        },
+        Thing::File(_, _) => Ok(own_name(alloc, path)?),
         Thing::Folder(folder, _) => names_in::<S, N, L>(alloc, store, &folder, touches),
     }
 }
@@ -84,10 +81,8 @@ fn names_in<S: Store, N: NameHash, L: Ledger>(
     ensures touched { CountsUp (fault_in result) touches.old touches.new }
 {
     let pairs = entries(alloc, store, &folder.cid, touches)?;
-    match names_in_pairs(alloc, pairs.as_slice()) {
-        Err(_) => Err(StoreFault::Memory),
-        Ok(names) => Ok(names),
-    }
+    let names = names_in_pairs(alloc, pairs.as_slice())?;
+    Ok(names)
 }
 
 // The names of pairs.
@@ -121,10 +116,7 @@ pub(crate) fn rows_of<S: Store, N: NameHash, L: Ledger>(
     ensures touched { CountsUp (fault_in result) touches.old touches.new }
 {
     match thing {
-        Thing::File(entry, size) => match own_row(alloc, path, entry.cid, size.length) {
-            Err(_) => Err(StoreFault::Memory),
-            Ok(rows) => Ok(rows),
-        },
+        Thing::File(entry, size) => Ok(own_row(alloc, path, entry.cid, size.length)?),
         Thing::Folder(folder, _) => rows_in::<S, N, L>(alloc, store, &folder, touches),
     }
 }
@@ -228,14 +220,9 @@ fn row_of<S: Store, N: NameHash, L: Ledger>(
     ensures touched { CountsUp (fault_in result) touches.old touches.new }
 {
     let size = entry_size::<S, N, L>(alloc, store, &pair.entry, touches)?;
-    match pair.name.copy() {
-        Err(_) => Err(StoreFault::Memory),
-        Ok(name) => Ok(Row {
-            name,
-            cid: pair.entry.cid,
-            size,
-        }),
-    }
+    let name = pair.name.copy()?;
+    let cid = pair.entry.cid;
+    Ok(Row { name, cid, size })
 }
 
 // How many bytes the file of an entry has; a folder counts as 0.

@@ -14,9 +14,8 @@ ghost use Rattle.uf_plain.specs.Edits.{at, removed};
 ghost use Rattle.uf_plain.specs.Moves.{allowed_move, as_replaceable, carried, copied, edited_at, lie_of as lie_at};
 ghost use Rattle.uf_plain.specs.Moves.{moved_to as moved_by, put_at_spot, put_over, shifted, spot_names, told_of};
 ghost use Rattle.uf_plain.specs.Rules.{allowed};
-ghost use Rattle.uf_dir.specs.Roots.{IsRootCid};
 ghost use Rattle.uf_mfs.specs.Answers.{Moves, ShownInTree};
-ghost use Rattle.uf_mfs.specs.Bad.{IsBadInTree};
+ghost use Rattle.uf_mfs.specs.Bad.{IsBadInTree, RequiresDirectory};
 ghost use Rattle.uf_mfs.specs.Moving.{EditsTree, IsFound, IsInside, IsOntoItself, MovesBy, MovesHeld};
 ghost use Rattle.uf_mfs.specs.Moving.{MovesRoot, MovesThing, TouchesThing, copy_bound, entry_in, move_bound};
 ghost use Rattle.uf_mfs.specs.Moving.{put_crossings, replaces, shift_crossings};
@@ -25,6 +24,7 @@ ghost use Rattle.uf_mfs.specs.Standing.{IsEntry, IsMfs, IsPlanOf, StandsAt, Stan
 ghost use Rattle.uf_mfs.specs.Steps.{EditsFolder, GivesFolder, MovesTree, stop_fault, tree_fault};
 ghost use Rattle.uf_mfs.specs.Touches.{CountsUp, TouchesFolder, crossings_of, weighing_at};
 
+use crate::editing::Act;
 use crate::looking::look;
 use crate::spotting::{exists_at, target_of};
 use crate::target::Target;
@@ -109,14 +109,8 @@ impl Mfs {
         ensures touched { CountsUp (tree_fault result) touches.old touches.new }
     {
         let names = source.names.as_slice();
-        match look::<S, N, L>(
-            alloc,
-            store,
-            0,
-            names,
-            Thing::Folder(self.root, None),
-            touches,
-        ) {
+        let root = Thing::Folder(self.root, None);
+        match look::<S, N, L>(alloc, store, 0, names, root, touches) {
             Err(stop) => Err(fault_of(alloc, names, stop)),
             Ok(thing) => {
                 let spot = self.spot::<S, N, L>(alloc, store, dest, names.last(), touches)?;
@@ -191,14 +185,8 @@ fn moved_root<S: Store, N: NameHash, L: Ledger>(
     let [.., name] = source else {
         return Err(MfsFault::Rule(Rule::RootRefused));
     };
-    match look::<S, N, L>(
-        alloc,
-        store,
-        0,
-        source,
-        Thing::Folder(tree.root, None),
-        touches,
-    ) {
+    let root = Thing::Folder(tree.root, None);
+    match look::<S, N, L>(alloc, store, 0, source, root, touches) {
         Err(stop) => Err(fault_of(alloc, source, stop)),
         Ok(thing) => {
             let target = target_of::<S, N, L>(alloc, store, dest, name, &tree.root, touches)?;
@@ -271,7 +259,8 @@ fn shifted_root<S: Store, N: NameHash, L: Ledger>(
         + shift_crossings S.X.block32 N.name64 tree.now.profile source.now spot t es) touches.old touches.new }
     ensures touched { CountsUp (tree_fault result) touches.old touches.new }
 {
-    let left = match removed_root::<S, N, L>(alloc, store, tree, source, touches) {
+    let what = Act::Change(Change::Remove(true));
+    let left = match tree.edited_root::<S, N, L>(alloc, store, what, &[], source, touches) {
         Err(stop) => return Err(fault_of(alloc, source, stop)),
         Ok(left) => left,
     };
@@ -286,32 +275,8 @@ fn shifted_root<S: Store, N: NameHash, L: Ledger>(
     }
 }
 
-// The root without what the names lead to.
-fn removed_root<S: Store, N: NameHash, L: Ledger>(
-    alloc: Global,
-    store: &mut S,
-    tree: &Mfs,
-    names: &[Name],
-    touches: &mut Steps<L>,
-) -> Result<Entry, Stop>
-    requires mfs { IsMfs tree.now }
-    ensures edits { GivesFolder S.X.block32 N.name64 tree.now.profile (S.seen store.old) (S.seen store.new) []
-        tree.now.root (removed true names.now) result }
-    ensures made { IfOk result (λ e. IsRootCid S.X.block32 (Some tree.now.profile) e.cid) }
-    ensures saves { OnlySaves S.X.block32
-        (IsBadInTree S.X.block32 N.name64 (Some tree.now.profile) tree.now.root.cid) (stop_fault result)
-        (S.seen store.old) (S.seen store.new) }
-    ensures touches { TouchesFolder S.X.block32 N.name64 tree.now.profile (S.seen store.old) (S.seen store.new) []
-        tree.now.root (λ es. 40 * length names.now + crossings_of S.X.block32 N.name64 tree.now.profile names.now es
-        (removed true names.now es)
-        + weighing_at S.X.block32 N.name64 tree.now.profile names.now es) touches.old touches.new }
-    ensures touched { CountsUp (stop_fault result) touches.old touches.new }
-{
-    tree.changed_root::<S, N, L>(alloc, store, Change::Remove(true), names, touches)
-}
-
-/// The root with an entry put at the names.
-pub(crate) fn put_root<S: Store, N: NameHash, L: Ledger>(
+// The root with an entry put at the names.
+fn put_root<S: Store, N: NameHash, L: Ledger>(
     alloc: Global,
     store: &mut S,
     tree: &Mfs,
@@ -333,7 +298,8 @@ pub(crate) fn put_root<S: Store, N: NameHash, L: Ledger>(
         (edited_at (put_over t) names.now es)) touches.old touches.new }
     ensures touched { CountsUp (stop_fault result) touches.old touches.new }
 {
-    tree.changed_root::<S, N, L>(alloc, store, Change::Put(*entry), names, touches)
+    let what = Act::Change(Change::Put(*entry));
+    tree.edited_root::<S, N, L>(alloc, store, what, &[], names, touches)
 }
 
 // The entry of what is at a path.

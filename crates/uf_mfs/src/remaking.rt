@@ -1,6 +1,9 @@
 // The metadata of what is in the tree set.
-ghost use Rattle.std.specs.Prelude.{◌≡◌, ◌+◌, ◌*◌, ◌<◌, ◌≤◌, [], IfOk, IsTrue, None, OnErr, Ok, Some, length};
+ghost use Rattle.std.specs.Prelude.{◌≡◌, ◌+◌, ◌*◌, ◌<◌, ◌≤◌, ◌^◌, [], IfOk, IfSome, IsTrue, None, OnErr, Ok, Some};
+ghost use Rattle.std.specs.Prelude.{length};
+ghost use Rattle.std.specs.declared.option.Option.{Option as TheOption};
 ghost use Rattle.uf_cid.specs.declared.cid.Cid.{Cid as TheCid};
+ghost use Rattle.uf_dir.specs.Roots.{IsRootCid};
 ghost use Rattle.uf_edge.specs.Counts.{Stood};
 ghost use Rattle.uf_plain.specs.Edits.{at};
 ghost use Rattle.uf_plain.specs.Metas.{is_meta_edit, meta_edited, remade as remade_tree};
@@ -13,17 +16,19 @@ ghost use Rattle.uf_tree.specs.Metas.{is_meta, is_mtime};
 ghost use Rattle.uf_tree.specs.Profiles.{is_profile};
 ghost use Rattle.uf_tree.specs.Tree.{Dir, Entries, Tree};
 ghost use Rattle.uf_tree.specs.TreePlan.{blocks};
+ghost use Rattle.uf_tree.specs.declared.nodes.Entry.{Entry as TheEntry};
 ghost use Rattle.uf_tree.specs.declared.profile.Profile.{Profile as TheProfile};
-ghost use Rattle.uf_mfs.specs.Answers.{EditsAfter, Moves, ShownInTree};
+ghost use Rattle.uf_mfs.specs.Answers.{Moves, ShownInTree};
 ghost use Rattle.uf_mfs.specs.Bad.{IsRequired};
-ghost use Rattle.uf_mfs.specs.Remade.{GivesRemade, IsBadRemadeIn, with_meta_at};
-ghost use Rattle.uf_mfs.specs.Standing.{IsAgreed, IsAgreedThing, IsMfs, StandsAt, StandsOver};
-ghost use Rattle.uf_mfs.specs.Steps.{EditsFolder, IsFolderOver, MovesTree, stop_fault, tree_fault};
+ghost use Rattle.uf_mfs.specs.Remade.{ChangesMember, ChangesMeta, GivesRemade, IsBadRemadeIn, member_blocks};
+ghost use Rattle.uf_mfs.specs.Standing.{IsAgreedMember, IsAgreedThing, IsMfs, StandsAt, StandsOver};
+ghost use Rattle.uf_mfs.specs.Steps.{MovesTree, stop_fault, tree_fault};
 ghost use Rattle.uf_mfs.specs.Touches.{CountsUp, TouchesFolder};
+ghost use Rattle.uf_mfs.specs.declared.thing.FolderRoot.{FolderRoot};
+ghost use Rattle.uf_mfs.specs.declared.thing.Thing.TheVariants.{Folder};
 
-use crate::looking::look;
+use crate::editing::{Act, Site};
 use crate::measuring::stat_of;
-use crate::placing::put_root;
 use crate::writing::good;
 use crate::{Mfs, MfsFault, Stop, Thing};
 use std::alloc::Global;
@@ -31,9 +36,9 @@ use std::sync::ledger::Ledger;
 use uf_message::Mtime;
 use uf_murmur::NameHash;
 use uf_path::Path;
-use uf_plain::{MetaEdit, meta_after};
+use uf_plain::{MetaEdit, Refused, meta_after};
 use uf_store::{Steps, Store};
-use uf_tree::{Entry, Meta, Name, Profile};
+use uf_tree::{Entry, Meta, Profile};
 
 impl Mfs {
     /// Gives what is at a path these permissions, the low twelve bits of its mode; its other bits stay.
@@ -192,80 +197,80 @@ impl Mfs {
         ensures touched { CountsUp (tree_fault result) touches.old touches.new }
     {
         let names = path.names.as_slice();
-        let edited = remade_root::<S, N, L>(alloc, store, self, what, names, touches);
+        let what = Act::Remake(what);
+        let edited = self.edited_root::<S, N, L>(alloc, store, what, &[], names, touches);
         self.settled(alloc, names, edited)
     }
 }
 
-// The root after a change of the metadata of what the names lead to: as it is, where nothing changes.
-fn remade_root<S: Store, N: NameHash, L: Ledger>(
+// The entry of what was found under a name, with its metadata changed; none where nothing changes.
+pub(crate) fn remade_member<S: Store, N: NameHash, L: Ledger>(
     alloc: Global,
     store: &mut S,
-    tree: &Mfs,
+    site: &Site,
     what: MetaEdit,
-    names: &[Name],
+    found: Option<Thing>,
     touches: &mut Steps<L>,
-) -> Result<Entry, Stop>
-    requires mfs { IsMfs tree.now }
+) -> Result<Option<Entry>, Stop>
+    requires profile { IsTrue (is_profile site.now.profile) }
+    requires few { site.now.led + 1 < 2 ^ 64 }
     requires edit { IsTrue (is_meta_edit what) }
-    ensures edits { EditsFolder S.X.block32 N.name64 tree.now.profile (S.seen store.old) (S.seen store.new) []
-        tree.now.root (meta_edited what names.now) result }
-    ensures idle { (p : TheProfile) (es : Entries) (t : Tree)
-        → IsAgreed S.X.block32 N.name64 (S.seen store.old).told p tree.now.root (Dir es)
-        → Stood (S.seen store.old).faults (S.seen store.new).faults
-        → at 0 names.now (Dir es) ≡ Ok t → remade_tree what t ≡ t
-        → ((S.seen store.new).told ≡ (S.seen store.old).told) × IfOk result (λ e. e ≡ tree.now.root) }
-    ensures saves { OnlySaves S.X.block32
-        (IsBadRemadeIn S.X.block32 N.name64 tree.now.profile tree.now.root.cid) (stop_fault result)
+    ensures gives { (o : TheOption Tree)
+        → IsAgreedMember S.X.block32 N.name64 (S.seen store.old).told site.now.profile o found
+        → StaysAgreed (S.seen store.old).told (S.seen store.new).told
+        (member_blocks S.X.block32 N.name64 site.now.profile o)
+        → Calm (S.seen store.old) (S.seen store.new)
+        → ChangesMember S.X.block32 N.name64 site.now.profile (S.seen store.old).told (S.seen store.new).told what
+        (site.now.led + 1) o result }
+    ensures idle { (p : TheProfile) (t : Tree)
+        → IsAgreedMember S.X.block32 N.name64 (S.seen store.old).told p (Some t) found
+        → Stood (S.seen store.old).faults (S.seen store.new).faults → remade_tree what t ≡ t
+        → ((S.seen store.new).told ≡ (S.seen store.old).told) × IfOk result (λ new. new ≡ None) }
+    ensures saves { (root : TheCid) → IfSome found (IsRequired S.X.block32 root) → OnlySaves S.X.block32
+        (IsBadRemadeIn S.X.block32 N.name64 site.now.profile root) (stop_fault result)
         (S.seen store.old) (S.seen store.new) }
-    ensures touches { TouchesFolder S.X.block32 N.name64 tree.now.profile (S.seen store.old) (S.seen store.new) []
-        tree.now.root (λ es. 51 * length names.now + 3) touches.old touches.new }
+    ensures touches { touches.new ≤ touches.old + 3 }
     ensures touched { CountsUp (stop_fault result) touches.old touches.new }
 {
-    let root = Thing::Folder(tree.root, None);
-    let thing = look::<S, N, L>(alloc, store, 0, names, root, touches)?;
+    match found {
+        None => Err(Stop::Refused(Refused::NotFound(site.led + 1))),
+        Some(thing) => remade::<S, N, L>(alloc, store, &site.profile, what, thing, touches),
+    }
+}
+
+/// The entry of this thing with its metadata changed; none where nothing changes.
+pub(crate) fn remade<S: Store, N: NameHash, L: Ledger>(
+    alloc: Global,
+    store: &mut S,
+    p: &Profile,
+    what: MetaEdit,
+    thing: Thing,
+    touches: &mut Steps<L>,
+) -> Result<Option<Entry>, Stop>
+    requires profile { IsTrue (is_profile p.now) }
+    requires edit { IsTrue (is_meta_edit what) }
+    ensures gives { (t : Tree) → IsAgreedThing S.X.block32 N.name64 (S.seen store.old).told p.now t thing
+        → StaysAgreed (S.seen store.old).told (S.seen store.new).told (blocks S.X.block32 N.name64 p.now t)
+        → Calm (S.seen store.old) (S.seen store.new)
+        → ChangesMeta S.X.block32 N.name64 p.now (S.seen store.old).told (S.seen store.new).told what t result }
+    ensures idle { (p : TheProfile) (t : Tree)
+        → IsAgreedThing S.X.block32 N.name64 (S.seen store.old).told p t thing
+        → Stood (S.seen store.old).faults (S.seen store.new).faults → remade_tree what t ≡ t
+        → ((S.seen store.new).told ≡ (S.seen store.old).told) × IfOk result (λ new. new ≡ None) }
+    ensures made { (e : TheEntry) (seen : TheOption FolderRoot) → thing ≡ Folder e seen
+        → IfOk result (λ new. IfSome new (λ e. IsRootCid S.X.block32 (Some p.now) e.cid)) }
+    ensures saves { (root : TheCid) → IsRequired S.X.block32 root thing → OnlySaves S.X.block32
+        (IsBadRemadeIn S.X.block32 N.name64 p.now root) (stop_fault result) (S.seen store.old) (S.seen store.new) }
+    ensures touches { touches.new ≤ touches.old + 3 }
+    ensures touched { CountsUp (stop_fault result) touches.old touches.new }
+{
     let stat = stat_of::<S, N, L>(alloc, store, thing, touches)?;
     let meta = meta_after(what, &good(stat.meta));
     if stat.meta == meta {
-        return Ok(tree.root);
+        return Ok(None);
     }
-    renewed_root::<S, N, L>(alloc, store, tree, thing, &meta, names, touches)
-}
-
-// The root where this thing, to which the names lead, has this metadata.
-fn renewed_root<S: Store, N: NameHash, L: Ledger>(
-    alloc: Global,
-    store: &mut S,
-    tree: &Mfs,
-    thing: Thing,
-    meta: &Meta,
-    names: &[Name],
-    touches: &mut Steps<L>,
-) -> Result<Entry, Stop>
-    requires mfs { IsMfs tree.now }
-    requires meta { IsTrue (is_meta meta.now) }
-    ensures edits { (t : Tree) (es : Entries)
-        → IsFolderOver S.X.block32 N.name64 tree.now.profile (S.seen store.old) (S.seen store.new) [] tree.now.root es
-        → at 0 names.now (Dir es) ≡ Ok t
-        → IsAgreedThing S.X.block32 N.name64 (S.seen store.old).told tree.now.profile t thing
-        → EditsAfter S.X.block32 N.name64 (S.seen store.old).told (S.seen store.new).told
-        (blocks S.X.block32 N.name64 tree.now.profile (Dir es)) tree.now.profile
-        (allowed S.X.block32 N.name64 tree.now.profile (with_meta_at meta.now t names.now es)) result }
-    ensures saves { IsRequired S.X.block32 tree.now.root.cid thing → OnlySaves S.X.block32
-        (IsBadRemadeIn S.X.block32 N.name64 tree.now.profile tree.now.root.cid) (stop_fault result)
-        (S.seen store.old) (S.seen store.new) }
-    ensures touches { (t : Tree) (es : Entries)
-        → IsFolderOver S.X.block32 N.name64 tree.now.profile (S.seen store.old) (S.seen store.new) [] tree.now.root es
-        → at 0 names.now (Dir es) ≡ Ok t
-        → IsAgreedThing S.X.block32 N.name64 (S.seen store.old).told tree.now.profile t thing
-        → touches.new ≤ touches.old + (2 + 40 * length names.now) }
-    ensures touched { CountsUp (stop_fault result) touches.old touches.new }
-{
-    let new = renewed::<S, N, L>(alloc, store, &tree.profile, thing, meta, touches)?;
-    if names.is_empty() {
-        return Ok(new);
-    }
-    put_root::<S, N, L>(alloc, store, tree, names, &new, touches)
+    let new = renewed::<S, N, L>(alloc, store, p, thing, &meta, touches)?;
+    Ok(Some(new))
 }
 
 // The entry of this thing with this metadata.
@@ -285,6 +290,8 @@ fn renewed<S: Store, N: NameHash, L: Ledger>(
         → GivesRemade S.X.block32 N.name64 p.now (S.seen store.old).told (S.seen store.new).told meta.now t result }
     ensures saves { (root : TheCid) → IsRequired S.X.block32 root thing → OnlySaves S.X.block32
         (IsBadRemadeIn S.X.block32 N.name64 p.now root) (stop_fault result) (S.seen store.old) (S.seen store.new) }
+    ensures made { (e : TheEntry) (seen : TheOption FolderRoot) → thing ≡ Folder e seen
+        → IfOk result (λ new. IsRootCid S.X.block32 (Some p.now) new.cid) }
     ensures touches { touches.new ≤ touches.old + 2 }
     ensures touched { CountsUp (stop_fault result) touches.old touches.new }
 {

@@ -1,22 +1,20 @@
 // Files of the tree written into and cut.
 ghost use Rattle.std.specs.Prelude.{◌≡◌, ◌≢◌, ◌+◌, ◌*◌, ◌∷◌, ◌<◌, ◌≤◌, ◌^◌, [], ℕ, List, Err, IfErr, IfOk};
-ghost use Rattle.std.specs.Prelude.{IsTrue, None, OnErr, OnOk, Ok, Some, false, is_ok, length, true};
+ghost use Rattle.std.specs.Prelude.{IsTrue, None, OnErr, OnOk, Ok, Some, false, length};
 ghost use Rattle.std.specs.declared.option.Option.{Option as TheOption};
 ghost use Rattle.uf_build.specs.declared.fault.BuildFault.TheVariants as built;
 ghost use Rattle.uf_edge.specs.Counts.{Stood};
 ghost use Rattle.uf_fileedit.specs.Bad.{IsBadEdited};
 ghost use Rattle.uf_plain.specs.declared.file.FileEdit.TheVariants.{Truncate, Write};
 ghost use Rattle.uf_plain.specs.Edits.{at, child, edited};
-ghost use Rattle.uf_plain.specs.Files.{begun, file_edited, fitting, kept_meta, plain_bytes_at, rewritten, truncated};
+ghost use Rattle.uf_plain.specs.Files.{begun, fitting, kept_meta, rewritten, truncated};
 ghost use Rattle.uf_plain.specs.Files.{written};
-ghost use Rattle.uf_plain.specs.Needs.{way};
 ghost use Rattle.uf_plain.specs.Rules.{allowed};
-ghost use Rattle.uf_store.specs.Calls.{OnlyReads, OnlySaves};
+ghost use Rattle.uf_store.specs.Calls.{OnlySaves};
 ghost use Rattle.uf_store.specs.Clashes.{IsSaving};
 ghost use Rattle.uf_store.specs.Contents.{Told};
 ghost use Rattle.uf_store.specs.Faults.{NoneIsBad, fault_in};
 ghost use Rattle.uf_store.specs.Keeping.{Holds, KeepsGood};
-ghost use Rattle.uf_store.specs.Lost.{ReadsOver};
 ghost use Rattle.uf_store.specs.Writing.{SavesOnly};
 ghost use Rattle.uf_tree.specs.declared.meta.Meta.{Meta as TheMeta};
 ghost use Rattle.uf_tree.specs.declared.nodes.Entry.{Entry as TheEntry};
@@ -26,20 +24,17 @@ ghost use Rattle.uf_tree.specs.Metas.{is_meta};
 ghost use Rattle.uf_tree.specs.Profiles.{is_profile};
 ghost use Rattle.uf_tree.specs.Tree.{Dir, Entries, File, Tree};
 ghost use Rattle.uf_tree.specs.TreePlan.{blocks};
-ghost use Rattle.uf_dir.specs.Roots.{IsRootCid};
-ghost use Rattle.uf_mfs.specs.Answers.{Decides, EditsAfter, Moves, ShownInTree};
-ghost use Rattle.uf_mfs.specs.Bad.{IsBadInTree};
+ghost use Rattle.uf_mfs.specs.Answers.{Decides, Moves, ShownInTree};
 ghost use Rattle.uf_mfs.specs.Reading.{AreHeights};
-ghost use Rattle.uf_mfs.specs.Standing.{IsAgreed, IsAgreedMember, IsMfs, StandsAt, StandsOver};
-ghost use Rattle.uf_mfs.specs.Steps.{EditsFolder, IsFolderOver, MovesTree, stop_fault, tree_fault};
-ghost use Rattle.uf_mfs.specs.Touches.{CountsUp, TouchesFolder, crossings_of, touch_bound};
-ghost use Rattle.uf_mfs.specs.Writes.{EditsFileAt, IsBadInSome, IsBadWrittenIn, IsFileOver, IsStart, IsStepOf};
-ghost use Rattle.uf_mfs.specs.Writes.{MakesFile, TouchesFileAt, writing_bound};
-ghost use Rattle.uf_mfs.specs.Writes.{cuts_first, file_touches, fitting_bytes, fitting_edit, leaves_bytes};
-ghost use Rattle.uf_mfs.specs.Writes.{may_create, member_at, rewriting_touches, with_fitting};
+ghost use Rattle.uf_mfs.specs.Standing.{IsAgreedMember, IsMfs, StandsAt, StandsOver};
+ghost use Rattle.uf_mfs.specs.Steps.{IsFolderOver, MovesTree, stop_fault, tree_fault};
+ghost use Rattle.uf_mfs.specs.Touches.{CountsUp, TouchesFolder};
+ghost use Rattle.uf_mfs.specs.Writes.{IsBadInSome, IsBadWrittenIn, IsFileOver, IsStart, IsStepOf};
+ghost use Rattle.uf_mfs.specs.Writes.{MakesFile, writing_bound};
+ghost use Rattle.uf_mfs.specs.Writes.{file_touches, fitting_bytes, leaves_found};
+ghost use Rattle.uf_mfs.specs.Writes.{rewriting_touches};
 
-use crate::contents::look_at_file;
-use crate::editing::{Act, Site, edit, put_in};
+use crate::editing::{Act, Site};
 use crate::{Mfs, MfsFault, Stop, Thing};
 use std::alloc::Global;
 use std::sync::ledger::Ledger;
@@ -101,8 +96,8 @@ impl Mfs {
         ensures touched { CountsUp (tree_fault result) touches.old touches.new }
     {
         let names = path.names.as_slice();
-        let what = FileEdit::Write(*how);
-        let edited = edited_root::<S, N, L>(alloc, store, self, what, piece, names, touches);
+        let what = Act::Rewrite(FileEdit::Write(*how));
+        let edited = self.edited_root::<S, N, L>(alloc, store, what, piece, names, touches);
         self.settled(alloc, names, edited)
     }
 
@@ -139,110 +134,19 @@ impl Mfs {
         ensures touched { CountsUp (tree_fault result) touches.old touches.new }
     {
         let names = path.names.as_slice();
-        let what = FileEdit::Truncate(length);
-        let edited = edited_root::<S, N, L>(alloc, store, self, what, &[], names, touches);
+        let what = Act::Rewrite(FileEdit::Truncate(length));
+        let edited = self.edited_root::<S, N, L>(alloc, store, what, &[], names, touches);
         self.settled(alloc, names, edited)
     }
 }
 
-// The root after an edit of the file that the names lead to: as it is, where the edit leaves the bytes of a file that
-// is there.
-fn edited_root<S: Store, N: NameHash, L: Ledger>(
-    alloc: Global,
-    store: &mut S,
-    tree: &Mfs,
-    what: FileEdit,
-    piece: &[u8],
-    names: &[Name],
-    touches: &mut Steps<L>,
-) -> Result<Entry, Stop>
-    requires profile { IsTrue (is_profile tree.now.profile) }
-    ensures edits { EditsFileAt S.X.block32 N.name64 tree.now.profile (S.seen store.old) (S.seen store.new)
-        what piece.now tree.now.root names.now result }
-    ensures idle { (p : TheProfile) (es : Entries) (m : TheMeta) (bytes : List ℕ)
-        → IsAgreed S.X.block32 N.name64 (S.seen store.old).told p tree.now.root (Dir es)
-        → Stood (S.seen store.old).faults (S.seen store.new).faults
-        → leaves_bytes what piece.now ≡ true → at 0 names.now (Dir es) ≡ Ok (File m bytes)
-        → ((S.seen store.new).told ≡ (S.seen store.old).told) × IfOk result (λ e. e ≡ tree.now.root) }
-    ensures saves { OnlySaves S.X.block32
-        (IsBadWrittenIn S.X.block32 N.name64 tree.now.profile (S.seen store.new).told tree.now.root.cid)
-        (stop_fault result) (S.seen store.old) (S.seen store.new) }
-    ensures touches { TouchesFileAt S.X.block32 N.name64 tree.now.profile (S.seen store.old) (S.seen store.new) 51
-        what piece.now tree.now.root names.now touches.old touches.new }
-    ensures touched { CountsUp (stop_fault result) touches.old touches.new }
+/// Whether an edit leaves the bytes of what was found under its name.
+pub(crate) fn leaves(what: FileEdit, piece: &[u8], found: Option<Thing>) -> bool
+    ensures { result ≡ leaves_found what piece.now found }
 {
-    if leaves(what, piece) && leads_to_file::<S, N, L>(alloc, store, &tree.root, names, touches)? {
-        return Ok(tree.root);
-    }
-    changed_file::<S, N, L>(alloc, store, tree, what, piece, names, touches)
-}
-
-// The root after an edit of the file that the names lead to.
-fn changed_file<S: Store, N: NameHash, L: Ledger>(
-    alloc: Global,
-    store: &mut S,
-    tree: &Mfs,
-    what: FileEdit,
-    piece: &[u8],
-    names: &[Name],
-    touches: &mut Steps<L>,
-) -> Result<Entry, Stop>
-    requires profile { IsTrue (is_profile tree.now.profile) }
-    ensures edits { EditsFileAt S.X.block32 N.name64 tree.now.profile (S.seen store.old) (S.seen store.new)
-        what piece.now tree.now.root names.now result }
-    ensures saves { OnlySaves S.X.block32
-        (IsBadWrittenIn S.X.block32 N.name64 tree.now.profile (S.seen store.new).told tree.now.root.cid)
-        (stop_fault result) (S.seen store.old) (S.seen store.new) }
-    ensures touches { TouchesFileAt S.X.block32 N.name64 tree.now.profile (S.seen store.old) (S.seen store.new) 40
-        what piece.now tree.now.root names.now touches.old touches.new }
-    ensures touched { CountsUp (stop_fault result) touches.old touches.new }
-{
-    match names {
-        [] => Err(Stop::Refused(Refused::IsADirectory(0))),
-        [name, rest @ ..] => {
-            let site = Site {
-                profile: tree.profile,
-                what: Act::Rewrite(what),
-                piece,
-                led: 0,
-            };
-            edit::<S, N, L>(alloc, store, &site, name, rest, &tree.root, touches)
-        }
-    }
-}
-
-// Whether an edit leaves the bytes of each file as they are.
-fn leaves(what: FileEdit, piece: &[u8]) -> bool
-    ensures { result ≡ leaves_bytes what piece.now }
-{
-    match what {
-        FileEdit::Write(how) => piece.is_empty() && !how.cut,
-        FileEdit::Truncate(_) => false,
-    }
-}
-
-// Whether the names lead to a file.
-fn leads_to_file<S: Store, N: NameHash, L: Ledger>(
-    alloc: Global,
-    store: &mut S,
-    root: &Entry,
-    names: &[Name],
-    touches: &mut Steps<L>,
-) -> Result<bool, StoreFault>
-    ensures leads { (p : TheProfile) (es : Entries)
-        → IsAgreed S.X.block32 N.name64 (S.seen store.old).told p root.now (Dir es)
-        → Stood (S.seen store.old).faults (S.seen store.new).faults
-        → ReadsOver (S.seen store.old).told (way S.X.block32 N.name64 p names.now (Dir es))
-        (is_ok (plain_bytes_at names.now es)) result }
-    ensures reads { OnlyReads S.X.block32 (IsBadInTree S.X.block32 N.name64 None root.now.cid)
-        (fault_in result) (S.seen store.old) (S.seen store.new) }
-    ensures touches { touches.new ≤ touches.old + 11 * length names.now }
-    ensures touched { CountsUp (fault_in result) touches.old touches.new }
-{
-    match look_at_file::<S, N, L>(alloc, store, names, root, touches) {
-        Ok(_) => Ok(true),
-        Err(Stop::Refused(_)) => Ok(false),
-        Err(Stop::Store(fault)) => Err(fault),
+    match (what, found) {
+        (FileEdit::Write(how), Some(Thing::File(_, _))) => piece.is_empty() && !how.cut,
+        _ => false,
     }
 }
 
@@ -318,42 +222,12 @@ fn start_of(what: FileEdit, led: usize, found: Option<Thing>) -> Result<Start, R
         → IsAgreedMember X N told p o found
         → Decides (λ bytes start. IsStart X N told p o bytes start) (begun what led o) result }
 {
-    match found {
-        None => {
-            if creates(what) {
-                Ok(Start::Empty(Meta::none()))
-            } else {
-                Err(Refused::NotFound(led))
-            }
-        }
-        Some(Thing::Folder(_, _)) => Err(Refused::IsADirectory(led)),
-        Some(Thing::File(entry, size)) => {
-            if empties(what) {
-                Ok(Start::Empty(size.meta))
-            } else {
-                Ok(Start::There(entry))
-            }
-        }
-    }
-}
-
-// Whether an edit creates a file that isn't there.
-fn creates(what: FileEdit) -> bool
-    ensures { result ≡ may_create what }
-{
-    match what {
-        FileEdit::Write(how) => how.create,
-        FileEdit::Truncate(_) => false,
-    }
-}
-
-// Whether an edit empties a file first.
-fn empties(what: FileEdit) -> bool
-    ensures { result ≡ cuts_first what }
-{
-    match what {
-        FileEdit::Write(how) => how.cut,
-        FileEdit::Truncate(_) => false,
+    match (what, found) {
+        (FileEdit::Write(how), None) if how.create => Ok(Start::Empty(Meta::none())),
+        (_, None) => Err(Refused::NotFound(led)),
+        (_, Some(Thing::Folder(_, _))) => Err(Refused::IsADirectory(led)),
+        (FileEdit::Write(how), Some(Thing::File(_, it))) if how.cut => Ok(Start::Empty(it.meta)),
+        (_, Some(Thing::File(entry, _))) => Ok(Start::There(entry)),
     }
 }
 

@@ -11,8 +11,6 @@ mod listing;
 mod lists;
 mod reading;
 mod removing;
-#[cfg(test)]
-mod tests;
 mod texts;
 mod writing;
 

@@ -16,8 +16,8 @@ use Rattle.uf_tree.specs.TreePlan.{dir_refusal, entry, first_refusal, named_entr
 use Rattle.uf_tree.specs.Validity.{IsDirectory, IsHash}
 use Rattle.uf_tree.proofs.TreeLaws.{meta-entries, named_entries-with, named_entries-without, pairs-entries}
 use Rattle.uf_tree.proofs.Valid.{directory-valid, entry-valid}
-use Rattle.uf_sizes.proofs.Removed.{removed-less, removed-plan}
-use Rattle.uf_sizes.proofs.Replaced.{replaced-plan, replaced-tsize}
+use Rattle.uf_laws.proofs.Removed.{removed-less, removed-plan}
+use Rattle.uf_laws.proofs.Replaced.{replaced-plan, replaced-tsize}
 use Rattle.uf_plain.specs.declared.rule.Refused.{Refused}
 use Rattle.uf_plain.specs.Edits.{and_then, as_folder, as_removable, child, edited, removed, taken, with_child, with_folder, without_child}
 use Rattle.uf_plain.proofs.Plans.{Each, each-find, each-where, entry-is, find-child, first-none, first-put, none-first, none-second, plans, refusal-is}

@@ -8,8 +8,6 @@ mod peer;
 mod pulling;
 mod receiving;
 mod serving;
-#[cfg(test)]
-mod tests;
 mod vectors;
 mod want;
 

@@ -16,7 +16,7 @@ use Rattle.uf_tree.specs.Tree.{Tree, is_tree}
 use Rattle.uf_tree.specs.TreePlan.{blocks, entry, refusal}
 use Rattle.uf_tree.specs.Validity.{IsHash}
 use Rattle.uf_laws.proofs.Held.{tree-digested}
-use Rattle.uf_unique.proofs.Trees.{same_tree}
+use Rattle.uf_laws.proofs.Trees.{same_tree}
 use Rattle.uf_lenient.specs.declared.unixfs.Unixfs.{Unixfs}
 use Rattle.uf_lenient.specs.declared.unixfs.Unixfs.TheVariants.{Directory, File, Other, OtherShard, Shard}
 use Rattle.uf_lenient.specs.Leading.{IsFollowed, LeadsInto, block_cids, links_to_read}

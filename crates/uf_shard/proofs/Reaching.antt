@@ -135,7 +135,7 @@ module _ (X : List ℕ → List ℕ) (N : List ℕ → ℕ) where
           ∙ ap (spot_of name) (find-tabulate 256 0 (λ s. slot_item (deeper_of left) (bucket N (level_of left) s l)) (slot hash (level_of left)) (omega arith) (let b : slot hash (level_of left) < 256 = slot-bound hash (level_of left) in omega arith))
 
   -- a name is found in its slot's pairs
-  find-slot : (k : ℕ) (name : List ℕ) (l : List Named) → find names_cmp name l ≡ find names_cmp name (bucket N k (slot (N name) k) l)
+  pub find-slot : (k : ℕ) (name : List ℕ) (l : List Named) → find names_cmp name l ≡ find names_cmp name (bucket N k (slot (N name) k) l)
   find-slot k name l = sym (find-where_key names_cmp (λ n. slot (N n) k == slot (N name) k) name (λ x e. ap (λ n. slot (N n) k == slot (N name) k) (sym (names_exact name x e))) l
       ∙ ap (λ b. cond b (find names_cmp name l) None) (eqb_same (slot (N name) k)))
 
@@ -261,45 +261,6 @@ module _ (X : List ℕ → List ℕ) (N : List ℕ → ℕ) where
     over_more told b path value (Err (Clash c x y)) held h = h
     over_more told b path value (Err Memory) held h = tt
 
-    -- the answer of a search that may be one level deeper
-    abbrev pub Deeper : ℕ → Cid → Seen → Seen → Result (Option Entry) StoreFault → Type 0
-    Deeper left c mid now r = (k : List Named) → IsReached X N (N name) left c none k → Agrees mid.told (shard_trail X N left none k name) → Stood mid.faults now.faults
-        → FindsOver mid.told (shard_trail X N left none k name) (find names_cmp name k) r
-
-    pub find-below : (left : ℕ) (root c : Cid) (m : Meta) (l : List Named) → left ≤ 7 → 7 - left < 7 → (before mid now : Seen) (r : Result (Option Entry) StoreFault)
-        → SaysOf N (N name) (7 - left) root name before (Below c) → mid.told ≡ before.told → mid.faults ≡ before.faults → Deeper (left - 1) c mid now r
-        → IsReached X N (N name) left root m l → Agrees before.told (shard_trail X N left m l name) → Stood before.faults now.faults
-        → FindsOver before.told (shard_trail X N left m l name) (find names_cmp name l) r
-    find-below zero root c m l low room before mid now r says same calm deeper is agrees stood = absurd (omega arith)
-    find-below (suc left) root c m l low room before mid now r says same calm deeper is agrees stood =
-        subst (λ (path : List Held). FindsOver before.told path (find names_cmp name l) r) (sym (trail-is (suc left) m l name ∙ ap (λ (path : List Held). head_of (suc left) m l ∷ path) goes.shared))
-        (over_more before.told (head_of (suc left) m l) path (find names_cmp name l) r (first before.told agrees says.has.is_held)
-        (subst (λ (v : Option Entry). FindsOver before.told path v r) (sym (find-slot (6 - left) name l))
-        (subst (λ (told : Told). FindsOver told path (find names_cmp name b) r) same
-        (subst (λ (n : ℕ). Deeper n c mid now r) less deeper b (reached_below left root c m l path low is goes)
-        (subst (λ (told : Told). Agrees told path) (sym same) (rest before.told (subst (Agrees before.told) (trail-is (suc left) m l name ∙ ap (λ (path : List Held). head_of (suc left) m l ∷ path) goes.shared) agrees)))
-        (subst (λ (n : ℕ). Stood n now.faults) (sym calm) stood)))))
-      where
-        b : List Named
-        b = slot_of (N name) (suc left) l
-
-        path : List Held
-        path = shard_trail X N left none b name
-
-        less : suc left - 1 ≡ left
-        less = omega arith
-
-        goes : Goes (shard X N left none) c b path
-        goes = below_goes (shard X N left none) name b path c (it_says good (N name) (suc left) root m l low is name before (Below c) agrees says)
-
-        first : (told : Told) → Agrees told (shard_trail X N (suc left) m l name) → IfSome told (λ t. held_at t root ≡ Some (shard_node_block says.node)) → Holds told (head_of (suc left) m l ∷ [])
-        first None a h = absurd a
-        first (Some t) a h = (head-held (suc left) root m l low is t (shard_node_block says.node) a h, tt)
-
-        rest : (told : Told) → Agrees told (head_of (suc left) m l ∷ path) → Agrees told path
-        rest None a = a
-        rest (Some t) a = a.1
-
     along_none : (m : List Named) → AllByRecursion (λ (e : Named). way (N e.0) (7 - 7) ≡ way (N name) (7 - 7)) m
     along_none [] = tt
     along_none (e ∷ m) = (refl, along_none m)
@@ -331,10 +292,3 @@ module _ (X : List ℕ → List ℕ) (N : List ℕ → ℕ) where
         → IsReached X N (N name) left root m l → Agrees before.told (shard_trail X N left m l name) → (e ≡ find names_cmp name l) × Holds before.told (shard_trail X N left m l name)
     find-here-at left root m l low before spot e at says is agrees =
         find-here left root m l low before e (subst (λ (s : Spot). SaysOf N (N name) (7 - left) root name before s) at says) is agrees
-
-    pub find-below-at : (left : ℕ) (root c : Cid) (m : Meta) (l : List Named) → left ≤ 7 → (before mid now : Seen) (r : Result (Option Entry) StoreFault) (spot : Spot) → spot ≡ Below c → HasRoom (7 - left) spot
-        → SaysOf N (N name) (7 - left) root name before spot → mid.told ≡ before.told → mid.faults ≡ before.faults → Deeper (left - 1) c mid now r
-        → IsReached X N (N name) left root m l → Agrees before.told (shard_trail X N left m l name) → Stood before.faults now.faults
-        → FindsOver before.told (shard_trail X N left m l name) (find names_cmp name l) r
-    find-below-at left root c m l low before mid now r spot at room says same calm deeper is agrees stood =
-        find-below left root c m l low (subst (HasRoom (7 - left)) at room) before mid now r (subst (λ (s : Spot). SaysOf N (N name) (7 - left) root name before s) at says) same calm deeper is agrees stood

@@ -1,5 +1,5 @@
 -- Shards read where they stand.
-use Rattle.std.proofs.Common.{◌≡◌, ◌≢◌, ℕ, List, inl, inr, sym, ◌∙◌, subst, Bool, true, false, Ok, Err}
+use Rattle.std.proofs.Common.{◌≡◌, ◌≢◌, ℕ, List, [], inl, inr, sym, ◌∙◌, subst, Bool, true, false, Ok, Err}
 use Rattle.std.specs.Prelude.{IsTrue, ◌↔◌}
 use Rattle.std.specs.List.{AllByRecursion}
 use Rattle.std.proofs.lemmas.Bool.{false≢true}
@@ -35,3 +35,15 @@ module _ (N : List ℕ → ℕ) (above : List ℕ) (bytes : List ℕ) where
   -- a block that is refused isn't canonical
   pub not_canonical : ((v : ShardNode) → IsPlacedNode N above v → bytes ≢ shard_node_block v) → IsCanonicalShard N above bytes → ⊥
   not_canonical h c = h (record { items = c.items; meta = c.meta }) (record { good = c.good; carries = c.carries; placed = record { valid = c.valid; on_way = c.on_way } }) c.is
+
+-- the shard of level 0, behind which no slots are
+pub first-placed : (N : List ℕ → ℕ) (node : ShardNode) (b : Bool) → IsShardNode node → IsTrue b ↔ (MayCarry [] node.meta × AllByRecursion (IsOnWay N []) node.items) → IsTrue b ↔ IsPlacedNode N [] node
+first-placed N node b valid iff = (
+  λ t. let right = iff.0 t in record { good = valid.meta; carries = right.0; placed = record { valid = valid.items; on_way = right.1 } },
+  λ k. iff.1 (k.carries, k.placed.on_way),
+)
+
+-- what isn't is no shard of level 0
+pub misplaced : (N : List ℕ → ℕ) (bytes : List ℕ) (node : ShardNode) (b : Bool) → IsShardNode node → bytes ≡ shard_node_block node → IsTrue b ↔ IsPlacedNode N [] node → b ≡ false → Reads (IsPlacedNode N []) shard_node_block bytes (Err NotCanonical)
+misplaced N bytes node b valid same iff fails =
+    inr (λ v k e. false≢true (sym fails ∙ iff.1 (subst (IsPlacedNode N []) (one_shard v node (record { items = k.placed.valid; meta = k.good }) valid (sym e ∙ same)) k)))

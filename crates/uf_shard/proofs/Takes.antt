@@ -242,3 +242,9 @@ unsaved-left before mid now X m items (Ok Empty) h left nothing =
     nothing ∙ none
 unsaved-left before mid now X m items (Ok (Left e)) h left nothing = tt
 unsaved-left before mid now X m items (Err fault) h left nothing = tt
+
+-- where something is left of a slot, the slot isn't as it was
+pub not-same : (X : List ℕ → List ℕ) (N : List ℕ → ℕ) (before now : Told) (items : List InSlot) (r : Result Rest StoreFault) (P : Type 0) → LeavesBelow X N before now items r → IfOk r (λ rest. rest ≡ Same → P)
+not-same X N before now items (Ok Same) P leaves = absurd leaves
+not-same X N before now items (Ok (Of item)) P leaves = λ e. absurd (let no : Of item ≡ Same = e in cc)
+not-same X N before now items (Err fault) P leaves = tt

@@ -1,28 +1,41 @@
--- The CIDs of the shards on the way of a name.
-use Rattle.std.proofs.Common.{◌≡◌, ℕ, zero, suc, ◌+◌, ◌-◌, ◌<◌, ◌≤◌, List, [], ◌∷◌, ◌++◌, refl, ap, append_assoc, arith, sym, ◌∙◌, subst, Option, Some, None, Result, Ok, Err}
-use Rattle.std.specs.Prelude.{IfSome}
+-- The entry of a name, and the CIDs of the shards on its way.
+use Rattle.std.proofs.Common.{◌≡◌, ℕ, zero, suc, ◌+◌, ◌-◌, ◌<◌, ◌≤◌, List, [], ◌∷◌, ◌++◌, refl, ap, append_assoc, arith, sym, ◌∙◌, subst, Bool, false, Option, Some, None, Result, Ok, Err}
+use Rattle.std.specs.Prelude.{IfSome, IsTrue, ◌↔◌}
+use Rattle.std.specs.FinMap.Entries.{find}
+use Rattle.std.specs.Ordering.{nat_cmp}
+use Rattle.uf_cid.specs.declared.bytes.StrictFault.TheVariants.{NotCanonical}
 use Rattle.uf_cid.specs.declared.cid.Cid.{Cid}
 use Rattle.uf_cid.specs.Blocks.{Held}
 use Rattle.uf_edge.specs.Counts.{Stood}
+use Rattle.uf_murmur.specs.Slots.{slot}
 use Rattle.uf_store.specs.Contents.{Told, held_at}
-use Rattle.uf_store.specs.Keeping.{Agrees, Holds}
+use Rattle.uf_store.specs.Faults.{Shown, StaysCalm}
+use Rattle.uf_store.specs.Keeping.{Agrees, Holds, HoldsOne}
 use Rattle.uf_store.specs.Lost.{FindsOver}
-use Rattle.uf_store.specs.Seen.{Seen}
+use Rattle.uf_store.specs.Seen.{Finds, Seen}
+use Rattle.uf_store.specs.declared.store.Role.TheVariants.{Shard}
 use Rattle.uf_store.specs.declared.store.StoreFault.{StoreFault}
 use Rattle.uf_store.specs.declared.store.StoreFault.TheVariants.{Failed, Damaged, Missing, BadBlock, Clash, Memory}
 use Rattle.uf_tree.specs.declared.nodes.Entry.{Entry}
 use Rattle.uf_tree.specs.Metas.{none}
-use Rattle.uf_tree.specs.Codecs.{shard_node_block}
-use Rattle.uf_tree.specs.Nodes.{Named}
+use Rattle.uf_tree.specs.Codecs.{Reads, shard_node_block}
+use Rattle.uf_tree.specs.Names.{names_cmp}
+use Rattle.uf_tree.specs.Nodes.{InSlot, Named}
 use Rattle.uf_tree.specs.declared.meta.Meta.{Meta}
+use Rattle.uf_tree.specs.declared.nodes.ShardNode.{ShardNode}
 use Rattle.uf_tree.specs.ShardPlan.{shard, shard_trail, slot_item}
-use Rattle.uf_tree.specs.Validity.{IsHash}
-use Rattle.uf_shard.specs.Reached.{IsReached, SaysOf}
+use Rattle.uf_tree.specs.Validity.{IsHash, IsShardNode}
+use Rattle.uf_shard.specs.Placed.{IsBadOnWay, IsPlacedNode, way}
+use Rattle.uf_shard.specs.Planned.{IsPlanned}
+use Rattle.uf_shard.specs.Reached.{IsBadThere, IsReached, SaysOf}
 use Rattle.uf_shard.specs.Spots.{HasRoom, spot_of}
-use Rattle.uf_shard.specs.Trails.{trail_cids}
+use Rattle.uf_shard.specs.Trails.{traced_behind, trail_cids}
 use Rattle.uf_shard.specs.declared.spot.Spot.{Spot}
 use Rattle.uf_shard.specs.declared.spot.Spot.TheVariants.{Here, Below}
-use Rattle.uf_shard.proofs.Reaching.{Goes, below_goes, deeper_of, find-here-at, head-held, head_of, here_value, it_says, over_more, reached_below, root-is, slot_of, trail-is, trail_below}
+use Rattle.uf_shard.specs.declared.traced.Traced.{Traced}
+use Rattle.uf_shard.proofs.Blaming.{way-loads, way-reads}
+use Rattle.uf_shard.proofs.Readings.{misplaced}
+use Rattle.uf_shard.proofs.Reaching.{Goes, below_goes, deeper_of, find-err, find-here-at, find-slot, head-held, head_of, here_value, it_says, over_more, reached-root, reached_below, root-is, slot_of, trail-is, trail_below}
 
 -- a fault is that of a loss, whatever is looked for
 pub loses : {A B : Type 0} (told : Told) (l : List Held) (v : A) (w : B) (f : StoreFault) → FindsOver told l v (Err f) → FindsOver told l w (Err f)
@@ -33,6 +46,11 @@ loses told l v w (BadBlock c role) h = h
 loses told l v w (Clash c a b) h = h
 loses told l v w Memory h = h
 
+-- a shard may stand below the root
+pub room-first : (spot : Spot) → HasRoom 0 spot
+room-first (Here e) = tt
+room-first (Below c) = omega arith
+
 module _ (X : List ℕ → List ℕ) (N : List ℕ → ℕ) (good : IsHash X) (name : List ℕ) where
   abbrev path : ℕ → Meta → List Named → List Held
   path left m l = shard_trail X N left m l name
@@ -42,31 +60,39 @@ module _ (X : List ℕ → List ℕ) (N : List ℕ → ℕ) (good : IsHash X) (n
   ends zero l e h = refl
   ends (suc left) l e h = (here_value X N (deeper_of X N (suc left)) name (slot_of X N (N name) (suc left) l) (shard_trail X N left none (slot_of X N (N name) (suc left) l) name) e h).1
 
-  pub trail-here-at : (left : ℕ) (root : Cid) (m : Meta) (l : List Named) → left ≤ 7 → (above : List Cid) (before : Seen) (spot : Spot) (e : Option Entry) → spot ≡ Here e → SaysOf N (N name) (7 - left) root name before spot
-      → IsReached X N (N name) left root m l → Agrees before.told (path left m l) → (above ++ root ∷ [] ≡ above ++ trail_cids (path left m l)) × Holds before.told (path left m l)
-  trail-here-at left root m l low above before spot e at says is agrees =
+  abbrev both : Option Entry → List Cid → Traced
+  both e cids = record { entry = e; trail = cids }
+
+  abbrev found : List Cid → ℕ → Meta → List Named → Traced
+  found above left m l = traced_behind above (find names_cmp name l) (path left m l)
+
+  pub trace-here-at : (left : ℕ) (root : Cid) (m : Meta) (l : List Named) → left ≤ 7 → (above cids : List Cid) (before : Seen) (spot : Spot) (e : Option Entry) → cids ≡ above ++ root ∷ [] → spot ≡ Here e
+      → SaysOf N (N name) (7 - left) root name before spot → IsReached X N (N name) left root m l → Agrees before.told (path left m l) → (both e cids ≡ found above left m l) × Holds before.told (path left m l)
+  trace-here-at left root m l low above cids before spot e pushed at says is agrees =
       let here = subst (λ (s : Spot). SaysOf N (N name) (7 - left) root name before s) at says in
       let last = ends left l e (it_says X N good (N name) left root m l low is name before (Here e) agrees here) in
-      let one : path left m l ≡ head_of X N good name left m l ∷ [] = trail-is X N left m l name ∙ ap (λ (k : List Held). head_of X N good name left m l ∷ k) last in (
-        ap (λ (k : List Cid). above ++ k) (ap (λ (c : Cid). c ∷ []) (root-is X N good name left root m l is) ∙ sym (ap trail_cids one)),
-        (find-here-at X N good name left root m l low before spot e at says is agrees).1,
+      let one : path left m l ≡ head_of X N good name left m l ∷ [] = trail-is X N left m l name ∙ ap (λ (k : List Held). head_of X N good name left m l ∷ k) last in
+      let value = find-here-at X N good name left root m l low before spot e at says is agrees in (
+        ap (λ (k : List Cid). both e k) (pushed ∙ ap (λ (k : List Cid). above ++ k) (ap (λ (c : Cid). c ∷ []) (root-is X N good name left root m l is) ∙ sym (ap trail_cids one)))
+            ∙ ap (λ (v : Option Entry). both v (above ++ trail_cids (path left m l))) value.0,
+        value.1,
       )
 
   -- the answer of a search that may be one level deeper
-  abbrev pub Deeper : ℕ → Cid → Seen → Seen → List Cid → Result (List Cid) StoreFault → Type 0
+  abbrev pub Deeper : ℕ → Cid → Seen → Seen → List Cid → Result Traced StoreFault → Type 0
   Deeper left c mid now above r = (k : List Named) → IsReached X N (N name) left c none k → Agrees mid.told (path left none k) → Stood mid.faults now.faults
-      → FindsOver mid.told (path left none k) (above ++ trail_cids (path left none k)) r
+      → FindsOver mid.told (path left none k) (found above left none k) r
 
-  trail-below : (left : ℕ) (root c : Cid) (m : Meta) (l : List Named) → left ≤ 7 → 7 - left < 7 → (above : List Cid) (before mid now : Seen) (r : Result (List Cid) StoreFault)
+  trace-below : (left : ℕ) (root c : Cid) (m : Meta) (l : List Named) → left ≤ 7 → 7 - left < 7 → (above : List Cid) (before mid now : Seen) (r : Result Traced StoreFault)
       → SaysOf N (N name) (7 - left) root name before (Below c) → mid.told ≡ before.told → mid.faults ≡ before.faults → Deeper (left - 1) c mid now (above ++ root ∷ []) r
       → IsReached X N (N name) left root m l → Agrees before.told (path left m l) → Stood before.faults now.faults
-      → FindsOver before.told (path left m l) (above ++ trail_cids (path left m l)) r
-  trail-below zero root c m l low room above before mid now r says same calm deeper is agrees stood = absurd (omega arith)
-  trail-below (suc left) root c m l low room above before mid now r says same calm deeper is agrees stood =
-      subst (λ (p : List Held). FindsOver before.told p (above ++ trail_cids p) r) (sym split)
-      (over_more X N good name before.told head rest (above ++ head.0 ∷ trail_cids rest) r (first before.told agrees says.has.is_held)
-      (subst (λ (v : List Cid). FindsOver before.told rest v r) values
-      (subst (λ (told : Told). FindsOver told rest ((above ++ root ∷ []) ++ trail_cids rest) r) same
+      → FindsOver before.told (path left m l) (found above left m l) r
+  trace-below zero root c m l low room above before mid now r says same calm deeper is agrees stood = absurd (omega arith)
+  trace-below (suc left) root c m l low room above before mid now r says same calm deeper is agrees stood =
+      subst (λ (p : List Held). FindsOver before.told p (traced_behind above (find names_cmp name l) p) r) (sym split)
+      (over_more X N good name before.told head rest (both (find names_cmp name l) (above ++ head.0 ∷ trail_cids rest)) r (first before.told agrees says.has.is_held)
+      (subst (λ (v : Traced). FindsOver before.told rest v r) values
+      (subst (λ (told : Told). FindsOver told rest (found (above ++ root ∷ []) left none b) r) same
       (subst (λ (n : ℕ). Deeper n c mid now (above ++ root ∷ []) r) less deeper b (reached_below X N good name left root c m l rest low is goes)
       (subst (λ (told : Told). Agrees told rest) (sym same) (behind before.told (subst (Agrees before.told) split agrees)))
       (subst (λ (n : ℕ). Stood n now.faults) (sym calm) stood)))))
@@ -89,8 +115,11 @@ module _ (X : List ℕ → List ℕ) (N : List ℕ → ℕ) (good : IsHash X) (n
       split : path (suc left) m l ≡ head ∷ rest
       split = trail-is X N (suc left) m l name ∙ ap (λ (k : List Held). head ∷ k) goes.shared
 
-      values : (above ++ root ∷ []) ++ trail_cids rest ≡ above ++ head.0 ∷ trail_cids rest
-      values = append_assoc above (root ∷ []) (trail_cids rest) ∙ ap (λ (d : Cid). above ++ d ∷ trail_cids rest) (root-is X N good name (suc left) root m l is)
+      cids : (above ++ root ∷ []) ++ trail_cids rest ≡ above ++ head.0 ∷ trail_cids rest
+      cids = append_assoc above (root ∷ []) (trail_cids rest) ∙ ap (λ (d : Cid). above ++ d ∷ trail_cids rest) (root-is X N good name (suc left) root m l is)
+
+      values : found (above ++ root ∷ []) left none b ≡ both (find names_cmp name l) (above ++ head.0 ∷ trail_cids rest)
+      values = ap (λ (e : Option Entry). both e ((above ++ root ∷ []) ++ trail_cids rest)) (sym (find-slot X N (6 - left) name l)) ∙ ap (λ (k : List Cid). both (find names_cmp name l) k) cids
 
       first : (told : Told) → Agrees told (path (suc left) m l) → IfSome told (λ t. held_at t root ≡ Some (shard_node_block says.node)) → Holds told (head ∷ [])
       first None a h = absurd a
@@ -100,9 +129,51 @@ module _ (X : List ℕ → List ℕ) (N : List ℕ → ℕ) (good : IsHash X) (n
       behind None a = a
       behind (Some t) a = a.1
 
-  pub trail-below-at : (left : ℕ) (root c : Cid) (m : Meta) (l : List Named) → left ≤ 7 → (above : List Cid) (before mid now : Seen) (r : Result (List Cid) StoreFault) (spot : Spot) → spot ≡ Below c → HasRoom (7 - left) spot
-      → SaysOf N (N name) (7 - left) root name before spot → mid.told ≡ before.told → mid.faults ≡ before.faults → Deeper (left - 1) c mid now (above ++ root ∷ []) r
+  pub trace-below-at : (left : ℕ) (root c : Cid) (m : Meta) (l : List Named) → left ≤ 7 → (above cids : List Cid) (before mid now : Seen) (r : Result Traced StoreFault) (spot : Spot) → cids ≡ above ++ root ∷ [] → spot ≡ Below c → HasRoom (7 - left) spot
+      → SaysOf N (N name) (7 - left) root name before spot → mid.told ≡ before.told → mid.faults ≡ before.faults → Deeper (left - 1) c mid now cids r
       → IsReached X N (N name) left root m l → Agrees before.told (path left m l) → Stood before.faults now.faults
-      → FindsOver before.told (path left m l) (above ++ trail_cids (path left m l)) r
-  trail-below-at left root c m l low above before mid now r spot at room says same calm deeper is agrees stood =
-      trail-below left root c m l low (subst (HasRoom (7 - left)) at room) above before mid now r (subst (λ (s : Spot). SaysOf N (N name) (7 - left) root name before s) at says) same calm deeper is agrees stood
+      → FindsOver before.told (path left m l) (found above left m l) r
+  trace-below-at left root c m l low above cids before mid now r spot pushed at room says same calm deeper is agrees stood =
+      trace-below left root c m l low (subst (HasRoom (7 - left)) at room) above before mid now r (subst (λ (s : Spot). SaysOf N (N name) (7 - left) root name before s) at says) same calm
+      (subst (λ (k : List Cid). Deeper (left - 1) c mid now k r) pushed deeper) is agrees stood
+
+  -- ---- a root that was loaded before
+
+  seven : 7 ≤ 7
+  seven = omega arith
+
+  pub says-of : (root : Cid) (node : ShardNode) → IsPlacedNode N [] node → (before : Seen) → HoldsOne before.told root (shard_node_block node) → (spot : Spot) (s : ℕ) (slice : List InSlot) → s ≡ slot (N name) 0 → slice ≡ node.items
+      → spot ≡ spot_of name (find nat_cmp s slice) → SaysOf N (N name) 0 root name before spot
+  says-of root node placed before held spot s slice at same says = record {
+    node = node;
+    has = record { is = placed; is_held = held };
+    says = says ∙ ap (λ (k : ℕ). spot_of name (find nat_cmp k slice)) at ∙ ap (λ (i : List InSlot). spot_of name (find nat_cmp (slot (N name) 0) i)) same;
+  }
+
+  module _ (root : Cid) (before mid : Seen) (finds : Finds X root before mid) where
+    pub found-calm : StaysCalm before mid
+    found-calm = record { finds = finds.counted.finds.later; misses = finds.counted.misses.later; faults = finds.counted.faults.still refl; clashes = finds.counted.clashes.still refl }
+
+    -- it isn't canonical there
+    module _ (node : ShardNode) (valid : IsShardNode node) (lent : mid.lent ≡ shard_node_block node) (b : Bool) (iff : IsTrue b ↔ IsPlacedNode N [] node) (fails : b ≡ false) where
+      misread : Reads (IsPlacedNode N (way (N name) 0)) shard_node_block mid.lent (Err NotCanonical)
+      misread = misplaced N mid.lent node b valid lent iff fails
+
+      pub misplaced-cause : Shown X (IsBadOnWay N (N name)) (Some (BadBlock root (Shard 0))) before mid
+      misplaced-cause = (way-reads X root before mid finds found-calm mid.lent refl N (N name) 0 misread (omega arith)).cause
+
+      pub misplaced-value : (m : Meta) (l : List Named) → IsPlanned X N root m l → Agrees before.told (path 7 m l) → Stood before.faults mid.faults → FindsOver before.told (path 7 m l) (found [] 7 m l) (Err (BadBlock root (Shard 0)))
+      misplaced-value m l is agrees stood =
+          let absent : Option Entry = None in
+          let there : IsBadThere N (N name) 0 root (Shard 0) before mid = way-loads X root before mid finds found-calm mid.lent refl N (N name) 0 misread in
+          loses {A = Option Entry} {B = Traced} before.told (path 7 m l) absent (found [] 7 m l) (BadBlock root (Shard 0))
+          (find-err X N good name 7 root m l seven before mid (BadBlock root (Shard 0)) absent there misplaced-cause (reached-root X N good name root m l is) agrees stood)
+
+    -- it is
+    pub placed-value : (now : Seen) (m : Meta) (l : List Named) (r : Result Traced StoreFault) (block : List ℕ) → mid.lent ≡ block
+        → (HoldsOne mid.told root block → IsReached X N (N name) 7 root m l → Agrees mid.told (path 7 m l) → Stood mid.faults now.faults → FindsOver mid.told (path 7 m l) (found [] 7 m l) r)
+        → IsPlanned X N root m l → Agrees before.told (path 7 m l) → Stood before.faults now.faults → FindsOver before.told (path 7 m l) (found [] 7 m l) r
+    placed-value now m l r block lent answer is agrees stood =
+        subst (λ (told : Told). FindsOver told (path 7 m l) (found [] 7 m l) r) finds.same_told
+        (answer (subst (λ (t : Told). HoldsOne t root block) (sym finds.same_told) (subst (λ (b : List ℕ). HoldsOne before.told root b) lent finds.is_held)) (reached-root X N good name root m l is)
+        (subst (λ (told : Told). Agrees told (path 7 m l)) (sym finds.same_told) agrees) (subst (λ (n : ℕ). Stood n now.faults) (sym found-calm.faults) stood))

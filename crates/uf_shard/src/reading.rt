@@ -1,11 +1,12 @@
 // Shards read where they stand.
-ghost use Rattle.std.specs.Prelude.{◌≡◌, ◌<◌, ◌↔◌, ◌==◌, IsTrue, Some, None, cond};
+ghost use Rattle.std.specs.Prelude.{◌≡◌, ◌<◌, ◌↔◌, ◌==◌, [], IsTrue, Some, None, cond};
 ghost use Rattle.std.specs.FinMap.Entries.{find};
 ghost use Rattle.std.specs.List.{AllByRecursion};
 ghost use Rattle.std.specs.Ordering.{eq_by_cmp, nat_cmp};
 ghost use Rattle.uf_tree.specs.Codecs.{Reads, shard_node_block};
 ghost use Rattle.uf_tree.specs.Names.{names_cmp};
 ghost use Rattle.uf_tree.specs.Roles.{IsOnWay, MayCarry};
+ghost use Rattle.uf_tree.specs.Validity.{IsShardNode};
 ghost use Rattle.uf_shard.specs.Placed.{IsPlacedNode, way};
 ghost use Rattle.uf_shard.specs.Spots.{spot_of};
 
@@ -42,6 +43,14 @@ fn is_placed<N: NameHash>(node: &ShardNode, hash: u64, level: u8) -> bool
         × AllByRecursion (IsOnWay N.name64 (way hash level)) node.now.items) }
 {
     may_carry(&node.meta, level) && are_on_way::<N>(node.items.as_slice(), hash, level)
+}
+
+// Whether the shard is canonical at level 0, where no slot is above it.
+pub fn is_first<N: NameHash>(node: &ShardNode) -> bool
+    requires { IsShardNode node.now }
+    ensures { IsTrue result ↔ IsPlacedNode N.name64 [] node.now }
+{
+    is_placed::<N>(node, 0, 0)
 }
 
 // Whether each item stands on the way of the hash.

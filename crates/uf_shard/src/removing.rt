@@ -1,5 +1,5 @@
 // A name taken out.
-ghost use Rattle.std.specs.Prelude.{◌≡◌, ◌<◌, ◌≤◌, ◌+◌, ◌*◌, ◌-◌, ℕ, List, [], ◌∷◌, IfErr, IfOk, IfSome, IsTrue};
+ghost use Rattle.std.specs.Prelude.{◌≡◌, ◌<◌, ◌≤◌, ◌+◌, ◌*◌, ◌-◌, ℕ, List, [], ◌∷◌, IfErr, IfOk, IfSome, IsTrue, None};
 ghost use Rattle.std.specs.Ordering.{eq_by_cmp};
 ghost use Rattle.uf_edge.specs.Counts.{Stood};
 ghost use Rattle.uf_murmur.specs.Slots.{slot as slot_of};
@@ -21,6 +21,8 @@ ghost use Rattle.uf_shard.specs.Changed.{AreItems, IsItemAt, IsSlot, below, bloc
 ghost use Rattle.uf_shard.specs.Taken.{AgreesLeft, AreInSlots, IsLeftOf, IsValidRest, LeafWithout, LeavesBelow};
 ghost use Rattle.uf_shard.specs.Taken.{LeavesShard, SavesNothing, TakesSlot, TakesSlots, UnsavedBelow, UnsavedItems};
 ghost use Rattle.uf_shard.specs.Taken.{UnsavedRest, collapsed, left_without};
+ghost use Rattle.uf_shard.specs.declared.removed.Removed.TheVariants.{Absent};
+ghost use Rattle.uf_shard.specs.declared.rest.Rest.TheVariants.{Same};
 
 use crate::loading::{load_shard, slot_at};
 use crate::nodes::save_node;
@@ -36,8 +38,8 @@ use uf_tree::{Item, Items, Meta, Name, Placed};
 
 /// Takes a name out of the directory whose shard tree has this root, and answers what is left (UnixFS v1,
 /// "HAMTDirectory"). The directory's metadata stays. A shard below the root that is left with one entry gives way to that
-/// entry, level by level. Only the shards on the name's way are loaded and saved: at most 16 touches. Nothing is saved
-/// where the name isn't there or is the only one.
+/// entry, level by level. Only the shards on the name's way are loaded and saved: at most 16 touches, and at most eight
+/// where the name isn't there. Nothing is saved where the name isn't there or is the only one.
 pub fn remove<S: Store, N: NameHash, L: Ledger>(
     alloc: Global,
     store: &mut S,
@@ -62,6 +64,7 @@ pub fn remove<S: Store, N: NameHash, L: Ledger>(
     ensures good { KeepsGood S.X.block32 (S.seen store.old).told (S.seen store.new).told }
     ensures saves { SavesOnly S.X.block32 (S.seen store.old).told (S.seen store.new).told }
     ensures touches { touches.new ≤ touches.old + 16 }
+    ensures absent { IfOk result (λ left. left ≡ Absent → touches.new ≤ touches.old + 8) }
     ensures touched { touches.old < touches.new }
 {
     let node = load_shard::<S, N, L>(alloc, store, 0, root, name, touches)?;
@@ -119,6 +122,7 @@ fn items_without<S: Store, N: NameHash, L: Ledger>(
     ensures saves { OnlySaves S.X.block32 (IsBadOnWay N.name64 (N.name64 name.now)) (fault_in result)
         (S.seen store.old) (S.seen store.new) }
     ensures touches { touches.new ≤ touches.old + (2 * left + 1) }
+    ensures absent { IfOk result (λ rest. rest ≡ None → touches.new ≤ touches.old + (left + 1)) }
     ensures touched { touches.old < touches.new }
 {
     let node = load_shard::<S, N, L>(alloc, store, 7 - left, cid, name, touches)?;
@@ -146,6 +150,7 @@ fn take_from<S: Store, N: NameHash, L: Ledger>(
     ensures saves { OnlySaves S.X.block32 (IsBadOnWay N.name64 (N.name64 name.now)) (fault_in result)
         (S.seen store.old) (S.seen store.new) }
     ensures touches { touches.new ≤ touches.old + 2 * left }
+    ensures absent { IfOk result (λ rest. rest ≡ None → touches.new ≤ touches.old + left) }
     ensures touched { touches.old ≤ touches.new }
 {
     let slot = slot_at::<N>(name, 7 - left);
@@ -182,6 +187,7 @@ fn item_without<S: Store, N: NameHash, L: Ledger>(
     ensures saves { OnlySaves S.X.block32 (IsBadOnWay N.name64 (N.name64 name.now)) (fault_in result)
         (S.seen store.old) (S.seen store.new) }
     ensures touches { touches.new ≤ touches.old + 2 * left }
+    ensures absent { IfOk result (λ rest. rest ≡ Same → touches.new ≤ touches.old + left) }
     ensures touched { touches.old ≤ touches.new }
 {
     match found {

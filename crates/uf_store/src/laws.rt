@@ -1,14 +1,15 @@
 // Laws of what calls over a store leave, on which the layers above stand.
-ghost use Rattle.std.specs.Prelude.{ℕ, List};
+ghost use Rattle.std.specs.Prelude.{◌≡◌, ℕ, List, [], ◌∷◌, ◌++◌};
 ghost use Rattle.std.specs.declared.result.Result.{Result};
 ghost use Rattle.uf_cid.specs.Blocks.{Held};
 ghost use Rattle.uf_store.specs.declared.store.StoreFault.{StoreFault};
+ghost use Rattle.uf_store.specs.Among.{AreAmong, SavesAmong};
 ghost use Rattle.uf_store.specs.CallsWrite.{CallsWrite};
 ghost use Rattle.uf_store.specs.Contents.{Told};
 ghost use Rattle.uf_store.specs.Faults.{Answers, NoneIsBad, StaysCalm};
 ghost use Rattle.uf_store.specs.InMemory.{new_seen};
 ghost use Rattle.uf_store.specs.Keeping.{Agrees, AreGood, Holds, KeepsGood, StaysAgreed};
-ghost use Rattle.uf_store.specs.Seen.{Seen};
+ghost use Rattle.uf_store.specs.Seen.{KeepsHeld, Seen};
 ghost use Rattle.uf_store.specs.Stops.{TellsPlain};
 ghost use Rattle.uf_store.specs.Writing.{SavesOnly, WritesOnly};
 
@@ -29,6 +30,20 @@ pub fn what_is_written_goes_on()
     ensures saves { (hash : List ℕ → List ℕ) (a b c : Told) → SavesOnly hash a b → SavesOnly hash b c → SavesOnly hash a c }
     ensures writes { (hash : List ℕ → List ℕ) (a b c : Told) → WritesOnly hash a b → WritesOnly hash b c → WritesOnly hash a c }
     ensures wider { (hash : List ℕ → List ℕ) (a b : Told) → SavesOnly hash a b → WritesOnly hash a b }
+{}
+
+/// What calls in a row save is among the blocks of them all, and what is among some blocks is among more; a call that
+/// keeps a block saves that one alone, and a call that changes nothing saves none.
+pub fn saves_go_on_among_blocks()
+    ensures nothing { (hash : List ℕ → List ℕ) (blocks : List Held) (a : Told) → SavesAmong hash blocks a a }
+    ensures one { (hash : List ℕ → List ℕ) (block : Held) (before now : Seen) → hash block.1 ≡ block.0.digest
+        → KeepsHeld hash block before now → SavesAmong hash (block ∷ []) before.told now.told }
+    ensures in_a_row { (hash : List ℕ → List ℕ) (few more : List Held) (a b c : Told)
+        → SavesAmong hash few a b → SavesAmong hash more b c → SavesAmong hash (few ++ more) a c }
+    ensures more { (hash : List ℕ → List ℕ) (few many : List Held) (a b : Told)
+        → AreAmong few many → SavesAmong hash few a b → SavesAmong hash many a b }
+    ensures only { (hash : List ℕ → List ℕ) (blocks : List Held) (a b : Told)
+        → SavesAmong hash blocks a b → SavesOnly hash a b }
 {}
 
 /// No save replaces a block that has its CID's digest, so good blocks that are held stay held.

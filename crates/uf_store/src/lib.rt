@@ -17,7 +17,7 @@ pub use discard::Discard;
 pub use failing::CallKind;
 pub use laws::{
     agreement_lasts, calls_write_what_they_say, causes_go_back, good_blocks_stay_held,
-    what_is_told_was_written, what_is_written_goes_on,
+    saves_go_on_among_blocks, what_is_told_was_written, what_is_written_goes_on,
 };
 pub use memory::MemStore;
 pub use steps::Steps;

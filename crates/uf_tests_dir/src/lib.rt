@@ -7,3 +7,5 @@ mod adopt_tests;
 mod shard_build_tests;
 #[cfg(test)]
 mod shard_tests;
+#[cfg(test)]
+mod trail_tests;

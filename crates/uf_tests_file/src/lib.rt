@@ -10,6 +10,8 @@ mod foreign;
 #[cfg(test)]
 mod foreign_meta_tests;
 #[cfg(test)]
+mod intake_tests;
+#[cfg(test)]
 mod lenient_tests;
 #[cfg(test)]
 mod meta_tests;

@@ -25,7 +25,7 @@ use Rattle.uf_tree.specs.Validity.{IsHash}
 use Rattle.uf_tree.specs.declared.nodes.Entry.{Entry}
 use Rattle.uf_tree.specs.declared.profile.Profile.{Profile}
 use Rattle.uf_top.specs.Causes.{Adds, AddsBy, HeadSays, HoldsUnless, IsProfileIn, IsProfileOf, IsProfileRead, IsReady, IsReason, IsUnread, Stops, is_read, or_usual}
-use Rattle.uf_intake.specs.Intake.{IsFileOf}
+use Rattle.uf_build.specs.Intake.{IsFileOf}
 use Rattle.uf_top.specs.Intake.{IsRowOf, ShownIn}
 use Rattle.uf_top.specs.Losing.{AnswersOver}
 use Rattle.uf_top.specs.Naming.{NamesAfter, StandsNamed}

@@ -18,7 +18,7 @@ use Rattle.uf_command.specs.Statuses.{ends_batch, mark}
 use Rattle.uf_command.specs.declared.status.Status.{Status}
 use Rattle.uf_command.specs.declared.status.Status.TheVariants as status
 use Rattle.uf_command.specs.declared.types.Command.{Command}
-use Rattle.uf_command.specs.declared.types.Command.TheVariants.{Init, Add, AddFrom, WriteInput, At, Read, Cat, Get, Export, Import, Same, Adopt, Gen, AddTo, AddFromTo, Pin}
+use Rattle.uf_command.specs.declared.types.Command.TheVariants.{Init, Add, AddFrom, WriteInput, At, Read, Cat, Get, Export, Import, Same, Adopt, Gen, AddTo, AddFromTo, Pin, Prove}
 use Rattle.uf_command.specs.declared.types.Refusal.{Refusal}
 use Rattle.uf_top.specs.Caused.{StatusShows}
 use Rattle.uf_top.specs.Around.{Around, CountsCanRise, HasOutside, NoneFalls, RoseAt, StaysQuiet}
@@ -69,6 +69,7 @@ module _ (X : List ℕ → List ℕ) (N : List ℕ → ℕ) where
   next-same (Ok (WriteInput how path)) w none = absurd cc
   next-same (Ok (At ask path)) w none = absurd cc
   next-same (Ok (Read offset count path)) w none = absurd cc
+  next-same (Ok (Prove absent path)) w none = absurd cc
   next-same (Ok (Cat path)) w none = refl
   next-same (Ok (Get path host_path)) w none = refl
   next-same (Ok (Export cid)) w none = refl
@@ -94,6 +95,7 @@ module _ (X : List ℕ → List ℕ) (N : List ℕ → ℕ) where
     stands-now (Ok (WriteInput how path)) suits writes same stands now = now
     stands-now (Ok (At ask path)) suits writes same stands now = now
     stands-now (Ok (Read offset count path)) suits writes same stands now = now
+    stands-now (Ok (Prove absent path)) suits writes same stands now = now
     stands-now (Ok (Cat path)) suits writes same stands now = untouched writes (same refl) stands
     stands-now (Ok (Get path host_path)) suits writes same stands now = untouched writes (same refl) stands
     stands-now (Ok (Export cid)) suits writes same stands now = untouched writes (same refl) stands

@@ -37,7 +37,7 @@ use Rattle.uf_command.specs.declared.status.Status.TheVariants as status
 use Rattle.uf_command.specs.declared.types.Ask.{Ask}
 use Rattle.uf_command.specs.declared.types.Ask.TheVariants.{Ls, Stat, Edit as Edits}
 use Rattle.uf_command.specs.declared.types.Command.{Command}
-use Rattle.uf_command.specs.declared.types.Command.TheVariants.{Init, Add, AddFrom, WriteInput, At, Read, Cat, Get, Export, Import, Same, Adopt, Gen, AddTo, AddFromTo, Pin}
+use Rattle.uf_command.specs.declared.types.Command.TheVariants.{Init, Add, AddFrom, WriteInput, At, Read, Cat, Get, Export, Import, Same, Adopt, Gen, AddTo, AddFromTo, Pin, Prove}
 use Rattle.uf_command.specs.declared.types.Refusal.{Refusal}
 use Rattle.uf_store.specs.Seen.{Seen}
 use Rattle.uf_top.specs.Answering.{LeavesNext}
@@ -163,6 +163,7 @@ module _ (X : List ℕ → List ℕ) (N : List ℕ → ℕ) (p : Profile) (es : 
   reply-tree host held listed (Ok (WriteInput how path)) suits = absurd (let e : true ≡ false = suits.0 in cc)
   reply-tree host held listed (Ok (At ask path)) suits = ask-tree ask path.names
   reply-tree host held listed (Ok (Read offset count path)) suits = looked-tree p es path.names (λ bytes. bytes) (read offset count path.names es)
+  reply-tree host held listed (Ok (Prove absent path)) suits = (p, es, refl)
   reply-tree host held listed (Ok (Cat path)) suits = (p, es, refl)
   reply-tree host held listed (Ok (Get path host_path)) suits = (p, es, refl)
   reply-tree host held listed (Ok (Export cid)) suits = (p, es, refl)

@@ -102,7 +102,7 @@ take-none zero = refl
 take-none (suc n) = refl
 
 -- of nothing, nothing was printed
-none-printed : (held now : streams.Told) → AppendsPrefix [] held now → now ≡ held
+pub none-printed : (held now : streams.Told) → AppendsPrefix [] held now → now ≡ held
 none-printed held now p = p.appended ∙ ap (λ (l : List ℕ). after held l) (take-none p.count) ∙ sym (after-nothing held)
 
 -- the rows of a file are its height
@@ -111,7 +111,7 @@ height-of p rows (Ok (File m bytes)) ok heights = heights-with p rows ok heights
 height-of p rows (Ok (Dir es)) ok heights = tt
 height-of p rows (Err why) ok heights = tt
 
-by-why : (done : Result (Unit {0}) Refusal) (why is : Refusal) → done ≡ Err why → why ≡ is → done ≡ Err is
+pub by-why : (done : Result (Unit {0}) Refusal) (why is : Refusal) → done ≡ Err why → why ≡ is → done ≡ Err is
 by-why done why is e h = e ∙ ap (λ (r : Refusal). Err r) h
 
 -- ---- what a call that sends shows
@@ -149,7 +149,7 @@ module _ (hash : List ℕ → List ℕ) (P : Role → List ℕ → Type 0) (a b 
 -- ---- what every answer of it has
 
 -- which refusal it is
-data SentKind (done : Result (Unit {0}) Refusal) : Type 0 where
+pub data SentKind (done : Result (Unit {0}) Refusal) : Type 0 where
   Whole : done ≡ Ok tt → SentKind done
   ByRule : (rule : Rule) → done ≡ Err (refusal.Rule rule) → SentKind done
   BySink : done ≡ Err refusal.Write → SentKind done
@@ -162,7 +162,7 @@ kind-of (Err (mfs.Ready why)) done sent = absurd sent.2
 kind-of (Err mfs.Sink) done sent = BySink (by-why done sent.0 refusal.Write sent.1 sent.2)
 kind-of (Err (mfs.Store f)) done sent = ByStore f (by-why done sent.0 (refusal.Store f) sent.1 sent.2)
 
-sent-kinds : (done : Result (Unit {0}) Refusal) → SentKind done → IsOf (may_close tree_kinds) done
+pub sent-kinds : (done : Result (Unit {0}) Refusal) → SentKind done → IsOf (may_close tree_kinds) done
 sent-kinds done (Whole e) = subst (IsOf (may_close tree_kinds)) (sym e) tt
 sent-kinds done (ByRule rule e) = subst (IsOf (may_close tree_kinds)) (sym e) refl
 sent-kinds done (BySink e) = subst (IsOf (may_close tree_kinds)) (sym e) refl
@@ -176,7 +176,7 @@ sent-kinds done (ByStore f e) = subst (IsOf (may_close tree_kinds)) (sym e) (by 
     by (fault.Clash cid held bytes) = refl
     by fault.Memory = refl
 
-sent-reads : (done : Result (Unit {0}) Refusal) (i : ℕ) → SentKind done → Counts (is_read done) i i
+pub sent-reads : (done : Result (Unit {0}) Refusal) (i : ℕ) → SentKind done → Counts (is_read done) i i
 sent-reads done i (Whole e) = subst (λ d. Counts (is_read d) i i) (sym e) (counts-still i)
 sent-reads done i (ByRule rule e) = subst (λ d. Counts (is_read d) i i) (sym e) (counts-still i)
 sent-reads done i (BySink e) = subst (λ d. Counts (is_read d) i i) (sym e) (counts-still i)
@@ -190,13 +190,13 @@ sent-reads done i (ByStore f e) = subst (λ d. Counts (is_read d) i i) (sym e) (
     by (fault.Clash cid held bytes) = counts-still i
     by fault.Memory = counts-still i
 
-sent-ready : (told : Told) (command : Command) (done : Result (Unit {0}) Refusal) → SentKind done → IsReady told command done
+pub sent-ready : (told : Told) (command : Command) (done : Result (Unit {0}) Refusal) → SentKind done → IsReady told command done
 sent-ready told command done (Whole e) = subst (IsReady told command) (sym e) tt
 sent-ready told command done (ByRule rule e) = subst (IsReady told command) (sym e) tt
 sent-ready told command done (BySink e) = subst (IsReady told command) (sym e) tt
 sent-ready told command done (ByStore f e) = subst (IsReady told command) (sym e) tt
 
-sent-prints : (IsText : List ℕ → Type 0) (h h2 : streams.Told) (bytes : List ℕ) → IsText bytes → h2 ≡ after h bytes → (done : Result (Unit {0}) Refusal) → SentKind done → PrintsAt IsText true (ended done) h h2
+pub sent-prints : (IsText : List ℕ → Type 0) (h h2 : streams.Told) (bytes : List ℕ) → IsText bytes → h2 ≡ after h bytes → (done : Result (Unit {0}) Refusal) → SentKind done → PrintsAt IsText true (ended done) h h2
 sent-prints IsText h h2 bytes is now done (Whole e) = subst (λ d. PrintsAt IsText true (ended d) h h2) (sym e) (bytes, is, now)
 sent-prints IsText h h2 bytes is now done (ByRule rule e) = subst (λ d. PrintsAt IsText true (ended d) h h2) (sym e) (bytes, now)
 sent-prints IsText h h2 bytes is now done (BySink e) = subst (λ d. PrintsAt IsText true (ended d) h h2) (sym e) (bytes, is, whole-printed bytes h h2 now)
@@ -232,7 +232,7 @@ sent-touched (Err (mfs.Ready why)) done t1 t2 sent h = absurd sent.2
 sent-touched (Err mfs.Sink) done t1 t2 sent h = subst (λ d. CountsUp (refusal_fault d) t1 t2) (sym (by-why done sent.0 refusal.Write sent.1 sent.2)) h
 sent-touched (Err (mfs.Store f)) done t1 t2 sent h = subst (λ d. CountsUp (refusal_fault d) t1 t2) (sym (by-why done sent.0 (refusal.Store f) sent.1 sent.2)) h
 
-if-err : (done : Result (Unit {0}) Refusal) (A : Type 0) → A → IfErr done (λ why. A)
+pub if-err : (done : Result (Unit {0}) Refusal) (A : Type 0) → A → IfErr done (λ why. A)
 if-err (Ok x) A a = tt
 if-err (Err why) A a = a
 

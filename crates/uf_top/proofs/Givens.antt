@@ -11,10 +11,10 @@ use Rattle.uf_host.specs.HostTree.{tree_on_host}
 use Rattle.uf_host.specs.declared.fault.HostFault.{HostFault}
 use Rattle.uf_host.specs.declared.fault.HostFault.TheVariants as host
 use Rattle.uf_host.specs.declared.import.AddedRow.{AddedRow}
-use Rattle.uf_intake.specs.Faults.{IsStoppedBy, fails_reading, intake_fault}
-use Rattle.uf_intake.specs.Intake.{IsFileOf, PassesMost}
-use Rattle.uf_intake.specs.declared.fault.IntakeFault.{IntakeFault}
-use Rattle.uf_intake.specs.declared.fault.IntakeFault.TheVariants as faults
+use Rattle.uf_build.specs.Faults.{IsStoppedBy, fails_reading, intake_fault}
+use Rattle.uf_build.specs.Intake.{IsFileOf, PassesMost}
+use Rattle.uf_build.specs.declared.intake_fault.IntakeFault.{IntakeFault}
+use Rattle.uf_build.specs.declared.intake_fault.IntakeFault.TheVariants as faults
 use Rattle.uf_store.specs.Contents.{Told, changed, with_sync}
 use Rattle.uf_store.specs.Faults.{NoneIsBad, Shown}
 use Rattle.uf_store.specs.Seen.{Seen}

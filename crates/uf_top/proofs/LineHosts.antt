@@ -9,7 +9,7 @@ use Rattle.uf_path.specs.declared.path.Path.{Path}
 use Rattle.uf_plain.specs.declared.file.WriteHow.{WriteHow}
 use Rattle.uf_command.specs.Batches.{asked_in_batch, is_for_batch, line_asks, line_in}
 use Rattle.uf_command.specs.Cids.{cid_reads}
-use Rattle.uf_command.specs.Commands.{add_asked, add_to_asked, adopt_asked, asked, at_path, below_asked, both_paths, cat_asked, from_to, of_command, pin_asked, read_asked, write_asked}
+use Rattle.uf_command.specs.Commands.{add_asked, add_to_asked, adopt_asked, asked, at_path, below_asked, both_paths, cat_asked, from_to, of_command, pin_asked, prove_asked, read_asked, write_asked}
 use Rattle.uf_command.specs.Natures.{generates, reads_input, writes_host}
 use Rattle.uf_command.specs.Statuses.{no_memory}
 use Rattle.uf_command.specs.declared.types.Ask.{Ask}
@@ -48,6 +48,10 @@ write-suits how piece (Err why) = (refl, refl, refl)
 read-suits : (offset count : ℕ) (r : Result Path PathFault) → Suits (read_asked offset count r)
 read-suits offset count (Ok path) = (refl, refl, refl)
 read-suits offset count (Err why) = (refl, refl, refl)
+
+prove-suits : (absent : Bool) (r : Result Path PathFault) → Suits (prove_asked absent r)
+prove-suits absent (Ok path) = (refl, refl, refl)
+prove-suits absent (Err why) = (refl, refl, refl)
 
 cat-suits : (r : Result DagPath PathFault) → Suits (cat_asked r)
 cat-suits (Ok path) = (refl, refl, refl)
@@ -104,7 +108,7 @@ cmd-suits (cmd.PinAdd cid) h = pin-suits true (cid_reads cid)
 cmd-suits (cmd.PinRm cid) h = pin-suits false (cid_reads cid)
 cmd-suits cmd.PinLs h = (refl, refl, refl)
 cmd-suits cmd.Gc h = refused-suits refusal.Usage
-cmd-suits (cmd.Prove absent path) h = refused-suits refusal.Usage
+cmd-suits (cmd.Prove absent path) h = prove-suits absent (path_reads path)
 cmd-suits (cmd.Check absent cid path) h = refused-suits refusal.Usage
 cmd-suits (cmd.Pull cid) h = refused-suits refusal.Usage
 cmd-suits cmd.Serve h = refused-suits refusal.Usage

@@ -48,7 +48,7 @@ use Rattle.uf_command.specs.declared.status.Status.{Status}
 use Rattle.uf_command.specs.declared.status.Status.TheVariants as status
 use Rattle.uf_command.specs.declared.types.Ask.TheVariants.{Ls, Stat, Edit as Edits}
 use Rattle.uf_command.specs.declared.types.Command.{Command}
-use Rattle.uf_command.specs.declared.types.Command.TheVariants.{Init, Add, AddFrom, WriteInput, At, Read, Cat, Get, Export, Import, Same, Adopt, Gen, AddTo, AddFromTo, Pin}
+use Rattle.uf_command.specs.declared.types.Command.TheVariants.{Init, Add, AddFrom, WriteInput, At, Read, Cat, Get, Export, Import, Same, Adopt, Gen, AddTo, AddFromTo, Pin, Prove}
 use Rattle.uf_command.specs.declared.types.DagRule.{DagRule}
 use Rattle.uf_command.specs.declared.types.DagRule.TheVariants as rule
 use Rattle.uf_command.specs.declared.types.PinAsk.{PinAsk}
@@ -176,6 +176,7 @@ module _ (X : List ℕ → List ℕ) where
   pins-after (At Stat path) done a b p0 h = shape-pins NoWrites (is_done (ended done)) a b tt h
   pins-after (At (Edits edit) path) done a b p0 h = shape-pins MovesHead (is_done (ended done)) a b tt h
   pins-after (Read offset count path) done a b p0 h = shape-pins NoWrites (is_done (ended done)) a b tt h
+  pins-after (Prove absent path) done a b p0 h = shape-pins NoWrites (is_done (ended done)) a b tt h
   pins-after (Cat path) done a b p0 h = shape-pins NoWrites (is_done (ended done)) a b tt h
   pins-after (Get path host_path) done a b p0 h = shape-pins NoWrites (is_done (ended done)) a b tt h
   pins-after (Export cid) done a b p0 h = shape-pins NoWrites (is_done (ended done)) a b tt h

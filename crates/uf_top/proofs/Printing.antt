@@ -27,7 +27,7 @@ use Rattle.uf_command.specs.Statuses.{ended, no_memory, status_of}
 use Rattle.uf_command.specs.declared.status.Status.{Status}
 use Rattle.uf_command.specs.declared.status.Status.TheVariants as status
 use Rattle.uf_command.specs.declared.types.Command.{Command}
-use Rattle.uf_command.specs.declared.types.Command.TheVariants.{Init, Add, AddFrom, WriteInput, At, Read, Cat, Get, Export, Import, Same, Adopt, Gen, AddTo, AddFromTo, Pin}
+use Rattle.uf_command.specs.declared.types.Command.TheVariants.{Init, Add, AddFrom, WriteInput, At, Read, Cat, Get, Export, Import, Same, Adopt, Gen, AddTo, AddFromTo, Pin, Prove}
 use Rattle.uf_command.specs.declared.types.PinAsk.{PinAsk}
 use Rattle.uf_command.specs.declared.types.PinAsk.TheVariants as pins
 use Rattle.uf_command.specs.declared.types.HostRule.{HostRule}
@@ -55,6 +55,7 @@ no-write (Add only_hash) h = cc
 no-write (WriteInput how path) h = cc
 no-write (At ask path) h = cc
 no-write (Read offset count path) h = cc
+no-write (Prove absent path) h = cc
 no-write (Cat path) h = cc
 no-write (Get path host_path) h = cc
 no-write (Export cid) h = cc
@@ -76,23 +77,24 @@ pub record IsStanding (command : Command) : Type 0 where
 
 -- so is each that isn't one of those with a way of their own
 pub standing-of : (command : Command) → ((offset count : ℕ) (path : Path) → command ≡ Read offset count path → ⊥) → ((path : DagPath) → command ≡ Cat path → ⊥) → ((path : DagPath) (host_path : List ℕ) → command ≡ Get path host_path → ⊥) → ((cid : Cid) → command ≡ Export cid → ⊥) → (command ≡ Import → ⊥) → ((cid : Cid) → command ≡ Same cid → ⊥)
-    → ((source : DagPath) (dest : Path) → command ≡ Adopt source dest → ⊥) → ((n seed : ℕ) → command ≡ Gen n seed → ⊥) → ((ask : PinAsk) → command ≡ Pin ask → ⊥) → IsStanding command
-standing-of (Init p) other cat get export import compare adopt generate pin = record { waits = refl; alone = refl }
-standing-of (Add only_hash) other cat get export import compare adopt generate pin = record { waits = refl; alone = refl }
-standing-of (AddTo dest) other cat get export import compare adopt generate pin = record { waits = refl; alone = refl }
-standing-of (AddFromTo recursive path dest) other cat get export import compare adopt generate pin = record { waits = refl; alone = refl }
-standing-of (AddFrom recursive only_hash path) other cat get export import compare adopt generate pin = record { waits = refl; alone = refl }
-standing-of (WriteInput how path) other cat get export import compare adopt generate pin = record { waits = refl; alone = refl }
-standing-of (At ask path) other cat get export import compare adopt generate pin = record { waits = refl; alone = refl }
-standing-of (Read offset count path) other cat get export import compare adopt generate pin = absurd (other offset count path refl)
-standing-of (Cat path) other cat get export import compare adopt generate pin = absurd (cat path refl)
-standing-of (Get path host_path) other cat get export import compare adopt generate pin = absurd (get path host_path refl)
-standing-of (Export cid) other cat get export import compare adopt generate pin = absurd (export cid refl)
-standing-of Import other cat get export import compare adopt generate pin = absurd (import refl)
-standing-of (Same cid) other cat get export import compare adopt generate pin = absurd (compare cid refl)
-standing-of (Adopt source dest) other cat get export import compare adopt generate pin = absurd (adopt source dest refl)
-standing-of (Gen n seed) other cat get export import compare adopt generate pin = absurd (generate n seed refl)
-standing-of (Pin ask) other cat get export import compare adopt generate pin = absurd (pin ask refl)
+    → ((source : DagPath) (dest : Path) → command ≡ Adopt source dest → ⊥) → ((n seed : ℕ) → command ≡ Gen n seed → ⊥) → ((ask : PinAsk) → command ≡ Pin ask → ⊥) → ((absent : Bool) (path : Path) → command ≡ Prove absent path → ⊥) → IsStanding command
+standing-of (Init p) other cat get export import compare adopt generate pin prove = record { waits = refl; alone = refl }
+standing-of (Add only_hash) other cat get export import compare adopt generate pin prove = record { waits = refl; alone = refl }
+standing-of (AddTo dest) other cat get export import compare adopt generate pin prove = record { waits = refl; alone = refl }
+standing-of (AddFromTo recursive path dest) other cat get export import compare adopt generate pin prove = record { waits = refl; alone = refl }
+standing-of (AddFrom recursive only_hash path) other cat get export import compare adopt generate pin prove = record { waits = refl; alone = refl }
+standing-of (WriteInput how path) other cat get export import compare adopt generate pin prove = record { waits = refl; alone = refl }
+standing-of (At ask path) other cat get export import compare adopt generate pin prove = record { waits = refl; alone = refl }
+standing-of (Read offset count path) other cat get export import compare adopt generate pin prove = absurd (other offset count path refl)
+standing-of (Cat path) other cat get export import compare adopt generate pin prove = absurd (cat path refl)
+standing-of (Get path host_path) other cat get export import compare adopt generate pin prove = absurd (get path host_path refl)
+standing-of (Export cid) other cat get export import compare adopt generate pin prove = absurd (export cid refl)
+standing-of Import other cat get export import compare adopt generate pin prove = absurd (import refl)
+standing-of (Same cid) other cat get export import compare adopt generate pin prove = absurd (compare cid refl)
+standing-of (Adopt source dest) other cat get export import compare adopt generate pin prove = absurd (adopt source dest refl)
+standing-of (Gen n seed) other cat get export import compare adopt generate pin prove = absurd (generate n seed refl)
+standing-of (Pin ask) other cat get export import compare adopt generate pin prove = absurd (pin ask refl)
+standing-of (Prove absent path) other cat get export import compare adopt generate pin prove = absurd (prove absent path refl)
 
 -- such a command needs what the store stands for
 alone-needs : (command : Command) → natures.reads_tree_alone command ≡ true → needs_standing command ≡ true
@@ -104,6 +106,7 @@ alone-needs (AddFrom recursive only_hash path) h = refl
 alone-needs (WriteInput how path) h = refl
 alone-needs (At ask path) h = refl
 alone-needs (Read offset count path) h = refl
+alone-needs (Prove absent path) h = refl
 alone-needs (Cat path) h = absurd cc
 alone-needs (Get path host_path) h = absurd cc
 alone-needs (Export cid) h = absurd cc
@@ -123,6 +126,7 @@ alone-reads (AddFrom recursive only_hash path) h = refl
 alone-reads (WriteInput how path) h = refl
 alone-reads (At ask path) h = refl
 alone-reads (Read offset count path) h = refl
+alone-reads (Prove absent path) h = refl
 alone-reads (Cat path) h = absurd cc
 alone-reads (Get path host_path) h = absurd cc
 alone-reads (Export cid) h = absurd cc
@@ -141,6 +145,7 @@ alone-stays (AddFrom recursive only_hash path) h world = refl
 alone-stays (WriteInput how path) h world = refl
 alone-stays (At ask path) h world = refl
 alone-stays (Read offset count path) h world = refl
+alone-stays (Prove absent path) h world = refl
 alone-stays (Cat path) h world = absurd cc
 alone-stays (Get path host_path) h world = absurd cc
 alone-stays (Export cid) h world = absurd cc
@@ -160,6 +165,7 @@ alone-gets (AddFrom recursive only_hash path) h given told host now = tt
 alone-gets (WriteInput how path) h given told host now = tt
 alone-gets (At ask path) h given told host now = tt
 alone-gets (Read offset count path) h given told host now = tt
+alone-gets (Prove absent path) h given told host now = tt
 alone-gets (Cat path) h given told host now = absurd cc
 alone-gets (Get path host_path) h given told host now = absurd cc
 alone-gets (Export cid) h given told host now = absurd cc
@@ -179,6 +185,7 @@ alone-pins (AddFrom recursive only_hash path) h done told now = tt
 alone-pins (WriteInput how path) h done told now = tt
 alone-pins (At ask path) h done told now = tt
 alone-pins (Read offset count path) h done told now = tt
+alone-pins (Prove absent path) h done told now = tt
 alone-pins (Cat path) h done told now = tt
 alone-pins (Get path host_path) h done told now = tt
 alone-pins (Export cid) h done told now = tt
@@ -300,6 +307,7 @@ module _ (X : List ℕ → List ℕ) (N : List ℕ → ℕ) where
   text-of (WriteInput how path) alone told now host l m text h rows = tt
   text-of (At ask path) alone told now host l m text h rows = tt
   text-of (Read offset count path) alone told now host l m text h rows = tt
+  text-of (Prove absent path) alone told now host l m text h rows = tt
   text-of (Cat path) alone told now host l m text h rows = tt
   text-of (AddTo dest) alone told now host l m text h rows = h
   text-of (AddFromTo recursive path dest) alone told now host l m text h rows = rows
@@ -319,6 +327,7 @@ module _ (X : List ℕ → List ℕ) (N : List ℕ → ℕ) where
   rule-in (WriteInput how path) told now l m rule h adds = inr (rule, refl)
   rule-in (At ask path) told now l m rule h adds = (rule, refl)
   rule-in (Read offset count path) told now l m rule h adds = (rule, refl)
+  rule-in (Prove absent path) told now l m rule h adds = (rule, refl)
   rule-in (Cat path) told now l m rule h adds = absurd cc
   rule-in (Get path host_path) told now l m rule h adds = absurd cc
   rule-in (Export cid) told now l m rule h adds = absurd cc
@@ -340,6 +349,7 @@ module _ (X : List ℕ → List ℕ) (N : List ℕ → ℕ) where
   long-in (WriteInput how path) told now l m h adds = inl (refl, adds)
   long-in (At ask path) told now l m h adds = absurd cc
   long-in (Read offset count path) told now l m h adds = absurd cc
+  long-in (Prove absent path) told now l m h adds = absurd cc
   long-in (Cat path) told now l m h adds = absurd cc
   long-in (Get path host_path) told now l m h adds = absurd cc
   long-in (Export cid) told now l m h adds = absurd cc
@@ -360,6 +370,7 @@ module _ (X : List ℕ → List ℕ) (N : List ℕ → ℕ) where
   no-path (WriteInput how path) h = cc
   no-path (At ask path) h = cc
   no-path (Read offset count path) h = cc
+  no-path (Prove absent path) h = cc
   no-path (Cat path) h = cc
   no-path (Get path host_path) h = cc
   no-path (Export cid) h = cc
@@ -383,6 +394,7 @@ module _ (X : List ℕ → List ℕ) (N : List ℕ → ℕ) where
   no-dag (WriteInput how path) needs h = cc
   no-dag (At ask path) needs h = cc
   no-dag (Read offset count path) needs h = cc
+  no-dag (Prove absent path) needs h = cc
   no-dag (Cat path) needs h = cc
   no-dag (Get path host_path) needs h = cc
   no-dag (Export cid) needs h = cc
@@ -401,6 +413,7 @@ module _ (X : List ℕ → List ℕ) (N : List ℕ → ℕ) where
   no-car (WriteInput how path) needs h = cc
   no-car (At ask path) needs h = cc
   no-car (Read offset count path) needs h = cc
+  no-car (Prove absent path) needs h = cc
   no-car (Cat path) needs h = cc
   no-car (Get path host_path) needs h = cc
   no-car (Export cid) needs h = cc
@@ -419,6 +432,7 @@ module _ (X : List ℕ → List ℕ) (N : List ℕ → ℕ) where
   host-in (WriteInput how path) told l m rule h = absurd cc
   host-in (At ask path) told l m rule h = absurd cc
   host-in (Read offset count path) told l m rule h = absurd cc
+  host-in (Prove absent path) told l m rule h = absurd cc
   host-in (Cat path) told l m rule h = absurd cc
   host-in (Get path host_path) told l m rule h = inl (rule, refl)
   host-in (Export cid) told l m rule h = absurd cc

@@ -21,7 +21,7 @@ use Rattle.uf_top.specs.Reply.{reply}
 use Rattle.uf_command.specs.Statuses.{no_memory}
 use Rattle.uf_command.specs.declared.types.Ask.TheVariants.{Ls, Stat, Edit as Edits}
 use Rattle.uf_command.specs.declared.types.Command.{Command}
-use Rattle.uf_command.specs.declared.types.Command.TheVariants.{Init, Add, AddFrom, WriteInput, At, Read, Cat, Get, Export, Import, Same, Adopt, Gen, AddTo, AddFromTo, Pin}
+use Rattle.uf_command.specs.declared.types.Command.TheVariants.{Init, Add, AddFrom, WriteInput, At, Read, Cat, Get, Export, Import, Same, Adopt, Gen, AddTo, AddFromTo, Pin, Prove}
 use Rattle.uf_command.specs.declared.types.PinAsk.TheVariants as pins
 use Rattle.uf_command.specs.declared.types.Refusal.{Refusal}
 use Rattle.uf_command.specs.declared.types.Refusal.TheVariants as refusal
@@ -45,6 +45,7 @@ memory-kind (Add only_hash) = refl
 memory-kind (WriteInput how path) = refl
 memory-kind (At ask path) = refl
 memory-kind (Read offset count path) = refl
+memory-kind (Prove absent path) = refl
 memory-kind (Cat path) = refl
 memory-kind (Get path host_path) = refl
 memory-kind (Export cid) = refl
@@ -70,6 +71,7 @@ memory-writes X (At (Ls long) path) a = refl
 memory-writes X (At Stat path) a = refl
 memory-writes X (At (Edits edit) path) a = record { between = a; saves = SavesOnly-refl X a; last = StaysSame refl }
 memory-writes X (Read offset count path) a = refl
+memory-writes X (Prove absent path) a = refl
 memory-writes X (Cat path) a = refl
 memory-writes X (Get path host_path) a = refl
 memory-writes X (Export cid) a = refl
@@ -97,6 +99,7 @@ nothing-gotten (AddFrom recursive only_hash path) store told = tt
 nothing-gotten (WriteInput how path) store told = tt
 nothing-gotten (At ask path) store told = tt
 nothing-gotten (Read offset count path) store told = tt
+nothing-gotten (Prove absent path) store told = tt
 nothing-gotten (Cat path) store told = tt
 nothing-gotten (Get source path) store told = record { below = same-below (trimmed path) told; leaves = same-left source path store told }
 nothing-gotten (Export cid) store told = tt
@@ -116,6 +119,7 @@ nothing-pinned (AddFrom recursive only_hash path) told = tt
 nothing-pinned (WriteInput how path) told = tt
 nothing-pinned (At ask path) told = tt
 nothing-pinned (Read offset count path) told = tt
+nothing-pinned (Prove absent path) told = tt
 nothing-pinned (Cat path) told = tt
 nothing-pinned (Get path host_path) told = tt
 nothing-pinned (Export cid) told = tt
@@ -191,6 +195,7 @@ may-section (AddFrom recursive only_hash path) h none = cc
 may-section (WriteInput how path) h none = cc
 may-section (At ask path) h none = cc
 may-section (Read offset count path) h none = cc
+may-section (Prove absent path) h none = cc
 may-section (Cat path) h none = cc
 may-section (Get path host_path) h none = cc
 may-section (Export cid) h none = cc
@@ -211,6 +216,7 @@ may-clash (AddFrom recursive only_hash path) h none = cc
 may-clash (WriteInput how path) h none = cc
 may-clash (At ask path) h none = cc
 may-clash (Read offset count path) h none = cc
+may-clash (Prove absent path) h none = cc
 may-clash (Cat path) h none = cc
 may-clash (Get path host_path) h none = cc
 may-clash (Export cid) h none = cc
@@ -262,6 +268,7 @@ alone-spares (AddFrom recursive only_hash path) h = refl
 alone-spares (WriteInput how path) h = refl
 alone-spares (At ask path) h = refl
 alone-spares (Read offset count path) h = refl
+alone-spares (Prove absent path) h = refl
 alone-spares (Cat path) h = refl
 alone-spares (Get path host_path) h = refl
 alone-spares (Export cid) h = refl
@@ -281,6 +288,7 @@ alone-given (AddFrom recursive only_hash path) h own = cc
 alone-given (WriteInput how path) h own = cc
 alone-given (At ask path) h own = cc
 alone-given (Read offset count path) h own = cc
+alone-given (Prove absent path) h own = cc
 alone-given (Cat path) h own = cc
 alone-given (Get path host_path) h own = cc
 alone-given (Export cid) h own = cc

@@ -67,7 +67,7 @@ use Rattle.uf_top.specs.Causes.{RefusesInTree, RefusesOpening, is_read}
 use Rattle.uf_top.specs.Grafts.{FollowsOr, IsLostBy, IsOkFor}
 use Rattle.uf_top.specs.HostTexts.{host_row, host_text}
 use Rattle.uf_top.specs.Hosted.{IsHostRefused}
-use Rattle.uf_intake.specs.Intake.{IsWholeFile, PassesMost}
+use Rattle.uf_build.specs.Intake.{IsWholeFile, PassesMost}
 use Rattle.uf_top.specs.Naming.{NamesAfter}
 use Rattle.uf_top.specs.Placing.{EndsWith, FindsSpot, GivesFor, GivesRows, HasLast, IsFoundAt, IsGiven, IsReadyIn, IsUngiven, OpensFound, PutsFrom, PutsGiven, SaysHost, SaysInput, kinds_placing}
 use Rattle.uf_top.specs.Reply.{added_name, added_spot, by_rule, good_name, host_tree, input_row, input_tree}

@@ -25,7 +25,7 @@ use Rattle.uf_tree.proofs.HeadIs.{head_is}
 use Rattle.uf_tree.proofs.TreeLaws.{entry-dir}
 use Rattle.uf_tree.proofs.Valid.{entry-valid}
 use Rattle.uf_laws.proofs.Held.{tree-digested}
-use Rattle.uf_unique.proofs.Heads.{one_standing}
+use Rattle.uf_laws.proofs.Heads.{one_standing}
 use Rattle.uf_mfs.specs.Standing.{LeavesHead, NamesOver, Same, OnlySynced, TellsAs, TellsHeld, head_in}
 use Rattle.uf_top.specs.Causes.{HeadSays, IsProfileOf, IsUnread}
 use Rattle.uf_top.proofs.Notes.{note-reads, note-there}

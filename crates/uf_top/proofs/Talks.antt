@@ -41,11 +41,11 @@ head-stays X (Some t) None h = absurd h
 head-stays X (Some t) (Some u) h = ap (λ (n : Notes). n.head) (h.notes ∙ notes-stay h.added t.notes h.each)
 
 -- nothing was written
-no-bytes : (out : Told) → out ≡ after out []
+pub no-bytes : (out : Told) → out ≡ after out []
 no-bytes None = refl
 no-bytes (Some held) = ap Some (sym (append-nil held))
 
-no-front : (text : List ℕ) (out : Told) → AppendsPrefix text out out
+pub no-front : (text : List ℕ) (out : Told) → AppendsPrefix text out out
 no-front text out = record { count = 0; fits = omega arith; appended = no-bytes out }
 
 module _ (Says : List ℕ → Type 0) (X : List ℕ → List ℕ) (N : List ℕ → ℕ) (given : Status) (done : Result (Unit {0}) Refusal) (a b : Around) (idle : IsIdle X N no_memory done a b) (t : TellsEnd Says done given) where

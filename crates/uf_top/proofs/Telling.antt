@@ -30,7 +30,7 @@ use Rattle.uf_command.specs.declared.status.Status.{Status}
 use Rattle.uf_command.specs.declared.status.Status.TheVariants as status
 use Rattle.uf_command.specs.declared.types.Ask.TheVariants.{Ls, Stat, Edit as Edits}
 use Rattle.uf_command.specs.declared.types.Command.{Command}
-use Rattle.uf_command.specs.declared.types.Command.TheVariants.{Init, Add, AddFrom, WriteInput, At, Read, Cat, Get, Export, Import, Same, Adopt, Gen, AddTo, AddFromTo, Pin}
+use Rattle.uf_command.specs.declared.types.Command.TheVariants.{Init, Add, AddFrom, WriteInput, At, Read, Cat, Get, Export, Import, Same, Adopt, Gen, AddTo, AddFromTo, Pin, Prove}
 use Rattle.uf_command.specs.declared.types.PinAsk.{PinAsk}
 use Rattle.uf_command.specs.declared.types.PinAsk.TheVariants as pins
 use Rattle.uf_command.specs.declared.types.Refusal.{Refusal}
@@ -61,6 +61,7 @@ no-path (Add only_hash) h = cc
 no-path (WriteInput how path) h = cc
 no-path (At ask path) h = cc
 no-path (Read offset count path) h = cc
+no-path (Prove absent path) h = cc
 no-path (Cat path) h = cc
 no-path (Get path host_path) h = cc
 no-path (Export cid) h = cc
@@ -81,6 +82,7 @@ no-usage (Add only_hash) h = cc
 no-usage (WriteInput how path) h = cc
 no-usage (At ask path) h = cc
 no-usage (Read offset count path) h = cc
+no-usage (Prove absent path) h = cc
 no-usage (Cat path) h = cc
 no-usage (Get path host_path) h = cc
 no-usage (Export cid) h = cc
@@ -102,6 +104,7 @@ tree-clashes (Add only_hash) h own = cc
 tree-clashes (WriteInput how path) h own = cc
 tree-clashes (At ask path) h own = cc
 tree-clashes (Read offset count path) h own = cc
+tree-clashes (Prove absent path) h own = cc
 tree-clashes (Cat path) h own = cc
 tree-clashes (Get path host_path) h own = cc
 tree-clashes (Export cid) h own = cc
@@ -243,6 +246,7 @@ writing-uses (AddFrom recursive only_hash path) h = absurd cc
 writing-uses (WriteInput how path) h = absurd cc
 writing-uses (At ask path) h = absurd cc
 writing-uses (Read offset count path) h = absurd cc
+writing-uses (Prove absent path) h = absurd cc
 writing-uses (Cat path) h = absurd cc
 writing-uses (Get path host_path) h = refl
 writing-uses (Export cid) h = absurd cc
@@ -350,6 +354,7 @@ pins-unread Says (AddFrom recursive only_hash path) a b h p = absurd cc
 pins-unread Says (WriteInput how path) a b h p = absurd cc
 pins-unread Says (At ask path) a b h p = absurd cc
 pins-unread Says (Read offset count path) a b h p = absurd cc
+pins-unread Says (Prove absent path) a b h p = absurd cc
 pins-unread Says (Cat path) a b h p = absurd cc
 pins-unread Says (Get path host_path) a b h p = absurd cc
 pins-unread Says (Export cid) a b h p = absurd cc
@@ -404,6 +409,7 @@ detailed-pins (AddFrom recursive only_hash path) why a b h p = tt
 detailed-pins (WriteInput how path) why a b h p = tt
 detailed-pins (At ask path) why a b h p = tt
 detailed-pins (Read offset count path) why a b h p = tt
+detailed-pins (Prove absent path) why a b h p = tt
 detailed-pins (Cat path) why a b h p = tt
 detailed-pins (Get path host_path) why a b h p = tt
 detailed-pins (Export cid) why a b h p = tt
@@ -673,6 +679,7 @@ module _ (Says : List ℕ → Type 0) where
       detailed-gets (WriteInput how path) store host now s h gets = tt
       detailed-gets (At ask path) store host now s h gets = tt
       detailed-gets (Read offset count path) store host now s h gets = tt
+      detailed-gets (Prove absent path) store host now s h gets = tt
       detailed-gets (Cat path) store host now s h gets = tt
       detailed-gets (Get source path) store host now s h gets = record { below = gets.below; leaves = detailed-left store source path host now s h gets.leaves }
       detailed-gets (Export cid) store host now s h gets = tt
@@ -782,6 +789,7 @@ module _ (Says : List ℕ → Type 0) where
       synced-told (Ok (WriteInput how path)) done s t is = tt
       synced-told (Ok (At ask path)) done s t is = tt
       synced-told (Ok (Read offset count path)) done s t is = tt
+      synced-told (Ok (Prove absent path)) done s t is = tt
       synced-told (Ok (Cat path)) done s t is = tt
       synced-told (Ok (Get path host_path)) done s t is = tt
       synced-told (Ok (Export cid)) done s t is = tt
@@ -808,6 +816,7 @@ module _ (Says : List ℕ → Type 0) where
       told-same (Ok (At Stat path)) done s is = s.leaves.writes
       told-same (Ok (At (Edits edit) path)) done s is = absurd cc
       told-same (Ok (Read offset count path)) done s is = s.leaves.writes
+      told-same (Ok (Prove absent path)) done s is = s.leaves.writes
       told-same (Ok (Cat path)) done s is = s.leaves.writes
       told-same (Ok (Get path host_path)) done s is = s.leaves.writes
       told-same (Ok (Export cid)) done s is = s.leaves.writes

@@ -48,7 +48,7 @@ module _ (X : List ℕ → List ℕ) (N : List ℕ → ℕ) (rows : ℕ → ℕ)
   -- and for a command with this input, which opens the tree first; `add -n`, `gen`, `pin rm`
   -- and `pin ls` need none; nothing is promised of
   -- `init`, of an `add` that keeps its blocks, also with `--to-files`, of `cat` and `get`, of what has to do with
-  -- CARs, and of a copy from a DAG
+  -- CARs, as `prove` has, and of a copy from a DAG
   abbrev pub command_touches : List ℕ → Command → Profile → Entries → Option ℕ
   command_touches bytes (Add true) p es = Some 0
   command_touches bytes (Add false) p es = None

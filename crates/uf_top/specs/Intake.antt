@@ -3,9 +3,9 @@ use Rattle.std.specs.Prelude.{◌≡◌, ℕ, ◌≤◌, List, length, ⊤}
 use Rattle.std.specs.declared.result.Result.{Result}
 use Rattle.std.specs.declared.result.Result.TheVariants.{Ok, Err}
 use Rattle.uf_edge.specs.Streams.{Told, before, IsAtEnd}
-use Rattle.uf_intake.specs.Intake.{PassesMost}
-use Rattle.uf_intake.specs.declared.fault.IntakeFault.{IntakeFault}
-use Rattle.uf_intake.specs.declared.fault.IntakeFault.TheVariants as faults
+use Rattle.uf_build.specs.Intake.{PassesMost}
+use Rattle.uf_build.specs.declared.intake_fault.IntakeFault.{IntakeFault}
+use Rattle.uf_build.specs.declared.intake_fault.IntakeFault.TheVariants as faults
 use Rattle.uf_plain.specs.declared.rule.Rule.TheVariants.{FileTooLong}
 use Rattle.uf_store.specs.Clashes.{IsSaving}
 use Rattle.uf_store.specs.Contents as store

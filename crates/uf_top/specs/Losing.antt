@@ -21,7 +21,7 @@ use Rattle.uf_command.specs.declared.status.Status.{Status}
 use Rattle.uf_command.specs.declared.types.Ask.{Ask}
 use Rattle.uf_command.specs.declared.types.Ask.TheVariants.{Ls, Stat, Edit as Edits}
 use Rattle.uf_command.specs.declared.types.Command.{Command}
-use Rattle.uf_command.specs.declared.types.Command.TheVariants.{WriteInput, At, Read, Adopt, AddTo, AddFromTo}
+use Rattle.uf_command.specs.declared.types.Command.TheVariants.{WriteInput, At, Read, Adopt, AddTo, AddFromTo, Prove}
 use Rattle.uf_command.specs.declared.types.Refusal.{Refusal}
 use Rattle.uf_command.specs.declared.types.Refusal.TheVariants as refusal
 use Rattle.uf_top.specs.Endings.{EndsBy, PrintsAll}
@@ -55,6 +55,7 @@ module _ (X : List ℕ → List ℕ) (N : List ℕ → ℕ) where
   command_needs rows (Read offset count path) p es =
       root_of X N p (Dir es) ++ part_needs rows offset count path.names p es
   command_needs rows (Adopt source dest) p es = root_of X N p (Dir es) ++ blocks X N p (Dir es)
+  command_needs rows (Prove absent path) p es = root_of X N p (Dir es) ++ blocks X N p (Dir es)
   command_needs rows other p es = []
 
   -- the same of words

@@ -15,10 +15,10 @@ ghost use Rattle.uf_command.specs.declared.types.Command.TheVariants as commands
 use crate::given::Given;
 use std::alloc::Global;
 use std::sync::ledger::Ledger;
+use uf_build::{IntakeFault, file_of, hash_of};
 use uf_cid::{Block, BlockHash};
 use uf_command::{Refusal, added_row};
 use uf_edge::{Put, Source};
-use uf_intake::{IntakeFault, file_of, hash_of};
 use uf_mfs::Ready;
 use uf_plain::Rule;
 use uf_store::{Note, NoteRead, Steps, Store, StoreFault};

@@ -1,10 +1,11 @@
 // One command.
-ghost use Rattle.std.specs.Prelude.{◌≡◌, ◌<◌, IfErr, IfOk, ℕ, true, false};
+ghost use Rattle.std.specs.Prelude.{◌≡◌, ◌<◌, Bool, IfErr, IfOk, ℕ, true, false};
 ghost use Rattle.std.specs.declared.result.Result.{Result as TheResult};
 ghost use Rattle.std.specs.Prelude.{map, string_bytes};
 ghost use Rattle.uf_cid.specs.declared.cid.Cid.{Cid as TheCid};
 ghost use Rattle.uf_edge.specs.Streams.{Told};
 ghost use Rattle.uf_mfs.specs.Standing.{TellsAs};
+ghost use Rattle.uf_path.specs.declared.path.Path.{Path as ThePath};
 ghost use Rattle.uf_tree.specs.Standing.{Standing};
 ghost use Rattle.uf_top.specs.Cars.{ByOwnStore};
 ghost use Rattle.uf_command.specs.Commands.{IsAccepted, IsAsked, IsOfWords, of_command};
@@ -18,6 +19,7 @@ ghost use Rattle.uf_command.specs.declared.types.Refusal.{Refusal as TheRefusal}
 ghost use Rattle.uf_top.specs.Around.{around};
 ghost use Rattle.uf_top.specs.Lent.{SaidTo, around_at, scene_at, side_at};
 ghost use Rattle.uf_top.specs.Batch.{Batches};
+ghost use Rattle.uf_top.specs.Checking.{RunsCheck};
 ghost use Rattle.uf_top.specs.Collecting.{RunsGc};
 ghost use Rattle.uf_top.specs.Running.{Runs};
 ghost use Rattle.uf_top.specs.Talking.{RunsPull, RunsServe};
@@ -34,6 +36,7 @@ use crate::grafting::graft;
 use crate::hosted::add_from;
 use crate::pinning::pin;
 use crate::placing::{add_from_to, add_to};
+use crate::proving::{check_input, prove_at};
 use crate::sending::send_part;
 use crate::taking::write_input;
 use crate::tree::{at, init};
@@ -45,6 +48,7 @@ use uf_command::{
     tell_talk,
 };
 use uf_edge::{Host, Sink, Source};
+use uf_light::Asked;
 use uf_murmur::NameHash;
 use uf_pull::{pull, serve as serve_peer};
 use uf_store::{Steps, Store, Sweep};
@@ -64,7 +68,8 @@ const MOST_OF_WANTS: u64 = 1073741824;
 /// everything in it, and, without `-n`, keeps their blocks, and with `--to-files` puts them into the tree; `cat`
 /// prints a file of a DAG, and `get` writes what is in one to the host; `gen` makes a tree on stores of its own and
 /// says its root; `pin add`, `pin rm` and `pin ls` work on the note of pins; `pull` fetches what is below a CID from a
-/// peer, and `serve` is one; `repo gc` lets go of what neither the tree nor a pin leads to. Refused are first words
+/// peer, and `serve` is one; `repo gc` lets go of what neither the tree nor a pin leads to; `prove` writes the blocks
+/// that decide a path of the tree, and `check` reads them and needs no store. Refused are first words
 /// that are none, then texts that are no paths, then a Head that is refused, then an input that is too long, and then
 /// what the rules of the command refuse. The status says how the command ended; after a refusal its line goes to
 /// `errors`, and a failed write of that line changes no status.
@@ -108,6 +113,14 @@ pub fn run<S: Sweep, N: NameHash, W: Host, I: Source, O: Sink, E: Sink, L: Ledge
     // Of `repo gc`: what neither the Head's root nor a pin leads to went; what they lead to stays, whatever failed.
     ensures collect { request_in (map string_bytes words.now) ≡ requests.Gc
         → RunsGc (SaidTo E.Sink errors.old errors.new) S.X.block32 N.name64 result
+        (around_at I.Source O.Sink W.Host (S.seen store.old) input.old output.old touches.old host.old)
+        (around_at I.Source O.Sink W.Host (S.seen store.new) input.new output.new touches.new host.new) }
+
+    // Of `check`: the input was read as the proof of what is at a path below a root, and that was written; the store is
+    // as before.
+    ensures check { (absent : Bool) (cid : TheCid) (path : ThePath)
+        → request_in (map string_bytes words.now) ≡ requests.Check absent cid path
+        → RunsCheck (SaidTo E.Sink errors.old errors.new) S.X.block32 N.name64 absent cid path.names result
         (around_at I.Source O.Sink W.Host (S.seen store.old) input.old output.old touches.old host.old)
         (around_at I.Source O.Sink W.Host (S.seen store.new) input.new output.new touches.new host.new) }
 
@@ -155,6 +168,15 @@ pub fn run<S: Sweep, N: NameHash, W: Host, I: Source, O: Sink, E: Sink, L: Ledge
         }
         Request::Gc => {
             let done = collect_rest(alloc, store, output, touches);
+            tell_end(alloc, done, errors)
+        }
+        Request::Check { absent, cid, path } => {
+            let asked = Asked {
+                root: cid,
+                names: path.names,
+                absent,
+            };
+            let done = check_input::<S::X, N, I, O, L>(alloc, &asked, input, output, touches);
             tell_end(alloc, done, errors)
         }
     }
@@ -258,6 +280,9 @@ fn carry_out<S: Store, N: NameHash, W: Host, I: Source, O: Sink, L: Ledger>(
         Command::Same { cid } => compare_car(alloc, cid, store, input, output, touches),
         Command::Gen { n, seed } => print_generated::<S::X, N, O>(alloc, *n, *seed, output),
         Command::Pin { ask } => pin(alloc, ask, store, output, touches),
+        Command::Prove { absent, path } => {
+            prove_at::<S, N, O, L>(alloc, *absent, path, store, output, touches)
+        }
         _ => match text_of::<S, N, W, I, L>(alloc, command, store, host, input, touches) {
             Err(why) => Err(why),
             Ok(text) => print(&text, output),
@@ -312,6 +337,7 @@ fn text_of<S: Store, N: NameHash, W: Host, I: Source, L: Ledger>(
         | Command::Same { .. }
         | Command::Adopt { .. }
         | Command::Gen { .. }
-        | Command::Pin { .. } => unreachable!(),
+        | Command::Pin { .. }
+        | Command::Prove { .. } => unreachable!(),
     }
 }

@@ -16,6 +16,7 @@ mod hosted;
 pub mod laws;
 mod pinning;
 mod placing;
+mod proving;
 mod sending;
 mod taking;
 mod tree;

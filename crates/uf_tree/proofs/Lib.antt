@@ -26,3 +26,4 @@ pub mod Told
 pub mod TreeLaws
 pub mod Twins
 pub mod Valid
+pub mod Laid

@@ -20,3 +20,4 @@ pub mod Standing
 pub mod Tree
 pub mod TreePlan
 pub mod Validity
+pub mod Laying

@@ -33,3 +33,5 @@ pub use nodes::{
 pub use profile::{Head, Profile};
 pub use shard_codec::{node_of_items, shard_node};
 pub use shard_read::read_shard_node;
+
+pub mod laying;

@@ -7,8 +7,6 @@
 ghost use Rattle.std.specs.Prelude.{◌≡◌, ◌<◌};
 
 mod folder;
-#[cfg(test)]
-mod meta_tests;
 
 use folder::root_with_folder;
 use std::alloc::Global;

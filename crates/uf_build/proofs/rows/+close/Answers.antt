@@ -1,11 +1,13 @@
-use Rattle.std.proofs.Common.{◌≡◌, ℕ, ◌+◌, ◌<◌, List, [], ◌∷◌, ◌++◌, length, refl, arith, rules, ap, ◌∙◌, subst, nat_eq, length-append}
+use Rattle.std.proofs.Common.{◌≡◌, ℕ, ◌+◌, ◌<◌, List, [], ◌∷◌, ◌++◌, length, refl, arith, rules, ap, ◌∙◌, set, subst, nat_eq, length-append}
 use Rattle.std.proofs.lemmas.Grind.{common_steps}
 use Rattle.std.proofs.lemmas.Result.{IfOk-weaker}
 use Rattle.uf_cid.specs.Blocks.{Held}
 use Rattle.uf_store.specs.Keeping.{Holds}
+use Rattle.uf_store.specs.Among.{AreAmong, SavesAmong}
+use Rattle.uf_store.proofs.Among.{SavesAmong-append, SavesAmong-more, among-left}
 use Rattle.uf_tree.specs.declared.nodes.Part.{Part}
 use Rattle.uf_store.proofs.Keeping.{Holds-append, Holds-kept}
-use Rattle.uf_build.specs.Rows.{carry_held}
+use Rattle.uf_build.specs.Rows.{carry, carry_held, close_held_up}
 use Rattle.uf_build.proofs.Calls.{builds-builds}
 use Rattle.uf_build.proofs.Holding.{Holds-nil}
 use Rattle.uf_build.proofs.Up.{close-past, close_held-past, close-next, sizes-closed, short-up, falls, next-level, carry-good}
@@ -96,3 +98,34 @@ returns-clause-touches g t c =
 
 pub returns-clause-builds : goal.returns-clause-builds
 returns-clause-builds g t c = builds-builds c.in_ok-up.ensures.builds c.close.ensures.builds
+
+pub returns-in_err-up-clause-no_other : goal.returns-in_err-up-clause-no_other
+returns-in_err-up-clause-no_other g t c =
+    let lt : c.args.level < length c.args.rows.now.items = grind (arith, common_steps) in
+    let count : c.len-2.result ≡ length c.args.rows.now.items = grind (arith, common_steps) in
+    let hash : List ℕ → List ℕ = g.S.X.BlockHash.block32 in
+    let m = c.args.meta.now in
+    let row : List Part = c.replace-row.result ++ c.args.carried ∷ [] in
+    let is_top = nat_eq (c.args.level + 1) c.len-2.result in
+    let nodes : List Held = carry_held hash m is_top row in
+    let above : List Held = close_held_up hash m (c.args.level + 1) (set c.args.rows.now.items c.args.level []) (carry hash m is_top row) in
+    let same = close-next hash c.args.width m c.args.level c.len-2.result c.args.carried (carry hash m is_top row) c.args.rows.now.items c.index_mut.result.now c.replace-row.result [] lt
+    c.index_mut.ensures.value c.replace-row.ensures.value count refl refl in
+    SavesAmong-more hash nodes (close_held_up hash m c.args.level c.args.rows.now.items c.args.carried) (g.S.Store.seen c.args.store.now).told (g.S.Store.seen c.close_row.new.store).told
+    (subst (λ (l : List Held). AreAmong nodes l) same.1 (among-left nodes above)) c.close_row.ensures.no_other
+
+pub returns-clause-no_other : goal.returns-clause-no_other
+returns-clause-no_other g t c =
+    let lt : c.args.level < length c.args.rows.now.items = grind (arith, common_steps) in
+    let count : c.len-2.result ≡ length c.args.rows.now.items = grind (arith, common_steps) in
+    let hash : List ℕ → List ℕ = g.S.X.BlockHash.block32 in
+    let m = c.args.meta.now in
+    let none : c.replace-row.new.dest ≡ [] = c.replace-row.ensures.after ∙ c.new.ensures in
+    let same = close-next hash c.args.width m c.args.level c.len-2.result c.args.carried c.in_ok-up.up c.args.rows.now.items c.index_mut.result.now c.replace-row.result
+    c.replace-row.new.dest lt c.index_mut.ensures.value c.replace-row.ensures.value count c.in_ok-up.ensures.ends.goes_up none in
+    let nodes : List Held = carry_held hash m (nat_eq (c.args.level + 1) c.len-2.result) (c.replace-row.result ++ c.args.carried ∷ []) in
+    let above : List Held = close_held_up hash m (c.args.level + 1) (set c.args.rows.now.items c.args.level c.replace-row.new.dest) c.in_ok-up.up in
+    let before = (g.S.Store.seen c.args.store.now).told in
+    let mid = (g.S.Store.seen c.close_row.new.store).told in
+    let now = (g.S.Store.seen c.close.new.store).told in
+    subst (λ (l : List Held). SavesAmong hash l before now) same.1 (SavesAmong-append hash nodes above before mid now c.close_row.ensures.no_other c.close.ensures.no_other)

@@ -6,7 +6,7 @@ use Rattle.uf_store.specs.Faults.{NoneIsBad}
 use Rattle.uf_dir.proofs.Causes.{blames-none}
 use Rattle.uf_dir.proofs.Looked.{entries-basic, entries-unread, fitting-at}
 use Rattle.uf_dir.proofs.Refusals.{sharded-apart}
-use Rattle.uf_dir.proofs.Touching.{basic-takes, sharded-takes}
+use Rattle.uf_dir.proofs.Touching.{absent-after, absent-here, basic-takes, sharded-takes}
 use Rattle.uf_tree.specs.Changes.{without}
 use Rattle.uf_dir.proofs.editing.remove.Goals as goal
 
@@ -54,3 +54,9 @@ returns-in-Sharded-clause-touches g c = λ meta l is stays faults clashes.
 
 pub returns-in-Basic-clause-blames : goal.returns-in-Basic-clause-blames
 returns-in-Basic-clause-blames g c = blames-none g.S.X.BlockHash.block32 NoneIsBad c.args.root.now _ _ _ (λ bytes h. h) c.remove_basic.ensures.saves.cause
+
+pub returns-in-Basic-clause-absent : goal.returns-in-Basic-clause-absent
+returns-in-Basic-clause-absent g c = absent-here c.remove_basic.result c.args.touches.now c.look_at_root.new.touches c.remove_basic.new.touches c.look_at_root.ensures.touches c.remove_basic.ensures.absent
+
+pub returns-in-Sharded-clause-absent : goal.returns-in-Sharded-clause-absent
+returns-in-Sharded-clause-absent g c = absent-after c.remove_sharded.result c.args.touches.now c.look_at_root.new.touches c.remove_sharded.new.touches 8 c.look_at_root.ensures.touches c.remove_sharded.ensures.absent

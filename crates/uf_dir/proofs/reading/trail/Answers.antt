@@ -1,21 +1,20 @@
+use Rattle.std.proofs.Common.{ap, List}
+use Rattle.std.specs.FinMap.Entries.{find}
 use Rattle.std.proofs.lemmas.Result.{err_from_is_err_and}
-use Rattle.uf_shard.specs.Placed.{IsBadOnWay}
-use Rattle.uf_dir.proofs.Causes.{blames-none, find-cause}
-use Rattle.uf_dir.proofs.Trailing.{trail-one, trail-shards, trail-unread}
+use Rattle.uf_cid.specs.declared.cid.Cid.{Cid}
+use Rattle.uf_tree.specs.DirPlan.{trail}
+use Rattle.uf_tree.specs.Names.{names_cmp}
+use Rattle.uf_shard.specs.Trails.{traced, trail_cids}
+use Rattle.uf_shard.specs.declared.traced.Traced.{Traced}
+use Rattle.uf_shard.proofs.Trails.{loses}
 use Rattle.uf_dir.proofs.reading.trail.Goals as goal
 
-pub returns-in_err-found-clause-value : goal.returns-in_err-found-clause-value
-returns-in_err-found-clause-value g c = λ p meta l is agrees stood.
-    let out = err_from_is_err_and c.from_residual.result c.from_residual.ensures.1 in rw (out.1, out.2) (trail-unread g.S.X.BlockHash.block32 (record { size = g.met.S.X.BlockHash.size; are_bytes = g.met.S.X.BlockHash.are_bytes }) g.N.NameHash.name64 p meta c.args.root.now l is c.args.name.now _ _ _ _ c.in_err-found.ensures.looks c.in_err-found.ensures.reads.cause agrees stood)
-
-pub returns-in-Basic-clause-value : goal.returns-in-Basic-clause-value
-returns-in-Basic-clause-value g c = λ p meta l is agrees stood. trail-one g.S.X.BlockHash.block32 (record { size = g.met.S.X.BlockHash.size; are_bytes = g.met.S.X.BlockHash.are_bytes }) g.N.NameHash.name64 p meta c.args.root.now l is c.args.name.now _ _ _ _ _ c.in-Basic.is c.in_ok-found.ensures.looks c.in_ok-cids-in-Basic.ensures agrees
+pub returns-in_err-traced-clause-value : goal.returns-in_err-traced-clause-value
+returns-in_err-traced-clause-value g c = λ p meta l is agrees stood.
+    let X = g.S.X.BlockHash.block32 in let N = g.N.NameHash.name64 in
+    let out = err_from_is_err_and c.from_residual.result c.from_residual.ensures.1 in
+    rw (out.1, out.2) (loses {A = Traced} {B = List Cid} (g.S.Store.seen c.args.store.now).told (trail X N p meta l c.args.name.now)
+    (traced (find names_cmp c.args.name.now l) (trail X N p meta l c.args.name.now)) (trail_cids (trail X N p meta l c.args.name.now)) c.in_err-traced.field-0.0 (c.in_err-traced.ensures.value p meta l is agrees stood))
 
 pub returns-clause-value : goal.returns-clause-value
-returns-clause-value g c = λ p meta l is agrees stood. trail-shards g.S.X.BlockHash.block32 (record { size = g.met.S.X.BlockHash.size; are_bytes = g.met.S.X.BlockHash.are_bytes }) g.N.NameHash.name64 p meta c.args.root.now l is c.args.name.now _ _ (g.S.Store.seen c.trail.new.store) _ _ _ c.in-Sharded.is c.in_ok-found.ensures.looks c.in_ok-found.ensures.reads.told c.in_ok-found.ensures.reads.cause.faults c.trail.ensures.value agrees stood
-
-pub returns-clause-cause : goal.returns-clause-cause
-returns-clause-cause g c = find-cause g.S.X.BlockHash.block32 g.N.NameHash.name64 (g.N.NameHash.name64 c.args.name.now) _ _ _ _ c.in_ok-found.ensures.reads.cause c.trail.ensures.cause
-
-pub returns-clause-blames : goal.returns-clause-blames
-returns-clause-blames g c = blames-none g.S.X.BlockHash.block32 (IsBadOnWay g.N.NameHash.name64 (g.N.NameHash.name64 c.args.name.now)) c.args.root.now _ _ _ (λ bytes h. h) c.trail.ensures.cause
+returns-clause-value g c = λ p meta l is agrees stood. let is_it = c.in_ok-traced.ensures.value p meta l is agrees stood in (ap (λ (t : Traced). t.trail) is_it.0, is_it.1)

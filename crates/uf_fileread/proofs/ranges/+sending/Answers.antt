@@ -1,4 +1,4 @@
-use Rattle.std.proofs.Common.{Err, inl, inr, arith, ◌∙◌, ℕ, ◌+◌, ◌-◌, refl, subst, sym, drop}
+use Rattle.std.proofs.Common.{Err, ap, ◌≡◌, inl, inr, arith, ◌∙◌, ℕ, ◌+◌, ◌-◌, refl, subst, sym, drop}
 use Rattle.std.proofs.lemmas.List.{get_or_default}
 use Rattle.std.proofs.lemmas.Result.{err_from_is_err_and}
 use Rattle.uf_fileread.specs.Bad.{IsBadBelow}
@@ -7,6 +7,7 @@ use Rattle.uf_fileread.specs.Ranges.{blocks_read}
 use Rattle.uf_fileread.proofs.Bad.{loop-shows, node-shows}
 use Rattle.uf_tree.specs.Validity.{IsHash}
 use Rattle.uf_fileread.proofs.Sending.{Progress, begins, loop-on, loop-stops, met, part-leaf, part-lost, part-node, sends-last, sends-more, sends-nothing, sends-none, size-part, unmet}
+use Rattle.uf_store.specs.Faults.{StaysCalm}
 use Rattle.uf_store.proofs.Causes.{StaysCalm-refl, StaysCalm-trans}
 use Rattle.uf_fileread.proofs.ranges.+sending.Goals as goal
 use Rattle.uf_fileread.proofs.ranges.+sending.Goals.{send_met-then-reach-part-via-then-reach-part, send_met-then-reach-part-via-else-reach-part+then-reach-eq0}
@@ -42,8 +43,10 @@ send_part-returns-in_ok-node-in-DagPb-clause-cause g t c =
 
 pub send_parts-returns-in_err-sent-clause-cause : goal.send_parts-returns-in_err-sent-clause-cause
 send_parts-returns-in_err-sent-clause-cause g t c =
-    let out = err_from_is_err_and c.from_residual.result c.from_residual.ensures.1 in rw (out.1, out.2) (loop-shows g.S.X.BlockHash.block32 c.args.rows c.loop-part.part-index c.args.parts.now _ (Err c.in_err-sent.field-0.0) (g.S.Store.seen c.args.store.now) (g.S.Store.seen c.loop-part.store) (g.S.Store.seen c.send_met.new.store) _ _ _
-    c.loop-part-test.true (get_or_default c.args.parts.now c.loop-part.part-index _ _ c.loop-part-test.true) c.loop-part.invariant.told c.loop-part.invariant.calm c.loop-part.invariant.still c.in_err-sent.ensures.cause)
+    let told-then : (g.S.Store.seen c.foresee_leaves.new.store).told ≡ (g.S.Store.seen c.args.store.now).told = ap (λ s. s.told) c.foresee_leaves.ensures ∙ c.loop-part.invariant.told in
+    let calm-then : StaysCalm (g.S.Store.seen c.args.store.now) (g.S.Store.seen c.foresee_leaves.new.store) = subst (λ s. StaysCalm (g.S.Store.seen c.args.store.now) s) (sym c.foresee_leaves.ensures) c.loop-part.invariant.calm in
+    let out = err_from_is_err_and c.from_residual.result c.from_residual.ensures.1 in rw (out.1, out.2) (loop-shows g.S.X.BlockHash.block32 c.args.rows c.loop-part.part-index c.args.parts.now _ (Err c.in_err-sent.field-0.0) (g.S.Store.seen c.args.store.now) (g.S.Store.seen c.foresee_leaves.new.store) (g.S.Store.seen c.send_met.new.store) _ _ _
+    c.loop-part-test.true (get_or_default c.args.parts.now c.loop-part.part-index _ _ c.loop-part-test.true) told-then calm-then c.loop-part.invariant.still c.in_err-sent.ensures.cause)
 
 pub send_part-returns-in_err-node-in-DagPb-clause-reads : goal.send_part-returns-in_err-node-in-DagPb-clause-reads
 send_part-returns-in_err-node-in-DagPb-clause-reads g t c = λ p m k bytes is agrees.
@@ -73,27 +76,32 @@ send_parts-loop-part-init g t c = record {
 
 pub send_parts-returns-in_err-sent-clause-reads : goal.send_parts-returns-in_err-sent-clause-reads
 send_parts-returns-in_err-sent-clause-reads g t c = λ p k gs over agrees.
+    let told-then : (g.S.Store.seen c.foresee_leaves.new.store).told ≡ (g.S.Store.seen c.args.store.now).told = ap (λ s. s.told) c.foresee_leaves.ensures ∙ c.loop-part.invariant.told in
+    let calm-then : StaysCalm (g.S.Store.seen c.args.store.now) (g.S.Store.seen c.foresee_leaves.new.store) = subst (λ s. StaysCalm (g.S.Store.seen c.args.store.now) s) (sym c.foresee_leaves.ensures) c.loop-part.invariant.calm in
     let good : IsHash g.S.X.BlockHash.block32 = record { size = g.met.S.X.BlockHash.size; are_bytes = g.met.S.X.BlockHash.are_bytes } in
     let out = err_from_is_err_and c.from_residual.result c.from_residual.ensures.1 in rw (out.1, out.2) (loop-stops g.S.X.BlockHash.block32 good p c.args.rows k c.loop-part.part-index c.args.parts.now _ gs c.loop-part-test.true (get_or_default c.args.parts.now c.loop-part.part-index _ _ c.loop-part-test.true) over
-    (g.S.Store.seen c.args.store.now) (g.S.Store.seen c.loop-part.store) (g.S.Store.seen c.send_met.new.store) c.args.reach.offset c.args.reach.count c.loop-part.place c.loop-part.rest _ _ _ _ _ _ c.loop-part.invariant.told
-    c.in_err-sent.field-0.0 c.loop-part.invariant.calm.faults c.in_err-sent.ensures.reads agrees (c.loop-part.invariant.reads p k gs over agrees))
+    (g.S.Store.seen c.args.store.now) (g.S.Store.seen c.foresee_leaves.new.store) (g.S.Store.seen c.send_met.new.store) c.args.reach.offset c.args.reach.count c.loop-part.place c.loop-part.rest _ _ _ _ _ _ told-then
+    c.in_err-sent.field-0.0 calm-then.faults c.in_err-sent.ensures.reads agrees (c.loop-part.invariant.reads p k gs over agrees))
 
 pub send_parts-returns-in_err-sent-clause-sends : goal.send_parts-returns-in_err-sent-clause-sends
 send_parts-returns-in_err-sent-clause-sends g t c = let out = err_from_is_err_and c.from_residual.result c.from_residual.ensures.1 in rw out.1 (sends-last c.args.reach.count c.loop-part.rest _ _ _ c.loop-part.invariant.few c.loop-part.invariant.appends c.in_err-sent.ensures.sends)
 
 pub send_parts-loop-part-preserved : goal.send_parts-loop-part-preserved
-send_parts-loop-part-preserved g t c = record {
-  reads = λ p k gs over agrees.
-      let good : IsHash g.S.X.BlockHash.block32 = record { size = g.met.S.X.BlockHash.size; are_bytes = g.met.S.X.BlockHash.are_bytes } in
-      subst (λ (n : ℕ). Progress (g.S.Store.seen c.args.store.now).told (λ o n b. blocks_read g.S.X.BlockHash.block32 p.chunk p.width none k o n b) c.args.reach.offset c.args.reach.count gs (drop (c.loop-part.part-index + 1) gs) n (c.loop-part.rest - c.in_ok-sent.sent) (g.O.Sink.holds c.args.out.now) (g.O.Sink.holds c.send_met.new.out) c.args.touches.now c.send_met.new.touches)
-      (sym c.saturating_sub-place.ensures)
-      (loop-on g.S.X.BlockHash.block32 good p c.args.rows k c.loop-part.part-index c.args.parts.now _ gs c.loop-part-test.true (get_or_default c.args.parts.now c.loop-part.part-index _ _ c.loop-part-test.true) over
-      (g.S.Store.seen c.args.store.now) (g.S.Store.seen c.loop-part.store) (g.S.Store.seen c.send_met.new.store) c.args.reach.offset c.args.reach.count c.loop-part.place c.loop-part.rest _ _ _ _ _ _ c.loop-part.invariant.told
-      c.in_ok-sent.sent c.in_ok-sent.ensures.reads agrees (c.loop-part.invariant.reads p k gs over agrees));
-  few = omega (arith, c.loop-part.invariant.few);
-  appends = sends-more c.args.reach.count c.loop-part.rest c.in_ok-sent.sent _ _ _ c.loop-part.invariant.few c.loop-part.invariant.appends c.in_ok-sent.ensures.sends;
-  steps = omega (arith, c.loop-part.invariant.steps, c.in_ok-sent.ensures.touched);
-  calm = StaysCalm-trans _ _ _ c.loop-part.invariant.calm c.in_ok-sent.ensures.cause.0;
-  still = c.in_ok-sent.ensures.cause.1 ∙ c.loop-part.invariant.still;
-  told = c.in_ok-sent.ensures.told ∙ c.loop-part.invariant.told;
-}
+send_parts-loop-part-preserved g t c =
+    let told-then : (g.S.Store.seen c.foresee_leaves.new.store).told ≡ (g.S.Store.seen c.args.store.now).told = ap (λ s. s.told) c.foresee_leaves.ensures ∙ c.loop-part.invariant.told in
+    let calm-then : StaysCalm (g.S.Store.seen c.args.store.now) (g.S.Store.seen c.foresee_leaves.new.store) = subst (λ s. StaysCalm (g.S.Store.seen c.args.store.now) s) (sym c.foresee_leaves.ensures) c.loop-part.invariant.calm in
+    record {
+      reads = λ p k gs over agrees.
+          let good : IsHash g.S.X.BlockHash.block32 = record { size = g.met.S.X.BlockHash.size; are_bytes = g.met.S.X.BlockHash.are_bytes } in
+          subst (λ (n : ℕ). Progress (g.S.Store.seen c.args.store.now).told (λ o n b. blocks_read g.S.X.BlockHash.block32 p.chunk p.width none k o n b) c.args.reach.offset c.args.reach.count gs (drop (c.loop-part.part-index + 1) gs) n (c.loop-part.rest - c.in_ok-sent.sent) (g.O.Sink.holds c.args.out.now) (g.O.Sink.holds c.send_met.new.out) c.args.touches.now c.send_met.new.touches)
+          (sym c.saturating_sub-place.ensures)
+          (loop-on g.S.X.BlockHash.block32 good p c.args.rows k c.loop-part.part-index c.args.parts.now _ gs c.loop-part-test.true (get_or_default c.args.parts.now c.loop-part.part-index _ _ c.loop-part-test.true) over
+          (g.S.Store.seen c.args.store.now) (g.S.Store.seen c.foresee_leaves.new.store) (g.S.Store.seen c.send_met.new.store) c.args.reach.offset c.args.reach.count c.loop-part.place c.loop-part.rest _ _ _ _ _ _ told-then
+          c.in_ok-sent.sent c.in_ok-sent.ensures.reads agrees (c.loop-part.invariant.reads p k gs over agrees));
+      few = omega (arith, c.loop-part.invariant.few);
+      appends = sends-more c.args.reach.count c.loop-part.rest c.in_ok-sent.sent _ _ _ c.loop-part.invariant.few c.loop-part.invariant.appends c.in_ok-sent.ensures.sends;
+      steps = omega (arith, c.loop-part.invariant.steps, c.in_ok-sent.ensures.touched);
+      calm = StaysCalm-trans _ _ _ calm-then c.in_ok-sent.ensures.cause.0;
+      still = c.in_ok-sent.ensures.cause.1 ∙ c.loop-part.invariant.still;
+      told = c.in_ok-sent.ensures.told ∙ told-then;
+    }

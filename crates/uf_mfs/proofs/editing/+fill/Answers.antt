@@ -5,8 +5,7 @@ use Rattle.uf_plain.specs.declared.rule.Refused.{Refused}
 use Rattle.uf_mfs.specs.Touches.{TouchesFolder, crossings_of}
 use Rattle.uf_mfs.proofs.Touching.{new-leads, put-touches, stopped-touches, touches-by}
 use Rattle.uf_plain.specs.Edits.{at, child, made_all, or_new}
-use Rattle.uf_mfs.specs.Steps.{FillsFolder, stop_fault}
-use Rattle.uf_tree.specs.declared.nodes.Entry.{Entry}
+use Rattle.uf_mfs.specs.Steps.{ChangesFolder, stop_fault}
 use Rattle.uf_store.proofs.Calls.{saves-by, saves-saves}
 use Rattle.uf_mfs.specs.Bad.{IsBadInTree}
 use Rattle.uf_mfs.proofs.Judging.{bad-below, tree-more}
@@ -22,7 +21,7 @@ returns-in_err-filled-clause-fills g t c =
     let more = take (length c.args.names.now - 1) (drop 1 c.args.names.now) in
     let names : name ∷ more ≡ c.args.names.now = first-rest c.args.names.now name c.in-len1-up.len_at_least c.name-item.is in
     let out = err_from_is_err_and c.from_residual-in_err-filled.result c.from_residual-in_err-filled.ensures.1 in
-    rw (out.1, out.2) (subst (λ l. FillsFolder X N a e p c.args.folder.now (made_all c.args.led l) (Err c.in_err-filled.field-0.0)) names
+    rw (out.1, out.2) (subst (λ l. ChangesFolder X N p a e [] c.args.folder.now (made_all c.args.led l) (Err c.in_err-filled.field-0.0)) names
     (path-stopped X N p c.args.folder.now c.in_ok-start.start.0 [] name (λ es. or_new (c.args.led + 1) (child name es)) (made_all (c.args.led + 1) more) c.in_err-filled.field-0.0 tt
     c.in_ok-start.ensures.saves (c.in_ok-start.ensures.opens p) c.in_err-filled.ensures.saves c.in_err-filled.ensures.fills))
 
@@ -54,7 +53,7 @@ returns-in_default-below_of-clause-fills g t c =
     let more = take (length c.args.names.now - 1) (drop 1 c.args.names.now) in
     let names : name ∷ more ≡ c.args.names.now = first-rest c.args.names.now name c.in-len1-up.len_at_least c.name-item.is in
     let a = g.S.Store.seen c.args.store.now in let e = g.S.Store.seen c.fill.new.store in
-    subst (λ l. FillsFolder X N a e p c.args.folder.now (made_all c.args.led l) (Ok None)) names
+    subst (λ l. ChangesFolder X N p a e [] c.args.folder.now (made_all c.args.led l) (Ok None)) names
     (filled-none X N p (c.args.led + 1) c.args.folder.now name (made_all (c.args.led + 1) more) c.in_ok-start.start c.in_ok-filled.filled (sym c.below_of.ensures ∙ c.in_default-below_of.is)
     c.in_ok-start.ensures.saves (c.in_ok-start.ensures.found p) c.in_ok-filled.ensures.saves c.in_ok-filled.ensures.fills)
 
@@ -72,46 +71,17 @@ returns-in_default-below_of-clause-saves g t c =
     let X = g.S.X.BlockHash.block32 in let N = g.N.NameHash.name64 in let p = c.args.profile.now in let folder = c.args.folder.now.cid in
     saves-saves c.in_ok-start.ensures.saves (saves-by (IsBadInTree X N (Some p) folder) (bad-below X N (Some p) folder c.in_ok-start.start.0.cid c.in_ok-start.ensures.required) c.in_ok-filled.ensures.saves)
 
-pub returns-in_err-new-clause-fills : goal.returns-in_err-new-clause-fills
-returns-in_err-new-clause-fills g t c =
-    let X = g.S.X.BlockHash.block32 in let N = g.N.NameHash.name64 in let p = c.args.profile.now in let name = c.name-item.result in
-    let more = take (length c.args.names.now - 1) (drop 1 c.args.names.now) in
-    let names : name ∷ more ≡ c.args.names.now = first-rest c.args.names.now name c.in-len1-up.len_at_least c.name-item.is in
-    let a = g.S.Store.seen c.args.store.now in let d = g.S.Store.seen c.put_in.new.store in
-    let out = err_from_is_err_and c.from_residual-in_err-new.result c.from_residual-in_err-new.ensures.1 in
-    rw (out.1, out.2) (subst (λ l. FillsFolder X N a d p c.args.folder.now (made_all c.args.led l) (Err c.in_err-new.field-0.0)) names
-    (path-put X N p c.args.folder.now c.in_ok-start.start.0 c.in-Some.below [] name (λ es. or_new (c.args.led + 1) (child name es)) (made_all (c.args.led + 1) more) (Err c.in_err-new.field-0.0) tt
-    c.in_ok-start.ensures.saves (c.in_ok-start.ensures.opens p) c.in_ok-filled.ensures.saves
-    (filled-edits X N p c.in_ok-start.start c.in_ok-filled.filled c.in-Some.below (made_all (c.args.led + 1) more) (sym c.below_of.ensures ∙ c.in-Some.is) c.in_ok-filled.ensures.saves c.in_ok-filled.ensures.fills)
-    c.in_err-new.ensures.saves c.in_err-new.ensures.edits))
-
-pub returns-in_err-new-clause-there : goal.returns-in_err-new-clause-there
-returns-in_err-new-clause-there g t c = λ es below i stood is.
-    let X = g.S.X.BlockHash.block32 in let N = g.N.NameHash.name64 in let p = c.args.profile.now in let name = c.name-item.result in
-    let more = take (length c.args.names.now - 1) (drop 1 c.args.names.now) in
-    let names : name ∷ more ≡ c.args.names.now = first-rest c.args.names.now name c.in-len1-up.len_at_least c.name-item.is in
-    let a = g.S.Store.seen c.args.store.now in let e = g.S.Store.seen c.fill.new.store in let d = g.S.Store.seen c.put_in.new.store in
-    let both = saves-saves c.in_ok-start.ensures.saves c.in_ok-filled.ensures.saves in
-    absurd (there-not X N p c.args.led name more es below c.args.folder.now c.in_ok-start.start c.in_ok-filled.filled c.in-Some.below (sym c.below_of.ensures ∙ c.in-Some.is)
-    c.in_ok-start.ensures.saves c.in_ok-filled.ensures.saves i (stood-before X _ _ (stop_fault {A = Entry} (Err c.in_err-new.field-0.0)) a e d both c.in_err-new.ensures.saves stood)
-    (subst (λ l. at c.args.led l (Dir es) ≡ Ok (Dir below)) (sym names) is) (c.in_ok-start.ensures.found p es) (c.in_ok-start.ensures.there p es) (λ fs j s h. c.in_ok-filled.ensures.there fs below j s h))
-
-pub returns-in_err-new-clause-saves : goal.returns-in_err-new-clause-saves
-returns-in_err-new-clause-saves g t c =
-    let out = err_from_is_err_and c.from_residual-in_err-new.result c.from_residual-in_err-new.ensures.1 in
-    rw (out.1, out.2) (saves-saves (saves-saves c.in_ok-start.ensures.saves c.in_ok-filled.ensures.saves) c.in_err-new.ensures.saves)
-
 pub returns-clause-fills : goal.returns-clause-fills
 returns-clause-fills g t c =
     let X = g.S.X.BlockHash.block32 in let N = g.N.NameHash.name64 in let p = c.args.profile.now in let name = c.name-item.result in
     let more = take (length c.args.names.now - 1) (drop 1 c.args.names.now) in
     let names : name ∷ more ≡ c.args.names.now = first-rest c.args.names.now name c.in-len1-up.len_at_least c.name-item.is in
     let a = g.S.Store.seen c.args.store.now in let d = g.S.Store.seen c.put_in.new.store in
-    subst (λ l. FillsFolder X N a d p c.args.folder.now (made_all c.args.led l) (Ok (Some c.in_ok-new.new))) names
-    (path-put X N p c.args.folder.now c.in_ok-start.start.0 c.in-Some.below [] name (λ es. or_new (c.args.led + 1) (child name es)) (made_all (c.args.led + 1) more) (Ok c.in_ok-new.new) tt
+    subst (λ l. ChangesFolder X N p a d [] c.args.folder.now (made_all c.args.led l) c.put_in.result) names
+    (path-put X N p c.args.folder.now c.in_ok-start.start.0 c.in-Some.below [] name (λ es. or_new (c.args.led + 1) (child name es)) (made_all (c.args.led + 1) more) c.put_in.result tt
     c.in_ok-start.ensures.saves (c.in_ok-start.ensures.opens p) c.in_ok-filled.ensures.saves
     (filled-edits X N p c.in_ok-start.start c.in_ok-filled.filled c.in-Some.below (made_all (c.args.led + 1) more) (sym c.below_of.ensures ∙ c.in-Some.is) c.in_ok-filled.ensures.saves c.in_ok-filled.ensures.fills)
-    c.in_ok-new.ensures.saves c.in_ok-new.ensures.edits)
+    c.put_in.ensures.saves c.put_in.ensures.edits)
 
 pub returns-clause-there : goal.returns-clause-there
 returns-clause-there g t c = λ es below i stood is.
@@ -121,11 +91,11 @@ returns-clause-there g t c = λ es below i stood is.
     let a = g.S.Store.seen c.args.store.now in let e = g.S.Store.seen c.fill.new.store in let d = g.S.Store.seen c.put_in.new.store in
     let both = saves-saves c.in_ok-start.ensures.saves c.in_ok-filled.ensures.saves in
     absurd (there-not X N p c.args.led name more es below c.args.folder.now c.in_ok-start.start c.in_ok-filled.filled c.in-Some.below (sym c.below_of.ensures ∙ c.in-Some.is)
-    c.in_ok-start.ensures.saves c.in_ok-filled.ensures.saves i (stood-before X _ _ None a e d both c.in_ok-new.ensures.saves stood)
+    c.in_ok-start.ensures.saves c.in_ok-filled.ensures.saves i (stood-before X _ _ (stop_fault c.put_in.result) a e d both c.put_in.ensures.saves stood)
     (subst (λ l. at c.args.led l (Dir es) ≡ Ok (Dir below)) (sym names) is) (c.in_ok-start.ensures.found p es) (c.in_ok-start.ensures.there p es) (λ fs j s h. c.in_ok-filled.ensures.there fs below j s h))
 
 pub returns-clause-saves : goal.returns-clause-saves
-returns-clause-saves g t c = saves-saves (saves-saves c.in_ok-start.ensures.saves c.in_ok-filled.ensures.saves) c.in_ok-new.ensures.saves
+returns-clause-saves g t c = saves-saves (saves-saves c.in_ok-start.ensures.saves c.in_ok-filled.ensures.saves) c.put_in.ensures.saves
 
 pub returns-in_err-filled-clause-touches : goal.returns-in_err-filled-clause-touches
 returns-in_err-filled-clause-touches g t c =
@@ -155,23 +125,6 @@ returns-in_default-below_of-clause-touches g t c =
     c.args.touches.now c.open_or_make.new.touches c.fill.new.touches t1 c.in_ok-start.ensures.saves (c.in_ok-start.ensures.opens p) c.in_ok-filled.ensures.saves
     (touches-by X N p [] c.in_ok-start.start.0 _ _ c.open_or_make.new.touches c.fill.new.touches (λ es. omega arith) c.in_ok-filled.ensures.touches)))
 
-pub returns-in_err-new-clause-touches : goal.returns-in_err-new-clause-touches
-returns-in_err-new-clause-touches g t c =
-    let X = g.S.X.BlockHash.block32 in let N = g.N.NameHash.name64 in let p = c.args.profile.now in let name = c.name-item.result in let folder = c.args.folder.now in let led = c.args.led in
-    let more = take (length c.args.names.now - 1) (drop 1 c.args.names.now) in
-    let names : name ∷ more ≡ c.args.names.now = first-rest c.args.names.now name c.in-len1-up.len_at_least c.name-item.is in
-    let a = g.S.Store.seen c.args.store.now in let e = g.S.Store.seen c.fill.new.store in
-    let step : Entries → Result Entries Refused = (λ es. or_new (led + 1) (child name es)) in
-    let t1 = c.in_ok-start.ensures.touches in
-    let d = g.S.Store.seen c.put_in.new.store in
-    subst (λ (l : List (List ℕ)). TouchesFolder X N p a d [] folder (λ es. 40 * length l + crossings_of X N p l es (made_all led l es)) c.args.touches.now c.put_in.new.touches) names
-    (touches-by X N p [] folder _ _ c.args.touches.now c.put_in.new.touches (λ es. omega arith)
-    (put-touches X N p folder c.in_ok-start.start.0 [] name more step (made_all (led + 1) more) (λ es. 0) (λ es. 0) (length more) tt (new-leads X N p (led + 1) name)
-    c.in-Some.below c.args.touches.now c.open_or_make.new.touches c.fill.new.touches c.put_in.new.touches t1 c.in_ok-start.ensures.saves (c.in_ok-start.ensures.opens p) c.in_ok-filled.ensures.saves
-    (filled-edits X N p c.in_ok-start.start c.in_ok-filled.filled c.in-Some.below (made_all (led + 1) more) (sym c.below_of.ensures ∙ c.in-Some.is) c.in_ok-filled.ensures.saves c.in_ok-filled.ensures.fills)
-    (touches-by X N p [] c.in_ok-start.start.0 _ _ c.open_or_make.new.touches c.fill.new.touches (λ es. omega arith) c.in_ok-filled.ensures.touches)
-    c.in_err-new.ensures.saves c.in_err-new.ensures.touches))
-
 pub returns-clause-touches : goal.returns-clause-touches
 returns-clause-touches g t c =
     let X = g.S.X.BlockHash.block32 in let N = g.N.NameHash.name64 in let p = c.args.profile.now in let name = c.name-item.result in let folder = c.args.folder.now in let led = c.args.led in
@@ -187,4 +140,4 @@ returns-clause-touches g t c =
     c.in-Some.below c.args.touches.now c.open_or_make.new.touches c.fill.new.touches c.put_in.new.touches t1 c.in_ok-start.ensures.saves (c.in_ok-start.ensures.opens p) c.in_ok-filled.ensures.saves
     (filled-edits X N p c.in_ok-start.start c.in_ok-filled.filled c.in-Some.below (made_all (led + 1) more) (sym c.below_of.ensures ∙ c.in-Some.is) c.in_ok-filled.ensures.saves c.in_ok-filled.ensures.fills)
     (touches-by X N p [] c.in_ok-start.start.0 _ _ c.open_or_make.new.touches c.fill.new.touches (λ es. omega arith) c.in_ok-filled.ensures.touches)
-    c.in_ok-new.ensures.saves c.in_ok-new.ensures.touches))
+    c.put_in.ensures.saves c.put_in.ensures.touches))

@@ -3,11 +3,10 @@ use Rattle.uf_tree.specs.Metas.{none}
 use Rattle.uf_tree.specs.Tree.{Dir, Nothing}
 use Rattle.uf_tree.specs.TreePlan.{blocks}
 use Rattle.uf_plain.specs.Edits.{with_child}
-use Rattle.uf_plain.specs.Rules.{allowed}
 use Rattle.uf_store.specs.Faults.{NoneIsBad}
 use Rattle.uf_store.specs.Calls.{OnlySaves}
 use Rattle.uf_store.proofs.Calls.{saves-saves}
-use Rattle.uf_mfs.proofs.Folders.{beside, on-over, over-then}
+use Rattle.uf_mfs.proofs.Folders.{beside, changes-over, over-then}
 use Rattle.uf_mfs.proofs.Hinge.{are-good}
 use Rattle.uf_mfs.proofs.Starting.{empty-after}
 use Rattle.uf_mfs.proofs.editing.make_in.Goals as goal
@@ -19,7 +18,7 @@ returns-clause-edits g c = λ es o.
     let made : OnlySaves X NoneIsBad None a b = record { cause = c.in_ok-new.ensures.cause; good = c.in_ok-new.ensures.good; saves = c.in_ok-new.ensures.saves } in
     let new = empty-after X N p a.told b.told (blocks X N p (Dir es)) (blocks X N p (Dir es)) c.in_ok-new.new o.plan.profile o.stays.first made.saves (c.in_ok-new.ensures.entry N p) (c.in_ok-new.ensures.held N p) in
     let came = beside X N p made c.put_in.ensures.saves [] (blocks X N p (Dir (Nothing none))) folder es tt o new.after in
-    on-over X N p made c.put_in.ensures.saves [] _ folder es (allowed X N p (Ok (with_child c.args.name.now (Dir (Nothing none)) es))) c.put_in.result o came
+    changes-over X N p made c.put_in.ensures.saves [] (blocks X N p (Dir (Nothing none))) folder es (Ok (with_child c.args.name.now (Dir (Nothing none)) es)) c.put_in.result o came
     (c.put_in.ensures.edits (Dir (Nothing none)) new.plan es (over-then X N p made c.put_in.ensures.saves [] (blocks X N p (Dir (Nothing none))) folder folder es es (are-good X N p (Dir (Nothing none))) o.plan o came))
 
 pub returns-clause-touches : goal.returns-clause-touches

@@ -15,7 +15,6 @@ use Rattle.std.specs.Prelude.{IfSome}
 use Rattle.uf_mfs.specs.Bad.{IsRequired}
 use Rattle.uf_mfs.proofs.Judging.{made-required}
 use Rattle.uf_mfs.proofs.editing.open_or_make.Goals as goal
-use Rattle.uf_tree.specs.Metas.{none}
 
 pub returns-in_ok-new-in-None-clause-opens : goal.returns-in_ok-new-in-None-clause-opens
 returns-in_ok-new-in-None-clause-opens g c = λ p es o.

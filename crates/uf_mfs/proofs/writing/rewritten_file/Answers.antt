@@ -1,6 +1,6 @@
 use Rattle.std.proofs.Common.{◌≤◌, ◌+◌, length, subst, sym}
-use Rattle.uf_bytes.proofs.Laid.{length-cut}
-use Rattle.uf_bytes.specs.Laying.{cut_to, laid}
+use Rattle.uf_tree.proofs.Laid.{length-cut}
+use Rattle.uf_tree.specs.Laying.{cut_to, laid}
 use Rattle.uf_tree.specs.FileSub.{IsFileHeight}
 use Rattle.uf_plain.specs.declared.file.FileEdit.{FileEdit}
 use Rattle.uf_plain.specs.Files.{fitting, rewritten}

@@ -1,13 +1,20 @@
-use Rattle.std.proofs.Common.{List, ◌++◌, subst}
+use Rattle.std.proofs.Common.{ap, List}
+use Rattle.std.specs.FinMap.Entries.{find}
+use Rattle.std.proofs.lemmas.Result.{err_from_is_err_and}
 use Rattle.uf_cid.specs.declared.cid.Cid.{Cid}
-use Rattle.uf_store.specs.Lost.{FindsOver}
+use Rattle.uf_tree.specs.Names.{names_cmp}
 use Rattle.uf_tree.specs.ShardPlan.{shard_trail}
-use Rattle.uf_shard.specs.Trails.{trail_cids}
-use Rattle.uf_shard.proofs.Reaching.{reached-root}
+use Rattle.uf_shard.specs.Trails.{traced, trail_cids}
+use Rattle.uf_shard.specs.declared.traced.Traced.{Traced}
+use Rattle.uf_shard.proofs.Trails.{loses}
 use Rattle.uf_shard.proofs.lookup.trail.Goals as goal
 
+pub returns-in_err-traced-clause-value : goal.returns-in_err-traced-clause-value
+returns-in_err-traced-clause-value g c = λ m l is agrees stood.
+    let X = g.S.X.BlockHash.block32 in let N = g.N.NameHash.name64 in
+    let out = err_from_is_err_and c.from_residual.result c.from_residual.ensures.1 in
+    rw (out.1, out.2) (loses {A = Traced} {B = List Cid} (g.S.Store.seen c.args.store.now).told (shard_trail X N 7 m l c.args.name.now)
+    (traced (find names_cmp c.args.name.now l) (shard_trail X N 7 m l c.args.name.now)) (trail_cids (shard_trail X N 7 m l c.args.name.now)) c.in_err-traced.field-0.0 (c.in_err-traced.ensures.value m l is agrees stood))
+
 pub returns-clause-value : goal.returns-clause-value
-returns-clause-value g c = λ m l is agrees stood.
-    let X = g.S.X.BlockHash.block32 in let N = g.N.NameHash.name64 in let path = shard_trail X N 7 m l c.args.name.now in
-    subst (λ (above : List Cid). FindsOver (g.S.Store.seen c.args.store.now).told path (above ++ trail_cids path) c.trail_from.result) c.new.ensures
-    (c.trail_from.ensures.value m l (reached-root X N (record { size = g.met.S.X.BlockHash.size; are_bytes = g.met.S.X.BlockHash.are_bytes }) c.args.name.now c.args.root.now m l is) agrees stood)
+returns-clause-value g c = λ m l is agrees stood. let is_it = c.in_ok-traced.ensures.value m l is agrees stood in (ap (λ (t : Traced). t.trail) is_it.0, is_it.1)

@@ -1,4 +1,4 @@
-use Rattle.std.proofs.Common.{◌≤◌, ◌-◌, List, refl, ap, arith, sym, ◌∙◌, subst, Option, Some}
+use Rattle.std.proofs.Common.{◌≤◌, ◌+◌, ◌-◌, List, refl, ap, arith, sym, ◌∙◌, subst, Option, Some}
 use Rattle.std.specs.FinMap.Entries.{find}
 use Rattle.std.specs.Ordering.{nat_cmp}
 use Rattle.uf_murmur.specs.Slots.{slot}
@@ -14,7 +14,7 @@ use Rattle.uf_store.proofs.Calls.{reads-saves}
 use Rattle.uf_shard.proofs.Saves.{saves-new}
 use Rattle.uf_shard.proofs.Placing.{below-in, items-read, load-lost}
 use Rattle.uf_shard.proofs.Puts.{found-at, sub-room}
-use Rattle.uf_shard.proofs.Takes.{into-takes-err, into-takes-none, into-takes-some, sub-takes-err, sub-takes-none, sub-takes-some, takes-more, unsaved-below, unsaved-set, valid-set}
+use Rattle.uf_shard.proofs.Takes.{into-takes-err, into-takes-none, into-takes-some, not-same, sub-takes-err, sub-takes-none, sub-takes-some, takes-more, unsaved-below, unsaved-set, valid-set}
 use Rattle.uf_shard.proofs.removing.+takes.Goals as goal
 
 pub item_without-returns-in_err-rest-in-Some-Sub-clause-takes : goal.item_without-returns-in_err-rest-in-Some-Sub-clause-takes
@@ -108,3 +108,6 @@ take_from-returns-in_ok-changed-in-Of-clause-unsaved g t c = unsaved-set g.S.X.B
 
 pub items_without-returns-in_err-node-clause-saves : goal.items_without-returns-in_err-node-clause-saves
 items_without-returns-in_err-node-clause-saves g t c = let out = err_from_is_err_and c.from_residual.result c.from_residual.ensures.1 in rw (out.1, out.2) (reads-saves c.in_err-node.ensures.reads)
+
+pub item_without-returns-in-Some-clause-absent : goal.item_without-returns-in-Some-clause-absent
+item_without-returns-in-Some-clause-absent g t c = not-same g.S.X.BlockHash.block32 g.N.NameHash.name64 (g.S.Store.seen c.items_without.new.store).told (g.S.Store.seen c.rest_of.new.store).told c.in-Some.items c.rest_of.result (c.rest_of.new.touches ≤ c.args.touches.now + c.args.left) (c.rest_of.ensures.leaves g.N.NameHash.name64)

@@ -1,7 +1,7 @@
 use Rattle.std.proofs.Common.{◌≡◌, ◌∙◌, false, true, ap, refl, sym, subst, Err}
 use Rattle.std.specs.Prelude.{IfErr}
 use Rattle.uf_command.specs.Natures.{generates, own_store, reads_input, touches_nothing, uses_host}
-use Rattle.uf_command.specs.declared.types.Command.TheVariants.{Adopt, Cat, Export, Get, Import, Pin, Read, Same}
+use Rattle.uf_command.specs.declared.types.Command.TheVariants.{Adopt, Cat, Export, Get, Import, Pin, Prove, Read, Same}
 use Rattle.uf_top.specs.Around.{around, host_side}
 use Rattle.uf_top.specs.Cars.{ByOwnStore}
 use Rattle.uf_top.specs.Working.{Does}
@@ -28,7 +28,7 @@ returns-in-Read-clause-own g c =
 pub returns-in-Err : goal.returns-in-Err
 returns-in-Err g c =
     let h = g.O.Sink.holds c.args.output.now in let w = g.O.Sink.faults c.args.output.now in
-    let is = standing-of c.args.command.now c.in_default.not-Read c.in_default.not-Cat c.in_default.not-Get c.in_default.not-Export c.in_default.not-Import c.in_default.not-Same c.in_default.not-Adopt c.in_default.not-Gen c.in_default.not-Pin in
+    let is = standing-of c.args.command.now c.in_default.not-Read c.in_default.not-Cat c.in_default.not-Get c.in_default.not-Export c.in_default.not-Import c.in_default.not-Same c.in_default.not-Adopt c.in_default.not-Gen c.in_default.not-Pin c.in_default.not-Prove in
     let does = refused-does g.S.X.BlockHash.block32 g.N.NameHash.name64 c.args.command.now is.alone
     (g.S.Store.seen c.args.store.now) (g.S.Store.seen c.text_of.new.store) (g.I.Source.left c.args.input.now) (g.I.Source.left c.text_of.new.input) (g.I.Source.faults c.args.input.now) (g.I.Source.faults c.text_of.new.input)
     c.args.touches.now c.text_of.new.touches h w
@@ -46,7 +46,7 @@ returns-in-Err g c =
 pub returns-in-Ok : goal.returns-in-Ok
 returns-in-Ok g c =
     let h = g.O.Sink.holds c.args.output.now in let w = g.O.Sink.faults c.args.output.now in
-    let is = standing-of c.args.command.now c.in_default.not-Read c.in_default.not-Cat c.in_default.not-Get c.in_default.not-Export c.in_default.not-Import c.in_default.not-Same c.in_default.not-Adopt c.in_default.not-Gen c.in_default.not-Pin in
+    let is = standing-of c.args.command.now c.in_default.not-Read c.in_default.not-Cat c.in_default.not-Get c.in_default.not-Export c.in_default.not-Import c.in_default.not-Same c.in_default.not-Adopt c.in_default.not-Gen c.in_default.not-Pin c.in_default.not-Prove in
     let does = prints-does g.S.X.BlockHash.block32 g.N.NameHash.name64 c.args.command.now is.alone
     (g.S.Store.seen c.args.store.now) (g.S.Store.seen c.text_of.new.store) (g.I.Source.left c.args.input.now) (g.I.Source.left c.text_of.new.input) (g.I.Source.faults c.args.input.now) (g.I.Source.faults c.text_of.new.input)
     c.args.touches.now c.text_of.new.touches h w
@@ -194,4 +194,21 @@ returns-in-Pin g c =
       host = λ e. refl;
       left = λ e. absurd (let k : generates (Pin c.in-Pin.ask) ≡ true = ap generates (sym c.in-Pin.is) ∙ e in cc);
       untouched = λ e. absurd (let k : touches_nothing (Pin c.in-Pin.ask) ≡ true = ap touches_nothing (sym c.in-Pin.is) ∙ e in cc);
+    }
+
+pub returns-in-Prove : goal.returns-in-Prove
+returns-in-Prove g c =
+    let l = g.I.Source.left c.args.input.now in let i = g.I.Source.faults c.args.input.now in
+    let s = (host_side (g.W.Host.tree c.args.host.now) (g.W.Host.read_faults c.args.host.now) (g.W.Host.write_faults c.args.host.now)) in
+    record {
+      does = subst (λ command. Does g.S.X.BlockHash.block32 g.N.NameHash.name64 command c.prove_at.result
+          (around (g.S.Store.seen c.args.store.now) l i (g.O.Sink.holds c.args.output.now) (g.O.Sink.faults c.args.output.now) c.args.touches.now s)
+          (around (g.S.Store.seen c.prove_at.new.store) l i (g.O.Sink.holds c.prove_at.new.output) (g.O.Sink.faults c.prove_at.new.output) c.prove_at.new.touches s))
+          (sym c.in-Prove.is) (c.prove_at.ensures l i s);
+      own = subst (λ command. IfErr c.prove_at.result (ByOwnStore g.S.X.BlockHash.block32 (own_store command) (g.I.Source.left c.args.input.now) (g.S.Store.seen c.args.store.now) (g.S.Store.seen c.prove_at.new.store))) (sym c.in-Prove.is)
+          (spares-own g.S.X.BlockHash.block32 (g.I.Source.left c.args.input.now) (g.S.Store.seen c.args.store.now) (g.S.Store.seen c.prove_at.new.store) (Prove c.in-Prove.absent c.in-Prove.path) c.prove_at.result refl (c.prove_at.ensures l i s).kinds);
+      input = λ e. refl;
+      host = λ e. refl;
+      left = λ e. absurd (let k : generates (Prove c.in-Prove.absent c.in-Prove.path) ≡ true = ap generates (sym c.in-Prove.is) ∙ e in cc);
+      untouched = λ e. absurd (let k : touches_nothing (Prove c.in-Prove.absent c.in-Prove.path) ≡ true = ap touches_nothing (sym c.in-Prove.is) ∙ e in cc);
     }

@@ -12,6 +12,7 @@ use Rattle.uf_top.specs.Around.{around, host_side}
 use Rattle.uf_command.specs.Peers.{TellsTalk}
 use Rattle.uf_command.specs.Telling.{IsSent}
 use Rattle.uf_top.specs.Talking.{RunsPull}
+use Rattle.uf_top.proofs.Checked.{check-wants, checked-as}
 use Rattle.uf_top.proofs.Collected.{gc-runs, gc-wants}
 use Rattle.uf_top.proofs.Runs.{runs-told}
 use Rattle.uf_top.proofs.Standings.{stands-kept, stands-one}
@@ -159,3 +160,29 @@ returns-in-One-clause-collect g c = λ is.
     let m : c.in-One.asked ≡ Err no_memory = subst (IsAskedAlone c.in-One.asked) is c.in-One.ensures.asked in
     gc-wants (λ line. IsSent line (g.E.Sink.holds c.args.errors.now) (g.E.Sink.holds c.tell_end.new.errors) (g.E.Sink.faults c.args.errors.now) (g.E.Sink.faults c.tell_end.new.errors)) g.S.X.BlockHash.block32 g.N.NameHash.name64 c.tell_end.result c.serve-done-in-One.result (around (g.S.Store.seen c.args.store.now) (g.I.Source.left c.args.input.now) (g.I.Source.faults c.args.input.now) (g.O.Sink.holds c.args.output.now) (g.O.Sink.faults c.args.output.now) c.args.touches.now (host_side (g.W.Host.tree c.args.host.now) (g.W.Host.read_faults c.args.host.now) (g.W.Host.write_faults c.args.host.now))) (around (g.S.Store.seen c.serve-done-in-One.new.store) (g.I.Source.left c.serve-done-in-One.new.input) (g.I.Source.faults c.serve-done-in-One.new.input) (g.O.Sink.holds c.serve-done-in-One.new.output) (g.O.Sink.faults c.serve-done-in-One.new.output) c.serve-done-in-One.new.touches (host_side (g.W.Host.tree c.serve-done-in-One.new.host) (g.W.Host.read_faults c.serve-done-in-One.new.host) (g.W.Host.write_faults c.serve-done-in-One.new.host)))
     (c.serve-done-in-One.ensures.serves (Err no_memory) (subst (λ asked. IsAsked asked (Err no_memory)) (sym m) (inl refl))) c.tell_end.ensures
+
+-- ---- the check of a proof
+
+pub returns-in-Check-clause-check : goal.returns-in-Check-clause-check
+returns-in-Check-clause-check g c = λ absent cid path is.
+    let same : requests.Check c.in-Check.absent c.in-Check.cid c.in-Check.path ≡ requests.Check absent cid path = sym c.in-Check.ensures.asked ∙ is in
+    checked-as (λ line. IsSent line (g.E.Sink.holds c.args.errors.now) (g.E.Sink.holds c.tell_end-in-Check.new.errors) (g.E.Sink.faults c.args.errors.now) (g.E.Sink.faults c.tell_end-in-Check.new.errors)) c.tell_end-in-Check.result g.S.X.BlockHash.block32 g.N.NameHash.name64
+    (around (g.S.Store.seen c.args.store.now) (g.I.Source.left c.args.input.now) (g.I.Source.faults c.args.input.now) (g.O.Sink.holds c.args.output.now) (g.O.Sink.faults c.args.output.now) c.args.touches.now (host_side (g.W.Host.tree c.args.host.now) (g.W.Host.read_faults c.args.host.now) (g.W.Host.write_faults c.args.host.now)))
+    (around (g.S.Store.seen c.args.store.now) (g.I.Source.left c.check_input-done.new.input) (g.I.Source.faults c.check_input-done.new.input) (g.O.Sink.holds c.check_input-done.new.output) (g.O.Sink.faults c.check_input-done.new.output) c.check_input-done.new.touches (host_side (g.W.Host.tree c.args.host.now) (g.W.Host.read_faults c.args.host.now) (g.W.Host.write_faults c.args.host.now)))
+    c.in-Check.absent absent c.in-Check.cid cid c.in-Check.path path same (record {
+      done = c.check_input-done.result;
+      tells = c.tell_end-in-Check.ensures;
+      checks = c.check_input-done.ensures;
+      store = refl;
+      host = refl;
+    })
+
+pub returns-in-One-clause-check : goal.returns-in-One-clause-check
+returns-in-One-clause-check g c = λ absent cid path is.
+    let m : c.in-One.asked ≡ Err no_memory = subst (IsAskedAlone c.in-One.asked) is c.in-One.ensures.asked in
+    check-wants (λ line. IsSent line (g.E.Sink.holds c.args.errors.now) (g.E.Sink.holds c.tell_end.new.errors) (g.E.Sink.faults c.args.errors.now) (g.E.Sink.faults c.tell_end.new.errors)) g.S.X.BlockHash.block32 g.N.NameHash.name64 c.tell_end.result c.serve-done-in-One.result (around (g.S.Store.seen c.args.store.now) (g.I.Source.left c.args.input.now) (g.I.Source.faults c.args.input.now) (g.O.Sink.holds c.args.output.now) (g.O.Sink.faults c.args.output.now) c.args.touches.now (host_side (g.W.Host.tree c.args.host.now) (g.W.Host.read_faults c.args.host.now) (g.W.Host.write_faults c.args.host.now))) (around (g.S.Store.seen c.serve-done-in-One.new.store) (g.I.Source.left c.serve-done-in-One.new.input) (g.I.Source.faults c.serve-done-in-One.new.input) (g.O.Sink.holds c.serve-done-in-One.new.output) (g.O.Sink.faults c.serve-done-in-One.new.output) c.serve-done-in-One.new.touches (host_side (g.W.Host.tree c.serve-done-in-One.new.host) (g.W.Host.read_faults c.serve-done-in-One.new.host) (g.W.Host.write_faults c.serve-done-in-One.new.host)))
+    (c.serve-done-in-One.ensures.serves (Err no_memory) (subst (λ asked. IsAsked asked (Err no_memory)) (sym m) (inl refl))) c.tell_end.ensures absent cid path.names
+
+pub returns-in-Check-clause-one : goal.returns-in-Check-clause-one
+returns-in-Check-clause-one g c = λ s r stands other.
+    stands-one g.S.X.BlockHash.block32 g.N.NameHash.name64 (record { size = g.met.S.X.BlockHash.size; are_bytes = g.met.S.X.BlockHash.are_bytes }) g.met.N.NameHash.fits (g.S.Store.seen c.args.store.now).told s r stands other

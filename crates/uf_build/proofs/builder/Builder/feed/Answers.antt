@@ -1,8 +1,9 @@
 use Rattle.std.proofs.Common.{◌≡◌, ◌+◌, ℕ, List, ◌++◌, sym, subst}
 use Rattle.uf_tree.specs.declared.profile.Profile.{Profile}
 use Rattle.uf_tree.proofs.Told.{kept}
-use Rattle.uf_build.specs.Building.{Any, Building, Builds, IsHeld, HasFed, HoldsFed, SavesUpTo, saved_by}
+use Rattle.uf_build.specs.Building.{Any, Building, Builds, IsHeld, HasFed, HoldsFed, SavesForBytes, SavesUpTo, saved_by}
 use Rattle.uf_build.specs.Rows.{saved_all, groups_in}
+use Rattle.uf_build.proofs.Among.{front-same}
 use Rattle.uf_build.proofs.Ending.{up-to-none, up-to-done, most-by}
 use Rattle.uf_build.proofs.builder.Builder.feed.Goals as goal
 
@@ -60,3 +61,21 @@ pub returns-in_err-take-clause-most : goal.returns-in_err-take-clause-most
 returns-in_err-take-clause-most g c =
     most-by g.S.X.BlockHash.block32 c.args.self.now c.args.piece.now c.args.touches.now c.take.new.touches
     (subst (λ (b : Building). SavesUpTo g.S.X.BlockHash.block32 b.profile c.args.piece.now b.begun b.rows c.args.touches.now c.take.new.touches) c.self.view_is c.in_err-take.ensures.stops.most)
+
+pub returns-then-self-clause-no_other : goal.returns-then-self-clause-no_other
+returns-then-self-clause-no_other g c = λ bytes h. front-same g.S.X.BlockHash.block32 c.args.self.now.profile (bytes ++ c.args.piece.now) (g.S.Store.seen c.args.store.now).told
+
+pub returns-then-more-most-clause-no_other : goal.returns-then-more-most-clause-no_other
+returns-then-more-most-clause-no_other g c = λ bytes h. front-same g.S.X.BlockHash.block32 c.args.self.now.profile (bytes ++ c.args.piece.now) (g.S.Store.seen c.args.store.now).told
+
+pub returns-clause-no_other : goal.returns-clause-no_other
+unfolding HasFed
+returns-clause-no_other g c = λ bytes h.
+    subst (λ (b : Building). SavesForBytes g.S.X.BlockHash.block32 b.profile c.args.piece.now b.begun b.rows (g.S.Store.seen c.args.store.now).told (g.S.Store.seen c.take.new.store).told) c.self.view_is
+    c.in_ok-take.ensures.took.feeds.no_other bytes h
+
+pub returns-in_err-take-clause-no_other : goal.returns-in_err-take-clause-no_other
+unfolding HasFed
+returns-in_err-take-clause-no_other g c = λ bytes h.
+    subst (λ (b : Building). SavesForBytes g.S.X.BlockHash.block32 b.profile c.args.piece.now b.begun b.rows (g.S.Store.seen c.args.store.now).told (g.S.Store.seen c.take.new.store).told) c.self.view_is
+    c.in_err-take.ensures.stops.no_other bytes h

@@ -1,5 +1,7 @@
 use Rattle.std.proofs.Common.{◌≡◌, ◌+◌, ◌≤◌, ℕ, List, length, subst, arith}
 use Rattle.uf_store.specs.Keeping.{Holds}
+use Rattle.uf_store.specs.Among.{SavesAmong}
+use Rattle.uf_store.proofs.Among.{SavesAmong-refl}
 use Rattle.uf_tree.specs.FilePlan.{file_plan}
 use Rattle.uf_tree.proofs.Told.{kept}
 use Rattle.uf_build.specs.Building.{Any, Building, Builds, IsHeld, HasFed, HoldsFed, saved_by}
@@ -47,3 +49,21 @@ returns-in_err-entry-clause-most g c = λ bytes.
     let hash : List ℕ → List ℕ = g.S.X.BlockHash.block32 in
     subst (λ (b : Building). Builds hash Any b.profile bytes b.begun b.rows → c.close.new.touches + saved_all b.profile.width b.rows ≤ c.args.touches.now + length (file_plan hash b.profile c.args.meta.now bytes).blocks)
     c.self.view_is (c.close.ensures.most bytes)
+
+pub returns-then-is_spent-clause-no_other : goal.returns-then-is_spent-clause-no_other
+returns-then-is_spent-clause-no_other g c = λ bytes h.
+    SavesAmong-refl g.S.X.BlockHash.block32 (file_plan g.S.X.BlockHash.block32 c.args.self.profile c.args.meta.now bytes).blocks (g.S.Store.seen c.args.store.now).told
+
+pub returns-in_err-entry-clause-no_other : goal.returns-in_err-entry-clause-no_other
+unfolding HasFed
+returns-in_err-entry-clause-no_other g c = λ bytes.
+    let hash : List ℕ → List ℕ = g.S.X.BlockHash.block32 in
+    subst (λ (b : Building). Builds hash Any b.profile bytes b.begun b.rows → SavesAmong hash (file_plan hash b.profile c.args.meta.now bytes).blocks (g.S.Store.seen c.args.store.now).told (g.S.Store.seen c.close.new.store).told)
+    c.self.view_is (c.close.ensures.no_other bytes)
+
+pub returns-clause-no_other : goal.returns-clause-no_other
+unfolding HasFed
+returns-clause-no_other g c = λ bytes.
+    let hash : List ℕ → List ℕ = g.S.X.BlockHash.block32 in
+    subst (λ (b : Building). Builds hash Any b.profile bytes b.begun b.rows → SavesAmong hash (file_plan hash b.profile c.args.meta.now bytes).blocks (g.S.Store.seen c.args.store.now).told (g.S.Store.seen c.close.new.store).told)
+    c.self.view_is (c.close.ensures.no_other bytes)

@@ -3,9 +3,13 @@ use Rattle.std.specs.Option.{option_to_list}
 use Rattle.std.proofs.lemmas.Result.{err_from_is_err_and}
 use Rattle.uf_cid.specs.Blocks.{Held}
 use Rattle.uf_store.specs.Keeping.{Holds}
+use Rattle.uf_store.specs.Among.{SavesAmong}
+use Rattle.uf_store.proofs.Among.{SavesAmong-trans}
+use Rattle.uf_tree.specs.FilePlan.{file_plan}
 use Rattle.uf_tree.specs.declared.nodes.Part.{Part}
 use Rattle.uf_tree.proofs.Told.{kept}
 use Rattle.uf_build.specs.Rows.{close_all, close_all_held, groups_in}
+use Rattle.uf_build.proofs.Among.{close-saves}
 use Rattle.uf_build.proofs.Calls.{builds-builds}
 use Rattle.uf_build.proofs.Ending.{entry-is, blocks-held, closed-all, closed-most}
 use Rattle.uf_build.proofs.layout.Layout.close.Goals as goal
@@ -62,3 +66,28 @@ unreachable-requires g c = omega (arith, c.in_ok-end_last.ensures.ends.some, ap 
 
 pub close_all-requires-clause-short : goal.close_all-requires-clause-short
 close_all-requires-clause-short g c = c.in_ok-end_last.ensures.ends.are_open.short.1
+
+pub returns-in_err-part-in-Some-clause-no_other : goal.returns-in_err-part-in-Some-clause-no_other
+returns-in_err-part-in-Some-clause-no_other g c = λ bytes h.
+    let hash : List ℕ → List ℕ = g.S.X.BlockHash.block32 in
+    let p = kept c.args.self.profile c.requires.can.profile in
+    let rows = c.end_last.new.self.opened.rows.items in
+    let mid = (g.S.Store.seen c.end_last.new.store).told in
+    let now = (g.S.Store.seen c.close_all.new.store).told in
+    let nodes = subst (λ (last : List Part). SavesAmong hash (close_all_held hash c.args.meta.now (last ∷ rows)) mid now) (ap option_to_list (sym c.in-Some.is)) c.close_all.ensures.no_other in
+    SavesAmong-trans hash (file_plan hash c.args.self.profile c.args.meta.now bytes).blocks (g.S.Store.seen c.args.store.now).told mid now (c.end_last.ensures.no_other c.args.meta.now bytes h)
+    (close-saves hash c.args.self.profile p.two c.args.meta.now bytes (groups_in c.end_last.new.self.opened) mid now (c.in_ok-end_last.ensures.ends.fed bytes h) nodes)
+
+pub returns-clause-no_other : goal.returns-clause-no_other
+returns-clause-no_other g c = λ bytes h.
+    let hash : List ℕ → List ℕ = g.S.X.BlockHash.block32 in
+    let p = kept c.args.self.profile c.requires.can.profile in
+    let rows = c.end_last.new.self.opened.rows.items in
+    let mid = (g.S.Store.seen c.end_last.new.store).told in
+    let now = (g.S.Store.seen c.close_all.new.store).told in
+    let nodes = subst (λ (last : List Part). SavesAmong hash (close_all_held hash c.args.meta.now (last ∷ rows)) mid now) (ap option_to_list (sym c.in-Some.is)) c.close_all.ensures.no_other in
+    SavesAmong-trans hash (file_plan hash c.args.self.profile c.args.meta.now bytes).blocks (g.S.Store.seen c.args.store.now).told mid now (c.end_last.ensures.no_other c.args.meta.now bytes h)
+    (close-saves hash c.args.self.profile p.two c.args.meta.now bytes (groups_in c.end_last.new.self.opened) mid now (c.in_ok-end_last.ensures.ends.fed bytes h) nodes)
+
+pub returns-in_err-end_last-clause-no_other : goal.returns-in_err-end_last-clause-no_other
+returns-in_err-end_last-clause-no_other g c = c.end_last.ensures.no_other c.args.meta.now

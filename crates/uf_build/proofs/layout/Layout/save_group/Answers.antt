@@ -1,12 +1,14 @@
-use Rattle.std.proofs.Common.{◌≡◌, ℕ, ◌+◌, ◌-◌, ◌*◌, ◌≤◌, List, ◌++◌, length, take, drop, arith, ap, sym, ◌∙◌, subst}
+use Rattle.std.proofs.Common.{◌≡◌, ℕ, ◌+◌, ◌-◌, ◌*◌, ◌≤◌, List, ◌∷◌, ◌++◌, length, take, drop, arith, ap, sym, ◌∙◌, subst}
 use Rattle.std.proofs.lemmas.List.{take-append-drop}
 use Rattle.std.proofs.lemmas.Result.{err_from_is_err_and}
 use Rattle.uf_tree.specs.declared.profile.Profile.{Profile}
-use Rattle.uf_tree.specs.FilePlan.{leaf_part}
+use Rattle.uf_store.specs.Among.{SavesAmong}
+use Rattle.uf_tree.specs.FilePlan.{leaf_held, leaf_part}
 use Rattle.uf_tree.proofs.Told.{kept}
-use Rattle.uf_build.specs.Building.{Adds, Feeds, SavesUpTo}
+use Rattle.uf_build.specs.Building.{Adds, Feeds, SavesForBytes, SavesUpTo}
 use Rattle.uf_build.specs.Layouts.{Takes}
-use Rattle.uf_build.specs.Rows.{add_row, saved_all, groups_in}
+use Rattle.uf_build.specs.Rows.{add_held, add_row, saved_all, groups_in}
+use Rattle.uf_build.proofs.Among.{for-behind, for-front, for-piece}
 use Rattle.uf_build.proofs.Calls.{builds-builds}
 use Rattle.uf_build.proofs.Cutting.{more, piece-size, whole}
 use Rattle.uf_build.proofs.Ending.{up-to-behind, up-to-front, up-to-piece}
@@ -33,6 +35,7 @@ loop-i-preserved g c =
     let piece : List ℕ = take (i * p.chunk + p.chunk - i * p.chunk) (drop (i * p.chunk) bytes) in
     let size : length piece ≡ p.chunk = piece-size bytes i p.chunk c.args.count (omega arith) c.requires.count in
     let adds = subst (λ (q : Profile). Adds hash q piece (groups_in c.loop-i.self.opened) (groups_in c.save_leaf.new.opened) mid now c.loop-i.touches c.save_leaf.new.touches) c.loop-i.invariant.profile c.in_ok-save_leaf.ensures.adds in
+    let among = subst (λ (q : Profile). SavesAmong hash (leaf_held hash piece ∷ add_held hash q.width (leaf_part hash piece) (groups_in c.loop-i.self.opened)) mid now) c.loop-i.invariant.profile c.save_leaf.ensures.no_other in
     record {
       took = record {
         same_profile = c.loop-i.invariant.profile;
@@ -42,7 +45,7 @@ loop-i-preserved g c =
             (Feeds-trans hash p two (take (i * p.chunk) bytes) piece c.args.self.now.begun.items c.loop-i.self.begun.items c.loop-i.self.begun.items
             (groups_in c.args.self.now.opened) (groups_in c.loop-i.self.opened) (groups_in c.save_leaf.new.opened) before mid now c.args.touches.now c.loop-i.touches c.save_leaf.new.touches c.loop-i.invariant.took.feeds
             (Feeds-piece hash p two piece c.loop-i.self.begun.items c.loop-i.self.begun.items piece (groups_in c.loop-i.self.opened) (groups_in c.save_leaf.new.opened) mid now c.loop-i.touches c.save_leaf.new.touches
-            (ap (λ (l : List ℕ). l ++ piece) c.loop-i.invariant.begun) size c.loop-i.invariant.begun adds));
+            is_kept.some (ap (λ (l : List ℕ). l ++ piece) c.loop-i.invariant.begun) size c.loop-i.invariant.begun among adds));
       };
       profile = c.loop-i.invariant.profile;
       begun = c.loop-i.invariant.begun;
@@ -75,9 +78,18 @@ returns-in_err-save_leaf-clause-stops g c =
     (ap (λ (l : List ℕ). l ++ piece) c.loop-i.invariant.begun) size one in
     let most = up-to-behind hash p is_kept.some is_kept.two (take (i * p.chunk) bytes) piece c.args.self.now.begun.items c.loop-i.self.begun.items (groups_in c.args.self.now.opened) (groups_in c.loop-i.self.opened) before mid
     c.args.touches.now c.loop-i.touches c.save_leaf.new.touches c.loop-i.invariant.took.feeds next in
+    let now = (g.S.Store.seen c.save_leaf.new.store).told in
+    let leaf = subst (λ (q : Profile). SavesAmong hash (leaf_held hash piece ∷ add_held hash q.width (leaf_part hash piece) (groups_in c.loop-i.self.opened)) mid now) c.loop-i.invariant.profile c.save_leaf.ensures.no_other in
+    let others = for-piece hash p is_kept.some is_kept.two piece c.loop-i.self.begun.items piece (groups_in c.loop-i.self.opened) mid now
+    (ap (λ (l : List ℕ). l ++ piece) c.loop-i.invariant.begun) size leaf in
+    let among = for-behind hash p (take (i * p.chunk) bytes) piece c.args.self.now.begun.items c.loop-i.self.begun.items (groups_in c.args.self.now.opened) (groups_in c.loop-i.self.opened) before mid now
+    c.loop-i.invariant.took.feeds.fed c.loop-i.invariant.took.feeds.no_other others in
     on_err_given c.from_residual.result (record {
       same_profile = c.loop-i.invariant.profile;
       most = subst (λ (l : List ℕ). SavesUpTo hash p l c.args.self.now.begun.items (groups_in c.args.self.now.opened) c.args.touches.now c.save_leaf.new.touches)
           (ap (λ (l : List ℕ). l ++ drop ((i + 1) * p.chunk) bytes) (sym (more bytes i p.chunk)) ∙ take-append-drop ((i + 1) * p.chunk) bytes)
           (up-to-front hash p is_kept.some is_kept.two (take (i * p.chunk) bytes ++ piece) (drop ((i + 1) * p.chunk) bytes) c.args.self.now.begun.items (groups_in c.args.self.now.opened) c.args.touches.now c.save_leaf.new.touches most);
+      no_other = subst (λ (l : List ℕ). SavesForBytes hash p l c.args.self.now.begun.items (groups_in c.args.self.now.opened) before now)
+          (ap (λ (l : List ℕ). l ++ drop ((i + 1) * p.chunk) bytes) (sym (more bytes i p.chunk)) ∙ take-append-drop ((i + 1) * p.chunk) bytes)
+          (for-front hash p (take (i * p.chunk) bytes ++ piece) (drop ((i + 1) * p.chunk) bytes) c.args.self.now.begun.items (groups_in c.args.self.now.opened) before now among);
     })

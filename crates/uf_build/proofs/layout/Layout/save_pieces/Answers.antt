@@ -3,9 +3,10 @@ use Rattle.std.proofs.lemmas.List.{append-nil}
 use Rattle.std.proofs.lemmas.Result.{err_from_is_err_and}
 use Rattle.uf_tree.specs.declared.profile.Profile.{Profile}
 use Rattle.uf_tree.proofs.Told.{kept}
-use Rattle.uf_build.specs.Building.{Feeds, SavesUpTo}
+use Rattle.uf_build.specs.Building.{Feeds, SavesForBytes, SavesUpTo}
 use Rattle.uf_build.specs.Layouts.{Takes}
 use Rattle.uf_build.specs.Rows.{groups_in}
+use Rattle.uf_build.proofs.Among.{for-behind, for-front}
 use Rattle.uf_build.proofs.Calls.{builds-builds}
 use Rattle.uf_build.proofs.Cutting.{goes-on, left-behind, no-length}
 use Rattle.uf_build.proofs.Ending.{up-to-behind, up-to-front}
@@ -71,9 +72,17 @@ returns-in_err-save_group-clause-stops g c =
     c.loop-left.invariant.profile c.in_err-save_group.ensures.stops.most in
     let most = up-to-behind hash p is_kept.some is_kept.two took.0 group c.args.self.now.begun.items c.loop-left.self.begun.items (groups_in c.args.self.now.opened) (groups_in c.loop-left.self.opened) before mid
     c.args.touches.now c.loop-left.touches c.save_group.new.touches took.2.feeds pieces in
+    let now = (g.S.Store.seen c.save_group.new.store).told in
+    let others = subst (λ (q : Profile). SavesForBytes hash q group c.loop-left.self.begun.items (groups_in c.loop-left.self.opened) mid now)
+    c.loop-left.invariant.profile c.in_err-save_group.ensures.stops.no_other in
+    let among = for-behind hash p took.0 group c.args.self.now.begun.items c.loop-left.self.begun.items (groups_in c.args.self.now.opened) (groups_in c.loop-left.self.opened) before mid now
+    took.2.feeds.fed took.2.feeds.no_other others in
     on_err_given c.from_residual.result (record {
       same_profile = c.in_err-save_group.ensures.stops.same_profile ∙ c.loop-left.invariant.profile;
       most = subst (λ (l : List ℕ). SavesUpTo hash p l c.args.self.now.begun.items (groups_in c.args.self.now.opened) c.args.touches.now c.save_group.new.touches)
           (sym (goes-on _ _ _ _ _ _ took.1 c.split_at.ensures.front c.split_at.ensures.back))
           (up-to-front hash p is_kept.some is_kept.two (took.0 ++ group) behind c.args.self.now.begun.items (groups_in c.args.self.now.opened) c.args.touches.now c.save_group.new.touches most);
+      no_other = subst (λ (l : List ℕ). SavesForBytes hash p l c.args.self.now.begun.items (groups_in c.args.self.now.opened) before now)
+          (sym (goes-on _ _ _ _ _ _ took.1 c.split_at.ensures.front c.split_at.ensures.back))
+          (for-front hash p (took.0 ++ group) behind c.args.self.now.begun.items (groups_in c.args.self.now.opened) before now among);
     })

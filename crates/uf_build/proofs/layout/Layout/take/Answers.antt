@@ -3,8 +3,9 @@ use Rattle.std.proofs.lemmas.Grind.{common_steps}
 use Rattle.std.proofs.lemmas.Result.{err_from_is_err_and}
 use Rattle.uf_tree.specs.declared.profile.Profile.{Profile}
 use Rattle.uf_tree.proofs.Told.{kept}
-use Rattle.uf_build.specs.Building.{Feeds, SavesUpTo}
+use Rattle.uf_build.specs.Building.{Feeds, SavesForBytes, SavesUpTo}
 use Rattle.uf_build.specs.Rows.{groups_in}
+use Rattle.uf_build.proofs.Among.{for-behind, for-front}
 use Rattle.uf_build.proofs.Calls.{builds-builds, builds-memory}
 use Rattle.uf_build.proofs.Cutting.{splits}
 use Rattle.uf_build.proofs.Ending.{up-to-behind, up-to-done, up-to-front}
@@ -64,11 +65,19 @@ returns-in_err-save_pieces-clause-stops g c =
     c.in_ok-front.ensures.took.takes.same_profile c.in_err-save_pieces.ensures.stops.most in
     let most = up-to-behind hash p is_kept.some is_kept.two front group c.args.self.now.begun.items c.fill.new.self.begun.items (groups_in c.args.self.now.opened) (groups_in c.fill.new.self.opened) before mid
     c.args.touches.now c.fill.new.touches c.save_pieces.new.touches c.in_ok-front.ensures.took.takes.feeds pieces in
+    let now = (g.S.Store.seen c.save_pieces.new.store).told in
+    let others = subst (λ (q : Profile). SavesForBytes hash q group c.fill.new.self.begun.items (groups_in c.fill.new.self.opened) mid now)
+    c.in_ok-front.ensures.took.takes.same_profile c.in_err-save_pieces.ensures.stops.no_other in
+    let among = for-behind hash p front group c.args.self.now.begun.items c.fill.new.self.begun.items (groups_in c.args.self.now.opened) (groups_in c.fill.new.self.opened) before mid now
+    c.in_ok-front.ensures.took.takes.feeds.fed c.in_ok-front.ensures.took.takes.feeds.no_other others in
     on_err_given c.from_residual-in_err-save_pieces.result (record {
       same_profile = c.in_err-save_pieces.ensures.stops.same_profile ∙ c.in_ok-front.ensures.took.takes.same_profile;
       most = subst (λ (l : List ℕ). SavesUpTo hash p l c.args.self.now.begun.items (groups_in c.args.self.now.opened) c.args.touches.now c.save_pieces.new.touches)
           (sym (splits c.args.bytes.now group behind c.in_ok-front.front _ c.in_ok-front.ensures.took.fits c.split_at.ensures.front c.split_at.ensures.back))
           (up-to-front hash p is_kept.some is_kept.two (front ++ group) behind c.args.self.now.begun.items (groups_in c.args.self.now.opened) c.args.touches.now c.save_pieces.new.touches most);
+      no_other = subst (λ (l : List ℕ). SavesForBytes hash p l c.args.self.now.begun.items (groups_in c.args.self.now.opened) before now)
+          (sym (splits c.args.bytes.now group behind c.in_ok-front.front _ c.in_ok-front.ensures.took.fits c.split_at.ensures.front c.split_at.ensures.back))
+          (for-front hash p (front ++ group) behind c.args.self.now.begun.items (groups_in c.args.self.now.opened) before now among);
     })
 
 pub returns-in_err-append-clause-stops : goal.returns-in_err-append-clause-stops
@@ -86,11 +95,15 @@ returns-in_err-append-clause-stops g c =
     c.in_ok-front.ensures.took.takes.same_profile c.in_ok-save_pieces.ensures.took.takes.feeds in
     let done = up-to-done hash p is_kept.some is_kept.two (front ++ group) c.args.self.now.begun.items c.save_pieces.new.self.begun.items (groups_in c.args.self.now.opened) (groups_in c.save_pieces.new.self.opened) before now
     c.args.touches.now c.save_pieces.new.touches in
-    let most = done (Feeds-trans hash p is_kept.two front group c.args.self.now.begun.items c.fill.new.self.begun.items c.save_pieces.new.self.begun.items
-    (groups_in c.args.self.now.opened) (groups_in c.fill.new.self.opened) (groups_in c.save_pieces.new.self.opened) before mid now c.args.touches.now c.fill.new.touches c.save_pieces.new.touches c.in_ok-front.ensures.took.takes.feeds pieces) in
+    let feeds = Feeds-trans hash p is_kept.two front group c.args.self.now.begun.items c.fill.new.self.begun.items c.save_pieces.new.self.begun.items
+    (groups_in c.args.self.now.opened) (groups_in c.fill.new.self.opened) (groups_in c.save_pieces.new.self.opened) before mid now c.args.touches.now c.fill.new.touches c.save_pieces.new.touches c.in_ok-front.ensures.took.takes.feeds pieces in
+    let most = done feeds in
     on_err_given c.from_residual-in_err-append.result (record {
       same_profile = c.in_ok-save_pieces.ensures.took.takes.same_profile ∙ c.in_ok-front.ensures.took.takes.same_profile;
       most = subst (λ (l : List ℕ). SavesUpTo hash p l c.args.self.now.begun.items (groups_in c.args.self.now.opened) c.args.touches.now c.save_pieces.new.touches)
           (sym (splits c.args.bytes.now group behind c.in_ok-front.front _ c.in_ok-front.ensures.took.fits c.split_at.ensures.front c.split_at.ensures.back))
           (up-to-front hash p is_kept.some is_kept.two (front ++ group) behind c.args.self.now.begun.items (groups_in c.args.self.now.opened) c.args.touches.now c.save_pieces.new.touches most);
+      no_other = subst (λ (l : List ℕ). SavesForBytes hash p l c.args.self.now.begun.items (groups_in c.args.self.now.opened) before now)
+          (sym (splits c.args.bytes.now group behind c.in_ok-front.front _ c.in_ok-front.ensures.took.fits c.split_at.ensures.front c.split_at.ensures.back))
+          (for-front hash p (front ++ group) behind c.args.self.now.begun.items (groups_in c.args.self.now.opened) before now feeds.no_other);
     })

@@ -1,7 +1,13 @@
-use Rattle.std.proofs.Common.{[], List, subst, ℕ}
+use Rattle.std.proofs.Common.{[], List, subst, sym, ℕ}
+use Rattle.uf_tree.specs.declared.profile.Profile.{Profile}
+use Rattle.uf_tree.specs.Metas.{none}
+use Rattle.uf_tree.specs.Tree.{Dir, Nothing}
+use Rattle.uf_plain.specs.declared.file.FileEdit.TheVariants.{Truncate}
 use Rattle.uf_plain.specs.Files.{truncated}
 use Rattle.uf_plain.specs.Rules.{allowed}
 use Rattle.uf_mfs.specs.Steps.{MovesTree}
+use Rattle.uf_mfs.specs.Reading.{AreHeights}
+use Rattle.uf_mfs.proofs.Fitting.{rewritten-edits, rewritten-touches}
 use Rattle.uf_mfs.proofs.Settling.{moves-held, moves-tree}
 use Rattle.uf_mfs.proofs.mfs.Mfs.truncate.Goals as goal
 
@@ -10,10 +16,16 @@ returns-clause-lost g c =
     let X = g.S.X.BlockHash.block32 in let N = g.N.NameHash.name64 in
     let a = g.S.Store.seen c.args.store.now in let b = g.S.Store.seen c.edited_root-edited.new.store in
     subst (λ (ns : List (List ℕ)). MovesTree X N a b [] c.args.self.now c.settled.new.self ns (λ p es. allowed X N p (truncated c.args.length ns es)) c.settled.result) c.as_slice-names.ensures
-    (moves-tree X N a b c.as_slice-names.result.now c.args.self.now c.settled.new.self (λ p es. allowed X N p (truncated c.args.length c.as_slice-names.result.now es)) c.edited_root-edited.result c.settled.result c.settled.ensures.settles c.edited_root-edited.ensures.edits)
+    (moves-tree X N a b c.as_slice-names.result.now c.args.self.now c.settled.new.self (λ p es. allowed X N p (truncated c.args.length c.as_slice-names.result.now es)) c.edited_root-edited.result c.settled.result c.settled.ensures.settles (rewritten-edits X N c.args.self.now.profile a b c.args.self.now.root (Truncate c.args.length) [] c.as_slice-names.result.now c.edited_root-edited.result (c.edited_root-edited.ensures.edits (Dir (Nothing none)) tt)))
 
 pub returns-clause-answer : goal.returns-clause-answer
 returns-clause-answer g c = λ p es s faults clashes.
     let X = g.S.X.BlockHash.block32 in let N = g.N.NameHash.name64 in
     moves-held X N (g.S.Store.seen c.args.store.now) (g.S.Store.seen c.edited_root-edited.new.store) c.args.path.now.names c.args.self.now c.settled.new.self (λ p es. allowed X N p (truncated c.args.length c.args.path.now.names es)) c.settled.result c.edited_root-edited.ensures.saves.good
     (returns-clause-lost g c) p es s faults clashes
+
+pub returns-clause-touches : goal.returns-clause-touches
+returns-clause-touches g c = λ p rows same heights.
+    let X = g.S.X.BlockHash.block32 in let N = g.N.NameHash.name64 in let own = c.args.self.now.profile in
+    rewritten-touches X N own p c.args.self.now.root (Truncate c.args.length) [] rows c.as_slice-names.result.now c.args.path.now.names c.args.touches.now c.edited_root-edited.new.touches same c.as_slice-names.ensures
+    (c.edited_root-edited.ensures.touches (Dir (Nothing none)) rows tt (subst (λ (q : Profile). AreHeights q rows) (sym same) heights))

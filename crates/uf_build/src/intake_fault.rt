@@ -1,0 +1,24 @@
+// Why no file is made of what a source gives.
+use uf_store::StoreFault;
+
+/// Why no file is made of what a source gives.
+#[derive(Drop)]
+pub enum IntakeFault {
+    /// The source failed.
+    Read,
+    /// The source has more bytes than a file of the profile may have.
+    FileTooLong,
+    /// The store gave up, or there was no memory.
+    Store(StoreFault),
+}
+
+impl From<StoreFault> for IntakeFault {
+    ghost use Rattle.std.specs.Prelude.{◌≡◌};
+    ghost use Rattle.uf_build.specs.declared.intake_fault.IntakeFault.TheVariants as faults;
+
+    ghost from_gives = { λ fault given. given ≡ faults.Store fault };
+
+    fn from(fault: StoreFault) -> Self {
+        IntakeFault::Store(fault)
+    }
+}

@@ -1,4 +1,0 @@
-use Rattle.uf_intake.proofs.apart.file_apart.Given as goal
-
-abbrev pub ghosts-counted_file : goal.ghosts-counted_file
-ghosts-counted_file g a = record { name = a.blank.name; parts = a.blank.parts }

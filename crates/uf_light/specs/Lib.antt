@@ -1,0 +1,14 @@
+pub mod Answers
+pub mod Bad
+pub mod Checking
+pub mod FileCids
+pub mod Gathered
+pub mod Light
+pub mod Met
+pub mod Opening
+pub mod Proving
+pub mod Sections
+pub mod Sending
+pub mod Standing
+pub mod Touches
+pub mod Writing

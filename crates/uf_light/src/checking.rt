@@ -1,0 +1,116 @@
+// Light proofs checked.
+ghost use Rattle.std.specs.Prelude.{◌≡◌, ◌⊎◌, ◌<◌, ◌^◌, IfErr, List, Some, ℕ, length};
+ghost use Rattle.uf_edge.specs.Counts.{Counts, Stood};
+ghost use Rattle.uf_edge.specs.Streams.{AppendsPrefix};
+ghost use Rattle.uf_car.specs.Exporting.{WritesSome};
+ghost use Rattle.uf_car.specs.Reading.{car_read};
+ghost use Rattle.uf_tree.specs.declared.profile.Profile.{Profile};
+ghost use Rattle.uf_tree.specs.Tree.{Tree};
+ghost use Rattle.uf_tree.specs.TreePlan.{blocks as blocks_of};
+ghost use Rattle.uf_plain.specs.Edits.{at};
+ghost use Rattle.uf_plain.specs.Needs.{needs_at};
+ghost use Rattle.uf_light.specs.Answers.{ClashesWithPlan, CountsSink, IsOwnFault, OpensAs};
+ghost use Rattle.uf_light.specs.Answers.{file_needs, is_light_read, is_light_sink, opened};
+ghost use Rattle.uf_light.specs.Checking.{keeping_fault as fault_of_keeping, reading_fault as fault_of_reading};
+ghost use Rattle.uf_light.specs.Light.{HasHeight, light_says, said_bytes};
+ghost use Rattle.uf_light.specs.Sections.{AnswersTree, ShownBySections};
+ghost use Rattle.uf_light.specs.Standing.{IsTreeAt};
+
+use crate::opening::open;
+use crate::sending::show;
+use crate::{Asked, LightFault};
+use std::alloc::Global;
+use std::sync::ledger::Ledger;
+use uf_cid::BlockHash;
+use uf_edge::{Sink, Source};
+use uf_murmur::NameHash;
+use uf_store::{MemStore, Steps, StoreFault};
+
+/// Reads a CAR of at most `limit` bytes as the proof of what is at a path below a root, and writes that: the bytes of a
+/// file, or, with `absent`, a line that says that nothing is there. It answers how many bytes it wrote. No store is
+/// asked, and sections that aren't needed are accepted. A file is read whole before its first byte is written.
+pub fn check<X: BlockHash, N: NameHash, I: Source, O: Sink, L: Ledger>(
+    alloc: Global,
+    asked: &Asked,
+    input: &mut I,
+    limit: u64,
+    out: &mut O,
+    touches: &mut Steps<L>,
+) -> Result<u64, LightFault>
+    requires { length asked.now.names < 2 ^ 32 }
+
+    // What the CAR says before its tree is looked at: two sections that clash, a fault of its form, another root.
+    ensures opens { (bytes : List ℕ) → I.left input.old ≡ Some bytes → Stood (I.faults input.old) (I.faults input.new)
+        → OpensAs (opened asked.now.root (car_read X.block32 limit bytes)) result }
+
+    // Whatever tree has this root: it is the tree's answer, or a block of the tree's plan and a section clash.
+    ensures tree { (bytes : List ℕ) (p : Profile) (t : Tree) (height : ℕ) → I.left input.old ≡ Some bytes
+        → IsTreeAt X.block32 N.name64 p asked.now.root t → HasHeight p height (at 0 asked.now.names t)
+        → AnswersTree X.block32 (car_read X.block32 limit bytes).sections (blocks_of X.block32 N.name64 p t)
+        (needs_at X.block32 N.name64 p (file_needs X.block32 p height) asked.now.names t)
+        (light_says asked.now.absent asked.now.names (at 0 asked.now.names t)) result
+        (O.holds out.old) (O.holds out.new) }
+
+    // Whatever fails, a front of the tree's answer was written and nothing else, unless two such blocks clash.
+    ensures prefix { (bytes : List ℕ) (p : Profile) (t : Tree) (height : ℕ) → I.left input.old ≡ Some bytes
+        → IsTreeAt X.block32 N.name64 p asked.now.root t → HasHeight p height (at 0 asked.now.names t)
+        → ClashesWithPlan X.block32 (blocks_of X.block32 N.name64 p t) (car_read X.block32 limit bytes).sections
+        ⊎ AppendsPrefix (said_bytes (light_says asked.now.absent asked.now.names (at 0 asked.now.names t)))
+        (O.holds out.old) (O.holds out.new) }
+    ensures some { WritesSome (O.holds out.old) (O.holds out.new) }
+
+    // Whatever the CAR has: each fault of the store that it is read into is shown by its sections.
+    ensures shown { (bytes : List ℕ) → I.left input.old ≡ Some bytes
+        → ShownBySections X.block32 N.name64 asked.now.root (car_read X.block32 limit bytes).sections result }
+    ensures own { IfErr result (IsOwnFault X.block32) }
+    ensures read { Counts (is_light_read result) (I.faults input.old) (I.faults input.new) }
+    ensures sent { CountsSink (is_light_sink result) (O.faults out.old) (O.faults out.new) }
+{
+    let mut store = MemStore::<X>::new(alloc);
+    match open(alloc, &mut store, &asked.root, input, limit, touches) {
+        Err(fault) => Err(keeping_fault(fault)),
+        Ok(()) => {
+            let names = asked.names.as_slice();
+            match show::<MemStore<X>, N, O, L>(
+                alloc,
+                &mut store,
+                &asked.root,
+                names,
+                asked.absent,
+                out,
+                touches,
+            ) {
+                Err(fault) => Err(reading_fault(fault)),
+                Ok(count) => Ok(count),
+            }
+        }
+    }
+}
+
+// A fault of the store where the sections are kept: two of them clash. Such a store holds what it was given and doesn't
+// fail, so all else is want of memory.
+fn keeping_fault(fault: LightFault) -> LightFault
+    ensures { result ≡ fault_of_keeping fault }
+{
+    match fault {
+        LightFault::Store(StoreFault::Clash(cid, first, second)) => {
+            LightFault::Store(StoreFault::Clash(cid, first, second))
+        }
+        LightFault::Store(_) => LightFault::Store(StoreFault::Memory),
+        fault => fault,
+    }
+}
+
+// And where they are read: a block isn't there, or is bad.
+fn reading_fault(fault: LightFault) -> LightFault
+    ensures { result ≡ fault_of_reading fault }
+{
+    match fault {
+        LightFault::Store(StoreFault::Missing(cid)) => LightFault::Store(StoreFault::Missing(cid)),
+        LightFault::Store(StoreFault::BadBlock(cid, role)) => {
+            LightFault::Store(StoreFault::BadBlock(cid, role))
+        }
+        LightFault::Store(_) => LightFault::Store(StoreFault::Memory),
+        fault => fault,
+    }
+}

@@ -1,0 +1,41 @@
+// What is to be shown of what a path leads to.
+ghost use Rattle.std.specs.Prelude.{◌≡◌};
+ghost use Rattle.uf_light.specs.Met.{as_file, wanted_of};
+
+use crate::LightFault;
+use crate::met::Met;
+use crate::thing::Thing;
+use uf_tree::Entry;
+
+// The file that is to be shown, or none where nothing is to be there, or why there is nothing to show.
+pub fn wanted(absent: bool, met: Met) -> Result<Option<Entry>, LightFault>
+    ensures { result ≡ wanted_of absent met }
+{
+    match met {
+        Met::There(thing) => {
+            if absent {
+                Err(LightFault::Exists)
+            } else {
+                file_at(thing)
+            }
+        }
+        Met::Nothing(place) => {
+            if absent {
+                Ok(None)
+            } else {
+                Err(LightFault::NotFound(place))
+            }
+        }
+        Met::Behind(place) => Err(LightFault::NotADirectory(place)),
+    }
+}
+
+// The file that a thing is.
+fn file_at(thing: Thing) -> Result<Option<Entry>, LightFault>
+    ensures { result ≡ as_file thing }
+{
+    match thing {
+        Thing::File(entry) => Ok(Some(entry)),
+        Thing::Folder(_) => Err(LightFault::IsADirectory),
+    }
+}

@@ -1,9 +1,0 @@
-pub mod Widths
-pub mod Totals
-pub mod Blocks
-pub mod Levels
-pub mod Removal
-pub mod Reasons
-pub mod Removed
-pub mod Under
-pub mod Replaced

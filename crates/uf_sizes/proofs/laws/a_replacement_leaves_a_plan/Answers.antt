@@ -1,8 +1,0 @@
-use Rattle.uf_sizes.proofs.Replaced.{replaced-plan, replaced-tsize}
-use Rattle.uf_sizes.proofs.laws.a_replacement_leaves_a_plan.Goals as goal
-
-pub returns : goal.returns
-returns c = record {
-  plan = λ X N p meta name old e l good dir is entry le h. replaced-plan X N p meta name old e l good dir is entry le h;
-  no_greater = λ X N p meta name old e l good dir is entry le. replaced-tsize X N p meta name old e l good dir is entry le;
-}
