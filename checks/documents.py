@@ -173,6 +173,7 @@ KINDS = {
     "OfOwnClash": "clash",
     "OfPins": "pins",
 }
+ASKS = {"Add": "add", "Remove": "rm", "List": "ls"}
 
 
 def natures():
@@ -180,9 +181,12 @@ def natures():
     lists = text_of("crates", "uf_command", "specs", "Kinds.antt")
     kinds = dict(re.findall(r"^(\w+_kinds) = (.*) ∷ \[\]$", lists, flags=re.M))
     text = re.sub(r"=\n +", "= ", text_of("crates", "uf_command", "specs", "Natures.antt"))
+    told = {name: ", ".join(KINDS.get(kind, kind) for kind in row.split(" ∷ ")) for name, row in kinds.items()}
+    asks = re.findall(r"^pin_kinds \(?pins\.(\w+)[^=]*= (\w+)$", text, flags=re.M)
+    told["(pin_kinds ask)"] = "; ".join(f"`{ASKS.get(ask, ask)}`: {told[name]}" for ask, name in asks)
     for name, row in re.findall(r"^nature \(?(\w+)[^=]*= row (.*)$", text, flags=re.M):
         *cells, last = re.findall(r"\([^)]*\)|\S+", row)
-        answers = ", ".join(KINDS.get(kind, kind) for kind in kinds[last].split(" ∷ "))
+        answers = told[last]
         yield [COMMANDS.get(name, name)] + [CELLS.get(cell, cell) for cell in cells] + [answers]
 
 

@@ -143,6 +143,20 @@ TROUBLES = [
 ]
 
 
+# Commands in a folder of their own, each a run of a new process: the words, the input, the status, and what is printed.
+HELLO = "bafkreifzjut3te2nhyekklss27nh3k72ysco7y32koao5eei66wof36n5e"
+RUNS = [
+    ("files ls", b"", 10, "error: not ready 1\n"),
+    ("init", b"", 0, ""),
+    ("init", b"", 10, "error: not ready 2\n"),
+    ("files mkdir -p /a/b", b"", 0, ""),
+    ("files ls /a", b"", 0, "b\n"),
+    ("add", b"hello world", 0, f"added {HELLO} {HELLO}\n"),
+    (f"cat {HELLO}", b"", 0, "hello world"),
+    ("files ls", b"", 0, "a\n"),
+]
+
+
 class Checks:
     """The checks, each over a store of its own that has one directory."""
 
@@ -186,6 +200,12 @@ class Checks:
         replace(lambda path: None)(store.path())
         os.rename(kept, store.path())
         self.expect(f"{name}: over", store.run("files ls"), (0, "d\n"))
+
+    def kept_between_runs(self):
+        """The tree is kept from run to run."""
+        store = Store(self.program, tempfile.mkdtemp(dir=self.folder))
+        for place, (words, data, status, printed) in enumerate(RUNS):
+            self.expect(f"run {place}: {words}", store.run(words, data), (status, printed))
 
     def mended(self):
         """A saved block takes the place of one that isn't its CID's, and of a link that leads nowhere."""
@@ -371,6 +391,7 @@ def main():
         checks = Checks(program, folder)
         for row in TROUBLES:
             checks.trouble(*row)
+        checks.kept_between_runs()
         checks.mended()
         checks.forbidden()
         checks.full()

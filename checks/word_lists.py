@@ -259,7 +259,7 @@ def rows():
 
 def main():
     made = rows()
-    text = "// Rows of words, made by checks/word_lists.py.\n\n// Words, each of which ends at one space, and the command that they are.\n"
+    text = "//! Rows of words, made by checks/word_lists.py.\n\n// Words, each of which ends at one space, and the command that they are.\n"
     text += 'pub const GENERATED: &str = "\\\n' + "".join(f"{line} => {answer}\\n\\\n" for line, answer in made.items()) + '";\n'
     if sys.argv[1:] == ["write"]:
         with open(FILE, "w", encoding="utf-8") as out:

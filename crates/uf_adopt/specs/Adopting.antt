@@ -52,7 +52,7 @@ module _ (X : List ℕ → List ℕ) (N : List ℕ → ℕ) (p : Profile) where
 
   module _ (held : Lookup) (limits : Limits) where
     unfoldable mutual
-      -- the CID `node` is that of the first node of the file in a tree that is too long, in front of which nothing is
+      -- the CID `node` is that of the first node of the file in a tree that is too long, before which nothing is
       -- refused; another CID denotes the tree
       pub IsFirstTooLong : Tree → Cid → Cid → Type 0
       IsFirstTooLong (File m bytes) c node = (node ≡ c) × (most_bytes p < length bytes)

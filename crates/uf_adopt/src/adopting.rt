@@ -1,4 +1,4 @@
-// What a CID denotes adopted.
+//! What a CID denotes adopted.
 ghost use Rattle.std.specs.Prelude.{◌≡◌, ◌≤◌, IsTrue, Ok, OnOk};
 ghost use Rattle.uf_cid.specs.Blocks.{Lookup};
 ghost use Rattle.uf_lenient.specs.Good.{ByGoodBlocks};

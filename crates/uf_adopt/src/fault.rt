@@ -1,4 +1,4 @@
-// Why a foreign DAG can't be adopted.
+//! Why a foreign DAG can't be adopted.
 use uf_build::BuildFault;
 use uf_cid::{Cid, Memory};
 use uf_dir::DirFault;

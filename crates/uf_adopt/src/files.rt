@@ -1,4 +1,4 @@
-// One file adopted.
+//! One file adopted.
 ghost use Rattle.std.specs.Prelude.{◌≡◌, ◌≤◌, ◌+◌, List, ℕ, [], false, IsTrue, Ok, OnOk};
 ghost use Rattle.uf_build.specs.Building.{saved_by};
 ghost use Rattle.uf_cid.specs.Blocks.{Lookup};

@@ -1,4 +1,4 @@
-// Trees adopted, files and directories.
+//! Trees adopted, files and directories.
 ghost use Rattle.std.specs.Prelude.{◌≡◌, ◌≤◌, ℕ, List, IfOk, IsTrue, Ok, OnOk};
 ghost use Rattle.std.specs.FinMap.Entries.{is_sorted};
 ghost use Rattle.uf_cid.specs.Blocks.{Lookup};

@@ -1,4 +1,4 @@
-// CARs of large files, written and read.
+//! CARs of large files, written and read.
 use crate::files::{built, zeros};
 use std::alloc::Global;
 use std::sync::ledger::Ledger;

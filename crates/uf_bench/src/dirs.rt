@@ -1,4 +1,4 @@
-// Directories of many names, edited in place and built anew.
+//! Directories of many names, edited in place and built anew.
 use std::alloc::Global;
 use std::sync::ledger::Ledger;
 use uf_cid::{Cid, Codec, Sha256Hash};

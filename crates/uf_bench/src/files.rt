@@ -1,4 +1,4 @@
-// Large files, edited in place and read.
+//! Large files, edited in place and read.
 use std::alloc::Global;
 use std::sync::ledger::Ledger;
 use uf_build::Builder;
@@ -34,7 +34,7 @@ pub fn built<L: Ledger>(
     builder.finish(store, touches).ok()
 }
 
-/// The root of a file of so many MiB after so many bytes were written into it, each at another place.
+/// The root of a file of so many MiB after n bytes were written into it, each at another place.
 pub fn edited<L: Ledger>(
     alloc: Global,
     mib: u64,

@@ -8,7 +8,7 @@ use Rattle.uf_store.specs.Contents.{Told}
 use Rattle.uf_store.specs.Keeping.{Holds, KeepsGood}
 use Rattle.uf_store.specs.Among.{SavesAmong}
 use Rattle.uf_tree.specs.Cutting.{joined}
-use Rattle.uf_tree.specs.FilePlan.{chunks, groups, climb, file_plan, leaf_part, leaf_held, top_part, top_held}
+use Rattle.uf_tree.specs.FilePlan.{chunks, groups, file_plan, leaf_part, leaf_held}
 use Rattle.uf_tree.specs.Metas.{none}
 use Rattle.uf_tree.specs.declared.meta.Meta.{Meta}
 use Rattle.uf_tree.specs.declared.nodes.Part.{Part}

@@ -16,8 +16,8 @@ use Rattle.uf_build.specs.declared.fault.BuildFault.{BuildFault}
 use Rattle.uf_build.specs.declared.fault.BuildFault.TheVariants.{FileTooLong, Spent, Store}
 use Rattle.uf_build.specs.Building.{Building}
 
--- a call that builds: its fault is one of saving and has its cause, good blocks are kept, nothing but blocks is written, and
--- nothing is loaded
+-- a call that builds: its fault is one of saving and has its cause, good blocks are kept, nothing but blocks is
+-- written, and nothing is loaded
 pub record OnlyBuilds (hash : List ℕ → List ℕ) (fault : Option StoreFault) (before now : Seen) : Type 0 where
   pub cause : Shown hash NoneIsBad fault before now
   pub good : KeepsGood hash before.told now.told
@@ -32,13 +32,16 @@ build_fault (Err FileTooLong) = None
 build_fault (Err Spent) = None
 build_fault (Err (Store fault)) = Some fault
 
--- what `feed` answers: Spent exactly of a builder that gave up before, FileTooLong exactly where another one would have too
--- many bytes; then it has given up, and after Ok it was fed so many more
+-- what `feed` answers: Spent exactly of a builder that gave up before, FileTooLong exactly where another one would
+-- have too many bytes; then it has given up, and after Ok it was fed so many more
 abbrev pub IsFeedAnswer : Building → ℕ → Building → Result (Unit {0}) BuildFault → Type 0
-IsFeedAnswer b more now (Ok done) = (b.is_spent ≡ false) × (b.fed + more ≤ most_bytes b.profile) × (now.is_spent ≡ false) × (now.fed ≡ b.fed + more)
-IsFeedAnswer b more now (Err FileTooLong) = (b.is_spent ≡ false) × (most_bytes b.profile < b.fed + more) × (now.is_spent ≡ true)
+IsFeedAnswer b more now (Ok done) = (b.is_spent ≡ false) × (b.fed + more ≤ most_bytes b.profile)
+    × (now.is_spent ≡ false) × (now.fed ≡ b.fed + more)
+IsFeedAnswer b more now (Err FileTooLong) = (b.is_spent ≡ false) × (most_bytes b.profile < b.fed + more)
+    × (now.is_spent ≡ true)
 IsFeedAnswer b more now (Err Spent) = (b.is_spent ≡ true) × (now.is_spent ≡ true)
-IsFeedAnswer b more now (Err (Store fault)) = (b.is_spent ≡ false) × (b.fed + more ≤ most_bytes b.profile) × (now.is_spent ≡ true) × IsSaving fault
+IsFeedAnswer b more now (Err (Store fault)) = (b.is_spent ≡ false) × (b.fed + more ≤ most_bytes b.profile)
+    × (now.is_spent ≡ true) × IsSaving fault
 
 -- what `finish` answers: Spent exactly of a builder that gave up before
 abbrev pub IsFinishAnswer : Building → Result Entry BuildFault → Type 0

@@ -25,7 +25,7 @@ pub record IsFedBy (hash : List ℕ → List ℕ) (p : Profile) (told : store.To
   pub profile : b.profile ≡ p
   pub are_bytes : IsBytes bytes
 
--- the builder was fed these bytes, which the source gave, behind what it was fed before, and has not given up
+-- the builder was fed these bytes, which the source gave, after what it was fed before, and has not given up
 pub record FeedsFrom (hash : List ℕ → List ℕ) (p : Profile) (bytes : List ℕ) (told told_now : store.Told)
     (b now : Building) (left left_now : Told) : Type 0 where
   pub taken : left ≡ before bytes left_now
@@ -75,7 +75,7 @@ FeedsNext hash p (Ok true) told told_now b now left left_now = FeedsPart hash p 
 FeedsNext hash p (Ok false) told told_now b now left left_now = FeedsLast hash p told told_now b now left left_now
 FeedsNext hash p (Err fault) told told_now b now left left_now = StopsFeeding hash p fault told told_now b left left_now
 
--- the builder was fed so many bytes more, and not too many, and has not given up
+-- the builder was fed n bytes more, and not too many, and has not given up
 pub record GrowsBy (more : ℕ) (b now : Building) : Type 0 where
   pub count : now.fed ≡ b.fed + more
   pub most : now.fed ≤ most_bytes b.profile

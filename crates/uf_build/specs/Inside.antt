@@ -7,7 +7,13 @@ use Rattle.uf_build.specs.Rows.{groups_in}
 
 -- what contracts see of it
 abbrev pub building_of : Inside → Building
-building_of b = record { profile = b.layout.profile; fed = b.fed; is_spent = b.is_spent; begun = b.layout.begun.items; rows = groups_in b.layout.opened }
+building_of b = record {
+  profile = b.layout.profile;
+  fed = b.fed;
+  is_spent = b.is_spent;
+  begun = b.layout.begun.items;
+  rows = groups_in b.layout.opened;
+}
 
 -- it has an accepted profile, and where it didn't give up, room for what comes
 pub record IsSound (b : Inside) : Type 0 where

@@ -1,5 +1,6 @@
--- The open groups of a file's rows, the lowest row first: behind the full groups of each row, whose nodes are saved. In front
--- of them the last part that came, which is in no group yet: so the group that ends a row is never saved before the file's end.
+-- The open groups of a file's rows, the lowest row first: after the full groups of each row, whose nodes are saved.
+-- Before them the last part that came, which is in no group yet: so the group that ends a row is never saved
+-- before the file's end.
 use Rattle.std.specs.Prelude.{◌≡◌, ℕ, zero, suc, ◌+◌, ◌*◌, ◌<◌, ◌≤◌, List, [], ◌∷◌, ◌++◌, length, map, nat_lt, Bool, true, false, if◌then◌else◌, ⊤}
 use Rattle.std.specs.List.{AllByRecursion, sum_by}
 use Rattle.std.specs.Option.{option_to_list}
@@ -21,7 +22,7 @@ is_none (g ∷ gs) = false
 abbrev pub AreShort : ℕ → List (List Part) → Type 0
 AreShort w rows = AllByRecursion (λ g. length g < w) rows
 
--- behind the last part
+-- after the last part
 abbrev pub AreShortBehind : ℕ → List (List Part) → Type 0
 AreShortBehind w [] = ⊤
 AreShortBehind w (g ∷ gs) = (length g ≤ 1) × AreShort w gs
@@ -59,7 +60,7 @@ module _ (w : ℕ) where
   saved_over [] = 0
   saved_over (g ∷ gs) = members (g ∷ gs) + saved_over gs
 
-  -- the same with the last part in front of the groups
+  -- the same with the last part before the groups
   abbrev pub saved_all : List (List Part) → ℕ
   saved_all [] = 0
   saved_all (g ∷ gs) = length g + saved_over gs
@@ -88,12 +89,14 @@ module _ (X : List ℕ → List ℕ) (w : ℕ) where
   -- the open groups after one more part of the lowest row: a group that becomes full goes up as a node
   abbrev pub push_row : Part → List (List Part) → List (List Part)
   push_row m [] = (m ∷ []) ∷ []
-  push_row m (g ∷ gs) = if nat_lt (length g + 1) w then (g ++ m ∷ []) ∷ gs else [] ∷ push_row (node_part X (g ++ m ∷ [])) gs
+  push_row m (g ∷ gs) = if nat_lt (length g + 1) w then (g ++ m ∷ []) ∷ gs
+      else [] ∷ push_row (node_part X (g ++ m ∷ [])) gs
 
   -- the nodes of the groups that it fills
   abbrev pub push_held : Part → List (List Part) → List Held
   push_held m [] = []
-  push_held m (g ∷ gs) = if nat_lt (length g + 1) w then [] else node_held X (g ++ m ∷ []) ∷ push_held (node_part X (g ++ m ∷ [])) gs
+  push_held m (g ∷ gs) = if nat_lt (length g + 1) w then [] else node_held X (g ++ m ∷ [])
+      ∷ push_held (node_part X (g ++ m ∷ [])) gs
 
   -- the same where it becomes the last part, and the part that was the last comes into the lowest row
   abbrev pub add_row : Part → List (List Part) → List (List Part)
@@ -118,21 +121,23 @@ module _ (X : List ℕ → List ℕ) (w : ℕ) where
   held_up (suc k) m [] = []
   held_up (suc k) m (g ∷ gs) = held_up k m gs
 
-  -- the open groups of a row and of those above it: each stands behind full groups, of whose nodes P holds and which are
-  -- the row above
+  -- the open groups of a row and of those above it: each stands after full groups, of whose nodes P holds and which
+  -- are the row above
   abbrev pub AreRows : (Held → Type 0) → List Part → List (List Part) → Type 0
   AreRows P row [] = row ≡ []
   AreRows P row (g ∷ gs) =
-      (full : List (List Part)) × (row ≡ joined full ++ g) × AllByRecursion (λ f. length f ≡ w) full × (length g < w) × (1 ≤ length row)
+      (full : List (List Part)) × (row ≡ joined full ++ g) × AllByRecursion (λ f. length f ≡ w) full × (length g < w)
+      × (1 ≤ length row)
       × AllByRecursion P (map (node_held X) full) × AreRows P (map (node_part X) full) gs
 
-  -- the same behind the last part, which is there where any came
+  -- the same after the last part, which is there where any came
   abbrev pub AreAll : (Held → Type 0) → List Part → List (List Part) → Type 0
   AreAll P row [] = row ≡ []
-  AreAll P row (g ∷ gs) = (before : List Part) × (row ≡ before ++ g) × (length g ≤ 1) × (1 ≤ length row → 1 ≤ length g) × AreRows P before gs
+  AreAll P row (g ∷ gs) = (before : List Part) × (row ≡ before ++ g) × (length g ≤ 1) × (1 ≤ length row → 1 ≤ length g)
+      × AreRows P before gs
 
 module _ (X : List ℕ → List ℕ) (meta : Meta) where
-  -- the part that stands over all rows, where this one comes behind those of the lowest
+  -- the part that stands over all rows, where this one comes after those of the lowest
   abbrev pub close : List (List Part) → Part → Part
   close [] c = c
   close (g ∷ gs) c = close gs (carry X meta (is_none gs) (g ++ c ∷ []))
@@ -140,7 +145,8 @@ module _ (X : List ℕ → List ℕ) (meta : Meta) where
   -- the nodes that are saved for that
   abbrev pub close_held : List (List Part) → Part → List Held
   close_held [] c = []
-  close_held (g ∷ gs) c = carry_held X meta (is_none gs) (g ++ c ∷ []) ++ close_held gs (carry X meta (is_none gs) (g ++ c ∷ []))
+  close_held (g ∷ gs) c = carry_held X meta (is_none gs) (g ++ c ∷ [])
+      ++ close_held gs (carry X meta (is_none gs) (g ++ c ∷ []))
 
   -- the same from a row on
   abbrev pub close_up : ℕ → List (List Part) → Part → Part
@@ -165,25 +171,30 @@ module _ (X : List ℕ → List ℕ) (meta : Meta) where
   close_all_held ((m ∷ ms) ∷ gs) = close_held (some_row gs) m
 
 -- a part came into a row: the nodes of the groups that this filled are held, and each was one touch
-pub record PushesPart (X : List ℕ → List ℕ) (w level : ℕ) (m : Part) (rows rows_now : List (List Part)) (told_now : Told) (touches touches_now : ℕ) : Type 0 where
+pub record PushesPart (X : List ℕ → List ℕ) (w level : ℕ) (m : Part) (rows rows_now : List (List Part))
+    (told_now : Told) (touches touches_now : ℕ) : Type 0 where
   pub pushed : rows_now ≡ push_up X w level m rows
   pub held : Holds told_now (held_up X w level m rows)
   pub count : touches_now ≡ touches + length (held_up X w level m rows)
 
--- the rows from one on were closed: this part stands over them, the nodes that were saved are held, and each was one touch
-pub record ClosesRows (X : List ℕ → List ℕ) (meta : Meta) (level : ℕ) (rows : List (List Part)) (carried part : Part) (told_now : Told) (touches touches_now : ℕ) : Type 0 where
+-- the rows from one on were closed: this part stands over them, the nodes that were saved are held, and each was one
+-- touch
+pub record ClosesRows (X : List ℕ → List ℕ) (meta : Meta) (level : ℕ) (rows : List (List Part)) (carried part : Part)
+    (told_now : Told) (touches touches_now : ℕ) : Type 0 where
   pub stands : part ≡ close_up X meta level rows carried
   pub held : Holds told_now (close_held_up X meta level rows carried)
   pub count : touches_now ≡ touches + length (close_held_up X meta level rows carried)
 
 -- a part became the last one: the nodes of the groups that this filled are held, and each was one touch
-pub record AddsPart (X : List ℕ → List ℕ) (w : ℕ) (m : Part) (rows rows_now : List (List Part)) (told_now : Told) (touches touches_now : ℕ) : Type 0 where
+pub record AddsPart (X : List ℕ → List ℕ) (w : ℕ) (m : Part) (rows rows_now : List (List Part)) (told_now : Told)
+    (touches touches_now : ℕ) : Type 0 where
   pub added : rows_now ≡ add_row X w m rows
   pub held : Holds told_now (add_held X w m rows)
   pub count : touches_now ≡ touches + length (add_held X w m rows)
 
 -- a row that ends hands this up: the node that was saved is held, and was one touch
-pub record EndsRow (X : List ℕ → List ℕ) (meta : Meta) (is_top : Bool) (row : List Part) (up : Part) (told_now : Told) (touches touches_now : ℕ) : Type 0 where
+pub record EndsRow (X : List ℕ → List ℕ) (meta : Meta) (is_top : Bool) (row : List Part) (up : Part) (told_now : Told)
+    (touches touches_now : ℕ) : Type 0 where
   pub goes_up : up ≡ carry X meta is_top row
   pub held : Holds told_now (carry_held X meta is_top row)
   pub count : touches_now ≡ touches + length (carry_held X meta is_top row)

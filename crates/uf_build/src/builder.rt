@@ -1,4 +1,4 @@
-// The builder of a file.
+//! The builder of a file.
 ghost use Rattle.std.specs.Prelude.{◌≡◌, ◌+◌, ◌≤◌, ◌++◌, List, ℕ, [], length, false, IfOk, OnOk, IsTrue};
 ghost use Rattle.uf_store.specs.Calls.{LoadsNothing};
 ghost use Rattle.uf_store.specs.Contents.{Told};
@@ -21,8 +21,9 @@ use std::sync::ledger::Ledger;
 use uf_store::{Steps, Store};
 use uf_tree::{Entry, Meta, Profile};
 
-/// Builds a file of the bytes that it is fed, in pieces of any sizes. It keeps one piece of the file and one group of links
-/// for each row, however long the file is. Contracts see its profile, how many bytes it was fed, and whether it gave up.
+/// Builds a file of the bytes that it is fed, in pieces of any sizes. It keeps one piece of the file and one group of
+/// links for each row, however long the file is. Contracts see its profile, how many bytes it was fed, and whether it
+/// gave up.
 #[derive(Drop)]
 pub struct Builder {
     layout: Layout,
@@ -79,7 +80,8 @@ impl Builder {
     ) -> Result<(), BuildFault>
         ensures answer { IsFeedAnswer self.old (length piece.now) self.new result }
         ensures profile { self.new.profile ≡ self.old.profile }
-        ensures fed { OnOk result ((bytes : List ℕ) → HasFed S.X.block32 bytes self.old → HasFed S.X.block32 (bytes ++ piece.now) self.new) }
+        ensures fed { OnOk result ((bytes : List ℕ) → HasFed S.X.block32 bytes self.old
+            → HasFed S.X.block32 (bytes ++ piece.now) self.new) }
         ensures held { OnOk result ((bytes : List ℕ) → HoldsFed S.X.block32 bytes (S.seen store.old).told self.old
             → HoldsFed S.X.block32 (bytes ++ piece.now) (S.seen store.new).told self.new) }
 
@@ -95,7 +97,8 @@ impl Builder {
         // One touch for each block that is saved, and whatever came, no more than the plan of all bytes has blocks.
         ensures saved { OnOk result (touches.new + saved_by self.old ≡ touches.old + saved_by self.new) }
         ensures most { (bytes : List ℕ) → HasFed S.X.block32 bytes self.old
-            → touches.new + saved_by self.old ≤ touches.old + length (file_plan S.X.block32 self.old.profile none (bytes ++ piece.now)).blocks }
+            → touches.new + saved_by self.old ≤ touches.old + length
+            (file_plan S.X.block32 self.old.profile none (bytes ++ piece.now)).blocks }
         ensures alone { LeavesAlone result (S.seen store.old) (S.seen store.new) touches.old touches.new }
     {
         if self.is_spent {
@@ -120,7 +123,8 @@ impl Builder {
         touches: &mut Steps<L>,
     ) -> Result<Entry, BuildFault>
         ensures answer { IsFinishAnswer self result }
-        ensures entry { IfOk result (λ e. (bytes : List ℕ) → HasFed S.X.block32 bytes self → e ≡ (file_plan S.X.block32 self.profile none bytes).entry) }
+        ensures entry { IfOk result (λ e. (bytes : List ℕ) → HasFed S.X.block32 bytes self
+            → e ≡ (file_plan S.X.block32 self.profile none bytes).entry) }
         ensures held { OnOk result ((bytes : List ℕ) → HoldsFed S.X.block32 bytes (S.seen store.old).told self
             → Holds (S.seen store.new).told (file_plan S.X.block32 self.profile none bytes).blocks) }
         ensures cause { Shown S.X.block32 NoneIsBad (build_fault result) (S.seen store.old) (S.seen store.new) }
@@ -131,16 +135,18 @@ impl Builder {
             (S.seen store.old).told (S.seen store.new).told }
         ensures unread { LoadsNothing (build_fault result) (S.seen store.old) (S.seen store.new) }
         ensures saved { OnOk result ((bytes : List ℕ) → HasFed S.X.block32 bytes self
-            → touches.new + saved_by self ≡ touches.old + length (file_plan S.X.block32 self.profile none bytes).blocks) }
+            → touches.new + saved_by self ≡ touches.old + length
+            (file_plan S.X.block32 self.profile none bytes).blocks) }
         ensures most { (bytes : List ℕ) → HasFed S.X.block32 bytes self
-            → touches.new + saved_by self ≤ touches.old + length (file_plan S.X.block32 self.profile none bytes).blocks }
+            → touches.new + saved_by self ≤ touches.old + length
+            (file_plan S.X.block32 self.profile none bytes).blocks }
         ensures alone { LeavesAlone result (S.seen store.old) (S.seen store.new) touches.old touches.new }
     {
         self.finish_with(&Meta::none(), store, touches)
     }
 
-    /// Saves what is left of the blocks of the file with this metadata, and answers its entry. The condition on the metadata is
-    /// `is_good`.
+    /// Saves what is left of the blocks of the file with this metadata, and answers its entry. The condition on the
+    /// metadata is `is_good`.
     pub fn finish_with<S: Store, L: Ledger>(
         self,
         meta: &Meta,
@@ -149,7 +155,8 @@ impl Builder {
     ) -> Result<Entry, BuildFault>
         requires { IsTrue (is_meta meta.now) }
         ensures answer { IsFinishAnswer self result }
-        ensures entry { IfOk result (λ e. (bytes : List ℕ) → HasFed S.X.block32 bytes self → e ≡ (file_plan S.X.block32 self.profile meta.now bytes).entry) }
+        ensures entry { IfOk result (λ e. (bytes : List ℕ) → HasFed S.X.block32 bytes self
+            → e ≡ (file_plan S.X.block32 self.profile meta.now bytes).entry) }
         ensures held { OnOk result ((bytes : List ℕ) → HoldsFed S.X.block32 bytes (S.seen store.old).told self
             → Holds (S.seen store.new).told (file_plan S.X.block32 self.profile meta.now bytes).blocks) }
         ensures cause { Shown S.X.block32 NoneIsBad (build_fault result) (S.seen store.old) (S.seen store.new) }
@@ -160,9 +167,11 @@ impl Builder {
             (S.seen store.old).told (S.seen store.new).told }
         ensures unread { LoadsNothing (build_fault result) (S.seen store.old) (S.seen store.new) }
         ensures saved { OnOk result ((bytes : List ℕ) → HasFed S.X.block32 bytes self
-            → touches.new + saved_by self ≡ touches.old + length (file_plan S.X.block32 self.profile meta.now bytes).blocks) }
+            → touches.new + saved_by self ≡ touches.old + length
+            (file_plan S.X.block32 self.profile meta.now bytes).blocks) }
         ensures most { (bytes : List ℕ) → HasFed S.X.block32 bytes self
-            → touches.new + saved_by self ≤ touches.old + length (file_plan S.X.block32 self.profile meta.now bytes).blocks }
+            → touches.new + saved_by self ≤ touches.old + length
+            (file_plan S.X.block32 self.profile meta.now bytes).blocks }
         ensures alone { LeavesAlone result (S.seen store.old) (S.seen store.new) touches.old touches.new }
     {
         let Builder {

@@ -1,4 +1,4 @@
-// Why a file is not built.
+//! Why a file is not built.
 use uf_store::StoreFault;
 
 /// Why a builder gave up.

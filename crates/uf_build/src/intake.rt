@@ -1,5 +1,5 @@
-// A source that is read as a file.
-ghost use Rattle.std.specs.Prelude.{◌≡◌, ◌<◌, ◌++◌, List, ℕ, length, false, true, IfErr, IfOk, IsTrue, Ok, OnOk, vec_len};
+//! A source that is read as a file.
+ghost use Rattle.std.specs.Prelude.{◌≡◌, ◌<◌, ◌++◌, List, ℕ, length, false, true, IfErr, IfOk, IsTrue, Ok, OnOk};
 ghost use Rattle.uf_edge.specs.Counts.{Counts};
 ghost use Rattle.uf_store.specs.Calls.{OnlySaves};
 ghost use Rattle.uf_store.specs.Clashes.{IsSaving};
@@ -7,7 +7,6 @@ ghost use Rattle.uf_store.specs.Faults.{NoneIsBad, Shown, fault_in};
 ghost use Rattle.uf_store.specs.Keeping.{KeepsGood};
 ghost use Rattle.uf_store.specs.Writing.{SavesOnly};
 ghost use Rattle.uf_store.specs.Among.{SavesAmong};
-ghost use Rattle.uf_store.specs.declared.store.StoreFault.TheVariants as stops;
 ghost use Rattle.uf_build.specs.Faults.{fails_reading, intake_fault};
 ghost use Rattle.uf_build.specs.FeedingAll.{FeedsNext, FeedsPiece, FeedsRest, GrowsBy, IsClosed};
 ghost use Rattle.uf_build.specs.Intake.{IsFileOf, SavesOfFile};
@@ -20,7 +19,7 @@ ghost use Rattle.uf_tree.specs.declared.profile.Profile.{Profile as TheProfile};
 use crate::{BuildFault, Builder, IntakeFault};
 use std::alloc::Global;
 use std::sync::ledger::Ledger;
-use uf_cid::slices_hold_bytes;
+use uf_cid::{slices_hold_bytes, zeros};
 use uf_edge::{Filled, Source, fill};
 use uf_store::{Steps, Store, StoreFault};
 use uf_tree::{Entry, Profile};
@@ -170,16 +169,5 @@ fn feed_piece<S: Store, L: Ledger>(
         Err(BuildFault::FileTooLong) => Err(IntakeFault::FileTooLong),
         Err(BuildFault::Spent) => unreachable!(),
         Err(BuildFault::Store(fault)) => Err(IntakeFault::Store(fault)),
-    }
-}
-
-// A buffer of so many bytes.
-fn zeros(alloc: Global, count: usize) -> Result<Vec<u8>, StoreFault>
-    ensures some { IfOk result (λ v. vec_len v ≡ count) }
-    ensures fault { IfErr result (λ fault. fault ≡ stops.Memory) }
-{
-    match vec![in alloc; 0u8; count] {
-        Ok(bytes) => Ok(bytes),
-        Err(_) => Err(StoreFault::Memory),
     }
 }

@@ -1,4 +1,4 @@
-// Pieces of a file, and the open groups over them.
+//! Pieces of a file, and the open groups over them.
 ghost use Rattle.std.specs.Prelude.{◌≡◌, ◌+◌, ◌<◌, ◌≤◌, ◌*◌, ◌^◌, ◌++◌, ◌∷◌, ◌⊎◌, ℕ, [], length, IfOk, OnOk, OnErr, IsTrue, slice_index_or};
 ghost use Rattle.uf_cid.specs.Bytes.{piece};
 ghost use Rattle.uf_cid.specs.Cid.{cid_of};
@@ -36,7 +36,7 @@ pub struct Layout {
 impl Layout {
     ghost use Rattle.uf_build.specs.Layouts.{CanEnd, CanTake, ClosesFile, EndsAmong, EndsLast, EndsPiece, EndsUpTo, StaysWithin, StopsTaking, Takes, TakesFront, TakesPieces};
 
-    // Takes bytes behind those that it took before.
+    // Takes bytes after those that it took before.
     pub fn take<S: Store, L: Ledger>(
         &mut self,
         store: &mut S,
@@ -60,7 +60,7 @@ impl Layout {
         Ok(())
     }
 
-    // Fills the piece that was begun, where one was, from the front of some bytes, and answers how many it took. Either
+    // Fills the piece that was begun, where one was, from the prefix of some bytes, and answers how many it took. Either
     // that was all, or no piece is begun then.
     fn fill<S: Store, L: Ledger>(
         &mut self,

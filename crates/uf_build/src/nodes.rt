@@ -1,4 +1,4 @@
-// The node over a group of parts.
+//! The node over a group of parts.
 ghost use Rattle.std.specs.Prelude.{◌≡◌, ◌+◌, ◌<◌, ◌≤◌, ◌^◌, ◌∷◌, [], length, IfOk, IsTrue, OnOk, IfErr, OnErr};
 ghost use Rattle.std.specs.List.{AllByRecursion, sum_by};
 ghost use Rattle.uf_store.specs.Calls.{LoadsNothing};
@@ -32,7 +32,8 @@ pub fn save_node<S: Store, L: Ledger>(
     requires few { length parts.now ≤ 1024 }
     requires size { sum_by (λ m. m.size) parts.now < 2 ^ 63 }
     ensures part { IfOk result (λ part. part ≡ node_part S.X.block32 parts.now) }
-    ensures kept { OnOk result (KeepsHeld S.X.block32 (node_held S.X.block32 parts.now) (S.seen store.old) (S.seen store.new)) }
+    ensures kept { OnOk result (KeepsHeld S.X.block32 (node_held S.X.block32 parts.now) (S.seen store.old)
+        (S.seen store.new)) }
     ensures held { OnOk result (Holds (S.seen store.new).told (node_held S.X.block32 parts.now ∷ [])) }
     ensures cause { Answers S.X.block32 NoneIsBad result (S.seen store.old) (S.seen store.new) }
     ensures fault { IfErr result IsSaving }
@@ -60,7 +61,8 @@ pub fn save_root<S: Store, L: Ledger>(
     requires size { sum_by (λ m. m.size) parts.now < 2 ^ 63 }
     requires good { IsTrue (is_meta meta.now) }
     ensures part { IfOk result (λ part. part ≡ root_part S.X.block32 meta.now parts.now) }
-    ensures kept { OnOk result (KeepsHeld S.X.block32 (root_held S.X.block32 meta.now parts.now) (S.seen store.old) (S.seen store.new)) }
+    ensures kept { OnOk result (KeepsHeld S.X.block32 (root_held S.X.block32 meta.now parts.now) (S.seen store.old)
+        (S.seen store.new)) }
     ensures held { OnOk result (Holds (S.seen store.new).told (root_held S.X.block32 meta.now parts.now ∷ [])) }
     ensures cause { Answers S.X.block32 NoneIsBad result (S.seen store.old) (S.seen store.new) }
     ensures fault { IfErr result IsSaving }
@@ -86,7 +88,8 @@ pub fn save_root<S: Store, L: Ledger>(
     })
 }
 
-// Saves what stands over the topmost row: the root over its parts, or nothing where it is a single piece without metadata.
+// Saves what stands over the topmost row: the root over its parts, or nothing where it is a single piece without
+// metadata.
 pub fn save_top<S: Store, L: Ledger>(
     alloc: Global,
     store: &mut S,

@@ -1,4 +1,4 @@
-// The open groups of a file's rows, the lowest row first.
+//! The open groups of a file's rows, the lowest row first.
 ghost use Rattle.std.specs.Prelude.{◌≡◌, ◌+◌, ◌<◌, ◌≤◌, ◌^◌, ◌++◌, ◌∷◌, [], length, IfOk, IsTrue, OnOk};
 ghost use Rattle.uf_store.specs.Faults.{fault_in};
 ghost use Rattle.uf_store.specs.Among.{SavesAmong};
@@ -85,7 +85,7 @@ fn push_first(alloc: Global, rows: &mut Vec<Parts>, part: Part) -> Result<(), Me
     Ok(())
 }
 
-// Closes all open groups behind this last part. Answers the part that stands over all rows, with the file's metadata.
+// Closes all open groups after this last part. Answers the part that stands over all rows, with the file's metadata.
 pub fn close_all<S: Store, L: Ledger>(
     alloc: Global,
     width: usize,
@@ -101,7 +101,8 @@ pub fn close_all<S: Store, L: Ledger>(
     requires good { IsTrue (is_meta meta.now) }
     ensures closed { IfOk result (λ part. ClosesRows S.X.block32 meta.now 0 (some_row rows.old.items) last part
         (S.seen store.new).told touches.old touches.new) }
-    ensures touches { touches.new ≤ touches.old + length (close_held S.X.block32 meta.now (some_row rows.old.items) last) }
+    ensures touches { touches.new ≤ touches.old + length (close_held S.X.block32 meta.now
+        (some_row rows.old.items) last) }
     ensures builds { OnlyBuilds S.X.block32 (fault_in result) (S.seen store.old) (S.seen store.new) }
     ensures no_other { SavesAmong S.X.block32 (close_held S.X.block32 meta.now (some_row rows.old.items) last)
         (S.seen store.old).told (S.seen store.new).told }
@@ -169,7 +170,8 @@ fn close_row<S: Store, L: Ledger>(
     requires good { IsTrue (is_meta meta.now) }
     ensures ends { IfOk result (λ up. EndsRow S.X.block32 meta.now is_top (row ++ carried ∷ []) up
         (S.seen store.new).told touches.old touches.new) }
-    ensures touches { touches.new ≤ touches.old + length (carry_held S.X.block32 meta.now is_top (row ++ carried ∷ [])) }
+    ensures touches { touches.new ≤ touches.old + length (carry_held S.X.block32 meta.now is_top
+        (row ++ carried ∷ [])) }
     ensures builds { OnlyBuilds S.X.block32 (fault_in result) (S.seen store.old) (S.seen store.new) }
     ensures no_other { SavesAmong S.X.block32 (carry_held S.X.block32 meta.now is_top (row ++ carried ∷ []))
         (S.seen store.old).told (S.seen store.new).told }

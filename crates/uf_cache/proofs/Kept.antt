@@ -7,6 +7,9 @@ use Rattle.uf_cid.specs.declared.cid.Cid.{Cid}
 use Rattle.uf_cid.specs.Cid.{cid_bytes}
 use Rattle.uf_store.specs.Contents.{Told}
 use Rattle.uf_store.specs.Keeping.{KeepsGood}
+use Rattle.uf_store.specs.Seen.{Looks, Seen, Stays}
+use Rattle.uf_store.specs.declared.store.Presence.{Presence}
+use Rattle.uf_store.specs.declared.store.Presence.TheVariants.{There, Missing, Failed, Memory}
 use Rattle.uf_store.proofs.Keeping.{KeepsGood-same}
 use Rattle.uf_cache.specs.Entries.{AreKept, Entries, IsKept, MayKeep, MayPut, is_spelled, used}
 use Rattle.uf_cache.proofs.Finding.{same_cid, spelled}
@@ -54,3 +57,10 @@ module _ (hash : List ℕ → List ℕ) where
       -- a block that was found may have been put
       pub AreKept-kept : MayKeep cid bytes es now → AreKept hash told now
       AreKept-kept may = AreKept-put may.put
+
+-- the question whether a block is there changes neither what is told nor what is lent
+pub looks-stays : (cid : Cid) (answer : Presence) (a b : Seen) → Looks cid answer a b → Stays a b
+looks-stays cid There a b h = h.stays
+looks-stays cid Missing a b h = h.stays
+looks-stays cid Failed a b h = h.stays
+looks-stays cid Memory a b h = h.stays

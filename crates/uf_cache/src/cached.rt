@@ -1,9 +1,9 @@
-// A store over another one, with entries in memory.
+//! A store over another one, with entries in memory.
 ghost use Rattle.std.specs.Prelude.{◌≡◌, ◌≢◌, ◌≤◌, ◌<◌, ◌+◌, [], None, Some, IfOk, IfSome, length};
 ghost use Rattle.std.proofs.Props.{props};
 ghost use Rattle.lru.specs.LruCache.{lru_cache};
 ghost use Rattle.uf_cache.specs.Entries.{AreKept, IsKept, lent_by};
-ghost use Rattle.uf_store.specs.Seen.{Loads, ReadsNote, Saves, Syncs, WritesNote};
+ghost use Rattle.uf_store.specs.Seen.{Loads, Looks, ReadsNote, Saves, Syncs, WritesNote};
 ghost use Rattle.uf_store.specs.Sweeping.{Sweeps};
 
 use crate::keep::{keep, let_go};
@@ -13,7 +13,7 @@ use std::num::NonZeroUsize;
 use std::sync::ledger::Ledger;
 use uf_cid::{Block, Cid, Cids, Codec, Memory};
 use uf_edge::Put;
-use uf_store::{Load, Note, NoteRead, Save, Steps, Store, Sweep, Swept};
+use uf_store::{Load, Note, NoteRead, Presence, Save, Steps, Store, Sweep, Swept};
 
 /// How many CIDs of blocks that will probably be loaded next are handed on at most.
 const MOST_AHEAD: usize = 8;
@@ -21,8 +21,8 @@ const MOST_AHEAD: usize = 8;
 /// A store that keeps the blocks which it found last in memory, and hands all else to another store.
 ///
 /// An entry is whole, and the other store holds it under its CID, where that one tells. A block that is found is lent
-/// by the store that found it: after a hit that is the first entry. While it is lent, it is found again without that store,
-/// whether it was kept or not.
+/// by the store that found it: after a hit that is the first entry. While it is lent, it is found again without that
+/// store, whether it was kept or not.
 #[derive(Drop)]
 pub struct Cached<S: Store> {
     alloc: Global,
@@ -82,8 +82,8 @@ impl<S: Store> Store for Cached<S> {
         ensures seen { Loads S.X.block32 cid.now result (cached_seen self.old) (cached_seen self.new) }
         ensures touch { touches.new ≡ touches.old + 1 }
 
-        // A block among the entries is lent from there, the one that is lent is lent on, and nothing is asked of the other
-        // store. All else it answers.
+        // A block among the entries is lent from there, the one that is lent is lent on, and nothing is asked of the
+        // other store. All else it answers.
         ensures hit { IfSome (entry_of self.old cid.now) (λ bytes. Hits cid.now bytes result self.old self.new) }
         ensures again { entry_of self.old cid.now ≡ None → lent_cid self.old ≡ Some cid.now →
             Rests result self.old self.new }
@@ -114,6 +114,14 @@ impl<S: Store> Store for Cached<S> {
             keep(self.alloc, &mut self.entries, cid, self.inner.block());
         }
         answer
+    }
+
+    fn holds<L: Ledger>(&mut self, cid: &Cid, touches: &mut Steps<L>) -> Presence
+        ensures seen { Looks cid.now result (cached_seen self.old) (cached_seen self.new) }
+        ensures touch { touches.new ≡ touches.old + 1 }
+        ensures below { PassesOn (Looks cid.now result) self.old self.new }
+    {
+        self.inner.holds(cid, touches)
     }
 
     fn block(&self) -> &[u8] {

@@ -1,4 +1,4 @@
-// Blocks put among the entries of a cache.
+//! Blocks put among the entries of a cache.
 ghost use Rattle.std.specs.Prelude.{◌≡◌, []};
 ghost use Rattle.uf_cache.specs.Entries.{MayKeep, MayPut};
 
@@ -9,8 +9,8 @@ use uf_cid::{Block, Cid, Codec};
 /// The most bytes of a leaf that is kept.
 const MOST_OF_LEAF: usize = 4096;
 
-/// Puts a block first among the entries. A longer leaf of raw bytes isn't kept: a file's are read one after the other, and a
-/// copy of each would cost more than it saves.
+/// Puts a block first among the entries. A longer leaf of raw bytes isn't kept: a file's are read one after the other,
+/// and a copy of each would cost more than it saves.
 pub(crate) fn keep(alloc: Global, entries: &mut LruCache<[u8; 36], Block>, cid: &Cid, bytes: &[u8])
     ensures { MayKeep cid.now bytes.now entries.old entries.new }
 {

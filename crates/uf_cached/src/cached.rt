@@ -1,4 +1,4 @@
-// One command over a store with a cache.
+//! One command over a store with a cache.
 ghost use Rattle.std.specs.Prelude.{◌≡◌, Bool, false, map, string_bytes, true};
 ghost use Rattle.uf_cache.specs.Cached.{cached_seen};
 ghost use Rattle.uf_mfs.specs.Standing.{TellsAs};

@@ -19,7 +19,7 @@ pub record TwoBlocks : Type 0 where
   pub first : List ℕ
   pub second : List ℕ
 
--- a block and another one that is held under its CID, or what comes behind it
+-- a block and another one that is held under its CID, or what comes after it
 abbrev pub or_other : Option (List ℕ) → Held → Option TwoBlocks → Option TwoBlocks
 or_other None b rest = rest
 or_other (Some other) b rest =

@@ -27,7 +27,7 @@ abbrev pub export_fault : {A : Type 0} → Result A ExportFault → Option Store
 export_fault (Err (fault.Store f)) = Some f
 export_fault _ = None
 
--- the fault is the first in the order; want of memory and a store that failed are no part of it
+-- the fault is the first in the order; out of memory and a store that failed are no part of it
 abbrev pub StopsByStore : Result (List Cid) OrderFault → StoreFault → Type 0
 StopsByStore said store.Failed = Unit {0}
 StopsByStore said (store.Damaged c) = Unit {0}
@@ -59,7 +59,7 @@ pub record WritesSection (cid : Cid) (n : ℕ) (before now : Seen) (out out_now 
   pub written : out_now ≡ after out (section_bytes (cid, now.lent))
   pub count : n ≡ length (section_bytes (cid, now.lent))
 
--- some bytes were written behind what the sink held
+-- some bytes were written after what the sink held
 abbrev pub WritesSome : Told → Told → Type 0
 WritesSome out out_now = (text : List ℕ) × (out_now ≡ after out text)
 

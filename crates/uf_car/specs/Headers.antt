@@ -1,5 +1,6 @@
 -- What the header of a CAR says (CARv1, "Header"; DAG-CBOR): its roots, or why it is refused.
-use Rattle.std.specs.Prelude.{◌≡◌, ◌⊎◌, ⊤, ℕ, zero, suc, ◌-◌, ◌==◌, ◌&&◌, nat_eq, nat_le, nat_lt, List, [], ◌∷◌, ◌++◌, length, drop, if◌then◌else◌}
+use Rattle.std.specs.Prelude.{◌≡◌, ◌⊎◌, ⊤, ℕ, zero, suc, ◌-◌, ◌==◌, ◌&&◌, nat_eq, nat_le, nat_lt, List, [], ◌∷◌, ◌++◌}
+use Rattle.std.specs.Prelude.{length, drop, if◌then◌else◌}
 use Rattle.std.specs.List.{starts_with}
 use Rattle.std.specs.declared.option.Option.{Option}
 use Rattle.std.specs.declared.option.Option.TheVariants.{None, Some}
@@ -14,7 +15,7 @@ use Rattle.uf_car.specs.declared.fault.CarFault.{CarFault}
 use Rattle.uf_car.specs.declared.fault.CarFault.TheVariants as fault
 use Rattle.uf_car.specs.Text.{roots_key, version_key, link_key}
 
--- the bytes behind a front, where they begin with it
+-- the bytes after a front, where they begin with it
 abbrev pub past_front : List ℕ → List ℕ → Option (List ℕ)
 past_front front bytes = if starts_with nat_eq bytes front then Some (drop (length front) bytes) else None
 
@@ -27,7 +28,7 @@ wanted (Some a) = Ok a
 abbrev pub old_link_key : List ℕ
 old_link_key = 0xd8 ∷ 0x2a ∷ 0x58 ∷ 0x23 ∷ 0x00 ∷ []
 
--- how many items an array has: a number below 24 in the head, or one byte of 24 or more behind it
+-- how many items an array has: a number below 24 in the head, or one byte of 24 or more after it
 abbrev pub long_count : List ℕ → Result (ℕ × List ℕ) CarFault
 long_count [] = Err fault.Header
 long_count (n ∷ rest) = if nat_lt n 24 then Err fault.Header else Ok (n, rest)
@@ -42,7 +43,7 @@ count_of (b ∷ rest) =
 abbrev pub few_roots : ℕ × List ℕ → Result (ℕ × List ℕ) CarFault
 few_roots c = if nat_lt 64 c.0 then Err (fault.TooManyRoots c.0) else Ok (c.0, c.1)
 
--- the CID of so many bytes in front
+-- the CID of n bytes in front
 abbrev pub root_with : ℕ → List ℕ → Result (Cid × ℕ) CidFault → Result (Cid × List ℕ) CarFault
 root_with size bytes (Ok found) = if found.1 == size then Ok (found.0, drop size bytes) else Err fault.Header
 root_with size bytes (Err why) = Err fault.Header

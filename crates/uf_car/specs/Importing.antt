@@ -1,5 +1,6 @@
 -- What the calls that read a CAR into a store answer and leave.
-use Rattle.std.specs.Prelude.{◌≡◌, ℕ, ◌+◌, ◌≤◌, ◌<◌, Bool, true, false, List, [], ◌∷◌, ◌++◌, length, take, drop, None, Some, IfSome, nat_eq, if◌then◌else◌, ⊤}
+use Rattle.std.specs.Prelude.{◌≡◌, ℕ, ◌+◌, ◌≤◌, ◌<◌, Bool, true, false, List, [], ◌∷◌, ◌++◌, length, take, drop, None}
+use Rattle.std.specs.Prelude.{Some, IfSome, nat_eq, if◌then◌else◌, ⊤}
 use Rattle.std.specs.Cmp.Lexicographic.{pointwise}
 use Rattle.std.specs.declared.option.Option.{Option}
 use Rattle.std.specs.declared.result.Result.{Result}
@@ -122,12 +123,12 @@ EndsAt (Err f) left = Unit {0}
 abbrev pub FitsSection : Begun → Type 0
 FitsSection b = (0 < b.front) × (b.front ≤ 45) × (b.size ≤ 2097152)
 
--- so many bytes were used
+-- n bytes were used
 pub record Uses (used : ℕ) (before now : Window) : Type 0 where
   pub some : 0 < used
   pub few : used + (length (window_bytes now) + now.room) ≤ length (window_bytes before) + before.room
 
--- so many bytes were used of what is ahead
+-- n bytes were used of what is ahead
 pub record UsesAhead (used : ℕ) (before now : Window) (left left_now : streams.Told) : Type 0 where
   pub rest : (a : Ahead) → ahead before left ≡ Some a → ahead now left_now ≡ Some (drop used a.0, a.1)
   pub few : used + (length (window_bytes now) + now.room) ≤ length (window_bytes before) + before.room
@@ -137,7 +138,7 @@ UsesUp (Ok None) before now = Unit {0}
 UsesUp (Ok (Some used)) before now = Uses used before now
 UsesUp (Err f) before now = Unit {0}
 
--- the block of a section was kept, and the bytes behind it are ahead
+-- the block of a section was kept, and the bytes after it are ahead
 pub record KeepsSection (hash : List ℕ → List ℕ) (place used : ℕ) (a : Ahead) (now : Option Ahead)
     (told told_now : Told) : Type 0 where
   pub block : Held
@@ -181,7 +182,7 @@ abbrev pub ClashesFirst : List Held → Told → StoreFault → Type 0
 ClashesFirst sections told =
     IfClash (λ c first second. (rest : List Held) × (sections ≡ (c, second) ∷ rest) × HoldsOne told c first)
 
--- so many of these blocks were kept: all where the answer is one of the CAR, and else those in front of a clash
+-- so many of these blocks were kept: all where the answer is one of the CAR, and else those before a clash
 pub record KeepsSome (sections : List Held) (f : CarFault) (told told_now : Told) : Type 0 where
   pub count : ℕ
   pub few : count ≤ length sections
@@ -213,7 +214,7 @@ abbrev pub as_section : Result ℕ CarFault → Result (Option ℕ) CarFault
 as_section (Ok used) = Ok (Some used)
 as_section (Err f) = Err f
 
--- sections in front of what is read further on
+-- sections before what is read further on
 abbrev pub behind_done : {A : Type 0} → List Held → Read A → Read A
 behind_done done r = record { sections = done ++ r.sections; answer = r.answer }
 

@@ -1,6 +1,7 @@
 -- What the bytes of a CAR say (CARv1): its sections up to the first fault, and its roots or that fault. A place is the
 -- number of the byte with which the header or a section begins.
-use Rattle.std.specs.Prelude.{ℕ, zero, suc, ◌+◌, ◌-◌, ◌≤◌, ◌<◌, ◌==◌, ◌||◌, min, nat_eq, nat_lt, Bool, true, false, List, [], ◌∷◌, length, take, drop, if◌then◌else◌}
+use Rattle.std.specs.Prelude.{ℕ, zero, suc, ◌+◌, ◌-◌, ◌≤◌, ◌<◌, ◌==◌, ◌||◌, min, nat_eq, nat_lt, Bool, true, false}
+use Rattle.std.specs.Prelude.{List, [], ◌∷◌, length, take, drop, if◌then◌else◌}
 use Rattle.std.specs.Cmp.Lexicographic.{pointwise}
 use Rattle.std.specs.declared.result.Result.{Result}
 use Rattle.std.specs.declared.result.Result.TheVariants.{Ok, Err}
@@ -17,7 +18,7 @@ use Rattle.uf_car.specs.declared.section.Opening.{Opening}
 use Rattle.uf_car.specs.declared.section.Opening.TheVariants.{End, Cut, Wrong, Found}
 use Rattle.uf_car.specs.Headers.{IsOfBytes, header_of}
 
--- the block of a section of so many bytes behind a CID that was read
+-- the block of a section of n bytes after a CID that was read
 abbrev pub sized : Cid → ℕ → ℕ → ℕ → Opening
 sized c place front size = if nat_lt 2097152 size then Wrong (fault.TooBigBlock place size) else Found c front size
 
@@ -25,7 +26,7 @@ abbrev pub with_cid : ℕ → ℕ → ℕ → Result (Cid × ℕ) CidFault → O
 with_cid place count used (Ok found) = sized found.0 place (used + found.1) (count - found.1)
 with_cid place count used (Err why) = Wrong (fault.BadCid place)
 
--- a section of so many bytes: at most 36 of them are read for its CID
+-- a section of n bytes: at most 36 of them are read for its CID
 abbrev pub behind_length : ℕ → ℕ → ℕ → List ℕ → Opening
 behind_length place count used rest =
     if nat_lt (length rest) (min count 36) then Cut else with_cid place count used (cid_at (take (min count 36) rest))
@@ -40,7 +41,7 @@ unfoldable pub opening_of : ℕ → List ℕ → Opening
 opening_of place [] = End
 opening_of place (b ∷ bytes) = with_section_length place (b ∷ bytes) (read_multi_of (b ∷ bytes))
 
--- a block is no longer than it may be, and at most 45 bytes stand in front of it
+-- a block is no longer than it may be, and at most 45 bytes stand before it
 abbrev pub within_section : Opening → Type 0
 within_section End = Unit {0}
 within_section Cut = Unit {0}
@@ -138,6 +139,6 @@ behind_header hash over bytes (Ok h) = rooted h.0 (sections_of hash over h.1 (dr
 abbrev pub read_over : (List ℕ → List ℕ) → Bool → List ℕ → Read (List Cid)
 read_over hash over bytes = behind_header hash over bytes (header_at over bytes)
 
--- what a CAR says of which at most so many bytes are read
+-- what a CAR says of which at most n bytes are read
 abbrev pub car_read : (List ℕ → List ℕ) → ℕ → List ℕ → Read (List Cid)
 car_read hash limit bytes = read_over hash (nat_lt limit (length bytes)) (take limit bytes)

@@ -1,5 +1,6 @@
 -- What a window on a source shows.
-use Rattle.std.specs.Prelude.{◌≡◌, ℕ, ◌+◌, ◌-◌, ◌<◌, ◌≤◌, ◌⊎◌, nat_lt, Bool, true, false, List, ◌++◌, length, take, drop, None, Some, min}
+use Rattle.std.specs.Prelude.{◌≡◌, ℕ, ◌+◌, ◌-◌, ◌<◌, ◌≤◌, ◌⊎◌, nat_lt, Bool, true, false, List, ◌++◌, length, take}
+use Rattle.std.specs.Prelude.{drop, None, Some, min}
 use Rattle.std.specs.declared.option.Option.{Option}
 use Rattle.uf_edge.specs.Streams.{IsAtEnd, Told}
 use Rattle.uf_car.specs.declared.window.Fill.{Fill}
@@ -77,7 +78,7 @@ pub record KeepsBytes (before now : Window) : Type 0 where
 abbrev pub HasEnough : ℕ → Window → Type 0
 HasEnough count now = (count ≤ length (window_bytes now)) ⊎ NoMoreComes now.supply
 
--- so many bytes were read behind those that are there, of which as many are taken as may be
+-- n bytes were read after those that are there, of which as many are taken as may be
 pub record TakesIn (got : ℕ) (before now : Window) : Type 0 where
   pub same_from : now.from ≡ before.from
   pub to : now.to ≡ before.to + min got before.room

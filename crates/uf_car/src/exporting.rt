@@ -1,4 +1,4 @@
-// CARs written from a store.
+//! CARs written from a store.
 ghost use Rattle.std.specs.Prelude.{◌≡◌, ◌≤◌, ◌<◌, false, Some, OnOk, IfOk, length};
 ghost use Rattle.uf_edge.specs.Counts.{Counts};
 ghost use Rattle.uf_store.specs.Calls.{OnlyReads};
@@ -6,7 +6,8 @@ ghost use Rattle.uf_store.specs.Contents.{Contents, held_at};
 ghost use Rattle.uf_store.specs.Faults.{NoneIsBad, Shown};
 ghost use Rattle.uf_walk.specs.Order.{order};
 ghost use Rattle.uf_walk.specs.Turns.{HasTaken};
-ghost use Rattle.uf_car.specs.Exporting.{Exports, FollowsOrder, IsAfterWalk, WalksAll, WritesBlock, WritesCar, WritesSome};
+ghost use Rattle.uf_car.specs.Exporting.{Exports, FollowsOrder, IsAfterWalk, WalksAll, WritesBlock, WritesCar};
+ghost use Rattle.uf_car.specs.Exporting.{WritesSome};
 ghost use Rattle.uf_car.specs.Exporting.{export_fault, is_sink_fault};
 ghost use Rattle.uf_car.specs.Text.{car_text, section_bytes};
 

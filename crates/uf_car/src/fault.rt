@@ -1,4 +1,4 @@
-// What the calls on CARs answer.
+//! What the calls on CARs answer.
 use uf_cid::{Cid, Cids, Memory};
 use uf_store::StoreFault;
 use uf_walk::WalkFault;
@@ -23,7 +23,7 @@ pub enum CarFault {
     BadCid(u64),
     /// A block isn't that of its CID.
     WrongDigest(u64, Cid),
-    /// A block has so many bytes.
+    /// A block has n bytes.
     TooBigBlock(u64, u64),
     /// There are so many roots.
     TooManyRoots(u64),

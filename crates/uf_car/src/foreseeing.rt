@@ -1,4 +1,4 @@
-// Raw blocks that a store is told of before they are loaded: the leaves of a file lie side by side in a walk.
+//! Raw blocks that a store is told of before they are loaded: the leaves of a file lie side by side in a walk.
 ghost use Rattle.std.specs.Prelude.{◌≡◌};
 
 use uf_cid::{Cid, Codec};

@@ -1,4 +1,4 @@
-// The header of a CAR.
+//! The header of a CAR.
 ghost use Rattle.std.specs.Prelude.{◌≡◌, ◌∷◌, [], IfErr};
 ghost use Rattle.std.specs.Option.{option_map};
 ghost use Rattle.uf_cid.specs.Read.{cid_at};
@@ -117,7 +117,7 @@ fn root_in(bytes: &[u8]) -> Result<(Cid, &[u8]), CarFault>
     }
 }
 
-// The CID of so many bytes in front.
+// The CID of n bytes in front.
 fn cid_of_length(size: usize, bytes: &[u8]) -> Result<(Cid, &[u8]), CarFault>
     ensures says { HeaderSays (λ x. (x.0, x.1.now)) result (root_with size bytes.now (cid_at bytes.now)) }
     ensures of_bytes { IfErr result IsOfBytes }
@@ -134,7 +134,7 @@ fn cid_of_length(size: usize, bytes: &[u8]) -> Result<(Cid, &[u8]), CarFault>
     }
 }
 
-// The roots, where the version is 1 and nothing stands behind it.
+// The roots, where the version is 1 and nothing stands after it.
 fn version_behind(roots: Cids, bytes: &[u8]) -> Result<Cids, CarFault>
     ensures says { HeaderSays (λ x. x) result (versioned roots bytes.now) }
     ensures of_bytes { IfErr result IsOfBytes }
@@ -156,7 +156,7 @@ fn version_behind(roots: Cids, bytes: &[u8]) -> Result<Cids, CarFault>
     }
 }
 
-// The bytes behind a front, where they begin with it.
+// The bytes after a front, where they begin with it.
 fn rest_behind<'a>(front: &[u8], bytes: &'a [u8]) -> Option<&'a [u8]>
     ensures { option_map (λ x. x.now) result ≡ past_front front.now bytes.now }
 {

@@ -1,4 +1,4 @@
-// CARs read into a store.
+//! CARs read into a store.
 ghost use Rattle.std.specs.Prelude.{◌≡◌, ◌<◌, ◌≤◌, ◌+◌, ◌^◌, ℕ, List, Some, false, length};
 ghost use Rattle.std.specs.Prelude.{IfOk, IfErr, OnOk, OnErr, IfSome};
 ghost use Rattle.uf_varint.specs.declared.varint.Var.TheVariants.{Value};
@@ -30,7 +30,7 @@ use uf_store::{Steps, Store, save_under};
 use uf_varint::{Var, read_multi};
 
 /// Reads a CAR of at most `limit` bytes, and keeps the block of each section. After a refusal the blocks of the
-/// sections in front of it are kept. Ok says that the source was read to its end, and not that all below a root is
+/// sections before it are kept. Ok says that the source was read to its end, and not that all below a root is
 /// there (CARv1). One touch for each block.
 pub fn import<S: Store, I: Source, L: Ledger>(
     alloc: Global,
@@ -102,7 +102,7 @@ fn read_header<I: Source>(
     }
 }
 
-// Reads a header of so many bytes behind its length.
+// Reads a header of n bytes after its length.
 fn read_roots<I: Source>(
     alloc: Global,
     window: &mut Window,

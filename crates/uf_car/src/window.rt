@@ -1,11 +1,11 @@
-// Bytes of a source in a buffer, no more than a limit in all.
+//! Bytes of a source in a buffer, no more than a limit in all.
 ghost use Rattle.std.specs.Prelude.{◌≡◌, ◌<◌, ◌≤◌, ◌+◌, [], drop, length, take, vec_len, IfOk, IfErr, OnOk};
 ghost use Rattle.uf_edge.specs.Counts.{Counts};
 ghost use Rattle.uf_edge.specs.Streams.{Reads, is_read_fault};
 
 use crate::CarFault;
-use std::alloc::{AllocError, Global};
-use uf_cid::Memory;
+use std::alloc::Global;
+use uf_cid::{Memory, zeros};
 use uf_edge::{Read, Source};
 
 // Whether a source may give more.
@@ -26,7 +26,7 @@ pub enum Fill {
 }
 
 // The bytes of a source that were read and not yet used, and how many more may be read. The buffer grows to what a
-// section wants, and has room behind that for one reading.
+// section wants, and has room after that for one reading.
 #[derive(Drop)]
 pub struct Window {
     buffer: Vec<u8>,
@@ -84,7 +84,7 @@ impl Window {
         self.from += count;
     }
 
-    // Reads until so many bytes are there, or the source has ended or given more than it may.
+    // Reads until n bytes are there, or the source has ended or given more than it may.
     pub fn fill_to<I: Source>(&mut self, input: &mut I, count: usize) -> Result<Fill, CarFault>
         requires few { count ≤ 2097197 }
         requires ended { ComesTo self.old.supply (I.left input.old) }
@@ -104,7 +104,7 @@ impl Window {
         Ok(Fill::Enough)
     }
 
-    // Reads until so many bytes are there or no more come.
+    // Reads until n bytes are there or no more come.
     pub fn look_ahead<I: Source>(&mut self, input: &mut I, count: usize) -> Result<(), CarFault>
         requires few { count ≤ 2097197 }
         requires ended { ComesTo self.old.supply (I.left input.old) }
@@ -120,7 +120,7 @@ impl Window {
         }
     }
 
-    // Reads once behind the bytes that are there.
+    // Reads once after the bytes that are there.
     fn read_more<I: Source>(&mut self, input: &mut I) -> Result<(), CarFault>
         requires open { self.old.supply ≡ supply.Open }
         requires place { self.old.to < vec_len self.old.buffer }
@@ -145,7 +145,7 @@ impl Window {
         }
     }
 
-    // Takes bytes that were read behind those that are there, as many as may be.
+    // Takes bytes that were read after those that are there, as many as may be.
     fn take(&mut self, got: usize)
         requires fits { self.old.to + got ≤ vec_len self.old.buffer }
         requires some { 0 < got }
@@ -161,7 +161,7 @@ impl Window {
         }
     }
 
-    // Makes room for so many bytes, and for more behind them.
+    // Makes room for n bytes, and for more after them.
     fn make_room(&mut self, count: usize) -> Result<(), Memory>
         requires { count ≤ 2097197 }
         ensures keeps { KeepsBytes self.old self.new }
@@ -189,7 +189,7 @@ impl Window {
         self.to = length;
     }
 
-    // Gives the buffer so many bytes, where it has fewer.
+    // Gives the buffer n bytes, where it has fewer.
     fn grow(&mut self, size: usize) -> Result<(), Memory>
         requires { vec_len self.old.buffer ≤ size }
         ensures keeps { KeepsBytes self.old self.new }
@@ -201,7 +201,7 @@ impl Window {
     }
 }
 
-// Reads once behind the first bytes of a buffer.
+// Reads once after the first bytes of a buffer.
 fn read_behind<I: Source>(input: &mut I, buffer: &mut Vec<u8>, front: usize) -> Read
     requires { front < vec_len buffer.old }
     ensures len { vec_len buffer.new ≡ vec_len buffer.old }
@@ -210,10 +210,4 @@ fn read_behind<I: Source>(input: &mut I, buffer: &mut Vec<u8>, front: usize) -> 
     ensures counts { Counts (is_read_fault result) (I.faults input.old) (I.faults input.new) }
 {
     input.read(&mut buffer[front..])
-}
-
-fn zeros(alloc: Global, count: usize) -> Result<Vec<u8>, AllocError>
-    ensures { IfOk result (λ v. vec_len v ≡ count) }
-{
-    vec![in alloc; 0u8; count]
 }

@@ -20,7 +20,7 @@ pub record IsCid (c : Cid) : Type 0 where
   pub size : length c.digest ≡ 32
   pub bytes : IsBytes c.digest
 
--- a sha2-256 multihash behind so many bytes: 0x12, 0x20 and 32 bytes of digest
+-- a sha2-256 multihash after n bytes: 0x12, 0x20 and 32 bytes of digest
 abbrev pub multihash_at : Codec → ℕ → List ℕ → Result (Cid × ℕ) CidFault
 multihash_at codec before [] = Err fault.Short
 multihash_at codec before (a ∷ []) = if a == 0x12 then Err fault.Short else Err fault.Hash
@@ -29,7 +29,7 @@ multihash_at codec before (a ∷ b ∷ rest) =
     then (if nat_lt (length rest) 32 then Err fault.Short else Ok (record { codec = codec; digest = take 32 rest }, before + 34))
     else Err fault.Hash
 
--- the codec of a CIDv1 and its multihash, behind the version
+-- the codec of a CIDv1 and its multihash, after the version
 abbrev pub codec_at : List ℕ → Result (Cid × ℕ) CidFault
 codec_at [] = Err fault.Short
 codec_at (a ∷ rest) =
@@ -37,7 +37,7 @@ codec_at (a ∷ rest) =
     else if a == 0x70 then multihash_at DagPb 2 rest
     else Err fault.Codec
 
--- the CID in front of some bytes, and how many of them it has: a CIDv1 begins with 1, a CIDv0 is a multihash alone
+-- the CID before some bytes, and how many of them it has: a CIDv1 begins with 1, a CIDv0 is a multihash alone
 unfoldable pub cid_at : List ℕ → Result (Cid × ℕ) CidFault
 cid_at [] = Err fault.Short
 cid_at (a ∷ rest) =
@@ -65,7 +65,7 @@ abbrev pub values_of : ℕ → List ℕ → Option (List ℕ)
 values_of a [] = Some []
 values_of a (c ∷ cs) = option_and_then (λ v. option_map (λ vs. v ∷ vs) (values_of a cs)) (value_of a c)
 
--- the bits behind the whole groups of eight
+-- the bits after the whole groups of eight
 abbrev pub spare : List ℕ → List ℕ
 spare (a ∷ b ∷ c ∷ d ∷ e ∷ f ∷ g ∷ h ∷ rest) = spare rest
 spare rest = rest

@@ -1,5 +1,5 @@
-// Bytes and text that a caller hands on, with their own allocator.
-ghost use Rattle.std.specs.Prelude.{◌≡◌, [], ◌++◌, IfOk, OnOk, OnErr};
+//! Bytes and text that a caller hands on, with their own allocator.
+ghost use Rattle.std.specs.Prelude.{◌≡◌, [], ◌++◌, IfOk, OnOk, OnErr, vec_len};
 
 use std::alloc::{AllocError, AllocFailed, Global};
 use std::marker::Model;
@@ -71,6 +71,14 @@ impl Block {
         Ok(Block { alloc, bytes })
     }
 
+    /// These bytes in a block of their own.
+    pub fn from_slice(alloc: Global, bytes: &[u8]) -> Result<Self, Memory>
+        ensures { IfOk result (λ b. b ≡ bytes.now) }
+    {
+        let bytes = Vec::from_slice(alloc, bytes)?;
+        Ok(Block { alloc, bytes })
+    }
+
     /// The same bytes again.
     pub fn copy(&self) -> Result<Self, Memory>
         ensures { IfOk result (λ b. b ≡ self.now) }
@@ -82,7 +90,7 @@ impl Block {
         })
     }
 
-    /// Puts bytes behind those that are there; for want of memory they stay as they were.
+    /// Puts bytes after those that are there; out of memory, they stay as they were.
     pub fn extend(&mut self, bytes: &[u8]) -> Result<(), Memory>
         ensures ok { OnOk result (self.new ≡ self.old ++ bytes.now) }
         ensures err { OnErr result (self.new ≡ self.old) }
@@ -97,6 +105,13 @@ impl Block {
     {
         self.bytes.as_slice()
     }
+}
+
+/// So many zeros, to be read or written over.
+pub fn zeros(alloc: Global, count: usize) -> Result<Vec<u8>, Memory>
+    ensures { IfOk result (λ v. vec_len v ≡ count) }
+{
+    Ok(vec![in alloc; 0u8; count]?)
 }
 
 /// UTF-8 text with its own allocator. Contracts see the list of its bytes.
@@ -136,7 +151,7 @@ impl Text {
         })
     }
 
-    /// Puts a text behind what is there; for want of memory it stays as it was.
+    /// Puts a text after what is there; out of memory, it stays as it was.
     pub fn push_str(&mut self, text: &str) -> Result<(), Memory>
         ensures ok { OnOk result (self.new ≡ self.old ++ text.now) }
         ensures err { OnErr result (self.new ≡ self.old) }

@@ -1,4 +1,4 @@
-// CIDs, version 1, of sha2-256 digests.
+//! CIDs, version 1, of sha2-256 digests.
 ghost use Rattle.std.specs.Prelude.{◌≡◌, ◌<◌, ◌∷◌, ◌++◌, ◌+◌, ◌≤◌, List, ℕ, length, take};
 ghost use Rattle.uf_cid.specs.Base32.{base32, letter as base_letter};
 ghost use Rattle.uf_cid.specs.Cid.{cid_cmp};

@@ -1,4 +1,4 @@
-// The hash that names a block.
+//! The hash that names a block.
 ghost use Rattle.std.specs.Prelude.{◌≡◌, ◌*◌, ◌%◌, ◌<◌, ℕ, List, [], length, slice_index_or, sum};
 ghost use Rattle.sha2.specs.Sha256.{sha256};
 ghost use Rattle.sha2.proofs.Facts256.{length-sha256};
@@ -52,7 +52,7 @@ impl BlockHash for Sha256Hash {
     }
 }
 
-/// The sum of the bytes modulo 256 behind 31 zero bytes. Blocks that clash are easily made with it: it is for tests.
+/// The sum of the bytes modulo 256 after 31 zero bytes. Blocks that clash are easily made with it: it is for tests.
 pub struct Sum8Hash;
 
 impl BlockHash for Sum8Hash {

@@ -1,4 +1,4 @@
-// What holds of CIDs and their spellings, whoever writes or reads them.
+//! What holds of CIDs and their spellings, whoever writes or reads them.
 ghost use Rattle.std.specs.Prelude.{◌≡◌, ◌∷◌, ◌++◌, ℕ, List, drop, map};
 ghost use Rattle.uf_cid.specs.Bytes.{IsBytes};
 ghost use Rattle.uf_cid.specs.Cid.{cid_bytes, cid_text};

@@ -9,7 +9,7 @@ mod laws;
 mod read;
 mod seq;
 
-pub use bytes::{Block, Memory, StrictFault, Text};
+pub use bytes::{Block, Memory, StrictFault, Text, zeros};
 pub use cid::{Cid, CidFault, Codec};
 pub use hash::{BlockHash, Sha256Hash, Sum8Hash};
 pub use laws::{

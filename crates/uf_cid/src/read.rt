@@ -1,4 +1,4 @@
-// CIDs read from bytes and from text.
+//! CIDs read from bytes and from text.
 ghost use Rattle.std.specs.Prelude.{◌≡◌, ◌<◌, ◌≤◌, ◌==◌, ◌&&◌, nat_lt, Ok, length, take, IfSome};
 ghost use Rattle.std.specs.Option.{option_map};
 ghost use Rattle.uf_cid.specs.Read.{alone, cid_at, codec_at, multihash_at, cid_of_text, cid_spelled, unbase32, value_of};
@@ -6,7 +6,7 @@ ghost use Rattle.uf_cid.specs.Read.{alone, cid_at, codec_at, multihash_at, cid_o
 use crate::{Cid, CidFault, Codec};
 
 impl Cid {
-    /// The CID in front of some bytes, and how many of them it has: 36 for a CIDv1, 34 for a CIDv0, which is read as `dag-pb`.
+    /// The CID before some bytes, and how many of them it has: 36 for a CIDv1, 34 for a CIDv0, which is read as `dag-pb`.
     #[tactic(auto, unfolding(crate::specs::Read::cid_at))]
     pub fn read_binary(bytes: &[u8]) -> Result<(Cid, usize), CidFault>
         ensures { result ≡ cid_at bytes.now }
@@ -45,7 +45,7 @@ fn after_version(bytes: &[u8]) -> Result<(Cid, usize), CidFault>
     }
 }
 
-// The multihash behind so many bytes.
+// The multihash after n bytes.
 fn after_codec(codec: Codec, before: usize, bytes: &[u8]) -> Result<(Cid, usize), CidFault>
     requires { before ≤ 2 }
     ensures { result ≡ multihash_at codec before bytes.now }

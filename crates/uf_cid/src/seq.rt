@@ -1,4 +1,4 @@
-// Lists that a caller hands on.
+//! Lists that a caller hands on.
 ghost use Rattle.std.specs.Prelude.{◌≡◌, [], ◌∷◌, ◌++◌, length, IfOk, OnOk, OnErr, slice_get};
 ghost use Rattle.std.specs.Option.{option_copied};
 
@@ -58,7 +58,7 @@ impl<V> Seq<V> {
 }
 
 impl<V: Drop> Seq<V> {
-    /// Puts an item at the end; for want of memory the list stays as it was.
+    /// Puts an item at the end; out of memory, the list stays as it was.
     pub fn push(&mut self, item: V) -> Result<(), Memory>
         ensures ok { OnOk result (self.new ≡ self.old ++ item ∷ []) }
         ensures err { OnErr result (self.new ≡ self.old) }

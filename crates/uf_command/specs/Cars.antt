@@ -24,7 +24,7 @@ use Rattle.uf_command.specs.declared.types.Refusal.TheVariants as refusal
 abbrev pub most_blocks : ℕ
 most_blocks = 16777216
 
--- and is read up to so many bytes
+-- and is read up to n bytes
 abbrev pub most_car : ℕ
 most_car = 2 ^ 40
 
@@ -43,7 +43,7 @@ car_refusal car.Read = refusal.Read
 car_refusal (car.Store fault) = refusal.Store fault
 
 -- the fault of a store that was made for a CAR: its sections lack a block, or two of them have one CID and other
--- bytes; it fails for want of memory alone
+-- bytes; it fails only out of memory
 abbrev pub section_refusal : StoreFault → Refusal
 section_refusal store.Failed = own_refusal store.Failed
 section_refusal (store.Damaged cid) = own_refusal (store.Damaged cid)

@@ -9,19 +9,19 @@ use Rattle.uf_path.specs.declared.faults.PathFault.{PathFault}
 use Rattle.uf_path.specs.declared.faults.PathFault.TheVariants as path
 use Rattle.uf_varint.specs.Fields.{◌>>=◌}
 
--- how many slashes stand in front of a text
+-- how many slashes stand before a text
 abbrev pub slashes_before : List ℕ → ℕ
 slashes_before text = position_or_len (λ b. not (is_slash b)) text
 
--- what stands behind the CID of a path in a DAG and the slash that ends it
+-- what stands after the CID of a path in a DAG and the slash that ends it
 abbrev pub behind_cid : List ℕ → List ℕ
 behind_cid text = after_first is_slash (if names_a_dag text then drop 6 text else text)
 
--- the byte of the whole text at which the first name behind the CID starts
+-- the byte of the whole text at which the first name after the CID starts
 abbrev pub first_name_at : List ℕ → ℕ
 first_name_at text = length text - length (behind_cid text) + slashes_before (behind_cid text)
 
--- a CID behind which no names stand; the first of them is at this place
+-- a CID after which no names stand; the first of them is at this place
 abbrev pub alone : ℕ → Cid → List (List ℕ) → Result Cid PathFault
 alone place cid [] = Ok cid
 alone place cid (name ∷ names) = Err (path.BadName place)

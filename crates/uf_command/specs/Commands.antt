@@ -76,7 +76,7 @@ write_asked how None (Ok path) = Ok (WriteInput how path)
 write_asked how None (Err why) = Err (path_refusal why)
 write_asked how (Some piece) path = at_path (Edits (Write how piece)) path
 
--- `files read` of so many bytes from an offset
+-- `files read` of n bytes from an offset
 abbrev pub read_asked : (offset count : ℕ) → Result Path PathFault → Result Command Refusal
 read_asked offset count (Ok path) = Ok (Read offset count path)
 read_asked offset count (Err why) = Err (path_refusal why)
@@ -200,7 +200,7 @@ is_of_files (cmd.Touch nanos seconds path) = true
 is_of_files (cmd.Strip path) = true
 is_of_files other = false
 
--- the call answers as the words ask, or for want of memory
+-- the call answers as the words ask, or out of memory
 abbrev pub IsAsked : {A : Type 0} → Result A Refusal → Result A Refusal → Type 0
 IsAsked (Ok a) told = told ≡ Ok a
 IsAsked (Err why) told = (why ≡ no_memory) ⊎ (told ≡ Err why)

@@ -70,7 +70,7 @@ abbrev pub IsApart : Refusal → Type 0
 IsApart (refusal.Store f) = ⊥
 IsApart other = ⊤
 
--- the call answers this refusal, or for want of memory, which hides no fault of the store
+-- the call answers this refusal, or out of memory, which hides no fault of the store
 abbrev pub IsToldAs : Refusal → Refusal → Type 0
 IsToldAs why given = ((given ≡ no_memory) × IsApart why) ⊎ (given ≡ why)
 

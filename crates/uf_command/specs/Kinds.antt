@@ -77,10 +77,10 @@ abbrev pub refusal_fault : {A : Type 0} → Result A Refusal → Option StoreFau
 refusal_fault (Ok a) = None
 refusal_fault (Err why) = fault_behind why
 
--- the kinds that a command may answer once its words are read, before it prints, beside want of memory and a clash: of
+-- the kinds that a command may answer once its words are read, before it prints, beside out of memory and a clash: of
 -- `init`; `add` of the input, and of what a host has; `add --to-files` of either; `files write` of the input; the other
 -- commands on the tree alone; `cat` and `dag export`; `get`; `dag import`; `dag same`; `files cp` from a DAG; `gen`;
--- and the commands on pins
+-- `pin add`; `pin rm`; and `pin ls`
 abbrev pub init_kinds : List RefusalKind
 init_kinds = OfReady ∷ OfFailure ∷ []
 
@@ -120,10 +120,16 @@ adopt_kinds = OfRule ∷ OfDag ∷ OfReady ∷ OfFailure ∷ OfMissing ∷ OfBad
 abbrev pub gen_kinds : List RefusalKind
 gen_kinds = OfRule ∷ OfOwnClash ∷ []
 
-abbrev pub pin_kinds : List RefusalKind
-pin_kinds = OfDag ∷ OfPins ∷ OfFailure ∷ OfMissing ∷ []
+abbrev pub pin_add_kinds : List RefusalKind
+pin_add_kinds = OfDag ∷ OfPins ∷ OfFailure ∷ OfMissing ∷ []
 
--- one of these kinds, want of memory or a clash: what calls on a store may answer
+abbrev pub pin_rm_kinds : List RefusalKind
+pin_rm_kinds = OfDag ∷ OfPins ∷ OfFailure ∷ []
+
+abbrev pub pin_ls_kinds : List RefusalKind
+pin_ls_kinds = OfPins ∷ OfFailure ∷ []
+
+-- one of these kinds, out of memory or a clash: what calls on a store may answer
 abbrev pub may_meet : List RefusalKind → RefusalKind → Bool
 may_meet kinds OfMemory = true
 may_meet kinds OfClash = true

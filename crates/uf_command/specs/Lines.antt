@@ -32,7 +32,7 @@ use Rattle.uf_command.specs.declared.types.Refusal.TheVariants as refusal
 use Rattle.uf_command.specs.Dags.{dag_words}
 use Rattle.uf_command.specs.Statuses.{plain_line}
 
--- a line: what is in front, what is behind it, and a line feed
+-- a line: what is in front, what is after it, and a line feed
 abbrev pub line : List ℕ → List ℕ → List ℕ
 line front rest = front ++ rest ++ 10 ∷ []
 
@@ -179,7 +179,7 @@ abbrev pub type_word : Bool → List ℕ
 type_word true = codes "directory"
 type_word false = codes "file"
 
--- digits with zeros in front of them, so many at least
+-- digits with zeros before them, so many at least
 abbrev pub at_least : ℕ → List ℕ → List ℕ
 at_least count numeral = replicate (count - length numeral) 48 ++ numeral
 
@@ -192,7 +192,7 @@ abbrev pub nanos_text : Option ℕ → List ℕ
 nanos_text None = []
 nanos_text (Some nanos) = 46 ∷ at_least 9 (decimal nanos)
 
--- an mtime: its seconds, and its nanoseconds behind them
+-- an mtime: its seconds, and its nanoseconds after them
 abbrev pub mtime_text : Mtime → List ℕ
 mtime_text time = signed_decimal time.seconds ++ nanos_text time.nanos
 

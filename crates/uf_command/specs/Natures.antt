@@ -2,7 +2,7 @@
 -- row of `nature`; the words below it are fields of that row.
 use Rattle.std.specs.Prelude.{◌&&◌, ◌||◌, not, Bool, true, false, List, ⊤}
 use Rattle.uf_command.specs.Kinds.{RefusalKind, OfRule, OfDag, OfHost, OfPath, OfLongInput, OfUsage, OfReady, OfRead, OfWrite, OfFailure, OfMissing, OfBadBlock, OfClash, OfMemory, OfCar, OfSections, OfOwnClash, OfPins}
-use Rattle.uf_command.specs.Kinds.{IsOf, is_among, init_kinds, add_kinds, add_host_kinds, place_kinds, place_host_kinds, write_input_kinds, tree_kinds, dag_kinds, get_kinds, import_kinds, same_kinds, adopt_kinds, gen_kinds, pin_kinds}
+use Rattle.uf_command.specs.Kinds.{IsOf, is_among, init_kinds, add_kinds, add_host_kinds, place_kinds, place_host_kinds, write_input_kinds, tree_kinds, dag_kinds, get_kinds, import_kinds, same_kinds, adopt_kinds, gen_kinds, pin_add_kinds, pin_rm_kinds, pin_ls_kinds}
 use Rattle.std.specs.declared.result.Result.{Result}
 use Rattle.std.specs.declared.result.Result.TheVariants.{Ok, Err}
 use Rattle.uf_store.specs.declared.store.StoreFault.{StoreFault}
@@ -26,7 +26,7 @@ pub data InputUse : Type 0 where
 pub data HostUse : Type 0 where
   NoHost ReadsHost WritesHost : HostUse
 
--- what it needs of the Head: nothing; that there is none; or that there is one that can be read, be it that none will
+-- what it needs of the Head: nothing; that there is none; or that there is one that can be read, even if none will
 -- do as well
 pub data HeadNeed : Type 0 where
   AnyHead NoHeadYet : HeadNeed
@@ -46,7 +46,7 @@ pub data Printing : Type 0 where
 pub data OwnStore : Type 0 where
   NoStore OfCarSections OfTree : OwnStore
 
--- what a command is. Beside its kinds of refusals each may answer want of memory, and one that saves blocks a clash
+-- what a command is. Beside its kinds of refusals each may answer out of memory, and one that saves blocks a clash
 pub record Nature : Type 0 where
   pub input : InputUse
   pub host : HostUse
@@ -84,6 +84,12 @@ pin_writes (pins.Add cid) = SyncsPins
 pin_writes (pins.Remove cid) = NotesPins
 pin_writes pins.List = NoWrites
 
+-- a pin more looks below its CID, and a list of the pins has no rule that refuses it
+abbrev pub pin_kinds : PinAsk → List RefusalKind
+pin_kinds (pins.Add cid) = pin_add_kinds
+pin_kinds (pins.Remove cid) = pin_rm_kinds
+pin_kinds pins.List = pin_ls_kinds
+
 -- one row for each command
 abbrev pub nature : Command → Nature
 nature (Init profile) = row NoInput NoHost NoHeadYet MakesHead AtEnd NoStore init_kinds
@@ -103,7 +109,7 @@ nature Import = row ReadsInput NoHost AnyHead SyncsBlocks AtEnd NoStore import_k
 nature (Same cid) = row ReadsInput NoHost AnyHead NoWrites AtEnd OfCarSections same_kinds
 nature (Adopt source dest) = row NoInput NoHost (AHead false) MovesHead AtEnd NoStore adopt_kinds
 nature (Gen n seed) = row NoInput NoHost AnyHead NoWrites AtEnd OfTree gen_kinds
-nature (Pin ask) = row NoInput NoHost AnyHead (pin_writes ask) AtEnd NoStore pin_kinds
+nature (Pin ask) = row NoInput NoHost AnyHead (pin_writes ask) AtEnd NoStore (pin_kinds ask)
 nature (Prove absent path) = row NoInput NoHost (AHead false) NoWrites WhileReading NoStore tree_kinds
 
 -- ---- its fields as tests
@@ -208,7 +214,7 @@ touches_nothing command = not (is_among OfMissing (kinds_of command)) && only_re
 
 -- ---- what it may answer
 
--- the kinds that it may answer once its words are read, before it prints: those of its row, want of memory, and a clash
+-- the kinds that it may answer once its words are read, before it prints: those of its row, out of memory, and a clash
 -- where it writes to the store
 abbrev pub may_answer : Command → RefusalKind → Bool
 may_answer command OfMemory = true
@@ -237,7 +243,7 @@ may_give command status.NotReady = may_end command OfReady || may_end command Of
 
 -- ---- how it is told that it ended
 
--- a clash is told as want of memory
+-- a clash is told as out of memory
 abbrev pub calm_fault : StoreFault → StoreFault
 calm_fault (fault.Clash cid first second) = fault.Memory
 calm_fault other = other

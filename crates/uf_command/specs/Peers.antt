@@ -24,7 +24,7 @@ use Rattle.uf_command.specs.declared.types.Refusal.TheVariants as refusal
 abbrev pub most_pulled : ℕ
 most_pulled = 16777216
 
--- and so many bytes of a peer's lines are read
+-- and n bytes of a peer's lines are read
 abbrev pub most_of_wants : ℕ
 most_of_wants = 1073741824
 

@@ -45,12 +45,12 @@ abbrev pub request_in : List (List ℕ) → Request
 request_in words = request_of (command_of words)
 
 -- the one command that is asked for was read, or why there is none; where no one command is asked for, none was read,
--- for want of memory
+-- out of memory
 abbrev pub IsAskedAlone : Result Command Refusal → Request → Type 0
 IsAskedAlone given (One told) = IsAsked given told
 IsAskedAlone given other = given ≡ Err no_memory
 
--- the call answers what is asked for, or for want of memory
+-- the call answers what is asked for, or out of memory
 abbrev pub IsRequested : Request → Request → Type 0
 IsRequested (One given) told = IsAskedAlone given told
 IsRequested other told = told ≡ other

@@ -46,7 +46,7 @@ ends_batch status.Missing = false
 ends_batch status.NotReady = false
 ends_batch other = true
 
--- what is printed behind a line's command
+-- what is printed after a line's command
 abbrev pub mark : Status → List ℕ
 mark status.Ok = codes "[0]\n"
 mark status.Rule = codes "[1]\n"
@@ -91,7 +91,7 @@ abbrev pub ended : {A : Type 0} → Result A Refusal → Status
 ended (Ok a) = status.Ok
 ended (Err why) = status_of why
 
--- want of memory
+-- out of memory
 abbrev pub no_memory : Refusal
 no_memory = refusal.Store fault.Memory
 

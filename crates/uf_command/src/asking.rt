@@ -1,4 +1,4 @@
-// What words ask for.
+//! What words ask for.
 ghost use Rattle.std.specs.Prelude.{◌≡◌, ◌<◌, ◌≤◌, ◌^◌, length, IfOk, IsTrue, Some};
 ghost use Rattle.std.specs.List.{after_first};
 ghost use Rattle.uf_plain.specs.Metas.{is_meta_edit};
@@ -250,7 +250,7 @@ pub fn read_cid(alloc: Global, text: &str) -> Result<Cid, PathFault>
     }
 }
 
-// The byte at which the first name behind the CID starts.
+// The byte at which the first name after the CID starts.
 fn first_name_at(text: &str) -> usize
     ensures { result ≡ first_name_in text.now }
 {
@@ -272,7 +272,7 @@ fn behind_slash(text: &str) -> &str
     }
 }
 
-// How many slashes stand in front of a text.
+// How many slashes stand before a text.
 fn slashes_before(text: &[u8]) -> usize
     ensures count { result ≡ slashes_in_front text.now }
     ensures size { result ≤ length text.now }

@@ -1,4 +1,4 @@
-// What the lines of a batch ask for.
+//! What the lines of a batch ask for.
 ghost use Rattle.std.specs.Prelude.{◌≡◌, map, string_bytes, IfOk, IfSome};
 ghost use Rattle.uf_command.specs.Batches.{IsAskedBy, asked_in_batch, is_for_batch, line_in};
 ghost use Rattle.uf_command.specs.Commands.{IsAccepted, IsAsked};

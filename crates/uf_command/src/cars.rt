@@ -1,4 +1,4 @@
-// What is said of CARs.
+//! What is said of CARs.
 ghost use Rattle.std.specs.Prelude.{◌≡◌, ◌++◌, IfOk, OnOk};
 ghost use Rattle.std.specs.List.{flat_map};
 ghost use Rattle.uf_command.specs.Cars.{car_refusal as refusal_of_car, export_refusal as refusal_of_export, root_line};
@@ -42,7 +42,7 @@ pub fn kept_refusal(fault: CarFault) -> Refusal
 }
 
 /// A fault of the store into which a CAR was read, as a refusal: its sections lack a block, or two of them clash. Such
-/// a store is made for the CAR, and fails for want of memory alone.
+/// a store is made for the CAR, and fails only out of memory.
 pub fn section_refusal(fault: StoreFault) -> Refusal
     ensures { result ≡ refusal_of_section fault }
 {
@@ -53,7 +53,7 @@ pub fn section_refusal(fault: StoreFault) -> Refusal
 }
 
 /// A fault of a store of a command's own, as a refusal. Such a store holds what it was given and doesn't fail: what is
-/// no clash is want of memory.
+/// no clash is out of memory.
 pub fn own_refusal(fault: StoreFault) -> Refusal
     ensures { result ≡ refusal_of_own fault }
 {

@@ -1,4 +1,4 @@
-// What is said of DAGs of others.
+//! What is said of DAGs of others.
 ghost use Rattle.std.specs.Prelude.{◌≡◌, ◌++◌, ◌∷◌, IfOk, OnOk};
 ghost use Rattle.std.specs.Fmt.{decimal};
 ghost use Rattle.std.specs.List.{flat_map};
@@ -129,7 +129,7 @@ pub fn with_cid(alloc: Global, word: &[u8], cid: &Cid) -> Result<Block, Memory>
     Ok(out)
 }
 
-// A word, a CID, and what stands behind it.
+// A word, a CID, and what stands after it.
 fn with_cid_and(alloc: Global, word: &[u8], cid: &Cid, rest: &[u8]) -> Result<Block, Memory>
     ensures { IfOk result (λ b. b ≡ word.now ++ cid_text cid.now ++ 32 ∷ rest.now) }
 {

@@ -1,4 +1,4 @@
-// How want of memory and a fault of a call on pins become refusals, where `?` passes them on.
+//! How out of memory and a fault of a call on pins become refusals, where `?` passes them on.
 ghost use Rattle.std.specs.Prelude.{◌≡◌};
 ghost use Rattle.uf_command.specs.Pins.{pin_refusal};
 ghost use Rattle.uf_command.specs.Statuses.{no_memory};

@@ -1,4 +1,4 @@
-// The nature of commands, where they run.
+//! The nature of commands, where they run.
 ghost use Rattle.std.specs.Prelude.{◌≡◌};
 ghost use Rattle.uf_command.specs.Natures.{calm_fault, only_reads, settled, without_clash as refusal_without_clash};
 
@@ -50,7 +50,7 @@ impl Command {
     }
 
     /// How the command ended, as it is told. One that writes nothing to the store saves no block, and a load meets no
-    /// clash: were a store to answer one, it is told as want of memory.
+    /// clash: were a store to answer one, it is told as out of memory.
     pub fn settle(&self, done: Result<(), Refusal>) -> Result<(), Refusal>
         ensures { result ≡ settled (only_reads self.now) done }
     {
@@ -64,7 +64,7 @@ impl Command {
     }
 }
 
-// A refusal, with want of memory in place of a clash.
+// A refusal, with out of memory in place of a clash.
 fn without_clash(why: Refusal) -> Refusal
     ensures { result ≡ refusal_without_clash why }
 {
@@ -74,7 +74,7 @@ fn without_clash(why: Refusal) -> Refusal
     }
 }
 
-// A fault of the store, with want of memory in place of a clash.
+// A fault of the store, with out of memory in place of a clash.
 fn calm(fault: StoreFault) -> StoreFault
     ensures { result ≡ calm_fault fault }
 {

@@ -1,4 +1,4 @@
-// What is printed of pins.
+//! What is printed of pins.
 ghost use Rattle.std.specs.Prelude.{◌≡◌, ◌++◌, IfOk, OnOk};
 ghost use Rattle.std.specs.List.{flat_map};
 ghost use Rattle.uf_command.specs.Pins.{cid_line, removed_line};

@@ -1,4 +1,4 @@
-// What words ask for.
+//! What words ask for.
 ghost use Rattle.std.specs.Prelude.{map, string_bytes};
 ghost use Rattle.uf_command.specs.Cids.{cid_reads};
 ghost use Rattle.uf_path.specs.Paths.{path_reads};

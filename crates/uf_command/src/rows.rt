@@ -1,4 +1,4 @@
-// What commands print.
+//! What commands print.
 ghost use Rattle.std.specs.Prelude.{◌≡◌, ◌++◌, IfOk, OnOk, string_bytes};
 ghost use Rattle.std.specs.Fmt.{decimal};
 ghost use Rattle.std.specs.List.{flat_map};
@@ -26,7 +26,7 @@ pub fn added_row(alloc: Global, cid: &Cid) -> Result<Block, Memory>
     Ok(row)
 }
 
-/// Puts the row of what was added from the host behind others: its CID, and its path as it is shown.
+/// Puts the row of what was added from the host after others: its CID, and its path as it is shown.
 pub fn put_added(alloc: Global, out: &mut Block, cid: &Cid, path: &str) -> Result<(), Memory>
     ensures { OnOk result (out.new ≡ out.old ++ from_line cid.now path.now) }
 {
@@ -99,7 +99,7 @@ pub fn stat_text(alloc: Global, stat: &Stat) -> Result<Block, Memory>
     Ok(out)
 }
 
-// Puts the line of a mode behind the text, where there is one: four octal digits at least.
+// Puts the line of a mode after the text, where there is one: four octal digits at least.
 #[tactic(auto, using(crate::proofs::Padded::four_at_least))]
 fn put_mode(alloc: Global, out: &mut Block, mode: Option<u32>) -> Result<(), Memory>
     ensures { OnOk result (out.new ≡ out.old ++ mode_line mode) }
@@ -109,7 +109,7 @@ fn put_mode(alloc: Global, out: &mut Block, mode: Option<u32>) -> Result<(), Mem
     put_line(out, b"Mode: ", digits.as_bytes())
 }
 
-// Puts the line of an mtime behind the text, where there is one.
+// Puts the line of an mtime after the text, where there is one.
 fn put_mtime(alloc: Global, out: &mut Block, mtime: Option<Mtime>) -> Result<(), Memory>
     ensures { OnOk result (out.new ≡ out.old ++ mtime_line mtime) }
 {
@@ -130,7 +130,7 @@ fn text_of_time(alloc: Global, time: Mtime) -> Result<String, Memory>
     }
 }
 
-/// Puts a line with a number behind the text.
+/// Puts a line with a number after the text.
 pub fn put_number(alloc: Global, out: &mut Block, word: &[u8], number: u64) -> Result<(), Memory>
     ensures { OnOk result (out.new ≡ out.old ++ line word.now (decimal number)) }
 {
@@ -139,7 +139,7 @@ pub fn put_number(alloc: Global, out: &mut Block, word: &[u8], number: u64) -> R
     Ok(())
 }
 
-/// Puts a line behind the text: a word, what stands behind it, and a line feed.
+/// Puts a line after the text: a word, what stands after it, and a line feed.
 pub fn put_line(out: &mut Block, word: &[u8], rest: &[u8]) -> Result<(), Memory>
     ensures { OnOk result (out.new ≡ out.old ++ line word.now rest.now) }
 {

@@ -1,4 +1,4 @@
-// How a command ends.
+//! How a command ends.
 ghost use Rattle.std.specs.Prelude.{◌≡◌};
 
 /// How a command ended.
@@ -68,7 +68,7 @@ impl Status {
         )
     }
 
-    /// What is printed behind a line's command.
+    /// What is printed after a line's command.
     pub fn mark(&self) -> &'static [u8]
         ensures { result.now ≡ mark self.now }
     {

@@ -1,4 +1,4 @@
-// What words ask for, and why it is refused.
+//! What words ask for, and why it is refused.
 use uf_cid::{Block, Cid, Text};
 use uf_path::{DagPath, Path, PathFault};
 use uf_plain::{MetaEdit, Ready, Rule, WriteHow};
@@ -134,7 +134,7 @@ pub enum Command {
 pub enum DagRule {
     /// `NotFound`: the path leads to nothing.
     NotFound(DagPath),
-    /// `NotADirectory`: the path goes on behind a file.
+    /// `NotADirectory`: the path goes on after a file.
     NotADirectory(DagPath),
     /// `IsADirectory`: the path leads to a directory where a file is wanted.
     IsADirectory(DagPath),

@@ -1,7 +1,8 @@
--- What stands in front of some bytes.
+-- What stands before some bytes.
 use Rattle.std.specs.Borrow.{Bor}
 use Rattle.std.specs.Prelude.{◌≡◌, ◌≢◌, ℕ, List, ◌++◌, MatchOption, Option}
 
--- a front is there with these bytes behind it, or it isn't there
+-- a front is there with these bytes after it, or it isn't there
 abbrev pub IsFront : List ℕ → List ℕ → Option (Bor (List ℕ)) → Type 0
-IsFront front bytes found = MatchOption found ((rest : List ℕ) → bytes ≢ front ++ rest) (λ rest. bytes ≡ front ++ rest.now)
+IsFront front bytes found =
+    MatchOption found ((rest : List ℕ) → bytes ≢ front ++ rest) (λ rest. bytes ≡ front ++ rest.now)

@@ -25,7 +25,7 @@ pb_fault Truncated = pb.Truncated
 pb_fault Varint = pb.Varint
 pb_fault Wire = pb.Field
 
--- a CID that was read, where it has so many bytes
+-- a CID that was read, where it has n bytes
 abbrev pub with_length : ℕ → Result (Cid × ℕ) CidFault → Option Cid
 with_length all (Ok found) = if found.1 == all then Some found.0 else None
 with_length all (Err why) = None
@@ -71,7 +71,7 @@ content_fault judge (Err f) = Some (pb_fault f)
 abbrev pub is_link_key : ℕ → Bool
 is_link_key key = (key == 0x0a) || (key == 0x12) || (key == 0x18)
 
--- the first fault of a link's fields, behind fields of these keys
+-- the first fault of a link's fields, after fields of these keys
 unfoldable pub link_fault : List ℕ → List Field → Option PbFault
 link_fault seen [] = if list_any (λ k. k == 0x0a) seen then None else Some pb.NoHash
 link_fault seen (NoKey f ∷ fs) = Some (pb_fault f)
@@ -94,7 +94,7 @@ abbrev pub node_content_fault : ℕ → Content → Option PbFault
 node_content_fault key (Number n) = Some pb.Field
 node_content_fault key (Bytes b) = if key == 0x12 then link_fault [] (fields b) else None
 
--- the first fault of a node's fields, behind a content or without one
+-- the first fault of a node's fields, after a content or without one
 unfoldable pub node_fault : Bool → List Field → Option PbFault
 node_fault seen [] = None
 node_fault seen (NoKey f ∷ fs) = Some (pb_fault f)

@@ -1,4 +1,5 @@
--- The one canonical spelling of a DAG-PB node (IPLD DAG-PB, "Serial Format" and "Link Sorting"; Protocol Buffers wire format).
+-- The one canonical spelling of a DAG-PB node (IPLD DAG-PB, "Serial Format" and "Link Sorting"; Protocol Buffers wire
+-- format).
 use Rattle.std.specs.Prelude.{ℕ, ◌<◌, ◌^◌, Bool, true, ◌&&◌, IsTrue, List, [], ◌∷◌, ◌++◌}
 use Rattle.std.specs.Cmp.Lexicographic.{slice_cmp}
 use Rattle.std.specs.List.{flat_map, AllByRecursion}
@@ -22,7 +23,7 @@ links_bytes links = flat_map (λ l. content_field 0x12 (link_bytes l)) links
 unfoldable pub node_bytes : Node → List ℕ
 node_bytes n = links_bytes n.links ++ optional (content_field 0x0a) n.content
 
--- no name stands behind a greater one, in the order of their bytes
+-- no name stands after a greater one, in the order of their bytes
 abbrev pub are_sorted : List Link → Bool
 are_sorted [] = true
 are_sorted (a ∷ []) = true

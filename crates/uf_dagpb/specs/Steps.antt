@@ -1,4 +1,4 @@
--- The same reading in steps, one field on: what the code keeps of the fields behind it.
+-- The same reading in steps, one field on: what the code keeps of the fields after it.
 use Rattle.std.specs.Prelude.{ℕ, List, [], ◌∷◌, ◌++◌, ◌==◌, if◌then◌else◌, is_some}
 use Rattle.std.specs.declared.option.Option.{Option}
 use Rattle.std.specs.declared.option.Option.TheVariants.{None, Some}
@@ -29,11 +29,12 @@ or_fault fault (Some a) = Ok a
 abbrev pub text_of : List ℕ → Result (List ℕ) PbFault
 text_of bytes = if is_utf8 bytes then Ok bytes else Err pb.NotText
 
--- the parts of a link behind its hash, its name or its Tsize, and the bytes behind that
+-- the parts of a link after its hash, its name or its Tsize, and the bytes after that
 abbrev pub hash_next : Parts → List ℕ → Result (Parts × List ℕ) PbFault
 hash_next parts bytes =
     if is_some parts.cid then Err pb.Twice
-    else (cut (bytes_at bytes) >>= λ b. or_fault pb.BadCid (hash_of b.0) >>= λ c. Ok (record parts { cid = Some c }, b.1))
+    else (cut (bytes_at bytes) >>= λ b. or_fault pb.BadCid (hash_of b.0)
+    >>= λ c. Ok (record parts { cid = Some c }, b.1))
 
 abbrev pub name_next : Parts → List ℕ → Result (Parts × List ℕ) PbFault
 name_next parts bytes =
@@ -45,7 +46,7 @@ tsize_next parts bytes =
     if is_some parts.tsize then Err pb.Twice
     else (cut (number_at bytes) >>= λ n. Ok (record parts { tsize = Some n.0 }, n.1))
 
--- the parts of a link behind one more field
+-- the parts of a link after one more field
 abbrev pub keyed_next : Parts → ℕ → List ℕ → Result (Parts × List ℕ) PbFault
 keyed_next parts key bytes =
     if key == 0x0a then hash_next parts bytes
@@ -58,7 +59,8 @@ link_next parts bytes = cut (number_at bytes) >>= λ key. keyed_next parts key.0
 
 -- the link of all its parts
 unfoldable pub link_end : Parts → Result Link PbFault
-link_end parts = or_fault pb.NoHash parts.cid >>= λ c. Ok (record { cid = c; name = unwrap_or parts.name []; tsize = unwrap_or parts.tsize 0 })
+link_end parts = or_fault pb.NoHash parts.cid
+    >>= λ c. Ok (record { cid = c; name = unwrap_or parts.name []; tsize = unwrap_or parts.tsize 0 })
 
 -- ---- over a list of fields
 
@@ -72,13 +74,16 @@ number_in (Number n) = Ok n
 number_in (Bytes b) = Err pb.Field
 
 abbrev pub took_hash : Parts → Result Content CutFault → Result Parts PbFault
-took_hash parts c = if is_some parts.cid then Err pb.Twice else (cut c >>= λ x. bytes_in x >>= λ b. or_fault pb.BadCid (hash_of b) >>= λ h. Ok (record parts { cid = Some h }))
+took_hash parts c = if is_some parts.cid then Err pb.Twice else (cut c >>= λ x. bytes_in x
+    >>= λ b. or_fault pb.BadCid (hash_of b) >>= λ h. Ok (record parts { cid = Some h }))
 
 abbrev pub took_name : Parts → Result Content CutFault → Result Parts PbFault
-took_name parts c = if is_some parts.name then Err pb.Twice else (cut c >>= λ x. bytes_in x >>= λ b. text_of b >>= λ t. Ok (record parts { name = Some t }))
+took_name parts c = if is_some parts.name then Err pb.Twice else (cut c >>= λ x. bytes_in x >>= λ b. text_of b
+    >>= λ t. Ok (record parts { name = Some t }))
 
 abbrev pub took_tsize : Parts → Result Content CutFault → Result Parts PbFault
-took_tsize parts c = if is_some parts.tsize then Err pb.Twice else (cut c >>= λ x. number_in x >>= λ n. Ok (record parts { tsize = Some n }))
+took_tsize parts c = if is_some parts.tsize then Err pb.Twice
+    else (cut c >>= λ x. number_in x >>= λ n. Ok (record parts { tsize = Some n }))
 
 abbrev pub took : Parts → ℕ → Result Content CutFault → Result Parts PbFault
 took parts key c =
@@ -87,7 +92,7 @@ took parts key c =
     else if key == 0x18 then took_tsize parts c
     else Err pb.Field
 
--- the link of some parts and the fields behind them
+-- the link of some parts and the fields after them
 unfoldable pub link_from : Parts → List Field → Result Link PbFault
 link_from parts [] = link_end parts
 link_from parts (NoKey f ∷ fs) = Err (pb_fault f)
@@ -100,14 +105,16 @@ no_parts = record { cid = None; name = None; tsize = None }
 unfoldable pub link_reads : List ℕ → Result Link PbFault
 link_reads bytes = link_from no_parts (fields bytes)
 
--- a node and one link more, or its content, and the bytes behind that
+-- a node and one link more, or its content, and the bytes after that
 abbrev pub links_next : Node → List ℕ → Result (Node × List ℕ) PbFault
-links_next node bytes = cut (bytes_at bytes) >>= λ b. link_reads b.0 >>= λ l. Ok (record node { links = node.links ++ l ∷ [] }, b.1)
+links_next node bytes = cut (bytes_at bytes) >>= λ b. link_reads b.0
+    >>= λ l. Ok (record node { links = node.links ++ l ∷ [] }, b.1)
 
 abbrev pub content_next : Node → List ℕ → Result (Node × List ℕ) PbFault
-content_next node bytes = if is_some node.content then Err pb.Twice else (cut (bytes_at bytes) >>= λ b. Ok (record node { content = Some b.0 }, b.1))
+content_next node bytes = if is_some node.content then Err pb.Twice
+    else (cut (bytes_at bytes) >>= λ b. Ok (record node { content = Some b.0 }, b.1))
 
--- a node behind one more field
+-- a node after one more field
 unfoldable pub node_next : Node → List ℕ → Result (Node × List ℕ) PbFault
 node_next node bytes = cut (number_at bytes) >>= λ key.
     if key.0 == 0x12 then links_next node key.1
@@ -115,17 +122,20 @@ node_next node bytes = cut (number_at bytes) >>= λ key.
     else Err pb.Field
 
 abbrev pub took_link : Node → Result Content CutFault → Result Node PbFault
-took_link node c = cut c >>= λ x. bytes_in x >>= λ b. link_reads b >>= λ l. Ok (record node { links = node.links ++ l ∷ [] })
+took_link node c = cut c >>= λ x. bytes_in x >>= λ b. link_reads b
+    >>= λ l. Ok (record node { links = node.links ++ l ∷ [] })
 
 abbrev pub took_content : Node → Result Content CutFault → Result Node PbFault
-took_content node c = if is_some node.content then Err pb.Twice else (cut c >>= λ x. bytes_in x >>= λ b. Ok (record node { content = Some b }))
+took_content node c = if is_some node.content then Err pb.Twice
+    else (cut c >>= λ x. bytes_in x >>= λ b. Ok (record node { content = Some b }))
 
--- the node of some links and a content, and the fields behind them
+-- the node of some links and a content, and the fields after them
 unfoldable pub node_from : Node → List Field → Result Node PbFault
 node_from node [] = Ok node
 node_from node (NoKey f ∷ fs) = Err (pb_fault f)
 node_from node (Keyed key c ∷ fs) =
-    (if key == 0x12 then took_link node c else if key == 0x0a then took_content node c else Err pb.Field) >>= λ n. node_from n fs
+    (if key == 0x12 then took_link node c else if key == 0x0a then took_content node c else Err pb.Field)
+    >>= λ n. node_from n fs
 
 abbrev pub no_node : Node
 no_node = record { links = []; content = None }

@@ -1,4 +1,4 @@
-// Why bytes are no node.
+//! Why bytes are no node.
 ghost use Rattle.std.specs.Prelude.{◌≡◌};
 ghost use Rattle.uf_dagpb.specs.declared.fault.PbFault.TheVariants as faults;
 

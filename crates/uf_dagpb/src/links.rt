@@ -1,4 +1,4 @@
-// Links read from bytes.
+//! Links read from bytes.
 ghost use Rattle.std.specs.Prelude.{◌≡◌, ◌<◌, ◌≤◌, ◌==◌, IfOk, length, MatchOption, MatchResult, Ok, Err, Some, None};
 ghost use Rattle.uf_dagpb.specs.Reading.{Gives, hash_of};
 ghost use Rattle.uf_dagpb.specs.Steps.{text_of, hash_next, name_next, tsize_next, keyed_next, link_next, link_end, link_reads};
@@ -27,10 +27,8 @@ fn text_in(alloc: Global, bytes: &[u8]) -> Result<Text, PbFault>
     match str::from_utf8(bytes) {
         Ok(found) => {
             let mut text = Text::new(alloc);
-            match text.push_str(found) {
-                Ok(()) => Ok(text),
-                Err(_) => Err(PbFault::Memory),
-            }
+            text.push_str(found)?;
+            Ok(text)
         }
         Err(_) => Err(PbFault::NotText),
     }
@@ -43,26 +41,17 @@ fn hash_field(parts: Parts, bytes: &[u8]) -> Result<(Parts, &[u8]), PbFault>
     if parts.cid.is_some() {
         return Err(PbFault::Twice);
     }
-    match read_bytes(bytes) {
-        Err(fault) => Err(PbFault::from(fault)),
-        Ok((hash, rest)) => match hash_in(hash) {
-            None => Err(PbFault::BadCid),
-            Some(cid) => {
-                let Parts {
-                    cid: _,
-                    name,
-                    tsize,
-                } = parts;
-                Ok((
-                    Parts {
-                        cid: Some(cid),
-                        name,
-                        tsize,
-                    },
-                    rest,
-                ))
-            }
-        },
+    let (hash, rest) = read_bytes(bytes)?;
+    match hash_in(hash) {
+        None => Err(PbFault::BadCid),
+        cid => {
+            let Parts {
+                cid: _,
+                name,
+                tsize,
+            } = parts;
+            Ok((Parts { cid, name, tsize }, rest))
+        }
     }
 }
 
@@ -73,27 +62,14 @@ fn name_field(alloc: Global, parts: Parts, bytes: &[u8]) -> Result<(Parts, &[u8]
     if parts.name.is_some() {
         return Err(PbFault::Twice);
     }
-    match read_bytes(bytes) {
-        Err(fault) => Err(PbFault::from(fault)),
-        Ok((name, rest)) => match text_in(alloc, name) {
-            Err(fault) => Err(fault),
-            Ok(text) => {
-                let Parts {
-                    cid,
-                    name: _,
-                    tsize,
-                } = parts;
-                Ok((
-                    Parts {
-                        cid,
-                        name: Some(text),
-                        tsize,
-                    },
-                    rest,
-                ))
-            }
-        },
-    }
+    let (name, rest) = read_bytes(bytes)?;
+    let name = Some(text_in(alloc, name)?);
+    let Parts {
+        cid,
+        name: _,
+        tsize,
+    } = parts;
+    Ok((Parts { cid, name, tsize }, rest))
 }
 
 fn tsize_field(parts: Parts, bytes: &[u8]) -> Result<(Parts, &[u8]), PbFault>
@@ -103,24 +79,14 @@ fn tsize_field(parts: Parts, bytes: &[u8]) -> Result<(Parts, &[u8]), PbFault>
     if parts.tsize.is_some() {
         return Err(PbFault::Twice);
     }
-    match read_number(bytes) {
-        Err(fault) => Err(PbFault::from(fault)),
-        Ok((number, rest)) => {
-            let Parts {
-                cid,
-                name,
-                tsize: _,
-            } = parts;
-            Ok((
-                Parts {
-                    cid,
-                    name,
-                    tsize: Some(number),
-                },
-                rest,
-            ))
-        }
-    }
+    let (number, rest) = read_number(bytes)?;
+    let tsize = Some(number);
+    let Parts {
+        cid,
+        name,
+        tsize: _,
+    } = parts;
+    Ok((Parts { cid, name, tsize }, rest))
 }
 
 fn keyed_field(
@@ -140,16 +106,14 @@ fn keyed_field(
     }
 }
 
-// The parts behind one more field.
+// The parts after one more field.
 #[tactic(auto, unfolding(crate::specs::Steps::link_next))]
 fn link_field(alloc: Global, parts: Parts, bytes: &[u8]) -> Result<(Parts, &[u8]), PbFault>
     ensures exact { Gives (λ x. (x.0, x.1.now)) result (link_next parts bytes.now) }
     ensures shorter { IfOk result (λ x. length x.1.now < length bytes.now) }
 {
-    match read_number(bytes) {
-        Err(fault) => Err(PbFault::from(fault)),
-        Ok((key, rest)) => keyed_field(alloc, parts, key, rest),
-    }
+    let (key, rest) = read_number(bytes)?;
+    keyed_field(alloc, parts, key, rest)
 }
 
 // The link of all its parts.
@@ -179,13 +143,9 @@ pub fn decode_link(alloc: Global, bytes: &[u8]) -> Result<Link, PbFault>
     };
     let mut rest = bytes;
     while !rest.is_empty() {
-        match link_field(alloc, parts, rest) {
-            Err(fault) => return Err(fault),
-            Ok((next, after)) => {
-                parts = next;
-                rest = after;
-            }
-        }
+        let (next, after) = link_field(alloc, parts, rest)?;
+        parts = next;
+        rest = after;
     }
     whole(alloc, parts)
 }

@@ -1,4 +1,4 @@
-// Nodes and their links.
+//! Nodes and their links.
 ghost use Rattle.std.specs.Prelude.{◌≡◌, IfOk};
 
 use uf_cid::{Block, Cid, Copied, Memory, Seq, Text};

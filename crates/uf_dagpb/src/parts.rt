@@ -1,4 +1,4 @@
-// What of a link was read.
+//! What of a link was read.
 use uf_cid::{Cid, Text};
 
 // The parts of a link that stood in the fields so far.

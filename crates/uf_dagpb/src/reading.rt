@@ -1,4 +1,4 @@
-// Nodes read leniently.
+//! Nodes read leniently.
 ghost use Rattle.std.specs.Prelude.{◌≡◌, ◌<◌, ◌≤◌, IfOk, length};
 ghost use Rattle.uf_dagpb.specs.Reading.{Gives, node_reads};
 ghost use Rattle.uf_dagpb.specs.Steps.{links_next, content_next, node_next};
@@ -20,28 +20,24 @@ pub fn decode_lenient(alloc: Global, bytes: &[u8]) -> Result<Node, PbFault>
     };
     let mut rest = bytes;
     while !rest.is_empty() {
-        match node_field(alloc, node, rest) {
-            Err(fault) => return Err(fault),
-            Ok((next, after)) => {
-                node = next;
-                rest = after;
-            }
-        }
+        let (next, after) = node_field(alloc, node, rest)?;
+        node = next;
+        rest = after;
     }
     Ok(node)
 }
 
-// The node behind one more field.
+// The node after one more field.
 #[tactic(auto, unfolding(crate::specs::Steps::node_next))]
 fn node_field(alloc: Global, node: Node, bytes: &[u8]) -> Result<(Node, &[u8]), PbFault>
     ensures exact { Gives (λ x. (x.0, x.1.now)) result (node_next node bytes.now) }
     ensures shorter { IfOk result (λ x. length x.1.now < length bytes.now) }
 {
-    match read_number(bytes) {
-        Err(fault) => Err(PbFault::from(fault)),
-        Ok((0x12, rest)) => link_more(alloc, node, rest),
-        Ok((0x0a, rest)) => content_more(alloc, node, rest),
-        Ok((_, _)) => Err(PbFault::Field),
+    let (key, rest) = read_number(bytes)?;
+    match key {
+        0x12 => link_more(alloc, node, rest),
+        0x0a => content_more(alloc, node, rest),
+        _ => Err(PbFault::Field),
     }
 }
 
@@ -49,16 +45,9 @@ fn link_more(alloc: Global, mut node: Node, bytes: &[u8]) -> Result<(Node, &[u8]
     ensures exact { Gives (λ x. (x.0, x.1.now)) result (links_next node bytes.now) }
     ensures shorter { IfOk result (λ x. length x.1.now < length bytes.now) }
 {
-    match read_bytes(bytes) {
-        Err(fault) => Err(PbFault::from(fault)),
-        Ok((spelled, rest)) => match decode_link(alloc, spelled) {
-            Err(fault) => Err(fault),
-            Ok(link) => match node.links.push(link) {
-                Err(_) => Err(PbFault::Memory),
-                Ok(()) => Ok((node, rest)),
-            },
-        },
-    }
+    let (spelled, rest) = read_bytes(bytes)?;
+    node.links.push(decode_link(alloc, spelled)?)?;
+    Ok((node, rest))
 }
 
 fn content_more(alloc: Global, node: Node, bytes: &[u8]) -> Result<(Node, &[u8]), PbFault>
@@ -68,29 +57,8 @@ fn content_more(alloc: Global, node: Node, bytes: &[u8]) -> Result<(Node, &[u8])
     if node.content.is_some() {
         return Err(PbFault::Twice);
     }
-    match read_bytes(bytes) {
-        Err(fault) => Err(PbFault::from(fault)),
-        Ok((content, rest)) => match block_of(alloc, content) {
-            Err(_) => Err(PbFault::Memory),
-            Ok(block) => {
-                let Node { links, content: _ } = node;
-                Ok((
-                    Node {
-                        links,
-                        content: Some(block),
-                    },
-                    rest,
-                ))
-            }
-        },
-    }
-}
-
-// A block of these bytes.
-fn block_of(alloc: Global, bytes: &[u8]) -> Result<Block, uf_cid::Memory>
-    ensures { IfOk result (λ b. b ≡ bytes.now) }
-{
-    let mut block = Block::with_capacity(alloc, bytes.len())?;
-    block.extend(bytes)?;
-    Ok(block)
+    let (content, rest) = read_bytes(bytes)?;
+    let content = Some(Block::from_slice(alloc, content)?);
+    let Node { links, content: _ } = node;
+    Ok((Node { links, content }, rest))
 }

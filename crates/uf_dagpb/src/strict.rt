@@ -1,4 +1,4 @@
-// Nodes read strictly: what was read leniently is written nowhere else than in the bytes.
+//! Nodes read strictly: what was read leniently is written nowhere else than in the bytes.
 ghost use Rattle.std.specs.Prelude.{◌≡◌, ◌≢◌, ◌⊎◌, ◌↔◌, ◌++◌, IsTrue, List, ℕ, MatchOption, MatchResult, Option};
 ghost use Rattle.std.specs.Cmp.Lexicographic.{slice_cmp};
 ghost use Rattle.std.specs.Ordering.{is_le, nat_cmp};
@@ -60,7 +60,7 @@ fn is_canonical(node: &Node, bytes: &[u8]) -> bool
     }
 }
 
-// Whether no name stands behind a greater one.
+// Whether no name stands after a greater one.
 fn names_rise(links: &[Link]) -> bool
     ensures { result ≡ are_sorted links.now }
 {
@@ -95,7 +95,7 @@ fn is_content(content: &Option<Block>, bytes: &[u8]) -> bool
     }
 }
 
-// The bytes behind the links, where they stand in front.
+// The bytes after the links, where they stand in front.
 fn behind_links<'a>(links: &[Link], bytes: &'a [u8]) -> Option<&'a [u8]>
     ensures valid { MatchOption result (Unit {0}) (λ rest. AreLinks links.now) }
     ensures front { IsFront (links_bytes links.now) bytes.now result }
@@ -110,7 +110,7 @@ fn behind_links<'a>(links: &[Link], bytes: &'a [u8]) -> Option<&'a [u8]>
     Some(rest)
 }
 
-// The bytes behind a link with its key and its length, where these stand in front.
+// The bytes after a link with its key and its length, where these stand in front.
 fn behind_link<'a>(link: &Link, bytes: &'a [u8]) -> Option<&'a [u8]>
     ensures valid { IsLink link.now }
     ensures front { IsFront (content_field 0x12 (link_bytes link.now)) bytes.now result }
@@ -135,7 +135,8 @@ fn behind_parts<'a>(link: &Link, bytes: &'a [u8]) -> Option<&'a [u8]>
 }
 
 fn behind_names<'a>(link: &Link, bytes: &'a [u8]) -> Option<&'a [u8]>
-    ensures { IsFront (content_field 0x0a (cid_bytes link.now.cid) ++ content_field 0x12 link.now.name) bytes.now result }
+    ensures { IsFront (content_field 0x0a (cid_bytes link.now.cid)
+        ++ content_field 0x12 link.now.name) bytes.now result }
 {
     match behind_field(0x0a, &link.cid.to_binary(), bytes) {
         None => None,
@@ -143,7 +144,7 @@ fn behind_names<'a>(link: &Link, bytes: &'a [u8]) -> Option<&'a [u8]>
     }
 }
 
-// The bytes behind a field with bytes, where it stands in front.
+// The bytes after a field with bytes, where it stands in front.
 fn behind_field<'a>(key: u8, content: &[u8], bytes: &'a [u8]) -> Option<&'a [u8]>
     ensures { IsFront (content_field key content.now) bytes.now result }
 {
@@ -156,7 +157,7 @@ fn behind_field<'a>(key: u8, content: &[u8], bytes: &'a [u8]) -> Option<&'a [u8]
     }
 }
 
-// The bytes behind a front, where it stands there.
+// The bytes after a front, where it stands there.
 fn behind<'a>(front: &[u8], bytes: &'a [u8]) -> Option<&'a [u8]>
     ensures { IsFront front.now bytes.now result }
 {

@@ -1,4 +1,4 @@
-// Nodes written.
+//! Nodes written.
 ghost use Rattle.std.specs.Prelude.{◌≡◌, ◌+◌, ◌-◌, ◌^◌, ◌++◌, IfOk, OnOk, IsTrue, length, min};
 ghost use Rattle.uf_varint.specs.Varint.{varint};
 ghost use Rattle.uf_varint.specs.Fields.{content_field, optional};
@@ -53,7 +53,7 @@ fn content_len(content: &Option<Block>) -> usize
     }
 }
 
-// The length of a field with so many bytes.
+// The length of a field with n bytes.
 fn field_len(len: usize) -> usize
     ensures { result ≡ min (1 + length (varint len) + len) (2 ^ 64 - 1) }
 {

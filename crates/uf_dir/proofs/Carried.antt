@@ -10,6 +10,7 @@ use Rattle.uf_cid.specs.declared.cid.Codec.TheVariants.{DagPb}
 use Rattle.uf_edge.specs.Counts.{Stood}
 use Rattle.uf_store.specs.declared.store.Role.{Role}
 use Rattle.uf_store.specs.declared.store.StoreFault.{StoreFault}
+use Rattle.uf_store.specs.Among.{SavesAmong}
 use Rattle.uf_store.specs.Contents.{Told}
 use Rattle.uf_store.specs.Faults.{NoneIsBad, Shows, StaysCalm}
 use Rattle.uf_store.specs.Keeping.{Agrees, AreGood, Holds, KeepsGood, StaysAgreed}
@@ -28,14 +29,14 @@ use Rattle.uf_tree.specs.Roots.{dir_root}
 use Rattle.uf_tree.specs.ShardPlan.{shard, shard_items}
 use Rattle.uf_tree.specs.TreePlan.{Collision as Collides, TooBig as IsTooBig, too_big}
 use Rattle.uf_tree.specs.Validity.{IsHash}
-use Rattle.uf_shard.specs.Answers.{AtCollision, Gives, GivesOver, Shown, root_entry}
+use Rattle.uf_shard.specs.Answers.{AtCollision, Gives, GivesOver, Shown, root_entry, shard_node_held}
 use Rattle.uf_shard.specs.Changed.{below}
 use Rattle.uf_shard.specs.Known.{AreKnown}
 use Rattle.uf_shard.specs.declared.fault.DirFault.{DirFault}
 use Rattle.uf_shard.specs.declared.fault.DirFault.TheVariants.{Collision, TooBig, Store}
 use Rattle.uf_shard.proofs.Knowing.{after-known, known-old}
 use Rattle.uf_shard.proofs.Placing.{below-in, shard-good}
-use Rattle.uf_dir.specs.Planned.{IsPlanned, dir_entry, own_blocks}
+use Rattle.uf_dir.specs.Planned.{IsPlanned, dir_entry, dir_held, own_blocks}
 use Rattle.uf_dir.specs.Roots.{IsLight, IsRootCid, IsRootOf, IsThere, IsUnread}
 use Rattle.uf_dir.specs.declared.root.Root.{Root}
 use Rattle.uf_dir.specs.declared.root.Root.TheVariants as root
@@ -43,6 +44,7 @@ use Rattle.uf_dir.proofs.Changing.{gives-over, light_bound}
 use Rattle.uf_dir.proofs.Edited.{after-held}
 use Rattle.uf_dir.proofs.Looked.{loss-from_finds, read-basic, read-sharded, unread}
 use Rattle.uf_dir.proofs.Nodes.{planned-root}
+use Rattle.uf_dir.proofs.Saving.{heavy-root-saves, light-root-saves}
 use Rattle.uf_dir.proofs.Planning.{blocks-sharded, blocks-from_root, light-entry, light-held, planned-cid, root-canonical}
 
 -- the blocks of a shard tree with other metadata: its root, and the same blocks below it
@@ -90,6 +92,12 @@ module _ (X : List ℕ → List ℕ) (good : IsHash X) (N : List ℕ → ℕ) (p
         let read = read-pairs [] agrees in
         gives-at before.told (basic_dir X N meta node.pairs).entry r before mid now (ap (λ (k : List Named). (basic_dir X N meta k).entry) read.1 ∙ light-entry X N p meta l read.0) (gives N) calm shown faults clashes
 
+    pub set-basic-saves : (now : Told) → mid.told ≡ before.told → Agrees before.told head → SavesAmong X (dir_held X meta node.pairs ∷ []) mid.told now → SavesAmong X (dir_root X N p meta l ∷ []) before.told now
+    set-basic-saves now same agrees h =
+        let read = read-pairs [] agrees in
+        subst (λ (t : Told). SavesAmong X (dir_root X N p meta l ∷ []) t now) same
+        (light-root-saves X N p meta l mid.told now read.0 (subst (λ (k : List Named). SavesAmong X (dir_held X meta k ∷ []) mid.told now) read.1 h))
+
     pub set-basic-after : (now : Told) → SavesOnly X before.told now → Holds now (basic_dir X N meta node.pairs).blocks → Agrees before.told (own_blocks X N p m l) → AgreesAfter before.told now (own_blocks X N p m l) (own_blocks X N p meta l)
     set-basic-after now saves held agrees =
         let from = blocks-from_root X N p m l in
@@ -108,6 +116,12 @@ module _ (X : List ℕ → List ℕ) (good : IsHash X) (N : List ℕ → ℕ) (p
     set-sharded now r gives calm shown agrees faults clashes =
         let read = read-slots [] agrees in
         gives-at before.told (root_entry X meta node.items) r before mid now (ap (root_entry X meta) read.1 ∙ sym (shard-entry X N l meta) ∙ sharded-entry read.0) gives calm shown faults clashes
+
+    pub set-sharded-saves : (now : Told) → mid.told ≡ before.told → Agrees before.told head → SavesAmong X (shard_node_held X meta node.items ∷ []) mid.told now → SavesAmong X (dir_root X N p meta l ∷ []) before.told now
+    set-sharded-saves now same agrees h =
+        let read = read-slots [] agrees in
+        subst (λ (t : Told). SavesAmong X (dir_root X N p meta l ∷ []) t now) same
+        (heavy-root-saves X N p meta l mid.told now read.0 (subst (λ (i : List InSlot). SavesAmong X (shard_node_held X meta i ∷ []) mid.told now) read.1 h))
 
     pub set-sharded-after : (now : Told) → KeepsGood X before.told now → Holds now ((cid_of X DagPb (shard_block meta node.items), shard_block meta node.items) ∷ []) → StaysAgreed before.told now (own_blocks X N p m l)
         → AgreesAfter before.told now (own_blocks X N p m l) (own_blocks X N p meta l)

@@ -1,5 +1,5 @@
 -- Directories changed in place, in one block or in shards.
-use Rattle.std.proofs.Common.{◌≡◌, ℕ, suc, ◌+◌, ◌≤◌, List, [], ◌∷◌, length, refl, ap, arith, sym, ◌∙◌, subst, inl, inr, Option, Some, None, Ordering, Bool, true, false, cond}
+use Rattle.std.proofs.Common.{◌≡◌, ℕ, suc, ◌+◌, ◌≤◌, List, [], ◌∷◌, ◌++◌, length, refl, ap, arith, sym, ◌∙◌, subst, inl, inr, Option, Some, None, Ordering, Bool, true, false, cond}
 use Rattle.std.specs.Prelude.{IfErr, IfOk, IfSome, IsTrue, OnOk, nat_lt, not}
 use Rattle.std.specs.declared.cmp.Ordering.TheVariants.{Less, Equal, Greater}
 use Rattle.std.specs.declared.result.Result.{Result}
@@ -12,6 +12,7 @@ use Rattle.std.proofs.lemmas.List.Sums.{sum_by-cons}
 use Rattle.uf_cid.specs.Blocks.{Held}
 use Rattle.uf_cid.specs.declared.cid.Cid.{Cid}
 use Rattle.uf_edge.specs.Counts.{Stood}
+use Rattle.uf_store.specs.Among.{SavesAmong}
 use Rattle.uf_store.specs.Clashes.{IsSaving}
 use Rattle.uf_store.specs.Contents.{Contents, Told, held_at}
 use Rattle.uf_store.specs.Calls.{Calm}
@@ -58,7 +59,7 @@ use Rattle.uf_dir.proofs.Edited.{after-held, after-same, left-some, without-abse
 use Rattle.uf_dir.proofs.Listing.{directory-without}
 use Rattle.uf_dir.proofs.Nodes.{planned-root, shard-root}
 use Rattle.uf_store.proofs.Writing.{SavesOnly-refl}
-use Rattle.uf_dir.specs.Left.{AreShards, Fits, IsLeftOrHeld, SettlesOver, SettlesShards, StayShards, TakesBasic, TakesOver, TakesSharded, pairs_left}
+use Rattle.uf_dir.specs.Left.{AreShards, CanRise, Fits, IsLeftOrHeld, SettlesOver, SettlesShards, StayShards, TakesBasic, TakesOver, TakesSharded, pairs_left}
 use Rattle.uf_shard.specs.declared.removed.Removed.TheVariants.{Absent, Empty, Left}
 use Rattle.uf_shard.specs.Taken.{left_of, left_without}
 use Rattle.uf_tree.specs.FilePlan.{Plan}
@@ -97,6 +98,13 @@ stood-clash before mid now calm stood = subst (λ (n : ℕ). Stood n now.clashes
 -- where no count rose over two calls, none rose in the second
 pub then-calm : (before mid now : Seen) → StaysCalm before mid → Calm before now → Calm mid now
 then-calm before mid now stays calm = record { faults = stood-mid before mid now stays calm.faults; clashes = stood-clash before mid now stays calm.clashes }
+
+-- after such calls the counts can still rise
+pub can-rise : (before mid : Seen) → StaysCalm before mid → CanRise before → CanRise mid
+can-rise before mid calm can = record {
+  faults = subst (λ (n : ℕ). Stood n n) (sym calm.faults) can.faults;
+  clashes = subst (λ (n : ℕ). Stood n n) (sym calm.clashes) can.clashes;
+}
 
 -- nor in the first
 pub first-calm : (hash : List ℕ → List ℕ) (P : Role → List ℕ → Type 0) (fault : Option StoreFault) (before mid now : Seen) → StaysCalm before mid → faults.Shown hash P fault mid now → Calm before now → Calm before mid
@@ -166,6 +174,13 @@ module _ (X : List ℕ → List ℕ) (good : IsHash X) (N : List ℕ → ℕ) (p
       (subst (λ (told : Told). GivesOver told (shard X N 7 meta l).blocks (shard_refusal X N meta (with_name name e l)) (shard X N 7 meta (with_name name e l)).entry r) same
       (value meta l plan_there agrees_there (stood-mid before mid now calm faults) (stood-clash before mid now calm clashes))))
 
+  pub put-sharded-saves : (name : List ℕ) (e : Entry) (now : Told)
+      → ((n : Meta) (k : List Named) → shards.IsPlanned X N cid n k → Agrees mid.told (shard X N 7 n k).blocks → SavesAmong X (shard X N 7 n (with_name name e k)).blocks mid.told now)
+      → SavesAmong X (own_blocks X N p meta (with_name name e l)) before.told now
+  put-sharded-saves name e now saves =
+      subst (λ (own : List Held). SavesAmong X own before.told now) (sym (blocks-sharded X N p meta (with_name name e l) (heavier p name e l in_shards)))
+      (subst (λ (told : Told). SavesAmong X (shard X N 7 meta (with_name name e l)).blocks told now) same (saves meta l plan_there agrees_there))
+
   pub stays_there : (now : Told) → Agrees now (own_blocks X N p meta l) → StaysAgreed mid.told now (shard X N 7 meta l).blocks
   stays_there now agrees_now = record { first = agrees_there; last = subst (Agrees now) (blocks-sharded X N p meta l in_shards) agrees_now }
 
@@ -189,6 +204,15 @@ module _ (X : List ℕ → List ℕ) (good : IsHash X) (N : List ℕ → ℕ) (p
 
   pub stay-read : (now : Seen) → StaysCalm before mid → Agrees now.told (own_blocks X N p meta l) → Calm before now → StayShards X N node.meta cid mid now l
   stay-read now stays safe calm = subst (λ (n : Meta). StayShards X N n cid mid now l) (sym read_there) (stay-there now stays safe calm)
+
+  pub removal-there : (name : List ℕ) (now : Told)
+      → ((k : List Named) → shards.IsPlanned X N cid node.meta k → StaysAgreed mid.told now (shard X N 7 node.meta k).blocks
+      → CanRise mid → SavesAmong X ((shard X N 7 node.meta (without name k)).blocks ++ own_blocks X N p node.meta (without name k)) mid.told now)
+      → Agrees now (own_blocks X N p meta l) → CanRise mid → SavesAmong X ((shard X N 7 meta (without name l)).blocks ++ own_blocks X N p meta (without name l)) before.told now
+  removal-there name now saves safe can =
+      subst (λ (told : Told). SavesAmong X ((shard X N 7 meta (without name l)).blocks ++ own_blocks X N p meta (without name l)) told now) same
+      (subst (λ (n : Meta). (k : List Named) → shards.IsPlanned X N cid n k → StaysAgreed mid.told now (shard X N 7 n k).blocks
+      → CanRise mid → SavesAmong X ((shard X N 7 n (without name k)).blocks ++ own_blocks X N p n (without name k)) mid.told now) read_there saves l plan_there (stays_there now safe) can)
 
   pub takes_there : (name : List ℕ) (now : Seen) (r : Result (Option Entry) StoreFault) → TakesSharded X N p node.meta cid name mid now r → TakesSharded X N p meta cid name mid now r
   takes_there name now r takes = subst (λ (n : Meta). TakesSharded X N p n cid name mid now r) read_there takes
@@ -372,7 +396,7 @@ module _ (X : List ℕ → List ℕ) (p : Profile) (meta : Meta) (entry : Entry)
     }
 
 -- the weight of fewer pairs
-lighter : (name : List ℕ) (l : List Named) → weight (without name l) ≤ weight l
+pub lighter : (name : List ℕ) (l : List Named) → weight (without name l) ≤ weight l
 lighter name [] = omega arith
 lighter name (x ∷ l) = by (not (eq_by_cmp names_cmp name x.0)) (lighter name l)
   where

@@ -10,6 +10,7 @@ pub mod Nodes
 pub mod Planning
 pub mod Refusals
 pub mod Rooted
+pub mod Saving
 pub mod Roots
 pub mod Taking
 pub mod Touching

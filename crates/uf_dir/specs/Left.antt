@@ -5,6 +5,7 @@ use Rattle.std.specs.declared.result.Result.{Result}
 use Rattle.std.specs.declared.result.Result.TheVariants.{Ok, Err}
 use Rattle.std.specs.FinMap.Entries.{find}
 use Rattle.uf_cid.specs.declared.cid.Cid.{Cid}
+use Rattle.uf_edge.specs.Counts.{Stood}
 use Rattle.uf_store.specs.declared.store.StoreFault.{StoreFault}
 use Rattle.uf_store.specs.Calls.{Calm}
 use Rattle.uf_store.specs.Clashes.{IsSaving}
@@ -46,6 +47,11 @@ Fits X N p meta entry pairs before now (Ok e) =
     ⊎ ((e ≡ dir_entry X N p meta pairs) × Holds now (own_blocks X N p meta pairs))
 Fits X N p meta entry pairs before now (Err fault) = IsSaving fault
 
+-- neither count of what went wrong stands at its last value, so a failure or a clash would show
+pub record CanRise (seen : Seen) : Type 0 where
+  pub faults : Stood seen.faults seen.faults
+  pub clashes : Stood seen.clashes seen.clashes
+
 module _ (X : List ℕ → List ℕ) (N : List ℕ → ℕ) where
   -- the entry is that of the shards with this metadata and these pairs, the store agrees with their blocks, and it
   -- stays calm
@@ -67,13 +73,13 @@ module _ (X : List ℕ → List ℕ) (N : List ℕ → ℕ) where
   IsLeftOrHeld p meta l before now = ((is_sharded p l ≡ true) × (now ≡ before)) ⊎ Holds now (own_blocks X N p meta l)
 
   -- the answer is the entry of the directory of these pairs, which is left or held in one block, or one of their shards
-  -- is lost; want of memory is free
+  -- is lost; out of memory is free
   abbrev pub SettlesOver : Profile → Meta → List Named → (before now : Told) → Result Entry StoreFault → Type 0
   SettlesOver p meta l before now (Ok e) = (e ≡ dir_entry X N p meta l) × IsLeftOrHeld p meta l before now
   SettlesOver p meta l before now (Err fault) = IsLossOf before (shard X N 7 meta l).blocks fault
 
   -- the answer is what is left of the directory of these pairs without a name, with whose blocks the store agrees
-  -- then, or one of the old shards is lost; want of memory is free
+  -- then, or one of the old shards is lost; out of memory is free
   abbrev pub TakesOver : Profile → Meta → List ℕ → List Named → (before now : Told)
       → Result (Option Entry) StoreFault → Type 0
   TakesOver p meta name l before now (Ok None) = None ≡ entry_without X N p meta name l

@@ -1,6 +1,7 @@
-// The metadata of a directory set.
+//! The metadata of a directory set.
 ghost use Rattle.std.specs.Prelude.{◌<◌, ◌≤◌, ◌+◌, ◌∷◌, ℕ, List, [], IfOk, IsTrue, OnOk, Some, true};
 ghost use Rattle.uf_edge.specs.Counts.{Stood};
+ghost use Rattle.uf_store.specs.Among.{SavesAmong};
 ghost use Rattle.uf_store.specs.Keeping.{Agrees, KeepsGood, StaysAgreed};
 ghost use Rattle.uf_store.specs.Lost.{AgreesAfter};
 ghost use Rattle.uf_store.specs.Writing.{SavesOnly};
@@ -54,6 +55,10 @@ pub fn set_meta<S: Store, L: Ledger>(
     ensures blames { BlamesOnly entry.now.cid (dir_fault result) }
     ensures good { KeepsGood S.X.block32 (S.seen store.old).told (S.seen store.new).told }
     ensures saves { SavesOnly S.X.block32 (S.seen store.old).told (S.seen store.new).told }
+    ensures no_other { (N : List ℕ → ℕ) (m : TheMeta) (l : List Named) → IsPlanned S.X.block32 N p.now m entry.now.cid l
+        → Agrees (S.seen store.old).told (dir_root S.X.block32 N p.now m l ∷ [])
+        → SavesAmong S.X.block32 (dir_root S.X.block32 N p.now meta.now l ∷ [])
+        (S.seen store.old).told (S.seen store.new).told }
     ensures touches { touches.new ≤ touches.old + 2 }
     ensures touched { touches.old < touches.new }
 {

@@ -1,7 +1,8 @@
-// Directories changed by one name.
+//! Directories changed by one name.
 ghost use Rattle.std.specs.Prelude.{◌≡◌, ◌<◌, ◌≤◌, ◌+◌, ℕ, List, IfOk, IfSome, IsTrue, None, OnOk, Some};
-ghost use Rattle.std.specs.Prelude.{length};
+ghost use Rattle.std.specs.Prelude.{◌++◌, ◌∷◌, [], length};
 ghost use Rattle.uf_edge.specs.Counts.{Stood};
+ghost use Rattle.uf_store.specs.Among.{SavesAmong};
 ghost use Rattle.uf_store.specs.Calls.{OnlySaves};
 ghost use Rattle.uf_store.specs.Faults.{Answers, NoneIsBad, fault_in};
 ghost use Rattle.uf_store.specs.Keeping.{Agrees, Holds, KeepsGood, StaysAgreed};
@@ -13,16 +14,19 @@ ghost use Rattle.uf_tree.specs.declared.meta.Meta.{Meta as TheMeta};
 ghost use Rattle.uf_tree.specs.Metas.{is_meta};
 ghost use Rattle.uf_tree.specs.Nodes.{Named};
 ghost use Rattle.uf_tree.specs.Profiles.{is_profile};
+ghost use Rattle.uf_tree.specs.ShardPlan.{shard};
 ghost use Rattle.uf_tree.specs.TreePlan.{dir_refusal};
 ghost use Rattle.uf_tree.specs.Validity.{IsDirNode, IsDirectory};
 ghost use Rattle.uf_shard.specs.Answers.{Gives, GivesOver, Shown, dir_fault};
 ghost use Rattle.uf_shard.specs.Listing.{IsBadShard};
+ghost use Rattle.uf_shard.specs.Planned.{IsPlanned as IsShardPlan};
 ghost use Rattle.uf_shard.specs.Planned.{IsShardCid};
 ghost use Rattle.uf_dir.specs.Bad.{BlamesOnly, IsBad, IsBadWeighed};
 ghost use Rattle.uf_dir.specs.Bounds.{IsFree, crossing, gathering, settling, shard_count, weighing, weighing_from};
-ghost use Rattle.uf_dir.specs.Left.{AreShards, Fits, SettlesShards, StayShards};
+ghost use Rattle.uf_dir.specs.Left.{AreShards, CanRise, Fits, SettlesShards, StayShards};
 ghost use Rattle.uf_dir.specs.Left.{TakesBasic, TakesSharded, pairs_left};
-ghost use Rattle.uf_dir.specs.Planned.{IsFitting, IsPlanned, dir_entry, entry_without, own_blocks};
+ghost use Rattle.uf_dir.specs.Planned.{IsFitting, IsPlanned, dir_entry, dir_held, entry_without, own_blocks};
+ghost use Rattle.uf_dir.specs.Planned.{removal_blocks};
 ghost use Rattle.uf_dir.specs.Roots.{IsRootCid};
 
 use crate::building::{build, needs_shards, save_basic};
@@ -68,6 +72,10 @@ pub fn put<S: Store, N: NameHash, L: Ledger>(
     ensures blames { BlamesOnly root.now (dir_fault result) }
     ensures good { KeepsGood S.X.block32 (S.seen store.old).told (S.seen store.new).told }
     ensures saves { SavesOnly S.X.block32 (S.seen store.old).told (S.seen store.new).told }
+    ensures no_other { (m : TheMeta) (l : List Named) → IsPlanned S.X.block32 N.name64 p.now m root.now l
+        → Agrees (S.seen store.old).told (own_blocks S.X.block32 N.name64 p.now m l)
+        → SavesAmong S.X.block32 (own_blocks S.X.block32 N.name64 p.now m (with_name name.now entry.now l))
+        (S.seen store.old).told (S.seen store.new).told }
     ensures touches { (m : TheMeta) (l : List Named) → IsPlanned S.X.block32 N.name64 p.now m root.now l
         → Agrees (S.seen store.old).told (own_blocks S.X.block32 N.name64 p.now m l)
         → touches.new ≤ touches.old + (17 + crossing S.X.block32 N.name64 p.now l (with_name name.now entry.now l)) }
@@ -99,6 +107,9 @@ fn put_basic<S: Store, N: NameHash, L: Ledger>(
     ensures held { OnOk result (Holds (S.seen store.new).told
         (own_blocks S.X.block32 N.name64 p.now node.now.meta (with_name name.now entry.now node.now.pairs))) }
     ensures saves { OnlySaves S.X.block32 NoneIsBad (dir_fault result) (S.seen store.old) (S.seen store.new) }
+    ensures no_other { SavesAmong S.X.block32
+        (own_blocks S.X.block32 N.name64 p.now node.now.meta (with_name name.now entry.now node.now.pairs))
+        (S.seen store.old).told (S.seen store.new).told }
     ensures touches { touches.new ≤ touches.old
         + length (own_blocks S.X.block32 N.name64 p.now node.now.meta (with_name name.now entry.now node.now.pairs)) }
     ensures touched { touches.old ≤ touches.new }
@@ -140,6 +151,11 @@ pub fn remove<S: Store, N: NameHash, L: Ledger>(
     ensures blames { BlamesOnly root.now (fault_in result) }
     ensures good { KeepsGood S.X.block32 (S.seen store.old).told (S.seen store.new).told }
     ensures saves { SavesOnly S.X.block32 (S.seen store.old).told (S.seen store.new).told }
+    ensures no_other { (m : TheMeta) (l : List Named) → IsPlanned S.X.block32 N.name64 p.now m root.now l
+        → StaysAgreed (S.seen store.old).told (S.seen store.new).told (own_blocks S.X.block32 N.name64 p.now m l)
+        → CanRise (S.seen store.old)
+        → SavesAmong S.X.block32 (removal_blocks S.X.block32 N.name64 p.now m name.now l)
+        (S.seen store.old).told (S.seen store.new).told }
     ensures touches { (m : TheMeta) (l : List Named) → IsPlanned S.X.block32 N.name64 p.now m root.now l
         → StaysAgreed (S.seen store.old).told (S.seen store.new).told (own_blocks S.X.block32 N.name64 p.now m l)
         → Stood (S.seen store.old).faults (S.seen store.new).faults
@@ -174,6 +190,9 @@ fn remove_basic<S: Store, N: NameHash, L: Ledger>(
     ensures takes { TakesBasic S.X.block32 N.name64 p.now node.now.meta name.now node.now.pairs
         (S.seen store.old).told (S.seen store.new).told result }
     ensures saves { OnlySaves S.X.block32 NoneIsBad (fault_in result) (S.seen store.old) (S.seen store.new) }
+    ensures no_other { SavesAmong S.X.block32
+        (dir_held S.X.block32 node.now.meta (without name.now node.now.pairs) ∷ [])
+        (S.seen store.old).told (S.seen store.new).told }
     ensures touches { touches.new ≤ touches.old + 1 }
     ensures absent { IfOk result (λ left. left ≡ None → touches.new ≡ touches.old) }
     ensures touched { touches.old ≤ touches.new }
@@ -205,6 +224,12 @@ fn remove_sharded<S: Store, N: NameHash, L: Ledger>(
         (S.seen store.old) (S.seen store.new) result }
     ensures saves { OnlySaves S.X.block32 (IsBadWeighed N.name64 (N.name64 name.now) (Some p.now)) (fault_in result)
         (S.seen store.old) (S.seen store.new) }
+    ensures no_other { (l : List Named) → IsShardPlan S.X.block32 N.name64 root.now meta.now l
+        → StaysAgreed (S.seen store.old).told (S.seen store.new).told (shard S.X.block32 N.name64 7 meta.now l).blocks
+        → CanRise (S.seen store.old)
+        → SavesAmong S.X.block32 ((shard S.X.block32 N.name64 7 meta.now (without name.now l)).blocks
+        ++ own_blocks S.X.block32 N.name64 p.now meta.now (without name.now l))
+        (S.seen store.old).told (S.seen store.new).told }
     ensures blames { BlamesOnly root.now (fault_in result) }
     ensures touches { (l : List Named)
         → StayShards S.X.block32 N.name64 meta.now root.now (S.seen store.old) (S.seen store.new) l
@@ -242,6 +267,10 @@ fn settled<S: Store, L: Ledger>(
     requires shard { IsShardCid S.X.block32 entry.cid }
     ensures settles { SettlesShards S.X.block32 p.now meta.now entry (S.seen store.old) (S.seen store.new) result }
     ensures saves { OnlySaves S.X.block32 IsBadShard (fault_in result) (S.seen store.old) (S.seen store.new) }
+    ensures no_other { (N : List ℕ → ℕ) (l : List Named) → IsShardPlan S.X.block32 N entry.cid meta.now l
+        → Agrees (S.seen store.old).told (shard S.X.block32 N 7 meta.now l).blocks → CanRise (S.seen store.old)
+        → SavesAmong S.X.block32 (own_blocks S.X.block32 N p.now meta.now l)
+        (S.seen store.old).told (S.seen store.new).told }
     ensures touches { (N : List ℕ → ℕ) (l : List Named)
         → AreShards S.X.block32 N meta.now entry (S.seen store.old) (S.seen store.new) l
         → touches.new ≤ touches.old + (weighing p.now (shard_count S.X.block32 N l)
@@ -269,6 +298,10 @@ fn in_one_block<S: Store, L: Ledger>(
     requires shard { IsShardCid S.X.block32 entry.cid }
     ensures settles { SettlesShards S.X.block32 p.now meta.now entry (S.seen store.old) (S.seen store.new) result }
     ensures saves { OnlySaves S.X.block32 IsBadShard (fault_in result) (S.seen store.old) (S.seen store.new) }
+    ensures no_other { (N : List ℕ → ℕ) (l : List Named) → IsShardPlan S.X.block32 N entry.cid meta.now l
+        → Agrees (S.seen store.old).told (shard S.X.block32 N 7 meta.now l).blocks → CanRise (S.seen store.old)
+        → SavesAmong S.X.block32 (own_blocks S.X.block32 N p.now meta.now l)
+        (S.seen store.old).told (S.seen store.new).told }
     ensures touches { (N : List ℕ → ℕ) (l : List Named)
         → AreShards S.X.block32 N meta.now entry (S.seen store.old) (S.seen store.new) l
         → touches.new ≤ touches.old + (shard_count S.X.block32 N l + 1) }
@@ -294,6 +327,8 @@ fn fitted<S: Store, L: Ledger>(
     ensures fits { (N : List ℕ → ℕ) → Fits S.X.block32 N p.now meta.now entry pairs.now
         (S.seen store.old).told (S.seen store.new).told result }
     ensures saves { OnlySaves S.X.block32 NoneIsBad (fault_in result) (S.seen store.old) (S.seen store.new) }
+    ensures no_other { (N : List ℕ → ℕ) → SavesAmong S.X.block32 (own_blocks S.X.block32 N p.now meta.now pairs.now)
+        (S.seen store.old).told (S.seen store.new).told }
     ensures touches { touches.new ≤ touches.old + 1 }
     ensures touched { touches.old ≤ touches.new }
 {

@@ -1,4 +1,4 @@
-// What an entry is.
+//! What an entry is.
 use uf_fileread::FileSize;
 use uf_tree::Meta;
 

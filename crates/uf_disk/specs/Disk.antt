@@ -6,5 +6,11 @@ use Rattle.uf_store.specs.Seen.{Seen}
 
 -- it tells nothing
 abbrev pub disk_seen : {X R : Type 0} {H : HashGhosts X} → DiskStore X R H → Seen
-disk_seen s =
-    record { told = None; lent = s.lent.items; finds = s.finds; misses = s.misses; faults = s.faults; clashes = s.clashes }
+disk_seen s = record {
+  told = None;
+  lent = s.lent.items;
+  finds = s.finds;
+  misses = s.misses;
+  faults = s.faults;
+  clashes = s.clashes;
+}

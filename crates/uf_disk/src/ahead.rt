@@ -1,4 +1,4 @@
-// Blocks that are read before they are loaded.
+//! Blocks that are read before they are loaded.
 ghost use Rattle.std.specs.Prelude.{◌≡◌, ◌<◌, ◌≤◌, ◌*◌, ℕ, [], IfSome, IsTrue, length, slice_index_or, vec_len};
 ghost use Rattle.uf_cid.specs.Bytes.{piece};
 ghost use Rattle.uf_disk.specs.Ahead.{IsWholeFor};
@@ -44,8 +44,9 @@ impl<X: BlockHash> Ahead<X> {
         }
     }
 
-    /// Reads the files of the first of these blocks in the place of those that are here, but where the first one is here.
-    /// A file of another length than the first one's, or one that can't be read, is left out with those behind it.
+    /// Reads the files of the first of these blocks in the place of those that are here, but where the first one is
+    /// here. A file of another length than the first one's, or one that can't be read, is left out with those after
+    /// it.
     pub fn read<R: Files + RandomSource>(&mut self, folder: &Folder<R>, cids: &[Cid]) {
         let Some(first) = cids.first() else {
             return;

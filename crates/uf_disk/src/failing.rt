@@ -1,4 +1,4 @@
-// Files of which one call fails.
+//! Files of which one call fails.
 use std::alloc::Allocator;
 use std::cell::Cell;
 use std::fs::{Files, Metadata, OpenOptions};

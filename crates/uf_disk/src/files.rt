@@ -1,4 +1,4 @@
-// Whole files and folders of the machine.
+//! Whole files and folders of the machine.
 ghost use Rattle.std.specs.Prelude.{◌≡◌, ◌≤◌, ◌+◌, length, vec_len, IfOk, OnOk};
 
 use std::alloc::{AllocError, AllocFailed};
@@ -52,7 +52,7 @@ pub fn length_of<R: Files>(files: &R, path: &str) -> Result<Option<u64>, Trouble
     }
 }
 
-/// Reads so many bytes of a file, in one read where the machine gives them at once.
+/// Reads n bytes of a file, in one read where the machine gives them at once.
 pub fn read_file<R: Files>(
     files: &R,
     path: &str,
@@ -67,7 +67,7 @@ pub fn read_file<R: Files>(
     Ok(())
 }
 
-/// Reads so many bytes of a file behind those of a buffer.
+/// Reads n bytes of a file after those of a buffer.
 pub fn append_from<R: Files>(
     files: &R,
     path: &str,
@@ -86,7 +86,7 @@ pub fn append_from<R: Files>(
 }
 
 /// Puts a file of these bytes at a path, by one act, in the place of what is there. The bytes are written under another
-/// name and made to outlive a stop before they get this one. What was begun is taken away where that fails.
+/// name and made durable before they get this one. What was begun is taken away where that fails.
 pub fn put_file<R: Files>(files: &R, new: &str, path: &str, bytes: &[u8]) -> Result<(), Trouble> {
     let put = write_and_rename(files, new, path, bytes);
     if put.is_err() {
@@ -106,7 +106,7 @@ fn write_and_rename<R: Files>(
     Ok(())
 }
 
-// Makes a new file of these bytes, which outlives a stop.
+// Makes a new file of these bytes, which is durable.
 fn write_file<R: Files>(files: &R, path: &str, bytes: &[u8]) -> Result<(), Trouble> {
     let mut file = OpenOptions::new()
         .write(true)
@@ -117,7 +117,7 @@ fn write_file<R: Files>(files: &R, path: &str, bytes: &[u8]) -> Result<(), Troub
     Ok(())
 }
 
-/// Puts a piece behind the bytes of a file, which is made where nothing is there.
+/// Puts a piece after the bytes of a file, which is made where nothing is there.
 pub fn append_file<R: Files>(files: &R, path: &str, piece: &[u8]) -> Result<(), Trouble> {
     let mut file = OpenOptions::new()
         .append(true)
@@ -150,15 +150,15 @@ pub fn make_folder<R: Files>(files: &R, path: &str) -> Result<bool, Trouble> {
     }
 }
 
-/// Makes the names in a folder outlive a stop.
+/// Makes the names in a folder durable.
 pub fn sync_folder<R: Files>(files: &R, path: &str) -> Result<(), Trouble> {
     let folder = fs::open(files, path)?;
     folder.sync_all()?;
     Ok(())
 }
 
-/// Takes the file at a path away: whether one was there. A link to a file goes, and the file stays; anything else that is
-/// there stays.
+/// Takes the file at a path away: whether one was there. A link to a file goes, and the file stays; anything else that
+/// is there stays.
 pub fn remove_file<R: Files>(files: &R, path: &str) -> Result<bool, Trouble> {
     if !is_file(files, path)? {
         return Ok(false);

@@ -1,7 +1,7 @@
-// A store of blocks and notes in files.
+//! A store of blocks and notes in files.
 ghost use Rattle.std.specs.Prelude.{◌≡◌, ◌≤◌, ◌+◌, length, IfOk, OnErr};
 ghost use Rattle.uf_store.specs.Contents.{Contents};
-ghost use Rattle.uf_store.specs.Seen.{Loads, ReadsNote, Saves, Syncs, Writes, WritesNote};
+ghost use Rattle.uf_store.specs.Seen.{Loads, Looks, ReadsNote, Saves, Syncs, Writes, WritesNote};
 
 use crate::ahead::Ahead;
 use crate::files::Trouble;
@@ -14,13 +14,13 @@ use std::random::RandomSource;
 use std::sync::ledger::Ledger;
 use uf_cid::{Block, BlockHash, Cid, Cids};
 use uf_edge::Put;
-use uf_store::{Load, Note, NoteRead, Save, Steps, Store, Sweep, Swept};
+use uf_store::{Load, Note, NoteRead, Presence, Save, Steps, Store, Sweep, Swept};
 
 /// Keeps blocks and notes in the folder `.unixfs` of the working folder, which it makes at the first write. It tells
 /// nothing of what is there.
 ///
 /// A block is the file `blocks/XY/CID`, where XY are the last two characters of the CID's text; a note is the file
-/// `head` or `pins`. A file gets its name when it is whole and outlives a stop, so none is ever seen half written. Two
+/// `head` or `pins`. A file gets its name when it is whole and durable, so none is ever seen half written. Two
 /// processes at once are not supported: the later one may make the earlier one fail, but no file is torn.
 #[derive(Drop)]
 pub struct DiskStore<X: BlockHash, R> {
@@ -144,6 +144,22 @@ impl<X: BlockHash, R: Files + RandomSource> Store for DiskStore<X, R> {
                 Load::Failed
             }
             Err(Trouble::Memory) => Load::Memory,
+        }
+    }
+
+    fn holds<L: Ledger>(&mut self, cid: &Cid, touches: &mut Steps<L>) -> Presence {
+        touches.tick();
+        match self.folder.has_block(cid) {
+            Ok(true) => Presence::There,
+            Ok(false) => {
+                self.misses = self.misses.saturating_add(1);
+                Presence::Missing
+            }
+            Err(Trouble::Failed) => {
+                self.faults = self.faults.saturating_add(1);
+                Presence::Failed
+            }
+            Err(Trouble::Memory) => Presence::Memory,
         }
     }
 

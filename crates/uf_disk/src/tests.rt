@@ -1,4 +1,4 @@
-// Rows of a store and of a host, in the folder that the test runs in.
+//! Rows of a store and of a host, in the folder that the test runs in.
 ghost use Rattle.std.specs.Prelude.{◌≡◌, ◌<◌};
 ghost use Rattle.uf_cid.specs.Cid.{cid_of};
 ghost use Rattle.uf_cid.specs.declared.cid.Codec.TheVariants.{Raw};
@@ -14,7 +14,7 @@ use std::sync::ledger::{Blank, Ledger};
 use std::{fs, io};
 use uf_cid::{BlockHash, Cid, Cids, Codec, Sha256Hash, Sum8Hash};
 use uf_edge::{Fetched, Host, Kind, Listing, Put};
-use uf_store::{Load, Note, NoteRead, Save, Steps, Store, Sweep, Swept};
+use uf_store::{Load, Note, NoteRead, Presence, Save, Steps, Store, Sweep, Swept};
 
 // What is done with a store or with its files, and what is to come of it.
 #[derive(Clone, Copy)]
@@ -22,6 +22,7 @@ enum Step {
     // A store anew, over the same files.
     Anew,
     Loads(&'static [u8], Load),
+    Asks(&'static [u8], Presence),
     Lends(&'static [u8]),
     Saves(&'static [u8], Save),
     Syncs(Put),
@@ -58,8 +59,9 @@ enum Text {
 const HALF_WRITTEN: &str = ".unixfs/new-0";
 
 // What is saved and noted is there again, for another store too.
-const KEEPS: [Step; 12] = [
+const KEEPS: [Step; 14] = [
     Step::Loads(b"a", Load::Missing),
+    Step::Asks(b"a", Presence::Missing),
     Step::Reads(Note::Head, Text::Absent),
     Step::Saves(b"a", Save::Done),
     Step::Loads(b"a", Load::Found),
@@ -68,14 +70,16 @@ const KEEPS: [Step; 12] = [
     Step::Syncs(Put::Done),
     Step::Writes(Put::Done),
     Step::Anew,
+    Step::Asks(b"a", Presence::There),
     Step::Loads(b"a", Load::Found),
     Step::Reads(Note::Head, Text::Whole),
     Step::Reads(Note::Pins, Text::Absent),
 ];
 
-// A file that isn't its CID's is damaged until the block is saved again; what isn't a file can't be used.
-const MENDS: [Step; 12] = [
+// A file that isn't its CID's is there, and damaged until the block is saved again; what isn't a file can't be used.
+const MENDS: [Step; 14] = [
     Step::Spoils,
+    Step::Asks(b"a", Presence::There),
     Step::Loads(b"a", Load::Damaged),
     Step::Saves(b"a", Save::Done),
     Step::Loads(b"a", Load::Found),
@@ -84,6 +88,7 @@ const MENDS: [Step; 12] = [
     Step::Saves(b"a", Save::Done),
     Step::Loads(b"a", Load::Found),
     Step::Blocks,
+    Step::Asks(b"a", Presence::Failed),
     Step::Loads(b"a", Load::Failed),
     Step::Saves(b"a", Save::Failed),
     Step::Frees,
@@ -284,6 +289,9 @@ fn goes<'a, X: BlockHash, L: Ledger, R: Files + RandomSource>(
         Step::Loads(bytes, answer) => {
             return Ok(store.load(&cid_of_raw::<X>(*bytes), touches) == *answer);
         }
+        Step::Asks(bytes, answer) => {
+            return Ok(store.holds(&cid_of_raw::<X>(*bytes), touches) == *answer);
+        }
         Step::Lends(bytes) => return Ok(store.block() == *bytes),
         Step::Saves(bytes, answer) => return Ok(saves(store, *bytes, touches) == *answer),
         Step::Foresees => store.foresee(&[cid_of_raw::<X>(b"a"), cid_of_raw::<X>(b"b")]),
@@ -322,8 +330,8 @@ fn are_right<X: BlockHash, L: Ledger, R: Files + RandomSource>(
     Ok(count_right::<X, L, R>(alloc, files, steps, touches)? == steps.len())
 }
 
-// Where the call of the machine with this number fails, one of three writes fails, no file is torn, and the writes can be
-// done again. Where there are fewer calls, none does.
+// Where the call of the machine with this number fails, one of three writes fails, no file is torn, and the writes can
+// be done again. Where there are fewer calls, none does.
 fn survives<L: Ledger, R: Files + RandomSource>(
     alloc: Global,
     files: &R,
@@ -441,8 +449,11 @@ enum HostStep {
     Lists(&'static str, &'static [&'static str]),
 }
 
-// A host makes, grows, lists and reads files.
-const HOSTS: [HostStep; 18] = [
+// A host makes, grows, lists and reads files. At the empty path it makes nothing.
+const HOSTS: [HostStep; 21] = [
+    HostStep::Is("", Kind::Absent),
+    HostStep::Makes("", Put::Failed),
+    HostStep::Appends("", b"x", Put::Failed),
     HostStep::Is("host", Kind::Absent),
     HostStep::Makes("host", Put::Done),
     HostStep::Makes("host", Put::Failed),

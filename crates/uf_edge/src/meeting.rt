@@ -1,4 +1,4 @@
-// What a walk over a host's folders meets.
+//! What a walk over a host's folders meets.
 ghost use Rattle.std.specs.Prelude.{◌≡◌};
 ghost use Rattle.uf_edge.specs.Counts.{Counts};
 ghost use Rattle.uf_edge.specs.Meeting.{Meets, is_meeting_fault};

@@ -1,7 +1,7 @@
 -- How often an edit touches the store, in numbers.
 use Rattle.std.proofs.Common.{◌≡◌, ◌≢◌, ℕ, zero, suc, ◌+◌, ◌-◌, ◌*◌, ◌/◌, ◌<◌, ◌≤◌, ◌^◌, List, [], ◌∷◌, length, take, drop, min, max, refl, ap, arith, sym, ◌∙◌, subst, Bool, true, false, Option, None, Some, ◌⊎◌, inl, inr, mul_assoc, mul_comm, IsTrue}
 use Rattle.std.specs.Prelude.{◌==◌, ◌&&◌, nat_lt, slice_get, get_or, cond, Result, IfErr, IfOk, Ok, Err}
-use Rattle.std.proofs.Math.Nat.{add-mul, mul-add, mul-sub, mul-le-mul_left, mul-le-mul_right, div-mul-le_self, lt-div-mul-add, lt_of_mul-lt-mul_right}
+use Rattle.std.proofs.Math.Nat.{add-mul, mul-add, mul-sub, mul-le-mul, mul-le-mul_left, mul-le-mul_right, div-mul-le_self, lt-div-mul-add, lt_of_mul-lt-mul_right}
 use Rattle.std.proofs.lemmas.Bool.{cases_lt}
 use Rattle.std.proofs.lemmas.Bool.Decides.{nat_tests}
 use Rattle.uf_store.specs.Clashes.{IsSaving}
@@ -335,11 +335,33 @@ front-size p some top height below root first d (m ∷ ms) low is first_is few p
 
 pub write-costs : (c old size offset more rows after t0 t1 : ℕ) → 1 ≤ c → 1 ≤ more → size ≡ max old (offset + more) → ((a z : ℕ) → IsEditWithin c old size offset more a z → t1 ≤ t0 + 3 + (rows - after) + 2 * (after + 1) * (z - a))
     → t1 ≤ t0 + edit_touches (written_chunks c old offset more) (max rows after)
-write-costs c old size offset more rows after t0 t1 pos some is cost =
-    edit-spent rows after (written_chunks c old offset more) t0 t1 (cost (min offset (old - 1) / c) ((offset + more + c - 1) / c) (subst (λ n. IsEditWithin c old n offset more (min offset (old - 1) / c) ((offset + more + c - 1) / c)) (sym is) (write-within c old offset more pos some)))
+write-costs c old size offset more rows after t0 t1 pos some is cost = by (more == 0) refl
+  where
+    by : (t : Bool) → t ≡ (more == 0) → t1 ≤ t0 + edit_touches (written_chunks c old offset more) (max rows after)
+    by true e = absurd (let none : more ≡ 0 = eq_true more 0 (sym e) in omega arith)
+    by false e =
+        subst (λ n. t1 ≤ t0 + edit_touches n (max rows after)) (ap (λ (t : Bool). cond t 0 (chunks_met c (min offset (old - 1)) (offset + more))) e)
+        (edit-spent rows after (chunks_met c (min offset (old - 1)) (offset + more)) t0 t1 (cost (min offset (old - 1) / c) ((offset + more + c - 1) / c) (subst (λ n. IsEditWithin c old n offset more (min offset (old - 1) / c) ((offset + more + c - 1) / c)) (sym is) (write-within c old offset more pos some))))
 
 differs_test : (a b : ℕ) → a ≡ b → (a == b) ≡ false → ⊥
 differs_test a b h e = grind (arith, nat_tests)
+
+-- a file that is made of no bytes
+pub empty-costs : (c offset more after rows t0 t1 : ℕ) → more ≡ 0 → after ≤ rows → ((a z : ℕ) → IsEditWithin c 0 0 offset more a z → t1 ≤ t0 + 3 + 2 * (after + 1) * (z - a)) → t1 ≤ t0 + edit_touches (written_chunks c 0 offset more) rows
+empty-costs c offset more after rows t0 t1 none low cost =
+    let few : t1 ≤ t0 + 3 + 2 * (after + 1) * 0 = cost 0 0 (record { laid = λ h. absurd (omega arith); ends = λ h. absurd (h refl) }) in
+    let most : 2 * 2 * 2 ≤ edit_touches (written_chunks c 0 offset more) rows = mul-le-mul (let e : 2 * 2 ≤ 2 * (written_chunks c 0 offset more + 2) = omega arith in e) (let e : 2 ≤ rows + 2 = omega arith in e) in
+    omega arith
+
+-- and one of some bytes
+pub new-within : (p : Profile) (top h size offset more a z : ℕ) → size ≢ 0 → IsEditWithin p.chunk 0 size offset more a z → IsChangeWithin p top (h + 1) None size offset more a z
+new-within p top h size offset more a z some is =
+    let ends = is.ends (λ same. some (sym same)) in
+    record {
+      fits = (let e : 0 ≤ span p.chunk p.width (min top (h + 1)) = omega arith in e);
+      laid = is.laid;
+      ends = λ changed. ((let from : a * p.chunk ≤ min 0 size - 1 = ends.0 in from), ends.1, ends.2);
+    }
 
 pub cut-costs : (c old size rows after t0 t1 : ℕ) → 1 ≤ c → ((a z : ℕ) → IsEditWithin c old size 0 0 a z → t1 ≤ t0 + 3 + (rows - after) + 2 * (after + 1) * (z - a))
     → t1 ≤ t0 + edit_touches (cut_chunks c old size) (max rows after)

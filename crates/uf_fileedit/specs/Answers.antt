@@ -19,7 +19,7 @@ RefusesTooLong long (Err FileTooLong) = long ≡ true
 RefusesTooLong long (Err Spent) = ⊥
 RefusesTooLong long (Err (Store fault)) = long ≡ false
 
--- the answer is this entry, or one of these blocks that isn't held is missing; want of memory is free, and of a file
+-- the answer is this entry, or one of these blocks that isn't held is missing; out of memory is free, and of a file
 -- that would be too long nothing is said here
 abbrev pub EditsOver : Told → List Held → Entry → Result Entry BuildFault → Type 0
 EditsOver told l entry (Ok e) = e ≡ entry

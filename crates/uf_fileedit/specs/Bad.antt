@@ -19,7 +19,7 @@ pub record IsUnder (hash : List ℕ → List ℕ) (told : Told) (cid : Cid) (byt
   pub digest : hash bytes ≡ cid.digest
   pub is_held : HoldsOne told cid bytes
 
--- the root block of a file says that it has so many bytes
+-- the root block of a file says that it has n bytes
 pub record SaysWhole (hash : List ℕ → List ℕ) (p : Profile) (told : Told) (root : Cid) (whole : ℕ) : Type 0 where
   pub block : List ℕ
   pub is_under : IsUnder hash told root block

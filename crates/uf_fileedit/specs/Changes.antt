@@ -21,7 +21,7 @@ use Rattle.uf_tree.specs.Cutting.{joined}
 use Rattle.uf_tree.specs.FilePlan.{file_plan, groups}
 use Rattle.uf_tree.specs.FileSub.{blocks_over, part_over, span}
 
--- the first byte, and those behind it; behind the end are zeros
+-- the first byte, and those after it; after the end are zeros
 abbrev pub first : List ℕ → ℕ
 first [] = 0
 first (y ∷ b) = y
@@ -30,7 +30,7 @@ abbrev pub rest : List ℕ → List ℕ
 rest [] = []
 rest (y ∷ b) = b
 
--- so many bytes: those of b and then zeros, with x over them from a place on
+-- n bytes: those of b and then zeros, with x over them from a place on
 abbrev pub overlaid : ℕ → List ℕ → ℕ → List ℕ → List ℕ
 overlaid zero b offset x = []
 overlaid (suc n) b zero [] = first b ∷ overlaid n (rest b) zero []
@@ -95,7 +95,7 @@ pub record GivesAll (X : List ℕ → List ℕ) (p : Profile) (told : Told) (old
   pub same : parts ≡ map (part_over X p.chunk p.width k) gs
   pub known : AllByRecursion (IsKnown told olds) (flat_map (blocks_over X p.chunk p.width k) gs)
 
--- a piece that is written within so many bytes
+-- a piece that is written within n bytes
 abbrev pub LiesWithin : ℕ → ℕ → List ℕ → Type 0
 LiesWithin size offset piece = 1 ≤ length piece → offset + length piece ≤ size
 
@@ -147,7 +147,7 @@ MakesPart X p top k target piece before now answer =
     → IfOk answer (λ m. GivesPart X p now (old_blocks X p (min top k) target.old b) k m
     (overlaid target.size b target.offset piece))
 
--- where the store has stayed calm besides, a fault is that one of the old part's blocks is lost, or want of memory
+-- where the store has stayed calm besides, a fault is that one of the old part's blocks is lost, or out of memory
 abbrev pub LosesOfPart : (List ℕ → List ℕ) → Profile → ℕ → Option Part → Seen → Seen → Result Part StoreFault → Type 0
 LosesOfPart X p k old before now answer =
     (b : List ℕ) → IsOld X p k old b → Agrees before.told (old_blocks X p k old b)
@@ -192,7 +192,7 @@ MakesRoot X p top j k olds target piece before now answer =
     → IfOk answer (λ parts. GivesAll X p now (blocks_of_all X p j gs) k parts
     (groups (span p.chunk p.width k) (overlaid target.size (joined gs) target.offset piece)))
 
--- where the store has stayed calm besides, a fault is that one of their blocks is lost, or want of memory
+-- where the store has stayed calm besides, a fault is that one of their blocks is lost, or out of memory
 abbrev pub LosesOfRoot : (List ℕ → List ℕ) → Profile → ℕ → ℕ → List Part → Seen → Seen
     → Result (List Part) StoreFault → Type 0
 LosesOfRoot X p top j olds before now answer =

@@ -20,7 +20,7 @@ is_of_height zero DagPb = false
 is_of_height (suc k) Raw = false
 is_of_height (suc k) DagPb = true
 
--- whether parts are those of a node over so many bytes: each has s of them, the last one what is left, and this height
+-- whether parts are those of a node over n bytes: each has s of them, the last one what is left, and this height
 abbrev pub are_planned : ℕ → ℕ → ℕ → List Part → Bool
 are_planned s k size [] = size == 0
 are_planned s k size (m ∷ ms) =
@@ -62,7 +62,7 @@ pub record AreHeights (p : Profile) (old size : ℕ) (at : Heights) : Type 0 whe
   pub height_is : at.height ≡ after - 1
   pub first_is : at.first ≡ min old (span p.chunk p.width (at.height + 1))
 
--- the parts, of this height, of a node of so many bytes below the root of a file of so many rows: at most 22 nodes are
+-- the parts, of this height, of a node of n bytes below the root of a file of so many rows: at most 22 nodes are
 -- above the parts, and the node carries no metadata
 pub record IsPlannedNode (p : Profile) (rows k size : ℕ) (parts : NodeParts) : Type 0 where
   pub valid : AreParts parts

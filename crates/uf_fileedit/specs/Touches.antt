@@ -16,10 +16,10 @@ use Rattle.uf_tree.specs.FileSub.{span}
 abbrev pub chunks_met : ℕ → ℕ → ℕ → ℕ
 chunks_met c from to = (to + c - 1) / c - from / c
 
--- how many chunks a write changes: from the first one that is laid over, or from the old last one where the piece is
--- behind it
+-- how many chunks a write changes: none with no bytes, else from the first one that is laid over, or from the old last
+-- one where the piece is after it
 abbrev pub written_chunks : ℕ → ℕ → ℕ → ℕ → ℕ
-written_chunks c old offset more = chunks_met c (min offset (old - 1)) (offset + more)
+written_chunks c old offset more = if more == 0 then 0 else chunks_met c (min offset (old - 1)) (offset + more)
 
 -- how many chunks a file gets or keeps a part of where its length changes: from the last one that was there before, or
 -- is now

@@ -14,7 +14,7 @@ use Rattle.uf_tree.specs.Roles.{IsSpanned}
 use Rattle.uf_fileedit.specs.Bad.{IsBadEdited, IsWay, SaysWhole, way_end, way_size}
 use Rattle.uf_fileedit.specs.Planned.{bytes_over, is_of_height}
 
--- a node of this height and size, below so many nodes, has its place in a file of so many bytes and rows of nodes
+-- a node of this height and size, below so many nodes, has its place in a file of n bytes and rows of nodes
 pub record HasPlaceBelow (p : Profile) (whole rows k size above : ℕ) : Type 0 where
   pub high : IsHeight p.chunk p.width whole rows
   pub count : above + k ≡ rows

@@ -1,4 +1,4 @@
-// Parts of a file changed, from the root down.
+//! Parts of a file changed, from the root down.
 ghost use Rattle.std.specs.Prelude.{◌≡◌, ◌⊎◌, ◌+◌, ◌-◌, ◌*◌, ◌<◌, ◌≤◌, ℕ, List, [], ◌∷◌, length, min, slice_get, IfErr, IfNone, IfOk, IfSome, IsTrue, None, Some};
 ghost use Rattle.std.specs.List.{sum_by};
 ghost use Rattle.uf_edge.specs.Counts.{Stood};
@@ -21,7 +21,7 @@ use uf_build::save_node;
 use uf_store::{Steps, Store, StoreFault};
 use uf_tree::{Part, Parts, Profile};
 
-// What is made of an old part, where there is one: so many bytes, and a piece is laid over them from a place on.
+// What is made of an old part, where there is one: n bytes, and a piece is laid over them from a place on.
 #[derive(Clone, Copy)]
 pub struct Target {
     pub old: Option<Part>,

@@ -1,4 +1,4 @@
-// Files written into and cut.
+//! Files written into and cut.
 ghost use Rattle.std.specs.Prelude.{◌≡◌, ◌↔◌, ◌+◌, ◌-◌, ◌<◌, ◌≤◌, ◌^◌, ◌*◌, ◌&&◌, max, ℕ, List, [], length, nat_lt, IfErr, IfOk, IfSome, IsTrue, OnOk, Ok};
 ghost use Rattle.uf_edge.specs.Counts.{Stood};
 ghost use Rattle.uf_fileread.specs.Ranges.{IsFile};
@@ -27,7 +27,7 @@ use uf_store::{Steps, Store, StoreFault};
 use uf_tree::{Entry, Part, Profile};
 
 /// Lays a piece over the bytes of a file from `offset` on, and answers the entry of the new file. Zeros stand between
-/// the end of the old bytes and an offset behind it. With an empty piece the entry is as it was, and nothing is saved.
+/// the end of the old bytes and an offset after it. With an empty piece the entry is as it was, and nothing is saved.
 pub fn write_at<S: Store, L: Ledger>(
     alloc: Global,
     store: &mut S,

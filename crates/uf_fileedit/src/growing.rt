@@ -1,4 +1,4 @@
-// The parts below the root of a changed file, made of those below the old root.
+//! The parts below the root of a changed file, made of those below the old root.
 ghost use Rattle.std.specs.Prelude.{◌≡◌, ◌+◌, ◌-◌, ◌*◌, ◌<◌, ◌≤◌, ◌^◌, ℕ, List, [], ◌∷◌, length, min, IfErr, IfOk, IsTrue, Some};
 ghost use Rattle.std.specs.List.{sum_by};
 ghost use Rattle.uf_edge.specs.Counts.{Stood};
@@ -228,7 +228,7 @@ fn grown<S: Store, L: Ledger>(
     Ok(behind(alloc, first, news.as_slice())?)
 }
 
-// A part, and others behind it.
+// A part, and others after it.
 fn behind(alloc: Global, first: Part, rest: &[Part]) -> Result<Parts, Memory>
     ensures { IfOk result (λ parts. parts ≡ first ∷ rest.now) }
 {

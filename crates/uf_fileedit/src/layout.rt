@@ -1,4 +1,4 @@
-// The balanced layout in numbers.
+//! The balanced layout in numbers.
 ghost use Rattle.std.specs.Prelude.{◌≡◌, ◌-◌, ◌<◌, ◌^◌, ◌==◌, ◌&&◌, nat_lt, min, IsTrue};
 ghost use Rattle.uf_tree.specs.FileSub.{IsHeight, span};
 ghost use Rattle.uf_tree.specs.Profiles.{is_profile};
@@ -58,7 +58,7 @@ pub fn span_of(p: &Profile, height: u8) -> u64
     size
 }
 
-// The height of a file of so many bytes: the least at which they fit.
+// The height of a file of n bytes: the least at which they fit.
 pub fn height_of(p: &Profile, size: u64) -> u8
     requires { IsTrue (is_profile p.now) }
     ensures { IsHeight p.now.chunk p.now.width size result }
@@ -71,7 +71,7 @@ pub fn height_of(p: &Profile, size: u64) -> u8
     64
 }
 
-// Whether parts are those of a node over so many bytes, each part of this height.
+// Whether parts are those of a node over n bytes, each part of this height.
 pub fn are_planned(p: &Profile, height: u8, size: u64, parts: &[Part]) -> bool
     requires { IsTrue (is_profile p.now) }
     ensures { result ≡ planned_of (span p.now.chunk p.now.width height) height size parts.now }
@@ -87,7 +87,7 @@ pub fn are_planned(p: &Profile, height: u8, size: u64, parts: &[Part]) -> bool
     rest == 0
 }
 
-// Whether a part of this height is the next of those over so many bytes.
+// Whether a part of this height is the next of those over n bytes.
 fn is_next(height: u8, rest: u64, most: u64, part: &Part) -> bool
     ensures { result ≡ (nat_lt 0 part.now.size && (part.now.size == min rest most) && height_of_codec height
         part.now.entry.cid.codec) }

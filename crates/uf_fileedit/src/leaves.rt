@@ -1,4 +1,4 @@
-// Pieces of a file changed.
+//! Pieces of a file changed.
 ghost use Rattle.std.specs.Prelude.{◌≡◌, ◌+◌, ◌-◌, ◌<◌, ◌≤◌, ◌^◌, ◌++◌, ℕ, List, [], ◌∷◌, length, take, drop, replicate, IfErr, IfOk, OnErr, OnOk, Some};
 ghost use Rattle.uf_edge.specs.Counts.{Stood};
 ghost use Rattle.uf_store.specs.Clashes.{IsSaving};
@@ -19,7 +19,7 @@ use uf_cid::{Cid, Codec, Memory};
 use uf_store::{Role, Steps, Store, StoreFault, need, save_under};
 use uf_tree::{Entry, Part};
 
-// Saves a piece of so many bytes: those of the old piece, where there is one, cut or filled with zeros, and a part of
+// Saves a piece of n bytes: those of the old piece, where there is one, cut or filled with zeros, and a part of
 // what is written laid over them.
 pub fn change_leaf<S: Store, L: Ledger>(
     alloc: Global,

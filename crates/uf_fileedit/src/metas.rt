@@ -1,4 +1,4 @@
-// The metadata of files.
+//! The metadata of files.
 ghost use Rattle.std.specs.Prelude.{◌≡◌, ◌+◌, ◌≤◌, ℕ, List, [], ◌∷◌, IsTrue, OnOk};
 ghost use Rattle.uf_cid.specs.Blocks.{Held};
 ghost use Rattle.uf_edge.specs.Counts.{Stood};

@@ -1,4 +1,4 @@
-// Old nodes of a file below its root.
+//! Old nodes of a file below its root.
 ghost use Rattle.std.specs.Prelude.{◌≡◌, ◌↔◌, ◌+◌, ◌≤◌, ℕ, List, [], ◌∷◌, length, min, IfErr, IfOk, IsTrue, Some};
 ghost use Rattle.uf_edge.specs.Counts.{Stood};
 ghost use Rattle.uf_fileread.specs.Parts.{parts_block};
@@ -65,7 +65,7 @@ pub fn load_parts<S: Store, L: Ledger>(
     }
 }
 
-// The parts, each of this height, of a node over so many bytes, in a file of so many rows of nodes.
+// The parts, each of this height, of a node over n bytes, in a file of so many rows of nodes.
 fn read_planned(
     alloc: Global,
     bytes: &[u8],

@@ -31,41 +31,48 @@ range_of offset count bytes = take count (drop offset bytes)
 abbrev pub meets : ℕ → ℕ → List ℕ → Bool
 meets offset count bytes = nat_lt offset (length bytes) && nat_lt 0 count
 
--- the blocks of those of some consecutive groups that a range meets; `of` gives the blocks of one group and its part of the range
+-- the blocks of those of some consecutive groups that a range meets; `of` gives the blocks of one group and its part
+-- of the range
 abbrev pub blocks_met : (ℕ → ℕ → List ℕ → List Held) → ℕ → ℕ → List (List ℕ) → List Held
 blocks_met of offset count [] = []
-blocks_met of offset count (g ∷ gs) = (if meets offset count g then of offset count g else []) ++ blocks_met of (offset - length g) (count - (length g - offset)) gs
+blocks_met of offset count (g ∷ gs) = (if meets offset count g then of offset count g else [])
+    ++ blocks_met of (offset - length g) (count - (length g - offset)) gs
 
 -- how many of some consecutive groups a range meets
 abbrev pub met_among : ℕ → ℕ → List (List ℕ) → ℕ
 met_among offset count [] = 0
-met_among offset count (g ∷ gs) = (if meets offset count g then 1 else 0) + met_among (offset - length g) (count - (length g - offset)) gs
+met_among offset count (g ∷ gs) = (if meets offset count g then 1 else 0)
+    + met_among (offset - length g) (count - (length g - offset)) gs
 
 -- how many pieces of some bytes a range meets
 abbrev pub pieces_met : ℕ → ℕ → ℕ → List ℕ → ℕ
 pieces_met c offset count bytes = met_among offset count (groups c bytes)
 
--- the blocks that are needed to read a range of the part of this height over these bytes, whose node carries this metadata: its
--- own, and below it those that the range meets, each node before its links and the links from left to right
+-- the blocks that are needed to read a range of the part of this height over these bytes, whose node carries this
+-- metadata: its own, and below it those that the range meets, each node before its links and the links from left to
+-- right
 unfoldable pub blocks_read : (List ℕ → List ℕ) → ℕ → ℕ → Meta → ℕ → ℕ → ℕ → List ℕ → List Held
 blocks_read X c w meta zero offset count bytes = leaf_held X bytes ∷ []
 blocks_read X c w meta (suc k) offset count bytes =
-    root_held X meta (map (part_over X c w k) (groups (span c w k) bytes)) ∷ blocks_met (λ o n g. blocks_read X c w none k o n g) offset count (groups (span c w k) bytes)
+    root_held X meta (map (part_over X c w k) (groups (span c w k) bytes))
+    ∷ blocks_met (λ o n g. blocks_read X c w none k o n g) offset count (groups (span c w k) bytes)
 
 -- for each piece that a range meets one block in each row is needed, and the root
 abbrev pub FewAreRead : (List ℕ → List ℕ) → ℕ → ℕ → Meta → ℕ → ℕ → ℕ → List ℕ → Type 0
-FewAreRead X c w meta height offset count bytes = length (blocks_read X c w meta height offset count bytes) ≤ 1 + pieces_met c offset count bytes * height
+FewAreRead X c w meta height offset count bytes = length (blocks_read X c w meta height offset count bytes)
+    ≤ 1 + pieces_met c offset count bytes * height
 
--- the CID is that of the plan of this metadata and these bytes, which a file of this profile may have, and the plan has this
--- height
-pub record IsFile (X : List ℕ → List ℕ) (p : Profile) (meta : Meta) (bytes : List ℕ) (cid : Cid) (height : ℕ) : Type 0 where
+-- the CID is that of the plan of this metadata and these bytes, which a file of this profile may have, and the plan
+-- has this height
+pub record IsFile (X : List ℕ → List ℕ) (p : Profile) (meta : Meta) (bytes : List ℕ) (cid : Cid)
+    (height : ℕ) : Type 0 where
   pub profile : IsTrue (is_profile p)
   pub good : IsTrue (is_meta meta)
   pub few : length bytes ≤ most_bytes p
   pub cid_is : cid ≡ (file_plan X p meta bytes).entry.cid
   pub rooted : IsRooted X p meta bytes (file_plan X p meta bytes) height
 
--- the fault is that the first of these blocks that isn't held is missing, or want of memory
+-- the fault is that the first of these blocks that isn't held is missing, or out of memory
 abbrev pub IsFirstLossOf : Told → List Held → StoreFault → Type 0
 IsFirstLossOf told l Failed = ⊥
 IsFirstLossOf told l (Damaged cid) = ⊥
@@ -74,14 +81,14 @@ IsFirstLossOf told l (BadBlock cid role) = ⊥
 IsFirstLossOf told l (Clash cid held bytes) = ⊥
 IsFirstLossOf told l Memory = ⊤
 
--- where these blocks are held the answer is the number of the bytes, which are behind what the sink held; else the first of them that
--- isn't held is missing, unless the sink failed before; want of memory is free
+-- where these blocks are held the answer is the number of the bytes, which are after what the sink held; else the
+-- first of them that isn't held is missing, unless the sink failed before; out of memory is free
 abbrev pub WritesOver : Told → List Held → List ℕ → SinkTold → SinkTold → Result ℕ RangeFault → Type 0
 WritesOver told l bytes held held_now (Ok n) = (n ≡ length bytes) × Holds told l × (held_now ≡ after held bytes)
 WritesOver told l bytes held held_now (Err Sink) = ⊤
 WritesOver told l bytes held held_now (Err (Store fault)) = IsFirstLossOf told l fault
 
--- so many bytes were appended to what the sink held
+-- n bytes were appended to what the sink held
 pub record AppendsCount (n : ℕ) (held held_now : SinkTold) : Type 0 where
   pub bytes : List ℕ
   pub count : length bytes ≡ n
@@ -99,7 +106,9 @@ SendsAtMost most held held_now (Ok n) = (n ≤ most) × AppendsCount n held held
 SendsAtMost most held held_now (Err fault) = AppendsAtMost most held held_now
 
 -- no fault was passed over: after Ok neither the store nor the sink has failed, and a fault shows its cause
-abbrev pub ShowsRange : (List ℕ → List ℕ) → (Role → List ℕ → Type 0) → Result ℕ RangeFault → Seen → Seen → ℕ → ℕ → Type 0
+abbrev pub ShowsRange : (List ℕ → List ℕ) → (Role → List ℕ → Type 0) → Result ℕ RangeFault → Seen → Seen → ℕ → ℕ
+    → Type 0
 ShowsRange hash IsBad (Ok n) before now faults faults_now = StaysCalm before now × (faults_now ≡ faults)
 ShowsRange hash IsBad (Err Sink) before now faults faults_now = StaysCalm before now × Rose faults faults_now
-ShowsRange hash IsBad (Err (Store fault)) before now faults faults_now = Shows hash IsBad fault before now × (faults_now ≡ faults)
+ShowsRange hash IsBad (Err (Store fault)) before now faults faults_now = Shows hash IsBad fault before now
+    × (faults_now ≡ faults)

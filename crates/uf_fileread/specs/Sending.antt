@@ -63,9 +63,10 @@ pub record Fits (p : Profile) (k : ℕ) (bytes : List ℕ) : Type 0 where
   pub few : length bytes ≤ span p.chunk p.width k
   pub small : length bytes < 2 ^ 63
 
--- the CID is that of the part of this height over these bytes, of which the node above declares the number; at the root it
--- is that of the whole file, with its metadata
-pub record IsFilePart (X : List ℕ → List ℕ) (p : Profile) (rows : ℕ) (meta : Meta) (k : ℕ) (cid : Cid) (declared : Option ℕ) (bytes : List ℕ) : Type 0 where
+-- the CID is that of the part of this height over these bytes, of which the node above declares the number; at the
+-- root it is that of the whole file, with its metadata
+pub record IsFilePart (X : List ℕ → List ℕ) (p : Profile) (rows : ℕ) (meta : Meta) (k : ℕ) (cid : Cid)
+    (declared : Option ℕ) (bytes : List ℕ) : Type 0 where
   pub profile : IsTrue (is_profile p)
   pub low : k ≤ rows
   pub good : IsTrue (is_meta meta)
@@ -75,14 +76,16 @@ pub record IsFilePart (X : List ℕ → List ℕ) (p : Profile) (rows : ℕ) (me
   pub fits : Fits p k bytes
 
 -- the parts are those of this height over these groups
-pub record ArePartsOver (X : List ℕ → List ℕ) (p : Profile) (rows k : ℕ) (parts : List Part) (gs : List (List ℕ)) : Type 0 where
+pub record ArePartsOver (X : List ℕ → List ℕ) (p : Profile) (rows k : ℕ) (parts : List Part)
+    (gs : List (List ℕ)) : Type 0 where
   pub profile : IsTrue (is_profile p)
   pub low : k ≤ rows
   pub same : parts ≡ map (part_over X p.chunk p.width k) gs
   pub fits : AllByRecursion (Fits p k) gs
 
 -- bytes were written, and the blocks that they need are held
-pub record WroteRange (told : Told) (l : List Held) (bytes : List ℕ) (held held_now : SinkTold) (touches touches_now n : ℕ) : Type 0 where
+pub record WroteRange (told : Told) (l : List Held) (bytes : List ℕ) (held held_now : SinkTold)
+    (touches touches_now n : ℕ) : Type 0 where
   pub count : n ≡ length bytes
   pub blocks : Holds told l
   pub written : held_now ≡ after held bytes
@@ -94,12 +97,15 @@ IsFirstLoss told l Sink = ⊤
 IsFirstLoss told l (Store fault) = IsFirstLossOf told l fault
 
 -- a prefix of the bytes was written
-pub record Stopped (told : Told) (l : List Held) (bytes : List ℕ) (held held_now : SinkTold) (faults faults_now touches touches_now : ℕ) (fault : RangeFault) : Type 0 where
+pub record Stopped (told : Told) (l : List Held) (bytes : List ℕ) (held held_now : SinkTold)
+    (faults faults_now touches touches_now : ℕ) (fault : RangeFault) : Type 0 where
   pub loss : Stood faults faults_now → IsFirstLoss told l fault
   pub written : AppendsPrefix bytes held held_now
   pub steps : touches_now ≤ touches + length l
 
 -- the answer of the reading of a range, over the blocks that it needs
 abbrev pub ReadsPart : Told → List Held → List ℕ → SinkTold → SinkTold → ℕ → ℕ → ℕ → ℕ → Result ℕ RangeFault → Type 0
-ReadsPart told l bytes held held_now faults faults_now touches touches_now (Ok n) = WroteRange told l bytes held held_now touches touches_now n
-ReadsPart told l bytes held held_now faults faults_now touches touches_now (Err fault) = Stopped told l bytes held held_now faults faults_now touches touches_now fault
+ReadsPart told l bytes held held_now faults faults_now touches touches_now (Ok n) =
+    WroteRange told l bytes held held_now touches touches_now n
+ReadsPart told l bytes held held_now faults faults_now touches touches_now (Err fault) =
+    Stopped told l bytes held held_now faults faults_now touches touches_now fault

@@ -1,4 +1,4 @@
-// Why a range of a file is not written.
+//! Why a range of a file is not written.
 ghost use Rattle.std.specs.Prelude.{◌≡◌};
 
 use uf_store::StoreFault;

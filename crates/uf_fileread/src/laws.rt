@@ -1,4 +1,4 @@
-// How many blocks a range needs.
+//! How many blocks a range needs.
 ghost use Rattle.std.specs.Prelude.{ℕ, List, ◌≤◌};
 ghost use Rattle.uf_tree.specs.declared.meta.Meta.{Meta};
 ghost use Rattle.uf_fileread.specs.Ranges.{FewAreRead};

@@ -1,4 +1,4 @@
-// The length of a file, and the links of its root.
+//! The length of a file, and the links of its root.
 ghost use Rattle.std.specs.Prelude.{◌≡◌, ◌∷◌, [], ◌+◌, ℕ, List, length as len};
 ghost use Rattle.uf_cid.specs.Blocks.{Held};
 ghost use Rattle.uf_cid.specs.declared.cid.Codec.TheVariants.{DagPb};
@@ -27,7 +27,8 @@ pub fn length<S: Store, L: Ledger>(
     entry: &Entry,
     touches: &mut Steps<L>,
 ) -> Result<u64, StoreFault>
-    ensures value { (p : Profile) (m : TheMeta) (bytes : List ℕ) (root : Held) → IsFileRoot S.X.block32 p m bytes entry.now.cid root
+    ensures value { (p : Profile) (m : TheMeta) (bytes : List ℕ) (root : Held)
+        → IsFileRoot S.X.block32 p m bytes entry.now.cid root
         → Agrees (S.seen store.old).told (root ∷ [])
         → Stood (S.seen store.old).faults (S.seen store.new).faults
         → FindsOver (S.seen store.old).told (root ∷ []) (len bytes) result }
@@ -39,7 +40,8 @@ pub fn length<S: Store, L: Ledger>(
     Ok(size.length)
 }
 
-/// The length of the file of this entry, the number of links of its root block and its metadata, by one load. One touch.
+/// The length of the file of this entry, the number of links of its root block and its metadata, by one load. One
+/// touch.
 pub fn measure<S: Store, L: Ledger>(
     alloc: Global,
     store: &mut S,

@@ -1,4 +1,4 @@
-// What the node of a file has.
+//! What the node of a file has.
 use uf_tree::{Meta, Parts};
 
 /// What the node of a file links, and the metadata that it carries.

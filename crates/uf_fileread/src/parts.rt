@@ -1,4 +1,4 @@
-// What the node of a file links.
+//! What the node of a file links.
 ghost use Rattle.std.specs.Prelude.{◌≡◌, IfOk};
 ghost use Rattle.uf_tree.specs.Codecs.{Reads};
 ghost use Rattle.uf_tree.specs.FilePlan.{root_node};

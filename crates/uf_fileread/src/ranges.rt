@@ -1,4 +1,4 @@
-// Ranges of a file.
+//! Ranges of a file.
 ghost use Rattle.std.specs.Prelude.{◌≡◌, ◌+◌, ◌-◌, ◌<◌, ◌≤◌, ◌^◌, ◌↔◌, ℕ, List, [], ◌∷◌, length, sum, sum_by, IfErr, IfOk, IsTrue, None, Some, if◌then◌else◌};
 ghost use Rattle.uf_cid.specs.Cid.{cid_of};
 ghost use Rattle.uf_cid.specs.declared.cid.Codec.TheVariants.{Raw};
@@ -49,7 +49,8 @@ struct Reach {
     count: u64,
 }
 
-// Where a part stands: how many nodes may stand one above the other there, its CID, and the size that is declared for it.
+// Where a part stands: how many nodes may stand one above the other there, its CID, and the size that is declared for
+// it.
 #[derive(Clone, Copy)]
 struct Spot {
     rows: u8,
@@ -57,10 +58,10 @@ struct Spot {
     declared: Option<u64>,
 }
 
-/// Writes the bytes of a file from `offset` on, at most `count`, and answers how many. An offset at or behind the end
-/// writes nothing. It loads the root and the blocks of the parts that the range meets, each once, and keeps one node at a
-/// time for each row; a leaf goes to the sink from where the store lends it. After a fault the sink has a prefix of the
-/// range.
+/// Writes the bytes of a file from `offset` on, at most `count`, and answers how many. An offset at or after the end
+/// writes nothing. It loads the root and the blocks of the parts that the range meets, each once, and keeps one node
+/// at a time for each row; a leaf goes to the sink from where the store lends it. After a fault the sink has a prefix
+/// of the range.
 pub fn read_range<S: Store, O: Sink, L: Ledger>(
     alloc: Global,
     store: &mut S,
@@ -139,7 +140,7 @@ fn send_part<S: Store, O: Sink, L: Ledger>(
     }
 }
 
-// Writes a range of parts that stand one behind the other.
+// Writes a range of parts that stand one after the other.
 #[cycle(sending)]
 fn send_parts<S: Store, O: Sink, L: Ledger>(
     alloc: Global,

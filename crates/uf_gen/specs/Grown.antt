@@ -58,7 +58,7 @@ module _ (X : List ℕ → List ℕ) (N : List ℕ → ℕ) (p : Profile) (seed 
   abbrev pub after_make : ℕ → Entries → Result Entries Rule
   after_make i es = after_write making (first_bytes seed i) i es
 
-  -- a file is changed: each third is removed, and into the one behind it a byte is written
+  -- a file is changed: each third is removed, and into the one after it a byte is written
   abbrev pub after_change : ℕ → Entries → Result Entries Rule
   after_change i es =
       if i % 3 == 0 then told_of (file_path i) (removed false (file_path i) es)

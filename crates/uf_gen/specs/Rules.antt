@@ -16,7 +16,7 @@ digits (suc count) i = digits count (i / 10) ++ (48 + i % 10) ∷ []
 abbrev pub file_name : ℕ → List ℕ
 file_name i = 102 ∷ digits 8 i
 
--- so many bytes, each one more than the byte before
+-- n bytes, each one more than the byte before
 abbrev pub rising_bytes : (from count : ℕ) → List ℕ
 rising_bytes from count = map (λ j. (from + j) % 256) (range_with_len 0 count)
 

@@ -1,4 +1,4 @@
-// The generated tree built afresh.
+//! The generated tree built afresh.
 ghost use Rattle.std.specs.Prelude.{◌≡◌, ◌≤◌, ◌++◌, IfErr, IfOk, IsTrue, List, OnOk, [], ℕ, false, length};
 ghost use Rattle.uf_build.specs.Building.{HasFed};
 ghost use Rattle.uf_shard.specs.Answers.{Gives, dir_fault};
@@ -44,7 +44,7 @@ pub fn fresh_root<S: Store, N: NameHash, L: Ledger>(
     uf_dir::build::<S, N, L>(alloc, store, p, &pairs, &Meta::none(), touches)
 }
 
-// Builds a file as it is in the end, where it is left, and puts its entry behind those of the files in front of it.
+// Builds a file as it is in the end, where it is left, and puts its entry after those of the files before it.
 fn add_left<S: Store, L: Ledger>(
     alloc: Global,
     p: &Profile,

@@ -1,4 +1,4 @@
-// What the commands of the generator make.
+//! What the commands of the generator make.
 ghost use Rattle.std.specs.Prelude.{◌≡◌, ◌≤◌, ◌^◌, ℕ, List, Ok};
 ghost use Rattle.uf_gen.specs.Grown.{grown, left_files};
 ghost use Rattle.uf_tree.specs.Metas.{none};

@@ -1,5 +1,5 @@
-// The names and bytes of the generated files.
-ghost use Rattle.std.specs.Prelude.{◌≡◌, ◌<◌, ◌≤◌, ◌+◌, ◌-◌, ◌%◌, ◌^◌, ◌++◌, [], ℕ, IfErr, IfOk, OnOk, length, replicate, take};
+//! The names and bytes of the generated files.
+ghost use Rattle.std.specs.Prelude.{◌≡◌, ◌<◌, ◌≤◌, ◌+◌, ◌-◌, ◌%◌, ◌^◌, ◌++◌, [], ℕ, false, IfErr, IfOk, OnOk, length, replicate, take};
 ghost use Rattle.uf_gen.specs.Grown.{file_path as path_of};
 ghost use Rattle.uf_gen.specs.Rules.{file_name as name_of, first_bytes as bytes_first, last_bytes as bytes_last};
 ghost use Rattle.uf_gen.specs.Rules.{late_offset as offset_late, late_piece as piece_late, mixed};
@@ -33,9 +33,10 @@ pub fn file_name(alloc: Global, i: u64) -> Result<Name, Memory>
     }
 }
 
-/// The path of a file.
+/// The path of a file, which isn't entered.
 pub fn file_path(alloc: Global, i: u64) -> Result<Path, Memory>
-    ensures { IfOk result (λ path. path.names ≡ path_of i) }
+    ensures names { IfOk result (λ path. path.names ≡ path_of i) }
+    ensures into { IfOk result (λ path. path.into ≡ false) }
 {
     let name = file_name(alloc, i)?;
     let mut names = Names::new(alloc);
@@ -123,7 +124,7 @@ pub fn last_bytes(alloc: Global, seed: u64, i: u64) -> Result<Block, Memory>
     }
 }
 
-// Bytes with `x` laid over the byte at an offset, behind zeros where they end before it.
+// Bytes with `x` laid over the byte at an offset, after zeros where they end before it.
 fn written_late(alloc: Global, bytes: &Block, offset: usize) -> Result<Block, Memory>
     requires { offset < 8192 }
     ensures { IfOk result (λ after. after ≡ laid bytes.now offset piece_late) }

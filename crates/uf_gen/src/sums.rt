@@ -1,4 +1,4 @@
-// How many files are left, and how many bytes they have.
+//! How many files are left, and how many bytes they have.
 ghost use Rattle.std.specs.Prelude.{◌≡◌, ◌≤◌, ℕ, length};
 ghost use Rattle.uf_gen.specs.Grown.{left_files, left_size as size_left};
 ghost use Rattle.uf_gen.specs.Rules.{last_bytes as bytes_last};

@@ -1,4 +1,4 @@
-// The names and bytes of the rules.
+//! The names and bytes of the rules.
 use crate::rules::{file_name, first_bytes, last_bytes, late_offset};
 use std::alloc::Global;
 

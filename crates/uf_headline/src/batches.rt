@@ -1,4 +1,4 @@
-// A batch as steps of a history.
+//! A batch as steps of a history.
 ghost use Rattle.std.specs.Prelude.{◌≡◌, ◌≢◌, ℕ, List, Some, true};
 ghost use Rattle.uf_edge.specs.Host.{HostTree};
 ghost use Rattle.uf_edge.specs.Streams.{Told};

@@ -1,4 +1,4 @@
-// Histories in which calls fail or are stopped, and in which blocks are lost.
+//! Histories in which calls fail or are stopped, and in which blocks are lost.
 ghost use Rattle.std.specs.Prelude.{◌≡◌, ◌<◌, ◌^◌, ℕ, List, Some};
 ghost use Rattle.uf_mfs.specs.Standing.{TellsAs};
 ghost use Rattle.uf_store.specs.Contents.{Contents, Told};

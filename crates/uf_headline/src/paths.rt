@@ -1,4 +1,4 @@
-// The CID of each file and directory after a history.
+//! The CID of each file and directory after a history.
 ghost use Rattle.std.specs.Prelude.{◌≡◌, ℕ, List, Ok};
 ghost use Rattle.uf_cid.specs.declared.cid.Cid.{Cid};
 ghost use Rattle.uf_path.specs.declared.path.Path.{Path as ThePath};

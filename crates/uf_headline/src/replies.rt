@@ -1,4 +1,4 @@
-// A history by the replies to its commands.
+//! A history by the replies to its commands.
 ghost use Rattle.std.specs.Prelude.{ℕ, List};
 ghost use Rattle.uf_mfs.specs.Standing.{TellsAs};
 ghost use Rattle.uf_store.specs.Contents.{Told};

@@ -88,7 +88,7 @@ went-takes folder w left (Some tree) now takes good h =
     let stays = λ (q : List ℕ) (away : IsEarlier folder (w ∷ left) q → ⊥). other-stays (IsEarlier folder (w ∷ left)) h.changed.places tree q h.changed.where_put away in
     let there = stays folder (λ e. folder-above folder e.0 (name-some e.0 e.1) e.3) ∙ takes.there in
     let absent = stays (front folder ++ w.0) (λ e. sisters-apart folder e.0 w.0 e.1 member (λ same. absurd (never-less w.0 (less e.0 (and-first _ _ e.2) same))) e.3) ∙ takes.empty w.0 member in
-    subst (λ t. TakesFolder t (front folder ++ w.0)) (sym h.changed.are_put) (inr (record { folder = folder; name = w.0; is = refl; good = member; there = there }), absent)
+    subst (λ t. TakesFolder t (front folder ++ w.0)) (sym h.changed.are_put) (inr (inr (record { folder = folder; name = w.0; is = refl; good = member; there = there })), absent)
   where
     is-less : (o : Ordering) → IsTrue (is_lt o) → o ≡ Less
     is-less Less h = refl

@@ -5,7 +5,7 @@ use Rattle.std.specs.FinMap.{get, get-insert, insert, same_map}
 use Rattle.std.specs.List.{AllByRecursion}
 use Rattle.std.specs.Ordering.{eq_by_cmp, nat_cmp}
 use Rattle.std.specs.Cmp.Lexicographic.{slice_cmp, nat_list_cmp_total}
-use Rattle.uf_edge.specs.Host.{HasParent, HostTold, HostTree, IsRooted, TakesFile, TakesFolder, bytes_of, front, host_changed, with_piece}
+use Rattle.uf_edge.specs.Host.{HasParent, HostTold, HostTree, IsParentThere, IsRooted, TakesFile, TakesFolder, bytes_of, front, host_changed, with_piece}
 use Rattle.uf_edge.specs.declared.host.Place.{Place}
 use Rattle.uf_edge.specs.declared.host.Place.TheVariants.{File, Folder}
 use Rattle.uf_edge.proofs.HostPlaces.{not_tied, only_equal, self_tied}
@@ -141,15 +141,16 @@ pub takes-made : (path bytes : List ℕ) (told now : HostTold) → TakesFolder t
 takes-made path bytes None now takes is = subst (λ t. TakesFile t path) (sym is) tt
 takes-made path bytes (Some tree) now takes is = subst (λ t. TakesFile t path) (sym is) (parent takes.0, λ there. absurd (let f : Some (File bytes) ≡ Some Folder = sym (get_self tree path (File bytes)) ∙ there in cc))
   where
-    parent : HasParent tree path → HasParent (insert tree path (File bytes)) path
-    parent (inl good) = inl good
-    parent (inr inside) = inr (record {
+    parent : IsParentThere tree path → IsParentThere (insert tree path (File bytes)) path
+    parent (inl empty) = inl empty
+    parent (inr (inl good)) = inr (inl good)
+    parent (inr (inr inside)) = inr (inr (record {
       folder = inside.folder;
       name = inside.name;
       is = inside.is;
       good = inside.good;
       there = get_other tree path inside.folder (File bytes) (λ same. absurd (let no : Some Folder ≡ None = sym inside.there ∙ ap (get tree) same ∙ takes.1 in cc)) ∙ inside.there;
-    })
+    }))
 
 pub takes-file : (told : HostTold) (path : List ℕ) → TakesFolder told path → TakesFile told path
 takes-file None path takes = tt
@@ -157,10 +158,15 @@ takes-file (Some tree) path takes = (takes.0, λ there. absurd (let no : Some Fo
 
 -- ---- a folder and its members
 
+-- a path that isn't empty has the parent that is there
+has-parent : (tree : HostTree) (path : List ℕ) → path ≢ [] → IsParentThere tree path → HasParent tree path
+has-parent tree path named (inl empty) = absurd (named empty)
+has-parent tree path named (inr parent) = parent
+
 -- a folder that was made where nothing was has no members
-pub empty-made : (told now : HostTold) (path : List ℕ) → IfSome told IsRooted → TakesFolder told path → now ≡ host_changed (λ tree. insert tree path Folder) told → TakesMembers now path
-empty-made None now path rooted takes is = subst (λ t. TakesMembers t path) (sym is) tt
-empty-made (Some tree) now path rooted takes is = subst (λ t. TakesMembers t path) (sym is) (record {
+pub empty-made : (told now : HostTold) (path : List ℕ) → path ≢ [] → IfSome told IsRooted → TakesFolder told path → now ≡ host_changed (λ tree. insert tree path Folder) told → TakesMembers now path
+empty-made None now path named rooted takes is = subst (λ t. TakesMembers t path) (sym is) tt
+empty-made (Some tree) now path named rooted takes is = subst (λ t. TakesMembers t path) (sym is) (record {
   there = get_self tree path Folder;
-  empty = λ name good. get_other tree path (front path ++ name) Folder (member-differs path name (name-some name good)) ∙ nothing-in tree rooted path takes.0 takes.1 name good;
+  empty = λ name good. get_other tree path (front path ++ name) Folder (member-differs path name (name-some name good)) ∙ nothing-in tree rooted path (has-parent tree path named takes.0) takes.1 name good;
 })

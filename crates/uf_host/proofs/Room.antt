@@ -11,7 +11,7 @@ use Rattle.std.specs.Option.{option_map}
 use Rattle.std.specs.Path.{rfind_below, rsplit_once}
 use Rattle.std.specs.Str.{NoCharPasses, bytes_eq}
 use Rattle.std.specs.Str.Pattern.{HasCharAt}
-use Rattle.uf_edge.specs.Host.{HasParent, HostTold, HostTree, TakesFolder, is_member_name, root}
+use Rattle.uf_edge.specs.Host.{HasParent, HostTold, HostTree, IsParentThere, TakesFolder, is_member_name, root}
 use Rattle.uf_edge.specs.declared.host.Place.{Place}
 use Rattle.uf_edge.specs.declared.host.Place.TheVariants.{File, Folder}
 use Rattle.uf_host.specs.Getting.{FindsFolder, HasRoom, lacks_slash}
@@ -50,6 +50,25 @@ split-at-some text first last i j none at front_is is all =
       ap (option_map (λ i. (take i text, drop (i + 1) text))) found ∙ ap (λ (n : ℕ). Some (take i text, drop n text)) (sym next) ∙ ap (λ (l : List ℕ). Some (l, drop j text)) (sym front_is) ∙ ap (λ (l : List ℕ). Some (first, l)) (sym is),
       subst (λ (l : List ℕ). lacks_slash l ≡ true) (sym is) (none-lacks (drop j text) free),
     )
+
+none-found : (text : List ℕ) (n : ℕ) → rfind_below 47 text n ≡ None → (i : ℕ) → i < n → slice_index text i ≢ 47
+none-found text zero is = λ i low. absurd (omega (arith, low))
+none-found text (suc n) is = by (slice_index text n == 47) refl (λ e. none-found text n e)
+  where
+    by : (b : Bool) → (slice_index text n == 47) ≡ b → (rfind_below 47 text n ≡ None → (i : ℕ) → i < n → slice_index text i ≢ 47) → (i : ℕ) → i < suc n → slice_index text i ≢ 47
+    by true e more i low = absurd (let no : Some n ≡ None = sym (ap (λ (b : Bool). cond b (Some n) (rfind_below 47 text n)) e) ∙ is in cc)
+    by false e more i low = λ same.
+        let rest : rfind_below 47 text n ≡ None = sym (ap (λ (b : Bool). cond b (Some n) (rfind_below 47 text n)) e) ∙ is in
+        let other : i ≢ n = λ at. absurd (let no : false ≡ true = sym e ∙ ap (λ (k : ℕ). slice_index text k == 47) (sym at) ∙ ap (λ (m : ℕ). m == 47) same in cc) in
+        more rest i (omega (arith, low, other)) same
+
+no-slash : (text : List ℕ) → rsplit_once 47 text ≡ None → (i : ℕ) → i < length text → slice_index text i ≢ 47
+unfolding rsplit_once
+no-slash text is = by (rfind_below 47 text (length text)) refl is
+  where
+    by : (o : Option ℕ) → rfind_below 47 text (length text) ≡ o → option_map {U = List ℕ × List ℕ} (λ i. (take i text, drop (i + 1) text)) o ≡ None → (i : ℕ) → i < length text → slice_index text i ≢ 47
+    by None e is = none-found text (length text) e
+    by (Some k) e is = absurd (let no : ◌≡◌ {A = Option (List ℕ × List ℕ)} (Some (take k text, drop (k + 1) text)) None = is in cc)
 
 found-slash : (text : List ℕ) (n k : ℕ) → rfind_below 47 text n ≡ Some k → (k < n) × (slice_index text k ≡ 47)
 found-slash text zero k is = absurd (let no : None ≡ Some k = is in cc)
@@ -103,18 +122,22 @@ not-false : (b : Bool) → not b ≡ true → b ≡ false
 not-false true h = absurd (let no : false ≡ true = h in cc)
 not-false false h = refl
 
+-- a path without a slash is empty, or the name of a member of the working folder
+in-working : (host : HostTree) (path : List ℕ) → lacks_slash path ≡ true → IsParentThere host path
+in-working host [] lacks = inl refl
+in-working host (b ∷ bs) lacks = inr (inl lacks)
+
 -- where there is room for a tree, a folder may be made
 pub room-takes : (told : HostTold) (path : List ℕ) → IfSome told (λ host. HasRoom host path) → TakesFolder told path
 room-takes None path room = tt
 room-takes (Some host) path room = (by (rsplit_once 47 path) refl room.folder, room.absent)
   where
-    by : (o : Option (List ℕ × List ℕ)) → rsplit_once 47 path ≡ o → has_folder_by host path o ≡ true → HasParent host path
-    by None e h = inl h
-    by (Some split) e h =
-        let two = and-first (is_member_name split.1 && not (bytes_eq split.0 root)) _ h in
+    by : (o : Option (List ℕ × List ℕ)) → rsplit_once 47 path ≡ o → has_folder_by host path o ≡ true → IsParentThere host path
+    by None e h = in-working host path (none-lacks path (no-slash path e))
+    by (Some split) e h = inr (let two = and-first (is_member_name split.1 && not (bytes_eq split.0 root)) _ h in
         parent-of host path split.0 split.1 (split-whole path split e) (and-first (is_member_name split.1) _ two)
         (not-false (bytes_eq split.0 root) (and-second (is_member_name split.1) _ two))
-        (there_is (get host (folder_named split.0)) (and-second (is_member_name split.1 && not (bytes_eq split.0 root)) _ h))
+        (there_is (get host (folder_named split.0)) (and-second (is_member_name split.1 && not (bytes_eq split.0 root)) _ h)))
 
 -- ---- what is found of it
 
@@ -122,11 +145,8 @@ by_split : (told : HostTold) (path : List ℕ) (o : Option (List ℕ × List ℕ
 by_split None path o b is h = tt
 by_split (Some host) path o b is h = ap (has_folder_by host path) is ∙ h host
 
-pub finds-member : (told : HostTold) (path : List ℕ) → rsplit_once 47 path ≡ None → lacks_slash path ≡ true → (length path == 0) ≡ false → IfSome told (λ host. has_folder host path ≡ true)
-finds-member told path is lacks some = by_split told path None true is (λ host. member-of path some lacks)
-
-pub finds-no-name : (told : HostTold) (path : List ℕ) → rsplit_once 47 path ≡ None → (length path == 0) ≡ true → IfSome told (λ host. has_folder host path ≡ false)
-finds-no-name told path is none = by_split told path None false is (λ host. no-member path none)
+pub finds-working : (told : HostTold) (path : List ℕ) → rsplit_once 47 path ≡ None → IfSome told (λ host. has_folder host path ≡ true)
+finds-working told path is = by_split told path None true is (λ host. refl)
 
 pub finds-no-last : (told : HostTold) (path first name : List ℕ) → rsplit_once 47 path ≡ Some (first, name) → (length name == 0) ≡ true → IfSome told (λ host. has_folder host path ≡ false)
 finds-no-last told path first name is none = by_split told path (Some (first, name)) false is (λ host. ap (λ b. (b && not (bytes_eq first root)) && is_folder_there (get host (folder_named first))) (no-member name none))

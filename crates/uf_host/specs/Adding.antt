@@ -28,7 +28,7 @@ IsSaid host say answer = IfSome host (λ tree. say tree ≡ answer)
 abbrev pub IsRefusal : {A : Type 0} → HostTold → (HostTree → Result A HostFault) → HostFault → Type 0
 IsRefusal host say fault = IsSaidOr (λ fault. IsSaid host say (Err fault)) fault
 
--- a row came behind those before
+-- a row came after those before
 abbrev pub AddsRow : List ℕ → Entry → List AddedRow → List AddedRow → Type 0
 AddsRow row e rows rows_now = rows_now ≡ rows ++ record { path = row; entry = e } ∷ []
 
@@ -39,7 +39,7 @@ module _ (X : List ℕ → List ℕ) (N : List ℕ → ℕ) (p : Profile) where
     pub whole : refusal X N p t ≡ None
     pub held : Holds told (blocks X N p t)
 
-  -- a tree was added: it has a plan, this is its entry, and these rows came behind those before
+  -- a tree was added: it has a plan, this is its entry, and these rows came after those before
   pub record AddsTree (told : Told) (more rows rows_now : List AddedRow) (t : Tree) (e : Entry) : Type 0 where
     pub plan : HasHeldPlan told t
     pub entry_is : e ≡ entry X N p t

@@ -1,5 +1,5 @@
 -- What is written to a host of what a CID denotes, or why nothing is.
-use Rattle.std.specs.Prelude.{◌≡◌, ◌⊎◌, ◌==◌, ℕ, List, length, Bool, IfSome, IsSome, None, Some, not, true, false, ⊤}
+use Rattle.std.specs.Prelude.{◌≡◌, ◌≢◌, ◌⊎◌, ◌==◌, ℕ, List, [], length, Bool, IfSome, IsSome, None, Some, not, true, false, ⊤}
 use Rattle.std.specs.declared.option.Option.{Option}
 use Rattle.std.specs.List.{list_any}
 use Rattle.std.specs.Borrow.{Bor}
@@ -68,8 +68,9 @@ module _ (held : Lookup) (limits : Limits) (c : Cid) (path : List ℕ) (told now
   abbrev pub Denotes : Type 0
   Denotes = (tree : Tree) × (denotes held limits c ≡ Ok tree)
 
-  -- the denoted tree stands at the path
+  -- the denoted tree stands at the path, which isn't empty
   pub record StandsThere : Type 0 where
+    pub named : path ≢ []
     pub tree : Tree
     pub denoted : denotes held limits c ≡ Ok tree
     pub room : IfSome told (λ host. HasRoom host path)

@@ -17,7 +17,7 @@ kept_length path (suc n) = if nat_lt 0 n && (slice_index path n == 47) then kept
 unfoldable pub trimmed : List ℕ → List ℕ
 trimmed path = take (kept_length path (length path)) path
 
--- what stands behind the last slash
+-- what stands after the last slash
 abbrev pub behind_slash : List ℕ → Option (List ℕ × List ℕ) → List ℕ
 behind_slash path None = path
 behind_slash path (Some split) = split.1
@@ -31,14 +31,15 @@ abbrev pub is_folder_there : Option Place → Bool
 is_folder_there (Some Folder) = true
 is_folder_there other = false
 
--- the folder that a path names in front of its last slash
+-- the folder that a path names before its last slash
 abbrev pub folder_named : List ℕ → List ℕ
 folder_named [] = root
 folder_named (b ∷ bs) = b ∷ bs
 
--- a folder is there that may have a path as a member, by the path's last slash; the working folder always is
+-- a folder is there that may have a path as a member, by the path's last slash; the working folder always is, and it is
+-- the one of the empty path too
 abbrev pub has_folder_by : HostTree → List ℕ → Option (List ℕ × List ℕ) → Bool
-has_folder_by tree path None = is_member_name path
+has_folder_by tree path None = true
 has_folder_by tree path (Some split) =
     is_member_name split.1 && not (bytes_eq split.0 root) && is_folder_there (get tree (folder_named split.0))
 

@@ -18,7 +18,7 @@ use Rattle.uf_host.specs.declared.fault.HostFault.TheVariants.{Absent, Read, Sto
 abbrev pub PutAt : Type 0
 PutAt = List ℕ × Place
 
--- what a tree is at a path and below it: a folder in front of what is in it, in the order of the names; metadata
+-- what a tree is at a path and below it: a folder before what is in it, in the order of the names; metadata
 -- isn't written
 unfoldable mutual
   pub places_of : List ℕ → Tree → List PutAt
@@ -40,7 +40,7 @@ IsCutShort (place.File some) (place.File bytes) = (count : ℕ) × (some ≡ tak
 IsCutShort (place.File some) place.Folder = ⊥
 IsCutShort place.Folder whole = ⊥
 
--- the first ones of some places, and the first bytes of a file behind them
+-- the first ones of some places, and the first bytes of a file after them
 abbrev pub AreFirstOf : List PutAt → List PutAt → Type 0
 AreFirstOf [] places = ⊤
 AreFirstOf (p ∷ part) [] = ⊥
@@ -113,12 +113,12 @@ IsFolderThere told folder (Err Read) = ⊤
 IsFolderThere told folder (Err (Store fault)) = fault ≡ Memory
 IsFolderThere told folder (Err other) = ⊥
 
--- the first bytes of a piece were put behind a file's
+-- the first bytes of a piece were put after a file's
 pub record AppendsFirst (path piece : List ℕ) (told now : HostTold) : Type 0 where
   pub count : ℕ
   pub part : now ≡ host_changed (with_piece path (take count piece)) told
 
--- a piece was put behind a file's bytes, or a part of it, or nothing and why
+-- a piece was put after a file's bytes, or a part of it, or nothing and why
 abbrev pub AppendsPiece : List ℕ → List ℕ → HostTold → HostTold → Result (Unit {0}) HostFault → Type 0
 AppendsPiece path piece told now (Ok done) = now ≡ host_changed (with_piece path piece) told
 AppendsPiece path piece told now (Err why) = IsOfHost why × ((now ≡ told) ⊎ AppendsFirst path piece told now)

@@ -48,7 +48,7 @@ pub record IsLongFile (p : Profile) (host : HostTold) (path : List ℕ) (fault :
   pub is : fault ≡ FileTooLong path
   pub many : OfFileAt host path (λ whole. most_bytes p < length whole)
 
--- so many bytes of the file behind those that the builder has taken were given to it; with none the file has ended
+-- n bytes of the file after those that the builder has taken were given to it; with none the file has ended
 pub record TakesNext (X : List ℕ → List ℕ) (p : Profile) (told : Told) (host : HostTold) (path bytes : List ℕ)
     (b : Building) (count : ℕ) : Type 0 where
   pub piece : List ℕ
@@ -63,7 +63,7 @@ abbrev pub ReadsNext : (List ℕ → List ℕ) → Profile → Told → HostTold
 ReadsNext X p told host path bytes b (Ok count) = TakesNext X p told host path bytes b count
 ReadsNext X p told host path bytes b (Err fault) = IsSaidOr (IsLongFile p host path) fault
 
--- the builder has taken so many bytes, those in front of the file
+-- the builder has taken n bytes, those before the file
 pub record FedFront (X : List ℕ → List ℕ) (p : Profile) (told : Told) (host : HostTold) (path : List ℕ) (b : Building)
     (offset : ℕ) : Type 0 where
   pub bytes : List ℕ

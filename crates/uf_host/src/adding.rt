@@ -1,5 +1,5 @@
-// Files and folders of a host added.
-ghost use Rattle.std.specs.Prelude.{◌≡◌, IfOk, IsTrue, vec_len};
+//! Files and folders of a host added.
+ghost use Rattle.std.specs.Prelude.{◌≡◌, IfOk, IsTrue};
 ghost use Rattle.uf_edge.specs.Counts.{Counts};
 ghost use Rattle.uf_store.specs.Calls.{OnlySaves};
 ghost use Rattle.uf_store.specs.Faults.{NoneIsBad, Shown};
@@ -18,7 +18,7 @@ use crate::site::{Site, text_of};
 use crate::walking::add_at;
 use std::alloc::Global;
 use std::sync::ledger::Ledger;
-use uf_cid::Memory;
+use uf_cid::{Memory, zeros};
 use uf_edge::Host;
 use uf_murmur::NameHash;
 use uf_store::{Steps, Store};
@@ -110,11 +110,4 @@ fn site_of(alloc: Global, path: &str) -> Result<Site, Memory>
         path: text_of(alloc, path)?,
         row: text_of(alloc, row_of(path))?,
     })
-}
-
-// So many bytes of zero.
-fn zeros(alloc: Global, count: usize) -> Result<Vec<u8>, Memory>
-    ensures { IfOk result (λ v. vec_len v ≡ count) }
-{
-    Ok(vec![in alloc; 0u8; count]?)
 }

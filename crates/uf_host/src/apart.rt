@@ -1,4 +1,4 @@
-// Files and folders of a host added, with touches that are counted apart from the caller's.
+//! Files and folders of a host added, with touches that are counted apart from the caller's.
 ghost use Rattle.std.specs.Prelude.{◌≡◌, ◌<◌, IfSome, IsTrue, None};
 ghost use Rattle.uf_edge.specs.Counts.{Counts};
 ghost use Rattle.uf_store.specs.Faults.{NoneIsBad, Shown};

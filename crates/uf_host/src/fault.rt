@@ -1,4 +1,4 @@
-// Why files and folders of a host can't be added or written.
+//! Why files and folders of a host can't be added or written.
 use uf_cid::{Memory, Text};
 use uf_lenient::DagFault;
 use uf_shard::DirFault;

@@ -1,4 +1,4 @@
-// What a CID denotes written to a host.
+//! What a CID denotes written to a host.
 ghost use Rattle.std.specs.Prelude.{◌≡◌, IfErr, Some};
 ghost use Rattle.uf_edge.specs.Counts.{Counts};
 ghost use Rattle.uf_store.specs.Contents.{Contents, held_at};
@@ -20,8 +20,8 @@ use uf_lenient::{Limits, survey};
 use uf_store::{Steps, Store, StoreFault};
 
 /// Writes the file or the directory that a CID denotes to a path of a host, where nothing is there and the path's
-/// folder is. Slashes at the end of the path are taken off. All of it is read first, so that nothing is written of what
-/// denotes no tree. Then each folder is made before its members, which are written in byte order of their names, a file
+/// folder is. That of the empty path is the working folder, and the writing then fails. Slashes at the end of the path
+/// are taken off. All of it is read first, so that nothing is written of what denotes no tree. Then each folder is made before its members, which are written in byte order of their names, a file
 /// piece by piece. After a failed write all that was written stays. Depth and visits are counted anew for each file and
 /// directory.
 pub fn get<S: Store, W: Host, L: Ledger>(
@@ -33,7 +33,7 @@ pub fn get<S: Store, W: Host, L: Ledger>(
     limits: &Limits,
     touches: &mut Steps<L>,
 ) -> Result<(), HostFault>
-    // Over a store that tells: the denoted tree stands at the path, or a front of it where the host or the store
+    // Over a store that tells: the denoted tree stands at the path, or a prefix of it where the host or the store
     // failed, or nothing was written and this is why.
     ensures gets { (t : Contents) → (S.seen store.old).told ≡ Some t
         → Gets (held_at t) limits.now cid.now (trimmed path.now) (W.tree host.old) (W.tree host.new) result }
@@ -81,7 +81,7 @@ fn find_folder<W: Host>(host: &mut W, path: &str) -> Result<(), HostFault>
     ensures writes { W.write_faults host.new ≡ W.write_faults host.old }
 {
     match split_last(path) {
-        None => named(path),
+        None => Ok(()),
         Some((folder, name)) => {
             named(name)?;
             if folder == "/" {

@@ -1,4 +1,4 @@
-// What an import keeps while it walks.
+//! What an import keeps while it walks.
 ghost use Rattle.std.specs.Prelude.{◌≡◌, ◌<◌, IfOk, IsTrue, vec_len};
 ghost use Rattle.uf_tree.specs.Profiles.{is_profile};
 

@@ -1,4 +1,4 @@
-// Files of a host read into a store.
+//! Files of a host read into a store.
 ghost use Rattle.std.specs.Prelude.{◌≡◌, ◌<◌, ◌≤◌, ℕ, List, [], false, length, IfErr, IfOk, IsTrue, OnOk};
 ghost use Rattle.uf_edge.specs.Counts.{Counts};
 ghost use Rattle.uf_edge.specs.Host.{IsFileAt};

@@ -1,4 +1,4 @@
-// The text of a path taken apart.
+//! The text of a path taken apart.
 ghost use Rattle.std.specs.Prelude.{◌≡◌};
 ghost use Rattle.std.specs.Path.{rsplit_once};
 ghost use Rattle.uf_host.specs.Paths.{behind_slash, first_row, folder_named, trimmed};
@@ -18,7 +18,7 @@ pub fn trim(path: &str) -> &str
     &path[..end]
 }
 
-// The last name of a path, or `/` where nothing stands behind its last slash.
+// The last name of a path, or `/` where nothing stands after its last slash.
 pub fn row_of(path: &str) -> &str
     ensures { result.now ≡ first_row path.now }
 {
@@ -34,7 +34,7 @@ pub fn last_name(path: &str) -> &str
     row_of(trim(path))
 }
 
-// What stands behind the last slash.
+// What stands after the last slash.
 fn last_of(path: &str) -> &str
     ensures { result.now ≡ behind_slash path.now (rsplit_once 47 path.now) }
 {
@@ -44,7 +44,7 @@ fn last_of(path: &str) -> &str
     }
 }
 
-// What stands in front of the last slash, and behind it; `None` where there is no slash.
+// What stands before the last slash, and after it; `None` where there is no slash.
 pub fn split_last(path: &str) -> Option<(&str, &str)>
     ensures { SplitsLast path.now result }
 {
@@ -54,7 +54,7 @@ pub fn split_last(path: &str) -> Option<(&str, &str)>
     }
 }
 
-// The folder that a path names in front of its last slash.
+// The folder that a path names before its last slash.
 pub fn or_root(folder: &str) -> &str
     ensures { result.now ≡ folder_named folder.now }
 {

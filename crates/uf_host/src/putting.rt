@@ -1,5 +1,5 @@
-// Trees written to a host, files and folders.
-ghost use Rattle.std.specs.Prelude.{◌≡◌, ◌≢◌, List, ℕ, [], IfErr, IsTrue, Ok, Some};
+//! Trees written to a host, files and folders.
+ghost use Rattle.std.specs.Prelude.{◌≡◌, ◌≢◌, List, ℕ, [], IfErr, IsTrue, Ok, OnOk, Some};
 ghost use Rattle.std.specs.FinMap.Entries.{is_sorted};
 ghost use Rattle.uf_edge.specs.Counts.{Counts};
 ghost use Rattle.uf_edge.specs.Host.{TakesFile, TakesFolder};
@@ -46,6 +46,7 @@ pub fn put_tree<S: Store, W: Host, L: Ledger>(
     ensures puts { (t : Contents) (tree : Tree) → (S.seen store.old).told ≡ Some t
         → denotes_within (held_at t) export.now.limits room cid.now ≡ Ok tree
         → Puts (places_of path.now tree) (W.tree host.old) (W.tree host.new) result }
+    ensures named { OnOk result (path.now ≢ []) }
     ensures below { ChangesAt path.now (W.tree host.old) (W.tree host.new) }
     ensures reads { W.read_faults host.new ≡ W.read_faults host.old }
     ensures writes { Counts (is_write_fault result) (W.write_faults host.old) (W.write_faults host.new) }
@@ -105,6 +106,7 @@ fn put_members<S: Store, W: Host, L: Ledger>(
 fn make_folder<W: Host>(host: &mut W, path: &Text) -> Result<(), HostFault>
     requires { TakesFolder (W.tree host.old) path.now }
     ensures makes { MakesFolderAt path.now (W.tree host.old) (W.tree host.new) result }
+    ensures named { OnOk result (path.now ≢ []) }
     ensures reads { W.read_faults host.new ≡ W.read_faults host.old }
     ensures writes { Counts (is_write_fault result) (W.write_faults host.old) (W.write_faults host.new) }
     ensures stops { IfErr result IsPutFault }
@@ -129,6 +131,7 @@ fn put_file<S: Store, W: Host, L: Ledger>(
     ensures puts { (t : Contents) (bytes : List ℕ) → (S.seen store.old).told ≡ Some t
         → file_of (held_at t) export.now.limits cid.now ≡ Ok bytes
         → PutsFile path.now bytes (W.tree host.old) (W.tree host.new) result }
+    ensures named { OnOk result (path.now ≢ []) }
     ensures below { ChangesAt path.now (W.tree host.old) (W.tree host.new) }
     ensures reads { W.read_faults host.new ≡ W.read_faults host.old }
     ensures writes { Counts (is_write_fault result) (W.write_faults host.old) (W.write_faults host.new) }
@@ -152,6 +155,7 @@ fn put_pieces<S: Store, W: Host, L: Ledger>(
     ensures puts { (t : Contents) (bytes : List ℕ) → (S.seen store.old).told ≡ Some t
         → to_come (held_at t) pieces.old ≡ Ok bytes
         → PutsFile path.now bytes (W.tree host.old) (W.tree host.new) result }
+    ensures named { OnOk result (path.now ≢ []) }
     ensures below { ChangesAt path.now (W.tree host.old) (W.tree host.new) }
     ensures reads { W.read_faults host.new ≡ W.read_faults host.old }
     ensures writes { Counts (is_write_fault result) (W.write_faults host.old) (W.write_faults host.new) }
@@ -164,10 +168,11 @@ fn put_pieces<S: Store, W: Host, L: Ledger>(
     Ok(())
 }
 
-// Puts a piece behind the bytes of a file, which it makes where nothing is there.
+// Puts a piece after the bytes of a file, which it makes where nothing is there.
 fn put_piece<W: Host>(host: &mut W, path: &Text, piece: &[u8]) -> Result<(), HostFault>
     requires { TakesFile (W.tree host.old) path.now }
     ensures appends { AppendsPiece path.now piece.now (W.tree host.old) (W.tree host.new) result }
+    ensures named { OnOk result (path.now ≢ []) }
     ensures reads { W.read_faults host.new ≡ W.read_faults host.old }
     ensures writes { Counts (is_write_fault result) (W.write_faults host.old) (W.write_faults host.new) }
     ensures stops { IfErr result IsPutFault }

@@ -1,4 +1,4 @@
-// Where a walk is.
+//! Where a walk is.
 ghost use Rattle.std.specs.Prelude.{◌≡◌, ◌∷◌, ◌++◌, IfOk};
 ghost use Rattle.uf_edge.specs.Host.{front};
 

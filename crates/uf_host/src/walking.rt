@@ -1,4 +1,4 @@
-// Files and folders of a host walked.
+//! Files and folders of a host walked.
 ghost use Rattle.std.specs.Prelude.{◌≡◌, ◌≤◌, false, OnOk};
 ghost use Rattle.uf_edge.specs.Counts.{Counts};
 ghost use Rattle.uf_edge.specs.Host.{IsFolderAt};
@@ -43,7 +43,7 @@ pub fn add_at<S: Store, N: NameHash, W: Host, L: Ledger>(
     Ok(entry)
 }
 
-// Puts the row of what is at a site behind the others.
+// Puts the row of what is at a site after the others.
 fn put_row(import: &mut Import, site: &Site, entry: Entry) -> Result<(), Memory>
     ensures rows { OnOk result (AddsRow site.now.row entry import.old.rows import.new.rows) }
     ensures profile { import.new.profile ≡ import.old.profile }

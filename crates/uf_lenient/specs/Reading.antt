@@ -36,7 +36,7 @@ abbrev pub ◌>>◌ : {A B : Type 0} → Visits A → (A → ℕ → Visits B) �
 (Ok x) >> f = f x.0 x.1
 (Err e) >> f = Err e
 
--- what makes no visit, behind so many that are left
+-- what makes no visit, after so many that are left
 abbrev pub unvisited : {A : Type 0} → ℕ → Result A DagFault → Visits A
 unvisited n (Ok a) = Ok (a, n)
 unvisited n (Err e) = Err e
@@ -54,7 +54,7 @@ Ways = List (List ℕ × Found)
 abbrev pub is_digit : ℕ → Bool
 is_digit b = (nat_le 48 b && nat_le b 57) || (nat_le 65 b && nat_le b 70)
 
--- what stands behind the two digits of a slot
+-- what stands after the two digits of a slot
 abbrev pub behind_slot : List ℕ → Option (List ℕ)
 behind_slot [] = None
 behind_slot (a ∷ []) = None
@@ -75,7 +75,7 @@ abbrev pub meet_all : Cid → ℕ → List Link → Ways → Result Ways DagFaul
 meet_all by left [] met = Ok met
 meet_all by left (l ∷ ls) met = meet by left l.name l.cid met >>= λ more. meet_all by left ls more
 
--- the ways of one link of a shard: one under the name behind the digits, or those of the shard that `deeper` reads
+-- the ways of one link of a shard: one under the name after the digits, or those of the shard that `deeper` reads
 abbrev pub slot_ways : (Cid → Ways → ℕ → Visits Ways) → Cid → ℕ → Link → Ways → ℕ → Option (List ℕ) → Visits Ways
 slot_ways deeper by left l met n None = Err (NotUnixfs by 21)
 slot_ways deeper by left l met n (Some []) = deeper l.cid met n
@@ -91,7 +91,7 @@ shard_ways deeper by left (l ∷ ls) met n =
 abbrev pub leads : Ways → List (List ℕ × Cid)
 leads ways = map (λ (w : List ℕ × Found). (w.0, w.1.cid)) ways
 
--- the bytes of what links lead to, one behind the other
+-- the bytes of what links lead to, one after the other
 abbrev pub joined_parts : (Cid → ℕ → Visits (List ℕ)) → List Link → ℕ → Visits (List ℕ)
 joined_parts read [] n = Ok ([], n)
 joined_parts read (l ∷ ls) n = read l.cid n >> λ bytes m. joined_parts read ls m >> λ more k. Ok (bytes ++ more, k)

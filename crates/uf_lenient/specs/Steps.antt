@@ -68,7 +68,7 @@ start_of limits cid = (record { cid = cid; left = limits.depth + 1; visited = Fi
 abbrev pub to_come : Lookup → Rest → Result (List ℕ) DagFault
 to_come held rest = answered (λ bytes. bytes) (all_bytes held rest.0 rest.1)
 
--- bytes in front of others
+-- bytes before others
 abbrev pub prefixed : List ℕ → Result (List ℕ) DagFault → Result (List ℕ) DagFault
 prefixed bytes later = later >>= λ more. Ok (bytes ++ more)
 

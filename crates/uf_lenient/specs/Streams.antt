@@ -32,7 +32,7 @@ abbrev pub IsFileFront : List ℕ → Result (List ℕ) DagFault → Type 0
 IsFileFront front (Ok bytes) = (rest : List ℕ) × (bytes ≡ front ++ rest)
 IsFileFront front (Err fault) = ⊤
 
--- whatever the answer, what was written is a front of the file
+-- whatever the answer, what was written is a prefix of the file
 pub record SendsFront (told : Told) (said : Lookup → Result (List ℕ) DagFault) (held now : Sent) : Type 0 where
   pub front : List ℕ
   pub sent : now ≡ after held front

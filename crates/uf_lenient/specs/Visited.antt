@@ -17,12 +17,12 @@ use Rattle.uf_lenient.specs.Pending.{own_part, parts_due}
 use Rattle.uf_lenient.specs.Reading.{Visits}
 use Rattle.uf_lenient.specs.Steps.{IsPiece, Rest, start_of}
 
--- a CID that is visited where a depth is left for it, and those that are visited behind it
+-- a CID that is visited where a depth is left for it, and those that are visited after it
 abbrev pub visited_first : ℕ → Cid → List Cid → List Cid
 visited_first zero c more = []
 visited_first (suc left) c more = c ∷ more
 
--- those that `visits` has behind a node: none where it is no part of a file
+-- those that `visits` has after a node: none where it is no part of a file
 abbrev pub visited_below : (List Due → List Cid) → ℕ → List Due → Visits (List ℕ × List Link) → List Cid
 visited_below visits left ds (Ok own) = visits (parts_due (left - 1) own.0.1 ++ ds)
 visited_below visits left ds (Err fault) = []
@@ -60,7 +60,7 @@ abbrev pub GavePieces : List (Lookup × List ℕ) → Rest → Rest → Type 0
 GavePieces [] before now = now ≡ before
 GavePieces (x ∷ xs) before now = (next : Rest) × GavePiece x.0 before next x.1 × GavePieces xs next now
 
--- the pieces behind each other
+-- the pieces after each other
 abbrev pub pieces_of : List (Lookup × List ℕ) → List ℕ
 pieces_of calls = joined (map (λ (x : Lookup × List ℕ). x.1) calls)
 
@@ -71,7 +71,7 @@ pub record GaveOfFile (held : Lookup) (limits : Limits) (c : Cid) (calls : List 
   pub given : GavePieces calls (start_of limits c) now
   pub agree : AllByRecursion (λ x. AgreeUnder held x.0 (file_visits held limits c)) calls
 
--- what a call answers behind these pieces of a file: the file ends with them, or its fault; or there is a piece more
+-- what a call answers after these pieces of a file: the file ends with them, or its fault; or there is a piece more
 abbrev pub EndsPieces : Result (List ℕ) DagFault → List ℕ → Result (Option (List ℕ)) DagFault → Type 0
 EndsPieces said pieces (Ok None) = said ≡ Ok pieces
 EndsPieces said pieces (Ok (Some piece)) = ⊤

@@ -1,4 +1,4 @@
-// Leaves of a file that a store is told of before they are visited.
+//! Leaves of a file that a store is told of before they are visited.
 ghost use Rattle.std.specs.Prelude.{◌≡◌, ◌≤◌, ◌+◌, OnOk};
 ghost use Rattle.uf_store.specs.Calls.{OnlyReads};
 ghost use Rattle.uf_store.specs.Faults.{NoneIsBad};

@@ -1,4 +1,4 @@
-// Why a foreign DAG can't be read.
+//! Why a foreign DAG can't be read.
 use uf_cid::{Cid, Memory};
 use uf_store::StoreFault;
 use uf_tree::Name;
@@ -22,7 +22,7 @@ pub enum DagFault {
     TooMany,
     /// The name at this place of the path, counted from 0, is not there.
     NotFound(u32),
-    /// The name at this place of the path stands behind a file.
+    /// The name at this place of the path stands after a file.
     NotADirectory(u32),
     Store(StoreFault),
 }

@@ -1,4 +1,4 @@
-// The ways of a directory gathered, with those of its sub-shards in their place.
+//! The ways of a directory gathered, with those of its sub-shards in their place.
 ghost use Rattle.std.specs.Prelude.{◌≡◌, ◌≤◌, ◌<◌, ◌+◌, ◌-◌, ◌*◌, [], ◌∷◌, ℕ, IfErr, IfOk, IsTrue, OnOk, length};
 ghost use Rattle.std.specs.Option.{option_map};
 ghost use Rattle.uf_cid.specs.declared.cid.Cid.{Cid as TheCid};
@@ -222,7 +222,7 @@ fn put_below(
     frames.push(below)
 }
 
-// Adds the entries of a shard up to the next link to a shard; answers the place behind that link, and its CID.
+// Adds the entries of a shard up to the next link to a shard; answers the place after that link, and its CID.
 fn add_entries(
     alloc: Global,
     frame: &Frame,
@@ -262,7 +262,7 @@ fn add_entry(
     }
 }
 
-// What stands behind the two digits of a slot in the name of a shard's link.
+// What stands after the two digits of a slot in the name of a shard's link.
 fn behind_digits(name: &str) -> Option<&[u8]>
     ensures { option_map (λ rest. rest.now) result ≡ behind_slot name.now }
 {

@@ -1,4 +1,4 @@
-// What holds of readings.
+//! What holds of readings.
 ghost use Rattle.std.specs.Prelude.{◌≡◌, ◌+◌, ◌<◌, ◌^◌, ◌↔◌, ℕ, Contains, List, [], IsTrue, None, Ok, Some, length, map};
 ghost use Rattle.std.specs.List.{AllByRecursion};
 ghost use Rattle.std.specs.declared.option.Option.{Option};

@@ -1,4 +1,4 @@
-// Ways met one after the other.
+//! Ways met one after the other.
 ghost use Rattle.std.specs.Prelude.{◌≡◌, [], ◌∷◌, ◌++◌, IfErr, IfOk, IsTrue, List, ℕ, MatchOption, OnOk, is_some};
 ghost use Rattle.std.specs.FinMap.Entries.{find, is_sorted, put as put_at};
 ghost use Rattle.uf_tree.specs.Names.{names_cmp};

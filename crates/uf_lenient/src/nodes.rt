@@ -1,4 +1,4 @@
-// Blocks read leniently.
+//! Blocks read leniently.
 ghost use Rattle.std.specs.Prelude.{◌≡◌, [], IfErr, IfOk, IsTrue};
 ghost use Rattle.std.specs.Option.{unwrap_or};
 ghost use Rattle.uf_message.specs.Reading.{message_reads};
@@ -38,7 +38,11 @@ pub fn read_unixfs(alloc: Global, cid: &Cid, bytes: &[u8]) -> Result<Unixfs, Dag
 fn read_raw(alloc: Global, bytes: &[u8]) -> Result<Unixfs, Memory>
     ensures { IfOk result (λ u. u ≡ File none bytes.now []) }
 {
-    Ok(Unixfs::File(Meta::none(), block_of(alloc, bytes)?, Links::new(alloc)))
+    Ok(Unixfs::File(
+        Meta::none(),
+        Block::from_slice(alloc, bytes)?,
+        Links::new(alloc),
+    ))
 }
 
 // What a node is by its content.
@@ -230,13 +234,4 @@ pub fn shard_of(cid: &Cid, node: Unixfs) -> Result<Links, DagFault>
         Unixfs::OtherShard => Err(DagFault::Unsupported(*cid)),
         _ => Err(DagFault::NotUnixfs(*cid, 20)),
     }
-}
-
-// A block of these bytes.
-fn block_of(alloc: Global, bytes: &[u8]) -> Result<Block, Memory>
-    ensures { IfOk result (λ b. b ≡ bytes.now) }
-{
-    let mut block = Block::with_capacity(alloc, bytes.len())?;
-    block.extend(bytes)?;
-    Ok(block)
 }

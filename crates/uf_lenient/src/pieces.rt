@@ -1,4 +1,4 @@
-// A file read node by node.
+//! A file read node by node.
 ghost use Rattle.std.specs.Prelude.{◌≡◌, ◌≤◌, ◌+◌, ◌↔◌, [], ◌++◌, drop, length, IfOk, IfSome, IsSome, Ok, OnErr, OnOk};
 ghost use Rattle.std.specs.Prelude.{None, Some, slice_get};
 ghost use Rattle.uf_cid.specs.Blocks.{Lookup as Held};

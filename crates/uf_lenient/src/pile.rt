@@ -1,4 +1,4 @@
-// What is still to be done, from the top down.
+//! What is still to be done, from the top down.
 ghost use Rattle.std.specs.Prelude.{◌≡◌, ◌≤◌, ◌-◌, [], ◌∷◌, ◌++◌};
 ghost use Rattle.std.specs.Prelude.{drop, length, OnOk, OnErr, MatchOption, slice_get, slice_set};
 ghost use Rattle.std.specs.Option.{option_copied};
@@ -67,7 +67,7 @@ impl Pile<Due> {
         self.items.last()
     }
 
-    /// Puts another pile in place of what is on top; for want of memory all stays as it was.
+    /// Puts another pile in place of what is on top; out of memory all stays as it was.
     pub fn replace_top(&mut self, others: &Pile<Due>) -> Result<(), Memory>
         requires { 1 ≤ length self.old }
         ensures ok { OnOk result (self.new ≡ others.now ++ drop 1 self.old) }
@@ -83,7 +83,7 @@ impl Pile<Due> {
     }
 }
 
-// Puts one in place of the last one, and others behind it.
+// Puts one in place of the last one, and others after it.
 fn replace_last(items: &mut Vec<Due>, one: Due, others: &[Due]) -> Result<(), Memory>
     requires { 1 ≤ length items.old.items }
     ensures ok { OnOk result (items.new.items

@@ -1,4 +1,4 @@
-// Worked readings that the definitions decide.
+//! Worked readings that the definitions decide.
 ghost use Rattle.std.specs.Prelude.{◌≡◌, [], ◌∷◌, None, Ok, Err, Some, codes};
 ghost use Rattle.uf_store.specs.declared.store.StoreFault.TheVariants.{Missing};
 ghost use Rattle.uf_tree.specs.Metas.{none};

@@ -1,4 +1,4 @@
-// What the reading of a foreign DAG is given, and what it answers.
+//! What the reading of a foreign DAG is given, and what it answers.
 ghost use Rattle.std.specs.Prelude.{◌≡◌, IfOk};
 
 use std::marker::Model;

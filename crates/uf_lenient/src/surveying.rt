@@ -1,4 +1,4 @@
-// Everything below a CID read.
+//! Everything below a CID read.
 ghost use Rattle.std.specs.Prelude.{◌≡◌, ◌≢◌, ◌≤◌, ◌<◌, ◌+◌, ◌∷◌, ◌++◌, IfOk, IfSome, OnOk, map};
 ghost use Rattle.uf_lenient.specs.declared.due.Visited.TheVariants.{Whole};
 ghost use Rattle.uf_store.specs.Calls.{OnlyReads};

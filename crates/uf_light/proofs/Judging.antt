@@ -24,6 +24,7 @@ use Rattle.uf_light.specs.declared.fault.LightFault.TheVariants as fault
 use Rattle.uf_light.specs.Answers.{Accepts, ClashesWithPlan, IsOwnFault, light_fault}
 use Rattle.uf_light.specs.Bad.{IsBadLight}
 use Rattle.uf_light.specs.Checking.{keeping_fault, reading_fault}
+use Rattle.uf_light.specs.Sending.{ComesFirst}
 use Rattle.uf_light.specs.Opening.{Opens}
 use Rattle.uf_light.specs.Sections.{ShownBySections, sections_told}
 use Rattle.uf_light.specs.Standing.{IsAgreedAt, IsTreeAt}
@@ -60,6 +61,22 @@ module _ (X : List ℕ → List ℕ) (N : List ℕ → ℕ) where
     reads-as (fault.Store (store.BadBlock c role)) h a = a (let shown : ShowsBadBlock X (IsBadLight X N mid.told root) c role mid now = h.cause in calmly shown.calm)
     reads-as (fault.Store (store.Clash c x y)) h a = tt
     reads-as (fault.Store store.Memory) h a = tt
+
+    -- what comes before anything is written does so where it is told as a fault of the sections
+    first-as : (f : LightFault) → Reads root mid now (Err f) → (Stood mid.faults now.faults → ComesFirst (Err f) out out_now) → ComesFirst (Err (reading_fault f)) out out_now
+    first-as (fault.NotFound k) h a = a (calmly h.cause)
+    first-as (fault.NotADirectory k) h a = a (calmly h.cause)
+    first-as fault.IsADirectory h a = a (calmly h.cause)
+    first-as fault.Exists h a = a (calmly h.cause)
+    first-as (fault.OtherRoot c) h a = a (calmly h.cause)
+    first-as (fault.Car g) h a = a (calmly h.cause)
+    first-as fault.Sink h a = tt
+    first-as (fault.Store store.Failed) h a = tt
+    first-as (fault.Store (store.Damaged c)) h a = tt
+    first-as (fault.Store (store.Missing c)) h a = a (let shown : ShowsMissing c mid now = h.cause in calmly shown.calm)
+    first-as (fault.Store (store.BadBlock c role)) h a = a (let shown : ShowsBadBlock X (IsBadLight X N mid.told root) c role mid now = h.cause in calmly shown.calm)
+    first-as (fault.Store (store.Clash c x y)) h a = tt
+    first-as (fault.Store store.Memory) h a = tt
 
     reads-well : (n : ℕ) → Reads root mid now (Ok n) → Answered (Ok n) → Accepts mid.told needs said (Ok n) out out_now
     reads-well n h a = a (calmly h.cause)
@@ -100,6 +117,15 @@ module _ (X : List ℕ → List ℕ) (N : List ℕ → ℕ) where
         where
           by : IsAgreedAt X N mid.told p root t ⊎ ClashesWithPlan X (blocks X N p t) r.sections → Judged (Ok n)
           by (inl a) = inr (subst (λ (told : Told). Accepts told needs said (Ok n) out out_now) told-is (reads-well root mid now fresh needs said out out_now n reads (accepts a)))
+          by (inr clash) = inl clash
+
+      -- nothing was written before all was read
+      pub judges-first : (f : LightFault) → Reads root mid now (Err f) → (IsAgreedAt X N mid.told p root t → Stood mid.faults now.faults → ComesFirst (Err f) out out_now)
+          → ClashesWithPlan X (blocks X N p t) r.sections ⊎ ComesFirst (Err (reading_fault f)) out out_now
+      judges-first f reads first = by agreed
+        where
+          by : IsAgreedAt X N mid.told p root t ⊎ ClashesWithPlan X (blocks X N p t) r.sections → ClashesWithPlan X (blocks X N p t) r.sections ⊎ ComesFirst (Err (reading_fault f)) out out_now
+          by (inl a) = inr (first-as root mid now fresh needs said out out_now f reads (first a))
           by (inr clash) = inl clash
 
       -- a front of what is said

@@ -1,11 +1,15 @@
+pub mod Accepted
+pub mod Accepting
+pub mod Again
 pub mod Agreed
 pub mod Agreeing
 pub mod Blaming
 pub mod Collecting
 pub mod Equal
 pub mod Files
-pub mod Fronts
+pub mod First
 pub mod Finding
+pub mod Fronts
 pub mod Going
 pub mod Holding
 pub mod Judging
@@ -18,6 +22,8 @@ pub mod Proved
 pub mod Rooting
 pub mod Saving
 pub mod Seeing
+pub mod Short
 pub mod Showing
+pub mod Sound
 pub mod Wanting
 pub mod Written

@@ -22,6 +22,8 @@ use Rattle.uf_tree.specs.Tree.{Tree, File, Dir, Entries, own_meta}
 use Rattle.uf_tree.specs.TreePlan.{blocks, entry, named_entries}
 use Rattle.uf_tree.specs.Validity.{IsHash}
 use Rattle.uf_fileread.proofs.Rooted as rooted
+use Rattle.uf_shard.specs.Trails.{traced}
+use Rattle.uf_shard.specs.declared.traced.Traced.{Traced}
 use Rattle.uf_dir.specs.Planned.{IsPlanned, root_links}
 use Rattle.uf_dir.specs.declared.kind.Kind.{Kind}
 use Rattle.uf_dir.specs.declared.kind.Kind.TheVariants as kinds
@@ -66,6 +68,15 @@ module _ (X : List ℕ → List ℕ) (N : List ℕ → ℕ) where
         let l = named_entries X N p es in
         subst (λ v. ReadsOver told (trail X N p (own_meta es) l name) v r) (find-child X N p es name)
         (finds-reads told _ _ r (finds p (own_meta es) l (planned-of X N p c es s.plan hash fits) (trail-agrees c es name s)))
+
+    -- and of it and the blocks that decide it
+    pub trace-says : (c : Cid) (es : Entries) (name : List ℕ) (r : Result Traced StoreFault) → IsAgreedAt X N told p c (Dir es)
+        → ((q : Profile) (m : Meta) (l : List Named) → IsPlanned X N q m c l → Agrees told (trail X N q m l name) → FindsOver told (trail X N q m l name) (traced (find names_cmp name l) (trail X N q m l name)) r)
+        → FindsOver told (trail X N p (own_meta es) (named_entries X N p es) name) (traced (option_map (entry X N p) (child name es)) (trail X N p (own_meta es) (named_entries X N p es) name)) r
+    trace-says c es name r s finds =
+        let l = named_entries X N p es in
+        subst (λ v. FindsOver told (trail X N p (own_meta es) l name) (traced v (trail X N p (own_meta es) l name)) r) (find-child X N p es name)
+        (finds p (own_meta es) l (planned-of X N p c es s.plan hash fits) (trail-agrees c es name s))
 
     -- and of the blocks that decide it
     pub trail-says : {A : Type 0} (c : Cid) (es : Entries) (name : List ℕ) (v : List Held → A) (r : Result A StoreFault) → IsAgreedAt X N told p c (Dir es)

@@ -42,7 +42,7 @@ module _ (X : List ℕ → List ℕ) (N : List ℕ → ℕ) (p : Profile) where
   trails (name ∷ names) (Dir es) = trail X N p (own_meta es) (named_entries X N p es) name
       ++ elim (child name es) [ None ↦ [] | Some t ↦ trails names t ]
 
-  -- a file of this height gives the blocks of its plan, each node in front of those below it
+  -- a file of this height gives the blocks of its plan, each node before those below it
   abbrev pub file_blocks : ℕ → Result Tree Refused → List Held
   file_blocks height (Ok (File m bytes)) = whole_blocks X p.chunk p.width m height bytes
   file_blocks height (Ok (Dir es)) = []
@@ -66,7 +66,7 @@ of_there true t = Err fault.Exists
 of_there false (File m bytes) = Ok bytes
 of_there false (Dir es) = Err fault.IsADirectory
 
--- what is written where a lookup is refused at the name behind so many names, or at the last of so many; it is refused
+-- what is written where a lookup is refused at the name after so many names, or at the last of so many; it is refused
 -- for no other reason
 abbrev pub of_refused : Bool → List (List ℕ) → Refused → Result (List ℕ) LightFault
 of_refused true names (why.NotFound led) = Ok (absent_text names)

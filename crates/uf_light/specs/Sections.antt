@@ -43,7 +43,7 @@ abbrev pub AnswersTree : (List ℕ → List ℕ) → List Held → (plan needs :
 AnswersTree X sections plan needs said result out out_now = IfErr result IsBehindCar
     → ClashesWithPlan X plan sections ⊎ Accepts (sections_told sections) needs said result out out_now
 
--- an answer of success, or want of memory
+-- an answer of success, or out of memory
 abbrev pub IsOkOrMemory : Result ℕ LightFault → Type 0
 IsOkOrMemory (Ok n) = Unit {0}
 IsOkOrMemory (Err f) = f ≡ fault.Store store.Memory

@@ -29,3 +29,10 @@ abbrev pub SendsAbsent : List ℕ → Result ℕ LightFault → SinkTold → Sin
 SendsAbsent text (Ok n) out out_now = WritesAll text n out out_now
 SendsAbsent text (Err fault.Sink) out out_now = AppendsPrefix text out out_now
 SendsAbsent text (Err f) out out_now = (f ≡ fault.Store store.Memory) × (out_now ≡ out)
+
+-- a refusal, and a block that is missing or bad, is found before anything is written
+abbrev pub ComesFirst : Result ℕ LightFault → SinkTold → SinkTold → Type 0
+ComesFirst (Ok n) out out_now = Unit {0}
+ComesFirst (Err fault.Sink) out out_now = Unit {0}
+ComesFirst (Err (fault.Store store.Memory)) out out_now = Unit {0}
+ComesFirst (Err f) out out_now = out_now ≡ out

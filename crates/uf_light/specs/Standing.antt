@@ -57,7 +57,7 @@ module _ (X : List ℕ → List ℕ) (N : List ℕ → ℕ) (told : Told) (p : P
   IsMet (Err why) (Nothing place) = why ≡ NotFound (place + 1)
   IsMet (Err why) (Behind place) = why ≡ NotADirectory place
 
-  -- an answer that is so, or one of these blocks is lost; want of memory is free
+  -- an answer that is so, or one of these blocks is lost; out of memory is free
   abbrev pub LosesOr : {A : Type 0} → List Held → (A → Type 0) → Result A StoreFault → Type 0
   LosesOr l IsSo (Ok a) = IsSo a
   LosesOr l IsSo (Err fault) = IsLossOf told l fault

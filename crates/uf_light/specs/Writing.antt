@@ -22,7 +22,7 @@ WritesSectionOf cid (Err fault.Sink) before now out out_now = WritesPart cid bef
 WritesSectionOf cid (Err (fault.Store f)) before now out out_now = IsLoadFault cid f × (out_now ≡ out)
 WritesSectionOf cid (Err f) before now out out_now = ⊥
 
--- the text was written, or a front of it where the sink or the store failed or there was no memory
+-- the text was written, or a prefix of it where the sink or the store failed or there was no memory
 abbrev pub WritesCar : List ℕ → Result ℕ LightFault → SinkTold → SinkTold → Type 0
 WritesCar text (Ok n) out out_now = WritesAll text n out out_now
 WritesCar text (Err fault.Sink) out out_now = AppendsPrefix text out out_now

@@ -1,4 +1,4 @@
-// What is asked of a light proof.
+//! What is asked of a light proof.
 use uf_cid::Cid;
 use uf_tree::Names;
 

@@ -1,5 +1,5 @@
-// Light proofs checked.
-ghost use Rattle.std.specs.Prelude.{◌≡◌, ◌⊎◌, ◌<◌, ◌^◌, IfErr, List, Some, ℕ, length};
+//! Light proofs checked.
+ghost use Rattle.std.specs.Prelude.{◌≡◌, ◌⊎◌, ◌<◌, ◌≤◌, ◌^◌, IfErr, List, Some, ℕ, length};
 ghost use Rattle.uf_edge.specs.Counts.{Counts, Stood};
 ghost use Rattle.uf_edge.specs.Streams.{AppendsPrefix};
 ghost use Rattle.uf_car.specs.Exporting.{WritesSome};
@@ -9,11 +9,13 @@ ghost use Rattle.uf_tree.specs.Tree.{Tree};
 ghost use Rattle.uf_tree.specs.TreePlan.{blocks as blocks_of};
 ghost use Rattle.uf_plain.specs.Edits.{at};
 ghost use Rattle.uf_plain.specs.Needs.{needs_at};
+ghost use Rattle.uf_light.specs.Accepting.{IsProof};
 ghost use Rattle.uf_light.specs.Answers.{ClashesWithPlan, CountsSink, IsOwnFault, OpensAs};
 ghost use Rattle.uf_light.specs.Answers.{file_needs, is_light_read, is_light_sink, opened};
 ghost use Rattle.uf_light.specs.Checking.{keeping_fault as fault_of_keeping, reading_fault as fault_of_reading};
 ghost use Rattle.uf_light.specs.Light.{HasHeight, light_says, said_bytes};
-ghost use Rattle.uf_light.specs.Sections.{AnswersTree, ShownBySections};
+ghost use Rattle.uf_light.specs.Sections.{AnswersTree, IsOkOrMemory, ShownBySections};
+ghost use Rattle.uf_light.specs.Sending.{ComesFirst};
 ghost use Rattle.uf_light.specs.Standing.{IsTreeAt};
 
 use crate::opening::open;
@@ -51,13 +53,25 @@ pub fn check<X: BlockHash, N: NameHash, I: Source, O: Sink, L: Ledger>(
         (light_says asked.now.absent asked.now.names (at 0 asked.now.names t)) result
         (O.holds out.old) (O.holds out.new) }
 
-    // Whatever fails, a front of the tree's answer was written and nothing else, unless two such blocks clash.
+    // The proof that `prove` writes of a tree with this root is accepted, where nothing fails meanwhile.
+    ensures accepts { (said bytes : List ℕ)
+        → IsProof X.block32 N.name64 asked.now.root asked.now.names asked.now.absent said bytes
+        → length bytes ≤ limit → I.left input.old ≡ Some bytes → Stood (I.faults input.old) (I.faults input.new)
+        → Stood (O.faults out.old) (O.faults out.new) → IsOkOrMemory result }
+
+    // Whatever fails, a prefix of the tree's answer was written and nothing else, unless two such blocks clash.
     ensures prefix { (bytes : List ℕ) (p : Profile) (t : Tree) (height : ℕ) → I.left input.old ≡ Some bytes
         → IsTreeAt X.block32 N.name64 p asked.now.root t → HasHeight p height (at 0 asked.now.names t)
         → ClashesWithPlan X.block32 (blocks_of X.block32 N.name64 p t) (car_read X.block32 limit bytes).sections
         ⊎ AppendsPrefix (said_bytes (light_says asked.now.absent asked.now.names (at 0 asked.now.names t)))
         (O.holds out.old) (O.holds out.new) }
     ensures some { WritesSome (O.holds out.old) (O.holds out.new) }
+
+    // All is read before anything is written: a refusal, and a block that is missing or bad, leaves the sink as it was.
+    ensures first { (bytes : List ℕ) (p : Profile) (t : Tree) (height : ℕ) → I.left input.old ≡ Some bytes
+        → IsTreeAt X.block32 N.name64 p asked.now.root t → HasHeight p height (at 0 asked.now.names t)
+        → ClashesWithPlan X.block32 (blocks_of X.block32 N.name64 p t) (car_read X.block32 limit bytes).sections
+        ⊎ ComesFirst result (O.holds out.old) (O.holds out.new) }
 
     // Whatever the CAR has: each fault of the store that it is read into is shown by its sections.
     ensures shown { (bytes : List ℕ) → I.left input.old ≡ Some bytes
@@ -88,7 +102,7 @@ pub fn check<X: BlockHash, N: NameHash, I: Source, O: Sink, L: Ledger>(
 }
 
 // A fault of the store where the sections are kept: two of them clash. Such a store holds what it was given and doesn't
-// fail, so all else is want of memory.
+// fail, so all else is out of memory.
 fn keeping_fault(fault: LightFault) -> LightFault
     ensures { result ≡ fault_of_keeping fault }
 {

@@ -1,4 +1,4 @@
-// What is to be shown of what a path leads to.
+//! What is to be shown of what a path leads to.
 ghost use Rattle.std.specs.Prelude.{◌≡◌};
 ghost use Rattle.uf_light.specs.Met.{as_file, wanted_of};
 

@@ -1,4 +1,4 @@
-// The CIDs that are still to be gone through.
+//! The CIDs that are still to be gone through.
 ghost use Rattle.std.specs.Prelude.{◌≡◌, [], ◌∷◌, MatchOption, OnOk};
 
 use std::alloc::Global;

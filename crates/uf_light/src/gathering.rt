@@ -1,26 +1,26 @@
-// The CIDs of the blocks that decide a path.
-ghost use Rattle.std.specs.Prelude.{◌≡◌, ◌+◌, ◌<◌, ◌^◌, ◌++◌, List, ℕ, length, OnOk, OnErr};
+//! The CIDs of the blocks that decide a path.
+ghost use Rattle.std.specs.Prelude.{◌≡◌, ◌+◌, ◌<◌, ◌^◌, ◌++◌, IfOk, IfSome, List, ℕ, length, OnOk};
 ghost use Rattle.uf_edge.specs.Counts.{Stood};
 ghost use Rattle.uf_store.specs.Calls.{OnlyReads};
 ghost use Rattle.uf_store.specs.Faults.{fault_in};
 ghost use Rattle.uf_tree.specs.declared.profile.Profile.{Profile};
-ghost use Rattle.uf_tree.specs.Tree.{Tree};
+ghost use Rattle.uf_tree.specs.Tree.{Dir, Entries, Tree};
 ghost use Rattle.uf_plain.specs.Edits.{at};
-ghost use Rattle.uf_light.specs.Bad.{IsBadUnder};
-ghost use Rattle.uf_light.specs.Gathered.{Gathers};
-ghost use Rattle.uf_light.specs.Standing.{IsAgreedThing};
+ghost use Rattle.uf_light.specs.Bad.{IsBadOnPath, IsBadUnder, IsRequired};
+ghost use Rattle.uf_light.specs.Gathered.{Gathers, GathersMember};
+ghost use Rattle.uf_light.specs.Standing.{IsAgreedAt, IsAgreedThing};
 ghost use Rattle.uf_light.specs.Touches.{CountsUp};
 
-use crate::looking::member;
+use crate::looking::thing_of;
 use crate::met::Met;
 use crate::thing::Thing;
 use std::alloc::Global;
 use std::sync::ledger::Ledger;
 use uf_cid::{Cid, Cids, Memory};
-use uf_dir::trail;
+use uf_dir::trace;
 use uf_murmur::NameHash;
 use uf_store::{Steps, Store, StoreFault};
-use uf_tree::Name;
+use uf_tree::{Entry, Name};
 
 // What the names lead to from this thing, to which so many names led. The CIDs of the blocks that decide each name go
 // to the end of the list.
@@ -49,12 +49,37 @@ pub fn gather<S: Store, N: NameHash, L: Ledger>(
     let Thing::Folder(folder) = thing else {
         return Ok(Met::Behind(led));
     };
-    let way = trail::<S, N, L>(alloc, store, &folder.cid, name, touches)?;
-    append(cids, way.as_slice())?;
-    match member::<S, N, L>(alloc, store, &folder, name, touches)? {
+    match gather_member::<S, N, L>(alloc, store, &folder, name, cids, touches)? {
         None => Ok(Met::Nothing(led)),
         Some(below) => gather::<S, N, L>(alloc, store, led + 1, rest, below, cids, touches),
     }
+}
+
+// What this directory has under a name, by one walk. The CIDs of the blocks that decide it go to the end of the list.
+fn gather_member<S: Store, N: NameHash, L: Ledger>(
+    alloc: Global,
+    store: &mut S,
+    folder: &Entry,
+    name: &Name,
+    cids: &mut Cids,
+    touches: &mut Steps<L>,
+) -> Result<Option<Thing>, StoreFault>
+    ensures gathers { (p : Profile) (es : Entries)
+        → IsAgreedAt S.X.block32 N.name64 (S.seen store.old).told p folder.now.cid (Dir es)
+        → Stood (S.seen store.old).faults (S.seen store.new).faults
+        → GathersMember S.X.block32 N.name64 (S.seen store.old).told p name.now es cids.old cids.new result }
+    ensures reads { OnlyReads S.X.block32 (IsBadOnPath S.X.block32 N.name64 folder.now.cid) (fault_in result)
+        (S.seen store.old) (S.seen store.new) }
+    ensures required { IfOk result (λ found. IfSome found (IsRequired S.X.block32 folder.now.cid)) }
+    ensures touched { CountsUp (fault_in result) touches.old touches.new }
+{
+    let traced = trace::<S, N, L>(alloc, store, &folder.cid, name, touches)?;
+    append(cids, traced.trail.as_slice())?;
+    let Some(entry) = traced.entry else {
+        return Ok(None);
+    };
+    let thing = thing_of::<S, N, L>(alloc, store, &entry, touches)?;
+    Ok(Some(thing))
 }
 
 // Puts CIDs at the end of a list.

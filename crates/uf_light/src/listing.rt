@@ -1,4 +1,4 @@
-// The CIDs of a file's blocks.
+//! The CIDs of a file's blocks.
 ghost use Rattle.std.specs.Prelude.{◌≡◌, ◌<◌, ℕ, List, [], ◌∷◌, ◌++◌, None, OnOk};
 ghost use Rattle.uf_edge.specs.Counts.{Stood};
 ghost use Rattle.uf_store.specs.Calls.{OnlyReads};
@@ -26,7 +26,7 @@ use uf_fileread::{NodeParts, read_parts};
 use uf_store::{Role, Steps, Store, StoreFault, need};
 use uf_tree::{Entry, Part, Parts};
 
-// The CIDs of the blocks of a file: each node in front of the blocks below it, these from left to right, and each as
+// The CIDs of the blocks of a file: each node before the blocks below it, these from left to right, and each as
 // often as the file has it (UnixFS v1, "File"). Each block is found. As many as a CAR can't have are more than there is
 // memory for.
 pub fn file_cids<S: Store, L: Ledger>(
@@ -59,7 +59,7 @@ pub fn file_cids<S: Store, L: Ledger>(
     Err(StoreFault::Memory)
 }
 
-// Puts the CIDs of some parts in front of what is due, the first part's first.
+// Puts the CIDs of some parts before what is due, the first part's first.
 fn put_parts(due: &mut Due, parts: &[Part]) -> Result<(), Memory>
     ensures ok { OnOk result (due.new ≡ cids_in parts.now ++ due.old) }
 {

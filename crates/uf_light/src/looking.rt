@@ -1,4 +1,4 @@
-// What a path leads to, looked up from its root.
+//! What a path leads to, looked up from its root.
 ghost use Rattle.std.specs.Prelude.{◌≡◌, ◌+◌, ◌<◌, ◌^◌, IfOk, IfSome, List, ℕ, Ok, length};
 ghost use Rattle.uf_cid.specs.declared.cid.Cid.{Cid as TheCid};
 ghost use Rattle.uf_dir.specs.Bad.{IsBadRoot};

@@ -1,4 +1,4 @@
-// A CAR of one root read into a store.
+//! A CAR of one root read into a store.
 ghost use Rattle.std.specs.Prelude.{◌≡◌, IfErr, List, Some, ℕ};
 ghost use Rattle.uf_edge.specs.Counts.{Counts};
 ghost use Rattle.uf_store.specs.Faults.{NoneIsBad, Shown};

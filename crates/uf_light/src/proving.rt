@@ -1,4 +1,4 @@
-// Light proofs made.
+//! Light proofs made.
 ghost use Rattle.std.specs.Prelude.{◌≡◌, ◌-◌, ◌<◌, ◌^◌, [], IfErr, IfOk, List, None, Some, ℕ, false, length};
 ghost use Rattle.uf_car.specs.Exporting.{WritesSome};
 ghost use Rattle.uf_edge.specs.Counts.{Counts, Stood};
@@ -62,7 +62,7 @@ pub fn prove<S: Store, N: NameHash, O: Sink, L: Ledger>(
         (light_text S.X.block32 N.name64 p height names.now t) (light_says absent names.now (at 0 names.now t)) result
         (O.holds out.old) (O.holds out.new) }
 
-    // Whatever fails, a front of the proof was written and nothing else; where the tree refuses, nothing.
+    // Whatever fails, a prefix of the proof was written and nothing else; where the tree refuses, nothing.
     ensures prefix { (p : Profile) (t : Tree) (height : ℕ)
         → IsAgreedAt S.X.block32 N.name64 (S.seen store.old).told p root.now.cid t
         → (S.seen store.old).faults < 2 ^ 64 - 1 → HasHeight p height (at 0 names.now t)

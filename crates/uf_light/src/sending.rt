@@ -1,4 +1,4 @@
-// What is at a path, written to a sink.
+//! What is at a path, written to a sink.
 ghost use Rattle.std.specs.Prelude.{◌≡◌, ◌<◌, ◌^◌, ◌-◌, IfErr, IfOk, List, ℕ, length};
 ghost use Rattle.uf_car.specs.Exporting.{WritesSome};
 ghost use Rattle.uf_edge.specs.Counts.{Stood};
@@ -16,7 +16,7 @@ ghost use Rattle.uf_light.specs.Answers.{Accepts, CountsSink, file_needs, is_lig
 ghost use Rattle.uf_light.specs.Bad.{IsBadLight};
 ghost use Rattle.uf_light.specs.FileCids.{IsBadInSome};
 ghost use Rattle.uf_light.specs.Light.{HasHeight, absent_text, light_says, said_bytes};
-ghost use Rattle.uf_light.specs.Sending.{IsNoCar, SendsAbsent, SendsFile};
+ghost use Rattle.uf_light.specs.Sending.{ComesFirst, IsNoCar, SendsAbsent, SendsFile};
 ghost use Rattle.uf_light.specs.Standing.{IsAgreedAt};
 
 use crate::LightFault;
@@ -56,6 +56,10 @@ pub fn show<S: Store, N: NameHash, O: Sink, L: Ledger>(
         → (S.seen store.old).faults < 2 ^ 64 - 1 → HasHeight p height (at 0 names.now t)
         → AppendsPrefix (said_bytes (light_says absent names.now (at 0 names.now t)))
         (O.holds out.old) (O.holds out.new) }
+    ensures first { (p : Profile) (t : Tree) (height : ℕ)
+        → IsAgreedAt S.X.block32 N.name64 (S.seen store.old).told p root.now t
+        → Stood (S.seen store.old).faults (S.seen store.new).faults → HasHeight p height (at 0 names.now t)
+        → ComesFirst result (O.holds out.old) (O.holds out.new) }
     ensures some { WritesSome (O.holds out.old) (O.holds out.new) }
     ensures reads { OnlyReads S.X.block32 (IsBadLight S.X.block32 N.name64 (S.seen store.old).told root.now)
         (light_fault result) (S.seen store.old) (S.seen store.new) }
@@ -93,6 +97,11 @@ fn send_file<S: Store, O: Sink, L: Ledger>(
         → IsFile S.X.block32 p m bytes entry.now.cid height
         → Agrees (S.seen store.old).told (file_plan S.X.block32 p m bytes).blocks
         → (S.seen store.old).faults < 2 ^ 64 - 1 → AppendsPrefix bytes (O.holds out.old) (O.holds out.new) }
+    ensures first { (p : Profile) (m : Meta) (bytes : List ℕ) (height : ℕ)
+        → IsFile S.X.block32 p m bytes entry.now.cid height
+        → Agrees (S.seen store.old).told (file_plan S.X.block32 p m bytes).blocks
+        → Stood (S.seen store.old).faults (S.seen store.new).faults
+        → ComesFirst result (O.holds out.old) (O.holds out.new) }
     ensures some { WritesSome (O.holds out.old) (O.holds out.new) }
     ensures reads { OnlyReads S.X.block32 (IsBadInSome (S.seen store.old).told) (light_fault result)
         (S.seen store.old) (S.seen store.new) }

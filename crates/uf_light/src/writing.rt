@@ -1,4 +1,4 @@
-// A CAR of the blocks of some CIDs, written from a store.
+//! A CAR of the blocks of some CIDs, written from a store.
 ghost use Rattle.std.specs.Prelude.{◌≡◌, ◌<◌, ◌≤◌, ◌^◌, IfErr, IfOk, Some, length};
 ghost use Rattle.uf_edge.specs.Counts.{Counts};
 ghost use Rattle.uf_store.specs.Calls.{OnlyReads};

@@ -1,5 +1,6 @@
 -- What contracts see of an input's lines while they are read.
-use Rattle.std.specs.Prelude.{◌≡◌, ℕ, ◌+◌, ◌-◌, ◌<◌, ◌≤◌, Bool, true, false, List, [], ◌∷◌, length, take, drop, Some, None, IfSome}
+use Rattle.std.specs.Prelude.{◌≡◌, ℕ, ◌+◌, ◌-◌, ◌<◌, ◌≤◌, Bool, true, false, List, [], ◌∷◌, length, take, drop, Some}
+use Rattle.std.specs.Prelude.{None, IfSome}
 use Rattle.std.specs.declared.option.Option.{Option}
 use Rattle.uf_edge.specs.Streams.{IsAtEnd, Told, before as in_front}
 use Rattle.uf_lines.specs.LinesIn.{LinesIn, last_line, lines_in, long_lines, with_lines}

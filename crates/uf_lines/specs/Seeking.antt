@@ -3,7 +3,8 @@ use Rattle.std.specs.Prelude.{◌≡◌, ℕ, ◌+◌, ◌-◌, ◌<◌, ◌≤�
 use Rattle.std.specs.declared.option.Option.{Option}
 use Rattle.uf_edge.specs.Streams.{Told}
 use Rattle.uf_lines.specs.LinesIn.{HasNoFeed}
-use Rattle.uf_lines.specs.Reading.{AnswersNext, GivesNone, HasEnded, IsShorter, TakesFew, bytes_ahead, is_failed_line, may_read}
+use Rattle.uf_lines.specs.Reading.{AnswersNext, GivesNone, HasEnded, IsShorter, TakesFew, bytes_ahead, is_failed_line}
+use Rattle.uf_lines.specs.Reading.{may_read}
 use Rattle.uf_lines.specs.declared.lines.Line.{Line}
 use Rattle.uf_lines.specs.declared.lines.Lines.{Lines}
 
@@ -23,7 +24,7 @@ pub record IsAsBefore (before now : Lines) : Type 0 where
   pub same_most : now.most ≡ before.most
   pub same_end : now.ended ≡ before.ended
 
--- LF stands behind the bytes that were searched
+-- LF stands after the bytes that were searched
 pub record StandsAtFeed (w : Lines) : Type 0 where
   pub inside : w.seen < length (bytes_ahead w)
   pub feed : get_or (bytes_ahead w) w.seen 0 ≡ 10
@@ -33,7 +34,7 @@ abbrev pub Stops : Bool → Lines → Type 0
 Stops true w = StandsAtFeed w
 Stops false w = w.seen ≡ length (bytes_ahead w)
 
--- what was searched is the line, and with its LF it is so many bytes
+-- what was searched is the line, and with its LF it is n bytes
 pub record Goes (used : ℕ) (before now : Lines) : Type 0 where
   pub same_window : now.window ≡ before.window
   pub given : now.given ≡ before.seen

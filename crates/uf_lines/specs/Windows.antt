@@ -10,7 +10,7 @@ use Rattle.uf_lines.specs.declared.window.Window.{Window}
 abbrev pub in_window : Window → List ℕ
 in_window w = take (w.to - w.from) (drop w.from w.buffer.items)
 
--- some bytes of the source, at most so many, stand behind those that were there
+-- some bytes of the source, at most so many, stand after those that were there
 pub record TakesBehind (count : ℕ) (before now : List ℕ) (left left_now : Told) : Type 0 where
   pub given : List ℕ
   pub some : 0 < length given
@@ -18,7 +18,7 @@ pub record TakesBehind (count : ℕ) (before now : List ℕ) (left left_now : To
   pub behind : now ≡ before ++ given
   pub taken : left ≡ in_front given left_now
 
--- the answer of a reading of at most so many bytes
+-- the answer of a reading of at most n bytes
 abbrev pub ReadsBehind : ℕ → Result Read Memory → List ℕ → List ℕ → Told → Told → Type 0
 ReadsBehind count (Ok (Got n)) before now left left_now = TakesBehind count before now left left_now
 ReadsBehind count (Ok End) before now left left_now = (now ≡ before) × (left_now ≡ left) × IsAtEnd left

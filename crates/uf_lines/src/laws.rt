@@ -1,4 +1,4 @@
-// Laws of the lines of an input.
+//! Laws of the lines of an input.
 ghost use Rattle.std.specs.Prelude.{◌≡◌, ◌≤◌, ℕ, List, [], ◌∷◌, ◌++◌, length, true};
 ghost use Rattle.std.specs.List.{AllByRecursion};
 ghost use Rattle.uf_lines.specs.LinesIn.{IsLine, LinesIn, lines_in, text_of, with_lines};

@@ -1,4 +1,4 @@
-// The lines of a source.
+//! The lines of a source.
 ghost use Rattle.std.specs.Prelude.{◌≡◌, ◌≤◌, ◌+◌, [], Contains, Some, drop, length, take};
 ghost use Rattle.uf_edge.specs.Counts.{Counts};
 ghost use Rattle.uf_lines.specs.LinesIn.{HasNoFeed};
@@ -12,7 +12,7 @@ use uf_edge::{Read, Source};
 /// The answer of `next`.
 #[derive(Clone, Copy, Debug, PartialEq, Eq)]
 pub enum Line {
-    /// A line came, or what stood behind the last one where the source ended.
+    /// A line came, or what stood after the last one where the source ended.
     Given,
     /// The source has ended, and all of its lines were given.
     End,
@@ -23,14 +23,14 @@ pub enum Line {
     Memory,
 }
 
-/// The lines of a source, each of at most so many bytes, within its first bytes up to a limit.
+/// The lines of a source, each of at most n bytes, within its first bytes up to a limit.
 #[derive(Drop)]
 pub struct Lines {
     window: Window,
-    // The line that was given last is in front of the window, and with its LF it is so many bytes.
+    // The line that was given last is at the prefix of the window, and with its LF it is n bytes.
     given: usize,
     used: usize,
-    // Behind it so many bytes have no LF.
+    // After it n bytes have no LF.
     seen: usize,
     room: u64,
     most: usize,
@@ -42,8 +42,10 @@ pub struct Lines {
 
 impl Lines {
     ghost use Rattle.uf_edge.specs.Streams.{Told};
-    ghost use Rattle.uf_lines.specs.Reading.{AnswersNext, HasEnded, IsShorter, TakesFew, bytes_ahead, is_failed_line, line_given, line_most, line_room};
-    ghost use Rattle.uf_lines.specs.Seeking.{Goes, IsAsBefore, IsPassed, Leads, Looks, NeedsMore, StandsAtFeed, Stops, is_fault};
+    ghost use Rattle.uf_lines.specs.Reading.{AnswersNext, HasEnded, IsShorter, TakesFew, bytes_ahead, is_failed_line};
+    ghost use Rattle.uf_lines.specs.Reading.{line_given, line_most, line_room};
+    ghost use Rattle.uf_lines.specs.Seeking.{Goes, IsAsBefore, IsPassed, Leads, Looks, NeedsMore, StandsAtFeed, Stops};
+    ghost use Rattle.uf_lines.specs.Seeking.{is_fault};
 
     /// The lines of a source that nothing was read of.
     pub fn new(alloc: Global, most: usize, limit: u64) -> Lines
@@ -113,7 +115,7 @@ impl Lines {
         }
     }
 
-    // What LF behind the bytes that were searched says.
+    // What LF after the bytes that were searched says.
     fn at_feed(&mut self) -> Line
         requires passed { self.old.used ≡ 0 }
         requires stands { StandsAtFeed self.old }
@@ -164,7 +166,7 @@ impl Lines {
         }
     }
 
-    // Gives the bytes that were searched as a line. With its LF it is so many bytes.
+    // Gives the bytes that were searched as a line. With its LF it is n bytes.
     fn give(&mut self, used: usize)
         requires front { self.old.seen ≤ used }
         requires fits { used ≤ length (bytes_ahead self.old) }
@@ -178,7 +180,7 @@ impl Lines {
         self.room -= used as u64;
     }
 
-    // Reads once behind the bytes that are there. The answer comes where that failed.
+    // Reads once after the bytes that are there. The answer comes where that failed.
     fn read_more<I: Source>(&mut self, input: &mut I) -> Option<Line>
         requires { NeedsMore self.old }
         ensures reads { Leads result self.old self.new (I.left input.old) (I.left input.new) }

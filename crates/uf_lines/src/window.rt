@@ -1,4 +1,4 @@
-// Bytes of a source in a buffer.
+//! Bytes of a source in a buffer.
 ghost use Rattle.std.specs.Prelude.{◌≡◌, ◌<◌, ◌≤◌, ◌+◌, ◌-◌, [], drop, length, take, vec_len, IfOk, OnOk};
 ghost use Rattle.uf_edge.specs.Counts.{Counts};
 ghost use Rattle.uf_edge.specs.Streams.{Reads, is_read_fault};
@@ -46,7 +46,7 @@ impl Window {
         self.from += count;
     }
 
-    // Reads once behind the bytes that are there, at most so many. There are at most `most` of them.
+    // Reads once after the bytes that are there, at most so many. There are at most `most` of them.
     pub fn read<I: Source>(
         &mut self,
         input: &mut I,
@@ -72,7 +72,7 @@ impl Window {
         }
     }
 
-    // Makes room for one more byte at least, behind at most `most` that are there.
+    // Makes room for one more byte at least, after at most `most` that are there.
     fn make_room(&mut self, most: usize) -> Result<(), Memory>
         requires { length (in_window self.old) ≤ most }
         ensures keeps { in_window self.new ≡ in_window self.old }
@@ -101,7 +101,7 @@ impl Window {
         self.to = length;
     }
 
-    // Gives the buffer so many bytes, where it has fewer.
+    // Gives the buffer n bytes, where it has fewer.
     fn grow(&mut self, size: usize) -> Result<(), Memory>
         requires { vec_len self.old.buffer ≤ size }
         ensures keeps { in_window self.new ≡ in_window self.old }

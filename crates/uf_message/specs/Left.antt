@@ -1,4 +1,4 @@
--- What is left of bytes behind a front.
+-- What is left of bytes after a front.
 use Rattle.std.specs.Prelude.{Bool, false, ℕ, List, [], ◌∷◌, ◌==◌, flat_map, length, if◌then◌else◌}
 use Rattle.std.specs.Option.{option_and_then, option_map}
 use Rattle.std.specs.Borrow.{Bor}
@@ -20,7 +20,8 @@ seen_left found = option_map (λ rest. rest.now) found
 -- what is left behind the parts of a message, one after the other
 unfoldable pub message_left : Message → List ℕ → Option (List ℕ)
 message_left m bytes =
-    option_and_then (λ a. option_and_then (λ b. option_and_then (λ c. option_and_then (λ d. option_and_then (λ e. option_and_then (λ f. option_and_then (λ g.
+    option_and_then (λ a. option_and_then (λ b. option_and_then
+    (λ c. option_and_then (λ d. option_and_then (λ e. option_and_then (λ f. option_and_then (λ g.
     left (optional (λ t. content_field 0x42 (mtime_bytes t)) m.mtime) g)
     (left (optional (number_field 0x38) m.mode) f))
     (left (optional (number_field 0x30) m.fanout) e))

@@ -1,5 +1,5 @@
--- What the lenient reader answers (UnixFS v1, "Data Format"; Protocol Buffers, "Encoding", "Message Structure"): the bytes
--- are cut into fields, these are judged from the left, and then values are selected by key, the last of each.
+-- What the lenient reader answers (UnixFS v1, "Data Format"; Protocol Buffers, "Encoding", "Message Structure"): the
+-- bytes are cut into fields, these are judged from the left, and then values are selected by key, the last of each.
 use Rattle.std.specs.Prelude.{◌==◌, ◌&&◌, not, Bool, ℕ, zero, suc, ◌%◌, ◌^◌, List, [], ◌∷◌, length, flat_map, nat_lt, if◌then◌else◌, is_some}
 use Rattle.std.specs.Int.{w32, w64, from_le_bytes, cast_signed}
 use Rattle.std.specs.List.{list_any}
@@ -42,13 +42,13 @@ abbrev pub bytes_of : ℕ → Field → Option (List ℕ)
 bytes_of key (Keyed k (Ok (Bytes b))) = if k == key then Some b else None
 bytes_of key _ = None
 
--- at most so many varints, one behind the other
+-- at most so many varints, one after the other
 unfoldable pub run_within : ℕ → List ℕ → Result (List ℕ) CutFault
 run_within zero bytes = Ok []
 run_within (suc n) [] = Ok []
 run_within (suc n) (b ∷ bytes) = number_at (b ∷ bytes) >>= λ x. run_within n x.1 >>= λ more. Ok (x.0 ∷ more)
 
--- bytes that are varints, one behind the other
+-- bytes that are varints, one after the other
 unfoldable pub run : List ℕ → Result (List ℕ) CutFault
 unfolding run_within
 run bytes = run_within (length bytes) bytes
@@ -78,7 +78,8 @@ content_fault inside key (Err f) = Some (msg_fault f)
 
 abbrev pub field_fault : List ℕ → ℕ → (ℕ → Content → Option MsgFault) → Field → Option MsgFault
 field_fault keys limit inside (NoKey f) = Some (msg_fault f)
-field_fault keys limit inside (Keyed key c) = if is_misplaced keys limit key then Some fault.Wire else content_fault inside key c
+field_fault keys limit inside (Keyed key c) = if is_misplaced keys limit key then Some fault.Wire
+    else content_fault inside key c
 
 -- a time has seconds, field 1, and nanoseconds, field 2 of four bytes
 abbrev pub mtime_field_fault : Field → Option MsgFault
@@ -91,7 +92,8 @@ abbrev pub time_of : Option ℕ → Option ℕ → Option Mtime
 time_of seconds nanos = option_map (λ n. record { seconds = cast_signed w64 n; nanos = nanos }) seconds
 
 abbrev pub mtime_of : List Field → Option Mtime
-mtime_of fs = if is_some (first_of mtime_field_fault fs) then None else time_of (last_of (number_of 0x08) fs) (last_of nanos_of fs)
+mtime_of fs = if is_some (first_of mtime_field_fault fs) then None
+    else time_of (last_of (number_of 0x08) fs) (last_of nanos_of fs)
 
 -- the time that bytes stand for, where they have no fault, and seconds
 unfoldable pub mtime_reads : List ℕ → Option Mtime

@@ -1,5 +1,5 @@
--- The one canonical spelling of a UnixFS message (UnixFS v1, "Data Format"; Protocol Buffers, "Encoding"): the fields that
--- are there in the order of their numbers, with shortest varints.
+-- The one canonical spelling of a UnixFS message (UnixFS v1, "Data Format"; Protocol Buffers, "Encoding"): the fields
+-- that are there in the order of their numbers, with shortest varints.
 use Rattle.std.specs.Prelude.{ℕ, ◌<◌, ◌^◌, List, ◌∷◌, ◌++◌, length, flat_map, IfSome, FitsSigned}
 use Rattle.std.specs.Int.{w32, w64, to_le_bytes, cast_unsigned}
 use Rattle.std.specs.List.{AllByRecursion}

@@ -20,7 +20,7 @@ abbrev pub cut_of : {A : Type 0} → Result A CutFault → Result A MsgFault
 cut_of (Ok a) = Ok a
 cut_of (Err f) = Err (msg_fault f)
 
--- numbers that were read behind earlier ones
+-- numbers that were read after earlier ones
 abbrev pub added : List ℕ → Result (List ℕ) CutFault → Result (List ℕ) MsgFault
 added earlier (Ok ns) = Ok (earlier ++ ns)
 added earlier (Err f) = Err (msg_fault f)
@@ -38,7 +38,7 @@ selection s = record {
   mtime = option_map (λ b. b.now) s.mtime;
 }
 
--- later fields behind earlier ones
+-- later fields after earlier ones
 abbrev pub over : Selected → Selected → Selected
 over later earlier = record {
   kind = option_or later.kind earlier.kind;
@@ -51,7 +51,8 @@ over later earlier = record {
   mtime = option_or later.mtime earlier.mtime;
 }
 
--- a field taken behind what was seen, and the bytes that follow it
+-- a field taken after what was seen, and the bytes that follow it
 abbrev pub took : ℕ → Selected → Result (Content × List ℕ) CutFault → Result (Selected × List ℕ) MsgFault
-took key seen (Ok c) = judged (message_field_fault (Keyed key (Ok c.0))) (Ok (over (selected (Keyed key (Ok c.0) ∷ [])) seen, c.1))
+took key seen (Ok c) = judged (message_field_fault (Keyed key (Ok c.0)))
+    (Ok (over (selected (Keyed key (Ok c.0) ∷ [])) seen, c.1))
 took key seen (Err f) = judged (message_field_fault (Keyed key (Err f))) (Err fault.Wire)

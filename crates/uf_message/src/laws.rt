@@ -1,4 +1,4 @@
-// What holds of messages and their spellings, whoever writes or reads them.
+//! What holds of messages and their spellings, whoever writes or reads them.
 ghost use Rattle.std.specs.Prelude.{◌≡◌, ◌<◌, ◌^◌, ℕ, Ok, IfSome, FitsSigned, length};
 ghost use Rattle.std.specs.Int.{w64};
 ghost use Rattle.std.specs.List.{AllByRecursion};
@@ -16,7 +16,8 @@ pub fn messages_are_read_again()
 
 /// A spelling stands for one message.
 pub fn spellings_are_one()
-    ensures { (a : TheMessage) → (b : TheMessage) → IsMessage a → IsMessage b → message_bytes a ≡ message_bytes b → a ≡ b }
+    ensures { (a : TheMessage) → (b : TheMessage) → IsMessage a → IsMessage b → message_bytes a ≡ message_bytes b
+        → a ≡ b }
 {}
 
 /// The numbers and lengths of a message have the widths of their types.

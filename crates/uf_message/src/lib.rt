@@ -1,4 +1,5 @@
-//! UnixFS messages: their canonical bytes, read strictly, and any spelling of them, read leniently (UnixFS v1, "Data Format").
+//! UnixFS messages: their canonical bytes, read strictly, and any spelling of them, read leniently (UnixFS v1, "Data
+//! Format").
 #![tactic(auto)]
 
 mod laws;

@@ -1,4 +1,4 @@
-// Messages and their parts.
+//! Messages and their parts.
 ghost use Rattle.std.specs.Prelude.{◌≡◌};
 ghost use Rattle.uf_message.specs.declared.message.MsgFault.TheVariants.{Memory as no_memory};
 

@@ -1,4 +1,4 @@
-// Messages read leniently.
+//! Messages read leniently.
 ghost use Rattle.std.specs.Prelude.{◌≡◌, [], ◌%◌, ◌^◌, ◌≤◌, ◌<◌, IfOk, length, Ok};
 ghost use Rattle.std.specs.Option.{option_map};
 ghost use Rattle.uf_varint.specs.Fields.{number_at, bytes_at, content_at, fields};
@@ -9,7 +9,7 @@ use crate::seen::Seen;
 use crate::times::time;
 use crate::{Message, MsgFault, MsgKind};
 use std::alloc::Global;
-use uf_cid::{Block, Memory, Sizes};
+use uf_cid::{Block, Sizes};
 use uf_varint::{CutFault, read_bytes, read_number, skip_content};
 
 impl From<CutFault> for MsgFault {
@@ -26,38 +26,29 @@ impl From<CutFault> for MsgFault {
     }
 }
 
-// The number at the front, and the bytes behind it.
+// The number at the front, and the bytes after it.
 fn number(bytes: &[u8]) -> Result<(u64, &[u8]), MsgFault>
     ensures exact { Gives (λ x. (x.0, x.1.now)) result (cut_of (number_at bytes.now)) }
     ensures shorter { IfOk result (λ x. length x.1.now < length bytes.now) }
 {
-    match read_number(bytes) {
-        Ok(found) => Ok(found),
-        Err(cut) => Err(MsgFault::from(cut)),
-    }
+    Ok(read_number(bytes)?)
 }
 
-// The bytes at the front whose number stands before them, and the bytes behind them.
+// The bytes at the front whose number stands before them, and the bytes after them.
 fn piece(bytes: &[u8]) -> Result<(&[u8], &[u8]), MsgFault>
     ensures exact { Gives (λ x. (x.0.now, x.1.now)) result (cut_of (bytes_at bytes.now)) }
     ensures shorter { IfOk result (λ x. length x.1.now < length bytes.now) }
 {
-    match read_bytes(bytes) {
-        Ok(found) => Ok(found),
-        Err(cut) => Err(MsgFault::from(cut)),
-    }
+    Ok(read_bytes(bytes)?)
 }
 
-// Puts the numbers that stand one behind the other to the sizes of blocks.
+// Puts the numbers that stand one after the other to the sizes of blocks.
 fn take_run(sizes: &mut Sizes, bytes: &[u8]) -> Result<(), MsgFault>
     ensures { Gives (λ _. sizes.new) result (added sizes.old (run bytes.now)) }
 {
     let mut rest = bytes;
     while !rest.is_empty() {
-        let (size, after) = match number(rest) {
-            Ok(found) => found,
-            Err(why) => return Err(why),
-        };
+        let (size, after) = number(rest)?;
         sizes.push(size)?;
         rest = after;
     }
@@ -90,10 +81,11 @@ impl<'a> Seen<'a> {
         }
     }
 
-    // Takes a field behind its key, and answers the bytes that follow it.
+    // Takes a field after its key, and answers the bytes that follow it.
     #[tactic(auto, unfolding(uf_varint::specs::Fields::content_at))]
     fn take(&mut self, key: u64, rest: &'a [u8]) -> Result<&'a [u8], MsgFault>
-        ensures exact { Gives (λ after. (selection self.new, after.now)) result (took key (selection self.old) (content_at (key % 8) rest.now)) }
+        ensures exact { Gives (λ after. (selection self.new, after.now)) result
+            (took key (selection self.old) (content_at (key % 8) rest.now)) }
         ensures shorter { IfOk result (λ after. length after.now ≤ length rest.now) }
     {
         match key {
@@ -115,10 +107,7 @@ impl<'a> Seen<'a> {
             0x38 => last!(self.mode, number(rest)),
             0x42 => last!(self.mtime, piece(rest)),
             0..=71 => Err(MsgFault::Wire),
-            _ => match skip_content(key % 8, rest) {
-                Ok(after) => Ok(after),
-                Err(cut) => Err(MsgFault::from(cut)),
-            },
+            _ => Ok(skip_content(key % 8, rest)?),
         }
     }
 
@@ -141,7 +130,7 @@ impl<'a> Seen<'a> {
         };
         let content = match self.content {
             None => None,
-            Some(bytes) => Some(copied(alloc, bytes)?),
+            Some(bytes) => Some(Block::from_slice(alloc, bytes)?),
         };
         Ok(Message {
             kind,
@@ -166,15 +155,6 @@ fn low_bits(mode: Option<u64>) -> Option<u32>
     }
 }
 
-// The bytes in memory of their own.
-fn copied(alloc: Global, bytes: &[u8]) -> Result<Block, Memory>
-    ensures { IfOk result (λ b. b ≡ bytes.now) }
-{
-    let mut block = Block::with_capacity(alloc, bytes.len())?;
-    block.extend(bytes)?;
-    Ok(block)
-}
-
 // The kind of a number.
 fn kind_from(number: u64) -> Option<MsgKind>
     ensures { result ≡ kind_of number }
@@ -190,23 +170,17 @@ fn kind_from(number: u64) -> Option<MsgKind>
     }
 }
 
-/// The message that bytes spell in any way: fields in any order, the last of a repeated one, packed sizes of blocks beside
-/// plain ones, and unknown fields passed over (UnixFS v1, "Data Format"; Protocol Buffers, "Encoding"). The fault is the
-/// first one from the left.
+/// The message that bytes spell in any way: fields in any order, the last of a repeated one, packed sizes of blocks
+/// beside plain ones, and unknown fields passed over (UnixFS v1, "Data Format"; Protocol Buffers, "Encoding"). The
+/// fault is the first one from the left.
 pub fn decode_lenient(alloc: Global, bytes: &[u8]) -> Result<Message, MsgFault>
     ensures { Gives (λ m. m) result (message_reads bytes.now) }
 {
     let mut seen = Seen::new(alloc);
     let mut rest = bytes;
     while !rest.is_empty() {
-        let (key, after) = match number(rest) {
-            Ok(found) => found,
-            Err(why) => return Err(why),
-        };
-        rest = match seen.take(key, after) {
-            Ok(after) => after,
-            Err(why) => return Err(why),
-        };
+        let (key, after) = number(rest)?;
+        rest = seen.take(key, after)?;
     }
     seen.finish(alloc)
 }

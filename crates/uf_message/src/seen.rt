@@ -1,4 +1,4 @@
-// What a reader of a message has seen.
+//! What a reader of a message has seen.
 use uf_cid::Sizes;
 
 /// The last of each field that was met so far, and all sizes of blocks.

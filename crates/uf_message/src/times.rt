@@ -1,4 +1,4 @@
-// Times read from their bytes.
+//! Times read from their bytes.
 ghost use Rattle.std.specs.Prelude.{◌≡◌, ◌%◌, ◌≤◌, IfSome, length};
 ghost use Rattle.std.specs.Option.{option_map};
 ghost use Rattle.uf_varint.specs.Fields.{content_at};
@@ -45,10 +45,11 @@ fn finished(seconds: Option<u64>, nanos: Option<u32>) -> Option<Mtime>
 }
 
 impl SeenTime {
-    // Takes a field behind its key, and answers the bytes that follow it.
+    // Takes a field after its key, and answers the bytes that follow it.
     #[tactic(auto, unfolding(uf_varint::specs::Fields::content_at))]
     fn take<'a>(&mut self, key: u64, rest: &'a [u8]) -> Option<&'a [u8]>
-        ensures exact { option_map (λ after. (self.new, after.now)) result ≡ time_took key self.old (content_at (key % 8) rest.now) }
+        ensures exact { option_map (λ after. (self.new, after.now)) result
+            ≡ time_took key self.old (content_at (key % 8) rest.now) }
         ensures shorter { IfSome result (λ after. length after.now ≤ length rest.now) }
     {
         match key {
@@ -71,7 +72,8 @@ impl SeenTime {
     // Takes four bytes, and answers those that follow them.
     #[tactic(auto, unfolding(uf_varint::specs::Fields::content_at, uf_varint::specs::Fields::piece_at))]
     fn take_nanos<'a>(&mut self, rest: &'a [u8]) -> Option<&'a [u8]>
-        ensures exact { option_map (λ after. (self.new, after.now)) result ≡ time_took 0x15 self.old (content_at 5 rest.now) }
+        ensures exact { option_map (λ after. (self.new, after.now)) result
+            ≡ time_took 0x15 self.old (content_at 5 rest.now) }
         ensures shorter { IfSome result (λ after. length after.now ≤ length rest.now) }
     {
         if rest.len() < 4 {

@@ -1,4 +1,4 @@
-// Messages written.
+//! Messages written.
 ghost use Rattle.std.specs.Prelude.{◌≡◌, ◌++◌, ◌≤◌, IfOk, OnOk, length};
 ghost use Rattle.std.specs.Int.{w64, cast_unsigned};
 ghost use Rattle.std.specs.List.{flat_map};
@@ -41,7 +41,7 @@ pub fn number_of(kind: MsgKind) -> u64
     }
 }
 
-// Puts the content behind what is there.
+// Puts the content after what is there.
 fn put_content(out: &mut Block, content: &Option<Block>) -> Result<(), Memory>
     ensures { OnOk result (out.new ≡ out.old ++ optional (content_field 0x12) content.now) }
 {
@@ -55,7 +55,7 @@ fn put_content(out: &mut Block, content: &Option<Block>) -> Result<(), Memory>
     }
 }
 
-// Puts a number behind what is there.
+// Puts a number after what is there.
 fn put_number(out: &mut Block, key: u8, number: Option<u64>) -> Result<(), Memory>
     ensures { OnOk result (out.new ≡ out.old ++ optional (number_field key) number) }
 {
@@ -65,7 +65,7 @@ fn put_number(out: &mut Block, key: u8, number: Option<u64>) -> Result<(), Memor
     }
 }
 
-// Puts the sizes of the blocks behind what is there.
+// Puts the sizes of the blocks after what is there.
 fn put_sizes(out: &mut Block, sizes: &[u64]) -> Result<(), Memory>
     ensures { OnOk result (out.new ≡ out.old ++ flat_map (number_field 0x20) sizes.now) }
 {
@@ -75,7 +75,7 @@ fn put_sizes(out: &mut Block, sizes: &[u64]) -> Result<(), Memory>
     Ok(())
 }
 
-// Puts the mode behind what is there.
+// Puts the mode after what is there.
 fn put_mode(out: &mut Block, mode: Option<u32>) -> Result<(), Memory>
     ensures { OnOk result (out.new ≡ out.old ++ optional (number_field 0x38) mode) }
 {
@@ -85,7 +85,7 @@ fn put_mode(out: &mut Block, mode: Option<u32>) -> Result<(), Memory>
     }
 }
 
-// Puts the time behind what is there.
+// Puts the time after what is there.
 #[tactic(auto, unfolding(crate::specs::Spelling::mtime_bytes))]
 fn put_mtime(out: &mut Block, mtime: Option<Mtime>) -> Result<(), Memory>
     ensures { OnOk result (out.new ≡ out.old ++ optional (λ t. content_field 0x42 (mtime_bytes t)) mtime) }
@@ -109,7 +109,7 @@ pub fn seconds_field(mtime: Mtime) -> NumberField
     NumberField::new(0x08, mtime.seconds.cast_unsigned())
 }
 
-// Puts the nanoseconds behind what is there.
+// Puts the nanoseconds after what is there.
 fn put_nanos(out: &mut Block, nanos: Option<u32>) -> Result<(), Memory>
     ensures { OnOk result (out.new ≡ out.old ++ optional (fixed_field 0x15) nanos) }
 {
@@ -161,7 +161,7 @@ fn number_len(number: Option<u64>) -> usize
     }
 }
 
-// The length of so many bytes with their key and their number.
+// The length of n bytes with their key and their number.
 fn content_len(bytes: usize) -> usize {
     bytes.saturating_add(1 + width(bytes as u64))
 }

@@ -7,7 +7,6 @@ pub mod Counting
 pub mod Judging
 pub mod Files
 pub mod Carrying
-pub mod Emptied
 pub mod Filling
 pub mod Fitting
 pub mod Folders

@@ -12,21 +12,23 @@ use Rattle.uf_cid.specs.Blocks.{Held}
 use Rattle.uf_cid.specs.Bytes.{IsBytes}
 use Rattle.uf_edge.specs.Counts.{Stood}
 use Rattle.uf_fileread.specs.Ranges.{IsFile}
-use Rattle.uf_fileedit.specs.Answers.{EditsOver, RefusesTooLong}
+use Rattle.uf_fileedit.specs.Answers.{EditsOver, RefusesTooLong, ShownEdit}
 use Rattle.uf_fileedit.specs.Bad.{IsBadEdited}
 use Rattle.uf_cid.specs.declared.cid.Cid.{Cid}
 use Rattle.uf_store.specs.declared.store.Role.{Role}
 use Rattle.uf_store.specs.declared.store.StoreFault.{StoreFault}
 use Rattle.uf_store.specs.declared.store.StoreFault.TheVariants.{Failed, Damaged, Missing, BadBlock, Clash, Memory}
-use Rattle.uf_store.specs.Calls.{Calm, OnlySaves}
-use Rattle.uf_store.specs.Clashes.{IsSaving}
+use Rattle.uf_store.specs.Calls.{OnlySaves}
 use Rattle.uf_store.specs.Contents.{Told}
-use Rattle.uf_store.specs.Faults.{NoneIsBad, Shows}
+use Rattle.uf_store.specs.Faults.{NoneIsBad, StaysCalm}
 use Rattle.uf_store.specs.Keeping.{Agrees, Holds, KeepsGood, StaysAgreed}
 use Rattle.uf_store.specs.Lost.{AgreesAfter, IsLossOf}
 use Rattle.uf_store.specs.Seen.{Seen}
 use Rattle.uf_store.proofs.Calls.{calm-then, saves-by}
 use Rattle.uf_store.proofs.Lost.{after-then}
+use Rattle.uf_store.proofs.Causes.{StaysCalm-refl}
+use Rattle.uf_store.proofs.Writing.{SavesOnly-refl}
+use Rattle.uf_store.specs.Writing.{SavesOnly}
 use Rattle.uf_tree.specs.declared.nodes.Entry.{Entry}
 use Rattle.uf_tree.specs.declared.meta.Meta.{Meta}
 use Rattle.uf_tree.specs.declared.profile.Profile.{Profile}
@@ -41,6 +43,7 @@ use Rattle.uf_plain.specs.declared.rule.Refused.{Refused}
 use Rattle.uf_plain.specs.declared.rule.Refused.TheVariants as why
 use Rattle.uf_plain.specs.declared.file.FileEdit.{FileEdit}
 use Rattle.uf_plain.specs.declared.file.FileEdit.TheVariants.{Write, Truncate}
+use Rattle.uf_plain.specs.declared.file.WriteHow.{WriteHow}
 use Rattle.uf_plain.specs.declared.change.Change.TheVariants.{Make}
 use Rattle.uf_plain.specs.Edits.{and_then, as_folder, child, with_child}
 use Rattle.uf_plain.specs.Files.{as_file_or_new, begun, fitting, kept_meta, rewritten}
@@ -67,16 +70,6 @@ use Rattle.uf_mfs.proofs.Hinge.{are-good}
 use Rattle.uf_mfs.proofs.Moving.{lost-edit}
 use Rattle.uf_mfs.proofs.Ranges.{file-agrees, is-file}
 use Rattle.uf_mfs.proofs.Touching.{folder-leads}
-
--- a save over a store that stayed calm only wants memory
-pub save-loss : (X : List ℕ → List ℕ) (f : StoreFault) (a b : Seen) (l : List Held) → IsSaving f
-    → Shows X NoneIsBad f a b → Calm a b → IsLossOf a.told l f
-save-loss X Failed a b l saving h calm = absurd (let rose = h.rose in let stood = calm.faults in omega (arith, rose, stood))
-save-loss X (Damaged c) a b l saving h calm = absurd saving
-save-loss X (Missing c) a b l saving h calm = absurd saving
-save-loss X (BadBlock c role) a b l saving h calm = absurd saving
-save-loss X (Clash c other bytes) a b l saving h calm = absurd (let rose = h.rose in let stood = calm.clashes in omega (arith, rose, stood))
-save-loss X Memory a b l saving h calm = tt
 
 -- ---- bytes
 
@@ -126,6 +119,15 @@ begun-anyhow (Truncate size) led (Some (File m old)) bytes is = is
 begun-anyhow (Truncate size) led (Some (Dir es)) bytes is = absurd cc
 
 -- ---- the count of touches
+
+-- what an edit of a file shows, keeps and saves, as a step does
+pub stepped-saves : (hash : List ℕ → List ℕ) (Bad : Role → List ℕ → Type 0) (r : Result Entry BuildFault) (s : Result Entry Stop) (a b : Seen) → IsStepOf r s → ShownEdit hash Bad r a b → KeepsGood hash a.told b.told → SavesOnly hash a.told b.told
+    → OnlySaves hash Bad (stop_fault s) a b
+stepped-saves hash Bad (Ok e) s a b is h good saves = subst (λ (s : Result Entry Stop). OnlySaves hash Bad (stop_fault s) a b) (sym is) (record { cause = h; good = good; saves = saves })
+stepped-saves hash Bad (Err FileTooLong) s a b is h good saves = subst (λ (s : Result Entry Stop). OnlySaves hash Bad (stop_fault s) a b) (sym is)
+    (record { cause = subst (λ (c : Seen). StaysCalm a c) (sym h) (StaysCalm-refl a); good = good; saves = saves })
+stepped-saves hash Bad (Err Spent) s a b is h good saves = absurd is
+stepped-saves hash Bad (Err (Store f)) s a b is h good saves = subst (λ (s : Result Entry Stop). OnlySaves hash Bad (stop_fault s) a b) (sym is) (record { cause = h; good = good; saves = saves })
 
 -- the count after an edit of a file, as that after a step
 pub stepped-counts : (r : Result Entry BuildFault) (s : Result Entry Stop) (t0 t1 : ℕ) → IsStepOf r s
@@ -185,12 +187,12 @@ module _ (X : List ℕ → List ℕ) (N : List ℕ → ℕ) (p : Profile) where
   keeps-same a = record { alike = refl; stays = λ c b h good. h }
 
   -- a file that is there, before anything was done
-  pub start-there : (a : Seen) (folder e : Entry) (name : List ℕ) (es : Entries) (w : Result (List ℕ) Refused)
+  pub start-there : (a : Seen) (folder e : Entry) (what : FileEdit) (name : List ℕ) (es : Entries) (w : Result (List ℕ) Refused)
       → IsFolderOver X N p a a [] folder es
-      → Decides (λ bytes start. IsStart X N a.told p (child name es) bytes start) w (Ok (There e))
+      → Decides (λ bytes start. IsStart X N a.told p what (child name es) bytes start) w (Ok (There e))
       → MakesFile X N p a a (blocks X N p (Dir es)) (kept_meta (child name es)) w (Ok e)
-  start-there a folder e name es (Err why) o h = absurd h
-  start-there a folder e name es (Ok bytes) o h = record {
+  start-there a folder e what name es (Err why) o h = absurd h
+  start-there a folder e what name es (Ok bytes) o h = record {
     plan = h.1.plan;
     after = after-some a.told a.told _ _ _ (λ Q k. child-among X N p es name (File (kept_meta (child name es)) bytes) h.0 Q k)
         (after-kept X a.told a.told _ (are-good X N p (Dir es)) (keeps-same a.told) o.stays);
@@ -203,37 +205,6 @@ module _ (X : List ℕ → List ℕ) (N : List ℕ → ℕ) (p : Profile) where
       by : (o : Option Tree) → child name es ≡ o → IsTrue (is_meta (kept_meta o))
       by None is = refl
       by (Some t) is = tree-meta t (child-tree name t es s.tree is)
-
-  -- and an empty one that was saved
-  pub start-empty : (a b : Seen) (folder e : Entry) (m kept : Meta) (name : List ℕ) (es : Entries) (w : Result (List ℕ) Refused)
-      → IsFolderOver X N p a b [] folder es
-      → Decides (λ bytes start. IsStart X N a.told p (child name es) bytes start) w (Ok (Empty m))
-      → (IsTrue (is_meta m) → kept ≡ m) → (IsTrue (is_profile p) → e ≡ (file_plan X p kept []).entry)
-      → (IsTrue (is_profile p) → Holds b.told (file_plan X p kept []).blocks)
-      → MakesFile X N p a b (blocks X N p (Dir es)) (kept_meta (child name es)) w (Ok e)
-  unfolding planned fold is_tree
-  start-empty a b folder e m kept name es (Err why) over h good is held = absurd h
-  start-empty a b folder e m kept name es (Ok bytes) over h good is held =
-      let own = kept_meta (child name es) in
-      let fine : IsTrue (is_meta own) = kept-good folder name es over.plan in
-      let same : kept ≡ own = good (subst (λ m. IsTrue (is_meta m)) (sym h.1) fine) ∙ h.1 in
-      subst (λ n. IsAfter X N a.told b.told (blocks X N p (Dir es)) p e (File own n)) (sym h.0)
-      (subst (λ m. IsAfter X N a.told b.told (blocks X N p (Dir es)) p e (File m [])) same (record {
-        plan = file-plan-of e kept [] over.plan.profile (subst (λ m. is_meta m && true ≡ true) (sym same) (with-true (is_meta own) fine)) (short p) (is over.plan.profile);
-        after = after-held a.told b.told (blocks X N p (Dir es)) _ (tells b.told (blocks X N p (Dir es)) kept over.stays.last (held over.plan.profile));
-      }))
-    where
-      with-true : (t : Bool) → t ≡ true → t && true ≡ true
-      with-true true e = refl
-      with-true false e = absurd cc
-
-      short : (p : Profile) → nat_lt (most_bytes p) 0 ≡ false
-      short p = grind (arith, nat_tests)
-
-      tells : (told : Told) (k : List Held) (m : Meta) → Agrees told k → Holds told (file_plan X p m []).blocks
-          → TellsHeld told (blocks X N p (File m []))
-      tells None k m agrees held = absurd agrees
-      tells (Some t) k m agrees held = held
 
   -- ---- the file that is made of it
 
@@ -329,6 +300,10 @@ module _ (X : List ℕ → List ℕ) (N : List ℕ → ℕ) (p : Profile) where
       within (most_bytes p) (length (cut_to b size)) bound r t0 t1
       (subst (λ n. RefusesTooLong (nat_lt (most_bytes p) n) r) (sym (length-cut b size)) long) first few_touches
 
+  -- nothing was called
+  pub no-saves : (a : Seen) → OnlySaves X NoneIsBad None a a
+  no-saves a = record { cause = StaysCalm-refl a; good = keeps-same a.told; saves = SavesOnly-refl X a.told }
+
   -- what is said from a later moment is said from an earlier one
   pub later-file : (a b c : Seen) (old mid : List Held) (m : Meta) (w : Result (List ℕ) Refused) (r : Result Entry Stop)
       → AgreesAfter a.told b.told old mid
@@ -343,16 +318,107 @@ module _ (X : List ℕ → List ℕ) (N : List ℕ → ℕ) (p : Profile) where
   -- ---- what is found under a name, begun with and rewritten
 
   -- what isn't begun with isn't made
-  pub new-stopped : (a b : Seen) (old : List Held) (m : Meta) (what : FileEdit) (x : List ℕ) (led : ℕ) (o : Option Tree) (s : Stop) → MakesFile X N p a b old m (begun what led o) (Err s)
-      → MakesFile X N p a b old m (fitting_bytes p what x led o) (Err s)
-  new-stopped a b old m what x led o s h = by (begun what led o) s h
+  pub new-refused : (a b : Seen) (old : List Held) (m : Meta) (what : FileEdit) (x : List ℕ) (led : ℕ) (o : Option Tree) (refused : Refused)
+      → Decides (λ bytes start. IsStart X N a.told p what o bytes start) (begun what led o) (Err refused)
+      → MakesFile X N p a b old m (fitting_bytes p what x led o) (Err (stop.Refused refused))
+  new-refused a b old m what x led o refused h = by (begun what led o) h
     where
-      by : (w : Result (List ℕ) Refused) (s : Stop) → MakesFile X N p a b old m w (Err s)
-          → MakesFile X N p a b old m (and_then (and_then w (λ bytes. Ok (rewritten what x bytes))) (fitting p)) (Err s)
-      by (Ok bytes) (stop.Refused given) h = absurd h
-      by (Err why) (stop.Refused given) h = h
-      by (Ok bytes) (stop.Store f) h = lost-file a b old m (fitting p (rewritten what x bytes)) f h
-      by (Err why) (stop.Store f) h = h
+      by : (w : Result (List ℕ) Refused) → Decides (λ bytes start. IsStart X N a.told p what o bytes start) w (Err refused)
+          → MakesFile X N p a b old m (and_then (and_then w (λ bytes. Ok (rewritten what x bytes))) (fitting p)) (Err (stop.Refused refused))
+      by (Ok bytes) h = absurd h
+      by (Err why) h = h
+
+  -- a file of a telling store holds all its blocks, where those are held
+  tells : (told : Told) (k : List Held) (m : Meta) (n : List ℕ) → Agrees told k → Holds told (file_plan X p m n).blocks
+      → TellsHeld told (blocks X N p (File m n))
+  unfolding planned fold
+  tells None k m n agrees held = absurd agrees
+  tells (Some t) k m n agrees held = held
+
+  -- with no blocks none is lost
+  none-lost : (told : Told) (k l : List Held) (f : StoreFault) → Agrees told k → IsLossOf told [] f → IsLossOf told l f
+  none-lost told k l Failed agrees h = h
+  none-lost told k l (Damaged c) agrees h = h
+  none-lost None k l (Missing c) agrees h = absurd agrees
+  none-lost (Some t) k l (Missing c) agrees h = absurd h
+  none-lost told k l (BadBlock c role) agrees h = h
+  none-lost told k l (Clash c other bytes) agrees h = h
+  none-lost told k l Memory agrees h = h
+
+  -- a store that agrees with some blocks tells
+  none-agrees : (told : Told) (k : List Held) → Agrees told k → Agrees told []
+  none-agrees None k h = h
+  none-agrees (Some t) k h = tt
+
+  -- a file that is made of no bytes
+  created : (a c : Seen) (folder : Entry) (es : Entries) (m : Meta) (n : List ℕ) (r : Result Entry BuildFault) (s : Result Entry Stop)
+      → IsFolderOver X N p a c [] folder es → IsTrue (is_tree (File m n))
+      → RefusesTooLong (nat_lt (most_bytes p) (length n)) r
+      → EditsOver a.told [] (file_plan X p m n).entry r → OnOk r (Holds c.told (file_plan X p m n).blocks) → IsStepOf r s
+      → MakesFile X N p a c (blocks X N p (Dir es)) m (fitting p n) s
+  unfolding planned fold
+  created a c folder es m n (Ok e) s over tree long value held is =
+      subst (λ s. MakesFile X N p a c (blocks X N p (Dir es)) m (fitting p n) s) (sym is)
+      (subst (λ o. MakesFile X N p a c (blocks X N p (Dir es)) m (unless n o) (Ok e)) (sym (file-fits n long))
+      (record { plan = file-plan-of e m n over.plan.profile tree long value; after = after-held a.told c.told (blocks X N p (Dir es)) _ (tells c.told (blocks X N p (Dir es)) m n over.stays.last held) }))
+  created a c folder es m n (Err FileTooLong) s over tree long value held is =
+      subst (λ s. MakesFile X N p a c (blocks X N p (Dir es)) m (fitting p n) s) (sym is)
+      (subst (λ o. MakesFile X N p a c (blocks X N p (Dir es)) m (unless n o) (Err (stop.Refused why.FileTooLong))) (sym (file-long n long)) refl)
+  created a c folder es m n (Err Spent) s over tree long value held is = absurd is
+  created a c folder es m n (Err (Store f)) s over tree long value held is =
+      subst (λ s. MakesFile X N p a c (blocks X N p (Dir es)) m (fitting p n) s) (sym is)
+      (lost-file a c (blocks X N p (Dir es)) m (fitting p n) f (none-lost a.told (blocks X N p (Dir es)) (blocks X N p (Dir es)) f over.stays.first value))
+
+  pub created-file : (a c : Seen) (folder : Entry) (es : Entries) (m : Meta) (offset : ℕ) (x : List ℕ) (r : Result Entry BuildFault) (s : Result Entry Stop)
+      → IsFolderOver X N p a c [] folder es → IsTrue (is_meta m) → IsBytes x
+      → RefusesTooLong (nat_lt 0 (length x) && nat_lt (most_bytes p) (offset + length x)) r
+      → (StaysAgreed a.told c.told [] → Stood a.faults c.faults → Stood a.clashes c.clashes → EditsOver a.told [] (file_plan X p m (laid [] offset x)).entry r)
+      → (StaysAgreed a.told c.told [] → OnOk r (Holds c.told (file_plan X p m (laid [] offset x)).blocks))
+      → IsStepOf r s → MakesFile X N p a c (blocks X N p (Dir es)) m (fitting p (laid [] offset x)) s
+  unfolding is_tree
+  created-file a c folder es m offset x r s over fine bytes long value held is =
+      let told : StaysAgreed a.told c.told [] = record { first = none-agrees a.told (blocks X N p (Dir es)) over.stays.first; last = none-agrees c.told (blocks X N p (Dir es)) over.stays.last } in
+      created a c folder es m (laid [] offset x) r s over (and-true fine (all-laid (λ b. nat_lt b 256) [] offset x refl refl (bytes-all x bytes)))
+      (subst (λ t. RefusesTooLong t r) (laid-long (most_bytes p) offset [] x (omega arith)) long) (value told over.calm.faults over.calm.clashes) (held told) is
+
+  pub created-touches : (m : Meta) (offset : ℕ) (x : List ℕ) (r : Result Entry BuildFault) (t0 t1 bound : ℕ)
+      → RefusesTooLong (nat_lt 0 (length x) && nat_lt (most_bytes p) (offset + length x)) r
+      → TouchedFirst r t0 t1 → t1 ≤ t0 + bound
+      → t1 ≤ t0 + cond (nat_lt (most_bytes p) (length (laid [] offset x))) 0 bound
+  created-touches m offset x r t0 t1 bound long first touches =
+      within (most_bytes p) (length (laid [] offset x)) bound r t0 t1
+      (subst (λ t. RefusesTooLong t r) (laid-long (most_bytes p) offset [] x (omega arith)) long) first touches
+
+  -- such a file, of what was found under a name
+  pub new-created : (a c : Seen) (old : List Held) (m kept : Meta) (how : WriteHow) (what : FileEdit) (x : List ℕ) (led : ℕ) (o : Option Tree) (r : Result Entry Stop) → IsTrue (is_meta (kept_meta o))
+      → Decides (λ bytes start. IsStart X N a.told p what o bytes start) (begun what led o) (Ok (Empty m how)) → (IsTrue (is_meta m) → kept ≡ m)
+      → MakesFile X N p a c old kept (fitting p (rewritten (Write how) x [])) r
+      → MakesFile X N p a c old (kept_meta o) (fitting_bytes p what x led o) r
+  new-created a c old m kept how what x led o r fine start good made = by (begun what led o) start
+    where
+      by : (w : Result (List ℕ) Refused) → Decides (λ bytes start. IsStart X N a.told p what o bytes start) w (Ok (Empty m how))
+          → MakesFile X N p a c old (kept_meta o) (and_then (and_then w (λ bytes. Ok (rewritten what x bytes))) (fitting p)) r
+      by (Err why) h = absurd h
+      by (Ok bytes) h =
+          let same : kept ≡ kept_meta o = good (subst (λ m. IsTrue (is_meta m)) (sym h.1) fine) ∙ h.1 in
+          subst (λ n. MakesFile X N p a c old (kept_meta o) (fitting p (rewritten what x n)) r) (sym h.0)
+          (subst (λ what. MakesFile X N p a c old (kept_meta o) (fitting p (rewritten what x [])) r) (sym h.2)
+          (subst (λ m. MakesFile X N p a c old m (fitting p (rewritten (Write how) x [])) r) same made))
+
+  pub new-created-touches : (told : Told) (m kept : Meta) (how : WriteHow) (what : FileEdit) (x : List ℕ) (rows : ℕ → ℕ) (led : ℕ) (o : Option Tree) (t0 t1 : ℕ) → IsTrue (is_meta (kept_meta o))
+      → Decides (λ bytes start. IsStart X N told p what o bytes start) (begun what led o) (Ok (Empty m how)) → (IsTrue (is_meta m) → kept ≡ m)
+      → t1 ≤ t0 + rewriting_touches p rows (Write how) x kept [] → t1 ≤ t0 + file_touches p rows what x o
+  new-created-touches told m kept how what x rows led o t0 t1 fine start good few = by (begun what led o) refl start
+    where
+      by : (w : Result (List ℕ) Refused) → begun what led o ≡ w → Decides (λ bytes start. IsStart X N told p what o bytes start) w (Ok (Empty m how))
+          → t1 ≤ t0 + file_touches p rows what x o
+      by (Err why) is h = absurd h
+      by (Ok bytes) is h =
+          let same : kept ≡ kept_meta o = good (subst (λ m. IsTrue (is_meta m)) (sym h.1) fine) ∙ h.1 in
+          let one : t1 ≤ t0 + rewriting_touches p rows what x (kept_meta o) bytes = subst (λ n. t1 ≤ t0 + rewriting_touches p rows what x (kept_meta o) n) (sym h.0)
+          (subst (λ what. t1 ≤ t0 + rewriting_touches p rows what x (kept_meta o) []) (sym h.2)
+          (subst (λ m. t1 ≤ t0 + rewriting_touches p rows (Write how) x m []) same few)) in
+          subst (λ (w : Result (List ℕ) Refused). t1 ≤ t0 + touches-of p rows what x (kept_meta o) w) (sym (begun-anyhow what led o bytes is)) one
 
   module _ {Bad Other : Role → List ℕ → Type 0} {fault : Option StoreFault} {a b c : Seen} (before : OnlySaves X Bad None a b) (after : OnlySaves X Other fault b c) where
     -- the file that is begun with, before it is rewritten
@@ -377,18 +443,18 @@ module _ (X : List ℕ → List ℕ) (N : List ℕ → ℕ) (p : Profile) where
         by (Ok bytes) h = later-file a b c _ _ (kept_meta (child name es)) (fitting p (rewritten what x bytes)) r h.after (makes (kept_meta (child name es)) bytes (begun-over folder old es (kept_meta (child name es)) bytes o h))
 
     pub new-touches : (folder old : Entry) (what : FileEdit) (x : List ℕ) (rows : ℕ → ℕ) (led : ℕ) (name : List ℕ) (es : Entries) (t0 t1 t2 : ℕ) → IsFolderOver X N p a c [] folder es
-        → MakesFile X N p a b (blocks X N p (Dir es)) (kept_meta (child name es)) (begun what led (child name es)) (Ok old) → t1 ≤ t0 + 2
+        → MakesFile X N p a b (blocks X N p (Dir es)) (kept_meta (child name es)) (begun what led (child name es)) (Ok old) → t1 ≤ t0
         → ((m : Meta) (bytes : List ℕ) → IsFileOver X N p b c old m bytes → t2 ≤ t1 + rewriting_touches p rows what x m bytes)
-        → t2 ≤ t0 + (2 + file_touches p rows what x (child name es))
+        → t2 ≤ t0 + file_touches p rows what x (child name es)
     new-touches folder old what x rows led name es t0 t1 t2 o start first takes = by (begun what led (child name es)) refl start
       where
         by : (w : Result (List ℕ) Refused) → begun what led (child name es) ≡ w
             → MakesFile X N p a b (blocks X N p (Dir es)) (kept_meta (child name es)) w (Ok old)
-            → t2 ≤ t0 + (2 + file_touches p rows what x (child name es))
+            → t2 ≤ t0 + file_touches p rows what x (child name es)
         by (Err why) is h = absurd h
         by (Ok bytes) is h =
             let r = takes (kept_meta (child name es)) bytes (begun-over folder old es (kept_meta (child name es)) bytes o h) in
-            subst (λ (w : Result (List ℕ) Refused). t2 ≤ t0 + (2 + touches-of p rows what x (kept_meta (child name es)) w)) (sym (begun-anyhow what led (child name es) bytes is)) (omega (arith, first, r))
+            subst (λ (w : Result (List ℕ) Refused). t2 ≤ t0 + touches-of p rows what x (kept_meta (child name es)) w) (sym (begun-anyhow what led (child name es) bytes is)) (omega (arith, first, r))
 
   -- ---- the file put into its folder
 
@@ -452,7 +518,7 @@ module _ (X : List ℕ → List ℕ) (N : List ℕ → ℕ) (p : Profile) where
     member-put r puts = subst (λ (w : Result Entries Refused). ChangesOver X N p a c [] es w r) (sym m.puts)
         (changes-over X N p before after [] (blocks X N p file) folder es (Ok (with_child name file es)) r o came (puts file m.is.plan es beside-it))
 
-    pub member-touches : (n t0 t1 t2 : ℕ) → t1 ≤ t0 + (2 + n)
+    pub member-touches : (n t0 t1 t2 : ℕ) → t1 ≤ t0 + n
         → ((t : Tree) → IsPlanOf X N p new t → TouchesFolder X N p b c (blocks X N p t) folder (λ es. 17 + crossing X N p (named_entries X N p es) (named_entries X N p (with_child name t es))) t1 t2)
         → t2 ≤ t0 + (19 + crossings_of X N p (name ∷ []) es (with_fitting p what x led name es) + n)
     member-touches n t0 t1 t2 first takes =

@@ -48,7 +48,7 @@ GivesOr May P w (Err (fault.Ready ready)) = ⊥
 GivesOr May P w (Err fault.Sink) = ⊥
 GivesOr May P w (Err (fault.Store f)) = May f
 
--- the same, where all blocks are held: want of memory is free
+-- the same, where all blocks are held: out of memory is free
 abbrev pub Gives : {A B : Type 0} → (A → B → Type 0) → Result A Rule → Result B MfsFault → Type 0
 Gives P w r = GivesOr (λ f. f ≡ Memory) P w r
 

@@ -44,7 +44,7 @@ abbrev pub range_needs : (List ℕ → List ℕ) → Profile → (height offset 
 range_needs X p height offset count (File m bytes) = blocks_read X p.chunk p.width m height offset count bytes
 range_needs X p height offset count (Dir es) = []
 
--- so many rows of nodes has a file of so many bytes, where it has no metadata
+-- so many rows of nodes has a file of n bytes, where it has no metadata
 abbrev pub AreHeights : Profile → (ℕ → ℕ) → Type 0
 AreHeights p rows = (n : ℕ) → IsHeight p.chunk p.width n (rows n)
 
@@ -58,7 +58,7 @@ range_touches p rows offset count (File m bytes) =
     2 * (pieces_met p.chunk offset count bytes + 2) * (rows_with rows m (length bytes) + 2)
 range_touches p rows offset count (Dir es) = 0
 
--- all of these bytes are behind what the sink held, and so many they are
+-- all of these bytes are after what the sink held, and so many they are
 abbrev pub SendsAll : SinkTold → SinkTold → List ℕ → ℕ → Type 0
 SendsAll held held_now bytes n = (n ≡ length bytes) × (held_now ≡ after held bytes)
 

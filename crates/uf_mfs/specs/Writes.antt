@@ -119,11 +119,11 @@ file_touches p rows what piece o =
     elim (begun what 0 o) [ Ok bytes ↦ rewriting_touches p rows what piece (kept_meta o) bytes | Err why ↦ 0 ]
 
 module _ (X : List ℕ → List ℕ) (N : List ℕ → ℕ) (told : Told) (p : Profile) where
-  -- what an edit of this member begins with: the file of these bytes that it is, or no bytes and the metadata that
-  -- stays
-  abbrev pub IsStart : Option Tree → List ℕ → Start → Type 0
-  IsStart o bytes (Empty m) = (bytes ≡ []) × (m ≡ kept_meta o)
-  IsStart o bytes (There e) = let file = File (kept_meta o) bytes in (o ≡ Some file) × IsAgreed X N told p e file
+  -- what an edit of this member begins with: the file of these bytes that it is, or no bytes, the metadata that stays,
+  -- and a write
+  abbrev pub IsStart : FileEdit → Option Tree → List ℕ → Start → Type 0
+  IsStart what o bytes (Empty m how) = (bytes ≡ []) × (m ≡ kept_meta o) × (what ≡ Write how)
+  IsStart what o bytes (There e) = let file = File (kept_meta o) bytes in (o ≡ Some file) × IsAgreed X N told p e file
 
 module _ (X : List ℕ → List ℕ) (N : List ℕ → ℕ) (p : Profile) (before now : Seen) where
   -- the entry is that of the file of this metadata and these bytes, the store agrees with its blocks before and after,

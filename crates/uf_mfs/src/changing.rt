@@ -1,4 +1,4 @@
-// Edits of the tree.
+//! Edits of the tree.
 ghost use Rattle.std.specs.Prelude.{◌≡◌, ◌+◌, ◌*◌, ◌≤◌, [], List, ℕ, length, IfOk, IfSome, IsTrue, None, OnErr, Ok};
 ghost use Rattle.std.specs.Prelude.{Some, true};
 ghost use Rattle.uf_edge.specs.Counts.{Stood};

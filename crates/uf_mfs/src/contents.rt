@@ -1,4 +1,4 @@
-// Files of the tree read.
+//! Files of the tree read.
 ghost use Rattle.std.specs.Prelude.{◌≡◌, ◌≢◌, ◌+◌, ◌*◌, ◌<◌, ◌≤◌, ℕ, Err, IfErr, None, Ok, length};
 ghost use Rattle.uf_edge.specs.Counts.{Stood};
 ghost use Rattle.uf_edge.specs.Streams.{AppendsPrefix};

@@ -1,4 +1,4 @@
-// An edit along a path: each folder on it gets the new entry of the one below.
+//! An edit along a path: each folder on it gets the new entry of the one below.
 ghost use Rattle.std.specs.Prelude.{◌≡◌, ◌≢◌, ◌+◌, ◌*◌, ◌++◌, ◌<◌, ◌≤◌, ◌^◌, List, [], ◌∷◌, ℕ, IfOk, IfSome};
 ghost use Rattle.std.specs.Prelude.{IsTrue, None, Ok, Some, length};
 ghost use Rattle.std.specs.declared.option.Option.{Option as TheOption};

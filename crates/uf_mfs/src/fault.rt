@@ -1,4 +1,4 @@
-// Why a call on the tree, or a step below it, gave up.
+//! Why a call on the tree, or a step below it, gave up.
 use uf_plain::{Ready, Refused, Rule};
 use uf_store::StoreFault;
 

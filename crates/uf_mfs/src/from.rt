@@ -1,4 +1,4 @@
-// How a fault below becomes that of a step, where `?` passes it on.
+//! How a fault below becomes that of a step, where `?` passes it on.
 ghost use Rattle.std.specs.Prelude.{◌≡◌};
 ghost use Rattle.uf_mfs.specs.declared.fault.MfsFault.TheVariants as mfs;
 ghost use Rattle.uf_mfs.specs.declared.fault.Stop.TheVariants as stop;

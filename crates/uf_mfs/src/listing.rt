@@ -1,4 +1,4 @@
-// The names and the rows of what a path leads to.
+//! The names and the rows of what a path leads to.
 ghost use Rattle.std.specs.Prelude.{◌≡◌, ◌<◌, ◌≤◌, ◌+◌, IfOk, List, None, length, map, ℕ};
 ghost use Rattle.uf_edge.specs.Counts.{Stood};
 ghost use Rattle.uf_tree.specs.declared.profile.Profile.{Profile};

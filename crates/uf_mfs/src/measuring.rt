@@ -1,4 +1,4 @@
-// What is said of a file or a folder.
+//! What is said of a file or a folder.
 ghost use Rattle.std.specs.Prelude.{◌≡◌, ◌≤◌, ◌+◌, None, false, true};
 ghost use Rattle.uf_edge.specs.Counts.{Stood};
 ghost use Rattle.uf_store.specs.Calls.{OnlyReads};

@@ -1,4 +1,4 @@
-// Copies and moves in the tree.
+//! Copies and moves in the tree.
 ghost use Rattle.std.specs.Prelude.{◌≡◌, ◌+◌, ◌*◌, [], ℕ, List, IfOk, IsTrue, OnErr, Ok, Some, length, true};
 ghost use Rattle.uf_edge.specs.Counts.{Stood};
 ghost use Rattle.uf_store.specs.Calls.{OnlySaves};

@@ -1,4 +1,4 @@
-// What the tree has at a path.
+//! What the tree has at a path.
 ghost use Rattle.std.specs.Prelude.{◌≡◌, ◌≤◌, ◌+◌, ◌*◌, IfOk, None, length, max};
 ghost use Rattle.uf_edge.specs.Counts.{Stood};
 ghost use Rattle.uf_tree.specs.declared.profile.Profile.{Profile};

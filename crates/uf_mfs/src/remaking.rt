@@ -1,4 +1,4 @@
-// The metadata of what is in the tree set.
+//! The metadata of what is in the tree set.
 ghost use Rattle.std.specs.Prelude.{◌≡◌, ◌+◌, ◌*◌, ◌<◌, ◌≤◌, ◌^◌, [], IfOk, IfSome, IsTrue, None, OnErr, Ok, Some};
 ghost use Rattle.std.specs.Prelude.{length};
 ghost use Rattle.std.specs.declared.option.Option.{Option as TheOption};

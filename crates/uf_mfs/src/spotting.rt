@@ -1,4 +1,4 @@
-// Where something is put in the tree.
+//! Where something is put in the tree.
 ghost use Rattle.std.specs.Prelude.{◌≡◌, ◌+◌, ◌*◌, ◌≤◌, ◌<◌, IfOk, IfSome, None, Ok, Some, length, option_copied};
 ghost use Rattle.std.specs.Prelude.{true};
 ghost use Rattle.uf_edge.specs.Counts.{Stood};

@@ -1,4 +1,4 @@
-// Where a move goes.
+//! Where a move goes.
 use crate::Thing;
 use uf_tree::Names;
 

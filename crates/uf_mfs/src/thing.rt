@@ -1,4 +1,4 @@
-// What a path leads to.
+//! What a path leads to.
 use uf_fileread::FileSize;
 use uf_tree::{Entry, Meta};
 

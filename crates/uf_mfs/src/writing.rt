@@ -1,8 +1,9 @@
-// Files of the tree written into and cut.
-ghost use Rattle.std.specs.Prelude.{◌≡◌, ◌≢◌, ◌+◌, ◌*◌, ◌∷◌, ◌<◌, ◌≤◌, ◌^◌, [], ℕ, List, Err, IfErr, IfOk};
-ghost use Rattle.std.specs.Prelude.{IsTrue, None, OnErr, OnOk, Ok, Some, false, length};
+//! Files of the tree written into and cut.
+ghost use Rattle.std.specs.Prelude.{◌≡◌, ◌≢◌, ◌+◌, ◌*◌, ◌<◌, ◌≤◌, ◌^◌, [], ℕ, List, Err};
+ghost use Rattle.std.specs.Prelude.{IsTrue, None, OnErr, Ok, Some, false, length};
 ghost use Rattle.std.specs.declared.option.Option.{Option as TheOption};
 ghost use Rattle.uf_build.specs.declared.fault.BuildFault.TheVariants as built;
+ghost use Rattle.uf_cid.specs.declared.cid.Cid.{Cid as TheCid};
 ghost use Rattle.uf_edge.specs.Counts.{Stood};
 ghost use Rattle.uf_fileedit.specs.Bad.{IsBadEdited};
 ghost use Rattle.uf_plain.specs.declared.file.FileEdit.TheVariants.{Truncate, Write};
@@ -11,15 +12,12 @@ ghost use Rattle.uf_plain.specs.Files.{begun, fitting, kept_meta, rewritten, tru
 ghost use Rattle.uf_plain.specs.Files.{written};
 ghost use Rattle.uf_plain.specs.Rules.{allowed};
 ghost use Rattle.uf_store.specs.Calls.{OnlySaves};
-ghost use Rattle.uf_store.specs.Clashes.{IsSaving};
 ghost use Rattle.uf_store.specs.Contents.{Told};
-ghost use Rattle.uf_store.specs.Faults.{NoneIsBad, fault_in};
-ghost use Rattle.uf_store.specs.Keeping.{Holds, KeepsGood};
+ghost use Rattle.uf_store.specs.Keeping.{KeepsGood};
 ghost use Rattle.uf_store.specs.Writing.{SavesOnly};
 ghost use Rattle.uf_tree.specs.declared.meta.Meta.{Meta as TheMeta};
 ghost use Rattle.uf_tree.specs.declared.nodes.Entry.{Entry as TheEntry};
 ghost use Rattle.uf_tree.specs.declared.profile.Profile.{Profile as TheProfile};
-ghost use Rattle.uf_tree.specs.FilePlan.{file_plan};
 ghost use Rattle.uf_tree.specs.Metas.{is_meta};
 ghost use Rattle.uf_tree.specs.Profiles.{is_profile};
 ghost use Rattle.uf_tree.specs.Tree.{Dir, Entries, File, Tree};
@@ -38,20 +36,20 @@ use crate::editing::{Act, Site};
 use crate::{Mfs, MfsFault, Stop, Thing};
 use std::alloc::Global;
 use std::sync::ledger::Ledger;
-use uf_build::{BuildFault, save_root};
-use uf_cid::{Codec, slices_hold_bytes};
-use uf_fileedit::{truncate, write_at};
+use uf_build::BuildFault;
+use uf_cid::slices_hold_bytes;
+use uf_fileedit::{create, truncate, write_at};
 use uf_murmur::NameHash;
 use uf_path::Path;
 use uf_plain::{FileEdit, Refused, WriteHow};
-use uf_store::{Steps, Store, StoreFault, save_block};
-use uf_tree::{Entry, Meta, Name, Part, Profile};
+use uf_store::{Steps, Store};
+use uf_tree::{Entry, Meta};
 
-/// What an edit of a file begins with: a file that is there, or no bytes and the metadata that stays.
+/// What an edit of a file begins with: a file that is there, or no bytes, the metadata that stays, and a write.
 #[derive(Clone, Copy, PartialEq, Eq)]
 pub(crate) enum Start {
     There(Entry),
-    Empty(Meta),
+    Empty(Meta, WriteHow),
 }
 
 impl Mfs {
@@ -174,37 +172,13 @@ pub(crate) fn new_file<S: Store, L: Ledger>(
         → IsAgreedMember S.X.block32 N (S.seen store.old).told site.now.profile (child name es) found
         → IsFolderOver S.X.block32 N site.now.profile (S.seen store.old) (S.seen store.new) [] folder es
         → touches.new ≤ touches.old
-        + (2 + file_touches site.now.profile rows what site.now.piece.now (child name es)) }
+        + file_touches site.now.profile rows what site.now.piece.now (child name es) }
     ensures touched { CountsUp (stop_fault result) touches.old touches.new }
 {
-    let old = begun_file(alloc, store, what, site.led + 1, found, touches)?;
-    rewritten_file(alloc, store, site, what, &old, touches)
-}
-
-// The entry of the file that an edit begins with, by what was found under its name.
-fn begun_file<S: Store, L: Ledger>(
-    alloc: Global,
-    store: &mut S,
-    what: FileEdit,
-    led: usize,
-    found: Option<Thing>,
-    touches: &mut Steps<L>,
-) -> Result<Entry, Stop>
-    ensures begins { (N : List ℕ → ℕ) (p : TheProfile) (folder : TheEntry) (name : List ℕ) (es : Entries)
-        → IsAgreedMember S.X.block32 N (S.seen store.old).told p (child name es) found
-        → IsFolderOver S.X.block32 N p (S.seen store.old) (S.seen store.new) [] folder es
-        → MakesFile S.X.block32 N p (S.seen store.old) (S.seen store.new) (blocks S.X.block32 N p (Dir es))
-        (kept_meta (child name es)) (begun what led (child name es)) result }
-    ensures saves { OnlySaves S.X.block32 NoneIsBad (stop_fault result) (S.seen store.old) (S.seen store.new) }
-    ensures touches { touches.new ≤ touches.old + 2 }
-    ensures touched { CountsUp (stop_fault result) touches.old touches.new }
-{
-    match start_of(what, led, found)? {
-        Start::There(old) => Ok(old),
-        Start::Empty(meta) => {
-            let empty = empty_file(alloc, store, &good(meta), touches)?;
-            Ok(empty)
-        }
+    let start = start_of(what, site.led + 1, found)?;
+    match start {
+        Start::There(old) => rewritten_file(alloc, store, site, what, &old, touches),
+        Start::Empty(meta, how) => created_file(alloc, store, site, how, &good(meta), touches),
     }
 }
 
@@ -220,41 +194,45 @@ pub(crate) fn good(meta: Meta) -> Meta
 fn start_of(what: FileEdit, led: usize, found: Option<Thing>) -> Result<Start, Refused>
     ensures { (X : List ℕ → List ℕ) (N : List ℕ → ℕ) (told : Told) (p : TheProfile) (o : TheOption Tree)
         → IsAgreedMember X N told p o found
-        → Decides (λ bytes start. IsStart X N told p o bytes start) (begun what led o) result }
+        → Decides (λ bytes start. IsStart X N told p what o bytes start) (begun what led o) result }
 {
     match (what, found) {
-        (FileEdit::Write(how), None) if how.create => Ok(Start::Empty(Meta::none())),
+        (FileEdit::Write(how), None) if how.create => Ok(Start::Empty(Meta::none(), how)),
         (_, None) => Err(Refused::NotFound(led)),
         (_, Some(Thing::Folder(_, _))) => Err(Refused::IsADirectory(led)),
-        (FileEdit::Write(how), Some(Thing::File(_, it))) if how.cut => Ok(Start::Empty(it.meta)),
+        (FileEdit::Write(how), Some(Thing::File(_, it))) if how.cut => {
+            Ok(Start::Empty(it.meta, how))
+        }
         (_, Some(Thing::File(entry, _))) => Ok(Start::There(entry)),
     }
 }
 
-// The entry of the file of this metadata and no bytes, whose blocks are saved.
-fn empty_file<S: Store, L: Ledger>(
+// The entry of the file of this metadata that a write makes of no bytes.
+fn created_file<S: Store, L: Ledger>(
     alloc: Global,
     store: &mut S,
+    site: &Site,
+    how: WriteHow,
     meta: &Meta,
     touches: &mut Steps<L>,
-) -> Result<Entry, StoreFault>
+) -> Result<Entry, Stop>
+    requires profile { IsTrue (is_profile site.now.profile) }
     requires good { IsTrue (is_meta meta.now) }
-    ensures entry { IfOk result (λ e. (p : TheProfile) → IsTrue (is_profile p)
-        → e ≡ (file_plan S.X.block32 p meta.now []).entry) }
-    ensures held { OnOk result ((p : TheProfile) → IsTrue (is_profile p)
-        → Holds (S.seen store.new).told (file_plan S.X.block32 p meta.now []).blocks) }
-    ensures fault { IfErr result IsSaving }
-    ensures saves { OnlySaves S.X.block32 NoneIsBad (fault_in result) (S.seen store.old) (S.seen store.new) }
-    ensures touches { touches.new ≤ touches.old + 2 }
-    ensures touched { CountsUp (fault_in result) touches.old touches.new }
+    ensures gives { (N : List ℕ → ℕ) (folder : TheEntry) (es : Entries)
+        → IsFolderOver S.X.block32 N site.now.profile (S.seen store.old) (S.seen store.new) [] folder es
+        → MakesFile S.X.block32 N site.now.profile (S.seen store.old) (S.seen store.new)
+        (blocks S.X.block32 N site.now.profile (Dir es)) meta.now
+        (fitting site.now.profile (rewritten (Write how) site.now.piece.now [])) result }
+    ensures saves { (root : TheCid) → OnlySaves S.X.block32
+        (IsBadEdited S.X.block32 site.now.profile (S.seen store.new).told root) (stop_fault result)
+        (S.seen store.old) (S.seen store.new) }
+    ensures touches { (rows : ℕ → ℕ) → AreHeights site.now.profile rows → touches.new ≤ touches.old
+        + rewriting_touches site.now.profile rows (Write how) site.now.piece.now meta.now [] }
+    ensures touched { CountsUp (stop_fault result) touches.old touches.new }
 {
-    let cid = save_block(alloc, store, Codec::Raw, &[], touches)?;
-    let entry = Entry { cid, tsize: 0 };
-    if meta.is_bare() {
-        return Ok(entry);
-    }
-    let root = save_root(alloc, store, &[Part { entry, size: 0 }], meta, touches)?;
-    Ok(root.entry)
+    slices_hold_bytes(site.piece);
+    let p = &site.profile;
+    stepped(create(alloc, store, p, meta, how.offset, site.piece, touches))
 }
 
 // The entry of the file that an edit makes of this one.

@@ -11,11 +11,12 @@ plus x y = (x + y) % 2 ^ 64
 abbrev pub times : ℕ → ℕ → ℕ
 times x y = (x * y) % 2 ^ 64
 
--- the eight bytes from a place on as a word, the lowest first; behind the end there are zeros
+-- the eight bytes from a place on as a word, the lowest first; after the end there are zeros
 abbrev pub word_at : List ℕ → ℕ → ℕ
 word_at bytes at = from_le_bytes w64 (
     slice_index bytes at ∷ slice_index bytes (at + 1) ∷ slice_index bytes (at + 2) ∷ slice_index bytes (at + 3)
-    ∷ slice_index bytes (at + 4) ∷ slice_index bytes (at + 5) ∷ slice_index bytes (at + 6) ∷ slice_index bytes (at + 7) ∷ [])
+    ∷ slice_index bytes (at + 4) ∷ slice_index bytes (at + 5) ∷ slice_index bytes (at + 6)
+    ∷ slice_index bytes (at + 7) ∷ [])
 
 -- what a block's first word adds to the first half
 abbrev pub first_part : ℕ → ℕ
@@ -49,7 +50,7 @@ mix k =
     let b = times (bit_xor a (a / 2 ^ 33)) 0xc4ceb9fe1a85ec53 in
     bit_xor b (b / 2 ^ 33)
 
--- the first half of the hash, from the halves behind the last block and the number of bytes
+-- the first half of the hash, from the halves after the last block and the number of bytes
 abbrev pub finished : ℕ → ℕ → ℕ → ℕ
 finished h1 h2 n =
     let a = plus (bit_xor h1 n) (bit_xor h2 n) in
@@ -62,7 +63,8 @@ unfolding halves_after
 murmur3 bytes =
     let whole = length bytes / 16 in
     let h = halves_after bytes whole in
-    finished (bit_xor h.0 (first_part (word_at bytes (16 * whole)))) (bit_xor h.1 (second_part (word_at bytes (16 * whole + 8)))) (length bytes)
+    finished (bit_xor h.0 (first_part (word_at bytes (16 * whole))))
+    (bit_xor h.1 (second_part (word_at bytes (16 * whole + 8)))) (length bytes)
 
 below_word : (n : ℕ) → n % 2 ^ 64 < 2 ^ 64
 below_word n = omega arith

@@ -1,4 +1,4 @@
-// The hash of a name.
+//! The hash of a name.
 ghost use Rattle.std.specs.Prelude.{◌≡◌, ◌<◌, ◌^◌, ℕ, List};
 ghost use Rattle.uf_murmur.specs.Murmur.{murmur3};
 ghost use Rattle.uf_murmur.specs.Slots.{first_eight};

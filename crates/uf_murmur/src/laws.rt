@@ -1,4 +1,4 @@
-// The definition of the hash, held against public vectors.
+//! The definition of the hash, held against public vectors.
 ghost use Rattle.std.specs.Prelude.{◌≡◌, codes, []};
 ghost use Rattle.uf_murmur.specs.Murmur.{murmur3};
 

@@ -1,4 +1,4 @@
-// The slots of a hash.
+//! The slots of a hash.
 ghost use Rattle.std.specs.Prelude.{◌≡◌, ◌<◌};
 ghost use Rattle.uf_murmur.specs.Slots.{slot as slot_of};
 

@@ -1,4 +1,4 @@
-// The vectors of the public standard, and slots.
+//! The vectors of the public standard, and slots.
 use crate::{FirstEight, Murmur3, NameHash, slot};
 
 // The hash of a text, through the bound.

@@ -1,4 +1,5 @@
--- What texts are as paths (in the manner of Kubo's paths: `/a/b` in the tree of mutable files, `/ipfs/CID/a/b` in a DAG).
+-- What texts are as paths (in the manner of Kubo's paths: `/a/b` in the tree of mutable files, `/ipfs/CID/a/b` in a
+-- DAG).
 use Rattle.std.specs.Prelude.{◌≡◌, ◌⊎◌, ℕ, ◌+◌, ◌-◌, ◌==◌, Bool, List, [], ◌∷◌, ◌++◌, length, drop, nat_lt, slice_index, codes, if◌then◌else◌}
 use Rattle.std.specs.List.{starts_with, slice_split, before_first, after_first}
 use Rattle.std.specs.declared.result.Result.{Result}
@@ -14,7 +15,7 @@ use Rattle.uf_path.specs.declared.path.DagPath.{DagPath}
 use Rattle.uf_path.specs.declared.path.Target.{Target}
 use Rattle.uf_path.specs.declared.path.Target.TheVariants as target
 
--- a call answers as the text reads, or for want of memory
+-- a call answers as the text reads, or out of memory
 abbrev pub ReadsAs : {A : Type 0} → Result A PathFault → Result A PathFault → Type 0
 ReadsAs (Ok value) told = told ≡ Ok value
 ReadsAs (Err why) told = (why ≡ fault.Memory) ⊎ (told ≡ Err why)
@@ -35,7 +36,8 @@ part_read at part =
     else Err (fault.BadName at)
 
 -- the first fault of two readings from left to right, or the names of both
-abbrev pub both_read : Result (List (List ℕ)) PathFault → Result (List (List ℕ)) PathFault → Result (List (List ℕ)) PathFault
+abbrev pub both_read : Result (List (List ℕ)) PathFault → Result (List (List ℕ)) PathFault
+    → Result (List (List ℕ)) PathFault
 both_read (Err why) later = Err why
 both_read (Ok names) (Err why) = Err why
 both_read (Ok names) (Ok more) = Ok (names ++ more)
@@ -54,7 +56,8 @@ path_of into (Err why) = Err why
 unfoldable pub path_reads : List ℕ → Result Path PathFault
 path_reads text =
     if nat_lt 4096 (length text) then Err fault.TooLong
-    else if is_slash (slice_index text 0) then path_of (is_slash (slice_index text (length text - 1))) (names_in 0 (parts text))
+    else if is_slash (slice_index text 0) then path_of (is_slash (slice_index text (length text - 1)))
+    (names_in 0 (parts text))
     else Err fault.NotAbsolute
 
 -- the path from this CID by these names

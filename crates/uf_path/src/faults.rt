@@ -1,4 +1,4 @@
-// Why a text is no path.
+//! Why a text is no path.
 use uf_cid::{CidFault, Memory};
 
 /// Why a text is no path.

@@ -1,9 +1,9 @@
-// Paths as they are read.
+//! Paths as they are read.
 use uf_cid::Cid;
 use uf_tree::Names;
 
-/// A path in the tree: the names from the root down, and whether the text ends with `/`, as the path of a destination does
-/// that leads into a directory.
+/// A path in the tree: the names from the root down, and whether the text ends with `/`, as the path of a destination
+/// does that leads into a directory.
 #[derive(Drop)]
 pub struct Path {
     pub names: Names,

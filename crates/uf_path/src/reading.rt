@@ -1,4 +1,4 @@
-// Paths read from texts.
+//! Paths read from texts.
 ghost use Rattle.std.specs.Prelude.{◌≡◌, ◌+◌, ◌<◌, ◌≤◌, ◌++◌, ◌⊎◌, ◌==◌, Ok, Err, List, ℕ, length, ◌-◌, ◌^◌, slice_index, MatchResult};
 ghost use Rattle.std.specs.List.{after_first, before_first};
 ghost use Rattle.uf_path.specs.Paths.{ReadsAs, dag_at, dag_path_reads, is_slash, names_in, part_read, parts, path_reads, target_reads};
@@ -23,20 +23,17 @@ impl Path {
     {
         match text.as_bytes() {
             bytes if bytes.len() > LIMIT => Err(PathFault::TooLong),
-            [b'/', ..] => match read_names(alloc, text, 0) {
-                Ok(names) => Ok(Path {
-                    names,
-                    into: ends_in_slash(text),
-                }),
-                Err(fault) => Err(fault),
-            },
+            [b'/', ..] => Ok(Path {
+                names: read_names(alloc, text, 0)?,
+                into: ends_in_slash(text),
+            }),
             _ => Err(PathFault::NotAbsolute),
         }
     }
 }
 
 impl DagPath {
-    /// The path in a DAG that a text is: `/ipfs/` where it stands in front, the text of a CID, and the names behind it.
+    /// The path in a DAG that a text is: `/ipfs/` where it stands in front, the text of a CID, and the names after it.
     #[tactic(auto, unfolding(crate::specs::Paths::dag_path_reads))]
     pub fn parse(alloc: Global, text: &str) -> Result<DagPath, PathFault>
         ensures { ReadsAs result (dag_path_reads text.now) }
@@ -58,15 +55,9 @@ impl Target {
         ensures { ReadsAs result (target_reads text.now) }
     {
         if text.starts_with(DAG_FRONT) {
-            match DagPath::parse(alloc, text) {
-                Ok(path) => Ok(Target::Dag(path)),
-                Err(fault) => Err(fault),
-            }
+            Ok(Target::Dag(DagPath::parse(alloc, text)?))
         } else {
-            match Path::parse(alloc, text) {
-                Ok(path) => Ok(Target::Tree(path)),
-                Err(fault) => Err(fault),
-            }
+            Ok(Target::Tree(Path::parse(alloc, text)?))
         }
     }
 }
@@ -86,10 +77,10 @@ fn read_dag(alloc: Global, text: &str, at: usize) -> Result<DagPath, PathFault>
     let (front, names) = cut(text);
     match Cid::parse(front) {
         Err(why) => Err(PathFault::BadCid(why)),
-        Ok(cid) => match read_names(alloc, names, at + front.len() + 1) {
-            Ok(names) => Ok(DagPath { cid, names }),
-            Err(fault) => Err(fault),
-        },
+        Ok(cid) => {
+            let names = read_names(alloc, names, at + front.len() + 1)?;
+            Ok(DagPath { cid, names })
+        }
     }
 }
 
@@ -122,7 +113,7 @@ fn read_names(alloc: Global, text: &str, start: usize) -> Result<Names, PathFaul
     Ok(names)
 }
 
-// Puts the name that a part is behind the names before it, unless the part is empty.
+// Puts the name that a part is after the names before it, unless the part is empty.
 fn put_part(alloc: Global, names: &mut Names, part: &str, at: usize) -> Result<(), PathFault>
     ensures { MatchResult result
         (λ _. (found : List (List ℕ)) × (part_read at part.now ≡ Ok found) × (names.new ≡ names.old ++ found))

@@ -6,7 +6,7 @@ use uf_tree::Names;
 
 const HELLO: &str = "bafkreifzjut3te2nhyekklss27nh3k72ysco7y32koao5eei66wof36n5e";
 
-// The names, each with a bar behind it.
+// The names, each with a bar after it.
 fn told(alloc: Global, names: &Names) -> Result<String, AllocError> {
     let mut all = String::new(alloc);
     for name in names.as_slice() {
@@ -25,7 +25,7 @@ fn repeated(alloc: Global, piece: &str, count: usize) -> Result<String, AllocErr
     Ok(all)
 }
 
-// The front, and a CID with what follows it behind the front.
+// The front, and a CID with what follows it after the front.
 fn behind(alloc: Global, front: &str, cid: &str, rest: &str) -> Result<String, AllocError> {
     format!(in alloc; "{front}{cid}{rest}")
 }

@@ -30,7 +30,7 @@ IsReach follow roots list = (c : Cid) → (Contains list c ↔ IsReachedFrom fol
 
 -- ---- walks
 
--- the first fault, by a fault of the store; a store that failed, and want of memory, are no part of it
+-- the first fault, by a fault of the store; a store that failed, and out of memory, are no part of it
 abbrev pub StopsByStore : Result (List Cid) OrderFault → StoreFault → Type 0
 StopsByStore said store.Failed = ⊤
 StopsByStore said (store.Damaged c) = ⊤

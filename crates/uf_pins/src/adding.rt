@@ -1,4 +1,4 @@
-// A CID pinned.
+//! A CID pinned.
 ghost use Rattle.std.specs.Prelude.{◌≡◌, Some};
 ghost use Rattle.uf_store.specs.Contents.{Contents};
 ghost use Rattle.uf_store.specs.Faults.{NoneIsBad, Shown};

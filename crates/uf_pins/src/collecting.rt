@@ -1,4 +1,4 @@
-// Blocks that nothing keeps, let go.
+//! Blocks that nothing keeps, let go.
 ghost use Rattle.std.specs.Prelude.{◌≡◌, Some};
 ghost use Rattle.uf_store.specs.Contents.{Contents};
 ghost use Rattle.uf_store.specs.Faults.{NoneIsBad, Shown};

@@ -1,4 +1,4 @@
-// What holds of pins, of what is below roots, and of what a collection leaves.
+//! What holds of pins, of what is below roots, and of what a collection leaves.
 ghost use Rattle.std.specs.Prelude.{◌≡◌, ◌∷◌, ◌++◌, ◌⊎◌, Bool, ℕ, List, Contains, Ok, Err, Some, true};
 ghost use Rattle.std.specs.FinMap.{get};
 ghost use Rattle.uf_cid.specs.Blocks.{Held, Holds, Lookup};
@@ -28,7 +28,7 @@ pub fn the_reach_is_what_is_reached()
         → AreDistinct list }
 {}
 
-/// The order below the first root is the front of the reach.
+/// The order below the first root is the prefix of the reach.
 pub fn the_first_root_comes_first()
     ensures { (held : Lookup) (most : ℕ) (root : Cid) (roots list : List Cid) → reach held most (root ∷ roots) ≡ Ok list
         → (front : List Cid) × (rest : List Cid) × (order held most root ≡ Ok front) × (list ≡ front ++ rest) }
@@ -61,7 +61,7 @@ pub fn a_tree_that_is_kept_stands()
         → StandsFor X N (λ cid. get held cid) notes.head p es }
 {}
 
-/// What is below a CID that was pinned outlives every stop: after a sync of what a store tells and what was written,
+/// What is below a CID that was pinned survives every crash: after a sync of what a store tells and what was written,
 /// each outcome holds all that was held.
 pub fn what_a_pin_keeps_outlives_stops()
     ensures synced { (t : Contents) (held : HeldMap) (notes : Notes) → IsPlain t

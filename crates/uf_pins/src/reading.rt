@@ -1,4 +1,4 @@
-// The note Pins, version 1, read.
+//! The note Pins, version 1, read.
 ghost use Rattle.std.specs.Prelude.{◌≡◌, ◌↔◌, IsTrue};
 ghost use Rattle.std.specs.Option.{option_map};
 ghost use Rattle.uf_tree.specs.HeadReading.{line_at};
@@ -34,7 +34,7 @@ pub fn read_pins(alloc: Global, bytes: &[u8]) -> Result<Cids, PinsFault>
     Ok(pins)
 }
 
-// The CID of the line with which bytes begin, and those behind it.
+// The CID of the line with which bytes begin, and those after it.
 fn first_cid(bytes: &[u8]) -> Option<(Cid, &[u8])>
     ensures { BeginsLine bytes.now (option_map (λ x. (x.0, x.1.now)) result) }
 {
@@ -47,7 +47,7 @@ fn first_cid(bytes: &[u8]) -> Option<(Cid, &[u8])>
     }
 }
 
-// The bytes up to the first line feed, and those behind it.
+// The bytes up to the first line feed, and those after it.
 fn line(bytes: &[u8]) -> Option<(&[u8], &[u8])>
     ensures { option_map (λ x. (x.0.now, x.1.now)) result ≡ line_at bytes.now }
 {
@@ -77,7 +77,7 @@ fn cid_of_text(text: &[u8]) -> Option<Cid>
     }
 }
 
-// Whether a CID is behind the last of some.
+// Whether a CID is after the last of some.
 pub(crate) fn is_above(pins: &Cids, cid: &Cid) -> bool
     requires { AreAscending pins.now }
     ensures { IsTrue result ↔ IsAbove pins.now cid.now }

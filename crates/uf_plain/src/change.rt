@@ -1,4 +1,4 @@
-// What an edit does in the directory that it is made in.
+//! What an edit does in the directory that it is made in.
 use uf_tree::Entry;
 
 /// What an edit does in the directory that all names but the last lead to: it makes an empty directory where the last

@@ -1,4 +1,4 @@
-// What is done to the bytes of a file.
+//! What is done to the bytes of a file.
 
 /// How a piece is written into a file: at which offset, whether a missing file is created, and whether one that is
 /// there is emptied first.

@@ -1,4 +1,4 @@
-// How a target lies to the source of a move.
+//! How a target lies to the source of a move.
 ghost use Rattle.std.specs.Prelude.{◌≡◌, [], length};
 ghost use Rattle.std.specs.Ordering.{eq_by_cmp};
 ghost use Rattle.uf_tree.specs.Names.{names_cmp};

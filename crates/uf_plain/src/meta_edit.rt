@@ -1,4 +1,4 @@
-// What is done to the metadata of a file or a directory.
+//! What is done to the metadata of a file or a directory.
 use uf_message::Mtime;
 
 /// What is done to the metadata of a file or a directory: its mode gets these permissions, which are the low twelve

@@ -1,4 +1,4 @@
-// The metadata after a change.
+//! The metadata after a change.
 ghost use Rattle.std.specs.Prelude.{◌≡◌, ◌<◌, IsTrue};
 ghost use Rattle.uf_tree.specs.Metas.{is_meta};
 ghost use Rattle.uf_plain.specs.Metas.{is_meta_edit, meta_after as after, mode_with};

@@ -1,4 +1,4 @@
-// What is said of files and directories.
+//! What is said of files and directories.
 ghost use Rattle.std.specs.Prelude.{◌≡◌, IfOk};
 
 use uf_cid::{Cid, Copied, Memory, Seq};

@@ -1,4 +1,4 @@
-// Rows of files, copies and moves that the definitions decide.
+//! Rows of files, copies and moves that the definitions decide.
 ghost use Rattle.std.specs.Prelude.{◌≡◌, ◌∷◌, ◌++◌, [], ℕ, List, codes, pos, replicate, false, true, None, Some};
 ghost use Rattle.std.specs.Prelude.{Err, Ok};
 ghost use Rattle.uf_tree.specs.Metas.{none};
@@ -11,7 +11,7 @@ ghost use Rattle.uf_plain.specs.Files.{read, truncated, written};
 ghost use Rattle.uf_plain.specs.Metas.{meta_edited};
 ghost use Rattle.uf_plain.specs.Moves.{carried, copied, spotted};
 
-/// A piece behind the end of a file stands behind zeros, a missing file is created only where that is asked for, and
+/// A piece after the end of a file stands after zeros, a missing file is created only where that is asked for, and
 /// one that is cut is empty first.
 pub fn pieces_are_written()
     ensures created { written (record { offset = 0; create = true; cut = false }) (codes "abc") (codes "f" ∷ [])

@@ -1,4 +1,4 @@
-// The rules that refuse a command.
+//! The rules that refuse a command.
 use uf_cid::Text;
 use uf_tree::Name;
 

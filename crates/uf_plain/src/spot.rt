@@ -1,4 +1,4 @@
-// Where something is put in the tree.
+//! Where something is put in the tree.
 
 use uf_tree::{Name, Names};
 

@@ -1,4 +1,4 @@
-// Names on the way to where something is put.
+//! Names on the way to where something is put.
 ghost use Rattle.std.specs.Prelude.{◌≡◌, ◌++◌, ◌∷◌, [], IfOk};
 
 use crate::Spot;

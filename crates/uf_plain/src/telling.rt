@@ -1,4 +1,4 @@
-// A rule told with the path up to the name that decides.
+//! A rule told with the path up to the name that decides.
 ghost use Rattle.std.specs.Prelude.{◌≡◌, IfOk, take};
 ghost use Rattle.uf_plain.specs.Rules.{path_text as text_of, rule_of};
 ghost use Rattle.uf_plain.specs.declared.rule.Rule.TheVariants as rules;

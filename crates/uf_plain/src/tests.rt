@@ -1,4 +1,4 @@
-// Rules told with their paths, and rows copied.
+//! Rules told with their paths, and rows copied.
 use super::*;
 use std::test::*;
 use uf_cid::{Cid, Codec, Sha256Hash};

@@ -1,6 +1,7 @@
 -- What a pull asks for and keeps: the first block that is missing in the order is asked for, and is held from then on,
 -- until the order is whole.
-use Rattle.std.specs.Prelude.{ℕ, zero, suc, ◌&&◌, nat_eq, Bool, true, false, List, [], ◌∷◌, ◌++◌, length, map, if◌then◌else◌}
+use Rattle.std.specs.Prelude.{ℕ, zero, suc, ◌&&◌, nat_eq, Bool, true, false, List, [], ◌∷◌, ◌++◌, length, map}
+use Rattle.std.specs.Prelude.{if◌then◌else◌}
 use Rattle.std.specs.Cmp.Lexicographic.{pointwise}
 use Rattle.std.specs.Ordering.{eq_by_cmp}
 use Rattle.std.specs.declared.option.Option.{Option}
@@ -18,13 +19,13 @@ use Rattle.uf_pull.specs.Wants.{done_line, wants_text}
 
 -- ---- one want
 
--- what frames answer: a block, with how many more may be dropped and the frames behind it, or why there is none, and
+-- what frames answer: a block, with how many more may be dropped and the frames after it, or why there is none, and
 -- how many bytes are used then
 pub data Answer : Type 0 where
   Answered : List ℕ → ℕ → Frames → Answer
   Refused : PullFault → ℕ → Answer
 
--- a frame that answers for nothing that was asked is dropped, where one more may be; behind it so many bytes are used
+-- a frame that answers for nothing that was asked is dropped, where one more may be; after it n bytes are used
 abbrev pub if_dropped : (ℕ → Answer) → ℕ → ℕ → Answer
 if_dropped next used zero = Refused fault.Noise used
 if_dropped next used (suc more) = next more

@@ -1,5 +1,6 @@
 -- What `pull` and its steps answer and leave.
-use Rattle.std.specs.Prelude.{◌≡◌, ◌⊎◌, ℕ, suc, ◌+◌, ◌≤◌, Bool, true, false, List, [], ◌∷◌, ◌++◌, length, map, take, drop, ⊤}
+use Rattle.std.specs.Prelude.{◌≡◌, ◌⊎◌, ℕ, suc, ◌+◌, ◌≤◌, Bool, true, false, List, [], ◌∷◌, ◌++◌, length, map, take}
+use Rattle.std.specs.Prelude.{drop, ⊤}
 use Rattle.std.specs.declared.option.Option.{Option}
 use Rattle.std.specs.declared.option.Option.TheVariants.{None, Some}
 use Rattle.std.specs.declared.result.Result.{Result}
@@ -139,7 +140,7 @@ at_first = record { more = 1024; place = 0; added = 0 }
 abbrev pub due_at : (List ℕ → List ℕ) → ℕ → Cid → ℕ → Contents → Stand → List ℕ → Due
 due_at hash most root n t s bytes = due_within hash most root n (held_at t) s.more (frames_from s.place bytes)
 
--- blocks were asked for and kept, and what is due goes on behind them
+-- blocks were asked for and kept, and what is due goes on after them
 pub record PullsOn (hash : List ℕ → List ℕ) (most : ℕ) (root : Cid) (before : Stand) (t : Contents) (bytes : List ℕ)
     (out : streams.Told) (now : Stand) (walk_now : Walked) (told_now : Told) (left_now out_now : streams.Told)
     : Type 0 where
@@ -170,7 +171,7 @@ pub record StepsWalk (before now : Walked) (peer peer_now : Peer) : Type 0 where
   pub taken : HasTaken before now
   pub few : peer_now.added ≤ peer.added + 1
 
--- all is made to outlive a stop, and the peer is told so; or that was stopped
+-- all is made durable, and the peer is told so; or that was stopped
 pub record StopsLast (f : PullFault) (t : Contents) (told_now : Told) (out out_now : streams.Told) : Type 0 where
   pub stopped : stops_pull f ≡ true
   pub kept : (told_now ≡ Some t) ⊎ (told_now ≡ Some (with_sync t))

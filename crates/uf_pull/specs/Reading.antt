@@ -1,5 +1,6 @@
 -- What the calls that read frames answer and leave.
-use Rattle.std.specs.Prelude.{◌≡◌, ◌⊎◌, ℕ, ◌+◌, ◌*◌, ◌-◌, ◌<◌, ◌≤◌, Bool, true, false, List, [], ◌++◌, length, take, drop, vec_len, ⊤}
+use Rattle.std.specs.Prelude.{◌≡◌, ◌⊎◌, ℕ, ◌+◌, ◌*◌, ◌-◌, ◌<◌, ◌≤◌, Bool, true, false, List, [], ◌++◌, length, take}
+use Rattle.std.specs.Prelude.{drop, vec_len, ⊤}
 use Rattle.std.specs.declared.option.Option.{Option}
 use Rattle.std.specs.declared.option.Option.TheVariants.{None, Some}
 use Rattle.std.specs.declared.result.Result.{Result}
@@ -42,7 +43,7 @@ IsLength (Value size used) = used ≤ 9
 IsLength Short = ⊤
 IsLength Bad = ⊤
 
--- the bytes behind what begins them: none where they end inside a frame
+-- the bytes after what begins them: none where they end inside a frame
 abbrev pub IsLeftBehind : List ℕ → Begins → List ℕ → Type 0
 IsLeftBehind bytes (Stands frame used) rest = rest ≡ drop used bytes
 IsLeftBehind bytes BreaksOff rest = rest ≡ []
@@ -95,7 +96,7 @@ stops_pull _ = false
 
 -- ---- answers
 
--- some bytes were read and used: the place has moved on by as many, and those behind them are left
+-- some bytes were read and used: the place has moved on by as many, and those after them are left
 pub record UsesBytes (place : ℕ) (bytes : List ℕ) (now : Peer) (left_now : Told) : Type 0 where
   pub rest : List ℕ
   pub used : ℕ
@@ -133,7 +134,7 @@ abbrev pub AnswersBy : Answer → Result (ℕ × ℕ) PullFault → ℕ → List
 AnswersBy said (Ok found) place bytes now left_now = AnswersWith said found place bytes now left_now
 AnswersBy said (Err f) place bytes now left_now = stops_pull f ≡ false → RefusesWith said f place bytes left_now
 
--- one frame was dropped, and those behind it answer
+-- one frame was dropped, and those after it answer
 pub record LeavesTo (hash : List ℕ → List ℕ) (c : Cid) (said : Answer) (place : ℕ) (bytes : List ℕ) (now : Peer)
     (left_now : Told) : Type 0 where
   pub uses : UsesBytes place bytes now left_now
@@ -146,7 +147,7 @@ StepsBy hash c said (Ok None) place bytes now left_now = LeavesTo hash c said pl
 StepsBy hash c said (Ok (Some found)) place bytes now left_now = AnswersWith said found place bytes now left_now
 StepsBy hash c said (Err f) place bytes now left_now = stops_pull f ≡ false → RefusesWith said f place bytes left_now
 
--- the place of the next frame is behind those that answered and those that were dropped
+-- the place of the next frame is after those that answered and those that were dropped
 pub record IsInPlace (peer : Peer) : Type 0 where
   pub some : peer.more ≤ 1024
   pub few : peer.place ≤ (peer.added + (1024 - peer.more)) * 2097198
@@ -164,7 +165,7 @@ pub record KeepsCounts (before now : Peer) : Type 0 where
   pub same_more : now.more ≡ before.more
   pub same_added : now.added ≡ before.added
 
--- a frame of so many bytes was dropped
+-- a frame of n bytes was dropped
 pub record HasDropped (size : ℕ) (before now : Peer) : Type 0 where
   pub one_less : before.more ≡ now.more + 1
   pub place : now.place ≡ before.place + size

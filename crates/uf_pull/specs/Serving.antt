@@ -38,7 +38,7 @@ IsServing (store.BadBlock c role) = ⊥
 IsServing (store.Clash c a b) = ⊥
 IsServing store.Memory = ⊤
 
--- some bytes were written behind what the sink held
+-- some bytes were written after what the sink held
 abbrev pub WritesBytes : Told → Told → Type 0
 WritesBytes out out_now = (text : List ℕ) × (out_now ≡ after out text)
 
@@ -56,7 +56,7 @@ pub record ServesAll (held : Lookup) (asked : Asked) (ends : Result Unit ServeFa
   pub ends_so : asked.ends ≡ ends
   pub written : out_now ≡ after out (serve_text held asked.wants)
 
--- the answer of `serve` over what is held: a frame for each CID that is asked for, or a front of that where it was
+-- the answer of `serve` over what is held: a frame for each CID that is asked for, or a prefix of that where it was
 -- stopped
 abbrev pub ServesLines : Lookup → Asked → Result ℕ ServeFault → Told → Told → Type 0
 ServesLines held asked (Ok n) out out_now = ServesAll held asked (Ok tt) out out_now × (n ≡ length asked.wants)

@@ -45,7 +45,7 @@ wrong_frame = 1 ∷ 0x2f ∷ cid_bytes hello_cid ++ codes "hello worle"
 abbrev pub lacking_frame : Cid → List ℕ
 lacking_frame c = 0 ∷ cid_bytes c
 
--- `hello world` is asked for, these blocks come, and it ends so behind so many bytes
+-- `hello world` is asked for, these blocks come, and it ends so after n bytes
 abbrev pub asks_hello : List Held → Result Unit PullFault → ℕ → Due
 asks_hello blocks ends used = record { wants = hello_cid ∷ []; blocks = blocks; ends = ends; used = used }
 

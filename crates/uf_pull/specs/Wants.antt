@@ -1,6 +1,7 @@
 -- The lines in which blocks are asked for (this project's own form): `want ` and the text of a CID in lower case for
--- each, and `done` behind the last.
-use Rattle.std.specs.Prelude.{ℕ, ◌+◌, ◌-◌, nat_eq, nat_lt, List, [], ◌∷◌, ◌++◌, codes, length, drop, flat_map, Bool, true, false, if◌then◌else◌}
+-- each, and `done` after the last.
+use Rattle.std.specs.Prelude.{ℕ, ◌+◌, ◌-◌, nat_eq, nat_lt, List, [], ◌∷◌, ◌++◌, codes, length, drop, flat_map, Bool}
+use Rattle.std.specs.Prelude.{true, false, if◌then◌else◌}
 use Rattle.std.specs.List.{starts_with}
 use Rattle.std.specs.Str.{bytes_eq, is_utf8}
 use Rattle.std.specs.declared.option.Option.{Option}
@@ -30,7 +31,7 @@ wants_text cids = flat_map want_line cids
 
 -- ---- as they are read
 
--- what stands behind a word in front
+-- what stands after a word in front
 abbrev pub behind_word : List ℕ → List ℕ → Option (List ℕ)
 behind_word word line = if starts_with nat_eq line word then Some (drop (length word) line) else None
 
@@ -66,12 +67,12 @@ asked_by number (Want c) rest = with_wants (c ∷ []) rest
 asked_by number Done rest = record { wants = []; ends = Ok tt }
 asked_by number Neither rest = record { wants = []; ends = Err (fault.BadWant number) }
 
--- what lines ask for, of which the first has this number; behind the last of them stands what the number there decides
+-- what lines ask for, of which the first has this number; after the last of them stands what the number there decides
 unfoldable pub asked_from : (ℕ → Result Unit ServeFault) → ℕ → List (List ℕ) → Asked
 asked_from last number [] = record { wants = []; ends = last number }
 asked_from last number (line ∷ lines) = asked_by number (ask_of line) (asked_from last (number + 1) lines)
 
--- what stands behind the last line: the end of the input, or a line that is too long where enough of the limit is left
+-- what stands after the last line: the end of the input, or a line that is too long where enough of the limit is left
 -- for one, or else more bytes than may be read
 abbrev pub behind_lines : ℕ → List (List ℕ) → Bool → ℕ → Result Unit ServeFault
 behind_lines limit lines true number = Ok tt
@@ -81,6 +82,6 @@ behind_lines limit lines false number =
 abbrev pub asked_of : ℕ → LinesIn → Asked
 asked_of limit r = asked_from (behind_lines limit r.lines r.whole) 1 r.lines
 
--- what an input asks for of which at most so many bytes are read, in lines of at most 4096 bytes
+-- what an input asks for of which at most n bytes are read, in lines of at most 4096 bytes
 abbrev pub asked_in : ℕ → List ℕ → Asked
 asked_in limit bytes = asked_of limit (lines_in 4096 limit bytes)

@@ -1,4 +1,4 @@
-// What holds of pulls and of the peers that answer them.
+//! What holds of pulls and of the peers that answer them.
 ghost use Rattle.std.specs.Prelude.{◌≡◌, ◌≤◌, ◌<◌, ◌++◌, ℕ, List, [], Ok, Err, codes, length};
 ghost use Rattle.std.specs.List.{AllByRecursion};
 ghost use Rattle.uf_cid.specs.Blocks.{Lookup};
@@ -44,14 +44,14 @@ pub fn whole_pulls_ask_for_what_was_lacking()
 {}
 
 /// Over what a peer serves that holds all blocks below the root, a pull is whole: it asks for what isn't held, in the
-/// order, and uses what was served and no byte behind it.
+/// order, and uses what was served and no byte after it.
 pub fn an_honest_peer_is_enough()
     ensures { (hash : List ℕ → List ℕ) (most : ℕ) (root : Cid) (held peer : Lookup) (list : List Cid) (rest : List ℕ)
         → IsHonest hash most root held peer list
         → EndsWell (due hash most root held (serve_text peer (unheld held list) ++ rest)) peer (unheld held list) }
 {}
 
-/// Frames that were written are read, whatever follows, and the others behind them.
+/// Frames that were written are read, whatever follows, and the others after them.
 pub fn frames_are_read_again()
     ensures lacking { (c : Cid) (rest : List ℕ) → IsCid c
         → begins (frame_bytes (Lacking c) ++ rest) ≡ Stands (Lacking c) 37 }

@@ -1,4 +1,4 @@
-// A DAG pulled from a peer into a store.
+//! A DAG pulled from a peer into a store.
 ghost use Rattle.std.specs.Prelude.{◌≡◌, ◌≤◌, ◌<◌, ◌-◌, ◌^◌, ℕ, List, Some, None, OnOk, IfSome, false};
 ghost use Rattle.uf_edge.specs.Counts.{Counts};
 ghost use Rattle.uf_edge.specs.Streams.{Told, after};
@@ -9,7 +9,8 @@ ghost use Rattle.uf_store.specs.Keeping.{KeepsGood};
 ghost use Rattle.uf_store.specs.Writing.{Wrote};
 ghost use Rattle.uf_cid.specs.declared.cid.Cid.{Cid as TheCid};
 ghost use Rattle.uf_pull.specs.Due.{due};
-ghost use Rattle.uf_pull.specs.Pulling.{Closes, IsOnCourse, IsPulling, IsSaveOrSync, LooksFor, OnlyPulls, Pulls, SendsLine};
+ghost use Rattle.uf_pull.specs.Pulling.{Closes, IsOnCourse, IsPulling, IsSaveOrSync, LooksFor, OnlyPulls, Pulls};
+ghost use Rattle.uf_pull.specs.Pulling.{SendsLine};
 ghost use Rattle.uf_pull.specs.Pulling.{StepsWalk};
 ghost use Rattle.uf_pull.specs.Pulling.{VisitsCid, stand};
 ghost use Rattle.uf_pull.specs.Reading.{IsInPlace, is_pull_read, is_pull_sink, pull_fault};
@@ -167,7 +168,7 @@ fn fetch<S: Store, I: Source, L: Ledger>(
     Ok(())
 }
 
-// Makes all that was kept outlive a stop, and tells the peer that no more is wanted.
+// Makes all that was kept durable, and tells the peer that no more is wanted.
 fn close<S: Store, O: Sink>(store: &mut S, out: &mut O) -> Result<(), PullFault>
     ensures closes { (t : Contents) → (S.seen store.old).told ≡ Some t
         → Closes result t (S.seen store.new).told (O.holds out.old) (O.holds out.new) }

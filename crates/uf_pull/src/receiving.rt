@@ -1,4 +1,4 @@
-// Frames received from a peer.
+//! Frames received from a peer.
 ghost use Rattle.std.specs.Prelude.{◌≡◌, ◌≤◌, ◌<◌, ◌+◌, ◌-◌, ◌^◌, ◌++◌, ℕ, List, Some, length, take, vec_len};
 ghost use Rattle.std.specs.Prelude.{IfOk, IfErr, IfSome, OnOk};
 ghost use Rattle.uf_edge.specs.Counts.{Counts};
@@ -8,8 +8,8 @@ ghost use Rattle.uf_pull.specs.Reading.{bytes_between};
 use crate::PullFault;
 use crate::frame::{Front, LEAST, front_at, size_at};
 use crate::peer::Peer;
-use std::alloc::{AllocError, Global};
-use uf_cid::{BlockHash, Cid, Memory};
+use std::alloc::Global;
+use uf_cid::{BlockHash, Cid, Memory, zeros};
 use uf_edge::{Filled, Source, fill};
 
 // So many frames may be dropped.
@@ -18,7 +18,8 @@ const MOST_DROPPED: u32 = 1024;
 impl Peer {
     ghost use Rattle.uf_pull.specs.Due.{answer_to};
     ghost use Rattle.uf_pull.specs.Frames.{frames_from};
-    ghost use Rattle.uf_pull.specs.Reading.{AnswersBy, CountsFrame, DropsFrame, FindsBlock, FitsFront, IsInPlace, IsOfPeer};
+    ghost use Rattle.uf_pull.specs.Reading.{AnswersBy, CountsFrame, DropsFrame, FindsBlock, FitsFront, IsInPlace};
+    ghost use Rattle.uf_pull.specs.Reading.{IsOfPeer};
     ghost use Rattle.uf_pull.specs.Reading.{KeepsCounts, ReadsFront, StepsBy, StopsReading, is_pull_read};
 
     // A peer that gave nothing yet.
@@ -46,7 +47,7 @@ impl Peer {
         &self.buffer[found.0..found.1]
     }
 
-    // Reads frames until one gives the block of a CID, and says where it stands in the buffer. No byte behind that
+    // Reads frames until one gives the block of a CID, and says where it stands in the buffer. No byte after that
     // frame is read.
     pub fn answer<X: BlockHash, I: Source>(
         &mut self,
@@ -107,7 +108,7 @@ impl Peer {
         }
     }
 
-    // Passes over a frame of so many bytes, where one more may be dropped.
+    // Passes over a frame of n bytes, where one more may be dropped.
     fn drop_frame(&mut self, size: usize) -> Result<Option<(usize, usize)>, PullFault>
         requires place { IsInPlace self.old }
         requires few { self.old.added < 2 ^ 32 - 1 }
@@ -122,7 +123,7 @@ impl Peer {
         Ok(None)
     }
 
-    // Reads what begins the bytes of a source, and no byte behind it.
+    // Reads what begins the bytes of a source, and no byte after it.
     fn read_front<I: Source>(&mut self, input: &mut I) -> Result<Front, PullFault>
         ensures reads { (bytes : List ℕ) → I.left input.old ≡ Some bytes
             → IfOk result (λ front. ReadsFront self.new.buffer.items bytes front (I.left input.new)) }
@@ -157,7 +158,7 @@ impl Peer {
         }
     }
 
-    // Gives the buffer room for so many bytes.
+    // Gives the buffer room for n bytes.
     fn grow(&mut self, size: usize) -> Result<(), Memory>
         ensures fits { OnOk result (size ≤ vec_len self.new.buffer) }
         ensures keeps { take 37 self.new.buffer.items ≡ take 37 self.old.buffer.items }
@@ -180,10 +181,4 @@ fn fill_part<I: Source>(input: &mut I, buffer: &mut Vec<u8>, from: usize, to: us
     ensures counts { Counts (is_fill_fault result) (I.faults input.old) (I.faults input.new) }
 {
     fill(input, &mut buffer[from..to])
-}
-
-fn zeros(alloc: Global, count: usize) -> Result<Vec<u8>, AllocError>
-    ensures { IfOk result (λ v. vec_len v ≡ count) }
-{
-    vec![in alloc; 0u8; count]
 }

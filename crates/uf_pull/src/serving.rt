@@ -1,4 +1,4 @@
-// Blocks handed out of a store to a peer that asks for them.
+//! Blocks handed out of a store to a peer that asks for them.
 ghost use Rattle.std.specs.Prelude.{◌≡◌, ◌≤◌, ◌<◌, ◌+◌, ◌-◌, ◌^◌, ℕ, List, Some, OnOk, IfSome, false};
 ghost use Rattle.std.specs.Prelude.{length, nat_lt, if◌then◌else◌};
 ghost use Rattle.uf_edge.specs.Counts.{Counts};
@@ -21,7 +21,7 @@ use uf_lines::{Line, Lines};
 use uf_store::{Load, Steps, Store, StoreFault};
 use uf_varint::write;
 
-// A line has at most so many bytes.
+// A line has at most n bytes.
 const MOST_OF_LINE: usize = 4096;
 
 /// Answers each line of an input that asks for a block by one frame, as soon as it has come, until `done` or the end:
@@ -68,7 +68,7 @@ pub fn serve<S: Store, I: Source, O: Sink, L: Ledger>(
     }
 }
 
-// What is too long behind so many lines: the next one, where so much of the limit is left, or else the input.
+// What is too long after so many lines: the next one, where so much of the limit is left, or else the input.
 fn overrun(room: u64, served: u64) -> ServeFault
     requires { 0 < room → served < 2 ^ 64 - 1 }
     ensures { result ≡ (if nat_lt 4096 room then BadWant (served + 1) else TooLong) }

@@ -1,4 +1,4 @@
-// Rows of pulls and of answers that the definitions decide.
+//! Rows of pulls and of answers that the definitions decide.
 ghost use Rattle.std.specs.Prelude.{◌≡◌, ◌++◌, [], ◌∷◌, Ok, Err, codes, take};
 ghost use Rattle.sha2.specs.Sha256.{sha256};
 ghost use Rattle.uf_pull.specs.Due.{due, due_text};

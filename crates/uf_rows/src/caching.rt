@@ -1,4 +1,4 @@
-// Commands over a store with a cache.
+//! Commands over a store with a cache.
 
 use crate::playing::{begins_row, play_lines};
 use crate::setting::feed;

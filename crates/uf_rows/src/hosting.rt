@@ -1,4 +1,4 @@
-// Hosts that have what lines say.
+//! Hosts that have what lines say.
 
 use crate::words::{Word, number_and_rest, word_of};
 use std::alloc::Global;

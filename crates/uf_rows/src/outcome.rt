@@ -1,4 +1,4 @@
-// What came of commands, as lines.
+//! What came of commands, as lines.
 
 use std::alloc::Global;
 use uf_cid::{Block, BlockHash, Memory, Sha256Hash};
@@ -27,7 +27,7 @@ fn tell_byte(told: &mut Block, byte: u8) -> Result<(), Memory> {
     }
 }
 
-// A line behind its mark.
+// A line after its mark.
 fn tell_line(told: &mut Block, mark: &[u8], line: &[u8]) -> Result<(), Memory> {
     told.extend(mark)?;
     for byte in line {
@@ -36,7 +36,7 @@ fn tell_line(told: &mut Block, mark: &[u8], line: &[u8]) -> Result<(), Memory> {
     Ok(())
 }
 
-// Bytes as lines behind a mark. A backslash ends the last one where it has no end.
+// Bytes as lines after a mark. A backslash ends the last one where it has no end.
 fn tell_lines(told: &mut Block, mark: &[u8], bytes: &[u8]) -> Result<(), Memory> {
     for line in bytes.split_inclusive(|byte| *byte == b'\n') {
         match line.strip_suffix(b"\n") {
@@ -64,7 +64,7 @@ fn tell_hash(told: &mut Block, alloc: Global, mark: &[u8], bytes: &[u8]) -> Resu
     told.extend(b"\n")
 }
 
-/// Bytes behind a mark: as lines, or where they are many by their hash.
+/// Bytes after a mark: as lines, or where they are many by their hash.
 pub fn tell_bytes(
     told: &mut Block,
     alloc: Global,

@@ -1,4 +1,4 @@
-// The parts of a transcript, and their lines.
+//! The parts of a transcript, and their lines.
 
 use crate::caching::play_cached;
 use crate::setting::{set, tell_blocks};
@@ -12,7 +12,7 @@ use uf_cid::{Block, BlockHash, Memory, Sha256Hash, Sum8Hash, Text};
 use uf_murmur::{FirstEight, Murmur3, NameHash};
 use uf_store::{MemStore, Steps};
 
-// Asks this of what is left from now on: in the place of all, or behind them. Nothing asks nothing.
+// Asks this of what is left from now on: in the place of all, or after them. Nothing asks nothing.
 fn set_asks<X: BlockHash>(world: &mut World<X>, word: Word, rest: &str) -> Result<(), Memory> {
     if word == Word::Asks {
         world.asks = Text::new(world.alloc);
@@ -48,7 +48,7 @@ fn do_word<X: BlockHash, N: NameHash, L: Ledger>(
     Ok(true)
 }
 
-// Does what a line behind a `!` asks for.
+// Does what a line after a `!` asks for.
 fn change<X: BlockHash, N: NameHash, L: Ledger>(
     world: &mut World<X>,
     line: &str,

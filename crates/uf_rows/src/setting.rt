@@ -1,4 +1,4 @@
-// What is done with a store, a host and streams but by commands.
+//! What is done with a store, a host and streams but by commands.
 ghost use Rattle.std.specs.Prelude.{◌<◌};
 
 use crate::outcome::tell_count;
@@ -23,7 +23,7 @@ fn bytes_of(alloc: Global, digits: &str) -> Result<Block, Memory> {
     }
 }
 
-// So many bytes, each of which tells its place, but a `z` at one.
+// n bytes, each of which tells its place, but a `z` at one.
 fn add_various(input: &mut Block, rest: &str) -> Result<(), Memory> {
     let (count, changed) = number_and_rest(rest);
     let changed = changed.parse::<u64>().unwrap_or(u64::MAX);

@@ -1,4 +1,4 @@
-// What is printed: the transcript as far as it was played, and at each row that came otherwise what came.
+//! What is printed: the transcript as far as it was played, and at each row that came otherwise what came.
 
 use std::alloc::Global;
 use uf_cid::{Block, Memory};

@@ -1,4 +1,4 @@
-// Commands that are done again and again: with each call that may fail, after each stop, over each output and input.
+//! Commands that are done again and again: with each call that may fail, after each stop, over each output and input.
 
 use crate::words::number_and_rest;
 use crate::world::{World, act, act_and_tell};
@@ -47,7 +47,7 @@ impl Tries {
         self.now.as_slice() == self.whole.as_slice()
     }
 
-    // Tells the answer of now behind a line, where it isn't the one before.
+    // Tells the answer of now after a line, where it isn't the one before.
     fn tell_new(&mut self, head: &str, told: &mut Block) -> Result<(), Memory> {
         if self.now.as_slice() != self.last.as_slice() {
             told.extend(head.as_bytes())?;
@@ -363,7 +363,7 @@ fn act_numbered<X: BlockHash, N: NameHash, L: Ledger>(
     act_and_tell::<X, N, L>(world, line.as_str(), &mut tries.now, touches)
 }
 
-/// Does a command with each number up to this one behind it, in two digits where it has fewer: each answer once.
+/// Does a command with each number up to this one after it, in two digits where it has fewer: each answer once.
 pub fn repeat<X: BlockHash, N: NameHash, L: Ledger>(
     world: &mut World<X>,
     rest: &str,

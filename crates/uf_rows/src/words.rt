@@ -1,9 +1,9 @@
-// The words behind a `!`.
+//! The words after a `!`.
 
-/// What a line behind a `!` asks for.
+/// What a line after a `!` asks for.
 #[derive(Clone, Copy, PartialEq, Eq)]
 pub enum Word {
-    // The input of the next command: other bytes in its place, or more behind it.
+    // The input of the next command: other bytes in its place, or more after it.
     Input,
     Zeros,
     Text,

@@ -1,5 +1,5 @@
-// A store, a host and streams in memory, and commands over them. What owns several of them leaves at one place, since
-// each way out of it has to be proved.
+//! A store, a host and streams in memory, and commands over them. What owns several of them leaves at one place, since
+//! each way out of it has to be proved.
 
 use crate::hosting::host_with;
 use crate::outcome::{tell_bytes, tell_status};

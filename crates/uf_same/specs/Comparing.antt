@@ -16,7 +16,7 @@ use Rattle.uf_same.specs.declared.answer.SameFault.{SameFault}
 use Rattle.uf_same.specs.declared.answer.SameFault.TheVariants as fault
 use Rattle.uf_same.specs.Verdict.{Verdict, follow_both, verdict_of}
 
--- a fault of one side: a block that is missing there, a failure, or want of memory
+-- a fault of one side: a block that is missing there, a failure, or out of memory
 abbrev pub SaysOfSide : (StoreFault → SameFault) → Verdict → StoreFault → Type 0
 SaysOfSide side said store.Failed = ⊤
 SaysOfSide side said (store.Damaged c) = ⊤
@@ -32,7 +32,7 @@ RefusesSame said (fault.Left f) = SaysOfSide fault.Left said f
 RefusesSame said (fault.Right f) = SaysOfSide fault.Right said f
 RefusesSame said fault.Memory = ⊤
 
--- the answer is the verdict; want of memory is free
+-- the answer is the verdict; out of memory is free
 abbrev pub Judges : Verdict → Verdict → Type 0
 Judges said (Ok answer) = said ≡ Ok answer
 Judges said (Err f) = RefusesSame said f
@@ -89,7 +89,7 @@ StepsOn (Ok None) before now = HasTaken before now
 StepsOn (Ok (Some clash)) before now = ⊤
 StepsOn (Err f) before now = ⊤
 
--- the clash of these two blocks, or want of memory to show them
+-- the clash of these two blocks, or out of memory to show them
 abbrev pub IsClashOf : Cid → List ℕ → List ℕ → Result (Option Compared) SameFault → Type 0
 IsClashOf cid a b (Ok (Some clash)) = clash ≡ compared.Clash cid a b
 IsClashOf cid a b (Err fault.Memory) = ⊤

@@ -1,4 +1,4 @@
-// What a comparison answers.
+//! What a comparison answers.
 use uf_cid::{Block, Cid, Memory};
 use uf_store::StoreFault;
 use uf_walk::WalkFault;

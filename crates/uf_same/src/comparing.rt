@@ -1,4 +1,4 @@
-// Two stores compared.
+//! Two stores compared.
 ghost use Rattle.std.specs.Prelude.{◌≡◌, ◌≢◌, ◌∷◌, [], Some, IfErr, IfOk, IfSome};
 ghost use Rattle.uf_store.specs.Calls.{OnlyReads};
 ghost use Rattle.uf_store.specs.Contents.{Contents, held_at};
@@ -11,13 +11,12 @@ ghost use Rattle.uf_same.specs.Verdict.{follow_both, verdict, verdict_of};
 use crate::{Compared, SameFault};
 use std::alloc::Global;
 use std::sync::ledger::Ledger;
-use uf_cid::{Block, Cid, Memory};
+use uf_cid::{Block, Cid};
 use uf_store::{Steps, Store, need};
 use uf_walk::{Turn, Walk};
 
 /// Whether two stores have the same blocks below two CIDs: Differ where the CIDs differ, and then nothing is loaded;
-/// Clash with the first CID, in first-visit depth-first order, whose two blocks differ; else Equal. Two touches for
-/// each CID.
+/// Clash with the first CID, in first-visit depth-first order, whose two blocks differ; else Equal.
 pub fn same<A: Store, B: Store<X = A::X>, L: Ledger>(
     alloc: Global,
     left: &mut A,
@@ -123,16 +122,7 @@ fn clash_of(
 ) -> Result<Option<Compared>, SameFault>
     ensures { IsClashOf cid.now left.now right.now result }
 {
-    let first = block_of(alloc, left)?;
-    let second = block_of(alloc, right)?;
+    let first = Block::from_slice(alloc, left)?;
+    let second = Block::from_slice(alloc, right)?;
     Ok(Some(Compared::Clash(*cid, first, second)))
-}
-
-// A block of these bytes.
-fn block_of(alloc: Global, bytes: &[u8]) -> Result<Block, Memory>
-    ensures { IfOk result (λ block. block ≡ bytes.now) }
-{
-    let mut block = Block::with_capacity(alloc, bytes.len())?;
-    block.extend(bytes)?;
-    Ok(block)
 }

@@ -1,4 +1,4 @@
-// What holds of what compares as equal.
+//! What holds of what compares as equal.
 ghost use Rattle.std.specs.Prelude.{◌≡◌, ◌≢◌, ◌<◌, ◌^◌, ℕ, Err, IsTrue, List, None, Ok};
 ghost use Rattle.uf_cid.specs.Blocks.{Holds, Lookup};
 ghost use Rattle.uf_cid.specs.declared.cid.Cid.{Cid};

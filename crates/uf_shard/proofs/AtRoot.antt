@@ -4,6 +4,8 @@ use Rattle.std.specs.declared.result.Result.{Result}
 use Rattle.std.specs.declared.result.Result.TheVariants.{Err}
 use Rattle.std.specs.Prelude.{IfOk}
 use Rattle.uf_cid.specs.declared.cid.Cid.{Cid}
+use Rattle.uf_cid.specs.Blocks.{Held}
+use Rattle.uf_store.specs.Among.{SavesAmong}
 use Rattle.uf_store.specs.Contents.{Told}
 use Rattle.uf_store.specs.Keeping.{Agrees, Holds, KeepsGood}
 use Rattle.uf_store.specs.Seen.{Seen}
@@ -16,6 +18,7 @@ use Rattle.uf_tree.specs.ShardPlan.{shard}
 use Rattle.uf_tree.specs.Validity.{IsHash}
 use Rattle.uf_shard.specs.declared.fault.DirFault.{DirFault}
 use Rattle.uf_shard.specs.declared.removed.Removed.{Removed}
+use Rattle.uf_shard.specs.Answers.{shard_node_held}
 use Rattle.uf_shard.specs.Changed.{AreItems, MayLose, PutsSlots, below}
 use Rattle.uf_shard.specs.Planned.{IsPlanned}
 use Rattle.uf_shard.specs.Reached.{HasPlaced, IsReached, LoadsPlaced}
@@ -51,6 +54,14 @@ module _ (X : List ℕ → List ℕ) (N : List ℕ → ℕ) (good : IsHash X) (n
     pub root-takes : (now : Told) (r : Result (Option (List InSlot)) StoreFault) → ((k : List Named) → AreItems X N (N name) 7 mid node.items k → TakesSlots X N mid now (below X N 7 k) 7 name k r)
         → TakesSlots X N before.told now (shard X N 7 m l).blocks 7 name l r
     root-takes now r takes = takes-more X N before.told mid now (below X N 7 l) (shard X N 7 m l).blocks 7 name l r same (below-in X N 7 m l) (takes l read)
+
+    -- what is saved below the root
+    pub root-below : (now : Told) (blocks : List Named → List Held) → ((k : List Named) → AreItems X N (N name) 7 mid node.items k → SavesAmong X (blocks k) mid now) → SavesAmong X (blocks l) before.told now
+    root-below now blocks saves = subst (λ (t : Told). SavesAmong X (blocks l) t now) same (saves l read)
+
+    -- its own block
+    pub root-among : (now now_then : Told) (items : List InSlot) → SavesAmong X (shard_node_held X node.meta items ∷ []) now now_then → SavesAmong X (shard_node_held X m items ∷ []) now now_then
+    root-among now now_then items h = subst (λ (n : Meta). SavesAmong X (shard_node_held X n items ∷ []) now now_then) root-meta h
 
     -- the root is saved with the metadata that it had
     pub root-entry : (items : List InSlot) (e : Entry) → e ≡ node_entry X (shard_block node.meta items) (map (λ (p : InSlot). item_entry p.1) items) → e ≡ node_entry X (shard_block m items) (map (λ (p : InSlot). item_entry p.1) items)

@@ -15,6 +15,7 @@ pub mod Sorts
 pub mod Touches
 pub mod Digests
 pub mod Alone
+pub mod Among
 pub mod AtRoot
 pub mod Ends
 pub mod Knowing

@@ -101,7 +101,7 @@ module _ (X : List ℕ → List ℕ) (N : List ℕ → ℕ) where
   same-done before now hash left name other e old l (Err TooBig) same slot is = absurd is
   same-done before now hash left name other e old l (Err (Store fault)) same slot is = memory-lost before (blocks_of X N left l) fault is
 
-  differ-of : (name other : List ℕ) → eq_by_cmp names_cmp name other ≡ false → other ≢ name
+  pub differ-of : (name other : List ℕ) → eq_by_cmp names_cmp name other ≡ false → other ≢ name
   differ-of name other apart same = false≢true (sym apart ∙ ap (eq_by_cmp names_cmp name) same ∙ itself name)
     where
       itself : (a : List ℕ) → eq_by_cmp names_cmp a a ≡ true
@@ -129,13 +129,13 @@ module _ (X : List ℕ → List ℕ) (N : List ℕ → ℕ) where
   items-none zero a = refl
   items-none (suc n) a = items-none n (suc a)
 
-  flat-none : (n a : ℕ) (f : ℕ → List Held) → ((q : ℕ) → f q ≡ []) → flat_tabulate n a f ≡ []
+  pub flat-none : (n a : ℕ) (f : ℕ → List Held) → ((q : ℕ) → f q ≡ []) → flat_tabulate n a f ≡ []
   unfolding flat_tabulate
   flat-none zero a f h = refl
   flat-none (suc n) a f h = ap (λ (l : List Held). l ++ flat_tabulate n (suc a) f) (h a) ∙ flat-none n (suc a) f h
 
   -- below one pair there is nothing
-  one-blocks : (left : ℕ) (name : List ℕ) (e : Entry) → below X N left ((name, e) ∷ []) ≡ []
+  pub one-blocks : (left : ℕ) (name : List ℕ) (e : Entry) → below X N left ((name, e) ∷ []) ≡ []
   one-blocks left name e = flat-none 256 0 (λ s. slot_blocks (deeper X N left) (bucket N (level left) s ((name, e) ∷ []))) (λ q. none (slot (N name) (level left) == q))
     where
       none : (b : Bool) → slot_blocks (deeper X N left) (cond b ((name, e) ∷ []) []) ≡ []
@@ -195,10 +195,10 @@ module _ (X : List ℕ → List ℕ) (N : List ℕ → ℕ) where
 
     module _ (hash left : ℕ) (name other : List ℕ) (e old : Entry) (s : ℕ) (alone : List InSlot) (low : left ≤ 7) (some : 1 ≤ left) (before : Told) (is_hash : hash ≡ N name) (apart : eq_by_cmp names_cmp name other ≡ false)
         (place : s ≡ slot (N other) (8 - left)) (is : alone ≡ (s, Leaf other old) ∷ []) (l : List Named) (slotted : IsSlot X N hash left before (Some (Leaf other old)) l) where
-      one : l ≡ (other, old) ∷ []
+      pub one : l ≡ (other, old) ∷ []
       one = leaf-one (deeper X N left) other old l slotted.same
 
-      alone-items : AreItems X N hash (left - 1) before alone ((other, old) ∷ [])
+      pub alone-items : AreItems X N hash (left - 1) before alone ((other, old) ∷ [])
       alone-items = one-items hash (left - 1) (omega arith) before alone other old s (place ∙ ap (slot (N other)) (sym (up left some))) is (subst IsDirectory one slotted.valid)
           (subst (λ (n : ℕ). AreAlong N hash n ((other, old) ∷ [])) (sym (up left some)) (subst (AreAlong N hash (8 - left)) one slotted.along)) (agrees-nil before (blocks_of X N left l) slotted.agrees)
 
@@ -389,7 +389,7 @@ module _ (X : List ℕ → List ℕ) (N : List ℕ → ℕ) where
     bucket_off e q off = bucket-put N (level left) q name e l (T-of (is_sorted names_cmp l) is.valid.sorted)
         ∙ ap (λ (b : Bool). cond b (put names_cmp name e (bucket N (level left) q l)) (bucket N (level left) q l)) (eqb_other (slot (N name) (level left)) q (λ same. off (same ∙ ap (λ (x : ℕ). slot x (level left)) (sym is_hash))))
 
-    bucket_at : (e : Entry) → bucket N (level left) (slot hash (level left)) (with_name name e l) ≡ with_name name e (bucket N (level left) (slot hash (level left)) l)
+    pub bucket_at : (e : Entry) → bucket N (level left) (slot hash (level left)) (with_name name e l) ≡ with_name name e (bucket N (level left) (slot hash (level left)) l)
     bucket_at e = bucket-put N (level left) (slot hash (level left)) name e l (T-of (is_sorted names_cmp l) is.valid.sorted)
         ∙ ap (λ (b : Bool). cond b (put names_cmp name e (bucket N (level left) (slot hash (level left)) l)) (bucket N (level left) (slot hash (level left)) l))
         (same_key (slot (N name) (level left)) (slot hash (level left)) (ap (λ (x : ℕ). slot x (level left)) (sym is_hash)))

@@ -35,7 +35,7 @@ use Rattle.uf_store.specs.Lost.{FindsOver}
 use Rattle.uf_shard.specs.Placed.{IsBadOnWay, way}
 use Rattle.uf_shard.specs.Planned.{IsPlanned}
 use Rattle.uf_shard.specs.Reached.{IsReached, LooksAt, SaysOf}
-use Rattle.uf_shard.specs.Spots.{HasRoom, spot_of}
+use Rattle.uf_shard.specs.Spots.{spot_of}
 use Rattle.uf_shard.specs.declared.spot.Spot.{Spot}
 use Rattle.uf_shard.specs.declared.spot.Spot.TheVariants.{Here, Below}
 use Rattle.uf_shard.proofs.Carrying.{none-behind}

@@ -63,7 +63,7 @@ module _ (X : List ℕ → List ℕ) (N : List ℕ → ℕ) where
 
   -- ---- what is left of a shard below
 
-  two_left : (left : ℕ) (l : List Named) (items : List InSlot) → items ≡ slots_of X N left l → collapsed items ≡ Same → 2 ≤ length l
+  pub two_left : (left : ℕ) (l : List Named) (items : List InSlot) → items ≡ slots_of X N left l → collapsed items ≡ Same → 2 ≤ length l
   two_left left [] items is same = absurd (let no : Of None ≡ Same = sym (ap collapsed (is ∙ items-none X N 256 0)) ∙ same in cc)
   two_left left (e ∷ []) items is same = absurd (let no : Of (Some (Leaf e.0 e.1)) ≡ Same = sym (ap collapsed (is ∙ one-slots X N left e.0 e.1)) ∙ same in cc)
   two_left left (e ∷ f ∷ l) items is same = omega arith
@@ -124,7 +124,7 @@ module _ (X : List ℕ → List ℕ) (N : List ℕ → ℕ) where
 
   module _ (hash left : ℕ) (low : left ≤ 7) (before : Told) (items : List InSlot) (name : List ℕ) (s : ℕ) (found : Option Item) (is_hash : hash ≡ N name) (at : s ≡ slot hash (7 - left)) (seen : found ≡ find nat_cmp s items)
       (l : List Named) (is : AreItems X N hash left before items l) where
-    slotted_here : IsSlot X N hash left before found (bucket N (level left) (slot hash (level left)) l)
+    pub slotted_here : IsSlot X N hash left before found (bucket N (level left) (slot hash (level left)) l)
     slotted_here = slot-read X N hash left low before items l is s at found seen
 
     found_whole : find names_cmp name (bucket N (level left) (slot hash (level left)) l) ≡ find names_cmp name l
@@ -143,7 +143,7 @@ module _ (X : List ℕ → List ℕ) (N : List ℕ → ℕ) where
     bucket_off q off = bucket-remove N (level left) q name l (T-of (is_sorted names_cmp l) is.valid.sorted)
         ∙ ap (λ (b : Bool). cond b (without name (bucket N (level left) q l)) (bucket N (level left) q l)) (eqb_other (slot (N name) (level left)) q (λ same. off (same ∙ ap (λ (x : ℕ). slot x (level left)) (sym is_hash))))
 
-    bucket_at : bucket N (level left) (slot hash (level left)) (without name l) ≡ without name (bucket N (level left) (slot hash (level left)) l)
+    pub bucket_at : bucket N (level left) (slot hash (level left)) (without name l) ≡ without name (bucket N (level left) (slot hash (level left)) l)
     bucket_at = bucket-remove N (level left) (slot hash (level left)) name l (T-of (is_sorted names_cmp l) is.valid.sorted)
         ∙ ap (λ (b : Bool). cond b (without name (bucket N (level left) (slot hash (level left)) l)) (bucket N (level left) (slot hash (level left)) l))
         (same_key (slot (N name) (level left)) (slot hash (level left)) (ap (λ (x : ℕ). slot x (level left)) (sym is_hash)))

@@ -4,6 +4,8 @@ use Rattle.std.specs.declared.option.Option.{Option}
 use Rattle.std.specs.declared.result.Result.{Result}
 use Rattle.std.specs.declared.result.Result.TheVariants.{Ok, Err}
 use Rattle.uf_cid.specs.Blocks.{Held}
+use Rattle.uf_cid.specs.Cid.{cid_of}
+use Rattle.uf_cid.specs.declared.cid.Codec.TheVariants.{DagPb}
 use Rattle.uf_store.specs.declared.store.Role.{Role}
 use Rattle.uf_store.specs.Clashes.{IsSaving}
 use Rattle.uf_store.specs.Contents.{Told}
@@ -18,6 +20,10 @@ use Rattle.uf_tree.specs.ShardPlan.{shard}
 use Rattle.uf_tree.specs.TreePlan.{Refusal, Collision as Collides, TooBig as IsTooBig, collision, or_else, too_big}
 use Rattle.uf_shard.specs.declared.fault.DirFault.{DirFault}
 use Rattle.uf_shard.specs.declared.fault.DirFault.TheVariants.{Collision, TooBig, Store}
+
+-- the block of a shard with this metadata and these slots, under its CID
+abbrev pub shard_node_held : (List ℕ → List ℕ) → Meta → List InSlot → Held
+shard_node_held X m items = (cid_of X DagPb (shard_block m items), shard_block m items)
 
 -- the entry of the root of a shard tree with this metadata and these slots
 abbrev pub root_entry : (List ℕ → List ℕ) → Meta → List InSlot → Entry

@@ -34,7 +34,7 @@ abbrev pub level : ℕ → ℕ
 level zero = 7
 level (suc left) = 6 - left
 
--- an item that can stand in a slot behind these slots
+-- an item that can stand in a slot after these slots
 pub record IsItemAt (N : List ℕ → ℕ) (above : List ℕ) (s : ℕ) (item : Item) : Type 0 where
   pub valid : IsItem item
   pub on_way : IsOnWay N above (s, item)
@@ -49,7 +49,7 @@ MayLose told l (BadBlock cid role) = ⊥
 MayLose told l (Clash cid held bytes) = ⊤
 MayLose told l Memory = ⊤
 
--- an entry under a name, or want of memory
+-- an entry under a name, or out of memory
 abbrev pub LeafOr : List ℕ → Entry → Result Item DirFault → Type 0
 LeafOr name e (Ok item) = item ≡ Leaf name e
 LeafOr name e (Err (Collision first second)) = ⊥
@@ -61,7 +61,7 @@ pub record IsOrdered (name other first second : List ℕ) : Type 0 where
   pub in_order : is_lt (names_cmp first second) ≡ true
   pub are : ((first ≡ name) × (second ≡ other)) ⊎ ((first ≡ other) × (second ≡ name))
 
--- a collision of these two names in byte order, or want of memory to show them
+-- a collision of these two names in byte order, or out of memory to show them
 abbrev pub IsOrderedOr : List ℕ → List ℕ → DirFault → Type 0
 IsOrderedOr name other (Collision first second) = IsOrdered name other first second
 IsOrderedOr name other TooBig = ⊥

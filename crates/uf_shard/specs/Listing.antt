@@ -49,7 +49,7 @@ abbrev pub IsListed : (Cid → List Named → Type 0) → Item → List Named �
 IsListed Below (Leaf name e) rows = rows ≡ (name, e) ∷ []
 IsListed Below (Sub e) rows = Below e.cid rows
 
--- names were put behind others: those of the shard under a CID, of some slots, or of one
+-- names were put after others: those of the shard under a CID, of some slots, or of one
 pub record AddsShard (held : Lookup) (left : ℕ) (cid : Cid) (before now : List Named) : Type 0 where
   pub rows : List Named
   pub are : AreRows held left cid rows

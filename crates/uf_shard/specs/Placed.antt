@@ -14,7 +14,7 @@ use Rattle.uf_tree.specs.Validity.{IsShard}
 abbrev pub way : ℕ → ℕ → List ℕ
 way hash level = map (slot hash) (range_with_len 0 level)
 
--- the slots of a shard behind the slots on the way to it
+-- the slots of a shard after the slots on the way to it
 pub record IsPlaced (N : List ℕ → ℕ) (above : List ℕ) (items : List InSlot) : Type 0 where
   pub valid : IsShard items
   pub on_way : AllByRecursion (IsOnWay N above) items

@@ -18,7 +18,7 @@ use Rattle.uf_shard.specs.declared.hashed.Hashed.{Hashed}
 abbrev pub names_of : Hashed × Hashed → List ℕ × List ℕ
 names_of twins = (twins.0.pair.now.0, twins.1.pair.now.0)
 
--- a collision of these two names, or want of memory to show them
+-- a collision of these two names, or out of memory to show them
 abbrev pub IsCollisionOr : List ℕ × List ℕ → DirFault → Type 0
 IsCollisionOr names (Collision first second) = (first ≡ names.0) × (second ≡ names.1)
 IsCollisionOr names TooBig = ⊥
@@ -39,7 +39,7 @@ IsMemory fault = fault ≡ Memory
 abbrev pub leaf_of : Hashed → Item
 leaf_of row = Leaf row.pair.now.0 row.pair.now.1
 
--- what a slot has was put behind the other slots, where it has something
+-- what a slot has was put after the other slots, where it has something
 abbrev pub PutsItem : ℕ → Option Item → List InSlot → List InSlot → Type 0
 PutsItem slot None before now = now ≡ before
 PutsItem slot (Some item) before now = now ≡ before ++ (slot, item) ∷ []

@@ -10,7 +10,7 @@ ends_with name [] = false
 ends_with name (e ∷ []) = eq_by_cmp names_cmp e.0 name
 ends_with name (e ∷ f ∷ l) = ends_with name (f ∷ l)
 
--- a pair put behind others, unless the last of them has its name
+-- a pair put after others, unless the last of them has its name
 abbrev pub with_other : List Named → Named → List Named
 with_other l e = if ends_with e.0 l then l else l ++ e ∷ []
 

@@ -8,6 +8,7 @@ use Rattle.std.specs.FinMap.Entries.{find, is_sorted}
 use Rattle.std.specs.List.{AllByRecursion}
 use Rattle.std.specs.Ordering.{nat_cmp}
 use Rattle.uf_cid.specs.Blocks.{Held}
+use Rattle.uf_store.specs.Among.{SavesAmong}
 use Rattle.uf_store.specs.Contents.{Told}
 use Rattle.uf_store.specs.Clashes.{IsSaving}
 use Rattle.uf_store.specs.Lost.{AgreesAfter}
@@ -17,6 +18,7 @@ use Rattle.uf_tree.specs.declared.meta.Meta.{Meta}
 use Rattle.uf_tree.specs.declared.nodes.Item.TheVariants.{Leaf, Sub}
 use Rattle.uf_tree.specs.declared.nodes.Entry.{Entry}
 use Rattle.uf_tree.specs.Changes.{without}
+use Rattle.uf_tree.specs.Metas.{none}
 use Rattle.uf_tree.specs.Names.{names_cmp}
 use Rattle.uf_tree.specs.Nodes.{InSlot, Named, item_entry, node_entry, shard_block}
 use Rattle.uf_tree.specs.ShardPlan.{shard}
@@ -25,6 +27,7 @@ use Rattle.uf_shard.specs.declared.removed.Removed.{Removed}
 use Rattle.uf_shard.specs.declared.removed.Removed.TheVariants.{Absent, Empty, Left}
 use Rattle.uf_shard.specs.declared.rest.Rest.{Rest}
 use Rattle.uf_shard.specs.declared.rest.Rest.TheVariants.{Same, Of}
+use Rattle.uf_shard.specs.Answers.{shard_node_held}
 use Rattle.uf_shard.specs.Changed.{GivesItem, GivesItems, MayLose}
 use Rattle.uf_shard.specs.Planned.{IsShardCid}
 
@@ -79,6 +82,11 @@ collapsed [] = Of None
 collapsed ((s, Leaf name e) ∷ []) = Of (Some (Leaf name e))
 collapsed ((s, Sub e) ∷ []) = Same
 collapsed (a ∷ b ∷ items) = Same
+
+-- nothing but the shard of these slots was saved, and nothing where it needn't stand
+abbrev pub SavesRest : (List ℕ → List ℕ) → List InSlot → Rest → (before now : Told) → Type 0
+SavesRest X items Same before now = SavesAmong X (shard_node_held X none items ∷ []) before now
+SavesRest X items (Of item) before now = now ≡ before
 
 -- nothing is left of no slots, and else the shard of these with the metadata, which is held
 abbrev pub IsLeftOf : (List ℕ → List ℕ) → (before now : Told) → Meta → List InSlot → Removed → Type 0

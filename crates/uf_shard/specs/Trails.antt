@@ -14,6 +14,6 @@ trail_cids blocks = map (λ (b : Held). b.0) blocks
 abbrev pub traced : Option Entry → List Held → Traced
 traced entry blocks = record { entry = entry; trail = trail_cids blocks }
 
--- the same, where the CIDs are put behind others
+-- the same, where the CIDs are put after others
 abbrev pub traced_behind : List Cid → Option Entry → List Held → Traced
 traced_behind above entry blocks = record { entry = entry; trail = above ++ trail_cids blocks }

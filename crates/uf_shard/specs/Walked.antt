@@ -90,7 +90,7 @@ module _ (X : List ℕ → List ℕ) (N : List ℕ → ℕ) where
   abbrev pub all_blocks : ℕ → (ℕ → List Named) → List InSlot → List Held
   all_blocks left over items = flat_map (λ (p : InSlot). blocks_over left p.1 (over p.0)) items
 
--- where the store didn't fail, a fault is that one of these blocks is lost, or want of memory
+-- where the store didn't fail, a fault is that one of these blocks is lost, or out of memory
 abbrev pub LosesOnly : {A : Type 0} → List Held → Result A StoreFault → Seen → Seen → Type 0
 LosesOnly blocks result before now =
     Stood before.faults now.faults → IfErr result (IsLossOf before.told blocks)

@@ -60,7 +60,7 @@ module _ (X : List ℕ → List ℕ) (N : List ℕ → ℕ) where
   abbrev pub row_below : ℕ → List (List Named) → List Cid
   row_below left ls = flat_map (λ (l : List Named). shards_in (slots_of X N left l)) ls
 
-  -- what is left of a room behind a row of shards, in which each counted as two names before, and the shards below it
+  -- what is left of a room after a row of shards, in which each counted as two names before, and the shards below it
   abbrev pub LeavesRoom : ℕ → List (List Named) → ℕ → (before now : List Cid) → Option ℕ → Type 0
   LeavesRoom left ls room before now None = room + 74 * length ls < row_weight ls
   LeavesRoom left ls room before now (Some rest) =

@@ -1,4 +1,4 @@
-// The slots that take the pairs of a directory (UnixFS v1, "HAMTDirectory").
+//! The slots that take the pairs of a directory (UnixFS v1, "HAMTDirectory").
 ghost use Rattle.std.specs.Prelude.{◌≡◌, ◌<◌, ◌++◌, ◌∷◌, ℕ, [], IfOk, OnOk, length, slice_index_or, slice_set};
 ghost use Rattle.uf_shard.specs.Buckets.{AreHashed, pairs_of, rows_at};
 
@@ -57,7 +57,7 @@ fn empty_slots<'a>(alloc: Global) -> Result<Vec<Seq<Hashed<'a>>>, Memory>
     Ok(slots)
 }
 
-// Puts a row behind the others of its slot.
+// Puts a row after the others of its slot.
 fn put<'a>(slots: &mut Vec<Seq<Hashed<'a>>>, slot: u8, row: Hashed<'a>) -> Result<(), Memory>
     requires { length slots.old.items ≡ 256 }
     ensures { OnOk result (slots.new.items

@@ -1,8 +1,7 @@
-// Shard trees built from lists.
+//! Shard trees built from lists.
 ghost use Rattle.std.specs.Prelude.{◌≡◌, ◌≢◌, ◌≤◌, ◌<◌, ◌+◌, ◌∷◌, ℕ, [], None, Some};
 ghost use Rattle.std.specs.Prelude.{IfErr, IfOk, IsTrue, OnOk, length, slice_index_or};
-ghost use Rattle.uf_cid.specs.Cid.{cid_of};
-ghost use Rattle.uf_cid.specs.declared.cid.Codec.TheVariants.{DagPb};
+ghost use Rattle.uf_store.specs.Among.{SavesAmong};
 ghost use Rattle.uf_store.specs.Clashes.{IsSaving};
 ghost use Rattle.uf_store.specs.Calls.{OnlySaves};
 ghost use Rattle.uf_store.specs.Faults.{NoneIsBad, fault_in};
@@ -10,10 +9,9 @@ ghost use Rattle.uf_store.specs.Keeping.{Holds, KeepsGood};
 ghost use Rattle.uf_store.specs.Writing.{SavesOnly};
 ghost use Rattle.uf_tree.specs.Metas.{is_meta};
 ghost use Rattle.uf_tree.specs.ShardPlan.{flat_tabulate, shard, slot_blocks, slot_item, tabulate};
-ghost use Rattle.uf_tree.specs.Nodes.{shard_block};
 ghost use Rattle.uf_tree.specs.TreePlan.{collision as collision_of, too_big};
 ghost use Rattle.uf_tree.specs.Validity.{IsDirectory, IsShard};
-ghost use Rattle.uf_shard.specs.Answers.{Gives, Shown, dir_fault, root_entry, shard_refusal};
+ghost use Rattle.uf_shard.specs.Answers.{Gives, Shown, dir_fault, root_entry, shard_node_held, shard_refusal};
 ghost use Rattle.uf_shard.specs.Buckets.{AreForShard, AreForSlot, blocks_at, deeper, item_at, pairs_of};
 ghost use Rattle.uf_shard.specs.Planned.{IsShardCid};
 ghost use Rattle.uf_shard.specs.Saving.{IsCollisionOr, IsMemory, IsWithin, PutsItem, leaf_of, names_of};
@@ -28,10 +26,7 @@ use std::sync::ledger::Ledger;
 use uf_cid::Seq;
 use uf_murmur::NameHash;
 use uf_store::{Steps, Store, StoreFault};
-use uf_tree::{Entry, Item, Items, Meta, Pairs, Placed};
-
-// The greatest Tsize of a directory.
-const MOST_TSIZE: u64 = 1 << 62;
+use uf_tree::{Entry, Item, Items, MOST_TSIZE, Meta, Pairs, Placed};
 
 /// Saves the shard tree of these pairs, at least one, with the directory's metadata in its root, and answers its entry
 /// (UnixFS v1, "HAMTDirectory"). The metadata must be good. Two names of one 64-bit hash are found before anything is
@@ -55,6 +50,8 @@ pub fn build<S: Store, N: NameHash, L: Ledger>(
     ensures cause { Shown S.X.block32 NoneIsBad result (S.seen store.old) (S.seen store.new) }
     ensures good { KeepsGood S.X.block32 (S.seen store.old).told (S.seen store.new).told }
     ensures saves { SavesOnly S.X.block32 (S.seen store.old).told (S.seen store.new).told }
+    ensures no_other { SavesAmong S.X.block32 (shard S.X.block32 N.name64 7 meta.now pairs.now).blocks
+        (S.seen store.old).told (S.seen store.new).told }
     ensures touches { touches.new ≤ touches.old + length (shard S.X.block32 N.name64 7 meta.now pairs.now).blocks }
     ensures touched { touches.old ≤ touches.new }
 {
@@ -103,9 +100,10 @@ pub fn save_root<S: Store, L: Ledger>(
     ensures answer { Gives (too_big (root_entry S.X.block32 meta.now items.now).tsize)
         (root_entry S.X.block32 meta.now items.now) result }
     ensures made { IfOk result (λ e. IsShardCid S.X.block32 e.cid) }
-    ensures held { OnOk result (Holds (S.seen store.new).told
-        ((cid_of S.X.block32 DagPb (shard_block meta.now items.now), shard_block meta.now items.now) ∷ [])) }
+    ensures held { OnOk result (Holds (S.seen store.new).told (shard_node_held S.X.block32 meta.now items.now ∷ [])) }
     ensures saves { OnlySaves S.X.block32 NoneIsBad (dir_fault result) (S.seen store.old) (S.seen store.new) }
+    ensures no_other { SavesAmong S.X.block32 (shard_node_held S.X.block32 meta.now items.now ∷ [])
+        (S.seen store.old).told (S.seen store.new).told }
     ensures touches { touches.new ≤ touches.old + 1 }
     ensures touched { touches.old ≤ touches.new }
 {
@@ -132,6 +130,8 @@ fn save_shard<S: Store, N: NameHash, L: Ledger>(
         (shard S.X.block32 N.name64 left meta.now (pairs_of rows.now)).blocks) }
     ensures fault { IfErr result IsSaving }
     ensures saves { OnlySaves S.X.block32 NoneIsBad (fault_in result) (S.seen store.old) (S.seen store.new) }
+    ensures no_other { SavesAmong S.X.block32 (shard S.X.block32 N.name64 left meta.now (pairs_of rows.now)).blocks
+        (S.seen store.old).told (S.seen store.new).told }
     ensures touches { touches.new ≤ touches.old
         + length (shard S.X.block32 N.name64 left meta.now (pairs_of rows.now)).blocks }
     ensures touched { touches.old ≤ touches.new }
@@ -158,6 +158,8 @@ fn save_slots<S: Store, N: NameHash, L: Ledger>(
         (flat_tabulate 256 0 (blocks_at S.X.block32 N.name64 left slots.now))) }
     ensures fault { IfErr result IsSaving }
     ensures saves { OnlySaves S.X.block32 NoneIsBad (fault_in result) (S.seen store.old) (S.seen store.new) }
+    ensures no_other { SavesAmong S.X.block32 (flat_tabulate 256 0 (blocks_at S.X.block32 N.name64 left slots.now))
+        (S.seen store.old).told (S.seen store.new).told }
     ensures touches { touches.new ≤ touches.old
         + length (flat_tabulate 256 0 (blocks_at S.X.block32 N.name64 left slots.now)) }
     ensures touched { touches.old ≤ touches.new }
@@ -178,7 +180,7 @@ fn save_slots<S: Store, N: NameHash, L: Ledger>(
     Ok(items)
 }
 
-// Saves the shards below a slot, and puts what the slot has behind the other slots.
+// Saves the shards below a slot, and puts what the slot has after the other slots.
 #[cycle(shards)]
 fn save_slot<S: Store, N: NameHash, L: Ledger>(
     alloc: Global,
@@ -197,6 +199,8 @@ fn save_slot<S: Store, N: NameHash, L: Ledger>(
         (slot_blocks (deeper S.X.block32 N.name64 left) (pairs_of rows.now))) }
     ensures fault { IfErr result IsSaving }
     ensures saves { OnlySaves S.X.block32 NoneIsBad (fault_in result) (S.seen store.old) (S.seen store.new) }
+    ensures no_other { SavesAmong S.X.block32 (slot_blocks (deeper S.X.block32 N.name64 left) (pairs_of rows.now))
+        (S.seen store.old).told (S.seen store.new).told }
     ensures touches { touches.new ≤ touches.old
         + length (slot_blocks (deeper S.X.block32 N.name64 left) (pairs_of rows.now)) }
     ensures touched { touches.old ≤ touches.new }
@@ -212,7 +216,7 @@ fn save_slot<S: Store, N: NameHash, L: Ledger>(
     }
 }
 
-// Puts the entry of a row into a slot behind the others.
+// Puts the entry of a row into a slot after the others.
 fn put_leaf(items: &mut Items, slot: u8, row: &Hashed) -> Result<(), StoreFault>
     ensures item { OnOk result (PutsItem slot (Some (leaf_of row.now)) items.old items.new) }
     ensures fault { IfErr result IsMemory }
@@ -222,7 +226,7 @@ fn put_leaf(items: &mut Items, slot: u8, row: &Hashed) -> Result<(), StoreFault>
     put_item(items, slot, Item::Leaf(name, pair.entry))
 }
 
-// Puts a slot behind the others.
+// Puts a slot after the others.
 fn put_item(items: &mut Items, slot: u8, item: Item) -> Result<(), StoreFault>
     ensures item { OnOk result (PutsItem slot (Some item) items.old items.new) }
     ensures fault { IfErr result IsMemory }

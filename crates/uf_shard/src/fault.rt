@@ -1,4 +1,4 @@
-// Why a directory can't be built or changed.
+//! Why a directory can't be built or changed.
 use uf_cid::Memory;
 use uf_store::StoreFault;
 use uf_tree::Name;

@@ -1,4 +1,4 @@
-// The names of a shard tree gathered in the order of its slots, and put in byte order.
+//! The names of a shard tree gathered in the order of its slots, and put in byte order.
 ghost use Rattle.std.specs.Prelude.{◌≡◌, ◌<◌, ◌≤◌, ◌+◌, ◌∷◌, ◌++◌, [], IfOk, IfSome, OnOk, length};
 ghost use Rattle.std.specs.List.{AllByRecursion};
 ghost use Rattle.uf_store.specs.Calls.{OnlyReads};
@@ -19,7 +19,7 @@ use uf_cid::{Cid, Memory, cids_are_whole};
 use uf_store::{Steps, Store, StoreFault};
 use uf_tree::{Entry, Item, Name, Pair, Pairs, Placed};
 
-// Puts the names of the shard under a CID, which has so many levels below it, behind the rows.
+// Puts the names of the shard under a CID, which has so many levels below it, after the rows.
 #[cycle(gathering)]
 pub fn gather<S: Store, L: Ledger>(
     alloc: Global,
@@ -43,7 +43,7 @@ pub fn gather<S: Store, L: Ledger>(
     gather_slots(alloc, store, left, items.as_slice(), rows, touches)
 }
 
-// Puts the names of slots behind the rows.
+// Puts the names of slots after the rows.
 #[cycle(gathering)]
 fn gather_slots<S: Store, L: Ledger>(
     alloc: Global,
@@ -70,7 +70,7 @@ fn gather_slots<S: Store, L: Ledger>(
     Ok(())
 }
 
-// Puts the names of one slot behind the rows.
+// Puts the names of one slot after the rows.
 #[cycle(gathering)]
 fn gather_slot<S: Store, L: Ledger>(
     alloc: Global,
@@ -100,7 +100,7 @@ fn gather_slot<S: Store, L: Ledger>(
     }
 }
 
-// Puts a name and its entry behind the rows.
+// Puts a name and its entry after the rows.
 fn add_row(rows: &mut Vec<Pair>, name: &Name, entry: &Entry) -> Result<(), Memory>
     ensures { OnOk result (rows.new.items ≡ rows.old.items ++ (name.now, entry.now) ∷ []) }
 {
@@ -140,7 +140,7 @@ fn first_of_each(alloc: Global, rows: Vec<Pair>) -> Result<Pairs, Memory>
     Ok(pairs)
 }
 
-// Puts a pair behind others, unless the last of them has its name.
+// Puts a pair after others, unless the last of them has its name.
 fn add_new(pairs: &mut Pairs, pair: Pair) -> Result<(), Memory>
     ensures pairs { OnOk result (pairs.new ≡ with_other pairs.old pair) }
     ensures named { AllByRecursion IsNamed pairs.old → OnOk result (AllByRecursion IsNamed pairs.new) }

@@ -1,4 +1,4 @@
-// A pair with the hash of its name.
+//! A pair with the hash of its name.
 use uf_tree::Pair;
 
 // A pair of a directory, and the hash of its name, which is computed once.

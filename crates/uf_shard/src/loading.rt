@@ -1,4 +1,4 @@
-// Shards loaded on the way of a name.
+//! Shards loaded on the way of a name.
 ghost use Rattle.std.specs.Prelude.{◌≡◌, ◌<◌, ◌+◌};
 ghost use Rattle.uf_murmur.specs.Slots.{slot as slot_of};
 ghost use Rattle.uf_store.specs.Calls.{OnlyReads};

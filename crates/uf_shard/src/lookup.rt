@@ -1,4 +1,4 @@
-// A name looked up, and the shards that decide it.
+//! A name looked up, and the shards that decide it.
 ghost use Rattle.std.specs.Prelude.{◌≡◌, ◌<◌, ◌≤◌, ◌+◌, ◌-◌, [], List, IfOk};
 ghost use Rattle.std.specs.FinMap.Entries.{find as value_of};
 ghost use Rattle.uf_edge.specs.Counts.{Stood};
@@ -100,7 +100,7 @@ pub fn trace<S: Store, N: NameHash, L: Ledger>(
     trace_from::<S, N, L>(alloc, store, 7, root, name, Cids::new(alloc), touches)
 }
 
-/// The same behind a load of the root: the store lends its block, which is this shard's, so it isn't loaded again. At most
+/// The same after a load of the root: the store lends its block, which is this shard's, so it isn't loaded again. At most
 /// seven touches.
 pub fn trace_below<S: Store, N: NameHash, L: Ledger>(
     alloc: Global,
@@ -163,7 +163,7 @@ fn trace_placed<S: Store, N: NameHash, L: Ledger>(
     }
 }
 
-// The same in the shard that has so many levels below it, with the CIDs behind others.
+// The same in the shard that has so many levels below it, with the CIDs after others.
 fn trace_from<S: Store, N: NameHash, L: Ledger>(
     alloc: Global,
     store: &mut S,

@@ -1,6 +1,7 @@
-// Shards saved.
+//! Shards saved.
 ghost use Rattle.std.specs.Prelude.{◌≡◌, ◌+◌, ◌≤◌, ◌∷◌, [], map, IfErr, IfOk, IsTrue};
 ghost use Rattle.std.specs.List.{sum_by};
+ghost use Rattle.uf_store.specs.Among.{SavesAmong};
 ghost use Rattle.uf_store.specs.Clashes.{IsSaving};
 ghost use Rattle.uf_store.specs.Calls.{OnlySaves};
 ghost use Rattle.uf_store.specs.Faults.{NoneIsBad, fault_in};
@@ -8,6 +9,7 @@ ghost use Rattle.uf_store.specs.Keeping.{Holds};
 ghost use Rattle.uf_tree.specs.Metas.{is_meta};
 ghost use Rattle.uf_tree.specs.Nodes.{InSlot, capped, item_entry, node_entry, shard_block};
 ghost use Rattle.uf_tree.specs.Validity.{IsEntry, IsShard};
+ghost use Rattle.uf_shard.specs.Answers.{shard_node_held};
 ghost use Rattle.uf_shard.specs.Planned.{IsShardCid};
 
 use std::alloc::Global;
@@ -33,6 +35,8 @@ pub fn save_node<S: Store, L: Ledger>(
     ensures held { IfOk result (λ e. Holds (S.seen store.new).told ((e.cid, shard_block meta.now items.now) ∷ [])) }
     ensures fault { IfErr result IsSaving }
     ensures saves { OnlySaves S.X.block32 NoneIsBad (fault_in result) (S.seen store.old) (S.seen store.new) }
+    ensures no_other { SavesAmong S.X.block32 (shard_node_held S.X.block32 meta.now items.now ∷ [])
+        (S.seen store.old).told (S.seen store.new).told }
     ensures touches { touches.new ≤ touches.old + 1 }
     ensures touched { touches.old ≤ touches.new }
 {
@@ -45,7 +49,7 @@ pub fn save_node<S: Store, L: Ledger>(
     })
 }
 
-/// So many bytes, as a shard's block has, and the Tsizes of its slots; a number past 2^64 - 1 counts as that.
+/// n bytes, as a shard's block has, and the Tsizes of its slots; a number past 2^64 - 1 counts as that.
 pub fn tsize_over_slots(bytes: usize, items: &[Placed]) -> u64
     ensures { result ≡ capped (bytes + sum_by (λ (p : InSlot). (item_entry p.1).tsize) items.now) }
 {

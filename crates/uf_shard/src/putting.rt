@@ -1,9 +1,10 @@
-// An entry put under a name.
+//! An entry put under a name.
 ghost use Rattle.std.specs.Prelude.{◌≡◌, ◌<◌, ◌≤◌, ◌+◌, ◌*◌, ◌-◌, ℕ, List, [], ◌∷◌};
 ghost use Rattle.std.specs.Prelude.{IfOk, IfSome, OnOk, Some, false};
 ghost use Rattle.std.specs.Ordering.{eq_by_cmp};
 ghost use Rattle.uf_edge.specs.Counts.{Stood};
 ghost use Rattle.uf_murmur.specs.Slots.{slot as slot_of};
+ghost use Rattle.uf_store.specs.Among.{SavesAmong};
 ghost use Rattle.uf_store.specs.Calls.{OnlySaves};
 ghost use Rattle.uf_store.specs.Faults.{NoneIsBad};
 ghost use Rattle.uf_store.specs.Keeping.{Agrees, KeepsGood, StaysAgreed};
@@ -17,7 +18,7 @@ ghost use Rattle.uf_tree.specs.Names.{names_cmp};
 ghost use Rattle.uf_tree.specs.Nodes.{Named};
 ghost use Rattle.uf_tree.specs.ShardPlan.{shard};
 ghost use Rattle.uf_tree.specs.Validity.{IsItem, IsNamed, IsShard};
-ghost use Rattle.uf_shard.specs.Answers.{AtCollision, GivesOver, Shown, dir_fault, shard_refusal};
+ghost use Rattle.uf_shard.specs.Answers.{AtCollision, GivesOver, Shown, dir_fault, shard_node_held, shard_refusal};
 ghost use Rattle.uf_shard.specs.Placed.{IsBadOnWay, IsPlaced, way};
 ghost use Rattle.uf_shard.specs.Planned.{IsPlanned, IsShardCid};
 ghost use Rattle.uf_shard.specs.Reached.{IsReached};
@@ -67,6 +68,10 @@ pub fn put<S: Store, N: NameHash, L: Ledger>(
         (S.seen store.old) (S.seen store.new) }
     ensures good { KeepsGood S.X.block32 (S.seen store.old).told (S.seen store.new).told }
     ensures saves { SavesOnly S.X.block32 (S.seen store.old).told (S.seen store.new).told }
+    ensures no_other { (m : TheMeta) (l : List Named) → IsPlanned S.X.block32 N.name64 root.now m l
+        → Agrees (S.seen store.old).told (shard S.X.block32 N.name64 7 m l).blocks
+        → SavesAmong S.X.block32 (shard S.X.block32 N.name64 7 m (with_name name.now entry.now l)).blocks
+        (S.seen store.old).told (S.seen store.new).told }
     ensures touches { touches.new ≤ touches.old + 16 }
     ensures touched { touches.old < touches.new }
 {
@@ -97,6 +102,10 @@ fn items_with<S: Store, N: NameHash, L: Ledger>(
     ensures early { AtCollision result ((S.seen store.new).told ≡ (S.seen store.old).told) }
     ensures saves { OnlySaves S.X.block32 (IsBadOnWay N.name64 (N.name64 name.now)) (dir_fault result)
         (S.seen store.old) (S.seen store.new) }
+    ensures no_other { (l : List Named) → IsReached S.X.block32 N.name64 (N.name64 name.now) left cid.now none l
+        → Agrees (S.seen store.old).told (shard S.X.block32 N.name64 left none l).blocks
+        → SavesAmong S.X.block32 (below S.X.block32 N.name64 left (with_name name.now entry.now l))
+        (S.seen store.old).told (S.seen store.new).told }
     ensures touches { touches.new ≤ touches.old + (2 * left + 1) }
     ensures touched { touches.old < touches.new }
 {
@@ -125,6 +134,10 @@ fn put_into<S: Store, N: NameHash, L: Ledger>(
     ensures early { AtCollision result ((S.seen store.new).told ≡ (S.seen store.old).told) }
     ensures saves { OnlySaves S.X.block32 (IsBadOnWay N.name64 (N.name64 name.now)) (dir_fault result)
         (S.seen store.old) (S.seen store.new) }
+    ensures no_other { (l : List Named)
+        → AreItems S.X.block32 N.name64 (N.name64 name.now) left (S.seen store.old).told items.now l
+        → SavesAmong S.X.block32 (below S.X.block32 N.name64 left (with_name name.now entry.now l))
+        (S.seen store.old).told (S.seen store.new).told }
     ensures touches { touches.new ≤ touches.old + 2 * left }
     ensures touched { touches.old ≤ touches.new }
 {
@@ -157,6 +170,10 @@ fn item_with<S: Store, N: NameHash, L: Ledger>(
     ensures early { AtCollision result ((S.seen store.new).told ≡ (S.seen store.old).told) }
     ensures saves { OnlySaves S.X.block32 (IsBadOnWay N.name64 (N.name64 name.now)) (dir_fault result)
         (S.seen store.old) (S.seen store.new) }
+    ensures no_other { (l : List Named)
+        → IsSlot S.X.block32 N.name64 (N.name64 name.now) left (S.seen store.old).told found l
+        → SavesAmong S.X.block32 (blocks_of S.X.block32 N.name64 left (with_name name.now entry.now l))
+        (S.seen store.old).told (S.seen store.new).told }
     ensures touches { touches.new ≤ touches.old + 2 * left }
     ensures touched { touches.old ≤ touches.new }
 {
@@ -204,6 +221,10 @@ fn item_beside<S: Store, N: NameHash, L: Ledger>(
     ensures early { AtCollision result ((S.seen store.new).told ≡ (S.seen store.old).told) }
     ensures saves { OnlySaves S.X.block32 (IsBadOnWay N.name64 (N.name64 name.now)) (dir_fault result)
         (S.seen store.old) (S.seen store.new) }
+    ensures no_other { (l : List Named)
+        → IsSlot S.X.block32 N.name64 (N.name64 name.now) left (S.seen store.old).told (Some (Leaf old.0 old.1)) l
+        → SavesAmong S.X.block32 (blocks_of S.X.block32 N.name64 left (with_name name.now entry.now l))
+        (S.seen store.old).told (S.seen store.new).told }
     ensures touches { touches.new ≤ touches.old + 2 * left }
     ensures touched { touches.old ≤ touches.new }
 {
@@ -275,6 +296,8 @@ fn save_below<S: Store, L: Ledger>(
         → SavesBelow S.X.block32 N (S.seen store.old).told (S.seen store.new).told items.now result }
     ensures valid { IfOk result IsItem }
     ensures saves { OnlySaves S.X.block32 NoneIsBad (dir_fault result) (S.seen store.old) (S.seen store.new) }
+    ensures no_other { SavesAmong S.X.block32 (shard_node_held S.X.block32 none items.now ∷ [])
+        (S.seen store.old).told (S.seen store.new).told }
     ensures touches { touches.new ≤ touches.old + 1 }
     ensures touched { touches.old ≤ touches.new }
 {

@@ -1,4 +1,4 @@
-// Shards read where they stand.
+//! Shards read where they stand.
 ghost use Rattle.std.specs.Prelude.{◌≡◌, ◌<◌, ◌↔◌, ◌==◌, [], IsTrue, Some, None, cond};
 ghost use Rattle.std.specs.FinMap.Entries.{find};
 ghost use Rattle.std.specs.List.{AllByRecursion};

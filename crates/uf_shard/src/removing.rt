@@ -1,8 +1,9 @@
-// A name taken out.
+//! A name taken out.
 ghost use Rattle.std.specs.Prelude.{◌≡◌, ◌<◌, ◌≤◌, ◌+◌, ◌*◌, ◌-◌, ℕ, List, [], ◌∷◌, IfErr, IfOk, IfSome, IsTrue, None};
 ghost use Rattle.std.specs.Ordering.{eq_by_cmp};
 ghost use Rattle.uf_edge.specs.Counts.{Stood};
 ghost use Rattle.uf_murmur.specs.Slots.{slot as slot_of};
+ghost use Rattle.uf_store.specs.Among.{SavesAmong};
 ghost use Rattle.uf_store.specs.Clashes.{IsSaving};
 ghost use Rattle.uf_store.specs.Calls.{OnlySaves};
 ghost use Rattle.uf_store.specs.Faults.{Answers, NoneIsBad, fault_in};
@@ -10,16 +11,18 @@ ghost use Rattle.uf_store.specs.Keeping.{Agrees, KeepsGood, StaysAgreed};
 ghost use Rattle.uf_store.specs.Writing.{SavesOnly};
 ghost use Rattle.uf_store.specs.Lost.{ReadsOver};
 ghost use Rattle.uf_tree.specs.declared.meta.Meta.{Meta as TheMeta};
+ghost use Rattle.uf_tree.specs.Changes.{without};
 ghost use Rattle.uf_tree.specs.Metas.{is_meta, none};
 ghost use Rattle.uf_tree.specs.Names.{names_cmp};
 ghost use Rattle.uf_tree.specs.Nodes.{Named};
 ghost use Rattle.uf_tree.specs.ShardPlan.{shard};
+ghost use Rattle.uf_shard.specs.Answers.{shard_node_held};
 ghost use Rattle.uf_shard.specs.Placed.{IsBadOnWay, IsPlaced, way};
 ghost use Rattle.uf_shard.specs.Planned.{IsPlanned};
 ghost use Rattle.uf_shard.specs.Reached.{IsReached};
 ghost use Rattle.uf_shard.specs.Changed.{AreItems, IsItemAt, IsSlot, below, blocks_of};
 ghost use Rattle.uf_shard.specs.Taken.{AgreesLeft, AreInSlots, IsLeftOf, IsValidRest, LeafWithout, LeavesBelow};
-ghost use Rattle.uf_shard.specs.Taken.{LeavesShard, SavesNothing, TakesSlot, TakesSlots, UnsavedBelow, UnsavedItems};
+ghost use Rattle.uf_shard.specs.Taken.{LeavesShard, SavesNothing, SavesRest, TakesSlot, TakesSlots, UnsavedBelow, UnsavedItems};
 ghost use Rattle.uf_shard.specs.Taken.{UnsavedRest, collapsed, left_without};
 ghost use Rattle.uf_shard.specs.declared.removed.Removed.TheVariants.{Absent};
 ghost use Rattle.uf_shard.specs.declared.rest.Rest.TheVariants.{Same};
@@ -63,6 +66,10 @@ pub fn remove<S: Store, N: NameHash, L: Ledger>(
         (S.seen store.old) (S.seen store.new) }
     ensures good { KeepsGood S.X.block32 (S.seen store.old).told (S.seen store.new).told }
     ensures saves { SavesOnly S.X.block32 (S.seen store.old).told (S.seen store.new).told }
+    ensures no_other { (m : TheMeta) (l : List Named) → IsPlanned S.X.block32 N.name64 root.now m l
+        → Agrees (S.seen store.old).told (shard S.X.block32 N.name64 7 m l).blocks
+        → SavesAmong S.X.block32 (shard S.X.block32 N.name64 7 m (without name.now l)).blocks
+        (S.seen store.old).told (S.seen store.new).told }
     ensures touches { touches.new ≤ touches.old + 16 }
     ensures absent { IfOk result (λ left. left ≡ Absent → touches.new ≤ touches.old + 8) }
     ensures touched { touches.old < touches.new }
@@ -91,6 +98,8 @@ fn left_of<S: Store, L: Ledger>(
     ensures nothing { IfOk result (λ left. SavesNothing left (S.seen store.old).told (S.seen store.new).told) }
     ensures fault { IfErr result IsSaving }
     ensures saves { OnlySaves S.X.block32 NoneIsBad (fault_in result) (S.seen store.old) (S.seen store.new) }
+    ensures no_other { SavesAmong S.X.block32 (shard_node_held S.X.block32 meta.now items.now ∷ [])
+        (S.seen store.old).told (S.seen store.new).told }
     ensures touches { touches.new ≤ touches.old + 1 }
     ensures touched { touches.old ≤ touches.new }
 {
@@ -121,6 +130,10 @@ fn items_without<S: Store, N: NameHash, L: Ledger>(
     ensures unsaved { IfOk result (λ rest. UnsavedItems rest (S.seen store.old).told (S.seen store.new).told) }
     ensures saves { OnlySaves S.X.block32 (IsBadOnWay N.name64 (N.name64 name.now)) (fault_in result)
         (S.seen store.old) (S.seen store.new) }
+    ensures no_other { (l : List Named) → IsReached S.X.block32 N.name64 (N.name64 name.now) left cid.now none l
+        → Agrees (S.seen store.old).told (shard S.X.block32 N.name64 left none l).blocks
+        → SavesAmong S.X.block32 (below S.X.block32 N.name64 left (without name.now l))
+        (S.seen store.old).told (S.seen store.new).told }
     ensures touches { touches.new ≤ touches.old + (2 * left + 1) }
     ensures absent { IfOk result (λ rest. rest ≡ None → touches.new ≤ touches.old + (left + 1)) }
     ensures touched { touches.old < touches.new }
@@ -149,6 +162,10 @@ fn take_from<S: Store, N: NameHash, L: Ledger>(
     ensures unsaved { IfOk result (λ rest. UnsavedItems rest (S.seen store.old).told (S.seen store.new).told) }
     ensures saves { OnlySaves S.X.block32 (IsBadOnWay N.name64 (N.name64 name.now)) (fault_in result)
         (S.seen store.old) (S.seen store.new) }
+    ensures no_other { (l : List Named)
+        → AreItems S.X.block32 N.name64 (N.name64 name.now) left (S.seen store.old).told items.now l
+        → SavesAmong S.X.block32 (below S.X.block32 N.name64 left (without name.now l))
+        (S.seen store.old).told (S.seen store.new).told }
     ensures touches { touches.new ≤ touches.old + 2 * left }
     ensures absent { IfOk result (λ rest. rest ≡ None → touches.new ≤ touches.old + left) }
     ensures touched { touches.old ≤ touches.new }
@@ -186,6 +203,10 @@ fn item_without<S: Store, N: NameHash, L: Ledger>(
     ensures unsaved { IfOk result (λ rest. UnsavedRest rest (S.seen store.old).told (S.seen store.new).told) }
     ensures saves { OnlySaves S.X.block32 (IsBadOnWay N.name64 (N.name64 name.now)) (fault_in result)
         (S.seen store.old) (S.seen store.new) }
+    ensures no_other { (l : List Named)
+        → IsSlot S.X.block32 N.name64 (N.name64 name.now) left (S.seen store.old).told found l
+        → SavesAmong S.X.block32 (blocks_of S.X.block32 N.name64 left (without name.now l))
+        (S.seen store.old).told (S.seen store.new).told }
     ensures touches { touches.new ≤ touches.old + 2 * left }
     ensures absent { IfOk result (λ rest. rest ≡ Same → touches.new ≤ touches.old + left) }
     ensures touched { touches.old ≤ touches.new }
@@ -229,6 +250,8 @@ fn rest_of<S: Store, L: Ledger>(
         → LeavesBelow S.X.block32 N (S.seen store.old).told (S.seen store.new).told items.now result }
     ensures valid { IfOk result IsValidRest }
     ensures saves { OnlySaves S.X.block32 NoneIsBad (fault_in result) (S.seen store.old) (S.seen store.new) }
+    ensures no_other { SavesRest S.X.block32 items.now (collapsed items.now)
+        (S.seen store.old).told (S.seen store.new).told }
     ensures touches { touches.new ≤ touches.old + 1 }
     ensures touched { touches.old ≤ touches.new }
 {

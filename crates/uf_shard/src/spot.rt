@@ -1,4 +1,4 @@
-// What a shard says of a name.
+//! What a shard says of a name.
 use uf_cid::Cid;
 use uf_tree::Entry;
 

@@ -1,4 +1,4 @@
-// What decides a name.
+//! What decides a name.
 use uf_cid::Cids;
 use uf_tree::Entry;
 

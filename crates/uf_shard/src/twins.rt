@@ -1,4 +1,4 @@
-// Two names of one hash.
+//! Two names of one hash.
 ghost use Rattle.std.specs.Prelude.{◌≡◌, ℕ, List, IfOk};
 ghost use Rattle.std.specs.Option.{option_map, option_or};
 ghost use Rattle.uf_tree.specs.ShardPlan.{same_hash, twins};
@@ -10,7 +10,7 @@ use std::alloc::Global;
 use std::collections::BTreeMap;
 use uf_cid::Memory;
 
-// The first row whose hash stands behind it again, and the first such row.
+// The first row whose hash stands after it again, and the first such row.
 pub fn first_twins<'a>(
     alloc: Global,
     rows: &[Hashed<'a>],
@@ -29,7 +29,7 @@ pub fn first_twins<'a>(
     Ok(found)
 }
 
-// A row and its first twin behind it, where it has one, or the twins behind it.
+// A row and its first twin after it, where it has one, or the twins after it.
 fn twins_from<'a>(
     row: Hashed<'a>,
     twin: Option<Hashed<'a>>,

@@ -1,4 +1,4 @@
-// Shards loaded one by one, whatever names are below them.
+//! Shards loaded one by one, whatever names are below them.
 ghost use Rattle.std.specs.Prelude.{◌≡◌, ◌≤◌, ◌+◌, ◌-◌, ◌↔◌, IsTrue};
 ghost use Rattle.std.specs.List.{AllByRecursion};
 ghost use Rattle.uf_store.specs.Calls.{OnlyReads};

@@ -1,4 +1,4 @@
-// Shard trees weighed level by level.
+//! Shard trees weighed level by level.
 ghost use Rattle.std.specs.Prelude.{◌≡◌, ◌<◌, ◌≤◌, ◌+◌, ◌*◌, ◌/◌, ◌^◌, ◌++◌, ℕ, List, IfOk, IfSome, OnOk};
 ghost use Rattle.std.specs.Prelude.{length, min, nat_lt};
 ghost use Rattle.uf_edge.specs.Counts.{Stood};
@@ -99,8 +99,8 @@ fn are_over<S: Store, L: Ledger>(
     }
 }
 
-// What is left of the same room behind all that these shards themselves have, or `None` where they weigh more; the CIDs
-// of the shards below them are put behind others.
+// What is left of the same room after all that these shards themselves have, or `None` where they weigh more; the CIDs
+// of the shards below them are put after others.
 fn weigh_row<S: Store, L: Ledger>(
     alloc: Global,
     store: &mut S,
@@ -134,8 +134,8 @@ fn weigh_row<S: Store, L: Ledger>(
     Ok(Some(rest))
 }
 
-// What is left of a room behind slots, where a shard below weighs as the two lightest names, or `None` where they weigh
-// more; the CIDs of the shards below are put behind others.
+// What is left of a room after slots, where a shard below weighs as the two lightest names, or `None` where they weigh
+// more; the CIDs of the shards below are put after others.
 fn room_behind(items: &[Placed], room: u64, below: &mut Cids) -> Result<Option<u64>, Memory>
     ensures room { IfOk result (λ behind. behind ≡ room_after room (least_of items.now)) }
     ensures below { IfOk result (λ behind. IfSome behind (λ rest. below.new ≡ below.old ++ shards_in items.now)) }
@@ -151,7 +151,7 @@ fn room_behind(items: &[Placed], room: u64, below: &mut Cids) -> Result<Option<u
     Ok(Some(rest))
 }
 
-// The same behind one slot.
+// The same after one slot.
 fn room_behind_one(placed: &Placed, room: u64, below: &mut Cids) -> Result<Option<u64>, Memory>
     ensures room { IfOk result (λ behind. behind ≡ room_after room (least_weight placed.now.1)) }
     ensures below { OnOk result (below.new ≡ below.old ++ shard_in placed.now.1) }

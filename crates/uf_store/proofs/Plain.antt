@@ -7,6 +7,8 @@ use Rattle.uf_edge.specs.declared.host.Put.{Put}
 use Rattle.uf_edge.specs.declared.host.Put.TheVariants.{Done as PutDone, Failed as PutFailed, Memory as PutMemory}
 use Rattle.uf_store.specs.declared.store.Load.{Load}
 use Rattle.uf_store.specs.declared.store.Load.TheVariants.{Found, Missing, Damaged, Failed as LoadFailed, Memory as LoadMemory}
+use Rattle.uf_store.specs.declared.store.Presence.{Presence}
+use Rattle.uf_store.specs.declared.store.Presence.TheVariants.{There, Missing as IsMissing, Failed as LookFailed, Memory as LookMemory}
 use Rattle.uf_store.specs.declared.store.Save.{Save}
 use Rattle.uf_store.specs.declared.store.Save.TheVariants.{Done as SaveDone, Clash, Failed as SaveFailed, Memory as SaveMemory}
 use Rattle.uf_store.specs.declared.store.Note.{Note}
@@ -15,7 +17,7 @@ use Rattle.uf_store.specs.declared.store.NoteRead.TheVariants.{Text, Absent, Fai
 use Rattle.uf_store.specs.declared.store.Write.{Write}
 use Rattle.uf_store.specs.CallsWrite.{CallsWrite}
 use Rattle.uf_store.specs.Contents.{Contents, HeldMap, Notes, Told, held_after, no_notes, notes_after}
-use Rattle.uf_store.specs.Seen.{Loads, ReadsNote, Saves, Seen, Syncs, WritesNote}
+use Rattle.uf_store.specs.Seen.{Loads, Looks, ReadsNote, Saves, Seen, Syncs, WritesNote}
 use Rattle.uf_store.specs.Stops.{IsPlain, TellsPlain}
 use Rattle.uf_store.specs.Writing.{Appends, IsAny, IsSave, SavesOnly, WritesOnly, Wrote}
 use Rattle.uf_store.proofs.Writing.{SavesOnly-saved, WritesOnly-noted, WritesOnly-synced, Wrote-same, fold-append}
@@ -42,6 +44,12 @@ module _ (hash : List ℕ → List ℕ) (before now : Seen) where
   load cid LoadFailed a = a.stays.same_told
   load cid LoadMemory a = a.stays.same_told
 
+  holds : (cid : Cid) (answer : Presence) → Looks cid answer before now → now.told ≡ before.told
+  holds cid There a = a.stays.same_told
+  holds cid IsMissing a = a.stays.same_told
+  holds cid LookFailed a = a.stays.same_told
+  holds cid LookMemory a = a.stays.same_told
+
   save : (cid : Cid) (bytes : List ℕ) (answer : Save) → hash bytes ≡ cid.digest → Saves hash cid bytes answer before now → SavesOnly hash before.told now.told
   save cid bytes SaveDone digest a = SavesOnly-saved hash cid bytes before.told now.told digest a.no_other a.kept
   save cid bytes Clash digest a = Wrote-same hash IsSave before.told now.told a.same_told
@@ -65,4 +73,4 @@ module _ (hash : List ℕ → List ℕ) (before now : Seen) where
   write which text PutMemory a = Wrote-same hash IsAny before.told now.told a.stays.same_told
 
   pub calls_write : CallsWrite hash before now
-  calls_write = record { load = load; save = save; sync = sync; read_note = read; write_note = write }
+  calls_write = record { load = load; holds = holds; save = save; sync = sync; read_note = read; write_note = write }

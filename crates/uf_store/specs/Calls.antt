@@ -15,12 +15,14 @@ pub record Calm (before now : Seen) : Type 0 where
   pub clashes : Stood before.clashes now.clashes
 
 -- a call that reads alone: its fault has its cause, and what is told is as before
-pub record OnlyReads (hash : List ℕ → List ℕ) (IsBad : Role → List ℕ → Type 0) (fault : Option StoreFault) (before now : Seen) : Type 0 where
+pub record OnlyReads (hash : List ℕ → List ℕ) (IsBad : Role → List ℕ → Type 0) (fault : Option StoreFault)
+    (before now : Seen) : Type 0 where
   pub cause : Shown hash IsBad fault before now
   pub told : now.told ≡ before.told
 
 -- a call that may save: its fault has its cause, good blocks are kept, and nothing but blocks is written
-pub record OnlySaves (hash : List ℕ → List ℕ) (IsBad : Role → List ℕ → Type 0) (fault : Option StoreFault) (before now : Seen) : Type 0 where
+pub record OnlySaves (hash : List ℕ → List ℕ) (IsBad : Role → List ℕ → Type 0) (fault : Option StoreFault)
+    (before now : Seen) : Type 0 where
   pub cause : Shown hash IsBad fault before now
   pub good : KeepsGood hash before.told now.told
   pub saves : SavesOnly hash before.told now.told

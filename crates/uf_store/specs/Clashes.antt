@@ -4,7 +4,7 @@ use Rattle.uf_cid.specs.declared.cid.Cid.{Cid}
 use Rattle.uf_store.specs.declared.store.StoreFault.{StoreFault}
 use Rattle.uf_store.specs.declared.store.StoreFault.TheVariants.{Failed, Damaged, Missing, BadBlock, Clash, Memory}
 
--- a clash of these two blocks, or want of memory to show them
+-- a clash of these two blocks, or out of memory to show them
 abbrev pub IsClashOr : Cid → List ℕ → List ℕ → StoreFault → Type 0
 IsClashOr cid held bytes Failed = ⊥
 IsClashOr cid held bytes (Damaged c) = ⊥

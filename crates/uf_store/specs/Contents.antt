@@ -57,20 +57,22 @@ held_at t = λ cid. get t.held cid
 
 -- a block was saved
 abbrev pub with_save : Cid → List ℕ → Contents → Contents
-with_save cid bytes t = record { held = insert t.held cid bytes; notes = t.notes; writes = t.writes ++ Saved cid bytes ∷ [] }
+with_save cid bytes t =
+    record { held = insert t.held cid bytes; notes = t.notes; writes = t.writes ++ Saved cid bytes ∷ [] }
 
 -- blocks were saved, one after another
 abbrev pub with_all : List Held → Contents → Contents
 with_all [] t = t
 with_all (b ∷ blocks) t = with_all blocks (with_save b.0 b.1 t)
 
--- the saves were made to outlive a stop
+-- the saves were made durable
 abbrev pub with_sync : Contents → Contents
 with_sync t = record { held = t.held; notes = t.notes; writes = t.writes ++ Synced ∷ [] }
 
 -- a note was written
 abbrev pub with_text : Note → List ℕ → Contents → Contents
-with_text which text t = record { held = t.held; notes = with_note t.notes which text; writes = t.writes ++ Noted which text ∷ [] }
+with_text which text t =
+    record { held = t.held; notes = with_note t.notes which text; writes = t.writes ++ Noted which text ∷ [] }
 
 -- the contents, or none where the store doesn't tell
 abbrev pub Told : Type 0

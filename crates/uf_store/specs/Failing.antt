@@ -48,4 +48,11 @@ none_fails = record { made = 0; numbers = [] }
 
 -- no call was made, and none is to fail
 abbrev pub no_failures : Failures
-no_failures = record { load = none_fails; save = none_fails; sync = none_fails; read_note = none_fails; write_note = none_fails; sweep = none_fails }
+no_failures = record {
+  load = none_fails;
+  save = none_fails;
+  sync = none_fails;
+  read_note = none_fails;
+  write_note = none_fails;
+  sweep = none_fails;
+}

@@ -46,8 +46,10 @@ pub record ShowsMissing (cid : Cid) (before now : Seen) : Type 0 where
   pub not_held : IfSome now.told (λ t. held_at t cid ≡ None)
   pub calm : StaysCalm before now
 
--- a block was found, and the one that is lent is this CID's, where the store tells it is held, and it is bad in its role
-pub record ShowsBadBlock (hash : List ℕ → List ℕ) (IsBad : Role → List ℕ → Type 0) (cid : Cid) (role : Role) (before now : Seen) : Type 0 where
+-- a block was found, and the one that is lent is this CID's, where the store tells it is held, and it is bad in its
+-- role
+pub record ShowsBadBlock (hash : List ℕ → List ℕ) (IsBad : Role → List ℕ → Type 0) (cid : Cid) (role : Role)
+    (before now : Seen) : Type 0 where
   pub rose : Rose before.finds now.finds
   pub digest : hash now.lent ≡ cid.digest
   pub is_held : HoldsOne now.told cid now.lent
@@ -67,8 +69,8 @@ pub record ShowsClash (hash : List ℕ → List ℕ) (cid : Cid) (held bytes : L
 abbrev pub NoneIsBad : Role → List ℕ → Type 0
 NoneIsBad role bytes = ⊥
 
--- what a fault shows; which blocks are bad in a role, since they aren't canonical in it, is said by the layer that reads them.
--- Want of memory hides no failure; it may come in place of a clash, since showing one takes memory
+-- what a fault shows; which blocks are bad in a role, since they aren't canonical in it, is said by the layer that
+-- reads them. Out of memory hides no failure; it may come in place of a clash, since showing one takes memory
 abbrev pub Shows : (List ℕ → List ℕ) → (Role → List ℕ → Type 0) → StoreFault → Seen → Seen → Type 0
 Shows hash IsBad Failed before now = ShowsFailure before now
 Shows hash IsBad (Damaged cid) before now = ShowsFailure before now
@@ -88,5 +90,6 @@ fault_in (Ok a) = None
 fault_in (Err fault) = Some fault
 
 -- no fault was passed over: after Ok the store has stayed calm, and a fault shows its cause
-abbrev pub Answers : {A : Type 0} → (List ℕ → List ℕ) → (Role → List ℕ → Type 0) → Result A StoreFault → Seen → Seen → Type 0
+abbrev pub Answers : {A : Type 0} → (List ℕ → List ℕ) → (Role → List ℕ → Type 0) → Result A StoreFault → Seen → Seen
+    → Type 0
 Answers hash IsBad answer before now = Shown hash IsBad (fault_in answer) before now

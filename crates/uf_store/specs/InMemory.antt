@@ -11,11 +11,22 @@ use Rattle.uf_store.specs.Whole.{IsDamaged}
 
 -- the blocks, the notes and the past writes
 abbrev pub contents_of : {X : Type 0} {G : Ghosts X} → MemStore X G → Contents
-contents_of s = record { held = from_entries s.blocks.blocks.entries; notes = record { head = s.head; pins = s.pins }; writes = s.writes.items }
+contents_of s = record {
+  held = from_entries s.blocks.blocks.entries;
+  notes = record { head = s.head; pins = s.pins };
+  writes = s.writes.items;
+}
 
 -- what a contract sees: it tells
 abbrev pub memory_seen : {X : Type 0} {G : Ghosts X} → MemStore X G → Seen
-memory_seen s = record { told = Some (contents_of s); lent = s.lent; finds = s.finds; misses = s.misses; faults = s.faults; clashes = s.clashes }
+memory_seen s = record {
+  told = Some (contents_of s);
+  lent = s.lent;
+  finds = s.finds;
+  misses = s.misses;
+  faults = s.faults;
+  clashes = s.clashes;
+}
 
 -- the calls that were made and those that are to fail
 abbrev pub failures_of : {X : Type 0} {G : Ghosts X} → MemStore X G → Failures

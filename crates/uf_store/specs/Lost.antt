@@ -28,7 +28,8 @@ LosesFirst told cid l = IfSome told (λ t. IsFirstLost (held_at t) cid l)
 abbrev pub LosesOne : Told → Cid → List Held → Type 0
 LosesOne told cid l = IfSome told (λ t. IsLost (held_at t) cid l)
 
--- where these blocks are held the answer is this value, else the first of them that isn't held is missing; want of memory is free
+-- where these blocks are held the answer is this value, else the first of them that isn't held is missing; want of
+-- memory is free
 abbrev pub FindsOver : {A : Type 0} → Told → List Held → A → Result A StoreFault → Type 0
 FindsOver told l value (Ok a) = (a ≡ value) × Holds told l
 FindsOver told l value (Err Failed) = ⊥
@@ -38,7 +39,7 @@ FindsOver told l value (Err (BadBlock cid role)) = ⊥
 FindsOver told l value (Err (Clash cid held bytes)) = ⊥
 FindsOver told l value (Err Memory) = ⊤
 
--- the fault is that one of these blocks is lost, or want of memory
+-- the fault is that one of these blocks is lost, or out of memory
 abbrev pub IsLossOf : Told → List Held → StoreFault → Type 0
 IsLossOf told l Failed = ⊥
 IsLossOf told l (Damaged cid) = ⊥
@@ -47,7 +48,7 @@ IsLossOf told l (BadBlock cid role) = ⊥
 IsLossOf told l (Clash cid held bytes) = ⊥
 IsLossOf told l Memory = ⊤
 
--- the answer is this value, or one of these blocks that isn't held is missing; want of memory is free
+-- the answer is this value, or one of these blocks that isn't held is missing; out of memory is free
 abbrev pub ReadsOver : {A : Type 0} → Told → List Held → A → Result A StoreFault → Type 0
 ReadsOver told l value (Ok a) = a ≡ value
 ReadsOver told l value (Err fault) = IsLossOf told l fault
@@ -61,7 +62,8 @@ IsLostBlock held block (b ∷ l) = ((block ≡ b) × (held b.0 ≡ None)) ⊎ Is
 abbrev pub LosesBlock : Told → Held → List Held → Type 0
 LosesBlock told block l = IfSome told (λ t. IsLostBlock (held_at t) block l)
 
--- what is held agrees with the new blocks, and each of them that isn't held is one of the old blocks that wasn't held before
+-- what is held agrees with the new blocks, and each of them that isn't held is one of the old blocks that wasn't held
+-- before
 abbrev pub AgreesAfter : Told → Told → List Held → List Held → Type 0
 AgreesAfter before None old new = ⊥
 AgreesAfter before (Some t) old new =

@@ -1,5 +1,5 @@
 -- What a contract sees of a store, and what each call answers by that.
-use Rattle.std.specs.Prelude.{◌≡◌, ◌≢◌, ℕ, ◌≤◌, List, length, Bool, true, false, Some, None, IfSome}
+use Rattle.std.specs.Prelude.{◌≡◌, ◌≢◌, ℕ, ◌≤◌, List, length, Bool, true, false, Some, None, IfSome, IsSome}
 use Rattle.std.specs.declared.option.Option.{Option}
 use Rattle.uf_cid.specs.declared.cid.Cid.{Cid}
 use Rattle.uf_cid.specs.Blocks.{Held}
@@ -7,16 +7,22 @@ use Rattle.uf_edge.specs.declared.host.Put.{Put}
 use Rattle.uf_edge.specs.declared.host.Put.TheVariants.{Done as PutDone, Failed as PutFailed, Memory as PutMemory}
 use Rattle.uf_edge.specs.Counts.{Counts}
 use Rattle.uf_store.specs.declared.store.Load.{Load}
-use Rattle.uf_store.specs.declared.store.Load.TheVariants.{Found, Missing, Damaged, Failed as LoadFailed, Memory as LoadMemory}
+use Rattle.uf_store.specs.declared.store.Load.TheVariants.{Found, Missing, Damaged, Failed as LoadFailed}
+use Rattle.uf_store.specs.declared.store.Load.TheVariants.{Memory as LoadMemory}
+use Rattle.uf_store.specs.declared.store.Presence.{Presence}
+use Rattle.uf_store.specs.declared.store.Presence.TheVariants.{There, Missing as IsMissing, Failed as LookFailed}
+use Rattle.uf_store.specs.declared.store.Presence.TheVariants.{Memory as LookMemory}
 use Rattle.uf_store.specs.declared.store.Save.{Save}
-use Rattle.uf_store.specs.declared.store.Save.TheVariants.{Done as SaveDone, Clash, Failed as SaveFailed, Memory as SaveMemory}
+use Rattle.uf_store.specs.declared.store.Save.TheVariants.{Done as SaveDone, Clash, Failed as SaveFailed}
+use Rattle.uf_store.specs.declared.store.Save.TheVariants.{Memory as SaveMemory}
 use Rattle.uf_store.specs.declared.store.Note.{Note}
 use Rattle.uf_store.specs.declared.store.NoteRead.{NoteRead}
 use Rattle.uf_store.specs.declared.store.NoteRead.TheVariants.{Text, Absent, Failed as NoteFailed, Memory as NoteMemory}
 use Rattle.uf_store.specs.Writing.{MeetsNoOther}
 use Rattle.uf_store.specs.Contents.{Contents, Told, changed, held_at, note_at, with_save, with_sync, with_text}
 
--- what is told, the block that is lent, and how often the store found a block, missed one, failed, and met another block
+-- what is told, the block that is lent, and how often the store found a block, missed one, failed, and met another
+-- block
 pub record Seen : Type 0 where
   pub told : Told
   pub lent : List ℕ
@@ -68,6 +74,19 @@ Loads hash cid Missing before now = MissesBlock cid before now
 Loads hash cid Damaged before now = Fails before now
 Loads hash cid LoadFailed before now = Fails before now
 Loads hash cid LoadMemory before now = GivesUp before now
+
+-- a block is held under this CID, and nothing has changed
+pub record IsThere (cid : Cid) (before now : Seen) : Type 0 where
+  pub is_held : IfSome before.told (λ t. IsSome (held_at t cid))
+  pub stays : Stays before now
+  pub counted : Counted false false false false before now
+
+-- the answer of `holds`
+abbrev pub Looks : Cid → Presence → Seen → Seen → Type 0
+Looks cid There before now = IsThere cid before now
+Looks cid IsMissing before now = MissesBlock cid before now
+Looks cid LookFailed before now = Fails before now
+Looks cid LookMemory before now = GivesUp before now
 
 -- every block of this CID's digest that is held under it is this one
 abbrev pub NoOther : (List ℕ → List ℕ) → Cid → List ℕ → Contents → Type 0

@@ -1,5 +1,6 @@
 -- What a stop leaves of the writes of a store.
-use Rattle.std.specs.Prelude.{◌≡◌, ℕ, ◌+◌, List, [], ◌∷◌, ◌++◌, Bool, true, false, ◌==◌, ◌||◌, not, nat_lt, max, fold, Some, IfSome, if◌then◌else◌}
+use Rattle.std.specs.Prelude.{◌≡◌, ℕ, ◌+◌, List, [], ◌∷◌, ◌++◌, Bool, true, false, ◌==◌, ◌||◌, not, nat_lt, max, fold}
+use Rattle.std.specs.Prelude.{Some, IfSome, if◌then◌else◌}
 use Rattle.std.specs.List.{list_any}
 use Rattle.std.specs.FinMap.{get, insert, empty}
 use Rattle.uf_cid.specs.declared.cid.Cid.{Cid}
@@ -44,8 +45,8 @@ pub record IsOutcome (ws : List Write) (held : HeldMap) (notes : Notes) : Type 0
 abbrev pub TellsPlain : Told → Type 0
 TellsPlain told = IfSome told IsPlain
 
--- what is told is what was written, the note Head has this text, and each of these blocks was saved before the last sync: no
--- stop takes any of that away
+-- what is told is what was written, the note Head has this text, and each of these blocks was saved before the last
+-- sync: no stop takes any of that away
 pub record IsSafe (t : Contents) (head : List ℕ) (blocks : List Held) : Type 0 where
   pub plain : IsPlain t
   pub head_is : t.notes.head ≡ Some head
@@ -60,7 +61,7 @@ with_write w t = record { held = held_after t.held w; notes = notes_after t.note
 abbrev pub written : List Write → Contents
 written ws = record { held = held_by ws; notes = notes_by ws; writes = ws }
 
--- the place behind the last sync, 0 where there is none; n is the place of the first of these writes
+-- the place after the last sync, 0 where there is none; n is the place of the first of these writes
 abbrev pub behind_sync : ℕ → List Write → ℕ
 behind_sync n [] = 0
 behind_sync n (Saved cid bytes ∷ ws) = behind_sync (n + 1) ws

@@ -1,5 +1,6 @@
 -- What a sweep of a store leaves: a part of the blocks, the notes, and the list of writes that makes just these.
-use Rattle.std.specs.Prelude.{◌≡◌, ℕ, ◌+◌, List, [], ◌∷◌, ◌++◌, Bool, true, false, fold, Some, None, IfSome, if◌then◌else◌}
+use Rattle.std.specs.Prelude.{◌≡◌, ℕ, ◌+◌, List, [], ◌∷◌, ◌++◌, Bool, true, false, fold, Some, None, IfSome}
+use Rattle.std.specs.Prelude.{if◌then◌else◌}
 use Rattle.std.specs.declared.option.Option.{Option}
 use Rattle.std.specs.FinMap.{get, insert, len, retain_keys}
 use Rattle.std.specs.List.{list_any}
@@ -40,7 +41,7 @@ abbrev pub note_of : Note → Option (List ℕ) → List Write
 note_of which None = []
 note_of which (Some text) = Noted which text ∷ []
 
--- the save that is left of a write in front of these: of what is held under its CID, where none of them saves that
+-- the save that is left of a write before these: of what is held under its CID, where none of them saves that
 abbrev pub left_of : Lookup → Write → List Write → List Write
 left_of held (Saved cid bytes) ws = if is_saved cid ws then [] else save_of cid (held cid)
 left_of held Synced ws = []
@@ -51,24 +52,25 @@ abbrev pub last_saves : Lookup → List Write → List Write
 last_saves held [] = []
 last_saves held (w ∷ ws) = left_of held w ws ++ last_saves held ws
 
--- whether no save stands behind the last sync, with one write more
+-- whether no save stands after the last sync, with one write more
 abbrev pub synced_after : Bool → Write → Bool
 synced_after b (Saved cid bytes) = false
 synced_after b Synced = true
 synced_after b (Noted which text) = b
 
--- a sync stands behind the last save
+-- a sync stands after the last save
 abbrev pub is_synced : List Write → Bool
 is_synced ws = fold synced_after false ws
 
--- one sync, where the saves outlived a stop
+-- one sync, where the saves were durable
 abbrev pub sync_of : Bool → List Write
 sync_of true = Synced ∷ []
 sync_of false = []
 
 -- the writes that make what is held, and the notes
 abbrev pub writes_of : Lookup → Notes → List Write → List Write
-writes_of held notes ws = last_saves held ws ++ note_of Head notes.head ++ note_of Pins notes.pins ++ sync_of (is_synced ws)
+writes_of held notes ws =
+    last_saves held ws ++ note_of Head notes.head ++ note_of Pins notes.pins ++ sync_of (is_synced ws)
 
 -- the blocks under some of the CIDs
 abbrev pub part_of : HeldMap → (Cid → Bool) → HeldMap
@@ -94,8 +96,9 @@ swept stays t = record {
 abbrev pub AreSaved : List Cid → List Write → Type 0
 AreSaved cids ws = (c : Cid) → is_among cids c ≡ is_saved c ws
 
--- the save that is left of a write was put behind others, and its CID among those of the saves
-pub record PutsSave (held : Lookup) (w : Write) (ws : List Write) (saves saves_now : List Write) (cids : List Cid) : Type 0 where
+-- the save that is left of a write was put after others, and its CID among those of the saves
+pub record PutsSave (held : Lookup) (w : Write) (ws : List Write) (saves saves_now : List Write)
+    (cids : List Cid) : Type 0 where
   pub put : saves_now ≡ saves ++ left_of held w ws
   pub are_saved : AreSaved cids (w ∷ ws)
 

@@ -15,4 +15,5 @@ pub record IsWhole (hash : List ℕ → List ℕ) (cid : Cid) (bytes : List ℕ)
 
 -- each of these blocks is whole
 abbrev pub AreWhole : (List ℕ → List ℕ) → List (Cid × List ℕ) → Type 0
-AreWhole hash blocks = (cid : Cid) (bytes : List ℕ) → get (from_entries {R = cid_cmp} blocks) cid ≡ Some bytes → IsWhole hash cid bytes
+AreWhole hash blocks =
+    (cid : Cid) (bytes : List ℕ) → get (from_entries {R = cid_cmp} blocks) cid ≡ Some bytes → IsWhole hash cid bytes

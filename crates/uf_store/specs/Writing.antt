@@ -11,10 +11,12 @@ use Rattle.uf_store.specs.Contents.{Contents, HeldMap, Told, held_after, notes_a
 abbrev pub MeetsNoOther : (List ℕ → List ℕ) → Cid → List ℕ → HeldMap → Type 0
 MeetsNoOther hash cid bytes m = (other : List ℕ) → get m cid ≡ Some other → hash other ≡ cid.digest → other ≡ bytes
 
--- saves put into a map in order: each is of a block under a CID of its digest, and replaces no other block of that digest
+-- saves put into a map in order: each is of a block under a CID of its digest, and replaces no other block of that
+-- digest
 abbrev pub ReplaceNone : (List ℕ → List ℕ) → HeldMap → List Write → Type 0
 ReplaceNone hash m [] = ⊤
-ReplaceNone hash m (Saved cid bytes ∷ ws) = (hash bytes ≡ cid.digest) × MeetsNoOther hash cid bytes m × ReplaceNone hash (insert m cid bytes) ws
+ReplaceNone hash m (Saved cid bytes ∷ ws) =
+    (hash bytes ≡ cid.digest) × MeetsNoOther hash cid bytes m × ReplaceNone hash (insert m cid bytes) ws
 ReplaceNone hash m (Synced ∷ ws) = ReplaceNone hash m ws
 ReplaceNone hash m (Noted which text ∷ ws) = ReplaceNone hash m ws
 
@@ -34,7 +36,8 @@ IsSaveOrSync (Noted which text) = ⊥
 abbrev pub IsAny : Write → Type 0
 IsAny write = ⊤
 
--- writes of one kind were appended: what is held is what their saves make of the old map, and the notes are the last texts
+-- writes of one kind were appended: what is held is what their saves make of the old map, and the notes are the last
+-- texts
 pub record Appends (hash : List ℕ → List ℕ) (IsOne : Write → Type 0) (t u : Contents) : Type 0 where
   pub added : List Write
   pub each : AllByRecursion IsOne added

@@ -1,17 +1,17 @@
-// Calls that the layers above make over any store.
+//! Calls that the layers above make over any store.
 ghost use Rattle.std.specs.Prelude.{◌≡◌, ◌≤◌, ◌+◌, [], ◌∷◌, length, OnOk, OnErr, IfOk, IfErr};
 ghost use Rattle.uf_cid.specs.Cid.{cid_of};
-ghost use Rattle.uf_store.specs.Seen.{Finds, Keeps};
+ghost use Rattle.uf_store.specs.Seen.{Finds, IsThere, Keeps};
 ghost use Rattle.uf_store.specs.Calls.{LoadsNothing};
 ghost use Rattle.uf_store.specs.Faults.{Answers, NoneIsBad, fault_in};
 ghost use Rattle.uf_store.specs.Keeping.{Holds, KeepsGood};
 ghost use Rattle.uf_store.specs.Writing.{SavesOnly};
 ghost use Rattle.uf_store.specs.Clashes.{IsClashOr, IsLoadFault, IsSaveFault};
 
-use crate::{Load, Save, Steps, Store, StoreFault};
+use crate::{Load, Presence, Save, Steps, Store, StoreFault};
 use std::alloc::Global;
 use std::sync::ledger::Ledger;
-use uf_cid::{Block, Cid, Codec, Memory};
+use uf_cid::{Block, Cid, Codec};
 
 /// Loads a block that has to be there. The store then lends it. One touch.
 pub fn need<S: Store, L: Ledger>(
@@ -31,6 +31,26 @@ pub fn need<S: Store, L: Ledger>(
         Load::Damaged => Err(StoreFault::Damaged(*cid)),
         Load::Failed => Err(StoreFault::Failed),
         Load::Memory => Err(StoreFault::Memory),
+    }
+}
+
+/// Asks for a block that has to be there, of which nothing is read or hashed. One touch.
+pub fn need_there<S: Store, L: Ledger>(
+    store: &mut S,
+    cid: &Cid,
+    touches: &mut Steps<L>,
+) -> Result<(), StoreFault>
+    ensures there { OnOk result (IsThere cid.now (S.seen store.old) (S.seen store.new)) }
+    ensures cause { Answers S.X.block32 NoneIsBad result (S.seen store.old) (S.seen store.new) }
+    ensures fault { IfErr result (IsLoadFault cid.now) }
+    ensures told { (S.seen store.new).told ≡ (S.seen store.old).told }
+    ensures touches { touches.new ≡ touches.old + 1 }
+{
+    match store.holds(cid, touches) {
+        Presence::There => Ok(()),
+        Presence::Missing => Err(StoreFault::Missing(*cid)),
+        Presence::Failed => Err(StoreFault::Failed),
+        Presence::Memory => Err(StoreFault::Memory),
     }
 }
 
@@ -74,7 +94,8 @@ pub fn save_block<S: Store, L: Ledger>(
 ) -> Result<Cid, StoreFault>
     requires size { length bytes.now ≤ 2097152 }
     ensures cid { IfOk result (λ cid. cid ≡ cid_of S.X.block32 codec bytes.now) }
-    ensures kept { OnOk result (Keeps S.X.block32 (cid_of S.X.block32 codec bytes.now) bytes.now (S.seen store.old) (S.seen store.new)) }
+    ensures kept { OnOk result (Keeps S.X.block32 (cid_of S.X.block32 codec bytes.now) bytes.now
+        (S.seen store.old) (S.seen store.new)) }
     ensures held { OnOk result (Holds (S.seen store.new).told ((cid_of S.X.block32 codec bytes.now, bytes.now) ∷ [])) }
     ensures cause { Answers S.X.block32 NoneIsBad result (S.seen store.old) (S.seen store.new) }
     ensures fault { IfErr result (IsSaveFault (cid_of S.X.block32 codec bytes.now) bytes.now) }
@@ -93,17 +114,11 @@ pub fn save_block<S: Store, L: Ledger>(
 fn clash(alloc: Global, cid: &Cid, held: &[u8], bytes: &[u8]) -> StoreFault
     ensures { IsClashOr cid.now held.now bytes.now result }
 {
-    match (block_of(alloc, held), block_of(alloc, bytes)) {
+    match (
+        Block::from_slice(alloc, held),
+        Block::from_slice(alloc, bytes),
+    ) {
         (Ok(first), Ok(second)) => StoreFault::Clash(*cid, first, second),
         _ => StoreFault::Memory,
     }
-}
-
-// A block of these bytes.
-pub(crate) fn block_of(alloc: Global, bytes: &[u8]) -> Result<Block, Memory>
-    ensures { IfOk result (λ block. block ≡ bytes.now) }
-{
-    let mut block = Block::new(alloc);
-    block.extend(bytes)?;
-    Ok(block)
 }

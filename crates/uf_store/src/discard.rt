@@ -1,9 +1,9 @@
-// A store that keeps nothing.
+//! A store that keeps nothing.
 ghost use Rattle.std.specs.Prelude.{◌≡◌, ◌≤◌, ◌+◌, [], None, length};
-ghost use Rattle.uf_store.specs.Seen.{Loads, ReadsNote, Saves, Syncs, WritesNote};
+ghost use Rattle.uf_store.specs.Seen.{Loads, Looks, ReadsNote, Saves, Syncs, WritesNote};
 ghost use Rattle.uf_store.specs.Sweeping.{Sweeps};
 
-use crate::{Load, Note, NoteRead, Save, Steps, Store, Sweep, Swept};
+use crate::{Load, Note, NoteRead, Presence, Save, Steps, Store, Sweep, Swept};
 use std::marker::PhantomData;
 use std::sync::ledger::Ledger;
 use uf_cid::{BlockHash, Cid, Cids};
@@ -46,6 +46,17 @@ impl<X: BlockHash> Store for Discard<X> {
         touches.tick();
         self.misses = self.misses.saturating_add(1);
         Load::Missing
+    }
+
+    fn holds<L: Ledger>(&mut self, cid: &Cid, touches: &mut Steps<L>) -> Presence
+        ensures missing { result ≡ Presence.Missing }
+        ensures seen { Looks cid.now result (discard_seen self.old) (discard_seen self.new) }
+        ensures touch { touches.new ≡ touches.old + 1 }
+    {
+        let _ = cid;
+        touches.tick();
+        self.misses = self.misses.saturating_add(1);
+        Presence::Missing
     }
 
     fn block(&self) -> &[u8] {

@@ -1,4 +1,4 @@
-// Which calls of a store in memory are to fail.
+//! Which calls of a store in memory are to fail.
 ghost use Rattle.std.specs.Prelude.{◌≡◌, ◌↔◌, [], IsTrue, OnOk, OnErr};
 ghost use Rattle.uf_store.specs.Failing.{IsDue, no_failures, ticked, with_failure, with_number};
 

@@ -1,4 +1,4 @@
-// Laws of what calls over a store leave, on which the layers above stand.
+//! Laws of what calls over a store leave, on which the layers above stand.
 ghost use Rattle.std.specs.Prelude.{◌≡◌, ℕ, List, [], ◌∷◌, ◌++◌};
 ghost use Rattle.std.specs.declared.result.Result.{Result};
 ghost use Rattle.uf_cid.specs.Blocks.{Held};
@@ -27,8 +27,10 @@ pub fn calls_write_what_they_say()
 /// What calls in a row write is what each of them writes, and one that changes nothing writes nothing.
 pub fn what_is_written_goes_on()
     ensures nothing { (hash : List ℕ → List ℕ) (a : Told) → SavesOnly hash a a }
-    ensures saves { (hash : List ℕ → List ℕ) (a b c : Told) → SavesOnly hash a b → SavesOnly hash b c → SavesOnly hash a c }
-    ensures writes { (hash : List ℕ → List ℕ) (a b c : Told) → WritesOnly hash a b → WritesOnly hash b c → WritesOnly hash a c }
+    ensures saves { (hash : List ℕ → List ℕ) (a b c : Told) → SavesOnly hash a b → SavesOnly hash b c
+        → SavesOnly hash a c }
+    ensures writes { (hash : List ℕ → List ℕ) (a b c : Told) → WritesOnly hash a b → WritesOnly hash b c
+        → WritesOnly hash a c }
     ensures wider { (hash : List ℕ → List ℕ) (a b : Told) → SavesOnly hash a b → WritesOnly hash a b }
 {}
 
@@ -49,14 +51,17 @@ pub fn saves_go_on_among_blocks()
 /// No save replaces a block that has its CID's digest, so good blocks that are held stay held.
 pub fn good_blocks_stay_held()
     ensures kept { (hash : List ℕ → List ℕ) (a b : Told) → WritesOnly hash a b → KeepsGood hash a b }
-    ensures goes_on { (hash : List ℕ → List ℕ) (a b c : Told) → KeepsGood hash a b → KeepsGood hash b c → KeepsGood hash a c }
-    ensures held { (hash : List ℕ → List ℕ) (a b : Told) (blocks : List Held) → AreGood hash blocks → KeepsGood hash a b → Holds a blocks → Holds b blocks }
+    ensures goes_on { (hash : List ℕ → List ℕ) (a b c : Told) → KeepsGood hash a b → KeepsGood hash b c
+        → KeepsGood hash a c }
+    ensures held { (hash : List ℕ → List ℕ) (a b : Told) (blocks : List Held) → AreGood hash blocks → KeepsGood hash a b
+        → Holds a blocks → Holds b blocks }
 {}
 
-/// A store that agrees with blocks before calls and after them does so between the calls too: none of them gave one of their
-/// CIDs other bytes.
+/// A store that agrees with blocks before calls and after them does so between the calls too: none of them gave one of
+/// their CIDs other bytes.
 pub fn agreement_lasts()
-    ensures { (hash : List ℕ → List ℕ) (a b c : Told) (blocks : List Held) → WritesOnly hash a b → WritesOnly hash b c → StaysAgreed a c blocks → Agrees b blocks }
+    ensures { (hash : List ℕ → List ℕ) (a b c : Told) (blocks : List Held) → WritesOnly hash a b → WritesOnly hash b c
+        → StaysAgreed a c blocks → Agrees b blocks }
 {}
 
 /// A fault shows its cause from an earlier moment on too, where the store has stayed calm until then.

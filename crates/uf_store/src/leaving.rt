@@ -1,9 +1,10 @@
-// The list of writes that makes what is left in a store.
+//! The list of writes that makes what is left in a store.
 ghost use Rattle.std.specs.Prelude.{◌≡◌, ◌++◌, List, IfOk, OnOk};
 ghost use Rattle.std.specs.FinMap.{from_entries, get};
 ghost use Rattle.uf_cid.specs.Cid.{cid_cmp};
 ghost use Rattle.uf_store.specs.declared.store.Write.{Write as TheWrite};
-ghost use Rattle.uf_store.specs.Sweeping.{AreSaved, PutsSave, is_synced as are_synced, last_saves as saves_left, note_of, synced_after, writes_of};
+ghost use Rattle.uf_store.specs.Sweeping.{AreSaved, PutsSave, is_synced as are_synced, last_saves as saves_left};
+ghost use Rattle.uf_store.specs.Sweeping.{note_of, synced_after, writes_of};
 
 use crate::shelf::Shelf;
 use crate::{Note, Write};
@@ -11,8 +12,8 @@ use std::alloc::Global;
 use std::collections::BTreeSet;
 use uf_cid::{Block, BlockHash, Cid, Memory};
 
-/// The writes that make the blocks of a shelf, each where its CID was saved last, and the notes, with one sync where they
-/// outlived a stop.
+/// The writes that make the blocks of a shelf, each where its CID was saved last, and the notes, with one sync where
+/// they were durable.
 pub(crate) fn writes_again<X: BlockHash>(
     alloc: Global,
     blocks: &Shelf<X>,
@@ -52,7 +53,7 @@ fn last_saves<X: BlockHash>(
     Ok(saves)
 }
 
-// Puts the save that is left of a write behind those of the later ones, whose CIDs were seen.
+// Puts the save that is left of a write after those of the later ones, whose CIDs were seen.
 fn put_save<X: BlockHash>(
     seen: &mut BTreeSet<Cid>,
     saves: &mut Vec<Write>,
@@ -73,7 +74,7 @@ fn put_save<X: BlockHash>(
     Ok(())
 }
 
-// Puts the writing of a note behind writes, where it is there.
+// Puts the writing of a note after writes, where it is there.
 fn put_note(writes: &mut Vec<Write>, which: Note, note: &Option<Block>) -> Result<(), Memory>
     ensures { OnOk result (writes.new.items ≡ writes.old.items ++ note_of which note.now) }
 {
@@ -83,7 +84,7 @@ fn put_note(writes: &mut Vec<Write>, which: Note, note: &Option<Block>) -> Resul
     Ok(())
 }
 
-// Whether a sync stands behind the last save.
+// Whether a sync stands after the last save.
 fn is_synced(writes: &[Write]) -> bool
     ensures { result ≡ are_synced writes.now }
 {

@@ -7,12 +7,13 @@ mod failing;
 mod laws;
 mod leaving;
 mod memory;
+mod outliving;
 mod shelf;
 mod steps;
 mod store;
 mod sweep;
 
-pub use callers::{need, save_block, save_under};
+pub use callers::{need, need_there, save_block, save_under};
 pub use discard::Discard;
 pub use failing::CallKind;
 pub use laws::{
@@ -21,5 +22,5 @@ pub use laws::{
 };
 pub use memory::MemStore;
 pub use steps::Steps;
-pub use store::{Load, MOST_BYTES, Note, NoteRead, Role, Save, Store, StoreFault, Write};
+pub use store::{Load, MOST_BYTES, Note, NoteRead, Presence, Role, Save, Store, StoreFault, Write};
 pub use sweep::{Sweep, Swept, a_swept_store_tells_what_was_written};

@@ -1,20 +1,19 @@
-// A store in memory. It tells, and it can be made to fail, to lose blocks and to hold wrong ones.
-ghost use Rattle.std.specs.Prelude.{◌≡◌, ◌≢◌, ◌≤◌, ◌<◌, ◌+◌, ◌^◌, ◌==◌, ◌↔◌, ◌⊎◌, ℕ, List, ◌∷◌, [], ◌++◌, length, take, Some, None, Contains, OnOk, OnErr, IfOk, IsTrue, true};
-ghost use Rattle.std.specs.List.{list_any};
+//! A store in memory. It tells, and it can be made to fail, to lose blocks and to hold wrong ones.
+ghost use Rattle.std.specs.Prelude.{◌≡◌, ◌≢◌, ◌≤◌, ◌<◌, ◌+◌, ◌^◌, ◌==◌, ◌↔◌, ◌⊎◌, ℕ, List, ◌∷◌, [], ◌++◌, length, take};
+ghost use Rattle.std.specs.Prelude.{Some, None, IsSome, Contains, OnOk, OnErr, IfOk, IsTrue, true};
 ghost use Rattle.std.specs.FinMap.{from_entries, insert, len};
 ghost use Rattle.uf_store.specs.Whole.{IsWhole};
 ghost use Rattle.uf_cid.specs.Cid.{cid_cmp};
 ghost use Rattle.uf_store.specs.Contents.{changed, held_at};
-ghost use Rattle.uf_store.specs.Stops.{behind_sync as place_behind_sync, behind_with as place_behind, survives as write_survives};
 ghost use Rattle.uf_store.specs.Failing.{IsDue, failures_with, ticked, with_failure, no_failures};
 ghost use Rattle.uf_store.specs.Sweeping.{Sweeps, is_among, part_of, swept};
-ghost use Rattle.uf_store.specs.Seen.{Loads, NoOther, ReadsNote, Saves, Seen, Syncs, WritesNote};
+ghost use Rattle.uf_store.specs.Seen.{Loads, Looks, NoOther, ReadsNote, Saves, Seen, Syncs, WritesNote};
 
-use crate::callers::block_of;
 use crate::failing::Failures;
 use crate::leaving::writes_again;
-use crate::shelf::{Shelf, is_whole};
-use crate::{CallKind, Load, Note, NoteRead, Save, Steps, Store, Sweep, Swept, Write};
+use crate::outliving::{behind_sync, survives};
+use crate::shelf::{Shelf, is_whole, keep};
+use crate::{CallKind, Load, Note, NoteRead, Presence, Save, Steps, Store, Sweep, Swept, Write};
 use std::alloc::Global;
 use std::marker::PhantomData;
 use std::sync::ledger::Ledger;
@@ -39,7 +38,8 @@ pub struct MemStore<X: BlockHash> {
 }
 
 impl<X: BlockHash> MemStore<X> {
-    ghost use Rattle.uf_store.specs.InMemory.{contents_of, failures_of, memory_seen, new_seen, with_block, without_block};
+    ghost use Rattle.uf_store.specs.InMemory.{contents_of, failures_of, memory_seen, new_seen, with_block};
+    ghost use Rattle.uf_store.specs.InMemory.{without_block};
     ghost use Rattle.uf_store.specs.Stops.{IsPlain, after_stop, with_write, written};
 
     /// A store that holds nothing.
@@ -74,7 +74,8 @@ impl<X: BlockHash> MemStore<X> {
 
     /// Takes the block under a CID away. That is no write.
     pub fn forget(&mut self, cid: &Cid)
-        ensures seen { memory_seen self.new ≡ record (memory_seen self.old) { told = Some (without_block cid.now (contents_of self.old)) } }
+        ensures seen { memory_seen self.new
+            ≡ record (memory_seen self.old) { told = Some (without_block cid.now (contents_of self.old)) } }
         ensures failures { failures_of self.new ≡ failures_of self.old }
     {
         self.blocks.remove(cid);
@@ -82,7 +83,8 @@ impl<X: BlockHash> MemStore<X> {
 
     /// Puts a block under a CID, unchecked. That is no write.
     pub fn plant(&mut self, cid: &Cid, bytes: Block) -> Result<(), Memory>
-        ensures ok { OnOk result (memory_seen self.new ≡ record (memory_seen self.old) { told = Some (with_block cid.now bytes (contents_of self.old)) }) }
+        ensures ok { OnOk result (memory_seen self.new
+            ≡ record (memory_seen self.old) { told = Some (with_block cid.now bytes (contents_of self.old)) }) }
         ensures err { OnErr result (memory_seen self.new ≡ memory_seen self.old) }
         ensures failures { failures_of self.new ≡ failures_of self.old }
     {
@@ -90,12 +92,14 @@ impl<X: BlockHash> MemStore<X> {
         self.blocks.insert(*cid, bytes, is_good)
     }
 
-    /// What a stop after the first `at` writes leaves, where the saves at the places in `lost` didn't outlive it. Places are
-    /// those in the list of writes, counted from 0; a save in front of the last sync is there whatever `lost` says. The new
-    /// store's past writes are the notes and the saves that are left, in their order, and one sync.
+    /// What a stop after the first `at` writes leaves, where the saves at the places in `lost` didn't outlive it.
+    /// Places are those in the list of writes, counted from 0; a save before the last sync is there whatever
+    /// `lost` says. The new store's past writes are the notes and the saves that are left, in their order, and one
+    /// sync.
     pub fn after_stop(&self, at: usize, lost: &Calls) -> Result<MemStore<X>, Memory>
         requires { at ≤ length (contents_of self.now).writes }
-        ensures seen { IfOk result (λ s. memory_seen s ≡ record new_seen { told = Some (written (after_stop lost.now (take at (contents_of self.now).writes))) }) }
+        ensures seen { IfOk result (λ s. memory_seen s
+            ≡ record new_seen { told = Some (written (after_stop lost.now (take at (contents_of self.now).writes))) }) }
         ensures plain { IfOk result (λ s. IsPlain (contents_of s)) }
         ensures failures { IfOk result (λ s. failures_of s ≡ no_failures) }
     {
@@ -113,7 +117,8 @@ impl<X: BlockHash> MemStore<X> {
 
     // Makes a past write again.
     fn redo(&mut self, write: &Write) -> Result<(), Memory>
-        ensures ok { OnOk result (memory_seen self.new ≡ record (memory_seen self.old) { told = Some (with_write write.now (contents_of self.old)) }) }
+        ensures ok { OnOk result (memory_seen self.new
+            ≡ record (memory_seen self.old) { told = Some (with_write write.now (contents_of self.old)) }) }
         ensures failures { failures_of self.new ≡ failures_of self.old }
     {
         match write {
@@ -197,72 +202,6 @@ impl<X: BlockHash> MemStore<X> {
     }
 }
 
-// The place behind the last sync.
-fn behind_sync(writes: &[Write]) -> usize
-    ensures { result ≡ place_behind_sync 0 writes.now }
-{
-    let mut behind = 0;
-    for (place, write) in writes.iter().enumerate() {
-        behind = behind_with(behind, place, write);
-    }
-    behind
-}
-
-// The place behind the last sync, with one write more at this place.
-fn behind_with(behind: usize, place: usize, write: &Write) -> usize
-    requires { place + 1 < 2 ^ 64 }
-    ensures { result ≡ place_behind behind place write.now }
-{
-    match write {
-        Write::Synced => place + 1,
-        _ => behind,
-    }
-}
-
-// Whether a write at a place survives a stop.
-fn survives(lost: &Calls, firm: usize, place: usize, write: &Write) -> bool
-    ensures { result ≡ write_survives lost.now firm place write.now }
-{
-    match write {
-        Write::Saved(_, _) => place < firm || !is_among(lost, place),
-        Write::Synced => false,
-        Write::Noted(_, _) => true,
-    }
-}
-
-// Whether a place is one of these.
-fn is_among(places: &Calls, place: usize) -> bool
-    ensures { result ≡ list_any (λ n. n == place) places.now }
-{
-    places.as_slice().iter().any(|n| *n == place as u64)
-}
-
-// Keeps a block, and notes that it was saved; says whether it is known to be whole.
-fn keep<X: BlockHash>(
-    blocks: &mut Shelf<X>,
-    writes: &mut Vec<Write>,
-    cid: Cid,
-    block: Block,
-    copy: Block,
-    is_good: bool,
-) -> Result<(), Memory>
-    requires same { copy ≡ block }
-    requires whole { IsTrue is_good → IsWhole X.block32 cid block }
-    ensures held { OnOk result (from_entries {R = cid_cmp} blocks.new.blocks.entries ≡ insert (from_entries {R = cid_cmp} blocks.old.blocks.entries) cid block) }
-    ensures written { OnOk result (writes.new.items ≡ writes.old.items ++ Write.Saved cid block ∷ []) }
-    ensures same_held { OnErr result (from_entries {R = cid_cmp} blocks.new.blocks.entries ≡ from_entries {R = cid_cmp} blocks.old.blocks.entries) }
-    ensures same_written { OnErr result (writes.new.items ≡ writes.old.items) }
-{
-    writes.push(Write::Saved(cid, copy))?;
-    match blocks.insert(cid, block, is_good) {
-        Ok(()) => Ok(()),
-        Err(_) => {
-            let _ = writes.pop();
-            Err(Memory)
-        }
-    }
-}
-
 impl<X: BlockHash> Store for MemStore<X> {
     ghost use Rattle.uf_store.specs.InMemory.{HoldsDamaged, contents_of, failures_of, memory_seen};
 
@@ -276,8 +215,10 @@ impl<X: BlockHash> Store for MemStore<X> {
 
         // It fails exactly where it is to fail; else a block that isn't held is missing, and a damaged one is damaged.
         ensures fails { (result ≡ Load.Failed) ↔ IsDue (failures_of self.old).load }
-        ensures missing { ¬ IsDue (failures_of self.old).load → held_at (contents_of self.old) cid.now ≡ None → result ≡ Load.Missing }
-        ensures damaged { ¬ IsDue (failures_of self.old).load → HoldsDamaged X.block32 cid.now (contents_of self.old) → result ≡ Load.Damaged }
+        ensures missing { ¬ IsDue (failures_of self.old).load → held_at (contents_of self.old) cid.now ≡ None
+            → result ≡ Load.Missing }
+        ensures damaged { ¬ IsDue (failures_of self.old).load → HoldsDamaged X.block32 cid.now (contents_of self.old)
+            → result ≡ Load.Damaged }
         ensures only_damaged { result ≡ Load.Damaged → HoldsDamaged X.block32 cid.now (contents_of self.old) }
         ensures counted { failures_of self.new ≡ failures_with CallKind.Load ticked (failures_of self.old) }
     {
@@ -301,6 +242,32 @@ impl<X: BlockHash> Store for MemStore<X> {
                 Load::Found
             }
             Err(_) => Load::Memory,
+        }
+    }
+
+    fn holds<L: Ledger>(&mut self, cid: &Cid, touches: &mut Steps<L>) -> Presence
+        ensures seen { Looks cid.now result (memory_seen self.old) (memory_seen self.new) }
+        ensures touch { touches.new ≡ touches.old + 1 }
+
+        // It counts as a load, and fails exactly where one is to fail; else a block that is held is there, and no other.
+        ensures fails { (result ≡ Presence.Failed) ↔ IsDue (failures_of self.old).load }
+        ensures there { ¬ IsDue (failures_of self.old).load → IsSome (held_at (contents_of self.old) cid.now)
+            → result ≡ Presence.There }
+        ensures missing { ¬ IsDue (failures_of self.old).load → held_at (contents_of self.old) cid.now ≡ None
+            → result ≡ Presence.Missing }
+        ensures counted { failures_of self.new ≡ failures_with CallKind.Load ticked (failures_of self.old) }
+    {
+        touches.tick();
+        if self.failures.load.tick() {
+            self.faults = self.faults.saturating_add(1);
+            return Presence::Failed;
+        }
+        match self.blocks.get(cid) {
+            Some(_) => Presence::There,
+            None => {
+                self.misses = self.misses.saturating_add(1);
+                Presence::Missing
+            }
         }
     }
 
@@ -336,10 +303,10 @@ impl<X: BlockHash> Store for MemStore<X> {
                 };
             }
         }
-        let Ok(block) = block_of(self.alloc, bytes) else {
+        let Ok(block) = Block::from_slice(self.alloc, bytes) else {
             return Save::Memory;
         };
-        let Ok(copy) = block_of(self.alloc, bytes) else {
+        let Ok(copy) = Block::from_slice(self.alloc, bytes) else {
             return Save::Memory;
         };
         match keep(&mut self.blocks, &mut self.writes, *cid, block, copy, true) {
@@ -394,10 +361,10 @@ impl<X: BlockHash> Store for MemStore<X> {
             self.faults = self.faults.saturating_add(1);
             return Put::Failed;
         }
-        let Ok(text) = block_of(self.alloc, bytes) else {
+        let Ok(text) = Block::from_slice(self.alloc, bytes) else {
             return Put::Memory;
         };
-        let Ok(copy) = block_of(self.alloc, bytes) else {
+        let Ok(copy) = Block::from_slice(self.alloc, bytes) else {
             return Put::Memory;
         };
         if self.writes.push(Write::Noted(which, copy)).is_err() {

@@ -1,12 +1,12 @@
-// Blocks by their CIDs, in memory.
-ghost use Rattle.std.specs.Prelude.{◌≡◌, ◌↔◌, IfOk, IsTrue, OnErr, OnOk, Some, true};
+//! Blocks by their CIDs, in memory.
+ghost use Rattle.std.specs.Prelude.{◌≡◌, ◌↔◌, ◌∷◌, ◌++◌, [], IfOk, IsTrue, OnErr, OnOk, Some, true};
 ghost use Rattle.std.specs.FinMap.{empty, from_entries, get, insert, len, remove};
 ghost use Rattle.std.specs.Option.{option_copied};
 ghost use Rattle.uf_cid.specs.Cid.{cid_cmp};
 ghost use Rattle.uf_store.specs.Sweeping.{is_among, part_of, with_block_of};
 ghost use Rattle.uf_store.specs.Whole.{AreWhole, IsDamaged, IsWhole};
 
-use crate::MOST_BYTES;
+use crate::{MOST_BYTES, Write};
 use std::alloc::Global;
 use std::collections::BTreeMap;
 use std::marker::PhantomData;
@@ -54,8 +54,10 @@ impl<X: BlockHash> Shelf<X> {
     /// Puts a block under a CID; says whether it is known to be whole.
     pub(crate) fn insert(&mut self, cid: Cid, block: Block, is_whole: bool) -> Result<(), Memory>
         requires { IsTrue is_whole → IsWhole X.block32 cid block }
-        ensures held { OnOk result (from_entries {R = cid_cmp} self.new.blocks.entries ≡ insert (from_entries {R = cid_cmp} self.old.blocks.entries) cid block) }
-        ensures same { OnErr result (from_entries {R = cid_cmp} self.new.blocks.entries ≡ from_entries {R = cid_cmp} self.old.blocks.entries) }
+        ensures held { OnOk result (from_entries {R = cid_cmp} self.new.blocks.entries
+            ≡ insert (from_entries {R = cid_cmp} self.old.blocks.entries) cid block) }
+        ensures same { OnErr result (from_entries {R = cid_cmp} self.new.blocks.entries
+            ≡ from_entries {R = cid_cmp} self.old.blocks.entries) }
     {
         self.is_whole = self.is_whole && is_whole;
         self.blocks.insert(cid, block)?;
@@ -64,7 +66,8 @@ impl<X: BlockHash> Shelf<X> {
 
     /// Takes the block under a CID away.
     pub(crate) fn remove(&mut self, cid: &Cid)
-        ensures { from_entries {R = cid_cmp} self.new.blocks.entries ≡ remove (from_entries {R = cid_cmp} self.old.blocks.entries) cid.now }
+        ensures { from_entries {R = cid_cmp} self.new.blocks.entries
+            ≡ remove (from_entries {R = cid_cmp} self.old.blocks.entries) cid.now }
     {
         let _ = self.blocks.remove(cid);
     }
@@ -99,6 +102,34 @@ impl<X: BlockHash> Shelf<X> {
         ensures { result ≡ len (from_entries {R = cid_cmp} self.now.blocks.entries) }
     {
         self.blocks.len()
+    }
+}
+
+/// Keeps a block, and notes that it was saved; says whether it is known to be whole.
+pub(crate) fn keep<X: BlockHash>(
+    blocks: &mut Shelf<X>,
+    writes: &mut Vec<Write>,
+    cid: Cid,
+    block: Block,
+    copy: Block,
+    is_good: bool,
+) -> Result<(), Memory>
+    requires same { copy ≡ block }
+    requires whole { IsTrue is_good → IsWhole X.block32 cid block }
+    ensures held { OnOk result (from_entries {R = cid_cmp} blocks.new.blocks.entries
+        ≡ insert (from_entries {R = cid_cmp} blocks.old.blocks.entries) cid block) }
+    ensures written { OnOk result (writes.new.items ≡ writes.old.items ++ Write.Saved cid block ∷ []) }
+    ensures same_held { OnErr result (from_entries {R = cid_cmp} blocks.new.blocks.entries
+        ≡ from_entries {R = cid_cmp} blocks.old.blocks.entries) }
+    ensures same_written { OnErr result (writes.new.items ≡ writes.old.items) }
+{
+    writes.push(Write::Saved(cid, copy))?;
+    match blocks.insert(cid, block, is_good) {
+        Ok(()) => Ok(()),
+        Err(_) => {
+            let _ = writes.pop();
+            Err(Memory)
+        }
     }
 }
 

@@ -1,4 +1,4 @@
-// A count of steps that costs nothing at run time.
+//! A count of steps that costs nothing at run time.
 ghost use Rattle.std.specs.Prelude.{◌≡◌, ◌+◌, ◌<◌};
 
 use std::marker::Model;

@@ -1,4 +1,4 @@
-// Stores that let go of the blocks that nothing keeps.
+//! Stores that let go of the blocks that nothing keeps.
 ghost use Rattle.std.specs.Prelude.{◌≡◌, Bool};
 ghost use Rattle.uf_store.specs.Sweeping.{Sweeps, swept};
 ghost use Rattle.uf_store.specs.Contents.{Contents};
@@ -19,8 +19,8 @@ pub enum Swept {
 
 /// A store that lets go of blocks.
 pub trait Sweep: Store {
-    /// Lets go of each block whose CID isn't one of these, and answers how many went. A stop in its course leaves each of
-    /// those that are kept. The list of past writes is then what makes the blocks that are left and the notes.
+    /// Lets go of each block whose CID isn't one of these, and answers how many went. A stop in its course leaves each
+    /// of those that are kept. The list of past writes is then what makes the blocks that are left and the notes.
     fn sweep(&mut self, kept: &Cids) -> Swept
         ensures swept { Sweeps kept.now result (Self.seen self.old) (Self.seen self.new) };
 }

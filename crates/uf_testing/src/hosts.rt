@@ -1,4 +1,4 @@
-// Hosts in memory, and paths in them.
+//! Hosts in memory, and paths in them.
 ghost use Rattle.std.specs.Prelude.{◌≡◌, ◌++◌, ◌==◌, IfOk, IsTrue};
 ghost use Rattle.std.specs.List.{list_any};
 ghost use Rattle.uf_edge.specs.Host.{front, is_member_name};
@@ -12,8 +12,8 @@ use uf_edge::{Calls, Host, Kind, MemHost, Put};
 /// none of a folder.
 pub type Node<'a> = (&'a str, &'a str, Option<&'a [u8]>);
 
-// Whether bytes may be the name of a member.
-fn is_member(name: &[u8]) -> bool
+/// Whether bytes may be the name of a member.
+pub fn is_member(name: &[u8]) -> bool
     ensures { result ≡ is_member_name name.now }
 {
     !name.is_empty() && !has_slash(name)
@@ -32,8 +32,8 @@ fn is_done(put: Put) -> Result<(), Memory> {
     }
 }
 
-// The path of a member of a folder.
-fn path_of(alloc: Global, folder: &str, name: &str) -> Result<Text, Memory>
+/// The path of a member of a folder.
+pub fn path_of(alloc: Global, folder: &str, name: &str) -> Result<Text, Memory>
     ensures { IfOk result (λ text. text ≡ front folder.now ++ name.now) }
 {
     let mut path = Text::new(alloc);

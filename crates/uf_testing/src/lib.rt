@@ -1,9 +1,17 @@
-//! What tests and rows of commands share: words, streams in memory, hosts and stores that are set up. No program but that
-//! of the rows stands on it.
+//! What the programs that play rows share: words, bytes that lines spell, streams in memory, hosts and stores that are set
+//! up, and the sheet on which rows are told. No other program stands on it.
 #![tactic(auto)]
 
+mod feeding;
 mod hosts;
+mod sheet;
 mod streams;
+mod telling;
+mod words;
 
-pub use hosts::{Node, host_of, plant, put_first, put_in, text_of};
-pub use streams::{ROOMY, Streams, block_of, calls, plant_node, sink, source, words_of};
+pub use feeding::{bytes_of, feed};
+pub use hosts::{Node, host_of, is_member, path_of, plant, put_first, put_in, text_of};
+pub use sheet::{Sheet, begins_row, ends_part};
+pub use streams::{ROOMY, Streams, block_of, calls, plant_node, sink, source};
+pub use telling::{say, say_digits, tell_bytes, tell_count};
+pub use words::{number_and_rest, number_of, word_and_rest, words_of};

@@ -1,4 +1,4 @@
-// Words, blocks and streams.
+//! Blocks and streams.
 
 use std::alloc::Global;
 use uf_cid::{Block, BlockHash, Cid, Codec, Memory};
@@ -21,16 +21,6 @@ pub const ROOMY: Streams = Streams {
     output_fails: None,
     errors_fail: None,
 };
-
-/// The words of a line, which end at tabs where it has some.
-pub fn words_of(alloc: Global, line: &str) -> Result<Vec<String>, Memory> {
-    let end = if line.contains('\t') { '\t' } else { ' ' };
-    let mut words = Vec::new(alloc);
-    for word in line.split(end) {
-        words.push(String::from_str(alloc, word)?)?;
-    }
-    Ok(words)
-}
 
 /// A block of these bytes.
 pub fn block_of(alloc: Global, bytes: &[u8]) -> Result<Block, Memory> {

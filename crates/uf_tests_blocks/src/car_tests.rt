@@ -1,4 +1,4 @@
-// Rows of CARs, whose bytes were written by hand, and of which the digests were computed outside of this program.
+//! Rows of CARs, whose bytes were written by hand, and of which the digests were computed outside of this program.
 ghost use Rattle.std.specs.Prelude.{◌≡◌, ◌<◌, ◌≤◌};
 
 use std::alloc::Global;
@@ -78,7 +78,7 @@ fn reads<L: Ledger>(
     (said, store.count())
 }
 
-// Whether each front of the CAR is read as it ends.
+// Whether each prefix of the CAR is read as it ends.
 fn fronts_are_cut<L: Ledger>(alloc: Global, touches: &mut Steps<L>) -> bool {
     for count in 0..108usize {
         let wanted = match count {
@@ -246,7 +246,7 @@ fn tower<L: Ledger>(
     Ok(top)
 }
 
-// What an export of such a tower answers, how many bytes were written, and whether these are the front of the CAR.
+// What an export of such a tower answers, how many bytes were written, and whether these are the prefix of the CAR.
 fn writes<L: Ledger>(
     alloc: Global,
     codec: Codec,

@@ -1,4 +1,4 @@
-// Rows of comparisons.
+//! Rows of comparisons.
 ghost use Rattle.std.specs.Prelude.{◌≡◌, ◌<◌, ◌≤◌, length};
 
 use std::alloc::Global;

@@ -1,4 +1,4 @@
-// Foreign nodes with metadata that are built anew: the metadata of the first node is kept, that of further ones isn't.
+//! Foreign nodes with metadata that are built anew: the metadata of the first node is kept, that of further ones isn't.
 ghost use Rattle.std.specs.Prelude.{◌≡◌, ◌<◌, IsTrue};
 ghost use Rattle.uf_tree.specs.Metas.{is_meta};
 ghost use Rattle.uf_tree.specs.Profiles.{is_profile};

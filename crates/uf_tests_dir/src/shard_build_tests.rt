@@ -1,5 +1,5 @@
-// Directories in shards that are built: of ten thousand names, whose CID and Tsize were computed outside of this program,
-// and of great Tsizes, which no command gives.
+//! Directories in shards that are built: of ten thousand names, whose CID and Tsize were computed outside of this program,
+//! and of great Tsizes, which no command gives.
 ghost use Rattle.std.specs.Prelude.{◌≡◌, ◌<◌, ◌≤◌, length};
 ghost use Rattle.uf_tree.specs.Validity.{IsDirectory};
 

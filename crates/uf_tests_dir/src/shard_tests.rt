@@ -1,5 +1,5 @@
-// Trees of shards that are planted in a store: what they weigh, with weights that were computed outside of this program,
-// how many of them decide a name, and blocks that are no directories, of which no command tells.
+//! Trees of shards that are planted in a store: what they weigh, with weights that were computed outside of this program,
+//! how many of them decide a name, and blocks that are no directories, of which no command tells.
 ghost use Rattle.std.specs.Prelude.{◌≡◌, ◌<◌};
 
 use std::alloc::Global;

@@ -1,5 +1,5 @@
-// A directory of 500 names in shards: what a search, a trail and both in one walk answer, also where one of the blocks
-// that decide the name is lost; and how little the removal of a name that isn't there loads.
+//! A directory of 500 names in shards: what a search, a trail and both in one walk answer, also where one of the blocks
+//! that decide the name is lost; and how little the removal of a name that isn't there loads.
 ghost use Rattle.std.specs.Prelude.{◌≡◌, ◌<◌, IsTrue};
 ghost use Rattle.uf_tree.specs.Profiles.{is_profile};
 
@@ -41,7 +41,7 @@ fn name_of(alloc: Global, number: u32) -> Option<Name> {
     Name::parse(alloc, text.as_str()).ok()
 }
 
-// Puts a name behind others, with an entry that has its number.
+// Puts a name after others, with an entry that has its number.
 fn add(alloc: Global, pairs: &mut Pairs, number: u32) -> Option<()> {
     let name = name_of(alloc, number)?;
     let entry = Entry {

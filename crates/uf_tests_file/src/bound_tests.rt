@@ -1,4 +1,4 @@
-// Edits counted: each makes the entry of the new bytes imported afresh, within its bound of touches.
+//! Edits counted: each makes the entry of the new bytes imported afresh, within its bound of touches.
 ghost use Rattle.std.specs.Prelude.{◌≡◌, ◌<◌, ◌≤◌, ◌^◌, IsTrue};
 ghost use Rattle.uf_tree.specs.Profiles.{is_profile};
 
@@ -56,7 +56,7 @@ fn outcome(p: &Profile, size: usize, edit: Edit) -> (usize, u64) {
     }
 }
 
-// How many rows of nodes stand over the leaves of a file of so many bytes.
+// How many rows of nodes stand over the leaves of a file of n bytes.
 fn height(p: &Profile, size: usize) -> u64 {
     let mut span = u64::from(p.chunk);
     for height in 0..64 {
@@ -78,7 +78,7 @@ fn most_touches(p: &Profile, size: usize, edit: Edit) -> u64 {
         .saturating_mul(2)
 }
 
-// So many bytes, none of them zero.
+// n bytes, none of them zero.
 fn bytes_of(alloc: Global, size: usize) -> Result<Vec<u8>, Trouble> {
     let mut bytes = Vec::new(alloc);
     for place in 0..size {

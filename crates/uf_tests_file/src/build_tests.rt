@@ -1,4 +1,4 @@
-// Rows of the builder. The expected CIDs come from an independent program.
+//! Rows of the builder. The expected CIDs come from an independent program.
 ghost use Rattle.std.specs.Prelude.{◌≡◌, ◌<◌, IsTrue};
 ghost use Rattle.uf_tree.specs.Profiles.{is_profile};
 

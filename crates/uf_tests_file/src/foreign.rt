@@ -1,4 +1,4 @@
-// Blocks as others write them, put into a store.
+//! Blocks as others write them, put into a store.
 ghost use Rattle.std.specs.Prelude.{◌<◌, length};
 
 use std::alloc::Global;

@@ -1,4 +1,4 @@
-// Rows of metadata as others wrote it: whose it is, and how much of it is taken.
+//! Rows of metadata as others wrote it: whose it is, and how much of it is taken.
 ghost use Rattle.std.specs.Prelude.{◌≡◌, ◌<◌};
 
 use crate::foreign::{Kept, put, put_node};

@@ -1,4 +1,4 @@
-// Sources in memory that are read as files. Each CID was computed outside of this program.
+//! Sources in memory that are read as files. Each CID was computed outside of this program.
 ghost use Rattle.std.specs.Prelude.{◌≡◌, ◌<◌};
 
 use std::alloc::Global;

@@ -1,4 +1,4 @@
-// Rows of foreign DAGs of which no command tells: readings of one directory alone, and other limits than the usual ones.
+//! Rows of foreign DAGs of which no command tells: readings of one directory alone, and other limits than the usual ones.
 ghost use Rattle.std.specs.Prelude.{◌≡◌, ◌<◌};
 
 use crate::foreign::{DIRECTORY, FILE, Kept, SHARD, put, put_node, raw};

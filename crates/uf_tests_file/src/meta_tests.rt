@@ -1,5 +1,5 @@
-// Edits of files with metadata, tried against a plain model: after each the entry is that of the new bytes imported
-// afresh with the file's metadata, which the file says, and it reads as them.
+//! Edits of files with metadata, tried against a plain model: after each the entry is that of the new bytes imported
+//! afresh with the file's metadata, which the file says, and it reads as them.
 ghost use Rattle.std.specs.Prelude.{◌≡◌, ◌<◌, IsTrue};
 ghost use Rattle.uf_tree.specs.Metas.{is_meta};
 ghost use Rattle.uf_tree.specs.Profiles.{is_profile};
@@ -88,7 +88,7 @@ fn is_built_with<L: Ledger>(
     }
 }
 
-// Whether so many bytes of the file from an offset on are those of these bytes.
+// Whether n bytes of the file from an offset on are those of these bytes.
 fn is_read<L: Ledger>(
     alloc: Global,
     store: &mut Kept,

@@ -1,4 +1,4 @@
-// Files imported afresh, and plain models of their bytes.
+//! Files imported afresh, and plain models of their bytes.
 ghost use Rattle.std.specs.Prelude.{IsTrue};
 ghost use Rattle.uf_tree.specs.Profiles.{is_profile};
 
@@ -72,7 +72,7 @@ pub fn built<L: Ledger>(
     builder.finish(store, touches)
 }
 
-// The byte of the model at a place, or zero behind its end.
+// The byte of the model at a place, or zero after its end.
 fn byte_at(bytes: &[u8], place: usize) -> u8 {
     match bytes.get(place) {
         Some(byte) => *byte,
@@ -80,7 +80,7 @@ fn byte_at(bytes: &[u8], place: usize) -> u8 {
     }
 }
 
-// So many bytes of the model, with a piece laid over them.
+// n bytes of the model, with a piece laid over them.
 pub fn model(
     alloc: Global,
     bytes: &[u8],

@@ -1,4 +1,4 @@
-// Rows of lengths, over blocks whose bytes were computed outside of this program.
+//! Rows of lengths, over blocks whose bytes were computed outside of this program.
 ghost use Rattle.std.specs.Prelude.{◌≡◌, ◌<◌};
 
 use std::alloc::Global;

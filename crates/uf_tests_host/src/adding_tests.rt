@@ -1,4 +1,4 @@
-// Rows of files and folders of a host. Each CID was computed outside of this program.
+//! Rows of files and folders of a host. Each CID was computed outside of this program.
 ghost use Rattle.std.specs.Prelude.{◌≡◌, ◌<◌, IsTrue};
 ghost use Rattle.uf_tree.specs.Profiles.{is_profile};
 
@@ -217,7 +217,7 @@ fn fails_at<L: Ledger>(alloc: Global, number: u64, touches: &mut Steps<L>) -> Re
     adds(alloc, 262144, &mut host, "d", true, touches)
 }
 
-// Whether each call of the host that fails is told, and none behind the last.
+// Whether each call of the host that fails is told, and none after the last.
 fn failures_are_told<L: Ledger>(alloc: Global, touches: &mut Steps<L>) -> Result<bool, Memory> {
     for number in 0..10 {
         if fails_at(alloc, number, touches)?.as_str() != "read" {

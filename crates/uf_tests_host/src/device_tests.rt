@@ -1,4 +1,4 @@
-// A host of devices alone.
+//! A host of devices alone.
 ghost use Rattle.std.specs.Prelude.{◌≡◌, ◌<◌};
 
 use std::alloc::Global;

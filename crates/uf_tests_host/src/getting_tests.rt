@@ -1,4 +1,4 @@
-// Rows of trees that are written to a host.
+//! Rows of trees that are written to a host.
 ghost use Rattle.std.specs.Prelude.{◌≡◌, ◌<◌, IsTrue};
 ghost use Rattle.uf_tree.specs.Profiles.{is_profile};
 
@@ -159,7 +159,7 @@ fn rows_hold<L: Ledger>(alloc: Global, touches: &mut Steps<L>) -> Result<bool, M
         (none, "/", "exists"),
         (none, "no/out", "absent"),
         (file, "f/out", "absent"),
-        (none, "", "absent"),
+        (none, "", "write"),
         (none, "//out", "absent"),
         (folder, "g//out", "absent"),
     ];

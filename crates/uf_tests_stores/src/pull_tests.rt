@@ -1,5 +1,5 @@
-// Rows of pulls and of answers, whose bytes were written by hand. The digests in them were computed outside of this
-// program.
+//! Rows of pulls and of answers, whose bytes were written by hand. The digests in them were computed outside of this
+//! program.
 ghost use Rattle.std.specs.Prelude.{◌≡◌, ◌<◌, ◌≤◌};
 
 use std::alloc::Global;
@@ -71,7 +71,7 @@ enum Said {
 #[derive(Clone, Copy)]
 struct PullRow<'a>(Pieces<'a>, Pieces<'a>, Said, usize);
 
-// Lines to a store that holds `hello world`, of at most so many bytes: what is written, and what it answers.
+// Lines to a store that holds `hello world`, of at most n bytes: what is written, and what it answers.
 #[derive(Clone, Copy)]
 struct ServeRow<'a>(Pieces<'a>, u64, Pieces<'a>, Said);
 
@@ -276,7 +276,7 @@ fn noisy(alloc: Global, count: u32) -> Block {
     block
 }
 
-// What a pull behind so many frames that nobody asked for answers.
+// What a pull after so many frames that nobody asked for answers.
 fn behind_noise<L: Ledger>(alloc: Global, count: u32, t: &mut Steps<L>) -> Said {
     let root = Cid::of::<Sha256Hash>(Codec::Raw, b"hello world");
     pulls(alloc, &root, noisy(alloc, count), t).0

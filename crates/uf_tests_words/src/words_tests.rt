@@ -34,7 +34,7 @@ fn size(alloc: Global, bytes: &Option<Block>) -> Result<String, AllocError> {
     }
 }
 
-// A command with its options and arguments, each behind one `|`.
+// A command with its options and arguments, each after one `|`.
 fn spelled(alloc: Global, cmd: &Cmd) -> Result<String, AllocError> {
     match cmd {
         Cmd::Init { profile } => {
@@ -179,7 +179,7 @@ fn generated_word_lists(rt: HostRuntime) -> Result<(), Fail> {
     Ok(())
 }
 
-// The words of a line, each behind `|`, or `usage`.
+// The words of a line, each after `|`, or `usage`.
 fn told_of_line(alloc: Global, line: &str) -> Result<String, AllocError> {
     let words = match split_line(alloc, line.as_bytes()) {
         Ok(words) => words,

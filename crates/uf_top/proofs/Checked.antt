@@ -36,7 +36,9 @@ module _ (Says : List ℕ → Type 0) (X : List ℕ → List ℕ) (N : List ℕ 
       checks = record {
         opens = λ bytes left stood. opens-wanting (opened cid (car_read X most_of_proof bytes));
         tree = λ bytes p t height left is high behind. inr tt;
+        accepts = λ said bytes proof few left calm still. refl;
         front = λ bytes p t height left is high. inr (no-front _ a.held);
+        first = λ bytes p t height left is high. inr tt;
         some = ([], no-bytes a.held);
         shown = λ bytes left. tt;
         own = tt;

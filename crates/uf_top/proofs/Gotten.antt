@@ -1,5 +1,5 @@
 -- How what is at a path in a DAG is written to the host.
-use Rattle.std.proofs.Common.{◌≡◌, ◌⊎◌, ℕ, List, [], true, false, refl, sym, ap, subst, ◌∙◌, inl, inr, Option, Some, None, Result, Ok, Err}
+use Rattle.std.proofs.Common.{◌≡◌, ◌≢◌, ◌⊎◌, ℕ, List, [], ◌∷◌, true, false, refl, sym, ap, subst, ◌∙◌, inl, inr, Option, Some, None, Result, Ok, Err}
 use Rattle.std.specs.FinMap.{get}
 use Rattle.std.specs.Prelude.{IfErr, IfSome, IsSome}
 use Rattle.uf_cid.specs.Blocks.{Lookup}
@@ -50,7 +50,7 @@ use Rattle.uf_top.specs.HostTexts.{host_refusal}
 use Rattle.uf_top.specs.Hosted.{IsNoReading}
 use Rattle.uf_top.specs.Losing.{DoesOver}
 use Rattle.uf_top.specs.Naming.{StaysNamed, TellsBlocks}
-use Rattle.uf_top.specs.Reply.{Outside, World, gotten, in_silence, in_world, or_before, put_on_host, reply, where_room}
+use Rattle.uf_top.specs.Reply.{Outside, World, gotten, in_silence, in_world, or_before, put_on_host, reply, where_named, where_room}
 use Rattle.uf_top.specs.Working.{Does}
 use Rattle.uf_top.proofs.Cats.{below-fault, of-reading, own-wants, same-fault, tells-some, way-fault}
 use Rattle.uf_top.proofs.Grafted.{fault-tree}
@@ -59,6 +59,14 @@ use Rattle.uf_top.proofs.Printing.{after-nothing, nothing-printed, rises-still, 
 use Rattle.uf_top.proofs.Shows.{counts-still, not-rose}
 
 -- ---- a tree that is put on the host, or isn't
+
+trimmed-none : trimmed [] ≡ []
+unfolding trimmed
+trimmed-none = refl
+
+is-named : {A : Type 0} (path : List ℕ) (a : A) → trimmed path ≢ [] → where_named path a ≡ Ok a
+is-named [] a named = absurd (named trimmed-none)
+is-named (b ∷ path) a named = refl
 
 module _ (held : Lookup) (source : DagPath) (path : List ℕ) (tree : Tree) (leads : tree_at held source ≡ Ok tree) (there : HostTree) where
   then-put : gotten held source path there ≡ put_on_host path there tree
@@ -70,8 +78,8 @@ module _ (held : Lookup) (source : DagPath) (path : List ℕ) (tree : Tree) (lea
   put-where : (place : Option Place) (folder : Result HostTree Refusal) → get there (trimmed path) ≡ place → where_room path place (has_folder there (trimmed path)) after ≡ folder → gotten held source path there ≡ folder
   put-where place folder is found = then-put ∙ ap (λ (o : Option Place). where_room path o (has_folder there (trimmed path)) after) is ∙ found
 
-  put-there : HasRoom there (trimmed path) → gotten held source path there ≡ Ok after
-  put-there room = put-where None (Ok after) room.absent (ap (λ b. where_room path None b after) room.folder)
+  put-there : trimmed path ≢ [] → HasRoom there (trimmed path) → gotten held source path there ≡ Ok after
+  put-there named room = put-where None (Ok after) room.absent (ap (λ b. where_room path None b after) room.folder ∙ is-named path after named)
 
   lacks-there : LacksFolder there (trimmed path) → gotten held source path there ≡ Err (refusal.Host (rules.Absent path))
   lacks-there lacks = put-where None (Err (refusal.Host (rules.Absent path))) lacks.absent (ap (λ b. where_room path None b after) lacks.folder)
@@ -429,7 +437,7 @@ module _ (X : List ℕ → List ℕ) (N : List ℕ → ℕ) (source : DagPath) (
   got-said : (held : Lookup) (there : HostTree) → s.told ≡ Some there → IsGotten held source path s.told t.told → IsSaid held there (Ok tt)
   got-said held there tells g =
       let leads = ap (λ (r : Result Cid DagFault). r >>= λ c. denotes held usual_limits c) g.leads ∙ g.stands.denoted in
-      let says = put-there held source path g.stands.tree leads there (subst (λ o. IfSome o (λ there. HasRoom there (trimmed path))) tells g.stands.room) in
+      let says = put-there held source path g.stands.tree leads there g.stands.named (subst (λ o. IfSome o (λ there. HasRoom there (trimmed path))) tells g.stands.room) in
       record {
         ends = subst (λ (r : Result HostTree Refusal). EndsBy (in_silence r) (Ok tt) h h) (sym says) (refl, after-nothing h);
         after_it = g.stands.are_put ∙ ap (host_changed (with_places (places_of (trimmed path) g.stands.tree))) tells ∙ ap (λ (r : Result HostTree Refusal). Some (or_before there r)) (sym says);

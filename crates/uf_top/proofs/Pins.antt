@@ -1,6 +1,6 @@
 -- What commands on pins write, find and answer.
 use Rattle.std.proofs.Common.{◌≡◌, ◌≢◌, ◌⊎◌, ◌∙◌, ℕ, ◌+◌, ◌≤◌, ◌<◌, List, [], ◌∷◌, Bool, true, false, cond, Contains, arith, refl, sym, ap, subst, inl, inr, Option, Some, None, Result, Ok, Err}
-use Rattle.std.specs.Prelude.{nat_le, IfSome, IsSome, flat_map, ⊤}
+use Rattle.std.specs.Prelude.{nat_le, IfErr, IfSome, IsSome, flat_map, ⊤}
 use Rattle.std.proofs.lemmas.Bool.{le-leb}
 use Rattle.std.proofs.lemmas.Bool.Decides.{nat_tests}
 use Rattle.uf_cid.specs.Blocks.{Lookup}
@@ -11,7 +11,7 @@ use Rattle.uf_edge.specs.Streams as streams
 use Rattle.uf_lenient.specs.Answers.{IsStoreOwn}
 use Rattle.uf_mfs.specs.Standing.{Commits, Idle, LeavesHead, OnlySynced, Same as StaysSame, SavesThen, TellsHeld, Written, head_in}
 use Rattle.uf_mfs.specs.Touches.{IsBlaming}
-use Rattle.uf_pins.specs.Calls.{AddsPin, IsFailure, WritesLess, WritesMore, ListsPins, PinsBelow, RemovesPin, StopsUnder, Unpins, others, pin_fault}
+use Rattle.uf_pins.specs.Calls.{AddsPin, IsFailure, IsOfNote, IsOfRemoval, WritesLess, WritesMore, ListsPins, PinsBelow, RemovesPin, StopsUnder, Unpins, others, pin_fault}
 use Rattle.uf_pins.specs.Notes.{IsBadNote, IsReadAs, Lists}
 use Rattle.uf_pins.specs.Reach.{reach}
 use Rattle.uf_pins.specs.declared.fault.PinFault.{PinFault}
@@ -39,8 +39,8 @@ use Rattle.uf_tree.specs.Tree.{Entries}
 use Rattle.uf_tree.specs.declared.profile.Profile.{Profile}
 use Rattle.uf_walk.specs.Order.{OrderFault, OverMost, Missing, NotDagPb}
 use Rattle.uf_command.specs.Cars.{most_blocks}
-use Rattle.uf_command.specs.Kinds.{OfWrite, fault_behind, may_close, pin_kinds, refusal_kind}
-use Rattle.uf_command.specs.Natures.{MakesHead, MovesHead, NoWrites, NotesPins, SyncsBlocks, SyncsPins, WriteShape, command_writes, pin_writes}
+use Rattle.uf_command.specs.Kinds.{OfWrite, fault_behind, may_close, refusal_kind}
+use Rattle.uf_command.specs.Natures.{MakesHead, MovesHead, NoWrites, NotesPins, SyncsBlocks, SyncsPins, WriteShape, command_writes, pin_kinds, pin_writes, uses_pins}
 use Rattle.uf_command.specs.Pins.{cid_line, most_pins, pin_refusal, pinning, pins_told}
 use Rattle.uf_command.specs.Statuses.{ended, no_memory, status_of}
 use Rattle.uf_command.specs.Telling.{IsCut, Prints}
@@ -373,39 +373,87 @@ said-at ask ends (Some t) f held tells listed read = subst (λ (g : Lookup). Say
 abbrev Touches : (List ℕ → List ℕ) → (List ℕ → ℕ) → PinAsk → ℕ → ℕ → Type 0
 Touches X N ask was is = (p : Profile) (es : Entries) (bytes : List ℕ) (rows : ℕ → ℕ) → IfSome (command_touches X N rows bytes (Pin ask) p es) (λ most. is ≤ was + most)
 
+-- each call on pins reads the note
+pins-used : (ask : PinAsk) → uses_pins (Pin ask) ≡ true
+pins-used (pins.Add cid) = refl
+pins-used (pins.Remove cid) = refl
+pins-used pins.List = refl
+
+-- a fault that a call on pins may have
+abbrev pub IsOfAsk : PinAsk → PinFault → Type 0
+IsOfAsk (pins.Add cid) f = ⊤
+IsOfAsk (pins.Remove cid) f = IsOfRemoval f
+IsOfAsk pins.List f = IsOfNote f
+
+-- is of a kind with which it may end
+ask-kinds : (X : List ℕ → List ℕ) (A : Type 0) (ask : PinAsk) (f : PinFault) (a b : Seen) → IsOfAsk ask f → Shown X NoneIsBad (pin_fault {A = A} (Err f)) a b → may_close (pin_kinds ask) (refusal_kind (pin_refusal f)) ≡ true
+ask-kinds X A (pins.Add cid) pin.BadPins a b h s = refl
+ask-kinds X A (pins.Add cid) pin.TooManyPins a b h s = refl
+ask-kinds X A (pins.Add cid) (pin.NotPinned c) a b h s = refl
+ask-kinds X A (pins.Add cid) (pin.NotDagPb c why) a b h s = refl
+ask-kinds X A (pins.Add cid) pin.TooMany a b h s = refl
+ask-kinds X A (pins.Add cid) (pin.Store fault.Failed) a b h s = refl
+ask-kinds X A (pins.Add cid) (pin.Store (fault.Damaged c)) a b h s = refl
+ask-kinds X A (pins.Add cid) (pin.Store (fault.Missing c)) a b h s = refl
+ask-kinds X A (pins.Add cid) (pin.Store (fault.BadBlock c role)) a b h s = absurd s.bad
+ask-kinds X A (pins.Add cid) (pin.Store (fault.Clash c x y)) a b h s = refl
+ask-kinds X A (pins.Add cid) (pin.Store fault.Memory) a b h s = refl
+ask-kinds X A (pins.Remove cid) pin.BadPins a b h s = refl
+ask-kinds X A (pins.Remove cid) pin.TooManyPins a b h s = absurd h
+ask-kinds X A (pins.Remove cid) (pin.NotPinned c) a b h s = refl
+ask-kinds X A (pins.Remove cid) (pin.NotDagPb c why) a b h s = absurd h
+ask-kinds X A (pins.Remove cid) pin.TooMany a b h s = absurd h
+ask-kinds X A (pins.Remove cid) (pin.Store fault.Failed) a b h s = refl
+ask-kinds X A (pins.Remove cid) (pin.Store (fault.Damaged c)) a b h s = absurd h
+ask-kinds X A (pins.Remove cid) (pin.Store (fault.Missing c)) a b h s = absurd h
+ask-kinds X A (pins.Remove cid) (pin.Store (fault.BadBlock c role)) a b h s = absurd h
+ask-kinds X A (pins.Remove cid) (pin.Store (fault.Clash c x y)) a b h s = absurd h
+ask-kinds X A (pins.Remove cid) (pin.Store fault.Memory) a b h s = refl
+ask-kinds X A pins.List pin.BadPins a b h s = refl
+ask-kinds X A pins.List pin.TooManyPins a b h s = absurd h
+ask-kinds X A pins.List (pin.NotPinned c) a b h s = absurd h
+ask-kinds X A pins.List (pin.NotDagPb c why) a b h s = absurd h
+ask-kinds X A pins.List pin.TooMany a b h s = absurd h
+ask-kinds X A pins.List (pin.Store fault.Failed) a b h s = refl
+ask-kinds X A pins.List (pin.Store (fault.Damaged c)) a b h s = absurd h
+ask-kinds X A pins.List (pin.Store (fault.Missing c)) a b h s = absurd h
+ask-kinds X A pins.List (pin.Store (fault.BadBlock c role)) a b h s = absurd h
+ask-kinds X A pins.List (pin.Store (fault.Clash c x y)) a b h s = absurd h
+ask-kinds X A pins.List (pin.Store fault.Memory) a b h s = refl
+
 module _ (X : List ℕ → List ℕ) (N : List ℕ → ℕ) (ask : PinAsk) (a b : Seen) (l : streams.Told) (i : ℕ) (h : streams.Told) (w t0 t1 : ℕ) (side : HostSide) where
   -- what every fault of a call on pins has
   record IsFault (f : PinFault) : Type 0 where
     other : refusal_kind (pin_refusal f) ≢ OfWrite
-    kinds : may_close pin_kinds (refusal_kind (pin_refusal f)) ≡ true
+    kinds : may_close (pin_kinds ask) (refusal_kind (pin_refusal f)) ≡ true
     ready : IsReadyBy a.told (Pin ask) (pin_refusal f)
     rule : status_of (pin_refusal f) ≡ status.Rule → (r : DagRule) × (pin_refusal f ≡ refusal.Dag r)
     reads : Counts (is_read {A = Unit {0}} (Err (pin_refusal f))) i i
     shown : Shown X NoneIsBad (fault_behind (pin_refusal f)) a b
     blameless : IsBlaming (fault_behind (pin_refusal f)) → ⊥
 
-  fault-of : (A : Type 0) (f : PinFault) → Shown X NoneIsBad (pin_fault {A = A} (Err f)) a b → IsFault f
-  fault-of A pin.BadPins s = record { other = λ e. cc; kinds = refl; ready = tt; rule = λ e. absurd cc; reads = counts-still i; shown = s; blameless = λ x. x }
-  fault-of A pin.TooManyPins s = record { other = λ e. cc; kinds = refl; ready = tt; rule = λ e. (rule.TooManyPins, refl); reads = counts-still i; shown = s; blameless = λ x. x }
-  fault-of A (pin.NotPinned c) s = record { other = λ e. cc; kinds = refl; ready = tt; rule = λ e. (rule.NotPinned c, refl); reads = counts-still i; shown = s; blameless = λ x. x }
-  fault-of A (pin.NotDagPb c why) s = record { other = λ e. cc; kinds = refl; ready = tt; rule = λ e. (rule.NotUnixfs c why, refl); reads = counts-still i; shown = s; blameless = λ x. x }
-  fault-of A pin.TooMany s = record { other = λ e. cc; kinds = refl; ready = tt; rule = λ e. (rule.TooMany, refl); reads = counts-still i; shown = s; blameless = λ x. x }
-  fault-of A (pin.Store fault.Failed) s = record { other = λ e. cc; kinds = refl; ready = tt; rule = λ e. absurd cc; reads = counts-still i; shown = s; blameless = λ x. x }
-  fault-of A (pin.Store (fault.Damaged c)) s = record { other = λ e. cc; kinds = refl; ready = tt; rule = λ e. absurd cc; reads = counts-still i; shown = s; blameless = λ x. x }
-  fault-of A (pin.Store (fault.Missing c)) s = record { other = λ e. cc; kinds = refl; ready = tt; rule = λ e. absurd cc; reads = counts-still i; shown = s; blameless = λ x. x }
-  fault-of A (pin.Store (fault.BadBlock c role)) s = absurd s.bad
-  fault-of A (pin.Store (fault.Clash c x y)) s = record { other = λ e. cc; kinds = refl; ready = tt; rule = λ e. absurd cc; reads = counts-still i; shown = s; blameless = λ x. x }
-  fault-of A (pin.Store fault.Memory) s = record { other = λ e. cc; kinds = refl; ready = tt; rule = λ e. absurd cc; reads = counts-still i; shown = s; blameless = λ x. x }
+  fault-of : (A : Type 0) (f : PinFault) → may_close (pin_kinds ask) (refusal_kind (pin_refusal f)) ≡ true → Shown X NoneIsBad (pin_fault {A = A} (Err f)) a b → IsFault f
+  fault-of A pin.BadPins kind s = record { other = λ e. cc; kinds = kind; ready = tt; rule = λ e. absurd cc; reads = counts-still i; shown = s; blameless = λ x. x }
+  fault-of A pin.TooManyPins kind s = record { other = λ e. cc; kinds = kind; ready = tt; rule = λ e. (rule.TooManyPins, refl); reads = counts-still i; shown = s; blameless = λ x. x }
+  fault-of A (pin.NotPinned c) kind s = record { other = λ e. cc; kinds = kind; ready = tt; rule = λ e. (rule.NotPinned c, refl); reads = counts-still i; shown = s; blameless = λ x. x }
+  fault-of A (pin.NotDagPb c why) kind s = record { other = λ e. cc; kinds = kind; ready = tt; rule = λ e. (rule.NotUnixfs c why, refl); reads = counts-still i; shown = s; blameless = λ x. x }
+  fault-of A pin.TooMany kind s = record { other = λ e. cc; kinds = kind; ready = tt; rule = λ e. (rule.TooMany, refl); reads = counts-still i; shown = s; blameless = λ x. x }
+  fault-of A (pin.Store fault.Failed) kind s = record { other = λ e. cc; kinds = kind; ready = tt; rule = λ e. absurd cc; reads = counts-still i; shown = s; blameless = λ x. x }
+  fault-of A (pin.Store (fault.Damaged c)) kind s = record { other = λ e. cc; kinds = kind; ready = tt; rule = λ e. absurd cc; reads = counts-still i; shown = s; blameless = λ x. x }
+  fault-of A (pin.Store (fault.Missing c)) kind s = record { other = λ e. cc; kinds = kind; ready = tt; rule = λ e. absurd cc; reads = counts-still i; shown = s; blameless = λ x. x }
+  fault-of A (pin.Store (fault.BadBlock c role)) kind s = absurd s.bad
+  fault-of A (pin.Store (fault.Clash c x y)) kind s = record { other = λ e. cc; kinds = kind; ready = tt; rule = λ e. absurd cc; reads = counts-still i; shown = s; blameless = λ x. x }
+  fault-of A (pin.Store fault.Memory) kind s = record { other = λ e. cc; kinds = kind; ready = tt; rule = λ e. absurd cc; reads = counts-still i; shown = s; blameless = λ x. x }
 
   -- it is refused, and nothing is printed
-  pub pin-refused : (A : Type 0) (f : PinFault) → SaysOf ask (Err (pin_refusal f)) a.told → Shown X NoneIsBad (pin_fault {A = A} (Err f)) a b → WritesAs X (pin_writes ask) false a.told b.told → UnreadBy (Err (pin_refusal f)) a.told
+  pub pin-refused : (A : Type 0) (f : PinFault) → IsOfAsk ask f → SaysOf ask (Err (pin_refusal f)) a.told → Shown X NoneIsBad (pin_fault {A = A} (Err f)) a b → WritesAs X (pin_writes ask) false a.told b.told → UnreadBy (Err (pin_refusal f)) a.told
       → Touches X N ask t0 t1 → Does X N (Pin ask) (Err (pin_refusal f)) (around a l i h w t0 side) (around b l i h w t1 side)
-  pin-refused A f says cause writes unread touch =
-      let is = fault-of A f cause in
+  pin-refused A f may says cause writes unread touch =
+      let is = fault-of A f (ask-kinds X A ask f a b may cause) cause in
       let quiet = quiet-of (IsTextOf X N a.told b.told side.told (Ok (Pin ask)) l) false (pin_refusal f) is.other in
       record {
-        answers = λ world finds input calm. answered is world finds.stands calm.store (said-at ask (Err (pin_refusal f)) a.told says world.held finds.held world.pins (input.2 refl));
-        lost = λ p es rows held outside named tells heights input calm. over is p es held outside named calm.store (said-at ask (Err (pin_refusal f)) a.told says held tells outside.pins (input.2 refl));
+        answers = λ world finds input calm. answered is world finds.stands calm.store (said-at ask (Err (pin_refusal f)) a.told says world.held finds.held world.pins (input.2 (pins-used ask)));
+        lost = λ p es rows held outside named tells heights input calm. over is p es held outside named calm.store (said-at ask (Err (pin_refusal f)) a.told says held tells outside.pins (input.2 (pins-used ask)));
         unprinted = λ world after. absurd cc;
         prefix = λ world finds input room. nothing-printed (reply X N (Pin ask) world).ends h h refl;
         prints = quiet.prints h h refl;
@@ -453,18 +501,18 @@ module _ (X : List ℕ → List ℕ) (N : List ℕ → ℕ) (ask : PinAsk) (a b 
   pin-done text h2 v says calm writes left text_is sent counts touch = record {
     answers = λ world finds input quiet. inr (
       record {
-        ends = subst (λ x. EndsBy x (Ok tt) h h2) (sym (said world.held finds.held world.pins (input.2 refl))) (refl, sent);
+        ends = subst (λ x. EndsBy x (Ok tt) h h2) (sym (said world.held finds.held world.pins (input.2 (pins-used ask)))) (refl, sent);
         stands = some-still X a.told b.told good finds.stands;
         blocks = nil-held b.told (some-still X a.told b.told good finds.stands);
       },
       tt,
     );
     lost = λ p es rows held outside named tells heights input quiet. inr (record {
-      ends = subst (λ x. EndsBy x (Ok tt) h h2) (sym (said held tells outside.pins (input.2 refl))) (refl, sent);
+      ends = subst (λ x. EndsBy x (Ok tt) h h2) (sym (said held tells outside.pins (input.2 (pins-used ask)))) (refl, sent);
       stands = names-kept X N a.told b.told p es good head named;
     });
     unprinted = λ world after. absurd cc;
-    prefix = λ world finds input room. subst (λ x. PrintsPart x h h2) (sym (said world.held finds.held world.pins (input.2 refl))) (whole-printed text h h2 sent);
+    prefix = λ world finds input room. subst (λ x. PrintsPart x h h2) (sym (said world.held finds.held world.pins (input.2 (pins-used ask)))) (whole-printed text h h2 sent);
     prints = (text, text_is, sent);
     kinds = tt;
     ready = tt;
@@ -506,30 +554,30 @@ module _ (X : List ℕ → List ℕ) (N : List ℕ → ℕ) (a b : Seen) (l : st
       pin-done X N (pins.Add cid) a b l i h w t0 t1 side [] h w (λ t is listed read. added-said t listed read cid b.told (added t is)) cause writes (told-each (λ t. PinsBelow t most_blocks cid b.told) a.told added) refl (after-none h)
       (counts-still w) (λ p es bytes rows. tt)
   adds cid (Err f) added writes cause =
-      pin-refused X N (pins.Add cid) a b l i h w t0 t1 side (Unit {0}) f (λ t is listed read. added-unsaid t listed read cid b.told f (added t is)) cause writes
+      pin-refused X N (pins.Add cid) a b l i h w t0 t1 side (Unit {0}) f tt (λ t is listed read. added-unsaid t listed read cid b.told f (added t is)) cause writes
       (unread-by f a.told (λ t is bad. (subst (λ g. AddsPin t most_blocks cid (Err g) b.told) bad (added t is)).0)) (λ p es bytes rows. tt)
 
 module _ (X : List ℕ → List ℕ) (N : List ℕ → ℕ) (a b : Seen) (l : streams.Told) (i : ℕ) (h : streams.Told) (w t0 : ℕ) (side : HostSide) where
-  pub removes : (cid : Cid) (r : Result (Unit {0}) PinFault) → ((t : Contents) → a.told ≡ Some t → RemovesPin t cid r b.told) → WritesLess r a.told b.told → Shown X NoneIsBad (pin_fault r) a b
+  pub removes : (cid : Cid) (r : Result (Unit {0}) PinFault) → IfErr r IsOfRemoval → ((t : Contents) → a.told ≡ Some t → RemovesPin t cid r b.told) → WritesLess r a.told b.told → Shown X NoneIsBad (pin_fault r) a b
       → Does X N (Pin (pins.Remove cid)) (refused-as r) (around a l i h w t0 side) (around b l i h w t0 side)
-  removes cid (Ok done) removed writes cause =
+  removes cid (Ok done) may removed writes cause =
       pin-done X N (pins.Remove cid) a b l i h w t0 t0 side [] h w (λ t is listed read. removed-said t listed read cid b.told (removed t is)) cause writes (told-each (λ t. Unpins t cid b.told) a.told removed) refl (after-none h)
       (counts-still w) (λ p es bytes rows. omega arith)
-  removes cid (Err f) removed writes cause =
-      pin-refused X N (pins.Remove cid) a b l i h w t0 t0 side (Unit {0}) f (λ t is listed read. removed-unsaid t listed read cid b.told f (removed t is)) cause writes
+  removes cid (Err f) may removed writes cause =
+      pin-refused X N (pins.Remove cid) a b l i h w t0 t0 side (Unit {0}) f may (λ t is listed read. removed-unsaid t listed read cid b.told f (removed t is)) cause writes
       (unread-by f a.told (λ t is bad. (subst (λ g. RemovesPin t cid (Err g) b.told) bad (removed t is)).0)) (λ p es bytes rows. omega arith)
 
   -- the list isn't read, or there was no memory for its text
-  pub unlisted : (f : PinFault) → ((t : Contents) → a.told ≡ Some t → ListsPins t.notes.pins (Err f)) → Shown X NoneIsBad (pin_fault {A = List Cid} (Err f)) a b → b.told ≡ a.told
+  pub unlisted : (f : PinFault) → IsOfNote f → ((t : Contents) → a.told ≡ Some t → ListsPins t.notes.pins (Err f)) → Shown X NoneIsBad (pin_fault {A = List Cid} (Err f)) a b → b.told ≡ a.told
       → Does X N (Pin pins.List) (Err (pin_refusal f)) (around a l i h w t0 side) (around b l i h w t0 side)
-  unlisted f listed cause same =
-      pin-refused X N pins.List a b l i h w t0 t0 side (List Cid) f (λ t is listed' read. list-unsaid t listed' read f (listed t is)) cause same
+  unlisted f may listed cause same =
+      pin-refused X N pins.List a b l i h w t0 t0 side (List Cid) f may (λ t is listed' read. list-unsaid t listed' read f (listed t is)) cause same
       (unread-by f a.told (λ t is bad. subst (λ g. ListsPins t.notes.pins (Err g)) bad (listed t is))) (λ p es bytes rows. omega arith)
 
   module _ (x : List Cid) (lists : (t : Contents) → a.told ≡ Some t → ListsPins t.notes.pins (Ok x)) (calm : StaysCalm a b) (same : b.told ≡ a.told) where
     pub no-text : Does X N (Pin pins.List) (Err no_memory) (around a l i h w t0 side) (around b l i h w t0 side)
     no-text =
-        pin-refused X N pins.List a b l i h w t0 t0 side (List Cid) (pin.Store fault.Memory) (λ t is listed read. inl tt) (calm-memory a b calm) same tt (λ p es bytes rows. omega arith)
+        pin-refused X N pins.List a b l i h w t0 t0 side (List Cid) (pin.Store fault.Memory) tt (λ t is listed read. inl tt) (calm-memory a b calm) same tt (λ p es bytes rows. omega arith)
 
     abbrev text : List ℕ
     text = flat_map cid_line x

@@ -31,7 +31,7 @@ EndsDuring (Some a) None ws = ⊥
 EndsDuring None b ws = ⊥
 
 module _ (X : List ℕ → List ℕ) (N : List ℕ → ℕ) where
-  -- a line stands behind these of a batch: as one of those that were done, or as the one that ended it
+  -- a line stands after these of a batch: as one of those that were done, or as the one that ended it
   abbrev pub IsBehind : List (List ℕ) → List ℕ → List (List ℕ) → Ending X N → Type 0
   IsBehind front line lines ending = ((back : List (List ℕ)) × (lines ≡ front ++ line ∷ back))
       ⊎ ((lines ≡ front) × (ending ≡ AtLine line))

@@ -87,7 +87,7 @@ module _ (X : List ℕ → List ℕ) (N : List ℕ → ℕ) where
       pub touches : (rows : Profile → ℕ → ℕ) → HasHeights rows → IfSome (line_bound rows standing asked)
           (λ most. now.around.touches ≤ before.around.touches + most)
 
-    -- and its status was printed behind its text; the batch ends with it, or goes on
+    -- and its status was printed after its text; the batch ends with it, or goes on
     pub record LineReplied (line : List ℕ) (last : Bool) (given : Status) (standing next : Standing)
         (before now : Scene) : Type 0 where
       pub printed : SinkSide

@@ -1,5 +1,5 @@
 -- What `check` did, which reads a light proof from the input and needs no store.
-use Rattle.std.specs.Prelude.{◌≡◌, ◌⊎◌, ℕ, List, Bool, IfErr}
+use Rattle.std.specs.Prelude.{◌≡◌, ◌⊎◌, ◌≤◌, ℕ, List, length, Bool, IfErr}
 use Rattle.std.specs.declared.option.Option.TheVariants.{Some}
 use Rattle.std.specs.declared.result.Result.{Result}
 use Rattle.uf_car.specs.Exporting.{WritesSome}
@@ -8,10 +8,12 @@ use Rattle.uf_cid.specs.declared.cid.Cid.{Cid}
 use Rattle.uf_edge.specs.Counts.{Counts, Stood}
 use Rattle.uf_edge.specs.Streams.{AppendsPrefix}
 use Rattle.uf_edge.specs.Streams as streams
+use Rattle.uf_light.specs.Accepting.{IsProof}
 use Rattle.uf_light.specs.Answers.{ClashesWithPlan, CountsSink, IsOwnFault, OpensAs, file_needs, is_light_read}
 use Rattle.uf_light.specs.Answers.{is_light_sink, opened}
 use Rattle.uf_light.specs.Light.{HasHeight, light_says, said_bytes}
-use Rattle.uf_light.specs.Sections.{AnswersTree, ShownBySections}
+use Rattle.uf_light.specs.Sections.{AnswersTree, IsOkOrMemory, ShownBySections}
+use Rattle.uf_light.specs.Sending.{ComesFirst}
 use Rattle.uf_light.specs.Standing.{IsTreeAt}
 use Rattle.uf_light.specs.declared.fault.LightFault.{LightFault}
 use Rattle.uf_plain.specs.Edits.{at}
@@ -39,12 +41,19 @@ module _ (X : List ℕ → List ℕ) (N : List ℕ → ℕ) (absent : Bool) (roo
         → HasHeight p height (at 0 names t)
         → AnswersTree X (car_read X most_of_proof bytes).sections (blocks X N p t)
         (needs_at X N p (file_needs X p height) names t) (light_says absent names (at 0 names t)) answer held held_now
-    -- whatever fails, a front of the tree's answer was written and nothing else, unless two such blocks clash
+    -- the proof that `prove` writes of a tree with this root is accepted, where nothing fails meanwhile
+    pub accepts : (said bytes : List ℕ) → IsProof X N root names absent said bytes → length bytes ≤ most_of_proof
+        → left ≡ Some bytes → Stood was is → Stood was_sent is_sent → IsOkOrMemory answer
+    -- whatever fails, a prefix of the tree's answer was written and nothing else, unless two such blocks clash
     pub front : (bytes : List ℕ) (p : Profile) (t : Tree) (height : ℕ) → left ≡ Some bytes → IsTreeAt X N p root t
         → HasHeight p height (at 0 names t)
         → ClashesWithPlan X (blocks X N p t) (car_read X most_of_proof bytes).sections
         ⊎ AppendsPrefix (said_bytes (light_says absent names (at 0 names t))) held held_now
     pub some : WritesSome held held_now
+    -- all is read before anything is written, unless two such blocks clash
+    pub first : (bytes : List ℕ) (p : Profile) (t : Tree) (height : ℕ) → left ≡ Some bytes → IsTreeAt X N p root t
+        → HasHeight p height (at 0 names t)
+        → ClashesWithPlan X (blocks X N p t) (car_read X most_of_proof bytes).sections ⊎ ComesFirst answer held held_now
     -- whatever the CAR has: a lost block, a bad one and two that clash are shown by its sections, and no store fails
     pub shown : (bytes : List ℕ) → left ≡ Some bytes
         → ShownBySections X N root (car_read X most_of_proof bytes).sections answer

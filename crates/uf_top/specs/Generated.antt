@@ -47,7 +47,7 @@ generated_lines n seed root fresh =
     ++ line (codes "root ") (cid_text root.cid)
     ++ line (codes "fresh ") (cid_text fresh)
 
--- the edit of a step: a file is made; then each third is removed, and into the one behind it a byte is written
+-- the edit of a step: a file is made; then each third is removed, and into the one after it a byte is written
 abbrev pub step_edit : Step → (seed i : ℕ) → Option Edit
 step_edit Make seed i = Some (Write making (first_bytes seed i))
 step_edit Change seed i =

@@ -68,6 +68,6 @@ EndsLight names (Ok n) done = done ≡ Ok tt
 EndsLight names (Err fault) (Ok done) = ⊥
 EndsLight names (Err fault) (Err given) = IsLightTold names fault given
 
--- a light proof is read up to so many bytes
+-- a light proof is read up to this number of bytes
 abbrev pub most_of_proof : ℕ
 most_of_proof = 1073741824

@@ -36,7 +36,7 @@ module _ (Says : List ℕ → Type 0) (X : List ℕ → List ℕ) (N : List ℕ 
     pub wants : (t u : Contents) (bytes : List ℕ) → before.store.told ≡ Some t → before.left ≡ Some bytes
         → now.store.told ≡ Some u → OnOk done (AsksForUnheld most_pulled cid (held_at t) (held_at u)
         (due X most_pulled cid (held_at t) bytes).wants)
-    -- whatever failed, some bytes were written behind what was there
+    -- whatever failed, some bytes were written after what was there
     pub some : WritesBytes before.held now.held
     -- each fault has its cause, and none is a missing block
     pub cause : Shown X NoneIsBad (pull_fault done) before.store now.store
@@ -58,7 +58,7 @@ module _ (Says : List ℕ → Type 0) (X : List ℕ → List ℕ) (N : List ℕ 
     -- lines do; a failure leaves a prefix
     pub frames : (t : Contents) (bytes : List ℕ) → before.store.told ≡ Some t → before.left ≡ Some bytes
         → ServesLines (held_at t) (asked_in most_of_wants bytes) done before.held now.held
-    -- whatever failed, some bytes were written behind what was there
+    -- whatever failed, some bytes were written after what was there
     pub some : WritesBytes before.held now.held
     -- each fault has its cause, and none is a missing block
     pub cause : Shown X NoneIsBad (serve_fault done) before.store now.store

@@ -1,4 +1,4 @@
-// The commands that add the input as a file.
+//! The commands that add the input as a file.
 ghost use Rattle.std.specs.Prelude.{◌≡◌, ◌<◌, List, ℕ, false, true, None, IfOk, IfSome, IsTrue, OnErr, OnOk};
 ghost use Rattle.uf_edge.specs.Counts.{Counts};
 ghost use Rattle.uf_mfs.specs.Standing.{LeavesHead};

@@ -1,4 +1,4 @@
-// Laws of batches.
+//! Laws of batches.
 ghost use Rattle.std.specs.Prelude.{◌≡◌, ◌≢◌, ◌⊎◌, ◌+◌, ◌<◌, ◌≤◌, ◌^◌, ◌++◌, ℕ, IfSome, List, Some};
 ghost use Rattle.uf_edge.specs.Counts.{Stood};
 ghost use Rattle.uf_edge.specs.Host.{HostTree};
@@ -55,7 +55,7 @@ pub fn a_batch_passes_no_failure_over()
 
 /// Over a store that stands for a tree (or has no Head, or one that isn't read), and a host that tells, where nothing
 /// failed and no clash was met, each line of a batch that has a word is answered with the reply to what it asks for,
-/// over what the line before it left, or is out of memory, and its status is printed behind its text. The batch ends
+/// over what the line before it left, or is out of memory, and its status is printed after its text. The batch ends
 /// with its input, at a line with such a status, at what is too long, or is out of memory.
 pub fn a_batch_answers_line_by_line()
     ensures { (X : List ℕ → List ℕ) (N : List ℕ → ℕ) (host : HostTree) (most limit : ℕ) (given : TheStatus)

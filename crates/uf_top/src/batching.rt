@@ -1,4 +1,4 @@
-// The commands that the lines of an input ask for.
+//! The commands that the lines of an input ask for.
 ghost use Rattle.std.specs.Prelude.{◌<◌, [], length, None, Some};
 ghost use Rattle.uf_command.specs.Batches.{line_in};
 ghost use Rattle.uf_top.specs.Around.{around};

@@ -1,4 +1,4 @@
-// CARs written from what is held, read into the store, and compared with what is held.
+//! CARs written from what is held, read into the store, and compared with what is held.
 ghost use Rattle.std.specs.Prelude.{◌≡◌, IfErr, IfOk, List, OnErr, OnOk, flat_map, ℕ};
 ghost use Rattle.uf_edge.specs.Streams.{Told as Left};
 ghost use Rattle.uf_command.specs.Natures.{OfCarSections};

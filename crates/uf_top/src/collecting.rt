@@ -1,4 +1,4 @@
-// What neither the tree nor a pin leads to, let go.
+//! What neither the tree nor a pin leads to, let go.
 ghost use Rattle.std.specs.Prelude.{◌≡◌};
 ghost use Rattle.uf_top.specs.Collecting.{LetsGo, LetsGoAndPrints, ReadsRoots, RootsIn};
 ghost use Rattle.uf_top.specs.Intake.{ShownIn};

@@ -1,4 +1,4 @@
-// One command.
+//! One command.
 ghost use Rattle.std.specs.Prelude.{◌≡◌, ◌<◌, Bool, IfErr, IfOk, ℕ, true, false};
 ghost use Rattle.std.specs.declared.result.Result.{Result as TheResult};
 ghost use Rattle.std.specs.Prelude.{map, string_bytes};

@@ -1,4 +1,4 @@
-// What is found in DAGs of others. Files are sent to the output while their blocks are read.
+//! What is found in DAGs of others. Files are sent to the output while their blocks are read.
 ghost use Rattle.std.specs.Prelude.{◌<◌, ◌≤◌, ◌^◌, IfErr, IfSome, List, ℕ, length};
 ghost use Rattle.uf_edge.specs.Streams.{Told as Left};
 ghost use Rattle.uf_lenient.specs.Good.{ByGoodBlocks};

@@ -1,4 +1,4 @@
-// A large tree is generated, changed and built afresh, each on a store of its own.
+//! A large tree is generated, changed and built afresh, each on a store of its own.
 ghost use Rattle.std.specs.Prelude.{◌≡◌, ◌≤◌, ◌<◌, ℕ, false, IfErr, IfOk, IfSome, Ok};
 ghost use Rattle.std.specs.declared.result.Result.{Result as TheResult};
 ghost use Rattle.uf_edge.specs.Streams.{Told as Left};

@@ -1,4 +1,4 @@
-// What is found in DAGs of others, written to the host.
+//! What is found in DAGs of others, written to the host.
 ghost use Rattle.std.specs.Prelude.{◌<◌, ◌^◌, IfErr, IfSome, List, ℕ, length};
 ghost use Rattle.uf_edge.specs.Counts.{Counts};
 ghost use Rattle.uf_edge.specs.Streams.{Told as Left};

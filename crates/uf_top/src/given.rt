@@ -1,4 +1,4 @@
-// What is put into the tree that the Head names, and where.
+//! What is put into the tree that the Head names, and where.
 use uf_cid::Block;
 use uf_mfs::Mfs;
 use uf_plain::Spot;

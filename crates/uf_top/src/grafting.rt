@@ -1,4 +1,4 @@
-// Trees of DAGs of others, copied into the tree that the Head names.
+//! Trees of DAGs of others, copied into the tree that the Head names.
 ghost use Rattle.std.specs.Prelude.{◌≡◌, ◌<◌, ◌^◌, ℕ, Ok, Some, length};
 ghost use Rattle.uf_adopt.specs.Feeding.{HoldsGoodMap};
 ghost use Rattle.uf_cid.specs.Blocks.{Lookup};

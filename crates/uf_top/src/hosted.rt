@@ -1,4 +1,4 @@
-// Files and folders of the host added.
+//! Files and folders of the host added.
 ghost use Rattle.std.specs.Prelude.{◌≡◌, ℕ, false, true, None, IfErr, IfOk, IsTrue};
 ghost use Rattle.std.specs.List.{flat_map};
 ghost use Rattle.uf_edge.specs.Streams.{Told};

@@ -1,4 +1,4 @@
-// Laws of stores that stand, and of what a stop during a command leaves, by what the command writes.
+//! Laws of stores that stand, and of what a stop during a command leaves, by what the command writes.
 ghost use Rattle.std.specs.Prelude.{◌≡◌, ◌<◌, ◌^◌, ℕ, Bool, IsTrue, List, None, Ok, Some, false};
 ghost use Rattle.std.specs.declared.option.Option.{Option};
 ghost use Rattle.std.specs.declared.result.Result.{Result};

@@ -1,7 +1,8 @@
-// CIDs pinned, pinned no more, and listed.
-ghost use Rattle.std.specs.Prelude.{List, ℕ};
+//! CIDs pinned, pinned no more, and listed.
+ghost use Rattle.std.specs.Prelude.{◌≡◌, List, ℕ};
 ghost use Rattle.uf_edge.specs.Streams.{Told as Left};
 ghost use Rattle.uf_command.specs.declared.types.Command.TheVariants as commands;
+ghost use Rattle.uf_command.specs.declared.types.PinAsk.TheVariants as asks;
 ghost use Rattle.uf_top.specs.Around.{HostSide, around};
 ghost use Rattle.uf_top.specs.Working.{Does};
 
@@ -21,10 +22,11 @@ pub fn pin<S: Store, O: Sink, L: Ledger>(
     output: &mut O,
     touches: &mut Steps<L>,
 ) -> Result<(), Refusal>
-    ensures { (N : List ℕ → ℕ) (left : Left) (reads : ℕ) (side : HostSide)
+    ensures does { (N : List ℕ → ℕ) (left : Left) (reads : ℕ) (side : HostSide)
         → Does S.X.block32 N (commands.Pin ask.now) result
         (around (S.seen store.old) left reads (O.holds output.old) (O.faults output.old) touches.old side)
         (around (S.seen store.new) left reads (O.holds output.new) (O.faults output.new) touches.new side) }
+    ensures untouched { ask.now ≡ asks.List → touches.new ≡ touches.old }
 {
     match ask {
         PinAsk::Add { cid } => Ok(add_pin(alloc, store, cid, MOST_BLOCKS, touches)?),

@@ -1,4 +1,4 @@
-// The input, or what the host has at a path, put into the tree that the Head names.
+//! The input, or what the host has at a path, put into the tree that the Head names.
 ghost use Rattle.std.specs.Prelude.{◌≡◌, ◌<◌, ℕ, List, IsTrue, option_copied};
 ghost use Rattle.uf_edge.specs.Counts.{Counts};
 ghost use Rattle.uf_edge.specs.Streams.{Told};

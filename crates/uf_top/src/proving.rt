@@ -1,4 +1,4 @@
-// Light proofs: what is at a path, shown by the blocks that decide it.
+//! Light proofs: what is at a path, shown by the blocks that decide it.
 ghost use Rattle.std.specs.Prelude.{◌≡◌, ◌⊎◌, ◌<◌, ◌^◌, Bool, List, ℕ, length};
 ghost use Rattle.uf_edge.specs.Streams.{Told as Left};
 ghost use Rattle.uf_plain.specs.Rules.{rule_of};

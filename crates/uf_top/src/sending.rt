@@ -1,4 +1,4 @@
-// A file of the tree that the Head names, sent to the output while its blocks are read.
+//! A file of the tree that the Head names, sent to the output while its blocks are read.
 ghost use Rattle.std.specs.Prelude.{ℕ};
 ghost use Rattle.uf_edge.specs.Streams.{Told as Left};
 ghost use Rattle.uf_top.specs.Around.{HostSide, around};

@@ -1,4 +1,4 @@
-// The input written into a file of the tree that the Head names.
+//! The input written into a file of the tree that the Head names.
 ghost use Rattle.uf_edge.specs.Counts.{Counts};
 ghost use Rattle.uf_top.specs.Causes.{TakesAll, is_read};
 ghost use Rattle.uf_top.specs.Working.{Makes};

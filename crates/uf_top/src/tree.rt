@@ -1,4 +1,4 @@
-// The commands on the tree that the Head names.
+//! The commands on the tree that the Head names.
 ghost use Rattle.std.specs.Prelude.{ℕ, false, true, IsTrue};
 ghost use Rattle.uf_edge.specs.Streams.{Told as Left};
 ghost use Rattle.uf_mfs.specs.Standing.{IsMfs};

@@ -61,13 +61,16 @@ shard_dag node = record { links = map slot_link node.items; content = Some (shar
 abbrev pub shard_node_block : ShardNode → List ℕ
 shard_node_block node = shard_block node.meta node.items
 
--- the metadata of the shard of which the bytes are the message, whatever its slots are; refused are only those of no shard, unless
--- memory runs out
+-- the metadata of the shard of which the bytes are the message, whatever its slots are; refused are only those of no
+-- shard, unless memory runs out
 abbrev pub MetaOf : List ℕ → Result Meta StrictFault → Type 0
-MetaOf bytes (Ok meta) = (m : Meta) (items : List InSlot) → IsTrue (is_meta m) → bytes ≡ shard_spelling m items → m ≡ meta
-MetaOf bytes (Err f) = (f ≡ Memory) ⊎ ((m : Meta) (items : List InSlot) → IsTrue (is_meta m) → bytes ≢ shard_spelling m items)
+MetaOf bytes (Ok meta) = (m : Meta) (items : List InSlot) → IsTrue (is_meta m) → bytes ≡ shard_spelling m items
+    → m ≡ meta
+MetaOf bytes (Err f) = (f ≡ Memory) ⊎ ((m : Meta) (items : List InSlot) → IsTrue (is_meta m)
+    → bytes ≢ shard_spelling m items)
 
--- a reader gives the valid value that was written to something; it refuses exactly where there is none, unless memory runs out
+-- a reader gives the valid value that was written to something; it refuses exactly where there is none, unless memory
+-- runs out
 abbrev pub Reads : {V W : Type 0} → (V → Type 0) → (V → W) → W → Result V StrictFault → Type 0
 Reads valid written bytes (Ok v) = valid v × (bytes ≡ written v)
 Reads {V} valid written bytes (Err f) = (f ≡ Memory) ⊎ ((v : V) → valid v → bytes ≢ written v)

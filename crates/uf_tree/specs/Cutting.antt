@@ -1,7 +1,7 @@
 -- Lists that are cut into groups.
 use Rattle.std.specs.Prelude.{ℕ, zero, suc, pred, List, [], ◌∷◌, ◌++◌}
 
--- the groups one behind the other
+-- the groups one after the other
 abbrev pub joined : {A : Type 0} → List (List A) → List A
 joined [] = []
 joined (g ∷ gs) = g ++ joined gs

@@ -23,7 +23,10 @@ is_sharded p l = nat_lt p.threshold (weight l)
 module _ (X : List ℕ → List ℕ) (N : List ℕ → ℕ) where
   -- the plan of a directory in one block
   abbrev pub basic_dir : Meta → List Named → Plan
-  basic_dir m l = record { entry = node_entry X (dir_block m l) (map (λ (e : Named). e.1) l); blocks = (cid_of X DagPb (dir_block m l), dir_block m l) ∷ [] }
+  basic_dir m l = record {
+    entry = node_entry X (dir_block m l) (map (λ (e : Named). e.1) l);
+    blocks = (cid_of X DagPb (dir_block m l), dir_block m l) ∷ [];
+  }
 
   -- the entry and the own blocks of a directory; where two names share all slots it has no plan, and this stands in
   abbrev pub own_plan : Profile → Meta → List Named → Plan

@@ -17,7 +17,7 @@ pub record Plan : Type 0 where
   pub entry : Entry
   pub blocks : List Held
 
--- the first group of a list, which has room for so many more, and the groups of width behind it
+-- the first group of a list, which has room for so many more, and the groups of width after it
 abbrev pub split_from : {A : Type 0} → ℕ → ℕ → List A → List A × List (List A)
 split_from width room [] = ([], [])
 split_from width zero (x ∷ xs) = let rest = split_from width (pred width) xs in ([], (x ∷ rest.0) ∷ rest.1)
@@ -33,13 +33,17 @@ chunks p bytes = groups p.chunk bytes
 
 -- the node at a file's root over these parts: links without names, the sizes, and the file's metadata
 abbrev pub root_node : Meta → List Part → FileNode
-root_node meta parts = record { parts = map (λ m. link_of [] m.entry) parts; sizes = map (λ m. m.size) parts; meta = meta }
+root_node meta parts = record {
+  parts = map (λ m. link_of [] m.entry) parts;
+  sizes = map (λ m. m.size) parts;
+  meta = meta;
+}
 
 -- a node below the root, which carries no metadata
 abbrev pub node_over : List Part → FileNode
 node_over parts = root_node none parts
 
--- the blocks of a row in front of those of the rows above it
+-- the blocks of a row before those of the rows above it
 abbrev pub with_row : List Held → List Held × List Part → List Held × List Part
 with_row held above = (held ++ above.0, above.1)
 

@@ -28,7 +28,8 @@ unfoldable pub blocks_over : (List ℕ → List ℕ) → ℕ → ℕ → ℕ →
 unfolding part_over
 blocks_over X c w zero bytes = leaf_held X bytes ∷ []
 blocks_over X c w (suc k) bytes =
-    node_held X (map (part_over X c w k) (groups (span c w k) bytes)) ∷ flat_map (blocks_over X c w k) (groups (span c w k) bytes)
+    node_held X (map (part_over X c w k) (groups (span c w k) bytes))
+    ∷ flat_map (blocks_over X c w k) (groups (span c w k) bytes)
 
 -- the lowest height that a file may have: metadata stands in a node, also over a single piece
 abbrev pub lowest : Meta → ℕ
@@ -51,18 +52,22 @@ unfoldable pub whole_blocks : (List ℕ → List ℕ) → ℕ → ℕ → Meta �
 unfolding blocks_over
 whole_blocks X c w meta zero bytes = leaf_held X bytes ∷ []
 whole_blocks X c w meta (suc k) bytes =
-    root_held X meta (map (part_over X c w k) (groups (span c w k) bytes)) ∷ flat_map (blocks_over X c w k) (groups (span c w k) bytes)
+    root_held X meta (map (part_over X c w k) (groups (span c w k) bytes))
+    ∷ flat_map (blocks_over X c w k) (groups (span c w k) bytes)
 
 -- a row of the file is the first that is one group, and what stands over it is the plan
-pub record IsTop (X : List ℕ → List ℕ) (p : Profile) (meta : Meta) (bytes : List ℕ) (plan : Plan) (last : ℕ) : Type 0 where
+pub record IsTop (X : List ℕ → List ℕ) (p : Profile) (meta : Meta) (bytes : List ℕ) (plan : Plan)
+    (last : ℕ) : Type 0 where
   pub one : length (row X p bytes last) ≤ p.width
   pub first : (k : ℕ) → k < last → p.width < length (row X p bytes k)
   pub entry : plan.entry ≡ (top_part X meta (row X p bytes last)).entry
   pub blocks : plan.blocks ≡ rows_held X p bytes last ++ top_held X meta (row X p bytes last)
 
 -- the plan is that of the whole file of this height
-pub record IsRooted (X : List ℕ → List ℕ) (p : Profile) (meta : Meta) (bytes : List ℕ) (plan : Plan) (height : ℕ) : Type 0 where
+pub record IsRooted (X : List ℕ → List ℕ) (p : Profile) (meta : Meta) (bytes : List ℕ) (plan : Plan)
+    (height : ℕ) : Type 0 where
   pub least : IsFileHeight p.chunk p.width meta (length bytes) height
   pub entry : plan.entry ≡ (whole_part X p.chunk p.width meta height bytes).entry
   pub holds : (held : Lookup) → Holds held plan.blocks ↔ Holds held (whole_blocks X p.chunk p.width meta height bytes)
-  pub agrees : (held : Lookup) → Agrees held plan.blocks ↔ Agrees held (whole_blocks X p.chunk p.width meta height bytes)
+  pub agrees : (held : Lookup) → Agrees held plan.blocks
+      ↔ Agrees held (whole_blocks X p.chunk p.width meta height bytes)

@@ -20,25 +20,26 @@ use Rattle.uf_tree.specs.declared.head_fault.HeadFault.TheVariants as heads
 use Rattle.uf_tree.specs.declared.profile.Head.{Head}
 use Rattle.uf_tree.specs.Heads.{line}
 
--- the bytes up to the first line feed, and those behind it
+-- the bytes up to the first line feed, and those after it
 unfoldable pub line_at : List ℕ → Option (List ℕ × List ℕ)
 line_at [] = None
 line_at (b ∷ bytes) = if b == 10 then Some ([], bytes) else option_map (λ x. (b ∷ x.0, x.1)) (line_at bytes)
 
--- what stands behind a word in front
+-- what stands after a word in front
 unfoldable pub behind : List ℕ → List ℕ → Option (List ℕ)
 behind [] bytes = Some bytes
 behind (w ∷ word) [] = None
 behind (w ∷ word) (b ∷ bytes) = if w == b then behind word bytes else None
 
--- a line with its word in front: what stands behind the word, and the bytes behind the line
+-- a line with its word in front: what stands after the word, and the bytes after the line
 abbrev pub worded_at : List ℕ → List ℕ → Option (List ℕ × List ℕ)
 worded_at word bytes = option_and_then (λ l. option_map (λ text. (text, l.1)) (behind word l.0)) (line_at bytes)
 
 -- the number of which the text is the decimal spelling, where it is in its range
 unfoldable pub number_in : ℕ → ℕ → List ℕ → Option ℕ
 number_in low high text =
-    if is_utf8 text && bytes_eq (decimal (digits_value 10 text)) text && nat_le low (digits_value 10 text) && nat_le (digits_value 10 text) high
+    if is_utf8 text && bytes_eq (decimal (digits_value 10 text)) text && nat_le low (digits_value 10 text)
+    && nat_le (digits_value 10 text) high
     then Some (digits_value 10 text) else None
 
 abbrev pub is_node : Codec → Bool

@@ -9,7 +9,7 @@ use Rattle.uf_tree.specs.declared.profile.Head.{Head}
 use Rattle.uf_tree.specs.declared.profile.Profile.{Profile}
 use Rattle.uf_tree.specs.Profiles.{is_profile}
 
--- a line: a word, what stands behind it, and a line feed
+-- a line: a word, what stands after it, and a line feed
 abbrev pub line : List ℕ → List ℕ → List ℕ
 line word rest = word ++ rest ++ 10 ∷ []
 
@@ -26,7 +26,7 @@ text_in version p root =
 abbrev pub head_text : Profile → Cid → List ℕ
 head_text p root = text_in (codes "2") p root
 
--- a text that is read: of version 2, or of version 1, which has the same lines behind its first one
+-- a text that is read: of version 2, or of version 1, which has the same lines after its first one
 abbrev pub IsHeadText : List ℕ → Profile → Cid → Type 0
 IsHeadText text p root = (text ≡ head_text p root) ⊎ (text ≡ text_in (codes "1") p root)
 

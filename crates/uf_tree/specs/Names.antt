@@ -5,6 +5,10 @@ use Rattle.std.specs.Ordering.{nat_cmp}
 use Rattle.std.specs.Str.{is_utf8}
 use Rattle.std.specs.Cmp.Lexicographic.{slice_cmp}
 use Rattle.std.specs.declared.cmp.Ordering.{Ordering}
+use Rattle.uf_cid.specs.declared.bytes.StrictFault.{StrictFault}
+use Rattle.uf_cid.specs.declared.bytes.StrictFault.TheVariants as strict
+use Rattle.uf_tree.specs.declared.name.NameFault.{NameFault}
+use Rattle.uf_tree.specs.declared.name.NameFault.TheVariants.{Bad, Memory}
 
 -- names are in the order of their bytes
 abbrev pub names_cmp : List ℕ → List ℕ → Ordering
@@ -19,8 +23,14 @@ is_dots (a ∷ b ∷ c ∷ rest) = false
 
 -- a good name has 1 to 255 bytes, no `/` (47) and no NUL, and isn't `.` or `..`
 abbrev pub is_good : List ℕ → Bool
-is_good name = nat_le 1 (length name) && nat_le (length name) 255 && not (list_any (λ b. (b == 47) || (b == 0)) name) && not (is_dots name)
+is_good name = nat_le 1 (length name) && nat_le (length name) 255 && not (list_any (λ b. (b == 47) || (b == 0)) name)
+    && not (is_dots name)
 
 -- the bytes are a good name, which is text
 abbrev pub is_name : List ℕ → Bool
 is_name name = is_good name && is_utf8 name
+
+-- why bytes aren't read of which a name is refused for this
+abbrev pub name_refusal : NameFault → StrictFault
+name_refusal Bad = strict.NotCanonical
+name_refusal Memory = strict.Memory

@@ -30,7 +30,10 @@ capped n = min n (2 ^ 64 - 1)
 
 -- the entry of a node over these entries: the Tsize is its length and their Tsizes (IPLD DAG-PB, "Tsize")
 abbrev pub node_entry : (List ℕ → List ℕ) → List ℕ → List Entry → Entry
-node_entry X bytes below = record { cid = cid_of X DagPb bytes; tsize = capped (length bytes + sum_by (λ e. e.tsize) below) }
+node_entry X bytes below = record {
+  cid = cid_of X DagPb bytes;
+  tsize = capped (length bytes + sum_by (λ e. e.tsize) below);
+}
 
 -- the link of an entry under a name
 abbrev pub link_of : List ℕ → Entry → Link
@@ -51,7 +54,8 @@ file_message m sizes = record {
 
 -- the block of a file's node
 unfoldable pub file_block : FileNode → List ℕ
-file_block node = node_bytes (record { links = node.parts; content = Some (message_bytes (file_message node.meta node.sizes)) })
+file_block node =
+    node_bytes (record { links = node.parts; content = Some (message_bytes (file_message node.meta node.sizes)) })
 
 -- the message of a basic directory: its kind and its metadata
 abbrev pub dir_message : Meta → Message
@@ -68,7 +72,10 @@ dir_message m = record {
 
 -- the block of a basic directory: one link for each name
 unfoldable pub dir_block : Meta → List Named → List ℕ
-dir_block m l = node_bytes (record { links = map (λ (e : Named). link_of e.0 e.1) l; content = Some (message_bytes (dir_message m)) })
+dir_block m l = node_bytes (record {
+  links = map (λ (e : Named). link_of e.0 e.1) l;
+  content = Some (message_bytes (dir_message m));
+})
 
 -- a digit of a slot, in upper case
 abbrev pub hex_digit : ℕ → ℕ
@@ -83,7 +90,7 @@ abbrev pub item_entry : Item → Entry
 item_entry (Leaf name e) = e
 item_entry (Sub e) = e
 
--- what stands behind the digits in the name of a slot's link: the entry's name, or nothing for a shard below
+-- what stands after the digits in the name of a slot's link: the entry's name, or nothing for a shard below
 abbrev pub item_name : Item → List ℕ
 item_name (Leaf name e) = name
 item_name (Sub e) = []
@@ -124,4 +131,7 @@ shard_message m slots = record {
 
 -- the block of a shard: one link for each slot that has something
 unfoldable pub shard_block : Meta → List InSlot → List ℕ
-shard_block m items = node_bytes (record { links = map slot_link items; content = Some (message_bytes (shard_message m (map (λ (p : InSlot). p.0) items))) })
+shard_block m items = node_bytes (record {
+  links = map slot_link items;
+  content = Some (message_bytes (shard_message m (map (λ (p : InSlot). p.0) items)));
+})

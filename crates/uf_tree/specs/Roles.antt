@@ -46,7 +46,8 @@ pub record IsNodeBlock (bytes : List ℕ) : Type 0 where
   pub valid : IsFileNode node
   pub is : bytes ≡ file_block node
 
--- a block where a directory is looked for: a basic directory's, a shard's, or, where it needn't be a directory, a file's node
+-- a block where a directory is looked for: a basic directory's, a shard's, or, where it needn't be a directory, a
+-- file's node
 pub data IsCanonicalDirectory (profile : Option Profile) (required : Bool) (bytes : List ℕ) : Type 0 where
   Basic : IsBasicBlock profile bytes → IsCanonicalDirectory profile required bytes
   Sharded : IsShardBlock bytes → IsCanonicalDirectory profile required bytes
@@ -59,12 +60,12 @@ IsOnWay N way p = elim p.1 [
   | Sub e ↦ length way ≢ 7
 ]
 
--- a shard behind these slots may carry metadata: one of level 0 any, and one below it none
+-- a shard after these slots may carry metadata: one of level 0 any, and one below it none
 abbrev pub MayCarry : List ℕ → Meta → Type 0
 MayCarry [] meta = Unit {0}
 MayCarry (s ∷ way) meta = meta ≡ none
 
--- a block where a shard is looked for, behind a slot for each level above it
+-- a block where a shard is looked for, after a slot for each level above it
 pub record IsCanonicalShard (N : List ℕ → ℕ) (way : List ℕ) (bytes : List ℕ) : Type 0 where
   pub meta : Meta
   pub items : List InSlot
@@ -74,7 +75,8 @@ pub record IsCanonicalShard (N : List ℕ → ℕ) (way : List ℕ) (bytes : Lis
   pub on_way : AllByRecursion (IsOnWay N way) items
   pub is : bytes ≡ shard_block meta items
 
--- where a node of a file is: at the root, or below so many nodes, with the size that the node above declares, in a file of so many bytes
+-- where a node of a file is: at the root, or below so many nodes, with the size that the node above declares, in a
+-- file of n bytes
 pub data FilePlace : Type 0 where
   Root : FilePlace
   Below : (above declared whole : ℕ) → FilePlace
@@ -90,7 +92,7 @@ CarriesAt Root meta = Unit {0}
 CarriesAt (Below zero declared whole) meta = Unit {0}
 CarriesAt (Below (suc above) declared whole) meta = meta ≡ none
 
--- a file has this height, where the node at this place has this metadata and so many bytes below it
+-- a file has this height, where the node at this place has this metadata and n bytes below it
 abbrev pub IsHeightAt : Profile → FilePlace → Meta → ℕ → ℕ → Type 0
 IsHeightAt p Root meta total height = IsFileHeight p.chunk p.width meta total height
 IsHeightAt p (Below zero declared whole) meta total height = IsFileHeight p.chunk p.width meta whole height
@@ -101,7 +103,7 @@ abbrev pub IsDeclared : FilePlace → ℕ → Type 0
 IsDeclared Root total = Unit {0}
 IsDeclared (Below above declared whole) total = total ≡ declared
 
--- the sizes of the parts of a node over so many bytes, whose parts have this height
+-- the sizes of the parts of a node over n bytes, whose parts have this height
 abbrev pub part_sizes : Profile → ℕ → ℕ → List ℕ
 part_sizes p height total = map (λ (g : List ℕ). length g) (groups (span p.chunk p.width height) (replicate total 0))
 
@@ -110,8 +112,8 @@ abbrev pub part_codec : ℕ → Codec
 part_codec zero = Raw
 part_codec (suc height) = DagPb
 
--- what the balanced layout gives to a part of this height in a file of so many bytes: behind whole parts, as much as fits, or at
--- the end of the file what is left
+-- what the balanced layout gives to a part of this height in a file of n bytes: after whole parts, as much as
+-- fits, or at the end of the file what is left
 pub record IsSpanned (p : Profile) (height whole size : ℕ) : Type 0 where
   pub before : ℕ
   pub inside : before * span p.chunk p.width height < whole
@@ -130,7 +132,8 @@ pub record IsPlanned (place : FilePlace) (node : FileNode) (p : Profile) : Type 
   pub sizes : node.sizes ≡ part_sizes p below (sum node.sizes)
   pub codecs : AllByRecursion (λ (l : Link). l.cid.codec ≡ part_codec below) node.parts
 
--- a block where a node of a file is looked for: at most 22 on a path, with metadata at the root alone, of the declared size, and as the layout has it where a profile is known
+-- a block where a node of a file is looked for: at most 22 on a path, with metadata at the root alone, of the declared
+-- size, and as the layout has it where a profile is known
 pub record IsCanonicalFileNode (profile : Option Profile) (place : FilePlace) (bytes : List ℕ) : Type 0 where
   pub node : FileNode
   pub valid : IsFileNode node
@@ -140,7 +143,8 @@ pub record IsCanonicalFileNode (profile : Option Profile) (place : FilePlace) (b
   pub planned : WithSome profile (IsPlanned place node)
   pub is : bytes ≡ file_block node
 
--- a block where a leaf is looked for: of the size that the node above declares, and no longer than a piece where a profile is known
+-- a block where a leaf is looked for: of the size that the node above declares, and no longer than a piece where a
+-- profile is known
 pub record IsCanonicalLeaf (profile : Option Profile) (declared : Option ℕ) (bytes : List ℕ) : Type 0 where
   pub size : WithSome declared (λ n. length bytes ≡ n)
   pub short : WithSome profile (λ p. length bytes ≤ p.chunk)

@@ -20,9 +20,10 @@ abbrev pub root_over : (List ℕ → List ℕ) → ℕ → ℕ → Meta → ℕ 
 root_over X c w meta zero bytes = leaf_held X bytes
 root_over X c w meta (suc k) bytes = root_held X meta (map (part_over X c w k) (groups (span c w k) bytes))
 
--- the CID and the block are those at the root of the plan of this metadata and these bytes, which a file of this profile
--- may have
-pub record IsFileRoot (X : List ℕ → List ℕ) (p : Profile) (meta : Meta) (bytes : List ℕ) (cid : Cid) (root : Held) : Type 0 where
+-- the CID and the block are those at the root of the plan of this metadata and these bytes, which a file of this
+-- profile may have
+pub record IsFileRoot (X : List ℕ → List ℕ) (p : Profile) (meta : Meta) (bytes : List ℕ) (cid : Cid)
+    (root : Held) : Type 0 where
   pub profile : IsTrue (is_profile p)
   pub good : IsTrue (is_meta meta)
   pub are_bytes : IsBytes bytes
@@ -34,4 +35,5 @@ pub record IsFileRoot (X : List ℕ → List ℕ) (p : Profile) (meta : Meta) (b
 
 -- the block at the root of a directory's plan: the shard of level 0, or the one block
 abbrev pub dir_root : (List ℕ → List ℕ) → (List ℕ → ℕ) → Profile → Meta → List Named → Held
-dir_root X N p m l = if is_sharded p l then shard_held X N m (shard_items N (shard X N 6 none) 0 l) else (cid_of X DagPb (dir_block m l), dir_block m l)
+dir_root X N p m l = if is_sharded p l then shard_held X N m (shard_items N (shard X N 6 none) 0 l)
+    else (cid_of X DagPb (dir_block m l), dir_block m l)

@@ -22,12 +22,12 @@ unfoldable pub tabulate : {A : Type 0} → ℕ → ℕ → (ℕ → Option A) �
 tabulate zero a f = []
 tabulate (suc n) a f = cons_option (option_map (λ x. (a, x)) (f a)) (tabulate n (suc a) f)
 
--- what f gives at each of so many numbers from a on, one behind the other
+-- what f gives at each of so many numbers from a on, one after the other
 unfoldable pub flat_tabulate : {A : Type 0} → ℕ → ℕ → (ℕ → List A) → List A
 flat_tabulate zero a f = []
 flat_tabulate (suc n) a f = f a ++ flat_tabulate n (suc a) f
 
--- the first name that has a twin behind it by a test, and the first of its twins
+-- the first name that has a twin after it by a test, and the first of its twins
 unfoldable pub twins : (List ℕ → List ℕ → Bool) → List Named → Option (List ℕ × List ℕ)
 twins same [] = None
 twins same (e ∷ l) = elim (find (λ (f : Named). same e.0 f.0) l) [ None ↦ twins same l | Some f ↦ Some (e.0, f.0) ]
@@ -97,12 +97,15 @@ module _ (X : List ℕ → List ℕ) (N : List ℕ → ℕ) where
   -- the plan of the shard at level k: none of no pairs, and none where two names share all slots from level k on
   abbrev pub shard_plan : ℕ → Meta → List Named → Option Plan
   shard_plan k m [] = None
-  shard_plan k m (e ∷ l) = elim (twins (same_slots N (7 - k)) (e ∷ l)) [ None ↦ Some (shard (7 - k) m (e ∷ l)) | Some names ↦ None ]
+  shard_plan k m (e ∷ l) = elim (twins (same_slots N (7 - k)) (e ∷ l))
+      [ None ↦ Some (shard (7 - k) m (e ∷ l)) | Some names ↦ None ]
 
-  -- the blocks that decide a name in a shard: its own, and those of the shard below in the name's slot, where one stands
+  -- the blocks that decide a name in a shard: its own, and those of the shard below in the name's slot, where one
+  -- stands
   unfoldable pub shard_trail : ℕ → Meta → List Named → List ℕ → List Held
   unfolding shard
   shard_trail zero m l name = shard_held m (shard_items N no_shard 7 l) ∷ []
   shard_trail (suc left) m l name =
       let shared = bucket N (6 - left) (slot (N name) (6 - left)) l in
-      shard_held m (shard_items N (shard left none) (6 - left) l) ∷ where_shared shared (shard_trail left none shared name)
+      shard_held m (shard_items N (shard left none) (6 - left) l)
+      ∷ where_shared shared (shard_trail left none shared name)

@@ -17,8 +17,10 @@ abbrev pub IsHeadNote : Option (List ℕ) → Profile → Cid → Type 0
 IsHeadNote None p root = ⊥
 IsHeadNote (Some text) p root = IsHeadText text p root
 
--- the Head is a text of this profile and of the root of the directory of these entries, which has a plan, and all blocks of the plan are held
-pub record StandsFor (X : List ℕ → List ℕ) (N : List ℕ → ℕ) (held : Lookup) (head : Option (List ℕ)) (p : Profile) (es : Entries) : Type 0 where
+-- the Head is a text of this profile and of the root of the directory of these entries, which has a plan, and all
+-- blocks of the plan are held
+pub record StandsFor (X : List ℕ → List ℕ) (N : List ℕ → ℕ) (held : Lookup) (head : Option (List ℕ)) (p : Profile)
+    (es : Entries) : Type 0 where
   pub profile : IsTrue (is_profile p)
   pub tree : IsTrue (is_tree (Dir es))
   pub planned : refusal X N p (Dir es) ≡ None
@@ -27,7 +29,8 @@ pub record StandsFor (X : List ℕ → List ℕ) (N : List ℕ → ℕ) (held : 
 
 -- the text is that of no profile and no CID of a directory's block
 abbrev pub IsRefusedText : List ℕ → Type 0
-IsRefusedText text = (p : Profile) (c : Cid) → IsTrue (is_profile p) → IsCid c → c.codec ≡ DagPb → IsHeadText text p c → ⊥
+IsRefusedText text = (p : Profile) (c : Cid) → IsTrue (is_profile p) → IsCid c → c.codec ≡ DagPb → IsHeadText text p c
+    → ⊥
 
 -- there is no Head, or one that isn't read, or a profile and the entries of the root
 pub data Standing : Type 0 where

@@ -12,8 +12,8 @@ mutual
     File : Meta → List ℕ → Tree
     Dir : Entries → Tree
 
-  -- what a directory has: its metadata where it has no names, and names with the trees that they name, in the order of the
-  -- names
+  -- what a directory has: its metadata where it has no names, and names with the trees that they name, in the order of
+  -- the names
   pub data Entries : Type 0 where
     Nothing : Meta → Entries
     With : List ℕ → Tree → Entries → Entries
@@ -38,8 +38,8 @@ abbrev pub entries : Meta → List (List ℕ × Tree) → Entries
 entries m [] = Nothing m
 entries m (e ∷ es) = With e.0 e.1 (entries m es)
 
--- a file has bytes; in a directory the names are good and strictly rise in byte order, and so at each level; and metadata
--- is in its ranges
+-- a file has bytes; in a directory the names are good and strictly rise in byte order, and so at each level; and
+-- metadata is in its ranges
 unfoldable mutual
   pub is_tree : Tree → Bool
   is_tree (File m bytes) = is_meta m && list_all (λ b. nat_lt b 256) bytes
@@ -49,8 +49,8 @@ unfoldable mutual
   are_trees (Nothing m) = is_meta m
   are_trees (With name t es) = is_name name && is_tree t && are_trees es
 
--- a value of a tree, from the leaves up: of a file by its metadata and its bytes, of a directory by its metadata and its
--- members' names and values
+-- a value of a tree, from the leaves up: of a file by its metadata and its bytes, of a directory by its metadata and
+-- its members' names and values
 unfoldable mutual
   pub fold : {R : Type 0} → (Meta → List ℕ → R) → (Meta → List (List ℕ × R) → R) → Tree → R
   fold file dir (File m bytes) = file m bytes

@@ -1,4 +1,4 @@
-// The bitfield of a shard.
+//! The bitfield of a shard.
 ghost use Rattle.std.specs.Prelude.{◌≡◌, ◌==◌, ◌<◌, ◌≤◌, ◌*◌, ◌-◌, ℕ, IfOk, false, if◌then◌else◌, length, map, slice_index_or};
 ghost use Rattle.std.specs.List.{list_any, range_with_len};
 ghost use Rattle.uf_tree.specs.Bits.{byte_from};
@@ -20,7 +20,8 @@ pub fn bitfield(alloc: Global, items: &[Placed]) -> Result<Block, Memory>
 
 // Which slots the items have.
 fn slots_there(items: &[Placed]) -> [bool; 256]
-    ensures { (i : ℕ) → i < 256 → slice_index_or result i false ≡ list_any (λ s. s == i) (map (λ (p : InSlot). p.0) items.now) }
+    ensures { (i : ℕ) → i < 256 → slice_index_or result i false
+        ≡ list_any (λ s. s == i) (map (λ (p : InSlot). p.0) items.now) }
 {
     let mut there = [false; 256];
     for placed in items {

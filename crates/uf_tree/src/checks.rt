@@ -1,4 +1,4 @@
-// What blocks can spell, as tests.
+//! What blocks can spell, as tests.
 ghost use Rattle.std.specs.Prelude.{◌≡◌, ◌↔◌, ◌+◌, ◌<◌, ◌^◌, ◌≤◌, IsTrue, MatchOption, length, sum};
 ghost use Rattle.std.specs.List.{AllByRecursion};
 ghost use Rattle.std.specs.Ordering.{is_lt, nat_cmp};
@@ -67,8 +67,8 @@ fn is_before(a: &Pair, b: &Pair) -> bool
     }
 }
 
-/// Whether the items are those of a shard: one or more, in strictly ascending order of their slots. The rest holds of all
-/// items.
+/// Whether the items are those of a shard: one or more, in strictly ascending order of their slots. The rest holds of
+/// all items.
 pub fn is_shard(items: &Items) -> bool
     ensures { IsTrue result ↔ IsShard items.now }
 {
@@ -129,8 +129,8 @@ fn is_below(a: &Placed, b: &Placed) -> bool
     a.slot < b.slot
 }
 
-/// Whether the node is a file's: 1 to 1024 links without names, a size for each, together less than 2^63 bytes, and good
-/// metadata.
+/// Whether the node is a file's: 1 to 1024 links without names, a size for each, together less than 2^63 bytes, and
+/// good metadata.
 pub fn is_file_node(node: &FileNode) -> bool
     ensures { IsTrue result ↔ IsFileNode node.now }
 {

@@ -1,4 +1,4 @@
-// Copies of what directories and shards are made of.
+//! Copies of what directories and shards are made of.
 ghost use Rattle.std.specs.Prelude.{◌≡◌, IfOk};
 
 use crate::{Item, Pair, Placed};

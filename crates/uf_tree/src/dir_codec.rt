@@ -1,4 +1,4 @@
-// Basic directories, written and read.
+//! Basic directories, written and read.
 ghost use Rattle.std.specs.Prelude.{◌≡◌, ◌≤◌, ◌++◌, ◌↔◌, IfOk, IsTrue, MatchResult, Some, OnOk, length, map};
 ghost use Rattle.std.specs.List.{AllByRecursion};
 ghost use Rattle.uf_cid.specs.declared.bytes.StrictFault.TheVariants as strict;
@@ -13,7 +13,7 @@ ghost use Rattle.uf_varint.specs.Fields.{content_field};
 use crate::checks::is_dir_node;
 use crate::metas::metadata;
 use crate::spelling::{put_bytes, put_link};
-use crate::{DirNode, Entry, Meta, Name, NameFault, Pair, Pairs};
+use crate::{DirNode, Entry, Meta, Name, Pair, Pairs};
 use std::alloc::Global;
 use uf_cid::{Block, Memory, Sizes, StrictFault};
 use uf_dagpb::{Link, Node, decode_strict, links_are_valid};
@@ -60,7 +60,8 @@ fn dir_content(alloc: Global, meta: &Meta) -> Result<Block, Memory>
 // The node of the pairs' links and a content.
 #[tactic(auto, unfolding(uf_dagpb::specs::Spelling::node_bytes))]
 fn node_of(alloc: Global, pairs: &[Pair], content: &[u8]) -> Result<Block, Memory>
-    ensures { IfOk result (λ b. b ≡ node_bytes (record { links = map pair_link pairs.now; content = Some content.now })) }
+    ensures { IfOk result
+        (λ b. b ≡ node_bytes (record { links = map pair_link pairs.now; content = Some content.now })) }
 {
     let mut out = Block::with_capacity(alloc, room(pairs))?;
     put_pairs(&mut out, pairs)?;
@@ -100,31 +101,28 @@ fn put_pair(out: &mut Block, pair: &Pair) -> Result<(), Memory>
 pub fn read_dir_node(alloc: Global, bytes: &[u8]) -> Result<DirNode, StrictFault>
     ensures { Reads IsDirNode dir_node_block bytes.now result }
 {
-    match decode_strict(alloc, bytes) {
-        Err(fault) => Err(fault),
-        Ok(node) => dir_node_of(alloc, &node),
-    }
+    let node = decode_strict(alloc, bytes)?;
+    dir_node_of(alloc, &node)
 }
 
-// The directory of which this is the node.
-fn dir_node_of(alloc: Global, node: &Node) -> Result<DirNode, StrictFault>
+/// The directory of which this is the node.
+pub fn dir_node_of(alloc: Global, node: &Node) -> Result<DirNode, StrictFault>
     ensures { Reads IsDirNode dir_dag node.now result }
 {
     match &node.content {
         None => Err(StrictFault::NotCanonical),
-        Some(content) => match meta_of(alloc, content.as_slice()) {
-            Err(fault) => Err(fault),
-            Ok(meta) => match pairs_of_links(alloc, node.links.as_slice()) {
-                Err(fault) => Err(fault),
-                Ok(pairs) => whole(DirNode { pairs, meta }),
-            },
-        },
+        Some(content) => {
+            let meta = meta_of(alloc, content.as_slice())?;
+            let pairs = pairs_of_links(alloc, node.links.as_slice())?;
+            whole(DirNode { pairs, meta })
+        }
     }
 }
 
 // The node, where it is one.
 fn whole(node: DirNode) -> Result<DirNode, StrictFault>
-    ensures { MatchResult result (λ v. (v ≡ node) × IsDirNode node) (λ f. (f ≡ strict.NotCanonical) × (IsDirNode node → ⊥)) }
+    ensures { MatchResult result (λ v. (v ≡ node) × IsDirNode node)
+        (λ f. (f ≡ strict.NotCanonical) × (IsDirNode node → ⊥)) }
 {
     if is_dir_node(&node) {
         Ok(node)
@@ -137,16 +135,12 @@ fn whole(node: DirNode) -> Result<DirNode, StrictFault>
 fn meta_of(alloc: Global, content: &[u8]) -> Result<Meta, StrictFault>
     ensures { Reads (λ m. IsTrue (is_meta m)) dir_spelling content.now result }
 {
-    match decode_message(alloc, content) {
-        Err(fault) => Err(fault),
-        Ok(message) => {
-            let meta = metadata(&message);
-            if is_dir_message(&message) && meta.is_good() {
-                Ok(meta)
-            } else {
-                Err(StrictFault::NotCanonical)
-            }
-        }
+    let message = decode_message(alloc, content)?;
+    let meta = metadata(&message);
+    if is_dir_message(&message) && meta.is_good() {
+        Ok(meta)
+    } else {
+        Err(StrictFault::NotCanonical)
     }
 }
 
@@ -168,13 +162,8 @@ fn pairs_of_links(alloc: Global, links: &[Link]) -> Result<Pairs, StrictFault>
 {
     let mut pairs = Pairs::new(alloc);
     for link in links {
-        match pair_of(alloc, link) {
-            Err(fault) => return Err(fault),
-            Ok(pair) => match pairs.push(pair) {
-                Err(_) => return Err(StrictFault::Memory),
-                Ok(()) => {}
-            },
-        }
+        let pair = pair_of(alloc, link)?;
+        pairs.push(pair)?;
     }
     Ok(pairs)
 }
@@ -184,15 +173,12 @@ fn pair_of(alloc: Global, link: &Link) -> Result<Pair, StrictFault>
     ensures { Reads IsNamed pair_link link.now result }
 {
     links_are_valid(link);
-    match Name::parse(alloc, link.name.as_str()) {
-        Err(NameFault::Memory) => Err(StrictFault::Memory),
-        Err(NameFault::Bad) => Err(StrictFault::NotCanonical),
-        Ok(name) => Ok(Pair {
-            name,
-            entry: Entry {
-                cid: link.cid,
-                tsize: link.tsize,
-            },
-        }),
-    }
+    let name = Name::parse(alloc, link.name.as_str())?;
+    Ok(Pair {
+        name,
+        entry: Entry {
+            cid: link.cid,
+            tsize: link.tsize,
+        },
+    })
 }

@@ -1,4 +1,4 @@
-// Nodes of files, written and read.
+//! Nodes of files, written and read.
 ghost use Rattle.std.specs.Prelude.{◌≡◌, ◌<◌, ◌≤◌, ◌^◌, ◌++◌, ◌↔◌, ◌*◌, ◌+◌, Some, IfOk, IsTrue, MatchOption, MatchResult, OnOk, length, sum};
 ghost use Rattle.uf_cid.specs.declared.bytes.StrictFault.TheVariants as strict;
 ghost use Rattle.std.specs.List.{AllByRecursion};
@@ -88,33 +88,31 @@ fn put_part(out: &mut Block, link: &Link) -> Result<(), Memory>
 pub fn read_file_node(alloc: Global, bytes: &[u8]) -> Result<FileNode, StrictFault>
     ensures { Reads IsFileNode file_block bytes.now result }
 {
-    match decode_strict(alloc, bytes) {
-        Err(fault) => Err(fault),
-        Ok(node) => file_node_of(alloc, node),
-    }
+    file_node_of(alloc, decode_strict(alloc, bytes)?)
 }
 
-// The file's node of which this is the node.
-fn file_node_of(alloc: Global, node: Node) -> Result<FileNode, StrictFault>
+/// The file's node of which this is the node.
+pub fn file_node_of(alloc: Global, node: Node) -> Result<FileNode, StrictFault>
     ensures { Reads IsFileNode file_dag node result }
 {
     let Node { links, content } = node;
     match content {
         None => Err(StrictFault::NotCanonical),
-        Some(content) => match content_of(alloc, content.as_slice()) {
-            Err(fault) => Err(fault),
-            Ok((sizes, meta)) => whole(FileNode {
+        Some(content) => {
+            let (sizes, meta) = content_of(alloc, content.as_slice())?;
+            whole(FileNode {
                 parts: links,
                 sizes,
                 meta,
-            }),
-        },
+            })
+        }
     }
 }
 
 // The node, where it is one.
 fn whole(node: FileNode) -> Result<FileNode, StrictFault>
-    ensures { MatchResult result (λ v. (v ≡ node) × IsFileNode node) (λ f. (f ≡ strict.NotCanonical) × (IsFileNode node → ⊥)) }
+    ensures { MatchResult result (λ v. (v ≡ node) × IsFileNode node)
+        (λ f. (f ≡ strict.NotCanonical) × (IsFileNode node → ⊥)) }
 {
     if is_file_node(&node) {
         Ok(node)
@@ -127,30 +125,28 @@ fn whole(node: FileNode) -> Result<FileNode, StrictFault>
 fn content_of(alloc: Global, content: &[u8]) -> Result<(Sizes, Meta), StrictFault>
     ensures { Reads IsContent content_spelling content.now result }
 {
-    match decode_message(alloc, content) {
-        Err(fault) => Err(fault),
-        Ok(message) => {
-            let meta = metadata(&message);
-            if is_file_message(&message) {
-                let Message { blocksizes, .. } = message;
-                Ok((blocksizes, meta))
-            } else {
-                Err(StrictFault::NotCanonical)
-            }
-        }
+    let message = decode_message(alloc, content)?;
+    let meta = metadata(&message);
+    if is_file_message(&message) {
+        let Message { blocksizes, .. } = message;
+        Ok((blocksizes, meta))
+    } else {
+        Err(StrictFault::NotCanonical)
     }
 }
 
 // Whether the message is that of a file's node.
 fn is_file_message(message: &Message) -> bool
-    ensures { IsTrue result ↔ ((message.now ≡ file_message (meta_in message.now) message.now.blocksizes) × FitSizes message.now.blocksizes) }
+    ensures { IsTrue result ↔ ((message.now ≡ file_message (meta_in message.now) message.now.blocksizes)
+        × FitSizes message.now.blocksizes) }
 {
     is_bare_file(message) && is_total(message.filesize, message.blocksizes.as_slice())
 }
 
 // Whether the message is a file's, and has no part that a file's node hasn't.
 fn is_bare_file(message: &Message) -> bool
-    ensures { IsTrue result ↔ (message.now ≡ record (file_message (meta_in message.now) message.now.blocksizes) { filesize = message.now.filesize }) }
+    ensures { IsTrue result ↔ (message.now
+        ≡ record (file_message (meta_in message.now) message.now.blocksizes) { filesize = message.now.filesize }) }
 {
     message.kind == MsgKind::File
         && message.content.is_none()

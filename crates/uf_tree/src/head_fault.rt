@@ -1,4 +1,5 @@
-// Why a text is no Head.
+//! Why a text is no Head.
+use uf_cid::Memory;
 
 /// Why a text is no Head: the first fault from left to right, or there was no memory.
 #[derive(Clone, Copy, Debug, PartialEq, Eq)]
@@ -12,4 +13,15 @@ pub enum HeadFault {
     /// The CID isn't spelled so, or is none of a node.
     Root,
     Memory,
+}
+
+impl From<Memory> for HeadFault {
+    ghost use Rattle.std.specs.Prelude.{◌≡◌};
+    ghost use Rattle.uf_tree.specs.declared.head_fault.HeadFault.TheVariants as faults;
+
+    ghost from_gives = { λ _ fault. fault ≡ faults.Memory };
+
+    fn from(_: Memory) -> Self {
+        HeadFault::Memory
+    }
 }

@@ -1,4 +1,4 @@
-// The note Head, written and read (this project's own format).
+//! The note Head, written and read (this project's own format).
 ghost use Rattle.std.specs.Prelude.{◌≡◌, ℕ, List, ◌<◌, ◌≤◌, ◌^◌, ◌++◌, ◌↔◌, ◌&&◌, ◌⊎◌, IfErr, IfOk, IsTrue, OnOk, codes, length, nat_le, if◌then◌else◌};
 ghost use Rattle.std.specs.Fmt.{decimal};
 ghost use Rattle.std.specs.Option.{option_copied, option_map};
@@ -42,7 +42,7 @@ fn put_number(alloc: Global, out: &mut Block, word: &[u8], number: u32) -> Resul
     Ok(())
 }
 
-// A line: a word, what stands behind it, and a line feed.
+// A line: a word, what stands after it, and a line feed.
 fn put_line(out: &mut Block, word: &[u8], rest: &[u8]) -> Result<(), Memory>
     ensures { OnOk result (out.new ≡ out.old ++ the_line word.now rest.now) }
 {
@@ -52,34 +52,19 @@ fn put_line(out: &mut Block, word: &[u8], rest: &[u8]) -> Result<(), Memory>
     Ok(())
 }
 
-/// The Head that a text spells, or its first fault from left to right. The texts that are read are those that `head_text`
-/// writes, the same with version 1 in their first line, and no other.
+/// The Head that a text spells, or its first fault from left to right. The texts that are read are those that
+/// `head_text` writes, the same with version 1 in their first line, and no other.
 #[tactic(auto, unfolding(crate::specs::HeadReading::head_reads))]
 pub fn read_head(alloc: Global, bytes: &[u8]) -> Result<Head, HeadFault>
     ensures read { GivesHead (λ h. h) result (head_reads bytes.now) }
     ensures written { IfOk result (λ head. IsHeadOf bytes.now head) }
     ensures refused { IfErr result (λ fault. (fault ≡ head_faults.Memory) ⊎ IsRefusedText bytes.now) }
 {
-    let rest = match first_line(bytes) {
-        Err(fault) => return Err(fault),
-        Ok(rest) => rest,
-    };
-    let (chunk, rest) = match number_line(alloc, 2, b"chunk ", 1, 1048576, rest) {
-        Err(fault) => return Err(fault),
-        Ok(found) => found,
-    };
-    let (width, rest) = match number_line(alloc, 3, b"width ", 2, 1024, rest) {
-        Err(fault) => return Err(fault),
-        Ok(found) => found,
-    };
-    let (threshold, rest) = match number_line(alloc, 4, b"threshold ", 0, 1048576, rest) {
-        Err(fault) => return Err(fault),
-        Ok(found) => found,
-    };
-    let (root, rest) = match root_line(rest) {
-        Err(fault) => return Err(fault),
-        Ok(found) => found,
-    };
+    let rest = first_line(bytes)?;
+    let (chunk, rest) = number_line(alloc, 2, b"chunk ", 1, 1048576, rest)?;
+    let (width, rest) = number_line(alloc, 3, b"width ", 2, 1024, rest)?;
+    let (threshold, rest) = number_line(alloc, 4, b"threshold ", 0, 1048576, rest)?;
+    let (root, rest) = root_line(rest)?;
     if rest.is_empty() {
         Ok(Head {
             profile: Profile {
@@ -94,7 +79,7 @@ pub fn read_head(alloc: Global, bytes: &[u8]) -> Result<Head, HeadFault>
     }
 }
 
-// What stands behind the first line.
+// What stands after the first line.
 #[tactic(auto, unfolding(crate::specs::HeadReading::first_line))]
 fn first_line(bytes: &[u8]) -> Result<&[u8], HeadFault>
     ensures { GivesHead (λ x. x.now) result (first_line_of bytes.now) }
@@ -108,7 +93,7 @@ fn first_line(bytes: &[u8]) -> Result<&[u8], HeadFault>
     }
 }
 
-// The number of a line, and what stands behind the line.
+// The number of a line, and what stands after the line.
 #[tactic(auto, unfolding(crate::specs::HeadReading::number_line))]
 fn number_line<'a>(
     alloc: Global,
@@ -122,15 +107,14 @@ fn number_line<'a>(
 {
     match worded(word, bytes) {
         None => Err(HeadFault::Line(n)),
-        Some((text, rest)) => match number(alloc, low, high, text) {
-            Err(_) => Err(HeadFault::Memory),
-            Ok(None) => Err(HeadFault::Number(n)),
-            Ok(Some(number)) => Ok((number, rest)),
+        Some((text, rest)) => match number(alloc, low, high, text)? {
+            None => Err(HeadFault::Number(n)),
+            Some(number) => Ok((number, rest)),
         },
     }
 }
 
-// The root of line 5, and what stands behind the line.
+// The root of line 5, and what stands after the line.
 #[tactic(auto, unfolding(crate::specs::HeadReading::root_line))]
 fn root_line(bytes: &[u8]) -> Result<(Cid, &[u8]), HeadFault>
     ensures { GivesHead (λ x. (x.0, x.1.now)) result (root_line_of bytes.now) }
@@ -144,7 +128,7 @@ fn root_line(bytes: &[u8]) -> Result<(Cid, &[u8]), HeadFault>
     }
 }
 
-// What stands behind the word of a line, and behind the line.
+// What stands after the word of a line, and after the line.
 fn worded<'a>(word: &[u8], bytes: &'a [u8]) -> Option<(&'a [u8], &'a [u8])>
     ensures { option_map (λ x. (x.0.now, x.1.now)) result ≡ worded_at word.now bytes.now }
 {
@@ -157,7 +141,7 @@ fn worded<'a>(word: &[u8], bytes: &'a [u8]) -> Option<(&'a [u8], &'a [u8])>
     }
 }
 
-// The bytes up to the first line feed, and those behind it.
+// The bytes up to the first line feed, and those after it.
 fn line(bytes: &[u8]) -> Option<(&[u8], &[u8])>
     ensures { option_map (λ x. (x.0.now, x.1.now)) result ≡ line_at bytes.now }
 {
@@ -169,7 +153,7 @@ fn line(bytes: &[u8]) -> Option<(&[u8], &[u8])>
     None
 }
 
-// What stands behind a word in front.
+// What stands after a word in front.
 fn behind<'a>(word: &[u8], bytes: &'a [u8]) -> Option<&'a [u8]>
     ensures { option_copied result ≡ behind_word word.now bytes.now }
 {
@@ -246,7 +230,8 @@ fn is_node(codec: Codec) -> bool
 
 /// Each text of a Head is read as that Head.
 pub fn heads_are_read_again()
-    ensures { (text : List ℕ) (p : TheProfile) (c : TheCid) → IsTrue (is_profile p) → IsCid c → c.codec ≡ NodeCodec → IsHeadText text p c
+    ensures { (text : List ℕ) (p : TheProfile) (c : TheCid) → IsTrue (is_profile p) → IsCid c → c.codec ≡ NodeCodec
+        → IsHeadText text p c
         → head_reads text ≡ Ok (record { profile = p; root = c }) }
 {}
 

@@ -1,5 +1,5 @@
-//! The plain tree of files and directories, and the canonical blocks that stand for it: profile, names, entries, and what
-//! files, directories and shards are made of (UnixFS v1 over IPLD DAG-PB).
+//! The plain tree of files and directories, and the canonical blocks that stand for it: profile, names, entries, and
+//! what files, directories and shards are made of (UnixFS v1 over IPLD DAG-PB).
 #![tactic(auto)]
 
 mod bits;
@@ -20,11 +20,11 @@ mod shard_read;
 mod spelling;
 
 pub use checks::{is_dir_node, is_directory, is_file_node, is_shard, is_shard_node};
-pub use dir_codec::{dir_node, node_of_pairs, read_dir_node};
-pub use file_codec::{file_node, read_file_node};
+pub use dir_codec::{dir_node, dir_node_of, node_of_pairs, read_dir_node};
+pub use file_codec::{file_node, file_node_of, read_file_node};
 pub use head_fault::HeadFault;
 pub use heads::{head_text, heads_are_read_again, heads_are_their_texts, read_head};
-pub use limits::BadProfile;
+pub use limits::{BadProfile, MOST_TSIZE};
 pub use meta::Meta;
 pub use name::{Name, NameFault, Names};
 pub use nodes::{
@@ -32,6 +32,6 @@ pub use nodes::{
 };
 pub use profile::{Head, Profile};
 pub use shard_codec::{node_of_items, shard_node};
-pub use shard_read::read_shard_node;
+pub use shard_read::{read_shard_node, shard_node_of};
 
 pub mod laying;

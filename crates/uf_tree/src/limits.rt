@@ -1,17 +1,21 @@
-// Profiles that are accepted.
+//! Profiles that are accepted.
 ghost use Rattle.std.specs.Prelude.{◌≡◌, false, IsTrue, MatchResult};
 ghost use Rattle.uf_tree.specs.declared.profile.Profile.{Profile as TheProfile};
 ghost use Rattle.uf_tree.specs.Profiles.{is_profile, most_bytes as most_bytes_of, usual};
 
 use crate::Profile;
 
+/// How many bytes a directory may stand for, each block counted where it is linked: the greatest Tsize of a plan. Above it
+/// there is none (`TooBig`).
+pub const MOST_TSIZE: u64 = 1 << 62;
+
 /// The numbers are no profile: one of them is outside its range.
 #[derive(Clone, Copy, Debug, PartialEq, Eq)]
 pub struct BadProfile;
 
 impl Profile {
-    /// The profile of a greatest piece of 1 to 1048576 bytes, of 2 to 1024 links of a node and of a threshold of at most
-    /// 1048576.
+    /// The profile of a greatest piece of 1 to 1048576 bytes, of 2 to 1024 links of a node and of a threshold of at
+    /// most 1048576.
     pub fn new(chunk: u32, width: u32, threshold: u32) -> Result<Profile, BadProfile>
         ensures { let asked : TheProfile = record { chunk = chunk; width = width; threshold = threshold } in
             MatchResult result (λ p. (p ≡ asked) × IsTrue (is_profile asked)) (λ _. is_profile asked ≡ false) }

@@ -1,4 +1,4 @@
-// Metadata of files and directories.
+//! Metadata of files and directories.
 use uf_message::Mtime;
 
 /// A mode and an mtime, each where it is known (UnixFS v1, "Data Format").

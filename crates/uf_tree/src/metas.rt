@@ -1,4 +1,4 @@
-// Metadata that a tree may have.
+//! Metadata that a tree may have.
 ghost use Rattle.std.specs.Prelude.{◌≡◌};
 ghost use Rattle.uf_message.specs.declared.message.Message.{Message as TheMessage};
 ghost use Rattle.uf_tree.specs.Codecs.{meta_in};

@@ -1,4 +1,4 @@
-// The name of a member of a directory.
+//! The name of a member of a directory.
 ghost use Rattle.std.specs.Prelude.{◌≡◌, ◌⊎◌, ◌==◌, ◌||◌, false, IfOk, IsTrue, MatchResult};
 ghost use Rattle.std.specs.List.{list_any};
 ghost use Rattle.uf_tree.specs.Names.{is_dots, is_good, is_name};
@@ -6,7 +6,7 @@ ghost use Rattle.uf_tree.specs.declared.name.NameFault.TheVariants as name_fault
 
 use std::alloc::Global;
 use std::marker::Model;
-use uf_cid::{Copied, Memory, Seq, Text};
+use uf_cid::{Copied, Memory, Seq, StrictFault, Text};
 
 /// A good name: 1 to 255 bytes of UTF-8 without `/` and NUL, and neither `.` nor `..`. Contracts see its bytes.
 #[derive(Drop)]
@@ -36,6 +36,28 @@ pub enum NameFault {
     Memory,
 }
 
+impl From<Memory> for NameFault {
+    ghost from_gives = { λ _ fault. fault ≡ name_faults.Memory };
+
+    fn from(_: Memory) -> Self {
+        NameFault::Memory
+    }
+}
+
+impl From<NameFault> for StrictFault {
+    ghost use Rattle.std.specs.Prelude.{◌≡◌};
+    ghost use Rattle.uf_tree.specs.Names.{name_refusal};
+
+    ghost from_gives = { λ why fault. fault ≡ name_refusal why };
+
+    fn from(why: NameFault) -> Self {
+        match why {
+            NameFault::Bad => StrictFault::NotCanonical,
+            NameFault::Memory => StrictFault::Memory,
+        }
+    }
+}
+
 impl Name {
     /// The name that a text is.
     pub fn parse(alloc: Global, text: &str) -> Result<Name, NameFault>
@@ -47,10 +69,8 @@ impl Name {
             return Err(NameFault::Bad);
         }
         let mut own = Text::new(alloc);
-        match own.push_str(text) {
-            Ok(()) => Ok(Name { text: own }),
-            Err(_) => Err(NameFault::Memory),
-        }
+        own.push_str(text)?;
+        Ok(Name { text: own })
     }
 
     /// The text of the name.

@@ -1,11 +1,11 @@
-// What files, directories and shards are made of.
+//! What files, directories and shards are made of.
 use crate::{Meta, Name};
 use std::marker::Model;
 use uf_cid::{Cid, Seq, Sizes};
 use uf_dagpb::Links;
 
-/// What stands for a file or a directory in the node above it: its CID, and the number of bytes of its blocks, each counted
-/// where it is linked (the `Tsize` of IPLD DAG-PB).
+/// What stands for a file or a directory in the node above it: its CID, and the number of bytes of its blocks, each
+/// counted where it is linked (the `Tsize` of IPLD DAG-PB).
 #[derive(Clone, Copy, Debug, PartialEq, Eq)]
 pub struct Entry {
     pub cid: Cid,

@@ -1,4 +1,4 @@
-// Shards written.
+//! Shards written.
 ghost use Rattle.std.specs.Prelude.{◌≡◌, ◌<◌, ◌≤◌, ◌++◌, [], ◌∷◌, IfOk, IsTrue, OnOk, Some, length, map};
 ghost use Rattle.uf_dagpb.specs.Spelling.{link_bytes, links_bytes, node_bytes};
 ghost use Rattle.uf_tree.specs.Codecs.{shard_spelling};
@@ -14,7 +14,8 @@ use std::alloc::Global;
 use uf_cid::{Block, Memory, Sizes};
 use uf_message::{Message, MsgKind, encode};
 
-/// The block of a shard (UnixFS v1, "HAMTDirectory"). Its condition is that the node is one, which `is_shard_node` tests.
+/// The block of a shard (UnixFS v1, "HAMTDirectory"). Its condition is that the node is one, which `is_shard_node`
+/// tests.
 pub fn shard_node(alloc: Global, node: &ShardNode) -> Result<Block, Memory>
     requires { IsShardNode node.now }
     ensures block { IfOk result (λ b. b ≡ shard_block node.now.meta node.now.items) }
@@ -54,7 +55,8 @@ pub fn shard_content(alloc: Global, items: &[Placed], meta: &Meta) -> Result<Blo
 // The node of the items' links and a content.
 #[tactic(auto, unfolding(uf_dagpb::specs::Spelling::node_bytes))]
 fn node_of(alloc: Global, items: &[Placed], content: &[u8]) -> Result<Block, Memory>
-    ensures { IfOk result (λ b. b ≡ node_bytes (record { links = map slot_link items.now; content = Some content.now })) }
+    ensures { IfOk result
+        (λ b. b ≡ node_bytes (record { links = map slot_link items.now; content = Some content.now })) }
 {
     let mut out = Block::with_capacity(alloc, room(items))?;
     put_items(&mut out, items)?;

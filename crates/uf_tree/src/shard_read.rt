@@ -1,4 +1,4 @@
-// Shards read.
+//! Shards read.
 ghost use Rattle.std.specs.Prelude.{◌≡◌, ◌≢◌, ◌⊎◌, ◌↔◌, ◌<◌, ◌∷◌, [], IfOk, IsTrue, List, MatchOption, MatchResult, Some, ℕ, map};
 ghost use Rattle.std.specs.List.{AllByRecursion};
 ghost use Rattle.uf_cid.specs.declared.bytes.StrictFault.TheVariants as strict;
@@ -10,7 +10,7 @@ ghost use Rattle.uf_tree.specs.declared.nodes.Item.{Item as TheItem};
 use crate::checks::is_shard_node;
 use crate::metas::metadata;
 use crate::shard_codec::shard_content;
-use crate::{Entry, Item, Items, Meta, Name, NameFault, Placed, ShardNode};
+use crate::{Entry, Item, Items, Meta, Name, Placed, ShardNode};
 use std::alloc::Global;
 use uf_cid::{Block, Memory, StrictFault};
 use uf_dagpb::{Link, Node, decode_strict, links_are_valid};
@@ -20,25 +20,21 @@ use uf_message::decode_strict as decode_message;
 pub fn read_shard_node(alloc: Global, bytes: &[u8]) -> Result<ShardNode, StrictFault>
     ensures { Reads IsShardNode shard_node_block bytes.now result }
 {
-    match decode_strict(alloc, bytes) {
-        Err(fault) => Err(fault),
-        Ok(node) => shard_node_of(alloc, &node),
-    }
+    let node = decode_strict(alloc, bytes)?;
+    shard_node_of(alloc, &node)
 }
 
-// The shard of which this is the node.
-fn shard_node_of(alloc: Global, node: &Node) -> Result<ShardNode, StrictFault>
+/// The shard of which this is the node.
+pub fn shard_node_of(alloc: Global, node: &Node) -> Result<ShardNode, StrictFault>
     ensures { Reads IsShardNode shard_dag node.now result }
 {
     match &node.content {
         None => Err(StrictFault::NotCanonical),
-        Some(content) => match meta_of(alloc, content.as_slice()) {
-            Err(fault) => Err(fault),
-            Ok(meta) => match items_of_links(alloc, node.links.as_slice()) {
-                Err(fault) => Err(fault),
-                Ok(items) => whole(alloc, ShardNode { items, meta }, content.as_slice()),
-            },
-        },
+        Some(content) => {
+            let meta = meta_of(alloc, content.as_slice())?;
+            let items = items_of_links(alloc, node.links.as_slice())?;
+            whole(alloc, ShardNode { items, meta }, content.as_slice())
+        }
     }
 }
 
@@ -46,10 +42,8 @@ fn shard_node_of(alloc: Global, node: &Node) -> Result<ShardNode, StrictFault>
 fn meta_of(alloc: Global, content: &[u8]) -> Result<Meta, StrictFault>
     ensures { MetaOf content.now result }
 {
-    match decode_message(alloc, content) {
-        Err(fault) => Err(fault),
-        Ok(message) => Ok(metadata(&message)),
-    }
+    let message = decode_message(alloc, content)?;
+    Ok(metadata(&message))
 }
 
 // The node, where it is one and this is its content.
@@ -61,15 +55,11 @@ fn whole(alloc: Global, node: ShardNode, content: &[u8]) -> Result<ShardNode, St
     if !is_shard_node(&node) {
         return Err(StrictFault::NotCanonical);
     }
-    match shard_content(alloc, node.items.as_slice(), &node.meta) {
-        Err(_) => Err(StrictFault::Memory),
-        Ok(spelled) => {
-            if content == spelled.as_slice() {
-                Ok(node)
-            } else {
-                Err(StrictFault::NotCanonical)
-            }
-        }
+    let spelled = shard_content(alloc, node.items.as_slice(), &node.meta)?;
+    if content == spelled.as_slice() {
+        Ok(node)
+    } else {
+        Err(StrictFault::NotCanonical)
     }
 }
 
@@ -79,13 +69,8 @@ fn items_of_links(alloc: Global, links: &[Link]) -> Result<Items, StrictFault>
 {
     let mut items = Items::new(alloc);
     for link in links {
-        match placed_of(alloc, link) {
-            Err(fault) => return Err(fault),
-            Ok(placed) => match items.push(placed) {
-                Err(_) => return Err(StrictFault::Memory),
-                Ok(()) => {}
-            },
-        }
+        let placed = placed_of(alloc, link)?;
+        items.push(placed)?;
     }
     Ok(items)
 }
@@ -102,10 +87,10 @@ fn placed_of(alloc: Global, link: &Link) -> Result<Placed, StrictFault>
     match link.name.as_str().as_bytes() {
         [a, b, rest @ ..] => match slot_of(*a, *b) {
             None => Err(StrictFault::NotCanonical),
-            Some(slot) => match item_of(alloc, rest, entry) {
-                Err(fault) => Err(fault),
-                Ok(item) => Ok(Placed { slot, item }),
-            },
+            Some(slot) => {
+                let item = item_of(alloc, rest, entry)?;
+                Ok(Placed { slot, item })
+            }
         },
         _ => Err(StrictFault::NotCanonical),
     }
@@ -123,11 +108,10 @@ fn item_of(alloc: Global, name: &[u8], entry: Entry) -> Result<Item, StrictFault
     }
     match str::from_utf8(name) {
         Err(_) => Err(StrictFault::NotCanonical),
-        Ok(text) => match Name::parse(alloc, text) {
-            Err(NameFault::Memory) => Err(StrictFault::Memory),
-            Err(NameFault::Bad) => Err(StrictFault::NotCanonical),
-            Ok(name) => Ok(Item::Leaf(name, entry)),
-        },
+        Ok(text) => {
+            let name = Name::parse(alloc, text)?;
+            Ok(Item::Leaf(name, entry))
+        }
     }
 }
 

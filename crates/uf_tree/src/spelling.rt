@@ -1,4 +1,4 @@
-// The parts of a node, spelled straight from what they are made of.
+//! The parts of a node, spelled straight from what they are made of.
 ghost use Rattle.std.specs.Prelude.{◌≡◌, ◌+◌, ◌≤◌, ◌++◌, OnOk, length};
 ghost use Rattle.uf_dagpb.specs.Spelling.{link_bytes};
 ghost use Rattle.uf_tree.specs.Nodes.{link_of};
@@ -11,7 +11,8 @@ use uf_varint::{NumberField, width};
 // A link under a name of two pieces, with its key and its length.
 pub fn put_link(out: &mut Block, front: &[u8], name: &[u8], entry: &Entry) -> Result<(), Memory>
     requires { length front.now + length name.now ≤ 257 }
-    ensures { OnOk result (out.new ≡ out.old ++ content_field 0x12 (link_bytes (link_of (front.now ++ name.now) entry.now))) }
+    ensures { OnOk result (out.new ≡ out.old
+        ++ content_field 0x12 (link_bytes (link_of (front.now ++ name.now) entry.now))) }
 {
     out.extend(NumberField::new(0x12, link_len(front, name, entry) as u64).as_slice())?;
     put_bytes(out, 0x0a, &entry.cid.to_binary())?;

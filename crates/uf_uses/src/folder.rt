@@ -1,4 +1,4 @@
-// A tree with one folder.
+//! A tree with one folder.
 ghost use Rattle.std.specs.Prelude.{◌≡◌, ◌<◌, ◌-◌, ◌^◌, IfOk, IfSome, None};
 ghost use Rattle.uf_uses.specs.Folder.{IsRootWith};
 

@@ -1,5 +1,5 @@
--- How the fields of a message are spelled and cut (Protocol Buffers, "Encoding", "Message Structure"): a key, and then a
--- number or bytes. A key is 8 times the number of the field, and its wire type.
+-- How the fields of a message are spelled and cut (Protocol Buffers, "Encoding", "Message Structure"): a key, and then
+-- a number or bytes. A key is 8 times the number of the field, and its wire type.
 use Rattle.std.specs.Prelude.{◌≡◌, ℕ, zero, suc, ◌%◌, List, [], ◌∷◌, ◌++◌, length, take, drop, ◌==◌, nat_lt, if◌then◌else◌}
 use Rattle.std.specs.declared.option.Option.{Option}
 use Rattle.std.specs.declared.option.Option.TheVariants.{None, Some}
@@ -30,7 +30,7 @@ abbrev pub ◌>>=◌ : {A B E : Type 0} → Result A E → (A → Result B E) �
 (Ok x) >>= f = f x
 (Err e) >>= f = Err e
 
--- what a field has behind its key
+-- what a field has after its key
 pub data Content : Type 0 where
   Number : ℕ → Content
   Bytes : List ℕ → Content
@@ -40,21 +40,21 @@ pub data Field : Type 0 where
   NoKey : CutFault → Field
   Keyed : ℕ → Result Content CutFault → Field
 
--- a number that was read, and the bytes behind it
+-- a number that was read, and the bytes after it
 abbrev pub number_after : List ℕ → Var → Result (ℕ × List ℕ) CutFault
 number_after bytes (Value n used) = Ok (n, drop used bytes)
 number_after bytes Short = Err Truncated
 number_after bytes Bad = Err Varint
 
--- the number at the front, and the bytes behind it
+-- the number at the front, and the bytes after it
 unfoldable pub number_at : List ℕ → Result (ℕ × List ℕ) CutFault
 number_at bytes = number_after bytes (read_proto_of bytes)
 
--- so many bytes at the front, and the bytes behind them
+-- n bytes at the front, and the bytes after them
 unfoldable pub piece_at : ℕ → List ℕ → Result (List ℕ × List ℕ) CutFault
 piece_at n bytes = if nat_lt (length bytes) n then Err Truncated else Ok (take n bytes, drop n bytes)
 
--- a number, so many bytes, and the bytes behind them
+-- a number, n bytes, and the bytes after them
 unfoldable pub bytes_at : List ℕ → Result (List ℕ × List ℕ) CutFault
 bytes_at bytes = number_at bytes >>= λ n. piece_at n.0 n.1
 
@@ -64,7 +64,7 @@ as_number n = Ok (Number n.0, n.1)
 abbrev pub as_bytes : List ℕ × List ℕ → Result (Content × List ℕ) CutFault
 as_bytes b = Ok (Bytes b.0, b.1)
 
--- the content of a field of a wire type, and the bytes behind it: 0 is a varint, 1 has eight bytes, 2 has as many as a
+-- the content of a field of a wire type, and the bytes after it: 0 is a varint, 1 has eight bytes, 2 has as many as a
 -- varint says, and 5 has four
 unfoldable pub content_at : ℕ → List ℕ → Result (Content × List ℕ) CutFault
 content_at wire bytes =
@@ -74,7 +74,7 @@ content_at wire bytes =
     else if wire == 5 then (piece_at 4 bytes >>= as_bytes)
     else Err Wire
 
--- a key with what stands behind it, and the later fields where that can be cut
+-- a key with what stands after it, and the later fields where that can be cut
 abbrev pub field_then : ℕ → (List ℕ → List Field) → Result (Content × List ℕ) CutFault → List Field
 field_then key later (Ok c) = Keyed key (Ok c.0) ∷ later c.1
 field_then key later (Err f) = Keyed key (Err f) ∷ []
@@ -89,12 +89,13 @@ fields_within zero bytes = []
 fields_within (suc n) [] = []
 fields_within (suc n) (b ∷ bytes) = key_then (λ rest. fields_within n rest) (number_at (b ∷ bytes))
 
--- the fields of the bytes up to the first that can't be cut; each has a byte or more, so there are at most as many as bytes
+-- the fields of the bytes up to the first that can't be cut; each has a byte or more, so there are at most as many as
+-- bytes
 unfoldable pub fields : List ℕ → List Field
 unfolding fields_within
 fields bytes = fields_within (length bytes) bytes
 
--- the content was cut, and these bytes stand behind it
+-- the content was cut, and these bytes stand after it
 abbrev pub SkipsTo : Result (Content × List ℕ) CutFault → List ℕ → Type 0
 SkipsTo (Ok c) rest = c.1 ≡ rest
 SkipsTo (Err f) rest = ⊥

@@ -1,5 +1,5 @@
--- Varints (multiformats unsigned-varint; Protocol Buffers, "Encoding", "Base 128 Varints"): seven bits a byte, the least
--- significant group first, and the high bit set in each byte but the last.
+-- Varints (multiformats unsigned-varint; Protocol Buffers, "Encoding", "Base 128 Varints"): seven bits a byte, the
+-- least significant group first, and the high bit set in each byte but the last.
 use Rattle.std.specs.Prelude.{ℕ, zero, suc, ◌+◌, ◌-◌, ◌*◌, ◌/◌, ◌%◌, ◌<◌, ◌≤◌, List, [], ◌∷◌, nat_lt, nat_le, ◌==◌, if◌then◌else◌}
 use Rattle.std.specs.List.{AllByRecursion}
 use Rattle.uf_varint.specs.declared.varint.Var.{Var}
@@ -15,7 +15,7 @@ unfoldable pub varint : ℕ → List ℕ
 unfolding varint_within
 varint n = varint_within 9 n
 
--- what a byte with the high bit and a number behind it spell
+-- what a byte with the high bit and a number after it spell
 abbrev pub with_low : ℕ → Var → Var
 with_low b (Value high used) = Value (b - 128 + 128 * high) (used + 1)
 with_low b Short = Short
@@ -32,11 +32,12 @@ unfoldable pub read_proto_of : List ℕ → Var
 unfolding proto_within
 read_proto_of bs = proto_within 9 bs
 
--- what is spelled in at most room + 1 bytes behind a byte with the high bit: a last byte of 0 would spell nothing more
+-- what is spelled in at most room + 1 bytes after a byte with the high bit: a last byte of 0 would spell nothing more
 unfoldable pub multi_within : ℕ → List ℕ → Var
 multi_within room [] = Short
 multi_within zero (b ∷ bs) = if nat_lt b 128 then (if b == 0 then Bad else Value b 1) else Bad
-multi_within (suc room) (b ∷ bs) = if nat_lt b 128 then (if b == 0 then Bad else Value b 1) else with_low b (multi_within room bs)
+multi_within (suc room) (b ∷ bs) = if nat_lt b 128 then (if b == 0 then Bad else Value b 1)
+    else with_low b (multi_within room bs)
 
 -- the shortest spelling, in at most nine bytes (multiformats unsigned-varint)
 unfoldable pub read_multi_of : List ℕ → Var

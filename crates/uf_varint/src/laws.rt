@@ -1,20 +1,25 @@
-// What holds of the spellings, whoever writes or reads them.
+//! What holds of the spellings, whoever writes or reads them.
 ghost use Rattle.std.specs.List.{AllByRecursion};
 ghost use Rattle.std.specs.Prelude.{◌≡◌, ◌↔◌, ◌<◌, ◌^◌, ◌%◌, ◌++◌, ◌∷◌, [], List, ℕ, Ok, length, take};
 ghost use Rattle.uf_varint.specs.Fields.{Number, Bytes, Keyed, fields, key_then, number_at, number_field, content_field};
 ghost use Rattle.uf_varint.specs.Varint.{varint, read_multi_of, read_proto_of, AreHigh};
 ghost use Rattle.uf_varint.specs.declared.varint.Var.TheVariants.{Value, Short};
 
-/// What was written is read again, whatever follows it. Numbers below 2^63 are those whose spelling has at most nine bytes.
+/// What was written is read again, whatever follows it. Numbers below 2^63 are those whose spelling has at most nine
+/// bytes.
 pub fn what_was_written_is_read()
-    ensures proto { (n : ℕ) (rest : List ℕ) → n < 2 ^ 64 → read_proto_of (varint n ++ rest) ≡ Value n (length (varint n)) }
-    ensures multi { (n : ℕ) (rest : List ℕ) → n < 2 ^ 63 → read_multi_of (varint n ++ rest) ≡ Value n (length (varint n)) }
+    ensures proto { (n : ℕ) (rest : List ℕ) → n < 2 ^ 64 → read_proto_of (varint n ++ rest)
+        ≡ Value n (length (varint n)) }
+    ensures multi { (n : ℕ) (rest : List ℕ) → n < 2 ^ 63 → read_multi_of (varint n ++ rest)
+        ≡ Value n (length (varint n)) }
 {}
 
-/// No spelling begins another of a different number: what stands behind a spelling doesn't matter.
+/// No spelling begins another of a different number: what stands after a spelling doesn't matter.
 pub fn spellings_end_themselves()
-    ensures proto { (bytes rest : List ℕ) (n used : ℕ) → read_proto_of bytes ≡ Value n used → read_proto_of (take used bytes ++ rest) ≡ Value n used }
-    ensures multi { (bytes rest : List ℕ) (n used : ℕ) → read_multi_of bytes ≡ Value n used → read_multi_of (take used bytes ++ rest) ≡ Value n used }
+    ensures proto { (bytes rest : List ℕ) (n used : ℕ) → read_proto_of bytes ≡ Value n used
+        → read_proto_of (take used bytes ++ rest) ≡ Value n used }
+    ensures multi { (bytes rest : List ℕ) (n used : ℕ) → read_multi_of bytes ≡ Value n used
+        → read_multi_of (take used bytes ++ rest) ≡ Value n used }
 {}
 
 /// `read_multi` takes shortest spellings alone, of at most nine bytes.
@@ -25,7 +30,8 @@ pub fn multi_takes_the_shortest_alone()
 
 /// `read_proto` takes numbers below 2^64 alone.
 pub fn proto_takes_64_bits()
-    ensures { (bytes : List ℕ) → (n used : ℕ) → AllByRecursion (λ b. b < 256) bytes → read_proto_of bytes ≡ Value n used → n < 2 ^ 64 }
+    ensures { (bytes : List ℕ) → (n used : ℕ) → AllByRecursion (λ b. b < 256) bytes → read_proto_of bytes ≡ Value n used
+        → n < 2 ^ 64 }
 {}
 
 /// More bytes are wanted exactly where there are fewer than ten, or nine, and each of them has the high bit.
@@ -34,7 +40,7 @@ pub fn more_bytes_are_wanted()
     ensures multi { (bytes : List ℕ) → (read_multi_of bytes ≡ Short) ↔ ((length bytes < 9) × AreHigh bytes) }
 {}
 
-/// Fields are cut from left to right: each but the last that can be cut is followed by those of the bytes behind it.
+/// Fields are cut from left to right: each but the last that can be cut is followed by those of the bytes after it.
 pub fn fields_are_cut_in_order()
     ensures none { fields [] ≡ [] }
     ensures next { (b : ℕ) (bytes : List ℕ) → fields (b ∷ bytes) ≡ key_then fields (number_at (b ∷ bytes)) }

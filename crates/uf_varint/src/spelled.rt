@@ -1,11 +1,11 @@
-// The front of a field: its key and a number.
+//! The prefix of a field: its key and a number.
 ghost use Rattle.std.specs.Prelude.{◌≡◌};
 
 use crate::varint::put;
 use std::marker::Model;
 
-/// The key of a field and the shortest spelling of a number: a whole field of wire type 0, and what stands in front of the
-/// bytes of a field of wire type 2. Contracts see the list of these bytes.
+/// The key of a field and the shortest spelling of a number: a whole field of wire type 0, and what stands before
+/// the bytes of a field of wire type 2. Contracts see the list of these bytes.
 #[derive(Drop)]
 pub struct NumberField {
     bytes: [u8; 11],

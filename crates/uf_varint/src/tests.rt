@@ -43,7 +43,7 @@ fn spellings_are_told_apart(rt: HostRuntime) {
     }
 }
 
-// What is written, its length, and what stands behind it.
+// What is written, its length, and what stands after it.
 #[test]
 fn numbers_are_written(rt: HostRuntime) {
     let rows: [(u64, usize, [u8; 10]); 7] = [

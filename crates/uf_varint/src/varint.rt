@@ -1,8 +1,8 @@
-// Varints, read and written.
+//! Varints, read and written.
 ghost use Rattle.std.specs.Prelude.{◌≡◌, ◌≤◌, ◌<◌, ◌++◌, List, ℕ, drop, length};
 ghost use Rattle.uf_varint.specs.Varint.{varint, read_multi_of, read_proto_of, IsWithin};
 
-/// What a reader of varints found at the front of some bytes.
+/// What a reader of varints found at the prefix of some bytes.
 #[derive(Clone, Copy, Debug, PartialEq, Eq)]
 pub enum Var {
     /// A number, and how many bytes spell it.
@@ -74,7 +74,7 @@ pub fn read_proto(bytes: &[u8]) -> Var
     Var::Value(value + byte * scale, 10)
 }
 
-/// Writes the shortest spelling of a number in front, leaves the bytes behind it, and answers its length.
+/// Writes the shortest spelling of a number in front, leaves the bytes after it, and answers its length.
 pub fn write(value: u64, out: &mut [u8; 10]) -> usize
     ensures spelled { out.new ≡ varint value ++ drop result out.old }
     ensures len { result ≡ length (varint value) }

@@ -24,7 +24,7 @@ pub record PassesOver (met before now : List Cid) : Type 0 where
   pub past : Passed met before now
   pub starts_new : StartsNew met now
 
--- the links of a block, as they are read, were put in front of what is ahead
+-- the links of a block, as they are read, were put before what is ahead
 pub record PutsAhead (said : Result (List Cid) ℕ) (before now : List Cid) : Type 0 where
   pub links : List Cid
   pub reads : said ≡ Ok links

@@ -17,7 +17,7 @@ use Rattle.uf_dagpb.specs.declared.fault.PbFault.TheVariants as pb
 use Rattle.uf_dagpb.specs.declared.node.Link.{Link}
 use Rattle.uf_dagpb.specs.declared.node.Node.{Node}
 
--- the number of a fault of the lenient reading of nodes, from 1 to 7 (and want of memory, which no reading answers)
+-- the number of a fault of the lenient reading of nodes, from 1 to 7 (and out of memory, which no reading answers)
 abbrev pub pb_number : PbFault → ℕ
 pb_number pb.Truncated = 1
 pb_number pb.Varint = 2

@@ -18,7 +18,7 @@ pub record StaysAt (before now : Walked) : Type 0 where
   pub same_most : now.most ≡ before.most
   pub same_handed : now.handed ≡ before.handed
 
--- a root was added behind all that is ahead
+-- a root was added after all that is ahead
 pub record AddsRoot (root : Cid) (before now : Walked) : Type 0 where
   pub stays : StaysAt before now
   pub due : now.due ≡ None

@@ -1,4 +1,4 @@
-// What is still ahead of a walk, in chunks: beside the CIDs there is room for no more than a chunk of others.
+//! What is still ahead of a walk, in chunks: beside the CIDs there is room for no more than a chunk of others.
 ghost use Rattle.std.specs.Prelude.{◌≡◌, [], ◌∷◌, ◌++◌, drop, MatchOption, OnErr, OnOk, slice_get};
 ghost use Rattle.uf_walk.specs.Piled.{AreSome, IsPiled, piled, whole_pile};
 
@@ -9,7 +9,7 @@ use std::marker::Model;
 use std::mem;
 use uf_cid::{Cid, Memory};
 
-/// The links that are ahead, and behind them the roots. Contracts see them as one list.
+/// The links that are ahead, and after them the roots. Contracts see them as one list.
 #[derive(Drop)]
 pub struct Ahead {
     alloc: Global,
@@ -46,7 +46,7 @@ impl Ahead {
         }
     }
 
-    /// Puts a CID behind all others.
+    /// Puts a CID after all others.
     pub fn push_back(&mut self, cid: Cid) -> Result<(), Memory>
         ensures ok { OnOk result (self.new ≡ self.old ++ cid ∷ []) }
         ensures err { OnErr result (self.new ≡ self.old) }
@@ -55,7 +55,7 @@ impl Ahead {
         Ok(())
     }
 
-    /// Puts a CID in front of all others.
+    /// Puts a CID before all others.
     pub fn push_front(&mut self, cid: Cid) -> Result<(), Memory>
         ensures ok { OnOk result (self.new ≡ cid ∷ self.old) }
         ensures err { OnErr result (self.new ≡ self.old) }

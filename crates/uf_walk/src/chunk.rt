@@ -1,4 +1,4 @@
-// Some CIDs, of which the one that was put last is taken first.
+//! Some CIDs, of which the one that was put last is taken first.
 ghost use Rattle.std.specs.Prelude.{◌≡◌, ◌≤◌, ◌↔◌, [], ◌∷◌, length, IfOk, IsTrue, MatchOption, OnErr, OnOk, slice_get};
 ghost use Rattle.std.specs.Option.{option_copied};
 

@@ -1,4 +1,4 @@
-// What holds of the order of a walk.
+//! What holds of the order of a walk.
 ghost use Rattle.std.specs.Prelude.{◌≡◌, ◌≤◌, ◌++◌, ℕ, List, Ok, length};
 ghost use Rattle.uf_cid.specs.Blocks.{Lookup};
 ghost use Rattle.uf_cid.specs.declared.cid.Cid.{Cid};
@@ -17,7 +17,7 @@ pub fn the_order_is_what_is_reached()
         → length list ≤ most }
 {}
 
-/// What a walk has handed out is the front of the whole order.
+/// What a walk has handed out is the prefix of the whole order.
 pub fn what_was_handed_out_comes_first()
     ensures { (follow : Follow) (w : Walked) (list : List Cid) → course follow w ≡ Whole list
         → (rest : List Cid) × (list ≡ w.handed ++ rest) }

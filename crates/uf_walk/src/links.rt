@@ -1,4 +1,4 @@
-// The links of a block, put in front of what is still ahead.
+//! The links of a block, put before what is still ahead.
 ghost use Rattle.uf_cid.specs.declared.cid.Codec.TheVariants.{DagPb};
 ghost use Rattle.uf_dagpb.specs.Reading.{node_reads};
 ghost use Rattle.std.specs.Prelude.{◌≡◌, ◌++◌, map, OnOk, OnErr};

@@ -1,4 +1,4 @@
-// What the calls of a walk answer.
+//! What the calls of a walk answer.
 use uf_cid::{Cid, Memory};
 
 /// What comes next in a walk.

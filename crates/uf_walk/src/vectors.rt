@@ -1,4 +1,4 @@
-// Rows of the order that the definitions decide.
+//! Rows of the order that the definitions decide.
 ghost use Rattle.std.specs.Prelude.{◌≡◌, [], ◌∷◌, Ok, Err};
 ghost use Rattle.uf_walk.specs.Order.{Missing, NotDagPb, OverMost, order};
 ghost use Rattle.uf_walk.specs.Vectors.{broken, falling, leaf_named, node_named, only_raw, shared};

@@ -1,4 +1,4 @@
-// Walks.
+//! Walks.
 ghost use Rattle.std.specs.Prelude.{◌≡◌, ◌<◌, ◌≤◌, ◌++◌, ◌∷◌, [], None, Some, length, map, slice_get};
 ghost use Rattle.std.specs.Prelude.{OnOk, OnErr, IsSome};
 ghost use Rattle.std.specs.Option.{option_map};
@@ -58,7 +58,7 @@ impl Walk {
         }
     }
 
-    /// Adds a root behind all that is ahead. No block may be due.
+    /// Adds a root after all that is ahead. No block may be due.
     pub fn add_root(&mut self, cid: &Cid) -> Result<(), Memory>
         requires { self.old.due ≡ None }
         ensures ok { OnOk result (AddsRoot cid.now self.old self.new) }

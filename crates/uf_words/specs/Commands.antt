@@ -1,4 +1,4 @@
--- Which command a list of words is: the first words are compared exactly, and behind them stand the options and
+-- Which command a list of words is: the first words are compared exactly, and after them stand the options and
 -- arguments of the command, as `clap` reads them.
 use Rattle.std.specs.Prelude.{◌≡◌, ◌<◌, ◌≤◌, ◌&&◌, ◌||◌, ℕ, Bool, true, not, List, [], ◌∷◌, ◌++◌, codes, ◌^◌, nat_le, nat_lt, if◌then◌else◌, IsTrue, is_some, unwrap_or, slice_index, length, ◌-◌}
 use Rattle.std.specs.Str.{bytes_eq}
@@ -19,7 +19,7 @@ use Rattle.uf_words.specs.declared.command.Cmd.TheVariants as cmd
 use Rattle.uf_words.specs.declared.command.WordFault.{WordFault}
 use Rattle.uf_words.specs.declared.command.WordFault.TheVariants as fault
 
--- the call answers as the words read, or for want of memory
+-- the call answers as the words read, or out of memory
 abbrev pub ReadsWords : {A : Type 0} → Result A WordFault → Option A → Type 0
 ReadsWords (Ok value) told = told ≡ Some value
 ReadsWords (Err fault.Usage) told = told ≡ None

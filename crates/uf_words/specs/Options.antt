@@ -56,7 +56,7 @@ found_by app words = if is_empty (fault_of app words) then Some (matches_of app 
 abbrev pub found_in : List Rule → List (List ℕ) → Option (List Row)
 found_in rules words = found_by (simple_command rules) words
 
--- the call finds this in the words, or refuses them, or wants memory
+-- the call finds this in the words, or refuses them, or is out of memory
 abbrev pub FindsIn : Result ArgMatches WordFault → Option (List Row) → Type 0
 FindsIn (Ok matches) told = told ≡ Some (rows_of (found_of matches))
 FindsIn (Err fault.Usage) told = told ≡ None
@@ -66,7 +66,7 @@ FindsIn (Err fault.Memory) told = Unit {0}
 abbrev pub is_flagged : List ℕ → List Row → Bool
 is_flagged name found = option_map_or (λ value. bytes_eq value (codes "true")) (first_of name found) false
 
--- the number that decimal digits stand for, behind the number `n` of the digits before them
+-- the number that decimal digits stand for, after the number `n` of the digits before them
 abbrev pub decimal_from : ℕ → List ℕ → ℕ
 decimal_from n [] = n
 decimal_from n (digit ∷ digits) = decimal_from (n * 10 + (digit - 48)) digits
@@ -84,7 +84,7 @@ numeral_value word =
 abbrev pub is_octal_digit : ℕ → Bool
 is_octal_digit b = nat_le 48 b && nat_le b 55
 
--- the number that octal digits stand for, behind the number `n` of the digits before them
+-- the number that octal digits stand for, after the number `n` of the digits before them
 abbrev pub octal_from : ℕ → List ℕ → ℕ
 octal_from n [] = n
 octal_from n (digit ∷ digits) = octal_from (n * 8 + (digit - 48)) digits

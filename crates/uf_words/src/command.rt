@@ -1,4 +1,4 @@
-// Commands, and why words are none.
+//! Commands, and why words are none.
 use std::alloc::{AllocError, AllocFailed};
 use uf_cid::{Block, Memory, Text};
 use uf_tree::Profile;

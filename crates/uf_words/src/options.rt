@@ -1,4 +1,4 @@
-// Options, arguments and numbers in the words of a command, read by the crate `clap`.
+//! Options, arguments and numbers in the words of a command, read by the crate `clap`.
 ghost use Rattle.std.specs.Prelude.{◌≡◌, ◌<◌, ◌≤◌, ◌+◌, ◌-◌, ◌*◌, ◌^◌, [], true, false, map, string_bytes, IfOk};
 ghost use Rattle.std.specs.Option.{option_and_then, option_map};
 ghost use Rattle.std.specs.List.{list_all};

@@ -1,4 +1,4 @@
-// Names and paths as they are printed.
+//! Names and paths as they are printed.
 ghost use Rattle.std.specs.Prelude.{◌≡◌, ◌≢◌, [], ◌∷◌, List, ℕ, IfOk};
 ghost use Rattle.uf_cid.specs.Bytes.{IsBytes};
 ghost use Rattle.uf_words.specs.Lines.{line_words};

@@ -1,4 +1,4 @@
-// Commands read from words.
+//! Commands read from words.
 ghost use Rattle.std.specs.Prelude.{◌≡◌, [], map, string_bytes, IfOk};
 ghost use Rattle.clap.specs.Matches.{found_of};
 ghost use Rattle.clap.specs.Walk.{rows_of, first_of};
@@ -20,7 +20,7 @@ use std::alloc::Global;
 use uf_cid::{Block, Text};
 use uf_tree::Profile;
 
-/// The command that words are: the first words are compared exactly, and `clap` reads the options and arguments behind
+/// The command that words are: the first words are compared exactly, and `clap` reads the options and arguments after
 /// them.
 #[tactic(auto, unfolding(crate::specs::Commands::command_of))]
 pub fn read_words(alloc: Global, words: &[String]) -> Result<Cmd, WordFault>

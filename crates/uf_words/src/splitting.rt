@@ -1,4 +1,4 @@
-// Words of a line.
+//! Words of a line.
 ghost use Rattle.std.specs.Prelude.{◌≡◌, ◌++◌, Err, map, string_bytes, IsUtf8, All, IfOk, MatchResult, OnOk};
 ghost use Rattle.std.specs.List.{slice_split};
 ghost use Rattle.uf_words.specs.Lines.{is_space, line_words, word_in};
@@ -37,7 +37,7 @@ fn is_space_byte(byte: u8) -> bool
     byte == b' '
 }
 
-// Puts the word that a piece of a line is behind the words before it; an empty piece is none.
+// Puts the word that a piece of a line is after the words before it; an empty piece is none.
 fn put_word(alloc: Global, words: &mut Vec<String>, piece: &[u8]) -> Result<(), WordFault>
     ensures { MatchResult result
         (λ _. (map string_bytes words.new.items ≡ map string_bytes words.old.items ++ word_in piece.now)

@@ -1,4 +1,4 @@
-// The options and arguments of each command, as commands of `clap`.
+//! The options and arguments of each command, as commands of `clap`.
 ghost use Rattle.std.specs.Prelude.{◌≡◌, [], ◌∷◌, true, IfOk};
 ghost use Rattle.clap.specs.Faults.{is_simple_and_free};
 ghost use Rattle.clap.specs.Simple.{app_of};

@@ -1,4 +1,4 @@
-// The operations of SHA-256 (FIPS 180-4, sections 3.2 and 4.1.2) on vectors of eight words, each lane by itself.
+//! The operations of SHA-256 (FIPS 180-4, sections 3.2 and 4.1.2) on vectors of eight words, each lane by itself.
 
 ghost use Rattle.std.specs.Prelude.{◌≡◌, ℕ, ◌/◌, ◌^◌, ◌<◌, slice_index, bit_and, bit_xor};
 ghost use Rattle.std.specs.Int.{rotate_right, w32};

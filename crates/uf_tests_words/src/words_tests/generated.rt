@@ -1,4 +1,4 @@
-// Rows of words, made by checks/word_lists.py.
+//! Rows of words, made by checks/word_lists.py.
 
 // Words, each of which ends at one space, and the command that they are.
 pub const GENERATED: &str = "\

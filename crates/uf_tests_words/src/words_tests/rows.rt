@@ -1,4 +1,4 @@
-// Rows of words and lines.
+//! Rows of words and lines.
 
 // Words, each of which ends at one space, and the command that they are.
 pub const ROWS: &str = "\
@@ -327,7 +327,7 @@ unixfs init => usage\n\
 \x20init => usage\n\
 ";
 
-// Lines and their words, each behind `|`.
+// Lines and their words, each after `|`.
 pub const LINES: &str = "\
 \x20=> \n\
 \x20   => \n\

@@ -1,3 +1,4 @@
+use Rattle.std.proofs.Common.{refl}
 use Rattle.std.proofs.lemmas.Result.{err_from_is_err_and}
 use Rattle.uf_store.proofs.Calls.{saves-saves}
 use Rattle.uf_build.proofs.FeedingAll.{FeedsRest-after, last_of, no-memory, part_of, stopped-after}
@@ -20,9 +21,9 @@ returns-clause-saves g c = saves-saves c.in_ok-feed_next.ensures.saves c.feed_re
 pub returns-in_err-piece-clause-feeds : goal.returns-in_err-piece-clause-feeds
 returns-in_err-piece-clause-feeds g c = λ p.
     let out = err_from_is_err_and c.from_residual.result c.from_residual.ensures.1 in
-    rw (out.1, out.2) (no-memory _ p _ _ _ _ _ c.in_err-piece.ensures.fault)
+    rw (out.1, out.2) (no-memory _ p _ _ _ _ _ refl)
 
 pub returns-in_err-pieces-clause-feeds : goal.returns-in_err-pieces-clause-feeds
 returns-in_err-pieces-clause-feeds g c = λ p.
     let out = err_from_is_err_and c.from_residual-in_err-pieces.result c.from_residual-in_err-pieces.ensures.1 in
-    rw (out.1, out.2) (stopped-after _ p _ _ _ _ _ _ _ _ _ (part_of _ p _ _ _ _ _ _ _ c.if-not-branch.false (c.in_ok-feed_next.ensures.feeds p)) (no-memory _ p _ _ _ _ _ c.in_err-pieces.ensures.fault))
+    rw (out.1, out.2) (stopped-after _ p _ _ _ _ _ _ _ _ _ (part_of _ p _ _ _ _ _ _ _ c.if-not-branch.false (c.in_ok-feed_next.ensures.feeds p)) (no-memory _ p _ _ _ _ _ refl))

@@ -1,4 +1,4 @@
-use Rattle.std.proofs.Common.{◌≡◌, ℕ, ◌<◌, ◌≤◌, List, [], ◌∷◌, length, refl, arith, sym, subst, inl, inr, false}
+use Rattle.std.proofs.Common.{◌≡◌, ℕ, ◌<◌, List, length, refl, arith, sym, subst, inl, inr, false}
 use Rattle.std.proofs.lemmas.Grind.{common_steps}
 use Rattle.uf_cid.specs.Blocks.{Held}
 use Rattle.uf_tree.specs.FilePlan.{root_held}

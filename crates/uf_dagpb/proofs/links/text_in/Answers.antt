@@ -8,10 +8,10 @@ use Rattle.uf_dagpb.proofs.links.text_in.Goals as goal
 abbrev found : List ℕ → Result (List ℕ) PbFault
 found bytes = Ok bytes
 
-pub returns-in-Ok-push_str : goal.returns-in-Ok-push_str
-returns-in-Ok-push_str c =
+pub returns-in_ok-push_str-in-Ok : goal.returns-in_ok-push_str-in-Ok
+returns-in_ok-push_str-in-Ok c =
     let bytes = c.args.bytes.now in
-    let e : bytes ≡ c.push_str.new.self = let h = c.in-Ok-push_str.ensures.ok in let k = c.in-Ok.ensures.cases.0 in cc in
+    let e : bytes ≡ c.push_str.new.self = let h = c.in_ok-push_str-in-Ok.ensures.ok in let k = c.in-Ok.ensures.cases.0 in cc in
     ap (λ t. cond t (found bytes) (Err pb.NotText)) (is_utf8-from_IsUtf8 bytes c.in-Ok.ensures.cases.1) ∙ ap found e
 
 pub returns-in-Err : goal.returns-in-Err

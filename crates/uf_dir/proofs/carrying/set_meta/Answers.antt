@@ -3,7 +3,10 @@ use Rattle.std.proofs.lemmas.Result.{err_from_is_err_and, on_ok_weaker}
 use Rattle.uf_store.specs.Contents.{Told}
 use Rattle.uf_store.specs.Keeping.{KeepsGood}
 use Rattle.uf_store.specs.Writing.{SavesOnly}
-use Rattle.uf_dir.proofs.Carried.{basic-made, no-collision, set-basic, set-basic-after, set-sharded, set-sharded-after, set-unread}
+use Rattle.uf_dir.proofs.Carried.{basic-made, no-collision, set-basic, set-basic-after, set-basic-saves, set-sharded, set-sharded-after, set-sharded-saves, set-unread}
+use Rattle.std.proofs.Common.{[], ◌∷◌}
+use Rattle.uf_store.proofs.Among.{SavesAmong-same}
+use Rattle.uf_tree.specs.Roots.{dir_root}
 use Rattle.uf_dir.proofs.carrying.set_meta.Goals as goal
 
 pub returns-in_err-found-clause-value : goal.returns-in_err-found-clause-value
@@ -33,3 +36,12 @@ pub returns-in-Sharded-clause-after : goal.returns-in-Sharded-clause-after
 returns-in-Sharded-clause-after g c = on_ok_weaker c.save_root.result (λ held N m l is stays. set-sharded-after g.S.X.BlockHash.block32 (record { size = g.met.S.X.BlockHash.size; are_bytes = g.met.S.X.BlockHash.are_bytes }) N c.args.p.now m c.args.entry.now.cid l is c.args.meta.now
     (g.S.Store.seen c.args.store.now) (g.S.Store.seen c.look_at_root.new.store) _ _ c.in-Sharded.is c.in_ok-found.ensures.looks (g.S.Store.seen c.save_root.new.store).told
     (subst (λ (t : Told). KeepsGood g.S.X.BlockHash.block32 t (g.S.Store.seen c.save_root.new.store).told) c.look_at_root.ensures.reads.told c.save_root.ensures.saves.good) held stays) c.save_root.ensures.held
+
+pub returns-in_err-found-clause-no_other : goal.returns-in_err-found-clause-no_other
+returns-in_err-found-clause-no_other g c = λ N m l is agrees. SavesAmong-same g.S.X.BlockHash.block32 (dir_root g.S.X.BlockHash.block32 N c.args.p.now c.args.meta.now l ∷ []) (g.S.Store.seen c.args.store.now).told (g.S.Store.seen c.look_at_root.new.store).told c.look_at_root.ensures.reads.told
+
+pub returns-in-Basic-clause-no_other : goal.returns-in-Basic-clause-no_other
+returns-in-Basic-clause-no_other g c = λ N m l is agrees. set-basic-saves g.S.X.BlockHash.block32 (record { size = g.met.S.X.BlockHash.size; are_bytes = g.met.S.X.BlockHash.are_bytes }) N c.args.p.now m c.args.entry.now.cid l is c.args.meta.now (g.S.Store.seen c.args.store.now) (g.S.Store.seen c.look_at_root.new.store) _ _ c.in-Basic.is c.in_ok-found.ensures.looks (g.S.Store.seen c.build_basic.new.store).told c.look_at_root.ensures.reads.told agrees c.build_basic.ensures.no_other
+
+pub returns-in-Sharded-clause-no_other : goal.returns-in-Sharded-clause-no_other
+returns-in-Sharded-clause-no_other g c = λ N m l is agrees. set-sharded-saves g.S.X.BlockHash.block32 (record { size = g.met.S.X.BlockHash.size; are_bytes = g.met.S.X.BlockHash.are_bytes }) N c.args.p.now m c.args.entry.now.cid l is c.args.meta.now (g.S.Store.seen c.args.store.now) (g.S.Store.seen c.look_at_root.new.store) _ _ c.in-Sharded.is c.in_ok-found.ensures.looks (g.S.Store.seen c.save_root.new.store).told c.look_at_root.ensures.reads.told agrees c.save_root.ensures.no_other

@@ -2,6 +2,13 @@ use Rattle.std.proofs.lemmas.Result.{err_from_is_err_and}
 use Rattle.std.proofs.Common.{arith}
 use Rattle.uf_dir.proofs.Changing.{fits-settles}
 use Rattle.uf_dir.proofs.Touching.{count-is}
+use Rattle.std.proofs.Common.{ℕ, List, subst, sym}
+use Rattle.uf_edge.specs.Counts.{Stood}
+use Rattle.uf_store.specs.Among.{SavesAmong}
+use Rattle.uf_store.specs.Contents.{Told}
+use Rattle.uf_store.proofs.Among.{SavesAmong-same}
+use Rattle.uf_tree.specs.Nodes.{Named}
+use Rattle.uf_dir.specs.Planned.{own_blocks}
 use Rattle.uf_dir.proofs.editing.in_one_block.Goals as goal
 
 pub returns-in_err-pairs-clause-settles : goal.returns-in_err-pairs-clause-settles
@@ -24,3 +31,12 @@ returns-clause-touches g c = λ N l are.
     let most = c.in_ok-pairs.ensures.touches N c.args.meta.now l are.plan are.agrees in
     let count = count-is g.S.X.BlockHash.block32 N c.args.meta.now l in
     omega (arith, most, count, c.fitted.ensures.touches)
+
+pub returns-in_err-pairs-clause-no_other : goal.returns-in_err-pairs-clause-no_other
+returns-in_err-pairs-clause-no_other g c = λ N l plan agrees can. SavesAmong-same g.S.X.BlockHash.block32 (own_blocks g.S.X.BlockHash.block32 N c.args.p.now c.args.meta.now l) (g.S.Store.seen c.args.store.now).told (g.S.Store.seen c.entries.new.store).told c.entries.ensures.told
+
+pub returns-clause-no_other : goal.returns-clause-no_other
+returns-clause-no_other g c = λ N l plan agrees can.
+    let same = c.in_ok-pairs.ensures.value N c.args.meta.now l plan agrees (subst (λ (n : ℕ). Stood (g.S.Store.seen c.args.store.now).faults n) (sym c.in_ok-pairs.ensures.cause.faults) can.faults) in
+    subst (λ (t : Told). SavesAmong g.S.X.BlockHash.block32 (own_blocks g.S.X.BlockHash.block32 N c.args.p.now c.args.meta.now l) t (g.S.Store.seen c.fitted.new.store).told) c.entries.ensures.told
+    (subst (λ (k : List Named). SavesAmong g.S.X.BlockHash.block32 (own_blocks g.S.X.BlockHash.block32 N c.args.p.now c.args.meta.now k) (g.S.Store.seen c.entries.new.store).told (g.S.Store.seen c.fitted.new.store).told) same (c.fitted.ensures.no_other N))

@@ -5,10 +5,16 @@ use Rattle.uf_dir.specs.Bad.{IsBad}
 use Rattle.std.proofs.lemmas.Result.{err_from_is_err_and}
 use Rattle.uf_store.specs.Faults.{NoneIsBad}
 use Rattle.uf_dir.proofs.Causes.{blames-none, way-bad}
-use Rattle.uf_dir.proofs.Changing.{Shown-wider, put-basic, put-basic-after, put-sharded, put-sharded-ok, saves-same}
+use Rattle.uf_dir.proofs.Changing.{Shown-wider, put-basic, put-basic-after, put-sharded, put-sharded-ok, put-sharded-saves, saves-same}
 use Rattle.uf_dir.proofs.Looked.{basic-light, entries-basic, entries-unread, fitting-at}
 use Rattle.uf_dir.proofs.Nodes.{shards-root}
 use Rattle.uf_dir.proofs.Touching.{basic-touches}
+use Rattle.std.proofs.Common.{subst}
+use Rattle.uf_store.specs.Among.{SavesAmong}
+use Rattle.uf_store.specs.Contents.{Told}
+use Rattle.uf_store.proofs.Among.{SavesAmong-same}
+use Rattle.uf_tree.specs.declared.nodes.DirNode.{DirNode}
+use Rattle.uf_dir.specs.Planned.{own_blocks}
 use Rattle.uf_dir.proofs.editing.put.Goals as goal
 
 pub returns-in_err-found-clause-value : goal.returns-in_err-found-clause-value
@@ -54,3 +60,15 @@ returns-in-Basic-clause-blames g c = blames-none g.S.X.BlockHash.block32 NoneIsB
 
 pub returns-clause-blames : goal.returns-clause-blames
 returns-clause-blames g c = blames-none g.S.X.BlockHash.block32 (IsBadOnWay g.N.NameHash.name64 (g.N.NameHash.name64 c.args.name.now)) c.args.root.now _ _ _ (λ bytes h. h) c.put.ensures.cause
+
+pub returns-in_err-found-clause-no_other : goal.returns-in_err-found-clause-no_other
+returns-in_err-found-clause-no_other g c = λ meta l is agrees. SavesAmong-same g.S.X.BlockHash.block32 (own_blocks g.S.X.BlockHash.block32 g.N.NameHash.name64 c.args.p.now meta (with_name c.args.name.now c.args.entry.now l)) (g.S.Store.seen c.args.store.now).told (g.S.Store.seen c.look_at_root.new.store).told c.look_at_root.ensures.reads.told
+
+pub returns-in-Basic-clause-no_other : goal.returns-in-Basic-clause-no_other
+returns-in-Basic-clause-no_other g c = λ meta l is agrees.
+    let node = entries-basic g.S.X.BlockHash.block32 (record { size = g.met.S.X.BlockHash.size; are_bytes = g.met.S.X.BlockHash.are_bytes }) g.N.NameHash.name64 c.args.p.now meta c.args.root.now l is _ _ _ _ c.in-Basic.is c.in_ok-found.ensures.looks agrees in
+    subst (λ (t : Told). SavesAmong g.S.X.BlockHash.block32 (own_blocks g.S.X.BlockHash.block32 g.N.NameHash.name64 c.args.p.now meta (with_name c.args.name.now c.args.entry.now l)) t (g.S.Store.seen c.put_basic.new.store).told) c.look_at_root.ensures.reads.told
+    (subst (λ (n : DirNode). SavesAmong g.S.X.BlockHash.block32 (own_blocks g.S.X.BlockHash.block32 g.N.NameHash.name64 c.args.p.now n.meta (with_name c.args.name.now c.args.entry.now n.pairs)) (g.S.Store.seen c.look_at_root.new.store).told (g.S.Store.seen c.put_basic.new.store).told) node c.put_basic.ensures.no_other)
+
+pub returns-clause-no_other : goal.returns-clause-no_other
+returns-clause-no_other g c = λ meta l is agrees. put-sharded-saves g.S.X.BlockHash.block32 (record { size = g.met.S.X.BlockHash.size; are_bytes = g.met.S.X.BlockHash.are_bytes }) g.N.NameHash.name64 c.args.p.now meta c.args.root.now l is (g.S.Store.seen c.args.store.now) (g.S.Store.seen c.look_at_root.new.store) _ _ c.in-Sharded.is c.in_ok-found.ensures.looks c.look_at_root.ensures.reads.told agrees c.args.name.now c.args.entry.now (g.S.Store.seen c.put.new.store).told c.put.ensures.no_other

@@ -1,13 +1,20 @@
 use Rattle.std.proofs.Common.{Some, refl}
 use Rattle.uf_dir.specs.Planned.{entry_without}
 use Rattle.std.proofs.lemmas.Result.{err_from_is_err_and}
-use Rattle.uf_dir.proofs.Changing.{basic-ok, basic-root, basic-answer, in_shards, saves-same, stay-read, take-sharded, take-sharded-ok}
+use Rattle.uf_dir.proofs.Changing.{basic-ok, basic-root, basic-answer, can-rise, in_shards, removal-there, saves-same, stay-read, take-sharded, take-sharded-ok}
 use Rattle.uf_store.specs.Faults.{NoneIsBad}
 use Rattle.uf_dir.proofs.Causes.{blames-none}
-use Rattle.uf_dir.proofs.Looked.{entries-basic, entries-unread, fitting-at}
+use Rattle.uf_dir.proofs.Looked.{basic-light, entries-basic, entries-unread, fitting-at}
 use Rattle.uf_dir.proofs.Refusals.{sharded-apart}
 use Rattle.uf_dir.proofs.Touching.{absent-after, absent-here, basic-takes, sharded-takes}
 use Rattle.uf_tree.specs.Changes.{without}
+use Rattle.std.proofs.Common.{[], ◌∷◌, subst}
+use Rattle.uf_store.specs.Among.{SavesAmong}
+use Rattle.uf_store.specs.Contents.{Told}
+use Rattle.uf_store.proofs.Among.{SavesAmong-same}
+use Rattle.uf_tree.specs.declared.nodes.DirNode.{DirNode}
+use Rattle.uf_dir.specs.Planned.{dir_held, removal_blocks}
+use Rattle.uf_dir.proofs.Saving.{basic-removal, sharded-removal}
 use Rattle.uf_dir.proofs.editing.remove.Goals as goal
 
 pub returns-in_err-found-clause-value : goal.returns-in_err-found-clause-value
@@ -60,3 +67,20 @@ returns-in-Basic-clause-absent g c = absent-here c.remove_basic.result c.args.to
 
 pub returns-in-Sharded-clause-absent : goal.returns-in-Sharded-clause-absent
 returns-in-Sharded-clause-absent g c = absent-after c.remove_sharded.result c.args.touches.now c.look_at_root.new.touches c.remove_sharded.new.touches 8 c.look_at_root.ensures.touches c.remove_sharded.ensures.absent
+
+pub returns-in_err-found-clause-no_other : goal.returns-in_err-found-clause-no_other
+returns-in_err-found-clause-no_other g c = λ meta l is stays can. SavesAmong-same g.S.X.BlockHash.block32 (removal_blocks g.S.X.BlockHash.block32 g.N.NameHash.name64 c.args.p.now meta c.args.name.now l) (g.S.Store.seen c.args.store.now).told (g.S.Store.seen c.look_at_root.new.store).told c.look_at_root.ensures.reads.told
+
+pub returns-in-Basic-clause-no_other : goal.returns-in-Basic-clause-no_other
+returns-in-Basic-clause-no_other g c = λ meta l is stays can.
+    let node = entries-basic g.S.X.BlockHash.block32 (record { size = g.met.S.X.BlockHash.size; are_bytes = g.met.S.X.BlockHash.are_bytes }) g.N.NameHash.name64 c.args.p.now meta c.args.root.now l is _ _ _ _ c.in-Basic.is c.in_ok-found.ensures.looks stays.first in
+    basic-removal g.S.X.BlockHash.block32 g.N.NameHash.name64 c.args.p.now meta c.args.name.now l (g.S.Store.seen c.args.store.now).told (g.S.Store.seen c.remove_basic.new.store).told (basic-light g.S.X.BlockHash.block32 (record { size = g.met.S.X.BlockHash.size; are_bytes = g.met.S.X.BlockHash.are_bytes }) g.N.NameHash.name64 c.args.p.now meta c.args.root.now l is _ _ _ _ c.in-Basic.is c.in_ok-found.ensures.looks stays.first)
+    (subst (λ (t : Told). SavesAmong g.S.X.BlockHash.block32 (dir_held g.S.X.BlockHash.block32 meta (without c.args.name.now l) ∷ []) t (g.S.Store.seen c.remove_basic.new.store).told) c.look_at_root.ensures.reads.told
+    (subst (λ (n : DirNode). SavesAmong g.S.X.BlockHash.block32 (dir_held g.S.X.BlockHash.block32 n.meta (without c.args.name.now n.pairs) ∷ []) (g.S.Store.seen c.look_at_root.new.store).told (g.S.Store.seen c.remove_basic.new.store).told) node c.remove_basic.ensures.no_other))
+
+pub returns-in-Sharded-clause-no_other : goal.returns-in-Sharded-clause-no_other
+returns-in-Sharded-clause-no_other g c = λ meta l is stays can.
+    sharded-removal g.S.X.BlockHash.block32 g.N.NameHash.name64 c.args.p.now meta c.args.name.now l (g.S.Store.seen c.args.store.now).told (g.S.Store.seen c.remove_sharded.new.store).told
+    (in_shards g.S.X.BlockHash.block32 (record { size = g.met.S.X.BlockHash.size; are_bytes = g.met.S.X.BlockHash.are_bytes }) g.N.NameHash.name64 c.args.p.now meta c.args.root.now l is (g.S.Store.seen c.args.store.now) (g.S.Store.seen c.look_at_root.new.store) _ _ c.in-Sharded.is c.in_ok-found.ensures.looks c.look_at_root.ensures.reads.told stays.first)
+    (removal-there g.S.X.BlockHash.block32 (record { size = g.met.S.X.BlockHash.size; are_bytes = g.met.S.X.BlockHash.are_bytes }) g.N.NameHash.name64 c.args.p.now meta c.args.root.now l is (g.S.Store.seen c.args.store.now) (g.S.Store.seen c.look_at_root.new.store) _ _ c.in-Sharded.is c.in_ok-found.ensures.looks c.look_at_root.ensures.reads.told stays.first c.args.name.now (g.S.Store.seen c.remove_sharded.new.store).told c.remove_sharded.ensures.no_other stays.last
+    (can-rise (g.S.Store.seen c.args.store.now) (g.S.Store.seen c.look_at_root.new.store) c.in_ok-found.ensures.reads.cause can))

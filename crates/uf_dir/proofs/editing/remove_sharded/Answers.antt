@@ -9,6 +9,7 @@ use Rattle.uf_shard.specs.Placed.{IsBadOnWay}
 use Rattle.uf_dir.proofs.Causes.{blames-none, shard-weighed, way-weighed}
 use Rattle.uf_dir.proofs.Taking.{absent-takes, emptied-basic, settled-takes, shards-left, unread-takes, was-there}
 use Rattle.uf_dir.proofs.Touching.{few-takes, left-takes}
+use Rattle.uf_dir.proofs.Saving.{emptied-saves, settled-saves, shards-saved}
 use Rattle.uf_dir.proofs.editing.remove_sharded.Goals as goal
 
 pub returns-in_err-removed-clause-takes : goal.returns-in_err-removed-clause-takes
@@ -94,3 +95,27 @@ returns-in_err-entry-in-Empty-clause-touches g c = λ l stay. few-takes g.S.X.Bl
 
 pub returns-in_ok-entry-in-Empty-clause-touches : goal.returns-in_ok-entry-in-Empty-clause-touches
 returns-in_ok-entry-in-Empty-clause-touches g c = λ l stay. few-takes g.S.X.BlockHash.block32 g.N.NameHash.name64 c.args.p.now c.args.meta.now c.args.name.now l c.args.touches.now _ (omega (arith, c.remove.ensures.touches, c.save_basic.ensures.touches))
+
+pub returns-in_err-removed-clause-no_other : goal.returns-in_err-removed-clause-no_other
+returns-in_err-removed-clause-no_other g c = λ l plan stays can. shards-saved g.S.X.BlockHash.block32 g.N.NameHash.name64 c.args.p.now c.args.meta.now c.args.name.now l (g.S.Store.seen c.args.store.now).told (g.S.Store.seen c.remove.new.store).told (c.remove.ensures.no_other c.args.meta.now l plan stays.first)
+
+pub returns-in-Absent-clause-no_other : goal.returns-in-Absent-clause-no_other
+returns-in-Absent-clause-no_other g c = λ l plan stays can. shards-saved g.S.X.BlockHash.block32 g.N.NameHash.name64 c.args.p.now c.args.meta.now c.args.name.now l (g.S.Store.seen c.args.store.now).told (g.S.Store.seen c.remove.new.store).told (c.remove.ensures.no_other c.args.meta.now l plan stays.first)
+
+pub returns-in_err-entry-in-Empty-clause-no_other : goal.returns-in_err-entry-in-Empty-clause-no_other
+returns-in_err-entry-in-Empty-clause-no_other g c = λ l plan stays can. emptied-saves g.S.X.BlockHash.block32 g.N.NameHash.name64 c.args.p.now c.args.meta.now c.args.root.now c.args.name.now l plan (g.S.Store.seen c.args.store.now) (g.S.Store.seen c.remove.new.store) (g.S.Store.seen c.save_basic.new.store) stays c.in_ok-removed.ensures.cause can (c.remove.ensures.no_other c.args.meta.now l plan stays.first) c.new-nothing.result c.new-nothing.ensures
+    ((rw c.in-Empty.is at c.in_ok-removed.ensures.value) c.args.meta.now l) c.save_basic.ensures.no_other
+
+pub returns-in_ok-entry-in-Empty-clause-no_other : goal.returns-in_ok-entry-in-Empty-clause-no_other
+returns-in_ok-entry-in-Empty-clause-no_other g c = λ l plan stays can. emptied-saves g.S.X.BlockHash.block32 g.N.NameHash.name64 c.args.p.now c.args.meta.now c.args.root.now c.args.name.now l plan (g.S.Store.seen c.args.store.now) (g.S.Store.seen c.remove.new.store) (g.S.Store.seen c.save_basic.new.store) stays c.in_ok-removed.ensures.cause can (c.remove.ensures.no_other c.args.meta.now l plan stays.first) c.new-nothing.result c.new-nothing.ensures
+    ((rw c.in-Empty.is at c.in_ok-removed.ensures.value) c.args.meta.now l) c.save_basic.ensures.no_other
+
+pub returns-in_err-left-in-Left-clause-no_other : goal.returns-in_err-left-in-Left-clause-no_other
+returns-in_err-left-in-Left-clause-no_other g c = λ l plan stays can. settled-saves g.S.X.BlockHash.block32 g.N.NameHash.name64 c.args.p.now c.args.meta.now c.args.root.now c.args.name.now l plan (g.S.Store.seen c.args.store.now) (g.S.Store.seen c.remove.new.store) (g.S.Store.seen c.settled.new.store) stays c.in_ok-removed.ensures.cause can (c.remove.ensures.no_other c.args.meta.now l plan stays.first)
+    c.remove.ensures.saves c.settled.ensures.saves.saves c.in-Left.entry ((rw c.in-Left.is at c.in_ok-removed.ensures.value) c.args.meta.now l) ((rw c.in-Left.is at c.in_ok-removed.ensures.after) c.args.meta.now l)
+    c.settled.ensures.no_other
+
+pub returns-in_ok-left-in-Left-clause-no_other : goal.returns-in_ok-left-in-Left-clause-no_other
+returns-in_ok-left-in-Left-clause-no_other g c = λ l plan stays can. settled-saves g.S.X.BlockHash.block32 g.N.NameHash.name64 c.args.p.now c.args.meta.now c.args.root.now c.args.name.now l plan (g.S.Store.seen c.args.store.now) (g.S.Store.seen c.remove.new.store) (g.S.Store.seen c.settled.new.store) stays c.in_ok-removed.ensures.cause can (c.remove.ensures.no_other c.args.meta.now l plan stays.first)
+    c.remove.ensures.saves c.settled.ensures.saves.saves c.in-Left.entry ((rw c.in-Left.is at c.in_ok-removed.ensures.value) c.args.meta.now l) ((rw c.in-Left.is at c.in_ok-removed.ensures.after) c.args.meta.now l)
+    c.settled.ensures.no_other

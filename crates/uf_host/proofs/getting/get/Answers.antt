@@ -1,4 +1,5 @@
-use Rattle.std.proofs.Common.{◌≡◌, ◌∙◌, ◌+◌, ℕ, List, Ok, subst, sym, ap}
+use Rattle.std.proofs.Common.{◌≡◌, ◌≢◌, ◌∙◌, ◌+◌, ℕ, List, [], Ok, subst, sym, ap}
+use Rattle.std.specs.Prelude.{OnOk}
 use Rattle.uf_edge.specs.Host.{HostTold, TakesFolder}
 use Rattle.uf_lenient.specs.Denoted.{denotes_within}
 use Rattle.uf_lenient.specs.Steps.{Surveys}
@@ -23,5 +24,6 @@ returns-clause-gets g c = λ t tells.
     let puts = c.put_tree.ensures.puts t read.tree (c.in_ok-survey.ensures.told ∙ tells) (subst (λ (n : ℕ). denotes_within (held_at t) c.args.limits.now n c.args.cid.now ≡ Ok read.tree) (sym room) read.denoted) in
     subst (λ (p : List ℕ). Gets (held_at t) c.args.limits.now c.args.cid.now p (g.W.Host.tree c.args.host.now) (g.W.Host.tree c.put_tree.new.host) c.put_tree.result) c.trim-path.ensures
     (gets-of (held_at t) c.args.limits.now c.args.cid.now c.trim-path.result.now (g.W.Host.tree c.args.host.now) (g.W.Host.tree c.put_tree.new.host) read.tree c.put_tree.result read.denoted c.in_ok-find_room.ensures.room
+    (subst (λ (p : List ℕ). OnOk c.put_tree.result (p ≢ [])) path c.put_tree.ensures.named)
     (subst (λ (h : HostTold). Puts (places_of c.trim-path.result.now read.tree) h (g.W.Host.tree c.put_tree.new.host) c.put_tree.result) c.find_room.ensures.told
     (subst (λ (p : List ℕ). Puts (places_of p read.tree) (g.W.Host.tree c.find_room.new.host) (g.W.Host.tree c.put_tree.new.host) c.put_tree.result) path puts)))

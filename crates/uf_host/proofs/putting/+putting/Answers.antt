@@ -153,7 +153,7 @@ put_tree-put_members-requires g t c κs within =
               within.1.1.1,
               (
                 subst (λ (l : List (List ℕ × Cid)). IsTrue (is_sorted names_cmp l)) (sym c.as_slice.ensures) order,
-                empty-made (g.W.Host.tree c.args.host.now) (g.W.Host.tree c.make_folder.new.host) c.args.path.now (g.met.W.Host.rooted c.args.host.now) c.requires c.in_ok-make_folder-in-Folder.ensures.makes,
+                empty-made (g.W.Host.tree c.args.host.now) (g.W.Host.tree c.make_folder.new.host) c.args.path.now c.in_ok-make_folder-in-Folder.ensures.named (g.met.W.Host.rooted c.args.host.now) c.requires c.in_ok-make_folder-in-Folder.ensures.makes,
               ),
             ),
           ),

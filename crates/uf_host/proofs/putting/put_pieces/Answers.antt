@@ -1,4 +1,4 @@
-use Rattle.std.proofs.Common.{◌≡◌, ◌∙◌, List, ℕ, Err, None, Ok, ap, refl, rules, subst, sym}
+use Rattle.std.proofs.Common.{◌≡◌, ◌∙◌, List, ℕ, Err, None, Ok, inl, inr, ap, refl, rules, subst, sym}
 use Rattle.std.specs.Prelude.{IfSome, Option}
 use Rattle.std.proofs.lemmas.Result.{err_from_is_err_and}
 use Rattle.uf_lenient.specs.Steps.{IsNextPiece}
@@ -12,6 +12,7 @@ use Rattle.uf_host.proofs.putting.put_pieces.Goals as goal
 pub loop-piece-init : goal.loop-piece-init
 loop-piece-init g c = record {
   so_far = so-far-none (g.S.Store.seen c.args.store.now).told c.args.path.now c.args.pieces.now (g.W.Host.tree c.args.host.now);
+  named = inl refl;
   shown = search rules;
   reads = refl;
   writes = refl;
@@ -75,6 +76,7 @@ loop-piece-preserved g c =
           (subst (λ (r : Option (List ℕ)). IfSome (g.S.Store.seen c.args.store.now).told (λ t. IsNextPiece (held_at t) c.loop-piece.pieces c.next.new.self (Ok r))) c.in-Some.is
           (subst (λ u. IfSome u (λ t. IsNextPiece (held_at t) c.loop-piece.pieces c.next.new.self (Ok c.in_ok-piece.field-0))) told c.in_ok-piece.ensures.says))
           (subst (λ (l : List ℕ). AppendsPiece c.args.path.now l (g.W.Host.tree c.loop-piece.host) (g.W.Host.tree c.put_piece.new.host) (Ok tt)) c.as_slice.ensures c.in_ok-put_piece.ensures.appends);
+      named = inr c.in_ok-put_piece.ensures.named;
       shown = reads-reads c.loop-piece.invariant.shown (record { cause = c.in_ok-piece.ensures.cause; told = c.in_ok-piece.ensures.told });
       reads = c.put_piece.ensures.reads ∙ c.loop-piece.invariant.reads;
       writes = c.in_ok-put_piece.ensures.writes.still refl ∙ c.loop-piece.invariant.writes;
@@ -88,6 +90,12 @@ returns-clause-puts g c = λ t bytes tells is.
     c.next.new.self (λ same. c.requires.due (ap (λ r. r.0) (sym same) ∙ c.next.ensures.none.0 (c.in_ok-piece.was ∙ ap Ok none)))
     (subst (λ (r : Option (List ℕ)). IfSome (g.S.Store.seen c.args.store.now).told (λ t. IsNextPiece (held_at t) c.loop-piece.pieces c.next.new.self (Ok r))) none
     (subst (λ u. IfSome u (λ t. IsNextPiece (held_at t) c.loop-piece.pieces c.next.new.self (Ok c.in_ok-piece.field-0))) told c.in_ok-piece.ensures.says))
+
+pub returns-clause-named : goal.returns-clause-named
+returns-clause-named g c = elim c.loop-piece.invariant.named [
+  | inl same ↦ absurd (let none : c.in_ok-piece.field-0 ≡ None = search rules in c.requires.due (ap (λ r. r.0) (sym same) ∙ c.next.ensures.none.0 (c.in_ok-piece.was ∙ ap Ok none)))
+  | inr named ↦ named
+]
 
 pub returns-clause-below : goal.returns-clause-below
 returns-clause-below g c =

@@ -2,8 +2,10 @@ use Rattle.std.proofs.Common.{◌^◌, ◌-◌, Err, None, Ok, arith, subst, sym
 use Rattle.std.proofs.lemmas.Result.{err_from_is_err_and}
 use Rattle.uf_fileread.specs.Bad.{IsBadInFile}
 use Rattle.uf_fileread.specs.Ranges.{blocks_read, range_of}
-use Rattle.uf_store.proofs.Calls.{stood-back}
-use Rattle.uf_store.specs.Keeping.{Agrees}
+use Rattle.uf_store.proofs.Calls.{stood-back, stood-front}
+use Rattle.uf_store.specs.Keeping.{Agrees, Holds}
+use Rattle.uf_light.specs.Answers.{of_range}
+use Rattle.uf_light.proofs.First.{first-again, first-still, range-rises}
 use Rattle.uf_tree.specs.FilePlan.{file_plan}
 use Rattle.uf_edge.specs.Streams.{AppendsPrefix}
 use Rattle.uf_fileread.proofs.Sending.{prefix-none}
@@ -60,3 +62,19 @@ returns-in_err-count-clause-some g c = some-range (2 ^ 64 - 1) (Err c.in_err-cou
 
 pub returns-clause-some : goal.returns-clause-some
 returns-clause-some g c = some-range (2 ^ 64 - 1) (Ok c.in_ok-count.count) _ _ c.in_ok-count.ensures.sends
+
+pub returns-in_err-read_range-clause-first : goal.returns-in_err-read_range-clause-first
+returns-in_err-read_range-clause-first g c = λ p m bytes height is agrees stood.
+    let out = err_from_is_err_and c.from_residual.result c.from_residual.ensures.1 in
+    rw (out.1, out.2) (first-still (of_range c.in_err-read_range.field-0.0) _)
+
+pub returns-in_err-count-clause-first : goal.returns-in_err-count-clause-first
+returns-in_err-count-clause-first g c = λ p m bytes height is agrees stood.
+    let X = g.S.X.BlockHash.block32 in let a = g.S.Store.seen c.args.store.now in let b = g.S.Store.seen c.read_range.new.store in
+    let same = c.in_ok-read_range.ensures.told in let fb = c.in_ok-read_range.ensures.cause.0.faults in
+    let blocks = blocks_read X p.chunk p.width m height 0 (2 ^ 64 - 1) bytes in
+    let once = c.in_ok-read_range.ensures.value p m bytes height is agrees (stood-front a.faults b.faults _ fb (range-rises X (IsBadInFile b.told c.args.entry.now.cid) b (g.S.Store.seen c.read_range-2.new.store) _ _ c.in_err-count.field-0.0 c.in_err-count.ensures.cause) stood) in
+    let out = err_from_is_err_and c.from_residual-in_err-count.result c.from_residual-in_err-count.ensures.1 in
+    rw (out.1, out.2) (first-again b.told (file_plan X p m bytes).blocks blocks (range_of 0 (2 ^ 64 - 1) bytes) (g.O.Sink.holds c.args.out.now) (g.O.Sink.holds c.read_range-2.new.out) c.in_err-count.field-0.0 (subst (λ t. Agrees t (file_plan X p m bytes).blocks) (sym same) agrees)
+    (subst (λ t. Holds t blocks) (sym same) once.1)
+    (c.in_err-count.ensures.value p m bytes height is (subst (λ t. Agrees t (file_plan X p m bytes).blocks) (sym same) agrees) (stood-back a.faults b.faults _ fb stood)))

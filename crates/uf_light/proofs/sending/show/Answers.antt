@@ -11,6 +11,8 @@ use Rattle.uf_tree.specs.Validity.{IsHash}
 use Rattle.uf_plain.specs.Edits.{at}
 use Rattle.uf_plain.specs.Needs.{way}
 use Rattle.uf_light.specs.declared.fault.LightFault.{LightFault}
+use Rattle.uf_light.specs.declared.fault.LightFault.TheVariants as fault
+use Rattle.uf_light.proofs.First.{first-absent, first-still}
 use Rattle.uf_edge.specs.Counts.{Stood}
 use Rattle.uf_fileread.proofs.Sending.{prefix-none}
 use Rattle.uf_light.specs.Answers.{light_fault}
@@ -130,3 +132,40 @@ returns-in-Some-clause-reads g c =
     let told = (g.S.Store.seen c.args.store.now).told in
     reads-reads c.in_ok-thing.ensures.reads (reads-reads c.in_ok-met.ensures.reads (reads-by (IsBadLight X N told c.args.root.now) (λ role bytes bad. inr bad)
     (subst (λ told. OnlyReads X (IsBadInSome told) (light_fault c.send_file.result) d e) (c.in_ok-met.ensures.reads.told ∙ c.in_ok-thing.ensures.reads.told) c.send_file.ensures.reads)))
+
+pub returns-in_err-thing-clause-first : goal.returns-in_err-thing-clause-first
+returns-in_err-thing-clause-first g c = λ p t height s stood tall.
+    let out = err_from_is_err_and c.from_residual.result c.from_residual.ensures.1 in
+    rw (out.1, out.2) (first-still (fault.Store c.in_err-thing.field-0.0) _)
+
+pub returns-in_err-met-clause-first : goal.returns-in_err-met-clause-first
+returns-in_err-met-clause-first g c = λ p t height s stood tall.
+    let out = err_from_is_err_and c.from_residual-in_err-met.result c.from_residual-in_err-met.ensures.1 in
+    rw (out.1, out.2) (first-still (fault.Store c.in_err-met.field-0.0) _)
+
+pub returns-in_err-file-clause-first : goal.returns-in_err-file-clause-first
+returns-in_err-file-clause-first g c = λ p t height s stood tall.
+    let out = err_from_is_err_and c.from_residual-in_err-file.result c.from_residual-in_err-file.ensures.1 in
+    rw (out.1, out.2) (first-still c.in_err-file.field-0.0 _)
+
+pub returns-in-Some-clause-first : goal.returns-in-Some-clause-first
+returns-in-Some-clause-first g c = λ p t height s stood tall.
+    let X = g.S.X.BlockHash.block32 in let N = g.N.NameHash.name64 in let names = c.args.names.now in
+    let a = g.S.Store.seen c.args.store.now in let b = g.S.Store.seen c.thing_of.new.store in let d = g.S.Store.seen c.look.new.store in let e = g.S.Store.seen c.send_file.new.store in
+    let first = c.in_ok-thing.ensures.reads.told in let second = c.in_ok-met.ensures.reads.told in
+    let fb = c.in_ok-thing.ensures.reads.cause.faults in let fd = c.in_ok-met.ensures.reads.cause.faults in
+    let fe = (shown-rises X _ (light_fault c.send_file.result) d e c.send_file.ensures.reads.cause).faults in
+    let front = stood-front a.faults b.faults e.faults fb (omega (arith, fd, fe)) stood in
+    let after = stood-back a.faults b.faults e.faults fb stood in
+    let mid = stood-front b.faults d.faults e.faults fd fe after in
+    let back = stood-back b.faults d.faults e.faults fd after in
+    let met : IsMet X N a.told p (at 0 names t) c.in_ok-met.met = subst (λ told. IsMet X N told p (at 0 names t) c.in_ok-met.met) first
+    (c.in_ok-met.ensures.looks p t (subst (λ told. IsAgreedThing X N told p t c.in_ok-thing.thing) (sym first) (c.in_ok-thing.ensures.thing p t s front)) mid) in
+    let is : ◌≡◌ {A = Result (Option Entry) LightFault} (wanted_of c.args.absent c.in_ok-met.met) (Ok (Some c.in-Some.file)) = sym c.in_ok-file.ensures ∙ ap (λ (o : Option Entry). Ok o) c.in-Some.is in
+    let w : IsFileWanted X N a.told p names c.args.absent (at 0 names t) c.in-Some.file = wanted-ok X N a.told p names c.args.absent (at 0 names t) c.in_ok-met.met (Some c.in-Some.file) met is in
+    let file = is-file X N p c.in-Some.file.cid w.meta w.bytes w.agreed.plan height (height-of X N a.told p names t c.args.absent height (g.O.Sink.holds c.args.out.now) (g.O.Sink.holds c.send_file.new.out) w.meta w.bytes w.is tall) in
+    let agrees = plan-agrees X N p c.in-Some.file.cid w.meta w.bytes w.agreed.plan a.told w.agreed.agrees in
+    c.send_file.ensures.first p w.meta w.bytes height file (subst (λ told. Agrees told (file_plan X p w.meta w.bytes).blocks) (sym (second ∙ first)) agrees) back
+
+pub returns-in-None-clause-first : goal.returns-in-None-clause-first
+returns-in-None-clause-first g c = λ p t height s stood tall. first-absent (absent_text c.args.names.now) c.send_absent.result _ _ c.send_absent.ensures.sends

@@ -1,4 +1,5 @@
 use Rattle.std.proofs.Common.{◌≡◌, ◌+◌, ◌*◌, ◌≤◌, length, None}
+use Rattle.uf_store.specs.Among.{SavesAmong}
 use Rattle.uf_store.specs.Calls.{OnlySaves}
 use Rattle.uf_store.specs.Faults.{NoneIsBad}
 use Rattle.uf_store.specs.Keeping.{Holds}
@@ -20,6 +21,7 @@ invariant-save_slots-loop-at g l = record {
   items : l.items ≡ tabulate l.at 0 (item_at g.S.X.BlockHash.block32 g.N.NameHash.name64 l.left l.slots);
   held : Holds (g.S.Store.seen l.store).told (flat_tabulate l.at 0 (blocks_at g.S.X.BlockHash.block32 g.N.NameHash.name64 l.left l.slots));
   saves : OnlySaves g.S.X.BlockHash.block32 NoneIsBad None (g.S.Store.seen l.initial.store) (g.S.Store.seen l.store);
+  no_other : SavesAmong g.S.X.BlockHash.block32 (flat_tabulate 256 0 (blocks_at g.S.X.BlockHash.block32 g.N.NameHash.name64 l.left l.slots)) (g.S.Store.seen l.initial.store).told (g.S.Store.seen l.store).told;
   touches : l.touches ≤ l.initial.touches + length (flat_tabulate l.at 0 (blocks_at g.S.X.BlockHash.block32 g.N.NameHash.name64 l.left l.slots));
   touched : l.initial.touches ≤ l.touches;
 }

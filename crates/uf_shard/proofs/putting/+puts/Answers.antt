@@ -14,6 +14,12 @@ use Rattle.std.proofs.lemmas.Result.{err_from_is_err_and}
 use Rattle.uf_store.proofs.Calls.{reads-saves}
 use Rattle.uf_shard.proofs.Saves.{saves-new}
 use Rattle.uf_shard.proofs.Placing.{below-in, items-read, load-lost}
+use Rattle.uf_store.specs.Among.{SavesAmong}
+use Rattle.uf_store.specs.Contents.{Told}
+use Rattle.uf_tree.specs.Changes.{with_name}
+use Rattle.uf_shard.specs.Changed.{below}
+use Rattle.uf_shard.proofs.Among.{beside-saves, pair-saves, put-saves, slot-saves, sub-saves}
+use Rattle.uf_shard.proofs.Puts.{bucket_at, slotted}
 use Rattle.uf_shard.proofs.Puts.{alone-placed, beside-err, beside-ok, early-below, found-at, into-err, into-ok, item-along, puts-more, room-left, same-done, sub-err, sub-ok, sub-room, twins-done, valid-put}
 use Rattle.uf_shard.proofs.putting.+puts.Goals as goal
 
@@ -145,3 +151,61 @@ put_into-returns-clause-valid g t c = valid-put g.S.X.BlockHash.block32 g.N.Name
 
 pub items_with-returns-in_err-node-clause-saves : goal.items_with-returns-in_err-node-clause-saves
 items_with-returns-in_err-node-clause-saves g t c = let out = err_from_is_err_and c.from_residual.result c.from_residual.ensures.1 in rw (out.1, out.2) (reads-saves c.in_err-node.ensures.reads)
+
+pub item_beside-returns-in_err-items-clause-no_other : goal.item_beside-returns-in_err-items-clause-no_other
+item_beside-returns-in_err-items-clause-no_other g t c =
+    let along = item-along g.S.X.BlockHash.block32 g.N.NameHash.name64 g.met.N.NameHash.fits c.args.left c.args.name.now c.args.old.0 c.args.old.1 c.requires.left c.requires.found in
+    let some : 1 ≤ c.args.left = room-left g.S.X.BlockHash.block32 g.N.NameHash.name64 g.met.N.NameHash.fits c.args.left c.args.name.now c.args.old.0 c.requires.left along (λ one. c.if-hash_of.false (c.hash_of.ensures ∙ one ∙ sym c.hash_of-2.ensures)) in
+    λ l slotted. beside-saves g.S.X.BlockHash.block32 g.N.NameHash.name64 g.met.N.NameHash.fits (g.N.NameHash.name64 c.args.name.now) c.args.left c.args.name.now c.args.old.0 c.args.entry.now c.args.old.1 c.slot_at-slot.result c.in_ok-alone.alone c.requires.left some (g.S.Store.seen c.args.store.now).told refl (sym c.is_same.ensures ∙ c.if-is_same.false) c.slot_at-slot.ensures c.in_ok-alone.ensures l slotted (g.S.Store.seen c.put_into.new.store).told c.put_into.ensures.no_other
+
+pub item_beside-returns-clause-no_other : goal.item_beside-returns-clause-no_other
+item_beside-returns-clause-no_other g t c =
+    let along = item-along g.S.X.BlockHash.block32 g.N.NameHash.name64 g.met.N.NameHash.fits c.args.left c.args.name.now c.args.old.0 c.args.old.1 c.requires.left c.requires.found in
+    let some : 1 ≤ c.args.left = room-left g.S.X.BlockHash.block32 g.N.NameHash.name64 g.met.N.NameHash.fits c.args.left c.args.name.now c.args.old.0 c.requires.left along (λ one. c.if-hash_of.false (c.hash_of.ensures ∙ one ∙ sym c.hash_of-2.ensures)) in
+    λ l slotted. pair-saves g.S.X.BlockHash.block32 g.N.NameHash.name64 g.met.N.NameHash.fits (g.N.NameHash.name64 c.args.name.now) c.args.left c.args.name.now c.args.old.0 c.args.entry.now c.args.old.1 c.slot_at-slot.result c.in_ok-alone.alone c.requires.left some (g.S.Store.seen c.args.store.now).told refl (sym c.is_same.ensures ∙ c.if-is_same.false) c.slot_at-slot.ensures c.in_ok-alone.ensures l slotted (g.S.Store.seen c.put_into.new.store).told (g.S.Store.seen c.save_below.new.store).told c.in_ok-items.items c.in_ok-items.ensures.puts c.put_into.ensures.no_other c.save_below.ensures.no_other
+
+pub item_with-returns-in_err-items-in-Some-Sub-clause-no_other : goal.item_with-returns-in_err-items-in-Some-Sub-clause-no_other
+item_with-returns-in_err-items-in-Some-Sub-clause-no_other g t c =
+    let is = c.in-Some-Sub.is ∙ ap (λ (i : Item). Some i) c.in-Some-Sub.field-0-is in
+    let some : 1 ≤ c.args.left = sub-room g.S.X.BlockHash.block32 g.N.NameHash.name64 (g.N.NameHash.name64 c.args.name.now) c.args.left (slot (g.N.NameHash.name64 c.args.name.now) (7 - c.args.left)) c.args.found c.in-Some-Sub.below c.requires.left is c.requires.found in
+    λ l slotted.
+    let at = subst (λ (o : Option Item). IsSlot g.S.X.BlockHash.block32 g.N.NameHash.name64 (g.N.NameHash.name64 c.args.name.now) c.args.left (g.S.Store.seen c.args.store.now).told o l) is slotted in
+    sub-saves g.S.X.BlockHash.block32 g.N.NameHash.name64 (g.N.NameHash.name64 c.args.name.now) c.args.left (g.S.Store.seen c.args.store.now).told c.in-Some-Sub.below l c.requires.left some at (g.S.Store.seen c.items_with.new.store).told (with_name c.args.name.now c.args.entry.now) c.items_with.ensures.no_other
+
+pub item_with-returns-in_ok-items-in-Some-Sub-clause-no_other : goal.item_with-returns-in_ok-items-in-Some-Sub-clause-no_other
+item_with-returns-in_ok-items-in-Some-Sub-clause-no_other g t c =
+    let is = c.in-Some-Sub.is ∙ ap (λ (i : Item). Some i) c.in-Some-Sub.field-0-is in
+    let some : 1 ≤ c.args.left = sub-room g.S.X.BlockHash.block32 g.N.NameHash.name64 (g.N.NameHash.name64 c.args.name.now) c.args.left (slot (g.N.NameHash.name64 c.args.name.now) (7 - c.args.left)) c.args.found c.in-Some-Sub.below c.requires.left is c.requires.found in
+    λ l slotted.
+    let at = subst (λ (o : Option Item). IsSlot g.S.X.BlockHash.block32 g.N.NameHash.name64 (g.N.NameHash.name64 c.args.name.now) c.args.left (g.S.Store.seen c.args.store.now).told o l) is slotted in
+    put-saves g.S.X.BlockHash.block32 g.N.NameHash.name64 (g.N.NameHash.name64 c.args.name.now) c.args.left (g.S.Store.seen c.args.store.now).told c.in-Some-Sub.below l c.requires.left some at (g.S.Store.seen c.items_with.new.store).told (g.S.Store.seen c.save_below.new.store).told c.args.name.now c.args.entry.now c.in_ok-items-in-Some-Sub.items c.in_ok-items-in-Some-Sub.ensures.puts c.items_with.ensures.no_other c.save_below.ensures.no_other
+
+pub items_with-returns-clause-no_other : goal.items_with-returns-clause-no_other
+items_with-returns-clause-no_other g t c =
+    λ l is agrees. subst (λ (t : Told). SavesAmong g.S.X.BlockHash.block32 (below g.S.X.BlockHash.block32 g.N.NameHash.name64 c.args.left (with_name c.args.name.now c.args.entry.now l)) t (g.S.Store.seen c.put_into.new.store).told) c.in_ok-node.ensures.reads.told
+    (c.put_into.ensures.no_other l (items-read g.S.X.BlockHash.block32 g.N.NameHash.name64 (record { size = g.met.S.X.BlockHash.size; are_bytes = g.met.S.X.BlockHash.are_bytes }) (g.N.NameHash.name64 c.args.name.now) c.args.left c.args.cid.now none l c.requires is
+    (g.S.Store.seen c.args.store.now) (g.S.Store.seen c.load_shard.new.store).told c.in_ok-node.node c.in_ok-node.ensures.reads.told agrees c.in_ok-node.ensures.loads))
+
+pub put_into-returns-in_err-item-clause-no_other : goal.put_into-returns-in_err-item-clause-no_other
+put_into-returns-in_err-item-clause-no_other g t c =
+    λ l is. slot-saves g.S.X.BlockHash.block32 g.N.NameHash.name64 c.args.left (g.N.NameHash.name64 c.args.name.now) _ (with_name c.args.name.now c.args.entry.now l) (g.S.Store.seen c.args.store.now).told (g.S.Store.seen c.item_with.new.store).told
+    (bucket_at g.S.X.BlockHash.block32 g.N.NameHash.name64 (g.N.NameHash.name64 c.args.name.now) c.args.left c.requires.left (g.S.Store.seen c.args.store.now).told c.args.items.now c.args.name.now c.slot_at-slot.result c.in_ok-found.found refl
+    c.slot_at-slot.ensures (c.in_ok-found.ensures ∙ ap (λ (i : List InSlot). find nat_cmp c.slot_at-slot.result i) c.as_slice.ensures) l is c.args.entry.now)
+    (c.item_with.ensures.no_other _ (slotted g.S.X.BlockHash.block32 g.N.NameHash.name64 (g.N.NameHash.name64 c.args.name.now) c.args.left c.requires.left (g.S.Store.seen c.args.store.now).told c.args.items.now c.args.name.now c.slot_at-slot.result c.in_ok-found.found refl
+    c.slot_at-slot.ensures (c.in_ok-found.ensures ∙ ap (λ (i : List InSlot). find nat_cmp c.slot_at-slot.result i) c.as_slice.ensures) l is))
+
+pub put_into-returns-in_err-changed-clause-no_other : goal.put_into-returns-in_err-changed-clause-no_other
+put_into-returns-in_err-changed-clause-no_other g t c =
+    λ l is. slot-saves g.S.X.BlockHash.block32 g.N.NameHash.name64 c.args.left (g.N.NameHash.name64 c.args.name.now) _ (with_name c.args.name.now c.args.entry.now l) (g.S.Store.seen c.args.store.now).told (g.S.Store.seen c.item_with.new.store).told
+    (bucket_at g.S.X.BlockHash.block32 g.N.NameHash.name64 (g.N.NameHash.name64 c.args.name.now) c.args.left c.requires.left (g.S.Store.seen c.args.store.now).told c.args.items.now c.args.name.now c.slot_at-slot.result c.in_ok-found.found refl
+    c.slot_at-slot.ensures (c.in_ok-found.ensures ∙ ap (λ (i : List InSlot). find nat_cmp c.slot_at-slot.result i) c.as_slice.ensures) l is c.args.entry.now)
+    (c.item_with.ensures.no_other _ (slotted g.S.X.BlockHash.block32 g.N.NameHash.name64 (g.N.NameHash.name64 c.args.name.now) c.args.left c.requires.left (g.S.Store.seen c.args.store.now).told c.args.items.now c.args.name.now c.slot_at-slot.result c.in_ok-found.found refl
+    c.slot_at-slot.ensures (c.in_ok-found.ensures ∙ ap (λ (i : List InSlot). find nat_cmp c.slot_at-slot.result i) c.as_slice.ensures) l is))
+
+pub put_into-returns-clause-no_other : goal.put_into-returns-clause-no_other
+put_into-returns-clause-no_other g t c =
+    λ l is. slot-saves g.S.X.BlockHash.block32 g.N.NameHash.name64 c.args.left (g.N.NameHash.name64 c.args.name.now) _ (with_name c.args.name.now c.args.entry.now l) (g.S.Store.seen c.args.store.now).told (g.S.Store.seen c.item_with.new.store).told
+    (bucket_at g.S.X.BlockHash.block32 g.N.NameHash.name64 (g.N.NameHash.name64 c.args.name.now) c.args.left c.requires.left (g.S.Store.seen c.args.store.now).told c.args.items.now c.args.name.now c.slot_at-slot.result c.in_ok-found.found refl
+    c.slot_at-slot.ensures (c.in_ok-found.ensures ∙ ap (λ (i : List InSlot). find nat_cmp c.slot_at-slot.result i) c.as_slice.ensures) l is c.args.entry.now)
+    (c.item_with.ensures.no_other _ (slotted g.S.X.BlockHash.block32 g.N.NameHash.name64 (g.N.NameHash.name64 c.args.name.now) c.args.left c.requires.left (g.S.Store.seen c.args.store.now).told c.args.items.now c.args.name.now c.slot_at-slot.result c.in_ok-found.found refl
+    c.slot_at-slot.ensures (c.in_ok-found.ensures ∙ ap (λ (i : List InSlot). find nat_cmp c.slot_at-slot.result i) c.as_slice.ensures) l is))

@@ -3,8 +3,13 @@ use Rattle.uf_shard.specs.Placed.{IsBadOnWay}
 use Rattle.std.proofs.lemmas.Result.{err_from_is_err_and}
 use Rattle.std.specs.declared.result.Result.TheVariants.{Ok, Err}
 use Rattle.uf_store.proofs.Calls.{reads-saves, saves-saves}
+use Rattle.uf_store.proofs.Among.{SavesAmong-trans}
+use Rattle.uf_tree.specs.Changes.{with_name}
+use Rattle.uf_tree.specs.ShardPlan.{shard}
+use Rattle.uf_shard.specs.Changed.{below}
+use Rattle.uf_shard.proofs.Among.{root-saves, tree-saves}
 use Rattle.uf_shard.proofs.Saves.{saves-new}
-use Rattle.uf_shard.proofs.AtRoot.{keeps-from, root-entry, root-held, root-lost, root-puts}
+use Rattle.uf_shard.proofs.AtRoot.{keeps-from, root-among, root-below, root-entry, root-held, root-lost, root-puts}
 use Rattle.uf_shard.proofs.Ends.{calm-loss, on-ok, put-after, put-err, put-ok}
 use Rattle.uf_shard.proofs.putting.put.Goals as goal
 
@@ -54,3 +59,32 @@ returns-in_err-entry-clause-saves g c = (saves-new (saves-saves (reads-saves c.i
 
 pub returns-clause-saves : goal.returns-clause-saves
 returns-clause-saves g c = (saves-new (saves-saves (reads-saves c.in_ok-node.ensures.reads) c.in_ok-items.ensures.saves) c.in_ok-entry.ensures.saves).saves
+
+pub returns-in_err-items-clause-no_other : goal.returns-in_err-items-clause-no_other
+returns-in_err-items-clause-no_other g c = λ m l is agrees.
+    let good : IsHash g.S.X.BlockHash.block32 = record { size = g.met.S.X.BlockHash.size; are_bytes = g.met.S.X.BlockHash.are_bytes } in
+    let new = with_name c.args.name.now c.args.entry.now in
+    tree-saves g.S.X.BlockHash.block32 g.N.NameHash.name64 7 m (new l) (g.S.Store.seen c.args.store.now).told (g.S.Store.seen c.put_into.new.store).told
+    (root-below g.S.X.BlockHash.block32 g.N.NameHash.name64 good c.args.name.now c.args.root.now m l is (g.S.Store.seen c.args.store.now) agrees (g.S.Store.seen c.load_shard.new.store).told c.in_ok-node.node c.in_ok-node.ensures.reads.told c.in_ok-node.ensures.loads (g.S.Store.seen c.put_into.new.store).told (λ k. below g.S.X.BlockHash.block32 g.N.NameHash.name64 7 (new k)) c.put_into.ensures.no_other)
+
+pub returns-in_err-entry-clause-no_other : goal.returns-in_err-entry-clause-no_other
+returns-in_err-entry-clause-no_other g c = λ m l is agrees.
+    let good : IsHash g.S.X.BlockHash.block32 = record { size = g.met.S.X.BlockHash.size; are_bytes = g.met.S.X.BlockHash.are_bytes } in
+    let new = with_name c.args.name.now c.args.entry.now in
+    SavesAmong-trans g.S.X.BlockHash.block32 (shard g.S.X.BlockHash.block32 g.N.NameHash.name64 7 m (new l)).blocks (g.S.Store.seen c.args.store.now).told (g.S.Store.seen c.put_into.new.store).told (g.S.Store.seen c.save_node.new.store).told
+    (tree-saves g.S.X.BlockHash.block32 g.N.NameHash.name64 7 m (new l) (g.S.Store.seen c.args.store.now).told (g.S.Store.seen c.put_into.new.store).told
+    (root-below g.S.X.BlockHash.block32 g.N.NameHash.name64 good c.args.name.now c.args.root.now m l is (g.S.Store.seen c.args.store.now) agrees (g.S.Store.seen c.load_shard.new.store).told c.in_ok-node.node c.in_ok-node.ensures.reads.told c.in_ok-node.ensures.loads (g.S.Store.seen c.put_into.new.store).told (λ k. below g.S.X.BlockHash.block32 g.N.NameHash.name64 7 (new k)) c.put_into.ensures.no_other))
+    (root-saves g.S.X.BlockHash.block32 g.N.NameHash.name64 7 m c.in_ok-items.items (new l) (g.S.Store.seen c.put_into.new.store).told (g.S.Store.seen c.save_node.new.store).told
+    (root-puts g.S.X.BlockHash.block32 g.N.NameHash.name64 good c.args.name.now c.args.root.now m l is (g.S.Store.seen c.args.store.now) agrees (g.S.Store.seen c.load_shard.new.store).told c.in_ok-node.node c.in_ok-node.ensures.reads.told c.in_ok-node.ensures.loads (g.S.Store.seen c.put_into.new.store).told c.args.entry.now (Ok c.in_ok-items.items) c.in_ok-items.ensures.puts).1.same
+    (root-among g.S.X.BlockHash.block32 g.N.NameHash.name64 good c.args.name.now c.args.root.now m l is (g.S.Store.seen c.args.store.now) agrees (g.S.Store.seen c.load_shard.new.store).told c.in_ok-node.node c.in_ok-node.ensures.reads.told c.in_ok-node.ensures.loads (g.S.Store.seen c.put_into.new.store).told (g.S.Store.seen c.save_node.new.store).told c.in_ok-items.items c.save_node.ensures.no_other))
+
+pub returns-clause-no_other : goal.returns-clause-no_other
+returns-clause-no_other g c = λ m l is agrees.
+    let good : IsHash g.S.X.BlockHash.block32 = record { size = g.met.S.X.BlockHash.size; are_bytes = g.met.S.X.BlockHash.are_bytes } in
+    let new = with_name c.args.name.now c.args.entry.now in
+    SavesAmong-trans g.S.X.BlockHash.block32 (shard g.S.X.BlockHash.block32 g.N.NameHash.name64 7 m (new l)).blocks (g.S.Store.seen c.args.store.now).told (g.S.Store.seen c.put_into.new.store).told (g.S.Store.seen c.save_node.new.store).told
+    (tree-saves g.S.X.BlockHash.block32 g.N.NameHash.name64 7 m (new l) (g.S.Store.seen c.args.store.now).told (g.S.Store.seen c.put_into.new.store).told
+    (root-below g.S.X.BlockHash.block32 g.N.NameHash.name64 good c.args.name.now c.args.root.now m l is (g.S.Store.seen c.args.store.now) agrees (g.S.Store.seen c.load_shard.new.store).told c.in_ok-node.node c.in_ok-node.ensures.reads.told c.in_ok-node.ensures.loads (g.S.Store.seen c.put_into.new.store).told (λ k. below g.S.X.BlockHash.block32 g.N.NameHash.name64 7 (new k)) c.put_into.ensures.no_other))
+    (root-saves g.S.X.BlockHash.block32 g.N.NameHash.name64 7 m c.in_ok-items.items (new l) (g.S.Store.seen c.put_into.new.store).told (g.S.Store.seen c.save_node.new.store).told
+    (root-puts g.S.X.BlockHash.block32 g.N.NameHash.name64 good c.args.name.now c.args.root.now m l is (g.S.Store.seen c.args.store.now) agrees (g.S.Store.seen c.load_shard.new.store).told c.in_ok-node.node c.in_ok-node.ensures.reads.told c.in_ok-node.ensures.loads (g.S.Store.seen c.put_into.new.store).told c.args.entry.now (Ok c.in_ok-items.items) c.in_ok-items.ensures.puts).1.same
+    (root-among g.S.X.BlockHash.block32 g.N.NameHash.name64 good c.args.name.now c.args.root.now m l is (g.S.Store.seen c.args.store.now) agrees (g.S.Store.seen c.load_shard.new.store).told c.in_ok-node.node c.in_ok-node.ensures.reads.told c.in_ok-node.ensures.loads (g.S.Store.seen c.put_into.new.store).told (g.S.Store.seen c.save_node.new.store).told c.in_ok-items.items c.save_node.ensures.no_other))

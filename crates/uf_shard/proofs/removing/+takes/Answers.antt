@@ -14,6 +14,12 @@ use Rattle.uf_store.proofs.Calls.{reads-saves}
 use Rattle.uf_shard.proofs.Saves.{saves-new}
 use Rattle.uf_shard.proofs.Placing.{below-in, items-read, load-lost}
 use Rattle.uf_shard.proofs.Puts.{found-at, sub-room}
+use Rattle.uf_store.specs.Among.{SavesAmong}
+use Rattle.uf_store.specs.Contents.{Told}
+use Rattle.uf_tree.specs.Changes.{without}
+use Rattle.uf_shard.specs.Changed.{below}
+use Rattle.uf_shard.proofs.Among.{slot-saves, sub-saves, take-saves}
+use Rattle.uf_shard.proofs.Takes.{bucket_at, slotted_here}
 use Rattle.uf_shard.proofs.Takes.{into-takes-err, into-takes-none, into-takes-some, not-same, sub-takes-err, sub-takes-none, sub-takes-some, takes-more, unsaved-below, unsaved-set, valid-set}
 use Rattle.uf_shard.proofs.removing.+takes.Goals as goal
 
@@ -111,3 +117,65 @@ items_without-returns-in_err-node-clause-saves g t c = let out = err_from_is_err
 
 pub item_without-returns-in-Some-clause-absent : goal.item_without-returns-in-Some-clause-absent
 item_without-returns-in-Some-clause-absent g t c = not-same g.S.X.BlockHash.block32 g.N.NameHash.name64 (g.S.Store.seen c.items_without.new.store).told (g.S.Store.seen c.rest_of.new.store).told c.in-Some.items c.rest_of.result (c.rest_of.new.touches ≤ c.args.touches.now + c.args.left) (c.rest_of.ensures.leaves g.N.NameHash.name64)
+
+pub item_without-returns-in_err-rest-in-Some-Sub-clause-no_other : goal.item_without-returns-in_err-rest-in-Some-Sub-clause-no_other
+item_without-returns-in_err-rest-in-Some-Sub-clause-no_other g t c =
+    let is = c.in-Some-Sub.is ∙ ap (λ (i : Item). Some i) c.in-Some-Sub.field-0-is in
+    let some : 1 ≤ c.args.left = sub-room g.S.X.BlockHash.block32 g.N.NameHash.name64 (g.N.NameHash.name64 c.args.name.now) c.args.left (slot (g.N.NameHash.name64 c.args.name.now) (7 - c.args.left)) c.args.found c.in-Some-Sub.below c.requires.left is c.requires.found in
+    λ l slotted.
+    let at = subst (λ (o : Option Item). IsSlot g.S.X.BlockHash.block32 g.N.NameHash.name64 (g.N.NameHash.name64 c.args.name.now) c.args.left (g.S.Store.seen c.args.store.now).told o l) is slotted in
+    sub-saves g.S.X.BlockHash.block32 g.N.NameHash.name64 (g.N.NameHash.name64 c.args.name.now) c.args.left (g.S.Store.seen c.args.store.now).told c.in-Some-Sub.below l c.requires.left some at (g.S.Store.seen c.items_without.new.store).told (without c.args.name.now) c.items_without.ensures.no_other
+
+pub item_without-returns-in-None-rest-clause-no_other : goal.item_without-returns-in-None-rest-clause-no_other
+item_without-returns-in-None-rest-clause-no_other g t c =
+    let is = c.in-Some-Sub.is ∙ ap (λ (i : Item). Some i) c.in-Some-Sub.field-0-is in
+    let some : 1 ≤ c.args.left = sub-room g.S.X.BlockHash.block32 g.N.NameHash.name64 (g.N.NameHash.name64 c.args.name.now) c.args.left (slot (g.N.NameHash.name64 c.args.name.now) (7 - c.args.left)) c.args.found c.in-Some-Sub.below c.requires.left is c.requires.found in
+    λ l slotted.
+    let at = subst (λ (o : Option Item). IsSlot g.S.X.BlockHash.block32 g.N.NameHash.name64 (g.N.NameHash.name64 c.args.name.now) c.args.left (g.S.Store.seen c.args.store.now).told o l) is slotted in
+    sub-saves g.S.X.BlockHash.block32 g.N.NameHash.name64 (g.N.NameHash.name64 c.args.name.now) c.args.left (g.S.Store.seen c.args.store.now).told c.in-Some-Sub.below l c.requires.left some at (g.S.Store.seen c.items_without.new.store).told (without c.args.name.now) c.items_without.ensures.no_other
+
+pub item_without-returns-in-Some-clause-no_other : goal.item_without-returns-in-Some-clause-no_other
+item_without-returns-in-Some-clause-no_other g t c =
+    let is = c.in-Some-Sub.is ∙ ap (λ (i : Item). Some i) c.in-Some-Sub.field-0-is in
+    let some : 1 ≤ c.args.left = sub-room g.S.X.BlockHash.block32 g.N.NameHash.name64 (g.N.NameHash.name64 c.args.name.now) c.args.left (slot (g.N.NameHash.name64 c.args.name.now) (7 - c.args.left)) c.args.found c.in-Some-Sub.below c.requires.left is c.requires.found in
+    λ l slotted.
+    let at = subst (λ (o : Option Item). IsSlot g.S.X.BlockHash.block32 g.N.NameHash.name64 (g.N.NameHash.name64 c.args.name.now) c.args.left (g.S.Store.seen c.args.store.now).told o l) is slotted in
+    take-saves g.S.X.BlockHash.block32 g.N.NameHash.name64 (g.N.NameHash.name64 c.args.name.now) c.args.left (g.S.Store.seen c.args.store.now).told c.in-Some-Sub.below l c.requires.left some at (g.S.Store.seen c.items_without.new.store).told (g.S.Store.seen c.rest_of.new.store).told c.args.name.now c.in-Some.items (rw c.in-Some.is at c.in_ok-rest-in-Some-Sub.ensures.takes) c.items_without.ensures.no_other c.rest_of.ensures.no_other
+
+pub items_without-returns-clause-no_other : goal.items_without-returns-clause-no_other
+items_without-returns-clause-no_other g t c =
+    λ l is agrees. subst (λ (t : Told). SavesAmong g.S.X.BlockHash.block32 (below g.S.X.BlockHash.block32 g.N.NameHash.name64 c.args.left (without c.args.name.now l)) t (g.S.Store.seen c.take_from.new.store).told) c.in_ok-node.ensures.reads.told
+    (c.take_from.ensures.no_other l (items-read g.S.X.BlockHash.block32 g.N.NameHash.name64 (record { size = g.met.S.X.BlockHash.size; are_bytes = g.met.S.X.BlockHash.are_bytes }) (g.N.NameHash.name64 c.args.name.now) c.args.left c.args.cid.now none l c.requires is
+    (g.S.Store.seen c.args.store.now) (g.S.Store.seen c.load_shard.new.store).told c.in_ok-node.node c.in_ok-node.ensures.reads.told agrees c.in_ok-node.ensures.loads))
+
+pub take_from-returns-in_err-rest-clause-no_other : goal.take_from-returns-in_err-rest-clause-no_other
+take_from-returns-in_err-rest-clause-no_other g t c =
+    λ l is. slot-saves g.S.X.BlockHash.block32 g.N.NameHash.name64 c.args.left (g.N.NameHash.name64 c.args.name.now) _ (without c.args.name.now l) (g.S.Store.seen c.args.store.now).told (g.S.Store.seen c.item_without.new.store).told
+    (bucket_at g.S.X.BlockHash.block32 g.N.NameHash.name64 (g.N.NameHash.name64 c.args.name.now) c.args.left c.requires.left (g.S.Store.seen c.args.store.now).told c.args.items.now c.args.name.now c.slot_at-slot.result c.in_ok-found.found refl
+    c.slot_at-slot.ensures (c.in_ok-found.ensures ∙ ap (λ (i : List InSlot). find nat_cmp c.slot_at-slot.result i) c.as_slice.ensures) l is)
+    (c.item_without.ensures.no_other _ (slotted_here g.S.X.BlockHash.block32 g.N.NameHash.name64 (g.N.NameHash.name64 c.args.name.now) c.args.left c.requires.left (g.S.Store.seen c.args.store.now).told c.args.items.now c.args.name.now c.slot_at-slot.result c.in_ok-found.found refl
+    c.slot_at-slot.ensures (c.in_ok-found.ensures ∙ ap (λ (i : List InSlot). find nat_cmp c.slot_at-slot.result i) c.as_slice.ensures) l is))
+
+pub take_from-returns-in-Same-clause-no_other : goal.take_from-returns-in-Same-clause-no_other
+take_from-returns-in-Same-clause-no_other g t c =
+    λ l is. slot-saves g.S.X.BlockHash.block32 g.N.NameHash.name64 c.args.left (g.N.NameHash.name64 c.args.name.now) _ (without c.args.name.now l) (g.S.Store.seen c.args.store.now).told (g.S.Store.seen c.item_without.new.store).told
+    (bucket_at g.S.X.BlockHash.block32 g.N.NameHash.name64 (g.N.NameHash.name64 c.args.name.now) c.args.left c.requires.left (g.S.Store.seen c.args.store.now).told c.args.items.now c.args.name.now c.slot_at-slot.result c.in_ok-found.found refl
+    c.slot_at-slot.ensures (c.in_ok-found.ensures ∙ ap (λ (i : List InSlot). find nat_cmp c.slot_at-slot.result i) c.as_slice.ensures) l is)
+    (c.item_without.ensures.no_other _ (slotted_here g.S.X.BlockHash.block32 g.N.NameHash.name64 (g.N.NameHash.name64 c.args.name.now) c.args.left c.requires.left (g.S.Store.seen c.args.store.now).told c.args.items.now c.args.name.now c.slot_at-slot.result c.in_ok-found.found refl
+    c.slot_at-slot.ensures (c.in_ok-found.ensures ∙ ap (λ (i : List InSlot). find nat_cmp c.slot_at-slot.result i) c.as_slice.ensures) l is))
+
+pub take_from-returns-in_err-changed-in-Of-clause-no_other : goal.take_from-returns-in_err-changed-in-Of-clause-no_other
+take_from-returns-in_err-changed-in-Of-clause-no_other g t c =
+    λ l is. slot-saves g.S.X.BlockHash.block32 g.N.NameHash.name64 c.args.left (g.N.NameHash.name64 c.args.name.now) _ (without c.args.name.now l) (g.S.Store.seen c.args.store.now).told (g.S.Store.seen c.item_without.new.store).told
+    (bucket_at g.S.X.BlockHash.block32 g.N.NameHash.name64 (g.N.NameHash.name64 c.args.name.now) c.args.left c.requires.left (g.S.Store.seen c.args.store.now).told c.args.items.now c.args.name.now c.slot_at-slot.result c.in_ok-found.found refl
+    c.slot_at-slot.ensures (c.in_ok-found.ensures ∙ ap (λ (i : List InSlot). find nat_cmp c.slot_at-slot.result i) c.as_slice.ensures) l is)
+    (c.item_without.ensures.no_other _ (slotted_here g.S.X.BlockHash.block32 g.N.NameHash.name64 (g.N.NameHash.name64 c.args.name.now) c.args.left c.requires.left (g.S.Store.seen c.args.store.now).told c.args.items.now c.args.name.now c.slot_at-slot.result c.in_ok-found.found refl
+    c.slot_at-slot.ensures (c.in_ok-found.ensures ∙ ap (λ (i : List InSlot). find nat_cmp c.slot_at-slot.result i) c.as_slice.ensures) l is))
+
+pub take_from-returns-in_ok-changed-in-Of-clause-no_other : goal.take_from-returns-in_ok-changed-in-Of-clause-no_other
+take_from-returns-in_ok-changed-in-Of-clause-no_other g t c =
+    λ l is. slot-saves g.S.X.BlockHash.block32 g.N.NameHash.name64 c.args.left (g.N.NameHash.name64 c.args.name.now) _ (without c.args.name.now l) (g.S.Store.seen c.args.store.now).told (g.S.Store.seen c.item_without.new.store).told
+    (bucket_at g.S.X.BlockHash.block32 g.N.NameHash.name64 (g.N.NameHash.name64 c.args.name.now) c.args.left c.requires.left (g.S.Store.seen c.args.store.now).told c.args.items.now c.args.name.now c.slot_at-slot.result c.in_ok-found.found refl
+    c.slot_at-slot.ensures (c.in_ok-found.ensures ∙ ap (λ (i : List InSlot). find nat_cmp c.slot_at-slot.result i) c.as_slice.ensures) l is)
+    (c.item_without.ensures.no_other _ (slotted_here g.S.X.BlockHash.block32 g.N.NameHash.name64 (g.N.NameHash.name64 c.args.name.now) c.args.left c.requires.left (g.S.Store.seen c.args.store.now).told c.args.items.now c.args.name.now c.slot_at-slot.result c.in_ok-found.found refl
+    c.slot_at-slot.ensures (c.in_ok-found.ensures ∙ ap (λ (i : List InSlot). find nat_cmp c.slot_at-slot.result i) c.as_slice.ensures) l is))

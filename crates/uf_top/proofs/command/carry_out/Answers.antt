@@ -2,12 +2,20 @@ use Rattle.std.proofs.Common.{◌≡◌, ◌∙◌, false, true, ap, refl, sym, 
 use Rattle.std.specs.Prelude.{IfErr}
 use Rattle.uf_command.specs.Natures.{generates, own_store, reads_input, touches_nothing, uses_host}
 use Rattle.uf_command.specs.declared.types.Command.TheVariants.{Adopt, Cat, Export, Get, Import, Pin, Prove, Read, Same}
+use Rattle.uf_command.specs.declared.types.PinAsk.{PinAsk}
+use Rattle.uf_command.specs.declared.types.PinAsk.TheVariants as pins
 use Rattle.uf_top.specs.Around.{around, host_side}
 use Rattle.uf_top.specs.Cars.{ByOwnStore}
 use Rattle.uf_top.specs.Working.{Does}
 use Rattle.uf_top.proofs.Printing.{prints-does, refused-does, standing-of}
 use Rattle.uf_top.proofs.Serving.{alone-given, alone-spares, spares-own}
 use Rattle.uf_top.proofs.command.carry_out.Goals as goal
+
+-- of the commands on pins the list alone makes no touch
+only-lists : (ask : PinAsk) → touches_nothing (Pin ask) ≡ true → ask ≡ pins.List
+only-lists (pins.Add cid) e = absurd cc
+only-lists (pins.Remove cid) e = absurd cc
+only-lists pins.List e = refl
 
 pub returns-in-Read-clause-does : goal.returns-in-Read-clause-does
 returns-in-Read-clause-does g c =
@@ -187,13 +195,13 @@ returns-in-Pin g c =
       does = subst (λ command. Does g.S.X.BlockHash.block32 g.N.NameHash.name64 command c.pin.result
           (around (g.S.Store.seen c.args.store.now) l i (g.O.Sink.holds c.args.output.now) (g.O.Sink.faults c.args.output.now) c.args.touches.now s)
           (around (g.S.Store.seen c.pin.new.store) l i (g.O.Sink.holds c.pin.new.output) (g.O.Sink.faults c.pin.new.output) c.pin.new.touches s))
-          (sym c.in-Pin.is) (c.pin.ensures g.N.NameHash.name64 l i s);
+          (sym c.in-Pin.is) (c.pin.ensures.does g.N.NameHash.name64 l i s);
       own = subst (λ command. IfErr c.pin.result (ByOwnStore g.S.X.BlockHash.block32 (own_store command) (g.I.Source.left c.args.input.now) (g.S.Store.seen c.args.store.now) (g.S.Store.seen c.pin.new.store))) (sym c.in-Pin.is)
-          (spares-own g.S.X.BlockHash.block32 (g.I.Source.left c.args.input.now) (g.S.Store.seen c.args.store.now) (g.S.Store.seen c.pin.new.store) (Pin c.in-Pin.ask) c.pin.result refl (c.pin.ensures g.N.NameHash.name64 l i s).kinds);
+          (spares-own g.S.X.BlockHash.block32 (g.I.Source.left c.args.input.now) (g.S.Store.seen c.args.store.now) (g.S.Store.seen c.pin.new.store) (Pin c.in-Pin.ask) c.pin.result refl (c.pin.ensures.does g.N.NameHash.name64 l i s).kinds);
       input = λ e. refl;
       host = λ e. refl;
       left = λ e. absurd (let k : generates (Pin c.in-Pin.ask) ≡ true = ap generates (sym c.in-Pin.is) ∙ e in cc);
-      untouched = λ e. absurd (let k : touches_nothing (Pin c.in-Pin.ask) ≡ true = ap touches_nothing (sym c.in-Pin.is) ∙ e in cc);
+      untouched = λ e. c.pin.ensures.untouched (only-lists c.in-Pin.ask (ap touches_nothing (sym c.in-Pin.is) ∙ e));
     }
 
 pub returns-in-Prove : goal.returns-in-Prove

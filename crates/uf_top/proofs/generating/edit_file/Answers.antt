@@ -6,4 +6,4 @@ pub returns-in-Ok-clause-grows : goal.returns-in-Ok-clause-grows
 returns-in-Ok-clause-grows g c = λ made stands.
     edit-grows g.S.X.BlockHash.block32 g.N.NameHash.name64 c.args.tree.now c.edited.new.tree c.args.edit.now c.in-Ok.path
     (file_path c.args.i) c.edited.result (g.S.Store.seen c.args.store.now) (g.S.Store.seen c.edited.new.store) c.args.touches.now
-    c.edited.new.touches c.in-Ok.ensures c.edited.ensures.edits made stands
+    c.edited.new.touches c.in-Ok.ensures.names c.edited.ensures.edits made stands

@@ -1,7 +1,7 @@
 use Rattle.uf_tree.proofs.Shards.{shard_of_parts}
 use Rattle.uf_tree.proofs.shard_read.shard_node_of.Goals as goal
 
-pub returns-in-Ok-items_of_links : goal.returns-in-Ok-items_of_links
-returns-in-Ok-items_of_links c =
-    shard_of_parts c.args.node.now c.in-Some.content c.as_slice.result.now c.as_slice-in-Ok-items_of_links.result.now c.as_slice-in-Ok.result.now c.in-Ok-items_of_links.items c.in-Ok.meta c.whole.result
-    c.in-Some.is c.as_slice.ensures c.as_slice-in-Ok-items_of_links.ensures c.as_slice-in-Ok.ensures c.in-Ok.ensures c.in-Ok-items_of_links.ensures c.whole.ensures
+pub returns-in_ok-items-in-Some : goal.returns-in_ok-items-in-Some
+returns-in_ok-items-in-Some c =
+    shard_of_parts c.args.node.now c.in-Some.content c.as_slice.result.now c.as_slice-in-Some-2.result.now c.as_slice-in-Some.result.now c.in_ok-items-in-Some.items c.in_ok-meta-in-Some.meta c.whole.result
+    c.in-Some.is c.as_slice.ensures c.as_slice-in-Some-2.ensures c.as_slice-in-Some.ensures c.in_ok-meta-in-Some.ensures c.in_ok-items-in-Some.ensures c.whole.ensures

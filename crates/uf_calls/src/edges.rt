@@ -1,0 +1,130 @@
+//! Calls on sources, sinks and lines in memory. A number of a call that is to fail is counted from 1; 0 is none.
+
+use crate::cids::size_of;
+use std::alloc::Global;
+use uf_cid::{Block, Memory};
+use uf_edge::{Filled, Intake, MemSink, MemSource, Sent, fill, read_all, write_all};
+use uf_lines::{Line, Lines};
+use uf_testing::{block_of, calls, number_and_rest, number_of, say, tell_bytes, tell_count};
+
+/// The call that is to fail, as streams count it.
+pub fn failing(number: u64) -> Option<u64> {
+    number.checked_sub(1)
+}
+
+/// A source of these bytes that gives so many in a call, of which one may fail.
+pub fn source_of(alloc: Global, bytes: &[u8], step: u64, fails: u64) -> Result<MemSource, Memory> {
+    let block = block_of(alloc, bytes)?;
+    let fails = calls(alloc, failing(fails))?;
+    Ok(MemSource::new(block, size_of(step).max(1), fails))
+}
+
+// Reads all of a source of at most n bytes: `read-all STEP LIMIT CALL`.
+fn read_whole(alloc: Global, bytes: &[u8], rest: &str, told: &mut Block) -> Result<(), Memory> {
+    let (step, rest) = number_and_rest(rest);
+    let (limit, rest) = number_and_rest(rest);
+    let mut input = source_of(alloc, bytes, step, number_of(rest))?;
+    match read_all(alloc, &mut input, limit) {
+        Ok(got) => tell_bytes(told, alloc, b"> ", got.as_slice()),
+        Err(Intake::TooLong) => say(told, "too long"),
+        Err(Intake::Failed) => say(told, "failed"),
+        Err(Intake::Memory) => Err(Memory),
+    }
+}
+
+// What is in a buffer of n bytes.
+fn say_filled(
+    alloc: Global,
+    filled: Filled,
+    buffer: &[u8],
+    told: &mut Block,
+) -> Result<(), Memory> {
+    match filled {
+        Filled::Full => tell_bytes(told, alloc, b"> full of ", buffer),
+        Filled::Ended(count) => {
+            tell_count(told, alloc, count)?;
+            tell_bytes(told, alloc, b"> ", &buffer[..count.min(buffer.len())])
+        }
+        Filled::Failed => say(told, "failed"),
+    }
+}
+
+// Fills a buffer: `fill STEP SIZE CALL`.
+fn fill_buffer(alloc: Global, bytes: &[u8], rest: &str, told: &mut Block) -> Result<(), Memory> {
+    let (step, rest) = number_and_rest(rest);
+    let (size, rest) = number_and_rest(rest);
+    let mut input = source_of(alloc, bytes, step, number_of(rest))?;
+    let mut buffer = uf_cid::zeros(alloc, size.min(65536) as usize)?;
+    let filled = fill(&mut input, &mut buffer);
+    say_filled(alloc, filled, &buffer, told)
+}
+
+// Writes bytes twice into a sink with so much room: `write-twice ROOM CALL`.
+fn write_twice(alloc: Global, bytes: &[u8], rest: &str, told: &mut Block) -> Result<(), Memory> {
+    let (room, rest) = number_and_rest(rest);
+    let fails = calls(alloc, failing(number_of(rest)))?;
+    let mut output = MemSink::new(alloc, room.min(65536) as usize, fails)?;
+    let _ = write_all(&mut output, bytes);
+    let sent = write_all(&mut output, bytes);
+    say(told, if sent == Sent::Done { "done" } else { "failed" })?;
+    tell_bytes(told, alloc, b"> ", output.bytes())
+}
+
+// Says a line that was given.
+fn say_given(alloc: Global, bytes: &[u8], told: &mut Block) -> Result<(), Memory> {
+    let mut line = Block::from_slice(alloc, bytes)?;
+    line.extend(b"\n")?;
+    tell_bytes(told, alloc, b"> line ", line.as_slice())
+}
+
+// Says why no line comes.
+fn say_end(alloc: Global, line: Line, told: &mut Block) -> Result<(), Memory> {
+    let why = format!(in alloc; "{line:?}")?;
+    say(told, why.as_str())
+}
+
+// Takes the lines of a source, at most a thousand.
+fn take_lines(
+    alloc: Global,
+    most: usize,
+    limit: u64,
+    input: &mut MemSource,
+    told: &mut Block,
+) -> Result<(), Memory> {
+    let mut lines = Lines::new(alloc, most, limit);
+    for _ in 0..1000 {
+        let line = lines.next(input);
+        if line != Line::Given {
+            return say_end(alloc, line, told);
+        }
+        say_given(alloc, lines.line(), told)?;
+    }
+    Ok(())
+}
+
+// The lines of a source: `lines STEP MOST LIMIT CALL`.
+fn read_lines(alloc: Global, bytes: &[u8], rest: &str, told: &mut Block) -> Result<(), Memory> {
+    let (step, rest) = number_and_rest(rest);
+    let (most, rest) = number_and_rest(rest);
+    let (limit, rest) = number_and_rest(rest);
+    let mut input = source_of(alloc, bytes, step, number_of(rest))?;
+    take_lines(alloc, size_of(most), limit, &mut input, told)
+}
+
+/// Makes a call on the bytes of the input; whether the word names one of these.
+pub fn call_on(
+    alloc: Global,
+    bytes: &[u8],
+    word: &str,
+    rest: &str,
+    told: &mut Block,
+) -> Result<bool, Memory> {
+    match word {
+        "read-all" => read_whole(alloc, bytes, rest, told)?,
+        "fill" => fill_buffer(alloc, bytes, rest, told)?,
+        "write-twice" => write_twice(alloc, bytes, rest, told)?,
+        "lines" => read_lines(alloc, bytes, rest, told)?,
+        _ => return Ok(false),
+    }
+    Ok(true)
+}

@@ -1,0 +1,307 @@
+//! Calls on the bytes of nodes, messages, names and Heads, and on groups of pieces.
+ghost use Rattle.std.specs.Prelude.{◌≡◌, ◌*◌, length, IsTrue};
+ghost use Rattle.uf_tree.specs.Profiles.{is_profile};
+
+use crate::cids::{say_cid, size_of, small};
+use sha2::{Digest, Sha256};
+use std::alloc::Global;
+use uf_cid::{Block, BlockHash, Cid, Memory, Sha256Hash, StrictFault};
+use uf_dagpb::{Node, PbFault};
+use uf_message::Message;
+use uf_testing::{number_and_rest, number_of, say, tell_bytes, tell_count};
+use uf_tree::{
+    BadProfile, Head, Name, NameFault, Profile, dir_node, file_node, head_text, read_dir_node,
+    read_file_node, read_head, read_shard_node, shard_node,
+};
+
+// Says how many links a node has, and of the last one what it is, and what the content is.
+fn say_node(alloc: Global, node: &Node, told: &mut Block) -> Result<(), Memory> {
+    tell_count(told, alloc, node.links.len())?;
+    if let Some(last) = node.links.as_slice().last() {
+        say_cid(told, &last.cid)?;
+        let size = format!(in alloc; "{} {}", last.tsize, last.name.as_str())?;
+        say(told, size.as_str())?;
+    }
+    match &node.content {
+        Some(content) => tell_bytes(told, alloc, b"> content ", content.as_slice()),
+        None => say(told, "no content"),
+    }
+}
+
+// Reads a node as others may have written it.
+fn read_node(alloc: Global, bytes: &[u8], told: &mut Block) -> Result<(), Memory> {
+    match uf_dagpb::decode_lenient(alloc, bytes) {
+        Ok(node) => say_node(alloc, &node, told),
+        Err(fault) => {
+            let line = format!(in alloc; "{fault:?}")?;
+            say(told, line.as_str())
+        }
+    }
+}
+
+// Says how many links a node has.
+fn count_links(alloc: Global, bytes: &[u8], told: &mut Block) -> Result<(), Memory> {
+    match uf_dagpb::decode_lenient(alloc, bytes) {
+        Ok(node) => tell_count(told, alloc, node.links.len()),
+        Err(fault) => {
+            let line = format!(in alloc; "{fault:?}")?;
+            say(told, line.as_str())
+        }
+    }
+}
+
+// Whether a block that was written has these bytes.
+fn are_bytes(spelled: Result<Block, Memory>, bytes: &[u8]) -> Result<bool, StrictFault> {
+    match spelled {
+        Ok(block) => Ok(block.as_slice() == bytes),
+        Err(Memory) => Err(StrictFault::Memory),
+    }
+}
+
+// Reads a node strictly, and writes it again: whether the bytes and their number are the same.
+fn node_again(alloc: Global, bytes: &[u8]) -> Result<bool, StrictFault> {
+    match uf_dagpb::decode_strict(alloc, bytes) {
+        Ok(node) if uf_dagpb::encoded_len(&node) == bytes.len() => {
+            are_bytes(uf_dagpb::encode(alloc, &node), bytes)
+        }
+        Ok(_) => Ok(false),
+        Err(fault) => Err(fault),
+    }
+}
+
+fn message_again(alloc: Global, bytes: &[u8]) -> Result<bool, StrictFault> {
+    match uf_message::decode_strict(alloc, bytes) {
+        Ok(node) => are_bytes(uf_message::encode(alloc, &node), bytes),
+        Err(fault) => Err(fault),
+    }
+}
+
+fn file_again(alloc: Global, bytes: &[u8]) -> Result<bool, StrictFault> {
+    match read_file_node(alloc, bytes) {
+        Ok(node) => are_bytes(file_node(alloc, &node), bytes),
+        Err(fault) => Err(fault),
+    }
+}
+
+fn dir_again(alloc: Global, bytes: &[u8]) -> Result<bool, StrictFault> {
+    match read_dir_node(alloc, bytes) {
+        Ok(node) => are_bytes(dir_node(alloc, &node), bytes),
+        Err(fault) => Err(fault),
+    }
+}
+
+fn shard_again(alloc: Global, bytes: &[u8]) -> Result<bool, StrictFault> {
+    match read_shard_node(alloc, bytes) {
+        Ok(node) => are_bytes(shard_node(alloc, &node), bytes),
+        Err(fault) => Err(fault),
+    }
+}
+
+// Says whether a block is written again as it was read.
+fn say_again(told: &mut Block, again: Result<bool, StrictFault>) -> Result<(), Memory> {
+    match again {
+        Ok(true) => say(told, "the same"),
+        Ok(false) => say(told, "another"),
+        Err(StrictFault::NotCanonical) => say(told, "not canonical"),
+        Err(StrictFault::Memory) => Err(Memory),
+    }
+}
+
+// Whether a block with this byte changed is read as one that is written so, or as none, and leniently without a want of
+// memory.
+fn is_sound(alloc: Global, bytes: &[u8]) -> bool {
+    let is_strict = matches!(
+        node_again(alloc, bytes),
+        Ok(true) | Err(StrictFault::NotCanonical)
+    );
+    match uf_dagpb::decode_lenient(alloc, bytes) {
+        Ok(_) => is_strict,
+        Err(fault) => is_strict && fault != PbFault::Memory,
+    }
+}
+
+// Whether that holds of each byte changed by each of three masks.
+fn are_sound(alloc: Global, bytes: &[u8]) -> Result<bool, Memory> {
+    let mut changed = Block::from_slice(alloc, bytes)?;
+    let mut sound = true;
+    for place in 0..bytes.len() {
+        for mask in [1u8, 0x80, 0xff] {
+            changed = Block::from_slice(alloc, &bytes[..place])?;
+            changed.extend(&[bytes[place] ^ mask])?;
+            changed.extend(&bytes[place + 1..])?;
+            sound = sound && is_sound(alloc, changed.as_slice());
+        }
+    }
+    Ok(sound)
+}
+
+fn say_sound(alloc: Global, bytes: &[u8], told: &mut Block) -> Result<(), Memory> {
+    let sound = are_sound(alloc, bytes)?;
+    say(told, if sound { "sound" } else { "not sound" })
+}
+
+// Says all that a message has.
+fn say_message(alloc: Global, message: &Message, told: &mut Block) -> Result<(), Memory> {
+    let head = format!(in alloc;
+        "{:?} {:?} {:?} {:?} {:?} {:?}",
+        message.kind,
+        message.filesize,
+        message.hash_type,
+        message.fanout,
+        message.mode,
+        message.mtime
+    )?;
+    say(told, head.as_str())?;
+    for size in message.blocksizes.as_slice() {
+        tell_count(told, alloc, size_of(*size))?;
+    }
+    match &message.content {
+        Some(content) => tell_bytes(told, alloc, b"> content ", content.as_slice()),
+        None => say(told, "no content"),
+    }
+}
+
+// Reads a message as others may have written it.
+fn read_message(alloc: Global, bytes: &[u8], told: &mut Block) -> Result<(), Memory> {
+    match uf_message::decode_lenient(alloc, bytes) {
+        Ok(message) => say_message(alloc, &message, told),
+        Err(fault) => {
+            let line = format!(in alloc; "{fault:?}")?;
+            say(told, line.as_str())
+        }
+    }
+}
+
+// Whether a text is a name, and copied is the same.
+fn is_name(alloc: Global, text: &str) -> Result<bool, NameFault> {
+    let name = Name::parse(alloc, text)?;
+    match name.copy() {
+        Ok(copy) => Ok(copy.as_str() == text && name.as_str() == text),
+        Err(_) => Err(NameFault::Memory),
+    }
+}
+
+fn read_name(alloc: Global, bytes: &[u8], told: &mut Block) -> Result<(), Memory> {
+    let text = str::from_utf8(bytes).unwrap_or("");
+    match is_name(alloc, text) {
+        Ok(true) => say(told, "a name"),
+        Ok(false) => say(told, "another"),
+        Err(NameFault::Bad) => say(told, "no name"),
+        Err(NameFault::Memory) => Err(Memory),
+    }
+}
+
+// The profile of three numbers.
+fn profile_of(rest: &str) -> Result<Profile, BadProfile> {
+    let (chunk, rest) = number_and_rest(rest);
+    let (width, rest) = number_and_rest(rest);
+    Profile::new(small(chunk), small(width), small(number_of(rest)))
+}
+
+fn read_profile(rest: &str, told: &mut Block) -> Result<(), Memory> {
+    match profile_of(rest) {
+        Ok(p) if p == Profile::usual() => say(told, "the usual profile"),
+        Ok(_) => say(told, "a profile"),
+        Err(BadProfile) => say(told, "no profile"),
+    }
+}
+
+// Reads a Head, and writes it as the newest version has it.
+fn read_and_write_head(alloc: Global, bytes: &[u8], told: &mut Block) -> Result<(), Memory> {
+    match read_head(alloc, bytes) {
+        Ok(head) => write_head(alloc, &head, told),
+        Err(fault) => {
+            let line = format!(in alloc; "{fault:?}")?;
+            say(told, line.as_str())
+        }
+    }
+}
+
+fn write_head(alloc: Global, head: &Head, told: &mut Block) -> Result<(), Memory> {
+    let (chunk, width) = (head.profile.chunk, head.profile.width);
+    match Profile::new(chunk, width, head.profile.threshold) {
+        Ok(profile) => write_good_head(alloc, profile, head.root, told),
+        Err(BadProfile) => say(told, "no profile"),
+    }
+}
+
+fn write_good_head(
+    alloc: Global,
+    profile: Profile,
+    root: Cid,
+    told: &mut Block,
+) -> Result<(), Memory>
+    requires { IsTrue (is_profile profile) }
+{
+    let text = head_text(alloc, &Head { profile, root })?;
+    tell_bytes(told, alloc, b"> ", text.as_slice())
+}
+
+// Whether so many pieces that are hashed as one group have the digests of each by itself.
+fn agree(bytes: &[u8], size: usize, out: &mut [[u8; 32]]) -> bool
+    requires { length bytes.now ≡ length out.old * size }
+{
+    Sha256Hash::block32_group(bytes, size, out);
+    for place in 0..out.len() {
+        let piece = &bytes[place * size..place * size + size];
+        if out[place] != Sha256::digest(piece) {
+            return false;
+        }
+    }
+    true
+}
+
+// Pieces of one size, of which there may be seventeen.
+fn say_group(bytes: &[u8], size: usize, count: usize, told: &mut Block) -> Result<(), Memory> {
+    let mut digests = [[0u8; 32]; 17];
+    if count > 17 || size > 1048576 || bytes.len() < count * size {
+        return say(told, "too few bytes");
+    }
+    let is_so = agree(&bytes[..count * size], size, &mut digests[..count]);
+    say(told, if is_so { "agree" } else { "differ" })
+}
+
+fn hash_group(bytes: &[u8], rest: &str, told: &mut Block) -> Result<(), Memory> {
+    let (size, rest) = number_and_rest(rest);
+    let first = number_of(rest);
+    say_group(bytes, size_of(size), size_of(first), told)
+}
+
+// Blocks that are read and written again.
+fn again(alloc: Global, word: &str, bytes: &[u8]) -> Option<Result<bool, StrictFault>> {
+    match word {
+        "node-again" => Some(node_again(alloc, bytes)),
+        "message-again" => Some(message_again(alloc, bytes)),
+        "file-again" => Some(file_again(alloc, bytes)),
+        "directory-again" => Some(dir_again(alloc, bytes)),
+        "shard-again" => Some(shard_again(alloc, bytes)),
+        _ => None,
+    }
+}
+
+/// Makes a call on bytes; whether the word names one of these.
+pub fn call_on(alloc: Global, word: &str, bytes: &[u8], told: &mut Block) -> Result<bool, Memory> {
+    match word {
+        "node" => read_node(alloc, bytes, told)?,
+        "links" => count_links(alloc, bytes, told)?,
+        "node-changed" => say_sound(alloc, bytes, told)?,
+        "message" => read_message(alloc, bytes, told)?,
+        "name" => read_name(alloc, bytes, told)?,
+        "head" => read_and_write_head(alloc, bytes, told)?,
+        _ => match again(alloc, word, bytes) {
+            Some(answer) => say_again(told, answer)?,
+            None => return Ok(false),
+        },
+    }
+    Ok(true)
+}
+
+/// Makes a call that takes numbers; whether the word names one of these.
+pub fn call(input: &[u8], word: &str, rest: &str, told: &mut Block) -> Result<bool, Memory> {
+    match word {
+        "profile" => read_profile(rest, told)?,
+        "group" => hash_group(input, rest, told)?,
+        _ => return Ok(false),
+    }
+    Ok(true)
+}

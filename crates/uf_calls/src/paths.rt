@@ -1,0 +1,72 @@
+//! Calls on paths.
+
+use crate::cids::say_cid;
+use std::alloc::Global;
+use uf_cid::{Block, Memory};
+use uf_path::{DagPath, Path, PathFault, Target};
+use uf_testing::say;
+use uf_tree::Names;
+
+fn say_fault(alloc: Global, fault: PathFault, told: &mut Block) -> Result<(), Memory> {
+    let line = format!(in alloc; "{fault:?}")?;
+    say(told, line.as_str())
+}
+
+fn say_names(told: &mut Block, names: &Names) -> Result<(), Memory> {
+    for name in names.as_slice() {
+        say(told, name.as_str())?;
+    }
+    Ok(())
+}
+
+// Says the names of a path in the tree, and whether it ends with a slash.
+fn say_path(told: &mut Block, path: &Path) -> Result<(), Memory> {
+    say_names(told, &path.names)?;
+    say(
+        told,
+        if path.into {
+            "into it"
+        } else {
+            "no slash behind"
+        },
+    )
+}
+
+fn say_dag_path(told: &mut Block, path: &DagPath) -> Result<(), Memory> {
+    say_cid(told, &path.cid)?;
+    say_names(told, &path.names)
+}
+
+fn read_path(alloc: Global, text: &str, told: &mut Block) -> Result<(), Memory> {
+    match Path::parse(alloc, text) {
+        Ok(path) => say_path(told, &path),
+        Err(fault) => say_fault(alloc, fault, told),
+    }
+}
+
+fn read_dag_path(alloc: Global, text: &str, told: &mut Block) -> Result<(), Memory> {
+    match DagPath::parse(alloc, text) {
+        Ok(path) => say_dag_path(told, &path),
+        Err(fault) => say_fault(alloc, fault, told),
+    }
+}
+
+fn read_target(alloc: Global, text: &str, told: &mut Block) -> Result<(), Memory> {
+    match Target::parse(alloc, text) {
+        Ok(Target::Tree(path)) => say_path(told, &path),
+        Ok(Target::Dag(path)) => say_dag_path(told, &path),
+        Err(fault) => say_fault(alloc, fault, told),
+    }
+}
+
+/// Reads the input as a path; whether the word names such a call.
+pub fn call(alloc: Global, input: &[u8], word: &str, told: &mut Block) -> Result<bool, Memory> {
+    let text = str::from_utf8(input).unwrap_or("");
+    match word {
+        "path" => read_path(alloc, text, told)?,
+        "dag-path" => read_dag_path(alloc, text, told)?,
+        "target" => read_target(alloc, text, told)?,
+        _ => return Ok(false),
+    }
+    Ok(true)
+}

@@ -1,5 +1,0 @@
-use Rattle.std.proofs.Common.{◌≡◌, None}
-use Rattle.uf_tests_blocks.proofs.walk_tests.finish.Given as goal
-
-abbrev pub invariant-loop : goal.invariant-loop
-invariant-loop l = l.walk.due ≡ None
