@@ -1,5 +1,6 @@
 //! A host of devices alone.
-ghost use Rattle.std.specs.Prelude.{◌≡◌, ◌<◌};
+ghost use Rattle.std.specs.Prelude.{◌≡◌, ◌<◌, true};
+ghost use Rattle.uf_edge.specs.Counts.{Counts};
 
 use std::alloc::Global;
 use std::marker::Brand;
@@ -13,10 +14,21 @@ use uf_top::run;
 
 const REFUSED: &[u8] = b"error: rule HostOther /dev/null\n";
 
-// A host that tells nothing, and has neither a file nor a folder anywhere.
+// A host that tells nothing, has neither a file nor a folder anywhere, and takes none.
 #[derive(Drop)]
 struct Devices {
-    asked: u64,
+    refused: u64,
+}
+
+impl Devices {
+    // Fails, which is counted.
+    fn refuse(&mut self) -> Put
+        ensures failed { result ≡ Put.Failed }
+        ensures writes { Counts true self.old.refused self.new.refused }
+    {
+        self.refused = self.refused.saturating_add(1);
+        Put::Failed
+    }
 }
 
 impl Host for Devices {
@@ -26,11 +38,10 @@ impl Host for Devices {
 
     ghost read_faults = { λ h. 0 };
 
-    ghost write_faults = { λ h. 0 };
+    ghost write_faults = { λ h. h.refused };
 
     fn kind(&mut self, path: &str) -> Kind {
         let _ = path;
-        self.asked = self.asked.saturating_add(1);
         Kind::Other
     }
 
@@ -48,13 +59,13 @@ impl Host for Devices {
 
     fn make_folder(&mut self, path: &str) -> Put {
         let _ = path;
-        Put::Memory
+        self.refuse()
     }
 
     fn append(&mut self, path: &str, piece: &[u8]) -> Put {
         let _ = path;
         let _ = piece;
-        Put::Memory
+        self.refuse()
     }
 
     ghost rooted = { λ h. tt };
@@ -64,7 +75,7 @@ impl Host for Devices {
 fn is_refused_over<L: Ledger>(alloc: Global, touches: &mut Steps<L>) -> Result<bool, Memory> {
     let words = words_of(alloc, "add -r -n /dev/null/")?;
     let mut store = MemStore::<Sha256Hash>::new(alloc);
-    let mut devices = Devices { asked: 0 };
+    let mut devices = Devices { refused: 0 };
     let mut input = source(alloc, b"hello world", None)?;
     let mut output = sink(alloc, 2000, None)?;
     let mut errors = sink(alloc, 1000, None)?;
