@@ -101,6 +101,21 @@ class Cars:
         self.expect("add", (status, len(cids), line), (0, self.files + 1, ""))
         return cids[-1], cids[0]
 
+    def spoil(self):
+        """Leaves of one length follow each other: where a byte of one differs, those before it are kept, and no other."""
+        status, row, _ = self.run("from", "add", b"".join(b"%04d" % number * 256 for number in range(20)))
+        root = row.split()[1].decode()
+        _, car, _ = self.run("from", f"dag export {root}")
+        begins = places(car)
+        self.expect("a node and its leaves", (status, len(begins)), (0, 22))
+        for number in range(1, 21):
+            where = f"spoiled-{number}"
+            os.mkdir(os.path.join(self.folder, where))
+            at = begins[number + 1] - 1
+            self.expect(f"leaf {number}", self.run(where, "dag import", car[:at] + bytes([car[at] ^ 1]) + car[at + 1:]),
+                        (1, b"", f"error: rule Car 5 {begins[number]}\n"))
+            self.expect(f"kept before leaf {number}", len(self.blocks(where)), number)
+
     def all(self):
         """A folder goes round."""
         root, last = self.add()
@@ -118,6 +133,7 @@ class Cars:
             self.lose(where, last, f"dag export {root}", f"error: missing {last}\n")
         self.compare(root, car, last)
         self.expect("whole again", self.run("to", f"dag export {root}"), (0, car, ""))
+        self.spoil()
 
 
 def main():

@@ -18,6 +18,7 @@ ghost use Rattle.uf_car.specs.Reading.{car_read, header_at, header_with, opening
 ghost use Rattle.uf_car.specs.Windows.{Ahead, ComesTo, KeepsAhead, ahead, is_over_at, window_bytes};
 
 use crate::begun::Begun;
+use crate::hashed::Hashed;
 use crate::header::roots_in;
 use crate::section::{Opening, opening_at};
 use crate::window::{Fill, Window};
@@ -150,10 +151,11 @@ fn import_sections<S: Store, I: Source, L: Ledger>(
     ensures imports { OnlyImports S.X.block32 (car_fault result) (S.seen store.old) (S.seen store.new) }
     ensures counts { Counts (is_source_fault result) (I.faults input.old) (I.faults input.new) }
 {
+    let mut hashed = Hashed::new(alloc);
     let mut at = place;
     let mut blocks = 0;
     loop {
-        match import_section(alloc, store, window, input, at, touches)? {
+        match import_section(&mut hashed, store, window, input, at, touches)? {
             None => return Ok(blocks),
             Some(used) => {
                 at += used as u64;
@@ -165,7 +167,7 @@ fn import_sections<S: Store, I: Source, L: Ledger>(
 
 // Reads one section, keeps its block, and says how many bytes it had; None at the end.
 fn import_section<S: Store, I: Source, L: Ledger>(
-    alloc: Global,
+    hashed: &mut Hashed<S::X>,
     store: &mut S,
     window: &mut Window,
     input: &mut I,
@@ -185,7 +187,7 @@ fn import_section<S: Store, I: Source, L: Ledger>(
     match begin_section(window, input, place)? {
         None => Ok(None),
         Some(begun) => {
-            let used = import_block(alloc, store, window, input, place, &begun, touches)?;
+            let used = import_block(hashed, store, window, input, place, &begun, touches)?;
             Ok(Some(used))
         }
     }
@@ -224,7 +226,7 @@ fn begin_section<I: Source>(
 
 // Reads the block of a section, and keeps it where it is that of its CID. It is hashed once.
 fn import_block<S: Store, I: Source, L: Ledger>(
-    alloc: Global,
+    hashed: &mut Hashed<S::X>,
     store: &mut S,
     window: &mut Window,
     input: &mut I,
@@ -247,21 +249,23 @@ fn import_block<S: Store, I: Source, L: Ledger>(
     match window.fill_to(input, end)? {
         Fill::Short => Err(cut_at(window, place)),
         Fill::Enough => {
-            let block = &window.bytes()[begun.front..end];
-            keep_block(alloc, store, place, begun, block, touches)?;
+            let ahead = window.bytes();
+            let block = &ahead[begun.front..end];
+            keep_block(hashed, store, place, begun, block, ahead, touches)?;
             window.consume(end);
             Ok(end)
         }
     }
 }
 
-// Keeps a block that is that of its CID.
+// Keeps a block that is that of its CID. The bytes from its section on say which blocks come next.
 fn keep_block<S: Store, L: Ledger>(
-    alloc: Global,
+    hashed: &mut Hashed<S::X>,
     store: &mut S,
     place: u64,
     begun: &Begun,
     block: &[u8],
+    ahead: &[u8],
     touches: &mut Steps<L>,
 ) -> Result<(), CarFault>
     requires size { length block.now ≤ 2097152 }
@@ -274,10 +278,10 @@ fn keep_block<S: Store, L: Ledger>(
     ensures no_read { is_source_fault result ≡ false }
     ensures imports { OnlyImports S.X.block32 (car_fault result) (S.seen store.old) (S.seen store.new) }
 {
-    if S::X::block32(block) != begun.cid.digest {
+    if hashed.digest(block, ahead) != begun.cid.digest {
         return Err(CarFault::WrongDigest(place, begun.cid));
     }
-    save_under(alloc, store, &begun.cid, block, touches)?;
+    save_under(hashed.alloc, store, &begun.cid, block, touches)?;
     Ok(())
 }
 

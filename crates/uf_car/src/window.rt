@@ -8,6 +8,9 @@ use std::alloc::Global;
 use uf_cid::{Memory, zeros};
 use uf_edge::{Read, Source};
 
+// How many bytes of a source are kept where a section is longer than the first buffer: the longest section, and 64 KiB.
+const MOST_BUFFERED: usize = 2162733;
+
 // Whether a source may give more.
 #[derive(Clone, Copy, PartialEq, Eq)]
 pub enum Supply {
@@ -25,8 +28,8 @@ pub enum Fill {
     Short,
 }
 
-// The bytes of a source that were read and not yet used, and how many more may be read. The buffer grows to what a
-// section wants, and has room after that for one reading.
+// The bytes of a source that were read and not yet used, and how many more may be read. The buffer grows once, where a
+// section wants more than it has, and then takes any section.
 #[derive(Drop)]
 pub struct Window {
     buffer: Vec<u8>,
@@ -174,7 +177,7 @@ impl Window {
         if count < self.buffer.len() {
             return Ok(());
         }
-        self.grow(count + 65536)
+        self.grow(MOST_BUFFERED)
     }
 
     // Moves the bytes to the front.

@@ -3,8 +3,8 @@ use Rattle.uf_car.specs.Importing.{GoesOn, OnlyImports}
 use Rattle.uf_car.specs.Windows.{Ahead, ComesTo, ahead, window_bytes}
 use Rattle.uf_car.proofs.importing.import_sections.Given as goal
 
-abbrev pub invariant-loop-used : goal.invariant-loop-used
-invariant-loop-used g l = record {
+abbrev pub invariant-loop-hashed : goal.invariant-loop-hashed
+invariant-loop-hashed g l = record {
   ended : ComesTo l.window.supply (g.I.Source.left l.input);
   few : l.at + (length (window_bytes l.window) + l.window.room) < 2 ^ 64;
   blocks : l.blocks ≤ l.at;
@@ -14,5 +14,5 @@ invariant-loop-used g l = record {
   counted : g.I.Source.faults l.input ≡ g.I.Source.faults l.initial.input;
 }
 
-abbrev pub decreases-loop-used : goal.decreases-loop-used
-decreases-loop-used g l = length (window_bytes l.window) + l.window.room
+abbrev pub decreases-loop-hashed : goal.decreases-loop-hashed
+decreases-loop-hashed g l = length (window_bytes l.window) + l.window.room
