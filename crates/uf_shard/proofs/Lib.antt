@@ -18,6 +18,7 @@ pub mod Alone
 pub mod Among
 pub mod AtRoot
 pub mod Ends
+pub mod Firsts
 pub mod Knowing
 pub mod Pairing
 pub mod Placing

@@ -20,17 +20,25 @@ module _ (X : List ℕ → List ℕ) (N : List ℕ → ℕ) where
   -- ---- loads of a planned shard
 
   module _ (good : IsHash X) (left : ℕ) (root : Cid) (m : Meta) (l : List Named) (is : IsRoot X N left root m l) where
-    pub all-touches : (items slice : List InSlot) (before mid : Seen) (t0 t1 t2 : ℕ) → mid.told ≡ before.told → slice ≡ items → HasItems left root before items → t1 ≡ t0 + 1
+    -- of the shards below it, where it was loaded before
+    pub below-touches : (items slice : List InSlot) (before mid : Seen) (t1 t2 : ℕ) → mid.told ≡ before.told → slice ≡ items → HasItems left root before items
         → ((over : ℕ → List Named) → AreOver X N left over slice → Agrees mid.told (all_blocks X N left over slice) → t2 ≤ t1 + length (all_blocks X N left over slice))
-        → Agrees before.told (shard X N left m l).blocks → t2 ≤ t0 + length (shard X N left m l).blocks
-    all-touches items slice before mid t0 t1 t2 same is_slice has one touches agrees =
+        → Agrees before.told (shard X N left m l).blocks → t2 < t1 + length (shard X N left m l).blocks
+    below-touches items slice before mid t1 t2 same is_slice has touches agrees =
         let planned : slice ≡ items_of X N left l = is_slice ∙ loaded_items X N good left root m l is before items agrees has in
         let below = touches (pairs_of X N left l) (over_items X N good left root m l is slice planned)
         (subst (λ (i : List InSlot). Agrees mid.told (all_blocks X N left (pairs_of X N left l) i)) (sym planned)
         (subst (λ (told : Told). Agrees told (all_blocks X N left (pairs_of X N left l) (items_of X N left l))) (sym same) (Agrees_below X N good left root m l is before.told agrees))) in
         let blocks = ap (λ (b : List Held). length b) (blocks-are X N left m l) in
         let part = ap (λ (i : List InSlot). length (all_blocks X N left (pairs_of X N left l) i)) planned in
-        omega (arith, one, below, blocks, part)
+        omega (arith, below, blocks, part)
+
+    pub all-touches : (items slice : List InSlot) (before mid : Seen) (t0 t1 t2 : ℕ) → mid.told ≡ before.told → slice ≡ items → HasItems left root before items → t1 ≡ t0 + 1
+        → ((over : ℕ → List Named) → AreOver X N left over slice → Agrees mid.told (all_blocks X N left over slice) → t2 ≤ t1 + length (all_blocks X N left over slice))
+        → Agrees before.told (shard X N left m l).blocks → t2 ≤ t0 + length (shard X N left m l).blocks
+    all-touches items slice before mid t0 t1 t2 same is_slice has one touches agrees =
+        let less = below-touches items slice before mid t1 t2 same is_slice has touches agrees in
+        omega (arith, one, less)
 
     pub one-touch : (t0 t1 : ℕ) → t1 ≡ t0 + 1 → t1 ≤ t0 + length (shard X N left m l).blocks
     one-touch t0 t1 one = let blocks = ap (λ (b : List Held). length b) (blocks-are X N left m l) in omega (arith, one, blocks)

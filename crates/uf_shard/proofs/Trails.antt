@@ -3,13 +3,11 @@ use Rattle.std.proofs.Common.{◌≡◌, ℕ, zero, suc, ◌-◌, ◌<◌, ◌�
 use Rattle.std.specs.Prelude.{IfSome, IsTrue, ◌↔◌}
 use Rattle.std.specs.FinMap.Entries.{find}
 use Rattle.std.specs.Ordering.{nat_cmp}
-use Rattle.uf_cid.specs.declared.bytes.StrictFault.TheVariants.{NotCanonical}
 use Rattle.uf_cid.specs.declared.cid.Cid.{Cid}
 use Rattle.uf_cid.specs.Blocks.{Held}
 use Rattle.uf_edge.specs.Counts.{Stood}
 use Rattle.uf_murmur.specs.Slots.{slot}
 use Rattle.uf_store.specs.Contents.{Told, held_at}
-use Rattle.uf_store.specs.Faults.{Shown, StaysCalm}
 use Rattle.uf_store.specs.Keeping.{Agrees, Holds, HoldsOne}
 use Rattle.uf_store.specs.Lost.{FindsOver}
 use Rattle.uf_store.specs.Seen.{Finds, Seen}
@@ -18,23 +16,22 @@ use Rattle.uf_store.specs.declared.store.StoreFault.{StoreFault}
 use Rattle.uf_store.specs.declared.store.StoreFault.TheVariants.{Failed, Damaged, Missing, BadBlock, Clash, Memory}
 use Rattle.uf_tree.specs.declared.nodes.Entry.{Entry}
 use Rattle.uf_tree.specs.Metas.{none}
-use Rattle.uf_tree.specs.Codecs.{Reads, shard_node_block}
+use Rattle.uf_tree.specs.Codecs.{shard_node_block}
 use Rattle.uf_tree.specs.Names.{names_cmp}
 use Rattle.uf_tree.specs.Nodes.{InSlot, Named}
 use Rattle.uf_tree.specs.declared.meta.Meta.{Meta}
 use Rattle.uf_tree.specs.declared.nodes.ShardNode.{ShardNode}
 use Rattle.uf_tree.specs.ShardPlan.{shard, shard_trail, slot_item}
 use Rattle.uf_tree.specs.Validity.{IsHash, IsShardNode}
-use Rattle.uf_shard.specs.Placed.{IsBadOnWay, IsPlacedNode, way}
+use Rattle.uf_shard.specs.Placed.{IsPlacedNode}
 use Rattle.uf_shard.specs.Planned.{IsPlanned}
-use Rattle.uf_shard.specs.Reached.{IsBadThere, IsReached, SaysOf}
+use Rattle.uf_shard.specs.Reached.{IsReached, SaysOf}
 use Rattle.uf_shard.specs.Spots.{HasRoom, spot_of}
 use Rattle.uf_shard.specs.Trails.{traced_behind, trail_cids}
 use Rattle.uf_shard.specs.declared.spot.Spot.{Spot}
 use Rattle.uf_shard.specs.declared.spot.Spot.TheVariants.{Here, Below}
 use Rattle.uf_shard.specs.declared.traced.Traced.{Traced}
-use Rattle.uf_shard.proofs.Blaming.{way-loads, way-reads}
-use Rattle.uf_shard.proofs.Readings.{misplaced}
+use Rattle.uf_shard.proofs.Firsts.{found-calm, misplaced-reads, misplaced-there}
 use Rattle.uf_shard.proofs.Reaching.{Goes, below_goes, deeper_of, find-err, find-here-at, find-slot, head-held, head_of, here_value, it_says, over_more, reached-root, reached_below, root-is, slot_of, trail-is, trail_below}
 
 -- a fault is that of a loss, whatever is looked for
@@ -151,23 +148,14 @@ module _ (X : List ℕ → List ℕ) (N : List ℕ → ℕ) (good : IsHash X) (n
   }
 
   module _ (root : Cid) (before mid : Seen) (finds : Finds X root before mid) where
-    pub found-calm : StaysCalm before mid
-    found-calm = record { finds = finds.counted.finds.later; misses = finds.counted.misses.later; faults = finds.counted.faults.still refl; clashes = finds.counted.clashes.still refl }
-
     -- it isn't canonical there
-    module _ (node : ShardNode) (valid : IsShardNode node) (lent : mid.lent ≡ shard_node_block node) (b : Bool) (iff : IsTrue b ↔ IsPlacedNode N [] node) (fails : b ≡ false) where
-      misread : Reads (IsPlacedNode N (way (N name) 0)) shard_node_block mid.lent (Err NotCanonical)
-      misread = misplaced N mid.lent node b valid lent iff fails
-
-      pub misplaced-cause : Shown X (IsBadOnWay N (N name)) (Some (BadBlock root (Shard 0))) before mid
-      misplaced-cause = (way-reads X root before mid finds found-calm mid.lent refl N (N name) 0 misread (omega arith)).cause
-
-      pub misplaced-value : (m : Meta) (l : List Named) → IsPlanned X N root m l → Agrees before.told (path 7 m l) → Stood before.faults mid.faults → FindsOver before.told (path 7 m l) (found [] 7 m l) (Err (BadBlock root (Shard 0)))
-      misplaced-value m l is agrees stood =
-          let absent : Option Entry = None in
-          let there : IsBadThere N (N name) 0 root (Shard 0) before mid = way-loads X root before mid finds found-calm mid.lent refl N (N name) 0 misread in
-          loses {A = Option Entry} {B = Traced} before.told (path 7 m l) absent (found [] 7 m l) (BadBlock root (Shard 0))
-          (find-err X N good name 7 root m l seven before mid (BadBlock root (Shard 0)) absent there misplaced-cause (reached-root X N good name root m l is) agrees stood)
+    pub misplaced-value : (node : ShardNode) → IsShardNode node → mid.lent ≡ shard_node_block node → (b : Bool) → IsTrue b ↔ IsPlacedNode N [] node → b ≡ false
+        → (m : Meta) (l : List Named) → IsPlanned X N root m l → Agrees before.told (path 7 m l) → Stood before.faults mid.faults → FindsOver before.told (path 7 m l) (found [] 7 m l) (Err (BadBlock root (Shard 0)))
+    misplaced-value node valid lent b iff fails m l is agrees stood =
+        let absent : Option Entry = None in
+        loses {A = Option Entry} {B = Traced} before.told (path 7 m l) absent (found [] 7 m l) (BadBlock root (Shard 0))
+        (find-err X N good name 7 root m l seven before mid (BadBlock root (Shard 0)) absent (misplaced-there X root before mid finds node valid lent N name b iff fails)
+        (misplaced-reads X root before mid finds node valid lent N name b iff fails).cause (reached-root X N good name root m l is) agrees stood)
 
     -- it is
     pub placed-value : (now : Seen) (m : Meta) (l : List Named) (r : Result Traced StoreFault) (block : List ℕ) → mid.lent ≡ block
@@ -176,4 +164,4 @@ module _ (X : List ℕ → List ℕ) (N : List ℕ → ℕ) (good : IsHash X) (n
     placed-value now m l r block lent answer is agrees stood =
         subst (λ (told : Told). FindsOver told (path 7 m l) (found [] 7 m l) r) finds.same_told
         (answer (subst (λ (t : Told). HoldsOne t root block) (sym finds.same_told) (subst (λ (b : List ℕ). HoldsOne before.told root b) lent finds.is_held)) (reached-root X N good name root m l is)
-        (subst (λ (told : Told). Agrees told (path 7 m l)) (sym finds.same_told) agrees) (subst (λ (n : ℕ). Stood n now.faults) (sym found-calm.faults) stood))
+        (subst (λ (told : Told). Agrees told (path 7 m l)) (sym finds.same_told) agrees) (subst (λ (n : ℕ). Stood n now.faults) (sym (found-calm X root before mid finds).faults) stood))

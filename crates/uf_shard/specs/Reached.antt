@@ -7,6 +7,7 @@ use Rattle.std.specs.List.{AllByRecursion}
 use Rattle.std.specs.Ordering.{nat_cmp}
 use Rattle.uf_cid.specs.declared.cid.Cid.{Cid}
 use Rattle.uf_murmur.specs.Slots.{slot}
+use Rattle.uf_store.specs.Calls.{OnlyReads}
 use Rattle.uf_store.specs.Contents.{held_at}
 use Rattle.uf_store.specs.Seen.{Seen}
 use Rattle.uf_store.specs.declared.store.StoreFault.{StoreFault}
@@ -22,7 +23,7 @@ use Rattle.uf_tree.specs.Roles.{IsCanonicalShard, MayCarry}
 use Rattle.uf_tree.specs.ShardPlan.{shard}
 use Rattle.uf_tree.specs.Shardable.{HasShard}
 use Rattle.uf_tree.specs.Validity.{IsDirectory}
-use Rattle.uf_shard.specs.Placed.{IsPlacedNode, way}
+use Rattle.uf_shard.specs.Placed.{IsBadOnWay, IsPlacedNode, way}
 use Rattle.uf_shard.specs.Spots.{spot_of}
 use Rattle.uf_shard.specs.declared.spot.Spot.{Spot}
 
@@ -42,6 +43,12 @@ pub record IsReached (X : List ℕ → List ℕ) (N : List ℕ → ℕ) (hash le
 pub record HasPlaced (N : List ℕ → ℕ) (hash level : ℕ) (cid : Cid) (before : Seen) (node : ShardNode) : Type 0 where
   pub is : IsPlacedNode N (way hash level) node
   pub is_held : IfSome before.told (λ t. held_at t cid ≡ Some (shard_node_block node))
+
+-- the block was found, it is this shard of level 0, and since then calls have read alone
+pub record HasFirst (X : List ℕ → List ℕ) (N : List ℕ → ℕ) (hash : ℕ) (root : Cid) (node : ShardNode)
+    (before now : Seen) : Type 0 where
+  pub has : HasPlaced N hash 0 root before node
+  pub reads : OnlyReads X (IsBadOnWay N hash) None before now
 
 -- the block was found, and isn't canonical as the shard of this level
 pub record IsBadThere (N : List ℕ → ℕ) (hash level : ℕ) (cid : Cid) (r : Role) (before now : Seen) : Type 0 where

@@ -21,7 +21,7 @@ use uf_tree::{Entry, Item, Name, Pair, Pairs, Placed};
 
 // Puts the names of the shard under a CID, which has so many levels below it, after the rows.
 #[cycle(gathering)]
-pub fn gather<S: Store, L: Ledger>(
+fn gather<S: Store, L: Ledger>(
     alloc: Global,
     store: &mut S,
     left: u8,
@@ -45,7 +45,7 @@ pub fn gather<S: Store, L: Ledger>(
 
 // Puts the names of slots after the rows.
 #[cycle(gathering)]
-fn gather_slots<S: Store, L: Ledger>(
+pub fn gather_slots<S: Store, L: Ledger>(
     alloc: Global,
     store: &mut S,
     left: u8,

@@ -25,11 +25,11 @@ mod weighing;
 
 pub use building::{build, save_root};
 pub use fault::DirFault;
-pub use listing::entries;
+pub use listing::{entries, entries_below};
 pub use lookup::{find, trace, trace_below, trail};
 pub use nodes::tsize_over_slots;
-pub use putting::put;
+pub use putting::{put, put_below};
 pub use removed::Removed;
-pub use removing::remove;
+pub use removing::{remove, remove_below};
 pub use traced::Traced;
 pub use weighing::weight_over;

@@ -2,6 +2,7 @@
 ghost use Rattle.std.specs.Prelude.{◌≡◌, ◌<◌, ◌≤◌, ◌+◌, ◌*◌, ◌-◌, ℕ, List, [], ◌∷◌};
 ghost use Rattle.std.specs.Prelude.{IfOk, IfSome, OnOk, Some, false};
 ghost use Rattle.std.specs.Ordering.{eq_by_cmp};
+ghost use Rattle.uf_cid.specs.declared.cid.Cid.{Cid as TheCid};
 ghost use Rattle.uf_edge.specs.Counts.{Stood};
 ghost use Rattle.uf_murmur.specs.Slots.{slot as slot_of};
 ghost use Rattle.uf_store.specs.Among.{SavesAmong};
@@ -10,6 +11,8 @@ ghost use Rattle.uf_store.specs.Faults.{NoneIsBad};
 ghost use Rattle.uf_store.specs.Keeping.{Agrees, KeepsGood, StaysAgreed};
 ghost use Rattle.uf_store.specs.Writing.{SavesOnly};
 ghost use Rattle.uf_store.specs.Lost.{AgreesAfter};
+ghost use Rattle.uf_store.specs.Seen.{Finds, Seen};
+ghost use Rattle.uf_tree.specs.Codecs.{shard_node_block};
 ghost use Rattle.uf_tree.specs.declared.meta.Meta.{Meta as TheMeta};
 ghost use Rattle.uf_tree.specs.declared.nodes.Item.TheVariants.{Leaf};
 ghost use Rattle.uf_tree.specs.Changes.{with_name};
@@ -17,11 +20,11 @@ ghost use Rattle.uf_tree.specs.Metas.{none};
 ghost use Rattle.uf_tree.specs.Names.{names_cmp};
 ghost use Rattle.uf_tree.specs.Nodes.{Named};
 ghost use Rattle.uf_tree.specs.ShardPlan.{shard};
-ghost use Rattle.uf_tree.specs.Validity.{IsItem, IsNamed, IsShard};
+ghost use Rattle.uf_tree.specs.Validity.{IsItem, IsNamed, IsShard, IsShardNode};
 ghost use Rattle.uf_shard.specs.Answers.{AtCollision, GivesOver, Shown, dir_fault, shard_node_held, shard_refusal};
-ghost use Rattle.uf_shard.specs.Placed.{IsBadOnWay, IsPlaced, way};
+ghost use Rattle.uf_shard.specs.Placed.{IsBadOnWay, IsPlaced, IsPlacedNode, way};
 ghost use Rattle.uf_shard.specs.Planned.{IsPlanned, IsShardCid};
-ghost use Rattle.uf_shard.specs.Reached.{IsReached};
+ghost use Rattle.uf_shard.specs.Reached.{HasFirst, IsReached};
 ghost use Rattle.uf_shard.specs.Saving.{IsCollisionOr};
 ghost use Rattle.uf_shard.specs.Changed.{AreItems, IsItemAt, IsOrderedOr, IsSlot, LeafOr, PutsSlot, PutsSlots};
 ghost use Rattle.uf_shard.specs.Changed.{SavesBelow, below, blocks_of};
@@ -30,14 +33,15 @@ use crate::DirFault;
 use crate::building::within;
 use crate::loading::{hash_of, load_shard, slot_at};
 use crate::nodes::save_node;
+use crate::reading::is_first;
 use crate::slots::{is_same, item_in, with_slot};
 use std::alloc::Global;
 use std::cmp::Ordering;
 use std::sync::ledger::Ledger;
 use uf_cid::{Cid, Memory, cids_are_whole};
 use uf_murmur::NameHash;
-use uf_store::{Steps, Store, StoreFault};
-use uf_tree::{Entry, Item, Items, Meta, Name, Placed};
+use uf_store::{Role, Steps, Store, StoreFault};
+use uf_tree::{Entry, Item, Items, Meta, Name, Placed, ShardNode};
 
 /// Puts an entry under a name into the directory whose shard tree has this root, in the place of an older one of that
 /// name, and answers the entry of what it is then (UnixFS v1, "HAMTDirectory"). Its metadata stays. Another name of its
@@ -76,6 +80,92 @@ pub fn put<S: Store, N: NameHash, L: Ledger>(
     ensures touched { touches.old < touches.new }
 {
     let node = load_shard::<S, N, L>(alloc, store, 0, root, name, touches)?;
+    put_placed::<S, N, L>(alloc, store, &node, name, entry, touches)
+}
+
+/// The same after a load of the root: the store lends its block, which is this shard's, so it isn't loaded again. At most
+/// 15 touches.
+pub fn put_below<S: Store, N: NameHash, L: Ledger>(
+    alloc: Global,
+    store: &mut S,
+    root: &Cid,
+    node: &ShardNode,
+    name: &Name,
+    entry: &Entry,
+    touches: &mut Steps<L>,
+) -> Result<Entry, DirFault>
+    requires shard { IsShardNode node.now }
+    requires lent { (S.seen store.old).lent ≡ shard_node_block node.now }
+    ensures value { (before : Seen) (m : TheMeta) (l : List Named)
+        → Finds S.X.block32 root.now before (S.seen store.old) → IsPlanned S.X.block32 N.name64 root.now m l
+        → Agrees before.told (shard S.X.block32 N.name64 7 m l).blocks
+        → Stood before.faults (S.seen store.new).faults → Stood before.clashes (S.seen store.new).clashes
+        → GivesOver before.told (shard S.X.block32 N.name64 7 m l).blocks
+        (shard_refusal S.X.block32 N.name64 m (with_name name.now entry.now l))
+        (shard S.X.block32 N.name64 7 m (with_name name.now entry.now l)).entry result }
+    ensures made { IfOk result (λ e. IsShardCid S.X.block32 e.cid) }
+    ensures after { OnOk result ((before : Seen) (m : TheMeta) (l : List Named)
+        → Finds S.X.block32 root.now before (S.seen store.old) → IsPlanned S.X.block32 N.name64 root.now m l
+        → StaysAgreed before.told (S.seen store.new).told (shard S.X.block32 N.name64 7 m l).blocks
+        → AgreesAfter before.told (S.seen store.new).told (shard S.X.block32 N.name64 7 m l).blocks
+        (shard S.X.block32 N.name64 7 m (with_name name.now entry.now l)).blocks) }
+    ensures early { AtCollision result ((S.seen store.new).told ≡ (S.seen store.old).told) }
+    ensures cause { (before : Seen) → Finds S.X.block32 root.now before (S.seen store.old)
+        → Shown S.X.block32 (IsBadOnWay N.name64 (N.name64 name.now)) result before (S.seen store.new) }
+    ensures good { KeepsGood S.X.block32 (S.seen store.old).told (S.seen store.new).told }
+    ensures saves { SavesOnly S.X.block32 (S.seen store.old).told (S.seen store.new).told }
+    ensures no_other { (before : Seen) (m : TheMeta) (l : List Named)
+        → Finds S.X.block32 root.now before (S.seen store.old) → IsPlanned S.X.block32 N.name64 root.now m l
+        → Agrees before.told (shard S.X.block32 N.name64 7 m l).blocks
+        → SavesAmong S.X.block32 (shard S.X.block32 N.name64 7 m (with_name name.now entry.now l)).blocks
+        before.told (S.seen store.new).told }
+    ensures touches { touches.new ≤ touches.old + 15 }
+    ensures touched { touches.old ≤ touches.new }
+{
+    if is_first::<N>(node) {
+        put_placed::<S, N, L>(alloc, store, node, name, entry, touches)
+    } else {
+        Err(DirFault::Store(StoreFault::BadBlock(*root, Role::Shard(0))))
+    }
+}
+
+// The same where the shard is canonical at the root.
+fn put_placed<S: Store, N: NameHash, L: Ledger>(
+    alloc: Global,
+    store: &mut S,
+    node: &ShardNode,
+    name: &Name,
+    entry: &Entry,
+    touches: &mut Steps<L>,
+) -> Result<Entry, DirFault>
+    requires { IsPlacedNode N.name64 [] node.now }
+    ensures value { (root : TheCid) (before : Seen) (m : TheMeta) (l : List Named)
+        → HasFirst S.X.block32 N.name64 (N.name64 name.now) root node.now before (S.seen store.old)
+        → IsPlanned S.X.block32 N.name64 root m l
+        → Agrees before.told (shard S.X.block32 N.name64 7 m l).blocks
+        → Stood before.faults (S.seen store.new).faults → Stood before.clashes (S.seen store.new).clashes
+        → GivesOver before.told (shard S.X.block32 N.name64 7 m l).blocks
+        (shard_refusal S.X.block32 N.name64 m (with_name name.now entry.now l))
+        (shard S.X.block32 N.name64 7 m (with_name name.now entry.now l)).entry result }
+    ensures made { IfOk result (λ e. IsShardCid S.X.block32 e.cid) }
+    ensures after { OnOk result ((root : TheCid) (before : Seen) (m : TheMeta) (l : List Named)
+        → HasFirst S.X.block32 N.name64 (N.name64 name.now) root node.now before (S.seen store.old)
+        → IsPlanned S.X.block32 N.name64 root m l
+        → StaysAgreed before.told (S.seen store.new).told (shard S.X.block32 N.name64 7 m l).blocks
+        → AgreesAfter before.told (S.seen store.new).told (shard S.X.block32 N.name64 7 m l).blocks
+        (shard S.X.block32 N.name64 7 m (with_name name.now entry.now l)).blocks) }
+    ensures early { AtCollision result ((S.seen store.new).told ≡ (S.seen store.old).told) }
+    ensures saves { OnlySaves S.X.block32 (IsBadOnWay N.name64 (N.name64 name.now)) (dir_fault result)
+        (S.seen store.old) (S.seen store.new) }
+    ensures no_other { (root : TheCid) (before : Seen) (m : TheMeta) (l : List Named)
+        → HasFirst S.X.block32 N.name64 (N.name64 name.now) root node.now before (S.seen store.old)
+        → IsPlanned S.X.block32 N.name64 root m l
+        → Agrees before.told (shard S.X.block32 N.name64 7 m l).blocks
+        → SavesAmong S.X.block32 (shard S.X.block32 N.name64 7 m (with_name name.now entry.now l)).blocks
+        before.told (S.seen store.new).told }
+    ensures touches { touches.new ≤ touches.old + 15 }
+    ensures touched { touches.old ≤ touches.new }
+{
     let items = put_into::<S, N, L>(alloc, store, 7, &node.items, name, entry, touches)?;
     let entry = save_node(alloc, store, &items, &node.meta, touches)?;
     within(entry)

@@ -1,6 +1,7 @@
 //! A name taken out.
 ghost use Rattle.std.specs.Prelude.{◌≡◌, ◌<◌, ◌≤◌, ◌+◌, ◌*◌, ◌-◌, ℕ, List, [], ◌∷◌, IfErr, IfOk, IfSome, IsTrue, None};
 ghost use Rattle.std.specs.Ordering.{eq_by_cmp};
+ghost use Rattle.uf_cid.specs.declared.cid.Cid.{Cid as TheCid};
 ghost use Rattle.uf_edge.specs.Counts.{Stood};
 ghost use Rattle.uf_murmur.specs.Slots.{slot as slot_of};
 ghost use Rattle.uf_store.specs.Among.{SavesAmong};
@@ -10,16 +11,19 @@ ghost use Rattle.uf_store.specs.Faults.{Answers, NoneIsBad, fault_in};
 ghost use Rattle.uf_store.specs.Keeping.{Agrees, KeepsGood, StaysAgreed};
 ghost use Rattle.uf_store.specs.Writing.{SavesOnly};
 ghost use Rattle.uf_store.specs.Lost.{ReadsOver};
+ghost use Rattle.uf_store.specs.Seen.{Finds, Seen};
 ghost use Rattle.uf_tree.specs.declared.meta.Meta.{Meta as TheMeta};
 ghost use Rattle.uf_tree.specs.Changes.{without};
+ghost use Rattle.uf_tree.specs.Codecs.{shard_node_block};
 ghost use Rattle.uf_tree.specs.Metas.{is_meta, none};
 ghost use Rattle.uf_tree.specs.Names.{names_cmp};
 ghost use Rattle.uf_tree.specs.Nodes.{Named};
 ghost use Rattle.uf_tree.specs.ShardPlan.{shard};
+ghost use Rattle.uf_tree.specs.Validity.{IsShardNode};
 ghost use Rattle.uf_shard.specs.Answers.{shard_node_held};
-ghost use Rattle.uf_shard.specs.Placed.{IsBadOnWay, IsPlaced, way};
+ghost use Rattle.uf_shard.specs.Placed.{IsBadOnWay, IsPlaced, IsPlacedNode, way};
 ghost use Rattle.uf_shard.specs.Planned.{IsPlanned};
-ghost use Rattle.uf_shard.specs.Reached.{IsReached};
+ghost use Rattle.uf_shard.specs.Reached.{HasFirst, IsReached};
 ghost use Rattle.uf_shard.specs.Changed.{AreItems, IsItemAt, IsSlot, below, blocks_of};
 ghost use Rattle.uf_shard.specs.Taken.{AgreesLeft, AreInSlots, IsLeftOf, IsValidRest, LeafWithout, LeavesBelow};
 ghost use Rattle.uf_shard.specs.Taken.{LeavesShard, SavesNothing, SavesRest, TakesSlot, TakesSlots, UnsavedBelow, UnsavedItems};
@@ -29,6 +33,7 @@ ghost use Rattle.uf_shard.specs.declared.rest.Rest.TheVariants.{Same};
 
 use crate::loading::{load_shard, slot_at};
 use crate::nodes::save_node;
+use crate::reading::is_first;
 use crate::removed::Removed;
 use crate::rest::Rest;
 use crate::slots::{is_same, item_in, with_slot};
@@ -36,8 +41,8 @@ use std::alloc::Global;
 use std::sync::ledger::Ledger;
 use uf_cid::{Cid, Memory};
 use uf_murmur::NameHash;
-use uf_store::{Steps, Store, StoreFault};
-use uf_tree::{Item, Items, Meta, Name, Placed};
+use uf_store::{Role, Steps, Store, StoreFault};
+use uf_tree::{Item, Items, Meta, Name, Placed, ShardNode};
 
 /// Takes a name out of the directory whose shard tree has this root, and answers what is left (UnixFS v1,
 /// "HAMTDirectory"). The directory's metadata stays. A shard below the root that is left with one entry gives way to that
@@ -75,6 +80,90 @@ pub fn remove<S: Store, N: NameHash, L: Ledger>(
     ensures touched { touches.old < touches.new }
 {
     let node = load_shard::<S, N, L>(alloc, store, 0, root, name, touches)?;
+    remove_placed::<S, N, L>(alloc, store, &node, name, touches)
+}
+
+/// The same after a load of the root: the store lends its block, which is this shard's, so it isn't loaded again. At most
+/// 15 touches, and at most seven where the name isn't there.
+pub fn remove_below<S: Store, N: NameHash, L: Ledger>(
+    alloc: Global,
+    store: &mut S,
+    root: &Cid,
+    node: &ShardNode,
+    name: &Name,
+    touches: &mut Steps<L>,
+) -> Result<Removed, StoreFault>
+    requires shard { IsShardNode node.now }
+    requires lent { (S.seen store.old).lent ≡ shard_node_block node.now }
+    ensures value { (before : Seen) (m : TheMeta) (l : List Named)
+        → Finds S.X.block32 root.now before (S.seen store.old) → IsPlanned S.X.block32 N.name64 root.now m l
+        → Agrees before.told (shard S.X.block32 N.name64 7 m l).blocks
+        → Stood before.faults (S.seen store.new).faults → Stood before.clashes (S.seen store.new).clashes
+        → ReadsOver before.told (shard S.X.block32 N.name64 7 m l).blocks
+        (left_without S.X.block32 N.name64 name.now m l) result }
+    ensures made { IfOk result (LeavesShard S.X.block32) }
+    ensures nothing { IfOk result (λ left. SavesNothing left (S.seen store.old).told (S.seen store.new).told) }
+    ensures after { IfOk result (λ left. (before : Seen) (m : TheMeta) (l : List Named)
+        → Finds S.X.block32 root.now before (S.seen store.old) → IsPlanned S.X.block32 N.name64 root.now m l
+        → StaysAgreed before.told (S.seen store.new).told (shard S.X.block32 N.name64 7 m l).blocks
+        → AgreesLeft S.X.block32 N.name64 before.told (S.seen store.new).told
+        (shard S.X.block32 N.name64 7 m l).blocks name.now m l left) }
+    ensures cause { (before : Seen) → Finds S.X.block32 root.now before (S.seen store.old)
+        → Answers S.X.block32 (IsBadOnWay N.name64 (N.name64 name.now)) result before (S.seen store.new) }
+    ensures good { KeepsGood S.X.block32 (S.seen store.old).told (S.seen store.new).told }
+    ensures saves { SavesOnly S.X.block32 (S.seen store.old).told (S.seen store.new).told }
+    ensures no_other { (before : Seen) (m : TheMeta) (l : List Named)
+        → Finds S.X.block32 root.now before (S.seen store.old) → IsPlanned S.X.block32 N.name64 root.now m l
+        → Agrees before.told (shard S.X.block32 N.name64 7 m l).blocks
+        → SavesAmong S.X.block32 (shard S.X.block32 N.name64 7 m (without name.now l)).blocks
+        before.told (S.seen store.new).told }
+    ensures touches { touches.new ≤ touches.old + 15 }
+    ensures absent { IfOk result (λ left. left ≡ Absent → touches.new ≤ touches.old + 7) }
+    ensures touched { touches.old ≤ touches.new }
+{
+    if is_first::<N>(node) {
+        remove_placed::<S, N, L>(alloc, store, node, name, touches)
+    } else {
+        Err(StoreFault::BadBlock(*root, Role::Shard(0)))
+    }
+}
+
+// The same where the shard is canonical at the root.
+fn remove_placed<S: Store, N: NameHash, L: Ledger>(
+    alloc: Global,
+    store: &mut S,
+    node: &ShardNode,
+    name: &Name,
+    touches: &mut Steps<L>,
+) -> Result<Removed, StoreFault>
+    requires { IsPlacedNode N.name64 [] node.now }
+    ensures value { (root : TheCid) (before : Seen) (m : TheMeta) (l : List Named)
+        → HasFirst S.X.block32 N.name64 (N.name64 name.now) root node.now before (S.seen store.old)
+        → IsPlanned S.X.block32 N.name64 root m l
+        → Agrees before.told (shard S.X.block32 N.name64 7 m l).blocks
+        → Stood before.faults (S.seen store.new).faults → Stood before.clashes (S.seen store.new).clashes
+        → ReadsOver before.told (shard S.X.block32 N.name64 7 m l).blocks
+        (left_without S.X.block32 N.name64 name.now m l) result }
+    ensures made { IfOk result (LeavesShard S.X.block32) }
+    ensures nothing { IfOk result (λ left. SavesNothing left (S.seen store.old).told (S.seen store.new).told) }
+    ensures after { IfOk result (λ left. (root : TheCid) (before : Seen) (m : TheMeta) (l : List Named)
+        → HasFirst S.X.block32 N.name64 (N.name64 name.now) root node.now before (S.seen store.old)
+        → IsPlanned S.X.block32 N.name64 root m l
+        → StaysAgreed before.told (S.seen store.new).told (shard S.X.block32 N.name64 7 m l).blocks
+        → AgreesLeft S.X.block32 N.name64 before.told (S.seen store.new).told
+        (shard S.X.block32 N.name64 7 m l).blocks name.now m l left) }
+    ensures saves { OnlySaves S.X.block32 (IsBadOnWay N.name64 (N.name64 name.now)) (fault_in result)
+        (S.seen store.old) (S.seen store.new) }
+    ensures no_other { (root : TheCid) (before : Seen) (m : TheMeta) (l : List Named)
+        → HasFirst S.X.block32 N.name64 (N.name64 name.now) root node.now before (S.seen store.old)
+        → IsPlanned S.X.block32 N.name64 root m l
+        → Agrees before.told (shard S.X.block32 N.name64 7 m l).blocks
+        → SavesAmong S.X.block32 (shard S.X.block32 N.name64 7 m (without name.now l)).blocks
+        before.told (S.seen store.new).told }
+    ensures touches { touches.new ≤ touches.old + 15 }
+    ensures absent { IfOk result (λ left. left ≡ Absent → touches.new ≤ touches.old + 7) }
+    ensures touched { touches.old ≤ touches.new }
+{
     let left = take_from::<S, N, L>(alloc, store, 7, &node.items, name, touches)?;
     match left {
         None => Ok(Removed::Absent),

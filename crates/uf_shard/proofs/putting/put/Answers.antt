@@ -1,16 +1,9 @@
+use Rattle.std.proofs.lemmas.Result.{err_from_is_err_and, on_ok_weaker}
+use Rattle.uf_store.proofs.Calls.{reads-saves, saves-saves}
 use Rattle.uf_tree.specs.Validity.{IsHash}
 use Rattle.uf_shard.specs.Placed.{IsBadOnWay}
-use Rattle.std.proofs.lemmas.Result.{err_from_is_err_and}
-use Rattle.std.specs.declared.result.Result.TheVariants.{Ok, Err}
-use Rattle.uf_store.proofs.Calls.{reads-saves, saves-saves}
-use Rattle.uf_store.proofs.Among.{SavesAmong-trans}
-use Rattle.uf_tree.specs.Changes.{with_name}
-use Rattle.uf_tree.specs.ShardPlan.{shard}
-use Rattle.uf_shard.specs.Changed.{below}
-use Rattle.uf_shard.proofs.Among.{root-saves, tree-saves}
-use Rattle.uf_shard.proofs.Saves.{saves-new}
-use Rattle.uf_shard.proofs.AtRoot.{keeps-from, root-among, root-below, root-entry, root-held, root-lost, root-puts}
-use Rattle.uf_shard.proofs.Ends.{calm-loss, on-ok, put-after, put-err, put-ok}
+use Rattle.uf_shard.proofs.AtRoot.{root-lost}
+use Rattle.uf_shard.proofs.Ends.{calm-loss}
 use Rattle.uf_shard.proofs.putting.put.Goals as goal
 
 pub returns-in_err-node-clause-value : goal.returns-in_err-node-clause-value
@@ -19,72 +12,17 @@ returns-in_err-node-clause-value g c = λ m l is agrees faults clashes.
     calm-loss g.S.X.BlockHash.block32 (IsBadOnWay g.N.NameHash.name64 (g.N.NameHash.name64 c.args.name.now)) (g.S.Store.seen c.args.store.now).told _ c.in_err-node.field-0.0 (g.S.Store.seen c.args.store.now) (g.S.Store.seen c.load_shard.new.store)
     (root-lost g.S.X.BlockHash.block32 g.N.NameHash.name64 good c.args.name.now c.args.root.now m l is (g.S.Store.seen c.args.store.now) agrees (g.S.Store.seen c.load_shard.new.store) c.in_err-node.field-0.0 c.in_err-node.ensures.loads) c.in_err-node.ensures.reads.cause faults clashes)
 
-pub returns-in_err-items-clause-value : goal.returns-in_err-items-clause-value
-returns-in_err-items-clause-value g c = λ m l is agrees faults clashes.
-    let out = err_from_is_err_and c.from_residual-in_err-items.result c.from_residual-in_err-items.ensures.1 in rw (out.1, out.2) (let good : IsHash g.S.X.BlockHash.block32 = record { size = g.met.S.X.BlockHash.size; are_bytes = g.met.S.X.BlockHash.are_bytes } in
-    put-err g.S.X.BlockHash.block32 g.N.NameHash.name64 good g.met.N.NameHash.fits c.args.name.now c.args.entry.now c.args.root.now m l is g.S.X.BlockHash.block32 (IsBadOnWay g.N.NameHash.name64 (g.N.NameHash.name64 c.args.name.now))
-    (g.S.Store.seen c.args.store.now) (g.S.Store.seen c.put_into.new.store) c.in_err-items.field-0.0
-    (root-puts g.S.X.BlockHash.block32 g.N.NameHash.name64 good c.args.name.now c.args.root.now m l is (g.S.Store.seen c.args.store.now) agrees (g.S.Store.seen c.load_shard.new.store).told c.in_ok-node.node c.in_ok-node.ensures.reads.told c.in_ok-node.ensures.loads
-    (g.S.Store.seen c.put_into.new.store).told c.args.entry.now (Err c.in_err-items.field-0.0) c.in_err-items.ensures.puts) (saves-saves (reads-saves c.in_ok-node.ensures.reads) c.in_err-items.ensures.saves).cause faults clashes)
-
 pub returns-clause-value : goal.returns-clause-value
-returns-clause-value g c = λ m l is agrees faults clashes.
-    let good : IsHash g.S.X.BlockHash.block32 = record { size = g.met.S.X.BlockHash.size; are_bytes = g.met.S.X.BlockHash.are_bytes } in
-    let before = g.S.Store.seen c.args.store.now in
-    let mid = (g.S.Store.seen c.load_shard.new.store).told in
-    put-ok g.S.X.BlockHash.block32 g.N.NameHash.name64 good g.met.N.NameHash.fits c.args.name.now c.args.entry.now c.args.root.now m l is
-    before.told (g.S.Store.seen c.put_into.new.store).told (g.S.Store.seen c.save_node.new.store).told c.in_ok-items.items c.in_ok-entry.entry c.within.result
-    (root-puts g.S.X.BlockHash.block32 g.N.NameHash.name64 good c.args.name.now c.args.root.now m l is before agrees mid c.in_ok-node.node c.in_ok-node.ensures.reads.told c.in_ok-node.ensures.loads (g.S.Store.seen c.put_into.new.store).told c.args.entry.now (Ok c.in_ok-items.items) c.in_ok-items.ensures.puts)
-    (root-entry g.S.X.BlockHash.block32 g.N.NameHash.name64 good c.args.name.now c.args.root.now m l is before agrees mid c.in_ok-node.node c.in_ok-node.ensures.reads.told c.in_ok-node.ensures.loads c.in_ok-items.items c.in_ok-entry.entry c.in_ok-entry.ensures.entry)
-    (root-held g.S.X.BlockHash.block32 g.N.NameHash.name64 good c.args.name.now c.args.root.now m l is before agrees mid c.in_ok-node.node c.in_ok-node.ensures.reads.told c.in_ok-node.ensures.loads (g.S.Store.seen c.save_node.new.store).told c.in_ok-items.items c.in_ok-entry.entry c.in_ok-entry.ensures.held)
-    c.save_node.ensures.saves.good c.within.ensures
+returns-clause-value g c = λ m l is agrees faults clashes. c.put_placed.ensures.value c.args.root.now (g.S.Store.seen c.args.store.now) m l (record { has = c.in_ok-node.ensures.loads; reads = c.in_ok-node.ensures.reads }) is agrees faults clashes
 
 pub returns-clause-after : goal.returns-clause-after
-returns-clause-after g c = on-ok _ c.within.result (λ m l is stays.
-    let good : IsHash g.S.X.BlockHash.block32 = record { size = g.met.S.X.BlockHash.size; are_bytes = g.met.S.X.BlockHash.are_bytes } in
-    let before = g.S.Store.seen c.args.store.now in
-    let mid = (g.S.Store.seen c.load_shard.new.store).told in
-    put-after g.S.X.BlockHash.block32 g.N.NameHash.name64 good g.met.N.NameHash.fits c.args.name.now c.args.entry.now c.args.root.now m l is
-    before.told (g.S.Store.seen c.put_into.new.store).told (g.S.Store.seen c.save_node.new.store).told c.in_ok-items.items c.in_ok-entry.entry
-    (root-puts g.S.X.BlockHash.block32 g.N.NameHash.name64 good c.args.name.now c.args.root.now m l is before stays.first mid c.in_ok-node.node c.in_ok-node.ensures.reads.told c.in_ok-node.ensures.loads (g.S.Store.seen c.put_into.new.store).told c.args.entry.now (Ok c.in_ok-items.items) c.in_ok-items.ensures.puts)
-    (root-entry g.S.X.BlockHash.block32 g.N.NameHash.name64 good c.args.name.now c.args.root.now m l is before stays.first mid c.in_ok-node.node c.in_ok-node.ensures.reads.told c.in_ok-node.ensures.loads c.in_ok-items.items c.in_ok-entry.entry c.in_ok-entry.ensures.entry)
-    (root-held g.S.X.BlockHash.block32 g.N.NameHash.name64 good c.args.name.now c.args.root.now m l is before stays.first mid c.in_ok-node.node c.in_ok-node.ensures.reads.told c.in_ok-node.ensures.loads (g.S.Store.seen c.save_node.new.store).told c.in_ok-items.items c.in_ok-entry.entry c.in_ok-entry.ensures.held)
-    (keeps-from g.S.X.BlockHash.block32 before.told mid (g.S.Store.seen c.put_into.new.store).told c.in_ok-node.ensures.reads.told c.put_into.ensures.saves.good) c.save_node.ensures.saves.good stays)
+returns-clause-after g c = on_ok_weaker c.put_placed.result (λ after m l is stays. after c.args.root.now (g.S.Store.seen c.args.store.now) m l (record { has = c.in_ok-node.ensures.loads; reads = c.in_ok-node.ensures.reads }) is stays) c.put_placed.ensures.after
 
 pub returns-in_err-node-clause-saves : goal.returns-in_err-node-clause-saves
 returns-in_err-node-clause-saves g c = (reads-saves c.in_err-node.ensures.reads).saves
 
-pub returns-in_err-entry-clause-saves : goal.returns-in_err-entry-clause-saves
-returns-in_err-entry-clause-saves g c = (saves-new (saves-saves (reads-saves c.in_ok-node.ensures.reads) c.in_ok-items.ensures.saves) c.in_err-entry.ensures.saves).saves
-
 pub returns-clause-saves : goal.returns-clause-saves
-returns-clause-saves g c = (saves-new (saves-saves (reads-saves c.in_ok-node.ensures.reads) c.in_ok-items.ensures.saves) c.in_ok-entry.ensures.saves).saves
-
-pub returns-in_err-items-clause-no_other : goal.returns-in_err-items-clause-no_other
-returns-in_err-items-clause-no_other g c = λ m l is agrees.
-    let good : IsHash g.S.X.BlockHash.block32 = record { size = g.met.S.X.BlockHash.size; are_bytes = g.met.S.X.BlockHash.are_bytes } in
-    let new = with_name c.args.name.now c.args.entry.now in
-    tree-saves g.S.X.BlockHash.block32 g.N.NameHash.name64 7 m (new l) (g.S.Store.seen c.args.store.now).told (g.S.Store.seen c.put_into.new.store).told
-    (root-below g.S.X.BlockHash.block32 g.N.NameHash.name64 good c.args.name.now c.args.root.now m l is (g.S.Store.seen c.args.store.now) agrees (g.S.Store.seen c.load_shard.new.store).told c.in_ok-node.node c.in_ok-node.ensures.reads.told c.in_ok-node.ensures.loads (g.S.Store.seen c.put_into.new.store).told (λ k. below g.S.X.BlockHash.block32 g.N.NameHash.name64 7 (new k)) c.put_into.ensures.no_other)
-
-pub returns-in_err-entry-clause-no_other : goal.returns-in_err-entry-clause-no_other
-returns-in_err-entry-clause-no_other g c = λ m l is agrees.
-    let good : IsHash g.S.X.BlockHash.block32 = record { size = g.met.S.X.BlockHash.size; are_bytes = g.met.S.X.BlockHash.are_bytes } in
-    let new = with_name c.args.name.now c.args.entry.now in
-    SavesAmong-trans g.S.X.BlockHash.block32 (shard g.S.X.BlockHash.block32 g.N.NameHash.name64 7 m (new l)).blocks (g.S.Store.seen c.args.store.now).told (g.S.Store.seen c.put_into.new.store).told (g.S.Store.seen c.save_node.new.store).told
-    (tree-saves g.S.X.BlockHash.block32 g.N.NameHash.name64 7 m (new l) (g.S.Store.seen c.args.store.now).told (g.S.Store.seen c.put_into.new.store).told
-    (root-below g.S.X.BlockHash.block32 g.N.NameHash.name64 good c.args.name.now c.args.root.now m l is (g.S.Store.seen c.args.store.now) agrees (g.S.Store.seen c.load_shard.new.store).told c.in_ok-node.node c.in_ok-node.ensures.reads.told c.in_ok-node.ensures.loads (g.S.Store.seen c.put_into.new.store).told (λ k. below g.S.X.BlockHash.block32 g.N.NameHash.name64 7 (new k)) c.put_into.ensures.no_other))
-    (root-saves g.S.X.BlockHash.block32 g.N.NameHash.name64 7 m c.in_ok-items.items (new l) (g.S.Store.seen c.put_into.new.store).told (g.S.Store.seen c.save_node.new.store).told
-    (root-puts g.S.X.BlockHash.block32 g.N.NameHash.name64 good c.args.name.now c.args.root.now m l is (g.S.Store.seen c.args.store.now) agrees (g.S.Store.seen c.load_shard.new.store).told c.in_ok-node.node c.in_ok-node.ensures.reads.told c.in_ok-node.ensures.loads (g.S.Store.seen c.put_into.new.store).told c.args.entry.now (Ok c.in_ok-items.items) c.in_ok-items.ensures.puts).1.same
-    (root-among g.S.X.BlockHash.block32 g.N.NameHash.name64 good c.args.name.now c.args.root.now m l is (g.S.Store.seen c.args.store.now) agrees (g.S.Store.seen c.load_shard.new.store).told c.in_ok-node.node c.in_ok-node.ensures.reads.told c.in_ok-node.ensures.loads (g.S.Store.seen c.put_into.new.store).told (g.S.Store.seen c.save_node.new.store).told c.in_ok-items.items c.save_node.ensures.no_other))
+returns-clause-saves g c = (saves-saves (reads-saves c.in_ok-node.ensures.reads) c.put_placed.ensures.saves).saves
 
 pub returns-clause-no_other : goal.returns-clause-no_other
-returns-clause-no_other g c = λ m l is agrees.
-    let good : IsHash g.S.X.BlockHash.block32 = record { size = g.met.S.X.BlockHash.size; are_bytes = g.met.S.X.BlockHash.are_bytes } in
-    let new = with_name c.args.name.now c.args.entry.now in
-    SavesAmong-trans g.S.X.BlockHash.block32 (shard g.S.X.BlockHash.block32 g.N.NameHash.name64 7 m (new l)).blocks (g.S.Store.seen c.args.store.now).told (g.S.Store.seen c.put_into.new.store).told (g.S.Store.seen c.save_node.new.store).told
-    (tree-saves g.S.X.BlockHash.block32 g.N.NameHash.name64 7 m (new l) (g.S.Store.seen c.args.store.now).told (g.S.Store.seen c.put_into.new.store).told
-    (root-below g.S.X.BlockHash.block32 g.N.NameHash.name64 good c.args.name.now c.args.root.now m l is (g.S.Store.seen c.args.store.now) agrees (g.S.Store.seen c.load_shard.new.store).told c.in_ok-node.node c.in_ok-node.ensures.reads.told c.in_ok-node.ensures.loads (g.S.Store.seen c.put_into.new.store).told (λ k. below g.S.X.BlockHash.block32 g.N.NameHash.name64 7 (new k)) c.put_into.ensures.no_other))
-    (root-saves g.S.X.BlockHash.block32 g.N.NameHash.name64 7 m c.in_ok-items.items (new l) (g.S.Store.seen c.put_into.new.store).told (g.S.Store.seen c.save_node.new.store).told
-    (root-puts g.S.X.BlockHash.block32 g.N.NameHash.name64 good c.args.name.now c.args.root.now m l is (g.S.Store.seen c.args.store.now) agrees (g.S.Store.seen c.load_shard.new.store).told c.in_ok-node.node c.in_ok-node.ensures.reads.told c.in_ok-node.ensures.loads (g.S.Store.seen c.put_into.new.store).told c.args.entry.now (Ok c.in_ok-items.items) c.in_ok-items.ensures.puts).1.same
-    (root-among g.S.X.BlockHash.block32 g.N.NameHash.name64 good c.args.name.now c.args.root.now m l is (g.S.Store.seen c.args.store.now) agrees (g.S.Store.seen c.load_shard.new.store).told c.in_ok-node.node c.in_ok-node.ensures.reads.told c.in_ok-node.ensures.loads (g.S.Store.seen c.put_into.new.store).told (g.S.Store.seen c.save_node.new.store).told c.in_ok-items.items c.save_node.ensures.no_other))
+returns-clause-no_other g c = λ m l is agrees. c.put_placed.ensures.no_other c.args.root.now (g.S.Store.seen c.args.store.now) m l (record { has = c.in_ok-node.ensures.loads; reads = c.in_ok-node.ensures.reads }) is agrees
