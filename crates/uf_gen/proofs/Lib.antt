@@ -4,3 +4,4 @@ pub mod Steps
 pub mod Names
 pub mod Left
 pub mod Counted
+pub mod Saving

@@ -2,14 +2,15 @@
 ghost use Rattle.std.specs.Prelude.{◌≡◌, ◌≤◌, ◌++◌, IfErr, IfOk, IsTrue, List, OnOk, [], ℕ, false, length};
 ghost use Rattle.uf_build.specs.Building.{HasFed};
 ghost use Rattle.uf_shard.specs.Answers.{Gives, dir_fault};
+ghost use Rattle.uf_store.specs.Among.{SavesAmong};
 ghost use Rattle.uf_store.specs.Calls.{OnlySaves};
 ghost use Rattle.uf_store.specs.Clashes.{IsSaving};
 ghost use Rattle.uf_store.specs.Faults.{NoneIsBad, fault_in};
 ghost use Rattle.uf_tree.specs.FilePlan.{file_plan};
 ghost use Rattle.uf_tree.specs.Metas.{none};
 ghost use Rattle.uf_tree.specs.Profiles.{is_profile};
-ghost use Rattle.uf_tree.specs.TreePlan.{entry as entry_of, refusal as refusal_of};
-ghost use Rattle.uf_gen.specs.Fresh.{left_entry, left_tree};
+ghost use Rattle.uf_tree.specs.TreePlan.{blocks as blocks_of, entry as entry_of, refusal as refusal_of};
+ghost use Rattle.uf_gen.specs.Fresh.{left_blocks, left_entry, left_tree};
 ghost use Rattle.uf_gen.specs.Rules.{last_bytes as bytes_last};
 
 use crate::rules::{file_name, last_bytes};
@@ -36,6 +37,8 @@ pub fn fresh_root<S: Store, N: NameHash, L: Ledger>(
     ensures answer { Gives (refusal_of S.X.block32 N.name64 p.now (left_tree seed n))
         (entry_of S.X.block32 N.name64 p.now (left_tree seed n)) result }
     ensures saves { OnlySaves S.X.block32 NoneIsBad (dir_fault result) (S.seen store.old) (S.seen store.new) }
+    ensures no_other { SavesAmong S.X.block32 (blocks_of S.X.block32 N.name64 p.now (left_tree seed n))
+        (S.seen store.old).told (S.seen store.new).told }
 {
     let mut pairs = Pairs::new(alloc);
     for i in 0..n {
@@ -58,6 +61,8 @@ fn add_left<S: Store, L: Ledger>(
     ensures adds { OnOk result (pairs.new ≡ pairs.old ++ left_entry S.X.block32 p.now seed i) }
     ensures fault { IfErr result IsSaving }
     ensures saves { OnlySaves S.X.block32 NoneIsBad (fault_in result) (S.seen store.old) (S.seen store.new) }
+    ensures no_other { SavesAmong S.X.block32 (left_blocks S.X.block32 p.now seed i)
+        (S.seen store.old).told (S.seen store.new).told }
 {
     if i % 3 == 0 {
         return Ok(());
@@ -82,6 +87,8 @@ fn file_entry<S: Store, L: Ledger>(
     ensures entry { IfOk result (λ e. e ≡ (file_plan S.X.block32 p.now none bytes.now).entry) }
     ensures fault { IfErr result IsSaving }
     ensures saves { OnlySaves S.X.block32 NoneIsBad (fault_in result) (S.seen store.old) (S.seen store.new) }
+    ensures no_other { SavesAmong S.X.block32 (file_plan S.X.block32 p.now none bytes.now).blocks
+        (S.seen store.old).told (S.seen store.new).told }
 {
     let mut builder = Builder::new(alloc, *p);
     feed(&mut builder, bytes, store, touches)?;
@@ -104,6 +111,9 @@ fn feed<S: Store, L: Ledger>(
     ensures ready { OnOk result (builder.new.is_spent ≡ false) }
     ensures fault { IfErr result IsSaving }
     ensures saves { OnlySaves S.X.block32 NoneIsBad (fault_in result) (S.seen store.old) (S.seen store.new) }
+    ensures no_other { HasFed S.X.block32 [] builder.old
+        → SavesAmong S.X.block32 (file_plan S.X.block32 builder.old.profile none bytes.now).blocks
+        (S.seen store.old).told (S.seen store.new).told }
 {
     match builder.feed(store, bytes, touches) {
         Ok(()) => Ok(()),
@@ -123,6 +133,9 @@ fn close<S: Store, L: Ledger>(
         → e ≡ (file_plan S.X.block32 builder.profile none bytes).entry) }
     ensures fault { IfErr result IsSaving }
     ensures saves { OnlySaves S.X.block32 NoneIsBad (fault_in result) (S.seen store.old) (S.seen store.new) }
+    ensures no_other { (bytes : List ℕ) → HasFed S.X.block32 bytes builder
+        → SavesAmong S.X.block32 (file_plan S.X.block32 builder.profile none bytes).blocks
+        (S.seen store.old).told (S.seen store.new).told }
 {
     match builder.finish(store, touches) {
         Ok(entry) => Ok(entry),
