@@ -15,10 +15,10 @@ use Rattle.uf_edge.specs.Counts.{Stood}
 use Rattle.uf_store.specs.Among.{SavesAmong}
 use Rattle.uf_store.specs.Clashes.{IsSaving}
 use Rattle.uf_store.specs.Contents.{Contents, Told, held_at}
-use Rattle.uf_store.specs.Calls.{Calm}
+use Rattle.uf_store.specs.Calls.{Calm, OnlySaves}
 use Rattle.uf_store.specs.Faults.{Answers, NoneIsBad, Shows, StaysCalm, fault_in}
 use Rattle.uf_store.specs.Faults as faults
-use Rattle.uf_store.specs.Keeping.{Agrees, Holds, StaysAgreed}
+use Rattle.uf_store.specs.Keeping.{Agrees, Holds, KeepsGood, StaysAgreed}
 use Rattle.uf_store.specs.Writing.{IsSave, SavesOnly}
 use Rattle.uf_store.proofs.Calls.{shown-rises}
 use Rattle.uf_store.proofs.Writing.{SavesOnly-trans, agrees-between}
@@ -28,7 +28,6 @@ use Rattle.uf_store.specs.Seen.{Seen}
 use Rattle.uf_store.specs.declared.store.Role.{Role}
 use Rattle.uf_store.specs.declared.store.StoreFault.{StoreFault}
 use Rattle.uf_store.specs.declared.store.StoreFault.TheVariants.{Failed, Damaged, Missing, BadBlock, Clash, Memory}
-use Rattle.uf_store.proofs.Causes.{StaysCalm-trans, Shows-after}
 use Rattle.uf_tree.specs.declared.nodes.Entry.{Entry}
 use Rattle.uf_tree.specs.declared.meta.Meta.{Meta}
 use Rattle.uf_tree.specs.declared.profile.Profile.{Profile}
@@ -52,8 +51,7 @@ use Rattle.uf_dir.specs.Planned.{IsPlanned, dir_entry, entry_without, own_blocks
 use Rattle.uf_dir.specs.Roots.{IsRootCid, IsRootOf, IsThere}
 use Rattle.uf_dir.specs.declared.root.Root.{Root}
 use Rattle.uf_dir.specs.declared.root.Root.TheVariants as root
-use Rattle.uf_dir.proofs.Causes.{Shows-wider}
-use Rattle.uf_dir.proofs.Looked.{agrees_mid, sharded-meta, sharded_is}
+use Rattle.uf_dir.proofs.Looked.{sharded-meta, sharded_is}
 use Rattle.uf_dir.proofs.Planning.{blocks-sharded, light-entry, light-held, planned-sharded}
 use Rattle.uf_dir.proofs.Edited.{after-held, after-same, left-some, without-absent}
 use Rattle.uf_dir.proofs.Listing.{directory-without}
@@ -66,16 +64,6 @@ use Rattle.uf_tree.specs.FilePlan.{Plan}
 use Rattle.uf_tree.proofs.Twins.{Alone, Apart, Apart-twins, twins-Apart}
 
 -- ---- causes
-
-pub Shown-wider : {A : Type 0} (hash : List ℕ → List ℕ) (P Q : Role → List ℕ → Type 0) → ((role : Role) (bytes : List ℕ) → P role bytes → Q role bytes) → (r : Result A DirFault) (a b c : Seen) → StaysCalm a b → Shown hash P r b c → Shown hash Q r a c
-Shown-wider hash P Q wider (Ok x) a b c p q = StaysCalm-trans a b c p q
-Shown-wider hash P Q wider (Err (Collision first second)) a b c p q = StaysCalm-trans a b c p q
-Shown-wider hash P Q wider (Err TooBig) a b c p q = StaysCalm-trans a b c p q
-Shown-wider hash P Q wider (Err (Store fault)) a b c p q = Shows-after hash Q fault a b c p (Shows-wider hash P Q wider fault b c q)
-
-pub Answers-wider-after : {A : Type 0} (hash : List ℕ → List ℕ) (P Q : Role → List ℕ → Type 0) → ((role : Role) (bytes : List ℕ) → P role bytes → Q role bytes) → (r : Result A StoreFault) (a b c : Seen) → StaysCalm a b → Answers hash P r b c → Answers hash Q r a c
-Answers-wider-after hash P Q wider (Ok x) a b c p q = StaysCalm-trans a b c p q
-Answers-wider-after hash P Q wider (Err fault) a b c p q = Shows-after hash Q fault a b c p (Shows-wider hash P Q wider fault b c q)
 
 pub none-bad : (Q : Role → List ℕ → Type 0) (role : Role) (bytes : List ℕ) → NoneIsBad role bytes → Q role bytes
 none-bad Q role bytes h = absurd h
@@ -158,71 +146,68 @@ module _ (X : List ℕ → List ℕ) (good : IsHash X) (N : List ℕ → ℕ) (p
   pub plan_there : shards.IsPlanned X N cid meta l
   plan_there = planned-sharded X N p meta l cid is in_shards
 
-  pub agrees_there : Agrees mid.told (shard X N 7 meta l).blocks
-  agrees_there = agrees_mid X good N p meta cid l is before mid found node at looks same agrees
+  agrees_there : Agrees before.told (shard X N 7 meta l).blocks
+  agrees_there = subst (Agrees before.told) (blocks-sharded X N p meta l in_shards) agrees
 
   over_as : (b : Bool) (m : List Named) (r : Result Entry DirFault) → is_sharded p m ≡ b → b ≡ true → GivesOver before.told (own_blocks X N p meta l) (shard_refusal X N meta m) (shard X N 7 meta m).entry r → GivesOver before.told (own_blocks X N p meta l) (dir_refusal X N p meta m) (dir_entry X N p meta m) r
   over_as b m r is holds h = subst (λ (b : Bool). GivesOver before.told (own_blocks X N p meta l) (or_else (cond b (collision N m) None) (too_big (cond b (shard X N 7 meta m) (basic_dir X N meta m)).entry.tsize)) (cond b (shard X N 7 meta m) (basic_dir X N meta m)).entry r) (sym (is ∙ holds)) h
 
-  pub put-sharded : (name : List ℕ) (e : Entry) (now : Seen) (r : Result Entry DirFault) → StaysCalm before mid
-      → ((n : Meta) (k : List Named) → shards.IsPlanned X N cid n k → Agrees mid.told (shard X N 7 n k).blocks → Stood mid.faults now.faults → Stood mid.clashes now.clashes
-      → GivesOver mid.told (shard X N 7 n k).blocks (shard_refusal X N n (with_name name e k)) (shard X N 7 n (with_name name e k)).entry r)
+  pub put-sharded : (name : List ℕ) (e : Entry) (now : Seen) (r : Result Entry DirFault)
+      → ((n : Meta) (k : List Named) → shards.IsPlanned X N cid n k → Agrees before.told (shard X N 7 n k).blocks → Stood before.faults now.faults → Stood before.clashes now.clashes
+      → GivesOver before.told (shard X N 7 n k).blocks (shard_refusal X N n (with_name name e k)) (shard X N 7 n (with_name name e k)).entry r)
       → Stood before.faults now.faults → Stood before.clashes now.clashes → GivesOver before.told (own_blocks X N p meta l) (dir_refusal X N p meta (with_name name e l)) (dir_entry X N p meta (with_name name e l)) r
-  put-sharded name e now r calm value faults clashes =
+  put-sharded name e now r value faults clashes =
       over_as true (with_name name e l) r (heavier p name e l in_shards) refl
       (subst (λ (old : List Held). GivesOver before.told old (shard_refusal X N meta (with_name name e l)) (shard X N 7 meta (with_name name e l)).entry r) (sym (blocks-sharded X N p meta l in_shards))
-      (subst (λ (told : Told). GivesOver told (shard X N 7 meta l).blocks (shard_refusal X N meta (with_name name e l)) (shard X N 7 meta (with_name name e l)).entry r) same
-      (value meta l plan_there agrees_there (stood-mid before mid now calm faults) (stood-clash before mid now calm clashes))))
+      (value meta l plan_there agrees_there faults clashes))
 
   pub put-sharded-saves : (name : List ℕ) (e : Entry) (now : Told)
-      → ((n : Meta) (k : List Named) → shards.IsPlanned X N cid n k → Agrees mid.told (shard X N 7 n k).blocks → SavesAmong X (shard X N 7 n (with_name name e k)).blocks mid.told now)
+      → ((n : Meta) (k : List Named) → shards.IsPlanned X N cid n k → Agrees before.told (shard X N 7 n k).blocks → SavesAmong X (shard X N 7 n (with_name name e k)).blocks before.told now)
       → SavesAmong X (own_blocks X N p meta (with_name name e l)) before.told now
   put-sharded-saves name e now saves =
       subst (λ (own : List Held). SavesAmong X own before.told now) (sym (blocks-sharded X N p meta (with_name name e l) (heavier p name e l in_shards)))
-      (subst (λ (told : Told). SavesAmong X (shard X N 7 meta (with_name name e l)).blocks told now) same (saves meta l plan_there agrees_there))
+      (saves meta l plan_there agrees_there)
 
-  pub stays_there : (now : Told) → Agrees now (own_blocks X N p meta l) → StaysAgreed mid.told now (shard X N 7 meta l).blocks
+  stays_there : (now : Told) → Agrees now (own_blocks X N p meta l) → StaysAgreed before.told now (shard X N 7 meta l).blocks
   stays_there now agrees_now = record { first = agrees_there; last = subst (Agrees now) (blocks-sharded X N p meta l in_shards) agrees_now }
 
   pub put-sharded-after : (name : List ℕ) (e : Entry) (now : Told)
-      → ((n : Meta) (k : List Named) → shards.IsPlanned X N cid n k → StaysAgreed mid.told now (shard X N 7 n k).blocks → AgreesAfter mid.told now (shard X N 7 n k).blocks (shard X N 7 n (with_name name e k)).blocks)
+      → ((n : Meta) (k : List Named) → shards.IsPlanned X N cid n k → StaysAgreed before.told now (shard X N 7 n k).blocks → AgreesAfter before.told now (shard X N 7 n k).blocks (shard X N 7 n (with_name name e k)).blocks)
       → Agrees now (own_blocks X N p meta l) → AgreesAfter before.told now (own_blocks X N p meta l) (own_blocks X N p meta (with_name name e l))
   put-sharded-after name e now after safe =
       subst (AgreesAfter before.told now (own_blocks X N p meta l)) (sym (blocks-sharded X N p meta (with_name name e l) (heavier p name e l in_shards)))
       (subst (λ (old : List Held). AgreesAfter before.told now old (shard X N 7 meta (with_name name e l)).blocks) (sym (blocks-sharded X N p meta l in_shards))
-      (subst (λ (told : Told). AgreesAfter told now (shard X N 7 meta l).blocks (shard X N 7 meta (with_name name e l)).blocks) same (after meta l plan_there (stays_there now safe))))
+      (after meta l plan_there (stays_there now safe)))
 
   -- ---- a removal
 
   -- the shards stay
-  pub stay-there : (now : Seen) → StaysCalm before mid → Agrees now.told (own_blocks X N p meta l) → Calm before now → StayShards X N meta cid mid now l
-  stay-there now stays safe calm = record { plan = plan_there; stays = stays_there now.told safe; calm = then-calm before mid now stays calm }
+  pub stay-there : (now : Seen) → Agrees now.told (own_blocks X N p meta l) → Calm before now → StayShards X N meta cid before now l
+  stay-there now safe calm = record { plan = plan_there; stays = stays_there now.told safe; calm = calm }
 
   -- the metadata that was read is the directory's
   pub read_there : node.meta ≡ meta
   read_there = sharded-meta X good N p meta cid l is before mid found node at looks same agrees
 
-  pub stay-read : (now : Seen) → StaysCalm before mid → Agrees now.told (own_blocks X N p meta l) → Calm before now → StayShards X N node.meta cid mid now l
-  stay-read now stays safe calm = subst (λ (n : Meta). StayShards X N n cid mid now l) (sym read_there) (stay-there now stays safe calm)
+  pub stay-read : (now : Seen) → Agrees now.told (own_blocks X N p meta l) → Calm before now → StayShards X N node.meta cid before now l
+  stay-read now safe calm = subst (λ (n : Meta). StayShards X N n cid before now l) (sym read_there) (stay-there now safe calm)
 
   pub removal-there : (name : List ℕ) (now : Told)
-      → ((k : List Named) → shards.IsPlanned X N cid node.meta k → StaysAgreed mid.told now (shard X N 7 node.meta k).blocks
-      → CanRise mid → SavesAmong X ((shard X N 7 node.meta (without name k)).blocks ++ own_blocks X N p node.meta (without name k)) mid.told now)
-      → Agrees now (own_blocks X N p meta l) → CanRise mid → SavesAmong X ((shard X N 7 meta (without name l)).blocks ++ own_blocks X N p meta (without name l)) before.told now
+      → ((k : List Named) → shards.IsPlanned X N cid node.meta k → StaysAgreed before.told now (shard X N 7 node.meta k).blocks
+      → CanRise before → SavesAmong X ((shard X N 7 node.meta (without name k)).blocks ++ own_blocks X N p node.meta (without name k)) before.told now)
+      → Agrees now (own_blocks X N p meta l) → CanRise before → SavesAmong X ((shard X N 7 meta (without name l)).blocks ++ own_blocks X N p meta (without name l)) before.told now
   removal-there name now saves safe can =
-      subst (λ (told : Told). SavesAmong X ((shard X N 7 meta (without name l)).blocks ++ own_blocks X N p meta (without name l)) told now) same
-      (subst (λ (n : Meta). (k : List Named) → shards.IsPlanned X N cid n k → StaysAgreed mid.told now (shard X N 7 n k).blocks
-      → CanRise mid → SavesAmong X ((shard X N 7 n (without name k)).blocks ++ own_blocks X N p n (without name k)) mid.told now) read_there saves l plan_there (stays_there now safe) can)
+      (subst (λ (n : Meta). (k : List Named) → shards.IsPlanned X N cid n k → StaysAgreed before.told now (shard X N 7 n k).blocks
+      → CanRise before → SavesAmong X ((shard X N 7 n (without name k)).blocks ++ own_blocks X N p n (without name k)) before.told now) read_there saves) l plan_there (stays_there now safe) can
 
-  pub takes_there : (name : List ℕ) (now : Seen) (r : Result (Option Entry) StoreFault) → TakesSharded X N p node.meta cid name mid now r → TakesSharded X N p meta cid name mid now r
-  takes_there name now r takes = subst (λ (n : Meta). TakesSharded X N p n cid name mid now r) read_there takes
+  pub takes_there : (name : List ℕ) (now : Seen) (r : Result (Option Entry) StoreFault) → TakesSharded X N p node.meta cid name before now r → TakesSharded X N p meta cid name before now r
+  takes_there name now r takes = subst (λ (n : Meta). TakesSharded X N p n cid name before now r) read_there takes
 
-  pub take-sharded : (name : List ℕ) (now : Seen) (r : Result (Option Entry) StoreFault) → StaysCalm before mid → TakesSharded X N p node.meta cid name mid now r
+  pub take-sharded : (name : List ℕ) (now : Seen) (r : Result (Option Entry) StoreFault) → TakesSharded X N p node.meta cid name before now r
       → Agrees now.told (own_blocks X N p meta l) → Calm before now → ReadsOver before.told (own_blocks X N p meta l) (entry_without X N p meta name l) r
-  take-sharded name now r stays takes safe calm =
+  take-sharded name now r takes safe calm =
       subst (λ (old : List Held). ReadsOver before.told old (entry_without X N p meta name l) r) (sym (blocks-sharded X N p meta l in_shards))
-      (subst (λ (told : Told). ReadsOver told (shard X N 7 meta l).blocks (entry_without X N p meta name l) r) same
-      (takes-reads X N p meta name l mid.told now.told r ((takes_there name now r takes).over l (stay-there now stays safe calm))))
+      (takes-reads X N p meta name l before.told now.told r ((takes_there name now r takes).over l (stay-there now safe calm)))
 
 -- ---- what is left of a directory in shards
 
@@ -489,6 +474,15 @@ module _ (X : List ℕ → List ℕ) (N : List ℕ → ℕ) (p : Profile) (meta 
 pub saves-same : (X : List ℕ → List ℕ) (a b : Told) → b ≡ a → SavesOnly X a b
 saves-same X a b same = subst (SavesOnly X a) (sym same) (SavesOnly-refl X a)
 
+-- what a call does behind one that saved nothing
+pub saves-behind : (hash : List ℕ → List ℕ) (Bad : Role → List ℕ → Type 0) (fault : Option StoreFault) (before mid now : Seen) → mid.told ≡ before.told → faults.Shown hash Bad fault before now
+    → KeepsGood hash mid.told now.told → SavesOnly hash mid.told now.told → OnlySaves hash Bad fault before now
+saves-behind hash Bad fault before mid now same cause good saves = record {
+  cause = cause;
+  good = subst (λ (t : Told). KeepsGood hash t now.told) same good;
+  saves = subst (λ (t : Told). SavesOnly hash t now.told) same saves;
+}
+
 -- ---- the two calls, where the root is one block
 
 module _ (X : List ℕ → List ℕ) (N : List ℕ → ℕ) (p : Profile) where
@@ -546,12 +540,12 @@ module _ (X : List ℕ → List ℕ) (N : List ℕ → ℕ) (p : Profile) where
 module _ (X : List ℕ → List ℕ) (good : IsHash X) (N : List ℕ → ℕ) (p : Profile) (cid : Cid)
     (before mid : Seen) (found : Root) (node : ShardNode) (at : found ≡ root.Sharded node) (looks : IsThere cid before mid × IsRootOf mid.lent found) (same : mid.told ≡ before.told) where
   pub put-sharded-ok : (name : List ℕ) (e : Entry) (now : Told) (r : Result Entry DirFault)
-      → OnOk r ((n : Meta) (k : List Named) → shards.IsPlanned X N cid n k → StaysAgreed mid.told now (shard X N 7 n k).blocks → AgreesAfter mid.told now (shard X N 7 n k).blocks (shard X N 7 n (with_name name e k)).blocks)
+      → OnOk r ((n : Meta) (k : List Named) → shards.IsPlanned X N cid n k → StaysAgreed before.told now (shard X N 7 n k).blocks → AgreesAfter before.told now (shard X N 7 n k).blocks (shard X N 7 n (with_name name e k)).blocks)
       → OnOk r ((meta : Meta) (l : List Named) → IsPlanned X N p meta cid l → StaysAgreed before.told now (own_blocks X N p meta l) → AgreesAfter before.told now (own_blocks X N p meta l) (own_blocks X N p meta (with_name name e l)))
   put-sharded-ok name e now (Ok x) after = λ meta l is stays. put-sharded-after X good N p meta cid l is before mid found node at looks same stays.first name e now after stays.last
   put-sharded-ok name e now (Err fault) after = tt
 
-  module _ (name : List ℕ) (now : Seen) (stays : StaysCalm before mid) where
+  module _ (name : List ℕ) (now : Seen) where
     not-there : (meta : Meta) (l : List Named) → None ≡ entry_without X N p meta name l → find names_cmp name l ≡ None
     not-there meta l h = by (find names_cmp name l) h
       where
@@ -559,16 +553,16 @@ module _ (X : List ℕ → List ℕ) (good : IsHash X) (N : List ℕ → ℕ) (p
         by None h = refl
         by (Some old) h = absurd (let no : None ≡ Some (dir_entry X N p meta (without name l)) = h in cc)
 
-    pub take-sharded-ok : (r : Result (Option Entry) StoreFault) → TakesSharded X N p node.meta cid name mid now r
+    pub take-sharded-ok : (r : Result (Option Entry) StoreFault) → TakesSharded X N p node.meta cid name before now r
         → OnOk r ((meta : Meta) (l : List Named) → IsPlanned X N p meta cid l → StaysAgreed before.told now.told (own_blocks X N p meta l) → Stood before.faults now.faults → Stood before.clashes now.clashes
         → AgreesAfter before.told now.told (own_blocks X N p meta l) (own_blocks X N p meta (without name l)))
     take-sharded-ok (Ok None) takes = λ meta l is keeps faults clashes.
         let absent : None ≡ entry_without X N p meta name l = (takes_there X good N p meta cid l is before mid found node at looks same keeps.first name now (Ok None) takes).over l
-        (stay-there X good N p meta cid l is before mid found node at looks same keeps.first now stays keeps.last (record { faults = faults; clashes = clashes })) in
-        subst (λ (m : List Named). AgreesAfter before.told now.told (own_blocks X N p meta l) (own_blocks X N p meta m)) (sym (without-absent name l (not-there meta l absent))) (after-same before.told now.told (own_blocks X N p meta l) keeps.first (takes.none refl ∙ same))
+        (stay-there X good N p meta cid l is before mid found node at looks same keeps.first now keeps.last (record { faults = faults; clashes = clashes })) in
+        subst (λ (m : List Named). AgreesAfter before.told now.told (own_blocks X N p meta l) (own_blocks X N p meta m)) (sym (without-absent name l (not-there meta l absent))) (after-same before.told now.told (own_blocks X N p meta l) keeps.first (takes.none refl))
     take-sharded-ok (Ok (Some e)) takes = λ meta l is keeps faults clashes.
         let over = (takes_there X good N p meta cid l is before mid found node at looks same keeps.first name now (Ok (Some e)) takes).over l
-        (stay-there X good N p meta cid l is before mid found node at looks same keeps.first now stays keeps.last (record { faults = faults; clashes = clashes })) in
+        (stay-there X good N p meta cid l is before mid found node at looks same keeps.first now keeps.last (record { faults = faults; clashes = clashes })) in
         subst (λ (old : List Held). AgreesAfter before.told now.told old (own_blocks X N p meta (without name l))) (sym (blocks-sharded X N p meta l (in_shards X good N p meta cid l is before mid found node at looks same keeps.first)))
-        (subst (λ (told : Told). AgreesAfter told now.told (shard X N 7 meta l).blocks (own_blocks X N p meta (without name l))) same over.1)
+        over.1
     take-sharded-ok (Err fault) takes = tt

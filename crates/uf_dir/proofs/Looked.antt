@@ -1,5 +1,5 @@
 -- What a look at the root of a planned directory or file finds.
-use Rattle.std.proofs.Common.{◌≡◌, ℕ, ◌+◌, List, [], ◌∷◌, length, ap, arith, sym, ◌∙◌, subst, inl, inr, Option, Some, None, Bool, true, false}
+use Rattle.std.proofs.Common.{◌≡◌, ℕ, ◌+◌, ◌<◌, List, [], ◌∷◌, length, ap, arith, sym, ◌∙◌, subst, inl, inr, Option, Some, None, Bool, true, false}
 use Rattle.std.specs.Prelude.{◌≤◌, IfOk, IfSome, OnOk, ⊤}
 use Rattle.std.specs.declared.result.Result.{Result}
 use Rattle.std.specs.declared.result.Result.TheVariants.{Ok, Err}
@@ -166,26 +166,25 @@ module _ (X : List ℕ → List ℕ) (good : IsHash X) (N : List ℕ → ℕ) (p
         let from = blocks-from_root X N p meta l in
         ap (λ (n : ShardNode). n.meta) (read-sharded from.0 before mid node (subst (Agrees before.told) from.1 agrees) looks.0 (subst (IsRootOf mid.lent) at looks.1)).1
 
-    pub agrees_mid : Agrees mid.told (shard X N 7 meta l).blocks
-    agrees_mid = subst (λ (told : Told). Agrees told (shard X N 7 meta l).blocks) (sym same) (subst (Agrees before.told) (blocks-sharded X N p meta l sharded_is) agrees)
+    agrees_below : Agrees before.told (shard X N 7 meta l).blocks
+    agrees_below = subst (Agrees before.told) (blocks-sharded X N p meta l sharded_is) agrees
 
     -- what the shards answer where they are read
     abbrev pub ReadBelow : Seen → Result (List Named) StoreFault → Type 0
-    ReadBelow now r = (M : List ℕ → ℕ) (n : Meta) (k : List Named) → shards.IsPlanned X M cid n k → Agrees mid.told (shard X M 7 n k).blocks → Stood mid.faults now.faults → ReadsOver mid.told (shard X M 7 n k).blocks k r
+    ReadBelow now r = (M : List ℕ → ℕ) (n : Meta) (k : List Named) → shards.IsPlanned X M cid n k → Agrees before.told (shard X M 7 n k).blocks → Stood before.faults now.faults → ReadsOver before.told (shard X M 7 n k).blocks k r
 
-    -- a load for each shard, and one more
-    pub entries-touches : (t0 t1 t2 : ℕ) → t1 ≡ t0 + 1 → ((M : List ℕ → ℕ) (n : Meta) (k : List Named) → shards.IsPlanned X M cid n k → Agrees mid.told (shard X M 7 n k).blocks → t2 ≤ t1 + length (shard X M 7 n k).blocks)
+    -- a load for each shard
+    pub entries-touches : (t0 t1 t2 : ℕ) → t1 ≡ t0 + 1 → ((M : List ℕ → ℕ) (n : Meta) (k : List Named) → shards.IsPlanned X M cid n k → Agrees before.told (shard X M 7 n k).blocks → t2 < t1 + length (shard X M 7 n k).blocks)
         → t2 ≤ t0 + (length (own_blocks X N p meta l) + 1)
     entries-touches t0 t1 t2 first below =
-        let most = below N meta l (planned-sharded X N p meta l cid is sharded_is) agrees_mid in
+        let most = below N meta l (planned-sharded X N p meta l cid is sharded_is) agrees_below in
         let same = ap (λ (b : List Held). length b) (blocks-sharded X N p meta l sharded_is) in
         omega (arith, most, same, first)
 
-    pub entries-sharded : (now : Seen) (r : Result (List Named) StoreFault) → mid.faults ≡ before.faults → ReadBelow now r → Stood before.faults now.faults → ReadsOver before.told (own_blocks X N p meta l) l r
-    entries-sharded now r calm below stood =
+    pub entries-sharded : (now : Seen) (r : Result (List Named) StoreFault) → ReadBelow now r → Stood before.faults now.faults → ReadsOver before.told (own_blocks X N p meta l) l r
+    entries-sharded now r below stood =
         subst (λ (path : List Held). ReadsOver before.told path l r) (sym (blocks-sharded X N p meta l sharded_is))
-        (subst (λ (told : Told). ReadsOver told (shard X N 7 meta l).blocks l r) same
-        (below N meta l (planned-sharded X N p meta l cid is sharded_is) agrees_mid (subst (λ (n : ℕ). Stood n now.faults) (sym calm) stood)))
+        (below N meta l (planned-sharded X N p meta l cid is sharded_is) agrees_below stood)
 
 -- ---- what is listed of any tree
 
@@ -200,14 +199,11 @@ listed-basic cid before now found node at looks = by before.told looks.0.held
     by None held = tt
     by (Some t) held = let is = subst (IsRootOf now.lent) at looks.1 in inl (node.meta, (is.0.meta, held ∙ ap (λ (b : List ℕ). Some b) is.1))
 
-pub listed-sharded : (cid : Cid) (told mid : Told) (r : Result (List Named) StoreFault) → mid ≡ told → IfSome mid (λ t. IfOk r (λ l. (rows : List Named) × AreRows (held_at t) 7 cid rows × (l ≡ in_order rows)))
+pub listed-sharded : (cid : Cid) (told : Told) (r : Result (List Named) StoreFault) → IfSome told (λ t. IfOk r (λ l. (rows : List Named) × AreRows (held_at t) 7 cid rows × (l ≡ in_order rows)))
     → IfSome told (λ t. IfOk r (IsListed (held_at t) cid))
-listed-sharded cid told mid r same listed = by told r (subst (λ (x : Told). IfSome x (λ t. IfOk r (λ l. (rows : List Named) × AreRows (held_at t) 7 cid rows × (l ≡ in_order rows)))) same listed)
-  where
-    by : (told : Told) (r : Result (List Named) StoreFault) → IfSome told (λ t. IfOk r (λ l. (rows : List Named) × AreRows (held_at t) 7 cid rows × (l ≡ in_order rows))) → IfSome told (λ t. IfOk r (IsListed (held_at t) cid))
-    by None r h = tt
-    by (Some t) (Ok l) h = inr h
-    by (Some t) (Err fault) h = tt
+listed-sharded cid None r h = tt
+listed-sharded cid (Some t) (Ok l) h = inr h
+listed-sharded cid (Some t) (Err fault) h = tt
 
 -- a directory in one block that is held isn't too heavy, where its root was read
 pub fitting : (p : Profile) (cid : Cid) (before now : Seen) (found : Root) → IsThere cid before now × IsRootOf now.lent found → IsLight (Some p) found → IsFitting p cid before.told

@@ -1,7 +1,5 @@
 -- Saves among the own blocks of a directory.
-use Rattle.std.proofs.Common.{◌≡◌, ℕ, ◌++◌, ◌≤◌, List, [], ◌∷◌, ap, arith, sym, ◌∙◌, subst, Bool, true, false, cond}
-use Rattle.std.specs.Prelude.{Some, None}
-use Rattle.std.specs.declared.option.Option.{Option}
+use Rattle.std.proofs.Common.{◌≡◌, ℕ, ◌++◌, ◌≤◌, List, [], ◌∷◌, arith, sym, subst, Bool, true, false, cond}
 use Rattle.uf_cid.specs.Blocks.{Held}
 use Rattle.uf_cid.specs.Cid.{cid_of}
 use Rattle.uf_cid.specs.declared.cid.Cid.{Cid}
@@ -14,17 +12,16 @@ use Rattle.uf_store.specs.Keeping.{Agrees, StaysAgreed}
 use Rattle.uf_store.specs.Lost.{AgreesAfter}
 use Rattle.uf_store.specs.Seen.{Seen}
 use Rattle.uf_store.specs.Writing.{IsSave, SavesOnly}
-use Rattle.uf_store.proofs.Among.{SavesAmong-more, SavesAmong-same, SavesAmong-trans, among-left, among-right}
+use Rattle.uf_store.proofs.Among.{SavesAmong-more, SavesAmong-trans, among-left, among-right}
 use Rattle.uf_store.proofs.Writing.{agrees-between}
 use Rattle.uf_edge.specs.Counts.{Stood}
 use Rattle.uf_tree.specs.declared.meta.Meta.{Meta}
-use Rattle.uf_tree.specs.declared.nodes.DirNode.{DirNode}
 use Rattle.uf_tree.specs.declared.nodes.Entry.{Entry}
 use Rattle.uf_tree.specs.declared.profile.Profile.{Profile}
-use Rattle.uf_tree.specs.Changes.{with_name, without}
+use Rattle.uf_tree.specs.Changes.{without}
 use Rattle.uf_tree.specs.DirPlan.{basic_dir, is_sharded, weight}
 use Rattle.uf_tree.specs.Metas.{none}
-use Rattle.uf_tree.specs.Nodes.{InSlot, Named, dir_block}
+use Rattle.uf_tree.specs.Nodes.{Named, dir_block}
 use Rattle.uf_tree.specs.Roots.{dir_root}
 use Rattle.uf_tree.specs.ShardPlan.{shard, shard_held, shard_items}
 use Rattle.uf_tree.proofs.Canonical.{light}

@@ -111,21 +111,21 @@ module _ (X : List ℕ → List ℕ) (N : List ℕ → ℕ) (p : Profile) (meta 
       few c w = omega (arith, first, second)
 
   -- few touches, whatever the name is
-  pub few-takes : (name : List ℕ) (l : List Named) (t0 t2 : ℕ) → t2 ≤ t0 + 17 → t2 ≤ t0 + (17 + settling X N p name l)
+  pub few-takes : (name : List ℕ) (l : List Named) (t0 t2 : ℕ) → t2 ≤ t0 + 16 → t2 ≤ t0 + (16 + settling X N p name l)
   few-takes name l t0 t2 h = few (settling X N p name l)
     where
-      few : (w : ℕ) → t2 ≤ t0 + (17 + w)
+      few : (w : ℕ) → t2 ≤ t0 + (16 + w)
       few w = omega (arith, h)
 
-  pub sharded-takes : (name : List ℕ) (l : List Named) (t0 t1 t2 : ℕ) → is_sharded p l ≡ true → collision N l ≡ None → t1 ≡ t0 + 1 → t2 ≤ t1 + (17 + settling X N p name l)
+  pub sharded-takes : (name : List ℕ) (l : List Named) (t0 t1 t2 : ℕ) → is_sharded p l ≡ true → collision N l ≡ None → t1 ≡ t0 + 1 → t2 ≤ t1 + (16 + settling X N p name l)
       → t2 ≤ t0 + (18 + weighing_from X N p name l + crossing X N p l (without name l))
   sharded-takes name l t0 t1 t2 heavy apart first second = found (find names_cmp name l) second
     where
-      by : (b : Bool) (w s : ℕ) → 1 ≤ s → t2 ≤ t1 + (17 + (w + cond b 0 (s + 1))) → t2 ≤ t0 + (18 + w + cond b 0 (4 * s))
+      by : (b : Bool) (w s : ℕ) → 1 ≤ s → t2 ≤ t1 + (16 + (w + cond b 0 (s + 1))) → t2 ≤ t0 + (18 + w + cond b 0 (4 * s))
       by true w s some h = omega (arith, first)
       by false w s some h = omega (arith, first)
 
-      found : (o : Option Entry) → t2 ≤ t1 + (17 + elim o [ None ↦ 0 | Some old ↦ weighing p (shard_count X N l) + gathering p (shard_count X N l) (without name l) ])
+      found : (o : Option Entry) → t2 ≤ t1 + (16 + elim o [ None ↦ 0 | Some old ↦ weighing p (shard_count X N l) + gathering p (shard_count X N l) (without name l) ])
           → t2 ≤ t0 + (18 + elim o [ None ↦ 0 | Some old ↦ cond (is_sharded p l) (weighing p (shard_count X N l)) 0 ] + crossing X N p l (without name l))
       found None h = none (crossing X N p l (without name l))
         where
@@ -167,21 +167,21 @@ module _ (X : List ℕ → List ℕ) (N : List ℕ → ℕ) (p : Profile) (meta 
   less-gathering : (a b : ℕ) (m : List Named) → a ≤ b → gathering p a m ≤ gathering p b m
   less-gathering a b m h = elim (is_sharded p m) as (λ (t : Bool). cond t 0 (a + 1) ≤ cond t 0 (b + 1)) [ true ↦ omega arith | false ↦ omega arith ]
 
-  pub left-takes : (name : List ℕ) (l : List Named) (old : Entry) (t0 t1 t2 : ℕ) → find names_cmp name l ≡ Some old → IsTrue (is_sorted names_cmp l) → t1 ≤ t0 + 16
-      → t2 ≤ t1 + (weighing p (shard_count X N (without name l)) + gathering p (shard_count X N (without name l)) (without name l)) → t2 ≤ t0 + (17 + settling X N p name l)
+  pub left-takes : (name : List ℕ) (l : List Named) (old : Entry) (t0 t1 t2 : ℕ) → find names_cmp name l ≡ Some old → IsTrue (is_sorted names_cmp l) → t1 ≤ t0 + 15
+      → t2 ≤ t1 + (weighing p (shard_count X N (without name l)) + gathering p (shard_count X N (without name l)) (without name l)) → t2 ≤ t0 + (16 + settling X N p name l)
   left-takes name l old t0 t1 t2 there sorted first second =
       let fewer = fewer-shards X N name 7 l sorted in
-      subst (λ (o : Option Entry). t2 ≤ t0 + (17 + elim o [ None ↦ 0 | Some old ↦ weighing p (shard_count X N l) + gathering p (shard_count X N l) (without name l) ])) (sym there)
+      subst (λ (o : Option Entry). t2 ≤ t0 + (16 + elim o [ None ↦ 0 | Some old ↦ weighing p (shard_count X N l) + gathering p (shard_count X N l) (without name l) ])) (sym there)
       (sum t0 t1 t2 (weighing p (shard_count X N (without name l))) (weighing p (shard_count X N l)) (gathering p (shard_count X N (without name l)) (without name l)) (gathering p (shard_count X N l) (without name l)) first second
       (less-weighing (shard_count X N (without name l)) (shard_count X N l) fewer) (less-gathering (shard_count X N (without name l)) (shard_count X N l) (without name l) fewer))
     where
-      sum : (t0 t1 t2 w v g h : ℕ) → t1 ≤ t0 + 16 → t2 ≤ t1 + (w + g) → w ≤ v → g ≤ h → t2 ≤ t0 + (17 + (v + h))
+      sum : (t0 t1 t2 w v g h : ℕ) → t1 ≤ t0 + 15 → t2 ≤ t1 + (w + g) → w ≤ v → g ≤ h → t2 ≤ t0 + (16 + (v + h))
       sum t0 t1 t2 w v g h a b c d = omega (arith, a, b, c, d)
 
 -- few touches where a name isn't there, behind the load of the root
-pub absent-after : (r : Result (Option Entry) StoreFault) (t0 t1 t2 n : ℕ) → t1 ≡ t0 + 1 → IfOk r (λ left. left ≡ None → t2 ≤ t1 + n) → IfOk r (λ left. left ≡ None → t2 ≤ t0 + (n + 1))
-absent-after (Ok left) t0 t1 t2 n first h = λ none. let few : t2 ≤ t1 + n = h none in omega (arith, first, few)
-absent-after (Err fault) t0 t1 t2 n first h = tt
+pub absent-after : (r : Result (Option Entry) StoreFault) (t0 t1 t2 : ℕ) → t1 ≡ t0 + 1 → IfOk r (λ left. left ≡ None → t2 ≤ t1 + 7) → IfOk r (λ left. left ≡ None → t2 ≤ t0 + 9)
+absent-after (Ok left) t0 t1 t2 first h = λ none. let few : t2 ≤ t1 + 7 = h none in omega (arith, first, few)
+absent-after (Err fault) t0 t1 t2 first h = tt
 
 pub absent-here : (r : Result (Option Entry) StoreFault) (t0 t1 t2 : ℕ) → t1 ≡ t0 + 1 → IfOk r (λ left. left ≡ None → t2 ≡ t1) → IfOk r (λ left. left ≡ None → t2 ≤ t0 + 9)
 absent-here (Ok left) t0 t1 t2 first h = λ none. let same : t2 ≡ t1 = h none in omega (arith, first, same)

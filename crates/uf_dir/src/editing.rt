@@ -8,7 +8,9 @@ ghost use Rattle.uf_store.specs.Faults.{Answers, NoneIsBad, fault_in};
 ghost use Rattle.uf_store.specs.Keeping.{Agrees, Holds, KeepsGood, StaysAgreed};
 ghost use Rattle.uf_store.specs.Writing.{SavesOnly};
 ghost use Rattle.uf_store.specs.Lost.{AgreesAfter, ReadsOver};
+ghost use Rattle.uf_store.specs.Seen.{Finds, Seen};
 ghost use Rattle.uf_tree.specs.Changes.{with_name, without};
+ghost use Rattle.uf_tree.specs.Codecs.{shard_node_block};
 ghost use Rattle.uf_tree.specs.DirPlan.{weight};
 ghost use Rattle.uf_tree.specs.declared.meta.Meta.{Meta as TheMeta};
 ghost use Rattle.uf_tree.specs.Metas.{is_meta};
@@ -16,7 +18,7 @@ ghost use Rattle.uf_tree.specs.Nodes.{Named};
 ghost use Rattle.uf_tree.specs.Profiles.{is_profile};
 ghost use Rattle.uf_tree.specs.ShardPlan.{shard};
 ghost use Rattle.uf_tree.specs.TreePlan.{dir_refusal};
-ghost use Rattle.uf_tree.specs.Validity.{IsDirNode, IsDirectory};
+ghost use Rattle.uf_tree.specs.Validity.{IsDirNode, IsDirectory, IsShardNode};
 ghost use Rattle.uf_shard.specs.Answers.{Gives, GivesOver, Shown, dir_fault};
 ghost use Rattle.uf_shard.specs.Listing.{IsBadShard};
 ghost use Rattle.uf_shard.specs.Planned.{IsPlanned as IsShardPlan};
@@ -37,9 +39,9 @@ use std::alloc::Global;
 use std::sync::ledger::Ledger;
 use uf_cid::{Cid, Memory};
 use uf_murmur::NameHash;
-use uf_shard::{DirFault, Removed, entries, weight_over};
+use uf_shard::{DirFault, Removed, entries, put_below, remove_below, weight_over};
 use uf_store::{Steps, Store, StoreFault};
-use uf_tree::{DirNode, Entry, Meta, Name, Pairs, Profile};
+use uf_tree::{DirNode, Entry, Meta, Name, Pairs, Profile, ShardNode};
 
 /// Saves the directory with this root and with an entry put under a name, in the place of an older one of that name,
 /// and answers its entry. Its metadata stays. A directory in shards is changed in place; one in one block goes into
@@ -84,7 +86,9 @@ pub fn put<S: Store, N: NameHash, L: Ledger>(
     let found = look_at_root(alloc, store, Some(*p), root, touches)?;
     match found {
         Root::Basic(node) => put_basic::<S, N, L>(alloc, store, p, &node, name, entry, touches),
-        Root::Sharded(_) => uf_shard::put::<S, N, L>(alloc, store, root, name, entry, touches),
+        Root::Sharded(node) => {
+            put_below::<S, N, L>(alloc, store, root, &node, name, entry, touches)
+        }
     }
 }
 
@@ -169,7 +173,7 @@ pub fn remove<S: Store, N: NameHash, L: Ledger>(
     match found {
         Root::Basic(node) => remove_basic::<S, N, L>(alloc, store, p, &node, name, touches),
         Root::Sharded(node) => {
-            remove_sharded::<S, N, L>(alloc, store, p, root, name, &node.meta, touches)
+            remove_sharded::<S, N, L>(alloc, store, p, root, &node, name, touches)
         }
     }
 }
@@ -207,46 +211,50 @@ fn remove_basic<S: Store, N: NameHash, L: Ledger>(
     }
 }
 
-// Takes a name out of the directory whose shard tree has this root and this metadata, and answers the entry of what is
-// left.
+// Takes a name out of the directory whose shard tree has this root, which was loaded and is lent, and answers the entry of
+// what is left.
 fn remove_sharded<S: Store, N: NameHash, L: Ledger>(
     alloc: Global,
     store: &mut S,
     p: &Profile,
     root: &Cid,
+    node: &ShardNode,
     name: &Name,
-    meta: &Meta,
     touches: &mut Steps<L>,
 ) -> Result<Option<Entry>, StoreFault>
     requires profile { IsTrue (is_profile p.now) }
-    requires meta { IsTrue (is_meta meta.now) }
-    ensures takes { TakesSharded S.X.block32 N.name64 p.now meta.now root.now name.now
-        (S.seen store.old) (S.seen store.new) result }
-    ensures saves { OnlySaves S.X.block32 (IsBadWeighed N.name64 (N.name64 name.now) (Some p.now)) (fault_in result)
-        (S.seen store.old) (S.seen store.new) }
-    ensures no_other { (l : List Named) → IsShardPlan S.X.block32 N.name64 root.now meta.now l
-        → StaysAgreed (S.seen store.old).told (S.seen store.new).told (shard S.X.block32 N.name64 7 meta.now l).blocks
-        → CanRise (S.seen store.old)
-        → SavesAmong S.X.block32 ((shard S.X.block32 N.name64 7 meta.now (without name.now l)).blocks
-        ++ own_blocks S.X.block32 N.name64 p.now meta.now (without name.now l))
-        (S.seen store.old).told (S.seen store.new).told }
-    ensures blames { BlamesOnly root.now (fault_in result) }
-    ensures touches { (l : List Named)
-        → StayShards S.X.block32 N.name64 meta.now root.now (S.seen store.old) (S.seen store.new) l
-        → touches.new ≤ touches.old + (17 + settling S.X.block32 N.name64 p.now name.now l) }
-    ensures absent { IfOk result (λ left. left ≡ None → touches.new ≤ touches.old + 8) }
-    ensures touched { touches.old < touches.new }
+    requires shard { IsShardNode node.now }
+    requires lent { (S.seen store.old).lent ≡ shard_node_block node.now }
+    ensures takes { (before : Seen) → Finds S.X.block32 root.now before (S.seen store.old)
+        → TakesSharded S.X.block32 N.name64 p.now node.now.meta root.now name.now before (S.seen store.new) result }
+    ensures saves { (before : Seen) → Finds S.X.block32 root.now before (S.seen store.old)
+        → OnlySaves S.X.block32 (IsBadWeighed N.name64 (N.name64 name.now) (Some p.now)) (fault_in result)
+        before (S.seen store.new) }
+    ensures no_other { (before : Seen) (l : List Named) → Finds S.X.block32 root.now before (S.seen store.old)
+        → IsShardPlan S.X.block32 N.name64 root.now node.now.meta l
+        → StaysAgreed before.told (S.seen store.new).told (shard S.X.block32 N.name64 7 node.now.meta l).blocks
+        → CanRise before
+        → SavesAmong S.X.block32 ((shard S.X.block32 N.name64 7 node.now.meta (without name.now l)).blocks
+        ++ own_blocks S.X.block32 N.name64 p.now node.now.meta (without name.now l))
+        before.told (S.seen store.new).told }
+    ensures blames { (before : Seen) → Finds S.X.block32 root.now before (S.seen store.old)
+        → BlamesOnly root.now (fault_in result) }
+    ensures touches { (before : Seen) (l : List Named) → Finds S.X.block32 root.now before (S.seen store.old)
+        → StayShards S.X.block32 N.name64 node.now.meta root.now before (S.seen store.new) l
+        → touches.new ≤ touches.old + (16 + settling S.X.block32 N.name64 p.now name.now l) }
+    ensures absent { IfOk result (λ left. left ≡ None → touches.new ≤ touches.old + 7) }
+    ensures touched { touches.old ≤ touches.new }
 {
-    let removed = uf_shard::remove::<S, N, L>(alloc, store, root, name, touches)?;
+    let removed = remove_below::<S, N, L>(alloc, store, root, node, name, touches)?;
     match removed {
         Removed::Absent => Ok(None),
         Removed::Empty => {
             let nothing = Pairs::new(alloc);
-            let entry = save_basic(alloc, store, &nothing, meta, touches)?;
+            let entry = save_basic(alloc, store, &nothing, &node.meta, touches)?;
             Ok(Some(entry))
         }
         Removed::Left(entry) => {
-            let left = settled(alloc, store, p, entry, meta, touches)?;
+            let left = settled(alloc, store, p, entry, &node.meta, touches)?;
             Ok(Some(left))
         }
     }

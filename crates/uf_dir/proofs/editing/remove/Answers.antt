@@ -1,7 +1,7 @@
 use Rattle.std.proofs.Common.{Some, refl}
 use Rattle.uf_dir.specs.Planned.{entry_without}
 use Rattle.std.proofs.lemmas.Result.{err_from_is_err_and}
-use Rattle.uf_dir.proofs.Changing.{basic-ok, basic-root, basic-answer, can-rise, in_shards, removal-there, saves-same, stay-read, take-sharded, take-sharded-ok}
+use Rattle.uf_dir.proofs.Changing.{basic-ok, basic-root, basic-answer, in_shards, removal-there, saves-same, stay-read, take-sharded, take-sharded-ok}
 use Rattle.uf_store.specs.Faults.{NoneIsBad}
 use Rattle.uf_dir.proofs.Causes.{blames-none}
 use Rattle.uf_dir.proofs.Looked.{basic-light, entries-basic, entries-unread, fitting-at}
@@ -37,11 +37,11 @@ returns-in-Basic-clause-after g c = basic-ok g.S.X.BlockHash.block32 g.N.NameHas
 
 pub returns-in-Sharded-clause-value : goal.returns-in-Sharded-clause-value
 returns-in-Sharded-clause-value g c = λ meta l is stays faults clashes. take-sharded g.S.X.BlockHash.block32 (record { size = g.met.S.X.BlockHash.size; are_bytes = g.met.S.X.BlockHash.are_bytes }) g.N.NameHash.name64 c.args.p.now meta c.args.root.now l is (g.S.Store.seen c.args.store.now) (g.S.Store.seen c.look_at_root.new.store) _ _ c.in-Sharded.is c.in_ok-found.ensures.looks c.look_at_root.ensures.reads.told stays.first
-    c.args.name.now (g.S.Store.seen c.remove_sharded.new.store) c.remove_sharded.result c.in_ok-found.ensures.reads.cause c.remove_sharded.ensures.takes stays.last (record { faults = faults; clashes = clashes })
+    c.args.name.now (g.S.Store.seen c.remove_sharded.new.store) c.remove_sharded.result (c.remove_sharded.ensures.takes (g.S.Store.seen c.args.store.now) c.in_ok-found.ensures.found) stays.last (record { faults = faults; clashes = clashes })
 
 pub returns-in-Sharded-clause-after : goal.returns-in-Sharded-clause-after
 returns-in-Sharded-clause-after g c = take-sharded-ok g.S.X.BlockHash.block32 (record { size = g.met.S.X.BlockHash.size; are_bytes = g.met.S.X.BlockHash.are_bytes }) g.N.NameHash.name64 c.args.p.now c.args.root.now (g.S.Store.seen c.args.store.now) (g.S.Store.seen c.look_at_root.new.store) _ _ c.in-Sharded.is c.in_ok-found.ensures.looks c.look_at_root.ensures.reads.told
-    c.args.name.now (g.S.Store.seen c.remove_sharded.new.store) c.in_ok-found.ensures.reads.cause c.remove_sharded.result c.remove_sharded.ensures.takes
+    c.args.name.now (g.S.Store.seen c.remove_sharded.new.store) c.remove_sharded.result (c.remove_sharded.ensures.takes (g.S.Store.seen c.args.store.now) c.in_ok-found.ensures.found)
 
 pub returns-in-Basic-clause-touches : goal.returns-in-Basic-clause-touches
 returns-in-Basic-clause-touches g c = λ meta l is stays faults clashes. basic-takes g.S.X.BlockHash.block32 g.N.NameHash.name64 c.args.p.now meta c.args.name.now l (without c.args.name.now l) c.args.touches.now c.look_at_root.new.touches _ c.look_at_root.ensures.touches c.remove_basic.ensures.touches
@@ -56,8 +56,8 @@ pub returns-in-Sharded-clause-touches : goal.returns-in-Sharded-clause-touches
 returns-in-Sharded-clause-touches g c = λ meta l is stays faults clashes.
     let heavy = in_shards g.S.X.BlockHash.block32 (record { size = g.met.S.X.BlockHash.size; are_bytes = g.met.S.X.BlockHash.are_bytes }) g.N.NameHash.name64 c.args.p.now meta c.args.root.now l is (g.S.Store.seen c.args.store.now) (g.S.Store.seen c.look_at_root.new.store) _ _ c.in-Sharded.is c.in_ok-found.ensures.looks c.look_at_root.ensures.reads.told stays.first in
     sharded-takes g.S.X.BlockHash.block32 g.N.NameHash.name64 c.args.p.now meta c.args.name.now l c.args.touches.now c.look_at_root.new.touches _ heavy (sharded-apart g.S.X.BlockHash.block32 g.N.NameHash.name64 g.met.N.NameHash.fits c.args.p.now meta l c.args.root.now is heavy) c.look_at_root.ensures.touches
-    (c.remove_sharded.ensures.touches l (stay-read g.S.X.BlockHash.block32 (record { size = g.met.S.X.BlockHash.size; are_bytes = g.met.S.X.BlockHash.are_bytes }) g.N.NameHash.name64 c.args.p.now meta c.args.root.now l is (g.S.Store.seen c.args.store.now) (g.S.Store.seen c.look_at_root.new.store) _ _ c.in-Sharded.is c.in_ok-found.ensures.looks c.look_at_root.ensures.reads.told stays.first
-    (g.S.Store.seen c.remove_sharded.new.store) c.in_ok-found.ensures.reads.cause stays.last (record { faults = faults; clashes = clashes })))
+    (c.remove_sharded.ensures.touches (g.S.Store.seen c.args.store.now) l c.in_ok-found.ensures.found (stay-read g.S.X.BlockHash.block32 (record { size = g.met.S.X.BlockHash.size; are_bytes = g.met.S.X.BlockHash.are_bytes }) g.N.NameHash.name64 c.args.p.now meta c.args.root.now l is (g.S.Store.seen c.args.store.now) (g.S.Store.seen c.look_at_root.new.store) _ _ c.in-Sharded.is c.in_ok-found.ensures.looks c.look_at_root.ensures.reads.told stays.first
+    (g.S.Store.seen c.remove_sharded.new.store) stays.last (record { faults = faults; clashes = clashes })))
 
 pub returns-in-Basic-clause-blames : goal.returns-in-Basic-clause-blames
 returns-in-Basic-clause-blames g c = blames-none g.S.X.BlockHash.block32 NoneIsBad c.args.root.now _ _ _ (λ bytes h. h) c.remove_basic.ensures.saves.cause
@@ -66,7 +66,7 @@ pub returns-in-Basic-clause-absent : goal.returns-in-Basic-clause-absent
 returns-in-Basic-clause-absent g c = absent-here c.remove_basic.result c.args.touches.now c.look_at_root.new.touches c.remove_basic.new.touches c.look_at_root.ensures.touches c.remove_basic.ensures.absent
 
 pub returns-in-Sharded-clause-absent : goal.returns-in-Sharded-clause-absent
-returns-in-Sharded-clause-absent g c = absent-after c.remove_sharded.result c.args.touches.now c.look_at_root.new.touches c.remove_sharded.new.touches 8 c.look_at_root.ensures.touches c.remove_sharded.ensures.absent
+returns-in-Sharded-clause-absent g c = absent-after c.remove_sharded.result c.args.touches.now c.look_at_root.new.touches c.remove_sharded.new.touches c.look_at_root.ensures.touches c.remove_sharded.ensures.absent
 
 pub returns-in_err-found-clause-no_other : goal.returns-in_err-found-clause-no_other
 returns-in_err-found-clause-no_other g c = λ meta l is stays can. SavesAmong-same g.S.X.BlockHash.block32 (removal_blocks g.S.X.BlockHash.block32 g.N.NameHash.name64 c.args.p.now meta c.args.name.now l) (g.S.Store.seen c.args.store.now).told (g.S.Store.seen c.look_at_root.new.store).told c.look_at_root.ensures.reads.told
@@ -82,5 +82,22 @@ pub returns-in-Sharded-clause-no_other : goal.returns-in-Sharded-clause-no_other
 returns-in-Sharded-clause-no_other g c = λ meta l is stays can.
     sharded-removal g.S.X.BlockHash.block32 g.N.NameHash.name64 c.args.p.now meta c.args.name.now l (g.S.Store.seen c.args.store.now).told (g.S.Store.seen c.remove_sharded.new.store).told
     (in_shards g.S.X.BlockHash.block32 (record { size = g.met.S.X.BlockHash.size; are_bytes = g.met.S.X.BlockHash.are_bytes }) g.N.NameHash.name64 c.args.p.now meta c.args.root.now l is (g.S.Store.seen c.args.store.now) (g.S.Store.seen c.look_at_root.new.store) _ _ c.in-Sharded.is c.in_ok-found.ensures.looks c.look_at_root.ensures.reads.told stays.first)
-    (removal-there g.S.X.BlockHash.block32 (record { size = g.met.S.X.BlockHash.size; are_bytes = g.met.S.X.BlockHash.are_bytes }) g.N.NameHash.name64 c.args.p.now meta c.args.root.now l is (g.S.Store.seen c.args.store.now) (g.S.Store.seen c.look_at_root.new.store) _ _ c.in-Sharded.is c.in_ok-found.ensures.looks c.look_at_root.ensures.reads.told stays.first c.args.name.now (g.S.Store.seen c.remove_sharded.new.store).told c.remove_sharded.ensures.no_other stays.last
-    (can-rise (g.S.Store.seen c.args.store.now) (g.S.Store.seen c.look_at_root.new.store) c.in_ok-found.ensures.reads.cause can))
+    (removal-there g.S.X.BlockHash.block32 (record { size = g.met.S.X.BlockHash.size; are_bytes = g.met.S.X.BlockHash.are_bytes }) g.N.NameHash.name64 c.args.p.now meta c.args.root.now l is (g.S.Store.seen c.args.store.now) (g.S.Store.seen c.look_at_root.new.store) _ _ c.in-Sharded.is c.in_ok-found.ensures.looks c.look_at_root.ensures.reads.told stays.first c.args.name.now (g.S.Store.seen c.remove_sharded.new.store).told (λ k. c.remove_sharded.ensures.no_other (g.S.Store.seen c.args.store.now) k c.in_ok-found.ensures.found) stays.last can)
+
+pub returns-in-Sharded-clause-made : goal.returns-in-Sharded-clause-made
+returns-in-Sharded-clause-made g c = (c.remove_sharded.ensures.takes (g.S.Store.seen c.args.store.now) c.in_ok-found.ensures.found).made
+
+pub returns-in-Sharded-clause-none : goal.returns-in-Sharded-clause-none
+returns-in-Sharded-clause-none g c = (c.remove_sharded.ensures.takes (g.S.Store.seen c.args.store.now) c.in_ok-found.ensures.found).none
+
+pub returns-in-Sharded-clause-cause : goal.returns-in-Sharded-clause-cause
+returns-in-Sharded-clause-cause g c = (c.remove_sharded.ensures.saves (g.S.Store.seen c.args.store.now) c.in_ok-found.ensures.found).cause
+
+pub returns-in-Sharded-clause-good : goal.returns-in-Sharded-clause-good
+returns-in-Sharded-clause-good g c = (c.remove_sharded.ensures.saves (g.S.Store.seen c.args.store.now) c.in_ok-found.ensures.found).good
+
+pub returns-in-Sharded-clause-saves : goal.returns-in-Sharded-clause-saves
+returns-in-Sharded-clause-saves g c = (c.remove_sharded.ensures.saves (g.S.Store.seen c.args.store.now) c.in_ok-found.ensures.found).saves
+
+pub returns-in-Sharded-clause-blames : goal.returns-in-Sharded-clause-blames
+returns-in-Sharded-clause-blames g c = c.remove_sharded.ensures.blames (g.S.Store.seen c.args.store.now) c.in_ok-found.ensures.found
