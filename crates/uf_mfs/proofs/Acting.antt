@@ -28,10 +28,10 @@ use Rattle.uf_mfs.specs.declared.fault.Stop.{Stop}
 use Rattle.uf_mfs.specs.declared.fault.Stop.TheVariants as stop
 use Rattle.uf_mfs.specs.declared.thing.Thing.{Thing}
 use Rattle.uf_mfs.specs.declared.thing.Thing.TheVariants.{File as FileAt, Folder as FolderAt}
-use Rattle.uf_plain.specs.Edits.{as_folder, child}
+use Rattle.uf_plain.specs.Edits.{and_then, as_folder, child, with_folder}
 use Rattle.uf_mfs.specs.declared.editing.Act.{Act}
 use Rattle.uf_mfs.specs.declared.editing.Act.TheVariants.{Change, Remake, Rewrite}
-use Rattle.uf_mfs.specs.Acts.{HasRows, IsActMeant, IsBadActed, LeavesTree, act_brought, act_touches, acted, root_touches}
+use Rattle.uf_mfs.specs.Acts.{HasRows, IsActMeant, IsBadActed, LeavesTree, act_brought, act_touches, acted, acted_at, root_touches}
 use Rattle.uf_mfs.specs.Bad.{AtRoot, IsBadInTree, RequiresDirectory}
 use Rattle.uf_mfs.specs.Touches.{crossings_of, entries_at}
 use Rattle.uf_mfs.proofs.After.{after-kept, after-some, back-among}
@@ -42,7 +42,7 @@ use Rattle.uf_mfs.proofs.Moving.{good-both}
 use Rattle.uf_mfs.proofs.MetaEdits.{remade-below}
 use Rattle.uf_mfs.proofs.Renewing.{tree-saves}
 use Rattle.uf_mfs.proofs.Rewriting.{file-leads, way-written, written-below}
-use Rattle.uf_mfs.proofs.Touching.{folder-leads}
+use Rattle.uf_mfs.proofs.Touching.{done-on, folder-leads}
 
 module _ (X : List ℕ → List ℕ) (N : List ℕ → ℕ) (p : Profile) where
   -- what an edit brings is good
@@ -52,11 +52,14 @@ module _ (X : List ℕ → List ℕ) (N : List ℕ → ℕ) (p : Profile) where
   act-good (Remake what) t = tt
 
   -- a folder that is there leads on
-  pub act-leads : (rows : ℕ → ℕ) (what : Act) (piece : List ℕ) (led : ℕ) (name next : List ℕ) (more : List (List ℕ)) (es below : Entries) → as_folder led (child name es) ≡ Ok below
-      → (entries_at name es ≡ below) × (act_touches X N p rows what piece (next ∷ more) below ≤ act_touches X N p rows what piece (name ∷ next ∷ more) es)
-  act-leads rows (Change what) piece led name next more es below is = folder-leads X N p what led name next more es below is
-  act-leads rows (Rewrite what) piece led name next more es below is = file-leads X N p rows what piece led name next more es below is
-  act-leads rows (Remake what) piece led name next more es below is = ((folder-leads X N p Make led name next more es below is).0, omega arith)
+  pub act-leads : (rows : ℕ → ℕ) (what : Act) (piece : List ℕ) (led : ℕ) (name next : List ℕ) (more : List (List ℕ)) (go : Entries → Result Entries Refused) (es below : Entries) → as_folder led (child name es) ≡ Ok below
+      → (entries_at name es ≡ below) × (act_touches X N p rows what piece (next ∷ more) below (go below) ≤ act_touches X N p rows what piece (name ∷ next ∷ more) es (with_folder name es (and_then (as_folder led (child name es)) go)))
+  act-leads rows (Change what) piece led name next more go es below is = folder-leads X N p what led name next more go es below is
+  act-leads rows (Rewrite what) piece led name next more go es below is =
+      let on = file-leads X N p rows what piece led name next more es below is in
+      (on.0, done-on X N p name es below (as_folder led (child name es)) go _ _ is on.1)
+  act-leads rows (Remake what) piece led name next more go es below is =
+      ((folder-leads X N p Make led name next more go es below is).0, done-on X N p name es below (as_folder led (child name es)) go 3 3 is (omega arith))
 
   -- what is bad on the way is bad for the edit
   pub act-way : {fault : Option StoreFault} {a b : Seen} (told : Told) (root : Cid) (what : Act) → OnlySaves X (IsBadInTree X N (Some p) root) fault a b → OnlySaves X (IsBadActed X N p told root what) fault a b
@@ -72,10 +75,10 @@ module _ (X : List ℕ → List ℕ) (N : List ℕ → ℕ) (p : Profile) where
   act-below told root below (Remake what) r h = remade-below X N p root below r h
 
   -- the touches of the root are among them
-  pub root-touches : (rows : ℕ → ℕ) (what : Act) (piece : List ℕ) (es : Entries) → root_touches what ≤ act_touches X N p rows what piece [] es
-  root-touches rows (Change what) piece es = omega arith
-  root-touches rows (Rewrite what) piece es = omega arith
-  root-touches rows (Remake what) piece es = omega arith
+  pub root-touches : (rows : ℕ → ℕ) (what : Act) (piece : List ℕ) (t : Tree) (es : Entries) → root_touches what ≤ act_touches X N p rows what piece [] es (acted_at p what piece t [] es)
+  root-touches rows (Change what) piece t es = omega arith
+  root-touches rows (Rewrite what) piece t es = omega arith
+  root-touches rows (Remake what) piece t es = omega arith
 
 -- what an edit of this folder owes, by what it does
 module _ (X : List ℕ → List ℕ) (N : List ℕ → ℕ) (p : Profile) (a d : Seen) (folder : Entry) (name piece : List ℕ) (led : ℕ) (found : Option Thing) where
@@ -89,7 +92,7 @@ module _ (X : List ℕ → List ℕ) (N : List ℕ → ℕ) (p : Profile) (a d :
   abbrev pub TouchesHere : (t0 t1 : ℕ) → Act → Type 0
   TouchesHere t0 t1 what = (t : Tree) (rows : ℕ → ℕ) (es : Entries) → IsActMeant X N p what t → HasRows X N p what rows → IsAgreedMember X N a.told p (child name es) found
       → IsFolderOver X N p a d (act_brought X N p what t) folder es
-      → t1 ≤ t0 + (19 + crossings_of X N p (name ∷ []) es (acted p what piece t (led + 1) name es) + act_touches X N p rows what piece (name ∷ []) es)
+      → t1 ≤ t0 + (19 + crossings_of X N p (name ∷ []) es (acted p what piece t (led + 1) name es) + act_touches X N p rows what piece (name ∷ []) es (acted p what piece t (led + 1) name es))
 
   abbrev pub SavesHere : Option StoreFault → Act → Type 0
   SavesHere fault what = OnlySaves X (IsBadActed X N p d.told folder.cid what) fault a d

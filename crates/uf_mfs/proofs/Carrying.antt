@@ -32,7 +32,7 @@ use Rattle.uf_mfs.specs.declared.mfs.Mfs.{Mfs}
 use Rattle.uf_mfs.specs.declared.fault.Stop.{Stop}
 use Rattle.uf_mfs.specs.declared.fault.Stop.TheVariants as stop
 use Rattle.uf_mfs.specs.Answers.{AnswersOr, MeetsOr, MovesAfter, ShownInTree, Tells}
-use Rattle.uf_mfs.specs.Moving.{Gives, GivesOr, GivesOver, IsFound, IsOntoItself, MovesBy, MovesRoot, copy_bound, entry_in, move_bound, put_crossings, shift_crossings}
+use Rattle.uf_mfs.specs.Moving.{Gives, GivesOr, GivesOver, IsFound, IsOntoItself, MovesBy, MovesRoot, copy_bound, entry_in, found_crossings, move_bound, put_crossings}
 use Rattle.uf_mfs.specs.declared.target.Target.{Target}
 use Rattle.uf_mfs.specs.declared.thing.Thing.{Thing}
 use Rattle.uf_mfs.specs.Standing.{IsAfter, IsAgreed, IsAgreedThing, IsPlanOf, StandsAfter, StandsAt, StandsOver, TellsHeld}
@@ -216,14 +216,14 @@ module _ (X : List ℕ → List ℕ) (N : List ℕ → ℕ) (p : Profile) where
 
   -- how often the store is touched
   pub move-touches : (source : List (List ℕ)) (dest : Path) (es : Entries) (t : Tree) (found : Spot × Entries) (t0 t1 t2 t3 k : ℕ) → at 0 source (Dir es) ≡ Ok t → target dest (name_of source) es ≡ Ok found
-      → t1 ≤ t0 + 11 * length source → t2 ≤ t1 + 11 * (length dest.names + 1) → k ≤ length dest.names + 1 → t3 ≤ t2 + (40 * (length source + k) + shift_crossings X N p source found.0 t es)
+      → t1 ≤ t0 + 11 * length source → t2 ≤ t1 + 11 * (length dest.names + 1) → k ≤ length dest.names + 1 → t3 ≤ t2 + (40 * (length source + k) + found_crossings X N p source found t es)
       → t3 ≤ t0 + move_bound X N p source dest es
   move-touches source dest es t found t0 t1 t2 t3 k there at-found first second long third =
       let outer = ap (λ (w : Result Tree Refused). elim w as (λ w. ℕ) [
-        | Ok t ↦ elim (target dest (name_of source) es) as (λ w. ℕ) [ Ok found ↦ shift_crossings X N p source found.0 t es | Err rule ↦ 0 ]
+        | Ok t ↦ elim (target dest (name_of source) es) as (λ w. ℕ) [ Ok found ↦ found_crossings X N p source found t es | Err rule ↦ 0 ]
         | Err why ↦ 0
       ]) there in
-      let inner = ap (λ (w : Result (Spot × Entries) Rule). elim w as (λ w. ℕ) [ Ok found ↦ shift_crossings X N p source found.0 t es | Err rule ↦ 0 ]) at-found in
+      let inner = ap (λ (w : Result (Spot × Entries) Rule). elim w as (λ w. ℕ) [ Ok found ↦ found_crossings X N p source found t es | Err rule ↦ 0 ]) at-found in
       omega (arith, outer, inner, first, second, long, third)
 
   -- where the target is the source

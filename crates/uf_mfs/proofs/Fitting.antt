@@ -21,7 +21,7 @@ use Rattle.uf_mfs.specs.Standing.{IsPlanOf}
 use Rattle.uf_mfs.specs.declared.editing.Act.TheVariants.{Rewrite}
 use Rattle.uf_mfs.specs.Acts.{acted_at}
 use Rattle.uf_mfs.specs.Steps.{EditsFolder}
-use Rattle.uf_mfs.specs.Touches.{TouchesFolder, crossings_of}
+use Rattle.uf_mfs.specs.Touches.{TouchesFolder, crossings_of, where_done}
 use Rattle.uf_mfs.specs.Writes.{file_touches, fitting_edit, member_at, with_fitting, writing_bound}
 use Rattle.uf_mfs.proofs.Agreed.{Own, members-own}
 use Rattle.uf_mfs.proofs.Moving.{refused-above}
@@ -123,10 +123,10 @@ module _ (X : List ℕ → List ℕ) (N : List ℕ → ℕ) (p : Profile) where
   rewritten-edits a b root what x (name ∷ names) r h = λ es o. loosened what x a.told b.told (blocks X N p (Dir es)) root 0 name names es r o.plan (h es o)
 
 pub rewritten-touches : (X : List ℕ → List ℕ) (N : List ℕ → ℕ) (own p : Profile) {a b : Seen} (root : Entry) (what : FileEdit) (x : List ℕ) (rows : ℕ → ℕ) (names path : List (List ℕ)) (t0 t1 : ℕ) → own ≡ p → names ≡ path
-    → TouchesFolder X N own a b [] root (λ es. 40 * length names + crossings_of X N own names es (acted_at own (Rewrite what) x (Dir (Nothing none)) names es) + file_touches own rows what x (member_at names es)) t0 t1
+    → TouchesFolder X N own a b [] root (λ es. 40 * length names + crossings_of X N own names es (acted_at own (Rewrite what) x (Dir (Nothing none)) names es) + where_done (acted_at own (Rewrite what) x (Dir (Nothing none)) names es) (file_touches own rows what x (member_at names es))) t0 t1
     → TouchesFolder X N p a b [] root (writing_bound X N p rows what x path) t0 t1
 rewritten-touches X N own p {a} {b} root what x rows names path t0 t1 same named h =
     subst (λ (q : Profile). TouchesFolder X N q a b [] root (writing_bound X N q rows what x path) t0 t1) same
     (subst (λ (ns : List (List ℕ)). TouchesFolder X N own a b [] root (writing_bound X N own rows what x ns) t0 t1) named
     (λ es o. (let r = h es o in
-    subst (λ (w : Result Entries Refused). t1 ≤ t0 + (64 * (length names + 3) + crossings_of X N own names es w + file_touches own rows what x (member_at names es))) (rewrites-at X N own what x names es) (omega (arith, r)))))
+    subst (λ (w : Result Entries Refused). t1 ≤ t0 + (64 * (length names + 3) + crossings_of X N own names es w + where_done w (file_touches own rows what x (member_at names es)))) (rewrites-at X N own what x names es) (omega (arith, r)))))

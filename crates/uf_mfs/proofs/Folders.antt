@@ -111,7 +111,7 @@ module _ (X : List ℕ → List ℕ) (N : List ℕ → ℕ) (p : Profile) where
     over-first more folder es o = record { plan = o.plan; stays = stays-first X a.told b.told c.told _ before.saves after.saves o.stays; calm = calm-first before after o.calm }
 
     -- its blocks and the others are kept by the first
-    kept-old : (more : List Held) (folder : Entry) (es : Entries) → AreGood X more → IsFolderOver X N p a c more folder es
+    pub kept-old : (more : List Held) (folder : Entry) (es : Entries) → AreGood X more → IsFolderOver X N p a c more folder es
         → AgreesAfter a.told b.told (more ++ blocks X N p (Dir es)) (more ++ blocks X N p (Dir es))
     kept-old more folder es good o =
         after-kept X a.told b.told _ (good-both X N p more _ good (are-good X N p (Dir es))) before.good (stays-first X a.told b.told c.told _ before.saves after.saves o.stays)

@@ -16,6 +16,7 @@ pub mod Leaving
 pub mod Measured
 pub mod Meeting
 pub mod Membering
+pub mod Missing
 pub mod Moving
 pub mod Needed
 pub mod Planning

@@ -34,7 +34,7 @@ use Rattle.uf_mfs.specs.Bad.{RequiresDirectory}
 use Rattle.uf_mfs.specs.Remade.{ChangesMember, ChangesMeta, IsBadRemadeIn, member_blocks}
 use Rattle.uf_mfs.specs.Standing.{IsAfter, IsPlanOf}
 use Rattle.uf_mfs.specs.Steps.{ChangesFolder, ChangesOver, EditsFolder, IsFolderOver}
-use Rattle.uf_mfs.specs.Touches.{TouchesFolder, crossings_of}
+use Rattle.uf_mfs.specs.Touches.{TouchesFolder, crossings_of, where_done}
 use Rattle.uf_mfs.proofs.After.{Among, after-wider, back-among, loss-among, stays-some}
 use Rattle.uf_mfs.proofs.Agreed.{child-among}
 use Rattle.uf_mfs.proofs.Folders.{beside, changes-over, over-then}
@@ -43,6 +43,7 @@ use Rattle.uf_mfs.proofs.Judging.{bad-below}
 use Rattle.uf_mfs.proofs.Moving.{lost-edit, refused-above}
 use Rattle.uf_mfs.proofs.Remade.{edit-refused, edit-there, put-there}
 use Rattle.uf_mfs.proofs.Renewing.{renew-made}
+use Rattle.uf_mfs.proofs.Touching.{done-most}
 
 module _ (X : List ℕ → List ℕ) (N : List ℕ → ℕ) (p : Profile) where
   -- what is bad below a directory that is required
@@ -144,10 +145,10 @@ module _ (X : List ℕ → List ℕ) (N : List ℕ → ℕ) (p : Profile) where
 
     pub remake-touches : (t0 t1 t2 : ℕ) → t1 ≤ t0 + 3
         → ((t : Tree) → IsPlanOf X N p new t → TouchesFolder X N p b c (blocks X N p t) folder (λ es. 17 + crossing X N p (named_entries X N p es) (named_entries X N p (with_child name t es))) t1 t2)
-        → t2 ≤ t0 + (19 + crossings_of X N p (name ∷ []) es (with_remade what led name es) + 3)
+        → t2 ≤ t0 + (19 + crossings_of X N p (name ∷ []) es (with_remade what led name es) + where_done (with_remade what led name es) 3)
     remake-touches t0 t1 t2 first takes =
         let r = takes u m.is.plan es beside-it in
-        subst (λ (w : Result Entries Refused). t2 ≤ t0 + (19 + crossings_of X N p (name ∷ []) es w + 3)) (sym m.puts) (omega (arith, first, r))
+        subst (λ (w : Result Entries Refused). t2 ≤ t0 + (19 + crossings_of X N p (name ∷ []) es w + where_done w 3)) (sym m.puts) (omega (arith, first, r))
 
   -- ---- the root
 
@@ -196,7 +197,8 @@ module _ (X : List ℕ → List ℕ) (N : List ℕ → ℕ) (p : Profile) where
   remade-edits a b root what names r h = λ es o. subst (λ w. EditsAfter X N a.told b.told (blocks X N p (Dir es)) p (allowed X N p w) r) (remakes-at what names es) (h es o)
 
   pub remade-touches : (root : Entry) (what : MetaEdit) (names path : List (List ℕ)) (es : Entries) (t0 t1 : ℕ) → IsPlanOf X N p root (Dir es) → names ≡ path
-      → t1 ≤ t0 + (40 * length names + crossings_of X N p names es (acted_at p (Remake what) [] (Dir (Nothing none)) names es) + 3) → t1 ≤ t0 + 64 * (length path + 3)
+      → t1 ≤ t0 + (40 * length names + crossings_of X N p names es (acted_at p (Remake what) [] (Dir (Nothing none)) names es) + where_done (acted_at p (Remake what) [] (Dir (Nothing none)) names es) 3) → t1 ≤ t0 + 64 * (length path + 3)
   remade-touches root what names path es t0 t1 plan same h =
+      let few = done-most (acted_at p (Remake what) [] (Dir (Nothing none)) names es) 3 in
       let none = ap (λ (w : Result Entries Refused). crossings_of X N p names es w) (remakes-at what names es) ∙ remade-crossings what names root es plan in
-      subst (λ (ns : List (List ℕ)). t1 ≤ t0 + 64 * (length ns + 3)) same (omega (arith, h, none))
+      subst (λ (ns : List (List ℕ)). t1 ≤ t0 + 64 * (length ns + 3)) same (omega (arith, h, none, few))

@@ -33,6 +33,9 @@ use Rattle.uf_plain.proofs.Plans.{Each, below_blocks, blocks-is, each-put, each-
 use Rattle.uf_mfs.specs.declared.fault.Stop.{Stop}
 use Rattle.uf_mfs.specs.declared.fault.Stop.TheVariants as stop
 use Rattle.uf_mfs.specs.Answers.{EditsAfter, stop_of}
+use Rattle.uf_mfs.specs.Missing.{MissesOnly}
+use Rattle.uf_mfs.specs.Steps.{stop_fault}
+use Rattle.uf_plain.specs.Needs.{own_needs}
 use Rattle.uf_mfs.specs.Standing.{IsAfter, IsPlanOf}
 use Rattle.uf_mfs.proofs.After.{Among, after-both, after-kept, after-some, after-wider, among-then, back-among, front-among, loss-after, loss-among, stays-some}
 use Rattle.uf_mfs.proofs.Agreed.{Own, members-own, own-among}
@@ -145,6 +148,20 @@ module _ (X : List ℕ → List ℕ) (N : List ℕ → ℕ) (p : Profile) where
     meta = own_meta es
 
     -- ---- a put
+
+    -- what it misses is one of the directory's own blocks
+    pub put-loses : (e : Entry) (name : List ℕ) (f : DirFault) (s : Stop) → s ≡ stop_of f → IsPlanOf X N p folder (Dir es) → StaysAgreed c d (blocks X N p (Dir es))
+        → ((meta : Meta) (l : List Named) → IsPlanned X N p meta folder.cid l → Agrees c (own_blocks X N p meta l) → GivesOver c (own_blocks X N p meta l) (dir_refusal X N p meta (with_name name e l)) (dir_entry X N p meta (with_name name e l)) (Err f))
+        → MissesOnly c (own_needs X N p (Dir es)) (stop_fault {A = Option Entry} (Err s))
+    put-loses e name f s is i stays puts =
+        subst (λ s. MissesOnly c (own_needs X N p (Dir es)) (stop_fault {A = Option Entry} (Err s))) (sym is)
+        (by f (puts meta (named_entries X N p es) (planned-of X N p folder es i hash fits) (agrees-among c _ _ (own-dir es) stays.first)))
+      where
+        by : (f : DirFault) → GivesOver c (own_blocks X N p (own_meta es) (named_entries X N p es)) (dir_refusal X N p meta (with_name name e (named_entries X N p es))) (dir_entry X N p meta (with_name name e (named_entries X N p es))) (Err f)
+            → MissesOnly c (own_needs X N p (Dir es)) (stop_fault {A = Option Entry} (Err (stop_of f)))
+        by (dir.Collision first second) gives = tt
+        by dir.TooBig gives = tt
+        by (dir.Store g) gives = gives
 
     module _ (e : Entry) (name : List ℕ) (u : Tree) where
       abbrev Mid : List Held

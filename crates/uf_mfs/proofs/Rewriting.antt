@@ -58,7 +58,7 @@ use Rattle.uf_mfs.specs.Answers.{Decides, EditsAfter}
 use Rattle.uf_mfs.specs.Standing.{IsAfter, IsPlanOf, TellsHeld}
 use Rattle.uf_mfs.specs.Steps.{ChangesFolder, ChangesOver, IsFolderOver, stop_fault}
 use Rattle.uf_fileedit.specs.Touches.{BlamedAfter, TouchedFirst}
-use Rattle.uf_mfs.specs.Touches.{CountsUp, TouchesFolder, crossings_of, entries_at}
+use Rattle.uf_mfs.specs.Touches.{CountsUp, TouchesFolder, crossings_of, entries_at, where_done}
 use Rattle.uf_mfs.specs.Bad.{IsBadInTree, RequiresDirectory}
 use Rattle.uf_mfs.proofs.Judging.{bad-below}
 use Rattle.uf_mfs.specs.Writes.{MakesFile, IsBadInSome, IsBadWrittenIn, IsFileOver, IsStart, IsStepOf, file_touches, fitting_bytes, member_at, rewriting_touches, with_fitting}
@@ -92,31 +92,31 @@ bytes-all (b ∷ bytes) h = both (nat_lt b 256) (list_all (λ b. nat_lt b 256) b
 abbrev touches-of : Profile → (ℕ → ℕ) → FileEdit → List ℕ → Meta → Result (List ℕ) Refused → ℕ
 touches-of p rows what x m w = elim w as (λ w. ℕ) [ Ok bytes ↦ rewriting_touches p rows what x m bytes | Err why ↦ 0 ]
 
-begun-anyhow : (what : FileEdit) (led : ℕ) (o : Option Tree) (bytes : List ℕ) → begun what led o ≡ Ok bytes
-    → begun what 0 o ≡ Ok bytes
-begun-anyhow (Write how) led None bytes is = by how.create is
+begun-anyhow : (what : FileEdit) (led other : ℕ) (o : Option Tree) (bytes : List ℕ) → begun what led o ≡ Ok bytes
+    → begun what other o ≡ Ok bytes
+begun-anyhow (Write how) led other None bytes is = by how.create is
   where
     by : (create : Bool) → and_then (as_file_or_new create led None) (λ bytes. Ok (cond how.cut [] bytes)) ≡ Ok bytes
-        → and_then (as_file_or_new create 0 None) (λ bytes. Ok (cond how.cut [] bytes)) ≡ Ok bytes
+        → and_then (as_file_or_new create other None) (λ bytes. Ok (cond how.cut [] bytes)) ≡ Ok bytes
     by true is = is
     by false is = absurd cc
-begun-anyhow (Write how) led (Some (File m old)) bytes is = by how.create is
+begun-anyhow (Write how) led other (Some (File m old)) bytes is = by how.create is
   where
     by : (create : Bool)
         → and_then (as_file_or_new create led (Some (File m old))) (λ bytes. Ok (cond how.cut [] bytes)) ≡ Ok bytes
-        → and_then (as_file_or_new create 0 (Some (File m old))) (λ bytes. Ok (cond how.cut [] bytes)) ≡ Ok bytes
+        → and_then (as_file_or_new create other (Some (File m old))) (λ bytes. Ok (cond how.cut [] bytes)) ≡ Ok bytes
     by true is = is
     by false is = is
-begun-anyhow (Write how) led (Some (Dir es)) bytes is = by how.create is
+begun-anyhow (Write how) led other (Some (Dir es)) bytes is = by how.create is
   where
     by : (create : Bool)
         → and_then (as_file_or_new create led (Some (Dir es))) (λ bytes. Ok (cond how.cut [] bytes)) ≡ Ok bytes
-        → and_then (as_file_or_new create 0 (Some (Dir es))) (λ bytes. Ok (cond how.cut [] bytes)) ≡ Ok bytes
+        → and_then (as_file_or_new create other (Some (Dir es))) (λ bytes. Ok (cond how.cut [] bytes)) ≡ Ok bytes
     by true is = absurd cc
     by false is = absurd cc
-begun-anyhow (Truncate size) led None bytes is = absurd cc
-begun-anyhow (Truncate size) led (Some (File m old)) bytes is = is
-begun-anyhow (Truncate size) led (Some (Dir es)) bytes is = absurd cc
+begun-anyhow (Truncate size) led other None bytes is = absurd cc
+begun-anyhow (Truncate size) led other (Some (File m old)) bytes is = is
+begun-anyhow (Truncate size) led other (Some (Dir es)) bytes is = absurd cc
 
 -- ---- the count of touches
 
@@ -418,7 +418,7 @@ module _ (X : List ℕ → List ℕ) (N : List ℕ → ℕ) (p : Profile) where
           let one : t1 ≤ t0 + rewriting_touches p rows what x (kept_meta o) bytes = subst (λ n. t1 ≤ t0 + rewriting_touches p rows what x (kept_meta o) n) (sym h.0)
           (subst (λ what. t1 ≤ t0 + rewriting_touches p rows what x (kept_meta o) []) (sym h.2)
           (subst (λ m. t1 ≤ t0 + rewriting_touches p rows (Write how) x m []) same few)) in
-          subst (λ (w : Result (List ℕ) Refused). t1 ≤ t0 + touches-of p rows what x (kept_meta o) w) (sym (begun-anyhow what led o bytes is)) one
+          subst (λ (w : Result (List ℕ) Refused). t1 ≤ t0 + touches-of p rows what x (kept_meta o) w) (sym (begun-anyhow what led 0 o bytes is)) one
 
   module _ {Bad Other : Role → List ℕ → Type 0} {fault : Option StoreFault} {a b c : Seen} (before : OnlySaves X Bad None a b) (after : OnlySaves X Other fault b c) where
     -- the file that is begun with, before it is rewritten
@@ -454,7 +454,7 @@ module _ (X : List ℕ → List ℕ) (N : List ℕ → ℕ) (p : Profile) where
         by (Err why) is h = absurd h
         by (Ok bytes) is h =
             let r = takes (kept_meta (child name es)) bytes (begun-over folder old es (kept_meta (child name es)) bytes o h) in
-            subst (λ (w : Result (List ℕ) Refused). t2 ≤ t0 + touches-of p rows what x (kept_meta (child name es)) w) (sym (begun-anyhow what led (child name es) bytes is)) (omega (arith, first, r))
+            subst (λ (w : Result (List ℕ) Refused). t2 ≤ t0 + touches-of p rows what x (kept_meta (child name es)) w) (sym (begun-anyhow what led 0 (child name es) bytes is)) (omega (arith, first, r))
 
   -- ---- the file put into its folder
 
@@ -520,10 +520,36 @@ module _ (X : List ℕ → List ℕ) (N : List ℕ → ℕ) (p : Profile) where
 
     pub member-touches : (n t0 t1 t2 : ℕ) → t1 ≤ t0 + n
         → ((t : Tree) → IsPlanOf X N p new t → TouchesFolder X N p b c (blocks X N p t) folder (λ es. 17 + crossing X N p (named_entries X N p es) (named_entries X N p (with_child name t es))) t1 t2)
-        → t2 ≤ t0 + (19 + crossings_of X N p (name ∷ []) es (with_fitting p what x led name es) + n)
+        → t2 ≤ t0 + (19 + crossings_of X N p (name ∷ []) es (with_fitting p what x led name es) + where_done (with_fitting p what x led name es) n)
     member-touches n t0 t1 t2 first takes =
         let r = takes file m.is.plan es beside-it in
-        subst (λ (w : Result Entries Refused). t2 ≤ t0 + (19 + crossings_of X N p (name ∷ []) es w + n)) (sym m.puts) (omega (arith, first, r))
+        subst (λ (w : Result Entries Refused). t2 ≤ t0 + (19 + crossings_of X N p (name ∷ []) es w + where_done w n)) (sym m.puts) (omega (arith, first, r))
+
+  -- a file that is refused takes no touch
+  pub file-done : (rows : ℕ → ℕ) (what : FileEdit) (x : List ℕ) (led : ℕ) (name : List ℕ) (es : Entries)
+      → file_touches p rows what x (child name es) ≤ where_done (with_fitting p what x led name es) (file_touches p rows what x (child name es))
+  file-done rows what x led name es = by (begun what led (child name es)) refl
+    where
+      done : (w : Result (List ℕ) Refused) → Result Entries Refused
+      done w = and_then w (λ bytes. Ok (with_child name (File (kept_meta (child name es)) bytes) es))
+
+      Within : Result (List ℕ) Refused → Result Entries Refused → Type 0
+      Within w next = touches-of p rows what x (kept_meta (child name es)) w ≤ where_done next (touches-of p rows what x (kept_meta (child name es)) w)
+
+      none : (why : Refused) → begun what led (child name es) ≡ Err why → (w : Result (List ℕ) Refused) → begun what 0 (child name es) ≡ w → Within w (Err why)
+      none why is (Err other) at_first = omega arith
+      none why is (Ok bytes) at_first = absurd (let no : Err why ≡ Ok bytes = sym is ∙ begun-anyhow what 0 led (child name es) bytes at_first in cc)
+
+      some : (bytes : List ℕ) (touches : ℕ) (long : Bool) → cond long 0 touches ≤ where_done (done (unless bytes (cond long (Some TooLong) None))) (cond long 0 touches)
+      some bytes touches true = omega arith
+      some bytes touches false = omega arith
+
+      by : (w : Result (List ℕ) Refused) → begun what led (child name es) ≡ w
+          → Within (begun what 0 (child name es)) (done (and_then (and_then w (λ bytes. Ok (rewritten what x bytes))) (fitting p)))
+      by (Err why) is = none why is (begun what 0 (child name es)) refl
+      by (Ok bytes) is =
+          subst (λ (w : Result (List ℕ) Refused). Within w (done (fitting p (rewritten what x bytes)))) (sym (begun-anyhow what led 0 (child name es) bytes is))
+          (some (rewritten what x bytes) _ (nat_lt (most_bytes p) (length (rewritten what x bytes))))
 
   -- ---- whose blocks are bad
 
@@ -553,5 +579,5 @@ module _ (X : List ℕ → List ℕ) (N : List ℕ → ℕ) (p : Profile) where
   pub file-leads : (rows : ℕ → ℕ) (what : FileEdit) (x : List ℕ) (led : ℕ) (name next : List ℕ) (more : List (List ℕ)) (es below : Entries) → as_folder led (child name es) ≡ Ok below
       → (entries_at name es ≡ below) × (file_touches p rows what x (member_at (next ∷ more) below) ≤ file_touches p rows what x (member_at (name ∷ next ∷ more) es))
   file-leads rows what x led name next more es below is =
-      let there = (folder-leads X N p Make led name next more es below is).0 in
+      let there = (folder-leads X N p Make led name next more (λ fs. Ok fs) es below is).0 in
       (there, subst (λ (y : Entries). file_touches p rows what x (member_at (next ∷ more) below) ≤ file_touches p rows what x (member_at (next ∷ more) y)) (sym there) (omega arith))

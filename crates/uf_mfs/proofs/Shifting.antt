@@ -29,7 +29,7 @@ use Rattle.uf_mfs.specs.Standing.{IsAgreedThing, IsPlanOf}
 use Rattle.uf_mfs.specs.Acts.{acted_at}
 use Rattle.uf_mfs.specs.declared.editing.Act.TheVariants.{Change}
 use Rattle.uf_mfs.specs.Steps.{EditsFolder, GivesFolder, IsFolderOver}
-use Rattle.uf_mfs.specs.Touches.{crossings_of, weighing_at}
+use Rattle.uf_mfs.specs.Touches.{crossings_of, weighing_at, where_done}
 use Rattle.uf_mfs.proofs.After.{after-both, after-kept, after-some}
 use Rattle.uf_mfs.proofs.Folders.{on-over, over-first, over-then}
 use Rattle.uf_mfs.proofs.Hinge.{are-good}
@@ -63,9 +63,9 @@ module _ (X : List ℕ → List ℕ) (N : List ℕ → ℕ) (p : Profile) where
       → t1 ≤ t0 + (40 * length names + crossings_of X N p names es (edited_at (put_over t) names es))
   put-crossed e t names es t0 t1 h = subst (λ w. t1 ≤ t0 + (40 * length names + crossings_of X N p names es w)) (puts-at p e t names es) (omega (arith, h))
 
-  pub taken-crossed : (names : List (List ℕ)) (es : Entries) (t0 t1 : ℕ) → t1 ≤ t0 + (40 * length names + crossings_of X N p names es (acted_at p (Change (Remove true)) [] (Dir (Nothing none)) names es) + weighing_at X N p names es)
-      → t1 ≤ t0 + (40 * length names + crossings_of X N p names es (removed true names es) + weighing_at X N p names es)
-  taken-crossed names es t0 t1 h = subst (λ w. t1 ≤ t0 + (40 * length names + crossings_of X N p names es w + weighing_at X N p names es)) (removes-at p true names es) h
+  pub taken-crossed : (names : List (List ℕ)) (es : Entries) (t0 t1 : ℕ) → t1 ≤ t0 + (40 * length names + crossings_of X N p names es (acted_at p (Change (Remove true)) [] (Dir (Nothing none)) names es) + where_done (acted_at p (Change (Remove true)) [] (Dir (Nothing none)) names es) (weighing_at X N p names es))
+      → t1 ≤ t0 + (40 * length names + crossings_of X N p names es (removed true names es) + where_done (removed true names es) (weighing_at X N p names es))
+  taken-crossed names es t0 t1 h = subst (λ w. t1 ≤ t0 + (40 * length names + crossings_of X N p names es w + where_done w (weighing_at X N p names es))) (removes-at p true names es) h
 
   -- that a tree has no plan is told without a path
   pub told-allowed : (names : List (List ℕ)) (w : Result Entries Refused) → allowed_move X N p (told_of names w) ≡ told_of names (allowed X N p w)
@@ -96,7 +96,7 @@ module _ (X : List ℕ → List ℕ) (N : List ℕ → ℕ) (p : Profile) where
 
   -- how often the store is touched for both
   pub shift-touches : (source names : List (List ℕ)) (spot : Spot) (t : Tree) (es left : Entries) (t0 t1 t2 : ℕ) → names ≡ spot_names spot → removed true source es ≡ Ok left
-      → t1 ≤ t0 + (40 * length source + crossings_of X N p source es (removed true source es) + weighing_at X N p source es)
+      → t1 ≤ t0 + (40 * length source + crossings_of X N p source es (removed true source es) + where_done (removed true source es) (weighing_at X N p source es))
       → t2 ≤ t1 + (40 * length names + crossings_of X N p names left (edited_at (put_over t) names left))
       → t2 ≤ t0 + (40 * (length source + length names) + shift_crossings X N p source spot t es)
   shift-touches source names spot t es left t0 t1 t2 same is first second =

@@ -25,7 +25,7 @@ use Rattle.uf_plain.specs.Rules.{allowed}
 use Rattle.uf_mfs.specs.Answers.{EditsAfter, MeetsOr}
 use Rattle.uf_mfs.specs.Standing.{IsAfter, IsPlanOf}
 use Rattle.uf_mfs.specs.Steps.{EditsFolder, GivesFolder, IsFolderOver}
-use Rattle.uf_mfs.specs.Touches.{TouchesFolder, crossings, crossings_of, entries_at, entries_in, read_bound, weighing_at, weighing_of}
+use Rattle.uf_mfs.specs.Touches.{TouchesFolder, crossings, crossings_of, entries_at, entries_in, read_bound, weighing_at, weighing_of, where_done}
 use Rattle.uf_mfs.proofs.After.{back-among, stays-some}
 use Rattle.uf_mfs.proofs.Folders.{below-over, beside, over-first, over-then, step-edit}
 use Rattle.uf_mfs.proofs.Hinge.{are-good}
@@ -40,6 +40,11 @@ child-put name t es =
 
 pub entries-put : (name : List ℕ) (new es : Entries) → entries_at name (with_child name (Dir new) es) ≡ new
 entries-put name new es = ap (λ (o : Option Tree). elim o as (λ o. Entries) [ None ↦ Nothing none | Some t ↦ entries_in t ]) (child-put name (Dir new) es)
+
+-- what is done takes no more than it may
+pub done-most : {A : Type 0} (w : Result A Refused) (touches : ℕ) → where_done w touches ≤ touches
+done-most (Ok a) touches = omega arith
+done-most (Err why) touches = omega arith
 
 -- ---- calls that read
 
@@ -135,10 +140,21 @@ module _ (X : List ℕ → List ℕ) (N : List ℕ → ℕ) (p : Profile) where
 
   -- ---- what steps lead to
 
-  weighs-on : (what : Change) (name next : List ℕ) (more : List (List ℕ)) (es below : Entries) → entries_at name es ≡ below → weighing_of X N p what (next ∷ more) below ≤ weighing_of X N p what (name ∷ next ∷ more) es
-  weighs-on Make name next more es below is = omega arith
-  weighs-on (Put e) name next more es below is = omega arith
-  weighs-on (Remove recursive) name next more es below is = subst (λ (x : Entries). weighing_at X N p (next ∷ more) below ≤ weighing_at X N p (next ∷ more) x) (sym is) (omega arith)
+  -- what is done below is done in the folder that has it
+  pub done-on : (name : List ℕ) (es below : Entries) (step : Result Entries Refused) (go : Entries → Result Entries Refused) (few many : ℕ) → step ≡ Ok below → few ≤ many
+      → where_done (go below) few ≤ where_done (with_folder name es (and_then step go)) many
+  done-on name es below step go few many is less = subst (λ (w : Result Entries Refused). where_done (go below) few ≤ where_done (with_folder name es (and_then w go)) many) (sym is) (by (go below))
+    where
+      by : (w : Result Entries Refused) → where_done w few ≤ where_done (with_folder name es w) many
+      by (Ok new) = less
+      by (Err why) = omega arith
+
+  weighs-on : (what : Change) (led : ℕ) (name next : List ℕ) (more : List (List ℕ)) (go : Entries → Result Entries Refused) (es below : Entries) → as_folder led (child name es) ≡ Ok below → entries_at name es ≡ below
+      → weighing_of X N p what (next ∷ more) below (go below) ≤ weighing_of X N p what (name ∷ next ∷ more) es (with_folder name es (and_then (as_folder led (child name es)) go))
+  weighs-on Make led name next more go es below step is = omega arith
+  weighs-on (Put e) led name next more go es below step is = omega arith
+  weighs-on (Remove recursive) led name next more go es below step is =
+      done-on name es below (as_folder led (child name es)) go _ _ step (subst (λ (x : Entries). weighing_at X N p (next ∷ more) below ≤ weighing_at X N p (next ∷ more) x) (sym is) (omega arith))
 
   abbrev under : Option Tree → Entries
   under o = elim o as (λ o. Entries) [ None ↦ Nothing none | Some t ↦ entries_in t ]
@@ -153,11 +169,11 @@ module _ (X : List ℕ → List ℕ) (N : List ℕ → ℕ) (p : Profile) where
   new-under led (Some (File m bytes)) below is = absurd cc
   new-under led (Some (Dir fs)) below is = (let same : fs ≡ below = cc in same)
 
-  pub folder-leads : (what : Change) (led : ℕ) (name next : List ℕ) (more : List (List ℕ)) (es below : Entries) → as_folder led (child name es) ≡ Ok below
-      → (entries_at name es ≡ below) × (weighing_of X N p what (next ∷ more) below ≤ weighing_of X N p what (name ∷ next ∷ more) es)
-  folder-leads what led name next more es below is =
+  pub folder-leads : (what : Change) (led : ℕ) (name next : List ℕ) (more : List (List ℕ)) (go : Entries → Result Entries Refused) (es below : Entries) → as_folder led (child name es) ≡ Ok below
+      → (entries_at name es ≡ below) × (weighing_of X N p what (next ∷ more) below (go below) ≤ weighing_of X N p what (name ∷ next ∷ more) es (with_folder name es (and_then (as_folder led (child name es)) go)))
+  folder-leads what led name next more go es below is =
       let there = as-under led (child name es) below is in
-      (there, weighs-on what name next more es below there)
+      (there, weighs-on what led name next more go es below is there)
 
   pub new-leads : (led : ℕ) (name : List ℕ) (es below : Entries) → or_new led (child name es) ≡ Ok below → (entries_at name es ≡ below) × (0 ≤ 0)
   new-leads led name es below is = (new-under led (child name es) below is, omega arith)

@@ -21,7 +21,7 @@ use Rattle.uf_mfs.specs.Reading.{AreHeights}
 use Rattle.uf_mfs.specs.Remade.{IsBadRemadeIn}
 use Rattle.uf_mfs.specs.Standing.{IsMeant, brought}
 use Rattle.uf_mfs.specs.Steps.{refused_root}
-use Rattle.uf_mfs.specs.Touches.{weighing_of}
+use Rattle.uf_mfs.specs.Touches.{weighing_of, where_done}
 use Rattle.uf_mfs.specs.Writes.{IsBadWrittenIn, file_touches, leaves_bytes, member_at, with_fitting}
 
 -- what an edit asks of the member of its name before anything is done
@@ -91,8 +91,10 @@ module _ (X : List ℕ → List ℕ) (N : List ℕ → ℕ) (p : Profile) where
   HasRows (Rewrite what) rows = AreHeights p rows
   HasRows (Remake what) rows = Unit {0}
 
-  -- the touches that it takes beyond those of the names: a removal weighs, a file is rewritten, and a root is made anew
-  abbrev pub act_touches : (ℕ → ℕ) → Act → List ℕ → List (List ℕ) → Entries → ℕ
-  act_touches rows (Change what) piece names es = weighing_of X N p what names es
-  act_touches rows (Rewrite what) piece names es = file_touches p rows what piece (member_at names es)
-  act_touches rows (Remake what) piece names es = 3
+  -- the touches that it takes beyond those of the names, where the tree gives this: a removal weighs, a file is
+  -- rewritten, and a root is made anew; none of them where a rule refuses it
+  abbrev pub act_touches : (ℕ → ℕ) → Act → List ℕ → List (List ℕ) → Entries → Result Entries Refused → ℕ
+  act_touches rows (Change what) piece names es next = weighing_of X N p what names es next
+  act_touches rows (Rewrite what) piece names es next =
+      where_done next (file_touches p rows what piece (member_at names es))
+  act_touches rows (Remake what) piece names es next = where_done next 3

@@ -1,6 +1,7 @@
 pub mod Acts
 pub mod Answers
 pub mod Bad
+pub mod Missing
 pub mod Moving
 pub mod Opening
 pub mod Reading

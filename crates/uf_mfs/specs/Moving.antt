@@ -9,12 +9,13 @@ use Rattle.uf_path.specs.declared.path.Path.{Path}
 use Rattle.uf_plain.specs.declared.rule.Rule.{Rule}
 use Rattle.uf_plain.specs.declared.rule.Rule.TheVariants as rules
 use Rattle.uf_plain.specs.Rules.{path_text}
-use Rattle.uf_plain.specs.declared.spot.Lie.TheVariants.{Itself}
+use Rattle.uf_plain.specs.declared.spot.Lie.{Lie}
+use Rattle.uf_plain.specs.declared.spot.Lie.TheVariants.{Itself, Below, Apart}
 use Rattle.uf_plain.specs.declared.spot.Spot.{Spot}
 use Rattle.uf_plain.specs.declared.rule.Refused.{Refused}
 use Rattle.uf_plain.specs.Edits.{and_then, at, child, removed}
-use Rattle.uf_plain.specs.Moves.{allowed_move, as_vacant, folder_at, lie_of, name_of, put_at_spot, spot_in, spot_names}
-use Rattle.uf_plain.specs.Moves.{spotted, target, then_go, told_of}
+use Rattle.uf_plain.specs.Moves.{allowed_move, as_replaceable, as_vacant, folder_at, lie_of, name_of, put_at_spot}
+use Rattle.uf_plain.specs.Moves.{spot_in, spot_names, spotted, target, then_go, told_of}
 use Rattle.uf_store.specs.declared.store.StoreFault.{StoreFault}
 use Rattle.uf_store.specs.declared.store.StoreFault.TheVariants.{Memory}
 use Rattle.uf_store.specs.declared.store.Role.{Role}
@@ -34,7 +35,7 @@ use Rattle.uf_mfs.specs.declared.thing.Thing.{Thing}
 use Rattle.uf_mfs.specs.declared.thing.Thing.TheVariants.{File as FileAt, Folder as FolderAt}
 use Rattle.uf_mfs.specs.Standing.{IsAfter, IsAgreedMember, IsAgreedThing, StandsAfter, StandsAt}
 use Rattle.uf_mfs.specs.Steps.{IsFolderOver, tree_fault}
-use Rattle.uf_mfs.specs.Touches.{crossings_of, weighing_at}
+use Rattle.uf_mfs.specs.Touches.{crossings_of, weighing_at, where_done}
 
 -- what a call gives where the plain tree gives this: what stands for that, or the rule that refuses it, or a fault of
 -- the store that may come
@@ -175,15 +176,29 @@ module _ (X : List ℕ → List ℕ) (N : List ℕ → ℕ) (p : Profile) where
   -- taking the source away, and putting its tree at a spot of what is left
   abbrev pub shift_crossings : List (List ℕ) → Spot → Tree → Entries → ℕ
   shift_crossings source spot t es =
-      crossings_of X N p source es (removed true source es) + weighing_at X N p source es
+      crossings_of X N p source es (removed true source es)
+      + where_done (removed true source es) (weighing_at X N p source es)
       + elim (removed true source es) [ Ok left ↦ put_crossings spot t left | Err why ↦ 0 ]
 
-  -- a move: a few touches for each name of both paths, and those of the removal and of the put
+  -- the same by how the spot lies to the source, over this member there: none where it lies in it, and where it can't
+  -- take the place of what is there
+  abbrev pub moving_crossings : Lie → List (List ℕ) → Spot → Option Tree → Tree → Entries → ℕ
+  moving_crossings Itself source spot there t es = 0
+  moving_crossings Below source spot there t es = 0
+  moving_crossings Apart source spot there t es =
+      where_done (as_replaceable (length (spot_names spot)) t there) (shift_crossings source spot t es)
+
+  -- the same of what was found as the target
+  abbrev pub found_crossings : List (List ℕ) → Spot × Entries → Tree → Entries → ℕ
+  found_crossings source found t es =
+      moving_crossings (lie_of source (spot_names found.0)) source found.0 (child found.0.name found.1) t es
+
+  -- a move: a few touches for each name of both paths, and those of the removal and of the put, where both are done
   abbrev pub move_bound : List (List ℕ) → Path → Entries → ℕ
   move_bound source dest es = 64 * (length source + length dest.names + 3)
       + elim (at 0 source (Dir es)) [
         | Ok t ↦ elim (target dest (name_of source) es) [
-          | Ok found ↦ shift_crossings source found.0 t es
+          | Ok found ↦ found_crossings source found t es
           | Err rule ↦ 0
         ]
         | Err why ↦ 0

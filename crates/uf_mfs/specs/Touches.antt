@@ -38,6 +38,11 @@ pub record CountsUp (fault : Option StoreFault) (before now : ℕ) : Type 0 wher
   pub kept : before ≤ now
   pub risen : IsBlaming fault → before < now
 
+-- so many touches where this is done, none where a rule refuses it before its plan is looked at
+abbrev pub where_done : {A : Type 0} → Result A Refused → ℕ → ℕ
+where_done (Ok next) touches = touches
+where_done (Err why) touches = 0
+
 -- how many blocks are still to be loaded to say what this is: of a folder that a lookup begins at, its root block
 abbrev pub unseen : Thing → ℕ
 unseen (FileAt e size) = 0
@@ -84,11 +89,11 @@ module _ (X : List ℕ → List ℕ) (N : List ℕ → ℕ) (p : Profile) where
   weighing_at (name ∷ []) es = weighing_from X N p name (named_entries X N p es)
   weighing_at (name ∷ next ∷ names) es = weighing_at (next ∷ names) (entries_at name es)
 
-  -- of an edit: only a removal weighs
-  abbrev pub weighing_of : Change → List (List ℕ) → Entries → ℕ
-  weighing_of Make names es = 0
-  weighing_of (Put e) names es = 0
-  weighing_of (Remove recursive) names es = weighing_at names es
+  -- of an edit that gives this: only a removal weighs, and only where it is done
+  abbrev pub weighing_of : Change → List (List ℕ) → Entries → Result Entries Refused → ℕ
+  weighing_of Make names es next = 0
+  weighing_of (Put e) names es next = 0
+  weighing_of (Remove recursive) names es next = where_done next (weighing_at names es)
 
   -- an edit at these names: a few touches for each, and those of directories that become sharded or basic
   abbrev pub touch_bound : List (List ℕ) → Entries → Result Entries Refused → ℕ

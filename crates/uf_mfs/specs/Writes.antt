@@ -39,7 +39,7 @@ use Rattle.uf_mfs.specs.Answers.{MeetsOr}
 use Rattle.uf_mfs.specs.Bad.{IsBadInTree}
 use Rattle.uf_mfs.specs.Standing.{IsAfter, IsAgreed, IsPlanOf}
 use Rattle.uf_mfs.specs.Reading.{rows_with}
-use Rattle.uf_mfs.specs.Touches.{entries_at, touch_bound}
+use Rattle.uf_mfs.specs.Touches.{entries_at, touch_bound, where_done}
 
 -- a block that isn't canonical at its place in some file
 abbrev pub IsBadInSome : (List ℕ → List ℕ) → Profile → Told → Role → List ℕ → Type 0
@@ -140,8 +140,9 @@ module _ (X : List ℕ → List ℕ) (N : List ℕ → ℕ) (p : Profile) (befor
       (λ bytes e. IsAfter X N before.told now.told old p e (File m bytes)) bytes result
 
 -- an edit of the file at these names: a few touches for each, those of directories that become sharded or basic, and
--- those of the file
+-- those of the file, where no rule refuses it before its plan is looked at
 abbrev pub writing_bound : (List ℕ → List ℕ) → (List ℕ → ℕ) → Profile → (ℕ → ℕ) → FileEdit → List ℕ → List (List ℕ)
     → Entries → ℕ
-writing_bound X N p rows what piece names es = touch_bound X N p names es (fitting_edit p what piece names es)
-    + file_touches p rows what piece (member_at names es)
+writing_bound X N p rows what piece names es =
+    let next = fitting_edit p what piece names es in
+    touch_bound X N p names es next + where_done next (file_touches p rows what piece (member_at names es))

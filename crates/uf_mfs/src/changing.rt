@@ -13,12 +13,13 @@ ghost use Rattle.uf_mfs.specs.Acts.{HasRows, IsActMeant, IsBadActed, LeavesTree,
 ghost use Rattle.uf_mfs.specs.Acts.{acted_root, is_act, root_touches};
 ghost use Rattle.uf_mfs.specs.Answers.{Moves, MovesTo, Settles, ShownInTree};
 ghost use Rattle.uf_mfs.specs.Bad.{IsBadInTree, RequiresDirectory};
+ghost use Rattle.uf_mfs.specs.Missing.{FolderMisses, IsPut, put_needs};
 ghost use Rattle.uf_store.specs.Calls.{OnlySaves};
 ghost use Rattle.uf_plain.specs.Edits.{at, made, removed};
 ghost use Rattle.uf_plain.specs.Rules.{allowed};
 ghost use Rattle.uf_mfs.specs.Standing.{IsAgreed, IsMfs, StandsAt, StandsOver};
 ghost use Rattle.uf_mfs.specs.Steps.{ChangesFolder, EditsFolder, MovesTree, entry_or, stop_fault, tree_fault};
-ghost use Rattle.uf_mfs.specs.Touches.{CountsUp, TouchesFolder, crossings_of, touch_bound, weighing_at};
+ghost use Rattle.uf_mfs.specs.Touches.{CountsUp, TouchesFolder, crossings_of, touch_bound, weighing_at, where_done};
 
 use crate::editing::{Act, Site, edit, fill};
 use crate::remaking::remade;
@@ -104,8 +105,8 @@ impl Mfs {
         ensures touches { (p : TheProfile) → self.old.profile ≡ p
             → TouchesFolder S.X.block32 N.name64 p (S.seen store.old) (S.seen store.new) [] self.old.root
             (λ es. touch_bound S.X.block32 N.name64 p path.now.names es (removed recursive path.now.names es)
-            + weighing_at S.X.block32 N.name64 p path.now.names es)
-            touches.old touches.new }
+            + where_done (removed recursive path.now.names es)
+            (weighing_at S.X.block32 N.name64 p path.now.names es)) touches.old touches.new }
         ensures touched { CountsUp (tree_fault result) touches.old touches.new }
     {
         let names = path.names.as_slice();
@@ -204,8 +205,12 @@ impl Mfs {
             (act_brought S.X.block32 N.name64 self.now.profile what t) self.now.root
             (λ es. 40 * length names.now + crossings_of S.X.block32 N.name64 self.now.profile names.now es
             (acted_at self.now.profile what piece.now t names.now es)
-            + act_touches S.X.block32 N.name64 self.now.profile rows what piece.now names.now es)
+            + act_touches S.X.block32 N.name64 self.now.profile rows what piece.now names.now es
+            (acted_at self.now.profile what piece.now t names.now es))
             touches.old touches.new }
+        ensures missing { IsPut what
+            → FolderMisses S.X.block32 N.name64 self.now.profile (S.seen store.old) (S.seen store.new) self.now.root
+            (put_needs S.X.block32 N.name64 self.now.profile names.now) (stop_fault result) }
         ensures touched { CountsUp (stop_fault result) touches.old touches.new }
     {
         let site = Site {
@@ -253,6 +258,7 @@ fn edit_root<S: Store, N: NameHash, L: Ledger>(
         (IsBadActed S.X.block32 N.name64 site.now.profile (S.seen store.new).told root.now.cid site.now.what)
         (stop_fault result) (S.seen store.old) (S.seen store.new) }
     ensures touches { touches.new ≤ touches.old + root_touches site.now.what }
+    ensures missing { IsPut site.now.what → stop_fault result ≡ None }
     ensures touched { CountsUp (stop_fault result) touches.old touches.new }
 {
     match site.what {

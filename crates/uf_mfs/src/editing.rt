@@ -16,10 +16,12 @@ ghost use Rattle.uf_mfs.specs.Acts.{HasRows, IsActMeant, IsBadActed, LeavesTree,
 ghost use Rattle.uf_mfs.specs.Acts.{is_act, may_act};
 ghost use Rattle.uf_mfs.specs.Answers.{Decides};
 ghost use Rattle.uf_mfs.specs.Bad.{IsBadInTree, IsRequired, RequiresDirectory};
+ghost use Rattle.uf_mfs.specs.Missing.{FolderMisses, IsPut, put_needs};
 ghost use Rattle.uf_mfs.specs.Moving.{folder_there};
 ghost use Rattle.uf_store.specs.Calls.{OnlySaves};
 ghost use Rattle.uf_plain.specs.Edits.{as_folder, at, child, done, edited, made_all};
 ghost use Rattle.uf_plain.specs.Edits.{or_new, with_child, without_child};
+ghost use Rattle.uf_plain.specs.Needs.{own_needs};
 ghost use Rattle.uf_mfs.specs.Standing.{IsAgreed, IsAgreedMember, IsPlanOf};
 ghost use Rattle.uf_mfs.specs.Steps.{ChangesFolder, ChangesOver, GivesFolder, IsFolderOver};
 ghost use Rattle.uf_mfs.specs.Steps.{IsOpened, changed_below, opened, stop_fault};
@@ -90,7 +92,12 @@ pub(crate) fn edit<S: Store, N: NameHash, L: Ledger>(
         (λ es. 40 * (length rest.now + 1) + crossings_of S.X.block32 N.name64 site.now.profile (name.now ∷ rest.now) es
         (edited (acted site.now.profile site.now.what site.now.piece.now t) site.now.led name.now rest.now es)
         + act_touches S.X.block32 N.name64 site.now.profile rows site.now.what site.now.piece.now
-        (name.now ∷ rest.now) es) touches.old touches.new }
+        (name.now ∷ rest.now) es
+        (edited (acted site.now.profile site.now.what site.now.piece.now t) site.now.led name.now rest.now es))
+        touches.old touches.new }
+    ensures missing { IsPut site.now.what
+        → FolderMisses S.X.block32 N.name64 site.now.profile (S.seen store.old) (S.seen store.new) folder.now
+        (put_needs S.X.block32 N.name64 site.now.profile (name.now ∷ rest.now)) (stop_fault result) }
     ensures touched { CountsUp (stop_fault result) touches.old touches.new }
 {
     let found = member::<S, N, L>(alloc, store, folder, name, touches)?;
@@ -244,7 +251,11 @@ fn edit_here<S: Store, N: NameHash, L: Ledger>(
         (act_brought S.X.block32 N.name64 site.now.profile site.now.what t) folder.now es
         → touches.new ≤ touches.old + (19 + crossings_of S.X.block32 N.name64 site.now.profile (name.now ∷ []) es
         (acted site.now.profile site.now.what site.now.piece.now t (site.now.led + 1) name.now es)
-        + act_touches S.X.block32 N.name64 site.now.profile rows site.now.what site.now.piece.now (name.now ∷ []) es) }
+        + act_touches S.X.block32 N.name64 site.now.profile rows site.now.what site.now.piece.now (name.now ∷ []) es
+        (acted site.now.profile site.now.what site.now.piece.now t (site.now.led + 1) name.now es)) }
+    ensures missing { IsPut site.now.what
+        → FolderMisses S.X.block32 N.name64 site.now.profile (S.seen store.old) (S.seen store.new) folder.now
+        (own_needs S.X.block32 N.name64 site.now.profile) (stop_fault result) }
     ensures touched { CountsUp (stop_fault result) touches.old touches.new }
 {
     let led = site.led + 1;
@@ -339,6 +350,8 @@ fn put_in<S: Store, N: NameHash, L: Ledger>(
         (blocks S.X.block32 N.name64 profile.now t) folder.now
         (λ es. 17 + crossing S.X.block32 N.name64 profile.now (named_entries S.X.block32 N.name64 profile.now es)
         (named_entries S.X.block32 N.name64 profile.now (with_child name.now t es))) touches.old touches.new }
+    ensures missing { FolderMisses S.X.block32 N.name64 profile.now (S.seen store.old) (S.seen store.new) folder.now
+        (own_needs S.X.block32 N.name64 profile.now) (stop_fault result) }
     ensures touched { CountsUp (stop_fault result) touches.old touches.new }
 {
     names_are_good(name);

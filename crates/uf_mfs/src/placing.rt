@@ -16,9 +16,10 @@ ghost use Rattle.uf_plain.specs.Moves.{moved_to as moved_by, put_at_spot, put_ov
 ghost use Rattle.uf_plain.specs.Rules.{allowed};
 ghost use Rattle.uf_mfs.specs.Answers.{Moves, ShownInTree};
 ghost use Rattle.uf_mfs.specs.Bad.{IsBadInTree, RequiresDirectory};
+ghost use Rattle.uf_mfs.specs.Missing.{FolderMisses, put_needs};
 ghost use Rattle.uf_mfs.specs.Moving.{EditsTree, IsFound, IsInside, IsOntoItself, MovesBy, MovesHeld};
-ghost use Rattle.uf_mfs.specs.Moving.{MovesRoot, MovesThing, TouchesThing, copy_bound, entry_in, move_bound};
-ghost use Rattle.uf_mfs.specs.Moving.{put_crossings, replaces, shift_crossings};
+ghost use Rattle.uf_mfs.specs.Moving.{MovesRoot, MovesThing, TouchesThing, copy_bound, entry_in, found_crossings};
+ghost use Rattle.uf_mfs.specs.Moving.{move_bound, put_crossings, replaces, shift_crossings};
 ghost use Rattle.uf_plain.specs.declared.spot.Lie.TheVariants.{Itself};
 ghost use Rattle.uf_mfs.specs.Standing.{IsEntry, IsMfs, IsPlanOf, StandsAt, StandsOver};
 ghost use Rattle.uf_mfs.specs.Steps.{EditsFolder, GivesFolder, MovesTree, stop_fault, tree_fault};
@@ -60,6 +61,8 @@ impl Mfs {
             → MovesTree S.X.block32 N.name64 (S.seen store.old) (S.seen store.new)
             (blocks S.X.block32 N.name64 self.old.profile t) self.old self.new (spot_names spot.now)
             (λ p es. allowed S.X.block32 N.name64 p (put_at_spot spot.now t es)) result }
+        ensures missing { FolderMisses S.X.block32 N.name64 self.old.profile (S.seen store.old) (S.seen store.new)
+            self.old.root (put_needs S.X.block32 N.name64 self.old.profile (spot_names spot.now)) (tree_fault result) }
         ensures refused { OnErr result (self.new ≡ self.old) }
         ensures mfs { IsMfs self.new }
         ensures profile { self.new.profile ≡ self.old.profile }
@@ -219,7 +222,7 @@ fn moved_to<S: Store, N: NameHash, L: Ledger>(
         → IsFound S.X.block32 N.name64 (S.seen store.old).told tree.now.profile found target.now
         → TouchesThing S.X.block32 N.name64 (S.seen store.old) (S.seen store.new) tree.now source.now t thing
         (λ es. 40 * (length source.now + length target.now.names)
-        + shift_crossings S.X.block32 N.name64 tree.now.profile source.now found.0 t es) touches.old touches.new }
+        + found_crossings S.X.block32 N.name64 tree.now.profile source.now found t es) touches.old touches.new }
     ensures touched { CountsUp (tree_fault result) touches.old touches.new }
 {
     let names = target.names.as_slice();
@@ -296,6 +299,8 @@ fn put_root<S: Store, N: NameHash, L: Ledger>(
         (blocks S.X.block32 N.name64 tree.now.profile t) tree.now.root
         (λ es. 40 * length names.now + crossings_of S.X.block32 N.name64 tree.now.profile names.now es
         (edited_at (put_over t) names.now es)) touches.old touches.new }
+    ensures missing { FolderMisses S.X.block32 N.name64 tree.now.profile (S.seen store.old) (S.seen store.new)
+        tree.now.root (put_needs S.X.block32 N.name64 tree.now.profile names.now) (stop_fault result) }
     ensures touched { CountsUp (stop_fault result) touches.old touches.new }
 {
     let what = Act::Change(Change::Put(*entry));

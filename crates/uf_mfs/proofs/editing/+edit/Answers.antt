@@ -1,4 +1,4 @@
-use Rattle.std.proofs.Common.{◌≡◌, ◌+◌, ◌-◌, ◌∷◌, ◌++◌, ◌∙◌, List, ℕ, Ok, Option, Err, refl, sym, None, Some, drop, length, subst, take, ◌*◌, ◌≤◌, Result, arith}
+use Rattle.std.proofs.Common.{◌≡◌, ◌+◌, ◌-◌, ◌∷◌, ◌++◌, ◌∙◌, [], List, ℕ, Ok, Option, Err, refl, sym, None, Some, drop, length, subst, take, ◌*◌, ◌≤◌, Result, arith}
 use Rattle.std.proofs.lemmas.Result.{err_from_is_err_and}
 use Rattle.uf_edge.specs.Counts.{Stood}
 use Rattle.uf_tree.specs.declared.nodes.Entry.{Entry}
@@ -18,6 +18,9 @@ use Rattle.uf_store.proofs.Calls.{reads-saves, saves-by, saves-saves, stood-back
 use Rattle.uf_mfs.proofs.Filling.{agreed-beside, agreed-over, at-one, idle-below, stood-before}
 use Rattle.uf_mfs.proofs.Folders.{changes-since, folder-stops, folder-there, member-stops, over-first, path-none, path-put, path-stopped, read-over}
 use Rattle.uf_mfs.proofs.Meeting.{first-rest, no-names}
+use Rattle.uf_mfs.proofs.Missing.{below-misses, here-misses, member-misses, put-misses}
+use Rattle.uf_mfs.specs.Missing.{MissesOnly, put_needs}
+use Rattle.uf_plain.specs.Needs.{own_needs}
 use Rattle.uf_mfs.specs.Bad.{IsBadInTree}
 use Rattle.uf_mfs.proofs.Judging.{folder-required, tree-more}
 use Rattle.uf_mfs.specs.Acts.{act_brought, act_touches, acted}
@@ -103,7 +106,7 @@ returns-in_default-clause-touches g t c = λ u rows meant heights es o.
     let same = c.in_ok-found.ensures.reads.told in
     let r = c.edit_here.ensures.touches u rows es meant heights (subst (λ told. IsAgreedMember X N told p (child name es) c.in_ok-found.found) (sym same) member) (read-over X N p more c.args.folder.now es c.in_ok-found.ensures.reads o) in
     let t1 = c.in_ok-found.ensures.touches in
-    subst (λ (l : List (List ℕ)). c.edit_here.new.touches ≤ c.args.touches.now + (40 * (length l + 1) + crossings_of X N p (name ∷ l) es (edited (acted p what piece u) led name l es) + act_touches X N p rows what piece (name ∷ l) es)) (no-names c.args.rest.now c.in_default.len_below)
+    subst (λ (l : List (List ℕ)). c.edit_here.new.touches ≤ c.args.touches.now + (40 * (length l + 1) + crossings_of X N p (name ∷ l) es (edited (acted p what piece u) led name l es) + act_touches X N p rows what piece (name ∷ l) es (edited (acted p what piece u) led name l es))) (no-names c.args.rest.now c.in_default.len_below)
     (omega (arith, r, t1))
 
 pub returns-in_err-entry-clause-touches : goal.returns-in_err-entry-clause-touches
@@ -116,9 +119,9 @@ returns-in_err-entry-clause-touches g t c = λ u rows meant heights.
     let names : next ∷ more ≡ c.args.rest.now = first-rest c.args.rest.now next c.in-len1-up.len_at_least c.next-item.is in
     let step : Entries → Result Entries Refused = (λ es. as_folder (led + 1) (child name es)) in let go = edited (acted p what piece u) (led + 1) next more in
     let t1 = c.in_ok-found.ensures.touches in
-    subst (λ (l : List (List ℕ)). TouchesFolder X N p a e (act_brought X N p what u) folder (λ es. 40 * (length l + 1) + crossings_of X N p (name ∷ l) es (edited (acted p what piece u) led name l es) + act_touches X N p rows what piece (name ∷ l) es) c.args.touches.now c.edit.new.touches) names
+    subst (λ (l : List (List ℕ)). TouchesFolder X N p a e (act_brought X N p what u) folder (λ es. 40 * (length l + 1) + crossings_of X N p (name ∷ l) es (edited (acted p what piece u) led name l es) + act_touches X N p rows what piece (name ∷ l) es (edited (acted p what piece u) led name l es)) c.args.touches.now c.edit.new.touches) names
     (touches-by X N p (act_brought X N p what u) folder _ _ c.args.touches.now c.edit.new.touches (λ es. omega arith)
-    (stopped-touches X N p folder c.in_ok-below.below (act_brought X N p what u) name (next ∷ more) step go (act_touches X N p rows what piece (next ∷ more)) (act_touches X N p rows what piece (name ∷ next ∷ more)) (length more + 1) (act-good X N p what u) (act-leads X N p rows what piece (led + 1) name next more)
+    (stopped-touches X N p folder c.in_ok-below.below (act_brought X N p what u) name (next ∷ more) step go (λ fs. act_touches X N p rows what piece (next ∷ more) fs (go fs)) (λ es. act_touches X N p rows what piece (name ∷ next ∷ more) es (edited (acted p what piece u) led name (next ∷ more) es)) (length more + 1) (act-good X N p what u) (act-leads X N p rows what piece (led + 1) name next more go)
     c.args.touches.now c.member.new.touches c.edit.new.touches (omega (arith, t1)) found (folder-there X N p (led + 1) folder c.in_ok-below.below name found (λ es o. c.in_ok-below.ensures.decides X N a.told p (child name es) (c.in_ok-found.ensures.member p es (agreed-over X N p folder es o) o.calm.faults)))
     c.in_err-entry.ensures.saves (c.in_err-entry.ensures.touches u rows meant heights)))
 
@@ -132,9 +135,9 @@ returns-clause-touches g t c = λ u rows meant heights.
     let names : next ∷ more ≡ c.args.rest.now = first-rest c.args.rest.now next c.in-len1-up.len_at_least c.next-item.is in
     let step : Entries → Result Entries Refused = (λ es. as_folder (led + 1) (child name es)) in let go = edited (acted p what piece u) (led + 1) next more in
     let t1 = c.in_ok-found.ensures.touches in
-    subst (λ (l : List (List ℕ)). TouchesFolder X N p a d (act_brought X N p what u) folder (λ es. 40 * (length l + 1) + crossings_of X N p (name ∷ l) es (edited (acted p what piece u) led name l es) + act_touches X N p rows what piece (name ∷ l) es) c.args.touches.now c.put_in.new.touches) names
+    subst (λ (l : List (List ℕ)). TouchesFolder X N p a d (act_brought X N p what u) folder (λ es. 40 * (length l + 1) + crossings_of X N p (name ∷ l) es (edited (acted p what piece u) led name l es) + act_touches X N p rows what piece (name ∷ l) es (edited (acted p what piece u) led name l es)) c.args.touches.now c.put_in.new.touches) names
     (touches-by X N p (act_brought X N p what u) folder _ _ c.args.touches.now c.put_in.new.touches (λ es. omega arith)
-    (put-touches X N p folder c.in_ok-below.below (act_brought X N p what u) name (next ∷ more) step go (act_touches X N p rows what piece (next ∷ more)) (act_touches X N p rows what piece (name ∷ next ∷ more)) (length more + 1) (act-good X N p what u) (act-leads X N p rows what piece (led + 1) name next more)
+    (put-touches X N p folder c.in_ok-below.below (act_brought X N p what u) name (next ∷ more) step go (λ fs. act_touches X N p rows what piece (next ∷ more) fs (go fs)) (λ es. act_touches X N p rows what piece (name ∷ next ∷ more) es (edited (acted p what piece u) led name (next ∷ more) es)) (length more + 1) (act-good X N p what u) (act-leads X N p rows what piece (led + 1) name next more go)
     c.in-Some.entry c.args.touches.now c.member.new.touches c.edit.new.touches c.put_in.new.touches (omega (arith, t1)) found (folder-there X N p (led + 1) folder c.in_ok-below.below name found (λ es o. c.in_ok-below.ensures.decides X N a.told p (child name es) (c.in_ok-found.ensures.member p es (agreed-over X N p folder es o) o.calm.faults)))
     c.in_ok-entry.ensures.saves (subst (λ (o : Option Entry). ChangesFolder X N p b (g.S.Store.seen c.edit.new.store) (act_brought X N p what u) c.in_ok-below.below (edited (acted p what piece u) (led + 1) c.next-item.result more) (Ok o)) c.in-Some.is (c.in_ok-entry.ensures.edits u meant)) (c.in_ok-entry.ensures.touches u rows meant heights) c.put_in.ensures.saves c.put_in.ensures.touches))
 
@@ -172,9 +175,9 @@ returns-in_default-2-clause-touches g t c = λ u rows meant heights.
     let names : next ∷ more ≡ c.args.rest.now = first-rest c.args.rest.now next c.in-len1-up.len_at_least c.next-item.is in
     let step : Entries → Result Entries Refused = (λ es. as_folder (led + 1) (child name es)) in let go = edited (acted p what piece u) (led + 1) next more in
     let t1 = c.in_ok-found.ensures.touches in
-    subst (λ (l : List (List ℕ)). TouchesFolder X N p a e (act_brought X N p what u) folder (λ es. 40 * (length l + 1) + crossings_of X N p (name ∷ l) es (edited (acted p what piece u) led name l es) + act_touches X N p rows what piece (name ∷ l) es) c.args.touches.now c.edit.new.touches) names
+    subst (λ (l : List (List ℕ)). TouchesFolder X N p a e (act_brought X N p what u) folder (λ es. 40 * (length l + 1) + crossings_of X N p (name ∷ l) es (edited (acted p what piece u) led name l es) + act_touches X N p rows what piece (name ∷ l) es (edited (acted p what piece u) led name l es)) c.args.touches.now c.edit.new.touches) names
     (touches-by X N p (act_brought X N p what u) folder _ _ c.args.touches.now c.edit.new.touches (λ es. omega arith)
-    (stopped-touches X N p folder c.in_ok-below.below (act_brought X N p what u) name (next ∷ more) step go (act_touches X N p rows what piece (next ∷ more)) (act_touches X N p rows what piece (name ∷ next ∷ more)) (length more + 1) (act-good X N p what u) (act-leads X N p rows what piece (led + 1) name next more)
+    (stopped-touches X N p folder c.in_ok-below.below (act_brought X N p what u) name (next ∷ more) step go (λ fs. act_touches X N p rows what piece (next ∷ more) fs (go fs)) (λ es. act_touches X N p rows what piece (name ∷ next ∷ more) es (edited (acted p what piece u) led name (next ∷ more) es)) (length more + 1) (act-good X N p what u) (act-leads X N p rows what piece (led + 1) name next more go)
     c.args.touches.now c.member.new.touches c.edit.new.touches (omega (arith, t1)) found (folder-there X N p (led + 1) folder c.in_ok-below.below name found (λ es o. c.in_ok-below.ensures.decides X N a.told p (child name es) (c.in_ok-found.ensures.member p es (agreed-over X N p folder es o) o.calm.faults)))
     c.in_ok-entry.ensures.saves (c.in_ok-entry.ensures.touches u rows meant heights)))
 
@@ -227,3 +230,38 @@ returns-clause-idle g t c = λ p es u i stood there left.
     let done = idle-below X N p {Q = ◌≡◌ {A = Option Entry} (Some c.in-Some.entry) None} led name next more es u c.in_ok-below.below c.in_ok-found.ensures.reads c.in_ok-entry.ensures.saves mid at_names decides
     (λ fs j s h. let under = c.in_ok-entry.ensures.idle p fs u j s h left in (under.0, sym c.in-Some.is ∙ under.1)) in
     absurd (let no : Some c.in-Some.entry ≡ None = done.1 in cc)
+
+pub returns-in_err-found-clause-missing : goal.returns-in_err-found-clause-missing
+returns-in_err-found-clause-missing g t c = λ put es o.
+    let X = g.S.X.BlockHash.block32 in let N = g.N.NameHash.name64 in let p = c.args.site.now.profile in let name = c.args.name.now in let led = c.args.site.now.led in let folder = c.args.folder.now in
+    let a = g.S.Store.seen c.args.store.now in
+    let out = err_from_is_err_and c.from_residual.result c.from_residual.ensures.1 in
+    rw (out.1, out.2) (member-misses X N p (Option Entry) a.told (λ (m : Option Tree) (x : Option Thing). IsAgreedMember X N a.told p m x) (child name es) name c.args.rest.now es c.in_err-found.field-0.0
+    (c.in_err-found.ensures.member p es (agreed-over X N p folder es o) o.calm.faults))
+
+pub returns-in_default-clause-missing : goal.returns-in_default-clause-missing
+returns-in_default-clause-missing g t c = λ put es o.
+    let X = g.S.X.BlockHash.block32 in let N = g.N.NameHash.name64 in let p = c.args.site.now.profile in let name = c.args.name.now in let led = c.args.site.now.led in let folder = c.args.folder.now in
+    let a = g.S.Store.seen c.args.store.now in
+    let reads = c.in_ok-found.ensures.reads in
+    here-misses X N p a.told name c.args.rest.now es (stop_fault c.edit_here.result)
+    (subst (λ told. MissesOnly told (own_needs X N p (Dir es)) (stop_fault c.edit_here.result)) reads.told (c.edit_here.ensures.missing put es (read-over X N p [] folder es reads o)))
+
+pub returns-in_err-entry-clause-missing : goal.returns-in_err-entry-clause-missing
+returns-in_err-entry-clause-missing g t c = λ put es o.
+    let X = g.S.X.BlockHash.block32 in let N = g.N.NameHash.name64 in let p = c.args.site.now.profile in let name = c.args.name.now in let led = c.args.site.now.led in let folder = c.args.folder.now in
+    let a = g.S.Store.seen c.args.store.now in
+    let found = reads-saves {f = None} c.in_ok-found.ensures.reads in let s = c.in_err-entry.field-0.0 in
+    let more = take (length c.args.rest.now - 1) (drop 1 c.args.rest.now) in let next = c.next-item.result in
+    let names : next ∷ more ≡ c.args.rest.now = first-rest c.args.rest.now next c.in-len1-up.len_at_least c.next-item.is in
+    let out = err_from_is_err_and c.from_residual-in_err-entry.result c.from_residual-in_err-entry.ensures.1 in
+    rw (out.1, out.2) (subst (λ (l : List (List ℕ)). MissesOnly a.told (put_needs X N p (name ∷ l) (Dir es)) (stop_fault {A = Option Entry} (Err s))) names
+    (below-misses X N p found c.in_err-entry.ensures.saves (led + 1) folder c.in_ok-below.below name (next ∷ more) (stop_fault {A = Option Entry} (Err s)) c.in_ok-found.ensures.reads.told
+    (λ es o. c.in_ok-below.ensures.decides X N a.told p (child name es) (c.in_ok-found.ensures.member p es (agreed-over X N p folder es o) o.calm.faults))
+    (c.in_err-entry.ensures.missing put) es o))
+
+pub returns-clause-missing : goal.returns-clause-missing
+returns-clause-missing g t c = λ put.
+    let X = g.S.X.BlockHash.block32 in let N = g.N.NameHash.name64 in let p = c.args.site.now.profile in
+    put-misses X N p (saves-saves (reads-saves {f = None} c.in_ok-found.ensures.reads) c.in_ok-entry.ensures.saves) c.put_in.ensures.saves
+    c.args.folder.now c.args.name.now c.args.rest.now (stop_fault c.put_in.result) c.put_in.ensures.missing

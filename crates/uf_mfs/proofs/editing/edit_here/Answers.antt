@@ -9,7 +9,7 @@ use Rattle.uf_mfs.proofs.Leaving.{left-file}
 use Rattle.uf_mfs.proofs.MetaEdits.{member-stays, remake-none, remake-put, remake-stopped, remake-touches}
 use Rattle.uf_mfs.proofs.Renewing.{tree-saves}
 use Rattle.uf_mfs.proofs.Folders.{over-first}
-use Rattle.uf_mfs.proofs.Rewriting.{in-written, member-put, member-stopped, member-touches, way-written}
+use Rattle.uf_mfs.proofs.Rewriting.{file-done, in-written, member-put, member-stopped, member-touches, way-written}
 use Rattle.uf_tree.specs.declared.nodes.Entry.{Entry}
 use Rattle.uf_plain.specs.Edits.{child}
 use Rattle.uf_mfs.specs.Steps.{stop_fault}
@@ -29,7 +29,9 @@ returns-in_err-new-in-Rewrite-clause-touches g c =
     let X = g.S.X.BlockHash.block32 in let N = g.N.NameHash.name64 in let site = c.args.site.now in let folder = c.args.folder.now in let name = c.args.name.now in
     let a = g.S.Store.seen c.args.store.now in let b = g.S.Store.seen c.new_file.new.store in
     subst (TouchesHere X N site.profile a b folder name site.piece.now site.led c.args.found c.args.touches.now c.new_file.new.touches) (sym c.in-Rewrite.is)
-    (λ t rows es meant heights member o. let r = c.in_err-new-in-Rewrite.ensures.touches N rows folder name es heights member o in omega (arith, r))
+    (λ t rows es meant heights member o.
+    let r = c.in_err-new-in-Rewrite.ensures.touches N rows folder name es heights member o in
+    let few = file-done X N site.profile rows c.in-Rewrite.what site.piece.now (site.led + 1) name es in omega (arith, r, few))
 
 pub returns-in_err-new-in-Rewrite-clause-saves : goal.returns-in_err-new-in-Rewrite-clause-saves
 returns-in_err-new-in-Rewrite-clause-saves g c =

@@ -1,7 +1,7 @@
 use Rattle.std.proofs.lemmas.Result.{err_from_is_err_and}
 use Rattle.std.proofs.Common.{Some}
 use Rattle.uf_mfs.proofs.Answering.{stop-shows}
-use Rattle.uf_mfs.proofs.Moving.{put-bound, put-done, put-err}
+use Rattle.uf_mfs.proofs.Moving.{put-bound, put-done, put-err, put-loses}
 use Rattle.uf_mfs.proofs.editing.put_in.Goals as goal
 
 pub returns-in_err-new-clause-edits : goal.returns-in_err-new-clause-edits
@@ -32,3 +32,10 @@ pub returns-in_err-new-clause-touches : goal.returns-in_err-new-clause-touches
 returns-in_err-new-clause-touches g c = λ t new es o.
     put-bound g.S.X.BlockHash.block32 g.N.NameHash.name64 c.args.profile.now (record { size = g.met.S.X.BlockHash.size; are_bytes = g.met.S.X.BlockHash.are_bytes }) g.met.N.NameHash.fits
     _ _ c.args.folder.now es c.args.entry.now c.args.name.now t c.args.touches.now c.put.new.touches o.plan new o.stays c.in_err-new.ensures.touches
+
+pub returns-in_err-new-clause-missing : goal.returns-in_err-new-clause-missing
+returns-in_err-new-clause-missing g c = λ es o.
+    let out = err_from_is_err_and c.from_residual.result c.from_residual.ensures.1 in
+    rw out.1 (put-loses g.S.X.BlockHash.block32 g.N.NameHash.name64 c.args.profile.now (record { size = g.met.S.X.BlockHash.size; are_bytes = g.met.S.X.BlockHash.are_bytes }) g.met.N.NameHash.fits
+    _ _ c.args.folder.now es c.args.entry.now c.args.name.now c.in_err-new.field-0.0 out.0 out.2 o.plan o.stays
+    (λ m l planned agrees. c.in_err-new.ensures.value m l planned agrees o.calm.faults o.calm.clashes))

@@ -7,6 +7,7 @@ use Rattle.uf_plain.specs.Edits.{at, edited}
 use Rattle.uf_mfs.specs.declared.fault.Stop.{Stop}
 use Rattle.uf_mfs.specs.Acts.{IsBadActed, LeavesTree, act_brought, act_touches, acted, acted_at, acted_root}
 use Rattle.uf_mfs.specs.Bad.{RequiresDirectory}
+use Rattle.uf_mfs.specs.Missing.{MissesOnly, put_needs}
 use Rattle.uf_mfs.specs.Steps.{EditsFolder, stop_fault}
 use Rattle.uf_mfs.specs.Touches.{CountsUp, TouchesFolder, crossings_of}
 use Rattle.uf_mfs.proofs.Acting.{act-good, or-edits, or-fault, or-idle, or-made, root-touches}
@@ -50,7 +51,7 @@ returns-in-len1-up-clause-touches g c = λ t rows meant heights.
     let a = g.S.Store.seen c.args.store.now in let b = g.S.Store.seen c.edit.new.store in let name = c.name-item.result in
     let more = take (length c.args.names.now - 1) (drop 1 c.args.names.now) in
     let names : name ∷ more ≡ c.args.names.now = first-rest c.args.names.now name c.in-len1-up.len_at_least c.name-item.is in
-    subst (λ (l : List (List ℕ)). TouchesFolder X N p a b (act_brought X N p what t) root (λ es. 40 * length l + crossings_of X N p l es (acted_at p what piece t l es) + act_touches X N p rows what piece l es) c.args.touches.now c.edit.new.touches) names
+    subst (λ (l : List (List ℕ)). TouchesFolder X N p a b (act_brought X N p what t) root (λ es. 40 * length l + crossings_of X N p l es (acted_at p what piece t l es) + act_touches X N p rows what piece l es (acted_at p what piece t l es)) c.args.touches.now c.edit.new.touches) names
     (touches-by X N p (act_brought X N p what t) root _ _ c.args.touches.now c.edit.new.touches (λ es. omega arith) (c.edit.ensures.touches t rows meant heights))
 
 pub returns-in-len1-up-clause-touched : goal.returns-in-len1-up-clause-touched
@@ -90,10 +91,24 @@ pub returns-in-empty-clause-touches : goal.returns-in-empty-clause-touches
 returns-in-empty-clause-touches g c = λ t rows meant heights.
     let X = g.S.X.BlockHash.block32 in let N = g.N.NameHash.name64 in let p = c.args.self.now.profile in let what = c.args.what in let piece = c.args.piece.now in let root = c.args.self.now.root in
     let a = g.S.Store.seen c.args.store.now in let b = g.S.Store.seen c.edit_root.new.store in
-    subst (λ (l : List (List ℕ)). TouchesFolder X N p a b (act_brought X N p what t) root (λ es. 40 * length l + crossings_of X N p l es (acted_at p what piece t l es) + act_touches X N p rows what piece l es) c.args.touches.now c.edit_root.new.touches) (no-names c.args.names.now c.in-empty.len_below)
-    (λ es o. let few = root-touches X N p rows what piece es in let h = c.edit_root.ensures.touches in omega (arith, few, h))
+    subst (λ (l : List (List ℕ)). TouchesFolder X N p a b (act_brought X N p what t) root (λ es. 40 * length l + crossings_of X N p l es (acted_at p what piece t l es) + act_touches X N p rows what piece l es (acted_at p what piece t l es)) c.args.touches.now c.edit_root.new.touches) (no-names c.args.names.now c.in-empty.len_below)
+    (λ es o. let few = root-touches X N p rows what piece t es in let h = c.edit_root.ensures.touches in omega (arith, few, h))
 
 pub returns-in-empty-clause-touched : goal.returns-in-empty-clause-touched
 returns-in-empty-clause-touched g c =
     let root = c.args.self.now.root in
     subst (λ f. CountsUp f c.args.touches.now c.edit_root.new.touches) (or-fault root c.edit_root.result ∙ ap (λ (r : Result Entry Stop). stop_fault r) (sym c.or_same.ensures)) c.edit_root.ensures.touched
+
+pub returns-in-len1-up-clause-missing : goal.returns-in-len1-up-clause-missing
+returns-in-len1-up-clause-missing g c = λ put es o.
+    let X = g.S.X.BlockHash.block32 in let N = g.N.NameHash.name64 in let p = c.args.self.now.profile in let root = c.args.self.now.root in let a = g.S.Store.seen c.args.store.now in
+    let name = c.name-item.result in let more = take (length c.args.names.now - 1) (drop 1 c.args.names.now) in
+    let names : name ∷ more ≡ c.args.names.now = first-rest c.args.names.now name c.in-len1-up.len_at_least c.name-item.is in
+    subst (λ f. MissesOnly a.told (put_needs X N p c.args.names.now (Dir es)) f) (or-fault root c.edit.result ∙ ap (λ (r : Result Entry Stop). stop_fault r) (sym c.or_same-in-len1-up.ensures))
+    (subst (λ (l : List (List ℕ)). MissesOnly a.told (put_needs X N p l (Dir es)) (stop_fault c.edit.result)) names (c.edit.ensures.missing put es o))
+
+pub returns-in-empty-clause-missing : goal.returns-in-empty-clause-missing
+returns-in-empty-clause-missing g c = λ put es o.
+    let X = g.S.X.BlockHash.block32 in let N = g.N.NameHash.name64 in let p = c.args.self.now.profile in let root = c.args.self.now.root in let a = g.S.Store.seen c.args.store.now in
+    subst (λ f. MissesOnly a.told (put_needs X N p c.args.names.now (Dir es)) f)
+    (sym (c.edit_root.ensures.missing put) ∙ or-fault root c.edit_root.result ∙ ap (λ (r : Result Entry Stop). stop_fault r) (sym c.or_same.ensures)) tt

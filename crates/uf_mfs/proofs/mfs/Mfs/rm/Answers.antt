@@ -7,7 +7,7 @@ use Rattle.uf_plain.specs.Edits.{removed}
 use Rattle.uf_plain.specs.Rules.{allowed}
 use Rattle.uf_mfs.specs.Answers.{EditsAfter}
 use Rattle.uf_mfs.specs.Steps.{MovesTree}
-use Rattle.uf_mfs.specs.Touches.{TouchesFolder, touch_bound, weighing_at}
+use Rattle.uf_mfs.specs.Touches.{TouchesFolder, touch_bound, weighing_at, where_done}
 use Rattle.uf_mfs.proofs.Removing.{removal-touches, removed-edits, removes-at}
 use Rattle.uf_mfs.proofs.Settling.{moves-held, moves-tree}
 use Rattle.uf_mfs.proofs.mfs.Mfs.rm.Goals as goal
@@ -32,6 +32,6 @@ returns-clause-touches g c = λ p same.
     let X = g.S.X.BlockHash.block32 in let N = g.N.NameHash.name64 in let root = c.args.self.now.root in
     let a = g.S.Store.seen c.args.store.now in let b = g.S.Store.seen c.edited_root-edited.new.store in
     let t0 = c.args.touches.now in let t1 = c.edited_root-edited.new.touches in
-    subst (λ (q : Profile). TouchesFolder X N q a b [] root (λ es. touch_bound X N q c.args.path.now.names es (removed c.args.recursive c.args.path.now.names es) + weighing_at X N q c.args.path.now.names es) t0 t1) same
-    (subst (λ (ns : List (List ℕ)). TouchesFolder X N c.args.self.now.profile a b [] root (λ es. touch_bound X N c.args.self.now.profile ns es (removed c.args.recursive ns es) + weighing_at X N c.args.self.now.profile ns es) t0 t1) c.as_slice-names.ensures
+    subst (λ (q : Profile). TouchesFolder X N q a b [] root (λ es. touch_bound X N q c.args.path.now.names es (removed c.args.recursive c.args.path.now.names es) + where_done (removed c.args.recursive c.args.path.now.names es) (weighing_at X N q c.args.path.now.names es)) t0 t1) same
+    (subst (λ (ns : List (List ℕ)). TouchesFolder X N c.args.self.now.profile a b [] root (λ es. touch_bound X N c.args.self.now.profile ns es (removed c.args.recursive ns es) + where_done (removed c.args.recursive ns es) (weighing_at X N c.args.self.now.profile ns es)) t0 t1) c.as_slice-names.ensures
     (removal-touches X N c.args.self.now.profile root c.args.recursive c.as_slice-names.result.now t0 t1 (c.edited_root-edited.ensures.touches (Dir (Nothing none)) (λ n. n) tt tt)))
