@@ -6,8 +6,8 @@ use Rattle.std.specs.declared.result.Result.{Result}
 use Rattle.std.specs.declared.result.Result.TheVariants.{Ok, Err}
 use Rattle.uf_mfs.specs.Reading.{range_touches}
 use Rattle.uf_mfs.specs.Moving.{copy_bound, move_bound}
-use Rattle.uf_mfs.specs.Writes.{file_touches, fitting_edit, member_at}
-use Rattle.uf_mfs.specs.Touches.{names_touches, read_bound, rows_touches, touch_bound, weighing_at}
+use Rattle.uf_mfs.specs.Writes.{writing_bound}
+use Rattle.uf_mfs.specs.Touches.{names_touches, read_bound, rows_touches, touch_bound, weighing_at, where_done}
 use Rattle.uf_plain.specs.Edits.{made, removed}
 use Rattle.uf_plain.specs.declared.file.FileEdit.TheVariants as file
 use Rattle.uf_tree.specs.Tree.{Dir, Entries}
@@ -23,17 +23,15 @@ use Rattle.uf_command.specs.declared.types.Refusal.{Refusal}
 
 -- a file of n bytes has rows n rows of nodes
 module _ (X : List ℕ → List ℕ) (N : List ℕ → ℕ) (rows : ℕ → ℕ) where
-  -- the most touches of an edit at these names
+  -- the most touches of an edit at these names: those of the names alone where a rule refuses it before its plan is
+  -- looked at
   abbrev pub touches_of_edit : Edit → List (List ℕ) → Profile → Entries → ℕ
   touches_of_edit (Mkdir parents) names p es = touch_bound X N p names es (made parents names es)
   touches_of_edit (Rm recursive) names p es =
-      touch_bound X N p names es (removed recursive names es) + weighing_at X N p names es
-  touches_of_edit (Write how piece) names p es =
-      touch_bound X N p names es (fitting_edit p (file.Write how) piece names es)
-      + file_touches p rows (file.Write how) piece (member_at names es)
-  touches_of_edit (Truncate size) names p es =
-      touch_bound X N p names es (fitting_edit p (file.Truncate size) [] names es)
-      + file_touches p rows (file.Truncate size) [] (member_at names es)
+      let next = removed recursive names es in
+      touch_bound X N p names es next + where_done next (weighing_at X N p names es)
+  touches_of_edit (Write how piece) names p es = writing_bound X N p rows (file.Write how) piece names es
+  touches_of_edit (Truncate size) names p es = writing_bound X N p rows (file.Truncate size) [] names es
   touches_of_edit (Cp dest) names p es = copy_bound X N p names dest es
   touches_of_edit (Mv dest) names p es = move_bound X N p names dest es
   touches_of_edit (SetMeta what) names p es = 64 * (length names + 3)
