@@ -85,7 +85,7 @@ module _ (hash : List ℕ → List ℕ) where
   all_then P [] x h p = (p, tt)
   all_then P (y ∷ l) x h p = (h.0, all_then P l x h.1 p)
 
-  pieces_then : (calls : List (Lookup × List ℕ)) (x : Lookup × List ℕ) → pieces_of (calls ++ x ∷ []) ≡ pieces_of calls ++ x.1
+  pub pieces_then : (calls : List (Lookup × List ℕ)) (x : Lookup × List ℕ) → pieces_of (calls ++ x ∷ []) ≡ pieces_of calls ++ x.1
   pieces_then [] x = append-nil x.1
   pieces_then (y ∷ calls) x = ap (λ l. y.1 ++ l) (pieces_then calls x) ∙ sym (append_assoc y.1 (pieces_of calls) x.1)
 
@@ -94,7 +94,7 @@ module _ (hash : List ℕ → List ℕ) where
     pub gave-none : (told : Told) (now : Rest) (b : Building) → now ≡ start_of limits c → HasFront hash told [] b → GaveFront hash held limits c told now b
     gave-none told now b same front = record { calls = []; gave = record { given = same; agree = tt }; front = front }
 
-    gave_more : (t : Contents) → HoldsGoodMap hash held (Some t) → (calls : List (Lookup × List ℕ)) (now next : Rest) (piece : List ℕ) → GaveOfFile held limits c calls now → IsNextPiece (held_at t) now next (Ok (Some piece)) → VisitsNext (held_at t) now next → GaveOfFile held limits c (calls ++ (held_at t, piece) ∷ []) next
+    pub gave_more : (t : Contents) → HoldsGoodMap hash held (Some t) → (calls : List (Lookup × List ℕ)) (now next : Rest) (piece : List ℕ) → GaveOfFile held limits c calls now → IsNextPiece (held_at t) now next (Ok (Some piece)) → VisitsNext (held_at t) now next → GaveOfFile held limits c (calls ++ (held_at t, piece) ∷ []) next
     gave_more t good calls now next piece gave says visits = record {
       given = gave_then calls (held_at t, piece) (start_of limits c) now next gave.given (record { gives = says; visits = visits });
       agree = all_then (λ (x : Lookup × List ℕ). AgreeUnder held x.0 (file_visits held limits c)) calls (held_at t, piece) gave.agree (greater-agrees held (held_at t) (map-all hash held t good) limits c bytes is);

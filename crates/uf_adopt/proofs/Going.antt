@@ -91,7 +91,7 @@ module _ (X : List ℕ → List ℕ) (N : List ℕ → ℕ) (p : Profile) (held 
 
   -- ---- one step
 
-  step_at : (room : ℕ) (c : Cid) (t : Tree) → 1 ≤ room → denotes_within held limits room c ≡ Ok t → IsStep held limits (room - 1) c t
+  pub step_at : (room : ℕ) (c : Cid) (t : Tree) → 1 ≤ room → denotes_within held limits room c ≡ Ok t → IsStep held limits (room - 1) c t
   step_at zero c t some is = absurd (omega arith)
   step_at (suc room) c t some is = let same : room ≡ suc room - 1 = omega arith in subst (λ n. IsStep held limits n c t) same (denoted-step held limits room c t is)
 
@@ -99,7 +99,7 @@ module _ (X : List ℕ → List ℕ) (N : List ℕ → ℕ) (p : Profile) (held 
   no-room room c t none is = none-denoted held limits c t (subst (λ n. denotes_within held limits n c ≡ Ok t) none is)
 
   -- what was read of a CID that denotes something
-  shape_read : (told : Told) (c : Cid) (shape s : Shape) → HoldsGoodMap X held told → shallow_of held limits c ≡ Ok shape → IfSome told (λ t. FollowsReading (λ s. s) (shallow_of (held_at t) limits c) (Ok s)) → s ≡ shape
+  pub shape_read : (told : Told) (c : Cid) (shape s : Shape) → HoldsGoodMap X held told → shallow_of held limits c ≡ Ok shape → IfSome told (λ t. FollowsReading (λ s. s) (shallow_of (held_at t) limits c) (Ok s)) → s ≡ shape
   shape_read None c shape s good is says = absurd good
   shape_read (Some t) c shape s good is says =
       let more = shape-stays held (held_at t) (map-all X held t good) limits c in

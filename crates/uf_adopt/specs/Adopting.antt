@@ -6,6 +6,7 @@ use Rattle.std.specs.declared.result.Result.TheVariants.{Ok, Err}
 use Rattle.std.specs.List.{flat_map}
 use Rattle.uf_cid.specs.Blocks.{Held, Lookup}
 use Rattle.uf_cid.specs.declared.cid.Cid.{Cid}
+use Rattle.uf_store.specs.Among.{SavesAmong}
 use Rattle.uf_store.specs.Contents.{Told}
 use Rattle.uf_store.specs.Keeping.{Holds}
 use Rattle.uf_tree.specs.Nodes.{Named}
@@ -19,6 +20,7 @@ use Rattle.uf_tree.specs.declared.meta.Meta.{Meta}
 use Rattle.uf_tree.specs.declared.nodes.Entry.{Entry}
 use Rattle.uf_tree.specs.declared.profile.Profile.{Profile}
 use Rattle.uf_lenient.specs.Reading.{denotes, shallow_of}
+use Rattle.uf_lenient.specs.declared.fault.DagFault.{DagFault}
 use Rattle.uf_lenient.specs.declared.fault.DagFault.TheVariants as dag
 use Rattle.uf_lenient.specs.declared.shapes.Limits.{Limits}
 use Rattle.uf_lenient.specs.declared.shapes.Shape.TheVariants.{Folder as FolderShape}
@@ -49,6 +51,11 @@ module _ (X : List ℕ → List ℕ) (N : List ℕ → ℕ) (p : Profile) where
     pub planned : first_refusal (planned_each es) ≡ None
     pub are : l ≡ members X N p (planned_each es)
     pub held : Holds told (each_blocks es)
+
+  -- nothing was written but blocks of the plan of this tree, and nothing at all where there is none
+  abbrev pub SavesOfTree : Result Tree DagFault → Told → Told → Type 0
+  SavesOfTree (Ok t) before now = SavesAmong X (blocks_of X N p t) before now
+  SavesOfTree (Err fault) before now = now ≡ before
 
   module _ (held : Lookup) (limits : Limits) where
     unfoldable mutual

@@ -3,12 +3,14 @@ ghost use Rattle.std.specs.Prelude.{◌≡◌, ◌≤◌, IsTrue, Ok, OnOk};
 ghost use Rattle.uf_cid.specs.Blocks.{Lookup};
 ghost use Rattle.uf_lenient.specs.Good.{ByGoodBlocks};
 ghost use Rattle.uf_lenient.specs.Reading.{denotes};
+ghost use Rattle.uf_store.specs.Among.{SavesAmong};
 ghost use Rattle.uf_store.specs.Faults.{NoneIsBad, Shown};
 ghost use Rattle.uf_store.specs.Keeping.{KeepsGood};
 ghost use Rattle.uf_store.specs.Writing.{SavesOnly};
 ghost use Rattle.uf_tree.specs.Profiles.{is_profile};
 ghost use Rattle.uf_tree.specs.Tree.{Tree};
-ghost use Rattle.uf_adopt.specs.Adopting.{Adopts, BuildsTree};
+ghost use Rattle.uf_tree.specs.TreePlan.{blocks as blocks_of};
+ghost use Rattle.uf_adopt.specs.Adopting.{Adopts, BuildsTree, SavesOfTree};
 ghost use Rattle.uf_adopt.specs.Feeding.{HoldsGoodMap};
 ghost use Rattle.uf_adopt.specs.Faults.{SavesNone, TellsStoreApart, adopt_fault};
 
@@ -42,6 +44,8 @@ pub fn adopt<S: Store, N: NameHash, L: Ledger>(
     ensures cause { Shown S.X.block32 NoneIsBad (adopt_fault result) (S.seen store.old) (S.seen store.new) }
     ensures good { KeepsGood S.X.block32 (S.seen store.old).told (S.seen store.new).told }
     ensures saves { SavesOnly S.X.block32 (S.seen store.old).told (S.seen store.new).told }
+    ensures no_other { ByGoodBlocks S.X.block32 (S.seen store.old).told (λ held. SavesOfTree S.X.block32 N.name64 p.now
+        (denotes held limits.now cid.now) (S.seen store.old).told (S.seen store.new).told) }
     ensures touched { OnOk result (touches.old ≤ touches.new) }
 {
     survey(alloc, store, cid, limits, touches)?;
@@ -65,6 +69,9 @@ pub fn adopt_surveyed<S: Store, N: NameHash, L: Ledger>(
     ensures cause { Shown S.X.block32 NoneIsBad (adopt_fault result) (S.seen store.old) (S.seen store.new) }
     ensures good { KeepsGood S.X.block32 (S.seen store.old).told (S.seen store.new).told }
     ensures saves { SavesOnly S.X.block32 (S.seen store.old).told (S.seen store.new).told }
+    ensures no_other { (held : Lookup) (t : Tree) → HoldsGoodMap S.X.block32 held (S.seen store.old).told
+        → denotes held limits.now cid.now ≡ Ok t → SavesAmong S.X.block32 (blocks_of S.X.block32 N.name64 p.now t)
+        (S.seen store.old).told (S.seen store.new).told }
     ensures touched { OnOk result (touches.old ≤ touches.new) }
 {
     let room = u64::from(limits.depth) + 1;

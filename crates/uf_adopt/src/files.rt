@@ -1,11 +1,13 @@
 //! One file adopted.
-ghost use Rattle.std.specs.Prelude.{◌≡◌, ◌≤◌, ◌+◌, List, ℕ, [], false, IsTrue, Ok, OnOk};
-ghost use Rattle.uf_build.specs.Building.{saved_by};
+ghost use Rattle.std.specs.Prelude.{◌≡◌, ◌≤◌, ◌+◌, ◌++◌, List, ℕ, [], false, IsTrue, Ok, OnOk};
+ghost use Rattle.uf_build.specs.Building.{HasFed, SavesForFront, saved_by};
 ghost use Rattle.uf_cid.specs.Blocks.{Lookup};
 ghost use Rattle.uf_cid.specs.declared.cid.Cid.{Cid as TheCid};
 ghost use Rattle.uf_lenient.specs.declared.shapes.Limits.{Limits as TheLimits};
 ghost use Rattle.uf_lenient.specs.Reading.{file_of};
 ghost use Rattle.uf_lenient.specs.Steps.{start_of};
+ghost use Rattle.uf_store.specs.Among.{SavesAmong};
+ghost use Rattle.uf_tree.specs.FilePlan.{file_plan};
 ghost use Rattle.uf_tree.specs.Metas.{is_meta};
 ghost use Rattle.uf_tree.specs.Profiles.{is_profile};
 ghost use Rattle.uf_adopt.specs.Faults.{OnlyAdopts};
@@ -36,6 +38,10 @@ pub fn adopt_file<S: Store, L: Ledger>(
         → file_of held limits.now cid.now ≡ Ok bytes
         → AdoptsFile S.X.block32 p.now meta.now cid.now bytes (S.seen store.new).told result }
     ensures adopts { OnlyAdopts S.X.block32 result (S.seen store.old) (S.seen store.new) }
+    ensures no_other { (held : Lookup) (bytes : List ℕ) → HoldsGoodMap S.X.block32 held (S.seen store.old).told
+        → file_of held limits.now cid.now ≡ Ok bytes
+        → SavesAmong S.X.block32 (file_plan S.X.block32 p.now meta.now bytes).blocks
+        (S.seen store.old).told (S.seen store.new).told }
     ensures touched { OnOk result (touches.old ≤ touches.new) }
 {
     let mut builder = Builder::new(alloc, *p);
@@ -61,6 +67,10 @@ fn feed_all<S: Store, L: Ledger>(
     ensures not_spent { OnOk result (builder.new.is_spent ≡ false) }
     ensures fed { OnOk result (WasFed S.X.block32 builder.old → WasFed S.X.block32 builder.new) }
     ensures adopts { OnlyAdopts S.X.block32 result (S.seen store.old) (S.seen store.new) }
+    ensures no_other { (held : Lookup) (limits : TheLimits) (bytes : List ℕ)
+        → HoldsGoodMap S.X.block32 held (S.seen store.old).told → pieces.old ≡ start_of limits cid.now
+        → file_of held limits cid.now ≡ Ok bytes → HasFront S.X.block32 (S.seen store.old).told [] builder.old
+        → SavesForFront S.X.block32 builder.old.profile bytes (S.seen store.old).told (S.seen store.new).told }
     ensures touched { OnOk result (touches.old + saved_by builder.new ≤ touches.new + saved_by builder.old) }
 {
     while let Some(piece) = pieces.next(store, touches)? {
@@ -84,6 +94,8 @@ fn feed_one<S: Store, L: Ledger>(
     ensures not_spent { OnOk result (builder.new.is_spent ≡ false) }
     ensures fed { OnOk result (WasFed S.X.block32 builder.old → WasFed S.X.block32 builder.new) }
     ensures adopts { OnlyAdopts S.X.block32 result (S.seen store.old) (S.seen store.new) }
+    ensures no_other { (front : List ℕ) → HasFed S.X.block32 front builder.old → SavesForFront S.X.block32
+        builder.old.profile (front ++ piece.now) (S.seen store.old).told (S.seen store.new).told }
     ensures touches { OnOk result (touches.new + saved_by builder.old ≡ touches.old + saved_by builder.new) }
 {
     slices_hold_bytes(piece);
@@ -107,6 +119,8 @@ fn close<S: Store, L: Ledger>(
     ensures file { (c : TheCid) (bytes : List ℕ) → HasFront S.X.block32 (S.seen store.old).told bytes builder
         → AdoptsFile S.X.block32 builder.profile meta.now c bytes (S.seen store.new).told result }
     ensures adopts { OnlyAdopts S.X.block32 result (S.seen store.old) (S.seen store.new) }
+    ensures no_other { (bytes : List ℕ) → HasFed S.X.block32 bytes builder → SavesAmong S.X.block32
+        (file_plan S.X.block32 builder.profile meta.now bytes).blocks (S.seen store.old).told (S.seen store.new).told }
     ensures touched { OnOk result (WasFed S.X.block32 builder → touches.old ≤ touches.new + saved_by builder) }
 {
     match builder.finish_with(meta, store, touches) {

@@ -2,11 +2,13 @@
 ghost use Rattle.std.specs.Prelude.{◌≡◌, ◌≤◌, ℕ, List, IfOk, IsTrue, Ok, OnOk};
 ghost use Rattle.std.specs.FinMap.Entries.{is_sorted};
 ghost use Rattle.uf_cid.specs.Blocks.{Lookup};
+ghost use Rattle.uf_store.specs.Among.{SavesAmong};
 ghost use Rattle.uf_tree.specs.Names.{names_cmp};
 ghost use Rattle.uf_tree.specs.Profiles.{is_profile};
 ghost use Rattle.uf_tree.specs.Tree.{Entries, Tree};
+ghost use Rattle.uf_tree.specs.TreePlan.{blocks as blocks_of};
 ghost use Rattle.uf_tree.specs.Validity.{IsDirectory, IsNamed};
-ghost use Rattle.uf_adopt.specs.Adopting.{BuildsEach, BuildsTree};
+ghost use Rattle.uf_adopt.specs.Adopting.{BuildsEach, BuildsTree, each_blocks};
 ghost use Rattle.uf_lenient.specs.Denoted.{AreDenoted, denotes_within};
 ghost use Rattle.uf_adopt.specs.Faults.{OnlyAdopts};
 ghost use Rattle.uf_adopt.specs.Feeding.{HoldsGoodMap};
@@ -37,6 +39,10 @@ pub fn adopt_within<S: Store, N: NameHash, L: Ledger>(
         → denotes_within held limits.now room cid.now ≡ Ok t
         → BuildsTree S.X.block32 N.name64 p.now held limits.now (S.seen store.new).told cid.now t result }
     ensures adopts { OnlyAdopts S.X.block32 result (S.seen store.old) (S.seen store.new) }
+    ensures no_other { (held : Lookup) (t : Tree) → HoldsGoodMap S.X.block32 held (S.seen store.old).told
+        → denotes_within held limits.now room cid.now ≡ Ok t
+        → SavesAmong S.X.block32 (blocks_of S.X.block32 N.name64 p.now t)
+        (S.seen store.old).told (S.seen store.new).told }
     ensures touched { OnOk result (touches.old ≤ touches.new) }
 {
     if room == 0 {
@@ -69,6 +75,10 @@ fn adopt_each<S: Store, N: NameHash, L: Ledger>(
         → BuildsEach S.X.block32 N.name64 p.now held limits.now (S.seen store.new).told ways.now es result }
     ensures directory { IsTrue (is_sorted names_cmp ways.now) → IfOk result IsDirectory }
     ensures adopts { OnlyAdopts S.X.block32 result (S.seen store.old) (S.seen store.new) }
+    ensures no_other { (held : Lookup) (es : Entries) → HoldsGoodMap S.X.block32 held (S.seen store.old).told
+        → AreDenoted held limits.now room ways.now es
+        → SavesAmong S.X.block32 (each_blocks S.X.block32 N.name64 p.now es)
+        (S.seen store.old).told (S.seen store.new).told }
     ensures touched { OnOk result (touches.old ≤ touches.new) }
 {
     let mut pairs = Pairs::new(alloc);

@@ -1,5 +1,6 @@
 use Rattle.std.proofs.lemmas.Result.{err_from_is_err_and}
 use Rattle.uf_adopt.proofs.Denoted.{reading-unsaved, says-denoted, says-fault, surveyed-unsaved}
+use Rattle.uf_adopt.proofs.Saving.{denoted-saves, survey-saves}
 use Rattle.uf_adopt.proofs.adopting.adopt.Goals as goal
 
 pub returns-in_err-survey-clause-says : goal.returns-in_err-survey-clause-says
@@ -21,3 +22,12 @@ pub returns-clause-refused : goal.returns-clause-refused
 returns-clause-refused g c =
     surveyed-unsaved g.S.X.BlockHash.block32 g.N.NameHash.name64 c.args.p.now c.args.limits.now (g.S.Store.seen c.args.store.now).told (g.S.Store.seen c.survey.new.store).told (g.S.Store.seen c.adopt_surveyed.new.store).told c.args.cid.now _ c.adopt_surveyed.result c.in_ok-survey.ensures.told c.in_ok-survey.ensures.good
     c.adopt_surveyed.ensures.builds c.adopt_surveyed.ensures.saves
+
+pub returns-in_err-survey-clause-no_other : goal.returns-in_err-survey-clause-no_other
+returns-in_err-survey-clause-no_other g c =
+    survey-saves g.S.X.BlockHash.block32 g.N.NameHash.name64 c.args.p.now c.args.limits.now c.args.cid.now (g.S.Store.seen c.args.store.now).told (g.S.Store.seen c.survey.new.store).told c.survey.ensures.told
+
+pub returns-clause-no_other : goal.returns-clause-no_other
+returns-clause-no_other g c =
+    denoted-saves g.S.X.BlockHash.block32 g.N.NameHash.name64 c.args.p.now c.args.limits.now c.args.cid.now _ (g.S.Store.seen c.args.store.now).told (g.S.Store.seen c.survey.new.store).told (g.S.Store.seen c.adopt_surveyed.new.store).told
+    c.in_ok-survey.ensures.told c.in_ok-survey.ensures.good c.adopt_surveyed.ensures.no_other
