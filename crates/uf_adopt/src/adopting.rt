@@ -26,8 +26,8 @@ use uf_tree::{Entry, Profile};
 
 /// Builds what a CID denotes by a profile, and answers its entry. All of it is read first, so that nothing is saved of
 /// what denotes no tree. Then the files and directories are built in byte order of their names, each directory after
-/// its members. Depth and visits are counted anew in each call. A held block that hasn't its CID's digest is never read:
-/// what it denotes makes no difference.
+/// its members. Depth and visits are counted anew in each call. A held block that hasn't its CID's digest is never
+/// read: what it denotes makes no difference.
 pub fn adopt<S: Store, N: NameHash, L: Ledger>(
     alloc: Global,
     store: &mut S,

@@ -41,7 +41,8 @@ fn built<L: Ledger>(
     build::<_, Murmur3, L>(alloc, store, &Profile::usual(), pairs, &meta, touches).ok()
 }
 
-/// The root of a directory of so many names after so many edits: each even one puts a name, each odd one takes it out again.
+/// The root of a directory of so many names after so many edits: each even one puts a name, each odd one takes it out
+/// again.
 pub fn edited<L: Ledger>(
     alloc: Global,
     names: u64,

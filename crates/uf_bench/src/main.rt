@@ -1,5 +1,5 @@
-//! The program that the scripts of bench/ measure: edits of large directories and files in memory, and files read from the
-//! store of the working folder. It prints the root that it ends with, and nothing where it reads.
+//! The program that the scripts of bench/ measure: edits of large directories and files in memory, and files read from
+//! the store of the working folder. It prints the root that it ends with, and nothing where it reads.
 #![tactic(auto)]
 
 ghost use Rattle.std.specs.Prelude.{◌≡◌, ◌<◌};

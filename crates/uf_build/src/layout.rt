@@ -1,5 +1,6 @@
 //! Pieces of a file, and the open groups over them.
-ghost use Rattle.std.specs.Prelude.{◌≡◌, ◌+◌, ◌<◌, ◌≤◌, ◌*◌, ◌^◌, ◌++◌, ◌∷◌, ◌⊎◌, ℕ, [], length, IfOk, OnOk, OnErr, IsTrue, slice_index_or};
+ghost use Rattle.std.specs.Prelude.{◌≡◌, ◌+◌, ◌<◌, ◌≤◌, ◌*◌, ◌^◌, ◌++◌, ◌∷◌, ◌⊎◌, ℕ, [], length, IfOk, OnOk, OnErr};
+ghost use Rattle.std.specs.Prelude.{IsTrue, slice_index_or};
 ghost use Rattle.uf_cid.specs.Bytes.{piece};
 ghost use Rattle.uf_cid.specs.Cid.{cid_of};
 ghost use Rattle.uf_cid.specs.declared.cid.Codec.TheVariants.{Raw};
@@ -34,7 +35,8 @@ pub struct Layout {
 }
 
 impl Layout {
-    ghost use Rattle.uf_build.specs.Layouts.{CanEnd, CanTake, ClosesFile, EndsAmong, EndsLast, EndsPiece, EndsUpTo, StaysWithin, StopsTaking, Takes, TakesFront, TakesPieces};
+    ghost use Rattle.uf_build.specs.Layouts.{CanEnd, CanTake, ClosesFile, EndsAmong, EndsLast, EndsPiece, EndsUpTo};
+    ghost use Rattle.uf_build.specs.Layouts.{StaysWithin, StopsTaking, Takes, TakesFront, TakesPieces};
 
     // Takes bytes after those that it took before.
     pub fn take<S: Store, L: Ledger>(
@@ -60,8 +62,8 @@ impl Layout {
         Ok(())
     }
 
-    // Fills the piece that was begun, where one was, from the prefix of some bytes, and answers how many it took. Either
-    // that was all, or no piece is begun then.
+    // Fills the piece that was begun, where one was, from the prefix of some bytes, and answers how many it took.
+    // Either that was all, or no piece is begun then.
     fn fill<S: Store, L: Ledger>(
         &mut self,
         store: &mut S,

@@ -4,7 +4,9 @@ ghost use Rattle.uf_store.specs.Faults.{fault_in};
 ghost use Rattle.uf_store.specs.Among.{SavesAmong};
 ghost use Rattle.uf_tree.specs.Metas.{is_meta};
 ghost use Rattle.uf_build.specs.Answers.{OnlyBuilds};
-ghost use Rattle.uf_build.specs.Rows.{AddsPart, PushesPart, ClosesRows, EndsRow, add_held, groups_in, held_up, close_held, close_held_up, carry_held, size_of, sizes_of, some_row, AreOpen, IsWidth, AreShort};
+ghost use Rattle.uf_build.specs.Rows.{AddsPart, PushesPart, ClosesRows, EndsRow, add_held, groups_in, held_up};
+ghost use Rattle.uf_build.specs.Rows.{close_held, close_held_up, carry_held, size_of, sizes_of, some_row, AreOpen};
+ghost use Rattle.uf_build.specs.Rows.{IsWidth, AreShort};
 
 use crate::nodes::{save_node, save_top};
 use crate::open::Open;

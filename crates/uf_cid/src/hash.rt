@@ -20,7 +20,8 @@ pub trait BlockHash {
     fn block32_group(bytes: &[u8], size: usize, out: &mut [[u8; 32]])
         requires { length bytes.now ≡ length out.old * size }
         ensures length { length out.new ≡ length out.old }
-        ensures digests { (k : ℕ) → k < length out.old → slice_index_or out.new k [] ≡ block32 (piece bytes.now size k) }
+        ensures digests { (k : ℕ) → k < length out.old
+            → slice_index_or out.new k [] ≡ block32 (piece bytes.now size k) }
     {
         for i in 0..out.len() {
             out[i] = Self::block32(&bytes[i * size..i * size + size]);

@@ -26,8 +26,10 @@ pub fn binary_is_read_again()
 
 /// A CID of 36 bytes has one spelling.
 pub fn binary_is_one()
-    ensures spelled { (c : TheCid) → (bytes : List ℕ) → cid_at bytes ≡ Ok (c, 36) → bytes ≡ cid_bytes c ++ drop 36 bytes }
-    ensures whole { (c : TheCid) → (bytes : List ℕ) → (used : ℕ) → IsBytes bytes → cid_at bytes ≡ Ok (c, used) → IsCid c }
+    ensures spelled { (c : TheCid) → (bytes : List ℕ) → cid_at bytes ≡ Ok (c, 36)
+        → bytes ≡ cid_bytes c ++ drop 36 bytes }
+    ensures whole { (c : TheCid) → (bytes : List ℕ) → (used : ℕ) → IsBytes bytes → cid_at bytes ≡ Ok (c, used)
+        → IsCid c }
 {}
 
 /// What `text` writes is read again.
@@ -37,5 +39,6 @@ pub fn text_is_read_again()
 
 /// A text in lower case and the same text in upper case are one CID.
 pub fn cases_are_one()
-    ensures { (c : TheCid) → (letters : List ℕ) → cid_of_text (98 ∷ letters) ≡ Ok c → cid_of_text (66 ∷ map raised letters) ≡ Ok c }
+    ensures { (c : TheCid) → (letters : List ℕ) → cid_of_text (98 ∷ letters) ≡ Ok c
+        → cid_of_text (66 ∷ map raised letters) ≡ Ok c }
 {}

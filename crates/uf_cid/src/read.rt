@@ -1,12 +1,14 @@
 //! CIDs read from bytes and from text.
 ghost use Rattle.std.specs.Prelude.{◌≡◌, ◌<◌, ◌≤◌, ◌==◌, ◌&&◌, nat_lt, Ok, length, take, IfSome};
 ghost use Rattle.std.specs.Option.{option_map};
-ghost use Rattle.uf_cid.specs.Read.{alone, cid_at, codec_at, multihash_at, cid_of_text, cid_spelled, unbase32, value_of};
+ghost use Rattle.uf_cid.specs.Read.{alone, cid_at, codec_at, multihash_at, cid_of_text, cid_spelled, unbase32};
+ghost use Rattle.uf_cid.specs.Read.{value_of};
 
 use crate::{Cid, CidFault, Codec};
 
 impl Cid {
-    /// The CID before some bytes, and how many of them it has: 36 for a CIDv1, 34 for a CIDv0, which is read as `dag-pb`.
+    /// The CID before some bytes, and how many of them it has: 36 for a CIDv1, 34 for a CIDv0, which is read as
+    /// `dag-pb`.
     #[tactic(auto, unfolding(crate::specs::Read::cid_at))]
     pub fn read_binary(bytes: &[u8]) -> Result<(Cid, usize), CidFault>
         ensures { result ≡ cid_at bytes.now }
@@ -92,7 +94,8 @@ fn all_of(cid: Cid, used: usize, all: usize) -> Result<Cid, CidFault>
     }
 }
 
-// The first bytes that letters spell: as many as there are, but no more than tell that a CID is followed by another byte.
+// The first bytes that letters spell: as many as there are, but no more than tell that a CID is followed by another
+// byte.
 #[derive(Clone, Copy)]
 struct Front {
     bytes: [u8; 37],
@@ -103,7 +106,8 @@ struct Front {
 fn front_bytes(first: u8, letters: &[u8]) -> Option<Front>
     requires { first ≤ 97 }
     ensures size { IfSome result (λ front. (front.len ≤ 37) × (length (take front.len front.bytes) ≡ front.len)) }
-    ensures bytes { option_map (λ front. take front.len front.bytes) result ≡ option_map (take 37) (unbase32 first letters.now) }
+    ensures bytes { option_map (λ front. take front.len front.bytes) result
+        ≡ option_map (take 37) (unbase32 first letters.now) }
 {
     let mut bytes = [0u8; 37];
     let mut len = 0;

@@ -6,7 +6,8 @@ ghost use Rattle.uf_path.specs.Paths.{ReadsAs, dag_path_reads, is_slash, path_re
 ghost use Rattle.uf_command.specs.Cids.{cid_reads, first_name_at as first_name_in, slashes_before as slashes_in_front};
 ghost use Rattle.uf_command.specs.Commands.{IsAccepted, IsAsked, IsGoodAsk, add_asked, add_to_asked, asked, at_path};
 ghost use Rattle.uf_command.specs.Commands.{both_paths, is_of_files, mtime_of};
-ghost use Rattle.uf_command.specs.Commands.{adopt_asked, below_asked, cat_asked, cp_asked, get_asked, mv_asked, path_refusal};
+ghost use Rattle.uf_command.specs.Commands.{adopt_asked, below_asked, cat_asked, cp_asked, get_asked, mv_asked};
+ghost use Rattle.uf_command.specs.Commands.{path_refusal};
 ghost use Rattle.uf_command.specs.Commands.{pin_asked, prove_asked, read_asked, set_meta_asked, write_asked};
 ghost use Rattle.uf_command.specs.declared.types.Ask.TheVariants as asks;
 ghost use Rattle.uf_tree.specs.Metas.{is_mtime};

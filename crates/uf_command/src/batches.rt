@@ -10,8 +10,8 @@ use std::alloc::Global;
 use uf_store::StoreFault;
 use uf_words::{Cmd, WordFault, read_words, split_line};
 
-/// What a line of a batch asks for; nothing where it has no word. Refused are commands that read the input or write to the
-/// host, and those that have a store of their own.
+/// What a line of a batch asks for; nothing where it has no word. Refused are commands that read the input or write to
+/// the host, and those that have a store of their own.
 pub fn read_line(alloc: Global, line: &[u8]) -> Option<Result<Command, Refusal>>
     ensures asked { IsAskedBy result (line_in line.now) }
     ensures profile { IfSome result (λ asked. IfOk asked IsAccepted) }

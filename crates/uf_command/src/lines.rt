@@ -3,7 +3,12 @@ ghost use Rattle.std.specs.Prelude.{◌≡◌, ◌++◌, ◌∷◌, [], IfOk, On
 ghost use Rattle.std.specs.Fmt.{decimal};
 ghost use Rattle.hex.specs.Hex.{encode_lower};
 ghost use Rattle.uf_words.specs.Shown.{shown_bytes};
-ghost use Rattle.uf_command.specs.Lines.{bad_block_line, bad_path_line, car_line as line_of_car, clash_line, dag_line as line_of_dag, fault_line, missing_line, host_line as line_of_host, host_words as words_of_host, line as line_text, line_of, path_number as number_of_path, path_place as place_of_path, ready_line as line_of_ready, role_word, rule_line as line_of_rule, rule_words as words_of_rule, two_blocks_line, with_detail, with_details};
+ghost use Rattle.uf_command.specs.Lines.{bad_block_line, bad_path_line, car_line as line_of_car, clash_line};
+ghost use Rattle.uf_command.specs.Lines.{dag_line as line_of_dag, fault_line, missing_line, host_line as line_of_host};
+ghost use Rattle.uf_command.specs.Lines.{host_words as words_of_host, line as line_text, line_of};
+ghost use Rattle.uf_command.specs.Lines.{path_number as number_of_path, path_place as place_of_path};
+ghost use Rattle.uf_command.specs.Lines.{ready_line as line_of_ready, role_word, rule_line as line_of_rule};
+ghost use Rattle.uf_command.specs.Lines.{rule_words as words_of_rule, two_blocks_line, with_detail, with_details};
 ghost use Rattle.uf_command.specs.Statuses.{fault_status, status_of};
 
 use crate::dags::dag_words;

@@ -2,7 +2,8 @@
 ghost use Rattle.std.specs.Prelude.{◌≡◌, ◌++◌, IfOk, OnOk, string_bytes};
 ghost use Rattle.std.specs.Fmt.{decimal};
 ghost use Rattle.std.specs.List.{flat_map};
-ghost use Rattle.uf_command.specs.Lines.{added_line, from_line, line, mode_line, mtime_line, mtime_text, name_line, row_line, stat_text as text_of_stat, type_word};
+ghost use Rattle.uf_command.specs.Lines.{added_line, from_line, line, mode_line, mtime_line, mtime_text, name_line};
+ghost use Rattle.uf_command.specs.Lines.{row_line, stat_text as text_of_stat, type_word};
 
 use crate::lines::wrapped;
 use std::alloc::Global;

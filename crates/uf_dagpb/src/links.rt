@@ -1,7 +1,8 @@
 //! Links read from bytes.
 ghost use Rattle.std.specs.Prelude.{◌≡◌, ◌<◌, ◌≤◌, ◌==◌, IfOk, length, MatchOption, MatchResult, Ok, Err, Some, None};
 ghost use Rattle.uf_dagpb.specs.Reading.{Gives, hash_of};
-ghost use Rattle.uf_dagpb.specs.Steps.{text_of, hash_next, name_next, tsize_next, keyed_next, link_next, link_end, link_reads};
+ghost use Rattle.uf_dagpb.specs.Steps.{text_of, hash_next, name_next, tsize_next, keyed_next, link_next, link_end};
+ghost use Rattle.uf_dagpb.specs.Steps.{link_reads};
 
 use crate::fault::PbFault;
 use crate::node::Link;

@@ -124,8 +124,8 @@ fn put_basic<S: Store, N: NameHash, L: Ledger>(
 }
 
 /// Saves the directory with this root without a name, and answers its entry; `None`, and nothing is saved, where the
-/// name isn't there, by at most nine touches, since nothing is weighed then. Its metadata stays. A directory in shards is
-/// changed in place, and goes into one block where it isn't too heavy any more.
+/// name isn't there, by at most nine touches, since nothing is weighed then. Its metadata stays. A directory in shards
+/// is changed in place, and goes into one block where it isn't too heavy any more.
 pub fn remove<S: Store, N: NameHash, L: Ledger>(
     alloc: Global,
     store: &mut S,
@@ -211,8 +211,8 @@ fn remove_basic<S: Store, N: NameHash, L: Ledger>(
     }
 }
 
-// Takes a name out of the directory whose shard tree has this root, which was loaded and is lent, and answers the entry of
-// what is left.
+// Takes a name out of the directory whose shard tree has this root, which was loaded and is lent, and answers the entry
+// of what is left.
 fn remove_sharded<S: Store, N: NameHash, L: Ledger>(
     alloc: Global,
     store: &mut S,

@@ -1,5 +1,6 @@
 //! Parts of a file changed, from the root down.
-ghost use Rattle.std.specs.Prelude.{◌≡◌, ◌⊎◌, ◌+◌, ◌-◌, ◌*◌, ◌<◌, ◌≤◌, ℕ, List, [], ◌∷◌, length, min, slice_get, IfErr, IfNone, IfOk, IfSome, IsTrue, None, Some};
+ghost use Rattle.std.specs.Prelude.{◌≡◌, ◌⊎◌, ◌+◌, ◌-◌, ◌*◌, ◌<◌, ◌≤◌, ℕ, List, [], ◌∷◌, length, min, slice_get, IfErr};
+ghost use Rattle.std.specs.Prelude.{IfNone, IfOk, IfSome, IsTrue, None, Some};
 ghost use Rattle.std.specs.List.{sum_by};
 ghost use Rattle.uf_edge.specs.Counts.{Stood};
 ghost use Rattle.uf_store.specs.Faults.{Answers};
@@ -8,7 +9,8 @@ ghost use Rattle.uf_store.specs.Writing.{SavesOnly};
 ghost use Rattle.uf_store.specs.Lost.{IsLossOf};
 ghost use Rattle.uf_tree.specs.FileSub.{blocks_over, span};
 ghost use Rattle.uf_tree.specs.Profiles.{is_profile};
-ghost use Rattle.uf_fileedit.specs.Changes.{HasSize, IsBlank, IsFrontPart, IsOldPart, LiesWithin, LosesOfPart, LosesOfParts, MakesPart, MakesParts};
+ghost use Rattle.uf_fileedit.specs.Changes.{HasSize, IsBlank, IsFrontPart, IsOldPart, LiesWithin, LosesOfPart};
+ghost use Rattle.uf_fileedit.specs.Changes.{LosesOfParts, MakesPart, MakesParts};
 ghost use Rattle.uf_fileedit.specs.Touches.{AreBelow, Climbs, IsChangeWithin, IsLeft};
 ghost use Rattle.uf_fileedit.specs.Ways.{IsBadAmongOld, IsBadOld, StandBelow};
 

@@ -1,5 +1,6 @@
 //! Files written into and cut.
-ghost use Rattle.std.specs.Prelude.{◌≡◌, ◌↔◌, ◌+◌, ◌-◌, ◌<◌, ◌≤◌, ◌^◌, ◌*◌, ◌&&◌, max, ℕ, List, [], length, nat_lt, IfErr, IfOk, IfSome, IsTrue, OnOk, Ok};
+ghost use Rattle.std.specs.Prelude.{◌≡◌, ◌↔◌, ◌+◌, ◌-◌, ◌<◌, ◌≤◌, ◌^◌, ◌*◌, ◌&&◌, max, ℕ, List, [], length, nat_lt};
+ghost use Rattle.std.specs.Prelude.{IfErr, IfOk, IfSome, IsTrue, OnOk, Ok};
 ghost use Rattle.uf_edge.specs.Counts.{Stood};
 ghost use Rattle.uf_fileread.specs.Ranges.{IsFile};
 ghost use Rattle.uf_store.specs.Faults.{Answers};
@@ -12,7 +13,8 @@ ghost use Rattle.uf_fileedit.specs.Answers.{EditsOver, RefusesTooLong, ShownEdit
 ghost use Rattle.uf_fileedit.specs.Bad.{IsBadEdited};
 ghost use Rattle.uf_fileedit.specs.Changes.{GivesFile, LiesWithin, overlaid, size_after as after_size};
 ghost use Rattle.uf_fileedit.specs.Edits.{cut_to, laid};
-ghost use Rattle.uf_fileedit.specs.Touches.{Climbs, IsEditWithin, TouchedFirst, cut_chunks, edit_touches, written_chunks};
+ghost use Rattle.uf_fileedit.specs.Touches.{Climbs, IsEditWithin, TouchedFirst, cut_chunks, edit_touches};
+ghost use Rattle.uf_fileedit.specs.Touches.{written_chunks};
 ghost use Rattle.uf_tree.specs.FileSub.{IsFileHeight, IsHeight};
 ghost use Rattle.uf_tree.specs.declared.meta.Meta.{Meta as TheMeta};
 

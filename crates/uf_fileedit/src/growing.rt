@@ -1,5 +1,6 @@
 //! The parts below the root of a changed file, made of those below the old root.
-ghost use Rattle.std.specs.Prelude.{◌≡◌, ◌+◌, ◌-◌, ◌*◌, ◌<◌, ◌≤◌, ◌^◌, ℕ, List, [], ◌∷◌, length, min, IfErr, IfOk, IsTrue, Some};
+ghost use Rattle.std.specs.Prelude.{◌≡◌, ◌+◌, ◌-◌, ◌*◌, ◌<◌, ◌≤◌, ◌^◌, ℕ, List, [], ◌∷◌, length, min, IfErr, IfOk};
+ghost use Rattle.std.specs.Prelude.{IsTrue, Some};
 ghost use Rattle.std.specs.List.{sum_by};
 ghost use Rattle.uf_edge.specs.Counts.{Stood};
 ghost use Rattle.uf_store.specs.Faults.{Answers};
@@ -10,7 +11,8 @@ ghost use Rattle.uf_tree.specs.Cutting.{joined};
 ghost use Rattle.uf_tree.specs.FileSub.{span};
 ghost use Rattle.uf_tree.specs.Profiles.{is_profile};
 ghost use Rattle.uf_tree.specs.declared.nodes.Part.{Part as ThePart};
-ghost use Rattle.uf_fileedit.specs.Changes.{AreOld, HasSize, IsBlank, IsFirstOf, LiesWithin, LosesOfRoot, MakesRoot, blocks_of_all};
+ghost use Rattle.uf_fileedit.specs.Changes.{AreOld, HasSize, IsBlank, IsFirstOf, LiesWithin, LosesOfRoot, MakesRoot};
+ghost use Rattle.uf_fileedit.specs.Changes.{blocks_of_all};
 ghost use Rattle.uf_fileedit.specs.Touches.{AreBelow, IsChangeWithin};
 ghost use Rattle.uf_fileedit.specs.Ways.{IsBadAmongOld, StandAmong};
 

@@ -1,5 +1,6 @@
 //! Pieces of a file changed.
-ghost use Rattle.std.specs.Prelude.{◌≡◌, ◌+◌, ◌-◌, ◌<◌, ◌≤◌, ◌^◌, ◌++◌, ℕ, List, [], ◌∷◌, length, take, drop, replicate, IfErr, IfOk, OnErr, OnOk, Some};
+ghost use Rattle.std.specs.Prelude.{◌≡◌, ◌+◌, ◌-◌, ◌<◌, ◌≤◌, ◌^◌, ◌++◌, ℕ, List, [], ◌∷◌, length, take, drop};
+ghost use Rattle.std.specs.Prelude.{replicate, IfErr, IfOk, OnErr, OnOk, Some};
 ghost use Rattle.uf_edge.specs.Counts.{Stood};
 ghost use Rattle.uf_store.specs.Clashes.{IsSaving};
 ghost use Rattle.uf_store.specs.Faults.{Answers, NoneIsBad};

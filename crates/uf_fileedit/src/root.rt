@@ -1,5 +1,6 @@
 //! The root of a file, and what stands below it.
-ghost use Rattle.std.specs.Prelude.{◌≡◌, ◌↔◌, ◌+◌, ◌<◌, ◌≤◌, ◌^◌, ◌&&◌, ℕ, List, [], ◌∷◌, length, sum, IfErr, IfOk, IsTrue, OnErr, OnOk};
+ghost use Rattle.std.specs.Prelude.{◌≡◌, ◌↔◌, ◌+◌, ◌<◌, ◌≤◌, ◌^◌, ◌&&◌, ℕ, List, [], ◌∷◌, length, sum, IfErr, IfOk};
+ghost use Rattle.std.specs.Prelude.{IsTrue, OnErr, OnOk};
 ghost use Rattle.std.specs.List.{sum_by};
 ghost use Rattle.uf_cid.specs.declared.cid.Codec.TheVariants.{DagPb};
 ghost use Rattle.uf_edge.specs.Counts.{Stood};
@@ -18,7 +19,8 @@ ghost use Rattle.uf_tree.specs.Roots.{root_over};
 ghost use Rattle.uf_tree.specs.declared.meta.Meta.{Meta as TheMeta};
 ghost use Rattle.uf_tree.specs.declared.profile.Profile.{Profile as TheProfile};
 ghost use Rattle.uf_fileedit.specs.Bad.{IsBadEdited};
-ghost use Rattle.uf_fileedit.specs.Planned.{IsLaidOut, are_planned as planned_of, bytes_over, is_of_height as height_of_codec, leaf_alone, role_at, single_root};
+ghost use Rattle.uf_fileedit.specs.Planned.{IsLaidOut, are_planned as planned_of, bytes_over};
+ghost use Rattle.uf_fileedit.specs.Planned.{is_of_height as height_of_codec, leaf_alone, role_at, single_root};
 ghost use Rattle.uf_fileedit.specs.Roots.{IsBase, IsRootOf, IsRootOver, SaysRoot, whole_leaf};
 ghost use Rattle.uf_fileedit.specs.Ways.{StandUnderRoot};
 

@@ -1,5 +1,6 @@
 //! Ranges of a file.
-ghost use Rattle.std.specs.Prelude.{◌≡◌, ◌+◌, ◌-◌, ◌<◌, ◌≤◌, ◌^◌, ◌↔◌, ℕ, List, [], ◌∷◌, length, sum, sum_by, IfErr, IfOk, IsTrue, None, Some, if◌then◌else◌};
+ghost use Rattle.std.specs.Prelude.{◌≡◌, ◌+◌, ◌-◌, ◌<◌, ◌≤◌, ◌^◌, ◌↔◌, ℕ, List, [], ◌∷◌, length, sum, sum_by, IfErr};
+ghost use Rattle.std.specs.Prelude.{IfOk, IsTrue, None, Some, if◌then◌else◌};
 ghost use Rattle.uf_cid.specs.Cid.{cid_of};
 ghost use Rattle.uf_cid.specs.declared.cid.Codec.TheVariants.{Raw};
 ghost use Rattle.uf_edge.specs.Counts.{Stood};
@@ -18,8 +19,10 @@ ghost use Rattle.uf_tree.specs.Profiles.{is_profile};
 ghost use Rattle.std.specs.List.{flat_map};
 ghost use Rattle.uf_fileread.specs.Bad.{IsBadAmong, IsBadBelow, IsBadInFile};
 ghost use Rattle.uf_fileread.specs.Parts.{parts_block};
-ghost use Rattle.uf_fileread.specs.Ranges.{IsFile, SendsAtMost, ShowsRange, WritesOver, blocks_met, blocks_read, meets, range_of};
-ghost use Rattle.uf_fileread.specs.Sending.{ArePartsOver, CarriesHere, Fits, IsFilePart, LoadsParts, MayStand, ReadsPart};
+ghost use Rattle.uf_fileread.specs.Ranges.{IsFile, SendsAtMost, ShowsRange, WritesOver, blocks_met, blocks_read, meets};
+ghost use Rattle.uf_fileread.specs.Ranges.{range_of};
+ghost use Rattle.uf_fileread.specs.Sending.{ArePartsOver, CarriesHere, Fits, IsFilePart, LoadsParts, MayStand};
+ghost use Rattle.uf_fileread.specs.Sending.{ReadsPart};
 
 use crate::parts::read_parts;
 use crate::{NodeParts, RangeFault};

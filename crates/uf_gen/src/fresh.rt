@@ -22,8 +22,8 @@ use uf_shard::DirFault;
 use uf_store::{Steps, Store, StoreFault};
 use uf_tree::{Entry, Meta, Pair, Pairs, Profile};
 
-/// Builds the files that are left of the first `n`, as they are in the end, and the directory of them: its entry, or why it
-/// has none. Nothing is read of what the generator's commands made.
+/// Builds the files that are left of the first `n`, as they are in the end, and the directory of them: its entry, or
+/// why it has none. Nothing is read of what the generator's commands made.
 pub fn fresh_root<S: Store, N: NameHash, L: Ledger>(
     alloc: Global,
     p: &Profile,

@@ -5,8 +5,8 @@ ghost use Rattle.uf_tree.specs.Metas.{none};
 ghost use Rattle.uf_tree.specs.Tree.{Entries, entries};
 ghost use Rattle.uf_tree.specs.declared.profile.Profile.{Profile};
 
-/// The tree that the steps make, where no rule refuses one of them, is that of the files that are left, as they are in the
-/// end.
+/// The tree that the steps make, where no rule refuses one of them, is that of the files that are left, as they are in
+/// the end.
 pub fn a_grown_tree_is_its_files()
     ensures { (X : List ℕ → List ℕ) (N : List ℕ → ℕ) (p : Profile) (seed n : ℕ) (es : Entries) → n ≤ 10 ^ 8
         → grown X N p seed n ≡ Ok es → es ≡ entries none (left_files seed n) }

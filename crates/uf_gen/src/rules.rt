@@ -1,5 +1,6 @@
 //! The names and bytes of the generated files.
-ghost use Rattle.std.specs.Prelude.{◌≡◌, ◌<◌, ◌≤◌, ◌+◌, ◌-◌, ◌%◌, ◌^◌, ◌++◌, [], ℕ, false, IfErr, IfOk, OnOk, length, replicate, take};
+ghost use Rattle.std.specs.Prelude.{◌≡◌, ◌<◌, ◌≤◌, ◌+◌, ◌-◌, ◌%◌, ◌^◌, ◌++◌, [], ℕ, false, IfErr, IfOk, OnOk, length};
+ghost use Rattle.std.specs.Prelude.{replicate, take};
 ghost use Rattle.uf_gen.specs.Grown.{file_path as path_of};
 ghost use Rattle.uf_gen.specs.Rules.{file_name as name_of, first_bytes as bytes_first, last_bytes as bytes_last};
 ghost use Rattle.uf_gen.specs.Rules.{late_offset as offset_late, late_piece as piece_late, mixed};

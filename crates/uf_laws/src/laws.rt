@@ -1,5 +1,6 @@
 //! Laws of the definitions.
-ghost use Rattle.std.specs.Prelude.{◌≡◌, Bool, true, false, ◌≤◌, ◌<◌, ◌*◌, ◌^◌, ◌↔◌, ◌==◌, Option, None, Some, ℕ, List, [], ◌∷◌, ◌+◌, ◌++◌, length, map, IsTrue, if◌then◌else◌};
+ghost use Rattle.std.specs.Prelude.{◌≡◌, Bool, true, false, ◌≤◌, ◌<◌, ◌*◌, ◌^◌, ◌↔◌, ◌==◌, Option, None, Some, ℕ, List};
+ghost use Rattle.std.specs.Prelude.{[], ◌∷◌, ◌+◌, ◌++◌, length, map, IsTrue, if◌then◌else◌};
 ghost use Rattle.std.specs.FinMap.Entries.{is_sorted, find};
 ghost use Rattle.std.specs.List.{AllByRecursion, range_with_len};
 ghost use Rattle.uf_cid.specs.Blocks.{Held, Lookup, Holds, Agrees};
@@ -12,14 +13,16 @@ ghost use Rattle.uf_tree.specs.declared.profile.Profile.{Profile};
 ghost use Rattle.uf_tree.specs.Changes.{with_name, without, set_at};
 ghost use Rattle.uf_tree.specs.Cutting.{joined, room_after, glue};
 ghost use Rattle.uf_tree.specs.DirPlan.{own_plan, dir_plan, trail, is_sharded};
-ghost use Rattle.uf_tree.specs.FilePlan.{Plan, split_from, chunks, groups, node_over, root_node, top_part, top_held, climb, file_plan};
+ghost use Rattle.uf_tree.specs.FilePlan.{Plan, split_from, chunks, groups, node_over, root_node, top_part, top_held};
+ghost use Rattle.uf_tree.specs.FilePlan.{climb, file_plan};
 ghost use Rattle.uf_tree.specs.FileSub.{IsTop, IsRooted, IsFileHeight, IsHeight, span, part_over};
 ghost use Rattle.uf_laws.specs.FirstRows.{IsFirst};
 ghost use Rattle.uf_laws.specs.Least.{Least};
 ghost use Rattle.uf_tree.specs.Metas.{is_meta, none};
 ghost use Rattle.uf_tree.specs.Names.{names_cmp};
 ghost use Rattle.uf_tree.specs.Profiles.{is_profile, most_bytes};
-ghost use Rattle.uf_tree.specs.Roles.{IsCanonicalDirectory, IsCanonicalShard, IsCanonicalFileNode, IsSpanned, MayCarry, Root, Below};
+ghost use Rattle.uf_tree.specs.Roles.{IsCanonicalDirectory, IsCanonicalShard, IsCanonicalFileNode, IsSpanned, MayCarry};
+ghost use Rattle.uf_tree.specs.Roles.{Root, Below};
 ghost use Rattle.uf_tree.specs.Nodes.{Named, InSlot, file_block, dir_block, shard_block};
 ghost use Rattle.uf_tree.specs.Shardable.{HasShard};
 ghost use Rattle.uf_tree.specs.ShardPlan.{shard, bucket, shard_items, slot_item, twins, same_slots, same_hash};

@@ -10,7 +10,12 @@ ghost use Rattle.uf_tree.specs.Metas.{none};
 ghost use Rattle.uf_tree.specs.Tree.{File, Dir, Nothing, With};
 ghost use Rattle.uf_tree.specs.TreePlan.{Collision, entry, plan, refusal};
 ghost use Rattle.uf_tree.specs.Profiles.{usual};
-ghost use Rattle.uf_laws.specs.Vectors.{narrow, with_mode, with_time, sharding_above, empty_files, generated, raw_cid, node_cid, raw_plan, node_plan, empty_block, abc_plan, chain_plan, block_p, block_hello, block_hi_0644, block_basic, block_three, block_one, block_left, digest_nothing, digest_a, digest_b, digest_p, digest_hello_world, digest_hi, digest_hi_0644, digest_empty_dir, digest_dir_0755, digest_hello_dir, digest_basic, digest_shard_of_three, digest_shard_of_one, digest_shard_left};
+ghost use Rattle.uf_laws.specs.Vectors.{narrow, with_mode, with_time, sharding_above, empty_files, generated, raw_cid};
+ghost use Rattle.uf_laws.specs.Vectors.{node_cid, raw_plan, node_plan, empty_block, abc_plan, chain_plan, block_p};
+ghost use Rattle.uf_laws.specs.Vectors.{block_hello, block_hi_0644, block_basic, block_three, block_one, block_left};
+ghost use Rattle.uf_laws.specs.Vectors.{digest_nothing, digest_a, digest_b, digest_p, digest_hello_world, digest_hi};
+ghost use Rattle.uf_laws.specs.Vectors.{digest_hi_0644, digest_empty_dir, digest_dir_0755, digest_hello_dir};
+ghost use Rattle.uf_laws.specs.Vectors.{digest_basic, digest_shard_of_three, digest_shard_of_one, digest_shard_left};
 
 /// The CID and the Tsize of an empty file.
 pub fn the_empty_file()

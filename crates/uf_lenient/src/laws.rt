@@ -1,5 +1,6 @@
 //! What holds of readings.
-ghost use Rattle.std.specs.Prelude.{◌≡◌, ◌+◌, ◌<◌, ◌^◌, ◌↔◌, ℕ, Contains, List, [], IsTrue, None, Ok, Some, length, map};
+ghost use Rattle.std.specs.Prelude.{◌≡◌, ◌+◌, ◌<◌, ◌^◌, ◌↔◌, ℕ, Contains, List, [], IsTrue, None, Ok, Some, length};
+ghost use Rattle.std.specs.Prelude.{map};
 ghost use Rattle.std.specs.List.{AllByRecursion};
 ghost use Rattle.std.specs.declared.option.Option.{Option};
 ghost use Rattle.std.specs.declared.result.Result.{Result};
@@ -82,8 +83,8 @@ pub fn a_reading_of_good_blocks_stays()
         (file_of (good_blocks X more) limits c) }
 {}
 
-/// A tree can be read directory by directory, with depth and visits counted anew for each: what a CID denotes is the file
-/// under it, or the directory of what its ways denote, where these nest one level less deep.
+/// A tree can be read directory by directory, with depth and visits counted anew for each: what a CID denotes is the
+/// file under it, or the directory of what its ways denote, where these nest one level less deep.
 pub fn a_tree_is_read_step_by_step()
     ensures { (held : Held) (limits : Limits) (room : ℕ) (c : Cid) (t : Tree)
         → denotes_within held limits (room + 1) c ≡ Ok t → IsStep held limits room c t }

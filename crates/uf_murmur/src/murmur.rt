@@ -1,6 +1,7 @@
 //! MurmurHash3 x64 128, first half, seed 0.
 ghost use Rattle.std.specs.Prelude.{◌≡◌, ◌+◌, ◌≤◌, ℕ, length, slice_index};
-ghost use Rattle.uf_murmur.specs.Murmur.{murmur3, word_at as eight_bytes_at, first_part as first_of, second_part as second_of, next_first, next_second, mix as mixed, finished};
+ghost use Rattle.uf_murmur.specs.Murmur.{murmur3, word_at as eight_bytes_at, first_part as first_of};
+ghost use Rattle.uf_murmur.specs.Murmur.{second_part as second_of, next_first, next_second, mix as mixed, finished};
 
 const FIRST: u64 = 0x87c3_7b91_1142_53d5;
 

@@ -1,7 +1,9 @@
 //! Paths read from texts.
-ghost use Rattle.std.specs.Prelude.{◌≡◌, ◌+◌, ◌<◌, ◌≤◌, ◌++◌, ◌⊎◌, ◌==◌, Ok, Err, List, ℕ, length, ◌-◌, ◌^◌, slice_index, MatchResult};
+ghost use Rattle.std.specs.Prelude.{◌≡◌, ◌+◌, ◌<◌, ◌≤◌, ◌++◌, ◌⊎◌, ◌==◌, Ok, Err, List, ℕ, length, ◌-◌, ◌^◌};
+ghost use Rattle.std.specs.Prelude.{slice_index, MatchResult};
 ghost use Rattle.std.specs.List.{after_first, before_first};
-ghost use Rattle.uf_path.specs.Paths.{ReadsAs, dag_at, dag_path_reads, is_slash, names_in, part_read, parts, path_reads, target_reads};
+ghost use Rattle.uf_path.specs.Paths.{ReadsAs, dag_at, dag_path_reads, is_slash, names_in, part_read, parts};
+ghost use Rattle.uf_path.specs.Paths.{path_reads, target_reads};
 ghost use Rattle.uf_path.specs.declared.faults.PathFault.TheVariants as faults;
 
 use crate::{DagPath, Path, PathFault, Target};

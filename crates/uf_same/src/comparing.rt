@@ -31,8 +31,8 @@ pub fn same<A: Store, B: Store<X = A::X>, L: Ledger>(
     ensures clash { IfOk result (ShowsTwoBlocks A.X.block32) }
     ensures differ { a.now ≢ b.now → touches.new ≡ touches.old }
 
-    // A fault of either side is one of loads and has its cause, where it isn't the left one's no block is missing there,
-    // and both tell what they told.
+    // A fault of either side is one of loads and has its cause, where it isn't the left one's no block is missing
+    // there, and both tell what they told.
     ensures loads { IfErr result IsOfLoads }
     ensures left { Shown A.X.block32 NoneIsBad (left_fault result) (A.seen left.old) (A.seen left.new) }
     ensures right { Shown A.X.block32 NoneIsBad (right_fault result) (B.seen right.old) (B.seen right.new) }

@@ -100,8 +100,8 @@ pub fn trace<S: Store, N: NameHash, L: Ledger>(
     trace_from::<S, N, L>(alloc, store, 7, root, name, Cids::new(alloc), touches)
 }
 
-/// The same after a load of the root: the store lends its block, which is this shard's, so it isn't loaded again. At most
-/// seven touches.
+/// The same after a load of the root: the store lends its block, which is this shard's, so it isn't loaded again. At
+/// most seven touches.
 pub fn trace_below<S: Store, N: NameHash, L: Ledger>(
     alloc: Global,
     store: &mut S,

@@ -83,8 +83,8 @@ pub fn put<S: Store, N: NameHash, L: Ledger>(
     put_placed::<S, N, L>(alloc, store, &node, name, entry, touches)
 }
 
-/// The same after a load of the root: the store lends its block, which is this shard's, so it isn't loaded again. At most
-/// 15 touches.
+/// The same after a load of the root: the store lends its block, which is this shard's, so it isn't loaded again. At
+/// most 15 touches.
 pub fn put_below<S: Store, N: NameHash, L: Ledger>(
     alloc: Global,
     store: &mut S,

@@ -26,7 +26,8 @@ ghost use Rattle.uf_shard.specs.Planned.{IsPlanned};
 ghost use Rattle.uf_shard.specs.Reached.{HasFirst, IsReached};
 ghost use Rattle.uf_shard.specs.Changed.{AreItems, IsItemAt, IsSlot, below, blocks_of};
 ghost use Rattle.uf_shard.specs.Taken.{AgreesLeft, AreInSlots, IsLeftOf, IsValidRest, LeafWithout, LeavesBelow};
-ghost use Rattle.uf_shard.specs.Taken.{LeavesShard, SavesNothing, SavesRest, TakesSlot, TakesSlots, UnsavedBelow, UnsavedItems};
+ghost use Rattle.uf_shard.specs.Taken.{LeavesShard, SavesNothing, SavesRest, TakesSlot, TakesSlots, UnsavedBelow};
+ghost use Rattle.uf_shard.specs.Taken.{UnsavedItems};
 ghost use Rattle.uf_shard.specs.Taken.{UnsavedRest, collapsed, left_without};
 ghost use Rattle.uf_shard.specs.declared.removed.Removed.TheVariants.{Absent};
 ghost use Rattle.uf_shard.specs.declared.rest.Rest.TheVariants.{Same};
@@ -45,9 +46,9 @@ use uf_store::{Role, Steps, Store, StoreFault};
 use uf_tree::{Item, Items, Meta, Name, Placed, ShardNode};
 
 /// Takes a name out of the directory whose shard tree has this root, and answers what is left (UnixFS v1,
-/// "HAMTDirectory"). The directory's metadata stays. A shard below the root that is left with one entry gives way to that
-/// entry, level by level. Only the shards on the name's way are loaded and saved: at most 16 touches, and at most eight
-/// where the name isn't there. Nothing is saved where the name isn't there or is the only one.
+/// "HAMTDirectory"). The directory's metadata stays. A shard below the root that is left with one entry gives way to
+/// that entry, level by level. Only the shards on the name's way are loaded and saved: at most 16 touches, and at most
+/// eight where the name isn't there. Nothing is saved where the name isn't there or is the only one.
 pub fn remove<S: Store, N: NameHash, L: Ledger>(
     alloc: Global,
     store: &mut S,
@@ -83,8 +84,8 @@ pub fn remove<S: Store, N: NameHash, L: Ledger>(
     remove_placed::<S, N, L>(alloc, store, &node, name, touches)
 }
 
-/// The same after a load of the root: the store lends its block, which is this shard's, so it isn't loaded again. At most
-/// 15 touches, and at most seven where the name isn't there.
+/// The same after a load of the root: the store lends its block, which is this shard's, so it isn't loaded again. At
+/// most 15 touches, and at most seven where the name isn't there.
 pub fn remove_below<S: Store, N: NameHash, L: Ledger>(
     alloc: Global,
     store: &mut S,

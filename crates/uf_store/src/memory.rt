@@ -249,7 +249,8 @@ impl<X: BlockHash> Store for MemStore<X> {
         ensures seen { Looks cid.now result (memory_seen self.old) (memory_seen self.new) }
         ensures touch { touches.new ≡ touches.old + 1 }
 
-        // It counts as a load, and fails exactly where one is to fail; else a block that is held is there, and no other.
+        // It counts as a load, and fails exactly where one is to fail; else a block that is held is there, and no
+        // other.
         ensures fails { (result ≡ Presence.Failed) ↔ IsDue (failures_of self.old).load }
         ensures there { ¬ IsDue (failures_of self.old).load → IsSome (held_at (contents_of self.old) cid.now)
             → result ≡ Presence.There }

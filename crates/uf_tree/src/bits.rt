@@ -1,5 +1,6 @@
 //! The bitfield of a shard.
-ghost use Rattle.std.specs.Prelude.{◌≡◌, ◌==◌, ◌<◌, ◌≤◌, ◌*◌, ◌-◌, ℕ, IfOk, false, if◌then◌else◌, length, map, slice_index_or};
+ghost use Rattle.std.specs.Prelude.{◌≡◌, ◌==◌, ◌<◌, ◌≤◌, ◌*◌, ◌-◌, ℕ, IfOk, false, if◌then◌else◌, length, map};
+ghost use Rattle.std.specs.Prelude.{slice_index_or};
 ghost use Rattle.std.specs.List.{list_any, range_with_len};
 ghost use Rattle.uf_tree.specs.Bits.{byte_from};
 ghost use Rattle.uf_tree.specs.Nodes.{InSlot, bitfield as the_bitfield, without_zeros};

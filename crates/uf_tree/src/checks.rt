@@ -4,7 +4,8 @@ ghost use Rattle.std.specs.List.{AllByRecursion};
 ghost use Rattle.std.specs.Ordering.{is_lt, nat_cmp};
 ghost use Rattle.uf_tree.specs.Names.{names_cmp};
 ghost use Rattle.uf_tree.specs.Rising.{rises};
-ghost use Rattle.uf_tree.specs.Validity.{IsDirNode, IsDirectory, IsFileNode, IsInSlot, IsNamed, IsPartLink, IsShard, IsShardNode};
+ghost use Rattle.uf_tree.specs.Validity.{IsDirNode, IsDirectory, IsFileNode, IsInSlot, IsNamed, IsPartLink, IsShard};
+ghost use Rattle.uf_tree.specs.Validity.{IsShardNode};
 
 use crate::{DirNode, FileNode, Item, Items, Pair, Pairs, Placed, ShardNode};
 use std::cmp::Ordering;

@@ -1,5 +1,6 @@
 //! Nodes of files, written and read.
-ghost use Rattle.std.specs.Prelude.{◌≡◌, ◌<◌, ◌≤◌, ◌^◌, ◌++◌, ◌↔◌, ◌*◌, ◌+◌, Some, IfOk, IsTrue, MatchOption, MatchResult, OnOk, length, sum};
+ghost use Rattle.std.specs.Prelude.{◌≡◌, ◌<◌, ◌≤◌, ◌^◌, ◌++◌, ◌↔◌, ◌*◌, ◌+◌, Some, IfOk, IsTrue, MatchOption};
+ghost use Rattle.std.specs.Prelude.{MatchResult, OnOk, length, sum};
 ghost use Rattle.uf_cid.specs.declared.bytes.StrictFault.TheVariants as strict;
 ghost use Rattle.std.specs.List.{AllByRecursion};
 ghost use Rattle.uf_dagpb.specs.Spelling.{link_bytes, links_bytes, node_bytes};

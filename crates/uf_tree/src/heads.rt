@@ -1,11 +1,15 @@
 //! The note Head, written and read (this project's own format).
-ghost use Rattle.std.specs.Prelude.{◌≡◌, ℕ, List, ◌<◌, ◌≤◌, ◌^◌, ◌++◌, ◌↔◌, ◌&&◌, ◌⊎◌, IfErr, IfOk, IsTrue, OnOk, codes, length, nat_le, if◌then◌else◌};
+ghost use Rattle.std.specs.Prelude.{◌≡◌, ℕ, List, ◌<◌, ◌≤◌, ◌^◌, ◌++◌, ◌↔◌, ◌&&◌, ◌⊎◌, IfErr, IfOk, IsTrue, OnOk};
+ghost use Rattle.std.specs.Prelude.{codes, length, nat_le, if◌then◌else◌};
 ghost use Rattle.std.specs.Fmt.{decimal};
 ghost use Rattle.std.specs.Option.{option_copied, option_map};
 ghost use Rattle.uf_cid.specs.Read.{IsCid};
 ghost use Rattle.uf_cid.specs.declared.cid.Cid.{Cid as TheCid};
 ghost use Rattle.uf_cid.specs.declared.cid.Codec.TheVariants.{DagPb as NodeCodec};
-ghost use Rattle.uf_tree.specs.HeadReading.{GivesHead, behind as behind_word, first_line as first_line_of, head_reads, is_node as is_node_codec, line_at, number_in, number_line as number_line_of, root_in, root_line as root_line_of, worded_at};
+ghost use Rattle.uf_tree.specs.HeadReading.{GivesHead, behind as behind_word, first_line as first_line_of, head_reads};
+ghost use Rattle.uf_tree.specs.HeadReading.{is_node as is_node_codec, line_at, number_in};
+ghost use Rattle.uf_tree.specs.HeadReading.{number_line as number_line_of, root_in, root_line as root_line_of};
+ghost use Rattle.uf_tree.specs.HeadReading.{worded_at};
 ghost use Rattle.uf_tree.specs.Heads.{head_text as text_of_head, line as the_line, IsHeadOf, IsHeadText};
 ghost use Rattle.uf_tree.specs.Profiles.{is_profile};
 ghost use Rattle.uf_tree.specs.Standing.{IsRefusedText};

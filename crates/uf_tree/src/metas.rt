@@ -2,7 +2,8 @@
 ghost use Rattle.std.specs.Prelude.{◌≡◌};
 ghost use Rattle.uf_message.specs.declared.message.Message.{Message as TheMessage};
 ghost use Rattle.uf_tree.specs.Codecs.{meta_in};
-ghost use Rattle.uf_tree.specs.Metas.{is_bare as is_bare_meta, is_meta, is_mode as is_mode_value, is_mtime as is_mtime_value, none};
+ghost use Rattle.uf_tree.specs.Metas.{is_bare as is_bare_meta, is_meta, is_mode as is_mode_value};
+ghost use Rattle.uf_tree.specs.Metas.{is_mtime as is_mtime_value, none};
 
 use crate::Meta;
 use uf_message::{Message, Mtime};

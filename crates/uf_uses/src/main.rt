@@ -1,7 +1,7 @@
 //! A first caller of the mutable tree: it makes a folder in a store in memory, and prints the CID of the root.
 //!
-//! Read folder.rt next. It shows what a caller of `uf_mfs` hands over, what the clauses of three calls say, and what follows
-//! from them: the root is that of the plain tree with this folder.
+//! Read folder.rt next. It shows what a caller of `uf_mfs` hands over, what the clauses of three calls say, and what
+//! follows from them: the root is that of the plain tree with this folder.
 #![tactic(auto)]
 
 ghost use Rattle.std.specs.Prelude.{◌≡◌, ◌<◌};

@@ -1,7 +1,8 @@
 //! What holds of the spellings, whoever writes or reads them.
 ghost use Rattle.std.specs.List.{AllByRecursion};
 ghost use Rattle.std.specs.Prelude.{◌≡◌, ◌↔◌, ◌<◌, ◌^◌, ◌%◌, ◌++◌, ◌∷◌, [], List, ℕ, Ok, length, take};
-ghost use Rattle.uf_varint.specs.Fields.{Number, Bytes, Keyed, fields, key_then, number_at, number_field, content_field};
+ghost use Rattle.uf_varint.specs.Fields.{Number, Bytes, Keyed, fields, key_then, number_at, number_field};
+ghost use Rattle.uf_varint.specs.Fields.{content_field};
 ghost use Rattle.uf_varint.specs.Varint.{varint, read_multi_of, read_proto_of, AreHigh};
 ghost use Rattle.uf_varint.specs.declared.varint.Var.TheVariants.{Value, Short};
 

@@ -45,8 +45,8 @@ impl<T: Drop> From<AllocFailed<T>> for WordFault {
     }
 }
 
-/// A command with its options and arguments. Paths, targets and CIDs are words as they were given: they are read when the
-/// command is run.
+/// A command with its options and arguments. Paths, targets and CIDs are words as they were given: they are read when
+/// the command is run.
 #[derive(Drop)]
 pub enum Cmd {
     /// `init [--chunk N] [--width N] [--threshold N]`

@@ -8,7 +8,9 @@ ghost use Rattle.clap.specs.Matches.{found_of};
 ghost use Rattle.clap.specs.Simple.{app_of, with_rule};
 ghost use Rattle.clap.specs.Faults.{is_simple_and_free};
 ghost use Rattle.uf_words.specs.Commands.{ReadsWords};
-ghost use Rattle.uf_words.specs.Options.{FindsIn, argument, flag, found_by, is_flagged, is_mode, is_numeral, is_octal_digit, long_flag, mode_value, numeral_value, number_or, optional_argument, simple_command, valued, valued_short};
+ghost use Rattle.uf_words.specs.Options.{FindsIn, argument, flag, found_by, is_flagged, is_mode, is_numeral};
+ghost use Rattle.uf_words.specs.Options.{is_octal_digit, long_flag, mode_value, numeral_value, number_or};
+ghost use Rattle.uf_words.specs.Options.{optional_argument, simple_command, valued, valued_short};
 
 use crate::WordFault;
 use clap::error::ErrorKind;

@@ -2,7 +2,12 @@
 ghost use Rattle.std.specs.Prelude.{◌≡◌, [], map, string_bytes, IfOk};
 ghost use Rattle.clap.specs.Matches.{found_of};
 ghost use Rattle.clap.specs.Walk.{rows_of, first_of};
-ghost use Rattle.uf_words.specs.Commands.{IsWithinLimits, ReadsWords, add_of, add_words, bare, bytes_or_none, check_words, chmod_words, command_of, dag_words, decoded_hex, ends_with_slash, files_words, flag_and_argument, gen_words, init_of, init_words, ls_words, one_argument, other_words, pin_words, places_well, prove_words, read_words_of, repo_words, touch_words, truncate_words, two_arguments, write_words_of};
+ghost use Rattle.uf_words.specs.Commands.{IsWithinLimits, ReadsWords, add_of, add_words, bare, bytes_or_none};
+ghost use Rattle.uf_words.specs.Commands.{check_words, chmod_words, command_of, dag_words, decoded_hex};
+ghost use Rattle.uf_words.specs.Commands.{ends_with_slash, files_words, flag_and_argument, gen_words, init_of};
+ghost use Rattle.uf_words.specs.Commands.{init_words, ls_words, one_argument, other_words, pin_words, places_well};
+ghost use Rattle.uf_words.specs.Commands.{prove_words, read_words_of, repo_words, touch_words, truncate_words};
+ghost use Rattle.uf_words.specs.Commands.{two_arguments, write_words_of};
 ghost use Rattle.uf_words.specs.Options.{found_in};
 
 use crate::options::{

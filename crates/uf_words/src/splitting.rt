@@ -8,8 +8,8 @@ use crate::WordFault;
 use percent_encoding::{DecodeError, percent_decode};
 use std::alloc::{AllocError, Global};
 
-/// The words of a line: it is split at runs of spaces, and each word is decoded (percent-encoding, RFC 3986 section 2.1).
-/// Usage comes where the bytes of a word aren't UTF-8.
+/// The words of a line: it is split at runs of spaces, and each word is decoded (percent-encoding, RFC 3986 section
+/// 2.1). Usage comes where the bytes of a word aren't UTF-8.
 pub fn split_line(alloc: Global, line: &[u8]) -> Result<Vec<String>, WordFault>
     ensures words { IfOk result (λ words. map string_bytes words.items ≡ line_words line.now) }
     ensures text { OnOk result (All IsUtf8 (line_words line.now)) }

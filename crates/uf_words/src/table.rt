@@ -2,7 +2,8 @@
 ghost use Rattle.std.specs.Prelude.{◌≡◌, [], ◌∷◌, true, IfOk};
 ghost use Rattle.clap.specs.Faults.{is_simple_and_free};
 ghost use Rattle.clap.specs.Simple.{app_of};
-ghost use Rattle.uf_words.specs.Commands.{add_options, check_options, init_options, ls_options, prove_options, read_options, touch_options, write_options, write_place};
+ghost use Rattle.uf_words.specs.Commands.{add_options, check_options, init_options, ls_options, prove_options};
+ghost use Rattle.uf_words.specs.Commands.{read_options, touch_options, write_options, write_place};
 ghost use Rattle.uf_words.specs.Options.{argument, flag, simple_command};
 
 use crate::options::{
