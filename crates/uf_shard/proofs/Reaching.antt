@@ -16,6 +16,7 @@ use Rattle.uf_store.specs.Seen.{Seen}
 use Rattle.uf_store.specs.declared.store.StoreFault.{StoreFault}
 use Rattle.uf_store.specs.declared.store.StoreFault.TheVariants.{Failed, Damaged, Missing, BadBlock, Clash, Memory}
 use Rattle.uf_tree.specs.declared.nodes.Entry.{Entry}
+use Rattle.uf_tree.specs.declared.nodes.ShardNode.{ShardNode}
 use Rattle.uf_tree.specs.FilePlan.{Plan}
 use Rattle.uf_tree.specs.declared.meta.Meta.{Meta}
 use Rattle.uf_tree.specs.Codecs.{shard_node_block}
@@ -34,13 +35,19 @@ use Rattle.uf_tree.proofs.Valid.{node_entry-valid, shard-valid, shard_items-vali
 use Rattle.uf_store.specs.Lost.{FindsOver}
 use Rattle.uf_shard.specs.Placed.{IsBadOnWay, way}
 use Rattle.uf_shard.specs.Planned.{IsPlanned}
-use Rattle.uf_shard.specs.Reached.{IsReached, LooksAt, SaysOf}
+use Rattle.uf_shard.specs.Reached.{HasPlaced, IsReached, LoadsPlaced}
 use Rattle.uf_shard.specs.Spots.{spot_of}
 use Rattle.uf_shard.specs.declared.spot.Spot.{Spot}
 use Rattle.uf_shard.specs.declared.spot.Spot.TheVariants.{Here, Below}
 use Rattle.uf_shard.proofs.Carrying.{none-behind}
 use Rattle.uf_shard.proofs.One.{same-items}
 use Rattle.uf_shard.proofs.Ways.{way-length, further}
+
+-- the block was found, and is a shard that says this of a name
+pub record SaysOf (N : List ℕ → ℕ) (hash level : ℕ) (cid : Cid) (name : List ℕ) (before : Seen) (spot : Spot) : Type 0 where
+  pub node : ShardNode
+  pub has : HasPlaced N hash level cid before node
+  pub says : spot ≡ spot_of name (find nat_cmp (slot hash level) node.items)
 
 -- the level that has so many below it
 abbrev pub level_of : ℕ → ℕ
@@ -186,7 +193,7 @@ module _ (X : List ℕ → List ℕ) (N : List ℕ → ℕ) where
 
     -- a fault that shows its cause while the store stayed calm
     pub find-err : (left : ℕ) (root : Cid) (m : Meta) (l : List Named) → left ≤ 7 → (before now : Seen) (fault : StoreFault) (value : Option Entry)
-        → LooksAt N (N name) (7 - left) root name before now (Err fault) → Answers {A = Spot} X (IsBadOnWay N (N name)) (Err fault) before now
+        → LoadsPlaced N (N name) (7 - left) root before now (Err fault) → Answers {A = Spot} X (IsBadOnWay N (N name)) (Err fault) before now
         → IsReached X N (N name) left root m l → Agrees before.told (shard_trail X N left m l name) → Stood before.faults now.faults
         → FindsOver before.told (shard_trail X N left m l name) value (Err fault)
     find-err left root m l low before now Failed value looks cause is agrees stood = let r = cause.rose in omega (arith, r, stood)

@@ -2,13 +2,11 @@
 use Rattle.std.proofs.Common.{◌≡◌, ℕ, zero, suc, ◌-◌, ◌<◌, ◌≤◌, List, [], ◌∷◌, ◌++◌, refl, ap, append_assoc, arith, sym, ◌∙◌, subst, Bool, false, Option, Some, None, Result, Err}
 use Rattle.std.specs.Prelude.{IfSome, IsTrue, ◌↔◌}
 use Rattle.std.specs.FinMap.Entries.{find}
-use Rattle.std.specs.Ordering.{nat_cmp}
 use Rattle.uf_cid.specs.declared.cid.Cid.{Cid}
 use Rattle.uf_cid.specs.Blocks.{Held}
 use Rattle.uf_edge.specs.Counts.{Stood}
-use Rattle.uf_murmur.specs.Slots.{slot}
 use Rattle.uf_store.specs.Contents.{Told, held_at}
-use Rattle.uf_store.specs.Keeping.{Agrees, Holds, HoldsOne}
+use Rattle.uf_store.specs.Keeping.{Agrees, Holds}
 use Rattle.uf_store.specs.Lost.{FindsOver}
 use Rattle.uf_store.specs.Seen.{Finds, Seen}
 use Rattle.uf_store.specs.declared.store.Role.TheVariants.{Shard}
@@ -18,21 +16,21 @@ use Rattle.uf_tree.specs.declared.nodes.Entry.{Entry}
 use Rattle.uf_tree.specs.Metas.{none}
 use Rattle.uf_tree.specs.Codecs.{shard_node_block}
 use Rattle.uf_tree.specs.Names.{names_cmp}
-use Rattle.uf_tree.specs.Nodes.{InSlot, Named}
+use Rattle.uf_tree.specs.Nodes.{Named}
 use Rattle.uf_tree.specs.declared.meta.Meta.{Meta}
 use Rattle.uf_tree.specs.declared.nodes.ShardNode.{ShardNode}
 use Rattle.uf_tree.specs.ShardPlan.{shard, shard_trail, slot_item}
 use Rattle.uf_tree.specs.Validity.{IsHash, IsShardNode}
 use Rattle.uf_shard.specs.Placed.{IsPlacedNode}
 use Rattle.uf_shard.specs.Planned.{IsPlanned}
-use Rattle.uf_shard.specs.Reached.{IsReached, SaysOf}
+use Rattle.uf_shard.specs.Reached.{IsReached}
 use Rattle.uf_shard.specs.Spots.{HasRoom, spot_of}
 use Rattle.uf_shard.specs.Trails.{traced_behind, trail_cids}
 use Rattle.uf_shard.specs.declared.spot.Spot.{Spot}
 use Rattle.uf_shard.specs.declared.spot.Spot.TheVariants.{Here, Below}
 use Rattle.uf_shard.specs.declared.traced.Traced.{Traced}
-use Rattle.uf_shard.proofs.Firsts.{found-calm, misplaced-reads, misplaced-there}
-use Rattle.uf_shard.proofs.Reaching.{Goes, below_goes, deeper_of, find-err, find-here-at, find-slot, head-held, head_of, here_value, it_says, over_more, reached-root, reached_below, root-is, slot_of, trail-is, trail_below}
+use Rattle.uf_shard.proofs.Firsts.{misplaced-reads, misplaced-there}
+use Rattle.uf_shard.proofs.Reaching.{Goes, SaysOf, below_goes, deeper_of, find-err, find-here-at, find-slot, head-held, head_of, here_value, it_says, over_more, reached-root, reached_below, root-is, slot_of, trail-is, trail_below}
 
 -- a fault is that of a loss, whatever is looked for
 pub loses : {A B : Type 0} (told : Told) (l : List Held) (v : A) (w : B) (f : StoreFault) → FindsOver told l v (Err f) → FindsOver told l w (Err f)
@@ -42,11 +40,6 @@ loses told l v w (Missing c) h = h
 loses told l v w (BadBlock c role) h = h
 loses told l v w (Clash c a b) h = h
 loses told l v w Memory h = h
-
--- a shard may stand below the root
-pub room-first : (spot : Spot) → HasRoom 0 spot
-room-first (Here e) = tt
-room-first (Below c) = omega arith
 
 module _ (X : List ℕ → List ℕ) (N : List ℕ → ℕ) (good : IsHash X) (name : List ℕ) where
   abbrev path : ℕ → Meta → List Named → List Held
@@ -139,14 +132,6 @@ module _ (X : List ℕ → List ℕ) (N : List ℕ → ℕ) (good : IsHash X) (n
   seven : 7 ≤ 7
   seven = omega arith
 
-  pub says-of : (root : Cid) (node : ShardNode) → IsPlacedNode N [] node → (before : Seen) → HoldsOne before.told root (shard_node_block node) → (spot : Spot) (s : ℕ) (slice : List InSlot) → s ≡ slot (N name) 0 → slice ≡ node.items
-      → spot ≡ spot_of name (find nat_cmp s slice) → SaysOf N (N name) 0 root name before spot
-  says-of root node placed before held spot s slice at same says = record {
-    node = node;
-    has = record { is = placed; is_held = held };
-    says = says ∙ ap (λ (k : ℕ). spot_of name (find nat_cmp k slice)) at ∙ ap (λ (i : List InSlot). spot_of name (find nat_cmp (slot (N name) 0) i)) same;
-  }
-
   module _ (root : Cid) (before mid : Seen) (finds : Finds X root before mid) where
     -- it isn't canonical there
     pub misplaced-value : (node : ShardNode) → IsShardNode node → mid.lent ≡ shard_node_block node → (b : Bool) → IsTrue b ↔ IsPlacedNode N [] node → b ≡ false
@@ -156,12 +141,3 @@ module _ (X : List ℕ → List ℕ) (N : List ℕ → ℕ) (good : IsHash X) (n
         loses {A = Option Entry} {B = Traced} before.told (path 7 m l) absent (found [] 7 m l) (BadBlock root (Shard 0))
         (find-err X N good name 7 root m l seven before mid (BadBlock root (Shard 0)) absent (misplaced-there X root before mid finds node valid lent N name b iff fails)
         (misplaced-reads X root before mid finds node valid lent N name b iff fails).cause (reached-root X N good name root m l is) agrees stood)
-
-    -- it is
-    pub placed-value : (now : Seen) (m : Meta) (l : List Named) (r : Result Traced StoreFault) (block : List ℕ) → mid.lent ≡ block
-        → (HoldsOne mid.told root block → IsReached X N (N name) 7 root m l → Agrees mid.told (path 7 m l) → Stood mid.faults now.faults → FindsOver mid.told (path 7 m l) (found [] 7 m l) r)
-        → IsPlanned X N root m l → Agrees before.told (path 7 m l) → Stood before.faults now.faults → FindsOver before.told (path 7 m l) (found [] 7 m l) r
-    placed-value now m l r block lent answer is agrees stood =
-        subst (λ (told : Told). FindsOver told (path 7 m l) (found [] 7 m l) r) finds.same_told
-        (answer (subst (λ (t : Told). HoldsOne t root block) (sym finds.same_told) (subst (λ (b : List ℕ). HoldsOne before.told root b) lent finds.is_held)) (reached-root X N good name root m l is)
-        (subst (λ (told : Told). Agrees told (path 7 m l)) (sym finds.same_told) agrees) (subst (λ (n : ℕ). Stood n now.faults) (sym (found-calm X root before mid finds).faults) stood))

@@ -2,11 +2,8 @@
 use Rattle.std.specs.Prelude.{◌≡◌, ◌≤◌, ◌-◌, ℕ, List, length, ⊤, Some, None, IfSome, IsTrue}
 use Rattle.std.specs.declared.result.Result.{Result}
 use Rattle.std.specs.declared.result.Result.TheVariants.{Ok, Err}
-use Rattle.std.specs.FinMap.Entries.{find}
 use Rattle.std.specs.List.{AllByRecursion}
-use Rattle.std.specs.Ordering.{nat_cmp}
 use Rattle.uf_cid.specs.declared.cid.Cid.{Cid}
-use Rattle.uf_murmur.specs.Slots.{slot}
 use Rattle.uf_store.specs.Calls.{OnlyReads}
 use Rattle.uf_store.specs.Contents.{held_at}
 use Rattle.uf_store.specs.Seen.{Seen}
@@ -24,8 +21,6 @@ use Rattle.uf_tree.specs.ShardPlan.{shard}
 use Rattle.uf_tree.specs.Shardable.{HasShard}
 use Rattle.uf_tree.specs.Validity.{IsDirectory}
 use Rattle.uf_shard.specs.Placed.{IsBadOnWay, IsPlacedNode, way}
-use Rattle.uf_shard.specs.Spots.{spot_of}
-use Rattle.uf_shard.specs.declared.spot.Spot.{Spot}
 
 -- the CID is that of the shard with this metadata and these pairs, which is reached on the way of a hash with so many
 -- levels left
@@ -65,15 +60,3 @@ LoadsPlaced N hash level cid before now (Err (Missing c)) = (c ≡ cid) × IfSom
 LoadsPlaced N hash level cid before now (Err (BadBlock c role)) = IsBadThere N hash level cid role before now
 LoadsPlaced N hash level cid before now (Err (Clash c held bytes)) = ⊥
 LoadsPlaced N hash level cid before now (Err Memory) = ⊤
-
--- the block was found, and is a shard that says this of a name
-pub record SaysOf (N : List ℕ → ℕ) (hash level : ℕ) (cid : Cid) (name : List ℕ) (before : Seen) (spot : Spot)
-    : Type 0 where
-  pub node : ShardNode
-  pub has : HasPlaced N hash level cid before node
-  pub says : spot ≡ spot_of name (find nat_cmp (slot hash level) node.items)
-
--- the same of a load after which the shard says what it has of a name
-abbrev pub LooksAt : (List ℕ → ℕ) → ℕ → ℕ → Cid → List ℕ → Seen → Seen → Result Spot StoreFault → Type 0
-LooksAt N hash level cid name before now (Ok spot) = SaysOf N hash level cid name before spot
-LooksAt N hash level cid name before now (Err fault) = LoadsPlaced N hash level cid before now (Err fault)

@@ -1,10 +1,13 @@
 //! A name looked up, and the shards that decide it.
-ghost use Rattle.std.specs.Prelude.{◌≡◌, ◌<◌, ◌≤◌, ◌+◌, ◌-◌, [], List, IfOk};
+ghost use Rattle.std.specs.Prelude.{◌≡◌, ◌<◌, ◌≤◌, ◌+◌, ◌-◌, ◌++◌, ◌∷◌, [], List, None};
 ghost use Rattle.std.specs.FinMap.Entries.{find as value_of};
+ghost use Rattle.std.specs.Ordering.{nat_cmp};
+ghost use Rattle.uf_cid.specs.declared.cid.Cid.{Cid as TheCid};
 ghost use Rattle.uf_edge.specs.Counts.{Stood};
+ghost use Rattle.uf_murmur.specs.Slots.{slot as slot_of};
 ghost use Rattle.uf_store.specs.Calls.{OnlyReads};
 ghost use Rattle.uf_store.specs.Faults.{Answers, fault_in};
-ghost use Rattle.uf_store.specs.Keeping.{Agrees, HoldsOne};
+ghost use Rattle.uf_store.specs.Keeping.{Agrees};
 ghost use Rattle.uf_store.specs.Lost.{FindsOver};
 ghost use Rattle.uf_store.specs.Seen.{Finds, Seen};
 ghost use Rattle.uf_tree.specs.Codecs.{shard_node_block};
@@ -13,10 +16,10 @@ ghost use Rattle.uf_tree.specs.Names.{names_cmp};
 ghost use Rattle.uf_tree.specs.Nodes.{Named};
 ghost use Rattle.uf_tree.specs.ShardPlan.{shard_trail};
 ghost use Rattle.uf_tree.specs.Validity.{IsShardNode};
-ghost use Rattle.uf_shard.specs.Placed.{IsBadOnWay, IsPlacedNode};
+ghost use Rattle.uf_shard.specs.Placed.{IsBadOnWay, IsPlacedNode, way};
 ghost use Rattle.uf_shard.specs.Planned.{IsPlanned};
-ghost use Rattle.uf_shard.specs.Reached.{IsReached, LooksAt};
-ghost use Rattle.uf_shard.specs.Spots.{HasRoom};
+ghost use Rattle.uf_shard.specs.Reached.{HasFirst, HasPlaced, IsReached};
+ghost use Rattle.uf_shard.specs.Spots.{HasRoom, spot_of};
 ghost use Rattle.uf_shard.specs.Trails.{traced, traced_behind, trail_cids};
 
 use crate::loading::{load_shard, slot_at};
@@ -97,7 +100,8 @@ pub fn trace<S: Store, N: NameHash, L: Ledger>(
     ensures touches { touches.new ≤ touches.old + 8 }
     ensures touched { touches.old < touches.new }
 {
-    trace_from::<S, N, L>(alloc, store, 7, root, name, Cids::new(alloc), touches)
+    let node = load_shard::<S, N, L>(alloc, store, 0, root, name, touches)?;
+    trace_placed::<S, N, L>(alloc, store, root, &node, name, touches)
 }
 
 /// The same after a load of the root: the store lends its block, which is this shard's, so it isn't loaded again. At
@@ -131,7 +135,7 @@ pub fn trace_below<S: Store, N: NameHash, L: Ledger>(
     }
 }
 
-// The same, where the shard is canonical at the root.
+// The same where the shard is canonical at the root.
 fn trace_placed<S: Store, N: NameHash, L: Ledger>(
     alloc: Global,
     store: &mut S,
@@ -141,29 +145,25 @@ fn trace_placed<S: Store, N: NameHash, L: Ledger>(
     touches: &mut Steps<L>,
 ) -> Result<Traced, StoreFault>
     requires { IsPlacedNode N.name64 [] node.now }
-    ensures value { (m : TheMeta) (l : List Named)
-        → HoldsOne (S.seen store.old).told root.now (shard_node_block node.now)
-        → IsReached S.X.block32 N.name64 (N.name64 name.now) 7 root.now m l
-        → Agrees (S.seen store.old).told (shard_trail S.X.block32 N.name64 7 m l name.now)
-        → Stood (S.seen store.old).faults (S.seen store.new).faults
-        → FindsOver (S.seen store.old).told (shard_trail S.X.block32 N.name64 7 m l name.now)
+    ensures value { (before : Seen) (m : TheMeta) (l : List Named)
+        → HasFirst S.X.block32 N.name64 (N.name64 name.now) root.now node.now before (S.seen store.old)
+        → IsPlanned S.X.block32 N.name64 root.now m l
+        → Agrees before.told (shard_trail S.X.block32 N.name64 7 m l name.now)
+        → Stood before.faults (S.seen store.new).faults
+        → FindsOver before.told (shard_trail S.X.block32 N.name64 7 m l name.now)
         (traced (value_of names_cmp name.now l) (shard_trail S.X.block32 N.name64 7 m l name.now)) result }
     ensures reads { OnlyReads S.X.block32 (IsBadOnWay N.name64 (N.name64 name.now)) (fault_in result)
         (S.seen store.old) (S.seen store.new) }
     ensures touches { touches.new ≤ touches.old + 7 }
     ensures touched { touches.old ≤ touches.new }
 {
-    let slot = slot_at::<N>(name, 0);
-    let spot = spot_in(node.items.as_slice(), slot, name);
     let mut cids = Cids::new(alloc);
     cids.push(*root)?;
-    match spot {
-        Spot::Here(entry) => Ok(Traced { entry, trail: cids }),
-        Spot::Below(cid) => trace_from::<S, N, L>(alloc, store, 6, &cid, name, cids, touches),
-    }
+    trace_in::<S, N, L>(alloc, store, 7, node, name, cids, touches)
 }
 
-// The same in the shard that has so many levels below it, with the CIDs after others.
+// The same in the shard under a CID, which has so many levels below it, with the CIDs after others.
+#[cycle(traces)]
 fn trace_from<S: Store, N: NameHash, L: Ledger>(
     alloc: Global,
     store: &mut S,
@@ -186,9 +186,40 @@ fn trace_from<S: Store, N: NameHash, L: Ledger>(
     ensures touches { touches.new ≤ touches.old + left + 1 }
     ensures touched { touches.old < touches.new }
 {
-    let spot = look::<S, N, L>(alloc, store, 7 - left, root, name, touches)?;
+    let node = load_shard::<S, N, L>(alloc, store, 7 - left, root, name, touches)?;
     let mut cids = above;
     cids.push(*root)?;
+    trace_in::<S, N, L>(alloc, store, left, &node, name, cids, touches)
+}
+
+// The same in this shard, whose CID is the last of those.
+#[cycle(traces)]
+fn trace_in<S: Store, N: NameHash, L: Ledger>(
+    alloc: Global,
+    store: &mut S,
+    left: u8,
+    node: &ShardNode,
+    name: &Name,
+    cids: Cids,
+    touches: &mut Steps<L>,
+) -> Result<Traced, StoreFault>
+    requires left { left ≤ 7 }
+    requires placed { IsPlacedNode N.name64 (way (N.name64 name.now) (7 - left)) node.now }
+    ensures value { (root : TheCid) (above : List TheCid) (before : Seen) (m : TheMeta) (l : List Named)
+        → cids ≡ above ++ root ∷ [] → HasPlaced N.name64 (N.name64 name.now) (7 - left) root before node.now
+        → OnlyReads S.X.block32 (IsBadOnWay N.name64 (N.name64 name.now)) None before (S.seen store.old)
+        → IsReached S.X.block32 N.name64 (N.name64 name.now) left root m l
+        → Agrees before.told (shard_trail S.X.block32 N.name64 left m l name.now)
+        → Stood before.faults (S.seen store.new).faults
+        → FindsOver before.told (shard_trail S.X.block32 N.name64 left m l name.now)
+        (traced_behind above (value_of names_cmp name.now l) (shard_trail S.X.block32 N.name64 left m l name.now))
+        result }
+    ensures reads { OnlyReads S.X.block32 (IsBadOnWay N.name64 (N.name64 name.now)) (fault_in result)
+        (S.seen store.old) (S.seen store.new) }
+    ensures touches { touches.new ≤ touches.old + left }
+    ensures touched { touches.old ≤ touches.new }
+{
+    let spot = spot_at::<N>(node, 7 - left, name);
     match spot {
         Spot::Here(entry) => Ok(Traced { entry, trail: cids }),
         Spot::Below(cid) => {
@@ -197,24 +228,13 @@ fn trace_from<S: Store, N: NameHash, L: Ledger>(
     }
 }
 
-// What the shard under a CID says of a name.
-fn look<S: Store, N: NameHash, L: Ledger>(
-    alloc: Global,
-    store: &mut S,
-    level: u8,
-    cid: &Cid,
-    name: &Name,
-    touches: &mut Steps<L>,
-) -> Result<Spot, StoreFault>
-    requires { level < 8 }
-    ensures looks { LooksAt N.name64 (N.name64 name.now) level cid.now name.now
-        (S.seen store.old) (S.seen store.new) result }
-    ensures room { IfOk result (HasRoom level) }
-    ensures reads { OnlyReads S.X.block32 (IsBadOnWay N.name64 (N.name64 name.now)) (fault_in result)
-        (S.seen store.old) (S.seen store.new) }
-    ensures touches { touches.new ≡ touches.old + 1 }
+// What a shard at a level says of a name.
+fn spot_at<N: NameHash>(node: &ShardNode, level: u8, name: &Name) -> Spot
+    requires level { level < 8 }
+    requires placed { IsPlacedNode N.name64 (way (N.name64 name.now) level) node.now }
+    ensures says { result ≡ spot_of name.now (value_of nat_cmp (slot_of (N.name64 name.now) level) node.now.items) }
+    ensures room { HasRoom level result }
 {
-    let node = load_shard::<S, N, L>(alloc, store, level, cid, name, touches)?;
     let slot = slot_at::<N>(name, level);
-    Ok(spot_in(node.items.as_slice(), slot, name))
+    spot_in(node.items.as_slice(), slot, name)
 }
