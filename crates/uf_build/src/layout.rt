@@ -1,7 +1,6 @@
 //! Pieces of a file, and the open groups over them.
 ghost use Rattle.std.specs.Prelude.{◌≡◌, ◌+◌, ◌<◌, ◌≤◌, ◌*◌, ◌^◌, ◌++◌, ◌∷◌, ◌⊎◌, ℕ, [], length, IfOk, OnOk, OnErr};
-ghost use Rattle.std.specs.Prelude.{IsTrue, slice_index_or};
-ghost use Rattle.uf_cid.specs.Bytes.{piece};
+ghost use Rattle.std.specs.Prelude.{IsTrue};
 ghost use Rattle.uf_cid.specs.Cid.{cid_of};
 ghost use Rattle.uf_cid.specs.declared.cid.Codec.TheVariants.{Raw};
 ghost use Rattle.uf_store.specs.Faults.{fault_in};
@@ -18,7 +17,7 @@ use crate::open::Open;
 use crate::rows;
 use std::alloc::Global;
 use std::sync::ledger::Ledger;
-use uf_cid::{BlockHash, Cid, Codec, Memory};
+use uf_cid::{Cid, Codec, Memory, digests_of};
 use uf_store::{Steps, Store, StoreFault, save_under};
 use uf_tree::{Entry, Meta, Part, Profile};
 
@@ -250,18 +249,6 @@ fn append(begun: &mut Vec<u8>, bytes: &[u8]) -> Result<(), Memory>
 {
     begun.extend_from_slice(bytes)?;
     Ok(())
-}
-
-// The digests of so many pieces of one size.
-fn digests_of<X: BlockHash>(bytes: &[u8], size: usize, count: usize) -> [[u8; 32]; 8]
-    requires count { length bytes.now ≡ count * size }
-    requires few { count ≤ 8 }
-    ensures digests { (k : ℕ) → k < count → slice_index_or result k [] ≡ X.block32 (piece bytes.now size k) }
-    ensures len { length result ≡ 8 }
-{
-    let mut digests = [[0u8; 32]; GROUP];
-    X::block32_group(bytes, size, &mut digests[..count]);
-    digests
 }
 
 // Saves a piece, and puts it into the lowest row.

@@ -1,5 +1,5 @@
 //! The hash that names a block.
-ghost use Rattle.std.specs.Prelude.{◌≡◌, ◌*◌, ◌%◌, ◌<◌, ℕ, List, [], length, slice_index_or, sum};
+ghost use Rattle.std.specs.Prelude.{◌≡◌, ◌*◌, ◌%◌, ◌<◌, ◌≤◌, ℕ, List, [], length, slice_index_or, sum};
 ghost use Rattle.sha2.specs.Sha256.{sha256};
 ghost use Rattle.sha2.proofs.Facts256.{length-sha256};
 ghost use Rattle.uf_cid.specs.Bytes.{IsBytes, piece, sha256_is_bytes};
@@ -32,6 +32,18 @@ pub trait BlockHash {
     ghost size: { (block : List ℕ) → length (block32 block) ≡ 32 };
 
     ghost are_bytes: { (block : List ℕ) → IsBytes (block32 block) };
+}
+
+/// The digests of so many pieces of one size, one after another in a buffer.
+pub fn digests_of<X: BlockHash>(bytes: &[u8], size: usize, count: usize) -> [[u8; 32]; 8]
+    requires count { length bytes.now ≡ count * size }
+    requires few { count ≤ 8 }
+    ensures digests { (k : ℕ) → k < count → slice_index_or result k [] ≡ X.block32 (piece bytes.now size k) }
+    ensures len { length result ≡ 8 }
+{
+    let mut digests = [[0u8; 32]; 8];
+    X::block32_group(bytes, size, &mut digests[..count]);
+    digests
 }
 
 /// SHA-256 (FIPS 180-4), as the crate `sha2` promises it. Pieces of one size are hashed eight at a time, side by side.

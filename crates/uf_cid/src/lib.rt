@@ -11,7 +11,7 @@ mod seq;
 
 pub use bytes::{Block, Memory, StrictFault, Text, zeros};
 pub use cid::{Cid, CidFault, Codec};
-pub use hash::{BlockHash, Sha256Hash, Sum8Hash};
+pub use hash::{BlockHash, Sha256Hash, Sum8Hash, digests_of};
 pub use laws::{
     binary_is_one, binary_is_read_again, cases_are_one, cids_are_whole, slices_hold_bytes,
     text_is_read_again,

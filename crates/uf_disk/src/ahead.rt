@@ -8,7 +8,7 @@ use std::alloc::Global;
 use std::fs::Files;
 use std::marker::PhantomData;
 use std::random::RandomSource;
-use uf_cid::{BlockHash, Cid, Codec};
+use uf_cid::{BlockHash, Cid, Codec, digests_of};
 
 /// How many blocks are read ahead at most, which are hashed side by side.
 const GROUP: usize = 8;
@@ -135,15 +135,4 @@ fn gather<R: Files + RandomSource>(
         }
     }
     (count, size)
-}
-
-// The digests of so many pieces of one size.
-fn digests_of<X: BlockHash>(bytes: &[u8], size: usize, count: usize) -> [[u8; 32]; 8]
-    requires count { length bytes.now ≡ count * size }
-    requires few { count ≤ 8 }
-    ensures digests { (k : ℕ) → k < count → slice_index_or result k [] ≡ X.block32 (piece bytes.now size k) }
-{
-    let mut digests = [[0u8; 32]; GROUP];
-    X::block32_group(bytes, size, &mut digests[..count]);
-    digests
 }
