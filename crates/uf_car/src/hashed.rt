@@ -78,7 +78,7 @@ impl<X: BlockHash> Hashed<X> {
     }
 
     // Hashes the blocks of the first sections of some bytes, as far as they have this length, in the place of those
-    // that are here. One block alone is left.
+    // that are here. Those stay where there are fewer bytes than two such blocks have.
     fn hash_ahead(&mut self, ahead: &[u8], size: usize)
         requires { size ≤ 2097152 }
     {
