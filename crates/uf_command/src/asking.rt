@@ -242,12 +242,10 @@ fn read_prove(alloc: Global, absent: bool, path: &Text) -> Result<Command, Refus
 pub fn read_cid(alloc: Global, text: &str) -> Result<Cid, PathFault>
     ensures { ReadsAs result (cid_reads text.now) }
 {
-    match DagPath::parse(alloc, text) {
-        Err(why) => Err(why),
-        Ok(path) => match path.names.as_slice() {
-            [] => Ok(path.cid),
-            [..] => Err(PathFault::BadName(first_name_at(text))),
-        },
+    let path = DagPath::parse(alloc, text)?;
+    match path.names.as_slice() {
+        [] => Ok(path.cid),
+        [..] => Err(PathFault::BadName(first_name_at(text))),
     }
 }
 
@@ -308,15 +306,13 @@ fn read_cp(alloc: Global, source: &Text, dest: &Text) -> Result<Command, Refusal
     if source.as_str().starts_with(DAG_FRONT) {
         return read_adopt(alloc, source, dest);
     }
-    match read_both(alloc, source, dest) {
-        Ok((path, dest)) => Ok(Command::At {
-            ask: Ask::Edit {
-                edit: Edit::Cp { dest },
-            },
-            path,
-        }),
-        Err(why) => Err(why),
-    }
+    let (path, dest) = read_both(alloc, source, dest)?;
+    Ok(Command::At {
+        ask: Ask::Edit {
+            edit: Edit::Cp { dest },
+        },
+        path,
+    })
 }
 
 // `files cp` from a DAG.
@@ -338,15 +334,13 @@ fn read_mv(alloc: Global, source: &Text, dest: &Text) -> Result<Command, Refusal
     ensures asked { IsAsked result (mv_asked source.now dest.now) }
     ensures profile { IfOk result IsAccepted }
 {
-    match read_both(alloc, source, dest) {
-        Ok((path, dest)) => Ok(Command::At {
-            ask: Ask::Edit {
-                edit: Edit::Mv { dest },
-            },
-            path,
-        }),
-        Err(why) => Err(why),
-    }
+    let (path, dest) = read_both(alloc, source, dest)?;
+    Ok(Command::At {
+        ask: Ask::Edit {
+            edit: Edit::Mv { dest },
+        },
+        path,
+    })
 }
 
 // A source and a destination.
