@@ -97,13 +97,13 @@ fn all_of(cid: Cid, used: usize, all: usize) -> Result<Cid, CidFault>
 // The first bytes that letters spell: as many as there are, but no more than tell that a CID is followed by another
 // byte.
 #[derive(Clone, Copy)]
-struct Front {
+struct FirstBytes {
     bytes: [u8; 37],
     len: usize,
 }
 
 // The first bytes that letters spell; None where one of them is none of the alphabet, or bits are left over.
-fn front_bytes(first: u8, letters: &[u8]) -> Option<Front>
+fn front_bytes(first: u8, letters: &[u8]) -> Option<FirstBytes>
     requires { first ≤ 97 }
     ensures size { IfSome result (λ front. (front.len ≤ 37) × (length (take front.len front.bytes) ≡ front.len)) }
     ensures bytes { option_map (λ front. take front.len front.bytes) result
@@ -129,7 +129,7 @@ fn front_bytes(first: u8, letters: &[u8]) -> Option<Front>
         }
     }
     if is_padding(held, bits) {
-        Some(Front { bytes, len })
+        Some(FirstBytes { bytes, len })
     } else {
         None
     }
