@@ -15,7 +15,7 @@ const FEWEST_BYTES: usize = 1024;
 
 // Blocks of one length, one after another, and their digests: those that were asked for first.
 #[derive(Drop)]
-pub struct Hashed<X: BlockHash> {
+pub struct DigestsAhead<X: BlockHash> {
     hash: PhantomData<X>,
     pub alloc: Global,
     bytes: Vec<u8>,
@@ -29,10 +29,10 @@ pub struct Hashed<X: BlockHash> {
     ghost hashed: { (k : ℕ) → k < count → slice_index_or digests k [] ≡ X.block32 (piece bytes.items size k) },
 }
 
-impl<X: BlockHash> Hashed<X> {
+impl<X: BlockHash> DigestsAhead<X> {
     // No blocks.
     pub fn new(alloc: Global) -> Self {
-        Hashed {
+        DigestsAhead {
             hash: PhantomData,
             alloc,
             bytes: Vec::new(alloc),

@@ -18,7 +18,7 @@ ghost use Rattle.uf_car.specs.Reading.{car_read, header_at, header_with, opening
 ghost use Rattle.uf_car.specs.Windows.{Ahead, ComesTo, KeepsAhead, ahead, is_over_at, window_bytes};
 
 use crate::begun::Begun;
-use crate::hashed::Hashed;
+use crate::hashed::DigestsAhead;
 use crate::header::roots_in;
 use crate::section::{Opening, opening_at};
 use crate::window::{Fill, Window};
@@ -151,7 +151,7 @@ fn import_sections<S: Store, I: Source, L: Ledger>(
     ensures imports { OnlyImports S.X.block32 (car_fault result) (S.seen store.old) (S.seen store.new) }
     ensures counts { Counts (is_source_fault result) (I.faults input.old) (I.faults input.new) }
 {
-    let mut hashed = Hashed::new(alloc);
+    let mut hashed = DigestsAhead::new(alloc);
     let mut at = place;
     let mut blocks = 0;
     loop {
@@ -167,7 +167,7 @@ fn import_sections<S: Store, I: Source, L: Ledger>(
 
 // Reads one section, keeps its block, and says how many bytes it had; None at the end.
 fn import_section<S: Store, I: Source, L: Ledger>(
-    hashed: &mut Hashed<S::X>,
+    hashed: &mut DigestsAhead<S::X>,
     store: &mut S,
     window: &mut Window,
     input: &mut I,
@@ -226,7 +226,7 @@ fn begin_section<I: Source>(
 
 // Reads the block of a section, and keeps it where it is that of its CID. It is hashed once.
 fn import_block<S: Store, I: Source, L: Ledger>(
-    hashed: &mut Hashed<S::X>,
+    hashed: &mut DigestsAhead<S::X>,
     store: &mut S,
     window: &mut Window,
     input: &mut I,
@@ -260,7 +260,7 @@ fn import_block<S: Store, I: Source, L: Ledger>(
 
 // Keeps a block that is that of its CID. The bytes from its section on say which blocks come next.
 fn keep_block<S: Store, L: Ledger>(
-    hashed: &mut Hashed<S::X>,
+    hashed: &mut DigestsAhead<S::X>,
     store: &mut S,
     place: u64,
     begun: &Begun,
