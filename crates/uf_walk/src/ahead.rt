@@ -11,14 +11,14 @@ use uf_cid::{Cid, Memory};
 
 /// The links that are ahead, and after them the roots. Contracts see them as one list.
 #[derive(Drop)]
-pub struct Ahead {
+pub struct Frontier {
     alloc: Global,
     below: Vec<Chunk>,
     top: Chunk,
     roots: VecDeque<Cid>,
 }
 
-impl Model for Ahead {
+impl Model for Frontier {
     ghost use Rattle.std.specs.Prelude.{List, ◌++◌};
     ghost use Rattle.uf_cid.specs.declared.cid.Cid.{Cid};
     ghost use Rattle.uf_walk.specs.Piled.{IsPiled, whole_pile};
@@ -30,7 +30,7 @@ impl Model for Ahead {
     ghost invariant = { λ a. IsPiled a.top a.below.items };
 }
 
-impl Ahead {
+impl Frontier {
     ghost use Rattle.std.specs.Prelude.{length, take};
     ghost use Rattle.std.proofs.Common.{reverse};
 
@@ -38,7 +38,7 @@ impl Ahead {
     pub fn new(alloc: Global) -> Self
         ensures { result ≡ [] }
     {
-        Ahead {
+        Frontier {
             alloc,
             below: Vec::new(alloc),
             top: Chunk::new(alloc),

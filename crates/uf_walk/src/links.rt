@@ -6,7 +6,7 @@ ghost use Rattle.uf_walk.specs.Order.{is_met, linked, block_links, pb_number};
 ghost use Rattle.uf_walk.specs.Ahead.{LinksAhead, PassesOver};
 
 use crate::WalkFault;
-use crate::ahead::Ahead;
+use crate::ahead::Frontier;
 use crate::key::Key;
 use indexmap::IndexSet;
 use std::alloc::Global;
@@ -14,7 +14,7 @@ use uf_cid::{Cid, Codec, Memory};
 use uf_dagpb::{Link, PbFault, decode_lenient};
 
 // Puts the CIDs of links in front, the first link first.
-pub fn put_in_front(ahead: &mut Ahead, links: &[Link]) -> Result<(), Memory>
+pub fn put_in_front(ahead: &mut Frontier, links: &[Link]) -> Result<(), Memory>
     ensures ok { OnOk result (ahead.new ≡ map (λ l. l.cid) links.now ++ ahead.old) }
     ensures err { OnErr result (ahead.new ≡ ahead.old) }
 {
@@ -52,7 +52,7 @@ pub fn links_ahead(
     alloc: Global,
     cid: &Cid,
     bytes: &[u8],
-    ahead: &mut Ahead,
+    ahead: &mut Frontier,
 ) -> Result<(), WalkFault>
     ensures { LinksAhead cid.now (block_links cid.now.codec bytes.now) result ahead.old ahead.new }
 {
@@ -63,7 +63,7 @@ pub fn links_ahead(
 }
 
 // Puts the links of a node in front.
-fn node_ahead(alloc: Global, cid: &Cid, bytes: &[u8], ahead: &mut Ahead) -> Result<(), WalkFault>
+fn node_ahead(alloc: Global, cid: &Cid, bytes: &[u8], ahead: &mut Frontier) -> Result<(), WalkFault>
     ensures { LinksAhead cid.now (linked (node_reads bytes.now)) result ahead.old ahead.new }
 {
     match decode_lenient(alloc, bytes) {
@@ -81,7 +81,7 @@ pub fn has(met: &IndexSet<Key>, cid: &Cid) -> bool
 }
 
 // Takes away what was met, up to the first CID that wasn't.
-pub fn pass_over(met: &IndexSet<Key>, ahead: &mut Ahead)
+pub fn pass_over(met: &IndexSet<Key>, ahead: &mut Frontier)
     ensures { PassesOver (map (λ k. k.cid) met.now.keys) ahead.old ahead.new }
 {
     while let Some(next) = ahead.first() {

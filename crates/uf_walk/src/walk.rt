@@ -4,7 +4,7 @@ ghost use Rattle.std.specs.Prelude.{OnOk, OnErr, IsSome};
 ghost use Rattle.std.specs.Option.{option_map};
 ghost use Rattle.uf_walk.specs.Order.{Follow, Whole};
 
-use crate::ahead::Ahead;
+use crate::ahead::Frontier;
 use crate::key::Key;
 use crate::links::{links_ahead, pass_over};
 use crate::{Turn, WalkFault};
@@ -21,7 +21,7 @@ pub struct Walk {
     alloc: Global,
     most: u32,
     met: IndexSet<Key>,
-    ahead: Ahead,
+    ahead: Frontier,
     due: Option<Cid>,
 }
 
@@ -53,7 +53,7 @@ impl Walk {
             alloc,
             most,
             met: IndexSet::new(alloc),
-            ahead: Ahead::new(alloc),
+            ahead: Frontier::new(alloc),
             due: None,
         }
     }
