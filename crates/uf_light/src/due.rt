@@ -7,11 +7,11 @@ use uf_cid::{Cid, Memory};
 
 // CIDs, the next one first.
 #[derive(Drop)]
-pub struct Due {
+pub struct CidStack {
     items: Vec<Cid>,
 }
 
-impl Model for Due {
+impl Model for CidStack {
     ghost use Rattle.std.specs.Prelude.{List};
     ghost use Rattle.std.proofs.Common.{reverse};
     ghost use Rattle.uf_cid.specs.declared.cid.Cid.{Cid};
@@ -21,12 +21,12 @@ impl Model for Due {
     ghost view = { λ d. reverse d.items.items };
 }
 
-impl Due {
+impl CidStack {
     // None.
-    pub fn new(alloc: Global) -> Due
+    pub fn new(alloc: Global) -> CidStack
         ensures { result ≡ [] }
     {
-        Due {
+        CidStack {
             items: Vec::new(alloc),
         }
     }

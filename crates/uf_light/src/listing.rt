@@ -18,7 +18,7 @@ ghost use Rattle.uf_fileread.specs.Sending.{IsFilePart, LoadsParts, MayStand};
 ghost use Rattle.uf_light.specs.FileCids.{IsBadInSome, below, cids_in, cids_of};
 ghost use Rattle.uf_light.specs.Touches.{CountsUp};
 
-use crate::due::Due;
+use crate::due::CidStack;
 use std::alloc::Global;
 use std::sync::ledger::Ledger;
 use uf_cid::{Cid, Cids, Codec, Memory, StrictFault};
@@ -46,7 +46,7 @@ pub fn file_cids<S: Store, L: Ledger>(
     ensures touched { CountsUp (fault_in result) touches.old touches.new }
 {
     let mut cids = Cids::new(alloc);
-    let mut due = Due::new(alloc);
+    let mut due = CidStack::new(alloc);
     due.push(entry.cid)?;
     for _ in 0..u32::MAX {
         let Some(cid) = due.pop() else {
@@ -60,7 +60,7 @@ pub fn file_cids<S: Store, L: Ledger>(
 }
 
 // Puts the CIDs of some parts before what is due, the first part's first.
-fn put_parts(due: &mut Due, parts: &[Part]) -> Result<(), Memory>
+fn put_parts(due: &mut CidStack, parts: &[Part]) -> Result<(), Memory>
     ensures ok { OnOk result (due.new ≡ cids_in parts.now ++ due.old) }
 {
     let count = parts.len();
