@@ -7,7 +7,7 @@ ghost use Rattle.uf_lenient.specs.Reading.{leads, meet, meet_name};
 ghost use Rattle.uf_lenient.specs.Keyed.{seen_as};
 
 use crate::found::Found;
-use crate::met::{Key, Met};
+use crate::met::{Met, NameKey};
 use crate::{DagFault, Way, Ways};
 use std::alloc::Global;
 use std::collections::BTreeMap;
@@ -49,9 +49,9 @@ impl Met {
         ensures says { FollowsReading (λ _. self.new) (meet_name by.now name found self.old) result }
         ensures bare { IfErr result IsBare }
     {
-        let key = Key { name };
+        let key = NameKey { name };
         if has(&self.ways, &key) {
-            let Key { name } = key;
+            let NameKey { name } = key;
             return Err(DagFault::DuplicateName(*by, name));
         }
         put(&mut self.ways, key, found)?;
@@ -87,7 +87,7 @@ impl Met {
 }
 
 // Puts a way under its name.
-fn put(ways: &mut BTreeMap<Key, Found>, key: Key, found: Found) -> Result<(), Memory>
+fn put(ways: &mut BTreeMap<NameKey, Found>, key: NameKey, found: Found) -> Result<(), Memory>
     ensures { OnOk result (seen_as ways.new.entries ≡ put_at names_cmp key.name found (seen_as ways.old.entries)) }
 {
     ways.insert(key, found)?;
@@ -95,7 +95,7 @@ fn put(ways: &mut BTreeMap<Key, Found>, key: Key, found: Found) -> Result<(), Me
 }
 
 // Whether a way is there under a name.
-fn has(ways: &BTreeMap<Key, Found>, key: &Key) -> bool
+fn has(ways: &BTreeMap<NameKey, Found>, key: &NameKey) -> bool
     ensures { result ≡ is_some (find names_cmp key.now.name (seen_as ways.now.entries)) }
 {
     ways.contains_key(key)
