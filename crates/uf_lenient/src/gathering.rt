@@ -16,7 +16,7 @@ ghost use Rattle.uf_lenient.specs.Steps.{AddsEntries, StepsTo, gathered_folder, 
 use crate::DagFault;
 use crate::due::Frame;
 use crate::gathered::Gathered;
-use crate::met::Met;
+use crate::met::MetWays;
 use crate::nodes::shard_of;
 use crate::pile::Pile;
 use crate::unixfs::Unixfs;
@@ -77,7 +77,7 @@ fn gather_block(
     ensures good { IfOk result IsGoodGathered }
     ensures bare { IfErr result IsBare }
 {
-    let mut met = Met::new(alloc);
+    let mut met = MetWays::new(alloc);
     let items = links.as_slice();
     for link in items {
         met.add(alloc, by, left, link.name.as_str(), &link.cid)?;
@@ -105,7 +105,7 @@ fn gather_shards<S: Store, L: Ledger>(
     ensures touches { touches.new + visits.new ≡ touches.old + visits.old }
     ensures touched { touches.old ≤ touches.new }
 {
-    let mut met = Met::new(alloc);
+    let mut met = MetWays::new(alloc);
     let mut frames = Pile::new(alloc);
     frames.push(Frame {
         by: *by,
@@ -122,7 +122,7 @@ fn gather_frames<S: Store, L: Ledger>(
     alloc: Global,
     store: &mut S,
     frames: &mut Pile<Frame>,
-    met: &mut Met,
+    met: &mut MetWays,
     visits: &mut u32,
     touches: &mut Steps<L>,
 ) -> Result<(), DagFault>
@@ -145,7 +145,7 @@ fn gather_frame<S: Store, L: Ledger>(
     store: &mut S,
     frame: Frame,
     frames: &mut Pile<Frame>,
-    met: &mut Met,
+    met: &mut MetWays,
     visits: &mut u32,
     touches: &mut Steps<L>,
 ) -> Result<(), DagFault>
@@ -226,7 +226,7 @@ fn put_below(
 fn add_entries(
     alloc: Global,
     frame: &Frame,
-    met: &mut Met,
+    met: &mut MetWays,
 ) -> Result<Option<(usize, Cid)>, DagFault>
     ensures says { (deeper : TheCid → Ways → ℕ → Visits Ways) (n : ℕ)
         → AddsEntries frame.now met.old met.new deeper n result }
@@ -250,7 +250,7 @@ fn add_entry(
     frame: &Frame,
     name: &[u8],
     cid: &Cid,
-    met: &mut Met,
+    met: &mut MetWays,
 ) -> Result<(), DagFault>
     ensures says { FollowsReading (λ _. met.new)
         (meet frame.now.by frame.now.left name.now cid.now met.old) result }

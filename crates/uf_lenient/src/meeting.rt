@@ -7,7 +7,7 @@ ghost use Rattle.uf_lenient.specs.Reading.{leads, meet, meet_name};
 ghost use Rattle.uf_lenient.specs.Keyed.{seen_as};
 
 use crate::found::Found;
-use crate::met::{Met, NameKey};
+use crate::met::{MetWays, NameKey};
 use crate::{DagFault, Way, Ways};
 use std::alloc::Global;
 use std::collections::BTreeMap;
@@ -15,12 +15,12 @@ use uf_cid::{Cid, Memory};
 use uf_store::StoreFault;
 use uf_tree::{Name, NameFault};
 
-impl Met {
+impl MetWays {
     /// No way.
     pub fn new(alloc: Global) -> Self
         ensures { result ≡ [] }
     {
-        Met {
+        MetWays {
             ways: BTreeMap::new(alloc),
         }
     }

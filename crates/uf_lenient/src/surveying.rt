@@ -16,7 +16,7 @@ use crate::due::{Due, Visited};
 use crate::gathered::Gathered;
 use crate::gathering::gather;
 use crate::looking::shape_of;
-use crate::met::Met;
+use crate::met::MetWays;
 use crate::parts::{put_parts, read_node};
 use crate::pile::Pile;
 use crate::{DagFault, Limits, Shape};
@@ -174,7 +174,7 @@ fn put_gathered(due: &mut Pile<Due>, gathered: Gathered, left: u64) -> Result<()
 }
 
 // Puts the members of a directory on the pile, the first one on top.
-fn put_members(due: &mut Pile<Due>, mut met: Met) -> Result<(), Memory>
+fn put_members(due: &mut Pile<Due>, mut met: MetWays) -> Result<(), Memory>
     ensures { OnOk result (due.new ≡ map way_due met ++ due.old) }
 {
     while let Some(found) = met.pop_last() {
