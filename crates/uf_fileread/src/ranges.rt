@@ -55,7 +55,7 @@ struct Reach {
 // Where a part stands: how many nodes may stand one above the other there, its CID, and the size that is declared for
 // it.
 #[derive(Clone, Copy)]
-struct Spot {
+struct PartPlace {
     rows: u8,
     cid: Cid,
     declared: Option<u64>,
@@ -94,7 +94,7 @@ pub fn read_range<S: Store, O: Sink, L: Ledger>(
         (S.seen store.old) (S.seen store.new) (O.faults out.old) (O.faults out.new) }
     ensures told { (S.seen store.new).told ≡ (S.seen store.old).told }
 {
-    let root = Spot {
+    let root = PartPlace {
         rows: MOST_ROWS,
         cid: entry.cid,
         declared: None,
@@ -107,7 +107,7 @@ pub fn read_range<S: Store, O: Sink, L: Ledger>(
 fn send_part<S: Store, O: Sink, L: Ledger>(
     alloc: Global,
     store: &mut S,
-    spot: Spot,
+    spot: PartPlace,
     reach: Reach,
     out: &mut O,
     touches: &mut Steps<L>,
@@ -234,7 +234,7 @@ fn send_met<S: Store, O: Sink, L: Ledger>(
     if reach.offset >= part.size || reach.count == 0 {
         return Ok(0);
     }
-    let spot = Spot {
+    let spot = PartPlace {
         rows,
         cid: part.entry.cid,
         declared: Some(part.size),
@@ -246,7 +246,7 @@ fn send_met<S: Store, O: Sink, L: Ledger>(
 fn load_parts<S: Store, L: Ledger>(
     alloc: Global,
     store: &mut S,
-    spot: &Spot,
+    spot: &PartPlace,
     touches: &mut Steps<L>,
 ) -> Result<NodeParts, StoreFault>
     requires few { spot.now.rows ≤ 22 }
