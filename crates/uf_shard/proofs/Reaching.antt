@@ -37,14 +37,14 @@ use Rattle.uf_shard.specs.Placed.{IsBadOnWay, way}
 use Rattle.uf_shard.specs.Planned.{IsPlanned}
 use Rattle.uf_shard.specs.Reached.{HasPlaced, IsReached, LoadsPlaced}
 use Rattle.uf_shard.specs.Spots.{spot_of}
-use Rattle.uf_shard.specs.declared.spot.Spot.{Spot}
-use Rattle.uf_shard.specs.declared.spot.Spot.TheVariants.{Here, Below}
+use Rattle.uf_shard.specs.declared.spot.ShardAnswer.{ShardAnswer}
+use Rattle.uf_shard.specs.declared.spot.ShardAnswer.TheVariants.{Here, Below}
 use Rattle.uf_shard.proofs.Carrying.{none-behind}
 use Rattle.uf_shard.proofs.One.{same-items}
 use Rattle.uf_shard.proofs.Ways.{way-length, further}
 
 -- the block was found, and is a shard that says this of a name
-pub record SaysOf (N : List ℕ → ℕ) (hash level : ℕ) (cid : Cid) (name : List ℕ) (before : Seen) (spot : Spot) : Type 0 where
+pub record SaysOf (N : List ℕ → ℕ) (hash level : ℕ) (cid : Cid) (name : List ℕ) (before : Seen) (spot : ShardAnswer) : Type 0 where
   pub node : ShardNode
   pub has : HasPlaced N hash level cid before node
   pub says : spot ≡ spot_of name (find nat_cmp (slot hash level) node.items)
@@ -132,7 +132,7 @@ module _ (X : List ℕ → List ℕ) (N : List ℕ → ℕ) where
       not_bad told name lent agrees held bad = bad (subst (IsCanonicalShard N (way hash (7 - left))) (sym (the_block told name lent agrees held)) canonical)
 
       -- what it says is what its slot has
-      pub it_says : (name : List ℕ) (before : Seen) (spot : Spot) → Agrees before.told (shard_trail X N left m l name) → SaysOf N hash (7 - left) root name before spot
+      pub it_says : (name : List ℕ) (before : Seen) (spot : ShardAnswer) → Agrees before.told (shard_trail X N left m l name) → SaysOf N hash (7 - left) root name before spot
           → spot ≡ spot_of name (slot_item (deeper_of left) (slot_of hash left l))
       it_says name before spot agrees says =
           let same : says.node.items ≡ items_of left l = same-items says.node m (items_of left l) (record { items = says.has.is.placed.valid; meta = says.has.is.good }) is.good items-valid (the_block before.told name (shard_node_block says.node) agrees says.has.is_held) in
@@ -193,7 +193,7 @@ module _ (X : List ℕ → List ℕ) (N : List ℕ → ℕ) where
 
     -- a fault that shows its cause while the store stayed calm
     pub find-err : (left : ℕ) (root : Cid) (m : Meta) (l : List Named) → left ≤ 7 → (before now : Seen) (fault : StoreFault) (value : Option Entry)
-        → LoadsPlaced N (N name) (7 - left) root before now (Err fault) → Answers {A = Spot} X (IsBadOnWay N (N name)) (Err fault) before now
+        → LoadsPlaced N (N name) (7 - left) root before now (Err fault) → Answers {A = ShardAnswer} X (IsBadOnWay N (N name)) (Err fault) before now
         → IsReached X N (N name) left root m l → Agrees before.told (shard_trail X N left m l name) → Stood before.faults now.faults
         → FindsOver before.told (shard_trail X N left m l name) value (Err fault)
     find-err left root m l low before now Failed value looks cause is agrees stood = let r = cause.rose in omega (arith, r, stood)
@@ -295,7 +295,7 @@ module _ (X : List ℕ → List ℕ) (N : List ℕ → ℕ) where
         }
         by (Some names) t h = absurd (let no : None ≡ Some is.plan = h in cc)
 
-    pub find-here-at : (left : ℕ) (root : Cid) (m : Meta) (l : List Named) → left ≤ 7 → (before : Seen) (spot : Spot) (e : Option Entry) → spot ≡ Here e → SaysOf N (N name) (7 - left) root name before spot
+    pub find-here-at : (left : ℕ) (root : Cid) (m : Meta) (l : List Named) → left ≤ 7 → (before : Seen) (spot : ShardAnswer) (e : Option Entry) → spot ≡ Here e → SaysOf N (N name) (7 - left) root name before spot
         → IsReached X N (N name) left root m l → Agrees before.told (shard_trail X N left m l name) → (e ≡ find names_cmp name l) × Holds before.told (shard_trail X N left m l name)
     find-here-at left root m l low before spot e at says is agrees =
-        find-here left root m l low before e (subst (λ (s : Spot). SaysOf N (N name) (7 - left) root name before s) at says) is agrees
+        find-here left root m l low before e (subst (λ (s : ShardAnswer). SaysOf N (N name) (7 - left) root name before s) at says) is agrees

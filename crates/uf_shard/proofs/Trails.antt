@@ -26,8 +26,8 @@ use Rattle.uf_shard.specs.Planned.{IsPlanned}
 use Rattle.uf_shard.specs.Reached.{IsReached}
 use Rattle.uf_shard.specs.Spots.{HasRoom, spot_of}
 use Rattle.uf_shard.specs.Trails.{traced_behind, trail_cids}
-use Rattle.uf_shard.specs.declared.spot.Spot.{Spot}
-use Rattle.uf_shard.specs.declared.spot.Spot.TheVariants.{Here, Below}
+use Rattle.uf_shard.specs.declared.spot.ShardAnswer.{ShardAnswer}
+use Rattle.uf_shard.specs.declared.spot.ShardAnswer.TheVariants.{Here, Below}
 use Rattle.uf_shard.specs.declared.traced.Traced.{Traced}
 use Rattle.uf_shard.proofs.Firsts.{misplaced-reads, misplaced-there}
 use Rattle.uf_shard.proofs.Reaching.{Goes, SaysOf, below_goes, deeper_of, find-err, find-here-at, find-slot, head-held, head_of, here_value, it_says, over_more, reached-root, reached_below, root-is, slot_of, trail-is, trail_below}
@@ -56,10 +56,10 @@ module _ (X : List ℕ → List ℕ) (N : List ℕ → ℕ) (good : IsHash X) (n
   abbrev found : List Cid → ℕ → Meta → List Named → Traced
   found above left m l = traced_behind above (find names_cmp name l) (path left m l)
 
-  pub trace-here-at : (left : ℕ) (root : Cid) (m : Meta) (l : List Named) → left ≤ 7 → (above cids : List Cid) (before : Seen) (spot : Spot) (e : Option Entry) → cids ≡ above ++ root ∷ [] → spot ≡ Here e
+  pub trace-here-at : (left : ℕ) (root : Cid) (m : Meta) (l : List Named) → left ≤ 7 → (above cids : List Cid) (before : Seen) (spot : ShardAnswer) (e : Option Entry) → cids ≡ above ++ root ∷ [] → spot ≡ Here e
       → SaysOf N (N name) (7 - left) root name before spot → IsReached X N (N name) left root m l → Agrees before.told (path left m l) → (both e cids ≡ found above left m l) × Holds before.told (path left m l)
   trace-here-at left root m l low above cids before spot e pushed at says is agrees =
-      let here = subst (λ (s : Spot). SaysOf N (N name) (7 - left) root name before s) at says in
+      let here = subst (λ (s : ShardAnswer). SaysOf N (N name) (7 - left) root name before s) at says in
       let last = ends left l e (it_says X N good (N name) left root m l low is name before (Here e) agrees here) in
       let one : path left m l ≡ head_of X N good name left m l ∷ [] = trail-is X N left m l name ∙ ap (λ (k : List Held). head_of X N good name left m l ∷ k) last in
       let value = find-here-at X N good name left root m l low before spot e at says is agrees in (
@@ -119,12 +119,12 @@ module _ (X : List ℕ → List ℕ) (N : List ℕ → ℕ) (good : IsHash X) (n
       behind None a = a
       behind (Some t) a = a.1
 
-  pub trace-below-at : (left : ℕ) (root c : Cid) (m : Meta) (l : List Named) → left ≤ 7 → (above cids : List Cid) (before mid now : Seen) (r : Result Traced StoreFault) (spot : Spot) → cids ≡ above ++ root ∷ [] → spot ≡ Below c → HasRoom (7 - left) spot
+  pub trace-below-at : (left : ℕ) (root c : Cid) (m : Meta) (l : List Named) → left ≤ 7 → (above cids : List Cid) (before mid now : Seen) (r : Result Traced StoreFault) (spot : ShardAnswer) → cids ≡ above ++ root ∷ [] → spot ≡ Below c → HasRoom (7 - left) spot
       → SaysOf N (N name) (7 - left) root name before spot → mid.told ≡ before.told → mid.faults ≡ before.faults → Deeper (left - 1) c mid now cids r
       → IsReached X N (N name) left root m l → Agrees before.told (path left m l) → Stood before.faults now.faults
       → FindsOver before.told (path left m l) (found above left m l) r
   trace-below-at left root c m l low above cids before mid now r spot pushed at room says same calm deeper is agrees stood =
-      trace-below left root c m l low (subst (HasRoom (7 - left)) at room) above before mid now r (subst (λ (s : Spot). SaysOf N (N name) (7 - left) root name before s) at says) same calm
+      trace-below left root c m l low (subst (HasRoom (7 - left)) at room) above before mid now r (subst (λ (s : ShardAnswer). SaysOf N (N name) (7 - left) root name before s) at says) same calm
       (subst (λ (k : List Cid). Deeper (left - 1) c mid now k r) pushed deeper) is agrees stood
 
   -- ---- a root that was loaded before

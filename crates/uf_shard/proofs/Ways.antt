@@ -18,7 +18,7 @@ use Rattle.std.specs.List.{AllByRecursion}
 use Rattle.std.specs.Ordering.{nat_cmp, eq_by_cmp}
 use Rattle.uf_shard.specs.Placed.{way}
 use Rattle.uf_shard.specs.Spots.{HasRoom, spot_of}
-use Rattle.uf_shard.specs.declared.spot.Spot.{Spot}
+use Rattle.uf_shard.specs.declared.spot.ShardAnswer.{ShardAnswer}
 
 one_more : (n a : ℕ) → range_with_len a (suc n) ≡ range_with_len a n ++ (a + n) ∷ []
 one_more zero a = let e : a ≡ a + 0 = omega arith in ap (λ n. n ∷ []) e
@@ -134,5 +134,5 @@ module _ (N : List ℕ → ℕ) (hash level : ℕ) where
       by (Leaf n e) k = tt
       by (Sub e) k = let no : level ≢ 7 = (λ seven. k (way-length hash level ∙ seven)) in omega (arith, no)
 
-  pub room_at : (s : ℕ) (name : List ℕ) (items slice : List InSlot) (spot : Spot) → level < 8 → slice ≡ items → AllByRecursion (IsOnWay N (way hash level)) items → spot ≡ spot_of name (find nat_cmp s slice) → HasRoom level spot
+  pub room_at : (s : ℕ) (name : List ℕ) (items slice : List InSlot) (spot : ShardAnswer) → level < 8 → slice ≡ items → AllByRecursion (IsOnWay N (way hash level)) items → spot ≡ spot_of name (find nat_cmp s slice) → HasRoom level spot
   room_at s name items slice spot small same on is = subst (HasRoom level) (sym is) (subst (λ (l : List InSlot). HasRoom level (spot_of name (find nat_cmp s l))) (sym same) (room s name items small on))

@@ -24,7 +24,7 @@ ghost use Rattle.uf_shard.specs.Trails.{traced, traced_behind, trail_cids};
 
 use crate::loading::{load_shard, slot_at};
 use crate::reading::{is_first, spot_in};
-use crate::spot::Spot;
+use crate::spot::ShardAnswer;
 use crate::traced::Traced;
 use std::alloc::Global;
 use std::sync::ledger::Ledger;
@@ -221,15 +221,15 @@ fn trace_in<S: Store, N: NameHash, L: Ledger>(
 {
     let spot = spot_at::<N>(node, 7 - left, name);
     match spot {
-        Spot::Here(entry) => Ok(Traced { entry, trail: cids }),
-        Spot::Below(cid) => {
+        ShardAnswer::Here(entry) => Ok(Traced { entry, trail: cids }),
+        ShardAnswer::Below(cid) => {
             trace_from::<S, N, L>(alloc, store, left - 1, &cid, name, cids, touches)
         }
     }
 }
 
 // What a shard at a level says of a name.
-fn spot_at<N: NameHash>(node: &ShardNode, level: u8, name: &Name) -> Spot
+fn spot_at<N: NameHash>(node: &ShardNode, level: u8, name: &Name) -> ShardAnswer
     requires level { level < 8 }
     requires placed { IsPlacedNode N.name64 (way (N.name64 name.now) level) node.now }
     ensures says { result ≡ spot_of name.now (value_of nat_cmp (slot_of (N.name64 name.now) level) node.now.items) }

@@ -10,7 +10,7 @@ ghost use Rattle.uf_tree.specs.Validity.{IsShardNode};
 ghost use Rattle.uf_shard.specs.Placed.{IsPlacedNode, way};
 ghost use Rattle.uf_shard.specs.Spots.{spot_of};
 
-use crate::spot::Spot;
+use crate::spot::ShardAnswer;
 use crate::walking::may_carry;
 use std::alloc::Global;
 use std::cmp::Ordering;
@@ -95,7 +95,7 @@ fn shares_way(other: u64, hash: u64, level: u8) -> bool
 }
 
 // What the items say of a name in its slot.
-pub fn spot_in(items: &[Placed], slot: u8, name: &Name) -> Spot
+pub fn spot_in(items: &[Placed], slot: u8, name: &Name) -> ShardAnswer
     ensures { result ≡ spot_of name.now (find nat_cmp slot items.now) }
 {
     for placed in items {
@@ -103,16 +103,16 @@ pub fn spot_in(items: &[Placed], slot: u8, name: &Name) -> Spot
             return spot(&placed.item, name);
         }
     }
-    Spot::Here(None)
+    ShardAnswer::Here(None)
 }
 
 // What an item says of a name in its slot.
-fn spot(item: &Item, name: &Name) -> Spot
+fn spot(item: &Item, name: &Name) -> ShardAnswer
     ensures { result ≡ spot_of name.now (Some item.now) }
 {
     match item {
-        Item::Leaf(other, entry) => Spot::Here(if_same(name, other, entry)),
-        Item::Sub(entry) => Spot::Below(entry.cid),
+        Item::Leaf(other, entry) => ShardAnswer::Here(if_same(name, other, entry)),
+        Item::Sub(entry) => ShardAnswer::Below(entry.cid),
     }
 }
 
