@@ -5,7 +5,7 @@ use Rattle.std.proofs.lemmas.List.{drop-append-le, drop-drop, drop-take, take-ta
 use Rattle.std.specs.Prelude.{min}
 use Rattle.uf_edge.specs.Streams.{Gives, Told}
 use Rattle.uf_lines.specs.Windows.{TakesBehind, in_window}
-use Rattle.uf_lines.specs.declared.window.Window.{Window}
+use Rattle.uf_lines.specs.declared.window.SourceBuffer.{SourceBuffer}
 
 -- the bytes from one place up to another
 part_is : (from to : ℕ) (xs : List ℕ) → from ≤ to → take (to - from) (drop from xs) ≡ drop from (take to xs)
@@ -33,7 +33,7 @@ pub used_fits : (from to n : ℕ) (xs : List ℕ) → from ≤ to → n ≤ leng
 used_fits from to n xs order h = let size : length (take (to - from) (drop from xs)) ≡ min (to - from) (length (drop from xs)) = length-take (to - from) (drop from xs) in omega (arith, size)
 
 -- the source gave bytes into the buffer, up to a place in it
-module _ (before : Window) (items : List ℕ) (got end : ℕ) (left left_now : Told) (gives : Gives got (take (end - before.to) (drop before.to items)) left left_now) where
+module _ (before : SourceBuffer) (items : List ℕ) (got end : ℕ) (left left_now : Told) (gives : Gives got (take (end - before.to) (drop before.to items)) left left_now) where
   given_size : length (take got (take (end - before.to) (drop before.to items))) ≡ got
   given_size = length-take-le got (take (end - before.to) (drop before.to items)) gives.fits
 

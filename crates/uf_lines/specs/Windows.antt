@@ -4,10 +4,10 @@ use Rattle.uf_cid.specs.declared.bytes.Memory.{Memory}
 use Rattle.uf_edge.specs.Streams.{IsAtEnd, Told, before as in_front, is_read_fault}
 use Rattle.uf_edge.specs.declared.streams.Read.{Read}
 use Rattle.uf_edge.specs.declared.streams.Read.TheVariants.{Got, End, Failed}
-use Rattle.uf_lines.specs.declared.window.Window.{Window}
+use Rattle.uf_lines.specs.declared.window.SourceBuffer.{SourceBuffer}
 
 -- the bytes that were read and not yet used
-abbrev pub in_window : Window → List ℕ
+abbrev pub in_window : SourceBuffer → List ℕ
 in_window w = take (w.to - w.from) (drop w.from w.buffer.items)
 
 -- some bytes of the source, at most so many, stand after those that were there

@@ -4,7 +4,7 @@ ghost use Rattle.uf_edge.specs.Counts.{Counts};
 ghost use Rattle.uf_lines.specs.LinesIn.{HasNoFeed};
 ghost use Rattle.uf_lines.specs.Windows.{in_window};
 
-use crate::window::Window;
+use crate::window::SourceBuffer;
 use memchr::memchr;
 use std::alloc::Global;
 use uf_edge::{Read, Source};
@@ -26,7 +26,7 @@ pub enum Line {
 /// The lines of a source, each of at most n bytes, within its first bytes up to a limit.
 #[derive(Drop)]
 pub struct Lines {
-    window: Window,
+    window: SourceBuffer,
     // The line that was given last is at the prefix of the window, and with its LF it is n bytes.
     given: usize,
     used: usize,
@@ -55,7 +55,7 @@ impl Lines {
         ensures ended { (left : Told) → HasEnded result left }
     {
         Lines {
-            window: Window::new(alloc),
+            window: SourceBuffer::new(alloc),
             given: 0,
             used: 0,
             seen: 0,

@@ -9,7 +9,7 @@ use uf_edge::{Read, Source};
 
 // The bytes of a source that were read and not yet used. The buffer grows as far as the bytes want it.
 #[derive(Drop)]
-pub struct Window {
+pub struct SourceBuffer {
     buffer: Vec<u8>,
     from: usize,
     to: usize,
@@ -17,14 +17,14 @@ pub struct Window {
     ghost in_range: { to ≤ vec_len buffer },
 }
 
-impl Window {
+impl SourceBuffer {
     ghost use Rattle.uf_lines.specs.Windows.{ReadsBehind, in_window, is_failed};
 
     // No bytes yet.
-    pub fn new(alloc: Global) -> Window
+    pub fn new(alloc: Global) -> SourceBuffer
         ensures { in_window result ≡ [] }
     {
-        Window {
+        SourceBuffer {
             buffer: Vec::new(alloc),
             from: 0,
             to: 0,

@@ -1,6 +1,6 @@
 use Rattle.std.proofs.Common.{◌∙◌, arith}
 use Rattle.uf_lines.proofs.Windows.{gave, got_fits, part_same}
-use Rattle.uf_lines.proofs.window.Window.read.Goals as goal
+use Rattle.uf_lines.proofs.window.SourceBuffer.read.Goals as goal
 
 pub invariant_of-self : goal.invariant_of-self
 invariant_of-self g c =
