@@ -11,8 +11,8 @@ use Rattle.uf_lines.specs.Reading.{bytes_ahead, line_most, line_room, lines_ahea
 use Rattle.uf_lines.specs.declared.lines.Lines.{Lines}
 use Rattle.uf_pull.specs.declared.fault.ServeFault.{ServeFault}
 use Rattle.uf_pull.specs.declared.fault.ServeFault.TheVariants as fault
-use Rattle.uf_pull.specs.declared.want.Ask.{Ask}
-use Rattle.uf_pull.specs.declared.want.Ask.TheVariants.{Want, Done, Neither}
+use Rattle.uf_pull.specs.declared.want.PeerAsk.{PeerAsk}
+use Rattle.uf_pull.specs.declared.want.PeerAsk.TheVariants.{Want, Done, Neither}
 use Rattle.uf_pull.specs.Frames.{answer_bytes, serve_text}
 use Rattle.uf_pull.specs.Serving.{SendsFrame, ServesLines, ServesAll}
 use Rattle.uf_pull.specs.Wants.{Asked, ask_of, asked_by, asked_from, asked_in, asked_of, behind_lines, with_wants}
@@ -118,12 +118,12 @@ module _ (held : Lookup) (limit : ℕ) (bytes : List ℕ) (out out_now : Told) (
   came line None is = absurd (let no : ◌≡◌ {A = Option LinesIn} (Some far.rest) None = sym far.is_ahead ∙ is in cc)
   came line (Some next) is = record { next = next; is_next = refl; is_first = let same : ◌≡◌ {A = Option LinesIn} (Some far.rest) (Some (with_lines (line ∷ []) next)) = sym far.is_ahead ∙ is in cc }
 
-  asked_line : (line : List ℕ) (next : LinesIn) (ask : Ask) → far.rest ≡ with_lines (line ∷ []) next → ask ≡ ask_of line
+  asked_line : (line : List ℕ) (next : LinesIn) (ask : PeerAsk) → far.rest ≡ with_lines (line ∷ []) next → ask ≡ ask_of line
       → asked_in limit bytes ≡ with_wants far.wants (asked_by (served + 1) ask (asked_from (behind_lines limit (far.given ++ line ∷ next.lines) next.whole) (served + 1 + 1) next.lines))
   unfolding asked_from
   asked_line line next ask first is =
       ends_with (with_lines (line ∷ []) next) first
-      ∙ ap (λ (a : Ask). with_wants far.wants (asked_by (served + 1) a (asked_from (behind_lines limit (far.given ++ line ∷ next.lines) next.whole) (served + 1 + 1) next.lines))) (sym is)
+      ∙ ap (λ (a : PeerAsk). with_wants far.wants (asked_by (served + 1) a (asked_from (behind_lines limit (far.given ++ line ∷ next.lines) next.whole) (served + 1 + 1) next.lines))) (sym is)
 
   module _ (line : List ℕ) (now : Option LinesIn) (is : ahead ≡ with_line_told line now) where
     -- it is `done`

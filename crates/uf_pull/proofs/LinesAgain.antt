@@ -18,8 +18,8 @@ use Rattle.uf_lines.proofs.Cuts.{too_many, written}
 use Rattle.uf_lines.specs.LinesIn.{HasNoFeed, IsLine, LinesIn, lines_in, long_lines, text_of}
 use Rattle.uf_pull.specs.declared.fault.ServeFault.{ServeFault}
 use Rattle.uf_pull.specs.declared.fault.ServeFault.TheVariants as fault
-use Rattle.uf_pull.specs.declared.want.Ask.{Ask}
-use Rattle.uf_pull.specs.declared.want.Ask.TheVariants.{Want, Done, Neither}
+use Rattle.uf_pull.specs.declared.want.PeerAsk.{PeerAsk}
+use Rattle.uf_pull.specs.declared.want.PeerAsk.TheVariants.{Want, Done, Neither}
 use Rattle.uf_pull.specs.Wants.{Asked, ask_of, asked_by, asked_from, asked_in, asked_of, done_line, want_line, wants_text, with_wants}
 use Rattle.uf_pull.proofs.Fronts.{below, not_below}
 use Rattle.uf_pull.proofs.WantLines.{read_want}
@@ -134,9 +134,9 @@ are_lines (c ∷ cids) whole =
 
 asks_for : (last : ℕ → Result Unit ServeFault) (number : ℕ) (cids : List Cid) → AllByRecursion IsCid cids → asked_from last number (lines_for cids) ≡ record { wants = cids; ends = Ok tt }
 unfolding asked_from
-asks_for last number [] whole = ap (λ (a : Ask). asked_by number a (asked_from last (number + 1) [])) reads_done
+asks_for last number [] whole = ap (λ (a : PeerAsk). asked_by number a (asked_from last (number + 1) [])) reads_done
 asks_for last number (c ∷ cids) whole =
-    ap (λ (a : Ask). asked_by number a (asked_from last (number + 1) (lines_for cids))) (reads_want c whole.0)
+    ap (λ (a : PeerAsk). asked_by number a (asked_from last (number + 1) (lines_for cids))) (reads_want c whole.0)
     ∙ ap (with_wants (c ∷ [])) (asks_for last (number + 1) cids whole.1)
 
 pub reads_wants : (limit : ℕ) (cids : List Cid) → AllByRecursion IsCid cids → length (wants_text cids ++ done_line) ≤ limit → asked_in limit (wants_text cids ++ done_line) ≡ record { wants = cids; ends = Ok tt }

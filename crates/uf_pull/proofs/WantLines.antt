@@ -10,8 +10,8 @@ use Rattle.uf_cid.specs.Cid.{cid_text}
 use Rattle.uf_cid.specs.Read.{cid_of_text}
 use Rattle.uf_cid.specs.declared.cid.Cid.{Cid}
 use Rattle.uf_cid.specs.declared.cid.CidFault.{CidFault}
-use Rattle.uf_pull.specs.declared.want.Ask.{Ask}
-use Rattle.uf_pull.specs.declared.want.Ask.TheVariants.{Want, Done, Neither}
+use Rattle.uf_pull.specs.declared.want.PeerAsk.{PeerAsk}
+use Rattle.uf_pull.specs.declared.want.PeerAsk.TheVariants.{Want, Done, Neither}
 use Rattle.uf_pull.specs.Wants.{ask_of, behind_word, spelled_want, want_behind, want_of}
 
 pub no_text : (text : List ℕ) → (IsUtf8 text → ⊥) → Neither ≡ spelled_want text

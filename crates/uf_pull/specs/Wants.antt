@@ -15,8 +15,8 @@ use Rattle.uf_cid.specs.declared.cid.CidFault.{CidFault}
 use Rattle.uf_lines.specs.LinesIn.{LinesIn, lines_in, text_of}
 use Rattle.uf_pull.specs.declared.fault.ServeFault.{ServeFault}
 use Rattle.uf_pull.specs.declared.fault.ServeFault.TheVariants as fault
-use Rattle.uf_pull.specs.declared.want.Ask.{Ask}
-use Rattle.uf_pull.specs.declared.want.Ask.TheVariants.{Want, Done, Neither}
+use Rattle.uf_pull.specs.declared.want.PeerAsk.{PeerAsk}
+use Rattle.uf_pull.specs.declared.want.PeerAsk.TheVariants.{Want, Done, Neither}
 
 -- ---- as they are written
 
@@ -36,19 +36,19 @@ abbrev pub behind_word : List ℕ → List ℕ → Option (List ℕ)
 behind_word word line = if starts_with nat_eq line word then Some (drop (length word) line) else None
 
 -- the block whose CID was read from a text, where the text is the CID's
-abbrev pub want_of : List ℕ → Result Cid CidFault → Ask
+abbrev pub want_of : List ℕ → Result Cid CidFault → PeerAsk
 want_of text (Ok c) = if bytes_eq (cid_text c) text then Want c else Neither
 want_of text (Err why) = Neither
 
-abbrev pub spelled_want : List ℕ → Ask
+abbrev pub spelled_want : List ℕ → PeerAsk
 spelled_want text = if is_utf8 text then want_of text (cid_of_text text) else Neither
 
-abbrev pub want_behind : Option (List ℕ) → Ask
+abbrev pub want_behind : Option (List ℕ) → PeerAsk
 want_behind None = Neither
 want_behind (Some text) = spelled_want text
 
 -- what a line without its LF says
-unfoldable pub ask_of : List ℕ → Ask
+unfoldable pub ask_of : List ℕ → PeerAsk
 ask_of line = if bytes_eq line (codes "done") then Done else want_behind (behind_word (codes "want ") line)
 
 -- ---- all lines
@@ -62,7 +62,7 @@ pub record Asked : Type 0 where
 abbrev pub with_wants : List Cid → Asked → Asked
 with_wants wants rest = record { wants = wants ++ rest.wants; ends = rest.ends }
 
-abbrev pub asked_by : ℕ → Ask → Asked → Asked
+abbrev pub asked_by : ℕ → PeerAsk → Asked → Asked
 asked_by number (Want c) rest = with_wants (c ∷ []) rest
 asked_by number Done rest = record { wants = []; ends = Ok tt }
 asked_by number Neither rest = record { wants = []; ends = Err (fault.BadWant number) }

@@ -15,7 +15,7 @@ ghost use Rattle.uf_pull.specs.Laws.{AreNextAsked, NoneHeld};
 ghost use Rattle.uf_pull.specs.Wants.{ask_of, asked_in, done_line, wants_text};
 ghost use Rattle.uf_pull.specs.Wholes.{AsksForUnheld, EndsWell, IsHonest, holding_all, unheld};
 ghost use Rattle.uf_pull.specs.declared.fault.ServeFault.TheVariants.{BadWant, TooLong};
-ghost use Rattle.uf_pull.specs.declared.want.Ask.TheVariants.{Want, Done};
+ghost use Rattle.uf_pull.specs.declared.want.PeerAsk.TheVariants.{Want, Done};
 
 /// Each block that is kept has its CID's digest, whatever the peer sends.
 pub fn pulled_blocks_are_good()

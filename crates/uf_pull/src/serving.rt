@@ -12,7 +12,7 @@ ghost use Rattle.uf_pull.specs.Wants.{asked_in};
 ghost use Rattle.uf_pull.specs.declared.fault.ServeFault.TheVariants.{BadWant, TooLong};
 
 use crate::ServeFault;
-use crate::want::{Ask, ask_in};
+use crate::want::{PeerAsk, ask_in};
 use std::alloc::Global;
 use std::sync::ledger::Ledger;
 use uf_cid::{Cid, Memory};
@@ -59,9 +59,9 @@ pub fn serve<S: Store, I: Source, O: Sink, L: Ledger>(
         }
         let line = lines.line();
         match ask_in(line) {
-            Ask::Want(cid) => send(store, &cid, &mut frame, out, touches)?,
-            Ask::Done => return Ok(served),
-            Ask::Neither => return Err(ServeFault::BadWant(served + 1)),
+            PeerAsk::Want(cid) => send(store, &cid, &mut frame, out, touches)?,
+            PeerAsk::Done => return Ok(served),
+            PeerAsk::Neither => return Err(ServeFault::BadWant(served + 1)),
         }
         served += 1;
         room = room.saturating_sub(line.len() as u64 + 1);
