@@ -13,7 +13,7 @@ use Rattle.uf_dagpb.specs.declared.fault.PbFault.{PbFault}
 use Rattle.uf_dagpb.specs.declared.fault.PbFault.TheVariants as pb
 use Rattle.uf_dagpb.specs.declared.node.Link.{Link}
 use Rattle.uf_dagpb.specs.declared.node.Node.{Node}
-use Rattle.uf_dagpb.specs.declared.parts.Parts.{Parts}
+use Rattle.uf_dagpb.specs.declared.parts.LinkParts.{LinkParts}
 use Rattle.uf_dagpb.specs.Reading.{hash_of, bytes_of, number_of, first, first_of_all, link_content_fault, content_fault, link_fault, link_of, node_content_fault, node_fault, judged, node_reads}
 use Rattle.uf_dagpb.specs.Steps.{or_fault, link_end, took_hash, took_name, took_tsize, link_from, link_reads, took_link, took_content, node_from, no_node}
 
@@ -22,7 +22,7 @@ abbrev pub Agrees : Result Link PbFault → Option PbFault → Option Link → T
 Agrees (Ok l) fault link = (fault ≡ None) × (link ≡ Some l)
 Agrees (Err f) fault link = fault ≡ Some f
 
-abbrev parts : Option Cid → Option (List ℕ) → Option ℕ → Parts
+abbrev parts : Option Cid → Option (List ℕ) → Option ℕ → LinkParts
 parts o n t = record { cid = o; name = n; tsize = t }
 
 -- the link of some parts, and of what the fields have of the others

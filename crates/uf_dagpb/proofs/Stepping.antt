@@ -11,18 +11,18 @@ use Rattle.uf_dagpb.specs.declared.fault.PbFault.{PbFault}
 use Rattle.uf_dagpb.specs.declared.fault.PbFault.TheVariants as pb
 use Rattle.uf_dagpb.specs.declared.node.Link.{Link}
 use Rattle.uf_dagpb.specs.declared.node.Node.{Node}
-use Rattle.uf_dagpb.specs.declared.parts.Parts.{Parts}
+use Rattle.uf_dagpb.specs.declared.parts.LinkParts.{LinkParts}
 use Rattle.uf_dagpb.specs.Reading.{pb_fault, hash_of, Fails}
 use Rattle.uf_dagpb.specs.Steps.{cut, or_fault, text_of, keyed_next, link_next, link_end, link_from, link_reads, links_next, content_next, node_next, node_from}
 
 -- what is said behind one more field of a link, and of a node
-abbrev pub link_behind : Result (Parts × List ℕ) PbFault → Result Link PbFault
+abbrev pub link_behind : Result (LinkParts × List ℕ) PbFault → Result Link PbFault
 link_behind r = r >>= λ x. link_from x.0 (fields x.1)
 
 abbrev pub node_behind : Result (Node × List ℕ) PbFault → Result Node PbFault
 node_behind r = r >>= λ x. node_from x.0 (fields x.1)
 
-hash_step : (parts : Parts) (r : Result (List ℕ × List ℕ) CutFault) → link_from parts (field_then 0x0a fields (r >>= as_bytes)) ≡ link_behind (cond (is_some parts.cid) (Err pb.Twice) (cut r >>= λ b. or_fault pb.BadCid (hash_of b.0) >>= λ c. Ok (record parts { cid = Some c }, b.1)))
+hash_step : (parts : LinkParts) (r : Result (List ℕ × List ℕ) CutFault) → link_from parts (field_then 0x0a fields (r >>= as_bytes)) ≡ link_behind (cond (is_some parts.cid) (Err pb.Twice) (cut r >>= λ b. or_fault pb.BadCid (hash_of b.0) >>= λ c. Ok (record parts { cid = Some c }, b.1)))
 unfolding link_from
 hash_step parts (Err f) = twice (is_some parts.cid)
   where
@@ -38,7 +38,7 @@ hash_step parts (Ok b) = twice (is_some parts.cid) (hash_of b.0)
     twice false None = refl
     twice false (Some c) = refl
 
-name_step : (parts : Parts) (r : Result (List ℕ × List ℕ) CutFault) → link_from parts (field_then 0x12 fields (r >>= as_bytes)) ≡ link_behind (cond (is_some parts.name) (Err pb.Twice) (cut r >>= λ b. text_of b.0 >>= λ t. Ok (record parts { name = Some t }, b.1)))
+name_step : (parts : LinkParts) (r : Result (List ℕ × List ℕ) CutFault) → link_from parts (field_then 0x12 fields (r >>= as_bytes)) ≡ link_behind (cond (is_some parts.name) (Err pb.Twice) (cut r >>= λ b. text_of b.0 >>= λ t. Ok (record parts { name = Some t }, b.1)))
 unfolding link_from
 name_step parts (Err f) = twice (is_some parts.name)
   where
@@ -54,7 +54,7 @@ name_step parts (Ok b) = twice (is_some parts.name) (text_of b.0)
     twice false (Err f) = refl
     twice false (Ok c) = refl
 
-tsize_step : (parts : Parts) (r : Result (ℕ × List ℕ) CutFault) → link_from parts (field_then 0x18 fields (r >>= as_number)) ≡ link_behind (cond (is_some parts.tsize) (Err pb.Twice) (cut r >>= λ n. Ok (record parts { tsize = Some n.0 }, n.1)))
+tsize_step : (parts : LinkParts) (r : Result (ℕ × List ℕ) CutFault) → link_from parts (field_then 0x18 fields (r >>= as_number)) ≡ link_behind (cond (is_some parts.tsize) (Err pb.Twice) (cut r >>= λ n. Ok (record parts { tsize = Some n.0 }, n.1)))
 unfolding link_from
 tsize_step parts (Err f) = twice (is_some parts.tsize)
   where
@@ -70,12 +70,12 @@ tsize_step parts (Ok n) = twice (is_some parts.tsize)
     twice false = refl
 
 -- a key that no link has
-other_step : (parts : Parts) (key : ℕ) (r : Result (Content × List ℕ) CutFault) → (key == 0x0a) ≡ false → (key == 0x12) ≡ false → (key == 0x18) ≡ false → link_from parts (field_then key fields r) ≡ Err pb.Field
+other_step : (parts : LinkParts) (key : ℕ) (r : Result (Content × List ℕ) CutFault) → (key == 0x0a) ≡ false → (key == 0x12) ≡ false → (key == 0x18) ≡ false → link_from parts (field_then key fields r) ≡ Err pb.Field
 unfolding link_from
 other_step parts key (Err f) a b c = rw (a, b, c) refl
 other_step parts key (Ok x) a b c = rw (a, b, c) refl
 
-keyed_step : (parts : Parts) (key : ℕ) (after : List ℕ) → link_from parts (field_then key fields (content_at (key % 8) after)) ≡ link_behind (keyed_next parts key after)
+keyed_step : (parts : LinkParts) (key : ℕ) (after : List ℕ) → link_from parts (field_then key fields (content_at (key % 8) after)) ≡ link_behind (keyed_next parts key after)
 unfolding content_at
 keyed_step parts key after = by (cases_Bool (key == 0x0a)) (cases_Bool (key == 0x12)) (cases_Bool (key == 0x18))
   where
@@ -85,21 +85,21 @@ keyed_step parts key after = by (cases_Bool (key == 0x0a)) (cases_Bool (key == 0
     by (inr a) (inr b) (inl c) = subst (λ (k : ℕ). link_from parts (field_then k fields (content_at (k % 8) after)) ≡ link_behind (keyed_next parts k after)) (sym (eqb-true key 0x18 c)) (tsize_step parts (number_at after))
     by (inr a) (inr b) (inr c) = other_step parts key (content_at (key % 8) after) a b c ∙ rw (a, b, c) refl
 
-key_step : (parts : Parts) (r : Result (ℕ × List ℕ) CutFault) → link_from parts (key_then fields r) ≡ link_behind (cut r >>= λ key. keyed_next parts key.0 key.1)
+key_step : (parts : LinkParts) (r : Result (ℕ × List ℕ) CutFault) → link_from parts (key_then fields r) ≡ link_behind (cut r >>= λ key. keyed_next parts key.0 key.1)
 unfolding link_from
 key_step parts (Err f) = refl
 key_step parts (Ok key) = keyed_step parts key.0 key.1
 
 -- one field on, of a link
-pub link_step : (parts : Parts) (bytes : List ℕ) → 0 < length bytes → link_from parts (fields bytes) ≡ link_behind (link_next parts bytes)
+pub link_step : (parts : LinkParts) (bytes : List ℕ) → 0 < length bytes → link_from parts (fields bytes) ≡ link_behind (link_next parts bytes)
 unfolding link_next
 link_step parts [] some = absurd (omega arith)
 link_step parts (b ∷ bytes) some = ap (link_from parts) (fields-cons b bytes) ∙ key_step parts (number_at (b ∷ bytes))
 
-pub link_goes_on : (parts next : Parts) (bytes after : List ℕ) (total : Result Link PbFault) → 0 < length bytes → link_next parts bytes ≡ Ok (next, after) → link_from parts (fields bytes) ≡ total → link_from next (fields after) ≡ total
+pub link_goes_on : (parts next : LinkParts) (bytes after : List ℕ) (total : Result Link PbFault) → 0 < length bytes → link_next parts bytes ≡ Ok (next, after) → link_from parts (fields bytes) ≡ total → link_from next (fields after) ≡ total
 link_goes_on parts next bytes after total some e so_far = sym (ap link_behind e) ∙ sym (link_step parts bytes some) ∙ so_far
 
-pub link_fails : (parts : Parts) (bytes : List ℕ) (fault : PbFault) (total : Result Link PbFault) → 0 < length bytes → Fails fault (link_next parts bytes) → link_from parts (fields bytes) ≡ total → Fails fault total
+pub link_fails : (parts : LinkParts) (bytes : List ℕ) (fault : PbFault) (total : Result Link PbFault) → 0 < length bytes → Fails fault (link_next parts bytes) → link_from parts (fields bytes) ≡ total → Fails fault total
 link_fails parts bytes fault total some (inl m) so_far = inl m
 link_fails parts bytes fault total some (inr e) so_far = inr (sym so_far ∙ link_step parts bytes some ∙ ap link_behind e)
 
@@ -107,7 +107,7 @@ nothing_left : (bytes : List ℕ) → length bytes ≡ 0 → fields bytes ≡ []
 unfolding fields fields_within
 nothing_left bytes h = ap fields (nil_from_length bytes h)
 
-pub link_ends : (parts : Parts) (bytes : List ℕ) (total : Result Link PbFault) → length bytes ≡ 0 → link_from parts (fields bytes) ≡ total → link_end parts ≡ total
+pub link_ends : (parts : LinkParts) (bytes : List ℕ) (total : Result Link PbFault) → length bytes ≡ 0 → link_from parts (fields bytes) ≡ total → link_end parts ≡ total
 unfolding link_from
 link_ends parts bytes total h so_far = sym (ap (link_from parts) (nothing_left bytes h)) ∙ so_far
 

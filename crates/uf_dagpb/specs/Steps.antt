@@ -12,7 +12,7 @@ use Rattle.uf_dagpb.specs.declared.fault.PbFault.{PbFault}
 use Rattle.uf_dagpb.specs.declared.fault.PbFault.TheVariants as pb
 use Rattle.uf_dagpb.specs.declared.node.Link.{Link}
 use Rattle.uf_dagpb.specs.declared.node.Node.{Node}
-use Rattle.uf_dagpb.specs.declared.parts.Parts.{Parts}
+use Rattle.uf_dagpb.specs.declared.parts.LinkParts.{LinkParts}
 use Rattle.uf_dagpb.specs.Reading.{pb_fault, hash_of}
 
 -- a step of the cutting, with the fault that the reader answers
@@ -30,35 +30,35 @@ abbrev pub text_of : List ℕ → Result (List ℕ) PbFault
 text_of bytes = if is_utf8 bytes then Ok bytes else Err pb.NotText
 
 -- the parts of a link after its hash, its name or its Tsize, and the bytes after that
-abbrev pub hash_next : Parts → List ℕ → Result (Parts × List ℕ) PbFault
+abbrev pub hash_next : LinkParts → List ℕ → Result (LinkParts × List ℕ) PbFault
 hash_next parts bytes =
     if is_some parts.cid then Err pb.Twice
     else (cut (bytes_at bytes) >>= λ b. or_fault pb.BadCid (hash_of b.0)
     >>= λ c. Ok (record parts { cid = Some c }, b.1))
 
-abbrev pub name_next : Parts → List ℕ → Result (Parts × List ℕ) PbFault
+abbrev pub name_next : LinkParts → List ℕ → Result (LinkParts × List ℕ) PbFault
 name_next parts bytes =
     if is_some parts.name then Err pb.Twice
     else (cut (bytes_at bytes) >>= λ b. text_of b.0 >>= λ t. Ok (record parts { name = Some t }, b.1))
 
-abbrev pub tsize_next : Parts → List ℕ → Result (Parts × List ℕ) PbFault
+abbrev pub tsize_next : LinkParts → List ℕ → Result (LinkParts × List ℕ) PbFault
 tsize_next parts bytes =
     if is_some parts.tsize then Err pb.Twice
     else (cut (number_at bytes) >>= λ n. Ok (record parts { tsize = Some n.0 }, n.1))
 
 -- the parts of a link after one more field
-abbrev pub keyed_next : Parts → ℕ → List ℕ → Result (Parts × List ℕ) PbFault
+abbrev pub keyed_next : LinkParts → ℕ → List ℕ → Result (LinkParts × List ℕ) PbFault
 keyed_next parts key bytes =
     if key == 0x0a then hash_next parts bytes
     else if key == 0x12 then name_next parts bytes
     else if key == 0x18 then tsize_next parts bytes
     else Err pb.Field
 
-unfoldable pub link_next : Parts → List ℕ → Result (Parts × List ℕ) PbFault
+unfoldable pub link_next : LinkParts → List ℕ → Result (LinkParts × List ℕ) PbFault
 link_next parts bytes = cut (number_at bytes) >>= λ key. keyed_next parts key.0 key.1
 
 -- the link of all its parts
-unfoldable pub link_end : Parts → Result Link PbFault
+unfoldable pub link_end : LinkParts → Result Link PbFault
 link_end parts = or_fault pb.NoHash parts.cid
     >>= λ c. Ok (record { cid = c; name = unwrap_or parts.name []; tsize = unwrap_or parts.tsize 0 })
 
@@ -73,19 +73,19 @@ abbrev pub number_in : Content → Result ℕ PbFault
 number_in (Number n) = Ok n
 number_in (Bytes b) = Err pb.Field
 
-abbrev pub took_hash : Parts → Result Content CutFault → Result Parts PbFault
+abbrev pub took_hash : LinkParts → Result Content CutFault → Result LinkParts PbFault
 took_hash parts c = if is_some parts.cid then Err pb.Twice else (cut c >>= λ x. bytes_in x
     >>= λ b. or_fault pb.BadCid (hash_of b) >>= λ h. Ok (record parts { cid = Some h }))
 
-abbrev pub took_name : Parts → Result Content CutFault → Result Parts PbFault
+abbrev pub took_name : LinkParts → Result Content CutFault → Result LinkParts PbFault
 took_name parts c = if is_some parts.name then Err pb.Twice else (cut c >>= λ x. bytes_in x >>= λ b. text_of b
     >>= λ t. Ok (record parts { name = Some t }))
 
-abbrev pub took_tsize : Parts → Result Content CutFault → Result Parts PbFault
+abbrev pub took_tsize : LinkParts → Result Content CutFault → Result LinkParts PbFault
 took_tsize parts c = if is_some parts.tsize then Err pb.Twice
     else (cut c >>= λ x. number_in x >>= λ n. Ok (record parts { tsize = Some n }))
 
-abbrev pub took : Parts → ℕ → Result Content CutFault → Result Parts PbFault
+abbrev pub took : LinkParts → ℕ → Result Content CutFault → Result LinkParts PbFault
 took parts key c =
     if key == 0x0a then took_hash parts c
     else if key == 0x12 then took_name parts c
@@ -93,12 +93,12 @@ took parts key c =
     else Err pb.Field
 
 -- the link of some parts and the fields after them
-unfoldable pub link_from : Parts → List Field → Result Link PbFault
+unfoldable pub link_from : LinkParts → List Field → Result Link PbFault
 link_from parts [] = link_end parts
 link_from parts (NoKey f ∷ fs) = Err (pb_fault f)
 link_from parts (Keyed key c ∷ fs) = took parts key c >>= λ p. link_from p fs
 
-abbrev pub no_parts : Parts
+abbrev pub no_parts : LinkParts
 no_parts = record { cid = None; name = None; tsize = None }
 
 -- the link that bytes spell

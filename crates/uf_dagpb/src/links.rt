@@ -6,7 +6,7 @@ ghost use Rattle.uf_dagpb.specs.Steps.{link_reads};
 
 use crate::fault::PbFault;
 use crate::node::Link;
-use crate::parts::Parts;
+use crate::parts::LinkParts;
 use std::alloc::Global;
 use uf_cid::{Cid, Text};
 use uf_varint::{read_bytes, read_number};
@@ -35,7 +35,7 @@ fn text_in(alloc: Global, bytes: &[u8]) -> Result<Text, PbFault>
     }
 }
 
-fn hash_field(parts: Parts, bytes: &[u8]) -> Result<(Parts, &[u8]), PbFault>
+fn hash_field(parts: LinkParts, bytes: &[u8]) -> Result<(LinkParts, &[u8]), PbFault>
     ensures exact { Gives (λ x. (x.0, x.1.now)) result (hash_next parts bytes.now) }
     ensures shorter { IfOk result (λ x. length x.1.now < length bytes.now) }
 {
@@ -46,17 +46,17 @@ fn hash_field(parts: Parts, bytes: &[u8]) -> Result<(Parts, &[u8]), PbFault>
     match hash_in(hash) {
         None => Err(PbFault::BadCid),
         cid => {
-            let Parts {
+            let LinkParts {
                 cid: _,
                 name,
                 tsize,
             } = parts;
-            Ok((Parts { cid, name, tsize }, rest))
+            Ok((LinkParts { cid, name, tsize }, rest))
         }
     }
 }
 
-fn name_field(alloc: Global, parts: Parts, bytes: &[u8]) -> Result<(Parts, &[u8]), PbFault>
+fn name_field(alloc: Global, parts: LinkParts, bytes: &[u8]) -> Result<(LinkParts, &[u8]), PbFault>
     ensures exact { Gives (λ x. (x.0, x.1.now)) result (name_next parts bytes.now) }
     ensures shorter { IfOk result (λ x. length x.1.now < length bytes.now) }
 {
@@ -65,15 +65,15 @@ fn name_field(alloc: Global, parts: Parts, bytes: &[u8]) -> Result<(Parts, &[u8]
     }
     let (name, rest) = read_bytes(bytes)?;
     let name = Some(text_in(alloc, name)?);
-    let Parts {
+    let LinkParts {
         cid,
         name: _,
         tsize,
     } = parts;
-    Ok((Parts { cid, name, tsize }, rest))
+    Ok((LinkParts { cid, name, tsize }, rest))
 }
 
-fn tsize_field(parts: Parts, bytes: &[u8]) -> Result<(Parts, &[u8]), PbFault>
+fn tsize_field(parts: LinkParts, bytes: &[u8]) -> Result<(LinkParts, &[u8]), PbFault>
     ensures exact { Gives (λ x. (x.0, x.1.now)) result (tsize_next parts bytes.now) }
     ensures shorter { IfOk result (λ x. length x.1.now < length bytes.now) }
 {
@@ -82,20 +82,20 @@ fn tsize_field(parts: Parts, bytes: &[u8]) -> Result<(Parts, &[u8]), PbFault>
     }
     let (number, rest) = read_number(bytes)?;
     let tsize = Some(number);
-    let Parts {
+    let LinkParts {
         cid,
         name,
         tsize: _,
     } = parts;
-    Ok((Parts { cid, name, tsize }, rest))
+    Ok((LinkParts { cid, name, tsize }, rest))
 }
 
 fn keyed_field(
     alloc: Global,
-    parts: Parts,
+    parts: LinkParts,
     key: u64,
     bytes: &[u8],
-) -> Result<(Parts, &[u8]), PbFault>
+) -> Result<(LinkParts, &[u8]), PbFault>
     ensures exact { Gives (λ x. (x.0, x.1.now)) result (keyed_next parts key bytes.now) }
     ensures shorter { IfOk result (λ x. length x.1.now < length bytes.now) }
 {
@@ -109,7 +109,7 @@ fn keyed_field(
 
 // The parts after one more field.
 #[tactic(auto, unfolding(crate::specs::Steps::link_next))]
-fn link_field(alloc: Global, parts: Parts, bytes: &[u8]) -> Result<(Parts, &[u8]), PbFault>
+fn link_field(alloc: Global, parts: LinkParts, bytes: &[u8]) -> Result<(LinkParts, &[u8]), PbFault>
     ensures exact { Gives (λ x. (x.0, x.1.now)) result (link_next parts bytes.now) }
     ensures shorter { IfOk result (λ x. length x.1.now < length bytes.now) }
 {
@@ -119,10 +119,10 @@ fn link_field(alloc: Global, parts: Parts, bytes: &[u8]) -> Result<(Parts, &[u8]
 
 // The link of all its parts.
 #[tactic(auto, unfolding(crate::specs::Steps::link_end))]
-fn whole(alloc: Global, parts: Parts) -> Result<Link, PbFault>
+fn whole(alloc: Global, parts: LinkParts) -> Result<Link, PbFault>
     ensures { Gives (λ l. l) result (link_end parts) }
 {
-    let Parts { cid, name, tsize } = parts;
+    let LinkParts { cid, name, tsize } = parts;
     match cid {
         None => Err(PbFault::NoHash),
         Some(cid) => Ok(Link {
@@ -137,7 +137,7 @@ fn whole(alloc: Global, parts: Parts) -> Result<Link, PbFault>
 pub fn decode_link(alloc: Global, bytes: &[u8]) -> Result<Link, PbFault>
     ensures { Gives (λ l. l) result (link_reads bytes.now) }
 {
-    let mut parts = Parts {
+    let mut parts = LinkParts {
         cid: None,
         name: None,
         tsize: None,

@@ -3,7 +3,7 @@ use uf_cid::{Cid, Text};
 
 // The parts of a link that stood in the fields so far.
 #[derive(Drop)]
-pub struct Parts {
+pub struct LinkParts {
     pub cid: Option<Cid>,
     pub name: Option<Text>,
     pub tsize: Option<u64>,
