@@ -14,7 +14,7 @@ use Rattle.uf_store.specs.Lost.{IsLossOf}
 use Rattle.uf_store.specs.Seen.{Seen}
 use Rattle.uf_store.specs.Writing.{IsSave, SavesOnly}
 use Rattle.uf_store.proofs.Writing.{SavesOnly-trans, Wrote-good, agrees-between}
-use Rattle.uf_fileedit.specs.declared.changing.Target.{Target}
+use Rattle.uf_fileedit.specs.declared.changing.PartEdit.{PartEdit}
 use Rattle.uf_fileedit.specs.declared.layout.Heights.{Heights}
 use Rattle.uf_store.specs.declared.store.StoreFault.{StoreFault}
 use Rattle.uf_store.proofs.Causes.{Shows-after, Shows-by, StaysCalm-trans}
@@ -322,7 +322,7 @@ module _ (X : List ℕ → List ℕ) (p : Profile) (top h : ℕ) (low : h < top)
       subst (λ k. AreOld X p (span p.chunk p.width k) (min top h) olds gs) (let e : min (top - 1) h ≡ h = omega arith in e)
       (subst (λ k. AreOld X p (span p.chunk p.width (min (top - 1) h)) k olds gs) (let e : min (top - 1) h ≡ min top h = omega arith in e) are)
 
-  pub base-gives : (olds : List Part) (target : Target) (piece : List ℕ) (a b : Told) (r : Result (List Part) StoreFault) → MakesParts X p top h olds target piece a b r → MakesRoot X p top (min (top - 1) h) h olds target piece a b r
+  pub base-gives : (olds : List Part) (target : PartEdit) (piece : List ℕ) (a b : Told) (r : Result (List Part) StoreFault) → MakesParts X p top h olds target piece a b r → MakesRoot X p top (min (top - 1) h) h olds target piece a b r
   base-gives olds target piece a b r made = λ gs are fits agrees agrees_now.
       let same : min top h ≡ min (top - 1) h = omega arith in
       subst (λ k. Agrees a (blocks_of_all X p k gs) → Agrees b (blocks_of_all X p k gs) → IfOk r (λ parts. GivesAll X p b (blocks_of_all X p k gs) h parts (groups (span p.chunk p.width h) (overlaid target.size (joined gs) target.offset piece)))) same

@@ -12,7 +12,7 @@ use Rattle.uf_store.specs.Keeping.{Agrees, Holds}
 use Rattle.uf_store.specs.Lost.{IsLossOf}
 use Rattle.uf_store.specs.Seen.{Seen}
 use Rattle.uf_store.specs.declared.store.StoreFault.{StoreFault}
-use Rattle.uf_fileedit.specs.declared.changing.Target.{Target}
+use Rattle.uf_fileedit.specs.declared.changing.PartEdit.{PartEdit}
 use Rattle.uf_tree.specs.declared.meta.Meta.{Meta}
 use Rattle.uf_tree.specs.declared.nodes.Part.{Part}
 use Rattle.uf_tree.specs.declared.profile.Profile.{Profile}
@@ -139,7 +139,7 @@ pub record GivesFile (X : List ℕ → List ℕ) (p : Profile) (m : Meta) (told 
 
 -- over the old part's bytes, with whose blocks the store agrees before and after, the part of this height over the
 -- changed bytes is made
-abbrev pub MakesPart : (List ℕ → List ℕ) → Profile → ℕ → ℕ → Target → List ℕ → Told → Told
+abbrev pub MakesPart : (List ℕ → List ℕ) → Profile → ℕ → ℕ → PartEdit → List ℕ → Told → Told
     → Result Part StoreFault → Type 0
 MakesPart X p top k target piece before now answer =
     (b : List ℕ) → IsOld X p (min top k) target.old b → Agrees before (old_blocks X p (min top k) target.old b)
@@ -155,7 +155,7 @@ LosesOfPart X p k old before now answer =
     → IfErr answer (IsLossOf now.told (old_blocks X p k old b))
 
 -- the same of the parts below a node, whose parts have this height
-abbrev pub MakesParts : (List ℕ → List ℕ) → Profile → ℕ → ℕ → List Part → Target → List ℕ → Told → Told
+abbrev pub MakesParts : (List ℕ → List ℕ) → Profile → ℕ → ℕ → List Part → PartEdit → List ℕ → Told → Told
     → Result (List Part) StoreFault → Type 0
 MakesParts X p top k olds target piece before now answer =
     (gs : List (List ℕ)) → AreOld X p (span p.chunk p.width k) (min top k) olds gs
@@ -183,7 +183,7 @@ pub record IsFirstOf (X : List ℕ → List ℕ) (p : Profile) (high k : ℕ) (o
 
 -- over the bytes of a file whose root, of height `top`, has these old parts below it, the parts of height k over the
 -- changed bytes are made
-abbrev pub MakesRoot : (List ℕ → List ℕ) → Profile → ℕ → ℕ → ℕ → List Part → Target → List ℕ → Told → Told
+abbrev pub MakesRoot : (List ℕ → List ℕ) → Profile → ℕ → ℕ → ℕ → List Part → PartEdit → List ℕ → Told → Told
     → Result (List Part) StoreFault → Type 0
 MakesRoot X p top j k olds target piece before now answer =
     (gs : List (List ℕ)) → AreOld X p (span p.chunk p.width j) j olds gs

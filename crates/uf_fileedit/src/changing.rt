@@ -25,7 +25,7 @@ use uf_tree::{Part, Parts, Profile};
 
 // What is made of an old part, where there is one: n bytes, and a piece is laid over them from a place on.
 #[derive(Clone, Copy)]
-pub struct Target {
+pub struct PartEdit {
     pub old: Option<Part>,
     pub size: u64,
     pub offset: u64,
@@ -84,7 +84,7 @@ pub fn change<S: Store, L: Ledger>(
     alloc: Global,
     store: &mut S,
     layer: Layer,
-    target: Target,
+    target: PartEdit,
     piece: &[u8],
     touches: &mut Steps<L>,
 ) -> Result<Part, StoreFault>
@@ -126,7 +126,7 @@ pub fn change<S: Store, L: Ledger>(
 }
 
 // The old part, where it has this size already, stands as high as it has to, and nothing is written.
-fn same_part(layer: Layer, target: Target, piece: &[u8]) -> Option<Part>
+fn same_part(layer: Layer, target: PartEdit, piece: &[u8]) -> Option<Part>
     ensures old { IfSome result (λ part. target.old ≡ Some part) }
     ensures left { IfSome result (λ part. (layer.height ≤ layer.top) × (part.size ≡ target.size)
         × (length piece.now ≡ 0)) }
@@ -147,7 +147,7 @@ fn change_node<S: Store, L: Ledger>(
     alloc: Global,
     store: &mut S,
     layer: Layer,
-    target: Target,
+    target: PartEdit,
     piece: &[u8],
     touches: &mut Steps<L>,
 ) -> Result<Part, StoreFault>
@@ -181,7 +181,7 @@ pub fn change_parts<S: Store, L: Ledger>(
     alloc: Global,
     store: &mut S,
     layer: Layer,
-    target: Target,
+    target: PartEdit,
     olds: &[Part],
     piece: &[u8],
     touches: &mut Steps<L>,
@@ -219,7 +219,7 @@ pub fn change_parts<S: Store, L: Ledger>(
         let count = left.min(most);
         let cut = (rest.len() as u64).min(count.saturating_sub(place)) as usize;
         let old = part_at(olds, at);
-        let one = Target {
+        let one = PartEdit {
             old,
             size: count,
             offset: place,
@@ -241,7 +241,7 @@ fn change_one<S: Store, L: Ledger>(
     alloc: Global,
     store: &mut S,
     layer: Layer,
-    target: Target,
+    target: PartEdit,
     blank: Option<Part>,
     piece: &[u8],
     touches: &mut Steps<L>,

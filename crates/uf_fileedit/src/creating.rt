@@ -20,7 +20,7 @@ ghost use Rattle.uf_fileedit.specs.Touches.{Climbs, IsEditWithin, TouchedFirst, 
 ghost use Rattle.uf_fileedit.specs.Touches.{written_chunks};
 ghost use Rattle.uf_fileedit.specs.Ways.{IsBadAmongOld};
 
-use crate::changing::{Target, change_parts};
+use crate::changing::{PartEdit, change_parts};
 use crate::layout::{Layer, heights_of};
 use crate::leaves::{change_leaf, save_zeros};
 use crate::nodes::just;
@@ -64,7 +64,7 @@ pub fn create<S: Store, L: Ledger>(
         → touches.new ≤ touches.old + edit_touches (written_chunks p.now.chunk 0 offset (length piece.now)) rows }
 {
     if piece.is_empty() {
-        let nothing = Target {
+        let nothing = PartEdit {
             old: None,
             size: 0,
             offset,
@@ -76,7 +76,7 @@ pub fn create<S: Store, L: Ledger>(
     if more > most || offset > most - more {
         return Err(BuildFault::FileTooLong);
     }
-    let target = Target {
+    let target = PartEdit {
         old: None,
         size: offset + more,
         offset,
@@ -90,7 +90,7 @@ fn save_new<S: Store, L: Ledger>(
     store: &mut S,
     p: &Profile,
     meta: &Meta,
-    target: Target,
+    target: PartEdit,
     piece: &[u8],
     touches: &mut Steps<L>,
 ) -> Result<Entry, StoreFault>
@@ -133,7 +133,7 @@ fn new_parts<S: Store, L: Ledger>(
     alloc: Global,
     store: &mut S,
     layer: Layer,
-    target: Target,
+    target: PartEdit,
     piece: &[u8],
     touches: &mut Steps<L>,
 ) -> Result<Parts, StoreFault>

@@ -18,7 +18,7 @@ ghost use Rattle.uf_fileedit.specs.Touches.{written_chunks};
 ghost use Rattle.uf_tree.specs.FileSub.{IsFileHeight, IsHeight};
 ghost use Rattle.uf_tree.specs.declared.meta.Meta.{Meta as TheMeta};
 
-use crate::changing::Target;
+use crate::changing::PartEdit;
 use crate::growing::remade;
 use crate::layout::{Layer, heights_of};
 use crate::root::{root_of, save_over, size_over};
@@ -211,7 +211,7 @@ fn edit<S: Store, L: Ledger>(
         entry: *entry,
         size: at.first,
     };
-    let target = Target {
+    let target = PartEdit {
         old: Some(whole),
         size,
         offset: extent.offset,

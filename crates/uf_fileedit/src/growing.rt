@@ -16,7 +16,7 @@ ghost use Rattle.uf_fileedit.specs.Changes.{blocks_of_all};
 ghost use Rattle.uf_fileedit.specs.Touches.{AreBelow, IsChangeWithin};
 ghost use Rattle.uf_fileedit.specs.Ways.{IsBadAmongOld, StandAmong};
 
-use crate::changing::{Target, change_parts, front_of};
+use crate::changing::{PartEdit, change_parts, front_of};
 use crate::layout::{Layer, span_of};
 use crate::leaves::{change_leaf, save_zeros};
 use crate::nodes::{just, load_parts};
@@ -33,7 +33,7 @@ pub fn remade<S: Store, L: Ledger>(
     alloc: Global,
     store: &mut S,
     layer: Layer,
-    target: Target,
+    target: PartEdit,
     olds: Parts,
     piece: &[u8],
     touches: &mut Steps<L>,
@@ -91,7 +91,7 @@ pub fn remade<S: Store, L: Ledger>(
 }
 
 // Where zeros begin that fill a file: at the end of the old bytes.
-fn gap_start(target: Target) -> u64
+fn gap_start(target: PartEdit) -> u64
     ensures { result ≤ target.size }
 {
     match target.old {
@@ -101,7 +101,7 @@ fn gap_start(target: Target) -> u64
 }
 
 // Where zeros end that fill a file: before a piece, or at its end.
-fn gap_end(target: Target, piece: &[u8]) -> u64 {
+fn gap_end(target: PartEdit, piece: &[u8]) -> u64 {
     if piece.is_empty() {
         target.size
     } else {
@@ -170,7 +170,7 @@ fn grown<S: Store, L: Ledger>(
     alloc: Global,
     store: &mut S,
     layer: Layer,
-    target: Target,
+    target: PartEdit,
     olds: &[Part],
     piece: &[u8],
     touches: &mut Steps<L>,
@@ -214,14 +214,14 @@ fn grown<S: Store, L: Ledger>(
     };
     let count = span_of(&layer.p, layer.height);
     let cut = (piece.len() as u64).min(count.saturating_sub(target.offset)) as usize;
-    let one = Target {
+    let one = PartEdit {
         old: target.old,
         size: count,
         offset: target.offset,
     };
     let firsts = grown(alloc, store, below, one, olds, &piece[..cut], touches)?;
     let first = save_node(alloc, store, firsts.as_slice(), touches)?;
-    let others = Target {
+    let others = PartEdit {
         old: None,
         size: target.size - count,
         offset: target.offset.saturating_sub(count),
