@@ -21,7 +21,7 @@ ghost use Rattle.uf_mfs.specs.Standing.{IsAgreed, IsMfs, StandsAt, StandsOver};
 ghost use Rattle.uf_mfs.specs.Steps.{ChangesFolder, EditsFolder, MovesTree, entry_or, stop_fault, tree_fault};
 ghost use Rattle.uf_mfs.specs.Touches.{CountsUp, TouchesFolder, crossings_of, touch_bound, weighing_at, where_done};
 
-use crate::editing::{Act, Site, edit, fill};
+use crate::editing::{Act, EditSite, edit, fill};
 use crate::remaking::remade;
 use crate::telling::fault_of;
 use crate::{Mfs, MfsFault, Stop, Thing};
@@ -213,7 +213,7 @@ impl Mfs {
             (put_needs S.X.block32 N.name64 self.now.profile names.now) (stop_fault result) }
         ensures touched { CountsUp (stop_fault result) touches.old touches.new }
     {
-        let site = Site {
+        let site = EditSite {
             profile: self.profile,
             what,
             piece,
@@ -239,7 +239,7 @@ impl Mfs {
 fn edit_root<S: Store, N: NameHash, L: Ledger>(
     alloc: Global,
     store: &mut S,
-    site: &Site,
+    site: &EditSite,
     root: &Entry,
     touches: &mut Steps<L>,
 ) -> Result<Option<Entry>, Stop>

@@ -50,7 +50,7 @@ pub(crate) enum Act {
 
 /// An edit on its way: how blocks are made, what is done, with which piece, and how many names led here.
 #[derive(Clone, Copy, PartialEq, Eq)]
-pub(crate) struct Site<'a> {
+pub(crate) struct EditSite<'a> {
     pub profile: Profile,
     pub what: Act,
     pub piece: &'a [u8],
@@ -63,7 +63,7 @@ pub(crate) struct Site<'a> {
 pub(crate) fn edit<S: Store, N: NameHash, L: Ledger>(
     alloc: Global,
     store: &mut S,
-    site: &Site,
+    site: &EditSite,
     name: &Name,
     rest: &[Name],
     folder: &Entry,
@@ -105,7 +105,7 @@ pub(crate) fn edit<S: Store, N: NameHash, L: Ledger>(
         return edit_here::<S, N, L>(alloc, store, site, name, folder, found, touches);
     };
     let below = folder_of(site.led + 1, found)?;
-    let under = Site {
+    let under = EditSite {
         led: site.led + 1,
         ..*site
     };
@@ -217,7 +217,7 @@ pub(crate) fn folder_of(led: usize, found: Option<Thing>) -> Result<Entry, Refus
 fn edit_here<S: Store, N: NameHash, L: Ledger>(
     alloc: Global,
     store: &mut S,
-    site: &Site,
+    site: &EditSite,
     name: &Name,
     folder: &Entry,
     found: Option<Thing>,

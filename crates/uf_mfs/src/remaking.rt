@@ -27,7 +27,7 @@ ghost use Rattle.uf_mfs.specs.Touches.{CountsUp, TouchesFolder};
 ghost use Rattle.uf_mfs.specs.declared.thing.FolderRoot.{FolderRoot};
 ghost use Rattle.uf_mfs.specs.declared.thing.Thing.TheVariants.{Folder};
 
-use crate::editing::{Act, Site};
+use crate::editing::{Act, EditSite};
 use crate::measuring::stat_of;
 use crate::writing::good;
 use crate::{Mfs, MfsFault, Stop, Thing};
@@ -207,7 +207,7 @@ impl Mfs {
 pub(crate) fn remade_member<S: Store, N: NameHash, L: Ledger>(
     alloc: Global,
     store: &mut S,
-    site: &Site,
+    site: &EditSite,
     what: MetaEdit,
     found: Option<Thing>,
     touches: &mut Steps<L>,

@@ -32,7 +32,7 @@ ghost use Rattle.uf_mfs.specs.Writes.{MakesFile, writing_bound};
 ghost use Rattle.uf_mfs.specs.Writes.{file_touches, fitting_bytes, leaves_found};
 ghost use Rattle.uf_mfs.specs.Writes.{rewriting_touches};
 
-use crate::editing::{Act, Site};
+use crate::editing::{Act, EditSite};
 use crate::{Mfs, MfsFault, Stop, Thing};
 use std::alloc::Global;
 use std::sync::ledger::Ledger;
@@ -152,7 +152,7 @@ pub(crate) fn leaves(what: FileEdit, piece: &[u8], found: Option<Thing>) -> bool
 pub(crate) fn new_file<S: Store, L: Ledger>(
     alloc: Global,
     store: &mut S,
-    site: &Site,
+    site: &EditSite,
     what: FileEdit,
     found: Option<Thing>,
     touches: &mut Steps<L>,
@@ -211,7 +211,7 @@ fn start_of(what: FileEdit, led: usize, found: Option<Thing>) -> Result<Start, R
 fn created_file<S: Store, L: Ledger>(
     alloc: Global,
     store: &mut S,
-    site: &Site,
+    site: &EditSite,
     how: WriteHow,
     meta: &Meta,
     touches: &mut Steps<L>,
@@ -239,7 +239,7 @@ fn created_file<S: Store, L: Ledger>(
 fn rewritten_file<S: Store, L: Ledger>(
     alloc: Global,
     store: &mut S,
-    site: &Site,
+    site: &EditSite,
     what: FileEdit,
     old: &Entry,
     touches: &mut Steps<L>,
