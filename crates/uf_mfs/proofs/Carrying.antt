@@ -33,7 +33,7 @@ use Rattle.uf_mfs.specs.declared.fault.Stop.{Stop}
 use Rattle.uf_mfs.specs.declared.fault.Stop.TheVariants as stop
 use Rattle.uf_mfs.specs.Answers.{AnswersOr, MeetsOr, MovesAfter, ShownInTree, Tells}
 use Rattle.uf_mfs.specs.Moving.{Gives, GivesOr, GivesOver, IsFound, IsOntoItself, MovesBy, MovesRoot, copy_bound, entry_in, found_crossings, move_bound, put_crossings}
-use Rattle.uf_mfs.specs.declared.target.Target.{Target}
+use Rattle.uf_mfs.specs.declared.target.MoveTarget.{MoveTarget}
 use Rattle.uf_mfs.specs.declared.thing.Thing.{Thing}
 use Rattle.uf_mfs.specs.Standing.{IsAfter, IsAgreed, IsAgreedThing, IsPlanOf, StandsAfter, StandsAt, StandsOver, TellsHeld}
 use Rattle.uf_mfs.specs.Steps.{IsFolderOver}
@@ -233,7 +233,7 @@ module _ (X : List ℕ → List ℕ) (N : List ℕ → ℕ) (p : Profile) where
       ap (lie_of source) same ∙ subst (λ (w : Result (Spot × Entries) Rule). elim w as (λ w. Type 0) [ Ok found ↦ lie_of source (spot_names found.0) ≡ Itself | Err rule ↦ ⊥ ]) at-found h
 
 -- a source and a target that were found, one after the other
-pub record MoveFound (X : List ℕ → List ℕ) (N : List ℕ → ℕ) (p : Profile) (told : Told) (source : List (List ℕ)) (dest : Path) (es : Entries) (thing : Thing) (given : Target) : Type 0 where
+pub record MoveFound (X : List ℕ → List ℕ) (N : List ℕ → ℕ) (p : Profile) (told : Told) (source : List (List ℕ)) (dest : Path) (es : Entries) (thing : Thing) (given : MoveTarget) : Type 0 where
   pub t : Tree
   pub there : at 0 source (Dir es) ≡ Ok t
   pub is_thing : IsAgreedThing X N told p t thing
@@ -241,7 +241,7 @@ pub record MoveFound (X : List ℕ → List ℕ) (N : List ℕ → ℕ) (p : Pro
   pub at_found : target dest (name_of source) es ≡ Ok found
   pub is_found : IsFound X N told p found given
 
-pub move-found : (X : List ℕ → List ℕ) (N : List ℕ → ℕ) (p : Profile) (source : List (List ℕ)) (dest : Path) (es : Entries) (root : Entry) (thing : Thing) (given : Target) (last : List ℕ) {Bad Other : Role → List ℕ → Type 0} {a b d : Seen}
+pub move-found : (X : List ℕ → List ℕ) (N : List ℕ → ℕ) (p : Profile) (source : List (List ℕ)) (dest : Path) (es : Entries) (root : Entry) (thing : Thing) (given : MoveTarget) (last : List ℕ) {Bad Other : Role → List ℕ → Type 0} {a b d : Seen}
     → OnlyReads X Bad None a b → OnlyReads X Other None b d → 1 ≤ length source → last ≡ get_or source (length source - 1) last → IsAgreed X N a.told p root (Dir es) → Stood a.faults d.faults
     → (IsAgreed X N a.told p root (Dir es) → Stood a.faults b.faults → MeetsOr (IsLossOf a.told (way X N p source (Dir es))) (λ t x. IsAgreedThing X N a.told p t x) (at 0 source (Dir es)) (Ok thing))
     → (IsAgreed X N b.told p root (Dir es) → Stood b.faults d.faults → GivesOver X N b.told p es (IsFound X N b.told p) (target dest (Some last) es) (Ok given))

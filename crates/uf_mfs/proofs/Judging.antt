@@ -30,7 +30,7 @@ use Rattle.uf_mfs.specs.Steps.{stop_fault}
 use Rattle.uf_mfs.specs.Bad.{IsBad, IsBadInHead, IsBadInTree, IsHeadTold, IsBadUnder, IsRequired, RequiresDirectory, AtRoot, AsMet}
 use Rattle.uf_mfs.specs.declared.thing.Thing.{Thing}
 use Rattle.uf_mfs.specs.declared.thing.Thing.TheVariants.{File as FileAt, Folder as FolderAt}
-use Rattle.uf_mfs.specs.declared.target.Target.{Target}
+use Rattle.uf_mfs.specs.declared.target.MoveTarget.{MoveTarget}
 use Rattle.uf_mfs.specs.Moving.{folder_there}
 
 -- what is bad without a profile is bad with one
@@ -81,7 +81,7 @@ module _ (X : List ℕ → List ℕ) (N : List ℕ → ℕ) where
   member-below root below None r h = tt
   member-below root below (Some thing) r h = required-below root below thing r h
 
-  pub target-below : (root below : Cid) (r : Result Target MfsFault) → RequiresDirectory X root below.digest → IfOk r (λ (t : Target). IfSome t.there (IsRequired X below)) → IfOk r (λ (t : Target). IfSome t.there (IsRequired X root))
+  pub target-below : (root below : Cid) (r : Result MoveTarget MfsFault) → RequiresDirectory X root below.digest → IfOk r (λ (t : MoveTarget). IfSome t.there (IsRequired X below)) → IfOk r (λ (t : MoveTarget). IfSome t.there (IsRequired X root))
   target-below root below (Ok t) r h = member-below root below t.there r h
   target-below root below (Err f) r h = tt
 

@@ -30,7 +30,7 @@ use Rattle.uf_mfs.specs.declared.fault.MfsFault.{MfsFault}
 use Rattle.uf_mfs.specs.declared.fault.MfsFault.TheVariants as fault
 use Rattle.uf_mfs.specs.declared.fault.Stop.{Stop}
 use Rattle.uf_mfs.specs.declared.fault.Stop.TheVariants as stop
-use Rattle.uf_mfs.specs.declared.target.Target.{Target}
+use Rattle.uf_mfs.specs.declared.target.MoveTarget.{MoveTarget}
 use Rattle.uf_mfs.specs.declared.thing.FolderRoot.{FolderRoot}
 use Rattle.uf_mfs.specs.declared.thing.Thing.{Thing}
 use Rattle.uf_mfs.specs.declared.thing.Thing.TheVariants.{File as FileAt, Folder as FolderAt}
@@ -285,7 +285,7 @@ module _ (dest : Path) (last name : List ℕ) (es : Entries) (out : dest.into �
 module _ (X : List ℕ → List ℕ) (N : List ℕ → ℕ) (p : Profile) (told : Told) (dest : Path) (last name : List ℕ) (es : Entries)
     (out : dest.into ≡ false) (some : 1 ≤ length dest.names) (is : last ≡ get_or dest.names (length dest.names - 1) last) where
   -- what was found there
-  which : (found : Target) → GivesOver X N told p es (IsFound X N told p) (told_of dest.names (lands (front_names dest last name es out some is) last es)) (Ok found)
+  which : (found : MoveTarget) → GivesOver X N told p es (IsFound X N told p) (told_of dest.names (lands (front_names dest last name es out some is) last es)) (Ok found)
       → (fs : Entries) × (folder_at (front_names dest last name es out some is) es ≡ Ok fs) × (found.names ≡ front_names dest last name es out some is ++ last ∷ []) × IsAgreedMember X N told p (child last fs) found.there
   which found h = by (folder_at (front_names dest last name es out some is) es) refl h
     where
@@ -296,7 +296,7 @@ module _ (X : List ℕ → List ℕ) (N : List ℕ → ℕ) (p : Profile) (told 
       by (Ok fs) there h = (fs, there, h.names, h.there)
 
   -- no folder is there: that is the target
-  pub target-there : (found : Target) → None ≡ folder_there found.there
+  pub target-there : (found : MoveTarget) → None ≡ folder_there found.there
       → GivesOver X N told p es (IsFound X N told p) (told_of dest.names (lands (front_names dest last name es out some is) last es)) (Ok found)
       → GivesOver X N told p es (IsFound X N told p) (target dest (Some name) es) (Ok found)
   target-there found never h =
@@ -313,7 +313,7 @@ module _ (X : List ℕ → List ℕ) (N : List ℕ → ℕ) (p : Profile) (told 
       none (Some (Dir gs)) (Some (FolderAt e links)) same i = absurd cc
 
   -- a folder is there: it is entered
-  pub target-in : {D : Type 0} (Q : Spot × Entries → D → Type 0) (found : Target) (e : Entry) (r : Result D MfsFault) → Some e ≡ folder_there found.there
+  pub target-in : {D : Type 0} (Q : Spot × Entries → D → Type 0) (found : MoveTarget) (e : Entry) (r : Result D MfsFault) → Some e ≡ folder_there found.there
       → GivesOver X N told p es (IsFound X N told p) (told_of dest.names (lands (front_names dest last name es out some is) last es)) (Ok found)
       → ((gs : Entries) → IsAgreed X N told p e (Dir gs) → GivesOver X N told p gs Q (Ok (record { folder = dest.names; name = name }, gs)) r)
       → GivesOver X N told p es Q (target dest (Some name) es) r

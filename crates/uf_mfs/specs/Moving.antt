@@ -30,7 +30,7 @@ use Rattle.uf_tree.specs.TreePlan.{blocks}
 use Rattle.uf_mfs.specs.declared.fault.MfsFault.{MfsFault}
 use Rattle.uf_mfs.specs.declared.fault.MfsFault.TheVariants as fault
 use Rattle.uf_mfs.specs.declared.mfs.Mfs.{Mfs}
-use Rattle.uf_mfs.specs.declared.target.Target.{Target}
+use Rattle.uf_mfs.specs.declared.target.MoveTarget.{MoveTarget}
 use Rattle.uf_mfs.specs.declared.thing.Thing.{Thing}
 use Rattle.uf_mfs.specs.declared.thing.Thing.TheVariants.{File as FileAt, Folder as FolderAt}
 use Rattle.uf_mfs.specs.Standing.{IsAfter, IsAgreedMember, IsAgreedThing, StandsAfter, StandsAt}
@@ -108,7 +108,7 @@ vacant_at names folder name es = then_go (told_of names (lands folder name es)) 
 
 module _ (X : List ℕ → List ℕ) (N : List ℕ → ℕ) where
   -- where a move goes was found: its names, and what is there
-  pub record IsFound (told : Told) (p : Profile) (found : Spot × Entries) (given : Target) : Type 0 where
+  pub record IsFound (told : Told) (p : Profile) (found : Spot × Entries) (given : MoveTarget) : Type 0 where
     pub names : given.names ≡ spot_names found.0
     pub there : IsAgreedMember X N told p (child found.0.name found.1) given.there
 

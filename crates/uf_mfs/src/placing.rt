@@ -28,7 +28,7 @@ ghost use Rattle.uf_mfs.specs.Touches.{CountsUp, TouchesFolder, crossings_of, we
 use crate::editing::Act;
 use crate::looking::look;
 use crate::spotting::{exists_at, target_of};
-use crate::target::Target;
+use crate::target::MoveTarget;
 use crate::telling::fault_of;
 use crate::{Mfs, MfsFault, Stop, Thing};
 use std::alloc::Global;
@@ -205,7 +205,7 @@ fn moved_to<S: Store, N: NameHash, L: Ledger>(
     tree: &Mfs,
     source: &[Name],
     thing: Thing,
-    target: &Target,
+    target: &MoveTarget,
     touches: &mut Steps<L>,
 ) -> Result<Entry, MfsFault>
     requires mfs { IsMfs tree.now }

@@ -20,7 +20,7 @@ ghost use Rattle.uf_mfs.specs.Touches.{CountsUp};
 ghost use Rattle.uf_mfs.specs.declared.fault.Stop.TheVariants as stop;
 
 use crate::looking::{look, member};
-use crate::target::Target;
+use crate::target::MoveTarget;
 use crate::telling::fault_of;
 use crate::{Mfs, MfsFault, Stop, Thing};
 use std::alloc::Global;
@@ -133,7 +133,7 @@ pub(crate) fn target_of<S: Store, N: NameHash, L: Ledger>(
     name: &Name,
     root: &Entry,
     touches: &mut Steps<L>,
-) -> Result<Target, MfsFault>
+) -> Result<MoveTarget, MfsFault>
     ensures found { (p : TheProfile) (es : Entries)
         → IsAgreed S.X.block32 N.name64 (S.seen store.old).told p root.now (Dir es)
         → Stood (S.seen store.old).faults (S.seen store.new).faults
@@ -180,7 +180,7 @@ fn landing<S: Store, N: NameHash, L: Ledger>(
     name: &Name,
     root: &Entry,
     touches: &mut Steps<L>,
-) -> Result<Target, MfsFault>
+) -> Result<MoveTarget, MfsFault>
     ensures found { (p : TheProfile) (es : Entries)
         → IsAgreed S.X.block32 N.name64 (S.seen store.old).told p root.now (Dir es)
         → Stood (S.seen store.old).faults (S.seen store.new).faults
@@ -207,7 +207,7 @@ fn under<S: Store, N: NameHash, L: Ledger>(
     name: &Name,
     entry: &Entry,
     touches: &mut Steps<L>,
-) -> Result<Target, MfsFault>
+) -> Result<MoveTarget, MfsFault>
     ensures found { (p : TheProfile) (fs : Entries)
         → IsAgreed S.X.block32 N.name64 (S.seen store.old).told p entry.now (Dir fs)
         → Stood (S.seen store.old).faults (S.seen store.new).faults
@@ -224,7 +224,7 @@ fn under<S: Store, N: NameHash, L: Ledger>(
         Err(stop) => Err(fault_of(alloc, folder, stop)),
         Ok(there) => {
             let names = joined_names(alloc, folder, name)?;
-            Ok(Target { names, there })
+            Ok(MoveTarget { names, there })
         }
     }
 }

@@ -4,7 +4,7 @@ use uf_tree::Names;
 
 /// Where a move goes: the names that lead there, and what is there.
 #[derive(Drop)]
-pub struct Target {
+pub struct MoveTarget {
     pub names: Names,
     pub there: Option<Thing>,
 }

@@ -8,7 +8,7 @@ use Rattle.uf_tree.specs.declared.nodes.Entry.{Entry}
 use Rattle.uf_plain.specs.Edits.{at}
 use Rattle.uf_plain.specs.Needs.{way}
 use Rattle.uf_plain.specs.Moves.{allowed_move, carried, moved_to, target}
-use Rattle.uf_mfs.specs.declared.target.Target.{Target}
+use Rattle.uf_mfs.specs.declared.target.MoveTarget.{MoveTarget}
 use Rattle.uf_mfs.specs.declared.thing.Thing.{Thing}
 use Rattle.uf_mfs.specs.Moving.{GivesOver, IsFound}
 use Rattle.uf_mfs.specs.Standing.{IsAfter, IsAgreed, IsAgreedThing}
@@ -75,7 +75,7 @@ returns-in_err-target-in-Ok-clause-moves g c = λ p es same o.
     let X = g.S.X.BlockHash.block32 in let N = g.N.NameHash.name64 in let source = c.args.source.now in let dest = c.args.dest.now in let root = c.args.tree.now.root in
     let a = g.S.Store.seen c.args.store.now in let b = g.S.Store.seen c.look.new.store in let d = g.S.Store.seen c.target_of.new.store in let looked = c.in-Ok.ensures.reads in
     let f = c.in_err-target-in-Ok.field-0.0 in let out = err_from_is_err_and c.from_residual.result c.from_residual.ensures.1 in
-    let front = stood-front a.faults b.faults d.faults looked.cause.faults (tree-rises {A = Target} (Err f) c.in_err-target-in-Ok.ensures.reads) o.calm.faults in
+    let front = stood-front a.faults b.faults d.faults looked.cause.faults (tree-rises {A = MoveTarget} (Err f) c.in_err-target-in-Ok.ensures.reads) o.calm.faults in
     let back = stood-back a.faults b.faults d.faults looked.cause.faults o.calm.faults in
     let s = agreed-over X N p root es o in
     let met = meets-value (IsLossOf a.told (way X N p source (Dir es))) (λ (t : Tree) (x : Thing). IsAgreedThing X N a.told p t x) (at 0 source (Dir es)) c.in-Ok.thing (c.in-Ok.ensures.looks p (Dir es) (s, tt) front) in
