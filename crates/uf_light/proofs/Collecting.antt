@@ -17,7 +17,7 @@ use Rattle.uf_plain.specs.declared.rule.Refused.TheVariants as why
 use Rattle.uf_plain.specs.Edits.{at, child}
 use Rattle.uf_plain.specs.Needs.{member_needs, root_of}
 use Rattle.uf_plain.specs.Replies.{root_block}
-use Rattle.uf_light.specs.declared.met.Met.{Met}
+use Rattle.uf_light.specs.declared.met.PathEnd.{PathEnd}
 use Rattle.uf_light.specs.declared.thing.Thing.{Thing}
 use Rattle.uf_light.specs.declared.thing.Thing.TheVariants.{File as FileAt}
 use Rattle.uf_light.specs.FileCids.{cids_of}
@@ -99,13 +99,13 @@ module _ (X : List ℕ → List ℕ) (N : List ℕ → ℕ) (p : Profile) where
         (subst (λ (l : List Held). Gathered told l cids cids_now) (sym (append-nil (trail X N p (own_meta es) (named_entries X N p es) name))) h)))
 
     -- the way goes on
-    pub gather-on : (led : ℕ) (name : List ℕ) (more names : List (List ℕ)) (t u : Tree) (es : Entries) (cids cids_mid cids_now : List Cid) (r : Result Met StoreFault) → name ∷ more ≡ names → t ≡ Dir es → child name es ≡ Some u
+    pub gather-on : (led : ℕ) (name : List ℕ) (more names : List (List ℕ)) (t u : Tree) (es : Entries) (cids cids_mid cids_now : List Cid) (r : Result PathEnd StoreFault) → name ∷ more ≡ names → t ≡ Dir es → child name es ≡ Some u
         → Gathered told (trail X N p (own_meta es) (named_entries X N p es) name) cids cids_mid → Gathers X N told p more u (at (led + 1) more u) cids_mid cids_now r → Gathers X N told p names t (at led names t) cids cids_now r
     gather-on led name more names t u es cids cids_mid cids_now r are is there first h =
         subst (λ (l : List (List ℕ)). Gathers X N told p l t (at led l t) cids cids_now r) are
         (subst (λ (t : Tree). Gathers X N told p (name ∷ more) t (at led (name ∷ more) t) cids cids_now r) (sym is) (by r h))
       where
-        by : (r : Result Met StoreFault) → Gathers X N told p more u (at (led + 1) more u) cids_mid cids_now r → Gathers X N told p (name ∷ more) (Dir es) (at led (name ∷ more) (Dir es)) cids cids_now r
+        by : (r : Result PathEnd StoreFault) → Gathers X N told p more u (at (led + 1) more u) cids_mid cids_now r → Gathers X N told p (name ∷ more) (Dir es) (at led (name ∷ more) (Dir es)) cids cids_now r
         by (Ok met) h = (
           subst (λ (w : Result Tree Refused). IsMet X N told p w met) (sym (at-on X N p told led name more es u there)) h.0,
           subst (λ (o : Option Tree). Gathered told (trail X N p (own_meta es) (named_entries X N p es) name ++ elim o as (λ o. List Held) [ None ↦ [] | Some t ↦ trails X N p more t ]) cids cids_now) (sym there)

@@ -25,8 +25,8 @@ use Rattle.uf_plain.specs.Edits.{at, child}
 use Rattle.uf_plain.specs.Needs.{member_needs, root_of, way}
 use Rattle.uf_plain.specs.Replies.{root_block}
 use Rattle.uf_plain.proofs.Plans.{entry-is}
-use Rattle.uf_light.specs.declared.met.Met.{Met}
-use Rattle.uf_light.specs.declared.met.Met.TheVariants.{There, Nothing, Behind}
+use Rattle.uf_light.specs.declared.met.PathEnd.{PathEnd}
+use Rattle.uf_light.specs.declared.met.PathEnd.TheVariants.{There, Nothing, Behind}
 use Rattle.uf_light.specs.declared.thing.Thing.{Thing}
 use Rattle.uf_light.specs.declared.thing.Thing.TheVariants.{File as FileAt}
 use Rattle.uf_light.specs.Standing.{IsAgreedThing, IsMet, LosesOr}
@@ -126,12 +126,12 @@ module _ (X : List ℕ → List ℕ) (N : List ℕ → ℕ) (p : Profile) where
     way-on : (name : List ℕ) (more : List (List ℕ)) (es : Entries) (u : Tree) → child name es ≡ Some u → way X N p (name ∷ more) (Dir es) ≡ trail X N p (own_meta es) (named_entries X N p es) name ++ way X N p more u
     way-on name more es u is = ap (λ (o : Option Tree). trail X N p (own_meta es) (named_entries X N p es) name ++ elim o as (λ o. List Held) [ None ↦ [] | Some t ↦ way X N p more t ]) is
 
-    pub look-on : (led : ℕ) (name : List ℕ) (more names : List (List ℕ)) (es : Entries) (t u : Tree) (r : Result Met StoreFault) → name ∷ more ≡ names → t ≡ Dir es → child name es ≡ Some u
+    pub look-on : (led : ℕ) (name : List ℕ) (more names : List (List ℕ)) (es : Entries) (t u : Tree) (r : Result PathEnd StoreFault) → name ∷ more ≡ names → t ≡ Dir es → child name es ≡ Some u
         → LosesOr X N told p (way X N p more u) (IsMet X N told p (at (led + 1) more u)) r → LosesOr X N told p (way X N p names t) (IsMet X N told p (at led names t)) r
     look-on led name more names es t u r are is there h =
         subst (λ (l : List (List ℕ)). LosesOr X N told p (way X N p l t) (IsMet X N told p (at led l t)) r) are
         (subst (λ (t : Tree). LosesOr X N told p (way X N p (name ∷ more) t) (IsMet X N told p (at led (name ∷ more) t)) r) (sym is) (by r h))
       where
-        by : (r : Result Met StoreFault) → LosesOr X N told p (way X N p more u) (IsMet X N told p (at (led + 1) more u)) r → LosesOr X N told p (way X N p (name ∷ more) (Dir es)) (IsMet X N told p (at led (name ∷ more) (Dir es))) r
+        by : (r : Result PathEnd StoreFault) → LosesOr X N told p (way X N p more u) (IsMet X N told p (at (led + 1) more u)) r → LosesOr X N told p (way X N p (name ∷ more) (Dir es)) (IsMet X N told p (at led (name ∷ more) (Dir es))) r
         by (Ok met) h = subst (λ (w : Result Tree Refused). IsMet X N told p w met) (sym (at-on led name more es u there)) h
         by (Err f) h = subst (λ (l : List Held). IsLossOf told l f) (sym (way-on name more es u there)) (loss-back told (trail X N p (own_meta es) (named_entries X N p es) name) (way X N p more u) f h)

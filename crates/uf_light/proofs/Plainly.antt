@@ -6,8 +6,8 @@ use Rattle.uf_store.specs.Contents.{Told}
 use Rattle.uf_tree.specs.declared.nodes.Entry.{Entry}
 use Rattle.uf_light.specs.declared.fault.LightFault.{LightFault}
 use Rattle.uf_light.specs.declared.fault.LightFault.TheVariants as fault
-use Rattle.uf_light.specs.declared.met.Met.{Met}
-use Rattle.uf_light.specs.declared.met.Met.TheVariants.{There, Nothing, Behind}
+use Rattle.uf_light.specs.declared.met.PathEnd.{PathEnd}
+use Rattle.uf_light.specs.declared.met.PathEnd.TheVariants.{There, Nothing, Behind}
 use Rattle.uf_light.specs.declared.thing.Thing.TheVariants.{File as FileAt, Folder as FolderAt}
 use Rattle.uf_light.specs.Answers.{Accepts, is_light_sink, light_fault}
 use Rattle.uf_light.specs.Met.{wanted_of}
@@ -28,7 +28,7 @@ none-here a f e = absurd (let no : ◌≡◌ {A = Result (Option Entry) LightFau
 raised : (g f : LightFault) → IsPlain g → ◌≡◌ {A = Result (Option Entry) LightFault} (Err g) (Err f) → IsPlain f
 raised g f plain e = subst IsPlain (let same : g ≡ f = cc in same) plain
 
-pub plain-of : (absent : Bool) (met : Met) (f : LightFault) → wanted_of absent met ≡ Err f → IsPlain f
+pub plain-of : (absent : Bool) (met : PathEnd) (f : LightFault) → wanted_of absent met ≡ Err f → IsPlain f
 plain-of true (There thing) f e = raised fault.Exists f tt e
 plain-of false (There (FileAt x)) f e = none-here (Some x) f e
 plain-of false (There (FolderAt x)) f e = raised fault.IsADirectory f tt e

@@ -9,8 +9,8 @@ use Rattle.uf_plain.specs.declared.rule.Refused.{Refused}
 use Rattle.uf_plain.specs.declared.rule.Refused.TheVariants as why
 use Rattle.uf_light.specs.declared.fault.LightFault.{LightFault}
 use Rattle.uf_light.specs.declared.fault.LightFault.TheVariants as fault
-use Rattle.uf_light.specs.declared.met.Met.{Met}
-use Rattle.uf_light.specs.declared.met.Met.TheVariants.{There, Nothing, Behind}
+use Rattle.uf_light.specs.declared.met.PathEnd.{PathEnd}
+use Rattle.uf_light.specs.declared.met.PathEnd.TheVariants.{There, Nothing, Behind}
 use Rattle.uf_light.specs.declared.thing.Thing.TheVariants.{File as FileAt, Folder as FolderAt}
 use Rattle.uf_light.specs.Light.{absent_text, file_blocks, light_says}
 use Rattle.uf_light.specs.Met.{wanted_of}
@@ -40,7 +40,7 @@ module _ (X : List ℕ → List ℕ) (N : List ℕ → ℕ) (told : Told) (p : P
   none-wanted : (place : ℕ) (w : Refused) → w ≡ why.NotFound (place + 1) → IsNoneWanted true (Err w)
   none-wanted place w is = record { says = ap (λ (w : Refused). light_says true names (Err w)) is; no_file = λ height. refl }
 
-  pub wanted-ok : (absent : Bool) (w : Result Tree Refused) (met : Met) (o : Option Entry) → IsMet X N told p w met → wanted_of absent met ≡ Ok o → IsWanted absent w o
+  pub wanted-ok : (absent : Bool) (w : Result Tree Refused) (met : PathEnd) (o : Option Entry) → IsMet X N told p w met → wanted_of absent met ≡ Ok o → IsWanted absent w o
   wanted-ok true w (There thing) o h is = absurd (let no : ◌≡◌ {A = Result (Option Entry) LightFault} (Err fault.Exists) (Ok o) = is in cc)
   wanted-ok false (Ok (File m bytes)) (There (FileAt e)) o h is = subst (IsWanted false (Ok (File m bytes))) (let same : Some e ≡ o = cc in same) (file-wanted m bytes e h)
   wanted-ok false (Ok (File m bytes)) (There (FolderAt e)) o h is = absurd h
@@ -60,7 +60,7 @@ module _ (X : List ℕ → List ℕ) (N : List ℕ → ℕ) (told : Told) (p : P
   err-of f g e = ap (λ (f : LightFault). Err f) (raised f g e)
 
   -- and where nothing is, the plain tree says why
-  pub wanted-err : (absent : Bool) (w : Result Tree Refused) (met : Met) (f : LightFault) → IsMet X N told p w met → wanted_of absent met ≡ Err f → light_says absent names w ≡ Err f
+  pub wanted-err : (absent : Bool) (w : Result Tree Refused) (met : PathEnd) (f : LightFault) → IsMet X N told p w met → wanted_of absent met ≡ Err f → light_says absent names w ≡ Err f
   wanted-err true (Ok t) (There thing) f h is = err-of fault.Exists f is
   wanted-err true (Err why) (There thing) f h is = absurd h
   wanted-err false (Ok (File m bytes)) (There (FileAt e)) f h is = absurd (let no : ◌≡◌ {A = Result (Option Entry) LightFault} (Ok (Some e)) (Err f) = is in cc)

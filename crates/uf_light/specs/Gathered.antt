@@ -18,7 +18,7 @@ use Rattle.uf_plain.specs.Needs.{member_needs}
 use Rattle.uf_plain.specs.declared.rule.Refused.{Refused}
 use Rattle.uf_light.specs.declared.fault.LightFault.{LightFault}
 use Rattle.uf_light.specs.declared.fault.LightFault.TheVariants as fault
-use Rattle.uf_light.specs.declared.met.Met.{Met}
+use Rattle.uf_light.specs.declared.met.PathEnd.{PathEnd}
 use Rattle.uf_light.specs.FileCids.{cids_of}
 use Rattle.uf_light.specs.Light.{trails}
 use Rattle.uf_light.specs.declared.thing.Thing.{Thing}
@@ -32,7 +32,7 @@ pub record Gathered (told : Told) (l : List Held) (cids cids_now : List Cid) : T
 -- the CIDs of the blocks that decide the names were gathered, and what the names lead to is so; or a block of the tree
 -- is lost
 module _ (X : List ℕ → List ℕ) (N : List ℕ → ℕ) (told : Told) (p : Profile) where
-  abbrev pub Gathers : List (List ℕ) → Tree → Result Tree Refused → List Cid → List Cid → Result Met StoreFault
+  abbrev pub Gathers : List (List ℕ) → Tree → Result Tree Refused → List Cid → List Cid → Result PathEnd StoreFault
       → Type 0
   Gathers names t w cids cids_now (Ok met) = IsMet X N told p w met × Gathered told (trails X N p names t) cids cids_now
   Gathers names t w cids cids_now (Err fault) = IsLossOf told (blocks X N p t) fault

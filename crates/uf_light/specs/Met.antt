@@ -7,8 +7,8 @@ use Rattle.std.specs.declared.result.Result.TheVariants.{Ok, Err}
 use Rattle.uf_tree.specs.declared.nodes.Entry.{Entry}
 use Rattle.uf_light.specs.declared.fault.LightFault.{LightFault}
 use Rattle.uf_light.specs.declared.fault.LightFault.TheVariants as fault
-use Rattle.uf_light.specs.declared.met.Met.{Met}
-use Rattle.uf_light.specs.declared.met.Met.TheVariants.{There, Nothing, Behind}
+use Rattle.uf_light.specs.declared.met.PathEnd.{PathEnd}
+use Rattle.uf_light.specs.declared.met.PathEnd.TheVariants.{There, Nothing, Behind}
 use Rattle.uf_light.specs.declared.thing.Thing.{Thing}
 use Rattle.uf_light.specs.declared.thing.Thing.TheVariants.{File, Folder}
 
@@ -18,7 +18,7 @@ as_file (File e) = Ok (Some e)
 as_file (Folder e) = Err fault.IsADirectory
 
 -- what is to be shown: a file, or with `absent` that nothing is there; or the refusal
-abbrev pub wanted_of : Bool → Met → Result (Option Entry) LightFault
+abbrev pub wanted_of : Bool → PathEnd → Result (Option Entry) LightFault
 wanted_of true (There thing) = Err fault.Exists
 wanted_of false (There thing) = as_file thing
 wanted_of true (Nothing place) = Ok None

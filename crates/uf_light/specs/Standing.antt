@@ -16,8 +16,8 @@ use Rattle.uf_tree.specs.Tree.{Tree, File, Dir, is_tree}
 use Rattle.uf_tree.specs.TreePlan.{blocks, entry, refusal}
 use Rattle.uf_plain.specs.declared.rule.Refused.{Refused}
 use Rattle.uf_plain.specs.declared.rule.Refused.TheVariants.{NotADirectory, NotFound}
-use Rattle.uf_light.specs.declared.met.Met.{Met}
-use Rattle.uf_light.specs.declared.met.Met.TheVariants.{There, Nothing, Behind}
+use Rattle.uf_light.specs.declared.met.PathEnd.{PathEnd}
+use Rattle.uf_light.specs.declared.met.PathEnd.TheVariants.{There, Nothing, Behind}
 use Rattle.uf_light.specs.declared.thing.Thing.{Thing}
 use Rattle.uf_light.specs.declared.thing.Thing.TheVariants.{File as FileAt, Folder as FolderAt}
 
@@ -49,7 +49,7 @@ module _ (X : List ℕ → List ℕ) (N : List ℕ → ℕ) (told : Told) (p : P
   IsAgreedMember (Some t) (Some thing) = IsAgreedThing t thing
 
   -- and of what a path leads to, where the plain tree gives this
-  abbrev pub IsMet : Result Tree Refused → Met → Type 0
+  abbrev pub IsMet : Result Tree Refused → PathEnd → Type 0
   IsMet (Ok t) (There thing) = IsAgreedThing t thing
   IsMet (Ok t) (Nothing place) = ⊥
   IsMet (Ok t) (Behind place) = ⊥

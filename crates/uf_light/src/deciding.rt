@@ -3,30 +3,30 @@ ghost use Rattle.std.specs.Prelude.{◌≡◌};
 ghost use Rattle.uf_light.specs.Met.{as_file, wanted_of};
 
 use crate::LightFault;
-use crate::met::Met;
+use crate::met::PathEnd;
 use crate::thing::Thing;
 use uf_tree::Entry;
 
 // The file that is to be shown, or none where nothing is to be there, or why there is nothing to show.
-pub fn wanted(absent: bool, met: Met) -> Result<Option<Entry>, LightFault>
+pub fn wanted(absent: bool, met: PathEnd) -> Result<Option<Entry>, LightFault>
     ensures { result ≡ wanted_of absent met }
 {
     match met {
-        Met::There(thing) => {
+        PathEnd::There(thing) => {
             if absent {
                 Err(LightFault::Exists)
             } else {
                 file_at(thing)
             }
         }
-        Met::Nothing(place) => {
+        PathEnd::Nothing(place) => {
             if absent {
                 Ok(None)
             } else {
                 Err(LightFault::NotFound(place))
             }
         }
-        Met::Behind(place) => Err(LightFault::NotADirectory(place)),
+        PathEnd::Behind(place) => Err(LightFault::NotADirectory(place)),
     }
 }
 

@@ -12,7 +12,7 @@ ghost use Rattle.uf_light.specs.Standing.{IsAgreedAt, IsAgreedThing};
 ghost use Rattle.uf_light.specs.Touches.{CountsUp};
 
 use crate::looking::thing_of;
-use crate::met::Met;
+use crate::met::PathEnd;
 use crate::thing::Thing;
 use std::alloc::Global;
 use std::sync::ledger::Ledger;
@@ -32,7 +32,7 @@ pub fn gather<S: Store, N: NameHash, L: Ledger>(
     thing: Thing,
     cids: &mut Cids,
     touches: &mut Steps<L>,
-) -> Result<Met, StoreFault>
+) -> Result<PathEnd, StoreFault>
     requires { led + length names.now < 2 ^ 32 }
     ensures gathers { (p : Profile) (t : Tree)
         → IsAgreedThing S.X.block32 N.name64 (S.seen store.old).told p t thing
@@ -44,13 +44,13 @@ pub fn gather<S: Store, N: NameHash, L: Ledger>(
     ensures touched { CountsUp (fault_in result) touches.old touches.new }
 {
     let [name, rest @ ..] = names else {
-        return Ok(Met::There(thing));
+        return Ok(PathEnd::There(thing));
     };
     let Thing::Folder(folder) = thing else {
-        return Ok(Met::Behind(led));
+        return Ok(PathEnd::Behind(led));
     };
     match gather_member::<S, N, L>(alloc, store, &folder, name, cids, touches)? {
-        None => Ok(Met::Nothing(led)),
+        None => Ok(PathEnd::Nothing(led)),
         Some(below) => gather::<S, N, L>(alloc, store, led + 1, rest, below, cids, touches),
     }
 }

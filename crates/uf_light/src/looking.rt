@@ -13,7 +13,7 @@ ghost use Rattle.uf_light.specs.Bad.{IsBadOnPath, IsBadUnder, IsRequired};
 ghost use Rattle.uf_light.specs.Standing.{IsAgreedAt, IsAgreedMember, IsAgreedThing, IsMet, LosesOr};
 ghost use Rattle.uf_light.specs.Touches.{CountsUp};
 
-use crate::met::Met;
+use crate::met::PathEnd;
 use crate::thing::Thing;
 use std::alloc::Global;
 use std::sync::ledger::Ledger;
@@ -30,7 +30,7 @@ pub fn look<S: Store, N: NameHash, L: Ledger>(
     names: &[Name],
     thing: Thing,
     touches: &mut Steps<L>,
-) -> Result<Met, StoreFault>
+) -> Result<PathEnd, StoreFault>
     requires { led + length names.now < 2 ^ 32 }
     ensures looks { (p : Profile) (t : Tree)
         → IsAgreedThing S.X.block32 N.name64 (S.seen store.old).told p t thing
@@ -41,13 +41,13 @@ pub fn look<S: Store, N: NameHash, L: Ledger>(
         (S.seen store.old) (S.seen store.new) }
 {
     let [name, rest @ ..] = names else {
-        return Ok(Met::There(thing));
+        return Ok(PathEnd::There(thing));
     };
     let Thing::Folder(folder) = thing else {
-        return Ok(Met::Behind(led));
+        return Ok(PathEnd::Behind(led));
     };
     match member::<S, N, L>(alloc, store, &folder, name, touches)? {
-        None => Ok(Met::Nothing(led)),
+        None => Ok(PathEnd::Nothing(led)),
         Some(below) => look::<S, N, L>(alloc, store, led + 1, rest, below, touches),
     }
 }
