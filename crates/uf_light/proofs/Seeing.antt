@@ -25,8 +25,8 @@ use Rattle.uf_fileread.proofs.Rooted as rooted
 use Rattle.uf_shard.specs.Trails.{traced}
 use Rattle.uf_shard.specs.declared.traced.Traced.{Traced}
 use Rattle.uf_dir.specs.Planned.{IsPlanned, root_links}
-use Rattle.uf_dir.specs.declared.kind.Kind.{Kind}
-use Rattle.uf_dir.specs.declared.kind.Kind.TheVariants as kinds
+use Rattle.uf_dir.specs.declared.kind.EntryKind.{EntryKind}
+use Rattle.uf_dir.specs.declared.kind.EntryKind.TheVariants as kinds
 use Rattle.uf_fileread.specs.Sizes.{links_of}
 use Rattle.uf_fileread.specs.declared.size.FileSize.{FileSize}
 use Rattle.uf_tree.specs.Metas.{none}
@@ -86,11 +86,11 @@ module _ (X : List ℕ → List ℕ) (N : List ℕ → ℕ) where
 
     -- ---- what an entry is
 
-    abbrev pub thing_by : Entry → Kind → Thing
+    abbrev pub thing_by : Entry → EntryKind → Thing
     thing_by e (kinds.Folder links meta) = FolderAt e
     thing_by e (kinds.File size) = FileAt e
 
-    abbrev pub IsKindOf : Entry → Tree → Result Kind StoreFault → Type 0
+    abbrev pub IsKindOf : Entry → Tree → Result EntryKind StoreFault → Type 0
     IsKindOf e t (Ok kind) = IsAgreedThing X N told p t (thing_by e kind)
     IsKindOf e t (Err f) = IsLossOf told (root_of X N p t) f
 
@@ -98,23 +98,23 @@ module _ (X : List ℕ → List ℕ) (N : List ℕ → ℕ) where
     raw-kind e (File m bytes) size s raw = s
     raw-kind e (Dir es) size s raw = absurd (let clash : Raw ≡ DagPb = sym raw ∙ dir-codec p e.cid es s.plan in cc)
 
-    file-kind : (e : Entry) (m : Meta) (bytes : List ℕ) (size : FileSize) (s : IsAgreedAt X N told p e.cid (File m bytes)) (r : Result Kind StoreFault) → FindsOver told (files.root X N p e.cid m bytes s.plan ∷ []) (kinds.File size) r
+    file-kind : (e : Entry) (m : Meta) (bytes : List ℕ) (size : FileSize) (s : IsAgreedAt X N told p e.cid (File m bytes)) (r : Result EntryKind StoreFault) → FindsOver told (files.root X N p e.cid m bytes s.plan ∷ []) (kinds.File size) r
         → IsKindOf e (File m bytes) r
-    file-kind e m bytes size s (Ok k) h = subst (λ (k : Kind). IsAgreedThing X N told p (File m bytes) (thing_by e k)) (sym h.0) s
+    file-kind e m bytes size s (Ok k) h = subst (λ (k : EntryKind). IsAgreedThing X N told p (File m bytes) (thing_by e k)) (sym h.0) s
     file-kind e m bytes size s (Err f) h =
         root-loss X N hash told p e.cid (File m bytes) (files.root X N p e.cid m bytes s.plan) f s.plan
         (sym (rooted.root_cid X hash p m bytes e.cid (files.root X N p e.cid m bytes s.plan) (files.is-file-root X N p e.cid m bytes s.plan)) ∙ s.plan.is)
-        (finds-loss {A = Kind} told (files.root X N p e.cid m bytes s.plan ∷ []) (kinds.File size) f h)
+        (finds-loss {A = EntryKind} told (files.root X N p e.cid m bytes s.plan ∷ []) (kinds.File size) f h)
 
-    folder-kind : (e : Entry) (es : Entries) (links : ℕ) (meta : Meta) (s : IsAgreedAt X N told p e.cid (Dir es)) (r : Result Kind StoreFault)
+    folder-kind : (e : Entry) (es : Entries) (links : ℕ) (meta : Meta) (s : IsAgreedAt X N told p e.cid (Dir es)) (r : Result EntryKind StoreFault)
         → FindsOver told (dir_root X N p (own_meta es) (named_entries X N p es) ∷ []) (kinds.Folder links meta) r → IsKindOf e (Dir es) r
-    folder-kind e es links meta s (Ok k) h = subst (λ (k : Kind). IsAgreedThing X N told p (Dir es) (thing_by e k)) (sym h.0) s
+    folder-kind e es links meta s (Ok k) h = subst (λ (k : EntryKind). IsAgreedThing X N told p (Dir es) (thing_by e k)) (sym h.0) s
     folder-kind e es links meta s (Err f) h =
         root-loss X N hash told p e.cid (Dir es) (dir_root X N p (own_meta es) (named_entries X N p es)) f s.plan (dir-cid X N hash p (own_meta es) (named_entries X N p es) ∙ ap (λ (e : Entry). e.cid) (sym (entry-is X N p es)))
-        (finds-loss {A = Kind} told (dir_root X N p (own_meta es) (named_entries X N p es) ∷ []) (kinds.Folder links meta) f h)
+        (finds-loss {A = EntryKind} told (dir_root X N p (own_meta es) (named_entries X N p es) ∷ []) (kinds.Folder links meta) f h)
 
     -- what the directory layer says of an entry
-    pub kind-says : (e : Entry) (t : Tree) (r : Result Kind StoreFault) → IsAgreedAt X N told p e.cid t → (e.cid.codec ≡ Raw → r ≡ Ok (kinds.File (record { length = e.tsize; links = 0; meta = none })))
+    pub kind-says : (e : Entry) (t : Tree) (r : Result EntryKind StoreFault) → IsAgreedAt X N told p e.cid t → (e.cid.codec ≡ Raw → r ≡ Ok (kinds.File (record { length = e.tsize; links = 0; meta = none })))
         → ((M : List ℕ → ℕ) (q : Profile) (m : Meta) (l : List Named) → IsPlanned X M q m e.cid l → Agrees told (dir_root X M q m l ∷ []) → FindsOver told (dir_root X M q m l ∷ []) (kinds.Folder (root_links X M q l) m) r)
         → ((q : Profile) (m : Meta) (bytes : List ℕ) (root : Held) (is : IsFileRoot X q m bytes e.cid root) → e.cid.codec ≡ DagPb → Agrees told (root ∷ [])
         → FindsOver told (root ∷ []) (kinds.File (record { length = length bytes; links = links_of q is.height bytes; meta = m })) r)

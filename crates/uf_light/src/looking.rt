@@ -17,7 +17,7 @@ use crate::met::PathEnd;
 use crate::thing::Thing;
 use std::alloc::Global;
 use std::sync::ledger::Ledger;
-use uf_dir::{Kind, find, kind_of};
+use uf_dir::{EntryKind, find, kind_of};
 use uf_murmur::NameHash;
 use uf_store::{Steps, Store, StoreFault};
 use uf_tree::{Entry, Name};
@@ -95,7 +95,7 @@ pub fn thing_of<S: Store, N: NameHash, L: Ledger>(
 {
     let kind = kind_of(alloc, store, entry, touches)?;
     match kind {
-        Kind::Folder(_, _) => Ok(Thing::Folder(*entry)),
-        Kind::File(_) => Ok(Thing::File(*entry)),
+        EntryKind::Folder(_, _) => Ok(Thing::Folder(*entry)),
+        EntryKind::File(_) => Ok(Thing::File(*entry)),
     }
 }

@@ -32,8 +32,8 @@ use Rattle.uf_tree.proofs.Told.{kept}
 use Rattle.uf_fileread.specs.declared.size.FileSize.{FileSize}
 use Rattle.uf_fileread.specs.Sizes.{IsNodeOf, IsSizeOf, links_of}
 use Rattle.uf_fileread.proofs.Rooted as rooted
-use Rattle.uf_dir.specs.declared.kind.Kind.{Kind}
-use Rattle.uf_dir.specs.declared.kind.Kind.TheVariants as kinds
+use Rattle.uf_dir.specs.declared.kind.EntryKind.{EntryKind}
+use Rattle.uf_dir.specs.declared.kind.EntryKind.TheVariants as kinds
 use Rattle.uf_dir.specs.Planned.{IsPlanned, root_links}
 use Rattle.uf_plain.specs.Replies.{children, stat_of}
 use Rattle.uf_mfs.specs.declared.thing.FolderRoot.{FolderRoot}
@@ -81,7 +81,7 @@ module _ (X : List ℕ → List ℕ) (N : List ℕ → ℕ) (hash : IsHash X) (p
   links-are (Some u) e m bytes s dag held = links-at u e m bytes s dag held.0
 
   -- what an entry is, or that its root block is lost
-  abbrev pub IsKind : Told → Entry → Tree → Result Kind StoreFault → Type 0
+  abbrev pub IsKind : Told → Entry → Tree → Result EntryKind StoreFault → Type 0
   IsKind told e t (Ok (kinds.Folder links meta)) = IsAgreedThing X N told p t (FolderAt e (Some (record { links = links; meta = meta })))
   IsKind told e t (Ok (kinds.File size)) = IsAgreedThing X N told p t (FileAt e size)
   IsKind told e t (Err fault) = IsLossOf told (root_of X N p t) fault
@@ -94,19 +94,19 @@ module _ (X : List ℕ → List ℕ) (N : List ℕ → ℕ) (hash : IsHash X) (p
       (s, λ i. record { length = long i; links = few i; meta = (sym bare) i })
   raw-kind told e (Dir es) s raw = absurd (let clash : Raw ≡ DagPb = sym raw ∙ root-codec X N p e es s.plan in cc)
 
-  file-kind : (told : Told) (e : Entry) (m : Meta) (bytes : List ℕ) (s : IsAgreed X N told p e (File m bytes)) → e.cid.codec ≡ DagPb → (r : Result Kind StoreFault)
+  file-kind : (told : Told) (e : Entry) (m : Meta) (bytes : List ℕ) (s : IsAgreed X N told p e (File m bytes)) → e.cid.codec ≡ DagPb → (r : Result EntryKind StoreFault)
       → FindsOver told (files.root X N p e m bytes s.plan ∷ []) (kinds.File (record { length = length bytes; links = links_of p (files.is-file-root X N p e m bytes s.plan).height bytes; meta = m })) r → IsKind told e (File m bytes) r
   file-kind told e m bytes s dag (Ok k) h =
       let links = links-are told e m bytes s dag h.1 in
-      subst (λ (k : Kind). IsKind told e (File m bytes) (Ok k)) (sym h.0) (s, λ i. record { length = length bytes; links = links i; meta = m })
+      subst (λ (k : EntryKind). IsKind told e (File m bytes) (Ok k)) (sym h.0) (s, λ i. record { length = length bytes; links = links i; meta = m })
   file-kind told e m bytes s dag (Err f) h =
       root-loss X N hash told p e (File m bytes) (files.root X N p e m bytes s.plan) f s.plan (sym (rooted.root_cid X hash p m bytes e.cid (files.root X N p e m bytes s.plan) (files.is-file-root X N p e m bytes s.plan)) ∙ ap (λ (e : Entry). e.cid) s.plan.is)
-      (finds-reads {A = Kind} told (files.root X N p e m bytes s.plan ∷ []) (kinds.File (record { length = length bytes; links = links_of p (files.is-file-root X N p e m bytes s.plan).height bytes; meta = m })) (Err f) h)
+      (finds-reads {A = EntryKind} told (files.root X N p e m bytes s.plan ∷ []) (kinds.File (record { length = length bytes; links = links_of p (files.is-file-root X N p e m bytes s.plan).height bytes; meta = m })) (Err f) h)
 
-  dir-kind : (told : Told) (e : Entry) (es : Entries) → IsAgreed X N told p e (Dir es) → (r : Result Kind StoreFault) → FindsOver told (dir_root X N p (own_meta es) (named_entries X N p es) ∷ []) (kinds.Folder (root_links X N p (named_entries X N p es)) (own_meta es)) r → IsKind told e (Dir es) r
-  dir-kind told e es s (Ok k) h = subst (λ (k : Kind). IsKind told e (Dir es) (Ok k)) (sym h.0) (s, (let links = links-of-folder X N hash p told e es s h.1 in λ i. record { links = links i; meta = own_meta es }))
+  dir-kind : (told : Told) (e : Entry) (es : Entries) → IsAgreed X N told p e (Dir es) → (r : Result EntryKind StoreFault) → FindsOver told (dir_root X N p (own_meta es) (named_entries X N p es) ∷ []) (kinds.Folder (root_links X N p (named_entries X N p es)) (own_meta es)) r → IsKind told e (Dir es) r
+  dir-kind told e es s (Ok k) h = subst (λ (k : EntryKind). IsKind told e (Dir es) (Ok k)) (sym h.0) (s, (let links = links-of-folder X N hash p told e es s h.1 in λ i. record { links = links i; meta = own_meta es }))
   dir-kind told e es s (Err f) h =
-      root-loss X N hash told p e (Dir es) (dir_root X N p (own_meta es) (named_entries X N p es)) f s.plan (dir-cid X N hash p (own_meta es) (named_entries X N p es) ∙ ap (λ (e : Entry). e.cid) (sym (entry-is X N p es))) (finds-reads {A = Kind} told (dir_root X N p (own_meta es) (named_entries X N p es) ∷ []) (kinds.Folder (root_links X N p (named_entries X N p es)) (own_meta es)) (Err f) h)
+      root-loss X N hash told p e (Dir es) (dir_root X N p (own_meta es) (named_entries X N p es)) f s.plan (dir-cid X N hash p (own_meta es) (named_entries X N p es) ∙ ap (λ (e : Entry). e.cid) (sym (entry-is X N p es))) (finds-reads {A = EntryKind} told (dir_root X N p (own_meta es) (named_entries X N p es) ∷ []) (kinds.Folder (root_links X N p (named_entries X N p es)) (own_meta es)) (Err f) h)
 
   -- what is said of a file and of a folder by its kind
   pub file-stat-is : (told : Told) (e : Entry) (t : Tree) (size : FileSize) → IsKind told e t (Ok (kinds.File size))
@@ -124,7 +124,7 @@ module _ (X : List ℕ → List ℕ) (N : List ℕ → ℕ) (hash : IsHash X) (p
       λ i. record { cid = (entry i).cid; size = 0; cumulative = (entry i).tsize; children = (same i).links; is_folder = true; meta = (same i).meta }
 
   -- what the directory layer says of an entry
-  pub kind-says : ((name : List ℕ) → N name < 2 ^ 64) → (told : Told) (e : Entry) (t : Tree) (r : Result Kind StoreFault) → IsAgreed X N told p e t
+  pub kind-says : ((name : List ℕ) → N name < 2 ^ 64) → (told : Told) (e : Entry) (t : Tree) (r : Result EntryKind StoreFault) → IsAgreed X N told p e t
       → (e.cid.codec ≡ Raw → r ≡ Ok (kinds.File (record { length = e.tsize; links = 0; meta = none })))
       → ((M : List ℕ → ℕ) (p : Profile) (meta : Meta) (l : List Named) → IsPlanned X M p meta e.cid l → Agrees told (dir_root X M p meta l ∷ []) → FindsOver told (dir_root X M p meta l ∷ []) (kinds.Folder (root_links X M p l) meta) r)
       → ((p : Profile) (m : Meta) (bytes : List ℕ) (root : Held) (is : IsFileRoot X p m bytes e.cid root) → e.cid.codec ≡ DagPb → Agrees told (root ∷ [])

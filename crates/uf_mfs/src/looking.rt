@@ -19,7 +19,7 @@ ghost use Rattle.uf_mfs.specs.Touches.{CountsUp, unseen, unseen_after};
 use crate::{FolderRoot, Stop, Thing};
 use std::alloc::Global;
 use std::sync::ledger::Ledger;
-use uf_dir::{Kind, find, kind_of};
+use uf_dir::{EntryKind, find, kind_of};
 use uf_murmur::NameHash;
 use uf_plain::Refused;
 use uf_store::{Steps, Store, StoreFault};
@@ -104,7 +104,10 @@ pub(crate) fn thing_of<S: Store, N: NameHash, L: Ledger>(
     ensures seen { IfOk result (λ thing. unseen thing ≡ 0) }
 {
     match kind_of(alloc, store, entry, touches)? {
-        Kind::Folder(links, meta) => Ok(Thing::Folder(*entry, Some(FolderRoot { links, meta }))),
-        Kind::File(size) => Ok(Thing::File(*entry, size)),
+        EntryKind::Folder(links, meta) => Ok(Thing::Folder(
+            *entry,
+            Some(FolderRoot { links, meta }),
+        )),
+        EntryKind::File(size) => Ok(Thing::File(*entry, size)),
     }
 }

@@ -15,7 +15,7 @@ ghost use Rattle.uf_mfs.specs.Touches.{CountsUp, unseen};
 use crate::{FolderRoot, Thing};
 use std::alloc::Global;
 use std::sync::ledger::Ledger;
-use uf_dir::{Kind, kind_of};
+use uf_dir::{EntryKind, kind_of};
 use uf_fileread::FileSize;
 use uf_murmur::NameHash;
 use uf_plain::Stat;
@@ -60,8 +60,8 @@ fn stat_at_root<S: Store, N: NameHash, L: Ledger>(
     ensures touched { CountsUp (fault_in result) touches.old touches.new }
 {
     match kind_of(alloc, store, entry, touches)? {
-        Kind::File(size) => Ok(file_stat(entry, size)),
-        Kind::Folder(links, meta) => Ok(folder_stat(entry, FolderRoot { links, meta })),
+        EntryKind::File(size) => Ok(file_stat(entry, size)),
+        EntryKind::Folder(links, meta) => Ok(folder_stat(entry, FolderRoot { links, meta })),
     }
 }
 
