@@ -14,8 +14,8 @@ use Rattle.uf_dir.specs.Bad as dirs
 use Rattle.uf_dir.specs.Bad.{BlamesOnly}
 use Rattle.uf_dir.specs.Roots.{IsRootUnder}
 use Rattle.uf_dir.proofs.Causes.{way-off}
-use Rattle.uf_light.specs.declared.thing.Thing.{Thing}
-use Rattle.uf_light.specs.declared.thing.Thing.TheVariants.{File as FileAt, Folder as FolderAt}
+use Rattle.uf_light.specs.declared.thing.TypedEntry.{TypedEntry}
+use Rattle.uf_light.specs.declared.thing.TypedEntry.TheVariants.{File as FileAt, Folder as FolderAt}
 use Rattle.uf_light.specs.Bad.{IsBadOnPath, IsBadThere, IsBadUnder, IsRequired, RequiresDirectory, AtRoot, AsMet}
 
 -- a directory's root is canonical where a file's may be too
@@ -43,7 +43,7 @@ module _ (X : List ℕ → List ℕ) (N : List ℕ → ℕ) where
   requires-below root below digest r (AsMet block is canonical) = AsMet block is canonical
 
   -- below a directory that is required
-  pub under-bad : (root : Cid) (thing : Thing) → IsRequired X root thing → (role : Role) (bytes : List ℕ) → IsBadUnder X N thing role bytes → IsBadOnPath X N root role bytes
+  pub under-bad : (root : Cid) (thing : TypedEntry) → IsRequired X root thing → (role : Role) (bytes : List ℕ) → IsBadUnder X N thing role bytes → IsBadOnPath X N root role bytes
   under-bad root (FileAt e) r role bytes h = absurd h
   under-bad root (FolderAt e) r role bytes h = record { bad = h.bad; required = λ is node. requires-below root e.cid (X bytes) r (h.required is node) }
 

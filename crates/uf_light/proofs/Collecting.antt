@@ -18,8 +18,8 @@ use Rattle.uf_plain.specs.Edits.{at, child}
 use Rattle.uf_plain.specs.Needs.{member_needs, root_of}
 use Rattle.uf_plain.specs.Replies.{root_block}
 use Rattle.uf_light.specs.declared.met.PathEnd.{PathEnd}
-use Rattle.uf_light.specs.declared.thing.Thing.{Thing}
-use Rattle.uf_light.specs.declared.thing.Thing.TheVariants.{File as FileAt}
+use Rattle.uf_light.specs.declared.thing.TypedEntry.{TypedEntry}
+use Rattle.uf_light.specs.declared.thing.TypedEntry.TheVariants.{File as FileAt}
 use Rattle.uf_light.specs.FileCids.{cids_of}
 use Rattle.uf_light.specs.Gathered.{Gathered, Gathers}
 use Rattle.uf_light.specs.Light.{trails}
@@ -66,7 +66,7 @@ module _ (X : List ℕ → List ℕ) (N : List ℕ → ℕ) (p : Profile) where
     pub ends-there : (names : List (List ℕ)) (t : Tree) (cids : List Cid) → [] ≡ names → Gathered told (trails X N p names t) cids cids
     ends-there names t cids none = subst (λ (l : List (List ℕ)). Gathered told (trails X N p l t) cids cids) none (gathered-none told cids)
 
-    pub ends-behind : (name : List ℕ) (more names : List (List ℕ)) (t : Tree) (e : Entry) (thing : Thing) (cids : List Cid) → name ∷ more ≡ names → thing ≡ FileAt e → IsAgreedThing X N told p t thing
+    pub ends-behind : (name : List ℕ) (more names : List (List ℕ)) (t : Tree) (e : Entry) (thing : TypedEntry) (cids : List Cid) → name ∷ more ≡ names → thing ≡ FileAt e → IsAgreedThing X N told p t thing
         → Gathered told (trails X N p names t) cids cids
     ends-behind name more names t e thing cids are is h =
         let file = file-tree X N told p t e (subst (IsAgreedThing X N told p t) is h) in

@@ -27,8 +27,8 @@ use Rattle.uf_plain.specs.Replies.{root_block}
 use Rattle.uf_plain.proofs.Plans.{entry-is}
 use Rattle.uf_light.specs.declared.met.PathEnd.{PathEnd}
 use Rattle.uf_light.specs.declared.met.PathEnd.TheVariants.{There, Nothing, Behind}
-use Rattle.uf_light.specs.declared.thing.Thing.{Thing}
-use Rattle.uf_light.specs.declared.thing.Thing.TheVariants.{File as FileAt}
+use Rattle.uf_light.specs.declared.thing.TypedEntry.{TypedEntry}
+use Rattle.uf_light.specs.declared.thing.TypedEntry.TheVariants.{File as FileAt}
 use Rattle.uf_light.specs.Standing.{IsAgreedThing, IsMet, LosesOr}
 use Rattle.uf_light.proofs.Holding.{loss-back, loss-by}
 use Rattle.uf_light.proofs.Rooting.{dir-cid}
@@ -102,11 +102,11 @@ module _ (X : List ℕ → List ℕ) (N : List ℕ → ℕ) (p : Profile) where
 
   module _ (told : Told) where
     -- no names are left
-    pub met-there : (led : ℕ) (names : List (List ℕ)) (t : Tree) (thing : Thing) → [] ≡ names → IsAgreedThing X N told p t thing → IsMet X N told p (at led names t) (There thing)
+    pub met-there : (led : ℕ) (names : List (List ℕ)) (t : Tree) (thing : TypedEntry) → [] ≡ names → IsAgreedThing X N told p t thing → IsMet X N told p (at led names t) (There thing)
     met-there led names t thing ended h = subst (λ (l : List (List ℕ)). IsMet X N told p (at led l t) (There thing)) ended h
 
     -- a name stands behind a file
-    pub met-behind : (led : ℕ) (name : List ℕ) (more names : List (List ℕ)) (t : Tree) (e : Entry) (thing : Thing) → name ∷ more ≡ names → thing ≡ FileAt e → IsAgreedThing X N told p t thing → IsMet X N told p (at led names t) (Behind led)
+    pub met-behind : (led : ℕ) (name : List ℕ) (more names : List (List ℕ)) (t : Tree) (e : Entry) (thing : TypedEntry) → name ∷ more ≡ names → thing ≡ FileAt e → IsAgreedThing X N told p t thing → IsMet X N told p (at led names t) (Behind led)
     met-behind led name more names t e thing are is h =
         let file = file-tree X N told p t e (subst (IsAgreedThing X N told p t) is h) in
         subst (λ (l : List (List ℕ)). IsMet X N told p (at led l t) (Behind led)) are

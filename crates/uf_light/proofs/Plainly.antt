@@ -8,7 +8,7 @@ use Rattle.uf_light.specs.declared.fault.LightFault.{LightFault}
 use Rattle.uf_light.specs.declared.fault.LightFault.TheVariants as fault
 use Rattle.uf_light.specs.declared.met.PathEnd.{PathEnd}
 use Rattle.uf_light.specs.declared.met.PathEnd.TheVariants.{There, Nothing, Behind}
-use Rattle.uf_light.specs.declared.thing.Thing.TheVariants.{File as FileAt, Folder as FolderAt}
+use Rattle.uf_light.specs.declared.thing.TypedEntry.TheVariants.{File as FileAt, Folder as FolderAt}
 use Rattle.uf_light.specs.Answers.{Accepts, is_light_sink, light_fault}
 use Rattle.uf_light.specs.Met.{wanted_of}
 use Rattle.uf_light.specs.Proving.{FindsLight}

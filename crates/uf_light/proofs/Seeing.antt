@@ -34,8 +34,8 @@ use Rattle.uf_plain.specs.Needs.{member_needs, root_of}
 use Rattle.uf_plain.specs.Edits.{child}
 use Rattle.uf_plain.proofs.Plans.{entry-is, find-child}
 use Rattle.uf_laws.proofs.Held.{trail-among}
-use Rattle.uf_light.specs.declared.thing.Thing.{Thing}
-use Rattle.uf_light.specs.declared.thing.Thing.TheVariants.{File as FileAt, Folder as FolderAt}
+use Rattle.uf_light.specs.declared.thing.TypedEntry.{TypedEntry}
+use Rattle.uf_light.specs.declared.thing.TypedEntry.TheVariants.{File as FileAt, Folder as FolderAt}
 use Rattle.uf_light.specs.Standing.{IsAgreedAt, IsAgreedMember, IsAgreedThing, IsTreeAt}
 use Rattle.uf_light.proofs.Agreed.{child-agreed, own-among}
 use Rattle.uf_light.proofs.Files as files
@@ -86,7 +86,7 @@ module _ (X : List ℕ → List ℕ) (N : List ℕ → ℕ) where
 
     -- ---- what an entry is
 
-    abbrev pub thing_by : Entry → EntryKind → Thing
+    abbrev pub thing_by : Entry → EntryKind → TypedEntry
     thing_by e (kinds.Folder links meta) = FolderAt e
     thing_by e (kinds.File size) = FileAt e
 
@@ -154,7 +154,7 @@ module _ (X : List ℕ → List ℕ) (N : List ℕ → ℕ) where
       (subst (λ (o : Option Tree). IsLossOf a (elim o as (λ o. List Held) [ None ↦ [] | Some t ↦ root_of X N p t ]) f) (sym m.1.0)
       (subst (λ a. IsLossOf a (root_of X N p m.0) f) same (thing m.0 (found-entry a b p folder es name m.0 e same i m.1.0 m.1.1))))
 
-  pub member-some : (a b : Told) (p : Profile) (folder : Cid) (es : Entries) (name : List ℕ) (e : Entry) (x : Thing) → b ≡ a → IsAgreedAt X N a p folder (Dir es) → Some e ≡ option_map (entry X N p) (child name es)
+  pub member-some : (a b : Told) (p : Profile) (folder : Cid) (es : Entries) (name : List ℕ) (e : Entry) (x : TypedEntry) → b ≡ a → IsAgreedAt X N a p folder (Dir es) → Some e ≡ option_map (entry X N p) (child name es)
       → ((t : Tree) → IsAgreedAt X N b p e.cid t → IsAgreedThing X N b p t x) → IsAgreedMember X N a p (child name es) (Some x)
   member-some a b p folder es name e x same i h thing =
       let m = some-child p (child name es) e h in
@@ -171,7 +171,7 @@ module _ (X : List ℕ → List ℕ) (N : List ℕ → ℕ) where
   file-tree told p (Dir es) e h = absurd h
 
   -- what is seen under a name is there, and where nothing is seen nothing is
-  pub member-tree : (told : Told) (p : Profile) (o : Option Tree) (x : Thing) → IsAgreedMember X N told p o (Some x) → (t : Tree) × (o ≡ Some t) × IsAgreedThing X N told p t x
+  pub member-tree : (told : Told) (p : Profile) (o : Option Tree) (x : TypedEntry) → IsAgreedMember X N told p o (Some x) → (t : Tree) × (o ≡ Some t) × IsAgreedThing X N told p t x
   member-tree told p None x h = absurd h
   member-tree told p (Some t) x h = (t, refl, h)
 

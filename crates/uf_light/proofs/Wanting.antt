@@ -11,7 +11,7 @@ use Rattle.uf_light.specs.declared.fault.LightFault.{LightFault}
 use Rattle.uf_light.specs.declared.fault.LightFault.TheVariants as fault
 use Rattle.uf_light.specs.declared.met.PathEnd.{PathEnd}
 use Rattle.uf_light.specs.declared.met.PathEnd.TheVariants.{There, Nothing, Behind}
-use Rattle.uf_light.specs.declared.thing.Thing.TheVariants.{File as FileAt, Folder as FolderAt}
+use Rattle.uf_light.specs.declared.thing.TypedEntry.TheVariants.{File as FileAt, Folder as FolderAt}
 use Rattle.uf_light.specs.Light.{absent_text, file_blocks, light_says}
 use Rattle.uf_light.specs.Met.{wanted_of}
 use Rattle.uf_light.specs.Standing.{IsAgreedAt, IsMet}

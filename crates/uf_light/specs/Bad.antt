@@ -7,8 +7,8 @@ use Rattle.uf_store.specs.Contents.{Told}
 use Rattle.uf_store.specs.declared.store.Role.{Role}
 use Rattle.uf_store.specs.declared.store.Role.TheVariants.{Directory, Shard, FileNode, Leaf}
 use Rattle.uf_tree.specs.Roles.{IsCanonicalDirectory, IsNodeBlock}
-use Rattle.uf_light.specs.declared.thing.Thing.{Thing}
-use Rattle.uf_light.specs.declared.thing.Thing.TheVariants.{File, Folder}
+use Rattle.uf_light.specs.declared.thing.TypedEntry.{TypedEntry}
+use Rattle.uf_light.specs.declared.thing.TypedEntry.TheVariants.{File, Folder}
 use Rattle.uf_light.specs.FileCids.{IsBadInSome}
 
 -- a block that isn't canonical as the root of a directory, where one is required, or as a shard on some way
@@ -26,7 +26,7 @@ pub data RequiresDirectory (hash : List ℕ → List ℕ) (root : Cid) (digest :
       → RequiresDirectory hash root digest
 
 -- the same of a directory that was met
-abbrev pub IsRequired : (List ℕ → List ℕ) → Cid → Thing → Type 0
+abbrev pub IsRequired : (List ℕ → List ℕ) → Cid → TypedEntry → Type 0
 IsRequired hash root (File e) = ⊤
 IsRequired hash root (Folder e) = RequiresDirectory hash root e.cid.digest
 
@@ -38,7 +38,7 @@ pub record IsBadOnPath (hash : List ℕ → List ℕ) (N : List ℕ → ℕ) (ro
   pub required : role ≡ Directory → IsNodeBlock bytes → RequiresDirectory hash root (hash bytes)
 
 -- the same below what was met: no name is looked up in a file
-abbrev pub IsBadUnder : (List ℕ → List ℕ) → (List ℕ → ℕ) → Thing → Role → List ℕ → Type 0
+abbrev pub IsBadUnder : (List ℕ → List ℕ) → (List ℕ → ℕ) → TypedEntry → Role → List ℕ → Type 0
 IsBadUnder hash N (File e) role bytes = ⊥
 IsBadUnder hash N (Folder e) role bytes = IsBadOnPath hash N e.cid role bytes
 

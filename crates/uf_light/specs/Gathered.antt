@@ -21,7 +21,7 @@ use Rattle.uf_light.specs.declared.fault.LightFault.TheVariants as fault
 use Rattle.uf_light.specs.declared.met.PathEnd.{PathEnd}
 use Rattle.uf_light.specs.FileCids.{cids_of}
 use Rattle.uf_light.specs.Light.{trails}
-use Rattle.uf_light.specs.declared.thing.Thing.{Thing}
+use Rattle.uf_light.specs.declared.thing.TypedEntry.{TypedEntry}
 use Rattle.uf_light.specs.Standing.{IsAgreedMember, IsMet}
 
 -- the CIDs of these blocks, which are held, were put at the end of a list
@@ -38,7 +38,7 @@ module _ (X : List ℕ → List ℕ) (N : List ℕ → ℕ) (told : Told) (p : P
   Gathers names t w cids cids_now (Err fault) = IsLossOf told (blocks X N p t) fault
 
   -- the same of one name in a directory of these entries: what is under it, and the CIDs of the blocks that decide it
-  abbrev pub GathersMember : List ℕ → Entries → List Cid → List Cid → Result (Option Thing) StoreFault → Type 0
+  abbrev pub GathersMember : List ℕ → Entries → List Cid → List Cid → Result (Option TypedEntry) StoreFault → Type 0
   GathersMember name es cids cids_now (Ok found) = IsAgreedMember X N told p (child name es) found
       × Gathered told (trail X N p (own_meta es) (named_entries X N p es) name) cids cids_now
   GathersMember name es cids cids_now (Err fault) = IsLossOf told (member_needs X N p name es) fault

@@ -9,11 +9,11 @@ use Rattle.uf_light.specs.declared.fault.LightFault.{LightFault}
 use Rattle.uf_light.specs.declared.fault.LightFault.TheVariants as fault
 use Rattle.uf_light.specs.declared.met.PathEnd.{PathEnd}
 use Rattle.uf_light.specs.declared.met.PathEnd.TheVariants.{There, Nothing, Behind}
-use Rattle.uf_light.specs.declared.thing.Thing.{Thing}
-use Rattle.uf_light.specs.declared.thing.Thing.TheVariants.{File, Folder}
+use Rattle.uf_light.specs.declared.thing.TypedEntry.{TypedEntry}
+use Rattle.uf_light.specs.declared.thing.TypedEntry.TheVariants.{File, Folder}
 
 -- a file that is to be shown, or why there is none
-abbrev pub as_file : Thing → Result (Option Entry) LightFault
+abbrev pub as_file : TypedEntry → Result (Option Entry) LightFault
 as_file (File e) = Ok (Some e)
 as_file (Folder e) = Err fault.IsADirectory
 

@@ -18,8 +18,8 @@ use Rattle.uf_plain.specs.declared.rule.Refused.{Refused}
 use Rattle.uf_plain.specs.declared.rule.Refused.TheVariants.{NotADirectory, NotFound}
 use Rattle.uf_light.specs.declared.met.PathEnd.{PathEnd}
 use Rattle.uf_light.specs.declared.met.PathEnd.TheVariants.{There, Nothing, Behind}
-use Rattle.uf_light.specs.declared.thing.Thing.{Thing}
-use Rattle.uf_light.specs.declared.thing.Thing.TheVariants.{File as FileAt, Folder as FolderAt}
+use Rattle.uf_light.specs.declared.thing.TypedEntry.{TypedEntry}
+use Rattle.uf_light.specs.declared.thing.TypedEntry.TheVariants.{File as FileAt, Folder as FolderAt}
 
 -- the CID is that of the root of the tree's plan, which the tree has by an accepted profile
 pub record IsTreeAt (X : List ℕ → List ℕ) (N : List ℕ → ℕ) (p : Profile) (cid : Cid) (t : Tree) : Type 0 where
@@ -35,14 +35,14 @@ module _ (X : List ℕ → List ℕ) (N : List ℕ → ℕ) (told : Told) (p : P
     pub agrees : Agrees told (blocks X N p t)
 
   -- the same of a file or a directory
-  abbrev pub IsAgreedThing : Tree → Thing → Type 0
+  abbrev pub IsAgreedThing : Tree → TypedEntry → Type 0
   IsAgreedThing (File m bytes) (FileAt e) = IsAgreedAt e.cid (File m bytes)
   IsAgreedThing (File m bytes) (FolderAt e) = ⊥
   IsAgreedThing (Dir es) (FileAt e) = ⊥
   IsAgreedThing (Dir es) (FolderAt e) = IsAgreedAt e.cid (Dir es)
 
   -- of what is under a name
-  abbrev pub IsAgreedMember : Option Tree → Option Thing → Type 0
+  abbrev pub IsAgreedMember : Option Tree → Option TypedEntry → Type 0
   IsAgreedMember None None = Unit {0}
   IsAgreedMember None (Some thing) = ⊥
   IsAgreedMember (Some t) None = ⊥

@@ -4,7 +4,7 @@ ghost use Rattle.uf_light.specs.Met.{as_file, wanted_of};
 
 use crate::LightFault;
 use crate::met::PathEnd;
-use crate::thing::Thing;
+use crate::thing::TypedEntry;
 use uf_tree::Entry;
 
 // The file that is to be shown, or none where nothing is to be there, or why there is nothing to show.
@@ -31,11 +31,11 @@ pub fn wanted(absent: bool, met: PathEnd) -> Result<Option<Entry>, LightFault>
 }
 
 // The file that a thing is.
-fn file_at(thing: Thing) -> Result<Option<Entry>, LightFault>
+fn file_at(thing: TypedEntry) -> Result<Option<Entry>, LightFault>
     ensures { result ≡ as_file thing }
 {
     match thing {
-        Thing::File(entry) => Ok(Some(entry)),
-        Thing::Folder(_) => Err(LightFault::IsADirectory),
+        TypedEntry::File(entry) => Ok(Some(entry)),
+        TypedEntry::Folder(_) => Err(LightFault::IsADirectory),
     }
 }

@@ -13,7 +13,7 @@ ghost use Rattle.uf_light.specs.Touches.{CountsUp};
 
 use crate::looking::thing_of;
 use crate::met::PathEnd;
-use crate::thing::Thing;
+use crate::thing::TypedEntry;
 use std::alloc::Global;
 use std::sync::ledger::Ledger;
 use uf_cid::{Cid, Cids, Memory};
@@ -29,7 +29,7 @@ pub fn gather<S: Store, N: NameHash, L: Ledger>(
     store: &mut S,
     led: u32,
     names: &[Name],
-    thing: Thing,
+    thing: TypedEntry,
     cids: &mut Cids,
     touches: &mut Steps<L>,
 ) -> Result<PathEnd, StoreFault>
@@ -46,7 +46,7 @@ pub fn gather<S: Store, N: NameHash, L: Ledger>(
     let [name, rest @ ..] = names else {
         return Ok(PathEnd::There(thing));
     };
-    let Thing::Folder(folder) = thing else {
+    let TypedEntry::Folder(folder) = thing else {
         return Ok(PathEnd::Behind(led));
     };
     match gather_member::<S, N, L>(alloc, store, &folder, name, cids, touches)? {
@@ -63,7 +63,7 @@ fn gather_member<S: Store, N: NameHash, L: Ledger>(
     name: &Name,
     cids: &mut Cids,
     touches: &mut Steps<L>,
-) -> Result<Option<Thing>, StoreFault>
+) -> Result<Option<TypedEntry>, StoreFault>
     ensures gathers { (p : Profile) (es : Entries)
         → IsAgreedAt S.X.block32 N.name64 (S.seen store.old).told p folder.now.cid (Dir es)
         → Stood (S.seen store.old).faults (S.seen store.new).faults

@@ -14,7 +14,7 @@ ghost use Rattle.uf_light.specs.Standing.{IsAgreedAt, IsAgreedMember, IsAgreedTh
 ghost use Rattle.uf_light.specs.Touches.{CountsUp};
 
 use crate::met::PathEnd;
-use crate::thing::Thing;
+use crate::thing::TypedEntry;
 use std::alloc::Global;
 use std::sync::ledger::Ledger;
 use uf_dir::{EntryKind, find, kind_of};
@@ -28,7 +28,7 @@ pub fn look<S: Store, N: NameHash, L: Ledger>(
     store: &mut S,
     led: u32,
     names: &[Name],
-    thing: Thing,
+    thing: TypedEntry,
     touches: &mut Steps<L>,
 ) -> Result<PathEnd, StoreFault>
     requires { led + length names.now < 2 ^ 32 }
@@ -43,7 +43,7 @@ pub fn look<S: Store, N: NameHash, L: Ledger>(
     let [name, rest @ ..] = names else {
         return Ok(PathEnd::There(thing));
     };
-    let Thing::Folder(folder) = thing else {
+    let TypedEntry::Folder(folder) = thing else {
         return Ok(PathEnd::Behind(led));
     };
     match member::<S, N, L>(alloc, store, &folder, name, touches)? {
@@ -59,7 +59,7 @@ pub fn member<S: Store, N: NameHash, L: Ledger>(
     folder: &Entry,
     name: &Name,
     touches: &mut Steps<L>,
-) -> Result<Option<Thing>, StoreFault>
+) -> Result<Option<TypedEntry>, StoreFault>
     ensures member { (p : Profile) (es : Entries)
         → IsAgreedAt S.X.block32 N.name64 (S.seen store.old).told p folder.now.cid (Dir es)
         → Stood (S.seen store.old).faults (S.seen store.new).faults
@@ -83,7 +83,7 @@ pub fn thing_of<S: Store, N: NameHash, L: Ledger>(
     store: &mut S,
     entry: &Entry,
     touches: &mut Steps<L>,
-) -> Result<Thing, StoreFault>
+) -> Result<TypedEntry, StoreFault>
     ensures thing { (p : Profile) (t : Tree)
         → IsAgreedAt S.X.block32 N.name64 (S.seen store.old).told p entry.now.cid t
         → Stood (S.seen store.old).faults (S.seen store.new).faults
@@ -95,7 +95,7 @@ pub fn thing_of<S: Store, N: NameHash, L: Ledger>(
 {
     let kind = kind_of(alloc, store, entry, touches)?;
     match kind {
-        EntryKind::Folder(_, _) => Ok(Thing::Folder(*entry)),
-        EntryKind::File(_) => Ok(Thing::File(*entry)),
+        EntryKind::Folder(_, _) => Ok(TypedEntry::Folder(*entry)),
+        EntryKind::File(_) => Ok(TypedEntry::File(*entry)),
     }
 }
