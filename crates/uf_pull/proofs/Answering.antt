@@ -8,8 +8,8 @@ use Rattle.uf_cid.specs.declared.cid.Cid.{Cid}
 use Rattle.uf_edge.specs.Streams.{Told}
 use Rattle.uf_pull.specs.declared.fault.PullFault.{PullFault}
 use Rattle.uf_pull.specs.declared.fault.PullFault.TheVariants as fault
-use Rattle.uf_pull.specs.declared.frame.Front.{Front}
-use Rattle.uf_pull.specs.declared.frame.Front.TheVariants as front
+use Rattle.uf_pull.specs.declared.frame.FrameFront.{FrameFront}
+use Rattle.uf_pull.specs.declared.frame.FrameFront.TheVariants as front
 use Rattle.uf_pull.specs.declared.peer.Peer.{Peer}
 use Rattle.uf_pull.specs.Due.{Answer, Answered, Refused, answer_to, if_dropped, is_block_of}
 use Rattle.uf_pull.specs.Frames.{Begins, BreaksOff, Deviates, DeviatesAt, EndsAt, Frame, Frames, Giving, Lacking, Next, Stands, begins, first_place, frames_by, frames_from}

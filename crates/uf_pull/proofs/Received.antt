@@ -8,8 +8,8 @@ use Rattle.uf_edge.specs.Streams.{EndsIn, IsAtEnd, Told, before as in_front}
 use Rattle.uf_varint.specs.declared.varint.Var.{Var}
 use Rattle.uf_varint.specs.declared.varint.Var.TheVariants.{Value, Short, Bad}
 use Rattle.uf_varint.specs.Varint.{read_multi_of}
-use Rattle.uf_pull.specs.declared.frame.Front.{Front}
-use Rattle.uf_pull.specs.declared.frame.Front.TheVariants as front
+use Rattle.uf_pull.specs.declared.frame.FrameFront.{FrameFront}
+use Rattle.uf_pull.specs.declared.frame.FrameFront.TheVariants as front
 use Rattle.uf_pull.specs.Frames.{Begins, BreaksOff, Deviates, Frame, Giving, Stands, begins, front_size, giving_at, giving_in, lacking_in, size_by}
 use Rattle.uf_pull.specs.Reading.{FitsFront, IsLeftBehind, ReadsFront, bytes_between, front_says}
 use Rattle.uf_pull.proofs.Fronts.{gave, lacked, one, part}
@@ -31,17 +31,17 @@ pub none_left : (left_now : Told) (rest : List ℕ) → left_now ≡ Some rest �
 none_left left_now rest is at = subst IsAtEnd is at
 
 -- a front of these bytes is one of more
-says_more : (xs ys : List ℕ) (f : Front) → FitsFront (length xs) f → front_says (xs ++ ys) f ≡ front_says xs f
+says_more : (xs ys : List ℕ) (f : FrameFront) → FitsFront (length xs) f → front_says (xs ++ ys) f ≡ front_says xs f
 says_more xs ys front.Cut fits = refl
 says_more xs ys front.Wrong fits = refl
 says_more xs ys (front.Lacks c) fits = refl
 says_more xs ys (front.Gives c from to) fits =
     ap (λ (block : List ℕ). Stands (Giving c block) to) (part from (to - from) xs ys (omega (arith, fits.0, fits.1)))
 
-pub says_in : (n : ℕ) (buffer : List ℕ) (f : Front) → FitsFront (length (take n buffer)) f → front_says buffer f ≡ front_says (take n buffer) f
+pub says_in : (n : ℕ) (buffer : List ℕ) (f : FrameFront) → FitsFront (length (take n buffer)) f → front_says buffer f ≡ front_says (take n buffer) f
 says_in n buffer f fits = ap (λ (xs : List ℕ). front_says xs f) (sym (take-append-drop n buffer)) ∙ says_more (take n buffer) (drop n buffer) f fits
 
-pub fits_in : (n size : ℕ) (f : Front) → n ≤ size → FitsFront n f → FitsFront size f
+pub fits_in : (n size : ℕ) (f : FrameFront) → n ≤ size → FitsFront n f → FitsFront size f
 fits_in n size front.Cut few fits = tt
 fits_in n size front.Wrong few fits = tt
 fits_in n size (front.Lacks c) few fits = tt
@@ -99,7 +99,7 @@ all_behind bytes rest all whole = by (begins bytes) refl
     by Deviates is = tt
 
 -- the source has ended behind bytes that are fewer than a frame has that begins so
-pub ends_front : (n : ℕ) (buffer bytes : List ℕ) (f : Front) (left_now : Told) → bytes ≡ take n buffer → (length bytes < 37) ⊎ ((37 ≤ length bytes) × (length bytes < front_size (take 37 bytes)))
+pub ends_front : (n : ℕ) (buffer bytes : List ℕ) (f : FrameFront) (left_now : Told) → bytes ≡ take n buffer → (length bytes < 37) ⊎ ((37 ≤ length bytes) × (length bytes < front_size (take 37 bytes)))
     → front_says (take n buffer) f ≡ begins (take n buffer) → FitsFront (length (take n buffer)) f → left_now ≡ Some [] → ReadsFront buffer bytes f left_now
 ends_front n buffer bytes f left_now is few says fits left = record {
   rest = [];
@@ -113,7 +113,7 @@ ends_front n buffer bytes f left_now is few says fits left = record {
     by frame k e (inr cut) = let size = frame_size frame k bytes cut.0 e in omega (arith, size, cut.1)
 
 -- all bytes are there that a frame has that begins so
-pub fills_front : (n : ℕ) (buffer bytes rest : List ℕ) (f : Front) (left_now : Told) → bytes ≡ take n buffer ++ rest → n ≤ length buffer → 37 ≤ n → front_size (take 37 (take n buffer)) ≡ n
+pub fills_front : (n : ℕ) (buffer bytes rest : List ℕ) (f : FrameFront) (left_now : Told) → bytes ≡ take n buffer ++ rest → n ≤ length buffer → 37 ≤ n → front_size (take 37 (take n buffer)) ≡ n
     → front_says (take n buffer) f ≡ begins (take n buffer) → FitsFront (length (take n buffer)) f → left_now ≡ Some rest → ReadsFront buffer bytes f left_now
 fills_front n buffer bytes rest f left_now is fits least size says inside left =
     let all : length (take n buffer) ≡ n = length-take-le n buffer fits in
@@ -131,7 +131,7 @@ fills_front n buffer bytes rest f left_now is fits least size says inside left =
 
 -- ---- in two readings
 
-module _ (buffer : List ℕ) (f : Front) (bytes : List ℕ) (left left_now : Told) (is : left ≡ Some bytes) (least : 37 ≤ length buffer) where
+module _ (buffer : List ℕ) (f : FrameFront) (bytes : List ℕ) (left left_now : Told) (is : left ≡ Some bytes) (least : 37 ≤ length buffer) where
   -- the source ended before as many bytes came as a frame has at least
   pub first_ended : (slice : List ℕ) (got : ℕ) → slice ≡ buffer → EndsIn got (bytes_between 0 37 buffer) left left_now → front_says (take got slice) f ≡ begins (take got slice) → FitsFront (length (take got slice)) f
       → ReadsFront buffer bytes f left_now

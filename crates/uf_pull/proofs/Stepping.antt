@@ -8,7 +8,7 @@ use Rattle.uf_cid.specs.declared.cid.Cid.{Cid}
 use Rattle.uf_edge.specs.Streams.{Told}
 use Rattle.uf_pull.specs.declared.fault.PullFault.{PullFault}
 use Rattle.uf_pull.specs.declared.fault.PullFault.TheVariants as fault
-use Rattle.uf_pull.specs.declared.frame.Front.TheVariants as front
+use Rattle.uf_pull.specs.declared.frame.FrameFront.TheVariants as front
 use Rattle.uf_pull.specs.declared.peer.Peer.{Peer}
 use Rattle.uf_pull.specs.Due.{Answer, Answered, Refused, answer_to, if_dropped, is_block_of}
 use Rattle.uf_pull.specs.Frames.{Begins, Frame, Frames, Giving, Lacking, Stands, begins, frames_from}

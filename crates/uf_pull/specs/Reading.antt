@@ -13,8 +13,8 @@ use Rattle.uf_store.specs.declared.store.StoreFault.{StoreFault}
 use Rattle.uf_store.specs.declared.store.StoreFault.TheVariants as store
 use Rattle.uf_pull.specs.declared.fault.PullFault.{PullFault}
 use Rattle.uf_pull.specs.declared.fault.PullFault.TheVariants as fault
-use Rattle.uf_pull.specs.declared.frame.Front.{Front}
-use Rattle.uf_pull.specs.declared.frame.Front.TheVariants as front
+use Rattle.uf_pull.specs.declared.frame.FrameFront.{FrameFront}
+use Rattle.uf_pull.specs.declared.frame.FrameFront.TheVariants as front
 use Rattle.uf_pull.specs.declared.peer.Peer.{Peer}
 use Rattle.uf_pull.specs.Due.{Answer, Answered, Refused, answer_to}
 use Rattle.uf_pull.specs.Frames.{Begins, BreaksOff, Deviates, Frames, Giving, Lacking, Stands, begins, frames_from}
@@ -24,14 +24,14 @@ abbrev pub bytes_between : ℕ → ℕ → List ℕ → List ℕ
 bytes_between from to bytes = take (to - from) (drop from bytes)
 
 -- what a call says of these bytes
-abbrev pub front_says : List ℕ → Front → Begins
+abbrev pub front_says : List ℕ → FrameFront → Begins
 front_says bytes front.Cut = BreaksOff
 front_says bytes front.Wrong = Deviates
 front_says bytes (front.Lacks c) = Stands (Lacking c) 37
 front_says bytes (front.Gives c from to) = Stands (Giving c (bytes_between from to bytes)) to
 
 -- a block stands inside these bytes, and isn't too long
-abbrev pub FitsFront : ℕ → Front → Type 0
+abbrev pub FitsFront : ℕ → FrameFront → Type 0
 FitsFront size front.Cut = ⊤
 FitsFront size front.Wrong = ⊤
 FitsFront size (front.Lacks c) = ⊤
@@ -50,7 +50,7 @@ IsLeftBehind bytes BreaksOff rest = rest ≡ []
 IsLeftBehind bytes Deviates rest = ⊤
 
 -- what begins the bytes of a source was read into a buffer
-pub record ReadsFront (buffer bytes : List ℕ) (front : Front) (left_now : Told) : Type 0 where
+pub record ReadsFront (buffer bytes : List ℕ) (front : FrameFront) (left_now : Told) : Type 0 where
   pub rest : List ℕ
   pub says : begins bytes ≡ front_says buffer front
   pub left : left_now ≡ Some rest

@@ -6,7 +6,7 @@ ghost use Rattle.uf_edge.specs.Streams.{Fills, is_fill_fault};
 ghost use Rattle.uf_pull.specs.Reading.{bytes_between};
 
 use crate::PullFault;
-use crate::frame::{Front, LEAST, front_at, size_at};
+use crate::frame::{FrameFront, LEAST, front_at, size_at};
 use crate::peer::Peer;
 use std::alloc::Global;
 use uf_cid::{BlockHash, Cid, Memory, zeros};
@@ -90,15 +90,15 @@ impl Peer {
         ensures counts { Counts (is_pull_read result) (I.faults input.old) (I.faults input.new) }
     {
         match self.read_front(input)? {
-            Front::Cut => Err(PullFault::Ended(*cid)),
-            Front::Wrong => Err(PullFault::Bad(self.place)),
-            Front::Lacks(lacked) => {
+            FrameFront::Cut => Err(PullFault::Ended(*cid)),
+            FrameFront::Wrong => Err(PullFault::Bad(self.place)),
+            FrameFront::Lacks(lacked) => {
                 if lacked == *cid {
                     return Err(PullFault::Lacks(*cid));
                 }
                 self.drop_frame(LEAST)
             }
-            Front::Gives(given, from, to) => {
+            FrameFront::Gives(given, from, to) => {
                 if given == *cid && X::block32(self.bytes((from, to))) == cid.digest {
                     self.place += to as u64;
                     return Ok(Some((from, to)));
@@ -124,7 +124,7 @@ impl Peer {
     }
 
     // Reads what begins the bytes of a source, and no byte after it.
-    fn read_front<I: Source>(&mut self, input: &mut I) -> Result<Front, PullFault>
+    fn read_front<I: Source>(&mut self, input: &mut I) -> Result<FrameFront, PullFault>
         ensures reads { (bytes : List ℕ) → I.left input.old ≡ Some bytes
             → IfOk result (λ front. ReadsFront self.new.buffer.items bytes front (I.left input.new)) }
         ensures fits { IfOk result (FitsFront (vec_len self.new.buffer)) }
@@ -140,7 +140,7 @@ impl Peer {
     }
 
     // Reads the rest of what begins with the bytes that a frame has at least.
-    fn read_rest<I: Source>(&mut self, input: &mut I) -> Result<Front, PullFault>
+    fn read_rest<I: Source>(&mut self, input: &mut I) -> Result<FrameFront, PullFault>
         ensures reads { (bytes : List ℕ) → I.left input.old ≡ Some bytes
             → IfOk result (λ front. ReadsFront self.new.buffer.items (take 37 self.old.buffer.items ++ bytes) front
             (I.left input.new)) }
