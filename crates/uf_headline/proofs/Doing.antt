@@ -31,7 +31,8 @@ use Rattle.uf_store.specs.Contents.{Told}
 use Rattle.uf_store.specs.declared.store.StoreFault.{StoreFault}
 use Rattle.uf_store.specs.declared.store.StoreFault.TheVariants as fault
 use Rattle.uf_top.specs.HostTexts.{host_text}
-use Rattle.uf_top.specs.Reply.{Outside, added_name, added_spot, adopted, by_rule, edited_by, good_name, grafted, grown, host_tree, input_reply, input_row, input_tree, most_input, moved, placed, reply_to, settled, unchanged, with_plan, world_of}
+use Rattle.uf_top.specs.Reply.{Outside, added_name, added_spot, adopted, by_rule, good_name, grafted, grown, host_tree, input_reply, input_row, input_tree, most_input, moved, placed, reply_to, settled, unchanged, with_plan, world_of}
+use Rattle.uf_edits.specs.Edits.{edited_by}
 use Rattle.uf_tree.specs.Metas.{none}
 use Rattle.uf_tree.specs.Names.{is_name}
 use Rattle.uf_tree.specs.Profiles.{most_bytes}

@@ -19,7 +19,7 @@ use Rattle.uf_plain.specs.declared.spot.Lie.TheVariants.{Itself, Below, Apart}
 use Rattle.uf_plain.specs.declared.spot.Spot.{Spot}
 use Rattle.uf_command.specs.declared.types.Edit.{Edit}
 use Rattle.uf_command.specs.declared.types.Edit.TheVariants.{Mkdir, Rm, Write, Truncate, Cp, Mv, SetMeta}
-use Rattle.uf_top.specs.Reply.{edited_by}
+use Rattle.uf_edits.specs.Edits.{edited_by}
 use Rattle.uf_tree.specs.TreePlan.{refusal, Refusal}
 use Rattle.uf_tree.specs.Metas.{none}
 use Rattle.uf_tree.specs.Names.{names_cmp}

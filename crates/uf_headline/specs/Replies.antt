@@ -10,7 +10,8 @@ use Rattle.uf_command.specs.declared.types.Command.TheVariants.{Init, AddTo, Add
 use Rattle.uf_command.specs.declared.types.Ask.TheVariants.{Edit as Edits}
 use Rattle.uf_command.specs.declared.types.Edit.TheVariants.{Write}
 use Rattle.uf_command.specs.declared.types.Refusal.{Refusal}
-use Rattle.uf_top.specs.Reply.{Outside, added_spot, adopted, edited_by, host_tree, input_tree, most_input, placed}
+use Rattle.uf_top.specs.Reply.{Outside, added_spot, adopted, host_tree, input_tree, most_input, placed}
+use Rattle.uf_edits.specs.Edits.{edited_by}
 use Rattle.uf_tree.specs.Metas.{none}
 use Rattle.uf_tree.specs.Standing.{Standing, NoHead, Stands}
 use Rattle.uf_tree.specs.Tree.{Tree, Entries, Nothing}

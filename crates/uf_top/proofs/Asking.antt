@@ -29,7 +29,8 @@ use Rattle.uf_tree.specs.declared.profile.Profile.{Profile}
 use Rattle.uf_command.specs.Commands.{is_idle}
 use Rattle.uf_command.specs.Natures.{NoWrites, ask_writes}
 use Rattle.uf_command.specs.Kinds.{fault_behind}
-use Rattle.uf_top.specs.Reply.{edited_by, looked, tree_reply}
+use Rattle.uf_top.specs.Reply.{looked, tree_reply}
+use Rattle.uf_edits.specs.Edits.{edited_by, IsBadAsked, EditsInMemory}
 use Rattle.uf_command.specs.declared.types.Ask.{Ask}
 use Rattle.uf_command.specs.declared.types.Ask.TheVariants.{Edit as Edits}
 use Rattle.uf_command.specs.declared.types.Command.TheVariants.{At}
@@ -37,11 +38,11 @@ use Rattle.uf_command.specs.declared.types.Edit.{Edit}
 use Rattle.uf_command.specs.declared.types.Refusal.{Refusal}
 use Rattle.uf_top.specs.Answering.{Answers}
 use Rattle.uf_top.specs.Bounds.{ask_touches}
-use Rattle.uf_top.specs.Causes.{IsBadAsked, IsMade, RefusesInTree}
+use Rattle.uf_top.specs.Causes.{IsMade, RefusesInTree}
 use Rattle.uf_top.specs.Losing.{AnswersOver, ask_needs}
 use Rattle.uf_top.specs.Naming.{StaysNamed}
 use Rattle.uf_top.specs.Shapes.{WritesAs, is_ok}
-use Rattle.uf_top.specs.Working.{EditsInMemory, WorksAt}
+use Rattle.uf_top.specs.Working.{WorksAt}
 use Rattle.uf_top.proofs.Finding.{idle-head}
 use Rattle.uf_top.proofs.InTree.{edit-answers, fault-answers, look-answers, move-answers, stays-nothing, stays-same, tree-wants, wants}
 use Rattle.uf_top.proofs.Classed.{made-kinds, tree-kinds}

@@ -49,7 +49,8 @@ use Rattle.uf_top.specs.Endings.{EndsAs, may_move}
 use Rattle.uf_top.specs.HostTexts.{host_text}
 use Rattle.uf_top.specs.Naming.{TellsBlocks}
 use Rattle.uf_top.specs.Outcomes.{EachOutcome, EachStop, IsSafeFor, LeavesEither, LeavesTree}
-use Rattle.uf_top.specs.Reply.{added_spot, adopted, edited_by, grown, host_tree, hosted, listed, looked, moved, placed, reply_to, settled, tree_reply}
+use Rattle.uf_top.specs.Reply.{added_spot, adopted, grown, host_tree, hosted, listed, looked, moved, placed, reply_to, settled, tree_reply}
+use Rattle.uf_edits.specs.Edits.{edited_by}
 use Rattle.uf_top.specs.Shapes.{HeadAfter, WritesAs, WritesFor, is_done}
 use Rattle.uf_top.proofs.BatchHeads.{first-of, head-or, last-of, more-of}
 use Rattle.uf_top.proofs.BatchReplies.{finds-of, held-of, host-same, next-same, outside-of, quiet-of, stands-next}

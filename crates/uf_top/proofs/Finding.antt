@@ -22,7 +22,8 @@ use Rattle.uf_command.specs.Commands.{IsOfWords}
 use Rattle.uf_top.specs.Endings.{FindsAll}
 use Rattle.uf_top.specs.Answering.{Answers}
 use Rattle.uf_plain.specs.Files.{read}
-use Rattle.uf_top.specs.Reply.{Reply, edited_by, in_tree, looked, moved, tree_reply, read_reply}
+use Rattle.uf_top.specs.Reply.{Reply, in_tree, looked, moved, tree_reply, read_reply}
+use Rattle.uf_edits.specs.Edits.{edited_by}
 use Rattle.uf_command.specs.Statuses.{ended}
 
 -- ---- no block is missing or bad

@@ -32,7 +32,8 @@ use Rattle.uf_command.specs.declared.types.Ask.{Ask}
 use Rattle.uf_command.specs.declared.types.Ask.TheVariants.{Ls, Stat, Edit as Edits}
 use Rattle.uf_command.specs.declared.types.Command.TheVariants.{Init, At}
 use Rattle.uf_command.specs.declared.types.Refusal.{Refusal}
-use Rattle.uf_top.specs.Causes.{HeadStays, IsBadAsked, IsBadIn, RefusesOpening}
+use Rattle.uf_top.specs.Causes.{HeadStays, IsBadIn, RefusesOpening}
+use Rattle.uf_edits.specs.Edits.{IsBadAsked}
 use Rattle.uf_top.specs.Losing.{AnswersOver, ask_needs}
 use Rattle.uf_top.specs.Shapes.{WritesAs, is_ok}
 use Rattle.uf_top.specs.Working.{Makes, WorksAt}

@@ -28,7 +28,8 @@ use Rattle.uf_command.specs.Statuses.{status_of}
 use Rattle.uf_command.specs.declared.status.Status.TheVariants as status
 use Rattle.uf_command.specs.declared.types.Refusal.{Refusal}
 use Rattle.uf_command.specs.declared.types.Refusal.TheVariants as refusal
-use Rattle.uf_top.specs.Causes.{IsBadAsked, IsBadIn, IsMade, IsOpeningFault, IsTreeFault, OnlyWants, RefusesInTree, RefusesOpening}
+use Rattle.uf_top.specs.Causes.{IsBadIn, IsMade, IsOpeningFault, OnlyWants, RefusesInTree, RefusesOpening}
+use Rattle.uf_edits.specs.Edits.{IsBadAsked, IsTreeFault}
 use Rattle.uf_top.specs.Intake.{ShownIn}
 
 -- a count that stands

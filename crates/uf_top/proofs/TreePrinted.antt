@@ -28,7 +28,7 @@ use Rattle.uf_top.specs.Cars.{ByOwnStore}
 use Rattle.uf_top.specs.Causes.{IsBadIn, IsReadyBy, is_read}
 use Rattle.uf_top.specs.Endings.{EndsBy, IsTextOf, PrintsPart}
 use Rattle.uf_command.specs.Telling.{IsCut, Prints}
-use Rattle.uf_top.specs.Generated.{IsGenerated, generated_ends}
+use Rattle.uf_edits.specs.Generated.{IsGenerated, generated_ends}
 use Rattle.uf_top.specs.Losing.{DoesOver}
 use Rattle.uf_top.specs.Naming.{FindsWorld, StaysNamed}
 use Rattle.uf_top.specs.Reply.{Outside, World, in_world, reply}

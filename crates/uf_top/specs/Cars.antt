@@ -25,7 +25,7 @@ use Rattle.uf_store.specs.declared.store.StoreFault.TheVariants.{Memory}
 use Rattle.uf_store.specs.Keeping.{KeepsGood}
 use Rattle.uf_store.specs.Seen.{Seen}
 use Rattle.uf_top.specs.Causes.{is_read}
-use Rattle.uf_top.specs.Generated.{TwoGenerated}
+use Rattle.uf_edits.specs.Generated.{TwoGenerated}
 use Rattle.uf_top.specs.Naming.{TellsBlocks}
 use Rattle.uf_top.specs.Reply.{car_compared, not_one_root, verdict_told}
 use Rattle.uf_same.specs.Verdict.{verdict}

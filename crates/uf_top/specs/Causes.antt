@@ -11,10 +11,9 @@ use Rattle.uf_cid.specs.Blocks.{Held}
 use Rattle.uf_cid.specs.declared.cid.Cid.{Cid}
 use Rattle.uf_edge.specs.Streams.{before, Exceeds, IsWhole}
 use Rattle.uf_edge.specs.Streams as streams
-use Rattle.uf_fileread.specs.Bad.{IsBadInFile, IsBadRoot}
+use Rattle.uf_fileread.specs.Bad.{IsBadInFile}
 use Rattle.uf_mfs.specs.Bad.{IsBadInHead, IsHeadTold}
 use Rattle.uf_mfs.specs.Standing.{head_in}
-use Rattle.uf_mfs.specs.Writes.{IsBadWrittenIn}
 use Rattle.uf_mfs.specs.declared.fault.MfsFault.{MfsFault}
 use Rattle.uf_mfs.specs.declared.fault.MfsFault.TheVariants as mfs
 use Rattle.uf_plain.specs.declared.ready.Ready.{Ready}
@@ -40,6 +39,7 @@ use Rattle.uf_command.specs.Natures.{HeadNeed, AnyHead, NoHeadYet, AHead, nature
 use Rattle.uf_command.specs.Statuses.{no_memory, status_of}
 use Rattle.uf_command.specs.declared.status.Status.TheVariants as status
 use Rattle.uf_top.specs.Reply.{file_cid, most_input}
+use Rattle.uf_edits.specs.Edits.{IsBadAsked}
 
 -- the faults of calls that open a tree: no rule refuses that, and nothing is printed there
 abbrev pub IsOpeningFault : MfsFault → Type 0
@@ -47,13 +47,6 @@ IsOpeningFault (mfs.Rule rule) = ⊥
 IsOpeningFault (mfs.Ready why) = ⊤
 IsOpeningFault mfs.Sink = ⊥
 IsOpeningFault (mfs.Store fault) = ⊤
-
--- the faults of calls on an opened tree: such a tree is ready, and nothing is printed there
-abbrev pub IsTreeFault : MfsFault → Type 0
-IsTreeFault (mfs.Rule rule) = ⊤
-IsTreeFault (mfs.Ready why) = ⊥
-IsTreeFault mfs.Sink = ⊥
-IsTreeFault (mfs.Store fault) = ⊤
 
 -- the faults of calls that send a file of an opened tree: such a tree is ready
 abbrev pub IsSendingFault : MfsFault → Type 0
@@ -126,11 +119,6 @@ IsReadyBy told command why = ⊤
 abbrev pub IsReady : {A : Type 0} → Told → Command → Result A Refusal → Type 0
 IsReady told command (Ok a) = ⊤
 IsReady told command (Err why) = IsReadyBy told command why
-
--- the block isn't canonical in the tree with this root, in a file that is edited, or as the root of a file whose
--- metadata is changed
-abbrev pub IsBadAsked : (List ℕ → List ℕ) → (List ℕ → ℕ) → Profile → Told → Cid → Role → List ℕ → Type 0
-IsBadAsked X N p told root role bytes = IsBadWrittenIn X N p told root role bytes ⊎ IsBadRoot role bytes
 
 -- the block isn't canonical in its role: in the tree that the Head names, in a file that is read, or, where the profile
 -- of the Head is required, in that tree, in a file that is edited, or as the root of a file whose metadata is changed

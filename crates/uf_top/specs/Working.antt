@@ -5,13 +5,9 @@ use Rattle.std.specs.declared.result.Result.{Result}
 use Rattle.std.specs.declared.result.Result.TheVariants.{Ok, Err}
 use Rattle.uf_edge.specs.Counts.{Counts, Stood}
 use Rattle.uf_edge.specs.Streams as streams
-use Rattle.uf_mfs.specs.Answers.{ShownInTree}
-use Rattle.uf_mfs.specs.Moving.{Gives, MovesBy}
 use Rattle.uf_mfs.specs.Reading.{AreHeights}
 use Rattle.uf_mfs.specs.Standing.{NamesOver, StandsAt, StandsOver, TellsAs}
-use Rattle.uf_mfs.specs.Steps.{tree_fault}
-use Rattle.uf_mfs.specs.Touches.{CountsUp, IsBlaming, TouchesFolder}
-use Rattle.uf_mfs.specs.declared.fault.MfsFault.{MfsFault}
+use Rattle.uf_mfs.specs.Touches.{CountsUp, IsBlaming}
 use Rattle.uf_mfs.specs.declared.mfs.Mfs.{Mfs}
 use Rattle.uf_path.specs.declared.path.Path.{Path}
 use Rattle.uf_store.specs.Calls.{Calm}
@@ -19,27 +15,26 @@ use Rattle.uf_store.specs.Contents.{Told}
 use Rattle.uf_store.specs.Faults.{Shown}
 use Rattle.uf_store.specs.Keeping.{KeepsGood}
 use Rattle.uf_store.specs.Seen.{Seen}
-use Rattle.uf_store.specs.Writing.{SavesOnly}
 use Rattle.uf_tree.specs.Standing.{Standing, Stands}
 use Rattle.uf_tree.specs.Tree.{Entries}
 use Rattle.uf_tree.specs.declared.profile.Profile.{Profile}
 use Rattle.uf_command.specs.declared.types.Ask.{Ask}
 use Rattle.uf_command.specs.declared.types.Command.{Command}
 use Rattle.uf_command.specs.declared.types.Command.TheVariants.{At}
-use Rattle.uf_command.specs.declared.types.Edit.{Edit}
 use Rattle.uf_command.specs.declared.types.Refusal.{Refusal}
-use Rattle.uf_command.specs.Commands.{HasInput, has_nothing_to_do, is_idle}
+use Rattle.uf_command.specs.Commands.{HasInput, is_idle}
 use Rattle.uf_command.specs.Natures.{ask_writes, command_writes, kinds_of, prints_after, reads_tree_alone}
 use Rattle.uf_command.specs.Natures.{streams as flows, uses_host, writes_host}
 use Rattle.uf_command.specs.Kinds.{IsOf, may_meet, may_close, opened_kinds, refusal_fault}
-use Rattle.uf_top.specs.Reply.{Outside, World, edited_by, in_world, outside_of, reply, tree_reply}
+use Rattle.uf_top.specs.Reply.{Outside, World, in_world, outside_of, reply, tree_reply}
+use Rattle.uf_edits.specs.Edits.{IsBadAsked}
 use Rattle.uf_command.specs.Statuses.{ended, no_memory, status_of}
 use Rattle.uf_command.specs.declared.status.Status.TheVariants as status
 use Rattle.uf_top.specs.Answering.{Answers, DoesAnswer, LeavesNext}
 use Rattle.uf_top.specs.Around.{Around, CountsCanRise, HasOutside, RisesFor, StaysQuiet, TakesHost, UsesHost, is_input_read}
 use Rattle.uf_top.specs.Around.{is_output_write}
-use Rattle.uf_top.specs.Bounds.{ask_touches, command_touches, touches_of_edit}
-use Rattle.uf_top.specs.Causes.{HeadStays, IsBadAsked, IsBadIn, IsReady, KeepsHead, is_read, is_write}
+use Rattle.uf_top.specs.Bounds.{ask_touches, command_touches}
+use Rattle.uf_top.specs.Causes.{HeadStays, IsBadIn, IsReady, KeepsHead, is_read, is_write}
 use Rattle.uf_top.specs.Endings.{AddsFor, FindsAll, IsTextOf, PrintsAt, PrintsPart, RuleOf}
 use Rattle.uf_top.specs.Getting.{GetsFor}
 use Rattle.uf_top.specs.Hosted.{IsHostedText}
@@ -199,19 +194,3 @@ module _ (X : List ℕ → List ℕ) (N : List ℕ → ℕ) where
     pub idle : (p : Profile) (es : Entries) → StandsOver X N before.told tree p es
         → NamesOver X N before.told p es → Stood before.faults now.faults
         → is_idle [] es (At ask path) ≡ true → now.told ≡ before.told
-
-  -- how the tree in memory was edited at a path, before that is committed
-  pub record EditsInMemory (tree next : Mfs) (edit : Edit) (path : Path) (done : Result Unit MfsFault)
-      (before now : Seen) (was is : ℕ) : Type 0 where
-    pub answers : (p : Profile) (es : Entries) → StandsAt X N before.told tree p es → Calm before now
-        → Gives (λ fs done. StandsAt X N now.told next p fs) (edited_by X N edit path.names p es) done
-    pub lost : MovesBy X N before now tree next (λ p es. edited_by X N edit path.names p es) done
-    pub idle : (p : Profile) (es : Entries) → StandsOver X N before.told tree p es
-        → Stood before.faults now.faults → has_nothing_to_do edit path.names es ≡ true
-        → (now.told ≡ before.told) × (next ≡ tree)
-    pub cause : ShownInTree X (IsBadAsked X N tree.profile now.told tree.root.cid) done before now
-    pub touches : (p : Profile) (rows : ℕ → ℕ) → tree.profile ≡ p → AreHeights p rows
-        → TouchesFolder X N p before now [] tree.root (λ es. touches_of_edit X N rows edit path.names p es) was is
-    pub touched : CountsUp (tree_fault done) was is
-    pub good : KeepsGood X before.told now.told
-    pub saves : SavesOnly X before.told now.told

@@ -2,7 +2,7 @@ use Rattle.uf_store.specs.Faults.{NoneIsBad}
 use Rattle.uf_top.proofs.Asking.{commit-refused, edit-refused, is-committed}
 use Rattle.uf_top.proofs.Shows.{tree-fault}
 use Rattle.uf_top.proofs.tree.edit_at.Goals as goal
-use Rattle.uf_top.specs.Causes.{IsBadAsked}
+use Rattle.uf_edits.specs.Edits.{IsBadAsked}
 
 pub refusal-requires : goal.refusal-requires
 refusal-requires g c = tree-fault (Unit {0}) g.S.X.BlockHash.block32 (IsBadAsked g.S.X.BlockHash.block32 g.N.NameHash.name64 c.args.tree.profile (g.S.Store.seen c.edited.new.store).told c.args.tree.root.cid) c.in-Err.fault (g.S.Store.seen c.args.store.now) (g.S.Store.seen c.edited.new.store) c.in-Err.ensures.edits.cause

@@ -1,7 +1,7 @@
 use Rattle.std.proofs.lemmas.Result.{err_from_is_err_and}
 use Rattle.uf_gen.specs.declared.step.Step.TheVariants.{Make, Change}
-use Rattle.uf_top.proofs.Grown.{begun, made-changed, root-refused, root-stands, unready}
-use Rattle.uf_top.proofs.generating.grown_root.Goals as goal
+use Rattle.uf_edits.proofs.Grown.{begun, made-changed, root-refused, root-stands, unready}
+use Rattle.uf_edits.proofs.generating.grown_root.Goals as goal
 
 pub returns-in_err-tree : goal.returns-in_err-tree
 returns-in_err-tree g c = λ new.

@@ -7,10 +7,10 @@ use Rattle.uf_plain.specs.declared.meta_edit.MetaEdit.{MetaEdit}
 use Rattle.uf_plain.specs.declared.meta_edit.MetaEdit.TheVariants.{Mode, Modified, Strip}
 use Rattle.uf_tree.specs.Tree.{Dir}
 use Rattle.uf_command.specs.declared.types.Edit.TheVariants.{SetMeta}
-use Rattle.uf_top.specs.Working.{EditsInMemory}
+use Rattle.uf_edits.specs.Edits.{EditsInMemory}
 use Rattle.uf_command.proofs.SameMeta.{meta-there}
-use Rattle.uf_top.proofs.Edited.{root-shown, told-edit}
-use Rattle.uf_top.proofs.tree.remade.Goals as goal
+use Rattle.uf_edits.proofs.Edits.{root-shown, told-edit}
+use Rattle.uf_edits.proofs.editing.remade.Goals as goal
 
 pub returns-in-Mode-clause-edits : goal.returns-in-Mode-clause-edits
 returns-in-Mode-clause-edits g c =

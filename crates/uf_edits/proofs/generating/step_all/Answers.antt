@@ -3,9 +3,9 @@ use Rattle.std.proofs.Common.{sym, subst, arith, Result, Err}
 use Rattle.std.proofs.lemmas.Result.{err_from_is_err_and}
 use Rattle.uf_plain.specs.declared.rule.Rule.{Rule}
 use Rattle.uf_tree.specs.Tree.{Entries}
-use Rattle.uf_top.specs.Generated.{Grows, StandsFor, small_profile}
-use Rattle.uf_top.proofs.Grown.{one-more, step-stops}
-use Rattle.uf_top.proofs.generating.step_all.Goals as goal
+use Rattle.uf_edits.specs.Generated.{Grows, StandsFor, small_profile}
+use Rattle.uf_edits.proofs.Grown.{one-more, step-stops}
+use Rattle.uf_edits.proofs.generating.step_all.Goals as goal
 
 pub loop-i-preserved : goal.loop-i-preserved
 loop-i-preserved g c =

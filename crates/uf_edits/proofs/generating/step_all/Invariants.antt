@@ -1,7 +1,7 @@
 use Rattle.uf_gen.specs.Grown.{stepped}
 use Rattle.uf_mfs.specs.Standing.{IsMfs}
-use Rattle.uf_top.specs.Generated.{StandsFor, small_profile}
-use Rattle.uf_top.proofs.generating.step_all.Given as goal
+use Rattle.uf_edits.specs.Generated.{StandsFor, small_profile}
+use Rattle.uf_edits.proofs.generating.step_all.Given as goal
 
 abbrev pub invariant-loop-i : goal.invariant-loop-i
 invariant-loop-i g l =

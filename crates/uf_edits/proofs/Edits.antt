@@ -38,12 +38,9 @@ use Rattle.uf_tree.specs.TreePlan.{blocks}
 use Rattle.uf_tree.specs.declared.meta.Meta.{Meta}
 use Rattle.uf_tree.specs.declared.profile.Profile.{Profile}
 use Rattle.uf_command.specs.Commands.{has_nothing_to_do, is_file_at, is_itself, is_onto_itself}
-use Rattle.uf_top.specs.Reply.{edited_by}
+use Rattle.uf_edits.specs.Edits.{edited_by, touches_of_edit, EditsInMemory, IsBadAsked}
 use Rattle.uf_command.specs.declared.types.Edit.{Edit}
 use Rattle.uf_command.specs.declared.types.Edit.TheVariants.{Mkdir, Write}
-use Rattle.uf_top.specs.Bounds.{touches_of_edit}
-use Rattle.uf_top.specs.Working.{EditsInMemory}
-use Rattle.uf_top.specs.Causes.{IsBadAsked}
 
 -- ---- edits that have nothing to do
 

@@ -6,9 +6,9 @@ use Rattle.uf_plain.specs.Files.{truncated, written}
 use Rattle.uf_plain.specs.Rules.{allowed}
 use Rattle.uf_command.specs.declared.types.Edit.{Edit}
 use Rattle.uf_command.specs.declared.types.Edit.TheVariants.{Mkdir, Rm, Write, Truncate}
-use Rattle.uf_top.specs.Working.{EditsInMemory}
-use Rattle.uf_top.proofs.Edited.{file-shown, idle-mkdir, idle-move, idle-write, told-edit, way-shown}
-use Rattle.uf_top.proofs.tree.edited.Goals as goal
+use Rattle.uf_edits.specs.Edits.{EditsInMemory}
+use Rattle.uf_edits.proofs.Edits.{file-shown, idle-mkdir, idle-move, idle-write, told-edit, way-shown}
+use Rattle.uf_edits.proofs.editing.edited.Goals as goal
 
 pub returns-in-Mkdir-clause-edits : goal.returns-in-Mkdir-clause-edits
 returns-in-Mkdir-clause-edits g c =

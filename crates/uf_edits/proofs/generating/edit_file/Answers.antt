@@ -1,6 +1,6 @@
 use Rattle.uf_gen.specs.Grown.{file_path}
-use Rattle.uf_top.proofs.Grown.{edit-grows}
-use Rattle.uf_top.proofs.generating.edit_file.Goals as goal
+use Rattle.uf_edits.proofs.Grown.{edit-grows}
+use Rattle.uf_edits.proofs.generating.edit_file.Goals as goal
 
 pub returns-in-Ok-clause-grows : goal.returns-in-Ok-clause-grows
 returns-in-Ok-clause-grows g c = λ made stands.

@@ -1,9 +1,9 @@
 use Rattle.uf_store.specs.InMemory.{memory_seen}
 use Rattle.uf_tree.specs.TreePlan.{entry}
 use Rattle.uf_gen.specs.Fresh.{left_tree}
-use Rattle.uf_top.specs.Generated.{small_profile}
-use Rattle.uf_top.proofs.Grown.{of-store, told-fresh, told-lines}
-use Rattle.uf_top.proofs.generating.generated_beside.Goals as goal
+use Rattle.uf_edits.specs.Generated.{small_profile}
+use Rattle.uf_edits.proofs.Grown.{of-store, told-fresh, told-lines}
+use Rattle.uf_edits.proofs.generating.generated_beside.Goals as goal
 
 pub fresh_refusal-requires : goal.fresh_refusal-requires
 fresh_refusal-requires g c =

@@ -46,10 +46,8 @@ use Rattle.uf_command.specs.declared.types.Edit.TheVariants.{Rm, Write as Writes
 use Rattle.uf_command.specs.declared.types.Refusal.{Refusal}
 use Rattle.uf_gen.specs.declared.step.Step.{Step}
 use Rattle.uf_gen.specs.declared.step.Step.TheVariants.{Make, Change}
-use Rattle.uf_top.specs.Causes.{IsTreeFault}
-use Rattle.uf_top.specs.Generated.{Grows, GrowsRoot, IsGenerated, IsOfStore, IsShownClash, RefusesFresh, RefusesOwn, StandsCalm, StandsFor, TellsDigests, TwoGenerated, generated_lines, growth_told, small_profile, step_edit}
-use Rattle.uf_top.specs.Reply.{edited_by}
-use Rattle.uf_top.specs.Working.{EditsInMemory}
+use Rattle.uf_edits.specs.Edits.{IsTreeFault, edited_by, EditsInMemory}
+use Rattle.uf_edits.specs.Generated.{Grows, GrowsRoot, IsGenerated, IsOfStore, IsShownClash, RefusesFresh, RefusesOwn, StandsCalm, StandsFor, TellsDigests, TwoGenerated, generated_lines, growth_told, small_profile, step_edit}
 
 stood : (before now : ℕ) → before ≡ 0 → now ≡ before → Stood before now
 stood before now none same = omega arith

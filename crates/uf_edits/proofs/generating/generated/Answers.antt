@@ -1,5 +1,5 @@
-use Rattle.uf_top.proofs.Grown.{of-tree, told-own}
-use Rattle.uf_top.proofs.generating.generated.Goals as goal
+use Rattle.uf_edits.proofs.Grown.{of-tree, told-own}
+use Rattle.uf_edits.proofs.generating.generated.Goals as goal
 
 pub grown_refusal-requires : goal.grown_refusal-requires
 grown_refusal-requires g c =
