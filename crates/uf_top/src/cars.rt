@@ -65,10 +65,8 @@ pub fn import_car<S: Store, I: Source, O: Sink, L: Ledger>(
         (around (S.seen store.new) (I.left input.new) (I.faults input.new) (O.holds output.new) (O.faults output.new)
         touches.new side) }
 {
-    match roots_of(alloc, store, input, touches) {
-        Err(why) => Err(why),
-        Ok(text) => print(&text, output),
-    }
+    let text = roots_of(alloc, store, input, touches)?;
+    print(&text, output)
 }
 
 // The roots of the CAR that the input has, each in a line, once its blocks are kept and durable.
@@ -116,10 +114,8 @@ pub fn compare_car<S: Store, I: Source, O: Sink, L: Ledger>(
     ensures own { IfErr result (ByOwnStore S.X.block32 OfCarSections (I.left input.old) (S.seen store.old)
         (S.seen store.new)) }
 {
-    match comparison(alloc, cid, store, input, touches) {
-        Err(why) => Err(why),
-        Ok(text) => print(&text, output),
-    }
+    let text = comparison(alloc, cid, store, input, touches)?;
+    print(&text, output)
 }
 
 // How what is below a CID compares with the CAR that the input has, which is read whole into a store of its own.
@@ -134,10 +130,8 @@ fn comparison<S: Store, I: Source, L: Ledger>(
         (I.faults input.old) (I.faults input.new) }
 {
     let mut right = MemStore::<S::X>::new(alloc);
-    match one_root(alloc, &mut right, input, touches) {
-        Err(why) => Err(why),
-        Ok(root) => compare_stores(alloc, cid, &root, store, &mut right, touches),
-    }
+    let root = one_root(alloc, &mut right, input, touches)?;
+    compare_stores(alloc, cid, &root, store, &mut right, touches)
 }
 
 // The root of the CAR that the input has, once its blocks are kept: there has to be one.

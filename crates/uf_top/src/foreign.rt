@@ -40,13 +40,11 @@ pub fn cat<S: Store, O: Sink, L: Ledger>(
         (around (S.seen store.old) left reads (O.holds output.old) (O.faults output.old) touches.old side)
         (around (S.seen store.new) left reads (O.holds output.new) (O.faults output.new) touches.new side) }
 {
-    match file_in(alloc, path, store, touches) {
-        Err(why) => Err(why),
-        Ok(cid) => match stream(alloc, store, &cid, &USUAL, output, touches) {
-            Ok(_) => Ok(()),
-            Err(StreamFault::Sink) => Err(Refusal::Write),
-            Err(StreamFault::Dag(fault)) => Err(dag_refusal(alloc, path, fault)),
-        },
+    let cid = file_in(alloc, path, store, touches)?;
+    match stream(alloc, store, &cid, &USUAL, output, touches) {
+        Ok(_) => Ok(()),
+        Err(StreamFault::Sink) => Err(Refusal::Write),
+        Err(StreamFault::Dag(fault)) => Err(dag_refusal(alloc, path, fault)),
     }
 }
 

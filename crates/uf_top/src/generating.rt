@@ -35,10 +35,8 @@ pub fn print_generated<X: BlockHash, N: NameHash, O: Sink>(
         (around seen left reads (O.holds output.new) (O.faults output.new) touches side) }
     ensures own { (seen : TheSeen) (left : Left) → IfErr result (ByOwnStore X.block32 OfTree left seen seen) }
 {
-    match counted::<X, N, Brand>(alloc, n, seed, Blank::new(1)) {
-        Err(why) => Err(why),
-        Ok(text) => print(&text, output),
-    }
+    let text = counted::<X, N, Brand>(alloc, n, seed, Blank::new(1))?;
+    print(&text, output)
 }
 
 // What is printed, with a count of its own for the touches of the stores.

@@ -73,12 +73,10 @@ fn graft_in<S: Store, N: NameHash, L: Ledger>(
         touches.old touches.new }
 {
     let mut tree = tree;
-    match grafted::<S, N, L>(alloc, &mut tree, source, dest, store, touches) {
-        Err(why) => Err(why),
-        Ok(()) => match tree.commit::<S, N, L>(alloc, store, touches) {
-            Err(fault) => Err(refusal(fault)),
-            Ok(()) => Ok(()),
-        },
+    grafted::<S, N, L>(alloc, &mut tree, source, dest, store, touches)?;
+    match tree.commit::<S, N, L>(alloc, store, touches) {
+        Err(fault) => Err(refusal(fault)),
+        Ok(()) => Ok(()),
     }
 }
 
@@ -103,13 +101,9 @@ fn grafted<S: Store, N: NameHash, L: Ledger>(
     ensures mfs { IsMfs tree.new }
     ensures touched { TouchesUp result touches.old touches.new }
 {
-    match tree_in(alloc, source, store, touches) {
-        Err(why) => Err(why),
-        Ok(cid) => match spot_for::<S, N, L>(alloc, tree, source, dest, store, touches) {
-            Err(why) => Err(why),
-            Ok(spot) => { put_at::<S, N, L>(alloc, tree, source, &cid, &spot, store, touches) }
-        },
-    }
+    let cid = tree_in(alloc, source, store, touches)?;
+    let spot = spot_for::<S, N, L>(alloc, tree, source, dest, store, touches)?;
+    put_at::<S, N, L>(alloc, tree, source, &cid, &spot, store, touches)
 }
 
 // Where what is at a path in a DAG is put that goes to `dest`.
@@ -132,14 +126,10 @@ fn spot_for<S: Store, N: NameHash, L: Ledger>(
     ensures kinds { IsOf graft_kinds result }
     ensures touched { CountsUp (refusal_fault result) touches.old touches.new }
 {
-    match adopted_name(alloc, source) {
-        Err(why) => Err(Refusal::from(why)),
-        Ok(name) => {
-            match tree.spot::<S, N, L>(alloc, store, dest, Some(&name), touches) {
-                Err(fault) => Err(refusal(fault)),
-                Ok(spot) => Ok(spot),
-            }
-        }
+    let name = adopted_name(alloc, source)?;
+    match tree.spot::<S, N, L>(alloc, store, dest, Some(&name), touches) {
+        Err(fault) => Err(refusal(fault)),
+        Ok(spot) => Ok(spot),
     }
 }
 
@@ -165,12 +155,10 @@ fn put_at<S: Store, N: NameHash, L: Ledger>(
     ensures mfs { IsMfs tree.new }
     ensures touched { TouchesUp result touches.old touches.new }
 {
-    match built::<S, N, L>(alloc, tree, source, cid, store, touches) {
-        Err(why) => Err(why),
-        Ok(entry) => match tree.place::<S, N, L>(alloc, store, spot, &entry, touches) {
-            Err(fault) => Err(refusal(fault)),
-            Ok(()) => Ok(()),
-        },
+    let entry = built::<S, N, L>(alloc, tree, source, cid, store, touches)?;
+    match tree.place::<S, N, L>(alloc, store, spot, &entry, touches) {
+        Err(fault) => Err(refusal(fault)),
+        Ok(()) => Ok(()),
     }
 }
 

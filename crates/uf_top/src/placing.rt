@@ -87,13 +87,13 @@ fn find<S: Store, N: NameHash, L: Ledger>(
 {
     match Mfs::from_store::<S, N, L>(alloc, store, touches) {
         Err(fault) => Err(opening(fault)),
-        Ok(tree) => match added_name(alloc, dest, path) {
-            Err(why) => Err(why),
-            Ok(name) => match tree.spot::<S, N, L>(alloc, store, dest, name.as_ref(), touches) {
+        Ok(tree) => {
+            let name = added_name(alloc, dest, path)?;
+            match tree.spot::<S, N, L>(alloc, store, dest, name.as_ref(), touches) {
                 Err(fault) => Err(refusal(fault)),
                 Ok(spot) => Ok(Found { tree, spot }),
-            },
-        },
+            }
+        }
     }
 }
 

@@ -34,13 +34,11 @@ pub fn write_input<S: Store, N: NameHash, I: Source, L: Ledger>(
 {
     match Mfs::from_store::<S, N, L>(alloc, store, touches) {
         Err(fault) => Err(opening(fault)),
-        Ok(tree) => match taken(alloc, input) {
-            Err(why) => Err(why),
-            Ok(piece) => {
-                let edit = Edit::Write { how, piece };
-                edit_at::<S, N, L>(alloc, tree, &edit, path, store, touches)
-            }
-        },
+        Ok(tree) => {
+            let piece = taken(alloc, input)?;
+            let edit = Edit::Write { how, piece };
+            edit_at::<S, N, L>(alloc, tree, &edit, path, store, touches)
+        }
     }
 }
 
