@@ -22,9 +22,9 @@ use Rattle.uf_command.specs.declared.types.Ask.{Ask}
 use Rattle.uf_command.specs.declared.types.Command.{Command}
 use Rattle.uf_command.specs.declared.types.Command.TheVariants.{At}
 use Rattle.uf_command.specs.declared.types.Refusal.{Refusal}
-use Rattle.uf_command.specs.Commands.{HasInput, is_idle}
-use Rattle.uf_command.specs.Natures.{ask_writes, command_writes, kinds_of, prints_after, reads_tree_alone}
-use Rattle.uf_command.specs.Natures.{streams as flows, uses_host, writes_host}
+use Rattle.uf_command.specs.Commands.{HasInput, is_idle, of_command}
+use Rattle.uf_command.specs.Natures.{ask_writes, command_writes, generates, kinds_of, prints_after, reads_input}
+use Rattle.uf_command.specs.Natures.{reads_tree_alone, streams as flows, touches_nothing, uses_host, writes_host}
 use Rattle.uf_command.specs.Kinds.{IsOf, may_meet, may_close, opened_kinds, refusal_fault}
 use Rattle.uf_top.specs.Reply.{Outside, World, in_world, outside_of, reply, tree_reply}
 use Rattle.uf_edits.specs.Edits.{IsBadAsked}
@@ -194,3 +194,12 @@ module _ (X : List ℕ → List ℕ) (N : List ℕ → ℕ) where
     pub idle : (p : Profile) (es : Entries) → StandsOver X N before.told tree p es
         → NamesOver X N before.told p es → Stood before.faults now.faults
         → is_idle [] es (At ask path) ≡ true → now.told ≡ before.told
+
+-- words that are refused, and a command that works on stores of its own, leave the store as it is; a command that
+-- doesn't use the input or the host leaves that as it is; and `add -n` and `gen` make no touch
+pub record Spares {S I W : Type 0} (asked : Result Command Refusal) (store store_now : S) (source source_now : I)
+    (side side_now : W) (touches touches_now : ℕ) : Type 0 where
+  pub left : of_command generates true asked ≡ true → store_now ≡ store
+  pub input : of_command reads_input false asked ≡ false → source_now ≡ source
+  pub host : of_command uses_host false asked ≡ false → side_now ≡ side
+  pub untouched : of_command touches_nothing true asked ≡ true → touches_now ≡ touches

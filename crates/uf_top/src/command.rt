@@ -1,9 +1,9 @@
 //! One command.
-ghost use Rattle.std.specs.Prelude.{◌≡◌, ◌<◌, Bool, IfErr, IfOk, ℕ, true, false};
+ghost use Rattle.std.specs.Prelude.{◌≡◌, Bool, IfErr, IfOk, Ok, ℕ, true, false};
+ghost use Rattle.uf_edge.specs.Streams.{Told};
 ghost use Rattle.std.specs.declared.result.Result.{Result as TheResult};
 ghost use Rattle.std.specs.Prelude.{map, string_bytes};
 ghost use Rattle.uf_cid.specs.declared.cid.Cid.{Cid as TheCid};
-ghost use Rattle.uf_edge.specs.Streams.{Told};
 ghost use Rattle.uf_mfs.specs.Standing.{TellsAs};
 ghost use Rattle.uf_path.specs.declared.path.Path.{Path as ThePath};
 ghost use Rattle.uf_tree.specs.Standing.{Standing};
@@ -23,7 +23,7 @@ ghost use Rattle.uf_top.specs.Checking.{RunsCheck};
 ghost use Rattle.uf_top.specs.Collecting.{RunsGc};
 ghost use Rattle.uf_top.specs.Running.{Runs};
 ghost use Rattle.uf_top.specs.Talking.{RunsPull, RunsServe};
-ghost use Rattle.uf_top.specs.Working.{Does, MakesText, Serves};
+ghost use Rattle.uf_top.specs.Working.{Does, MakesText, Serves, Spares};
 
 use crate::adding::adds;
 use crate::batching::{MOST_OF_BATCH, MOST_OF_LINE, batch};
@@ -34,6 +34,7 @@ use crate::generating::print_generated;
 use crate::getting::get;
 use crate::grafting::graft;
 use crate::hosted::add_from;
+use crate::peers::{pull_from, serve_wants};
 use crate::pinning::pin;
 use crate::placing::{add_from_to, add_to};
 use crate::proving::{check_input, prove_at};
@@ -43,21 +44,10 @@ use crate::tree::{at, init};
 use std::alloc::Global;
 use std::sync::ledger::Ledger;
 use uf_cid::Block;
-use uf_command::{
-    Command, Refusal, Request, Status, print, pull_end, read_request, serve_end, tell_end,
-    tell_talk,
-};
+use uf_command::{Command, Refusal, Request, Status, print, read_request, tell_end};
 use uf_edge::{Host, Sink, Source};
-use uf_light::Asked;
 use uf_murmur::NameHash;
-use uf_pull::{pull, serve as serve_peer};
 use uf_store::{Steps, Store, Sweep};
-
-// The most CIDs of a DAG that is pulled.
-const MOST_PULLED: u32 = 16777216;
-
-// The most bytes of a peer's lines that are read.
-const MOST_OF_WANTS: u64 = 1073741824;
 
 /// Does one command, which the words after the program's name say.
 ///
@@ -154,14 +144,8 @@ pub fn run<S: Sweep, N: NameHash, W: Host, I: Source, O: Sink, E: Sink, L: Ledge
             errors,
             touches,
         ),
-        Request::Pull { cid } => {
-            let done = pull(alloc, store, &cid, MOST_PULLED, input, output, touches);
-            tell_talk(alloc, pull_end(done), errors)
-        }
-        Request::Serve => {
-            let done = serve_peer(alloc, store, MOST_OF_WANTS, input, output, touches);
-            tell_talk(alloc, serve_end(done), errors)
-        }
+        Request::Pull { cid } => pull_from(alloc, &cid, store, input, output, errors, touches),
+        Request::Serve => serve_wants(alloc, store, input, output, errors, touches),
         Request::One { asked } => {
             let done = serve::<S, N, W, I, O, L>(alloc, asked, store, host, input, output, touches);
             tell_end(alloc, done, errors)
@@ -171,12 +155,9 @@ pub fn run<S: Sweep, N: NameHash, W: Host, I: Source, O: Sink, E: Sink, L: Ledge
             tell_end(alloc, done, errors)
         }
         Request::Check { absent, cid, path } => {
-            let asked = Asked {
-                root: cid,
-                names: path.names,
-                absent,
-            };
-            let done = check_input::<S::X, N, I, O, L>(alloc, &asked, input, output, touches);
+            let done = check_input::<S::X, N, I, O, L>(
+                alloc, absent, cid, path, input, output, touches,
+            );
             tell_end(alloc, done, errors)
         }
     }
@@ -201,21 +182,11 @@ fn serve<S: Store, N: NameHash, W: Host, I: Source, O: Sink, L: Ledger>(
         → IfErr result (ByOwnStore S.X.block32 (of_command own_store NoStore told) (I.left input.old)
         (S.seen store.old) (S.seen store.new)) }
     ensures kinds { (told : TheResult TheCommand TheRefusal) → IsAsked asked told → IsOfCommand told result }
-    ensures left { (told : TheResult TheCommand TheRefusal) → IsAsked asked told
-        → of_command generates true told ≡ true → store.new ≡ store.old }
-    ensures input { (told : TheResult TheCommand TheRefusal) → IsAsked asked told
-        → of_command reads_input false told ≡ false → input.new ≡ input.old }
-    ensures host { (told : TheResult TheCommand TheRefusal) → IsAsked asked told
-        → of_command uses_host false told ≡ false → host.new ≡ host.old }
-    ensures untouched { (told : TheResult TheCommand TheRefusal) → IsAsked asked told
-        → of_command touches_nothing true told ≡ true → touches.new ≡ touches.old }
+    ensures spares { (told : TheResult TheCommand TheRefusal) → IsAsked asked told
+        → Spares told store.old store.new input.old input.new host.old host.new touches.old touches.new }
 {
-    match asked {
-        Err(why) => Err(why),
-        Ok(command) => work::<S, N, W, I, O, L>(
-            alloc, &command, store, host, input, output, touches,
-        ),
-    }
+    let command = asked?;
+    work::<S, N, W, I, O, L>(alloc, &command, store, host, input, output, touches)
 }
 
 // Does a command and prints what it says, or says why it is refused. One that writes nothing to the store meets no
@@ -236,10 +207,8 @@ pub fn work<S: Store, N: NameHash, W: Host, I: Source, O: Sink, L: Ledger>(
     ensures own { IfErr result (ByOwnStore S.X.block32 (own_store command.now) (I.left input.old)
         (S.seen store.old) (S.seen store.new)) }
     ensures kinds { IsOf (may_end command.now) result }
-    ensures input { reads_input command.now ≡ false → input.new ≡ input.old }
-    ensures left { generates command.now ≡ true → store.new ≡ store.old }
-    ensures host { uses_host command.now ≡ false → host.new ≡ host.old }
-    ensures untouched { touches_nothing command.now ≡ true → touches.new ≡ touches.old }
+    ensures spares { Spares (Ok command.now) store.old store.new input.old input.new host.old host.new touches.old
+        touches.new }
 {
     let done = carry_out::<S, N, W, I, O, L>(alloc, command, store, host, input, output, touches);
     command.settle(done)
@@ -261,10 +230,8 @@ fn carry_out<S: Store, N: NameHash, W: Host, I: Source, O: Sink, L: Ledger>(
         (around_at I.Source O.Sink W.Host (S.seen store.new) input.new output.new touches.new host.new) }
     ensures own { IfErr result (ByOwnStore S.X.block32 (own_store command.now) (I.left input.old)
         (S.seen store.old) (S.seen store.new)) }
-    ensures input { reads_input command.now ≡ false → input.new ≡ input.old }
-    ensures left { generates command.now ≡ true → store.new ≡ store.old }
-    ensures host { uses_host command.now ≡ false → host.new ≡ host.old }
-    ensures untouched { touches_nothing command.now ≡ true → touches.new ≡ touches.old }
+    ensures spares { Spares (Ok command.now) store.old store.new input.old input.new host.old host.new touches.old
+        touches.new }
 {
     match command {
         Command::Read {
@@ -283,10 +250,10 @@ fn carry_out<S: Store, N: NameHash, W: Host, I: Source, O: Sink, L: Ledger>(
         Command::Prove { absent, path } => {
             prove_at::<S, N, O, L>(alloc, *absent, path, store, output, touches)
         }
-        _ => match text_of::<S, N, W, I, L>(alloc, command, store, host, input, touches) {
-            Err(why) => Err(why),
-            Ok(text) => print(&text, output),
-        },
+        _ => {
+            let text = text_of::<S, N, W, I, L>(alloc, command, store, host, input, touches)?;
+            print(&text, output)
+        }
     }
 }
 

@@ -14,6 +14,7 @@ mod given;
 mod grafting;
 mod hosted;
 pub mod laws;
+mod peers;
 mod pinning;
 mod placing;
 mod proving;

@@ -13,7 +13,7 @@ ghost use Rattle.uf_top.specs.Working.{Does};
 use crate::tree::opening;
 use std::alloc::Global;
 use std::sync::ledger::Ledger;
-use uf_cid::BlockHash;
+use uf_cid::{BlockHash, Cid};
 use uf_command::{DagRule, Refusal, car_refusal};
 use uf_edge::{Sink, Source};
 use uf_light::{Asked, LightFault, check, prove};
@@ -57,17 +57,23 @@ pub fn prove_at<S: Store, N: NameHash, O: Sink, L: Ledger>(
 // Reads the input as the proof of what is at a path below a root, and writes that.
 pub fn check_input<X: BlockHash, N: NameHash, I: Source, O: Sink, L: Ledger>(
     alloc: Global,
-    asked: &Asked,
+    absent: bool,
+    cid: Cid,
+    path: Path,
     input: &mut I,
     output: &mut O,
     touches: &mut Steps<L>,
 ) -> Result<(), Refusal>
-    requires { length asked.now.names < 2 ^ 32 }
-    ensures { ChecksAndEnds X.block32 N.name64 asked.now.absent asked.now.root asked.now.names result
-        (I.left input.old) (I.faults input.old) (I.faults input.new) (O.holds output.old) (O.holds output.new)
-        (O.faults output.old) (O.faults output.new) }
+    requires { length path.names < 2 ^ 32 }
+    ensures { ChecksAndEnds X.block32 N.name64 absent cid path.names result (I.left input.old) (I.faults input.old)
+        (I.faults input.new) (O.holds output.old) (O.holds output.new) (O.faults output.old) (O.faults output.new) }
 {
-    let done = check::<X, N, I, O, L>(alloc, asked, input, MOST_OF_PROOF, output, touches);
+    let asked = Asked {
+        root: cid,
+        names: path.names,
+        absent,
+    };
+    let done = check::<X, N, I, O, L>(alloc, &asked, input, MOST_OF_PROOF, output, touches);
     end(alloc, asked.names.as_slice(), done)
 }
 

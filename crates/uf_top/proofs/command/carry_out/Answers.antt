@@ -1,4 +1,5 @@
 use Rattle.std.proofs.Common.{◌≡◌, ◌∙◌, false, true, ap, refl, sym, subst, Err}
+use Rattle.std.proofs.lemmas.Result.{err_from_is_err_and}
 use Rattle.std.specs.Prelude.{IfErr}
 use Rattle.uf_command.specs.Natures.{generates, own_store, reads_input, touches_nothing, uses_host}
 use Rattle.uf_command.specs.declared.types.Command.TheVariants.{Adopt, Cat, Export, Get, Import, Pin, Prove, Read, Same}
@@ -33,40 +34,53 @@ returns-in-Read-clause-own g c =
     subst (λ command. IfErr c.send_part.result (ByOwnStore g.S.X.BlockHash.block32 (own_store command) l (g.S.Store.seen c.args.store.now) (g.S.Store.seen c.send_part.new.store))) (sym c.in-Read.is)
     (spares-own g.S.X.BlockHash.block32 l (g.S.Store.seen c.args.store.now) (g.S.Store.seen c.send_part.new.store) (Read c.in-Read.offset c.in-Read.count c.in-Read.path) c.send_part.result refl (c.send_part.ensures l i s).kinds)
 
-pub returns-in-Err : goal.returns-in-Err
-returns-in-Err g c =
-    let h = g.O.Sink.holds c.args.output.now in let w = g.O.Sink.faults c.args.output.now in
+pub returns-in-Read-clause-spares : goal.returns-in-Read-clause-spares
+returns-in-Read-clause-spares g c = record {
+  left = λ e. absurd (let k : generates (Read c.in-Read.offset c.in-Read.count c.in-Read.path) ≡ true = ap generates (sym c.in-Read.is) ∙ e in cc);
+  input = λ e. refl;
+  host = λ e. refl;
+  untouched = λ e. absurd (let k : touches_nothing (Read c.in-Read.offset c.in-Read.count c.in-Read.path) ≡ true = ap touches_nothing (sym c.in-Read.is) ∙ e in cc);
+}
+
+pub returns-in_err-text-in_default : goal.returns-in_err-text-in_default
+returns-in_err-text-in_default g c =
+    let out = err_from_is_err_and c.from_residual.result c.from_residual.ensures.1 in
+    rw (out.1, out.2) (let h = g.O.Sink.holds c.args.output.now in let w = g.O.Sink.faults c.args.output.now in
     let is = standing-of c.args.command.now c.in_default.not-Read c.in_default.not-Cat c.in_default.not-Get c.in_default.not-Export c.in_default.not-Import c.in_default.not-Same c.in_default.not-Adopt c.in_default.not-Gen c.in_default.not-Pin c.in_default.not-Prove in
     let does = refused-does g.S.X.BlockHash.block32 g.N.NameHash.name64 c.args.command.now is.alone
     (g.S.Store.seen c.args.store.now) (g.S.Store.seen c.text_of.new.store) (g.I.Source.left c.args.input.now) (g.I.Source.left c.text_of.new.input) (g.I.Source.faults c.args.input.now) (g.I.Source.faults c.text_of.new.input)
     c.args.touches.now c.text_of.new.touches h w
     (host_side (g.W.Host.tree c.args.host.now) (g.W.Host.read_faults c.args.host.now) (g.W.Host.write_faults c.args.host.now))
-    (host_side (g.W.Host.tree c.text_of.new.host) (g.W.Host.read_faults c.text_of.new.host) (g.W.Host.write_faults c.text_of.new.host)) c.in-Err.why (c.in-Err.ensures.makes h w) in
+    (host_side (g.W.Host.tree c.text_of.new.host) (g.W.Host.read_faults c.text_of.new.host) (g.W.Host.write_faults c.text_of.new.host)) c.in_err-text-in_default.field-0.0 (c.in_err-text-in_default.ensures.makes h w) in
     record {
       does = does;
-      own = spares-own g.S.X.BlockHash.block32 (g.I.Source.left c.args.input.now) (g.S.Store.seen c.args.store.now) (g.S.Store.seen c.text_of.new.store) c.args.command.now (Err c.in-Err.why) (alone-spares c.args.command.now is.alone) does.kinds;
-      input = c.in-Err.ensures.input;
-      left = λ e. absurd (alone-given c.args.command.now is.alone e);
-      host = c.in-Err.ensures.host;
-      untouched = c.in-Err.ensures.untouched;
-    }
+      own = spares-own g.S.X.BlockHash.block32 (g.I.Source.left c.args.input.now) (g.S.Store.seen c.args.store.now) (g.S.Store.seen c.text_of.new.store) c.args.command.now (Err c.in_err-text-in_default.field-0.0) (alone-spares c.args.command.now is.alone) does.kinds;
+      spares = record {
+        input = c.in_err-text-in_default.ensures.input;
+        left = λ e. absurd (alone-given c.args.command.now is.alone e);
+        host = c.in_err-text-in_default.ensures.host;
+        untouched = c.in_err-text-in_default.ensures.untouched;
+      };
+    })
 
-pub returns-in-Ok : goal.returns-in-Ok
-returns-in-Ok g c =
+pub returns-in_ok-text-in_default : goal.returns-in_ok-text-in_default
+returns-in_ok-text-in_default g c =
     let h = g.O.Sink.holds c.args.output.now in let w = g.O.Sink.faults c.args.output.now in
     let is = standing-of c.args.command.now c.in_default.not-Read c.in_default.not-Cat c.in_default.not-Get c.in_default.not-Export c.in_default.not-Import c.in_default.not-Same c.in_default.not-Adopt c.in_default.not-Gen c.in_default.not-Pin c.in_default.not-Prove in
     let does = prints-does g.S.X.BlockHash.block32 g.N.NameHash.name64 c.args.command.now is.alone
     (g.S.Store.seen c.args.store.now) (g.S.Store.seen c.text_of.new.store) (g.I.Source.left c.args.input.now) (g.I.Source.left c.text_of.new.input) (g.I.Source.faults c.args.input.now) (g.I.Source.faults c.text_of.new.input)
     c.args.touches.now c.text_of.new.touches h w
     (host_side (g.W.Host.tree c.args.host.now) (g.W.Host.read_faults c.args.host.now) (g.W.Host.write_faults c.args.host.now))
-    (host_side (g.W.Host.tree c.text_of.new.host) (g.W.Host.read_faults c.text_of.new.host) (g.W.Host.write_faults c.text_of.new.host)) c.in-Ok.text (c.in-Ok.ensures.makes h w) (g.O.Sink.holds c.print.new.output) (g.O.Sink.faults c.print.new.output) c.print.result c.print.ensures in
+    (host_side (g.W.Host.tree c.text_of.new.host) (g.W.Host.read_faults c.text_of.new.host) (g.W.Host.write_faults c.text_of.new.host)) c.in_ok-text-in_default.text (c.in_ok-text-in_default.ensures.makes h w) (g.O.Sink.holds c.print.new.output) (g.O.Sink.faults c.print.new.output) c.print.result c.print.ensures in
     record {
       does = does;
       own = spares-own g.S.X.BlockHash.block32 (g.I.Source.left c.args.input.now) (g.S.Store.seen c.args.store.now) (g.S.Store.seen c.text_of.new.store) c.args.command.now c.print.result (alone-spares c.args.command.now is.alone) does.kinds;
-      input = c.in-Ok.ensures.input;
-      left = λ e. absurd (alone-given c.args.command.now is.alone e);
-      host = c.in-Ok.ensures.host;
-      untouched = c.in-Ok.ensures.untouched;
+      spares = record {
+        input = c.in_ok-text-in_default.ensures.input;
+        left = λ e. absurd (alone-given c.args.command.now is.alone e);
+        host = c.in_ok-text-in_default.ensures.host;
+        untouched = c.in_ok-text-in_default.ensures.untouched;
+      };
     }
 
 pub returns-in-Cat : goal.returns-in-Cat
@@ -80,10 +94,12 @@ returns-in-Cat g c =
           (sym c.in-Cat.is) (c.cat.ensures g.N.NameHash.name64 l i s);
       own = subst (λ command. IfErr c.cat.result (ByOwnStore g.S.X.BlockHash.block32 (own_store command) (g.I.Source.left c.args.input.now) (g.S.Store.seen c.args.store.now) (g.S.Store.seen c.cat.new.store))) (sym c.in-Cat.is)
           (spares-own g.S.X.BlockHash.block32 (g.I.Source.left c.args.input.now) (g.S.Store.seen c.args.store.now) (g.S.Store.seen c.cat.new.store) (Cat c.in-Cat.path) c.cat.result refl (c.cat.ensures g.N.NameHash.name64 l i s).kinds);
-      input = λ e. refl;
-      host = λ e. refl;
-      left = λ e. absurd (let k : generates (Cat c.in-Cat.path) ≡ true = ap generates (sym c.in-Cat.is) ∙ e in cc);
-      untouched = λ e. absurd (let k : touches_nothing (Cat c.in-Cat.path) ≡ true = ap touches_nothing (sym c.in-Cat.is) ∙ e in cc);
+      spares = record {
+        input = λ e. refl;
+        host = λ e. refl;
+        left = λ e. absurd (let k : generates (Cat c.in-Cat.path) ≡ true = ap generates (sym c.in-Cat.is) ∙ e in cc);
+        untouched = λ e. absurd (let k : touches_nothing (Cat c.in-Cat.path) ≡ true = ap touches_nothing (sym c.in-Cat.is) ∙ e in cc);
+      };
     }
 
 pub returns-in-Get : goal.returns-in-Get
@@ -97,10 +113,12 @@ returns-in-Get g c =
           (sym c.in-Get.is) (c.get.ensures g.N.NameHash.name64 l i h w);
       own = subst (λ command. IfErr c.get.result (ByOwnStore g.S.X.BlockHash.block32 (own_store command) l (g.S.Store.seen c.args.store.now) (g.S.Store.seen c.get.new.store))) (sym c.in-Get.is)
           (spares-own g.S.X.BlockHash.block32 l (g.S.Store.seen c.args.store.now) (g.S.Store.seen c.get.new.store) (Get c.in-Get.path c.in-Get.host_path) c.get.result refl (c.get.ensures g.N.NameHash.name64 l i h w).kinds);
-      input = λ e. refl;
-      host = λ e. absurd (let k : uses_host (Get c.in-Get.path c.in-Get.host_path) ≡ false = ap uses_host (sym c.in-Get.is) ∙ e in cc);
-      left = λ e. absurd (let k : generates (Get c.in-Get.path c.in-Get.host_path) ≡ true = ap generates (sym c.in-Get.is) ∙ e in cc);
-      untouched = λ e. absurd (let k : touches_nothing (Get c.in-Get.path c.in-Get.host_path) ≡ true = ap touches_nothing (sym c.in-Get.is) ∙ e in cc);
+      spares = record {
+        input = λ e. refl;
+        host = λ e. absurd (let k : uses_host (Get c.in-Get.path c.in-Get.host_path) ≡ false = ap uses_host (sym c.in-Get.is) ∙ e in cc);
+        left = λ e. absurd (let k : generates (Get c.in-Get.path c.in-Get.host_path) ≡ true = ap generates (sym c.in-Get.is) ∙ e in cc);
+        untouched = λ e. absurd (let k : touches_nothing (Get c.in-Get.path c.in-Get.host_path) ≡ true = ap touches_nothing (sym c.in-Get.is) ∙ e in cc);
+      };
     }
 
 pub returns-in-Export : goal.returns-in-Export
@@ -114,10 +132,12 @@ returns-in-Export g c =
           (sym c.in-Export.is) (c.export_car.ensures g.N.NameHash.name64 l i s);
       own = subst (λ command. IfErr c.export_car.result (ByOwnStore g.S.X.BlockHash.block32 (own_store command) (g.I.Source.left c.args.input.now) (g.S.Store.seen c.args.store.now) (g.S.Store.seen c.export_car.new.store))) (sym c.in-Export.is)
           (spares-own g.S.X.BlockHash.block32 (g.I.Source.left c.args.input.now) (g.S.Store.seen c.args.store.now) (g.S.Store.seen c.export_car.new.store) (Export c.in-Export.cid) c.export_car.result refl (c.export_car.ensures g.N.NameHash.name64 l i s).kinds);
-      input = λ e. refl;
-      host = λ e. refl;
-      left = λ e. absurd (let k : generates (Export c.in-Export.cid) ≡ true = ap generates (sym c.in-Export.is) ∙ e in cc);
-      untouched = λ e. absurd (let k : touches_nothing (Export c.in-Export.cid) ≡ true = ap touches_nothing (sym c.in-Export.is) ∙ e in cc);
+      spares = record {
+        input = λ e. refl;
+        host = λ e. refl;
+        left = λ e. absurd (let k : generates (Export c.in-Export.cid) ≡ true = ap generates (sym c.in-Export.is) ∙ e in cc);
+        untouched = λ e. absurd (let k : touches_nothing (Export c.in-Export.cid) ≡ true = ap touches_nothing (sym c.in-Export.is) ∙ e in cc);
+      };
     }
 
 pub returns-in-Import : goal.returns-in-Import
@@ -130,10 +150,12 @@ returns-in-Import g c =
           (sym c.in-Import.is) (c.import_car.ensures g.N.NameHash.name64 s);
       own = subst (λ command. IfErr c.import_car.result (ByOwnStore g.S.X.BlockHash.block32 (own_store command) (g.I.Source.left c.args.input.now) (g.S.Store.seen c.args.store.now) (g.S.Store.seen c.import_car.new.store))) (sym c.in-Import.is)
           (spares-own g.S.X.BlockHash.block32 (g.I.Source.left c.args.input.now) (g.S.Store.seen c.args.store.now) (g.S.Store.seen c.import_car.new.store) Import c.import_car.result refl (c.import_car.ensures g.N.NameHash.name64 s).kinds);
-      input = λ e. absurd (let k : reads_input Import ≡ false = ap reads_input (sym c.in-Import.is) ∙ e in cc);
-      host = λ e. refl;
-      left = λ e. absurd (let k : generates Import ≡ true = ap generates (sym c.in-Import.is) ∙ e in cc);
-      untouched = λ e. absurd (let k : touches_nothing Import ≡ true = ap touches_nothing (sym c.in-Import.is) ∙ e in cc);
+      spares = record {
+        input = λ e. absurd (let k : reads_input Import ≡ false = ap reads_input (sym c.in-Import.is) ∙ e in cc);
+        host = λ e. refl;
+        left = λ e. absurd (let k : generates Import ≡ true = ap generates (sym c.in-Import.is) ∙ e in cc);
+        untouched = λ e. absurd (let k : touches_nothing Import ≡ true = ap touches_nothing (sym c.in-Import.is) ∙ e in cc);
+      };
     }
 
 pub returns-in-Same : goal.returns-in-Same
@@ -146,10 +168,12 @@ returns-in-Same g c =
           (around (g.S.Store.seen c.compare_car.new.store) (g.I.Source.left c.compare_car.new.input) (g.I.Source.faults c.compare_car.new.input) (g.O.Sink.holds c.compare_car.new.output) (g.O.Sink.faults c.compare_car.new.output) c.compare_car.new.touches s))
           (sym c.in-Same.is) (c.compare_car.ensures.does g.N.NameHash.name64 s);
       own = subst (λ command. IfErr c.compare_car.result (ByOwnStore g.S.X.BlockHash.block32 (own_store command) l (g.S.Store.seen c.args.store.now) (g.S.Store.seen c.compare_car.new.store))) (sym c.in-Same.is) c.compare_car.ensures.own;
-      input = λ e. absurd (let k : reads_input (Same c.in-Same.cid) ≡ false = ap reads_input (sym c.in-Same.is) ∙ e in cc);
-      host = λ e. refl;
-      left = λ e. absurd (let k : generates (Same c.in-Same.cid) ≡ true = ap generates (sym c.in-Same.is) ∙ e in cc);
-      untouched = λ e. absurd (let k : touches_nothing (Same c.in-Same.cid) ≡ true = ap touches_nothing (sym c.in-Same.is) ∙ e in cc);
+      spares = record {
+        input = λ e. absurd (let k : reads_input (Same c.in-Same.cid) ≡ false = ap reads_input (sym c.in-Same.is) ∙ e in cc);
+        host = λ e. refl;
+        left = λ e. absurd (let k : generates (Same c.in-Same.cid) ≡ true = ap generates (sym c.in-Same.is) ∙ e in cc);
+        untouched = λ e. absurd (let k : touches_nothing (Same c.in-Same.cid) ≡ true = ap touches_nothing (sym c.in-Same.is) ∙ e in cc);
+      };
     }
 
 pub returns-in-Adopt : goal.returns-in-Adopt
@@ -163,10 +187,12 @@ returns-in-Adopt g c =
           (sym c.in-Adopt.is) (c.graft.ensures l i h w s);
       own = subst (λ command. IfErr c.graft.result (ByOwnStore g.S.X.BlockHash.block32 (own_store command) (g.I.Source.left c.args.input.now) (g.S.Store.seen c.args.store.now) (g.S.Store.seen c.graft.new.store))) (sym c.in-Adopt.is)
           (spares-own g.S.X.BlockHash.block32 (g.I.Source.left c.args.input.now) (g.S.Store.seen c.args.store.now) (g.S.Store.seen c.graft.new.store) (Adopt c.in-Adopt.source c.in-Adopt.dest) c.graft.result refl (c.graft.ensures l i h w s).kinds);
-      input = λ e. refl;
-      host = λ e. refl;
-      left = λ e. absurd (let k : generates (Adopt c.in-Adopt.source c.in-Adopt.dest) ≡ true = ap generates (sym c.in-Adopt.is) ∙ e in cc);
-      untouched = λ e. absurd (let k : touches_nothing (Adopt c.in-Adopt.source c.in-Adopt.dest) ≡ true = ap touches_nothing (sym c.in-Adopt.is) ∙ e in cc);
+      spares = record {
+        input = λ e. refl;
+        host = λ e. refl;
+        left = λ e. absurd (let k : generates (Adopt c.in-Adopt.source c.in-Adopt.dest) ≡ true = ap generates (sym c.in-Adopt.is) ∙ e in cc);
+        untouched = λ e. absurd (let k : touches_nothing (Adopt c.in-Adopt.source c.in-Adopt.dest) ≡ true = ap touches_nothing (sym c.in-Adopt.is) ∙ e in cc);
+      };
     }
 
 pub returns-in-Gen : goal.returns-in-Gen
@@ -181,10 +207,12 @@ returns-in-Gen g c =
           (sym c.in-Gen.is) (c.print_generated.ensures.does b l i c.args.touches.now s);
       own = subst (λ command. IfErr c.print_generated.result (ByOwnStore g.S.X.BlockHash.block32 (own_store command) l b b)) (sym c.in-Gen.is)
           (c.print_generated.ensures.own b l);
-      input = λ e. refl;
-      left = λ e. refl;
-      host = λ e. refl;
-      untouched = λ e. refl;
+      spares = record {
+        input = λ e. refl;
+        left = λ e. refl;
+        host = λ e. refl;
+        untouched = λ e. refl;
+      };
     }
 
 pub returns-in-Pin : goal.returns-in-Pin
@@ -198,10 +226,12 @@ returns-in-Pin g c =
           (sym c.in-Pin.is) (c.pin.ensures.does g.N.NameHash.name64 l i s);
       own = subst (λ command. IfErr c.pin.result (ByOwnStore g.S.X.BlockHash.block32 (own_store command) (g.I.Source.left c.args.input.now) (g.S.Store.seen c.args.store.now) (g.S.Store.seen c.pin.new.store))) (sym c.in-Pin.is)
           (spares-own g.S.X.BlockHash.block32 (g.I.Source.left c.args.input.now) (g.S.Store.seen c.args.store.now) (g.S.Store.seen c.pin.new.store) (Pin c.in-Pin.ask) c.pin.result refl (c.pin.ensures.does g.N.NameHash.name64 l i s).kinds);
-      input = λ e. refl;
-      host = λ e. refl;
-      left = λ e. absurd (let k : generates (Pin c.in-Pin.ask) ≡ true = ap generates (sym c.in-Pin.is) ∙ e in cc);
-      untouched = λ e. c.pin.ensures.untouched (only-lists c.in-Pin.ask (ap touches_nothing (sym c.in-Pin.is) ∙ e));
+      spares = record {
+        input = λ e. refl;
+        host = λ e. refl;
+        left = λ e. absurd (let k : generates (Pin c.in-Pin.ask) ≡ true = ap generates (sym c.in-Pin.is) ∙ e in cc);
+        untouched = λ e. c.pin.ensures.untouched (only-lists c.in-Pin.ask (ap touches_nothing (sym c.in-Pin.is) ∙ e));
+      };
     }
 
 pub returns-in-Prove : goal.returns-in-Prove
@@ -215,8 +245,10 @@ returns-in-Prove g c =
           (sym c.in-Prove.is) (c.prove_at.ensures l i s);
       own = subst (λ command. IfErr c.prove_at.result (ByOwnStore g.S.X.BlockHash.block32 (own_store command) (g.I.Source.left c.args.input.now) (g.S.Store.seen c.args.store.now) (g.S.Store.seen c.prove_at.new.store))) (sym c.in-Prove.is)
           (spares-own g.S.X.BlockHash.block32 (g.I.Source.left c.args.input.now) (g.S.Store.seen c.args.store.now) (g.S.Store.seen c.prove_at.new.store) (Prove c.in-Prove.absent c.in-Prove.path) c.prove_at.result refl (c.prove_at.ensures l i s).kinds);
-      input = λ e. refl;
-      host = λ e. refl;
-      left = λ e. absurd (let k : generates (Prove c.in-Prove.absent c.in-Prove.path) ≡ true = ap generates (sym c.in-Prove.is) ∙ e in cc);
-      untouched = λ e. absurd (let k : touches_nothing (Prove c.in-Prove.absent c.in-Prove.path) ≡ true = ap touches_nothing (sym c.in-Prove.is) ∙ e in cc);
+      spares = record {
+        input = λ e. refl;
+        host = λ e. refl;
+        left = λ e. absurd (let k : generates (Prove c.in-Prove.absent c.in-Prove.path) ≡ true = ap generates (sym c.in-Prove.is) ∙ e in cc);
+        untouched = λ e. absurd (let k : touches_nothing (Prove c.in-Prove.absent c.in-Prove.path) ≡ true = ap touches_nothing (sym c.in-Prove.is) ∙ e in cc);
+      };
     }

@@ -9,14 +9,13 @@ use Rattle.uf_command.specs.declared.types.Command.{Command}
 use Rattle.uf_command.specs.declared.types.Refusal.{Refusal}
 use Rattle.uf_command.proofs.Asked.{IsOfWordsAlone, words-only}
 use Rattle.uf_top.specs.Around.{around, host_side}
-use Rattle.uf_command.specs.Peers.{TellsTalk}
 use Rattle.uf_command.specs.Telling.{IsSent}
 use Rattle.uf_top.specs.Talking.{RunsPull}
 use Rattle.uf_top.proofs.Checked.{check-wants, checked-as}
 use Rattle.uf_top.proofs.Collected.{gc-runs, gc-wants}
 use Rattle.uf_top.proofs.Runs.{runs-told}
-use Rattle.uf_top.proofs.Standings.{stands-kept, stands-one}
-use Rattle.uf_top.proofs.Talks.{head-stays, pull-wants, serve-wants}
+use Rattle.uf_top.proofs.Standings.{stands-one}
+use Rattle.uf_top.proofs.Talks.{pull-wants, serve-wants}
 use Rattle.uf_top.proofs.Wanted.{batch-wants}
 use Rattle.uf_top.proofs.command.run.Goals as goal
 
@@ -59,28 +58,28 @@ returns-in-Batch-clause-runs g c = λ asked is. absurd (let k : requests.Batch �
 
 pub returns-in-One-clause-left : goal.returns-in-One-clause-left
 returns-in-One-clause-left g c = λ asked is.
-    c.serve-done-in-One.ensures.left asked (read-alone (map string_bytes c.args.words.now) c.in-One.asked asked is c.in-One.ensures.asked)
+    (c.serve-done-in-One.ensures.spares asked (read-alone (map string_bytes c.args.words.now) c.in-One.asked asked is c.in-One.ensures.asked)).left
 
 pub returns-in-Batch-clause-left : goal.returns-in-Batch-clause-left
 returns-in-Batch-clause-left g c = λ asked is. absurd (let k : requests.Batch ≡ requests.One asked = sym c.in-Batch.ensures.asked ∙ is in cc)
 
 pub returns-in-One-clause-input : goal.returns-in-One-clause-input
 returns-in-One-clause-input g c = λ asked is.
-    c.serve-done-in-One.ensures.input asked (read-alone (map string_bytes c.args.words.now) c.in-One.asked asked is c.in-One.ensures.asked)
+    (c.serve-done-in-One.ensures.spares asked (read-alone (map string_bytes c.args.words.now) c.in-One.asked asked is c.in-One.ensures.asked)).input
 
 pub returns-in-Batch-clause-input : goal.returns-in-Batch-clause-input
 returns-in-Batch-clause-input g c = λ asked is. absurd (let k : requests.Batch ≡ requests.One asked = sym c.in-Batch.ensures.asked ∙ is in cc)
 
 pub returns-in-One-clause-host : goal.returns-in-One-clause-host
 returns-in-One-clause-host g c = λ asked is.
-    c.serve-done-in-One.ensures.host asked (read-alone (map string_bytes c.args.words.now) c.in-One.asked asked is c.in-One.ensures.asked)
+    (c.serve-done-in-One.ensures.spares asked (read-alone (map string_bytes c.args.words.now) c.in-One.asked asked is c.in-One.ensures.asked)).host
 
 pub returns-in-Batch-clause-host : goal.returns-in-Batch-clause-host
 returns-in-Batch-clause-host g c = λ asked is. absurd (let k : requests.Batch ≡ requests.One asked = sym c.in-Batch.ensures.asked ∙ is in cc)
 
 pub returns-in-One-clause-untouched : goal.returns-in-One-clause-untouched
 returns-in-One-clause-untouched g c = λ asked is.
-    c.serve-done-in-One.ensures.untouched asked (read-alone (map string_bytes c.args.words.now) c.in-One.asked asked is c.in-One.ensures.asked)
+    (c.serve-done-in-One.ensures.spares asked (read-alone (map string_bytes c.args.words.now) c.in-One.asked asked is c.in-One.ensures.asked)).untouched
 
 pub returns-in-Batch-clause-untouched : goal.returns-in-Batch-clause-untouched
 returns-in-Batch-clause-untouched g c = λ asked is. absurd (let k : requests.Batch ≡ requests.One asked = sym c.in-Batch.ensures.asked ∙ is in cc)
@@ -91,36 +90,13 @@ pub returns-in-Pull-clause-pull : goal.returns-in-Pull-clause-pull
 returns-in-Pull-clause-pull g c = λ cid is.
     let same : requests.Pull c.in-Pull.cid ≡ requests.Pull cid = sym c.in-Pull.ensures.asked ∙ is in
     let one : c.in-Pull.cid ≡ cid = cc in
-    subst (λ cid. RunsPull (λ line. IsSent line (g.E.Sink.holds c.args.errors.now) (g.E.Sink.holds c.tell_talk.new.errors) (g.E.Sink.faults c.args.errors.now) (g.E.Sink.faults c.tell_talk.new.errors)) g.S.X.BlockHash.block32 g.N.NameHash.name64 cid c.tell_talk.result (around (g.S.Store.seen c.args.store.now) (g.I.Source.left c.args.input.now) (g.I.Source.faults c.args.input.now) (g.O.Sink.holds c.args.output.now) (g.O.Sink.faults c.args.output.now) c.args.touches.now (host_side (g.W.Host.tree c.args.host.now) (g.W.Host.read_faults c.args.host.now) (g.W.Host.write_faults c.args.host.now))) (around (g.S.Store.seen c.pull-done.new.store) (g.I.Source.left c.pull-done.new.input) (g.I.Source.faults c.pull-done.new.input) (g.O.Sink.holds c.pull-done.new.out) (g.O.Sink.faults c.pull-done.new.out) c.pull-done.new.touches (host_side (g.W.Host.tree c.args.host.now) (g.W.Host.read_faults c.args.host.now) (g.W.Host.write_faults c.args.host.now)))) one (record {
-      done = c.pull-done.result;
-      tells = subst (λ done. TellsTalk (λ line. IsSent line (g.E.Sink.holds c.args.errors.now) (g.E.Sink.holds c.tell_talk.new.errors) (g.E.Sink.faults c.args.errors.now) (g.E.Sink.faults c.tell_talk.new.errors)) done c.tell_talk.result) c.pull_end.ensures c.tell_talk.ensures;
-      pulls = c.pull-done.ensures.pulls;
-      wants = c.pull-done.ensures.wants;
-      some = c.pull-done.ensures.some;
-      cause = c.pull-done.ensures.cause;
-      fault = c.pull-done.ensures.fault;
-      reads = c.pull-done.ensures.reads;
-      writes = c.pull-done.ensures.writes;
-      good = c.pull-done.ensures.good;
-      saves = c.pull-done.ensures.saves;
-      head = head-stays g.S.X.BlockHash.block32 _ _ c.pull-done.ensures.saves;
-      stands = λ standing stands. stands-kept g.S.X.BlockHash.block32 g.N.NameHash.name64 _ _ standing c.pull-done.ensures.good (head-stays g.S.X.BlockHash.block32 _ _ c.pull-done.ensures.saves) stands;
-      host = refl;
-    })
+    subst (λ cid. RunsPull (λ line. IsSent line (g.E.Sink.holds c.args.errors.now) (g.E.Sink.holds c.pull_from.new.errors) (g.E.Sink.faults c.args.errors.now) (g.E.Sink.faults c.pull_from.new.errors)) g.S.X.BlockHash.block32 g.N.NameHash.name64 cid c.pull_from.result
+    (around (g.S.Store.seen c.args.store.now) (g.I.Source.left c.args.input.now) (g.I.Source.faults c.args.input.now) (g.O.Sink.holds c.args.output.now) (g.O.Sink.faults c.args.output.now) c.args.touches.now (host_side (g.W.Host.tree c.args.host.now) (g.W.Host.read_faults c.args.host.now) (g.W.Host.write_faults c.args.host.now)))
+    (around (g.S.Store.seen c.pull_from.new.store) (g.I.Source.left c.pull_from.new.input) (g.I.Source.faults c.pull_from.new.input) (g.O.Sink.holds c.pull_from.new.output) (g.O.Sink.faults c.pull_from.new.output) c.pull_from.new.touches (host_side (g.W.Host.tree c.args.host.now) (g.W.Host.read_faults c.args.host.now) (g.W.Host.write_faults c.args.host.now)))) one
+    (c.pull_from.ensures g.N.NameHash.name64 (host_side (g.W.Host.tree c.args.host.now) (g.W.Host.read_faults c.args.host.now) (g.W.Host.write_faults c.args.host.now)))
 
 pub returns-in-Serve-clause-serve : goal.returns-in-Serve-clause-serve
-returns-in-Serve-clause-serve g c = λ is. record {
-  done = c.serve-done.result;
-  tells = subst (λ done. TellsTalk (λ line. IsSent line (g.E.Sink.holds c.args.errors.now) (g.E.Sink.holds c.tell_talk-in-Serve.new.errors) (g.E.Sink.faults c.args.errors.now) (g.E.Sink.faults c.tell_talk-in-Serve.new.errors)) done c.tell_talk-in-Serve.result) c.serve_end.ensures c.tell_talk-in-Serve.ensures;
-  frames = c.serve-done.ensures.frames;
-  some = c.serve-done.ensures.some;
-  cause = c.serve-done.ensures.cause;
-  fault = c.serve-done.ensures.fault;
-  reads = c.serve-done.ensures.reads;
-  writes = c.serve-done.ensures.writes;
-  told = c.serve-done.ensures.told;
-  host = refl;
-}
+returns-in-Serve-clause-serve g c = λ is. c.serve_wants.ensures g.N.NameHash.name64 (host_side (g.W.Host.tree c.args.host.now) (g.W.Host.read_faults c.args.host.now) (g.W.Host.write_faults c.args.host.now))
 
 pub returns-in-One-clause-pull : goal.returns-in-One-clause-pull
 returns-in-One-clause-pull g c = λ cid is.
@@ -136,11 +112,11 @@ returns-in-One-clause-serve g c = λ is.
 
 pub returns-in-Pull-clause-one : goal.returns-in-Pull-clause-one
 returns-in-Pull-clause-one g c = λ s r stands other.
-    stands-one g.S.X.BlockHash.block32 g.N.NameHash.name64 (record { size = g.met.S.X.BlockHash.size; are_bytes = g.met.S.X.BlockHash.are_bytes }) g.met.N.NameHash.fits (g.S.Store.seen c.pull-done.new.store).told s r stands other
+    stands-one g.S.X.BlockHash.block32 g.N.NameHash.name64 (record { size = g.met.S.X.BlockHash.size; are_bytes = g.met.S.X.BlockHash.are_bytes }) g.met.N.NameHash.fits (g.S.Store.seen c.pull_from.new.store).told s r stands other
 
 pub returns-in-Serve-clause-one : goal.returns-in-Serve-clause-one
 returns-in-Serve-clause-one g c = λ s r stands other.
-    stands-one g.S.X.BlockHash.block32 g.N.NameHash.name64 (record { size = g.met.S.X.BlockHash.size; are_bytes = g.met.S.X.BlockHash.are_bytes }) g.met.N.NameHash.fits (g.S.Store.seen c.serve-done.new.store).told s r stands other
+    stands-one g.S.X.BlockHash.block32 g.N.NameHash.name64 (record { size = g.met.S.X.BlockHash.size; are_bytes = g.met.S.X.BlockHash.are_bytes }) g.met.N.NameHash.fits (g.S.Store.seen c.serve_wants.new.store).told s r stands other
 
 -- ---- a collection
 
