@@ -2,14 +2,11 @@
 use Rattle.std.proofs.Common.{◌≡◌, ◌≢◌, ◌⊎◌, ℕ, List, [], ◌∷◌, length, take, true, false, arith, refl, sym, ap, subst, ◌∙◌, inl, inr, append-nil, Some, None, Bool, Result, Ok, Err}
 use Rattle.std.specs.Prelude.{◌&&◌, not, IfErr, IfOk, ⊤}
 use Rattle.uf_cid.specs.Blocks.{Held, Lookup}
-use Rattle.uf_cid.specs.declared.cid.Cid.{Cid}
 use Rattle.uf_edge.specs.Counts.{Counts}
 use Rattle.uf_edge.specs.Host.{HostTold, HostTree}
 use Rattle.uf_edge.specs.Streams.{after, AppendsPrefix}
 use Rattle.uf_edge.specs.Streams as streams
 use Rattle.uf_mfs.specs.Standing.{head_in}
-use Rattle.uf_path.specs.declared.path.DagPath.{DagPath}
-use Rattle.uf_path.specs.declared.path.Path.{Path}
 use Rattle.uf_plain.specs.declared.rule.Rule.{Rule}
 use Rattle.uf_store.specs.Calls.{Calm}
 use Rattle.uf_store.specs.Contents.{Told}
@@ -28,7 +25,6 @@ use Rattle.uf_command.specs.declared.status.Status.{Status}
 use Rattle.uf_command.specs.declared.status.Status.TheVariants as status
 use Rattle.uf_command.specs.declared.types.Command.{Command}
 use Rattle.uf_command.specs.declared.types.Command.TheVariants.{Init, Add, AddFrom, WriteInput, At, Read, Cat, Get, Export, Import, Same, Adopt, Gen, AddTo, AddFromTo, Pin, Prove}
-use Rattle.uf_command.specs.declared.types.PinAsk.{PinAsk}
 use Rattle.uf_command.specs.declared.types.PinAsk.TheVariants as pins
 use Rattle.uf_command.specs.declared.types.HostRule.{HostRule}
 use Rattle.uf_command.specs.declared.types.Refusal.{Refusal}
@@ -45,7 +41,7 @@ use Rattle.uf_top.specs.Pins.{PinsFor}
 use Rattle.uf_top.specs.Losing.{AnswersOver, DoesOver}
 use Rattle.uf_top.specs.Naming.{FindsOver, NamesIf, NamesAs, StandsIf, TellsHost}
 use Rattle.uf_top.specs.Shapes.{WritesAs, is_done}
-use Rattle.uf_top.specs.Working.{Does, Makes, MakesText}
+use Rattle.uf_top.specs.Working.{Does, Makes, MakesText, SaysText}
 
 -- ---- which kinds no command that waits has
 
@@ -69,32 +65,6 @@ no-write (Pin pins.List) h = cc
 no-write (AddTo dest) h = cc
 no-write (AddFromTo recursive path dest) h = cc
 no-write (AddFrom recursive only_hash path) h = cc
-
--- a command that waits with its output, and reads the tree of the Head alone
-pub record IsStanding (command : Command) : Type 0 where
-  pub waits : natures.streams command ≡ false
-  pub alone : natures.reads_tree_alone command ≡ true
-
--- so is each that isn't one of those with a way of their own
-pub standing-of : (command : Command) → ((offset count : ℕ) (path : Path) → command ≡ Read offset count path → ⊥) → ((path : DagPath) → command ≡ Cat path → ⊥) → ((path : DagPath) (host_path : List ℕ) → command ≡ Get path host_path → ⊥) → ((cid : Cid) → command ≡ Export cid → ⊥) → (command ≡ Import → ⊥) → ((cid : Cid) → command ≡ Same cid → ⊥)
-    → ((source : DagPath) (dest : Path) → command ≡ Adopt source dest → ⊥) → ((n seed : ℕ) → command ≡ Gen n seed → ⊥) → ((ask : PinAsk) → command ≡ Pin ask → ⊥) → ((absent : Bool) (path : Path) → command ≡ Prove absent path → ⊥) → IsStanding command
-standing-of (Init p) other cat get export import compare adopt generate pin prove = record { waits = refl; alone = refl }
-standing-of (Add only_hash) other cat get export import compare adopt generate pin prove = record { waits = refl; alone = refl }
-standing-of (AddTo dest) other cat get export import compare adopt generate pin prove = record { waits = refl; alone = refl }
-standing-of (AddFromTo recursive path dest) other cat get export import compare adopt generate pin prove = record { waits = refl; alone = refl }
-standing-of (AddFrom recursive only_hash path) other cat get export import compare adopt generate pin prove = record { waits = refl; alone = refl }
-standing-of (WriteInput how path) other cat get export import compare adopt generate pin prove = record { waits = refl; alone = refl }
-standing-of (At ask path) other cat get export import compare adopt generate pin prove = record { waits = refl; alone = refl }
-standing-of (Read offset count path) other cat get export import compare adopt generate pin prove = absurd (other offset count path refl)
-standing-of (Cat path) other cat get export import compare adopt generate pin prove = absurd (cat path refl)
-standing-of (Get path host_path) other cat get export import compare adopt generate pin prove = absurd (get path host_path refl)
-standing-of (Export cid) other cat get export import compare adopt generate pin prove = absurd (export cid refl)
-standing-of Import other cat get export import compare adopt generate pin prove = absurd (import refl)
-standing-of (Same cid) other cat get export import compare adopt generate pin prove = absurd (compare cid refl)
-standing-of (Adopt source dest) other cat get export import compare adopt generate pin prove = absurd (adopt source dest refl)
-standing-of (Gen n seed) other cat get export import compare adopt generate pin prove = absurd (generate n seed refl)
-standing-of (Pin ask) other cat get export import compare adopt generate pin prove = absurd (pin ask refl)
-standing-of (Prove absent path) other cat get export import compare adopt generate pin prove = absurd (prove absent path refl)
 
 -- such a command needs what the store stands for
 alone-needs : (command : Command) → natures.reads_tree_alone command ≡ true → needs_standing command ≡ true
@@ -666,3 +636,14 @@ module _ (X : List ℕ → List ℕ) (N : List ℕ → ℕ) where
         prints-does (Err why) c =
             let e = c.write in
             subst (λ (r : Refusal). Does X N command (Err r) (around a l i h w t0 side) (around b m j h2 v t1 side2)) (sym e) (cut-does (subst (λ (r : Refusal). IsCut text r h h2 w v) e c))
+
+  -- so it is where what was made is printed, or else refused
+  pub said-does : (command : Command) (alone : natures.reads_tree_alone command ≡ true) (a b : Seen) (l m : streams.Told) (i j t0 t1 : ℕ) (h : streams.Told) (w : ℕ) (side side2 : HostSide) (text : Result (List ℕ) Refusal)
+      → MakesText X N command text (around a l i h w t0 side) (around b m j h w t1 side2) → (h2 : streams.Told) (v : ℕ) (r : Result (Unit {0}) Refusal)
+      → SaysText text r h h2 w v → Does X N command r (around a l i h w t0 side) (around b m j h2 v t1 side2)
+  said-does command alone a b l m i j t0 t1 h w side side2 (Ok text) mk h2 v r p = prints-does command alone a b l m i j t0 t1 h w side side2 text mk h2 v r p
+  said-does command alone a b l m i j t0 t1 h w side side2 (Err why) mk h2 v r p =
+      subst (λ (r : Result (Unit {0}) Refusal). Does X N command r (around a l i h w t0 side) (around b m j h2 v t1 side2)) (sym p.0)
+      (subst (λ (held : streams.Told). Does X N command (Err why) (around a l i h w t0 side) (around b m j held v t1 side2)) (sym p.1)
+      (subst (λ (writes : ℕ). Does X N command (Err why) (around a l i h w t0 side) (around b m j h writes t1 side2)) (sym p.2)
+      (refused-does command alone a b l m i j t0 t1 h w side side2 why mk)))

@@ -25,6 +25,7 @@ use Rattle.uf_command.specs.declared.types.Refusal.{Refusal}
 use Rattle.uf_command.specs.Commands.{HasInput, is_idle, of_command}
 use Rattle.uf_command.specs.Natures.{ask_writes, command_writes, generates, kinds_of, prints_after, reads_input}
 use Rattle.uf_command.specs.Natures.{reads_tree_alone, streams as flows, touches_nothing, uses_host, writes_host}
+use Rattle.uf_command.specs.Telling.{Prints}
 use Rattle.uf_command.specs.Kinds.{IsOf, may_meet, may_close, opened_kinds, refusal_fault}
 use Rattle.uf_top.specs.Reply.{Outside, World, in_world, outside_of, reply, tree_reply}
 use Rattle.uf_edits.specs.Edits.{IsBadAsked}
@@ -203,3 +204,10 @@ pub record Spares {S I W : Type 0} (asked : Result Command Refusal) (store store
   pub input : of_command reads_input false asked ≡ false → source_now ≡ source
   pub host : of_command uses_host false asked ≡ false → side_now ≡ side
   pub untouched : of_command touches_nothing true asked ≡ true → touches_now ≡ touches
+
+-- the text of a command was printed, or none was made: then nothing is printed, for the same reason
+abbrev pub SaysText : Result (List ℕ) Refusal → Result (Unit {0}) Refusal → (held held_now : streams.Told)
+    → (writes writes_now : ℕ) → Type 0
+SaysText (Ok text) done held held_now writes writes_now = Prints text done held held_now writes writes_now
+SaysText (Err why) done held held_now writes writes_now =
+    (done ≡ Err why) × (held_now ≡ held) × (writes_now ≡ writes)

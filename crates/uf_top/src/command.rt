@@ -1,6 +1,5 @@
 //! One command.
-ghost use Rattle.std.specs.Prelude.{◌≡◌, Bool, IfErr, IfOk, Ok, ℕ, true, false};
-ghost use Rattle.uf_edge.specs.Streams.{Told};
+ghost use Rattle.std.specs.Prelude.{◌≡◌, Bool, IfErr, IfOk, Ok, true, false};
 ghost use Rattle.std.specs.declared.result.Result.{Result as TheResult};
 ghost use Rattle.std.specs.Prelude.{map, string_bytes};
 ghost use Rattle.uf_cid.specs.declared.cid.Cid.{Cid as TheCid};
@@ -11,19 +10,18 @@ ghost use Rattle.uf_top.specs.Cars.{ByOwnStore};
 ghost use Rattle.uf_command.specs.Commands.{IsAccepted, IsAsked, IsOfWords, of_command};
 ghost use Rattle.uf_command.specs.Kinds.{IsOf};
 ghost use Rattle.uf_command.specs.Natures.{IsOfCommand, NoStore, generates, may_end, own_store};
-ghost use Rattle.uf_command.specs.Natures.{reads_input, reads_tree_alone, streams as flows, touches_nothing, uses_host};
+ghost use Rattle.uf_command.specs.Natures.{reads_input, touches_nothing, uses_host};
 ghost use Rattle.uf_command.specs.Requests.{request_in};
 ghost use Rattle.uf_command.specs.declared.requests.Request.TheVariants as requests;
 ghost use Rattle.uf_command.specs.declared.types.Command.{Command as TheCommand};
 ghost use Rattle.uf_command.specs.declared.types.Refusal.{Refusal as TheRefusal};
-ghost use Rattle.uf_top.specs.Around.{around};
-ghost use Rattle.uf_top.specs.Lent.{SaidTo, around_at, scene_at, side_at};
+ghost use Rattle.uf_top.specs.Lent.{SaidTo, around_at, scene_at};
 ghost use Rattle.uf_top.specs.Batch.{Batches};
 ghost use Rattle.uf_top.specs.Checking.{RunsCheck};
 ghost use Rattle.uf_top.specs.Collecting.{RunsGc};
 ghost use Rattle.uf_top.specs.Running.{Runs};
 ghost use Rattle.uf_top.specs.Talking.{RunsPull, RunsServe};
-ghost use Rattle.uf_top.specs.Working.{Does, MakesText, Serves, Spares};
+ghost use Rattle.uf_top.specs.Working.{Does, SaysText, Serves, Spares};
 
 use crate::adding::adds;
 use crate::batching::{MOST_OF_BATCH, MOST_OF_LINE, batch};
@@ -234,77 +232,66 @@ fn carry_out<S: Store, N: NameHash, W: Host, I: Source, O: Sink, L: Ledger>(
         touches.new }
 {
     match command {
+        Command::Init { profile } => {
+            say(init::<S, N, L>(alloc, *profile, store, touches), output)
+        }
+        Command::Add { only_hash } => say(adds(alloc, *only_hash, store, input, touches), output),
+        Command::AddFrom {
+            recursive,
+            only_hash,
+            path,
+        } => {
+            let rows = add_from::<S, N, W, L>(
+                alloc, *recursive, *only_hash, path, store, host, touches,
+            );
+            say(rows, output)
+        }
+        Command::AddTo { dest } => {
+            say(
+                add_to::<S, N, I, L>(alloc, dest, store, input, touches),
+                output,
+            )
+        }
+        Command::AddFromTo {
+            recursive,
+            path,
+            dest,
+        } => {
+            let rows = add_from_to::<S, N, W, L>(
+                alloc, *recursive, path, dest, store, host, touches,
+            );
+            say(rows, output)
+        }
+        Command::WriteInput { how, path } => {
+            let nothing = write_input::<S, N, I, L>(alloc, *how, path, store, input, touches);
+            say(nothing, output)
+        }
+        Command::At { ask, path } => {
+            say(at::<S, N, L>(alloc, ask, path, store, touches), output)
+        }
         Command::Read {
             offset,
             count,
             path,
         } => send_part::<S, N, O, L>(alloc, *offset, *count, path, store, output, touches),
-        Command::Adopt { source, dest } => { graft::<S, N, L>(alloc, source, dest, store, touches) }
         Command::Cat { path } => cat(alloc, path, store, output, touches),
-        Command::Get { path, host_path } => { get(alloc, path, host_path, store, host, touches) }
+        Command::Get { path, host_path } => get(alloc, path, host_path, store, host, touches),
         Command::Export { cid } => export_car(alloc, cid, store, output, touches),
         Command::Import => import_car(alloc, store, input, output, touches),
         Command::Same { cid } => compare_car(alloc, cid, store, input, output, touches),
+        Command::Adopt { source, dest } => graft::<S, N, L>(alloc, source, dest, store, touches),
         Command::Gen { n, seed } => print_generated::<S::X, N, O>(alloc, *n, *seed, output),
         Command::Pin { ask } => pin(alloc, ask, store, output, touches),
         Command::Prove { absent, path } => {
             prove_at::<S, N, O, L>(alloc, *absent, path, store, output, touches)
         }
-        _ => {
-            let text = text_of::<S, N, W, I, L>(alloc, command, store, host, input, touches)?;
-            print(&text, output)
-        }
     }
 }
 
-// What a command on what the store stands for prints once it is done, or why it is refused.
-fn text_of<S: Store, N: NameHash, W: Host, I: Source, L: Ledger>(
-    alloc: Global,
-    command: &Command,
-    store: &mut S,
-    host: &mut W,
-    input: &mut I,
-    touches: &mut Steps<L>,
-) -> Result<Block, Refusal>
-    requires accepted { IsAccepted command.now }
-    requires waits { flows command.now ≡ false }
-    requires alone { reads_tree_alone command.now ≡ true }
-    ensures makes { (held : Told) (writes : ℕ) → MakesText S.X.block32 N.name64 command.now result
-        (around (S.seen store.old) (I.left input.old) (I.faults input.old) held writes touches.old
-        (side_at W.Host host.old))
-        (around (S.seen store.new) (I.left input.new) (I.faults input.new) held writes touches.new
-        (side_at W.Host host.new)) }
-    ensures input { reads_input command.now ≡ false → input.new ≡ input.old }
-    ensures host { uses_host command.now ≡ false → host.new ≡ host.old }
-    ensures untouched { touches_nothing command.now ≡ true → touches.new ≡ touches.old }
+// Prints the text of a command, or says why it is refused.
+fn say<O: Sink>(text: Result<Block, Refusal>, output: &mut O) -> Result<(), Refusal>
+    ensures { SaysText text result (O.holds output.old) (O.holds output.new) (O.faults output.old)
+        (O.faults output.new) }
 {
-    match command {
-        Command::Init { profile } => init::<S, N, L>(alloc, *profile, store, touches),
-        Command::Add { only_hash } => adds(alloc, *only_hash, store, input, touches),
-        Command::AddFrom {
-            recursive,
-            only_hash,
-            path,
-        } => add_from::<S, N, W, L>(alloc, *recursive, *only_hash, path, store, host, touches),
-        Command::AddTo { dest } => add_to::<S, N, I, L>(alloc, dest, store, input, touches),
-        Command::AddFromTo {
-            recursive,
-            path,
-            dest,
-        } => add_from_to::<S, N, W, L>(alloc, *recursive, path, dest, store, host, touches),
-        Command::WriteInput { how, path } => {
-            write_input::<S, N, I, L>(alloc, *how, path, store, input, touches)
-        }
-        Command::At { ask, path } => at::<S, N, L>(alloc, ask, path, store, touches),
-        Command::Read { .. }
-        | Command::Cat { .. }
-        | Command::Get { .. }
-        | Command::Export { .. }
-        | Command::Import
-        | Command::Same { .. }
-        | Command::Adopt { .. }
-        | Command::Gen { .. }
-        | Command::Pin { .. }
-        | Command::Prove { .. } => unreachable!(),
-    }
+    print(&text?, output)
 }

@@ -1,14 +1,13 @@
-use Rattle.std.proofs.Common.{◌≡◌, ◌∙◌, false, true, ap, refl, sym, subst, Err}
-use Rattle.std.proofs.lemmas.Result.{err_from_is_err_and}
+use Rattle.std.proofs.Common.{◌≡◌, ◌∙◌, ℕ, List, Bool, false, true, ap, refl, sym, subst}
 use Rattle.std.specs.Prelude.{IfErr}
-use Rattle.uf_command.specs.Natures.{generates, own_store, reads_input, touches_nothing, uses_host}
-use Rattle.uf_command.specs.declared.types.Command.TheVariants.{Adopt, Cat, Export, Get, Import, Pin, Prove, Read, Same}
+use Rattle.uf_command.specs.Natures.{generates, own_store, reads_input, reads_tree_alone, touches_nothing, uses_host}
+use Rattle.uf_command.specs.declared.types.Command.TheVariants.{Init, Add, AddFrom, AddTo, AddFromTo, WriteInput, At, Adopt, Cat, Export, Get, Import, Pin, Prove, Read, Same}
 use Rattle.uf_command.specs.declared.types.PinAsk.{PinAsk}
 use Rattle.uf_command.specs.declared.types.PinAsk.TheVariants as pins
 use Rattle.uf_top.specs.Around.{around, host_side}
 use Rattle.uf_top.specs.Cars.{ByOwnStore}
-use Rattle.uf_top.specs.Working.{Does}
-use Rattle.uf_top.proofs.Printing.{prints-does, refused-does, standing-of}
+use Rattle.uf_top.specs.Working.{Does, MakesText}
+use Rattle.uf_top.proofs.Printing.{made-as, said-does}
 use Rattle.uf_top.proofs.Serving.{alone-given, alone-spares, spares-own}
 use Rattle.uf_top.proofs.command.carry_out.Goals as goal
 
@@ -17,6 +16,162 @@ only-lists : (ask : PinAsk) → touches_nothing (Pin ask) ≡ true → ask ≡ p
 only-lists (pins.Add cid) e = absurd cc
 only-lists (pins.Remove cid) e = absurd cc
 only-lists pins.List e = refl
+
+-- what counts no touch is only hashed
+only-hashed : (only_hash : Bool) → touches_nothing (Add only_hash) ≡ true → only_hash ≡ true
+only-hashed true e = refl
+only-hashed false e = absurd cc
+
+only-hashed-from : (recursive only_hash : Bool) (path : List ℕ) → touches_nothing (AddFrom recursive only_hash path) ≡ true → only_hash ≡ true
+only-hashed-from recursive true path e = refl
+only-hashed-from recursive false path e = absurd cc
+
+pub returns-in-Init : goal.returns-in-Init
+returns-in-Init g c =
+    let l = g.I.Source.left c.args.input.now in let i = g.I.Source.faults c.args.input.now in
+    let h = g.O.Sink.holds c.args.output.now in let w = g.O.Sink.faults c.args.output.now in
+    let s = (host_side (g.W.Host.tree c.args.host.now) (g.W.Host.read_faults c.args.host.now) (g.W.Host.write_faults c.args.host.now)) in
+    let alone : reads_tree_alone c.args.command.now ≡ true = ap reads_tree_alone c.in-Init.is in
+    let does = said-does g.S.X.BlockHash.block32 g.N.NameHash.name64 c.args.command.now alone (g.S.Store.seen c.args.store.now) (g.S.Store.seen c.init.new.store)
+    l l i i c.args.touches.now c.init.new.touches h w s s c.init.result
+    (made-as g.S.X.BlockHash.block32 g.N.NameHash.name64 c.args.command.now (Init c.in-Init.profile) c.in-Init.is refl (g.S.Store.seen c.args.store.now) (g.S.Store.seen c.init.new.store) l l i i c.args.touches.now c.init.new.touches s (λ text. tt) c.init.result (c.init.ensures l i) h w)
+    (g.O.Sink.holds c.say.new.output) (g.O.Sink.faults c.say.new.output) c.say.result c.say.ensures in
+    record {
+      does = does;
+      own = spares-own g.S.X.BlockHash.block32 l (g.S.Store.seen c.args.store.now) (g.S.Store.seen c.init.new.store) c.args.command.now c.say.result (alone-spares c.args.command.now alone) does.kinds;
+      spares = record {
+        left = λ e. absurd (alone-given c.args.command.now alone e);
+        input = λ e. refl;
+        host = λ e. refl;
+        untouched = λ e. absurd (let k : touches_nothing (Init c.in-Init.profile) ≡ true = ap touches_nothing (sym c.in-Init.is) ∙ e in cc);
+      };
+    }
+
+pub returns-in-Add : goal.returns-in-Add
+returns-in-Add g c =
+    let l = g.I.Source.left c.args.input.now in let i = g.I.Source.faults c.args.input.now in
+    let h = g.O.Sink.holds c.args.output.now in let w = g.O.Sink.faults c.args.output.now in
+    let s = (host_side (g.W.Host.tree c.args.host.now) (g.W.Host.read_faults c.args.host.now) (g.W.Host.write_faults c.args.host.now)) in
+    let alone : reads_tree_alone c.args.command.now ≡ true = ap reads_tree_alone c.in-Add.is in
+    let does = said-does g.S.X.BlockHash.block32 g.N.NameHash.name64 c.args.command.now alone (g.S.Store.seen c.args.store.now) (g.S.Store.seen c.adds.new.store)
+    l (g.I.Source.left c.adds.new.input) i (g.I.Source.faults c.adds.new.input) c.args.touches.now c.adds.new.touches h w s s c.adds.result
+    (made-as g.S.X.BlockHash.block32 g.N.NameHash.name64 c.args.command.now (Add c.in-Add.only_hash) c.in-Add.is refl (g.S.Store.seen c.args.store.now) (g.S.Store.seen c.adds.new.store) l (g.I.Source.left c.adds.new.input) i (g.I.Source.faults c.adds.new.input) c.args.touches.now c.adds.new.touches s (λ text. tt) c.adds.result (c.adds.ensures.works g.N.NameHash.name64) h w)
+    (g.O.Sink.holds c.say-in-Add.new.output) (g.O.Sink.faults c.say-in-Add.new.output) c.say-in-Add.result c.say-in-Add.ensures in
+    record {
+      does = does;
+      own = spares-own g.S.X.BlockHash.block32 l (g.S.Store.seen c.args.store.now) (g.S.Store.seen c.adds.new.store) c.args.command.now c.say-in-Add.result (alone-spares c.args.command.now alone) does.kinds;
+      spares = record {
+        left = λ e. absurd (alone-given c.args.command.now alone e);
+        input = λ e. absurd (let k : reads_input (Add c.in-Add.only_hash) ≡ false = ap reads_input (sym c.in-Add.is) ∙ e in cc);
+        host = λ e. refl;
+        untouched = λ e. c.adds.ensures.untouched (only-hashed c.in-Add.only_hash (ap touches_nothing (sym c.in-Add.is) ∙ e));
+      };
+    }
+
+pub returns-in-AddFrom : goal.returns-in-AddFrom
+returns-in-AddFrom g c =
+    let l = g.I.Source.left c.args.input.now in let i = g.I.Source.faults c.args.input.now in
+    let h = g.O.Sink.holds c.args.output.now in let w = g.O.Sink.faults c.args.output.now in
+    let s = (host_side (g.W.Host.tree c.args.host.now) (g.W.Host.read_faults c.args.host.now) (g.W.Host.write_faults c.args.host.now)) in
+    let alone : reads_tree_alone c.args.command.now ≡ true = ap reads_tree_alone c.in-AddFrom.is in
+    let does = said-does g.S.X.BlockHash.block32 g.N.NameHash.name64 c.args.command.now alone (g.S.Store.seen c.args.store.now) (g.S.Store.seen c.add_from-rows.new.store)
+    l l i i c.args.touches.now c.add_from-rows.new.touches h w s (host_side (g.W.Host.tree c.add_from-rows.new.host) (g.W.Host.read_faults c.add_from-rows.new.host) (g.W.Host.write_faults c.add_from-rows.new.host)) c.add_from-rows.result
+    (subst (λ command. MakesText g.S.X.BlockHash.block32 g.N.NameHash.name64 command c.add_from-rows.result (around (g.S.Store.seen c.args.store.now) l i h w c.args.touches.now s) (around (g.S.Store.seen c.add_from-rows.new.store) l i h w c.add_from-rows.new.touches (host_side (g.W.Host.tree c.add_from-rows.new.host) (g.W.Host.read_faults c.add_from-rows.new.host) (g.W.Host.write_faults c.add_from-rows.new.host)))) (sym c.in-AddFrom.is) (c.add_from-rows.ensures.works l i h w))
+    (g.O.Sink.holds c.say-in-AddFrom.new.output) (g.O.Sink.faults c.say-in-AddFrom.new.output) c.say-in-AddFrom.result c.say-in-AddFrom.ensures in
+    record {
+      does = does;
+      own = spares-own g.S.X.BlockHash.block32 l (g.S.Store.seen c.args.store.now) (g.S.Store.seen c.add_from-rows.new.store) c.args.command.now c.say-in-AddFrom.result (alone-spares c.args.command.now alone) does.kinds;
+      spares = record {
+        left = λ e. absurd (alone-given c.args.command.now alone e);
+        input = λ e. refl;
+        host = λ e. absurd (let k : uses_host (AddFrom c.in-AddFrom.recursive c.in-AddFrom.only_hash c.in-AddFrom.path) ≡ false = ap uses_host (sym c.in-AddFrom.is) ∙ e in cc);
+        untouched = λ e. c.add_from-rows.ensures.untouched (only-hashed-from c.in-AddFrom.recursive c.in-AddFrom.only_hash c.in-AddFrom.path (ap touches_nothing (sym c.in-AddFrom.is) ∙ e));
+      };
+    }
+
+pub returns-in-AddTo : goal.returns-in-AddTo
+returns-in-AddTo g c =
+    let l = g.I.Source.left c.args.input.now in let i = g.I.Source.faults c.args.input.now in
+    let h = g.O.Sink.holds c.args.output.now in let w = g.O.Sink.faults c.args.output.now in
+    let s = (host_side (g.W.Host.tree c.args.host.now) (g.W.Host.read_faults c.args.host.now) (g.W.Host.write_faults c.args.host.now)) in
+    let alone : reads_tree_alone c.args.command.now ≡ true = ap reads_tree_alone c.in-AddTo.is in
+    let does = said-does g.S.X.BlockHash.block32 g.N.NameHash.name64 c.args.command.now alone (g.S.Store.seen c.args.store.now) (g.S.Store.seen c.add_to.new.store)
+    l (g.I.Source.left c.add_to.new.input) i (g.I.Source.faults c.add_to.new.input) c.args.touches.now c.add_to.new.touches h w s s c.add_to.result
+    (subst (λ command. MakesText g.S.X.BlockHash.block32 g.N.NameHash.name64 command c.add_to.result (around (g.S.Store.seen c.args.store.now) l i h w c.args.touches.now s) (around (g.S.Store.seen c.add_to.new.store) (g.I.Source.left c.add_to.new.input) (g.I.Source.faults c.add_to.new.input) h w c.add_to.new.touches s)) (sym c.in-AddTo.is) (c.add_to.ensures h w s))
+    (g.O.Sink.holds c.say-in-AddTo.new.output) (g.O.Sink.faults c.say-in-AddTo.new.output) c.say-in-AddTo.result c.say-in-AddTo.ensures in
+    record {
+      does = does;
+      own = spares-own g.S.X.BlockHash.block32 l (g.S.Store.seen c.args.store.now) (g.S.Store.seen c.add_to.new.store) c.args.command.now c.say-in-AddTo.result (alone-spares c.args.command.now alone) does.kinds;
+      spares = record {
+        left = λ e. absurd (alone-given c.args.command.now alone e);
+        input = λ e. absurd (let k : reads_input (AddTo c.in-AddTo.dest) ≡ false = ap reads_input (sym c.in-AddTo.is) ∙ e in cc);
+        host = λ e. refl;
+        untouched = λ e. absurd (let k : touches_nothing (AddTo c.in-AddTo.dest) ≡ true = ap touches_nothing (sym c.in-AddTo.is) ∙ e in cc);
+      };
+    }
+
+pub returns-in-AddFromTo : goal.returns-in-AddFromTo
+returns-in-AddFromTo g c =
+    let l = g.I.Source.left c.args.input.now in let i = g.I.Source.faults c.args.input.now in
+    let h = g.O.Sink.holds c.args.output.now in let w = g.O.Sink.faults c.args.output.now in
+    let s = (host_side (g.W.Host.tree c.args.host.now) (g.W.Host.read_faults c.args.host.now) (g.W.Host.write_faults c.args.host.now)) in
+    let alone : reads_tree_alone c.args.command.now ≡ true = ap reads_tree_alone c.in-AddFromTo.is in
+    let does = said-does g.S.X.BlockHash.block32 g.N.NameHash.name64 c.args.command.now alone (g.S.Store.seen c.args.store.now) (g.S.Store.seen c.add_from_to-rows.new.store)
+    l l i i c.args.touches.now c.add_from_to-rows.new.touches h w s (host_side (g.W.Host.tree c.add_from_to-rows.new.host) (g.W.Host.read_faults c.add_from_to-rows.new.host) (g.W.Host.write_faults c.add_from_to-rows.new.host)) c.add_from_to-rows.result
+    (subst (λ command. MakesText g.S.X.BlockHash.block32 g.N.NameHash.name64 command c.add_from_to-rows.result (around (g.S.Store.seen c.args.store.now) l i h w c.args.touches.now s) (around (g.S.Store.seen c.add_from_to-rows.new.store) l i h w c.add_from_to-rows.new.touches (host_side (g.W.Host.tree c.add_from_to-rows.new.host) (g.W.Host.read_faults c.add_from_to-rows.new.host) (g.W.Host.write_faults c.add_from_to-rows.new.host)))) (sym c.in-AddFromTo.is) (c.add_from_to-rows.ensures l i h w))
+    (g.O.Sink.holds c.say-in-AddFromTo.new.output) (g.O.Sink.faults c.say-in-AddFromTo.new.output) c.say-in-AddFromTo.result c.say-in-AddFromTo.ensures in
+    record {
+      does = does;
+      own = spares-own g.S.X.BlockHash.block32 l (g.S.Store.seen c.args.store.now) (g.S.Store.seen c.add_from_to-rows.new.store) c.args.command.now c.say-in-AddFromTo.result (alone-spares c.args.command.now alone) does.kinds;
+      spares = record {
+        left = λ e. absurd (alone-given c.args.command.now alone e);
+        input = λ e. refl;
+        host = λ e. absurd (let k : uses_host (AddFromTo c.in-AddFromTo.recursive c.in-AddFromTo.path c.in-AddFromTo.dest) ≡ false = ap uses_host (sym c.in-AddFromTo.is) ∙ e in cc);
+        untouched = λ e. absurd (let k : touches_nothing (AddFromTo c.in-AddFromTo.recursive c.in-AddFromTo.path c.in-AddFromTo.dest) ≡ true = ap touches_nothing (sym c.in-AddFromTo.is) ∙ e in cc);
+      };
+    }
+
+pub returns-in-WriteInput : goal.returns-in-WriteInput
+returns-in-WriteInput g c =
+    let l = g.I.Source.left c.args.input.now in let i = g.I.Source.faults c.args.input.now in
+    let h = g.O.Sink.holds c.args.output.now in let w = g.O.Sink.faults c.args.output.now in
+    let s = (host_side (g.W.Host.tree c.args.host.now) (g.W.Host.read_faults c.args.host.now) (g.W.Host.write_faults c.args.host.now)) in
+    let alone : reads_tree_alone c.args.command.now ≡ true = ap reads_tree_alone c.in-WriteInput.is in
+    let does = said-does g.S.X.BlockHash.block32 g.N.NameHash.name64 c.args.command.now alone (g.S.Store.seen c.args.store.now) (g.S.Store.seen c.write_input-nothing.new.store)
+    l (g.I.Source.left c.write_input-nothing.new.input) i (g.I.Source.faults c.write_input-nothing.new.input) c.args.touches.now c.write_input-nothing.new.touches h w s s c.write_input-nothing.result
+    (made-as g.S.X.BlockHash.block32 g.N.NameHash.name64 c.args.command.now (WriteInput c.in-WriteInput.how c.in-WriteInput.path) c.in-WriteInput.is refl (g.S.Store.seen c.args.store.now) (g.S.Store.seen c.write_input-nothing.new.store) l (g.I.Source.left c.write_input-nothing.new.input) i (g.I.Source.faults c.write_input-nothing.new.input) c.args.touches.now c.write_input-nothing.new.touches s (λ text. tt) c.write_input-nothing.result c.write_input-nothing.ensures h w)
+    (g.O.Sink.holds c.say-in-WriteInput.new.output) (g.O.Sink.faults c.say-in-WriteInput.new.output) c.say-in-WriteInput.result c.say-in-WriteInput.ensures in
+    record {
+      does = does;
+      own = spares-own g.S.X.BlockHash.block32 l (g.S.Store.seen c.args.store.now) (g.S.Store.seen c.write_input-nothing.new.store) c.args.command.now c.say-in-WriteInput.result (alone-spares c.args.command.now alone) does.kinds;
+      spares = record {
+        left = λ e. absurd (alone-given c.args.command.now alone e);
+        input = λ e. absurd (let k : reads_input (WriteInput c.in-WriteInput.how c.in-WriteInput.path) ≡ false = ap reads_input (sym c.in-WriteInput.is) ∙ e in cc);
+        host = λ e. refl;
+        untouched = λ e. absurd (let k : touches_nothing (WriteInput c.in-WriteInput.how c.in-WriteInput.path) ≡ true = ap touches_nothing (sym c.in-WriteInput.is) ∙ e in cc);
+      };
+    }
+
+pub returns-in-At : goal.returns-in-At
+returns-in-At g c =
+    let l = g.I.Source.left c.args.input.now in let i = g.I.Source.faults c.args.input.now in
+    let h = g.O.Sink.holds c.args.output.now in let w = g.O.Sink.faults c.args.output.now in
+    let s = (host_side (g.W.Host.tree c.args.host.now) (g.W.Host.read_faults c.args.host.now) (g.W.Host.write_faults c.args.host.now)) in
+    let alone : reads_tree_alone c.args.command.now ≡ true = ap reads_tree_alone c.in-At.is in
+    let does = said-does g.S.X.BlockHash.block32 g.N.NameHash.name64 c.args.command.now alone (g.S.Store.seen c.args.store.now) (g.S.Store.seen c.at.new.store)
+    l l i i c.args.touches.now c.at.new.touches h w s s c.at.result
+    (made-as g.S.X.BlockHash.block32 g.N.NameHash.name64 c.args.command.now (At c.in-At.ask c.in-At.path) c.in-At.is refl (g.S.Store.seen c.args.store.now) (g.S.Store.seen c.at.new.store) l l i i c.args.touches.now c.at.new.touches s (λ text. tt) c.at.result (c.at.ensures l i) h w)
+    (g.O.Sink.holds c.say-in-At.new.output) (g.O.Sink.faults c.say-in-At.new.output) c.say-in-At.result c.say-in-At.ensures in
+    record {
+      does = does;
+      own = spares-own g.S.X.BlockHash.block32 l (g.S.Store.seen c.args.store.now) (g.S.Store.seen c.at.new.store) c.args.command.now c.say-in-At.result (alone-spares c.args.command.now alone) does.kinds;
+      spares = record {
+        left = λ e. absurd (alone-given c.args.command.now alone e);
+        input = λ e. refl;
+        host = λ e. refl;
+        untouched = λ e. absurd (let k : touches_nothing (At c.in-At.ask c.in-At.path) ≡ true = ap touches_nothing (sym c.in-At.is) ∙ e in cc);
+      };
+    }
 
 pub returns-in-Read-clause-does : goal.returns-in-Read-clause-does
 returns-in-Read-clause-does g c =
@@ -41,47 +196,6 @@ returns-in-Read-clause-spares g c = record {
   host = λ e. refl;
   untouched = λ e. absurd (let k : touches_nothing (Read c.in-Read.offset c.in-Read.count c.in-Read.path) ≡ true = ap touches_nothing (sym c.in-Read.is) ∙ e in cc);
 }
-
-pub returns-in_err-text-in_default : goal.returns-in_err-text-in_default
-returns-in_err-text-in_default g c =
-    let out = err_from_is_err_and c.from_residual.result c.from_residual.ensures.1 in
-    rw (out.1, out.2) (let h = g.O.Sink.holds c.args.output.now in let w = g.O.Sink.faults c.args.output.now in
-    let is = standing-of c.args.command.now c.in_default.not-Read c.in_default.not-Cat c.in_default.not-Get c.in_default.not-Export c.in_default.not-Import c.in_default.not-Same c.in_default.not-Adopt c.in_default.not-Gen c.in_default.not-Pin c.in_default.not-Prove in
-    let does = refused-does g.S.X.BlockHash.block32 g.N.NameHash.name64 c.args.command.now is.alone
-    (g.S.Store.seen c.args.store.now) (g.S.Store.seen c.text_of.new.store) (g.I.Source.left c.args.input.now) (g.I.Source.left c.text_of.new.input) (g.I.Source.faults c.args.input.now) (g.I.Source.faults c.text_of.new.input)
-    c.args.touches.now c.text_of.new.touches h w
-    (host_side (g.W.Host.tree c.args.host.now) (g.W.Host.read_faults c.args.host.now) (g.W.Host.write_faults c.args.host.now))
-    (host_side (g.W.Host.tree c.text_of.new.host) (g.W.Host.read_faults c.text_of.new.host) (g.W.Host.write_faults c.text_of.new.host)) c.in_err-text-in_default.field-0.0 (c.in_err-text-in_default.ensures.makes h w) in
-    record {
-      does = does;
-      own = spares-own g.S.X.BlockHash.block32 (g.I.Source.left c.args.input.now) (g.S.Store.seen c.args.store.now) (g.S.Store.seen c.text_of.new.store) c.args.command.now (Err c.in_err-text-in_default.field-0.0) (alone-spares c.args.command.now is.alone) does.kinds;
-      spares = record {
-        input = c.in_err-text-in_default.ensures.input;
-        left = λ e. absurd (alone-given c.args.command.now is.alone e);
-        host = c.in_err-text-in_default.ensures.host;
-        untouched = c.in_err-text-in_default.ensures.untouched;
-      };
-    })
-
-pub returns-in_ok-text-in_default : goal.returns-in_ok-text-in_default
-returns-in_ok-text-in_default g c =
-    let h = g.O.Sink.holds c.args.output.now in let w = g.O.Sink.faults c.args.output.now in
-    let is = standing-of c.args.command.now c.in_default.not-Read c.in_default.not-Cat c.in_default.not-Get c.in_default.not-Export c.in_default.not-Import c.in_default.not-Same c.in_default.not-Adopt c.in_default.not-Gen c.in_default.not-Pin c.in_default.not-Prove in
-    let does = prints-does g.S.X.BlockHash.block32 g.N.NameHash.name64 c.args.command.now is.alone
-    (g.S.Store.seen c.args.store.now) (g.S.Store.seen c.text_of.new.store) (g.I.Source.left c.args.input.now) (g.I.Source.left c.text_of.new.input) (g.I.Source.faults c.args.input.now) (g.I.Source.faults c.text_of.new.input)
-    c.args.touches.now c.text_of.new.touches h w
-    (host_side (g.W.Host.tree c.args.host.now) (g.W.Host.read_faults c.args.host.now) (g.W.Host.write_faults c.args.host.now))
-    (host_side (g.W.Host.tree c.text_of.new.host) (g.W.Host.read_faults c.text_of.new.host) (g.W.Host.write_faults c.text_of.new.host)) c.in_ok-text-in_default.text (c.in_ok-text-in_default.ensures.makes h w) (g.O.Sink.holds c.print.new.output) (g.O.Sink.faults c.print.new.output) c.print.result c.print.ensures in
-    record {
-      does = does;
-      own = spares-own g.S.X.BlockHash.block32 (g.I.Source.left c.args.input.now) (g.S.Store.seen c.args.store.now) (g.S.Store.seen c.text_of.new.store) c.args.command.now c.print.result (alone-spares c.args.command.now is.alone) does.kinds;
-      spares = record {
-        input = c.in_ok-text-in_default.ensures.input;
-        left = λ e. absurd (alone-given c.args.command.now is.alone e);
-        host = c.in_ok-text-in_default.ensures.host;
-        untouched = c.in_ok-text-in_default.ensures.untouched;
-      };
-    }
 
 pub returns-in-Cat : goal.returns-in-Cat
 returns-in-Cat g c =
