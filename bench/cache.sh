@@ -36,7 +36,7 @@ taskset -c "$core" python3 - "$program" "$top/crates/uf_bench/out/uf_bench" "$na
 import os, re, shutil, statistics, subprocess, sys, time
 
 PROGRAM, ENGINE, NAMES, MIB, CID, DEEP, RUNS, COUNT = *sys.argv[1:7], int(sys.argv[7]), int(sys.argv[8])
-OPENED = re.compile(r"open(at)?\(.*/blocks/../b.*O_RDONLY.* = \d")
+OPENED = re.compile(r"open(at)?\(.*/blocks/(../)?b.*O_RDONLY.* = \d")
 
 
 def run(words, times, text):

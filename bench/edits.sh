@@ -109,8 +109,8 @@ def traced(words, folder):
     subprocess.run(["strace", "-f", "-o", log, *words], cwd=folder, check=False, **QUIET)
     with open(log, encoding="utf-8", errors="replace") as lines:
         calls = [line.split(maxsplit=1)[1] for line in lines if re.match(r"\d+ +\w+\(", line)]
-    met = [call for call in calls if re.match(r"open(at)?\(.*/blocks/../b.*O_RDONLY.* = \d", call)]
-    kept = [call for call in calls if re.match(r"rename\w*\(.*/blocks/../b.* = 0", call)]
+    met = [call for call in calls if re.match(r"open(at)?\(.*/blocks/(../)?b.*O_RDONLY.* = \d", call)]
+    kept = [call for call in calls if re.match(r"rename\w*\(.*/blocks/(../)?b.* = 0", call)]
     return [str(len(calls)), str(len(met)), str(len(kept))] if words[0] == PROGRAM else [str(len(calls)), "", ""]
 
 

@@ -5,6 +5,7 @@ The word says how many commands of each kind are killed, at random moments: fift
 
 import base64
 import hashlib
+import itertools
 import os
 import random
 import resource
@@ -41,8 +42,19 @@ class Store:
         return os.path.join(self.folder, ".unixfs", *names)
 
     def block(self, cid):
-        """The path of a block's file."""
-        return self.path("blocks", cid[-2:], cid)
+        """The path of a block's file: in its own folder, or among the late ones."""
+        filed = self.path("blocks", cid[-2:], cid)
+        return filed if os.path.lexists(filed) else self.path("blocks", cid)
+
+    def late(self):
+        """The CIDs of the blocks that aren't in their own folders."""
+        return [name for name in os.listdir(self.path("blocks")) if len(name) == 59]
+
+    def file(self):
+        """Moves each block into its own folder, as the program does once there are many."""
+        for name in self.late():
+            os.makedirs(self.path("blocks", name[-2:]), exist_ok=True)
+            os.rename(self.path("blocks", name), self.path("blocks", name[-2:], name))
 
     def root(self):
         """The path of the root's block."""
@@ -70,11 +82,22 @@ class Store:
 
 
 def is_whole(path, block):
-    """Whether a file has the bytes of the CID that names it, and lies in the folder of that CID."""
+    """Whether a file has the bytes of the CID that names it, and lies among the late blocks or in the folder of that CID."""
     folder, name = os.path.split(path)
     text = name[1:].upper()
     digest = base64.b32decode(text + "=" * (-len(text) % 8))[4:]
-    return hashlib.sha256(block).digest() == digest and os.path.basename(folder) == name[-2:]
+    return hashlib.sha256(block).digest() == digest and os.path.basename(folder) in ("blocks", name[-2:])
+
+
+def cid_of(block):
+    """The CID of a leaf's bytes."""
+    return "b" + base64.b32encode(b"\x01\x55\x12\x20" + hashlib.sha256(block).digest()).decode().lower().rstrip("=")
+
+
+def blocks_that_count(count):
+    """Small blocks whose digests begin with a byte of 0: after one of them the program counts the late blocks."""
+    found = (str(n).encode() for n in range(1 << 20))
+    return list(itertools.islice((it for it in found if hashlib.sha256(it).digest()[0] == 0), count))
 
 
 def put(path, data):
@@ -176,16 +199,19 @@ class Checks:
             self.wrong += 1
             print(f"store: {name}\n  wanted: {wanted!r}\n  got:    {got!r}")
 
-    def anew(self):
-        """A copy of the first store."""
+    def anew(self, is_filed=False):
+        """A copy of the first store, whose blocks are late ones or are all in their own folders."""
         folder = tempfile.mkdtemp(dir=self.folder)
         shutil.copytree(self.first.folder, folder, dirs_exist_ok=True)
         os.chmod(folder, 0o755)
-        return Store(self.program, folder)
+        store = Store(self.program, folder)
+        if is_filed:
+            store.file()
+        return store
 
-    def trouble(self, name, where, change, listed, made):
+    def trouble(self, is_filed, name, where, change, listed, made):
         """One trouble: both answers are clear, no other file is lost, and the tree is there once the trouble is over."""
-        store = self.anew()
+        store = self.anew(is_filed)
         root = store.root()
         path = {"store": store.path(), "blocks": store.path("blocks"), "folder": os.path.dirname(root),
                 "root": root, "head": store.path("head")}[where]
@@ -209,12 +235,48 @@ class Checks:
 
     def mended(self):
         """A saved block takes the place of one that isn't its CID's, and of a link that leads nowhere."""
-        for name, change in (("other bytes", lambda path: put(path, b"x")), ("too long", replace(long_file)),
-                             ("dangling", replace(dangle))):
-            store = self.anew()
+        changes = (("other bytes", lambda path: put(path, b"x")), ("too long", replace(long_file)), ("dangling", replace(dangle)))
+        for is_filed, (name, change) in itertools.product((False, True), changes):
+            store = self.anew(is_filed)
             change(store.block(EMPTY))
             self.expect(f"{name}: mkdir", store.run("files mkdir /z"), DONE)
             self.expect(f"{name}: mended", (store.run("files ls /z"), store.torn()), (DONE, []))
+
+    def with_late(self, count):
+        """A store with so many late blocks more."""
+        store = self.anew()
+        for n in range(count):
+            block = b"late %d" % n
+            put(store.path("blocks", cid_of(block)), block)
+        return store
+
+    def filed(self, moments):
+        """Late blocks go into their own folders once there are 4096, and one that is killed meanwhile loses none."""
+        first, second = blocks_that_count(2)
+        few = self.with_late(100)
+        self.expect("few late blocks: add", few.run("add", first)[0], 0)
+        self.expect("few late blocks: stay", len(few.late()) > 100, True)
+        store, tree = self.with_late(5000), (0, "d\n")
+        names = {os.path.basename(path) for path in store.files()}
+        start = time.monotonic()
+        self.expect("many late blocks: add", store.run("add", first)[0], 0)
+        most = time.monotonic() - start
+        self.expect("many late blocks: filed", (store.late(), store.torn(), store.run("files ls")), ([], [], tree))
+        self.expect("many late blocks: all", {os.path.basename(path) for path in store.files()}, names | {cid_of(first)})
+        for _ in range(moments):
+            store = self.with_late(5000)
+            moment = random.uniform(0, most)
+            with subprocess.Popen([self.program, "add"], cwd=store.folder, stdin=subprocess.PIPE, stdout=subprocess.DEVNULL) as child:
+                child.stdin.write(first)
+                child.stdin.close()
+                time.sleep(moment)
+                child.kill()
+            name = f"filing, killed after {moment:.4f} s"
+            left = {os.path.basename(path) for path in store.files()}
+            self.expect(name, (names <= left, store.torn(), store.run("files ls")), (True, [], tree))
+            self.expect(f"{name}: rest", store.run("add", second)[0], 0)
+            self.expect(f"{name}: torn", store.torn(), [])
+            shutil.rmtree(store.folder)
 
     def forbidden(self):
         """No right to write, and then none to read."""
@@ -389,14 +451,16 @@ def main():
         program = shutil.copy(os.path.join(top, "crates", "uf_tool", "out", "uf_tool"), folder)
         os.chmod(program, 0o755)
         checks = Checks(program, folder)
-        for row in TROUBLES:
-            checks.trouble(*row)
+        for is_filed, row in itertools.product((False, True), TROUBLES):
+            if is_filed or row[1] != "folder":
+                checks.trouble(is_filed, *row)
         checks.kept_between_runs()
         checks.mended()
         checks.forbidden()
         checks.full()
         moments = int(sys.argv[1]) if len(sys.argv) > 1 else 50
         checks.killed(moments)
+        checks.filed(moments)
         checks.collected(moments)
         print(f"store: {checks.count - checks.wrong} passed, {checks.wrong} failed")
     sys.exit(1 if checks.wrong else 0)

@@ -8,8 +8,10 @@ mod failing;
 mod files;
 mod folder;
 mod host;
+mod place;
 mod store;
 mod streams;
+mod sweeping;
 #[cfg(test)]
 mod tests;
 

@@ -19,9 +19,10 @@ use uf_store::{Load, Note, NoteRead, Presence, Save, Steps, Store, Sweep, Swept}
 /// Keeps blocks and notes in the folder `.unixfs` of the working folder, which it makes at the first write. It tells
 /// nothing of what is there.
 ///
-/// A block is the file `blocks/XY/CID`, where XY are the last two characters of the CID's text; a note is the file
-/// `head` or `pins`. A file gets its name when it is whole and durable, so none is ever seen half written. Two
-/// processes at once are not supported: the later one may make the earlier one fail, but no file is torn.
+/// A block is the file `blocks/CID`, where it came of late, or `blocks/XY/CID`, where XY are the last two characters of
+/// the CID's text; a note is the file `head` or `pins`. A file gets its name when it is whole and durable, so none is
+/// ever seen half written. Two processes at once are not supported: the later one may make the earlier one fail, but no
+/// file is torn.
 #[derive(Drop)]
 pub struct DiskStore<X: BlockHash, R> {
     hash: PhantomData<X>,
@@ -87,13 +88,14 @@ impl<X: BlockHash, R: Files + RandomSource> DiskStore<X, R> {
         ensures err { OnErr result (disk_seen self.new ≡ disk_seen self.old) }
     {
         match self.folder.read_block(cid, &mut self.read)? {
-            Held::Bytes if self.read.as_slice() == bytes => self.folder.keep_block(cid),
+            Held::Nothing => self.folder.put_block(cid, bytes)?,
+            Held::Bytes if self.read.as_slice() == bytes => self.folder.keep_block(cid)?,
             Held::Bytes if X::block32(&self.read) == cid.digest => {
                 mem::swap(&mut self.lent, &mut self.read);
                 self.clashes = self.clashes.saturating_add(1);
                 return Ok(Save::Clash);
             }
-            _ => self.folder.put_block(cid, bytes)?,
+            _ => self.folder.replace_block(cid, bytes)?,
         }
         Ok(Save::Done)
     }

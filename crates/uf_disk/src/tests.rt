@@ -4,7 +4,7 @@ ghost use Rattle.uf_cid.specs.Cid.{cid_of};
 ghost use Rattle.uf_cid.specs.declared.cid.Codec.TheVariants.{Raw};
 
 use crate::failing::Failing;
-use crate::folder::block_path;
+use crate::place::{BlockPath, Place};
 use crate::{DiskHost, DiskStore};
 use std::alloc::Global;
 use std::fs::{Files, OpenFile};
@@ -37,7 +37,9 @@ enum Step {
     Lengthens,
     Blocks,
     Frees,
-    // A file of another name stands beside the block `a`, and it is still there.
+    // The file of the block `a` is moved into its own folder, as an earlier run may have done.
+    Files,
+    // A file of another name stands beside the blocks, and it is still there.
     Adds,
     IsThere,
     // A file that a killed run left half written, and that there is none.
@@ -57,6 +59,8 @@ enum Text {
 }
 
 const HALF_WRITTEN: &str = ".unixfs/new-0";
+
+const BESIDE: &str = ".unixfs/blocks/x";
 
 // What is saved and noted is there again, for another store too.
 const KEEPS: [Step; 14] = [
@@ -142,6 +146,25 @@ const SWEEPS: [Step; 19] = [
     Step::IsThere,
 ];
 
+// A block whose file stands in its own folder is found, mended and swept there.
+const FILED: [Step; 15] = [
+    Step::Saves(b"a", Save::Done),
+    Step::Files,
+    Step::Asks(b"a", Presence::There),
+    Step::Loads(b"a", Load::Found),
+    Step::Saves(b"a", Save::Done),
+    Step::Syncs(Put::Done),
+    Step::Files,
+    Step::Anew,
+    Step::Foresees,
+    Step::Loads(b"a", Load::Found),
+    Step::Spoils,
+    Step::Loads(b"a", Load::Damaged),
+    Step::Saves(b"a", Save::Done),
+    Step::Sweeps(&[], Swept::Done(1)),
+    Step::Loads(b"a", Load::Missing),
+];
+
 // Another block of the same digest is met and lent.
 const CLASHES: [Step; 3] = [
     Step::Saves(b"ab", Save::Done),
@@ -207,27 +230,41 @@ fn text_of(note: NoteRead) -> Text {
     }
 }
 
-// The path of the file of the block `a`.
-fn path_of_a(alloc: Global) -> io::Result<String> {
-    match block_path(alloc, &cid_of_raw::<Sha256Hash>(b"a")) {
-        Ok(path) => Ok(path),
-        Err(_) => Err(io::Error::from(io::ErrorKind::OutOfMemory)),
+// The text of a path.
+fn text_at(path: &BlockPath) -> io::Result<&str> {
+    match path.text() {
+        Ok(text) => Ok(text),
+        Err(_) => Err(io::Error::from(io::ErrorKind::InvalidFilename)),
     }
 }
 
-// The path of a file beside it that has no block's name.
-fn path_beside_a(alloc: Global) -> io::Result<String> {
-    let mut path = path_of_a(alloc)?;
-    if path.push('x').is_err() {
-        return Err(io::Error::from(io::ErrorKind::OutOfMemory));
+// The path of the file of the block `a`, which is in its own folder where one is there.
+fn path_of_a<R: Files>(files: &R) -> io::Result<BlockPath> {
+    let filed = BlockPath::new(&cid_of_raw::<Sha256Hash>(b"a"), Place::Filed);
+    if fs::exists(files, text_at(&filed)?)? {
+        return Ok(filed);
     }
-    Ok(path)
+    Ok(BlockPath::new(&cid_of_raw::<Sha256Hash>(b"a"), Place::Late))
+}
+
+// Moves the file of the block `a` into its own folder.
+fn files_a<R: Files>(files: &R) -> io::Result<()> {
+    let late = BlockPath::new(&cid_of_raw::<Sha256Hash>(b"a"), Place::Late);
+    let filed = BlockPath::new(&cid_of_raw::<Sha256Hash>(b"a"), Place::Filed);
+    match filed.folder() {
+        Ok(folder) => fs::create_dir_all(files, folder)?,
+        Err(_) => return Err(io::Error::from(io::ErrorKind::InvalidFilename)),
+    }
+    if fs::exists(files, text_at(&late)?)? {
+        fs::rename(files, text_at(&late)?, text_at(&filed)?)?;
+    }
+    Ok(())
 }
 
 // Does what is done with the files.
 fn sets<R: Files>(alloc: Global, files: &R, step: &Step) -> io::Result<bool> {
-    let path = path_of_a(alloc)?;
-    let path = path.as_str();
+    let path = path_of_a(files)?;
+    let path = text_at(&path)?;
     match step {
         Step::Spoils => fs::write(files, path, "b")?,
         Step::Lengthens => fs::create(files, path)?.set_len(2097153)?,
@@ -236,8 +273,9 @@ fn sets<R: Files>(alloc: Global, files: &R, step: &Step) -> io::Result<bool> {
             fs::create_dir(files, path)?;
         }
         Step::Frees => fs::remove_dir(files, path)?,
-        Step::Adds => fs::write(files, path_beside_a(alloc)?.as_str(), "text")?,
-        Step::IsThere => return fs::exists(files, path_beside_a(alloc)?.as_str()),
+        Step::Files => files_a(files)?,
+        Step::Adds => fs::write(files, BESIDE, "text")?,
+        Step::IsThere => return fs::exists(files, BESIDE),
         Step::Leaves => fs::write(files, HALF_WRITTEN, "half")?,
         Step::IsClean => return Ok(!fs::exists(files, HALF_WRITTEN)?),
         Step::Closes => {
@@ -353,7 +391,7 @@ fn first_lost<L: Ledger, R: Files + RandomSource>(
     files: &R,
     touches: &mut Steps<L>,
 ) -> io::Result<Option<u64>> {
-    for number in 0..30 {
+    for number in 0..40 {
         if !survives(alloc, files, number, touches)? {
             return Ok(Some(number));
         }
@@ -381,13 +419,13 @@ fn survives_sweep<L: Ledger, R: Files + RandomSource>(
     Ok(stood && swept == wanted && stays)
 }
 
-// The first call of the machine whose failure a sweep doesn't survive. It looks into 256 folders.
+// The first call of the machine whose failure a sweep doesn't survive. It looks into 257 folders.
 fn first_lost_by_sweep<L: Ledger, R: Files + RandomSource>(
     alloc: Global,
     files: &R,
     touches: &mut Steps<L>,
 ) -> io::Result<Option<u64>> {
-    for number in 0..264 {
+    for number in 0..280 {
         if !survives_sweep(alloc, files, number, touches)? {
             return Ok(Some(number));
         }
@@ -400,7 +438,7 @@ fn outcome_by<L: Ledger, R: Files + RandomSource>(
     alloc: Global,
     files: &R,
     blank: Blank,
-) -> io::Result<([bool; 7], Option<u64>, Option<u64>)>
+) -> io::Result<([bool; 8], Option<u64>, Option<u64>)>
     requires name { blank.name ≡ L.name }
     requires parts { blank.parts ≡ L.parts }
     requires some { 0 < blank.parts }
@@ -411,12 +449,15 @@ fn outcome_by<L: Ledger, R: Files + RandomSource>(
     let clears = are_right::<Sha256Hash, L, R>(alloc, files, &CLEARS, &mut touches)?;
     let foresees = are_right::<Sha256Hash, L, R>(alloc, files, &FORESEES, &mut touches)?;
     let sweeps = are_right::<Sha256Hash, L, R>(alloc, files, &SWEEPS, &mut touches)?;
+    let filed = are_right::<Sha256Hash, L, R>(alloc, files, &FILED, &mut touches)?;
     let lost_by_sweep = first_lost_by_sweep(alloc, files, &mut touches)?;
     let clashes = are_right::<Sum8Hash, L, R>(alloc, files, &CLASHES, &mut touches)?;
     let lost = first_lost(alloc, files, &mut touches)?;
     let refuses = are_right::<Sha256Hash, L, R>(alloc, files, &REFUSES, &mut touches)?;
     Ok((
-        [keeps, mends, clears, foresees, sweeps, clashes, refuses],
+        [
+            keeps, mends, clears, foresees, sweeps, filed, clashes, refuses,
+        ],
         lost_by_sweep,
         lost,
     ))
@@ -425,7 +466,7 @@ fn outcome_by<L: Ledger, R: Files + RandomSource>(
 fn outcome<R: Files + RandomSource>(
     alloc: Global,
     files: &R,
-) -> io::Result<([bool; 7], Option<u64>, Option<u64>)> {
+) -> io::Result<([bool; 8], Option<u64>, Option<u64>)> {
     outcome_by::<Brand, R>(alloc, files, Blank::new(1))
 }
 
@@ -433,7 +474,7 @@ fn outcome<R: Files + RandomSource>(
 fn a_store_keeps_mends_clears_foresees_sweeps_clashes_refuses_and_survives(
     rt: HostRuntime,
 ) -> io::Result<()> {
-    assert_eq!(rt; outcome(rt.alloc(), &rt)?, ([true; 7], None, None));
+    assert_eq!(rt; outcome(rt.alloc(), &rt)?, ([true; 8], None, None));
     Ok(())
 }
 
