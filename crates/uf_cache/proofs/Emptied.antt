@@ -1,13 +1,10 @@
 -- What is seen above and which entries there are, where the store below was swept and all entries went.
-use Rattle.std.proofs.Common.{◌≡◌, ℕ, List, [], Contains, Bool, false, arith, subst}
+use Rattle.std.proofs.Common.{ℕ, List, Bool, false}
 use Rattle.uf_cid.specs.declared.cid.Cid.{Cid}
-use Rattle.uf_store.specs.Contents.{Told}
 use Rattle.uf_store.specs.Seen.{Counted, Seen}
 use Rattle.uf_store.specs.declared.sweep.Swept.{Swept}
 use Rattle.uf_store.specs.declared.sweep.Swept.TheVariants.{Done, Failed, Memory}
 use Rattle.uf_store.specs.Sweeping.{Sweeps}
-use Rattle.uf_cid.specs.Cid.{cid_bytes}
-use Rattle.uf_cache.specs.Entries.{AreKept, Entries}
 use Rattle.uf_cache.proofs.Answering.{seen_with, still}
 
 module _ (kept : List Cid) (a b : Seen) (lent : List ℕ) (n : ℕ) where
@@ -19,8 +16,3 @@ module _ (kept : List Cid) (a b : Seen) (lent : List ℕ) (n : ℕ) where
   swept-above (Done count) s = record { left = s.left; count = s.count; lends_none = s.lends_none; counted = counting _ s.counted }
   swept-above Failed s = record { stays = s.stays; keeps = s.keeps; left = s.left; lends_none = s.lends_none; counted = counting _ s.counted }
   swept-above Memory s = record { same_told = s.same_told; lends_none = s.lends_none; counted = counting _ s.counted }
-
--- no entries are all kept
-pub AreKept-none : (hash : List ℕ → List ℕ) (told : Told) (es : Entries) → es.entries ≡ [] → AreKept hash told es
-AreKept-none hash told es none cid bytes there =
-    let in_none = subst (λ l. Contains l (cid_bytes cid, bytes)) none there in absurd (let k : ℕ = in_none.0 in omega (arith, in_none.1))

@@ -1,5 +1,5 @@
 -- What each entry is, where entries change and where the store below does.
-use Rattle.std.proofs.Common.{◌≡◌, ℕ, List, Contains, sym, subst, inl, inr}
+use Rattle.std.proofs.Common.{◌≡◌, ℕ, List, [], Contains, arith, refl, sym, subst, inl, inr}
 use Rattle.std.specs.Prelude.{nat_eq}
 use Rattle.std.specs.Cmp.Lexicographic.{pointwise}
 use Rattle.lru.proofs.CallerLemmas.{Contains-promoted, Contains-put_entries}
@@ -11,8 +11,13 @@ use Rattle.uf_store.specs.Seen.{Looks, Seen, Stays}
 use Rattle.uf_store.specs.declared.store.Presence.{Presence}
 use Rattle.uf_store.specs.declared.store.Presence.TheVariants.{There, Missing, Failed, Memory}
 use Rattle.uf_store.proofs.Keeping.{KeepsGood-same}
-use Rattle.uf_cache.specs.Entries.{AreKept, Entries, IsKept, MayKeep, MayPut, is_spelled, used}
+use Rattle.uf_cache.specs.Entries.{AreKept, Entries, IsKept, MayKeep, MayPut, emptied, is_spelled, used}
 use Rattle.uf_cache.proofs.Finding.{same_cid, spelled}
+
+-- no entries are all kept
+pub AreKept-none : (hash : List ℕ → List ℕ) (told : Told) (es : Entries) → es.entries ≡ [] → AreKept hash told es
+AreKept-none hash told es none cid bytes there =
+    let in_none = subst (λ l. Contains l (cid_bytes cid, bytes)) none there in absurd (let k : ℕ = in_none.0 in omega (arith, in_none.1))
 
 module _ (hash : List ℕ → List ℕ) where
   -- a store that keeps good blocks holds the entries still
@@ -54,9 +59,14 @@ module _ (hash : List ℕ → List ℕ) where
           ]
       AreKept-put (inr is) c b there = kept c b (moved es is (cid_bytes c, b) there)
 
-      -- a block that was found may have been put
-      pub AreKept-kept : MayKeep cid bytes es now → AreKept hash told now
-      AreKept-kept may = AreKept-put may.put
+-- a block that was found may have been put
+module _ (hash : List ℕ → List ℕ) (told : Told) (es now : Entries) (cid : Cid) (kept : AreKept hash told es) where
+  pub AreKept-kept : (bytes : List ℕ) → IsKept hash told cid bytes → MayKeep cid bytes es now → AreKept hash told now
+  AreKept-kept bytes whole may =
+      elim may.put [
+        | inl put ↦ AreKept-put hash told es now cid kept bytes whole put
+        | inr put ↦ AreKept-put hash told (emptied es) now cid (AreKept-none hash told (emptied es) refl) bytes whole put
+      ]
 
 -- the question whether a block is there changes neither what is told nor what is lent
 pub looks-stays : (cid : Cid) (answer : Presence) (a b : Seen) → Looks cid answer a b → Stays a b

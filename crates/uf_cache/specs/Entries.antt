@@ -33,14 +33,18 @@ with_entry cid bytes es = lru_cache (put_entries (pointwise nat_eq) es (cid_byte
 abbrev pub MayPut : Cid → List ℕ → Entries → Entries → Type 0
 MayPut cid bytes before now = (now ≡ with_entry cid bytes before) ⊎ (now ≡ before)
 
--- a leaf of raw bytes that is longer than 4 KiB
+-- no entry is left
+abbrev pub emptied : Entries → Entries
+emptied es = lru_cache [] es.cap
+
+-- a leaf of raw bytes that is longer than 16 KiB
 pub record IsLongLeaf (cid : Cid) (bytes : List ℕ) : Type 0 where
   pub raw : cid.codec ≡ Raw
-  pub long : 4096 < length bytes
+  pub long : 16384 < length bytes
 
--- a block that was found may be put so, and a long leaf isn't
+-- a block that was found may be put so, also after all entries went, and a long leaf isn't
 pub record MayKeep (cid : Cid) (bytes : List ℕ) (before now : Entries) : Type 0 where
-  pub put : MayPut cid bytes before now
+  pub put : MayPut cid bytes before now ⊎ MayPut cid bytes (emptied before) now
   pub long : IsLongLeaf cid bytes → now ≡ before
 
 -- the block of the first entry, where there is one

@@ -6,7 +6,7 @@ ghost use Rattle.uf_cache.specs.Entries.{AreKept, IsKept, lent_by};
 ghost use Rattle.uf_store.specs.Seen.{Loads, Looks, ReadsNote, Saves, Syncs, WritesNote};
 ghost use Rattle.uf_store.specs.Sweeping.{Sweeps};
 
-use crate::keep::{keep, let_go};
+use crate::keep::{MOST_OF_ALL, keep, let_go};
 use lru::LruCache;
 use std::alloc::Global;
 use std::num::NonZeroUsize;
@@ -18,7 +18,8 @@ use uf_store::{Load, Note, NoteRead, Presence, Save, Steps, Store, Sweep, Swept}
 /// How many CIDs of blocks that will probably be loaded next are handed on at most.
 const MOST_AHEAD: usize = 8;
 
-/// A store that keeps the blocks which it found last in memory, and hands all else to another store.
+/// A store that keeps the blocks which it found last in memory, and hands all else to another store. Where they would
+/// have more than 64 MiB together, all go, and it begins anew.
 ///
 /// An entry is whole, and the other store holds it under its CID, where that one tells. A block that is found is lent
 /// by the store that found it: after a hit that is the first entry. While it is lent, it is found again without that
@@ -28,6 +29,8 @@ pub struct Cached<S: Store> {
     alloc: Global,
     inner: S,
     entries: LruCache<[u8; 36], Block>,
+    // How many bytes may be kept before all entries go.
+    room: usize,
     lends_first: bool,
     // The CID of the block that is lent, where it was found and nothing else was asked for since.
     lent: Option<Cid>,
@@ -40,7 +43,7 @@ pub struct Cached<S: Store> {
 impl<S: Store + Drop> Cached<S> {
     ghost use Rattle.uf_cache.specs.Cached.{cached_seen, entries_of, with_finds};
 
-    /// A cache of at most so many entries over a store. It has none yet.
+    /// A cache of at most n entries, of 64 MiB together, over a store. It has none yet.
     pub fn new(alloc: Global, inner: S, entries: usize) -> Result<Self, Memory>
         requires some { 0 < entries }
         ensures seen { IfOk result (λ cached. cached_seen cached ≡ with_finds 0 (S.seen inner)) }
@@ -50,7 +53,8 @@ impl<S: Store + Drop> Cached<S> {
         Ok(Cached {
             alloc,
             inner,
-            entries: LruCache::new(alloc, most)?,
+            entries: LruCache::sparse(alloc, most)?,
+            room: MOST_OF_ALL,
             lends_first: false,
             lent: None,
             finds: 0,
@@ -111,7 +115,13 @@ impl<S: Store> Store for Cached<S> {
             self.lends_first = false;
             self.lent = Some(*cid);
             self.finds = self.finds.saturating_add(1);
-            keep(self.alloc, &mut self.entries, cid, self.inner.block());
+            keep(
+                self.alloc,
+                &mut self.entries,
+                &mut self.room,
+                cid,
+                self.inner.block(),
+            );
         }
         answer
     }
@@ -199,7 +209,7 @@ impl<S: Sweep> Sweep for Cached<S> {
         ensures below { Sweeps kept.now result (inner_seen self.old) (inner_seen self.new) }
         ensures entries { (entries_of self.new).entries ≡ [] }
     {
-        let_go(&mut self.entries);
+        let_go(&mut self.entries, &mut self.room);
         self.lends_first = false;
         self.lent = None;
         self.inner.sweep(kept)
