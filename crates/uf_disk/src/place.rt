@@ -11,6 +11,7 @@ pub enum Place {
 }
 
 /// The path of a block's file, for which no memory is taken.
+#[derive(Clone, Copy)]
 pub struct BlockPath {
     pub place: Place,
     bytes: [u8; 77],

@@ -147,7 +147,7 @@ const SWEEPS: [Step; 19] = [
 ];
 
 // A block whose file stands in its own folder is found, mended and swept there.
-const FILED: [Step; 15] = [
+const FILED: [Step; 16] = [
     Step::Saves(b"a", Save::Done),
     Step::Files,
     Step::Asks(b"a", Presence::There),
@@ -159,6 +159,7 @@ const FILED: [Step; 15] = [
     Step::Foresees,
     Step::Loads(b"a", Load::Found),
     Step::Spoils,
+    Step::Anew,
     Step::Loads(b"a", Load::Damaged),
     Step::Saves(b"a", Save::Done),
     Step::Sweeps(&[], Swept::Done(1)),
@@ -241,7 +242,7 @@ fn text_at(path: &BlockPath) -> io::Result<&str> {
 // The path of the file of the block `a`, which is in its own folder where one is there.
 fn path_of_a<R: Files>(files: &R) -> io::Result<BlockPath> {
     let filed = BlockPath::new(&cid_of_raw::<Sha256Hash>(b"a"), Place::Filed);
-    if fs::exists(files, text_at(&filed)?)? {
+    if let Ok(true) = fs::exists(files, text_at(&filed)?) {
         return Ok(filed);
     }
     Ok(BlockPath::new(&cid_of_raw::<Sha256Hash>(b"a"), Place::Late))
