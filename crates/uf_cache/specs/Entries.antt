@@ -1,8 +1,9 @@
 -- The entries of a cache: blocks under the bytes of their CIDs, the most recently used first.
-use Rattle.std.specs.Prelude.{◌≡◌, ℕ, ◌≤◌, ◌<◌, ◌⊎◌, Bool, true, false, List, [], ◌∷◌, length, nat_eq}
+use Rattle.std.specs.Prelude.{◌≡◌, ℕ, ◌≤◌, ◌<◌, ◌+◌, ◌⊎◌, Bool, true, false, List, [], ◌∷◌, length, nat_eq}
 use Rattle.std.specs.Prelude.{Contains, Some, IfSome}
 use Rattle.std.specs.Cmp.Lexicographic.{pointwise}
-use Rattle.std.specs.Map.{lookup}
+use Rattle.std.specs.List.{sum_by}
+use Rattle.std.specs.Map.{lookup, values_of}
 use Rattle.lru.specs.LruCache.{LruCache, lru_cache, promoted, put_entries}
 use Rattle.uf_cid.specs.declared.cid.Cid.{Cid}
 use Rattle.uf_cid.specs.declared.cid.Codec.TheVariants.{Raw}
@@ -32,6 +33,14 @@ with_entry cid bytes es = lru_cache (put_entries (pointwise nat_eq) es (cid_byte
 -- the block is the first entry now, or there was no memory for it and the entries are as before
 abbrev pub MayPut : Cid → List ℕ → Entries → Entries → Type 0
 MayPut cid bytes before now = (now ≡ with_entry cid bytes before) ⊎ (now ≡ before)
+
+-- how many bytes the blocks have together
+abbrev pub bytes_of : Entries → ℕ
+bytes_of es = sum_by length (values_of es.entries)
+
+-- there is room for so many bytes more below 64 MiB
+abbrev pub HasRoom : ℕ → Entries → Type 0
+HasRoom room es = bytes_of es + room ≤ 67108864
 
 -- no entry is left
 abbrev pub emptied : Entries → Entries

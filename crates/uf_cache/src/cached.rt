@@ -2,7 +2,7 @@
 ghost use Rattle.std.specs.Prelude.{◌≡◌, ◌≢◌, ◌≤◌, ◌<◌, ◌+◌, [], None, Some, IfOk, IfSome, length};
 ghost use Rattle.std.proofs.Props.{props};
 ghost use Rattle.lru.specs.LruCache.{lru_cache};
-ghost use Rattle.uf_cache.specs.Entries.{AreKept, IsKept, lent_by};
+ghost use Rattle.uf_cache.specs.Entries.{AreKept, HasRoom, IsKept, lent_by};
 ghost use Rattle.uf_store.specs.Seen.{Loads, Looks, ReadsNote, Saves, Syncs, WritesNote};
 ghost use Rattle.uf_store.specs.Sweeping.{Sweeps};
 
@@ -35,6 +35,7 @@ pub struct Cached<S: Store> {
     // The CID of the block that is lent, where it was found and nothing else was asked for since.
     lent: Option<Cid>,
     finds: u64,
+    ghost small: { HasRoom room entries },
     ghost kept: { AreKept S.X.block32 (S.seen inner).told entries } by { Prim.hlevel props },
     ghost rests: { IfSome lent (λ cid. IsKept S.X.block32 (S.seen inner).told cid
         (lent_by lends_first entries (S.seen inner).lent)) } by { Prim.hlevel props },
@@ -64,11 +65,13 @@ impl<S: Store + Drop> Cached<S> {
 
 impl<S: Store> Cached<S> {
     ghost use Rattle.uf_cache.specs.Cached.{entries_of, inner_seen};
+    ghost use Rattle.uf_cache.specs.Entries.{bytes_of};
 
     /// How many blocks are in memory: no more than there may be, and each of them whole and held by the other store.
     pub fn count(&self) -> usize
         ensures count { result ≡ length (entries_of self.now).entries }
         ensures most { result ≤ (entries_of self.now).cap }
+        ensures bytes { bytes_of (entries_of self.now) ≤ 67108864 }
         ensures kept { AreKept S.X.block32 (inner_seen self.now).told (entries_of self.now) }
     {
         self.entries.len()

@@ -1,6 +1,6 @@
 //! Blocks put among the entries of a cache.
-ghost use Rattle.std.specs.Prelude.{◌≡◌, []};
-ghost use Rattle.uf_cache.specs.Entries.{Entries, MayKeep, MayPut, emptied};
+ghost use Rattle.std.specs.Prelude.{◌≡◌, ◌≤◌, ◌+◌, ◌⊎◌, length};
+ghost use Rattle.uf_cache.specs.Entries.{HasRoom, MayKeep, MayPut, emptied};
 
 use lru::LruCache;
 use std::alloc::Global;
@@ -21,7 +21,10 @@ pub(crate) fn keep(
     cid: &Cid,
     bytes: &[u8],
 )
-    ensures { MayKeep cid.now bytes.now entries.old entries.new }
+    requires size { length bytes.now ≤ 2097152 }
+    requires room { HasRoom room.old entries.old }
+    ensures kept { MayKeep cid.now bytes.now entries.old entries.new }
+    ensures room { HasRoom room.new entries.new }
 {
     if cid.codec == Codec::DagPb || bytes.len() <= MOST_OF_LEAF {
         make_room(entries, room, bytes.len());
@@ -31,17 +34,21 @@ pub(crate) fn keep(
 
 // Takes room for bytes, for which all entries go where there isn't enough.
 fn make_room(entries: &mut LruCache<[u8; 36], Block>, room: &mut usize, length: usize)
-    ensures { (entries.new ≡ entries.old) ⊎ (entries.new ≡ emptied entries.old) }
+    requires size { length ≤ 2097152 }
+    requires room { HasRoom room.old entries.old }
+    ensures entries { (entries.new ≡ entries.old) ⊎ (entries.new ≡ emptied entries.old) }
+    ensures room { HasRoom (room.new + length) entries.new }
 {
     if length > *room {
         let_go(entries, room);
     }
-    *room = room.saturating_sub(length);
+    *room -= length;
 }
 
 /// Lets all entries go.
 pub(crate) fn let_go(entries: &mut LruCache<[u8; 36], Block>, room: &mut usize)
-    ensures { entries.new ≡ emptied entries.old }
+    ensures entries { entries.new ≡ emptied entries.old }
+    ensures room { room.new ≡ 67108864 }
 {
     entries.clear();
     *room = MOST_OF_ALL;

@@ -11,6 +11,7 @@ invariant_of-self g c =
     let before = g.S.Store.seen self.inner in let now = g.S.Store.seen c.holds.new.self in
     let stays = looks-stays c.args.cid.now c.holds.result before now c.holds.ensures.seen in
     record {
+      small = self.small;
       kept = AreKept-same hash _ _ self.entries stays.same_told self.kept;
       rests =
           subst (λ (t : Told). IfSome self.lent (λ x. IsKept hash t x (lent_by self.lends_first self.entries now.lent)))

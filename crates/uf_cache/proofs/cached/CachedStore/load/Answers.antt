@@ -4,6 +4,7 @@ use Rattle.uf_store.proofs.Plain.{calls_write}
 use Rattle.uf_cache.specs.Entries.{Entries, IsKept, lent_by}
 use Rattle.uf_cache.proofs.Answering.{found_kept, hit_finds, hits, is_found, is_other, keeps_found, keeps_none}
 use Rattle.uf_cache.proofs.Answering.{may_keep, rests, unfound}
+use Rattle.uf_cache.proofs.Bytes.{room-used}
 use Rattle.uf_cache.proofs.Finding.{among, each_some, is_absent, is_first, is_left, is_there, promotes}
 use Rattle.uf_cache.proofs.Kept.{AreKept-kept, AreKept-same, AreKept-used}
 use Rattle.uf_cache.proofs.cached.CachedStore.load.Goals as goal
@@ -17,6 +18,7 @@ invariant_of-self g c =
     let there = is_there p c.if-promote.true in
     let whole = self.kept cid there.0 (among self.entries cid there.0 there.1) in
     record {
+      small = room-used self.room cid self.entries _ p.is_used self.small;
       kept = AreKept-used hash _ self.entries _ cid self.kept p.is_used;
       rests = subst (IsKept hash below.told cid) (sym (is_first p below.lent there.0 there.1)) whole;
     }
@@ -57,6 +59,7 @@ invariant_of-self-then-eq g c =
     let hash = g.S.X.BlockHash.block32 in
     let below = g.S.Store.seen self.inner in
     record {
+      small = room-used self.room cid self.entries _ p.is_used self.small;
       kept = AreKept-used hash _ self.entries _ cid self.kept p.is_used;
       rests = subst (λ (es : Entries). IfSome self.lent (λ x. IsKept hash below.told x (lent_by self.lends_first es below.lent)))
           (sym (is_left p c.if-promote.false)) self.rests;
@@ -82,9 +85,9 @@ invariant_of-self-then-eq-2 g c =
     let found = is_found c.load-answer.result c.if-eq-2.ensures in
     let same = (calls_write hash _ _).load cid _ c.load-answer.ensures.seen in
     let whole = found_kept hash cid _ _ _ found c.load-answer.ensures.seen in
-    let put = may_keep _ _ _ _ _ _ (is_left p c.if-promote.false) c.block.ensures c.keep.ensures in
+    let put = may_keep _ _ _ _ _ _ (is_left p c.if-promote.false) c.block.ensures c.keep.ensures.kept in
     let kept = AreKept-same hash _ _ self.entries same self.kept in
-    record { kept = AreKept-kept hash _ self.entries _ cid kept _ whole put; rests = whole }
+    record { small = c.keep.ensures.room; kept = AreKept-kept hash _ self.entries _ cid kept _ whole put; rests = whole }
 
 pub invariant_of-self-else-eq-2 : goal.invariant_of-self-else-eq-2
 invariant_of-self-else-eq-2 g c =
@@ -93,7 +96,7 @@ invariant_of-self-else-eq-2 g c =
     let hash = g.S.X.BlockHash.block32 in
     let same = (calls_write hash _ _).load cid _ c.load-answer.ensures.seen in
     let kept = AreKept-same hash _ _ self.entries same self.kept in
-    record { kept = AreKept-used hash _ self.entries _ cid kept p.is_used; rests = tt }
+    record { small = room-used self.room cid self.entries _ p.is_used self.small; kept = AreKept-used hash _ self.entries _ cid kept p.is_used; rests = tt }
 
 pub returns-then-eq-2-clause-hit : goal.returns-then-eq-2-clause-hit
 returns-then-eq-2-clause-hit g c =
@@ -106,7 +109,7 @@ returns-then-eq-2-clause-miss g c is other =
     let self = c.args.self.now in let cid = c.args.cid.now in
     let p = promotes self.entries _ _ cid _ c.to_binary.ensures c.promote.ensures.value c.promote.ensures.entries in
     let found = is_found c.load-answer.result c.if-eq-2.ensures in
-    let put = may_keep _ _ _ _ _ _ (is_left p c.if-promote.false) c.block.ensures c.keep.ensures in
+    let put = may_keep _ _ _ _ _ _ (is_left p c.if-promote.false) c.block.ensures c.keep.ensures.kept in
     record { below = c.load-answer.ensures.seen; kept = keeps_found self _ cid _ found put }
 
 pub returns-else-eq-2-clause-seen : goal.returns-else-eq-2-clause-seen
@@ -130,3 +133,9 @@ returns-else-eq-2-clause-miss g c is still =
     let p = promotes self.entries _ _ cid _ c.to_binary.ensures c.promote.ensures.value c.promote.ensures.entries in
     let other = is_other c.load-answer.result c.if-eq-2.ensures in
     record { below = c.load-answer.ensures.seen; kept = keeps_none self _ cid _ other (is_left p c.if-promote.false) }
+
+pub keep-requires-clause-room : goal.keep-requires-clause-room
+keep-requires-clause-room g c =
+    let self = c.args.self.now in let cid = c.args.cid.now in
+    let p = promotes self.entries _ _ cid _ c.to_binary.ensures c.promote.ensures.value c.promote.ensures.entries in
+    room-used self.room cid self.entries _ p.is_used self.small

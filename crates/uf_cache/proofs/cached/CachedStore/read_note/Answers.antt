@@ -6,4 +6,4 @@ pub invariant_of-self : goal.invariant_of-self
 invariant_of-self g c =
     let hash = g.S.X.BlockHash.block32 in let self = c.args.self.now in
     let same = (calls_write hash _ _).read_note _ _ c.read_note.ensures.seen in
-    record { kept = AreKept-same hash _ _ self.entries same self.kept; rests = tt }
+    record { small = self.small; kept = AreKept-same hash _ _ self.entries same self.kept; rests = tt }

@@ -8,4 +8,4 @@ pub invariant_of-self : goal.invariant_of-self
 invariant_of-self g c =
     let hash = g.S.X.BlockHash.block32 in let self = c.args.self.now in
     let writes = (calls_write hash _ _).sync _ c.sync.ensures.seen in
-    record { kept = AreKept-on hash _ _ self.entries (Wrote-good hash IsAny _ _ writes) self.kept; rests = tt }
+    record { small = self.small; kept = AreKept-on hash _ _ self.entries (Wrote-good hash IsAny _ _ writes) self.kept; rests = tt }
