@@ -1,9 +1,9 @@
 -- A sweep that failed, of a store that tells nothing.
-use Rattle.std.proofs.Common.{◌≡◌, ℕ, ◌+◌, ◌-◌, ◌^◌, ◌≤◌, min, List, [], true, false, arith, refl, sym, ap, subst, ◌∙◌, None}
+use Rattle.std.proofs.Common.{◌≡◌, ℕ, ◌+◌, ◌-◌, ◌^◌, ◌≤◌, min, List, [], true, false, arith, refl, sym, ap, ◌∙◌, None}
 use Rattle.uf_cid.specs.declared.cid.Cid.{Cid}
 use Rattle.uf_edge.specs.Counts.{Counts}
 use Rattle.uf_store.specs.Contents.{changed}
-use Rattle.uf_store.specs.Seen.{Counted, Seen}
+use Rattle.uf_store.specs.Seen.{Seen}
 use Rattle.uf_store.specs.Sweeping.{FailsToDrop, swept}
 
 still : (n m : ℕ) → m ≡ n → Counts false n m
