@@ -2,31 +2,8 @@
 
 use std::alloc::Global;
 use uf_cid::{Block, Cid, CidFault, Cids, Codec, Memory, Sha256Hash, Sizes, Sum8Hash, Text, Texts};
+use uf_playing::{codec_of, say_cid, size_of};
 use uf_testing::{bytes_of, number_of, say, say_digits, tell_bytes, tell_count, word_and_rest};
-
-/// The codec that a word names.
-pub fn codec_of(word: &str) -> Codec {
-    if word == "raw" {
-        Codec::Raw
-    } else {
-        Codec::DagPb
-    }
-}
-
-/// A number that fits 32 bits.
-pub fn small(number: u64) -> u32 {
-    number.min(4294967295) as u32
-}
-
-/// A number of bytes.
-pub fn size_of(number: u64) -> usize {
-    number.min(268435456) as usize
-}
-
-/// Says a CID.
-pub fn say_cid(told: &mut Block, cid: &Cid) -> Result<(), Memory> {
-    say(told, str::from_utf8(&cid.text()).unwrap_or("?"))
-}
 
 // Says what a CID is made of.
 fn say_parts(told: &mut Block, cid: &Cid) -> Result<(), Memory> {

@@ -1,23 +1,11 @@
 //! Calls on sources, sinks and lines in memory. A number of a call that is to fail is counted from 1; 0 is none.
 
-use crate::cids::size_of;
 use std::alloc::Global;
 use uf_cid::{Block, Memory};
 use uf_edge::{Filled, Intake, MemSink, MemSource, Sent, fill, read_all, write_all};
 use uf_lines::{Line, Lines};
-use uf_testing::{block_of, calls, number_and_rest, number_of, say, tell_bytes, tell_count};
-
-/// The call that is to fail, as streams count it.
-pub fn failing(number: u64) -> Option<u64> {
-    number.checked_sub(1)
-}
-
-/// A source of these bytes that gives so many in a call, of which one may fail.
-pub fn source_of(alloc: Global, bytes: &[u8], step: u64, fails: u64) -> Result<MemSource, Memory> {
-    let block = block_of(alloc, bytes)?;
-    let fails = calls(alloc, failing(fails))?;
-    Ok(MemSource::new(block, size_of(step).max(1), fails))
-}
+use uf_playing::{failing, size_of, source_of};
+use uf_testing::{calls, number_and_rest, number_of, say, tell_bytes, tell_count};
 
 // Reads all of a source of at most n bytes: `read-all STEP LIMIT CALL`.
 fn read_whole(alloc: Global, bytes: &[u8], rest: &str, told: &mut Block) -> Result<(), Memory> {

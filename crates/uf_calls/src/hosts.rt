@@ -2,12 +2,11 @@
 ghost use Rattle.std.specs.Prelude.{◌≡◌, ◌++◌, IsTrue};
 ghost use Rattle.uf_edge.specs.Host.{front, is_member_name};
 
-use crate::edges::failing;
-use crate::stores::say_put;
 use std::alloc::Global;
 use uf_cid::{Block, Memory, Texts};
 use uf_edge::{Fetched, Host, Kind, MemHost, Met, meet};
-use uf_testing::{calls, is_member, number_of, path_of, say, tell_bytes, word_and_rest};
+use uf_playing::say_put;
+use uf_testing::{is_member, number_of, path_of, say, tell_bytes, word_and_rest};
 
 fn word_of(kind: Kind) -> &'static str {
     match kind {
@@ -101,11 +100,6 @@ fn grow(alloc: Global, host: &mut MemHost, rest: &str, told: &mut Block) -> Resu
     }
     let path = path_of(alloc, folder, name)?;
     grow_file(host, folder, name, path.as_str(), piece.as_bytes(), told)
-}
-
-/// A host of nothing, of which one call fails, counted from 1.
-pub fn failing_host(alloc: Global, number: u64) -> Result<MemHost, Memory> {
-    Ok(MemHost::new(alloc, calls(alloc, failing(number))?))
 }
 
 /// Makes a call; whether the word names one of these.

@@ -1,10 +1,9 @@
-//! Plays a transcript of calls of the library crates over stores, hosts and streams in memory, and prints it again. Under
-//! each call stands what is to come of it: where that comes of all of them, what is printed is the transcript itself, and
-//! the status is 0.
+//! Plays a transcript of calls of the library crates over stores, hosts and streams in memory, and prints it again.
+//! Under each call stands what is to come of it: where that comes of all of them, what is printed is the transcript
+//! itself, and the status is 0.
 #![tactic(auto)]
 
-ghost use Rattle.std.specs.Prelude.{◌≡◌, ◌<◌};
-
+mod calling;
 mod cids;
 mod edges;
 mod hosts;
@@ -12,19 +11,12 @@ mod nodes;
 mod numbers;
 mod paths;
 mod pins;
-mod playing;
-mod stores;
 mod walks;
 
-use crate::playing::play_all;
-use std::alloc::Global;
+use crate::calling::BaseCalls;
 use std::io;
-use std::marker::Brand;
 use std::process::ExitCode;
-use std::sync::ledger::{Blank, Ledger};
-use uf_cid::Memory;
-use uf_store::Steps;
-use uf_testing::Sheet;
+use uf_playing::play_all;
 
 fn main(rt: HostRuntime) -> io::Result<ExitCode> {
     let mut script = String::new(rt.alloc());
@@ -32,25 +24,9 @@ fn main(rt: HostRuntime) -> io::Result<ExitCode> {
         script.push_str(line?.as_str())?;
         script.push_str("\n")?;
     }
-    let Ok(sheet) = sheet_of(rt.alloc(), script) else {
+    let Ok(sheet) = play_all::<BaseCalls>(rt.alloc(), script) else {
         return Ok(ExitCode::from(1));
     };
     print!(rt; "{}", str::from_utf8(sheet.text()).unwrap_or("no text"))?;
     Ok(ExitCode::from(if sheet.is_as_wanted() { 0 } else { 1 }))
-}
-
-// What comes of a transcript.
-fn sheet_of(alloc: Global, script: String) -> Result<Sheet, Memory> {
-    sheet_by::<Brand>(alloc, script, Blank::new(1))
-}
-
-fn sheet_by<L: Ledger>(alloc: Global, script: String, blank: Blank) -> Result<Sheet, Memory>
-    requires name { blank.name ≡ L.name }
-    requires parts { blank.parts ≡ L.parts }
-    requires some { 0 < blank.parts }
-{
-    let mut touches = Steps::<L>::new(blank);
-    let mut sheet = Sheet::new(alloc);
-    play_all(alloc, script.as_str(), &mut sheet, &mut touches)?;
-    Ok(sheet)
 }

@@ -2,12 +2,12 @@
 ghost use Rattle.std.specs.Prelude.{◌≡◌, ◌*◌, length, IsTrue};
 ghost use Rattle.uf_tree.specs.Profiles.{is_profile};
 
-use crate::cids::{say_cid, size_of, small};
 use sha2::{Digest, Sha256};
 use std::alloc::Global;
 use uf_cid::{Block, BlockHash, Cid, Memory, Sha256Hash, StrictFault};
 use uf_dagpb::{Node, PbFault};
 use uf_message::Message;
+use uf_playing::{say_cid, size_of, small};
 use uf_testing::{number_and_rest, number_of, say, tell_bytes, tell_count};
 use uf_tree::{
     BadProfile, Head, Name, NameFault, Profile, dir_node, file_node, head_text, read_dir_node,
@@ -50,51 +50,35 @@ fn count_links(alloc: Global, bytes: &[u8], told: &mut Block) -> Result<(), Memo
     }
 }
 
-// Whether a block that was written has these bytes.
-fn are_bytes(spelled: Result<Block, Memory>, bytes: &[u8]) -> Result<bool, StrictFault> {
-    match spelled {
-        Ok(block) => Ok(block.as_slice() == bytes),
-        Err(Memory) => Err(StrictFault::Memory),
-    }
-}
-
 // Reads a node strictly, and writes it again: whether the bytes and their number are the same.
 fn node_again(alloc: Global, bytes: &[u8]) -> Result<bool, StrictFault> {
-    match uf_dagpb::decode_strict(alloc, bytes) {
-        Ok(node) if uf_dagpb::encoded_len(&node) == bytes.len() => {
-            are_bytes(uf_dagpb::encode(alloc, &node), bytes)
-        }
-        Ok(_) => Ok(false),
-        Err(fault) => Err(fault),
-    }
+    let node = uf_dagpb::decode_strict(alloc, bytes)?;
+    let spelled = uf_dagpb::encode(alloc, &node)?;
+    Ok(uf_dagpb::encoded_len(&node) == bytes.len() && spelled.as_slice() == bytes)
 }
 
 fn message_again(alloc: Global, bytes: &[u8]) -> Result<bool, StrictFault> {
-    match uf_message::decode_strict(alloc, bytes) {
-        Ok(node) => are_bytes(uf_message::encode(alloc, &node), bytes),
-        Err(fault) => Err(fault),
-    }
+    let message = uf_message::decode_strict(alloc, bytes)?;
+    let spelled = uf_message::encode(alloc, &message)?;
+    Ok(spelled.as_slice() == bytes)
 }
 
 fn file_again(alloc: Global, bytes: &[u8]) -> Result<bool, StrictFault> {
-    match read_file_node(alloc, bytes) {
-        Ok(node) => are_bytes(file_node(alloc, &node), bytes),
-        Err(fault) => Err(fault),
-    }
+    let node = read_file_node(alloc, bytes)?;
+    let spelled = file_node(alloc, &node)?;
+    Ok(spelled.as_slice() == bytes)
 }
 
 fn dir_again(alloc: Global, bytes: &[u8]) -> Result<bool, StrictFault> {
-    match read_dir_node(alloc, bytes) {
-        Ok(node) => are_bytes(dir_node(alloc, &node), bytes),
-        Err(fault) => Err(fault),
-    }
+    let node = read_dir_node(alloc, bytes)?;
+    let spelled = dir_node(alloc, &node)?;
+    Ok(spelled.as_slice() == bytes)
 }
 
 fn shard_again(alloc: Global, bytes: &[u8]) -> Result<bool, StrictFault> {
-    match read_shard_node(alloc, bytes) {
-        Ok(node) => are_bytes(shard_node(alloc, &node), bytes),
-        Err(fault) => Err(fault),
-    }
+    let node = read_shard_node(alloc, bytes)?;
+    let spelled = shard_node(alloc, &node)?;
+    Ok(spelled.as_slice() == bytes)
 }
 
 // Says whether a block is written again as it was read.

@@ -1,9 +1,9 @@
 //! Calls on varints and on hashes of names.
 
-use crate::cids::small;
 use std::alloc::Global;
 use uf_cid::{Block, Memory};
 use uf_murmur::{FirstEight, Murmur3, NameHash, slot};
+use uf_playing::small;
 use uf_testing::{bytes_of, number_and_rest, number_of, say, say_digits, tell_count};
 use uf_varint::{NumberField, Var, read_multi, read_proto, skip_content, width, write};
 

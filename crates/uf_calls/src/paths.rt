@@ -1,9 +1,9 @@
 //! Calls on paths.
 
-use crate::cids::say_cid;
 use std::alloc::Global;
 use uf_cid::{Block, Memory};
 use uf_path::{DagPath, Path, PathFault, Target};
+use uf_playing::say_cid;
 use uf_testing::say;
 use uf_tree::Names;
 

@@ -1,11 +1,10 @@
 //! Calls on pins, and collections.
 
-use crate::cids::{say_cid, small};
-use crate::stores::{cid_in, say_fault};
 use std::alloc::Global;
 use std::sync::ledger::Ledger;
 use uf_cid::{Block, BlockHash, Cids, Memory};
 use uf_pins::{PinFault, add_pin, collect, list_pins, read_pins, remove_pin};
+use uf_playing::{cid_in, say_cid, say_fault, small};
 use uf_store::{MemStore, Steps};
 use uf_testing::{number_and_rest, say, word_and_rest};
 

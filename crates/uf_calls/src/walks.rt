@@ -1,9 +1,9 @@
 //! Walks by hand, over blocks that are made here.
 ghost use Rattle.std.specs.Prelude.{◌≡◌, None};
 
-use crate::cids::small;
 use std::alloc::Global;
 use uf_cid::{Block, Cid, Codec, Memory, Seq};
+use uf_playing::small;
 use uf_testing::{number_and_rest, number_of, say};
 use uf_walk::{Turn, Walk, WalkFault};
 

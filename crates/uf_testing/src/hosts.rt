@@ -8,9 +8,9 @@ use std::alloc::Global;
 use uf_cid::{Memory, Text};
 use uf_edge::{Calls, Host, Kind, MemHost, Put};
 
-/// What is in a host: for each the folder that it is in (none is the working folder), its name, and the bytes of a file or
-/// none of a folder.
-pub type Node<'a> = (&'a str, &'a str, Option<&'a [u8]>);
+/// What is in a host: for each the folder that it is in (none is the working folder), its name, and the bytes of a file
+/// or none of a folder.
+pub type HostNode<'a> = (&'a str, &'a str, Option<&'a [u8]>);
 
 /// Whether bytes may be the name of a member.
 pub fn is_member(name: &[u8]) -> bool
@@ -120,8 +120,8 @@ fn plant_in(
     }
 }
 
-/// Puts a file or a folder at a path, whose parent is there, without a call that writes. It makes one call in the working
-/// folder, and two in another one.
+/// Puts a file or a folder at a path, whose parent is there, without a call that writes. It makes one call in the
+/// working folder, and two in another one.
 pub fn plant(
     alloc: Global,
     host: &mut MemHost,
@@ -145,7 +145,7 @@ pub fn plant(
 }
 
 /// A host that has these, and fails at these calls, counted from its first.
-pub fn host_of(alloc: Global, nodes: &[Node<'_>], fail: Calls) -> Result<MemHost, Memory> {
+pub fn host_of(alloc: Global, nodes: &[HostNode<'_>], fail: Calls) -> Result<MemHost, Memory> {
     let mut host = MemHost::new(alloc, fail);
     for node in nodes {
         let (folder, name, content) = *node;

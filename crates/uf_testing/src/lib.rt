@@ -1,5 +1,5 @@
-//! What the programs that play rows share: words, bytes that lines spell, streams in memory, hosts and stores that are set
-//! up, and the sheet on which rows are told. No other program stands on it.
+//! What the programs that play rows share: words, bytes that lines spell, streams in memory, hosts and stores that are
+//! set up, and the sheet on which rows are told. No other program stands on it.
 #![tactic(auto)]
 
 mod feeding;
@@ -10,7 +10,7 @@ mod telling;
 mod words;
 
 pub use feeding::{bytes_of, feed};
-pub use hosts::{Node, host_of, is_member, path_of, plant, put_first, put_in, text_of};
+pub use hosts::{HostNode, host_of, is_member, path_of, plant, put_first, put_in, text_of};
 pub use sheet::{Sheet, begins_row, ends_part};
 pub use streams::{ROOMY, Streams, block_of, calls, plant_node, sink, source};
 pub use telling::{say, say_digits, tell_bytes, tell_count};

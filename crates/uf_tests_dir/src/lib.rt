@@ -1,11 +1,5 @@
-//! Rows of directories and shards, and of what is built anew, of which no command tells.
+//! Rows of the trails of names, of which no command tells.
 #![tactic(auto)]
 
-#[cfg(test)]
-mod adopt_tests;
-#[cfg(test)]
-mod shard_build_tests;
-#[cfg(test)]
-mod shard_tests;
 #[cfg(test)]
 mod trail_tests;

@@ -201,8 +201,8 @@ fn is_light<L: Ledger>(
     Some(left.is_ok())
 }
 
-// The first name of which the calls aren't at one; whether each block was lost in turn; and which removals load little: of
-// a name that isn't there, and of one that is.
+// The first name of which the calls aren't at one; whether each block was lost in turn; and which removals load little:
+// of a name that isn't there, and of one that is.
 type Answer = (Option<usize>, bool, Option<bool>, Option<bool>);
 
 fn answers<L: Ledger>(alloc: Global, blank: Blank) -> Option<Answer>

@@ -9,7 +9,7 @@ use std::ops::Range;
 use std::sync::ledger::{Blank, Ledger};
 use uf_cid::Cid;
 use uf_fileedit::{truncate, write_at};
-use uf_store::{CallKind, Load, Steps, Store};
+use uf_store::{CallKind, Presence, Steps, Store};
 use uf_tree::{Entry, Profile};
 
 // What is done to a file.
@@ -110,12 +110,12 @@ fn done<L: Ledger>(
     }
 }
 
-// How many loads are left until one fails, at most so many.
+// How many loads are left until one fails, at most so many. A look for a block counts as a load, and reads no bytes.
 fn loads_left<L: Ledger>(store: &mut Kept, cid: &Cid, most: u64, touches: &mut Steps<L>) -> u64
     requires { most < 2 ^ 63 }
 {
     for left in 0..most {
-        if let Load::Failed = store.load(cid, touches) {
+        if let Presence::Failed = store.holds(cid, touches) {
             return left;
         }
     }

@@ -10,7 +10,7 @@ use uf_edge::{Calls, MemHost};
 use uf_host::{AddedRows, HostFault, add, add_apart, hash_rows};
 use uf_murmur::FirstEight;
 use uf_store::{MemStore, Steps, StoreFault};
-use uf_testing::{Node, host_of, put_first, put_in, text_of};
+use uf_testing::{HostNode, host_of, put_first, put_in, text_of};
 use uf_tree::Profile;
 
 // A file of no bytes, of `hello world`, and directories of empty files under the names `a` and `b`.
@@ -24,7 +24,7 @@ const JUST_A: &str = "bafybeihwqttitc7rssowlfhx3edhljr3kb5ax5l52pt7r3zdtbg5na7bh
 
 const A_AND_B: &str = "bafybeiawjw5vczq77gskoakd6753fcjvzcuid75mfwu6piefq47yg6pug4";
 
-const FOLDER: [Node<'static>; 3] = [
+const FOLDER: [HostNode<'static>; 3] = [
     ("", "d", None),
     ("d", "b", Some(b"")),
     ("d", "a", Some(b"")),
@@ -97,32 +97,32 @@ fn adds<L: Ledger>(
 
 // What is in a host, the threshold, the path and whether folders are taken, and the texts in a row that are to come.
 type Row = (
-    &'static [Node<'static>],
+    &'static [HostNode<'static>],
     u32,
     &'static str,
     bool,
     &'static [&'static str],
 );
 
-const HW: [Node<'static>; 1] = [("", "hw", Some(b"hello world"))];
+const HW: [HostNode<'static>; 1] = [("", "hw", Some(b"hello world"))];
 
-const TOP: [Node<'static>; 1] = [("/", "a", Some(b""))];
+const TOP: [HostNode<'static>; 1] = [("/", "a", Some(b""))];
 
-const BOTH: [Node<'static>; 4] = [
+const BOTH: [HostNode<'static>; 4] = [
     ("", "d", None),
     ("d", "e", None),
     ("d/e", "a", Some(b"")),
     ("d", "f", Some(b"hello world")),
 ];
 
-const BAD: [Node<'static>; 4] = [
+const BAD: [HostNode<'static>; 4] = [
     ("", "d", None),
     ("d", "..", None),
     ("d/..", "x", Some(b"")),
     ("d", "a", Some(b"")),
 ];
 
-const LATE: [Node<'static>; 5] = [
+const LATE: [HostNode<'static>; 5] = [
     ("", "d", None),
     ("d", "e", None),
     ("d/e", ".", Some(b"")),
@@ -130,13 +130,13 @@ const LATE: [Node<'static>; 5] = [
     ("d/f", "..", None),
 ];
 
-const TWINS: [Node<'static>; 3] = [
+const TWINS: [HostNode<'static>; 3] = [
     ("", "d", None),
     ("d", "samename2", Some(b"")),
     ("d", "samename1", Some(b"")),
 ];
 
-const AFTER: [Node<'static>; 5] = [
+const AFTER: [HostNode<'static>; 5] = [
     ("", "d", None),
     ("d", "samename2", Some(b"")),
     ("d", "samename1", Some(b"")),
@@ -207,7 +207,7 @@ fn rows_hold<L: Ledger>(alloc: Global, touches: &mut Steps<L>) -> Result<bool, M
 fn fails_at<L: Ledger>(alloc: Global, number: u64, touches: &mut Steps<L>) -> Result<Text, Memory> {
     let mut fail = Calls::new(alloc);
     fail.push(number.saturating_add(11))?;
-    let nodes: &[Node<'_>] = &[
+    let nodes: &[HostNode<'_>] = &[
         ("", "d", None),
         ("d", "b", Some(b"")),
         ("d", "a", Some(b"hello world")),
@@ -265,7 +265,12 @@ fn hashes(alloc: Global, host: &mut MemHost, path: &Text) -> Result<Text, Memory
 }
 
 // Whether a folder has these rows in both ways.
-fn is_apart(alloc: Global, nodes: &[Node<'_>], path: &str, wanted: &str) -> Result<bool, Memory> {
+fn is_apart(
+    alloc: Global,
+    nodes: &[HostNode<'_>],
+    path: &str,
+    wanted: &str,
+) -> Result<bool, Memory> {
     let mut host = host_of(alloc, nodes, Calls::new(alloc))?;
     let path = text_of(alloc, &[path])?;
     let kept = adds_apart(alloc, &mut host, &path)?;

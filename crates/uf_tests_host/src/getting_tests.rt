@@ -12,11 +12,11 @@ use uf_host::{HostFault, add, get};
 use uf_lenient::Limits;
 use uf_murmur::FirstEight;
 use uf_store::{MemStore, Steps};
-use uf_testing::{Node, calls, host_of};
+use uf_testing::{HostNode, calls, host_of};
 use uf_tree::Profile;
 
 // What is written: a file of twelve nodes, a folder with an empty file, and an empty folder.
-const SOURCE: [Node<'static>; 5] = [
+const SOURCE: [HostNode<'static>; 5] = [
     ("", "d", None),
     ("d", "a", Some(b"hello world")),
     ("d", "e", None),
@@ -66,7 +66,7 @@ fn added<L: Ledger>(
 // What is written where, and how.
 #[derive(Drop)]
 struct Row<'a> {
-    nodes: &'a [Node<'a>],
+    nodes: &'a [HostNode<'a>],
     path: &'a str,
     limits: Limits,
     lost: bool,
@@ -128,7 +128,7 @@ fn written<L: Ledger>(
 // Whether the source is written to a path as it is wanted.
 fn is_row<L: Ledger>(
     alloc: Global,
-    nodes: &[Node<'_>],
+    nodes: &[HostNode<'_>],
     path: &str,
     wanted: &str,
     touches: &mut Steps<L>,
@@ -146,10 +146,10 @@ fn is_row<L: Ledger>(
 
 // Whether each row is as it is wanted.
 fn rows_hold<L: Ledger>(alloc: Global, touches: &mut Steps<L>) -> Result<bool, Memory> {
-    let none: &[Node<'_>] = &[];
-    let file: &[Node<'_>] = &[("", "f", Some(b"x"))];
-    let folder: &[Node<'_>] = &[("", "g", None)];
-    let rows: [(&[Node<'_>], &str, &str); 12] = [
+    let none: &[HostNode<'_>] = &[];
+    let file: &[HostNode<'_>] = &[("", "f", Some(b"x"))];
+    let folder: &[HostNode<'_>] = &[("", "g", None)];
+    let rows: [(&[HostNode<'_>], &str, &str); 12] = [
         (none, "out", "ok"),
         (none, "out//", "ok"),
         (none, "/out", "ok"),

@@ -1,0 +1,218 @@
+//! The parts of a transcript, and their lines.
+
+ghost use Rattle.std.specs.Prelude.{◌≡◌, ◌<◌};
+
+use crate::scene::{Scene, set};
+use std::alloc::Global;
+use std::marker::Brand;
+use std::sync::ledger::{Blank, Ledger};
+use uf_cid::{Block, BlockHash, Memory, Sha256Hash, Sum8Hash};
+use uf_store::Steps;
+use uf_testing::{Sheet, begins_row, ends_part, say, word_and_rest};
+
+/// The calls that a program makes.
+pub trait Caller {
+    /// Makes the call of a line, and tells what comes of it; whether the line names one of these calls.
+    fn call<X: BlockHash, L: Ledger>(
+        scene: &mut Scene<X>,
+        line: &str,
+        told: &mut Block,
+        touches: &mut Steps<L>,
+    ) -> Result<bool, Memory>;
+}
+
+/// How a program plays the parts of a transcript.
+pub trait Player {
+    /// Plays a part over a scene in which there is nothing.
+    fn play<X: BlockHash, L: Ledger>(
+        scene: &mut Scene<X>,
+        title: &str,
+        part: &str,
+        sheet: &mut Sheet,
+        touches: &mut Steps<L>,
+    ) -> Result<(), Memory>;
+}
+
+// Makes a call, and tells what comes of it.
+fn call<C: Caller, X: BlockHash, L: Ledger>(
+    scene: &mut Scene<X>,
+    line: &str,
+    told: &mut Block,
+    touches: &mut Steps<L>,
+) -> Result<(), Memory> {
+    if C::call::<X, L>(scene, line, told, touches)? {
+        Ok(())
+    } else {
+        say(told, "no such call")
+    }
+}
+
+// Makes several calls, one after the other: `CALL then CALL`.
+fn call_each<C: Caller, X: BlockHash, L: Ledger>(
+    scene: &mut Scene<X>,
+    line: &str,
+    told: &mut Block,
+    touches: &mut Steps<L>,
+) -> Result<(), Memory> {
+    for one in line.split(" then ") {
+        call::<C, X, L>(scene, one, told, touches)?;
+    }
+    Ok(())
+}
+
+// Makes calls on each prefix of the input over an empty store, and tells what came of them where that isn't what came of
+// the prefix before: `! fronts CALL then CALL`.
+fn call_fronts<C: Caller, X: BlockHash, L: Ledger>(
+    scene: &mut Scene<X>,
+    line: &str,
+    told: &mut Block,
+    touches: &mut Steps<L>,
+) -> Result<(), Memory> {
+    let whole = scene.input.copy()?;
+    let mut last = Block::new(scene.alloc);
+    for end in 0..whole.as_slice().len().saturating_add(1) {
+        call_front::<C, X, L>(
+            scene,
+            &whole.as_slice()[..end],
+            line,
+            (told, &mut last),
+            touches,
+        )?;
+    }
+    Ok(())
+}
+
+fn call_front<C: Caller, X: BlockHash, L: Ledger>(
+    scene: &mut Scene<X>,
+    front: &[u8],
+    line: &str,
+    answers: (&mut Block, &mut Block),
+    touches: &mut Steps<L>,
+) -> Result<(), Memory> {
+    let (told, last) = answers;
+    let mut now = Block::new(scene.alloc);
+    scene.input = Block::from_slice(scene.alloc, front)?;
+    let _ = scene.take_store();
+    call_each::<C, X, L>(scene, line, &mut now, touches)?;
+    tell_new(
+        scene.alloc,
+        front.len(),
+        now.as_slice(),
+        last.as_slice(),
+        told,
+    )?;
+    *last = now;
+    Ok(())
+}
+
+// Tells what came of a prefix, where it isn't what came of the one before.
+fn tell_new(
+    alloc: Global,
+    end: usize,
+    now: &[u8],
+    last: &[u8],
+    told: &mut Block,
+) -> Result<(), Memory> {
+    if now == last {
+        return Ok(());
+    }
+    let head = format!(in alloc; "> front {end}\n")?;
+    told.extend(head.as_bytes())?;
+    told.extend(now)
+}
+
+fn step<C: Caller, X: BlockHash, L: Ledger>(
+    scene: &mut Scene<X>,
+    line: &str,
+    told: &mut Block,
+    touches: &mut Steps<L>,
+) -> Result<(), Memory> {
+    let (mark, rest) = word_and_rest(line);
+    let (word, more) = word_and_rest(rest);
+    match (mark, word) {
+        ("$", _) => call::<C, X, L>(scene, rest, told, touches),
+        ("!", "fronts") => call_fronts::<C, X, L>(scene, more, told, touches),
+        ("!", _) => set(scene, rest, told),
+        _ => Ok(()),
+    }
+}
+
+/// Plays these lines of a part, each over what the one before left.
+pub fn play_lines<C: Caller, X: BlockHash, L: Ledger>(
+    scene: &mut Scene<X>,
+    title: &str,
+    lines: &str,
+    sheet: &mut Sheet,
+    touches: &mut Steps<L>,
+) -> Result<(), Memory> {
+    for line in lines.lines() {
+        if begins_row(title, line, sheet)? {
+            step::<C, X, L>(scene, line, &mut sheet.came, touches)?;
+        }
+    }
+    sheet.settle(title)
+}
+
+fn play<P: Player, X: BlockHash, L: Ledger>(
+    alloc: Global,
+    title: &str,
+    part: &str,
+    sheet: &mut Sheet,
+    touches: &mut Steps<L>,
+) -> Result<(), Memory> {
+    let mut scene = Scene::<X>::new(alloc);
+    P::play::<X, L>(&mut scene, title, part, sheet, touches)
+}
+
+// Plays a part, whose first line says by which hash blocks are named.
+fn play_part<P: Player, L: Ledger>(
+    alloc: Global,
+    part: &str,
+    sheet: &mut Sheet,
+    touches: &mut Steps<L>,
+) -> Result<(), Memory> {
+    let title = part.lines().next().unwrap_or("");
+    if title.starts_with("@ sum8") {
+        return play::<P, Sum8Hash, L>(alloc, title, part, sheet, touches);
+    }
+    play::<P, Sha256Hash, L>(alloc, title, part, sheet, touches)
+}
+
+// Plays all parts, between which there are empty lines.
+fn play_parts<P: Player, L: Ledger>(
+    alloc: Global,
+    script: &str,
+    sheet: &mut Sheet,
+    touches: &mut Steps<L>,
+) -> Result<(), Memory> {
+    let mut is_first = true;
+    for part in script.split("\n\n") {
+        if !is_first {
+            ends_part(sheet)?;
+        }
+        is_first = false;
+        play_part::<P, L>(alloc, part, sheet, touches)?;
+    }
+    Ok(())
+}
+
+// What comes of a transcript, over the blank of a count of touches.
+fn play_counted<P: Player, L: Ledger>(
+    alloc: Global,
+    script: &str,
+    blank: Blank,
+) -> Result<Sheet, Memory>
+    requires name { blank.name ≡ L.name }
+    requires parts { blank.parts ≡ L.parts }
+    requires some { 0 < blank.parts }
+{
+    let mut touches = Steps::<L>::new(blank);
+    let mut sheet = Sheet::new(alloc);
+    play_parts::<P, L>(alloc, script, &mut sheet, &mut touches)?;
+    Ok(sheet)
+}
+
+/// What comes of a transcript.
+pub fn play_all<P: Player>(alloc: Global, script: String) -> Result<Sheet, Memory> {
+    play_counted::<P, Brand>(alloc, script.as_str(), Blank::new(1))
+}

@@ -1,4 +1,0 @@
-use Rattle.uf_tests_dir.proofs.shard_build_tests.found.Given as goal
-
-abbrev pub ghosts-find_counted : goal.ghosts-find_counted
-ghosts-find_counted g a = record { name = a.blank.name; parts = a.blank.parts }

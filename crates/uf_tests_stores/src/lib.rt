@@ -1,5 +1,0 @@
-//! Rows of pulls, of which no command tells.
-#![tactic(auto)]
-
-#[cfg(test)]
-mod pull_tests;
