@@ -7,9 +7,13 @@ use Rattle.std.specs.FinMap.Entries.{below_all, is_sorted}
 use Rattle.std.specs.List.{AllByRecursion, flat_map}
 use Rattle.std.specs.List.Sorted.{IsStrictlySortedBy}
 use Rattle.std.specs.Ordering.{is_lt, nat_cmp}
+use Rattle.std.proofs.lemmas.Grind.{flat_map-append}
+use Rattle.std.proofs.lemmas.List.{append-nil}
 use Rattle.std.specs.Cmp.Lexicographic.{slice_cmp}
 use Rattle.uf_cid.specs.Blocks.{Held}
+use Rattle.uf_store.specs.Among.{SavesAmong}
 use Rattle.uf_store.specs.Contents.{Told}
+use Rattle.uf_store.proofs.Among.{SavesAmong-append}
 use Rattle.uf_store.specs.Keeping.{AreGood, Holds, KeepsGood}
 use Rattle.uf_store.proofs.Keeping.{Holds-append, Holds-kept}
 use Rattle.uf_tree.specs.Metas.{none}
@@ -25,7 +29,7 @@ use Rattle.uf_tree.proofs.TreeLaws.{fold_each-pairs, meta-entries, pairs-entries
 use Rattle.uf_tree.proofs.Valid.{entry-valid}
 use Rattle.uf_tree.specs.declared.meta.Meta.{Meta}
 use Rattle.uf_laws.proofs.Held.{tree-digested}
-use Rattle.uf_host.specs.Adding.{HasHeldPlan, IsMember}
+use Rattle.uf_host.specs.Adding.{HasHeldPlan, IsMember, members_blocks}
 use Rattle.uf_host.specs.HostTree.{Members, with_entries}
 
 and-true : (a b : Bool) → a ≡ true → b ≡ true → a && b ≡ true
@@ -63,6 +67,23 @@ module _ (X : List ℕ → List ℕ) (N : List ℕ → ℕ) (p : Profile) where
 
   blocks-is : (ms : Members) → blocks X N p (Dir (entries none ms)) ≡ below_blocks ms ++ (own_plan X N p none (with_entries X N p ms)).blocks
   blocks-is ms = ap (λ (q : Planned). q.plan.blocks) (planned-dir ms) ∙ ap (λ l. below_blocks ms ++ (own_plan X N p none l).blocks) (members-plans ms)
+
+  below-members : (ms : Members) → below_blocks ms ≡ members_blocks X N p ms
+  below-members [] = refl
+  below-members (m ∷ ms) = ap (λ l. blocks X N p m.1 ++ l) (below-members ms)
+
+  pub blocks-more : (ms : Members) (name : List ℕ) (t : Tree) → members_blocks X N p (ms ++ (name, t) ∷ []) ≡ members_blocks X N p ms ++ blocks X N p t
+  blocks-more ms name t =
+      flat_map-append (λ (m : List ℕ × Tree). blocks X N p m.1) ms ((name, t) ∷ []) ∙ ap (λ l. members_blocks X N p ms ++ l) (append-nil (blocks X N p t))
+
+  -- what is saved of the members, and then of the folder
+  pub folder-saves : (ms : Members) (l : List Named) (start a b : Told) → l ≡ with_entries X N p ms → SavesAmong X (members_blocks X N p ms) start a → SavesAmong X (own_plan X N p none l).blocks a b
+      → SavesAmong X (blocks X N p (Dir (entries none ms))) start b
+  folder-saves ms l start a b is first then =
+      let own : List Held = (own_plan X N p none (with_entries X N p ms)).blocks in
+      let whole : members_blocks X N p ms ++ own ≡ blocks X N p (Dir (entries none ms)) = ap (λ k. k ++ own) (sym (below-members ms)) ∙ sym (blocks-is ms) in
+      subst (λ (k : List Held). SavesAmong X k start b) whole
+      (SavesAmong-append X (members_blocks X N p ms) own start a b first (subst (λ (k : List Named). SavesAmong X (own_plan X N p none k).blocks a b) is then))
 
   refusal-is : (ms : Members) → refusal X N p (Dir (entries none ms)) ≡ or_else (first_refusal (plans ms)) (dir_refusal X N p none (with_entries X N p ms))
   refusal-is ms = ap (λ (q : Planned). q.refusal) (planned-dir ms) ∙ ap (λ l. or_else (first_refusal (plans ms)) (dir_refusal X N p none l)) (members-plans ms)

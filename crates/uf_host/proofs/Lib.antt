@@ -4,6 +4,7 @@ pub mod Saids
 pub mod Takings
 pub mod Texts
 pub mod Walks
+pub mod Stops
 pub mod Below
 pub mod Puttings
 pub mod Members

@@ -21,7 +21,10 @@ use Rattle.uf_tree.specs.FilePlan.{file_plan}
 use Rattle.uf_shard.specs.Answers.{Gives}
 use Rattle.uf_shard.specs.declared.fault.DirFault.{DirFault}
 use Rattle.uf_shard.specs.declared.fault.DirFault.TheVariants as directory
+use Rattle.uf_cid.specs.Blocks.{Held}
+use Rattle.uf_store.specs.Among.{SavesAmong}
 use Rattle.uf_store.specs.Contents.{Told}
+use Rattle.uf_store.proofs.Among.{SavesAmong-append, SavesAmong-refl}
 use Rattle.uf_store.specs.Keeping.{Holds, KeepsGood}
 use Rattle.uf_tree.specs.Names.{is_name}
 use Rattle.uf_tree.specs.Profiles.{most_bytes}
@@ -32,7 +35,7 @@ use Rattle.uf_tree.specs.DirPlan.{own_plan}
 use Rattle.uf_tree.specs.Nodes.{Named}
 use Rattle.uf_tree.specs.declared.nodes.Entry.{Entry}
 use Rattle.uf_tree.specs.declared.profile.Profile.{Profile}
-use Rattle.uf_host.specs.Adding.{AddsAs, AddsAt, AddsBelow, AddsMember, AddsRow, AddsTree, HasHeldPlan, IsMember, IsOfMembers, IsRefusal, IsSaid}
+use Rattle.uf_host.specs.Adding.{AddsAs, AddsAt, AddsBelow, AddsMember, AddsRow, AddsTree, HasHeldPlan, IsMember, IsOfMembers, IsRefusal, IsSaid, members_blocks}
 use Rattle.uf_host.specs.Faults.{for_one, of_directory}
 use Rattle.uf_host.specs.Paths.{is_folder_there}
 use Rattle.uf_host.specs.HostTree.{Members, Walk, directory_of, each_member, member_at, rows_below, rows_in, rows_of, tree_there, unless_refused, walk_down, walk_of, with_entries}
@@ -43,7 +46,7 @@ use Rattle.uf_host.specs.declared.fault.HostFault.TheVariants as faults
 use Rattle.uf_host.specs.declared.import.AddedRow.{AddedRow}
 use Rattle.uf_host.specs.declared.site.Site.{Site}
 use Rattle.uf_host.proofs.Bytes.{bytes-all}
-use Rattle.uf_host.proofs.Folders.{entry-is, folder-plan, members-kept, sorted-names}
+use Rattle.uf_host.proofs.Folders.{blocks-more, entry-is, folder-plan, folder-saves, members-kept, sorted-names}
 use Rattle.uf_host.proofs.Saids.{bare-said, one-said, refusal-more, said-more, told-both, told-more}
 
 -- ---- members in a row
@@ -125,7 +128,7 @@ module _ (X : List ℕ → List ℕ) (N : List ℕ → ℕ) (p : Profile) where
   rows-whole row (Dir es) = refl
 
   module _ (host : HostTold) (levels : ℕ) (site : Site) where
-    pub members-none : (told : Told) (rows : List AddedRow) → IsOfMembers X N p told host levels site [] rows rows []
+    pub members-none : (told : Told) (rows : List AddedRow) → IsOfMembers X N p told told host levels site [] rows rows []
     unfolding rows_of
     members-none told rows = record {
       members = [];
@@ -134,16 +137,17 @@ module _ (X : List ℕ → List ℕ) (N : List ℕ → ℕ) (p : Profile) where
       is = refl;
       rows_are = sym (append-nil rows);
       said = by host;
+      no_other = SavesAmong-refl X [] told;
     }
       where
         by : (h : HostTold) → IsSaid h (λ tree. each_member (walk_down X N p tree levels) site.path []) (Ok [])
         by None = tt
         by (Some tree) = refl
 
-    pub members-more : (a b : Told) (names : List (List ℕ)) (name : List ℕ) (rows mid rows_now : List AddedRow) (l : List Named) (e : Named)
-        → KeepsGood X a b → IsOfMembers X N p a host levels site names rows mid l → AddsMember X N p b host levels site name mid rows_now (Ok e)
-        → IsOfMembers X N p b host levels site (names ++ name ∷ []) rows rows_now (l ++ e ∷ [])
-    members-more a b names name rows mid rows_now l e keeps are adds =
+    pub members-more : (start a b : Told) (names : List (List ℕ)) (name : List ℕ) (rows mid rows_now : List AddedRow) (l : List Named) (e : Named)
+        → KeepsGood X a b → IsOfMembers X N p start a host levels site names rows mid l → AddsMember X N p a b host levels site name mid rows_now (Ok e)
+        → IsOfMembers X N p start b host levels site (names ++ name ∷ []) rows rows_now (l ++ e ∷ [])
+    members-more start a b names name rows mid rows_now l e keeps are adds =
         let t = adds.adds.0 in let added = adds.adds.1 in let said = adds.adds.2 in
         let ms = are.members in
         record {
@@ -156,16 +160,17 @@ module _ (X : List ℕ → List ℕ) (N : List ℕ → ℕ) (p : Profile) where
               ∙ append_assoc rows (rows_in X N p site.row (entries none ms)) (rows_of X N p (site.row ++ 47 ∷ name) t)
               ∙ ap (λ xs. rows ++ xs) (sym (rows-more site.row ms name t));
           said = told-both host _ _ _ (λ tree h k. each-more (walk_down X N p tree levels) site.path names name ms t h k) are.said said;
+          no_other = subst (λ (l : List Held). SavesAmong X l start b) (sym (blocks-more X N p ms name t)) (SavesAmong-append X (members_blocks X N p ms) (plan.blocks X N p t) start a b are.no_other added.no_other);
         }
       where
         pair-is : (e : Named) (name : List ℕ) (x : Entry) → e.0 ≡ name → e.1 ≡ x → e ≡ (name, x)
         pair-is (n, y) name x h k = ap (λ m. (m, y)) h ∙ ap (λ z. (name, z)) k
 
-    pub members-fault : (a : Told) (names later all : List (List ℕ)) (name : List ℕ) (rows mid : List AddedRow) (l : List Named) (f : HostFault)
-        → all ≡ names ++ name ∷ later → IsOfMembers X N p a host levels site names rows mid l
+    pub members-fault : (start a : Told) (names later all : List (List ℕ)) (name : List ℕ) (rows mid : List AddedRow) (l : List Named) (f : HostFault)
+        → all ≡ names ++ name ∷ later → IsOfMembers X N p start a host levels site names rows mid l
         → IsRefusal host (λ tree. member_at (walk_down X N p tree levels) site.path name) f
         → IsRefusal host (λ tree. each_member (walk_down X N p tree levels) site.path all) f
-    members-fault a names later all name rows mid l f is are refused = by host are.said refused
+    members-fault start a names later all name rows mid l f is are refused = by host are.said refused
       where
         by : (h : HostTold) → IsSaid h (λ tree. each_member (walk_down X N p tree levels) site.path names) (Ok are.members)
             → IsRefusal h (λ tree. member_at (walk_down X N p tree levels) site.path name) f
@@ -184,15 +189,15 @@ module _ (X : List ℕ → List ℕ) (N : List ℕ → ℕ) (p : Profile) where
       → member_at (walk_down X N p tree levels) site.path name ≡ Err (faults.Name (front site.path ++ name))
   bad-walk levels site name tree h = ap (λ (b : Bool). cond b (walk_down X N p tree levels (front site.path ++ name)) (Err (faults.Name (front site.path ++ name)))) h
 
-  pub member-added : (told : Told) (host : HostTold) (levels : ℕ) (site below : Site) (name own : List ℕ) (rows rows_now : List AddedRow) (e : Entry)
+  pub member-added : (before told : Told) (host : HostTold) (levels : ℕ) (site below : Site) (name own : List ℕ) (rows rows_now : List AddedRow) (e : Entry)
       → below.path ≡ front site.path ++ name → below.row ≡ site.row ++ 47 ∷ name → own ≡ name → IsTrue (is_name name)
-      → AddsAt X N p told host levels below rows rows_now (Ok e) → AddsMember X N p told host levels site name rows rows_now (Ok (own, e))
-  member-added told host levels site below name own rows rows_now e path row same good adds = record {
+      → AddsAt X N p before told host levels below rows rows_now (Ok e) → AddsMember X N p before told host levels site name rows rows_now (Ok (own, e))
+  member-added before told host levels site below name own rows rows_now e path row same good adds = record {
     same = same;
     good = good;
     adds = (
       adds.0,
-      subst (λ r. AddsTree X N p told (rows_of X N p r adds.0) rows rows_now adds.0 e) row adds.1,
+      subst (λ r. AddsTree X N p before told (rows_of X N p r adds.0) rows rows_now adds.0 e) row adds.1,
       told-more host _ _ (λ tree h. good-walk levels site name tree good ∙ ap (walk_down X N p tree levels) (sym path) ∙ h) adds.2,
     );
   }
@@ -215,7 +220,7 @@ module _ (X : List ℕ → List ℕ) (N : List ℕ → ℕ) (p : Profile) where
 
   -- ---- a file
 
-  file-walk : (tree : HostTree) (levels : ℕ) (path bytes : List ℕ) → get tree path ≡ Some (place.File bytes)
+  pub file-walk : (tree : HostTree) (levels : ℕ) (path bytes : List ℕ) → get tree path ≡ Some (place.File bytes)
       → walk_down X N p tree levels path ≡ unless_refused path (File none bytes) (plan.too_long p bytes)
   unfolding walk_down
   file-walk tree zero path bytes there = ap (tree_there X N p (Err (faults.TooDeep path)) path) there
@@ -242,18 +247,19 @@ module _ (X : List ℕ → List ℕ) (N : List ℕ → ℕ) (p : Profile) where
   unfolding planned fold
   entry-file bytes = refl
 
-  blocks-file : (bytes : List ℕ) → plan.blocks X N p (File none bytes) ≡ (file_plan X p none bytes).blocks
+  pub blocks-file : (bytes : List ℕ) → plan.blocks X N p (File none bytes) ≡ (file_plan X p none bytes).blocks
   unfolding planned fold
   blocks-file bytes = refl
 
-  pub file-below : (told : Told) (host : HostTold) (levels : ℕ) (site : Site) (rows rows_now : List AddedRow) (r : Result Entry HostFault)
-      → IsFileAt host site.path → rows_now ≡ rows → AddsFile X p told host site.path r → AddsBelow X N p told host levels site rows rows_now r
-  file-below told host levels site rows rows_now (Ok e) file same adds = (
+  pub file-below : (before told : Told) (host : HostTold) (levels : ℕ) (site : Site) (rows rows_now : List AddedRow) (r : Result Entry HostFault)
+      → IsFileAt host site.path → rows_now ≡ rows → AddsFile X p before told host site.path r → AddsBelow X N p before told host levels site rows rows_now r
+  file-below before told host levels site rows rows_now (Ok e) file same adds = (
     File none adds.bytes,
     record {
       plan = file-plan told adds.bytes (is-file adds.bytes adds.are_bytes) adds.few (subst (Holds told) (sym (blocks-file adds.bytes)) adds.held);
       entry_is = adds.entry_is ∙ sym (entry-file adds.bytes);
       rows_are = same ∙ sym (append-nil rows);
+      no_other = subst (λ (l : List Held). SavesAmong X l before told) (sym (blocks-file adds.bytes)) adds.no_other;
     },
     by host file adds.is,
   )
@@ -265,7 +271,7 @@ module _ (X : List ℕ → List ℕ) (N : List ℕ → ℕ) (p : Profile) where
           file-walk tree levels site.path file.bytes file.there
           ∙ ap (λ (b : List ℕ). unless_refused site.path (File none b) (plan.too_long p b)) (is file.bytes file.there)
           ∙ ap (unless_refused site.path (File none adds.bytes)) (long-not adds.bytes adds.few)
-  file-below told host levels site rows rows_now (Err f) file same adds = said-more (IsLongFile p host site.path) (λ f. IsSaid host (λ tree. walk_down X N p tree levels site.path) (Err f)) f (λ long. by host file long) adds
+  file-below before told host levels site rows rows_now (Err f) file same adds = said-more (IsLongFile p host site.path) (λ f. IsSaid host (λ tree. walk_down X N p tree levels site.path) (Err f)) f (λ long. by host file long) adds
     where
       by : (h : HostTold) → IsFileAt h site.path → IsLongFile p h site.path f → IsSaid h (λ tree. walk_down X N p tree levels site.path) (Err f)
       by None file long = tt
@@ -276,7 +282,7 @@ module _ (X : List ℕ → List ℕ) (N : List ℕ → ℕ) (p : Profile) where
 
   -- ---- nothing, and a folder
 
-  absent-walk : (tree : HostTree) (levels : ℕ) (path : List ℕ) → get tree path ≡ None → walk_down X N p tree levels path ≡ Err faults.Absent
+  pub absent-walk : (tree : HostTree) (levels : ℕ) (path : List ℕ) → get tree path ≡ None → walk_down X N p tree levels path ≡ Err faults.Absent
   unfolding walk_down
   absent-walk tree zero path absent = ap (tree_there X N p (Err (faults.TooDeep path)) path) absent
   absent-walk tree (suc levels) path absent = ap (tree_there X N p (each_member (walk_down X N p tree levels) path (names_in tree path) >>= directory_of X N p path) path) absent
@@ -291,7 +297,7 @@ module _ (X : List ℕ → List ℕ) (N : List ℕ → ℕ) (p : Profile) where
   deep-said (Some tree) levels path zero_is folder =
       ap (λ n. walk_down X N p tree n path) zero_is ∙ ap (tree_there X N p (Err (faults.TooDeep path)) path) folder
 
-  folder-walk : (tree : HostTree) (levels below : ℕ) (path : List ℕ) (names : List (List ℕ)) → levels ≡ suc below → get tree path ≡ Some place.Folder → names ≡ names_in tree path
+  pub folder-walk : (tree : HostTree) (levels below : ℕ) (path : List ℕ) (names : List (List ℕ)) → levels ≡ suc below → get tree path ≡ Some place.Folder → names ≡ names_in tree path
       → walk_down X N p tree levels path ≡ (each_member (walk_down X N p tree below) path names >>= directory_of X N p path)
   unfolding walk_down
   folder-walk tree levels below path names one there is =
@@ -322,12 +328,12 @@ module _ (X : List ℕ → List ℕ) (N : List ℕ → ℕ) (p : Profile) where
       by (Some tree) folder is h = folder-walk tree levels below path names one folder is ∙ ap (λ (r : Result Members HostFault). r >>= directory_of X N p path) h ∙ gives
 
   -- the directory of the members was built, or refused
-  pub folder-below : (a b : Told) (host : HostTold) (levels below : ℕ) (site : Site) (names : List (List ℕ)) (rows rows_now : List AddedRow) (l : List Named) (e : Entry)
+  pub folder-below : (start a b : Told) (host : HostTold) (levels below : ℕ) (site : Site) (names : List (List ℕ)) (rows rows_now : List AddedRow) (l : List Named) (e : Entry)
       → levels ≡ suc below → IsFolderAt host site.path → AreNames names host site.path → KeepsGood X a b
-      → IsOfMembers X N p a host below site names rows rows_now l
+      → IsOfMembers X N p start a host below site names rows rows_now l
       → Gives (plan.dir_refusal X N p none l) (own_plan X N p none l).entry (Ok e) → Holds b (own_plan X N p none l).blocks
-      → AddsBelow X N p b host levels site rows rows_now (Ok e)
-  folder-below a b host levels below site names rows rows_now l e one folder are keeps of gives held =
+      → SavesAmong X (own_plan X N p none l).blocks a b → AddsBelow X N p start b host levels site rows rows_now (Ok e)
+  folder-below start a b host levels below site names rows rows_now l e one folder are keeps of gives held saves =
       let ms = of.members in
       let whole : plan.dir_refusal X N p none (with_entries X N p ms) ≡ None = ap (plan.dir_refusal X N p none) (sym of.is) ∙ gives.0 in
       let sorted = sorted-names ms (subst (IsStrictlySortedBy (slice_cmp nat_cmp)) (sym of.are_named) are.ascend) in (
@@ -336,28 +342,29 @@ module _ (X : List ℕ → List ℕ) (N : List ℕ → ℕ) (p : Profile) where
           plan = folder-plan X N p b ms (members-kept X N p a b ms keeps of.each) sorted whole (subst (λ (l : List Named). Holds b (own_plan X N p none l).blocks) of.is held);
           entry_is = gives.1 ∙ ap (λ (l : List Named). (own_plan X N p none l).entry) of.is ∙ sym (entry-is X N p ms);
           rows_are = of.rows_are;
+          no_other = folder-saves X N p ms l start a b of.is of.no_other saves;
         },
         members-then host levels below site.path names ms (Ok (Dir (entries none ms))) one folder are (ap (unless_refused site.path (Dir (entries none ms))) whole) of.said,
       )
 
-  pub folder-refused : (a : Told) (host : HostTold) (levels below : ℕ) (site : Site) (names : List (List ℕ)) (rows rows_now : List AddedRow) (l : List Named) (why : DirFault)
+  pub folder-refused : (start a : Told) (host : HostTold) (levels below : ℕ) (site : Site) (names : List (List ℕ)) (rows rows_now : List AddedRow) (l : List Named) (why : DirFault)
       → levels ≡ suc below → IsFolderAt host site.path → AreNames names host site.path
-      → IsOfMembers X N p a host below site names rows rows_now l
+      → IsOfMembers X N p start a host below site names rows rows_now l
       → Gives (plan.dir_refusal X N p none l) (own_plan X N p none l).entry (Err why)
       → IsRefusal host (λ tree. walk_down X N p tree levels site.path) (of_directory why)
-  folder-refused a host levels below site names rows rows_now l (directory.Collision first second) one folder are of gives =
+  folder-refused start a host levels below site names rows rows_now l (directory.Collision first second) one folder are of gives =
       members-then host levels below site.path names of.members (Err (faults.Collision first second)) one folder are
       (ap (λ (l : List Named). unless_refused site.path (Dir (entries none of.members)) (plan.dir_refusal X N p none l)) (sym of.is) ∙ ap (unless_refused site.path (Dir (entries none of.members))) gives) of.said
-  folder-refused a host levels below site names rows rows_now l directory.TooBig one folder are of gives =
+  folder-refused start a host levels below site names rows rows_now l directory.TooBig one folder are of gives =
       members-then host levels below site.path names of.members (Err faults.TooBig) one folder are
       (ap (λ (l : List Named). unless_refused site.path (Dir (entries none of.members)) (plan.dir_refusal X N p none l)) (sym of.is) ∙ ap (unless_refused site.path (Dir (entries none of.members))) gives) of.said
-  folder-refused a host levels below site names rows rows_now l (directory.Store fault) one folder are of gives = gives
+  folder-refused start a host levels below site names rows rows_now l (directory.Store fault) one folder are of gives = gives
 
   -- ---- a row
 
-  pub row-added : (told : Told) (host : HostTold) (levels : ℕ) (site : Site) (rows mid rows_now : List AddedRow) (e : Entry)
-      → AddsBelow X N p told host levels site rows mid (Ok e) → AddsRow site.row e mid rows_now → AddsAt X N p told host levels site rows rows_now (Ok e)
-  row-added told host levels site rows mid rows_now e adds row =
+  pub row-added : (before told : Told) (host : HostTold) (levels : ℕ) (site : Site) (rows mid rows_now : List AddedRow) (e : Entry)
+      → AddsBelow X N p before told host levels site rows mid (Ok e) → AddsRow site.row e mid rows_now → AddsAt X N p before told host levels site rows rows_now (Ok e)
+  row-added before told host levels site rows mid rows_now e adds row =
       let t = adds.0 in let added = adds.1 in (
         t,
         record {
@@ -367,6 +374,7 @@ module _ (X : List ℕ → List ℕ) (N : List ℕ → ℕ) (p : Profile) where
               ∙ append_assoc rows (rows_below X N p site.row t) (record { path = site.row; entry = e } ∷ [])
               ∙ ap (λ (x : Entry). rows ++ (rows_below X N p site.row t ++ record { path = site.row; entry = x } ∷ [])) added.entry_is
               ∙ ap (λ xs. rows ++ xs) (sym (rows-whole site.row t));
+          no_other = added.no_other;
         },
         adds.2,
       )
@@ -394,9 +402,9 @@ module _ (X : List ℕ → List ℕ) (N : List ℕ → ℕ) (p : Profile) where
       ap (λ (o : Option Place). cond (is_folder_there o) (Err faults.NeedsRecursive) (walk_down X N p tree 257 path)) there
       ∙ ap one (sym (ap (tree_there X N p (Err (faults.TooDeep path)) path) there))
 
-  pub one-added : (told : Told) (host : HostTold) (site : Site) (rows rows_now : List AddedRow) (e : Entry) → AddsAt X N p told host 0 site rows rows_now (Ok e)
-      → AddsAs X N p (rows_of X N p site.row) told host (λ tree. walk_of X N p tree false site.path) rows rows_now (Ok e)
-  one-added told host site rows rows_now e adds =
+  pub one-added : (before told : Told) (host : HostTold) (site : Site) (rows rows_now : List AddedRow) (e : Entry) → AddsAt X N p before told host 0 site rows rows_now (Ok e)
+      → AddsAs X N p (rows_of X N p site.row) before told host (λ tree. walk_of X N p tree false site.path) rows rows_now (Ok e)
+  one-added before told host site rows rows_now e adds =
       (adds.0, adds.1, told-more host _ _ (λ tree h. none-walk tree site.path (get tree site.path) refl ∙ ap one h) adds.2)
 
   pub one-refused : (host : HostTold) (path : List ℕ) (f : HostFault) → IsRefusal host (λ tree. walk_down X N p tree 0 path) f

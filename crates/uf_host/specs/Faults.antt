@@ -12,7 +12,8 @@ use Rattle.uf_store.specs.Clashes.{IsSaving}
 use Rattle.uf_store.specs.declared.store.StoreFault.{StoreFault}
 use Rattle.uf_store.specs.declared.store.StoreFault.TheVariants.{Memory}
 use Rattle.uf_host.specs.declared.fault.HostFault.{HostFault}
-use Rattle.uf_host.specs.declared.fault.HostFault.TheVariants.{Absent, NeedsRecursive, Exists, TooDeep, Collision, TooBig, Read, Write, Dag, Store}
+use Rattle.uf_host.specs.declared.fault.HostFault.TheVariants.{Absent, NeedsRecursive, Exists, TooDeep, Collision}
+use Rattle.uf_host.specs.declared.fault.HostFault.TheVariants.{TooBig, Read, Write, Dag, Store}
 
 -- a fault of building a directory
 abbrev pub of_directory : DirFault → HostFault

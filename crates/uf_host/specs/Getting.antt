@@ -1,5 +1,6 @@
 -- What is written to a host of what a CID denotes, or why nothing is.
-use Rattle.std.specs.Prelude.{◌≡◌, ◌≢◌, ◌⊎◌, ◌==◌, ℕ, List, [], length, Bool, IfSome, IsSome, None, Some, not, true, false, ⊤}
+use Rattle.std.specs.Prelude.{◌≡◌, ◌≢◌, ◌⊎◌, ◌==◌, ℕ, List, [], length, Bool, not, true, false, ⊤}
+use Rattle.std.specs.Prelude.{IfSome, IsSome, None, Some}
 use Rattle.std.specs.declared.option.Option.{Option}
 use Rattle.std.specs.List.{list_any}
 use Rattle.std.specs.Borrow.{Bor}

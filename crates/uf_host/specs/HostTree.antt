@@ -17,7 +17,8 @@ use Rattle.uf_tree.specs.TreePlan as plan
 use Rattle.uf_host.specs.Paths.{is_folder_there, trimmed}
 use Rattle.uf_host.specs.declared.import.AddedRow.{AddedRow}
 use Rattle.uf_host.specs.declared.fault.HostFault.{HostFault}
-use Rattle.uf_host.specs.declared.fault.HostFault.TheVariants.{Absent, NeedsRecursive, Name, TooDeep, FileTooLong, Collision, TooBig}
+use Rattle.uf_host.specs.declared.fault.HostFault.TheVariants.{Absent, NeedsRecursive, Name, TooDeep}
+use Rattle.uf_host.specs.declared.fault.HostFault.TheVariants.{FileTooLong, Collision, TooBig}
 
 -- what a walk gives at each path: the tree there, or the first fault
 abbrev pub Walk : Type 0

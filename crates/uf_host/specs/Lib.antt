@@ -6,3 +6,4 @@ pub mod Naming
 pub mod Paths
 pub mod Places
 pub mod Reading
+pub mod Stopping

@@ -1,15 +1,16 @@
 //! Files and folders of a host added.
-ghost use Rattle.std.specs.Prelude.{◌≡◌, IfOk, IsTrue};
+ghost use Rattle.std.specs.Prelude.{◌≡◌, IfOk, IsTrue, OnErr};
 ghost use Rattle.uf_edge.specs.Counts.{Counts};
 ghost use Rattle.uf_store.specs.Calls.{OnlySaves};
 ghost use Rattle.uf_store.specs.Faults.{NoneIsBad, Shown};
 ghost use Rattle.uf_store.specs.Keeping.{KeepsGood};
 ghost use Rattle.uf_store.specs.Writing.{SavesOnly};
 ghost use Rattle.uf_tree.specs.Profiles.{is_profile};
-ghost use Rattle.uf_host.specs.Adding.{AddsAs, AddsFromHost};
+ghost use Rattle.uf_host.specs.Adding.{AddsAs, AddsFromHost, SavesFromHost, SavesReadAt};
 ghost use Rattle.uf_host.specs.Faults.{edge_fault, for_one as of_one, is_read_fault};
 ghost use Rattle.uf_host.specs.HostTree.{rows_of, walk_of};
 ghost use Rattle.uf_host.specs.Paths.{first_row};
+ghost use Rattle.uf_host.specs.Stopping.{levels_of};
 
 use crate::HostFault;
 use crate::import::{AddedRows, Import};
@@ -52,6 +53,8 @@ pub fn add<S: Store, N: NameHash, W: Host, L: Ledger>(
     ensures cause { Shown S.X.block32 NoneIsBad (edge_fault result) (S.seen store.old) (S.seen store.new) }
     ensures good { KeepsGood S.X.block32 (S.seen store.old).told (S.seen store.new).told }
     ensures saves { SavesOnly S.X.block32 (S.seen store.old).told (S.seen store.new).told }
+    ensures no_other { SavesFromHost S.X.block32 N.name64 p.now (S.seen store.old).told (S.seen store.new).told
+        (W.tree host.old) recursive path.now result }
 {
     let site = site_of(alloc, trim(path))?;
     let mut import = Import {
@@ -74,9 +77,12 @@ fn add_from<S: Store, N: NameHash, W: Host, L: Ledger>(
     touches: &mut Steps<L>,
 ) -> Result<Entry, HostFault>
     ensures adds { AddsAs S.X.block32 N.name64 import.old.profile
-        (rows_of S.X.block32 N.name64 import.old.profile site.now.row) (S.seen store.new).told (W.tree host.old)
+        (rows_of S.X.block32 N.name64 import.old.profile site.now.row)
+        (S.seen store.old).told (S.seen store.new).told (W.tree host.old)
         (λ tree. walk_of S.X.block32 N.name64 import.old.profile tree recursive site.now.path)
         import.old.rows import.new.rows result }
+    ensures no_other { OnErr result (SavesReadAt S.X.block32 N.name64 import.old.profile
+        (S.seen store.old).told (S.seen store.new).told (W.tree host.old) (levels_of recursive) site.now.path) }
     ensures saves { OnlySaves S.X.block32 NoneIsBad (edge_fault result) (S.seen store.old) (S.seen store.new) }
     ensures told { W.tree host.new ≡ W.tree host.old }
     ensures reads { Counts (is_read_fault result) (W.read_faults host.old) (W.read_faults host.new) }

@@ -6,7 +6,7 @@ ghost use Rattle.uf_store.specs.Keeping.{KeepsGood};
 ghost use Rattle.uf_store.specs.Writing.{SavesOnly};
 ghost use Rattle.uf_store.specs.declared.store.StoreFault.TheVariants as stops;
 ghost use Rattle.uf_tree.specs.Profiles.{is_profile};
-ghost use Rattle.uf_host.specs.Adding.{AddsFromHost};
+ghost use Rattle.uf_host.specs.Adding.{AddsFromHost, SavesFromHost};
 ghost use Rattle.uf_host.specs.Faults.{edge_fault, is_read_fault};
 
 use crate::import::AddedRows;
@@ -38,6 +38,8 @@ pub fn add_apart<S: Store, N: NameHash, W: Host>(
     ensures cause { Shown S.X.block32 NoneIsBad (edge_fault result) (S.seen store.old) (S.seen store.new) }
     ensures good { KeepsGood S.X.block32 (S.seen store.old).told (S.seen store.new).told }
     ensures saves { SavesOnly S.X.block32 (S.seen store.old).told (S.seen store.new).told }
+    ensures no_other { SavesFromHost S.X.block32 N.name64 p.now (S.seen store.old).told (S.seen store.new).told
+        (W.tree host.old) recursive path.now result }
 {
     counted_add::<S, N, W, Brand>(alloc, store, p, host, path, recursive, Blank::new(1))
 }
@@ -64,6 +66,8 @@ fn counted_add<S: Store, N: NameHash, W: Host, L: Ledger>(
     ensures cause { Shown S.X.block32 NoneIsBad (edge_fault result) (S.seen store.old) (S.seen store.new) }
     ensures good { KeepsGood S.X.block32 (S.seen store.old).told (S.seen store.new).told }
     ensures saves { SavesOnly S.X.block32 (S.seen store.old).told (S.seen store.new).told }
+    ensures no_other { SavesFromHost S.X.block32 N.name64 p.now (S.seen store.old).told (S.seen store.new).told
+        (W.tree host.old) recursive path.now result }
 {
     let mut touches = Steps::<L>::new(blank);
     add::<S, N, W, L>(

@@ -1,14 +1,19 @@
 //! Files of a host read into a store.
-ghost use Rattle.std.specs.Prelude.{◌≡◌, ◌<◌, ◌≤◌, ℕ, List, [], false, length, IfErr, IfOk, IsTrue, OnOk};
+ghost use Rattle.std.specs.Prelude.{◌≡◌, ◌<◌, ◌≤◌, ◌++◌, ℕ, List, [], false, length, IfErr, IfOk, IsTrue, OnErr, OnOk};
+ghost use Rattle.uf_build.specs.Building.{HasFed, SavesForFront};
 ghost use Rattle.uf_edge.specs.Counts.{Counts};
 ghost use Rattle.uf_edge.specs.Host.{IsFileAt};
+ghost use Rattle.uf_store.specs.Among.{SavesAmong};
 ghost use Rattle.uf_store.specs.Calls.{OnlySaves};
 ghost use Rattle.uf_store.specs.Clashes.{IsSaving};
 ghost use Rattle.uf_store.specs.Faults.{NoneIsBad, fault_in};
+ghost use Rattle.uf_tree.specs.FilePlan.{file_plan};
+ghost use Rattle.uf_tree.specs.Metas.{none};
 ghost use Rattle.uf_tree.specs.Profiles.{is_profile, most_bytes};
 ghost use Rattle.uf_tree.specs.declared.profile.Profile.{Profile as TheProfile};
 ghost use Rattle.uf_host.specs.Faults.{edge_fault, is_read_fault};
-ghost use Rattle.uf_host.specs.Reading.{AddsFile, ClosesHostFile, ReadsAll, ReadsNext, TakesPiece, TookBytes};
+ghost use Rattle.uf_host.specs.Reading.{AddsFile, ClosesHostFile, ReadsAll, ReadsNext, SavesFileAt, StopsNext};
+ghost use Rattle.uf_host.specs.Reading.{TakesPiece, TookBytes};
 
 use crate::HostFault;
 use crate::import::Import;
@@ -28,7 +33,10 @@ pub fn add_file<S: Store, W: Host, L: Ledger>(
     touches: &mut Steps<L>,
 ) -> Result<Entry, HostFault>
     requires { IsFileAt (W.tree host.old) path.now }
-    ensures file { AddsFile S.X.block32 import.old.profile (S.seen store.new).told (W.tree host.old) path.now result }
+    ensures file { AddsFile S.X.block32 import.old.profile (S.seen store.old).told (S.seen store.new).told
+        (W.tree host.old) path.now result }
+    ensures no_other { OnErr result (SavesFileAt S.X.block32 import.old.profile
+        (S.seen store.old).told (S.seen store.new).told (W.tree host.old) path.now) }
     ensures saves { OnlySaves S.X.block32 NoneIsBad (edge_fault result) (S.seen store.old) (S.seen store.new) }
     ensures told { W.tree host.new ≡ W.tree host.old }
     ensures reads { Counts (is_read_fault result) (W.read_faults host.old) (W.read_faults host.new) }
@@ -50,6 +58,8 @@ fn close<S: Store, L: Ledger>(
     requires { builder.is_spent ≡ false }
     ensures closes { IfOk result (λ e.
         ClosesHostFile S.X.block32 (S.seen store.old).told (S.seen store.new).told builder e) }
+    ensures no_other { (bytes : List ℕ) → HasFed S.X.block32 bytes builder → SavesAmong S.X.block32
+        (file_plan S.X.block32 builder.profile none bytes).blocks (S.seen store.old).told (S.seen store.new).told }
     ensures fault { IfErr result IsSaving }
     ensures saves { OnlySaves S.X.block32 NoneIsBad (fault_in result) (S.seen store.old) (S.seen store.new) }
 {
@@ -73,8 +83,10 @@ fn feed_all<S: Store, W: Host, L: Ledger>(
     requires file { IsFileAt (W.tree host.old) path.now }
     requires profile { IsTrue (is_profile builder.old.profile) }
     requires fresh { TookBytes S.X.block32 builder.old.profile (S.seen store.old).told [] builder.old }
-    ensures reads_all { ReadsAll S.X.block32 builder.old.profile (S.seen store.new).told (W.tree host.old) path.now
-        builder.new result }
+    ensures reads_all { ReadsAll S.X.block32 builder.old.profile (S.seen store.old).told (S.seen store.new).told
+        (W.tree host.old) path.now builder.new result }
+    ensures no_other { OnErr result (SavesFileAt S.X.block32 builder.old.profile
+        (S.seen store.old).told (S.seen store.new).told (W.tree host.old) path.now) }
     ensures saves { OnlySaves S.X.block32 NoneIsBad (edge_fault result) (S.seen store.old) (S.seen store.new) }
     ensures told { W.tree host.new ≡ W.tree host.old }
     ensures reads { Counts (is_read_fault result) (W.read_faults host.old) (W.read_faults host.new) }
@@ -105,7 +117,11 @@ fn feed_next<S: Store, W: Host, L: Ledger>(
     requires ready { builder.old.is_spent ≡ false }
     ensures reads_next { (p : TheProfile) (bytes : List ℕ)
         → TookBytes S.X.block32 p (S.seen store.old).told bytes builder.old → offset ≡ length bytes
-        → ReadsNext S.X.block32 p (S.seen store.new).told (W.tree host.old) path.now bytes builder.new result }
+        → ReadsNext S.X.block32 p (S.seen store.old).told (S.seen store.new).told (W.tree host.old) path.now bytes
+        builder.new result }
+    ensures no_other { OnErr result ((p : TheProfile) (bytes : List ℕ)
+        → TookBytes S.X.block32 p (S.seen store.old).told bytes builder.old → offset ≡ length bytes
+        → StopsNext S.X.block32 p (S.seen store.old).told (S.seen store.new).told (W.tree host.old) path.now bytes) }
     ensures saves { OnlySaves S.X.block32 NoneIsBad (edge_fault result) (S.seen store.old) (S.seen store.new) }
     ensures told { W.tree host.new ≡ W.tree host.old }
     ensures reads { Counts (is_read_fault result) (W.read_faults host.old) (W.read_faults host.new) }
@@ -134,6 +150,8 @@ fn feed_piece<S: Store, L: Ledger>(
     ensures takes { (p : TheProfile) (bytes : List ℕ)
         → TookBytes S.X.block32 p (S.seen store.old).told bytes builder.old
         → TakesPiece S.X.block32 p (S.seen store.new).told path.now bytes piece.now builder.new result }
+    ensures no_other { (bytes : List ℕ) → HasFed S.X.block32 bytes builder.old → SavesForFront S.X.block32
+        builder.old.profile (bytes ++ piece.now) (S.seen store.old).told (S.seen store.new).told }
     ensures saves { OnlySaves S.X.block32 NoneIsBad (edge_fault result) (S.seen store.old) (S.seen store.new) }
     ensures reads { is_read_fault result ≡ false }
 {

@@ -1,10 +1,10 @@
 //! Files and folders of a host walked.
-ghost use Rattle.std.specs.Prelude.{◌≡◌, ◌≤◌, false, OnOk};
+ghost use Rattle.std.specs.Prelude.{◌≡◌, ◌≤◌, ◌++◌, false, OnErr, OnOk};
 ghost use Rattle.uf_edge.specs.Counts.{Counts};
-ghost use Rattle.uf_edge.specs.Host.{IsFolderAt};
+ghost use Rattle.uf_edge.specs.Host.{IsFolderAt, front};
 ghost use Rattle.uf_store.specs.Calls.{OnlySaves};
 ghost use Rattle.uf_store.specs.Faults.{NoneIsBad};
-ghost use Rattle.uf_host.specs.Adding.{AddsAt, AddsBelow, AddsMember, AddsMembers, AddsRow};
+ghost use Rattle.uf_host.specs.Adding.{AddsAt, AddsBelow, AddsMember, AddsMembers, AddsRow, SavesReadAt, SavesReadIn};
 ghost use Rattle.uf_host.specs.Faults.{edge_fault, is_read_fault};
 ghost use Rattle.uf_host.specs.Naming.{ListsFolder, IsNameOf};
 
@@ -30,8 +30,10 @@ pub fn add_at<S: Store, N: NameHash, W: Host, L: Ledger>(
     touches: &mut Steps<L>,
 ) -> Result<Entry, HostFault>
     requires { levels ≤ 257 }
-    ensures adds { AddsAt S.X.block32 N.name64 import.old.profile (S.seen store.new).told (W.tree host.old) levels
-        site.now import.old.rows import.new.rows result }
+    ensures adds { AddsAt S.X.block32 N.name64 import.old.profile (S.seen store.old).told (S.seen store.new).told
+        (W.tree host.old) levels site.now import.old.rows import.new.rows result }
+    ensures no_other { OnErr result (SavesReadAt S.X.block32 N.name64 import.old.profile
+        (S.seen store.old).told (S.seen store.new).told (W.tree host.old) levels site.now.path) }
     ensures saves { OnlySaves S.X.block32 NoneIsBad (edge_fault result) (S.seen store.old) (S.seen store.new) }
     ensures told { W.tree host.new ≡ W.tree host.old }
     ensures reads { Counts (is_read_fault result) (W.read_faults host.old) (W.read_faults host.new) }
@@ -63,8 +65,10 @@ fn add_below<S: Store, N: NameHash, W: Host, L: Ledger>(
     touches: &mut Steps<L>,
 ) -> Result<Entry, HostFault>
     requires { levels ≤ 257 }
-    ensures adds { AddsBelow S.X.block32 N.name64 import.old.profile (S.seen store.new).told (W.tree host.old) levels
-        site.now import.old.rows import.new.rows result }
+    ensures adds { AddsBelow S.X.block32 N.name64 import.old.profile (S.seen store.old).told (S.seen store.new).told
+        (W.tree host.old) levels site.now import.old.rows import.new.rows result }
+    ensures no_other { OnErr result (SavesReadAt S.X.block32 N.name64 import.old.profile
+        (S.seen store.old).told (S.seen store.new).told (W.tree host.old) levels site.now.path) }
     ensures saves { OnlySaves S.X.block32 NoneIsBad (edge_fault result) (S.seen store.old) (S.seen store.new) }
     ensures told { W.tree host.new ≡ W.tree host.old }
     ensures reads { Counts (is_read_fault result) (W.read_faults host.old) (W.read_faults host.new) }
@@ -93,8 +97,10 @@ fn add_folder<S: Store, N: NameHash, W: Host, L: Ledger>(
 ) -> Result<Entry, HostFault>
     requires folder { IsFolderAt (W.tree host.old) site.now.path }
     requires levels { levels ≤ 257 }
-    ensures adds { AddsBelow S.X.block32 N.name64 import.old.profile (S.seen store.new).told (W.tree host.old) levels
-        site.now import.old.rows import.new.rows result }
+    ensures adds { AddsBelow S.X.block32 N.name64 import.old.profile (S.seen store.old).told (S.seen store.new).told
+        (W.tree host.old) levels site.now import.old.rows import.new.rows result }
+    ensures no_other { OnErr result (SavesReadAt S.X.block32 N.name64 import.old.profile
+        (S.seen store.old).told (S.seen store.new).told (W.tree host.old) levels site.now.path) }
     ensures saves { OnlySaves S.X.block32 NoneIsBad (edge_fault result) (S.seen store.old) (S.seen store.new) }
     ensures told { W.tree host.new ≡ W.tree host.old }
     ensures reads { Counts (is_read_fault result) (W.read_faults host.old) (W.read_faults host.new) }
@@ -145,8 +151,10 @@ fn add_members<S: Store, N: NameHash, W: Host, L: Ledger>(
     touches: &mut Steps<L>,
 ) -> Result<Pairs, HostFault>
     requires { levels ≤ 256 }
-    ensures adds { AddsMembers S.X.block32 N.name64 import.old.profile (S.seen store.new).told (W.tree host.old) levels
-        site.now names.now import.old.rows import.new.rows result }
+    ensures adds { AddsMembers S.X.block32 N.name64 import.old.profile (S.seen store.old).told (S.seen store.new).told
+        (W.tree host.old) levels site.now names.now import.old.rows import.new.rows result }
+    ensures no_other { OnErr result (SavesReadIn S.X.block32 N.name64 import.old.profile
+        (S.seen store.old).told (S.seen store.new).told (W.tree host.old) levels site.now.path names.now) }
     ensures saves { OnlySaves S.X.block32 NoneIsBad (edge_fault result) (S.seen store.old) (S.seen store.new) }
     ensures told { W.tree host.new ≡ W.tree host.old }
     ensures reads { Counts (is_read_fault result) (W.read_faults host.old) (W.read_faults host.new) }
@@ -175,8 +183,10 @@ fn add_member<S: Store, N: NameHash, W: Host, L: Ledger>(
     touches: &mut Steps<L>,
 ) -> Result<Pair, HostFault>
     requires { levels ≤ 256 }
-    ensures adds { AddsMember S.X.block32 N.name64 import.old.profile (S.seen store.new).told (W.tree host.old) levels
-        site.now name.now import.old.rows import.new.rows result }
+    ensures adds { AddsMember S.X.block32 N.name64 import.old.profile (S.seen store.old).told (S.seen store.new).told
+        (W.tree host.old) levels site.now name.now import.old.rows import.new.rows result }
+    ensures no_other { OnErr result (SavesReadAt S.X.block32 N.name64 import.old.profile
+        (S.seen store.old).told (S.seen store.new).told (W.tree host.old) levels (front site.now.path ++ name.now)) }
     ensures saves { OnlySaves S.X.block32 NoneIsBad (edge_fault result) (S.seen store.old) (S.seen store.new) }
     ensures told { W.tree host.new ≡ W.tree host.old }
     ensures reads { Counts (is_read_fault result) (W.read_faults host.old) (W.read_faults host.new) }

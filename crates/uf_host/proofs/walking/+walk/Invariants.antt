@@ -21,7 +21,7 @@ decreases-add_member g l = 5 * l.levels + 5
 
 abbrev pub invariant-add_members-loop-at : goal.invariant-add_members-loop-at
 invariant-add_members-loop-at g l = record {
-  of : IsOfMembers g.S.X.BlockHash.block32 g.N.NameHash.name64 l.initial.import.profile (g.S.Store.seen l.store).told (g.W.Host.tree l.initial.host) l.levels l.site (take l.at l.listed) l.initial.import.rows l.import.rows l.pairs;
+  of : IsOfMembers g.S.X.BlockHash.block32 g.N.NameHash.name64 l.initial.import.profile (g.S.Store.seen l.initial.store).told (g.S.Store.seen l.store).told (g.W.Host.tree l.initial.host) l.levels l.site (take l.at l.listed) l.initial.import.rows l.import.rows l.pairs;
   profile : l.import.profile ≡ l.initial.import.profile;
   saves : OnlySaves g.S.X.BlockHash.block32 NoneIsBad None (g.S.Store.seen l.initial.store) (g.S.Store.seen l.store);
   told : g.W.Host.tree l.host ≡ g.W.Host.tree l.initial.host;
