@@ -1,11 +1,8 @@
 //! The parts of a transcript, and their lines.
 
-ghost use Rattle.std.specs.Prelude.{◌≡◌, ◌<◌};
-
 use crate::scene::{Scene, set};
 use std::alloc::Global;
-use std::marker::Brand;
-use std::sync::ledger::{Blank, Ledger};
+use std::sync::ledger::Ledger;
 use uf_cid::{Block, BlockHash, Memory, Sha256Hash, Sum8Hash};
 use uf_store::Steps;
 use uf_testing::{Sheet, begins_row, ends_part, say, word_and_rest};
@@ -178,8 +175,8 @@ fn play_part<P: Player, L: Ledger>(
     play::<P, Sha256Hash, L>(alloc, title, part, sheet, touches)
 }
 
-// Plays all parts, between which there are empty lines.
-fn play_parts<P: Player, L: Ledger>(
+/// Plays all parts of a transcript, between which there are empty lines.
+pub fn play_parts<P: Player, L: Ledger>(
     alloc: Global,
     script: &str,
     sheet: &mut Sheet,
@@ -194,25 +191,4 @@ fn play_parts<P: Player, L: Ledger>(
         play_part::<P, L>(alloc, part, sheet, touches)?;
     }
     Ok(())
-}
-
-// What comes of a transcript, over the blank of a count of touches.
-fn play_counted<P: Player, L: Ledger>(
-    alloc: Global,
-    script: &str,
-    blank: Blank,
-) -> Result<Sheet, Memory>
-    requires name { blank.name ≡ L.name }
-    requires parts { blank.parts ≡ L.parts }
-    requires some { 0 < blank.parts }
-{
-    let mut touches = Steps::<L>::new(blank);
-    let mut sheet = Sheet::new(alloc);
-    play_parts::<P, L>(alloc, script, &mut sheet, &mut touches)?;
-    Ok(sheet)
-}
-
-/// What comes of a transcript.
-pub fn play_all<P: Player>(alloc: Global, script: String) -> Result<Sheet, Memory> {
-    play_counted::<P, Brand>(alloc, script.as_str(), Blank::new(1))
 }
