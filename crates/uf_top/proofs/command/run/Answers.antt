@@ -33,21 +33,21 @@ returns-in-One-clause-runs g c = λ asked is.
     let w : IsOfWords asked = of-words (map string_bytes c.args.words.now) asked is in
     runs-told (λ line. IsSent line (g.E.Sink.holds c.args.errors.now) (g.E.Sink.holds c.tell_end.new.errors) (g.E.Sink.faults c.args.errors.now) (g.E.Sink.faults c.tell_end.new.errors)) c.tell_end.result g.S.X.BlockHash.block32 g.N.NameHash.name64
     (around (g.S.Store.seen c.args.store.now) (g.I.Source.left c.args.input.now) (g.I.Source.faults c.args.input.now) (g.O.Sink.holds c.args.output.now) (g.O.Sink.faults c.args.output.now) c.args.touches.now (host_side (g.W.Host.tree c.args.host.now) (g.W.Host.read_faults c.args.host.now) (g.W.Host.write_faults c.args.host.now)))
-    (around (g.S.Store.seen c.serve-done-in-One.new.store) (g.I.Source.left c.serve-done-in-One.new.input) (g.I.Source.faults c.serve-done-in-One.new.input) (g.O.Sink.holds c.serve-done-in-One.new.output) (g.O.Sink.faults c.serve-done-in-One.new.output) c.serve-done-in-One.new.touches (host_side (g.W.Host.tree c.serve-done-in-One.new.host) (g.W.Host.read_faults c.serve-done-in-One.new.host) (g.W.Host.write_faults c.serve-done-in-One.new.host)))
-    asked c.serve-done-in-One.result w (c.serve-done-in-One.ensures.serves asked h) (c.serve-done-in-One.ensures.own asked h w) (c.serve-done-in-One.ensures.kinds asked h) c.tell_end.ensures
+    (around (g.S.Store.seen c.serve-done.new.store) (g.I.Source.left c.serve-done.new.input) (g.I.Source.faults c.serve-done.new.input) (g.O.Sink.holds c.serve-done.new.output) (g.O.Sink.faults c.serve-done.new.output) c.serve-done.new.touches (host_side (g.W.Host.tree c.serve-done.new.host) (g.W.Host.read_faults c.serve-done.new.host) (g.W.Host.write_faults c.serve-done.new.host)))
+    asked c.serve-done.result w (c.serve-done.ensures.serves asked h) (c.serve-done.ensures.own asked h w) (c.serve-done.ensures.kinds asked h) c.tell_end.ensures
 
 pub returns-in-One-clause-batch : goal.returns-in-One-clause-batch
 returns-in-One-clause-batch g c = λ is.
     let m : c.in-One.asked ≡ Err no_memory = subst (IsAskedAlone c.in-One.asked) is c.in-One.ensures.asked in
-    batch-wants g.S.X.BlockHash.block32 g.N.NameHash.name64 1048576 1073741824 c.tell_end.result c.serve-done-in-One.result (g.S.Store.seen c.args.store.now) (g.S.Store.seen c.serve-done-in-One.new.store) (g.I.Source.left c.args.input.now) (g.I.Source.left c.serve-done-in-One.new.input) (g.I.Source.faults c.args.input.now) (g.I.Source.faults c.serve-done-in-One.new.input)
-    (g.O.Sink.holds c.args.output.now) (g.O.Sink.holds c.serve-done-in-One.new.output) (g.O.Sink.faults c.args.output.now) (g.O.Sink.faults c.serve-done-in-One.new.output) c.args.touches.now c.serve-done-in-One.new.touches
-    (host_side (g.W.Host.tree c.args.host.now) (g.W.Host.read_faults c.args.host.now) (g.W.Host.write_faults c.args.host.now)) (host_side (g.W.Host.tree c.serve-done-in-One.new.host) (g.W.Host.read_faults c.serve-done-in-One.new.host) (g.W.Host.write_faults c.serve-done-in-One.new.host))
+    batch-wants g.S.X.BlockHash.block32 g.N.NameHash.name64 1048576 1073741824 c.tell_end.result c.serve-done.result (g.S.Store.seen c.args.store.now) (g.S.Store.seen c.serve-done.new.store) (g.I.Source.left c.args.input.now) (g.I.Source.left c.serve-done.new.input) (g.I.Source.faults c.args.input.now) (g.I.Source.faults c.serve-done.new.input)
+    (g.O.Sink.holds c.args.output.now) (g.O.Sink.holds c.serve-done.new.output) (g.O.Sink.faults c.args.output.now) (g.O.Sink.faults c.serve-done.new.output) c.args.touches.now c.serve-done.new.touches
+    (host_side (g.W.Host.tree c.args.host.now) (g.W.Host.read_faults c.args.host.now) (g.W.Host.write_faults c.args.host.now)) (host_side (g.W.Host.tree c.serve-done.new.host) (g.W.Host.read_faults c.serve-done.new.host) (g.W.Host.write_faults c.serve-done.new.host))
     (g.E.Sink.holds c.args.errors.now) (g.E.Sink.holds c.tell_end.new.errors) (g.E.Sink.faults c.args.errors.now) (g.E.Sink.faults c.tell_end.new.errors)
-    (c.serve-done-in-One.ensures.serves (Err no_memory) (subst (λ asked. IsAsked asked (Err no_memory)) (sym m) (inl refl))) c.tell_end.ensures
+    (c.serve-done.ensures.serves (Err no_memory) (subst (λ asked. IsAsked asked (Err no_memory)) (sym m) (inl refl))) c.tell_end.ensures
 
 pub returns-in-One-clause-one : goal.returns-in-One-clause-one
 returns-in-One-clause-one g c = λ s r stands other.
-    stands-one g.S.X.BlockHash.block32 g.N.NameHash.name64 (record { size = g.met.S.X.BlockHash.size; are_bytes = g.met.S.X.BlockHash.are_bytes }) g.met.N.NameHash.fits (g.S.Store.seen c.serve-done-in-One.new.store).told s r stands other
+    stands-one g.S.X.BlockHash.block32 g.N.NameHash.name64 (record { size = g.met.S.X.BlockHash.size; are_bytes = g.met.S.X.BlockHash.are_bytes }) g.met.N.NameHash.fits (g.S.Store.seen c.serve-done.new.store).told s r stands other
 
 pub returns-in-Batch-clause-one : goal.returns-in-Batch-clause-one
 returns-in-Batch-clause-one g c = λ s r stands other.
@@ -58,28 +58,28 @@ returns-in-Batch-clause-runs g c = λ asked is. absurd (let k : requests.Batch �
 
 pub returns-in-One-clause-left : goal.returns-in-One-clause-left
 returns-in-One-clause-left g c = λ asked is.
-    (c.serve-done-in-One.ensures.spares asked (read-alone (map string_bytes c.args.words.now) c.in-One.asked asked is c.in-One.ensures.asked)).left
+    (c.serve-done.ensures.spares asked (read-alone (map string_bytes c.args.words.now) c.in-One.asked asked is c.in-One.ensures.asked)).left
 
 pub returns-in-Batch-clause-left : goal.returns-in-Batch-clause-left
 returns-in-Batch-clause-left g c = λ asked is. absurd (let k : requests.Batch ≡ requests.One asked = sym c.in-Batch.ensures.asked ∙ is in cc)
 
 pub returns-in-One-clause-input : goal.returns-in-One-clause-input
 returns-in-One-clause-input g c = λ asked is.
-    (c.serve-done-in-One.ensures.spares asked (read-alone (map string_bytes c.args.words.now) c.in-One.asked asked is c.in-One.ensures.asked)).input
+    (c.serve-done.ensures.spares asked (read-alone (map string_bytes c.args.words.now) c.in-One.asked asked is c.in-One.ensures.asked)).input
 
 pub returns-in-Batch-clause-input : goal.returns-in-Batch-clause-input
 returns-in-Batch-clause-input g c = λ asked is. absurd (let k : requests.Batch ≡ requests.One asked = sym c.in-Batch.ensures.asked ∙ is in cc)
 
 pub returns-in-One-clause-host : goal.returns-in-One-clause-host
 returns-in-One-clause-host g c = λ asked is.
-    (c.serve-done-in-One.ensures.spares asked (read-alone (map string_bytes c.args.words.now) c.in-One.asked asked is c.in-One.ensures.asked)).host
+    (c.serve-done.ensures.spares asked (read-alone (map string_bytes c.args.words.now) c.in-One.asked asked is c.in-One.ensures.asked)).host
 
 pub returns-in-Batch-clause-host : goal.returns-in-Batch-clause-host
 returns-in-Batch-clause-host g c = λ asked is. absurd (let k : requests.Batch ≡ requests.One asked = sym c.in-Batch.ensures.asked ∙ is in cc)
 
 pub returns-in-One-clause-untouched : goal.returns-in-One-clause-untouched
 returns-in-One-clause-untouched g c = λ asked is.
-    (c.serve-done-in-One.ensures.spares asked (read-alone (map string_bytes c.args.words.now) c.in-One.asked asked is c.in-One.ensures.asked)).untouched
+    (c.serve-done.ensures.spares asked (read-alone (map string_bytes c.args.words.now) c.in-One.asked asked is c.in-One.ensures.asked)).untouched
 
 pub returns-in-Batch-clause-untouched : goal.returns-in-Batch-clause-untouched
 returns-in-Batch-clause-untouched g c = λ asked is. absurd (let k : requests.Batch ≡ requests.One asked = sym c.in-Batch.ensures.asked ∙ is in cc)
@@ -101,14 +101,14 @@ returns-in-Serve-clause-serve g c = λ is. c.serve_wants.ensures g.N.NameHash.na
 pub returns-in-One-clause-pull : goal.returns-in-One-clause-pull
 returns-in-One-clause-pull g c = λ cid is.
     let m : c.in-One.asked ≡ Err no_memory = subst (IsAskedAlone c.in-One.asked) is c.in-One.ensures.asked in
-    pull-wants (λ line. IsSent line (g.E.Sink.holds c.args.errors.now) (g.E.Sink.holds c.tell_end.new.errors) (g.E.Sink.faults c.args.errors.now) (g.E.Sink.faults c.tell_end.new.errors)) g.S.X.BlockHash.block32 g.N.NameHash.name64 c.tell_end.result c.serve-done-in-One.result (around (g.S.Store.seen c.args.store.now) (g.I.Source.left c.args.input.now) (g.I.Source.faults c.args.input.now) (g.O.Sink.holds c.args.output.now) (g.O.Sink.faults c.args.output.now) c.args.touches.now (host_side (g.W.Host.tree c.args.host.now) (g.W.Host.read_faults c.args.host.now) (g.W.Host.write_faults c.args.host.now))) (around (g.S.Store.seen c.serve-done-in-One.new.store) (g.I.Source.left c.serve-done-in-One.new.input) (g.I.Source.faults c.serve-done-in-One.new.input) (g.O.Sink.holds c.serve-done-in-One.new.output) (g.O.Sink.faults c.serve-done-in-One.new.output) c.serve-done-in-One.new.touches (host_side (g.W.Host.tree c.serve-done-in-One.new.host) (g.W.Host.read_faults c.serve-done-in-One.new.host) (g.W.Host.write_faults c.serve-done-in-One.new.host)))
-    (c.serve-done-in-One.ensures.serves (Err no_memory) (subst (λ asked. IsAsked asked (Err no_memory)) (sym m) (inl refl))) c.tell_end.ensures cid
+    pull-wants (λ line. IsSent line (g.E.Sink.holds c.args.errors.now) (g.E.Sink.holds c.tell_end.new.errors) (g.E.Sink.faults c.args.errors.now) (g.E.Sink.faults c.tell_end.new.errors)) g.S.X.BlockHash.block32 g.N.NameHash.name64 c.tell_end.result c.serve-done.result (around (g.S.Store.seen c.args.store.now) (g.I.Source.left c.args.input.now) (g.I.Source.faults c.args.input.now) (g.O.Sink.holds c.args.output.now) (g.O.Sink.faults c.args.output.now) c.args.touches.now (host_side (g.W.Host.tree c.args.host.now) (g.W.Host.read_faults c.args.host.now) (g.W.Host.write_faults c.args.host.now))) (around (g.S.Store.seen c.serve-done.new.store) (g.I.Source.left c.serve-done.new.input) (g.I.Source.faults c.serve-done.new.input) (g.O.Sink.holds c.serve-done.new.output) (g.O.Sink.faults c.serve-done.new.output) c.serve-done.new.touches (host_side (g.W.Host.tree c.serve-done.new.host) (g.W.Host.read_faults c.serve-done.new.host) (g.W.Host.write_faults c.serve-done.new.host)))
+    (c.serve-done.ensures.serves (Err no_memory) (subst (λ asked. IsAsked asked (Err no_memory)) (sym m) (inl refl))) c.tell_end.ensures cid
 
 pub returns-in-One-clause-serve : goal.returns-in-One-clause-serve
 returns-in-One-clause-serve g c = λ is.
     let m : c.in-One.asked ≡ Err no_memory = subst (IsAskedAlone c.in-One.asked) is c.in-One.ensures.asked in
-    serve-wants (λ line. IsSent line (g.E.Sink.holds c.args.errors.now) (g.E.Sink.holds c.tell_end.new.errors) (g.E.Sink.faults c.args.errors.now) (g.E.Sink.faults c.tell_end.new.errors)) g.S.X.BlockHash.block32 g.N.NameHash.name64 c.tell_end.result c.serve-done-in-One.result (around (g.S.Store.seen c.args.store.now) (g.I.Source.left c.args.input.now) (g.I.Source.faults c.args.input.now) (g.O.Sink.holds c.args.output.now) (g.O.Sink.faults c.args.output.now) c.args.touches.now (host_side (g.W.Host.tree c.args.host.now) (g.W.Host.read_faults c.args.host.now) (g.W.Host.write_faults c.args.host.now))) (around (g.S.Store.seen c.serve-done-in-One.new.store) (g.I.Source.left c.serve-done-in-One.new.input) (g.I.Source.faults c.serve-done-in-One.new.input) (g.O.Sink.holds c.serve-done-in-One.new.output) (g.O.Sink.faults c.serve-done-in-One.new.output) c.serve-done-in-One.new.touches (host_side (g.W.Host.tree c.serve-done-in-One.new.host) (g.W.Host.read_faults c.serve-done-in-One.new.host) (g.W.Host.write_faults c.serve-done-in-One.new.host)))
-    (c.serve-done-in-One.ensures.serves (Err no_memory) (subst (λ asked. IsAsked asked (Err no_memory)) (sym m) (inl refl))) c.tell_end.ensures
+    serve-wants (λ line. IsSent line (g.E.Sink.holds c.args.errors.now) (g.E.Sink.holds c.tell_end.new.errors) (g.E.Sink.faults c.args.errors.now) (g.E.Sink.faults c.tell_end.new.errors)) g.S.X.BlockHash.block32 g.N.NameHash.name64 c.tell_end.result c.serve-done.result (around (g.S.Store.seen c.args.store.now) (g.I.Source.left c.args.input.now) (g.I.Source.faults c.args.input.now) (g.O.Sink.holds c.args.output.now) (g.O.Sink.faults c.args.output.now) c.args.touches.now (host_side (g.W.Host.tree c.args.host.now) (g.W.Host.read_faults c.args.host.now) (g.W.Host.write_faults c.args.host.now))) (around (g.S.Store.seen c.serve-done.new.store) (g.I.Source.left c.serve-done.new.input) (g.I.Source.faults c.serve-done.new.input) (g.O.Sink.holds c.serve-done.new.output) (g.O.Sink.faults c.serve-done.new.output) c.serve-done.new.touches (host_side (g.W.Host.tree c.serve-done.new.host) (g.W.Host.read_faults c.serve-done.new.host) (g.W.Host.write_faults c.serve-done.new.host)))
+    (c.serve-done.ensures.serves (Err no_memory) (subst (λ asked. IsAsked asked (Err no_memory)) (sym m) (inl refl))) c.tell_end.ensures
 
 pub returns-in-Pull-clause-one : goal.returns-in-Pull-clause-one
 returns-in-Pull-clause-one g c = λ s r stands other.
@@ -134,8 +134,8 @@ returns-in-Gc-clause-one g c = λ s r stands other.
 pub returns-in-One-clause-collect : goal.returns-in-One-clause-collect
 returns-in-One-clause-collect g c = λ is.
     let m : c.in-One.asked ≡ Err no_memory = subst (IsAskedAlone c.in-One.asked) is c.in-One.ensures.asked in
-    gc-wants (λ line. IsSent line (g.E.Sink.holds c.args.errors.now) (g.E.Sink.holds c.tell_end.new.errors) (g.E.Sink.faults c.args.errors.now) (g.E.Sink.faults c.tell_end.new.errors)) g.S.X.BlockHash.block32 g.N.NameHash.name64 c.tell_end.result c.serve-done-in-One.result (around (g.S.Store.seen c.args.store.now) (g.I.Source.left c.args.input.now) (g.I.Source.faults c.args.input.now) (g.O.Sink.holds c.args.output.now) (g.O.Sink.faults c.args.output.now) c.args.touches.now (host_side (g.W.Host.tree c.args.host.now) (g.W.Host.read_faults c.args.host.now) (g.W.Host.write_faults c.args.host.now))) (around (g.S.Store.seen c.serve-done-in-One.new.store) (g.I.Source.left c.serve-done-in-One.new.input) (g.I.Source.faults c.serve-done-in-One.new.input) (g.O.Sink.holds c.serve-done-in-One.new.output) (g.O.Sink.faults c.serve-done-in-One.new.output) c.serve-done-in-One.new.touches (host_side (g.W.Host.tree c.serve-done-in-One.new.host) (g.W.Host.read_faults c.serve-done-in-One.new.host) (g.W.Host.write_faults c.serve-done-in-One.new.host)))
-    (c.serve-done-in-One.ensures.serves (Err no_memory) (subst (λ asked. IsAsked asked (Err no_memory)) (sym m) (inl refl))) c.tell_end.ensures
+    gc-wants (λ line. IsSent line (g.E.Sink.holds c.args.errors.now) (g.E.Sink.holds c.tell_end.new.errors) (g.E.Sink.faults c.args.errors.now) (g.E.Sink.faults c.tell_end.new.errors)) g.S.X.BlockHash.block32 g.N.NameHash.name64 c.tell_end.result c.serve-done.result (around (g.S.Store.seen c.args.store.now) (g.I.Source.left c.args.input.now) (g.I.Source.faults c.args.input.now) (g.O.Sink.holds c.args.output.now) (g.O.Sink.faults c.args.output.now) c.args.touches.now (host_side (g.W.Host.tree c.args.host.now) (g.W.Host.read_faults c.args.host.now) (g.W.Host.write_faults c.args.host.now))) (around (g.S.Store.seen c.serve-done.new.store) (g.I.Source.left c.serve-done.new.input) (g.I.Source.faults c.serve-done.new.input) (g.O.Sink.holds c.serve-done.new.output) (g.O.Sink.faults c.serve-done.new.output) c.serve-done.new.touches (host_side (g.W.Host.tree c.serve-done.new.host) (g.W.Host.read_faults c.serve-done.new.host) (g.W.Host.write_faults c.serve-done.new.host)))
+    (c.serve-done.ensures.serves (Err no_memory) (subst (λ asked. IsAsked asked (Err no_memory)) (sym m) (inl refl))) c.tell_end.ensures
 
 -- ---- the check of a proof
 
@@ -156,8 +156,8 @@ returns-in-Check-clause-check g c = λ absent cid path is.
 pub returns-in-One-clause-check : goal.returns-in-One-clause-check
 returns-in-One-clause-check g c = λ absent cid path is.
     let m : c.in-One.asked ≡ Err no_memory = subst (IsAskedAlone c.in-One.asked) is c.in-One.ensures.asked in
-    check-wants (λ line. IsSent line (g.E.Sink.holds c.args.errors.now) (g.E.Sink.holds c.tell_end.new.errors) (g.E.Sink.faults c.args.errors.now) (g.E.Sink.faults c.tell_end.new.errors)) g.S.X.BlockHash.block32 g.N.NameHash.name64 c.tell_end.result c.serve-done-in-One.result (around (g.S.Store.seen c.args.store.now) (g.I.Source.left c.args.input.now) (g.I.Source.faults c.args.input.now) (g.O.Sink.holds c.args.output.now) (g.O.Sink.faults c.args.output.now) c.args.touches.now (host_side (g.W.Host.tree c.args.host.now) (g.W.Host.read_faults c.args.host.now) (g.W.Host.write_faults c.args.host.now))) (around (g.S.Store.seen c.serve-done-in-One.new.store) (g.I.Source.left c.serve-done-in-One.new.input) (g.I.Source.faults c.serve-done-in-One.new.input) (g.O.Sink.holds c.serve-done-in-One.new.output) (g.O.Sink.faults c.serve-done-in-One.new.output) c.serve-done-in-One.new.touches (host_side (g.W.Host.tree c.serve-done-in-One.new.host) (g.W.Host.read_faults c.serve-done-in-One.new.host) (g.W.Host.write_faults c.serve-done-in-One.new.host)))
-    (c.serve-done-in-One.ensures.serves (Err no_memory) (subst (λ asked. IsAsked asked (Err no_memory)) (sym m) (inl refl))) c.tell_end.ensures absent cid path.names
+    check-wants (λ line. IsSent line (g.E.Sink.holds c.args.errors.now) (g.E.Sink.holds c.tell_end.new.errors) (g.E.Sink.faults c.args.errors.now) (g.E.Sink.faults c.tell_end.new.errors)) g.S.X.BlockHash.block32 g.N.NameHash.name64 c.tell_end.result c.serve-done.result (around (g.S.Store.seen c.args.store.now) (g.I.Source.left c.args.input.now) (g.I.Source.faults c.args.input.now) (g.O.Sink.holds c.args.output.now) (g.O.Sink.faults c.args.output.now) c.args.touches.now (host_side (g.W.Host.tree c.args.host.now) (g.W.Host.read_faults c.args.host.now) (g.W.Host.write_faults c.args.host.now))) (around (g.S.Store.seen c.serve-done.new.store) (g.I.Source.left c.serve-done.new.input) (g.I.Source.faults c.serve-done.new.input) (g.O.Sink.holds c.serve-done.new.output) (g.O.Sink.faults c.serve-done.new.output) c.serve-done.new.touches (host_side (g.W.Host.tree c.serve-done.new.host) (g.W.Host.read_faults c.serve-done.new.host) (g.W.Host.write_faults c.serve-done.new.host)))
+    (c.serve-done.ensures.serves (Err no_memory) (subst (λ asked. IsAsked asked (Err no_memory)) (sym m) (inl refl))) c.tell_end.ensures absent cid path.names
 
 pub returns-in-Check-clause-one : goal.returns-in-Check-clause-one
 returns-in-Check-clause-one g c = λ s r stands other.
