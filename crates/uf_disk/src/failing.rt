@@ -7,15 +7,15 @@ use std::random::RandomSource;
 
 /// The files of another, but the call with one number, counted from 0, fails.
 #[derive(Drop)]
-pub struct Failing<'a, R> {
+pub struct FailingFiles<'a, R> {
     inner: &'a R,
     number: u64,
     calls: Cell<u64>,
 }
 
-impl<'a, R> Failing<'a, R> {
+impl<'a, R> FailingFiles<'a, R> {
     pub fn new(inner: &'a R, number: u64) -> Self {
-        Failing {
+        FailingFiles {
             inner,
             number,
             calls: Cell::new(0),
@@ -37,14 +37,14 @@ impl<'a, R> Failing<'a, R> {
     }
 }
 
-impl<'a, R: RandomSource> RandomSource for Failing<'a, R> {
+impl<'a, R: RandomSource> RandomSource for FailingFiles<'a, R> {
     fn fill_bytes(&self, buf: &mut [u8]) -> io::Result<()> {
         self.check()?;
         self.inner.fill_bytes(buf)
     }
 }
 
-impl<'a, R: Files> Files for Failing<'a, R> {
+impl<'a, R: Files> Files for FailingFiles<'a, R> {
     type File = R::File;
 
     type Dir = R::Dir;

@@ -5,7 +5,7 @@ use uf_cid::{Cid, Codec};
 
 /// A block's file stands among those of late, or in the folder of the last two characters of its CID's text.
 #[derive(Clone, Copy, Debug, PartialEq, Eq)]
-pub enum Place {
+pub enum BlockPlace {
     Late,
     Filed,
 }
@@ -13,19 +13,19 @@ pub enum Place {
 /// The path of a block's file, for which no memory is taken.
 #[derive(Clone, Copy)]
 pub struct BlockPath {
-    pub place: Place,
+    pub place: BlockPlace,
     bytes: [u8; 77],
 }
 
 impl BlockPath {
     /// The path of the file of a block at a place.
-    pub fn new(cid: &Cid, place: Place) -> Self {
+    pub fn new(cid: &Cid, place: BlockPlace) -> Self {
         let text = cid.text();
         let mut bytes = [b'/'; 77];
         bytes[..14].copy_from_slice(b".unixfs/blocks");
         match place {
-            Place::Late => bytes[15..74].copy_from_slice(&text),
-            Place::Filed => {
+            BlockPlace::Late => bytes[15..74].copy_from_slice(&text),
+            BlockPlace::Filed => {
                 bytes[15..17].copy_from_slice(&text[57..]);
                 bytes[18..].copy_from_slice(&text);
             }
@@ -36,16 +36,16 @@ impl BlockPath {
     /// The path.
     pub fn text(&self) -> Result<&str, Trouble> {
         match self.place {
-            Place::Late => text_of(&self.bytes[..74]),
-            Place::Filed => text_of(&self.bytes),
+            BlockPlace::Late => text_of(&self.bytes[..74]),
+            BlockPlace::Filed => text_of(&self.bytes),
         }
     }
 
     /// The path of the folder that the file is in.
     pub fn folder(&self) -> Result<&str, Trouble> {
         match self.place {
-            Place::Late => text_of(&self.bytes[..14]),
-            Place::Filed => text_of(&self.bytes[..17]),
+            BlockPlace::Late => text_of(&self.bytes[..14]),
+            BlockPlace::Filed => text_of(&self.bytes[..17]),
         }
     }
 }
@@ -57,7 +57,7 @@ pub fn folder_of(last: u8) -> BlockPath {
         codec: Codec::Raw,
         digest: [last; 32],
     };
-    BlockPath::new(&cid, Place::Filed)
+    BlockPath::new(&cid, BlockPlace::Filed)
 }
 
 /// The CID of the block of which this is the file's name.

@@ -1,7 +1,7 @@
 //! What a sweep takes away.
 use crate::files::{Trouble, remove_file};
 use crate::folder::{BLOCKS, Folder};
-use crate::place::{BlockPath, Place, cid_named, folder_of};
+use crate::place::{BlockPath, BlockPlace, cid_named, folder_of};
 use std::alloc::Global;
 use std::collections::BTreeSet;
 use std::fs;
@@ -26,8 +26,8 @@ impl<R: Files + RandomSource> Folder<R> {
     fn take_away(&mut self, cids: &[Cid]) -> Result<u64, Trouble> {
         let mut count: u64 = 0;
         for cid in cids {
-            let was_filed = self.remove_at(Place::Filed, cid)?;
-            let was_late = self.remove_at(Place::Late, cid)?;
+            let was_filed = self.remove_at(BlockPlace::Filed, cid)?;
+            let was_late = self.remove_at(BlockPlace::Late, cid)?;
             if was_filed || was_late {
                 count = count.saturating_add(1);
             }
@@ -37,7 +37,7 @@ impl<R: Files + RandomSource> Folder<R> {
     }
 
     // Takes a block's file at a place away: whether one was there.
-    fn remove_at(&mut self, place: Place, cid: &Cid) -> Result<bool, Trouble> {
+    fn remove_at(&mut self, place: BlockPlace, cid: &Cid) -> Result<bool, Trouble> {
         let path = BlockPath::new(cid, place);
         let was_there = remove_file(&self.files, path.text()?)?;
         if was_there {

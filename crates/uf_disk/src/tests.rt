@@ -3,8 +3,8 @@ ghost use Rattle.std.specs.Prelude.{◌≡◌, ◌<◌};
 ghost use Rattle.uf_cid.specs.Cid.{cid_of};
 ghost use Rattle.uf_cid.specs.declared.cid.Codec.TheVariants.{Raw};
 
-use crate::failing::Failing;
-use crate::place::{BlockPath, Place};
+use crate::failing::FailingFiles;
+use crate::place::{BlockPath, BlockPlace};
 use crate::{DiskHost, DiskStore};
 use std::alloc::Global;
 use std::fs::{Files, OpenFile};
@@ -18,7 +18,7 @@ use uf_store::{Load, Note, NoteRead, Presence, Save, Steps, Store, Sweep, Swept}
 
 // What is done with a store or with its files, and what is to come of it.
 #[derive(Clone, Copy)]
-enum Step {
+enum StoreCall {
     // A store anew, over the same files.
     Anew,
     Loads(&'static [u8], Load),
@@ -26,7 +26,7 @@ enum Step {
     Lends(&'static [u8]),
     Saves(&'static [u8], Save),
     Syncs(Put),
-    Reads(Note, Text),
+    Reads(Note, NoteState),
     Writes(Put),
     // The blocks `a` and `b` are foreseen.
     Foresees,
@@ -52,7 +52,7 @@ enum Step {
 
 // What a note answered: its text, that it is absent, or neither.
 #[derive(Clone, Copy, Debug, PartialEq, Eq)]
-enum Text {
+enum NoteState {
     Whole,
     Absent,
     Unread,
@@ -63,158 +63,158 @@ const HALF_WRITTEN: &str = ".unixfs/new-0";
 const BESIDE: &str = ".unixfs/blocks/x";
 
 // What is saved and noted is there again, for another store too.
-const KEEPS: [Step; 14] = [
-    Step::Loads(b"a", Load::Missing),
-    Step::Asks(b"a", Presence::Missing),
-    Step::Reads(Note::Head, Text::Absent),
-    Step::Saves(b"a", Save::Done),
-    Step::Loads(b"a", Load::Found),
-    Step::Lends(b"a"),
-    Step::Saves(b"a", Save::Done),
-    Step::Syncs(Put::Done),
-    Step::Writes(Put::Done),
-    Step::Anew,
-    Step::Asks(b"a", Presence::There),
-    Step::Loads(b"a", Load::Found),
-    Step::Reads(Note::Head, Text::Whole),
-    Step::Reads(Note::Pins, Text::Absent),
+const KEEPS: [StoreCall; 14] = [
+    StoreCall::Loads(b"a", Load::Missing),
+    StoreCall::Asks(b"a", Presence::Missing),
+    StoreCall::Reads(Note::Head, NoteState::Absent),
+    StoreCall::Saves(b"a", Save::Done),
+    StoreCall::Loads(b"a", Load::Found),
+    StoreCall::Lends(b"a"),
+    StoreCall::Saves(b"a", Save::Done),
+    StoreCall::Syncs(Put::Done),
+    StoreCall::Writes(Put::Done),
+    StoreCall::Anew,
+    StoreCall::Asks(b"a", Presence::There),
+    StoreCall::Loads(b"a", Load::Found),
+    StoreCall::Reads(Note::Head, NoteState::Whole),
+    StoreCall::Reads(Note::Pins, NoteState::Absent),
 ];
 
 // A file that isn't its CID's is there, and damaged until the block is saved again; what isn't a file can't be used.
-const MENDS: [Step; 14] = [
-    Step::Spoils,
-    Step::Asks(b"a", Presence::There),
-    Step::Loads(b"a", Load::Damaged),
-    Step::Saves(b"a", Save::Done),
-    Step::Loads(b"a", Load::Found),
-    Step::Lengthens,
-    Step::Loads(b"a", Load::Damaged),
-    Step::Saves(b"a", Save::Done),
-    Step::Loads(b"a", Load::Found),
-    Step::Blocks,
-    Step::Asks(b"a", Presence::Failed),
-    Step::Loads(b"a", Load::Failed),
-    Step::Saves(b"a", Save::Failed),
-    Step::Frees,
+const MENDS: [StoreCall; 14] = [
+    StoreCall::Spoils,
+    StoreCall::Asks(b"a", Presence::There),
+    StoreCall::Loads(b"a", Load::Damaged),
+    StoreCall::Saves(b"a", Save::Done),
+    StoreCall::Loads(b"a", Load::Found),
+    StoreCall::Lengthens,
+    StoreCall::Loads(b"a", Load::Damaged),
+    StoreCall::Saves(b"a", Save::Done),
+    StoreCall::Loads(b"a", Load::Found),
+    StoreCall::Blocks,
+    StoreCall::Asks(b"a", Presence::Failed),
+    StoreCall::Loads(b"a", Load::Failed),
+    StoreCall::Saves(b"a", Save::Failed),
+    StoreCall::Frees,
 ];
 
 // What a killed run left is taken away at the first write.
-const CLEARS: [Step; 4] = [
-    Step::Leaves,
-    Step::Anew,
-    Step::Saves(b"b", Save::Done),
-    Step::IsClean,
+const CLEARS: [StoreCall; 4] = [
+    StoreCall::Leaves,
+    StoreCall::Anew,
+    StoreCall::Saves(b"b", Save::Done),
+    StoreCall::IsClean,
 ];
 
 // Blocks that are foreseen are found without their files; one whose file isn't its CID's isn't.
-const FORESEES: [Step; 13] = [
-    Step::Saves(b"a", Save::Done),
-    Step::Saves(b"b", Save::Done),
-    Step::Foresees,
-    Step::Spoils,
-    Step::Loads(b"a", Load::Found),
-    Step::Lends(b"a"),
-    Step::Loads(b"b", Load::Found),
-    Step::Lends(b"b"),
-    Step::Anew,
-    Step::Foresees,
-    Step::Loads(b"a", Load::Damaged),
-    Step::Saves(b"a", Save::Done),
-    Step::Loads(b"a", Load::Found),
+const FORESEES: [StoreCall; 13] = [
+    StoreCall::Saves(b"a", Save::Done),
+    StoreCall::Saves(b"b", Save::Done),
+    StoreCall::Foresees,
+    StoreCall::Spoils,
+    StoreCall::Loads(b"a", Load::Found),
+    StoreCall::Lends(b"a"),
+    StoreCall::Loads(b"b", Load::Found),
+    StoreCall::Lends(b"b"),
+    StoreCall::Anew,
+    StoreCall::Foresees,
+    StoreCall::Loads(b"a", Load::Damaged),
+    StoreCall::Saves(b"a", Save::Done),
+    StoreCall::Loads(b"a", Load::Found),
 ];
 
 // A sweep takes away what isn't kept, also what was foreseen, and leaves what is no block's file.
-const SWEEPS: [Step; 19] = [
-    Step::Saves(b"a", Save::Done),
-    Step::Saves(b"b", Save::Done),
-    Step::Adds,
-    Step::Foresees,
-    Step::Loads(b"b", Load::Found),
-    Step::Sweeps(&[b"b"], Swept::Done(1)),
-    Step::Lends(b""),
-    Step::Loads(b"a", Load::Missing),
-    Step::Loads(b"b", Load::Found),
-    Step::IsThere,
-    Step::Anew,
-    Step::Loads(b"a", Load::Missing),
-    Step::Saves(b"a", Save::Done),
-    Step::Blocks,
-    Step::Sweeps(&[], Swept::Done(1)),
-    Step::Loads(b"a", Load::Failed),
-    Step::Frees,
-    Step::Loads(b"b", Load::Missing),
-    Step::IsThere,
+const SWEEPS: [StoreCall; 19] = [
+    StoreCall::Saves(b"a", Save::Done),
+    StoreCall::Saves(b"b", Save::Done),
+    StoreCall::Adds,
+    StoreCall::Foresees,
+    StoreCall::Loads(b"b", Load::Found),
+    StoreCall::Sweeps(&[b"b"], Swept::Done(1)),
+    StoreCall::Lends(b""),
+    StoreCall::Loads(b"a", Load::Missing),
+    StoreCall::Loads(b"b", Load::Found),
+    StoreCall::IsThere,
+    StoreCall::Anew,
+    StoreCall::Loads(b"a", Load::Missing),
+    StoreCall::Saves(b"a", Save::Done),
+    StoreCall::Blocks,
+    StoreCall::Sweeps(&[], Swept::Done(1)),
+    StoreCall::Loads(b"a", Load::Failed),
+    StoreCall::Frees,
+    StoreCall::Loads(b"b", Load::Missing),
+    StoreCall::IsThere,
 ];
 
 // A block whose file stands in its own folder is found, mended and swept there.
-const FILED: [Step; 16] = [
-    Step::Saves(b"a", Save::Done),
-    Step::Files,
-    Step::Asks(b"a", Presence::There),
-    Step::Loads(b"a", Load::Found),
-    Step::Saves(b"a", Save::Done),
-    Step::Syncs(Put::Done),
-    Step::Files,
-    Step::Anew,
-    Step::Foresees,
-    Step::Loads(b"a", Load::Found),
-    Step::Spoils,
-    Step::Anew,
-    Step::Loads(b"a", Load::Damaged),
-    Step::Saves(b"a", Save::Done),
-    Step::Sweeps(&[], Swept::Done(1)),
-    Step::Loads(b"a", Load::Missing),
+const FILED: [StoreCall; 16] = [
+    StoreCall::Saves(b"a", Save::Done),
+    StoreCall::Files,
+    StoreCall::Asks(b"a", Presence::There),
+    StoreCall::Loads(b"a", Load::Found),
+    StoreCall::Saves(b"a", Save::Done),
+    StoreCall::Syncs(Put::Done),
+    StoreCall::Files,
+    StoreCall::Anew,
+    StoreCall::Foresees,
+    StoreCall::Loads(b"a", Load::Found),
+    StoreCall::Spoils,
+    StoreCall::Anew,
+    StoreCall::Loads(b"a", Load::Damaged),
+    StoreCall::Saves(b"a", Save::Done),
+    StoreCall::Sweeps(&[], Swept::Done(1)),
+    StoreCall::Loads(b"a", Load::Missing),
 ];
 
 // Another block of the same digest is met and lent.
-const CLASHES: [Step; 3] = [
-    Step::Saves(b"ab", Save::Done),
-    Step::Saves(b"ba", Save::Clash),
-    Step::Lends(b"ab"),
+const CLASHES: [StoreCall; 3] = [
+    StoreCall::Saves(b"ab", Save::Done),
+    StoreCall::Saves(b"ba", Save::Clash),
+    StoreCall::Lends(b"ab"),
 ];
 
 // A file in the place of the folder leaves no store.
-const REFUSES: [Step; 6] = [
-    Step::Closes,
-    Step::Loads(b"a", Load::Failed),
-    Step::Saves(b"a", Save::Failed),
-    Step::Reads(Note::Head, Text::Unread),
-    Step::Writes(Put::Failed),
-    Step::Opens,
+const REFUSES: [StoreCall; 6] = [
+    StoreCall::Closes,
+    StoreCall::Loads(b"a", Load::Failed),
+    StoreCall::Saves(b"a", Save::Failed),
+    StoreCall::Reads(Note::Head, NoteState::Unread),
+    StoreCall::Writes(Put::Failed),
+    StoreCall::Opens,
 ];
 
 // Three writes, of which one fails where a call of the machine does.
-const WRITES: [Step; 3] = [
-    Step::Saves(b"a", Save::Done),
-    Step::Syncs(Put::Done),
-    Step::Writes(Put::Done),
+const WRITES: [StoreCall; 3] = [
+    StoreCall::Saves(b"a", Save::Done),
+    StoreCall::Syncs(Put::Done),
+    StoreCall::Writes(Put::Done),
 ];
 
 // What none of them may leave.
-const TORN: [Step; 3] = [
-    Step::Loads(b"a", Load::Damaged),
-    Step::Loads(b"a", Load::Failed),
-    Step::Reads(Note::Head, Text::Unread),
+const TORN: [StoreCall; 3] = [
+    StoreCall::Loads(b"a", Load::Damaged),
+    StoreCall::Loads(b"a", Load::Failed),
+    StoreCall::Reads(Note::Head, NoteState::Unread),
 ];
 
 // Two blocks, of which `b` is to go.
-const TWO: [Step; 3] = [
-    Step::Saves(b"a", Save::Done),
-    Step::Saves(b"b", Save::Done),
-    Step::Syncs(Put::Done),
+const TWO: [StoreCall; 3] = [
+    StoreCall::Saves(b"a", Save::Done),
+    StoreCall::Saves(b"b", Save::Done),
+    StoreCall::Syncs(Put::Done),
 ];
 
 // The one that is kept stays.
-const STAYS: [Step; 1] = [Step::Loads(b"a", Load::Found)];
+const STAYS: [StoreCall; 1] = [StoreCall::Loads(b"a", Load::Found)];
 
 // They can be done again, and nothing that was begun is left.
-const AGAIN: [Step; 6] = [
-    Step::Saves(b"a", Save::Done),
-    Step::Syncs(Put::Done),
-    Step::Writes(Put::Done),
-    Step::Anew,
-    Step::Loads(b"a", Load::Found),
-    Step::Reads(Note::Head, Text::Whole),
+const AGAIN: [StoreCall; 6] = [
+    StoreCall::Saves(b"a", Save::Done),
+    StoreCall::Syncs(Put::Done),
+    StoreCall::Writes(Put::Done),
+    StoreCall::Anew,
+    StoreCall::Loads(b"a", Load::Found),
+    StoreCall::Reads(Note::Head, NoteState::Whole),
 ];
 
 fn cid_of_raw<X: BlockHash>(bytes: &[u8]) -> Cid
@@ -223,11 +223,11 @@ fn cid_of_raw<X: BlockHash>(bytes: &[u8]) -> Cid
     Cid::of::<X>(Codec::Raw, bytes)
 }
 
-fn text_of(note: NoteRead) -> Text {
+fn text_of(note: NoteRead) -> NoteState {
     match note {
-        NoteRead::Text(block) if block.as_slice() == b"text".as_slice() => Text::Whole,
-        NoteRead::Absent => Text::Absent,
-        _ => Text::Unread,
+        NoteRead::Text(block) if block.as_slice() == b"text".as_slice() => NoteState::Whole,
+        NoteRead::Absent => NoteState::Absent,
+        _ => NoteState::Unread,
     }
 }
 
@@ -241,17 +241,17 @@ fn text_at(path: &BlockPath) -> io::Result<&str> {
 
 // The path of the file of the block `a`, which is in its own folder where one is there.
 fn path_of_a<R: Files>(files: &R) -> io::Result<BlockPath> {
-    let filed = BlockPath::new(&cid_of_raw::<Sha256Hash>(b"a"), Place::Filed);
+    let filed = BlockPath::new(&cid_of_raw::<Sha256Hash>(b"a"), BlockPlace::Filed);
     if let Ok(true) = fs::exists(files, text_at(&filed)?) {
         return Ok(filed);
     }
-    Ok(BlockPath::new(&cid_of_raw::<Sha256Hash>(b"a"), Place::Late))
+    Ok(BlockPath::new(&cid_of_raw::<Sha256Hash>(b"a"), BlockPlace::Late))
 }
 
 // Moves the file of the block `a` into its own folder.
 fn files_a<R: Files>(files: &R) -> io::Result<()> {
-    let late = BlockPath::new(&cid_of_raw::<Sha256Hash>(b"a"), Place::Late);
-    let filed = BlockPath::new(&cid_of_raw::<Sha256Hash>(b"a"), Place::Filed);
+    let late = BlockPath::new(&cid_of_raw::<Sha256Hash>(b"a"), BlockPlace::Late);
+    let filed = BlockPath::new(&cid_of_raw::<Sha256Hash>(b"a"), BlockPlace::Filed);
     match filed.folder() {
         Ok(folder) => fs::create_dir_all(files, folder)?,
         Err(_) => return Err(io::Error::from(io::ErrorKind::InvalidFilename)),
@@ -263,27 +263,27 @@ fn files_a<R: Files>(files: &R) -> io::Result<()> {
 }
 
 // Does what is done with the files.
-fn sets<R: Files>(alloc: Global, files: &R, step: &Step) -> io::Result<bool> {
+fn sets<R: Files>(alloc: Global, files: &R, step: &StoreCall) -> io::Result<bool> {
     let path = path_of_a(files)?;
     let path = text_at(&path)?;
     match step {
-        Step::Spoils => fs::write(files, path, "b")?,
-        Step::Lengthens => fs::create(files, path)?.set_len(2097153)?,
-        Step::Blocks => {
+        StoreCall::Spoils => fs::write(files, path, "b")?,
+        StoreCall::Lengthens => fs::create(files, path)?.set_len(2097153)?,
+        StoreCall::Blocks => {
             fs::remove_file(files, path)?;
             fs::create_dir(files, path)?;
         }
-        Step::Frees => fs::remove_dir(files, path)?,
-        Step::Files => files_a(files)?,
-        Step::Adds => fs::write(files, BESIDE, "text")?,
-        Step::IsThere => return fs::exists(files, BESIDE),
-        Step::Leaves => fs::write(files, HALF_WRITTEN, "half")?,
-        Step::IsClean => return Ok(!fs::exists(files, HALF_WRITTEN)?),
-        Step::Closes => {
+        StoreCall::Frees => fs::remove_dir(files, path)?,
+        StoreCall::Files => files_a(files)?,
+        StoreCall::Adds => fs::write(files, BESIDE, "text")?,
+        StoreCall::IsThere => return fs::exists(files, BESIDE),
+        StoreCall::Leaves => fs::write(files, HALF_WRITTEN, "half")?,
+        StoreCall::IsClean => return Ok(!fs::exists(files, HALF_WRITTEN)?),
+        StoreCall::Closes => {
             fs::remove_dir_all(&(files, alloc), ".unixfs")?;
             fs::write(files, ".unixfs", "text")?;
         }
-        Step::Opens => fs::remove_file(files, ".unixfs")?,
+        StoreCall::Opens => fs::remove_file(files, ".unixfs")?,
         _ => return Ok(false),
     }
     Ok(true)
@@ -320,24 +320,24 @@ fn goes<'a, X: BlockHash, L: Ledger, R: Files + RandomSource>(
     alloc: Global,
     files: &'a R,
     store: &mut DiskStore<X, &'a R>,
-    step: &Step,
+    step: &StoreCall,
     touches: &mut Steps<L>,
 ) -> io::Result<bool> {
     match step {
-        Step::Anew => *store = DiskStore::new(alloc, files),
-        Step::Loads(bytes, answer) => {
+        StoreCall::Anew => *store = DiskStore::new(alloc, files),
+        StoreCall::Loads(bytes, answer) => {
             return Ok(store.load(&cid_of_raw::<X>(*bytes), touches) == *answer);
         }
-        Step::Asks(bytes, answer) => {
+        StoreCall::Asks(bytes, answer) => {
             return Ok(store.holds(&cid_of_raw::<X>(*bytes), touches) == *answer);
         }
-        Step::Lends(bytes) => return Ok(store.block() == *bytes),
-        Step::Saves(bytes, answer) => return Ok(saves(store, *bytes, touches) == *answer),
-        Step::Foresees => store.foresee(&[cid_of_raw::<X>(b"a"), cid_of_raw::<X>(b"b")]),
-        Step::Sweeps(kept, answer) => return Ok(sweeps(alloc, store, *kept)? == *answer),
-        Step::Syncs(answer) => return Ok(store.sync() == *answer),
-        Step::Reads(which, text) => return Ok(text_of(store.read_note(*which)) == *text),
-        Step::Writes(answer) => return Ok(store.write_note(Note::Head, b"text") == *answer),
+        StoreCall::Lends(bytes) => return Ok(store.block() == *bytes),
+        StoreCall::Saves(bytes, answer) => return Ok(saves(store, *bytes, touches) == *answer),
+        StoreCall::Foresees => store.foresee(&[cid_of_raw::<X>(b"a"), cid_of_raw::<X>(b"b")]),
+        StoreCall::Sweeps(kept, answer) => return Ok(sweeps(alloc, store, *kept)? == *answer),
+        StoreCall::Syncs(answer) => return Ok(store.sync() == *answer),
+        StoreCall::Reads(which, text) => return Ok(text_of(store.read_note(*which)) == *text),
+        StoreCall::Writes(answer) => return Ok(store.write_note(Note::Head, b"text") == *answer),
         _ => return sets(alloc, files, step),
     }
     Ok(true)
@@ -347,7 +347,7 @@ fn goes<'a, X: BlockHash, L: Ledger, R: Files + RandomSource>(
 fn count_right<X: BlockHash, L: Ledger, R: Files + RandomSource>(
     alloc: Global,
     files: &R,
-    steps: &[Step],
+    steps: &[StoreCall],
     touches: &mut Steps<L>,
 ) -> io::Result<usize> {
     let mut store = DiskStore::<X, &R>::new(alloc, files);
@@ -363,7 +363,7 @@ fn count_right<X: BlockHash, L: Ledger, R: Files + RandomSource>(
 fn are_right<X: BlockHash, L: Ledger, R: Files + RandomSource>(
     alloc: Global,
     files: &R,
-    steps: &[Step],
+    steps: &[StoreCall],
     touches: &mut Steps<L>,
 ) -> io::Result<bool> {
     Ok(count_right::<X, L, R>(alloc, files, steps, touches)? == steps.len())
@@ -378,8 +378,10 @@ fn survives<L: Ledger, R: Files + RandomSource>(
     touches: &mut Steps<L>,
 ) -> io::Result<bool> {
     fs::remove_dir_all(&(files, alloc), ".unixfs")?;
-    let failing = Failing::new(files, number);
-    let count = count_right::<Sha256Hash, L, Failing<'_, R>>(alloc, &failing, &WRITES, touches)?;
+    let failing = FailingFiles::new(files, number);
+    let count = count_right::<Sha256Hash, L, FailingFiles<'_, R>>(
+        alloc, &failing, &WRITES, touches,
+    )?;
     let wanted = if failing.has_failed() { 2 } else { 3 };
     let torn = count_right::<Sha256Hash, L, R>(alloc, files, &TORN, touches)?;
     let again = are_right::<Sha256Hash, L, R>(alloc, files, &AGAIN, touches)?;
@@ -408,8 +410,8 @@ fn survives_sweep<L: Ledger, R: Files + RandomSource>(
     touches: &mut Steps<L>,
 ) -> io::Result<bool> {
     let stood = are_right::<Sha256Hash, L, R>(alloc, files, &TWO, touches)?;
-    let failing = Failing::new(files, number);
-    let mut store = DiskStore::<Sha256Hash, &Failing<'_, R>>::new(alloc, &failing);
+    let failing = FailingFiles::new(files, number);
+    let mut store = DiskStore::<Sha256Hash, &FailingFiles<'_, R>>::new(alloc, &failing);
     let swept = sweeps(alloc, &mut store, &[b"a"])?;
     let wanted = if failing.has_failed() {
         Swept::Failed

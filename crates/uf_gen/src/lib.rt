@@ -8,10 +8,7 @@ mod step;
 mod sums;
 
 pub use fresh::fresh_root;
-pub use laws::a_grown_tree_is_its_files;
+pub use laws::{a_grown_tree_is_its_files, files_are_named_and_changed_by_the_rules};
 pub use rules::{file_name, file_path, first_bytes, late_offset, late_piece};
 pub use step::Step;
 pub use sums::{left_count, left_size};
-
-#[cfg(test)]
-mod tests;

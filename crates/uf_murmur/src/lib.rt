@@ -8,6 +8,3 @@ mod slots;
 
 pub use hash::{FirstEight, Murmur3, NameHash};
 pub use slots::slot;
-
-#[cfg(test)]
-mod tests;

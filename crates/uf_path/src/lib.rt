@@ -7,6 +7,3 @@ mod reading;
 
 pub use faults::PathFault;
 pub use path::{DagPath, Path, Target};
-
-#[cfg(test)]
-mod tests;

@@ -27,6 +27,3 @@ pub use rule::{Refused, Rule};
 pub use spot::{Lie, Spot};
 pub use spots::{joined_names, spot_of};
 pub use telling::{inside_rule, path_text, rule_at};
-
-#[cfg(test)]
-mod tests;

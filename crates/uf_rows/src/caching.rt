@@ -1,9 +1,7 @@
 //! Commands over a store with a cache.
 
-use crate::playing::{begins_row, play_lines};
-use crate::setting::feed;
-use crate::sheet::Sheet;
-use crate::words::{number_of, word_of};
+use crate::playing::play_lines;
+use crate::setting::feed_world;
 use crate::world::{Ends, World, words_in};
 use std::alloc::Global;
 use std::mem;
@@ -14,6 +12,7 @@ use uf_cid::{Block, BlockHash, Memory};
 use uf_edge::{MemHost, MemSink, MemSource};
 use uf_murmur::NameHash;
 use uf_store::{MemStore, Steps};
+use uf_testing::{Sheet, begins_row, number_of};
 
 fn act_over<X: BlockHash, N: NameHash, L: Ledger>(
     world: &mut World<X>,
@@ -51,11 +50,7 @@ fn act_cached<X: BlockHash, N: NameHash, L: Ledger>(
 
 // Sets the input.
 fn change<X: BlockHash>(world: &mut World<X>, line: &str, told: &mut Block) -> Result<(), Memory> {
-    let is_done = match word_of(line) {
-        (Some(word), rest) => feed(world, word, rest)?,
-        _ => false,
-    };
-    if is_done {
+    if feed_world(world, line)? {
         return Ok(());
     }
     told.extend(b"> no such line\n")

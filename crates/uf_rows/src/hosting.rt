@@ -1,10 +1,10 @@
 //! Hosts that have what lines say.
 
-use crate::words::{Word, number_and_rest, word_of};
+use crate::words::{Word, word_of};
 use std::alloc::Global;
 use uf_cid::{Memory, Text};
 use uf_edge::MemHost;
-use uf_testing::{calls, plant};
+use uf_testing::{calls, number_and_rest, plant};
 
 // Puts folders of one name into each other, this many.
 fn plant_folders(alloc: Global, host: &mut MemHost, rest: &str) -> Result<(), Memory> {

@@ -10,13 +10,11 @@ mod hosting;
 mod outcome;
 mod playing;
 mod setting;
-mod sheet;
 mod trying;
 mod words;
 mod world;
 
 use crate::playing::play_all;
-use crate::sheet::Sheet;
 use std::alloc::Global;
 use std::marker::Brand;
 use std::process::ExitCode;
@@ -25,6 +23,7 @@ use uf_cid::{Block, Memory};
 use uf_disk::{StdSink, StdSource};
 use uf_edge::{Sent, Source, read_all, write_all};
 use uf_store::Steps;
+use uf_testing::Sheet;
 
 // The most bytes of a transcript.
 const MOST: u64 = 16777216;

@@ -1,16 +1,16 @@
 //! The parts of a transcript, and their lines.
 
 use crate::caching::play_cached;
-use crate::setting::{set, tell_blocks};
-use crate::sheet::Sheet;
-use crate::trying::{Tries, fail_all, repeat, stop_all, try_fronts, try_rooms, try_within};
-use crate::words::{Word, number_of, word_of};
+use crate::setting::{feed_world, set, tell_blocks};
+use crate::trying::{Tries, fail_all, repeat, stop_all, try_prefixes, try_within};
+use crate::words::{Word, word_of};
 use crate::world::{World, act_and_tell, act_in_batch};
 use std::alloc::Global;
 use std::sync::ledger::Ledger;
 use uf_cid::{Block, BlockHash, Memory, Sha256Hash, Sum8Hash, Text};
 use uf_murmur::{FirstEight, Murmur3, NameHash};
 use uf_store::{MemStore, Steps};
+use uf_testing::{Sheet, begins_row, ends_part, number_of};
 
 // Asks this of what is left from now on: in the place of all, or after them. Nothing asks nothing.
 fn set_asks<X: BlockHash>(world: &mut World<X>, word: Word, rest: &str) -> Result<(), Memory> {
@@ -40,8 +40,9 @@ fn do_word<X: BlockHash, N: NameHash, L: Ledger>(
         Word::Within => try_within::<X, N, L>(world, rest, &mut tries, told, touches)?,
         Word::Fails => fail_all::<X, N, L>(world, rest, &mut tries, told, touches)?,
         Word::Stops => stop_all::<X, N, L>(world, rest, &mut tries, told, touches)?,
-        Word::Rooms => try_rooms::<X, N, L>(world, rest, &mut tries, told, touches)?,
-        Word::Fronts => try_fronts::<X, N, L>(world, rest, &mut tries, told, touches)?,
+        Word::Rooms | Word::Fronts => {
+            try_prefixes::<X, N, L>(world, (word, rest), &mut tries, told, touches)?
+        }
         Word::Batch => act_in_batch::<X, N, L>(world, number_of(rest), told, touches)?,
         _ => return Ok(false),
     }
@@ -60,7 +61,7 @@ fn change<X: BlockHash, N: NameHash, L: Ledger>(
         Some(word) => {
             do_word::<X, N, L>(world, word, rest, told, touches)? || set(world, word, line, rest)?
         }
-        None => false,
+        None => feed_world(world, line)?,
     };
     if is_done {
         return Ok(());
@@ -81,18 +82,6 @@ fn step<X: BlockHash, N: NameHash, L: Ledger>(
         "!" => change::<X, N, L>(world, rest, told, touches),
         _ => Ok(()),
     }
-}
-
-/// Reads a line of what is wanted, or ends the row before this line and tells it: whether it begins a row.
-pub fn begins_row(part: &str, line: &str, sheet: &mut Sheet) -> Result<bool, Memory> {
-    sheet.count_line();
-    if line.starts_with('>') || line.starts_with('?') || line.starts_with('=') {
-        sheet.want(line)?;
-        return Ok(false);
-    }
-    sheet.settle(part)?;
-    sheet.tell(line)?;
-    Ok(true)
 }
 
 /// Does the lines of a part.
@@ -151,8 +140,7 @@ pub fn play_all<L: Ledger>(
     let mut is_first = true;
     for part in script.split("\n\n") {
         if !is_first {
-            sheet.count_line();
-            sheet.tell("")?;
+            ends_part(sheet)?;
         }
         is_first = false;
         play_part::<L>(alloc, part, sheet, touches)?;

@@ -1,137 +1,24 @@
 //! What is done with a store, a host and streams but by commands.
 ghost use Rattle.std.specs.Prelude.{◌<◌};
 
-use crate::outcome::tell_count;
-use crate::words::{Word, number_and_rest, number_of};
+use crate::words::Word;
 use crate::world::World;
-use hex::decode;
 use std::alloc::Global;
 use std::mem;
 use uf_cid::{Block, BlockHash, Cid, Codec, Memory};
 use uf_edge::Put;
 use uf_store::{CallKind, MemStore, Note, Store};
-use uf_testing::{ROOMY, block_of, plant_node};
+use uf_testing::{
+    ROOMY, block_of, bytes_of, feed, number_and_rest, number_of, plant_node, tell_count,
+};
 
-// The bytes of a piece in which bytes are made.
-const PIECE: usize = 65536;
-
-// The bytes that hexadecimal digits spell; none where they are wrong.
-fn bytes_of(alloc: Global, digits: &str) -> Result<Block, Memory> {
-    match decode(alloc, digits) {
-        Ok(bytes) => block_of(alloc, &bytes),
-        Err(_) => Ok(Block::new(alloc)),
-    }
-}
-
-// n bytes, each of which tells its place, but a `z` at one.
-fn add_various(input: &mut Block, rest: &str) -> Result<(), Memory> {
-    let (count, changed) = number_and_rest(rest);
-    let changed = changed.parse::<u64>().unwrap_or(u64::MAX);
-    for place in 0..count {
-        let byte = if place == changed {
-            b'z'
-        } else {
-            (place % 251) as u8
-        };
-        input.extend(&[byte])?;
-    }
-    Ok(())
-}
-
-// So many zero bytes.
-fn zeros(alloc: Global, rest: &str) -> Result<Block, Memory> {
-    let count = number_of(rest).min(268435457) as usize;
-    let mut zeros = Block::with_capacity(alloc, count)?;
-    let piece = vec![in alloc; 0u8; PIECE]?;
-    for _ in 0..count / PIECE {
-        zeros.extend(&piece)?;
-    }
-    zeros.extend(&piece[..count % PIECE])?;
-    Ok(zeros)
-}
-
-fn add_spaces(input: &mut Block, rest: &str) -> Result<(), Memory> {
-    for _ in 0..number_of(rest) {
-        input.extend(b" ")?;
-    }
-    Ok(())
-}
-
-// A line, with this number for its `#`.
-fn add_numbered(
-    alloc: Global,
-    input: &mut Block,
-    words: (&str, &str),
-    number: u64,
-) -> Result<(), Memory> {
-    let line = format!(in alloc; "{}{number}{}\n", words.0, words.1)?;
-    input.extend(line.as_bytes())
-}
-
-// A line for each number from the first to the last.
-fn add_lines(alloc: Global, input: &mut Block, rest: &str) -> Result<(), Memory> {
-    let (first, rest) = number_and_rest(rest);
-    let (last, words) = number_and_rest(rest);
-    let words = words.split_once('#').unwrap_or((words, ""));
-    for number in first..last.saturating_add(1) {
-        add_numbered(alloc, input, words, number)?;
-    }
-    Ok(())
-}
-
-fn add_line(input: &mut Block, rest: &str) -> Result<(), Memory> {
-    input.extend(rest.as_bytes())?;
-    input.extend(b"\n")
-}
-
-fn add_hex(alloc: Global, input: &mut Block, rest: &str) -> Result<(), Memory> {
-    let bytes = bytes_of(alloc, rest)?;
-    input.extend(bytes.as_slice())
-}
-
-// The input so far, repeated.
-fn add_times(alloc: Global, input: &mut Block, rest: &str) -> Result<(), Memory> {
-    let once = block_of(alloc, input.as_slice())?;
-    for _ in 1..number_of(rest) {
-        input.extend(once.as_slice())?;
-    }
-    Ok(())
-}
-
-// Another input; whether the word asks for one.
-fn set_input<X: BlockHash>(world: &mut World<X>, word: Word, rest: &str) -> Result<bool, Memory> {
-    match word {
-        Word::Input => world.input = block_of(world.alloc, rest.as_bytes())?,
-        Word::Zeros => world.input = zeros(world.alloc, rest)?,
-        Word::Pipe => {
-            world.input = mem::replace(&mut world.output, Block::new(world.alloc));
-        }
-        _ => return Ok(false),
-    }
-    Ok(true)
-}
-
-// More input; whether the word asks for some.
-fn add_input(alloc: Global, input: &mut Block, word: Word, rest: &str) -> Result<bool, Memory> {
-    match word {
-        Word::Text => input.extend(rest.as_bytes())?,
-        Word::Line => add_line(input, rest)?,
-        Word::Lines => add_lines(alloc, input, rest)?,
-        Word::Spaces => add_spaces(input, rest)?,
-        Word::Hex => add_hex(alloc, input, rest)?,
-        Word::Various => add_various(input, rest)?,
-        Word::Times => add_times(alloc, input, rest)?,
-        _ => return Ok(false),
-    }
-    Ok(true)
-}
-
-/// Sets the input of the next command; whether the word asks for that.
-pub fn feed<X: BlockHash>(world: &mut World<X>, word: Word, rest: &str) -> Result<bool, Memory> {
-    if set_input(world, word, rest)? {
+/// Sets the input of the next command, or puts more after it; whether the line asks for that.
+pub fn feed_world<X: BlockHash>(world: &mut World<X>, line: &str) -> Result<bool, Memory> {
+    if line == "pipe" {
+        world.input = mem::replace(&mut world.output, Block::new(world.alloc));
         return Ok(true);
     }
-    add_input(world.alloc, &mut world.input, word, rest)
+    feed(world.alloc, &mut world.input, line)
 }
 
 // A change of the streams; whether the word asks for one.
@@ -277,7 +164,6 @@ pub fn set<X: BlockHash>(
     rest: &str,
 ) -> Result<bool, Memory> {
     if set_streams(world, word, rest)
-        || feed(world, word, rest)?
         || set_failure(world, word, rest)?
         || set_host(world, word, line, rest)?
     {

@@ -1,13 +1,13 @@
 //! Commands that are done again and again: with each call that may fail, after each stop, over each output and input.
 
-use crate::words::number_and_rest;
+use crate::words::Word;
 use crate::world::{World, act, act_and_tell};
 use std::alloc::Global;
 use std::sync::ledger::Ledger;
 use uf_cid::{Block, BlockHash, Memory};
 use uf_murmur::NameHash;
 use uf_store::{CallKind, Steps};
-use uf_testing::{ROOMY, block_of};
+use uf_testing::{ROOMY, block_of, number_and_rest};
 
 /// The answers of a command that is done again and again: that of now, the one before, and the one where nothing was in
 /// its way.
@@ -157,7 +157,7 @@ fn ask<X: BlockHash, N: NameHash, L: Ledger>(
     Ok(())
 }
 
-// Does the command over a copy, and asks what is left. Where it fails it is done once more then, and that is asked again.
+// Asks what a command that failed left of a copy, does it once more, and asks that again.
 fn follow<X: BlockHash, N: NameHash, L: Ledger>(
     world: &World<X>,
     copy: &mut World<X>,
@@ -263,33 +263,31 @@ fn try_at<X: BlockHash, N: NameHash, L: Ledger>(
     tries.tell_new(head.as_str(), told)
 }
 
-/// Does a command over outputs with room for each prefix of what it prints.
-pub fn try_rooms<X: BlockHash, N: NameHash, L: Ledger>(
-    world: &World<X>,
-    words: &str,
-    tries: &mut Tries,
-    told: &mut Block,
-    touches: &mut Steps<L>,
-) -> Result<(), Memory> {
-    try_once::<X, N, L>(world, Bar::Nothing, words, tries, touches)?;
-    for room in 0..tries.output.as_slice().len().saturating_add(1) {
-        let bar = (Bar::Room(room), "room", room);
-        try_at::<X, N, L>(world, bar, words, tries, told, touches)?;
+// What is in the way of a command for a prefix of this length.
+fn bar_of(word: Word, end: usize) -> (Bar, &'static str, usize) {
+    if word == Word::Rooms {
+        (Bar::Room(end), "room", end)
+    } else {
+        (Bar::Front(end), "front", end)
     }
-    Ok(())
 }
 
-/// Does a command on each prefix of its input.
-pub fn try_fronts<X: BlockHash, N: NameHash, L: Ledger>(
+/// Does a command over outputs with room for each prefix of what it prints, or on each prefix of its input.
+pub fn try_prefixes<X: BlockHash, N: NameHash, L: Ledger>(
     world: &World<X>,
-    words: &str,
+    what: (Word, &str),
     tries: &mut Tries,
     told: &mut Block,
     touches: &mut Steps<L>,
 ) -> Result<(), Memory> {
-    for end in 0..world.input.as_slice().len().saturating_add(1) {
-        let bar = (Bar::Front(end), "front", end);
-        try_at::<X, N, L>(world, bar, words, tries, told, touches)?;
+    let (word, words) = what;
+    let mut length = world.input.as_slice().len();
+    if word == Word::Rooms {
+        try_once::<X, N, L>(world, Bar::Nothing, words, tries, touches)?;
+        length = tries.output.as_slice().len();
+    }
+    for end in 0..length.saturating_add(1) {
+        try_at::<X, N, L>(world, bar_of(word, end), words, tries, told, touches)?;
     }
     Ok(())
 }

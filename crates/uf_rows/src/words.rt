@@ -1,19 +1,10 @@
 //! The words after a `!`.
 
+use uf_testing::word_and_rest;
+
 /// What a line after a `!` asks for.
 #[derive(Clone, Copy, PartialEq, Eq)]
 pub enum Word {
-    // The input of the next command: other bytes in its place, or more after it.
-    Input,
-    Zeros,
-    Text,
-    Line,
-    Lines,
-    Spaces,
-    Hex,
-    Various,
-    Times,
-    Pipe,
     // The streams of the commands that follow.
     Room,
     InputFails,
@@ -55,17 +46,7 @@ pub enum Word {
     Batch,
 }
 
-const WORDS: [(&str, Word); 45] = [
-    ("input", Word::Input),
-    ("zeros", Word::Zeros),
-    ("text", Word::Text),
-    ("line", Word::Line),
-    ("lines", Word::Lines),
-    ("spaces", Word::Spaces),
-    ("hex", Word::Hex),
-    ("various", Word::Various),
-    ("times", Word::Times),
-    ("pipe", Word::Pipe),
+const WORDS: [(&str, Word); 35] = [
     ("room", Word::Room),
     ("input-fails", Word::InputFails),
     ("output-fails", Word::OutputFails),
@@ -105,22 +86,11 @@ const WORDS: [(&str, Word); 45] = [
 
 /// The first word of a line, where it is one of these, and what follows it.
 pub fn word_of(line: &str) -> (Option<Word>, &str) {
-    let (first, rest) = line.split_once(' ').unwrap_or((line, ""));
+    let (first, rest) = word_and_rest(line);
     for (name, word) in &WORDS {
         if *name == first {
             return (Some(*word), rest);
         }
     }
     (None, rest)
-}
-
-/// A number; 0 where the word is none.
-pub fn number_of(word: &str) -> u64 {
-    word.parse::<u64>().unwrap_or(0)
-}
-
-/// The first word of a line as a number, and what follows it.
-pub fn number_and_rest(line: &str) -> (u64, &str) {
-    let (first, rest) = line.split_once(' ').unwrap_or((line, ""));
-    (number_of(first), rest)
 }

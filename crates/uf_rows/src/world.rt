@@ -2,8 +2,7 @@
 //! each way out of it has to be proved.
 
 use crate::hosting::host_with;
-use crate::outcome::{tell_bytes, tell_status};
-use crate::words::number_and_rest;
+use crate::outcome::tell_status;
 use std::alloc::Global;
 use std::mem;
 use std::sync::ledger::Ledger;
@@ -11,7 +10,7 @@ use uf_cid::{Block, BlockHash, Memory, Text};
 use uf_edge::{Calls, MemHost, MemSink, MemSource};
 use uf_murmur::NameHash;
 use uf_store::{MemStore, Steps};
-use uf_testing::{ROOMY, Streams, block_of, calls, sink, words_of};
+use uf_testing::{ROOMY, Streams, block_of, calls, number_and_rest, sink, tell_bytes, words_of};
 use uf_top::{Status, batch, run};
 
 /// What commands are done over, and what came of the last one.

@@ -12,7 +12,7 @@ use uf_murmur::Murmur3;
 use uf_store::{CallKind, Load, MemStore, Steps, Store, StoreFault};
 use uf_tree::{Entry, Meta, Name, Pair, Pairs, Profile, is_directory};
 
-type Kept = MemStore<Sha256Hash>;
+type DirStore = MemStore<Sha256Hash>;
 
 // A directory is in shards whatever it weighs.
 fn sharded() -> Profile
@@ -62,7 +62,7 @@ fn names(alloc: Global, count: u32) -> Option<Pairs> {
 // The root of the directory of these pairs in shards.
 fn built<L: Ledger>(
     alloc: Global,
-    store: &mut Kept,
+    store: &mut DirStore,
     pairs: &Pairs,
     touches: &mut Steps<L>,
 ) -> Option<Cid> {
@@ -70,14 +70,14 @@ fn built<L: Ledger>(
     if !bare.is_good() || !is_directory(pairs) {
         return None;
     }
-    let root = build::<Kept, Murmur3, L>(alloc, store, &sharded(), pairs, &bare, touches).ok()?;
+    let root = build::<DirStore, Murmur3, L>(alloc, store, &sharded(), pairs, &bare, touches).ok()?;
     Some(root.cid)
 }
 
 // Takes a block out of a store.
 fn taken<L: Ledger>(
     alloc: Global,
-    store: &mut Kept,
+    store: &mut DirStore,
     cid: &Cid,
     touches: &mut Steps<L>,
 ) -> Option<Block> {
@@ -101,22 +101,22 @@ fn is_missing<T>(answer: &Result<T, StoreFault>, lost: &Cid) -> bool {
 // Whether each of the three calls misses a block.
 fn miss<L: Ledger>(
     alloc: Global,
-    store: &mut Kept,
+    store: &mut DirStore,
     root: &Cid,
     name: &Name,
     lost: &Cid,
     touches: &mut Steps<L>,
 ) -> bool {
-    let entry = find::<Kept, Murmur3, L>(alloc, store, root, name, touches);
-    let cids = trail::<Kept, Murmur3, L>(alloc, store, root, name, touches);
-    let both = trace::<Kept, Murmur3, L>(alloc, store, root, name, touches);
+    let entry = find::<DirStore, Murmur3, L>(alloc, store, root, name, touches);
+    let cids = trail::<DirStore, Murmur3, L>(alloc, store, root, name, touches);
+    let both = trace::<DirStore, Murmur3, L>(alloc, store, root, name, touches);
     is_missing(&entry, lost) && is_missing(&cids, lost) && is_missing(&both, lost)
 }
 
 // Whether they miss a block that is lost, which is there again after that.
 fn is_missed<L: Ledger>(
     alloc: Global,
-    store: &mut Kept,
+    store: &mut DirStore,
     root: &Cid,
     name: &Name,
     lost: &Cid,
@@ -131,7 +131,7 @@ fn is_missed<L: Ledger>(
 // Whether they miss each of these blocks that wasn't lost before, where that is lost.
 fn are_missed<L: Ledger>(
     alloc: Global,
-    store: &mut Kept,
+    store: &mut DirStore,
     name: &Name,
     cids: &Cids,
     lost: &mut Cids,
@@ -152,15 +152,15 @@ fn are_missed<L: Ledger>(
 // Whether the three calls are at one about a name, also where a block of its trail that wasn't lost before is.
 fn is_decided<L: Ledger>(
     alloc: Global,
-    store: &mut Kept,
+    store: &mut DirStore,
     root: &Cid,
     pair: &Pair,
     lost: &mut Cids,
     touches: &mut Steps<L>,
 ) -> Option<bool> {
-    let both = trace::<Kept, Murmur3, L>(alloc, store, root, &pair.name, touches).ok()?;
-    let entry = find::<Kept, Murmur3, L>(alloc, store, root, &pair.name, touches).ok()?;
-    let cids = trail::<Kept, Murmur3, L>(alloc, store, root, &pair.name, touches).ok()?;
+    let both = trace::<DirStore, Murmur3, L>(alloc, store, root, &pair.name, touches).ok()?;
+    let entry = find::<DirStore, Murmur3, L>(alloc, store, root, &pair.name, touches).ok()?;
+    let cids = trail::<DirStore, Murmur3, L>(alloc, store, root, &pair.name, touches).ok()?;
     let missed = are_missed(alloc, store, &pair.name, &cids, lost, touches)?;
     Some(
         missed
@@ -173,7 +173,7 @@ fn is_decided<L: Ledger>(
 // The place of the first name of which they aren't, and how many blocks were lost in turn.
 fn first_wrong<L: Ledger>(
     alloc: Global,
-    store: &mut Kept,
+    store: &mut DirStore,
     root: &Cid,
     pairs: &[Pair],
     touches: &mut Steps<L>,
@@ -190,14 +190,14 @@ fn first_wrong<L: Ledger>(
 // Whether the removal of a name goes through, where the tenth load fails.
 fn is_light<L: Ledger>(
     alloc: Global,
-    store: &mut Kept,
+    store: &mut DirStore,
     root: &Cid,
     number: u32,
     touches: &mut Steps<L>,
 ) -> Option<bool> {
     let name = name_of(alloc, number)?;
     store.fail_at(CallKind::Load, 10).ok()?;
-    let left = remove::<Kept, Murmur3, L>(alloc, store, &usual(), root, &name, touches);
+    let left = remove::<DirStore, Murmur3, L>(alloc, store, &usual(), root, &name, touches);
     Some(left.is_ok())
 }
 
@@ -210,7 +210,7 @@ fn answers<L: Ledger>(alloc: Global, blank: Blank) -> Option<Answer>
     requires parts { blank.parts ≡ L.parts }
     requires some { 0 < blank.parts }
 {
-    let mut store = Kept::new(alloc);
+    let mut store = DirStore::new(alloc);
     let mut touches = Steps::<L>::new(blank);
     let pairs = names(alloc, 500)?;
     let root = built(alloc, &mut store, &pairs, &mut touches)?;

@@ -2,7 +2,7 @@
 ghost use Rattle.std.specs.Prelude.{◌≡◌, ◌<◌, ◌≤◌, ◌^◌, IsTrue};
 ghost use Rattle.uf_tree.specs.Profiles.{is_profile};
 
-use crate::models::{Kept, Trouble, built, is_built, model, next, profile, size_with};
+use crate::models::{FileStore, Mismatch, built, is_built, model, next, profile, size_with};
 use std::alloc::Global;
 use std::marker::Brand;
 use std::ops::Range;
@@ -14,7 +14,7 @@ use uf_tree::{Entry, Profile};
 
 // What is done to a file.
 #[derive(Clone, Copy)]
-enum Edit {
+enum SizeEdit {
     Write(usize, usize),
     Cut(usize),
 }
@@ -27,7 +27,7 @@ const HALF: usize = 21;
 
 // The pieces and the nodes of a file have these sizes.
 #[derive(Clone, Copy)]
-struct Sizes {
+struct TableSizes {
     chunk: u32,
     width: u32,
 }
@@ -40,16 +40,16 @@ fn chunks_of(p: &Profile, from: usize, to: usize) -> u64 {
 }
 
 // How many bytes the file has after an edit, and how many chunks it changes.
-fn outcome(p: &Profile, size: usize, edit: Edit) -> (usize, u64) {
+fn outcome(p: &Profile, size: usize, edit: SizeEdit) -> (usize, u64) {
     match edit {
-        Edit::Write(_, 0) => (size, 0),
-        Edit::Write(offset, more) => {
+        SizeEdit::Write(_, 0) => (size, 0),
+        SizeEdit::Write(offset, more) => {
             let end = offset.saturating_add(more);
             let from = offset.min(size.saturating_sub(1));
             (size.max(end), chunks_of(p, from, end))
         }
-        Edit::Cut(new) if new == size => (new, 0),
-        Edit::Cut(new) => {
+        SizeEdit::Cut(new) if new == size => (new, 0),
+        SizeEdit::Cut(new) => {
             let from = new.min(size).saturating_sub(1);
             (new, chunks_of(p, from, new.max(1)))
         }
@@ -69,7 +69,7 @@ fn height(p: &Profile, size: usize) -> u64 {
 }
 
 // How often an edit may touch the store.
-fn most_touches(p: &Profile, size: usize, edit: Edit) -> u64 {
+fn most_touches(p: &Profile, size: usize, edit: SizeEdit) -> u64 {
     let (new, chunks) = outcome(p, size, edit);
     let each = height(p, size).max(height(p, new)).saturating_add(2);
     chunks
@@ -79,11 +79,11 @@ fn most_touches(p: &Profile, size: usize, edit: Edit) -> u64 {
 }
 
 // n bytes, none of them zero.
-fn bytes_of(alloc: Global, size: usize) -> Result<Vec<u8>, Trouble> {
+fn bytes_of(alloc: Global, size: usize) -> Result<Vec<u8>, Mismatch> {
     let mut bytes = Vec::new(alloc);
     for place in 0..size {
         if bytes.push((place % 7) as u8 + 1).is_err() {
-            return Err(Trouble::Memory);
+            return Err(Mismatch::Memory);
         }
     }
     Ok(bytes)
@@ -92,26 +92,26 @@ fn bytes_of(alloc: Global, size: usize) -> Result<Vec<u8>, Trouble> {
 // The entry after an edit.
 fn done<L: Ledger>(
     alloc: Global,
-    store: &mut Kept,
+    store: &mut FileStore,
     p: &Profile,
     entry: &Entry,
-    edit: Edit,
+    edit: SizeEdit,
     touches: &mut Steps<L>,
-) -> Result<Entry, Trouble>
+) -> Result<Entry, Mismatch>
     requires { IsTrue (is_profile p.now) }
 {
     match edit {
-        Edit::Write(offset, more) => {
+        SizeEdit::Write(offset, more) => {
             let piece = bytes_of(alloc, more)?;
             let at = offset as u64;
             Ok(write_at(alloc, store, p, entry, at, piece.as_slice(), touches)?)
         }
-        Edit::Cut(size) => Ok(truncate(alloc, store, p, entry, size as u64, touches)?),
+        SizeEdit::Cut(size) => Ok(truncate(alloc, store, p, entry, size as u64, touches)?),
     }
 }
 
 // How many loads are left until one fails, at most so many. A look for a block counts as a load, and reads no bytes.
-fn loads_left<L: Ledger>(store: &mut Kept, cid: &Cid, most: u64, touches: &mut Steps<L>) -> u64
+fn loads_left<L: Ledger>(store: &mut FileStore, cid: &Cid, most: u64, touches: &mut Steps<L>) -> u64
     requires { most < 2 ^ 63 }
 {
     for left in 0..most {
@@ -125,13 +125,13 @@ fn loads_left<L: Ledger>(store: &mut Kept, cid: &Cid, most: u64, touches: &mut S
 // The entry after an edit, and how often it touched the store; where it loads more often than it may, it fails.
 fn counted<L: Ledger>(
     alloc: Global,
-    store: &mut Kept,
+    store: &mut FileStore,
     p: &Profile,
     entry: &Entry,
-    edit: Edit,
+    edit: SizeEdit,
     most: u64,
     touches: &mut Steps<L>,
-) -> Result<(Entry, u64), Trouble>
+) -> Result<(Entry, u64), Mismatch>
     requires { IsTrue (is_profile p.now) }
 {
     let most = most.min(1000000);
@@ -144,37 +144,37 @@ fn counted<L: Ledger>(
 }
 
 // The bytes after an edit.
-fn model_after(alloc: Global, bytes: &[u8], edit: Edit) -> Result<Vec<u8>, Trouble> {
+fn model_after(alloc: Global, bytes: &[u8], edit: SizeEdit) -> Result<Vec<u8>, Mismatch> {
     match edit {
-        Edit::Write(offset, more) => {
+        SizeEdit::Write(offset, more) => {
             let piece = bytes_of(alloc, more)?;
             let size = size_with(bytes.len(), offset, more);
             model(alloc, bytes, size, offset, piece.as_slice())
         }
-        Edit::Cut(size) => model(alloc, bytes, size, 0, &[]),
+        SizeEdit::Cut(size) => model(alloc, bytes, size, 0, &[]),
     }
 }
 
 // Does an edit of a file, and checks the entry and the count.
 fn check_edit<L: Ledger>(
     alloc: Global,
-    store: &mut Kept,
+    store: &mut FileStore,
     p: &Profile,
     entry: &Entry,
     bytes: &[u8],
-    edit: Edit,
+    edit: SizeEdit,
     touches: &mut Steps<L>,
-) -> Result<(), Trouble>
+) -> Result<(), Mismatch>
     requires { IsTrue (is_profile p.now) }
 {
     let most = most_touches(p, bytes.len(), edit);
     let (new, taken) = counted(alloc, store, p, entry, edit, most, touches)?;
     let after = model_after(alloc, bytes, edit)?;
     if taken > most {
-        return Err(Trouble::Touches);
+        return Err(Mismatch::Touches);
     }
     if !is_built(p, alloc, &new, after.as_slice(), touches) {
-        return Err(Trouble::Entry);
+        return Err(Mismatch::Entry);
     }
     Ok(())
 }
@@ -183,18 +183,18 @@ fn check_edit<L: Ledger>(
 // fail, and each load looks through those.
 fn check_place<L: Ledger>(
     alloc: Global,
-    sizes: Sizes,
+    sizes: TableSizes,
     bytes: &[u8],
     place: usize,
     touches: &mut Steps<L>,
-) -> Result<(), Trouble> {
+) -> Result<(), Mismatch> {
     let p = profile(sizes.chunk, sizes.width);
-    let mut kept = Kept::new(alloc);
+    let mut kept = FileStore::new(alloc);
     let entry = built(p, alloc, &mut kept, bytes, touches)?;
-    let cut = Edit::Cut(place);
+    let cut = SizeEdit::Cut(place);
     check_edit(alloc, &mut kept, &p, &entry, bytes, cut, touches)?;
     for more in 0..MOST {
-        let write = Edit::Write(place, more);
+        let write = SizeEdit::Write(place, more);
         check_edit(alloc, &mut kept, &p, &entry, bytes, write, touches)?;
     }
     Ok(())
@@ -203,10 +203,10 @@ fn check_place<L: Ledger>(
 // All edits of a file of one length.
 fn check_length<L: Ledger>(
     alloc: Global,
-    sizes: Sizes,
+    sizes: TableSizes,
     length: usize,
     touches: &mut Steps<L>,
-) -> Result<(), Trouble> {
+) -> Result<(), Mismatch> {
     let bytes = bytes_of(alloc, length)?;
     for place in 0..MOST {
         check_place(alloc, sizes, bytes.as_slice(), place, touches)?;
@@ -217,10 +217,10 @@ fn check_length<L: Ledger>(
 // All edits of files of these lengths.
 fn check_lengths<L: Ledger>(
     alloc: Global,
-    sizes: Sizes,
+    sizes: TableSizes,
     lengths: Range<usize>,
     touches: &mut Steps<L>,
-) -> Result<(), Trouble> {
+) -> Result<(), Mismatch> {
     for length in lengths {
         check_length(alloc, sizes, length, touches)?;
     }
@@ -230,20 +230,20 @@ fn check_lengths<L: Ledger>(
 // An edit of a file of up to 250 bytes, as a number says.
 fn check_one_of_many<L: Ledger>(
     alloc: Global,
-    sizes: Sizes,
+    sizes: TableSizes,
     n: u64,
     touches: &mut Steps<L>,
-) -> Result<(), Trouble> {
+) -> Result<(), Mismatch> {
     let p = profile(sizes.chunk, sizes.width);
     let bytes = bytes_of(alloc, (n % 251) as usize)?;
-    let mut store = Kept::new(alloc);
+    let mut store = FileStore::new(alloc);
     let entry = built(p, alloc, &mut store, bytes.as_slice(), touches)?;
     let place = (n / 256 % 300) as usize;
     let more = (n / 131072 % 90) as usize;
     let edit = if n / 16777216 % 4 == 0 {
-        Edit::Cut(place)
+        SizeEdit::Cut(place)
     } else {
-        Edit::Write(place, more)
+        SizeEdit::Write(place, more)
     };
     let bytes = bytes.as_slice();
     check_edit(alloc, &mut store, &p, &entry, bytes, edit, touches)
@@ -252,9 +252,9 @@ fn check_one_of_many<L: Ledger>(
 // Edits of larger files at random places.
 fn check_many<L: Ledger>(
     alloc: Global,
-    sizes: Sizes,
+    sizes: TableSizes,
     touches: &mut Steps<L>,
-) -> Result<(), Trouble> {
+) -> Result<(), Mismatch> {
     let mut n = 88172645463325252;
     for _ in 0..60 {
         n = next(n);
@@ -264,14 +264,14 @@ fn check_many<L: Ledger>(
 }
 
 // One byte written at 500 into a file of 1000, in pieces of one byte under nodes of two links: 72 touches at most.
-fn check_middle<L: Ledger>(alloc: Global, touches: &mut Steps<L>) -> Result<(), Trouble> {
+fn check_middle<L: Ledger>(alloc: Global, touches: &mut Steps<L>) -> Result<(), Mismatch> {
     let p = profile(1, 2);
     let bytes = bytes_of(alloc, 1000)?;
-    let mut store = Kept::new(alloc);
+    let mut store = FileStore::new(alloc);
     let entry = built(p, alloc, &mut store, bytes.as_slice(), touches)?;
-    let edit = Edit::Write(500, 1);
+    let edit = SizeEdit::Write(500, 1);
     if most_touches(&p, 1000, edit) != 72 {
-        return Err(Trouble::Touches);
+        return Err(Mismatch::Touches);
     }
     check_edit(
         alloc,
@@ -286,7 +286,12 @@ fn check_middle<L: Ledger>(alloc: Global, touches: &mut Steps<L>) -> Result<(), 
 
 // Whether each edit of files of these lengths is right, at places up to 40 with pieces of up to 40 bytes, and some of
 // larger files.
-fn all_right<L: Ledger>(alloc: Global, blank: Blank, sizes: Sizes, lengths: Range<usize>) -> bool
+fn all_right<L: Ledger>(
+    alloc: Global,
+    blank: Blank,
+    sizes: TableSizes,
+    lengths: Range<usize>,
+) -> bool
     requires name { blank.name ≡ L.name }
     requires parts { blank.parts ≡ L.parts }
     requires some { 0 < blank.parts }
@@ -298,7 +303,7 @@ fn all_right<L: Ledger>(alloc: Global, blank: Blank, sizes: Sizes, lengths: Rang
 
 // The same of files in pieces and nodes of these sizes.
 fn are_right(alloc: Global, chunk: u32, width: u32, lengths: Range<usize>) -> bool {
-    all_right::<Brand>(alloc, Blank::new(1), Sizes { chunk, width }, lengths)
+    all_right::<Brand>(alloc, Blank::new(1), TableSizes { chunk, width }, lengths)
 }
 
 // Whether an edit in the middle of a large file is right.

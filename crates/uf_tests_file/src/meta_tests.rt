@@ -4,7 +4,7 @@ ghost use Rattle.std.specs.Prelude.{◌≡◌, ◌<◌, IsTrue};
 ghost use Rattle.uf_tree.specs.Metas.{is_meta};
 ghost use Rattle.uf_tree.specs.Profiles.{is_profile};
 
-use crate::models::{Kept, Trouble, model, next, profile, size_with};
+use crate::models::{FileStore, Mismatch, model, next, profile, size_with};
 use std::alloc::Global;
 use std::marker::Brand;
 use std::sync::ledger::{Blank, Ledger};
@@ -56,7 +56,7 @@ fn meta_by(n: u64) -> Meta {
 fn built_with<L: Ledger>(
     p: Profile,
     alloc: Global,
-    store: &mut Kept,
+    store: &mut FileStore,
     wanted: &Wanted,
     touches: &mut Steps<L>,
 ) -> Result<Entry, BuildFault>
@@ -81,7 +81,7 @@ fn is_built_with<L: Ledger>(
     if !wanted.meta.is_good() {
         return false;
     }
-    let mut other = Kept::new(alloc);
+    let mut other = FileStore::new(alloc);
     match built_with(*p, alloc, &mut other, wanted, touches) {
         Ok(afresh) => afresh == *entry,
         Err(_) => false,
@@ -91,13 +91,13 @@ fn is_built_with<L: Ledger>(
 // Whether n bytes of the file from an offset on are those of these bytes.
 fn is_read<L: Ledger>(
     alloc: Global,
-    store: &mut Kept,
+    store: &mut FileStore,
     entry: &Entry,
     bytes: &[u8],
     offset: u64,
     count: u64,
     touches: &mut Steps<L>,
-) -> Result<bool, Trouble> {
+) -> Result<bool, Mismatch> {
     let mut out = MemSink::new(alloc, 1024, Seq::new(alloc))?;
     let from = (bytes.len() as u64).min(offset) as usize;
     let rest = &bytes[from..];
@@ -111,15 +111,15 @@ fn is_read<L: Ledger>(
 // The file after its metadata is set to what a number gives, and what it is to be.
 fn with_meta<L: Ledger>(
     alloc: Global,
-    store: &mut Kept,
+    store: &mut FileStore,
     entry: &Entry,
     old: &Wanted,
     n: u64,
     touches: &mut Steps<L>,
-) -> Result<(Entry, Wanted), Trouble> {
+) -> Result<(Entry, Wanted), Mismatch> {
     let meta = meta_by(n / 8);
     if !meta.is_good() {
-        return Err(Trouble::Entry);
+        return Err(Mismatch::Entry);
     }
     let entry = set_meta(alloc, store, entry, &meta, touches)?;
     let bytes = model(alloc, &old.bytes, old.bytes.len(), 0, &[])?;
@@ -130,12 +130,12 @@ fn with_meta<L: Ledger>(
 fn edited<L: Ledger>(
     p: &Profile,
     alloc: Global,
-    store: &mut Kept,
+    store: &mut FileStore,
     entry: &Entry,
     old: &Wanted,
     n: u64,
     touches: &mut Steps<L>,
-) -> Result<(Entry, Wanted), Trouble>
+) -> Result<(Entry, Wanted), Mismatch>
     requires { IsTrue (is_profile p.now) }
 {
     let data = [7u8, 7, 0, 7, 7, 7, 1, 1, 1, 0, 0, 0];
@@ -160,20 +160,20 @@ fn edited<L: Ledger>(
 fn edited_right<L: Ledger>(
     p: &Profile,
     alloc: Global,
-    store: &mut Kept,
+    store: &mut FileStore,
     entry: &Entry,
     old: &Wanted,
     n: u64,
     touches: &mut Steps<L>,
-) -> Result<(Entry, Wanted), Trouble>
+) -> Result<(Entry, Wanted), Mismatch>
     requires { IsTrue (is_profile p.now) }
 {
     let (entry, wanted) = edited(p, alloc, store, entry, old, n, touches)?;
     if !is_built_with(p, alloc, &entry, &wanted, touches) {
-        return Err(Trouble::Entry);
+        return Err(Mismatch::Entry);
     }
     if meta_of(alloc, store, &entry, touches)? != wanted.meta {
-        return Err(Trouble::Touches);
+        return Err(Mismatch::Touches);
     }
     let place = n / 64 % 70;
     if !is_read(
@@ -185,7 +185,7 @@ fn edited_right<L: Ledger>(
         n / 4096 % 70,
         touches,
     )? {
-        return Err(Trouble::Bytes);
+        return Err(Mismatch::Bytes);
     }
     Ok((entry, wanted))
 }
@@ -197,16 +197,16 @@ fn edit_often<L: Ledger>(
     rounds: u64,
     seed: u64,
     touches: &mut Steps<L>,
-) -> Result<(), Trouble>
+) -> Result<(), Mismatch>
     requires { IsTrue (is_profile p.now) }
 {
-    let mut store = Kept::new(alloc);
+    let mut store = FileStore::new(alloc);
     let mut wanted = Wanted {
         bytes: Vec::new(alloc),
         meta: Meta::none(),
     };
     if !wanted.meta.is_good() {
-        return Err(Trouble::Entry);
+        return Err(Mismatch::Entry);
     }
     let mut entry = built_with(*p, alloc, &mut store, &wanted, touches)?;
     let mut n = seed;
@@ -229,11 +229,11 @@ fn wrong<L: Ledger>(
 ) -> u8 {
     match edit_often(&profile(chunk, width), alloc, 40, seed, touches) {
         Ok(()) => 0,
-        Err(Trouble::Build(_)) => 1,
-        Err(Trouble::Memory) => 2,
-        Err(Trouble::Entry) => 3,
-        Err(Trouble::Bytes) => 4,
-        Err(Trouble::Touches) => 5,
+        Err(Mismatch::Build(_)) => 1,
+        Err(Mismatch::Memory) => 2,
+        Err(Mismatch::Entry) => 3,
+        Err(Mismatch::Bytes) => 4,
+        Err(Mismatch::Touches) => 5,
     }
 }
 
@@ -268,21 +268,21 @@ fn edits_keep_the_metadata(rt: HostRuntime) {
 // The entry of a file after this metadata is set.
 fn set_right<L: Ledger>(
     alloc: Global,
-    store: &mut Kept,
+    store: &mut FileStore,
     entry: &Entry,
     meta: &Meta,
     touches: &mut Steps<L>,
-) -> Result<Entry, Trouble> {
+) -> Result<Entry, Mismatch> {
     if !meta.is_good() {
-        return Err(Trouble::Entry);
+        return Err(Mismatch::Entry);
     }
     Ok(set_meta(alloc, store, entry, meta, touches)?)
 }
 
 // The Tsizes of a file of two bytes with a mode, an mtime, nanoseconds, of no bytes, and with nothing again.
-fn tsizes<L: Ledger>(alloc: Global, touches: &mut Steps<L>) -> Result<[u64; 5], Trouble> {
+fn tsizes<L: Ledger>(alloc: Global, touches: &mut Steps<L>) -> Result<[u64; 5], Mismatch> {
     let p = profile(1048576, 1024);
-    let mut store = Kept::new(alloc);
+    let mut store = FileStore::new(alloc);
     let mode = Meta {
         mode: Some(420),
         mtime: None,
@@ -296,12 +296,12 @@ fn tsizes<L: Ledger>(alloc: Global, touches: &mut Steps<L>) -> Result<[u64; 5], 
     let four = truncate(alloc, &mut store, &p, &one, 0, touches)?;
     let five = set_right(alloc, &mut store, &three, &Meta::none(), touches)?;
     if five != bare {
-        return Err(Trouble::Entry);
+        return Err(Mismatch::Entry);
     }
     Ok([one.tsize, two.tsize, three.tsize, four.tsize, five.tsize])
 }
 
-fn tsizes_of<L: Ledger>(alloc: Global, blank: Blank) -> Result<[u64; 5], Trouble>
+fn tsizes_of<L: Ledger>(alloc: Global, blank: Blank) -> Result<[u64; 5], Mismatch>
     requires name { blank.name ≡ L.name }
     requires parts { blank.parts ≡ L.parts }
     requires some { 0 < blank.parts }

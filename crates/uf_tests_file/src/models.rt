@@ -9,11 +9,11 @@ use uf_cid::{Memory, Sha256Hash};
 use uf_store::{MemStore, Steps, StoreFault};
 use uf_tree::{Entry, Profile};
 
-pub type Kept = MemStore<Sha256Hash>;
+pub type FileStore = MemStore<Sha256Hash>;
 
 // Why a row of edits is wrong.
 #[derive(Drop)]
-pub enum Trouble {
+pub enum Mismatch {
     Build(BuildFault),
     Memory,
     Entry,
@@ -21,21 +21,21 @@ pub enum Trouble {
     Touches,
 }
 
-impl From<BuildFault> for Trouble {
-    fn from(fault: BuildFault) -> Trouble {
-        Trouble::Build(fault)
+impl From<BuildFault> for Mismatch {
+    fn from(fault: BuildFault) -> Mismatch {
+        Mismatch::Build(fault)
     }
 }
 
-impl From<StoreFault> for Trouble {
-    fn from(fault: StoreFault) -> Trouble {
-        Trouble::Build(BuildFault::Store(fault))
+impl From<StoreFault> for Mismatch {
+    fn from(fault: StoreFault) -> Mismatch {
+        Mismatch::Build(BuildFault::Store(fault))
     }
 }
 
-impl From<Memory> for Trouble {
-    fn from(_: Memory) -> Trouble {
-        Trouble::Memory
+impl From<Memory> for Mismatch {
+    fn from(_: Memory) -> Mismatch {
+        Mismatch::Memory
     }
 }
 
@@ -61,7 +61,7 @@ pub fn next(seed: u64) -> u64 {
 pub fn built<L: Ledger>(
     p: Profile,
     alloc: Global,
-    store: &mut Kept,
+    store: &mut FileStore,
     bytes: &[u8],
     touches: &mut Steps<L>,
 ) -> Result<Entry, BuildFault>
@@ -87,7 +87,7 @@ pub fn model(
     size: usize,
     offset: usize,
     piece: &[u8],
-) -> Result<Vec<u8>, Trouble> {
+) -> Result<Vec<u8>, Mismatch> {
     let mut new = Vec::new(alloc);
     for place in 0..size {
         let byte = if place >= offset && place - offset < piece.len() {
@@ -96,7 +96,7 @@ pub fn model(
             byte_at(bytes, place)
         };
         if new.push(byte).is_err() {
-            return Err(Trouble::Memory);
+            return Err(Mismatch::Memory);
         }
     }
     Ok(new)
@@ -121,7 +121,7 @@ pub fn is_built<L: Ledger>(
 ) -> bool
     requires { IsTrue (is_profile p.now) }
 {
-    let mut other = Kept::new(alloc);
+    let mut other = FileStore::new(alloc);
     match built(*p, alloc, &mut other, bytes, touches) {
         Ok(afresh) => afresh == *entry,
         Err(_) => false,

@@ -96,7 +96,7 @@ fn adds<L: Ledger>(
 }
 
 // What is in a host, the threshold, the path and whether folders are taken, and the texts in a row that are to come.
-type Row = (
+type AddRow = (
     &'static [HostNode<'static>],
     u32,
     &'static str,
@@ -146,7 +146,7 @@ const AFTER: [HostNode<'static>; 5] = [
 
 const TWO: [&str; 7] = ["d/a ", NOTHING, "\nd/b ", NOTHING, "\nd ", A_AND_B, "\n"];
 
-const ROWS: [Row; 17] = [
+const ROWS: [AddRow; 17] = [
     (&HW, 262144, "hw", false, &["hw ", HELLO, "\n"]),
     (&HW, 262144, "hw//", true, &["hw ", HELLO, "\n"]),
     (&HW, 262144, "no", true, &["absent"]),
@@ -184,7 +184,7 @@ const ROWS: [Row; 17] = [
     (&TWINS, 0, "d", false, &["recursive"]),
 ];
 
-fn is_row<L: Ledger>(alloc: Global, row: &Row, touches: &mut Steps<L>) -> Result<bool, Memory> {
+fn is_row<L: Ledger>(alloc: Global, row: &AddRow, touches: &mut Steps<L>) -> Result<bool, Memory> {
     let (nodes, threshold, path, recursive, parts) = *row;
     let mut host = host_of(alloc, nodes, Calls::new(alloc))?;
     let text = adds(alloc, threshold, &mut host, path, recursive, touches)?;

@@ -65,7 +65,7 @@ fn added<L: Ledger>(
 
 // What is written where, and how.
 #[derive(Drop)]
-struct Row<'a> {
+struct GetRow<'a> {
     nodes: &'a [HostNode<'a>],
     path: &'a str,
     limits: Limits,
@@ -98,7 +98,7 @@ fn told_of(alloc: Global, answer: &Result<(), HostFault>) -> Result<Text, Memory
 // The answer where a tree is written into a host.
 fn got<L: Ledger>(
     alloc: Global,
-    row: &Row<'_>,
+    row: &GetRow<'_>,
     root: &Cid,
     store: &mut MemStore<Sha256Hash>,
     host: &mut MemHost,
@@ -111,7 +111,7 @@ fn got<L: Ledger>(
 // The answer where the source is written into a host, and whether the host has it then.
 fn written<L: Ledger>(
     alloc: Global,
-    row: &Row<'_>,
+    row: &GetRow<'_>,
     touches: &mut Steps<L>,
 ) -> Result<(Text, bool), Memory> {
     let mut store = MemStore::<Sha256Hash>::new(alloc);
@@ -133,7 +133,7 @@ fn is_row<L: Ledger>(
     wanted: &str,
     touches: &mut Steps<L>,
 ) -> Result<bool, Memory> {
-    let row = Row {
+    let row = GetRow {
         nodes,
         path,
         limits: USUAL,
@@ -173,14 +173,14 @@ fn rows_hold<L: Ledger>(alloc: Global, touches: &mut Steps<L>) -> Result<bool, M
 
 // Whether what can't be read leaves the host alone.
 fn readings_hold<L: Ledger>(alloc: Global, touches: &mut Steps<L>) -> Result<bool, Memory> {
-    let deep = Row {
+    let deep = GetRow {
         nodes: &[],
         path: "out",
         limits: FLAT,
         lost: false,
         fail: None,
     };
-    let lost = Row {
+    let lost = GetRow {
         nodes: &[],
         path: "out",
         limits: USUAL,
@@ -195,7 +195,7 @@ fn readings_hold<L: Ledger>(alloc: Global, touches: &mut Steps<L>) -> Result<boo
 // Whether each call of the host that fails is told: one that looks for the path, and sixteen that write.
 fn failures_are_told<L: Ledger>(alloc: Global, touches: &mut Steps<L>) -> Result<bool, Memory> {
     for number in 0..18 {
-        let row = Row {
+        let row = GetRow {
             nodes: &[],
             path: "out",
             limits: USUAL,

@@ -16,6 +16,3 @@ pub use laws::{
 };
 pub use spelled::NumberField;
 pub use varint::{Var, read_multi, read_proto, width, write};
-
-#[cfg(test)]
-mod tests;

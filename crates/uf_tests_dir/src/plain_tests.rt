@@ -1,8 +1,8 @@
 //! Rules told with their paths, and rows copied.
-use super::*;
 use std::test::*;
 use uf_cid::{Cid, Codec, Sha256Hash};
 use uf_path::Path;
+use uf_plain::{Refused, Row, Rows, Rule, rule_at};
 use uf_tree::Name;
 
 // The text of a rule about a path.
