@@ -75,10 +75,8 @@ fn spelled(first: u8, letters: &[u8]) -> Result<Cid, CidFault>
     let Some(front) = front_bytes(first, letters) else {
         return Err(CidFault::Base);
     };
-    match Cid::read_binary(&front.bytes[..front.len]) {
-        Err(why) => Err(why),
-        Ok((cid, used)) => all_of(cid, used, front.len),
-    }
+    let (cid, used) = Cid::read_binary(&front.bytes[..front.len])?;
+    all_of(cid, used, front.len)
 }
 
 // The CID of `used` bytes where it is all of the bytes, and no CIDv0.

@@ -197,27 +197,37 @@ check_words words = do
 unfoldable pub bare : List (List ℕ) → Option (Unit {0})
 bare words = option_map (λ found. tt) (found_in [] words)
 
--- the commands of the group `files`
-unfoldable pub files_words : List (List ℕ) → Option Cmd
-files_words [] = None
-files_words (name ∷ rest) =
+-- the commands of the group `files` that change the bytes of a file, or a mode or an mtime
+unfoldable pub contents_words : List ℕ → List (List ℕ) → Option Cmd
+contents_words name rest =
+    if bytes_eq name (codes "write") then write_words_of rest
+    else if bytes_eq name (codes "truncate") then truncate_words rest
+    else if bytes_eq name (codes "chmod") then chmod_words rest
+    else if bytes_eq name (codes "touch") then touch_words rest
+    else if bytes_eq name (codes "strip") then option_map (λ path. cmd.Strip path) (one_argument (codes "PATH") rest)
+    else None
+
+-- those that change which names are where, and those above
+unfoldable pub names_words : List ℕ → List (List ℕ) → Option Cmd
+names_words name rest =
     if bytes_eq name (codes "mkdir") then
     option_map (λ given. cmd.Mkdir given.0 given.1) (flag_and_argument (codes "parents") 112 (codes "PATH") rest)
-    else if bytes_eq name (codes "ls") then ls_words rest
-    else if bytes_eq name (codes "stat") then option_map (λ path. cmd.Stat path) (one_argument (codes "PATH") rest)
-    else if bytes_eq name (codes "read") then read_words_of rest
-    else if bytes_eq name (codes "write") then write_words_of rest
-    else if bytes_eq name (codes "truncate") then truncate_words rest
     else if bytes_eq name (codes "cp") then
     option_map (λ given. cmd.Cp given.0 given.1) (two_arguments (codes "SOURCE") (codes "DEST") rest)
     else if bytes_eq name (codes "mv") then
     option_map (λ given. cmd.Mv given.0 given.1) (two_arguments (codes "SOURCE") (codes "DEST") rest)
     else if bytes_eq name (codes "rm") then
     option_map (λ given. cmd.Rm given.0 given.1) (flag_and_argument (codes "recursive") 114 (codes "PATH") rest)
-    else if bytes_eq name (codes "chmod") then chmod_words rest
-    else if bytes_eq name (codes "touch") then touch_words rest
-    else if bytes_eq name (codes "strip") then option_map (λ path. cmd.Strip path) (one_argument (codes "PATH") rest)
-    else None
+    else contents_words name rest
+
+-- the commands of the group `files`: those that change nothing, and those above
+unfoldable pub files_words : List (List ℕ) → Option Cmd
+files_words [] = None
+files_words (name ∷ rest) =
+    if bytes_eq name (codes "ls") then ls_words rest
+    else if bytes_eq name (codes "stat") then option_map (λ path. cmd.Stat path) (one_argument (codes "PATH") rest)
+    else if bytes_eq name (codes "read") then read_words_of rest
+    else names_words name rest
 
 -- the commands of the group `dag`
 unfoldable pub dag_words : List (List ℕ) → Option Cmd
@@ -252,6 +262,15 @@ other_words name rest =
     else if bytes_eq name (codes "serve") then option_map (λ nothing. cmd.Serve) (bare rest)
     else None
 
+-- the groups of commands, and those above
+unfoldable pub group_words : List ℕ → List (List ℕ) → Option Cmd
+group_words name rest =
+    if bytes_eq name (codes "files") then files_words rest
+    else if bytes_eq name (codes "dag") then dag_words rest
+    else if bytes_eq name (codes "pin") then pin_words rest
+    else if bytes_eq name (codes "repo") then repo_words rest
+    else other_words name rest
+
 -- the command that the words are
 unfoldable pub command_of : List (List ℕ) → Option Cmd
 command_of [] = None
@@ -261,13 +280,9 @@ command_of (name ∷ rest) =
     else if bytes_eq name (codes "cat") then option_map (λ target. cmd.Cat target) (one_argument (codes "TARGET") rest)
     else if bytes_eq name (codes "get") then
     option_map (λ given. cmd.Get given.0 given.1) (two_arguments (codes "TARGET") (codes "HOSTPATH") rest)
-    else if bytes_eq name (codes "files") then files_words rest
-    else if bytes_eq name (codes "dag") then dag_words rest
     else if bytes_eq name (codes "batch") then option_map (λ nothing. cmd.Batch) (bare rest)
     else if bytes_eq name (codes "gen") then gen_words rest
-    else if bytes_eq name (codes "pin") then pin_words rest
-    else if bytes_eq name (codes "repo") then repo_words rest
-    else other_words name rest
+    else group_words name rest
 
 -- the profile of an `init` is accepted, `gen` makes at most 20000 files, a mode has twelve bits, and seconds and
 -- nanoseconds are in their ranges; no other command has a limit

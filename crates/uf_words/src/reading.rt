@@ -3,10 +3,11 @@ ghost use Rattle.std.specs.Prelude.{◌≡◌, [], map, string_bytes, IfOk};
 ghost use Rattle.clap.specs.Matches.{found_of};
 ghost use Rattle.clap.specs.Walk.{rows_of, first_of};
 ghost use Rattle.uf_words.specs.Commands.{IsWithinLimits, ReadsWords, add_of, add_words, bare, bytes_or_none};
-ghost use Rattle.uf_words.specs.Commands.{check_words, chmod_words, command_of, dag_words, decoded_hex};
-ghost use Rattle.uf_words.specs.Commands.{ends_with_slash, files_words, flag_and_argument, gen_words, init_of};
-ghost use Rattle.uf_words.specs.Commands.{init_words, ls_words, one_argument, other_words, pin_words, places_well};
-ghost use Rattle.uf_words.specs.Commands.{prove_words, read_words_of, repo_words, touch_words, truncate_words};
+ghost use Rattle.uf_words.specs.Commands.{check_words, chmod_words, command_of, contents_words, dag_words};
+ghost use Rattle.uf_words.specs.Commands.{decoded_hex, ends_with_slash, files_words, flag_and_argument, gen_words};
+ghost use Rattle.uf_words.specs.Commands.{group_words, init_of, init_words, ls_words, names_words, one_argument};
+ghost use Rattle.uf_words.specs.Commands.{other_words, pin_words, places_well, prove_words, read_words_of};
+ghost use Rattle.uf_words.specs.Commands.{repo_words, touch_words, truncate_words};
 ghost use Rattle.uf_words.specs.Commands.{two_arguments, write_words_of};
 ghost use Rattle.uf_words.specs.Options.{found_in};
 
@@ -46,21 +47,32 @@ pub fn read_words(alloc: Global, words: &[String]) -> Result<Cmd, WordFault>
     } else if name == "get" {
         let (target, host_path) = read_arguments(alloc, "TARGET", "HOSTPATH", rest)?;
         Ok(Cmd::Get { target, host_path })
-    } else if name == "files" {
-        read_files(alloc, rest)
-    } else if name == "dag" {
-        read_dag(alloc, rest)
     } else if name == "batch" {
         read_bare(alloc, rest)?;
         Ok(Cmd::Batch)
     } else if name == "gen" {
         read_gen(alloc, rest)
-    } else if name == "pin" {
-        read_pin(alloc, rest)
-    } else if name == "repo" {
-        read_repo(alloc, rest)
     } else {
-        read_other(alloc, name, rest)
+        read_group(alloc, name, rest)
+    }
+}
+
+// A command of a group, or one of the others.
+#[tactic(auto, unfolding(crate::specs::Commands::group_words))]
+fn read_group(alloc: Global, name: &str, words: &[String]) -> Result<Cmd, WordFault>
+    ensures exact { ReadsWords result (group_words name.now (map string_bytes words.now)) }
+    ensures limits { IfOk result IsWithinLimits }
+{
+    if name == "files" {
+        read_files(alloc, words)
+    } else if name == "dag" {
+        read_dag(alloc, words)
+    } else if name == "pin" {
+        read_pin(alloc, words)
+    } else if name == "repo" {
+        read_repo(alloc, words)
+    } else {
+        read_other(alloc, name, words)
     }
 }
 
@@ -74,35 +86,57 @@ fn read_files(alloc: Global, words: &[String]) -> Result<Cmd, WordFault>
         return Err(WordFault::Usage);
     };
     let name = first.as_str();
-    if name == "mkdir" {
-        let (parents, path) = read_flagged(alloc, "parents", 'p', "PATH", rest)?;
-        Ok(Cmd::Mkdir { parents, path })
-    } else if name == "ls" {
+    if name == "ls" {
         read_ls(alloc, rest)
     } else if name == "stat" {
         let path = read_argument(alloc, "PATH", rest)?;
         Ok(Cmd::Stat { path })
     } else if name == "read" {
         read_read(alloc, rest)
-    } else if name == "write" {
-        read_write(alloc, rest)
-    } else if name == "truncate" {
-        read_truncate(alloc, rest)
+    } else {
+        read_names(alloc, name, rest)
+    }
+}
+
+// A command of the group `files` that changes which names are where, or one that changes a file.
+#[tactic(auto, unfolding(crate::specs::Commands::names_words))]
+fn read_names(alloc: Global, name: &str, words: &[String]) -> Result<Cmd, WordFault>
+    ensures exact { ReadsWords result (names_words name.now (map string_bytes words.now)) }
+    ensures limits { IfOk result IsWithinLimits }
+{
+    if name == "mkdir" {
+        let (parents, path) = read_flagged(alloc, "parents", 'p', "PATH", words)?;
+        Ok(Cmd::Mkdir { parents, path })
     } else if name == "cp" {
-        let (source, dest) = read_arguments(alloc, "SOURCE", "DEST", rest)?;
+        let (source, dest) = read_arguments(alloc, "SOURCE", "DEST", words)?;
         Ok(Cmd::Cp { source, dest })
     } else if name == "mv" {
-        let (source, dest) = read_arguments(alloc, "SOURCE", "DEST", rest)?;
+        let (source, dest) = read_arguments(alloc, "SOURCE", "DEST", words)?;
         Ok(Cmd::Mv { source, dest })
     } else if name == "rm" {
-        let (recursive, path) = read_flagged(alloc, "recursive", 'r', "PATH", rest)?;
+        let (recursive, path) = read_flagged(alloc, "recursive", 'r', "PATH", words)?;
         Ok(Cmd::Rm { recursive, path })
+    } else {
+        read_contents(alloc, name, words)
+    }
+}
+
+// A command of the group `files` that changes the bytes of a file, or a mode or an mtime.
+#[tactic(auto, unfolding(crate::specs::Commands::contents_words))]
+fn read_contents(alloc: Global, name: &str, words: &[String]) -> Result<Cmd, WordFault>
+    ensures exact { ReadsWords result (contents_words name.now (map string_bytes words.now)) }
+    ensures limits { IfOk result IsWithinLimits }
+{
+    if name == "write" {
+        read_write(alloc, words)
+    } else if name == "truncate" {
+        read_truncate(alloc, words)
     } else if name == "chmod" {
-        read_chmod(alloc, rest)
+        read_chmod(alloc, words)
     } else if name == "touch" {
-        read_touch(alloc, rest)
+        read_touch(alloc, words)
     } else if name == "strip" {
-        let path = read_argument(alloc, "PATH", rest)?;
+        let path = read_argument(alloc, "PATH", words)?;
         Ok(Cmd::Strip { path })
     } else {
         Err(WordFault::Usage)

@@ -14,7 +14,7 @@ use clap::Command;
 use std::alloc::{AllocError, Global};
 
 // The options of `init`.
-#[tactic(auto, unfolding(crate::specs::Commands::init_options))]
+#[tactic(auto, unfolding(crate::specs::Commands::init_options), using(crate::proofs::Simple::init_simple))]
 pub fn init_command<'a>(alloc: Global) -> Result<Command<'a>, AllocError>
     ensures made { IfOk result (λ command. app_of command ≡ init_options) }
     ensures simple { IfOk result (λ command. is_simple_and_free (app_of command) ≡ true) }
@@ -25,7 +25,7 @@ pub fn init_command<'a>(alloc: Global) -> Result<Command<'a>, AllocError>
 }
 
 // The options and the argument of `add`.
-#[tactic(auto, unfolding(crate::specs::Commands::add_options))]
+#[tactic(auto, unfolding(crate::specs::Commands::add_options), using(crate::proofs::Simple::add_simple))]
 pub fn add_command<'a>(alloc: Global) -> Result<Command<'a>, AllocError>
     ensures made { IfOk result (λ command. app_of command ≡ add_options) }
     ensures simple { IfOk result (λ command. is_simple_and_free (app_of command) ≡ true) }
@@ -37,7 +37,7 @@ pub fn add_command<'a>(alloc: Global) -> Result<Command<'a>, AllocError>
 }
 
 // The flag and the argument of `files ls`.
-#[tactic(auto, unfolding(crate::specs::Commands::ls_options))]
+#[tactic(auto, unfolding(crate::specs::Commands::ls_options), using(crate::proofs::Simple::ls_simple))]
 pub fn ls_command<'a>(alloc: Global) -> Result<Command<'a>, AllocError>
     ensures made { IfOk result (λ command. app_of command ≡ ls_options) }
     ensures simple { IfOk result (λ command. is_simple_and_free (app_of command) ≡ true) }
@@ -47,7 +47,7 @@ pub fn ls_command<'a>(alloc: Global) -> Result<Command<'a>, AllocError>
 }
 
 // The options and the argument of `files read`.
-#[tactic(auto, unfolding(crate::specs::Commands::read_options))]
+#[tactic(auto, unfolding(crate::specs::Commands::read_options), using(crate::proofs::Simple::read_simple))]
 pub fn read_command<'a>(alloc: Global) -> Result<Command<'a>, AllocError>
     ensures made { IfOk result (λ command. app_of command ≡ read_options) }
     ensures simple { IfOk result (λ command. is_simple_and_free (app_of command) ≡ true) }
@@ -58,7 +58,7 @@ pub fn read_command<'a>(alloc: Global) -> Result<Command<'a>, AllocError>
 }
 
 // The options and the argument of `files write`.
-#[tactic(auto, unfolding(crate::specs::Commands::write_options))]
+#[tactic(auto, unfolding(crate::specs::Commands::write_options), using(crate::proofs::Simple::write_simple))]
 pub fn write_command<'a>(alloc: Global) -> Result<Command<'a>, AllocError>
     ensures made { IfOk result (λ command. app_of command ≡ write_options) }
     ensures simple { IfOk result (λ command. is_simple_and_free (app_of command) ≡ true) }
@@ -80,7 +80,7 @@ fn write_place_command<'a>(alloc: Global) -> Result<Command<'a>, AllocError>
 }
 
 // The option and the arguments of `files touch`.
-#[tactic(auto, unfolding(crate::specs::Commands::touch_options))]
+#[tactic(auto, unfolding(crate::specs::Commands::touch_options), using(crate::proofs::Simple::touch_simple))]
 pub fn touch_command<'a>(alloc: Global) -> Result<Command<'a>, AllocError>
     ensures made { IfOk result (λ command. app_of command ≡ touch_options) }
     ensures simple { IfOk result (λ command. is_simple_and_free (app_of command) ≡ true) }
@@ -91,7 +91,7 @@ pub fn touch_command<'a>(alloc: Global) -> Result<Command<'a>, AllocError>
 }
 
 // The flag and the argument of `prove`.
-#[tactic(auto, unfolding(crate::specs::Commands::prove_options))]
+#[tactic(auto, unfolding(crate::specs::Commands::prove_options), using(crate::proofs::Simple::prove_simple))]
 pub fn prove_command<'a>(alloc: Global) -> Result<Command<'a>, AllocError>
     ensures made { IfOk result (λ command. app_of command ≡ prove_options) }
     ensures simple { IfOk result (λ command. is_simple_and_free (app_of command) ≡ true) }
@@ -101,7 +101,7 @@ pub fn prove_command<'a>(alloc: Global) -> Result<Command<'a>, AllocError>
 }
 
 // The flag and the arguments of `check`.
-#[tactic(auto, unfolding(crate::specs::Commands::check_options))]
+#[tactic(auto, unfolding(crate::specs::Commands::check_options), using(crate::proofs::Simple::check_simple))]
 pub fn check_command<'a>(alloc: Global) -> Result<Command<'a>, AllocError>
     ensures made { IfOk result (λ command. app_of command ≡ check_options) }
     ensures simple { IfOk result (λ command. is_simple_and_free (app_of command) ≡ true) }
@@ -112,6 +112,7 @@ pub fn check_command<'a>(alloc: Global) -> Result<Command<'a>, AllocError>
 }
 
 // One argument.
+#[tactic(auto, using(crate::proofs::Simple::argument_simple))]
 pub fn one_argument_command<'a>(alloc: Global, name: &'a str) -> Result<Command<'a>, AllocError>
     ensures made { IfOk result (λ command. app_of command ≡ simple_command (argument name.entry.now ∷ [])) }
     ensures simple { IfOk result (λ command. is_simple_and_free (app_of command) ≡ true) }
@@ -120,6 +121,7 @@ pub fn one_argument_command<'a>(alloc: Global, name: &'a str) -> Result<Command<
 }
 
 // Two arguments.
+#[tactic(auto, using(crate::proofs::Simple::arguments_simple))]
 pub fn two_arguments_command<'a>(
     alloc: Global,
     first: &'a str,
@@ -134,6 +136,7 @@ pub fn two_arguments_command<'a>(
 }
 
 // A flag and one argument.
+#[tactic(auto, using(crate::proofs::Simple::flagged_simple))]
 pub fn flagged_command<'a>(
     alloc: Global,
     name: &'a str,
