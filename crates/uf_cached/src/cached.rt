@@ -48,9 +48,10 @@ pub fn run_cached<S: Sweep, N: NameHash, W: Host, I: Source, O: Sink, E: Sink, L
         (around_at I.Source O.Sink W.Host (cached_seen store.new) input.new output.new touches.new host.new) }
     ensures batch { request_in (map string_bytes words.now) ≡ requests.Batch
         → Batches S.X.block32 N.name64 1048576 1073741824 result
-        (scene_at O.Sink W.Host E.Sink (cached_seen store.old) output.old touches.old host.old errors.old)
-        (scene_at O.Sink W.Host E.Sink (cached_seen store.new) output.new touches.new host.new errors.new)
-        (I.left input.old) (I.left input.new) (I.faults input.old) (I.faults input.new) }
+        (scene_at I.Source O.Sink W.Host E.Sink (cached_seen store.old) input.old output.old touches.old host.old
+        errors.old)
+        (scene_at I.Source O.Sink W.Host E.Sink (cached_seen store.new) input.new output.new touches.new host.new
+        errors.new) }
     ensures pull { (cid : TheCid) → request_in (map string_bytes words.now) ≡ requests.Pull cid
         → RunsPull (SaidTo E.Sink errors.old errors.new) S.X.block32 N.name64 cid result
         (around_at I.Source O.Sink W.Host (cached_seen store.old) input.old output.old touches.old host.old)

@@ -1,7 +1,6 @@
 -- A batch passes no failure over: what failed in one of its lines ended it, and is its status.
 use Rattle.std.proofs.Common.{◌≡◌, ◌⊎◌, ◌∙◌, ℕ, ◌<◌, ◌≤◌, List, [], ◌∷◌, arith, true, false, refl, sym, ap, inl, inr, Result, Err}
 use Rattle.std.proofs.lemmas.Bool.{cases_lt}
-use Rattle.uf_edge.specs.Streams as streams
 use Rattle.uf_command.specs.Statuses.{ends_batch}
 use Rattle.uf_command.specs.Telling.{TellsWhy}
 use Rattle.uf_command.specs.declared.status.Status.{Status}
@@ -10,7 +9,7 @@ use Rattle.uf_command.specs.declared.types.Command.{Command}
 use Rattle.uf_command.specs.declared.types.Refusal.{Refusal}
 use Rattle.uf_command.specs.declared.types.Refusal.TheVariants as refusal
 use Rattle.uf_top.specs.Around.{Around}
-use Rattle.uf_top.specs.Batch.{AtLine, Batches, ByMemory, ByReading, Ending, EndsSo, LineCut, LineEnds, LineGone, LinePassed, LinesDone, ReadingFails, Said, Scene, Tells, TooLong, WithInput, with_sinks}
+use Rattle.uf_top.specs.Batch.{AtLine, Batches, ByMemory, ByReading, Ending, EndsSo, LineCut, LineEnds, LineGone, LinePassed, LinesDone, ReadingFails, Said, Scene, Tells, TooLong, WithInput, with_sinks, without_input}
 use Rattle.uf_top.specs.BatchLines.{EndsAtLine, PassesNoneOver}
 use Rattle.uf_top.specs.Running.{Runs}
 
@@ -142,11 +141,10 @@ module _ (X : List ℕ → List ℕ) (N : List ℕ → ℕ) where
   input-told ByMemory given m b reads reads_now e f less = absurd (omega (arith, f, less))
   input-told (AtLine line) given m b reads reads_now e f less = absurd (omega (arith, f, less))
 
-  pub batch-told : (most limit : ℕ) (given : Status) (a b : Scene) (left left_now : streams.Told) (reads reads_now : ℕ) (did : Batches X N most limit given a b left left_now reads reads_now)
-      → PassesNoneOver X N did.ending given a.around b.around reads reads_now
-  batch-told most limit given a b left left_now reads reads_now did =
-      let s = lines-still did.lines a did.between did.done in
-      let t = ends-told did.ending given did.between b did.ends in
+  pub batch-told : (most limit : ℕ) (given : Status) (a b : Scene) (did : Batches X N most limit given a b) → PassesNoneOver X N did.ending given a.around b.around
+  batch-told most limit given a b did =
+      let s = lines-still did.lines (without_input a) did.between did.done in
+      let t = ends-told did.ending given did.between (without_input b) did.ends in
       record {
         failed = λ less. t.failed (let k = s.faults in omega (arith, k, less));
         clashed = λ less. t.clashed (let k = s.clashes in omega (arith, k, less));
@@ -156,6 +154,6 @@ module _ (X : List ℕ → List ℕ) (N : List ℕ → ℕ) where
       }
     where
       by : did.between.around.host.reads ≤ a.around.host.reads → (did.between.around.host.reads < b.around.host.reads → given ≡ status.ReadFault)
-          → (reads < reads_now) ⊎ (a.around.host.reads < b.around.host.reads) → given ≡ status.ReadFault
-      by still told (inl less) = input-told did.ending given did.between b reads reads_now did.ends did.fails less
+          → (a.around.reads < b.around.reads) ⊎ (a.around.host.reads < b.around.host.reads) → given ≡ status.ReadFault
+      by still told (inl less) = input-told did.ending given did.between (without_input b) a.around.reads b.around.reads did.ends did.fails less
       by still told (inr less) = told (omega (arith, still, less))

@@ -1,12 +1,11 @@
 -- The lines of a batch that move the Head.
 use Rattle.std.proofs.Common.{◌≡◌, ◌∙◌, ℕ, List, [], ◌∷◌, Bool, true, false, refl, ap, subst, inl, inr, Option}
 use Rattle.std.specs.Prelude.{◌⊎◌}
-use Rattle.uf_edge.specs.Streams as streams
 use Rattle.uf_mfs.specs.Standing.{head_in}
 use Rattle.uf_store.specs.Contents.{Told}
 use Rattle.uf_command.specs.declared.status.Status.{Status}
 use Rattle.uf_top.specs.Around.{Around}
-use Rattle.uf_top.specs.Batch.{AtLine, Batches, ByMemory, ByReading, EndsSo, Ending, LineDone, LineGone, LinesDone, Scene, TooLong, WithInput, with_sinks}
+use Rattle.uf_top.specs.Batch.{AtLine, Batches, ByMemory, ByReading, EndsSo, Ending, LineDone, LineGone, LinesDone, Scene, TooLong, WithInput, with_sinks, without_input}
 use Rattle.uf_top.specs.BatchLines.{IsBehind, LineOf, MovesByLine}
 use Rattle.uf_top.specs.Endings.{may_move}
 
@@ -83,5 +82,5 @@ module _ (X : List ℕ → List ℕ) (N : List ℕ → ℕ) where
   all-move [] ending given a m b same ends = ends-moves ending given a b (subst (λ s. EndsSo X N ending given s b) same ends)
   all-move (line ∷ lines) ending given a m b done ends = gone-moves line lines ending a done.0 b.around.store.told done.1 (all-move lines ending given done.0 m b done.2 ends)
 
-  pub batch-moves : (most limit : ℕ) (given : Status) (a b : Scene) (left left_now : streams.Told) (reads reads_now : ℕ) (did : Batches X N most limit given a b left left_now reads reads_now) → Moves did.lines did.ending a b.around.store.told
-  batch-moves most limit given a b left left_now reads reads_now did = all-move did.lines did.ending given a did.between b did.done did.ends
+  pub batch-moves : (most limit : ℕ) (given : Status) (a b : Scene) (did : Batches X N most limit given a b) → Moves did.lines did.ending (without_input a) b.around.store.told
+  batch-moves most limit given a b did = all-move did.lines did.ending given (without_input a) did.between (without_input b) did.done did.ends

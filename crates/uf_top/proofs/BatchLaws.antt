@@ -1,13 +1,12 @@
 -- What a batch keeps, from what each of its lines keeps.
 use Rattle.std.proofs.Common.{◌≡◌, ◌∙◌, ℕ, List, [], ◌∷◌, sym, ap, subst, inl, inr}
-use Rattle.uf_edge.specs.Streams as streams
 use Rattle.uf_store.specs.Keeping.{KeepsGood}
 use Rattle.uf_store.proofs.Keeping.{KeepsGood-refl, KeepsGood-trans}
 use Rattle.uf_command.specs.declared.status.Status.{Status}
 use Rattle.uf_command.specs.declared.types.Refusal.{Refusal}
 use Rattle.uf_top.specs.Around.{Around}
 use Rattle.uf_top.proofs.LineHosts.{asks-leaves}
-use Rattle.uf_top.specs.Batch.{AtLine, Batches, ByMemory, ByReading, EndsSo, Ending, LineDone, LineGone, LinesDone, Scene, Tells, TooLong, WithInput}
+use Rattle.uf_top.specs.Batch.{AtLine, Batches, ByMemory, ByReading, EndsSo, Ending, LineDone, LineGone, LinesDone, Scene, Tells, TooLong, WithInput, without_input}
 
 module _ (X : List ℕ → List ℕ) (N : List ℕ → ℕ) where
   abbrev GoodStays : Scene → Scene → Type 0
@@ -35,9 +34,9 @@ module _ (X : List ℕ → List ℕ) (N : List ℕ → ℕ) where
   ends-good (AtLine line) given a b (inl e) = e.done.runs.good
   ends-good (AtLine line) given a b (inr e) = e.done.runs.good
 
-  pub batch-good : (most limit : ℕ) (given : Status) (a b : Scene) (left left_now : streams.Told) (reads reads_now : ℕ) → Batches X N most limit given a b left left_now reads reads_now → GoodStays a b
-  batch-good most limit given a b left left_now reads reads_now did =
-      KeepsGood-trans X a.around.store.told did.between.around.store.told b.around.store.told (lines-good did.lines a did.between did.done) (ends-good did.ending given did.between b did.ends)
+  pub batch-good : (most limit : ℕ) (given : Status) (a b : Scene) → Batches X N most limit given a b → GoodStays a b
+  batch-good most limit given a b did =
+      KeepsGood-trans X a.around.store.told did.between.around.store.told b.around.store.told (lines-good did.lines (without_input a) did.between did.done) (ends-good did.ending given did.between (without_input b) did.ends)
 
   -- ---- the host
 
@@ -63,5 +62,5 @@ module _ (X : List ℕ → List ℕ) (N : List ℕ → ℕ) where
   ends-host (AtLine line) given a b (inl e) = done-host line given a _ e.done
   ends-host (AtLine line) given a b (inr e) = done-host line e.was a _ e.done
 
-  pub batch-host : (most limit : ℕ) (given : Status) (a b : Scene) (left left_now : streams.Told) (reads reads_now : ℕ) → Batches X N most limit given a b left left_now reads reads_now → HostStays a b
-  batch-host most limit given a b left left_now reads reads_now did = ends-host did.ending given did.between b did.ends ∙ lines-host did.lines a did.between did.done
+  pub batch-host : (most limit : ℕ) (given : Status) (a b : Scene) → Batches X N most limit given a b → HostStays a b
+  batch-host most limit given a b did = ends-host did.ending given did.between (without_input b) did.ends ∙ lines-host did.lines (without_input a) did.between did.done

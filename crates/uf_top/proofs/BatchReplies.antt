@@ -22,7 +22,7 @@ use Rattle.uf_command.specs.declared.types.Command.TheVariants.{Init, Add, AddFr
 use Rattle.uf_command.specs.declared.types.Refusal.{Refusal}
 use Rattle.uf_top.specs.Caused.{StatusShows}
 use Rattle.uf_top.specs.Around.{Around, CountsCanRise, HasOutside, NoneFalls, RoseAt, StaysQuiet}
-use Rattle.uf_top.specs.Batch.{AtLine, Batches, ByMemory, ByReading, EndsSo, Ending, LineCut, LineDone, LineEnds, LineGone, LinePassed, LinesDone, PrintsCut, PrintsWhole, ReadingFails, Said, Scene, SinkSide, TooLong, WithInput, output_of, with_sinks}
+use Rattle.uf_top.specs.Batch.{AtLine, Batches, ByMemory, ByReading, EndsSo, Ending, LineCut, LineDone, LineEnds, LineGone, LinePassed, LinesDone, PrintsCut, PrintsWhole, ReadingFails, Said, Scene, SinkSide, TooLong, WithInput, output_of, with_sinks, without_input}
 use Rattle.uf_top.specs.BatchReplies.{BatchReplied, EndsReplied, GoesOnReplied, HasHeights, LineAnswered, LineReplied, LinesReplied, NothingFails, added_bounds, batch_bound, batch_printed, going_bound, going_printed, last_bound, last_printed, line_bound, line_printed, line_world, lines_bound, lines_printed, printed_by}
 use Rattle.uf_top.specs.Endings.{EndsAs, PrintsAll, PrintsPart}
 use Rattle.uf_top.specs.Naming.{FindsOver, FindsWorld, NamesIf, StandsIf, TellsBlocks}
@@ -271,11 +271,20 @@ module _ (X : List ℕ → List ℕ) (N : List ℕ → ℕ) where
 
     -- ---- the whole batch
 
-    module _ (most limit : ℕ) (given : Status) (a b : Scene) (left left_now : streams.Told) (reads reads_now : ℕ) (s : Standing) where
-      pub batch-replied : (did : Batches X N most limit given a b left left_now reads reads_now) → a.around.host.told ≡ Some host → TellsAs X N a.around.store.told s → NothingFails a.around b.around → Stood reads reads_now
+    module _ (most limit : ℕ) (given : Status) (before now : Scene) (s : Standing) where
+      abbrev a : Scene
+      a = without_input before
+
+      abbrev b : Scene
+      b = without_input now
+
+      pub batch-replied : (did : Batches X N most limit given before now) → a.around.host.told ≡ Some host → TellsAs X N a.around.store.told s → NothingFails before.around now.around → Stood before.around.reads now.around.reads
           → BatchReplied X N host did.lines did.ending given s a did.between b
-      batch-replied did tells stands h stood = whole first (ends-replied did.ending given did.between b first.0 did.ends first.2 (fails-last a.around did.between.around b.around early late h) no-reading)
+      batch-replied did tells stands fails stood = whole first (ends-replied did.ending given did.between b first.0 did.ends first.2 (fails-last a.around did.between.around b.around early late h) no-reading)
         where
+          h : NothingFails a.around b.around
+          h = record { store = fails.store; output = fails.output; host = fails.host }
+
           early : NoneFalls a.around did.between.around
           early = lines-counted X N did.lines a did.between did.done
 
@@ -286,7 +295,7 @@ module _ (X : List ℕ → List ℕ) (N : List ℕ → ℕ) where
           first = lines-replied did.lines a did.between s did.done (tells, stands) (fails-first a.around did.between.around b.around early late h)
 
           no-reading : did.ending ≡ ByReading → ⊥
-          no-reading is = rose-not-stood reads reads_now (subst (λ e. ReadingFails X N e reads reads_now) is did.fails) stood
+          no-reading is = rose-not-stood before.around.reads now.around.reads (subst (λ e. ReadingFails X N e before.around.reads now.around.reads) is did.fails) stood
 
           whole : (f : (next : Standing) × LinesReplied X N host did.lines s next a did.between × GoesOn did.between next) → ((next : Standing) × EndsReplied X N host did.ending given f.0 next did.between b × TellsAs X N b.around.store.told next)
               → BatchReplied X N host did.lines did.ending given s a did.between b

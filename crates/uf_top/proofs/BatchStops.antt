@@ -6,7 +6,6 @@ use Rattle.uf_cid.specs.Blocks.{Held, Lookup}
 use Rattle.uf_cid.specs.declared.cid.Cid.{Cid}
 use Rattle.uf_edge.specs.Counts.{Stood}
 use Rattle.uf_edge.specs.Host.{HostTree}
-use Rattle.uf_edge.specs.Streams as streams
 use Rattle.uf_host.specs.HostTree.{tree_on_host}
 use Rattle.uf_host.specs.declared.fault.HostFault.{HostFault}
 use Rattle.uf_mfs.specs.Reading.{CanRise}
@@ -42,7 +41,7 @@ use Rattle.uf_command.specs.declared.types.Refusal.{Refusal}
 use Rattle.uf_store.specs.Seen.{Seen}
 use Rattle.uf_top.specs.Answering.{LeavesNext}
 use Rattle.uf_top.specs.Around.{Around, StandsOrRose}
-use Rattle.uf_top.specs.Batch.{AtLine, Batches, ByMemory, ByReading, EndsSo, Ending, LineDone, LineGone, LinePassed, LinesDone, Said, Scene, SinkSide, TooLong, WithInput, with_sinks}
+use Rattle.uf_top.specs.Batch.{AtLine, Batches, ByMemory, ByReading, EndsSo, Ending, LineDone, LineGone, LinePassed, LinesDone, Said, Scene, SinkSide, TooLong, WithInput, with_sinks, without_input}
 use Rattle.uf_top.specs.BatchLines.{AllCanRise, BeginsSafe, EndsDuring, LineOf, StopsAtFirst, StopsInLine}
 use Rattle.uf_top.specs.BatchReplies.{NothingFails, line_world}
 use Rattle.uf_top.specs.Endings.{EndsAs, may_move}
@@ -473,15 +472,24 @@ module _ (X : List ℕ → List ℕ) (N : List ℕ → ℕ) (host : HostTree) wh
 
     -- ---- the whole batch
 
-    module _ (most limit : ℕ) (given : Status) (a z : Scene) (left left_now : streams.Told) (reads reads_now : ℕ) (did : Batches X N most limit given a z left left_now reads reads_now) (c d : Contents) (p : Profile) (es : Entries) where
-      whole : BeginsSafe X N host a c p es → BatchSafe did.lines did.ending a z c p es
-      whole begin = all-safe did.lines did.ending given a did.between z did.done did.ends c p es begin
+    module _ (most limit : ℕ) (given : Status) (before now : Scene) (did : Batches X N most limit given before now) (c d : Contents) (p : Profile) (es : Entries) where
+      abbrev a : Scene
+      a = without_input before
+
+      abbrev z : Scene
+      z = without_input now
+
+      begins : BeginsSafe X N host before c p es → BeginsSafe X N host a c p es
+      begins begin = record { told = begin.told; safe = begin.safe; host_told = begin.host_told; room = record { store = begin.room.store; output = begin.room.output; host = begin.room.host } }
+
+      whole : BeginsSafe X N host before c p es → BatchSafe did.lines did.ending a z c p es
+      whole begin = all-safe did.lines did.ending given a did.between z did.done did.ends c p es (begins begin)
 
       same-contents : (x y : Contents) → ◌≡◌ {A = Told} (Some x) (Some y) → x ≡ y
       same-contents x y e = cc
 
-      pub batch-stops : BeginsSafe X N host a c p es → z.around.store.told ≡ Some d → (us vs : List Write) → d.writes ≡ c.writes ++ us ++ vs → Stops did.lines did.ending a c p es (c.writes ++ us)
+      pub batch-stops : BeginsSafe X N host before c p es → z.around.store.told ≡ Some d → (us vs : List Write) → d.writes ≡ c.writes ++ us ++ vs → Stops did.lines did.ending a c p es (c.writes ++ us)
       batch-stops begin told us vs e = (let r = whole begin in r.stops us vs (ap (λ (t : Contents). t.writes) (same-contents r.d d (sym r.told_now ∙ told)) ∙ e))
 
-      pub batch-safe : BeginsSafe X N host a c p es → z.around.store.told ≡ Some d → (q : Profile) × (fs : Entries) × IsSafeFor X N d q fs
+      pub batch-safe : BeginsSafe X N host before c p es → z.around.store.told ≡ Some d → (q : Profile) × (fs : Entries) × IsSafeFor X N d q fs
       batch-safe begin told = (let r = whole begin in (r.q, r.fs, subst (λ (t : Contents). IsSafeFor X N t r.q r.fs) (same-contents r.d d (sym r.told_now ∙ told)) r.safe_now))

@@ -64,7 +64,7 @@ use Rattle.uf_top.proofs.Classed.{opening-kinds, tree-counts}
 use Rattle.uf_top.proofs.Finding.{read-whole}
 use Rattle.uf_top.proofs.InTree.{not-opened, opening-ready}
 use Rattle.uf_top.proofs.Losing.{names-of, names-same, opening-over}
-use Rattle.uf_top.proofs.Printing.{after-nothing, made-text, of-no-host, refused-does, whole-printed}
+use Rattle.uf_top.proofs.Printing.{after-nothing, of-no-host, refused-does, whole-printed}
 use Rattle.uf_top.proofs.Shows.{Shown-opening, bad-of-none, counts-still, head_of, opening-touched}
 use Rattle.uf_top.proofs.Standings.{stands-same, tells-none}
 
@@ -308,9 +308,9 @@ module _ (X : List ℕ → List ℕ) (N : List ℕ → ℕ) (offset count : ℕ)
       → ((p : Profile) (es : Entries) → NamesOver X N a.told p es → Stood a.faults m.faults → OpensOver X N a.told p es (Err f))
       → ReadsHead a.told (Err f) → CountsUp (tree_fault {A = Mfs} (Err f)) t0 t1 → ShownOpening X (IsBadInHead X N a.told) {A = Mfs} (Err f) a m
       → Does X N (Read offset count path) (Err why) (around a l i h w t0 side) (around m l i h w t1 side)
-  send-unopened f why is opens lost head up cause = refused-does X N (Read offset count path) refl a m l l i i t0 t1 h w side side why (made-text X N (Read offset count path) refl a m l l i i t0 t1 h w side (λ text. tt) (Err why) makes)
+  send-unopened f why is opens lost head up cause = refused-does X N (Read offset count path) refl a m l l i i t0 t1 h w side side why makes
     where
-      makes : Makes X N (Read offset count path) (Err why) a m l l i i t0 t1
+      makes : Makes X N (Read offset count path) (Err why) (around a l i h w t0 side) (around m l i h w t1 side)
       makes = record {
         answers = λ world stands input calm. not-opened X N world.standing (read_reply offset count path.names) f why m.told is (opens world.standing stands calm.faults) (stands-same X N a.told m.told world.standing told stands);
         lost = λ p es rows held bytes named input calm.
@@ -319,7 +319,9 @@ module _ (X : List ℕ → List ℕ) (N : List ℕ → ℕ) (offset count : ℕ)
         kinds = opening-kinds f why is;
         ready = ready-read offset count path a.told why (opening-ready a.told Stat path f why is head);
         adds = tt;
-        counts = tree-counts (Err why) i (opening-kinds f why is);
+        reads = tree-counts (Err why) i (opening-kinds f why is);
+        host = refl;
+        rows = tt;
         cause = Shown-opening Mfs X (IsBadInHead X N a.told) (IsBadIn X N a.told m.told) (bad-of-none X N a.told m.told) f why a m is cause;
         touches = λ p es bytes rows named input heights calm. omega (arith, opens_by);
         whole = λ s stands calm. read-whole X N s offset count path.names (Err why) m.told

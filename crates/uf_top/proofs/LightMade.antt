@@ -72,7 +72,7 @@ use Rattle.uf_top.proofs.Classed.{opening-kinds, tree-counts}
 use Rattle.uf_top.proofs.FileSent.{BySink, ByRule, ByStore, SentKind, Whole, if-err, none-printed, sent-kinds, sent-prints, sent-ready, sent-reads}
 use Rattle.uf_top.proofs.InTree.{not-opened, opening-ready}
 use Rattle.uf_top.proofs.Losing.{names-of, names-same, opening-over}
-use Rattle.uf_top.proofs.Printing.{made-text, of-no-host, refused-does, whole-printed}
+use Rattle.uf_top.proofs.Printing.{of-no-host, refused-does, whole-printed}
 use Rattle.uf_top.proofs.Shows.{Shown-opening, bad-of-none, head_of, opening-touched}
 use Rattle.uf_top.proofs.Standings.{stands-same, tells-none}
 use Rattle.uf_top.proofs.Tall.{found-tall}
@@ -293,7 +293,7 @@ module _ (X : List ℕ → List ℕ) (N : List ℕ → ℕ) (absent : Bool) (pat
       → ((p : Profile) (es : Entries) → NamesOver X N a.told p es → Stood a.faults m.faults → OpensOver X N a.told p es (Err f))
       → ReadsHead a.told (Err f) → CountsUp (tree_fault {A = Mfs} (Err f)) t0 t1 → ShownOpening X (IsBadInHead X N a.told) {A = Mfs} (Err f) a m
       → Does X N (Prove absent path) (Err why) (around a l i h w t0 side) (around m l i h w t1 side)
-  prove-unopened f why is opens lost head up cause = refused-does X N (Prove absent path) refl a m l l i i t0 t1 h w side side why (made-text X N (Prove absent path) refl a m l l i i t0 t1 h w side (λ text. tt) (Err why) makes)
+  prove-unopened f why is opens lost head up cause = refused-does X N (Prove absent path) refl a m l l i i t0 t1 h w side side why makes
     where
       whole : (s : Standing) → Answers X N s (in_tree (prove_reply X N absent path.names) s) (Err why) m.told → Opens X N m.told s (Err f) → FindsAll (status_of why)
       whole s given h = by f why is s h
@@ -306,7 +306,7 @@ module _ (X : List ℕ → List ℕ) (N : List ℕ → ℕ) (absent : Bool) (pat
           by (mfs.Store g) why is BadHead h = subst (λ x. FindsAll (status_of x)) (sym (is ∙ ap refusal.Store h)) (λ e. cc, λ e. cc)
           by (mfs.Store g) why is (Stands p es) h = subst (λ x. FindsAll (status_of x)) (sym (is ∙ ap refusal.Store h)) (λ e. cc, λ e. cc)
 
-      makes : Makes X N (Prove absent path) (Err why) a m l l i i t0 t1
+      makes : Makes X N (Prove absent path) (Err why) (around a l i h w t0 side) (around m l i h w t1 side)
       makes = record {
         answers = λ world stands input calm. not-opened X N world.standing (prove_reply X N absent path.names) f why m.told is (opens world.standing stands calm.faults) (stands-same X N a.told m.told world.standing told stands);
         lost = λ p es rows held bytes named input calm.
@@ -315,7 +315,9 @@ module _ (X : List ℕ → List ℕ) (N : List ℕ → ℕ) (absent : Bool) (pat
         kinds = opening-kinds f why is;
         ready = ready-prove absent path a.told why (opening-ready a.told Stat path f why is head);
         adds = tt;
-        counts = tree-counts (Err why) i (opening-kinds f why is);
+        reads = tree-counts (Err why) i (opening-kinds f why is);
+        host = refl;
+        rows = tt;
         cause = Shown-opening Mfs X (IsBadInHead X N a.told) (IsBadIn X N a.told m.told) (bad-of-none X N a.told m.told) f why a m is cause;
         touches = λ p es bytes rows named input heights calm. tt;
         whole = λ s stands calm. (let o = opens s stands calm.faults in whole s (not-opened X N s (prove_reply X N absent path.names) f why m.told is o (stands-same X N a.told m.told s told stands)) o);

@@ -32,6 +32,7 @@ use Rattle.uf_command.specs.declared.types.Ask.{Ask}
 use Rattle.uf_command.specs.declared.types.Ask.TheVariants.{Ls, Stat, Edit as Edits}
 use Rattle.uf_command.specs.declared.types.Command.TheVariants.{Init, At}
 use Rattle.uf_command.specs.declared.types.Refusal.{Refusal}
+use Rattle.uf_top.specs.Around.{HostSide, around}
 use Rattle.uf_top.specs.Causes.{HeadStays, IsBadIn, RefusesOpening}
 use Rattle.uf_edits.specs.Edits.{IsBadAsked}
 use Rattle.uf_top.specs.Losing.{AnswersOver, ask_needs}
@@ -41,7 +42,7 @@ use Rattle.uf_top.proofs.InTree.{init-ready, inits-err, inits-ok, not-opened, op
 use Rattle.uf_top.proofs.Classed.{init-counts, init-kinds, opened-of, opened-ready, opening-kinds, tree-counts}
 use Rattle.uf_top.proofs.Finding.{at-whole, init-looks}
 use Rattle.uf_top.proofs.Losing.{inits-over, named-from, names-kept, names-same, not-inited, opening-over, over-more}
-use Rattle.uf_top.proofs.Shows.{Shown-opening, bad-of-head, bad-of-none, counts-still, opening-touched}
+use Rattle.uf_top.proofs.Shows.{Shown-opening, bad-of-head, bad-of-none, counts-still, no-rows, opening-touched}
 use Rattle.uf_top.proofs.Standings.{stands-kept, stands-same}
 
 -- where nothing was written, a refused ask has written what it may
@@ -58,32 +59,34 @@ no-head-yet (Some t) h = h
 module _ (X : List ℕ → List ℕ) (N : List ℕ → ℕ) where
   -- ---- at a path
 
-  module _ (ask : Ask) (path : Path) (a m : Seen) (told : m.told ≡ a.told) (left : streams.Told) (reads t0 t1 : ℕ) (opens_by : t1 ≤ t0 + 1) where
+  module _ (ask : Ask) (path : Path) (a m : Seen) (told : m.told ≡ a.told) (left : streams.Told) (reads : ℕ) (h : streams.Told) (w t0 t1 : ℕ) (side : HostSide) (opens_by : t1 ≤ t0 + 1) where
     -- the tree isn't opened
-    pub at-refused : (f : MfsFault) (w : Refusal) → RefusesOpening f w → ((s : Standing) → TellsAs X N a.told s → Stood a.faults m.faults → Opens X N m.told s (Err f))
+    pub at-refused : (f : MfsFault) (why : Refusal) → RefusesOpening f why → ((s : Standing) → TellsAs X N a.told s → Stood a.faults m.faults → Opens X N m.told s (Err f))
         → ((p : Profile) (es : Entries) → NamesOver X N a.told p es → Stood a.faults m.faults → OpensOver X N a.told p es (Err f))
-        → ReadsHead a.told (Err f) → CountsUp (tree_fault {A = Mfs} (Err f)) t0 t1 → ShownOpening X (IsBadInHead X N a.told) {A = Mfs} (Err f) a m → Makes X N (At ask path) (Err w) a m left left reads reads t0 t1
-    at-refused f w is opens lost head up cause = record {
-      answers = λ world stands input calm. let s = world.standing in let bytes = world.input in not-opened X N s (tree_reply X N ask path.names) f w m.told is (opens s stands calm.faults) (stands-same X N a.told m.told s told stands);
+        → ReadsHead a.told (Err f) → CountsUp (tree_fault {A = Mfs} (Err f)) t0 t1 → ShownOpening X (IsBadInHead X N a.told) {A = Mfs} (Err f) a m → Makes X N (At ask path) (Err why) (around a left reads h w t0 side) (around m left reads h w t1 side)
+    at-refused f why is opens lost head up cause = record {
+      answers = λ world stands input calm. let s = world.standing in let bytes = world.input in not-opened X N s (tree_reply X N ask path.names) f why m.told is (opens s stands calm.faults) (stands-same X N a.told m.told s told stands);
       lost = λ p es heights held bytes named input calm.
-          opening-over X N a.told m.told p es (ask_needs X N ask path.names p es) (tree_reply X N ask path.names p es) f w is (lost p es named.names calm.faults)
+          opening-over X N a.told m.told p es (ask_needs X N ask path.names p es) (tree_reply X N ask path.names p es) f why is (lost p es named.names calm.faults)
           (names-same X N a.told m.told p es told named);
-      kinds = opening-kinds f w is;
-      ready = opening-ready a.told ask path f w is head;
+      kinds = opening-kinds f why is;
+      ready = opening-ready a.told ask path f why is head;
       adds = tt;
-      counts = tree-counts (Err w) reads (opening-kinds f w is);
-      cause = Shown-opening Mfs X (IsBadInHead X N a.told) (IsBadIn X N a.told m.told) (bad-of-none X N a.told m.told) f w a m is cause;
+      reads = tree-counts (Err why) reads (opening-kinds f why is);
+      host = refl;
+      rows = tt;
+      cause = Shown-opening Mfs X (IsBadInHead X N a.told) (IsBadIn X N a.told m.told) (bad-of-none X N a.told m.told) f why a m is cause;
       touches = λ p es bytes rows named input heights calm. omega (arith, opens_by);
-      whole = λ s stands calm. at-whole X N s ask path.names (Err w) m.told
-          (not-opened X N s (tree_reply X N ask path.names) f w m.told is (opens s stands calm.faults) (stands-same X N a.told m.told s told stands));
-      touched = (opening-touched Mfs f w t0 t1 is up).risen;
+      whole = λ s stands calm. at-whole X N s ask path.names (Err why) m.told
+          (not-opened X N s (tree_reply X N ask path.names) f why m.told is (opens s stands calm.faults) (stands-same X N a.told m.told s told stands));
+      touched = (opening-touched Mfs f why t0 t1 is up).risen;
       leaves = record { good = KeepsGood-same X a.told m.told told; head = ap head_in told; writes = ask-same X ask a.told m.told told; idle = λ p es bytes stands calm same. told };
     }
 
     -- the tree is opened, and what is asked of it is done
     pub at-opened : (mfs : Mfs) (r : Result (List ℕ) Refusal) (b : Seen) (t2 : ℕ) → ((s : Standing) → TellsAs X N a.told s → Stood a.faults m.faults → Opens X N m.told s (Ok mfs))
         → ((p : Profile) (es : Entries) → NamesOver X N a.told p es → Stood a.faults m.faults → OpensOver X N a.told p es (Ok mfs))
-        → ReadsHead a.told (Ok mfs) → CountsUp None t0 t1 → StaysCalm a m → WorksAt X N mfs ask path r m b t1 t2 → Makes X N (At ask path) r a b left left reads reads t0 t2
+        → ReadsHead a.told (Ok mfs) → CountsUp None t0 t1 → StaysCalm a m → WorksAt X N mfs ask path r m b t1 t2 → Makes X N (At ask path) r (around a left reads h w t0 side) (around b left reads h w t2 side)
     at-opened mfs r b t2 opens lost head up calm works =
         let rises = shown-rises X (IsBadAsked X N mfs.profile b.told mfs.root.cid) (refusal_fault r) m b works.cause in
         let kinds = opened-of r works.kinds in
@@ -101,7 +104,9 @@ module _ (X : List ℕ → List ℕ) (N : List ℕ → ℕ) where
           kinds = kinds;
           ready = opened-ready a.told (At ask path) r works.kinds;
           adds = tt;
-          counts = tree-counts r reads kinds;
+          reads = tree-counts r reads kinds;
+          host = refl;
+          rows = no-rows r;
           cause = shown-after X (IsBadIn X N a.told b.told) (refusal_fault r) a m b calm
               (shown-by X (IsBadAsked X N mfs.profile b.told mfs.root.cid) (IsBadIn X N a.told b.told) (refusal_fault r) m b (bad-of-head X N a.told b.told mfs head) works.cause);
           touches = λ p es bytes rows named input heights calm2.
@@ -127,44 +132,48 @@ module _ (X : List ℕ → List ℕ) (N : List ℕ → ℕ) where
 
   -- ---- `init`
 
-  module _ (p : Profile) (a b : Seen) (good : KeepsGood X a.told b.told) (left : streams.Told) (reads t0 t1 : ℕ) where
+  module _ (p : Profile) (a b : Seen) (good : KeepsGood X a.told b.told) (left : streams.Told) (reads : ℕ) (h : streams.Told) (w t0 t1 : ℕ) (side : HostSide) where
     -- the store isn't made ready
-    pub init-refused : (f : MfsFault) (w : Refusal) → RefusesOpening f w
+    pub init-refused : (f : MfsFault) (why : Refusal) → RefusesOpening f why
         → IfSome a.told (λ t. Stood a.faults b.faults → Stood a.clashes b.clashes → Inits X N b.told p t.notes.head (Err f))
-        → FindsHead a.told (Err f) → SavesThen X LeavesHead a.told b.told → IsOfMaking f → CountsUp (tree_fault {A = Mfs} (Err f)) t0 t1 → ShownOpening X NoneIsBad {A = Mfs} (Err f) a b → Makes X N (Init p) (Err w) a b left left reads reads t0 t1
-    init-refused f w is answer finds leaves making up cause =
-        let shown = Shown-opening Mfs X NoneIsBad NoneIsBad (λ role bytes bad. bad) f w a b is cause in
-        let kinds = init-kinds f w is making in
+        → FindsHead a.told (Err f) → SavesThen X LeavesHead a.told b.told → IsOfMaking f → CountsUp (tree_fault {A = Mfs} (Err f)) t0 t1 → ShownOpening X NoneIsBad {A = Mfs} (Err f) a b → Makes X N (Init p) (Err why) (around a left reads h w t0 side) (around b left reads h w t1 side)
+    init-refused f why is answer finds leaves making up cause =
+        let shown = Shown-opening Mfs X NoneIsBad NoneIsBad (λ role bytes bad. bad) f why a b is cause in
+        let kinds = init-kinds f why is making in
         let head = leaves-head leaves.between b.told leaves.last ∙ saves-head X a.told leaves.between leaves.saves in
         record {
           answers = λ world stands input calm. let s = world.standing in let bytes = world.input in
-              inits-err X N (Stood a.faults b.faults) (Stood a.clashes b.clashes) s p a.told f w b.told is calm.faults calm.clashes stands answer
+              inits-err X N (Stood a.faults b.faults) (Stood a.clashes b.clashes) s p a.told f why b.told is calm.faults calm.clashes stands answer
               (stands-kept X N a.told b.told s good head stands);
           lost = λ q es heights held bytes named input calm.
-              inits-over X N (Stood a.faults b.faults) (Stood a.clashes b.clashes) a.told b.told p q es f w is calm.faults calm.clashes named.names answer
+              inits-over X N (Stood a.faults b.faults) (Stood a.clashes b.clashes) a.told b.told p q es f why is calm.faults calm.clashes named.names answer
               (names-kept X N a.told b.told q es good head named);
           kinds = kinds;
-          ready = init-ready a.told p f w is finds;
+          ready = init-ready a.told p f why is finds;
           adds = tt;
-          counts = init-counts (Err w) reads kinds;
-          cause = shown-by X NoneIsBad (IsBadIn X N a.told b.told) (fault_behind w) a b (λ role bytes bad. absurd bad) shown;
+          reads = init-counts (Err why) reads kinds;
+          host = refl;
+          rows = tt;
+          cause = shown-by X NoneIsBad (IsBadIn X N a.told b.told) (fault_behind why) a b (λ role bytes bad. absurd bad) shown;
           touches = λ q es bytes rows named input heights calm. tt;
-          whole = λ s stands calm. init-looks (Err w) kinds;
-          touched = (opening-touched Mfs f w t0 t1 is up).risen;
+          whole = λ s stands calm. init-looks (Err why) kinds;
+          touched = (opening-touched Mfs f why t0 t1 is up).risen;
           leaves = record { good = good; head = head; writes = leaves; idle = λ q es bytes stands calm same. absurd cc };
         }
 
     -- the store is made ready
     pub is-ready : (mfs : Mfs) (text : List ℕ) → text ≡ []
         → IfSome a.told (λ t. Stood a.faults b.faults → Stood a.clashes b.clashes → Inits X N b.told p t.notes.head (Ok mfs)) → FindsHead a.told (Ok mfs)
-        → SavesThen X (Commits mfs.profile mfs.root.cid) a.told b.told → StaysCalm a b → Makes X N (Init p) (Ok text) a b left left reads reads t0 t1
+        → SavesThen X (Commits mfs.profile mfs.root.cid) a.told b.told → StaysCalm a b → Makes X N (Init p) (Ok text) (around a left reads h w t0 side) (around b left reads h w t1 side)
     is-ready mfs text nothing answer finds writes calm = record {
       answers = λ world stands input calm2. let s = world.standing in let bytes = world.input in inits-ok X N (Stood a.faults b.faults) (Stood a.clashes b.clashes) s p a.told mfs text b.told calm2.faults calm2.clashes nothing stands answer;
       lost = λ q es heights held bytes named input calm2. absurd (not-inited X N (Stood a.faults b.faults) (Stood a.clashes b.clashes) a.told b.told p q es mfs calm2.faults calm2.clashes named.names answer);
       kinds = tt;
       ready = tt;
       adds = tt;
-      counts = counts-still reads;
+      reads = counts-still reads;
+      host = refl;
+      rows = tt;
       cause = calm;
       touches = λ q es bytes rows named input heights calm2. tt;
       whole = λ s stands calm2. init-looks (Ok text) tt;

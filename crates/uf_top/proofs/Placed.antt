@@ -69,8 +69,8 @@ use Rattle.uf_top.specs.Naming.{NamesAfter, StandsNamed, StaysNamed}
 use Rattle.uf_top.specs.Placing.{FindsSpot, IsFoundAt, IsGiven, IsReadyIn, IsUngiven, IsUnready, OpensFound, PutsGiven, SaysHost, SaysInput, kinds_placing}
 use Rattle.uf_top.specs.Reply.{added_spot, by_rule, file_cid, good_name, host_tree, in_tree, input_row, input_tree, not_ready, placed, settled}
 use Rattle.uf_top.specs.Shapes.{WritesAs, is_ok}
-use Rattle.uf_top.specs.Working.{MakesText}
-use Rattle.uf_top.specs.declared.given.Found.{Found}
+use Rattle.uf_top.specs.Working.{Makes}
+use Rattle.uf_top.specs.declared.given.OpenSpot.{OpenSpot}
 use Rattle.uf_top.specs.declared.given.Given.{Given}
 use Rattle.uf_top.proofs.Adopted.{named-stands, stands-blocks}
 use Rattle.uf_top.proofs.Losing.{named-of, names-kept, names-of, names-same}
@@ -369,7 +369,7 @@ module _ (X : List ℕ → List ℕ) (N : List ℕ → ℕ) (dest : Path) (path 
       writes = record { between = a.told; saves = SavesOnly-refl X a.told; last = Same f.reads.told };
     }
       where
-        opens : (s : Standing) → OpensFound {A = Found} s (Err why) → OpensFound {A = List ℕ} s (Err why)
+        opens : (s : Standing) → OpensFound {A = OpenSpot} s (Err why) → OpensFound {A = List ℕ} s (Err why)
         opens NoHead h = h
         opens BadHead h = h
         opens (Stands p es) h = tt
@@ -383,7 +383,7 @@ module _ (X : List ℕ → List ℕ) (N : List ℕ → ℕ) (dest : Path) (path 
         finds p es stands (inl lost) = lost-finds a.told (root_of X N p (Dir es) ++ blocks X N p (Dir es)) why (needs-held a.told p es stands) lost
         finds p es stands (inr is) = spot-finds dest path es why is
 
-    module _ (a m : Seen) (t0 t1 : ℕ) (found : Found) (f : FindsSpot X N dest path (Ok found) a m t0 t1) where
+    module _ (a m : Seen) (t0 t1 : ℕ) (found : OpenSpot) (f : FindsSpot X N dest path (Ok found) a m t0 t1) where
       abbrev q : Profile
       q = found.tree.profile
 
@@ -664,7 +664,7 @@ module _ (X : List ℕ → List ℕ) (N : List ℕ → ℕ) where
 
   pub of-input : (dest : Path) (l m : streams.Told) (i j : ℕ) (held : streams.Told) (w : ℕ) (side : HostSide) (done : Result (List ℕ) Refusal) (a d : Seen) (t0 t2 : ℕ)
       → Ended X N dest None (λ p. SaysInput p l) (input_row X N) done a d t0 t2 → Counts (is_read done) i j
-      → MakesText X N (AddTo dest) done (around a l i held w t0 side) (around d m j held w t2 side)
+      → Makes X N (AddTo dest) done (around a l i held w t0 side) (around d m j held w t2 side)
   of-input dest l m i j held w side done a d t0 t2 e counts = record {
     answers = λ world stands input calm.
         answers-of X N dest None (λ p. SaysInput p l) (input_row X N) done a d t0 t2 (λ p. input_tree p world.input) e calm (not-read (is_read done) i j counts (input.0 refl).1)
@@ -687,7 +687,7 @@ module _ (X : List ℕ → List ℕ) (N : List ℕ → ℕ) where
 
   pub of-host : (recursive : Bool) (path : List ℕ) (dest : Path) (l : streams.Told) (i : ℕ) (held : streams.Told) (w : ℕ) (side side2 : HostSide) (done : Result (List ℕ) Refusal) (a d : Seen) (t0 t2 : ℕ)
       → Ended X N dest (Some path) (λ p. SaysHost X N p side.told recursive path) (λ p. host_text X N p path) done a d t0 t2 → OnlyReadsHost (is_read done) side side2
-      → MakesText X N (AddFromTo recursive path dest) done (around a l i held w t0 side) (around d l i held w t2 side2)
+      → Makes X N (AddFromTo recursive path dest) done (around a l i held w t0 side) (around d l i held w t2 side2)
   of-host recursive path dest l i held w side side2 done a d t0 t2 e only = record {
     answers = λ world stands input calm.
         answers-of X N dest (Some path) (λ p. SaysHost X N p side.told recursive path) (λ p. host_text X N p path) done a d t0 t2 (λ p. host_tree path (tree_on_host X N p world.host recursive path)) e calm
@@ -774,7 +774,7 @@ host-kinds Says path why h = ungiven-kinds (Some path) Says why (λ rule said. r
 
 -- ---- how the counts of readings moved
 
-pub find-unread : (why : Refusal) (i : ℕ) → is_read {A = Found} (Err why) ≡ false → Counts (is_read {A = List ℕ} (Err why)) i i
+pub find-unread : (why : Refusal) (i : ℕ) → is_read {A = OpenSpot} (Err why) ≡ false → Counts (is_read {A = List ℕ} (Err why)) i i
 find-unread why i e = subst (λ b. Counts b i i) (sym e) (counts-still i)
 
 unread-put : (path : Option (List ℕ)) (r : Result (List ℕ) Refusal) → IsOf opened_kinds r → is_read r ≡ false
@@ -784,7 +784,7 @@ unread-put path (Err why) h = (of-tree path why h).unread
 pub put-unread : (r : Result (List ℕ) Refusal) (i j : ℕ) → IsOf opened_kinds r → Counts false i j → Counts (is_read r) i j
 put-unread r i j kinds counts = subst (λ b. Counts b i j) (sym (unread-put None r kinds)) counts
 
-pub find-reads : (why : Refusal) (s : HostSide) → is_read {A = Found} (Err why) ≡ false → OnlyReadsHost (is_read {A = List ℕ} (Err why)) s s
+pub find-reads : (why : Refusal) (s : HostSide) → is_read {A = OpenSpot} (Err why) ≡ false → OnlyReadsHost (is_read {A = List ℕ} (Err why)) s s
 find-reads why s e = record { told = refl; reads = find-unread why s.reads e; writes = refl }
 
 pub put-reads : (r : Result (List ℕ) Refusal) (s t : HostSide) → IsOf opened_kinds r → OnlyReadsHost false s t → OnlyReadsHost (is_read r) s t

@@ -1,6 +1,6 @@
 -- From the text of a command that is made before anything is printed to the command that is done.
 use Rattle.std.proofs.Common.{◌≡◌, ◌≢◌, ◌⊎◌, ℕ, List, [], ◌∷◌, length, take, true, false, arith, refl, sym, ap, subst, ◌∙◌, inl, inr, append-nil, Some, None, Bool, Result, Ok, Err}
-use Rattle.std.specs.Prelude.{◌&&◌, not, IfErr, IfOk, ⊤}
+use Rattle.std.specs.Prelude.{◌&&◌, not, IfErr, ⊤}
 use Rattle.uf_cid.specs.Blocks.{Held, Lookup}
 use Rattle.uf_edge.specs.Counts.{Counts}
 use Rattle.uf_edge.specs.Host.{HostTold, HostTree}
@@ -41,7 +41,7 @@ use Rattle.uf_top.specs.Pins.{PinsFor}
 use Rattle.uf_top.specs.Losing.{AnswersOver, DoesOver}
 use Rattle.uf_top.specs.Naming.{FindsOver, NamesIf, NamesAs, StandsIf, TellsHost}
 use Rattle.uf_top.specs.Shapes.{WritesAs, is_done}
-use Rattle.uf_top.specs.Working.{Does, Makes, MakesText, SaysText}
+use Rattle.uf_top.specs.Working.{Does, Makes, SaysText}
 
 -- ---- which kinds no command that waits has
 
@@ -436,35 +436,6 @@ module _ (X : List ℕ → List ℕ) (N : List ℕ → ℕ) where
   rules command needs told now l m (refusal.Store (fault.Clash cid first second)) h adds is = absurd cc
   rules command needs told now l m (refusal.Store fault.Memory) h adds is = absurd cc
 
-  -- a command that doesn't use the host leaves it as it was, whatever that is
-  pub made-text : (command : Command) → uses_host command ≡ false → (a b : Seen) (l m : streams.Told) (i j t0 t1 : ℕ) (h : streams.Told) (w : ℕ) (s : HostSide) → ((text : List ℕ) → IsHostedText X N a.told b.told s.told command text) → (done : Result (List ℕ) Refusal)
-      → Makes X N command done a b l m i j t0 t1 → MakesText X N command done (around a l i h w t0 s) (around b m j h w t1 s)
-  made-text command none a b l m i j t0 t1 h w s hostless done mk = record {
-    answers = λ world stands outside calm. mk.answers world stands outside.0 calm;
-    lost = λ p es rows held outside named given calm. mk.lost p es rows held outside named given.0 calm;
-    kinds = mk.kinds;
-    ready = mk.ready;
-    adds = mk.adds;
-    reads = subst (λ u. Counts (not u && is_read done) i j) (sym none) mk.counts;
-    host = subst (λ u. UsesHost u (is_read done) s s) (sym none) refl;
-    rows = by done;
-    cause = mk.cause;
-    whole = mk.whole;
-    touches = mk.touches;
-    touched = mk.touched;
-    leaves = mk.leaves;
-  }
-    where
-      by : (done : Result (List ℕ) Refusal) → IfOk done (λ text. IsHostedText X N a.told b.told s.told command text)
-      by (Ok text) = hostless text
-      by (Err why) = tt
-
-  -- the same of a command that is this one
-  pub made-as : (given command : Command) → given ≡ command → uses_host command ≡ false → (a b : Seen) (l m : streams.Told) (i j t0 t1 : ℕ) (s : HostSide) → ((text : List ℕ) → IsHostedText X N a.told b.told s.told command text) → (done : Result (List ℕ) Refusal)
-      → Makes X N command done a b l m i j t0 t1 → (h : streams.Told) (w : ℕ) → MakesText X N given done (around a l i h w t0 s) (around b m j h w t1 s)
-  made-as given command is none a b l m i j t0 t1 s hostless done mk h w =
-      subst (λ given. MakesText X N given done (around a l i h w t0 s) (around b m j h w t1 s)) (sym is) (made-text command none a b l m i j t0 t1 h w s hostless done mk)
-
   module _ (command : Command) (alone : natures.reads_tree_alone command ≡ true) (a b : Seen) (l m : streams.Told) (i j t0 t1 : ℕ) (h : streams.Told) (w : ℕ) (side side2 : HostSide) where
     needs : needs_standing command ≡ true
     needs = alone-needs command alone
@@ -488,7 +459,7 @@ module _ (X : List ℕ → List ℕ) (N : List ℕ → ℕ) where
     stands-out told s stands = subst (λ n. StandsIf X N n told s) (sym needs) stands
 
     -- a command that is refused before anything is printed
-    pub refused-does : (why : Refusal) → MakesText X N command (Err why) (around a l i h w t0 side) (around b m j h w t1 side2) → Does X N command (Err why) (around a l i h w t0 side) (around b m j h w t1 side2)
+    pub refused-does : (why : Refusal) → Makes X N command (Err why) (around a l i h w t0 side) (around b m j h w t1 side2) → Does X N command (Err why) (around a l i h w t0 side) (around b m j h w t1 side2)
     refused-does why mk =
         let quiet = quiet-of (IsTextOf X N a.told b.told side.told (Ok command) l) (natures.streams command) why (λ e. no-write command (subst (λ k. may_meet (kinds_of command) k ≡ true) e mk.kinds)) in
         record {
@@ -537,7 +508,7 @@ module _ (X : List ℕ → List ℕ) (N : List ℕ → ℕ) where
             inl (record { fault = x.fault; ends_are = ap (λ (r : Refusal). Err r) e; loss = x.loss; stands = x.stands })
         over p es (inr x) = inr (record { ends = subst (λ e. EndsBy e (Err why) h h) x.ends_are (refl, refl); stands = x.stands })
 
-    module _ (text : List ℕ) (mk : MakesText X N command (Ok text) (around a l i h w t0 side) (around b m j h w t1 side2)) where
+    module _ (text : List ℕ) (mk : Makes X N command (Ok text) (around a l i h w t0 side) (around b m j h w t1 side2)) where
       -- the text is the reply's, whatever blocks are lost
       text-given : (s : Standing) (held : Lookup) (outside : Outside) → NamesAs X N a.told b.told s → HasOutside (Ok command) outside (around a l i h w t0 side) (around b m j h w t1 side2) → CountsCanRise a
           → Ok text ≡ (reply X N command (world_of s held outside)).ends
@@ -639,7 +610,7 @@ module _ (X : List ℕ → List ℕ) (N : List ℕ → ℕ) where
 
   -- so it is where what was made is printed, or else refused
   pub said-does : (command : Command) (alone : natures.reads_tree_alone command ≡ true) (a b : Seen) (l m : streams.Told) (i j t0 t1 : ℕ) (h : streams.Told) (w : ℕ) (side side2 : HostSide) (text : Result (List ℕ) Refusal)
-      → MakesText X N command text (around a l i h w t0 side) (around b m j h w t1 side2) → (h2 : streams.Told) (v : ℕ) (r : Result (Unit {0}) Refusal)
+      → Makes X N command text (around a l i h w t0 side) (around b m j h w t1 side2) → (h2 : streams.Told) (v : ℕ) (r : Result (Unit {0}) Refusal)
       → SaysText text r h h2 w v → Does X N command r (around a l i h w t0 side) (around b m j h2 v t1 side2)
   said-does command alone a b l m i j t0 t1 h w side side2 (Ok text) mk h2 v r p = prints-does command alone a b l m i j t0 t1 h w side side2 text mk h2 v r p
   said-does command alone a b l m i j t0 t1 h w side side2 (Err why) mk h2 v r p =

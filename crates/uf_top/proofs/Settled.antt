@@ -71,7 +71,7 @@ use Rattle.uf_build.specs.Intake.{IsWholeFile, PassesMost}
 use Rattle.uf_top.specs.Naming.{NamesAfter}
 use Rattle.uf_top.specs.Placing.{EndsWith, FindsSpot, GivesFor, GivesRows, HasLast, IsFoundAt, IsGiven, IsReadyIn, IsUngiven, OpensFound, PutsFrom, PutsGiven, SaysHost, SaysInput, kinds_placing}
 use Rattle.uf_top.specs.Reply.{added_name, added_spot, by_rule, good_name, host_tree, input_row, input_tree}
-use Rattle.uf_top.specs.declared.given.Found.{Found}
+use Rattle.uf_top.specs.declared.given.OpenSpot.{OpenSpot}
 use Rattle.uf_top.specs.declared.given.Given.{Given}
 use Rattle.uf_top.proofs.Added.{given_few, left_are}
 use Rattle.uf_top.proofs.Classed.{tree-kinds}
@@ -119,7 +119,7 @@ module _ (X : List ℕ → List ℕ) (N : List ℕ → ℕ) (dest : Path) (path 
     touched = opening-touched Mfs f why t0 t1 is up;
   }
     where
-      by-standing : (s : Standing) (f : MfsFault) → RefusesOpening f why → Opens X N m.told s (Err f) → OpensFound {A = Found} s (Err why)
+      by-standing : (s : Standing) (f : MfsFault) → RefusesOpening f why → Opens X N m.told s (Err f) → OpensFound {A = OpenSpot} s (Err why)
       by-standing NoHead (mfs.Rule rule) is h = absurd is
       by-standing NoHead (mfs.Ready r) is h = inr (is ∙ (let e : mfs.Ready r ≡ mfs.Ready ready.NoHead = h in let same : r ≡ ready.NoHead = cc in ap refusal.Ready same))
       by-standing NoHead mfs.Sink is h = absurd is
@@ -148,11 +148,11 @@ module _ (X : List ℕ → List ℕ) (N : List ℕ → ℕ) (dest : Path) (path 
       by-kind mfs.Sink is = absurd is
       by-kind (mfs.Store g) is = subst (λ w. may_meet (kinds_placing path) (refusal_kind w) ≡ true) (sym is) (tree-store path g).kind
 
-      by-read : (f : MfsFault) → RefusesOpening f why → is_read {A = Found} (Err why) ≡ false
+      by-read : (f : MfsFault) → RefusesOpening f why → is_read {A = OpenSpot} (Err why) ≡ false
       by-read (mfs.Rule rule) is = absurd is
-      by-read (mfs.Ready r) is = subst (λ w. is_read {A = Found} (Err w) ≡ false) (sym is) refl
+      by-read (mfs.Ready r) is = subst (λ w. is_read {A = OpenSpot} (Err w) ≡ false) (sym is) refl
       by-read mfs.Sink is = absurd is
-      by-read (mfs.Store g) is = subst (λ w. is_read {A = Found} (Err w) ≡ false) (sym is) (tree-store path g).unread
+      by-read (mfs.Store g) is = subst (λ w. is_read {A = OpenSpot} (Err w) ≡ false) (sym is) (tree-store path g).unread
 
   module _ (tree : Mfs) (opens : (s : Standing) → TellsAs X N a.told s → Stood a.faults m.faults → Opens X N m.told s (Ok tree))
       (lost : (p : Profile) (es : Entries) → NamesOver X N a.told p es → Stood a.faults m.faults → OpensOver X N a.told p es (Ok tree))
@@ -166,7 +166,7 @@ module _ (X : List ℕ → List ℕ) (N : List ℕ → ℕ) (dest : Path) (path 
     record IsOfName (why : Refusal) : Type 0 where
       tree_or : may_meet (kinds_placing path) (refusal_kind why) ≡ true
       ready : IsReadyIn a.told why
-      unread : is_read {A = Found} (Err why) ≡ false
+      unread : is_read {A = OpenSpot} (Err why) ≡ false
       shown : Shown X (IsBadInHead X N a.told) (fault_behind why) a m
       up : CountsUp (fault_behind why) t0 t1
 
@@ -272,7 +272,7 @@ module _ (X : List ℕ → List ℕ) (N : List ℕ → ℕ) (dest : Path) (path 
 -- ---- what is put
 
 module _ (X : List ℕ → List ℕ) (N : List ℕ → ℕ) (tree new : Mfs) (spot : Spot) (given : Given) (b c : Seen) (mfs : IsTrue (is_profile tree.profile)) (t0 t1 : ℕ) where
-  abbrev at_spot : Found
+  abbrev at_spot : OpenSpot
   at_spot = record { tree = tree; spot = spot }
 
   -- said of the profile of the tree

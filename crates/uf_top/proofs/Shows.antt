@@ -1,6 +1,6 @@
 -- What the answers of calls in a row show.
 use Rattle.std.proofs.Common.{◌≡◌, ℕ, ◌+◌, ◌≤◌, List, false, true, arith, refl, sym, subst, inl, inr, Option, Some, None, Result, Ok, Err}
-use Rattle.std.specs.Prelude.{IfSome}
+use Rattle.std.specs.Prelude.{IfOk, IfSome, ⊤}
 use Rattle.uf_edge.specs.Counts.{Counts, Rose, Stood}
 use Rattle.uf_mfs.specs.Answers.{ShownInTree, ShownOpening}
 use Rattle.uf_cid.specs.declared.cid.Cid.{Cid}
@@ -185,3 +185,8 @@ blaming-of (refusal.Store (Missing cid)) e = absurd cc
 blaming-of (refusal.Store (BadBlock cid role)) e = tt
 blaming-of (refusal.Store (Clash cid held bytes)) e = absurd cc
 blaming-of (refusal.Store Memory) e = absurd cc
+
+-- nothing is said of the rows of a command that adds nothing from the host
+pub no-rows : (r : Result (List ℕ) Refusal) → IfOk r (λ text. ⊤)
+no-rows (Ok text) = tt
+no-rows (Err why) = tt

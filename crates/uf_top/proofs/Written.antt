@@ -38,13 +38,14 @@ use Rattle.uf_top.specs.Bounds.{command_touches}
 use Rattle.uf_top.specs.Causes.{IsBadIn, IsLongAt, IsReady, OnlyWants, RefusesOpening, TakesAll, is_read}
 use Rattle.uf_top.specs.Losing.{AnswersOver, command_needs}
 use Rattle.uf_top.specs.Naming.{NamesAfter}
+use Rattle.uf_top.specs.Around.{HostSide, around}
 use Rattle.uf_top.specs.Working.{Makes}
 use Rattle.uf_top.proofs.Added.{all_given, given_few}
 use Rattle.uf_top.proofs.Classed.{opening-kinds, tree-counts}
 use Rattle.uf_top.proofs.Finding.{Finds, at-whole}
 use Rattle.uf_top.proofs.InTree.{not-opened, opened, opening-ready}
 use Rattle.uf_top.proofs.Losing.{lost-wants, names-same, opening-over}
-use Rattle.uf_top.proofs.Shows.{Shown-opening, bad-of-none, opening-touched, shown-any, wants-shown}
+use Rattle.uf_top.proofs.Shows.{Shown-opening, bad-of-none, no-rows, opening-touched, shown-any, wants-shown}
 use Rattle.uf_top.proofs.Standings.{stands-same, tells-none}
 
 -- what a command at a path may refuse, one that takes the input may refuse
@@ -137,29 +138,32 @@ module _ (how : WriteHow) (path : Path) where
       same-reply : (s : Standing) (bytes : List ℕ) → HasInput (Ok (WriteInput how path)) l bytes i j → in_tree (input_reply X N how path.names bytes) s ≡ in_tree (tree_reply X N (Edits (Write how piece)) path.names) s
       same-reply s bytes input = ap (λ (bs : List ℕ). in_tree (input_reply X N how path.names bs) s) (given-is bytes input) ∙ piece-reply s
 
-      pub input-written : (r : Result (List ℕ) Refusal) (a b : Seen) (t0 t1 : ℕ) → Makes X N (At (Edits (Write how piece)) path) r a b l l i i t0 t1 → Makes X N (WriteInput how path) r a b l k i j t0 t1
-      input-written r a b t0 t1 w = record {
-        answers = λ world stands input calm. let s = world.standing in let bytes = world.input in subst (λ given. Answers X N s given r b.told) (sym (same-reply s bytes input)) (w.answers world stands (λ e. absurd cc) calm);
-        lost = λ p es heights held outside named input calm. let bytes = outside.input in subst (λ given. AnswersOver X N a.told b.told p es (command_needs X N (λ n. 0) (WriteInput how path) p es) given r) (sym (same-reply (Stands p es) bytes input)) (w.lost p es heights held outside named (λ e. absurd cc) calm);
-        kinds = tree-taken r w.kinds;
-        ready = ready-taken a.told piece r w.ready;
-        adds = not-long r l k w.kinds;
-        counts = subst (λ n. Counts (is_read r) i n) (sym (counts.still refl)) w.counts;
-        cause = w.cause;
-        whole = w.whole;
-        touches = λ p es bytes rows named input heights calm. subst (λ (bs : List ℕ). IfSome (command_touches X N rows bs (WriteInput how path) p es) (λ most. t1 ≤ t0 + most)) (sym (given-is bytes input)) (w.touches p es [] rows named (λ e. absurd cc) heights calm);
-        touched = w.touched;
+      pub input-written : (r : Result (List ℕ) Refusal) (a b : Seen) (h : streams.Told) (w t0 t1 : ℕ) (side : HostSide) → Makes X N (At (Edits (Write how piece)) path) r (around a l i h w t0 side) (around b l i h w t1 side)
+          → Makes X N (WriteInput how path) r (around a l i h w t0 side) (around b k j h w t1 side)
+      input-written r a b h w t0 t1 side mk = record {
+        answers = λ world stands input calm. let s = world.standing in let bytes = world.input in subst (λ given. Answers X N s given r b.told) (sym (same-reply s bytes input.0)) (mk.answers world stands ((λ e. absurd cc), input.1, input.2) calm);
+        lost = λ p es heights held outside named input calm. let bytes = outside.input in subst (λ given. AnswersOver X N a.told b.told p es (command_needs X N (λ n. 0) (WriteInput how path) p es) given r) (sym (same-reply (Stands p es) bytes input.0)) (mk.lost p es heights held outside named ((λ e. absurd cc), input.1, input.2) calm);
+        kinds = tree-taken r mk.kinds;
+        ready = ready-taken a.told piece r mk.ready;
+        adds = not-long r l k mk.kinds;
+        reads = subst (λ n. Counts (is_read r) i n) (sym (counts.still refl)) mk.reads;
+        host = refl;
+        rows = no-rows r;
+        cause = mk.cause;
+        whole = mk.whole;
+        touches = λ p es bytes rows named input heights calm. subst (λ (bs : List ℕ). IfSome (command_touches X N rows bs (WriteInput how path) p es) (λ most. t1 ≤ t0 + most)) (sym (given-is bytes input)) (mk.touches p es [] rows named (λ e. absurd cc) heights calm);
+        touched = mk.touched;
         leaves = record {
-          good = w.leaves.good;
-          head = w.leaves.head;
-          writes = w.leaves.writes;
-          idle = λ p es bytes names calm same. w.leaves.idle p es [] names ((λ e. absurd cc), calm.1) (subst (λ (bs : List ℕ). has_nothing_to_do (Write how bs) path.names es ≡ true) (given-is bytes calm.0) same);
+          good = mk.leaves.good;
+          head = mk.leaves.head;
+          writes = mk.leaves.writes;
+          idle = λ p es bytes names calm same. mk.leaves.idle p es [] names ((λ e. absurd cc), calm.1) (subst (λ (bs : List ℕ). has_nothing_to_do (Write how bs) path.names es ≡ true) (given-is bytes calm.0) same);
         };
       }
 
     -- ---- the input isn't taken
 
-    module _ (a m : Seen) (told : m.told ≡ a.told) (l k : streams.Told) (i j t0 t1 : ℕ) (opens_by : t1 ≤ t0 + 1) where
+    module _ (a m : Seen) (told : m.told ≡ a.told) (l k : streams.Told) (i j : ℕ) (h : streams.Told) (w t0 t1 : ℕ) (side : HostSide) (opens_by : t1 ≤ t0 + 1) where
       taken-answers : (why : Refusal) (bytes : List ℕ) (p : Profile) (es : Entries) → TakesAll (Err why) l k → Counts (is_read {A = List ℕ} (Err why)) i j → HasInput (Ok (WriteInput how path)) l bytes i j → TellsAs X N m.told (Stands p es)
           → Answers X N (Stands p es) (input_reply X N how path.names bytes p es) (Err why) m.told
       taken-answers (refusal.Rule rule) bytes p es takes counts input stands = absurd takes
@@ -298,15 +302,17 @@ module _ (how : WriteHow) (path : Path) where
       taken-blames (refusal.Store f) takes blames = subst (λ f. IsBlaming (Some f)) takes blames
 
       pub input-refused : (mfs : Mfs) (why : Refusal) → ((s : Standing) → TellsAs X N a.told s → Stood a.faults m.faults → Opens X N m.told s (Ok mfs)) → StaysCalm a m
-          → TakesAll (Err why) l k → Counts (is_read {A = List ℕ} (Err why)) i j → Makes X N (WriteInput how path) (Err why) a m l k i j t0 t1
+          → TakesAll (Err why) l k → Counts (is_read {A = List ℕ} (Err why)) i j → Makes X N (WriteInput how path) (Err why) (around a l i h w t0 side) (around m k j h w t1 side)
       input-refused mfs why opens calm takes counts = record {
         answers = λ world stands input calm2. let s = world.standing in let bytes = world.input in opened X N s (input_reply X N how path.names bytes) mfs m.told m.told (Err why) (opens s stands calm2.faults) (stands-same X N a.told m.told s told stands)
-            (λ p es at now. taken-answers why bytes p es takes counts input now);
-        lost = λ p es heights held outside named input calm2. let bytes = outside.input in taken-over why bytes p es takes counts input (names-same X N a.told m.told p es told named);
+            (λ p es at now. taken-answers why bytes p es takes counts input.0 now);
+        lost = λ p es heights held outside named input calm2. let bytes = outside.input in taken-over why bytes p es takes counts input.0 (names-same X N a.told m.told p es told named);
         kinds = taken-kinds why takes;
         ready = taken-ready why takes;
         adds = taken-long why takes;
-        counts = counts;
+        reads = counts;
+        host = refl;
+        rows = tt;
         cause = shown-any X (IsBadIn X N a.told m.told) (Err why) a m (wants-shown X (Err why) a m (taken-wants why takes) calm);
         whole = λ s stands calm2. taken-finds why takes;
         touches = λ p es bytes rows named input heights calm2. omega (arith, opens_by);
@@ -316,21 +322,23 @@ module _ (how : WriteHow) (path : Path) where
 
       -- ---- the tree isn't opened
 
-      pub input-unopened : (f : MfsFault) (w : Refusal) → RefusesOpening f w → ((s : Standing) → TellsAs X N a.told s → Stood a.faults m.faults → Opens X N m.told s (Err f))
+      pub input-unopened : (f : MfsFault) (why : Refusal) → RefusesOpening f why → ((s : Standing) → TellsAs X N a.told s → Stood a.faults m.faults → Opens X N m.told s (Err f))
           → ((p : Profile) (es : Entries) → NamesOver X N a.told p es → Stood a.faults m.faults → OpensOver X N a.told p es (Err f))
-          → ReadsHead a.told (Err f) → CountsUp (tree_fault {A = Mfs} (Err f)) t0 t1 → ShownOpening X (IsBadInHead X N a.told) {A = Mfs} (Err f) a m → Makes X N (WriteInput how path) (Err w) a m l l i i t0 t1
-      input-unopened f w is opens lost head up cause = record {
-        answers = λ world stands input calm. let s = world.standing in let bytes = world.input in not-opened X N s (input_reply X N how path.names bytes) f w m.told is (opens s stands calm.faults) (stands-same X N a.told m.told s told stands);
-        lost = λ p es heights held outside named input calm. let bytes = outside.input in opening-over X N a.told m.told p es (blocks X N p (Dir es)) (input_reply X N how path.names bytes p es) f w is (lost p es named.names calm.faults)
+          → ReadsHead a.told (Err f) → CountsUp (tree_fault {A = Mfs} (Err f)) t0 t1 → ShownOpening X (IsBadInHead X N a.told) {A = Mfs} (Err f) a m → Makes X N (WriteInput how path) (Err why) (around a l i h w t0 side) (around m l i h w t1 side)
+      input-unopened f why is opens lost head up cause = record {
+        answers = λ world stands input calm. let s = world.standing in let bytes = world.input in not-opened X N s (input_reply X N how path.names bytes) f why m.told is (opens s stands calm.faults) (stands-same X N a.told m.told s told stands);
+        lost = λ p es heights held outside named input calm. let bytes = outside.input in opening-over X N a.told m.told p es (blocks X N p (Dir es)) (input_reply X N how path.names bytes p es) f why is (lost p es named.names calm.faults)
             (names-same X N a.told m.told p es told named);
-        kinds = tree-taken (Err w) (opening-kinds f w is);
-        ready = ready-taken a.told [] (Err w) (opening-ready a.told (Edits (Write how [])) path f w is head);
-        adds = not-long (Err w) l l (opening-kinds f w is);
-        counts = tree-counts (Err w) i (opening-kinds f w is);
-        cause = Shown-opening Mfs X (IsBadInHead X N a.told) (IsBadIn X N a.told m.told) (bad-of-none X N a.told m.told) f w a m is cause;
-        whole = λ s stands calm. at-whole X N s (Edits (Write how [])) path.names (Err w) m.told
-            (not-opened X N s (tree_reply X N (Edits (Write how [])) path.names) f w m.told is (opens s stands calm.faults) (stands-same X N a.told m.told s told stands));
+        kinds = tree-taken (Err why) (opening-kinds f why is);
+        ready = ready-taken a.told [] (Err why) (opening-ready a.told (Edits (Write how [])) path f why is head);
+        adds = not-long (Err why) l l (opening-kinds f why is);
+        reads = tree-counts (Err why) i (opening-kinds f why is);
+        host = refl;
+        rows = tt;
+        cause = Shown-opening Mfs X (IsBadInHead X N a.told) (IsBadIn X N a.told m.told) (bad-of-none X N a.told m.told) f why a m is cause;
+        whole = λ s stands calm. at-whole X N s (Edits (Write how [])) path.names (Err why) m.told
+            (not-opened X N s (tree_reply X N (Edits (Write how [])) path.names) f why m.told is (opens s stands calm.faults) (stands-same X N a.told m.told s told stands));
         touches = λ p es bytes rows named input heights calm. omega (arith, opens_by);
-        touched = (opening-touched Mfs f w t0 t1 is up).risen;
+        touched = (opening-touched Mfs f why t0 t1 is up).risen;
         leaves = record { good = KeepsGood-same X a.told m.told told; head = ap head_in told; writes = record { between = a.told; saves = SavesOnly-refl X a.told; last = Same told }; idle = λ p es bytes stands given same. told };
       }

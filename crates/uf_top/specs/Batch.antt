@@ -18,8 +18,7 @@ use Rattle.uf_command.specs.declared.status.Status.TheVariants as status
 use Rattle.uf_command.specs.declared.types.Command.{Command}
 use Rattle.uf_command.specs.declared.types.Refusal.{Refusal}
 use Rattle.uf_command.specs.declared.types.Refusal.TheVariants as refusal
-use Rattle.uf_store.specs.Seen.{Seen}
-use Rattle.uf_top.specs.Around.{Around, HostSide, around}
+use Rattle.uf_top.specs.Around.{Around}
 use Rattle.uf_top.specs.Cars.{ByOwnStore}
 use Rattle.uf_top.specs.Running.{Runs}
 use Rattle.uf_top.specs.Working.{Serves}
@@ -29,16 +28,14 @@ pub record SinkSide : Type 0 where
   pub held : streams.Told
   pub faults : ℕ
 
--- what the commands of a batch find and leave: no input, and the error lines so far
+-- what is around a batch or one of its lines, and the error lines so far
 pub record Scene : Type 0 where
   pub around : Around
   pub errors : SinkSide
 
-abbrev pub scene : Seen → streams.Told → ℕ → ℕ → HostSide → streams.Told → ℕ → Scene
-scene store held writes touches host said unsaid = record {
-  around = around store (Some []) 0 held writes touches host;
-  errors = record { held = said; faults = unsaid };
-}
+-- the same with no input: so the commands of the lines find it
+abbrev pub without_input : Scene → Scene
+without_input s = record { around = record s.around { left = Some []; reads = 0 }; errors = s.errors }
 
 -- a line went to `errors`, or a part of it where its count rose
 abbrev pub Said : SinkSide → SinkSide → List ℕ → Type 0
@@ -95,12 +92,6 @@ abbrev pub ClosesLine : Result (Unit {0}) Refusal → Option Status → SinkSide
 ClosesLine done None out out_now err err_now = (given : Status) × MarksOn done given out out_now err err_now
 ClosesLine done (Some given) out out_now err err_now =
     MarksLast done given out out_now err err_now ⊎ MarksCut done given out out_now err err_now
-
-abbrev pub ClosesInBatch : Result (Unit {0}) Refusal → Option Status → (held held_now : streams.Told)
-    → (writes writes_now : ℕ) → (said said_now : streams.Told) → (unsaid unsaid_now : ℕ) → Type 0
-ClosesInBatch done given held held_now writes writes_now said said_now unsaid unsaid_now =
-    ClosesLine done given (record { held = held; faults = writes }) (record { held = held_now; faults = writes_now })
-    (record { held = said; faults = unsaid }) (record { held = said_now; faults = unsaid_now })
 
 -- what became of a line: it has no word and nothing was done, or what it asks for was done
 module _ (X : List ℕ → List ℕ) (N : List ℕ → ℕ) where
@@ -193,14 +184,13 @@ module _ (X : List ℕ → List ℕ) (N : List ℕ → ℕ) where
   ReadingFails ByReading reads reads_now = Rose reads reads_now
   ReadingFails other reads reads_now = reads_now ≡ reads
 
-  -- what a batch did
-  pub record Batches (most limit : ℕ) (given : Status) (before now : Scene) (left left_now : streams.Told)
-      (reads reads_now : ℕ) : Type 0 where
+  -- what a batch did: the lines of its input, with no input of their own
+  pub record Batches (most limit : ℕ) (given : Status) (before now : Scene) : Type 0 where
     pub lines : List (List ℕ)
     pub between : Scene
     pub ending : Ending
-    pub done : LinesDone lines before between
-    pub ends : EndsSo ending given between now
-    pub told : IfSome left (λ bytes. AreOf ending lines (lines_in most limit bytes))
-    pub nothing_left : ending ≡ WithInput → streams.IsAtEnd left_now
-    pub fails : ReadingFails ending reads reads_now
+    pub done : LinesDone lines (without_input before) between
+    pub ends : EndsSo ending given between (without_input now)
+    pub told : IfSome before.around.left (λ bytes. AreOf ending lines (lines_in most limit bytes))
+    pub nothing_left : ending ≡ WithInput → streams.IsAtEnd now.around.left
+    pub fails : ReadingFails ending before.around.reads now.around.reads

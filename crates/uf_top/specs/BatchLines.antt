@@ -55,11 +55,10 @@ module _ (X : List ℕ → List ℕ) (N : List ℕ → ℕ) where
   -- whatever failed in a batch is its status: a call of the store, a clash that was met (or there was no memory to say
   -- so), a reading of its input or of the host, a writing to the host or of its output. One exception: a line that ends
   -- the batch keeps its status where that couldn't be printed
-  pub record PassesNoneOver (ending : Ending X N) (given : Status) (before now : Around) (reads reads_now : ℕ)
-      : Type 0 where
+  pub record PassesNoneOver (ending : Ending X N) (given : Status) (before now : Around) : Type 0 where
     pub failed : before.store.faults < now.store.faults → given ≡ status.StoreFault
     pub clashed : before.store.clashes < now.store.clashes → (given ≡ status.Clash) ⊎ (given ≡ status.Memory)
-    pub read : (reads < reads_now) ⊎ (before.host.reads < now.host.reads) → given ≡ status.ReadFault
+    pub read : (before.reads < now.reads) ⊎ (before.host.reads < now.host.reads) → given ≡ status.ReadFault
     pub host_written : before.host.writes < now.host.writes → given ≡ status.WriteFault
     pub written : before.writes < now.writes → (given ≡ status.WriteFault) ⊎ EndsAtLine ending given
 

@@ -45,7 +45,7 @@ use Rattle.uf_top.specs.Naming.{NamesAfter}
 use Rattle.uf_top.specs.Reply.{added_spot, by_rule, host_tree, input_tree}
 use Rattle.uf_top.specs.Shapes.{WritesAs, is_ok}
 use Rattle.uf_top.specs.declared.given.Given.{Given}
-use Rattle.uf_top.specs.declared.given.Found.{Found}
+use Rattle.uf_top.specs.declared.given.OpenSpot.{OpenSpot}
 
 -- the kinds of a command that puts what the host has at a path into the tree, or the input where there is no path
 abbrev pub kinds_placing : Option (List ℕ) → List RefusalKind
@@ -112,12 +112,12 @@ module _ (X : List ℕ → List ℕ) (N : List ℕ → ℕ) where
       IfSome host (λ h. host_tree path (tree_on_host X N p h recursive path) ≡ given)
 
   -- this is the spot, in the tree of these entries
-  pub record IsFoundAt (told : Told) (p : Profile) (es : Entries) (spot : Spot) (found : Found) : Type 0 where
+  pub record IsFoundAt (told : Told) (p : Profile) (es : Entries) (spot : Spot) (found : OpenSpot) : Type 0 where
     pub spot_is : found.spot ≡ spot
     pub stands : StandsOver X N told found.tree p es
 
   -- the tree that the Head names was opened, and the spot found in it for what is added
-  pub record FindsSpot (dest : Path) (path : Option (List ℕ)) (result : Result Found Refusal) (before now : Seen)
+  pub record FindsSpot (dest : Path) (path : Option (List ℕ)) (result : Result OpenSpot Refusal) (before now : Seen)
       (was is : ℕ) : Type 0 where
     pub opens : (standing : Standing) → TellsAs X N before.told standing → Stood before.faults now.faults
         → OpensFound standing result
@@ -148,7 +148,7 @@ module _ (X : List ℕ → List ℕ) (N : List ℕ → ℕ) where
   GivesFor p now Says say (Err why) = IsUngiven Says why
 
   -- what was given is put at its spot, and the tree committed, after its blocks were saved from a moment on
-  abbrev pub PutsFrom : Found → Given → Result (List ℕ) Refusal → (start before now : Seen) → Type 0
+  abbrev pub PutsFrom : OpenSpot → Given → Result (List ℕ) Refusal → (start before now : Seen) → Type 0
   PutsFrom found given done start before now = (t : Tree) (p : Profile) (es : Entries)
       → OnlySaves X NoneIsBad None start before → found.tree.profile ≡ p → HasHeldPlan X N p before.told t
       → given.entry ≡ entry X N p t → IsFolderOver X N p start now [] found.tree.root es
@@ -157,7 +157,7 @@ module _ (X : List ℕ → List ℕ) (N : List ℕ → ℕ) where
       (by_rule (allowed_move X N p (placed_at found.spot t es))) done
 
   -- how what was given was put into an opened tree, which was committed
-  pub record PutsGiven (found : Found) (given : Given) (done : Result (List ℕ) Refusal) (before now : Seen)
+  pub record PutsGiven (found : OpenSpot) (given : Given) (done : Result (List ℕ) Refusal) (before now : Seen)
       (was is : ℕ) : Type 0 where
     pub puts : (start : Seen) → PutsFrom found given done start before now
     pub text : IfOk done (λ text. text ≡ given.text)

@@ -56,33 +56,9 @@ module _ (X : List ℕ → List ℕ) (N : List ℕ → ℕ) where
         → is_idle bytes es command ≡ true → now ≡ before
 
   -- how the text of a command was made: its answer is the reply, over lost blocks too, each refusal is one of its
-  -- kinds and has its cause, it keeps within its touches, and it leaves what it leaves
-  pub record Makes (command : Command) (done : Result (List ℕ) Refusal) (before now : Seen)
-      (left left_now : streams.Told) (reads reads_now was is : ℕ) : Type 0 where
-    pub answers : (w : World) → TellsAs X N before.told w.standing
-        → HasInput (Ok command) left w.input reads reads_now
-        → Calm before now → Answers X N w.standing (reply X N command w) done now.told
-    pub lost : (p : Profile) (es : Entries) (rows : ℕ → ℕ) (held : Lookup) (outside : Outside)
-        → StaysNamed X N before.told now.told p es → HasInput (Ok command) left outside.input reads reads_now
-        → Calm before now
-        → AnswersOver X N before.told now.told p es (command_needs X N rows command p es)
-        (reply X N command (in_world p es held outside)) done
-    pub kinds : IsOf (may_meet (kinds_of command)) done
-    pub ready : IsReady before.told command done
-    pub adds : AddsFor X before.told now.told (Ok command) done left left_now
-    pub counts : Counts (is_read done) reads reads_now
-    pub cause : Shown X (IsBadIn X N before.told now.told) (refusal_fault done) before now
-    pub whole : (standing : Standing) → TellsAs X N before.told standing → Calm before now → FindsAll (ended done)
-    pub touches : (p : Profile) (es : Entries) (bytes : List ℕ) (rows : ℕ → ℕ)
-        → StaysNamed X N before.told now.told p es → HasInput (Ok command) left bytes reads reads_now
-        → AreHeights p rows → Calm before now
-        → IfSome (command_touches X N rows bytes command p es) (λ most. is ≤ was + most)
-    pub touched : IsBlaming (refusal_fault done) → was < is
-    pub leaves : MakesLeaving command done before.told now.told
-        (λ bytes. HasInput (Ok command) left bytes reads reads_now × Stood before.faults now.faults)
-
-  -- the same of a command that may use the host, with all that is around it
-  pub record MakesText (command : Command) (done : Result (List ℕ) Refusal) (before now : Around) : Type 0 where
+  -- kinds and has its cause, it uses the host no more than it may, it keeps within its touches, and it leaves what it
+  -- leaves
+  pub record Makes (command : Command) (done : Result (List ℕ) Refusal) (before now : Around) : Type 0 where
     pub answers : (w : World) → TellsAs X N before.store.told w.standing
         → HasOutside (Ok command) (outside_of w) before now → Calm before.store now.store
         → Answers X N w.standing (reply X N command w) done now.store.told

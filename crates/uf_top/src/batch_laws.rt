@@ -2,7 +2,7 @@
 ghost use Rattle.std.specs.Prelude.{◌≡◌, ◌≢◌, ◌⊎◌, ◌+◌, ◌<◌, ◌≤◌, ◌^◌, ◌++◌, ℕ, IfSome, List, Some};
 ghost use Rattle.uf_edge.specs.Counts.{Stood};
 ghost use Rattle.uf_edge.specs.Host.{HostTree};
-ghost use Rattle.uf_edge.specs.Streams.{Told, after};
+ghost use Rattle.uf_edge.specs.Streams.{after};
 ghost use Rattle.uf_mfs.specs.Standing.{TellsAs, head_in};
 ghost use Rattle.uf_command.specs.declared.status.Status.{Status as TheStatus};
 ghost use Rattle.uf_command.specs.declared.status.Status.TheVariants as status;
@@ -13,7 +13,7 @@ ghost use Rattle.uf_tree.specs.Standing.{Standing};
 ghost use Rattle.uf_tree.specs.Tree.{Entries};
 ghost use Rattle.uf_tree.specs.Validity.{IsHash};
 ghost use Rattle.uf_tree.specs.declared.profile.Profile.{Profile};
-ghost use Rattle.uf_top.specs.Batch.{Batches, Ending, Scene};
+ghost use Rattle.uf_top.specs.Batch.{Batches, Ending, Scene, without_input};
 ghost use Rattle.uf_top.specs.BatchLines.{BeginsSafe, MovesByLine, PassesNoneOver, StopsAtFirst, StopsInLine};
 ghost use Rattle.uf_top.specs.BatchReplies.{BatchReplied, HasHeights, NothingFails, batch_bound, batch_printed};
 ghost use Rattle.uf_top.specs.Outcomes.{IsSafeFor};
@@ -21,26 +21,23 @@ ghost use Rattle.uf_top.specs.Outcomes.{IsSafeFor};
 /// A batch keeps each good block, whatever its lines do and however it ends.
 pub fn a_batch_keeps_good_blocks()
     ensures { (X : List ℕ → List ℕ) (N : List ℕ → ℕ) (most limit : ℕ) (given : TheStatus) (before now : Scene)
-        (left left_now : Told) (reads reads_now : ℕ)
-        → Batches X N most limit given before now left left_now reads reads_now
+        → Batches X N most limit given before now
         → KeepsGood X before.around.store.told now.around.store.told }
 {}
 
 /// No line of a batch changes what the host tells.
 pub fn a_batch_leaves_the_host()
     ensures { (X : List ℕ → List ℕ) (N : List ℕ → ℕ) (most limit : ℕ) (given : TheStatus) (before now : Scene)
-        (left left_now : Told) (reads reads_now : ℕ)
-        → Batches X N most limit given before now left left_now reads reads_now
+        → Batches X N most limit given before now
         → now.around.host.told ≡ before.around.host.told }
 {}
 
 /// The Head is as before a batch, or one of its lines, whose status says that it may have moved it, left it as it is.
 pub fn a_batch_moves_the_head_by_its_lines()
     ensures { (X : List ℕ → List ℕ) (N : List ℕ → ℕ) (most limit : ℕ) (given : TheStatus) (before now : Scene)
-        (left left_now : Told) (reads reads_now : ℕ)
-        → (did : Batches X N most limit given before now left left_now reads reads_now)
+        → (did : Batches X N most limit given before now)
         → (head_in now.around.store.told ≡ head_in before.around.store.told)
-        ⊎ MovesByLine X N did.lines did.ending before now.around.store.told }
+        ⊎ MovesByLine X N did.lines did.ending (without_input before) now.around.store.told }
 {}
 
 /// A batch passes no failure over: a call of the store that failed, a clash that was met, a failed reading of its input
@@ -48,9 +45,8 @@ pub fn a_batch_moves_the_head_by_its_lines()
 /// where that couldn't be printed.
 pub fn a_batch_passes_no_failure_over()
     ensures { (X : List ℕ → List ℕ) (N : List ℕ → ℕ) (most limit : ℕ) (given : TheStatus) (before now : Scene)
-        (left left_now : Told) (reads reads_now : ℕ)
-        → (did : Batches X N most limit given before now left left_now reads reads_now)
-        → PassesNoneOver X N did.ending given before.around now.around reads reads_now }
+        → (did : Batches X N most limit given before now)
+        → PassesNoneOver X N did.ending given before.around now.around }
 {}
 
 /// Over a store that stands for a tree (or has no Head, or one that isn't read), and a host that tells, where nothing
@@ -59,11 +55,12 @@ pub fn a_batch_passes_no_failure_over()
 /// with its input, at a line with such a status, at what is too long, or is out of memory.
 pub fn a_batch_answers_line_by_line()
     ensures { (X : List ℕ → List ℕ) (N : List ℕ → ℕ) (host : HostTree) (most limit : ℕ) (given : TheStatus)
-        (before now : Scene) (left left_now : Told) (reads reads_now : ℕ) (standing : Standing)
-        → (did : Batches X N most limit given before now left left_now reads reads_now)
+        (before now : Scene) (standing : Standing)
+        → (did : Batches X N most limit given before now)
         → before.around.host.told ≡ Some host → TellsAs X N before.around.store.told standing
-        → NothingFails before.around now.around → Stood reads reads_now
-        → BatchReplied X N host did.lines did.ending given standing before did.between now }
+        → NothingFails before.around now.around → Stood before.around.reads now.around.reads
+        → BatchReplied X N host did.lines did.ending given standing (without_input before) did.between
+        (without_input now) }
 {}
 
 /// Where a batch whose lines are answered so doesn't end for out of memory, the output has got of each line that has a
@@ -93,17 +90,17 @@ pub fn a_batch_keeps_within_the_sum_of_its_bounds()
 /// tree for which it then stands.
 pub fn a_stop_of_a_batch_leaves_the_tree_before_or_after_a_line()
     ensures stops { (X : List ℕ → List ℕ) (N : List ℕ → ℕ) (host : HostTree) (most limit : ℕ) (given : TheStatus)
-        (before now : Scene) (left left_now : Told) (reads reads_now : ℕ) (a b : Contents) (p : Profile)
-        (es : Entries) → IsHash X → ((name : List ℕ) → N name < 2 ^ 64)
-        → (did : Batches X N most limit given before now left left_now reads reads_now)
+        (before now : Scene) (a b : Contents) (p : Profile) (es : Entries)
+        → IsHash X → ((name : List ℕ) → N name < 2 ^ 64)
+        → (did : Batches X N most limit given before now)
         → BeginsSafe X N host before a p es → now.around.store.told ≡ Some b
         → (done rest : List TheWrite) → b.writes ≡ a.writes ++ done ++ rest
         → StopsAtFirst X N a p es (a.writes ++ done)
-        ⊎ StopsInLine X N did.lines did.ending before (a.writes ++ done) }
+        ⊎ StopsInLine X N did.lines did.ending (without_input before) (a.writes ++ done) }
     ensures safe { (X : List ℕ → List ℕ) (N : List ℕ → ℕ) (host : HostTree) (most limit : ℕ) (given : TheStatus)
-        (before now : Scene) (left left_now : Told) (reads reads_now : ℕ) (a b : Contents) (p : Profile)
-        (es : Entries) → IsHash X → ((name : List ℕ) → N name < 2 ^ 64)
-        → (did : Batches X N most limit given before now left left_now reads reads_now)
+        (before now : Scene) (a b : Contents) (p : Profile) (es : Entries)
+        → IsHash X → ((name : List ℕ) → N name < 2 ^ 64)
+        → (did : Batches X N most limit given before now)
         → BeginsSafe X N host before a p es → now.around.store.told ≡ Some b
         → (q : Profile) × (fs : Entries) × IsSafeFor X N b q fs }
 {}

@@ -23,22 +23,22 @@ ghost use Rattle.uf_top.specs.Running.{Runs};
 ghost use Rattle.uf_top.specs.Talking.{RunsPull, RunsServe};
 ghost use Rattle.uf_top.specs.Working.{Does, SaysText, Serves, Spares};
 
-use crate::adding::adds;
-use crate::batching::{MOST_OF_BATCH, MOST_OF_LINE, batch};
-use crate::cars::{compare_car, export_car, import_car};
-use crate::collecting::collect_rest;
-use crate::foreign::cat;
-use crate::generating::print_generated;
-use crate::getting::get;
-use crate::grafting::graft;
-use crate::hosted::add_from;
-use crate::peers::{pull_from, serve_wants};
-use crate::pinning::pin;
-use crate::placing::{add_from_to, add_to};
-use crate::proving::{check_input, prove_at};
-use crate::sending::send_part;
-use crate::taking::write_input;
-use crate::tree::{at, init};
+use crate::commands::add::adds;
+use crate::commands::add_from::add_from;
+use crate::commands::add_to_files::{add_from_to, add_to};
+use crate::commands::batch::{MOST_OF_BATCH, MOST_OF_LINE, batch};
+use crate::commands::cat::cat;
+use crate::commands::dag::{compare_car, export_car, import_car};
+use crate::commands::files::{at, init};
+use crate::commands::files_cp::graft;
+use crate::commands::files_read::send_part;
+use crate::commands::files_write::write_input;
+use crate::commands::gc::collect_rest;
+use crate::commands::generate::print_generated;
+use crate::commands::get::get;
+use crate::commands::pin::pin;
+use crate::commands::prove::{check_input, prove_at};
+use crate::commands::pull::{pull_from, serve_wants};
 use std::alloc::Global;
 use std::sync::ledger::Ledger;
 use uf_cid::Block;
@@ -82,9 +82,9 @@ pub fn run<S: Sweep, N: NameHash, W: Host, I: Source, O: Sink, E: Sink, L: Ledge
     // Of `batch`: every line that has a word did what was said of a command, one after the other.
     ensures batch { request_in (map string_bytes words.now) ≡ requests.Batch
         → Batches S.X.block32 N.name64 MOST_OF_LINE MOST_OF_BATCH result
-        (scene_at O.Sink W.Host E.Sink (S.seen store.old) output.old touches.old host.old errors.old)
-        (scene_at O.Sink W.Host E.Sink (S.seen store.new) output.new touches.new host.new errors.new)
-        (I.left input.old) (I.left input.new) (I.faults input.old) (I.faults input.new) }
+        (scene_at I.Source O.Sink W.Host E.Sink (S.seen store.old) input.old output.old touches.old host.old errors.old)
+        (scene_at I.Source O.Sink W.Host E.Sink (S.seen store.new) input.new output.new touches.new host.new
+        errors.new) }
 
     // Of `pull`: what is due over the peer's bytes was asked for and kept, and the tree stands as before.
     ensures pull { (cid : TheCid) → request_in (map string_bytes words.now) ≡ requests.Pull cid

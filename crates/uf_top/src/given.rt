@@ -6,7 +6,7 @@ use uf_tree::Entry;
 
 /// An opened tree and a spot in it.
 #[derive(Drop)]
-pub struct Found {
+pub struct OpenSpot {
     pub tree: Mfs,
     pub spot: Spot,
 }

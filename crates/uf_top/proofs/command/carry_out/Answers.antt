@@ -6,8 +6,8 @@ use Rattle.uf_command.specs.declared.types.PinAsk.{PinAsk}
 use Rattle.uf_command.specs.declared.types.PinAsk.TheVariants as pins
 use Rattle.uf_top.specs.Around.{around, host_side}
 use Rattle.uf_top.specs.Cars.{ByOwnStore}
-use Rattle.uf_top.specs.Working.{Does, MakesText}
-use Rattle.uf_top.proofs.Printing.{made-as, said-does}
+use Rattle.uf_top.specs.Working.{Does, Makes}
+use Rattle.uf_top.proofs.Printing.{said-does}
 use Rattle.uf_top.proofs.Serving.{alone-given, alone-spares, spares-own}
 use Rattle.uf_top.proofs.command.carry_out.Goals as goal
 
@@ -34,7 +34,7 @@ returns-in-Init g c =
     let alone : reads_tree_alone c.args.command.now ≡ true = ap reads_tree_alone c.in-Init.is in
     let does = said-does g.S.X.BlockHash.block32 g.N.NameHash.name64 c.args.command.now alone (g.S.Store.seen c.args.store.now) (g.S.Store.seen c.init.new.store)
     l l i i c.args.touches.now c.init.new.touches h w s s c.init.result
-    (made-as g.S.X.BlockHash.block32 g.N.NameHash.name64 c.args.command.now (Init c.in-Init.profile) c.in-Init.is refl (g.S.Store.seen c.args.store.now) (g.S.Store.seen c.init.new.store) l l i i c.args.touches.now c.init.new.touches s (λ text. tt) c.init.result (c.init.ensures l i) h w)
+    (subst (λ command. Makes g.S.X.BlockHash.block32 g.N.NameHash.name64 command c.init.result (around (g.S.Store.seen c.args.store.now) l i h w c.args.touches.now s) (around (g.S.Store.seen c.init.new.store) l i h w c.init.new.touches s)) (sym c.in-Init.is) (c.init.ensures l i h w s))
     (g.O.Sink.holds c.say.new.output) (g.O.Sink.faults c.say.new.output) c.say.result c.say.ensures in
     record {
       does = does;
@@ -55,7 +55,7 @@ returns-in-Add g c =
     let alone : reads_tree_alone c.args.command.now ≡ true = ap reads_tree_alone c.in-Add.is in
     let does = said-does g.S.X.BlockHash.block32 g.N.NameHash.name64 c.args.command.now alone (g.S.Store.seen c.args.store.now) (g.S.Store.seen c.adds.new.store)
     l (g.I.Source.left c.adds.new.input) i (g.I.Source.faults c.adds.new.input) c.args.touches.now c.adds.new.touches h w s s c.adds.result
-    (made-as g.S.X.BlockHash.block32 g.N.NameHash.name64 c.args.command.now (Add c.in-Add.only_hash) c.in-Add.is refl (g.S.Store.seen c.args.store.now) (g.S.Store.seen c.adds.new.store) l (g.I.Source.left c.adds.new.input) i (g.I.Source.faults c.adds.new.input) c.args.touches.now c.adds.new.touches s (λ text. tt) c.adds.result (c.adds.ensures.works g.N.NameHash.name64) h w)
+    (subst (λ command. Makes g.S.X.BlockHash.block32 g.N.NameHash.name64 command c.adds.result (around (g.S.Store.seen c.args.store.now) l i h w c.args.touches.now s) (around (g.S.Store.seen c.adds.new.store) (g.I.Source.left c.adds.new.input) (g.I.Source.faults c.adds.new.input) h w c.adds.new.touches s)) (sym c.in-Add.is) (c.adds.ensures.works g.N.NameHash.name64 h w s))
     (g.O.Sink.holds c.say-in-Add.new.output) (g.O.Sink.faults c.say-in-Add.new.output) c.say-in-Add.result c.say-in-Add.ensures in
     record {
       does = does;
@@ -76,7 +76,7 @@ returns-in-AddFrom g c =
     let alone : reads_tree_alone c.args.command.now ≡ true = ap reads_tree_alone c.in-AddFrom.is in
     let does = said-does g.S.X.BlockHash.block32 g.N.NameHash.name64 c.args.command.now alone (g.S.Store.seen c.args.store.now) (g.S.Store.seen c.add_from-rows.new.store)
     l l i i c.args.touches.now c.add_from-rows.new.touches h w s (host_side (g.W.Host.tree c.add_from-rows.new.host) (g.W.Host.read_faults c.add_from-rows.new.host) (g.W.Host.write_faults c.add_from-rows.new.host)) c.add_from-rows.result
-    (subst (λ command. MakesText g.S.X.BlockHash.block32 g.N.NameHash.name64 command c.add_from-rows.result (around (g.S.Store.seen c.args.store.now) l i h w c.args.touches.now s) (around (g.S.Store.seen c.add_from-rows.new.store) l i h w c.add_from-rows.new.touches (host_side (g.W.Host.tree c.add_from-rows.new.host) (g.W.Host.read_faults c.add_from-rows.new.host) (g.W.Host.write_faults c.add_from-rows.new.host)))) (sym c.in-AddFrom.is) (c.add_from-rows.ensures.works l i h w))
+    (subst (λ command. Makes g.S.X.BlockHash.block32 g.N.NameHash.name64 command c.add_from-rows.result (around (g.S.Store.seen c.args.store.now) l i h w c.args.touches.now s) (around (g.S.Store.seen c.add_from-rows.new.store) l i h w c.add_from-rows.new.touches (host_side (g.W.Host.tree c.add_from-rows.new.host) (g.W.Host.read_faults c.add_from-rows.new.host) (g.W.Host.write_faults c.add_from-rows.new.host)))) (sym c.in-AddFrom.is) (c.add_from-rows.ensures.works l i h w))
     (g.O.Sink.holds c.say-in-AddFrom.new.output) (g.O.Sink.faults c.say-in-AddFrom.new.output) c.say-in-AddFrom.result c.say-in-AddFrom.ensures in
     record {
       does = does;
@@ -97,7 +97,7 @@ returns-in-AddTo g c =
     let alone : reads_tree_alone c.args.command.now ≡ true = ap reads_tree_alone c.in-AddTo.is in
     let does = said-does g.S.X.BlockHash.block32 g.N.NameHash.name64 c.args.command.now alone (g.S.Store.seen c.args.store.now) (g.S.Store.seen c.add_to.new.store)
     l (g.I.Source.left c.add_to.new.input) i (g.I.Source.faults c.add_to.new.input) c.args.touches.now c.add_to.new.touches h w s s c.add_to.result
-    (subst (λ command. MakesText g.S.X.BlockHash.block32 g.N.NameHash.name64 command c.add_to.result (around (g.S.Store.seen c.args.store.now) l i h w c.args.touches.now s) (around (g.S.Store.seen c.add_to.new.store) (g.I.Source.left c.add_to.new.input) (g.I.Source.faults c.add_to.new.input) h w c.add_to.new.touches s)) (sym c.in-AddTo.is) (c.add_to.ensures h w s))
+    (subst (λ command. Makes g.S.X.BlockHash.block32 g.N.NameHash.name64 command c.add_to.result (around (g.S.Store.seen c.args.store.now) l i h w c.args.touches.now s) (around (g.S.Store.seen c.add_to.new.store) (g.I.Source.left c.add_to.new.input) (g.I.Source.faults c.add_to.new.input) h w c.add_to.new.touches s)) (sym c.in-AddTo.is) (c.add_to.ensures h w s))
     (g.O.Sink.holds c.say-in-AddTo.new.output) (g.O.Sink.faults c.say-in-AddTo.new.output) c.say-in-AddTo.result c.say-in-AddTo.ensures in
     record {
       does = does;
@@ -118,7 +118,7 @@ returns-in-AddFromTo g c =
     let alone : reads_tree_alone c.args.command.now ≡ true = ap reads_tree_alone c.in-AddFromTo.is in
     let does = said-does g.S.X.BlockHash.block32 g.N.NameHash.name64 c.args.command.now alone (g.S.Store.seen c.args.store.now) (g.S.Store.seen c.add_from_to-rows.new.store)
     l l i i c.args.touches.now c.add_from_to-rows.new.touches h w s (host_side (g.W.Host.tree c.add_from_to-rows.new.host) (g.W.Host.read_faults c.add_from_to-rows.new.host) (g.W.Host.write_faults c.add_from_to-rows.new.host)) c.add_from_to-rows.result
-    (subst (λ command. MakesText g.S.X.BlockHash.block32 g.N.NameHash.name64 command c.add_from_to-rows.result (around (g.S.Store.seen c.args.store.now) l i h w c.args.touches.now s) (around (g.S.Store.seen c.add_from_to-rows.new.store) l i h w c.add_from_to-rows.new.touches (host_side (g.W.Host.tree c.add_from_to-rows.new.host) (g.W.Host.read_faults c.add_from_to-rows.new.host) (g.W.Host.write_faults c.add_from_to-rows.new.host)))) (sym c.in-AddFromTo.is) (c.add_from_to-rows.ensures l i h w))
+    (subst (λ command. Makes g.S.X.BlockHash.block32 g.N.NameHash.name64 command c.add_from_to-rows.result (around (g.S.Store.seen c.args.store.now) l i h w c.args.touches.now s) (around (g.S.Store.seen c.add_from_to-rows.new.store) l i h w c.add_from_to-rows.new.touches (host_side (g.W.Host.tree c.add_from_to-rows.new.host) (g.W.Host.read_faults c.add_from_to-rows.new.host) (g.W.Host.write_faults c.add_from_to-rows.new.host)))) (sym c.in-AddFromTo.is) (c.add_from_to-rows.ensures l i h w))
     (g.O.Sink.holds c.say-in-AddFromTo.new.output) (g.O.Sink.faults c.say-in-AddFromTo.new.output) c.say-in-AddFromTo.result c.say-in-AddFromTo.ensures in
     record {
       does = does;
@@ -139,7 +139,7 @@ returns-in-WriteInput g c =
     let alone : reads_tree_alone c.args.command.now ≡ true = ap reads_tree_alone c.in-WriteInput.is in
     let does = said-does g.S.X.BlockHash.block32 g.N.NameHash.name64 c.args.command.now alone (g.S.Store.seen c.args.store.now) (g.S.Store.seen c.write_input-nothing.new.store)
     l (g.I.Source.left c.write_input-nothing.new.input) i (g.I.Source.faults c.write_input-nothing.new.input) c.args.touches.now c.write_input-nothing.new.touches h w s s c.write_input-nothing.result
-    (made-as g.S.X.BlockHash.block32 g.N.NameHash.name64 c.args.command.now (WriteInput c.in-WriteInput.how c.in-WriteInput.path) c.in-WriteInput.is refl (g.S.Store.seen c.args.store.now) (g.S.Store.seen c.write_input-nothing.new.store) l (g.I.Source.left c.write_input-nothing.new.input) i (g.I.Source.faults c.write_input-nothing.new.input) c.args.touches.now c.write_input-nothing.new.touches s (λ text. tt) c.write_input-nothing.result c.write_input-nothing.ensures h w)
+    (subst (λ command. Makes g.S.X.BlockHash.block32 g.N.NameHash.name64 command c.write_input-nothing.result (around (g.S.Store.seen c.args.store.now) l i h w c.args.touches.now s) (around (g.S.Store.seen c.write_input-nothing.new.store) (g.I.Source.left c.write_input-nothing.new.input) (g.I.Source.faults c.write_input-nothing.new.input) h w c.write_input-nothing.new.touches s)) (sym c.in-WriteInput.is) (c.write_input-nothing.ensures h w s))
     (g.O.Sink.holds c.say-in-WriteInput.new.output) (g.O.Sink.faults c.say-in-WriteInput.new.output) c.say-in-WriteInput.result c.say-in-WriteInput.ensures in
     record {
       does = does;
@@ -160,7 +160,7 @@ returns-in-At g c =
     let alone : reads_tree_alone c.args.command.now ≡ true = ap reads_tree_alone c.in-At.is in
     let does = said-does g.S.X.BlockHash.block32 g.N.NameHash.name64 c.args.command.now alone (g.S.Store.seen c.args.store.now) (g.S.Store.seen c.at.new.store)
     l l i i c.args.touches.now c.at.new.touches h w s s c.at.result
-    (made-as g.S.X.BlockHash.block32 g.N.NameHash.name64 c.args.command.now (At c.in-At.ask c.in-At.path) c.in-At.is refl (g.S.Store.seen c.args.store.now) (g.S.Store.seen c.at.new.store) l l i i c.args.touches.now c.at.new.touches s (λ text. tt) c.at.result (c.at.ensures l i) h w)
+    (subst (λ command. Makes g.S.X.BlockHash.block32 g.N.NameHash.name64 command c.at.result (around (g.S.Store.seen c.args.store.now) l i h w c.args.touches.now s) (around (g.S.Store.seen c.at.new.store) l i h w c.at.new.touches s)) (sym c.in-At.is) (c.at.ensures l i h w s))
     (g.O.Sink.holds c.say-in-At.new.output) (g.O.Sink.faults c.say-in-At.new.output) c.say-in-At.result c.say-in-At.ensures in
     record {
       does = does;

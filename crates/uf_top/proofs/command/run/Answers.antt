@@ -39,10 +39,10 @@ returns-in-One-clause-runs g c = λ asked is.
 pub returns-in-One-clause-batch : goal.returns-in-One-clause-batch
 returns-in-One-clause-batch g c = λ is.
     let m : c.in-One.asked ≡ Err no_memory = subst (IsAskedAlone c.in-One.asked) is c.in-One.ensures.asked in
-    batch-wants g.S.X.BlockHash.block32 g.N.NameHash.name64 1048576 1073741824 c.tell_end.result c.serve-done.result (g.S.Store.seen c.args.store.now) (g.S.Store.seen c.serve-done.new.store) (g.I.Source.left c.args.input.now) (g.I.Source.left c.serve-done.new.input) (g.I.Source.faults c.args.input.now) (g.I.Source.faults c.serve-done.new.input)
-    (g.O.Sink.holds c.args.output.now) (g.O.Sink.holds c.serve-done.new.output) (g.O.Sink.faults c.args.output.now) (g.O.Sink.faults c.serve-done.new.output) c.args.touches.now c.serve-done.new.touches
-    (host_side (g.W.Host.tree c.args.host.now) (g.W.Host.read_faults c.args.host.now) (g.W.Host.write_faults c.args.host.now)) (host_side (g.W.Host.tree c.serve-done.new.host) (g.W.Host.read_faults c.serve-done.new.host) (g.W.Host.write_faults c.serve-done.new.host))
-    (g.E.Sink.holds c.args.errors.now) (g.E.Sink.holds c.tell_end.new.errors) (g.E.Sink.faults c.args.errors.now) (g.E.Sink.faults c.tell_end.new.errors)
+    batch-wants g.S.X.BlockHash.block32 g.N.NameHash.name64 1048576 1073741824 c.tell_end.result c.serve-done.result
+    (around (g.S.Store.seen c.args.store.now) (g.I.Source.left c.args.input.now) (g.I.Source.faults c.args.input.now) (g.O.Sink.holds c.args.output.now) (g.O.Sink.faults c.args.output.now) c.args.touches.now (host_side (g.W.Host.tree c.args.host.now) (g.W.Host.read_faults c.args.host.now) (g.W.Host.write_faults c.args.host.now)))
+    (around (g.S.Store.seen c.serve-done.new.store) (g.I.Source.left c.serve-done.new.input) (g.I.Source.faults c.serve-done.new.input) (g.O.Sink.holds c.serve-done.new.output) (g.O.Sink.faults c.serve-done.new.output) c.serve-done.new.touches (host_side (g.W.Host.tree c.serve-done.new.host) (g.W.Host.read_faults c.serve-done.new.host) (g.W.Host.write_faults c.serve-done.new.host)))
+    (record { held = g.E.Sink.holds c.args.errors.now; faults = g.E.Sink.faults c.args.errors.now }) (record { held = g.E.Sink.holds c.tell_end.new.errors; faults = g.E.Sink.faults c.tell_end.new.errors })
     (c.serve-done.ensures.serves (Err no_memory) (subst (λ asked. IsAsked asked (Err no_memory)) (sym m) (inl refl))) c.tell_end.ensures
 
 pub returns-in-One-clause-one : goal.returns-in-One-clause-one

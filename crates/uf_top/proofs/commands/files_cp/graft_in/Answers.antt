@@ -1,0 +1,27 @@
+use Rattle.std.proofs.lemmas.Result.{err_from_is_err_and}
+use Rattle.uf_store.specs.Faults.{NoneIsBad}
+use Rattle.uf_top.proofs.Adopted.{graft-committed, graft-refused, graft-uncommitted}
+use Rattle.uf_top.proofs.Shows.{tree-fault}
+use Rattle.uf_top.proofs.commands.files_cp.graft_in.Goals as goal
+
+pub refusal-requires : goal.refusal-requires
+refusal-requires g c = tree-fault (Unit {0}) g.S.X.BlockHash.block32 NoneIsBad c.in-Err.fault (g.S.Store.seen c.grafted.new.store) (g.S.Store.seen c.commit.new.store) c.in-Err.ensures.cause
+
+pub returns-in_err-grafted : goal.returns-in_err-grafted
+returns-in_err-grafted g c =
+    let out = err_from_is_err_and c.from_residual.result c.from_residual.ensures.1 in
+    rw (out.1, out.2) (let e = c.in_err-grafted.ensures in
+    graft-refused g.S.X.BlockHash.block32 g.N.NameHash.name64 c.args.tree c.grafted.new.tree c.args.source.now c.args.dest.now (g.S.Store.seen c.args.store.now) (g.S.Store.seen c.grafted.new.store)
+    c.in_err-grafted.field-0.0 e.puts e.saves e.kinds c.args.touches.now c.grafted.new.touches e.touched)
+
+pub returns-in-Err : goal.returns-in-Err
+returns-in-Err g c =
+    let e = c.in_ok-grafted.ensures in let k = c.in-Err.ensures in
+    graft-uncommitted g.S.X.BlockHash.block32 g.N.NameHash.name64 c.args.tree c.grafted.new.tree c.args.source.now c.args.dest.now (g.S.Store.seen c.args.store.now) (g.S.Store.seen c.grafted.new.store) (g.S.Store.seen c.commit.new.store)
+    e.puts e.saves k.good c.in-Err.fault c.refusal.result c.refusal.ensures k.answer k.leaves k.cause c.args.touches.now c.grafted.new.touches c.commit.new.touches e.touched k.touched
+
+pub returns-in-Ok : goal.returns-in-Ok
+returns-in-Ok g c =
+    let e = c.in_ok-grafted.ensures in let k = c.in-Ok.ensures in
+    graft-committed g.S.X.BlockHash.block32 g.N.NameHash.name64 c.args.tree c.grafted.new.tree c.args.source.now c.args.dest.now (g.S.Store.seen c.args.store.now) (g.S.Store.seen c.grafted.new.store) (g.S.Store.seen c.commit.new.store)
+    e.puts e.saves k.good k.commits k.cause c.args.touches.now c.commit.new.touches

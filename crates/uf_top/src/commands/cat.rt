@@ -1,0 +1,124 @@
+//! `cat`, and what is found in DAGs of others. Files are sent to the output while their blocks are read.
+ghost use Rattle.std.specs.Prelude.{◌<◌, ◌≤◌, ◌^◌, IfErr, IfSome, List, ℕ, length};
+ghost use Rattle.uf_edge.specs.Streams.{Told as Left};
+ghost use Rattle.uf_lenient.specs.Good.{ByGoodBlocks};
+ghost use Rattle.uf_command.specs.Kinds.{refusal_fault};
+ghost use Rattle.uf_command.specs.declared.types.Command.TheVariants as commands;
+ghost use Rattle.uf_store.specs.Calls.{OnlyReads};
+ghost use Rattle.uf_store.specs.Contents.{held_at};
+ghost use Rattle.uf_store.specs.Faults.{NoneIsBad};
+ghost use Rattle.uf_top.specs.Around.{HostSide, around};
+ghost use Rattle.uf_top.specs.Foreign.{FindsFile, FindsShape, FindsTree, IsOfReading, LeadsTo};
+ghost use Rattle.uf_top.specs.Working.{Does};
+
+use std::alloc::Global;
+use std::sync::ledger::Ledger;
+use uf_cid::Cid;
+use uf_command::{Refusal, dag_refusal, no_file};
+use uf_edge::Sink;
+use uf_lenient::{Limits, Shape, StreamFault, resolve, stream, survey};
+use uf_path::DagPath;
+use uf_store::{Steps, Store};
+
+// How far DAGs of others are read.
+pub const USUAL: Limits = Limits {
+    depth: 256,
+    visits: 1048576,
+};
+
+// Writes the bytes of the file to which a path leads, once everything below it was read.
+pub fn cat<S: Store, O: Sink, L: Ledger>(
+    alloc: Global,
+    path: &DagPath,
+    store: &mut S,
+    output: &mut O,
+    touches: &mut Steps<L>,
+) -> Result<(), Refusal>
+    requires { length path.now.names < 2 ^ 32 }
+    ensures { (N : List ℕ → ℕ) (left : Left) (reads : ℕ) (side : HostSide)
+        → Does S.X.block32 N (commands.Cat path.now) result
+        (around (S.seen store.old) left reads (O.holds output.old) (O.faults output.old) touches.old side)
+        (around (S.seen store.new) left reads (O.holds output.new) (O.faults output.new) touches.new side) }
+{
+    let cid = file_in(alloc, path, store, touches)?;
+    match stream(alloc, store, &cid, &USUAL, output, touches) {
+        Ok(_) => Ok(()),
+        Err(StreamFault::Sink) => Err(Refusal::Write),
+        Err(StreamFault::Dag(fault)) => Err(dag_refusal(alloc, path, fault)),
+    }
+}
+
+// The CID of the file to which a path leads.
+fn file_in<S: Store, L: Ledger>(
+    alloc: Global,
+    path: &DagPath,
+    store: &mut S,
+    touches: &mut Steps<L>,
+) -> Result<Cid, Refusal>
+    requires { length path.now.names < 2 ^ 32 }
+    ensures finds { IfSome (S.seen store.old).told (λ t. FindsFile (held_at t) path.now result) }
+    ensures refuses { IfErr result IsOfReading }
+    ensures reads { OnlyReads S.X.block32 NoneIsBad (refusal_fault result) (S.seen store.old) (S.seen store.new) }
+{
+    let (cid, shape) = found_in(alloc, path, store, touches)?;
+    let Shape::File(_) = shape else {
+        return Err(no_file(alloc, path));
+    };
+    Ok(cid)
+}
+
+// The CID of the tree to which a path leads.
+pub fn tree_in<S: Store, L: Ledger>(
+    alloc: Global,
+    path: &DagPath,
+    store: &mut S,
+    touches: &mut Steps<L>,
+) -> Result<Cid, Refusal>
+    requires { length path.now.names < 2 ^ 32 }
+    ensures finds { ByGoodBlocks S.X.block32 (S.seen store.old).told (λ held. FindsTree held path.now result) }
+    ensures refuses { IfErr result IsOfReading }
+    ensures reads { OnlyReads S.X.block32 NoneIsBad (refusal_fault result) (S.seen store.old) (S.seen store.new) }
+    ensures touched { touches.old ≤ touches.new }
+{
+    let (cid, _) = found_in(alloc, path, store, touches)?;
+    Ok(cid)
+}
+
+// The CID to which a path leads and the shape of the tree that it denotes, below which everything can be read.
+fn found_in<S: Store, L: Ledger>(
+    alloc: Global,
+    path: &DagPath,
+    store: &mut S,
+    touches: &mut Steps<L>,
+) -> Result<(Cid, Shape), Refusal>
+    requires { length path.now.names < 2 ^ 32 }
+    ensures finds { ByGoodBlocks S.X.block32 (S.seen store.old).told (λ held. FindsShape held path.now result) }
+    ensures refuses { IfErr result IsOfReading }
+    ensures reads { OnlyReads S.X.block32 NoneIsBad (refusal_fault result) (S.seen store.old) (S.seen store.new) }
+    ensures touched { touches.old ≤ touches.new }
+{
+    match resolve(alloc, store, path, &USUAL, touches) {
+        Err(fault) => Err(dag_refusal(alloc, path, fault)),
+        Ok(cid) => shape_under(alloc, path, cid, store, touches),
+    }
+}
+
+// The same CID and its shape, where everything below it can be read.
+fn shape_under<S: Store, L: Ledger>(
+    alloc: Global,
+    path: &DagPath,
+    cid: Cid,
+    store: &mut S,
+    touches: &mut Steps<L>,
+) -> Result<(Cid, Shape), Refusal>
+    ensures finds { ByGoodBlocks S.X.block32 (S.seen store.old).told (λ held. LeadsTo held path.now cid
+        → FindsShape held path.now result) }
+    ensures refuses { IfErr result IsOfReading }
+    ensures reads { OnlyReads S.X.block32 NoneIsBad (refusal_fault result) (S.seen store.old) (S.seen store.new) }
+    ensures touched { touches.old ≤ touches.new }
+{
+    match survey(alloc, store, &cid, &USUAL, touches) {
+        Err(fault) => Err(dag_refusal(alloc, path, fault)),
+        Ok(shape) => Ok((cid, shape)),
+    }
+}

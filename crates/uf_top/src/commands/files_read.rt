@@ -1,0 +1,42 @@
+//! `files read`: a file of the tree that the Head names, sent to the output while its blocks are read.
+ghost use Rattle.std.specs.Prelude.{ℕ};
+ghost use Rattle.uf_edge.specs.Streams.{Told as Left};
+ghost use Rattle.uf_top.specs.Around.{HostSide, around};
+ghost use Rattle.uf_top.specs.Working.{Does};
+ghost use Rattle.uf_command.specs.declared.types.Command.TheVariants as commands;
+
+use crate::commands::files::{opening, sending};
+use std::alloc::Global;
+use std::sync::ledger::Ledger;
+use uf_command::Refusal;
+use uf_edge::Sink;
+use uf_mfs::Mfs;
+use uf_murmur::NameHash;
+use uf_path::Path;
+use uf_store::{Steps, Store};
+
+// Writes at most `count` bytes of a file from an offset on.
+pub fn send_part<S: Store, N: NameHash, O: Sink, L: Ledger>(
+    alloc: Global,
+    offset: u64,
+    count: u64,
+    path: &Path,
+    store: &mut S,
+    output: &mut O,
+    touches: &mut Steps<L>,
+) -> Result<(), Refusal>
+    ensures { (left : Left) (reads : ℕ) (side : HostSide)
+        → Does S.X.block32 N.name64 (commands.Read offset count path.now) result
+        (around (S.seen store.old) left reads (O.holds output.old) (O.faults output.old) touches.old side)
+        (around (S.seen store.new) left reads (O.holds output.new) (O.faults output.new) touches.new side) }
+{
+    match Mfs::from_store::<S, N, L>(alloc, store, touches) {
+        Err(fault) => Err(opening(fault)),
+        Ok(tree) => {
+            match tree.read::<S, N, O, L>(alloc, store, path, offset, count, output, touches) {
+                Err(fault) => Err(sending(fault)),
+                Ok(_) => Ok(()),
+            }
+        }
+    }
+}

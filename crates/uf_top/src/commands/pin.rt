@@ -1,0 +1,40 @@
+//! `pin add`, `pin rm` and `pin ls`: CIDs pinned, pinned no more, and listed.
+ghost use Rattle.std.specs.Prelude.{◌≡◌, List, ℕ};
+ghost use Rattle.uf_edge.specs.Streams.{Told as Left};
+ghost use Rattle.uf_command.specs.declared.types.Command.TheVariants as commands;
+ghost use Rattle.uf_command.specs.declared.types.PinAsk.TheVariants as asks;
+ghost use Rattle.uf_top.specs.Around.{HostSide, around};
+ghost use Rattle.uf_top.specs.Working.{Does};
+
+use crate::commands::dag::MOST_BLOCKS;
+use std::alloc::Global;
+use std::sync::ledger::Ledger;
+use uf_command::{PinAsk, Refusal, cid_lines, print};
+use uf_edge::Sink;
+use uf_pins::{add_pin, list_pins, remove_pin};
+use uf_store::{Steps, Store};
+
+// Does what is asked of the pins. A CID is pinned once all that is below it was found and synced.
+pub fn pin<S: Store, O: Sink, L: Ledger>(
+    alloc: Global,
+    ask: &PinAsk,
+    store: &mut S,
+    output: &mut O,
+    touches: &mut Steps<L>,
+) -> Result<(), Refusal>
+    ensures does { (N : List ℕ → ℕ) (left : Left) (reads : ℕ) (side : HostSide)
+        → Does S.X.block32 N (commands.Pin ask.now) result
+        (around (S.seen store.old) left reads (O.holds output.old) (O.faults output.old) touches.old side)
+        (around (S.seen store.new) left reads (O.holds output.new) (O.faults output.new) touches.new side) }
+    ensures untouched { ask.now ≡ asks.List → touches.new ≡ touches.old }
+{
+    match ask {
+        PinAsk::Add { cid } => Ok(add_pin(alloc, store, cid, MOST_BLOCKS, touches)?),
+        PinAsk::Remove { cid } => Ok(remove_pin(alloc, store, cid)?),
+        PinAsk::List => {
+            let pins = list_pins(alloc, store)?;
+            let text = cid_lines(alloc, &pins)?;
+            print(&text, output)
+        }
+    }
+}
