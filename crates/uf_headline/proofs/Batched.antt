@@ -3,7 +3,6 @@ use Rattle.std.proofs.Common.{◌≡◌, ◌≢◌, ◌∙◌, ℕ, List, [], �
 use Rattle.std.specs.Prelude.{◌⊎◌}
 use Rattle.uf_cid.specs.Blocks.{Lookup}
 use Rattle.uf_edge.specs.Host.{HostTree}
-use Rattle.uf_edge.specs.Streams as streams
 use Rattle.uf_mfs.specs.Standing.{TellsAs}
 use Rattle.uf_command.specs.Batches.{line_in}
 use Rattle.uf_command.specs.Statuses.{ended, ends_batch, mark, no_memory}
@@ -11,7 +10,7 @@ use Rattle.uf_command.specs.declared.status.Status.{Status}
 use Rattle.uf_command.specs.declared.status.Status.TheVariants as status
 use Rattle.uf_tree.specs.Standing.{Standing, NoHead, BadHead, Stands}
 use Rattle.uf_top.specs.Around.{Around, NoneFalls}
-use Rattle.uf_top.specs.Batch.{AtLine, Batches, ByMemory, ByReading, EndsSo, Ending, LineCut, LineDone, LinePassed, LinesDone, Said, Scene, SinkSide, TooLong, WithInput, with_sinks}
+use Rattle.uf_top.specs.Batch.{AtLine, Batches, ByMemory, ByReading, EndsSo, Ending, LineCut, LineDone, LinePassed, LinesDone, Said, Scene, SinkSide, TooLong, WithInput, with_sinks, without_input}
 use Rattle.uf_top.specs.BatchReplies.{NothingFails, line_world}
 use Rattle.uf_top.specs.Endings.{EndsAs}
 use Rattle.uf_top.specs.Naming.{TellsBlocks}
@@ -76,7 +75,7 @@ module _ (X : List ℕ → List ℕ) (N : List ℕ → ℕ) (host : HostTree) wh
       done = is_done;
       asks = asks-line s held on blocks;
       outside = refl;
-      stood = after_step X N step s;
+      stood = after_step step s;
       on = (host-same X N host line given a b done ∙ on.0, step-stands X N step is_done s on.1);
     }
       where
@@ -169,8 +168,8 @@ module _ (X : List ℕ → List ℕ) (N : List ℕ → ℕ) (host : HostTree) wh
                 (lines-steps lines c one.stood done.2 one.on (fails-last a.around c.around b.around (gone-counted X N line a c (inr p)) late h))
           ]
 
-  module _ (most limit : ℕ) (given : Status) (a b : Scene) (left left_now : streams.Told) (reads reads_now : ℕ) (s : Standing) where
-    pub batch-history : (did : Batches X N most limit given a b left left_now reads reads_now) → a.around.host.told ≡ Some host → TellsAs X N a.around.store.told s → NothingFails a.around b.around → given ≢ status.Memory
+  module _ (most limit : ℕ) (given : Status) (a b : Scene) (s : Standing) where
+    pub batch-history : (did : Batches X N most limit given a b) → a.around.host.told ≡ Some host → TellsAs X N a.around.store.told s → NothingFails a.around b.around → given ≢ status.Memory
         → (steps : List Step) × History X N steps a.around.store.told b.around.store.told × AreOfLines host (with_last X N did.lines did.ending) steps
     batch-history did tells stands h memory =
-        (let r = lines-steps given memory b did.ending did.between did.ends did.lines a s did.done (tells, stands) h in (r.steps, r.history, r.are))
+        (let r = lines-steps given memory (without_input b) did.ending did.between did.ends did.lines (without_input a) s did.done (tells, stands) (record { store = h.store; output = h.output; host = h.host }) in (r.steps, r.history, r.are))

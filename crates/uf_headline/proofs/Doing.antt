@@ -2,6 +2,7 @@
 use Rattle.std.proofs.Common.{◌≡◌, ◌∙◌, ℕ, List, [], ◌∷◌, Bool, true, false, cond, refl, sym, ap, subst, Option, None, Some, Result, Ok, Err}
 use Rattle.std.specs.Prelude.{length, nat_le, ⊤}
 use Rattle.uf_cid.specs.Blocks.{Lookup}
+use Rattle.uf_edge.specs.Host.{HostTree}
 use Rattle.uf_host.specs.HostTree.{tree_on_host}
 use Rattle.uf_host.specs.Paths.{first_row, trimmed}
 use Rattle.uf_host.specs.declared.fault.HostFault.{HostFault}
@@ -44,13 +45,15 @@ use Rattle.uf_tree.specs.declared.profile.Profile.{Profile}
 use Rattle.uf_varint.specs.Fields.{◌>>=◌}
 use Rattle.uf_headline.specs.History.{History, IsDone, Makes, Step, entries_after, left_by, standing_after, told_after, told_before}
 use Rattle.uf_headline.specs.Made.{after_edit, lands, put_there, remade}
+use Rattle.uf_headline.specs.OnHost.{tree_on}
 use Rattle.uf_headline.proofs.Histories.{bad-next, command-next, next-stands, none-next, replied}
 use Rattle.uf_headline.proofs.Made.{IsOnly, edit-only, put-only, spotted-lands}
+use Rattle.uf_headline.proofs.OnHost.{on-host}
 
 -- ---- replies
 
 -- what was before, or what is new where the command was done
-abbrev if_done : Status → Standing → Standing → Standing
+abbrev pub if_done : Status → Standing → Standing → Standing
 if_done status.Ok before made = made
 if_done other before made = before
 
@@ -64,7 +67,7 @@ same-leaves (Ok text) next s e = e
 same-leaves (Err why) next s e = e
 
 -- a refusal isn't done
-not-done : (why : Refusal) (s t : Standing) → if_done (status_of why) s t ≡ s
+pub not-done : (why : Refusal) (s t : Standing) → if_done (status_of why) s t ≡ s
 not-done (refusal.Rule rule) s t = refl
 not-done (refusal.Dag rule) s t = refl
 not-done (refusal.Host rule) s t = refl
@@ -89,28 +92,28 @@ leaves-is : (given : Status) (ends : Result (List ℕ) Refusal) (next s t : Stan
 leaves-is given (Ok text) next s t e h = h ∙ sym (ap (λ g. if_done g s t) e)
 leaves-is given (Err why) next s t e h = h ∙ sym (ap (λ g. if_done g s t) e ∙ not-done why s t)
 
+-- what stands after a command that was done
+abbrev pub made_by : Result Command Refusal → Outside → Lookup → Standing → Standing
+made_by asked o held s = left_by tree_at status.Ok asked o held s
+
+-- and after a step
+abbrev pub after_step : Step → Standing → Standing
+after_step step s = left_by tree_at step.given step.asked step.outside step.held s
+
+pub left-is : (given : Status) (asked : Result Command Refusal) (o : Outside) (held : Lookup) (s : Standing) → if_done given s (made_by asked o held s) ≡ left_by tree_at given asked o held s
+left-is status.Ok asked o held s = refl
+left-is status.Rule asked o held s = refl
+left-is status.Usage asked o held s = refl
+left-is status.StoreFault asked o held s = refl
+left-is status.Missing asked o held s = refl
+left-is status.BadBlock asked o held s = refl
+left-is status.ReadFault asked o held s = refl
+left-is status.WriteFault asked o held s = refl
+left-is status.Clash asked o held s = refl
+left-is status.Memory asked o held s = refl
+left-is status.NotReady asked o held s = refl
+
 module _ (X : List ℕ → List ℕ) (N : List ℕ → ℕ) where
-  -- what stands after a command that was done
-  abbrev made_by : Result Command Refusal → Outside → Lookup → Standing → Standing
-  made_by asked o held s = left_by X N status.Ok asked o held s
-
-  -- and after a step
-  abbrev pub after_step : Step → Standing → Standing
-  after_step step s = left_by X N step.given step.asked step.outside step.held s
-
-  left-is : (given : Status) (asked : Result Command Refusal) (o : Outside) (held : Lookup) (s : Standing) → if_done given s (made_by asked o held s) ≡ left_by X N given asked o held s
-  left-is status.Ok asked o held s = refl
-  left-is status.Rule asked o held s = refl
-  left-is status.Usage asked o held s = refl
-  left-is status.StoreFault asked o held s = refl
-  left-is status.Missing asked o held s = refl
-  left-is status.BadBlock asked o held s = refl
-  left-is status.ReadFault asked o held s = refl
-  left-is status.WriteFault asked o held s = refl
-  left-is status.Clash asked o held s = refl
-  left-is status.Memory asked o held s = refl
-  left-is status.NotReady asked o held s = refl
-
   moved-leaves : (p : Profile) (es new : Entries) (r : Result Entries Rule) → IsOnly new r → Leaves (moved X N p es r).ends (moved X N p es r).next (Stands p es) (Stands p new)
   moved-leaves p es new (Ok next) h = ap (Stands p) (h next refl)
   moved-leaves p es new (Err rule) h = refl
@@ -204,19 +207,23 @@ module _ (X : List ℕ → List ℕ) (N : List ℕ → ℕ) where
   there-is : {E : Type 0} (r : Result Tree E) (t : Tree) (to : List (List ℕ)) (es : Entries) → r ≡ Ok t → remade (λ o. t) to es ≡ put_there r to es
   there-is r t to es e = sym (ap (λ x. put_there x to es) e)
 
-  from-to-leaves : (path : List ℕ) (dest : Path) (there : Result Tree HostFault) (p : Profile) (es : Entries)
-      → (let r = settled X N (host_text X N p path) p es (placed X N (added_spot dest (Some path) es) (host_tree path there) p es) in
-      Leaves r.ends r.next (Stands p es) (Stands p (put_there there (lands dest.into dest.names (Some (first_row (trimmed path)))) es)))
-  from-to-leaves path dest there p es = settled-leaves (host_text X N p path) p es (put_there there to es) (placed X N (added_spot dest (Some path) es) (host_tree path there) p es) (λ put e.
+  from-to-leaves : (recursive : Bool) (path : List ℕ) (dest : Path) (host : HostTree) (p : Profile) (es : Entries)
+      → (let r = settled X N (host_text X N p path) p es (placed X N (added_spot dest (Some path) es) (host_tree path (tree_on_host X N p host recursive path)) p es) in
+      Leaves r.ends r.next (Stands p es) (Stands p (remade (λ o. tree_on host path) (lands dest.into dest.names (Some (first_row (trimmed path)))) es)))
+  from-to-leaves recursive path dest host p es = settled-leaves (host_text X N p path) p es (remade (λ o. tree_on host path) to es) (placed X N (added_spot dest (Some path) es) (host_tree path there) p es) (λ put e.
       (let d = placed-is (added_spot dest (Some path) es) (host_tree path there) p es put e in
       let names : spot_names d.0 ≡ to = named-spot dest (Some row) es (added_name dest (Some path)) d.0 (row-name dest.into dest.names path row) d.1 in
-      put-only X N d.0 to d.2 p es names put.1 d.4 ∙ there-is there d.2 to es (host-same path there d.2 d.3)))
+      put-only X N d.0 to d.2 p es names put.1 d.4
+      ∙ ap (λ t. remade (λ o. t) to es) (sym (on-host X N p host recursive path d.2 (host-same path there d.2 d.3)))))
     where
       row : List ℕ
       row = first_row (trimmed path)
 
       to : List (List ℕ)
       to = lands dest.into dest.names (Some row)
+
+      there : Result Tree HostFault
+      there = tree_on_host X N p host recursive path
 
   -- a DAG
   planned-same : (p : Profile) (t u : Tree) → by_rule (with_plan X N p t) ≡ Ok u → u ≡ t
@@ -248,7 +255,7 @@ module _ (X : List ℕ → List ℕ) (N : List ℕ → ℕ) where
   -- ---- a command
 
   ask-leaves : (ask : Ask) (path : Path) (o : Outside) (held : Lookup) (p : Profile) (es : Entries) → is_tree (Dir es) ≡ true
-      → (let r = reply_to X N (Ok (At ask path)) (world_of (Stands p es) held o) in Leaves r.ends r.next (Stands p es) (Stands p (entries_after X N (At ask path) o held p es)))
+      → (let r = reply_to X N (Ok (At ask path)) (world_of (Stands p es) held o) in Leaves r.ends r.next (Stands p es) (Stands p (entries_after tree_at (At ask path) o held es)))
   ask-leaves (Ls long) path o held p es tree = (let r = reply_to X N (Ok (At (Ls long) path)) (world_of (Stands p es) held o) in same-leaves r.ends r.next (Stands p es) (command-next X N (At (Ls long) path) o held p es))
   ask-leaves Stat path o held p es tree = (let r = reply_to X N (Ok (At Stat path)) (world_of (Stands p es) held o) in same-leaves r.ends r.next (Stands p es) (command-next X N (At Stat path) o held p es))
   ask-leaves (Edits edit) path o held p es tree = moved-leaves p es (after_edit edit path.names es) (edited_by X N edit path.names p es) (edit-only X N edit path.names p es tree)
@@ -265,7 +272,7 @@ module _ (X : List ℕ → List ℕ) (N : List ℕ → ℕ) where
   tree-leaves (Add only_hash) o held p es tree = same-in (Stands p es) (Add only_hash) o held (command-next X N (Add only_hash) o held p es) refl
   tree-leaves (AddFrom recursive only_hash path) o held p es tree = same-in (Stands p es) (AddFrom recursive only_hash path) o held (command-next X N (AddFrom recursive only_hash path) o held p es) refl
   tree-leaves (AddTo dest) o held p es tree = add-to-leaves dest o.input p es
-  tree-leaves (AddFromTo recursive path dest) o held p es tree = from-to-leaves path dest (tree_on_host X N p o.host recursive path) p es
+  tree-leaves (AddFromTo recursive path dest) o held p es tree = from-to-leaves recursive path dest o.host p es
   tree-leaves (WriteInput how path) o held p es tree = input-leaves how path.names o.input p es tree
   tree-leaves (At ask path) o held p es tree = ask-leaves ask path o held p es tree
   tree-leaves (Read offset count path) o held p es tree = same-in (Stands p es) (Read offset count path) o held (command-next X N (Read offset count path) o held p es) refl
@@ -350,7 +357,7 @@ module _ (X : List ℕ → List ℕ) (N : List ℕ → ℕ) where
   pub step-stands : (step : Step) (d : IsDone X N step) (s : Standing) (t : TellsAs X N (told_before step) s) → TellsAs X N (told_after step) (after_step step s)
   step-stands step d s t = subst (TellsAs X N (told_after step)) (next-is step d s t) (next-stands X N step d s t)
 
-  pub history-stands : (steps : List Step) (a b : Told) (s : Standing) → TellsAs X N a s → History X N steps a b → TellsAs X N b (standing_after X N steps s)
+  pub history-stands : (steps : List Step) (a b : Told) (s : Standing) → TellsAs X N a s → History X N steps a b → TellsAs X N b (standing_after tree_at steps s)
   history-stands [] a b s t h = subst (λ x. TellsAs X N x s) (sym h) t
   history-stands (step ∷ steps) a b s t h =
       history-stands steps (told_after step) b (after_step step s) (step-stands step h.1 s (subst (λ x. TellsAs X N x s) (sym h.0) t)) h.2
@@ -359,7 +366,7 @@ module _ (X : List ℕ → List ℕ) (N : List ℕ → ℕ) where
   pub makes-stands : (steps : List Step) (a b : Told) (s last : Standing) → Makes X N steps a b s last → TellsAs X N b last
   makes-stands steps a b s last m = subst (TellsAs X N b) m.made (history-stands steps a b s m.stood m.done)
 
-  tells-head : (a : Told) (p : Profile) (es : Entries) → TellsAs X N a (Stands p es) → IsHeadNote (head_in a) p (entry X N p (Dir es)).cid
+  pub tells-head : (a : Told) (p : Profile) (es : Entries) → TellsAs X N a (Stands p es) → IsHeadNote (head_in a) p (entry X N p (Dir es)).cid
   tells-head None p es t = absurd t
   tells-head (Some c) p es t = t.head_is
 

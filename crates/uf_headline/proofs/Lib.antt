@@ -6,6 +6,8 @@ pub mod Doing
 pub mod Histories
 pub mod Lines
 pub mod Made
+pub mod OnHost
 pub mod Opened
 pub mod Places
+pub mod Rooted
 pub mod Versions

@@ -4,7 +4,6 @@ use Rattle.std.specs.Prelude.{◌⊎◌}
 use Rattle.std.proofs.lemmas.Bool.{cases_lt}
 use Rattle.uf_cid.specs.Blocks.{Lookup}
 use Rattle.uf_edge.specs.Host.{HostTree}
-use Rattle.uf_edge.specs.Streams as streams
 use Rattle.uf_mfs.specs.Reading.{CanRise}
 use Rattle.uf_command.specs.Batches.{line_in}
 use Rattle.uf_command.specs.Statuses.{ends_batch}
@@ -13,7 +12,7 @@ use Rattle.uf_command.specs.declared.status.Status.TheVariants as status
 use Rattle.uf_store.specs.Contents.{Told, held_at}
 use Rattle.uf_store.specs.Keeping.{tells}
 use Rattle.uf_top.specs.Around.{Around, StandsOrRose}
-use Rattle.uf_top.specs.Batch.{AtLine, Batches, ByMemory, ByReading, EndsSo, Ending, LineDone, LinePassed, LinesDone, Scene, TooLong, WithInput, with_sinks}
+use Rattle.uf_top.specs.Batch.{AtLine, Batches, ByMemory, ByReading, EndsSo, Ending, LineDone, LinePassed, LinesDone, Scene, TooLong, WithInput, with_sinks, without_input}
 use Rattle.uf_top.specs.BatchLines.{AllCanRise}
 use Rattle.uf_top.specs.Naming.{TellsBlocks}
 use Rattle.uf_top.proofs.LineHosts.{Suits, asks-suits}
@@ -158,8 +157,8 @@ module _ (X : List ℕ → List ℕ) (N : List ℕ → ℕ) (host : HostTree) wh
               (lines-calls lines c done.2 (begins-marked line a c p (begins-next line p.given a (with_sinks p.printed c.errors c) p.done begin p.goes_on)))
         ]
 
-  pub batch-calls : (most limit : ℕ) (given : Status) (a b : Scene) (left left_now : streams.Told) (reads reads_now : ℕ) (did : Batches X N most limit given a b left left_now reads reads_now)
+  pub batch-calls : (most limit : ℕ) (given : Status) (a b : Scene) (did : Batches X N most limit given a b)
       → tells a.around.store.told ≡ true → a.around.host.told ≡ Some host → AllCanRise a.around
       → (steps : List Step) × Calls X N steps a.around.store.told b.around.store.told × AreCallsOf host (with_last X N did.lines did.ending) steps
-  batch-calls most limit given a b left left_now reads reads_now did some told room =
-      (let r = lines-calls did.ending given did.between b did.ends did.lines a did.done (record { told = told; room = room; some = some }) in (r.steps, r.calls, r.are))
+  batch-calls most limit given a b did some told room =
+      (let r = lines-calls did.ending given did.between (without_input b) did.ends did.lines (without_input a) did.done (record { told = told; room = record { store = room.store; output = room.output; host = room.host }; some = some }) in (r.steps, r.calls, r.are))

@@ -25,7 +25,7 @@ use Rattle.uf_top.specs.Reply.{Outside}
 use Rattle.uf_tree.specs.Standing.{Standing, NoHead, BadHead, Stands}
 use Rattle.uf_tree.specs.Tree.{Dir}
 use Rattle.uf_tree.specs.TreePlan.{blocks}
-use Rattle.uf_headline.specs.History.{DidRun, Step, told_after, told_before}
+use Rattle.uf_headline.specs.History.{DidRun, InTurn, Step, told_after, told_before}
 use Rattle.uf_headline.specs.Replies.{replied_by}
 
 -- the input, the host and the note of pins tell what is said of them, where the command uses them, and no count that a
@@ -106,8 +106,7 @@ module _ (X : List ℕ → List ℕ) (N : List ℕ → ℕ) where
 
   -- calls one after the other
   abbrev pub Calls : List Step → Told → Told → Type 0
-  Calls [] before now = now ≡ before
-  Calls (step ∷ steps) before now = (told_before step ≡ before) × IsCall step × Calls steps (told_after step) now
+  Calls steps before now = InTurn IsCall steps before now
 
   -- a call that began with the first contents has left the second
   pub record Happens (event : Event) (before now : Contents) : Type 0 where

@@ -1,7 +1,6 @@
 //! A batch as steps of a history.
 ghost use Rattle.std.specs.Prelude.{◌≡◌, ◌≢◌, ℕ, List, Some, true};
 ghost use Rattle.uf_edge.specs.Host.{HostTree};
-ghost use Rattle.uf_edge.specs.Streams.{Told};
 ghost use Rattle.uf_mfs.specs.Standing.{TellsAs};
 ghost use Rattle.uf_command.specs.declared.status.Status.{Status as TheStatus};
 ghost use Rattle.uf_command.specs.declared.status.Status.TheVariants as status;
@@ -19,8 +18,7 @@ ghost use Rattle.uf_headline.specs.History.{History, Step};
 /// memory: a step for each line that has a word, that of the line which ended it too, each with no input.
 pub fn a_batch_is_a_history()
     ensures { (X : List ℕ → List ℕ) (N : List ℕ → ℕ) (host : HostTree) (most limit : ℕ) (given : TheStatus)
-        (before now : Scene) (left left_now : Told) (reads reads_now : ℕ) (standing : Standing)
-        → (did : Batches X N most limit given before now left left_now reads reads_now)
+        (before now : Scene) (standing : Standing) → (did : Batches X N most limit given before now)
         → before.around.host.told ≡ Some host → TellsAs X N before.around.store.told standing
         → NothingFails before.around now.around → given ≢ status.Memory
         → (steps : List Step) × History X N steps before.around.store.told now.around.store.told
@@ -32,8 +30,7 @@ pub fn a_batch_is_a_history()
 /// too, each with no input.
 pub fn a_batch_is_a_list_of_calls()
     ensures { (X : List ℕ → List ℕ) (N : List ℕ → ℕ) (host : HostTree) (most limit : ℕ) (given : TheStatus)
-        (before now : Scene) (left left_now : Told) (reads reads_now : ℕ)
-        → (did : Batches X N most limit given before now left left_now reads reads_now)
+        (before now : Scene) → (did : Batches X N most limit given before now)
         → tells before.around.store.told ≡ true → before.around.host.told ≡ Some host → AllCanRise before.around
         → (steps : List Step) × Calls X N steps before.around.store.told now.around.store.told
         × AreCallsOf host (with_last X N did.lines did.ending) steps }

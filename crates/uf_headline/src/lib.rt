@@ -6,11 +6,13 @@ mod batches;
 mod failing;
 mod paths;
 mod replies;
+mod roots;
 mod steps;
 
 ghost use Rattle.std.specs.Prelude.{◌≡◌, ◌⊎◌, ℕ, List, IsTrue};
 ghost use Rattle.uf_cid.specs.declared.cid.Cid.{Cid};
 ghost use Rattle.uf_mfs.specs.Standing.{TellsAs, head_in};
+ghost use Rattle.uf_command.specs.Dags.{tree_at};
 ghost use Rattle.uf_store.specs.Contents.{Told};
 ghost use Rattle.uf_tree.specs.Standing.{IsHeadNote, Standing, Stands};
 ghost use Rattle.uf_tree.specs.Tree.{Dir, Entries, is_tree};
@@ -25,6 +27,7 @@ pub use failing::{
 };
 pub use paths::each_path_has_the_cid_of_its_tree;
 pub use replies::a_history_makes_what_its_replies_say;
+pub use roots::{a_history_ran_well, roots_are_of_trees_alone, roots_are_those_of_plans};
 pub use steps::run_a_step;
 
 /// Commands given in turn, each answered as `run` says, over a store that stands for a tree, or has no Head or a bad
@@ -33,7 +36,7 @@ pub use steps::run_a_step;
 pub fn a_history_gives_its_tree()
     ensures { (X : List ℕ → List ℕ) (N : List ℕ → ℕ) (steps : List Step) (before now : Told) (standing : Standing)
         → TellsAs X N before standing → History X N steps before now
-        → TellsAs X N now (standing_after X N steps standing) }
+        → TellsAs X N now (standing_after tree_at steps standing) }
 {}
 
 /// Two histories that make one tree by one profile, wherever they began and whatever came between, end with one Head,
