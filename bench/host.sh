@@ -8,12 +8,14 @@
 # - `unixfs add -r -n` against `find -exec sha256sum`
 # The aims: `add -r` of the small folder takes less time than `git add`, and `add -r -n` at most 1.2 of the user time of
 # `sha256sum`.
-# CORE says which core (the last one if unset), FOLDER on which disk (that of the temporary files if unset).
+# CORE says which core (the last one if unset), FOLDER on which disk (that of the temporary files if unset), and FOLDERS which of
+# the two are measured (both if unset).
 set -eu
 top=$(cd "$(dirname "$0")/.." && pwd)
 small=${SMALL:-10000}
 mib=${MIB:-1024}
 core=${CORE:-$(($(nproc) - 1))}
+folders=${FOLDERS:-small large}
 "$top/unixfs" add -n < /dev/null > /dev/null
 export UNIXFS=$top/crates/uf_tool/out/uf_tool RESTIC_PASSWORD=none
 folder=$(mktemp -d -p "${FOLDER:-${TMPDIR:-/tmp}}")
@@ -98,8 +100,9 @@ for name in ostree restic; do
     command -v "$name" > /dev/null || echo "$name: not installed, skipped"
 done
 for turn in 1 2 3; do
-    go_round small
-    go_round large
+    for name in $folders; do
+        go_round "$name"
+    done
 done
 python3 - "$small" "$mib" <<'PYTHON' | "$top/bench/record"
 import statistics, sys

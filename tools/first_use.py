@@ -16,6 +16,7 @@ import fcntl
 import hashlib
 import math
 import os
+import resource
 import shutil
 import signal
 import subprocess
@@ -32,6 +33,7 @@ LOG = os.path.join(TOP, "build.log")
 PARTS = ("src", "specs", "proofs")
 LEFT_OUT = shutil.ignore_patterns("out", "must-fail", "edits")
 GIB = 1 << 30
+CORES = len(os.sched_getaffinity(0))
 KEPT_PROGRAMS = 4
 # What the kit's parser of words and the machine's files add to the proofs of the crates over them, in processor seconds.
 BESIDES = {"uf_words": 160, "uf_disk": 60}
@@ -93,11 +95,17 @@ def reckoned(crate):
 
 
 def lanes():
-    """How many crates are proved at once: one for each core, and for each 4 GiB of memory that is free; by measure a proof takes
-    at most 3."""
+    """How many processes prove at once, and how many there is memory for: one and a half for each core, since those of one crate
+    wait for each other, and one for each 3 GiB that are free; by measure a proof takes at most that."""
     free = [line.split()[1] for line in text_of("/proc/meminfo").splitlines() if line.startswith("MemAvailable:")]
-    room = int(free[0]) * 1024 // (4 * GIB) if free else 1
-    return max(1, min(len(os.sched_getaffinity(0)), room))
+    room = max(1, int(free[0]) * 1024 // (3 * GIB)) if free else 1
+    return min(CORES + CORES // 2, room), room
+
+
+def processor_seconds():
+    """What all that has ended took of the processors."""
+    used = resource.getrusage(resource.RUSAGE_CHILDREN)
+    return used.ru_utime + used.ru_stime
 
 
 class Sources:
@@ -156,9 +164,9 @@ def link_or_copy(one, other):
 class Job:
     """The proof of one crate, in a folder of its own."""
 
-    def __init__(self, sources, crate, jobs, group):
+    def __init__(self, sources, crate, jobs, group, later):
         self.sources, self.crate, self.jobs = sources, crate, jobs
-        self.root = os.path.join(ROOM, crate)
+        self.took, self.root = 0.0, os.path.join(ROOM, crate)
         self.folder = os.path.join(self.root, "crates", crate)
         self.lay_out()
         words = ["rt", "run", "--jobs", str(jobs), "--", "add", "-n"] if crate == TOOL else ["rt", "lib", "--jobs", str(jobs)]
@@ -167,7 +175,7 @@ class Job:
         self.begun = time.monotonic()
         self.process = subprocess.Popen(
             words, cwd=self.folder, env=environment, stdin=subprocess.DEVNULL, stdout=self.log, stderr=self.log,
-            preexec_fn=lambda: os.setpgid(0, group))
+            preexec_fn=lambda: (os.setpgid(0, group), os.nice(5 if later else 0)))
 
     def lay_out(self):
         """Makes the folder: the sources of the crate and of those below it, their libraries, and what an earlier check kept."""
@@ -190,7 +198,8 @@ class Job:
         """Moves what the job made into the crate's own out/, and its log behind the others. A library goes there only whole."""
         self.log.close()
         with open(LOG, "ab") as whole, open(self.log.name, "rb") as log:
-            whole.write(f"== {self.crate}\n".encode())
+            clock = time.monotonic() - self.begun
+            whole.write(f"== {self.crate}: {clock:.0f} s by the clock, {self.took:.0f} of the processors, {self.jobs} at once\n".encode())
             shutil.copyfileobj(log, whole)
         made, to = os.path.join(self.folder, "out"), os.path.join(TOP, "crates", self.crate, "out")
         os.makedirs(to, exist_ok=True)
@@ -234,7 +243,7 @@ class Work:
     """All proofs, from the lowest crates up to the program."""
 
     def __init__(self, sources):
-        self.sources, self.lanes = sources, lanes()
+        self.sources, (self.lanes, self.room) = sources, lanes()
         self.cost = {crate: reckoned(crate) for crate in sources.crates}
         self.done = {crate for crate in sources.crates if sources.is_proved(crate)}
         self.running, self.spent, self.spent_reckoned, self.said = {}, 0.0, 0.0, None
@@ -251,21 +260,24 @@ class Work:
                       key=lambda it: -self.behind[it])
 
     def begin(self, group):
-        """Begins as many proofs as there are lanes."""
+        """Begins as many proofs as there are lanes, and urgent ones as long as there is memory."""
         ready = self.ready()
         while ready:
-            idle = self.lanes - sum(job.jobs for job in self.running.values())
-            if idle <= 0:
+            busy = sum(job.jobs for job in self.running.values())
+            if busy >= (self.room if self.urgency(ready[0]) > 1 else self.lanes):
                 return
             crate = ready.pop(0)
-            self.running[crate] = Job(self.sources, crate, self.jobs_for(crate, idle, len(ready) + 1), group.number)
+            jobs = self.jobs_for(crate, busy, len(ready) + 1)
+            self.running[crate] = Job(self.sources, crate, jobs, group.number, later=self.urgency(crate) < 1)
 
-    def jobs_for(self, crate, idle, waiting):
-        """How many of the idle lanes a crate gets: all that no other can use, and more than one where the way from it to the
-        program is longer than all that is open, shared out over the lanes."""
-        ratio = self.behind[crate] * self.lanes / sum(self.open().values())
-        wanted = 1 + sum(ratio > it for it in (1.0, 1.4, 1.8))
-        return max(1, min(4, idle, max(wanted, idle // waiting)))
+    def urgency(self, crate):
+        """The way from a crate to the program by all that is open, shared out over the cores: above 1 it decides when all ends."""
+        return self.behind[crate] * CORES / sum(self.open().values())
+
+    def jobs_for(self, crate, busy, waiting):
+        """How many lanes a crate gets: all that no other can use, and where it is urgent more than one, which later ones wait for."""
+        wanted = 1 + sum(self.urgency(crate) > it for it in (1.0, 1.4, 1.8))
+        return min(4, max(1, self.room - busy), max(wanted, (self.lanes - busy) // waiting))
 
     def pace(self):
         """How much longer a proof takes here than it was reckoned."""
@@ -274,16 +286,19 @@ class Work:
     def open(self):
         """About how many reckoned seconds are left of each crate."""
         found = {it: self.cost[it] for it in self.sources.crates if it not in self.done}
+        share = min(1.0, CORES / max(1, len(self.running)))
         for crate, job in self.running.items():
-            found[crate] = max(5.0, found[crate] - (time.monotonic() - job.begun) * job.jobs / self.pace())
+            found[crate] = max(5.0, found[crate] - (time.monotonic() - job.begun) * share / self.pace())
         return found
 
     def end_some(self):
         """Takes over what has ended; the crate that failed, where one did."""
         for crate, job in list(self.running.items()):
+            before = processor_seconds()
             if job.process.poll() is not None:
                 del self.running[crate]
-                self.spent += (time.monotonic() - job.begun) * job.jobs
+                job.took = processor_seconds() - before
+                self.spent += job.took
                 self.spent_reckoned += self.cost[crate]
                 job.hand_over()
                 if job.process.returncode:
@@ -292,12 +307,12 @@ class Work:
         return None
 
     def left(self):
-        """About how many seconds are left: what is open over all lanes, and no less than the longest way to the program."""
+        """About how many seconds are left: what is open over all cores, and no less than the longest way to the program."""
         open_, way = self.open(), {}
         for crate in self.sources.crates:
-            jobs = min(4, self.lanes) if crate == "uf_top" else 1
+            jobs = min(4, CORES) if crate == "uf_top" else 1
             way[crate] = max([way[it] for it in self.sources.uses[crate]], default=0) + open_.get(crate, 0) / jobs
-        return self.pace() * max(sum(open_.values()) / self.lanes, way[TOOL])
+        return self.pace() * max(sum(open_.values()) / CORES, way[TOOL])
 
     def tell(self):
         """Says how far it is, where that has changed."""
