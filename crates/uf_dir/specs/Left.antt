@@ -1,5 +1,5 @@
 -- What a removal leaves.
-use Rattle.std.specs.Prelude.{◌≡◌, ◌⊎◌, ℕ, List, IfOk, IfSome, Some, None, true}
+use Rattle.std.specs.Prelude.{◌≡◌, ◌⊎◌, ◌+◌, ◌≤◌, ◌++◌, ℕ, List, IfOk, IfSome, Some, None, true}
 use Rattle.std.specs.declared.option.Option.{Option}
 use Rattle.std.specs.declared.result.Result.{Result}
 use Rattle.std.specs.declared.result.Result.TheVariants.{Ok, Err}
@@ -7,12 +7,13 @@ use Rattle.std.specs.FinMap.Entries.{find}
 use Rattle.uf_cid.specs.declared.cid.Cid.{Cid}
 use Rattle.uf_edge.specs.Counts.{Stood}
 use Rattle.uf_store.specs.declared.store.StoreFault.{StoreFault}
+use Rattle.uf_store.specs.Among.{SavesAmong}
 use Rattle.uf_store.specs.Calls.{Calm}
 use Rattle.uf_store.specs.Clashes.{IsSaving}
 use Rattle.uf_store.specs.Contents.{Told}
 use Rattle.uf_store.specs.Keeping.{Agrees, Holds, StaysAgreed}
 use Rattle.uf_store.specs.Lost.{AgreesAfter, IsLossOf}
-use Rattle.uf_store.specs.Seen.{Seen}
+use Rattle.uf_store.specs.Seen.{Finds, Seen}
 use Rattle.uf_tree.specs.declared.meta.Meta.{Meta}
 use Rattle.uf_tree.specs.declared.nodes.Entry.{Entry}
 use Rattle.uf_tree.specs.declared.profile.Profile.{Profile}
@@ -22,6 +23,7 @@ use Rattle.uf_tree.specs.Names.{names_cmp}
 use Rattle.uf_tree.specs.Nodes.{Named}
 use Rattle.uf_tree.specs.ShardPlan.{shard}
 use Rattle.uf_shard.specs.Planned.{IsPlanned as IsShardPlan}
+use Rattle.uf_dir.specs.Bounds.{settling}
 use Rattle.uf_dir.specs.Planned.{dir_entry, entry_without, own_blocks}
 use Rattle.uf_dir.specs.Roots.{IsRootCid}
 
@@ -103,3 +105,17 @@ pub record TakesSharded (X : List ℕ → List ℕ) (N : List ℕ → ℕ) (p : 
   pub none : IfOk result (λ left. left ≡ None → now.told ≡ before.told)
   pub over : (l : List Named) → StayShards X N meta root before now l
       → TakesOver X N p meta name l before.told now.told result
+
+module _ (X : List ℕ → List ℕ) (N : List ℕ → ℕ) (p : Profile) (meta : Meta) (root : Cid) (name : List ℕ) where
+  -- what a removal from the shards whose root was lent saves is among the shards without the name and the own blocks of
+  -- what is left
+  abbrev pub SavesLeft : (lent now : Seen) → Type 0
+  SavesLeft lent now = (before : Seen) (l : List Named) → Finds X root before lent → IsShardPlan X N root meta l
+      → StaysAgreed before.told now.told (shard X N 7 meta l).blocks → CanRise before
+      → SavesAmong X ((shard X N 7 meta (without name l)).blocks ++ own_blocks X N p meta (without name l))
+      before.told now.told
+
+  -- sixteen touches, and what weighing the rest and making it one block needs, where the store stays calm
+  abbrev pub TouchesLeft : (lent now : Seen) → (from to : ℕ) → Type 0
+  TouchesLeft lent now from to = (before : Seen) (l : List Named) → Finds X root before lent
+      → StayShards X N meta root before now l → to ≤ from + (16 + settling X N p name l)

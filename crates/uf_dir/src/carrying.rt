@@ -55,7 +55,8 @@ pub fn set_meta<S: Store, L: Ledger>(
     ensures blames { BlamesOnly entry.now.cid (dir_fault result) }
     ensures good { KeepsGood S.X.block32 (S.seen store.old).told (S.seen store.new).told }
     ensures saves { SavesOnly S.X.block32 (S.seen store.old).told (S.seen store.new).told }
-    ensures no_other { (N : List ℕ → ℕ) (m : TheMeta) (l : List Named) → IsPlanned S.X.block32 N p.now m entry.now.cid l
+    ensures no_other { (N : List ℕ → ℕ) (m : TheMeta) (l : List Named)
+        → IsPlanned S.X.block32 N p.now m entry.now.cid l
         → Agrees (S.seen store.old).told (dir_root S.X.block32 N p.now m l ∷ [])
         → SavesAmong S.X.block32 (dir_root S.X.block32 N p.now meta.now l ∷ [])
         (S.seen store.old).told (S.seen store.new).told }

@@ -1,6 +1,6 @@
 //! Directories changed by one name.
 ghost use Rattle.std.specs.Prelude.{◌≡◌, ◌<◌, ◌≤◌, ◌+◌, ℕ, List, IfOk, IfSome, IsTrue, None, OnOk, Some};
-ghost use Rattle.std.specs.Prelude.{◌++◌, ◌∷◌, [], length};
+ghost use Rattle.std.specs.Prelude.{◌∷◌, [], length};
 ghost use Rattle.uf_edge.specs.Counts.{Stood};
 ghost use Rattle.uf_store.specs.Among.{SavesAmong};
 ghost use Rattle.uf_store.specs.Calls.{OnlySaves};
@@ -24,9 +24,9 @@ ghost use Rattle.uf_shard.specs.Listing.{IsBadShard};
 ghost use Rattle.uf_shard.specs.Planned.{IsPlanned as IsShardPlan};
 ghost use Rattle.uf_shard.specs.Planned.{IsShardCid};
 ghost use Rattle.uf_dir.specs.Bad.{BlamesOnly, IsBad, IsBadWeighed};
-ghost use Rattle.uf_dir.specs.Bounds.{IsFree, crossing, gathering, settling, shard_count, weighing, weighing_from};
-ghost use Rattle.uf_dir.specs.Left.{AreShards, CanRise, Fits, SettlesShards, StayShards};
-ghost use Rattle.uf_dir.specs.Left.{TakesBasic, TakesSharded, pairs_left};
+ghost use Rattle.uf_dir.specs.Bounds.{IsFree, crossing, gathering, shard_count, weighing, weighing_from};
+ghost use Rattle.uf_dir.specs.Left.{AreShards, CanRise, Fits, SettlesShards};
+ghost use Rattle.uf_dir.specs.Left.{SavesLeft, TakesBasic, TakesSharded, TouchesLeft, pairs_left};
 ghost use Rattle.uf_dir.specs.Planned.{IsFitting, IsPlanned, dir_entry, dir_held, entry_without, own_blocks};
 ghost use Rattle.uf_dir.specs.Planned.{removal_blocks};
 ghost use Rattle.uf_dir.specs.Roots.{IsRootCid};
@@ -211,8 +211,8 @@ fn remove_basic<S: Store, N: NameHash, L: Ledger>(
     }
 }
 
-// Takes a name out of the directory whose shard tree has this root, which was loaded and is lent, and answers the entry
-// of what is left.
+// Takes a name out of the directory whose shard tree has this root, which was loaded and is lent, and answers the
+// entry of what is left.
 fn remove_sharded<S: Store, N: NameHash, L: Ledger>(
     alloc: Global,
     store: &mut S,
@@ -230,18 +230,12 @@ fn remove_sharded<S: Store, N: NameHash, L: Ledger>(
     ensures saves { (before : Seen) → Finds S.X.block32 root.now before (S.seen store.old)
         → OnlySaves S.X.block32 (IsBadWeighed N.name64 (N.name64 name.now) (Some p.now)) (fault_in result)
         before (S.seen store.new) }
-    ensures no_other { (before : Seen) (l : List Named) → Finds S.X.block32 root.now before (S.seen store.old)
-        → IsShardPlan S.X.block32 N.name64 root.now node.now.meta l
-        → StaysAgreed before.told (S.seen store.new).told (shard S.X.block32 N.name64 7 node.now.meta l).blocks
-        → CanRise before
-        → SavesAmong S.X.block32 ((shard S.X.block32 N.name64 7 node.now.meta (without name.now l)).blocks
-        ++ own_blocks S.X.block32 N.name64 p.now node.now.meta (without name.now l))
-        before.told (S.seen store.new).told }
+    ensures no_other { SavesLeft S.X.block32 N.name64 p.now node.now.meta root.now name.now (S.seen store.old)
+        (S.seen store.new) }
     ensures blames { (before : Seen) → Finds S.X.block32 root.now before (S.seen store.old)
         → BlamesOnly root.now (fault_in result) }
-    ensures touches { (before : Seen) (l : List Named) → Finds S.X.block32 root.now before (S.seen store.old)
-        → StayShards S.X.block32 N.name64 node.now.meta root.now before (S.seen store.new) l
-        → touches.new ≤ touches.old + (16 + settling S.X.block32 N.name64 p.now name.now l) }
+    ensures touches { TouchesLeft S.X.block32 N.name64 p.now node.now.meta root.now name.now (S.seen store.old)
+        (S.seen store.new) touches.old touches.new }
     ensures absent { IfOk result (λ left. left ≡ None → touches.new ≤ touches.old + 7) }
     ensures touched { touches.old ≤ touches.new }
 {
@@ -254,7 +248,7 @@ fn remove_sharded<S: Store, N: NameHash, L: Ledger>(
             Ok(Some(entry))
         }
         Removed::Left(entry) => {
-            let left = settled(alloc, store, p, entry, &node.meta, touches)?;
+            let left = entry_by_weight(alloc, store, p, entry, &node.meta, touches)?;
             Ok(Some(left))
         }
     }
@@ -262,7 +256,7 @@ fn remove_sharded<S: Store, N: NameHash, L: Ledger>(
 
 // The entry of a directory in shards with this metadata, or of the same in one block, which is saved, where it isn't
 // too heavy for that.
-fn settled<S: Store, L: Ledger>(
+fn entry_by_weight<S: Store, L: Ledger>(
     alloc: Global,
     store: &mut S,
     p: &Profile,
@@ -292,7 +286,8 @@ fn settled<S: Store, L: Ledger>(
     in_one_block(alloc, store, p, entry, meta, touches)
 }
 
-// The entry of a directory in shards with this metadata that were weighed, or of the same in one block, which is saved.
+// The entry of a directory in shards with this metadata that were weighed, or of the same in one block, which is
+// saved.
 fn in_one_block<S: Store, L: Ledger>(
     alloc: Global,
     store: &mut S,

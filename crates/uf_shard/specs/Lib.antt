@@ -3,6 +3,7 @@ pub mod Buckets
 pub mod Changed
 pub mod Known
 pub mod Listing
+pub mod Over
 pub mod Placed
 pub mod Planned
 pub mod Reached

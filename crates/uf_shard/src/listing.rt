@@ -2,12 +2,10 @@
 ghost use Rattle.std.specs.Prelude.{◌≡◌, ◌<◌, ◌≤◌, ◌+◌, ℕ, List, IfOk, IfSome, None, length};
 ghost use Rattle.std.specs.List.{AllByRecursion};
 ghost use Rattle.uf_cid.specs.declared.cid.Cid.{Cid as TheCid};
-ghost use Rattle.uf_edge.specs.Counts.{Stood};
 ghost use Rattle.uf_store.specs.Calls.{OnlyReads};
 ghost use Rattle.uf_store.specs.Contents.{held_at};
 ghost use Rattle.uf_store.specs.Faults.{Answers, fault_in};
 ghost use Rattle.uf_store.specs.Keeping.{Agrees};
-ghost use Rattle.uf_store.specs.Lost.{ReadsOver};
 ghost use Rattle.uf_store.specs.Seen.{Finds, Seen};
 ghost use Rattle.uf_tree.specs.Codecs.{shard_node_block};
 ghost use Rattle.uf_tree.specs.declared.meta.Meta.{Meta as TheMeta};
@@ -15,6 +13,7 @@ ghost use Rattle.uf_tree.specs.Nodes.{Named};
 ghost use Rattle.uf_tree.specs.ShardPlan.{shard};
 ghost use Rattle.uf_tree.specs.Validity.{IsDirectory, IsShardNode};
 ghost use Rattle.uf_shard.specs.Listing.{AreRows, IsBadShard, in_order};
+ghost use Rattle.uf_shard.specs.Over.{ListsOver};
 ghost use Rattle.uf_shard.specs.Planned.{IsPlanned};
 ghost use Rattle.uf_shard.specs.Walked.{HasItems, HasLevel};
 
@@ -35,9 +34,7 @@ pub fn entries<S: Store, L: Ledger>(
     touches: &mut Steps<L>,
 ) -> Result<Pairs, StoreFault>
     ensures value { (N : List ℕ → ℕ) (m : TheMeta) (l : List Named) → IsPlanned S.X.block32 N root.now m l
-        → Agrees (S.seen store.old).told (shard S.X.block32 N 7 m l).blocks
-        → Stood (S.seen store.old).faults (S.seen store.new).faults
-        → ReadsOver (S.seen store.old).told (shard S.X.block32 N 7 m l).blocks l result }
+        → ListsOver S.X.block32 N (S.seen store.old) (S.seen store.new) m l result }
     ensures listed { IfSome (S.seen store.old).told (λ t. IfOk result (λ l. (rows : List Named)
         × AreRows (held_at t) 7 root.now rows × (l ≡ in_order rows))) }
     ensures valid { IfOk result IsDirectory }
@@ -64,8 +61,7 @@ pub fn entries_below<S: Store, L: Ledger>(
     requires lent { (S.seen store.old).lent ≡ shard_node_block node.now }
     ensures value { (N : List ℕ → ℕ) (root : TheCid) (before : Seen) (m : TheMeta) (l : List Named)
         → Finds S.X.block32 root before (S.seen store.old) → IsPlanned S.X.block32 N root m l
-        → Agrees before.told (shard S.X.block32 N 7 m l).blocks → Stood before.faults (S.seen store.new).faults
-        → ReadsOver before.told (shard S.X.block32 N 7 m l).blocks l result }
+        → ListsOver S.X.block32 N before (S.seen store.new) m l result }
     ensures listed { (root : TheCid) (before : Seen) → Finds S.X.block32 root before (S.seen store.old)
         → IfSome before.told (λ t. IfOk result (λ l. (rows : List Named)
         × AreRows (held_at t) 7 root rows × (l ≡ in_order rows))) }
@@ -93,8 +89,7 @@ fn entries_in<S: Store, L: Ledger>(
     ensures value { (N : List ℕ → ℕ) (root : TheCid) (before : Seen) (m : TheMeta) (l : List Named)
         → HasItems 7 root before items.now → OnlyReads S.X.block32 IsBadShard None before (S.seen store.old)
         → IsPlanned S.X.block32 N root m l
-        → Agrees before.told (shard S.X.block32 N 7 m l).blocks → Stood before.faults (S.seen store.new).faults
-        → ReadsOver before.told (shard S.X.block32 N 7 m l).blocks l result }
+        → ListsOver S.X.block32 N before (S.seen store.new) m l result }
     ensures listed { (root : TheCid) (before : Seen)
         → HasItems 7 root before items.now → OnlyReads S.X.block32 IsBadShard None before (S.seen store.old)
         → IfSome before.told (λ t. IfOk result (λ l. (rows : List Named)

@@ -2,15 +2,12 @@
 ghost use Rattle.std.specs.Prelude.{◌≡◌, ◌<◌, ◌≤◌, ◌+◌, ◌*◌, ◌-◌, ℕ, List, [], ◌∷◌};
 ghost use Rattle.std.specs.Prelude.{IfOk, IfSome, OnOk, Some, false};
 ghost use Rattle.std.specs.Ordering.{eq_by_cmp};
-ghost use Rattle.uf_cid.specs.declared.cid.Cid.{Cid as TheCid};
-ghost use Rattle.uf_edge.specs.Counts.{Stood};
 ghost use Rattle.uf_murmur.specs.Slots.{slot as slot_of};
 ghost use Rattle.uf_store.specs.Among.{SavesAmong};
 ghost use Rattle.uf_store.specs.Calls.{OnlySaves};
 ghost use Rattle.uf_store.specs.Faults.{NoneIsBad};
-ghost use Rattle.uf_store.specs.Keeping.{Agrees, KeepsGood, StaysAgreed};
+ghost use Rattle.uf_store.specs.Keeping.{Agrees, KeepsGood};
 ghost use Rattle.uf_store.specs.Writing.{SavesOnly};
-ghost use Rattle.uf_store.specs.Lost.{AgreesAfter};
 ghost use Rattle.uf_store.specs.Seen.{Finds, Seen};
 ghost use Rattle.uf_tree.specs.Codecs.{shard_node_block};
 ghost use Rattle.uf_tree.specs.declared.meta.Meta.{Meta as TheMeta};
@@ -21,10 +18,11 @@ ghost use Rattle.uf_tree.specs.Names.{names_cmp};
 ghost use Rattle.uf_tree.specs.Nodes.{Named};
 ghost use Rattle.uf_tree.specs.ShardPlan.{shard};
 ghost use Rattle.uf_tree.specs.Validity.{IsItem, IsNamed, IsShard, IsShardNode};
-ghost use Rattle.uf_shard.specs.Answers.{AtCollision, GivesOver, Shown, dir_fault, shard_node_held, shard_refusal};
+ghost use Rattle.uf_shard.specs.Answers.{AtCollision, Shown, dir_fault, shard_node_held};
+ghost use Rattle.uf_shard.specs.Over.{AgreesPut, OfFirst, OfFound, PutsOver, SavesPut};
 ghost use Rattle.uf_shard.specs.Placed.{IsBadOnWay, IsPlaced, IsPlacedNode, way};
 ghost use Rattle.uf_shard.specs.Planned.{IsPlanned, IsShardCid};
-ghost use Rattle.uf_shard.specs.Reached.{HasFirst, IsReached};
+ghost use Rattle.uf_shard.specs.Reached.{IsReached};
 ghost use Rattle.uf_shard.specs.Saving.{IsCollisionOr};
 ghost use Rattle.uf_shard.specs.Changed.{AreItems, IsItemAt, IsOrderedOr, IsSlot, LeafOr, PutsSlot, PutsSlots};
 ghost use Rattle.uf_shard.specs.Changed.{SavesBelow, below, blocks_of};
@@ -44,9 +42,9 @@ use uf_store::{Role, Steps, Store, StoreFault};
 use uf_tree::{Entry, Item, Items, Meta, Name, Placed, ShardNode};
 
 /// Puts an entry under a name into the directory whose shard tree has this root, in the place of an older one of that
-/// name, and answers the entry of what it is then (UnixFS v1, "HAMTDirectory"). Its metadata stays. Another name of its
-/// 64-bit hash is found before anything is saved. Only the shards on the name's way are loaded and saved: at most 16
-/// touches.
+/// name, and answers the entry of what it is then (UnixFS v1, "HAMTDirectory"). Its metadata stays. Another name of
+/// its 64-bit hash is found before anything is saved. Only the shards on the name's way are loaded and saved: at most
+/// 16 touches.
 pub fn put<S: Store, N: NameHash, L: Ledger>(
     alloc: Global,
     store: &mut S,
@@ -56,26 +54,17 @@ pub fn put<S: Store, N: NameHash, L: Ledger>(
     touches: &mut Steps<L>,
 ) -> Result<Entry, DirFault>
     ensures value { (m : TheMeta) (l : List Named) → IsPlanned S.X.block32 N.name64 root.now m l
-        → Agrees (S.seen store.old).told (shard S.X.block32 N.name64 7 m l).blocks
-        → Stood (S.seen store.old).faults (S.seen store.new).faults
-        → Stood (S.seen store.old).clashes (S.seen store.new).clashes
-        → GivesOver (S.seen store.old).told (shard S.X.block32 N.name64 7 m l).blocks
-        (shard_refusal S.X.block32 N.name64 m (with_name name.now entry.now l))
-        (shard S.X.block32 N.name64 7 m (with_name name.now entry.now l)).entry result }
+        → PutsOver S.X.block32 N.name64 (S.seen store.old) (S.seen store.new) m l name.now entry.now result }
     ensures made { IfOk result (λ e. IsShardCid S.X.block32 e.cid) }
     ensures after { OnOk result ((m : TheMeta) (l : List Named) → IsPlanned S.X.block32 N.name64 root.now m l
-        → StaysAgreed (S.seen store.old).told (S.seen store.new).told (shard S.X.block32 N.name64 7 m l).blocks
-        → AgreesAfter (S.seen store.old).told (S.seen store.new).told (shard S.X.block32 N.name64 7 m l).blocks
-        (shard S.X.block32 N.name64 7 m (with_name name.now entry.now l)).blocks) }
+        → AgreesPut S.X.block32 N.name64 (S.seen store.old) (S.seen store.new) m l name.now entry.now) }
     ensures early { AtCollision result ((S.seen store.new).told ≡ (S.seen store.old).told) }
     ensures cause { Shown S.X.block32 (IsBadOnWay N.name64 (N.name64 name.now)) result
         (S.seen store.old) (S.seen store.new) }
     ensures good { KeepsGood S.X.block32 (S.seen store.old).told (S.seen store.new).told }
     ensures saves { SavesOnly S.X.block32 (S.seen store.old).told (S.seen store.new).told }
     ensures no_other { (m : TheMeta) (l : List Named) → IsPlanned S.X.block32 N.name64 root.now m l
-        → Agrees (S.seen store.old).told (shard S.X.block32 N.name64 7 m l).blocks
-        → SavesAmong S.X.block32 (shard S.X.block32 N.name64 7 m (with_name name.now entry.now l)).blocks
-        (S.seen store.old).told (S.seen store.new).told }
+        → SavesPut S.X.block32 N.name64 (S.seen store.old) (S.seen store.new) m l name.now entry.now }
     ensures touches { touches.new ≤ touches.old + 16 }
     ensures touched { touches.old < touches.new }
 {
@@ -96,29 +85,18 @@ pub fn put_below<S: Store, N: NameHash, L: Ledger>(
 ) -> Result<Entry, DirFault>
     requires shard { IsShardNode node.now }
     requires lent { (S.seen store.old).lent ≡ shard_node_block node.now }
-    ensures value { (before : Seen) (m : TheMeta) (l : List Named)
-        → Finds S.X.block32 root.now before (S.seen store.old) → IsPlanned S.X.block32 N.name64 root.now m l
-        → Agrees before.told (shard S.X.block32 N.name64 7 m l).blocks
-        → Stood before.faults (S.seen store.new).faults → Stood before.clashes (S.seen store.new).clashes
-        → GivesOver before.told (shard S.X.block32 N.name64 7 m l).blocks
-        (shard_refusal S.X.block32 N.name64 m (with_name name.now entry.now l))
-        (shard S.X.block32 N.name64 7 m (with_name name.now entry.now l)).entry result }
+    ensures value { OfFound S.X.block32 N.name64 root.now (S.seen store.old) (λ before m l.
+        PutsOver S.X.block32 N.name64 before (S.seen store.new) m l name.now entry.now result) }
     ensures made { IfOk result (λ e. IsShardCid S.X.block32 e.cid) }
-    ensures after { OnOk result ((before : Seen) (m : TheMeta) (l : List Named)
-        → Finds S.X.block32 root.now before (S.seen store.old) → IsPlanned S.X.block32 N.name64 root.now m l
-        → StaysAgreed before.told (S.seen store.new).told (shard S.X.block32 N.name64 7 m l).blocks
-        → AgreesAfter before.told (S.seen store.new).told (shard S.X.block32 N.name64 7 m l).blocks
-        (shard S.X.block32 N.name64 7 m (with_name name.now entry.now l)).blocks) }
+    ensures after { OnOk result (OfFound S.X.block32 N.name64 root.now (S.seen store.old) (λ before m l.
+        AgreesPut S.X.block32 N.name64 before (S.seen store.new) m l name.now entry.now)) }
     ensures early { AtCollision result ((S.seen store.new).told ≡ (S.seen store.old).told) }
     ensures cause { (before : Seen) → Finds S.X.block32 root.now before (S.seen store.old)
         → Shown S.X.block32 (IsBadOnWay N.name64 (N.name64 name.now)) result before (S.seen store.new) }
     ensures good { KeepsGood S.X.block32 (S.seen store.old).told (S.seen store.new).told }
     ensures saves { SavesOnly S.X.block32 (S.seen store.old).told (S.seen store.new).told }
-    ensures no_other { (before : Seen) (m : TheMeta) (l : List Named)
-        → Finds S.X.block32 root.now before (S.seen store.old) → IsPlanned S.X.block32 N.name64 root.now m l
-        → Agrees before.told (shard S.X.block32 N.name64 7 m l).blocks
-        → SavesAmong S.X.block32 (shard S.X.block32 N.name64 7 m (with_name name.now entry.now l)).blocks
-        before.told (S.seen store.new).told }
+    ensures no_other { OfFound S.X.block32 N.name64 root.now (S.seen store.old) (λ before m l.
+        SavesPut S.X.block32 N.name64 before (S.seen store.new) m l name.now entry.now) }
     ensures touches { touches.new ≤ touches.old + 15 }
     ensures touched { touches.old ≤ touches.new }
 {
@@ -139,30 +117,16 @@ fn put_placed<S: Store, N: NameHash, L: Ledger>(
     touches: &mut Steps<L>,
 ) -> Result<Entry, DirFault>
     requires { IsPlacedNode N.name64 [] node.now }
-    ensures value { (root : TheCid) (before : Seen) (m : TheMeta) (l : List Named)
-        → HasFirst S.X.block32 N.name64 (N.name64 name.now) root node.now before (S.seen store.old)
-        → IsPlanned S.X.block32 N.name64 root m l
-        → Agrees before.told (shard S.X.block32 N.name64 7 m l).blocks
-        → Stood before.faults (S.seen store.new).faults → Stood before.clashes (S.seen store.new).clashes
-        → GivesOver before.told (shard S.X.block32 N.name64 7 m l).blocks
-        (shard_refusal S.X.block32 N.name64 m (with_name name.now entry.now l))
-        (shard S.X.block32 N.name64 7 m (with_name name.now entry.now l)).entry result }
+    ensures value { OfFirst S.X.block32 N.name64 name.now node.now (S.seen store.old) (λ before m l.
+        PutsOver S.X.block32 N.name64 before (S.seen store.new) m l name.now entry.now result) }
     ensures made { IfOk result (λ e. IsShardCid S.X.block32 e.cid) }
-    ensures after { OnOk result ((root : TheCid) (before : Seen) (m : TheMeta) (l : List Named)
-        → HasFirst S.X.block32 N.name64 (N.name64 name.now) root node.now before (S.seen store.old)
-        → IsPlanned S.X.block32 N.name64 root m l
-        → StaysAgreed before.told (S.seen store.new).told (shard S.X.block32 N.name64 7 m l).blocks
-        → AgreesAfter before.told (S.seen store.new).told (shard S.X.block32 N.name64 7 m l).blocks
-        (shard S.X.block32 N.name64 7 m (with_name name.now entry.now l)).blocks) }
+    ensures after { OnOk result (OfFirst S.X.block32 N.name64 name.now node.now (S.seen store.old) (λ before m l.
+        AgreesPut S.X.block32 N.name64 before (S.seen store.new) m l name.now entry.now)) }
     ensures early { AtCollision result ((S.seen store.new).told ≡ (S.seen store.old).told) }
     ensures saves { OnlySaves S.X.block32 (IsBadOnWay N.name64 (N.name64 name.now)) (dir_fault result)
         (S.seen store.old) (S.seen store.new) }
-    ensures no_other { (root : TheCid) (before : Seen) (m : TheMeta) (l : List Named)
-        → HasFirst S.X.block32 N.name64 (N.name64 name.now) root node.now before (S.seen store.old)
-        → IsPlanned S.X.block32 N.name64 root m l
-        → Agrees before.told (shard S.X.block32 N.name64 7 m l).blocks
-        → SavesAmong S.X.block32 (shard S.X.block32 N.name64 7 m (with_name name.now entry.now l)).blocks
-        before.told (S.seen store.new).told }
+    ensures no_other { OfFirst S.X.block32 N.name64 name.now node.now (S.seen store.old) (λ before m l.
+        SavesPut S.X.block32 N.name64 before (S.seen store.new) m l name.now entry.now) }
     ensures touches { touches.new ≤ touches.old + 15 }
     ensures touched { touches.old ≤ touches.new }
 {

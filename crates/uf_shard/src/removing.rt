@@ -1,16 +1,13 @@
 //! A name taken out.
 ghost use Rattle.std.specs.Prelude.{◌≡◌, ◌<◌, ◌≤◌, ◌+◌, ◌*◌, ◌-◌, ℕ, List, [], ◌∷◌, IfErr, IfOk, IfSome, IsTrue, None};
 ghost use Rattle.std.specs.Ordering.{eq_by_cmp};
-ghost use Rattle.uf_cid.specs.declared.cid.Cid.{Cid as TheCid};
-ghost use Rattle.uf_edge.specs.Counts.{Stood};
 ghost use Rattle.uf_murmur.specs.Slots.{slot as slot_of};
 ghost use Rattle.uf_store.specs.Among.{SavesAmong};
 ghost use Rattle.uf_store.specs.Clashes.{IsSaving};
 ghost use Rattle.uf_store.specs.Calls.{OnlySaves};
 ghost use Rattle.uf_store.specs.Faults.{Answers, NoneIsBad, fault_in};
-ghost use Rattle.uf_store.specs.Keeping.{Agrees, KeepsGood, StaysAgreed};
+ghost use Rattle.uf_store.specs.Keeping.{Agrees, KeepsGood};
 ghost use Rattle.uf_store.specs.Writing.{SavesOnly};
-ghost use Rattle.uf_store.specs.Lost.{ReadsOver};
 ghost use Rattle.uf_store.specs.Seen.{Finds, Seen};
 ghost use Rattle.uf_tree.specs.declared.meta.Meta.{Meta as TheMeta};
 ghost use Rattle.uf_tree.specs.Changes.{without};
@@ -21,14 +18,15 @@ ghost use Rattle.uf_tree.specs.Nodes.{Named};
 ghost use Rattle.uf_tree.specs.ShardPlan.{shard};
 ghost use Rattle.uf_tree.specs.Validity.{IsShardNode};
 ghost use Rattle.uf_shard.specs.Answers.{shard_node_held};
+ghost use Rattle.uf_shard.specs.Over.{AgreesRemoved, OfFirst, OfFound, RemovesOver, SavesRemoved};
 ghost use Rattle.uf_shard.specs.Placed.{IsBadOnWay, IsPlaced, IsPlacedNode, way};
 ghost use Rattle.uf_shard.specs.Planned.{IsPlanned};
-ghost use Rattle.uf_shard.specs.Reached.{HasFirst, IsReached};
+ghost use Rattle.uf_shard.specs.Reached.{IsReached};
 ghost use Rattle.uf_shard.specs.Changed.{AreItems, IsItemAt, IsSlot, below, blocks_of};
-ghost use Rattle.uf_shard.specs.Taken.{AgreesLeft, AreInSlots, IsLeftOf, IsValidRest, LeafWithout, LeavesBelow};
+ghost use Rattle.uf_shard.specs.Taken.{AreInSlots, IsLeftOf, IsValidRest, LeafWithout, LeavesBelow};
 ghost use Rattle.uf_shard.specs.Taken.{LeavesShard, SavesNothing, SavesRest, TakesSlot, TakesSlots, UnsavedBelow};
 ghost use Rattle.uf_shard.specs.Taken.{UnsavedItems};
-ghost use Rattle.uf_shard.specs.Taken.{UnsavedRest, collapsed, left_without};
+ghost use Rattle.uf_shard.specs.Taken.{UnsavedRest, collapsed};
 ghost use Rattle.uf_shard.specs.declared.removed.Removed.TheVariants.{Absent};
 ghost use Rattle.uf_shard.specs.declared.rest.Rest.TheVariants.{Same};
 
@@ -57,25 +55,17 @@ pub fn remove<S: Store, N: NameHash, L: Ledger>(
     touches: &mut Steps<L>,
 ) -> Result<Removed, StoreFault>
     ensures value { (m : TheMeta) (l : List Named) → IsPlanned S.X.block32 N.name64 root.now m l
-        → Agrees (S.seen store.old).told (shard S.X.block32 N.name64 7 m l).blocks
-        → Stood (S.seen store.old).faults (S.seen store.new).faults
-        → Stood (S.seen store.old).clashes (S.seen store.new).clashes
-        → ReadsOver (S.seen store.old).told (shard S.X.block32 N.name64 7 m l).blocks
-        (left_without S.X.block32 N.name64 name.now m l) result }
+        → RemovesOver S.X.block32 N.name64 (S.seen store.old) (S.seen store.new) m l name.now result }
     ensures made { IfOk result (LeavesShard S.X.block32) }
     ensures nothing { IfOk result (λ left. SavesNothing left (S.seen store.old).told (S.seen store.new).told) }
     ensures after { IfOk result (λ left. (m : TheMeta) (l : List Named) → IsPlanned S.X.block32 N.name64 root.now m l
-        → StaysAgreed (S.seen store.old).told (S.seen store.new).told (shard S.X.block32 N.name64 7 m l).blocks
-        → AgreesLeft S.X.block32 N.name64 (S.seen store.old).told (S.seen store.new).told
-        (shard S.X.block32 N.name64 7 m l).blocks name.now m l left) }
+        → AgreesRemoved S.X.block32 N.name64 (S.seen store.old) (S.seen store.new) m l name.now left) }
     ensures cause { Answers S.X.block32 (IsBadOnWay N.name64 (N.name64 name.now)) result
         (S.seen store.old) (S.seen store.new) }
     ensures good { KeepsGood S.X.block32 (S.seen store.old).told (S.seen store.new).told }
     ensures saves { SavesOnly S.X.block32 (S.seen store.old).told (S.seen store.new).told }
     ensures no_other { (m : TheMeta) (l : List Named) → IsPlanned S.X.block32 N.name64 root.now m l
-        → Agrees (S.seen store.old).told (shard S.X.block32 N.name64 7 m l).blocks
-        → SavesAmong S.X.block32 (shard S.X.block32 N.name64 7 m (without name.now l)).blocks
-        (S.seen store.old).told (S.seen store.new).told }
+        → SavesRemoved S.X.block32 N.name64 (S.seen store.old) (S.seen store.new) m l name.now }
     ensures touches { touches.new ≤ touches.old + 16 }
     ensures absent { IfOk result (λ left. left ≡ Absent → touches.new ≤ touches.old + 8) }
     ensures touched { touches.old < touches.new }
@@ -96,28 +86,18 @@ pub fn remove_below<S: Store, N: NameHash, L: Ledger>(
 ) -> Result<Removed, StoreFault>
     requires shard { IsShardNode node.now }
     requires lent { (S.seen store.old).lent ≡ shard_node_block node.now }
-    ensures value { (before : Seen) (m : TheMeta) (l : List Named)
-        → Finds S.X.block32 root.now before (S.seen store.old) → IsPlanned S.X.block32 N.name64 root.now m l
-        → Agrees before.told (shard S.X.block32 N.name64 7 m l).blocks
-        → Stood before.faults (S.seen store.new).faults → Stood before.clashes (S.seen store.new).clashes
-        → ReadsOver before.told (shard S.X.block32 N.name64 7 m l).blocks
-        (left_without S.X.block32 N.name64 name.now m l) result }
+    ensures value { OfFound S.X.block32 N.name64 root.now (S.seen store.old) (λ before m l.
+        RemovesOver S.X.block32 N.name64 before (S.seen store.new) m l name.now result) }
     ensures made { IfOk result (LeavesShard S.X.block32) }
     ensures nothing { IfOk result (λ left. SavesNothing left (S.seen store.old).told (S.seen store.new).told) }
-    ensures after { IfOk result (λ left. (before : Seen) (m : TheMeta) (l : List Named)
-        → Finds S.X.block32 root.now before (S.seen store.old) → IsPlanned S.X.block32 N.name64 root.now m l
-        → StaysAgreed before.told (S.seen store.new).told (shard S.X.block32 N.name64 7 m l).blocks
-        → AgreesLeft S.X.block32 N.name64 before.told (S.seen store.new).told
-        (shard S.X.block32 N.name64 7 m l).blocks name.now m l left) }
+    ensures after { IfOk result (λ left. OfFound S.X.block32 N.name64 root.now (S.seen store.old) (λ before m l.
+        AgreesRemoved S.X.block32 N.name64 before (S.seen store.new) m l name.now left)) }
     ensures cause { (before : Seen) → Finds S.X.block32 root.now before (S.seen store.old)
         → Answers S.X.block32 (IsBadOnWay N.name64 (N.name64 name.now)) result before (S.seen store.new) }
     ensures good { KeepsGood S.X.block32 (S.seen store.old).told (S.seen store.new).told }
     ensures saves { SavesOnly S.X.block32 (S.seen store.old).told (S.seen store.new).told }
-    ensures no_other { (before : Seen) (m : TheMeta) (l : List Named)
-        → Finds S.X.block32 root.now before (S.seen store.old) → IsPlanned S.X.block32 N.name64 root.now m l
-        → Agrees before.told (shard S.X.block32 N.name64 7 m l).blocks
-        → SavesAmong S.X.block32 (shard S.X.block32 N.name64 7 m (without name.now l)).blocks
-        before.told (S.seen store.new).told }
+    ensures no_other { OfFound S.X.block32 N.name64 root.now (S.seen store.old) (λ before m l.
+        SavesRemoved S.X.block32 N.name64 before (S.seen store.new) m l name.now) }
     ensures touches { touches.new ≤ touches.old + 15 }
     ensures absent { IfOk result (λ left. left ≡ Absent → touches.new ≤ touches.old + 7) }
     ensures touched { touches.old ≤ touches.new }
@@ -138,29 +118,16 @@ fn remove_placed<S: Store, N: NameHash, L: Ledger>(
     touches: &mut Steps<L>,
 ) -> Result<Removed, StoreFault>
     requires { IsPlacedNode N.name64 [] node.now }
-    ensures value { (root : TheCid) (before : Seen) (m : TheMeta) (l : List Named)
-        → HasFirst S.X.block32 N.name64 (N.name64 name.now) root node.now before (S.seen store.old)
-        → IsPlanned S.X.block32 N.name64 root m l
-        → Agrees before.told (shard S.X.block32 N.name64 7 m l).blocks
-        → Stood before.faults (S.seen store.new).faults → Stood before.clashes (S.seen store.new).clashes
-        → ReadsOver before.told (shard S.X.block32 N.name64 7 m l).blocks
-        (left_without S.X.block32 N.name64 name.now m l) result }
+    ensures value { OfFirst S.X.block32 N.name64 name.now node.now (S.seen store.old) (λ before m l.
+        RemovesOver S.X.block32 N.name64 before (S.seen store.new) m l name.now result) }
     ensures made { IfOk result (LeavesShard S.X.block32) }
     ensures nothing { IfOk result (λ left. SavesNothing left (S.seen store.old).told (S.seen store.new).told) }
-    ensures after { IfOk result (λ left. (root : TheCid) (before : Seen) (m : TheMeta) (l : List Named)
-        → HasFirst S.X.block32 N.name64 (N.name64 name.now) root node.now before (S.seen store.old)
-        → IsPlanned S.X.block32 N.name64 root m l
-        → StaysAgreed before.told (S.seen store.new).told (shard S.X.block32 N.name64 7 m l).blocks
-        → AgreesLeft S.X.block32 N.name64 before.told (S.seen store.new).told
-        (shard S.X.block32 N.name64 7 m l).blocks name.now m l left) }
+    ensures after { IfOk result (λ left. OfFirst S.X.block32 N.name64 name.now node.now (S.seen store.old) (λ before m
+        l. AgreesRemoved S.X.block32 N.name64 before (S.seen store.new) m l name.now left)) }
     ensures saves { OnlySaves S.X.block32 (IsBadOnWay N.name64 (N.name64 name.now)) (fault_in result)
         (S.seen store.old) (S.seen store.new) }
-    ensures no_other { (root : TheCid) (before : Seen) (m : TheMeta) (l : List Named)
-        → HasFirst S.X.block32 N.name64 (N.name64 name.now) root node.now before (S.seen store.old)
-        → IsPlanned S.X.block32 N.name64 root m l
-        → Agrees before.told (shard S.X.block32 N.name64 7 m l).blocks
-        → SavesAmong S.X.block32 (shard S.X.block32 N.name64 7 m (without name.now l)).blocks
-        before.told (S.seen store.new).told }
+    ensures no_other { OfFirst S.X.block32 N.name64 name.now node.now (S.seen store.old) (λ before m l.
+        SavesRemoved S.X.block32 N.name64 before (S.seen store.new) m l name.now) }
     ensures touches { touches.new ≤ touches.old + 15 }
     ensures absent { IfOk result (λ left. left ≡ Absent → touches.new ≤ touches.old + 7) }
     ensures touched { touches.old ≤ touches.new }
@@ -325,8 +292,8 @@ fn leaf_without(other: &Name, name: &Name) -> Rest
     }
 }
 
-// What a slot has of these slots of the shard below it: nothing of none, a lone entry itself, and else the shard, which
-// is saved.
+// What a slot has of these slots of the shard below it: nothing of none, a lone entry itself, and else the shard,
+// which is saved.
 fn rest_of<S: Store, L: Ledger>(
     alloc: Global,
     store: &mut S,

@@ -33,8 +33,8 @@ returns-in_ok-entry-in-Empty-clause-takes g c = λ before finds. emptied-basic g
 
 pub returns-in_err-left-in-Left-clause-takes : goal.returns-in_err-left-in-Left-clause-takes
 returns-in_err-left-in-Left-clause-takes g c = λ before finds. let out = err_from_is_err_and c.from_residual-in_err-left-in-Left.result c.from_residual-in_err-left-in-Left.ensures.1 in
-    rw (out.1, out.2) (settled-takes g.S.X.BlockHash.block32 g.N.NameHash.name64 c.args.p.now c.args.node.now.meta c.args.root.now c.args.name.now before (g.S.Store.seen c.remove_below.new.store) (g.S.Store.seen c.settled.new.store) (c.in_ok-removed.ensures.cause before finds)
-    (saves-behind g.S.X.BlockHash.block32 (IsBadOnWay g.N.NameHash.name64 (g.N.NameHash.name64 c.args.name.now)) None before (g.S.Store.seen c.args.store.now) (g.S.Store.seen c.remove_below.new.store) finds.same_told (c.in_ok-removed.ensures.cause before finds) c.in_ok-removed.ensures.good c.in_ok-removed.ensures.saves).saves c.settled.ensures.saves.saves c.in-Left.entry (λ l. (rw c.in-Left.is at c.in_ok-removed.ensures.value) before c.args.node.now.meta l finds) (λ l. (rw c.in-Left.is at c.in_ok-removed.ensures.after) before c.args.node.now.meta l finds)
+    rw (out.1, out.2) (settled-takes g.S.X.BlockHash.block32 g.N.NameHash.name64 c.args.p.now c.args.node.now.meta c.args.root.now c.args.name.now before (g.S.Store.seen c.remove_below.new.store) (g.S.Store.seen c.entry_by_weight.new.store) (c.in_ok-removed.ensures.cause before finds)
+    (saves-behind g.S.X.BlockHash.block32 (IsBadOnWay g.N.NameHash.name64 (g.N.NameHash.name64 c.args.name.now)) None before (g.S.Store.seen c.args.store.now) (g.S.Store.seen c.remove_below.new.store) finds.same_told (c.in_ok-removed.ensures.cause before finds) c.in_ok-removed.ensures.good c.in_ok-removed.ensures.saves).saves c.entry_by_weight.ensures.saves.saves c.in-Left.entry (λ l. (rw c.in-Left.is at c.in_ok-removed.ensures.value) before c.args.node.now.meta l finds) (λ l. (rw c.in-Left.is at c.in_ok-removed.ensures.after) before c.args.node.now.meta l finds)
     (Err c.in_err-left-in-Left.field-0.0) c.in_err-left-in-Left.ensures.saves.cause c.in_err-left-in-Left.ensures.settles)
 
 pub returns-in_err-left-in-Left-clause-saves : goal.returns-in_err-left-in-Left-clause-saves
@@ -45,16 +45,16 @@ returns-in_err-left-in-Left-clause-saves g c = λ before finds. let out = err_fr
     (saves-by (IsBadWeighed g.N.NameHash.name64 (g.N.NameHash.name64 c.args.name.now) (Some c.args.p.now)) (shard-weighed g.N.NameHash.name64 (g.N.NameHash.name64 c.args.name.now) (Some c.args.p.now)) c.in_err-left-in-Left.ensures.saves))
 
 pub returns-in_err-left-in-Left-clause-touches : goal.returns-in_err-left-in-Left-clause-touches
-returns-in_err-left-in-Left-clause-touches g c = λ before l finds stay. let was = was-there g.S.X.BlockHash.block32 g.N.NameHash.name64 c.args.p.now c.args.node.now.meta c.args.root.now c.args.name.now before (g.S.Store.seen c.remove_below.new.store) (g.S.Store.seen c.settled.new.store) (c.in_ok-removed.ensures.cause before finds)
-    (saves-behind g.S.X.BlockHash.block32 (IsBadOnWay g.N.NameHash.name64 (g.N.NameHash.name64 c.args.name.now)) None before (g.S.Store.seen c.args.store.now) (g.S.Store.seen c.remove_below.new.store) finds.same_told (c.in_ok-removed.ensures.cause before finds) c.in_ok-removed.ensures.good c.in_ok-removed.ensures.saves).saves c.settled.ensures.saves.saves c.in-Left.entry (λ l. (rw c.in-Left.is at c.in_ok-removed.ensures.value) before c.args.node.now.meta l finds) (λ l. (rw c.in-Left.is at c.in_ok-removed.ensures.after) before c.args.node.now.meta l finds)
-    c.settled.result c.settled.ensures.saves.cause l stay in left-takes g.S.X.BlockHash.block32 g.N.NameHash.name64 c.args.p.now c.args.node.now.meta c.args.name.now l was.old c.args.touches.now c.remove_below.new.touches _ was.there stay.plan.valid.sorted c.remove_below.ensures.touches
-    (c.settled.ensures.touches g.N.NameHash.name64 (without c.args.name.now l) (shards-left g.S.X.BlockHash.block32 g.N.NameHash.name64 c.args.p.now c.args.node.now.meta c.args.root.now c.args.name.now before (g.S.Store.seen c.remove_below.new.store) (g.S.Store.seen c.settled.new.store) (c.in_ok-removed.ensures.cause before finds)
-    (saves-behind g.S.X.BlockHash.block32 (IsBadOnWay g.N.NameHash.name64 (g.N.NameHash.name64 c.args.name.now)) None before (g.S.Store.seen c.args.store.now) (g.S.Store.seen c.remove_below.new.store) finds.same_told (c.in_ok-removed.ensures.cause before finds) c.in_ok-removed.ensures.good c.in_ok-removed.ensures.saves).saves c.settled.ensures.saves.saves c.in-Left.entry (λ l. (rw c.in-Left.is at c.in_ok-removed.ensures.value) before c.args.node.now.meta l finds) (λ l. (rw c.in-Left.is at c.in_ok-removed.ensures.after) before c.args.node.now.meta l finds)
-    c.settled.result c.settled.ensures.saves.cause l stay))
+returns-in_err-left-in-Left-clause-touches g c = λ before l finds stay. let was = was-there g.S.X.BlockHash.block32 g.N.NameHash.name64 c.args.p.now c.args.node.now.meta c.args.root.now c.args.name.now before (g.S.Store.seen c.remove_below.new.store) (g.S.Store.seen c.entry_by_weight.new.store) (c.in_ok-removed.ensures.cause before finds)
+    (saves-behind g.S.X.BlockHash.block32 (IsBadOnWay g.N.NameHash.name64 (g.N.NameHash.name64 c.args.name.now)) None before (g.S.Store.seen c.args.store.now) (g.S.Store.seen c.remove_below.new.store) finds.same_told (c.in_ok-removed.ensures.cause before finds) c.in_ok-removed.ensures.good c.in_ok-removed.ensures.saves).saves c.entry_by_weight.ensures.saves.saves c.in-Left.entry (λ l. (rw c.in-Left.is at c.in_ok-removed.ensures.value) before c.args.node.now.meta l finds) (λ l. (rw c.in-Left.is at c.in_ok-removed.ensures.after) before c.args.node.now.meta l finds)
+    c.entry_by_weight.result c.entry_by_weight.ensures.saves.cause l stay in left-takes g.S.X.BlockHash.block32 g.N.NameHash.name64 c.args.p.now c.args.node.now.meta c.args.name.now l was.old c.args.touches.now c.remove_below.new.touches _ was.there stay.plan.valid.sorted c.remove_below.ensures.touches
+    (c.entry_by_weight.ensures.touches g.N.NameHash.name64 (without c.args.name.now l) (shards-left g.S.X.BlockHash.block32 g.N.NameHash.name64 c.args.p.now c.args.node.now.meta c.args.root.now c.args.name.now before (g.S.Store.seen c.remove_below.new.store) (g.S.Store.seen c.entry_by_weight.new.store) (c.in_ok-removed.ensures.cause before finds)
+    (saves-behind g.S.X.BlockHash.block32 (IsBadOnWay g.N.NameHash.name64 (g.N.NameHash.name64 c.args.name.now)) None before (g.S.Store.seen c.args.store.now) (g.S.Store.seen c.remove_below.new.store) finds.same_told (c.in_ok-removed.ensures.cause before finds) c.in_ok-removed.ensures.good c.in_ok-removed.ensures.saves).saves c.entry_by_weight.ensures.saves.saves c.in-Left.entry (λ l. (rw c.in-Left.is at c.in_ok-removed.ensures.value) before c.args.node.now.meta l finds) (λ l. (rw c.in-Left.is at c.in_ok-removed.ensures.after) before c.args.node.now.meta l finds)
+    c.entry_by_weight.result c.entry_by_weight.ensures.saves.cause l stay))
 
 pub returns-in_ok-left-in-Left-clause-takes : goal.returns-in_ok-left-in-Left-clause-takes
-returns-in_ok-left-in-Left-clause-takes g c = λ before finds. settled-takes g.S.X.BlockHash.block32 g.N.NameHash.name64 c.args.p.now c.args.node.now.meta c.args.root.now c.args.name.now before (g.S.Store.seen c.remove_below.new.store) (g.S.Store.seen c.settled.new.store) (c.in_ok-removed.ensures.cause before finds)
-    (saves-behind g.S.X.BlockHash.block32 (IsBadOnWay g.N.NameHash.name64 (g.N.NameHash.name64 c.args.name.now)) None before (g.S.Store.seen c.args.store.now) (g.S.Store.seen c.remove_below.new.store) finds.same_told (c.in_ok-removed.ensures.cause before finds) c.in_ok-removed.ensures.good c.in_ok-removed.ensures.saves).saves c.settled.ensures.saves.saves c.in-Left.entry (λ l. (rw c.in-Left.is at c.in_ok-removed.ensures.value) before c.args.node.now.meta l finds) (λ l. (rw c.in-Left.is at c.in_ok-removed.ensures.after) before c.args.node.now.meta l finds)
+returns-in_ok-left-in-Left-clause-takes g c = λ before finds. settled-takes g.S.X.BlockHash.block32 g.N.NameHash.name64 c.args.p.now c.args.node.now.meta c.args.root.now c.args.name.now before (g.S.Store.seen c.remove_below.new.store) (g.S.Store.seen c.entry_by_weight.new.store) (c.in_ok-removed.ensures.cause before finds)
+    (saves-behind g.S.X.BlockHash.block32 (IsBadOnWay g.N.NameHash.name64 (g.N.NameHash.name64 c.args.name.now)) None before (g.S.Store.seen c.args.store.now) (g.S.Store.seen c.remove_below.new.store) finds.same_told (c.in_ok-removed.ensures.cause before finds) c.in_ok-removed.ensures.good c.in_ok-removed.ensures.saves).saves c.entry_by_weight.ensures.saves.saves c.in-Left.entry (λ l. (rw c.in-Left.is at c.in_ok-removed.ensures.value) before c.args.node.now.meta l finds) (λ l. (rw c.in-Left.is at c.in_ok-removed.ensures.after) before c.args.node.now.meta l finds)
     (Ok c.in_ok-left-in-Left.left) c.in_ok-left-in-Left.ensures.saves.cause c.in_ok-left-in-Left.ensures.settles
 
 pub returns-in_ok-left-in-Left-clause-saves : goal.returns-in_ok-left-in-Left-clause-saves
@@ -64,12 +64,12 @@ returns-in_ok-left-in-Left-clause-saves g c = λ before finds. saves-saves
     (saves-by (IsBadWeighed g.N.NameHash.name64 (g.N.NameHash.name64 c.args.name.now) (Some c.args.p.now)) (shard-weighed g.N.NameHash.name64 (g.N.NameHash.name64 c.args.name.now) (Some c.args.p.now)) c.in_ok-left-in-Left.ensures.saves)
 
 pub returns-in_ok-left-in-Left-clause-touches : goal.returns-in_ok-left-in-Left-clause-touches
-returns-in_ok-left-in-Left-clause-touches g c = λ before l finds stay. let was = was-there g.S.X.BlockHash.block32 g.N.NameHash.name64 c.args.p.now c.args.node.now.meta c.args.root.now c.args.name.now before (g.S.Store.seen c.remove_below.new.store) (g.S.Store.seen c.settled.new.store) (c.in_ok-removed.ensures.cause before finds)
-    (saves-behind g.S.X.BlockHash.block32 (IsBadOnWay g.N.NameHash.name64 (g.N.NameHash.name64 c.args.name.now)) None before (g.S.Store.seen c.args.store.now) (g.S.Store.seen c.remove_below.new.store) finds.same_told (c.in_ok-removed.ensures.cause before finds) c.in_ok-removed.ensures.good c.in_ok-removed.ensures.saves).saves c.settled.ensures.saves.saves c.in-Left.entry (λ l. (rw c.in-Left.is at c.in_ok-removed.ensures.value) before c.args.node.now.meta l finds) (λ l. (rw c.in-Left.is at c.in_ok-removed.ensures.after) before c.args.node.now.meta l finds)
-    c.settled.result c.settled.ensures.saves.cause l stay in left-takes g.S.X.BlockHash.block32 g.N.NameHash.name64 c.args.p.now c.args.node.now.meta c.args.name.now l was.old c.args.touches.now c.remove_below.new.touches _ was.there stay.plan.valid.sorted c.remove_below.ensures.touches
-    (c.settled.ensures.touches g.N.NameHash.name64 (without c.args.name.now l) (shards-left g.S.X.BlockHash.block32 g.N.NameHash.name64 c.args.p.now c.args.node.now.meta c.args.root.now c.args.name.now before (g.S.Store.seen c.remove_below.new.store) (g.S.Store.seen c.settled.new.store) (c.in_ok-removed.ensures.cause before finds)
-    (saves-behind g.S.X.BlockHash.block32 (IsBadOnWay g.N.NameHash.name64 (g.N.NameHash.name64 c.args.name.now)) None before (g.S.Store.seen c.args.store.now) (g.S.Store.seen c.remove_below.new.store) finds.same_told (c.in_ok-removed.ensures.cause before finds) c.in_ok-removed.ensures.good c.in_ok-removed.ensures.saves).saves c.settled.ensures.saves.saves c.in-Left.entry (λ l. (rw c.in-Left.is at c.in_ok-removed.ensures.value) before c.args.node.now.meta l finds) (λ l. (rw c.in-Left.is at c.in_ok-removed.ensures.after) before c.args.node.now.meta l finds)
-    c.settled.result c.settled.ensures.saves.cause l stay))
+returns-in_ok-left-in-Left-clause-touches g c = λ before l finds stay. let was = was-there g.S.X.BlockHash.block32 g.N.NameHash.name64 c.args.p.now c.args.node.now.meta c.args.root.now c.args.name.now before (g.S.Store.seen c.remove_below.new.store) (g.S.Store.seen c.entry_by_weight.new.store) (c.in_ok-removed.ensures.cause before finds)
+    (saves-behind g.S.X.BlockHash.block32 (IsBadOnWay g.N.NameHash.name64 (g.N.NameHash.name64 c.args.name.now)) None before (g.S.Store.seen c.args.store.now) (g.S.Store.seen c.remove_below.new.store) finds.same_told (c.in_ok-removed.ensures.cause before finds) c.in_ok-removed.ensures.good c.in_ok-removed.ensures.saves).saves c.entry_by_weight.ensures.saves.saves c.in-Left.entry (λ l. (rw c.in-Left.is at c.in_ok-removed.ensures.value) before c.args.node.now.meta l finds) (λ l. (rw c.in-Left.is at c.in_ok-removed.ensures.after) before c.args.node.now.meta l finds)
+    c.entry_by_weight.result c.entry_by_weight.ensures.saves.cause l stay in left-takes g.S.X.BlockHash.block32 g.N.NameHash.name64 c.args.p.now c.args.node.now.meta c.args.name.now l was.old c.args.touches.now c.remove_below.new.touches _ was.there stay.plan.valid.sorted c.remove_below.ensures.touches
+    (c.entry_by_weight.ensures.touches g.N.NameHash.name64 (without c.args.name.now l) (shards-left g.S.X.BlockHash.block32 g.N.NameHash.name64 c.args.p.now c.args.node.now.meta c.args.root.now c.args.name.now before (g.S.Store.seen c.remove_below.new.store) (g.S.Store.seen c.entry_by_weight.new.store) (c.in_ok-removed.ensures.cause before finds)
+    (saves-behind g.S.X.BlockHash.block32 (IsBadOnWay g.N.NameHash.name64 (g.N.NameHash.name64 c.args.name.now)) None before (g.S.Store.seen c.args.store.now) (g.S.Store.seen c.remove_below.new.store) finds.same_told (c.in_ok-removed.ensures.cause before finds) c.in_ok-removed.ensures.good c.in_ok-removed.ensures.saves).saves c.entry_by_weight.ensures.saves.saves c.in-Left.entry (λ l. (rw c.in-Left.is at c.in_ok-removed.ensures.value) before c.args.node.now.meta l finds) (λ l. (rw c.in-Left.is at c.in_ok-removed.ensures.after) before c.args.node.now.meta l finds)
+    c.entry_by_weight.result c.entry_by_weight.ensures.saves.cause l stay))
 
 pub returns-in_err-removed-clause-blames : goal.returns-in_err-removed-clause-blames
 returns-in_err-removed-clause-blames g c = λ before finds. let out = err_from_is_err_and c.from_residual.result c.from_residual.ensures.1 in
@@ -106,14 +106,14 @@ returns-in_ok-entry-in-Empty-clause-no_other g c = λ before l finds plan stays 
     ((rw c.in-Empty.is at c.in_ok-removed.ensures.value) before c.args.node.now.meta l finds) c.save_basic.ensures.no_other
 
 pub returns-in_err-left-in-Left-clause-no_other : goal.returns-in_err-left-in-Left-clause-no_other
-returns-in_err-left-in-Left-clause-no_other g c = λ before l finds plan stays can. settled-saves g.S.X.BlockHash.block32 g.N.NameHash.name64 c.args.p.now c.args.node.now.meta c.args.root.now c.args.name.now l plan before (g.S.Store.seen c.remove_below.new.store) (g.S.Store.seen c.settled.new.store) stays (c.in_ok-removed.ensures.cause before finds) can (c.remove_below.ensures.no_other before c.args.node.now.meta l finds plan stays.first)
-    (saves-behind g.S.X.BlockHash.block32 (IsBadOnWay g.N.NameHash.name64 (g.N.NameHash.name64 c.args.name.now)) None before (g.S.Store.seen c.args.store.now) (g.S.Store.seen c.remove_below.new.store) finds.same_told (c.in_ok-removed.ensures.cause before finds) c.in_ok-removed.ensures.good c.in_ok-removed.ensures.saves).saves c.settled.ensures.saves.saves c.in-Left.entry ((rw c.in-Left.is at c.in_ok-removed.ensures.value) before c.args.node.now.meta l finds) ((rw c.in-Left.is at c.in_ok-removed.ensures.after) before c.args.node.now.meta l finds)
-    c.settled.ensures.no_other
+returns-in_err-left-in-Left-clause-no_other g c = λ before l finds plan stays can. settled-saves g.S.X.BlockHash.block32 g.N.NameHash.name64 c.args.p.now c.args.node.now.meta c.args.root.now c.args.name.now l plan before (g.S.Store.seen c.remove_below.new.store) (g.S.Store.seen c.entry_by_weight.new.store) stays (c.in_ok-removed.ensures.cause before finds) can (c.remove_below.ensures.no_other before c.args.node.now.meta l finds plan stays.first)
+    (saves-behind g.S.X.BlockHash.block32 (IsBadOnWay g.N.NameHash.name64 (g.N.NameHash.name64 c.args.name.now)) None before (g.S.Store.seen c.args.store.now) (g.S.Store.seen c.remove_below.new.store) finds.same_told (c.in_ok-removed.ensures.cause before finds) c.in_ok-removed.ensures.good c.in_ok-removed.ensures.saves).saves c.entry_by_weight.ensures.saves.saves c.in-Left.entry ((rw c.in-Left.is at c.in_ok-removed.ensures.value) before c.args.node.now.meta l finds) ((rw c.in-Left.is at c.in_ok-removed.ensures.after) before c.args.node.now.meta l finds)
+    c.entry_by_weight.ensures.no_other
 
 pub returns-in_ok-left-in-Left-clause-no_other : goal.returns-in_ok-left-in-Left-clause-no_other
-returns-in_ok-left-in-Left-clause-no_other g c = λ before l finds plan stays can. settled-saves g.S.X.BlockHash.block32 g.N.NameHash.name64 c.args.p.now c.args.node.now.meta c.args.root.now c.args.name.now l plan before (g.S.Store.seen c.remove_below.new.store) (g.S.Store.seen c.settled.new.store) stays (c.in_ok-removed.ensures.cause before finds) can (c.remove_below.ensures.no_other before c.args.node.now.meta l finds plan stays.first)
-    (saves-behind g.S.X.BlockHash.block32 (IsBadOnWay g.N.NameHash.name64 (g.N.NameHash.name64 c.args.name.now)) None before (g.S.Store.seen c.args.store.now) (g.S.Store.seen c.remove_below.new.store) finds.same_told (c.in_ok-removed.ensures.cause before finds) c.in_ok-removed.ensures.good c.in_ok-removed.ensures.saves).saves c.settled.ensures.saves.saves c.in-Left.entry ((rw c.in-Left.is at c.in_ok-removed.ensures.value) before c.args.node.now.meta l finds) ((rw c.in-Left.is at c.in_ok-removed.ensures.after) before c.args.node.now.meta l finds)
-    c.settled.ensures.no_other
+returns-in_ok-left-in-Left-clause-no_other g c = λ before l finds plan stays can. settled-saves g.S.X.BlockHash.block32 g.N.NameHash.name64 c.args.p.now c.args.node.now.meta c.args.root.now c.args.name.now l plan before (g.S.Store.seen c.remove_below.new.store) (g.S.Store.seen c.entry_by_weight.new.store) stays (c.in_ok-removed.ensures.cause before finds) can (c.remove_below.ensures.no_other before c.args.node.now.meta l finds plan stays.first)
+    (saves-behind g.S.X.BlockHash.block32 (IsBadOnWay g.N.NameHash.name64 (g.N.NameHash.name64 c.args.name.now)) None before (g.S.Store.seen c.args.store.now) (g.S.Store.seen c.remove_below.new.store) finds.same_told (c.in_ok-removed.ensures.cause before finds) c.in_ok-removed.ensures.good c.in_ok-removed.ensures.saves).saves c.entry_by_weight.ensures.saves.saves c.in-Left.entry ((rw c.in-Left.is at c.in_ok-removed.ensures.value) before c.args.node.now.meta l finds) ((rw c.in-Left.is at c.in_ok-removed.ensures.after) before c.args.node.now.meta l finds)
+    c.entry_by_weight.ensures.no_other
 
 pub returns-in-Absent-clause-saves : goal.returns-in-Absent-clause-saves
 returns-in-Absent-clause-saves g c = λ before finds. saves-by (IsBadWeighed g.N.NameHash.name64 (g.N.NameHash.name64 c.args.name.now) (Some c.args.p.now)) (way-weighed g.N.NameHash.name64 (g.N.NameHash.name64 c.args.name.now) (Some c.args.p.now))

@@ -9,7 +9,7 @@ use Rattle.uf_store.proofs.Among.{SavesAmong-same}
 use Rattle.uf_tree.specs.ShardPlan.{shard}
 use Rattle.uf_dir.specs.Planned.{own_blocks}
 use Rattle.uf_dir.proofs.Saving.{later-saves}
-use Rattle.uf_dir.proofs.editing.settled.Goals as goal
+use Rattle.uf_dir.proofs.editing.entry_by_weight.Goals as goal
 
 pub returns-in_err-is_heavy-clause-settles : goal.returns-in_err-is_heavy-clause-settles
 returns-in_err-is_heavy-clause-settles g c =
